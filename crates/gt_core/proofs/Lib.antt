@@ -1,0 +1,13 @@
+pub mod Legs
+pub mod Calls
+pub mod Places
+pub mod Rows
+pub mod Settling
+pub mod Quiet
+pub mod Beginning
+pub mod Still
+pub mod Seeing
+pub mod FirstRules
+pub mod Placing
+pub mod Owners
+pub mod Ticking
