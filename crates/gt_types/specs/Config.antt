@@ -1,0 +1,63 @@
+-- The limits of a configuration, and its first fault.
+use Rattle.std.specs.Prelude.{◌≡◌, ◌≢◌, ◌⊎◌, ◌≤◌, ◌<◌, ℕ, Bool, true, false, not, ◌&&◌, nat_lt, nat_le, ◌==◌, List, [], length, take, slice_get, Option, Some, None, All, AllPairs}
+use Rattle.std.specs.List.{list_any}
+use Rattle.std.specs.Option.{option_or}
+use Rattle.gt_types.specs.declared.DomId.{DomId}
+use Rattle.gt_types.specs.declared.config.Config.{Config}
+use Rattle.gt_types.specs.declared.config.DomainConfig.{DomainConfig}
+use Rattle.gt_types.specs.declared.config.ConfigFault.{ConfigFault}
+use Rattle.gt_types.specs.declared.config.ConfigFault.TheVariants.{NoDomains, TooMany, Id, Repeated, Frames, TableFrames, Version, Generation}
+use Rattle.gt_types.specs.declared.limits.TheConstants.{DOMID_SELF, MAX_DOMAINS, MAX_FRAMES, MAX_TABLE_FRAMES, LAST_VERSION, LAST_GENERATION}
+
+-- the limits of a run (own): 1 to MAX_DOMAINS domains with distinct numbers below DOMID_SELF, 1 to MAX_FRAMES frames and 1 to MAX_TABLE_FRAMES table frames each, and a first generation that there is
+pub record IsWithinLimits (c : Config) : Type 0 where
+  pub some : 1 ≤ length c.domains.items
+  pub few : length c.domains.items ≤ MAX_DOMAINS
+  pub ids : All (λ d. d.id.0 < DOMID_SELF) c.domains.items
+  pub distinct : AllPairs (λ d e. d.id.0 ≢ e.id.0) c.domains.items
+  pub frames : All (λ d. (1 ≤ d.frames) × (d.frames ≤ MAX_FRAMES)) c.domains.items
+  pub table_frames : All (λ d. (1 ≤ d.table_frames) × (d.table_frames ≤ MAX_TABLE_FRAMES)) c.domains.items
+  pub versions : All (λ d. (1 ≤ d.version) × (d.version ≤ LAST_VERSION)) c.domains.items
+  pub generation : c.first_gen ≤ LAST_GENERATION
+
+-- the fault, where the test holds (own)
+abbrev pub fault_when : Bool → ConfigFault → Option ConfigFault
+fault_when true fault = Some fault
+fault_when false fault = None
+
+-- the number is outside 1 to the last (own)
+abbrev pub is_outside : ℕ → ℕ → Bool
+is_outside last n = not (nat_le 1 n && nat_le n last)
+
+-- one of the domains has this number (own)
+abbrev pub is_taken : List DomainConfig → DomId → Bool
+is_taken domains id = list_any (λ d. d.id.0 == id.0) domains
+
+-- the first fault of a domain behind those before it, in the order: one domain too many, number, repetition, frames, table frames, version (own)
+unfoldable pub domain_fault : List DomainConfig → DomainConfig → Option ConfigFault
+domain_fault before d =
+    option_or (fault_when (nat_le MAX_DOMAINS (length before)) (TooMany d.id))
+    (option_or (fault_when (nat_le DOMID_SELF d.id.0) (Id d.id))
+    (option_or (fault_when (is_taken before d.id) (Repeated d.id))
+    (option_or (fault_when (is_outside MAX_FRAMES d.frames) (Frames d.id))
+    (option_or (fault_when (is_outside MAX_TABLE_FRAMES d.table_frames) (TableFrames d.id))
+    (fault_when (is_outside LAST_VERSION d.version) (Version d.id))))))
+
+-- no domain has a fault behind those before it (own)
+pub record AreFaultless (domains : List DomainConfig) : Type 0 where
+  pub each : (at : ℕ) (domain : DomainConfig) → slice_get domains at ≡ Some domain → domain_fault (take at domains) domain ≡ None
+
+-- the fault is that of the first domain that has one (own)
+pub record IsFirstDomainFault (domains : List DomainConfig) (fault : ConfigFault) : Type 0 where
+  pub at : ℕ
+  pub domain : DomainConfig
+  pub there : slice_get domains at ≡ Some domain
+  pub earlier : AreFaultless (take at domains)
+  pub here : domain_fault (take at domains) domain ≡ Some fault
+
+-- the first fault of a configuration: no domain at all comes first, then the first domain with a fault, and the first generation last (own)
+abbrev pub IsFirstFault : Config → ConfigFault → Type 0
+IsFirstFault c fault =
+    ((fault ≡ NoDomains) × (c.domains.items ≡ []))
+    ⊎ (IsFirstDomainFault c.domains.items fault
+    ⊎ ((fault ≡ Generation) × (c.domains.items ≢ []) × AreFaultless c.domains.items × (LAST_GENERATION < c.first_gen)))
