@@ -53,8 +53,8 @@ use Rattle.gt_core.specs.Path.{Continuation, path, steps_of, after_beginning, gi
 use Rattle.gt_core.specs.Machine.{expects, first_phase, phase_after, starts_as, IsUnderway, FitsPhase}
 use Rattle.gt_core.specs.History.{History, Setting, entry_at, generation_at, body_at, word_at, control_at, reads_at, writes_at, live, Pin, table_at, mappings_at, mappings_in, maps_answered_at, known_at, Underway, underway_after, open_call, values, is_pin_on, one_if_mapped}
 use Rattle.gt_core.specs.Legal.{StepsSoFar, IsSpelled, leg_of, stood, stood_with, first_of_item, AnsweredBy, GivesValue, refusal_in, refusal_of, MayDo, IsRight}
-use Rattle.gt_core.specs.Standing.{IsLawful, PhaseStands, HasStored, HasStoredFirst, OpenAgrees, CallAgrees, SlotAgrees, Agrees, StateAgrees, CoreStands, state_of, plain_answer, Opens}
-use Rattle.gt_core.proofs.Quiet.{IsQuiet, quiet-entry, quiet-raises, quiet-body, quiet-live, quiet-maps_answered, quiet-generations, quiet-known}
+use Rattle.gt_core.specs.Standing.{IsLawful, FitsWord, FitsRequest, PhaseStands, HasStored, HasStoredFirst, OpenAgrees, CallAgrees, SlotAgrees, Agrees, StateAgrees, CoreStands, state_of, plain_answer, Opens}
+use Rattle.gt_core.proofs.Quiet.{IsQuiet, kept-contents, quiet-entry, quiet-raises, quiet-body, quiet-live, quiet-maps_answered, quiet-generations, quiet-known}
 use Rattle.gt_core.proofs.Places.{has_id, found, not-found, state_of-set}
 
 -- the first action of a call
@@ -80,6 +80,8 @@ pub quiet-agrees : (s : Setting) (i : Item) (h : History) (d : State) (o : Optio
 quiet-agrees s i h d o q a call =
     record {
       header = a.header;
+      rows = a.rows;
+      frames = λ f below. a.frames f below ∙ ap (λ (l : List ℕ). Some l) (sym (kept-contents i h d.id.0 f));
       entries = a.entries ∙ fun_ext (λ r. sym (quiet-entry i h d.id.0 r q));
       generations = a.generations ∙ sym (quiet-generations s i h d.id.0 q);
       room = a.room;
@@ -153,6 +155,7 @@ call-moves s i h d (Some o) (Some c) q e a =
       comes = ap (λ (k : CallerKnowledge). expects k d c.request o.call.phase []) same ∙ a.comes;
       leads = λ vs. ap (λ (k : CallerKnowledge). path k d c.request (values c ++ vs)) same ∙ a.leads vs ∙ ap (λ (k : CallerKnowledge). expects k d c.request o.call.phase vs) (sym same);
       fair = stood-other s i h d.0 e ∙ a.fair;
+      fits = a.fits;
       place = place-keeps s i h d c.request (reverse c.steps) o.call.phase q a.place;
     }
 
@@ -204,7 +207,7 @@ quiet-stands s i h domains domains' new q a e n some =
       lawful = subst (All (IsLawful s)) (sym (quiet-live i h q)) a.lawful;
       free = λ t r e. let was = a.free t r (sym (quiet-entry i h t r q) ∙ e) in
           (ap (λ (ps : List Pin). count_by (is_pin_on t r Read) ps) (quiet-live i h q) ∙ was.0, ap (λ (ps : List Pin). count_by (is_pin_on t r Write) ps) (quiet-live i h q) ∙ was.1);
-      words = λ t r within. ap control_of (quiet-word s i h t r q) ∙ a.words t r within ∙ sym (quiet-control s i h t r q);
+      words = λ t r within. subst FitsWord (sym (quiet-control s i h t r q)) (a.words t r within);
       spelled = λ t r valid. subst (λ (e : Entry). IsSpelled e (body_at (i ∷ h) t r false) (body_at (i ∷ h) t r true)) (sym (quiet-entry i h t r q))
           (spelled-keeps i h t r (entry_at h t r) q (a.spelled t r (λ e. valid (quiet-entry i h t r q ∙ e))));
     }
@@ -216,7 +219,7 @@ began dom request answer = record { actor = dom; happened = Began request; answe
 
 began-quiet : (dom : DomId) (request : Request) (answer : Option Answer) → one_if_mapped answer ≡ 0 → IsQuiet (began dom request answer)
 began-quiet dom request answer e =
-    record { changes = λ r. refl; stores = λ r which. refl; pins = λ before. refl; unpins = λ pins. refl; maps = e }
+    record { keeps = record { changes = λ r. refl; pins = λ before. refl; unpins = λ pins. refl; maps = e }; stores = λ r which. refl }
 
 same-number : (n : ℕ) → (n == n) ≡ true
 same-number n = eq-eqb n n refl
@@ -256,10 +259,10 @@ first-place s h d (Map dom gref flags) e = (refl, map-domain true (domain_of s.d
 first-place s h d (Unmap handle) e = tt
 first-place s h d (Load handle off len) e = tt
 
-pub begin-opens : (s : Setting) (h : History) (d : State) (request : Request) (o : Open) → Agrees s h d → d.underway ≡ None
+pub begin-opens : (s : Setting) (h : History) (d : State) (request : Request) (o : Open) → FitsRequest request → Agrees s h d → d.underway ≡ None
     → Opens (knowledge_of s.domains s.may d.own d.header d.mappings d.maps_answered) d.id request (OpeningOpen o)
     → IsRight s h (began d.id request None) × Agrees s (began d.id request None ∷ h) (record d { underway = Some o })
-begin-opens s h d request o a closed opens =
+begin-opens s h d request o fits a closed opens =
     let i = began d.id request None in
     let q = began-quiet d.id request None refl in
     let was = known-same s h d a in
@@ -279,6 +282,7 @@ begin-opens s h d request o a closed opens =
           ∙ sym (opens.4 vs)
           ∙ ap (λ (k : CallerKnowledge). expects k d.id request o.call.phase vs) still;
       fair = fair;
+      fits = fits;
       place = subst (λ (p : Phase). PhaseStands s (i ∷ h) d.id request [] p)
           (ap (λ (k : CallerKnowledge). first_phase k d.id request) (sym still) ∙ sym opens.5) (first-place s (i ∷ h) d.id request later);
     } in (
@@ -464,17 +468,17 @@ begin-answered s h domains dom at x request v p here idle opens st =
     (a.0, both.0, both.1)
 
 pub begin-opened : (s : Setting) (h : History) (domains : List State) (dom : DomId) (at : ℕ) (x : State) (request : Request) (o : Open)
-    → position (has_id dom.0) domains ≡ Some at → x ≡ get_or domains at x → is_some x.underway ≡ false
+    → FitsRequest request → position (has_id dom.0) domains ≡ Some at → x ≡ get_or domains at x → is_some x.underway ≡ false
     → Opens (knowledge_of s.domains s.may x.own x.header x.mappings x.maps_answered) dom request (OpeningOpen o) → CoreStands s h domains
     → (domain_of s.domains dom ≢ None) × IsRight s h (began dom request None) × CoreStands s (began dom request None ∷ h) (set domains at (record x { underway = Some o }))
-begin-opened s h domains dom at x request o p here idle opens st =
+begin-opened s h domains dom at x request o fits p here idle opens st =
     let a = agrees-found s h domains dom at x p here st in
     let f = found domains dom.0 at x p ∙ ap (λ (y : State). Some y) (sym here) in
     let places = position-Some (has_id dom.0) domains at x p in
     let both = subst (λ (d : DomId). Opens (knowledge_of s.domains s.may x.own x.header x.mappings x.maps_answered) d request (OpeningOpen o) → state_of domains d.0 ≡ Some x
     → ((k : ℕ) → k < at → has_id d.0 (get_or domains k x) ≡ false)
     → IsRight s h (began d request None) × CoreStands s (began d request None ∷ h) (set domains at (record x { underway = Some o }))) a.1
-    (λ op g apart. let b = begin-opens s h x request o a.2 (closed-from x.underway idle) op in (
+    (λ op g apart. let b = begin-opens s h x request o fits a.2 (closed-from x.underway idle) op in (
       b.0,
       quiet-stands s (began x.id request None) h domains (set domains at (record x { underway = Some o })) (record x { underway = Some o }) (began-quiet x.id request None refl) st
           (λ q. state_of-set domains at x (record x { underway = Some o }) q places.0 (sym here) refl apart) (refl, b.1) (λ none. none-some x (sym none ∙ g)),

@@ -1,6 +1,7 @@
 pub mod Legs
 pub mod Calls
 pub mod Places
+pub mod Fitting
 pub mod Rows
 pub mod Settling
 pub mod Quiet
@@ -11,3 +12,7 @@ pub mod FirstRules
 pub mod Placing
 pub mod Owners
 pub mod Ticking
+pub mod Others
+pub mod Exchanging
+pub mod Unpinning
+pub mod Pinning

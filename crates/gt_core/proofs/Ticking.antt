@@ -60,6 +60,7 @@ use Rattle.gt_core.specs.Legal.{Permits, Reaches, MayUse, Justified, IsSafe, Pin
 use Rattle.gt_core.specs.Standing.{IsLawful, IsLawfullyHeld, LegStands, PhaseStands, HasStored, HasStoredFirst, OpenAgrees, CallAgrees, Agrees, StateAgrees, CoreStands, Advances, state_of}
 use Rattle.gt_core.proofs.Calls.{wants-action, comes-some}
 use Rattle.gt_core.proofs.Places.{has_id, found, state_of-set}
+use Rattle.gt_core.proofs.Fitting.{word-shows}
 use Rattle.gt_core.proofs.Quiet.{IsQuiet, quiet-known}
 use Rattle.gt_core.proofs.Beginning.{known-same, quiet-agrees, quiet-stands, place-keeps, open_call-own, stood-own, agrees-found, same-state}
 use Rattle.gt_core.proofs.Seeing.{IsWithin, sees-agree}
@@ -214,10 +215,10 @@ look-judged : (s : Setting) (h : History) (xs : List State) (d : DomId) (r : Req
     → PhaseStands s h d r so_far (OwnLook more) → Comes (expects (known_at s h d) d r (OwnLook more) []) → action_at (known_at s h d) d r (OwnLook more) ≡ Makes step → Judged s h d r so_far (OwnLook more) step
 look-judged s h xs d (Demote gref) more so_far step st e a comes act =
     subst (λ (z : Step). Judged s h d (Demote gref) so_far (OwnLook more) z) (makes-same _ _ act)
-    (first-own-look s h d gref more true so_far (st.words d.0 gref.0 (own-below s h xs d (Demote gref) st e refl)) a.0 a.1)
+    (first-own-look s h d gref more true so_far (word-shows s h xs d.0 gref.0 st (own-below s h xs d (Demote gref) st e refl)) a.0 a.1)
 look-judged s h xs d (Promote gref) more so_far step st e a comes act =
     subst (λ (z : Step). Judged s h d (Promote gref) so_far (OwnLook more) z) (makes-same _ _ act)
-    (first-own-look s h d gref more false so_far (st.words d.0 gref.0 (own-below s h xs d (Promote gref) st e refl)) a.0 a.1)
+    (first-own-look s h d gref more false so_far (word-shows s h xs d.0 gref.0 st (own-below s h xs d (Promote gref) st e refl)) a.0 a.1)
 look-judged s h xs d (Grant gref entry) more so_far step st e a comes act = absurd comes
 look-judged s h xs d (Revoke gref) more so_far step st e a comes act = absurd comes
 look-judged s h xs d (Map dom gref flags) more so_far step st e a comes act = absurd comes
@@ -249,7 +250,7 @@ judged s h xs d r so_far PhaseBegun step st e a comes act = absurd a
 judged s h xs d r so_far (LegPinning l p) step st e a comes act =
     subst (λ (z : Step). Judged s h d r so_far (LegPinning l p) z) (makes-same _ _ act)
     (leg-refusal l (leg_after l p (seen_by s h d (leg_step l p)))
-    ∙ first-of-leg s h d r l so_far p a.0 (leg-plain (known_at s h d) d r l a.0) (st.tables l.dom).1 (λ within. st.words l.dom.0 l.gref.0 within) a.2)
+    ∙ first-of-leg s h d r l so_far p a.0 (leg-plain (known_at s h d) d r l a.0) (st.tables l.dom).1 (λ within. word-shows s h xs l.dom.0 l.gref.0 st within) a.2)
 judged s h xs d (Grant gref entry) so_far Storing step st e a comes act =
     subst (λ (z : Step). Judged s h d (Grant gref entry) so_far Storing z) (makes-same _ _ act) (store-refusal (is_sub (Grant gref entry)))
 judged s h xs d (Grant gref entry) so_far StoringSecond step st e a comes act =
@@ -332,7 +333,7 @@ placed s h xs d r so_far PhaseBegun step st a comes act quiet = absurd a
 placed s h xs d r so_far (LegPinning l p) step st a comes act quiet =
     subst (λ (z : Step). Placed s h d r so_far (LegPinning l p) z) (makes-same _ _ act)
     (leg-follows s h d r _ l (leg_after l p (seen_by s h d (leg_step l p))) a.0 a.1
-    (leg-place s h d l so_far p (st.tables l.dom) (λ within. st.words l.dom.0 l.gref.0 within) (st.spelled l.dom.0 l.gref.0) a.2))
+    (leg-place s h d l so_far p (st.tables l.dom) (λ within. word-shows s h xs l.dom.0 l.gref.0 st within) (st.spelled l.dom.0 l.gref.0) a.2))
 placed s h xs d (Grant gref entry) so_far Storing step st a comes act quiet =
     absurd (false≢true (subst (λ (z : Step). changes_nothing z (seen_by s h d z) ≡ true) (sym (makes-same _ _ act)) quiet))
 placed s h xs d (Grant gref entry) so_far StoringSecond step st a comes act quiet =
@@ -471,17 +472,17 @@ abbrev pub stepped : DomId → Step → Seen → Option Answer → Item
 stepped d step seen answer = record { actor = d; happened = Stepped step seen; answer = answer }
 
 pub stepped-quiet : (d : DomId) (step : Step) (seen : Seen) (answer : Option Answer) → changes_nothing step seen ≡ true → one_if_mapped answer ≡ 0 → IsQuiet (stepped d step seen answer)
-stepped-quiet d (LookHeader dom) seen answer q m = record { changes = λ r. refl; stores = λ r which. refl; pins = λ before. refl; unpins = λ pins. refl; maps = m }
-stepped-quiet d (LookControl dom gref) seen answer q m = record { changes = λ r. refl; stores = λ r which. refl; pins = λ before. refl; unpins = λ pins. refl; maps = m }
-stepped-quiet d (LookBody dom gref second) seen answer q m = record { changes = λ r. refl; stores = λ r which. refl; pins = λ before. refl; unpins = λ pins. refl; maps = m }
-stepped-quiet d (ReadBytes dom frame off len) seen answer q m = record { changes = λ r. refl; stores = λ r which. refl; pins = λ before. refl; unpins = λ pins. refl; maps = m }
-stepped-quiet d (PinStep dom gref looked dir) (Missed w) answer q m = record { changes = λ r. refl; stores = λ r which. refl; pins = λ before. refl; unpins = λ pins. refl; maps = m }
-stepped-quiet d (PinStep dom gref looked dir) (Value w) answer q m = record { changes = λ r. refl; stores = λ r which. refl; pins = λ before. refl; unpins = λ pins. refl; maps = m }
-stepped-quiet d (PinStep dom gref looked dir) Nothing answer q m = record { changes = λ r. refl; stores = λ r which. refl; pins = λ before. refl; unpins = λ pins. refl; maps = m }
+stepped-quiet d (LookHeader dom) seen answer q m = record { keeps = record { changes = λ r. refl; pins = λ before. refl; unpins = λ pins. refl; maps = m }; stores = λ r which. refl }
+stepped-quiet d (LookControl dom gref) seen answer q m = record { keeps = record { changes = λ r. refl; pins = λ before. refl; unpins = λ pins. refl; maps = m }; stores = λ r which. refl }
+stepped-quiet d (LookBody dom gref second) seen answer q m = record { keeps = record { changes = λ r. refl; pins = λ before. refl; unpins = λ pins. refl; maps = m }; stores = λ r which. refl }
+stepped-quiet d (ReadBytes dom frame off len) seen answer q m = record { keeps = record { changes = λ r. refl; pins = λ before. refl; unpins = λ pins. refl; maps = m }; stores = λ r which. refl }
+stepped-quiet d (PinStep dom gref looked dir) (Missed w) answer q m = record { keeps = record { changes = λ r. refl; pins = λ before. refl; unpins = λ pins. refl; maps = m }; stores = λ r which. refl }
+stepped-quiet d (PinStep dom gref looked dir) (Value w) answer q m = record { keeps = record { changes = λ r. refl; pins = λ before. refl; unpins = λ pins. refl; maps = m }; stores = λ r which. refl }
+stepped-quiet d (PinStep dom gref looked dir) Nothing answer q m = record { keeps = record { changes = λ r. refl; pins = λ before. refl; unpins = λ pins. refl; maps = m }; stores = λ r which. refl }
 stepped-quiet d (PinStep dom gref looked dir) Taken answer q m = absurd (false≢true q)
-stepped-quiet d (Exchange gref looked change) (Missed w) answer q m = record { changes = λ r. refl; stores = λ r which. refl; pins = λ before. refl; unpins = λ pins. refl; maps = m }
-stepped-quiet d (Exchange gref looked change) (Value w) answer q m = record { changes = λ r. refl; stores = λ r which. refl; pins = λ before. refl; unpins = λ pins. refl; maps = m }
-stepped-quiet d (Exchange gref looked change) Nothing answer q m = record { changes = λ r. refl; stores = λ r which. refl; pins = λ before. refl; unpins = λ pins. refl; maps = m }
+stepped-quiet d (Exchange gref looked change) (Missed w) answer q m = record { keeps = record { changes = λ r. refl; pins = λ before. refl; unpins = λ pins. refl; maps = m }; stores = λ r which. refl }
+stepped-quiet d (Exchange gref looked change) (Value w) answer q m = record { keeps = record { changes = λ r. refl; pins = λ before. refl; unpins = λ pins. refl; maps = m }; stores = λ r which. refl }
+stepped-quiet d (Exchange gref looked change) Nothing answer q m = record { keeps = record { changes = λ r. refl; pins = λ before. refl; unpins = λ pins. refl; maps = m }; stores = λ r which. refl }
 stepped-quiet d (Exchange gref looked change) Taken answer q m = absurd (false≢true q)
 stepped-quiet d (Unpin dom gref dir holder) seen answer q m = absurd (false≢true q)
 stepped-quiet d (StoreBody gref second word) seen answer q m = absurd (false≢true q)
@@ -606,6 +607,7 @@ goes-on-agrees s h d o c seen new step q call oa p f =
           ∙ sym (p.goes_on vs)
           ∙ ap (λ (k : CallerKnowledge). expects k d r new.phase vs) (sym same);
       fair = stood-step s h d c o.step seen None call oa.fair ∙ sym p.judged ∙ going-none (known_at s h d) d r new.phase step p.is_next;
+      fits = oa.fits;
       place = place-keeps s i h d r (reverse (c.steps ++ (o.step, seen) ∷ [])) new.phase q
           (subst (λ (so_far : StepsSoFar). PhaseStands s h d r so_far new.phase) (sym (steps-more c o.step seen))
           (follows-stands s h d r ((o.step, seen) ∷ reverse c.steps) new.phase step p.is_next f));
@@ -629,7 +631,7 @@ reads-own : (s : Setting) (d : DomId) (off len : ℕ) (p : Pin) (handle : Handle
 reads-own s d off len p handle held law own =
     let w : IsLawfullyHeld s p (ByMapping handle) = subst (λ (x : Holder). IsLawfullyHeld s p x) held law in
     let same : record { 0 = p.actor } ≡ d = ap (λ (n : ℕ). record { 0 = n }) own in
-    let v = subst (λ (z : DomId). Permits p.entry z p.dir ForMap 0 0 × MayUse s z p.dom p.dir) same w in
+    let v = subst (λ (z : DomId). Permits p.entry z p.dir ForMap 0 0 × MayUse s z p.dom p.dir) same (w.0, w.1) in
     ((own, refl, refl, permits-reading p.entry d p.dir off len v.0, λ e. let f : Read ≡ Write = e in cc), v.1)
 
 any-here : {X : Type 0} (P : X → Type 0) (x : X) (xs : List X) → P x → Any P (x ∷ xs)

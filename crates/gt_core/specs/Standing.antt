@@ -34,12 +34,13 @@ use Rattle.gt_core.specs.declared.core_state.Ticked.{Ticked}
 use Rattle.gt_core.specs.declared.core_state.Ticked.TheVariants.{Step as TickedStep, Done as TickedDone, Idle as TickedIdle, NoDomain as TickedNoDomain}
 use Rattle.gt_core.specs.declared.core_state.Opening.{Opening}
 use Rattle.gt_core.specs.declared.core_state.Opening.TheVariants.{Open as OpeningOpen, Done as OpeningDone}
-use Rattle.gt_core.specs.Rules.{CallerKnowledge, is_demote, begun, entry_in, generation_in, first_look, before_pin, first_body, second_body, size_of, is_kind}
+use Rattle.gt_core.specs.Rules.{CallerKnowledge, is_demote, begun, entry_in, generation_in, first_look, before_pin, first_body, second_body, size_of, is_kind, frames_of}
 use Rattle.gt_types.specs.declared.denial.Rule.{Rule}
 use Rattle.gt_entry.specs.declared.entry.Entry.{Entry}
-use Rattle.gt_entry.specs.declared.entry.Entry.TheVariants.{Invalid, Sub}
+use Rattle.gt_entry.specs.declared.entry.Entry.TheVariants.{Invalid, Page, Sub, Via}
+use Rattle.gt_entry.specs.declared.control.Control.{Control}
 use Rattle.gt_entry.specs.declared.control.Kind.TheVariants.{Sub as KindSub}
-use Rattle.gt_entry.specs.Words.{control_of, header_of, header_word}
+use Rattle.gt_entry.specs.Words.{IsInRange, control_of, header_of, header_word}
 use Rattle.gt_core.specs.declared.request.Request.TheVariants.{Grant, Revoke, Demote, Promote, Map, Unmap, Load}
 use Rattle.gt_core.specs.declared.leg.Leg.{Leg}
 use Rattle.gt_core.specs.declared.leg.LegPhase.{LegPhase}
@@ -50,7 +51,7 @@ use Rattle.gt_core.specs.Path.{path, steps_of}
 use Rattle.gt_core.specs.Machine.{expects, first_phase, phase_after, IsUnderway, FitsPhase, frame_read}
 use Rattle.gt_core.specs.declared.call.Call.{Call}
 use Rattle.gt_core.specs.declared.action.Action.{Action}
-use Rattle.gt_core.specs.History.{History, Setting, Pin as HeldPin, live, entry_at, generation_at, body_at, reads_at, writes_at, table_at, word_at, control_at, mappings_at, maps_answered_at, known_at, Underway, open_call, values}
+use Rattle.gt_core.specs.History.{History, Setting, Pin as HeldPin, live, entry_at, generation_at, body_at, reads_at, writes_at, table_at, word_at, control_at, mappings_at, maps_answered_at, known_at, Underway, open_call, values, contents_at, frame_of}
 use Rattle.gt_core.specs.Legal.{Permits, MayUse, stood, StepsSoFar, misses, looked_at, is_in_body, leg_of, IsSpelled}
 
 -- a call begins so: with an answer, or with a first step and all that may follow it
@@ -174,6 +175,17 @@ PhaseStands s h d request so_far (OwnChange more word) =
     (misses so_far + more ≡ 3) × (looked_at so_far ≡ Some word) × (is_demote request ≡ true → (control_of word).writes ≡ 0)
 PhaseStands s h d request so_far (Ended verdict) = ⊥
 
+-- the domain that an entry names has a number of 16 bits
+abbrev pub FitsEntry : Entry → Type 0
+FitsEntry Invalid = Unit {0}
+FitsEntry (Page dom ro frame) = dom.0 < 65536
+FitsEntry (Sub dom ro frame off len) = dom.0 < 65536
+FitsEntry (Via dom ro dom2 gref) = dom.0 < 65536
+
+abbrev pub FitsRequest : Request → Type 0
+FitsRequest (Grant gref entry) = FitsEntry entry
+FitsRequest request = Unit {0}
+
 -- an open call is where its steps have led it, and no rule stood so far
 pub record OpenAgrees (s : Setting) (h : History) (id : DomId) (o : Open) (c : Underway) : Type 0 where
   pub caller : o.call.caller ≡ id
@@ -182,6 +194,7 @@ pub record OpenAgrees (s : Setting) (h : History) (id : DomId) (o : Open) (c : U
   pub leads : (vs : List Seen) → path (known_at s h id) id c.request (values c ++ vs) ≡ expects (known_at s h id) id c.request o.call.phase vs
   pub fair : stood s h id.0 ≡ None
   pub place : PhaseStands s h id c.request (reverse c.steps) o.call.phase
+  pub fits : FitsRequest c.request
 
 abbrev pub CallAgrees : Setting → History → DomId → Option Open → Option Underway → Type 0
 CallAgrees s h id None None = Unit {0}
@@ -199,12 +212,14 @@ pub record SlotAgrees (h : History) (t r : ℕ) (slot : Slot) : Type 0 where
 -- a domain is as the history leaves it
 pub record Agrees (s : Setting) (h : History) (d : State) : Type 0 where
   pub header : d.header ≡ table_at s h d.id
+  pub rows : length d.own ≡ 2048
   pub entries : entry_in d.own ≡ (λ r. entry_at h d.id.0 r)
   pub generations : generation_in d.own ≡ (λ r. if nat_lt r 2048 then generation_at s h d.id.0 r else 0)
   pub room : length d.slots ≡ 2048
   pub slots : (r : ℕ) (slot : Slot) → slice_get d.slots r ≡ Some slot → SlotAgrees h d.id.0 r slot
   pub mappings : d.mappings ≡ mappings_at h d.id.0
   pub maps_answered : d.maps_answered ≡ maps_answered_at h d.id.0
+  pub frames : (f : ℕ) → f < frames_of s.domains d.id → slice_get d.frames f ≡ Some (contents_at h d.id.0 f)
   pub call : CallAgrees s h d.id d.underway (open_call h d.id.0)
 
 abbrev pub StateAgrees : Setting → History → DomId → Option State → Type 0
@@ -212,18 +227,25 @@ StateAgrees s h dom None = domain_of s.domains dom ≡ None
 StateAgrees s h dom (Some d) = (domain_of s.domains dom ≢ None) × (d.id ≡ dom) × Agrees s h d
 
 abbrev pub IsLawfullyHeld : Setting → HeldPin → Holder → Type 0
-IsLawfullyHeld s p (ByMapping handle) = Permits p.entry (record { 0 = p.actor }) p.dir ForMap 0 0 × MayUse s (record { 0 = p.actor }) p.dom p.dir
+IsLawfullyHeld s p (ByMapping handle) =
+    Permits p.entry (record { 0 = p.actor }) p.dir ForMap 0 0 × MayUse s (record { 0 = p.actor }) p.dom p.dir
+    × (frame_of p.entry < frames_of s.domains p.dom) × (domain_of s.domains p.dom ≢ None)
 IsLawfullyHeld s p (ByLeg number) = Unit {0}
 
--- the pin of a mapping was taken on an entry that permitted it, and the policy allows what it is for
+-- the pin of a mapping was taken on an entry that permitted it, for a frame of its owner, and the policy allows what it is for
 abbrev pub IsLawful : Setting → HeldPin → Type 0
 IsLawful s p = IsLawfullyHeld s p p.holder
+
+-- each part of a control has room in its word
+pub record FitsWord (c : Control) : Type 0 where
+  pub in_range : IsInRange c
+  pub domain : c.dom.0 < 65536
 
 -- the core stands for the history
 pub record CoreStands (s : Setting) (h : History) (domains : List State) : Type 0 where
   pub each : (dom : DomId) → StateAgrees s h dom (state_of domains dom.0)
   pub tables : (dom : DomId) → (size_of (table_at s h dom) ≤ 2048) × (header_of (header_word (table_at s h dom)) ≡ table_at s h dom)
-  pub words : (t r : ℕ) → r < 2048 → control_of (word_at s h t r) ≡ control_at s h t r
+  pub words : (t r : ℕ) → r < 2048 → FitsWord (control_at s h t r)
   pub lawful : All (IsLawful s) (live h)
   pub free : (t r : ℕ) → entry_at h t r ≡ Invalid → (reads_at h t r ≡ 0) × (writes_at h t r ≡ 0)
   pub spelled : (t r : ℕ) → entry_at h t r ≢ Invalid → IsSpelled (entry_at h t r) (body_at h t r false) (body_at h t r true)

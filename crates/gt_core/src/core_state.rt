@@ -310,7 +310,7 @@ impl<P: Allows + Drop> Core<P> {
         ensures config { IfOk result (λ core. core.config ≡ config) }
         ensures rights { IfOk result (λ core. core.rights ≡ rights) }
     {
-        if let Some(fault) = config.fault() {
+        if let Err(fault) = config.check() {
             return Err(StartFault::Config(fault));
         }
         let domains = start_domains(alloc, &config)?;
