@@ -106,49 +106,61 @@ stood-other : (s : Setting) (i : Item) (h : History) (d : ℕ) → (i.actor.0 ==
 unfolding stood
 stood-other s i h d e = ap (λ (b : Bool). cond b (stood_with i.happened (stood s h d) (first_of_item s h i)) (stood s h d)) e
 
-stored-first-keeps : (s : Setting) (i : Item) (h : History) (d : DomId) (r : Request) → IsQuiet i → HasStoredFirst h d r → HasStoredFirst (i ∷ h) d r
-stored-first-keeps s i h d (Grant gref entry) q a = quiet-body i h d.0 gref.0 false q ∙ a
-stored-first-keeps s i h d (Revoke gref) q a = a
-stored-first-keeps s i h d (Demote gref) q a = a
-stored-first-keeps s i h d (Promote gref) q a = a
-stored-first-keeps s i h d (Map dom gref flags) q a = a
-stored-first-keeps s i h d (Unmap handle) q a = a
-stored-first-keeps s i h d (Load handle off len) q a = a
+-- the domain's own body words are as they were
+abbrev pub BodyStays : Item → History → ℕ → Type 0
+BodyStays i h d = (r : ℕ) (which : Bool) → body_at (i ∷ h) d r which ≡ body_at h d r which
 
-spelled-keeps : (i : Item) (h : History) (t r : ℕ) (entry : Entry) → IsQuiet i → IsSpelled entry (body_at h t r false) (body_at h t r true)
+stored-first-stays : (i : Item) (h : History) (d : DomId) (r : Request) → BodyStays i h d.0 → HasStoredFirst h d r → HasStoredFirst (i ∷ h) d r
+stored-first-stays i h d (Grant gref entry) b a = b gref.0 false ∙ a
+stored-first-stays i h d (Revoke gref) b a = a
+stored-first-stays i h d (Demote gref) b a = a
+stored-first-stays i h d (Promote gref) b a = a
+stored-first-stays i h d (Map dom gref flags) b a = a
+stored-first-stays i h d (Unmap handle) b a = a
+stored-first-stays i h d (Load handle off len) b a = a
+
+pub spelled-stays : (i : Item) (h : History) (t r : ℕ) (entry : Entry) → BodyStays i h t → IsSpelled entry (body_at h t r false) (body_at h t r true)
     → IsSpelled entry (body_at (i ∷ h) t r false) (body_at (i ∷ h) t r true)
-spelled-keeps i h t r entry q a =
-    subst (λ (n : ℕ). IsSpelled entry n (body_at (i ∷ h) t r true)) (sym (quiet-body i h t r false q))
-    (subst (λ (n : ℕ). IsSpelled entry (body_at h t r false) n) (sym (quiet-body i h t r true q)) a)
+spelled-stays i h t r entry b a =
+    subst (λ (n : ℕ). IsSpelled entry n (body_at (i ∷ h) t r true)) (sym (b r false))
+    (subst (λ (n : ℕ). IsSpelled entry (body_at h t r false) n) (sym (b r true)) a)
 
-stored-keeps : (s : Setting) (i : Item) (h : History) (d : DomId) (r : Request) → IsQuiet i → HasStored h d r → HasStored (i ∷ h) d r
-stored-keeps s i h d (Grant gref entry) q a = spelled-keeps i h d.0 gref.0 entry q a
-stored-keeps s i h d (Revoke gref) q a = tt
-stored-keeps s i h d (Demote gref) q a = tt
-stored-keeps s i h d (Promote gref) q a = tt
-stored-keeps s i h d (Map dom gref flags) q a = tt
-stored-keeps s i h d (Unmap handle) q a = tt
-stored-keeps s i h d (Load handle off len) q a = tt
+stored-stays : (i : Item) (h : History) (d : DomId) (r : Request) → BodyStays i h d.0 → HasStored h d r → HasStored (i ∷ h) d r
+stored-stays i h d (Grant gref entry) b a = spelled-stays i h d.0 gref.0 entry b a
+stored-stays i h d (Revoke gref) b a = tt
+stored-stays i h d (Demote gref) b a = tt
+stored-stays i h d (Promote gref) b a = tt
+stored-stays i h d (Map dom gref flags) b a = tt
+stored-stays i h d (Unmap handle) b a = tt
+stored-stays i h d (Load handle off len) b a = tt
+
+-- where a call stands, it stands after an item that leaves what its domain knows and its body words
+pub place-stays : (s : Setting) (i : Item) (h : History) (d : DomId) (r : Request) (so_far : StepsSoFar) (phase : Phase) → known_at s (i ∷ h) d ≡ known_at s h d → BodyStays i h d.0
+    → PhaseStands s h d r so_far phase → PhaseStands s (i ∷ h) d r so_far phase
+place-stays s i h d r so_far PhaseBegun k b a = a
+place-stays s i h d r so_far (LegPinning l phase) k b a =
+    (ap (λ (k : CallerKnowledge). leg_of k d r) k ∙ a.0, a.1, leg-keeps s i h l so_far phase a.2)
+place-stays s i h d r so_far Storing k b a = tt
+place-stays s i h d r so_far StoringSecond k b a = stored-first-stays i h d r b a
+place-stays s i h d r so_far Single k b a = stored-stays i h d r b a
+place-stays s i h d r so_far (OwnLook more) k b a = a
+place-stays s i h d r so_far (OwnChange more word) k b a = a
+place-stays s i h d r so_far (Ended verdict) k b a = a
 
 pub place-keeps : (s : Setting) (i : Item) (h : History) (d : DomId) (r : Request) (so_far : StepsSoFar) (phase : Phase) → IsQuiet i
     → PhaseStands s h d r so_far phase → PhaseStands s (i ∷ h) d r so_far phase
-place-keeps s i h d r so_far PhaseBegun q a = a
-place-keeps s i h d r so_far (LegPinning l phase) q a =
-    (ap (λ (k : CallerKnowledge). leg_of k d r) (quiet-known s i h d q) ∙ a.0, a.1, leg-keeps s i h l so_far phase a.2)
-place-keeps s i h d r so_far Storing q a = tt
-place-keeps s i h d r so_far StoringSecond q a = stored-first-keeps s i h d r q a
-place-keeps s i h d r so_far Single q a = stored-keeps s i h d r q a
-place-keeps s i h d r so_far (OwnLook more) q a = a
-place-keeps s i h d r so_far (OwnChange more word) q a = a
-place-keeps s i h d r so_far (Ended verdict) q a = a
+place-keeps s i h d r so_far phase q a = place-stays s i h d r so_far phase (quiet-known s i h d q) (λ r which. quiet-body i h d.0 r which q) a
 
-call-moves : (s : Setting) (i : Item) (h : History) (d : DomId) (o : Option Open) (c : Option Underway) → IsQuiet i → (i.actor.0 == d.0) ≡ false
+pub spelled-keeps : (i : Item) (h : History) (t r : ℕ) (entry : Entry) → IsQuiet i → IsSpelled entry (body_at h t r false) (body_at h t r true)
+    → IsSpelled entry (body_at (i ∷ h) t r false) (body_at (i ∷ h) t r true)
+spelled-keeps i h t r entry q a = spelled-stays i h t r entry (λ r which. quiet-body i h t r which q) a
+
+call-stays : (s : Setting) (i : Item) (h : History) (d : DomId) (o : Option Open) (c : Option Underway) → known_at s (i ∷ h) d ≡ known_at s h d → BodyStays i h d.0 → (i.actor.0 == d.0) ≡ false
     → CallAgrees s h d o c → CallAgrees s (i ∷ h) d o c
-call-moves s i h d None None q e a = tt
-call-moves s i h d None (Some c) q e a = a
-call-moves s i h d (Some o) None q e a = a
-call-moves s i h d (Some o) (Some c) q e a =
-    let same = quiet-known s i h d q in
+call-stays s i h d None None same b e a = tt
+call-stays s i h d None (Some c) same b e a = a
+call-stays s i h d (Some o) None same b e a = a
+call-stays s i h d (Some o) (Some c) same b e a =
     record {
       caller = a.caller;
       request = a.request;
@@ -156,13 +168,19 @@ call-moves s i h d (Some o) (Some c) q e a =
       leads = λ vs. ap (λ (k : CallerKnowledge). path k d c.request (values c ++ vs)) same ∙ a.leads vs ∙ ap (λ (k : CallerKnowledge). expects k d c.request o.call.phase vs) (sym same);
       fair = stood-other s i h d.0 e ∙ a.fair;
       fits = a.fits;
-      place = place-keeps s i h d c.request (reverse c.steps) o.call.phase q a.place;
+      place = place-stays s i h d c.request (reverse c.steps) o.call.phase same b a.place;
     }
+
+-- the call of a domain that does not act
+pub call-of-other : (s : Setting) (i : Item) (h : History) (d : DomId) (o : Option Open) → known_at s (i ∷ h) d ≡ known_at s h d → BodyStays i h d.0 → (i.actor.0 == d.0) ≡ false
+    → CallAgrees s h d o (open_call h d.0) → CallAgrees s (i ∷ h) d o (open_call (i ∷ h) d.0)
+call-of-other s i h d o same b e a =
+    subst (λ (c : Option Underway). CallAgrees s (i ∷ h) d o c) (sym (open_call-other i h d.0 e)) (call-stays s i h d o (open_call h d.0) same b e a)
 
 other-call : (s : Setting) (i : Item) (h : History) (d : DomId) (o : Option Open) → IsQuiet i → (i.actor.0 == d.0) ≡ false
     → CallAgrees s h d o (open_call h d.0) → CallAgrees s (i ∷ h) d o (open_call (i ∷ h) d.0)
 other-call s i h d o q e a =
-    subst (λ (c : Option Underway). CallAgrees s (i ∷ h) d o c) (sym (open_call-other i h d.0 e)) (call-moves s i h d o (open_call h d.0) q e a)
+    call-of-other s i h d o (quiet-known s i h d q) (λ r which. quiet-body i h d.0 r which q) e a
 
 pub other-state : (s : Setting) (i : Item) (h : History) (dom : DomId) (o : Option State) → IsQuiet i → (i.actor.0 == dom.0) ≡ false
     → StateAgrees s h dom o → StateAgrees s (i ∷ h) dom o

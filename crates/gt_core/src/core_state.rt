@@ -13,7 +13,7 @@ use crate::call::{Call, Start};
 use crate::effects::apply;
 use crate::known::Known;
 use crate::leg::table_size;
-use crate::request::{Handle, Request};
+use crate::request::{Handle, Request, request_fits};
 use crate::sight::see;
 use crate::slot::Open;
 use crate::state::{DomainState, find};
@@ -134,6 +134,7 @@ impl<P: Allows> Core<P> {
         match self.open_at(at, dom, request) {
             Opening::Done(verdict) => Ok(Begun::Done(plain_answer(verdict))),
             Opening::Open(open) => {
+                request_fits(request);
                 let alloc = self.alloc;
                 self.domains[at].begin(alloc, open)?;
                 Ok(Begun::Open)
