@@ -16,3 +16,4 @@ pub mod Others
 pub mod Exchanging
 pub mod Unpinning
 pub mod Pinning
+pub mod Starting

@@ -7,6 +7,9 @@ use Rattle.gt_types.specs.declared.Use.TheVariants.{Map as ForMap}
 use Rattle.gt_core.specs.declared.request.Holder.{Holder}
 use Rattle.gt_core.specs.declared.request.Holder.TheVariants.{Mapping as ByMapping, Leg as ByLeg}
 use Rattle.gt_types.specs.declared.perms.Perms.{Perms}
+use Rattle.gt_types.specs.Config.{IsWithinLimits, IsFirstFault}
+use Rattle.gt_types.specs.declared.config.StartFault.{StartFault}
+use Rattle.gt_types.specs.declared.config.StartFault.TheVariants.{Config as ConfigFault, Memory as NoMemory}
 use Rattle.gt_types.specs.declared.config.Config.{Config}
 use Rattle.gt_core.specs.declared.request.Request.{Request}
 use Rattle.gt_core.specs.declared.action.Verdict.{Verdict}
@@ -113,6 +116,11 @@ NeedsNoRoom request step = Unit {0}
 
 abbrev pub Settles : List State → ℕ → State → Open → Result Answer Memory → List State → Type 0
 Settles xs at d o result new = IfOk result (λ answer. Settled xs at d o o.step answer new) × (NeedsNoRoom o.call.request o.step → IsOk result)
+
+-- a run can't start for this reason: the first fault of its configuration, or want of memory where that has none
+abbrev pub IsStartFaultOf : Config → StartFault → Type 0
+IsStartFaultOf config (ConfigFault fault) = IsFirstFault config fault
+IsStartFaultOf config NoMemory = IsWithinLimits config
 
 -- what a call has seen
 

@@ -1,11 +1,12 @@
 //! The core: a machine over events.
-ghost use Rattle.std.specs.Prelude.{◌≡◌, ◌<◌, List, [], length, slice_get, map, replicate, IfOk, OnOk, OnErr, IsOk, Option, Some, None};
+ghost use Rattle.std.specs.Prelude.{◌≡◌, ◌<◌, List, [], length, slice_get, map, replicate, IfOk, IfErr, OnOk, OnErr, IsOk, Option, Some, None};
+ghost use Rattle.gt_types.specs.Config.{IsWithinLimits};
 ghost use Rattle.gt_core.specs.Rules.{knowledge_of, begun};
 ghost use Rattle.gt_core.specs.History.{History};
 ghost use Rattle.gt_core.specs.Legal.{MayDo, grown, Legal};
 ghost use Rattle.gt_core.specs.States.{State, changed_in};
 ghost use Rattle.gt_core.specs.Effects.{with_underway, bytes_in};
-ghost use Rattle.gt_core.specs.Standing.{Opens, Advances, CoreStands, Settles, IsMapping, setting_of, begun_element, ticked_element, plain_answer, first_state};
+ghost use Rattle.gt_core.specs.Standing.{Opens, Advances, CoreStands, Settles, IsMapping, IsStartFaultOf, setting_of, begun_element, ticked_element, plain_answer, first_state};
 ghost use Rattle.gt_core.specs.declared.trace.Event.TheVariants.{Begin, Tick};
 
 use crate::action::{Action, Seen, Step, Verdict};
@@ -310,6 +311,8 @@ impl<P: Allows + Drop> Core<P> {
         ensures stands { IfOk result (λ core. CoreStands (setting_of config (P.may rights)) [] core.domains.items) }
         ensures config { IfOk result (λ core. core.config ≡ config) }
         ensures rights { IfOk result (λ core. core.rights ≡ rights) }
+        ensures fits { IsOk result → IsWithinLimits config }
+        ensures fault { IfErr result (IsStartFaultOf config) }
     {
         if let Err(fault) = config.check() {
             return Err(StartFault::Config(fault));
