@@ -342,7 +342,7 @@ map-refused : (k : CallerKnowledge) (caller dom : DomId) (flags : ℕ) → map_b
 map-refused k caller dom flags =
     first-refused (is_none (domain_of k.domains (resolved caller dom))) N1 _ (first-refused (not ((flags == 2) || (flags == 6))) N2 _
     (denied-refused k.may (label_of k.domains caller) (label_of k.domains (resolved caller dom)) (asked_by flags) _
-    (first-refused (nat_le 8192 (length k.mappings) || (k.maps_answered == 2 ^ 64 - 1)) N8 _ none-granted)))
+    (first-refused (nat_le 8192 (length k.mappings) || nat_le (2 ^ 64 - 1) k.maps_answered) N8 _ none-granted)))
 
 load-refused : (mappings : List Mapping) (handle : Handle) (off len : ℕ) → load_begun mappings handle off len ≡ Some Granted → ⊥
 load-refused mappings handle off len =

@@ -70,7 +70,7 @@ use Rattle.gt_core.proofs.Owners.{phase_refusal, first-own-look, first-own-chang
 
 -- what a call's beginning has settled
 
-not-refused : (b : Bool) (rule : Rule) (more : List (Option Verdict)) → first (refused_when b rule ∷ more) ≡ None → (b ≡ false) × (first more ≡ None)
+pub not-refused : (b : Bool) (rule : Rule) (more : List (Option Verdict)) → first (refused_when b rule ∷ more) ≡ None → (b ≡ false) × (first more ≡ None)
 not-refused true rule more e = let f : Some (Refused (denial_of rule NoFacts)) ≡ None = e in cc
 not-refused false rule more e = (refl, e)
 
@@ -90,7 +90,7 @@ own-within k d (Map dom gref flags) e t = absurd (false≢true t)
 own-within k d (Unmap handle) e t = absurd (false≢true t)
 own-within k d (Load handle off len) e t = absurd (false≢true t)
 
-own-below : (s : Setting) (h : History) (xs : List State) (d : DomId) (r : Request) → CoreStands s h xs → begun (known_at s h d) d r ≡ None → owns r ≡ true → (own_gref r).0 < 2048
+pub own-below : (s : Setting) (h : History) (xs : List State) (d : DomId) (r : Request) → CoreStands s h xs → begun (known_at s h d) d r ≡ None → owns r ≡ true → (own_gref r).0 < 2048
 own-below s h xs d r st e t =
     let a : (own_gref r).0 < size_of (table_at s h d) = own-within (known_at s h d) d r e t in
     let b : size_of (table_at s h d) ≤ 2048 = (st.tables d).0 in omega arith
@@ -101,7 +101,7 @@ abbrev step_in : Action → Step → Step
 step_in (Makes step) other = step
 step_in (Done verdict) other = other
 
-makes-same : (a b : Step) → Makes a ≡ Makes b → a ≡ b
+pub makes-same : (a b : Step) → Makes a ≡ Makes b → a ≡ b
 makes-same a b e = ap (λ (x : Action). step_in x a) e
 
 leg-plain : (k : CallerKnowledge) (d : DomId) (r : Request) (l : Leg) → leg_of k d r ≡ Some l → is_demote r ≡ false
@@ -120,7 +120,7 @@ leg-refusal l (Pinned word body second) = refl
 
 -- the word that an owner expects
 
-grant-invalid : (k : CallerKnowledge) (d : DomId) (gref : GrantRef) (entry : Entry) → begun k d (Grant gref entry) ≡ None → k.entry gref.0 ≡ Invalid
+pub grant-invalid : (k : CallerKnowledge) (d : DomId) (gref : GrantRef) (entry : Entry) → begun k d (Grant gref entry) ≡ None → k.entry gref.0 ≡ Invalid
 grant-invalid k d gref entry e =
     by (k.entry gref.0) (not-refused (not (is_invalid (k.entry gref.0))) N20 (refused_when (cannot_stand entry k.header.version) N21 ∷ refused_when (k.generation gref.0 == 1048575) N22 ∷ [])
     (not-refused (nat_le (size_of k.header) gref.0) N9
@@ -136,7 +136,7 @@ own-generation : (s : Setting) (h : History) (d : DomId) (gref : GrantRef) → g
 own-generation s h d gref within = ap (λ (b : Bool). cond b (generation_at s h d.0 gref.0) 0) (lt-ltb gref.0 2048 within)
 
 -- the word of an entry with no pins is the one that its owner expects
-idle-here : (s : Setting) (h : History) (d : DomId) (gref : GrantRef) → gref.0 < 2048 → reads_at h d.0 gref.0 + writes_at h d.0 gref.0 ≡ 0
+pub idle-here : (s : Setting) (h : History) (d : DomId) (gref : GrantRef) → gref.0 < 2048 → reads_at h d.0 gref.0 + writes_at h d.0 gref.0 ≡ 0
     → word_at s h d.0 gref.0 ≡ idle_word (known_at s h d) gref
 idle-here s h d gref within none =
     let r : reads_at h d.0 gref.0 ≡ 0 = omega arith in
@@ -145,7 +145,7 @@ idle-here s h d gref within none =
     ∙ ap (λ (n : ℕ). control_word (control_with (entry_at h d.0 gref.0) (generation_at s h d.0 gref.0) 0 n)) w
     ∙ sym (ap (λ (n : ℕ). control_word (control_with (entry_at h d.0 gref.0) n 0 0)) (own-generation s h d gref within))
 
-idle-no-pins : (s : Setting) (h : History) (d : DomId) (gref : GrantRef) → gref.0 < 2048 → word_at s h d.0 gref.0 ≡ idle_word (known_at s h d) gref
+pub idle-no-pins : (s : Setting) (h : History) (d : DomId) (gref : GrantRef) → gref.0 < 2048 → word_at s h d.0 gref.0 ≡ idle_word (known_at s h d) gref
     → reads_at h d.0 gref.0 + writes_at h d.0 gref.0 ≡ 0
 idle-no-pins s h d gref within e =
     idle-pins (entry_at h d.0 gref.0) (generation_at s h d.0 gref.0) (reads_at h d.0 gref.0) (writes_at h d.0 gref.0)
@@ -565,37 +565,37 @@ follows-stands s h d r so_far (Ended v) step e a = cc
 abbrev pub one-more : Underway → Step → Seen → Underway
 one-more c step seen = record { request = c.request; steps = c.steps ++ (step, seen) ∷ [] }
 
-values-more : (c : Underway) (step : Step) (seen : Seen) (vs : List Seen) → values (one-more c step seen) ++ vs ≡ values c ++ (seen ∷ vs)
+pub values-more : (c : Underway) (step : Step) (seen : Seen) (vs : List Seen) → values (one-more c step seen) ++ vs ≡ values c ++ (seen ∷ vs)
 values-more c step seen vs =
     ap (λ (l : List Seen). l ++ vs) (map-append (λ (p : Step × Seen). p.1) c.steps ((step, seen) ∷ []))
     ∙ append_assoc (values c) (seen ∷ []) vs
 
-steps-more : (c : Underway) (step : Step) (seen : Seen) → reverse (c.steps ++ (step, seen) ∷ []) ≡ (step, seen) ∷ reverse c.steps
+pub steps-more : (c : Underway) (step : Step) (seen : Seen) → reverse (c.steps ++ (step, seen) ∷ []) ≡ (step, seen) ∷ reverse c.steps
 steps-more c step seen = reverse-append c.steps ((step, seen) ∷ [])
 
 -- the first rule that stood at the places of the call, up to this step
-stood-step : (s : Setting) (h : History) (d : DomId) (c : Underway) (step : Step) (seen : Seen) (answer : Option Answer) → open_call h d.0 ≡ Some c → stood s h d.0 ≡ None
+pub stood-step : (s : Setting) (h : History) (d : DomId) (c : Underway) (step : Step) (seen : Seen) (answer : Option Answer) → open_call h d.0 ≡ Some c → stood s h d.0 ≡ None
     → stood s (stepped d step seen answer ∷ h) d.0 ≡ first_at s h d c.request (reverse c.steps) step
 stood-step s h d c step seen answer call fair =
     stood-own s (stepped d step seen answer) h
     ∙ ap (λ (o : Option Denial). or_then o (first_of_item s h (stepped d step seen answer))) fair
     ∙ ap (first_in_call s h d (Stepped step seen)) call
 
-path-next : (s : Setting) (h : History) (d : DomId) (o : Open) (c : Underway) (seen : Seen) (new : Call) (action : Action) → OpenAgrees s h d o c → Stepping s h d o c seen new action
+pub path-next : (s : Setting) (h : History) (d : DomId) (o : Open) (c : Underway) (seen : Seen) (new : Call) (action : Action) → OpenAgrees s h d o c → Stepping s h d o c seen new action
     → path (known_at s h d) d c.request (values c ++ seen ∷ []) ≡ Some action
 path-next s h d o c seen new action oa p = oa.leads (seen ∷ []) ∙ sym (p.goes_on []) ∙ p.next
 
-path-here : (s : Setting) (h : History) (d : DomId) (o : Open) (c : Underway) → OpenAgrees s h d o c → path (known_at s h d) d c.request (values c) ≡ Some (Makes o.step)
+pub path-here : (s : Setting) (h : History) (d : DomId) (o : Open) (c : Underway) → OpenAgrees s h d o c → path (known_at s h d) d c.request (values c) ≡ Some (Makes o.step)
 path-here s h d o c oa = ap (path (known_at s h d) d c.request) (sym (append-nil (values c))) ∙ oa.leads [] ∙ oa.comes
 
 -- a call that goes on: the open call agrees with one item more
-pub goes-on-agrees : (s : Setting) (h : History) (d : DomId) (o : Open) (c : Underway) (seen : Seen) (new : Call) (step : Step) → IsQuiet (stepped d o.step seen None) → open_call h d.0 ≡ Some c
-    → OpenAgrees s h d o c → Stepping s h d o c seen new (Makes step) → FollowsPlace s h d c.request ((o.step, seen) ∷ reverse c.steps) new.phase
+pub goes-on-after : (s : Setting) (h : History) (d : DomId) (o : Open) (c : Underway) (seen : Seen) (new : Call) (step : Step)
+    → known_at s (stepped d o.step seen None ∷ h) d ≡ known_at s h d → open_call h d.0 ≡ Some c
+    → OpenAgrees s h d o c → Stepping s h d o c seen new (Makes step) → PhaseStands s (stepped d o.step seen None ∷ h) d c.request ((o.step, seen) ∷ reverse c.steps) new.phase
     → OpenAgrees s (stepped d o.step seen None ∷ h) d (record { call = new; step = step }) (one-more c o.step seen)
-goes-on-agrees s h d o c seen new step q call oa p f =
+goes-on-after s h d o c seen new step same call oa p place =
     let i = stepped d o.step seen None in
     let r = c.request in
-    let same = quiet-known s i h d q in
     record {
       caller = p.by;
       request = p.asks;
@@ -608,10 +608,17 @@ goes-on-agrees s h d o c seen new step q call oa p f =
           ∙ ap (λ (k : CallerKnowledge). expects k d r new.phase vs) (sym same);
       fair = stood-step s h d c o.step seen None call oa.fair ∙ sym p.judged ∙ going-none (known_at s h d) d r new.phase step p.is_next;
       fits = oa.fits;
-      place = place-keeps s i h d r (reverse (c.steps ++ (o.step, seen) ∷ [])) new.phase q
-          (subst (λ (so_far : StepsSoFar). PhaseStands s h d r so_far new.phase) (sym (steps-more c o.step seen))
-          (follows-stands s h d r ((o.step, seen) ∷ reverse c.steps) new.phase step p.is_next f));
+      place = subst (λ (so_far : StepsSoFar). PhaseStands s (i ∷ h) d r so_far new.phase) (sym (steps-more c o.step seen)) place;
     }
+
+-- the same after an item that changes nothing
+pub goes-on-agrees : (s : Setting) (h : History) (d : DomId) (o : Open) (c : Underway) (seen : Seen) (new : Call) (step : Step) → IsQuiet (stepped d o.step seen None) → open_call h d.0 ≡ Some c
+    → OpenAgrees s h d o c → Stepping s h d o c seen new (Makes step) → FollowsPlace s h d c.request ((o.step, seen) ∷ reverse c.steps) new.phase
+    → OpenAgrees s (stepped d o.step seen None ∷ h) d (record { call = new; step = step }) (one-more c o.step seen)
+goes-on-agrees s h d o c seen new step q call oa p f =
+    let i = stepped d o.step seen None in
+    goes-on-after s h d o c seen new step (quiet-known s i h d q) call oa p
+    (place-keeps s i h d c.request ((o.step, seen) ∷ reverse c.steps) new.phase q (follows-stands s h d c.request ((o.step, seen) ∷ reverse c.steps) new.phase step p.is_next f))
 
 -- an access by a mapping is justified by the pin that it holds
 
@@ -634,7 +641,7 @@ reads-own s d off len p handle held law own =
     let v = subst (λ (z : DomId). Permits p.entry z p.dir ForMap 0 0 × MayUse s z p.dom p.dir) same (w.0, w.1) in
     ((own, refl, refl, permits-reading p.entry d p.dir off len v.0, λ e. let f : Read ≡ Write = e in cc), v.1)
 
-any-here : {X : Type 0} (P : X → Type 0) (x : X) (xs : List X) → P x → Any P (x ∷ xs)
+pub any-here : {X : Type 0} (P : X → Type 0) (x : X) (xs : List X) → P x → Any P (x ∷ xs)
 any-here P x xs a = (0, x, omega arith, refl, a)
 
 any-there : {X : Type 0} (P : X → Type 0) (x : X) (xs : List X) → Any P xs → Any P (x ∷ xs)
@@ -743,21 +750,27 @@ quiet-sound s h d r (Unpin dom gref dir holder) seen q = tt
 quiet-sound s h d r (StoreBody gref second word) seen q = tt
 
 -- the step of a call that goes on is right
-pub quiet-right : (s : Setting) (h : History) (xs : List State) (d : DomId) (o : Open) (c : Underway) (seen : Seen) (new : Call) (step : Step) → CoreStands s h xs → open_call h d.0 ≡ Some c
-    → OpenAgrees s h d o c → Stepping s h d o c seen new (Makes step) → changes_nothing o.step seen ≡ true
+pub going-right : (s : Setting) (h : History) (xs : List State) (d : DomId) (o : Open) (c : Underway) (seen : Seen) (new : Call) (step : Step) → CoreStands s h xs → open_call h d.0 ≡ Some c
+    → OpenAgrees s h d o c → Stepping s h d o c seen new (Makes step) → IsSafe s h (stepped d o.step seen None) → PinIsSound s h d c.request o.step seen
     → StepsRight s h (stepped d o.step seen None) o.step seen c
-quiet-right s h xs d o c seen new step st call oa p q =
+going-right s h xs d o c seen new step st call oa p safe sound =
     let fair : stood s (stepped d o.step seen None ∷ h) d.0 ≡ None =
     stood-step s h d c o.step seen None call oa.fair ∙ sym p.judged ∙ going-none (known_at s h d) d c.request new.phase step p.is_next in
     record {
       continues = path-here s h d o c oa;
       sees = p.sees;
       justified = step-justified s h xs d c.request o.call.phase o.step st p.act;
-      safe = quiet-safe s h d o.step seen None q;
-      sound = quiet-sound s h d c.request o.step seen q;
+      safe = safe;
+      sound = sound;
       answered = subst (λ (a : Option Action). AnsweredBy s h d c.request (Some o.step) (verdict_in a) None (stood s (stepped d o.step seen None ∷ h) d.0))
           (sym (path-next s h d o c seen new (Makes step) oa p)) fair;
     }
+
+pub quiet-right : (s : Setting) (h : History) (xs : List State) (d : DomId) (o : Open) (c : Underway) (seen : Seen) (new : Call) (step : Step) → CoreStands s h xs → open_call h d.0 ≡ Some c
+    → OpenAgrees s h d o c → Stepping s h d o c seen new (Makes step) → changes_nothing o.step seen ≡ true
+    → StepsRight s h (stepped d o.step seen None) o.step seen c
+quiet-right s h xs d o c seen new step st call oa p q =
+    going-right s h xs d o c seen new step st call oa p (quiet-safe s h d o.step seen None q) (quiet-sound s h d c.request o.step seen q)
 
 -- the actor's new state
 
@@ -765,7 +778,7 @@ pub decide : {A : Type 0} (b : Bool) → (b ≡ true → A) → (b ≡ false →
 decide true when_true when_false = when_true refl
 decide false when_true when_false = when_false refl
 
-call-here : (s : Setting) (h : History) (id : DomId) (o : Option Open) (call : Option Underway) (one : Open) → o ≡ Some one → CallAgrees s h id o call → (c : Underway) × (call ≡ Some c) × OpenAgrees s h id one c
+pub call-here : (s : Setting) (h : History) (id : DomId) (o : Option Open) (call : Option Underway) (one : Open) → o ≡ Some one → CallAgrees s h id o call → (c : Underway) × (call ≡ Some c) × OpenAgrees s h id one c
 call-here s h id None call one e a = cc
 call-here s h id (Some o) None one e a = absurd a
 call-here s h id (Some o) (Some c) one e a = (c, refl, subst (λ (x : Open). OpenAgrees s h id x c) (same_Some _ _ e) a)

@@ -19,6 +19,9 @@ pub const LAST_GENERATION: u32 = 1_048_575;
 /// The most mappings of one domain.
 pub const MOST_MAPPINGS: usize = 8_192;
 
+/// The serials of a domain's mappings are below this number.
+pub const END_OF_SERIALS: u64 = u64::MAX;
+
 pub fn resolve(caller: DomId, dom: DomId) -> DomId
     ensures { result ≡ resolved caller dom }
 {
@@ -237,7 +240,7 @@ fn begin_map<P: Allows>(
     if let Some(verdict) = map_denied(known.rights, source, owner.label, flags) {
         return Some(verdict);
     }
-    if known.mappings.len() >= MOST_MAPPINGS || known.maps_answered == u64::MAX {
+    if known.mappings.len() >= MOST_MAPPINGS || known.maps_answered >= END_OF_SERIALS {
         return refused(Rule::N8);
     }
     None
