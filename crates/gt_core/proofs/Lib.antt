@@ -13,6 +13,7 @@ pub mod Placing
 pub mod Owners
 pub mod Ticking
 pub mod Others
+pub mod Turning
 pub mod Exchanging
 pub mod Unpinning
 pub mod Pinning
