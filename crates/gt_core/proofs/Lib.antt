@@ -18,3 +18,4 @@ pub mod Exchanging
 pub mod Unpinning
 pub mod Pinning
 pub mod Starting
+pub mod Ending

@@ -65,13 +65,13 @@ applied d (Exchange gref looked change) Taken xs = changed_in d.0 (with_own gref
 applied d step seen xs = xs
 
 -- the bytes of a frame, none where there is no such frame
+abbrev pub or_none : Option (List ℕ) → List ℕ
+or_none None = []
+or_none (Some bytes) = bytes
+
 abbrev pub frame_in : Option State → ℕ → List ℕ
 frame_in None f = []
 frame_in (Some x) f = or_none (slice_get x.frames f)
-  where
-    or_none : Option (List ℕ) → List ℕ
-    or_none None = []
-    or_none (Some bytes) = bytes
 
 abbrev pub bytes_in : List State → ℕ → ℕ → ℕ → ℕ → List ℕ
 bytes_in xs t f off len = take len (drop off (frame_in (state_of xs t) f))
