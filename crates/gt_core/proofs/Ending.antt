@@ -101,15 +101,17 @@ use Rattle.gt_core.specs.Rules.{stands, first_look, before_pin, is_kind, wants, 
 use Rattle.gt_core.specs.Path.{map_leg}
 use Rattle.gt_core.specs.Legal.{GivesValue, refusal_of, NoneStands}
 use Rattle.gt_core.specs.Standing.{Settled, IsLoadOf}
-use Rattle.gt_core.specs.Effects.{with_mapping, without_mapping, or_none, frame_in, bytes_in}
+use Rattle.gt_core.specs.Effects.{with_own, with_mapping, without_mapping, or_none, frame_in, bytes_in}
 use Rattle.gt_core.specs.Machine.{frame_read, after_miss, after_words, after_look, after_own_look}
 use Rattle.gt_types.specs.declared.denial.Facts.TheVariants.{Header as HeaderFacts}
 use Rattle.gt_core.specs.declared.slot.SlotChange.TheVariants.{Pinned, Unpinned}
 use Rattle.gt_core.proofs.Fitting.{word-shows}
 use Rattle.gt_core.proofs.FirstRules.{still-judged, control-generation, control-writes}
 use Rattle.gt_core.proofs.Ticking.{path-here, path-next, stood-step, step-justified, stepped-quiet}
-use Rattle.gt_core.proofs.Turning.{applied-quiet}
-use Rattle.gt_core.proofs.Exchanging.{exchange-stands}
+use Rattle.gt_core.proofs.Turning.{applied-quiet, tick-stores}
+use Rattle.gt_core.proofs.Ticking.{refused-changes-nothing}
+use Rattle.gt_core.specs.Standing.{Advances}
+use Rattle.gt_core.proofs.Exchanging.{Exchanges, exchange-stands, exchange-ends, exchange-safe}
 use Rattle.gt_core.proofs.Unpinning.{unpin-stands}
 use Rattle.gt_core.proofs.Pinning.{pin-stands, new_pin, pins_at}
 
@@ -626,3 +628,345 @@ pin-ends s h xs x o c seen new answer settled l more word body second st here a 
     subst (λ (z : Step). CoreStands s (stepped d z seen (Some (Mapped handle)) ∷ h) (applied d z seen settled)) (sym step)
     (subst (λ (v : Seen). CoreStands s (stepped d (PinStep l.dom l.gref word l.dir) v (Some (Mapped handle)) ∷ h) (applied d (PinStep l.dom l.gref word l.dir) v settled)) (sym taken)
     (subst (λ (z : List State). CoreStands s (stepped d (PinStep l.dom l.gref word l.dir) Taken (Some (Mapped handle)) ∷ h) (changed_in t (with_slot r (Pinned l.dir)) z)) (sym after) stood)))
+
+-- a call is over with an exchange, an unpin or an access
+
+exchange-over : (s : Setting) (h : History) (xs : List State) (x : State) (o : Open) (c : Underway) (seen : Seen) (new : Call) (answer : Answer) (settled : List State) (gref : GrantRef) (looked : ℕ) (change : Change)
+    → CoreStands s h xs → open_call h x.id.0 ≡ Some c → OpenAgrees s h x.id o c → Stepping s h x.id o c seen new (Done Granted)
+    → o.step ≡ Exchange gref looked change → SettledIn xs x o (Exchange gref looked change) answer settled → GivesValue s h x.id c.request (Some o.step) AnswerDone
+    → EndsRight s h xs x o c o.step seen answer settled
+exchange-over s h xs x o c seen new answer settled gref looked change st call oa w step done value =
+    let d = x.id in
+    let e = exchange-ends s h xs d o c seen new gref looked change st oa w step in
+    let right : StepsRight s h (stepped d o.step seen (Some AnswerDone)) o.step seen c =
+    granted-right s h xs d o c seen new AnswerDone st call oa w (exchange-safe s h d gref looked change o.step seen (Some AnswerDone) step e)
+    (subst (λ (z : Step). PinIsSound s h d c.request z seen) (sym step) tt) refl value in
+    subst (λ (z : Answer). EndsRight s h xs x o c o.step seen z settled) (sym done.0)
+    (right,
+    subst (λ (z : Step). CoreStands s (stepped d z seen (Some AnswerDone) ∷ h) (applied d z seen settled)) (sym step)
+    (subst (λ (v : Seen). CoreStands s (stepped d (Exchange gref looked change) v (Some AnswerDone) ∷ h) (applied d (Exchange gref looked change) v settled)) (sym e.taken)
+    (subst (λ (z : List State). CoreStands s (stepped d (Exchange gref looked change) Taken (Some AnswerDone) ∷ h) (changed_in d.0 (with_own gref.0 change) z)) (sym done.1)
+    (exchange-stands s h xs d gref looked change st e.within e.safe e.fits e.room))))
+
+unpin-over : (s : Setting) (h : History) (xs : List State) (x : State) (o : Open) (c : Underway) (seen : Seen) (new : Call) (answer : Answer) (settled : List State) (handle : Handle) (m : Mapping)
+    → CoreStands s h xs → state_of xs x.id.0 ≡ Some x → open_call h x.id.0 ≡ Some c → OpenAgrees s h x.id o c → Stepping s h x.id o c seen new (Done Granted)
+    → c.request ≡ Unmap handle → mapping_of (mappings_at h x.id.0) handle ≡ Some m → o.step ≡ Unpin m.dom m.gref m.dir (ByMapping m.handle)
+    → SettledIn xs x o (Unpin m.dom m.gref m.dir (ByMapping m.handle)) answer settled
+    → EndsRight s h xs x o c o.step seen answer settled
+unpin-over s h xs x o c seen new answer settled handle m st here call oa w asks found step done =
+    let d = x.id in
+    let nothing : seen ≡ Nothing = w.sees ∙ ap (seen_by s h d) step in
+    let right : StepsRight s h (stepped d o.step seen (Some AnswerDone)) o.step seen c =
+    granted-right s h xs d o c seen new AnswerDone st call oa w
+    (subst (λ (z : Step). IsSafe s h (stepped d z seen (Some AnswerDone))) (sym step) tt)
+    (subst (λ (z : Step). PinIsSound s h d c.request z seen) (sym step) tt) refl
+    (subst (λ (z : Request). GivesValue s h d z (Some o.step) AnswerDone) (sym asks) refl) in
+    subst (λ (z : Answer). EndsRight s h xs x o c o.step seen z settled) (sym done.0)
+    (right,
+    subst (λ (z : Step). CoreStands s (stepped d z seen (Some AnswerDone) ∷ h) (applied d z seen settled)) (sym step)
+    (subst (λ (v : Seen). CoreStands s (stepped d (Unpin m.dom m.gref m.dir (ByMapping m.handle)) v (Some AnswerDone) ∷ h) (applied d (Unpin m.dom m.gref m.dir (ByMapping m.handle)) v settled)) (sym nothing)
+    (subst (λ (z : List State). CoreStands s (stepped d (Unpin m.dom m.gref m.dir (ByMapping m.handle)) Nothing (Some AnswerDone) ∷ h) (changed_in d.0 (without_mapping (ByMapping m.handle)) (changed_in m.dom.0 (with_slot m.gref.0 (Unpinned m.dir)) z))) (sym done.1)
+    (unpin-stands s h xs d x handle m st here refl found))))
+
+-- a call that ends and changes nothing else
+quiet-over : (s : Setting) (h : History) (xs : List State) (x : State) (step : Step) (seen : Seen) (answer : Answer) → CoreStands s h xs → state_of xs x.id.0 ≡ Some x → Agrees s h x
+    → changes_nothing step seen ≡ true → one_if_mapped (Some answer) ≡ 0 → CoreStands s (stepped x.id step seen (Some answer) ∷ h) (changed_in x.id.0 (with_underway None) xs)
+quiet-over s h xs x step seen answer st here a q m =
+    let i = stepped x.id step seen (Some answer) in
+    let quiet = stepped-quiet x.id step seen (Some answer) q m in
+    let now : open_call (i ∷ h) x.id.0 ≡ None = open_call-own i h in
+    quiet-stands s i h xs (changed_in x.id.0 (with_underway None) xs) (with_underway None x) quiet st
+    (λ n. state-changed xs x.id.0 n (with_underway None) (λ y. refl) ∙ sym (state-there n))
+    (refl, quiet-agrees s i h x None quiet a (subst (λ (u : Option Underway). CallAgrees s (i ∷ h) x.id None u) (sym now) tt))
+    (λ none. none-some x (sym none ∙ here))
+  where
+    state-there : (n : ℕ) → cond (x.id.0 == n) (Some (with_underway None x)) (state_of xs n) ≡ cond (x.id.0 == n) (option_map (with_underway None) (state_of xs n)) (state_of xs n)
+    state-there n = by (x.id.0 == n) refl
+      where
+        by : (b : Bool) → (x.id.0 == n) ≡ b → cond b (Some (with_underway None x)) (state_of xs n) ≡ cond b (option_map (with_underway None) (state_of xs n)) (state_of xs n)
+        by true e = sym (ap (option_map (with_underway None)) (ap (state_of xs) (sym (eqb-true x.id.0 n e)) ∙ here))
+        by false e = refl
+
+load-over : (s : Setting) (h : History) (xs : List State) (x : State) (o : Open) (c : Underway) (seen : Seen) (new : Call) (answer : Answer) (settled : List State) (handle : Handle) (off len : ℕ) (m : Mapping)
+    → CoreStands s h xs → state_of xs x.id.0 ≡ Some x → Agrees s h x → open_call h x.id.0 ≡ Some c → OpenAgrees s h x.id o c → Stepping s h x.id o c seen new (Done Granted)
+    → c.request ≡ Load handle off len → mapping_of (mappings_at h x.id.0) handle ≡ Some m → o.step ≡ ReadBytes m.dom m.frame off len
+    → SettledIn xs x o (ReadBytes m.dom m.frame off len) answer settled
+    → EndsRight s h xs x o c o.step seen answer settled
+load-over s h xs x o c seen new answer settled handle off len m st here a call oa w asks found step done =
+    let d = x.id in
+    let b = done.0 in
+    let same : o.call.request ≡ Load handle off len = oa.request ∙ asks in
+    let read : length (bytes_in (changed_in d.0 (with_underway None) xs) m.dom.0 m.frame off len) ≡ len → b.bytes.items ≡ bytes_in (changed_in d.0 (with_underway None) xs) m.dom.0 m.frame off len =
+    subst (λ (z : List State). length (bytes_in z m.dom.0 m.frame off len) ≡ len → b.bytes.items ≡ bytes_in z m.dom.0 m.frame off len) done.2
+    (done.3 len (subst (λ (z : Request). IsLoadOf z len) (sym same) refl)) in
+    let bytes = load-bytes s h xs d handle off len m b st (ap (λ (z : Request). begun (known_at s h d) d z) (sym asks) ∙ w.none) found read in
+    let right : StepsRight s h (stepped d o.step seen (Some (BytesAnswer b))) o.step seen c =
+    granted-right s h xs d o c seen new (BytesAnswer b) st call oa w
+    (subst (λ (z : Step). IsSafe s h (stepped d z seen (Some (BytesAnswer b)))) (sym step) tt)
+    (subst (λ (z : Step). PinIsSound s h d c.request z seen) (sym step) tt) refl
+    (subst (λ (z : Request). GivesValue s h d z (Some o.step) (BytesAnswer b)) (sym asks)
+    (subst (λ (z : Step). GivesValue s h d (Load handle off len) (Some z) (BytesAnswer b)) (sym step) bytes)) in
+    let q : changes_nothing o.step seen ≡ true = ap (λ (z : Step). changes_nothing z seen) step in
+    subst (λ (z : Answer). EndsRight s h xs x o c o.step seen z settled) (sym done.1)
+    (right,
+    subst (λ (z : List State). CoreStands s (stepped d o.step seen (Some (BytesAnswer b)) ∷ h) z) (sym (applied-quiet d o.step seen settled q ∙ done.2))
+    (quiet-over s h xs x o.step seen (BytesAnswer b) st here a q refl))
+
+-- a call whose last step is an exchange gives no value
+exchange-gives : (s : Setting) (h : History) (d : DomId) (k : CallerKnowledge) (r : Request) (phase : Phase) (gref : GrantRef) (looked : ℕ) (change : Change) (step : Option Step) → action_at k d r phase ≡ Makes (Exchange gref looked change)
+    → Comes (expects k d r phase []) → GivesValue s h d r step AnswerDone
+exchange-gives s h d k (Grant g entry) phase gref looked change step act comes = refl
+exchange-gives s h d k (Revoke g) phase gref looked change step act comes = refl
+exchange-gives s h d k (Demote g) phase gref looked change step act comes = refl
+exchange-gives s h d k (Promote g) phase gref looked change step act comes = refl
+exchange-gives s h d k (Unmap handle) phase gref looked change step act comes = refl
+exchange-gives s h d k (Map dom g flags) phase gref looked change step act comes = absurd (no-exchange phase act comes)
+  where
+    leg-no : (l : Leg) (p : LegPhase) → Makes (leg_step l p) ≡ Makes (Exchange gref looked change) → ⊥
+    leg-no l AtHeader e = cc
+    leg-no l (Look more) e = cc
+    leg-no l (Body more word) e = cc
+    leg-no l (Second more word body) e = cc
+    leg-no l (Relook more word rule) e = cc
+    leg-no l (Pinning more word body second) e = cc
+
+    no-exchange : (phase : Phase) → action_at k d (Map dom g flags) phase ≡ Makes (Exchange gref looked change) → Comes (expects k d (Map dom g flags) phase []) → ⊥
+    no-exchange PhaseBegun e comes = cc
+    no-exchange (LegPinning l p) e comes = leg-no l p e
+    no-exchange Storing e comes = cc
+    no-exchange StoringSecond e comes = cc
+    no-exchange Single e comes = cc
+    no-exchange (OwnLook more) e comes = cc
+    no-exchange (OwnChange more word) e comes = comes
+    no-exchange (Ended verdict) e comes = cc
+exchange-gives s h d k (Load handle off len) phase gref looked change step act comes = absurd (no-exchange phase act comes)
+  where
+    leg-no : (l : Leg) (p : LegPhase) → Makes (leg_step l p) ≡ Makes (Exchange gref looked change) → ⊥
+    leg-no l AtHeader e = cc
+    leg-no l (Look more) e = cc
+    leg-no l (Body more word) e = cc
+    leg-no l (Second more word body) e = cc
+    leg-no l (Relook more word rule) e = cc
+    leg-no l (Pinning more word body second) e = cc
+
+    read-no : (m : Option Mapping) → read_of m off len ≡ Makes (Exchange gref looked change) → ⊥
+    read-no None e = cc
+    read-no (Some m) e = cc
+
+    no-exchange : (phase : Phase) → action_at k d (Load handle off len) phase ≡ Makes (Exchange gref looked change) → Comes (expects k d (Load handle off len) phase []) → ⊥
+    no-exchange PhaseBegun e comes = cc
+    no-exchange (LegPinning l p) e comes = leg-no l p e
+    no-exchange Storing e comes = cc
+    no-exchange StoringSecond e comes = cc
+    no-exchange Single e comes = read-no (mapping_of k.mappings handle) e
+    no-exchange (OwnLook more) e comes = cc
+    no-exchange (OwnChange more word) e comes = comes
+    no-exchange (Ended verdict) e comes = cc
+
+unmaps-leg : (l : Leg) (p : LegPhase) (t : DomId) (gref : GrantRef) (dir : Dir) (holder : Holder) → Makes (leg_step l p) ≡ Makes (Unpin t gref dir holder) → ⊥
+unmaps-leg l AtHeader t gref dir holder e = cc
+unmaps-leg l (Look more) t gref dir holder e = cc
+unmaps-leg l (Body more word) t gref dir holder e = cc
+unmaps-leg l (Second more word body) t gref dir holder e = cc
+unmaps-leg l (Relook more word rule) t gref dir holder e = cc
+unmaps-leg l (Pinning more word body second) t gref dir holder e = cc
+
+unmaps-store : (r : Request) (t : DomId) (gref : GrantRef) (dir : Dir) (holder : Holder) → store_at r ≡ Makes (Unpin t gref dir holder) → ⊥
+unmaps-store (Grant g entry) t gref dir holder e = cc
+unmaps-store (Revoke g) t gref dir holder e = cc
+unmaps-store (Demote g) t gref dir holder e = cc
+unmaps-store (Promote g) t gref dir holder e = cc
+unmaps-store (Map dom g flags) t gref dir holder e = cc
+unmaps-store (Unmap handle) t gref dir holder e = cc
+unmaps-store (Load handle off len) t gref dir holder e = cc
+
+unmaps-second : (r : Request) (t : DomId) (gref : GrantRef) (dir : Dir) (holder : Holder) → second_at r ≡ Makes (Unpin t gref dir holder) → ⊥
+unmaps-second (Grant g entry) t gref dir holder e = cc
+unmaps-second (Revoke g) t gref dir holder e = cc
+unmaps-second (Demote g) t gref dir holder e = cc
+unmaps-second (Promote g) t gref dir holder e = cc
+unmaps-second (Map dom g flags) t gref dir holder e = cc
+unmaps-second (Unmap handle) t gref dir holder e = cc
+unmaps-second (Load handle off len) t gref dir holder e = cc
+
+unmaps-other : (o : Option Mapping) (off len : ℕ) (t : DomId) (gref : GrantRef) (dir : Dir) (holder : Holder) → read_of o off len ≡ Makes (Unpin t gref dir holder) → ⊥
+unmaps-other None off len t gref dir holder e = cc
+unmaps-other (Some x) off len t gref dir holder e = cc
+
+unmaps-single : (s : Setting) (h : History) (d : DomId) (r : Request) (t : DomId) (gref : GrantRef) (dir : Dir) (holder : Holder) → single_at (known_at s h d) r ≡ Makes (Unpin t gref dir holder) → Unmaps s h d r (Unpin t gref dir holder)
+unmaps-single s h d (Grant g entry) t gref dir holder e = cc
+unmaps-single s h d (Revoke g) t gref dir holder e = cc
+unmaps-single s h d (Demote g) t gref dir holder e = cc
+unmaps-single s h d (Promote g) t gref dir holder e = cc
+unmaps-single s h d (Map dom g flags) t gref dir holder e = cc
+unmaps-single s h d (Unmap handle) t gref dir holder e = unmaps-by s h d handle (mapping_of (mappings_at h d.0) handle) (Unpin t gref dir holder) refl e
+unmaps-single s h d (Load handle off len) t gref dir holder e = absurd (unmaps-other (mapping_of (mappings_at h d.0) handle) off len t gref dir holder e)
+
+unmaps : (s : Setting) (h : History) (d : DomId) (r : Request) (phase : Phase) (t : DomId) (gref : GrantRef) (dir : Dir) (holder : Holder) → action_at (known_at s h d) d r phase ≡ Makes (Unpin t gref dir holder) → Unmaps s h d r (Unpin t gref dir holder)
+unmaps s h d r PhaseBegun t gref dir holder e = cc
+unmaps s h d r (LegPinning l p) t gref dir holder e = absurd (unmaps-leg l p t gref dir holder e)
+unmaps s h d r Storing t gref dir holder e = absurd (unmaps-store r t gref dir holder e)
+unmaps s h d r StoringSecond t gref dir holder e = absurd (unmaps-second r t gref dir holder e)
+unmaps s h d r Single t gref dir holder e = unmaps-single s h d r t gref dir holder e
+unmaps s h d r (OwnLook more) t gref dir holder e = cc
+unmaps s h d r (OwnChange more word) t gref dir holder e = cc
+unmaps s h d r (Ended v) t gref dir holder e = cc
+
+loads-leg : (l : Leg) (p : LegPhase) (t : DomId) (frame n m : ℕ) → Makes (leg_step l p) ≡ Makes (ReadBytes t frame n m) → ⊥
+loads-leg l AtHeader t frame n m e = cc
+loads-leg l (Look more) t frame n m e = cc
+loads-leg l (Body more word) t frame n m e = cc
+loads-leg l (Second more word body) t frame n m e = cc
+loads-leg l (Relook more word rule) t frame n m e = cc
+loads-leg l (Pinning more word body second) t frame n m e = cc
+
+loads-store : (r : Request) (t : DomId) (frame n m : ℕ) → store_at r ≡ Makes (ReadBytes t frame n m) → ⊥
+loads-store (Grant g entry) t frame n m e = cc
+loads-store (Revoke g) t frame n m e = cc
+loads-store (Demote g) t frame n m e = cc
+loads-store (Promote g) t frame n m e = cc
+loads-store (Map dom g flags) t frame n m e = cc
+loads-store (Unmap handle) t frame n m e = cc
+loads-store (Load handle off len) t frame n m e = cc
+
+loads-second : (r : Request) (t : DomId) (frame n m : ℕ) → second_at r ≡ Makes (ReadBytes t frame n m) → ⊥
+loads-second (Grant g entry) t frame n m e = cc
+loads-second (Revoke g) t frame n m e = cc
+loads-second (Demote g) t frame n m e = cc
+loads-second (Promote g) t frame n m e = cc
+loads-second (Map dom g flags) t frame n m e = cc
+loads-second (Unmap handle) t frame n m e = cc
+loads-second (Load handle off len) t frame n m e = cc
+
+loads-other : (o : Option Mapping) (t : DomId) (frame n m : ℕ) → unpin_of o ≡ Makes (ReadBytes t frame n m) → ⊥
+loads-other None t frame n m e = cc
+loads-other (Some x) t frame n m e = cc
+
+loads-single : (s : Setting) (h : History) (d : DomId) (r : Request) (t : DomId) (frame n m : ℕ) → single_at (known_at s h d) r ≡ Makes (ReadBytes t frame n m) → Loads s h d r (ReadBytes t frame n m)
+loads-single s h d (Grant g entry) t frame n m e = cc
+loads-single s h d (Revoke g) t frame n m e = cc
+loads-single s h d (Demote g) t frame n m e = cc
+loads-single s h d (Promote g) t frame n m e = cc
+loads-single s h d (Map dom g flags) t frame n m e = cc
+loads-single s h d (Unmap handle) t frame n m e = absurd (loads-other (mapping_of (mappings_at h d.0) handle) t frame n m e)
+loads-single s h d (Load handle off len) t frame n m e = loads-by s h d handle off len (mapping_of (mappings_at h d.0) handle) (ReadBytes t frame n m) refl e
+
+loads : (s : Setting) (h : History) (d : DomId) (r : Request) (phase : Phase) (t : DomId) (frame n m : ℕ) → action_at (known_at s h d) d r phase ≡ Makes (ReadBytes t frame n m) → Loads s h d r (ReadBytes t frame n m)
+loads s h d r PhaseBegun t frame n m e = cc
+loads s h d r (LegPinning l p) t frame n m e = absurd (loads-leg l p t frame n m e)
+loads s h d r Storing t frame n m e = absurd (loads-store r t frame n m e)
+loads s h d r StoringSecond t frame n m e = absurd (loads-second r t frame n m e)
+loads s h d r Single t frame n m e = loads-single s h d r t frame n m e
+loads s h d r (OwnLook more) t frame n m e = cc
+loads s h d r (OwnChange more word) t frame n m e = cc
+loads s h d r (Ended v) t frame n m e = cc
+
+-- a call that nothing stood against is over: its last step is right, and the core stands for it
+pub tick-ends : (s : Setting) (h : History) (xs : List State) (x : State) (o : Open) (c : Underway) (seen : Seen) (new : Call) (answer : Answer) (settled : List State)
+    → CoreStands s h xs → state_of xs x.id.0 ≡ Some x → Agrees s h x → open_call h x.id.0 ≡ Some c → OpenAgrees s h x.id o c → Stepping s h x.id o c seen new (Done Granted)
+    → SettledIn xs x o o.step answer settled → EndsRight s h xs x o c o.step seen answer settled
+tick-ends s h xs x o c seen new answer settled st here a call oa w done = by o.step refl done
+  where
+    k : CallerKnowledge
+    k = known_at s h x.id
+
+    next : Done Granted ≡ action_at k x.id c.request (phase_after k x.id c.request o.call.phase (seen_by s h x.id o.step))
+    next = w.is_next ∙ ap (action_at k x.id c.request) (w.stands ∙ ap (phase_after k x.id c.request o.call.phase) w.sees)
+
+    comes : Comes (expects k x.id c.request o.call.phase [])
+    comes = comes-some _ _ oa.comes
+
+    never : (step : Step) → o.step ≡ step → LooksOrStores step → EndsRight s h xs x o c o.step seen answer settled
+    never step e looks = absurd (never-ends s h x.id c.request (reverse c.steps) o.call.phase o.step oa.place comes w.act (subst LooksOrStores (sym e) looks) next)
+
+    act : (step : Step) → o.step ≡ step → action_at k x.id c.request o.call.phase ≡ Makes step
+    act step e = w.act ∙ ap (λ (z : Step). Makes z) e
+
+    by : (step : Step) → o.step ≡ step → SettledIn xs x o step answer settled → EndsRight s h xs x o c o.step seen answer settled
+    by (LookHeader dom) e z = never (LookHeader dom) e tt
+    by (LookControl dom gref) e z = never (LookControl dom gref) e tt
+    by (LookBody dom gref second) e z = never (LookBody dom gref second) e tt
+    by (StoreBody gref second word) e z = never (StoreBody gref second word) e tt
+    by (PinStep t gref looked dir) e z =
+        let p = pins-by k x.id c.request o.call.phase t gref looked dir (act (PinStep t gref looked dir) e) in
+        pin-ends s h xs x o c seen new answer settled p.0 p.1 p.2 p.3 p.4 st here a call oa w p.5 (e ∙ p.6) (subst (λ (q : Step). SettledIn xs x o q answer settled) p.6 z)
+    by (Exchange gref looked change) e z =
+        exchange-over s h xs x o c seen new answer settled gref looked change st call oa w e z
+        (exchange-gives s h x.id k c.request o.call.phase gref looked change (Some o.step) (act (Exchange gref looked change) e) comes)
+    by (Unpin t gref dir holder) e z =
+        let u = unmaps s h x.id c.request o.call.phase t gref dir holder (act (Unpin t gref dir holder) e) in
+        unpin-over s h xs x o c seen new answer settled u.0 u.1 st here call oa w u.2 u.3 (e ∙ u.4) z
+    by (ReadBytes t frame n m) e z =
+        let u = loads s h x.id c.request o.call.phase t frame n m (act (ReadBytes t frame n m) e) in
+        load-over s h xs x o c seen new answer settled u.0 u.1 u.2 u.3 st here a call oa w u.4 u.5 (e ∙ u.6) (subst (λ (q : Step). SettledIn xs x o q answer settled) u.6 z)
+
+-- the changed state by its place and by its number
+settled-in : (xs : List State) (at : ℕ) (x : State) (o : Open) (step : Step) (answer : Answer) (new : List State) → position (has_id x.id.0) xs ≡ Some at → x ≡ get_or xs at x
+    → Settled xs at x o step answer new → SettledIn xs x o step answer new
+settled-in xs at x o (LookHeader dom) answer new p here z = (z.0, z.1 ∙ set-state xs x.id.0 at (with_underway None) x _ p here refl)
+settled-in xs at x o (LookControl dom gref) answer new p here z = (z.0, z.1 ∙ set-state xs x.id.0 at (with_underway None) x _ p here refl)
+settled-in xs at x o (LookBody dom gref second) answer new p here z = (z.0, z.1 ∙ set-state xs x.id.0 at (with_underway None) x _ p here refl)
+settled-in xs at x o (StoreBody gref second word) answer new p here z = (z.0, z.1 ∙ set-state xs x.id.0 at (with_underway None) x _ p here refl)
+settled-in xs at x o (Exchange gref looked change) answer new p here z = (z.0, z.1 ∙ set-state xs x.id.0 at (with_underway None) x _ p here refl)
+settled-in xs at x o (Unpin t gref dir holder) answer new p here z = (z.0, z.1 ∙ set-state xs x.id.0 at (with_underway None) x _ p here refl)
+settled-in xs at x o (ReadBytes t frame off len) answer new p here z = (z.0, z.1, z.2 ∙ set-state xs x.id.0 at (with_underway None) x _ p here refl, z.3)
+settled-in xs at x o (PinStep t gref looked dir) answer new p here z =
+    (z.0, z.1, z.2, z.3 ∙ set-state xs x.id.0 at (with_mapping (record { handle = z.0; dom = t; gref = gref; dir = dir; frame = frame_read o.call.phase })) x _ p here refl)
+
+-- a tick of the domain, by what the core made of it
+
+abbrev pub TickRight : Setting → History → DomId → Step → Seen → Option Answer → List State → Type 0
+TickRight s h dom step seen answer new =
+    (domain_of s.domains dom ≢ None) × StepsRightIn s h (stepped dom step seen answer) step seen (open_call h dom.0) × CoreStands s (stepped dom step seen answer ∷ h) new
+
+pub tick-granted : (s : Setting) (h : History) (xs : List State) (dom : DomId) (at : ℕ) (x : State) (o : Open) (seen : Seen) (new : Call) (answer : Answer) (settled : List State)
+    → position (has_id dom.0) xs ≡ Some at → x ≡ get_or xs at x → x.underway ≡ Some o → CoreStands s h xs → seen ≡ sees xs dom o.step
+    → Advances (knowledge_of s.domains s.may x.own x.header x.mappings x.maps_answered) o.call.caller o.call.request o.call.phase seen new (Done Granted)
+    → Settled xs at x o o.step answer settled
+    → TickRight s h dom o.step seen (Some answer) (applied dom o.step seen settled)
+tick-granted s h xs dom at x o seen new answer settled p here is st saw adv done =
+    let a = agrees-found s h xs dom at x p here st in
+    let f = found xs dom.0 at x p ∙ ap (λ (y : State). Some y) (sym here) in
+    let both = subst (λ (d : DomId). position (has_id d.0) xs ≡ Some at → state_of xs d.0 ≡ Some x → seen ≡ sees xs d o.step
+    → StepsRightIn s h (stepped d o.step seen (Some answer)) o.step seen (open_call h d.0) × CoreStands s (stepped d o.step seen (Some answer) ∷ h) (applied d o.step seen settled)) a.1
+    (λ q g sees.
+    let c = call-here s h x.id x.underway (open_call h x.id.0) o is a.2.call in
+    let w = stepping s h xs x o c.0 seen new (Done Granted) st g a.2 c.2 sees adv in
+    let e = tick-ends s h xs x o c.0 seen new answer settled st g a.2 c.1 c.2 w (settled-in xs at x o o.step answer settled q here done) in
+    (subst (λ (u : Option Underway). StepsRightIn s h (stepped x.id o.step seen (Some answer)) o.step seen u) (sym c.1) e.0, e.1))
+    p f saw in
+    (a.0, both.0, both.1)
+
+pub tick-goes : (s : Setting) (h : History) (xs : List State) (dom : DomId) (at : ℕ) (x : State) (o : Open) (seen : Seen) (new : Call) (step : Step)
+    → position (has_id dom.0) xs ≡ Some at → x ≡ get_or xs at x → x.underway ≡ Some o → CoreStands s h xs → seen ≡ sees xs dom o.step
+    → Advances (knowledge_of s.domains s.may x.own x.header x.mappings x.maps_answered) o.call.caller o.call.request o.call.phase seen new (Makes step)
+    → TickRight s h dom o.step seen None (applied dom o.step seen (set xs at (with_underway (Some (record { call = new; step = step })) x)))
+tick-goes s h xs dom at x o seen new step p here is st saw adv =
+    decide (changes_nothing o.step seen)
+    (λ q. let r = tick-goes-on s h xs dom at x o seen new step p here is st saw adv q in
+    (r.0, r.1, subst (λ (l : List State). CoreStands s (stepped dom o.step seen None ∷ h) l) (sym (applied-quiet dom o.step seen _ q)) r.2))
+    (λ q.
+    let a = agrees-found s h xs dom at x p here st in
+    let f = found xs dom.0 at x p ∙ ap (λ (y : State). Some y) (sym here) in
+    let u : Option Open = Some (record { call = new; step = step }) in
+    let both = subst (λ (d : DomId). position (has_id d.0) xs ≡ Some at → state_of xs d.0 ≡ Some x → seen ≡ sees xs d o.step
+    → StepsRightIn s h (stepped d o.step seen None) o.step seen (open_call h d.0) × CoreStands s (stepped d o.step seen None ∷ h) (applied d o.step seen (set xs at (with_underway u x)))) a.1
+    (λ q' g sees.
+    let c = call-here s h x.id x.underway (open_call h x.id.0) o is a.2.call in
+    let w = stepping s h xs x o c.0 seen new (Makes step) st g a.2 c.2 sees adv in
+    let e = tick-stores s h xs x o c.0 seen new step st g a.2 c.1 c.2 w q in
+    (
+      subst (λ (v : Option Underway). StepsRightIn s h (stepped x.id o.step seen None) o.step seen v) (sym c.1) e.0,
+      subst (λ (l : List State). CoreStands s (stepped x.id o.step seen None ∷ h) (applied x.id o.step seen l)) (sym (set-state xs x.id.0 at (with_underway u) x (with_underway u x) q' here refl)) e.1,
+    ))
+    p f saw in
+    (a.0, both.0, both.1))
+
+pub tick-denied : (s : Setting) (h : History) (xs : List State) (dom : DomId) (at : ℕ) (x : State) (o : Open) (seen : Seen) (new : Call) (denial : Denial)
+    → position (has_id dom.0) xs ≡ Some at → x ≡ get_or xs at x → x.underway ≡ Some o → CoreStands s h xs → seen ≡ sees xs dom o.step
+    → Advances (knowledge_of s.domains s.may x.own x.header x.mappings x.maps_answered) o.call.caller o.call.request o.call.phase seen new (Done (Refused denial))
+    → TickRight s h dom o.step seen (Some (Denied denial)) (applied dom o.step seen (set xs at (with_underway None x)))
+tick-denied s h xs dom at x o seen new denial p here is st saw adv =
+    let q = refused-changes-nothing s h xs dom at x o seen new denial p here is st saw adv in
+    let r = tick-refused s h xs dom at x o seen new denial p here is st saw adv q in
+    (r.0, r.1, subst (λ (l : List State). CoreStands s (stepped dom o.step seen (Some (Denied denial)) ∷ h) l) (sym (applied-quiet dom o.step seen _ q)) r.2)

@@ -1,50 +1,66 @@
 -- An exchange that was taken keeps what a core stands for.
-use Rattle.std.proofs.Common.{◌⊎◌, inl, inr, ◌≡◌, ◌≢◌, ◌<◌, ◌≤◌, ◌+◌, ◌-◌, ◌^◌, ℕ, zero, suc, refl, Bool, true, false, List, [], ◌∷◌, ◌++◌, length, Option, Some, None, cond, eqb, sym, ap, ◌∙◌, arith, subst, get_or}
+use Rattle.std.proofs.Common.{◌≡◌, ◌≢◌, ◌<◌, ◌≤◌, ◌+◌, ◌-◌, ℕ, refl, Bool, true, false, List, [], ◌∷◌, length, Option, Some, None, cond, sym, ap, ◌∙◌, arith, subst, get_or}
 use Rattle.std.proofs.lemmas.Bool.{lt-ltb, eqb-true, eq-eqb, false≢true, true≢false}
 use Rattle.std.proofs.lemmas.List.{append-nil}
 use Rattle.std.proofs.lemmas.Option.{none-some, slice_get-get_or}
 use Rattle.std.specs.Option.{option_map}
+use Rattle.std.specs.Prelude.{nat_lt, ◌==◌, All, count_by, slice_get, if◌then◌else◌, nat_le, not, reverse}
 use mathlib.Core.Path.{fun_ext}
-use Rattle.std.specs.Prelude.{nat_lt, ◌==◌, ◌&&◌, All, count_by, slice_get, if◌then◌else◌}
-use Rattle.gt_types.specs.Names.{domain_of}
 use Rattle.gt_types.specs.declared.DomId.{DomId}
 use Rattle.gt_types.specs.declared.GrantRef.{GrantRef}
-use Rattle.gt_types.specs.declared.Dir.{Dir}
 use Rattle.gt_types.specs.declared.Dir.TheVariants.{Read, Write}
+use Rattle.gt_types.specs.Denial.{denial_of}
+use Rattle.gt_types.specs.declared.denial.Rule.{Rule}
+use Rattle.gt_types.specs.declared.denial.Rule.TheVariants.{N9, N10, N18, N19, N20, N21, N22}
+use Rattle.gt_types.specs.declared.denial.Denial.{Denial}
+use Rattle.gt_types.specs.declared.denial.Facts.TheVariants.{None as NoFacts}
 use Rattle.gt_entry.specs.declared.entry.Entry.{Entry}
 use Rattle.gt_entry.specs.declared.entry.Entry.TheVariants.{Invalid, Page, Sub, Via}
-use Rattle.gt_core.specs.declared.request.Handle.{Handle}
-use Rattle.gt_core.specs.declared.request.Holder.{Holder}
-use Rattle.gt_core.specs.declared.request.Holder.TheVariants.{Mapping as ByMapping, Leg as ByLeg}
+use Rattle.gt_entry.specs.declared.control.Control.{Control}
+use Rattle.gt_entry.specs.Words.{control_word, control_of}
 use Rattle.gt_core.specs.declared.action.Change.{Change}
-use Rattle.gt_core.specs.declared.action.Change.TheVariants.{Publish, Revoke, Demote, Promote}
+use Rattle.gt_core.specs.declared.action.Change.TheVariants.{Publish, Revoke as ToInvalid, Demote as ToReadOnly, Promote as ToWritable}
 use Rattle.gt_core.specs.declared.action.Step.{Step}
-use Rattle.gt_core.specs.declared.action.Step.TheVariants.{LookHeader, LookControl, LookBody, Pin as PinStep, Unpin, StoreBody, Exchange, Read as ReadBytes}
+use Rattle.gt_core.specs.declared.action.Step.TheVariants.{Exchange}
 use Rattle.gt_core.specs.declared.action.Seen.{Seen}
-use Rattle.gt_core.specs.declared.action.Seen.TheVariants.{Nothing, Value, Taken, Missed}
+use Rattle.gt_core.specs.declared.action.Seen.TheVariants.{Taken, Missed}
 use Rattle.gt_core.specs.declared.known.Mapping.{Mapping}
 use Rattle.gt_core.specs.declared.known.Own.{Own}
 use Rattle.gt_core.specs.declared.slot.Slot.{Slot}
-use Rattle.gt_core.specs.declared.slot.SlotChange.{SlotChange}
-use Rattle.gt_core.specs.declared.slot.SlotChange.TheVariants.{Pinned, Unpinned, Stored}
 use Rattle.gt_core.specs.declared.trace.Item.{Item}
-use Rattle.gt_core.specs.declared.trace.Happened.TheVariants.{Began, Stepped}
+use Rattle.gt_core.specs.declared.trace.Happened.TheVariants.{Stepped}
 use Rattle.gt_core.specs.declared.trace.Answer.{Answer}
-use Rattle.gt_core.specs.declared.trace.Answer.TheVariants.{Denied, Done as AnswerDone, Mapped}
-use Rattle.gt_entry.specs.declared.control.Control.{Control}
-use Rattle.gt_entry.specs.Words.{IsInRange}
+use Rattle.gt_core.specs.declared.trace.Answer.TheVariants.{Done as AnswerDone}
 use Rattle.gt_core.specs.declared.slot.Open.{Open}
-use Rattle.gt_core.specs.Rules.{entry_in, generation_in, mapping_of, control_with, frames_of, row_entry, row_generation}
+use Rattle.gt_core.specs.declared.request.Request.{Request}
+use Rattle.gt_core.specs.declared.request.Request.TheVariants.{Grant, Revoke, Demote, Promote, Map, Unmap, Load}
+use Rattle.gt_core.specs.declared.action.Verdict.{Verdict}
+use Rattle.gt_core.specs.declared.action.Verdict.TheVariants.{Granted, Refused}
+use Rattle.gt_core.specs.declared.action.Action.{Action}
+use Rattle.gt_core.specs.declared.action.Action.TheVariants.{Step as Makes, Done}
+use Rattle.gt_core.specs.declared.leg.Leg.{Leg}
+use Rattle.gt_core.specs.declared.leg.LegPhase.{LegPhase}
+use Rattle.gt_core.specs.declared.leg.LegPhase.TheVariants.{Header as AtHeader, Look, Body, Second, Pinning, Relook}
+use Rattle.gt_core.specs.declared.call.Call.{Call}
+use Rattle.gt_core.specs.declared.call.Phase.{Phase}
+use Rattle.gt_core.specs.declared.call.Phase.TheVariants.{Begun as PhaseBegun, Pinning as LegPinning, Storing, StoringSecond, Single, Look as OwnLook, Change as OwnChange, Ended}
+use Rattle.gt_core.specs.Rules.{entry_in, generation_in, control_with, row_entry, row_generation, CallerKnowledge, begun, first, refused_when, granted_when, size_of, is_invalid, cannot_stand, is_already}
 use Rattle.gt_core.specs.Rows.{changed_at}
 use Rattle.gt_core.specs.States.{State, state_of, changed_in}
-use Rattle.gt_core.specs.Effects.{with_slot, with_own, with_underway, with_mapping, without_mapping, slot_after, own_after, less}
-use Rattle.gt_core.specs.History.{History, Setting, Pin, live, entry_at, raises_at, raise_of, changed_entry, generation_at, body_at, reads_at, writes_at, table_at, word_at, control_at, mappings_at, mappings_in, maps_answered_at, known_at, open_call, is_pin_on, without, is_holder, is_handle, frame_of, change_of, entry_after, with_ro, raise_after, or_else, Underway}
-use Rattle.gt_core.specs.Legal.{IsSafeChange, IsSpelled}
-use Rattle.gt_core.specs.Standing.{IsLawful, IsLawfullyHeld, FitsWord, FitsEntry, SlotAgrees, Agrees, StateAgrees, CoreStands, CallAgrees}
+use Rattle.gt_core.specs.Effects.{with_own, with_underway, own_after}
+use Rattle.gt_core.specs.History.{History, Setting, Pin, live, entry_at, raises_at, raise_of, changed_entry, generation_at, body_at, reads_at, writes_at, table_at, word_at, control_at, mappings_in, maps_answered_at, known_at, open_call, is_pin_on, change_of, entry_after, with_ro, raise_after, or_else, Underway, seen_by}
+use Rattle.gt_core.specs.Legal.{IsSafeChange, IsSpelled, StepsSoFar, IsSafe}
+use Rattle.gt_core.specs.Standing.{IsLawful, FitsWord, FitsEntry, SlotAgrees, Agrees, StateAgrees, CoreStands, CallAgrees, PhaseStands, HasStored, FitsRequest, OpenAgrees}
+use Rattle.gt_core.specs.Path.{entry_refusal, idle_word}
+use Rattle.gt_core.specs.Machine.{expects, action_at, phase_after, after_single, leg_step, own_gref, store_at, second_at, single_at, unpin_of, read_of, Comes}
 use Rattle.gt_core.proofs.Rows.{get-changed, length-changed, state-changed}
 use Rattle.gt_core.proofs.Quiet.{kept-contents}
 use Rattle.gt_core.proofs.Beginning.{open_call-own}
 use Rattle.gt_core.proofs.Others.{other-agrees}
+use Rattle.gt_core.proofs.Calls.{comes-some}
+use Rattle.gt_core.proofs.Fitting.{word-shows}
+use Rattle.gt_core.proofs.Owners.{writes-shown, idle-pins}
+use Rattle.gt_core.proofs.Ticking.{owns, own-within, stepped, Stepping}
 
 -- the domain that a published entry names has a number of 16 bits
 abbrev pub FitsChange : Change → Type 0
@@ -235,9 +251,9 @@ ro-fits to (Via dom ro dom2 gref) a = a
 
 changed-fits : (change : Change) (e : Entry) → FitsEntry e → FitsChange change → FitsEntry (changed_entry change e)
 changed-fits (Publish entry) e a f = f
-changed-fits Revoke e a f = tt
-changed-fits Demote e a f = ro-fits true e a
-changed-fits Promote e a f = ro-fits false e a
+changed-fits ToInvalid e a f = tt
+changed-fits ToReadOnly e a f = ro-fits true e a
+changed-fits ToWritable e a f = ro-fits false e a
 
 -- the control of an entry after a change
 abbrev control_after : Setting → History → ℕ → ℕ → Option Change → Control
@@ -279,9 +295,9 @@ ro-invalid to (Via dom ro dom2 gref) a = cc
 changed-free : (h : History) (t r : ℕ) (change : Change) → (entry_at h t r ≡ Invalid → (reads_at h t r ≡ 0) × (writes_at h t r ≡ 0)) → IsSafeChange h t r change
     → changed_entry change (entry_at h t r) ≡ Invalid → (reads_at h t r ≡ 0) × (writes_at h t r ≡ 0)
 changed-free h t r (Publish entry) free safe e = free safe.0
-changed-free h t r Revoke free safe e = safe
-changed-free h t r Demote free safe e = free (ro-invalid true (entry_at h t r) e)
-changed-free h t r Promote free safe e = free (ro-invalid false (entry_at h t r) e)
+changed-free h t r ToInvalid free safe e = safe
+changed-free h t r ToReadOnly free safe e = free (ro-invalid true (entry_at h t r) e)
+changed-free h t r ToWritable free safe e = free (ro-invalid false (entry_at h t r) e)
 
 exchange-free : (s : Setting) (h : History) (xs : List State) (d : DomId) (gref : GrantRef) (looked : ℕ) (change : Change) (t r : ℕ) → CoreStands s h xs → IsSafeChange h d.0 gref.0 change
     → entry_at (exchanged d gref looked change ∷ h) t r ≡ Invalid → (reads_at (exchanged d gref looked change ∷ h) t r ≡ 0) × (writes_at (exchanged d gref looked change ∷ h) t r ≡ 0)
@@ -302,10 +318,10 @@ Spelled e first second = e ≢ Invalid → IsSpelled e first second
 changed-spelled : (h : History) (t r : ℕ) (change : Change) → Spelled (entry_at h t r) (body_at h t r false) (body_at h t r true) → IsSafeChange h t r change
     → Spelled (changed_entry change (entry_at h t r)) (body_at h t r false) (body_at h t r true)
 changed-spelled h t r (Publish entry) spelled safe valid = safe.1
-changed-spelled h t r Revoke spelled safe valid = absurd (valid refl)
-changed-spelled h t r Demote spelled safe valid =
+changed-spelled h t r ToInvalid spelled safe valid = absurd (valid refl)
+changed-spelled h t r ToReadOnly spelled safe valid =
     ro-spelled true (entry_at h t r) (body_at h t r false) (body_at h t r true) (spelled (λ e. valid (ap (with_ro true) e)))
-changed-spelled h t r Promote spelled safe valid =
+changed-spelled h t r ToWritable spelled safe valid =
     ro-spelled false (entry_at h t r) (body_at h t r false) (body_at h t r true) (spelled (λ e. valid (ap (with_ro false) e)))
 
 exchange-spelled : (s : Setting) (h : History) (xs : List State) (d : DomId) (gref : GrantRef) (looked : ℕ) (change : Change) (t r : ℕ) → CoreStands s h xs → IsSafeChange h d.0 gref.0 change
@@ -334,3 +350,265 @@ exchange-stands s h xs d gref looked change st within safe fits room =
       free = λ t r e. exchange-free s h xs d gref looked change t r st safe e;
       spelled = λ t r valid. exchange-spelled s h xs d gref looked change t r st safe valid;
     }
+
+-- what an owner's exchange keeps to, where its call is answered Ok after it
+
+-- the exchange was taken, and its change is one that the entry allows and has room for
+pub record Exchanges (s : Setting) (h : History) (d : DomId) (gref : GrantRef) (change : Change) (seen : Seen) : Type 0 where
+  pub taken : seen ≡ Taken
+  pub within : gref.0 < 2048
+  pub safe : IsSafeChange h d.0 gref.0 change
+  pub fits : FitsChange change
+  pub room : generation_at s h d.0 gref.0 + raise_of change < 1048576
+
+abbrev pub EndsBy : Setting → History → DomId → Step → Seen → Type 0
+EndsBy s h d (Exchange gref looked change) seen = Exchanges s h d gref change seen
+EndsBy s h d step seen = Unit {0}
+
+-- what the call's beginning has settled
+
+not-refused : (b : Bool) (rule : Rule) (more : List (Option Verdict)) → first (refused_when b rule ∷ more) ≡ None → (b ≡ false) × (first more ≡ None)
+not-refused true rule more e = let f : Some (Refused (denial_of rule NoFacts)) ≡ None = e in cc
+not-refused false rule more e = (refl, e)
+
+not-granted : (b : Bool) (more : List (Option Verdict)) → first (granted_when b ∷ more) ≡ None → first more ≡ None
+not-granted true more e = let f : Some Granted ≡ None = e in cc
+not-granted false more e = e
+
+own-below : (s : Setting) (h : History) (xs : List State) (d : DomId) (r : Request) → CoreStands s h xs → begun (known_at s h d) d r ≡ None → owns r ≡ true → (own_gref r).0 < 2048
+own-below s h xs d r st e t =
+    let a : (own_gref r).0 < size_of (table_at s h d) = own-within (known_at s h d) d r e t in
+    let b : size_of (table_at s h d) ≤ 2048 = (st.tables d).0 in omega arith
+
+was-invalid : (old : Entry) → not (is_invalid old) ≡ false → old ≡ Invalid
+was-invalid Invalid e = refl
+was-invalid (Page dom ro frame) e = absurd (true≢false e)
+was-invalid (Sub dom ro frame off len) e = absurd (true≢false e)
+was-invalid (Via dom ro dom2 r) e = absurd (true≢false e)
+
+-- a grant is on an invalid entry whose generation can be raised
+grant-begins : (k : CallerKnowledge) (d : DomId) (gref : GrantRef) (entry : Entry) → begun k d (Grant gref entry) ≡ None → (k.entry gref.0 ≡ Invalid) × ((k.generation gref.0 == 1048575) ≡ false)
+grant-begins k d gref entry e =
+    let a = (not-refused (nat_le (size_of k.header) gref.0) N9 _ e).1 in
+    let b = not-refused (not (is_invalid (k.entry gref.0))) N20 _ a in
+    let c = not-refused (cannot_stand entry k.header.version) N21 _ b.1 in
+    (was-invalid (k.entry gref.0) b.0, (not-refused (k.generation gref.0 == 1048575) N22 [] c.1).0)
+
+-- a demote or promote is on an entry whose generation can be raised
+change-begins : (to_ro : Bool) (size r generation : ℕ) (old : Entry)
+    → first (refused_when (nat_le size r) N9 ∷ refused_when (is_invalid old) N10 ∷ granted_when (is_already to_ro old) ∷ refused_when (generation == 1048575) N22 ∷ []) ≡ None
+    → (generation == 1048575) ≡ false
+change-begins to_ro size r generation old e =
+    let a = (not-refused (nat_le size r) N9 _ e).1 in
+    let b = (not-refused (is_invalid old) N10 _ a).1 in
+    let c = not-granted (is_already to_ro old) _ b in
+    (not-refused (generation == 1048575) N22 [] c).0
+
+own-generation : (s : Setting) (h : History) (d : DomId) (gref : GrantRef) → gref.0 < 2048 → (known_at s h d).generation gref.0 ≡ generation_at s h d.0 gref.0
+own-generation s h d gref within = ap (λ (b : Bool). cond b (generation_at s h d.0 gref.0) 0) (lt-ltb gref.0 2048 within)
+
+idle-no-pins : (s : Setting) (h : History) (d : DomId) (gref : GrantRef) → gref.0 < 2048 → word_at s h d.0 gref.0 ≡ idle_word (known_at s h d) gref
+    → reads_at h d.0 gref.0 + writes_at h d.0 gref.0 ≡ 0
+idle-no-pins s h d gref within e =
+    idle-pins (entry_at h d.0 gref.0) (generation_at s h d.0 gref.0) (reads_at h d.0 gref.0) (writes_at h d.0 gref.0)
+    (e ∙ ap (λ (n : ℕ). control_word (control_with (entry_at h d.0 gref.0) n 0 0)) (own-generation s h d gref within))
+
+generation-fits : (e : Entry) (g r w : ℕ) → FitsWord (control_with e g r w) → g < 1048576
+generation-fits Invalid g r w a = a.in_range.generation
+generation-fits (Page dom ro frame) g r w a = a.in_range.generation
+generation-fits (Sub dom ro frame off len) g r w a = a.in_range.generation
+generation-fits (Via dom ro dom2 gref) g r w a = a.in_range.generation
+
+generation-below : (s : Setting) (h : History) (xs : List State) (d : DomId) (gref : GrantRef) → CoreStands s h xs → gref.0 < 2048 → generation_at s h d.0 gref.0 < 1048576
+generation-below s h xs d gref st within =
+    generation-fits (entry_at h d.0 gref.0) (generation_at s h d.0 gref.0) (reads_at h d.0 gref.0) (writes_at h d.0 gref.0) (st.words d.0 gref.0 within)
+
+room-above : (n last limit : ℕ) → last + 1 ≡ limit → (n == last) ≡ false → n < limit → n + 1 < limit
+room-above n last limit e f below = let apart : n ≢ last = λ z. true≢false (sym (eq-eqb n last z) ∙ f) in omega arith
+
+raise-room : (s : Setting) (h : History) (xs : List State) (d : DomId) (gref : GrantRef) → CoreStands s h xs → gref.0 < 2048 → ((known_at s h d).generation gref.0 == 1048575) ≡ false
+    → generation_at s h d.0 gref.0 + 1 < 1048576
+raise-room s h xs d gref st within e =
+    room-above (generation_at s h d.0 gref.0) 1048575 1048576 refl (ap (λ (n : ℕ). n == 1048575) (sym (own-generation s h d gref within)) ∙ e) (generation-below s h xs d gref st within)
+
+-- a missed exchange is not answered Ok
+
+single-taken : (k : CallerKnowledge) (d : DomId) (r : Request) (gref : GrantRef) (b : Bool) (w : ℕ) (seen : Seen) → seen ≡ cond b Taken (Missed w)
+    → Done Granted ≡ action_at k d r (after_single d gref seen) → (seen ≡ Taken) × (b ≡ true)
+single-taken k d r gref true w seen saw next = (saw, refl)
+single-taken k d r gref false w seen saw next =
+    let f : Done Granted ≡ Done (Refused (entry_refusal d gref N19 w)) = next ∙ ap (λ (v : Seen). action_at k d r (after_single d gref v)) saw in cc
+
+missed-again : (k : CallerKnowledge) (d : DomId) (r : Request) (b : Bool) (more : ℕ) (denial : Denial) → Done Granted ≡ action_at k d r (cond b (OwnLook more) (Ended (Refused denial))) → ⊥
+missed-again k d r true more denial e = cc
+missed-again k d r false more denial e = cc
+
+change-taken : (k : CallerKnowledge) (d : DomId) (r : Request) (more word : ℕ) (b : Bool) (w : ℕ) (seen : Seen) → seen ≡ cond b Taken (Missed w)
+    → Done Granted ≡ action_at k d r (phase_after k d r (OwnChange more word) seen) → (seen ≡ Taken) × (b ≡ true)
+change-taken k d r more word true w seen saw next = (saw, refl)
+change-taken k d r more word false w seen saw next =
+    absurd (missed-again k d r (nat_lt 0 more) (more - 1) (entry_refusal d (own_gref r) N18 w) (next ∙ ap (λ (v : Seen). action_at k d r (phase_after k d r (OwnChange more word) v)) saw))
+
+-- the four exchanges
+
+grant-ends : (s : Setting) (h : History) (xs : List State) (d : DomId) (gref : GrantRef) (entry : Entry) (seen : Seen) → CoreStands s h xs → begun (known_at s h d) d (Grant gref entry) ≡ None
+    → HasStored h d (Grant gref entry) → FitsEntry entry → seen ≡ seen_by s h d (Exchange gref (idle_word (known_at s h d) gref) (Publish entry))
+    → Done Granted ≡ action_at (known_at s h d) d (Grant gref entry) (after_single d gref seen) → Exchanges s h d gref (Publish entry) seen
+grant-ends s h xs d gref entry seen st e stored fits saw next =
+    let k = known_at s h d in
+    let w = word_at s h d.0 gref.0 in
+    let within : gref.0 < 2048 = own-below s h xs d (Grant gref entry) st e refl in
+    let old = grant-begins k d gref entry e in
+    record {
+      taken = (single-taken k d (Grant gref entry) gref (w == idle_word k gref) w seen saw next).0;
+      within = within;
+      safe = (old.0, stored);
+      fits = fits;
+      room = raise-room s h xs d gref st within old.1;
+    }
+
+revoke-ends : (s : Setting) (h : History) (xs : List State) (d : DomId) (gref : GrantRef) (seen : Seen) → CoreStands s h xs → begun (known_at s h d) d (Revoke gref) ≡ None
+    → seen ≡ seen_by s h d (Exchange gref (idle_word (known_at s h d) gref) ToInvalid)
+    → Done Granted ≡ action_at (known_at s h d) d (Revoke gref) (after_single d gref seen) → Exchanges s h d gref ToInvalid seen
+revoke-ends s h xs d gref seen st e saw next =
+    let k = known_at s h d in
+    let w = word_at s h d.0 gref.0 in
+    let within : gref.0 < 2048 = own-below s h xs d (Revoke gref) st e refl in
+    let t = single-taken k d (Revoke gref) gref (w == idle_word k gref) w seen saw next in
+    let none : reads_at h d.0 gref.0 + writes_at h d.0 gref.0 ≡ 0 = idle-no-pins s h d gref within (eqb-true w (idle_word k gref) t.1) in
+    let below : generation_at s h d.0 gref.0 < 1048576 = generation-below s h xs d gref st within in
+    let reads : reads_at h d.0 gref.0 ≡ 0 = omega arith in
+    let writes : writes_at h d.0 gref.0 ≡ 0 = omega arith in
+    record { taken = t.0; within = within; safe = (reads, writes); fits = tt; room = omega arith; }
+
+demote-ends : (s : Setting) (h : History) (xs : List State) (d : DomId) (gref : GrantRef) (more word : ℕ) (seen : Seen) → CoreStands s h xs → begun (known_at s h d) d (Demote gref) ≡ None
+    → (control_of word).writes ≡ 0 → seen ≡ seen_by s h d (Exchange gref word ToReadOnly)
+    → Done Granted ≡ action_at (known_at s h d) d (Demote gref) (phase_after (known_at s h d) d (Demote gref) (OwnChange more word) seen) → Exchanges s h d gref ToReadOnly seen
+demote-ends s h xs d gref more word seen st e none saw next =
+    let k = known_at s h d in
+    let w = word_at s h d.0 gref.0 in
+    let within : gref.0 < 2048 = own-below s h xs d (Demote gref) st e refl in
+    let t = change-taken k d (Demote gref) more word (w == word) w seen saw next in
+    record {
+      taken = t.0;
+      within = within;
+      safe = sym (writes-shown s h d.0 gref.0 (word-shows s h xs d.0 gref.0 st within)) ∙ ap (λ (n : ℕ). (control_of n).writes) (eqb-true w word t.1) ∙ none;
+      fits = tt;
+      room = raise-room s h xs d gref st within (change-begins true (size_of k.header) gref.0 (k.generation gref.0) (k.entry gref.0) e);
+    }
+
+promote-ends : (s : Setting) (h : History) (xs : List State) (d : DomId) (gref : GrantRef) (more word : ℕ) (seen : Seen) → CoreStands s h xs → begun (known_at s h d) d (Promote gref) ≡ None
+    → seen ≡ seen_by s h d (Exchange gref word ToWritable)
+    → Done Granted ≡ action_at (known_at s h d) d (Promote gref) (phase_after (known_at s h d) d (Promote gref) (OwnChange more word) seen) → Exchanges s h d gref ToWritable seen
+promote-ends s h xs d gref more word seen st e saw next =
+    let k = known_at s h d in
+    let w = word_at s h d.0 gref.0 in
+    let within : gref.0 < 2048 = own-below s h xs d (Promote gref) st e refl in
+    record {
+      taken = (change-taken k d (Promote gref) more word (w == word) w seen saw next).0;
+      within = within;
+      safe = tt;
+      fits = tt;
+      room = raise-room s h xs d gref st within (change-begins false (size_of k.header) gref.0 (k.generation gref.0) (k.entry gref.0) e);
+    }
+
+-- by where the call stands
+
+abbrev step_in : Action → Step → Step
+step_in (Makes step) other = step
+step_in (Done verdict) other = other
+
+makes-same : (a b : Step) → Makes a ≡ Makes b → a ≡ b
+makes-same a b e = ap (λ (x : Action). step_in x a) e
+
+-- a step that ends its call, and sees what it can see
+abbrev Ends : Setting → History → DomId → Seen → Step → Type 0
+Ends s h d seen step = seen ≡ seen_by s h d step → EndsBy s h d step seen
+
+leg-ends : (s : Setting) (h : History) (d : DomId) (seen : Seen) (l : Leg) (p : LegPhase) → Ends s h d seen (leg_step l p)
+leg-ends s h d seen l AtHeader saw = tt
+leg-ends s h d seen l (Look more) saw = tt
+leg-ends s h d seen l (Body more word) saw = tt
+leg-ends s h d seen l (Second more word body) saw = tt
+leg-ends s h d seen l (Pinning more word body second) saw = tt
+leg-ends s h d seen l (Relook more word rule) saw = tt
+
+store-ends : (s : Setting) (h : History) (d : DomId) (seen : Seen) (r : Request) (step : Step) → store_at r ≡ Makes step → Ends s h d seen step
+store-ends s h d seen (Grant gref entry) step e saw = subst (λ (z : Step). EndsBy s h d z seen) (makes-same _ _ e) tt
+store-ends s h d seen (Revoke gref) step e saw = cc
+store-ends s h d seen (Demote gref) step e saw = cc
+store-ends s h d seen (Promote gref) step e saw = cc
+store-ends s h d seen (Map dom gref flags) step e saw = cc
+store-ends s h d seen (Unmap handle) step e saw = cc
+store-ends s h d seen (Load handle off len) step e saw = cc
+
+second-ends : (s : Setting) (h : History) (d : DomId) (seen : Seen) (r : Request) (step : Step) → second_at r ≡ Makes step → Ends s h d seen step
+second-ends s h d seen (Grant gref entry) step e saw = subst (λ (z : Step). EndsBy s h d z seen) (makes-same _ _ e) tt
+second-ends s h d seen (Revoke gref) step e saw = cc
+second-ends s h d seen (Demote gref) step e saw = cc
+second-ends s h d seen (Promote gref) step e saw = cc
+second-ends s h d seen (Map dom gref flags) step e saw = cc
+second-ends s h d seen (Unmap handle) step e saw = cc
+second-ends s h d seen (Load handle off len) step e saw = cc
+
+unpin-ends : (s : Setting) (h : History) (d : DomId) (seen : Seen) (m : Option Mapping) (step : Step) → unpin_of m ≡ Makes step → Ends s h d seen step
+unpin-ends s h d seen None step e saw = cc
+unpin-ends s h d seen (Some m) step e saw = subst (λ (z : Step). EndsBy s h d z seen) (makes-same _ _ e) tt
+
+read-ends : (s : Setting) (h : History) (d : DomId) (seen : Seen) (m : Option Mapping) (off len : ℕ) (step : Step) → read_of m off len ≡ Makes step → Ends s h d seen step
+read-ends s h d seen None off len step e saw = cc
+read-ends s h d seen (Some m) off len step e saw = subst (λ (z : Step). EndsBy s h d z seen) (makes-same _ _ e) tt
+
+single-ends : (s : Setting) (h : History) (xs : List State) (d : DomId) (r : Request) (seen : Seen) (step : Step) → CoreStands s h xs → begun (known_at s h d) d r ≡ None
+    → HasStored h d r → FitsRequest r → single_at (known_at s h d) r ≡ Makes step → Done Granted ≡ action_at (known_at s h d) d r (after_single d (own_gref r) seen) → Ends s h d seen step
+single-ends s h xs d (Grant gref entry) seen step st e stored fits act next =
+    subst (Ends s h d seen) (makes-same _ _ act) (λ saw. grant-ends s h xs d gref entry seen st e stored fits saw next)
+single-ends s h xs d (Revoke gref) seen step st e stored fits act next =
+    subst (Ends s h d seen) (makes-same _ _ act) (λ saw. revoke-ends s h xs d gref seen st e saw next)
+single-ends s h xs d (Demote gref) seen step st e stored fits act next = cc
+single-ends s h xs d (Promote gref) seen step st e stored fits act next = cc
+single-ends s h xs d (Map dom gref flags) seen step st e stored fits act next = cc
+single-ends s h xs d (Unmap handle) seen step st e stored fits act next = unpin-ends s h d seen _ step act
+single-ends s h xs d (Load handle off len) seen step st e stored fits act next = read-ends s h d seen _ off len step act
+
+change-ends : (s : Setting) (h : History) (xs : List State) (d : DomId) (r : Request) (so_far : StepsSoFar) (more word : ℕ) (seen : Seen) (step : Step) → CoreStands s h xs
+    → begun (known_at s h d) d r ≡ None → PhaseStands s h d r so_far (OwnChange more word) → Comes (expects (known_at s h d) d r (OwnChange more word) [])
+    → action_at (known_at s h d) d r (OwnChange more word) ≡ Makes step
+    → Done Granted ≡ action_at (known_at s h d) d r (phase_after (known_at s h d) d r (OwnChange more word) seen) → Ends s h d seen step
+change-ends s h xs d (Demote gref) so_far more word seen step st e a comes act next =
+    subst (Ends s h d seen) (makes-same _ _ act) (λ saw. demote-ends s h xs d gref more word seen st e (a.2 refl) saw next)
+change-ends s h xs d (Promote gref) so_far more word seen step st e a comes act next =
+    subst (Ends s h d seen) (makes-same _ _ act) (λ saw. promote-ends s h xs d gref more word seen st e saw next)
+change-ends s h xs d (Grant gref entry) so_far more word seen step st e a comes act next = absurd comes
+change-ends s h xs d (Revoke gref) so_far more word seen step st e a comes act next = absurd comes
+change-ends s h xs d (Map dom gref flags) so_far more word seen step st e a comes act next = absurd comes
+change-ends s h xs d (Unmap handle) so_far more word seen step st e a comes act next = absurd comes
+change-ends s h xs d (Load handle off len) so_far more word seen step st e a comes act next = absurd comes
+
+phase-ends : (s : Setting) (h : History) (xs : List State) (d : DomId) (r : Request) (so_far : StepsSoFar) (phase : Phase) (seen : Seen) (step : Step) → CoreStands s h xs
+    → begun (known_at s h d) d r ≡ None → PhaseStands s h d r so_far phase → FitsRequest r → Comes (expects (known_at s h d) d r phase [])
+    → action_at (known_at s h d) d r phase ≡ Makes step → Done Granted ≡ action_at (known_at s h d) d r (phase_after (known_at s h d) d r phase seen) → Ends s h d seen step
+phase-ends s h xs d r so_far PhaseBegun seen step st e a fits comes act next = absurd a
+phase-ends s h xs d r so_far (LegPinning l p) seen step st e a fits comes act next = subst (Ends s h d seen) (makes-same _ _ act) (leg-ends s h d seen l p)
+phase-ends s h xs d r so_far Storing seen step st e a fits comes act next = store-ends s h d seen r step act
+phase-ends s h xs d r so_far StoringSecond seen step st e a fits comes act next = second-ends s h d seen r step act
+phase-ends s h xs d r so_far Single seen step st e a fits comes act next = single-ends s h xs d r seen step st e a fits act next
+phase-ends s h xs d r so_far (OwnLook more) seen step st e a fits comes act next = subst (Ends s h d seen) (makes-same _ _ act) (λ saw. tt)
+phase-ends s h xs d r so_far (OwnChange more word) seen step st e a fits comes act next = change-ends s h xs d r so_far more word seen step st e a comes act next
+phase-ends s h xs d r so_far (Ended verdict) seen step st e a fits comes act next = absurd a
+
+-- an exchange after which a call is answered Ok was taken, and its change is one that the entry allows and has room for
+pub exchange-ends : (s : Setting) (h : History) (xs : List State) (d : DomId) (o : Open) (c : Underway) (seen : Seen) (new : Call) (gref : GrantRef) (looked : ℕ) (change : Change) → CoreStands s h xs
+    → OpenAgrees s h d o c → Stepping s h d o c seen new (Done Granted) → o.step ≡ Exchange gref looked change → Exchanges s h d gref change seen
+exchange-ends s h xs d o c seen new gref looked change st oa p e =
+    let k = known_at s h d in
+    let comes : Comes (expects k d c.request o.call.phase []) = comes-some _ _ oa.comes in
+    let next : Done Granted ≡ action_at k d c.request (phase_after k d c.request o.call.phase seen) = p.is_next ∙ ap (action_at k d c.request) p.stands in
+    subst (λ (z : Step). EndsBy s h d z seen) e (phase-ends s h xs d c.request (reverse c.steps) o.call.phase seen o.step st p.none oa.place oa.fits comes p.act next p.sees)
+
+-- so the item is safe
+pub exchange-safe : (s : Setting) (h : History) (d : DomId) (gref : GrantRef) (looked : ℕ) (change : Change) (step : Step) (seen : Seen) (answer : Option Answer)
+    → step ≡ Exchange gref looked change → Exchanges s h d gref change seen → IsSafe s h (stepped d step seen answer)
+exchange-safe s h d gref looked change step seen answer e a =
+    subst (λ (z : Step). IsSafe s h (stepped d z seen answer)) (sym e)
+    (subst (λ (v : Seen). IsSafe s h (stepped d (Exchange gref looked change) v answer)) (sym a.taken) a.safe)
