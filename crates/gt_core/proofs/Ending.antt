@@ -100,7 +100,8 @@ use Rattle.gt_core.specs.declared.trace.Bytes.{Bytes}
 use Rattle.gt_core.specs.Rules.{stands, first_look, before_pin, is_kind, wants, writes_by, denied, asked_by, map_begun, load_begun, label_of, frames_of, holds, pins_of}
 use Rattle.gt_core.specs.Path.{map_leg}
 use Rattle.gt_core.specs.Legal.{GivesValue, refusal_of, NoneStands}
-use Rattle.gt_core.specs.Standing.{Settled, IsLoadOf}
+use Rattle.gt_core.specs.Standing.{Settled, NeedsNoRoom, IsMapping, IsLoadOf}
+use Rattle.gt_core.proofs.Rows.{length-changed_in}
 use Rattle.gt_core.specs.Effects.{with_own, with_mapping, without_mapping, or_none, frame_in, bytes_in}
 use Rattle.gt_core.specs.Machine.{frame_read, after_miss, after_words, after_look, after_own_look}
 use Rattle.gt_types.specs.declared.denial.Facts.TheVariants.{Header as HeaderFacts}
@@ -970,3 +971,61 @@ tick-denied s h xs dom at x o seen new denial p here is st saw adv =
     let q = refused-changes-nothing s h xs dom at x o seen new denial p here is st saw adv in
     let r = tick-refused s h xs dom at x o seen new denial p here is st saw adv q in
     (r.0, r.1, subst (λ (l : List State). CoreStands s (stepped dom o.step seen (Some (Denied denial)) ∷ h) l) (sym (applied-quiet dom o.step seen _ q)) r.2)
+
+-- the list that the effects of a step leave
+
+length-applied : (d : DomId) (step : Step) (seen : Seen) (xs : List State) → length (applied d step seen xs) ≡ length xs
+length-applied d (LookHeader dom) seen xs = refl
+length-applied d (LookControl dom gref) seen xs = refl
+length-applied d (LookBody dom gref second) seen xs = refl
+length-applied d (ReadBytes dom frame off len) seen xs = refl
+length-applied d (PinStep t gref looked dir) Taken xs = length-changed_in xs t.0 (with_slot gref.0 (Pinned dir))
+length-applied d (PinStep t gref looked dir) (Missed w) xs = refl
+length-applied d (PinStep t gref looked dir) (Value w) xs = refl
+length-applied d (PinStep t gref looked dir) Nothing xs = refl
+length-applied d (Exchange gref looked change) Taken xs = length-changed_in xs d.0 (with_own gref.0 change)
+length-applied d (Exchange gref looked change) (Missed w) xs = refl
+length-applied d (Exchange gref looked change) (Value w) xs = refl
+length-applied d (Exchange gref looked change) Nothing xs = refl
+length-applied d (Unpin t gref dir holder) seen xs =
+    length-changed_in (changed_in t.0 (with_slot gref.0 (Unpinned dir)) xs) d.0 (without_mapping holder) ∙ length-changed_in xs t.0 (with_slot gref.0 (Unpinned dir))
+length-applied d (StoreBody gref second word) seen xs = length-changed_in xs d.0 (with_slot gref.0 (Stored second word))
+
+-- what a call of a slice leaves of a vector
+pub slice-after : (n : ℕ) (d : DomId) (step : Step) (seen : Seen) (xs ys zs : List State) → length xs ≡ n → ys ≡ xs → zs ≡ applied d step seen ys → take n (zs ++ drop (length zs) xs) ≡ applied d step seen xs
+slice-after n d step seen xs ys zs len same new =
+    let e : zs ≡ applied d step seen xs = new ∙ ap (applied d step seen) same in
+    let l : length zs ≡ n = ap (λ (y : List State). length y) e ∙ length-applied d step seen xs ∙ len in
+    ap (λ (k : List State). take n (zs ++ k)) (drop_all (length zs) xs (omega arith)) ∙ ap (λ (k : List State). take n k) (append-nil zs) ∙ take_all n zs (omega arith) ∙ e
+
+-- a pin is of a map, for which room was made
+no-room-by : (k : CallerKnowledge) (d : DomId) (r : Request) (phase : Phase) (step : Step) → ((l : Leg) (p : LegPhase) → phase ≡ LegPinning l p → leg_of k d r ≡ Some l) → action_at k d r phase ≡ Makes step → NeedsNoRoom r step
+no-room-by k d r phase (LookHeader dom) is act = tt
+no-room-by k d r phase (LookControl dom gref) is act = tt
+no-room-by k d r phase (LookBody dom gref second) is act = tt
+no-room-by k d r phase (StoreBody gref second word) is act = tt
+no-room-by k d r phase (Exchange gref looked change) is act = tt
+no-room-by k d r phase (Unpin t gref dir holder) is act = tt
+no-room-by k d r phase (ReadBytes t frame off len) is act = tt
+no-room-by k d r phase (PinStep t gref looked dir) is act =
+    let p = pins-by k d r phase t gref looked dir act in
+    let m = map-of-leg k d r p.0 (is p.0 (Pinning p.1 p.2 p.3 p.4) p.5) in
+    subst (λ (z : Request). IsMapping (Some z)) (sym m.3) tt
+
+place-leg : (s : Setting) (h : History) (d : DomId) (r : Request) (so_far : StepsSoFar) (phase : Phase) (l : Leg) (p : LegPhase) → PhaseStands s h d r so_far phase → phase ≡ LegPinning l p → leg_of (known_at s h d) d r ≡ Some l
+place-leg s h d r so_far phase l p a e = (subst (PhaseStands s h d r so_far) e a).0
+
+pub needs-no-room : (s : Setting) (h : History) (xs : List State) (dom : DomId) (at : ℕ) (x : State) (o : Open) (seen : Seen) (new : Call) (action : Action)
+    → position (has_id dom.0) xs ≡ Some at → x ≡ get_or xs at x → x.underway ≡ Some o → CoreStands s h xs → seen ≡ sees xs dom o.step
+    → Advances (knowledge_of s.domains s.may x.own x.header x.mappings x.maps_answered) o.call.caller o.call.request o.call.phase seen new action
+    → NeedsNoRoom o.call.request o.step
+needs-no-room s h xs dom at x o seen new action p here is st saw adv =
+    let a = agrees-found s h xs dom at x p here st in
+    let f = found xs dom.0 at x p ∙ ap (λ (y : State). Some y) (sym here) in
+    subst (λ (d : DomId). state_of xs d.0 ≡ Some x → seen ≡ sees xs d o.step → NeedsNoRoom o.call.request o.step) a.1
+    (λ g sees.
+    let c = call-here s h x.id x.underway (open_call h x.id.0) o is a.2.call in
+    let w = stepping s h xs x o c.0 seen new action st g a.2 c.2 sees adv in
+    subst (λ (r : Request). NeedsNoRoom r o.step) (sym c.2.request)
+    (no-room-by (known_at s h x.id) x.id c.0.request o.call.phase o.step (λ l q e. place-leg s h x.id c.0.request (reverse c.0.steps) o.call.phase l q c.2.place e) w.act))
+    f saw
