@@ -7,9 +7,8 @@ ghost use Rattle.gt_entry.specs.Entries.{IsEntry};
 ghost use Rattle.gt_entry.specs.Spelling.{first_body, second_body, entry_of, IsSpelled, word_of, control_with};
 ghost use Rattle.gt_entry.specs.Laws.{SamePartsOf, PartsOf};
 
-use gt_types::{DomId, GrantRef};
-
 use crate::{Control, Entry, Kind};
+use gt_types::{DomId, GrantRef};
 
 impl Entry {
     /// The first body word: the frame number, or the next domain and its reference.
@@ -66,37 +65,31 @@ impl Entry {
 /// A law: each control in range is what its word says.
 pub fn every_control_is_in_its_word()
     ensures { (c : Control) → IsInRange c → c.dom.0 < 65536 → control_of (control_word c) ≡ c }
-{
-}
+{}
 
 /// A law: each header with a version below 4 is what its word says.
 pub fn every_header_is_in_its_word()
     ensures { (h : Header) → h.version < 4 → h.frames < 256 → header_of (header_word h) ≡ h }
-{
-}
+{}
 
 /// A law: two control words are equal only part by part.
 pub fn every_word_has_its_own_parts()
     ensures { (l d g r w l' d' g' r' w' : ℕ) → l < 16 → l' < 16 → r < 4096 → r' < 4096 → w < 4096 → w' < 4096 → d < 65536 → d' < 65536 → word_with l d g r w ≡ word_with l' d' g' r' w' → SamePartsOf l d g r w l' d' g' r' w' }
-{
-}
+{}
 
 /// A law: the parts of a control word are read from it by division.
 pub fn every_part_is_in_its_word()
     ensures { (l d g r w : ℕ) → l < 16 → d < 65536 → r < 4096 → w < 4096 → PartsOf (word_with l d g r w) l d g r w }
-{
-}
+{}
 
 /// A law: the word of an entry's control is one sum of the entry's parts.
 pub fn every_entry_has_its_word()
     ensures { (e : Entry) (generation reads writes : ℕ) → control_word (control_with e generation reads writes) ≡ word_of e generation reads writes }
-{
-}
+{}
 
 /// A law: an entry is read back from its words. Its own body words spell it, and any words that
 /// spell it give it back.
 pub fn every_entry_is_in_its_words()
     ensures own { (e : Entry) → IsSpelled e (first_body e) (second_body e) }
     ensures read { (e : Entry) (generation reads writes first second : ℕ) → IsEntry e → IsSpelled e first second → entry_of (control_with e generation reads writes) first second ≡ e }
-{
-}
+{}
