@@ -6,9 +6,7 @@ ghost use Rattle.gt_core.specs.Path.{entry_refusal, map_leg, idle_word, to_ro_or
 ghost use Rattle.gt_core.specs.Machine.{expects, own_gref, is_sub, first_phase, after_leg, after_single, after_own_look, after_own_miss, phase_after, single_at, store_at, second_at, unpin_of, read_of, action_at, IsUnderway, FitsPhase};
 
 use crate::action::{Action, Change, Seen, Step, Verdict};
-use crate::judging::{
-    control, find_domain, find_mapping, first_body, judge_beginning, own_at, resolve, second_body,
-};
+use crate::judging::{find_domain, find_mapping, judge_beginning, own_at, resolve};
 use crate::known::{Known, Mapping};
 use crate::leg::{Leg, LegNext, LegPhase, body_read, entry_refusal, leg_next, leg_step};
 use crate::request::{Handle, Holder, Request};
@@ -157,7 +155,7 @@ fn idle_word<P: Allows>(known: &Known<'_, P>, gref: GrantRef) -> u64
     ensures { result ≡ idle_word (knowledge_of known.now.config.now.domains.items (P.may known.now.rights.now) known.now.own.now known.now.header known.now.mappings.now known.now.maps_answered) gref }
 {
     let own = own_at(known.own, gref);
-    control(own.entry(), own.generation(), 0, 0).pack()
+    Control::of_entry(own.entry(), own.generation(), 0, 0).pack()
 }
 
 fn unpin(known: &[Mapping], handle: Handle) -> Action
@@ -215,7 +213,7 @@ fn store(request: Request) -> Action
         Request::Grant { gref, entry } => Action::Step(Step::StoreBody {
             gref,
             second: false,
-            word: first_body(entry),
+            word: entry.first_body(),
         }),
         _ => Action::Done(Verdict::Granted),
     }
@@ -228,7 +226,7 @@ fn store_second(request: Request) -> Action
         Request::Grant { gref, entry } => Action::Step(Step::StoreBody {
             gref,
             second: true,
-            word: second_body(entry),
+            word: entry.second_body(),
         }),
         _ => Action::Done(Verdict::Granted),
     }

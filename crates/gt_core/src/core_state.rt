@@ -13,7 +13,6 @@ use crate::action::{Action, Seen, Step, Verdict};
 use crate::call::{Call, Start};
 use crate::effects::apply;
 use crate::known::Known;
-use crate::leg::table_size;
 use crate::request::{Handle, Request, request_fits};
 use crate::sight::see;
 use crate::slot::Open;
@@ -232,7 +231,7 @@ impl<P: Allows> Core<P> {
     pub fn show(&self, dom: DomId, gref: GrantRef) -> Option<Shown> {
         let at = find(&self.domains, dom)?;
         let domain = &self.domains[at];
-        if gref.0 >= table_size(domain.header) {
+        if gref.0 >= domain.header.entries() {
             return None;
         }
         domain.shown(gref)

@@ -2,22 +2,16 @@
 ghost use Rattle.std.specs.Prelude.{◌≡◌, ◌∷◌, [], Option, IsTrue, ◌↔◌};
 ghost use Rattle.gt_types.specs.Names.{resolved, domain_of, unmap};
 ghost use Rattle.gt_types.specs.Denial.{denial_of};
-ghost use Rattle.gt_core.specs.Rules.{knowledge_of, begun, is_invalid, is_read_only, cannot_stand, entry_in, generation_in, control_with, first_body, second_body, label_of, frames_of, mapping_of, denied, asked_by, grant_begun, revoke_begun, change_begun, map_begun, unmap_begun, load_begun};
+ghost use Rattle.gt_core.specs.Rules.{knowledge_of, begun, cannot_stand, entry_in, generation_in, label_of, frames_of, mapping_of, denied, asked_by, grant_begun, revoke_begun, change_begun, map_begun, unmap_begun, load_begun};
 
 use crate::action::Verdict;
 use crate::known::{Known, Mapping, Own};
-use crate::leg::table_size;
 use crate::request::{Handle, Request};
-use gt_entry::{Control, Entry, Header, Kind};
+use gt_entry::{Entry, Header};
 use gt_types::{
-    Allows, DOMID_SELF, Denial, DomId, DomainConfig, Facts, GrantRef, Perms, Rule, TypeId,
+    Allows, DOMID_SELF, Denial, DomId, DomainConfig, Facts, GrantRef, LAST_GENERATION, MAX_MAPPINGS, Perms, Rule,
+    TypeId,
 };
-
-/// The last generation.
-pub const LAST_GENERATION: u32 = 1_048_575;
-
-/// The most mappings of one domain.
-pub const MOST_MAPPINGS: usize = 8_192;
 
 /// The serials of a domain's mappings are below this number.
 pub const END_OF_SERIALS: u64 = u64::MAX;
@@ -68,62 +62,6 @@ pub fn own_at(own: &[Own], gref: GrantRef) -> Own
     }
 }
 
-fn is_invalid(entry: Entry) -> bool
-    ensures { result ≡ is_invalid entry }
-{
-    matches!(entry, Entry::Invalid)
-}
-
-fn is_read_only(entry: Entry) -> bool
-    ensures { result ≡ is_read_only entry }
-{
-    match entry {
-        Entry::Invalid => false,
-        Entry::Page { ro, .. } | Entry::Sub { ro, .. } | Entry::Via { ro, .. } => ro,
-    }
-}
-
-/// What a control word shows of an entry with these pins.
-pub fn control(entry: Entry, generation: u32, reads: u16, writes: u16) -> Control
-    ensures { result ≡ control_with entry generation reads writes }
-{
-    let (kind, ro, dom) = match entry {
-        Entry::Invalid => (Kind::Invalid, false, DomId(0)),
-        Entry::Page { dom, ro, .. } => (Kind::Page, ro, dom),
-        Entry::Sub { dom, ro, .. } => (Kind::Sub, ro, dom),
-        Entry::Via { dom, ro, .. } => (Kind::Via, ro, dom),
-    };
-    Control {
-        kind,
-        ro,
-        reads,
-        writes,
-        dom,
-        generation,
-    }
-}
-
-/// The first body word of an entry.
-pub fn first_body(entry: Entry) -> u64
-    ensures { result ≡ first_body entry }
-{
-    match entry {
-        Entry::Invalid => 0,
-        Entry::Page { frame, .. } | Entry::Sub { frame, .. } => frame,
-        Entry::Via { dom2, gref, .. } => u64::from(dom2.0) + u64::from(gref.0) * 65_536,
-    }
-}
-
-/// The second body word of an entry.
-pub fn second_body(entry: Entry) -> u64
-    ensures { result ≡ second_body entry }
-{
-    match entry {
-        Entry::Sub { off, len, .. } => u64::from(off) + u64::from(len) * 65_536,
-        _ => 0,
-    }
-}
-
 fn cannot_stand(entry: Entry, version: u8) -> bool
     ensures { result ≡ cannot_stand entry version }
 {
@@ -137,9 +75,9 @@ fn cannot_stand(entry: Entry, version: u8) -> bool
 fn begin_grant(header: Header, own: Own, gref: GrantRef, entry: Entry) -> Option<Verdict>
     ensures { result ≡ grant_begun header own.entry own.generation gref.0 entry }
 {
-    if gref.0 >= table_size(header) {
+    if gref.0 >= header.entries() {
         refused(Rule::N9)
-    } else if !is_invalid(own.entry()) {
+    } else if !own.entry().is_invalid() {
         refused(Rule::N20)
     } else if cannot_stand(entry, header.version) {
         refused(Rule::N21)
@@ -153,9 +91,9 @@ fn begin_grant(header: Header, own: Own, gref: GrantRef, entry: Entry) -> Option
 fn begin_revoke(header: Header, own: Own, gref: GrantRef) -> Option<Verdict>
     ensures { result ≡ revoke_begun header own.entry gref.0 }
 {
-    if gref.0 >= table_size(header) {
+    if gref.0 >= header.entries() {
         refused(Rule::N9)
-    } else if is_invalid(own.entry()) {
+    } else if own.entry().is_invalid() {
         refused(Rule::N10)
     } else {
         None
@@ -165,11 +103,11 @@ fn begin_revoke(header: Header, own: Own, gref: GrantRef) -> Option<Verdict>
 fn begin_change(to_ro: bool, header: Header, own: Own, gref: GrantRef) -> Option<Verdict>
     ensures { result ≡ change_begun to_ro header own.entry own.generation gref.0 }
 {
-    if gref.0 >= table_size(header) {
+    if gref.0 >= header.entries() {
         refused(Rule::N9)
-    } else if is_invalid(own.entry()) {
+    } else if own.entry().is_invalid() {
         refused(Rule::N10)
-    } else if is_read_only(own.entry()) == to_ro {
+    } else if own.entry().is_read_only() == to_ro {
         Some(Verdict::Granted)
     } else if own.generation() == LAST_GENERATION {
         refused(Rule::N22)
@@ -240,7 +178,7 @@ fn begin_map<P: Allows>(
     if let Some(verdict) = map_denied(known.rights, source, owner.label, flags) {
         return Some(verdict);
     }
-    if known.mappings.len() >= MOST_MAPPINGS || known.maps_answered >= END_OF_SERIALS {
+    if known.mappings.len() >= MAX_MAPPINGS || known.maps_answered >= END_OF_SERIALS {
         return refused(Rule::N8);
     }
     None

@@ -1,20 +1,18 @@
 //! What a caller knows by itself.
 ghost use Rattle.std.specs.Prelude.{◌≡◌, ◌<◌, ◌+◌, min};
 ghost use Rattle.gt_core.specs.Effects.{own_after};
-ghost use Rattle.gt_core.specs.History.{with_ro, changed_entry};
 
 use crate::action::Change;
-use crate::judging::LAST_GENERATION;
 use crate::request::Handle;
 use gt_entry::{Entry, Header};
-use gt_types::{Config, Dir, DomId, GrantRef};
+use gt_types::{Config, Dir, DomId, FRAME_SIZE, GrantRef, LAST_GENERATION, TABLE_ENTRIES};
 use std::marker::Model;
 
 /// How many entries the words of one domain have room for.
-pub const ENTRIES: usize = 2_048;
+pub const ENTRIES: usize = TABLE_ENTRIES as usize;
 
 /// The bytes of a frame.
-pub const FRAME_LEN: usize = 4_096;
+pub const FRAME_LEN: usize = FRAME_SIZE as usize;
 
 /// What an owner knows of one of its entries.
 #[derive(Clone, Copy, Debug, PartialEq, Eq)]
@@ -66,36 +64,6 @@ impl<P> Drop for Known<'_, P> {
             mappings: _,
             maps_answered: _,
         } = self;
-    }
-}
-
-fn with_ro(to: bool, entry: Entry) -> Entry
-    ensures { result ≡ with_ro to entry }
-{
-    match entry {
-        Entry::Invalid => Entry::Invalid,
-        Entry::Page { dom, frame, .. } => Entry::Page { dom, ro: to, frame },
-        Entry::Sub {
-            dom,
-            frame,
-            off,
-            len,
-            ..
-        } => Entry::Sub {
-            dom,
-            ro: to,
-            frame,
-            off,
-            len,
-        },
-        Entry::Via {
-            dom, dom2, gref, ..
-        } => Entry::Via {
-            dom,
-            ro: to,
-            dom2,
-            gref,
-        },
     }
 }
 
@@ -154,11 +122,11 @@ impl Own {
                 generation: self.generation,
             },
             Change::Demote => Own {
-                entry: with_ro(true, self.entry),
+                entry: self.entry.with_ro(true),
                 generation,
             },
             Change::Promote => Own {
-                entry: with_ro(false, self.entry),
+                entry: self.entry.with_ro(false),
                 generation,
             },
         }

@@ -7,7 +7,7 @@ ghost use Rattle.gt_core.specs.Machine.{after_miss, after_header, after_look, af
 
 use crate::action::{Seen, Step};
 use gt_entry::{Control, Header, Kind};
-use gt_types::{Denial, Dir, DomId, Facts, GrantRef, Rule, Use};
+use gt_types::{Denial, Dir, DomId, Facts, GrantRef, MAX_PINS, Rule, Use};
 
 /// What a pin is wanted for, and on whose behalf.
 #[derive(Clone, Copy, Debug, PartialEq, Eq)]
@@ -60,19 +60,6 @@ pub enum LegNext {
     Pinned { word: u64, body: u64, second: u64 },
 }
 
-/// The most live pins of one kind on one entry.
-pub const MOST_PINS: u16 = 4_095;
-
-pub fn table_size(header: Header) -> u32
-    ensures { result ≡ size_of header }
-{
-    if header.version == 2 {
-        u32::from(header.frames) * 256
-    } else {
-        u32::from(header.frames) * 512
-    }
-}
-
 fn judge_look(leg: Leg, control: Control) -> Option<Rule>
     ensures { result ≡ first_look leg control }
 {
@@ -102,15 +89,11 @@ fn holds(body: u64, leg: Leg) -> bool
 fn judge_pin(leg: Leg, control: Control, body: u64, second: u64) -> Option<Rule>
     ensures { result ≡ before_pin leg control body second }
 {
-    let pins = match leg.dir {
-        Dir::Read => control.reads,
-        Dir::Write => control.writes,
-    };
     if matches!(control.kind, Kind::Sub) && !holds(second, leg) {
         Some(Rule::N14)
     } else if !matches!(control.kind, Kind::Via) && body >= u64::from(leg.frames) {
         Some(Rule::N16)
-    } else if pins == MOST_PINS {
+    } else if control.pins(leg.dir) == MAX_PINS {
         Some(Rule::N17)
     } else {
         None
@@ -136,7 +119,7 @@ fn missed(leg: Leg, more: u8, found: u64) -> LegNext
 fn after_header(leg: Leg, word: u64) -> LegNext
     ensures { result ≡ after_header leg word }
 {
-    if leg.gref.0 < table_size(Header::unpack(word)) {
+    if leg.gref.0 < Header::unpack(word).entries() {
         LegNext::Going(LegPhase::Look { more: 3 })
     } else {
         LegNext::Refused(Denial::new(Rule::N9, Facts::Header { dom: leg.dom, word }))

@@ -3,10 +3,11 @@ ghost use Rattle.std.specs.Prelude.{◌≡◌, true, false};
 ghost use Rattle.gt_core.specs.Sight.{reads_in, writes_in, control_in, body_in, control_seen, header_seen, body_seen, exchange_sees, sees};
 
 use crate::action::{Seen, Step};
-use crate::judging::{control, own_at};
+use crate::judging::own_at;
 use crate::known::Own;
 use crate::slot::Slot;
 use crate::state::DomainState;
+use gt_entry::Control;
 use gt_types::{DomId, GrantRef};
 
 fn slot_at(slots: &[Slot], gref: GrantRef) -> Slot
@@ -28,7 +29,7 @@ fn control_word(own: &[Own], slots: &[Slot], gref: GrantRef) -> u64
 {
     let row = own_at(own, gref);
     let slot = slot_at(slots, gref);
-    control(row.entry(), row.generation(), slot.reads(), slot.writes()).pack()
+    Control::of_entry(row.entry(), row.generation(), slot.reads(), slot.writes()).pack()
 }
 
 fn body_word(slots: &[Slot], gref: GrantRef, second: bool) -> u64

@@ -4,8 +4,7 @@ ghost use Rattle.gt_core.specs.Effects.{slot_after};
 
 use crate::action::Step;
 use crate::call::Call;
-use crate::leg::MOST_PINS;
-use gt_types::Dir;
+use gt_types::{Dir, MAX_PINS};
 use std::marker::Model;
 
 /// The pins and body words of an entry.
@@ -107,5 +106,5 @@ fn more(pins: u16) -> u16
     ensures value { result ≡ min (pins + 1) 4095 }
     ensures bound { result < 4096 }
 {
-    if pins < MOST_PINS { pins + 1 } else { pins }
+    if pins < MAX_PINS { pins + 1 } else { pins }
 }

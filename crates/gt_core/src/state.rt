@@ -4,12 +4,11 @@ ghost use Rattle.gt_core.specs.History.{is_handle};
 
 use crate::action::Change;
 use crate::core_state::Shown;
-use crate::judging::LAST_GENERATION;
 use crate::known::{ENTRIES, FRAME_LEN, Mapping, Own};
 use crate::request::{Handle, Holder, Request};
 use crate::slot::{Open, Slot, SlotChange};
 use gt_entry::Header;
-use gt_types::{Dir, DomId, DomainConfig, GrantRef, Memory};
+use gt_types::{Dir, DomId, DomainConfig, GrantRef, LAST_GENERATION, Memory};
 use std::alloc::Global;
 use std::marker::Model;
 
@@ -28,7 +27,7 @@ pub struct DomainState {
 }
 
 impl Model for DomainState {
-    ghost use Rattle.std.specs.Prelude.{map, vec_len, vec_capacity};
+    ghost use Rattle.std.specs.Prelude.{◌<◌, map, vec_len, vec_capacity};
     ghost use Rattle.std.specs.Option.{option_map};
     ghost use Rattle.gt_core.specs.States.{State, HasRoom, asked_in};
 
@@ -36,7 +35,7 @@ impl Model for DomainState {
 
     ghost view = { λ d. record { id = d.id; header = d.header; own = d.own.items; slots = d.slots.items; mappings = d.mappings.items; maps_answered = d.maps_answered; frames = map (λ f. f.items) d.frames.items; underway = d.underway } };
 
-    ghost invariant = { λ d. HasRoom (asked_in d.underway) (vec_len d.mappings) (vec_capacity d.mappings) (option_map (λ v. vec_len v) d.room) };
+    ghost invariant = { λ d. (d.header.version < 4) × HasRoom (asked_in d.underway) (vec_len d.mappings) (vec_capacity d.mappings) (option_map (λ v. vec_len v) d.room) };
 }
 
 /// The place of the domain with this number.
