@@ -1,9 +1,7 @@
 -- An unpin keeps what a core stands for.
-use Rattle.std.proofs.Common.{◌≡◌, ◌≢◌, ◌<◌, ◌≤◌, ◌+◌, ◌-◌, ◌^◌, ℕ, zero, suc, refl, Bool, true, false, List, [], ◌∷◌, ◌++◌, length, Option, Some, None, cond, eqb, sym, ap, ◌∙◌, arith, subst}
-use Rattle.std.specs.Prelude.{nat_lt, ◌==◌, ◌&&◌, All, count_by, slice_get}
-use Rattle.gt_types.specs.Names.{domain_of}
+use Rattle.std.proofs.Common.{◌≡◌, ◌≢◌, ◌<◌, ◌≤◌, ◌+◌, ◌-◌, ℕ, refl, Bool, true, false, List, [], ◌∷◌, ◌++◌, length, Option, Some, None, cond, sym, ap, ◌∙◌, arith, subst}
+use Rattle.std.specs.Prelude.{nat_lt, ◌==◌, ◌&&◌, All, count_by, slice_get, if◌then◌else◌}
 use Rattle.gt_types.specs.declared.DomId.{DomId}
-use Rattle.gt_types.specs.declared.GrantRef.{GrantRef}
 use Rattle.gt_types.specs.declared.Dir.{Dir}
 use Rattle.gt_types.specs.declared.Dir.TheVariants.{Read, Write}
 use Rattle.gt_entry.specs.declared.entry.Entry.{Entry}
@@ -12,45 +10,33 @@ use Rattle.gt_core.specs.declared.request.Handle.{Handle}
 use Rattle.gt_core.specs.declared.request.Holder.{Holder}
 use Rattle.gt_core.specs.declared.request.Holder.TheVariants.{Mapping as ByMapping, Leg as ByLeg}
 use Rattle.gt_core.specs.declared.action.Change.{Change}
-use Rattle.gt_core.specs.declared.action.Change.TheVariants.{Publish, Revoke, Demote, Promote}
-use Rattle.gt_core.specs.declared.action.Step.{Step}
-use Rattle.gt_core.specs.declared.action.Step.TheVariants.{LookHeader, LookControl, LookBody, Pin as PinStep, Unpin, StoreBody, Exchange, Read as ReadBytes}
-use Rattle.gt_core.specs.declared.action.Seen.{Seen}
-use Rattle.gt_core.specs.declared.action.Seen.TheVariants.{Nothing, Value, Taken, Missed}
+use Rattle.gt_core.specs.declared.action.Step.TheVariants.{Unpin}
+use Rattle.gt_core.specs.declared.action.Seen.TheVariants.{Nothing}
 use Rattle.gt_core.specs.declared.known.Mapping.{Mapping}
-use Rattle.gt_core.specs.declared.known.Own.{Own}
 use Rattle.gt_core.specs.declared.slot.Slot.{Slot}
-use Rattle.gt_core.specs.declared.slot.SlotChange.{SlotChange}
-use Rattle.gt_core.specs.declared.slot.SlotChange.TheVariants.{Pinned, Unpinned, Stored}
+use Rattle.gt_core.specs.declared.slot.SlotChange.TheVariants.{Unpinned}
 use Rattle.gt_core.specs.declared.trace.Item.{Item}
-use Rattle.gt_core.specs.declared.trace.Happened.TheVariants.{Began, Stepped}
-use Rattle.gt_core.specs.declared.trace.Answer.{Answer}
-use Rattle.gt_core.specs.declared.trace.Answer.TheVariants.{Denied, Done as AnswerDone, Mapped}
-use Rattle.gt_core.specs.Rules.{entry_in, generation_in, mapping_of, control_with, frames_of}
+use Rattle.gt_core.specs.declared.trace.Happened.TheVariants.{Stepped}
+use Rattle.gt_core.specs.declared.trace.Answer.TheVariants.{Done as AnswerDone}
+use Rattle.gt_core.specs.Rules.{mapping_of, control_with}
 use Rattle.gt_core.specs.States.{State, state_of, changed_in}
-use Rattle.gt_core.specs.Effects.{with_slot, with_own, with_underway, with_mapping, without_mapping, slot_after, own_after, less}
-use Rattle.gt_core.specs.History.{History, Setting, Pin, live, entry_at, raises_at, raise_of, changed_entry, generation_at, body_at, reads_at, writes_at, table_at, word_at, control_at, mappings_at, mappings_in, maps_answered_at, known_at, open_call, is_pin_on, without, is_holder, is_handle, frame_of}
-use Rattle.gt_core.specs.Legal.{IsSafeChange, IsSpelled}
-use Rattle.gt_core.specs.Standing.{IsLawful, IsLawfullyHeld, FitsWord, FitsEntry, SlotAgrees, Agrees, StateAgrees, CoreStands, CallAgrees}
+use Rattle.gt_core.specs.Effects.{with_slot, with_underway, without_mapping, slot_after, less}
+use Rattle.gt_core.specs.History.{History, Setting, Pin, live, entry_at, raises_at, generation_at, body_at, reads_at, writes_at, control_at, mappings_at, mappings_in, maps_answered_at, open_call, is_pin_on, without, is_holder, is_handle, frame_of, Underway, change_of, change_at, entry_after, raise_after, or_else, stored_at, mapping_on, same_dir}
+use Rattle.gt_core.specs.Legal.{IsSpelled}
+use Rattle.gt_core.specs.Standing.{IsLawful, FitsWord, SlotAgrees, Agrees, StateAgrees, CoreStands, CallAgrees}
 use Rattle.gt_core.proofs.Rows.{get-changed, length-changed, state-changed}
-
-use Rattle.std.specs.Prelude.{if◌then◌else◌, min}
-use Rattle.std.specs.List.{sum_by}
 use Rattle.std.specs.Option.{option_map}
 use mathlib.Core.Path.{fun_ext}
-use Rattle.std.proofs.lemmas.Bool.{eqb-true, eq-eqb, ne_eqb, and_parts, and_from, and_left, and_right, false≢true, true≢false}
+use Rattle.std.proofs.lemmas.Bool.{eqb-true, eq-eqb, and_parts, and_from, and_left, and_right, false≢true, true≢false}
 use Rattle.std.proofs.lemmas.Option.{none-some}
 use Rattle.std.proofs.lemmas.List.{append-nil}
 use Rattle.std.proofs.lemmas.List.Sums.{sum_by-cons, sum_by-append}
 use Rattle.std.proofs.lemmas.List.Elements.{All-cons, All-head, All-tail}
-use Rattle.gt_types.specs.declared.TypeId.{TypeId}
-use Rattle.gt_core.specs.declared.trace.Happened.{Happened}
-use Rattle.gt_core.specs.declared.slot.Open.{Open}
-use Rattle.gt_core.specs.History.{Underway, change_of, change_at, entry_after, raise_after, or_else, stored_at, pinned_by, unpinned_by, one_if_mapped, mapping_on, same_dir, contents_at}
 use Rattle.gt_core.specs.Rows.{changed_at}
 use Rattle.gt_core.proofs.Quiet.{kept-contents}
 use Rattle.gt_core.proofs.Beginning.{open_call-own}
-use Rattle.gt_core.proofs.Others.{other-known, other-agrees}
+use Rattle.gt_core.proofs.Others.{other-agrees}
+
 
 -- what an unpin takes from the live pins
 
