@@ -1,7 +1,7 @@
 -- A beginning keeps what a core stands for.
-use Rattle.std.proofs.Common.{◌⊎◌, inl, inr, ◌≡◌, ◌≢◌, ◌<◌, ◌+◌, ℕ, refl, Bool, true, false, List, [], ◌∷◌, ◌++◌, length, Option, Some, None, cond, ltb, eqb, sym, ap, ◌∙◌, arith, subst, map, get_or, set, reverse}
-use Rattle.std.proofs.lemmas.Bool.{eqb-true, ne_eqb, eq-eqb, false≢true, true≢false}
-use Rattle.std.specs.Prelude.{nat_lt, ◌==◌, if◌then◌else◌, position, slice_get, slice_set}
+use Rattle.std.proofs.Common.{◌⊎◌, inl, inr, ◌≡◌, ◌≢◌, ◌<◌, ◌+◌, ℕ, refl, Bool, true, false, List, [], ◌∷◌, ◌++◌, length, Option, Some, None, cond, sym, ap, ◌∙◌, subst, get_or, set, reverse}
+use Rattle.std.proofs.lemmas.Bool.{eqb-true, eq-eqb, false≢true, true≢false}
+use Rattle.std.specs.Prelude.{nat_lt, ◌==◌, if◌then◌else◌, position, slice_get}
 use mathlib.Core.Path.{fun_ext}
 use Rattle.std.proofs.lemmas.List.Quantifiers.{position-Some}
 use Rattle.gt_types.specs.Names.{domain_of}
@@ -10,7 +10,7 @@ use Rattle.gt_types.specs.declared.denial.Denial.{Denial}
 use Rattle.gt_entry.specs.declared.entry.Entry.{Entry}
 use Rattle.gt_entry.specs.declared.header.Header.{Header}
 use Rattle.gt_core.specs.declared.known.Mapping.{Mapping}
-use Rattle.std.specs.Prelude.{count_by, filter, All}
+use Rattle.std.specs.Prelude.{count_by, All}
 use Rattle.gt_types.specs.declared.Dir.TheVariants.{Read, Write}
 use Rattle.gt_core.specs.declared.request.Request.{Request}
 use Rattle.gt_core.specs.declared.action.Seen.{Seen}
@@ -27,13 +27,13 @@ use Rattle.gt_core.specs.declared.call.Phase.{Phase}
 use Rattle.gt_core.specs.declared.call.Phase.TheVariants.{Begun as PhaseBegun, Pinning as LegPinning, Storing, StoringSecond, Single, Look as OwnLook, Change as OwnChange, Ended}
 use Rattle.gt_types.specs.declared.config.DomainConfig.{DomainConfig}
 use Rattle.gt_types.specs.declared.denial.Facts.TheVariants.{None as NoFacts}
-use Rattle.gt_entry.specs.Words.{control_word, control_of}
+use Rattle.gt_entry.specs.Words.{control_word}
 use Rattle.gt_core.proofs.Still.{leg-keeps}
 use Rattle.gt_core.specs.States.{State}
 use Rattle.gt_core.specs.declared.slot.Open.{Open}
-use Rattle.gt_core.specs.declared.core_state.Opening.TheVariants.{Open as OpeningOpen, Done as OpeningDone}
+use Rattle.gt_core.specs.declared.core_state.Opening.TheVariants.{Open as OpeningOpen}
 use Rattle.std.specs.Prelude.{is_some}
-use Rattle.std.specs.Prelude.{◌||◌, ◌&&◌, not, is_none, nat_le, ◌^◌, ◌-◌}
+use Rattle.std.specs.Prelude.{◌||◌, not, is_none, nat_le, ◌^◌, ◌-◌}
 use Rattle.gt_types.specs.Names.{resolved}
 use Rattle.gt_types.specs.Denial.{denial_of}
 use Rattle.gt_types.specs.declared.TypeId.{TypeId}
@@ -43,7 +43,7 @@ use Rattle.gt_types.specs.declared.denial.Rule.TheVariants.{N1, N2, N3, N5, N6, 
 use Rattle.gt_types.specs.declared.denial.Facts.TheVariants.{Policy}
 use Rattle.gt_core.specs.declared.request.Handle.{Handle}
 use Rattle.gt_core.specs.declared.request.Request.TheVariants.{Grant, Revoke, Demote, Promote, Map, Unmap, Load}
-use Rattle.gt_core.specs.Rules.{first, refused_when, denied, asked_by, label_of, mapping_of, map_begun, load_begun, CallerKnowledge, begun, knowledge_of, entry_in, generation_in, control_with}
+use Rattle.gt_core.specs.Rules.{first, refused_when, denied, asked_by, label_of, mapping_of, map_begun, load_begun, CallerKnowledge, begun, knowledge_of, generation_in, control_with}
 use Rattle.std.proofs.lemmas.Option.{none-some, slice_get_read}
 use Rattle.gt_types.specs.declared.GrantRef.{GrantRef}
 use Rattle.gt_core.specs.declared.action.Step.{Step}
@@ -51,9 +51,9 @@ use Rattle.gt_core.specs.declared.action.Step.TheVariants.{LookControl}
 use Rattle.gt_core.proofs.Legs.{turns-one}
 use Rattle.gt_core.specs.Path.{Continuation, path, steps_of, after_beginning, gives_up, reads, turns}
 use Rattle.gt_core.specs.Machine.{expects, first_phase, phase_after, starts_as, IsUnderway, FitsPhase}
-use Rattle.gt_core.specs.History.{History, Setting, entry_at, generation_at, body_at, word_at, control_at, reads_at, writes_at, live, Pin, table_at, mappings_at, mappings_in, maps_answered_at, known_at, Underway, underway_after, open_call, values, is_pin_on, one_if_mapped}
+use Rattle.gt_core.specs.History.{History, Setting, entry_at, generation_at, body_at, word_at, control_at, reads_at, writes_at, Pin, table_at, mappings_at, mappings_in, known_at, Underway, underway_after, open_call, values, is_pin_on, one_if_mapped}
 use Rattle.gt_core.specs.Legal.{StepsSoFar, IsSpelled, leg_of, stood, stood_with, first_of_item, AnsweredBy, GivesValue, refusal_in, refusal_of, MayDo, IsRight}
-use Rattle.gt_core.specs.Standing.{IsLawful, FitsWord, FitsRequest, PhaseStands, HasStored, HasStoredFirst, OpenAgrees, CallAgrees, SlotAgrees, Agrees, StateAgrees, CoreStands, state_of, plain_answer, Opens}
+use Rattle.gt_core.specs.Standing.{IsLawful, FitsWord, FitsRequest, PhaseStands, HasStored, HasStoredFirst, OpenAgrees, CallAgrees, Agrees, StateAgrees, CoreStands, state_of, plain_answer, Opens}
 use Rattle.gt_core.proofs.Quiet.{IsQuiet, kept-contents, quiet-entry, quiet-raises, quiet-body, quiet-live, quiet-maps_answered, quiet-generations, quiet-known}
 use Rattle.gt_core.proofs.Places.{has_id, found, not-found, state_of-set}
 

@@ -208,9 +208,12 @@ exchange-each : (b : Bool) (s : Setting) (h : History) (d : DomId) (gref : Grant
     → StateAgrees s (exchanged d gref looked change ∷ h) dom (cond b (option_map (with_own gref.0 change) (option_map (with_underway None) o)) o)
 exchange-each true s h d gref looked change dom None e within room a = a
 exchange-each true s h d gref looked change dom (Some x) e within room a =
-    let here : x.id ≡ d = a.1 ∙ ap (λ (n : ℕ). record { 0 = n }) (sym (eqb-true d.0 dom.0 e)) in
-    (a.0, a.1, subst (λ (z : DomId). Agrees s (exchanged z gref looked change ∷ h) (with_own gref.0 change (with_underway None x))) here
-        (exchange-agrees s h x gref looked change within (subst (λ (z : DomId). generation_at s h z.0 gref.0 + raise_of change < 1048576) (sym here) room) a.2))
+    let here : x.id ≡ d = a.1 ∙ ap (λ (n : ℕ). record { 0 = n }) (sym (eqb-true d.0 dom.0 e)) in (
+      a.0,
+      a.1,
+      subst (λ (z : DomId). Agrees s (exchanged z gref looked change ∷ h) (with_own gref.0 change (with_underway None x))) here
+          (exchange-agrees s h x gref looked change within (subst (λ (z : DomId). generation_at s h z.0 gref.0 + raise_of change < 1048576) (sym here) room) a.2),
+    )
 exchange-each false s h d gref looked change dom None e within room a = a
 exchange-each false s h d gref looked change dom (Some x) e within room a =
     let apart : (d.0 == x.id.0) ≡ false = ap (λ (z : DomId). d.0 == z.0) a.1 ∙ e in
@@ -339,7 +342,7 @@ pub exchange-stands : (s : Setting) (h : History) (xs : List State) (d : DomId) 
     → gref.0 < 2048 → IsSafeChange h d.0 gref.0 change → FitsChange change
     → generation_at s h d.0 gref.0 + raise_of change < 1048576
     → CoreStands s (record { actor = d; happened = Stepped (Exchange gref looked change) Taken; answer = Some AnswerDone } ∷ h)
-        (changed_in d.0 (with_own gref.0 change) (changed_in d.0 (with_underway None) xs))
+    (changed_in d.0 (with_own gref.0 change) (changed_in d.0 (with_underway None) xs))
 exchange-stands s h xs d gref looked change st within safe fits room =
     record {
       each = λ dom. subst (λ (o : Option State). StateAgrees s (exchanged d gref looked change ∷ h) dom o) (sym (exchanged-state xs d.0 dom.0 gref.0 change))
@@ -479,7 +482,7 @@ revoke-ends s h xs d gref seen st e saw next =
     let below : generation_at s h d.0 gref.0 < 1048576 = generation-below s h xs d gref st within in
     let reads : reads_at h d.0 gref.0 ≡ 0 = omega arith in
     let writes : writes_at h d.0 gref.0 ≡ 0 = omega arith in
-    record { taken = t.0; within = within; safe = (reads, writes); fits = tt; room = omega arith; }
+    record { taken = t.0; within = within; safe = (reads, writes); fits = tt; room = omega arith }
 
 demote-ends : (s : Setting) (h : History) (xs : List State) (d : DomId) (gref : GrantRef) (more word : ℕ) (seen : Seen) → CoreStands s h xs → begun (known_at s h d) d (Demote gref) ≡ None
     → (control_of word).writes ≡ 0 → seen ≡ seen_by s h d (Exchange gref word ToReadOnly)

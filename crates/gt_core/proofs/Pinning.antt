@@ -184,7 +184,7 @@ pinned-answered h d t gref looked dir handle bound q n own same room = answered-
 pinned-actor : (s : Setting) (h : History) (d t : DomId) (gref : GrantRef) (looked : ℕ) (dir : Dir) (handle : Handle) (frame bound : ℕ) (x : State) (c : Bool) → (t.0 == x.id.0) ≡ c → d.0 ≡ x.id.0
     → frame ≡ frame_of (entry_at h t.0 gref.0) → maps_answered_at h d.0 < bound → IsFew h (new_pin h d t gref dir handle) → Agrees s h x
     → Agrees s (pins d t gref looked dir handle ∷ h)
-        (record x { slots = cond c (changed_at gref.0 (slot_after (Pinned dir)) x.slots) x.slots; mappings = x.mappings ++ mapping_made t gref dir handle frame ∷ []; maps_answered = min (x.maps_answered + 1) bound; underway = None })
+    (record x { slots = cond c (changed_at gref.0 (slot_after (Pinned dir)) x.slots) x.slots; mappings = x.mappings ++ mapping_made t gref dir handle frame ∷ []; maps_answered = min (x.maps_answered + 1) bound; underway = None })
 pinned-actor s h d t gref looked dir handle frame bound x c is own shows room few a =
     let i : Item = pins d t gref looked dir handle in
     let keeps = pins-keeps d t gref looked dir handle in
@@ -252,9 +252,10 @@ pin-within bound s h xs d t gref looked dir handle frame st valid shows room few
       lawful = subst (All (IsLawful s)) (sym grows) (All-push (IsLawful s) (live h) p st.lawful lawful);
       free = λ u r e.
           let none : entry_at h u r ≡ Invalid = sym (same-entry i h u r keeps) ∙ e in
-          let was = st.free u r none in
-          (now-none (is_pin_on u r Read p) (reads_at (i ∷ h) u r) (reads_at h u r) was.0 (not-there h p u r Read valid none) (grown-count h i p u r Read grows),
-          now-none (is_pin_on u r Write p) (writes_at (i ∷ h) u r) (writes_at h u r) was.1 (not-there h p u r Write valid none) (grown-count h i p u r Write grows));
+          let was = st.free u r none in (
+            now-none (is_pin_on u r Read p) (reads_at (i ∷ h) u r) (reads_at h u r) was.0 (not-there h p u r Read valid none) (grown-count h i p u r Read grows),
+            now-none (is_pin_on u r Write p) (writes_at (i ∷ h) u r) (writes_at h u r) was.1 (not-there h p u r Write valid none) (grown-count h i p u r Write grows),
+          );
       spelled = λ u r there. same-spelled i h u r keeps (st.spelled u r) there;
     }
 
@@ -263,5 +264,5 @@ pub pin-stands : (s : Setting) (h : History) (xs : List State) (d : DomId) (x : 
     → state_of xs d.0 ≡ Some x → x.id ≡ d → gref.0 < 2048 → entry_at h t.0 gref.0 ≢ Invalid → frame ≡ frame_of (entry_at h t.0 gref.0)
     → maps_answered_at h d.0 < 2 ^ 64 - 1 → pins_at h t.0 gref.0 dir < 4095 → IsLawful s (new_pin h d t gref dir handle)
     → CoreStands s (record { actor = d; happened = Stepped (PinStep t gref looked dir) Taken; answer = Some (Mapped handle) } ∷ h)
-        (changed_in t.0 (with_slot gref.0 (Pinned dir)) (changed_in d.0 (with_mapping (record { handle = handle; dom = t; gref = gref; dir = dir; frame = frame })) xs))
+    (changed_in t.0 (with_slot gref.0 (Pinned dir)) (changed_in d.0 (with_mapping (record { handle = handle; dom = t; gref = gref; dir = dir; frame = frame })) xs))
 pin-stands s h xs d x t gref looked dir handle frame st here same within valid shows room few lawful = pin-within (2 ^ 64 - 1) s h xs d t gref looked dir handle frame st valid shows room few lawful

@@ -1,11 +1,10 @@
 -- The state of a domain among the states.
-use Rattle.std.proofs.Common.{◌≡◌, ◌<◌, ◌≤◌, ◌-◌, ◌+◌, ℕ, zero, suc, refl, Bool, true, false, List, [], ◌∷◌, length, Option, Some, None, cond, ltb, leb, eqb, sym, ap, ◌∙◌, arith, subst, get_or, set}
-use Rattle.std.proofs.lemmas.Bool.{eqb-true, ne_eqb, eq-eqb, cases_Bool, false≢true, true≢false, ltb-false}
-use Rattle.std.proofs.lemmas.Bool.Decides.{nat_tests}
+use Rattle.std.proofs.Common.{◌≡◌, ◌<◌, ◌≤◌, ℕ, zero, suc, refl, Bool, true, false, List, [], ◌∷◌, length, Option, Some, None, cond, ltb, sym, ap, ◌∙◌, arith, get_or, set}
+use Rattle.std.proofs.lemmas.Bool.{eqb-true, eq-eqb, true≢false, ltb-false}
 use Rattle.std.proofs.lemmas.List.Folds.{find_at}
 use Rattle.std.proofs.lemmas.List.Quantifiers.{position-Some}
 use Rattle.std.proofs.lemmas.Option.{slice_get_past, slice_get-get_or}
-use Rattle.std.specs.Prelude.{find, position, slice_get, slice_set, ◌==◌}
+use Rattle.std.specs.Prelude.{find, position, slice_get, ◌==◌}
 use Rattle.std.specs.List.{position_or_len}
 use Rattle.gt_core.specs.States.{State}
 use Rattle.gt_core.specs.Standing.{state_of}

@@ -1,13 +1,12 @@
 -- A core at rest stands for the empty history.
-use Rattle.std.proofs.Common.{◌≡◌, ◌≢◌, ◌<◌, ◌≤◌, ◌+◌, ◌*◌, ◌%◌, ◌/◌, ◌-◌, ℕ, zero, suc, refl, Bool, true, false, List, [], ◌∷◌, length, Option, Some, None, cond, ltb, eqb, sym, ap, ◌∙◌, arith, subst, map, replicate, min, get_or}
-use Rattle.std.proofs.lemmas.Bool.{eqb-true, lt-ltb, false≢true, ltb-false, ltb-true}
-use Rattle.std.proofs.lemmas.Bool.Decides.{nat_tests}
+use Rattle.std.proofs.Common.{◌≡◌, ◌<◌, ◌≤◌, ◌+◌, ◌*◌, ◌%◌, ◌/◌, ℕ, refl, Bool, true, false, List, [], ◌∷◌, Option, Some, None, cond, ltb, sym, ap, ◌∙◌, arith, subst, map, replicate, min, get_or}
+use Rattle.std.proofs.lemmas.Bool.{eqb-true, lt-ltb, ltb-false, ltb-true}
 use Rattle.std.proofs.lemmas.Option.{none-some, same_Some, slice_get-get_or, slice_get_past}
 use Rattle.std.proofs.Math.Nat.{mod-eq_of_lt}
 use Rattle.std.proofs.lemmas.List.{get_or-replicate, length-replicate}
 use Rattle.std.proofs.lemmas.List.Elements.{All-tail}
 use mathlib.Core.Path.{fun_ext}
-use Rattle.std.specs.Prelude.{nat_lt, ◌==◌, slice_get, All, if◌then◌else◌}
+use Rattle.std.specs.Prelude.{nat_lt, ◌==◌, slice_get, All}
 use Rattle.std.specs.Option.{option_map}
 use Rattle.gt_types.specs.Names.{domain_of}
 use Rattle.gt_types.specs.Config.{IsWithinLimits}
@@ -17,7 +16,6 @@ use Rattle.gt_types.specs.declared.perms.Perms.{Perms}
 use Rattle.gt_types.specs.declared.config.Config.{Config}
 use Rattle.gt_types.specs.declared.config.DomainConfig.{DomainConfig}
 use Rattle.gt_entry.specs.declared.header.Header.{Header}
-use Rattle.gt_entry.specs.declared.entry.Entry.{Entry}
 use Rattle.gt_entry.specs.declared.entry.Entry.TheVariants.{Invalid}
 use Rattle.gt_entry.specs.Words.{header_of, header_word}
 use Rattle.gt_core.specs.declared.known.Own.{Own}
@@ -25,7 +23,7 @@ use Rattle.gt_core.specs.declared.slot.Slot.{Slot}
 use Rattle.gt_core.specs.declared.known.TheConstants.{ENTRIES, FRAME_LEN}
 use Rattle.gt_core.specs.Rules.{size_of, entry_in, generation_in, row_entry, row_generation, frames_in, frames_of}
 use Rattle.gt_core.specs.States.{State, state_of, first_state}
-use Rattle.gt_core.specs.History.{History, Setting, entry_at, raises_at, generation_at, body_at, live, mappings_at, mappings_in, maps_answered_at, open_call, table_at, contents_at, header_from, reads_at, writes_at, control_at}
+use Rattle.gt_core.specs.History.{Setting, entry_at, raises_at, body_at, live, mappings_at, mappings_in, maps_answered_at, open_call, contents_at, header_from, reads_at, writes_at, control_at}
 use Rattle.gt_core.specs.Standing.{setting_of, Agrees, StateAgrees, SlotAgrees, CallAgrees, FitsWord, IsLawful, CoreStands}
 
 state-of-map : (g : ℕ) (ds : List DomainConfig) (dom : DomId) → state_of (map (first_state g) ds) dom.0 ≡ option_map (first_state g) (domain_of ds dom)

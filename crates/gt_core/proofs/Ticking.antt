@@ -1,11 +1,11 @@
 -- A step keeps what a core stands for.
-use Rattle.std.proofs.Common.{◌⊎◌, inl, inr, ◌≡◌, ◌≢◌, ◌<◌, ◌≤◌, ◌+◌, ◌-◌, ℕ, zero, suc, refl, Bool, true, false, List, [], ◌∷◌, ◌++◌, length, Option, Some, None, cond, ltb, leb, eqb, sym, ap, ◌∙◌, arith, subst, map, get_or, set, reverse, take, drop}
-use Rattle.std.proofs.lemmas.Bool.{lt-ltb, lt-leb, leb-false, eqb-true, eq-eqb, false≢true, true≢false}
+use Rattle.std.proofs.Common.{◌≡◌, ◌≢◌, ◌<◌, ◌≤◌, ◌+◌, ◌-◌, ℕ, zero, suc, refl, Bool, true, false, List, [], ◌∷◌, ◌++◌, length, Option, Some, None, cond, sym, ap, ◌∙◌, arith, subst, get_or, set, reverse, take, drop}
+use Rattle.std.proofs.lemmas.Bool.{lt-ltb, leb-false, eqb-true, eq-eqb, false≢true, true≢false}
 use Rattle.std.proofs.lemmas.List.{append-nil, map-append, reverse-append, append_assoc, take_all, drop_all}
 use Rattle.std.proofs.lemmas.List.Elements.{All-tail}
 use Rattle.std.proofs.lemmas.List.Quantifiers.{position-Some}
 use Rattle.std.proofs.lemmas.Option.{none-some, same_Some}
-use Rattle.std.specs.Prelude.{nat_lt, nat_le, ◌==◌, ◌&&◌, if◌then◌else◌, not, position, All, Any}
+use Rattle.std.specs.Prelude.{nat_lt, nat_le, ◌==◌, ◌&&◌, not, position, All, Any}
 use Rattle.gt_types.specs.Denial.{denial_of}
 use Rattle.gt_types.specs.Names.{domain_of}
 use Rattle.gt_types.specs.declared.DomId.{DomId}
@@ -16,8 +16,7 @@ use Rattle.gt_types.specs.declared.denial.Facts.TheVariants.{None as NoFacts}
 use Rattle.gt_types.specs.declared.denial.Denial.{Denial}
 use Rattle.gt_entry.specs.declared.entry.Entry.{Entry}
 use Rattle.gt_entry.specs.declared.entry.Entry.TheVariants.{Invalid, Page, Sub, Via}
-use Rattle.gt_entry.specs.declared.header.Header.{Header}
-use Rattle.gt_entry.specs.Words.{control_word, control_of, header_word, header_of}
+use Rattle.gt_entry.specs.Words.{control_word, control_of}
 use Rattle.gt_core.specs.declared.known.Mapping.{Mapping}
 use Rattle.gt_types.specs.declared.Dir.{Dir}
 use Rattle.gt_types.specs.declared.Dir.TheVariants.{Read, Write}
@@ -28,9 +27,8 @@ use Rattle.gt_core.specs.declared.request.Holder.TheVariants.{Mapping as ByMappi
 use Rattle.gt_core.specs.declared.request.Request.{Request}
 use Rattle.gt_core.specs.declared.request.Request.TheVariants.{Grant, Revoke, Demote, Promote, Map, Unmap, Load}
 use Rattle.gt_core.specs.declared.action.Verdict.{Verdict}
-use Rattle.gt_core.specs.declared.action.Verdict.TheVariants.{Granted, Refused}
+use Rattle.gt_core.specs.declared.action.Verdict.TheVariants.{Refused}
 use Rattle.gt_core.specs.declared.action.Change.{Change}
-use Rattle.gt_core.specs.declared.action.Change.TheVariants.{Publish, Revoke as ToInvalid, Demote as ToReadOnly, Promote as ToWritable}
 use Rattle.gt_core.specs.declared.action.Step.{Step}
 use Rattle.gt_core.specs.declared.action.Step.TheVariants.{LookHeader, LookControl, LookBody, Pin as PinStep, Unpin, StoreBody, Exchange, Read as ReadBytes}
 use Rattle.gt_core.specs.declared.action.Seen.{Seen}
@@ -46,27 +44,27 @@ use Rattle.gt_core.specs.declared.call.Call.{Call}
 use Rattle.gt_core.specs.declared.call.Phase.{Phase}
 use Rattle.gt_core.specs.declared.call.Phase.TheVariants.{Begun as PhaseBegun, Pinning as LegPinning, Storing, StoringSecond, Single, Look as OwnLook, Change as OwnChange, Ended}
 use Rattle.gt_core.specs.declared.trace.Item.{Item}
-use Rattle.gt_core.specs.declared.trace.Happened.TheVariants.{Began, Stepped}
+use Rattle.gt_core.specs.declared.trace.Happened.TheVariants.{Stepped}
 use Rattle.gt_core.specs.declared.trace.Answer.{Answer}
 use Rattle.gt_core.specs.declared.trace.Answer.TheVariants.{Denied}
 use Rattle.gt_core.specs.States.{State}
 use Rattle.gt_core.specs.declared.slot.Open.{Open}
-use Rattle.gt_core.specs.Rules.{CallerKnowledge, knowledge_of, is_demote, begun, first, refused_when, granted_when, size_of, is_invalid, cannot_stand, control_with, mapping_of}
-use Rattle.gt_core.specs.Path.{Continuation, entry_refusal, path, steps_of, after_beginning, to_ro_or_back, idle_word}
+use Rattle.gt_core.specs.Rules.{CallerKnowledge, knowledge_of, is_demote, begun, first, refused_when, size_of, is_invalid, cannot_stand, control_with, mapping_of}
+use Rattle.gt_core.specs.Path.{entry_refusal, path, steps_of, after_beginning, to_ro_or_back, idle_word}
 use Rattle.gt_core.specs.Machine.{expects, action_at, phase_after, after_leg, after_single, leg_after, leg_step, own_gref, is_sub, store_at, second_at, single_at, unpin_of, read_of, IsUnderway, Comes, IsExchanged, FitsStep, FitsAction, FitsPhase}
 use Rattle.gt_core.specs.Sight.{sees, changes_nothing}
-use Rattle.gt_core.specs.History.{History, Setting, word_at, control_at, table_at, known_at, writes_at, reads_at, entry_at, generation_at, body_at, seen_by, exchange_sees, Underway, open_call, underway_after, values, one_if_mapped, live, Pin, mapping_on, mappings_in, mappings_at, frame_of, is_handle}
-use Rattle.gt_core.specs.Legal.{Permits, Reaches, MayUse, Justified, IsSafe, PinIsSound, StepsSoFar, IsSpelled, first_at, leg_of, misses, is_in_body, looked_at, stands_when, at_entry, rule_at_exchange, refusal_in, verdict_in, or_then, stood, first_in_call, first_of_item, AnsweredBy, StepsRight, StepsRightIn}
-use Rattle.gt_core.specs.Standing.{IsLawful, IsLawfullyHeld, LegStands, PhaseStands, HasStored, HasStoredFirst, OpenAgrees, CallAgrees, Agrees, StateAgrees, CoreStands, Advances, state_of}
+use Rattle.gt_core.specs.History.{History, Setting, word_at, table_at, known_at, writes_at, reads_at, entry_at, generation_at, seen_by, Underway, open_call, underway_after, values, one_if_mapped, live, Pin, mapping_on, mappings_in, mappings_at, frame_of, is_handle}
+use Rattle.gt_core.specs.Legal.{Permits, Reaches, MayUse, Justified, IsSafe, PinIsSound, StepsSoFar, first_at, leg_of, misses, is_in_body, looked_at, stands_when, at_entry, refusal_in, verdict_in, or_then, stood, first_in_call, first_of_item, AnsweredBy, StepsRight, StepsRightIn}
+use Rattle.gt_core.specs.Standing.{IsLawful, IsLawfullyHeld, LegStands, PhaseStands, OpenAgrees, CallAgrees, Agrees, StateAgrees, CoreStands, Advances, state_of}
 use Rattle.gt_core.proofs.Calls.{wants-action, comes-some}
 use Rattle.gt_core.proofs.Places.{has_id, found, state_of-set}
 use Rattle.gt_core.proofs.Fitting.{word-shows}
 use Rattle.gt_core.proofs.Quiet.{IsQuiet, quiet-known}
-use Rattle.gt_core.proofs.Beginning.{known-same, quiet-agrees, quiet-stands, place-keeps, open_call-own, stood-own, agrees-found, same-state}
+use Rattle.gt_core.proofs.Beginning.{known-same, quiet-agrees, quiet-stands, place-keeps, open_call-own, stood-own, agrees-found}
 use Rattle.gt_core.proofs.Seeing.{IsWithin, sees-agree}
 use Rattle.gt_core.proofs.FirstRules.{first-of-leg, refusal_next, misses-look}
 use Rattle.gt_core.proofs.Placing.{NextStands, leg-place}
-use Rattle.gt_core.proofs.Owners.{phase_refusal, first-own-look, first-own-change, writes-shown, idle-pins, misses-exchange}
+use Rattle.gt_core.proofs.Owners.{phase_refusal, first-own-look, first-own-change, idle-pins, misses-exchange}
 
 -- what a call's beginning has settled
 

@@ -37,7 +37,6 @@ use Rattle.gt_core.proofs.Quiet.{kept-contents}
 use Rattle.gt_core.proofs.Beginning.{open_call-own}
 use Rattle.gt_core.proofs.Others.{other-agrees}
 
-
 -- what an unpin takes from the live pins
 
 -- the first of these pins that the mapping stands for goes
@@ -433,7 +432,7 @@ le-zero a b e f = omega arith
 pub unpin-stands : (s : Setting) (h : History) (xs : List State) (d : DomId) (x : State) (handle : Handle) (m : Mapping) → CoreStands s h xs
     → state_of xs d.0 ≡ Some x → x.id ≡ d → mapping_of (mappings_at h d.0) handle ≡ Some m
     → CoreStands s (record { actor = d; happened = Stepped (Unpin m.dom m.gref m.dir (ByMapping m.handle)) Nothing; answer = Some AnswerDone } ∷ h)
-        (changed_in d.0 (without_mapping (ByMapping m.handle)) (changed_in m.dom.0 (with_slot m.gref.0 (Unpinned m.dir)) (changed_in d.0 (with_underway None) xs)))
+    (changed_in d.0 (without_mapping (ByMapping m.handle)) (changed_in m.dom.0 (with_slot m.gref.0 (Unpinned m.dir)) (changed_in d.0 (with_underway None) xs)))
 unpin-stands s h xs d x handle m st here same found =
     let i : Item = unpins d m in
     let keeps = unpins-keeps d m in

@@ -1,11 +1,10 @@
 -- What is to come, by where a call stands.
-use Rattle.std.specs.Prelude.{◌≡◌, ◌&&◌, ◌-◌, ◌==◌, nat_lt, if◌then◌else◌, ℕ, Bool, true, false, List, [], ◌∷◌, ◌++◌, Option, Some, None, zero, suc}
+use Rattle.std.specs.Prelude.{◌≡◌, ◌&&◌, ◌-◌, ◌==◌, nat_lt, if◌then◌else◌, ℕ, Bool, true, false, [], ◌∷◌, Option, Some, None, zero, suc}
 use Rattle.gt_types.specs.declared.DomId.{DomId}
 use Rattle.gt_types.specs.declared.GrantRef.{GrantRef}
 use Rattle.gt_types.specs.declared.denial.Rule.{Rule}
 use Rattle.gt_types.specs.declared.denial.Rule.TheVariants.{N9, N18, N19}
-use Rattle.gt_types.specs.declared.denial.Facts.TheVariants.{Header as HeaderFacts, Entry as EntryFacts}
-use Rattle.gt_types.specs.declared.denial.Denial.{Denial}
+use Rattle.gt_types.specs.declared.denial.Facts.TheVariants.{Header as HeaderFacts}
 use Rattle.gt_types.specs.Denial.{denial_of}
 use Rattle.gt_entry.specs.declared.control.Kind.TheVariants.{Sub as KindSub}
 use Rattle.gt_entry.specs.Words.{control_of, header_of}
@@ -25,7 +24,6 @@ use Rattle.gt_core.specs.declared.call.Phase.{Phase}
 use Rattle.gt_core.specs.declared.call.Phase.TheVariants.{Begun, Pinning as LegPinning, Storing, StoringSecond, Single, Look as OwnLook, Change as OwnChange, Ended}
 use Rattle.gt_core.specs.declared.request.Request.{Request}
 use Rattle.gt_core.specs.declared.request.Request.TheVariants.{Grant, Revoke, Demote, Promote, Map, Unmap, Load}
-use Rattle.gt_entry.specs.declared.entry.Entry.{Entry}
 use Rattle.gt_core.specs.declared.action.Seen.{Seen}
 use Rattle.gt_core.specs.declared.action.Seen.TheVariants.{Nothing, Value, Taken, Missed}
 use Rattle.gt_core.specs.declared.leg.Leg.{Leg}
@@ -34,7 +32,7 @@ use Rattle.gt_core.specs.declared.leg.LegPhase.TheVariants.{Header, Look, Body, 
 use Rattle.gt_core.specs.declared.leg.LegNext.{LegNext}
 use Rattle.gt_core.specs.declared.leg.LegNext.TheVariants.{Going, Refused as LegRefused, Pinned}
 use Rattle.gt_core.specs.Rules.{CallerKnowledge, is_demote, before_pin, first_look, first_body, second_body, size_of, is_kind, begun, mapping_of}
-use Rattle.gt_core.specs.Path.{Continuation, AfterRefusal, AfterPin, ended, entry_refusal, refused_with, refused_at, exchanges, leg, tries, reads_body, reads_second, last_step, makes, publishes, steps_of, stores_second, turns, to_ro_or_back, map_leg, idle_word}
+use Rattle.gt_core.specs.Path.{Continuation, AfterRefusal, AfterPin, ended, entry_refusal, refused_with, refused_at, exchanges, leg, tries, reads_body, reads_second, last_step, publishes, steps_of, stores_second, turns, to_ro_or_back, map_leg, idle_word}
 
 abbrev pub IsValue : Seen → Type 0
 IsValue (Value w) = Unit {0}

@@ -1,7 +1,5 @@
 -- What the core keeps of an entry, and how a step changes it.
 use Rattle.std.specs.Prelude.{ℕ, zero, suc, List, [], ◌∷◌}
-use Rattle.gt_types.specs.declared.Dir.{Dir}
-use Rattle.gt_types.specs.declared.Dir.TheVariants.{Read, Write}
 use Rattle.gt_entry.specs.declared.entry.Entry.{Entry}
 
 -- what an owner knows of an entry

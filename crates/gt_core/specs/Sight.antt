@@ -1,11 +1,11 @@
 -- What steps see, over plain lists.
-use Rattle.std.specs.Prelude.{◌≡◌, ℕ, Bool, true, false, ◌==◌, if◌then◌else◌, List, [], ◌∷◌, Option, Some, None, slice_get}
+use Rattle.std.specs.Prelude.{ℕ, Bool, true, false, ◌==◌, if◌then◌else◌, List, [], ◌∷◌, Option, Some, None, slice_get}
 use Rattle.gt_types.specs.declared.DomId.{DomId}
 use Rattle.gt_entry.specs.Words.{control_word, header_word}
 use Rattle.gt_core.specs.declared.action.Step.{Step}
 use Rattle.gt_core.specs.declared.action.Step.TheVariants.{LookHeader, LookControl, LookBody, Pin, Unpin, StoreBody, Exchange, Read as ReadBytes}
 use Rattle.gt_core.specs.declared.action.Seen.{Seen}
-use Rattle.gt_core.specs.declared.action.Seen.TheVariants.{Nothing, Value, Taken, Missed}
+use Rattle.gt_core.specs.declared.action.Seen.TheVariants.{Nothing, Value, Taken}
 use Rattle.gt_core.specs.declared.known.Own.{Own}
 use Rattle.gt_core.specs.declared.slot.Slot.{Slot}
 use Rattle.gt_core.specs.States.{State}

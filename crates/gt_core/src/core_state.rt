@@ -174,7 +174,10 @@ impl<P: Allows> Core<P> {
                 Ok(Answer::Mapped(handle))
             }
             Step::Read {
-                dom, frame, off, ..
+                dom,
+                frame,
+                off,
+                ..
             } => {
                 let alloc = self.alloc;
                 let out = self.domains[at].close_load(alloc);

@@ -9,8 +9,8 @@ use crate::known::{Known, Mapping, Own};
 use crate::request::{Handle, Request};
 use gt_entry::{Entry, Header};
 use gt_types::{
-    Allows, DOMID_SELF, Denial, DomId, DomainConfig, Facts, GrantRef, LAST_GENERATION, MAX_MAPPINGS, Perms, Rule,
-    TypeId,
+    Allows, DOMID_SELF, Denial, DomId, DomainConfig, Facts, GrantRef, LAST_GENERATION,
+    MAX_MAPPINGS, Perms, Rule, TypeId,
 };
 
 /// The serials of a domain's mappings are below this number.
@@ -55,11 +55,7 @@ pub fn own_at(own: &[Own], gref: GrantRef) -> Own
     ensures generation { result.generation ≡ generation_in own.now gref.0 }
 {
     let at = gref.0 as usize;
-    if at < own.len() {
-        own[at]
-    } else {
-        Own::new(0)
-    }
+    if at < own.len() { own[at] } else { Own::new(0) }
 }
 
 fn cannot_stand(entry: Entry, version: u8) -> bool

@@ -52,9 +52,7 @@ pub fn find(domains: &[DomainState], dom: DomId) -> Option<usize>
 fn place_of(mappings: &[Mapping], handle: Handle) -> Option<usize>
     ensures { result ≡ position (λ m. is_handle m.handle handle) mappings.now }
 {
-    mappings
-        .iter()
-        .position(|m| m.handle.serial == handle.serial && m.handle.key == handle.key)
+    mappings.iter().position(|m| m.handle.serial == handle.serial && m.handle.key == handle.key)
 }
 
 impl DomainState {

@@ -1,13 +1,11 @@
-use Rattle.std.proofs.Common.{sym, ◌∙◌, ap, Some, ◌≡◌, List, refl, subst, None, Option, ℕ}
+use Rattle.std.proofs.Common.{sym, ◌∙◌, ap, Some, ◌≡◌, List, refl, subst, None, Option}
 use Rattle.std.specs.Prelude.{position, is_some}
 use Rattle.gt_core.specs.declared.slot.Open.{Open}
 use Rattle.gt_core.specs.Effects.{with_underway}
 use Rattle.gt_core.specs.States.{State}
 use Rattle.gt_core.specs.declared.core_state.Opening.{Opening}
-use Rattle.gt_core.specs.declared.trace.Answer.{Answer}
 use Rattle.gt_core.specs.Rules.{knowledge_of}
 use Rattle.gt_core.specs.Standing.{setting_of, CoreStands, Opens}
-use Rattle.gt_core.specs.Legal.{IsRight}
 use Rattle.gt_core.proofs.Places.{has_id}
 use Rattle.gt_core.proofs.Beginning.{begin-nowhere, begin-busy, begin-answers, begin-opened, place-at, began}
 use Rattle.std.proofs.lemmas.Option.{same_Some}

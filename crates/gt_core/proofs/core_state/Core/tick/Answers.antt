@@ -1,4 +1,4 @@
-use Rattle.std.proofs.Common.{sym, ◌∙◌, ap, Some, ◌≡◌, ℕ, List, None, refl, subst, ◌∷◌, ◌++◌, length, take, drop, get_or, set, arith, Ok, Err}
+use Rattle.std.proofs.Common.{sym, ◌∙◌, ap, Some, ◌≡◌, List, None, refl, subst, ◌∷◌, length, set}
 use Rattle.std.specs.Prelude.{position, slice_get, IsOk, Result}
 use Rattle.std.proofs.lemmas.Bool.{false≢true}
 use Rattle.std.proofs.lemmas.Option.{same_Some}
@@ -7,7 +7,6 @@ use Rattle.gt_types.specs.declared.Memory.{Memory}
 use Rattle.gt_core.specs.declared.action.Action.{Action}
 use Rattle.gt_core.specs.declared.action.Action.TheVariants.{Done}
 use Rattle.gt_core.specs.declared.action.Verdict.{Verdict}
-use Rattle.gt_core.specs.declared.slot.Open.{Open}
 use Rattle.gt_core.specs.declared.trace.Answer.{Answer}
 use Rattle.gt_core.specs.declared.trace.Answer.TheVariants.{Denied}
 use Rattle.gt_core.specs.Rules.{knowledge_of}
