@@ -1,0 +1,89 @@
+//! What may be wrong with a script.
+use std::alloc::AllocError;
+use std::error::Error;
+use std::fmt;
+
+/// What is wrong, in the order in which faults of one script are judged.
+#[derive(Clone, Copy, Debug, PartialEq, Eq)]
+pub enum FaultKind {
+    /// The script is too long.
+    Limit,
+    /// A byte that is no UTF-8.
+    Utf8,
+    /// An unknown word, a wrong count of words, a bad number, name or label, or a part out of
+    /// its place.
+    Syntax,
+    /// A limit of the domains or types, a repeated domain, or one that is not configured.
+    Config,
+}
+
+/// The first fault of a script.
+#[derive(Clone, Copy, Debug, PartialEq, Eq)]
+pub struct Fault {
+    /// The number of its line, from 1 on; a fault at the end is one past the last line.
+    pub line: usize,
+    pub kind: FaultKind,
+}
+
+/// Why there is no script: its first fault, or want of memory.
+#[derive(Clone, Copy, Debug, PartialEq, Eq)]
+pub enum ScriptError {
+    Memory,
+    Fault(Fault),
+}
+
+impl Error for Fault {}
+
+impl fmt::Display for ScriptError {
+    ghost use Rattle.std.specs.Prelude.{Some};
+    ghost use Rattle.gt_script.specs.Faults.{error_text};
+
+    ghost output = { λ error. Some (error_text error) };
+
+    fn fmt<W: fmt::Write>(&self, f: &mut fmt::Formatter<W>) -> fmt::Result {
+        match self {
+            ScriptError::Memory => f.write_str("memory"),
+            ScriptError::Fault(fault) => write!(f, "{fault}"),
+        }
+    }
+}
+
+impl Error for ScriptError {}
+
+impl From<AllocError> for ScriptError {
+    ghost use Rattle.std.specs.Prelude.{◌≡◌};
+    ghost use Rattle.gt_script.specs.declared.faults.ScriptError.TheVariants.{Memory};
+
+    ghost from_gives = { λ _ e. e ≡ Memory };
+
+    fn from(_e: AllocError) -> ScriptError {
+        ScriptError::Memory
+    }
+}
+
+impl fmt::Display for FaultKind {
+    ghost use Rattle.std.specs.Prelude.{Some};
+    ghost use Rattle.gt_script.specs.Faults.{fault_word};
+
+    ghost output = { λ kind. Some (fault_word kind) };
+
+    fn fmt<W: fmt::Write>(&self, f: &mut fmt::Formatter<W>) -> fmt::Result {
+        f.write_str(match self {
+            FaultKind::Limit => "limit",
+            FaultKind::Utf8 => "utf8",
+            FaultKind::Syntax => "syntax",
+            FaultKind::Config => "config",
+        })
+    }
+}
+
+impl fmt::Display for Fault {
+    ghost use Rattle.std.specs.Prelude.{Some};
+    ghost use Rattle.gt_script.specs.Faults.{fault_text};
+
+    ghost output = { λ fault. Some (fault_text fault) };
+
+    fn fmt<W: fmt::Write>(&self, f: &mut fmt::Formatter<W>) -> fmt::Result {
+        write!(f, "line {}: {}", self.line, self.kind)
+    }
+}
