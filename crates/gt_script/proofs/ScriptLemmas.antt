@@ -1,0 +1,27 @@
+use Rattle.std.proofs.Common.{◌≡◌, ℕ, ◌+◌, ◌<◌, List, ◌∷◌, length, map, drop, get_or, Result, Ok, Err, refl, ap, ◌∙◌, Bor, rules}
+use Rattle.std.proofs.lemmas.List.{at_drop_more}
+use Rattle.gt_script.specs.Words.{words}
+use Rattle.gt_script.specs.Contents.{Contents}
+use Rattle.gt_script.specs.Script.{with_words, with_lines}
+use Rattle.gt_script.specs.declared.faults.FaultKind.{FaultKind}
+
+-- the texts of what is left of the lines
+abbrev pub texts : List (Bor (List ℕ)) → List (List ℕ)
+texts lines = map (λ line. line.now) lines
+
+with_lines-step : (c : Contents) (n : ℕ) (line : List ℕ) (ls : List (List ℕ)) (r : Result Contents FaultKind) → with_words c n (words line) ≡ r
+    → with_lines c n (line ∷ ls) ≡ elim r [ Ok d ↦ with_lines d (n + 1) ls | Err kind ↦ Err (record { line = n; kind = kind }) ]
+with_lines-step c n line ls r e =
+    ap (λ (q : Result Contents FaultKind). elim q [ Ok d ↦ with_lines d (n + 1) ls | Err kind ↦ Err (record { line = n; kind = kind }) ]) e
+
+pub step_ok : (lines : List (Bor (List ℕ))) (c d : Contents) (i : ℕ) (x : Bor (List ℕ)) → i < length lines → with_words c (i + 1) (words (get_or lines i x).now) ≡ Ok d
+    → with_lines c (i + 1) (texts (drop i lines)) ≡ with_lines d (i + 1 + 1) (texts (drop (i + 1) lines))
+step_ok lines c d i x h e =
+    at_drop_more (λ rest. with_lines c (i + 1) (texts rest)) lines i x h
+    ∙ with_lines-step c (i + 1) (get_or lines i x).now (texts (drop (i + 1) lines)) (Ok d) e
+
+pub step_err : (lines : List (Bor (List ℕ))) (c : Contents) (kind : FaultKind) (i : ℕ) (x : Bor (List ℕ)) → i < length lines → with_words c (i + 1) (words (get_or lines i x).now) ≡ Err kind
+    → with_lines c (i + 1) (texts (drop i lines)) ≡ Err (record { line = i + 1; kind = kind })
+step_err lines c kind i x h e =
+    at_drop_more (λ rest. with_lines c (i + 1) (texts rest)) lines i x h
+    ∙ with_lines-step c (i + 1) (get_or lines i x).now (texts (drop (i + 1) lines)) (Err kind) e

@@ -1,0 +1,101 @@
+-- What the words of a call say (own): REF, DOM and the others as in Fields.
+use Rattle.std.specs.Prelude.{ℕ, List, [], ◌∷◌, Option, Some, None, if◌then◌else◌, codes}
+use Rattle.std.specs.Option.{option_map}
+use Rattle.std.specs.Str.{bytes_eq}
+use Rattle.gt_script.specs.Fields.{◌>>=◌, u16_word, u64_word, reference_word, domain_word, mode_word, flags_word, label_word, text_where}
+use Rattle.gt_script.specs.declared.calls.Grant.{Grant}
+use Rattle.gt_script.specs.declared.calls.Grant.TheVariants as grants
+use Rattle.gt_script.specs.declared.calls.Call.{Call}
+use Rattle.gt_script.specs.declared.calls.Call.TheVariants as calls
+use Rattle.gt_script.specs.declared.calls.Action.{Action}
+use Rattle.gt_script.specs.declared.calls.Action.TheVariants as actions
+
+-- DOM MODE FRAME
+unfoldable pub page_of : List (List ℕ) → Option Grant
+page_of (dom ∷ mode ∷ frame ∷ []) = do
+  d ← domain_word dom
+  m ← mode_word mode
+  f ← u64_word frame
+  Some (grants.Page d m f)
+page_of _ = None
+
+-- DOM MODE FRAME OFF LEN
+unfoldable pub sub_of : List (List ℕ) → Option Grant
+sub_of (dom ∷ mode ∷ frame ∷ off ∷ len ∷ []) = do
+  d ← domain_word dom
+  m ← mode_word mode
+  f ← u64_word frame
+  o ← u16_word off
+  n ← u16_word len
+  Some (grants.Sub d m f o n)
+sub_of _ = None
+
+-- DOM MODE DOM2 REF2
+unfoldable pub via_of : List (List ℕ) → Option Grant
+via_of (dom ∷ mode ∷ to ∷ gref ∷ []) = do
+  d ← domain_word dom
+  m ← mode_word mode
+  t ← domain_word to
+  r ← reference_word gref
+  Some (grants.Via d m t r)
+via_of _ = None
+
+-- the entry that a grant publishes, by its kind
+unfoldable pub granted : List ℕ → List (List ℕ) → Option Grant
+granted kind args = if bytes_eq kind (codes "page") then page_of args
+    else (if bytes_eq kind (codes "sub") then sub_of args
+    else (if bytes_eq kind (codes "via") then via_of args else None))
+
+-- REF and an entry
+unfoldable pub grant_of : List (List ℕ) → Option Call
+grant_of (gref ∷ kind ∷ args) = do
+  r ← reference_word gref
+  e ← granted kind args
+  Some (calls.Grant r e)
+grant_of _ = None
+
+-- LABEL DOM REF FLAGS
+unfoldable pub map_of : List (List ℕ) → Option Call
+map_of (label ∷ dom ∷ gref ∷ flags ∷ []) = do
+  l ← text_where label_word label
+  d ← domain_word dom
+  r ← reference_word gref
+  f ← flags_word flags
+  Some (calls.Map l d r f)
+map_of _ = None
+
+-- LABEL
+unfoldable pub unmap_of : List (List ℕ) → Option Call
+unmap_of (label ∷ []) = do
+  l ← text_where label_word label
+  Some (calls.Unmap l)
+unmap_of _ = None
+
+-- LABEL OFF LEN
+unfoldable pub load_of : List (List ℕ) → Option Call
+load_of (label ∷ off ∷ len ∷ []) = do
+  l ← text_where label_word label
+  o ← u16_word off
+  n ← u16_word len
+  Some (calls.Load l o n)
+load_of _ = None
+
+-- REF
+unfoldable pub revoke_of : List (List ℕ) → Option Call
+revoke_of (gref ∷ []) = do
+  r ← reference_word gref
+  Some (calls.Revoke r)
+revoke_of _ = None
+
+-- a call word and its arguments
+unfoldable pub call_of : List (List ℕ) → Option Call
+call_of [] = None
+call_of (word ∷ args) = if bytes_eq word (codes "grant") then grant_of args
+    else (if bytes_eq word (codes "map") then map_of args
+    else (if bytes_eq word (codes "unmap") then unmap_of args
+    else (if bytes_eq word (codes "load") then load_of args
+    else (if bytes_eq word (codes "revoke") then revoke_of args else None))))
+
+-- what a body line's first word says together with the words after its domain
+unfoldable pub action_of : List ℕ → List (List ℕ) → Option Action
+action_of word args = if bytes_eq word (codes "do") then option_map actions.Do (call_of args) else None

@@ -1,0 +1,9 @@
+pub mod Calls
+pub mod Contents
+pub mod Fields
+pub mod Lines
+pub mod Numbers
+pub mod Outcomes
+pub mod Script
+pub mod Types
+pub mod Words

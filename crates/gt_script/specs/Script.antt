@@ -1,0 +1,123 @@
+-- The script that bytes say, line by line, or their first fault (own).
+use Rattle.std.specs.Prelude.{ℕ, ◌+◌, ◌==◌, ◌||◌, ◌&&◌, not, Bool, List, [], ◌∷◌, ◌++◌, length, Option, Some, None, Result, Ok, Err, nat_lt, nat_le, take, count_by, if◌then◌else◌}
+use Rattle.std.specs.List.{list_any}
+use Rattle.std.specs.Str.{is_utf8}
+use Rattle.std.specs.Str.Lossy.{utf8_valid_len}
+use Rattle.std.specs.Str.Lines.{lines as lines_in}
+use Rattle.gt_types.specs.declared.DomId.{DomId}
+use Rattle.gt_types.specs.declared.TypeId.{TypeId}
+use Rattle.gt_types.specs.declared.config.DomainConfig.{DomainConfig}
+use Rattle.gt_script.specs.Words.{words}
+use Rattle.gt_script.specs.Fields.{◌>>=◌}
+use Rattle.gt_script.specs.Lines.{line_of}
+use Rattle.gt_script.specs.Types.{with_type}
+use Rattle.gt_script.specs.Contents.{Contents, empty}
+use Rattle.gt_script.specs.declared.numbers.Number.{Number}
+use Rattle.gt_script.specs.declared.numbers.Number.TheVariants.{Small, Huge}
+use Rattle.gt_script.specs.declared.calls.Action.{Action}
+use Rattle.gt_script.specs.declared.lines.TripleLine.{TripleLine}
+use Rattle.gt_script.specs.declared.lines.DomainLine.{DomainLine}
+use Rattle.gt_script.specs.declared.lines.Line.{Line}
+use Rattle.gt_script.specs.declared.lines.Line.TheVariants as line
+use Rattle.gt_script.specs.declared.faults.FaultKind.{FaultKind}
+use Rattle.gt_script.specs.declared.faults.FaultKind.TheVariants.{Limit, Utf8, Syntax, Config}
+use Rattle.gt_script.specs.declared.faults.Fault.{Fault}
+
+abbrev pub is_empty : {X : Type 0} → List X → Bool
+is_empty xs = length xs == 0
+
+-- a number from low to high
+abbrev pub number_within : ℕ → ℕ → Number → Option ℕ
+number_within low high (Small n) = if nat_le low n && nat_le n high then Some n else None
+number_within low high Huge = None
+
+-- some domain has this id
+abbrev pub has_domain : List DomainConfig → DomId → Bool
+has_domain domains id = list_any (λ d. d.id.0 == id.0) domains
+
+-- the domain of a line within the limits of a domain
+unfoldable pub domain_within : DomainLine → TypeId → Option DomainConfig
+domain_within d label = do
+  id ← number_within 0 32751 d.id
+  frames ← number_within 1 64 d.frames
+  tables ← number_within 1 4 d.table_frames
+  version ← number_within 1 1 d.version
+  Some (record { id = record { 0 = id }; label = label; frames = frames; table_frames = tables; version = version })
+
+-- triples come first, then domains, then steps
+unfoldable pub is_misplaced : Contents → Line → Bool
+is_misplaced c (line.Triple t) = not (is_empty c.domains)
+is_misplaced c (line.Domain d) = is_empty c.triples || not (is_empty c.steps)
+is_misplaced c (line.Body id action) = is_empty c.domains
+
+-- what a line adds, or that it is past a limit
+abbrev pub or_config : Option Contents → Result Contents FaultKind
+or_config (Some c) = Ok c
+or_config None = Err Config
+
+-- a script with one triple more
+unfoldable pub with_triple : Contents → TripleLine → Result Contents FaultKind
+with_triple c t = or_config (do
+  source ← with_type c.types t.source
+  target ← with_type source.0 t.target
+  Some (record c { types = target.0; triples = c.triples ++ record { source = source.1; target = target.1; perm = t.perm } ∷ [] }))
+
+-- a script with one domain more
+unfoldable pub with_domain : Contents → DomainLine → Result Contents FaultKind
+with_domain c d = or_config (do
+  label ← with_type c.types d.type_name
+  domain ← domain_within d label.1
+  if nat_lt (length c.domains) 16 && not (has_domain c.domains domain.id)
+      then Some (record c { types = label.0; domains = c.domains ++ domain ∷ [] }) else None)
+
+-- a script with one step more, on line n
+unfoldable pub with_step : Contents → ℕ → Number → Action → Result Contents FaultKind
+with_step c n number action = or_config (do
+  id ← number_within 0 65535 number
+  if has_domain c.domains (record { 0 = id })
+      then Some (record c { steps = c.steps ++ record { line = n; dom = record { 0 = id }; action = action } ∷ [] }) else None)
+
+abbrev pub with_placed : Contents → ℕ → Line → Result Contents FaultKind
+with_placed c n (line.Triple t) = with_triple c t
+with_placed c n (line.Domain d) = with_domain c d
+with_placed c n (line.Body id action) = with_step c n id action
+
+-- a script with line n more
+unfoldable pub with_line : Contents → ℕ → Line → Result Contents FaultKind
+with_line c n l = if is_misplaced c l then Err Syntax else with_placed c n l
+
+-- the words of line n: none change nothing
+unfoldable pub with_words : Contents → ℕ → List (List ℕ) → Result Contents FaultKind
+with_words c n [] = Ok c
+with_words c n (w ∷ ws) = elim (line_of (w ∷ ws)) [ None ↦ Err Syntax | Some l ↦ with_line c n l ]
+
+-- lines from number n on: the first that adds nothing but a fault gives the fault
+abbrev pub with_lines : Contents → ℕ → List (List ℕ) → Result Contents Fault
+with_lines c n [] = Ok c
+with_lines c n (l ∷ ls) = elim (with_words c n (words l)) [
+  | Ok d ↦ with_lines d (n + 1) ls
+  | Err kind ↦ Err (record { line = n; kind = kind })
+]
+
+-- a script with no line at all lacks its head, and one with no domain line its domains
+unfoldable pub completed : ℕ → Contents → Result Contents Fault
+completed count c = if is_empty c.triples then Err (record { line = count + 1; kind = Syntax })
+    else (if is_empty c.domains then Err (record { line = count + 1; kind = Config }) else Ok c)
+
+abbrev pub completed_if_ok : ℕ → Result Contents Fault → Result Contents Fault
+completed_if_ok count (Ok c) = completed count c
+completed_if_ok count (Err f) = Err f
+
+-- what a text says, or its first fault
+unfoldable pub script_of : List ℕ → Result Contents Fault
+script_of text = completed_if_ok (length (lines_in text)) (with_lines empty 1 (lines_in text))
+
+-- the line on which a text stops
+abbrev pub line_after : List ℕ → ℕ
+line_after text = count_by (λ b. b == 10) text + 1
+
+-- what bytes say, which may be too many, or no text
+unfoldable pub script_in : List ℕ → Result Contents Fault
+script_in bytes = if nat_lt 1048576 (length bytes) then Err (record { line = 1; kind = Limit })
+    else (if is_utf8 bytes then script_of bytes
+    else Err (record { line = line_after (take (utf8_valid_len bytes) bytes); kind = Utf8 }))

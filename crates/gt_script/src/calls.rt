@@ -1,0 +1,229 @@
+//! The calls that a script can ask for.
+ghost use Rattle.std.specs.Prelude.{◌≡◌, map};
+ghost use Rattle.gt_script.specs.Calls.{page_of, sub_of, via_of, granted, grant_of, map_of, unmap_of, load_of, revoke_of, call_of, action_of};
+
+use crate::fields::{domain, flags, is, label, mode, reference, u16_of, u64_of};
+use crate::texts::Text;
+use gt_types::{DomId, GrantRef};
+
+/// What a `grant` publishes. A domain written `self` is the number 32752 and nobody's.
+#[derive(Clone, Copy, Debug, PartialEq, Eq)]
+pub enum Grant {
+    /// Any range of the owner's frame.
+    Page {
+        dom: DomId,
+        read_only: bool,
+        frame: u64,
+    },
+    /// Copies inside `len` bytes from `off` on.
+    Sub {
+        dom: DomId,
+        read_only: bool,
+        frame: u64,
+        off: u16,
+        len: u16,
+    },
+    /// Copies by the grant `gref` of `to`.
+    Via {
+        dom: DomId,
+        read_only: bool,
+        to: DomId,
+        gref: GrantRef,
+    },
+}
+
+/// A call as it is written; a label stands for the handle of the last map of that label.
+#[derive(Debug, Drop)]
+pub enum Call<'a> {
+    /// `grant REF page|sub|via ..`
+    Grant {
+        gref: GrantRef,
+        entry: Grant,
+    },
+    /// `map LABEL DOM REF FLAGS`
+    Map {
+        label: Text<'a>,
+        dom: DomId,
+        gref: GrantRef,
+        flags: u32,
+    },
+    /// `unmap LABEL`
+    Unmap {
+        label: Text<'a>,
+    },
+    /// `load LABEL OFF LEN`
+    Load {
+        label: Text<'a>,
+        off: u16,
+        len: u16,
+    },
+    /// `revoke REF`
+    Revoke {
+        gref: GrantRef,
+    },
+}
+
+/// What a line of the body asks of its domain.
+#[derive(Debug, Drop)]
+pub enum Action<'a> {
+    /// `do ID CALL`: the call from its beginning to its answer.
+    Do(Call<'a>),
+}
+
+#[tactic(auto, unfolding(crate::specs::Calls::page_of))]
+fn read_page(args: &[&[u8]]) -> Option<Grant>
+    ensures { result ≡ page_of (map (λ word. word.now) args.now) }
+{
+    match args {
+        [dom, access, frame] => Some(Grant::Page {
+            dom: domain(dom)?,
+            read_only: mode(access)?,
+            frame: u64_of(frame)?,
+        }),
+        _ => None,
+    }
+}
+
+#[tactic(auto, unfolding(crate::specs::Calls::sub_of))]
+fn read_sub(args: &[&[u8]]) -> Option<Grant>
+    ensures { result ≡ sub_of (map (λ word. word.now) args.now) }
+{
+    match args {
+        [dom, access, frame, off, len] => Some(Grant::Sub {
+            dom: domain(dom)?,
+            read_only: mode(access)?,
+            frame: u64_of(frame)?,
+            off: u16_of(off)?,
+            len: u16_of(len)?,
+        }),
+        _ => None,
+    }
+}
+
+#[tactic(auto, unfolding(crate::specs::Calls::via_of))]
+fn read_via(args: &[&[u8]]) -> Option<Grant>
+    ensures { result ≡ via_of (map (λ word. word.now) args.now) }
+{
+    match args {
+        [dom, access, to, gref] => Some(Grant::Via {
+            dom: domain(dom)?,
+            read_only: mode(access)?,
+            to: domain(to)?,
+            gref: reference(gref)?,
+        }),
+        _ => None,
+    }
+}
+
+#[tactic(auto, unfolding(crate::specs::Calls::granted))]
+fn read_entry(kind: &[u8], args: &[&[u8]]) -> Option<Grant>
+    ensures { result ≡ granted kind.now (map (λ word. word.now) args.now) }
+{
+    if is(kind, "page") {
+        read_page(args)
+    } else if is(kind, "sub") {
+        read_sub(args)
+    } else if is(kind, "via") {
+        read_via(args)
+    } else {
+        None
+    }
+}
+
+#[tactic(auto, unfolding(crate::specs::Calls::grant_of))]
+fn read_grant<'a>(args: &[&'a [u8]]) -> Option<Call<'a>>
+    ensures { result ≡ grant_of (map (λ word. word.now) args.now) }
+{
+    match args {
+        [gref, kind, rest @ ..] => Some(Call::Grant {
+            gref: reference(gref)?,
+            entry: read_entry(kind, rest)?,
+        }),
+        _ => None,
+    }
+}
+
+#[tactic(auto, unfolding(crate::specs::Calls::map_of))]
+fn read_map<'a>(args: &[&'a [u8]]) -> Option<Call<'a>>
+    ensures { result ≡ map_of (map (λ word. word.now) args.now) }
+{
+    match args {
+        [name, dom, gref, bits] => Some(Call::Map {
+            label: label(name)?,
+            dom: domain(dom)?,
+            gref: reference(gref)?,
+            flags: flags(bits)?,
+        }),
+        _ => None,
+    }
+}
+
+#[tactic(auto, unfolding(crate::specs::Calls::unmap_of))]
+fn read_unmap<'a>(args: &[&'a [u8]]) -> Option<Call<'a>>
+    ensures { result ≡ unmap_of (map (λ word. word.now) args.now) }
+{
+    match args {
+        [name] => Some(Call::Unmap {
+            label: label(name)?,
+        }),
+        _ => None,
+    }
+}
+
+#[tactic(auto, unfolding(crate::specs::Calls::load_of))]
+fn read_load<'a>(args: &[&'a [u8]]) -> Option<Call<'a>>
+    ensures { result ≡ load_of (map (λ word. word.now) args.now) }
+{
+    match args {
+        [name, off, len] => Some(Call::Load {
+            label: label(name)?,
+            off: u16_of(off)?,
+            len: u16_of(len)?,
+        }),
+        _ => None,
+    }
+}
+
+#[tactic(auto, unfolding(crate::specs::Calls::revoke_of))]
+fn read_revoke<'a>(args: &[&'a [u8]]) -> Option<Call<'a>>
+    ensures { result ≡ revoke_of (map (λ word. word.now) args.now) }
+{
+    match args {
+        [gref] => Some(Call::Revoke {
+            gref: reference(gref)?,
+        }),
+        _ => None,
+    }
+}
+
+#[tactic(auto, unfolding(crate::specs::Calls::call_of))]
+fn read_call<'a>(words: &[&'a [u8]]) -> Option<Call<'a>>
+    ensures { result ≡ call_of (map (λ word. word.now) words.now) }
+{
+    let (word, args) = words.split_first()?;
+    if is(word, "grant") {
+        read_grant(args)
+    } else if is(word, "map") {
+        read_map(args)
+    } else if is(word, "unmap") {
+        read_unmap(args)
+    } else if is(word, "load") {
+        read_load(args)
+    } else if is(word, "revoke") {
+        read_revoke(args)
+    } else {
+        None
+    }
+}
+
+/// What a body line's first word says together with the words after its domain.
+#[tactic(auto, unfolding(crate::specs::Calls::action_of))]
+pub fn read_action<'a>(word: &[u8], args: &[&'a [u8]]) -> Option<Action<'a>>
+    ensures { result ≡ action_of word.now (map (λ word. word.now) args.now) }
+{
+    if is(word, "do") {
+        Some(Action::Do(read_call(args)?))
+    } else {
+        None
+    }
+}

@@ -1,0 +1,334 @@
+//! A script: what stands on its lines, in order.
+ghost use Rattle.std.specs.Prelude.{◌≡◌, ◌==◌, count_by};
+ghost use Rattle.std.specs.List.{list_any};
+ghost use Rattle.gt_script.specs.Script.{has_domain, number_within, domain_within, script_of, script_in};
+ghost use Rattle.gt_script.specs.Outcomes.{Says};
+
+use crate::calls::Action;
+use crate::faults::{Fault, FaultKind, ScriptError};
+use crate::lines::{DomainLine, Line, TripleLine, read_line};
+use crate::numbers::Number;
+use crate::texts::Text;
+use crate::types::TypeNames;
+use crate::words::{lines, words};
+use gt_types::{DomId, DomainConfig, Triple, TypeId};
+use std::alloc::{AllocError, Global};
+use std::marker::Model;
+
+/// The most bytes that a script may have.
+pub const MOST_BYTES: usize = 1_048_576;
+
+/// What a line of the body asks, with the number of that line and its domain.
+#[derive(Debug, Drop)]
+pub struct Step<'a> {
+    pub line: usize,
+    pub dom: DomId,
+    pub action: Action<'a>,
+}
+
+/// A script without fault.
+#[derive(Drop)]
+pub struct Script<'a> {
+    types: TypeNames<'a>,
+    triples: Vec<Triple>,
+    domains: Vec<DomainConfig>,
+    steps: Vec<Step<'a>>,
+}
+
+impl<'a> Model for Script<'a> {
+    ghost use Rattle.gt_script.specs.Contents.{Contents};
+
+    ghost Value = { Contents };
+
+    ghost view = { λ s. record {
+      types = s.types;
+      triples = s.triples.items;
+      domains = s.domains.items;
+      steps = s.steps.items;
+    } };
+}
+
+/// Why a line was not added.
+#[derive(Clone, Copy, Debug, PartialEq, Eq)]
+enum AddError {
+    Memory,
+    Fault(FaultKind),
+}
+
+impl From<AllocError> for AddError {
+    ghost use Rattle.std.specs.Prelude.{◌≡◌};
+    ghost use Rattle.gt_script.specs.declared.script.AddError.TheVariants.{Memory};
+
+    ghost from_gives = { λ _ e. e ≡ Memory };
+
+    fn from(_e: AllocError) -> AddError {
+        AddError::Memory
+    }
+}
+
+impl AddError {
+    ghost use Rattle.std.specs.Prelude.{◌≡◌};
+    ghost use Rattle.gt_script.specs.Outcomes.{on_line};
+
+    fn on_line(self, line: usize) -> ScriptError
+        ensures { result ≡ on_line line self }
+    {
+        match self {
+            AddError::Memory => ScriptError::Memory,
+            AddError::Fault(kind) => ScriptError::Fault(Fault { line, kind }),
+        }
+    }
+}
+
+fn is_domain(domains: &[DomainConfig], id: DomId) -> bool
+    ensures { result ≡ has_domain domains.now id }
+{
+    domains.iter().any(|d| d.id == id)
+}
+
+// The number, where it is one from low to high.
+fn within(number: Number, low: u64, high: u64) -> Option<u64>
+    ensures { result ≡ number_within low high number }
+{
+    match number {
+        Number::Small(n) if low <= n && n <= high => Some(n),
+        _ => None,
+    }
+}
+
+// The domain of a line, where its numbers are within the limits of a domain.
+#[tactic(auto, unfolding(crate::specs::Script::domain_within))]
+fn domain_within(line: DomainLine, label: TypeId) -> Option<DomainConfig>
+    ensures { result ≡ domain_within line.entry label }
+{
+    Some(DomainConfig {
+        id: DomId(within(line.id, 0, 32751)? as u16),
+        label,
+        frames: within(line.frames, 1, 64)? as u32,
+        table_frames: within(line.table_frames, 1, 4)? as u32,
+        version: within(line.version, 1, 1)? as u32,
+    })
+}
+
+impl<'a> Script<'a> {
+    ghost use Rattle.std.specs.Prelude.{◌≡◌, map, ◌<◌, ◌-◌, ◌^◌};
+    ghost use Rattle.gt_script.specs.Words.{words as words_in};
+    ghost use Rattle.gt_script.specs.Contents.{empty};
+    ghost use Rattle.gt_script.specs.Script.{with_triple, with_domain, with_step, with_line, with_words, with_lines, completed, is_misplaced};
+    ghost use Rattle.gt_script.specs.Outcomes.{Adds, Says};
+
+    fn new(alloc: Global) -> Script<'a>
+        ensures { result ≡ empty }
+    {
+        Script {
+            types: TypeNames::new(alloc),
+            triples: Vec::new(alloc),
+            domains: Vec::new(alloc),
+            steps: Vec::new(alloc),
+        }
+    }
+
+    /// The names of the types: the type with number i has the name at place i.
+    pub fn types(&self) -> &[Text<'a>]
+        ensures { result.now ≡ self.now.types }
+    {
+        self.types.as_slice()
+    }
+
+    /// What the head allows, in its order.
+    pub fn triples(&self) -> &[Triple]
+        ensures { result.now ≡ self.now.triples }
+    {
+        self.triples.as_slice()
+    }
+
+    /// The domains of the run, in their order.
+    pub fn domains(&self) -> &[DomainConfig]
+        ensures { result.now ≡ self.now.domains }
+    {
+        self.domains.as_slice()
+    }
+
+    /// The steps of the body, in their order.
+    pub fn steps(&self) -> &[Step<'a>]
+        ensures { result.now ≡ self.now.steps }
+    {
+        self.steps.as_slice()
+    }
+
+    #[tactic(auto, unfolding(crate::specs::Script::with_triple))]
+    fn with_triple(mut self, triple: TripleLine<'a>) -> Result<Script<'a>, AddError>
+        ensures { Adds result (with_triple self.entry triple.entry) }
+    {
+        let Some(source) = self.types.number(triple.source.as_bytes())? else {
+            return Err(AddError::Fault(FaultKind::Config));
+        };
+        let Some(target) = self.types.number(triple.target.as_bytes())? else {
+            return Err(AddError::Fault(FaultKind::Config));
+        };
+        let perm = triple.perm;
+        self.triples
+            .push(Triple {
+                source,
+                target,
+                perm,
+            })
+            .map_err(AllocError::from)?;
+        Ok(self)
+    }
+
+    #[tactic(auto, unfolding(crate::specs::Script::with_domain))]
+    fn with_domain(mut self, line: DomainLine<'a>) -> Result<Script<'a>, AddError>
+        ensures { Adds result (with_domain self.entry line.entry) }
+    {
+        let Some(label) = self.types.number(line.type_name.as_bytes())? else {
+            return Err(AddError::Fault(FaultKind::Config));
+        };
+        let Some(domain) = domain_within(line, label) else {
+            return Err(AddError::Fault(FaultKind::Config));
+        };
+        if self.domains.len() >= 16 || is_domain(self.domains.as_slice(), domain.id) {
+            return Err(AddError::Fault(FaultKind::Config));
+        }
+        self.domains.push(domain).map_err(AllocError::from)?;
+        Ok(self)
+    }
+
+    #[tactic(auto, unfolding(crate::specs::Script::with_step))]
+    fn with_step(
+        mut self,
+        line: usize,
+        id: Number,
+        action: Action<'a>,
+    ) -> Result<Script<'a>, AddError>
+        ensures { Adds result (with_step self.entry line id action.entry) }
+    {
+        let Some(id) = within(id, 0, 65535) else {
+            return Err(AddError::Fault(FaultKind::Config));
+        };
+        let dom = DomId(id as u16);
+        if !is_domain(self.domains.as_slice(), dom) {
+            return Err(AddError::Fault(FaultKind::Config));
+        }
+        self.steps
+            .push(Step { line, dom, action })
+            .map_err(AllocError::from)?;
+        Ok(self)
+    }
+
+    #[tactic(auto, unfolding(crate::specs::Script::is_misplaced))]
+    fn is_misplaced(&self, line: &Line<'a>) -> bool
+        ensures { result ≡ is_misplaced self.now line.now }
+    {
+        match line {
+            Line::Triple(_) => !self.domains.is_empty(),
+            Line::Domain(_) => self.triples.is_empty() || !self.steps.is_empty(),
+            Line::Body { .. } => self.domains.is_empty(),
+        }
+    }
+
+    #[tactic(auto, unfolding(crate::specs::Script::with_line))]
+    fn with_line(self, number: usize, line: Line<'a>) -> Result<Script<'a>, AddError>
+        ensures { Adds result (with_line self.entry number line.entry) }
+    {
+        if self.is_misplaced(&line) {
+            return Err(AddError::Fault(FaultKind::Syntax));
+        }
+        match line {
+            Line::Triple(triple) => self.with_triple(triple),
+            Line::Domain(domain) => self.with_domain(domain),
+            Line::Body { id, action } => self.with_step(number, id, action),
+        }
+    }
+
+    #[tactic(auto, unfolding(crate::specs::Script::with_words))]
+    fn with_words(self, number: usize, words: &[&'a [u8]]) -> Result<Script<'a>, AddError>
+        ensures { Adds result (with_words self.entry number (map (λ w. w.now) words.now)) }
+    {
+        if words.is_empty() {
+            return Ok(self);
+        }
+        match read_line(words) {
+            Some(line) => self.with_line(number, line),
+            None => Err(AddError::Fault(FaultKind::Syntax)),
+        }
+    }
+
+    fn with_text_line(
+        self,
+        alloc: Global,
+        number: usize,
+        line: &'a str,
+    ) -> Result<Script<'a>, AddError>
+        ensures { Adds result (with_words self.entry number (words_in line.entry.now)) }
+    {
+        let words = words(alloc, line)?;
+        self.with_words(number, words.as_slice())
+    }
+
+    fn of_lines(alloc: Global, lines: &[&'a str]) -> Result<Script<'a>, ScriptError>
+        ensures { Says result (with_lines empty 1 (map (λ line. line.now) lines.now)) }
+    {
+        let mut script = Script::new(alloc);
+        for (i, line) in lines.iter().enumerate() {
+            match script.with_text_line(alloc, i + 1, line) {
+                Ok(more) => script = more,
+                Err(e) => return Err(e.on_line(i + 1)),
+            }
+        }
+        Ok(script)
+    }
+
+    // A script with no line at all lacks its head, and one with no domain line its domains.
+    #[tactic(auto, unfolding(crate::specs::Script::completed))]
+    fn completed(self, count: usize) -> Result<Script<'a>, ScriptError>
+        requires { count < 2 ^ 64 - 1 }
+        ensures { Says result (completed count self.entry) }
+    {
+        let kind = if self.triples.is_empty() {
+            FaultKind::Syntax
+        } else if self.domains.is_empty() {
+            FaultKind::Config
+        } else {
+            return Ok(self);
+        };
+        let line = count + 1;
+        Err(ScriptError::Fault(Fault { line, kind }))
+    }
+}
+
+#[tactic(auto, unfolding(crate::specs::Script::script_of))]
+fn of_text<'a>(alloc: Global, text: &'a str) -> Result<Script<'a>, ScriptError>
+    ensures { Says result (script_of text.entry.now) }
+{
+    let lines = lines(alloc, text)?;
+    Script::of_lines(alloc, lines.as_slice())?.completed(lines.len())
+}
+
+// How many lines end in the bytes.
+fn newlines(bytes: &[u8]) -> usize
+    ensures { result ≡ count_by (λ b. b == 10) bytes.now }
+{
+    bytes.iter().filter(|b| **b == b'\n').count()
+}
+
+/// The script that the bytes say, or their first fault: too long, no UTF-8, or the first line
+/// that is wrong.
+#[tactic(auto, unfolding(crate::specs::Script::script_in))]
+pub fn parse<'a>(alloc: Global, bytes: &'a [u8]) -> Result<Script<'a>, ScriptError>
+    ensures { Says result (script_in bytes.entry.now) }
+{
+    if bytes.len() > MOST_BYTES {
+        return Err(ScriptError::Fault(Fault {
+            line: 1,
+            kind: FaultKind::Limit,
+        }));
+    }
+    match str::from_utf8(bytes) {
+        Ok(text) => of_text(alloc, text),
+        Err(e) => Err(ScriptError::Fault(Fault {
+            line: newlines(&bytes[..e.valid_up_to()]) + 1,
+            kind: FaultKind::Utf8,
+        })),
+    }
+}

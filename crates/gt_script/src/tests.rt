@@ -1,0 +1,1 @@
+//! Whole scripts, and their first faults.

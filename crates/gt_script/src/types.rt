@@ -1,0 +1,69 @@
+//! The names of the types, numbered as they first appear.
+ghost use Rattle.std.specs.Prelude.{◌≡◌, position};
+ghost use Rattle.std.specs.Str.{bytes_eq};
+
+use crate::texts::Text;
+use gt_types::TypeId;
+use std::alloc::{AllocError, Global};
+use std::marker::Model;
+
+/// The most types that a run may have.
+pub const MOST_TYPES: usize = 256;
+
+/// The names of the types, each once: a type's number is the place of its name.
+#[derive(Drop)]
+pub struct TypeNames<'a> {
+    names: Vec<Text<'a>>,
+}
+
+impl<'a> Model for TypeNames<'a> {
+    ghost use Rattle.std.specs.Prelude.{ℕ, List, ◌≤◌, length};
+
+    ghost Value = { List (List ℕ) };
+
+    ghost view = { λ types. types.names.items };
+
+    ghost invariant = { λ types. length types.names.items ≤ 256 };
+}
+
+fn position_of(names: &[Text], name: &[u8]) -> Option<usize>
+    ensures { result ≡ position (λ t. bytes_eq t name.now) names.now }
+{
+    names.iter().position(|t| t.as_bytes() == name)
+}
+
+impl<'a> TypeNames<'a> {
+    ghost use Rattle.std.specs.Prelude.{[], IfOk};
+    ghost use Rattle.std.specs.Option.{option_map};
+    ghost use Rattle.gt_script.specs.Types.{with_type};
+
+    pub fn new(alloc: Global) -> TypeNames<'a>
+        ensures { result ≡ [] }
+    {
+        TypeNames {
+            names: Vec::new(alloc),
+        }
+    }
+
+    pub fn as_slice(&self) -> &[Text<'a>]
+        ensures { result.now ≡ self.now }
+    {
+        self.names.as_slice()
+    }
+
+    /// The number of a type, which is added if it is new; None where it is one too many.
+    #[tactic(auto, unfolding(crate::specs::Types::with_type))]
+    pub fn number(&mut self, name: &'a [u8]) -> Result<Option<TypeId>, AllocError>
+        ensures { IfOk result (λ number. option_map (λ id. (self.new, id)) number ≡ with_type self.old name.entry.now) }
+    {
+        if let Some(at) = position_of(self.names.as_slice(), name) {
+            return Ok(Some(TypeId(at as u16)));
+        }
+        let count = self.names.len();
+        if count >= MOST_TYPES {
+            return Ok(None);
+        }
+        self.names.push(Text::new(name))?;
+        Ok(Some(TypeId(count as u16)))
+    }
+}
