@@ -1,6 +1,7 @@
 pub mod Calls
 pub mod Contents
 pub mod Fields
+pub mod Laws
 pub mod Lines
 pub mod Numbers
 pub mod Outcomes
