@@ -4,6 +4,7 @@ use Rattle.std.specs.List.{list_all}
 use Rattle.std.specs.Prelude.{◌||◌, ◌&&◌, ◌==◌, nat_le, length, ℕ, ◌^◌, Bool, true, false, List, [], ◌∷◌, Option, Some, None, if◌then◌else◌, codes}
 use Rattle.std.specs.Option.{option_map}
 use Rattle.std.specs.Str.{bytes_eq}
+use Rattle.gt_types.specs.Names.{map_read, map_write, unmap, transfer, setup, copy, query}
 use Rattle.gt_types.specs.declared.DomId.{DomId}
 use Rattle.gt_types.specs.declared.GrantRef.{GrantRef}
 use Rattle.gt_types.specs.declared.perms.Perms.{Perms}
@@ -72,13 +73,13 @@ flags_word word = if bytes_eq word (codes "rw") then Some 2
 
 -- the seven permissions of class `grant`, as XSM FLASK names them
 unfoldable pub permission_word : List ℕ → Option Perms
-permission_word word = if bytes_eq word (codes "map_read") then Some (record { 0 = 1 })
-    else (if bytes_eq word (codes "map_write") then Some (record { 0 = 2 })
-    else (if bytes_eq word (codes "unmap") then Some (record { 0 = 4 })
-    else (if bytes_eq word (codes "transfer") then Some (record { 0 = 8 })
-    else (if bytes_eq word (codes "setup") then Some (record { 0 = 16 })
-    else (if bytes_eq word (codes "copy") then Some (record { 0 = 32 })
-    else (if bytes_eq word (codes "query") then Some (record { 0 = 64 }) else None))))))
+permission_word word = if bytes_eq word (codes "map_read") then Some map_read
+    else (if bytes_eq word (codes "map_write") then Some map_write
+    else (if bytes_eq word (codes "unmap") then Some unmap
+    else (if bytes_eq word (codes "transfer") then Some transfer
+    else (if bytes_eq word (codes "setup") then Some setup
+    else (if bytes_eq word (codes "copy") then Some copy
+    else (if bytes_eq word (codes "query") then Some query else None))))))
 
 -- a word that passes a test
 abbrev pub text_where : (List ℕ → Bool) → List ℕ → Option (List ℕ)

@@ -1,16 +1,18 @@
 -- What the parts of a script are, said without the order of reading (own).
-use Rattle.std.specs.Prelude.{◌≡◌, ◌≢◌, ◌≤◌, ◌+◌, ◌-◌, ◌⊎◌, ℕ, List, [], length, take, Option, Some, None, Ok, Err, IsSome, IsTrue, All, AllPairs, position, slice_get}
+use Rattle.std.specs.Prelude.{◌≡◌, ◌≢◌, ◌≤◌, ◌+◌, ◌-◌, ◌^◌, ◌⊎◌, ℕ, List, [], length, take, Option, Some, None, Ok, Err, IsSome, IsTrue, All, AllPairs, position, slice_get}
 use Rattle.std.specs.Option.{option_map}
 use Rattle.std.specs.List.{filter_map, enumerate_from}
 use Rattle.std.specs.Str.{bytes_eq}
+use Rattle.gt_types.specs.Config.{is_taken, AreFaultless}
 use Rattle.gt_types.specs.declared.TypeId.{TypeId}
 use Rattle.gt_types.specs.declared.rights.Triple.{Triple}
 use Rattle.gt_types.specs.declared.config.DomainConfig.{DomainConfig}
 use Rattle.gt_script.specs.Words.{words}
+use Rattle.gt_script.specs.Numbers.{number_below}
 use Rattle.gt_script.specs.Fields.{◌>>=◌}
 use Rattle.gt_script.specs.Lines.{line_of}
 use Rattle.gt_script.specs.Contents.{Contents, empty}
-use Rattle.gt_script.specs.Script.{domain_within, number_within, has_domain, with_words, with_lines}
+use Rattle.gt_script.specs.Script.{domain_written, with_words, with_lines}
 use Rattle.gt_script.specs.declared.lines.Line.{Line}
 use Rattle.gt_script.specs.declared.lines.Line.TheVariants as line
 use Rattle.gt_script.specs.declared.script.Step.{Step}
@@ -39,7 +41,7 @@ abbrev pub domain_in : List (List ℕ) → Line → Option DomainConfig
 domain_in types (line.Triple t) = None
 domain_in types (line.Domain d) = do
   label ← type_number types d.type_name
-  domain_within d label
+  domain_written d label
 domain_in types (line.Body id action) = None
 
 -- the step of line n, if it is one of the body
@@ -47,7 +49,7 @@ abbrev pub step_on : ℕ → Line → Option Step
 step_on n (line.Triple t) = None
 step_on n (line.Domain d) = None
 step_on n (line.Body number action) = do
-  id ← number_within 0 65535 number
+  id ← number_below (2 ^ 16) number
   Some (record { line = n; dom = record { 0 = id }; action = action })
 
 -- a line without words, or one that says something
@@ -62,7 +64,8 @@ pub record IsScriptOf (lines : List (List ℕ)) (c : Contents) : Type 0 where
   pub steps : c.steps ≡ filter_map (λ l. step_on l.0 l.1) (said 1 lines)
   pub distinct : AllPairs (λ a b. a ≢ b) c.types
   pub few_types : length c.types ≤ 256
-  pub configured : All (λ s. IsTrue (has_domain c.domains s.dom)) c.steps
+  pub faultless : AreFaultless c.domains
+  pub configured : All (λ s. IsTrue (is_taken c.domains s.dom)) c.steps
   pub some_triple : 1 ≤ length c.triples
   pub some_domain : 1 ≤ length c.domains
 

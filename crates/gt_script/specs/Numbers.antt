@@ -1,5 +1,5 @@
 -- Decimal numbers.
-use Rattle.std.specs.Prelude.{ℕ, ◌+◌, ◌-◌, ◌*◌, ◌^◌, Bool, List, [], ◌∷◌, Option, Some, None, nat_lt, if◌then◌else◌}
+use Rattle.std.specs.Prelude.{ℕ, ◌+◌, ◌-◌, ◌*◌, ◌^◌, List, [], ◌∷◌, Option, Some, None, nat_lt, if◌then◌else◌}
 use Rattle.std.specs.Char.{is_ascii_digit}
 use Rattle.std.specs.Option.{option_map}
 use Rattle.gt_script.specs.declared.numbers.Number.{Number}
@@ -22,6 +22,11 @@ decimal_value (b ∷ bs) = digits_after 0 (b ∷ bs)
 -- a word of decimal digits as a number of any size
 unfoldable pub decimal_number : List ℕ → Option Number
 decimal_number word = option_map number_of (decimal_value word)
+
+-- a number that was read, where it is below a limit of at most 64 bits
+abbrev pub number_below : ℕ → Number → Option ℕ
+number_below limit (Small n) = if nat_lt n limit then Some n else None
+number_below limit Huge = None
 
 -- a number, where it is below a limit
 abbrev pub below : ℕ → ℕ → Option ℕ

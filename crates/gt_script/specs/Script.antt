@@ -1,19 +1,18 @@
 -- The script that bytes say, line by line, or their first fault (own).
-use Rattle.std.specs.Prelude.{ℕ, ◌+◌, ◌==◌, ◌||◌, ◌&&◌, not, Bool, List, [], ◌∷◌, ◌++◌, length, Option, Some, None, Result, Ok, Err, nat_lt, nat_le, take, count_by, if◌then◌else◌}
-use Rattle.std.specs.List.{list_any}
+use Rattle.std.specs.Prelude.{ℕ, ◌+◌, ◌==◌, ◌||◌, not, Bool, List, [], ◌∷◌, ◌++◌, length, Option, Some, None, Result, Ok, Err, nat_lt, take, count_by, is_none, ◌^◌, if◌then◌else◌}
 use Rattle.std.specs.Str.{is_utf8}
 use Rattle.std.specs.Str.Lossy.{utf8_valid_len}
 use Rattle.std.specs.Str.Lines.{lines as lines_in}
-use Rattle.gt_types.specs.declared.DomId.{DomId}
+use Rattle.gt_types.specs.Config.{is_taken, domain_fault}
 use Rattle.gt_types.specs.declared.TypeId.{TypeId}
 use Rattle.gt_types.specs.declared.config.DomainConfig.{DomainConfig}
 use Rattle.gt_script.specs.Words.{words}
+use Rattle.gt_script.specs.Numbers.{number_below}
 use Rattle.gt_script.specs.Fields.{◌>>=◌}
 use Rattle.gt_script.specs.Lines.{line_of}
 use Rattle.gt_script.specs.Types.{with_type}
 use Rattle.gt_script.specs.Contents.{Contents, empty}
 use Rattle.gt_script.specs.declared.numbers.Number.{Number}
-use Rattle.gt_script.specs.declared.numbers.Number.TheVariants.{Small, Huge}
 use Rattle.gt_script.specs.declared.calls.Action.{Action}
 use Rattle.gt_script.specs.declared.lines.TripleLine.{TripleLine}
 use Rattle.gt_script.specs.declared.lines.DomainLine.{DomainLine}
@@ -26,22 +25,13 @@ use Rattle.gt_script.specs.declared.faults.Fault.{Fault}
 abbrev pub is_empty : {X : Type 0} → List X → Bool
 is_empty xs = length xs == 0
 
--- a number from low to high
-abbrev pub number_within : ℕ → ℕ → Number → Option ℕ
-number_within low high (Small n) = if nat_le low n && nat_le n high then Some n else None
-number_within low high Huge = None
-
--- some domain has this id
-abbrev pub has_domain : List DomainConfig → DomId → Bool
-has_domain domains id = list_any (λ d. d.id.0 == id.0) domains
-
--- the domain of a line within the limits of a domain
-unfoldable pub domain_within : DomainLine → TypeId → Option DomainConfig
-domain_within d label = do
-  id ← number_within 0 32751 d.id
-  frames ← number_within 1 64 d.frames
-  tables ← number_within 1 4 d.table_frames
-  version ← number_within 1 1 d.version
+-- the domain that a line writes, where its numbers are not larger than a domain's can be
+unfoldable pub domain_written : DomainLine → TypeId → Option DomainConfig
+domain_written d label = do
+  id ← number_below (2 ^ 16) d.id
+  frames ← number_below (2 ^ 32) d.frames
+  tables ← number_below (2 ^ 32) d.table_frames
+  version ← number_below (2 ^ 32) d.version
   Some (record { id = record { 0 = id }; label = label; frames = frames; table_frames = tables; version = version })
 
 -- triples come first, then domains, then steps
@@ -62,20 +52,20 @@ with_triple c t = or_config (do
   target ← with_type source.0 t.target
   Some (record c { types = target.0; triples = c.triples ++ record { source = source.1; target = target.1; perm = t.perm } ∷ [] }))
 
--- a script with one domain more
+-- a script with one domain more, which has no fault behind those before it
 unfoldable pub with_domain : Contents → DomainLine → Result Contents FaultKind
 with_domain c d = or_config (do
   label ← with_type c.types d.type_name
-  domain ← domain_within d label.1
-  if nat_lt (length c.domains) 16 && not (has_domain c.domains domain.id)
-      then Some (record c { types = label.0; domains = c.domains ++ domain ∷ [] }) else None)
+  domain ← domain_written d label.1
+  if is_none (domain_fault c.domains domain)
+    then Some (record c { types = label.0; domains = c.domains ++ domain ∷ [] }) else None)
 
--- a script with one step more, on line n
+-- a script with one step more, on line n, of a domain that is configured
 unfoldable pub with_step : Contents → ℕ → Number → Action → Result Contents FaultKind
 with_step c n number action = or_config (do
-  id ← number_within 0 65535 number
-  if has_domain c.domains (record { 0 = id })
-      then Some (record c { steps = c.steps ++ record { line = n; dom = record { 0 = id }; action = action } ∷ [] }) else None)
+  id ← number_below (2 ^ 16) number
+  if is_taken c.domains (record { 0 = id })
+    then Some (record c { steps = c.steps ++ record { line = n; dom = record { 0 = id }; action = action } ∷ [] }) else None)
 
 abbrev pub with_placed : Contents → ℕ → Line → Result Contents FaultKind
 with_placed c n (line.Triple t) = with_triple c t

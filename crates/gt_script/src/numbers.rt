@@ -1,6 +1,6 @@
 //! What a word says as a number.
 ghost use Rattle.std.specs.Prelude.{◌≡◌, ℕ, ◌<◌, ◌+◌, ◌*◌};
-ghost use Rattle.gt_script.specs.Numbers.{number_of, decimal_number, below as value_below};
+ghost use Rattle.gt_script.specs.Numbers.{number_of, decimal_number, number_below, below as value_below};
 
 /// A decimal number of any size: exact, or that it has more than 64 bits.
 #[derive(Clone, Copy, Debug, PartialEq, Eq)]
@@ -28,7 +28,8 @@ impl Number {
 
     /// The number, where it is below the limit.
     pub fn below(self, limit: u64) -> Option<u64>
-        ensures { (n : ℕ) → self ≡ number_of n → result ≡ value_below limit n }
+        ensures number { result ≡ number_below limit self }
+        ensures value { (n : ℕ) → self ≡ number_of n → result ≡ value_below limit n }
     {
         match self {
             Number::Small(n) if n < limit => Some(n),

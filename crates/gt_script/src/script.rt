@@ -1,7 +1,7 @@
 //! A script: what stands on its lines, in order.
 ghost use Rattle.std.specs.Prelude.{◌≡◌, ◌==◌, count_by};
-ghost use Rattle.std.specs.List.{list_any};
-ghost use Rattle.gt_script.specs.Script.{has_domain, number_within, domain_within, script_of, script_in};
+ghost use Rattle.gt_types.specs.Config.{is_taken};
+ghost use Rattle.gt_script.specs.Script.{domain_written, script_of, script_in};
 ghost use Rattle.gt_script.specs.Outcomes.{Says};
 
 use crate::calls::Action;
@@ -81,32 +81,22 @@ impl AddError {
 }
 
 fn is_domain(domains: &[DomainConfig], id: DomId) -> bool
-    ensures { result ≡ has_domain domains.now id }
+    ensures { result ≡ is_taken domains.now id }
 {
     domains.iter().any(|d| d.id == id)
 }
 
-// The number, where it is one from low to high.
-fn within(number: Number, low: u64, high: u64) -> Option<u64>
-    ensures { result ≡ number_within low high number }
-{
-    match number {
-        Number::Small(n) if low <= n && n <= high => Some(n),
-        _ => None,
-    }
-}
-
-// The domain of a line, where its numbers are within the limits of a domain.
-#[tactic(auto, unfolding(crate::specs::Script::domain_within))]
-fn domain_within(line: DomainLine, label: TypeId) -> Option<DomainConfig>
-    ensures { result ≡ domain_within line.entry label }
+// The domain that a line writes, where its numbers are not larger than a domain's can be.
+#[tactic(auto, unfolding(crate::specs::Script::domain_written))]
+fn domain_written(line: &DomainLine, label: TypeId) -> Option<DomainConfig>
+    ensures { result ≡ domain_written line.now label }
 {
     Some(DomainConfig {
-        id: DomId(within(line.id, 0, 32751)? as u16),
+        id: DomId(line.id.below(1 << 16)? as u16),
         label,
-        frames: within(line.frames, 1, 64)? as u32,
-        table_frames: within(line.table_frames, 1, 4)? as u32,
-        version: within(line.version, 1, 1)? as u32,
+        frames: line.frames.below(1 << 32)? as u32,
+        table_frames: line.table_frames.below(1 << 32)? as u32,
+        version: line.version.below(1 << 32)? as u32,
     })
 }
 
@@ -184,10 +174,10 @@ impl<'a> Script<'a> {
         let Some(label) = self.types.number(line.type_name.as_bytes())? else {
             return Err(AddError::Fault(FaultKind::Config));
         };
-        let Some(domain) = domain_within(line, label) else {
+        let Some(domain) = domain_written(&line, label) else {
             return Err(AddError::Fault(FaultKind::Config));
         };
-        if self.domains.len() >= 16 || is_domain(self.domains.as_slice(), domain.id) {
+        if domain.fault(self.domains.as_slice()).is_some() {
             return Err(AddError::Fault(FaultKind::Config));
         }
         self.domains.push(domain).map_err(AllocError::from)?;
@@ -203,7 +193,7 @@ impl<'a> Script<'a> {
     ) -> Result<Script<'a>, AddError>
         ensures { Adds result (with_step self.entry line id action.entry) }
     {
-        let Some(id) = within(id, 0, 65535) else {
+        let Some(id) = id.below(1 << 16) else {
             return Err(AddError::Fault(FaultKind::Config));
         };
         let dom = DomId(id as u16);
