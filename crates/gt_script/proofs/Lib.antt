@@ -1,3 +1,5 @@
 pub mod BytesLemmas
+pub mod FaultLemmas
+pub mod LawLemmas
 pub mod ScriptLemmas
 pub mod TypeLemmas

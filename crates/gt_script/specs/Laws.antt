@@ -1,8 +1,10 @@
 -- What the parts of a script are, said without the order of reading (own).
-use Rattle.std.specs.Prelude.{◌≡◌, ◌≢◌, ◌≤◌, ◌+◌, ◌-◌, ◌^◌, ◌⊎◌, ℕ, List, [], length, take, Option, Some, None, Ok, Err, IsSome, IsTrue, All, AllPairs, position, slice_get}
+use Rattle.std.specs.Prelude.{◌≡◌, ◌≢◌, ◌≤◌, ◌<◌, ◌+◌, ◌^◌, ◌⊎◌, ℕ, List, [], length, take, Option, Some, None, Ok, Err, IsSome, IsTrue, All, AllPairs, position, slice_get}
 use Rattle.std.specs.Option.{option_map}
 use Rattle.std.specs.List.{filter_map, enumerate_from}
-use Rattle.std.specs.Str.{bytes_eq}
+use Rattle.std.specs.Str.{bytes_eq, IsUtf8}
+use Rattle.std.specs.Str.Lines.{lines as lines_in}
+use Rattle.std.specs.Str.Lossy.{utf8_valid_len}
 use Rattle.gt_types.specs.Config.{is_taken, AreFaultless}
 use Rattle.gt_types.specs.declared.TypeId.{TypeId}
 use Rattle.gt_types.specs.declared.rights.Triple.{Triple}
@@ -12,12 +14,15 @@ use Rattle.gt_script.specs.Numbers.{number_below}
 use Rattle.gt_script.specs.Fields.{◌>>=◌}
 use Rattle.gt_script.specs.Lines.{line_of}
 use Rattle.gt_script.specs.Contents.{Contents, empty}
-use Rattle.gt_script.specs.Script.{domain_written, with_words, with_lines}
+use Rattle.gt_script.specs.Script.{domain_written, with_words, with_lines, line_after}
 use Rattle.gt_script.specs.declared.lines.Line.{Line}
 use Rattle.gt_script.specs.declared.lines.Line.TheVariants as line
 use Rattle.gt_script.specs.declared.script.Step.{Step}
 use Rattle.gt_script.specs.declared.faults.Fault.{Fault}
-use Rattle.gt_script.specs.declared.faults.FaultKind.TheVariants.{Syntax, Config}
+use Rattle.gt_script.specs.declared.faults.FaultKind.TheVariants.{Limit, Utf8, Syntax, Config}
+use Rattle.gt_script.specs.declared.faults.ScriptError.{ScriptError}
+use Rattle.gt_script.specs.declared.faults.ScriptError.TheVariants.{Memory}
+use Rattle.gt_script.specs.declared.faults.ScriptError.TheVariants as errors
 
 -- what the lines say, each with its number
 abbrev pub said : ℕ → List (List ℕ) → List (ℕ × Line)
@@ -69,22 +74,35 @@ pub record IsScriptOf (lines : List (List ℕ)) (c : Contents) : Type 0 where
   pub some_triple : 1 ≤ length c.triples
   pub some_domain : 1 ≤ length c.domains
 
--- the fault is that of a line behind lines without fault
+-- the fault is that of the line at this place, counted from 0, and the lines before it have none
 pub record IsFaultOfLine (lines : List (List ℕ)) (f : Fault) : Type 0 where
-  pub before : Contents
+  pub place : ℕ
   pub line : List ℕ
-  pub some : 1 ≤ f.line
-  pub there : slice_get lines (f.line - 1) ≡ Some line
-  pub earlier : with_lines empty 1 (take (f.line - 1) lines) ≡ Ok before
+  pub before : Contents
+  pub number : f.line ≡ place + 1
+  pub there : slice_get lines place ≡ Some line
+  pub earlier : with_lines empty 1 (take place lines) ≡ Ok before
   pub here : with_words before f.line (words line) ≡ Err f.kind
 
--- no line has a fault, and what the script lacks is named behind the last
+-- no line has a fault, and what the script lacks is named behind the last: syntax where nothing is allowed, config where no domain is configured
 pub record IsFaultOfEnd (lines : List (List ℕ)) (f : Fault) : Type 0 where
   pub all : Contents
   pub earlier : with_lines empty 1 lines ≡ Ok all
-  pub end : f.line ≡ length lines + 1
+  pub number : f.line ≡ length lines + 1
   pub lacks : ((all.triples ≡ []) × (f.kind ≡ Syntax)) ⊎ ((all.triples ≢ []) × (all.domains ≡ []) × (f.kind ≡ Config))
 
--- the fault is the first of these lines
+-- the first fault of the lines
 abbrev pub IsFirstFault : List (List ℕ) → Fault → Type 0
 IsFirstFault lines f = IsFaultOfLine lines f ⊎ IsFaultOfEnd lines f
+
+-- the first fault of the bytes: too many, no text, or the first fault of the lines
+abbrev pub IsFaultOf : List ℕ → Fault → Type 0
+IsFaultOf bytes f =
+    ((f ≡ record { line = 1; kind = Limit }) × (1048576 < length bytes))
+    ⊎ (((f ≡ record { line = line_after (take (utf8_valid_len bytes) bytes); kind = Utf8 }) × (length bytes ≤ 1048576) × ¬ IsUtf8 bytes)
+    ⊎ ((length bytes ≤ 1048576) × IsUtf8 bytes × IsFirstFault (lines_in bytes) f))
+
+-- memory ran out, or this is the first fault
+abbrev pub Stands : List ℕ → ScriptError → Type 0
+Stands bytes Memory = Unit {0}
+Stands bytes (errors.Fault f) = IsFaultOf bytes f

@@ -1,8 +1,10 @@
 //! A script: what stands on its lines, in order.
-ghost use Rattle.std.specs.Prelude.{◌≡◌, ◌==◌, count_by};
+ghost use Rattle.std.specs.Prelude.{◌≡◌, ◌==◌, ℕ, List, take, count_by, IfOk, IfErr};
+ghost use Rattle.std.specs.Str.Lines.{lines as lines_in};
 ghost use Rattle.gt_types.specs.Config.{is_taken};
 ghost use Rattle.gt_script.specs.Script.{domain_written, script_of, script_in};
 ghost use Rattle.gt_script.specs.Outcomes.{Says};
+ghost use Rattle.gt_script.specs.Laws.{IsScriptOf, Stands};
 
 use crate::calls::Action;
 use crate::faults::{Fault, FaultKind, ScriptError};
@@ -302,23 +304,39 @@ fn newlines(bytes: &[u8]) -> usize
     bytes.iter().filter(|b| **b == b'\n').count()
 }
 
-/// The script that the bytes say, or their first fault: too long, no UTF-8, or the first line
-/// that is wrong.
+// The bytes as text, if they are not too many.
 #[tactic(auto, unfolding(crate::specs::Script::script_in))]
-pub fn parse<'a>(alloc: Global, bytes: &'a [u8]) -> Result<Script<'a>, ScriptError>
-    ensures { Says result (script_in bytes.entry.now) }
+fn text_of<'a>(bytes: &'a [u8]) -> Result<&'a str, Fault>
+    ensures text { IfOk result (λ text. (text.now ≡ bytes.entry.now) × (script_in bytes.entry.now ≡ script_of text.now)) }
+    ensures fault { IfErr result (λ fault. script_in bytes.entry.now ≡ Err fault) }
 {
     if bytes.len() > MOST_BYTES {
-        return Err(ScriptError::Fault(Fault {
+        return Err(Fault {
             line: 1,
             kind: FaultKind::Limit,
-        }));
+        });
     }
     match str::from_utf8(bytes) {
-        Ok(text) => of_text(alloc, text),
-        Err(e) => Err(ScriptError::Fault(Fault {
+        Ok(text) => Ok(text),
+        Err(e) => Err(Fault {
             line: newlines(&bytes[..e.valid_up_to()]) + 1,
             kind: FaultKind::Utf8,
-        })),
+        }),
+    }
+}
+
+/// The script that the bytes say, or their first fault: too many bytes, then no UTF-8, then the
+/// first line that is wrong, then what the whole lacks.
+pub fn parse<'a>(alloc: Global, bytes: &'a [u8]) -> Result<Script<'a>, ScriptError>
+    ensures script { Says result (script_in bytes.entry.now) }
+    ensures holds { IfOk result (λ s. IsScriptOf (lines_in bytes.entry.now) s) }
+    ensures fault { IfErr result (λ e. Stands bytes.entry.now e) }
+
+    // What is read up to one byte past the limit decides for all that there is.
+    ensures beginning { (all : List ℕ) → bytes.entry.now ≡ take 1048577 all → Says result (script_in all) }
+{
+    match text_of(bytes) {
+        Ok(text) => of_text(alloc, text),
+        Err(fault) => Err(ScriptError::Fault(fault)),
     }
 }

@@ -1,18 +1,23 @@
-use Rattle.std.proofs.Common.{◌≡◌, ◌+◌, take, arith, sym, refl, ◌∙◌}
-use Rattle.std.specs.Str.Lossy.{utf8_valid_len}
-use Rattle.gt_script.specs.Script.{line_after}
-use Rattle.gt_script.proofs.BytesLemmas.{script_in-text, script_in-bad}
+use Rattle.std.proofs.Common.{sym, subst, Err}
+use Rattle.gt_script.specs.Outcomes.{Says}
+use Rattle.gt_script.specs.declared.faults.ScriptError.TheVariants as errors
+use Rattle.gt_script.proofs.FaultLemmas.{says-script, says-fault, says-all}
 use Rattle.gt_script.proofs.script.parse.Goals as goal
 
-pub returns-in-Ok : goal.returns-in-Ok
-returns-in-Ok c =
-    let said = rw c.in-Ok.ensures.cases.0 at c.of_text.ensures in
-    rw (script_in-text c.args.bytes.now (omega arith) c.in-Ok.ensures.cases.1) said
+pub returns-in-Ok-clause-holds : goal.returns-in-Ok-clause-holds
+returns-in-Ok-clause-holds c =
+    says-script c.args.bytes.now c.of_text.result (subst (λ said. Says c.of_text.result said) (sym c.in-Ok.ensures.text.1) c.of_text.ensures)
 
-pub returns-in-Err : goal.returns-in-Err
-returns-in-Err c =
-    let bytes = c.args.bytes.now in
-    let valid : utf8_valid_len bytes ≡ c.valid_up_to.result = sym (c.valid_up_to.ensures ∙ c.in-Err.ensures.valid_len) in
-    let said = script_in-bad bytes (omega arith) c.in-Err.ensures.cases.0 in
-    let counted : line_after (take c.valid_up_to.result bytes) ≡ c.newlines.result + 1 = simp (c.newlines.ensures) refl in
-    said ∙ rw (valid, counted) refl
+pub returns-in-Ok-clause-fault : goal.returns-in-Ok-clause-fault
+returns-in-Ok-clause-fault c =
+    says-fault c.args.bytes.now c.of_text.result (subst (λ said. Says c.of_text.result said) (sym c.in-Ok.ensures.text.1) c.of_text.ensures)
+
+pub returns-in-Ok-clause-beginning : goal.returns-in-Ok-clause-beginning
+returns-in-Ok-clause-beginning c = λ all e.
+    says-all c.args.bytes.now all c.of_text.result e (subst (λ said. Says c.of_text.result said) (sym c.in-Ok.ensures.text.1) c.of_text.ensures)
+
+pub returns-in-Err-clause-fault : goal.returns-in-Err-clause-fault
+returns-in-Err-clause-fault c = says-fault c.args.bytes.now (Err (errors.Fault c.in-Err.fault)) c.in-Err.ensures.fault
+
+pub returns-in-Err-clause-beginning : goal.returns-in-Err-clause-beginning
+returns-in-Err-clause-beginning c = λ all e. says-all c.args.bytes.now all (Err (errors.Fault c.in-Err.fault)) e c.in-Err.ensures.fault

@@ -1,0 +1,257 @@
+-- What a script's parts are, line by line.
+use Rattle.std.proofs.Common.{◌≡◌, ◌≢◌, ◌⊎◌, inl, inr, ℕ, zero, suc, ◌+◌, ◌-◌, ◌^◌, ◌<◌, ◌≤◌, Bool, true, false, List, [], ◌∷◌, ◌++◌, length, take, Option, Some, None, Result, Ok, Err, IsSome, IsTrue, All, AllPairs, refl, sym, ap, ◌∙◌, subst, arith, cond, append_assoc, get_or, ◌==◌}
+use Rattle.std.specs.List.{filter_map, enumerate_from, cons_option, slice_get}
+use Rattle.std.specs.Option.{option_map, option_to_list, is_none}
+use Rattle.std.proofs.lemmas.Bool.{cases_lt}
+use Rattle.std.proofs.Math.Seq.{take-append_seam, get_or-append_seam}
+use Rattle.std.proofs.lemmas.List.{append-nil, length-append, get_or_append_left, take-append-le}
+use Rattle.std.proofs.lemmas.List.Elements.{All-nil, All-cons, All-push, All-weaker}
+use Rattle.std.proofs.lemmas.List.Folds.{list_any-append}
+use Rattle.std.proofs.lemmas.Option.{slice_get-get_or, slice_get_within, get_or_from_slice_get, same_Some}
+use Rattle.gt_types.specs.Config.{is_taken, domain_fault, AreFaultless}
+use Rattle.gt_types.specs.declared.DomId.{DomId}
+use Rattle.gt_types.specs.declared.TypeId.{TypeId}
+use Rattle.gt_types.specs.declared.rights.Triple.{Triple}
+use Rattle.gt_types.specs.declared.config.DomainConfig.{DomainConfig}
+use Rattle.gt_script.specs.Words.{words}
+use Rattle.gt_script.specs.Numbers.{number_below}
+use Rattle.gt_script.specs.Fields.{◌>>=◌}
+use Rattle.gt_script.specs.Lines.{line_of}
+use Rattle.gt_script.specs.Types.{with_type}
+use Rattle.gt_script.specs.Contents.{Contents, empty}
+use Rattle.gt_script.specs.Script.{is_misplaced, or_config, domain_written, with_triple, with_domain, with_step, with_placed, with_line, with_words, with_lines}
+use Rattle.gt_script.specs.Laws.{said, type_number, triple_in, domain_in, step_on, IsLine}
+use Rattle.gt_script.specs.declared.numbers.Number.{Number}
+use Rattle.gt_script.specs.declared.calls.Action.{Action}
+use Rattle.gt_script.specs.declared.lines.TripleLine.{TripleLine}
+use Rattle.gt_script.specs.declared.lines.DomainLine.{DomainLine}
+use Rattle.gt_script.specs.declared.lines.Line.{Line}
+use Rattle.gt_script.specs.declared.lines.Line.TheVariants as line
+use Rattle.gt_script.specs.declared.script.Step.{Step}
+use Rattle.gt_script.specs.declared.faults.FaultKind.{FaultKind}
+use Rattle.gt_script.specs.declared.faults.FaultKind.TheVariants.{Syntax, Config}
+use Rattle.gt_script.specs.declared.faults.Fault.{Fault}
+use Rattle.gt_script.proofs.TypeLemmas.{Grown, Grown-refl, Grown-trans, Typed, with_type-Typed}
+
+-- taking apart what gave a value
+
+bind-Some : {A B : Type 0} (o : Option A) (f : A → Option B) (y : B) → (o >>= f) ≡ Some y → (x : A) × (o ≡ Some x) × (f x ≡ Some y)
+bind-Some None f y e = absurd cc
+bind-Some (Some x) f y e = (x, refl, e)
+
+or_config-Ok : (o : Option Contents) (d : Contents) → or_config o ≡ Ok d → o ≡ Some d
+or_config-Ok None d e = absurd cc
+or_config-Ok (Some c) d e = let same : c ≡ d = cc in ap Some same
+
+then-Some : {A : Type 0} (b : Bool) (x y : A) → cond b (Some x) None ≡ Some y → (b ≡ true) × (x ≡ y)
+then-Some true x y e = (refl, cc)
+then-Some false x y e = absurd cc
+
+not-fault : {A E : Type 0} (b : Bool) (e : E) (r : Result A E) (x : A) → cond b (Err e) r ≡ Ok x → r ≡ Ok x
+not-fault true e r x h = absurd cc
+not-fault false e r x h = h
+
+none-is : {A : Type 0} (o : Option A) → is_none o ≡ true → o ≡ None
+none-is None h = refl
+none-is (Some x) h = absurd cc
+
+-- a domain without fault behind those before it
+
+faultless-push : (ds : List DomainConfig) (d : DomainConfig) → AreFaultless ds → domain_fault ds d ≡ None → AreFaultless (ds ++ d ∷ [])
+faultless-push ds d f h = record {
+  each = λ at x there. elim (cases_lt at (length ds)) [
+    | inl below ↦
+      let same : slice_get ds at ≡ Some x = slice_get-get_or ds at x below ∙ ap Some (sym (get_or_append_left ds (d ∷ []) x at below) ∙ get_or_from_slice_get (ds ++ d ∷ []) at x x there) in
+      let front : take at (ds ++ d ∷ []) ≡ take at ds = take-append-le at ds (d ∷ []) (omega arith) in
+      ap (λ (xs : List DomainConfig). domain_fault xs x) front ∙ f.each at x same
+    | inr past ↦
+      let within = slice_get_within (ds ++ d ∷ []) at x there in
+      let last : at ≡ length ds = omega (arith, length-append ds (d ∷ [])) in
+      let here : d ≡ x = sym (get_or-append_seam ds d [] x) ∙ ap (λ k. get_or (ds ++ d ∷ []) k x) (sym last) ∙ get_or_from_slice_get (ds ++ d ∷ []) at x x there in
+      let front : take at (ds ++ d ∷ []) ≡ ds = ap (λ k. take k (ds ++ d ∷ [])) last ∙ take-append_seam ds (d ∷ []) in
+      ap (λ (xs : List DomainConfig). domain_fault xs x) front ∙ ap (domain_fault ds) (sym here) ∙ h
+  ]
+}
+
+pub faultless-none : AreFaultless []
+faultless-none = record { each = λ at x there. absurd (omega (arith, slice_get_within [] at x there)) }
+
+-- a domain stays configured
+taken-push : (ds : List DomainConfig) (d : DomainConfig) (id : DomId) → IsTrue (is_taken ds id) → IsTrue (is_taken (ds ++ d ∷ []) id)
+taken-push ds d id h = list_any-append (λ (e : DomainConfig). e.id.0 == id.0) ds (d ∷ []) ∙ rw h refl
+
+-- what the line l, if it says one, adds to a script as line n
+record Adds (n : ℕ) (l : Option Line) (c d : Contents) : Type 0 where
+  types : Grown c.types d.types
+  triples : (types : List (List ℕ)) → Grown d.types types → d.triples ≡ c.triples ++ option_to_list (l >>= triple_in types)
+  domains : (types : List (List ℕ)) → Grown d.types types → d.domains ≡ c.domains ++ option_to_list (l >>= domain_in types)
+  steps : d.steps ≡ c.steps ++ option_to_list (l >>= step_on n)
+  faultless : AreFaultless c.domains → AreFaultless d.domains
+  configured : All (λ (s : Step). IsTrue (is_taken c.domains s.dom)) c.steps → All (λ (s : Step). IsTrue (is_taken d.domains s.dom)) d.steps
+
+adds-nothing : (n : ℕ) (c : Contents) → Adds n None c c
+adds-nothing n c = record {
+  types = Grown-refl c.types;
+  triples = λ types g. sym (append-nil c.triples);
+  domains = λ types g. sym (append-nil c.domains);
+  steps = sym (append-nil c.steps);
+  faultless = λ h. h;
+  configured = λ h. h
+}
+
+bind-at : {A B : Type 0} (o : Option A) (x : A) (f : A → Option B) → o ≡ Some x → (o >>= f) ≡ f x
+bind-at o x f e = ap (λ (q : Option _). q >>= f) e
+
+adds-triple-of : (n : ℕ) (c d : Contents) (t : TripleLine) (source target : List (List ℕ) × TypeId) → with_type c.types t.source ≡ Some source → with_type source.0 t.target ≡ Some target
+    → record c { types = target.0; triples = c.triples ++ record { source = source.1; target = target.1; perm = t.perm } ∷ [] } ≡ d → Adds n (Some (line.Triple t)) c d
+adds-triple-of n c d t source target s r same =
+    let a = with_type-Typed c.types t.source source s in
+    let b = with_type-Typed source.0 t.target target r in
+    subst (λ (x : Contents). Adds n (Some (line.Triple t)) c x) same (record {
+      types = Grown-trans c.types source.0 target.0 a.grown b.grown;
+      triples = λ types g.
+        let first : type_number types t.source ≡ Some source.1 = g.kept _ _ (b.grown.kept _ _ a.number) in
+        let second : type_number types t.target ≡ Some target.1 = g.kept _ _ b.number in
+        let said : triple_in types (line.Triple t) ≡ Some (record { source = source.1; target = target.1; perm = t.perm }) = bind-at _ _ _ first ∙ bind-at _ _ _ second in
+        ap (λ (o : Option Triple). c.triples ++ option_to_list o) (sym said);
+      domains = λ types g. sym (append-nil c.domains);
+      steps = sym (append-nil c.steps);
+      faultless = λ h. h;
+      configured = λ h. h
+    })
+
+adds-triple : (n : ℕ) (c d : Contents) (t : TripleLine) → with_triple c t ≡ Ok d → Adds n (Some (line.Triple t)) c d
+unfolding with_triple
+adds-triple n c d t e =
+    let p = bind-Some _ _ d (or_config-Ok _ d e) in
+    let q = bind-Some _ _ d p.2 in
+    adds-triple-of n c d t p.0 q.0 p.1 q.1 (same_Some _ _ q.2)
+
+adds-domain-of : (n : ℕ) (c d : Contents) (l : DomainLine) (label : List (List ℕ) × TypeId) (domain : DomainConfig) → with_type c.types l.type_name ≡ Some label → domain_written l label.1 ≡ Some domain
+    → is_none (domain_fault c.domains domain) ≡ true → record c { types = label.0; domains = c.domains ++ domain ∷ [] } ≡ d → Adds n (Some (line.Domain l)) c d
+adds-domain-of n c d l label domain t w fine same =
+    let a = with_type-Typed c.types l.type_name label t in
+    subst (λ (x : Contents). Adds n (Some (line.Domain l)) c x) same (record {
+      types = a.grown;
+      triples = λ types g. sym (append-nil c.triples);
+      domains = λ types g.
+        let number : type_number types l.type_name ≡ Some label.1 = g.kept _ _ a.number in
+        let said : domain_in types (line.Domain l) ≡ Some domain = bind-at _ _ _ number ∙ w in
+        ap (λ (o : Option DomainConfig). c.domains ++ option_to_list o) (sym said);
+      steps = sym (append-nil c.steps);
+      faultless = λ h. faultless-push c.domains domain h (none-is _ fine);
+      configured = λ h. All-weaker _ _ (λ s k. taken-push c.domains domain s.dom k) c.steps h
+    })
+
+adds-domain : (n : ℕ) (c d : Contents) (l : DomainLine) → with_domain c l ≡ Ok d → Adds n (Some (line.Domain l)) c d
+unfolding with_domain
+adds-domain n c d l e =
+    let p = bind-Some _ _ d (or_config-Ok _ d e) in
+    let q = bind-Some _ _ d p.2 in
+    let r = then-Some _ _ d q.2 in
+    adds-domain-of n c d l p.0 q.0 p.1 q.1 r.0 r.1
+
+adds-step-of : (n : ℕ) (c d : Contents) (number : Number) (action : Action) (id : ℕ) → number_below (2 ^ 16) number ≡ Some id → is_taken c.domains (record { 0 = id }) ≡ true
+    → record c { steps = c.steps ++ record { line = n; dom = record { 0 = id }; action = action } ∷ [] } ≡ d → Adds n (Some (line.Body number action)) c d
+adds-step-of n c d number action id small taken same =
+    subst (λ (x : Contents). Adds n (Some (line.Body number action)) c x) same (record {
+      types = Grown-refl c.types;
+      triples = λ types g. sym (append-nil c.triples);
+      domains = λ types g. sym (append-nil c.domains);
+      steps =
+        let said : step_on n (line.Body number action) ≡ Some (record { line = n; dom = record { 0 = id }; action = action }) = bind-at _ _ _ small in
+        ap (λ (o : Option Step). c.steps ++ option_to_list o) (sym said);
+      faultless = λ h. h;
+      configured = λ h. All-push (λ (s : Step). IsTrue (is_taken c.domains s.dom)) c.steps _ h taken
+    })
+
+adds-step : (n : ℕ) (c d : Contents) (number : Number) (action : Action) → with_step c n number action ≡ Ok d → Adds n (Some (line.Body number action)) c d
+unfolding with_step
+adds-step n c d number action e =
+    let p = bind-Some _ _ d (or_config-Ok _ d e) in
+    let r = then-Some _ _ d p.2 in
+    adds-step-of n c d number action p.0 p.1 r.0 r.1
+
+adds-placed : (n : ℕ) (c d : Contents) (l : Line) → with_placed c n l ≡ Ok d → Adds n (Some l) c d
+adds-placed n c d (line.Triple t) e = adds-triple n c d t e
+adds-placed n c d (line.Domain l) e = adds-domain n c d l e
+adds-placed n c d (line.Body number action) e = adds-step n c d number action e
+
+adds-line : (n : ℕ) (c d : Contents) (l : Line) → with_line c n l ≡ Ok d → Adds n (Some l) c d
+unfolding with_line
+adds-line n c d l e = adds-placed n c d l (not-fault _ _ _ d e)
+
+-- a line that adds something without fault is blank or says something
+record Said (n : ℕ) (ws : List (List ℕ)) (c d : Contents) : Type 0 where
+  readable : (ws ≡ []) ⊎ IsSome (line_of ws)
+  adds : Adds n (line_of ws) c d
+
+said-some : (n : ℕ) (w : List ℕ) (ws : List (List ℕ)) (c d : Contents) (o : Option Line) → line_of (w ∷ ws) ≡ o → (let r : Result Contents FaultKind = elim o [ None ↦ Err Syntax | Some l ↦ with_line c n l ] in r ≡ Ok d) → Said n (w ∷ ws) c d
+said-some n w ws c d None p e = absurd cc
+said-some n w ws c d (Some l) p e = record {
+  readable = inr (subst IsSome (sym p) refl);
+  adds = subst (λ (o : Option Line). Adds n o c d) (sym p) (adds-line n c d l e)
+}
+
+said-words : (n : ℕ) (ws : List (List ℕ)) (c d : Contents) → with_words c n ws ≡ Ok d → Said n ws c d
+unfolding with_words
+said-words n [] c d e = let same : c ≡ d = cc in record { readable = inl refl; adds = subst (λ (x : Contents). Adds n None c x) same (adds-nothing n c) }
+said-words n (w ∷ ws) c d e = said-some n w ws c d (line_of (w ∷ ws)) refl e
+
+-- what the lines from number n on add to a script
+pub record Extends (n : ℕ) (ls : List (List ℕ)) (c d : Contents) : Type 0 where
+  pub readable : All IsLine ls
+  pub types : Grown c.types d.types
+  pub triples : (types : List (List ℕ)) → Grown d.types types → d.triples ≡ c.triples ++ filter_map (λ l. triple_in types l.1) (said n ls)
+  pub domains : (types : List (List ℕ)) → Grown d.types types → d.domains ≡ c.domains ++ filter_map (λ l. domain_in types l.1) (said n ls)
+  pub steps : d.steps ≡ c.steps ++ filter_map (λ l. step_on l.0 l.1) (said n ls)
+  pub faultless : AreFaultless c.domains → AreFaultless d.domains
+  pub configured : All (λ (s : Step). IsTrue (is_taken c.domains s.dom)) c.steps → All (λ (s : Step). IsTrue (is_taken d.domains s.dom)) d.steps
+
+cons-list : {X : Type 0} (o : Option X) (xs : List X) → cons_option o xs ≡ option_to_list o ++ xs
+cons-list None xs = refl
+cons-list (Some x) xs = refl
+
+filter-cons : {X : Type 0} (g : ℕ → Line → Option X) (n : ℕ) (o : Option Line) (xs : List (ℕ × Line))
+    → filter_map (λ l. g l.0 l.1) (cons_option (option_map (λ x. (n, x)) o) xs) ≡ option_to_list (o >>= g n) ++ filter_map (λ l. g l.0 l.1) xs
+filter-cons g n None xs = refl
+filter-cons g n (Some l) xs = cons-list (g n l) _
+
+joined : {X : Type 0} (a b e o f : List X) → b ≡ a ++ o → e ≡ b ++ f → e ≡ a ++ (o ++ f)
+joined a b e o f p q = q ∙ ap (λ xs. xs ++ f) p ∙ append_assoc a o f
+
+extends-cons : (n : ℕ) (l : List ℕ) (ls : List (List ℕ)) (c d e : Contents) → Said n (words l) c d → Extends (n + 1) ls d e → Extends n (l ∷ ls) c e
+extends-cons n l ls c d e a x =
+    let here = a.adds in
+    record {
+      readable = All-cons IsLine l ls a.readable x.readable;
+      types = Grown-trans c.types d.types e.types here.types x.types;
+      triples = λ types g. joined c.triples d.triples e.triples _ _ (here.triples types (Grown-trans _ _ _ x.types g)) (x.triples types g)
+        ∙ ap (λ (ts : List Triple). c.triples ++ ts) (sym (filter-cons (λ _ y. triple_in types y) n (line_of (words l)) (said (n + 1) ls)));
+      domains = λ types g. joined c.domains d.domains e.domains _ _ (here.domains types (Grown-trans _ _ _ x.types g)) (x.domains types g)
+        ∙ ap (λ (ds : List DomainConfig). c.domains ++ ds) (sym (filter-cons (λ _ y. domain_in types y) n (line_of (words l)) (said (n + 1) ls)));
+      steps = joined c.steps d.steps e.steps _ _ here.steps x.steps
+        ∙ ap (λ (ss : List Step). c.steps ++ ss) (sym (filter-cons step_on n (line_of (words l)) (said (n + 1) ls)));
+      faultless = λ h. x.faultless (here.faultless h);
+      configured = λ h. x.configured (here.configured h)
+    }
+
+extends-line : (n : ℕ) (l : List ℕ) (ls : List (List ℕ)) (c e : Contents) (r : Result Contents FaultKind) → with_words c n (words l) ≡ r
+    → ((d : Contents) → with_lines d (n + 1) ls ≡ Ok e → Extends (n + 1) ls d e)
+    → (let whole : Result Contents Fault = elim r [ Ok d ↦ with_lines d (n + 1) ls | Err kind ↦ Err (record { line = n; kind = kind }) ] in whole ≡ Ok e) → Extends n (l ∷ ls) c e
+extends-line n l ls c e (Ok d) p rest h = extends-cons n l ls c d e (said-words n (words l) c d p) (rest d h)
+extends-line n l ls c e (Err kind) p rest h = absurd cc
+
+pub with_lines-Extends : (n : ℕ) (ls : List (List ℕ)) (c e : Contents) → with_lines c n ls ≡ Ok e → Extends n ls c e
+with_lines-Extends n [] c e h =
+    let same : c ≡ e = cc in
+    subst (λ (x : Contents). Extends n [] c x) same (record {
+      readable = All-nil IsLine;
+      types = Grown-refl c.types;
+      triples = λ types g. sym (append-nil c.triples);
+      domains = λ types g. sym (append-nil c.domains);
+      steps = sym (append-nil c.steps);
+      faultless = λ k. k;
+      configured = λ k. k
+    })
+with_lines-Extends n (l ∷ ls) c e h = extends-line n l ls c e (with_words c n (words l)) refl (λ d. with_lines-Extends (n + 1) ls d e) h
