@@ -43,7 +43,7 @@ fault-later n l ls c d f p x = record {
   number = x.number ∙ omega arith;
   there = x.there;
   earlier = with_lines-first n l (take x.place ls) c d p ∙ x.earlier;
-  here = x.here
+  here = x.here;
 }
 
 fault-line : (n : ℕ) (l : List ℕ) (ls : List (List ℕ)) (c : Contents) (f : Fault) (r : Result Contents FaultKind) → with_words c n (words l) ≡ r
@@ -109,7 +109,7 @@ end-script ls c s false false h p q e =
       faultless = x.faultless faultless-none;
       configured = x.configured (λ k y past. absurd (omega arith));
       some_triple = empty-false c.triples p;
-      some_domain = empty-false c.domains q
+      some_domain = empty-false c.domains q;
     })
 
 script-by : (ls : List (List ℕ)) (s : Contents) (r : Result Contents Fault) → with_lines empty 1 ls ≡ r → completed_if_ok (length ls) r ≡ Ok s → IsScriptOf ls s

@@ -61,16 +61,16 @@ faultless-push : (ds : List DomainConfig) (d : DomainConfig) → AreFaultless ds
 faultless-push ds d f h = record {
   each = λ at x there. elim (cases_lt at (length ds)) [
     | inl below ↦
-      let same : slice_get ds at ≡ Some x = slice_get-get_or ds at x below ∙ ap Some (sym (get_or_append_left ds (d ∷ []) x at below) ∙ get_or_from_slice_get (ds ++ d ∷ []) at x x there) in
-      let front : take at (ds ++ d ∷ []) ≡ take at ds = take-append-le at ds (d ∷ []) (omega arith) in
-      ap (λ (xs : List DomainConfig). domain_fault xs x) front ∙ f.each at x same
+        let same : slice_get ds at ≡ Some x = slice_get-get_or ds at x below ∙ ap Some (sym (get_or_append_left ds (d ∷ []) x at below) ∙ get_or_from_slice_get (ds ++ d ∷ []) at x x there) in
+        let front : take at (ds ++ d ∷ []) ≡ take at ds = take-append-le at ds (d ∷ []) (omega arith) in
+        ap (λ (xs : List DomainConfig). domain_fault xs x) front ∙ f.each at x same
     | inr past ↦
-      let within = slice_get_within (ds ++ d ∷ []) at x there in
-      let last : at ≡ length ds = omega (arith, length-append ds (d ∷ [])) in
-      let here : d ≡ x = sym (get_or-append_seam ds d [] x) ∙ ap (λ k. get_or (ds ++ d ∷ []) k x) (sym last) ∙ get_or_from_slice_get (ds ++ d ∷ []) at x x there in
-      let front : take at (ds ++ d ∷ []) ≡ ds = ap (λ k. take k (ds ++ d ∷ [])) last ∙ take-append_seam ds (d ∷ []) in
-      ap (λ (xs : List DomainConfig). domain_fault xs x) front ∙ ap (domain_fault ds) (sym here) ∙ h
-  ]
+        let within = slice_get_within (ds ++ d ∷ []) at x there in
+        let last : at ≡ length ds = omega (arith, length-append ds (d ∷ [])) in
+        let here : d ≡ x = sym (get_or-append_seam ds d [] x) ∙ ap (λ k. get_or (ds ++ d ∷ []) k x) (sym last) ∙ get_or_from_slice_get (ds ++ d ∷ []) at x x there in
+        let front : take at (ds ++ d ∷ []) ≡ ds = ap (λ k. take k (ds ++ d ∷ [])) last ∙ take-append_seam ds (d ∷ []) in
+        ap (λ (xs : List DomainConfig). domain_fault xs x) front ∙ ap (domain_fault ds) (sym here) ∙ h
+  ];
 }
 
 pub faultless-none : AreFaultless []
@@ -96,7 +96,7 @@ adds-nothing n c = record {
   domains = λ types g. sym (append-nil c.domains);
   steps = sym (append-nil c.steps);
   faultless = λ h. h;
-  configured = λ h. h
+  configured = λ h. h;
 }
 
 bind-at : {A B : Type 0} (o : Option A) (x : A) (f : A → Option B) → o ≡ Some x → (o >>= f) ≡ f x
@@ -110,14 +110,14 @@ adds-triple-of n c d t source target s r same =
     subst (λ (x : Contents). Adds n (Some (line.Triple t)) c x) same (record {
       types = Grown-trans c.types source.0 target.0 a.grown b.grown;
       triples = λ types g.
-        let first : type_number types t.source ≡ Some source.1 = g.kept _ _ (b.grown.kept _ _ a.number) in
-        let second : type_number types t.target ≡ Some target.1 = g.kept _ _ b.number in
-        let said : triple_in types (line.Triple t) ≡ Some (record { source = source.1; target = target.1; perm = t.perm }) = bind-at _ _ _ first ∙ bind-at _ _ _ second in
-        ap (λ (o : Option Triple). c.triples ++ option_to_list o) (sym said);
+          let first : type_number types t.source ≡ Some source.1 = g.kept _ _ (b.grown.kept _ _ a.number) in
+          let second : type_number types t.target ≡ Some target.1 = g.kept _ _ b.number in
+          let said : triple_in types (line.Triple t) ≡ Some (record { source = source.1; target = target.1; perm = t.perm }) = bind-at _ _ _ first ∙ bind-at _ _ _ second in
+          ap (λ (o : Option Triple). c.triples ++ option_to_list o) (sym said);
       domains = λ types g. sym (append-nil c.domains);
       steps = sym (append-nil c.steps);
       faultless = λ h. h;
-      configured = λ h. h
+      configured = λ h. h;
     })
 
 adds-triple : (n : ℕ) (c d : Contents) (t : TripleLine) → with_triple c t ≡ Ok d → Adds n (Some (line.Triple t)) c d
@@ -135,12 +135,12 @@ adds-domain-of n c d l label domain t w fine same =
       types = a.grown;
       triples = λ types g. sym (append-nil c.triples);
       domains = λ types g.
-        let number : type_number types l.type_name ≡ Some label.1 = g.kept _ _ a.number in
-        let said : domain_in types (line.Domain l) ≡ Some domain = bind-at _ _ _ number ∙ w in
-        ap (λ (o : Option DomainConfig). c.domains ++ option_to_list o) (sym said);
+          let number : type_number types l.type_name ≡ Some label.1 = g.kept _ _ a.number in
+          let said : domain_in types (line.Domain l) ≡ Some domain = bind-at _ _ _ number ∙ w in
+          ap (λ (o : Option DomainConfig). c.domains ++ option_to_list o) (sym said);
       steps = sym (append-nil c.steps);
       faultless = λ h. faultless-push c.domains domain h (none-is _ fine);
-      configured = λ h. All-weaker _ _ (λ s k. taken-push c.domains domain s.dom k) c.steps h
+      configured = λ h. All-weaker _ _ (λ s k. taken-push c.domains domain s.dom k) c.steps h;
     })
 
 adds-domain : (n : ℕ) (c d : Contents) (l : DomainLine) → with_domain c l ≡ Ok d → Adds n (Some (line.Domain l)) c d
@@ -159,10 +159,10 @@ adds-step-of n c d number action id small taken same =
       triples = λ types g. sym (append-nil c.triples);
       domains = λ types g. sym (append-nil c.domains);
       steps =
-        let said : step_on n (line.Body number action) ≡ Some (record { line = n; dom = record { 0 = id }; action = action }) = bind-at _ _ _ small in
-        ap (λ (o : Option Step). c.steps ++ option_to_list o) (sym said);
+          let said : step_on n (line.Body number action) ≡ Some (record { line = n; dom = record { 0 = id }; action = action }) = bind-at _ _ _ small in
+          ap (λ (o : Option Step). c.steps ++ option_to_list o) (sym said);
       faultless = λ h. h;
-      configured = λ h. All-push (λ (s : Step). IsTrue (is_taken c.domains s.dom)) c.steps _ h taken
+      configured = λ h. All-push (λ (s : Step). IsTrue (is_taken c.domains s.dom)) c.steps _ h taken;
     })
 
 adds-step : (n : ℕ) (c d : Contents) (number : Number) (action : Action) → with_step c n number action ≡ Ok d → Adds n (Some (line.Body number action)) c d
@@ -190,7 +190,7 @@ said-some : (n : ℕ) (w : List ℕ) (ws : List (List ℕ)) (c d : Contents) (o 
 said-some n w ws c d None p e = absurd cc
 said-some n w ws c d (Some l) p e = record {
   readable = inr (subst IsSome (sym p) refl);
-  adds = subst (λ (o : Option Line). Adds n o c d) (sym p) (adds-line n c d l e)
+  adds = subst (λ (o : Option Line). Adds n o c d) (sym p) (adds-line n c d l e);
 }
 
 said-words : (n : ℕ) (ws : List (List ℕ)) (c d : Contents) → with_words c n ws ≡ Ok d → Said n ws c d
@@ -227,13 +227,13 @@ extends-cons n l ls c d e a x =
       readable = All-cons IsLine l ls a.readable x.readable;
       types = Grown-trans c.types d.types e.types here.types x.types;
       triples = λ types g. joined c.triples d.triples e.triples _ _ (here.triples types (Grown-trans _ _ _ x.types g)) (x.triples types g)
-        ∙ ap (λ (ts : List Triple). c.triples ++ ts) (sym (filter-cons (λ _ y. triple_in types y) n (line_of (words l)) (said (n + 1) ls)));
+          ∙ ap (λ (ts : List Triple). c.triples ++ ts) (sym (filter-cons (λ _ y. triple_in types y) n (line_of (words l)) (said (n + 1) ls)));
       domains = λ types g. joined c.domains d.domains e.domains _ _ (here.domains types (Grown-trans _ _ _ x.types g)) (x.domains types g)
-        ∙ ap (λ (ds : List DomainConfig). c.domains ++ ds) (sym (filter-cons (λ _ y. domain_in types y) n (line_of (words l)) (said (n + 1) ls)));
+          ∙ ap (λ (ds : List DomainConfig). c.domains ++ ds) (sym (filter-cons (λ _ y. domain_in types y) n (line_of (words l)) (said (n + 1) ls)));
       steps = joined c.steps d.steps e.steps _ _ here.steps x.steps
-        ∙ ap (λ (ss : List Step). c.steps ++ ss) (sym (filter-cons step_on n (line_of (words l)) (said (n + 1) ls)));
+          ∙ ap (λ (ss : List Step). c.steps ++ ss) (sym (filter-cons step_on n (line_of (words l)) (said (n + 1) ls)));
       faultless = λ h. x.faultless (here.faultless h);
-      configured = λ h. x.configured (here.configured h)
+      configured = λ h. x.configured (here.configured h);
     }
 
 extends-line : (n : ℕ) (l : List ℕ) (ls : List (List ℕ)) (c e : Contents) (r : Result Contents FaultKind) → with_words c n (words l) ≡ r
@@ -252,6 +252,6 @@ with_lines-Extends n [] c e h =
       domains = λ types g. sym (append-nil c.domains);
       steps = sym (append-nil c.steps);
       faultless = λ k. k;
-      configured = λ k. k
+      configured = λ k. k;
     })
 with_lines-Extends n (l ∷ ls) c e h = extends-line n l ls c e (with_words c n (words l)) refl (λ d. with_lines-Extends (n + 1) ls d e) h

@@ -47,7 +47,7 @@ pub Grown-trans : (a b c : List (List ℕ)) → Grown a b → Grown b c → Grow
 Grown-trans a b c h k = record {
   kept = λ name id e. k.kept name id (h.kept name id e);
   distinct = λ d. k.distinct (h.distinct d);
-  few = λ d. k.few (h.few d)
+  few = λ d. k.few (h.few d);
 }
 
 -- the names after one more, which has this number
@@ -75,8 +75,8 @@ typed_push names name h few = record {
   grown = record {
     kept = λ other id e. number-some _ _ (position-push (λ t. bytes_eq t other) names name id.0 (position-of_number _ id e));
     distinct = λ d. all_pairs_push (λ a b. a ≢ b) names name d (λ k x l. other_bytes _ _ (fails_before_first (λ t. bytes_eq t name) names k x (let none = number_none (position_or_len (λ t. bytes_eq t name) names) (length names) (prefix_len-le-length _ names) h in omega arith)));
-    few = λ l. rw (length_push names name) (omega arith)
-  }
+    few = λ l. rw (length_push names name) (omega arith);
+  };
 }
 
 typed_new : (names : List (List ℕ)) (name : List ℕ) (room : Bool) (r : List (List ℕ) × TypeId) → position (λ t. bytes_eq t name) names ≡ None → ltb (length names) 256 ≡ room

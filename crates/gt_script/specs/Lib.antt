@@ -1,5 +1,6 @@
 pub mod Calls
 pub mod Contents
+pub mod Faults
 pub mod Fields
 pub mod Laws
 pub mod Lines

@@ -58,14 +58,14 @@ with_domain c d = or_config (do
   label ← with_type c.types d.type_name
   domain ← domain_written d label.1
   if is_none (domain_fault c.domains domain)
-    then Some (record c { types = label.0; domains = c.domains ++ domain ∷ [] }) else None)
+      then Some (record c { types = label.0; domains = c.domains ++ domain ∷ [] }) else None)
 
 -- a script with one step more, on line n, of a domain that is configured
 unfoldable pub with_step : Contents → ℕ → Number → Action → Result Contents FaultKind
 with_step c n number action = or_config (do
   id ← number_below (2 ^ 16) number
   if is_taken c.domains (record { 0 = id })
-    then Some (record c { steps = c.steps ++ record { line = n; dom = record { 0 = id }; action = action } ∷ [] }) else None)
+      then Some (record c { steps = c.steps ++ record { line = n; dom = record { 0 = id }; action = action } ∷ [] }) else None)
 
 abbrev pub with_placed : Contents → ℕ → Line → Result Contents FaultKind
 with_placed c n (line.Triple t) = with_triple c t

@@ -1,5 +1,6 @@
 //! What may be wrong with a script.
 use std::alloc::AllocError;
+use std::error::Error;
 use std::fmt;
 
 /// What is wrong, in the order in which faults of one script are judged.
@@ -24,12 +25,30 @@ pub struct Fault {
     pub kind: FaultKind,
 }
 
-/// Why there is no script.
+/// Why there is no script: its first fault, or want of memory.
 #[derive(Clone, Copy, Debug, PartialEq, Eq)]
 pub enum ScriptError {
     Memory,
     Fault(Fault),
 }
+
+impl Error for Fault {}
+
+impl fmt::Display for ScriptError {
+    ghost use Rattle.std.specs.Prelude.{Some};
+    ghost use Rattle.gt_script.specs.Faults.{error_text};
+
+    ghost output = { λ error. Some (error_text error) };
+
+    fn fmt<W: fmt::Write>(&self, f: &mut fmt::Formatter<W>) -> fmt::Result {
+        match self {
+            ScriptError::Memory => f.write_str("memory"),
+            ScriptError::Fault(fault) => write!(f, "{fault}"),
+        }
+    }
+}
+
+impl Error for ScriptError {}
 
 impl From<AllocError> for ScriptError {
     ghost use Rattle.std.specs.Prelude.{◌≡◌};
@@ -43,21 +62,28 @@ impl From<AllocError> for ScriptError {
 }
 
 impl fmt::Display for FaultKind {
+    ghost use Rattle.std.specs.Prelude.{Some};
+    ghost use Rattle.gt_script.specs.Faults.{fault_word};
+
+    ghost output = { λ kind. Some (fault_word kind) };
+
     fn fmt<W: fmt::Write>(&self, f: &mut fmt::Formatter<W>) -> fmt::Result {
-        let word = match self {
+        f.write_str(match self {
             FaultKind::Limit => "limit",
             FaultKind::Utf8 => "utf8",
             FaultKind::Syntax => "syntax",
             FaultKind::Config => "config",
-        };
-        write!(f, "{word}")
+        })
     }
 }
 
 impl fmt::Display for Fault {
+    ghost use Rattle.std.specs.Prelude.{Some};
+    ghost use Rattle.gt_script.specs.Faults.{fault_text};
+
+    ghost output = { λ fault. Some (fault_text fault) };
+
     fn fmt<W: fmt::Write>(&self, f: &mut fmt::Formatter<W>) -> fmt::Result {
-        let line = self.line;
-        let kind = self.kind;
-        write!(f, "line {line}: {kind}")
+        write!(f, "line {}: {}", self.line, self.kind)
     }
 }
