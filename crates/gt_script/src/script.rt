@@ -179,7 +179,7 @@ impl<'a> Script<'a> {
         let Some(domain) = domain_written(&line, label) else {
             return Err(AddError::Fault(FaultKind::Config));
         };
-        if domain.fault(self.domains.as_slice()).is_some() {
+        if domain.fault(&self.domains).is_some() {
             return Err(AddError::Fault(FaultKind::Config));
         }
         self.domains.push(domain).map_err(AllocError::from)?;
@@ -199,7 +199,7 @@ impl<'a> Script<'a> {
             return Err(AddError::Fault(FaultKind::Config));
         };
         let dom = DomId(id as u16);
-        if !is_domain(self.domains.as_slice(), dom) {
+        if !is_domain(&self.domains, dom) {
             return Err(AddError::Fault(FaultKind::Config));
         }
         self.steps

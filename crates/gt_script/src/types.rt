@@ -56,7 +56,7 @@ impl<'a> TypeNames<'a> {
     pub fn number(&mut self, name: &'a [u8]) -> Result<Option<TypeId>, AllocError>
         ensures { IfOk result (λ number. option_map (λ id. (self.new, id)) number ≡ with_type self.old name.entry.now) }
     {
-        if let Some(at) = position_of(self.names.as_slice(), name) {
+        if let Some(at) = position_of(&self.names, name) {
             return Ok(Some(TypeId(at as u16)));
         }
         let count = self.names.len();
