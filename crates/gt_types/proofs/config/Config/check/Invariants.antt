@@ -1,4 +1,4 @@
-use Rattle.std.proofs.Common.{take, ◌≡◌}
+use Rattle.std.proofs.Common.{take}
 use Rattle.gt_types.specs.Config.{AreFaultless}
 use Rattle.gt_types.proofs.config.Config.check.Given as goal
 

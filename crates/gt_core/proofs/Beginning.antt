@@ -1,0 +1,523 @@
+-- A beginning keeps what a core stands for.
+use Rattle.std.proofs.Common.{◌⊎◌, inl, inr, ◌≡◌, ◌≢◌, ◌<◌, ◌+◌, ℕ, refl, Bool, true, false, List, [], ◌∷◌, ◌++◌, length, Option, Some, None, cond, ltb, eqb, sym, ap, ◌∙◌, arith, subst, map, get_or, set, reverse}
+use Rattle.std.proofs.lemmas.Bool.{eqb-true, ne_eqb, eq-eqb, false≢true, true≢false}
+use Rattle.std.specs.Prelude.{nat_lt, ◌==◌, if◌then◌else◌, position, slice_get, slice_set}
+use mathlib.Core.Path.{fun_ext}
+use Rattle.std.proofs.lemmas.List.Quantifiers.{position-Some}
+use Rattle.gt_types.specs.Names.{domain_of}
+use Rattle.gt_types.specs.declared.DomId.{DomId}
+use Rattle.gt_types.specs.declared.denial.Denial.{Denial}
+use Rattle.gt_entry.specs.declared.entry.Entry.{Entry}
+use Rattle.gt_entry.specs.declared.header.Header.{Header}
+use Rattle.gt_core.specs.declared.known.Mapping.{Mapping}
+use Rattle.std.specs.Prelude.{count_by, filter, All}
+use Rattle.gt_types.specs.declared.Dir.TheVariants.{Read, Write}
+use Rattle.gt_core.specs.declared.request.Request.{Request}
+use Rattle.gt_core.specs.declared.action.Seen.{Seen}
+use Rattle.gt_core.specs.declared.action.Seen.TheVariants.{Nothing}
+use Rattle.gt_core.specs.declared.action.Verdict.{Verdict}
+use Rattle.gt_core.specs.declared.action.Verdict.TheVariants.{Granted, Refused}
+use Rattle.gt_core.specs.declared.action.Action.TheVariants.{Step as Makes, Done}
+use Rattle.gt_core.specs.declared.trace.Item.{Item}
+use Rattle.gt_core.specs.declared.trace.Happened.TheVariants.{Began}
+use Rattle.gt_core.specs.declared.trace.Answer.{Answer}
+use Rattle.gt_core.specs.declared.call.Call.{Call}
+use Rattle.gt_core.specs.declared.call.Start.TheVariants.{Open as StartOpen}
+use Rattle.gt_core.specs.declared.call.Phase.{Phase}
+use Rattle.gt_core.specs.declared.call.Phase.TheVariants.{Begun as PhaseBegun, Pinning as LegPinning, Storing, StoringSecond, Single, Look as OwnLook, Change as OwnChange, Ended}
+use Rattle.gt_types.specs.declared.config.DomainConfig.{DomainConfig}
+use Rattle.gt_types.specs.declared.denial.Facts.TheVariants.{None as NoFacts}
+use Rattle.gt_entry.specs.Words.{control_word, control_of}
+use Rattle.gt_core.proofs.Still.{leg-keeps}
+use Rattle.gt_core.specs.States.{State}
+use Rattle.gt_core.specs.declared.slot.Open.{Open}
+use Rattle.gt_core.specs.declared.core_state.Opening.TheVariants.{Open as OpeningOpen, Done as OpeningDone}
+use Rattle.std.specs.Prelude.{is_some}
+use Rattle.std.specs.Prelude.{◌||◌, ◌&&◌, not, is_none, nat_le, ◌^◌, ◌-◌}
+use Rattle.gt_types.specs.Names.{resolved}
+use Rattle.gt_types.specs.Denial.{denial_of}
+use Rattle.gt_types.specs.declared.TypeId.{TypeId}
+use Rattle.gt_types.specs.declared.perms.Perms.{Perms}
+use Rattle.gt_types.specs.declared.denial.Rule.{Rule}
+use Rattle.gt_types.specs.declared.denial.Rule.TheVariants.{N1, N2, N3, N5, N6, N8}
+use Rattle.gt_types.specs.declared.denial.Facts.TheVariants.{Policy}
+use Rattle.gt_core.specs.declared.request.Handle.{Handle}
+use Rattle.gt_core.specs.declared.request.Request.TheVariants.{Grant, Revoke, Demote, Promote, Map, Unmap, Load}
+use Rattle.gt_core.specs.Rules.{first, refused_when, denied, asked_by, label_of, mapping_of, map_begun, load_begun, CallerKnowledge, begun, knowledge_of, entry_in, generation_in, control_with}
+use Rattle.std.proofs.lemmas.Option.{none-some, slice_get_read}
+use Rattle.gt_types.specs.declared.GrantRef.{GrantRef}
+use Rattle.gt_core.specs.declared.action.Step.{Step}
+use Rattle.gt_core.specs.declared.action.Step.TheVariants.{LookControl}
+use Rattle.gt_core.proofs.Legs.{turns-one}
+use Rattle.gt_core.specs.Path.{Continuation, path, steps_of, after_beginning, gives_up, reads, turns}
+use Rattle.gt_core.specs.Machine.{expects, first_phase, phase_after, starts_as, IsUnderway, FitsPhase}
+use Rattle.gt_core.specs.History.{History, Setting, entry_at, generation_at, body_at, word_at, control_at, reads_at, writes_at, live, Pin, table_at, mappings_at, mappings_in, maps_answered_at, known_at, Underway, underway_after, open_call, values, is_pin_on, one_if_mapped}
+use Rattle.gt_core.specs.Legal.{StepsSoFar, IsSpelled, leg_of, stood, stood_with, first_of_item, AnsweredBy, GivesValue, refusal_in, refusal_of, MayDo, IsRight}
+use Rattle.gt_core.specs.Standing.{IsLawful, FitsWord, FitsRequest, PhaseStands, HasStored, HasStoredFirst, OpenAgrees, CallAgrees, SlotAgrees, Agrees, StateAgrees, CoreStands, state_of, plain_answer, Opens}
+use Rattle.gt_core.proofs.Quiet.{IsQuiet, kept-contents, quiet-entry, quiet-raises, quiet-body, quiet-live, quiet-maps_answered, quiet-generations, quiet-known}
+use Rattle.gt_core.proofs.Places.{has_id, found, not-found, state_of-set}
+
+-- the first action of a call
+
+pub starts-open : (caller : DomId) (r : Request) (o : Option Verdict) (first : Call) → StartOpen first ≡ starts_as caller r o
+    → (o ≡ None) × (first ≡ record { caller = caller; request = r; phase = PhaseBegun })
+starts-open caller r None first e = (refl, cc)
+starts-open caller r (Some v) first e = cc
+
+-- what a domain itself knows is what the core keeps of it
+pub known-same : (s : Setting) (h : History) (d : State) → Agrees s h d
+    → knowledge_of s.domains s.may d.own d.header d.mappings d.maps_answered ≡ known_at s h d.id
+known-same s h d a =
+    ap (λ (f : ℕ → Entry). record { domains = s.domains; may = s.may; entry = f; generation = generation_in d.own; header = d.header; mappings = d.mappings; maps_answered = d.maps_answered }) a.entries
+    ∙ ap (λ (f : ℕ → ℕ). record { domains = s.domains; may = s.may; entry = λ r. entry_at h d.id.0 r; generation = f; header = d.header; mappings = d.mappings; maps_answered = d.maps_answered }) a.generations
+    ∙ ap (λ (x : Header). record { domains = s.domains; may = s.may; entry = λ r. entry_at h d.id.0 r; generation = λ r. if nat_lt r 2048 then generation_at s h d.id.0 r else 0; header = x; mappings = d.mappings; maps_answered = d.maps_answered }) a.header
+    ∙ ap (λ (x : List Mapping). record { domains = s.domains; may = s.may; entry = λ r. entry_at h d.id.0 r; generation = λ r. if nat_lt r 2048 then generation_at s h d.id.0 r else 0; header = table_at s h d.id; mappings = x; maps_answered = d.maps_answered }) a.mappings
+    ∙ ap (λ (x : ℕ). record { domains = s.domains; may = s.may; entry = λ r. entry_at h d.id.0 r; generation = λ r. if nat_lt r 2048 then generation_at s h d.id.0 r else 0; header = table_at s h d.id; mappings = mappings_at h d.id.0; maps_answered = x }) a.maps_answered
+
+-- a quiet item leaves a domain as it was, but for its call
+pub quiet-agrees : (s : Setting) (i : Item) (h : History) (d : State) (o : Option Open) → IsQuiet i → Agrees s h d
+    → CallAgrees s (i ∷ h) d.id o (open_call (i ∷ h) d.id.0) → Agrees s (i ∷ h) (record d { underway = o })
+quiet-agrees s i h d o q a call =
+    record {
+      header = a.header;
+      rows = a.rows;
+      frames = λ f below. a.frames f below ∙ ap (λ (l : List ℕ). Some l) (sym (kept-contents i h d.id.0 f));
+      entries = a.entries ∙ fun_ext (λ r. sym (quiet-entry i h d.id.0 r q));
+      generations = a.generations ∙ sym (quiet-generations s i h d.id.0 q);
+      room = a.room;
+      slots = λ r slot e. let b = a.slots r slot e in record {
+        reads = b.reads ∙ ap (λ (ps : List Pin). count_by (is_pin_on d.id.0 r Read) ps) (sym (quiet-live i h q));
+        writes = b.writes ∙ ap (λ (ps : List Pin). count_by (is_pin_on d.id.0 r Write) ps) (sym (quiet-live i h q));
+        first = b.first ∙ sym (quiet-body i h d.id.0 r false q);
+        second = b.second ∙ sym (quiet-body i h d.id.0 r true q);
+      };
+      mappings = a.mappings ∙ ap (λ (ps : List Pin). mappings_in d.id.0 ps) (sym (quiet-live i h q));
+      maps_answered = a.maps_answered ∙ sym (quiet-maps_answered i h d.id.0 q);
+      call = call;
+    }
+
+-- calls of the other domains
+
+pub open_call-other : (i : Item) (h : History) (d : ℕ) → (i.actor.0 == d) ≡ false → open_call (i ∷ h) d ≡ open_call h d
+unfolding open_call
+open_call-other i h d e = ap (λ (b : Bool). cond b (underway_after i (open_call h d)) (open_call h d)) e
+
+stood-other : (s : Setting) (i : Item) (h : History) (d : ℕ) → (i.actor.0 == d) ≡ false → stood s (i ∷ h) d ≡ stood s h d
+unfolding stood
+stood-other s i h d e = ap (λ (b : Bool). cond b (stood_with i.happened (stood s h d) (first_of_item s h i)) (stood s h d)) e
+
+-- the domain's own body words are as they were
+abbrev pub BodyStays : Item → History → ℕ → Type 0
+BodyStays i h d = (r : ℕ) (which : Bool) → body_at (i ∷ h) d r which ≡ body_at h d r which
+
+stored-first-stays : (i : Item) (h : History) (d : DomId) (r : Request) → BodyStays i h d.0 → HasStoredFirst h d r → HasStoredFirst (i ∷ h) d r
+stored-first-stays i h d (Grant gref entry) b a = b gref.0 false ∙ a
+stored-first-stays i h d (Revoke gref) b a = a
+stored-first-stays i h d (Demote gref) b a = a
+stored-first-stays i h d (Promote gref) b a = a
+stored-first-stays i h d (Map dom gref flags) b a = a
+stored-first-stays i h d (Unmap handle) b a = a
+stored-first-stays i h d (Load handle off len) b a = a
+
+pub spelled-stays : (i : Item) (h : History) (t r : ℕ) (entry : Entry) → BodyStays i h t → IsSpelled entry (body_at h t r false) (body_at h t r true)
+    → IsSpelled entry (body_at (i ∷ h) t r false) (body_at (i ∷ h) t r true)
+spelled-stays i h t r entry b a =
+    subst (λ (n : ℕ). IsSpelled entry n (body_at (i ∷ h) t r true)) (sym (b r false))
+    (subst (λ (n : ℕ). IsSpelled entry (body_at h t r false) n) (sym (b r true)) a)
+
+stored-stays : (i : Item) (h : History) (d : DomId) (r : Request) → BodyStays i h d.0 → HasStored h d r → HasStored (i ∷ h) d r
+stored-stays i h d (Grant gref entry) b a = spelled-stays i h d.0 gref.0 entry b a
+stored-stays i h d (Revoke gref) b a = tt
+stored-stays i h d (Demote gref) b a = tt
+stored-stays i h d (Promote gref) b a = tt
+stored-stays i h d (Map dom gref flags) b a = tt
+stored-stays i h d (Unmap handle) b a = tt
+stored-stays i h d (Load handle off len) b a = tt
+
+-- where a call stands, it stands after an item that leaves what its domain knows and its body words
+pub place-stays : (s : Setting) (i : Item) (h : History) (d : DomId) (r : Request) (so_far : StepsSoFar) (phase : Phase) → known_at s (i ∷ h) d ≡ known_at s h d → BodyStays i h d.0
+    → PhaseStands s h d r so_far phase → PhaseStands s (i ∷ h) d r so_far phase
+place-stays s i h d r so_far PhaseBegun k b a = a
+place-stays s i h d r so_far (LegPinning l phase) k b a =
+    (ap (λ (k : CallerKnowledge). leg_of k d r) k ∙ a.0, a.1, leg-keeps s i h l so_far phase a.2)
+place-stays s i h d r so_far Storing k b a = tt
+place-stays s i h d r so_far StoringSecond k b a = stored-first-stays i h d r b a
+place-stays s i h d r so_far Single k b a = stored-stays i h d r b a
+place-stays s i h d r so_far (OwnLook more) k b a = a
+place-stays s i h d r so_far (OwnChange more word) k b a = a
+place-stays s i h d r so_far (Ended verdict) k b a = a
+
+pub place-keeps : (s : Setting) (i : Item) (h : History) (d : DomId) (r : Request) (so_far : StepsSoFar) (phase : Phase) → IsQuiet i
+    → PhaseStands s h d r so_far phase → PhaseStands s (i ∷ h) d r so_far phase
+place-keeps s i h d r so_far phase q a = place-stays s i h d r so_far phase (quiet-known s i h d q) (λ r which. quiet-body i h d.0 r which q) a
+
+pub spelled-keeps : (i : Item) (h : History) (t r : ℕ) (entry : Entry) → IsQuiet i → IsSpelled entry (body_at h t r false) (body_at h t r true)
+    → IsSpelled entry (body_at (i ∷ h) t r false) (body_at (i ∷ h) t r true)
+spelled-keeps i h t r entry q a = spelled-stays i h t r entry (λ r which. quiet-body i h t r which q) a
+
+call-stays : (s : Setting) (i : Item) (h : History) (d : DomId) (o : Option Open) (c : Option Underway) → known_at s (i ∷ h) d ≡ known_at s h d → BodyStays i h d.0 → (i.actor.0 == d.0) ≡ false
+    → CallAgrees s h d o c → CallAgrees s (i ∷ h) d o c
+call-stays s i h d None None same b e a = tt
+call-stays s i h d None (Some c) same b e a = a
+call-stays s i h d (Some o) None same b e a = a
+call-stays s i h d (Some o) (Some c) same b e a =
+    record {
+      caller = a.caller;
+      request = a.request;
+      comes = ap (λ (k : CallerKnowledge). expects k d c.request o.call.phase []) same ∙ a.comes;
+      leads = λ vs. ap (λ (k : CallerKnowledge). path k d c.request (values c ++ vs)) same ∙ a.leads vs ∙ ap (λ (k : CallerKnowledge). expects k d c.request o.call.phase vs) (sym same);
+      fair = stood-other s i h d.0 e ∙ a.fair;
+      fits = a.fits;
+      place = place-stays s i h d c.request (reverse c.steps) o.call.phase same b a.place;
+    }
+
+-- the call of a domain that does not act
+pub call-of-other : (s : Setting) (i : Item) (h : History) (d : DomId) (o : Option Open) → known_at s (i ∷ h) d ≡ known_at s h d → BodyStays i h d.0 → (i.actor.0 == d.0) ≡ false
+    → CallAgrees s h d o (open_call h d.0) → CallAgrees s (i ∷ h) d o (open_call (i ∷ h) d.0)
+call-of-other s i h d o same b e a =
+    subst (λ (c : Option Underway). CallAgrees s (i ∷ h) d o c) (sym (open_call-other i h d.0 e)) (call-stays s i h d o (open_call h d.0) same b e a)
+
+other-call : (s : Setting) (i : Item) (h : History) (d : DomId) (o : Option Open) → IsQuiet i → (i.actor.0 == d.0) ≡ false
+    → CallAgrees s h d o (open_call h d.0) → CallAgrees s (i ∷ h) d o (open_call (i ∷ h) d.0)
+other-call s i h d o q e a =
+    call-of-other s i h d o (quiet-known s i h d q) (λ r which. quiet-body i h d.0 r which q) e a
+
+pub other-state : (s : Setting) (i : Item) (h : History) (dom : DomId) (o : Option State) → IsQuiet i → (i.actor.0 == dom.0) ≡ false
+    → StateAgrees s h dom o → StateAgrees s (i ∷ h) dom o
+other-state s i h dom None q e a = a
+other-state s i h dom (Some d) q e a =
+    let apart : (i.actor.0 == d.id.0) ≡ false = ap (λ (x : DomId). i.actor.0 == x.0) a.1 ∙ e in
+    (a.0, a.1, quiet-agrees s i h d d.underway q a.2 (other-call s i h d.id d.underway q apart a.2.call))
+
+actor-state : (s : Setting) (i : Item) (h : History) (dom : DomId) (o : Option State) (new : State) → (i.actor.0 == dom.0) ≡ true
+    → StateAgrees s h dom o → ((d : State) → o ≡ Some d → ⊥) ⊎ ((new.id ≡ i.actor) × Agrees s (i ∷ h) new) → (o ≡ None → ⊥)
+    → StateAgrees s (i ∷ h) dom (Some new)
+actor-state s i h dom None new e a n some = absurd (some refl)
+actor-state s i h dom (Some d) new e a (inl none) some = absurd (none d refl)
+actor-state s i h dom (Some d) new e a (inr b) some =
+    (a.0, b.0 ∙ ap (λ (n : ℕ). record { 0 = n }) (eqb-true i.actor.0 dom.0 e), b.1)
+
+pick-state : (b : Bool) (s : Setting) (i : Item) (h : History) (dom : DomId) (o : Option State) (new : State) → IsQuiet i → (i.actor.0 == dom.0) ≡ b
+    → StateAgrees s h dom o → (new.id ≡ i.actor) × Agrees s (i ∷ h) new → (b ≡ true → o ≡ None → ⊥)
+    → StateAgrees s (i ∷ h) dom (cond b (Some new) o)
+pick-state true s i h dom o new q e a n some = actor-state s i h dom o new e a (inr n) (some refl)
+pick-state false s i h dom o new q e a n some = other-state s i h dom o q e a
+
+quiet-control : (s : Setting) (i : Item) (h : History) (t r : ℕ) → IsQuiet i → control_at s (i ∷ h) t r ≡ control_at s h t r
+quiet-control s i h t r q =
+    ap (λ (e : Entry). control_with e (generation_at s (i ∷ h) t r) (reads_at (i ∷ h) t r) (writes_at (i ∷ h) t r)) (quiet-entry i h t r q)
+    ∙ ap (λ (n : ℕ). control_with (entry_at h t r) (s.first_generation + n) (reads_at (i ∷ h) t r) (writes_at (i ∷ h) t r)) (quiet-raises i h t r q)
+    ∙ ap (λ (ps : List Pin). control_with (entry_at h t r) (generation_at s h t r) (count_by (is_pin_on t r Read) ps) (count_by (is_pin_on t r Write) ps)) (quiet-live i h q)
+
+quiet-word : (s : Setting) (i : Item) (h : History) (t r : ℕ) → IsQuiet i → word_at s (i ∷ h) t r ≡ word_at s h t r
+quiet-word s i h t r q = ap control_word (quiet-control s i h t r q)
+
+-- a core stands for one quiet item more, where just the actor's state is another one
+pub quiet-stands : (s : Setting) (i : Item) (h : History) (domains domains' : List State) (new : State) → IsQuiet i → CoreStands s h domains
+    → ((q : ℕ) → state_of domains' q ≡ cond (i.actor.0 == q) (Some new) (state_of domains q))
+    → (new.id ≡ i.actor) × Agrees s (i ∷ h) new → (state_of domains i.actor.0 ≡ None → ⊥) → CoreStands s (i ∷ h) domains'
+quiet-stands s i h domains domains' new q a e n some =
+    record {
+      each = λ dom. subst (λ (o : Option State). StateAgrees s (i ∷ h) dom o) (sym (e dom.0))
+          (pick-state (i.actor.0 == dom.0) s i h dom (state_of domains dom.0) new q refl (a.each dom) n
+          (λ b none. some (ap (state_of domains) (eqb-true i.actor.0 dom.0 b) ∙ none)));
+      tables = λ dom. a.tables dom;
+      lawful = subst (All (IsLawful s)) (sym (quiet-live i h q)) a.lawful;
+      free = λ t r e. let was = a.free t r (sym (quiet-entry i h t r q) ∙ e) in
+          (ap (λ (ps : List Pin). count_by (is_pin_on t r Read) ps) (quiet-live i h q) ∙ was.0, ap (λ (ps : List Pin). count_by (is_pin_on t r Write) ps) (quiet-live i h q) ∙ was.1);
+      words = λ t r within. subst FitsWord (sym (quiet-control s i h t r q)) (a.words t r within);
+      spelled = λ t r valid. subst (λ (e : Entry). IsSpelled e (body_at (i ∷ h) t r false) (body_at (i ∷ h) t r true)) (sym (quiet-entry i h t r q))
+          (spelled-keeps i h t r (entry_at h t r) q (a.spelled t r (λ e. valid (quiet-entry i h t r q ∙ e))));
+    }
+
+-- beginnings
+
+abbrev pub began : DomId → Request → Option Answer → Item
+began dom request answer = record { actor = dom; happened = Began request; answer = answer }
+
+began-quiet : (dom : DomId) (request : Request) (answer : Option Answer) → one_if_mapped answer ≡ 0 → IsQuiet (began dom request answer)
+began-quiet dom request answer e =
+    record { keeps = record { changes = λ r. refl; pins = λ before. refl; unpins = λ pins. refl; maps = e }; stores = λ r which. refl }
+
+same-number : (n : ℕ) → (n == n) ≡ true
+same-number n = eq-eqb n n refl
+
+pub open_call-own : (i : Item) (h : History) → open_call (i ∷ h) i.actor.0 ≡ underway_after i (open_call h i.actor.0)
+unfolding open_call
+open_call-own i h = ap (λ (b : Bool). cond b (underway_after i (open_call h i.actor.0)) (open_call h i.actor.0)) (same-number i.actor.0)
+
+pub stood-own : (s : Setting) (i : Item) (h : History) → stood s (i ∷ h) i.actor.0 ≡ stood_with i.happened (stood s h i.actor.0) (first_of_item s h i)
+unfolding stood
+stood-own s i h =
+    ap (λ (b : Bool). cond b (stood_with i.happened (stood s h i.actor.0) (first_of_item s h i)) (stood s h i.actor.0)) (same-number i.actor.0)
+
+call-none : (s : Setting) (h : History) (id : DomId) (o : Option Open) (c : Option Underway) → o ≡ None → CallAgrees s h id o c → c ≡ None
+call-none s h id None None e a = refl
+call-none s h id None (Some c) e a = absurd a
+call-none s h id (Some o) c e a = cc
+
+pub call-some : (s : Setting) (h : History) (id : DomId) (o : Option Open) (c : Option Underway) → is_some o ≡ true → CallAgrees s h id o c → c ≡ None → ⊥
+call-some s h id None c e a n = false≢true e
+call-some s h id (Some o) None e a n = a
+call-some s h id (Some o) (Some c) e a n = cc
+
+-- an opened call
+
+map-domain : (b : Bool) (o : Option DomainConfig) (more : List (Option Verdict)) → first (refused_when (is_none o) N1 ∷ more) ≡ None → o ≢ None
+map-domain b None more e n = let f : Some (Refused (denial_of N1 NoFacts)) ≡ None = e in cc
+map-domain b (Some c) more e n = cc
+
+first-place : (s : Setting) (h : History) (d : DomId) (r : Request) → begun (known_at s h d) d r ≡ None → PhaseStands s h d r [] (first_phase (known_at s h d) d r)
+unfolding Rattle.gt_core.specs.Legal.misses
+first-place s h d (Grant gref entry) e = tt
+first-place s h d (Revoke gref) e = tt
+first-place s h d (Demote gref) e = (refl, refl)
+first-place s h d (Promote gref) e = (refl, refl)
+first-place s h d (Map dom gref flags) e = (refl, map-domain true (domain_of s.domains (resolved d dom)) _ e, tt)
+first-place s h d (Unmap handle) e = tt
+first-place s h d (Load handle off len) e = tt
+
+pub begin-opens : (s : Setting) (h : History) (d : State) (request : Request) (o : Open) → FitsRequest request → Agrees s h d → d.underway ≡ None
+    → Opens (knowledge_of s.domains s.may d.own d.header d.mappings d.maps_answered) d.id request (OpeningOpen o)
+    → IsRight s h (began d.id request None) × Agrees s (began d.id request None ∷ h) (record d { underway = Some o })
+begin-opens s h d request o fits a closed opens =
+    let i = began d.id request None in
+    let q = began-quiet d.id request None refl in
+    let was = known-same s h d a in
+    let still = was ∙ sym (quiet-known s i h d.id q) in
+    let quiet : begun (known_at s h d.id) d.id request ≡ None = ap (λ (k : CallerKnowledge). begun k d.id request) (sym was) ∙ opens.0 in
+    let later : begun (known_at s (i ∷ h) d.id) d.id request ≡ None = ap (λ (k : CallerKnowledge). begun k d.id request) (sym still) ∙ opens.0 in
+    let fair : stood s (i ∷ h) d.id.0 ≡ None = stood-own s i h ∙ ap refusal_in quiet in
+    let empty : open_call h d.id.0 ≡ None = call-none s h d.id d.underway (open_call h d.id.0) closed a.call in
+    let agrees : OpenAgrees s (i ∷ h) d.id o (record { request = request; steps = [] }) =
+    record {
+      caller = opens.1;
+      request = opens.2;
+      comes = ap (λ (k : CallerKnowledge). expects k d.id request o.call.phase []) (sym still) ∙ opens.3;
+      leads = λ vs.
+          ap (λ (v : Option Verdict). after_beginning v (steps_of (known_at s (i ∷ h) d.id) d.id request) vs) later
+          ∙ ap (λ (k : CallerKnowledge). steps_of k d.id request vs) (sym still)
+          ∙ sym (opens.4 vs)
+          ∙ ap (λ (k : CallerKnowledge). expects k d.id request o.call.phase vs) still;
+      fair = fair;
+      fits = fits;
+      place = subst (λ (p : Phase). PhaseStands s (i ∷ h) d.id request [] p)
+          (ap (λ (k : CallerKnowledge). first_phase k d.id request) (sym still) ∙ sym opens.5) (first-place s (i ∷ h) d.id request later);
+    } in (
+      (empty, subst (λ (v : Option Verdict). AnsweredBy s h d.id request None v None (stood s (i ∷ h) d.id.0)) (sym quiet) fair),
+      quiet-agrees s i h d (Some o) q a (subst (λ (c : Option Underway). CallAgrees s (i ∷ h) d.id (Some o) c) (sym (open_call-own i h)) agrees),
+    )
+
+-- a call that is answered at once
+
+pub plain-unmapped : (v : Verdict) → one_if_mapped (Some (plain_answer v)) ≡ 0
+plain-unmapped Granted = refl
+plain-unmapped (Refused denial) = refl
+
+pub plain-refusal : (v : Verdict) → refusal_of (plain_answer v) ≡ refusal_in (Some v)
+plain-refusal Granted = refl
+plain-refusal (Refused denial) = refl
+
+-- maps and loads are never done at their beginning
+
+first-refused : (b : Bool) (rule : Rule) (more : List (Option Verdict)) → (first more ≡ Some Granted → ⊥) → first (refused_when b rule ∷ more) ≡ Some Granted → ⊥
+first-refused true rule more n e = cc
+first-refused false rule more n e = n e
+
+one-denied : (b : Bool) (rest : Option Verdict) (denial : Denial) (more : List (Option Verdict)) → (first (rest ∷ more) ≡ Some Granted → ⊥)
+    → first (cond b rest (Some (Refused denial)) ∷ more) ≡ Some Granted → ⊥
+one-denied true rest denial more n e = n e
+one-denied false rest denial more n e = cc
+
+denied-refused : (may : TypeId → TypeId → Perms → Bool) (source target : TypeId) (perms : List Perms) (more : List (Option Verdict)) → (first more ≡ Some Granted → ⊥)
+    → first (denied may source target perms ∷ more) ≡ Some Granted → ⊥
+denied-refused may source target [] more n e = n e
+denied-refused may source target (p ∷ ps) more n e =
+    one-denied (may source target p) (denied may source target ps) (denial_of N5 (Policy source target p)) more (denied-refused may source target ps more n) e
+
+none-granted : first {A = Verdict} [] ≡ Some Granted → ⊥
+none-granted e = cc
+
+map-refused : (k : CallerKnowledge) (caller dom : DomId) (flags : ℕ) → map_begun k caller dom flags ≡ Some Granted → ⊥
+map-refused k caller dom flags =
+    first-refused (is_none (domain_of k.domains (resolved caller dom))) N1 _ (first-refused (not ((flags == 2) || (flags == 6))) N2 _
+    (denied-refused k.may (label_of k.domains caller) (label_of k.domains (resolved caller dom)) (asked_by flags) _
+    (first-refused (nat_le 8192 (length k.mappings) || nat_le (2 ^ 64 - 1) k.maps_answered) N8 _ none-granted)))
+
+load-refused : (mappings : List Mapping) (handle : Handle) (off len : ℕ) → load_begun mappings handle off len ≡ Some Granted → ⊥
+load-refused mappings handle off len =
+    first-refused (nat_lt 4096 (off + len)) N3 _ (first-refused (is_none (mapping_of mappings handle)) N6 _ none-granted)
+
+gives-value : (s : Setting) (h : History) (k : CallerKnowledge) (d : DomId) (request : Request) (v : Verdict) → begun k d request ≡ Some v → GivesValue s h d request None (plain_answer v)
+gives-value s h k d request (Refused denial) e = tt
+gives-value s h k d (Grant gref entry) Granted e = refl
+gives-value s h k d (Revoke gref) Granted e = refl
+gives-value s h k d (Demote gref) Granted e = refl
+gives-value s h k d (Promote gref) Granted e = refl
+gives-value s h k d (Map dom gref flags) Granted e = absurd (map-refused k d dom flags e)
+gives-value s h k d (Unmap handle) Granted e = refl
+gives-value s h k d (Load handle off len) Granted e = absurd (load-refused k.mappings handle off len e)
+
+pub begin-done : (s : Setting) (h : History) (d : State) (request : Request) (v : Verdict) → Agrees s h d → d.underway ≡ None
+    → begun (knowledge_of s.domains s.may d.own d.header d.mappings d.maps_answered) d.id request ≡ Some v
+    → IsRight s h (began d.id request (Some (plain_answer v))) × Agrees s (began d.id request (Some (plain_answer v)) ∷ h) d
+begin-done s h d request v a closed opens =
+    let i = began d.id request (Some (plain_answer v)) in
+    let q = began-quiet d.id request (Some (plain_answer v)) (plain-unmapped v) in
+    let was = known-same s h d a in
+    let at_once : begun (known_at s h d.id) d.id request ≡ Some v = ap (λ (k : CallerKnowledge). begun k d.id request) (sym was) ∙ opens in
+    let against : stood s (i ∷ h) d.id.0 ≡ refusal_in (Some v) = stood-own s i h ∙ ap refusal_in at_once in
+    let empty : open_call h d.id.0 ≡ None = call-none s h d.id d.underway (open_call h d.id.0) closed a.call in
+    let now : open_call (i ∷ h) d.id.0 ≡ None = open_call-own i h in
+    let call : CallAgrees s (i ∷ h) d.id d.underway (open_call (i ∷ h) d.id.0) =
+    subst (λ (o : Option Open). CallAgrees s (i ∷ h) d.id o (open_call (i ∷ h) d.id.0)) (sym closed)
+    (subst (λ (c : Option Underway). CallAgrees s (i ∷ h) d.id None c) (sym now) tt) in (
+      (
+        empty,
+        subst (λ (x : Option Verdict). AnsweredBy s h d.id request None x (Some (plain_answer v)) (stood s (i ∷ h) d.id.0)) (sym at_once)
+            (plain-refusal v, plain-refusal v ∙ sym against, gives-value s h (known_at s h d.id) d.id request v at_once),
+      ),
+      quiet-agrees s i h d d.underway q a call,
+    )
+
+-- the machine's first action
+
+opens-at : (k : CallerKnowledge) (dom : DomId) (request : Request) (new : Call) (step : Step) → begun k dom request ≡ None → new.caller ≡ dom → new.request ≡ request
+    → ((vs : List Seen) → expects k dom request new.phase vs ≡ expects k dom request PhaseBegun (Nothing ∷ vs))
+    → expects k dom request new.phase [] ≡ Some (Makes step) → new.phase ≡ first_phase k dom request → Opens k dom request (OpeningOpen (record { call = new; step = step }))
+opens-at k dom request new step none caller asked goes comes first = (none, caller, asked, comes, goes, first)
+
+pub opens-next : (k : CallerKnowledge) (dom : DomId) (request : Request) (first new : Call) (step : Step) → StartOpen first ≡ starts_as dom request (begun k dom request)
+    → new.caller ≡ first.caller → new.request ≡ first.request
+    → ((vs : List Seen) → expects k first.caller first.request new.phase vs ≡ expects k first.caller first.request first.phase (Nothing ∷ vs))
+    → expects k first.caller first.request new.phase [] ≡ Some (Makes step) → new.phase ≡ phase_after k first.caller first.request first.phase Nothing
+    → Opens k dom request (OpeningOpen (record { call = new; step = step }))
+opens-next k dom request first new step e caller asked goes comes phase =
+    let t = starts-open dom request (begun k dom request) first e in
+    opens-at k dom request new step t.0
+    (caller ∙ ap (λ (f : Call). f.caller) t.1)
+    (asked ∙ ap (λ (f : Call). f.request) t.1)
+    (subst (λ (f : Call). (vs : List Seen) → expects k f.caller f.request new.phase vs ≡ expects k f.caller f.request f.phase (Nothing ∷ vs)) t.1 goes)
+    (subst (λ (f : Call). expects k f.caller f.request new.phase [] ≡ Some (Makes step)) t.1 comes)
+    (subst (λ (f : Call). new.phase ≡ phase_after k f.caller f.request f.phase Nothing) t.1 phase)
+
+pub opens-underway : (k : CallerKnowledge) (dom : DomId) (request : Request) (first : Call) → StartOpen first ≡ starts_as dom request (begun k dom request) → IsUnderway k first.caller first.request first.phase
+opens-underway k dom request first e =
+    let t = starts-open dom request (begun k dom request) first e in
+    subst (λ (f : Call). IsUnderway k f.caller f.request f.phase) (sym t.1) t.0
+
+pub opens-fits : (k : CallerKnowledge) (dom : DomId) (request : Request) (first : Call) → StartOpen first ≡ starts_as dom request (begun k dom request) → FitsPhase k first.caller first.request first.phase Nothing
+opens-fits k dom request first e =
+    let t = starts-open dom request (begun k dom request) first e in
+    subst (λ (f : Call). FitsPhase k f.caller f.request f.phase Nothing) (sym t.1) refl
+
+unpin-step : (m : Option Mapping) (v : Verdict) → gives_up m [] ≡ Some (Done v) → ⊥
+unpin-step None v e = cc
+unpin-step (Some m) v e = cc
+
+read-step : (m : Option Mapping) (off len : ℕ) (v : Verdict) → reads m off len [] ≡ Some (Done v) → ⊥
+read-step None off len v e = cc
+read-step (Some m) off len v e = cc
+
+turn-step : (to_ro : Bool) (caller : DomId) (gref : GrantRef) (v : Verdict) → turns to_ro caller gref 3 [] ≡ Some (Done v) → ⊥
+turn-step to_ro caller gref v e =
+    let first : Some (Makes (LookControl caller gref)) ≡ Some (Done v) = sym (ap (λ (t : Continuation). t []) (turns-one to_ro caller gref 3)) ∙ e in cc
+
+-- a call that is not answered at its beginning begins with a step
+steps-begin : (k : CallerKnowledge) (dom : DomId) (request : Request) (v : Verdict) → steps_of k dom request [] ≡ Some (Done v) → ⊥
+steps-begin k dom (Grant gref entry) v e = cc
+steps-begin k dom (Revoke gref) v e = cc
+steps-begin k dom (Demote gref) v e = turn-step true dom gref v e
+steps-begin k dom (Promote gref) v e = turn-step false dom gref v e
+steps-begin k dom (Map d gref flags) v e = cc
+steps-begin k dom (Unmap handle) v e = unpin-step (mapping_of k.mappings handle) v e
+steps-begin k dom (Load handle off len) v e = read-step (mapping_of k.mappings handle) off len v e
+
+pub not-done : (k : CallerKnowledge) (dom : DomId) (request : Request) (first new : Call) (v : Verdict) → StartOpen first ≡ starts_as dom request (begun k dom request)
+    → ((vs : List Seen) → expects k first.caller first.request new.phase vs ≡ expects k first.caller first.request first.phase (Nothing ∷ vs))
+    → expects k first.caller first.request new.phase [] ≡ Some (Done v) → ⊥
+not-done k dom request first new v e goes comes =
+    let t = starts-open dom request (begun k dom request) first e in
+    steps-begin k dom request v
+    (subst (λ (f : Call). expects k f.caller f.request f.phase (Nothing ∷ []) ≡ Some (Done v)) t.1 (sym (goes []) ∙ comes))
+
+-- the four ways that the core begins
+
+pub begin-nowhere : (s : Setting) (h : History) (domains : List State) (dom : DomId) → position (has_id dom.0) domains ≡ None → CoreStands s h domains → domain_of s.domains dom ≡ None
+begin-nowhere s h domains dom p st = subst (λ (o : Option State). StateAgrees s h dom o) (not-found domains dom.0 p) (st.each dom)
+
+pub agrees-found : (s : Setting) (h : History) (domains : List State) (dom : DomId) (at : ℕ) (x : State) → position (has_id dom.0) domains ≡ Some at → x ≡ get_or domains at x
+    → CoreStands s h domains → (domain_of s.domains dom ≢ None) × (x.id ≡ dom) × Agrees s h x
+agrees-found s h domains dom at x p here st =
+    subst (λ (o : Option State). StateAgrees s h dom o) (found domains dom.0 at x p ∙ ap (λ (y : State). Some y) (sym here)) (st.each dom)
+
+pub begin-busy : (s : Setting) (h : History) (domains : List State) (dom : DomId) (at : ℕ) (x : State) → position (has_id dom.0) domains ≡ Some at → x ≡ get_or domains at x
+    → is_some x.underway ≡ true → CoreStands s h domains → (domain_of s.domains dom ≢ None) × (open_call h dom.0 ≢ None)
+begin-busy s h domains dom at x p here busy st =
+    let a = agrees-found s h domains dom at x p here st in
+    (a.0, subst (λ (d : DomId). open_call h d.0 ≢ None) a.1 (call-some s h x.id x.underway (open_call h x.id.0) busy a.2.call))
+
+closed-from : (o : Option Open) → is_some o ≡ false → o ≡ None
+closed-from None e = refl
+closed-from (Some o) e = absurd (true≢false e)
+
+pub same-state : (domains : List State) (x : State) (q : ℕ) → state_of domains x.id.0 ≡ Some x → state_of domains q ≡ cond (x.id.0 == q) (Some x) (state_of domains q)
+same-state domains x q e = by (x.id.0 == q) refl
+  where
+    by : (b : Bool) → (x.id.0 == q) ≡ b → state_of domains q ≡ cond b (Some x) (state_of domains q)
+    by true w = ap (state_of domains) (sym (eqb-true x.id.0 q w)) ∙ e
+    by false w = refl
+
+pub begin-answered : (s : Setting) (h : History) (domains : List State) (dom : DomId) (at : ℕ) (x : State) (request : Request) (v : Verdict)
+    → position (has_id dom.0) domains ≡ Some at → x ≡ get_or domains at x → is_some x.underway ≡ false
+    → begun (knowledge_of s.domains s.may x.own x.header x.mappings x.maps_answered) dom request ≡ Some v → CoreStands s h domains
+    → (domain_of s.domains dom ≢ None) × IsRight s h (began dom request (Some (plain_answer v))) × CoreStands s (began dom request (Some (plain_answer v)) ∷ h) domains
+begin-answered s h domains dom at x request v p here idle opens st =
+    let a = agrees-found s h domains dom at x p here st in
+    let f = found domains dom.0 at x p ∙ ap (λ (y : State). Some y) (sym here) in
+    let both = subst (λ (d : DomId). begun (knowledge_of s.domains s.may x.own x.header x.mappings x.maps_answered) d request ≡ Some v → state_of domains d.0 ≡ Some x
+    → IsRight s h (began d request (Some (plain_answer v))) × CoreStands s (began d request (Some (plain_answer v)) ∷ h) domains) a.1
+    (λ op g. let b = begin-done s h x request v a.2 (closed-from x.underway idle) op in (
+      b.0,
+      quiet-stands s (began x.id request (Some (plain_answer v))) h domains domains x (began-quiet x.id request (Some (plain_answer v)) (plain-unmapped v)) st
+          (λ q. same-state domains x q g) (refl, b.1) (λ none. none-some x (sym none ∙ g)),
+    ))
+    opens f in
+    (a.0, both.0, both.1)
+
+pub begin-opened : (s : Setting) (h : History) (domains : List State) (dom : DomId) (at : ℕ) (x : State) (request : Request) (o : Open)
+    → FitsRequest request → position (has_id dom.0) domains ≡ Some at → x ≡ get_or domains at x → is_some x.underway ≡ false
+    → Opens (knowledge_of s.domains s.may x.own x.header x.mappings x.maps_answered) dom request (OpeningOpen o) → CoreStands s h domains
+    → (domain_of s.domains dom ≢ None) × IsRight s h (began dom request None) × CoreStands s (began dom request None ∷ h) (set domains at (record x { underway = Some o }))
+begin-opened s h domains dom at x request o fits p here idle opens st =
+    let a = agrees-found s h domains dom at x p here st in
+    let f = found domains dom.0 at x p ∙ ap (λ (y : State). Some y) (sym here) in
+    let places = position-Some (has_id dom.0) domains at x p in
+    let both = subst (λ (d : DomId). Opens (knowledge_of s.domains s.may x.own x.header x.mappings x.maps_answered) d request (OpeningOpen o) → state_of domains d.0 ≡ Some x
+    → ((k : ℕ) → k < at → has_id d.0 (get_or domains k x) ≡ false)
+    → IsRight s h (began d request None) × CoreStands s (began d request None ∷ h) (set domains at (record x { underway = Some o }))) a.1
+    (λ op g apart. let b = begin-opens s h x request o fits a.2 (closed-from x.underway idle) op in (
+      b.0,
+      quiet-stands s (began x.id request None) h domains (set domains at (record x { underway = Some o })) (record x { underway = Some o }) (began-quiet x.id request None refl) st
+          (λ q. state_of-set domains at x (record x { underway = Some o }) q places.0 (sym here) refl apart) (refl, b.1) (λ none. none-some x (sym none ∙ g)),
+    ))
+    opens f (λ k below. places.2 k below) in
+    (a.0, both.0, both.1)
+
+pub place-at : (domains : List State) (d at : ℕ) (x : State) → position (has_id d) domains ≡ Some at → x ≡ get_or domains at x → slice_get domains at ≡ Some x
+place-at domains d at x p here = slice_get_read domains (length domains) at x refl (position-Some (has_id d) domains at x p).0 here
+
+pub begin-answers : (s : Setting) (h : History) (domains : List State) (dom : DomId) (at : ℕ) (x : State) (request : Request) (v : Verdict) (y : Answer) → y ≡ plain_answer v
+    → position (has_id dom.0) domains ≡ Some at → x ≡ get_or domains at x → is_some x.underway ≡ false
+    → begun (knowledge_of s.domains s.may x.own x.header x.mappings x.maps_answered) dom request ≡ Some v → CoreStands s h domains
+    → (domain_of s.domains dom ≢ None) × IsRight s h (began dom request (Some y)) × CoreStands s (began dom request (Some y) ∷ h) domains
+begin-answers s h domains dom at x request v y e p here idle opens st =
+    subst (λ (z : Answer). (domain_of s.domains dom ≢ None) × IsRight s h (began dom request (Some z)) × CoreStands s (began dom request (Some z) ∷ h) domains) (sym e)
+    (begin-answered s h domains dom at x request v p here idle opens st)
+
+-- a tick without a call
+pub tick-idle : (s : Setting) (h : History) (domains : List State) (dom : DomId) (at : ℕ) (x : State) → position (has_id dom.0) domains ≡ Some at → x ≡ get_or domains at x
+    → x.underway ≡ None → CoreStands s h domains → (domain_of s.domains dom ≢ None) × (open_call h dom.0 ≡ None)
+tick-idle s h domains dom at x p here closed st =
+    let a = agrees-found s h domains dom at x p here st in
+    (a.0, subst (λ (d : DomId). open_call h d.0 ≡ None) a.1 (call-none s h x.id x.underway (open_call h x.id.0) closed a.2.call))

@@ -1,0 +1,171 @@
+-- What an item leaves of the other domains.
+use Rattle.std.proofs.Common.{◌≡◌, ◌≢◌, ◌<◌, ◌≤◌, ◌+◌, ◌-◌, ◌^◌, ℕ, zero, suc, refl, Bool, true, false, List, [], ◌∷◌, ◌++◌, length, Option, Some, None, cond, eqb, sym, ap, ◌∙◌, arith, subst}
+use Rattle.std.specs.Prelude.{nat_lt, ◌==◌, ◌&&◌, All, count_by, slice_get}
+use Rattle.gt_types.specs.Names.{domain_of}
+use Rattle.gt_types.specs.declared.DomId.{DomId}
+use Rattle.gt_types.specs.declared.GrantRef.{GrantRef}
+use Rattle.gt_types.specs.declared.Dir.{Dir}
+use Rattle.gt_types.specs.declared.Dir.TheVariants.{Read, Write}
+use Rattle.gt_entry.specs.declared.entry.Entry.{Entry}
+use Rattle.gt_entry.specs.declared.entry.Entry.TheVariants.{Invalid, Page, Sub, Via}
+use Rattle.gt_core.specs.declared.request.Handle.{Handle}
+use Rattle.gt_core.specs.declared.request.Holder.{Holder}
+use Rattle.gt_core.specs.declared.request.Holder.TheVariants.{Mapping as ByMapping, Leg as ByLeg}
+use Rattle.gt_core.specs.declared.action.Change.{Change}
+use Rattle.gt_core.specs.declared.action.Change.TheVariants.{Publish, Revoke, Demote, Promote}
+use Rattle.gt_core.specs.declared.action.Step.{Step}
+use Rattle.gt_core.specs.declared.action.Step.TheVariants.{LookHeader, LookControl, LookBody, Pin as PinStep, Unpin, StoreBody, Exchange, Read as ReadBytes}
+use Rattle.gt_core.specs.declared.action.Seen.{Seen}
+use Rattle.gt_core.specs.declared.action.Seen.TheVariants.{Nothing, Value, Taken, Missed}
+use Rattle.gt_core.specs.declared.known.Mapping.{Mapping}
+use Rattle.gt_core.specs.declared.known.Own.{Own}
+use Rattle.gt_core.specs.declared.slot.Slot.{Slot}
+use Rattle.gt_core.specs.declared.slot.SlotChange.{SlotChange}
+use Rattle.gt_core.specs.declared.slot.SlotChange.TheVariants.{Pinned, Unpinned, Stored}
+use Rattle.gt_core.specs.declared.trace.Item.{Item}
+use Rattle.gt_core.specs.declared.trace.Happened.TheVariants.{Began, Stepped}
+use Rattle.gt_core.specs.declared.trace.Answer.{Answer}
+use Rattle.gt_core.specs.declared.trace.Answer.TheVariants.{Denied, Done as AnswerDone, Mapped}
+use Rattle.gt_core.specs.Rules.{entry_in, generation_in, mapping_of, control_with, frames_of}
+use Rattle.gt_core.specs.States.{State, state_of, changed_in}
+use Rattle.gt_core.specs.Effects.{with_slot, with_own, with_underway, with_mapping, without_mapping, slot_after, own_after, less}
+use Rattle.gt_core.specs.History.{History, Setting, Pin, live, entry_at, raises_at, raise_of, changed_entry, generation_at, body_at, reads_at, writes_at, table_at, word_at, control_at, mappings_at, mappings_in, maps_answered_at, known_at, open_call, is_pin_on, without, is_holder, is_handle, frame_of}
+use Rattle.gt_core.specs.Legal.{IsSafeChange, IsSpelled}
+use Rattle.gt_core.specs.Standing.{IsLawful, IsLawfullyHeld, FitsWord, FitsEntry, SlotAgrees, Agrees, StateAgrees, CoreStands, CallAgrees}
+use Rattle.gt_core.proofs.Rows.{get-changed, length-changed, state-changed}
+use mathlib.Core.Path.{fun_ext}
+use Rattle.std.proofs.lemmas.Bool.{eqb-true, false≢true}
+use Rattle.std.proofs.lemmas.List.{append-nil, append_assoc}
+use Rattle.std.specs.Prelude.{if◌then◌else◌}
+use Rattle.gt_core.specs.declared.trace.Happened.{Happened}
+use Rattle.gt_core.proofs.Quiet.{kept-contents}
+use Rattle.gt_core.proofs.Beginning.{call-of-other}
+use Rattle.gt_core.specs.declared.slot.Open.{Open}
+use Rattle.gt_core.specs.Rules.{CallerKnowledge}
+use Rattle.gt_core.specs.History.{change_of, change_at, entry_after, raise_after, or_else, stored_at, pinned_by, unpinned_by, one_if_mapped, mapping_on}
+
+none-of : {A : Type 0} (b : Bool) (o : Option A) → b ≡ false → ◌≡◌ {A = Option A} (cond b o None) None
+none-of true o e = absurd (false≢true (sym e))
+none-of false o e = refl
+
+zero-of : (b : Bool) (n m : ℕ) → b ≡ false → cond b n 0 + m ≡ m
+zero-of true n m e = absurd (false≢true (sym e))
+zero-of false n m e = omega arith
+
+pub other-entry : (i : Item) (h : History) (t r : ℕ) → (i.actor.0 == t) ≡ false → entry_at (i ∷ h) t r ≡ entry_at h t r
+unfolding entry_at
+other-entry i h t r apart = ap (λ (c : Option Change). entry_after c (entry_at h t r)) (none-of (i.actor.0 == t) (change_at i.happened r) apart)
+
+pub other-raises : (i : Item) (h : History) (t r : ℕ) → (i.actor.0 == t) ≡ false → raises_at (i ∷ h) t r ≡ raises_at h t r
+unfolding raises_at
+other-raises i h t r apart = ap (λ (c : Option Change). raises_at h t r + raise_after c) (none-of (i.actor.0 == t) (change_at i.happened r) apart) ∙ omega arith
+
+pub other-body : (i : Item) (h : History) (t r : ℕ) (which : Bool) → (i.actor.0 == t) ≡ false → body_at (i ∷ h) t r which ≡ body_at h t r which
+unfolding body_at
+other-body i h t r which apart = ap (λ (o : Option ℕ). or_else o (body_at h t r which)) (none-of (i.actor.0 == t) (stored_at i.happened r which) apart)
+
+pub other-maps : (i : Item) (h : History) (d : ℕ) → (i.actor.0 == d) ≡ false → maps_answered_at (i ∷ h) d ≡ maps_answered_at h d
+unfolding maps_answered_at
+other-maps i h d apart = zero-of (i.actor.0 == d) (one_if_mapped i.answer) (maps_answered_at h d) apart
+
+pub mappings-append : (d : ℕ) (ps qs : List Pin) → mappings_in d (ps ++ qs) ≡ mappings_in d ps ++ mappings_in d qs
+unfolding mappings_in
+mappings-append d [] qs = refl
+mappings-append d (p ∷ ps) qs = ap (λ (l : List Mapping). mapping_on d p p.holder ++ l) (mappings-append d ps qs) ∙ sym (append_assoc (mapping_on d p p.holder) (mappings_in d ps) (mappings_in d qs))
+
+-- another domain's pin holds no mapping of this one
+pub mapping-apart : (d : ℕ) (p : Pin) (holder : Holder) → (p.actor == d) ≡ false → mapping_on d p holder ≡ []
+mapping-apart d p (ByMapping handle) apart = by (p.actor == d) apart
+  where
+    by : (b : Bool) → b ≡ false → cond {A = List Mapping} b (record { handle = handle; dom = p.dom; gref = record { 0 = p.gref }; dir = p.dir; frame = frame_of p.entry } ∷ []) [] ≡ []
+    by true e = absurd (false≢true (sym e))
+    by false e = refl
+mapping-apart d p (ByLeg number) apart = refl
+
+one-apart : (d : ℕ) (p : Pin) → (p.actor == d) ≡ false → mappings_in d (p ∷ []) ≡ []
+unfolding mappings_in
+one-apart d p apart = ap (λ (l : List Mapping). l ++ []) (mapping-apart d p p.holder apart)
+
+no-mappings : (d : ℕ) → mappings_in d [] ≡ []
+unfolding mappings_in
+no-mappings d = refl
+
+pinned-apart : (d : ℕ) (actor : DomId) (happened : Happened) (answer : Option Answer) (before : History) → (actor.0 == d) ≡ false → mappings_in d (pinned_by actor happened answer before) ≡ []
+pinned-apart d actor (Stepped (PinStep dom gref looked dir) Taken) answer before apart = one-apart d _ apart
+pinned-apart d actor (Stepped (PinStep dom gref looked dir) Nothing) answer before apart = no-mappings d
+pinned-apart d actor (Stepped (PinStep dom gref looked dir) (Value w)) answer before apart = no-mappings d
+pinned-apart d actor (Stepped (PinStep dom gref looked dir) (Missed w)) answer before apart = no-mappings d
+pinned-apart d actor (Stepped (LookHeader dom) seen) answer before apart = no-mappings d
+pinned-apart d actor (Stepped (LookControl dom gref) seen) answer before apart = no-mappings d
+pinned-apart d actor (Stepped (LookBody dom gref second) seen) answer before apart = no-mappings d
+pinned-apart d actor (Stepped (Unpin dom gref dir holder) seen) answer before apart = no-mappings d
+pinned-apart d actor (Stepped (StoreBody gref second word) seen) answer before apart = no-mappings d
+pinned-apart d actor (Stepped (Exchange gref looked change) seen) answer before apart = no-mappings d
+pinned-apart d actor (Stepped (ReadBytes dom frame off len) seen) answer before apart = no-mappings d
+pinned-apart d actor (Began request) answer before apart = no-mappings d
+
+-- a pin that another domain gives back
+pub without-apart : (d actor : ℕ) (holder : Holder) (ps : List Pin) → (actor == d) ≡ false → mappings_in d (without actor holder ps) ≡ mappings_in d ps
+unfolding mappings_in without
+without-apart d actor holder [] apart = refl
+without-apart d actor holder (p ∷ ps) apart = by (p.actor == actor) (is_holder p.holder holder) refl (without-apart d actor holder ps apart)
+  where
+    by : (b e : Bool) → (p.actor == actor) ≡ b → mappings_in d (without actor holder ps) ≡ mappings_in d ps
+        → mappings_in d (cond (b && e) ps (p ∷ without actor holder ps)) ≡ mappings_in d (p ∷ ps)
+    by true true own rest =
+        sym (ap (λ (l : List Mapping). l ++ mappings_in d ps) (mapping-apart d p p.holder (ap (λ (n : ℕ). n == d) (eqb-true p.actor actor own) ∙ apart)))
+    by true false own rest = ap (λ (l : List Mapping). mapping_on d p p.holder ++ l) rest
+    by false e own rest = ap (λ (l : List Mapping). mapping_on d p p.holder ++ l) rest
+
+unpinned-apart : (d : ℕ) (actor : DomId) (happened : Happened) (ps : List Pin) → (actor.0 == d) ≡ false → mappings_in d (unpinned_by actor happened ps) ≡ mappings_in d ps
+unpinned-apart d actor (Stepped (Unpin dom gref dir holder) seen) ps apart = without-apart d actor.0 holder ps apart
+unpinned-apart d actor (Stepped (PinStep dom gref looked dir) seen) ps apart = refl
+unpinned-apart d actor (Stepped (LookHeader dom) seen) ps apart = refl
+unpinned-apart d actor (Stepped (LookControl dom gref) seen) ps apart = refl
+unpinned-apart d actor (Stepped (LookBody dom gref second) seen) ps apart = refl
+unpinned-apart d actor (Stepped (StoreBody gref second word) seen) ps apart = refl
+unpinned-apart d actor (Stepped (Exchange gref looked change) seen) ps apart = refl
+unpinned-apart d actor (Stepped (ReadBytes dom frame off len) seen) ps apart = refl
+unpinned-apart d actor (Began request) ps apart = refl
+
+pub other-mappings : (i : Item) (h : History) (d : ℕ) → (i.actor.0 == d) ≡ false → mappings_in d (live (i ∷ h)) ≡ mappings_in d (live h)
+unfolding live
+other-mappings i h d apart =
+    mappings-append d (unpinned_by i.actor i.happened (live h)) (pinned_by i.actor i.happened i.answer h)
+    ∙ ap (λ (l : List Mapping). mappings_in d (unpinned_by i.actor i.happened (live h)) ++ l) (pinned-apart d i.actor i.happened i.answer h apart)
+    ∙ append-nil (mappings_in d (unpinned_by i.actor i.happened (live h)))
+    ∙ unpinned-apart d i.actor i.happened (live h) apart
+
+other-generations : (s : Setting) (i : Item) (h : History) (d : ℕ) → (i.actor.0 == d) ≡ false
+    → ◌≡◌ {A = ℕ → ℕ} (λ r. if nat_lt r 2048 then generation_at s (i ∷ h) d r else 0) (λ r. if nat_lt r 2048 then generation_at s h d r else 0)
+other-generations s i h d apart = fun_ext (λ r. ap (λ (n : ℕ). cond (nat_lt r 2048) (s.first_generation + n) 0) (other-raises i h d r apart))
+
+-- no domain but the actor knows another thing by itself
+pub other-known : (s : Setting) (i : Item) (h : History) (d : DomId) → (i.actor.0 == d.0) ≡ false → known_at s (i ∷ h) d ≡ known_at s h d
+other-known s i h d apart =
+    ap (λ (f : ℕ → Entry). record { domains = s.domains; may = s.may; entry = f; generation = λ r. if nat_lt r 2048 then generation_at s (i ∷ h) d.0 r else 0; header = table_at s (i ∷ h) d; mappings = mappings_at (i ∷ h) d.0; maps_answered = maps_answered_at (i ∷ h) d.0 })
+    (fun_ext (λ r. other-entry i h d.0 r apart))
+    ∙ ap (λ (f : ℕ → ℕ). record { domains = s.domains; may = s.may; entry = λ r. entry_at h d.0 r; generation = f; header = table_at s h d; mappings = mappings_at (i ∷ h) d.0; maps_answered = maps_answered_at (i ∷ h) d.0 })
+    (other-generations s i h d.0 apart)
+    ∙ ap (λ (l : List Mapping). record { domains = s.domains; may = s.may; entry = λ r. entry_at h d.0 r; generation = λ r. if nat_lt r 2048 then generation_at s h d.0 r else 0; header = table_at s h d; mappings = l; maps_answered = maps_answered_at (i ∷ h) d.0 })
+    (other-mappings i h d.0 apart)
+    ∙ ap (λ (n : ℕ). record { domains = s.domains; may = s.may; entry = λ r. entry_at h d.0 r; generation = λ r. if nat_lt r 2048 then generation_at s h d.0 r else 0; header = table_at s h d; mappings = mappings_at h d.0; maps_answered = n })
+    (other-maps i h d.0 apart)
+
+-- a domain that doesn't act: its pins and body words may have changed, its call stands where it stood
+pub other-agrees : (s : Setting) (i : Item) (h : History) (x : State) (slots : List Slot) → (i.actor.0 == x.id.0) ≡ false → Agrees s h x
+    → length slots ≡ 2048 → ((r : ℕ) (slot : Slot) → slice_get slots r ≡ Some slot → SlotAgrees (i ∷ h) x.id.0 r slot)
+    → Agrees s (i ∷ h) (record x { slots = slots })
+other-agrees s i h x slots apart a len agree =
+    record {
+      header = a.header;
+      rows = a.rows;
+      entries = a.entries ∙ fun_ext (λ r. sym (other-entry i h x.id.0 r apart));
+      generations = a.generations ∙ sym (other-generations s i h x.id.0 apart);
+      room = len;
+      slots = agree;
+      mappings = a.mappings ∙ sym (other-mappings i h x.id.0 apart);
+      maps_answered = a.maps_answered ∙ sym (other-maps i h x.id.0 apart);
+      frames = λ f below. a.frames f below ∙ ap (λ (l : List ℕ). Some l) (sym (kept-contents i h x.id.0 f));
+      call = call-of-other s i h x.id x.underway (other-known s i h x.id apart) (λ r which. other-body i h x.id.0 r which apart) apart a.call;
+    }

@@ -1,0 +1,68 @@
+-- How a call that nothing stood against is over.
+use Rattle.std.proofs.lemmas.List.{take_more, map-append}
+use Rattle.std.proofs.Common.{◌≡◌, ◌<◌, ◌+◌, ◌++◌, ◌%◌, map, get_or, ℕ, List, [], ◌∷◌, length, take, drop, Option, Some, None, refl, sym, ap, ◌∙◌, arith, subst, set, replicate, min, Ok}
+use Rattle.gt_types.specs.declared.DomId.{DomId}
+use Rattle.gt_types.specs.declared.GrantRef.{GrantRef}
+use Rattle.gt_types.specs.declared.Dir.{Dir}
+use Rattle.gt_types.specs.declared.config.DomainConfig.{DomainConfig}
+use Rattle.gt_entry.specs.declared.entry.Entry.TheVariants.{Invalid}
+use Rattle.gt_entry.specs.declared.header.Header.{Header}
+use Rattle.gt_core.specs.declared.known.TheConstants.{ENTRIES, FRAME_LEN}
+use Rattle.gt_core.specs.declared.known.Own.{Own}
+use Rattle.gt_core.specs.declared.known.Mapping.{Mapping}
+use Rattle.gt_core.specs.declared.slot.Slot.{Slot}
+use Rattle.gt_core.specs.declared.slot.Open.{Open}
+use Rattle.gt_core.specs.declared.request.Request.{Request}
+use Rattle.gt_core.specs.declared.request.Request.TheVariants.{Grant, Revoke, Demote, Promote, Map, Unmap, Load}
+use Rattle.gt_core.specs.declared.action.Step.{Step}
+use Rattle.gt_core.specs.declared.action.Step.TheVariants.{LookHeader, LookControl, LookBody, Pin as PinStep, Unpin, StoreBody, Exchange, Read as ReadBytes}
+use Rattle.gt_core.specs.declared.trace.Answer.TheVariants.{Done as AnswerDone}
+use Rattle.gt_core.specs.States.{State, first_state, IsLoading, IsMapping}
+use Rattle.gt_core.specs.Effects.{with_underway}
+use Rattle.gt_core.specs.Standing.{Settled, NeedsNoRoom, IsLoadOf}
+
+-- the room of a load is as long as what it asks
+pub loaded : (r : Request) (m n : ℕ) → IsLoading (Some r) m → IsLoadOf r n → m ≡ n
+loaded (Grant gref entry) m n a b = absurd b
+loaded (Revoke gref) m n a b = absurd b
+loaded (Demote gref) m n a b = absurd b
+loaded (Promote gref) m n a b = absurd b
+loaded (Map dom gref flags) m n a b = absurd b
+loaded (Unmap handle) m n a b = absurd b
+loaded (Load handle off len) m n a b = a ∙ b
+
+-- a last step that is no pin and no access
+pub settled-plain : (xs new : List State) (at : ℕ) (d : State) (o : Open) (step : Step)
+    → ((dom : DomId) (gref : GrantRef) (looked : ℕ) (dir : Dir) → step ≡ PinStep dom gref looked dir → ⊥)
+    → ((dom : DomId) (frame off len : ℕ) → step ≡ ReadBytes dom frame off len → ⊥)
+    → new ≡ set xs at (with_underway None d) → Settled xs at d o step AnswerDone new
+settled-plain xs new at d o (LookHeader dom) p r e = (refl, e)
+settled-plain xs new at d o (LookControl dom gref) p r e = (refl, e)
+settled-plain xs new at d o (LookBody dom gref second) p r e = (refl, e)
+settled-plain xs new at d o (PinStep dom gref looked dir) p r e = absurd (p dom gref looked dir refl)
+settled-plain xs new at d o (Unpin dom gref dir holder) p r e = (refl, e)
+settled-plain xs new at d o (StoreBody gref second word) p r e = (refl, e)
+settled-plain xs new at d o (Exchange gref looked change) p r e = (refl, e)
+settled-plain xs new at d o (ReadBytes dom frame off len) p r e = absurd (r dom frame off len refl)
+
+-- a domain at rest, by its parts
+pub at-rest : (d : DomainConfig) (first_gen n m : ℕ) (own : List Own) (slots : List Slot) (mappings : List Mapping) (frames : List (List ℕ))
+    → n ≡ ENTRIES → m ≡ d.frames → own ≡ replicate n (record { entry = Invalid; generation = min first_gen 1048575 })
+    → slots ≡ replicate n (record { reads = 0; writes = 0; first = 0; second = 0 }) → mappings ≡ [] → frames ≡ replicate m (replicate FRAME_LEN 0)
+    → ◌≡◌ {A = State} (record { id = d.id; header = record { version = d.version % 4; frames = d.table_frames % 256 }; own = own; slots = slots; mappings = mappings; maps_answered = 0; frames = frames; underway = None }) (first_state first_gen d)
+at-rest d first_gen n m own slots mappings frames en em eo es ep ef =
+    let h : Header = record { version = d.version % 4; frames = d.table_frames % 256 } in
+    let o : own ≡ replicate ENTRIES (record { entry = Invalid; generation = min first_gen 1048575 }) = eo ∙ ap (λ (k : ℕ). replicate k (record { entry = Invalid; generation = min first_gen 1048575 })) en in
+    let s : slots ≡ replicate ENTRIES (record { reads = 0; writes = 0; first = 0; second = 0 }) = es ∙ ap (λ (k : ℕ). replicate k (record { reads = 0; writes = 0; first = 0; second = 0 })) en in
+    let f : frames ≡ replicate d.frames (replicate FRAME_LEN 0) = ef ∙ ap (λ (k : ℕ). replicate k (replicate FRAME_LEN 0)) em in
+    ap (λ (l : List Own). record { id = d.id; header = h; own = l; slots = slots; mappings = mappings; maps_answered = 0; frames = frames; underway = None }) o
+    ∙ ap (λ (l : List Slot). record { id = d.id; header = h; own = replicate ENTRIES (record { entry = Invalid; generation = min first_gen 1048575 }); slots = l; mappings = mappings; maps_answered = 0; frames = frames; underway = None }) s
+    ∙ ap (λ (l : List Mapping). record { id = d.id; header = h; own = replicate ENTRIES (record { entry = Invalid; generation = min first_gen 1048575 }); slots = replicate ENTRIES (record { reads = 0; writes = 0; first = 0; second = 0 }); mappings = l; maps_answered = 0; frames = frames; underway = None }) ep
+    ∙ ap (λ (l : List (List ℕ)). record { id = d.id; header = h; own = replicate ENTRIES (record { entry = Invalid; generation = min first_gen 1048575 }); slots = replicate ENTRIES (record { reads = 0; writes = 0; first = 0; second = 0 }); mappings = []; maps_answered = 0; frames = l; underway = None }) f
+
+-- one domain more at rest
+pub rest-more : (first_gen : ℕ) (items : List DomainConfig) (i : ℕ) (d : DomainConfig) (old new : List State) (x : State) → i < length items
+    → old ≡ map (first_state first_gen) (take i items) → x ≡ first_state first_gen (get_or items i d) → new ≡ old ++ x ∷ [] → new ≡ map (first_state first_gen) (take (i + 1) items)
+rest-more first_gen items i d old new x within so_far made pushed =
+    pushed ∙ ap (λ (l : List State). l ++ x ∷ []) so_far ∙ ap (λ (y : State). map (first_state first_gen) (take i items) ++ y ∷ []) made
+    ∙ sym (map-append (first_state first_gen) (take i items) (get_or items i d ∷ [])) ∙ ap (λ (l : List DomainConfig). map (first_state first_gen) l) (sym (take_more items i d within))

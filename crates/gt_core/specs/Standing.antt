@@ -1,0 +1,259 @@
+-- When a core stands for a history.
+use Rattle.std.specs.Prelude.{◌≡◌, ◌≢◌, ◌<◌, ◌≤◌, ◌+◌, reverse, ℕ, Bool, true, false, ◌==◌, nat_lt, if◌then◌else◌, List, [], ◌∷◌, ◌++◌, Option, Some, None, slice_get, length, All, Result, IfOk, IsOk}
+use Rattle.gt_types.specs.Names.{domain_of}
+use Rattle.gt_types.specs.declared.DomId.{DomId}
+use Rattle.gt_types.specs.declared.TypeId.{TypeId}
+use Rattle.gt_types.specs.declared.Use.TheVariants.{Map as ForMap}
+use Rattle.gt_core.specs.declared.request.Holder.{Holder}
+use Rattle.gt_core.specs.declared.request.Holder.TheVariants.{Mapping as ByMapping, Leg as ByLeg}
+use Rattle.gt_types.specs.declared.perms.Perms.{Perms}
+use Rattle.gt_types.specs.Config.{IsWithinLimits, IsFirstFault}
+use Rattle.gt_types.specs.declared.config.StartFault.{StartFault}
+use Rattle.gt_types.specs.declared.config.StartFault.TheVariants.{Config as ConfigFault, Memory as NoMemory}
+use Rattle.gt_types.specs.declared.config.Config.{Config}
+use Rattle.gt_core.specs.declared.request.Request.{Request}
+use Rattle.gt_core.specs.declared.action.Verdict.{Verdict}
+use Rattle.gt_core.specs.declared.action.Verdict.TheVariants.{Granted, Refused}
+use Rattle.gt_core.specs.declared.action.Seen.{Seen}
+use Rattle.gt_core.specs.declared.action.Action.TheVariants.{Step as Makes}
+use Rattle.gt_core.specs.declared.trace.Answer.{Answer}
+use Rattle.gt_core.specs.declared.trace.Answer.TheVariants.{Denied, Done as AnswerDone, Mapped, Bytes as BytesAnswer}
+use Rattle.gt_core.specs.declared.trace.Bytes.{Bytes}
+use Rattle.gt_core.specs.declared.request.Handle.{Handle}
+use Rattle.gt_core.specs.declared.action.Step.{Step}
+use Rattle.gt_core.specs.declared.action.Step.TheVariants.{Pin, Read as ReadBytes}
+use Rattle.gt_core.specs.Effects.{with_mapping, with_underway, bytes_in}
+use Rattle.gt_types.specs.declared.Memory.{Memory}
+use Rattle.std.proofs.Math.ListN.{set}
+use Rattle.gt_core.specs.declared.trace.Happened.TheVariants.{Began, Stepped}
+use Rattle.gt_core.specs.declared.trace.Element.{Element}
+use Rattle.gt_core.specs.declared.trace.Element.TheVariants.{Busy, Idle, NoDomain, Item as Did}
+pub use Rattle.gt_core.specs.States.{State, state_of, first_state, IsMapping}
+use Rattle.gt_core.specs.declared.slot.Slot.{Slot}
+use Rattle.gt_core.specs.declared.slot.Open.{Open}
+use Rattle.gt_core.specs.declared.core_state.Begun.{Begun}
+use Rattle.gt_core.specs.declared.core_state.Begun.TheVariants.{Open as BegunOpen, Done as BegunDone, Busy as BegunBusy, NoDomain as BegunNoDomain}
+use Rattle.gt_core.specs.declared.core_state.Ticked.{Ticked}
+use Rattle.gt_core.specs.declared.core_state.Ticked.TheVariants.{Step as TickedStep, Done as TickedDone, Idle as TickedIdle, NoDomain as TickedNoDomain}
+use Rattle.gt_core.specs.declared.core_state.Opening.{Opening}
+use Rattle.gt_core.specs.declared.core_state.Opening.TheVariants.{Open as OpeningOpen, Done as OpeningDone}
+use Rattle.gt_core.specs.Rules.{CallerKnowledge, is_demote, begun, entry_in, generation_in, first_look, before_pin, first_body, second_body, size_of, is_kind, frames_of}
+use Rattle.gt_types.specs.declared.denial.Rule.{Rule}
+use Rattle.gt_entry.specs.declared.entry.Entry.{Entry}
+use Rattle.gt_entry.specs.declared.entry.Entry.TheVariants.{Invalid, Page, Sub, Via}
+use Rattle.gt_entry.specs.declared.control.Control.{Control}
+use Rattle.gt_entry.specs.declared.control.Kind.TheVariants.{Sub as KindSub}
+use Rattle.gt_entry.specs.Words.{IsInRange, control_of, header_of, header_word}
+use Rattle.gt_core.specs.declared.request.Request.TheVariants.{Grant, Revoke, Demote, Promote, Map, Unmap, Load}
+use Rattle.gt_core.specs.declared.leg.Leg.{Leg}
+use Rattle.gt_core.specs.declared.leg.LegPhase.{LegPhase}
+use Rattle.gt_core.specs.declared.leg.LegPhase.TheVariants.{Header, Look, Body, Second, Pinning, Relook}
+use Rattle.gt_core.specs.declared.call.Phase.{Phase}
+use Rattle.gt_core.specs.declared.call.Phase.TheVariants.{Begun as PhaseBegun, Pinning as LegPinning, Storing, StoringSecond, Single, Look as OwnLook, Change as OwnChange, Ended}
+use Rattle.gt_core.specs.Path.{path, steps_of}
+use Rattle.gt_core.specs.Machine.{expects, first_phase, phase_after, IsUnderway, FitsPhase, frame_read}
+use Rattle.gt_core.specs.declared.call.Call.{Call}
+use Rattle.gt_core.specs.declared.action.Action.{Action}
+use Rattle.gt_core.specs.History.{History, Setting, Pin as HeldPin, live, entry_at, generation_at, body_at, reads_at, writes_at, table_at, word_at, control_at, mappings_at, maps_answered_at, known_at, Underway, open_call, values, contents_at, frame_of}
+use Rattle.gt_core.specs.Legal.{Permits, MayUse, stood, StepsSoFar, misses, looked_at, is_in_body, leg_of, IsSpelled}
+
+-- a call begins so: with an answer, or with a first step and all that may follow it
+abbrev pub Opens : CallerKnowledge → DomId → Request → Opening → Type 0
+Opens k dom request (OpeningDone verdict) = begun k dom request ≡ Some verdict
+Opens k dom request (OpeningOpen o) =
+    (begun k dom request ≡ None) × (o.call.caller ≡ dom) × (o.call.request ≡ request)
+    × (expects k dom request o.call.phase [] ≡ Some (Makes o.step))
+    × ((vs : List Seen) → expects k dom request o.call.phase vs ≡ steps_of k dom request vs)
+    × (o.call.phase ≡ first_phase k dom request)
+
+-- a call of the caller, standing here, goes on so after what its step saw
+pub record Advances (k : CallerKnowledge) (caller : DomId) (request : Request) (phase : Phase) (seen : Seen) (new : Call) (action : Action) : Type 0 where
+  pub by : new.caller ≡ caller
+  pub asks : new.request ≡ request
+  pub stands : new.phase ≡ phase_after k caller request phase seen
+  pub goes_on : IsUnderway k caller request phase → FitsPhase k caller request phase seen → (vs : List Seen) → expects k caller request new.phase vs ≡ expects k caller request phase (seen ∷ vs)
+  pub next : IsUnderway k caller request phase → FitsPhase k caller request phase seen → expects k caller request new.phase [] ≡ Some action
+
+abbrev pub plain_answer : Verdict → Answer
+plain_answer Granted = AnswerDone
+plain_answer (Refused denial) = Denied denial
+
+-- what the trace has for what `begin` did
+abbrev pub begun_element : DomId → Request → Begun → Element
+begun_element dom request BegunOpen = Did (record { actor = dom; happened = Began request; answer = None })
+begun_element dom request (BegunDone answer) = Did (record { actor = dom; happened = Began request; answer = Some answer })
+begun_element dom request BegunBusy = Busy
+begun_element dom request BegunNoDomain = NoDomain
+
+-- what the trace has for what `tick` did
+abbrev pub ticked_element : DomId → Ticked → Element
+ticked_element dom (TickedStep step seen) = Did (record { actor = dom; happened = Stepped step seen; answer = None })
+ticked_element dom (TickedDone step seen answer) = Did (record { actor = dom; happened = Stepped step seen; answer = Some answer })
+ticked_element dom TickedIdle = Idle
+ticked_element dom TickedNoDomain = NoDomain
+
+abbrev pub setting_of : Config → (TypeId → TypeId → Perms → Bool) → Setting
+setting_of config may = record { domains = config.domains.items; first_generation = config.first_gen; may = may }
+
+-- a request for so many bytes
+abbrev pub IsLoadOf : Request → ℕ → Type 0
+IsLoadOf (Load handle off len) n = len ≡ n
+IsLoadOf request n = ⊥
+
+-- a call that nothing stood against is over after this last step: its answer, and the states
+abbrev pub Settled : List State → ℕ → State → Open → Step → Answer → List State → Type 0
+Settled xs at d o (Pin dom gref looked dir) answer new =
+    (handle : Handle) × (answer ≡ Mapped handle) × (handle.serial ≡ d.maps_answered)
+    × (new ≡ set xs at (with_mapping (record { handle = handle; dom = dom; gref = gref; dir = dir; frame = frame_read o.call.phase }) d))
+Settled xs at d o (ReadBytes dom frame off len) answer new =
+    (b : Bytes) × (answer ≡ BytesAnswer b) × (new ≡ set xs at (with_underway None d))
+    × ((n : ℕ) → IsLoadOf o.call.request n → length (bytes_in new dom.0 frame off n) ≡ n → b.bytes.items ≡ bytes_in new dom.0 frame off n)
+Settled xs at d o step answer new = (answer ≡ AnswerDone) × (new ≡ set xs at (with_underway None d))
+
+abbrev pub NeedsNoRoom : Request → Step → Type 0
+NeedsNoRoom request (Pin dom gref looked dir) = IsMapping (Some request)
+NeedsNoRoom request step = Unit {0}
+
+abbrev pub Settles : List State → ℕ → State → Open → Result Answer Memory → List State → Type 0
+Settles xs at d o result new = IfOk result (λ answer. Settled xs at d o o.step answer new) × (NeedsNoRoom o.call.request o.step → IsOk result)
+
+-- a run can't start for this reason: the first fault of its configuration, or want of memory where that has none
+abbrev pub IsStartFaultOf : Config → StartFault → Type 0
+IsStartFaultOf config (ConfigFault fault) = IsFirstFault config fault
+IsStartFaultOf config NoMemory = IsWithinLimits config
+
+-- what a call has seen
+
+-- a control word of the leg's entry was looked at in this try, no rule on the entry stood, and the entry's generation was reached
+pub record HasLooked (s : Setting) (h : History) (l : Leg) (so_far : StepsSoFar) (more word : ℕ) : Type 0 where
+  pub within : l.gref.0 < 2048
+  pub turn : misses so_far + more ≡ 3
+  pub looked : looked_at so_far ≡ Some word
+  pub passed : first_look l (control_of word) ≡ None
+  pub reached : (control_of word).generation ≤ generation_at s h l.dom.0 l.gref.0
+
+abbrev pub IsValid : Entry → Type 0
+IsValid entry = entry ≢ Invalid
+
+abbrev pub IsSub : Entry → Type 0
+IsSub (Sub dom ro frame off len) = Unit {0}
+IsSub entry = ⊥
+
+-- while the entry has the generation that was looked at, and is such an entry, this part of it is what was read
+abbrev pub IsStill : Setting → History → Leg → ℕ → (Entry → Type 0) → (Entry → ℕ) → ℕ → Type 0
+IsStill s h l word IsSuch part body =
+    generation_at s h l.dom.0 l.gref.0 ≡ (control_of word).generation → IsSuch (entry_at h l.dom.0 l.gref.0) → part (entry_at h l.dom.0 l.gref.0) ≡ body
+
+-- the body words of the try were read, and this rule stands on them
+pub record HasRead (s : Setting) (h : History) (l : Leg) (so_far : StepsSoFar) (word body second : ℕ) (rule : Option Rule) : Type 0 where
+  pub in_body : is_in_body so_far ≡ true
+  pub judged : before_pin l (control_of word) body second ≡ rule
+  pub first_stays : IsStill s h l word IsValid first_body body
+  pub second_stays : is_kind (control_of word).kind KindSub ≡ true → IsStill s h l word IsSub second_body second
+
+-- where a leg stands, by the steps so far
+abbrev pub LegStands : Setting → History → Leg → StepsSoFar → LegPhase → Type 0
+LegStands s h l so_far Header = Unit {0}
+LegStands s h l so_far (Look more) = (l.gref.0 < 2048) × (misses so_far + more ≡ 3) × (is_in_body so_far ≡ false)
+LegStands s h l so_far (Body more word) = HasLooked s h l so_far more word
+LegStands s h l so_far (Second more word body) = HasLooked s h l so_far more word × IsStill s h l word IsValid first_body body
+LegStands s h l so_far (Pinning more word body second) = HasLooked s h l so_far more word × HasRead s h l so_far word body second None
+LegStands s h l so_far (Relook more word rule) =
+    HasLooked s h l so_far more word × ((body : ℕ) × (second : ℕ) × HasRead s h l so_far word body second (Some rule))
+
+-- the body words of a grant that it has stored so far
+abbrev pub HasStored : History → DomId → Request → Type 0
+HasStored h d (Grant gref entry) = IsSpelled entry (body_at h d.0 gref.0 false) (body_at h d.0 gref.0 true)
+HasStored h d request = Unit {0}
+
+abbrev pub HasStoredFirst : History → DomId → Request → Type 0
+HasStoredFirst h d (Grant gref entry) = body_at h d.0 gref.0 false ≡ first_body entry
+HasStoredFirst h d request = ⊥
+
+-- where a call stands, by the steps so far (the newest first)
+abbrev pub PhaseStands : Setting → History → DomId → Request → StepsSoFar → Phase → Type 0
+PhaseStands s h d request so_far PhaseBegun = ⊥
+PhaseStands s h d request so_far (LegPinning l phase) =
+    (leg_of (known_at s h d) d request ≡ Some l) × (domain_of s.domains l.dom ≢ None) × LegStands s h l so_far phase
+PhaseStands s h d request so_far Storing = Unit {0}
+PhaseStands s h d request so_far StoringSecond = HasStoredFirst h d request
+PhaseStands s h d request so_far Single = HasStored h d request
+PhaseStands s h d request so_far (OwnLook more) = (misses so_far + more ≡ 3) × (is_in_body so_far ≡ false)
+PhaseStands s h d request so_far (OwnChange more word) =
+    (misses so_far + more ≡ 3) × (looked_at so_far ≡ Some word) × (is_demote request ≡ true → (control_of word).writes ≡ 0)
+PhaseStands s h d request so_far (Ended verdict) = ⊥
+
+-- the domain that an entry names has a number of 16 bits
+abbrev pub FitsEntry : Entry → Type 0
+FitsEntry Invalid = Unit {0}
+FitsEntry (Page dom ro frame) = dom.0 < 65536
+FitsEntry (Sub dom ro frame off len) = dom.0 < 65536
+FitsEntry (Via dom ro dom2 gref) = dom.0 < 65536
+
+abbrev pub FitsRequest : Request → Type 0
+FitsRequest (Grant gref entry) = FitsEntry entry
+FitsRequest request = Unit {0}
+
+-- an open call is where its steps have led it, and no rule stood so far
+pub record OpenAgrees (s : Setting) (h : History) (id : DomId) (o : Open) (c : Underway) : Type 0 where
+  pub caller : o.call.caller ≡ id
+  pub request : o.call.request ≡ c.request
+  pub comes : expects (known_at s h id) id c.request o.call.phase [] ≡ Some (Makes o.step)
+  pub leads : (vs : List Seen) → path (known_at s h id) id c.request (values c ++ vs) ≡ expects (known_at s h id) id c.request o.call.phase vs
+  pub fair : stood s h id.0 ≡ None
+  pub place : PhaseStands s h id c.request (reverse c.steps) o.call.phase
+  pub fits : FitsRequest c.request
+
+abbrev pub CallAgrees : Setting → History → DomId → Option Open → Option Underway → Type 0
+CallAgrees s h id None None = Unit {0}
+CallAgrees s h id (Some o) (Some c) = OpenAgrees s h id o c
+CallAgrees s h id None (Some c) = ⊥
+CallAgrees s h id (Some o) None = ⊥
+
+-- the pins and body words of an entry
+pub record SlotAgrees (h : History) (t r : ℕ) (slot : Slot) : Type 0 where
+  pub reads : slot.reads ≡ reads_at h t r
+  pub writes : slot.writes ≡ writes_at h t r
+  pub first : slot.first ≡ body_at h t r false
+  pub second : slot.second ≡ body_at h t r true
+
+-- a domain is as the history leaves it
+pub record Agrees (s : Setting) (h : History) (d : State) : Type 0 where
+  pub header : d.header ≡ table_at s h d.id
+  pub rows : length d.own ≡ 2048
+  pub entries : entry_in d.own ≡ (λ r. entry_at h d.id.0 r)
+  pub generations : generation_in d.own ≡ (λ r. if nat_lt r 2048 then generation_at s h d.id.0 r else 0)
+  pub room : length d.slots ≡ 2048
+  pub slots : (r : ℕ) (slot : Slot) → slice_get d.slots r ≡ Some slot → SlotAgrees h d.id.0 r slot
+  pub mappings : d.mappings ≡ mappings_at h d.id.0
+  pub maps_answered : d.maps_answered ≡ maps_answered_at h d.id.0
+  pub frames : (f : ℕ) → f < frames_of s.domains d.id → slice_get d.frames f ≡ Some (contents_at h d.id.0 f)
+  pub call : CallAgrees s h d.id d.underway (open_call h d.id.0)
+
+abbrev pub StateAgrees : Setting → History → DomId → Option State → Type 0
+StateAgrees s h dom None = domain_of s.domains dom ≡ None
+StateAgrees s h dom (Some d) = (domain_of s.domains dom ≢ None) × (d.id ≡ dom) × Agrees s h d
+
+abbrev pub IsLawfullyHeld : Setting → HeldPin → Holder → Type 0
+IsLawfullyHeld s p (ByMapping handle) =
+    Permits p.entry (record { 0 = p.actor }) p.dir ForMap 0 0 × MayUse s (record { 0 = p.actor }) p.dom p.dir
+    × (frame_of p.entry < frames_of s.domains p.dom) × (domain_of s.domains p.dom ≢ None)
+IsLawfullyHeld s p (ByLeg number) = Unit {0}
+
+-- the pin of a mapping was taken on an entry that permitted it, for a frame of its owner, and the policy allows what it is for
+abbrev pub IsLawful : Setting → HeldPin → Type 0
+IsLawful s p = IsLawfullyHeld s p p.holder
+
+-- each part of a control has room in its word
+pub record FitsWord (c : Control) : Type 0 where
+  pub in_range : IsInRange c
+  pub domain : c.dom.0 < 65536
+
+-- the core stands for the history
+pub record CoreStands (s : Setting) (h : History) (domains : List State) : Type 0 where
+  pub each : (dom : DomId) → StateAgrees s h dom (state_of domains dom.0)
+  pub tables : (dom : DomId) → (size_of (table_at s h dom) ≤ 2048) × (header_of (header_word (table_at s h dom)) ≡ table_at s h dom)
+  pub words : (t r : ℕ) → r < 2048 → FitsWord (control_at s h t r)
+  pub lawful : All (IsLawful s) (live h)
+  pub free : (t r : ℕ) → entry_at h t r ≡ Invalid → (reads_at h t r ≡ 0) × (writes_at h t r ≡ 0)
+  pub spelled : (t r : ℕ) → entry_at h t r ≢ Invalid → IsSpelled (entry_at h t r) (body_at h t r false) (body_at h t r true)

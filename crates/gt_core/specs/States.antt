@@ -1,0 +1,69 @@
+-- A domain's state, as the core keeps it.
+use Rattle.std.specs.Prelude.{ℕ, Bool, List, [], ◌∷◌, Option, Some, None, ◌==◌, ◌≡◌, ◌<◌, ◌%◌, min, replicate, if◌then◌else◌}
+use Rattle.gt_types.specs.declared.config.DomainConfig.{DomainConfig}
+use Rattle.gt_entry.specs.declared.entry.Entry.TheVariants.{Invalid}
+use Rattle.gt_core.specs.declared.known.TheConstants.{ENTRIES, FRAME_LEN}
+use Rattle.gt_core.specs.declared.request.Request.{Request}
+use Rattle.gt_core.specs.declared.request.Request.TheVariants.{Map, Load}
+use Rattle.gt_types.specs.declared.DomId.{DomId}
+use Rattle.gt_entry.specs.declared.header.Header.{Header}
+use Rattle.gt_core.specs.declared.known.Own.{Own}
+use Rattle.gt_core.specs.declared.known.Mapping.{Mapping}
+use Rattle.gt_core.specs.declared.slot.Slot.{Slot}
+use Rattle.gt_core.specs.declared.slot.Open.{Open}
+
+-- what the core keeps of a domain: its header, what its owner knows of each entry, the pins and body words of each entry, its mappings, how many of its maps were answered Ok, its frames, and its call under way (own)
+pub record State : Type 0 where
+  pub id : DomId
+  pub header : Header
+  pub own : List Own
+  pub slots : List Slot
+  pub mappings : List Mapping
+  pub maps_answered : ℕ
+  pub frames : List (List ℕ)
+  pub underway : Option Open
+
+-- what the call under way asks
+abbrev pub asked_in : Option Open → Option Request
+asked_in None = None
+asked_in (Some o) = Some o.call.request
+
+-- a map is under way
+abbrev pub IsMapping : Option Request → Type 0
+IsMapping (Some (Map dom gref flags)) = Unit {0}
+IsMapping _ = ⊥
+
+-- a load under way is of so many bytes
+abbrev pub IsLoading : Option Request → ℕ → Type 0
+IsLoading (Some (Load handle off len)) n = n ≡ len
+IsLoading _ n = Unit {0}
+
+-- the room that a call's answer wants was made when it began: for one more mapping, or for the bytes of a load
+abbrev pub HasRoom : Option Request → ℕ → ℕ → Option ℕ → Type 0
+HasRoom (Some (Map dom gref flags)) mappings capacity bytes = mappings < capacity
+HasRoom (Some (Load handle off len)) mappings capacity bytes = bytes ≡ Some len
+HasRoom _ mappings capacity bytes = Unit {0}
+
+-- a domain at rest
+abbrev pub first_state : ℕ → DomainConfig → State
+first_state first_gen d =
+    record {
+      id = d.id;
+      header = record { version = d.version % 4; frames = d.table_frames % 256 };
+      own = replicate ENTRIES (record { entry = Invalid; generation = min first_gen 1048575 });
+      slots = replicate ENTRIES (record { reads = 0; writes = 0; first = 0; second = 0 });
+      mappings = [];
+      maps_answered = 0;
+      frames = replicate d.frames (replicate FRAME_LEN 0);
+      underway = None;
+    }
+
+-- the first state with this number
+abbrev pub state_of : List State → ℕ → Option State
+state_of [] d = None
+state_of (x ∷ xs) d = if x.id.0 == d then Some x else state_of xs d
+
+-- the first state with this number, changed
+abbrev pub changed_in : ℕ → (State → State) → List State → List State
+changed_in d f [] = []
+changed_in d f (x ∷ xs) = if x.id.0 == d then f x ∷ xs else x ∷ changed_in d f xs

@@ -1,0 +1,336 @@
+//! A call as a machine: it sees what its steps show, and gives the next action.
+ghost use Rattle.std.specs.Prelude.{◌≡◌, List, [], ◌∷◌, Option};
+ghost use Rattle.gt_core.specs.declared.action.Seen.{Seen};
+ghost use Rattle.gt_core.specs.Rules.{knowledge_of, is_demote, begun, mapping_of};
+ghost use Rattle.gt_core.specs.Path.{entry_refusal, map_leg, idle_word, to_ro_or_back};
+ghost use Rattle.gt_core.specs.Machine.{expects, own_gref, is_sub, first_phase, after_leg, after_single, after_own_look, after_own_miss, phase_after, single_at, store_at, second_at, unpin_of, read_of, action_at, IsUnderway, FitsPhase};
+
+use crate::action::{Action, Change, Seen, Step, Verdict};
+use crate::judging::{find_domain, find_mapping, judge_beginning, own_at, resolve};
+use crate::known::{Known, Mapping};
+use crate::leg::{Leg, LegNext, LegPhase, body_read, entry_refusal, leg_next, leg_step};
+use crate::request::{Handle, Holder, Request};
+use gt_entry::{Control, Entry};
+use gt_types::{Allows, Dir, DomId, GrantRef, Rule, Use};
+
+/// Where a call stands. `more` counts the turns that may follow this one.
+#[derive(Clone, Copy, Debug, PartialEq, Eq)]
+pub enum Phase {
+    Begun,
+    Pinning(Leg, LegPhase),
+    Storing,
+    StoringSecond,
+    Single,
+    Look { more: u8 },
+    Change { more: u8, word: u64 },
+    Ended(Verdict),
+}
+
+/// A call under way.
+#[derive(Clone, Copy, Debug, PartialEq, Eq)]
+pub struct Call {
+    pub caller: DomId,
+    pub request: Request,
+    pub phase: Phase,
+}
+
+/// How a call begins.
+#[derive(Clone, Copy, Debug, PartialEq, Eq)]
+pub enum Start {
+    Open(Call),
+    Done(Verdict),
+}
+
+fn map_leg<P: Allows>(
+    known: &Known<'_, P>,
+    caller: DomId,
+    dom: DomId,
+    gref: GrantRef,
+    flags: u32,
+) -> Leg
+    ensures { result ≡ map_leg (knowledge_of known.now.config.now.domains.items (P.may known.now.rights.now) known.now.own.now known.now.header known.now.mappings.now known.now.maps_answered) caller dom gref flags }
+{
+    let owner = resolve(caller, dom);
+    Leg {
+        judge: caller,
+        dom: owner,
+        gref,
+        dir: if flags == 2 { Dir::Write } else { Dir::Read },
+        purpose: Use::Map,
+        second: false,
+        off: 0,
+        len: 0,
+        frames: match find_domain(&known.config.domains, owner) {
+            Some(domain) => domain.frames,
+            None => 0,
+        },
+    }
+}
+
+fn own_gref(request: Request) -> GrantRef
+    ensures { result ≡ own_gref request }
+{
+    match request {
+        Request::Grant { gref, .. }
+        | Request::Revoke { gref }
+        | Request::Demote { gref }
+        | Request::Promote { gref }
+        | Request::Map { gref, .. } => gref,
+        Request::Unmap { .. } | Request::Load { .. } => GrantRef(0),
+    }
+}
+
+fn is_demote(request: Request) -> bool
+    ensures { result ≡ is_demote request }
+{
+    matches!(request, Request::Demote { .. })
+}
+
+fn is_sub(request: Request) -> bool
+    ensures { result ≡ is_sub request }
+{
+    match request {
+        Request::Grant { entry, .. } => matches!(entry, Entry::Sub { .. }),
+        _ => false,
+    }
+}
+
+fn after_leg(leg: Leg, next: LegNext) -> Phase
+    ensures { result ≡ after_leg leg next }
+{
+    match next {
+        LegNext::Going(phase) => Phase::Pinning(leg, phase),
+        LegNext::Refused(denial) => Phase::Ended(Verdict::Refused(denial)),
+        LegNext::Pinned { .. } => Phase::Ended(Verdict::Granted),
+    }
+}
+
+fn after_single(caller: DomId, gref: GrantRef, seen: Seen) -> Phase
+    ensures { result ≡ after_single caller gref seen }
+{
+    match seen {
+        Seen::Missed(found) => {
+            Phase::Ended(Verdict::Refused(entry_refusal(caller, gref, Rule::N19, found)))
+        }
+        _ => Phase::Ended(Verdict::Granted),
+    }
+}
+
+fn after_own_look(caller: DomId, request: Request, more: u8, word: u64) -> Phase
+    ensures { result ≡ after_own_look caller request more word }
+{
+    if is_demote(request) && Control::unpack(word).writes > 0 {
+        let gref = own_gref(request);
+        Phase::Ended(Verdict::Refused(entry_refusal(caller, gref, Rule::N19, word)))
+    } else {
+        Phase::Change { more, word }
+    }
+}
+
+fn after_own_miss(caller: DomId, request: Request, more: u8, found: u64) -> Phase
+    ensures { result ≡ after_own_miss caller request more found }
+{
+    if more > 0 {
+        Phase::Look { more: more - 1 }
+    } else {
+        let gref = own_gref(request);
+        Phase::Ended(Verdict::Refused(entry_refusal(caller, gref, Rule::N18, found)))
+    }
+}
+
+fn first_phase<P: Allows>(known: &Known<'_, P>, caller: DomId, request: Request) -> Phase
+    ensures { result ≡ first_phase (knowledge_of known.now.config.now.domains.items (P.may known.now.rights.now) known.now.own.now known.now.header known.now.mappings.now known.now.maps_answered) caller request }
+{
+    match request {
+        Request::Grant { .. } => Phase::Storing,
+        Request::Demote { .. } | Request::Promote { .. } => Phase::Look { more: 3 },
+        Request::Map { dom, gref, flags } => {
+            Phase::Pinning(map_leg(known, caller, dom, gref, flags), LegPhase::Header)
+        }
+        Request::Revoke { .. } | Request::Unmap { .. } | Request::Load { .. } => Phase::Single,
+    }
+}
+
+fn idle_word<P: Allows>(known: &Known<'_, P>, gref: GrantRef) -> u64
+    ensures { result ≡ idle_word (knowledge_of known.now.config.now.domains.items (P.may known.now.rights.now) known.now.own.now known.now.header known.now.mappings.now known.now.maps_answered) gref }
+{
+    let own = own_at(known.own, gref);
+    Control::of_entry(own.entry(), own.generation(), 0, 0).pack()
+}
+
+fn unpin(known: &[Mapping], handle: Handle) -> Action
+    ensures { result ≡ unpin_of (mapping_of known.now handle) }
+{
+    match find_mapping(known, handle) {
+        Some(mapping) => Action::Step(Step::Unpin {
+            dom: mapping.dom,
+            gref: mapping.gref,
+            dir: mapping.dir,
+            holder: Holder::Mapping(mapping.handle),
+        }),
+        None => Action::Done(Verdict::Granted),
+    }
+}
+
+fn read(known: &[Mapping], handle: Handle, off: u16, len: u16) -> Action
+    ensures { result ≡ read_of (mapping_of known.now handle) off len }
+{
+    match find_mapping(known, handle) {
+        Some(mapping) => Action::Step(Step::Read {
+            dom: mapping.dom,
+            frame: mapping.frame,
+            off,
+            len,
+        }),
+        None => Action::Done(Verdict::Granted),
+    }
+}
+
+fn single<P: Allows>(known: &Known<'_, P>, request: Request) -> Action
+    ensures { result ≡ single_at (knowledge_of known.now.config.now.domains.items (P.may known.now.rights.now) known.now.own.now known.now.header known.now.mappings.now known.now.maps_answered) request }
+{
+    match request {
+        Request::Grant { gref, entry } => Action::Step(Step::Exchange {
+            gref,
+            looked: idle_word(known, gref),
+            change: Change::Publish(entry),
+        }),
+        Request::Revoke { gref } => Action::Step(Step::Exchange {
+            gref,
+            looked: idle_word(known, gref),
+            change: Change::Revoke,
+        }),
+        Request::Unmap { handle } => unpin(known.mappings, handle),
+        Request::Load { handle, off, len } => read(known.mappings, handle, off, len),
+        _ => Action::Done(Verdict::Granted),
+    }
+}
+
+fn store(request: Request) -> Action
+    ensures { result ≡ store_at request }
+{
+    match request {
+        Request::Grant { gref, entry } => Action::Step(Step::StoreBody {
+            gref,
+            second: false,
+            word: entry.first_body(),
+        }),
+        _ => Action::Done(Verdict::Granted),
+    }
+}
+
+fn store_second(request: Request) -> Action
+    ensures { result ≡ second_at request }
+{
+    match request {
+        Request::Grant { gref, entry } => Action::Step(Step::StoreBody {
+            gref,
+            second: true,
+            word: entry.second_body(),
+        }),
+        _ => Action::Done(Verdict::Granted),
+    }
+}
+
+fn change(request: Request) -> Change
+    ensures { result ≡ to_ro_or_back (is_demote request) }
+{
+    if is_demote(request) {
+        Change::Demote
+    } else {
+        Change::Promote
+    }
+}
+
+impl Call {
+    ghost use Rattle.std.specs.Prelude.{◌≡◌, List, [], ◌∷◌, Option};
+    ghost use Rattle.gt_core.specs.declared.action.Seen.{Seen};
+    ghost use Rattle.gt_core.specs.declared.action.Verdict.TheVariants.{Granted};
+    ghost use Rattle.gt_core.specs.Rules.{knowledge_of, begun};
+    ghost use Rattle.gt_core.specs.Machine.{expects, phase_after, action_at, IsUnderway, FitsPhase, starts_as, frame_read};
+
+    /// Judges the beginning of a call.
+    pub fn begin<P: Allows>(caller: DomId, request: Request, known: &Known<'_, P>) -> Start
+        ensures { result ≡ starts_as caller request (begun (knowledge_of known.now.config.now.domains.items (P.may known.now.rights.now) known.now.own.now known.now.header known.now.mappings.now known.now.maps_answered) caller request) }
+    {
+        match judge_beginning(known, caller, request) {
+            Some(verdict) => Start::Done(verdict),
+            None => Start::Open(Call {
+                caller,
+                request,
+                phase: Phase::Begun,
+            }),
+        }
+    }
+
+    fn next_phase<P: Allows>(&self, known: &Known<'_, P>, seen: Seen) -> Phase
+        ensures { result ≡ phase_after (knowledge_of known.now.config.now.domains.items (P.may known.now.rights.now) known.now.own.now known.now.header known.now.mappings.now known.now.maps_answered) self.now.caller self.now.request self.now.phase seen }
+    {
+        match self.phase {
+            Phase::Begun => first_phase(known, self.caller, self.request),
+            Phase::Pinning(leg, phase) => after_leg(leg, leg_next(leg, phase, seen)),
+            Phase::Storing => {
+                if is_sub(self.request) {
+                    Phase::StoringSecond
+                } else {
+                    Phase::Single
+                }
+            }
+            Phase::StoringSecond => Phase::Single,
+            Phase::Single => after_single(self.caller, own_gref(self.request), seen),
+            Phase::Look { more } => match seen {
+                Seen::Value(word) => after_own_look(self.caller, self.request, more, word),
+                _ => Phase::Look { more },
+            },
+            Phase::Change { more, .. } => match seen {
+                Seen::Missed(found) => after_own_miss(self.caller, self.request, more, found),
+                _ => Phase::Ended(Verdict::Granted),
+            },
+            Phase::Ended(verdict) => Phase::Ended(verdict),
+        }
+    }
+
+    fn action<P: Allows>(&self, known: &Known<'_, P>) -> Action
+        ensures { result ≡ action_at (knowledge_of known.now.config.now.domains.items (P.may known.now.rights.now) known.now.own.now known.now.header known.now.mappings.now known.now.maps_answered) self.now.caller self.now.request self.now.phase }
+    {
+        match self.phase {
+            Phase::Begun => Action::Done(Verdict::Granted),
+            Phase::Pinning(leg, phase) => Action::Step(leg_step(leg, phase)),
+            Phase::Storing => store(self.request),
+            Phase::StoringSecond => store_second(self.request),
+            Phase::Single => single(known, self.request),
+            Phase::Look { .. } => Action::Step(Step::LookControl {
+                dom: self.caller,
+                gref: own_gref(self.request),
+            }),
+            Phase::Change { word, .. } => Action::Step(Step::Exchange {
+                gref: own_gref(self.request),
+                looked: word,
+                change: change(self.request),
+            }),
+            Phase::Ended(verdict) => Action::Done(verdict),
+        }
+    }
+
+    /// The first body word that the try under way has read, where its pin comes next: for a full page the frame.
+    pub fn frame(&self) -> u64
+        ensures { result ≡ frame_read self.now.phase }
+    {
+        match self.phase {
+            Phase::Pinning(_, phase) => body_read(phase),
+            _ => 0,
+        }
+    }
+
+    /// Takes what the last step saw, and gives the next action. The beginning sees nothing.
+    pub fn next<P: Allows>(&mut self, known: &Known<'_, P>, seen: Seen) -> Action
+        ensures caller { self.new.caller ≡ self.old.caller }
+        ensures request { self.new.request ≡ self.old.request }
+        ensures phase { self.new.phase ≡ phase_after (knowledge_of known.now.config.now.domains.items (P.may known.now.rights.now) known.now.own.now known.now.header known.now.mappings.now known.now.maps_answered) self.old.caller self.old.request self.old.phase seen }
+        ensures goes_on { IsUnderway (knowledge_of known.now.config.now.domains.items (P.may known.now.rights.now) known.now.own.now known.now.header known.now.mappings.now known.now.maps_answered) self.old.caller self.old.request self.old.phase → FitsPhase (knowledge_of known.now.config.now.domains.items (P.may known.now.rights.now) known.now.own.now known.now.header known.now.mappings.now known.now.maps_answered) self.old.caller self.old.request self.old.phase seen → (vs : List Seen) → expects (knowledge_of known.now.config.now.domains.items (P.may known.now.rights.now) known.now.own.now known.now.header known.now.mappings.now known.now.maps_answered) self.old.caller self.old.request self.new.phase vs ≡ expects (knowledge_of known.now.config.now.domains.items (P.may known.now.rights.now) known.now.own.now known.now.header known.now.mappings.now known.now.maps_answered) self.old.caller self.old.request self.old.phase (seen ∷ vs) }
+        ensures action { IsUnderway (knowledge_of known.now.config.now.domains.items (P.may known.now.rights.now) known.now.own.now known.now.header known.now.mappings.now known.now.maps_answered) self.old.caller self.old.request self.old.phase → FitsPhase (knowledge_of known.now.config.now.domains.items (P.may known.now.rights.now) known.now.own.now known.now.header known.now.mappings.now known.now.maps_answered) self.old.caller self.old.request self.old.phase seen → expects (knowledge_of known.now.config.now.domains.items (P.may known.now.rights.now) known.now.own.now known.now.header known.now.mappings.now known.now.maps_answered) self.old.caller self.old.request self.new.phase [] ≡ Some result }
+    {
+        self.phase = self.next_phase(known, seen);
+        self.action(known)
+    }
+}

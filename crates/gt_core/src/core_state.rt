@@ -1,0 +1,327 @@
+//! The core: a machine over events.
+ghost use Rattle.std.specs.Prelude.{◌≡◌, ◌<◌, List, [], length, slice_get, map, replicate, IfOk, IfErr, OnOk, OnErr, IsOk, Option, Some, None};
+ghost use Rattle.gt_types.specs.Config.{IsWithinLimits};
+ghost use Rattle.gt_core.specs.Rules.{knowledge_of, begun};
+ghost use Rattle.gt_core.specs.History.{History};
+ghost use Rattle.gt_core.specs.Legal.{MayDo, grown, Legal};
+ghost use Rattle.gt_core.specs.States.{State, changed_in};
+ghost use Rattle.gt_core.specs.Effects.{with_underway, bytes_in};
+ghost use Rattle.gt_core.specs.Standing.{Opens, Advances, CoreStands, Settles, IsMapping, IsStartFaultOf, setting_of, begun_element, ticked_element, plain_answer, first_state};
+ghost use Rattle.gt_core.specs.declared.trace.Event.TheVariants.{Begin, Tick};
+
+use crate::action::{Action, Seen, Step, Verdict};
+use crate::call::{Call, Start};
+use crate::effects::apply;
+use crate::known::Known;
+use crate::request::{Handle, Request, request_fits};
+use crate::sight::see;
+use crate::slot::Open;
+use crate::state::{DomainState, find};
+use crate::trace::{Answer, Bytes, Element, Event, Happened, Item};
+use gt_entry::Entry;
+use gt_types::{Allows, Config, DomId, GrantRef, Memory, StartFault};
+use std::alloc::Global;
+
+/// The grant tables of a run.
+#[derive(Drop)]
+pub struct Core<P> {
+    alloc: Global,
+    config: Config,
+    rights: P,
+    domains: Vec<DomainState>,
+}
+
+/// What `begin` did.
+#[derive(Debug, Drop)]
+pub enum Begun {
+    Open,
+    Done(Answer),
+    Busy,
+    NoDomain,
+}
+
+/// What `tick` did.
+#[derive(Debug, Drop)]
+pub enum Ticked {
+    Step(Step, Seen),
+    Done(Step, Seen, Answer),
+    Idle,
+    NoDomain,
+}
+
+/// What an entry shows.
+#[derive(Clone, Copy, Debug, PartialEq, Eq)]
+pub struct Shown {
+    pub entry: Entry,
+    pub generation: u32,
+    pub reads: u16,
+    pub writes: u16,
+}
+
+/// How a call begins in the core.
+#[derive(Clone, Copy, Debug, PartialEq, Eq)]
+pub enum Opening {
+    Open(Open),
+    Done(Verdict),
+}
+
+fn open_call<P: Allows>(known: &Known<'_, P>, dom: DomId, request: Request) -> Opening
+    ensures { Opens (knowledge_of known.now.config.now.domains.items (P.may known.now.rights.now) known.now.own.now known.now.header known.now.mappings.now known.now.maps_answered) dom request result }
+{
+    match Call::begin(dom, request, known) {
+        Start::Done(verdict) => Opening::Done(verdict),
+        Start::Open(first) => {
+            let mut call = first;
+            match call.next(known, Seen::Nothing) {
+                Action::Step(step) => Opening::Open(Open { call, step }),
+                Action::Done(verdict) => Opening::Done(verdict),
+            }
+        }
+    }
+}
+
+fn plain_answer(verdict: Verdict) -> Answer
+    ensures { result ≡ plain_answer verdict }
+{
+    match verdict {
+        Verdict::Granted => Answer::Done,
+        Verdict::Refused(denial) => Answer::Denied(denial),
+    }
+}
+
+// The bytes of a frame from `off` on, as many as `out` has; `out` itself where they are not there.
+fn read_into(domains: &[DomainState], dom: DomId, frame: u64, off: u16, out: Vec<u8>) -> Vec<u8>
+    ensures { length (bytes_in domains.now dom.0 frame off (length out.items)) ≡ length out.items → result.items ≡ bytes_in domains.now dom.0 frame off (length out.items) }
+{
+    match find(domains, dom) {
+        Some(at) => domains[at].read(frame, off, out),
+        None => out,
+    }
+}
+
+impl<P: Allows> Core<P> {
+    fn open_at(&self, at: usize, dom: DomId, request: Request) -> Opening
+        requires { at < length self.now.domains.items }
+        ensures { (d : State) → slice_get self.now.domains.items at ≡ Some d → Opens (knowledge_of self.now.config.domains.items (P.may self.now.rights) d.own d.header d.mappings d.maps_answered) dom request result }
+    {
+        let domain = &self.domains[at];
+        let known = Known {
+            config: &self.config,
+            rights: &self.rights,
+            own: &domain.own,
+            header: domain.header,
+            mappings: &domain.mappings,
+            maps_answered: domain.maps_answered,
+        };
+        open_call(&known, dom, request)
+    }
+
+    /// Begins a call of the domain.
+    pub fn begin(&mut self, dom: DomId, request: Request) -> Result<Begun, Memory>
+        ensures stands { (h : History) → CoreStands (setting_of self.old.config (P.may self.old.rights)) h self.old.domains.items → IfOk result (λ b.
+            MayDo (setting_of self.old.config (P.may self.old.rights)) h (Begin dom request) (begun_element dom request b)
+            × CoreStands (setting_of self.old.config (P.may self.old.rights)) (grown h (begun_element dom request b)) self.new.domains.items) }
+        ensures config { self.new.config ≡ self.old.config }
+        ensures rights { self.new.rights ≡ self.old.rights }
+        ensures err { OnErr result (self.new.domains.items ≡ self.old.domains.items) }
+    {
+        let Some(at) = find(&self.domains, dom) else {
+            return Ok(Begun::NoDomain);
+        };
+        if self.domains[at].underway().is_some() {
+            return Ok(Begun::Busy);
+        }
+        match self.open_at(at, dom, request) {
+            Opening::Done(verdict) => Ok(Begun::Done(plain_answer(verdict))),
+            Opening::Open(open) => {
+                request_fits(request);
+                let alloc = self.alloc;
+                self.domains[at].begin(alloc, open)?;
+                Ok(Begun::Open)
+            }
+        }
+    }
+
+    fn advance(&self, at: usize, open: Open, seen: Seen) -> (Call, Action)
+        requires { at < length self.now.domains.items }
+        ensures { (d : State) → slice_get self.now.domains.items at ≡ Some d → Advances (knowledge_of self.now.config.domains.items (P.may self.now.rights) d.own d.header d.mappings d.maps_answered) open.call.caller open.call.request open.call.phase seen result.0 result.1 }
+    {
+        let mut call = open.call;
+        let domain = &self.domains[at];
+        let known = Known {
+            config: &self.config,
+            rights: &self.rights,
+            own: &domain.own,
+            header: domain.header,
+            mappings: &domain.mappings,
+            maps_answered: domain.maps_answered,
+        };
+        let action = call.next(&known, seen);
+        (call, action)
+    }
+
+    // The answer of a call that nothing stood against, whose last step was this one. The call is over.
+    fn settle(&mut self, at: usize, last: Open) -> Result<Answer, Memory>
+        requires { at < length self.old.domains.items }
+        ensures config { self.new.config ≡ self.old.config }
+        ensures rights { self.new.rights ≡ self.old.rights }
+        ensures err { OnErr result (self.new.domains.items ≡ self.old.domains.items) }
+        ensures settles { (d : State) → slice_get self.old.domains.items at ≡ Some d → d.underway ≡ Some last → Settles self.old.domains.items at d last result self.new.domains.items }
+    {
+        match last.step {
+            Step::Pin { dom, gref, dir, .. } => {
+                let handle = self.domains[at].add_mapping(dom, gref, dir, last.call.frame())?;
+                Ok(Answer::Mapped(handle))
+            }
+            Step::Read {
+                dom, frame, off, ..
+            } => {
+                let alloc = self.alloc;
+                let out = self.domains[at].close_load(alloc);
+                let bytes = read_into(&self.domains, dom, frame, off, out);
+                Ok(Answer::Bytes(Bytes { bytes }))
+            }
+            _ => {
+                self.domains[at].close();
+                Ok(Answer::Done)
+            }
+        }
+    }
+
+    /// Makes the next step of the domain's call.
+    pub fn tick(&mut self, dom: DomId) -> Result<Ticked, Memory>
+        ensures stands { (h : History) → CoreStands (setting_of self.old.config (P.may self.old.rights)) h self.old.domains.items → IfOk result (λ t.
+            MayDo (setting_of self.old.config (P.may self.old.rights)) h (Tick dom) (ticked_element dom t)
+            × CoreStands (setting_of self.old.config (P.may self.old.rights)) (grown h (ticked_element dom t)) self.new.domains.items) }
+        ensures config { self.new.config ≡ self.old.config }
+        ensures rights { self.new.rights ≡ self.old.rights }
+        ensures memory { (h : History) → CoreStands (setting_of self.old.config (P.may self.old.rights)) h self.old.domains.items → IsOk result }
+        ensures err { OnErr result (self.new.domains.items ≡ self.old.domains.items) }
+    {
+        let Some(at) = find(&self.domains, dom) else {
+            return Ok(Ticked::NoDomain);
+        };
+        let Some(open) = self.domains[at].underway() else {
+            return Ok(Ticked::Idle);
+        };
+        let seen = see(&self.domains, dom, open.step);
+        let (call, action) = self.advance(at, open, seen);
+        match action {
+            Action::Step(step) => {
+                self.domains[at].go_on(Open { call, step });
+                apply(&mut self.domains, dom, open.step, seen);
+                Ok(Ticked::Step(open.step, seen))
+            }
+            Action::Done(verdict) => match verdict {
+                Verdict::Refused(denial) => {
+                    self.domains[at].close();
+                    apply(&mut self.domains, dom, open.step, seen);
+                    Ok(Ticked::Done(open.step, seen, Answer::Denied(denial)))
+                }
+                Verdict::Granted => {
+                    let answer = self.settle(at, open)?;
+                    apply(&mut self.domains, dom, open.step, seen);
+                    Ok(Ticked::Done(open.step, seen, answer))
+                }
+            },
+        }
+    }
+
+    /// What an entry of a domain shows: None past the table, or for no domain of the run.
+    pub fn show(&self, dom: DomId, gref: GrantRef) -> Option<Shown> {
+        let at = find(&self.domains, dom)?;
+        let domain = &self.domains[at];
+        if gref.0 >= domain.header.entries() {
+            return None;
+        }
+        domain.shown(gref)
+    }
+}
+
+fn start_domains(alloc: Global, config: &Config) -> Result<Vec<DomainState>, Memory>
+    ensures { IfOk result (λ states. states.items ≡ map (first_state config.now.first_gen) config.now.domains.items) }
+{
+    let mut domains = Vec::new(alloc);
+    for domain in &config.domains {
+        domains.push(DomainState::new(alloc, *domain, config.first_gen)?)?;
+    }
+    Ok(domains)
+}
+
+fn one_event<P: Allows>(core: &mut Core<P>, event: Event) -> Result<Element, Memory>
+    ensures stands { (h : History) → CoreStands (setting_of core.old.config (P.may core.old.rights)) h core.old.domains.items → IfOk result (λ x.
+        MayDo (setting_of core.old.config (P.may core.old.rights)) h event x
+        × CoreStands (setting_of core.old.config (P.may core.old.rights)) (grown h x) core.new.domains.items) }
+    ensures config { core.new.config ≡ core.old.config }
+    ensures rights { core.new.rights ≡ core.old.rights }
+{
+    match event {
+        Event::Begin(actor, request) => Ok(match core.begin(actor, request)? {
+            Begun::Open => Element::Item(Item {
+                actor,
+                happened: Happened::Began(request),
+                answer: None,
+            }),
+            Begun::Done(answer) => Element::Item(Item {
+                actor,
+                happened: Happened::Began(request),
+                answer: Some(answer),
+            }),
+            Begun::Busy => Element::Busy,
+            Begun::NoDomain => Element::NoDomain,
+        }),
+        Event::Tick(actor) => Ok(match core.tick(actor)? {
+            Ticked::Step(step, seen) => Element::Item(Item {
+                actor,
+                happened: Happened::Stepped(step, seen),
+                answer: None,
+            }),
+            Ticked::Done(step, seen, answer) => Element::Item(Item {
+                actor,
+                happened: Happened::Stepped(step, seen),
+                answer: Some(answer),
+            }),
+            Ticked::Idle => Element::Idle,
+            Ticked::NoDomain => Element::NoDomain,
+        }),
+    }
+}
+
+/// Plays a list of events.
+pub fn play<P: Allows + Drop>(
+    alloc: Global,
+    config: Config,
+    rights: P,
+    events: &[Event],
+) -> Result<Vec<Element>, StartFault>
+    ensures { IfOk result (λ trace. Legal (setting_of config (P.may rights)) events.now trace.items) }
+{
+    let mut core = Core::new(alloc, config, rights)?;
+    let mut trace = Vec::new(alloc);
+    for next in events {
+        trace.push(one_event(&mut core, *next)?)?;
+    }
+    Ok(trace)
+}
+
+impl<P: Allows + Drop> Core<P> {
+    /// A core at rest.
+    pub fn new(alloc: Global, config: Config, rights: P) -> Result<Core<P>, StartFault>
+        ensures stands { IfOk result (λ core. CoreStands (setting_of config (P.may rights)) [] core.domains.items) }
+        ensures config { IfOk result (λ core. core.config ≡ config) }
+        ensures rights { IfOk result (λ core. core.rights ≡ rights) }
+        ensures fits { IsOk result → IsWithinLimits config }
+        ensures fault { IfErr result (IsStartFaultOf config) }
+    {
+        if let Err(fault) = config.check() {
+            return Err(StartFault::Config(fault));
+        }
+        let domains = start_domains(alloc, &config)?;
+        Ok(Core {
+            alloc,
+            config,
+            rights,
+            domains,
+        })
+    }
+}

@@ -1,0 +1,64 @@
+//! What steps do to the states of the domains.
+ghost use Rattle.std.specs.Prelude.{◌≡◌};
+ghost use Rattle.gt_core.specs.States.{changed_in};
+ghost use Rattle.gt_core.specs.Effects.{with_slot, applied, without_mapping, with_own};
+
+use crate::action::{Change, Seen, Step};
+use crate::request::Holder;
+use crate::slot::SlotChange;
+use crate::state::{DomainState, find};
+use gt_types::{DomId, GrantRef};
+
+fn change_slot(domains: &mut [DomainState], dom: DomId, gref: GrantRef, change: SlotChange)
+    ensures { domains.new ≡ changed_in dom.0 (with_slot gref.0 change) domains.old }
+{
+    if let Some(at) = find(domains, dom) {
+        domains[at].change_slot(gref, change);
+    }
+}
+
+fn change_own(domains: &mut [DomainState], dom: DomId, gref: GrantRef, change: Change)
+    ensures { domains.new ≡ changed_in dom.0 (with_own gref.0 change) domains.old }
+{
+    if let Some(at) = find(domains, dom) {
+        domains[at].change_own(gref, change);
+    }
+}
+
+fn forget(domains: &mut [DomainState], dom: DomId, holder: Holder)
+    ensures { domains.new ≡ changed_in dom.0 (without_mapping holder) domains.old }
+{
+    if let Some(at) = find(domains, dom) {
+        domains[at].forget(holder);
+    }
+}
+
+/// What a step of the domain that saw this does to the words, and to the actor's mappings where it gives one up.
+pub fn apply(domains: &mut [DomainState], actor: DomId, step: Step, seen: Seen)
+    ensures { domains.new ≡ applied actor step seen domains.old }
+{
+    match (step, seen) {
+        (Step::Pin { dom, gref, dir, .. }, Seen::Taken) => {
+            change_slot(domains, dom, gref, SlotChange::Pinned(dir));
+        }
+        (
+            Step::Unpin {
+                dom,
+                gref,
+                dir,
+                holder,
+            },
+            _,
+        ) => {
+            change_slot(domains, dom, gref, SlotChange::Unpinned(dir));
+            forget(domains, actor, holder);
+        }
+        (Step::StoreBody { gref, second, word }, _) => {
+            change_slot(domains, actor, gref, SlotChange::Stored(second, word));
+        }
+        (Step::Exchange { gref, change, .. }, Seen::Taken) => {
+            change_own(domains, actor, gref, change);
+        }
+        _ => {}
+    }
+}

@@ -1,0 +1,231 @@
+//! How a call is judged at its beginning.
+ghost use Rattle.std.specs.Prelude.{◌≡◌, ◌∷◌, [], Option, IsTrue, ◌↔◌};
+ghost use Rattle.gt_types.specs.Names.{resolved, domain_of, unmap};
+ghost use Rattle.gt_types.specs.Denial.{denial_of};
+ghost use Rattle.gt_core.specs.Rules.{knowledge_of, begun, cannot_stand, entry_in, generation_in, label_of, frames_of, mapping_of, denied, asked_by, grant_begun, revoke_begun, change_begun, map_begun, unmap_begun, load_begun};
+
+use crate::action::Verdict;
+use crate::known::{Known, Mapping, Own};
+use crate::request::{Handle, Request};
+use gt_entry::{Entry, Header};
+use gt_types::{
+    Allows, DOMID_SELF, Denial, DomId, DomainConfig, Facts, GrantRef, LAST_GENERATION, MAX_MAPPINGS, Perms, Rule,
+    TypeId,
+};
+
+/// The serials of a domain's mappings are below this number.
+pub const END_OF_SERIALS: u64 = u64::MAX;
+
+pub fn resolve(caller: DomId, dom: DomId) -> DomId
+    ensures { result ≡ resolved caller dom }
+{
+    if dom.0 == DOMID_SELF { caller } else { dom }
+}
+
+pub fn find_domain(domains: &[DomainConfig], dom: DomId) -> Option<DomainConfig>
+    ensures { result ≡ domain_of domains.now dom }
+{
+    for domain in domains {
+        if domain.id.0 == dom.0 {
+            return Some(*domain);
+        }
+    }
+    None
+}
+
+pub fn find_mapping(mappings: &[Mapping], handle: Handle) -> Option<Mapping>
+    ensures { result ≡ mapping_of mappings.now handle }
+{
+    for mapping in mappings {
+        if mapping.handle.serial == handle.serial && mapping.handle.key == handle.key {
+            return Some(*mapping);
+        }
+    }
+    None
+}
+
+fn refused(rule: Rule) -> Option<Verdict>
+    ensures { result ≡ Some (Verdict.Refused (denial_of rule Facts.None)) }
+{
+    Some(Verdict::Refused(Denial::new(rule, Facts::None)))
+}
+
+pub fn own_at(own: &[Own], gref: GrantRef) -> Own
+    ensures entry { result.entry ≡ entry_in own.now gref.0 }
+    ensures generation { result.generation ≡ generation_in own.now gref.0 }
+{
+    let at = gref.0 as usize;
+    if at < own.len() {
+        own[at]
+    } else {
+        Own::new(0)
+    }
+}
+
+fn cannot_stand(entry: Entry, version: u8) -> bool
+    ensures { result ≡ cannot_stand entry version }
+{
+    match entry {
+        Entry::Invalid => true,
+        Entry::Page { frame, .. } => version == 1 && frame > 4_294_967_295,
+        Entry::Sub { .. } | Entry::Via { .. } => version == 1,
+    }
+}
+
+fn begin_grant(header: Header, own: Own, gref: GrantRef, entry: Entry) -> Option<Verdict>
+    ensures { result ≡ grant_begun header own.entry own.generation gref.0 entry }
+{
+    if gref.0 >= header.entries() {
+        refused(Rule::N9)
+    } else if !own.entry().is_invalid() {
+        refused(Rule::N20)
+    } else if cannot_stand(entry, header.version) {
+        refused(Rule::N21)
+    } else if own.generation() == LAST_GENERATION {
+        refused(Rule::N22)
+    } else {
+        None
+    }
+}
+
+fn begin_revoke(header: Header, own: Own, gref: GrantRef) -> Option<Verdict>
+    ensures { result ≡ revoke_begun header own.entry gref.0 }
+{
+    if gref.0 >= header.entries() {
+        refused(Rule::N9)
+    } else if own.entry().is_invalid() {
+        refused(Rule::N10)
+    } else {
+        None
+    }
+}
+
+fn begin_change(to_ro: bool, header: Header, own: Own, gref: GrantRef) -> Option<Verdict>
+    ensures { result ≡ change_begun to_ro header own.entry own.generation gref.0 }
+{
+    if gref.0 >= header.entries() {
+        refused(Rule::N9)
+    } else if own.entry().is_invalid() {
+        refused(Rule::N10)
+    } else if own.entry().is_read_only() == to_ro {
+        Some(Verdict::Granted)
+    } else if own.generation() == LAST_GENERATION {
+        refused(Rule::N22)
+    } else {
+        None
+    }
+}
+
+fn not_allowed<P: Allows>(
+    rights: &P,
+    source: TypeId,
+    target: TypeId,
+    perm: Perms,
+) -> Option<Verdict>
+    ensures { result ≡ denied (P.may rights.now) source target (perm ∷ []) }
+{
+    if rights.allows(source, target, perm) {
+        None
+    } else {
+        Some(Verdict::Refused(Denial::new(
+            Rule::N5,
+            Facts::Policy {
+                source,
+                target,
+                perm,
+            },
+        )))
+    }
+}
+
+fn label_of(domains: &[DomainConfig], dom: DomId) -> TypeId
+    ensures { result ≡ label_of domains.now dom }
+{
+    match find_domain(domains, dom) {
+        Some(domain) => domain.label,
+        None => TypeId(0),
+    }
+}
+
+fn map_denied<P: Allows>(rights: &P, source: TypeId, target: TypeId, flags: u32) -> Option<Verdict>
+    ensures { result ≡ denied (P.may rights.now) source target (asked_by flags) }
+{
+    if let Some(verdict) = not_allowed(rights, source, target, Perms::MAP_READ) {
+        return Some(verdict);
+    }
+    if flags == 2 {
+        not_allowed(rights, source, target, Perms::MAP_WRITE)
+    } else {
+        None
+    }
+}
+
+fn begin_map<P: Allows>(
+    known: &Known<'_, P>,
+    caller: DomId,
+    dom: DomId,
+    flags: u32,
+) -> Option<Verdict>
+    ensures { result ≡ map_begun (knowledge_of known.now.config.now.domains.items (P.may known.now.rights.now) known.now.own.now known.now.header known.now.mappings.now known.now.maps_answered) caller dom flags }
+{
+    let Some(owner) = find_domain(&known.config.domains, resolve(caller, dom)) else {
+        return refused(Rule::N1);
+    };
+    if flags != 2 && flags != 6 {
+        return refused(Rule::N2);
+    }
+    let source = label_of(&known.config.domains, caller);
+    if let Some(verdict) = map_denied(known.rights, source, owner.label, flags) {
+        return Some(verdict);
+    }
+    if known.mappings.len() >= MAX_MAPPINGS || known.maps_answered >= END_OF_SERIALS {
+        return refused(Rule::N8);
+    }
+    None
+}
+
+fn begin_unmap<P: Allows>(known: &Known<'_, P>, caller: DomId, handle: Handle) -> Option<Verdict>
+    ensures { result ≡ unmap_begun (knowledge_of known.now.config.now.domains.items (P.may known.now.rights.now) known.now.own.now known.now.header known.now.mappings.now known.now.maps_answered) caller handle }
+{
+    let Some(mapping) = find_mapping(known.mappings, handle) else {
+        return refused(Rule::N6);
+    };
+    let source = label_of(&known.config.domains, caller);
+    let target = label_of(&known.config.domains, mapping.dom);
+    not_allowed(known.rights, source, target, Perms::UNMAP)
+}
+
+fn begin_load(mappings: &[Mapping], handle: Handle, off: u16, len: u16) -> Option<Verdict>
+    ensures { result ≡ load_begun mappings.now handle off len }
+{
+    if u32::from(off) + u32::from(len) > 4096 {
+        return refused(Rule::N3);
+    }
+    match find_mapping(mappings, handle) {
+        Some(_) => None,
+        None => refused(Rule::N6),
+    }
+}
+
+/// How the call is answered at its beginning, if it is.
+pub fn judge_beginning<P: Allows>(
+    known: &Known<'_, P>,
+    caller: DomId,
+    request: Request,
+) -> Option<Verdict>
+    ensures { result ≡ begun (knowledge_of known.now.config.now.domains.items (P.may known.now.rights.now) known.now.own.now known.now.header known.now.mappings.now known.now.maps_answered) caller request }
+{
+    match request {
+        Request::Grant { gref, entry } => {
+            begin_grant(known.header, own_at(known.own, gref), gref, entry)
+        }
+        Request::Revoke { gref } => begin_revoke(known.header, own_at(known.own, gref), gref),
+        Request::Demote { gref } => begin_change(true, known.header, own_at(known.own, gref), gref),
+        Request::Promote { gref } => {
+            begin_change(false, known.header, own_at(known.own, gref), gref)
+        }
+        Request::Map { dom, flags, .. } => begin_map(known, caller, dom, flags),
+        Request::Unmap { handle } => begin_unmap(known, caller, handle),
+        Request::Load { handle, off, len } => begin_load(known.mappings, handle, off, len),
+    }
+}

@@ -1,0 +1,109 @@
+//! What steps see, over plain lists.
+ghost use Rattle.std.specs.Prelude.{◌≡◌, true, false};
+ghost use Rattle.gt_core.specs.Sight.{reads_in, writes_in, control_in, body_in, control_seen, header_seen, body_seen, exchange_sees, sees};
+
+use crate::action::{Seen, Step};
+use crate::judging::own_at;
+use crate::known::Own;
+use crate::slot::Slot;
+use crate::state::DomainState;
+use gt_entry::Control;
+use gt_types::{DomId, GrantRef};
+
+fn slot_at(slots: &[Slot], gref: GrantRef) -> Slot
+    ensures reads { result.reads ≡ reads_in slots.now gref.0 }
+    ensures writes { result.writes ≡ writes_in slots.now gref.0 }
+    ensures first { result.first ≡ body_in slots.now gref.0 false }
+    ensures second { result.second ≡ body_in slots.now gref.0 true }
+{
+    let at = gref.0 as usize;
+    if at < slots.len() {
+        slots[at]
+    } else {
+        Slot::new()
+    }
+}
+
+fn control_word(own: &[Own], slots: &[Slot], gref: GrantRef) -> u64
+    ensures { result ≡ control_in own.now slots.now gref.0 }
+{
+    let row = own_at(own, gref);
+    let slot = slot_at(slots, gref);
+    Control::of_entry(row.entry(), row.generation(), slot.reads(), slot.writes()).pack()
+}
+
+fn body_word(slots: &[Slot], gref: GrantRef, second: bool) -> u64
+    ensures { result ≡ body_in slots.now gref.0 second }
+{
+    let slot = slot_at(slots, gref);
+    slot.body(second)
+}
+
+fn look_header(domains: &[DomainState], dom: DomId) -> u64
+    ensures { result ≡ header_seen domains.now dom.0 }
+{
+    for domain in domains {
+        let domain: &DomainState = domain;
+        if domain.id.0 == dom.0 {
+            return domain.header.pack();
+        }
+    }
+    0
+}
+
+fn look_control(domains: &[DomainState], dom: DomId, gref: GrantRef) -> u64
+    ensures { result ≡ control_seen domains.now dom.0 gref.0 }
+{
+    for domain in domains {
+        let domain: &DomainState = domain;
+        if domain.id.0 == dom.0 {
+            return control_word(&domain.own, &domain.slots, gref);
+        }
+    }
+    0
+}
+
+pub fn look_body(domains: &[DomainState], dom: DomId, gref: GrantRef, second: bool) -> u64
+    ensures { result ≡ body_seen domains.now dom.0 gref.0 second }
+{
+    for domain in domains {
+        let domain: &DomainState = domain;
+        if domain.id.0 == dom.0 {
+            return body_word(&domain.slots, gref, second);
+        }
+    }
+    0
+}
+
+fn exchange(word: u64, looked: u64) -> Seen
+    ensures { result ≡ exchange_sees word looked }
+{
+    if word == looked {
+        Seen::Taken
+    } else {
+        Seen::Missed(word)
+    }
+}
+
+/// What a step of the domain sees.
+pub fn see(domains: &[DomainState], actor: DomId, step: Step) -> Seen
+    ensures { result ≡ sees domains.now actor step }
+{
+    match step {
+        Step::LookHeader { dom } => Seen::Value(look_header(domains, dom)),
+        Step::LookControl { dom, gref } => Seen::Value(look_control(domains, dom, gref)),
+        Step::LookBody { dom, gref, second } => {
+            Seen::Value(look_body(domains, dom, gref, second))
+        }
+        Step::Pin {
+            dom,
+            gref,
+            looked,
+            ..
+        } => exchange(look_control(domains, dom, gref), looked),
+        Step::Exchange { gref, looked, .. } => {
+            exchange(look_control(domains, actor, gref), looked)
+        }
+        Step::Unpin { .. } | Step::StoreBody { .. } | Step::Read { .. } => Seen::Nothing,
+    }
+}

@@ -1,0 +1,232 @@
+//! The state of a domain, as plain lists.
+ghost use Rattle.std.specs.Prelude.{◌≡◌, ◌==◌, position};
+ghost use Rattle.gt_core.specs.History.{is_handle};
+
+use crate::action::Change;
+use crate::core_state::Shown;
+use crate::known::{ENTRIES, FRAME_LEN, Mapping, Own};
+use crate::request::{Handle, Holder, Request};
+use crate::slot::{Open, Slot, SlotChange};
+use gt_entry::Header;
+use gt_types::{Dir, DomId, DomainConfig, GrantRef, LAST_GENERATION, Memory};
+use std::alloc::Global;
+use std::marker::Model;
+
+/// A domain of the run.
+#[derive(Drop)]
+pub struct DomainState {
+    pub(crate) id: DomId,
+    pub(crate) header: Header,
+    pub(crate) own: Vec<Own>,
+    pub(crate) slots: Vec<Slot>,
+    pub(crate) mappings: Vec<Mapping>,
+    pub(crate) maps_answered: u64,
+    pub(crate) frames: Vec<Vec<u8>>,
+    pub(crate) underway: Option<Open>,
+    pub(crate) room: Option<Vec<u8>>,
+}
+
+impl Model for DomainState {
+    ghost use Rattle.std.specs.Prelude.{◌<◌, map, vec_len, vec_capacity};
+    ghost use Rattle.std.specs.Option.{option_map};
+    ghost use Rattle.gt_core.specs.States.{State, HasRoom, asked_in};
+
+    ghost Value = { State };
+
+    ghost view = { λ d. record { id = d.id; header = d.header; own = d.own.items; slots = d.slots.items; mappings = d.mappings.items; maps_answered = d.maps_answered; frames = map (λ f. f.items) d.frames.items; underway = d.underway } };
+
+    ghost invariant = { λ d. (d.header.version < 4) × HasRoom (asked_in d.underway) (vec_len d.mappings) (vec_capacity d.mappings) (option_map (λ v. vec_len v) d.room) };
+}
+
+/// The place of the domain with this number.
+pub fn find(domains: &[DomainState], dom: DomId) -> Option<usize>
+    ensures { result ≡ position (λ d. d.id.0 == dom.0) domains.now }
+{
+    domains.iter().position(|d| {
+        let d: &DomainState = d;
+        d.id.0 == dom.0
+    })
+}
+
+// The place of the first mapping with this handle.
+fn place_of(mappings: &[Mapping], handle: Handle) -> Option<usize>
+    ensures { result ≡ position (λ m. is_handle m.handle handle) mappings.now }
+{
+    mappings
+        .iter()
+        .position(|m| m.handle.serial == handle.serial && m.handle.key == handle.key)
+}
+
+impl DomainState {
+    ghost use Rattle.std.specs.Prelude.{◌≡◌, IfOk, IsOk, OnErr, OnOk, Some, None, length, take, drop, vec_len};
+    ghost use Rattle.gt_core.specs.States.{first_state, asked_in, IsMapping, IsLoading};
+    ghost use Rattle.gt_core.specs.Effects.{frame_in, with_slot, with_own, with_underway, with_mapping, without_mapping};
+
+    /// A domain at rest: all entries invalid and of the first generation, all frames zero.
+    pub fn new(alloc: Global, domain: DomainConfig, first_gen: u32) -> Result<DomainState, Memory>
+        ensures { IfOk result (λ d. d ≡ first_state first_gen domain) }
+    {
+        let mut own = Vec::with_capacity(alloc, ENTRIES)?;
+        let mut slots = Vec::with_capacity(alloc, ENTRIES)?;
+        'entries: for _ in 0..ENTRIES {
+            own.push(Own::new(first_gen.min(LAST_GENERATION)))?;
+            slots.push(Slot::new())?;
+        }
+        let mut frames = Vec::new(alloc);
+        'frames: for _ in 0..domain.frames {
+            frames.push(vec![in alloc; 0u8; FRAME_LEN]?)?;
+        }
+        Ok(DomainState {
+            id: domain.id,
+            header: Header {
+                version: (domain.version % 4) as u8,
+                frames: (domain.table_frames % 256) as u8,
+            },
+            own,
+            slots,
+            mappings: Vec::new(alloc),
+            maps_answered: 0,
+            frames,
+            underway: None,
+            room: None,
+        })
+    }
+
+    /// The call under way.
+    pub fn underway(&self) -> Option<Open>
+        ensures { result ≡ self.now.underway }
+    {
+        self.underway
+    }
+
+    /// A call begins. The room that its answer wants is made now.
+    pub fn begin(&mut self, alloc: Global, call: Open) -> Result<(), Memory>
+        ensures opened { OnOk result (self.new ≡ with_underway (Some call) self.old) }
+        ensures refused { OnErr result (self.new ≡ self.old) }
+    {
+        let mut room = None;
+        match call.call.request {
+            Request::Map { .. } => self.mappings.reserve(1)?,
+            Request::Load { len, .. } => room = Some(vec![in alloc; 0u8; usize::from(len)]?),
+            _ => {}
+        }
+        self.room = room;
+        self.underway = Some(call);
+        Ok(())
+    }
+
+    /// The call goes on.
+    pub fn go_on(&mut self, call: Open)
+        requires { asked_in self.old.underway ≡ Some call.call.request }
+        ensures { self.new ≡ with_underway (Some call) self.old }
+    {
+        self.underway = Some(call);
+    }
+
+    /// The call is over.
+    pub fn close(&mut self)
+        ensures { self.new ≡ with_underway None self.old }
+    {
+        self.underway = None;
+        self.room = None;
+    }
+
+    /// A load is over: the room for its bytes.
+    pub fn close_load(&mut self, alloc: Global) -> Vec<u8>
+        ensures closed { self.new ≡ with_underway None self.old }
+        ensures room { IsLoading (asked_in self.old.underway) (length result.items) }
+    {
+        self.underway = None;
+        match self.room.take() {
+            Some(room) => room,
+            None => Vec::new(alloc),
+        }
+    }
+
+    /// A map is over: a new mapping, under the next serial.
+    pub fn add_mapping(
+        &mut self,
+        dom: DomId,
+        gref: GrantRef,
+        dir: Dir,
+        frame: u64,
+    ) -> Result<Handle, Memory>
+        ensures added { IfOk result (λ handle. self.new ≡ with_mapping (record { handle = handle; dom = dom; gref = gref; dir = dir; frame = frame }) self.old) }
+        ensures serial { IfOk result (λ handle. handle.serial ≡ self.old.maps_answered) }
+        ensures refused { OnErr result (self.new ≡ self.old) }
+        ensures room { IsMapping (asked_in self.old.underway) → IsOk result }
+    {
+        let handle = Handle {
+            serial: self.maps_answered,
+            key: self.mappings.len(),
+        };
+        self.mappings.push(Mapping {
+            handle,
+            dom,
+            gref,
+            dir,
+            frame,
+        })?;
+        self.maps_answered = self.maps_answered.saturating_add(1);
+        self.underway = None;
+        Ok(handle)
+    }
+
+    /// Reads bytes of a frame from `off` on over all of `out`; where they are not there, `out` stays.
+    pub fn read(&self, frame: u64, off: u16, mut out: Vec<u8>) -> Vec<u8>
+        ensures { length (take (length out.items) (drop off (frame_in (Some self.now) frame))) ≡ length out.items → result.items ≡ take (length out.items) (drop off (frame_in (Some self.now) frame)) }
+    {
+        let start = usize::from(off);
+        let end = start + out.len();
+        if frame < self.frames.len() as u64 {
+            let bytes = &self.frames[frame as usize];
+            if end <= bytes.len() {
+                out.copy_from_slice(&bytes[start..end]);
+            }
+        }
+        out
+    }
+
+    /// What an entry shows.
+    pub fn shown(&self, gref: GrantRef) -> Option<Shown> {
+        let own = *self.own.get(gref.0 as usize)?;
+        let slot = *self.slots.get(gref.0 as usize)?;
+        Some(Shown {
+            entry: own.entry(),
+            generation: own.generation(),
+            reads: slot.reads(),
+            writes: slot.writes(),
+        })
+    }
+
+    /// Changes the pins or a body word of an entry.
+    pub fn change_slot(&mut self, gref: GrantRef, change: SlotChange)
+        ensures { self.new ≡ with_slot gref.0 change self.old }
+    {
+        let at = gref.0 as usize;
+        if at < self.slots.len() {
+            self.slots[at] = self.slots[at].after(change);
+        }
+    }
+
+    /// Changes what the owner knows of an entry.
+    pub fn change_own(&mut self, gref: GrantRef, change: Change)
+        ensures { self.new ≡ with_own gref.0 change self.old }
+    {
+        let at = gref.0 as usize;
+        if at < self.own.len() {
+            self.own[at] = self.own[at].after(change);
+        }
+    }
+
+    /// Gives up the first mapping with this handle.
+    pub fn forget(&mut self, holder: Holder)
+        ensures { self.new ≡ without_mapping holder self.old }
+    {
+        if let Holder::Mapping(handle) = holder {
+            if let Some(at) = place_of(&self.mappings, handle) {
+                let _ = self.mappings.remove(at);
+            }
+        }
+    }
+}

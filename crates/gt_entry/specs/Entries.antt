@@ -1,0 +1,34 @@
+-- What an entry is.
+use Rattle.std.specs.Prelude.{ℕ, ◌^◌, ◌<◌, Bool, true, false}
+use Rattle.gt_types.specs.declared.DomId.{DomId}
+use Rattle.gt_types.specs.declared.GrantRef.{GrantRef}
+use Rattle.gt_entry.specs.declared.entry.Entry.{Entry}
+use Rattle.gt_entry.specs.declared.entry.Entry.TheVariants.{Invalid, Page, Sub, Via}
+
+-- nothing is granted (grant_table.h)
+abbrev pub is_invalid : Entry → Bool
+is_invalid Invalid = true
+is_invalid (Page dom ro frame) = false
+is_invalid (Sub dom ro frame off len) = false
+is_invalid (Via dom ro dom2 gref) = false
+
+-- it refuses writing (grant_table.h)
+abbrev pub is_read_only : Entry → Bool
+is_read_only Invalid = false
+is_read_only (Page dom ro frame) = ro
+is_read_only (Sub dom ro frame off len) = ro
+is_read_only (Via dom ro dom2 gref) = ro
+
+-- the same entry with another readonly bit (own)
+abbrev pub with_ro : Bool → Entry → Entry
+with_ro ro Invalid = Invalid
+with_ro ro (Page dom old frame) = Page dom ro frame
+with_ro ro (Sub dom old frame off len) = Sub dom ro frame off len
+with_ro ro (Via dom old dom2 gref) = Via dom ro dom2 gref
+
+-- each number of the entry fits its type, as it does in every value of the program (own)
+abbrev pub IsEntry : Entry → Type 0
+IsEntry Invalid = Unit {0}
+IsEntry (Page dom ro frame) = (dom.0 < 65536) × (frame < 2 ^ 64)
+IsEntry (Sub dom ro frame off len) = (dom.0 < 65536) × (frame < 2 ^ 64) × (off < 65536) × (len < 65536)
+IsEntry (Via dom ro dom2 gref) = (dom.0 < 65536) × (dom2.0 < 65536) × (gref.0 < 2 ^ 32)

@@ -1,0 +1,95 @@
+ghost use Rattle.std.specs.Prelude.{◌≡◌, ◌<◌, ◌+◌, ◌*◌, ◌^◌, ℕ};
+ghost use Rattle.gt_entry.specs.declared.entry.Entry.{Entry};
+ghost use Rattle.gt_entry.specs.declared.control.Control.{Control};
+ghost use Rattle.gt_entry.specs.declared.header.Header.{Header};
+ghost use Rattle.gt_entry.specs.Words.{IsInRange, control_word, control_of, header_word, header_of, word_with, kind_of};
+ghost use Rattle.gt_entry.specs.Entries.{IsEntry};
+ghost use Rattle.gt_entry.specs.Spelling.{first_body, second_body, entry_of, IsSpelled, word_of, control_with};
+ghost use Rattle.gt_entry.specs.Laws.{SamePartsOf, PartsOf};
+
+use crate::{Control, Entry, Kind};
+use gt_types::{DomId, GrantRef};
+
+impl Entry {
+    /// The first body word: the frame number, or the next domain and its reference.
+    pub fn first_body(self) -> u64
+        ensures { result ≡ first_body self }
+    {
+        match self {
+            Entry::Invalid => 0,
+            Entry::Page { frame, .. } | Entry::Sub { frame, .. } => frame,
+            Entry::Via { dom2, gref, .. } => u64::from(dom2.0) + u64::from(gref.0) * 65_536,
+        }
+    }
+
+    /// The second body word: where a sub-page begins and how long it is; 0 for other entries.
+    pub fn second_body(self) -> u64
+        ensures { result ≡ second_body self }
+    {
+        match self {
+            Entry::Sub { off, len, .. } => u64::from(off) + u64::from(len) * 65_536,
+            _ => 0,
+        }
+    }
+
+    /// The entry that a control and two body words spell. The second word counts for a sub-page
+    /// alone.
+    pub fn spelled(control: Control, first: u64, second: u64) -> Entry
+        ensures { result ≡ entry_of control first second }
+    {
+        let (dom, ro) = (control.dom, control.ro);
+        match control.kind {
+            Kind::Invalid => Entry::Invalid,
+            Kind::Page => Entry::Page {
+                dom,
+                ro,
+                frame: first,
+            },
+            Kind::Sub => Entry::Sub {
+                dom,
+                ro,
+                frame: first,
+                off: (second % 65_536) as u16,
+                len: (second / 65_536 % 65_536) as u16,
+            },
+            Kind::Via => Entry::Via {
+                dom,
+                ro,
+                dom2: DomId((first % 65_536) as u16),
+                gref: GrantRef((first / 65_536 % 4_294_967_296) as u32),
+            },
+        }
+    }
+}
+
+/// A law: each control in range is what its word says.
+pub fn every_control_is_in_its_word()
+    ensures { (c : Control) → IsInRange c → c.dom.0 < 65536 → control_of (control_word c) ≡ c }
+{}
+
+/// A law: each header with a version below 4 is what its word says.
+pub fn every_header_is_in_its_word()
+    ensures { (h : Header) → h.version < 4 → h.frames < 256 → header_of (header_word h) ≡ h }
+{}
+
+/// A law: two control words are equal only part by part.
+pub fn every_word_has_its_own_parts()
+    ensures { (l d g r w l' d' g' r' w' : ℕ) → l < 16 → l' < 16 → r < 4096 → r' < 4096 → w < 4096 → w' < 4096 → d < 65536 → d' < 65536 → word_with l d g r w ≡ word_with l' d' g' r' w' → SamePartsOf l d g r w l' d' g' r' w' }
+{}
+
+/// A law: the parts of a control word are read from it by division.
+pub fn every_part_is_in_its_word()
+    ensures { (l d g r w : ℕ) → l < 16 → d < 65536 → r < 4096 → w < 4096 → PartsOf (word_with l d g r w) l d g r w }
+{}
+
+/// A law: the word of an entry's control is one sum of the entry's parts.
+pub fn every_entry_has_its_word()
+    ensures { (e : Entry) (generation reads writes : ℕ) → control_word (control_with e generation reads writes) ≡ word_of e generation reads writes }
+{}
+
+/// A law: an entry is read back from its words. Its own body words spell it, and any words that
+/// spell it give it back.
+pub fn every_entry_is_in_its_words()
+    ensures own { (e : Entry) → IsSpelled e (first_body e) (second_body e) }
+    ensures read { (e : Entry) (generation reads writes first second : ℕ) → IsEntry e → IsSpelled e first second → entry_of (control_with e generation reads writes) first second ≡ e }
+{}
