@@ -1,0 +1,50 @@
+#!/usr/bin/env bash
+# Times `gthost play` on scripts of 10,000, 20,000 and 40,000 lines: prints lines and seconds, the
+# least of five runs. Twice the lines should take at most 2.2 times as long.
+#
+# A script makes the calls grant, map, load, unmap and revoke by turns, with a label of its own
+# for each map.
+set -euo pipefail
+
+top="$(cd "$(dirname "${BASH_SOURCE[0]}")/.." && pwd)"
+"$top/gthost" --help >/dev/null # proves and builds it, where that is not done yet
+program="$top/crates/gthost/out/gthost"
+work="$(mktemp -d)"
+trap 'rm -rf "$work"' EXIT
+
+# A script of so many lines.
+script() {
+  awk -v lines="$1" 'BEGIN {
+    print "triple b_t a_t map_read"
+    print "triple b_t a_t map_write"
+    print "triple b_t a_t unmap"
+    print "domain 1 u:r:a_t 8 1 1"
+    print "domain 2 u:r:b_t 8 1 1"
+    for (line = 6; line <= lines; line++) {
+      turn = int((line - 6) / 5)
+      entry = turn % 512
+      step = (line - 6) % 5
+      if (step == 0) print "do 1 grant " entry " page 2 rw 5"
+      if (step == 1) print "do 2 map h" turn " 1 " entry " rw"
+      if (step == 2) print "do 2 load h" turn " 0 2"
+      if (step == 3) print "do 2 unmap h" turn
+      if (step == 4) print "do 1 revoke " entry
+    }
+  }'
+}
+
+# The seconds of one run.
+seconds() {
+  local from to
+  from="$(date +%s%N)"
+  "$program" play "$1" >/dev/null
+  to="$(date +%s%N)"
+  awk -v ns="$((to - from))" 'BEGIN { printf "%.3f\n", ns / 1e9 }'
+}
+
+printf '%8s  %s\n' lines seconds
+for lines in 10000 20000 40000; do
+  script "$lines" >"$work/$lines.gt"
+  least="$(for _ in 1 2 3 4 5; do seconds "$work/$lines.gt"; done | sort -n | head -n 1)"
+  printf '%8s  %s\n' "$lines" "$least"
+done

@@ -1,0 +1,6 @@
+pub mod LabelLemmas
+pub mod PlayLemmas
+pub mod PlayedLemmas
+pub mod RunLemmas
+pub mod StartLemmas
+pub mod StreamLemmas

@@ -1,0 +1,15 @@
+-- The handles that labels name.
+use Rattle.std.specs.Borrow.{Bor}
+use Rattle.std.specs.Prelude.{ℕ, Bool, List, Option}
+use Rattle.std.specs.Ordering.{nat_cmp, ordering_then, is_eq}
+use Rattle.std.specs.Cmp.Lexicographic.{slice_cmp}
+use Rattle.std.specs.Map.{lookup}
+use Rattle.gt_core.specs.declared.request.Handle.{Handle}
+
+-- (own) whether a key is this label of this domain
+abbrev pub is_label : ℕ → List ℕ → (ℕ × Bor (List ℕ)) → Bool
+is_label dom label key = is_eq (ordering_then (nat_cmp dom key.0) (slice_cmp nat_cmp label key.1.now))
+
+-- (own) the handle that the domain's label names, if it names one
+abbrev pub handle_in : List ((ℕ × Bor (List ℕ)) × Handle) → ℕ → List ℕ → Option Handle
+handle_in entries dom label = lookup (is_label dom label) entries

@@ -1,0 +1,9 @@
+-- What the labels of a run stand for.
+use Rattle.std.specs.Prelude.{◌≡◌, ℕ, List}
+use Rattle.gt_host.specs.declared.labels.Labels.{Labels}
+use Rattle.gt_host.specs.Labels.{handle_in}
+use Rattle.gt_host.specs.Runs.{Named, handle_named}
+
+-- (own) each label names what it stands for
+abbrev pub AreNamed : Labels → List Named → Type 0
+AreNamed labels named = (dom : ℕ) (label : List ℕ) → handle_in labels.handles.entries dom label ≡ handle_named named dom label

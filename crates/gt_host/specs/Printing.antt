@@ -1,0 +1,64 @@
+-- The lines that a run prints.
+use Rattle.std.specs.Prelude.{ℕ, List, [], length, ◌++◌, ◌==◌, codes, decimal, if◌then◌else◌, slice_get, unwrap_or}
+use Rattle.std.specs.Fmt.{signed_decimal}
+use Rattle.hex.specs.Hex.{encode_lower}
+use Rattle.gt_types.specs.Denial.{rule_text, status_number, field_name}
+use Rattle.gt_types.specs.declared.DomId.{DomId}
+use Rattle.gt_types.specs.declared.TypeId.{TypeId}
+use Rattle.gt_types.specs.declared.perms.Perms.{Perms}
+use Rattle.gt_types.specs.declared.denial.Facts.{Facts}
+use Rattle.gt_types.specs.declared.denial.Facts.TheVariants as facts
+use Rattle.gt_types.specs.declared.denial.Denial.{Denial}
+use Rattle.gt_core.specs.declared.trace.Answer.{Answer}
+use Rattle.gt_core.specs.declared.trace.Answer.TheVariants as answers
+
+-- a permission by its name (class grant of XSM FLASK); a set of several has none
+unfoldable pub permission_text : Perms → List ℕ
+permission_text perm =
+    if perm.0 == 1 then codes "map_read"
+    else (if perm.0 == 2 then codes "map_write"
+    else (if perm.0 == 4 then codes "unmap"
+    else (if perm.0 == 8 then codes "transfer"
+    else (if perm.0 == 16 then codes "setup"
+    else (if perm.0 == 32 then codes "copy"
+    else (if perm.0 == 64 then codes "query" else []))))))
+
+-- (own) a type by its name: the one that stands at its number
+abbrev pub type_text : List (List ℕ) → TypeId → List ℕ
+type_text names t = unwrap_or (slice_get names t.0) []
+
+-- (own) what a refusal rests on, where its line names that
+abbrev pub facts_text : List (List ℕ) → Facts → List ℕ
+facts_text names (facts.Policy source target perm) =
+    codes " source=" ++ type_text names source ++ codes " target=" ++ type_text names target ++ codes " perm=" ++ permission_text perm
+facts_text names (facts.Field f) = codes " field=" ++ field_name f
+facts_text names facts.None = []
+facts_text names (facts.Header dom word) = []
+facts_text names (facts.Entry dom gref word) = []
+
+-- (own) a refusal: its rule, its status, and what it rests on
+abbrev pub denial_text : List (List ℕ) → Denial → List ℕ
+denial_text names d = rule_text d.rule ++ codes " " ++ signed_decimal (status_number d.status) ++ facts_text names d.facts
+
+-- (own) the bytes of an answer, two lower-case hexadecimal digits each: none where there are none
+abbrev pub bytes_text : List ℕ → List ℕ
+bytes_text bytes = if length bytes == 0 then [] else codes " " ++ encode_lower bytes
+
+-- (own) an answer
+abbrev pub answer_text : List (List ℕ) → Answer → List ℕ
+answer_text names answers.Done = codes "ok"
+answer_text names (answers.Mapped handle) = codes "ok"
+answer_text names (answers.Bytes b) = codes "ok" ++ bytes_text b.bytes.items
+answer_text names (answers.Denied d) = denial_text names d
+
+-- (own) `LINE ID `, which begins a line about the call of that line
+abbrev pub call_text : ℕ → DomId → List ℕ
+call_text line dom = decimal line ++ codes " " ++ decimal dom.0 ++ codes " "
+
+-- (own) `LINE ID ANSWER`
+abbrev pub answer_line : List (List ℕ) → ℕ → DomId → Answer → List ℕ
+answer_line names line dom answer = call_text line dom ++ answer_text names answer ++ codes "\n"
+
+-- (own) `LINE ID busy`: the domain had a call open
+abbrev pub busy_line : ℕ → DomId → List ℕ
+busy_line line dom = call_text line dom ++ codes "busy\n"

@@ -1,0 +1,49 @@
+//! The labels of mappings.
+use gt_core::Handle;
+use gt_types::DomId;
+use std::alloc::{AllocError, Global};
+use std::collections::BTreeMap;
+
+/// The handle that no map answers: its serial is never given.
+pub const NEVER_GIVEN: Handle = Handle {
+    serial: u64::MAX,
+    key: 0,
+};
+
+/// The handles that labels name, each for its domain.
+#[derive(Drop)]
+pub struct Labels<'a> {
+    handles: BTreeMap<(u16, &'a [u8]), Handle>,
+}
+
+impl<'a> Labels<'a> {
+    ghost use Rattle.std.specs.Prelude.{◌≡◌, ◌≢◌, ◌⊎◌, ℕ, List, OnOk, None, Some, unwrap_or};
+    ghost use Rattle.gt_host.specs.declared.labels.TheConstants.{NEVER_GIVEN};
+    ghost use Rattle.gt_host.specs.Labels.{handle_in};
+
+    /// No label names a handle yet.
+    pub fn new(alloc: Global) -> Labels<'a>
+        ensures { (dom : ℕ) → (label : List ℕ) → handle_in result.handles.entries dom label ≡ None }
+    {
+        Labels {
+            handles: BTreeMap::new(alloc),
+        }
+    }
+
+    /// The handle that the domain's label names, or the one that is never given.
+    pub fn handle(&self, dom: DomId, label: &'a [u8]) -> Handle
+        ensures { result ≡ unwrap_or (handle_in self.now.handles.entries dom.0 label.entry.now) NEVER_GIVEN }
+    {
+        let key = (dom.0, label);
+        self.handles.get(&key).copied().unwrap_or(NEVER_GIVEN)
+    }
+
+    /// From now on the domain's label names this handle.
+    pub fn name(&mut self, dom: DomId, label: &'a [u8], handle: Handle) -> Result<(), AllocError>
+        ensures named { OnOk result (handle_in self.new.handles.entries dom.0 label.entry.now ≡ Some handle) }
+        ensures others { OnOk result ((d : ℕ) → (l : List ℕ) → (d ≢ dom.0) ⊎ (l ≢ label.entry.now) → handle_in self.new.handles.entries d l ≡ handle_in self.old.handles.entries d l) }
+    {
+        self.handles.insert((dom.0, label), handle)?;
+        Ok(())
+    }
+}

@@ -1,0 +1,25 @@
+//! What a run of grant tables reads and prints.
+//!
+//! `play` takes a script from a reader, runs its calls one after the other on the core, and
+//! writes a line for each answer. It works over any reader and writer, so the program, a test
+//! and a service drive the same code.
+//!
+//! What holds of it: the text that went out is the lines of the answers of a run of the script,
+//! whole where `play` answers Ok; a script with a fault writes nothing, and the fault is the
+//! script's first; after a failed write, or for want of memory, what went out is a beginning of
+//! such a text. It stands on `gt_script` for what a script says and on `gt_core` for what its
+//! calls do.
+#![tactic(auto)]
+
+mod answers;
+mod fault;
+mod labels;
+mod outcome;
+mod playing;
+mod run;
+mod streams;
+#[cfg(test)]
+mod tests;
+
+pub use fault::Fault;
+pub use playing::play;

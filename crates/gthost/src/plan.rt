@@ -1,0 +1,71 @@
+//! The command line.
+ghost use Rattle.std.specs.Prelude.{◌≡◌, IfOk, false, map, string_bytes};
+ghost use Rattle.clap.specs.Words.{subcommand_of, app_of};
+ghost use Rattle.clap.specs.declared.builder.command.Command.TheViews.{out-Command as fields_of};
+ghost use Rattle.gthost.specs.CommandLine.{gthost_app, play_app, IsPlanOf, IsRead};
+
+use clap::error::ErrorKind;
+use clap::{Arg, ArgMatches, Command, Error};
+use std::alloc::{AllocError, Global};
+
+/// What the program is to do.
+#[derive(Clone, Copy, Debug, PartialEq, Eq)]
+pub enum Mode {
+    /// Run a script on the core.
+    Play,
+}
+
+/// What a command line asks for.
+#[derive(Debug, Drop)]
+pub struct Invocation<'a> {
+    pub mode: Mode,
+    /// The file with the script; standard input where there is none.
+    pub file: Option<&'a str>,
+}
+
+fn play_command<'a>(alloc: Global) -> Result<Command<'a>, AllocError>
+    ensures { IfOk result (λ c. (app_of c ≡ play_app) × ((fields_of c).has_globals ≡ false)) }
+{
+    let file = Arg::new(alloc, "file")
+        .value_name("FILE")
+        .help("The script; standard input where it is left out");
+    Command::new(alloc, "play")
+        .about("Runs the calls of a script one after the other, and prints a line for each answer")
+        .arg(file)
+}
+
+fn gthost_command<'a>(alloc: Global) -> Result<Command<'a>, AllocError>
+    ensures { IfOk result (λ c. app_of c ≡ gthost_app) }
+{
+    let play = play_command(alloc)?;
+    Command::new(alloc, "gthost")
+        .about("Page sharing between domains by grant tables, decided by a policy and proved")
+        .after_help(
+            "A script says what the policy allows, which domains there are and what they call.\nTry: gthost play examples/first.gt",
+        )
+        .subcommand_required(true)
+        .disable_help_subcommand(true)
+        .subcommand(play)
+}
+
+fn play_plan<'a>(matches: &ArgMatches<'a>) -> Invocation<'a>
+    ensures { IsRead result matches.now }
+{
+    Invocation {
+        mode: Mode::Play,
+        file: matches.get_str("file"),
+    }
+}
+
+/// What the words of a command line, the program's name first, ask for: a command and its FILE.
+/// An error prints as the text for standard error, or is the help that was asked for.
+pub fn plan<'a>(alloc: Global, words: &'a [String]) -> Result<Invocation<'a>, Error>
+    ensures { IfOk result (λ p. IsPlanOf p (subcommand_of gthost_app (map string_bytes words.entry.now))) }
+{
+    let mut command = gthost_command(alloc)?;
+    let matches = command.try_get_matches_from_mut(words)?;
+    match matches.subcommand_matches("play") {
+        Some(matches) => Ok(play_plan(matches)),
+        None => Err(command.error(ErrorKind::MissingSubcommand, "no command")?),
+    }
+}
