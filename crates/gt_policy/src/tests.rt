@@ -1,5 +1,6 @@
-use crate::parse::PolicyFault;
+use crate::parse::FaultKind;
 use crate::policy::Policy;
+use crate::types::TypeSet;
 use gt_types::{Allows, Perms, TypeId};
 use std::alloc::{AllocError, Global};
 use std::test::Fail;
@@ -138,16 +139,42 @@ fn many_allows(rt: HostRuntime) -> Result<(), Fail> {
     Ok(())
 }
 
+const ROW: &str = "attribute domain;\ntype dom0_t, domain;\ntype domU_t, domain;\nallow { domain -dom0_t } domain:grant { map_read copy };\nallow dom0_t self:grant query;\n";
+
 #[test]
 fn types_of_names(rt: HostRuntime) -> Result<(), Fail> {
-    match Policy::parse(rt.alloc(), "type a; type b;") {
+    let policy = Policy::parse(rt.alloc(), ROW)?;
+    assert_eq!(rt; policy.count(), 2);
+    assert_eq!(rt; policy.type_of("domU_t"), Some(TypeId(1)));
+    assert_eq!(rt; policy.type_of("domain"), None);
+    assert_eq!(rt; policy.name(TypeId(0)), Some("dom0_t"));
+    assert_eq!(rt; policy.name(TypeId(2)).is_none(), true);
+    Ok(())
+}
+
+#[test]
+fn targets(rt: HostRuntime) -> Result<(), Fail> {
+    let policy = Policy::parse(rt.alloc(), ROW)?;
+    let both = TypeSet::empty().with(0).with(1);
+    assert_eq!(rt; policy.targets(TypeId(1), Perms::COPY), both);
+    assert_eq!(rt; policy.targets(TypeId(0), Perms::COPY), TypeSet::empty());
+    assert_eq!(rt; policy.targets(TypeId(0), Perms::QUERY), both.without(TypeSet::empty().with(1)));
+    assert_eq!(rt; policy.targets(TypeId(300), Perms::COPY), TypeSet::empty());
+    assert_eq!(rt; TypeSet::empty().with(200).union(both).contains(TypeId(200)), true);
+    Ok(())
+}
+
+// Run with each allocation refused in turn, by `rt try --test --fail-alloc N`: the answer is the
+// same, or the text was refused for want of memory.
+#[test]
+fn memory(rt: HostRuntime) {
+    match Policy::parse(rt.alloc(), ROW) {
         Ok(policy) => {
             assert_eq!(rt; policy.count(), 2);
-            assert_eq!(rt; policy.type_of("b"), Some(TypeId(1)));
-            assert_eq!(rt; policy.type_of("c"), None);
-            assert_eq!(rt; policy.name(TypeId(2)).is_none(), true);
+            assert!(rt; policy.allows(TypeId(1), TypeId(0), Perms::MAP_READ));
+            assert!(rt; policy.allows(TypeId(0), TypeId(0), Perms::QUERY));
+            assert!(rt; !policy.allows(TypeId(0), TypeId(1), Perms::QUERY));
         }
-        Err(_) => assert!(rt; false),
+        Err(fault) => assert!(rt; matches!(&fault.kind, FaultKind::Memory)),
     }
-    Ok(())
 }
