@@ -12,6 +12,7 @@ use Rattle.gt_policy.specs.declared.statements.Permissions.TheVariants.{Every, N
 use Rattle.gt_policy.specs.declared.statements.Allowance.{Allowance}
 use Rattle.gt_policy.specs.declared.statements.Statement.{Statement}
 use Rattle.gt_policy.specs.declared.statements.Statement.TheVariants.{DeclareType, DeclareAttribute, GiveAttributes, Allow}
+use Rattle.gt_policy.specs.Names.{Names}
 use Rattle.gt_policy.specs.Grammar.{Lexemes, excluded, is_grant_alone, is_refused}
 
 -- ("," NAME)* ";", or with a name to come NAME ("," NAME)* ";". In a type statement no name is `alias`. (SELinux policy language)
@@ -88,7 +89,7 @@ allows_in (s ∷ ss) = allows_in ss
 -- no name stands twice
 abbrev pub AreDistinct : List (List ℕ) → Type 0
 AreDistinct [] = Unit {0}
-AreDistinct (w ∷ ws) = (list_any (λ v. bytes_eq v w) ws ≡ false) × AreDistinct ws
+AreDistinct (w ∷ ws) = (list_any (λ v. bytes_eq w v) ws ≡ false) × AreDistinct ws
 
 -- Types and attributes share one space of names, each declared once, and the statements stay within the limits. (own)
 pub record AreClean (ss : List Statement) : Type 0 where
@@ -96,3 +97,7 @@ pub record AreClean (ss : List Statement) : Type 0 where
   pub few_types : length (types_in ss) ≤ 256
   pub few_attributes : length (attributes_in ss) ≤ 256
   pub few_allows : allows_in ss ≤ 65536
+
+-- the names that the statements declare, and how many allow statements there are (own)
+abbrev pub names_of : List Statement → Names
+names_of ss = record { types = types_in ss; attributes = attributes_in ss; allows = allows_in ss }
