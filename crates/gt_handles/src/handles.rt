@@ -170,7 +170,7 @@ impl<T> Handles<T> {
     pub fn is_empty(&self) -> bool
         ensures { result ≡ (count_of self.now == 0) }
     {
-        self.slab.is_empty()
+        self.len() == 0
     }
 
     /// How many serials were given.

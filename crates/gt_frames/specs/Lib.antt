@@ -1,0 +1,4 @@
+pub mod Bytes
+pub mod Frames
+pub mod Permits
+pub mod Receipts
