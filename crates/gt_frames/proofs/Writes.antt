@@ -2,6 +2,7 @@
 use Rattle.std.proofs.Common.{◌≡◌, ℕ, ◌+◌, ◌≤◌, IsTrue, List, [], ◌∷◌, ◌++◌, length, refl, sym, ◌∙◌, ap, subst, arith, rules, slice_range, replicate}
 use Rattle.std.proofs.lemmas.List.{length-replicate}
 use Rattle.std.proofs.lemmas.Bool.Decides.{nat_tests}
+use Rattle.gt_types.specs.declared.limits.TheConstants.{FRAME_SIZE}
 use Rattle.gt_types.specs.declared.DomId.{DomId}
 use Rattle.gt_frames.specs.declared.writ.Writ.{Writ}
 use Rattle.gt_frames.specs.declared.writ.Record.{Record}
@@ -30,7 +31,7 @@ module _
         → IsSound owner number bytes journal
         → new_bytes ≡ overlay bytes off ks
         → length ks ≡ len
-        → off + len ≤ 4096
+        → off + len ≤ FRAME_SIZE
         → IsTrue (covers w old.owner old.number off len)
         → IsSound owner number new_bytes new_journal
     sound_after bytes new_bytes len sound lays is fits right =
@@ -46,12 +47,12 @@ module _
 
     -- and what contracts see of them is the write
     pub is_write :
-        (bytes : List ℕ) (len : ℕ) → IsSound owner number bytes journal → length ks ≡ len → off + len ≤ 4096 → (ys : List ℕ) → ks ≡ ys
+        (bytes : List ℕ) (len : ℕ) → IsSound owner number bytes journal → length ks ≡ len → off + len ≤ FRAME_SIZE → (ys : List ℕ) → ks ≡ ys
         → IsWrite old (record { owner = owner; number = number; journal = new_journal }) w off ys
     is_write bytes len sound is fits ys same =
         let new : FrameState = record { owner = owner; number = number; journal = new_journal } in
         let next : new ≡ written old w off ys = cc (was, adds, same) in
-        let size : length (contents old) ≡ 4096 = ap (λ (f : FrameState). length (contents f)) (sym was) ∙ ap (λ (l : List ℕ). length l) (sym sound.replayed) ∙ sound.len in
+        let size : length (contents old) ≡ FRAME_SIZE = ap (λ (f : FrameState). length (contents f)) (sym was) ∙ ap (λ (l : List ℕ). length l) (sym sound.replayed) ∙ sound.len in
         let count : length ys ≡ len = ap (λ (l : List ℕ). length l) (sym same) ∙ is in
         let over : contents new ≡ overlay (contents old) off ys = ap contents next ∙ replay-append zeros old.journal (record { writ = w; off = off; bytes = ys }) in
         record {
@@ -68,14 +69,14 @@ pub same_bytes :
 same_bytes f owner number bytes journal off len was sound =
     ap (λ (l : List ℕ). slice_range l off (off + len)) sound.replayed ∙ ap (λ (g : FrameState). bytes_at g off len) was
 
-zeros_are : replicate 4096 0 ≡ zeros
+zeros_are : replicate FRAME_SIZE 0 ≡ zeros
 zeros_are = unfold zeros in refl
 
 -- a new frame is sound
-pub new_sound : (owner : DomId) (number : ℕ) (bytes : List ℕ) (journal : List Record) → bytes ≡ replicate 4096 0 → journal ≡ [] → IsSound owner number bytes journal
+pub new_sound : (owner : DomId) (number : ℕ) (bytes : List ℕ) (journal : List Record) → bytes ≡ replicate FRAME_SIZE 0 → journal ≡ [] → IsSound owner number bytes journal
 new_sound owner number bytes journal fill none =
     record {
       replayed = fill ∙ zeros_are ∙ ap (λ (rs : List Record). replay zeros rs) (sym none);
-      len = ap (λ (l : List ℕ). length l) fill ∙ length-replicate {A = ℕ} 4096 0;
+      len = ap (λ (l : List ℕ). length l) fill ∙ length-replicate {A = ℕ} FRAME_SIZE 0;
       rightful = subst (λ (rs : List Record). IsTrue (all_rightful owner number rs)) (sym none) refl;
     }

@@ -1,5 +1,6 @@
 -- Bytes laid over bytes.
 use Rattle.std.specs.Prelude.{◌≡◌, ℕ, ◌+◌, ◌<◌, ◌≤◌, List, ◌++◌, take, drop, length, replicate, slice_index}
+use Rattle.gt_types.specs.declared.limits.TheConstants.{FRAME_SIZE}
 
 -- the list with ys laid over it from off on (own)
 abbrev pub overlay : List ℕ → ℕ → List ℕ → List ℕ
@@ -14,4 +15,4 @@ pub record IsLaidOver (xs : List ℕ) (off : ℕ) (ys zs : List ℕ) : Type 0 wh
 
 -- the bytes of a frame that was never written (own)
 unfoldable pub zeros : List ℕ
-zeros = replicate 4096 0
+zeros = replicate FRAME_SIZE 0

@@ -1,6 +1,7 @@
 -- What a frame holds, and by what right each of its bytes was written.
 use Rattle.std.specs.Prelude.{◌≡◌, ℕ, ◌+◌, ◌==◌, Bool, true, ◌&&◌, nat_le, IsTrue, List, [], ◌∷◌, ◌++◌, length, slice_range}
 use Rattle.gt_types.specs.declared.DomId.{DomId}
+use Rattle.gt_types.specs.declared.limits.TheConstants.{FRAME_SIZE}
 use Rattle.gt_types.specs.declared.Dir.TheVariants.{Write}
 use Rattle.gt_types.specs.declared.Use.TheVariants.{Copy as ForCopy}
 use Rattle.gt_entry.specs.declared.entry.Entry.{Entry}
@@ -51,7 +52,7 @@ covers w owner number off len = suffices w.ground w.writer owner number off len
 
 -- the record lies in the frame, and its writ is for its range (own)
 abbrev pub is_rightful : DomId → ℕ → Record → Bool
-is_rightful owner number r = nat_le (r.off + length r.bytes) 4096 && covers r.writ owner number r.off (length r.bytes)
+is_rightful owner number r = nat_le (r.off + length r.bytes) FRAME_SIZE && covers r.writ owner number r.off (length r.bytes)
 
 -- each record is so
 abbrev pub all_rightful : DomId → ℕ → List Record → Bool
@@ -65,7 +66,7 @@ IsKept f = IsTrue (all_rightful f.owner f.number f.journal)
 -- these bytes are the journal's replay over zeros, and each write was by right
 pub record IsSound (owner : DomId) (number : ℕ) (bytes : List ℕ) (journal : List Record) : Type 0 where
   pub replayed : bytes ≡ replay zeros journal
-  pub len : length bytes ≡ 4096
+  pub len : length bytes ≡ FRAME_SIZE
   pub rightful : IsTrue (all_rightful owner number journal)
 
 -- changes

@@ -3,12 +3,9 @@ ghost use Rattle.gt_frames.specs.Bytes.{overlay};
 
 use crate::receipts::CopyEnd;
 use crate::{Bytes, Copied, Read, Record, Writ, Written};
-use gt_types::{DomId, Memory};
+use gt_types::{DomId, FRAME_SIZE, Memory};
 use std::alloc::Global;
 use std::marker::Model;
-
-/// The number of bytes of a frame.
-pub const FRAME_LEN: usize = 4096;
 
 /// A frame of 4,096 bytes, with all writes that were made to it.
 #[derive(Drop)]
@@ -68,7 +65,7 @@ impl Frame {
             alloc,
             owner,
             number,
-            bytes: vec![in alloc; 0; FRAME_LEN]?,
+            bytes: vec![in alloc; 0; FRAME_SIZE as usize]?,
             journal: Vec::new(alloc),
         })
     }
@@ -77,7 +74,7 @@ impl Frame {
     pub fn owner(&self) -> DomId
         ensures owner { result ≡ self.now.owner }
         ensures kept { IsKept self.now }
-        ensures len { length (contents self.now) ≡ 4096 }
+        ensures len { length (contents self.now) ≡ FRAME_SIZE }
     {
         self.owner
     }
@@ -92,7 +89,7 @@ impl Frame {
     /// Reads the bytes from the offset `off` on over all of `out`, whose length is the range's. It
     /// takes no memory.
     pub fn read(&self, off: u16, mut out: Vec<u8>) -> Read
-        requires { off + vec_len out ≤ 4096 }
+        requires { off + vec_len out ≤ FRAME_SIZE }
         ensures { result ≡ record { owner = self.now.owner; number = self.now.number; off = off; bytes = bytes_at self.now off (vec_len out) } }
     {
         let start = usize::from(off);
@@ -113,7 +110,7 @@ impl Frame {
         off: u16,
         bytes: &'a [u8],
     ) -> Result<Written<'a>, Memory>
-        requires range { off + length bytes.now ≤ 4096 }
+        requires range { off + length bytes.now ≤ FRAME_SIZE }
         requires right { IsTrue (covers writ.now self.old.owner self.old.number off (length bytes.now)) }
         ensures written { OnOk result (IsWrite self.old self.new writ.now off bytes.now) }
         ensures receipt { IfOk result (λ r. r ≡ record {
@@ -145,8 +142,8 @@ impl Frame {
         to_off: u16,
         len: u16,
     ) -> Result<Copied, Memory>
-        requires source { from_off + len ≤ 4096 }
-        requires dest { to_off + len ≤ 4096 }
+        requires source { from_off + len ≤ FRAME_SIZE }
+        requires dest { to_off + len ≤ FRAME_SIZE }
         requires right { IsTrue (covers writ.now to.old.owner to.old.number to_off len) }
         ensures written { OnOk result (IsWrite to.old to.new writ.now to_off (bytes_at from.now from_off len)) }
         ensures receipt { IfOk result (λ r. r ≡ record {
@@ -178,8 +175,8 @@ impl Frame {
         to_off: u16,
         len: u16,
     ) -> Result<Copied, Memory>
-        requires source { from_off + len ≤ 4096 }
-        requires dest { to_off + len ≤ 4096 }
+        requires source { from_off + len ≤ FRAME_SIZE }
+        requires dest { to_off + len ≤ FRAME_SIZE }
         requires right { IsTrue (covers writ.now self.old.owner self.old.number to_off len) }
         ensures written { OnOk result (IsWrite self.old self.new writ.now to_off (bytes_at self.old from_off len)) }
         ensures receipt { IfOk result (λ r. r ≡ record {

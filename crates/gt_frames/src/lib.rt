@@ -22,6 +22,6 @@ mod tests;
 mod writ;
 
 pub use bytes::Bytes;
-pub use frame::{FRAME_LEN, Frame};
+pub use frame::Frame;
 pub use receipts::{Copied, Read, Written};
 pub use writ::{Ground, Record, Writ};
