@@ -5,7 +5,7 @@ use Rattle.gt_types.specs.declared.limits.TheConstants.{FRAME_SIZE}
 use Rattle.gt_types.specs.declared.Dir.TheVariants.{Write}
 use Rattle.gt_types.specs.declared.Use.TheVariants.{Copy as ForCopy}
 use Rattle.gt_entry.specs.declared.entry.Entry.{Entry}
-use Rattle.gt_frames.specs.Permits.{permits, forwards, leads_to, is_of_frame}
+use Rattle.gt_entry.specs.Permits.{permits, forwards, leads_to, is_of_frame}
 use Rattle.gt_frames.specs.declared.writ.Ground.{Ground}
 use Rattle.gt_frames.specs.declared.writ.Ground.TheVariants.{Owned, Granted, Forwarded}
 use Rattle.gt_frames.specs.declared.writ.Writ.{Writ}

@@ -1,4 +1,3 @@
 pub mod Bytes
 pub mod Frames
-pub mod Permits
 pub mod Receipts

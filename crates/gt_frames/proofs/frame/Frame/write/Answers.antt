@@ -1,4 +1,4 @@
-use Rattle.std.proofs.Common.{◌≡◌, ap, length, List, ℕ}
+use Rattle.std.proofs.Common.{ap, length, List, ℕ}
 use Rattle.gt_frames.proofs.Writes.{sound_after, is_write}
 use Rattle.gt_frames.proofs.frame.Frame.write.Goals as goal
 
