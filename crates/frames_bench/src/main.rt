@@ -65,10 +65,7 @@ fn shift_all(frame: &mut Frame, times: u32) -> u32 {
         if frame.owner() != OWNER {
             return done;
         }
-        if frame
-            .copy_within(&BY_OWNER, 0, 1, FRAME_SIZE - 1)
-            .is_err()
-        {
+        if frame.copy_within(&BY_OWNER, 0, 1, FRAME_SIZE - 1).is_err() {
             return done;
         }
     }
