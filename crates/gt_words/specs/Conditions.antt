@@ -1,0 +1,147 @@
+-- What calls ask of their caller, and what their answers say.
+use Rattle.std.specs.Prelude.{◌≡◌, ◌≢◌, ◌⊎◌, ℕ, ◌+◌, ◌-◌, ◌*◌, ◌<◌, ◌≤◌, List, [], length, All, Option, Some, IfSome, slice_get, cond, ◌==◌, ◌/◌, ◌%◌, slice_index}
+use mathlib.Core.Option.{some}
+use lib.ListN.{get_elem?}
+use Rattle.atomic_table.specs.Table.{State}
+use Rattle.atomic_table.specs.Seated.{TableId}
+use Rattle.gt_types.specs.declared.Dir.{Dir}
+use Rattle.gt_types.specs.declared.Dir.TheVariants.{Read, Write}
+use Rattle.gt_types.specs.declared.DomId.{DomId}
+use Rattle.gt_types.specs.declared.config.Config.{Config}
+use Rattle.gt_types.specs.declared.config.DomainConfig.{DomainConfig}
+use Rattle.gt_entry.specs.declared.entry.Entry.TheVariants.{Invalid}
+use Rattle.gt_words.specs.Spelling.{control_number, idle_number, generation_of, unit, pins_in, PermitsPin, ForwardsPin}
+use Rattle.gt_words.specs.declared.view.Record.{Record}
+use Rattle.gt_words.specs.declared.view.Change.{Change}
+use Rattle.gt_words.specs.declared.view.EntryStep.{EntryStep}
+use Rattle.gt_words.specs.declared.view.EntryStep.TheVariants.{Pinned, PinMissed, Changed, ChangeMissed}
+use Rattle.gt_words.specs.declared.view.Step.{Step}
+use Rattle.gt_words.specs.declared.view.View.{View}
+use Rattle.gt_words.specs.Views.{IsIn, LivePin, pins, pin_count, Seen, seen, last_seen, record_seen, HasBody, with_step, steps_on, last_of, own_list}
+use Rattle.gt_words.specs.Rule.{Layout, Shows, IsRecord, place, id_at}
+use Rattle.gt_words.specs.Events.{EntryState, shown_entry}
+use Rattle.gt_words.specs.Steps.{TakesStep, on_entry}
+
+-- What clauses see of the words: which table of words it is, and the run that it serves
+pub record Board : Type 0 where
+  pub table : TableId
+  pub layout : Layout
+
+-- What clauses see of a seat: the table of words that it is of, its domain and its view
+pub record SeatOf : Type 0 where
+  pub table : TableId
+  pub dom : DomId
+  pub view : View
+
+-- the seat is of these words, and of the domain at its position
+pub record IsSeatOf (b : Board) (s : SeatOf) : Type 0 where
+  pub table : s.table ≡ b.table
+  pub named : slice_get b.layout.ids s.view.position ≡ Some s.dom
+
+-- the same seat, whatever it knows
+pub record IsSameSeat (s s' : SeatOf) : Type 0 where
+  pub table : s'.table ≡ s.table
+  pub dom : s'.dom ≡ s.dom
+  pub position : s'.view.position ≡ s.view.position
+  pub first : s'.view.first ≡ s.view.first
+
+-- one header word and 2,048 entries of three words for each domain
+abbrev pub IsWide : ℕ → Layout → Type 0
+IsWide words k = (words ≡ k.domains * 6145) × (k.domains ≤ 64)
+
+-- the word has the owner's part and the generation of this record, and some pins
+abbrev pub IsWordOf : Record → ℕ → Type 0
+IsWordOf x word = (reads : ℕ) × (writes : ℕ) × (reads < 4096) × (writes < 4096) × (word ≡ control_number x.entry x.generation reads writes)
+
+-- the same, with no pins
+abbrev pub IsIdleOf : Record → ℕ → Type 0
+IsIdleOf x word = word ≡ idle_number x.entry x.generation
+
+-- the same, with a pin at least
+abbrev pub IsBusyOf : Record → ℕ → Type 0
+IsBusyOf x word = (reads : ℕ) × (writes : ℕ) × (reads < 4096) × (writes < 4096) × (word ≡ control_number x.entry x.generation reads writes) × ((reads ≢ 0) ⊎ (writes ≢ 0))
+
+-- the seat's last look at the entry found this word, and it read the body words since
+abbrev pub HasLooked : ℕ → ℕ → View → ℕ → Type 0
+HasLooked t r v word = (seen (steps_on t r v) ≡ Some (last_seen t r v)) × ((last_seen t r v).word ≡ word) × HasBody (last_seen t r v)
+
+-- the seat holds a pin of this entry, kind and generation
+abbrev pub Holds : ℕ → ℕ → Dir → ℕ → View → Type 0
+Holds t r d g v = (p : LivePin) × IsIn p (pins (steps_on t r v)) × (p.0 ≡ d) × (p.1.generation ≡ g)
+
+-- the view has a pin of that kind, of an entry q of a domain m that was a Via to the entry r of the domain t, and x permits m
+abbrev pub PermitsOwnerOfVia : Layout → ℕ → ℕ → View → Dir → Record → Type 0
+PermitsOwnerOfVia k t r v d x = (m : ℕ) × (q : ℕ) × (p : LivePin) × IsIn p (pins (steps_on m q v)) × (p.0 ≡ d) × ForwardsPin p.1.entry (id_at k.ids v.position) d (id_at k.ids t) r × PermitsPin x.entry (id_at k.ids m) d
+
+-- the entry r of the domain t, as the record x has it, permits or forwards the seat's domain for that kind, or permits the owner of a Via to it that the view has pinned for that kind (own)
+abbrev pub MayPin : Layout → ℕ → ℕ → View → Dir → Record → Type 0
+MayPin k t r v d x = PermitsPin x.entry (id_at k.ids v.position) d
+    ⊎ ((u : ℕ) × (q : ℕ) × ForwardsPin x.entry (id_at k.ids v.position) d u q)
+    ⊎ PermitsOwnerOfVia k t r v d x
+
+-- no view has a pin of the entry
+abbrev pub HasNoPins : {S : Type 0} → ℕ → ℕ → State S View → Type 0
+HasNoPins t r s = (i : ℕ) (v : View) → get_elem? s.views i ≡ some v → pins (steps_on t r v) ≡ []
+
+-- no view has a write pin of the entry
+abbrev pub HasNoWritePins : {S : Type 0} → ℕ → ℕ → State S View → Type 0
+HasNoWritePins t r s = (i : ℕ) (v : View) → get_elem? s.views i ≡ some v → pin_count Write (pins (steps_on t r v)) ≡ 0
+
+-- while a view has a pin of an entry, its control word counts it
+abbrev pub CountsPins : Layout → ℕ → ℕ → Dir → Type 0
+CountsPins k t r d = (s : State (Unit {0}) View) (i : ℕ) (v : View) → Shows k s → get_elem? s.views i ≡ some v → pin_count d (pins (steps_on t r v)) ≤ pins_in d (slice_index s.words (place t r 0))
+
+-- the word is of no earlier generation than the one last seen
+abbrev pub IsNotEarlier : ℕ → ℕ → View → ℕ → Type 0
+IsNotEarlier t r v word = IfSome (seen (steps_on t r v)) (λ s. generation_of s.word ≤ generation_of word)
+
+-- the step x was taken on the control word of the entry r of the domain t
+pub record Steps (k : Layout) (t r : ℕ) (m : EntryStep) (found left : ℕ) (v w : View) : Type 0 where
+  pub view : w ≡ with_step (on_entry t r m) v
+  pub step : TakesStep (Unit {0}) k v (on_entry t r m) (place t r 0) found left
+
+-- A pin was taken: of the entry as it was last seen, which was then the last record of its owner's list
+pub record Pins (k : Layout) (t r : ℕ) (d : Dir) (word : ℕ) (v w : View) : Type 0 where
+  pub steps : Steps k t r (Pinned d word (record_seen (last_seen t r v))) word (word + unit d) v w
+  pub current : (shown_entry k t r steps.step.before).current ≡ record_seen (last_seen t r v)
+  pub permitted : MayPin k t r v d (record_seen (last_seen t r v))
+  pub held : Holds t r d (generation_of word) w
+
+-- A pin was missed: the word found is another
+pub record MissesPin (k : Layout) (t r : ℕ) (d : Dir) (word found : ℕ) (v w : View) : Type 0 where
+  pub another : found ≢ word
+  pub steps : Steps k t r (PinMissed d word found) found found v w
+  pub not_earlier : IsNotEarlier t r v found
+
+-- The owner's exchange was taken: the record y is the last one now
+pub record Changes (k : Layout) (r : ℕ) (c : Change) (word new : ℕ) (y : Record) (v w : View) : Type 0 where
+  pub steps : Steps k v.position r (Changed c word new y) word new v w
+  pub last : last_of r w ≡ y
+
+-- The owner's exchange was missed: the word found is another, and the owner's list is as it was
+pub record MissesChange (k : Layout) (r : ℕ) (c : Change) (word found : ℕ) (v w : View) : Type 0 where
+  pub another : found ≢ word
+  pub steps : Steps k v.position r (ChangeMissed c word found) found found v w
+  pub unchanged : own_list r w ≡ own_list r v
+  pub not_earlier : IsNotEarlier v.position r v found
+
+-- The entry was made invalid by one exchange, in a state in which no view had a pin of it
+pub record Revokes (k : Layout) (r : ℕ) (word new : ℕ) (y : Record) (v w : View) : Type 0 where
+  pub changes : Changes k r Change.Revoke word new y v w
+  pub no_pins : HasNoPins v.position r changes.steps.step.before
+
+-- The entry was made read-only by one exchange, in a state in which no view had a write pin of it
+pub record Demotes (k : Layout) (r : ℕ) (word new : ℕ) (y : Record) (v w : View) : Type 0 where
+  pub changes : Changes k r Change.Demote word new y v w
+  pub no_write_pins : HasNoWritePins v.position r changes.steps.step.before
+
+-- the limits of a run
+abbrev pub IsDomain : DomainConfig → Type 0
+IsDomain d = (0 < d.version) × (d.version ≤ 2) × (0 < d.table_frames) × (d.table_frames ≤ 4)
+
+abbrev pub IsConfig : Config → Type 0
+IsConfig c = (0 < length c.domains.items) × (length c.domains.items ≤ 64) × (c.first_gen < 1048576) × All IsDomain c.domains.items
+
+-- the words at the start
+abbrev pub initial : Layout → ℕ → ℕ
+initial k i = cond (i % 6145 == 0) (slice_index k.headers (i / 6145)) (cond (i % 6145 % 3 == 1) (17592186044416 * k.first) 0)

@@ -1,0 +1,7 @@
+pub mod Spelling
+pub mod Views
+pub mod Rule
+pub mod Events
+pub mod Steps
+pub mod Conditions
+pub mod Places
