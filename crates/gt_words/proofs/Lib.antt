@@ -5,3 +5,4 @@ pub mod Lifts
 pub mod Happening
 pub mod Owed
 pub mod Headers
+pub mod Told

@@ -21,7 +21,7 @@ use Rattle.gt_words.specs.declared.view.Half.TheVariants.{First, Second}
 use Rattle.gt_words.specs.declared.view.Record.{Record}
 use Rattle.gt_words.specs.declared.view.Change.TheVariants as change
 
-count_in : (d : Dir) (p : LivePin) (ps : List LivePin) → IsIn p ps → p.0 ≡ d → 1 ≤ pin_count d ps
+pub count_in : (d : Dir) (p : LivePin) (ps : List LivePin) → IsIn p ps → p.0 ≡ d → 1 ≤ pin_count d ps
 count_in d p [] h e = absurd h
 count_in d p (q ∷ qs) (inl same) e = let z : weight d q.0 ≡ 1 = subst (λ (y : LivePin). weight d y.0 ≡ 1) same (subst (λ (y : Dir). weight d y ≡ 1) (sym e) (one d)) in omega arith
   where

@@ -1,26 +1,27 @@
 -- What calls ask of their caller, and what their answers say.
-use Rattle.std.specs.Prelude.{◌≡◌, ◌≢◌, ◌⊎◌, ℕ, ◌+◌, ◌-◌, ◌*◌, ◌<◌, ◌≤◌, List, [], length, All, Option, Some, IfSome, slice_get, cond, ◌==◌, ◌/◌, ◌%◌, slice_index}
+use Rattle.std.specs.Prelude.{◌≡◌, ◌≢◌, ◌⊎◌, ℕ, ◌+◌, ◌-◌, ◌*◌, ◌<◌, ◌≤◌, List, [], length, All, Option, Some, IfSome, slice_get, cond, ◌==◌, ◌/◌, ◌%◌, slice_index, true, false}
 use mathlib.Core.Option.{some}
 use lib.ListN.{get_elem?}
 use Rattle.atomic_table.specs.Table.{State}
 use Rattle.atomic_table.specs.Seated.{TableId}
 use Rattle.gt_types.specs.declared.Dir.{Dir}
-use Rattle.gt_types.specs.declared.Dir.TheVariants.{Read, Write}
+use Rattle.gt_types.specs.declared.Dir.TheVariants.{Write}
 use Rattle.gt_types.specs.declared.DomId.{DomId}
 use Rattle.gt_types.specs.declared.config.Config.{Config}
 use Rattle.gt_types.specs.declared.config.DomainConfig.{DomainConfig}
-use Rattle.gt_entry.specs.declared.entry.Entry.TheVariants.{Invalid}
-use Rattle.gt_words.specs.Spelling.{control_number, idle_number, generation_of, unit, pins_in, PermitsPin, ForwardsPin}
-use Rattle.gt_words.specs.declared.view.Record.{Record}
+use Rattle.gt_words.specs.Events.{shown_entry}
+use Rattle.gt_words.specs.Rule.{Layout, Shows, header_place, id_at, place}
+use Rattle.gt_words.specs.Spelling.{ForwardsPin, PermitsPin, control_number, demoted_word, generation_of, idle_number, invalid_word, pins_in, unit}
+use Rattle.gt_words.specs.Steps.{TakesStep, half_index, on_entry, on_header, turned}
+use Rattle.gt_words.specs.Views.{HasBody, IsIn, LivePin, invalid_at, last_of, last_seen, own_list, pin_count, pins, record_seen, seen, steps_on, with_step}
 use Rattle.gt_words.specs.declared.view.Change.{Change}
 use Rattle.gt_words.specs.declared.view.EntryStep.{EntryStep}
-use Rattle.gt_words.specs.declared.view.EntryStep.TheVariants.{Pinned, PinMissed, Changed, ChangeMissed}
-use Rattle.gt_words.specs.declared.view.Step.{Step}
+use Rattle.gt_words.specs.declared.view.EntryStep.TheVariants.{ChangeMissed, Changed, PinMissed, Pinned, Unpinned}
+use Rattle.gt_words.specs.declared.view.Half.{Half}
+use Rattle.gt_words.specs.declared.view.HeaderStep.{HeaderStep}
+use Rattle.gt_words.specs.declared.view.Record.{Record}
 use Rattle.gt_words.specs.declared.view.View.{View}
-use Rattle.gt_words.specs.Views.{IsIn, LivePin, pins, pin_count, Seen, seen, last_seen, record_seen, HasBody, with_step, steps_on, last_of, own_list}
-use Rattle.gt_words.specs.Rule.{Layout, Shows, IsRecord, place, id_at}
-use Rattle.gt_words.specs.Events.{EntryState, shown_entry}
-use Rattle.gt_words.specs.Steps.{TakesStep, on_entry}
+use Rattle.gt_words.specs.declared.view.Change.TheVariants as change
 
 -- What clauses see of the words: which table of words it is, and the run that it serves
 pub record Board : Type 0 where
@@ -100,6 +101,22 @@ pub record Steps (k : Layout) (t r : ℕ) (m : EntryStep) (found left : ℕ) (v 
   pub view : w ≡ with_step (on_entry t r m) v
   pub step : TakesStep (Unit {0}) k v (on_entry t r m) (place t r 0) found left
 
+-- the step was taken on a body word of the entry
+pub record BodySteps (k : Layout) (t r : ℕ) (h : Half) (m : EntryStep) (found left : ℕ) (v w : View) : Type 0 where
+  pub view : w ≡ with_step (on_entry t r m) v
+  pub step : TakesStep (Unit {0}) k v (on_entry t r m) (place t r (half_index h)) found left
+
+-- the step was taken on the header word of the domain t
+pub record HeaderSteps (k : Layout) (t : ℕ) (m : HeaderStep) (found left : ℕ) (v w : View) : Type 0 where
+  pub view : w ≡ with_step (on_header t m) v
+  pub step : TakesStep (Unit {0}) k v (on_header t m) (header_place t) found left
+
+-- a pin was given back: the word has one pin less of that kind
+pub record Unpins (k : Layout) (t r : ℕ) (d : Dir) (g : ℕ) (v w : View) : Type 0 where
+  pub found : ℕ
+  pub counted : 0 < pins_in d found
+  pub steps : Steps k t r (Unpinned d g) found (found - unit d) v w
+
 -- A pin was taken: of the entry as it was last seen, which was then the last record of its owner's list
 pub record Pins (k : Layout) (t r : ℕ) (d : Dir) (word : ℕ) (v w : View) : Type 0 where
   pub steps : Steps k t r (Pinned d word (record_seen (last_seen t r v))) word (word + unit d) v w
@@ -126,13 +143,13 @@ pub record MissesChange (k : Layout) (r : ℕ) (c : Change) (word found : ℕ) (
   pub not_earlier : IsNotEarlier v.position r v found
 
 -- The entry was made invalid by one exchange, in a state in which no view had a pin of it
-pub record Revokes (k : Layout) (r : ℕ) (word new : ℕ) (y : Record) (v w : View) : Type 0 where
-  pub changes : Changes k r Change.Revoke word new y v w
+pub record Revokes (k : Layout) (r : ℕ) (word : ℕ) (v w : View) : Type 0 where
+  pub changes : Changes k r change.Revoke word (invalid_word word) (invalid_at (last_of r v).generation) v w
   pub no_pins : HasNoPins v.position r changes.steps.step.before
 
 -- The entry was made read-only by one exchange, in a state in which no view had a write pin of it
-pub record Demotes (k : Layout) (r : ℕ) (word new : ℕ) (y : Record) (v w : View) : Type 0 where
-  pub changes : Changes k r Change.Demote word new y v w
+pub record Demotes (k : Layout) (r : ℕ) (word : ℕ) (v w : View) : Type 0 where
+  pub changes : Changes k r change.Demote word (demoted_word word) (turned true (last_of r v)) v w
   pub no_write_pins : HasNoWritePins v.position r changes.steps.step.before
 
 -- the limits of a run

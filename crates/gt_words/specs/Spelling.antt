@@ -1,5 +1,5 @@
 -- How an entry stands in its words: its part of the control word, and two body words.
-use Rattle.std.specs.Prelude.{◌≡◌, ◌≢◌, ℕ, ◌+◌, ◌*◌, ◌/◌, ◌%◌, ◌^◌, ◌<◌, Bool, true, false, ◌==◌}
+use Rattle.std.specs.Prelude.{◌≡◌, ◌≢◌, ℕ, ◌+◌, ◌*◌, ◌/◌, ◌%◌, ◌^◌, ◌<◌, Bool, true, false, not, ◌==◌}
 use Rattle.gt_types.specs.declared.Dir.{Dir}
 use Rattle.gt_types.specs.declared.Dir.TheVariants.{Read, Write}
 use Rattle.gt_types.specs.declared.DomId.{DomId}
@@ -127,3 +127,12 @@ promoted_word word = word + 17592186044412
 -- the invalid word of the same generation, with no pins (own)
 abbrev pub invalid_word : ℕ → ℕ
 invalid_word word = 17592186044416 * generation_of word
+
+-- the word of the same entry with this readonly, at the next generation
+abbrev pub turned_number : Bool → ℕ → ℕ
+turned_number true word = demoted_word word
+turned_number false word = promoted_word word
+
+-- the word is that of an entry that has the other readonly
+abbrev pub IsTurnable : Bool → ℕ → Type 0
+IsTurnable o word = (e : Entry) × (g : ℕ) × (e ≢ Invalid) × (is_readonly e ≡ not o) × (word ≡ low_bits e + 16 * g)

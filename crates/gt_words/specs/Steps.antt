@@ -4,28 +4,25 @@ use mathlib.Core.Option.{some}
 use lib.ListN.{get_elem?}
 use prog.Atomic.{either}
 use Rattle.atomic_table.specs.Table.{State, Me, Step as TableStep, stepped, keeps}
-use Rattle.gt_types.specs.declared.Dir.{Dir}
-use Rattle.gt_types.specs.declared.Dir.TheVariants.{Read, Write}
 use Rattle.gt_entry.specs.declared.entry.Entry.{Entry}
-use Rattle.gt_entry.specs.declared.entry.Entry.TheVariants.{Invalid}
-use Rattle.gt_words.specs.Spelling.{control_number, idle_number, generation_of, unit, with_readonly}
+use Rattle.gt_types.specs.declared.Dir.{Dir}
+use Rattle.gt_words.specs.Events.{Happens}
+use Rattle.gt_words.specs.Rule.{Layout, Shows}
+use Rattle.gt_words.specs.Spelling.{unit, with_readonly}
+use Rattle.gt_words.specs.Views.{invalid_at, last_of, last_seen, record_seen, with_step}
+use Rattle.gt_words.specs.declared.view.EntryStep.{EntryStep}
+use Rattle.gt_words.specs.declared.view.EntryStep.TheVariants.{ChangeMissed, Changed, Looked, PinMissed, Pinned, ReadBody, StoredBody, Unpinned}
 use Rattle.gt_words.specs.declared.view.Half.{Half}
 use Rattle.gt_words.specs.declared.view.Half.TheVariants.{First, Second}
-use Rattle.gt_words.specs.declared.view.Record.{Record}
-use Rattle.gt_words.specs.declared.view.Change.{Change}
-use Rattle.gt_words.specs.declared.view.Change.TheVariants as change
-use Rattle.gt_words.specs.declared.view.EntryStep.{EntryStep}
-use Rattle.gt_words.specs.declared.view.EntryStep.TheVariants.{Looked, ReadBody, Pinned, PinMissed, Unpinned, StoredBody, Changed, ChangeMissed}
 use Rattle.gt_words.specs.declared.view.HeaderStep.{HeaderStep}
-use Rattle.gt_words.specs.declared.view.HeaderStep.TheVariants as header
 use Rattle.gt_words.specs.declared.view.Purpose.{Purpose}
-use Rattle.gt_words.specs.declared.view.Purpose.TheVariants as purpose
+use Rattle.gt_words.specs.declared.view.Record.{Record}
 use Rattle.gt_words.specs.declared.view.Step.{Step}
-use Rattle.gt_words.specs.declared.view.Step.TheVariants as step
 use Rattle.gt_words.specs.declared.view.View.{View}
-use Rattle.gt_words.specs.Views.{pins, seen, last_seen, record_seen, with_step, steps_on, last_of, own_list, invalid_at}
-use Rattle.gt_words.specs.Rule.{Layout, Shows, place}
-use Rattle.gt_words.specs.Events.{Happens}
+use Rattle.gt_words.specs.declared.view.Change.TheVariants as change
+use Rattle.gt_words.specs.declared.view.Purpose.TheVariants as purpose
+use Rattle.gt_words.specs.declared.view.HeaderStep.TheVariants as header
+use Rattle.gt_words.specs.declared.view.Step.TheVariants as step_of
 
 -- The seat with the view v takes the step x on this word, where it finds one number and leaves another: words and views show a state before it and after it, and it takes the one to what the core's event makes of it (own)
 pub record TakesStep (S : Type 0) (k : Layout) (v : View) (x : Step) (word found left : ℕ) : Type 0 where
@@ -38,11 +35,11 @@ pub record TakesStep (S : Type 0) (k : Layout) (v : View) (x : Step) (word found
 
 -- a step on the entry r of the domain t
 abbrev pub on_entry : ℕ → ℕ → EntryStep → Step
-on_entry t r m = step.Entry t r m
+on_entry t r m = step_of.Entry t r m
 
 -- a step on the header of the domain t
 abbrev pub on_header : ℕ → HeaderStep → Step
-on_header t m = step.Header t m
+on_header t m = step_of.Header t m
 
 -- a kind of step: the step by the number found, and the number that it leaves
 pub record StepKind : Type 0 where

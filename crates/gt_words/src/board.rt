@@ -3,14 +3,14 @@ ghost use Rattle.std.specs.Prelude.{◌≡◌, ◌≢◌, ℕ, ◌+◌, ◌-◌,
 ghost use mathlib.Core.Option.{none};
 ghost use prog.Atomic.{either};
 ghost use Rattle.atomic_table.specs.Table.{step, Allows};
-ghost use Rattle.gt_words.specs.Spelling.{IsEntry, IsSpelled, IsValid, unit, pins_in, generation_of, idle_number, is_readonly, demoted_word, promoted_word};
-ghost use Rattle.gt_words.specs.Views.{stored_body, steps_on, last_of, invalid_at, last_seen, record_seen};
+ghost use Rattle.gt_words.specs.Spelling.{IsEntry, IsSpelled, IsValid, IsTurnable, unit, pins_in, generation_of, idle_number, turned_number, promoted_word, is_readonly};
+ghost use Rattle.gt_words.specs.Views.{stored_body, steps_on, last_of, last_seen, record_seen};
 ghost use Rattle.gt_words.specs.Rule.{Shows, layout_of, place, header_place, IsHeader};
-ghost use Rattle.gt_words.specs.Steps.{StepKind, tells, tells_stored, looking, reading, storing, unpinning, exchanging, looking_at_header, storing_header, half_index, taken, missed, on_entry, TakesStep, published, turned};
-ghost use Rattle.gt_words.specs.Conditions.{IsWide, IsIdleOf, IsWordOf, IsBusyOf, HasLooked, Holds, MayPin, IsNotEarlier, Steps, Pins, MissesPin, Changes, MissesChange, Revokes, Demotes};
+ghost use Rattle.gt_words.specs.Steps.{StepKind, tells, tells_stored, looking, published, turned};
+ghost use Rattle.gt_words.specs.Conditions.{IsWide, IsIdleOf, IsWordOf, IsBusyOf, HasLooked, Holds, MayPin, IsNotEarlier, Steps, BodySteps, HeaderSteps, Unpins, Pins, MissesPin, Changes, MissesChange, Revokes, Demotes};
 ghost use Rattle.gt_words.specs.Places.{new_view, IsSamePlace};
 
-use crate::view::{Half, Purpose, View};
+use crate::view::{Change, EntryStep, Half, HeaderStep, Purpose, View};
 use atomic_table::{Play, Seat, Shared, Table, TableRule};
 use gt_entry::{Control, Entry, Kind};
 use gt_types::{Config, Dir, DomId};
@@ -142,4 +142,218 @@ fn store_header_word<J: OfKind>(board: &Board, seat: &mut Place, at: usize, new:
     ensures { (seat.new.table_id ≡ seat.old.table_id) × (seat.new.id ≡ seat.old.id) × tells_stored J.kind (step board.now.table_id.slots (header_place at) new 0 none) seat.old.me seat.new.me }
 {
     board.store::<TellsStore<J>>(seat, at * 6145, new)
+}
+
+// What a pin of this kind adds to the control word.
+fn unit_of(dir: Dir) -> u64
+    ensures { result ≡ unit dir }
+{
+    match dir {
+        Dir::Read => 16,
+        Dir::Write => 65_536,
+    }
+}
+
+impl WordTable {
+    /// A look at a domain's header.
+    pub fn load_header(&self, seat: &mut Place, at: usize) -> u64
+        requires mine { seat.old.table_id ≡ self.now.table.shared.table_id }
+        requires domain { at < length self.now.table.shared.key.domains.items }
+        ensures header { IsHeader result }
+        ensures seat { IsSamePlace seat.old seat.new }
+        ensures step { HeaderSteps (layout_of self.now.table.shared.key) at (HeaderStep.Looked result) result result seat.old.me.0 seat.new.me.0 }
+    {
+        load_header_word::<Brand>(&self.table.shared, seat, at)
+    }
+
+    /// The owner stores its header.
+    pub fn store_header(&self, seat: &mut Place, at: usize, header: u64)
+        requires mine { (seat.old.table_id ≡ self.now.table.shared.table_id) × (seat.old.me.0.position ≡ at) }
+        requires domain { at < length self.now.table.shared.key.domains.items }
+        requires header { IsHeader header }
+        ensures seat { IsSamePlace seat.old seat.new }
+        ensures step { (found : ℕ) × HeaderSteps (layout_of self.now.table.shared.key) at (HeaderStep.Stored header) found header seat.old.me.0 seat.new.me.0 }
+    {
+        store_header_word::<Brand>(&self.table.shared, seat, at, header)
+    }
+
+    /// A look at the control word of an entry.
+    pub fn load_control(&self, seat: &mut Place, at: usize, gref: usize) -> u64
+        requires mine { seat.old.table_id ≡ self.now.table.shared.table_id }
+        requires entry { (at < length self.now.table.shared.key.domains.items) × (gref < 2048) }
+        ensures seat { IsSamePlace seat.old seat.new }
+        ensures step { Steps (layout_of self.now.table.shared.key) at gref (EntryStep.Looked result) result result seat.old.me.0 seat.new.me.0 }
+        ensures not_earlier { IsNotEarlier at gref seat.old.me.0 result }
+    {
+        load_word::<Brand>(&self.table.shared, seat, at, gref, 0)
+    }
+
+    /// A look at a body word of an entry.
+    pub fn load_body(&self, seat: &mut Place, at: usize, gref: usize, half: Half) -> u64
+        requires mine { seat.old.table_id ≡ self.now.table.shared.table_id }
+        requires entry { (at < length self.now.table.shared.key.domains.items) × (gref < 2048) }
+        ensures seat { IsSamePlace seat.old seat.new }
+        ensures step { BodySteps (layout_of self.now.table.shared.key) at gref half (EntryStep.ReadBody half result) result result seat.old.me.0 seat.new.me.0 }
+    {
+        match half {
+            Half::First => load_word::<Brand>(&self.table.shared, seat, at, gref, 1),
+            Half::Second => load_word::<Brand>(&self.table.shared, seat, at, gref, 2),
+        }
+    }
+
+    /// Takes a pin, where the control word still is the one looked at. Answers the word found where it is another.
+    pub fn pin(
+        &self,
+        seat: &mut Place,
+        at: usize,
+        gref: usize,
+        looked: u64,
+        dir: Dir,
+    ) -> Result<(), u64>
+        requires mine { seat.old.table_id ≡ self.now.table.shared.table_id }
+        requires entry { (at < length self.now.table.shared.key.domains.items) × (gref < 2048) }
+        requires looked { HasLooked at gref seat.old.me.0 looked × IsValid looked }
+        requires room { pins_in dir looked < 4095 }
+        requires permitted { MayPin (layout_of self.now.table.shared.key) at gref seat.old.me.0 dir (record_seen (last_seen at gref seat.old.me.0)) }
+        ensures seat { IsSamePlace seat.old seat.new }
+        ensures step { MatchResult result
+            (λ _. Pins (layout_of self.now.table.shared.key) at gref dir looked seat.old.me.0 seat.new.me.0)
+            (λ n. MissesPin (layout_of self.now.table.shared.key) at gref dir looked n seat.old.me.0 seat.new.me.0) }
+    {
+        let new = looked + unit_of(dir);
+        let purpose = Purpose::Pin(dir);
+        let found =
+            exchange_word::<Brand>(&self.table.shared, seat, at, gref, looked, new, purpose);
+        if found == looked { Ok(()) } else { Err(found) }
+    }
+
+    /// Gives a pin back.
+    pub fn unpin(&self, seat: &mut Place, at: usize, gref: usize, dir: Dir, generation: u64)
+        requires mine { seat.old.table_id ≡ self.now.table.shared.table_id }
+        requires entry { (at < length self.now.table.shared.key.domains.items) × (gref < 2048) }
+        requires held { Holds at gref dir generation seat.old.me.0 }
+        ensures seat { IsSamePlace seat.old seat.new }
+        ensures step { Unpins (layout_of self.now.table.shared.key) at gref dir generation seat.old.me.0 seat.new.me.0 }
+    {
+        let one = unit_of(dir);
+        subtract_from_word::<Brand>(&self.table.shared, seat, at, gref, one, dir, generation);
+    }
+
+    /// The owner stores a body word of its invalid entry.
+    pub fn store_body(&self, seat: &mut Place, at: usize, gref: usize, half: Half, value: u64)
+        requires mine { (seat.old.table_id ≡ self.now.table.shared.table_id) × (seat.old.me.0.position ≡ at) }
+        requires entry { (at < length self.now.table.shared.key.domains.items) × (gref < 2048) }
+        requires invalid { (last_of gref seat.old.me.0).entry ≡ Entry.Invalid }
+        ensures seat { IsSamePlace seat.old seat.new }
+        ensures step { (found : ℕ) × BodySteps (layout_of self.now.table.shared.key) at gref half (EntryStep.StoredBody half value) found value seat.old.me.0 seat.new.me.0 }
+    {
+        match half {
+            Half::First => store_word::<Brand>(&self.table.shared, seat, at, gref, 1, value),
+            Half::Second => store_word::<Brand>(&self.table.shared, seat, at, gref, 2, value),
+        }
+    }
+
+    /// The owner publishes an entry whose body it has stored. Answers the word found where it is another than the one handed in.
+    pub fn grant(
+        &self,
+        seat: &mut Place,
+        at: usize,
+        gref: usize,
+        word: u64,
+        entry: Entry,
+    ) -> Result<(), u64>
+        requires mine { (seat.old.table_id ≡ self.now.table.shared.table_id) × (seat.old.me.0.position ≡ at) }
+        requires entry { (at < length self.now.table.shared.key.domains.items) × (gref < 2048) }
+        requires invalid { IsIdleOf (last_of gref seat.old.me.0) word × ((last_of gref seat.old.me.0).entry ≡ Entry.Invalid) × ((last_of gref seat.old.me.0).generation < 1048575) }
+        requires given { IsEntry entry × (entry ≢ Entry.Invalid) × IsSpelled entry (stored_body Half.First (steps_on at gref seat.old.me.0)) (stored_body Half.Second (steps_on at gref seat.old.me.0)) }
+        ensures seat { IsSamePlace seat.old seat.new }
+        ensures step { MatchResult result
+            (λ _. Changes (layout_of self.now.table.shared.key) gref Change.Publish word (idle_number entry ((last_of gref seat.old.me.0).generation + 1)) (published entry (last_of gref seat.old.me.0)) seat.old.me.0 seat.new.me.0)
+            (λ n. MissesChange (layout_of self.now.table.shared.key) gref Change.Publish word n seat.old.me.0 seat.new.me.0 × IsBusyOf (last_of gref seat.old.me.0) n) }
+        ensures taken { IsOk result }
+    {
+        let new = idle_word(entry, word / 17_592_186_044_416 + 1);
+        let purpose = Purpose::Publish(entry);
+        let found = exchange_word::<Brand>(&self.table.shared, seat, at, gref, word, new, purpose);
+        if found == word { Ok(()) } else { Err(found) }
+    }
+
+    /// The owner makes its entry invalid, where it has no pins. Answers the word found where it has some.
+    pub fn revoke(&self, seat: &mut Place, at: usize, gref: usize, word: u64) -> Result<(), u64>
+        requires mine { (seat.old.table_id ≡ self.now.table.shared.table_id) × (seat.old.me.0.position ≡ at) }
+        requires entry { (at < length self.now.table.shared.key.domains.items) × (gref < 2048) }
+        requires idle { IsIdleOf (last_of gref seat.old.me.0) word × ((last_of gref seat.old.me.0).entry ≢ Entry.Invalid) }
+        ensures seat { IsSamePlace seat.old seat.new }
+        ensures step { MatchResult result
+            (λ _. Revokes (layout_of self.now.table.shared.key) gref word seat.old.me.0 seat.new.me.0)
+            (λ n. MissesChange (layout_of self.now.table.shared.key) gref Change.Revoke word n seat.old.me.0 seat.new.me.0 × IsBusyOf (last_of gref seat.old.me.0) n) }
+    {
+        let new = word / 17_592_186_044_416 * 17_592_186_044_416;
+        let purpose = Purpose::Revoke;
+        let found = exchange_word::<Brand>(&self.table.shared, seat, at, gref, word, new, purpose);
+        if found == word { Ok(()) } else { Err(found) }
+    }
+
+    /// The owner makes its entry read-only, where its word still is the one handed in, which has no write pins.
+    pub fn demote(&self, seat: &mut Place, at: usize, gref: usize, word: u64) -> Result<(), u64>
+        requires mine { (seat.old.table_id ≡ self.now.table.shared.table_id) × (seat.old.me.0.position ≡ at) }
+        requires entry { (at < length self.now.table.shared.key.domains.items) × (gref < 2048) }
+        requires word { IsWordOf (last_of gref seat.old.me.0) word × (pins_in Dir.Write word ≡ 0) × (generation_of word < 1048575) }
+        requires writable { ((last_of gref seat.old.me.0).entry ≢ Entry.Invalid) × (is_readonly (last_of gref seat.old.me.0).entry ≡ false) }
+        ensures seat { IsSamePlace seat.old seat.new }
+        ensures step { MatchResult result
+            (λ _. Demotes (layout_of self.now.table.shared.key) gref word seat.old.me.0 seat.new.me.0)
+            (λ n. MissesChange (layout_of self.now.table.shared.key) gref Change.Demote word n seat.old.me.0 seat.new.me.0) }
+    {
+        let new = turned_word(word, true);
+        let purpose = Purpose::Demote;
+        let found = exchange_word::<Brand>(&self.table.shared, seat, at, gref, word, new, purpose);
+        if found == word { Ok(()) } else { Err(found) }
+    }
+
+    /// The owner makes its entry writable, where its word still is the one handed in.
+    pub fn promote(&self, seat: &mut Place, at: usize, gref: usize, word: u64) -> Result<(), u64>
+        requires mine { (seat.old.table_id ≡ self.now.table.shared.table_id) × (seat.old.me.0.position ≡ at) }
+        requires entry { (at < length self.now.table.shared.key.domains.items) × (gref < 2048) }
+        requires word { IsWordOf (last_of gref seat.old.me.0) word × (generation_of word < 1048575) }
+        requires readonly { ((last_of gref seat.old.me.0).entry ≢ Entry.Invalid) × (is_readonly (last_of gref seat.old.me.0).entry ≡ true) }
+        ensures seat { IsSamePlace seat.old seat.new }
+        ensures step { MatchResult result
+            (λ _. Changes (layout_of self.now.table.shared.key) gref Change.Promote word (promoted_word word) (turned false (last_of gref seat.old.me.0)) seat.old.me.0 seat.new.me.0)
+            (λ n. MissesChange (layout_of self.now.table.shared.key) gref Change.Promote word n seat.old.me.0 seat.new.me.0) }
+    {
+        let new = turned_word(word, false);
+        let purpose = Purpose::Promote;
+        let found = exchange_word::<Brand>(&self.table.shared, seat, at, gref, word, new, purpose);
+        if found == word { Ok(()) } else { Err(found) }
+    }
+}
+
+// The control word of the entry at a generation, with no pins.
+fn idle_word(entry: Entry, generation: u64) -> u64
+    requires { IsEntry entry × (generation < 1048576) }
+    ensures { result ≡ idle_number entry generation }
+{
+    let (low, dom, readonly) = match entry {
+        Entry::Invalid => (0, DomId(0), false),
+        Entry::Page { dom, ro, .. } => (1, dom, ro),
+        Entry::Sub { dom, ro, .. } => (9, dom, ro),
+        Entry::Via { dom, ro, .. } => (3, dom, ro),
+    };
+    let turned = if readonly { 4 } else { 0 };
+    low + turned + 268_435_456 * u64::from(dom.0) + 17_592_186_044_416 * generation
+}
+
+// The same word read-only or writable, at the next generation.
+fn turned_word(word: u64, readonly: bool) -> u64
+    requires { (generation_of word < 1048575) × IsTurnable readonly word }
+    ensures { result ≡ turned_number readonly word }
+{
+    let control = Control::unpack(word);
+    let turned = Control {
+        ro: readonly,
+        generation: control.generation + 1,
+        ..control
+    };
+    turned.pack()
 }
