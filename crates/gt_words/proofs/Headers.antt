@@ -74,7 +74,7 @@ module _ {S : Type 0} (k : Layout) (s : State S View) (id : ℕ) (v : View) (t :
         (let z = length-set s.views id w in let a = shown.dealt.1 in omega arith),
         (let z = length-set s.views id w in let a = shown.dealt.2 in omega arith),
       );
-      seats = λ i u e. ⊎_elim (λ (q : (i ≡ id) × (w ≡ u)). let z = shown.seats id v at in (ap (λ (x : View). x.position) (sym q.1) ∙ (z.0 ∙ sym q.0), ap (λ (x : View). x.first) (sym q.1) ∙ z.1))
+      seats = λ i u e. ⊎_elim (λ (q : (i ≡ id) × (w ≡ u)). let z = shown.seats id v at in (ap (λ (x : View). x.position) (sym q.1) ∙ (z.0 ∙ sym q.0), ap (λ (x : View). x.first) (sym q.1) ∙ z.1, ap (λ (x : View). x.headers) (sym q.1) ∙ z.2))
           (λ (q : (i ≢ id) × (get_elem? s.views i ≡ some u)). shown.seats i u q.1) (at_set s.views id i w u e);
       entries = λ u r un rn. let p : (j : ℕ) → j < 3 → get_or s.words (place u r j) 0 ≡ get_or (set s.words (header_place t) y) (place u r j) 0 = λ j jn. sym (get_or-set_other s.words (header_place t) (place u r j) y 0 (λ e. omega arith)) in
           let p0 = p 0 (omega arith) in let p1 = p 1 (omega arith) in let p2 = p 2 (omega arith) in let q = sym (map_entry u r) in

@@ -6,3 +6,4 @@ pub mod Happening
 pub mod Owed
 pub mod Headers
 pub mod Told
+pub mod Opens

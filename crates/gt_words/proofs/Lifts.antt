@@ -57,7 +57,7 @@ module _ {S : Type 0} (k : Layout) (s : State S View) (id : ℕ) (v : View) (t r
       (let z = length-set s.views id w in let a = shown.dealt.1 in omega arith),
       (let z = length-set s.views id w in let a = shown.dealt.2 in omega arith),
     );
-    seats = λ i u e. ⊎_elim (λ (q : (i ≡ id) × (w ≡ u)). let z = shown.seats id v at in (ap (λ (x : View). x.position) (sym q.1) ∙ (z.0 ∙ sym q.0), ap (λ (x : View). x.first) (sym q.1) ∙ z.1))
+    seats = λ i u e. ⊎_elim (λ (q : (i ≡ id) × (w ≡ u)). let z = shown.seats id v at in (ap (λ (x : View). x.position) (sym q.1) ∙ (z.0 ∙ sym q.0), ap (λ (x : View). x.first) (sym q.1) ∙ z.1, ap (λ (x : View). x.headers) (sym q.1) ∙ z.2))
         (λ (q : (i ≢ id) × (get_elem? s.views i ≡ some u)). shown.seats i u q.1) (at_set s.views id i w u e);
     entries = λ t' r' tn' rn'. dite (ℕ_discrete t t')
         (λ e. dite (ℕ_discrete r r') (λ f. subst (λ (z : ℕ × ℕ). ShowsEntry k.first z.0 (get_or ws (place z.0 z.1 0) 0) (get_or ws (place z.0 z.1 1) 0) (get_or ws (place z.0 z.1 2) 0) (map (steps_on z.0 z.1) (set s.views id w))) (λ i. (e i, f i))

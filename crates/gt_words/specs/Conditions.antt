@@ -1,14 +1,15 @@
 -- What calls ask of their caller, and what their answers say.
-use Rattle.std.specs.Prelude.{◌≡◌, ◌≢◌, ◌⊎◌, ℕ, ◌+◌, ◌-◌, ◌*◌, ◌<◌, ◌≤◌, List, [], length, All, Option, Some, IfSome, slice_get, cond, ◌==◌, ◌/◌, ◌%◌, slice_index, true, false}
+use Rattle.std.specs.Prelude.{◌≡◌, ◌≢◌, ◌⊎◌, ℕ, ◌+◌, ◌-◌, ◌*◌, ◌<◌, ◌≤◌, List, [], length, Option, Some, IfSome, slice_get, cond, ◌==◌, ◌/◌, ◌%◌, slice_index, true, false}
 use mathlib.Core.Option.{some}
 use lib.ListN.{get_elem?}
 use Rattle.atomic_table.specs.Table.{State}
 use Rattle.atomic_table.specs.Seated.{TableId}
+use Rattle.gt_types.specs.Config.{IsFirstFault, IsWithinLimits}
 use Rattle.gt_types.specs.declared.Dir.{Dir}
 use Rattle.gt_types.specs.declared.Dir.TheVariants.{Write}
 use Rattle.gt_types.specs.declared.DomId.{DomId}
 use Rattle.gt_types.specs.declared.config.Config.{Config}
-use Rattle.gt_types.specs.declared.config.DomainConfig.{DomainConfig}
+use Rattle.gt_types.specs.declared.config.StartFault.{StartFault}
 use Rattle.gt_words.specs.Events.{shown_entry}
 use Rattle.gt_words.specs.Rule.{Layout, Shows, header_place, id_at, place}
 use Rattle.gt_words.specs.Spelling.{ForwardsPin, PermitsPin, control_number, demoted_word, generation_of, idle_number, invalid_word, pins_in, unit}
@@ -21,6 +22,7 @@ use Rattle.gt_words.specs.declared.view.Half.{Half}
 use Rattle.gt_words.specs.declared.view.HeaderStep.{HeaderStep}
 use Rattle.gt_words.specs.declared.view.Record.{Record}
 use Rattle.gt_words.specs.declared.view.View.{View}
+use Rattle.gt_types.specs.declared.config.StartFault.TheVariants as fault
 use Rattle.gt_words.specs.declared.view.Change.TheVariants as change
 
 -- What clauses see of the words: which table of words it is, and the run that it serves
@@ -45,6 +47,7 @@ pub record IsSameSeat (s s' : SeatOf) : Type 0 where
   pub dom : s'.dom ≡ s.dom
   pub position : s'.view.position ≡ s.view.position
   pub first : s'.view.first ≡ s.view.first
+  pub headers : s'.view.headers ≡ s.view.headers
 
 -- one header word and 2,048 entries of three words for each domain
 abbrev pub IsWide : ℕ → Layout → Type 0
@@ -152,12 +155,18 @@ pub record Demotes (k : Layout) (r : ℕ) (word : ℕ) (v w : View) : Type 0 whe
   pub changes : Changes k r change.Demote word (demoted_word word) (turned true (last_of r v)) v w
   pub no_write_pins : HasNoWritePins v.position r changes.steps.step.before
 
--- the limits of a run
-abbrev pub IsDomain : DomainConfig → Type 0
-IsDomain d = (0 < d.version) × (d.version ≤ 2) × (0 < d.table_frames) × (d.table_frames ≤ 4)
+-- Why words are not made: the first fault of the configuration, or no memory where it has none
+abbrev pub IsStartFault : Config → StartFault → Type 0
+IsStartFault c (fault.Config f) = (¬ IsWithinLimits c) × IsFirstFault c f
+IsStartFault c fault.Memory = IsWithinLimits c
 
-abbrev pub IsConfig : Config → Type 0
-IsConfig c = (0 < length c.domains.items) × (length c.domains.items ≤ 64) × (c.first_gen < 1048576) × All IsDomain c.domains.items
+-- the seat at the position i, which has done nothing
+pub record IsNewSeat (b : Board) (i : ℕ) (s : SeatOf) : Type 0 where
+  pub seat : IsSeatOf b s
+  pub position : s.view.position ≡ i
+  pub first : s.view.first ≡ b.layout.first
+  pub headers : s.view.headers ≡ b.layout.headers
+  pub steps : s.view.steps ≡ []
 
 -- the words at the start
 abbrev pub initial : Layout → ℕ → ℕ

@@ -1,5 +1,5 @@
 -- The rule of the table: between any two steps words and views show a state of the core.
-use Rattle.std.specs.Prelude.{◌≡◌, ◌≢◌, ◌⊎◌, ℕ, ◌+◌, ◌*◌, ◌/◌, ◌%◌, ◌<◌, ◌≤◌, Bool, not, cond, ◌==◌, List, [], ◌∷◌, map, length, slice_index, slice_index_or, Option, Some, None, IfSome, if◌then◌else◌}
+use Rattle.std.specs.Prelude.{◌≡◌, ◌≢◌, ◌⊎◌, ℕ, ◌+◌, ◌*◌, ◌/◌, ◌%◌, ◌<◌, ◌≤◌, Bool, not, cond, ◌==◌, List, [], ◌∷◌, map, length, slice_index, slice_index_or, Option, Some, None, IfSome, position, unwrap_or}
 use mathlib.Core.Option.{some}
 use lib.ListN.{get_elem?}
 use Rattle.atomic_table.specs.Table.{State}
@@ -7,7 +7,7 @@ use Rattle.gt_types.specs.declared.Dir.{Dir}
 use Rattle.gt_types.specs.declared.Dir.TheVariants.{Read, Write}
 use Rattle.gt_types.specs.declared.DomId.{DomId}
 use Rattle.gt_types.specs.declared.config.Config.{Config}
-use Rattle.gt_types.specs.declared.config.DomainConfig.{DomainConfig}
+use Rattle.gt_types.specs.declared.limits.TheConstants.{MAX_TABLE_FRAMES}
 use Rattle.gt_entry.specs.declared.entry.Entry.{Entry}
 use Rattle.gt_entry.specs.declared.entry.Entry.TheVariants.{Invalid, Page, Sub, Via}
 use Rattle.gt_words.specs.Spelling.{IsEntry, IsSpelled, control_number, with_readonly, is_readonly}
@@ -34,8 +34,7 @@ layout_of c = record { ids = map (λ d. d.id) c.domains.items; domains = length 
 
 -- the position of a domain among those of the run, or their number where it is none of them
 abbrev pub position_in : List DomId → DomId → ℕ
-position_in [] d = 0
-position_in (x ∷ xs) d = if x.0 == d.0 then 0 else 1 + position_in xs d
+position_in xs d = unwrap_or (position (λ x. x.0 == d.0) xs) (length xs)
 
 -- the number of the domain at a position
 abbrev pub id_at : List DomId → ℕ → ℕ
@@ -118,9 +117,9 @@ pub record ShowsEntry (g t word a b : ℕ) (hs : List (List EntryStep)) : Type 0
   pub first : a ≡ stored_body First (owner_steps t hs)
   pub second : b ≡ stored_body Second (owner_steps t hs)
 
--- version 1 or 2, and 1 to 4 table frames
+-- version 1 or 2, and a number of table frames within the limit
 abbrev pub IsHeader : ℕ → Type 0
-IsHeader w = (version : ℕ) × (frames : ℕ) × ((version ≡ 1) ⊎ (version ≡ 2)) × (0 < frames) × (frames ≤ 4) × (w ≡ header_number version frames)
+IsHeader w = (version : ℕ) × (frames : ℕ) × ((version ≡ 1) ⊎ (version ≡ 2)) × (0 < frames) × (frames ≤ MAX_TABLE_FRAMES) × (w ≡ header_number version frames)
 
 -- the header of the domain t, by the steps of each seat on it
 abbrev pub header_now : Layout → ℕ → List (List HeaderStep) → ℕ
@@ -133,7 +132,7 @@ module _ {S : Type 0} where
     -- the first seat deals the others, and counts them
     pub dealt : ((v : View) → get_elem? s.views 0 ≡ some v → v.dealt ≡ length s.views) × (length s.views ≤ k.domains) × (0 < length s.views)
     -- the seat of each domain stands at its position
-    pub seats : (j : ℕ) (v : View) → get_elem? s.views j ≡ some v → (v.position ≡ j) × (v.first ≡ k.first)
+    pub seats : (j : ℕ) (v : View) → get_elem? s.views j ≡ some v → (v.position ≡ j) × (v.first ≡ k.first) × (v.headers ≡ k.headers)
     pub entries : (t r : ℕ) → t < k.domains → r < 2048
         → ShowsEntry k.first t (slice_index s.words (place t r 0)) (slice_index s.words (place t r 1)) (slice_index s.words (place t r 2)) (map (steps_on t r) s.views)
     pub headers : (t : ℕ) → t < k.domains → (slice_index s.words (header_place t) ≡ header_now k t (map (steps_on_header t) s.views)) × IsHeader (slice_index s.words (header_place t))

@@ -1,5 +1,5 @@
 -- What follows from the steps of one seat. Lists begin with what came last.
-use Rattle.std.specs.Prelude.{◌≡◌, ◌⊎◌, ℕ, ◌+◌, ◌*◌, ◌/◌, ◌%◌, Bool, true, false, cond, IsSome, ◌==◌, ◌&&◌, List, [], ◌∷◌, Option, Some, None}
+use Rattle.std.specs.Prelude.{◌≡◌, ◌⊎◌, ℕ, ◌+◌, ◌*◌, ◌/◌, ◌%◌, Bool, true, false, cond, IsSome, ◌==◌, ◌&&◌, List, [], ◌∷◌, Option, Some, None, slice_index}
 use Rattle.gt_types.specs.declared.Dir.{Dir}
 use Rattle.gt_types.specs.declared.Dir.TheVariants.{Read, Write}
 use Rattle.gt_entry.specs.declared.entry.Entry.TheVariants as entries
@@ -165,3 +165,7 @@ last_of r v = last_record v.first (steps_on v.position r v)
 -- the owner's list of records of its own entry r
 abbrev pub own_list : ℕ → View → List Record
 own_list r v = own v.first (steps_on v.position r v)
+
+-- the header of the seat's own domain: the last one that it stored, or the one that it began with
+abbrev pub own_header : View → ℕ
+own_header v = stored_header (slice_index v.headers v.position) (steps_on_header v.position v)

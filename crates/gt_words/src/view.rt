@@ -95,6 +95,8 @@ pub struct View {
     pub position: u64,
     /// The generation that all entries began with.
     pub first: u64,
+    /// The headers that the domains began with.
+    pub headers: LinkedList<u64>,
     /// The number of seats that this one has dealt, its own among them.
     pub dealt: u64,
     pub steps: LinkedList<Step>,
