@@ -27,7 +27,7 @@ pub record Layout : Type 0 where
 
 -- version in the low two bits, table frames above (own)
 abbrev pub header_number : ℕ → ℕ → ℕ
-header_number version frames = version + 4 * frames
+header_number version frames = version + frames * 4
 
 abbrev pub layout_of : Config → Layout
 layout_of c = record { ids = map (λ d. d.id) c.domains.items; domains = length c.domains.items; first = c.first_gen; headers = map (λ d. header_number d.version d.table_frames) c.domains.items }

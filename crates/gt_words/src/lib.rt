@@ -9,6 +9,9 @@
 #![tactic(auto)]
 
 mod board;
+mod start;
 mod view;
+mod words;
 
 pub use view::{Change, EntryStep, Half, HeaderStep, Purpose, Record, Step, View};
+pub use words::{Pin, Seat, Words};
