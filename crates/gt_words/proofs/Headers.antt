@@ -1,5 +1,5 @@
 -- Steps on a header word keep the rule, and take the shown state to the one that their event gives.
-use Rattle.std.proofs.Common.{◌≡◌, ◌≢◌, ⊎_elim, ℕ, zero, suc, ◌<◌, Bool, true, false, cond, ◌==◌, List, [], ◌∷◌, map, get_or, set, sym, refl, ap, ◌∙◌, subst, arith, length-set, get_or-set_other, get_or-set_same, eq-eqb, ne_eqb}
+use Rattle.std.proofs.Common.{◌≡◌, ◌≢◌, ◌⊎◌, inl, inr, ⊎_elim, ℕ, zero, suc, ◌<◌, Bool, true, false, cond, ◌==◌, List, [], ◌∷◌, map, get_or, set, sym, refl, ap, ◌∙◌, subst, arith, length-set, get_or-set_other, get_or-set_same, eq-eqb, ne_eqb}
 use mathlib.Core.Option.{some, none}
 use mathlib.Core.Logic.{dite}
 use native.Mathlib.Decide.{ℕ_discrete}
@@ -10,10 +10,11 @@ use Rattle.atomic_table.proofs.Lists.{at_set, set_again, at_map}
 use Rattle.gt_words.proofs.Lists.{whose_at, whose_here}
 use Rattle.gt_words.proofs.OneEntry.{mine}
 use Rattle.gt_words.proofs.Owed.{stored_owes}
+use Rattle.gt_words.specs.Conditions.{HeaderSteps, StoresHeader}
 use Rattle.gt_words.specs.Events.{Happens, HeaderByOwner, entry_by, event_on_header, header_after, shown_header}
 use Rattle.gt_words.specs.Rule.{IsHeader, Layout, Shows, ShowsEntry, header_now, header_place, place}
 use Rattle.gt_words.specs.Steps.{looking_at_header, on_header, storing_header, tells, tells_stored}
-use Rattle.gt_words.specs.Views.{own, steps_on, steps_on_header, stored_header, with_step}
+use Rattle.gt_words.specs.Views.{own, own_header, steps_on, steps_on_header, stored_header, with_step}
 use Rattle.gt_words.specs.declared.view.EntryStep.{EntryStep}
 use Rattle.gt_words.specs.declared.view.HeaderStep.{HeaderStep}
 use Rattle.gt_words.specs.declared.view.View.{View}
@@ -109,3 +110,16 @@ module _ {S : Type 0} (k : Layout) (slots id : ℕ) (me : Me S View) (t : ℕ) (
   pub store_header_owes : (y : ℕ) → me.0.position ≡ t → IsHeader y → Allows (Shows k) slots id me (header_place t) (λ _. y) (λ _. tells_stored (storing_header k t y) (step slots (header_place t) y 0 none) me)
   store_header_owes y own ok = stored_owes (storing_header k t y) (header_place t) (λ _. y) (step slots (header_place t) y 0 none)
       (header_owes (λ n. header.Stored y) (λ n. y) y (λ s shown at. sym (shown.seats id me.0 at).0 ∙ own) (λ n. refl) (λ n h. ok))
+
+-- the owner stored its header
+pub stores_header : (k : Layout) (at value y found : ℕ) (v w : View) → v.position ≡ at → value ≡ y → HeaderSteps k at (header.Stored value) found value v w → StoresHeader k y v w
+stores_header k at value y found v w own is z = record {
+  found = found;
+  steps = subst (λ (u : ℕ × ℕ). HeaderSteps k u.0 (header.Stored u.1) found u.1 v w) (λ i. (sym own i, is i)) z;
+  header = ap own_header z.view ∙ (ap (stored_header (get_or v.headers v.position 0)) (subst (λ (u : ℕ). steps_on_header v.position (with_step (on_header u (header.Stored value)) v) ≡ header.Stored value ∷ steps_on_header v.position v) own (header_here v.position (header.Stored value) v)) ∙ is);
+}
+
+-- a version has room in its two bits
+pub small_version : (n : ℕ) → (n ≡ 1) ⊎ (n ≡ 2) → n < 4
+small_version n (inl e) = omega arith
+small_version n (inr e) = omega arith

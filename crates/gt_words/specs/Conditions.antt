@@ -4,26 +4,29 @@ use mathlib.Core.Option.{some}
 use lib.ListN.{get_elem?}
 use Rattle.atomic_table.specs.Table.{State}
 use Rattle.atomic_table.specs.Seated.{TableId}
+use Rattle.gt_entry.specs.declared.header.Header.{Header}
 use Rattle.gt_types.specs.Config.{IsFirstFault, IsWithinLimits}
 use Rattle.gt_types.specs.declared.Dir.{Dir}
 use Rattle.gt_types.specs.declared.Dir.TheVariants.{Write}
 use Rattle.gt_types.specs.declared.DomId.{DomId}
 use Rattle.gt_types.specs.declared.config.Config.{Config}
 use Rattle.gt_types.specs.declared.config.StartFault.{StartFault}
+use Rattle.gt_types.specs.declared.limits.TheConstants.{MAX_TABLE_FRAMES}
 use Rattle.gt_words.specs.Events.{shown_entry}
 use Rattle.gt_words.specs.Rule.{Layout, Shows, header_place, id_at, place}
 use Rattle.gt_words.specs.Spelling.{ForwardsPin, PermitsPin, control_number, demoted_word, generation_of, idle_number, invalid_word, pins_in, unit}
 use Rattle.gt_words.specs.Steps.{TakesStep, half_index, on_entry, on_header, turned}
-use Rattle.gt_words.specs.Views.{HasBody, IsIn, LivePin, invalid_at, last_of, last_seen, own_list, pin_count, pins, record_seen, seen, steps_on, with_step}
+use Rattle.gt_words.specs.Views.{HasBody, IsIn, LivePin, invalid_at, last_of, last_seen, own_body, own_header, own_list, pin_count, pins, record_seen, seen, steps_on, with_step}
 use Rattle.gt_words.specs.declared.view.Change.{Change}
 use Rattle.gt_words.specs.declared.view.EntryStep.{EntryStep}
-use Rattle.gt_words.specs.declared.view.EntryStep.TheVariants.{ChangeMissed, Changed, PinMissed, Pinned, Unpinned}
+use Rattle.gt_words.specs.declared.view.EntryStep.TheVariants.{ChangeMissed, Changed, PinMissed, Pinned, StoredBody, Unpinned}
 use Rattle.gt_words.specs.declared.view.Half.{Half}
 use Rattle.gt_words.specs.declared.view.HeaderStep.{HeaderStep}
 use Rattle.gt_words.specs.declared.view.Record.{Record}
 use Rattle.gt_words.specs.declared.view.View.{View}
 use Rattle.gt_types.specs.declared.config.StartFault.TheVariants as fault
 use Rattle.gt_words.specs.declared.view.Change.TheVariants as change
+use Rattle.gt_words.specs.declared.view.HeaderStep.TheVariants as header
 
 -- What clauses see of the words: which table of words it is, and the run that it serves
 pub record Board : Type 0 where
@@ -40,6 +43,12 @@ pub record SeatOf : Type 0 where
 pub record IsSeatOf (b : Board) (s : SeatOf) : Type 0 where
   pub table : s.table ≡ b.table
   pub named : slice_get b.layout.ids s.view.position ≡ Some s.dom
+
+-- the header has version 1 or 2, and a number of table frames within the limit
+pub record IsKeptHeader (h : Header) : Type 0 where
+  pub version : (h.version ≡ 1) ⊎ (h.version ≡ 2)
+  pub some : 0 < h.frames
+  pub few : h.frames ≤ MAX_TABLE_FRAMES
 
 -- the same seat, whatever it knows
 pub record IsSameSeat (s s' : SeatOf) : Type 0 where
@@ -113,6 +122,19 @@ pub record BodySteps (k : Layout) (t r : ℕ) (h : Half) (m : EntryStep) (found 
 pub record HeaderSteps (k : Layout) (t : ℕ) (m : HeaderStep) (found left : ℕ) (v w : View) : Type 0 where
   pub view : w ≡ with_step (on_header t m) v
   pub step : TakesStep (Unit {0}) k v (on_header t m) (header_place t) found left
+
+-- the owner stored a body word of its entry r
+pub record StoresBody (k : Layout) (r : ℕ) (h : Half) (value : ℕ) (v w : View) : Type 0 where
+  pub found : ℕ
+  pub steps : BodySteps k v.position r h (StoredBody h value) found value v w
+  pub stored : own_body r h w ≡ value
+  pub unchanged : own_list r w ≡ own_list r v
+
+-- the owner stored its header
+pub record StoresHeader (k : Layout) (value : ℕ) (v w : View) : Type 0 where
+  pub found : ℕ
+  pub steps : HeaderSteps k v.position (header.Stored value) found value v w
+  pub header : own_header w ≡ value
 
 -- a pin was given back: the word has one pin less of that kind
 pub record Unpins (k : Layout) (t r : ℕ) (d : Dir) (g : ℕ) (v w : View) : Type 0 where

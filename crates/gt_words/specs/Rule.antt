@@ -29,6 +29,13 @@ pub record Layout : Type 0 where
 abbrev pub header_number : ℕ → ℕ → ℕ
 header_number version frames = version + frames * 4
 
+-- the same header with another version, and with another number of table frames
+abbrev pub version_set : ℕ → ℕ → ℕ
+version_set version w = header_number version (w / 4)
+
+abbrev pub frames_set : ℕ → ℕ → ℕ
+frames_set frames w = header_number (w % 4) frames
+
 abbrev pub layout_of : Config → Layout
 layout_of c = record { ids = map (λ d. d.id) c.domains.items; domains = length c.domains.items; first = c.first_gen; headers = map (λ d. header_number d.version d.table_frames) c.domains.items }
 

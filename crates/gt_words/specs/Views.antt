@@ -169,3 +169,7 @@ own_list r v = own v.first (steps_on v.position r v)
 -- the header of the seat's own domain: the last one that it stored, or the one that it began with
 abbrev pub own_header : View → ℕ
 own_header v = stored_header (slice_index v.headers v.position) (steps_on_header v.position v)
+
+-- the body word that the seat stored last of its own entry r
+abbrev pub own_body : ℕ → Half → View → ℕ
+own_body r h v = stored_body h (steps_on v.position r v)

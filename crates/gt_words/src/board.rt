@@ -7,7 +7,7 @@ ghost use Rattle.gt_words.specs.Spelling.{IsEntry, IsSpelled, IsValid, IsTurnabl
 ghost use Rattle.gt_words.specs.Views.{stored_body, steps_on, last_of, last_seen, record_seen};
 ghost use Rattle.gt_words.specs.Rule.{Shows, layout_of, place, header_place, IsHeader};
 ghost use Rattle.gt_words.specs.Steps.{StepKind, tells, tells_stored, looking, published, turned};
-ghost use Rattle.gt_words.specs.Conditions.{IsWide, IsIdleOf, IsWordOf, IsBusyOf, HasLooked, Holds, MayPin, IsNotEarlier, Steps, BodySteps, HeaderSteps, Unpins, Pins, MissesPin, Changes, MissesChange, Revokes, Demotes};
+ghost use Rattle.gt_words.specs.Conditions.{CountsPins, IsWide, IsIdleOf, IsWordOf, IsBusyOf, HasLooked, Holds, MayPin, IsNotEarlier, Steps, BodySteps, HeaderSteps, Unpins, Pins, MissesPin, Changes, MissesChange, Revokes, Demotes};
 ghost use Rattle.gt_words.specs.Places.{new_view, IsSamePlace};
 
 use crate::view::{Change, EntryStep, Half, HeaderStep, Purpose, View};
@@ -219,6 +219,7 @@ impl WordTable {
         ensures step { MatchResult result
             (λ _. Pins (layout_of self.now.table.shared.key) at gref dir looked seat.old.me.0 seat.new.me.0)
             (λ n. MissesPin (layout_of self.now.table.shared.key) at gref dir looked n seat.old.me.0 seat.new.me.0) }
+        ensures counted { CountsPins (layout_of self.now.table.shared.key) at gref dir }
     {
         let new = looked + unit_of(dir);
         let purpose = Purpose::Pin(dir);

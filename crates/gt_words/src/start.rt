@@ -52,3 +52,40 @@ pub fn first_words(alloc: Global, config: &Config) -> Result<Vec<u64>, AllocErro
     }
     Ok(words)
 }
+
+// The seat of the domain at a position, which has done nothing.
+fn new_seat(config: &Config, place: Place, at: usize) -> Seat
+    requires config { IsWithinLimits config.now × (at < length config.now.domains.items) }
+    requires place { IsNewPlace place.table_id (layout_of config.now) at place }
+    ensures { IsNewSeat (record { table = place.table_id; layout = layout_of config.now }) at result }
+{
+    let domain = config.domains[at];
+    Seat {
+        place,
+        dom: domain.id,
+        position: at,
+        header: first_header(domain),
+    }
+}
+
+/// A seat for each domain in order, out of the first one.
+pub fn deal_seats(
+    alloc: Global,
+    words: &WordTable,
+    config: &Config,
+    mut first: Place,
+) -> Result<Vec<Seat>, AllocError>
+    requires config { IsWithinLimits config.now × (words.now.table.shared.key ≡ config.now) }
+    requires first { IsNewPlace words.now.table.shared.table_id (layout_of config.now) 0 first × (first.me.0.dealt ≡ 1) }
+    ensures count { IfOk result (λ v. length v.items ≡ length config.now.domains.items) }
+    ensures seats { IfOk result (λ v. (i : ℕ) → i < length config.now.domains.items → HoldsAt (λ s. IsNewSeat (record { table = words.now.table.shared.table_id; layout = layout_of config.now }) i s) v.items i) }
+{
+    let count = config.domains.len();
+    let mut seats = Vec::with_capacity(alloc, count)?;
+    for at in 1..count {
+        let place = words.table.shared.split_seat::<Deal>(&mut first);
+        seats.push(new_seat(config, place, at))?;
+    }
+    seats.insert(0, new_seat(config, first, 0))?;
+    Ok(seats)
+}
