@@ -7,6 +7,7 @@ use lib.Seq.{map-set}
 use Rattle.atomic_table.specs.Table.{opening, Splits}
 use Rattle.atomic_table.proofs.Lists.{at_set, at_snoc, set_again, at_map}
 use Rattle.std.proofs.Common.{length-set}
+use Rattle.gt_entry.specs.Spelling.{word_of}
 use Rattle.gt_types.specs.declared.Dir.{Dir}
 use Rattle.gt_types.specs.declared.Dir.TheVariants.{Read, Write}
 use Rattle.gt_types.specs.declared.config.DomainConfig.{DomainConfig}
@@ -14,7 +15,6 @@ use Rattle.gt_types.specs.declared.limits.TheConstants.{LAST_VERSION, MAX_TABLE_
 use Rattle.gt_words.specs.Conditions.{initial}
 use Rattle.gt_words.specs.Places.{dealer_after, dealt_to, new_view}
 use Rattle.gt_words.specs.Rule.{IsHeader, Layout, SawRecord, Shows, ShowsEntry, ShowsRecord, header_now, header_number, header_place, owner_steps, place, total_pins}
-use Rattle.gt_words.specs.Spelling.{control_number}
 use Rattle.gt_words.specs.Views.{IsIn, earlier_records, last_record, own, pin_count, pins, seen, steps_on, steps_on_header, stored_body, stored_header}
 use Rattle.gt_words.specs.declared.view.EntryStep.{EntryStep}
 use Rattle.gt_words.specs.declared.view.Half.TheVariants.{First, Second}
@@ -86,7 +86,7 @@ entry_more : (g t word a b : ℕ) (hs : List (List EntryStep)) → ShowsEntry g 
 entry_more g t word a b hs k = let same = nothing_more hs t in
     subst (λ (ms : List EntryStep). ShowsRecord (last_record g ms) (earlier_records g ms) word a b (hs ++ [] ∷ []) → a ≡ stored_body First ms → b ≡ stored_body Second ms → ShowsEntry g t word a b (hs ++ [] ∷ [])) same (λ x f s. record { record_shown = x; first = f; second = s })
     record {
-      spelled = k.record_shown.spelled ∙ sym (λ i. control_number (last_record g (owner_steps t hs)).entry (last_record g (owner_steps t hs)).generation (held_more Read hs i) (held_more Write hs i));
+      spelled = k.record_shown.spelled ∙ sym (λ i. word_of (last_record g (owner_steps t hs)).entry (last_record g (owner_steps t hs)).generation (held_more Read hs i) (held_more Write hs i));
       in_range = (let r = held_more Read hs in let f = k.record_shown.in_range.0 in omega arith, let w = held_more Write hs in let f = k.record_shown.in_range.1 in omega arith);
       body = k.record_shown.body;
       lawful = k.record_shown.lawful;

@@ -7,6 +7,9 @@ use prog.Atomic.{either}
 use lib.ListN.{get_elem?}
 use Rattle.atomic_table.specs.Table.{State, Me, Step as TableStep, step, stepped, keeps, Allows}
 use Rattle.atomic_table.proofs.Lists.{at_map}
+use Rattle.gt_entry.specs.Entries.{IsEntry, is_read_only, with_ro}
+use Rattle.gt_entry.specs.Spelling.{IsSpelled, idle_word_of, low_bits, named_domain, word_of}
+use Rattle.gt_entry.specs.Words.{flag, unit_of}
 use Rattle.gt_entry.specs.declared.entry.Entry.{Entry}
 use Rattle.gt_entry.specs.declared.entry.Entry.TheVariants.{Invalid}
 use Rattle.gt_types.specs.declared.Dir.{Dir}
@@ -14,11 +17,11 @@ use Rattle.gt_types.specs.declared.Dir.TheVariants.{Read, Write}
 use Rattle.gt_words.proofs.Happening.{entry_happens}
 use Rattle.gt_words.proofs.Lifts.{added, inside, shows_step}
 use Rattle.gt_words.proofs.OneEntry.{entry_grants, entry_looks, entry_misses_change, entry_misses_pin, entry_pins, entry_revokes, entry_saw, entry_stores_first, entry_stores_second, entry_turns, entry_unpins, mine, pin_counted, turned_domain, turned_low}
-use Rattle.gt_words.proofs.Records.{digits_at, dom_small, legal_record, low_small}
+use Rattle.gt_words.proofs.Records.{legal_record, spelled_parts}
 use Rattle.gt_words.specs.Conditions.{HasLooked, Holds, IsIdleOf}
+use Rattle.gt_words.specs.Controls.{IsValid, demoted_word, generation_of, invalid_word, pins_in, promoted_word}
 use Rattle.gt_words.specs.Events.{Happens, IsByOwner}
 use Rattle.gt_words.specs.Rule.{IsRecord, Layout, Shows, ShowsEntry, place, total_pins}
-use Rattle.gt_words.specs.Spelling.{IsEntry, IsSpelled, IsValid, control_number, demoted_word, domain_of, generation_of, idle_number, invalid_word, is_readonly, low_bits, pins_in, promoted_word, readonly_bit, unit, with_readonly}
 use Rattle.gt_words.specs.Steps.{StepKind, entry_kind, exchanging, looking, missed, on_entry, reading, storing, taken, tells, tells_stored, turned, unpinning}
 use Rattle.gt_words.specs.Views.{earlier_records, invalid_at, last_of, last_record, last_seen, own, steps_on, stored_body}
 use Rattle.gt_words.specs.declared.view.Change.{Change}
@@ -110,8 +113,8 @@ pub stored_owes : {S : Type 0} {k : Layout} {slots id : ℕ} {me : Me S View} (d
 stored_owes d i f st owed s shown len at fits = let z = owed s shown len at fits in (z.0, z.1, z.2, z.3, (get_or s.words i 0, z.4))
 
 -- the generation in the control word of a record in range
-pub spelled_generation : (x : Record) (word reads writes : ℕ) → IsRecord x → (reads < 4096) × (writes < 4096) → word ≡ control_number x.entry x.generation reads writes → word / 17592186044416 ≡ x.generation
-spelled_generation x word reads writes ok in_range is = ap generation_of is ∙ (digits_at (low_bits x.entry) (domain_of x.entry) x.generation reads writes (low_small x.entry) (dom_small x.entry ok.0) in_range.0 in_range.1).6
+pub spelled_generation : (x : Record) (word reads writes : ℕ) → IsRecord x → (reads < 4096) × (writes < 4096) → word ≡ word_of x.entry x.generation reads writes → word / 17592186044416 ≡ x.generation
+spelled_generation x word reads writes ok in_range is = ap generation_of is ∙ (spelled_parts x.entry x.generation reads writes ok.0 in_range).generation
 
 module _ {S : Type 0} (k : Layout) (slots id : ℕ) (me : Me S View) (t r : ℕ) (tn : t < k.domains) (rn : r < 2048) where
   pub look_owes : Allows (Shows k) slots id me (place t r 0) (λ n. n) (tells (looking k t r) (step slots (place t r 0) 0 0 none) me)
@@ -132,20 +135,20 @@ module _ {S : Type 0} (k : Layout) (slots id : ℕ) (me : Me S View) (t r : ℕ)
       (λ w a b hs z fits. by_cases w old (λ (q : Bool). let m : EntryStep = cond q (taken t r me.0 p old new) (missed p old w) in ShowsEntry k.first t (either q new w) a b (set hs id (m ∷ steps_on t r me.0)) × IsByOwner id t m)
       (hit w a b hs z) (miss w a b hs z))
 
-  pub pin_owes : (d : Dir) (old new : ℕ) → new ≡ old + unit d → HasLooked t r me.0 old → IsValid old → pins_in d old < 4095
+  pub pin_owes : (d : Dir) (old new : ℕ) → new ≡ old + unit_of d → HasLooked t r me.0 old → IsValid old → pins_in d old < 4095
       → Allows (Shows k) slots id me (place t r 0) (λ n. either (n == old) new n) (tells (exchanging k t r me.0 (purpose.Pin d) old new) (step slots (place t r 0) old new none) me)
   pin_owes d old new one looked valid room = exchange_owes (purpose.Pin d) old new
-      (λ w a b hs z e. (subst (λ (u : ℕ). ShowsEntry k.first t u a b (set hs id (taken t r me.0 (purpose.Pin d) old new ∷ steps_on t r me.0))) (ap (λ (u : ℕ). u + unit d) e ∙ sym one)
+      (λ w a b hs z e. (subst (λ (u : ℕ). ShowsEntry k.first t u a b (set hs id (taken t r me.0 (purpose.Pin d) old new ∷ steps_on t r me.0))) (ap (λ (u : ℕ). u + unit_of d) e ∙ sym one)
       (entry_pins k.first t hs id (steps_on t r me.0) z.1 w a b z.0 d old (last_seen t r me.0) looked.0 (looked.1 ∙ sym e) (subst IsValid (sym e) valid) looked.2 (subst (λ (u : ℕ). pins_in d u < 4095) (sym e) room)), tt))
       (λ w a b hs z n. (entry_misses_pin k.first t hs id (steps_on t r me.0) z.1 w a b z.0 d old, tt))
 
-  lowered : (d : Dir) (w : ℕ) → unit d ≤ w → w < 18446744073709551616 → w - unit d ≡ (w + (2 ^ 64 - unit d)) % 2 ^ 64
+  lowered : (d : Dir) (w : ℕ) → unit_of d ≤ w → w < 18446744073709551616 → w - unit_of d ≡ (w + (2 ^ 64 - unit_of d)) % 2 ^ 64
   lowered Read w a b = omega arith
   lowered Write w a b = omega arith
 
-  pub unpin_owes : (d : Dir) (g one : ℕ) → one ≡ unit d → Holds t r d g me.0
+  pub unpin_owes : (d : Dir) (g one : ℕ) → one ≡ unit_of d → Holds t r d g me.0
       → Allows (Shows k) slots id me (place t r 0) (λ n. (n + (2 ^ 64 - one)) % 2 ^ 64) (tells (unpinning k t r d g) (step slots (place t r 0) one 0 none) me)
-  unpin_owes d g one is holds = control_owes k t r (λ n. Unpinned d g) (λ n. (n + (2 ^ 64 - unit d)) % 2 ^ 64) slots id me (λ n. (n + (2 ^ 64 - one)) % 2 ^ 64) (step slots (place t r 0) one 0 none) tn rn refl (λ n. ap (λ (u : ℕ). (n + (2 ^ 64 - u)) % 2 ^ 64) is)
+  unpin_owes d g one is holds = control_owes k t r (λ n. Unpinned d g) (λ n. (n + (2 ^ 64 - unit_of d)) % 2 ^ 64) slots id me (λ n. (n + (2 ^ 64 - one)) % 2 ^ 64) (step slots (place t r 0) one 0 none) tn rn refl (λ n. ap (λ (u : ℕ). (n + (2 ^ 64 - u)) % 2 ^ 64) is)
       (λ w a b hs z fits. let p = holds.0 in
       (subst (λ (u : ℕ × ℕ). ShowsEntry k.first t u.0 a b (set hs id (Unpinned d u.1 ∷ steps_on t r me.0)))
       (λ i. (lowered d w (pin_counted k.first t hs id (steps_on t r me.0) z.1 w a b z.0 d p holds.1 holds.2) fits i, holds.3 i))
@@ -185,45 +188,45 @@ module _ {S : Type 0} (k : Layout) (slots id : ℕ) (me : Me S View) (t r : ℕ)
     revoke_owes old new idle is = change_owes purpose.Revoke change.Revoke (invalid_at (last_of r me.0).generation) old new refl (λ _. refl) (λ w a b hs z at f e.
         let h : List EntryStep = steps_on t r me.0 in let y : Record = last_record k.first h in let l = last_is f in let m = mine k.first t hs h at w a b z in
         let g : old / 17592186044416 ≡ y.generation = ap generation_of (sym e) ∙ spelled_generation y w (total_pins Read hs) (total_pins Write hs) (legal_record y (earlier_records k.first h) m.lawful) m.in_range m.spelled in
-        let i : new ≡ idle_number Invalid y.generation = omega arith in
+        let i : new ≡ idle_word_of Invalid y.generation = omega arith in
         subst (λ (u : ℕ). ShowsEntry k.first t u a b (set hs t (Changed change.Revoke old new (invalid_at (last_of r me.0).generation) ∷ h))) (sym i)
-        (subst (λ (u : Record). ShowsEntry k.first t (idle_number Invalid y.generation) a b (set hs t (Changed change.Revoke old new (invalid_at u.generation) ∷ h))) (sym l)
-        (entry_revokes k.first t hs h at w a b z old new (e ∙ (idle ∙ ap (λ (u : Record). idle_number u.entry u.generation) l)))))
+        (subst (λ (u : Record). ShowsEntry k.first t (idle_word_of Invalid y.generation) a b (set hs t (Changed change.Revoke old new (invalid_at u.generation) ∷ h))) (sym l)
+        (entry_revokes k.first t hs h at w a b z old new (e ∙ (idle ∙ ap (λ (u : Record). idle_word_of u.entry u.generation) l)))))
 
-    pub grant_owes : (e : Entry) (old new : ℕ) → IsIdleOf (last_of r me.0) old → new ≡ idle_number e ((last_of r me.0).generation + 1) → (last_of r me.0).entry ≡ Invalid → IsEntry e → e ≢ Invalid
+    pub grant_owes : (e : Entry) (old new : ℕ) → IsIdleOf (last_of r me.0) old → new ≡ idle_word_of e ((last_of r me.0).generation + 1) → (last_of r me.0).entry ≡ Invalid → IsEntry e → e ≢ Invalid
         → (last_of r me.0).generation < 1048575 → IsSpelled e (stored_body First (steps_on t r me.0)) (stored_body Second (steps_on t r me.0))
         → Allows (Shows k) slots id me (place t r 0) (λ n. either (n == old) new n)
         (tells (exchanging k t r me.0 (purpose.Publish e) old new) (step slots (place t r 0) old new none) me)
     grant_owes e old new idle is none_yet ok some_kind room body = let x : Record = last_of r me.0 in
         change_owes (purpose.Publish e) change.Publish (record { generation = x.generation + 1; entry = e }) old new refl (λ _. refl) (λ w a b hs z at f q.
         let l = last_is f in subst (λ (u : ℕ). ShowsEntry k.first t u a b (set hs t (Changed change.Publish old new (record { generation = x.generation + 1; entry = e }) ∷ steps_on t r me.0))) (sym is)
-        (subst (λ (y : Record). ShowsEntry k.first t (idle_number e (y.generation + 1)) a b (set hs t (Changed change.Publish old new (record { generation = y.generation + 1; entry = e }) ∷ steps_on t r me.0))) (sym l)
-        (entry_grants k.first t hs (steps_on t r me.0) at w a b z old new e (q ∙ (idle ∙ ((λ i. idle_number (none_yet i) x.generation) ∙ ap (λ (y : Record). idle_number Invalid y.generation) l))) (ap (λ (y : Record). y.entry) (sym l) ∙ none_yet) ok some_kind
+        (subst (λ (y : Record). ShowsEntry k.first t (idle_word_of e (y.generation + 1)) a b (set hs t (Changed change.Publish old new (record { generation = y.generation + 1; entry = e }) ∷ steps_on t r me.0))) (sym l)
+        (entry_grants k.first t hs (steps_on t r me.0) at w a b z old new e (q ∙ (idle ∙ ((λ i. idle_word_of (none_yet i) x.generation) ∙ ap (λ (y : Record). idle_word_of Invalid y.generation) l))) (ap (λ (y : Record). y.entry) (sym l) ∙ none_yet) ok some_kind
         (subst (λ (y : Record). y.generation < 1048575) l room) body)))
 
     -- the word after a turn, with its pins
-    turned_word : (o : Bool) (x : Record) (reads writes w new : ℕ) → x.entry ≢ Invalid → is_readonly x.entry ≡ not o → w ≡ control_number x.entry x.generation reads writes → new + readonly_bit (not o) ≡ w + readonly_bit o + 17592186044416
-        → new ≡ control_number (with_readonly o x.entry) (x.generation + 1) reads writes
-    turned_word o x reads writes w new n now is e = let l = turned_low o x.entry n now in let d = turned_domain o x.entry in
-        let L : ℕ = low_bits (with_readonly o x.entry) in let D : ℕ = domain_of (with_readonly o x.entry) in let L0 : ℕ = low_bits x.entry in let D0 : ℕ = domain_of x.entry in
-        let l' : L + readonly_bit (not o) ≡ L0 + readonly_bit o = l in let d' : D ≡ D0 = d in omega arith
+    turned_is : (o : Bool) (x : Record) (reads writes w new : ℕ) → x.entry ≢ Invalid → is_read_only x.entry ≡ not o → w ≡ word_of x.entry x.generation reads writes → new + flag (not o) ≡ w + flag o + 17592186044416
+        → new ≡ word_of (with_ro o x.entry) (x.generation + 1) reads writes
+    turned_is o x reads writes w new n now is e = let l = turned_low o x.entry n now in let d = turned_domain o x.entry in
+        let L : ℕ = low_bits (with_ro o x.entry) in let D : ℕ = named_domain (with_ro o x.entry) in let L0 : ℕ = low_bits x.entry in let D0 : ℕ = named_domain x.entry in
+        let l' : L + flag (not o) ≡ L0 + flag o = l in let d' : D ≡ D0 = d in omega arith
 
-    turn_owes : (o : Bool) (m : Purpose) (c : Change) (old new : ℕ) → taken t r me.0 m old new ≡ Changed c old new (turned o (last_of r me.0)) → ((n : ℕ) → missed m old n ≡ ChangeMissed c old n) → (last_of r me.0).entry ≢ Invalid → generation_of old < 1048575 → is_readonly (last_of r me.0).entry ≡ not o
-        → new + readonly_bit (not o) ≡ old + readonly_bit o + 17592186044416
+    turn_owes : (o : Bool) (m : Purpose) (c : Change) (old new : ℕ) → taken t r me.0 m old new ≡ Changed c old new (turned o (last_of r me.0)) → ((n : ℕ) → missed m old n ≡ ChangeMissed c old n) → (last_of r me.0).entry ≢ Invalid → generation_of old < 1048575 → is_read_only (last_of r me.0).entry ≡ not o
+        → new + flag (not o) ≡ old + flag o + 17592186044416
         → Allows (Shows k) slots id me (place t r 0) (λ n. either (n == old) new n)
         (tells (exchanging k t r me.0 m old new) (step slots (place t r 0) old new none) me)
     turn_owes o m c old new is_taken is_missed some_kind room now is = let x : Record = last_of r me.0 in
         change_owes m c (turned o x) old new is_taken is_missed (λ w a b hs z at f q. let l = last_is f in let h : List EntryStep = steps_on t r me.0 in let y : Record = last_record k.first h in let s = mine k.first t hs h at w a b z in
         let g : old / 17592186044416 ≡ y.generation = ap generation_of (sym q) ∙ spelled_generation y w (total_pins Read hs) (total_pins Write hs) (legal_record y (earlier_records k.first h) s.lawful) s.in_range s.spelled in
-        let turns : is_readonly y.entry ≡ not o = ap (λ (u : Record). is_readonly u.entry) (sym l) ∙ now in let kind : y.entry ≢ Invalid = subst (λ (u : Record). u.entry ≢ Invalid) l some_kind in
+        let turns : is_read_only y.entry ≡ not o = ap (λ (u : Record). is_read_only u.entry) (sym l) ∙ now in let kind : y.entry ≢ Invalid = subst (λ (u : Record). u.entry ≢ Invalid) l some_kind in
         subst (λ (u : Record). ShowsEntry k.first t new a b (set hs t (Changed c old new (turned o u) ∷ h))) (sym l)
         (entry_turns k.first t hs h at w a b z o c new old new kind turns (omega arith)
-        (turned_word o y (total_pins Read hs) (total_pins Write hs) w new kind turns s.spelled (is ∙ ap (λ (u : ℕ). u + readonly_bit o + 17592186044416) (sym q)))))
+        (turned_is o y (total_pins Read hs) (total_pins Write hs) w new kind turns s.spelled (is ∙ ap (λ (u : ℕ). u + flag o + 17592186044416) (sym q)))))
 
-    pub demote_owes : (old new : ℕ) → (last_of r me.0).entry ≢ Invalid → generation_of old < 1048575 → is_readonly (last_of r me.0).entry ≡ false → new ≡ demoted_word old
+    pub demote_owes : (old new : ℕ) → (last_of r me.0).entry ≢ Invalid → generation_of old < 1048575 → is_read_only (last_of r me.0).entry ≡ false → new ≡ demoted_word old
         → Allows (Shows k) slots id me (place t r 0) (λ n. either (n == old) new n) (tells (exchanging k t r me.0 purpose.Demote old new) (step slots (place t r 0) old new none) me)
     demote_owes old new some_kind room now is = turn_owes true purpose.Demote change.Demote old new refl (λ _. refl) some_kind room now (omega arith)
 
-    pub promote_owes : (old new : ℕ) → (last_of r me.0).entry ≢ Invalid → generation_of old < 1048575 → is_readonly (last_of r me.0).entry ≡ true → new ≡ promoted_word old
+    pub promote_owes : (old new : ℕ) → (last_of r me.0).entry ≢ Invalid → generation_of old < 1048575 → is_read_only (last_of r me.0).entry ≡ true → new ≡ promoted_word old
         → Allows (Shows k) slots id me (place t r 0) (λ n. either (n == old) new n) (tells (exchanging k t r me.0 purpose.Promote old new) (step slots (place t r 0) old new none) me)
     promote_owes old new some_kind room now is = turn_owes false purpose.Promote change.Promote old new refl (λ _. refl) some_kind room now (omega arith)

@@ -4,12 +4,17 @@ use Rattle.std.proofs.lemmas.Grind.{common_steps}
 use mathlib.Core.Option.{some, some-injective, some-ne-none}
 use lib.ListN.{get_elem?}
 use Rattle.atomic_table.proofs.Lists.{at_set}
+use Rattle.gt_entry.specs.Entries.{IsEntry}
+use Rattle.gt_entry.specs.Laws.{PartsOf, control-round, digits, entry-read, entry-word, parts}
+use Rattle.gt_entry.specs.Spelling.{IsSpelled, control_with, entry_of, low_bits, named_domain, word_of}
+use Rattle.gt_entry.specs.Words.{IsInRange, control_of, unit_of}
+use Rattle.gt_entry.specs.declared.control.Control.{Control}
 use Rattle.gt_entry.specs.declared.entry.Entry.{Entry}
 use Rattle.gt_entry.specs.declared.entry.Entry.TheVariants.{Invalid, Page, Sub, Via}
 use Rattle.gt_types.specs.declared.Dir.{Dir}
 use Rattle.gt_types.specs.declared.Dir.TheVariants.{Read, Write}
+use Rattle.gt_words.specs.Controls.{IsValid, generation_of, pins_in}
 use Rattle.gt_words.specs.Rule.{Agrees, IsLawful, IsNextEntry, IsRecord, IsRevocation, IsSeenOf, MayFollow, SawRecord, ShowsRecord, total_pins}
-use Rattle.gt_words.specs.Spelling.{IsEntry, IsSpelled, control_number, domain_of, entry_of, entry_shaped, first_word, generation_of, idle_number, is_whole, low_bits, pins_in, second_word, unit}
 use Rattle.gt_words.specs.Views.{HasBody, IsIn, LivePin, Seen, is_same_dir, pin_count, pins, record_seen, seen, value_or_zero, weight, with_body, without_pin}
 use Rattle.gt_words.specs.declared.view.Change.{Change}
 use Rattle.gt_words.specs.declared.view.EntryStep.{EntryStep}
@@ -17,6 +22,7 @@ use Rattle.gt_words.specs.declared.view.EntryStep.TheVariants.{Changed, Pinned, 
 use Rattle.gt_words.specs.declared.view.Half.{Half}
 use Rattle.gt_words.specs.declared.view.Half.TheVariants.{First, Second}
 use Rattle.gt_words.specs.declared.view.Record.{Record}
+use Rattle.gt_entry.specs.declared.control.Kind.TheVariants as kind
 
 pub total_pins-set : (d : Dir) (hs : List (List EntryStep)) (i : ℕ) (h h' : List EntryStep) → get_elem? hs i ≡ some h → total_pins d (set hs i h') + pin_count d (pins h) ≡ total_pins d hs + pin_count d (pins h')
 total_pins-set d [] i h h' e = absurd (some-ne-none h (sym e))
@@ -61,7 +67,7 @@ bounded x (z ∷ zs) y l (inl e) = let g : y.generation ≡ x.generation = ap (�
 bounded x (z ∷ zs) y l (inr h) = let r = bounded z zs y l.2 h in ⊎_elim (λ (t : IsRevocation x z). let e = t.1 in omega arith)
     (λ (t : IsNextEntry x z). let e = t.0 in omega arith) l.1
 
--- where the last_record record is an entry, no other has its generation
+-- where the last record is an entry, no other has its generation
 pub alone : (x : Record) (xs : List Record) (y : Record) → IsLawful x xs → x.entry ≢ Invalid → IsIn y (x ∷ xs) → y.generation ≡ x.generation → y ≡ x
 alone x [] y l n (inl e) g = e
 alone x [] y l n (inr h) g = absurd h
@@ -83,7 +89,7 @@ listed_record x xs y l (inl e) = subst IsRecord (sym e) (legal_record x xs l)
 listed_record x [] y l (inr h) = absurd h
 listed_record x (z ∷ zs) y l (inr h) = listed_record z zs y l.2 h
 
--- the digits of a control word
+-- the parts of a control word
 
 pub low_small : (e : Entry) → low_bits e < 16
 low_small Invalid = omega arith
@@ -94,16 +100,30 @@ low_small (Sub d false f a n) = omega arith
 low_small (Via d true t r) = omega arith
 low_small (Via d false t r) = omega arith
 
-pub dom_small : (e : Entry) → IsEntry e → domain_of e < 65536
-dom_small Invalid h = omega arith
-dom_small (Page d o f) h = h.0
-dom_small (Sub d o f a n) h = h.0
-dom_small (Via d o t r) h = h.0
+pub domain_small : (e : Entry) → IsEntry e → named_domain e < 65536
+domain_small Invalid h = omega arith
+domain_small (Page d o f) h = h.0
+domain_small (Sub d o f a n) h = h.0
+domain_small (Via d o t r) h = h.0
 
-pub digits : (l r w d g l' r' w' d' g' : ℕ) → l < 16 → l' < 16 → r < 4096 → r' < 4096 → w < 4096 → w' < 4096 → d < 65536 → d' < 65536
-    → l + 268435456 * d + 17592186044416 * g + 16 * r + 65536 * w ≡ l' + 268435456 * d' + 17592186044416 * g' + 16 * r' + 65536 * w'
-    → (l ≡ l') × (r ≡ r') × (w ≡ w') × (d ≡ d') × (g ≡ g')
-digits l r w d g l' r' w' d' g' a b c e f h i j k = (omega arith, omega arith, omega arith, omega arith, omega arith)
+pub spelled_parts : (e : Entry) (g r w : ℕ) → IsEntry e → (r < 4096) × (w < 4096) → PartsOf (word_of e g r w) (low_bits e) (named_domain e) g r w
+spelled_parts e g r w ok in_range = parts (low_bits e) (named_domain e) g r w (low_small e) (domain_small e ok) in_range.0 in_range.1
+
+-- what the word of an entry holds
+pub spelled_control : (e : Entry) (g r w : ℕ) → IsEntry e → (r < 4096) × (w < 4096) → g < 1048576 → control_of (word_of e g r w) ≡ control_with e g r w
+spelled_control e g r w ok in_range small = ap control_of (sym (entry-word e g r w)) ∙ control-round (control_with e g r w) (range e) (named e ok)
+  where
+    range : (e : Entry) → IsInRange (control_with e g r w)
+    range Invalid = record { reads = in_range.0; writes = in_range.1; generation = small }
+    range (Page d o f) = record { reads = in_range.0; writes = in_range.1; generation = small }
+    range (Sub d o f a n) = record { reads = in_range.0; writes = in_range.1; generation = small }
+    range (Via d o t q) = record { reads = in_range.0; writes = in_range.1; generation = small }
+
+    named : (e : Entry) → IsEntry e → (control_with e g r w).dom.0 < 65536
+    named Invalid ok = omega arith
+    named (Page d o f) ok = ok.0
+    named (Sub d o f a n) ok = ok.0
+    named (Via d o t q) ok = ok.0
 
 -- one step of the seat i, whose moves on the entry were h
 
@@ -122,7 +142,7 @@ module _ (x : Record) (xs : List Record) (a b : ℕ) (hs : List (List EntryStep)
   -- a step that changes neither the word nor a pin
   pub sees_shown : (word : ℕ) → ShowsRecord x xs word a b hs → get_elem? hs i ≡ some h → pins (m ∷ h) ≡ pins h → SawRecord x xs (seen (m ∷ h)) → ShowsRecord x xs word a b (set hs i (m ∷ h))
   sees_shown word k e p f = let r = same_held Read e p in let w = same_held Write e p in record {
-    spelled = k.spelled ∙ ap (λ (z : ℕ × ℕ). control_number x.entry x.generation z.0 z.1) (λ j. (sym r j, sym w j));
+    spelled = k.spelled ∙ ap (λ (z : ℕ × ℕ). word_of x.entry x.generation z.0 z.1) (λ j. (sym r j, sym w j));
     in_range = (let t = k.in_range.0 in omega arith, let t = k.in_range.1 in omega arith);
     body = k.body;
     lawful = k.lawful;
@@ -131,8 +151,8 @@ module _ (x : Record) (xs : List Record) (a b : ℕ) (hs : List (List EntryStep)
     saw = all_known f k.saw;
   }
 
--- the word of the last_record record is a look at it
-pub looks_at : (x : Record) (xs : List Record) (r w : ℕ) (word : ℕ) → (r < 4096) × (w < 4096) → word ≡ control_number x.entry x.generation r w → SawRecord x xs (Some (record { word = word; first = None; second = None }))
+-- the word of the last record is a look at it
+pub looks_at : (x : Record) (xs : List Record) (r w : ℕ) (word : ℕ) → (r < 4096) × (w < 4096) → word ≡ word_of x.entry x.generation r w → SawRecord x xs (Some (record { word = word; first = None; second = None }))
 looks_at x xs r w word f e = record { at = x; reads = r; writes = w; listed = inl refl; in_range = f; spelled = e; agrees = λ _. blank x.entry }
   where
     blank : (e : Entry) → Agrees e None None
@@ -176,7 +196,7 @@ saw_known x xs a b Second v (Some s) body f g n = record {
 }
 
 -- the word with one pin more of the kind d
-more : (d : Dir) (e : Entry) (g r w r' w' : ℕ) → r' ≡ r + weight Read d → w' ≡ w + weight Write d → control_number e g r w + unit d ≡ control_number e g r' w'
+more : (d : Dir) (e : Entry) (g r w r' w' : ℕ) → r' ≡ r + weight Read d → w' ≡ w + weight Write d → word_of e g r w + unit_of d ≡ word_of e g r' w'
 more Read e g r w r' w' p q = omega arith
 more Write e g r w r' w' p q = omega arith
 
@@ -186,11 +206,11 @@ few_more Write r w r' w' p q f a b = let h = b refl in let g = f.0 in (omega ari
 
 module _ (x : Record) (xs : List Record) (a b : ℕ) (hs : List (List EntryStep)) (i : ℕ) (h : List EntryStep) where
   pub pins_shown : (word expected : ℕ) (d : Dir) → ShowsRecord x xs word a b hs → get_elem? hs i ≡ some h → x.entry ≢ Invalid → (d ≡ Read → total_pins Read hs < 4095) → (d ≡ Write → total_pins Write hs < 4095)
-      → ShowsRecord x xs (word + unit d) a b (set hs i (Pinned d expected x ∷ h))
+      → ShowsRecord x xs (word + unit_of d) a b (set hs i (Pinned d expected x ∷ h))
   pins_shown word expected d k e n fr fw = let hs' : List (List EntryStep) = set hs i (Pinned d expected x ∷ h) in
       let r : total_pins Read hs' ≡ total_pins Read hs + weight Read d = let t = total_pins-set Read hs i h (Pinned d expected x ∷ h) e in omega arith in
       let w : total_pins Write hs' ≡ total_pins Write hs + weight Write d = let t = total_pins-set Write hs i h (Pinned d expected x ∷ h) e in omega arith in record {
-        spelled = ap (λ (z : ℕ). z + unit d) k.spelled ∙ more d x.entry x.generation (total_pins Read hs) (total_pins Write hs) (total_pins Read hs') (total_pins Write hs') r w;
+        spelled = ap (λ (z : ℕ). z + unit_of d) k.spelled ∙ more d x.entry x.generation (total_pins Read hs) (total_pins Write hs) (total_pins Read hs') (total_pins Write hs') r w;
         in_range = few_more d (total_pins Read hs) (total_pins Write hs) (total_pins Read hs') (total_pins Write hs') r w k.in_range fr fw;
         body = k.body;
         lawful = k.lawful;
@@ -200,7 +220,7 @@ module _ (x : Record) (xs : List Record) (a b : ℕ) (hs : List (List EntryStep)
       }
 
   pub unpins_shown : (word : ℕ) (d : Dir) (p : LivePin) → ShowsRecord x xs word a b hs → get_elem? hs i ≡ some h → IsIn p (pins h) → p.0 ≡ d
-      → ShowsRecord x xs (word - unit d) a b (set hs i (Unpinned d p.1.generation ∷ h))
+      → ShowsRecord x xs (word - unit_of d) a b (set hs i (Unpinned d p.1.generation ∷ h))
   unpins_shown word d p k e is_in same = let g : ℕ = p.1.generation in let m : EntryStep = Unpinned d g in let hs' : List (List EntryStep) = set hs i (m ∷ h) in
       let r : total_pins Read hs ≡ total_pins Read hs' + weight Read d = let t = total_pins-set Read hs i h (m ∷ h) e in let c = pin_count-without_pin Read d g p (pins h) is_in same refl in omega arith in
       let w : total_pins Write hs ≡ total_pins Write hs' + weight Write d = let t = total_pins-set Write hs i h (m ∷ h) e in let c = pin_count-without_pin Write d g p (pins h) is_in same refl in omega arith in
@@ -228,11 +248,11 @@ module _ (x : Record) (xs : List Record) (a b : ℕ) (hs : List (List EntryStep)
 
   -- the owner exchanges the control word
   pub changes_shown : (word word' expected stored : ℕ) (c : Change) (y : Record) → ShowsRecord x xs word a b hs → get_elem? hs i ≡ some h → IsRecord y → MayFollow y x → IsSpelled y.entry a b
-      → word' ≡ control_number y.entry y.generation (total_pins Read hs) (total_pins Write hs) → (y.entry ≡ Invalid → (total_pins Read hs ≡ 0) × (total_pins Write hs ≡ 0))
+      → word' ≡ word_of y.entry y.generation (total_pins Read hs) (total_pins Write hs) → (y.entry ≡ Invalid → (total_pins Read hs ≡ 0) × (total_pins Write hs ≡ 0))
       → ShowsRecord y (x ∷ xs) word' a b (set hs i (Changed c expected stored y ∷ h))
   changes_shown word word' expected stored c y k e ok may body is unpinned = let m : EntryStep = Changed c expected stored y in let s = sees_shown x xs a b hs i h m word k e refl (k.saw i h e) in
       let r = same_held x xs a b hs i h m Read e refl in let w = same_held x xs a b hs i h m Write e refl in record {
-        spelled = is ∙ ap (λ (z : ℕ × ℕ). control_number y.entry y.generation z.0 z.1) (λ j. (sym r j, sym w j));
+        spelled = is ∙ ap (λ (z : ℕ × ℕ). word_of y.entry y.generation z.0 z.1) (λ j. (sym r j, sym w j));
         in_range = s.in_range;
         body = body;
         lawful = (ok, may, k.lawful);
@@ -253,75 +273,37 @@ module _ (x : Record) (xs : List Record) (a b : ℕ) (hs : List (List EntryStep)
         agrees = λ q. let inv = fresh x xs y n.at k.lawful may n.listed q in subst (λ (z : Entry). Agrees z s.first s.second) (sym (ap (λ (z : Record). z.entry) (sym q) ∙ inv)) tt;
       }
 
--- what was seen is the last_record record, where the word is still the one seen
+-- what was seen is the last record, where the word is still the one seen
 
 none_some : IsSome {T = ℕ} None → ⊥
 none_some h = cc
 
-read_first : (e : Entry) (p q : Option ℕ) → e ≢ Invalid → Agrees e p q → IsSome p → value_or_zero p ≡ first_word e
-read_first Invalid p q n g s = absurd (n refl)
-read_first (Page d o f) (Some a) q n g s = g
-read_first (Sub d o f y k) (Some a) q n g s = g.0
-read_first (Via d o t r) (Some a) q n g s = g
-read_first (Page d o f) None q n g s = absurd (none_some s)
-read_first (Sub d o f y k) None q n g s = absurd (none_some s)
-read_first (Via d o t r) None q n g s = absurd (none_some s)
+-- body values that agree with the entry, and were read, spell it
+read_body : (e : Entry) (p q : Option ℕ) (g r w : ℕ) → Agrees e p q → IsSome p → ((control_with e g r w).kind ≡ kind.Sub → IsSome q) → IsSpelled e (value_or_zero p) (value_or_zero q)
+read_body Invalid p q g r w a s t = tt
+read_body (Page d o f) (Some x) q g r w a s t = a
+read_body (Sub d o f y k) (Some x) (Some z) g r w a s t = a
+read_body (Via d o u k) (Some x) q g r w a s t = a
+read_body (Page d o f) None q g r w a s t = absurd (none_some s)
+read_body (Sub d o f y k) None q g r w a s t = absurd (none_some s)
+read_body (Sub d o f y k) (Some x) None g r w a s t = absurd (none_some (t refl))
+read_body (Via d o u k) None q g r w a s t = absurd (none_some s)
 
-is : {n m : ℕ} → n ≡ m → (n == m) ≡ true
-is {n} {m} e = eq-eqb n m e
-
-no : {n m : ℕ} → n ≢ m → (n == m) ≡ false
-no {n} {m} e = ne_eqb n m e
-
--- the low digits of a control word
-pub digits_at : (l d g r w : ℕ) → l < 16 → d < 65536 → r < 4096 → w < 4096 → let n : ℕ = l + 268435456 * d + 17592186044416 * g + 16 * r + 65536 * w in
-    (n % 4 ≡ l % 4) × (n / 8 % 2 ≡ l / 8 % 2) × (n / 4 % 2 ≡ l / 4 % 2) × (n / 268435456 % 65536 ≡ d) × (n / 16 % 4096 ≡ r) × (n / 65536 % 4096 ≡ w) × (n / 17592186044416 ≡ g)
-digits_at l d g r w a b c e = (omega arith, omega arith, omega arith, omega arith, omega arith, omega arith, omega arith)
-
-read_second : (e : Entry) (p q : Option ℕ) (g r w : ℕ) → IsEntry e → (r < 4096) × (w < 4096) → is_whole (control_number e g r w) ≡ false → Agrees e p q → IsSome q → value_or_zero q ≡ second_word e
-read_second Invalid p q g r w ok in_range h k s = absurd (let t = digits_at 0 0 g r w (omega arith) (omega arith) in_range.0 in_range.1 in let u = sym h ∙ ap (λ z. z == 0) t.1 in cc)
-read_second (Page d true f) p q g r w ok in_range h k s = absurd (let t = digits_at 5 d.0 g r w (omega arith) ok.0 in_range.0 in_range.1 in let u = sym h ∙ ap (λ z. z == 0) t.1 in cc)
-read_second (Page d false f) p q g r w ok in_range h k s = absurd (let t = digits_at 1 d.0 g r w (omega arith) ok.0 in_range.0 in_range.1 in let u = sym h ∙ ap (λ z. z == 0) t.1 in cc)
-read_second (Sub d o f y n) p None g r w ok in_range h k s = absurd (none_some s)
-read_second (Sub d o f y n) p (Some b) g r w ok in_range h k s = k.1
-read_second (Via d true t z) p q g r w ok in_range h k s = absurd (let t = digits_at 7 d.0 g r w (omega arith) ok.0 in_range.0 in_range.1 in let u = sym h ∙ ap (λ z. z == 0) t.1 in cc)
-read_second (Via d false t z) p q g r w ok in_range h k s = absurd (let t = digits_at 3 d.0 g r w (omega arith) ok.0 in_range.0 in_range.1 in let u = sym h ∙ ap (λ z. z == 0) t.1 in cc)
-
-pub entry_read : (e : Entry) (g r w a b : ℕ) → IsEntry e → e ≢ Invalid → (r < 4096) × (w < 4096) → a ≡ first_word e → (is_whole (control_number e g r w) ≡ false → b ≡ second_word e) → entry_of (control_number e g r w) a b ≡ e
-entry_read Invalid g r w a b ok n f p q = absurd (n refl)
-entry_read (Page d true f) g r w a b ok n in_range p q = let t = digits_at 5 d.0 g r w (omega arith) ok.0 in_range.0 in_range.1 in
-    λ i. entry_shaped (ap (λ z. z == 0) t.0 i) (ap (λ z. z == 3) t.0 i) (ap (λ z. z == 0) t.1 i) (ap (λ z. z == 1) t.2 i) (t.3 i) (p i) b
-entry_read (Page d false f) g r w a b ok n in_range p q = let t = digits_at 1 d.0 g r w (omega arith) ok.0 in_range.0 in_range.1 in
-    λ i. entry_shaped (ap (λ z. z == 0) t.0 i) (ap (λ z. z == 3) t.0 i) (ap (λ z. z == 0) t.1 i) (ap (λ z. z == 1) t.2 i) (t.3 i) (p i) b
-entry_read (Sub d true f y k) g r w a b ok n in_range p q = let t = digits_at 13 d.0 g r w (omega arith) ok.0 in_range.0 in_range.1 in let e : b ≡ y + 65536 * k = q (ap (λ z. z == 0) t.1) in let y_small = ok.2 in
-    let u : b % 65536 ≡ y = omega arith in let v : b / 65536 ≡ k = omega arith in let path : entry_of (control_number (Sub d true f y k) g r w) a b ≡ Sub d true f (b % 65536) (b / 65536) =
-    λ i. entry_shaped (ap (λ z. z == 0) t.0 i) (ap (λ z. z == 3) t.0 i) (ap (λ z. z == 0) t.1 i) (ap (λ z. z == 1) t.2 i) (t.3 i) (p i) b in path ∙ (λ i. Sub d true f (u i) (v i))
-entry_read (Sub d false f y k) g r w a b ok n in_range p q = let t = digits_at 9 d.0 g r w (omega arith) ok.0 in_range.0 in_range.1 in let e : b ≡ y + 65536 * k = q (ap (λ z. z == 0) t.1) in let y_small = ok.2 in
-    let u : b % 65536 ≡ y = omega arith in let v : b / 65536 ≡ k = omega arith in let path : entry_of (control_number (Sub d false f y k) g r w) a b ≡ Sub d false f (b % 65536) (b / 65536) =
-    λ i. entry_shaped (ap (λ z. z == 0) t.0 i) (ap (λ z. z == 3) t.0 i) (ap (λ z. z == 0) t.1 i) (ap (λ z. z == 1) t.2 i) (t.3 i) (p i) b in path ∙ (λ i. Sub d false f (u i) (v i))
-entry_read (Via d true y k) g r w a b ok n in_range p q = let t = digits_at 7 d.0 g r w (omega arith) ok.0 in_range.0 in_range.1 in let y_small = ok.1 in
-    let u : a % 65536 ≡ y.0 = omega arith in let v : a / 65536 ≡ k.0 = omega arith in let path : entry_of (control_number (Via d true y k) g r w) a b ≡ Via d true (record { 0 = a % 65536 }) (record { 0 = a / 65536 }) =
-    λ i. entry_shaped (ap (λ z. z == 0) t.0 i) (ap (λ z. z == 3) t.0 i) (ap (λ z. z == 0) t.1 i) (ap (λ z. z == 1) t.2 i) (t.3 i) a b in path ∙ (λ i. Via d true (record { 0 = u i }) (record { 0 = v i }))
-entry_read (Via d false y k) g r w a b ok n in_range p q = let t = digits_at 3 d.0 g r w (omega arith) ok.0 in_range.0 in_range.1 in let y_small = ok.1 in
-    let u : a % 65536 ≡ y.0 = omega arith in let v : a / 65536 ≡ k.0 = omega arith in let path : entry_of (control_number (Via d false y k) g r w) a b ≡ Via d false (record { 0 = a % 65536 }) (record { 0 = a / 65536 }) =
-    λ i. entry_shaped (ap (λ z. z == 0) t.0 i) (ap (λ z. z == 3) t.0 i) (ap (λ z. z == 0) t.1 i) (ap (λ z. z == 1) t.2 i) (t.3 i) a b in path ∙ (λ i. Via d false (record { 0 = u i }) (record { 0 = v i }))
-
-not_invalid : (e : Entry) (g r w word : ℕ) → word ≡ control_number e g r w → word % 4 ≢ 0 → e ≢ Invalid
-not_invalid e g r w word is n h = n (let t : word ≡ control_number Invalid g r w = is ∙ ap (λ (z : Entry). control_number z g r w) h in omega arith)
-
--- what the seat saw of the entry is its last_record record, where the word is still the one seen
-pub sight_is : (x : Record) (xs : List Record) (s : Seen) (word r w : ℕ) → IsLawful x xs → IsSeenOf x xs s → (r < 4096) × (w < 4096) → word ≡ control_number x.entry x.generation r w → s.word ≡ word → word % 4 ≢ 0 → HasBody s
+-- what the seat saw of the entry is its last record, where the word is still the one seen
+pub seen_is_last : (x : Record) (xs : List Record) (s : Seen) (word r w : ℕ) → IsLawful x xs → IsSeenOf x xs s → (r < 4096) × (w < 4096) → word ≡ word_of x.entry x.generation r w → s.word ≡ word → IsValid word → HasBody s
     → (record_seen s ≡ x) × (x.entry ≢ Invalid) × (pins_in Read word ≡ r) × (pins_in Write word ≡ w)
-sight_is x xs s word r w lawful k in_range is same some_kind body =
-    let rec = legal_record x xs lawful in let old = listed_record x xs k.at lawful k.listed in let n : x.entry ≢ Invalid = not_invalid x.entry x.generation r w word is some_kind in
-    let eq : idle_number k.at.entry k.at.generation + 16 * k.reads + 65536 * k.writes ≡ idle_number x.entry x.generation + 16 * r + 65536 * w = sym k.spelled ∙ (same ∙ is) in
-    let d = digits (low_bits k.at.entry) k.reads k.writes (domain_of k.at.entry) k.at.generation (low_bits x.entry) r w (domain_of x.entry) x.generation
-    (low_small k.at.entry) (low_small x.entry) k.in_range.0 in_range.0 k.in_range.1 in_range.1 (dom_small k.at.entry old.0) (dom_small x.entry rec.0) eq in
-    let here : k.at ≡ x = alone x xs k.at lawful n k.listed d.4 in let agrees : Agrees x.entry s.first s.second = subst (λ (y : Record). Agrees y.entry s.first s.second) here (k.agrees (sym here)) in
-    let e : s.word ≡ control_number x.entry x.generation r w = same ∙ is in
-    let t = digits_at (low_bits x.entry) (domain_of x.entry) x.generation r w (low_small x.entry) (dom_small x.entry rec.0) in_range.0 in_range.1 in
-    let a : value_or_zero s.first ≡ first_word x.entry = read_first x.entry s.first s.second n agrees body.0 in
-    let b : is_whole (control_number x.entry x.generation r w) ≡ false → value_or_zero s.second ≡ second_word x.entry = λ h. read_second x.entry s.first s.second x.generation r w rec.0 in_range h agrees (body.1 (ap is_whole e ∙ h)) in
-    let read : entry_of s.word (value_or_zero s.first) (value_or_zero s.second) ≡ x.entry = ap (λ (z : ℕ). entry_of z (value_or_zero s.first) (value_or_zero s.second)) e ∙ entry_read x.entry x.generation r w (value_or_zero s.first) (value_or_zero s.second) rec.0 n in_range a b in
-    let gen : generation_of s.word ≡ x.generation = ap generation_of e ∙ t.6 in
-    ((λ i. record { generation = gen i; entry = read i }), n, ap (pins_in Read) is ∙ t.4, ap (pins_in Write) is ∙ t.5)
+seen_is_last x xs s word r w lawful k in_range is same valid body =
+    let rec = legal_record x xs lawful in let old = listed_record x xs k.at lawful k.listed in
+    let e : s.word ≡ word_of x.entry x.generation r w = same ∙ is in
+    let c : control_of s.word ≡ control_with x.entry x.generation r w = ap control_of e ∙ spelled_control x.entry x.generation r w rec.0 in_range rec.1 in
+    let n : x.entry ≢ Invalid = λ h. valid (ap (λ (u : ℕ). (control_of u).kind) (sym same) ∙ (ap (λ (u : Control). u.kind) c ∙ ap (λ (u : Entry). (control_with u x.generation r w).kind) h)) in
+    let same_word : word_of k.at.entry k.at.generation k.reads k.writes ≡ word_of x.entry x.generation r w = sym k.spelled ∙ e in
+    let d = digits (low_bits k.at.entry) (named_domain k.at.entry) k.at.generation k.reads k.writes (low_bits x.entry) (named_domain x.entry) x.generation r w
+    (low_small k.at.entry) (low_small x.entry) k.in_range.0 in_range.0 k.in_range.1 in_range.1 (domain_small k.at.entry old.0) (domain_small x.entry rec.0) same_word in
+    let here : k.at ≡ x = alone x xs k.at lawful n k.listed d.generation in let agrees : Agrees x.entry s.first s.second = subst (λ (y : Record). Agrees y.entry s.first s.second) here (k.agrees (sym here)) in
+    let spelled = read_body x.entry s.first s.second x.generation r w agrees body.0 (λ h. body.1 (ap (λ (u : Control). u.kind) c ∙ h)) in
+    let read : entry_of (control_of s.word) (value_or_zero s.first) (value_or_zero s.second) ≡ x.entry = ap (λ (u : Control). entry_of u (value_or_zero s.first) (value_or_zero s.second)) c
+    ∙ entry-read x.entry x.generation r w (value_or_zero s.first) (value_or_zero s.second) rec.0 spelled in
+    let t = spelled_parts x.entry x.generation r w rec.0 in_range in
+    let gen : generation_of s.word ≡ x.generation = ap generation_of e ∙ t.generation in
+    ((λ i. record { generation = gen i; entry = read i }), n, ap (pins_in Read) is ∙ t.reads, ap (pins_in Write) is ∙ t.writes)

@@ -7,16 +7,19 @@ use prog.Atomic.{either}
 use lib.ListN.{get_elem?}
 use Rattle.atomic_table.specs.Table.{State}
 use Rattle.atomic_table.proofs.Lists.{at_map}
+use Rattle.gt_entry.specs.Entries.{is_read_only}
+use Rattle.gt_entry.specs.Spelling.{idle_word_of, named_domain, word_of}
+use Rattle.gt_entry.specs.Words.{unit_of}
 use Rattle.gt_entry.specs.declared.entry.Entry.TheVariants.{Invalid}
 use Rattle.gt_types.specs.declared.Dir.{Dir}
 use Rattle.gt_types.specs.declared.Dir.TheVariants.{Read, Write}
 use Rattle.gt_words.proofs.Lifts.{steps_on-added}
 use Rattle.gt_words.proofs.OneEntry.{count_in, held_at, idle_held, mine}
 use Rattle.gt_words.proofs.Owed.{spelled_generation}
-use Rattle.gt_words.proofs.Records.{bounded, digits_at, dom_small, legal_record, listed_record, low_small, sight_is}
+use Rattle.gt_words.proofs.Records.{bounded, legal_record, listed_record, seen_is_last, spelled_parts}
 use Rattle.gt_words.specs.Conditions.{Changes, CountsPins, Demotes, HasLooked, HasNoPins, HasNoWritePins, Holds, IsBusyOf, IsIdleOf, IsNotEarlier, IsWordOf, MayPin, MissesChange, MissesPin, Pins, Revokes, Steps, Unpins}
+use Rattle.gt_words.specs.Controls.{IsTurnable, IsValid, demoted_word, generation_of, invalid_word, pins_in}
 use Rattle.gt_words.specs.Rule.{IsRecord, Layout, SawRecord, ShowsEntry, ShowsRecord, owner_steps, place, total_pins}
-use Rattle.gt_words.specs.Spelling.{IsTurnable, IsValid, control_number, demoted_word, domain_of, generation_of, idle_number, invalid_word, is_readonly, low_bits, pins_in, unit}
 use Rattle.gt_words.specs.Steps.{TakesStep, exchanging, missed, on_entry, taken, turned}
 use Rattle.gt_words.specs.Views.{IsIn, LivePin, Seen, earlier_records, invalid_at, last_of, last_record, last_seen, own, own_list, pin_count, pins, record_seen, seen, steps_on, with_step}
 use Rattle.gt_words.specs.declared.view.Change.{Change}
@@ -51,15 +54,15 @@ module _ (k : Layout) (t r : ℕ) (m : EntryStep) (found left : ℕ) (v w : View
   abbrev all : List (List EntryStep)
   all = map (steps_on t r) z.step.before.views
 
-  abbrev first_body : ℕ
-  first_body = get_or z.step.before.words (place t r 1) 0
+  abbrev first_there : ℕ
+  first_there = get_or z.step.before.words (place t r 1) 0
 
-  abbrev second_body : ℕ
-  second_body = get_or z.step.before.words (place t r 2) 0
+  abbrev second_there : ℕ
+  second_there = get_or z.step.before.words (place t r 2) 0
 
   -- the entry is shown, by the word found
-  pub shown_there : ShowsEntry k.first t found first_body second_body all
-  shown_there = subst (λ (u : ℕ). ShowsEntry k.first t u first_body second_body all) z.step.found_is (z.step.shown.entries t r tn rn)
+  pub shown_there : ShowsEntry k.first t found first_there second_there all
+  shown_there = subst (λ (u : ℕ). ShowsEntry k.first t u first_there second_there all) z.step.found_is (z.step.shown.entries t r tn rn)
 
   pub seat_there : get_elem? all v.position ≡ some (steps_on t r v)
   seat_there = at_map (steps_on t r) z.step.before.views v.position v z.step.mine
@@ -77,13 +80,13 @@ module _ (k : Layout) (t r : ℕ) (m : EntryStep) (found left : ℕ) (v w : View
 
   module _ (own_is : v.position ≡ t) where
     -- the entry is shown by the owner's last record
-    pub owners_entry : ShowsRecord (last_of r v) (earlier_records v.first (steps_on v.position r v)) found first_body second_body all
+    pub owners_entry : ShowsRecord (last_of r v) (earlier_records v.first (steps_on v.position r v)) found first_there second_there all
     owners_entry = let is = z.step.shown.seats v.position v z.step.mine in let here : get_elem? all t ≡ some (steps_on t r v) = subst (λ (u : ℕ). get_elem? all u ≡ some (steps_on t r v)) own_is seat_there in
-        let s = mine k.first t all (steps_on t r v) here found first_body second_body shown_there in
-        subst (λ (u : ℕ × ℕ). ShowsRecord (last_record u.0 (steps_on u.1 r v)) (earlier_records u.0 (steps_on u.1 r v)) found first_body second_body all) (λ i. (sym is.1 i, sym own_is i)) s
+        let s = mine k.first t all (steps_on t r v) here found first_there second_there shown_there in
+        subst (λ (u : ℕ × ℕ). ShowsRecord (last_record u.0 (steps_on u.1 r v)) (earlier_records u.0 (steps_on u.1 r v)) found first_there second_there all) (λ i. (sym is.1 i, sym own_is i)) s
 
     -- the word found is that of the record, with the pins of all views
-    pub spelled_word : found ≡ control_number (last_of r v).entry (last_of r v).generation (total_pins Read all) (total_pins Write all)
+    pub spelled_word : found ≡ word_of (last_of r v).entry (last_of r v).generation (total_pins Read all) (total_pins Write all)
     spelled_word = owners_entry.spelled
 
     -- another word than the idle one has pins
@@ -94,7 +97,7 @@ module _ (k : Layout) (t r : ℕ) (m : EntryStep) (found left : ℕ) (v w : View
     -- while an invalid entry has no pins, its word is the idle one
     pub still_idle : (word : ℕ) → IsIdleOf (last_of r v) word → (last_of r v).entry ≡ Invalid → found ≡ word
     still_idle word idle none_yet = let q = owners_entry.unpinned none_yet in let x : Record = last_of r v in let a = q.0 in let b = q.1 in
-        spelled_word ∙ ((λ i. control_number x.entry x.generation (a i) (b i)) ∙ (let e : control_number x.entry x.generation 0 0 ≡ idle_number x.entry x.generation = omega arith in e ∙ sym idle))
+        spelled_word ∙ ((λ i. word_of x.entry x.generation (a i) (b i)) ∙ (let e : word_of x.entry x.generation 0 0 ≡ idle_word_of x.entry x.generation = omega arith in e ∙ sym idle))
 
     no_pins : (ps : List LivePin) → pin_count Read ps ≡ 0 → pin_count Write ps ≡ 0 → ps ≡ []
     no_pins [] a b = refl
@@ -111,7 +114,7 @@ module _ (k : Layout) (t r : ℕ) (m : EntryStep) (found left : ℕ) (v w : View
     pub write_unpinned : pins_in Write found ≡ 0 → HasNoWritePins t r z.step.before
     write_unpinned none_there i u at = let h = at_map (steps_on t r) z.step.before.views i u at in let b = held_at Write all i (steps_on t r u) h in let x : Record = last_of r v in
         let rec = legal_record x (earlier_records v.first (steps_on v.position r v)) owners_entry.lawful in
-        let e : pins_in Write found ≡ total_pins Write all = ap (pins_in Write) spelled_word ∙ (digits_at (low_bits x.entry) (domain_of x.entry) x.generation (total_pins Read all) (total_pins Write all) (low_small x.entry) (dom_small x.entry rec.0) owners_entry.in_range.0 owners_entry.in_range.1).5 in
+        let e : pins_in Write found ≡ total_pins Write all = ap (pins_in Write) spelled_word ∙ (spelled_parts x.entry x.generation (total_pins Read all) (total_pins Write all) rec.0 owners_entry.in_range).writes in
         omega arith
 
 -- the list has a pin of that kind and generation
@@ -141,11 +144,11 @@ module _ (k : Layout) (r : ℕ) (c : Change) (word : ℕ) (v w : View) (vn : v.p
 
 module _ (k : Layout) (t r : ℕ) (d : Dir) (word : ℕ) (v w : View) (tn : t < k.domains) (rn : r < 2048) (looked : HasLooked t r v word) where
   -- a pin was taken
-  pub pins_entry : IsValid word → MayPin k t r v d (record_seen (last_seen t r v)) → Steps k t r (Pinned d word (record_seen (last_seen t r v))) word (word + unit d) v w → Pins k t r d word v w
-  pins_entry valid may z = let m : EntryStep = Pinned d word (record_seen (last_seen t r v)) in let all : List (List EntryStep) = map (steps_on t r) z.step.before.views in let f = (shown_there k t r m word (word + unit d) v w tn rn z).record_shown in
+  pub pins_entry : IsValid word → MayPin k t r v d (record_seen (last_seen t r v)) → Steps k t r (Pinned d word (record_seen (last_seen t r v))) word (word + unit_of d) v w → Pins k t r d word v w
+  pins_entry valid may z = let m : EntryStep = Pinned d word (record_seen (last_seen t r v)) in let all : List (List EntryStep) = map (steps_on t r) z.step.before.views in let f = (shown_there k t r m word (word + unit_of d) v w tn rn z).record_shown in
       let x : Record = last_record k.first (owner_steps t all) in let xs : List Record = earlier_records k.first (owner_steps t all) in record {
         steps = z;
-        current = sym (sight_is x xs (last_seen t r v) word (total_pins Read all) (total_pins Write all) f.lawful (subst (SawRecord x xs) looked.0 (f.saw v.position (steps_on t r v) (seat_there k t r m word (word + unit d) v w tn rn z))) f.in_range f.spelled looked.1 valid looked.2).0;
+        current = sym (seen_is_last x xs (last_seen t r v) word (total_pins Read all) (total_pins Write all) f.lawful (subst (SawRecord x xs) looked.0 (f.saw v.position (steps_on t r v) (seat_there k t r m word (word + unit_of d) v w tn rn z))) f.in_range f.spelled looked.1 valid looked.2).0;
         permitted = may;
         held = subst (HasPin d (generation_of word)) (sym (ap (steps_on t r) z.view ∙ steps_on-added t r m v)) ((d, record_seen (last_seen t r v)), inl refl, refl, ap generation_of looked.1);
       }
@@ -154,9 +157,9 @@ module _ (k : Layout) (t r : ℕ) (d : Dir) (word : ℕ) (v w : View) (tn : t < 
   misses_pin found n z = record { another = n; steps = z; not_earlier = not_earlier k t r (PinMissed d word found) found found v w tn rn z }
 
 -- the counts of a control word are the sums of the views' pins
-pins_in-spelled : (d : Dir) (x : Record) (word reads writes : ℕ) → IsRecord x → (reads < 4096) × (writes < 4096) → word ≡ control_number x.entry x.generation reads writes → (hs : List (List EntryStep)) → reads ≡ total_pins Read hs → writes ≡ total_pins Write hs → pins_in d word ≡ total_pins d hs
-pins_in-spelled Read x word reads writes ok in_range is hs a b = ap (pins_in Read) is ∙ ((digits_at (low_bits x.entry) (domain_of x.entry) x.generation reads writes (low_small x.entry) (dom_small x.entry ok.0) in_range.0 in_range.1).4 ∙ a)
-pins_in-spelled Write x word reads writes ok in_range is hs a b = ap (pins_in Write) is ∙ ((digits_at (low_bits x.entry) (domain_of x.entry) x.generation reads writes (low_small x.entry) (dom_small x.entry ok.0) in_range.0 in_range.1).5 ∙ b)
+pins_in-spelled : (d : Dir) (x : Record) (word reads writes : ℕ) → IsRecord x → (reads < 4096) × (writes < 4096) → word ≡ word_of x.entry x.generation reads writes → (hs : List (List EntryStep)) → reads ≡ total_pins Read hs → writes ≡ total_pins Write hs → pins_in d word ≡ total_pins d hs
+pins_in-spelled Read x word reads writes ok in_range is hs a b = ap (pins_in Read) is ∙ ((spelled_parts x.entry x.generation reads writes ok.0 in_range).reads ∙ a)
+pins_in-spelled Write x word reads writes ok in_range is hs a b = ap (pins_in Write) is ∙ ((spelled_parts x.entry x.generation reads writes ok.0 in_range).writes ∙ b)
 
 -- while a view has a pin of an entry, its control word counts it
 pub counts_pins : (k : Layout) (t r : ℕ) (d : Dir) → t < k.domains → r < 2048 → CountsPins k t r d
@@ -165,13 +168,13 @@ counts_pins k t r d tn rn s i v shown at = let hs : List (List EntryStep) = map 
     let e = pins_in-spelled d x (get_or s.words (place t r 0) 0) (total_pins Read hs) (total_pins Write hs) (legal_record x xs f.lawful) f.in_range f.spelled hs refl refl in
     let l = held_at d hs i (steps_on t r v) (at_map (steps_on t r) s.views i v at) in omega arith
 
-lowered : (d : Dir) (w : ℕ) → 0 < pins_in d w → w < 18446744073709551616 → (w + (2 ^ 64 - unit d)) % 2 ^ 64 ≡ w - unit d
+lowered : (d : Dir) (w : ℕ) → 0 < pins_in d w → w < 18446744073709551616 → (w + (2 ^ 64 - unit_of d)) % 2 ^ 64 ≡ w - unit_of d
 lowered Read w a b = omega arith
 lowered Write w a b = omega arith
 
 -- a pin was given back
 pub unpins : (k : Layout) (t r : ℕ) (d : Dir) (g : ℕ) (v : View) (found : ℕ) (w : View) → t < k.domains → r < 2048 → Holds t r d g v → found < 18446744073709551616
-    → w ≡ with_step (on_entry t r (Unpinned d g)) v → TakesStep (Unit {0}) k v (on_entry t r (Unpinned d g)) (place t r 0) found ((found + (2 ^ 64 - unit d)) % 2 ^ 64) → Unpins k t r d g v w
+    → w ≡ with_step (on_entry t r (Unpinned d g)) v → TakesStep (Unit {0}) k v (on_entry t r (Unpinned d g)) (place t r 0) found ((found + (2 ^ 64 - unit_of d)) % 2 ^ 64) → Unpins k t r d g v w
 unpins k t r d g v found w tn rn holds fits view step = let p = holds.0 in let c = count_in d p (pins (steps_on t r v)) holds.1 holds.2 in
     let l = counts_pins k t r d tn rn step.before v.position v step.shown step.mine in let e : get_or step.before.words (place t r 0) 0 ≡ found = step.found_is in
     let l' : pin_count d (pins (steps_on t r v)) ≤ pins_in d found = subst (λ (n : ℕ). pin_count d (pins (steps_on t r v)) ≤ pins_in d n) e l in let some_pin : 0 < pins_in d found = omega arith in record {
@@ -204,5 +207,5 @@ module _ (k : Layout) (t r : ℕ) (word : ℕ) (v : View) (w : View) (tn : t < k
       record { changes = s; no_write_pins = write_unpinned k v.position r m word (demoted_word word) v w vn rn s.steps refl none_there }
 
 -- the word of a record that has the other readonly
-pub turnable : (o : Bool) (x : Record) (word : ℕ) → IsWordOf x word → x.entry ≢ Invalid → is_readonly x.entry ≡ not o → IsTurnable o word
-turnable o x word h some_kind now = let is = h.4 in (x.entry, 16777216 * domain_of x.entry + 1099511627776 * x.generation + h.0 + 4096 * h.1, some_kind, now, omega arith)
+pub turnable : (o : Bool) (x : Record) (word : ℕ) → IsWordOf x word → x.entry ≢ Invalid → is_read_only x.entry ≡ not o → IsTurnable o word
+turnable o x word h some_kind now = let is = h.4 in (x.entry, 16777216 * named_domain x.entry + 1099511627776 * x.generation + h.0 + 4096 * h.1, some_kind, now, omega arith)

@@ -4,6 +4,9 @@ use mathlib.Core.Option.{some}
 use lib.ListN.{get_elem?}
 use Rattle.atomic_table.specs.Table.{State}
 use Rattle.atomic_table.specs.Seated.{TableId}
+use Rattle.gt_entry.specs.Permits.{permits}
+use Rattle.gt_entry.specs.Spelling.{idle_word_of, word_of}
+use Rattle.gt_entry.specs.Words.{unit_of}
 use Rattle.gt_entry.specs.declared.header.Header.{Header}
 use Rattle.gt_types.specs.Config.{IsFirstFault, IsWithinLimits}
 use Rattle.gt_types.specs.declared.Dir.{Dir}
@@ -12,9 +15,9 @@ use Rattle.gt_types.specs.declared.DomId.{DomId}
 use Rattle.gt_types.specs.declared.config.Config.{Config}
 use Rattle.gt_types.specs.declared.config.StartFault.{StartFault}
 use Rattle.gt_types.specs.declared.limits.TheConstants.{MAX_TABLE_FRAMES}
+use Rattle.gt_words.specs.Controls.{ForwardsPin, LeadsTo, PermitsPin, demoted_word, generation_of, invalid_word, pins_in}
 use Rattle.gt_words.specs.Events.{shown_entry}
 use Rattle.gt_words.specs.Rule.{Layout, Shows, header_place, id_at, place}
-use Rattle.gt_words.specs.Spelling.{ForwardsPin, PermitsPin, control_number, demoted_word, generation_of, idle_number, invalid_word, pins_in, unit}
 use Rattle.gt_words.specs.Steps.{TakesStep, half_index, on_entry, on_header, turned}
 use Rattle.gt_words.specs.Views.{HasBody, IsIn, LivePin, invalid_at, last_of, last_seen, own_body, own_header, own_list, pin_count, pins, record_seen, seen, steps_on, with_step}
 use Rattle.gt_words.specs.declared.view.Change.{Change}
@@ -64,15 +67,15 @@ IsWide words k = (words ≡ k.domains * 6145) × (k.domains ≤ 64)
 
 -- the word has the owner's part and the generation of this record, and some pins
 abbrev pub IsWordOf : Record → ℕ → Type 0
-IsWordOf x word = (reads : ℕ) × (writes : ℕ) × (reads < 4096) × (writes < 4096) × (word ≡ control_number x.entry x.generation reads writes)
+IsWordOf x word = (reads : ℕ) × (writes : ℕ) × (reads < 4096) × (writes < 4096) × (word ≡ word_of x.entry x.generation reads writes)
 
 -- the same, with no pins
 abbrev pub IsIdleOf : Record → ℕ → Type 0
-IsIdleOf x word = word ≡ idle_number x.entry x.generation
+IsIdleOf x word = word ≡ idle_word_of x.entry x.generation
 
 -- the same, with a pin at least
 abbrev pub IsBusyOf : Record → ℕ → Type 0
-IsBusyOf x word = (reads : ℕ) × (writes : ℕ) × (reads < 4096) × (writes < 4096) × (word ≡ control_number x.entry x.generation reads writes) × ((reads ≢ 0) ⊎ (writes ≢ 0))
+IsBusyOf x word = (reads : ℕ) × (writes : ℕ) × (reads < 4096) × (writes < 4096) × (word ≡ word_of x.entry x.generation reads writes) × ((reads ≢ 0) ⊎ (writes ≢ 0))
 
 -- the seat's last look at the entry found this word, and it read the body words since
 abbrev pub HasLooked : ℕ → ℕ → View → ℕ → Type 0
@@ -82,15 +85,20 @@ HasLooked t r v word = (seen (steps_on t r v) ≡ Some (last_seen t r v)) × ((l
 abbrev pub Holds : ℕ → ℕ → Dir → ℕ → View → Type 0
 Holds t r d g v = (p : LivePin) × IsIn p (pins (steps_on t r v)) × (p.0 ≡ d) × (p.1.generation ≡ g)
 
--- the view has a pin of that kind, of an entry q of a domain m that was a Via to the entry r of the domain t, and x permits m
-abbrev pub PermitsOwnerOfVia : Layout → ℕ → ℕ → View → Dir → Record → Type 0
-PermitsOwnerOfVia k t r v d x = (m : ℕ) × (q : ℕ) × (p : LivePin) × IsIn p (pins (steps_on m q v)) × (p.0 ≡ d) × ForwardsPin p.1.entry (id_at k.ids v.position) d (id_at k.ids t) r × PermitsPin x.entry (id_at k.ids m) d
+-- the view has a pin of that kind of a Via to the entry r of the domain t, which forwarded the seat's domain, and the record x permits the owner of that Via
+pub record PermitsOwnerOfVia (k : Layout) (t r : ℕ) (v : View) (d : Dir) (x : Record) : Type 0 where
+  pub owner : ℕ
+  pub reference : ℕ
+  pub via : LivePin
+  pub held : IsIn via (pins (steps_on owner reference v))
+  pub same_kind : via.0 ≡ d
+  pub forwarded : ForwardsPin via.1.entry (id_at k.ids v.position) d
+  pub leads : LeadsTo via.1.entry (id_at k.ids t) r
+  pub permits : PermitsPin x.entry (id_at k.ids owner) d
 
 -- the entry r of the domain t, as the record x has it, permits or forwards the seat's domain for that kind, or permits the owner of a Via to it that the view has pinned for that kind (own)
 abbrev pub MayPin : Layout → ℕ → ℕ → View → Dir → Record → Type 0
-MayPin k t r v d x = PermitsPin x.entry (id_at k.ids v.position) d
-    ⊎ ((u : ℕ) × (q : ℕ) × ForwardsPin x.entry (id_at k.ids v.position) d u q)
-    ⊎ PermitsOwnerOfVia k t r v d x
+MayPin k t r v d x = PermitsPin x.entry (id_at k.ids v.position) d ⊎ (ForwardsPin x.entry (id_at k.ids v.position) d ⊎ PermitsOwnerOfVia k t r v d x)
 
 -- no view has a pin of the entry
 abbrev pub HasNoPins : {S : Type 0} → ℕ → ℕ → State S View → Type 0
@@ -140,11 +148,11 @@ pub record StoresHeader (k : Layout) (value : ℕ) (v w : View) : Type 0 where
 pub record Unpins (k : Layout) (t r : ℕ) (d : Dir) (g : ℕ) (v w : View) : Type 0 where
   pub found : ℕ
   pub counted : 0 < pins_in d found
-  pub steps : Steps k t r (Unpinned d g) found (found - unit d) v w
+  pub steps : Steps k t r (Unpinned d g) found (found - unit_of d) v w
 
 -- A pin was taken: of the entry as it was last seen, which was then the last record of its owner's list
 pub record Pins (k : Layout) (t r : ℕ) (d : Dir) (word : ℕ) (v w : View) : Type 0 where
-  pub steps : Steps k t r (Pinned d word (record_seen (last_seen t r v))) word (word + unit d) v w
+  pub steps : Steps k t r (Pinned d word (record_seen (last_seen t r v))) word (word + unit_of d) v w
   pub current : (shown_entry k t r steps.step.before).current ≡ record_seen (last_seen t r v)
   pub permitted : MayPin k t r v d (record_seen (last_seen t r v))
   pub held : Holds t r d (generation_of word) w

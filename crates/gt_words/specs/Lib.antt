@@ -1,4 +1,4 @@
-pub mod Spelling
+pub mod Controls
 pub mod Views
 pub mod Rule
 pub mod Events

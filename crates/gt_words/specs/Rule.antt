@@ -3,20 +3,21 @@ use Rattle.std.specs.Prelude.{◌≡◌, ◌≢◌, ◌⊎◌, ℕ, ◌+◌, ◌
 use mathlib.Core.Option.{some}
 use lib.ListN.{get_elem?}
 use Rattle.atomic_table.specs.Table.{State}
+use Rattle.gt_entry.specs.Entries.{IsEntry, is_read_only, with_ro}
+use Rattle.gt_entry.specs.Spelling.{IsSpelled, word_of}
+use Rattle.gt_entry.specs.declared.entry.Entry.{Entry}
+use Rattle.gt_entry.specs.declared.entry.Entry.TheVariants.{Invalid, Page, Sub, Via}
 use Rattle.gt_types.specs.declared.Dir.{Dir}
 use Rattle.gt_types.specs.declared.Dir.TheVariants.{Read, Write}
 use Rattle.gt_types.specs.declared.DomId.{DomId}
 use Rattle.gt_types.specs.declared.config.Config.{Config}
 use Rattle.gt_types.specs.declared.limits.TheConstants.{MAX_TABLE_FRAMES}
-use Rattle.gt_entry.specs.declared.entry.Entry.{Entry}
-use Rattle.gt_entry.specs.declared.entry.Entry.TheVariants.{Invalid, Page, Sub, Via}
-use Rattle.gt_words.specs.Spelling.{IsEntry, IsSpelled, control_number, with_readonly, is_readonly}
-use Rattle.gt_words.specs.declared.view.Half.TheVariants.{First, Second}
-use Rattle.gt_words.specs.declared.view.Record.{Record}
+use Rattle.gt_words.specs.Views.{IsIn, LivePin, Seen, earlier_records, last_record, pin_count, pins, seen, steps_on, steps_on_header, stored_body, stored_header}
 use Rattle.gt_words.specs.declared.view.EntryStep.{EntryStep}
+use Rattle.gt_words.specs.declared.view.Half.TheVariants.{First, Second}
 use Rattle.gt_words.specs.declared.view.HeaderStep.{HeaderStep}
+use Rattle.gt_words.specs.declared.view.Record.{Record}
 use Rattle.gt_words.specs.declared.view.View.{View}
-use Rattle.gt_words.specs.Views.{IsIn, LivePin, pins, pin_count, last_record, earlier_records, stored_body, stored_header, Seen, seen, steps_on, steps_on_header}
 
 -- the run as the words need it: the domains in order, the first generation of all entries, and the first header of each domain
 pub record Layout : Type 0 where
@@ -44,8 +45,8 @@ abbrev pub position_in : List DomId → DomId → ℕ
 position_in xs d = unwrap_or (position (λ x. x.0 == d.0) xs) (length xs)
 
 -- the number of the domain at a position
-abbrev pub id_at : List DomId → ℕ → ℕ
-id_at xs t = (slice_index_or xs t (record { 0 = 0 })).0
+abbrev pub id_at : List DomId → ℕ → DomId
+id_at xs t = slice_index_or xs t (record { 0 = 0 })
 
 -- where the words stand: each domain has one header word, and three words for each of 2,048 entries (own)
 abbrev pub place : ℕ → ℕ → ℕ → ℕ
@@ -64,7 +65,7 @@ IsRevocation x y = (x.entry ≡ Invalid) × (x.generation ≡ y.generation)
 
 -- x is an entry of the next generation: a publication after an invalid record, or the record before with the other readonly
 abbrev pub IsNextEntry : Record → Record → Type 0
-IsNextEntry x y = (x.generation ≡ y.generation + 1) × (x.entry ≢ Invalid) × ((y.entry ≡ Invalid) ⊎ (x.entry ≡ with_readonly (not (is_readonly y.entry)) y.entry))
+IsNextEntry x y = (x.generation ≡ y.generation + 1) × (x.entry ≢ Invalid) × ((y.entry ≡ Invalid) ⊎ (x.entry ≡ with_ro (not (is_read_only y.entry)) y.entry))
 
 -- the record x may come next after y
 abbrev pub MayFollow : Record → Record → Type 0
@@ -84,8 +85,8 @@ total_pins d (h ∷ hs) = pin_count d (pins h) + total_pins d hs
 abbrev pub Agrees : Entry → Option ℕ → Option ℕ → Type 0
 Agrees Invalid a b = Unit {0}
 Agrees (Page d o f) a b = IfSome a (λ x. x ≡ f)
-Agrees (Sub d o f y n) a b = IfSome a (λ x. x ≡ f) × IfSome b (λ x. x ≡ y + 65536 * n)
-Agrees (Via d o t r) a b = IfSome a (λ x. x ≡ t.0 + 65536 * r.0)
+Agrees (Sub d o f y n) a b = IfSome a (λ x. x ≡ f) × IfSome b (λ x. x ≡ y + n * 65536)
+Agrees (Via d o t r) a b = IfSome a (λ x. x ≡ t.0 + r.0 * 65536)
 
 -- the word seen spells a record of the owner's list x ∷ xs, and so do the body values read since, if that record is still the last one
 pub record IsSeenOf (x : Record) (xs : List Record) (s : Seen) : Type 0 where
@@ -94,7 +95,7 @@ pub record IsSeenOf (x : Record) (xs : List Record) (s : Seen) : Type 0 where
   pub writes : ℕ
   pub listed : IsIn at (x ∷ xs)
   pub in_range : (reads < 4096) × (writes < 4096)
-  pub spelled : s.word ≡ control_number at.entry at.generation reads writes
+  pub spelled : s.word ≡ word_of at.entry at.generation reads writes
   pub agrees : x ≡ at → Agrees at.entry s.first s.second
 
 abbrev pub SawRecord : Record → List Record → Option Seen → Type 0
@@ -104,7 +105,7 @@ SawRecord x xs (Some s) = IsSeenOf x xs s
 -- The words of one entry and the steps of each seat on it show the last record x, after the records xs
 pub record ShowsRecord (x : Record) (xs : List Record) (word a b : ℕ) (hs : List (List EntryStep)) : Type 0 where
   -- owner part and generation of the control word spell the last record, and its counts are the sums of the views' pins
-  pub spelled : word ≡ control_number x.entry x.generation (total_pins Read hs) (total_pins Write hs)
+  pub spelled : word ≡ word_of x.entry x.generation (total_pins Read hs) (total_pins Write hs)
   pub in_range : (total_pins Read hs < 4096) × (total_pins Write hs < 4096)
   pub body : IsSpelled x.entry a b
   pub lawful : IsLawful x xs

@@ -4,11 +4,12 @@ use mathlib.Core.Option.{some}
 use lib.ListN.{get_elem?}
 use prog.Atomic.{either}
 use Rattle.atomic_table.specs.Table.{State, Me, Step as TableStep, stepped, keeps}
+use Rattle.gt_entry.specs.Entries.{with_ro}
+use Rattle.gt_entry.specs.Words.{unit_of}
 use Rattle.gt_entry.specs.declared.entry.Entry.{Entry}
 use Rattle.gt_types.specs.declared.Dir.{Dir}
 use Rattle.gt_words.specs.Events.{Happens}
 use Rattle.gt_words.specs.Rule.{Layout, Shows}
-use Rattle.gt_words.specs.Spelling.{unit, with_readonly}
 use Rattle.gt_words.specs.Views.{invalid_at, last_of, last_seen, record_seen, with_step}
 use Rattle.gt_words.specs.declared.view.EntryStep.{EntryStep}
 use Rattle.gt_words.specs.declared.view.EntryStep.TheVariants.{ChangeMissed, Changed, Looked, PinMissed, Pinned, ReadBody, StoredBody, Unpinned}
@@ -70,7 +71,7 @@ abbrev pub storing : Layout → ℕ → ℕ → Half → ℕ → StepKind
 storing k t r h v = entry_kind k t r (λ n. StoredBody h v) (λ n. v)
 
 abbrev pub unpinning : Layout → ℕ → ℕ → Dir → ℕ → StepKind
-unpinning k t r d g = entry_kind k t r (λ n. Unpinned d g) (λ n. (n + (2 ^ 64 - unit d)) % 2 ^ 64)
+unpinning k t r d g = entry_kind k t r (λ n. Unpinned d g) (λ n. (n + (2 ^ 64 - unit_of d)) % 2 ^ 64)
 
 abbrev pub looking_at_header : Layout → ℕ → StepKind
 looking_at_header k t = record { layout = k; step = λ n. on_header t (header.Looked n); leaves = λ n. n }
@@ -83,7 +84,7 @@ abbrev pub published : Entry → Record → Record
 published e x = record { generation = x.generation + 1; entry = e }
 
 abbrev pub turned : Bool → Record → Record
-turned o x = record { generation = x.generation + 1; entry = with_readonly o x.entry }
+turned o x = record { generation = x.generation + 1; entry = with_ro o x.entry }
 
 -- the step of an exchange that is taken, and of one that is missed
 abbrev pub taken : ℕ → ℕ → View → Purpose → ℕ → ℕ → EntryStep

@@ -13,7 +13,10 @@ use Rattle.gt_words.specs.declared.view.HeaderStep.TheVariants as header
 use Rattle.gt_words.specs.declared.view.Step.{Step}
 use Rattle.gt_words.specs.declared.view.Step.TheVariants.{Entry, Header}
 use Rattle.gt_words.specs.declared.view.View.{View}
-use Rattle.gt_words.specs.Spelling.{entry_of, generation_of, is_whole}
+use Rattle.gt_entry.specs.declared.control.Kind.TheVariants.{Sub as KindSub}
+use Rattle.gt_entry.specs.Spelling.{entry_of}
+use Rattle.gt_entry.specs.Words.{control_of, kind_of}
+use Rattle.gt_words.specs.Controls.{generation_of}
 
 -- a is in the list
 abbrev pub IsIn : {A : Type 0} → A → List A → Type 0
@@ -144,11 +147,11 @@ value_or_zero (Some x) = x
 
 -- the record that was seen: the generation and entry that the words spell
 abbrev pub record_seen : Seen → Record
-record_seen s = record { generation = generation_of s.word; entry = entry_of s.word (value_or_zero s.first) (value_or_zero s.second) }
+record_seen s = record { generation = generation_of s.word; entry = entry_of (control_of s.word) (value_or_zero s.first) (value_or_zero s.second) }
 
 -- the body words were read since the look, both for a sub-page
 abbrev pub HasBody : Seen → Type 0
-HasBody s = IsSome s.first × (is_whole s.word ≡ false → IsSome s.second)
+HasBody s = IsSome s.first × (kind_of s.word ≡ KindSub → IsSome s.second)
 
 abbrev pub seen_or_none : Option Seen → Seen
 seen_or_none None = record { word = 0; first = None; second = None }

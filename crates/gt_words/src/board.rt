@@ -3,7 +3,9 @@ ghost use Rattle.std.specs.Prelude.{◌≡◌, ◌≢◌, ℕ, ◌+◌, ◌-◌,
 ghost use mathlib.Core.Option.{none};
 ghost use prog.Atomic.{either};
 ghost use Rattle.atomic_table.specs.Table.{step, Allows};
-ghost use Rattle.gt_words.specs.Spelling.{IsEntry, IsSpelled, IsValid, IsTurnable, unit, pins_in, generation_of, idle_number, turned_number, promoted_word, is_readonly};
+ghost use Rattle.gt_entry.specs.Entries.{IsEntry, is_read_only};
+ghost use Rattle.gt_entry.specs.Spelling.{IsSpelled, idle_word_of};
+ghost use Rattle.gt_words.specs.Controls.{IsValid, IsTurnable, pins_in, generation_of, turned_word, promoted_word};
 ghost use Rattle.gt_words.specs.Views.{stored_body, steps_on, last_of, last_seen, record_seen};
 ghost use Rattle.gt_words.specs.Rule.{Shows, layout_of, place, header_place, IsHeader};
 ghost use Rattle.gt_words.specs.Steps.{StepKind, tells, tells_stored, looking, published, turned};
@@ -12,8 +14,8 @@ ghost use Rattle.gt_words.specs.Places.{new_view, IsSamePlace};
 
 use crate::view::{Change, EntryStep, Half, HeaderStep, Purpose, View};
 use atomic_table::{Play, Seat, Shared, Table, TableRule};
-use gt_entry::{Control, Entry, Kind};
-use gt_types::{Config, Dir, DomId};
+use gt_entry::{Control, Entry, pin_unit};
+use gt_types::{Config, Dir};
 use std::alloc::Global;
 use std::marker::{Brand, PhantomData};
 
@@ -144,16 +146,6 @@ fn store_header_word<J: OfKind>(board: &Board, seat: &mut Place, at: usize, new:
     board.store::<TellsStore<J>>(seat, at * 6145, new)
 }
 
-// What a pin of this kind adds to the control word.
-fn unit_of(dir: Dir) -> u64
-    ensures { result ≡ unit dir }
-{
-    match dir {
-        Dir::Read => 16,
-        Dir::Write => 65_536,
-    }
-}
-
 impl WordTable {
     /// A look at a domain's header.
     pub fn load_header(&self, seat: &mut Place, at: usize) -> u64
@@ -221,7 +213,7 @@ impl WordTable {
             (λ n. MissesPin (layout_of self.now.table.shared.key) at gref dir looked n seat.old.me.0 seat.new.me.0) }
         ensures counted { CountsPins (layout_of self.now.table.shared.key) at gref dir }
     {
-        let new = looked + unit_of(dir);
+        let new = looked + pin_unit(dir);
         let purpose = Purpose::Pin(dir);
         let found =
             exchange_word::<Brand>(&self.table.shared, seat, at, gref, looked, new, purpose);
@@ -236,7 +228,7 @@ impl WordTable {
         ensures seat { IsSamePlace seat.old seat.new }
         ensures step { Unpins (layout_of self.now.table.shared.key) at gref dir generation seat.old.me.0 seat.new.me.0 }
     {
-        let one = unit_of(dir);
+        let one = pin_unit(dir);
         subtract_from_word::<Brand>(&self.table.shared, seat, at, gref, one, dir, generation);
     }
 
@@ -269,11 +261,11 @@ impl WordTable {
         requires given { IsEntry entry × (entry ≢ Entry.Invalid) × IsSpelled entry (stored_body Half.First (steps_on at gref seat.old.me.0)) (stored_body Half.Second (steps_on at gref seat.old.me.0)) }
         ensures seat { IsSamePlace seat.old seat.new }
         ensures step { MatchResult result
-            (λ _. Changes (layout_of self.now.table.shared.key) gref Change.Publish word (idle_number entry ((last_of gref seat.old.me.0).generation + 1)) (published entry (last_of gref seat.old.me.0)) seat.old.me.0 seat.new.me.0)
+            (λ _. Changes (layout_of self.now.table.shared.key) gref Change.Publish word (idle_word_of entry ((last_of gref seat.old.me.0).generation + 1)) (published entry (last_of gref seat.old.me.0)) seat.old.me.0 seat.new.me.0)
             (λ n. MissesChange (layout_of self.now.table.shared.key) gref Change.Publish word n seat.old.me.0 seat.new.me.0 × IsBusyOf (last_of gref seat.old.me.0) n) }
         ensures taken { IsOk result }
     {
-        let new = idle_word(entry, word / 17_592_186_044_416 + 1);
+        let new = idle_word(entry, Control::unpack(word).generation + 1);
         let purpose = Purpose::Publish(entry);
         let found = exchange_word::<Brand>(&self.table.shared, seat, at, gref, word, new, purpose);
         if found == word { Ok(()) } else { Err(found) }
@@ -289,7 +281,7 @@ impl WordTable {
             (λ _. Revokes (layout_of self.now.table.shared.key) gref word seat.old.me.0 seat.new.me.0)
             (λ n. MissesChange (layout_of self.now.table.shared.key) gref Change.Revoke word n seat.old.me.0 seat.new.me.0 × IsBusyOf (last_of gref seat.old.me.0) n) }
     {
-        let new = word / 17_592_186_044_416 * 17_592_186_044_416;
+        let new = idle_word(Entry::Invalid, Control::unpack(word).generation);
         let purpose = Purpose::Revoke;
         let found = exchange_word::<Brand>(&self.table.shared, seat, at, gref, word, new, purpose);
         if found == word { Ok(()) } else { Err(found) }
@@ -300,13 +292,13 @@ impl WordTable {
         requires mine { (seat.old.table_id ≡ self.now.table.shared.table_id) × (seat.old.me.0.position ≡ at) }
         requires entry { (at < length self.now.table.shared.key.domains.items) × (gref < 2048) }
         requires word { IsWordOf (last_of gref seat.old.me.0) word × (pins_in Dir.Write word ≡ 0) × (generation_of word < 1048575) }
-        requires writable { ((last_of gref seat.old.me.0).entry ≢ Entry.Invalid) × (is_readonly (last_of gref seat.old.me.0).entry ≡ false) }
+        requires writable { ((last_of gref seat.old.me.0).entry ≢ Entry.Invalid) × (is_read_only (last_of gref seat.old.me.0).entry ≡ false) }
         ensures seat { IsSamePlace seat.old seat.new }
         ensures step { MatchResult result
             (λ _. Demotes (layout_of self.now.table.shared.key) gref word seat.old.me.0 seat.new.me.0)
             (λ n. MissesChange (layout_of self.now.table.shared.key) gref Change.Demote word n seat.old.me.0 seat.new.me.0) }
     {
-        let new = turned_word(word, true);
+        let new = turned(word, true);
         let purpose = Purpose::Demote;
         let found = exchange_word::<Brand>(&self.table.shared, seat, at, gref, word, new, purpose);
         if found == word { Ok(()) } else { Err(found) }
@@ -317,13 +309,13 @@ impl WordTable {
         requires mine { (seat.old.table_id ≡ self.now.table.shared.table_id) × (seat.old.me.0.position ≡ at) }
         requires entry { (at < length self.now.table.shared.key.domains.items) × (gref < 2048) }
         requires word { IsWordOf (last_of gref seat.old.me.0) word × (generation_of word < 1048575) }
-        requires readonly { ((last_of gref seat.old.me.0).entry ≢ Entry.Invalid) × (is_readonly (last_of gref seat.old.me.0).entry ≡ true) }
+        requires readonly { ((last_of gref seat.old.me.0).entry ≢ Entry.Invalid) × (is_read_only (last_of gref seat.old.me.0).entry ≡ true) }
         ensures seat { IsSamePlace seat.old seat.new }
         ensures step { MatchResult result
             (λ _. Changes (layout_of self.now.table.shared.key) gref Change.Promote word (promoted_word word) (turned false (last_of gref seat.old.me.0)) seat.old.me.0 seat.new.me.0)
             (λ n. MissesChange (layout_of self.now.table.shared.key) gref Change.Promote word n seat.old.me.0 seat.new.me.0) }
     {
-        let new = turned_word(word, false);
+        let new = turned(word, false);
         let purpose = Purpose::Promote;
         let found = exchange_word::<Brand>(&self.table.shared, seat, at, gref, word, new, purpose);
         if found == word { Ok(()) } else { Err(found) }
@@ -331,30 +323,23 @@ impl WordTable {
 }
 
 // The control word of the entry at a generation, with no pins.
-fn idle_word(entry: Entry, generation: u64) -> u64
-    requires { IsEntry entry × (generation < 1048576) }
-    ensures { result ≡ idle_number entry generation }
+fn idle_word(entry: Entry, generation: u32) -> u64
+    requires { generation < 1048576 }
+    ensures { result ≡ idle_word_of entry generation }
 {
-    let (low, dom, readonly) = match entry {
-        Entry::Invalid => (0, DomId(0), false),
-        Entry::Page { dom, ro, .. } => (1, dom, ro),
-        Entry::Sub { dom, ro, .. } => (9, dom, ro),
-        Entry::Via { dom, ro, .. } => (3, dom, ro),
-    };
-    let turned = if readonly { 4 } else { 0 };
-    low + turned + 268_435_456 * u64::from(dom.0) + 17_592_186_044_416 * generation
+    Control::of_entry(entry, generation, 0, 0).pack()
 }
 
 // The same word read-only or writable, at the next generation.
-fn turned_word(word: u64, readonly: bool) -> u64
+fn turned(word: u64, readonly: bool) -> u64
     requires { (generation_of word < 1048575) × IsTurnable readonly word }
-    ensures { result ≡ turned_number readonly word }
+    ensures { result ≡ turned_word readonly word }
 {
     let control = Control::unpack(word);
-    let turned = Control {
+    let next = Control {
         ro: readonly,
         generation: control.generation + 1,
         ..control
     };
-    turned.pack()
+    next.pack()
 }

@@ -2,7 +2,9 @@
 ghost use Rattle.std.specs.Prelude.{◌≡◌, ◌≢◌, ◌⊎◌, ◌+◌, ◌<◌, ◌≤◌, [], length, MatchResult, IfOk, IfErr, OnOk, IsOk, HoldsAt, ℕ, position, ◌==◌, true, false};
 ghost use Rattle.gt_types.specs.Config.{IsWithinLimits};
 ghost use Rattle.gt_entry.specs.Words.{header_word};
-ghost use Rattle.gt_words.specs.Spelling.{IsEntry, IsSpelled, IsValid, pins_in, generation_of, idle_number, promoted_word, is_readonly};
+ghost use Rattle.gt_entry.specs.Entries.{IsEntry, is_read_only};
+ghost use Rattle.gt_entry.specs.Spelling.{IsSpelled, idle_word_of};
+ghost use Rattle.gt_words.specs.Controls.{IsValid, pins_in, generation_of, promoted_word};
 ghost use Rattle.gt_words.specs.Views.{own_header, own_body, last_of, last_seen, record_seen};
 ghost use Rattle.gt_words.specs.Rule.{layout_of, position_in, IsHeader, version_set, frames_set};
 ghost use Rattle.gt_words.specs.Steps.{published, turned};
@@ -12,7 +14,7 @@ use crate::board::{Place, WordTable};
 use crate::start::{deal_seats, first_words};
 use crate::view::{Change, EntryStep, Half, HeaderStep};
 use atomic_table::Table;
-use gt_entry::{Entry, Header};
+use gt_entry::{Control, Entry, Header};
 use gt_types::{Config, Dir, DomId, GrantRef, LAST_GENERATION, MAX_TABLE_FRAMES, StartFault, TABLE_ENTRIES};
 use std::alloc::{AllocError, Global};
 use std::marker::Model;
@@ -234,7 +236,7 @@ impl Words {
         ensures step { Unpins self.now.layout (position_in self.now.layout.ids pin.dom) pin.gref.0 pin.dir (generation_of pin.word) seat.old.view seat.new.view }
     {
         let at = position_of(&self.ids, pin.dom);
-        let generation = pin.word / 17_592_186_044_416;
+        let generation = u64::from(Control::unpack(pin.word).generation);
         self.words
             .unpin(&mut seat.place, at, pin.gref.0 as usize, pin.dir, generation);
     }
@@ -269,7 +271,7 @@ impl Words {
         requires given { IsEntry entry × (entry ≢ Entry.Invalid) × IsSpelled entry (own_body gref.0 Half.First seat.old.view) (own_body gref.0 Half.Second seat.old.view) }
         ensures seat { IsSameSeat seat.old seat.new }
         ensures step { MatchResult result
-            (λ _. Changes self.now.layout gref.0 Change.Publish word (idle_number entry ((last_of gref.0 seat.old.view).generation + 1)) (published entry (last_of gref.0 seat.old.view)) seat.old.view seat.new.view)
+            (λ _. Changes self.now.layout gref.0 Change.Publish word (idle_word_of entry ((last_of gref.0 seat.old.view).generation + 1)) (published entry (last_of gref.0 seat.old.view)) seat.old.view seat.new.view)
             (λ n. MissesChange self.now.layout gref.0 Change.Publish word n seat.old.view seat.new.view × IsBusyOf (last_of gref.0 seat.old.view) n) }
         ensures taken { IsOk result }
     {
@@ -304,7 +306,7 @@ impl Words {
         requires seat { IsSeatOf self.now seat.old }
         requires entry { gref.0 < TABLE_ENTRIES }
         requires word { IsWordOf (last_of gref.0 seat.old.view) word × (pins_in Dir.Write word ≡ 0) × (generation_of word < LAST_GENERATION) }
-        requires writable { ((last_of gref.0 seat.old.view).entry ≢ Entry.Invalid) × (is_readonly (last_of gref.0 seat.old.view).entry ≡ false) }
+        requires writable { ((last_of gref.0 seat.old.view).entry ≢ Entry.Invalid) × (is_read_only (last_of gref.0 seat.old.view).entry ≡ false) }
         ensures seat { IsSameSeat seat.old seat.new }
         ensures step { MatchResult result
             (λ _. Demotes self.now.layout gref.0 word seat.old.view seat.new.view)
@@ -323,7 +325,7 @@ impl Words {
         requires seat { IsSeatOf self.now seat.old }
         requires entry { gref.0 < TABLE_ENTRIES }
         requires word { IsWordOf (last_of gref.0 seat.old.view) word × (generation_of word < LAST_GENERATION) }
-        requires readonly { ((last_of gref.0 seat.old.view).entry ≢ Entry.Invalid) × (is_readonly (last_of gref.0 seat.old.view).entry ≡ true) }
+        requires readonly { ((last_of gref.0 seat.old.view).entry ≢ Entry.Invalid) × (is_read_only (last_of gref.0 seat.old.view).entry ≡ true) }
         ensures seat { IsSameSeat seat.old seat.new }
         ensures step { MatchResult result
             (λ _. Changes self.now.layout gref.0 Change.Promote word (promoted_word word) (turned false (last_of gref.0 seat.old.view)) seat.old.view seat.new.view)

@@ -5,7 +5,7 @@ use Rattle.gt_words.proofs.Told.{unpins}
 use Rattle.gt_words.specs.Rule.{layout_of}
 
 pub subtract_from_word-requires-clause-allowed : goal.subtract_from_word-requires-clause-allowed
-subtract_from_word-requires-clause-allowed c = let b = c.args.self.now.table.shared in unpin_owes (layout_of b.key) b.table_id.slots c.args.seat.now.id c.args.seat.now.me c.args.at c.args.gref c.requires.entry.0 c.requires.entry.1 c.args.dir c.args.generation _ c.unit_of-one.ensures c.requires.held
+subtract_from_word-requires-clause-allowed c = let b = c.args.self.now.table.shared in unpin_owes (layout_of b.key) b.table_id.slots c.args.seat.now.id c.args.seat.now.me c.args.at c.args.gref c.requires.entry.0 c.requires.entry.1 c.args.dir c.args.generation _ c.pin_unit-one.ensures c.requires.held
 
 pub returns-clause-step : goal.returns-clause-step
 returns-clause-step c = let k = layout_of c.args.self.now.table.shared.key in let n : ℕ = c.subtract_from_word.result in let e = c.subtract_from_word.ensures.2 in
