@@ -10,11 +10,11 @@ use Rattle.atomic_table.proofs.Lists.{at_set, set_again, at_map}
 use Rattle.gt_words.proofs.Lists.{whose_at, whose_here}
 use Rattle.gt_words.proofs.OneEntry.{mine}
 use Rattle.gt_words.proofs.Owed.{stored_owes}
-use Rattle.gt_words.specs.Conditions.{HeaderSteps, StoresHeader}
+use Rattle.gt_words.specs.Conditions.{AddsToHeader, HeaderSteps, StoresHeader}
 use Rattle.gt_words.specs.Events.{Happens, HeaderByOwner, entry_by, event_on_header, header_after, shown_header}
 use Rattle.gt_words.specs.Rule.{IsHeader, Layout, Shows, ShowsEntry, header_now, header_place, place}
 use Rattle.gt_words.specs.Steps.{looking_at_header, on_header, storing_header, tells, tells_stored}
-use Rattle.gt_words.specs.Views.{own, own_header, steps_on, steps_on_header, stored_header, with_step}
+use Rattle.gt_words.specs.Views.{own, own_header, pins, steps_on, steps_on_header, stored_header, with_step}
 use Rattle.gt_words.specs.declared.view.EntryStep.{EntryStep}
 use Rattle.gt_words.specs.declared.view.HeaderStep.{HeaderStep}
 use Rattle.gt_words.specs.declared.view.View.{View}
@@ -111,12 +111,22 @@ module _ {S : Type 0} (k : Layout) (slots id : ℕ) (me : Me S View) (t : ℕ) (
   store_header_owes y own ok = stored_owes (storing_header k t y) (header_place t) (λ _. y) (step slots (header_place t) y 0 none)
       (header_owes (λ n. header.Stored y) (λ n. y) y (λ s shown at. sym (shown.seats id me.0 at).0 ∙ own) (λ n. refl) (λ n h. ok))
 
+-- one more step on a header
+pub adds_to_header : (t : ℕ) (m : HeaderStep) (v w : View) → w ≡ with_step (on_header t m) v → AddsToHeader t m v w
+adds_to_header t m v w e = record {
+  view = e;
+  here = ap (steps_on_header t) e ∙ header_here t m v;
+  others = λ u n. ap (steps_on_header u) e ∙ header_else t m v u n;
+  entries = λ u r. ap (steps_on u r) e;
+}
+
 -- the owner stored its header
 pub stores_header : (k : Layout) (at value y found : ℕ) (v w : View) → v.position ≡ at → value ≡ y → HeaderSteps k at (header.Stored value) found value v w → StoresHeader k y v w
 stores_header k at value y found v w own is z = record {
   found = found;
+  pins = λ t r. ap pins (z.adds.entries t r);
   steps = subst (λ (u : ℕ × ℕ). HeaderSteps k u.0 (header.Stored u.1) found u.1 v w) (λ i. (sym own i, is i)) z;
-  header = ap own_header z.view ∙ (ap (stored_header (get_or v.headers v.position 0)) (subst (λ (u : ℕ). steps_on_header v.position (with_step (on_header u (header.Stored value)) v) ≡ header.Stored value ∷ steps_on_header v.position v) own (header_here v.position (header.Stored value) v)) ∙ is);
+  header = ap own_header z.adds.view ∙ (ap (stored_header (get_or v.headers v.position 0)) (subst (λ (u : ℕ). steps_on_header v.position (with_step (on_header u (header.Stored value)) v) ≡ header.Stored value ∷ steps_on_header v.position v) own (header_here v.position (header.Stored value) v)) ∙ is);
 }
 
 -- a version has room in its two bits

@@ -22,11 +22,12 @@ use Rattle.gt_words.specs.Conditions.{HasLooked, Holds, IsIdleOf}
 use Rattle.gt_words.specs.Controls.{IsValid, demoted_word, generation_of, invalid_word, pins_in, promoted_word}
 use Rattle.gt_words.specs.Events.{Happens, IsByOwner}
 use Rattle.gt_words.specs.Rule.{IsRecord, Layout, Shows, ShowsEntry, place, total_pins}
-use Rattle.gt_words.specs.Steps.{StepKind, entry_kind, exchanging, looking, missed, on_entry, reading, storing, taken, tells, tells_stored, turned, unpinning}
+use Rattle.gt_words.specs.Steps.{StepKind, entry_kind, exchanging, half_index, half_of, looking, missed, on_entry, reading, storing, taken, tells, tells_stored, turned, unpinning}
 use Rattle.gt_words.specs.Views.{earlier_records, invalid_at, last_of, last_record, last_seen, own, steps_on, stored_body}
 use Rattle.gt_words.specs.declared.view.Change.{Change}
 use Rattle.gt_words.specs.declared.view.EntryStep.{EntryStep}
 use Rattle.gt_words.specs.declared.view.EntryStep.TheVariants.{ChangeMissed, Changed, Looked, ReadBody, StoredBody, Unpinned}
+use Rattle.gt_words.specs.declared.view.Half.{Half}
 use Rattle.gt_words.specs.declared.view.Half.TheVariants.{First, Second}
 use Rattle.gt_words.specs.declared.view.Purpose.{Purpose}
 use Rattle.gt_words.specs.declared.view.Record.{Record}
@@ -120,11 +121,18 @@ module _ {S : Type 0} (k : Layout) (slots id : ℕ) (me : Me S View) (t r : ℕ)
   pub look_owes : Allows (Shows k) slots id me (place t r 0) (λ n. n) (tells (looking k t r) (step slots (place t r 0) 0 0 none) me)
   look_owes = control_owes k t r (λ n. Looked n) (λ n. n) slots id me (λ n. n) (step slots (place t r 0) 0 0 none) tn rn refl (λ n. refl) (λ w a b hs z fits. (entry_looks k.first t hs id _ z.1 w a b z.0, tt))
 
-  pub read_first_owes : Allows (Shows k) slots id me (place t r 1) (λ n. n) (tells (reading k t r First) (step slots (place t r 1) 0 0 none) me)
+  read_first_owes : Allows (Shows k) slots id me (place t r 1) (λ n. n) (tells (reading k t r First) (step slots (place t r 1) 0 0 none) me)
   read_first_owes = first_owes k t r (λ n. ReadBody First n) (λ n. n) slots id me (λ n. n) (step slots (place t r 1) 0 0 none) tn rn refl (λ n. refl) (λ w a b hs z. (entry_saw k.first t hs id _ z.1 w a b z.0 First a (λ _. refl) (λ e. cc), tt))
 
-  pub read_second_owes : Allows (Shows k) slots id me (place t r 2) (λ n. n) (tells (reading k t r Second) (step slots (place t r 2) 0 0 none) me)
+  read_second_owes : Allows (Shows k) slots id me (place t r 2) (λ n. n) (tells (reading k t r Second) (step slots (place t r 2) 0 0 none) me)
   read_second_owes = second_owes k t r (λ n. ReadBody Second n) (λ n. n) slots id me (λ n. n) (step slots (place t r 2) 0 0 none) tn rn refl (λ n. refl) (λ w a b hs z. (entry_saw k.first t hs id _ z.1 w a b z.0 Second b (λ e. cc) (λ _. refl), tt))
+
+  pub read_owes : (h : Half) (i : ℕ) → i ≡ half_index h → Allows (Shows k) slots id me (place t r i) (λ n. n) (tells (reading k t r (half_of i)) (step slots (place t r i) 0 0 none) me)
+  read_owes h i e = subst (λ (u : ℕ). Allows (Shows k) slots id me (place t r u) (λ n. n) (tells (reading k t r (half_of u)) (step slots (place t r u) 0 0 none) me)) (sym e) (at_half h)
+    where
+      at_half : (h : Half) → Allows (Shows k) slots id me (place t r (half_index h)) (λ n. n) (tells (reading k t r (half_of (half_index h))) (step slots (place t r (half_index h)) 0 0 none) me)
+      at_half First = read_first_owes
+      at_half Second = read_second_owes
 
   -- an exchange, taken where the word is the one expected
   exchange_owes : (p : Purpose) (old new : ℕ)
@@ -166,13 +174,20 @@ module _ {S : Type 0} (k : Layout) (slots id : ℕ) (me : Me S View) (t r : ℕ)
     last_is : me.0.first ≡ k.first → last_of r me.0 ≡ last_record k.first (steps_on t r me.0)
     last_is e = λ i. last_record (e i) (steps_on (own i) r me.0)
 
-    pub store_first_owes : (v : ℕ) → (last_of r me.0).entry ≡ Invalid → Allows (Shows k) slots id me (place t r 1) (λ _. v) (λ _. tells_stored (storing k t r First v) (step slots (place t r 1) v 0 none) me)
+    store_first_owes : (v : ℕ) → (last_of r me.0).entry ≡ Invalid → Allows (Shows k) slots id me (place t r 1) (λ _. v) (λ _. tells_stored (storing k t r First v) (step slots (place t r 1) v 0 none) me)
     store_first_owes v none_yet = stored_owes (storing k t r First v) (place t r 1) (λ _. v) (step slots (place t r 1) v 0 none) (first_owes k t r (λ n. StoredBody First v) (λ n. v) slots id me (λ _. v) (step slots (place t r 1) v 0 none) tn rn refl (λ n. refl)
         (λ w a b hs z. (to_seat w v b hs (StoredBody First v) z.2 (entry_stores_first k.first t hs (steps_on t r me.0) (at_home hs z.1 z.2) w a b z.0 v (ap (λ (x : Record). x.entry) (sym (last_is z.3)) ∙ none_yet)), sym z.2 ∙ own)))
 
-    pub store_second_owes : (v : ℕ) → (last_of r me.0).entry ≡ Invalid → Allows (Shows k) slots id me (place t r 2) (λ _. v) (λ _. tells_stored (storing k t r Second v) (step slots (place t r 2) v 0 none) me)
+    store_second_owes : (v : ℕ) → (last_of r me.0).entry ≡ Invalid → Allows (Shows k) slots id me (place t r 2) (λ _. v) (λ _. tells_stored (storing k t r Second v) (step slots (place t r 2) v 0 none) me)
     store_second_owes v none_yet = stored_owes (storing k t r Second v) (place t r 2) (λ _. v) (step slots (place t r 2) v 0 none) (second_owes k t r (λ n. StoredBody Second v) (λ n. v) slots id me (λ _. v) (step slots (place t r 2) v 0 none) tn rn refl (λ n. refl)
         (λ w a b hs z. (to_seat w a v hs (StoredBody Second v) z.2 (entry_stores_second k.first t hs (steps_on t r me.0) (at_home hs z.1 z.2) w a b z.0 v (ap (λ (x : Record). x.entry) (sym (last_is z.3)) ∙ none_yet)), sym z.2 ∙ own)))
+
+    pub store_owes : (h : Half) (i v : ℕ) → i ≡ half_index h → (last_of r me.0).entry ≡ Invalid → Allows (Shows k) slots id me (place t r i) (λ _. v) (λ _. tells_stored (storing k t r (half_of i) v) (step slots (place t r i) v 0 none) me)
+    store_owes h i v e none_yet = subst (λ (u : ℕ). Allows (Shows k) slots id me (place t r u) (λ _. v) (λ _. tells_stored (storing k t r (half_of u) v) (step slots (place t r u) v 0 none) me)) (sym e) (at_half h)
+      where
+        at_half : (h : Half) → Allows (Shows k) slots id me (place t r (half_index h)) (λ _. v) (λ _. tells_stored (storing k t r (half_of (half_index h)) v) (step slots (place t r (half_index h)) v 0 none) me)
+        at_half First = store_first_owes v none_yet
+        at_half Second = store_second_owes v none_yet
 
     -- an exchange by the owner
     change_owes : (m : Purpose) (c : Change) (y : Record) (old new : ℕ) → taken t r me.0 m old new ≡ Changed c old new y → ((n : ℕ) → missed m old n ≡ ChangeMissed c old n)

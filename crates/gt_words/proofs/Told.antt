@@ -13,29 +13,46 @@ use Rattle.gt_entry.specs.Words.{unit_of}
 use Rattle.gt_entry.specs.declared.entry.Entry.TheVariants.{Invalid}
 use Rattle.gt_types.specs.declared.Dir.{Dir}
 use Rattle.gt_types.specs.declared.Dir.TheVariants.{Read, Write}
-use Rattle.gt_words.proofs.Lifts.{steps_on-added}
+use Rattle.gt_words.proofs.Lifts.{steps_on-added, steps_on-added-else}
 use Rattle.gt_words.proofs.OneEntry.{count_in, held_at, idle_held, mine}
 use Rattle.gt_words.proofs.Owed.{spelled_generation}
 use Rattle.gt_words.proofs.Records.{bounded, legal_record, listed_record, seen_is_last, spelled_parts}
-use Rattle.gt_words.specs.Conditions.{Changes, CountsPins, Demotes, HasLooked, HasNoPins, HasNoWritePins, Holds, IsBusyOf, IsIdleOf, IsNotEarlier, IsWordOf, MayPin, MissesChange, MissesPin, Pins, Revokes, Steps, Unpins}
+use Rattle.gt_words.specs.Conditions.{AddsToEntry, BodySteps, Changes, CountsPins, Demotes, HasLooked, HasNoPins, HasNoWritePins, Holds, IsBusyOf, IsIdleOf, IsNotEarlier, IsWordOf, KeepsPins, MayPin, MissesChange, MissesPin, Pins, Revokes, Steps, StoresBody, Unpins}
 use Rattle.gt_words.specs.Controls.{IsTurnable, IsValid, demoted_word, generation_of, invalid_word, pins_in}
 use Rattle.gt_words.specs.Rule.{IsRecord, Layout, SawRecord, ShowsEntry, ShowsRecord, owner_steps, place, total_pins}
-use Rattle.gt_words.specs.Steps.{TakesStep, exchanging, missed, on_entry, taken, turned}
-use Rattle.gt_words.specs.Views.{IsIn, LivePin, Seen, earlier_records, invalid_at, last_of, last_record, last_seen, own, own_list, pin_count, pins, record_seen, seen, steps_on, with_step}
+use Rattle.gt_words.specs.Steps.{TakesStep, exchanging, half_index, half_of, missed, on_entry, taken, turned}
+use Rattle.gt_words.specs.Views.{IsIn, LivePin, Seen, earlier_records, invalid_at, is_half, last_of, last_record, last_seen, own, own_list, pin_count, pins, record_seen, seen, steps_on, steps_on_header, stored_body, with_step}
 use Rattle.gt_words.specs.declared.view.Change.{Change}
 use Rattle.gt_words.specs.declared.view.EntryStep.{EntryStep}
-use Rattle.gt_words.specs.declared.view.EntryStep.TheVariants.{ChangeMissed, Changed, PinMissed, Pinned, Unpinned}
+use Rattle.gt_words.specs.declared.view.EntryStep.TheVariants.{ChangeMissed, Changed, PinMissed, Pinned, ReadBody, StoredBody, Unpinned}
+use Rattle.gt_words.specs.declared.view.Half.{Half}
+use Rattle.gt_words.specs.declared.view.Half.TheVariants.{First, Second}
 use Rattle.gt_words.specs.declared.view.Purpose.{Purpose}
 use Rattle.gt_words.specs.declared.view.Record.{Record}
 use Rattle.gt_words.specs.declared.view.View.{View}
 use Rattle.gt_words.specs.declared.view.Change.TheVariants as change
+
+-- one more step on an entry
+pub adds_to_entry : (t r : ℕ) (m : EntryStep) (v w : View) → w ≡ with_step (on_entry t r m) v → AddsToEntry t r m v w
+adds_to_entry t r m v w e = record {
+  view = e;
+  here = ap (steps_on t r) e ∙ steps_on-added t r m v;
+  others = λ t' r' n. ap (steps_on t' r') e ∙ steps_on-added-else t r m v t' r' n;
+  headers = λ t'. ap (steps_on_header t') e;
+}
+
+-- a step that takes no pin and gives none back
+pub keeps_pins : (t r : ℕ) (m : EntryStep) (v w : View) → AddsToEntry t r m v w → pins (m ∷ steps_on t r v) ≡ pins (steps_on t r v) → KeepsPins v w
+keeps_pins t r m v w z same t' r' = dite (ℕ_discrete t t')
+    (λ e. dite (ℕ_discrete r r') (λ f. subst (λ (u : ℕ × ℕ). pins (steps_on u.0 u.1 w) ≡ pins (steps_on u.0 u.1 v)) (λ i. (e i, f i)) (ap pins z.here ∙ same)) (λ n. ap pins (z.others t' r' (λ _ f. n f))))
+    (λ n. ap pins (z.others t' r' (λ e _. n e)))
 
 -- an exchange that found the word expected was taken
 pub exchange_taken : (k : Layout) (t r : ℕ) (v : View) (p : Purpose) (old new found : ℕ) (w : View) → found ≡ old
     → w ≡ with_step ((exchanging k t r v p old new).step found) v → TakesStep (Unit {0}) k v ((exchanging k t r v p old new).step found) (place t r 0) found ((exchanging k t r v p old new).leaves found)
     → Steps k t r (taken t r v p old new) old new v w
 exchange_taken k t r v p old new found w e view step = let b : (found == old) ≡ true = eq-eqb found old e in record {
-  view = view ∙ ap (λ (q : Bool). with_step (on_entry t r (cond q (taken t r v p old new) (missed p old found))) v) b;
+  adds = adds_to_entry t r (taken t r v p old new) v w (view ∙ ap (λ (q : Bool). with_step (on_entry t r (cond q (taken t r v p old new) (missed p old found))) v) b);
   step = subst (λ (n : ℕ). TakesStep (Unit {0}) k v (on_entry t r (taken t r v p old new)) (place t r 0) n new) e
       (subst (λ (q : Bool). TakesStep (Unit {0}) k v (on_entry t r (cond q (taken t r v p old new) (missed p old found))) (place t r 0) found (either q new found)) b step);
 }
@@ -45,7 +62,7 @@ pub exchange_missed : (k : Layout) (t r : ℕ) (v : View) (p : Purpose) (old new
     → w ≡ with_step ((exchanging k t r v p old new).step found) v → TakesStep (Unit {0}) k v ((exchanging k t r v p old new).step found) (place t r 0) found ((exchanging k t r v p old new).leaves found)
     → Steps k t r (missed p old found) found found v w
 exchange_missed k t r v p old new found w n view step = let b : (found == old) ≡ false = ne_eqb found old n in record {
-  view = view ∙ ap (λ (q : Bool). with_step (on_entry t r (cond q (taken t r v p old new) (missed p old found))) v) b;
+  adds = adds_to_entry t r (missed p old found) v w (view ∙ ap (λ (q : Bool). with_step (on_entry t r (cond q (taken t r v p old new) (missed p old found))) v) b);
   step = subst (λ (q : Bool). TakesStep (Unit {0}) k v (on_entry t r (cond q (taken t r v p old new) (missed p old found))) (place t r 0) found (either q new found)) b step;
 }
 
@@ -89,6 +106,10 @@ module _ (k : Layout) (t r : ℕ) (m : EntryStep) (found left : ℕ) (v w : View
     pub spelled_word : found ≡ word_of (last_of r v).entry (last_of r v).generation (total_pins Read all) (total_pins Write all)
     spelled_word = owners_entry.spelled
 
+    -- the word found is one of the record
+    pub own_word : IsWordOf (last_of r v) found
+    own_word = (total_pins Read all, total_pins Write all, owners_entry.in_range.0, owners_entry.in_range.1, spelled_word)
+
     -- another word than the idle one has pins
     pub busy : (word : ℕ) → IsIdleOf (last_of r v) word → found ≢ word → IsBusyOf (last_of r v) found
     busy word idle n = let x : Record = last_of r v in let reads : ℕ = total_pins Read all in let writes : ℕ = total_pins Write all in
@@ -130,15 +151,18 @@ module _ (k : Layout) (r : ℕ) (c : Change) (word : ℕ) (v w : View) (vn : v.p
   pub changes : (new : ℕ) (y : Record) → Steps k v.position r (Changed c word new y) word new v w → Changes k r c word new y v w
   changes new y z = record {
     steps = z;
-    last = ap (last_of r) z.view ∙ ap (last_record v.first) (own_steps v.position r (Changed c word new y) v refl);
+    pins = keeps_pins v.position r (Changed c word new y) v w z.adds refl;
+    last = ap (last_of r) z.adds.view ∙ ap (last_record v.first) (own_steps v.position r (Changed c word new y) v refl);
   }
 
   -- the owner's exchange was missed
   pub misses_change : (found : ℕ) → found ≢ word → Steps k v.position r (ChangeMissed c word found) found found v w → MissesChange k r c word found v w
   misses_change found n z = record {
     another = n;
+    same_record = own_word k v.position r (ChangeMissed c word found) found found v w vn rn z refl;
     steps = z;
-    unchanged = ap (own_list r) z.view ∙ ap (own v.first) (own_steps v.position r (ChangeMissed c word found) v refl);
+    pins = keeps_pins v.position r (ChangeMissed c word found) v w z.adds refl;
+    unchanged = ap (own_list r) z.adds.view ∙ ap (own v.first) (own_steps v.position r (ChangeMissed c word found) v refl);
     not_earlier = not_earlier k v.position r (ChangeMissed c word found) found found v w vn rn z;
   }
 
@@ -150,11 +174,11 @@ module _ (k : Layout) (t r : ℕ) (d : Dir) (word : ℕ) (v w : View) (tn : t < 
         steps = z;
         current = sym (seen_is_last x xs (last_seen t r v) word (total_pins Read all) (total_pins Write all) f.lawful (subst (SawRecord x xs) looked.0 (f.saw v.position (steps_on t r v) (seat_there k t r m word (word + unit_of d) v w tn rn z))) f.in_range f.spelled looked.1 valid looked.2).0;
         permitted = may;
-        held = subst (HasPin d (generation_of word)) (sym (ap (steps_on t r) z.view ∙ steps_on-added t r m v)) ((d, record_seen (last_seen t r v)), inl refl, refl, ap generation_of looked.1);
+        held = subst (HasPin d (generation_of word)) (sym (ap (steps_on t r) z.adds.view ∙ steps_on-added t r m v)) ((d, record_seen (last_seen t r v)), inl refl, refl, ap generation_of looked.1);
       }
 
   pub misses_pin : (found : ℕ) → found ≢ word → Steps k t r (PinMissed d word found) found found v w → MissesPin k t r d word found v w
-  misses_pin found n z = record { another = n; steps = z; not_earlier = not_earlier k t r (PinMissed d word found) found found v w tn rn z }
+  misses_pin found n z = record { another = n; steps = z; pins = keeps_pins t r (PinMissed d word found) v w z.adds refl; not_earlier = not_earlier k t r (PinMissed d word found) found found v w tn rn z }
 
 -- the counts of a control word are the sums of the views' pins
 pins_in-spelled : (d : Dir) (x : Record) (word reads writes : ℕ) → IsRecord x → (reads < 4096) × (writes < 4096) → word ≡ word_of x.entry x.generation reads writes → (hs : List (List EntryStep)) → reads ≡ total_pins Read hs → writes ≡ total_pins Write hs → pins_in d word ≡ total_pins d hs
@@ -180,7 +204,7 @@ unpins k t r d g v found w tn rn holds fits view step = let p = holds.0 in let c
     let l' : pin_count d (pins (steps_on t r v)) ≤ pins_in d found = subst (λ (n : ℕ). pin_count d (pins (steps_on t r v)) ≤ pins_in d n) e l in let some_pin : 0 < pins_in d found = omega arith in record {
       found = found;
       counted = some_pin;
-      steps = record { view = view; step = subst (λ (n : ℕ). TakesStep (Unit {0}) k v (on_entry t r (Unpinned d g)) (place t r 0) found n) (lowered d found some_pin fits) step };
+      steps = record { adds = adds_to_entry t r (Unpinned d g) v w view; step = subst (λ (n : ℕ). TakesStep (Unit {0}) k v (on_entry t r (Unpinned d g)) (place t r 0) found n) (lowered d found some_pin fits) step };
     }
 
 module _ (k : Layout) (t r : ℕ) (word : ℕ) (v : View) (w : View) (tn : t < k.domains) (rn : r < 2048) (own_is : v.position ≡ t) where
@@ -209,3 +233,32 @@ module _ (k : Layout) (t r : ℕ) (word : ℕ) (v : View) (w : View) (tn : t < k
 -- the word of a record that has the other readonly
 pub turnable : (o : Bool) (x : Record) (word : ℕ) → IsWordOf x word → x.entry ≢ Invalid → is_read_only x.entry ≡ not o → IsTurnable o word
 turnable o x word h some_kind now = let is = h.4 in (x.entry, 16777216 * named_domain x.entry + 1099511627776 * x.generation + h.0 + 4096 * h.1, some_kind, now, omega arith)
+
+half_is : (h : Half) → half_of (half_index h) ≡ h
+half_is First = refl
+half_is Second = refl
+
+-- a body word was read
+pub reads_body : (k : Layout) (t r i : ℕ) (h : Half) (n : ℕ) (v w : View) → i ≡ half_index h → w ≡ with_step (on_entry t r (ReadBody (half_of i) n)) v
+    → TakesStep (Unit {0}) k v (on_entry t r (ReadBody (half_of i) n)) (place t r i) n n → BodySteps k t r h (ReadBody h n) n n v w
+reads_body k t r i h n v w e view step = let f : half_of i ≡ h = ap half_of e ∙ half_is h in record {
+  adds = adds_to_entry t r (ReadBody h n) v w (view ∙ ap (λ (u : Half). with_step (on_entry t r (ReadBody u n)) v) f);
+  step = subst (λ (u : ℕ × Half). TakesStep (Unit {0}) k v (on_entry t r (ReadBody u.1 n)) (place t r u.0) n n) (λ j. (e j, f j)) step;
+}
+
+-- the owner stored a body word
+pub stores_body : (k : Layout) (t r i : ℕ) (h : Half) (value found : ℕ) (v w : View) → v.position ≡ t → i ≡ half_index h → w ≡ with_step (on_entry t r (StoredBody (half_of i) value)) v
+    → TakesStep (Unit {0}) k v (on_entry t r (StoredBody (half_of i) value)) (place t r i) found value → StoresBody k r h value v w
+stores_body k t r i h value found v w own_is e view step = let m : EntryStep = StoredBody h value in let f : half_of i ≡ h = ap half_of e ∙ half_is h in
+    let a : AddsToEntry v.position r m v w = subst (λ (u : ℕ × Half). AddsToEntry u.0 r (StoredBody u.1 value) v w) (λ j. (sym own_is j, f j)) (adds_to_entry t r (StoredBody (half_of i) value) v w view) in
+    let here : steps_on w.position r w ≡ m ∷ steps_on v.position r v = ap (λ (u : View). steps_on u.position r w) view ∙ a.here in record {
+      found = found;
+      steps = record { adds = a; step = subst (λ (u : ℕ × ℕ × Half). TakesStep (Unit {0}) k v (on_entry u.0 r (StoredBody u.2 value)) (place u.0 r u.1) found value) (λ j. (sym own_is j, e j, f j)) step };
+      stored = ap (stored_body h) here ∙ same h;
+      unchanged = ap (λ (u : View). own u.first (steps_on w.position r w)) view ∙ ap (own v.first) here;
+      pins = keeps_pins v.position r m v w a refl;
+    }
+  where
+    same : (h : Half) → cond (is_half h h) value (stored_body h (steps_on v.position r v)) ≡ value
+    same First = refl
+    same Second = refl

@@ -1,5 +1,5 @@
 -- What calls ask of their caller, and what their answers say.
-use Rattle.std.specs.Prelude.{◌≡◌, ◌≢◌, ◌⊎◌, ℕ, ◌+◌, ◌-◌, ◌*◌, ◌<◌, ◌≤◌, List, [], length, Option, Some, IfSome, slice_get, cond, ◌==◌, ◌/◌, ◌%◌, slice_index, true, false}
+use Rattle.std.specs.Prelude.{◌≡◌, ◌≢◌, ◌⊎◌, ℕ, ◌+◌, ◌-◌, ◌*◌, ◌<◌, ◌≤◌, List, [], ◌∷◌, length, Option, Some, IfSome, slice_get, cond, ◌==◌, ◌/◌, ◌%◌, slice_index, true, false}
 use mathlib.Core.Option.{some}
 use lib.ListN.{get_elem?}
 use Rattle.atomic_table.specs.Table.{State}
@@ -19,7 +19,7 @@ use Rattle.gt_words.specs.Controls.{ForwardsPin, LeadsTo, PermitsPin, demoted_wo
 use Rattle.gt_words.specs.Events.{shown_entry}
 use Rattle.gt_words.specs.Rule.{Layout, Shows, header_place, id_at, place}
 use Rattle.gt_words.specs.Steps.{TakesStep, half_index, on_entry, on_header, turned}
-use Rattle.gt_words.specs.Views.{HasBody, IsIn, LivePin, invalid_at, last_of, last_seen, own_body, own_header, own_list, pin_count, pins, record_seen, seen, steps_on, with_step}
+use Rattle.gt_words.specs.Views.{HasBody, IsIn, LivePin, invalid_at, last_of, last_seen, own_body, own_header, own_list, pin_count, pins, record_seen, seen, steps_on, steps_on_header, with_step}
 use Rattle.gt_words.specs.declared.view.Change.{Change}
 use Rattle.gt_words.specs.declared.view.EntryStep.{EntryStep}
 use Rattle.gt_words.specs.declared.view.EntryStep.TheVariants.{ChangeMissed, Changed, PinMissed, Pinned, StoredBody, Unpinned}
@@ -45,7 +45,8 @@ pub record SeatOf : Type 0 where
 -- the seat is of these words, and of the domain at its position
 pub record IsSeatOf (b : Board) (s : SeatOf) : Type 0 where
   pub table : s.table ≡ b.table
-  pub named : slice_get b.layout.ids s.view.position ≡ Some s.dom
+  pub inside : s.view.position < length b.layout.ids
+  pub named : id_at b.layout.ids s.view.position ≡ s.dom
 
 -- the header has version 1 or 2, and a number of table frames within the limit
 pub record IsKeptHeader (h : Header) : Type 0 where
@@ -116,19 +117,37 @@ CountsPins k t r d = (s : State (Unit {0}) View) (i : ℕ) (v : View) → Shows 
 abbrev pub IsNotEarlier : ℕ → ℕ → View → ℕ → Type 0
 IsNotEarlier t r v word = IfSome (seen (steps_on t r v)) (λ s. generation_of s.word ≤ generation_of word)
 
--- the step x was taken on the control word of the entry r of the domain t
-pub record Steps (k : Layout) (t r : ℕ) (m : EntryStep) (found left : ℕ) (v w : View) : Type 0 where
+-- the seat has the pins that it had
+abbrev pub KeepsPins : View → View → Type 0
+KeepsPins v w = (t r : ℕ) → pins (steps_on t r w) ≡ pins (steps_on t r v)
+
+-- the seat added the step m on the entry r of the domain t to its view, and nothing else
+pub record AddsToEntry (t r : ℕ) (m : EntryStep) (v w : View) : Type 0 where
   pub view : w ≡ with_step (on_entry t r m) v
+  pub here : steps_on t r w ≡ m ∷ steps_on t r v
+  pub others : (t' r' : ℕ) → (t ≡ t' → r ≡ r' → ⊥) → steps_on t' r' w ≡ steps_on t' r' v
+  pub headers : (t' : ℕ) → steps_on_header t' w ≡ steps_on_header t' v
+
+-- the same on the header of the domain t
+pub record AddsToHeader (t : ℕ) (m : HeaderStep) (v w : View) : Type 0 where
+  pub view : w ≡ with_step (on_header t m) v
+  pub here : steps_on_header t w ≡ m ∷ steps_on_header t v
+  pub others : (t' : ℕ) → t ≢ t' → steps_on_header t' w ≡ steps_on_header t' v
+  pub entries : (t' r' : ℕ) → steps_on t' r' w ≡ steps_on t' r' v
+
+-- the step m was taken on the control word of the entry r of the domain t
+pub record Steps (k : Layout) (t r : ℕ) (m : EntryStep) (found left : ℕ) (v w : View) : Type 0 where
+  pub adds : AddsToEntry t r m v w
   pub step : TakesStep (Unit {0}) k v (on_entry t r m) (place t r 0) found left
 
 -- the step was taken on a body word of the entry
 pub record BodySteps (k : Layout) (t r : ℕ) (h : Half) (m : EntryStep) (found left : ℕ) (v w : View) : Type 0 where
-  pub view : w ≡ with_step (on_entry t r m) v
+  pub adds : AddsToEntry t r m v w
   pub step : TakesStep (Unit {0}) k v (on_entry t r m) (place t r (half_index h)) found left
 
 -- the step was taken on the header word of the domain t
 pub record HeaderSteps (k : Layout) (t : ℕ) (m : HeaderStep) (found left : ℕ) (v w : View) : Type 0 where
-  pub view : w ≡ with_step (on_header t m) v
+  pub adds : AddsToHeader t m v w
   pub step : TakesStep (Unit {0}) k v (on_header t m) (header_place t) found left
 
 -- the owner stored a body word of its entry r
@@ -137,12 +156,14 @@ pub record StoresBody (k : Layout) (r : ℕ) (h : Half) (value : ℕ) (v w : Vie
   pub steps : BodySteps k v.position r h (StoredBody h value) found value v w
   pub stored : own_body r h w ≡ value
   pub unchanged : own_list r w ≡ own_list r v
+  pub pins : KeepsPins v w
 
 -- the owner stored its header
 pub record StoresHeader (k : Layout) (value : ℕ) (v w : View) : Type 0 where
   pub found : ℕ
   pub steps : HeaderSteps k v.position (header.Stored value) found value v w
   pub header : own_header w ≡ value
+  pub pins : KeepsPins v w
 
 -- a pin was given back: the word has one pin less of that kind
 pub record Unpins (k : Layout) (t r : ℕ) (d : Dir) (g : ℕ) (v w : View) : Type 0 where
@@ -162,18 +183,22 @@ pub record MissesPin (k : Layout) (t r : ℕ) (d : Dir) (word found : ℕ) (v w 
   pub another : found ≢ word
   pub steps : Steps k t r (PinMissed d word found) found found v w
   pub not_earlier : IsNotEarlier t r v found
+  pub pins : KeepsPins v w
 
 -- The owner's exchange was taken: the record y is the last one now
 pub record Changes (k : Layout) (r : ℕ) (c : Change) (word new : ℕ) (y : Record) (v w : View) : Type 0 where
   pub steps : Steps k v.position r (Changed c word new y) word new v w
   pub last : last_of r w ≡ y
+  pub pins : KeepsPins v w
 
--- The owner's exchange was missed: the word found is another, and the owner's list is as it was
+-- The owner's exchange was missed: the word found is another of the same record, and the owner's list is as it was
 pub record MissesChange (k : Layout) (r : ℕ) (c : Change) (word found : ℕ) (v w : View) : Type 0 where
   pub another : found ≢ word
+  pub same_record : IsWordOf (last_of r v) found
   pub steps : Steps k v.position r (ChangeMissed c word found) found found v w
   pub unchanged : own_list r w ≡ own_list r v
   pub not_earlier : IsNotEarlier v.position r v found
+  pub pins : KeepsPins v w
 
 -- The entry was made invalid by one exchange, in a state in which no view had a pin of it
 pub record Revokes (k : Layout) (r : ℕ) (word : ℕ) (v w : View) : Type 0 where

@@ -8,8 +8,8 @@ ghost use Rattle.gt_entry.specs.Spelling.{IsSpelled, idle_word_of};
 ghost use Rattle.gt_words.specs.Controls.{IsValid, IsTurnable, pins_in, generation_of, turned_word, promoted_word};
 ghost use Rattle.gt_words.specs.Views.{stored_body, steps_on, last_of, last_seen, record_seen};
 ghost use Rattle.gt_words.specs.Rule.{Shows, layout_of, place, header_place, IsHeader};
-ghost use Rattle.gt_words.specs.Steps.{StepKind, tells, tells_stored, looking, published, turned};
-ghost use Rattle.gt_words.specs.Conditions.{CountsPins, IsWide, IsIdleOf, IsWordOf, IsBusyOf, HasLooked, Holds, MayPin, IsNotEarlier, Steps, BodySteps, HeaderSteps, Unpins, Pins, MissesPin, Changes, MissesChange, Revokes, Demotes};
+ghost use Rattle.gt_words.specs.Steps.{StepKind, tells, tells_stored, looking, published, turned, half_index};
+ghost use Rattle.gt_words.specs.Conditions.{CountsPins, IsWide, IsIdleOf, IsWordOf, IsBusyOf, HasLooked, Holds, MayPin, IsNotEarlier, Steps, BodySteps, HeaderSteps, StoresBody, StoresHeader, KeepsPins, Unpins, Pins, MissesPin, Changes, MissesChange, Revokes, Demotes};
 ghost use Rattle.gt_words.specs.Places.{new_view, IsSamePlace};
 
 use crate::view::{Change, EntryStep, Half, HeaderStep, Purpose, View};
@@ -146,6 +146,17 @@ fn store_header_word<J: OfKind>(board: &Board, seat: &mut Place, at: usize, new:
     board.store::<TellsStore<J>>(seat, at * 6145, new)
 }
 
+// Where a body word stands among the words of its entry.
+fn index_of(half: Half) -> usize
+    ensures index { result ≡ half_index half }
+    ensures inside { result < 3 }
+{
+    match half {
+        Half::First => 1,
+        Half::Second => 2,
+    }
+}
+
 impl WordTable {
     /// A look at a domain's header.
     pub fn load_header(&self, seat: &mut Place, at: usize) -> u64
@@ -154,6 +165,7 @@ impl WordTable {
         ensures header { IsHeader result }
         ensures seat { IsSamePlace seat.old seat.new }
         ensures step { HeaderSteps (layout_of self.now.table.shared.key) at (HeaderStep.Looked result) result result seat.old.me.0 seat.new.me.0 }
+        ensures pins { KeepsPins seat.old.me.0 seat.new.me.0 }
     {
         load_header_word::<Brand>(&self.table.shared, seat, at)
     }
@@ -164,7 +176,7 @@ impl WordTable {
         requires domain { at < length self.now.table.shared.key.domains.items }
         requires header { IsHeader header }
         ensures seat { IsSamePlace seat.old seat.new }
-        ensures step { (found : ℕ) × HeaderSteps (layout_of self.now.table.shared.key) at (HeaderStep.Stored header) found header seat.old.me.0 seat.new.me.0 }
+        ensures step { StoresHeader (layout_of self.now.table.shared.key) header seat.old.me.0 seat.new.me.0 }
     {
         store_header_word::<Brand>(&self.table.shared, seat, at, header)
     }
@@ -176,6 +188,8 @@ impl WordTable {
         ensures seat { IsSamePlace seat.old seat.new }
         ensures step { Steps (layout_of self.now.table.shared.key) at gref (EntryStep.Looked result) result result seat.old.me.0 seat.new.me.0 }
         ensures not_earlier { IsNotEarlier at gref seat.old.me.0 result }
+        ensures own { seat.old.me.0.position ≡ at → IsWordOf (last_of gref seat.old.me.0) result }
+        ensures pins { KeepsPins seat.old.me.0 seat.new.me.0 }
     {
         load_word::<Brand>(&self.table.shared, seat, at, gref, 0)
     }
@@ -186,11 +200,9 @@ impl WordTable {
         requires entry { (at < length self.now.table.shared.key.domains.items) × (gref < 2048) }
         ensures seat { IsSamePlace seat.old seat.new }
         ensures step { BodySteps (layout_of self.now.table.shared.key) at gref half (EntryStep.ReadBody half result) result result seat.old.me.0 seat.new.me.0 }
+        ensures pins { KeepsPins seat.old.me.0 seat.new.me.0 }
     {
-        match half {
-            Half::First => load_word::<Brand>(&self.table.shared, seat, at, gref, 1),
-            Half::Second => load_word::<Brand>(&self.table.shared, seat, at, gref, 2),
-        }
+        load_word::<Brand>(&self.table.shared, seat, at, gref, index_of(half))
     }
 
     /// Takes a pin, where the control word still is the one looked at. Answers the word found where it is another.
@@ -238,12 +250,9 @@ impl WordTable {
         requires entry { (at < length self.now.table.shared.key.domains.items) × (gref < 2048) }
         requires invalid { (last_of gref seat.old.me.0).entry ≡ Entry.Invalid }
         ensures seat { IsSamePlace seat.old seat.new }
-        ensures step { (found : ℕ) × BodySteps (layout_of self.now.table.shared.key) at gref half (EntryStep.StoredBody half value) found value seat.old.me.0 seat.new.me.0 }
+        ensures step { StoresBody (layout_of self.now.table.shared.key) gref half value seat.old.me.0 seat.new.me.0 }
     {
-        match half {
-            Half::First => store_word::<Brand>(&self.table.shared, seat, at, gref, 1, value),
-            Half::Second => store_word::<Brand>(&self.table.shared, seat, at, gref, 2, value),
-        }
+        store_word::<Brand>(&self.table.shared, seat, at, gref, index_of(half), value);
     }
 
     /// The owner publishes an entry whose body it has stored. Answers the word found where it is another than the one handed in.

@@ -8,7 +8,7 @@ ghost use Rattle.gt_words.specs.Controls.{IsValid, pins_in, generation_of, promo
 ghost use Rattle.gt_words.specs.Views.{own_header, own_body, last_of, last_seen, record_seen};
 ghost use Rattle.gt_words.specs.Rule.{layout_of, position_in, IsHeader, version_set, frames_set};
 ghost use Rattle.gt_words.specs.Steps.{published, turned};
-ghost use Rattle.gt_words.specs.Conditions.{IsKeptHeader, Board, SeatOf, IsSeatOf, IsSameSeat, IsNewSeat, IsStartFault, IsIdleOf, IsWordOf, IsBusyOf, HasLooked, Holds, MayPin, CountsPins, IsNotEarlier, Steps, BodySteps, HeaderSteps, StoresBody, StoresHeader, Unpins, Pins, MissesPin, Changes, MissesChange, Revokes, Demotes};
+ghost use Rattle.gt_words.specs.Conditions.{IsKeptHeader, Board, SeatOf, IsSeatOf, IsSameSeat, IsNewSeat, IsStartFault, IsIdleOf, IsWordOf, IsBusyOf, HasLooked, Holds, MayPin, CountsPins, IsNotEarlier, Steps, BodySteps, HeaderSteps, StoresBody, StoresHeader, KeepsPins, Unpins, Pins, MissesPin, Changes, MissesChange, Revokes, Demotes};
 
 use crate::board::{Place, WordTable};
 use crate::start::{deal_seats, first_words};
@@ -57,7 +57,7 @@ impl Model for Words {
 
     ghost view = { λ w. record { table = w.words.table.shared.table_id; layout = layout_of w.words.table.shared.key } };
 
-    ghost invariant = { λ w. w.ids.items ≡ (layout_of w.words.table.shared.key).ids };
+    ghost invariant = { λ w. (w.ids.items ≡ (layout_of w.words.table.shared.key).ids) × IsWithinLimits w.words.table.shared.key };
 }
 
 /// A pin that a seat holds: of which entry, the control word that was looked at, and its kind.
@@ -136,6 +136,7 @@ impl Words {
         ensures header { IsHeader result }
         ensures seat { IsSameSeat seat.old seat.new }
         ensures step { HeaderSteps self.now.layout (position_in self.now.layout.ids dom) (HeaderStep.Looked result) result result seat.old.view seat.new.view }
+        ensures pins { KeepsPins seat.old.view seat.new.view }
     {
         let at = position_of(&self.ids, dom);
         self.words.load_header(&mut seat.place, at)
@@ -174,6 +175,8 @@ impl Words {
         ensures seat { IsSameSeat seat.old seat.new }
         ensures step { Steps self.now.layout (position_in self.now.layout.ids dom) gref.0 (EntryStep.Looked result) result result seat.old.view seat.new.view }
         ensures not_earlier { IsNotEarlier (position_in self.now.layout.ids dom) gref.0 seat.old.view result }
+        ensures own { dom ≡ seat.old.dom → IsWordOf (last_of gref.0 seat.old.view) result }
+        ensures pins { KeepsPins seat.old.view seat.new.view }
     {
         let at = position_of(&self.ids, dom);
         self.words
@@ -186,6 +189,7 @@ impl Words {
         requires entry { (position_in self.now.layout.ids dom < length self.now.layout.ids) × (gref.0 < TABLE_ENTRIES) }
         ensures seat { IsSameSeat seat.old seat.new }
         ensures step { BodySteps self.now.layout (position_in self.now.layout.ids dom) gref.0 half (EntryStep.ReadBody half result) result result seat.old.view seat.new.view }
+        ensures pins { KeepsPins seat.old.view seat.new.view }
     {
         let at = position_of(&self.ids, dom);
         self.words
