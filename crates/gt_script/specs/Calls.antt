@@ -11,7 +11,6 @@ use Rattle.gt_script.specs.declared.calls.Action.{Action}
 use Rattle.gt_script.specs.declared.calls.Action.TheVariants as actions
 
 -- a page: DOM MODE FRAME (own)
--- DOM MODE FRAME
 unfoldable pub page_of : List (List ℕ) → Option Grant
 page_of (dom ∷ mode ∷ frame ∷ []) = do
   d ← domain_word dom
@@ -21,7 +20,6 @@ page_of (dom ∷ mode ∷ frame ∷ []) = do
 page_of _ = None
 
 -- a sub-page: DOM MODE FRAME OFF LEN (own)
--- DOM MODE FRAME OFF LEN
 unfoldable pub sub_of : List (List ℕ) → Option Grant
 sub_of (dom ∷ mode ∷ frame ∷ off ∷ len ∷ []) = do
   d ← domain_word dom
@@ -33,7 +31,6 @@ sub_of (dom ∷ mode ∷ frame ∷ off ∷ len ∷ []) = do
 sub_of _ = None
 
 -- a transitive entry: DOM MODE DOM2 REF2 (own)
--- DOM MODE DOM2 REF2
 unfoldable pub via_of : List (List ℕ) → Option Grant
 via_of (dom ∷ mode ∷ to ∷ gref ∷ []) = do
   d ← domain_word dom
@@ -50,7 +47,6 @@ granted kind args = if bytes_eq kind (codes "page") then page_of args
     else (if bytes_eq kind (codes "via") then via_of args else None))
 
 -- what stands after `grant`: REF and an entry (own)
--- REF and an entry
 unfoldable pub grant_of : List (List ℕ) → Option Call
 grant_of (gref ∷ kind ∷ args) = do
   r ← reference_word gref
@@ -59,7 +55,6 @@ grant_of (gref ∷ kind ∷ args) = do
 grant_of _ = None
 
 -- what stands after `map`: LABEL DOM REF FLAGS (own)
--- LABEL DOM REF FLAGS
 unfoldable pub map_of : List (List ℕ) → Option Call
 map_of (label ∷ dom ∷ gref ∷ flags ∷ []) = do
   l ← text_where label_word label
@@ -70,7 +65,6 @@ map_of (label ∷ dom ∷ gref ∷ flags ∷ []) = do
 map_of _ = None
 
 -- what stands after `unmap`: LABEL (own)
--- LABEL
 unfoldable pub unmap_of : List (List ℕ) → Option Call
 unmap_of (label ∷ []) = do
   l ← text_where label_word label
@@ -78,7 +72,6 @@ unmap_of (label ∷ []) = do
 unmap_of _ = None
 
 -- what stands after `load`: LABEL OFF LEN (own)
--- LABEL OFF LEN
 unfoldable pub load_of : List (List ℕ) → Option Call
 load_of (label ∷ off ∷ len ∷ []) = do
   l ← text_where label_word label
@@ -88,7 +81,6 @@ load_of (label ∷ off ∷ len ∷ []) = do
 load_of _ = None
 
 -- what stands after `revoke`: REF (own)
--- REF
 unfoldable pub revoke_of : List (List ℕ) → Option Call
 revoke_of (gref ∷ []) = do
   r ← reference_word gref

@@ -20,11 +20,6 @@ abbrev pub fault_text : Fault → List ℕ
 fault_text f = codes "line " ++ decimal f.line ++ codes ": " ++ fault_word f.kind
 
 -- why there is no script (own)
--- a fault with the number of its line
-abbrev pub fault_text : Fault → List ℕ
-fault_text f = codes "line " ++ decimal f.line ++ codes ": " ++ fault_word f.kind
-
--- why there is no script
 abbrev pub error_text : ScriptError → List ℕ
 error_text Memory = codes "memory"
 error_text (errors.Fault f) = fault_text f

@@ -33,15 +33,6 @@ abbrev pub type_number : List (List ℕ) → List ℕ → Option TypeId
 type_number types name = option_map (λ i. record { 0 = i }) (position (λ t. bytes_eq t name) types)
 
 -- the triple of a line, if it says one (own)
--- what the lines say, each with its number
-abbrev pub said : ℕ → List (List ℕ) → List (ℕ × Line)
-said n lines = filter_map (λ l. option_map (λ x. (l.0, x)) (line_of (words l.1))) (enumerate_from n lines)
-
--- the number of a type is the place of its name
-abbrev pub type_number : List (List ℕ) → List ℕ → Option TypeId
-type_number types name = option_map (λ i. record { 0 = i }) (position (λ t. bytes_eq t name) types)
-
--- the triple of a line, if it says one
 abbrev pub triple_in : List (List ℕ) → Line → Option Triple
 triple_in types (line.Triple t) = do
   source ← type_number types t.source
@@ -71,11 +62,6 @@ abbrev pub IsLine : List ℕ → Type 0
 IsLine line = (words line ≡ []) ⊎ IsSome (line_of (words line))
 
 -- the lines are those of this script: each part holds what the lines say of it, in their order (own)
--- a line without words, or one that says something
-abbrev pub IsLine : List ℕ → Type 0
-IsLine line = (words line ≡ []) ⊎ IsSome (line_of (words line))
-
--- the lines are those of this script: each part holds what the lines say of it, in their order
 pub record IsScriptOf (lines : List (List ℕ)) (c : Contents) : Type 0 where
   pub readable : All IsLine lines
   pub triples : c.triples ≡ filter_map (λ l. triple_in c.types l.1) (said 1 lines)
@@ -110,11 +96,6 @@ abbrev pub IsFirstFault : List (List ℕ) → Fault → Type 0
 IsFirstFault lines f = IsFaultOfLine lines f ⊎ IsFaultOfEnd lines f
 
 -- the first fault of the bytes: too many, no text, or the first fault of the lines (own)
--- the first fault of the lines
-abbrev pub IsFirstFault : List (List ℕ) → Fault → Type 0
-IsFirstFault lines f = IsFaultOfLine lines f ⊎ IsFaultOfEnd lines f
-
--- the first fault of the bytes: too many, no text, or the first fault of the lines
 abbrev pub IsFaultOf : List ℕ → Fault → Type 0
 IsFaultOf bytes f =
     ((f ≡ record { line = 1; kind = Limit }) × (1048576 < length bytes))

@@ -11,7 +11,6 @@ use Rattle.gt_script.specs.declared.lines.Line.{Line}
 use Rattle.gt_script.specs.declared.lines.Line.TheVariants as lines
 
 -- what stands after `triple`: SOURCE TARGET PERMISSION (own)
--- SOURCE TARGET PERMISSION
 unfoldable pub triple_of : List (List ℕ) → Option TripleLine
 triple_of (source ∷ target ∷ permission ∷ []) = do
   s ← text_where name_word source
@@ -21,7 +20,6 @@ triple_of (source ∷ target ∷ permission ∷ []) = do
 triple_of _ = None
 
 -- what stands after `domain`: ID USER:ROLE:TYPE FRAMES TABLEFRAMES VERSION (own)
--- ID USER:ROLE:TYPE FRAMES TABLEFRAMES VERSION
 unfoldable pub domain_of : List (List ℕ) → Option DomainLine
 domain_of (id ∷ label ∷ frames ∷ table_frames ∷ version ∷ []) = do
   i ← decimal_number id
@@ -33,7 +31,6 @@ domain_of (id ∷ label ∷ frames ∷ table_frames ∷ version ∷ []) = do
 domain_of _ = None
 
 -- a line of the body: its word, then ID and what follows (own)
--- a word of the body, ID and what follows
 unfoldable pub body_of : List ℕ → List (List ℕ) → Option Line
 body_of word [] = None
 body_of word (id ∷ args) = do

@@ -79,11 +79,6 @@ unfoldable pub with_line : Contents → ℕ → Line → Result Contents FaultKi
 with_line c n l = if is_misplaced c l then Err Syntax else with_placed c n l
 
 -- the words of line n: none change nothing (own)
--- a script with line n more
-unfoldable pub with_line : Contents → ℕ → Line → Result Contents FaultKind
-with_line c n l = if is_misplaced c l then Err Syntax else with_placed c n l
-
--- the words of line n: none change nothing
 unfoldable pub with_words : Contents → ℕ → List (List ℕ) → Result Contents FaultKind
 with_words c n [] = Ok c
 with_words c n (w ∷ ws) = elim (line_of (w ∷ ws)) [ None ↦ Err Syntax | Some l ↦ with_line c n l ]
@@ -115,15 +110,6 @@ abbrev pub line_after : List ℕ → ℕ
 line_after text = count_by (λ b. b == 10) text + 1
 
 -- what bytes say, which may be too many, or no text (own)
--- what a text says, or its first fault
-unfoldable pub script_of : List ℕ → Result Contents Fault
-script_of text = completed_if_ok (length (lines_in text)) (with_lines empty 1 (lines_in text))
-
--- the line on which a text stops
-abbrev pub line_after : List ℕ → ℕ
-line_after text = count_by (λ b. b == 10) text + 1
-
--- what bytes say, which may be too many, or no text
 unfoldable pub script_in : List ℕ → Result Contents Fault
 script_in bytes = if nat_lt 1048576 (length bytes) then Err (record { line = 1; kind = Limit })
     else (if is_utf8 bytes then script_of bytes
