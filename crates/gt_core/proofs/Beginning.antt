@@ -53,7 +53,8 @@ use Rattle.gt_core.specs.Path.{Continuation, path, steps_of, after_beginning, gi
 use Rattle.gt_core.specs.Machine.{expects, first_phase, phase_after, starts_as, IsUnderway, FitsPhase}
 use Rattle.gt_core.specs.History.{History, Setting, entry_at, generation_at, body_at, word_at, control_at, reads_at, writes_at, Pin, table_at, mappings_at, mappings_in, known_at, Underway, underway_after, open_call, values, is_pin_on, one_if_mapped}
 use Rattle.gt_core.specs.Legal.{StepsSoFar, IsSpelled, leg_of, stood, stood_with, first_of_item, AnsweredBy, GivesValue, refusal_in, refusal_of, MayDo, IsRight}
-use Rattle.gt_core.specs.Standing.{IsLawful, FitsWord, FitsRequest, PhaseStands, HasStored, HasStoredFirst, OpenAgrees, CallAgrees, Agrees, StateAgrees, CoreStands, state_of, plain_answer, Opens}
+use Rattle.gt_core.specs.States.{asks_memory}
+use Rattle.gt_core.specs.Standing.{WantsMemory, IsLawful, FitsWord, FitsRequest, PhaseStands, HasStored, HasStoredFirst, OpenAgrees, CallAgrees, Agrees, StateAgrees, CoreStands, state_of, plain_answer, Opens}
 use Rattle.gt_core.proofs.Quiet.{IsQuiet, kept-contents, quiet-entry, quiet-raises, quiet-body, quiet-live, quiet-maps_answered, quiet-generations, quiet-known}
 use Rattle.gt_core.proofs.Places.{has_id, found, not-found, state_of-set}
 
@@ -521,3 +522,15 @@ pub tick-idle : (s : Setting) (h : History) (domains : List State) (dom : DomId)
 tick-idle s h domains dom at x p here closed st =
     let a = agrees-found s h domains dom at x p here st in
     (a.0, subst (λ (d : DomId). open_call h d.0 ≡ None) a.1 (call-none s h x.id x.underway (open_call h x.id.0) closed a.2.call))
+
+-- a beginning for which memory is wanted
+pub begin-wants : (s : Setting) (h : History) (domains : List State) (dom : DomId) (at : ℕ) (x : State) (request : Request) (o : Open)
+    → asks_memory o.call.request ≡ true → position (has_id dom.0) domains ≡ Some at → x ≡ get_or domains at x → is_some x.underway ≡ false
+    → Opens (knowledge_of s.domains s.may x.own x.header x.mappings x.maps_answered) dom request (OpeningOpen o) → CoreStands s h domains → WantsMemory s h dom request
+begin-wants s h domains dom at x request o asks p here idle opens st =
+    let a = agrees-found s h domains dom at x p here st in
+    (
+      ap asks_memory (sym opens.2) ∙ asks,
+      subst (λ (d : DomId). open_call h d.0 ≡ None) a.1 (call-none s h x.id x.underway (open_call h x.id.0) (closed-from x.underway idle) a.2.call),
+      subst (λ (d : DomId). begun (known_at s h d) dom request ≡ None) a.1 (ap (λ (k : CallerKnowledge). begun k dom request) (sym (known-same s h x a.2)) ∙ opens.0),
+    )

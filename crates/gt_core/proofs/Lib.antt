@@ -19,3 +19,4 @@ pub mod Unpinning
 pub mod Pinning
 pub mod Starting
 pub mod Ending
+pub mod Showing

@@ -28,7 +28,7 @@ use Rattle.std.proofs.Math.ListN.{set}
 use Rattle.gt_core.specs.declared.trace.Happened.TheVariants.{Began, Stepped}
 use Rattle.gt_core.specs.declared.trace.Element.{Element}
 use Rattle.gt_core.specs.declared.trace.Element.TheVariants.{Busy, Idle, NoDomain, Item as Did}
-pub use Rattle.gt_core.specs.States.{State, state_of, first_state, IsMapping}
+pub use Rattle.gt_core.specs.States.{State, state_of, first_state, asks_memory, IsMapping}
 use Rattle.gt_core.specs.declared.slot.Slot.{Slot}
 use Rattle.gt_core.specs.declared.slot.Open.{Open}
 use Rattle.gt_core.specs.declared.core_state.Begun.{Begun}
@@ -121,6 +121,10 @@ Settles xs at d o result new = IfOk result (λ answer. Settled xs at d o o.step 
 abbrev pub IsStartFaultOf : Config → StartFault → Type 0
 IsStartFaultOf config (ConfigFault fault) = IsFirstFault config fault
 IsStartFaultOf config NoMemory = IsWithinLimits config
+
+-- memory can be wanted where a domain at rest begins a map or a load against which no rule stands (own)
+abbrev pub WantsMemory : Setting → History → DomId → Request → Type 0
+WantsMemory s h d request = (asks_memory request ≡ true) × (open_call h d.0 ≡ None) × (begun (known_at s h d) d request ≡ None)
 
 -- what a call has seen
 

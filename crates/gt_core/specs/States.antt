@@ -1,5 +1,5 @@
 -- A domain's state, as the core keeps it.
-use Rattle.std.specs.Prelude.{ℕ, List, [], ◌∷◌, Option, Some, None, ◌==◌, ◌≡◌, ◌<◌, ◌%◌, min, replicate, if◌then◌else◌}
+use Rattle.std.specs.Prelude.{Bool, true, false, ℕ, List, [], ◌∷◌, Option, Some, None, ◌==◌, ◌≡◌, ◌<◌, ◌%◌, min, replicate, if◌then◌else◌}
 use Rattle.gt_types.specs.declared.config.DomainConfig.{DomainConfig}
 use Rattle.gt_entry.specs.declared.entry.Entry.TheVariants.{Invalid}
 use Rattle.gt_core.specs.declared.known.TheConstants.{ENTRIES, FRAME_LEN}
@@ -27,6 +27,12 @@ pub record State : Type 0 where
 abbrev pub asked_in : Option Open → Option Request
 asked_in None = None
 asked_in (Some o) = Some o.call.request
+
+-- the calls that ask for memory: a map for its mapping, a load for its bytes (own)
+abbrev pub asks_memory : Request → Bool
+asks_memory (Map dom gref flags) = true
+asks_memory (Load handle off len) = true
+asks_memory _ = false
 
 -- a map is under way
 abbrev pub IsMapping : Option Request → Type 0

@@ -6,7 +6,8 @@ ghost use Rattle.gt_core.specs.History.{History};
 ghost use Rattle.gt_core.specs.Legal.{MayDo, grown, Legal};
 ghost use Rattle.gt_core.specs.States.{State, changed_in};
 ghost use Rattle.gt_core.specs.Effects.{with_underway, bytes_in};
-ghost use Rattle.gt_core.specs.Standing.{Opens, Advances, CoreStands, Settles, IsMapping, IsStartFaultOf, setting_of, begun_element, ticked_element, plain_answer, first_state};
+ghost use Rattle.gt_core.specs.Shown.{shown_at};
+ghost use Rattle.gt_core.specs.Standing.{Opens, Advances, CoreStands, Settles, IsMapping, IsStartFaultOf, WantsMemory, setting_of, begun_element, ticked_element, plain_answer, first_state};
 ghost use Rattle.gt_core.specs.declared.trace.Event.TheVariants.{Begin, Tick};
 
 use crate::action::{Action, Seen, Step, Verdict};
@@ -17,7 +18,7 @@ use crate::request::{Handle, Request, request_fits};
 use crate::sight::see;
 use crate::slot::Open;
 use crate::state::{DomainState, find};
-use crate::trace::{Answer, Bytes, Element, Event, Happened, Item};
+use crate::trace::{Answer, Bytes, Element, Event, Happened, Item, Trace};
 use gt_entry::Entry;
 use gt_types::{Allows, Config, DomId, GrantRef, Memory, StartFault};
 use std::alloc::Global;
@@ -123,6 +124,7 @@ impl<P: Allows> Core<P> {
             × CoreStands (setting_of self.old.config (P.may self.old.rights)) (grown h (begun_element dom request b)) self.new.domains.items) }
         ensures config { self.new.config ≡ self.old.config }
         ensures rights { self.new.rights ≡ self.old.rights }
+        ensures memory { (h : History) → CoreStands (setting_of self.old.config (P.may self.old.rights)) h self.old.domains.items → OnErr result (WantsMemory (setting_of self.old.config (P.may self.old.rights)) h dom request) }
         ensures err { OnErr result (self.new.domains.items ≡ self.old.domains.items) }
     {
         let Some(at) = find(&self.domains, dom) else {
@@ -231,7 +233,9 @@ impl<P: Allows> Core<P> {
     }
 
     /// What an entry of a domain shows: None past the table, or for no domain of the run.
-    pub fn show(&self, dom: DomId, gref: GrantRef) -> Option<Shown> {
+    pub fn show(&self, dom: DomId, gref: GrantRef) -> Option<Shown>
+        ensures { (h : History) → CoreStands (setting_of self.now.config (P.may self.now.rights)) h self.now.domains.items → result ≡ shown_at (setting_of self.now.config (P.may self.now.rights)) h dom gref.0 }
+    {
         let at = find(&self.domains, dom)?;
         let domain = &self.domains[at];
         if gref.0 >= domain.header.entries() {
@@ -296,8 +300,10 @@ pub fn play<P: Allows + Drop>(
     config: Config,
     rights: P,
     events: &[Event],
-) -> Result<Vec<Element>, StartFault>
-    ensures { IfOk result (λ trace. Legal (setting_of config (P.may rights)) events.now trace.items) }
+) -> Result<Trace, StartFault>
+    ensures legal { IfOk result (λ trace. Legal (setting_of config (P.may rights)) events.now trace.items) }
+    ensures fits { IsOk result → IsWithinLimits config }
+    ensures fault { IfErr result (IsStartFaultOf config) }
 {
     let mut core = Core::new(alloc, config, rights)?;
     let mut trace = Vec::new(alloc);
