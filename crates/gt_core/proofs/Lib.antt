@@ -11,6 +11,7 @@ pub mod Seeing
 pub mod FirstRules
 pub mod Placing
 pub mod Owners
+pub mod Short
 pub mod Ticking
 pub mod Others
 pub mod Turning

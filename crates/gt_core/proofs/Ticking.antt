@@ -58,6 +58,9 @@ use Rattle.gt_core.specs.Legal.{Permits, Reaches, MayUse, Justified, IsSafe, Pin
 use Rattle.gt_core.specs.Standing.{IsLawful, IsLawfullyHeld, LegStands, PhaseStands, OpenAgrees, CallAgrees, Agrees, StateAgrees, CoreStands, Advances, state_of}
 use Rattle.gt_core.proofs.Calls.{wants-action, comes-some}
 use Rattle.gt_core.proofs.Places.{has_id, found, state_of-set}
+use Rattle.std.proofs.lemmas.List.{length-append, length-map}
+use Rattle.gt_core.specs.Legal.{most_steps}
+use Rattle.gt_core.proofs.Short.{path-is-short}
 use Rattle.gt_core.proofs.Fitting.{word-shows}
 use Rattle.gt_core.proofs.Quiet.{IsQuiet, quiet-known}
 use Rattle.gt_core.proofs.Beginning.{known-same, quiet-agrees, quiet-stands, place-keeps, open_call-own, stood-own, agrees-found}
@@ -747,6 +750,14 @@ quiet-sound s h d r (Exchange gref looked change) seen q = tt
 quiet-sound s h d r (Unpin dom gref dir holder) seen q = tt
 quiet-sound s h d r (StoreBody gref second word) seen q = tt
 
+-- a call that goes on has made fewer steps than its bound
+goes-soon : (s : Setting) (h : History) (d : DomId) (o : Open) (c : Underway) (seen : Seen) (new : Call) (step : Step) → OpenAgrees s h d o c → Stepping s h d o c seen new (Makes step)
+    → length c.steps + 1 < most_steps c.request
+goes-soon s h d o c seen new step oa p =
+    let short = path-is-short (known_at s h d) d c.request (values c ++ seen ∷ []) step (path-next s h d o c seen new (Makes step) oa p) in
+    let n : length (values c ++ seen ∷ []) ≡ length c.steps + 1 = length-append (values c) (seen ∷ []) ∙ ap (λ (k : ℕ). k + 1) (length-map c.steps (λ (q : Step × Seen). q.1)) in
+    subst (λ (k : ℕ). k < most_steps c.request) n short
+
 -- the step of a call that goes on is right
 pub going-right : (s : Setting) (h : History) (xs : List State) (d : DomId) (o : Open) (c : Underway) (seen : Seen) (new : Call) (step : Step) → CoreStands s h xs → open_call h d.0 ≡ Some c
     → OpenAgrees s h d o c → Stepping s h d o c seen new (Makes step) → IsSafe s h (stepped d o.step seen None) → PinIsSound s h d c.request o.step seen
@@ -760,6 +771,7 @@ going-right s h xs d o c seen new step st call oa p safe sound =
       justified = step-justified s h xs d c.request o.call.phase o.step st p.act;
       safe = safe;
       sound = sound;
+      soon = λ e. goes-soon s h d o c seen new step oa p;
       answered = subst (λ (a : Option Action). AnsweredBy s h d c.request (Some o.step) (verdict_in a) None (stood s (stepped d o.step seen None ∷ h) d.0))
           (sym (path-next s h d o c seen new (Makes step) oa p)) fair;
     }
@@ -891,6 +903,7 @@ quiet-refused s h xs d o c seen new denial st call oa p q =
       justified = step-justified s h xs d c.request o.call.phase o.step st p.act;
       safe = quiet-safe s h d o.step seen (Some (Denied denial)) q;
       sound = quiet-sound s h d c.request o.step seen q;
+      soon = λ e. let f : Some (Denied denial) ≡ None = e in cc;
       answered = subst (λ (a : Option Action). AnsweredBy s h d c.request (Some o.step) (verdict_in a) (Some (Denied denial)) (stood s (stepped d o.step seen (Some (Denied denial)) ∷ h) d.0))
           (sym (path-next s h d o c seen new (Done (Refused denial)) oa p)) (refl, sym against, tt);
     }
