@@ -1,5 +1,5 @@
 -- Names are added one after the other exactly where the statements are clean.
-use Rattle.std.proofs.Common.{◌≡◌, ◌<◌, ◌≤◌, ℕ, ◌+◌, Bool, true, false, cond, List, [], ◌∷◌, ◌++◌, length, Option, Some, None, is_some, Result, Ok, Err, position, refl, sym, ap, ◌∙◌, subst, arith, nat_lt, append_assoc, length-append}
+use Rattle.std.proofs.Common.{◌≡◌, ◌<◌, ◌≤◌, ℕ, ◌+◌, Bool, true, false, cond, List, [], ◌∷◌, ◌++◌, length, Option, Some, None, is_some, Result, Ok, Err, position, refl, sym, ap, ◌∙◌, arith, nat_lt, append_assoc, length-append}
 use Rattle.std.specs.Prelude.{if◌then◌else◌, ◌||◌}
 use Rattle.std.specs.List.{list_any, position_from}
 use Rattle.std.specs.Str.{bytes_eq}
@@ -11,9 +11,9 @@ use Rattle.gt_policy.specs.declared.fault.Kind.TheVariants.{Twice, Limit}
 use Rattle.gt_policy.specs.declared.statements.Statement.{Statement}
 use Rattle.gt_policy.specs.declared.statements.Statement.TheVariants.{DeclareType, DeclareAttribute, GiveAttributes, Allow}
 use Rattle.gt_policy.specs.Names.{Names, no_names, symbol_at, is_declared, with_type, with_attribute, with_allow}
-use Rattle.gt_policy.specs.Grammar.{◌>>=◌, at}
+use Rattle.gt_policy.specs.Grammar.{◌>>=◌}
 use Rattle.gt_policy.specs.Spelling.{types_in, attributes_in, declared_in, allows_in, AreDistinct, AreClean, names_of}
-use Rattle.gt_policy.proofs.TextLemmas.{added, all_added, bind_ok}
+use Rattle.gt_policy.proofs.TextLemmas.{all_added, bind_ok}
 
 abbrev ok_of : {A : Type 0} → A → Result A Fault
 ok_of a = Ok a

@@ -1,8 +1,7 @@
 -- Statements and whole texts: what is read is what is spelled.
-use Rattle.std.proofs.Common.{◌≡◌, ◌<◌, ◌≤◌, ℕ, ◌+◌, zero, suc, Bool, true, false, List, [], ◌∷◌, ◌++◌, length, Option, Some, None, Result, Ok, Err, refl, sym, ap, ◌∙◌, subst, arith, append_assoc}
+use Rattle.std.proofs.Common.{◌≡◌, ◌<◌, ◌≤◌, ℕ, zero, suc, Bool, true, false, List, [], ◌∷◌, ◌++◌, length, Option, Some, None, Result, Ok, Err, refl, sym, ap, ◌∙◌, subst, arith, append_assoc}
 use Rattle.std.specs.Prelude.{if◌then◌else◌}
 use Rattle.std.proofs.lemmas.Option.{same_Some}
-use Rattle.gt_policy.specs.declared.lexer.Token.{Token}
 use Rattle.gt_policy.specs.declared.lexer.Token.TheVariants.{Name, TypeWord, AttributeWord, TypeattributeWord, AllowWord, Colon, Semicolon, End}
 use Rattle.gt_policy.specs.declared.fault.Fault.{Fault}
 use Rattle.gt_policy.specs.declared.fault.Kind.TheVariants.{Outside}
@@ -14,7 +13,7 @@ use Rattle.gt_policy.specs.declared.statements.Statement.{Statement}
 use Rattle.gt_policy.specs.declared.statements.Statement.TheVariants.{DeclareType, DeclareAttribute, GiveAttributes, Allow}
 use Rattle.gt_policy.specs.Names.{Names, with_type, with_attribute, with_allow}
 use Rattle.gt_policy.specs.Grammar.{Lexemes, Reading, ◌>>=◌, at, excluded, type_name, attribute_name, attributes, set_of, colon, semicolon, classes_of, is_grant_alone, perms_of, allow_statement, typeattribute_statement, type_statement, attribute_statement, beside, next_one, statement}
-use Rattle.gt_policy.specs.Spelling.{SpellsSet, SpellsList, SpellsPerms, SpellsStatement, type_of, attribute_of, attributes_of, allow_of, SpellsText, text_end, statement_of}
+use Rattle.gt_policy.specs.Spelling.{SpellsSet, SpellsPerms, SpellsStatement, type_of, attribute_of, attributes_of, allow_of, SpellsText, text_end, statement_of}
 use Rattle.gt_policy.specs.Whole.{Follows, ended, more, wrong}
 use Rattle.gt_policy.proofs.SpellingLemmas.{names_read, names_spelled, names_shorter, set_read, set_spelled, set_shorter, classes_read, classes_spelled, list_shorter, perms_read, perms_spelled, perms_shorter}
 
