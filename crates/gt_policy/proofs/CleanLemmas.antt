@@ -1,5 +1,5 @@
 -- Names are added one after the other exactly where the statements are clean.
-use Rattle.std.proofs.Common.{◌≡◌, ◌<◌, ◌≤◌, ℕ, ◌+◌, Bool, true, false, cond, List, [], ◌∷◌, ◌++◌, length, Option, Some, None, is_some, Result, Ok, Err, position, refl, sym, ap, ◌∙◌, subst, arith, nat_lt, append_assoc, length-append}
+use Rattle.std.proofs.Common.{◌≡◌, ◌<◌, ◌≤◌, ℕ, ◌+◌, Bool, true, false, cond, List, [], ◌∷◌, ◌++◌, length, Option, Some, None, is_some, Result, Ok, Err, position, refl, sym, ap, ◌∙◌, arith, nat_lt, append_assoc, length-append}
 use Rattle.std.specs.Prelude.{if◌then◌else◌, ◌||◌}
 use Rattle.std.specs.List.{list_any, position_from}
 use Rattle.std.specs.Str.{bytes_eq}
@@ -11,9 +11,9 @@ use Rattle.gt_policy.specs.declared.fault.Kind.TheVariants.{Twice, Limit}
 use Rattle.gt_policy.specs.declared.statements.Statement.{Statement}
 use Rattle.gt_policy.specs.declared.statements.Statement.TheVariants.{DeclareType, DeclareAttribute, GiveAttributes, Allow}
 use Rattle.gt_policy.specs.Names.{Names, no_names, symbol_at, is_declared, with_type, with_attribute, with_allow}
-use Rattle.gt_policy.specs.Grammar.{◌>>=◌, at}
+use Rattle.gt_policy.specs.Grammar.{◌>>=◌}
 use Rattle.gt_policy.specs.Spelling.{types_in, attributes_in, declared_in, allows_in, AreDistinct, AreClean, names_of}
-use Rattle.gt_policy.proofs.TextLemmas.{added, all_added, bind_ok}
+use Rattle.gt_policy.proofs.TextLemmas.{all_added, bind_ok}
 
 abbrev ok_of : {A : Type 0} → A → Result A Fault
 ok_of a = Ok a
@@ -97,9 +97,10 @@ right_false false b e = e
 
 new_after : (seen next : Names) (w : List ℕ) (ws : List (List ℕ)) → ((q : List ℕ) → known next q ≡ (known seen q || bytes_eq w q)) → AllNew seen ws → list_any (λ v. bytes_eq w v) ws ≡ false → AllNew next ws
 new_after seen next w [] now new apart = tt
-new_after seen next w (v ∷ ws) now new apart =
-    (now v ∙ or_false (known seen v) (bytes_eq w v) new.0 (left_false (bytes_eq w v) (list_any (λ u. bytes_eq w u) ws) apart),
-    new_after seen next w ws now new.1 (right_false (bytes_eq w v) (list_any (λ u. bytes_eq w u) ws) apart))
+new_after seen next w (v ∷ ws) now new apart = (
+  now v ∙ or_false (known seen v) (bytes_eq w v) new.0 (left_false (bytes_eq w v) (list_any (λ u. bytes_eq w u) ws) apart),
+  new_after seen next w ws now new.1 (right_false (bytes_eq w v) (list_any (λ u. bytes_eq w u) ws) apart),
+)
 
 new_before : (seen next : Names) (w : List ℕ) (ws : List (List ℕ)) → ((q : List ℕ) → known next q ≡ (known seen q || bytes_eq w q)) → AllNew next ws → AllNew seen ws × (list_any (λ v. bytes_eq w v) ws ≡ false)
 new_before seen next w [] now new = (tt, refl)
@@ -215,9 +216,10 @@ old_allow seen (w ∷ ws) new = (new.0, old_allow seen ws new.1)
 
 -- what is added is clean
 added_room : (ss : List Statement) (seen end : Names) → all_added seen ss ≡ Ok end → length seen.types ≤ 256 → length seen.attributes ≤ 256 → seen.allows ≤ 65536 → Room seen ss × (plus_all seen ss ≡ end)
-added_room [] seen end e ft fa fn =
-    (record { distinct = tt; new = tt; types = omega arith; attributes = omega arith; allows = omega arith },
-    same_names (seen.types ++ []) seen.types (seen.attributes ++ []) seen.attributes (seen.allows + 0) seen.allows (append_none seen.types) (append_none seen.attributes) (let e : seen.allows + 0 ≡ seen.allows = omega arith in e) ∙ ok_part seen end e)
+added_room [] seen end e ft fa fn = (
+  record { distinct = tt; new = tt; types = omega arith; attributes = omega arith; allows = omega arith },
+  same_names (seen.types ++ []) seen.types (seen.attributes ++ []) seen.attributes (seen.allows + 0) seen.allows (append_none seen.types) (append_none seen.attributes) (let e : seen.allows + 0 ≡ seen.allows = omega arith in e) ∙ ok_part seen end e,
+)
 added_room (DeclareType w ms ∷ ss) seen end e ft fa fn =
     let b = bind_ok (with_type seen w 0) (λ n. all_added n ss) end e in
     let p = added_type seen b.0 w b.1 in
@@ -226,9 +228,10 @@ added_room (DeclareType w ms ∷ ss) seen end e ft fa fn =
     let few = p.1 in
     let r = added_room ss (plus_type seen w) end here (omega arith) fa fn in
     let t = r.0.types in
-    let old = new_before seen (plus_type seen w) w (declared_in ss) (known_type seen w) r.0.new in
-    (record { distinct = (old.1, r.0.distinct); new = (p.0, old.0); types = omega arith; attributes = r.0.attributes; allows = r.0.allows },
-    sym (ap (λ (xs : List (List ℕ)). names xs (seen.attributes ++ attributes_in ss) (seen.allows + allows_in ss)) (append_assoc seen.types (w ∷ []) (types_in ss))) ∙ r.1)
+    let old = new_before seen (plus_type seen w) w (declared_in ss) (known_type seen w) r.0.new in (
+      record { distinct = (old.1, r.0.distinct); new = (p.0, old.0); types = omega arith; attributes = r.0.attributes; allows = r.0.allows },
+      sym (ap (λ (xs : List (List ℕ)). names xs (seen.attributes ++ attributes_in ss) (seen.allows + allows_in ss)) (append_assoc seen.types (w ∷ []) (types_in ss))) ∙ r.1,
+    )
 added_room (DeclareAttribute w ∷ ss) seen end e ft fa fn =
     let b = bind_ok (with_attribute seen w 0) (λ n. all_added n ss) end e in
     let p = added_attribute seen b.0 w b.1 in
@@ -237,9 +240,10 @@ added_room (DeclareAttribute w ∷ ss) seen end e ft fa fn =
     let few = p.1 in
     let r = added_room ss (plus_attribute seen w) end here ft (omega arith) fn in
     let t = r.0.attributes in
-    let old = new_before seen (plus_attribute seen w) w (declared_in ss) (known_attribute seen w) r.0.new in
-    (record { distinct = (old.1, r.0.distinct); new = (p.0, old.0); types = r.0.types; attributes = omega arith; allows = r.0.allows },
-    sym (ap (λ (xs : List (List ℕ)). names (seen.types ++ types_in ss) xs (seen.allows + allows_in ss)) (append_assoc seen.attributes (w ∷ []) (attributes_in ss))) ∙ r.1)
+    let old = new_before seen (plus_attribute seen w) w (declared_in ss) (known_attribute seen w) r.0.new in (
+      record { distinct = (old.1, r.0.distinct); new = (p.0, old.0); types = r.0.types; attributes = omega arith; allows = r.0.allows },
+      sym (ap (λ (xs : List (List ℕ)). names (seen.types ++ types_in ss) xs (seen.allows + allows_in ss)) (append_assoc seen.attributes (w ∷ []) (attributes_in ss))) ∙ r.1,
+    )
 added_room (GiveAttributes m ms ∷ ss) seen end e ft fa fn =
     let r = added_room ss seen end e ft fa fn in
     (record { distinct = r.0.distinct; new = r.0.new; types = r.0.types; attributes = r.0.attributes; allows = r.0.allows }, r.1)
@@ -249,9 +253,10 @@ added_room (Allow a ∷ ss) seen end e ft fa fn =
     let here : all_added (plus_allow seen) ss ≡ Ok end = ap (λ (q : Names). all_added q ss) p.1 ∙ b.2 in
     let few = p.0 in
     let r = added_room ss (plus_allow seen) end here ft fa (omega arith) in
-    let t = r.0.allows in
-    (record { distinct = r.0.distinct; new = old_allow seen (declared_in ss) r.0.new; types = r.0.types; attributes = r.0.attributes; allows = omega arith },
-    ap (λ n. names (seen.types ++ types_in ss) (seen.attributes ++ attributes_in ss) n) (let e : seen.allows + (allows_in ss + 1) ≡ seen.allows + 1 + allows_in ss = omega arith in e) ∙ r.1)
+    let t = r.0.allows in (
+      record { distinct = r.0.distinct; new = old_allow seen (declared_in ss) r.0.new; types = r.0.types; attributes = r.0.attributes; allows = omega arith },
+      ap (λ n. names (seen.types ++ types_in ss) (seen.attributes ++ attributes_in ss) n) (let e : seen.allows + (allows_in ss + 1) ≡ seen.allows + 1 + allows_in ss = omega arith in e) ∙ r.1,
+    )
 
 none_known : (ws : List (List ℕ)) → AllNew no_names ws
 none_known [] = tt
@@ -267,6 +272,7 @@ clean_added ss c =
 pub added_clean : (ss : List Statement) (end : Names) → all_added no_names ss ≡ Ok end → AreClean ss × (names_of ss ≡ end)
 added_clean ss end e =
     let r = added_room ss no_names end e (omega arith) (omega arith) (omega arith) in
-    let t = r.0.types in let a = r.0.attributes in let n = r.0.allows in
-    (record { distinct = r.0.distinct; few_types = omega arith; few_attributes = omega arith; few_allows = omega arith },
-    sym (ap (λ k. names (types_in ss) (attributes_in ss) k) (let e : 0 + allows_in ss ≡ allows_in ss = omega arith in e)) ∙ r.1)
+    let t = r.0.types in let a = r.0.attributes in let n = r.0.allows in (
+      record { distinct = r.0.distinct; few_types = omega arith; few_attributes = omega arith; few_allows = omega arith },
+      sym (ap (λ k. names (types_in ss) (attributes_in ss) k) (let e : 0 + allows_in ss ≡ allows_in ss = omega arith in e)) ∙ r.1,
+    )

@@ -1,9 +1,8 @@
 -- What statements grant by names is what a policy allows by numbers.
-use Rattle.std.proofs.Common.{◌≡◌, ℕ, ◌==◌, ◌||◌, ◌&&◌, Bool, true, false, List, [], ◌∷◌, ◌++◌, Option, Some, None, Result, Ok, Err, refl, sym, ap, ◌∙◌, subst, arith, rules, position, get_or}
+use Rattle.std.proofs.Common.{◌≡◌, ℕ, ◌==◌, ◌||◌, ◌&&◌, Bool, true, false, List, [], ◌∷◌, ◌++◌, Option, Some, None, Result, Ok, Err, refl, sym, ap, ◌∙◌, arith, position, get_or}
 use Rattle.std.specs.Prelude.{not}
 use Rattle.std.specs.List.{list_any}
 use Rattle.std.specs.Str.{bytes_eq}
-use Rattle.std.proofs.lemmas.Bool.{false≢true}
 use Rattle.std.proofs.lemmas.Bool.Decides.{nat_tests}
 use Rattle.std.proofs.lemmas.Option.{same_Some, none-some}
 use Rattle.std.proofs.lemmas.List.Folds.{list_any-append}
@@ -348,7 +347,7 @@ allowed_granted ss m s t w i j perm e is_s is_t is_w =
     let names : Names = names_of ss in
     let r = meaning_ok names (resolved names nothing_given ss) m e in
     let types : (v : List ℕ) (k : TypeId) → type_named m.types v ≡ Some k → symbol_of names v ≡ Some (IsType k.0) =
-        λ v k is. type_at names.types names.attributes v (position (λ t. bytes_eq t v) names.types) (position (λ a. bytes_eq a v) names.attributes) k (ap (λ (ts : List (List ℕ)). type_named ts v) (sym r.2) ∙ is) in
+    λ v k is. type_at names.types names.attributes v (position (λ t. bytes_eq t v) names.types) (position (λ a. bytes_eq a v) names.attributes) k (ap (λ (ts : List (List ℕ)). type_named ts v) (sym r.2) ∙ is) in
     let knows : Knows names ss (was_given r.0.given) = record {
       given = λ aw v a n is_a is_v. statements_given names aw v a n is_a is_v ss nothing_given r.0 r.1;
       none = λ v u k is. statements_none names v u k is ss nothing_given r.0 r.1;

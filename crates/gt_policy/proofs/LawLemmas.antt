@@ -1,5 +1,5 @@
 -- What the definitions of whole texts come to.
-use Rattle.std.proofs.Common.{◌≡◌, ◌<◌, ◌≤◌, ◌⊎◌, inl, inr, ℕ, Bool, true, false, List, [], ◌∷◌, ◌++◌, length, Result, Ok, Err, refl, sym, ap, ◌∙◌, subst, arith, nat_lt, append_assoc}
+use Rattle.std.proofs.Common.{◌≡◌, ◌<◌, ◌≤◌, ◌⊎◌, inl, inr, ℕ, Bool, true, false, List, [], ◌∷◌, ◌++◌, length, Result, Ok, Err, refl, sym, ap, ◌∙◌, subst, arith, nat_lt}
 use Rattle.std.proofs.lemmas.Bool.Decides.{nat_tests}
 use Rattle.gt_policy.specs.declared.fault.Fault.{Fault}
 use Rattle.gt_policy.specs.declared.fault.Kind.TheVariants.{Limit}
@@ -7,7 +7,7 @@ use Rattle.gt_policy.specs.declared.statements.Statement.{Statement}
 use Rattle.gt_policy.specs.Lexing.{lexemes_of}
 use Rattle.gt_policy.specs.Names.{Names, no_names}
 use Rattle.gt_policy.specs.Grammar.{Lexemes, statement, at, ◌>>=◌}
-use Rattle.gt_policy.specs.Spelling.{SpellsText, AreClean, names_of}
+use Rattle.gt_policy.specs.Spelling.{names_of}
 use Rattle.gt_policy.specs.Allowing.{Meaning}
 use Rattle.gt_policy.specs.Resolving.{resolved, nothing_given}
 use Rattle.gt_policy.specs.Whole.{Follows, ended, more, wrong, Says, too_long, clean, faulty, meaning_of}

@@ -1,5 +1,5 @@
 -- Statements with sets of types.
-use Rattle.std.proofs.Common.{◌≡◌, ◌≢◌, ℕ, ◌+◌, ◌<◌, ◌==◌, ◌||◌, ◌&&◌, Bool, true, false, List, [], length, take, set, get_or, replicate, refl, sym, ap, ◌∙◌, arith, rules, cond, nat_lt, ◌≤◌, ◌-◌}
+use Rattle.std.proofs.Common.{◌≡◌, ◌≢◌, ℕ, ◌+◌, ◌<◌, ◌==◌, ◌||◌, ◌&&◌, Bool, true, false, List, length, take, set, get_or, replicate, refl, sym, ap, ◌∙◌, arith, rules, cond, nat_lt, ◌≤◌, ◌-◌}
 use Rattle.std.specs.Prelude.{not}
 use Rattle.std.specs.List.{list_any}
 use Rattle.std.proofs.lemmas.Bool.{false≢true}

@@ -1,9 +1,8 @@
 -- What the readers take is what the grammar spells, and the other way round.
-use Rattle.std.proofs.Common.{◌≡◌, ◌<◌, ◌≤◌, ℕ, ◌+◌, Bool, true, false, List, [], ◌∷◌, ◌++◌, length, Option, Some, None, Result, Ok, Err, refl, sym, ap, ◌∙◌, subst, arith}
+use Rattle.std.proofs.Common.{◌≡◌, ◌<◌, ℕ, Bool, true, false, List, [], ◌∷◌, length, Result, Ok, Err, refl, sym, ap, ◌∙◌, subst, arith}
 use Rattle.std.specs.Prelude.{if◌then◌else◌, ◌||◌}
 use Rattle.std.specs.List.{list_any}
-use Rattle.gt_policy.specs.declared.lexer.Token.{Token}
-use Rattle.gt_policy.specs.declared.lexer.Token.TheVariants.{Name, TypeWord, AttributeWord, TypeattributeWord, AllowWord, SelfWord, Open, Close, Colon, Semicolon, Comma, Minus, Star, End}
+use Rattle.gt_policy.specs.declared.lexer.Token.TheVariants.{Name, SelfWord, Open, Close, Semicolon, Comma, Minus, Star}
 use Rattle.gt_policy.specs.declared.fault.Fault.{Fault}
 use Rattle.gt_policy.specs.declared.fault.Kind.TheVariants.{Syntax, Outside, Permission}
 use Rattle.gt_policy.specs.declared.statements.Mention.{Mention}
@@ -11,7 +10,7 @@ use Rattle.gt_policy.specs.declared.statements.Item.{Item}
 use Rattle.gt_policy.specs.declared.statements.Item.TheVariants.{With, Without, Itself}
 use Rattle.gt_policy.specs.declared.statements.Permissions.{Permissions}
 use Rattle.gt_policy.specs.declared.statements.Permissions.TheVariants.{Every, Named}
-use Rattle.gt_policy.specs.Grammar.{Lexemes, Reading, at, before, excluded, misfit_name, attributes, set_in_braces, set_of, classes_in_braces, classes_of, is_refused, perms_in_braces, as_named, perms_of}
+use Rattle.gt_policy.specs.Grammar.{Lexemes, Reading, at, before, excluded, attributes, set_in_braces, set_of, classes_in_braces, classes_of, is_refused, perms_in_braces, as_named, perms_of}
 use Rattle.gt_policy.specs.Spelling.{SpellsNames, no_more, one_more, a_name, SpellsItems, items_end, with, without, itself, SpellsSet, one_name, one_self, set_in, SpellsWords, words_end, a_word, SpellsList, one_word, list_in, SpellsPerms, every, names}
 
 abbrev ok_of : {A : Type 0} → A → Result A Fault

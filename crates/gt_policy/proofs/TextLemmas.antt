@@ -1,8 +1,7 @@
 -- Statements and whole texts: what is read is what is spelled.
-use Rattle.std.proofs.Common.{◌≡◌, ◌<◌, ◌≤◌, ℕ, ◌+◌, zero, suc, Bool, true, false, List, [], ◌∷◌, ◌++◌, length, Option, Some, None, Result, Ok, Err, refl, sym, ap, ◌∙◌, subst, arith, append_assoc}
+use Rattle.std.proofs.Common.{◌≡◌, ◌<◌, ◌≤◌, ℕ, zero, suc, Bool, true, false, List, [], ◌∷◌, ◌++◌, length, Option, Some, None, Result, Ok, Err, refl, sym, ap, ◌∙◌, subst, arith, append_assoc}
 use Rattle.std.specs.Prelude.{if◌then◌else◌}
 use Rattle.std.proofs.lemmas.Option.{same_Some}
-use Rattle.gt_policy.specs.declared.lexer.Token.{Token}
 use Rattle.gt_policy.specs.declared.lexer.Token.TheVariants.{Name, TypeWord, AttributeWord, TypeattributeWord, AllowWord, Colon, Semicolon, End}
 use Rattle.gt_policy.specs.declared.fault.Fault.{Fault}
 use Rattle.gt_policy.specs.declared.fault.Kind.TheVariants.{Outside}
@@ -14,7 +13,7 @@ use Rattle.gt_policy.specs.declared.statements.Statement.{Statement}
 use Rattle.gt_policy.specs.declared.statements.Statement.TheVariants.{DeclareType, DeclareAttribute, GiveAttributes, Allow}
 use Rattle.gt_policy.specs.Names.{Names, with_type, with_attribute, with_allow}
 use Rattle.gt_policy.specs.Grammar.{Lexemes, Reading, ◌>>=◌, at, excluded, type_name, attribute_name, attributes, set_of, colon, semicolon, classes_of, is_grant_alone, perms_of, allow_statement, typeattribute_statement, type_statement, attribute_statement, beside, next_one, statement}
-use Rattle.gt_policy.specs.Spelling.{SpellsSet, SpellsList, SpellsPerms, SpellsStatement, type_of, attribute_of, attributes_of, allow_of, SpellsText, text_end, statement_of}
+use Rattle.gt_policy.specs.Spelling.{SpellsSet, SpellsPerms, SpellsStatement, type_of, attribute_of, attributes_of, allow_of, SpellsText, text_end, statement_of}
 use Rattle.gt_policy.specs.Whole.{Follows, ended, more, wrong}
 use Rattle.gt_policy.proofs.SpellingLemmas.{names_read, names_spelled, names_shorter, set_read, set_spelled, set_shorter, classes_read, classes_spelled, list_shorter, perms_read, perms_spelled, perms_shorter}
 
@@ -101,8 +100,8 @@ type_read n seen ls s next rest e =
     let b3 = bind_ok (attributes true false b1.0.1) (λ ms. type_end m.name b2.0 ms) ((s, next), rest) b2.2 in
     let front = type_name_read true ls b1.0 b1.1 in
     let spelled : SpellsStatement (DeclareType m.name b3.0.0) ((TypeWord, n) ∷ ls) b3.0.1 =
-        subst (λ (l : Lexemes). SpellsStatement (DeclareType m.name b3.0.0) ((TypeWord, n) ∷ l) b3.0.1) (sym front.0)
-        (type_of m.name b3.0.0 n m.line b1.0.1 b3.0.1 front.1 (names_read true false b1.0.1 b3.0.0 b3.0.1 b3.1)) in
+    subst (λ (l : Lexemes). SpellsStatement (DeclareType m.name b3.0.0) ((TypeWord, n) ∷ l) b3.0.1) (sym front.0)
+    (type_of m.name b3.0.0 n m.line b1.0.1 b3.0.1 front.1 (names_read true false b1.0.1 b3.0.0 b3.0.1 b3.1)) in
     subst (λ (q : (Statement × Names) × Lexemes). SpellsStatement q.0.0 ((TypeWord, n) ∷ ls) q.1 × (added seen q.0.0 ≡ Ok q.0.1)) (ok_part ((DeclareType m.name b3.0.0, b2.0), b3.0.1) ((s, next), rest) b3.2)
     (spelled, type_at_line seen b2.0 m.name m.line 0 b2.1)
 
@@ -123,7 +122,7 @@ attribute_read n seen ls s next rest e =
     let mark = semicolon_read b1.0.1 b3.0 b3.1 in
     let front = attribute_name_read ls b1.0 b1.1 ∙ ap (λ l. (Name m.name, m.line) ∷ l) mark.1 in
     let spelled : SpellsStatement (DeclareAttribute m.name) ((AttributeWord, n) ∷ ls) b3.0 =
-        subst (λ (l : Lexemes). SpellsStatement (DeclareAttribute m.name) ((AttributeWord, n) ∷ l) b3.0) (sym front) (attribute_of m.name n m.line mark.0 b3.0) in
+    subst (λ (l : Lexemes). SpellsStatement (DeclareAttribute m.name) ((AttributeWord, n) ∷ l) b3.0) (sym front) (attribute_of m.name n m.line mark.0 b3.0) in
     subst (λ (q : (Statement × Names) × Lexemes). SpellsStatement q.0.0 ((AttributeWord, n) ∷ ls) q.1 × (added seen q.0.0 ≡ Ok q.0.1)) (ok_part ((DeclareAttribute m.name, b2.0), b3.0) ((s, next), rest) b3.2)
     (spelled, attribute_at_line seen b2.0 m.name m.line 0 b2.1)
 
@@ -139,7 +138,7 @@ attributes_read n seen ls s rest e =
     let b2 = bind_ok (attributes false true b1.0.1) (λ ms. attributes_end m ms) (s, rest) b1.2 in
     let front = type_name_read false ls b1.0 b1.1 in
     let spelled : SpellsStatement (GiveAttributes m b2.0.0) ((TypeattributeWord, n) ∷ ls) b2.0.1 =
-        subst (λ (l : Lexemes). SpellsStatement (GiveAttributes m b2.0.0) ((TypeattributeWord, n) ∷ l) b2.0.1) (sym front.0) (attributes_of m b2.0.0 n b1.0.1 b2.0.1 (names_read false true b1.0.1 b2.0.0 b2.0.1 b2.1)) in
+    subst (λ (l : Lexemes). SpellsStatement (GiveAttributes m b2.0.0) ((TypeattributeWord, n) ∷ l) b2.0.1) (sym front.0) (attributes_of m b2.0.0 n b1.0.1 b2.0.1 (names_read false true b1.0.1 b2.0.0 b2.0.1 b2.1)) in
     subst (λ (q : Statement × Lexemes). SpellsStatement q.0 ((TypeattributeWord, n) ∷ ls) q.1 × (added seen q.0 ≡ Ok seen)) (ok_part (GiveAttributes m b2.0.0, b2.0.1) (s, rest) b2.2) (spelled, refl)
 
 -- "allow" ..
@@ -176,7 +175,7 @@ allow_read n ls s rest e =
     let same = ok_part (Allow a, b6.0) (s, rest) b6.2 in
     let target : SpellsSet true b2.0.0 b1.0.1 ((Colon, mark.0) ∷ b3.0) = subst (λ (l : Lexemes). SpellsSet true b2.0.0 b1.0.1 l) mark.1 (set_read true b1.0.1 b2.0.0 b2.0.1 b2.1) in
     let perms : SpellsPerms (is_grant_alone b4.0.0) b5.0.0 b4.0.1 ((Semicolon, last.0) ∷ b6.0) =
-        subst (λ (l : Lexemes). SpellsPerms (is_grant_alone b4.0.0) b5.0.0 b4.0.1 l) last.1 (perms_read (is_grant_alone b4.0.0) b4.0.1 b5.0.0 b5.0.1 b5.1) in
+    subst (λ (l : Lexemes). SpellsPerms (is_grant_alone b4.0.0) b5.0.0 b4.0.1 l) last.1 (perms_read (is_grant_alone b4.0.0) b4.0.1 b5.0.0 b5.0.1 b5.1) in
     let spelled : SpellsStatement (Allow a) ((AllowWord, n) ∷ ls) b6.0 = allow_of a n mark.0 last.0 ls b1.0.1 b3.0 b4.0.1 b6.0 (set_read false ls b1.0.0 b1.0.1 b1.1) target (classes_read b3.0 b4.0.0 b4.0.1 b4.1) perms in
     (a, sym (ap (λ q. q.0) same), subst (λ (l : Lexemes). SpellsStatement (Allow a) ((AllowWord, n) ∷ ls) l) (ap (λ q. q.1) same) spelled)
 

@@ -1,10 +1,9 @@
 -- Which texts are policies, and what they mean, without a reader.
-use Rattle.std.specs.Prelude.{◌≡◌, ℕ, ◌<◌, ◌≤◌, List, [], ◌∷◌, ◌++◌, length, Result, Ok, Err}
+use Rattle.std.specs.Prelude.{◌≡◌, ℕ, ◌≤◌, List, [], ◌∷◌, length, Result, Err}
 use Rattle.gt_policy.specs.declared.fault.Fault.{Fault}
-use Rattle.gt_policy.specs.declared.fault.Kind.TheVariants.{Limit}
 use Rattle.gt_policy.specs.declared.statements.Statement.{Statement}
 use Rattle.gt_policy.specs.Lexing.{lexemes_of}
-use Rattle.gt_policy.specs.Grammar.{Lexemes, statement, at}
+use Rattle.gt_policy.specs.Grammar.{Lexemes, statement}
 use Rattle.gt_policy.specs.Spelling.{SpellsStatement, SpellsText, AreClean, names_of}
 use Rattle.gt_policy.specs.Allowing.{Meaning}
 use Rattle.gt_policy.specs.Resolving.{resolved, nothing_given}

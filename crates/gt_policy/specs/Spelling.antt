@@ -1,8 +1,7 @@
 -- The grammar of a policy text: how statements are spelled. `Spells.. x ls rest` says that the tokens ls begin with a spelling of x and go on with rest.
-use Rattle.std.specs.Prelude.{◌≡◌, ◌≤◌, ℕ, ◌+◌, Bool, true, false, List, [], ◌∷◌, ◌++◌, length}
+use Rattle.std.specs.Prelude.{◌≡◌, ◌≤◌, ℕ, ◌+◌, Bool, true, false, List, [], ◌∷◌, length}
 use Rattle.std.specs.List.{list_any}
 use Rattle.std.specs.Str.{bytes_eq}
-use Rattle.gt_policy.specs.declared.lexer.Token.{Token}
 use Rattle.gt_policy.specs.declared.lexer.Token.TheVariants.{Name, TypeWord, AttributeWord, TypeattributeWord, AllowWord, SelfWord, Open, Close, Colon, Semicolon, Comma, Minus, Star, End}
 use Rattle.gt_policy.specs.declared.statements.Mention.{Mention}
 use Rattle.gt_policy.specs.declared.statements.Item.{Item}

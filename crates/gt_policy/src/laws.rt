@@ -16,15 +16,13 @@ ghost use Rattle.gt_types.specs.declared.perms.Perms.{Perms};
 /// Every text says something: a policy or a fault.
 pub fn every_text_says_something()
     ensures { (text : List ℕ) → (said : Result Meaning Fault) × Says text said }
-{
-}
+{}
 
 /// A text says one thing: a policy or a fault, and one alone.
 pub fn one_meaning()
     ensures { (text : List ℕ) (one other : Result Meaning Fault) →
         Says text one → Says text other → one ≡ other }
-{
-}
+{}
 
 /// A text is a policy exactly where its tokens are spelled by clean statements whose names all stand
 /// for something, and it then means what they mean. Where a name of such statements stands for
@@ -34,19 +32,17 @@ pub fn written_texts()
         (ss : List Statement) × IsWritten text ss × (meant_by ss ≡ Ok m) }
     ensures written { (text : List ℕ) (ss : List Statement) →
         IsWritten text ss → Says text (meant_by ss) }
-{
-}
+{}
 
 /// The fault of a text is that it is too long, or that of its first statement that is none, or that
 /// of the first name that stands for nothing in a text of clean statements.
 pub fn first_faults()
     ensures faulty { (text : List ℕ) (f : Fault) → Says text (Err f) →
         ((1048576 < length text) × (at 1 Kind.Limit ≡ f))
-            ⊎ (IsBroken text f
-                ⊎ ((ss : List Statement) × IsWritten text ss × (meant_by ss ≡ Err f))) }
+        ⊎ (IsBroken text f
+        ⊎ ((ss : List Statement) × IsWritten text ss × (meant_by ss ≡ Err f))) }
     ensures broken { (text : List ℕ) (f : Fault) → IsBroken text f → Says text (Err f) }
-{
-}
+{}
 
 /// A policy allows what the statements of its text grant, by the names that stand in them: some allow
 /// statement whose classes hold `grant` lists the permission or `*`, its source set holds the source,
@@ -59,5 +55,4 @@ pub fn granted_by_statements()
     ensures listed { (classes : List (List ℕ)) (perms : Permissions) (w : List ℕ) (perm : Perms) →
         permission_of w ≡ Some perm →
         lists_perm (granted classes perms) perm ≡ (has_grant classes && lists_word perms w) }
-{
-}
+{}

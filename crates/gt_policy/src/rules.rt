@@ -134,7 +134,7 @@ impl Members {
     pub fn rules(&self, alloc: Global, drafts: &[DraftRule]) -> Result<Vec<Rule>, AllocError>
         ensures { IfOk result (λ rules. (s t : ℕ) (perm : Perms) →
             some_grants rules.items s t perm
-                ≡ list_any (λ draft. is_granted_by (has self.now) s t perm draft) drafts.now) }
+            ≡ list_any (λ draft. is_granted_by (has self.now) s t perm draft) drafts.now) }
     {
         let mut rules = Vec::new(alloc);
         for draft in drafts {

@@ -139,7 +139,8 @@ fn many_allows(rt: HostRuntime) -> Result<(), Fail> {
     Ok(())
 }
 
-const ROW: &str = "attribute domain;\ntype dom0_t, domain;\ntype domU_t, domain;\nallow { domain -dom0_t } domain:grant { map_read copy };\nallow dom0_t self:grant query;\n";
+const ROW: &str =
+    "attribute domain;\ntype dom0_t, domain;\ntype domU_t, domain;\nallow { domain -dom0_t } domain:grant { map_read copy };\nallow dom0_t self:grant query;\n";
 
 #[test]
 fn types_of_names(rt: HostRuntime) -> Result<(), Fail> {
@@ -158,9 +159,15 @@ fn targets(rt: HostRuntime) -> Result<(), Fail> {
     let both = TypeSet::empty().with(0).with(1);
     assert_eq!(rt; policy.targets(TypeId(1), Perms::COPY), both);
     assert_eq!(rt; policy.targets(TypeId(0), Perms::COPY), TypeSet::empty());
-    assert_eq!(rt; policy.targets(TypeId(0), Perms::QUERY), both.without(TypeSet::empty().with(1)));
+    assert_eq!(rt;
+        policy.targets(TypeId(0), Perms::QUERY),
+        both.without(TypeSet::empty().with(1))
+    );
     assert_eq!(rt; policy.targets(TypeId(300), Perms::COPY), TypeSet::empty());
-    assert_eq!(rt; TypeSet::empty().with(200).union(both).contains(TypeId(200)), true);
+    assert_eq!(rt;
+        TypeSet::empty().with(200).union(both).contains(TypeId(200)),
+        true
+    );
     Ok(())
 }
 

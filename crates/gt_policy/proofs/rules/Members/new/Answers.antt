@@ -1,4 +1,4 @@
-use Rattle.std.proofs.Common.{refl, arith, ap, ◌∙◌, length, length-set}
+use Rattle.std.proofs.Common.{refl, arith, ◌∙◌, length-set}
 use Rattle.gt_policy.specs.declared.resolve.Given.{Given}
 use Rattle.gt_policy.proofs.RuleLemmas.{gives_more, gives_none}
 use Rattle.gt_policy.proofs.rules.Members.new.Goals as goal
