@@ -10,6 +10,8 @@
 
 mod board;
 mod start;
+#[cfg(test)]
+mod tests;
 mod view;
 mod words;
 
