@@ -174,3 +174,10 @@ call_ticked s t h dom request x mid new (Ok outcome) same none told ticks =
     let known = subst (λ (q : Setting). (g : History) → CoreStands q g mid → TicksTo q g dom new outcome) same ticks in
     call_with_ticks s h dom request x mid new outcome none told (known (grown h x) told.1)
 call_ticked s t h dom request x mid new (Err e) same none told ticks = tt
+
+-- a beginning that answers nothing
+pub quiet_beginning : (dom : DomId) (request : Request) (said : Begun) → ((a : Answer) → said ≡ begun.Done a → ⊥) → answer_in (begun_element dom request said) ≡ None
+quiet_beginning dom request begun.Open other = refl
+quiet_beginning dom request (begun.Done answer) other = absurd (other answer refl)
+quiet_beginning dom request begun.Busy other = refl
+quiet_beginning dom request begun.NoDomain other = refl

@@ -133,7 +133,7 @@ fn run_call<P: Allows>(core: &mut Core<P>, dom: DomId, request: Request) -> Resu
     match core.begin(dom, request)? {
         Begun::Done(answer) => Ok(Outcome::Answered(answer)),
         Begun::Busy => Ok(Outcome::Busy),
-        Begun::Open | Begun::NoDomain => tick_to_answer(core, dom),
+        _ => tick_to_answer(core, dom),
     }
 }
 

@@ -1,5 +1,4 @@
 use Rattle.std.proofs.Common.{◌≡◌, refl, ◌∙◌, arith}
-use Rattle.gt_host.specs.declared.outcome.TheConstants.{MOST_TICKS}
 use Rattle.gt_host.proofs.RunLemmas.{same_setting, no_tick, tick_more, tick_last, tick_none}
 use Rattle.gt_host.proofs.run.tick_to_answer.Goals as goal
 
@@ -19,5 +18,5 @@ returns-in-Done-clause-ticks g c = λ h stands.
 
 pub returns-clause-ticks : goal.returns-clause-ticks
 returns-clause-ticks g c = λ h stands.
-    let all : c.ticks.counter ≡ MOST_TICKS = ? in
+    let all : c.ticks.counter ≡ 71 = omega arith in
     tick_none _ h c.args.dom _ _ all (c.ticks.invariant.2 h stands)
