@@ -19,7 +19,7 @@ Keeps-same (Some xs) = refl
 
 -- nothing went out
 pub nothing_begun : (said : Result Contents script.Fault) (old new : Option (List ℕ)) → Keeps old new → Begins said old new
-nothing_begun (Ok c) old new kept = (0, at_start, refl, Keeps-begins old new [] kept)
+nothing_begun (Ok c) old new kept = (0, at_start, (refl, tt), Keeps-begins old new [] kept)
 nothing_begun (Err fault) old new kept = kept
 
 -- there is no script, and nothing went out

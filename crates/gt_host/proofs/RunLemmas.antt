@@ -1,52 +1,183 @@
-use Rattle.std.proofs.Common.{◌≡◌, ◌⊎◌, ℕ, ◌+◌, List, [], ◌∷◌, ◌++◌, length, Option, Some, None, Result, Ok, Err, IfOk, refl, ap, sym, ◌∙◌, arith, length-append}
+use Rattle.std.proofs.Common.{◌≡◌, ◌≤◌, ℕ, ◌+◌, Bool, List, [], ◌∷◌, ◌++◌, length, replicate, Option, Some, None, Result, Ok, Err, IfOk, refl, ap, sym, subst, ◌∙◌, arith, add-one, length-append, zero, suc}
+use Rattle.std.proofs.lemmas.Grind.{replicate_next}
 use Rattle.gt_types.specs.declared.DomId.{DomId}
+use Rattle.gt_types.specs.declared.TypeId.{TypeId}
+use Rattle.gt_types.specs.declared.perms.Perms.{Perms}
+use Rattle.gt_types.specs.declared.config.Config.{Config}
+use Rattle.gt_core.specs.History.{History, Setting}
+use Rattle.gt_core.specs.Legal.{MayDo, grown, LegalAfter, history_after}
+use Rattle.gt_core.specs.Standing.{CoreStands, setting_of, begun_element, ticked_element}
+use Rattle.gt_core.specs.States.{State}
 use Rattle.gt_core.specs.declared.request.Request.{Request}
 use Rattle.gt_core.specs.declared.trace.Answer.{Answer}
-use Rattle.gt_core.specs.declared.trace.Happened.TheVariants.{Began, Stepped}
+use Rattle.gt_core.specs.declared.trace.Event.{Event}
+use Rattle.gt_core.specs.declared.trace.Event.TheVariants.{Begin, Tick}
 use Rattle.gt_core.specs.declared.trace.Element.{Element}
-use Rattle.gt_core.specs.declared.trace.Element.TheVariants as elements
+use Rattle.gt_core.specs.declared.action.Seen.{Seen}
+use Rattle.gt_core.specs.declared.action.Step.{Step}
+use Rattle.gt_core.specs.declared.core_state.Begun.{Begun}
+use Rattle.gt_core.specs.declared.core_state.Begun.TheVariants as begun
 use Rattle.gt_core.specs.declared.core_state.Ticked.{Ticked}
 use Rattle.gt_core.specs.declared.core_state.Ticked.TheVariants as ticked
 use Rattle.gt_host.specs.declared.outcome.Outcome.{Outcome}
 use Rattle.gt_host.specs.declared.outcome.Outcome.TheVariants.{Answered, Busy, Unanswered}
-use Rattle.gt_host.specs.Runs.{answer_in, AnswerNothing, EndsWith, ComesTo}
-use Rattle.gt_host.specs.Ticking.{EndsCall, TicksTo}
+use Rattle.gt_host.specs.declared.outcome.TheConstants.{MOST_TICKS}
+use Rattle.gt_host.specs.Runs.{answer_in, AnswerNothing, EndsWith, ComesTo, call_events}
+use Rattle.gt_host.specs.Ticking.{Happens, Calls, TicksTo, TicksComeTo}
 
--- what the trace has for a beginning
-abbrev pub begun_element : DomId → Request → Option Answer → Element
-begun_element dom request answer = elements.Item (record { actor = dom; happened = Began request; answer = answer })
+-- the setting of a core is that of one with the same domains and rights
+pub same_setting : {R : Type 0} (may : R → TypeId → TypeId → Perms → Bool) (a b : Config) (x y : R) → a ≡ b → x ≡ y → setting_of a (may x) ≡ setting_of b (may y)
+same_setting {R} may a b x y e f = ap (λ (c : Config). setting_of c (may x)) e ∙ ap (λ (r : R). setting_of b (may r)) f
 
--- what the trace has for a tick
-abbrev pub ticked_element : DomId → Ticked → Element
-ticked_element dom (ticked.Step step seen) = elements.Item (record { actor = dom; happened = Stepped step seen; answer = None })
-ticked_element dom (ticked.Done step seen answer) = elements.Item (record { actor = dom; happened = Stepped step seen; answer = Some answer })
-ticked_element dom ticked.Idle = elements.Idle
-ticked_element dom ticked.NoDomain = elements.NoDomain
+-- histories
+
+history_after-append : (h : History) (xs ys : List Element) → history_after h (xs ++ ys) ≡ history_after (history_after h xs) ys
+history_after-append h [] ys = refl
+history_after-append h (x ∷ xs) ys = history_after-append (grown h x) xs ys
+
+LegalAfter-append : (s : Setting) (h : History) (es : List Event) (xs : List Element) (more : List Event) (ys : List Element)
+    → LegalAfter s h es xs → LegalAfter s (history_after h xs) more ys → LegalAfter s h (es ++ more) (xs ++ ys)
+LegalAfter-append s h [] [] more ys p q = q
+LegalAfter-append s h (e ∷ es) (x ∷ xs) more ys p q = (p.0, LegalAfter-append s (grown h x) es xs more ys p.1 q)
+LegalAfter-append s h [] (x ∷ xs) more ys p q = absurd p
+LegalAfter-append s h (e ∷ es) [] more ys p q = absurd p
+
+-- events, and then others
+pub Happens-append : (s : Setting) (h : History) (es : List Event) (xs : List Element) (more : List Event) (ys : List Element) (mid new : List State)
+    → Happens s h es xs mid → Happens s (history_after h xs) more ys new → Happens s h (es ++ more) (xs ++ ys) new
+Happens-append s h es xs more ys mid new p q = record {
+  legal = LegalAfter-append s h es xs more ys p.legal q.legal;
+  stands = subst (λ (after : History). CoreStands s after new) (sym (history_after-append h xs ys)) q.stands;
+}
+
+-- one event
+pub happens_one : (s : Setting) (h : History) (e : Event) (x : Element) (new : List State) → MayDo s h e x × CoreStands s (grown h x) new → Happens s h (e ∷ []) (x ∷ []) new
+happens_one s h e x new p = record { legal = (p.0, tt); stands = p.1 }
 
 -- elements that answer nothing, and one more
 pub AnswerNothing-append : (trace : List Element) (e : Element) → AnswerNothing trace → answer_in e ≡ None → AnswerNothing (trace ++ e ∷ [])
 AnswerNothing-append [] e quiet none = (none, tt)
 AnswerNothing-append (x ∷ trace) e quiet none = (quiet.0, AnswerNothing-append trace e quiet.1 none)
 
--- the last element answers
-pub ends_with : (before : List Element) (last : Element) (answer : Answer) → AnswerNothing before → answer_in last ≡ Some answer → EndsWith (before ++ last ∷ []) answer
-ends_with before last answer quiet answers = record { before = before; last = last; order = refl; quiet = quiet; answers = answers }
-
 -- a tick that answers nothing
-pub quiet_tick : (dom : DomId) (t : Ticked) → ((a : _) (b : _) (c : _) → t ≡ ticked.Done a b c → ⊥) → answer_in (ticked_element dom t) ≡ None
+quiet_tick : (dom : DomId) (t : Ticked) → ((a : _) (b : _) (c : _) → t ≡ ticked.Done a b c → ⊥) → answer_in (ticked_element dom t) ≡ None
 quiet_tick dom (ticked.Step step seen) other = refl
 quiet_tick dom (ticked.Done step seen answer) other = absurd (other step seen answer refl)
 quiet_tick dom ticked.Idle other = refl
 quiet_tick dom ticked.NoDomain other = refl
 
--- a beginning that answers nothing, and then the ticks
-pub begun_then : (e : Element) → answer_in e ≡ None → (outcome : Outcome) → TicksTo outcome → EndsCall outcome
-begun_then e none (Answered answer) (trace, ends) =
-    (length trace, e ∷ trace, omega arith, record { before = e ∷ ends.before; last = ends.last; order = ap (λ (xs : List Element). e ∷ xs) ends.order; quiet = (none, ends.quiet); answers = ends.answers })
-begun_then e none Busy h = absurd h
-begun_then e none Unanswered (trace, quiet, long) =
-    (length trace, e ∷ trace, omega arith, ((none, quiet), omega (arith, long)))
+-- so many ticks of an open call were made, and none answered
+pub record IsTicking (s : Setting) (h : History) (dom : DomId) (count : ℕ) (domains : List State) : Type 0 where
+  pub trace : List Element
+  pub quiet : AnswerNothing trace
+  pub length_of : length trace ≡ count
+  pub happens : Happens s h (replicate count (Tick dom)) trace domains
 
-pub begun_then_all : {E : Type 0} (e : Element) → answer_in e ≡ None → (r : Result Outcome E) → IfOk r TicksTo → IfOk r EndsCall
-begun_then_all e none (Ok outcome) h = begun_then e none outcome h
-begun_then_all e none (Err error) h = tt
+pub no_tick : (s : Setting) (h : History) (dom : DomId) (domains : List State) → CoreStands s h domains → IsTicking s h dom 0 domains
+no_tick s h dom domains stands = record { trace = []; quiet = tt; length_of = refl; happens = record { legal = tt; stands = stands } }
+
+-- a tick more
+ticked_more : (s : Setting) (h : History) (dom : DomId) (count : ℕ) (mid new : List State) (x : Element) → (u : IsTicking s h dom count mid)
+    → MayDo s (history_after h u.trace) (Tick dom) x × CoreStands s (grown (history_after h u.trace) x) new → Happens s h (replicate (count + 1) (Tick dom)) (u.trace ++ x ∷ []) new
+ticked_more s h dom count mid new x u told =
+    subst (λ (events : List Event). Happens s h events (u.trace ++ x ∷ []) new) (sym (replicate_next count (Tick dom)))
+    (Happens-append s h (replicate count (Tick dom)) u.trace (Tick dom ∷ []) (x ∷ []) mid new u.happens (happens_one s (history_after h u.trace) (Tick dom) x new told))
+
+one_more : (count : ℕ) (trace : List Element) (x : Element) → length trace ≡ count → length (trace ++ x ∷ []) ≡ count + 1
+one_more count trace x e = length-append trace (x ∷ []) ∙ ap (λ (n : ℕ). n + 1) e
+
+pub tick_more : (s t : Setting) (h : History) (dom : DomId) (count : ℕ) (mid new : List State) (said : Ticked) → t ≡ s → ((a : _) (b : _) (c : _) → said ≡ ticked.Done a b c → ⊥)
+    → ((g : History) → CoreStands t g mid → MayDo t g (Tick dom) (ticked_element dom said) × CoreStands t (grown g (ticked_element dom said)) new)
+    → IsTicking s h dom count mid → IsTicking s h dom (count + 1) new
+tick_more s t h dom count mid new said same other told u =
+    let known = subst (λ (q : Setting). (g : History) → CoreStands q g mid → MayDo q g (Tick dom) (ticked_element dom said) × CoreStands q (grown g (ticked_element dom said)) new) same told in
+    record {
+      trace = u.trace ++ ticked_element dom said ∷ [];
+      quiet = AnswerNothing-append u.trace (ticked_element dom said) u.quiet (quiet_tick dom said other);
+      length_of = one_more count u.trace (ticked_element dom said) u.length_of;
+      happens = ticked_more s h dom count mid new (ticked_element dom said) u (known (history_after h u.trace) u.happens.stands);
+    }
+
+-- the tick that answers
+pub tick_last : (s t : Setting) (h : History) (dom : DomId) (count : ℕ) (mid new : List State) (said : Ticked) (step : Step) (seen : Seen) (answer : Answer) → t ≡ s → said ≡ ticked.Done step seen answer
+    → ((g : History) → CoreStands t g mid → MayDo t g (Tick dom) (ticked_element dom said) × CoreStands t (grown g (ticked_element dom said)) new)
+    → IsTicking s h dom count mid → TicksTo s h dom new (Answered answer)
+tick_last s t h dom count mid new said step seen answer same is told u =
+    let known = subst (λ (q : Setting). (g : History) → CoreStands q g mid → MayDo q g (Tick dom) (ticked_element dom said) × CoreStands q (grown g (ticked_element dom said)) new) same told in
+    record {
+      ticks = count + 1;
+      trace = u.trace ++ ticked_element dom said ∷ [];
+      length_of = one_more count u.trace (ticked_element dom said) u.length_of;
+      comes = record { before = u.trace; last = ticked_element dom said; order = refl; quiet = u.quiet; answers = ap (λ (q : Ticked). answer_in (ticked_element dom q)) is };
+      happens = ticked_more s h dom count mid new (ticked_element dom said) u (known (history_after h u.trace) u.happens.stands);
+    }
+
+-- no tick answered
+pub tick_none : (s : Setting) (h : History) (dom : DomId) (count : ℕ) (new : List State) → count ≡ MOST_TICKS → IsTicking s h dom count new → TicksTo s h dom new Unanswered
+tick_none s h dom count new all u = record {
+  ticks = count;
+  trace = u.trace;
+  length_of = u.length_of;
+  comes = (u.quiet, u.length_of ∙ all);
+  happens = u.happens;
+}
+
+-- calls
+
+-- a call that is answered at once
+pub call_done : (s : Setting) (h : History) (dom : DomId) (request : Request) (said : Begun) (answer : Answer) (new : List State) → said ≡ begun.Done answer
+    → MayDo s h (Begin dom request) (begun_element dom request said) × CoreStands s (grown h (begun_element dom request said)) new → Calls s h dom request new (Answered answer)
+call_done s h dom request said answer new is told = record {
+  ticks = 0;
+  trace = begun_element dom request said ∷ [];
+  length_of = refl;
+  comes = record { before = []; last = begun_element dom request said; order = refl; quiet = tt; answers = ap (λ (q : Begun). answer_in (begun_element dom request q)) is };
+  happens = happens_one s h (Begin dom request) (begun_element dom request said) new told;
+}
+
+-- a call that does not begin
+pub call_busy : (s : Setting) (h : History) (dom : DomId) (request : Request) (said : Begun) (new : List State) → said ≡ begun.Busy
+    → MayDo s h (Begin dom request) (begun_element dom request said) × CoreStands s (grown h (begun_element dom request said)) new → Calls s h dom request new Busy
+call_busy s h dom request said new is told = record {
+  ticks = 0;
+  trace = begun_element dom request said ∷ [];
+  length_of = refl;
+  comes = ap (λ (q : Begun). begun_element dom request q ∷ []) is;
+  happens = happens_one s h (Begin dom request) (begun_element dom request said) new told;
+}
+
+comes_after : (x : Element) (trace : List Element) (outcome : Outcome) → answer_in x ≡ None → TicksComeTo trace outcome → ComesTo (x ∷ trace) outcome
+comes_after x trace (Answered answer) none ends = record {
+  before = x ∷ ends.before;
+  last = ends.last;
+  order = ap (λ (xs : List Element). x ∷ xs) ends.order;
+  quiet = (none, ends.quiet);
+  answers = ends.answers;
+}
+comes_after x trace Busy none h = absurd h
+comes_after x trace Unanswered none h = let long = h.1 in ((none, h.0), omega arith)
+
+-- a call that began, and then its ticks
+call_with_ticks : (s : Setting) (h : History) (dom : DomId) (request : Request) (x : Element) (mid new : List State) (outcome : Outcome) → answer_in x ≡ None
+    → MayDo s h (Begin dom request) x × CoreStands s (grown h x) mid → TicksTo s (grown h x) dom new outcome → Calls s h dom request new outcome
+call_with_ticks s h dom request x mid new outcome none told t = record {
+  ticks = t.ticks;
+  trace = x ∷ t.trace;
+  length_of = let long = t.length_of in omega arith;
+  comes = comes_after x t.trace outcome none t.comes;
+  happens = Happens-append s h (Begin dom request ∷ []) (x ∷ []) (replicate t.ticks (Tick dom)) t.trace mid new (happens_one s h (Begin dom request) x mid told) t.happens;
+}
+
+pub call_ticked : {E : Type 0} (s t : Setting) (h : History) (dom : DomId) (request : Request) (x : Element) (mid new : List State) (r : Result Outcome E) → t ≡ s → answer_in x ≡ None
+    → MayDo s h (Begin dom request) x × CoreStands s (grown h x) mid → ((g : History) → CoreStands t g mid → IfOk r (TicksTo t g dom new)) → IfOk r (Calls s h dom request new)
+call_ticked s t h dom request x mid new (Ok outcome) same none told ticks =
+    let known = subst (λ (q : Setting). (g : History) → CoreStands q g mid → TicksTo q g dom new outcome) same ticks in
+    call_with_ticks s h dom request x mid new outcome none told (known (grown h x) told.1)
+call_ticked s t h dom request x mid new (Err e) same none told ticks = tt
+
+-- a beginning that answers nothing
+pub quiet_beginning : (dom : DomId) (request : Request) (said : Begun) → ((a : Answer) → said ≡ begun.Done a → ⊥) → answer_in (begun_element dom request said) ≡ None
+quiet_beginning dom request begun.Open other = refl
+quiet_beginning dom request (begun.Done answer) other = absurd (other answer refl)
+quiet_beginning dom request begun.Busy other = refl
+quiet_beginning dom request begun.NoDomain other = refl

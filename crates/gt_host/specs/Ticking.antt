@@ -1,26 +1,58 @@
--- What the parts of a run do.
-use Rattle.std.specs.Prelude.{◌≡◌, ℕ, ◌+◌, List, ◌++◌, length}
+-- What the parts of a run do, after the items of a history.
+use Rattle.std.specs.Prelude.{◌≡◌, ℕ, ◌+◌, List, ◌++◌, length, replicate}
+use Rattle.gt_types.specs.declared.DomId.{DomId}
 use Rattle.gt_script.specs.declared.script.Step.{Step}
+use Rattle.gt_core.specs.History.{History, Setting}
+use Rattle.gt_core.specs.Legal.{LegalAfter, history_after}
+use Rattle.gt_core.specs.Standing.{CoreStands}
+use Rattle.gt_core.specs.States.{State}
+use Rattle.gt_core.specs.declared.request.Request.{Request}
+use Rattle.gt_core.specs.declared.trace.Event.{Event}
+use Rattle.gt_core.specs.declared.trace.Event.TheVariants.{Tick}
 use Rattle.gt_core.specs.declared.trace.Element.{Element}
 use Rattle.gt_host.specs.declared.labels.Labels.{Labels}
 use Rattle.gt_host.specs.declared.outcome.Outcome.{Outcome}
 use Rattle.gt_host.specs.declared.outcome.Outcome.TheVariants.{Answered, Busy, Unanswered}
 use Rattle.gt_host.specs.declared.outcome.TheConstants.{MOST_TICKS}
 use Rattle.gt_host.specs.Naming.{AreNamed}
-use Rattle.gt_host.specs.Runs.{Named, ComesTo, EndsWith, AnswerNothing, named_after, outcome_text, call_of}
+use Rattle.gt_host.specs.Runs.{Named, ComesTo, EndsWith, AnswerNothing, call_events, call_of, request_of, named_after, outcome_text}
 
--- (own) a call ends so, after a beginning and some ticks
-abbrev pub EndsCall : Outcome → Type 0
-EndsCall outcome = (ticks : ℕ) × (trace : List Element) × (length trace ≡ 1 + ticks) × ComesTo trace outcome
+-- (own) the events did what they may after the history, and the core stands for what they leave
+pub record Happens (s : Setting) (h : History) (events : List Event) (trace : List Element) (domains : List State) : Type 0 where
+  pub legal : LegalAfter s h events trace
+  pub stands : CoreStands s (history_after h trace) domains
+
+-- (own) a call comes to this, by its beginning and some ticks
+pub record Calls (s : Setting) (h : History) (dom : DomId) (request : Request) (domains : List State) (outcome : Outcome) : Type 0 where
+  pub ticks : ℕ
+  pub trace : List Element
+  pub length_of : length trace ≡ 1 + ticks
+  pub comes : ComesTo trace outcome
+  pub happens : Happens s h (call_events dom request ticks) trace domains
+
+-- (own) what ticks of an open call come to: the last one answers, or none of all that a call may take
+abbrev pub TicksComeTo : List Element → Outcome → Type 0
+TicksComeTo trace (Answered answer) = EndsWith trace answer
+TicksComeTo trace Busy = ⊥
+TicksComeTo trace Unanswered = AnswerNothing trace × (length trace ≡ MOST_TICKS)
 
 -- (own) the ticks of an open call come to this
-abbrev pub TicksTo : Outcome → Type 0
-TicksTo (Answered answer) = (trace : List Element) × EndsWith trace answer
-TicksTo Busy = ⊥
-TicksTo Unanswered = (trace : List Element) × AnswerNothing trace × (length trace ≡ MOST_TICKS)
+pub record TicksTo (s : Setting) (h : History) (dom : DomId) (domains : List State) (outcome : Outcome) : Type 0 where
+  pub ticks : ℕ
+  pub trace : List Element
+  pub length_of : length trace ≡ ticks
+  pub comes : TicksComeTo trace outcome
+  pub happens : Happens s h (replicate ticks (Tick dom)) trace domains
 
--- (own) a step was run: its call ended so, its label is named, and its line was appended
-abbrev pub RunsStep : List (List ℕ) → Step → Labels → Labels → List ℕ → List ℕ → Type 0
-RunsStep types s old new before after = (named : List Named) → AreNamed old named →
-    (ticks : ℕ) × (trace : List Element) × (outcome : Outcome) × (length trace ≡ 1 + ticks) × ComesTo trace outcome
-    × AreNamed new (named_after named s.dom (call_of s.action) outcome) × (after ≡ before ++ outcome_text types s outcome)
+-- (own) a step was run: its call came to this outcome, the labels name what they then stand for, and its line was appended
+pub record StepsTo (s : Setting) (h : History) (types : List (List ℕ)) (step : Step) (named : List Named) (domains : List State) (labels : Labels) (before after : List ℕ) : Type 0 where
+  pub outcome : Outcome
+  pub calls : Calls s h step.dom (request_of named step.dom (call_of step.action)) domains outcome
+  pub names : AreNamed labels (named_after named step.dom (call_of step.action) outcome)
+  pub line : after ≡ before ++ outcome_text types step outcome
+
+-- (own) from labels that name what they stand for, and from a core that stands for a history
+abbrev pub RunsStep : Setting → List (List ℕ) → Step → List State → List State → Labels → Labels → List ℕ → List ℕ → Type 0
+RunsStep s types step old_domains new_domains old_labels new_labels before after =
+    (h : History) (named : List Named) → CoreStands s h old_domains → AreNamed old_labels named
+    → StepsTo s h types step named new_domains new_labels before after

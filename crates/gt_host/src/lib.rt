@@ -5,10 +5,10 @@
 //! and a service drive the same code.
 //!
 //! What holds of it: the text that went out is the lines of the answers of a run of the script,
-//! whole where `play` answers Ok; a script with a fault writes nothing, and the fault is the
-//! script's first; after a failed write, or for want of memory, what went out is a beginning of
-//! such a text. It stands on `gt_script` for what a script says and on `gt_core` for what its
-//! calls do.
+//! and what the run did is a legal trace of the core. It is whole where `play` answers Ok; a
+//! script with a fault writes nothing, and the fault is the script's first; after a failed write,
+//! or for want of memory, what went out is a beginning of such a text. It stands on `gt_script`
+//! for what a script says and on `gt_core` for what its calls do.
 #![tactic(auto)]
 
 mod answers;

@@ -2,7 +2,7 @@
 ghost use Rattle.std.specs.Prelude.{◌≡◌, ◌⊎◌, ℕ, List, take, OnOk, OnErr, IfOk, IfErr, IfSome};
 ghost use Rattle.gt_script.specs.Script.{script_in};
 ghost use Rattle.gt_host.specs.declared.fault.Fault.TheVariants as faults;
-ghost use Rattle.gt_host.specs.Playing.{CanStart, WritesRun, BeginsRun, Played};
+ghost use Rattle.gt_host.specs.Playing.{CanStart, StartsFor, WritesRun, BeginsRun, Played};
 
 use crate::fault::Fault;
 use crate::labels::Labels;
@@ -10,14 +10,15 @@ use crate::run::run_step;
 use crate::streams::{finish, read_text, send};
 use gt_core::Core;
 use gt_script::{Script, parse};
-use gt_types::{Allows, Config, StartFault, Triples};
+use gt_types::{Config, StartFault, Triples};
 use std::alloc::Global;
 use std::io::{Read, Write};
 
 // A core with the domains and the rights of the script.
 fn start(alloc: Global, script: &Script) -> Result<Core<Triples>, Fault>
     requires { CanStart script.now }
-    ensures { IfErr result (λ e. e ≡ faults.Memory) }
+    ensures starts { IfOk result (StartsFor script.now) }
+    ensures errors { IfErr result (λ e. e ≡ faults.Memory) }
 {
     let config = Config {
         domains: Vec::from_slice(alloc, script.domains())?,
@@ -34,12 +35,13 @@ fn start(alloc: Global, script: &Script) -> Result<Core<Triples>, Fault>
 }
 
 // Runs the steps of the script, and writes their lines.
-fn write_lines<P: Allows, W: Write>(
+fn write_lines<W: Write>(
     alloc: Global,
-    core: &mut Core<P>,
+    core: &mut Core<Triples>,
     script: &Script,
     writer: &mut W,
 ) -> Result<(), Fault>
+    requires { StartsFor script.now core.old }
     ensures whole { OnOk result (WritesRun script.now (W.contents writer.old) (W.contents writer.new)) }
     ensures beginning { OnErr result (BeginsRun script.now (W.contents writer.old) (W.contents writer.new)) }
     ensures errors { IfErr result (λ e. (e ≡ faults.Memory) ⊎ (e ≡ faults.Write)) }

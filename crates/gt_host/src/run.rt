@@ -1,9 +1,10 @@
 //! The run of a script: its calls, one after the other, on the core.
-ghost use Rattle.std.specs.Prelude.{◌≡◌, ◌∷◌, ◌+◌, ◌++◌, ℕ, List, OnOk, IfOk, IfErr, length};
-ghost use Rattle.gt_core.specs.declared.trace.Element.{Element};
-ghost use Rattle.gt_host.specs.Runs.{Named, entry_of, request_of, named_after, outcome_text, ComesTo, call_of};
+ghost use Rattle.std.specs.Prelude.{◌≡◌, ◌++◌, List, OnOk, IfOk, IfErr};
+ghost use Rattle.gt_core.specs.History.{History};
+ghost use Rattle.gt_core.specs.Standing.{CoreStands, setting_of};
+ghost use Rattle.gt_host.specs.Runs.{Named, entry_of, request_of, named_after, outcome_text};
 ghost use Rattle.gt_host.specs.Naming.{AreNamed};
-ghost use Rattle.gt_host.specs.Ticking.{EndsCall, TicksTo, RunsStep};
+ghost use Rattle.gt_host.specs.Ticking.{Calls, TicksTo, RunsStep};
 ghost use Rattle.gt_host.specs.declared.fault.Fault.TheVariants as faults;
 
 use crate::answers::{push_answer_line, push_busy_line};
@@ -109,7 +110,10 @@ fn name_mapping<'a>(
 
 // Ticks of an open call up to its answer.
 fn tick_to_answer<P: Allows>(core: &mut Core<P>, dom: DomId) -> Result<Outcome, Memory>
-    ensures { IfOk result TicksTo }
+    ensures ticks { (h : History) → CoreStands (setting_of core.old.config (P.may core.old.rights)) h core.old.domains.items →
+        IfOk result (TicksTo (setting_of core.old.config (P.may core.old.rights)) h dom core.new.domains.items) }
+    ensures config { core.new.config ≡ core.old.config }
+    ensures rights { core.new.rights ≡ core.old.rights }
 {
     'ticks: for _ in 0..MOST_TICKS {
         if let Ticked::Done(_, _, answer) = core.tick(dom)? {
@@ -121,12 +125,15 @@ fn tick_to_answer<P: Allows>(core: &mut Core<P>, dom: DomId) -> Result<Outcome, 
 
 // A call, from its beginning to its answer.
 fn run_call<P: Allows>(core: &mut Core<P>, dom: DomId, request: Request) -> Result<Outcome, Memory>
-    ensures { IfOk result EndsCall }
+    ensures calls { (h : History) → CoreStands (setting_of core.old.config (P.may core.old.rights)) h core.old.domains.items →
+        IfOk result (Calls (setting_of core.old.config (P.may core.old.rights)) h dom request core.new.domains.items) }
+    ensures config { core.new.config ≡ core.old.config }
+    ensures rights { core.new.rights ≡ core.old.rights }
 {
     match core.begin(dom, request)? {
         Begun::Done(answer) => Ok(Outcome::Answered(answer)),
         Begun::Busy => Ok(Outcome::Busy),
-        Begun::Open | Begun::NoDomain => tick_to_answer(core, dom),
+        _ => tick_to_answer(core, dom),
     }
 }
 
@@ -158,7 +165,10 @@ pub fn run_step<'a, P: Allows>(
     step: &Step<'a>,
     out: &mut Vec<u8>,
 ) -> Result<(), Fault>
-    ensures runs { OnOk result (RunsStep types.now step.now labels.old labels.new out.old.items out.new.items) }
+    ensures runs { OnOk result (RunsStep (setting_of core.old.config (P.may core.old.rights)) types.now step.now
+        core.old.domains.items core.new.domains.items labels.old labels.new out.old.items out.new.items) }
+    ensures config { core.new.config ≡ core.old.config }
+    ensures rights { core.new.rights ≡ core.old.rights }
     ensures errors { IfErr result (λ e. e ≡ faults.Memory) }
 {
     match &step.action {

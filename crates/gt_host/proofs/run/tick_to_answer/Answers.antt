@@ -1,15 +1,22 @@
-use Rattle.std.proofs.Common.{refl, ap, ◌∙◌, ◌+◌, ◌∷◌, [], ◌++◌, length-append}
-use Rattle.gt_core.specs.declared.core_state.Ticked.TheVariants.{Done}
-use Rattle.gt_host.proofs.RunLemmas.{ticked_element, AnswerNothing-append, ends_with, quiet_tick}
+use Rattle.std.proofs.Common.{◌≡◌, refl, ◌∙◌, arith}
+use Rattle.gt_host.proofs.RunLemmas.{same_setting, no_tick, tick_more, tick_last, tick_none}
 use Rattle.gt_host.proofs.run.tick_to_answer.Goals as goal
 
-pub returns-in-Done : goal.returns-in-Done
-returns-in-Done g c =
-    let before = c.ticks.invariant.0 in
-    (_, ends_with before (ticked_element c.args.dom (Done c.in-Done.field-0 c.in-Done.field-1 c.in-Done.answer)) c.in-Done.answer c.ticks.invariant.1 refl)
+pub ticks-init : goal.ticks-init
+ticks-init g c = (refl, refl, λ h stands. no_tick _ h c.args.dom _ stands)
 
 pub ticks-preserved : goal.ticks-preserved
-ticks-preserved g c =
-    let before = c.ticks.invariant.0 in
-    let last = ticked_element c.args.dom c.in_ok-answer.field-0 in
-    (before ++ last ∷ [], AnswerNothing-append before last c.ticks.invariant.1 (quiet_tick c.args.dom c.in_ok-answer.field-0 c.in_default.not-Done), length-append before (last ∷ []) ∙ ap (λ n. n + 1) c.ticks.invariant.2)
+ticks-preserved g c = (
+  c.tick.ensures.config ∙ c.ticks.invariant.0,
+  c.tick.ensures.rights ∙ c.ticks.invariant.1,
+  λ h stands. tick_more _ _ h c.args.dom _ _ _ c.in_ok-answer.field-0 (same_setting g.P.Allows.may _ _ _ _ c.ticks.invariant.0 c.ticks.invariant.1) c.in_default.not-Done c.in_ok-answer.ensures.stands (c.ticks.invariant.2 h stands),
+)
+
+pub returns-in-Done-clause-ticks : goal.returns-in-Done-clause-ticks
+returns-in-Done-clause-ticks g c = λ h stands.
+    tick_last _ _ h c.args.dom _ _ _ c.in_ok-answer.field-0 c.in-Done.field-0 c.in-Done.field-1 c.in-Done.answer (same_setting g.P.Allows.may _ _ _ _ c.ticks.invariant.0 c.ticks.invariant.1) c.in-Done.is c.in_ok-answer.ensures.stands (c.ticks.invariant.2 h stands)
+
+pub returns-clause-ticks : goal.returns-clause-ticks
+returns-clause-ticks g c = λ h stands.
+    let all : c.ticks.counter ≡ 71 = omega arith in
+    tick_none _ h c.args.dom _ _ all (c.ticks.invariant.2 h stands)

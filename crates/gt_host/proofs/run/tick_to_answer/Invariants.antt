@@ -1,7 +1,11 @@
-use Rattle.std.proofs.Common.{◌≡◌, ℕ, List, length}
-use Rattle.gt_core.specs.declared.trace.Element.{Element}
-use Rattle.gt_host.specs.Runs.{AnswerNothing}
+use Rattle.std.proofs.Common.{◌≡◌}
+use Rattle.gt_core.specs.History.{History}
+use Rattle.gt_core.specs.Standing.{CoreStands, setting_of}
+use Rattle.gt_host.proofs.RunLemmas.{IsTicking}
 use Rattle.gt_host.proofs.run.tick_to_answer.Given as goal
 
 abbrev pub invariant-ticks : goal.invariant-ticks
-invariant-ticks g l = (trace : List Element) × AnswerNothing trace × (length trace ≡ l.counter)
+invariant-ticks g l =
+    (l.core.config ≡ l.initial.core.config) × (l.core.rights ≡ l.initial.core.rights)
+    × ((h : History) → CoreStands (setting_of l.initial.core.config (g.P.Allows.may l.initial.core.rights)) h l.initial.core.domains.items
+    → IsTicking (setting_of l.initial.core.config (g.P.Allows.may l.initial.core.rights)) h l.dom l.counter l.core.domains.items)
