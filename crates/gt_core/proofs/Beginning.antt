@@ -528,8 +528,7 @@ pub begin-wants : (s : Setting) (h : History) (domains : List State) (dom : DomI
     → asks_memory o.call.request ≡ true → position (has_id dom.0) domains ≡ Some at → x ≡ get_or domains at x → is_some x.underway ≡ false
     → Opens (knowledge_of s.domains s.may x.own x.header x.mappings x.maps_answered) dom request (OpeningOpen o) → CoreStands s h domains → WantsMemory s h dom request
 begin-wants s h domains dom at x request o asks p here idle opens st =
-    let a = agrees-found s h domains dom at x p here st in
-    (
+    let a = agrees-found s h domains dom at x p here st in (
       ap asks_memory (sym opens.2) ∙ asks,
       subst (λ (d : DomId). open_call h d.0 ≡ None) a.1 (call-none s h x.id x.underway (open_call h x.id.0) (closed-from x.underway idle) a.2.call),
       subst (λ (d : DomId). begun (known_at s h d) dom request ≡ None) a.1 (ap (λ (k : CallerKnowledge). begun k dom request) (sym (known-same s h x a.2)) ∙ opens.0),
