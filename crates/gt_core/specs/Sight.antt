@@ -42,7 +42,7 @@ body_in slots r which = slot_body (slice_get slots r) which
 
 -- the control word made of an owner's row and a slot (own)
 abbrev pub control_in : List Own → List Slot → ℕ → ℕ
-control_in own slots r = control_word (control_with (entry_in own r) (generation_in own r) (reads_in slots r) (writes_in slots r))
+control_in own slots r = control_word (control_with (entry_in own r) (generation_in 0 own r) (reads_in slots r) (writes_in slots r))
 
 -- the header word of domain d, 0 where there is no such state (own)
 abbrev pub header_seen : List State → ℕ → ℕ

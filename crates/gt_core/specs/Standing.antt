@@ -235,7 +235,7 @@ pub record Agrees (s : Setting) (h : History) (d : State) : Type 0 where
   pub header : d.header ≡ table_at s h d.id
   pub rows : length d.own ≡ 2048
   pub entries : entry_in d.own ≡ (λ r. entry_at h d.id.0 r)
-  pub generations : generation_in d.own ≡ (λ r. if nat_lt r 2048 then generation_at s h d.id.0 r else 0)
+  pub generations : generation_in s.first_generation d.own ≡ (λ r. generation_at s h d.id.0 r)
   pub room : length d.slots ≡ 2048
   pub slots : (r : ℕ) (slot : Slot) → slice_get d.slots r ≡ Some slot → SlotAgrees h d.id.0 r slot
   pub mappings : d.mappings ≡ mappings_at h d.id.0
