@@ -67,13 +67,13 @@ starts-open caller r (Some v) first e = cc
 
 -- what a domain itself knows is what the core keeps of it
 pub known-same : (s : Setting) (h : History) (d : State) → Agrees s h d
-    → knowledge_of s.domains s.may d.own d.header d.mappings d.maps_answered ≡ known_at s h d.id
+    → knowledge_of s.domains s.first_generation s.may d.own d.header d.mappings d.maps_answered ≡ known_at s h d.id
 known-same s h d a =
-    ap (λ (f : ℕ → Entry). record { domains = s.domains; may = s.may; entry = f; generation = generation_in d.own; header = d.header; mappings = d.mappings; maps_answered = d.maps_answered }) a.entries
+    ap (λ (f : ℕ → Entry). record { domains = s.domains; may = s.may; entry = f; generation = generation_in s.first_generation d.own; header = d.header; mappings = d.mappings; maps_answered = d.maps_answered }) a.entries
     ∙ ap (λ (f : ℕ → ℕ). record { domains = s.domains; may = s.may; entry = λ r. entry_at h d.id.0 r; generation = f; header = d.header; mappings = d.mappings; maps_answered = d.maps_answered }) a.generations
-    ∙ ap (λ (x : Header). record { domains = s.domains; may = s.may; entry = λ r. entry_at h d.id.0 r; generation = λ r. if nat_lt r 2048 then generation_at s h d.id.0 r else 0; header = x; mappings = d.mappings; maps_answered = d.maps_answered }) a.header
-    ∙ ap (λ (x : List Mapping). record { domains = s.domains; may = s.may; entry = λ r. entry_at h d.id.0 r; generation = λ r. if nat_lt r 2048 then generation_at s h d.id.0 r else 0; header = table_at s h d.id; mappings = x; maps_answered = d.maps_answered }) a.mappings
-    ∙ ap (λ (x : ℕ). record { domains = s.domains; may = s.may; entry = λ r. entry_at h d.id.0 r; generation = λ r. if nat_lt r 2048 then generation_at s h d.id.0 r else 0; header = table_at s h d.id; mappings = mappings_at h d.id.0; maps_answered = x }) a.maps_answered
+    ∙ ap (λ (x : Header). record { domains = s.domains; may = s.may; entry = λ r. entry_at h d.id.0 r; generation = λ r. generation_at s h d.id.0 r; header = x; mappings = d.mappings; maps_answered = d.maps_answered }) a.header
+    ∙ ap (λ (x : List Mapping). record { domains = s.domains; may = s.may; entry = λ r. entry_at h d.id.0 r; generation = λ r. generation_at s h d.id.0 r; header = table_at s h d.id; mappings = x; maps_answered = d.maps_answered }) a.mappings
+    ∙ ap (λ (x : ℕ). record { domains = s.domains; may = s.may; entry = λ r. entry_at h d.id.0 r; generation = λ r. generation_at s h d.id.0 r; header = table_at s h d.id; mappings = mappings_at h d.id.0; maps_answered = x }) a.maps_answered
 
 -- a quiet item leaves a domain as it was, but for its call
 pub quiet-agrees : (s : Setting) (i : Item) (h : History) (d : State) (o : Option Open) → IsQuiet i → Agrees s h d
@@ -279,7 +279,7 @@ first-place s h d (Unmap handle) e = tt
 first-place s h d (Load handle off len) e = tt
 
 pub begin-opens : (s : Setting) (h : History) (d : State) (request : Request) (o : Open) → FitsRequest request → Agrees s h d → d.underway ≡ None
-    → Opens (knowledge_of s.domains s.may d.own d.header d.mappings d.maps_answered) d.id request (OpeningOpen o)
+    → Opens (knowledge_of s.domains s.first_generation s.may d.own d.header d.mappings d.maps_answered) d.id request (OpeningOpen o)
     → IsRight s h (began d.id request None) × Agrees s (began d.id request None ∷ h) (record d { underway = Some o })
 begin-opens s h d request o fits a closed opens =
     let i = began d.id request None in
@@ -360,7 +360,7 @@ gives-value s h k d (Unmap handle) Granted e = refl
 gives-value s h k d (Load handle off len) Granted e = absurd (load-refused k.mappings handle off len e)
 
 pub begin-done : (s : Setting) (h : History) (d : State) (request : Request) (v : Verdict) → Agrees s h d → d.underway ≡ None
-    → begun (knowledge_of s.domains s.may d.own d.header d.mappings d.maps_answered) d.id request ≡ Some v
+    → begun (knowledge_of s.domains s.first_generation s.may d.own d.header d.mappings d.maps_answered) d.id request ≡ Some v
     → IsRight s h (began d.id request (Some (plain_answer v))) × Agrees s (began d.id request (Some (plain_answer v)) ∷ h) d
 begin-done s h d request v a closed opens =
     let i = began d.id request (Some (plain_answer v)) in
@@ -471,12 +471,12 @@ same-state domains x q e = by (x.id.0 == q) refl
 
 pub begin-answered : (s : Setting) (h : History) (domains : List State) (dom : DomId) (at : ℕ) (x : State) (request : Request) (v : Verdict)
     → position (has_id dom.0) domains ≡ Some at → x ≡ get_or domains at x → is_some x.underway ≡ false
-    → begun (knowledge_of s.domains s.may x.own x.header x.mappings x.maps_answered) dom request ≡ Some v → CoreStands s h domains
+    → begun (knowledge_of s.domains s.first_generation s.may x.own x.header x.mappings x.maps_answered) dom request ≡ Some v → CoreStands s h domains
     → (domain_of s.domains dom ≢ None) × IsRight s h (began dom request (Some (plain_answer v))) × CoreStands s (began dom request (Some (plain_answer v)) ∷ h) domains
 begin-answered s h domains dom at x request v p here idle opens st =
     let a = agrees-found s h domains dom at x p here st in
     let f = found domains dom.0 at x p ∙ ap (λ (y : State). Some y) (sym here) in
-    let both = subst (λ (d : DomId). begun (knowledge_of s.domains s.may x.own x.header x.mappings x.maps_answered) d request ≡ Some v → state_of domains d.0 ≡ Some x
+    let both = subst (λ (d : DomId). begun (knowledge_of s.domains s.first_generation s.may x.own x.header x.mappings x.maps_answered) d request ≡ Some v → state_of domains d.0 ≡ Some x
     → IsRight s h (began d request (Some (plain_answer v))) × CoreStands s (began d request (Some (plain_answer v)) ∷ h) domains) a.1
     (λ op g. let b = begin-done s h x request v a.2 (closed-from x.underway idle) op in (
       b.0,
@@ -488,13 +488,13 @@ begin-answered s h domains dom at x request v p here idle opens st =
 
 pub begin-opened : (s : Setting) (h : History) (domains : List State) (dom : DomId) (at : ℕ) (x : State) (request : Request) (o : Open)
     → FitsRequest request → position (has_id dom.0) domains ≡ Some at → x ≡ get_or domains at x → is_some x.underway ≡ false
-    → Opens (knowledge_of s.domains s.may x.own x.header x.mappings x.maps_answered) dom request (OpeningOpen o) → CoreStands s h domains
+    → Opens (knowledge_of s.domains s.first_generation s.may x.own x.header x.mappings x.maps_answered) dom request (OpeningOpen o) → CoreStands s h domains
     → (domain_of s.domains dom ≢ None) × IsRight s h (began dom request None) × CoreStands s (began dom request None ∷ h) (set domains at (record x { underway = Some o }))
 begin-opened s h domains dom at x request o fits p here idle opens st =
     let a = agrees-found s h domains dom at x p here st in
     let f = found domains dom.0 at x p ∙ ap (λ (y : State). Some y) (sym here) in
     let places = position-Some (has_id dom.0) domains at x p in
-    let both = subst (λ (d : DomId). Opens (knowledge_of s.domains s.may x.own x.header x.mappings x.maps_answered) d request (OpeningOpen o) → state_of domains d.0 ≡ Some x
+    let both = subst (λ (d : DomId). Opens (knowledge_of s.domains s.first_generation s.may x.own x.header x.mappings x.maps_answered) d request (OpeningOpen o) → state_of domains d.0 ≡ Some x
     → ((k : ℕ) → k < at → has_id d.0 (get_or domains k x) ≡ false)
     → IsRight s h (began d request None) × CoreStands s (began d request None ∷ h) (set domains at (record x { underway = Some o }))) a.1
     (λ op g apart. let b = begin-opens s h x request o fits a.2 (closed-from x.underway idle) op in (
@@ -510,7 +510,7 @@ place-at domains d at x p here = slice_get_read domains (length domains) at x re
 
 pub begin-answers : (s : Setting) (h : History) (domains : List State) (dom : DomId) (at : ℕ) (x : State) (request : Request) (v : Verdict) (y : Answer) → y ≡ plain_answer v
     → position (has_id dom.0) domains ≡ Some at → x ≡ get_or domains at x → is_some x.underway ≡ false
-    → begun (knowledge_of s.domains s.may x.own x.header x.mappings x.maps_answered) dom request ≡ Some v → CoreStands s h domains
+    → begun (knowledge_of s.domains s.first_generation s.may x.own x.header x.mappings x.maps_answered) dom request ≡ Some v → CoreStands s h domains
     → (domain_of s.domains dom ≢ None) × IsRight s h (began dom request (Some y)) × CoreStands s (began dom request (Some y) ∷ h) domains
 begin-answers s h domains dom at x request v y e p here idle opens st =
     subst (λ (z : Answer). (domain_of s.domains dom ≢ None) × IsRight s h (began dom request (Some z)) × CoreStands s (began dom request (Some z) ∷ h) domains) (sym e)
@@ -526,7 +526,7 @@ tick-idle s h domains dom at x p here closed st =
 -- a beginning for which memory is wanted
 pub begin-wants : (s : Setting) (h : History) (domains : List State) (dom : DomId) (at : ℕ) (x : State) (request : Request) (o : Open)
     → asks_memory o.call.request ≡ true → position (has_id dom.0) domains ≡ Some at → x ≡ get_or domains at x → is_some x.underway ≡ false
-    → Opens (knowledge_of s.domains s.may x.own x.header x.mappings x.maps_answered) dom request (OpeningOpen o) → CoreStands s h domains → WantsMemory s h dom request
+    → Opens (knowledge_of s.domains s.first_generation s.may x.own x.header x.mappings x.maps_answered) dom request (OpeningOpen o) → CoreStands s h domains → WantsMemory s h dom request
 begin-wants s h domains dom at x request o asks p here idle opens st =
     let a = agrees-found s h domains dom at x p here st in (
       ap asks_memory (sym opens.2) ∙ asks,

@@ -906,7 +906,7 @@ TickRight s h dom step seen answer new =
 
 pub tick-granted : (s : Setting) (h : History) (xs : List State) (dom : DomId) (at : ℕ) (x : State) (o : Open) (seen : Seen) (new : Call) (answer : Answer) (settled : List State)
     → position (has_id dom.0) xs ≡ Some at → x ≡ get_or xs at x → x.underway ≡ Some o → CoreStands s h xs → seen ≡ sees xs dom o.step
-    → Advances (knowledge_of s.domains s.may x.own x.header x.mappings x.maps_answered) o.call.caller o.call.request o.call.phase seen new (Done Granted)
+    → Advances (knowledge_of s.domains s.first_generation s.may x.own x.header x.mappings x.maps_answered) o.call.caller o.call.request o.call.phase seen new (Done Granted)
     → Settled xs at x o o.step answer settled
     → TickRight s h dom o.step seen (Some answer) (applied dom o.step seen settled)
 tick-granted s h xs dom at x o seen new answer settled p here is st saw adv done =
@@ -924,7 +924,7 @@ tick-granted s h xs dom at x o seen new answer settled p here is st saw adv done
 
 pub tick-goes : (s : Setting) (h : History) (xs : List State) (dom : DomId) (at : ℕ) (x : State) (o : Open) (seen : Seen) (new : Call) (step : Step)
     → position (has_id dom.0) xs ≡ Some at → x ≡ get_or xs at x → x.underway ≡ Some o → CoreStands s h xs → seen ≡ sees xs dom o.step
-    → Advances (knowledge_of s.domains s.may x.own x.header x.mappings x.maps_answered) o.call.caller o.call.request o.call.phase seen new (Makes step)
+    → Advances (knowledge_of s.domains s.first_generation s.may x.own x.header x.mappings x.maps_answered) o.call.caller o.call.request o.call.phase seen new (Makes step)
     → TickRight s h dom o.step seen None (applied dom o.step seen (set xs at (with_underway (Some (record { call = new; step = step })) x)))
 tick-goes s h xs dom at x o seen new step p here is st saw adv =
     decide (changes_nothing o.step seen)
@@ -948,7 +948,7 @@ tick-goes s h xs dom at x o seen new step p here is st saw adv =
 
 pub tick-denied : (s : Setting) (h : History) (xs : List State) (dom : DomId) (at : ℕ) (x : State) (o : Open) (seen : Seen) (new : Call) (denial : Denial)
     → position (has_id dom.0) xs ≡ Some at → x ≡ get_or xs at x → x.underway ≡ Some o → CoreStands s h xs → seen ≡ sees xs dom o.step
-    → Advances (knowledge_of s.domains s.may x.own x.header x.mappings x.maps_answered) o.call.caller o.call.request o.call.phase seen new (Done (Refused denial))
+    → Advances (knowledge_of s.domains s.first_generation s.may x.own x.header x.mappings x.maps_answered) o.call.caller o.call.request o.call.phase seen new (Done (Refused denial))
     → TickRight s h dom o.step seen (Some (Denied denial)) (applied dom o.step seen (set xs at (with_underway None x)))
 tick-denied s h xs dom at x o seen new denial p here is st saw adv =
     let q = refused-changes-nothing s h xs dom at x o seen new denial p here is st saw adv in
@@ -1000,7 +1000,7 @@ place-leg s h d r so_far phase l p a e = (subst (PhaseStands s h d r so_far) e a
 
 pub needs-no-room : (s : Setting) (h : History) (xs : List State) (dom : DomId) (at : ℕ) (x : State) (o : Open) (seen : Seen) (new : Call) (action : Action)
     → position (has_id dom.0) xs ≡ Some at → x ≡ get_or xs at x → x.underway ≡ Some o → CoreStands s h xs → seen ≡ sees xs dom o.step
-    → Advances (knowledge_of s.domains s.may x.own x.header x.mappings x.maps_answered) o.call.caller o.call.request o.call.phase seen new action
+    → Advances (knowledge_of s.domains s.first_generation s.may x.own x.header x.mappings x.maps_answered) o.call.caller o.call.request o.call.phase seen new action
     → NeedsNoRoom o.call.request o.step
 needs-no-room s h xs dom at x o seen new action p here is st saw adv =
     let a = agrees-found s h xs dom at x p here st in

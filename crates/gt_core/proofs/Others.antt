@@ -118,19 +118,19 @@ other-mappings i h d apart =
     ∙ unpinned-apart d i.actor i.happened (live h) apart
 
 other-generations : (s : Setting) (i : Item) (h : History) (d : ℕ) → (i.actor.0 == d) ≡ false
-    → ◌≡◌ {A = ℕ → ℕ} (λ r. if nat_lt r 2048 then generation_at s (i ∷ h) d r else 0) (λ r. if nat_lt r 2048 then generation_at s h d r else 0)
-other-generations s i h d apart = fun_ext (λ r. ap (λ (n : ℕ). cond (nat_lt r 2048) (s.first_generation + n) 0) (other-raises i h d r apart))
+    → ◌≡◌ {A = ℕ → ℕ} (λ r. generation_at s (i ∷ h) d r) (λ r. generation_at s h d r)
+other-generations s i h d apart = fun_ext (λ r. ap (λ (n : ℕ). s.first_generation + n) (other-raises i h d r apart))
 
 -- no domain but the actor knows another thing by itself
 pub other-known : (s : Setting) (i : Item) (h : History) (d : DomId) → (i.actor.0 == d.0) ≡ false → known_at s (i ∷ h) d ≡ known_at s h d
 other-known s i h d apart =
-    ap (λ (f : ℕ → Entry). record { domains = s.domains; may = s.may; entry = f; generation = λ r. if nat_lt r 2048 then generation_at s (i ∷ h) d.0 r else 0; header = table_at s (i ∷ h) d; mappings = mappings_at (i ∷ h) d.0; maps_answered = maps_answered_at (i ∷ h) d.0 })
+    ap (λ (f : ℕ → Entry). record { domains = s.domains; may = s.may; entry = f; generation = λ r. generation_at s (i ∷ h) d.0 r; header = table_at s (i ∷ h) d; mappings = mappings_at (i ∷ h) d.0; maps_answered = maps_answered_at (i ∷ h) d.0 })
     (fun_ext (λ r. other-entry i h d.0 r apart))
     ∙ ap (λ (f : ℕ → ℕ). record { domains = s.domains; may = s.may; entry = λ r. entry_at h d.0 r; generation = f; header = table_at s h d; mappings = mappings_at (i ∷ h) d.0; maps_answered = maps_answered_at (i ∷ h) d.0 })
     (other-generations s i h d.0 apart)
-    ∙ ap (λ (l : List Mapping). record { domains = s.domains; may = s.may; entry = λ r. entry_at h d.0 r; generation = λ r. if nat_lt r 2048 then generation_at s h d.0 r else 0; header = table_at s h d; mappings = l; maps_answered = maps_answered_at (i ∷ h) d.0 })
+    ∙ ap (λ (l : List Mapping). record { domains = s.domains; may = s.may; entry = λ r. entry_at h d.0 r; generation = λ r. generation_at s h d.0 r; header = table_at s h d; mappings = l; maps_answered = maps_answered_at (i ∷ h) d.0 })
     (other-mappings i h d.0 apart)
-    ∙ ap (λ (n : ℕ). record { domains = s.domains; may = s.may; entry = λ r. entry_at h d.0 r; generation = λ r. if nat_lt r 2048 then generation_at s h d.0 r else 0; header = table_at s h d; mappings = mappings_at h d.0; maps_answered = n })
+    ∙ ap (λ (n : ℕ). record { domains = s.domains; may = s.may; entry = λ r. entry_at h d.0 r; generation = λ r. generation_at s h d.0 r; header = table_at s h d; mappings = mappings_at h d.0; maps_answered = n })
     (other-maps i h d.0 apart)
 
 -- a domain that doesn't act: its pins and body words may have changed, its call stands where it stood

@@ -63,7 +63,7 @@ rows-show s h x r a within =
     let b = a.slots r slot.0 slot.1 in
     let entry : own.0.entry ≡ entry_at h x.id.0 r = sym (ap row_entry own.1) ∙ ap (λ (f : ℕ → Entry). f r) a.entries in
     let generation : own.0.generation ≡ generation_at s h x.id.0 r =
-    sym (ap row_generation own.1) ∙ ap (λ (f : ℕ → ℕ). f r) a.generations ∙ ap (λ (c : Bool). cond c (generation_at s h x.id.0 r) 0) (lt-ltb r 2048 within) in
+    sym (ap (row_generation s.first_generation) own.1) ∙ ap (λ (f : ℕ → ℕ). f r) a.generations in
     ap (λ (o : Option Own). shown_in o (slice_get x.slots r)) own.1 ∙ ap (λ (o : Option Slot). shown_in (Some own.0) o) slot.1
     ∙ ap (λ (e : Entry). Some (record { entry = e; generation = own.0.generation; reads = slot.0.reads; writes = slot.0.writes })) entry
     ∙ ap (λ (n : ℕ). Some (record { entry = entry_at h x.id.0 r; generation = n; reads = slot.0.reads; writes = slot.0.writes })) generation

@@ -72,10 +72,10 @@ rows-entry g r = ap row_entry (get-replicate ENTRIES r (record { entry = Invalid
     by true = refl
     by false = refl
 
-rows-generation : (g r : ℕ) → generation_in (replicate ENTRIES (record { entry = Invalid; generation = g })) r ≡ cond (nat_lt r ENTRIES) g 0
-rows-generation g r = ap row_generation (get-replicate ENTRIES r (record { entry = Invalid; generation = g })) ∙ by (nat_lt r ENTRIES)
+rows-generation : (g r : ℕ) → generation_in g (replicate ENTRIES (record { entry = Invalid; generation = min g 1048575 })) r ≡ min g 1048575
+rows-generation g r = ap (row_generation g) (get-replicate ENTRIES r (record { entry = Invalid; generation = min g 1048575 })) ∙ by (nat_lt r ENTRIES)
   where
-    by : (b : Bool) → row_generation (cond b (Some (record { entry = Invalid; generation = g })) None) ≡ cond b g 0
+    by : (b : Bool) → row_generation g (cond b (Some (record { entry = Invalid; generation = min g 1048575 })) None) ≡ min g 1048575
     by true = refl
     by false = refl
 
@@ -155,7 +155,7 @@ rest-agrees s d is f le =
       header = header-kept d f ∙ sym (ap header_from is);
       rows = length-replicate {A = Own} ENTRIES (record { entry = Invalid; generation = min s.first_generation 1048575 });
       entries = fun_ext (λ r. rows-entry (min s.first_generation 1048575) r ∙ sym (no-entry d.id.0 r));
-      generations = fun_ext (λ r. rows-generation (min s.first_generation 1048575) r ∙ ap (λ (n : ℕ). cond (nat_lt r ENTRIES) n 0) (g ∙ (let z : s.first_generation ≡ s.first_generation + 0 = omega arith in z) ∙ ap (λ (n : ℕ). s.first_generation + n) (sym (no-raises d.id.0 r))));
+      generations = fun_ext (λ r. rows-generation s.first_generation r ∙ g ∙ (let z : s.first_generation ≡ s.first_generation + 0 = omega arith in z) ∙ ap (λ (n : ℕ). s.first_generation + n) (sym (no-raises d.id.0 r)));
       room = length-replicate {A = Slot} ENTRIES (record { reads = 0; writes = 0; first = 0; second = 0 });
       slots = λ r slot e. slot-starts d.id.0 ENTRIES r slot e;
       mappings = sym (no-mappings d.id.0);

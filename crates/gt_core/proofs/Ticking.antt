@@ -134,7 +134,7 @@ grant-invalid k d gref entry e =
     by (Via dom ro dom2 r) e = absurd (true≢false e)
 
 own-generation : (s : Setting) (h : History) (d : DomId) (gref : GrantRef) → gref.0 < 2048 → (known_at s h d).generation gref.0 ≡ generation_at s h d.0 gref.0
-own-generation s h d gref within = ap (λ (b : Bool). cond b (generation_at s h d.0 gref.0) 0) (lt-ltb gref.0 2048 within)
+own-generation s h d gref within = refl
 
 -- the word of an entry with no pins is the one that its owner expects
 pub idle-here : (s : Setting) (h : History) (d : DomId) (gref : GrantRef) → gref.0 < 2048 → reads_at h d.0 gref.0 + writes_at h d.0 gref.0 ≡ 0
@@ -508,7 +508,7 @@ begun-none k d r (Some v) (x ∷ vs) step e = cc
 
 pub stepping : (s : Setting) (h : History) (xs : List State) (x : State) (o : Open) (c : Underway) (seen : Seen) (new : Call) (action : Action)
     → CoreStands s h xs → state_of xs x.id.0 ≡ Some x → Agrees s h x → OpenAgrees s h x.id o c → seen ≡ sees xs x.id o.step
-    → Advances (knowledge_of s.domains s.may x.own x.header x.mappings x.maps_answered) o.call.caller o.call.request o.call.phase seen new action
+    → Advances (knowledge_of s.domains s.first_generation s.may x.own x.header x.mappings x.maps_answered) o.call.caller o.call.request o.call.phase seen new action
     → Stepping s h x.id o c seen new action
 stepping s h xs x o c seen new action st here a oa saw adv =
     let d = x.id in
@@ -799,7 +799,7 @@ with_open x o = record x { underway = o }
 -- a step that changes nothing, of a call that goes on
 pub tick-goes-on : (s : Setting) (h : History) (xs : List State) (dom : DomId) (at : ℕ) (x : State) (o : Open) (seen : Seen) (new : Call) (step : Step)
     → position (has_id dom.0) xs ≡ Some at → x ≡ get_or xs at x → x.underway ≡ Some o → CoreStands s h xs → seen ≡ sees xs dom o.step
-    → Advances (knowledge_of s.domains s.may x.own x.header x.mappings x.maps_answered) o.call.caller o.call.request o.call.phase seen new (Makes step)
+    → Advances (knowledge_of s.domains s.first_generation s.may x.own x.header x.mappings x.maps_answered) o.call.caller o.call.request o.call.phase seen new (Makes step)
     → changes_nothing o.step seen ≡ true
     → (domain_of s.domains dom ≢ None) × StepsRightIn s h (stepped dom o.step seen None) o.step seen (open_call h dom.0)
     × CoreStands s (stepped dom o.step seen None ∷ h) (set xs at (with_open x (Some (record { call = new; step = step }))))
@@ -911,7 +911,7 @@ quiet-refused s h xs d o c seen new denial st call oa p q =
 -- a step that changes nothing, of a call that is refused
 pub tick-refused : (s : Setting) (h : History) (xs : List State) (dom : DomId) (at : ℕ) (x : State) (o : Open) (seen : Seen) (new : Call) (denial : Denial)
     → position (has_id dom.0) xs ≡ Some at → x ≡ get_or xs at x → x.underway ≡ Some o → CoreStands s h xs → seen ≡ sees xs dom o.step
-    → Advances (knowledge_of s.domains s.may x.own x.header x.mappings x.maps_answered) o.call.caller o.call.request o.call.phase seen new (Done (Refused denial))
+    → Advances (knowledge_of s.domains s.first_generation s.may x.own x.header x.mappings x.maps_answered) o.call.caller o.call.request o.call.phase seen new (Done (Refused denial))
     → changes_nothing o.step seen ≡ true
     → (domain_of s.domains dom ≢ None) × StepsRightIn s h (stepped dom o.step seen (Some (Denied denial))) o.step seen (open_call h dom.0)
     × CoreStands s (stepped dom o.step seen (Some (Denied denial)) ∷ h) (set xs at (with_open x None))
@@ -996,7 +996,7 @@ refused-quietly s h d r (Ended v) denial step act e = cc
 -- a step after which a call is refused changes nothing
 pub refused-changes-nothing : (s : Setting) (h : History) (xs : List State) (dom : DomId) (at : ℕ) (x : State) (o : Open) (seen : Seen) (new : Call) (denial : Denial)
     → position (has_id dom.0) xs ≡ Some at → x ≡ get_or xs at x → x.underway ≡ Some o → CoreStands s h xs → seen ≡ sees xs dom o.step
-    → Advances (knowledge_of s.domains s.may x.own x.header x.mappings x.maps_answered) o.call.caller o.call.request o.call.phase seen new (Done (Refused denial))
+    → Advances (knowledge_of s.domains s.first_generation s.may x.own x.header x.mappings x.maps_answered) o.call.caller o.call.request o.call.phase seen new (Done (Refused denial))
     → changes_nothing o.step seen ≡ true
 refused-changes-nothing s h xs dom at x o seen new denial p here is st saw adv =
     let a = agrees-found s h xs dom at x p here st in

@@ -213,8 +213,8 @@ same-body i h t r which q =
     ap (λ (o : Option ℕ). or_else o (body_at h t r which)) (ap (λ (o : Option ℕ). cond (i.actor.0 == t) o None) (q.stores r which) ∙ cond-same (i.actor.0 == t) None)
 
 pub same-generations : (s : Setting) (i : Item) (h : History) (d : ℕ) → KeepsEntries i
-    → ◌≡◌ {A = ℕ → ℕ} (λ r. if nat_lt r 2048 then generation_at s (i ∷ h) d r else 0) (λ r. if nat_lt r 2048 then generation_at s h d r else 0)
-same-generations s i h d q = fun_ext (λ r. ap (λ (n : ℕ). cond (nat_lt r 2048) (s.first_generation + n) 0) (same-raises i h d r q))
+    → ◌≡◌ {A = ℕ → ℕ} (λ r. generation_at s (i ∷ h) d r) (λ r. generation_at s h d r)
+same-generations s i h d q = fun_ext (λ r. ap (λ (n : ℕ). s.first_generation + n) (same-raises i h d r q))
 
 pub same-spelled : (i : Item) (h : History) (t r : ℕ) → KeepsEntries i → (entry_at h t r ≢ Invalid → IsSpelled (entry_at h t r) (body_at h t r false) (body_at h t r true))
     → entry_at (i ∷ h) t r ≢ Invalid → IsSpelled (entry_at (i ∷ h) t r) (body_at (i ∷ h) t r false) (body_at (i ∷ h) t r true)
@@ -281,11 +281,11 @@ room-for (Page dom ro frame) g r w f = (f.in_range.reads, f.in_range.writes)
 room-for (Sub dom ro frame off len) g r w f = (f.in_range.reads, f.in_range.writes)
 room-for (Via dom ro dom2 gref) g r w f = (f.in_range.reads, f.in_range.writes)
 
-fits-with : (e : Entry) (g r w r2 w2 : ℕ) → r2 < 4096 → w2 < 4096 → FitsWord (control_with e g r w) → FitsWord (control_with e g r2 w2)
-fits-with Invalid g r w r2 w2 a b f = record { in_range = record { reads = a; writes = b; generation = f.in_range.generation }; domain = f.domain }
-fits-with (Page dom ro frame) g r w r2 w2 a b f = record { in_range = record { reads = a; writes = b; generation = f.in_range.generation }; domain = f.domain }
-fits-with (Sub dom ro frame off len) g r w r2 w2 a b f = record { in_range = record { reads = a; writes = b; generation = f.in_range.generation }; domain = f.domain }
-fits-with (Via dom ro dom2 gref) g r w r2 w2 a b f = record { in_range = record { reads = a; writes = b; generation = f.in_range.generation }; domain = f.domain }
+fits-with : (e : Entry) (g r w r' w' : ℕ) → r' < 4096 → w' < 4096 → FitsWord (control_with e g r w) → FitsWord (control_with e g r' w')
+fits-with Invalid g r w r' w' a b f = record { in_range = record { reads = a; writes = b; generation = f.in_range.generation }; domain = f.domain }
+fits-with (Page dom ro frame) g r w r' w' a b f = record { in_range = record { reads = a; writes = b; generation = f.in_range.generation }; domain = f.domain }
+fits-with (Sub dom ro frame off len) g r w r' w' a b f = record { in_range = record { reads = a; writes = b; generation = f.in_range.generation }; domain = f.domain }
+fits-with (Via dom ro dom2 gref) g r w r' w' a b f = record { in_range = record { reads = a; writes = b; generation = f.in_range.generation }; domain = f.domain }
 
 -- the counts that a control word holds are below 4,096
 pub counts-fit : (s : Setting) (h : History) (t r : ℕ) → FitsWord (control_at s h t r) → (reads_at h t r < 4096) × (writes_at h t r < 4096)

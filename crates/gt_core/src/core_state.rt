@@ -67,7 +67,7 @@ pub enum Opening {
 }
 
 fn open_call<P: Allows>(known: &Known<'_, P>, dom: DomId, request: Request) -> Opening
-    ensures { Opens (knowledge_of known.now.config.now.domains.items (P.may known.now.rights.now) known.now.own.now known.now.header known.now.mappings.now known.now.maps_answered) dom request result }
+    ensures { Opens (knowledge_of known.now.config.now.domains.items known.now.config.now.first_gen (P.may known.now.rights.now) known.now.own.now known.now.header known.now.mappings.now known.now.maps_answered) dom request result }
 {
     match Call::begin(dom, request, known) {
         Start::Done(verdict) => Opening::Done(verdict),
@@ -103,7 +103,7 @@ fn read_into(domains: &[DomainState], dom: DomId, frame: u64, off: u16, out: Vec
 impl<P: Allows> Core<P> {
     fn open_at(&self, at: usize, dom: DomId, request: Request) -> Opening
         requires { at < length self.now.domains.items }
-        ensures { (d : State) → slice_get self.now.domains.items at ≡ Some d → Opens (knowledge_of self.now.config.domains.items (P.may self.now.rights) d.own d.header d.mappings d.maps_answered) dom request result }
+        ensures { (d : State) → slice_get self.now.domains.items at ≡ Some d → Opens (knowledge_of self.now.config.domains.items self.now.config.first_gen (P.may self.now.rights) d.own d.header d.mappings d.maps_answered) dom request result }
     {
         let domain = &self.domains[at];
         let known = Known {
@@ -146,7 +146,7 @@ impl<P: Allows> Core<P> {
 
     fn advance(&self, at: usize, open: Open, seen: Seen) -> (Call, Action)
         requires { at < length self.now.domains.items }
-        ensures { (d : State) → slice_get self.now.domains.items at ≡ Some d → Advances (knowledge_of self.now.config.domains.items (P.may self.now.rights) d.own d.header d.mappings d.maps_answered) open.call.caller open.call.request open.call.phase seen result.0 result.1 }
+        ensures { (d : State) → slice_get self.now.domains.items at ≡ Some d → Advances (knowledge_of self.now.config.domains.items self.now.config.first_gen (P.may self.now.rights) d.own d.header d.mappings d.maps_answered) open.call.caller open.call.request open.call.phase seen result.0 result.1 }
     {
         let mut call = open.call;
         let domain = &self.domains[at];

@@ -32,7 +32,7 @@ returns-in-Done-clause-stands g c =
     let xs = c.args.self.now.domains.items in
     let p : position (has_id c.args.dom.0) xs ≡ Some c.in-Some.at = ap (λ (l : List State). position (has_id c.args.dom.0) l) (sym c.deref.ensures.value) ∙ sym c.find.ensures ∙ c.in-Some.is in
     let x = c.index.result.now in
-    let k = knowledge_of s.domains s.may x.own x.header x.mappings x.maps_answered in
+    let k = knowledge_of s.domains s.first_generation s.may x.own x.header x.mappings x.maps_answered in
     let opens = subst (λ (o : Opening). Opens k c.args.dom c.args.request o) c.in-Done.is (c.open_at.ensures x (place-at xs c.args.dom.0 c.in-Some.at x p c.index.ensures)) in
     λ h st. let r = begin-answers s h xs c.args.dom c.in-Some.at x c.args.request c.in-Done.verdict c.plain_answer.result c.plain_answer.ensures p c.index.ensures (ap (λ (o : Option Open). is_some o) (sym c.underway.ensures) ∙ sym c.is_some.ensures ∙ c.if-is_some.false) opens st in
     ((r.0, (refl, refl), r.1), r.2)
@@ -43,7 +43,7 @@ returns-in_ok-begin-in-Open-clause-stands g c =
     let xs = c.args.self.now.domains.items in
     let p : position (has_id c.args.dom.0) xs ≡ Some c.in-Some.at = ap (λ (l : List State). position (has_id c.args.dom.0) l) (sym c.deref.ensures.value) ∙ sym c.find.ensures ∙ c.in-Some.is in
     let x = c.index.result.now in
-    let k = knowledge_of s.domains s.may x.own x.header x.mappings x.maps_answered in
+    let k = knowledge_of s.domains s.first_generation s.may x.own x.header x.mappings x.maps_answered in
     let opens = subst (λ (o : Opening). Opens k c.args.dom c.args.request o) c.in-Open.is (c.open_at.ensures x (place-at xs c.args.dom.0 c.in-Some.at x p c.index.ensures)) in
     let y = c.index_mut.result.now in
     let same : x ≡ y = same_Some x y (sym (place-at xs c.args.dom.0 c.in-Some.at x p c.index.ensures) ∙ place-at xs c.args.dom.0 c.in-Some.at y p c.index_mut.ensures.value) in
@@ -60,7 +60,7 @@ returns-in_err-begin-in-Open-clause-memory g c =
     let xs = c.args.self.now.domains.items in
     let p : position (has_id c.args.dom.0) xs ≡ Some c.in-Some.at = ap (λ (l : List State). position (has_id c.args.dom.0) l) (sym c.deref.ensures.value) ∙ sym c.find.ensures ∙ c.in-Some.is in
     let x = c.index.result.now in
-    let k = knowledge_of s.domains s.may x.own x.header x.mappings x.maps_answered in
+    let k = knowledge_of s.domains s.first_generation s.may x.own x.header x.mappings x.maps_answered in
     let opens = subst (λ (o : Opening). Opens k c.args.dom c.args.request o) c.in-Open.is (c.open_at.ensures x (place-at xs c.args.dom.0 c.in-Some.at x p c.index.ensures)) in
     λ h st. on-err c.from_residual.result _ (begin-wants s h xs c.args.dom c.in-Some.at x c.args.request c.in-Open.open c.in_err-begin-in-Open.ensures.memory p c.index.ensures
     (ap (λ (o : Option Open). is_some o) (sym c.underway.ensures) ∙ sym c.is_some.ensures ∙ c.if-is_some.false) opens st)
