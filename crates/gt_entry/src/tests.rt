@@ -1,8 +1,8 @@
 use crate::{
-    Control, Control, Entry, Entry, Header, Header, decode, decode_v1, decode_v2, encode_v1,
-    encode_v2, status_word, status_word,
+    Control, Entry, Header, decode, decode_v1, decode_v2, encode_v1, encode_v2, status_word,
 };
 use gt_types::{Dir, DomId, Field, GrantRef, Range, Use};
+use std::test::Fail;
 
 fn page(ro: bool, frame: u64) -> Entry {
     Entry::Page {

@@ -1,4 +1,4 @@
-use Rattle.std.proofs.Common.{◌≡◌, List, ℕ, sym, subst}
+use Rattle.std.proofs.Common.{List, ℕ, sym, subst}
 use Rattle.gt_entry.specs.Bytes.{SpellsV1}
 use Rattle.gt_entry.proofs.Decoding.{spells-v1}
 use Rattle.gt_entry.proofs.bytes.decode.Goals as goal

@@ -1,4 +1,4 @@
-use Rattle.std.proofs.Common.{◌≡◌, false, true, not, sym, ap, ◌∙◌, arith}
+use Rattle.std.proofs.Common.{sym, ap, ◌∙◌}
 use Rattle.std.proofs.lemmas.Option.{none-some}
 use Rattle.gt_entry.specs.Bytes.{refused_flag}
 use Rattle.gt_entry.proofs.Decoding.{are-bytes, v2-none, v2-page-ok, v2-sub-ok, v2-via-ok}
