@@ -1,6 +1,7 @@
 // Grant entries with a ticket lock each: plain words that are read and written under the lock of their entry.
 // Usage: words_locks LOAD THREADS ROUNDS, where LOAD is apart, adjacent or owner. Prints counts alone.
 #include <pthread.h>
+#include <sched.h>
 #include <stdatomic.h>
 #include <stdint.h>
 #include <stdio.h>
@@ -19,7 +20,9 @@ static Lock *locks;
 static Lock *lock(unsigned dom, unsigned gref) {
     Lock *l = locks + (size_t)dom * ENTRIES + gref;
     uint32_t mine = atomic_fetch_add(&l->next, 1);
-    while (atomic_load(&l->serving) != mine) __builtin_ia32_pause();
+    for (unsigned turns = 0; atomic_load(&l->serving) != mine; turns++) {
+        if (turns % 64 == 63) sched_yield();
+    }
     return l;
 }
 
