@@ -94,15 +94,24 @@ module _ {S : Type 0} (k : Layout) (slots id : ℕ) (me : Me S View) (t : ℕ) (
       → ((n : ℕ) → f n ≡ header_after (m n) n) → ((n : ℕ) → IsHeader n → IsHeader (f n))
       → Allows (Shows k) slots id me (header_place t) f (tells (record { layout = k; step = λ n. on_header t (m n); leaves = f }) (step slots (header_place t) a 0 none) me)
   header_owes m f a own leaves ok s shown len at fits = let n : ℕ = get_or s.words (header_place t) 0 in let v : View = me.0 in let h = shown.headers t tn in
-      let by = own s shown at in let z = shows_header k s id v t (m n) at shown (f n) tn by (leaves n ∙ ap (header_after (m n)) h.0) (ok n h.1) in let p = (shown.seats id v at).0 in
-      (with_step (on_header t (m n)) v, keeps, tt, z, (refl, refl, record {
-        before = s;
-        shown = shown;
-        mine = subst (λ (i : ℕ). get_elem? s.views i ≡ some v) (sym p) at;
-        found_is = refl;
-        still_shown = subst (λ (i : ℕ). Shows k (stepped s (header_place t) (f n) i [] (with_step (on_header t (m n)) v) keeps)) (sym p) z;
-        happens = subst (λ (i : ℕ). Happens k i (on_header t (m n)) s (stepped s (header_place t) (f n) i [] (with_step (on_header t (m n)) v) keeps)) (sym p) (header_happens k s id v t (m n) at (header_place t) (f n) by);
-      }))
+      let by = own s shown at in let z = shows_header k s id v t (m n) at shown (f n) tn by (leaves n ∙ ap (header_after (m n)) h.0) (ok n h.1) in let p = (shown.seats id v at).0 in (
+        with_step (on_header t (m n)) v,
+        keeps,
+        tt,
+        z,
+        (
+          refl,
+          refl,
+          record {
+            before = s;
+            shown = shown;
+            mine = subst (λ (i : ℕ). get_elem? s.views i ≡ some v) (sym p) at;
+            found_is = refl;
+            still_shown = subst (λ (i : ℕ). Shows k (stepped s (header_place t) (f n) i [] (with_step (on_header t (m n)) v) keeps)) (sym p) z;
+            happens = subst (λ (i : ℕ). Happens k i (on_header t (m n)) s (stepped s (header_place t) (f n) i [] (with_step (on_header t (m n)) v) keeps)) (sym p) (header_happens k s id v t (m n) at (header_place t) (f n) by);
+          },
+        ),
+      )
 
   pub look_header_owes : Allows (Shows k) slots id me (header_place t) (λ n. n) (tells (looking_at_header k t) (step slots (header_place t) 0 0 none) me)
   look_header_owes = header_owes (λ n. header.Looked n) (λ n. n) 0 (λ s shown at. tt) (λ n. refl) (λ n h. h)

@@ -146,8 +146,11 @@ module _ {S : Type 0} (k : Layout) (slots id : ℕ) (me : Me S View) (t r : ℕ)
   pub pin_owes : (d : Dir) (old new : ℕ) → new ≡ old + unit_of d → HasLooked t r me.0 old → IsValid old → pins_in d old < 4095
       → Allows (Shows k) slots id me (place t r 0) (λ n. either (n == old) new n) (tells (exchanging k t r me.0 (purpose.Pin d) old new) (step slots (place t r 0) old new none) me)
   pin_owes d old new one looked valid room = exchange_owes (purpose.Pin d) old new
-      (λ w a b hs z e. (subst (λ (u : ℕ). ShowsEntry k.first t u a b (set hs id (taken t r me.0 (purpose.Pin d) old new ∷ steps_on t r me.0))) (ap (λ (u : ℕ). u + unit_of d) e ∙ sym one)
-      (entry_pins k.first t hs id (steps_on t r me.0) z.1 w a b z.0 d old (last_seen t r me.0) looked.0 (looked.1 ∙ sym e) (subst IsValid (sym e) valid) looked.2 (subst (λ (u : ℕ). pins_in d u < 4095) (sym e) room)), tt))
+      (λ w a b hs z e. (
+        subst (λ (u : ℕ). ShowsEntry k.first t u a b (set hs id (taken t r me.0 (purpose.Pin d) old new ∷ steps_on t r me.0))) (ap (λ (u : ℕ). u + unit_of d) e ∙ sym one)
+            (entry_pins k.first t hs id (steps_on t r me.0) z.1 w a b z.0 d old (last_seen t r me.0) looked.0 (looked.1 ∙ sym e) (subst IsValid (sym e) valid) looked.2 (subst (λ (u : ℕ). pins_in d u < 4095) (sym e) room)),
+        tt,
+      ))
       (λ w a b hs z n. (entry_misses_pin k.first t hs id (steps_on t r me.0) z.1 w a b z.0 d old, tt))
 
   lowered : (d : Dir) (w : ℕ) → unit_of d ≤ w → w < 18446744073709551616 → w - unit_of d ≡ (w + (2 ^ 64 - unit_of d)) % 2 ^ 64
@@ -157,10 +160,12 @@ module _ {S : Type 0} (k : Layout) (slots id : ℕ) (me : Me S View) (t r : ℕ)
   pub unpin_owes : (d : Dir) (g one : ℕ) → one ≡ unit_of d → Holds t r d g me.0
       → Allows (Shows k) slots id me (place t r 0) (λ n. (n + (2 ^ 64 - one)) % 2 ^ 64) (tells (unpinning k t r d g) (step slots (place t r 0) one 0 none) me)
   unpin_owes d g one is holds = control_owes k t r (λ n. Unpinned d g) (λ n. (n + (2 ^ 64 - unit_of d)) % 2 ^ 64) slots id me (λ n. (n + (2 ^ 64 - one)) % 2 ^ 64) (step slots (place t r 0) one 0 none) tn rn refl (λ n. ap (λ (u : ℕ). (n + (2 ^ 64 - u)) % 2 ^ 64) is)
-      (λ w a b hs z fits. let p = holds.0 in
-      (subst (λ (u : ℕ × ℕ). ShowsEntry k.first t u.0 a b (set hs id (Unpinned d u.1 ∷ steps_on t r me.0)))
-      (λ i. (lowered d w (pin_counted k.first t hs id (steps_on t r me.0) z.1 w a b z.0 d p holds.1 holds.2) fits i, holds.3 i))
-      (entry_unpins k.first t hs id (steps_on t r me.0) z.1 w a b z.0 d p holds.1 holds.2), tt))
+      (λ w a b hs z fits. let p = holds.0 in (
+        subst (λ (u : ℕ × ℕ). ShowsEntry k.first t u.0 a b (set hs id (Unpinned d u.1 ∷ steps_on t r me.0)))
+            (λ i. (lowered d w (pin_counted k.first t hs id (steps_on t r me.0) z.1 w a b z.0 d p holds.1 holds.2) fits i, holds.3 i))
+            (entry_unpins k.first t hs id (steps_on t r me.0) z.1 w a b z.0 d p holds.1 holds.2),
+        tt,
+      ))
 
   -- the owner's steps
 

@@ -146,6 +146,10 @@ HasPin d g ms = (p : LivePin) × IsIn p (pins ms) × (p.0 ≡ d) × (p.1.generat
 own_steps : (t r : ℕ) (m : EntryStep) (v : View) → v.position ≡ t → steps_on v.position r (with_step (on_entry t r m) v) ≡ m ∷ steps_on v.position r v
 own_steps t r m v own_is = subst (λ (u : ℕ). steps_on u r (with_step (on_entry t r m) v) ≡ m ∷ steps_on u r v) (sym own_is) (steps_on-added t r m v)
 
+-- a step that is no change of the owner's
+pub keeps_last : (t r : ℕ) (m : EntryStep) (v w : View) → v.position ≡ t → AddsToEntry t r m v w → last_record v.first (m ∷ steps_on v.position r v) ≡ last_record v.first (steps_on v.position r v) → last_of r w ≡ last_of r v
+keeps_last t r m v w own_is z same = ap (last_of r) z.view ∙ (ap (last_record v.first) (own_steps t r m v own_is) ∙ same)
+
 module _ (k : Layout) (r : ℕ) (c : Change) (word : ℕ) (v w : View) (vn : v.position < k.domains) (rn : r < 2048) where
   -- the owner's exchange was taken
   pub changes : (new : ℕ) (y : Record) → Steps k v.position r (Changed c word new y) word new v w → Changes k r c word new y v w

@@ -188,7 +188,7 @@ impl WordTable {
         ensures seat { IsSamePlace seat.old seat.new }
         ensures step { Steps (layout_of self.now.table.shared.key) at gref (EntryStep.Looked result) result result seat.old.me.0 seat.new.me.0 }
         ensures not_earlier { IsNotEarlier at gref seat.old.me.0 result }
-        ensures own { seat.old.me.0.position ≡ at → IsWordOf (last_of gref seat.old.me.0) result }
+        ensures own { seat.old.me.0.position ≡ at → IsWordOf (last_of gref seat.new.me.0) result }
         ensures pins { KeepsPins seat.old.me.0 seat.new.me.0 }
     {
         load_word::<Brand>(&self.table.shared, seat, at, gref, 0)
@@ -227,8 +227,15 @@ impl WordTable {
     {
         let new = looked + pin_unit(dir);
         let purpose = Purpose::Pin(dir);
-        let found =
-            exchange_word::<Brand>(&self.table.shared, seat, at, gref, looked, new, purpose);
+        let found = exchange_word::<Brand>(
+            &self.table.shared,
+            seat,
+            at,
+            gref,
+            looked,
+            new,
+            purpose,
+        );
         if found == looked { Ok(()) } else { Err(found) }
     }
 

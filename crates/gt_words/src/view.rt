@@ -46,7 +46,10 @@ pub enum EntryStep {
         found: u64,
     },
     /// A pin of this kind and generation was given back.
-    Unpinned { dir: Dir, generation: u64 },
+    Unpinned {
+        dir: Dir,
+        generation: u64,
+    },
     /// The owner stored a body word.
     StoredBody(Half, u64),
     /// The owner exchanged the control word: the word expected, the word stored and the record it spells.

@@ -15,7 +15,9 @@ use crate::start::{deal_seats, first_words};
 use crate::view::{Change, EntryStep, Half, HeaderStep};
 use atomic_table::Table;
 use gt_entry::{Control, Entry, Header};
-use gt_types::{Config, Dir, DomId, GrantRef, LAST_GENERATION, MAX_TABLE_FRAMES, StartFault, TABLE_ENTRIES};
+use gt_types::{
+    Config, Dir, DomId, GrantRef, LAST_GENERATION, MAX_TABLE_FRAMES, StartFault, TABLE_ENTRIES,
+};
 use std::alloc::{AllocError, Global};
 use std::marker::Model;
 
@@ -175,7 +177,7 @@ impl Words {
         ensures seat { IsSameSeat seat.old seat.new }
         ensures step { Steps self.now.layout (position_in self.now.layout.ids dom) gref.0 (EntryStep.Looked result) result result seat.old.view seat.new.view }
         ensures not_earlier { IsNotEarlier (position_in self.now.layout.ids dom) gref.0 seat.old.view result }
-        ensures own { dom ≡ seat.old.dom → IsWordOf (last_of gref.0 seat.old.view) result }
+        ensures own { dom ≡ seat.old.dom → IsWordOf (last_of gref.0 seat.new.view) result }
         ensures pins { KeepsPins seat.old.view seat.new.view }
     {
         let at = position_of(&self.ids, dom);
@@ -241,8 +243,13 @@ impl Words {
     {
         let at = position_of(&self.ids, pin.dom);
         let generation = u64::from(Control::unpack(pin.word).generation);
-        self.words
-            .unpin(&mut seat.place, at, pin.gref.0 as usize, pin.dir, generation);
+        self.words.unpin(
+            &mut seat.place,
+            at,
+            pin.gref.0 as usize,
+            pin.dir,
+            generation,
+        );
     }
 
     /// The owner stores a body word of its invalid entry.
@@ -262,13 +269,7 @@ impl Words {
     ///
     /// # Errors
     /// The word found, where it is another than the one handed in: it has pins. That can't be while an invalid entry has none.
-    pub fn grant(
-        &self,
-        seat: &mut Seat,
-        gref: GrantRef,
-        word: u64,
-        entry: Entry,
-    ) -> Result<(), u64>
+    pub fn grant(&self, seat: &mut Seat, gref: GrantRef, word: u64, entry: Entry) -> Result<(), u64>
         requires seat { IsSeatOf self.now seat.old }
         requires entry { gref.0 < TABLE_ENTRIES }
         requires invalid { IsIdleOf (last_of gref.0 seat.old.view) word × ((last_of gref.0 seat.old.view).entry ≡ Entry.Invalid) × ((last_of gref.0 seat.old.view).generation < LAST_GENERATION) }
