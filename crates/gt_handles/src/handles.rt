@@ -19,7 +19,7 @@ pub struct Slot<T> {
     pub value: T,
 }
 
-/// Values under handles.
+/// A finite map from handles to values, with the count of the serials given. (own)
 #[derive(Drop)]
 pub struct Handles<T> {
     slab: Slab<Slot<T>>,
