@@ -1,7 +1,7 @@
 -- A beginning keeps what a core stands for.
-use Rattle.std.proofs.Common.{◌⊎◌, inl, inr, ◌≡◌, ◌≢◌, ◌<◌, ◌+◌, ℕ, refl, Bool, true, false, List, [], ◌∷◌, ◌++◌, length, Option, Some, None, cond, ltb, eqb, sym, ap, ◌∙◌, arith, subst, map, get_or, set, reverse}
-use Rattle.std.proofs.lemmas.Bool.{eqb-true, ne_eqb, eq-eqb, false≢true, true≢false}
-use Rattle.std.specs.Prelude.{nat_lt, ◌==◌, if◌then◌else◌, position, slice_get, slice_set}
+use Rattle.std.proofs.Common.{◌⊎◌, inl, inr, ◌≡◌, ◌≢◌, ◌<◌, ◌+◌, ℕ, refl, Bool, true, false, List, [], ◌∷◌, ◌++◌, length, Option, Some, None, cond, sym, ap, ◌∙◌, subst, get_or, set, reverse}
+use Rattle.std.proofs.lemmas.Bool.{eqb-true, eq-eqb, false≢true, true≢false}
+use Rattle.std.specs.Prelude.{nat_lt, ◌==◌, if◌then◌else◌, position, slice_get}
 use mathlib.Core.Path.{fun_ext}
 use Rattle.std.proofs.lemmas.List.Quantifiers.{position-Some}
 use Rattle.gt_types.specs.Names.{domain_of}
@@ -10,7 +10,7 @@ use Rattle.gt_types.specs.declared.denial.Denial.{Denial}
 use Rattle.gt_entry.specs.declared.entry.Entry.{Entry}
 use Rattle.gt_entry.specs.declared.header.Header.{Header}
 use Rattle.gt_core.specs.declared.known.Mapping.{Mapping}
-use Rattle.std.specs.Prelude.{count_by, filter, All}
+use Rattle.std.specs.Prelude.{count_by, All}
 use Rattle.gt_types.specs.declared.Dir.TheVariants.{Read, Write}
 use Rattle.gt_core.specs.declared.request.Request.{Request}
 use Rattle.gt_core.specs.declared.action.Seen.{Seen}
@@ -27,13 +27,13 @@ use Rattle.gt_core.specs.declared.call.Phase.{Phase}
 use Rattle.gt_core.specs.declared.call.Phase.TheVariants.{Begun as PhaseBegun, Pinning as LegPinning, Storing, StoringSecond, Single, Look as OwnLook, Change as OwnChange, Ended}
 use Rattle.gt_types.specs.declared.config.DomainConfig.{DomainConfig}
 use Rattle.gt_types.specs.declared.denial.Facts.TheVariants.{None as NoFacts}
-use Rattle.gt_entry.specs.Words.{control_word, control_of}
+use Rattle.gt_entry.specs.Words.{control_word}
 use Rattle.gt_core.proofs.Still.{leg-keeps}
 use Rattle.gt_core.specs.States.{State}
 use Rattle.gt_core.specs.declared.slot.Open.{Open}
-use Rattle.gt_core.specs.declared.core_state.Opening.TheVariants.{Open as OpeningOpen, Done as OpeningDone}
+use Rattle.gt_core.specs.declared.core_state.Opening.TheVariants.{Open as OpeningOpen}
 use Rattle.std.specs.Prelude.{is_some}
-use Rattle.std.specs.Prelude.{◌||◌, ◌&&◌, not, is_none, nat_le, ◌^◌, ◌-◌}
+use Rattle.std.specs.Prelude.{◌||◌, not, is_none, nat_le, ◌^◌, ◌-◌}
 use Rattle.gt_types.specs.Names.{resolved}
 use Rattle.gt_types.specs.Denial.{denial_of}
 use Rattle.gt_types.specs.declared.TypeId.{TypeId}
@@ -43,7 +43,7 @@ use Rattle.gt_types.specs.declared.denial.Rule.TheVariants.{N1, N2, N3, N5, N6, 
 use Rattle.gt_types.specs.declared.denial.Facts.TheVariants.{Policy}
 use Rattle.gt_core.specs.declared.request.Handle.{Handle}
 use Rattle.gt_core.specs.declared.request.Request.TheVariants.{Grant, Revoke, Demote, Promote, Map, Unmap, Load}
-use Rattle.gt_core.specs.Rules.{first, refused_when, denied, asked_by, label_of, mapping_of, map_begun, load_begun, CallerKnowledge, begun, knowledge_of, entry_in, generation_in, control_with}
+use Rattle.gt_core.specs.Rules.{first, refused_when, denied, asked_by, label_of, mapping_of, map_begun, load_begun, CallerKnowledge, begun, knowledge_of, generation_in, control_with}
 use Rattle.std.proofs.lemmas.Option.{none-some, slice_get_read}
 use Rattle.gt_types.specs.declared.GrantRef.{GrantRef}
 use Rattle.gt_core.specs.declared.action.Step.{Step}
@@ -51,9 +51,10 @@ use Rattle.gt_core.specs.declared.action.Step.TheVariants.{LookControl}
 use Rattle.gt_core.proofs.Legs.{turns-one}
 use Rattle.gt_core.specs.Path.{Continuation, path, steps_of, after_beginning, gives_up, reads, turns}
 use Rattle.gt_core.specs.Machine.{expects, first_phase, phase_after, starts_as, IsUnderway, FitsPhase}
-use Rattle.gt_core.specs.History.{History, Setting, entry_at, generation_at, body_at, word_at, control_at, reads_at, writes_at, live, Pin, table_at, mappings_at, mappings_in, maps_answered_at, known_at, Underway, underway_after, open_call, values, is_pin_on, one_if_mapped}
+use Rattle.gt_core.specs.History.{History, Setting, entry_at, generation_at, body_at, word_at, control_at, reads_at, writes_at, Pin, table_at, mappings_at, mappings_in, known_at, Underway, underway_after, open_call, values, is_pin_on, one_if_mapped}
 use Rattle.gt_core.specs.Legal.{StepsSoFar, IsSpelled, leg_of, stood, stood_with, first_of_item, AnsweredBy, GivesValue, refusal_in, refusal_of, MayDo, IsRight}
-use Rattle.gt_core.specs.Standing.{IsLawful, FitsWord, FitsRequest, PhaseStands, HasStored, HasStoredFirst, OpenAgrees, CallAgrees, SlotAgrees, Agrees, StateAgrees, CoreStands, state_of, plain_answer, Opens}
+use Rattle.gt_core.specs.States.{asks_memory}
+use Rattle.gt_core.specs.Standing.{WantsMemory, IsLawful, FitsWord, FitsRequest, PhaseStands, HasStored, HasStoredFirst, OpenAgrees, CallAgrees, Agrees, StateAgrees, CoreStands, state_of, plain_answer, Opens}
 use Rattle.gt_core.proofs.Quiet.{IsQuiet, kept-contents, quiet-entry, quiet-raises, quiet-body, quiet-live, quiet-maps_answered, quiet-generations, quiet-known}
 use Rattle.gt_core.proofs.Places.{has_id, found, not-found, state_of-set}
 
@@ -66,13 +67,13 @@ starts-open caller r (Some v) first e = cc
 
 -- what a domain itself knows is what the core keeps of it
 pub known-same : (s : Setting) (h : History) (d : State) → Agrees s h d
-    → knowledge_of s.domains s.may d.own d.header d.mappings d.maps_answered ≡ known_at s h d.id
+    → knowledge_of s.domains s.first_generation s.may d.own d.header d.mappings d.maps_answered ≡ known_at s h d.id
 known-same s h d a =
-    ap (λ (f : ℕ → Entry). record { domains = s.domains; may = s.may; entry = f; generation = generation_in d.own; header = d.header; mappings = d.mappings; maps_answered = d.maps_answered }) a.entries
+    ap (λ (f : ℕ → Entry). record { domains = s.domains; may = s.may; entry = f; generation = generation_in s.first_generation d.own; header = d.header; mappings = d.mappings; maps_answered = d.maps_answered }) a.entries
     ∙ ap (λ (f : ℕ → ℕ). record { domains = s.domains; may = s.may; entry = λ r. entry_at h d.id.0 r; generation = f; header = d.header; mappings = d.mappings; maps_answered = d.maps_answered }) a.generations
-    ∙ ap (λ (x : Header). record { domains = s.domains; may = s.may; entry = λ r. entry_at h d.id.0 r; generation = λ r. if nat_lt r 2048 then generation_at s h d.id.0 r else 0; header = x; mappings = d.mappings; maps_answered = d.maps_answered }) a.header
-    ∙ ap (λ (x : List Mapping). record { domains = s.domains; may = s.may; entry = λ r. entry_at h d.id.0 r; generation = λ r. if nat_lt r 2048 then generation_at s h d.id.0 r else 0; header = table_at s h d.id; mappings = x; maps_answered = d.maps_answered }) a.mappings
-    ∙ ap (λ (x : ℕ). record { domains = s.domains; may = s.may; entry = λ r. entry_at h d.id.0 r; generation = λ r. if nat_lt r 2048 then generation_at s h d.id.0 r else 0; header = table_at s h d.id; mappings = mappings_at h d.id.0; maps_answered = x }) a.maps_answered
+    ∙ ap (λ (x : Header). record { domains = s.domains; may = s.may; entry = λ r. entry_at h d.id.0 r; generation = λ r. generation_at s h d.id.0 r; header = x; mappings = d.mappings; maps_answered = d.maps_answered }) a.header
+    ∙ ap (λ (x : List Mapping). record { domains = s.domains; may = s.may; entry = λ r. entry_at h d.id.0 r; generation = λ r. generation_at s h d.id.0 r; header = table_at s h d.id; mappings = x; maps_answered = d.maps_answered }) a.mappings
+    ∙ ap (λ (x : ℕ). record { domains = s.domains; may = s.may; entry = λ r. entry_at h d.id.0 r; generation = λ r. generation_at s h d.id.0 r; header = table_at s h d.id; mappings = mappings_at h d.id.0; maps_answered = x }) a.maps_answered
 
 -- a quiet item leaves a domain as it was, but for its call
 pub quiet-agrees : (s : Setting) (i : Item) (h : History) (d : State) (o : Option Open) → IsQuiet i → Agrees s h d
@@ -278,7 +279,7 @@ first-place s h d (Unmap handle) e = tt
 first-place s h d (Load handle off len) e = tt
 
 pub begin-opens : (s : Setting) (h : History) (d : State) (request : Request) (o : Open) → FitsRequest request → Agrees s h d → d.underway ≡ None
-    → Opens (knowledge_of s.domains s.may d.own d.header d.mappings d.maps_answered) d.id request (OpeningOpen o)
+    → Opens (knowledge_of s.domains s.first_generation s.may d.own d.header d.mappings d.maps_answered) d.id request (OpeningOpen o)
     → IsRight s h (began d.id request None) × Agrees s (began d.id request None ∷ h) (record d { underway = Some o })
 begin-opens s h d request o fits a closed opens =
     let i = began d.id request None in
@@ -359,7 +360,7 @@ gives-value s h k d (Unmap handle) Granted e = refl
 gives-value s h k d (Load handle off len) Granted e = absurd (load-refused k.mappings handle off len e)
 
 pub begin-done : (s : Setting) (h : History) (d : State) (request : Request) (v : Verdict) → Agrees s h d → d.underway ≡ None
-    → begun (knowledge_of s.domains s.may d.own d.header d.mappings d.maps_answered) d.id request ≡ Some v
+    → begun (knowledge_of s.domains s.first_generation s.may d.own d.header d.mappings d.maps_answered) d.id request ≡ Some v
     → IsRight s h (began d.id request (Some (plain_answer v))) × Agrees s (began d.id request (Some (plain_answer v)) ∷ h) d
 begin-done s h d request v a closed opens =
     let i = began d.id request (Some (plain_answer v)) in
@@ -470,12 +471,12 @@ same-state domains x q e = by (x.id.0 == q) refl
 
 pub begin-answered : (s : Setting) (h : History) (domains : List State) (dom : DomId) (at : ℕ) (x : State) (request : Request) (v : Verdict)
     → position (has_id dom.0) domains ≡ Some at → x ≡ get_or domains at x → is_some x.underway ≡ false
-    → begun (knowledge_of s.domains s.may x.own x.header x.mappings x.maps_answered) dom request ≡ Some v → CoreStands s h domains
+    → begun (knowledge_of s.domains s.first_generation s.may x.own x.header x.mappings x.maps_answered) dom request ≡ Some v → CoreStands s h domains
     → (domain_of s.domains dom ≢ None) × IsRight s h (began dom request (Some (plain_answer v))) × CoreStands s (began dom request (Some (plain_answer v)) ∷ h) domains
 begin-answered s h domains dom at x request v p here idle opens st =
     let a = agrees-found s h domains dom at x p here st in
     let f = found domains dom.0 at x p ∙ ap (λ (y : State). Some y) (sym here) in
-    let both = subst (λ (d : DomId). begun (knowledge_of s.domains s.may x.own x.header x.mappings x.maps_answered) d request ≡ Some v → state_of domains d.0 ≡ Some x
+    let both = subst (λ (d : DomId). begun (knowledge_of s.domains s.first_generation s.may x.own x.header x.mappings x.maps_answered) d request ≡ Some v → state_of domains d.0 ≡ Some x
     → IsRight s h (began d request (Some (plain_answer v))) × CoreStands s (began d request (Some (plain_answer v)) ∷ h) domains) a.1
     (λ op g. let b = begin-done s h x request v a.2 (closed-from x.underway idle) op in (
       b.0,
@@ -487,13 +488,13 @@ begin-answered s h domains dom at x request v p here idle opens st =
 
 pub begin-opened : (s : Setting) (h : History) (domains : List State) (dom : DomId) (at : ℕ) (x : State) (request : Request) (o : Open)
     → FitsRequest request → position (has_id dom.0) domains ≡ Some at → x ≡ get_or domains at x → is_some x.underway ≡ false
-    → Opens (knowledge_of s.domains s.may x.own x.header x.mappings x.maps_answered) dom request (OpeningOpen o) → CoreStands s h domains
+    → Opens (knowledge_of s.domains s.first_generation s.may x.own x.header x.mappings x.maps_answered) dom request (OpeningOpen o) → CoreStands s h domains
     → (domain_of s.domains dom ≢ None) × IsRight s h (began dom request None) × CoreStands s (began dom request None ∷ h) (set domains at (record x { underway = Some o }))
 begin-opened s h domains dom at x request o fits p here idle opens st =
     let a = agrees-found s h domains dom at x p here st in
     let f = found domains dom.0 at x p ∙ ap (λ (y : State). Some y) (sym here) in
     let places = position-Some (has_id dom.0) domains at x p in
-    let both = subst (λ (d : DomId). Opens (knowledge_of s.domains s.may x.own x.header x.mappings x.maps_answered) d request (OpeningOpen o) → state_of domains d.0 ≡ Some x
+    let both = subst (λ (d : DomId). Opens (knowledge_of s.domains s.first_generation s.may x.own x.header x.mappings x.maps_answered) d request (OpeningOpen o) → state_of domains d.0 ≡ Some x
     → ((k : ℕ) → k < at → has_id d.0 (get_or domains k x) ≡ false)
     → IsRight s h (began d request None) × CoreStands s (began d request None ∷ h) (set domains at (record x { underway = Some o }))) a.1
     (λ op g apart. let b = begin-opens s h x request o fits a.2 (closed-from x.underway idle) op in (
@@ -509,7 +510,7 @@ place-at domains d at x p here = slice_get_read domains (length domains) at x re
 
 pub begin-answers : (s : Setting) (h : History) (domains : List State) (dom : DomId) (at : ℕ) (x : State) (request : Request) (v : Verdict) (y : Answer) → y ≡ plain_answer v
     → position (has_id dom.0) domains ≡ Some at → x ≡ get_or domains at x → is_some x.underway ≡ false
-    → begun (knowledge_of s.domains s.may x.own x.header x.mappings x.maps_answered) dom request ≡ Some v → CoreStands s h domains
+    → begun (knowledge_of s.domains s.first_generation s.may x.own x.header x.mappings x.maps_answered) dom request ≡ Some v → CoreStands s h domains
     → (domain_of s.domains dom ≢ None) × IsRight s h (began dom request (Some y)) × CoreStands s (began dom request (Some y) ∷ h) domains
 begin-answers s h domains dom at x request v y e p here idle opens st =
     subst (λ (z : Answer). (domain_of s.domains dom ≢ None) × IsRight s h (began dom request (Some z)) × CoreStands s (began dom request (Some z) ∷ h) domains) (sym e)
@@ -521,3 +522,14 @@ pub tick-idle : (s : Setting) (h : History) (domains : List State) (dom : DomId)
 tick-idle s h domains dom at x p here closed st =
     let a = agrees-found s h domains dom at x p here st in
     (a.0, subst (λ (d : DomId). open_call h d.0 ≡ None) a.1 (call-none s h x.id x.underway (open_call h x.id.0) closed a.2.call))
+
+-- a beginning for which memory is wanted
+pub begin-wants : (s : Setting) (h : History) (domains : List State) (dom : DomId) (at : ℕ) (x : State) (request : Request) (o : Open)
+    → asks_memory o.call.request ≡ true → position (has_id dom.0) domains ≡ Some at → x ≡ get_or domains at x → is_some x.underway ≡ false
+    → Opens (knowledge_of s.domains s.first_generation s.may x.own x.header x.mappings x.maps_answered) dom request (OpeningOpen o) → CoreStands s h domains → WantsMemory s h dom request
+begin-wants s h domains dom at x request o asks p here idle opens st =
+    let a = agrees-found s h domains dom at x p here st in (
+      ap asks_memory (sym opens.2) ∙ asks,
+      subst (λ (d : DomId). open_call h d.0 ≡ None) a.1 (call-none s h x.id x.underway (open_call h x.id.0) (closed-from x.underway idle) a.2.call),
+      subst (λ (d : DomId). begun (known_at s h d) dom request ≡ None) a.1 (ap (λ (k : CallerKnowledge). begun k dom request) (sym (known-same s h x a.2)) ∙ opens.0),
+    )

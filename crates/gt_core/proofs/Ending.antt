@@ -1,27 +1,21 @@
 -- A tick after which a call is answered Ok.
-use Rattle.std.proofs.Common.{◌⊎◌, inl, inr, ◌≡◌, ◌≢◌, ◌<◌, ◌≤◌, ◌+◌, ◌-◌, ℕ, zero, suc, refl, Bool, true, false, List, [], ◌∷◌, ◌++◌, length, Option, Some, None, cond, ltb, leb, eqb, sym, ap, ◌∙◌, arith, subst, map, get_or, set, reverse, take, drop}
-use Rattle.std.proofs.lemmas.Bool.{lt-ltb, lt-leb, leb-false, eqb-true, eq-eqb, false≢true, true≢false}
-use Rattle.std.proofs.lemmas.List.{append-nil, map-append, reverse-append, append_assoc, take_all, drop_all}
+use Rattle.std.proofs.Common.{◌≡◌, ◌≢◌, ◌<◌, ◌≤◌, ◌+◌, ◌-◌, ℕ, refl, Bool, true, false, List, [], ◌∷◌, ◌++◌, length, Option, Some, None, cond, sym, ap, ◌∙◌, arith, subst, get_or, set, reverse, take, drop}
+use Rattle.std.proofs.lemmas.Bool.{leb-false, eqb-true, eq-eqb, false≢true, true≢false}
+use Rattle.std.proofs.lemmas.List.{append-nil, take_all, drop_all}
 use Rattle.std.proofs.lemmas.List.Elements.{All-tail}
-use Rattle.std.proofs.lemmas.List.Quantifiers.{position-Some}
 use Rattle.std.proofs.lemmas.Option.{none-some, same_Some}
-use Rattle.std.specs.Prelude.{nat_lt, nat_le, ◌==◌, ◌&&◌, if◌then◌else◌, not, position, All, Any, count_by, slice_get, ◌||◌, is_none, ◌^◌}
+use Rattle.std.specs.Prelude.{nat_lt, nat_le, ◌==◌, ◌&&◌, not, position, All, slice_get, ◌||◌, is_none, ◌^◌}
 use Rattle.std.specs.Option.{option_map}
-use mathlib.Core.Path.{fun_ext}
-use Rattle.gt_core.specs.Rows.{changed_at}
-use Rattle.gt_core.specs.History.{is_pin_on}
 use Rattle.gt_types.specs.Denial.{denial_of}
 use Rattle.gt_types.specs.Names.{domain_of}
 use Rattle.gt_types.specs.declared.DomId.{DomId}
 use Rattle.gt_types.specs.declared.GrantRef.{GrantRef}
 use Rattle.gt_types.specs.declared.denial.Rule.{Rule}
-use Rattle.gt_types.specs.declared.denial.Rule.TheVariants.{N9, N18, N19, N20, N21, N22}
-use Rattle.gt_types.specs.declared.denial.Facts.TheVariants.{None as NoFacts}
+use Rattle.gt_types.specs.declared.denial.Rule.TheVariants.{N9, N18, N19}
 use Rattle.gt_types.specs.declared.denial.Denial.{Denial}
 use Rattle.gt_entry.specs.declared.entry.Entry.{Entry}
 use Rattle.gt_entry.specs.declared.entry.Entry.TheVariants.{Invalid, Page, Sub, Via}
-use Rattle.gt_entry.specs.declared.header.Header.{Header}
-use Rattle.gt_entry.specs.Words.{control_word, control_of, header_word, header_of}
+use Rattle.gt_entry.specs.Words.{control_of, header_word, header_of}
 use Rattle.gt_core.specs.declared.known.Mapping.{Mapping}
 use Rattle.gt_types.specs.declared.Dir.{Dir}
 use Rattle.gt_types.specs.declared.Dir.TheVariants.{Read, Write}
@@ -31,10 +25,8 @@ use Rattle.gt_core.specs.declared.request.Holder.{Holder}
 use Rattle.gt_core.specs.declared.request.Holder.TheVariants.{Mapping as ByMapping, Leg as ByLeg}
 use Rattle.gt_core.specs.declared.request.Request.{Request}
 use Rattle.gt_core.specs.declared.request.Request.TheVariants.{Grant, Revoke, Demote, Promote, Map, Unmap, Load}
-use Rattle.gt_core.specs.declared.action.Verdict.{Verdict}
 use Rattle.gt_core.specs.declared.action.Verdict.TheVariants.{Granted, Refused}
 use Rattle.gt_core.specs.declared.action.Change.{Change}
-use Rattle.gt_core.specs.declared.action.Change.TheVariants.{Publish, Revoke as ToInvalid, Demote as ToReadOnly, Promote as ToWritable}
 use Rattle.gt_core.specs.declared.action.Step.{Step}
 use Rattle.gt_core.specs.declared.action.Step.TheVariants.{LookHeader, LookControl, LookBody, Pin as PinStep, Unpin, StoreBody, Exchange, Read as ReadBytes}
 use Rattle.gt_core.specs.declared.action.Seen.{Seen}
@@ -49,42 +41,30 @@ use Rattle.gt_core.specs.declared.leg.LegNext.TheVariants.{Going, Refused as Leg
 use Rattle.gt_core.specs.declared.call.Call.{Call}
 use Rattle.gt_core.specs.declared.call.Phase.{Phase}
 use Rattle.gt_core.specs.declared.call.Phase.TheVariants.{Begun as PhaseBegun, Pinning as LegPinning, Storing, StoringSecond, Single, Look as OwnLook, Change as OwnChange, Ended}
-use Rattle.gt_core.specs.declared.trace.Item.{Item}
-use Rattle.gt_core.specs.declared.trace.Happened.TheVariants.{Began, Stepped}
 use Rattle.gt_core.specs.declared.trace.Answer.{Answer}
 use Rattle.gt_core.specs.declared.trace.Answer.TheVariants.{Denied}
 use Rattle.gt_core.specs.States.{State}
 use Rattle.gt_core.specs.declared.slot.Open.{Open}
-use Rattle.gt_core.specs.Rules.{CallerKnowledge, knowledge_of, is_demote, begun, first, refused_when, granted_when, size_of, is_invalid, cannot_stand, control_with, mapping_of}
-use Rattle.gt_core.specs.Path.{Continuation, entry_refusal, path, steps_of, after_beginning, to_ro_or_back, idle_word}
-use Rattle.gt_core.specs.Machine.{expects, action_at, phase_after, after_leg, after_single, leg_after, leg_step, own_gref, is_sub, store_at, second_at, single_at, unpin_of, read_of, IsUnderway, Comes, IsExchanged, FitsStep, FitsAction, FitsPhase}
+use Rattle.gt_core.specs.Rules.{CallerKnowledge, knowledge_of, is_demote, begun, first, refused_when, size_of, control_with, mapping_of}
+use Rattle.gt_core.specs.Path.{entry_refusal}
+use Rattle.gt_core.specs.Machine.{expects, action_at, phase_after, after_leg, leg_after, leg_step, own_gref, is_sub, store_at, second_at, single_at, unpin_of, read_of, Comes}
 use Rattle.gt_core.specs.Sight.{sees, changes_nothing}
-use Rattle.gt_core.specs.History.{History, Setting, word_at, control_at, table_at, known_at, writes_at, reads_at, entry_at, generation_at, body_at, seen_by, exchange_sees, Underway, open_call, underway_after, values, one_if_mapped, live, Pin, mapping_on, mappings_in, mappings_at, frame_of, is_handle}
-use Rattle.gt_core.specs.Legal.{Permits, Reaches, MayUse, Justified, IsSafe, PinIsSound, StepsSoFar, IsSpelled, first_at, leg_of, misses, is_in_body, looked_at, stands_when, at_entry, rule_at_exchange, refusal_in, verdict_in, or_then, stood, first_in_call, first_of_item, AnsweredBy, StepsRight, StepsRightIn}
-use Rattle.gt_core.specs.Standing.{IsLawful, IsLawfullyHeld, LegStands, PhaseStands, HasStored, HasStoredFirst, OpenAgrees, CallAgrees, Agrees, StateAgrees, CoreStands, Advances, state_of}
-use Rattle.gt_core.proofs.Calls.{wants-action, comes-some}
-use Rattle.gt_core.proofs.Places.{has_id, found, state_of-set}
+use Rattle.gt_core.specs.History.{History, Setting, word_at, control_at, table_at, known_at, writes_at, reads_at, entry_at, generation_at, body_at, seen_by, Underway, open_call, one_if_mapped, live, Pin, mapping_on, mappings_in, mappings_at, frame_of, is_handle}
+use Rattle.gt_core.specs.Legal.{Permits, MayUse, IsSafe, PinIsSound, StepsSoFar, leg_of, verdict_in, stood, AnsweredBy, StepsRight, StepsRightIn}
+use Rattle.gt_core.specs.Standing.{IsLawful, IsLawfullyHeld, PhaseStands, OpenAgrees, CallAgrees, Agrees, StateAgrees, CoreStands, Advances, state_of}
+use Rattle.gt_core.proofs.Calls.{comes-some}
+use Rattle.gt_core.proofs.Places.{has_id, found}
 use Rattle.gt_core.proofs.Fitting.{word-shows}
-use Rattle.gt_core.proofs.Quiet.{IsQuiet, quiet-known}
-use Rattle.gt_core.proofs.Beginning.{known-same, quiet-agrees, quiet-stands, place-keeps, open_call-own, stood-own, agrees-found, same-state}
-use Rattle.gt_core.proofs.Seeing.{IsWithin, sees-agree}
-use Rattle.gt_core.proofs.FirstRules.{first-of-leg, refusal_next, misses-look}
-use Rattle.gt_core.proofs.Placing.{NextStands, leg-place}
-use Rattle.gt_core.proofs.Owners.{phase_refusal, first-own-look, first-own-change, writes-shown, idle-pins, misses-exchange}
-
+use Rattle.gt_core.proofs.Beginning.{quiet-agrees, quiet-stands, open_call-own, agrees-found}
+use Rattle.gt_core.proofs.Owners.{phase_refusal}
 use Rattle.gt_core.specs.States.{changed_in}
-use Rattle.gt_core.specs.Effects.{applied, with_slot, with_underway, slot_after}
-use Rattle.gt_core.specs.declared.slot.Slot.{Slot}
+use Rattle.gt_core.specs.Effects.{applied, with_slot, with_underway}
 use Rattle.gt_core.specs.declared.slot.SlotChange.TheVariants.{Stored}
 use Rattle.gt_core.specs.Rules.{first_body, second_body, begun}
-use Rattle.gt_core.specs.History.{or_else, stored_at, change_of, contents_at, maps_answered_at, pinned_by, unpinned_by}
-use Rattle.gt_core.specs.Standing.{SlotAgrees, FitsWord, IsValid}
-use Rattle.gt_core.proofs.Rows.{get-changed, length-changed, state-changed, set-state, changed-nowhere}
-use Rattle.gt_core.proofs.Others.{other-agrees, other-known, other-body}
-use Rattle.gt_core.proofs.Quiet.{KeepsKnown, kept-entry, kept-raises, kept-live, kept-maps_answered, kept-generations, kept-known, kept-contents}
-use Rattle.gt_core.proofs.Ticking.{Stepping, stepping, stepped, goes-on-after, going-right, call-here, tick-goes-on, tick-refused, makes-same, grant-invalid, own-below, with_open, decide, not-refused, one-more}
-use Rattle.gt_core.proofs.Beginning.{spelled-stays}
-
+use Rattle.gt_core.specs.History.{contents_at, maps_answered_at}
+use Rattle.gt_core.specs.Standing.{FitsWord}
+use Rattle.gt_core.proofs.Rows.{state-changed, set-state}
+use Rattle.gt_core.proofs.Ticking.{Stepping, stepping, stepped, call-here, tick-goes-on, tick-refused, makes-same, decide}
 use Rattle.std.proofs.lemmas.Bool.{leb-false, ltb-false}
 use Rattle.std.proofs.lemmas.List.{length-replicate, length-drop, length-take-le}
 use Rattle.gt_types.specs.Names.{resolved, map_read, map_write}
@@ -94,10 +74,10 @@ use Rattle.gt_types.specs.declared.denial.Rule.TheVariants.{N1, N2, N3, N5, N6, 
 use Rattle.gt_types.specs.declared.denial.Facts.TheVariants.{Policy}
 use Rattle.gt_types.specs.declared.Use.{Use}
 use Rattle.gt_entry.specs.declared.control.Control.{Control}
-use Rattle.gt_entry.specs.declared.control.Kind.TheVariants.{Invalid as KindInvalid, Page as KindPage, Sub as KindSub, Via as KindVia}
+use Rattle.gt_entry.specs.declared.control.Kind.TheVariants.{Page as KindPage, Sub as KindSub, Via as KindVia}
 use Rattle.gt_core.specs.declared.trace.Answer.TheVariants.{Done as AnswerDone, Mapped, Bytes as BytesAnswer}
 use Rattle.gt_core.specs.declared.trace.Bytes.{Bytes}
-use Rattle.gt_core.specs.Rules.{stands, first_look, before_pin, is_kind, wants, writes_by, denied, asked_by, map_begun, load_begun, label_of, frames_of, holds, pins_of}
+use Rattle.gt_core.specs.Rules.{stands, first_look, before_pin, is_kind, wants, writes_by, denied, asked_by, label_of, frames_of, holds, pins_of}
 use Rattle.gt_core.specs.Path.{map_leg}
 use Rattle.gt_core.specs.Legal.{GivesValue, refusal_of, NoneStands}
 use Rattle.gt_core.specs.Standing.{Settled, NeedsNoRoom, IsMapping, IsLoadOf}
@@ -112,7 +92,7 @@ use Rattle.gt_core.proofs.Ticking.{path-here, path-next, stood-step, step-justif
 use Rattle.gt_core.proofs.Turning.{applied-quiet, tick-stores}
 use Rattle.gt_core.proofs.Ticking.{refused-changes-nothing}
 use Rattle.gt_core.specs.Standing.{Advances}
-use Rattle.gt_core.proofs.Exchanging.{Exchanges, exchange-stands, exchange-ends, exchange-safe}
+use Rattle.gt_core.proofs.Exchanging.{exchange-stands, exchange-ends, exchange-safe}
 use Rattle.gt_core.proofs.Unpinning.{unpin-stands}
 use Rattle.gt_core.proofs.Pinning.{pin-stands, new_pin, pins_at}
 
@@ -143,6 +123,7 @@ granted-right s h xs d o c seen new answer st call oa p safe sound plain value =
       justified = step-justified s h xs d c.request o.call.phase o.step st p.act;
       safe = safe;
       sound = sound;
+      soon = λ e. let f : Some answer ≡ None = e in cc;
       answered = subst (λ (a : Option Action). AnsweredBy s h d c.request (Some o.step) (verdict_in a) (Some answer) (stood s (stepped d o.step seen (Some answer) ∷ h) d.0))
           (sym (path-next s h d o c seen new (Done Granted) oa p)) (plain, plain ∙ sym fair, value);
     }
@@ -430,8 +411,7 @@ map-asked s h d dom gref flags e =
     let a = first-none (refused_when (is_none (domain_of k.domains (resolved d dom))) N1) (n2 ∷ n5 ∷ n8 ∷ []) e in
     let b = first-none n2 (n5 ∷ n8 ∷ []) a.1 in
     let c = first-none n5 (n8 ∷ []) b.1 in
-    let f = first-none n8 [] c.1 in
-    (
+    let f = first-none n8 [] c.1 in (
       asks-all s d (resolved d dom) (flags == 2) c.0,
       leb-false (2 ^ 64 - 1) k.maps_answered (or-false (nat_le 8192 (length k.mappings)) (nat_le (2 ^ 64 - 1) k.maps_answered) (refused-none (nat_le 8192 (length k.mappings) || nat_le (2 ^ 64 - 1) k.maps_answered) N8 f.0)),
     )
@@ -624,11 +604,12 @@ pin-ends s h xs x o c seen new answer settled l more word body second st here a 
     (subst (λ (z : Step). PinIsSound s h d c.request z seen) (sym step) (subst (λ (v : Seen). PinIsSound s h d c.request (PinStep l.dom l.gref word l.dir) v) (sym taken) sound))
     refl
     (subst (λ (z : Step). GivesValue s h d c.request (Some z) (Mapped handle)) (sym step) (gives-handle s h d m.0 l.dom m.1 l.gref flags word l.dir c.request handle m.3 serial)) in
-    subst (λ (z : Answer). EndsRight s h xs x o c o.step seen z settled) (sym done.1)
-    (right,
-    subst (λ (z : Step). CoreStands s (stepped d z seen (Some (Mapped handle)) ∷ h) (applied d z seen settled)) (sym step)
-    (subst (λ (v : Seen). CoreStands s (stepped d (PinStep l.dom l.gref word l.dir) v (Some (Mapped handle)) ∷ h) (applied d (PinStep l.dom l.gref word l.dir) v settled)) (sym taken)
-    (subst (λ (z : List State). CoreStands s (stepped d (PinStep l.dom l.gref word l.dir) Taken (Some (Mapped handle)) ∷ h) (changed_in t (with_slot r (Pinned l.dir)) z)) (sym after) stood)))
+    subst (λ (z : Answer). EndsRight s h xs x o c o.step seen z settled) (sym done.1) (
+      right,
+      subst (λ (z : Step). CoreStands s (stepped d z seen (Some (Mapped handle)) ∷ h) (applied d z seen settled)) (sym step)
+          (subst (λ (v : Seen). CoreStands s (stepped d (PinStep l.dom l.gref word l.dir) v (Some (Mapped handle)) ∷ h) (applied d (PinStep l.dom l.gref word l.dir) v settled)) (sym taken)
+          (subst (λ (z : List State). CoreStands s (stepped d (PinStep l.dom l.gref word l.dir) Taken (Some (Mapped handle)) ∷ h) (changed_in t (with_slot r (Pinned l.dir)) z)) (sym after) stood)),
+    )
 
 -- a call is over with an exchange, an unpin or an access
 
@@ -642,12 +623,13 @@ exchange-over s h xs x o c seen new answer settled gref looked change st call oa
     let right : StepsRight s h (stepped d o.step seen (Some AnswerDone)) o.step seen c =
     granted-right s h xs d o c seen new AnswerDone st call oa w (exchange-safe s h d gref looked change o.step seen (Some AnswerDone) step e)
     (subst (λ (z : Step). PinIsSound s h d c.request z seen) (sym step) tt) refl value in
-    subst (λ (z : Answer). EndsRight s h xs x o c o.step seen z settled) (sym done.0)
-    (right,
-    subst (λ (z : Step). CoreStands s (stepped d z seen (Some AnswerDone) ∷ h) (applied d z seen settled)) (sym step)
-    (subst (λ (v : Seen). CoreStands s (stepped d (Exchange gref looked change) v (Some AnswerDone) ∷ h) (applied d (Exchange gref looked change) v settled)) (sym e.taken)
-    (subst (λ (z : List State). CoreStands s (stepped d (Exchange gref looked change) Taken (Some AnswerDone) ∷ h) (changed_in d.0 (with_own gref.0 change) z)) (sym done.1)
-    (exchange-stands s h xs d gref looked change st e.within e.safe e.fits e.room))))
+    subst (λ (z : Answer). EndsRight s h xs x o c o.step seen z settled) (sym done.0) (
+      right,
+      subst (λ (z : Step). CoreStands s (stepped d z seen (Some AnswerDone) ∷ h) (applied d z seen settled)) (sym step)
+          (subst (λ (v : Seen). CoreStands s (stepped d (Exchange gref looked change) v (Some AnswerDone) ∷ h) (applied d (Exchange gref looked change) v settled)) (sym e.taken)
+          (subst (λ (z : List State). CoreStands s (stepped d (Exchange gref looked change) Taken (Some AnswerDone) ∷ h) (changed_in d.0 (with_own gref.0 change) z)) (sym done.1)
+          (exchange-stands s h xs d gref looked change st e.within e.safe e.fits e.room))),
+    )
 
 unpin-over : (s : Setting) (h : History) (xs : List State) (x : State) (o : Open) (c : Underway) (seen : Seen) (new : Call) (answer : Answer) (settled : List State) (handle : Handle) (m : Mapping)
     → CoreStands s h xs → state_of xs x.id.0 ≡ Some x → open_call h x.id.0 ≡ Some c → OpenAgrees s h x.id o c → Stepping s h x.id o c seen new (Done Granted)
@@ -662,12 +644,13 @@ unpin-over s h xs x o c seen new answer settled handle m st here call oa w asks 
     (subst (λ (z : Step). IsSafe s h (stepped d z seen (Some AnswerDone))) (sym step) tt)
     (subst (λ (z : Step). PinIsSound s h d c.request z seen) (sym step) tt) refl
     (subst (λ (z : Request). GivesValue s h d z (Some o.step) AnswerDone) (sym asks) refl) in
-    subst (λ (z : Answer). EndsRight s h xs x o c o.step seen z settled) (sym done.0)
-    (right,
-    subst (λ (z : Step). CoreStands s (stepped d z seen (Some AnswerDone) ∷ h) (applied d z seen settled)) (sym step)
-    (subst (λ (v : Seen). CoreStands s (stepped d (Unpin m.dom m.gref m.dir (ByMapping m.handle)) v (Some AnswerDone) ∷ h) (applied d (Unpin m.dom m.gref m.dir (ByMapping m.handle)) v settled)) (sym nothing)
-    (subst (λ (z : List State). CoreStands s (stepped d (Unpin m.dom m.gref m.dir (ByMapping m.handle)) Nothing (Some AnswerDone) ∷ h) (changed_in d.0 (without_mapping (ByMapping m.handle)) (changed_in m.dom.0 (with_slot m.gref.0 (Unpinned m.dir)) z))) (sym done.1)
-    (unpin-stands s h xs d x handle m st here refl found))))
+    subst (λ (z : Answer). EndsRight s h xs x o c o.step seen z settled) (sym done.0) (
+      right,
+      subst (λ (z : Step). CoreStands s (stepped d z seen (Some AnswerDone) ∷ h) (applied d z seen settled)) (sym step)
+          (subst (λ (v : Seen). CoreStands s (stepped d (Unpin m.dom m.gref m.dir (ByMapping m.handle)) v (Some AnswerDone) ∷ h) (applied d (Unpin m.dom m.gref m.dir (ByMapping m.handle)) v settled)) (sym nothing)
+          (subst (λ (z : List State). CoreStands s (stepped d (Unpin m.dom m.gref m.dir (ByMapping m.handle)) Nothing (Some AnswerDone) ∷ h) (changed_in d.0 (without_mapping (ByMapping m.handle)) (changed_in m.dom.0 (with_slot m.gref.0 (Unpinned m.dir)) z))) (sym done.1)
+          (unpin-stands s h xs d x handle m st here refl found))),
+    )
 
 -- a call that ends and changes nothing else
 quiet-over : (s : Setting) (h : History) (xs : List State) (x : State) (step : Step) (seen : Seen) (answer : Answer) → CoreStands s h xs → state_of xs x.id.0 ≡ Some x → Agrees s h x
@@ -708,10 +691,11 @@ load-over s h xs x o c seen new answer settled handle off len m st here a call o
     (subst (λ (z : Request). GivesValue s h d z (Some o.step) (BytesAnswer b)) (sym asks)
     (subst (λ (z : Step). GivesValue s h d (Load handle off len) (Some z) (BytesAnswer b)) (sym step) bytes)) in
     let q : changes_nothing o.step seen ≡ true = ap (λ (z : Step). changes_nothing z seen) step in
-    subst (λ (z : Answer). EndsRight s h xs x o c o.step seen z settled) (sym done.1)
-    (right,
-    subst (λ (z : List State). CoreStands s (stepped d o.step seen (Some (BytesAnswer b)) ∷ h) z) (sym (applied-quiet d o.step seen settled q ∙ done.2))
-    (quiet-over s h xs x o.step seen (BytesAnswer b) st here a q refl))
+    subst (λ (z : Answer). EndsRight s h xs x o c o.step seen z settled) (sym done.1) (
+      right,
+      subst (λ (z : List State). CoreStands s (stepped d o.step seen (Some (BytesAnswer b)) ∷ h) z) (sym (applied-quiet d o.step seen settled q ∙ done.2))
+          (quiet-over s h xs x o.step seen (BytesAnswer b) st here a q refl),
+    )
 
 -- a call whose last step is an exchange gives no value
 exchange-gives : (s : Setting) (h : History) (d : DomId) (k : CallerKnowledge) (r : Request) (phase : Phase) (gref : GrantRef) (looked : ℕ) (change : Change) (step : Option Step) → action_at k d r phase ≡ Makes (Exchange gref looked change)
@@ -922,7 +906,7 @@ TickRight s h dom step seen answer new =
 
 pub tick-granted : (s : Setting) (h : History) (xs : List State) (dom : DomId) (at : ℕ) (x : State) (o : Open) (seen : Seen) (new : Call) (answer : Answer) (settled : List State)
     → position (has_id dom.0) xs ≡ Some at → x ≡ get_or xs at x → x.underway ≡ Some o → CoreStands s h xs → seen ≡ sees xs dom o.step
-    → Advances (knowledge_of s.domains s.may x.own x.header x.mappings x.maps_answered) o.call.caller o.call.request o.call.phase seen new (Done Granted)
+    → Advances (knowledge_of s.domains s.first_generation s.may x.own x.header x.mappings x.maps_answered) o.call.caller o.call.request o.call.phase seen new (Done Granted)
     → Settled xs at x o o.step answer settled
     → TickRight s h dom o.step seen (Some answer) (applied dom o.step seen settled)
 tick-granted s h xs dom at x o seen new answer settled p here is st saw adv done =
@@ -940,7 +924,7 @@ tick-granted s h xs dom at x o seen new answer settled p here is st saw adv done
 
 pub tick-goes : (s : Setting) (h : History) (xs : List State) (dom : DomId) (at : ℕ) (x : State) (o : Open) (seen : Seen) (new : Call) (step : Step)
     → position (has_id dom.0) xs ≡ Some at → x ≡ get_or xs at x → x.underway ≡ Some o → CoreStands s h xs → seen ≡ sees xs dom o.step
-    → Advances (knowledge_of s.domains s.may x.own x.header x.mappings x.maps_answered) o.call.caller o.call.request o.call.phase seen new (Makes step)
+    → Advances (knowledge_of s.domains s.first_generation s.may x.own x.header x.mappings x.maps_answered) o.call.caller o.call.request o.call.phase seen new (Makes step)
     → TickRight s h dom o.step seen None (applied dom o.step seen (set xs at (with_underway (Some (record { call = new; step = step })) x)))
 tick-goes s h xs dom at x o seen new step p here is st saw adv =
     decide (changes_nothing o.step seen)
@@ -955,8 +939,7 @@ tick-goes s h xs dom at x o seen new step p here is st saw adv =
     (λ q' g sees.
     let c = call-here s h x.id x.underway (open_call h x.id.0) o is a.2.call in
     let w = stepping s h xs x o c.0 seen new (Makes step) st g a.2 c.2 sees adv in
-    let e = tick-stores s h xs x o c.0 seen new step st g a.2 c.1 c.2 w q in
-    (
+    let e = tick-stores s h xs x o c.0 seen new step st g a.2 c.1 c.2 w q in (
       subst (λ (v : Option Underway). StepsRightIn s h (stepped x.id o.step seen None) o.step seen v) (sym c.1) e.0,
       subst (λ (l : List State). CoreStands s (stepped x.id o.step seen None ∷ h) (applied x.id o.step seen l)) (sym (set-state xs x.id.0 at (with_underway u) x (with_underway u x) q' here refl)) e.1,
     ))
@@ -965,7 +948,7 @@ tick-goes s h xs dom at x o seen new step p here is st saw adv =
 
 pub tick-denied : (s : Setting) (h : History) (xs : List State) (dom : DomId) (at : ℕ) (x : State) (o : Open) (seen : Seen) (new : Call) (denial : Denial)
     → position (has_id dom.0) xs ≡ Some at → x ≡ get_or xs at x → x.underway ≡ Some o → CoreStands s h xs → seen ≡ sees xs dom o.step
-    → Advances (knowledge_of s.domains s.may x.own x.header x.mappings x.maps_answered) o.call.caller o.call.request o.call.phase seen new (Done (Refused denial))
+    → Advances (knowledge_of s.domains s.first_generation s.may x.own x.header x.mappings x.maps_answered) o.call.caller o.call.request o.call.phase seen new (Done (Refused denial))
     → TickRight s h dom o.step seen (Some (Denied denial)) (applied dom o.step seen (set xs at (with_underway None x)))
 tick-denied s h xs dom at x o seen new denial p here is st saw adv =
     let q = refused-changes-nothing s h xs dom at x o seen new denial p here is st saw adv in
@@ -1017,7 +1000,7 @@ place-leg s h d r so_far phase l p a e = (subst (PhaseStands s h d r so_far) e a
 
 pub needs-no-room : (s : Setting) (h : History) (xs : List State) (dom : DomId) (at : ℕ) (x : State) (o : Open) (seen : Seen) (new : Call) (action : Action)
     → position (has_id dom.0) xs ≡ Some at → x ≡ get_or xs at x → x.underway ≡ Some o → CoreStands s h xs → seen ≡ sees xs dom o.step
-    → Advances (knowledge_of s.domains s.may x.own x.header x.mappings x.maps_answered) o.call.caller o.call.request o.call.phase seen new action
+    → Advances (knowledge_of s.domains s.first_generation s.may x.own x.header x.mappings x.maps_answered) o.call.caller o.call.request o.call.phase seen new action
     → NeedsNoRoom o.call.request o.step
 needs-no-room s h xs dom at x o seen new action p here is st saw adv =
     let a = agrees-found s h xs dom at x p here st in

@@ -127,14 +127,12 @@ row-entries true None change some = absurd (some refl refl)
 row-entries true (Some own) change some = refl
 row-entries false o change some = refl
 
-row-generations : (b : Bool) (o : Option Own) (change : Change) (below : Bool) (first raises : ℕ) → (b ≡ true → (o ≢ None) × (below ≡ true) × (first + raises + raise_of change < 1048576))
-    → row_generation o ≡ cond below (first + raises) 0
-    → row_generation (cond b (option_map (own_after change) o) o) ≡ cond below (first + (raises + raise_after (cond b (Some change) None))) 0
-row-generations true None change below first raises room e = absurd ((room refl).0 refl)
-row-generations true (Some own) change false first raises room e = absurd (false≢true (room refl).1)
-row-generations true (Some own) change true first raises room e = let a : first + raises + raise_of change < 1048576 = (room refl).2 in omega arith
-row-generations false o change true first raises room e = omega arith
-row-generations false o change false first raises room e = e
+row-generations : (b : Bool) (o : Option Own) (change : Change) (first raises : ℕ) → (b ≡ true → (o ≢ None) × (first + raises + raise_of change < 1048576))
+    → row_generation first o ≡ first + raises
+    → row_generation first (cond b (option_map (own_after change) o) o) ≡ first + (raises + raise_after (cond b (Some change) None))
+row-generations true None change first raises room e = absurd ((room refl).0 refl)
+row-generations true (Some own) change first raises room e = let a : first + raises + raise_of change < 1048576 = (room refl).1 in omega arith
+row-generations false o change first raises room e = omega arith
 
 row-some : (xs : List Own) (r q : ℕ) (own : Own) → r < length xs → (r == q) ≡ true → slice_get xs q ≢ None
 row-some xs r q own within e none =
@@ -155,20 +153,19 @@ own-entry s h x gref looked change r within a =
     ∙ sym (exchanged-entry h (exchanged x.id gref looked change) x.id.0 r)
 
 own-raised : (s : Setting) (h : History) (x : State) (gref : GrantRef) (looked : ℕ) (change : Change) (r : ℕ) → gref.0 < 2048 → generation_at s h x.id.0 gref.0 + raise_of change < 1048576 → Agrees s h x
-    → generation_in (changed_at gref.0 (own_after change) x.own) r ≡ (if nat_lt r 2048 then generation_at s (exchanged x.id gref looked change ∷ h) x.id.0 r else 0)
+    → generation_in s.first_generation (changed_at gref.0 (own_after change) x.own) r ≡ (generation_at s (exchanged x.id gref looked change ∷ h) x.id.0 r)
 own-raised s h x gref looked change r within room a =
     let rows = a.rows in
     let inside : gref.0 < length x.own = omega arith in
-    ap row_generation (get-changed x.own gref.0 r (own_after change))
-    ∙ row-generations (gref.0 == r) (slice_get x.own r) change (nat_lt r 2048) s.first_generation (raises_at h x.id.0 r)
+    ap (row_generation s.first_generation) (get-changed x.own gref.0 r (own_after change))
+    ∙ row-generations (gref.0 == r) (slice_get x.own r) change s.first_generation (raises_at h x.id.0 r)
     (λ b. (
       row-some x.own gref.0 r no_row inside b,
-      ap (λ (n : ℕ). nat_lt n 2048) (sym (eqb-true gref.0 r b)) ∙ lt-ltb gref.0 2048 within,
       subst (λ (n : ℕ). s.first_generation + raises_at h x.id.0 n + raise_of change < 1048576) (eqb-true gref.0 r b) room,
     ))
     (ap (λ (f : ℕ → ℕ). f r) a.generations)
-    ∙ ap (λ (b : Bool). cond (nat_lt r 2048) (s.first_generation + (raises_at h x.id.0 r + raise_after (cond b (cond (gref.0 == r) (Some change) None) None))) 0) (sym (own-number x.id.0))
-    ∙ ap (λ (n : ℕ). cond (nat_lt r 2048) (s.first_generation + n) 0) (sym (exchanged-raises h (exchanged x.id gref looked change) x.id.0 r))
+    ∙ ap (λ (b : Bool). s.first_generation + (raises_at h x.id.0 r + raise_after (cond b (cond (gref.0 == r) (Some change) None) None))) (sym (own-number x.id.0))
+    ∙ ap (λ (n : ℕ). s.first_generation + n) (sym (exchanged-raises h (exchanged x.id gref looked change) x.id.0 r))
 
 -- the owner is as the exchange leaves it
 pub exchange-agrees : (s : Setting) (h : History) (x : State) (gref : GrantRef) (looked : ℕ) (change : Change) → gref.0 < 2048 → generation_at s h x.id.0 gref.0 + raise_of change < 1048576 → Agrees s h x
@@ -208,9 +205,12 @@ exchange-each : (b : Bool) (s : Setting) (h : History) (d : DomId) (gref : Grant
     → StateAgrees s (exchanged d gref looked change ∷ h) dom (cond b (option_map (with_own gref.0 change) (option_map (with_underway None) o)) o)
 exchange-each true s h d gref looked change dom None e within room a = a
 exchange-each true s h d gref looked change dom (Some x) e within room a =
-    let here : x.id ≡ d = a.1 ∙ ap (λ (n : ℕ). record { 0 = n }) (sym (eqb-true d.0 dom.0 e)) in
-    (a.0, a.1, subst (λ (z : DomId). Agrees s (exchanged z gref looked change ∷ h) (with_own gref.0 change (with_underway None x))) here
-        (exchange-agrees s h x gref looked change within (subst (λ (z : DomId). generation_at s h z.0 gref.0 + raise_of change < 1048576) (sym here) room) a.2))
+    let here : x.id ≡ d = a.1 ∙ ap (λ (n : ℕ). record { 0 = n }) (sym (eqb-true d.0 dom.0 e)) in (
+      a.0,
+      a.1,
+      subst (λ (z : DomId). Agrees s (exchanged z gref looked change ∷ h) (with_own gref.0 change (with_underway None x))) here
+          (exchange-agrees s h x gref looked change within (subst (λ (z : DomId). generation_at s h z.0 gref.0 + raise_of change < 1048576) (sym here) room) a.2),
+    )
 exchange-each false s h d gref looked change dom None e within room a = a
 exchange-each false s h d gref looked change dom (Some x) e within room a =
     let apart : (d.0 == x.id.0) ≡ false = ap (λ (z : DomId). d.0 == z.0) a.1 ∙ e in
@@ -339,7 +339,7 @@ pub exchange-stands : (s : Setting) (h : History) (xs : List State) (d : DomId) 
     → gref.0 < 2048 → IsSafeChange h d.0 gref.0 change → FitsChange change
     → generation_at s h d.0 gref.0 + raise_of change < 1048576
     → CoreStands s (record { actor = d; happened = Stepped (Exchange gref looked change) Taken; answer = Some AnswerDone } ∷ h)
-        (changed_in d.0 (with_own gref.0 change) (changed_in d.0 (with_underway None) xs))
+    (changed_in d.0 (with_own gref.0 change) (changed_in d.0 (with_underway None) xs))
 exchange-stands s h xs d gref looked change st within safe fits room =
     record {
       each = λ dom. subst (λ (o : Option State). StateAgrees s (exchanged d gref looked change ∷ h) dom o) (sym (exchanged-state xs d.0 dom.0 gref.0 change))
@@ -405,7 +405,7 @@ change-begins to_ro size r generation old e =
     (not-refused (generation == 1048575) N22 [] c).0
 
 own-generation : (s : Setting) (h : History) (d : DomId) (gref : GrantRef) → gref.0 < 2048 → (known_at s h d).generation gref.0 ≡ generation_at s h d.0 gref.0
-own-generation s h d gref within = ap (λ (b : Bool). cond b (generation_at s h d.0 gref.0) 0) (lt-ltb gref.0 2048 within)
+own-generation s h d gref within = refl
 
 idle-no-pins : (s : Setting) (h : History) (d : DomId) (gref : GrantRef) → gref.0 < 2048 → word_at s h d.0 gref.0 ≡ idle_word (known_at s h d) gref
     → reads_at h d.0 gref.0 + writes_at h d.0 gref.0 ≡ 0
@@ -479,7 +479,7 @@ revoke-ends s h xs d gref seen st e saw next =
     let below : generation_at s h d.0 gref.0 < 1048576 = generation-below s h xs d gref st within in
     let reads : reads_at h d.0 gref.0 ≡ 0 = omega arith in
     let writes : writes_at h d.0 gref.0 ≡ 0 = omega arith in
-    record { taken = t.0; within = within; safe = (reads, writes); fits = tt; room = omega arith; }
+    record { taken = t.0; within = within; safe = (reads, writes); fits = tt; room = omega arith }
 
 demote-ends : (s : Setting) (h : History) (xs : List State) (d : DomId) (gref : GrantRef) (more word : ℕ) (seen : Seen) → CoreStands s h xs → begun (known_at s h d) d (Demote gref) ≡ None
     → (control_of word).writes ≡ 0 → seen ≡ seen_by s h d (Exchange gref word ToReadOnly)

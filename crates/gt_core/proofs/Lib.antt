@@ -11,6 +11,7 @@ pub mod Seeing
 pub mod FirstRules
 pub mod Placing
 pub mod Owners
+pub mod Short
 pub mod Ticking
 pub mod Others
 pub mod Turning
@@ -19,3 +20,4 @@ pub mod Unpinning
 pub mod Pinning
 pub mod Starting
 pub mod Ending
+pub mod Showing

@@ -1,47 +1,30 @@
 -- A pin that was taken for a map keeps what a core stands for.
-use Rattle.std.proofs.Common.{◌≡◌, ◌≢◌, ◌<◌, ◌≤◌, ◌+◌, ◌-◌, ◌^◌, ℕ, zero, suc, refl, Bool, true, false, List, [], ◌∷◌, ◌++◌, length, Option, Some, None, cond, eqb, sym, ap, ◌∙◌, arith, subst}
-use Rattle.std.specs.Prelude.{nat_lt, ◌==◌, ◌&&◌, All, count_by, slice_get}
-use Rattle.gt_types.specs.Names.{domain_of}
+use Rattle.std.proofs.Common.{◌≡◌, ◌≢◌, ◌<◌, ◌+◌, ◌-◌, ◌^◌, ℕ, refl, Bool, true, false, List, [], ◌∷◌, ◌++◌, Option, Some, None, cond, sym, ap, ◌∙◌, arith, subst}
+use Rattle.std.specs.Prelude.{◌==◌, ◌&&◌, All, count_by, min}
 use Rattle.gt_types.specs.declared.DomId.{DomId}
 use Rattle.gt_types.specs.declared.GrantRef.{GrantRef}
 use Rattle.gt_types.specs.declared.Dir.{Dir}
 use Rattle.gt_types.specs.declared.Dir.TheVariants.{Read, Write}
-use Rattle.gt_entry.specs.declared.entry.Entry.{Entry}
-use Rattle.gt_entry.specs.declared.entry.Entry.TheVariants.{Invalid, Page, Sub, Via}
+use Rattle.gt_entry.specs.declared.entry.Entry.TheVariants.{Invalid}
 use Rattle.gt_core.specs.declared.request.Handle.{Handle}
-use Rattle.gt_core.specs.declared.request.Holder.{Holder}
-use Rattle.gt_core.specs.declared.request.Holder.TheVariants.{Mapping as ByMapping, Leg as ByLeg}
-use Rattle.gt_core.specs.declared.action.Change.{Change}
-use Rattle.gt_core.specs.declared.action.Change.TheVariants.{Publish, Revoke, Demote, Promote}
-use Rattle.gt_core.specs.declared.action.Step.{Step}
-use Rattle.gt_core.specs.declared.action.Step.TheVariants.{LookHeader, LookControl, LookBody, Pin as PinStep, Unpin, StoreBody, Exchange, Read as ReadBytes}
-use Rattle.gt_core.specs.declared.action.Seen.{Seen}
-use Rattle.gt_core.specs.declared.action.Seen.TheVariants.{Nothing, Value, Taken, Missed}
+use Rattle.gt_core.specs.declared.request.Holder.TheVariants.{Mapping as ByMapping}
+use Rattle.gt_core.specs.declared.action.Step.TheVariants.{Pin as PinStep}
+use Rattle.gt_core.specs.declared.action.Seen.TheVariants.{Taken}
 use Rattle.gt_core.specs.declared.known.Mapping.{Mapping}
-use Rattle.gt_core.specs.declared.known.Own.{Own}
 use Rattle.gt_core.specs.declared.slot.Slot.{Slot}
-use Rattle.gt_core.specs.declared.slot.SlotChange.{SlotChange}
-use Rattle.gt_core.specs.declared.slot.SlotChange.TheVariants.{Pinned, Unpinned, Stored}
+use Rattle.gt_core.specs.declared.slot.SlotChange.TheVariants.{Pinned}
 use Rattle.gt_core.specs.declared.trace.Item.{Item}
-use Rattle.gt_core.specs.declared.trace.Happened.TheVariants.{Began, Stepped}
-use Rattle.gt_core.specs.declared.trace.Answer.{Answer}
-use Rattle.gt_core.specs.declared.trace.Answer.TheVariants.{Denied, Done as AnswerDone, Mapped}
-use Rattle.gt_core.specs.Rules.{entry_in, generation_in, mapping_of, control_with, frames_of}
+use Rattle.gt_core.specs.declared.trace.Happened.TheVariants.{Stepped}
+use Rattle.gt_core.specs.declared.trace.Answer.TheVariants.{Mapped}
 use Rattle.gt_core.specs.States.{State, state_of, changed_in}
-use Rattle.gt_core.specs.Effects.{with_slot, with_own, with_underway, with_mapping, without_mapping, slot_after, own_after, less}
-use Rattle.gt_core.specs.History.{History, Setting, Pin, live, entry_at, raises_at, raise_of, changed_entry, generation_at, body_at, reads_at, writes_at, table_at, word_at, control_at, mappings_at, mappings_in, maps_answered_at, known_at, open_call, is_pin_on, without, is_holder, is_handle, frame_of}
-use Rattle.gt_core.specs.Legal.{IsSafeChange, IsSpelled}
-use Rattle.gt_core.specs.Standing.{IsLawful, IsLawfullyHeld, FitsWord, FitsEntry, SlotAgrees, Agrees, StateAgrees, CoreStands, CallAgrees}
-use Rattle.gt_core.proofs.Rows.{get-changed, length-changed, state-changed}
-use Rattle.std.specs.Prelude.{if◌then◌else◌, min}
-use Rattle.std.specs.List.{sum_by}
-use Rattle.std.specs.Option.{option_map}
+use Rattle.gt_core.specs.Effects.{with_slot, with_mapping, slot_after}
+use Rattle.gt_core.specs.History.{History, Setting, Pin, live, entry_at, body_at, reads_at, writes_at, mappings_at, mappings_in, maps_answered_at, open_call, is_pin_on, frame_of, mapping_on, same_dir}
+use Rattle.gt_core.specs.Standing.{IsLawful, SlotAgrees, Agrees, StateAgrees, CoreStands}
 use Rattle.std.proofs.lemmas.Bool.{eqb-true, eq-eqb, and_parts, and_from, false≢true, true≢false}
 use Rattle.std.proofs.lemmas.List.{append-nil, append_assoc}
 use Rattle.std.proofs.lemmas.List.Sums.{sum_by_push}
 use Rattle.std.proofs.lemmas.List.Elements.{All-push}
 use Rattle.gt_core.specs.Rows.{changed_at}
-use Rattle.gt_core.specs.History.{mapping_on, same_dir, one_if_mapped}
 use Rattle.gt_core.proofs.Beginning.{open_call-own}
 use Rattle.gt_core.proofs.Others.{other-agrees}
 use Rattle.gt_core.proofs.Unpinning.{KeepsEntries, same-entry, same-body, same-spelled, actor-agrees, SlotsAgree, slots-agree, length-slots, counts-fit, word-fits, after_change, state-twice}
@@ -201,7 +184,7 @@ pinned-answered h d t gref looked dir handle bound q n own same room = answered-
 pinned-actor : (s : Setting) (h : History) (d t : DomId) (gref : GrantRef) (looked : ℕ) (dir : Dir) (handle : Handle) (frame bound : ℕ) (x : State) (c : Bool) → (t.0 == x.id.0) ≡ c → d.0 ≡ x.id.0
     → frame ≡ frame_of (entry_at h t.0 gref.0) → maps_answered_at h d.0 < bound → IsFew h (new_pin h d t gref dir handle) → Agrees s h x
     → Agrees s (pins d t gref looked dir handle ∷ h)
-        (record x { slots = cond c (changed_at gref.0 (slot_after (Pinned dir)) x.slots) x.slots; mappings = x.mappings ++ mapping_made t gref dir handle frame ∷ []; maps_answered = min (x.maps_answered + 1) bound; underway = None })
+    (record x { slots = cond c (changed_at gref.0 (slot_after (Pinned dir)) x.slots) x.slots; mappings = x.mappings ++ mapping_made t gref dir handle frame ∷ []; maps_answered = min (x.maps_answered + 1) bound; underway = None })
 pinned-actor s h d t gref looked dir handle frame bound x c is own shows room few a =
     let i : Item = pins d t gref looked dir handle in
     let keeps = pins-keeps d t gref looked dir handle in
@@ -269,9 +252,10 @@ pin-within bound s h xs d t gref looked dir handle frame st valid shows room few
       lawful = subst (All (IsLawful s)) (sym grows) (All-push (IsLawful s) (live h) p st.lawful lawful);
       free = λ u r e.
           let none : entry_at h u r ≡ Invalid = sym (same-entry i h u r keeps) ∙ e in
-          let was = st.free u r none in
-          (now-none (is_pin_on u r Read p) (reads_at (i ∷ h) u r) (reads_at h u r) was.0 (not-there h p u r Read valid none) (grown-count h i p u r Read grows),
-          now-none (is_pin_on u r Write p) (writes_at (i ∷ h) u r) (writes_at h u r) was.1 (not-there h p u r Write valid none) (grown-count h i p u r Write grows));
+          let was = st.free u r none in (
+            now-none (is_pin_on u r Read p) (reads_at (i ∷ h) u r) (reads_at h u r) was.0 (not-there h p u r Read valid none) (grown-count h i p u r Read grows),
+            now-none (is_pin_on u r Write p) (writes_at (i ∷ h) u r) (writes_at h u r) was.1 (not-there h p u r Write valid none) (grown-count h i p u r Write grows),
+          );
       spelled = λ u r there. same-spelled i h u r keeps (st.spelled u r) there;
     }
 
@@ -280,5 +264,5 @@ pub pin-stands : (s : Setting) (h : History) (xs : List State) (d : DomId) (x : 
     → state_of xs d.0 ≡ Some x → x.id ≡ d → gref.0 < 2048 → entry_at h t.0 gref.0 ≢ Invalid → frame ≡ frame_of (entry_at h t.0 gref.0)
     → maps_answered_at h d.0 < 2 ^ 64 - 1 → pins_at h t.0 gref.0 dir < 4095 → IsLawful s (new_pin h d t gref dir handle)
     → CoreStands s (record { actor = d; happened = Stepped (PinStep t gref looked dir) Taken; answer = Some (Mapped handle) } ∷ h)
-        (changed_in t.0 (with_slot gref.0 (Pinned dir)) (changed_in d.0 (with_mapping (record { handle = handle; dom = t; gref = gref; dir = dir; frame = frame })) xs))
+    (changed_in t.0 (with_slot gref.0 (Pinned dir)) (changed_in d.0 (with_mapping (record { handle = handle; dom = t; gref = gref; dir = dir; frame = frame })) xs))
 pin-stands s h xs d x t gref looked dir handle frame st here same within valid shows room few lawful = pin-within (2 ^ 64 - 1) s h xs d t gref looked dir handle frame st valid shows room few lawful

@@ -1,11 +1,10 @@
 -- The state of a domain among the states.
-use Rattle.std.proofs.Common.{◌≡◌, ◌<◌, ◌≤◌, ◌-◌, ◌+◌, ℕ, zero, suc, refl, Bool, true, false, List, [], ◌∷◌, length, Option, Some, None, cond, ltb, leb, eqb, sym, ap, ◌∙◌, arith, subst, get_or, set}
-use Rattle.std.proofs.lemmas.Bool.{eqb-true, ne_eqb, eq-eqb, cases_Bool, false≢true, true≢false, ltb-false}
-use Rattle.std.proofs.lemmas.Bool.Decides.{nat_tests}
+use Rattle.std.proofs.Common.{◌≡◌, ◌<◌, ◌≤◌, ℕ, zero, suc, refl, Bool, true, false, List, [], ◌∷◌, length, Option, Some, None, cond, ltb, sym, ap, ◌∙◌, arith, get_or, set}
+use Rattle.std.proofs.lemmas.Bool.{eqb-true, eq-eqb, true≢false, ltb-false}
 use Rattle.std.proofs.lemmas.List.Folds.{find_at}
 use Rattle.std.proofs.lemmas.List.Quantifiers.{position-Some}
 use Rattle.std.proofs.lemmas.Option.{slice_get_past, slice_get-get_or}
-use Rattle.std.specs.Prelude.{find, position, slice_get, slice_set, ◌==◌}
+use Rattle.std.specs.Prelude.{Result, Ok, Err, OnErr, find, position, slice_get, ◌==◌}
 use Rattle.std.specs.List.{position_or_len}
 use Rattle.gt_core.specs.States.{State}
 use Rattle.gt_core.specs.Standing.{state_of}
@@ -65,3 +64,8 @@ state_of-set (x ∷ xs) (suc i) old new q within here same apart =
     ap (cond (x.id.0 == q) (Some x)) (state_of-set xs i old new q (omega arith) here same (λ k h. apart (suc k) (omega arith)))
     ∙ cond-apart (x.id.0 == q) (old.id.0 == q) (Some x) (Some new) (state_of xs q)
     (λ a b. true≢false (sym (eq-eqb x.id.0 old.id.0 (eqb-true x.id.0 q a ∙ sym (eqb-true old.id.0 q b))) ∙ apart 0 (omega arith)))
+
+-- what holds anyway holds on an error
+pub on-err : {A E : Type 0} (r : Result A E) (P : Type 0) → P → OnErr r P
+on-err (Ok a) P p = tt
+on-err (Err e) P p = p

@@ -1,10 +1,10 @@
 -- A change of one element of a list, and of the first state with a number.
-use Rattle.std.proofs.Common.{◌≡◌, ◌<◌, ◌≤◌, ◌+◌, ℕ, zero, suc, refl, Bool, true, false, List, [], ◌∷◌, ◌++◌, length, Option, Some, None, cond, ltb, eqb, sym, ap, ◌∙◌, arith, subst, get_or, set, take, drop, replicate}
+use Rattle.std.proofs.Common.{◌≡◌, ◌<◌, ◌≤◌, ◌+◌, ℕ, zero, suc, refl, Bool, true, false, List, [], ◌∷◌, ◌++◌, length, Option, Some, None, cond, ltb, sym, ap, ◌∙◌, arith, subst, get_or, set, take, drop}
 use Rattle.std.proofs.lemmas.Bool.{eqb-true, ne_eqb, eq-eqb, false≢true, true≢false, ltb-false}
 use Rattle.std.proofs.lemmas.List.Quantifiers.{position-Some}
 use Rattle.std.proofs.lemmas.List.{nil_from_length}
 use Rattle.std.proofs.Math.Seq.{take-nil}
-use Rattle.std.specs.Prelude.{position, slice_get, slice_set, ◌==◌, not}
+use Rattle.std.specs.Prelude.{position, slice_get, ◌==◌, not}
 use Rattle.std.specs.List.{position_or_len}
 use Rattle.std.specs.Option.{option_map}
 use Rattle.gt_core.specs.declared.request.Handle.{Handle}

@@ -1,21 +1,20 @@
 -- What the core's steps see is what the history left.
-use Rattle.std.proofs.Common.{◌≡◌, ◌≢◌, ◌<◌, ◌≤◌, ◌+◌, ℕ, zero, suc, refl, Bool, true, false, List, [], ◌∷◌, length, Option, Some, None, cond, ltb, eqb, sym, ap, ◌∙◌, arith, subst, get_or}
-use Rattle.std.proofs.lemmas.Bool.{lt-ltb, false≢true}
-use Rattle.std.proofs.lemmas.Option.{slice_get-get_or, none-some, same_Some}
-use Rattle.std.specs.Prelude.{nat_lt, ◌==◌, if◌then◌else◌, slice_get}
+use Rattle.std.proofs.Common.{◌≡◌, ◌≢◌, ◌<◌, ℕ, zero, suc, refl, Bool, true, false, List, [], ◌∷◌, length, Option, Some, None, cond, sym, ap, ◌∙◌, arith}
+use Rattle.std.proofs.lemmas.Bool.{lt-ltb}
+use Rattle.std.proofs.lemmas.Option.{none-some, same_Some}
+use Rattle.std.specs.Prelude.{nat_lt, ◌==◌, slice_get}
 use Rattle.gt_types.specs.declared.DomId.{DomId}
 use Rattle.gt_entry.specs.declared.entry.Entry.{Entry}
 use Rattle.gt_entry.specs.Words.{control_word, header_word}
-use Rattle.gt_core.specs.declared.known.Own.{Own}
 use Rattle.gt_core.specs.declared.slot.Slot.{Slot}
+use Rattle.gt_core.specs.declared.known.Own.{Own}
 use Rattle.gt_core.specs.States.{State}
 use Rattle.gt_core.specs.declared.action.Step.{Step}
 use Rattle.gt_core.specs.declared.action.Step.TheVariants.{LookHeader, LookControl, LookBody, Pin, Unpin, StoreBody, Exchange, Read as ReadBytes}
-use Rattle.gt_core.specs.declared.action.Seen.{Seen}
-use Rattle.gt_core.specs.declared.action.Seen.TheVariants.{Nothing, Value, Taken, Missed}
-use Rattle.gt_core.specs.Rules.{control_with, entry_in, generation_in}
-use Rattle.gt_core.specs.History.{History, Setting, entry_at, generation_at, reads_at, writes_at, body_at, table_at, word_at, seen_by, exchange_sees}
-use Rattle.gt_core.specs.Standing.{Agrees, StateAgrees, CoreStands, SlotAgrees, state_of}
+use Rattle.gt_core.specs.declared.action.Seen.TheVariants.{Value}
+use Rattle.gt_core.specs.Rules.{control_with, generation_in}
+use Rattle.gt_core.specs.History.{History, Setting, entry_at, generation_at, reads_at, body_at, table_at, word_at, seen_by, exchange_sees}
+use Rattle.gt_core.specs.Standing.{Agrees, StateAgrees, CoreStands, state_of}
 use Rattle.gt_core.specs.Sight.{reads_in, writes_in, body_in, slot_reads, slot_writes, slot_body, control_in, control_seen, header_seen, body_seen, sees}
 
 header_seen-state : (xs : List State) (d : ℕ) (x : State) → state_of xs d ≡ Some x → header_seen xs d ≡ header_word x.header
@@ -56,14 +55,19 @@ slot-here s h x r a within = some (slice_get x.slots r) refl
     some (Some slot) e = (slot, e)
     some None e = absurd (past-none x.slots r (let room : length x.slots ≡ 2048 = a.room in omega arith) e)
 
+-- where there is a row, its generation is the entry's
+generation-there : (a b : ℕ) (own : List Own) (r : ℕ) → r < length own → generation_in a own r ≡ generation_in b own r
+generation-there a b [] r within = absurd (omega arith)
+generation-there a b (x ∷ xs) zero within = refl
+generation-there a b (x ∷ xs) (suc r) within = generation-there a b xs r (omega arith)
+
 word-agrees : (s : Setting) (h : History) (x : State) (r : ℕ) → Agrees s h x → r < 2048 → control_in x.own x.slots r ≡ word_at s h x.id.0 r
 word-agrees s h x r a within =
     let here = slot-here s h x r a within in
     let b = a.slots r here.0 here.1 in
-    let t : nat_lt r 2048 ≡ true = lt-ltb r 2048 within in
-    ap (λ (e : Entry). control_word (control_with e (generation_in x.own r) (reads_in x.slots r) (writes_in x.slots r))) (ap (λ (f : ℕ → Entry). f r) a.entries)
+    ap (λ (e : Entry). control_word (control_with e (generation_in 0 x.own r) (reads_in x.slots r) (writes_in x.slots r))) (ap (λ (f : ℕ → Entry). f r) a.entries)
     ∙ ap (λ (g : ℕ). control_word (control_with (entry_at h x.id.0 r) g (reads_in x.slots r) (writes_in x.slots r)))
-    (ap (λ (f : ℕ → ℕ). f r) a.generations ∙ ap (λ (c : Bool). cond c (generation_at s h x.id.0 r) 0) t)
+    (generation-there 0 s.first_generation x.own r (let rows : length x.own ≡ 2048 = a.rows in omega arith) ∙ ap (λ (f : ℕ → ℕ). f r) a.generations)
     ∙ ap (λ (n : ℕ). control_word (control_with (entry_at h x.id.0 r) (generation_at s h x.id.0 r) n (writes_in x.slots r))) (ap slot_reads here.1 ∙ b.reads)
     ∙ ap (λ (n : ℕ). control_word (control_with (entry_at h x.id.0 r) (generation_at s h x.id.0 r) (reads_at h x.id.0 r) n)) (ap slot_writes here.1 ∙ b.writes)
 

@@ -1,6 +1,6 @@
 -- How a call that nothing stood against is over.
 use Rattle.std.proofs.lemmas.List.{take_more, map-append}
-use Rattle.std.proofs.Common.{◌≡◌, ◌<◌, ◌+◌, ◌++◌, ◌%◌, map, get_or, ℕ, List, [], ◌∷◌, length, take, drop, Option, Some, None, refl, sym, ap, ◌∙◌, arith, subst, set, replicate, min, Ok}
+use Rattle.std.proofs.Common.{◌≡◌, ◌<◌, ◌+◌, ◌++◌, ◌%◌, map, get_or, ℕ, List, [], ◌∷◌, length, take, Some, None, refl, sym, ap, ◌∙◌, set, replicate, min}
 use Rattle.gt_types.specs.declared.DomId.{DomId}
 use Rattle.gt_types.specs.declared.GrantRef.{GrantRef}
 use Rattle.gt_types.specs.declared.Dir.{Dir}
@@ -17,9 +17,9 @@ use Rattle.gt_core.specs.declared.request.Request.TheVariants.{Grant, Revoke, De
 use Rattle.gt_core.specs.declared.action.Step.{Step}
 use Rattle.gt_core.specs.declared.action.Step.TheVariants.{LookHeader, LookControl, LookBody, Pin as PinStep, Unpin, StoreBody, Exchange, Read as ReadBytes}
 use Rattle.gt_core.specs.declared.trace.Answer.TheVariants.{Done as AnswerDone}
-use Rattle.gt_core.specs.States.{State, first_state, IsLoading, IsMapping}
+use Rattle.gt_core.specs.States.{State, first_state, IsLoading}
 use Rattle.gt_core.specs.Effects.{with_underway}
-use Rattle.gt_core.specs.Standing.{Settled, NeedsNoRoom, IsLoadOf}
+use Rattle.gt_core.specs.Standing.{Settled, IsLoadOf}
 
 -- the room of a load is as long as what it asks
 pub loaded : (r : Request) (m n : ℕ) → IsLoading (Some r) m → IsLoadOf r n → m ≡ n

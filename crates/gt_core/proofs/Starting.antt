@@ -1,13 +1,12 @@
 -- A core at rest stands for the empty history.
-use Rattle.std.proofs.Common.{◌≡◌, ◌≢◌, ◌<◌, ◌≤◌, ◌+◌, ◌*◌, ◌%◌, ◌/◌, ◌-◌, ℕ, zero, suc, refl, Bool, true, false, List, [], ◌∷◌, length, Option, Some, None, cond, ltb, eqb, sym, ap, ◌∙◌, arith, subst, map, replicate, min, get_or}
-use Rattle.std.proofs.lemmas.Bool.{eqb-true, lt-ltb, false≢true, ltb-false, ltb-true}
-use Rattle.std.proofs.lemmas.Bool.Decides.{nat_tests}
+use Rattle.std.proofs.Common.{◌≡◌, ◌<◌, ◌≤◌, ◌+◌, ◌*◌, ◌%◌, ◌/◌, ℕ, refl, Bool, true, false, List, [], ◌∷◌, Option, Some, None, cond, ltb, sym, ap, ◌∙◌, arith, subst, map, replicate, min, get_or}
+use Rattle.std.proofs.lemmas.Bool.{eqb-true, lt-ltb, ltb-false, ltb-true}
 use Rattle.std.proofs.lemmas.Option.{none-some, same_Some, slice_get-get_or, slice_get_past}
 use Rattle.std.proofs.Math.Nat.{mod-eq_of_lt}
 use Rattle.std.proofs.lemmas.List.{get_or-replicate, length-replicate}
 use Rattle.std.proofs.lemmas.List.Elements.{All-tail}
 use mathlib.Core.Path.{fun_ext}
-use Rattle.std.specs.Prelude.{nat_lt, ◌==◌, slice_get, All, if◌then◌else◌}
+use Rattle.std.specs.Prelude.{nat_lt, ◌==◌, slice_get, All}
 use Rattle.std.specs.Option.{option_map}
 use Rattle.gt_types.specs.Names.{domain_of}
 use Rattle.gt_types.specs.Config.{IsWithinLimits}
@@ -17,7 +16,6 @@ use Rattle.gt_types.specs.declared.perms.Perms.{Perms}
 use Rattle.gt_types.specs.declared.config.Config.{Config}
 use Rattle.gt_types.specs.declared.config.DomainConfig.{DomainConfig}
 use Rattle.gt_entry.specs.declared.header.Header.{Header}
-use Rattle.gt_entry.specs.declared.entry.Entry.{Entry}
 use Rattle.gt_entry.specs.declared.entry.Entry.TheVariants.{Invalid}
 use Rattle.gt_entry.specs.Words.{header_of, header_word}
 use Rattle.gt_core.specs.declared.known.Own.{Own}
@@ -25,7 +23,7 @@ use Rattle.gt_core.specs.declared.slot.Slot.{Slot}
 use Rattle.gt_core.specs.declared.known.TheConstants.{ENTRIES, FRAME_LEN}
 use Rattle.gt_core.specs.Rules.{size_of, entry_in, generation_in, row_entry, row_generation, frames_in, frames_of}
 use Rattle.gt_core.specs.States.{State, state_of, first_state}
-use Rattle.gt_core.specs.History.{History, Setting, entry_at, raises_at, generation_at, body_at, live, mappings_at, mappings_in, maps_answered_at, open_call, table_at, contents_at, header_from, reads_at, writes_at, control_at}
+use Rattle.gt_core.specs.History.{Setting, entry_at, raises_at, body_at, live, mappings_at, mappings_in, maps_answered_at, open_call, contents_at, header_from, reads_at, writes_at, control_at}
 use Rattle.gt_core.specs.Standing.{setting_of, Agrees, StateAgrees, SlotAgrees, CallAgrees, FitsWord, IsLawful, CoreStands}
 
 state-of-map : (g : ℕ) (ds : List DomainConfig) (dom : DomId) → state_of (map (first_state g) ds) dom.0 ≡ option_map (first_state g) (domain_of ds dom)
@@ -74,10 +72,10 @@ rows-entry g r = ap row_entry (get-replicate ENTRIES r (record { entry = Invalid
     by true = refl
     by false = refl
 
-rows-generation : (g r : ℕ) → generation_in (replicate ENTRIES (record { entry = Invalid; generation = g })) r ≡ cond (nat_lt r ENTRIES) g 0
-rows-generation g r = ap row_generation (get-replicate ENTRIES r (record { entry = Invalid; generation = g })) ∙ by (nat_lt r ENTRIES)
+rows-generation : (g r : ℕ) → generation_in g (replicate ENTRIES (record { entry = Invalid; generation = min g 1048575 })) r ≡ min g 1048575
+rows-generation g r = ap (row_generation g) (get-replicate ENTRIES r (record { entry = Invalid; generation = min g 1048575 })) ∙ by (nat_lt r ENTRIES)
   where
-    by : (b : Bool) → row_generation (cond b (Some (record { entry = Invalid; generation = g })) None) ≡ cond b g 0
+    by : (b : Bool) → row_generation g (cond b (Some (record { entry = Invalid; generation = min g 1048575 })) None) ≡ min g 1048575
     by true = refl
     by false = refl
 
@@ -157,7 +155,7 @@ rest-agrees s d is f le =
       header = header-kept d f ∙ sym (ap header_from is);
       rows = length-replicate {A = Own} ENTRIES (record { entry = Invalid; generation = min s.first_generation 1048575 });
       entries = fun_ext (λ r. rows-entry (min s.first_generation 1048575) r ∙ sym (no-entry d.id.0 r));
-      generations = fun_ext (λ r. rows-generation (min s.first_generation 1048575) r ∙ ap (λ (n : ℕ). cond (nat_lt r ENTRIES) n 0) (g ∙ (let z : s.first_generation ≡ s.first_generation + 0 = omega arith in z) ∙ ap (λ (n : ℕ). s.first_generation + n) (sym (no-raises d.id.0 r))));
+      generations = fun_ext (λ r. rows-generation s.first_generation r ∙ g ∙ (let z : s.first_generation ≡ s.first_generation + 0 = omega arith in z) ∙ ap (λ (n : ℕ). s.first_generation + n) (sym (no-raises d.id.0 r)));
       room = length-replicate {A = Slot} ENTRIES (record { reads = 0; writes = 0; first = 0; second = 0 });
       slots = λ r slot e. slot-starts d.id.0 ENTRIES r slot e;
       mappings = sym (no-mappings d.id.0);

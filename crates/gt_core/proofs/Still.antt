@@ -1,5 +1,5 @@
 -- What a call saw of an entry stays true while the entry's generation stays.
-use Rattle.std.proofs.Common.{◌≡◌, ◌≢◌, ◌≤◌, ◌<◌, ◌+◌, ℕ, refl, length, get_or, take, Bool, true, false, List, [], ◌∷◌, ◌++◌, Option, Some, None, sym, ap, ◌∙◌, arith, subst, reverse}
+use Rattle.std.proofs.Common.{◌≡◌, ◌≤◌, ◌<◌, ◌+◌, ℕ, refl, length, get_or, take, List, [], ◌∷◌, ◌++◌, Option, Some, None, sym, ap, ◌∙◌, arith, subst}
 use Rattle.gt_entry.specs.declared.entry.Entry.{Entry}
 use Rattle.gt_entry.specs.declared.entry.Entry.TheVariants.{Invalid}
 use Rattle.gt_core.specs.declared.action.Change.{Change}
@@ -16,7 +16,7 @@ use Rattle.gt_entry.specs.Words.{control_of}
 use Rattle.gt_core.specs.declared.leg.Leg.{Leg}
 use Rattle.gt_core.specs.declared.leg.LegPhase.{LegPhase}
 use Rattle.gt_core.specs.declared.leg.LegPhase.TheVariants.{Header, Look, Body, Second, Pinning, Relook}
-use Rattle.gt_core.specs.History.{History, Setting, entry_at, entry_after, raises_at, raise_after, raise_of, changed_entry, generation_at, change_of}
+use Rattle.gt_core.specs.History.{History, Setting, entry_at, entry_after, raises_at, raise_after, generation_at, change_of}
 use Rattle.gt_core.specs.Legal.{StepsSoFar, LegalAfter, MayDo, grown, history_after}
 
 still-after : (before first generation body : ℕ) (IsSuch : Entry → Type 0) (part : Entry → ℕ) (entry : Entry) (c : Option Change) → (IsSuch Invalid → ⊥) → generation ≤ first + before

@@ -1,11 +1,11 @@
 -- A step keeps what a core stands for.
-use Rattle.std.proofs.Common.{◌⊎◌, inl, inr, ◌≡◌, ◌≢◌, ◌<◌, ◌≤◌, ◌+◌, ◌-◌, ℕ, zero, suc, refl, Bool, true, false, List, [], ◌∷◌, ◌++◌, length, Option, Some, None, cond, ltb, leb, eqb, sym, ap, ◌∙◌, arith, subst, map, get_or, set, reverse, take, drop}
-use Rattle.std.proofs.lemmas.Bool.{lt-ltb, lt-leb, leb-false, eqb-true, eq-eqb, false≢true, true≢false}
+use Rattle.std.proofs.Common.{◌≡◌, ◌≢◌, ◌<◌, ◌≤◌, ◌+◌, ◌-◌, ℕ, zero, suc, refl, Bool, true, false, List, [], ◌∷◌, ◌++◌, length, Option, Some, None, cond, sym, ap, ◌∙◌, arith, subst, get_or, set, reverse, take, drop}
+use Rattle.std.proofs.lemmas.Bool.{lt-ltb, leb-false, eqb-true, eq-eqb, false≢true, true≢false}
 use Rattle.std.proofs.lemmas.List.{append-nil, map-append, reverse-append, append_assoc, take_all, drop_all}
 use Rattle.std.proofs.lemmas.List.Elements.{All-tail}
 use Rattle.std.proofs.lemmas.List.Quantifiers.{position-Some}
 use Rattle.std.proofs.lemmas.Option.{none-some, same_Some}
-use Rattle.std.specs.Prelude.{nat_lt, nat_le, ◌==◌, ◌&&◌, if◌then◌else◌, not, position, All, Any}
+use Rattle.std.specs.Prelude.{nat_lt, nat_le, ◌==◌, ◌&&◌, not, position, All, Any}
 use Rattle.gt_types.specs.Denial.{denial_of}
 use Rattle.gt_types.specs.Names.{domain_of}
 use Rattle.gt_types.specs.declared.DomId.{DomId}
@@ -16,8 +16,7 @@ use Rattle.gt_types.specs.declared.denial.Facts.TheVariants.{None as NoFacts}
 use Rattle.gt_types.specs.declared.denial.Denial.{Denial}
 use Rattle.gt_entry.specs.declared.entry.Entry.{Entry}
 use Rattle.gt_entry.specs.declared.entry.Entry.TheVariants.{Invalid, Page, Sub, Via}
-use Rattle.gt_entry.specs.declared.header.Header.{Header}
-use Rattle.gt_entry.specs.Words.{control_word, control_of, header_word, header_of}
+use Rattle.gt_entry.specs.Words.{control_word, control_of}
 use Rattle.gt_core.specs.declared.known.Mapping.{Mapping}
 use Rattle.gt_types.specs.declared.Dir.{Dir}
 use Rattle.gt_types.specs.declared.Dir.TheVariants.{Read, Write}
@@ -28,9 +27,8 @@ use Rattle.gt_core.specs.declared.request.Holder.TheVariants.{Mapping as ByMappi
 use Rattle.gt_core.specs.declared.request.Request.{Request}
 use Rattle.gt_core.specs.declared.request.Request.TheVariants.{Grant, Revoke, Demote, Promote, Map, Unmap, Load}
 use Rattle.gt_core.specs.declared.action.Verdict.{Verdict}
-use Rattle.gt_core.specs.declared.action.Verdict.TheVariants.{Granted, Refused}
+use Rattle.gt_core.specs.declared.action.Verdict.TheVariants.{Refused}
 use Rattle.gt_core.specs.declared.action.Change.{Change}
-use Rattle.gt_core.specs.declared.action.Change.TheVariants.{Publish, Revoke as ToInvalid, Demote as ToReadOnly, Promote as ToWritable}
 use Rattle.gt_core.specs.declared.action.Step.{Step}
 use Rattle.gt_core.specs.declared.action.Step.TheVariants.{LookHeader, LookControl, LookBody, Pin as PinStep, Unpin, StoreBody, Exchange, Read as ReadBytes}
 use Rattle.gt_core.specs.declared.action.Seen.{Seen}
@@ -46,27 +44,30 @@ use Rattle.gt_core.specs.declared.call.Call.{Call}
 use Rattle.gt_core.specs.declared.call.Phase.{Phase}
 use Rattle.gt_core.specs.declared.call.Phase.TheVariants.{Begun as PhaseBegun, Pinning as LegPinning, Storing, StoringSecond, Single, Look as OwnLook, Change as OwnChange, Ended}
 use Rattle.gt_core.specs.declared.trace.Item.{Item}
-use Rattle.gt_core.specs.declared.trace.Happened.TheVariants.{Began, Stepped}
+use Rattle.gt_core.specs.declared.trace.Happened.TheVariants.{Stepped}
 use Rattle.gt_core.specs.declared.trace.Answer.{Answer}
 use Rattle.gt_core.specs.declared.trace.Answer.TheVariants.{Denied}
 use Rattle.gt_core.specs.States.{State}
 use Rattle.gt_core.specs.declared.slot.Open.{Open}
-use Rattle.gt_core.specs.Rules.{CallerKnowledge, knowledge_of, is_demote, begun, first, refused_when, granted_when, size_of, is_invalid, cannot_stand, control_with, mapping_of}
-use Rattle.gt_core.specs.Path.{Continuation, entry_refusal, path, steps_of, after_beginning, to_ro_or_back, idle_word}
+use Rattle.gt_core.specs.Rules.{CallerKnowledge, knowledge_of, is_demote, begun, first, refused_when, size_of, is_invalid, cannot_stand, control_with, mapping_of}
+use Rattle.gt_core.specs.Path.{entry_refusal, path, steps_of, after_beginning, to_ro_or_back, idle_word}
 use Rattle.gt_core.specs.Machine.{expects, action_at, phase_after, after_leg, after_single, leg_after, leg_step, own_gref, is_sub, store_at, second_at, single_at, unpin_of, read_of, IsUnderway, Comes, IsExchanged, FitsStep, FitsAction, FitsPhase}
 use Rattle.gt_core.specs.Sight.{sees, changes_nothing}
-use Rattle.gt_core.specs.History.{History, Setting, word_at, control_at, table_at, known_at, writes_at, reads_at, entry_at, generation_at, body_at, seen_by, exchange_sees, Underway, open_call, underway_after, values, one_if_mapped, live, Pin, mapping_on, mappings_in, mappings_at, frame_of, is_handle}
-use Rattle.gt_core.specs.Legal.{Permits, Reaches, MayUse, Justified, IsSafe, PinIsSound, StepsSoFar, IsSpelled, first_at, leg_of, misses, is_in_body, looked_at, stands_when, at_entry, rule_at_exchange, refusal_in, verdict_in, or_then, stood, first_in_call, first_of_item, AnsweredBy, StepsRight, StepsRightIn}
-use Rattle.gt_core.specs.Standing.{IsLawful, IsLawfullyHeld, LegStands, PhaseStands, HasStored, HasStoredFirst, OpenAgrees, CallAgrees, Agrees, StateAgrees, CoreStands, Advances, state_of}
+use Rattle.gt_core.specs.History.{History, Setting, word_at, table_at, known_at, writes_at, reads_at, entry_at, generation_at, seen_by, Underway, open_call, underway_after, values, one_if_mapped, live, Pin, mapping_on, mappings_in, mappings_at, frame_of, is_handle}
+use Rattle.gt_core.specs.Legal.{Permits, Reaches, MayUse, Justified, IsSafe, PinIsSound, StepsSoFar, first_at, leg_of, misses, is_in_body, looked_at, stands_when, at_entry, refusal_in, verdict_in, or_then, stood, first_in_call, first_of_item, AnsweredBy, StepsRight, StepsRightIn}
+use Rattle.gt_core.specs.Standing.{IsLawful, IsLawfullyHeld, LegStands, PhaseStands, OpenAgrees, CallAgrees, Agrees, StateAgrees, CoreStands, Advances, state_of}
 use Rattle.gt_core.proofs.Calls.{wants-action, comes-some}
 use Rattle.gt_core.proofs.Places.{has_id, found, state_of-set}
+use Rattle.std.proofs.lemmas.List.{length-append, length-map}
+use Rattle.gt_core.specs.Legal.{most_steps}
+use Rattle.gt_core.proofs.Short.{path-is-short}
 use Rattle.gt_core.proofs.Fitting.{word-shows}
 use Rattle.gt_core.proofs.Quiet.{IsQuiet, quiet-known}
-use Rattle.gt_core.proofs.Beginning.{known-same, quiet-agrees, quiet-stands, place-keeps, open_call-own, stood-own, agrees-found, same-state}
+use Rattle.gt_core.proofs.Beginning.{known-same, quiet-agrees, quiet-stands, place-keeps, open_call-own, stood-own, agrees-found}
 use Rattle.gt_core.proofs.Seeing.{IsWithin, sees-agree}
 use Rattle.gt_core.proofs.FirstRules.{first-of-leg, refusal_next, misses-look}
 use Rattle.gt_core.proofs.Placing.{NextStands, leg-place}
-use Rattle.gt_core.proofs.Owners.{phase_refusal, first-own-look, first-own-change, writes-shown, idle-pins, misses-exchange}
+use Rattle.gt_core.proofs.Owners.{phase_refusal, first-own-look, first-own-change, idle-pins, misses-exchange}
 
 -- what a call's beginning has settled
 
@@ -133,7 +134,7 @@ grant-invalid k d gref entry e =
     by (Via dom ro dom2 r) e = absurd (true≢false e)
 
 own-generation : (s : Setting) (h : History) (d : DomId) (gref : GrantRef) → gref.0 < 2048 → (known_at s h d).generation gref.0 ≡ generation_at s h d.0 gref.0
-own-generation s h d gref within = ap (λ (b : Bool). cond b (generation_at s h d.0 gref.0) 0) (lt-ltb gref.0 2048 within)
+own-generation s h d gref within = refl
 
 -- the word of an entry with no pins is the one that its owner expects
 pub idle-here : (s : Setting) (h : History) (d : DomId) (gref : GrantRef) → gref.0 < 2048 → reads_at h d.0 gref.0 + writes_at h d.0 gref.0 ≡ 0
@@ -507,7 +508,7 @@ begun-none k d r (Some v) (x ∷ vs) step e = cc
 
 pub stepping : (s : Setting) (h : History) (xs : List State) (x : State) (o : Open) (c : Underway) (seen : Seen) (new : Call) (action : Action)
     → CoreStands s h xs → state_of xs x.id.0 ≡ Some x → Agrees s h x → OpenAgrees s h x.id o c → seen ≡ sees xs x.id o.step
-    → Advances (knowledge_of s.domains s.may x.own x.header x.mappings x.maps_answered) o.call.caller o.call.request o.call.phase seen new action
+    → Advances (knowledge_of s.domains s.first_generation s.may x.own x.header x.mappings x.maps_answered) o.call.caller o.call.request o.call.phase seen new action
     → Stepping s h x.id o c seen new action
 stepping s h xs x o c seen new action st here a oa saw adv =
     let d = x.id in
@@ -749,6 +750,14 @@ quiet-sound s h d r (Exchange gref looked change) seen q = tt
 quiet-sound s h d r (Unpin dom gref dir holder) seen q = tt
 quiet-sound s h d r (StoreBody gref second word) seen q = tt
 
+-- a call that goes on has made fewer steps than its bound
+goes-soon : (s : Setting) (h : History) (d : DomId) (o : Open) (c : Underway) (seen : Seen) (new : Call) (step : Step) → OpenAgrees s h d o c → Stepping s h d o c seen new (Makes step)
+    → length c.steps + 1 < most_steps c.request
+goes-soon s h d o c seen new step oa p =
+    let short = path-is-short (known_at s h d) d c.request (values c ++ seen ∷ []) step (path-next s h d o c seen new (Makes step) oa p) in
+    let n : length (values c ++ seen ∷ []) ≡ length c.steps + 1 = length-append (values c) (seen ∷ []) ∙ ap (λ (k : ℕ). k + 1) (length-map c.steps (λ (q : Step × Seen). q.1)) in
+    subst (λ (k : ℕ). k < most_steps c.request) n short
+
 -- the step of a call that goes on is right
 pub going-right : (s : Setting) (h : History) (xs : List State) (d : DomId) (o : Open) (c : Underway) (seen : Seen) (new : Call) (step : Step) → CoreStands s h xs → open_call h d.0 ≡ Some c
     → OpenAgrees s h d o c → Stepping s h d o c seen new (Makes step) → IsSafe s h (stepped d o.step seen None) → PinIsSound s h d c.request o.step seen
@@ -762,6 +771,7 @@ going-right s h xs d o c seen new step st call oa p safe sound =
       justified = step-justified s h xs d c.request o.call.phase o.step st p.act;
       safe = safe;
       sound = sound;
+      soon = λ e. goes-soon s h d o c seen new step oa p;
       answered = subst (λ (a : Option Action). AnsweredBy s h d c.request (Some o.step) (verdict_in a) None (stood s (stepped d o.step seen None ∷ h) d.0))
           (sym (path-next s h d o c seen new (Makes step) oa p)) fair;
     }
@@ -789,7 +799,7 @@ with_open x o = record x { underway = o }
 -- a step that changes nothing, of a call that goes on
 pub tick-goes-on : (s : Setting) (h : History) (xs : List State) (dom : DomId) (at : ℕ) (x : State) (o : Open) (seen : Seen) (new : Call) (step : Step)
     → position (has_id dom.0) xs ≡ Some at → x ≡ get_or xs at x → x.underway ≡ Some o → CoreStands s h xs → seen ≡ sees xs dom o.step
-    → Advances (knowledge_of s.domains s.may x.own x.header x.mappings x.maps_answered) o.call.caller o.call.request o.call.phase seen new (Makes step)
+    → Advances (knowledge_of s.domains s.first_generation s.may x.own x.header x.mappings x.maps_answered) o.call.caller o.call.request o.call.phase seen new (Makes step)
     → changes_nothing o.step seen ≡ true
     → (domain_of s.domains dom ≢ None) × StepsRightIn s h (stepped dom o.step seen None) o.step seen (open_call h dom.0)
     × CoreStands s (stepped dom o.step seen None ∷ h) (set xs at (with_open x (Some (record { call = new; step = step }))))
@@ -893,6 +903,7 @@ quiet-refused s h xs d o c seen new denial st call oa p q =
       justified = step-justified s h xs d c.request o.call.phase o.step st p.act;
       safe = quiet-safe s h d o.step seen (Some (Denied denial)) q;
       sound = quiet-sound s h d c.request o.step seen q;
+      soon = λ e. let f : Some (Denied denial) ≡ None = e in cc;
       answered = subst (λ (a : Option Action). AnsweredBy s h d c.request (Some o.step) (verdict_in a) (Some (Denied denial)) (stood s (stepped d o.step seen (Some (Denied denial)) ∷ h) d.0))
           (sym (path-next s h d o c seen new (Done (Refused denial)) oa p)) (refl, sym against, tt);
     }
@@ -900,7 +911,7 @@ quiet-refused s h xs d o c seen new denial st call oa p q =
 -- a step that changes nothing, of a call that is refused
 pub tick-refused : (s : Setting) (h : History) (xs : List State) (dom : DomId) (at : ℕ) (x : State) (o : Open) (seen : Seen) (new : Call) (denial : Denial)
     → position (has_id dom.0) xs ≡ Some at → x ≡ get_or xs at x → x.underway ≡ Some o → CoreStands s h xs → seen ≡ sees xs dom o.step
-    → Advances (knowledge_of s.domains s.may x.own x.header x.mappings x.maps_answered) o.call.caller o.call.request o.call.phase seen new (Done (Refused denial))
+    → Advances (knowledge_of s.domains s.first_generation s.may x.own x.header x.mappings x.maps_answered) o.call.caller o.call.request o.call.phase seen new (Done (Refused denial))
     → changes_nothing o.step seen ≡ true
     → (domain_of s.domains dom ≢ None) × StepsRightIn s h (stepped dom o.step seen (Some (Denied denial))) o.step seen (open_call h dom.0)
     × CoreStands s (stepped dom o.step seen (Some (Denied denial)) ∷ h) (set xs at (with_open x None))
@@ -985,7 +996,7 @@ refused-quietly s h d r (Ended v) denial step act e = cc
 -- a step after which a call is refused changes nothing
 pub refused-changes-nothing : (s : Setting) (h : History) (xs : List State) (dom : DomId) (at : ℕ) (x : State) (o : Open) (seen : Seen) (new : Call) (denial : Denial)
     → position (has_id dom.0) xs ≡ Some at → x ≡ get_or xs at x → x.underway ≡ Some o → CoreStands s h xs → seen ≡ sees xs dom o.step
-    → Advances (knowledge_of s.domains s.may x.own x.header x.mappings x.maps_answered) o.call.caller o.call.request o.call.phase seen new (Done (Refused denial))
+    → Advances (knowledge_of s.domains s.first_generation s.may x.own x.header x.mappings x.maps_answered) o.call.caller o.call.request o.call.phase seen new (Done (Refused denial))
     → changes_nothing o.step seen ≡ true
 refused-changes-nothing s h xs dom at x o seen new denial p here is st saw adv =
     let a = agrees-found s h xs dom at x p here st in

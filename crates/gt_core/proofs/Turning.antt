@@ -1,89 +1,57 @@
 -- A tick of a call that goes on, or is refused.
-use Rattle.std.proofs.Common.{◌⊎◌, inl, inr, ◌≡◌, ◌≢◌, ◌<◌, ◌≤◌, ◌+◌, ◌-◌, ℕ, zero, suc, refl, Bool, true, false, List, [], ◌∷◌, ◌++◌, length, Option, Some, None, cond, ltb, leb, eqb, sym, ap, ◌∙◌, arith, subst, map, get_or, set, reverse, take, drop}
-use Rattle.std.proofs.lemmas.Bool.{lt-ltb, lt-leb, leb-false, eqb-true, eq-eqb, false≢true, true≢false}
-use Rattle.std.proofs.lemmas.List.{append-nil, map-append, reverse-append, append_assoc, take_all, drop_all}
-use Rattle.std.proofs.lemmas.List.Elements.{All-tail}
-use Rattle.std.proofs.lemmas.List.Quantifiers.{position-Some}
+use Rattle.std.proofs.Common.{◌≡◌, ◌≢◌, ◌+◌, ℕ, refl, Bool, true, false, List, [], ◌∷◌, Option, Some, None, cond, sym, ap, ◌∙◌, subst, reverse}
+use Rattle.std.proofs.lemmas.Bool.{eqb-true, eq-eqb, false≢true, true≢false}
 use Rattle.std.proofs.lemmas.Option.{none-some, same_Some}
-use Rattle.std.specs.Prelude.{nat_lt, nat_le, ◌==◌, ◌&&◌, if◌then◌else◌, not, position, All, Any, count_by, slice_get}
+use Rattle.std.specs.Prelude.{◌==◌, ◌&&◌, All, count_by, slice_get}
 use Rattle.std.specs.Option.{option_map}
 use mathlib.Core.Path.{fun_ext}
 use Rattle.gt_core.specs.Rows.{changed_at}
 use Rattle.gt_core.specs.History.{is_pin_on}
-use Rattle.gt_types.specs.Denial.{denial_of}
-use Rattle.gt_types.specs.Names.{domain_of}
 use Rattle.gt_types.specs.declared.DomId.{DomId}
 use Rattle.gt_types.specs.declared.GrantRef.{GrantRef}
-use Rattle.gt_types.specs.declared.denial.Rule.{Rule}
-use Rattle.gt_types.specs.declared.denial.Rule.TheVariants.{N9, N18, N19, N20, N21, N22}
-use Rattle.gt_types.specs.declared.denial.Facts.TheVariants.{None as NoFacts}
-use Rattle.gt_types.specs.declared.denial.Denial.{Denial}
 use Rattle.gt_entry.specs.declared.entry.Entry.{Entry}
 use Rattle.gt_entry.specs.declared.entry.Entry.TheVariants.{Invalid, Page, Sub, Via}
-use Rattle.gt_entry.specs.declared.header.Header.{Header}
-use Rattle.gt_entry.specs.Words.{control_word, control_of, header_word, header_of}
-use Rattle.gt_core.specs.declared.known.Mapping.{Mapping}
 use Rattle.gt_types.specs.declared.Dir.{Dir}
 use Rattle.gt_types.specs.declared.Dir.TheVariants.{Read, Write}
-use Rattle.gt_types.specs.declared.Use.TheVariants.{Map as ForMap}
-use Rattle.gt_core.specs.declared.request.Handle.{Handle}
-use Rattle.gt_core.specs.declared.request.Holder.{Holder}
-use Rattle.gt_core.specs.declared.request.Holder.TheVariants.{Mapping as ByMapping, Leg as ByLeg}
 use Rattle.gt_core.specs.declared.request.Request.{Request}
 use Rattle.gt_core.specs.declared.request.Request.TheVariants.{Grant, Revoke, Demote, Promote, Map, Unmap, Load}
-use Rattle.gt_core.specs.declared.action.Verdict.{Verdict}
-use Rattle.gt_core.specs.declared.action.Verdict.TheVariants.{Granted, Refused}
+use Rattle.gt_core.specs.declared.action.Verdict.TheVariants.{Granted}
 use Rattle.gt_core.specs.declared.action.Change.{Change}
-use Rattle.gt_core.specs.declared.action.Change.TheVariants.{Publish, Revoke as ToInvalid, Demote as ToReadOnly, Promote as ToWritable}
 use Rattle.gt_core.specs.declared.action.Step.{Step}
 use Rattle.gt_core.specs.declared.action.Step.TheVariants.{LookHeader, LookControl, LookBody, Pin as PinStep, Unpin, StoreBody, Exchange, Read as ReadBytes}
 use Rattle.gt_core.specs.declared.action.Seen.{Seen}
 use Rattle.gt_core.specs.declared.action.Seen.TheVariants.{Nothing, Value, Taken, Missed}
-use Rattle.gt_core.specs.declared.action.Action.{Action}
 use Rattle.gt_core.specs.declared.action.Action.TheVariants.{Step as Makes, Done}
 use Rattle.gt_core.specs.declared.leg.Leg.{Leg}
 use Rattle.gt_core.specs.declared.leg.LegPhase.{LegPhase}
 use Rattle.gt_core.specs.declared.leg.LegPhase.TheVariants.{Header as AtHeader, Look, Body, Second, Pinning, Relook}
-use Rattle.gt_core.specs.declared.leg.LegNext.{LegNext}
-use Rattle.gt_core.specs.declared.leg.LegNext.TheVariants.{Going, Refused as LegRefused, Pinned}
 use Rattle.gt_core.specs.declared.call.Call.{Call}
 use Rattle.gt_core.specs.declared.call.Phase.{Phase}
 use Rattle.gt_core.specs.declared.call.Phase.TheVariants.{Begun as PhaseBegun, Pinning as LegPinning, Storing, StoringSecond, Single, Look as OwnLook, Change as OwnChange, Ended}
 use Rattle.gt_core.specs.declared.trace.Item.{Item}
-use Rattle.gt_core.specs.declared.trace.Happened.TheVariants.{Began, Stepped}
-use Rattle.gt_core.specs.declared.trace.Answer.{Answer}
-use Rattle.gt_core.specs.declared.trace.Answer.TheVariants.{Denied}
+use Rattle.gt_core.specs.declared.trace.Happened.TheVariants.{Stepped}
 use Rattle.gt_core.specs.States.{State}
 use Rattle.gt_core.specs.declared.slot.Open.{Open}
-use Rattle.gt_core.specs.Rules.{CallerKnowledge, knowledge_of, is_demote, begun, first, refused_when, granted_when, size_of, is_invalid, cannot_stand, control_with, mapping_of}
-use Rattle.gt_core.specs.Path.{Continuation, entry_refusal, path, steps_of, after_beginning, to_ro_or_back, idle_word}
-use Rattle.gt_core.specs.Machine.{expects, action_at, phase_after, after_leg, after_single, leg_after, leg_step, own_gref, is_sub, store_at, second_at, single_at, unpin_of, read_of, IsUnderway, Comes, IsExchanged, FitsStep, FitsAction, FitsPhase}
-use Rattle.gt_core.specs.Sight.{sees, changes_nothing}
-use Rattle.gt_core.specs.History.{History, Setting, word_at, control_at, table_at, known_at, writes_at, reads_at, entry_at, generation_at, body_at, seen_by, exchange_sees, Underway, open_call, underway_after, values, one_if_mapped, live, Pin, mapping_on, mappings_in, mappings_at, frame_of, is_handle}
-use Rattle.gt_core.specs.Legal.{Permits, Reaches, MayUse, Justified, IsSafe, PinIsSound, StepsSoFar, IsSpelled, first_at, leg_of, misses, is_in_body, looked_at, stands_when, at_entry, rule_at_exchange, refusal_in, verdict_in, or_then, stood, first_in_call, first_of_item, AnsweredBy, StepsRight, StepsRightIn}
-use Rattle.gt_core.specs.Standing.{IsLawful, IsLawfullyHeld, LegStands, PhaseStands, HasStored, HasStoredFirst, OpenAgrees, CallAgrees, Agrees, StateAgrees, CoreStands, Advances, state_of}
-use Rattle.gt_core.proofs.Calls.{wants-action, comes-some}
-use Rattle.gt_core.proofs.Places.{has_id, found, state_of-set}
-use Rattle.gt_core.proofs.Fitting.{word-shows}
-use Rattle.gt_core.proofs.Quiet.{IsQuiet, quiet-known}
-use Rattle.gt_core.proofs.Beginning.{known-same, quiet-agrees, quiet-stands, place-keeps, open_call-own, stood-own, agrees-found, same-state}
-use Rattle.gt_core.proofs.Seeing.{IsWithin, sees-agree}
-use Rattle.gt_core.proofs.FirstRules.{first-of-leg, refusal_next, misses-look}
-use Rattle.gt_core.proofs.Placing.{NextStands, leg-place}
-use Rattle.gt_core.proofs.Owners.{phase_refusal, first-own-look, first-own-change, writes-shown, idle-pins, misses-exchange}
-
+use Rattle.gt_core.specs.Rules.{CallerKnowledge, is_demote, begun, first, control_with}
+use Rattle.gt_core.specs.Path.{to_ro_or_back}
+use Rattle.gt_core.specs.Machine.{expects, action_at, phase_after, after_leg, after_single, leg_after, leg_step, own_gref, is_sub, Comes}
+use Rattle.gt_core.specs.Sight.{changes_nothing}
+use Rattle.gt_core.specs.History.{History, Setting, word_at, control_at, known_at, writes_at, reads_at, entry_at, generation_at, body_at, seen_by, Underway, open_call, underway_after, Pin, mappings_in}
+use Rattle.gt_core.specs.Legal.{IsSafe, PinIsSound, StepsSoFar, IsSpelled, StepsRight}
+use Rattle.gt_core.specs.Standing.{IsLawful, PhaseStands, OpenAgrees, CallAgrees, Agrees, StateAgrees, CoreStands, state_of}
+use Rattle.gt_core.proofs.Calls.{comes-some}
+use Rattle.gt_core.proofs.Beginning.{open_call-own}
 use Rattle.gt_core.specs.States.{changed_in}
 use Rattle.gt_core.specs.Effects.{applied, with_slot, with_underway, slot_after}
 use Rattle.gt_core.specs.declared.slot.Slot.{Slot}
 use Rattle.gt_core.specs.declared.slot.SlotChange.TheVariants.{Stored}
 use Rattle.gt_core.specs.Rules.{first_body, second_body, begun}
-use Rattle.gt_core.specs.History.{or_else, stored_at, change_of, contents_at, maps_answered_at, pinned_by, unpinned_by}
-use Rattle.gt_core.specs.Standing.{SlotAgrees, FitsWord, IsValid}
-use Rattle.gt_core.proofs.Rows.{get-changed, length-changed, state-changed, set-state, changed-nowhere}
-use Rattle.gt_core.proofs.Others.{other-agrees, other-known, other-body}
+use Rattle.gt_core.specs.History.{or_else, stored_at}
+use Rattle.gt_core.specs.Standing.{SlotAgrees, FitsWord}
+use Rattle.gt_core.proofs.Rows.{get-changed, length-changed, state-changed}
+use Rattle.gt_core.proofs.Others.{other-agrees, other-body}
 use Rattle.gt_core.proofs.Quiet.{KeepsKnown, kept-entry, kept-raises, kept-live, kept-maps_answered, kept-generations, kept-known, kept-contents}
-use Rattle.gt_core.proofs.Ticking.{Stepping, stepping, stepped, goes-on-after, going-right, call-here, tick-goes-on, tick-refused, makes-same, grant-invalid, own-below, with_open, decide, not-refused, one-more}
-use Rattle.gt_core.proofs.Beginning.{spelled-stays}
+use Rattle.gt_core.proofs.Ticking.{Stepping, stepped, goes-on-after, going-right, makes-same, grant-invalid, one-more}
 
 -- a step that changes nothing leaves the states
 pub applied-quiet : (d : DomId) (step : Step) (seen : Seen) (xs : List State) → changes_nothing step seen ≡ true → applied d step seen xs ≡ xs
@@ -360,13 +328,23 @@ stores-next s h d r so_far PhaseBegun step next a comes act q e = absurd a
 stores-next s h d r so_far (LegPinning l p) step next a comes act q e =
     absurd (subst (λ (z : Step). changes_nothing z (seen_by s h d z) ≡ false → Makes next ≡ action_at (known_at s h d) d r (phase_after (known_at s h d) d r (LegPinning l p) (seen_by s h d z)) → ⊥)
     (makes-same _ _ act) (leg-quiet s h (known_at s h d) d r l p next) q e)
-stores-next s h d (Grant gref entry) so_far Storing step next a comes act q e =
-    (gref, false, first_body entry, sym (makes-same _ _ act), grant-invalid (known_at s h d) d gref entry,
-    stores-first s h d gref entry ((StoreBody gref false (first_body entry), Nothing) ∷ so_far) (is_sub (Grant gref entry)) refl)
+stores-next s h d (Grant gref entry) so_far Storing step next a comes act q e = (
+  gref,
+  false,
+  first_body entry,
+  sym (makes-same _ _ act),
+  grant-invalid (known_at s h d) d gref entry,
+  stores-first s h d gref entry ((StoreBody gref false (first_body entry), Nothing) ∷ so_far) (is_sub (Grant gref entry)) refl,
+)
 stores-next s h d (Grant gref (Sub dom ro frame off len)) so_far StoringSecond step next a comes act q e =
-    let entry : Entry = Sub dom ro frame off len in
-    (gref, true, second_body entry, sym (makes-same _ _ act), grant-invalid (known_at s h d) d gref entry,
-    (first-stays d gref (second_body entry) gref.0 h ∙ a, stored-second d gref (second_body entry) h))
+    let entry : Entry = Sub dom ro frame off len in (
+      gref,
+      true,
+      second_body entry,
+      sym (makes-same _ _ act),
+      grant-invalid (known_at s h d) d gref entry,
+      (first-stays d gref (second_body entry) gref.0 h ∙ a, stored-second d gref (second_body entry) h),
+    )
 stores-next s h d (Grant gref Invalid) so_far StoringSecond step next a comes act q e = absurd comes
 stores-next s h d (Grant gref (Page dom ro frame)) so_far StoringSecond step next a comes act q e = absurd comes
 stores-next s h d (Grant gref (Via dom ro dom2 r)) so_far StoringSecond step next a comes act q e = absurd comes
@@ -423,8 +401,7 @@ tick-stores s h xs x o c seen new next st here a call oa w loud =
         call oa w
         (subst (λ (v : Seen). PhaseStands s (stepped x.id o.step v None ∷ h) x.id c.request ((o.step, v) ∷ reverse c.steps) new.phase) (sym nothing)
         (subst (λ (z : Step). PhaseStands s (stepped x.id z Nothing None ∷ h) x.id c.request ((z, Nothing) ∷ reverse c.steps) new.phase) (sym is) place)))) in
-        let now : open_call (i ∷ h) x.id.0 ≡ Some (one-more c (StoreBody gref second word) Nothing) = open_call-own i h ∙ ap (underway_after i) call in
-        (
+        let now : open_call (i ∷ h) x.id.0 ≡ Some (one-more c (StoreBody gref second word) Nothing) = open_call-own i h ∙ ap (underway_after i) call in (
           going-right s h xs x.id o c seen new next st call oa w
               (subst (λ (z : Step). IsSafe s h (stepped x.id z seen None)) (sym is) tt)
               (subst (λ (z : Step). PinIsSound s h x.id c.request z seen) (sym is) tt),

@@ -1,9 +1,7 @@
 -- An unpin keeps what a core stands for.
-use Rattle.std.proofs.Common.{◌≡◌, ◌≢◌, ◌<◌, ◌≤◌, ◌+◌, ◌-◌, ◌^◌, ℕ, zero, suc, refl, Bool, true, false, List, [], ◌∷◌, ◌++◌, length, Option, Some, None, cond, eqb, sym, ap, ◌∙◌, arith, subst}
-use Rattle.std.specs.Prelude.{nat_lt, ◌==◌, ◌&&◌, All, count_by, slice_get}
-use Rattle.gt_types.specs.Names.{domain_of}
+use Rattle.std.proofs.Common.{◌≡◌, ◌≢◌, ◌<◌, ◌≤◌, ◌+◌, ◌-◌, ℕ, refl, Bool, true, false, List, [], ◌∷◌, ◌++◌, length, Option, Some, None, cond, sym, ap, ◌∙◌, arith, subst}
+use Rattle.std.specs.Prelude.{nat_lt, ◌==◌, ◌&&◌, All, count_by, slice_get, if◌then◌else◌}
 use Rattle.gt_types.specs.declared.DomId.{DomId}
-use Rattle.gt_types.specs.declared.GrantRef.{GrantRef}
 use Rattle.gt_types.specs.declared.Dir.{Dir}
 use Rattle.gt_types.specs.declared.Dir.TheVariants.{Read, Write}
 use Rattle.gt_entry.specs.declared.entry.Entry.{Entry}
@@ -12,45 +10,32 @@ use Rattle.gt_core.specs.declared.request.Handle.{Handle}
 use Rattle.gt_core.specs.declared.request.Holder.{Holder}
 use Rattle.gt_core.specs.declared.request.Holder.TheVariants.{Mapping as ByMapping, Leg as ByLeg}
 use Rattle.gt_core.specs.declared.action.Change.{Change}
-use Rattle.gt_core.specs.declared.action.Change.TheVariants.{Publish, Revoke, Demote, Promote}
-use Rattle.gt_core.specs.declared.action.Step.{Step}
-use Rattle.gt_core.specs.declared.action.Step.TheVariants.{LookHeader, LookControl, LookBody, Pin as PinStep, Unpin, StoreBody, Exchange, Read as ReadBytes}
-use Rattle.gt_core.specs.declared.action.Seen.{Seen}
-use Rattle.gt_core.specs.declared.action.Seen.TheVariants.{Nothing, Value, Taken, Missed}
+use Rattle.gt_core.specs.declared.action.Step.TheVariants.{Unpin}
+use Rattle.gt_core.specs.declared.action.Seen.TheVariants.{Nothing}
 use Rattle.gt_core.specs.declared.known.Mapping.{Mapping}
-use Rattle.gt_core.specs.declared.known.Own.{Own}
 use Rattle.gt_core.specs.declared.slot.Slot.{Slot}
-use Rattle.gt_core.specs.declared.slot.SlotChange.{SlotChange}
-use Rattle.gt_core.specs.declared.slot.SlotChange.TheVariants.{Pinned, Unpinned, Stored}
+use Rattle.gt_core.specs.declared.slot.SlotChange.TheVariants.{Unpinned}
 use Rattle.gt_core.specs.declared.trace.Item.{Item}
-use Rattle.gt_core.specs.declared.trace.Happened.TheVariants.{Began, Stepped}
-use Rattle.gt_core.specs.declared.trace.Answer.{Answer}
-use Rattle.gt_core.specs.declared.trace.Answer.TheVariants.{Denied, Done as AnswerDone, Mapped}
-use Rattle.gt_core.specs.Rules.{entry_in, generation_in, mapping_of, control_with, frames_of}
+use Rattle.gt_core.specs.declared.trace.Happened.TheVariants.{Stepped}
+use Rattle.gt_core.specs.declared.trace.Answer.TheVariants.{Done as AnswerDone}
+use Rattle.gt_core.specs.Rules.{mapping_of, control_with}
 use Rattle.gt_core.specs.States.{State, state_of, changed_in}
-use Rattle.gt_core.specs.Effects.{with_slot, with_own, with_underway, with_mapping, without_mapping, slot_after, own_after, less}
-use Rattle.gt_core.specs.History.{History, Setting, Pin, live, entry_at, raises_at, raise_of, changed_entry, generation_at, body_at, reads_at, writes_at, table_at, word_at, control_at, mappings_at, mappings_in, maps_answered_at, known_at, open_call, is_pin_on, without, is_holder, is_handle, frame_of}
-use Rattle.gt_core.specs.Legal.{IsSafeChange, IsSpelled}
-use Rattle.gt_core.specs.Standing.{IsLawful, IsLawfullyHeld, FitsWord, FitsEntry, SlotAgrees, Agrees, StateAgrees, CoreStands, CallAgrees}
+use Rattle.gt_core.specs.Effects.{with_slot, with_underway, without_mapping, slot_after, less}
+use Rattle.gt_core.specs.History.{History, Setting, Pin, live, entry_at, raises_at, generation_at, body_at, reads_at, writes_at, control_at, mappings_at, mappings_in, maps_answered_at, open_call, is_pin_on, without, is_holder, is_handle, frame_of, Underway, change_of, change_at, entry_after, raise_after, or_else, stored_at, mapping_on, same_dir}
+use Rattle.gt_core.specs.Legal.{IsSpelled}
+use Rattle.gt_core.specs.Standing.{IsLawful, FitsWord, SlotAgrees, Agrees, StateAgrees, CoreStands, CallAgrees}
 use Rattle.gt_core.proofs.Rows.{get-changed, length-changed, state-changed}
-
-use Rattle.std.specs.Prelude.{if◌then◌else◌, min}
-use Rattle.std.specs.List.{sum_by}
 use Rattle.std.specs.Option.{option_map}
 use mathlib.Core.Path.{fun_ext}
-use Rattle.std.proofs.lemmas.Bool.{eqb-true, eq-eqb, ne_eqb, and_parts, and_from, and_left, and_right, false≢true, true≢false}
+use Rattle.std.proofs.lemmas.Bool.{eqb-true, eq-eqb, and_parts, and_from, and_left, and_right, false≢true, true≢false}
 use Rattle.std.proofs.lemmas.Option.{none-some}
 use Rattle.std.proofs.lemmas.List.{append-nil}
 use Rattle.std.proofs.lemmas.List.Sums.{sum_by-cons, sum_by-append}
 use Rattle.std.proofs.lemmas.List.Elements.{All-cons, All-head, All-tail}
-use Rattle.gt_types.specs.declared.TypeId.{TypeId}
-use Rattle.gt_core.specs.declared.trace.Happened.{Happened}
-use Rattle.gt_core.specs.declared.slot.Open.{Open}
-use Rattle.gt_core.specs.History.{Underway, change_of, change_at, entry_after, raise_after, or_else, stored_at, pinned_by, unpinned_by, one_if_mapped, mapping_on, same_dir, contents_at}
 use Rattle.gt_core.specs.Rows.{changed_at}
 use Rattle.gt_core.proofs.Quiet.{kept-contents}
 use Rattle.gt_core.proofs.Beginning.{open_call-own}
-use Rattle.gt_core.proofs.Others.{other-known, other-agrees}
+use Rattle.gt_core.proofs.Others.{other-agrees}
 
 -- what an unpin takes from the live pins
 
@@ -228,8 +213,8 @@ same-body i h t r which q =
     ap (λ (o : Option ℕ). or_else o (body_at h t r which)) (ap (λ (o : Option ℕ). cond (i.actor.0 == t) o None) (q.stores r which) ∙ cond-same (i.actor.0 == t) None)
 
 pub same-generations : (s : Setting) (i : Item) (h : History) (d : ℕ) → KeepsEntries i
-    → ◌≡◌ {A = ℕ → ℕ} (λ r. if nat_lt r 2048 then generation_at s (i ∷ h) d r else 0) (λ r. if nat_lt r 2048 then generation_at s h d r else 0)
-same-generations s i h d q = fun_ext (λ r. ap (λ (n : ℕ). cond (nat_lt r 2048) (s.first_generation + n) 0) (same-raises i h d r q))
+    → ◌≡◌ {A = ℕ → ℕ} (λ r. generation_at s (i ∷ h) d r) (λ r. generation_at s h d r)
+same-generations s i h d q = fun_ext (λ r. ap (λ (n : ℕ). s.first_generation + n) (same-raises i h d r q))
 
 pub same-spelled : (i : Item) (h : History) (t r : ℕ) → KeepsEntries i → (entry_at h t r ≢ Invalid → IsSpelled (entry_at h t r) (body_at h t r false) (body_at h t r true))
     → entry_at (i ∷ h) t r ≢ Invalid → IsSpelled (entry_at (i ∷ h) t r) (body_at (i ∷ h) t r false) (body_at (i ∷ h) t r true)
@@ -296,11 +281,11 @@ room-for (Page dom ro frame) g r w f = (f.in_range.reads, f.in_range.writes)
 room-for (Sub dom ro frame off len) g r w f = (f.in_range.reads, f.in_range.writes)
 room-for (Via dom ro dom2 gref) g r w f = (f.in_range.reads, f.in_range.writes)
 
-fits-with : (e : Entry) (g r w r2 w2 : ℕ) → r2 < 4096 → w2 < 4096 → FitsWord (control_with e g r w) → FitsWord (control_with e g r2 w2)
-fits-with Invalid g r w r2 w2 a b f = record { in_range = record { reads = a; writes = b; generation = f.in_range.generation }; domain = f.domain }
-fits-with (Page dom ro frame) g r w r2 w2 a b f = record { in_range = record { reads = a; writes = b; generation = f.in_range.generation }; domain = f.domain }
-fits-with (Sub dom ro frame off len) g r w r2 w2 a b f = record { in_range = record { reads = a; writes = b; generation = f.in_range.generation }; domain = f.domain }
-fits-with (Via dom ro dom2 gref) g r w r2 w2 a b f = record { in_range = record { reads = a; writes = b; generation = f.in_range.generation }; domain = f.domain }
+fits-with : (e : Entry) (g r w r' w' : ℕ) → r' < 4096 → w' < 4096 → FitsWord (control_with e g r w) → FitsWord (control_with e g r' w')
+fits-with Invalid g r w r' w' a b f = record { in_range = record { reads = a; writes = b; generation = f.in_range.generation }; domain = f.domain }
+fits-with (Page dom ro frame) g r w r' w' a b f = record { in_range = record { reads = a; writes = b; generation = f.in_range.generation }; domain = f.domain }
+fits-with (Sub dom ro frame off len) g r w r' w' a b f = record { in_range = record { reads = a; writes = b; generation = f.in_range.generation }; domain = f.domain }
+fits-with (Via dom ro dom2 gref) g r w r' w' a b f = record { in_range = record { reads = a; writes = b; generation = f.in_range.generation }; domain = f.domain }
 
 -- the counts that a control word holds are below 4,096
 pub counts-fit : (s : Setting) (h : History) (t r : ℕ) → FitsWord (control_at s h t r) → (reads_at h t r < 4096) × (writes_at h t r < 4096)
@@ -447,7 +432,7 @@ le-zero a b e f = omega arith
 pub unpin-stands : (s : Setting) (h : History) (xs : List State) (d : DomId) (x : State) (handle : Handle) (m : Mapping) → CoreStands s h xs
     → state_of xs d.0 ≡ Some x → x.id ≡ d → mapping_of (mappings_at h d.0) handle ≡ Some m
     → CoreStands s (record { actor = d; happened = Stepped (Unpin m.dom m.gref m.dir (ByMapping m.handle)) Nothing; answer = Some AnswerDone } ∷ h)
-        (changed_in d.0 (without_mapping (ByMapping m.handle)) (changed_in m.dom.0 (with_slot m.gref.0 (Unpinned m.dir)) (changed_in d.0 (with_underway None) xs)))
+    (changed_in d.0 (without_mapping (ByMapping m.handle)) (changed_in m.dom.0 (with_slot m.gref.0 (Unpinned m.dir)) (changed_in d.0 (with_underway None) xs)))
 unpin-stands s h xs d x handle m st here same found =
     let i : Item = unpins d m in
     let keeps = unpins-keeps d m in

@@ -1,16 +1,15 @@
--- What a step does to the states of the domains.
-use Rattle.std.specs.Prelude.{ℕ, Bool, true, false, List, [], ◌∷◌, ◌++◌, Option, Some, None, ◌==◌, ◌&&◌, if◌then◌else◌, ◌+◌, ◌-◌, ◌^◌, min, take, drop, slice_get}
+-- What a step does to the states of the domains: the code's own representation, which stands here since private contracts cite it.
+use Rattle.std.specs.Prelude.{ℕ, true, false, List, [], ◌∷◌, ◌++◌, Option, Some, None, if◌then◌else◌, ◌+◌, ◌-◌, ◌^◌, min, take, drop, slice_get}
 use Rattle.gt_types.specs.declared.DomId.{DomId}
-use Rattle.gt_types.specs.declared.Dir.{Dir}
 use Rattle.gt_types.specs.declared.Dir.TheVariants.{Read, Write}
 use Rattle.gt_core.specs.declared.request.Handle.{Handle}
 use Rattle.gt_core.specs.declared.request.Holder.{Holder}
 use Rattle.gt_core.specs.declared.request.Holder.TheVariants.{Mapping as ByMapping, Leg as ByLeg}
 use Rattle.gt_core.specs.declared.action.Change.{Change}
 use Rattle.gt_core.specs.declared.action.Step.{Step}
-use Rattle.gt_core.specs.declared.action.Step.TheVariants.{LookHeader, LookControl, LookBody, Pin, Unpin, StoreBody, Exchange, Read as ReadBytes}
+use Rattle.gt_core.specs.declared.action.Step.TheVariants.{Pin, Unpin, StoreBody, Exchange}
 use Rattle.gt_core.specs.declared.action.Seen.{Seen}
-use Rattle.gt_core.specs.declared.action.Seen.TheVariants.{Nothing, Value, Taken, Missed}
+use Rattle.gt_core.specs.declared.action.Seen.TheVariants.{Taken}
 use Rattle.gt_core.specs.declared.known.Own.{Own}
 use Rattle.gt_core.specs.declared.known.Mapping.{Mapping}
 use Rattle.gt_core.specs.declared.slot.Slot.{Slot}
@@ -21,7 +20,7 @@ use Rattle.gt_core.specs.Rows.{changed_at}
 use Rattle.gt_core.specs.States.{State, state_of, changed_in}
 use Rattle.gt_core.specs.History.{changed_entry, raise_of, is_handle}
 
--- one pin more or less of a kind, or another body word
+-- one pin more or less of a kind, or another body word (own)
 abbrev pub slot_after : SlotChange → Slot → Slot
 slot_after (Pinned Read) slot = record slot { reads = min (slot.reads + 1) 4095 }
 slot_after (Pinned Write) slot = record slot { writes = min (slot.writes + 1) 4095 }
@@ -30,33 +29,37 @@ slot_after (Unpinned Write) slot = record slot { writes = slot.writes - 1 }
 slot_after (Stored true word) slot = record slot { second = word }
 slot_after (Stored false word) slot = record slot { first = word }
 
--- what an owner knows of its entry after a change
+-- what an owner knows of its entry after a change (own)
 abbrev pub own_after : Change → Own → Own
 own_after change own = record { entry = changed_entry change own.entry; generation = min (own.generation + raise_of change) 1048575 }
 
+-- the state after a change of the pins or a body word of entry r (own)
 abbrev pub with_slot : ℕ → SlotChange → State → State
 with_slot r change x = record x { slots = changed_at r (slot_after change) x.slots }
 
+-- the state after an owner's change of entry r (own)
 abbrev pub with_own : ℕ → Change → State → State
 with_own r change x = record x { own = changed_at r (own_after change) x.own }
 
+-- the state with this call under way, or none (own)
 abbrev pub with_underway : Option Open → State → State
 with_underway underway x = record x { underway = underway }
 
--- a new mapping, and the call that made it is answered
+-- a new mapping, and the call that made it is answered (own)
 abbrev pub with_mapping : Mapping → State → State
 with_mapping m x = record x { mappings = x.mappings ++ m ∷ []; maps_answered = min (x.maps_answered + 1) (2 ^ 64 - 1); underway = None }
 
--- the first mapping with this handle goes
+-- the first mapping with this handle goes (own)
 abbrev pub less : Handle → List Mapping → List Mapping
 less handle [] = []
 less handle (m ∷ ms) = if is_handle m.handle handle then ms else m ∷ less handle ms
 
+-- the state after its holder gave up a pin: a mapping goes, a call has none to lose (own)
 abbrev pub without_mapping : Holder → State → State
 without_mapping (ByMapping handle) x = record x { mappings = less handle x.mappings }
 without_mapping (ByLeg number) x = x
 
--- the states after a step of domain d that saw this
+-- the states after a step of domain d that saw this (own)
 abbrev pub applied : DomId → Step → Seen → List State → List State
 applied d (Pin t gref looked dir) Taken xs = changed_in t.0 (with_slot gref.0 (Pinned dir)) xs
 applied d (Unpin t gref dir holder) seen xs = changed_in d.0 (without_mapping holder) (changed_in t.0 (with_slot gref.0 (Unpinned dir)) xs)
@@ -64,14 +67,16 @@ applied d (StoreBody gref second word) seen xs = changed_in d.0 (with_slot gref.
 applied d (Exchange gref looked change) Taken xs = changed_in d.0 (with_own gref.0 change) xs
 applied d step seen xs = xs
 
--- the bytes of a frame, none where there is no such frame
+-- the bytes of a frame, none where there is no such frame (own)
 abbrev pub or_none : Option (List ℕ) → List ℕ
 or_none None = []
 or_none (Some bytes) = bytes
 
+-- the bytes of frame f in this state, none where there is no such frame or state (own)
 abbrev pub frame_in : Option State → ℕ → List ℕ
 frame_in None f = []
 frame_in (Some x) f = or_none (slice_get x.frames f)
 
+-- the bytes of a range in frame f of domain t (own)
 abbrev pub bytes_in : List State → ℕ → ℕ → ℕ → ℕ → List ℕ
 bytes_in xs t f off len = take len (drop off (frame_in (state_of xs t) f))

@@ -8,3 +8,4 @@ pub mod Machine
 pub mod Standing
 pub mod Sight
 pub mod Effects
+pub mod Shown

@@ -1,11 +1,10 @@
--- What is to come, by where a call stands.
-use Rattle.std.specs.Prelude.{◌≡◌, ◌&&◌, ◌-◌, ◌==◌, nat_lt, if◌then◌else◌, ℕ, Bool, true, false, List, [], ◌∷◌, ◌++◌, Option, Some, None, zero, suc}
+-- What is to come, by where a call stands: the code's own representation, which stands here since private contracts cite it.
+use Rattle.std.specs.Prelude.{◌≡◌, ◌&&◌, ◌-◌, ◌==◌, nat_lt, if◌then◌else◌, ℕ, Bool, true, false, [], ◌∷◌, Option, Some, None, zero, suc}
 use Rattle.gt_types.specs.declared.DomId.{DomId}
 use Rattle.gt_types.specs.declared.GrantRef.{GrantRef}
 use Rattle.gt_types.specs.declared.denial.Rule.{Rule}
 use Rattle.gt_types.specs.declared.denial.Rule.TheVariants.{N9, N18, N19}
-use Rattle.gt_types.specs.declared.denial.Facts.TheVariants.{Header as HeaderFacts, Entry as EntryFacts}
-use Rattle.gt_types.specs.declared.denial.Denial.{Denial}
+use Rattle.gt_types.specs.declared.denial.Facts.TheVariants.{Header as HeaderFacts}
 use Rattle.gt_types.specs.Denial.{denial_of}
 use Rattle.gt_entry.specs.declared.control.Kind.TheVariants.{Sub as KindSub}
 use Rattle.gt_entry.specs.Words.{control_of, header_of}
@@ -25,7 +24,6 @@ use Rattle.gt_core.specs.declared.call.Phase.{Phase}
 use Rattle.gt_core.specs.declared.call.Phase.TheVariants.{Begun, Pinning as LegPinning, Storing, StoringSecond, Single, Look as OwnLook, Change as OwnChange, Ended}
 use Rattle.gt_core.specs.declared.request.Request.{Request}
 use Rattle.gt_core.specs.declared.request.Request.TheVariants.{Grant, Revoke, Demote, Promote, Map, Unmap, Load}
-use Rattle.gt_entry.specs.declared.entry.Entry.{Entry}
 use Rattle.gt_core.specs.declared.action.Seen.{Seen}
 use Rattle.gt_core.specs.declared.action.Seen.TheVariants.{Nothing, Value, Taken, Missed}
 use Rattle.gt_core.specs.declared.leg.Leg.{Leg}
@@ -34,28 +32,30 @@ use Rattle.gt_core.specs.declared.leg.LegPhase.TheVariants.{Header, Look, Body, 
 use Rattle.gt_core.specs.declared.leg.LegNext.{LegNext}
 use Rattle.gt_core.specs.declared.leg.LegNext.TheVariants.{Going, Refused as LegRefused, Pinned}
 use Rattle.gt_core.specs.Rules.{CallerKnowledge, is_demote, before_pin, first_look, first_body, second_body, size_of, is_kind, begun, mapping_of}
-use Rattle.gt_core.specs.Path.{Continuation, AfterRefusal, AfterPin, ended, entry_refusal, refused_with, refused_at, exchanges, leg, tries, reads_body, reads_second, last_step, makes, publishes, steps_of, stores_second, turns, to_ro_or_back, map_leg, idle_word}
+use Rattle.gt_core.specs.Path.{Continuation, AfterRefusal, AfterPin, ended, entry_refusal, refused_with, refused_at, exchanges, leg, tries, reads_body, reads_second, last_step, publishes, steps_of, stores_second, turns, to_ro_or_back, map_leg, idle_word}
 
+-- a value was seen (own)
 abbrev pub IsValue : Seen → Type 0
 IsValue (Value w) = Unit {0}
 IsValue _ = ⊥
 
+-- an exchange was taken or missed (own)
 abbrev pub IsExchanged : Seen → Type 0
 IsExchanged Taken = Unit {0}
 IsExchanged (Missed w) = Unit {0}
 IsExchanged _ = ⊥
 
--- the value is one that the leg's next step can see
+-- the value is one that the leg's next step can see (own)
 abbrev pub FitsLeg : LegPhase → Seen → Type 0
 FitsLeg (Pinning more word body second) seen = IsExchanged seen
 FitsLeg _ seen = IsValue seen
 
--- after a missed try, with so many to follow
+-- after a missed try, with so many to follow (own)
 abbrev pub missed_to_come : Leg → ℕ → AfterRefusal → AfterPin → ℕ → Continuation
 missed_to_come l zero refused pinned found = refused (entry_refusal l.dom l.gref N18 found)
 missed_to_come l (suc more) refused pinned found = tries l more refused pinned
 
--- what a leg has to come
+-- what a leg has to come (own)
 abbrev pub leg_to_come : Leg → LegPhase → AfterRefusal → AfterPin → Continuation
 leg_to_come l Header refused pinned = leg l refused pinned
 leg_to_come l (Look more) refused pinned = tries l more refused pinned
@@ -64,6 +64,7 @@ leg_to_come l (Second more word body) refused pinned = reads_second l word body 
 leg_to_come l (Pinning more word body second) refused pinned = exchanges (Pin l.dom l.gref word l.dir) (pinned word body second) (missed_to_come l more refused pinned)
 leg_to_come l (Relook more word rule) refused pinned = last_step l word (Some rule) refused (missed_to_come l more refused pinned) (pinned word 0 0)
 
+-- what is to come after a step of a leg (own)
 abbrev pub outcome_to_come : Leg → LegNext → AfterRefusal → AfterPin → Continuation
 outcome_to_come l (Going phase) refused pinned = leg_to_come l phase refused pinned
 outcome_to_come l (LegRefused denial) refused pinned = refused denial
@@ -71,28 +72,35 @@ outcome_to_come l (Pinned word body second) refused pinned = pinned word body se
 
 -- the steps of a leg as a machine
 
+-- a missed try leads to the next one, the fourth to N18 (own)
 abbrev pub after_miss : Leg → ℕ → ℕ → LegNext
 after_miss l more found = if nat_lt 0 more then Going (Look (more - 1)) else LegRefused (entry_refusal l.dom l.gref N18 found)
 
+-- after the header: the tries, or N9 (own)
 abbrev pub after_header : Leg → ℕ → LegNext
 after_header l word = if nat_lt l.gref.0 (size_of (header_of word)) then Going (Look 3) else LegRefused (denial_of N9 (HeaderFacts l.dom word))
 
+-- after a first look: the body words, or the rule that stands (own)
 abbrev pub after_look : Leg → ℕ → ℕ → Option Rule → LegNext
 after_look l more word (Some rule) = LegRefused (entry_refusal l.dom l.gref rule word)
 after_look l more word None = Going (Body more word)
 
+-- after the body words: the pin, or a second look where a rule stands on them (own)
 abbrev pub after_words : ℕ → ℕ → ℕ → ℕ → Option Rule → LegNext
 after_words more word body second (Some rule) = Going (Relook more word rule)
 after_words more word body second None = Going (Pinning more word body second)
 
+-- after the first body word: the second of a sub-page, else as after the words (own)
 abbrev pub after_body : Leg → ℕ → ℕ → ℕ → LegNext
 after_body l more word body =
     if is_kind (control_of word).kind KindSub then Going (Second more word body)
     else after_words more word body 0 (before_pin l (control_of word) body 0)
 
+-- after a second look: the rule where the word is the same, else a missed try (own)
 abbrev pub after_relook : Leg → ℕ → ℕ → Rule → ℕ → LegNext
 after_relook l more word rule found = if found == word then LegRefused (entry_refusal l.dom l.gref rule word) else after_miss l more found
 
+-- the step of a leg that stands here (own)
 abbrev pub leg_step : Leg → LegPhase → Step
 leg_step l Header = LookHeader l.dom
 leg_step l (Look more) = LookControl l.dom l.gref
@@ -101,7 +109,7 @@ leg_step l (Second more word body) = LookBody l.dom l.gref true
 leg_step l (Pinning more word body second) = Pin l.dom l.gref word l.dir
 leg_step l (Relook more word rule) = LookControl l.dom l.gref
 
--- what a leg goes on with, after what its step saw (where it fits)
+-- what a leg goes on with, after what its step saw (where it fits) (own)
 abbrev pub leg_after : Leg → LegPhase → Seen → LegNext
 leg_after l Header (Value w) = after_header l w
 leg_after l (Look more) (Value w) = after_look l more w (first_look l (control_of w))
@@ -114,19 +122,21 @@ leg_after l phase _ = Going phase
 
 -- calls
 
+-- after the last pin of a map the call is granted (own)
 abbrev pub granted : ℕ → ℕ → ℕ → Continuation
 granted word body second = ended Granted
 
--- the beginning sees nothing
+-- the beginning sees nothing (own)
 abbrev pub begins : Continuation → Continuation
 begins goes_on [] = None
 begins goes_on (Nothing ∷ vs) = goes_on vs
 begins goes_on (v ∷ vs) = None
 
+-- no value is shown where no call stands (own)
 abbrev pub nowhere : Continuation
 nowhere vs = None
 
--- a call's last step, where it has just one, and a grant's exchange
+-- a call's last step, where it has just one, and a grant's exchange (own)
 abbrev pub single_to_come : CallerKnowledge → DomId → Request → Continuation
 single_to_come k caller (Grant gref entry) = publishes k caller gref entry
 single_to_come k caller (Revoke gref) = steps_of k caller (Revoke gref)
@@ -134,33 +144,39 @@ single_to_come k caller (Unmap handle) = steps_of k caller (Unmap handle)
 single_to_come k caller (Load handle off len) = steps_of k caller (Load handle off len)
 single_to_come k caller _ = nowhere
 
+-- what a grant has to come before it stored a word (own)
 abbrev pub storing_to_come : CallerKnowledge → DomId → Request → Continuation
 storing_to_come k caller (Grant gref entry) = steps_of k caller (Grant gref entry)
 storing_to_come k caller _ = nowhere
 
+-- what the grant of a sub-page has to come before it stored the second word (own)
 abbrev pub second_to_come : CallerKnowledge → DomId → Request → Continuation
 second_to_come k caller (Grant gref (Sub dom ro frame off len)) = stores_second (Sub dom ro frame off len) gref (publishes k caller gref (Sub dom ro frame off len))
 second_to_come k caller _ = nowhere
 
+-- a missed turn leads to the next one, the fourth to N18 (own)
 abbrev pub missed_turn : Bool → DomId → GrantRef → ℕ → ℕ → Continuation
 missed_turn to_ro caller gref zero found = refused_at caller gref N18 found
 missed_turn to_ro caller gref (suc more) found = turns to_ro caller gref more
 
+-- what a demote or promote has to come before its exchange (own)
 abbrev pub change_to_come : Bool → DomId → GrantRef → ℕ → ℕ → Continuation
 change_to_come to_ro caller gref more word =
     exchanges (Exchange gref word (to_ro_or_back to_ro)) (ended Granted) (missed_turn to_ro caller gref more)
 
+-- what a demote or promote has to come before its look (own)
 abbrev pub own_look_to_come : DomId → Request → ℕ → Continuation
 own_look_to_come caller (Demote gref) more = turns true caller gref more
 own_look_to_come caller (Promote gref) more = turns false caller gref more
 own_look_to_come caller _ more = nowhere
 
+-- what a demote or promote has to come after a look that showed this word (own)
 abbrev pub own_change_to_come : DomId → Request → ℕ → ℕ → Continuation
 own_change_to_come caller (Demote gref) more word = change_to_come true caller gref more word
 own_change_to_come caller (Promote gref) more word = change_to_come false caller gref more word
 own_change_to_come caller _ more word = nowhere
 
--- what is to come where a call stands
+-- what is to come where a call stands (own)
 abbrev pub expects : CallerKnowledge → DomId → Request → Phase → Continuation
 expects k caller request Begun = begins (steps_of k caller request)
 expects k caller request (LegPinning l phase) = leg_to_come l phase refused_with granted
@@ -171,7 +187,7 @@ expects k caller request (OwnLook more) = own_look_to_come caller request more
 expects k caller request (OwnChange more word) = own_change_to_come caller request more word
 expects k caller request (Ended verdict) = ended verdict
 
--- the value is one that this step can see
+-- the value is one that this step can see (own)
 abbrev pub FitsStep : Step → Seen → Type 0
 FitsStep (LookHeader dom) seen = IsValue seen
 FitsStep (LookControl dom gref) seen = IsValue seen
@@ -184,6 +200,7 @@ FitsStep (ReadBytes dom frame off len) seen = seen ≡ Nothing
 
 -- a call as a machine
 
+-- the reference that a call names, 0 where it names none (own)
 abbrev pub own_gref : Request → GrantRef
 own_gref (Grant gref entry) = gref
 own_gref (Revoke gref) = gref
@@ -193,10 +210,12 @@ own_gref (Map dom gref flags) = gref
 own_gref (Unmap handle) = record { 0 = 0 }
 own_gref (Load handle off len) = record { 0 = 0 }
 
+-- the grant of a sub-page (own)
 abbrev pub is_sub : Request → Bool
 is_sub (Grant gref (Sub dom ro frame off len)) = true
 is_sub _ = false
 
+-- where a call stands before its first step (own)
 abbrev pub first_phase : CallerKnowledge → DomId → Request → Phase
 first_phase k caller (Grant gref entry) = Storing
 first_phase k caller (Revoke gref) = Single
@@ -206,24 +225,29 @@ first_phase k caller (Map dom gref flags) = LegPinning (map_leg k caller dom gre
 first_phase k caller (Unmap handle) = Single
 first_phase k caller (Load handle off len) = Single
 
+-- where a call stands after a step of its leg (own)
 abbrev pub after_leg : Leg → LegNext → Phase
 after_leg l (Going phase) = LegPinning l phase
 after_leg l (LegRefused denial) = Ended (Refused denial)
 after_leg l (Pinned word body second) = Ended Granted
 
+-- where a call stands after its exchange, or its only step (own)
 abbrev pub after_single : DomId → GrantRef → Seen → Phase
 after_single caller gref (Missed found) = Ended (Refused (entry_refusal caller gref N19 found))
 after_single caller gref _ = Ended Granted
 
+-- where a demote or promote stands after a look: N19 ends a demote where a write pin is live (own)
 abbrev pub after_own_look : DomId → Request → ℕ → ℕ → Phase
 after_own_look caller request more word =
     if is_demote request && nat_lt 0 (control_of word).writes then Ended (Refused (entry_refusal caller (own_gref request) N19 word))
     else OwnChange more word
 
+-- where a demote or promote stands after a missed exchange (own)
 abbrev pub after_own_miss : DomId → Request → ℕ → ℕ → Phase
 after_own_miss caller request more found =
     if nat_lt 0 more then OwnLook (more - 1) else Ended (Refused (entry_refusal caller (own_gref request) N18 found))
 
+-- where a call stands after what its step saw (own)
 abbrev pub phase_after : CallerKnowledge → DomId → Request → Phase → Seen → Phase
 phase_after k caller request Begun seen = first_phase k caller request
 phase_after k caller request (LegPinning l phase) seen = after_leg l (leg_after l phase seen)
@@ -236,14 +260,17 @@ phase_after k caller request (OwnChange more word) (Missed found) = after_own_mi
 phase_after k caller request (OwnChange more word) seen = Ended Granted
 phase_after k caller request (Ended verdict) seen = Ended verdict
 
+-- the unpin of this mapping (own)
 abbrev pub unpin_of : Option Mapping → Action
 unpin_of None = Done Granted
 unpin_of (Some m) = Makes (Unpin m.dom m.gref m.dir (HeldBy m.handle))
 
+-- the read of this range of the mapping (own)
 abbrev pub read_of : Option Mapping → ℕ → ℕ → Action
 read_of None off len = Done Granted
 read_of (Some m) off len = Makes (ReadBytes m.dom m.frame off len)
 
+-- the exchange of a grant or revoke, or the only step of an unmap or load (own)
 abbrev pub single_at : CallerKnowledge → Request → Action
 single_at k (Grant gref entry) = Makes (Exchange gref (idle_word k gref) (Publish entry))
 single_at k (Revoke gref) = Makes (Exchange gref (idle_word k gref) ToInvalid)
@@ -251,14 +278,17 @@ single_at k (Unmap handle) = unpin_of (mapping_of k.mappings handle)
 single_at k (Load handle off len) = read_of (mapping_of k.mappings handle) off len
 single_at k _ = Done Granted
 
+-- the store of the first body word of a grant (own)
 abbrev pub store_at : Request → Action
 store_at (Grant gref entry) = Makes (StoreBody gref false (first_body entry))
 store_at _ = Done Granted
 
+-- the store of the second body word of a grant (own)
 abbrev pub second_at : Request → Action
 second_at (Grant gref entry) = Makes (StoreBody gref true (second_body entry))
 second_at _ = Done Granted
 
+-- the next action of a call that stands here (own)
 abbrev pub action_at : CallerKnowledge → DomId → Request → Phase → Action
 action_at k caller request Begun = Done Granted
 action_at k caller request (LegPinning l phase) = Makes (leg_step l phase)
@@ -269,35 +299,37 @@ action_at k caller request (OwnLook more) = Makes (LookControl caller (own_gref 
 action_at k caller request (OwnChange more word) = Makes (Exchange (own_gref request) word (to_ro_or_back (is_demote request)))
 action_at k caller request (Ended verdict) = Done verdict
 
--- an action comes
+-- an action comes (own)
 abbrev pub Comes : Option Action → Type 0
 Comes None = ⊥
 Comes (Some action) = Unit {0}
 
--- a call that was begun and not answered, or that has something to come
+-- a call that was begun and not answered, or that has something to come (own)
 abbrev pub IsUnderway : CallerKnowledge → DomId → Request → Phase → Type 0
 IsUnderway k caller request Begun = begun k caller request ≡ None
 IsUnderway k caller request phase = Comes (expects k caller request phase [])
 
+-- the value is one that this action can see (own)
 abbrev pub FitsAction : Action → Seen → Type 0
 FitsAction (Makes step) seen = FitsStep step seen
 FitsAction (Done verdict) seen = ⊥
 
--- the value is one that the call's last action can see; the beginning sees nothing
+-- the value is one that the call's last action can see; the beginning sees nothing (own)
 abbrev pub FitsPhase : CallerKnowledge → DomId → Request → Phase → Seen → Type 0
 FitsPhase k caller request Begun seen = seen ≡ Nothing
 FitsPhase k caller request phase seen = FitsAction (action_at k caller request phase) seen
 
--- how a call starts: open, or answered at once
+-- how a call starts: open, or answered at once (own)
 abbrev pub starts_as : DomId → Request → Option Verdict → Start
 starts_as caller request None = Open (record { caller = caller; request = request; phase = Begun })
 starts_as caller request (Some verdict) = StartDone verdict
 
--- the first body word of the try under way, where its pin comes next
+-- the first body word of the try under way, where its pin comes next (own)
 abbrev pub body_read : LegPhase → ℕ
 body_read (Pinning more word body second) = body
 body_read _ = 0
 
+-- the frame that a map has read, where its pin comes next (own)
 abbrev pub frame_read : Phase → ℕ
 frame_read (LegPinning l phase) = body_read phase
 frame_read _ = 0

@@ -1,22 +1,20 @@
--- What the core keeps of an entry, and how a step changes it.
+-- What the core keeps of an entry: the code's own representation, which stands here since private contracts cite it.
 use Rattle.std.specs.Prelude.{ℕ, zero, suc, List, [], ◌∷◌}
-use Rattle.gt_types.specs.declared.Dir.{Dir}
-use Rattle.gt_types.specs.declared.Dir.TheVariants.{Read, Write}
 use Rattle.gt_entry.specs.declared.entry.Entry.{Entry}
 
--- what an owner knows of an entry
+-- what an owner knows of an entry (own)
 pub record OwnRow : Type 0 where
   pub entry : Entry
   pub generation : ℕ
 
--- the pins and body words of an entry
+-- the pins and body words of an entry (own)
 pub record SlotRow : Type 0 where
   pub reads : ℕ
   pub writes : ℕ
   pub first : ℕ
   pub second : ℕ
 
--- the element at this place, changed
+-- the element at this place, changed (own)
 abbrev pub changed_at : {A : Type 0} → ℕ → (A → A) → List A → List A
 changed_at r f [] = []
 changed_at zero f (x ∷ xs) = f x ∷ xs

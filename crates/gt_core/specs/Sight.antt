@@ -1,55 +1,65 @@
--- What steps see, over plain lists.
-use Rattle.std.specs.Prelude.{◌≡◌, ℕ, Bool, true, false, ◌==◌, if◌then◌else◌, List, [], ◌∷◌, Option, Some, None, slice_get}
+-- What steps see in the states of the domains: the code's own representation, which stands here since private contracts cite it.
+use Rattle.std.specs.Prelude.{ℕ, Bool, true, false, ◌==◌, if◌then◌else◌, List, [], ◌∷◌, Option, Some, None, slice_get}
 use Rattle.gt_types.specs.declared.DomId.{DomId}
 use Rattle.gt_entry.specs.Words.{control_word, header_word}
 use Rattle.gt_core.specs.declared.action.Step.{Step}
 use Rattle.gt_core.specs.declared.action.Step.TheVariants.{LookHeader, LookControl, LookBody, Pin, Unpin, StoreBody, Exchange, Read as ReadBytes}
 use Rattle.gt_core.specs.declared.action.Seen.{Seen}
-use Rattle.gt_core.specs.declared.action.Seen.TheVariants.{Nothing, Value, Taken, Missed}
+use Rattle.gt_core.specs.declared.action.Seen.TheVariants.{Nothing, Value, Taken}
 use Rattle.gt_core.specs.declared.known.Own.{Own}
 use Rattle.gt_core.specs.declared.slot.Slot.{Slot}
 use Rattle.gt_core.specs.States.{State}
 use Rattle.gt_core.specs.Rules.{control_with, entry_in, generation_in}
 pub use Rattle.gt_core.specs.History.{exchange_sees}
 
+-- the read pins in a slot, 0 where there is none (own)
 abbrev pub slot_reads : Option Slot → ℕ
 slot_reads None = 0
 slot_reads (Some slot) = slot.reads
 
+-- the write pins in a slot, 0 where there is none (own)
 abbrev pub slot_writes : Option Slot → ℕ
 slot_writes None = 0
 slot_writes (Some slot) = slot.writes
 
+-- a body word in a slot, 0 where there is none (own)
 abbrev pub slot_body : Option Slot → Bool → ℕ
 slot_body None which = 0
 slot_body (Some slot) true = slot.second
 slot_body (Some slot) false = slot.first
 
+-- the read pins in slot r (own)
 abbrev pub reads_in : List Slot → ℕ → ℕ
 reads_in slots r = slot_reads (slice_get slots r)
 
+-- the write pins in slot r (own)
 abbrev pub writes_in : List Slot → ℕ → ℕ
 writes_in slots r = slot_writes (slice_get slots r)
 
+-- a body word in slot r (own)
 abbrev pub body_in : List Slot → ℕ → Bool → ℕ
 body_in slots r which = slot_body (slice_get slots r) which
 
+-- the control word made of an owner's row and a slot (own)
 abbrev pub control_in : List Own → List Slot → ℕ → ℕ
-control_in own slots r = control_word (control_with (entry_in own r) (generation_in own r) (reads_in slots r) (writes_in slots r))
+control_in own slots r = control_word (control_with (entry_in own r) (generation_in 0 own r) (reads_in slots r) (writes_in slots r))
 
+-- the header word of domain d, 0 where there is no such state (own)
 abbrev pub header_seen : List State → ℕ → ℕ
 header_seen [] d = 0
 header_seen (x ∷ xs) d = if x.id.0 == d then header_word x.header else header_seen xs d
 
+-- the control word of entry r of domain d, 0 where there is no such state (own)
 abbrev pub control_seen : List State → ℕ → ℕ → ℕ
 control_seen [] d r = 0
 control_seen (x ∷ xs) d r = if x.id.0 == d then control_in x.own x.slots r else control_seen xs d r
 
+-- a body word of entry r of domain d, 0 where there is no such state (own)
 abbrev pub body_seen : List State → ℕ → ℕ → Bool → ℕ
 body_seen [] d r which = 0
 body_seen (x ∷ xs) d r which = if x.id.0 == d then body_in x.slots r which else body_seen xs d r which
 
--- a look, and an exchange that was missed, leave everything as it was, and so does reading bytes
+-- a look, and an exchange that was missed, leave everything as it was, and so does reading bytes (own)
 abbrev pub changes_nothing : Step → Seen → Bool
 changes_nothing (LookHeader dom) seen = true
 changes_nothing (LookControl dom gref) seen = true
@@ -61,7 +71,7 @@ changes_nothing (Exchange gref looked change) seen = true
 changes_nothing (ReadBytes dom frame off len) seen = true
 changes_nothing step seen = false
 
--- what a step of the domain sees
+-- what a step of the domain sees (own)
 abbrev pub sees : List State → DomId → Step → Seen
 sees xs d (LookHeader dom) = Value (header_seen xs dom.0)
 sees xs d (LookControl dom gref) = Value (control_seen xs dom.0 gref.0)

@@ -1,5 +1,5 @@
--- When a core stands for a history.
-use Rattle.std.specs.Prelude.{◌≡◌, ◌≢◌, ◌<◌, ◌≤◌, ◌+◌, reverse, ℕ, Bool, true, false, ◌==◌, nat_lt, if◌then◌else◌, List, [], ◌∷◌, ◌++◌, Option, Some, None, slice_get, length, All, Result, IfOk, IsOk}
+-- When a core stands for a history. The upper half, up to `Settles`, tells the code's own representation and stands here since private contracts cite it.
+use Rattle.std.specs.Prelude.{◌≡◌, ◌≢◌, ◌<◌, ◌≤◌, ◌+◌, reverse, ℕ, Bool, true, false, nat_lt, if◌then◌else◌, List, [], ◌∷◌, ◌++◌, Option, Some, None, slice_get, length, All, Result, IfOk, IsOk}
 use Rattle.gt_types.specs.Names.{domain_of}
 use Rattle.gt_types.specs.declared.DomId.{DomId}
 use Rattle.gt_types.specs.declared.TypeId.{TypeId}
@@ -28,7 +28,7 @@ use Rattle.std.proofs.Math.ListN.{set}
 use Rattle.gt_core.specs.declared.trace.Happened.TheVariants.{Began, Stepped}
 use Rattle.gt_core.specs.declared.trace.Element.{Element}
 use Rattle.gt_core.specs.declared.trace.Element.TheVariants.{Busy, Idle, NoDomain, Item as Did}
-pub use Rattle.gt_core.specs.States.{State, state_of, first_state, IsMapping}
+pub use Rattle.gt_core.specs.States.{State, state_of, first_state, asks_memory, IsMapping}
 use Rattle.gt_core.specs.declared.slot.Slot.{Slot}
 use Rattle.gt_core.specs.declared.slot.Open.{Open}
 use Rattle.gt_core.specs.declared.core_state.Begun.{Begun}
@@ -44,7 +44,7 @@ use Rattle.gt_entry.specs.declared.entry.Entry.TheVariants.{Invalid, Page, Sub, 
 use Rattle.gt_entry.specs.declared.control.Control.{Control}
 use Rattle.gt_entry.specs.declared.control.Kind.TheVariants.{Sub as KindSub}
 use Rattle.gt_entry.specs.Words.{IsInRange, control_of, header_of, header_word}
-use Rattle.gt_core.specs.declared.request.Request.TheVariants.{Grant, Revoke, Demote, Promote, Map, Unmap, Load}
+use Rattle.gt_core.specs.declared.request.Request.TheVariants.{Grant, Load}
 use Rattle.gt_core.specs.declared.leg.Leg.{Leg}
 use Rattle.gt_core.specs.declared.leg.LegPhase.{LegPhase}
 use Rattle.gt_core.specs.declared.leg.LegPhase.TheVariants.{Header, Look, Body, Second, Pinning, Relook}
@@ -54,10 +54,10 @@ use Rattle.gt_core.specs.Path.{path, steps_of}
 use Rattle.gt_core.specs.Machine.{expects, first_phase, phase_after, IsUnderway, FitsPhase, frame_read}
 use Rattle.gt_core.specs.declared.call.Call.{Call}
 use Rattle.gt_core.specs.declared.action.Action.{Action}
-use Rattle.gt_core.specs.History.{History, Setting, Pin as HeldPin, live, entry_at, generation_at, body_at, reads_at, writes_at, table_at, word_at, control_at, mappings_at, maps_answered_at, known_at, Underway, open_call, values, contents_at, frame_of}
+use Rattle.gt_core.specs.History.{History, Setting, Pin as HeldPin, live, entry_at, generation_at, body_at, reads_at, writes_at, table_at, control_at, mappings_at, maps_answered_at, known_at, Underway, open_call, values, contents_at, frame_of}
 use Rattle.gt_core.specs.Legal.{Permits, MayUse, stood, StepsSoFar, misses, looked_at, is_in_body, leg_of, IsSpelled}
 
--- a call begins so: with an answer, or with a first step and all that may follow it
+-- a call begins so: with an answer, or with a first step and all that may follow it (own)
 abbrev pub Opens : CallerKnowledge → DomId → Request → Opening → Type 0
 Opens k dom request (OpeningDone verdict) = begun k dom request ≡ Some verdict
 Opens k dom request (OpeningOpen o) =
@@ -66,7 +66,7 @@ Opens k dom request (OpeningOpen o) =
     × ((vs : List Seen) → expects k dom request o.call.phase vs ≡ steps_of k dom request vs)
     × (o.call.phase ≡ first_phase k dom request)
 
--- a call of the caller, standing here, goes on so after what its step saw
+-- a call of the caller, standing here, goes on so after what its step saw (own)
 pub record Advances (k : CallerKnowledge) (caller : DomId) (request : Request) (phase : Phase) (seen : Seen) (new : Call) (action : Action) : Type 0 where
   pub by : new.caller ≡ caller
   pub asks : new.request ≡ request
@@ -74,33 +74,35 @@ pub record Advances (k : CallerKnowledge) (caller : DomId) (request : Request) (
   pub goes_on : IsUnderway k caller request phase → FitsPhase k caller request phase seen → (vs : List Seen) → expects k caller request new.phase vs ≡ expects k caller request phase (seen ∷ vs)
   pub next : IsUnderway k caller request phase → FitsPhase k caller request phase seen → expects k caller request new.phase [] ≡ Some action
 
+-- the answer of a call that gives no value (own)
 abbrev pub plain_answer : Verdict → Answer
 plain_answer Granted = AnswerDone
 plain_answer (Refused denial) = Denied denial
 
--- what the trace has for what `begin` did
+-- what the trace has for what `begin` did (own)
 abbrev pub begun_element : DomId → Request → Begun → Element
 begun_element dom request BegunOpen = Did (record { actor = dom; happened = Began request; answer = None })
 begun_element dom request (BegunDone answer) = Did (record { actor = dom; happened = Began request; answer = Some answer })
 begun_element dom request BegunBusy = Busy
 begun_element dom request BegunNoDomain = NoDomain
 
--- what the trace has for what `tick` did
+-- what the trace has for what `tick` did (own)
 abbrev pub ticked_element : DomId → Ticked → Element
 ticked_element dom (TickedStep step seen) = Did (record { actor = dom; happened = Stepped step seen; answer = None })
 ticked_element dom (TickedDone step seen answer) = Did (record { actor = dom; happened = Stepped step seen; answer = Some answer })
 ticked_element dom TickedIdle = Idle
 ticked_element dom TickedNoDomain = NoDomain
 
+-- the setting of a run with this configuration and these rights (own)
 abbrev pub setting_of : Config → (TypeId → TypeId → Perms → Bool) → Setting
 setting_of config may = record { domains = config.domains.items; first_generation = config.first_gen; may = may }
 
--- a request for so many bytes
+-- a request for so many bytes (own)
 abbrev pub IsLoadOf : Request → ℕ → Type 0
 IsLoadOf (Load handle off len) n = len ≡ n
 IsLoadOf request n = ⊥
 
--- a call that nothing stood against is over after this last step: its answer, and the states
+-- a call that nothing stood against is over after this last step: its answer, and the states (own)
 abbrev pub Settled : List State → ℕ → State → Open → Step → Answer → List State → Type 0
 Settled xs at d o (Pin dom gref looked dir) answer new =
     (handle : Handle) × (answer ≡ Mapped handle) × (handle.serial ≡ d.maps_answered)
@@ -110,21 +112,27 @@ Settled xs at d o (ReadBytes dom frame off len) answer new =
     × ((n : ℕ) → IsLoadOf o.call.request n → length (bytes_in new dom.0 frame off n) ≡ n → b.bytes.items ≡ bytes_in new dom.0 frame off n)
 Settled xs at d o step answer new = (answer ≡ AnswerDone) × (new ≡ set xs at (with_underway None d))
 
+-- the answer of this last step wants no room, or it was made already: a pin is that of a map (own)
 abbrev pub NeedsNoRoom : Request → Step → Type 0
 NeedsNoRoom request (Pin dom gref looked dir) = IsMapping (Some request)
 NeedsNoRoom request step = Unit {0}
 
+-- the last step of a call is answered, or memory was wanted, and it is not where room was made (own)
 abbrev pub Settles : List State → ℕ → State → Open → Result Answer Memory → List State → Type 0
 Settles xs at d o result new = IfOk result (λ answer. Settled xs at d o o.step answer new) × (NeedsNoRoom o.call.request o.step → IsOk result)
 
--- a run can't start for this reason: the first fault of its configuration, or want of memory where that has none
+-- a run can't start for this reason: the first fault of its configuration, or want of memory where that has none (own)
 abbrev pub IsStartFaultOf : Config → StartFault → Type 0
 IsStartFaultOf config (ConfigFault fault) = IsFirstFault config fault
 IsStartFaultOf config NoMemory = IsWithinLimits config
 
+-- memory can be wanted where a domain at rest begins a map or a load against which no rule stands (own)
+abbrev pub WantsMemory : Setting → History → DomId → Request → Type 0
+WantsMemory s h d request = (asks_memory request ≡ true) × (open_call h d.0 ≡ None) × (begun (known_at s h d) d request ≡ None)
+
 -- what a call has seen
 
--- a control word of the leg's entry was looked at in this try, no rule on the entry stood, and the entry's generation was reached
+-- a control word of the leg's entry was looked at in this try, no rule on the entry stood, and the entry's generation was reached (own)
 pub record HasLooked (s : Setting) (h : History) (l : Leg) (so_far : StepsSoFar) (more word : ℕ) : Type 0 where
   pub within : l.gref.0 < 2048
   pub turn : misses so_far + more ≡ 3
@@ -132,26 +140,28 @@ pub record HasLooked (s : Setting) (h : History) (l : Leg) (so_far : StepsSoFar)
   pub passed : first_look l (control_of word) ≡ None
   pub reached : (control_of word).generation ≤ generation_at s h l.dom.0 l.gref.0
 
+-- the entry is not Invalid (own)
 abbrev pub IsValid : Entry → Type 0
 IsValid entry = entry ≢ Invalid
 
+-- the entry is a sub-page (own)
 abbrev pub IsSub : Entry → Type 0
 IsSub (Sub dom ro frame off len) = Unit {0}
 IsSub entry = ⊥
 
--- while the entry has the generation that was looked at, and is such an entry, this part of it is what was read
+-- while the entry has the generation that was looked at, and is such an entry, this part of it is what was read (own)
 abbrev pub IsStill : Setting → History → Leg → ℕ → (Entry → Type 0) → (Entry → ℕ) → ℕ → Type 0
 IsStill s h l word IsSuch part body =
     generation_at s h l.dom.0 l.gref.0 ≡ (control_of word).generation → IsSuch (entry_at h l.dom.0 l.gref.0) → part (entry_at h l.dom.0 l.gref.0) ≡ body
 
--- the body words of the try were read, and this rule stands on them
+-- the body words of the try were read, and this rule stands on them (own)
 pub record HasRead (s : Setting) (h : History) (l : Leg) (so_far : StepsSoFar) (word body second : ℕ) (rule : Option Rule) : Type 0 where
   pub in_body : is_in_body so_far ≡ true
   pub judged : before_pin l (control_of word) body second ≡ rule
   pub first_stays : IsStill s h l word IsValid first_body body
   pub second_stays : is_kind (control_of word).kind KindSub ≡ true → IsStill s h l word IsSub second_body second
 
--- where a leg stands, by the steps so far
+-- where a leg stands, by the steps so far (own)
 abbrev pub LegStands : Setting → History → Leg → StepsSoFar → LegPhase → Type 0
 LegStands s h l so_far Header = Unit {0}
 LegStands s h l so_far (Look more) = (l.gref.0 < 2048) × (misses so_far + more ≡ 3) × (is_in_body so_far ≡ false)
@@ -161,16 +171,17 @@ LegStands s h l so_far (Pinning more word body second) = HasLooked s h l so_far 
 LegStands s h l so_far (Relook more word rule) =
     HasLooked s h l so_far more word × ((body : ℕ) × (second : ℕ) × HasRead s h l so_far word body second (Some rule))
 
--- the body words of a grant that it has stored so far
+-- the body words of a grant that it has stored so far (own)
 abbrev pub HasStored : History → DomId → Request → Type 0
 HasStored h d (Grant gref entry) = IsSpelled entry (body_at h d.0 gref.0 false) (body_at h d.0 gref.0 true)
 HasStored h d request = Unit {0}
 
+-- the first body word of a grant that it has stored (own)
 abbrev pub HasStoredFirst : History → DomId → Request → Type 0
 HasStoredFirst h d (Grant gref entry) = body_at h d.0 gref.0 false ≡ first_body entry
 HasStoredFirst h d request = ⊥
 
--- where a call stands, by the steps so far (the newest first)
+-- where a call stands, by the steps so far (the newest first) (own)
 abbrev pub PhaseStands : Setting → History → DomId → Request → StepsSoFar → Phase → Type 0
 PhaseStands s h d request so_far PhaseBegun = ⊥
 PhaseStands s h d request so_far (LegPinning l phase) =
@@ -183,18 +194,19 @@ PhaseStands s h d request so_far (OwnChange more word) =
     (misses so_far + more ≡ 3) × (looked_at so_far ≡ Some word) × (is_demote request ≡ true → (control_of word).writes ≡ 0)
 PhaseStands s h d request so_far (Ended verdict) = ⊥
 
--- the domain that an entry names has a number of 16 bits
+-- the domain that an entry names has a number of 16 bits (own)
 abbrev pub FitsEntry : Entry → Type 0
 FitsEntry Invalid = Unit {0}
 FitsEntry (Page dom ro frame) = dom.0 < 65536
 FitsEntry (Sub dom ro frame off len) = dom.0 < 65536
 FitsEntry (Via dom ro dom2 gref) = dom.0 < 65536
 
+-- the domain in the entry that a grant gives has a number of 16 bits (own)
 abbrev pub FitsRequest : Request → Type 0
 FitsRequest (Grant gref entry) = FitsEntry entry
 FitsRequest request = Unit {0}
 
--- an open call is where its steps have led it, and no rule stood so far
+-- an open call is where its steps have led it, and no rule stood so far (own)
 pub record OpenAgrees (s : Setting) (h : History) (id : DomId) (o : Open) (c : Underway) : Type 0 where
   pub caller : o.call.caller ≡ id
   pub request : o.call.request ≡ c.request
@@ -204,25 +216,26 @@ pub record OpenAgrees (s : Setting) (h : History) (id : DomId) (o : Open) (c : U
   pub place : PhaseStands s h id c.request (reverse c.steps) o.call.phase
   pub fits : FitsRequest c.request
 
+-- the open call is that of the history, and there is one in both or in neither (own)
 abbrev pub CallAgrees : Setting → History → DomId → Option Open → Option Underway → Type 0
 CallAgrees s h id None None = Unit {0}
 CallAgrees s h id (Some o) (Some c) = OpenAgrees s h id o c
 CallAgrees s h id None (Some c) = ⊥
 CallAgrees s h id (Some o) None = ⊥
 
--- the pins and body words of an entry
+-- the pins and body words of an entry (own)
 pub record SlotAgrees (h : History) (t r : ℕ) (slot : Slot) : Type 0 where
   pub reads : slot.reads ≡ reads_at h t r
   pub writes : slot.writes ≡ writes_at h t r
   pub first : slot.first ≡ body_at h t r false
   pub second : slot.second ≡ body_at h t r true
 
--- a domain is as the history leaves it
+-- a domain is as the history leaves it (own)
 pub record Agrees (s : Setting) (h : History) (d : State) : Type 0 where
   pub header : d.header ≡ table_at s h d.id
   pub rows : length d.own ≡ 2048
   pub entries : entry_in d.own ≡ (λ r. entry_at h d.id.0 r)
-  pub generations : generation_in d.own ≡ (λ r. if nat_lt r 2048 then generation_at s h d.id.0 r else 0)
+  pub generations : generation_in s.first_generation d.own ≡ (λ r. generation_at s h d.id.0 r)
   pub room : length d.slots ≡ 2048
   pub slots : (r : ℕ) (slot : Slot) → slice_get d.slots r ≡ Some slot → SlotAgrees h d.id.0 r slot
   pub mappings : d.mappings ≡ mappings_at h d.id.0
@@ -230,26 +243,28 @@ pub record Agrees (s : Setting) (h : History) (d : State) : Type 0 where
   pub frames : (f : ℕ) → f < frames_of s.domains d.id → slice_get d.frames f ≡ Some (contents_at h d.id.0 f)
   pub call : CallAgrees s h d.id d.underway (open_call h d.id.0)
 
+-- a domain of the run has a state that agrees, and no other domain has one (own)
 abbrev pub StateAgrees : Setting → History → DomId → Option State → Type 0
 StateAgrees s h dom None = domain_of s.domains dom ≡ None
 StateAgrees s h dom (Some d) = (domain_of s.domains dom ≢ None) × (d.id ≡ dom) × Agrees s h d
 
+-- a mapping's pin was taken by right, on a frame of its owner; of a call's own pin nothing is asked (own)
 abbrev pub IsLawfullyHeld : Setting → HeldPin → Holder → Type 0
 IsLawfullyHeld s p (ByMapping handle) =
     Permits p.entry (record { 0 = p.actor }) p.dir ForMap 0 0 × MayUse s (record { 0 = p.actor }) p.dom p.dir
     × (frame_of p.entry < frames_of s.domains p.dom) × (domain_of s.domains p.dom ≢ None)
 IsLawfullyHeld s p (ByLeg number) = Unit {0}
 
--- the pin of a mapping was taken on an entry that permitted it, for a frame of its owner, and the policy allows what it is for
+-- the pin of a mapping was taken on an entry that permitted it, for a frame of its owner, and the policy allows what it is for (own)
 abbrev pub IsLawful : Setting → HeldPin → Type 0
 IsLawful s p = IsLawfullyHeld s p p.holder
 
--- each part of a control has room in its word
+-- each part of a control has room in its word (own)
 pub record FitsWord (c : Control) : Type 0 where
   pub in_range : IsInRange c
   pub domain : c.dom.0 < 65536
 
--- the core stands for the history
+-- the core stands for the history (own)
 pub record CoreStands (s : Setting) (h : History) (domains : List State) : Type 0 where
   pub each : (dom : DomId) → StateAgrees s h dom (state_of domains dom.0)
   pub tables : (dom : DomId) → (size_of (table_at s h dom) ≤ 2048) × (header_of (header_word (table_at s h dom)) ≡ table_at s h dom)

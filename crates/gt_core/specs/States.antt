@@ -1,5 +1,5 @@
--- A domain's state, as the core keeps it.
-use Rattle.std.specs.Prelude.{ℕ, Bool, List, [], ◌∷◌, Option, Some, None, ◌==◌, ◌≡◌, ◌<◌, ◌%◌, min, replicate, if◌then◌else◌}
+-- A domain's state, as the core keeps it: the code's own representation, which stands here since private contracts cite it.
+use Rattle.std.specs.Prelude.{Bool, true, false, ℕ, List, [], ◌∷◌, Option, Some, None, ◌==◌, ◌≡◌, ◌<◌, ◌%◌, min, replicate, if◌then◌else◌}
 use Rattle.gt_types.specs.declared.config.DomainConfig.{DomainConfig}
 use Rattle.gt_entry.specs.declared.entry.Entry.TheVariants.{Invalid}
 use Rattle.gt_core.specs.declared.known.TheConstants.{ENTRIES, FRAME_LEN}
@@ -23,28 +23,34 @@ pub record State : Type 0 where
   pub frames : List (List ℕ)
   pub underway : Option Open
 
--- what the call under way asks
+-- what the call under way asks (own)
 abbrev pub asked_in : Option Open → Option Request
 asked_in None = None
 asked_in (Some o) = Some o.call.request
 
--- a map is under way
+-- the calls that ask for memory: a map for its mapping, a load for its bytes (own)
+abbrev pub asks_memory : Request → Bool
+asks_memory (Map dom gref flags) = true
+asks_memory (Load handle off len) = true
+asks_memory _ = false
+
+-- a map is under way (own)
 abbrev pub IsMapping : Option Request → Type 0
 IsMapping (Some (Map dom gref flags)) = Unit {0}
 IsMapping _ = ⊥
 
--- a load under way is of so many bytes
+-- a load under way is of so many bytes (own)
 abbrev pub IsLoading : Option Request → ℕ → Type 0
 IsLoading (Some (Load handle off len)) n = n ≡ len
 IsLoading _ n = Unit {0}
 
--- the room that a call's answer wants was made when it began: for one more mapping, or for the bytes of a load
+-- the room that a call's answer wants was made when it began: for one more mapping, or for the bytes of a load (own)
 abbrev pub HasRoom : Option Request → ℕ → ℕ → Option ℕ → Type 0
 HasRoom (Some (Map dom gref flags)) mappings capacity bytes = mappings < capacity
 HasRoom (Some (Load handle off len)) mappings capacity bytes = bytes ≡ Some len
 HasRoom _ mappings capacity bytes = Unit {0}
 
--- a domain at rest
+-- a domain at rest (own)
 abbrev pub first_state : ℕ → DomainConfig → State
 first_state first_gen d =
     record {
@@ -58,12 +64,12 @@ first_state first_gen d =
       underway = None;
     }
 
--- the first state with this number
+-- the first state with this number (own)
 abbrev pub state_of : List State → ℕ → Option State
 state_of [] d = None
 state_of (x ∷ xs) d = if x.id.0 == d then Some x else state_of xs d
 
--- the first state with this number, changed
+-- the first state with this number, changed (own)
 abbrev pub changed_in : ℕ → (State → State) → List State → List State
 changed_in d f [] = []
 changed_in d f (x ∷ xs) = if x.id.0 == d then f x ∷ xs else x ∷ changed_in d f xs

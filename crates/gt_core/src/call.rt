@@ -48,7 +48,7 @@ fn map_leg<P: Allows>(
     gref: GrantRef,
     flags: u32,
 ) -> Leg
-    ensures { result ≡ map_leg (knowledge_of known.now.config.now.domains.items (P.may known.now.rights.now) known.now.own.now known.now.header known.now.mappings.now known.now.maps_answered) caller dom gref flags }
+    ensures { result ≡ map_leg (knowledge_of known.now.config.now.domains.items known.now.config.now.first_gen (P.may known.now.rights.now) known.now.own.now known.now.header known.now.mappings.now known.now.maps_answered) caller dom gref flags }
 {
     let owner = resolve(caller, dom);
     Leg {
@@ -139,7 +139,7 @@ fn after_own_miss(caller: DomId, request: Request, more: u8, found: u64) -> Phas
 }
 
 fn first_phase<P: Allows>(known: &Known<'_, P>, caller: DomId, request: Request) -> Phase
-    ensures { result ≡ first_phase (knowledge_of known.now.config.now.domains.items (P.may known.now.rights.now) known.now.own.now known.now.header known.now.mappings.now known.now.maps_answered) caller request }
+    ensures { result ≡ first_phase (knowledge_of known.now.config.now.domains.items known.now.config.now.first_gen (P.may known.now.rights.now) known.now.own.now known.now.header known.now.mappings.now known.now.maps_answered) caller request }
 {
     match request {
         Request::Grant { .. } => Phase::Storing,
@@ -152,9 +152,9 @@ fn first_phase<P: Allows>(known: &Known<'_, P>, caller: DomId, request: Request)
 }
 
 fn idle_word<P: Allows>(known: &Known<'_, P>, gref: GrantRef) -> u64
-    ensures { result ≡ idle_word (knowledge_of known.now.config.now.domains.items (P.may known.now.rights.now) known.now.own.now known.now.header known.now.mappings.now known.now.maps_answered) gref }
+    ensures { result ≡ idle_word (knowledge_of known.now.config.now.domains.items known.now.config.now.first_gen (P.may known.now.rights.now) known.now.own.now known.now.header known.now.mappings.now known.now.maps_answered) gref }
 {
-    let own = own_at(known.own, gref);
+    let own = own_at(known.own, known.config.first_gen, gref);
     Control::of_entry(own.entry(), own.generation(), 0, 0).pack()
 }
 
@@ -187,7 +187,7 @@ fn read(known: &[Mapping], handle: Handle, off: u16, len: u16) -> Action
 }
 
 fn single<P: Allows>(known: &Known<'_, P>, request: Request) -> Action
-    ensures { result ≡ single_at (knowledge_of known.now.config.now.domains.items (P.may known.now.rights.now) known.now.own.now known.now.header known.now.mappings.now known.now.maps_answered) request }
+    ensures { result ≡ single_at (knowledge_of known.now.config.now.domains.items known.now.config.now.first_gen (P.may known.now.rights.now) known.now.own.now known.now.header known.now.mappings.now known.now.maps_answered) request }
 {
     match request {
         Request::Grant { gref, entry } => Action::Step(Step::Exchange {
@@ -251,7 +251,7 @@ impl Call {
 
     /// Judges the beginning of a call.
     pub fn begin<P: Allows>(caller: DomId, request: Request, known: &Known<'_, P>) -> Start
-        ensures { result ≡ starts_as caller request (begun (knowledge_of known.now.config.now.domains.items (P.may known.now.rights.now) known.now.own.now known.now.header known.now.mappings.now known.now.maps_answered) caller request) }
+        ensures { result ≡ starts_as caller request (begun (knowledge_of known.now.config.now.domains.items known.now.config.now.first_gen (P.may known.now.rights.now) known.now.own.now known.now.header known.now.mappings.now known.now.maps_answered) caller request) }
     {
         match judge_beginning(known, caller, request) {
             Some(verdict) => Start::Done(verdict),
@@ -264,7 +264,7 @@ impl Call {
     }
 
     fn next_phase<P: Allows>(&self, known: &Known<'_, P>, seen: Seen) -> Phase
-        ensures { result ≡ phase_after (knowledge_of known.now.config.now.domains.items (P.may known.now.rights.now) known.now.own.now known.now.header known.now.mappings.now known.now.maps_answered) self.now.caller self.now.request self.now.phase seen }
+        ensures { result ≡ phase_after (knowledge_of known.now.config.now.domains.items known.now.config.now.first_gen (P.may known.now.rights.now) known.now.own.now known.now.header known.now.mappings.now known.now.maps_answered) self.now.caller self.now.request self.now.phase seen }
     {
         match self.phase {
             Phase::Begun => first_phase(known, self.caller, self.request),
@@ -291,7 +291,7 @@ impl Call {
     }
 
     fn action<P: Allows>(&self, known: &Known<'_, P>) -> Action
-        ensures { result ≡ action_at (knowledge_of known.now.config.now.domains.items (P.may known.now.rights.now) known.now.own.now known.now.header known.now.mappings.now known.now.maps_answered) self.now.caller self.now.request self.now.phase }
+        ensures { result ≡ action_at (knowledge_of known.now.config.now.domains.items known.now.config.now.first_gen (P.may known.now.rights.now) known.now.own.now known.now.header known.now.mappings.now known.now.maps_answered) self.now.caller self.now.request self.now.phase }
     {
         match self.phase {
             Phase::Begun => Action::Done(Verdict::Granted),
@@ -326,9 +326,9 @@ impl Call {
     pub fn next<P: Allows>(&mut self, known: &Known<'_, P>, seen: Seen) -> Action
         ensures caller { self.new.caller ≡ self.old.caller }
         ensures request { self.new.request ≡ self.old.request }
-        ensures phase { self.new.phase ≡ phase_after (knowledge_of known.now.config.now.domains.items (P.may known.now.rights.now) known.now.own.now known.now.header known.now.mappings.now known.now.maps_answered) self.old.caller self.old.request self.old.phase seen }
-        ensures goes_on { IsUnderway (knowledge_of known.now.config.now.domains.items (P.may known.now.rights.now) known.now.own.now known.now.header known.now.mappings.now known.now.maps_answered) self.old.caller self.old.request self.old.phase → FitsPhase (knowledge_of known.now.config.now.domains.items (P.may known.now.rights.now) known.now.own.now known.now.header known.now.mappings.now known.now.maps_answered) self.old.caller self.old.request self.old.phase seen → (vs : List Seen) → expects (knowledge_of known.now.config.now.domains.items (P.may known.now.rights.now) known.now.own.now known.now.header known.now.mappings.now known.now.maps_answered) self.old.caller self.old.request self.new.phase vs ≡ expects (knowledge_of known.now.config.now.domains.items (P.may known.now.rights.now) known.now.own.now known.now.header known.now.mappings.now known.now.maps_answered) self.old.caller self.old.request self.old.phase (seen ∷ vs) }
-        ensures action { IsUnderway (knowledge_of known.now.config.now.domains.items (P.may known.now.rights.now) known.now.own.now known.now.header known.now.mappings.now known.now.maps_answered) self.old.caller self.old.request self.old.phase → FitsPhase (knowledge_of known.now.config.now.domains.items (P.may known.now.rights.now) known.now.own.now known.now.header known.now.mappings.now known.now.maps_answered) self.old.caller self.old.request self.old.phase seen → expects (knowledge_of known.now.config.now.domains.items (P.may known.now.rights.now) known.now.own.now known.now.header known.now.mappings.now known.now.maps_answered) self.old.caller self.old.request self.new.phase [] ≡ Some result }
+        ensures phase { self.new.phase ≡ phase_after (knowledge_of known.now.config.now.domains.items known.now.config.now.first_gen (P.may known.now.rights.now) known.now.own.now known.now.header known.now.mappings.now known.now.maps_answered) self.old.caller self.old.request self.old.phase seen }
+        ensures goes_on { IsUnderway (knowledge_of known.now.config.now.domains.items known.now.config.now.first_gen (P.may known.now.rights.now) known.now.own.now known.now.header known.now.mappings.now known.now.maps_answered) self.old.caller self.old.request self.old.phase → FitsPhase (knowledge_of known.now.config.now.domains.items known.now.config.now.first_gen (P.may known.now.rights.now) known.now.own.now known.now.header known.now.mappings.now known.now.maps_answered) self.old.caller self.old.request self.old.phase seen → (vs : List Seen) → expects (knowledge_of known.now.config.now.domains.items known.now.config.now.first_gen (P.may known.now.rights.now) known.now.own.now known.now.header known.now.mappings.now known.now.maps_answered) self.old.caller self.old.request self.new.phase vs ≡ expects (knowledge_of known.now.config.now.domains.items known.now.config.now.first_gen (P.may known.now.rights.now) known.now.own.now known.now.header known.now.mappings.now known.now.maps_answered) self.old.caller self.old.request self.old.phase (seen ∷ vs) }
+        ensures action { IsUnderway (knowledge_of known.now.config.now.domains.items known.now.config.now.first_gen (P.may known.now.rights.now) known.now.own.now known.now.header known.now.mappings.now known.now.maps_answered) self.old.caller self.old.request self.old.phase → FitsPhase (knowledge_of known.now.config.now.domains.items known.now.config.now.first_gen (P.may known.now.rights.now) known.now.own.now known.now.header known.now.mappings.now known.now.maps_answered) self.old.caller self.old.request self.old.phase seen → expects (knowledge_of known.now.config.now.domains.items known.now.config.now.first_gen (P.may known.now.rights.now) known.now.own.now known.now.header known.now.mappings.now known.now.maps_answered) self.old.caller self.old.request self.new.phase [] ≡ Some result }
     {
         self.phase = self.next_phase(known, seen);
         self.action(known)

@@ -6,7 +6,8 @@ ghost use Rattle.gt_core.specs.History.{History};
 ghost use Rattle.gt_core.specs.Legal.{MayDo, grown, Legal};
 ghost use Rattle.gt_core.specs.States.{State, changed_in};
 ghost use Rattle.gt_core.specs.Effects.{with_underway, bytes_in};
-ghost use Rattle.gt_core.specs.Standing.{Opens, Advances, CoreStands, Settles, IsMapping, IsStartFaultOf, setting_of, begun_element, ticked_element, plain_answer, first_state};
+ghost use Rattle.gt_core.specs.Shown.{shown_at};
+ghost use Rattle.gt_core.specs.Standing.{Opens, Advances, CoreStands, Settles, IsMapping, IsStartFaultOf, WantsMemory, setting_of, begun_element, ticked_element, plain_answer, first_state};
 ghost use Rattle.gt_core.specs.declared.trace.Event.TheVariants.{Begin, Tick};
 
 use crate::action::{Action, Seen, Step, Verdict};
@@ -17,7 +18,7 @@ use crate::request::{Handle, Request, request_fits};
 use crate::sight::see;
 use crate::slot::Open;
 use crate::state::{DomainState, find};
-use crate::trace::{Answer, Bytes, Element, Event, Happened, Item};
+use crate::trace::{Answer, Bytes, Element, Event, Happened, Item, Trace};
 use gt_entry::Entry;
 use gt_types::{Allows, Config, DomId, GrantRef, Memory, StartFault};
 use std::alloc::Global;
@@ -66,7 +67,7 @@ pub enum Opening {
 }
 
 fn open_call<P: Allows>(known: &Known<'_, P>, dom: DomId, request: Request) -> Opening
-    ensures { Opens (knowledge_of known.now.config.now.domains.items (P.may known.now.rights.now) known.now.own.now known.now.header known.now.mappings.now known.now.maps_answered) dom request result }
+    ensures { Opens (knowledge_of known.now.config.now.domains.items known.now.config.now.first_gen (P.may known.now.rights.now) known.now.own.now known.now.header known.now.mappings.now known.now.maps_answered) dom request result }
 {
     match Call::begin(dom, request, known) {
         Start::Done(verdict) => Opening::Done(verdict),
@@ -102,7 +103,7 @@ fn read_into(domains: &[DomainState], dom: DomId, frame: u64, off: u16, out: Vec
 impl<P: Allows> Core<P> {
     fn open_at(&self, at: usize, dom: DomId, request: Request) -> Opening
         requires { at < length self.now.domains.items }
-        ensures { (d : State) → slice_get self.now.domains.items at ≡ Some d → Opens (knowledge_of self.now.config.domains.items (P.may self.now.rights) d.own d.header d.mappings d.maps_answered) dom request result }
+        ensures { (d : State) → slice_get self.now.domains.items at ≡ Some d → Opens (knowledge_of self.now.config.domains.items self.now.config.first_gen (P.may self.now.rights) d.own d.header d.mappings d.maps_answered) dom request result }
     {
         let domain = &self.domains[at];
         let known = Known {
@@ -123,6 +124,7 @@ impl<P: Allows> Core<P> {
             × CoreStands (setting_of self.old.config (P.may self.old.rights)) (grown h (begun_element dom request b)) self.new.domains.items) }
         ensures config { self.new.config ≡ self.old.config }
         ensures rights { self.new.rights ≡ self.old.rights }
+        ensures memory { (h : History) → CoreStands (setting_of self.old.config (P.may self.old.rights)) h self.old.domains.items → OnErr result (WantsMemory (setting_of self.old.config (P.may self.old.rights)) h dom request) }
         ensures err { OnErr result (self.new.domains.items ≡ self.old.domains.items) }
     {
         let Some(at) = find(&self.domains, dom) else {
@@ -144,7 +146,7 @@ impl<P: Allows> Core<P> {
 
     fn advance(&self, at: usize, open: Open, seen: Seen) -> (Call, Action)
         requires { at < length self.now.domains.items }
-        ensures { (d : State) → slice_get self.now.domains.items at ≡ Some d → Advances (knowledge_of self.now.config.domains.items (P.may self.now.rights) d.own d.header d.mappings d.maps_answered) open.call.caller open.call.request open.call.phase seen result.0 result.1 }
+        ensures { (d : State) → slice_get self.now.domains.items at ≡ Some d → Advances (knowledge_of self.now.config.domains.items self.now.config.first_gen (P.may self.now.rights) d.own d.header d.mappings d.maps_answered) open.call.caller open.call.request open.call.phase seen result.0 result.1 }
     {
         let mut call = open.call;
         let domain = &self.domains[at];
@@ -174,7 +176,10 @@ impl<P: Allows> Core<P> {
                 Ok(Answer::Mapped(handle))
             }
             Step::Read {
-                dom, frame, off, ..
+                dom,
+                frame,
+                off,
+                ..
             } => {
                 let alloc = self.alloc;
                 let out = self.domains[at].close_load(alloc);
@@ -228,7 +233,9 @@ impl<P: Allows> Core<P> {
     }
 
     /// What an entry of a domain shows: None past the table, or for no domain of the run.
-    pub fn show(&self, dom: DomId, gref: GrantRef) -> Option<Shown> {
+    pub fn show(&self, dom: DomId, gref: GrantRef) -> Option<Shown>
+        ensures { (h : History) → CoreStands (setting_of self.now.config (P.may self.now.rights)) h self.now.domains.items → result ≡ shown_at (setting_of self.now.config (P.may self.now.rights)) h dom gref.0 }
+    {
         let at = find(&self.domains, dom)?;
         let domain = &self.domains[at];
         if gref.0 >= domain.header.entries() {
@@ -293,8 +300,10 @@ pub fn play<P: Allows + Drop>(
     config: Config,
     rights: P,
     events: &[Event],
-) -> Result<Vec<Element>, StartFault>
-    ensures { IfOk result (λ trace. Legal (setting_of config (P.may rights)) events.now trace.items) }
+) -> Result<Trace, StartFault>
+    ensures legal { IfOk result (λ trace. Legal (setting_of config (P.may rights)) events.now trace.items) }
+    ensures fits { IsOk result → IsWithinLimits config }
+    ensures fault { IfErr result (IsStartFaultOf config) }
 {
     let mut core = Core::new(alloc, config, rights)?;
     let mut trace = Vec::new(alloc);

@@ -9,8 +9,8 @@ use crate::known::{Known, Mapping, Own};
 use crate::request::{Handle, Request};
 use gt_entry::{Entry, Header};
 use gt_types::{
-    Allows, DOMID_SELF, Denial, DomId, DomainConfig, Facts, GrantRef, LAST_GENERATION, MAX_MAPPINGS, Perms, Rule,
-    TypeId,
+    Allows, DOMID_SELF, Denial, DomId, DomainConfig, Facts, GrantRef, LAST_GENERATION,
+    MAX_MAPPINGS, Perms, Rule, TypeId,
 };
 
 /// The serials of a domain's mappings are below this number.
@@ -50,15 +50,15 @@ fn refused(rule: Rule) -> Option<Verdict>
     Some(Verdict::Refused(Denial::new(rule, Facts::None)))
 }
 
-pub fn own_at(own: &[Own], gref: GrantRef) -> Own
+pub fn own_at(own: &[Own], first_gen: u32, gref: GrantRef) -> Own
     ensures entry { result.entry ≡ entry_in own.now gref.0 }
-    ensures generation { result.generation ≡ generation_in own.now gref.0 }
+    ensures generation { result.generation ≡ generation_in first_gen own.now gref.0 }
 {
     let at = gref.0 as usize;
     if at < own.len() {
         own[at]
     } else {
-        Own::new(0)
+        Own::new(first_gen.min(LAST_GENERATION))
     }
 }
 
@@ -166,7 +166,7 @@ fn begin_map<P: Allows>(
     dom: DomId,
     flags: u32,
 ) -> Option<Verdict>
-    ensures { result ≡ map_begun (knowledge_of known.now.config.now.domains.items (P.may known.now.rights.now) known.now.own.now known.now.header known.now.mappings.now known.now.maps_answered) caller dom flags }
+    ensures { result ≡ map_begun (knowledge_of known.now.config.now.domains.items known.now.config.now.first_gen (P.may known.now.rights.now) known.now.own.now known.now.header known.now.mappings.now known.now.maps_answered) caller dom flags }
 {
     let Some(owner) = find_domain(&known.config.domains, resolve(caller, dom)) else {
         return refused(Rule::N1);
@@ -185,7 +185,7 @@ fn begin_map<P: Allows>(
 }
 
 fn begin_unmap<P: Allows>(known: &Known<'_, P>, caller: DomId, handle: Handle) -> Option<Verdict>
-    ensures { result ≡ unmap_begun (knowledge_of known.now.config.now.domains.items (P.may known.now.rights.now) known.now.own.now known.now.header known.now.mappings.now known.now.maps_answered) caller handle }
+    ensures { result ≡ unmap_begun (knowledge_of known.now.config.now.domains.items known.now.config.now.first_gen (P.may known.now.rights.now) known.now.own.now known.now.header known.now.mappings.now known.now.maps_answered) caller handle }
 {
     let Some(mapping) = find_mapping(known.mappings, handle) else {
         return refused(Rule::N6);
@@ -213,16 +213,35 @@ pub fn judge_beginning<P: Allows>(
     caller: DomId,
     request: Request,
 ) -> Option<Verdict>
-    ensures { result ≡ begun (knowledge_of known.now.config.now.domains.items (P.may known.now.rights.now) known.now.own.now known.now.header known.now.mappings.now known.now.maps_answered) caller request }
+    ensures { result ≡ begun (knowledge_of known.now.config.now.domains.items known.now.config.now.first_gen (P.may known.now.rights.now) known.now.own.now known.now.header known.now.mappings.now known.now.maps_answered) caller request }
 {
     match request {
         Request::Grant { gref, entry } => {
-            begin_grant(known.header, own_at(known.own, gref), gref, entry)
+            begin_grant(
+                known.header,
+                own_at(known.own, known.config.first_gen, gref),
+                gref,
+                entry,
+            )
         }
-        Request::Revoke { gref } => begin_revoke(known.header, own_at(known.own, gref), gref),
-        Request::Demote { gref } => begin_change(true, known.header, own_at(known.own, gref), gref),
+        Request::Revoke { gref } => begin_revoke(
+            known.header,
+            own_at(known.own, known.config.first_gen, gref),
+            gref,
+        ),
+        Request::Demote { gref } => begin_change(
+            true,
+            known.header,
+            own_at(known.own, known.config.first_gen, gref),
+            gref,
+        ),
         Request::Promote { gref } => {
-            begin_change(false, known.header, own_at(known.own, gref), gref)
+            begin_change(
+                false,
+                known.header,
+                own_at(known.own, known.config.first_gen, gref),
+                gref,
+            )
         }
         Request::Map { dom, flags, .. } => begin_map(known, caller, dom, flags),
         Request::Unmap { handle } => begin_unmap(known, caller, handle),

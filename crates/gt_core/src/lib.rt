@@ -1,4 +1,15 @@
-//! The core of grant tables: a machine over events, each an atomic step of one domain.
+//! The grant tables of a run, as a machine over events.
+//!
+//! [`Core`] keeps the tables, mappings and frames of the configured domains. `begin` and `tick` make
+//! one atomic step each: the beginning of a call, a look at a word, an exchange, a store, an unpin or an
+//! access to bytes. [`play`] plays a list of events.
+//!
+//! It promises that what it does is a legal trace, for every list of events: each step shows what the
+//! steps before it left, a foreign byte is read exactly where a live pin lets it and the policy allows it,
+//! a revocation is taken exactly where no pin on its entry is live, and a refusal names the first rule
+//! that stood. `specs/Legal.antt` says it, over histories (`specs/History.antt`), the rules
+//! (`specs/Rules.antt`) and the paths of calls (`specs/Path.antt`); `specs/Standing.antt` says when a core
+//! stands for a history. It stands on `gt_entry` and `gt_types`.
 #![tactic(auto)]
 
 mod action;
@@ -16,26 +27,7 @@ mod state;
 mod tests;
 mod trace;
 
-ghost use Rattle.gt_core.specs.Legal.{first_at, Legal};
-ghost use Rattle.gt_core.specs.History.{History, Setting};
-ghost use Rattle.std.specs.Prelude.{◌≡◌, [], List};
-ghost use Rattle.gt_core.specs.declared.trace.Event.{Event};
-ghost use Rattle.gt_core.specs.declared.trace.Element.{Element};
-ghost use Rattle.gt_types.specs.declared.DomId.{DomId};
-ghost use Rattle.gt_core.specs.declared.request.Request.{Request};
-ghost use Rattle.gt_core.specs.declared.action.Step.{Step};
-
-pub use action::{Action, Change, Seen, Step, Verdict};
-pub use call::{Call, Start};
-pub use core_state::{Begun, Core, Opening, Shown, Ticked, play};
-pub use known::{Known, Mapping, Own};
-pub use leg::{Leg, LegNext, LegPhase};
+pub use action::{Change, Seen, Step};
+pub use core_state::{Begun, Core, Shown, Ticked, play};
 pub use request::{Handle, Holder, Request};
-pub use slot::{Open, Slot, SlotChange};
-pub use state::DomainState;
-pub use trace::{Answer, Bytes, Element, Event, Happened, Item};
-/// A probe.
-pub fn probe()
-    ensures some { (s : Setting) (h : History) (d : DomId) (r : Request) (v : Step) → first_at s h d r [] v ≡ first_at s h d r [] v }
-    ensures legal { (s : Setting) (es : List Event) (xs : List Element) → Legal s es xs → Legal s es xs }
-{}
+pub use trace::{Answer, Bytes, Element, Event, Happened, Item, Trace};

@@ -27,7 +27,7 @@ fn slot_at(slots: &[Slot], gref: GrantRef) -> Slot
 fn control_word(own: &[Own], slots: &[Slot], gref: GrantRef) -> u64
     ensures { result ≡ control_in own.now slots.now gref.0 }
 {
-    let row = own_at(own, gref);
+    let row = own_at(own, 0, gref);
     let slot = slot_at(slots, gref);
     Control::of_entry(row.entry(), row.generation(), slot.reads(), slot.writes()).pack()
 }

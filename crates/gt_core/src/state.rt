@@ -52,14 +52,13 @@ pub fn find(domains: &[DomainState], dom: DomId) -> Option<usize>
 fn place_of(mappings: &[Mapping], handle: Handle) -> Option<usize>
     ensures { result ≡ position (λ m. is_handle m.handle handle) mappings.now }
 {
-    mappings
-        .iter()
-        .position(|m| m.handle.serial == handle.serial && m.handle.key == handle.key)
+    mappings.iter().position(|m| m.handle.serial == handle.serial && m.handle.key == handle.key)
 }
 
 impl DomainState {
-    ghost use Rattle.std.specs.Prelude.{◌≡◌, IfOk, IsOk, OnErr, OnOk, Some, None, length, take, drop, vec_len};
-    ghost use Rattle.gt_core.specs.States.{first_state, asked_in, IsMapping, IsLoading};
+    ghost use Rattle.std.specs.Prelude.{◌≡◌, IfOk, IsOk, OnErr, OnOk, Some, None, true, length, take, drop, slice_get};
+    ghost use Rattle.gt_core.specs.States.{first_state, asked_in, asks_memory, IsMapping, IsLoading};
+    ghost use Rattle.gt_core.specs.Shown.{shown_in};
     ghost use Rattle.gt_core.specs.Effects.{frame_in, with_slot, with_own, with_underway, with_mapping, without_mapping};
 
     /// A domain at rest: all entries invalid and of the first generation, all frames zero.
@@ -103,6 +102,7 @@ impl DomainState {
     pub fn begin(&mut self, alloc: Global, call: Open) -> Result<(), Memory>
         ensures opened { OnOk result (self.new ≡ with_underway (Some call) self.old) }
         ensures refused { OnErr result (self.new ≡ self.old) }
+        ensures memory { OnErr result (asks_memory call.call.request ≡ true) }
     {
         let mut room = None;
         match call.call.request {
@@ -188,7 +188,9 @@ impl DomainState {
     }
 
     /// What an entry shows.
-    pub fn shown(&self, gref: GrantRef) -> Option<Shown> {
+    pub fn shown(&self, gref: GrantRef) -> Option<Shown>
+        ensures { result ≡ shown_in (slice_get self.now.own gref.0) (slice_get self.now.slots gref.0) }
+    {
         let own = *self.own.get(gref.0 as usize)?;
         let slot = *self.slots.get(gref.0 as usize)?;
         Some(Shown {

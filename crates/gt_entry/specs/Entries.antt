@@ -1,7 +1,5 @@
 -- What an entry is.
-use Rattle.std.specs.Prelude.{ℕ, ◌^◌, ◌<◌, Bool, true, false}
-use Rattle.gt_types.specs.declared.DomId.{DomId}
-use Rattle.gt_types.specs.declared.GrantRef.{GrantRef}
+use Rattle.std.specs.Prelude.{◌^◌, ◌<◌, Bool, true, false}
 use Rattle.gt_entry.specs.declared.entry.Entry.{Entry}
 use Rattle.gt_entry.specs.declared.entry.Entry.TheVariants.{Invalid, Page, Sub, Via}
 

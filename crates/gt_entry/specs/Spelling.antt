@@ -1,12 +1,11 @@
 -- The words that spell an entry: its control word and two body words.
 use Rattle.std.specs.Prelude.{◌≡◌, ℕ, ◌+◌, ◌*◌, ◌/◌, ◌%◌, ◌^◌, false}
-use Rattle.gt_types.specs.declared.DomId.{DomId}
 use Rattle.gt_entry.specs.declared.entry.Entry.{Entry}
 use Rattle.gt_entry.specs.declared.entry.Entry.TheVariants.{Invalid, Page, Sub, Via}
 use Rattle.gt_entry.specs.declared.control.Kind.{Kind}
 use Rattle.gt_entry.specs.declared.control.Kind.TheVariants.{Invalid as KindInvalid, Page as KindPage, Sub as KindSub, Via as KindVia}
 use Rattle.gt_entry.specs.declared.control.Control.{Control}
-use Rattle.gt_entry.specs.Words.{flag, word_with}
+use Rattle.gt_entry.specs.Words.{flag}
 
 -- what the low four bits of the entry's control word are (own)
 abbrev pub low_bits : Entry → ℕ

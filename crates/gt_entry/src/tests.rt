@@ -1,5 +1,7 @@
-use crate::{Control, Entry, Header, status_word};
-use gt_types::{Dir, DomId, GrantRef, Range, Use};
+use crate::{
+    Control, Entry, Header, decode, decode_v1, decode_v2, encode_v1, encode_v2, status_word,
+};
+use gt_types::{Dir, DomId, Field, GrantRef, Range, Use};
 use std::test::Fail;
 
 fn page(ro: bool, frame: u64) -> Entry {
@@ -55,23 +57,10 @@ fn counts_pins(rt: HostRuntime) -> Result<(), Fail> {
 
 #[test]
 fn spells_every_kind(rt: HostRuntime) -> Result<(), Fail> {
-    let sub = Entry::Sub {
-        dom: DomId(3),
-        ro: true,
-        frame: 7,
-        off: 100,
-        len: 50,
-    };
-    let via = Entry::Via {
-        dom: DomId(2),
-        ro: false,
-        dom2: DomId(3),
-        gref: GrantRef(7),
-    };
     for (entry, first, second) in [
         (page(true, 5), 5, 0),
-        (sub, 7, 0x0032_0064),
-        (via, 0x0007_0003, 0),
+        (sub(), 7, 0x0032_0064),
+        (via(), 0x0007_0003, 0),
     ] {
         assert_eq!(rt; entry.first_body(), first);
         assert_eq!(rt; entry.second_body(), second);
@@ -118,4 +107,187 @@ fn permits_inside_a_sub_page(rt: HostRuntime) -> Result<(), Fail> {
         assert!(rt; !page(true, 5).permits(DomId(2), Dir::Write, Use::Map, range));
     }
     Ok(())
+}
+
+fn sub() -> Entry {
+    Entry::Sub {
+        dom: DomId(3),
+        ro: true,
+        frame: 7,
+        off: 100,
+        len: 50,
+    }
+}
+
+fn via() -> Entry {
+    Entry::Via {
+        dom: DomId(2),
+        ro: false,
+        dom2: DomId(3),
+        gref: GrantRef(7),
+    }
+}
+
+#[test]
+fn reads_version_1(rt: HostRuntime) {
+    for (bytes, read) in [
+        ([9, 0, 2, 0, 5, 0, 0, 0], Err(Field::Reading)),
+        ([1, 0, 2, 0, 5, 0, 0, 0], Ok(page(false, 5))),
+        ([1, 1, 2, 0, 5, 0, 0, 0], Err(Field::SubPage)),
+        ([3, 0, 2, 0, 5, 0, 0, 0], Err(Field::Kind)),
+        ([0x0b, 1, 2, 0, 5, 0, 0, 0], Err(Field::Kind)),
+        ([0x21, 1, 2, 0, 5, 0, 0, 0], Err(Field::Pwt)),
+        ([3, 1, 2, 0, 5, 0, 0, 0], Err(Field::Kind)),
+        ([1, 2, 2, 0, 5, 0, 0, 0], Err(Field::Reserved)),
+        (
+            [5, 0, 2, 0, 0xff, 0xff, 0xff, 0xff],
+            Ok(page(true, 4_294_967_295)),
+        ),
+    ] {
+        assert_eq!(rt; decode_v1(&bytes), read);
+        assert_eq!(rt; decode(1, &bytes), read);
+    }
+    assert_eq!(rt; decode(1, &[1, 0, 2, 0, 5, 0, 0]), Err(Field::Length));
+    assert_eq!(rt; decode(1, &[0; 16]), Err(Field::Length));
+}
+
+#[test]
+fn reads_version_2(rt: HostRuntime) {
+    for (bytes, read) in [
+        (
+            [5, 1, 3, 0, 100, 0, 50, 0, 7, 0, 0, 0, 0, 0, 0, 0],
+            Ok(sub()),
+        ),
+        ([3, 0, 2, 0, 3, 0, 9, 9, 7, 0, 0, 0, 8, 8, 8, 8], Ok(via())),
+        (
+            [1, 0, 2, 0, 9, 9, 9, 9, 5, 0, 0, 0, 0, 0, 0, 0],
+            Ok(page(false, 5)),
+        ),
+        (
+            [0x0b, 1, 2, 0, 3, 0, 0, 0, 7, 0, 0, 0, 0, 0, 0, 0],
+            Err(Field::Reading),
+        ),
+        (
+            [0x21, 1, 2, 0, 3, 0, 0, 0, 7, 0, 0, 0, 0, 0, 0, 0],
+            Err(Field::Pwt),
+        ),
+        (
+            [3, 1, 2, 0, 3, 0, 0, 0, 7, 0, 0, 0, 0, 0, 0, 0],
+            Err(Field::SubPage),
+        ),
+        (
+            [1, 2, 2, 0, 3, 0, 0, 0, 7, 0, 0, 0, 0, 0, 0, 0],
+            Err(Field::Reserved),
+        ),
+        (
+            [2, 0, 2, 0, 3, 0, 0, 0, 7, 0, 0, 0, 0, 0, 0, 0],
+            Err(Field::Kind),
+        ),
+    ] {
+        assert_eq!(rt; decode_v2(&bytes), read);
+        assert_eq!(rt; decode(2, &bytes), read);
+    }
+    assert_eq!(rt; decode(2, &[1, 0, 2, 0, 5, 0, 0, 0]), Err(Field::Length));
+}
+
+#[test]
+fn writes_what_it_reads(rt: HostRuntime) {
+    assert_eq!(rt; encode_v1(&page(false, 5)), Some([1, 0, 2, 0, 5, 0, 0, 0]));
+    assert_eq!(rt; encode_v1(&page(true, 4_294_967_296)), None);
+    assert_eq!(rt; encode_v1(&sub()), None);
+    assert_eq!(rt; encode_v1(&via()), None);
+    assert_eq!(rt; encode_v1(&Entry::Invalid), None);
+    assert_eq!(rt; encode_v2(&Entry::Invalid), None);
+    for (entry, bytes) in [
+        (
+            page(true, 4_294_967_296),
+            [5, 0, 2, 0, 0, 0, 0, 0, 0, 0, 0, 0, 1, 0, 0, 0],
+        ),
+        (sub(), [5, 1, 3, 0, 100, 0, 50, 0, 7, 0, 0, 0, 0, 0, 0, 0]),
+        (via(), [3, 0, 2, 0, 3, 0, 0, 0, 7, 0, 0, 0, 0, 0, 0, 0]),
+    ] {
+        assert_eq!(rt; encode_v2(&entry), Some(bytes));
+    }
+}
+
+/// How many flags a decoder takes, and how many it refuses by each field.
+#[derive(Clone, Copy, Debug, Default, PartialEq, Eq)]
+struct Counts {
+    taken: u32,
+    length: u32,
+    kind: u32,
+    reading: u32,
+    writing: u32,
+    pwt: u32,
+    pcd: u32,
+    pat: u32,
+    sub_page: u32,
+    reserved: u32,
+}
+
+impl Counts {
+    fn add(&mut self, read: Result<Entry, Field>) {
+        let count = match read {
+            Ok(_) => &mut self.taken,
+            Err(Field::Length) => &mut self.length,
+            Err(Field::Kind) => &mut self.kind,
+            Err(Field::Reading) => &mut self.reading,
+            Err(Field::Writing) => &mut self.writing,
+            Err(Field::Pwt) => &mut self.pwt,
+            Err(Field::Pcd) => &mut self.pcd,
+            Err(Field::Pat) => &mut self.pat,
+            Err(Field::SubPage) => &mut self.sub_page,
+            Err(Field::Reserved) => &mut self.reserved,
+        };
+        *count = count.wrapping_add(1);
+    }
+}
+
+#[test]
+fn takes_two_flags_in_version_1(rt: HostRuntime) {
+    let mut counts = Counts::default();
+    for flags in 0..=u16::MAX {
+        let [low, high] = flags.to_le_bytes();
+        let read = decode_v1(&[low, high, 2, 0, 5, 0, 0, 0]);
+        assert_eq!(rt; read.is_ok(), flags == 1 || flags == 5, "at {flags}");
+        counts.add(read);
+    }
+    let wanted = Counts {
+        taken: 2,
+        length: 0,
+        kind: 49_152,
+        reading: 8_192,
+        writing: 4_096,
+        pwt: 2_048,
+        pcd: 1_024,
+        pat: 512,
+        sub_page: 256,
+        reserved: 254,
+    };
+    assert_eq!(rt; counts, wanted);
+}
+
+#[test]
+fn takes_six_flags_in_version_2(rt: HostRuntime) {
+    let mut counts = Counts::default();
+    for flags in 0..=u16::MAX {
+        let [low, high] = flags.to_le_bytes();
+        let read = decode_v2(&[low, high, 2, 0, 3, 0, 0, 0, 7, 0, 0, 0, 0, 0, 0, 0]);
+        let is_taken = matches!(flags, 1 | 3 | 5 | 7 | 257 | 261);
+        assert_eq!(rt; read.is_ok(), is_taken, "at {flags}");
+        counts.add(read);
+    }
+    let wanted = Counts {
+        taken: 6,
+        length: 0,
+        kind: 32_768,
+        reading: 16_384,
+        writing: 8_192,
+        pwt: 4_096,
+        pcd: 2_048,
+        pat: 1_024,
+        sub_page: 256,
+        reserved: 762,
+    };
+    assert_eq!(rt; counts, wanted);
 }

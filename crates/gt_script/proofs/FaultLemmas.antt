@@ -1,5 +1,5 @@
 -- Where the first fault of a script stands.
-use Rattle.std.proofs.Common.{◌≡◌, ◌≢◌, ◌⊎◌, inl, inr, ℕ, zero, suc, ◌+◌, ◌<◌, ◌≤◌, Bool, true, false, List, [], ◌∷◌, length, take, Result, Ok, Err, Some, refl, sym, ap, ◌∙◌, subst, arith, ltb, cond, ◌==◌, length-take, IfOk, IfErr}
+use Rattle.std.proofs.Common.{◌≡◌, ◌≢◌, ◌⊎◌, inl, inr, ℕ, suc, ◌+◌, ◌<◌, ◌≤◌, Bool, true, false, List, [], ◌∷◌, length, take, Result, Ok, Err, Some, refl, sym, ap, ◌∙◌, subst, arith, ltb, cond, length-take, IfOk, IfErr}
 use Rattle.std.specs.List.{slice_get}
 use Rattle.std.specs.Str.{IsUtf8, is_utf8}
 use Rattle.std.specs.Str.Lossy.{utf8_valid_len}
@@ -19,7 +19,7 @@ use Rattle.gt_script.specs.declared.faults.ScriptError.TheVariants as errors
 use Rattle.gt_script.specs.declared.faults.FaultKind.{FaultKind}
 use Rattle.gt_script.specs.declared.faults.FaultKind.TheVariants.{Limit, Utf8, Syntax, Config}
 use Rattle.gt_script.specs.declared.faults.Fault.{Fault}
-use Rattle.gt_script.proofs.LawLemmas.{Extends, with_lines-Extends, faultless-none}
+use Rattle.gt_script.proofs.LawLemmas.{with_lines-Extends, faultless-none}
 use Rattle.gt_script.proofs.TypeLemmas.{Grown-refl}
 
 -- the fault is that of the line at this place behind line n

@@ -1,6 +1,6 @@
 -- What a script's parts are, line by line.
-use Rattle.std.proofs.Common.{◌≡◌, ◌≢◌, ◌⊎◌, inl, inr, ℕ, zero, suc, ◌+◌, ◌-◌, ◌^◌, ◌<◌, ◌≤◌, Bool, true, false, List, [], ◌∷◌, ◌++◌, length, take, Option, Some, None, Result, Ok, Err, IsSome, IsTrue, All, AllPairs, refl, sym, ap, ◌∙◌, subst, arith, cond, append_assoc, get_or, ◌==◌}
-use Rattle.std.specs.List.{filter_map, enumerate_from, cons_option, slice_get}
+use Rattle.std.proofs.Common.{◌≡◌, ◌⊎◌, inl, inr, ℕ, ◌+◌, ◌^◌, Bool, true, false, List, [], ◌∷◌, ◌++◌, length, take, Option, Some, None, Result, Ok, Err, IsSome, IsTrue, All, refl, sym, ap, ◌∙◌, subst, arith, cond, append_assoc, get_or, ◌==◌}
+use Rattle.std.specs.List.{filter_map, cons_option, slice_get}
 use Rattle.std.specs.Option.{option_map, option_to_list, is_none}
 use Rattle.std.proofs.lemmas.Bool.{cases_lt}
 use Rattle.std.proofs.Math.Seq.{take-append_seam, get_or-append_seam}
@@ -18,8 +18,8 @@ use Rattle.gt_script.specs.Numbers.{number_below}
 use Rattle.gt_script.specs.Fields.{◌>>=◌}
 use Rattle.gt_script.specs.Lines.{line_of}
 use Rattle.gt_script.specs.Types.{with_type}
-use Rattle.gt_script.specs.Contents.{Contents, empty}
-use Rattle.gt_script.specs.Script.{is_misplaced, or_config, domain_written, with_triple, with_domain, with_step, with_placed, with_line, with_words, with_lines}
+use Rattle.gt_script.specs.Contents.{Contents}
+use Rattle.gt_script.specs.Script.{or_config, domain_written, with_triple, with_domain, with_step, with_placed, with_line, with_words, with_lines}
 use Rattle.gt_script.specs.Laws.{said, type_number, triple_in, domain_in, step_on, IsLine}
 use Rattle.gt_script.specs.declared.numbers.Number.{Number}
 use Rattle.gt_script.specs.declared.calls.Action.{Action}
@@ -29,9 +29,9 @@ use Rattle.gt_script.specs.declared.lines.Line.{Line}
 use Rattle.gt_script.specs.declared.lines.Line.TheVariants as line
 use Rattle.gt_script.specs.declared.script.Step.{Step}
 use Rattle.gt_script.specs.declared.faults.FaultKind.{FaultKind}
-use Rattle.gt_script.specs.declared.faults.FaultKind.TheVariants.{Syntax, Config}
+use Rattle.gt_script.specs.declared.faults.FaultKind.TheVariants.{Syntax}
 use Rattle.gt_script.specs.declared.faults.Fault.{Fault}
-use Rattle.gt_script.proofs.TypeLemmas.{Grown, Grown-refl, Grown-trans, Typed, with_type-Typed}
+use Rattle.gt_script.proofs.TypeLemmas.{Grown, Grown-refl, Grown-trans, with_type-Typed}
 
 -- taking apart what gave a value
 

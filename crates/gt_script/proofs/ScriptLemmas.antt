@@ -1,4 +1,4 @@
-use Rattle.std.proofs.Common.{◌≡◌, ℕ, ◌+◌, ◌<◌, List, ◌∷◌, length, map, drop, get_or, Result, Ok, Err, refl, ap, ◌∙◌, Bor, rules}
+use Rattle.std.proofs.Common.{◌≡◌, ℕ, ◌+◌, ◌<◌, List, ◌∷◌, length, map, drop, get_or, Result, Ok, Err, ap, ◌∙◌, Bor}
 use Rattle.std.proofs.lemmas.List.{at_drop_more}
 use Rattle.gt_script.specs.Words.{words}
 use Rattle.gt_script.specs.Contents.{Contents}

@@ -10,7 +10,7 @@ use Rattle.gt_script.specs.declared.calls.Call.TheVariants as calls
 use Rattle.gt_script.specs.declared.calls.Action.{Action}
 use Rattle.gt_script.specs.declared.calls.Action.TheVariants as actions
 
--- DOM MODE FRAME
+-- a page: DOM MODE FRAME (own)
 unfoldable pub page_of : List (List ℕ) → Option Grant
 page_of (dom ∷ mode ∷ frame ∷ []) = do
   d ← domain_word dom
@@ -19,7 +19,7 @@ page_of (dom ∷ mode ∷ frame ∷ []) = do
   Some (grants.Page d m f)
 page_of _ = None
 
--- DOM MODE FRAME OFF LEN
+-- a sub-page: DOM MODE FRAME OFF LEN (own)
 unfoldable pub sub_of : List (List ℕ) → Option Grant
 sub_of (dom ∷ mode ∷ frame ∷ off ∷ len ∷ []) = do
   d ← domain_word dom
@@ -30,7 +30,7 @@ sub_of (dom ∷ mode ∷ frame ∷ off ∷ len ∷ []) = do
   Some (grants.Sub d m f o n)
 sub_of _ = None
 
--- DOM MODE DOM2 REF2
+-- a transitive entry: DOM MODE DOM2 REF2 (own)
 unfoldable pub via_of : List (List ℕ) → Option Grant
 via_of (dom ∷ mode ∷ to ∷ gref ∷ []) = do
   d ← domain_word dom
@@ -40,13 +40,13 @@ via_of (dom ∷ mode ∷ to ∷ gref ∷ []) = do
   Some (grants.Via d m t r)
 via_of _ = None
 
--- the entry that a grant publishes, by its kind
+-- the entry that a grant publishes, by its kind (own)
 unfoldable pub granted : List ℕ → List (List ℕ) → Option Grant
 granted kind args = if bytes_eq kind (codes "page") then page_of args
     else (if bytes_eq kind (codes "sub") then sub_of args
     else (if bytes_eq kind (codes "via") then via_of args else None))
 
--- REF and an entry
+-- what stands after `grant`: REF and an entry (own)
 unfoldable pub grant_of : List (List ℕ) → Option Call
 grant_of (gref ∷ kind ∷ args) = do
   r ← reference_word gref
@@ -54,7 +54,7 @@ grant_of (gref ∷ kind ∷ args) = do
   Some (calls.Grant r e)
 grant_of _ = None
 
--- LABEL DOM REF FLAGS
+-- what stands after `map`: LABEL DOM REF FLAGS (own)
 unfoldable pub map_of : List (List ℕ) → Option Call
 map_of (label ∷ dom ∷ gref ∷ flags ∷ []) = do
   l ← text_where label_word label
@@ -64,14 +64,14 @@ map_of (label ∷ dom ∷ gref ∷ flags ∷ []) = do
   Some (calls.Map l d r f)
 map_of _ = None
 
--- LABEL
+-- what stands after `unmap`: LABEL (own)
 unfoldable pub unmap_of : List (List ℕ) → Option Call
 unmap_of (label ∷ []) = do
   l ← text_where label_word label
   Some (calls.Unmap l)
 unmap_of _ = None
 
--- LABEL OFF LEN
+-- what stands after `load`: LABEL OFF LEN (own)
 unfoldable pub load_of : List (List ℕ) → Option Call
 load_of (label ∷ off ∷ len ∷ []) = do
   l ← text_where label_word label
@@ -80,14 +80,14 @@ load_of (label ∷ off ∷ len ∷ []) = do
   Some (calls.Load l o n)
 load_of _ = None
 
--- REF
+-- what stands after `revoke`: REF (own)
 unfoldable pub revoke_of : List (List ℕ) → Option Call
 revoke_of (gref ∷ []) = do
   r ← reference_word gref
   Some (calls.Revoke r)
 revoke_of _ = None
 
--- a call word and its arguments
+-- a call word and its arguments (own)
 unfoldable pub call_of : List (List ℕ) → Option Call
 call_of [] = None
 call_of (word ∷ args) = if bytes_eq word (codes "grant") then grant_of args
@@ -96,6 +96,6 @@ call_of (word ∷ args) = if bytes_eq word (codes "grant") then grant_of args
     else (if bytes_eq word (codes "load") then load_of args
     else (if bytes_eq word (codes "revoke") then revoke_of args else None))))
 
--- what a body line's first word says together with the words after its domain
+-- what a body line's first word says together with the words after its domain (own)
 unfoldable pub action_of : List ℕ → List (List ℕ) → Option Action
 action_of word args = if bytes_eq word (codes "do") then option_map actions.Do (call_of args) else None

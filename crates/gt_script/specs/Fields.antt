@@ -11,6 +11,7 @@ use Rattle.gt_types.specs.declared.perms.Perms.{Perms}
 use Rattle.gt_script.specs.Numbers.{decimal_value, below}
 
 infixl 10 ◌>>=◌
+-- what follows, where there is a value to follow (own)
 abbrev pub ◌>>=◌ : {A B : Type 0} → Option A → (A → Option B) → Option B
 None >>= f = None
 (Some x) >>= f = f x
@@ -81,11 +82,11 @@ permission_word word = if bytes_eq word (codes "map_read") then Some map_read
     else (if bytes_eq word (codes "copy") then Some copy
     else (if bytes_eq word (codes "query") then Some query else None))))))
 
--- a word that passes a test
+-- a word that passes a test (own)
 abbrev pub text_where : (List ℕ → Bool) → List ℕ → Option (List ℕ)
 text_where test word = if test word then Some word else None
 
--- what stands before the first colon, and what stands after it
+-- what stands before the first colon, and what stands after it (own)
 unfoldable pub at_colon : List ℕ → Option (List ℕ × List ℕ)
 at_colon [] = None
 at_colon (b ∷ bs) = if b == 58 then Some ([], bs) else option_map (λ parts. (b ∷ parts.0, parts.1)) (at_colon bs)

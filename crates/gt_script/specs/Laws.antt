@@ -24,15 +24,15 @@ use Rattle.gt_script.specs.declared.faults.ScriptError.{ScriptError}
 use Rattle.gt_script.specs.declared.faults.ScriptError.TheVariants.{Memory}
 use Rattle.gt_script.specs.declared.faults.ScriptError.TheVariants as errors
 
--- what the lines say, each with its number
+-- what the lines say, each with its number (own)
 abbrev pub said : ℕ → List (List ℕ) → List (ℕ × Line)
 said n lines = filter_map (λ l. option_map (λ x. (l.0, x)) (line_of (words l.1))) (enumerate_from n lines)
 
--- the number of a type is the place of its name
+-- the number of a type is the place of its name (own)
 abbrev pub type_number : List (List ℕ) → List ℕ → Option TypeId
 type_number types name = option_map (λ i. record { 0 = i }) (position (λ t. bytes_eq t name) types)
 
--- the triple of a line, if it says one
+-- the triple of a line, if it says one (own)
 abbrev pub triple_in : List (List ℕ) → Line → Option Triple
 triple_in types (line.Triple t) = do
   source ← type_number types t.source
@@ -41,7 +41,7 @@ triple_in types (line.Triple t) = do
 triple_in types (line.Domain d) = None
 triple_in types (line.Body id action) = None
 
--- the domain of a line, if it configures one
+-- the domain of a line, if it configures one (own)
 abbrev pub domain_in : List (List ℕ) → Line → Option DomainConfig
 domain_in types (line.Triple t) = None
 domain_in types (line.Domain d) = do
@@ -49,7 +49,7 @@ domain_in types (line.Domain d) = do
   domain_written d label
 domain_in types (line.Body id action) = None
 
--- the step of line n, if it is one of the body
+-- the step of line n, if it is one of the body (own)
 abbrev pub step_on : ℕ → Line → Option Step
 step_on n (line.Triple t) = None
 step_on n (line.Domain d) = None
@@ -57,11 +57,11 @@ step_on n (line.Body number action) = do
   id ← number_below (2 ^ 16) number
   Some (record { line = n; dom = record { 0 = id }; action = action })
 
--- a line without words, or one that says something
+-- a line without words, or one that says something (own)
 abbrev pub IsLine : List ℕ → Type 0
 IsLine line = (words line ≡ []) ⊎ IsSome (line_of (words line))
 
--- the lines are those of this script: each part holds what the lines say of it, in their order
+-- the lines are those of this script: each part holds what the lines say of it, in their order (own)
 pub record IsScriptOf (lines : List (List ℕ)) (c : Contents) : Type 0 where
   pub readable : All IsLine lines
   pub triples : c.triples ≡ filter_map (λ l. triple_in c.types l.1) (said 1 lines)
@@ -74,7 +74,7 @@ pub record IsScriptOf (lines : List (List ℕ)) (c : Contents) : Type 0 where
   pub some_triple : 1 ≤ length c.triples
   pub some_domain : 1 ≤ length c.domains
 
--- the fault is that of the line at this place, counted from 0, and the lines before it have none
+-- the fault is that of the line at this place, counted from 0, and the lines before it have none (own)
 pub record IsFaultOfLine (lines : List (List ℕ)) (f : Fault) : Type 0 where
   pub place : ℕ
   pub line : List ℕ
@@ -84,25 +84,25 @@ pub record IsFaultOfLine (lines : List (List ℕ)) (f : Fault) : Type 0 where
   pub earlier : with_lines empty 1 (take place lines) ≡ Ok before
   pub here : with_words before f.line (words line) ≡ Err f.kind
 
--- no line has a fault, and what the script lacks is named behind the last: syntax where nothing is allowed, config where no domain is configured
+-- no line has a fault, and what the script lacks is named behind the last: syntax where nothing is allowed, config where no domain is configured (own)
 pub record IsFaultOfEnd (lines : List (List ℕ)) (f : Fault) : Type 0 where
   pub all : Contents
   pub earlier : with_lines empty 1 lines ≡ Ok all
   pub number : f.line ≡ length lines + 1
   pub lacks : ((all.triples ≡ []) × (f.kind ≡ Syntax)) ⊎ ((all.triples ≢ []) × (all.domains ≡ []) × (f.kind ≡ Config))
 
--- the first fault of the lines
+-- the first fault of the lines (own)
 abbrev pub IsFirstFault : List (List ℕ) → Fault → Type 0
 IsFirstFault lines f = IsFaultOfLine lines f ⊎ IsFaultOfEnd lines f
 
--- the first fault of the bytes: too many, no text, or the first fault of the lines
+-- the first fault of the bytes: too many, no text, or the first fault of the lines (own)
 abbrev pub IsFaultOf : List ℕ → Fault → Type 0
 IsFaultOf bytes f =
     ((f ≡ record { line = 1; kind = Limit }) × (1048576 < length bytes))
     ⊎ (((f ≡ record { line = line_after (take (utf8_valid_len bytes) bytes); kind = Utf8 }) × (length bytes ≤ 1048576) × ¬ IsUtf8 bytes)
     ⊎ ((length bytes ≤ 1048576) × IsUtf8 bytes × IsFirstFault (lines_in bytes) f))
 
--- memory ran out, or this is the first fault
+-- memory ran out, or this is the first fault (own)
 abbrev pub Stands : List ℕ → ScriptError → Type 0
 Stands bytes Memory = Unit {0}
 Stands bytes (errors.Fault f) = IsFaultOf bytes f

@@ -10,7 +10,7 @@ use Rattle.gt_script.specs.declared.lines.DomainLine.{DomainLine}
 use Rattle.gt_script.specs.declared.lines.Line.{Line}
 use Rattle.gt_script.specs.declared.lines.Line.TheVariants as lines
 
--- SOURCE TARGET PERMISSION
+-- what stands after `triple`: SOURCE TARGET PERMISSION (own)
 unfoldable pub triple_of : List (List ℕ) → Option TripleLine
 triple_of (source ∷ target ∷ permission ∷ []) = do
   s ← text_where name_word source
@@ -19,7 +19,7 @@ triple_of (source ∷ target ∷ permission ∷ []) = do
   Some (record { source = s; target = t; perm = p })
 triple_of _ = None
 
--- ID USER:ROLE:TYPE FRAMES TABLEFRAMES VERSION
+-- what stands after `domain`: ID USER:ROLE:TYPE FRAMES TABLEFRAMES VERSION (own)
 unfoldable pub domain_of : List (List ℕ) → Option DomainLine
 domain_of (id ∷ label ∷ frames ∷ table_frames ∷ version ∷ []) = do
   i ← decimal_number id
@@ -30,7 +30,7 @@ domain_of (id ∷ label ∷ frames ∷ table_frames ∷ version ∷ []) = do
   Some (record { id = i; type_name = t; frames = f; table_frames = n; version = v })
 domain_of _ = None
 
--- a word of the body, ID and what follows
+-- a line of the body: its word, then ID and what follows (own)
 unfoldable pub body_of : List ℕ → List (List ℕ) → Option Line
 body_of word [] = None
 body_of word (id ∷ args) = do
@@ -38,7 +38,7 @@ body_of word (id ∷ args) = do
   a ← action_of word args
   Some (lines.Body n a)
 
--- a line of a script by its first word
+-- a line of a script by its first word (own)
 abbrev pub line_of : List (List ℕ) → Option Line
 line_of [] = None
 line_of (word ∷ args) = if bytes_eq word (codes "triple") then option_map lines.Triple (triple_of args)

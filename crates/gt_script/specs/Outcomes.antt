@@ -9,18 +9,19 @@ use Rattle.gt_script.specs.declared.script.Script.{Script}
 use Rattle.gt_script.specs.declared.script.AddError.{AddError}
 use Rattle.gt_script.specs.declared.script.AddError.TheVariants.{Memory, Fault}
 
--- a script with more lines is this one, or has this fault, unless memory ran out
+-- a script with more lines is this one, or has this fault, unless memory ran out (own)
 abbrev pub Adds : Result Script AddError → Result Contents FaultKind → Type 0
 Adds (Ok script) added = added ≡ Ok script
 Adds (Err Memory) added = Unit {0}
 Adds (Err (Fault kind)) added = added ≡ Err kind
 
--- the text says this script, or has this fault, unless memory ran out
+-- the text says this script, or has this fault, unless memory ran out (own)
 abbrev pub Says : Result Script ScriptError → Result Contents text.Fault → Type 0
 Says (Ok script) said = said ≡ Ok script
 Says (Err errors.Memory) said = Unit {0}
 Says (Err (errors.Fault fault)) said = said ≡ Err fault
 
+-- an error with the number of its line (own)
 abbrev pub on_line : ℕ → AddError → ScriptError
 on_line n Memory = errors.Memory
 on_line n (Fault kind) = errors.Fault (record { line = n; kind = kind })

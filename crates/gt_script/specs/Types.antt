@@ -1,10 +1,10 @@
 -- The numbers of the types (own).
-use Rattle.std.specs.Prelude.{ℕ, Bool, List, [], ◌∷◌, ◌++◌, length, nat_lt, Option, Some, None, position}
+use Rattle.std.specs.Prelude.{ℕ, List, [], ◌∷◌, ◌++◌, length, nat_lt, Option, Some, None, position}
 use Rattle.std.specs.Prelude.{if◌then◌else◌}
 use Rattle.std.specs.Str.{bytes_eq}
 use Rattle.gt_types.specs.declared.TypeId.{TypeId}
 
--- the names with this one among them, and its number: its place. None where it is a 257th
+-- the names with this one among them, and its number: its place. None where it is a 257th (own)
 unfoldable pub with_type : List (List ℕ) → List ℕ → Option (List (List ℕ) × TypeId)
 with_type names name = elim (position (λ t. bytes_eq t name) names) [
   | Some i ↦ Some (names, record { 0 = i })

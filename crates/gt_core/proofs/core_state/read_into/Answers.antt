@@ -1,4 +1,4 @@
-use Rattle.std.proofs.Common.{◌≡◌, ℕ, List, [], length, take, drop, Option, Some, None, sym, ap, ◌∙◌, subst}
+use Rattle.std.proofs.Common.{◌≡◌, length, take, drop, Option, Some, None, sym, ap, ◌∙◌, subst}
 use Rattle.gt_core.specs.States.{State, state_of}
 use Rattle.gt_core.specs.Effects.{frame_in}
 use Rattle.gt_core.proofs.Places.{found, not-found}

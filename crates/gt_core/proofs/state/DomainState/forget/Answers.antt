@@ -1,10 +1,10 @@
-use Rattle.std.proofs.Common.{◌≡◌, ◌<◌, ◌≤◌, ℕ, List, Vec, Global, length, map, sym, ap, ◌∙◌, arith, Option, Some, None}
+use Rattle.std.proofs.Common.{◌≡◌, ℕ, List, Vec, Global, map, sym, ap, ◌∙◌, Some, None}
 use Rattle.std.specs.Prelude.{position}
 use Rattle.gt_core.specs.declared.known.Mapping.{Mapping}
 use Rattle.gt_core.specs.declared.request.Holder.{Holder}
 use Rattle.gt_core.specs.declared.request.Holder.TheVariants.{Mapping as ByMapping}
 use Rattle.gt_core.specs.History.{is_handle}
-use Rattle.gt_core.specs.Effects.{without_mapping, less}
+use Rattle.gt_core.specs.Effects.{without_mapping}
 use Rattle.gt_core.proofs.Rows.{less-remove, less-nowhere, position-within}
 use Rattle.gt_core.proofs.state.DomainState.forget.Goals as goal
 

@@ -1,4 +1,4 @@
-use Rattle.std.proofs.Common.{◌≡◌, ◌≤◌, ℕ, List, Vec, Global, map, arith}
+use Rattle.std.proofs.Common.{◌≡◌, ℕ, Vec, Global, map, arith}
 use Rattle.gt_core.specs.declared.known.TheConstants.{ENTRIES}
 use Rattle.gt_core.proofs.Settling.{at-rest}
 use Rattle.gt_core.proofs.state.DomainState.new.Goals as goal

@@ -1,4 +1,4 @@
-use Rattle.std.proofs.Common.{◌≡◌, ◌≤◌, ℕ, Vec, Global, map, replicate, min}
+use Rattle.std.proofs.Common.{◌≡◌, ℕ, Vec, Global, map, replicate, min}
 use Rattle.gt_entry.specs.declared.entry.Entry.TheVariants.{Invalid}
 use Rattle.gt_core.proofs.state.DomainState.new.Given as goal
 

@@ -1,4 +1,4 @@
-use Rattle.std.proofs.Common.{◌≡◌, ℕ, ◌+◌, Result, Ok, Err, sym, ◌∙◌}
+use Rattle.std.proofs.Common.{◌≡◌, ℕ, ◌+◌, Result, Err, sym, ◌∙◌}
 use Rattle.gt_script.specs.Outcomes.{Adds, Says, on_line}
 use Rattle.gt_script.specs.Contents.{Contents}
 use Rattle.gt_script.specs.declared.faults.Fault.{Fault}

@@ -1,0 +1,18 @@
+-- Bytes laid over bytes.
+use Rattle.std.specs.Prelude.{◌≡◌, ℕ, ◌+◌, ◌<◌, ◌≤◌, List, ◌++◌, take, drop, length, replicate, slice_index}
+use Rattle.gt_types.specs.declared.limits.TheConstants.{FRAME_SIZE}
+
+-- the list with ys laid over it from off on (own)
+abbrev pub overlay : List ℕ → ℕ → List ℕ → List ℕ
+overlay xs off ys = take off xs ++ ys ++ drop (off + length ys) xs
+
+-- zs has ys from off on, and everywhere else what xs has: what an overlay is, byte by byte (own)
+pub record IsLaidOver (xs : List ℕ) (off : ℕ) (ys zs : List ℕ) : Type 0 where
+  pub len : length zs ≡ length xs
+  pub inside : (at : ℕ) → at < length ys → slice_index zs (off + at) ≡ slice_index ys at
+  pub before : (at : ℕ) → at < off → slice_index zs at ≡ slice_index xs at
+  pub after : (at : ℕ) → off + length ys ≤ at → slice_index zs at ≡ slice_index xs at
+
+-- the bytes of a frame that was never written (own)
+unfoldable pub zeros : List ℕ
+zeros = replicate FRAME_SIZE 0

@@ -1,0 +1,82 @@
+-- What a frame holds, and by what right each of its bytes was written.
+use Rattle.std.specs.Prelude.{◌≡◌, ℕ, ◌+◌, ◌==◌, Bool, true, ◌&&◌, nat_le, IsTrue, List, [], ◌∷◌, ◌++◌, length, slice_range}
+use Rattle.gt_types.specs.declared.DomId.{DomId}
+use Rattle.gt_types.specs.declared.limits.TheConstants.{FRAME_SIZE}
+use Rattle.gt_types.specs.declared.Dir.TheVariants.{Write}
+use Rattle.gt_types.specs.declared.Use.TheVariants.{Copy as ForCopy}
+use Rattle.gt_entry.specs.declared.entry.Entry.{Entry}
+use Rattle.gt_entry.specs.Permits.{permits, forwards, leads_to, is_of_frame}
+use Rattle.gt_frames.specs.declared.writ.Ground.{Ground}
+use Rattle.gt_frames.specs.declared.writ.Ground.TheVariants.{Owned, Granted, Forwarded}
+use Rattle.gt_frames.specs.declared.writ.Writ.{Writ}
+use Rattle.gt_frames.specs.declared.writ.Record.{Record}
+use Rattle.gt_frames.specs.Bytes.{overlay, IsLaidOver, zeros}
+
+-- a frame: its owner, its number among the owner's frames, and its writes, the oldest first (own)
+pub record FrameState : Type 0 where
+  pub owner : DomId
+  pub number : ℕ
+  pub journal : List Record
+
+-- bytes
+
+-- the list after these writes, the oldest first (own)
+abbrev pub replay : List ℕ → List Record → List ℕ
+replay xs [] = xs
+replay xs (r ∷ rs) = replay (overlay xs r.off r.bytes) rs
+
+-- the bytes of a frame: its journal replayed over zeros (own)
+abbrev pub contents : FrameState → List ℕ
+contents f = replay zeros f.journal
+
+-- the bytes of a range: so many from an offset on
+abbrev pub bytes_at : FrameState → ℕ → ℕ → List ℕ
+bytes_at f off len = slice_range (contents f) off (off + len)
+
+-- rights
+
+-- the entry permits the domain to write this range of this frame (own)
+abbrev pub permits_writing : Entry → DomId → ℕ → ℕ → ℕ → Bool
+permits_writing entry d number off len = is_of_frame entry number && permits entry d Write ForCopy off len
+
+-- the writer may write this range of this frame of the owner's by this ground (own)
+abbrev pub suffices : Ground → DomId → DomId → ℕ → ℕ → ℕ → Bool
+suffices Owned writer owner number off len = writer.0 == owner.0
+suffices (Granted entry) writer owner number off len = permits_writing entry writer number off len
+suffices (Forwarded via middle entry) writer owner number off len =
+    forwards via writer Write && leads_to via owner && permits_writing entry middle number off len
+
+-- the writ is for this range of this frame (own)
+abbrev pub covers : Writ → DomId → ℕ → ℕ → ℕ → Bool
+covers w owner number off len = suffices w.ground w.writer owner number off len
+
+-- the record lies in the frame, and its writ is for its range (own)
+abbrev pub is_rightful : DomId → ℕ → Record → Bool
+is_rightful owner number r = nat_le (r.off + length r.bytes) FRAME_SIZE && covers r.writ owner number r.off (length r.bytes)
+
+-- each record is so
+abbrev pub all_rightful : DomId → ℕ → List Record → Bool
+all_rightful owner number [] = true
+all_rightful owner number (r ∷ rs) = is_rightful owner number r && all_rightful owner number rs
+
+-- each write to the frame was by right (own)
+abbrev pub IsKept : FrameState → Type 0
+IsKept f = IsTrue (all_rightful f.owner f.number f.journal)
+
+-- these bytes are the journal's replay over zeros, and each write was by right
+pub record IsSound (owner : DomId) (number : ℕ) (bytes : List ℕ) (journal : List Record) : Type 0 where
+  pub replayed : bytes ≡ replay zeros journal
+  pub len : length bytes ≡ FRAME_SIZE
+  pub rightful : IsTrue (all_rightful owner number journal)
+
+-- changes
+
+-- the frame after one more write
+abbrev pub written : FrameState → Writ → ℕ → List ℕ → FrameState
+written f w off ys = record f { journal = f.journal ++ record { writ = w; off = off; bytes = ys } ∷ [] }
+
+-- the new frame is the old one after this write, which changed the bytes of its range and no others (own)
+pub record IsWrite (old new : FrameState) (w : Writ) (off : ℕ) (ys : List ℕ) : Type 0 where
+  pub journal : new ≡ written old w off ys
+  pub bytes : IsLaidOver (contents old) off ys (contents new)
+  pub contents : contents new ≡ overlay (contents old) off ys

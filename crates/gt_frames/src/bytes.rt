@@ -1,0 +1,34 @@
+ghost use Rattle.std.specs.Prelude.{◌≡◌};
+
+use std::marker::Model;
+
+/// Bytes on the heap, which contracts see as a list.
+#[derive(Drop)]
+pub struct Bytes {
+    items: Vec<u8>,
+}
+
+impl Model for Bytes {
+    ghost use Rattle.std.specs.Prelude.{List, ℕ};
+
+    ghost Value = { List ℕ };
+
+    ghost view = { λ b. b.items.items };
+}
+
+impl From<Vec<u8>> for Bytes {
+    ghost from_gives = { λ v b. b ≡ v.items };
+
+    fn from(items: Vec<u8>) -> Self {
+        Bytes { items }
+    }
+}
+
+impl Bytes {
+    /// Gives the bytes back.
+    pub fn into_vec(self) -> Vec<u8>
+        ensures { result.items ≡ self }
+    {
+        self.items
+    }
+}

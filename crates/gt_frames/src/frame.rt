@@ -1,0 +1,213 @@
+ghost use Rattle.std.specs.Prelude.{◌≡◌, ◌+◌, ◌≤◌, ◌++◌, [], ◌∷◌, length, vec_len, IsTrue, IfOk, OnOk, OnErr};
+ghost use Rattle.gt_frames.specs.Bytes.{overlay};
+
+use crate::receipts::CopyEnd;
+use crate::{Bytes, Copied, Read, Record, Writ, Written};
+use gt_types::{DomId, FRAME_SIZE, Memory};
+use std::alloc::Global;
+use std::marker::Model;
+
+/// A frame of 4,096 bytes, with all writes that were made to it.
+#[derive(Drop)]
+pub struct Frame {
+    alloc: Global,
+    owner: DomId,
+    number: u64,
+    bytes: Vec<u8>,
+    journal: Vec<Record>,
+}
+
+impl Model for Frame {
+    ghost use Rattle.gt_frames.specs.Frames.{FrameState, IsSound};
+
+    ghost Value = { FrameState };
+
+    ghost view = { λ f. record { owner = f.owner; number = f.number; journal = f.journal.items } };
+
+    ghost invariant = { λ f. IsSound f.owner f.number f.bytes.items f.journal.items };
+}
+
+// Adds a record to the journal, and lays its bytes over the contents. The bytes are the record's
+// own, so a source that overlaps the range written was read before it.
+fn store(
+    journal: &mut Vec<Record>,
+    contents: &mut Vec<u8>,
+    writ: &Writ,
+    off: u16,
+    bytes: Vec<u8>,
+) -> Result<(), Memory>
+    requires { off + vec_len bytes ≤ vec_len contents.old }
+    ensures journal { OnOk result (journal.new.items ≡ journal.old.items ++ record { writ = writ.now; off = off; bytes = bytes.items } ∷ []) }
+    ensures contents { OnOk result (contents.new.items ≡ overlay contents.old.items off bytes.items) }
+    ensures journal_kept { OnErr result (journal.new.items ≡ journal.old.items) }
+    ensures contents_kept { OnErr result (contents.new.items ≡ contents.old.items) }
+{
+    journal.reserve(1)?;
+    let start = usize::from(off);
+    let end = start + bytes.len();
+    contents[start..end].copy_from_slice(&bytes);
+    journal.push_reserved(Record {
+        writ: *writ,
+        off,
+        bytes: Bytes::from(bytes),
+    });
+    Ok(())
+}
+
+impl Frame {
+    ghost use Rattle.gt_frames.specs.Frames.{contents, bytes_at, covers, IsKept, IsWrite};
+
+    /// A frame of zeros, to which nothing was written.
+    pub fn new(alloc: Global, owner: DomId, number: u64) -> Result<Self, Memory>
+        ensures { IfOk result (λ f. f ≡ record { owner = owner; number = number; journal = [] }) }
+    {
+        Ok(Frame {
+            alloc,
+            owner,
+            number,
+            bytes: vec![in alloc; 0; FRAME_SIZE as usize]?,
+            journal: Vec::new(alloc),
+        })
+    }
+
+    /// Whose frame it is.
+    pub fn owner(&self) -> DomId
+        ensures owner { result ≡ self.now.owner }
+        ensures kept { IsKept self.now }
+        ensures len { length (contents self.now) ≡ FRAME_SIZE }
+    {
+        self.owner
+    }
+
+    /// Its number among the owner's frames.
+    pub fn number(&self) -> u64
+        ensures { result ≡ self.now.number }
+    {
+        self.number
+    }
+
+    /// Reads the bytes from the offset `off` on over all of `out`, whose length is the range's. It
+    /// takes no memory.
+    pub fn read(&self, off: u16, mut out: Vec<u8>) -> Read
+        requires { off + vec_len out ≤ FRAME_SIZE }
+        ensures { result ≡ record { owner = self.now.owner; number = self.now.number; off = off; bytes = bytes_at self.now off (vec_len out) } }
+    {
+        let start = usize::from(off);
+        let end = start + out.len();
+        out.copy_from_slice(&self.bytes[start..end]);
+        Read {
+            owner: self.owner,
+            number: self.number,
+            off,
+            bytes: Bytes::from(out),
+        }
+    }
+
+    /// Writes `bytes` from the offset `off` on. Where memory is refused nothing changes.
+    pub fn write<'a>(
+        &mut self,
+        writ: &Writ,
+        off: u16,
+        bytes: &'a [u8],
+    ) -> Result<Written<'a>, Memory>
+        requires range { off + length bytes.now ≤ FRAME_SIZE }
+        requires right { IsTrue (covers writ.now self.old.owner self.old.number off (length bytes.now)) }
+        ensures written { OnOk result (IsWrite self.old self.new writ.now off bytes.now) }
+        ensures receipt { IfOk result (λ r. r ≡ record {
+          owner = self.old.owner;
+          number = self.old.number;
+          off = off;
+          bytes = bytes.now;
+          writer = writ.now.writer;
+        }) }
+        ensures refused { OnErr result (self.new ≡ self.old) }
+    {
+        let kept = Vec::from_slice(self.alloc, bytes)?;
+        store(&mut self.journal, &mut self.bytes, writ, off, kept)?;
+        Ok(Written {
+            owner: self.owner,
+            number: self.number,
+            off,
+            bytes,
+            writer: writ.writer,
+        })
+    }
+
+    /// Copies `len` bytes of another frame. Where memory is refused nothing changes.
+    pub fn copy_between(
+        from: &Frame,
+        to: &mut Frame,
+        writ: &Writ,
+        from_off: u16,
+        to_off: u16,
+        len: u16,
+    ) -> Result<Copied, Memory>
+        requires source { from_off + len ≤ FRAME_SIZE }
+        requires dest { to_off + len ≤ FRAME_SIZE }
+        requires right { IsTrue (covers writ.now to.old.owner to.old.number to_off len) }
+        ensures written { OnOk result (IsWrite to.old to.new writ.now to_off (bytes_at from.now from_off len)) }
+        ensures receipt { IfOk result (λ r. r ≡ record {
+          source = record { owner = from.now.owner; number = from.now.number; off = from_off };
+          dest = record { owner = to.old.owner; number = to.old.number; off = to_off };
+          len = len;
+          writer = writ.now.writer;
+        }) }
+        ensures refused { OnErr result (to.new ≡ to.old) }
+    {
+        let start = usize::from(from_off);
+        let end = start + usize::from(len);
+        let kept = Vec::from_slice(to.alloc, &from.bytes[start..end])?;
+        store(&mut to.journal, &mut to.bytes, writ, to_off, kept)?;
+        Ok(Copied {
+            source: from.end(from_off),
+            dest: to.end(to_off),
+            len,
+            writer: writ.writer,
+        })
+    }
+
+    /// Copies `len` of its own bytes. The ranges may overlap: what is written is what the source
+    /// range held before. Where memory is refused nothing changes.
+    pub fn copy_within(
+        &mut self,
+        writ: &Writ,
+        from_off: u16,
+        to_off: u16,
+        len: u16,
+    ) -> Result<Copied, Memory>
+        requires source { from_off + len ≤ FRAME_SIZE }
+        requires dest { to_off + len ≤ FRAME_SIZE }
+        requires right { IsTrue (covers writ.now self.old.owner self.old.number to_off len) }
+        ensures written { OnOk result (IsWrite self.old self.new writ.now to_off (bytes_at self.old from_off len)) }
+        ensures receipt { IfOk result (λ r. r ≡ record {
+          source = record { owner = self.old.owner; number = self.old.number; off = from_off };
+          dest = record { owner = self.old.owner; number = self.old.number; off = to_off };
+          len = len;
+          writer = writ.now.writer;
+        }) }
+        ensures refused { OnErr result (self.new ≡ self.old) }
+    {
+        let start = usize::from(from_off);
+        let end = start + usize::from(len);
+        let kept = Vec::from_slice(self.alloc, &self.bytes[start..end])?;
+        store(&mut self.journal, &mut self.bytes, writ, to_off, kept)?;
+        Ok(Copied {
+            source: self.end(from_off),
+            dest: self.end(to_off),
+            len,
+            writer: writ.writer,
+        })
+    }
+
+    fn end(&self, off: u16) -> CopyEnd
+        ensures owner { result.owner ≡ self.now.owner }
+        ensures number { result.number ≡ self.now.number }
+        ensures off { result.off ≡ off }
+    {
+        CopyEnd {
+            owner: self.owner,
+            number: self.number,
+            off,
+        }
+    }
+}

@@ -1,0 +1,81 @@
+//! Receipts of accesses. Only the calls of a frame make them, and none can be cloned.
+ghost use Rattle.std.specs.Prelude.{◌≡◌};
+
+use crate::Bytes;
+use gt_types::DomId;
+use std::marker::Model;
+
+/// Bytes that were read from a frame: its owner and number, the offset of the first byte, the bytes.
+#[derive(Drop)]
+pub struct Read {
+    pub(crate) owner: DomId,
+    pub(crate) number: u64,
+    pub(crate) off: u16,
+    pub(crate) bytes: Bytes,
+}
+
+impl Model for Read {
+    ghost use Rattle.gt_frames.specs.Receipts.{Reading};
+
+    ghost Value = { Reading };
+
+    ghost view = { λ r. record { owner = r.owner; number = r.number; off = r.off; bytes = r.bytes } };
+}
+
+impl Read {
+    /// The bytes read.
+    pub fn into_bytes(self) -> Vec<u8>
+        ensures { result.items ≡ self.bytes }
+    {
+        self.bytes.into_vec()
+    }
+}
+
+/// Bytes that were written to a frame: its owner and number, the offset of the first byte, the
+/// bytes, and the writer.
+#[derive(Drop)]
+pub struct Written<'a> {
+    pub(crate) owner: DomId,
+    pub(crate) number: u64,
+    pub(crate) off: u16,
+    pub(crate) bytes: &'a [u8],
+    pub(crate) writer: DomId,
+}
+
+impl<'a> Model for Written<'a> {
+    ghost use Rattle.gt_frames.specs.Receipts.{Writing};
+
+    ghost Value = { Writing };
+
+    ghost view = { λ r. record { owner = r.owner; number = r.number; off = r.off; bytes = r.bytes.now; writer = r.writer } };
+}
+
+/// One end of a copy.
+#[derive(Clone, Copy, Debug)]
+pub(crate) struct CopyEnd {
+    pub(crate) owner: DomId,
+    pub(crate) number: u64,
+    pub(crate) off: u16,
+}
+
+/// Bytes that were copied: the frame and offset of each end, how many bytes, and the writer.
+#[derive(Drop)]
+pub struct Copied {
+    pub(crate) source: CopyEnd,
+    pub(crate) dest: CopyEnd,
+    pub(crate) len: u16,
+    pub(crate) writer: DomId,
+}
+
+impl Model for Copied {
+    ghost use Rattle.gt_frames.specs.Receipts.{Copying};
+
+    ghost Value = { Copying };
+
+    ghost view = { λ r. record {
+      source = record { owner = r.source.owner; number = r.source.number; off = r.source.off };
+      dest = record { owner = r.dest.owner; number = r.dest.number; off = r.dest.off };
+      len = r.len;
+      writer = r.writer;
+    } };
+}

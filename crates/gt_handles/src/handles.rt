@@ -1,0 +1,183 @@
+ghost use Rattle.std.specs.Prelude.{◌≡◌, ◌+◌, ◌<◌, ◌≤◌, ◌^◌, ◌==◌, IsOk, IsSome, IfSome, IfNone, OnOk, OnSome, Some, None, option_copied, slice_index_or};
+
+use gt_types::Memory;
+use slab::Slab;
+use std::alloc::Global;
+use std::marker::Model;
+
+/// The name of a value: its serial is given once, its key may serve again. (own)
+#[derive(Clone, Copy, Debug, PartialEq, Eq)]
+pub struct Handle {
+    pub serial: u64,
+    pub key: usize,
+}
+
+/// A value with the serial that it was given.
+#[derive(Drop)]
+pub struct Slot<T> {
+    pub serial: u64,
+    pub value: T,
+}
+
+/// A finite map from handles to values, with the count of the serials given. (own)
+#[derive(Drop)]
+pub struct Handles<T> {
+    slab: Slab<Slot<T>>,
+    given: u64,
+    // No key below it has a value. So a walk of `pop`s looks at each key once.
+    lowest: usize,
+}
+
+impl<T> Model for Handles<T> {
+    ghost use Rattle.std.specs.Prelude.{◌-◌};
+    ghost use Rattle.slab.specs.Slab.{slab_len};
+    ghost use Rattle.gt_handles.specs.Handles.{Kept, kept_code, IsInOrder};
+
+    ghost Value = { Kept T };
+
+    ghost coded = { kept_code T.code };
+
+    ghost view = { λ h. record { slots = h.slab.slots; given = h.given; room = h.slab.capacity - slab_len h.slab } };
+
+    ghost invariant = { λ h. IsInOrder h.slab.slots h.given h.lowest };
+}
+
+impl<T> Handles<T> {
+    ghost use Rattle.std.specs.Prelude.{[]};
+    ghost use Rattle.gt_handles.specs.Handles.{value_of, count_of, Updates, IsSpent, KeepsSpent, IsLeast, IsEmpty, IsSound};
+
+    /// No values yet, and no serial given. It takes no memory.
+    pub fn new(alloc: Global) -> Self
+        ensures { result ≡ record { slots = []; given = 0; room = 0 } }
+    {
+        Handles {
+            slab: Slab::new(alloc),
+            given: 0,
+            lowest: 0,
+        }
+    }
+
+    /// Makes room for one more value. Where memory is refused the map stays as it was.
+    pub fn reserve(&mut self) -> Result<(), Memory>
+        ensures room { OnOk result (1 ≤ self.new.room) }
+        ensures succeeds { 1 ≤ self.old.room → IsOk result }
+        ensures grows { self.old.room ≤ self.new.room }
+        ensures kept { self.new ≡ record self.old { room = self.new.room } }
+    {
+        self.slab.reserve(1)?;
+        Ok(())
+    }
+
+    /// Keeps a value under a new handle, whose serial is the number of serials given before. The
+    /// caller has reserved room, and a serial is left.
+    pub fn insert(&mut self, value: T) -> Handle
+        requires room { 1 ≤ self.old.room }
+        requires serial { self.old.given + 1 < 2 ^ 64 }
+        ensures serial { result.serial ≡ self.old.given }
+        ensures given { self.new.given ≡ self.old.given + 1 }
+        ensures updates { Updates self.old self.new result (Some value) }
+        ensures count { count_of self.new ≡ count_of self.old + 1 }
+        ensures room { self.new.room + 1 ≡ self.old.room }
+        ensures spent { KeepsSpent self.old self.new }
+    {
+        let serial = self.given;
+        self.given += 1;
+        let key = self.slab.insert_reserved(Slot { serial, value });
+        if key < self.lowest {
+            self.lowest = key;
+        }
+        Handle { serial, key }
+    }
+
+    /// The value under a handle; `None` where it was never given here, or was taken.
+    pub fn get(&self, handle: Handle) -> Option<&T>
+        ensures value { option_copied result ≡ value_of self.now handle }
+        ensures sound { IsSound self.now }
+    {
+        match self.slab.get(handle.key) {
+            Some(slot) if slot.serial == handle.serial => Some(&slot.value),
+            _ => None,
+        }
+    }
+
+    /// Takes the value under a handle out; `None`, and nothing changes, where there is none.
+    pub fn take(&mut self, handle: Handle) -> Option<T>
+        ensures value { result ≡ value_of self.old handle }
+        ensures updates { Updates self.old self.new handle None }
+        ensures given { self.new.given ≡ self.old.given }
+        ensures count { OnSome result (count_of self.new + 1 ≡ count_of self.old) }
+        ensures room { OnSome result (self.new.room ≡ self.old.room + 1) }
+        ensures absent { IfNone result (self.new ≡ self.old) }
+        ensures spent { OnSome result (IsSpent self.new handle) }
+        ensures still_spent { KeepsSpent self.old self.new }
+    {
+        match self.slab.get(handle.key) {
+            Some(slot) if slot.serial == handle.serial => {}
+            _ => return None,
+        }
+        let slot = self.slab.remove(handle.key);
+        Some(slot.value)
+    }
+
+    /// Takes the value with the least key out; `None` where there is no value.
+    pub fn pop(&mut self) -> Option<(Handle, T)>
+        ensures value { IfSome result (λ r. value_of self.old r.0 ≡ Some r.1) }
+        ensures least { IfSome result (λ r. IsLeast self.old r.0.key) }
+        ensures updates { IfSome result (λ r. Updates self.old self.new r.0 None) }
+        ensures given { self.new.given ≡ self.old.given }
+        ensures count { OnSome result (count_of self.new + 1 ≡ count_of self.old) }
+        ensures room { OnSome result (self.new.room ≡ self.old.room + 1) }
+        ensures spent { IfSome result (λ r. IsSpent self.new r.0) }
+        ensures still_spent { KeepsSpent self.old self.new }
+        ensures empty { IfNone result (IsEmpty self.old) }
+        ensures absent { IfNone result (self.new ≡ self.old) }
+    {
+        let key = self.least_key()?;
+        let slot = self.slab.remove(key);
+        self.lowest = key;
+        let handle = Handle {
+            serial: slot.serial,
+            key,
+        };
+        Some((handle, slot.value))
+    }
+
+    // The least key that has a value.
+    fn least_key(&self) -> Option<usize>
+        ensures found { IfSome result (λ key. IsSome (slice_index_or self.now.slots key None)) }
+        ensures least { IfSome result (λ key. IsLeast self.now key) }
+        ensures empty { IfNone result (IsEmpty self.now) }
+    {
+        if self.slab.is_empty() {
+            return None;
+        }
+        for key in self.lowest..self.slab.capacity() {
+            if self.slab.contains(key) {
+                return Some(key);
+            }
+        }
+        None
+    }
+
+    /// How many values there are.
+    pub fn len(&self) -> usize
+        ensures { result ≡ count_of self.now }
+    {
+        self.slab.len()
+    }
+
+    /// Whether there is no value.
+    pub fn is_empty(&self) -> bool
+        ensures { result ≡ (count_of self.now == 0) }
+    {
+        self.len() == 0
+    }
+
+    /// How many serials were given.
+    pub fn given(&self) -> u64
+        ensures value { result ≡ self.now.given }
+        ensures sound { IsSound self.now }
+    {
+        self.given
+    }
+}

@@ -1,0 +1,34 @@
+-- Which texts are policies, and what they mean, without a reader.
+use Rattle.std.specs.Prelude.{◌≡◌, ℕ, ◌≤◌, List, [], ◌∷◌, length, Result, Err}
+use Rattle.gt_policy.specs.declared.fault.Fault.{Fault}
+use Rattle.gt_policy.specs.declared.statements.Statement.{Statement}
+use Rattle.gt_policy.specs.Lexing.{lexemes_of}
+use Rattle.gt_policy.specs.Grammar.{Lexemes, statement}
+use Rattle.gt_policy.specs.Spelling.{SpellsStatement, SpellsText, AreClean, names_of}
+use Rattle.gt_policy.specs.Allowing.{Meaning}
+use Rattle.gt_policy.specs.Resolving.{resolved, nothing_given}
+use Rattle.gt_policy.specs.Whole.{meaning_of}
+
+-- The text is no longer than a policy may be, and its tokens are the spellings of these statements, which declare no name twice and stay within the limits. (SELinux policy language; limits own)
+pub record IsWritten (text : List ℕ) (ss : List Statement) : Type 0 where
+  pub short : length text ≤ 1048576
+  pub spelled : SpellsText ss (lexemes_of text)
+  pub clean : AreClean ss
+
+-- what such statements mean: a policy, or the first name in them that stands for nothing
+abbrev pub meant_by : List Statement → Result Meaning Fault
+meant_by ss = meaning_of (names_of ss) (resolved (names_of ss) nothing_given ss)
+
+-- statements up to a token, with what is behind them
+pub data SpellsFront : List Statement → Lexemes → Lexemes → Type 0 where
+  front_end : (rest : Lexemes) → SpellsFront [] rest rest
+  front_more : (s : Statement) (ss : List Statement) (ls behind rest : Lexemes) → SpellsStatement s ls behind → SpellsFront ss behind rest → SpellsFront (s ∷ ss) ls rest
+
+-- The first statement that is none: clean statements stand before it, and it has this fault at its first token that fits nowhere. (own)
+pub record IsBroken (text : List ℕ) (f : Fault) : Type 0 where
+  pub before : List Statement
+  pub rest : Lexemes
+  pub short : length text ≤ 1048576
+  pub spelled : SpellsFront before (lexemes_of text) rest
+  pub clean : AreClean before
+  pub fault : statement (names_of before) rest ≡ Err f

@@ -1,0 +1,58 @@
+//! What the definitions of the language come to.
+ghost use Rattle.std.specs.Prelude.{◌≡◌, ◌<◌, ◌⊎◌, ◌&&◌, List, ℕ, Result, Ok, Err, Some, length};
+ghost use Rattle.gt_policy.specs.Accepting.{IsWritten, IsBroken, meant_by};
+ghost use Rattle.gt_policy.specs.Allowing.{Meaning, type_named, is_allowed, lists_perm};
+ghost use Rattle.gt_policy.specs.Grammar.{at, permission_of};
+ghost use Rattle.gt_policy.specs.Granting.{is_granted, lists_word};
+ghost use Rattle.gt_policy.specs.Resolving.{granted, has_grant};
+ghost use Rattle.gt_policy.specs.Whole.{Says};
+ghost use Rattle.gt_policy.specs.declared.fault.Fault.{Fault};
+ghost use Rattle.gt_policy.specs.declared.fault.Kind.{Kind};
+ghost use Rattle.gt_policy.specs.declared.statements.Permissions.{Permissions};
+ghost use Rattle.gt_policy.specs.declared.statements.Statement.{Statement};
+ghost use Rattle.gt_types.specs.declared.TypeId.{TypeId};
+ghost use Rattle.gt_types.specs.declared.perms.Perms.{Perms};
+
+/// Every text says something: a policy or a fault.
+pub fn every_text_says_something()
+    ensures { (text : List ℕ) → (said : Result Meaning Fault) × Says text said }
+{}
+
+/// A text says one thing: a policy or a fault, and one alone.
+pub fn one_meaning()
+    ensures { (text : List ℕ) (one other : Result Meaning Fault) →
+        Says text one → Says text other → one ≡ other }
+{}
+
+/// A text is a policy exactly where its tokens are spelled by clean statements whose names all stand
+/// for something, and it then means what they mean. Where a name of such statements stands for
+/// nothing, the text says which is the first.
+pub fn written_texts()
+    ensures accepted { (text : List ℕ) (m : Meaning) → Says text (Ok m) →
+        (ss : List Statement) × IsWritten text ss × (meant_by ss ≡ Ok m) }
+    ensures written { (text : List ℕ) (ss : List Statement) →
+        IsWritten text ss → Says text (meant_by ss) }
+{}
+
+/// The fault of a text is that it is too long, or that of its first statement that is none, or that
+/// of the first name that stands for nothing in a text of clean statements.
+pub fn first_faults()
+    ensures faulty { (text : List ℕ) (f : Fault) → Says text (Err f) →
+        ((1048576 < length text) × (at 1 Kind.Limit ≡ f))
+        ⊎ (IsBroken text f
+        ⊎ ((ss : List Statement) × IsWritten text ss × (meant_by ss ≡ Err f))) }
+    ensures broken { (text : List ℕ) (f : Fault) → IsBroken text f → Says text (Err f) }
+{}
+
+/// A policy allows what the statements of its text grant, by the names that stand in them: some allow
+/// statement whose classes hold `grant` lists the permission or `*`, its source set holds the source,
+/// and its target set holds the target, or says `self` and the two are one. The bits that a statement
+/// grants are those of the words that it lists.
+pub fn granted_by_statements()
+    ensures allowed { (ss : List Statement) (m : Meaning) (s t w : List ℕ) (i j : TypeId) (perm : Perms) →
+        meant_by ss ≡ Ok m → type_named m.types s ≡ Some i → type_named m.types t ≡ Some j →
+        permission_of w ≡ Some perm → is_allowed m i.0 j.0 perm ≡ is_granted ss s t w }
+    ensures listed { (classes : List (List ℕ)) (perms : Permissions) (w : List ℕ) (perm : Perms) →
+        permission_of w ≡ Some perm →
+        lists_perm (granted classes perms) perm ≡ (has_grant classes && lists_word perms w) }
+{}

@@ -1,0 +1,145 @@
+//! Allow statements, with their sets as sets of types.
+ghost use Rattle.std.specs.Prelude.{◌≡◌, ℕ, IfOk};
+ghost use Rattle.std.specs.List.{list_any};
+ghost use Rattle.gt_types.specs.declared.perms.Perms.{Perms};
+ghost use Rattle.gt_policy.specs.Allowing.{was_given, stands_for, is_with, is_without, holds_type, says_itself, is_granted_by, grants, some_grants};
+ghost use Rattle.gt_policy.specs.Members.{has};
+ghost use Rattle.gt_policy.specs.TypeSets.{holds};
+
+use crate::resolve::{DraftRule, Element, Given};
+use crate::symbols::Symbol;
+use crate::types::TypeSet;
+use bitflags::Flags;
+use gt_types::{Perms, TypeId};
+use std::alloc::{AllocError, Global};
+
+/// The permissions that the types of a set have on those of another.
+#[derive(Clone, Copy, Debug, PartialEq, Eq)]
+pub struct Rule {
+    pub source: TypeSet,
+    pub target: TypeSet,
+    /// Whether each source has them on itself too.
+    pub itself: bool,
+    pub perms: Perms,
+}
+
+impl Rule {
+    /// Whether the source has the permission on the target.
+    pub fn grants(&self, source: TypeId, target: TypeId, perm: Perms) -> bool
+        ensures { result ≡ grants self.now source.0 target.0 perm }
+    {
+        self.perms.contains(perm)
+            && self.source.contains(source)
+            && (self.target.contains(target) || (self.itself && target == source))
+    }
+
+    /// The types on which the source has the permission.
+    pub fn targets(&self, source: TypeId, perm: Perms) -> TypeSet
+        ensures { (t : ℕ) → holds result t ≡ grants self.now source.0 t perm }
+    {
+        if !self.perms.contains(perm) || !self.source.contains(source) {
+            return TypeSet::empty();
+        }
+        if self.itself {
+            self.target.with(source.0 as u8)
+        } else {
+            self.target
+        }
+    }
+}
+
+fn says_itself(set: &[Element]) -> bool
+    ensures { result ≡ says_itself set.now }
+{
+    set.iter().any(|e| matches!(e, Element::Itself))
+}
+
+/// The types of each attribute, by its number.
+#[derive(Debug, Drop)]
+pub struct Members {
+    sets: [TypeSet; 256],
+}
+
+impl Members {
+    /// The types that were given each attribute.
+    pub fn new(given: &[Given]) -> Members
+        ensures { (a n : ℕ) → has result a n ≡ was_given given.now a n }
+    {
+        let mut sets = [TypeSet::empty(); 256];
+        for g in given {
+            let a = g.attribute as usize;
+            sets[a] = sets[a].with(g.to);
+        }
+        Members { sets }
+    }
+
+    // The types that a name stands for.
+    fn named(&self, symbol: Symbol) -> TypeSet
+        ensures { (n : ℕ) → holds result n ≡ stands_for (has self.now) symbol n }
+    {
+        match symbol {
+            Symbol::IsType(id) => TypeSet::empty().with(id),
+            Symbol::IsAttribute(a) => self.sets[a as usize],
+        }
+    }
+
+    // The types that an item of a set adds to it.
+    fn included(&self, element: Element) -> TypeSet
+        ensures { (n : ℕ) → holds result n ≡ is_with (has self.now) element n }
+    {
+        match element {
+            Element::With(symbol) => self.named(symbol),
+            Element::Without(_) => TypeSet::empty(),
+            Element::Itself => TypeSet::empty(),
+        }
+    }
+
+    // The types that an item of a set takes from it.
+    fn excluded(&self, element: Element) -> TypeSet
+        ensures { (n : ℕ) → holds result n ≡ is_without (has self.now) element n }
+    {
+        match element {
+            Element::With(_) => TypeSet::empty(),
+            Element::Without(symbol) => self.named(symbol),
+            Element::Itself => TypeSet::empty(),
+        }
+    }
+
+    // The types of a set: what is taken is taken from all, whatever the order of the items.
+    fn types_of(&self, set: &[Element]) -> TypeSet
+        ensures { (n : ℕ) → holds result n ≡ holds_type (has self.now) set.now n }
+    {
+        let mut with = TypeSet::empty();
+        let mut without = TypeSet::empty();
+        for element in set {
+            with = with.union(self.included(*element));
+            without = without.union(self.excluded(*element));
+        }
+        with.without(without)
+    }
+
+    fn rule(&self, draft: &DraftRule) -> Rule
+        ensures { (s t : ℕ) (perm : Perms) →
+            grants result s t perm ≡ is_granted_by (has self.now) s t perm draft.now }
+    {
+        Rule {
+            source: self.types_of(draft.source.as_slice()),
+            target: self.types_of(draft.target.as_slice()),
+            itself: says_itself(draft.target.as_slice()),
+            perms: draft.perms,
+        }
+    }
+
+    /// The allow statements, with their sets as sets of types.
+    pub fn rules(&self, alloc: Global, drafts: &[DraftRule]) -> Result<Vec<Rule>, AllocError>
+        ensures { IfOk result (λ rules. (s t : ℕ) (perm : Perms) →
+            some_grants rules.items s t perm
+            ≡ list_any (λ draft. is_granted_by (has self.now) s t perm draft) drafts.now) }
+    {
+        let mut rules = Vec::new(alloc);
+        for draft in drafts {
+            rules.push(self.rule(draft))?;
+        }
+        Ok(rules)
+    }
+}

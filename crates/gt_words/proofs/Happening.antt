@@ -1,0 +1,73 @@
+-- A step on an entry takes the state that words and views show to the one that its event gives.
+use Rattle.std.proofs.Common.{◌≡◌, ◌≢◌, ℕ, Bool, true, false, cond, ◌==◌, ◌&&◌, List, [], ◌∷◌, map, get_or, set, sym, refl, ap, ◌∙◌, subst, eq-eqb, ne_eqb}
+use mathlib.Core.Option.{some}
+use mathlib.Core.Logic.{dite}
+use native.Mathlib.Decide.{ℕ_discrete}
+use lib.ListN.{get_elem?}
+use lib.Seq.{map-set}
+use Rattle.atomic_table.specs.Table.{State, stepped, keeps}
+use Rattle.atomic_table.proofs.Lists.{at_map, set_again}
+use Rattle.gt_words.proofs.Lifts.{added, apart_test, map_else, map_here}
+use Rattle.gt_words.proofs.Lists.{whose_at, whose_here}
+use Rattle.gt_words.proofs.OneEntry.{same_owner}
+use Rattle.gt_words.specs.Events.{Happens, IsByOwner, entry_after, entry_by, event_on_entry, shown_entry}
+use Rattle.gt_words.specs.Rule.{Layout, header_now, owner_steps}
+use Rattle.gt_words.specs.Steps.{on_entry}
+use Rattle.gt_words.specs.Views.{LivePin, last_record, pins, steps_on, steps_on_header, stored_body, without_pin}
+use Rattle.gt_words.specs.declared.view.EntryStep.{EntryStep}
+use Rattle.gt_words.specs.declared.view.EntryStep.TheVariants.{ChangeMissed, Changed, Looked, PinMissed, Pinned, ReadBody, StoredBody, Unpinned}
+use Rattle.gt_words.specs.declared.view.Half.TheVariants.{First, Second}
+use Rattle.gt_words.specs.declared.view.View.{View}
+
+module _ (g t : ℕ) (hs : List (List EntryStep)) (i : ℕ) (h : List EntryStep) (at : get_elem? hs i ≡ some h) where
+  live_here : (m : EntryStep) → map pins (set hs i (m ∷ h)) ≡ set (map pins hs) i (pins (m ∷ h))
+  live_here m = map-set pins hs i (m ∷ h)
+
+  live_same : (m : EntryStep) → pins (m ∷ h) ≡ pins h → map pins (set hs i (m ∷ h)) ≡ map pins hs
+  live_same m e = live_here m ∙ (ap (set (map pins hs) i) e ∙ set_again (map pins hs) i (pins h) (at_map pins hs i h at))
+
+  live_is : get_or (map pins hs) i [] ≡ pins h
+  live_is = whose_at (map pins hs) i (pins h) (at_map pins hs i h at)
+
+  plain : (m : EntryStep) → last_record g (m ∷ h) ≡ last_record g h → stored_body First (m ∷ h) ≡ stored_body First h → stored_body Second (m ∷ h) ≡ stored_body Second h → (l : List (List LivePin)) → map pins (set hs i (m ∷ h)) ≡ l
+      → entry_by g t (set hs i (m ∷ h)) ≡ record (entry_by g t hs) { live = l }
+  plain m a b c l e = λ j. record { current = same_owner g t hs i h at (last_record g) m a j; first = same_owner g t hs i h at (stored_body First) m b j; second = same_owner g t hs i h at (stored_body Second) m c j; live = e j }
+
+  owned : (m : EntryStep) → i ≡ t → pins (m ∷ h) ≡ pins h
+      → entry_by g t (set hs i (m ∷ h)) ≡ record { current = last_record g (m ∷ h); first = stored_body First (m ∷ h); second = stored_body Second (m ∷ h); live = map pins hs }
+  owned m e p = let o : owner_steps t (set hs i (m ∷ h)) ≡ m ∷ h = subst (λ (u : ℕ). owner_steps u (set hs i (m ∷ h)) ≡ m ∷ h) e (whose_here hs i h (m ∷ h) at) in
+      λ j. record { current = last_record g (o j); first = stored_body First (o j); second = stored_body Second (o j); live = live_same m p j }
+
+  mine_is : i ≡ t → h ≡ owner_steps t hs
+  mine_is e = sym (whose_at hs t h (subst (λ (u : ℕ). get_elem? hs u ≡ some h) e at))
+
+  -- on the entry itself
+  happens_here : (m : EntryStep) → IsByOwner i t m → entry_by g t (set hs i (m ∷ h)) ≡ entry_after i m (entry_by g t hs)
+  happens_here (Looked n) may = plain (Looked n) refl refl refl (map pins hs) (live_same (Looked n) refl)
+  happens_here (ReadBody p n) may = plain (ReadBody p n) refl refl refl (map pins hs) (live_same (ReadBody p n) refl)
+  happens_here (PinMissed d e n) may = plain (PinMissed d e n) refl refl refl (map pins hs) (live_same (PinMissed d e n) refl)
+  happens_here (ChangeMissed c e n) may = plain (ChangeMissed c e n) refl refl refl (map pins hs) (live_same (ChangeMissed c e n) refl)
+  happens_here (Pinned d e y) may = plain (Pinned d e y) refl refl refl (set (map pins hs) i ((d, y) ∷ get_or (map pins hs) i [])) (live_here (Pinned d e y) ∙ ap (λ (l : List LivePin). set (map pins hs) i ((d, y) ∷ l)) (sym live_is))
+  happens_here (Unpinned d n) may = plain (Unpinned d n) refl refl refl (set (map pins hs) i (without_pin d n (get_or (map pins hs) i []))) (live_here (Unpinned d n) ∙ ap (λ (l : List LivePin). set (map pins hs) i (without_pin d n l)) (sym live_is))
+  happens_here (StoredBody First n) may = owned (StoredBody First n) may refl ∙ (λ j. record { current = last_record g (mine_is may j); first = n; second = stored_body Second (mine_is may j); live = map pins hs })
+  happens_here (StoredBody Second n) may = owned (StoredBody Second n) may refl ∙ (λ j. record { current = last_record g (mine_is may j); first = stored_body First (mine_is may j); second = n; live = map pins hs })
+  happens_here (Changed c e n y) may = owned (Changed c e n y) may refl ∙ (λ j. record { current = y; first = stored_body First (mine_is may j); second = stored_body Second (mine_is may j); live = map pins hs })
+
+module _ {S : Type 0} (k : Layout) (s : State S View) (id : ℕ) (v : View) (at : get_elem? s.views id ≡ some v) where
+  -- a step on an entry
+  pub entry_happens : (t r : ℕ) (m : EntryStep) (word y : ℕ) → IsByOwner id t m → Happens k id (on_entry t r m) s (stepped s word y id [] (added t r m v) keeps)
+  entry_happens t r m word y may = record {
+    entries = λ t' r'. dite (ℕ_discrete t t') (λ e. dite (ℕ_discrete r r') (λ f. same t' r' e f) (λ f. else t' r' (λ _ g. f g))) (λ e. else t' r' (λ g _. e g));
+    headers = λ t'. ap (header_now k t') (map-set (steps_on_header t') s.views id (added t r m v) ∙ set_again (map (steps_on_header t') s.views) id (steps_on_header t' v) (at_map (steps_on_header t') s.views id v at));
+  }
+    where
+      here : entry_by k.first t (map (steps_on t r) (set s.views id (added t r m v))) ≡ entry_after id m (shown_entry k t r s)
+      here = ap (entry_by k.first t) (map_here s id v t r m at) ∙ happens_here k.first t (map (steps_on t r) s.views) id (steps_on t r v) (at_map (steps_on t r) s.views id v at) m may
+
+      same : (t' r' : ℕ) → t ≡ t' → r ≡ r' → entry_by k.first t' (map (steps_on t' r') (set s.views id (added t r m v))) ≡ event_on_entry id (on_entry t r m) t' r' (shown_entry k t' r' s)
+      same t' r' e f = subst (λ (z : ℕ × ℕ). entry_by k.first z.0 (map (steps_on z.0 z.1) (set s.views id (added t r m v))) ≡ entry_after id m (shown_entry k z.0 z.1 s)) (λ i. (e i, f i)) here
+          ∙ ap (λ (b : Bool). cond b (entry_after id m (shown_entry k t' r' s)) (shown_entry k t' r' s)) (sym (let b : ((t == t') && (r == r')) ≡ true = λ i. eq-eqb t t' e i && eq-eqb r r' f i in b))
+
+      else : (t' r' : ℕ) → (t ≡ t' → r ≡ r' → ⊥) → entry_by k.first t' (map (steps_on t' r') (set s.views id (added t r m v))) ≡ event_on_entry id (on_entry t r m) t' r' (shown_entry k t' r' s)
+      else t' r' n = ap (entry_by k.first t') (map_else s id v t r m at t' r' n)
+          ∙ ap (λ (b : Bool). cond b (entry_after id m (shown_entry k t' r' s)) (shown_entry k t' r' s)) (sym (apart_test t r t' r' n))

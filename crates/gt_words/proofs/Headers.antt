@@ -1,0 +1,144 @@
+-- Steps on a header word keep the rule, and take the shown state to the one that their event gives.
+use Rattle.std.proofs.Common.{◌≡◌, ◌≢◌, ◌⊎◌, inl, inr, ⊎_elim, ℕ, zero, suc, ◌<◌, Bool, true, false, cond, ◌==◌, List, [], ◌∷◌, map, get_or, set, sym, refl, ap, ◌∙◌, subst, arith, length-set, get_or-set_other, get_or-set_same, eq-eqb, ne_eqb}
+use mathlib.Core.Option.{some, none}
+use mathlib.Core.Logic.{dite}
+use native.Mathlib.Decide.{ℕ_discrete}
+use lib.ListN.{get_elem?}
+use lib.Seq.{map-set}
+use Rattle.atomic_table.specs.Table.{State, Me, step, stepped, keeps, Allows}
+use Rattle.atomic_table.proofs.Lists.{at_set, set_again, at_map}
+use Rattle.gt_words.proofs.Lists.{whose_at, whose_here}
+use Rattle.gt_words.proofs.OneEntry.{mine}
+use Rattle.gt_words.proofs.Owed.{stored_owes}
+use Rattle.gt_words.specs.Conditions.{AddsToHeader, HeaderSteps, StoresHeader}
+use Rattle.gt_words.specs.Events.{Happens, HeaderByOwner, entry_by, event_on_header, header_after, shown_header}
+use Rattle.gt_words.specs.Rule.{IsHeader, Layout, Shows, ShowsEntry, header_now, header_place, place}
+use Rattle.gt_words.specs.Steps.{looking_at_header, on_header, storing_header, tells, tells_stored}
+use Rattle.gt_words.specs.Views.{own, own_header, pins, steps_on, steps_on_header, stored_header, with_step}
+use Rattle.gt_words.specs.declared.view.EntryStep.{EntryStep}
+use Rattle.gt_words.specs.declared.view.HeaderStep.{HeaderStep}
+use Rattle.gt_words.specs.declared.view.View.{View}
+use Rattle.gt_words.specs.declared.view.HeaderStep.TheVariants as header
+
+header_here : (t : ℕ) (m : HeaderStep) (v : View) → steps_on_header t (with_step (on_header t m) v) ≡ m ∷ steps_on_header t v
+header_here t m v = ap (λ (b : Bool). cond b (m ∷ steps_on_header t v) (steps_on_header t v)) (eq-eqb t t refl)
+
+header_else : (t : ℕ) (m : HeaderStep) (v : View) (u : ℕ) → t ≢ u → steps_on_header u (with_step (on_header t m) v) ≡ steps_on_header u v
+header_else t m v u n = ap (λ (b : Bool). cond b (m ∷ steps_on_header u v) (steps_on_header u v)) (ne_eqb t u n)
+
+-- the header after a step of the seat i, whose steps on it were h
+header_now-set : (k : Layout) (t : ℕ) (hs : List (List HeaderStep)) (i : ℕ) (h : List HeaderStep) (m : HeaderStep) → get_elem? hs i ≡ some h → HeaderByOwner i t m → header_now k t (set hs i (m ∷ h)) ≡ header_after m (header_now k t hs)
+header_now-set k t hs i h (header.Looked n) at own = let w : ℕ = get_or k.headers t 0 in let m : HeaderStep = header.Looked n in dite (ℕ_discrete t i)
+    (λ e. subst (λ (z : ℕ). stored_header w (get_or (set hs i (m ∷ h)) z []) ≡ stored_header w (get_or hs z [])) (sym e) (ap (stored_header w) (whose_here hs i h (m ∷ h) at) ∙ sym (ap (stored_header w) (whose_at hs i h at))))
+    (λ ne. ap (stored_header w) (get_or-set_other hs i t (m ∷ h) [] ne))
+header_now-set k t hs i h (header.Stored n) at own = let m : HeaderStep = header.Stored n in
+    ap (stored_header (get_or k.headers t 0)) (subst (λ (z : ℕ). get_or (set hs i (m ∷ h)) z [] ≡ m ∷ h) own (whose_here hs i h (m ∷ h) at))
+
+module _ {S : Type 0} (k : Layout) (s : State S View) (id : ℕ) (v : View) (t : ℕ) (m : HeaderStep) (at : get_elem? s.views id ≡ some v) where
+  abbrev w : View
+  w = with_step (on_header t m) v
+
+  map_header : map (steps_on_header t) (set s.views id w) ≡ set (map (steps_on_header t) s.views) id (m ∷ steps_on_header t v)
+  map_header = map-set (steps_on_header t) s.views id w ∙ ap (set (map (steps_on_header t) s.views) id) (header_here t m v)
+
+  map_header_else : (u : ℕ) → t ≢ u → map (steps_on_header u) (set s.views id w) ≡ map (steps_on_header u) s.views
+  map_header_else u n = map-set (steps_on_header u) s.views id w ∙ (ap (set (map (steps_on_header u) s.views) id) (header_else t m v u n) ∙ set_again (map (steps_on_header u) s.views) id (steps_on_header u v) (at_map (steps_on_header u) s.views id v at))
+
+  map_entry : (u r : ℕ) → map (steps_on u r) (set s.views id w) ≡ map (steps_on u r) s.views
+  map_entry u r = map-set (steps_on u r) s.views id w ∙ set_again (map (steps_on u r) s.views) id (steps_on u r v) (at_map (steps_on u r) s.views id v at)
+
+  header_happens : (word y : ℕ) → HeaderByOwner id t m → Happens k id (on_header t m) s (stepped s word y id [] w keeps)
+  header_happens word y own = record {
+    entries = λ u r. ap (entry_by k.first u) (map_entry u r);
+    headers = λ u. dite (ℕ_discrete t u) (same u) (other u);
+  }
+    where
+      here : header_now k t (map (steps_on_header t) (set s.views id w)) ≡ header_after m (shown_header k t s)
+      here = ap (header_now k t) map_header ∙ header_now-set k t (map (steps_on_header t) s.views) id (steps_on_header t v) m (at_map (steps_on_header t) s.views id v at) own
+
+      chosen : (u : ℕ) (b c : Bool) → b ≡ c → cond b (header_after m (shown_header k u s)) (shown_header k u s) ≡ cond c (header_after m (shown_header k u s)) (shown_header k u s)
+      chosen u b c e = ap (λ (z : Bool). cond z (header_after m (shown_header k u s)) (shown_header k u s)) e
+
+      same : (u : ℕ) → t ≡ u → header_now k u (map (steps_on_header u) (set s.views id w)) ≡ event_on_header (on_header t m) u (shown_header k u s)
+      same u e = subst (λ (z : ℕ). header_now k z (map (steps_on_header z) (set s.views id w)) ≡ header_after m (shown_header k z s)) e here ∙ chosen u true (t == u) (sym (eq-eqb t u e))
+
+      other : (u : ℕ) → t ≢ u → header_now k u (map (steps_on_header u) (set s.views id w)) ≡ event_on_header (on_header t m) u (shown_header k u s)
+      other u n = ap (header_now k u) (map_header_else u n) ∙ chosen u false (t == u) (sym (ne_eqb t u n))
+
+  module _ (shown : Shows k s) where
+    shows_header : (y : ℕ) → t < k.domains → HeaderByOwner id t m → y ≡ header_after m (shown_header k t s) → IsHeader y → Shows k (stepped s (header_place t) y id [] w keeps)
+    shows_header y tn own is ok = record {
+      wide = length-set s.words (header_place t) y ∙ shown.wide;
+      dealt = (
+        (λ u e. ⊎_elim (λ (q : (0 ≡ id) × (w ≡ u)). ap (λ (z : View). z.dealt) (sym q.1) ∙ (shown.dealt.0 v (subst (λ (z : ℕ). get_elem? s.views z ≡ some v) (sym q.0) at) ∙ sym (length-set s.views id w)))
+            (λ (q : (0 ≢ id) × (get_elem? s.views 0 ≡ some u)). shown.dealt.0 u q.1 ∙ sym (length-set s.views id w)) (at_set s.views id 0 w u e)),
+        (let z = length-set s.views id w in let a = shown.dealt.1 in omega arith),
+        (let z = length-set s.views id w in let a = shown.dealt.2 in omega arith),
+      );
+      seats = λ i u e. ⊎_elim (λ (q : (i ≡ id) × (w ≡ u)). let z = shown.seats id v at in (ap (λ (x : View). x.position) (sym q.1) ∙ (z.0 ∙ sym q.0), ap (λ (x : View). x.first) (sym q.1) ∙ z.1, ap (λ (x : View). x.headers) (sym q.1) ∙ z.2))
+          (λ (q : (i ≢ id) × (get_elem? s.views i ≡ some u)). shown.seats i u q.1) (at_set s.views id i w u e);
+      entries = λ u r un rn. let p : (j : ℕ) → j < 3 → get_or s.words (place u r j) 0 ≡ get_or (set s.words (header_place t) y) (place u r j) 0 = λ j jn. sym (get_or-set_other s.words (header_place t) (place u r j) y 0 (λ e. omega arith)) in
+          let p0 = p 0 (omega arith) in let p1 = p 1 (omega arith) in let p2 = p 2 (omega arith) in let q = sym (map_entry u r) in
+          subst (λ (z : ℕ × ℕ × ℕ × List (List EntryStep)). ShowsEntry k.first u z.0 z.1 z.2 z.3) (λ i. (p0 i, p1 i, p2 i, q i)) (shown.entries u r un rn);
+      headers = λ u un. dite (ℕ_discrete t u) (λ e. subst (λ (z : ℕ). (get_or (set s.words (header_place t) y) (header_place z) 0 ≡ header_now k z (map (steps_on_header z) (set s.views id w))) × IsHeader (get_or (set s.words (header_place t) y) (header_place z) 0)) e
+          (let p : get_or (set s.words (header_place t) y) (header_place t) 0 ≡ y = get_or-set_same s.words (header_place t) y 0 (let z = shown.wide in omega arith) in
+          let q = ap (header_now k t) map_header ∙ header_now-set k t (map (steps_on_header t) s.views) id (steps_on_header t v) m (at_map (steps_on_header t) s.views id v at) own in
+          (p ∙ (is ∙ sym q), subst IsHeader (sym p) ok)))
+          (λ n. let p : get_or (set s.words (header_place t) y) (header_place u) 0 ≡ get_or s.words (header_place u) 0 = get_or-set_other s.words (header_place t) (header_place u) y 0 (λ e. n (omega arith)) in
+          let h = shown.headers u un in (p ∙ (h.0 ∙ ap (header_now k u) (sym (map_header_else u n))), subst IsHeader (sym p) h.1));
+    }
+
+module _ {S : Type 0} (k : Layout) (slots id : ℕ) (me : Me S View) (t : ℕ) (tn : t < k.domains) where
+  -- the step m is taken, where it leaves the header that its event gives
+  header_owes : (m : ℕ → HeaderStep) (f : ℕ → ℕ) (a : ℕ) → ((s : State S View) → Shows k s → get_elem? s.views id ≡ some me.0 → HeaderByOwner id t (m (get_or s.words (header_place t) 0)))
+      → ((n : ℕ) → f n ≡ header_after (m n) n) → ((n : ℕ) → IsHeader n → IsHeader (f n))
+      → Allows (Shows k) slots id me (header_place t) f (tells (record { layout = k; step = λ n. on_header t (m n); leaves = f }) (step slots (header_place t) a 0 none) me)
+  header_owes m f a own leaves ok s shown len at fits = let n : ℕ = get_or s.words (header_place t) 0 in let v : View = me.0 in let h = shown.headers t tn in
+      let by = own s shown at in let z = shows_header k s id v t (m n) at shown (f n) tn by (leaves n ∙ ap (header_after (m n)) h.0) (ok n h.1) in let p = (shown.seats id v at).0 in (
+        with_step (on_header t (m n)) v,
+        keeps,
+        tt,
+        z,
+        (
+          refl,
+          refl,
+          record {
+            before = s;
+            shown = shown;
+            mine = subst (λ (i : ℕ). get_elem? s.views i ≡ some v) (sym p) at;
+            found_is = refl;
+            still_shown = subst (λ (i : ℕ). Shows k (stepped s (header_place t) (f n) i [] (with_step (on_header t (m n)) v) keeps)) (sym p) z;
+            happens = subst (λ (i : ℕ). Happens k i (on_header t (m n)) s (stepped s (header_place t) (f n) i [] (with_step (on_header t (m n)) v) keeps)) (sym p) (header_happens k s id v t (m n) at (header_place t) (f n) by);
+          },
+        ),
+      )
+
+  pub look_header_owes : Allows (Shows k) slots id me (header_place t) (λ n. n) (tells (looking_at_header k t) (step slots (header_place t) 0 0 none) me)
+  look_header_owes = header_owes (λ n. header.Looked n) (λ n. n) 0 (λ s shown at. tt) (λ n. refl) (λ n h. h)
+
+  pub store_header_owes : (y : ℕ) → me.0.position ≡ t → IsHeader y → Allows (Shows k) slots id me (header_place t) (λ _. y) (λ _. tells_stored (storing_header k t y) (step slots (header_place t) y 0 none) me)
+  store_header_owes y own ok = stored_owes (storing_header k t y) (header_place t) (λ _. y) (step slots (header_place t) y 0 none)
+      (header_owes (λ n. header.Stored y) (λ n. y) y (λ s shown at. sym (shown.seats id me.0 at).0 ∙ own) (λ n. refl) (λ n h. ok))
+
+-- one more step on a header
+pub adds_to_header : (t : ℕ) (m : HeaderStep) (v w : View) → w ≡ with_step (on_header t m) v → AddsToHeader t m v w
+adds_to_header t m v w e = record {
+  view = e;
+  here = ap (steps_on_header t) e ∙ header_here t m v;
+  others = λ u n. ap (steps_on_header u) e ∙ header_else t m v u n;
+  entries = λ u r. ap (steps_on u r) e;
+}
+
+-- the owner stored its header
+pub stores_header : (k : Layout) (at value y found : ℕ) (v w : View) → v.position ≡ at → value ≡ y → HeaderSteps k at (header.Stored value) found value v w → StoresHeader k y v w
+stores_header k at value y found v w own is z = record {
+  found = found;
+  pins = λ t r. ap pins (z.adds.entries t r);
+  steps = subst (λ (u : ℕ × ℕ). HeaderSteps k u.0 (header.Stored u.1) found u.1 v w) (λ i. (sym own i, is i)) z;
+  header = ap own_header z.adds.view ∙ (ap (stored_header (get_or v.headers v.position 0)) (subst (λ (u : ℕ). steps_on_header v.position (with_step (on_header u (header.Stored value)) v) ≡ header.Stored value ∷ steps_on_header v.position v) own (header_here v.position (header.Stored value) v)) ∙ is);
+}
+
+-- a version has room in its two bits
+pub small_version : (n : ℕ) → (n ≡ 1) ⊎ (n ≡ 2) → n < 4
+small_version n (inl e) = omega arith
+small_version n (inr e) = omega arith

@@ -1,0 +1,77 @@
+-- A step on one entry keeps the rule of the table, where it keeps the rule of that entry.
+use Rattle.std.proofs.Common.{◌≡◌, ◌≢◌, ⊎_elim, ℕ, ◌*◌, ◌<◌, Bool, true, false, cond, ◌==◌, ◌&&◌, List, [], ◌∷◌, map, get_or, set, sym, refl, ap, ◌∙◌, subst, arith, length-set, get_or-set_other, get_or-set_same, eq-eqb, ne_eqb}
+use mathlib.Core.Option.{some}
+use mathlib.Core.Logic.{dite}
+use native.Mathlib.Decide.{ℕ_discrete}
+use lib.ListN.{get_elem?}
+use lib.Seq.{map-set}
+use Rattle.atomic_table.specs.Table.{State, Me, Step as TableStep, stepped, keeps, Allows}
+use Rattle.atomic_table.proofs.Lists.{at_set, set_again, at_map}
+use Rattle.gt_words.specs.Rule.{IsHeader, Layout, Shows, ShowsEntry, header_now, header_place, place}
+use Rattle.gt_words.specs.Steps.{on_entry}
+use Rattle.gt_words.specs.Views.{steps_on, steps_on_header, with_step}
+use Rattle.gt_words.specs.declared.view.EntryStep.{EntryStep}
+use Rattle.gt_words.specs.declared.view.View.{View}
+
+-- the view after one more step on an entry
+abbrev pub added : ℕ → ℕ → EntryStep → View → View
+added t r m v = with_step (on_entry t r m) v
+
+pub apart : (t r j t' r' j' : ℕ) → r < 2048 → r' < 2048 → j < 3 → j' < 3 → place t r j ≡ place t' r' j' → (t ≡ t') × (r ≡ r')
+apart t r j t' r' j' a b c d e = (omega arith, omega arith)
+
+pub inside : (n t r j : ℕ) → t < n → r < 2048 → j < 3 → place t r j < n * 6145
+inside n t r j a b c = omega arith
+
+pub steps_on-added : (t r : ℕ) (m : EntryStep) (v : View) → steps_on t r (added t r m v) ≡ m ∷ steps_on t r v
+steps_on-added t r m v = let b : ((t == t) && (r == r)) ≡ true = λ i. eq-eqb t t refl i && eq-eqb r r refl i in ap (λ (z : Bool). cond z (m ∷ steps_on t r v) (steps_on t r v)) b
+
+-- another entry
+pub apart_test : (t r t' r' : ℕ) → (t ≡ t' → r ≡ r' → ⊥) → ((t == t') && (r == r')) ≡ false
+apart_test t r t' r' n = dite (ℕ_discrete t t') (λ e. let f : r ≢ r' = n e in λ i. eq-eqb t t' e i && ne_eqb r r' f i) (λ e. λ i. ne_eqb t t' e i && (r == r'))
+
+pub steps_on-added-else : (t r : ℕ) (m : EntryStep) (v : View) (t' r' : ℕ) → (t ≡ t' → r ≡ r' → ⊥) → steps_on t' r' (added t r m v) ≡ steps_on t' r' v
+steps_on-added-else t r m v t' r' n = ap (λ (z : Bool). cond z (m ∷ steps_on t' r' v) (steps_on t' r' v)) (apart_test t r t' r' n)
+
+module _ {S : Type 0} (s : State S View) (id : ℕ) (v : View) (t r : ℕ) (m : EntryStep) (at : get_elem? s.views id ≡ some v) where
+  pub map_here : map (steps_on t r) (set s.views id (added t r m v)) ≡ set (map (steps_on t r) s.views) id (m ∷ steps_on t r v)
+  map_here = map-set (steps_on t r) s.views id (added t r m v) ∙ ap (set (map (steps_on t r) s.views) id) (steps_on-added t r m v)
+
+  pub map_else : (t' r' : ℕ) → (t ≡ t' → r ≡ r' → ⊥) → map (steps_on t' r') (set s.views id (added t r m v)) ≡ map (steps_on t' r') s.views
+  map_else t' r' n = map-set (steps_on t' r') s.views id (added t r m v) ∙ (ap (set (map (steps_on t' r') s.views) id) (steps_on-added-else t r m v t' r' n)
+      ∙ set_again (map (steps_on t' r') s.views) id (steps_on t' r' v) (at_map (steps_on t' r') s.views id v at))
+
+module _ {S : Type 0} (k : Layout) (s : State S View) (id : ℕ) (v : View) (t r : ℕ) (m : EntryStep) (shown : Shows k s) (at : get_elem? s.views id ≡ some v) where
+  -- the words of another entry stay
+  stays : (j y t' r' j' : ℕ) → r < 2048 → r' < 2048 → j < 3 → j' < 3 → (t ≡ t' → r ≡ r' → ⊥) → get_or (set s.words (place t r j) y) (place t' r' j') 0 ≡ get_or s.words (place t' r' j') 0
+  stays j y t' r' j' a b c d n = get_or-set_other s.words (place t r j) (place t' r' j') y 0 (λ e. let p = apart t r j t' r' j' a b c d (sym e) in n p.0 p.1)
+
+  pub shows_step : (j y : ℕ) → t < k.domains → r < 2048 → j < 3
+      → (let ws : List ℕ = set s.words (place t r j) y in ShowsEntry k.first t (get_or ws (place t r 0) 0) (get_or ws (place t r 1) 0) (get_or ws (place t r 2) 0) (set (map (steps_on t r) s.views) id (m ∷ steps_on t r v)))
+      → Shows k (stepped s (place t r j) y id [] (added t r m v) keeps)
+  shows_step j y tn rn jn entries = let w : View = added t r m v in let ws : List ℕ = set s.words (place t r j) y in record {
+    wide = length-set s.words (place t r j) y ∙ shown.wide;
+    dealt = (
+      (λ u e. ⊎_elim (λ (q : (0 ≡ id) × (w ≡ u)). ap (λ (z : View). z.dealt) (sym q.1) ∙ (shown.dealt.0 v (subst (λ (z : ℕ). get_elem? s.views z ≡ some v) (sym q.0) at) ∙ sym (length-set s.views id w)))
+          (λ (q : (0 ≢ id) × (get_elem? s.views 0 ≡ some u)). shown.dealt.0 u q.1 ∙ sym (length-set s.views id w)) (at_set s.views id 0 w u e)),
+      (let z = length-set s.views id w in let a = shown.dealt.1 in omega arith),
+      (let z = length-set s.views id w in let a = shown.dealt.2 in omega arith),
+    );
+    seats = λ i u e. ⊎_elim (λ (q : (i ≡ id) × (w ≡ u)). let z = shown.seats id v at in (ap (λ (x : View). x.position) (sym q.1) ∙ (z.0 ∙ sym q.0), ap (λ (x : View). x.first) (sym q.1) ∙ z.1, ap (λ (x : View). x.headers) (sym q.1) ∙ z.2))
+        (λ (q : (i ≢ id) × (get_elem? s.views i ≡ some u)). shown.seats i u q.1) (at_set s.views id i w u e);
+    entries = λ t' r' tn' rn'. dite (ℕ_discrete t t')
+        (λ e. dite (ℕ_discrete r r') (λ f. subst (λ (z : ℕ × ℕ). ShowsEntry k.first z.0 (get_or ws (place z.0 z.1 0) 0) (get_or ws (place z.0 z.1 1) 0) (get_or ws (place z.0 z.1 2) 0) (map (steps_on z.0 z.1) (set s.views id w))) (λ i. (e i, f i))
+        (subst (ShowsEntry k.first t (get_or ws (place t r 0) 0) (get_or ws (place t r 1) 0) (get_or ws (place t r 2) 0)) (sym (map_here s id v t r m at)) entries))
+        (λ f. other t' r' tn' rn' (λ _ g. f g)))
+        (λ e. other t' r' tn' rn' (λ g _. e g));
+    headers = λ t' tn'. let h = shown.headers t' tn' in
+        let p : get_or (set s.words (place t r j) y) (header_place t') 0 ≡ get_or s.words (header_place t') 0 = get_or-set_other s.words (place t r j) (header_place t') y 0 (λ e. omega arith) in
+        let q : map (steps_on_header t') (set s.views id (added t r m v)) ≡ map (steps_on_header t') s.views = map-set (steps_on_header t') s.views id (added t r m v) ∙ set_again (map (steps_on_header t') s.views) id (steps_on_header t' v) (at_map (steps_on_header t') s.views id v at) in
+        (p ∙ (h.0 ∙ ap (header_now k t') (sym q)), subst IsHeader (sym p) h.1);
+  }
+    where
+      other : (t' r' : ℕ) → t' < k.domains → r' < 2048 → (t ≡ t' → r ≡ r' → ⊥) → let u : List ℕ = set s.words (place t r j) y in
+          ShowsEntry k.first t' (get_or u (place t' r' 0) 0) (get_or u (place t' r' 1) 0) (get_or u (place t' r' 2) 0) (map (steps_on t' r') (set s.views id (added t r m v)))
+      other t' r' tn' rn' n = let p0 = stays j y t' r' 0 rn rn' jn (omega arith) n in let p1 = stays j y t' r' 1 rn rn' jn (omega arith) n in let p2 = stays j y t' r' 2 rn rn' jn (omega arith) n in
+          let h = map_else s id v t r m at t' r' n in let f = shown.entries t' r' tn' rn' in
+          subst (λ (z : ℕ × ℕ × ℕ × List (List EntryStep)). ShowsEntry k.first t' z.0 z.1 z.2 z.3) (λ i. (sym p0 i, sym p1 i, sym p2 i, sym h i)) f

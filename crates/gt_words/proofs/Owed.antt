@@ -1,0 +1,252 @@
+-- What each call owes the table before its step.
+use Rattle.std.proofs.Common.{◌≡◌, ◌≢◌, ℕ, ◌+◌, ◌-◌, ◌*◌, ◌/◌, ◌%◌, ◌^◌, ◌<◌, ◌≤◌, Bool, true, false, not, cond, ◌==◌, List, [], ◌∷◌, map, get_or, set, sym, refl, ap, ◌∙◌, subst, arith, eq-eqb, ne_eqb, get_or-set_other, get_or-set_same}
+use mathlib.Core.Option.{some, none}
+use mathlib.Core.Logic.{dite}
+use native.Mathlib.Decide.{ℕ_discrete}
+use prog.Atomic.{either}
+use lib.ListN.{get_elem?}
+use Rattle.atomic_table.specs.Table.{State, Me, Step as TableStep, step, stepped, keeps, Allows}
+use Rattle.atomic_table.proofs.Lists.{at_map}
+use Rattle.gt_entry.specs.Entries.{IsEntry, is_read_only, with_ro}
+use Rattle.gt_entry.specs.Spelling.{IsSpelled, idle_word_of, low_bits, named_domain, word_of}
+use Rattle.gt_entry.specs.Words.{flag, unit_of}
+use Rattle.gt_entry.specs.declared.entry.Entry.{Entry}
+use Rattle.gt_entry.specs.declared.entry.Entry.TheVariants.{Invalid}
+use Rattle.gt_types.specs.declared.Dir.{Dir}
+use Rattle.gt_types.specs.declared.Dir.TheVariants.{Read, Write}
+use Rattle.gt_words.proofs.Happening.{entry_happens}
+use Rattle.gt_words.proofs.Lifts.{added, inside, shows_step}
+use Rattle.gt_words.proofs.OneEntry.{entry_grants, entry_looks, entry_misses_change, entry_misses_pin, entry_pins, entry_revokes, entry_saw, entry_stores_first, entry_stores_second, entry_turns, entry_unpins, mine, pin_counted, turned_domain, turned_low}
+use Rattle.gt_words.proofs.Records.{legal_record, spelled_parts}
+use Rattle.gt_words.specs.Conditions.{HasLooked, Holds, IsIdleOf}
+use Rattle.gt_words.specs.Controls.{IsValid, demoted_word, generation_of, invalid_word, pins_in, promoted_word}
+use Rattle.gt_words.specs.Events.{Happens, IsByOwner}
+use Rattle.gt_words.specs.Rule.{IsRecord, Layout, Shows, ShowsEntry, place, total_pins}
+use Rattle.gt_words.specs.Steps.{StepKind, entry_kind, exchanging, half_index, half_of, looking, missed, on_entry, reading, storing, taken, tells, tells_stored, turned, unpinning}
+use Rattle.gt_words.specs.Views.{earlier_records, invalid_at, last_of, last_record, last_seen, own, steps_on, stored_body}
+use Rattle.gt_words.specs.declared.view.Change.{Change}
+use Rattle.gt_words.specs.declared.view.EntryStep.{EntryStep}
+use Rattle.gt_words.specs.declared.view.EntryStep.TheVariants.{ChangeMissed, Changed, Looked, ReadBody, StoredBody, Unpinned}
+use Rattle.gt_words.specs.declared.view.Half.{Half}
+use Rattle.gt_words.specs.declared.view.Half.TheVariants.{First, Second}
+use Rattle.gt_words.specs.declared.view.Purpose.{Purpose}
+use Rattle.gt_words.specs.declared.view.Record.{Record}
+use Rattle.gt_words.specs.declared.view.View.{View}
+use Rattle.gt_words.specs.declared.view.Change.TheVariants as change
+use Rattle.gt_words.specs.declared.view.Purpose.TheVariants as purpose
+
+-- what a step owes, by the word that it is on: what was found there, and the rule of the entry after it
+
+module _ {S : Type 0} (k : Layout) (t r : ℕ) (m : ℕ → EntryStep) (leaves : ℕ → ℕ) (slots id : ℕ) (me : Me S View) (f : ℕ → ℕ) (st : TableStep S) (tn : t < k.domains) (rn : r < 2048) where
+  abbrev h : List EntryStep
+  h = steps_on t r me.0
+
+  abbrev Before : ℕ → ℕ → ℕ → List (List EntryStep) → Type 0
+  Before w a b hs = ShowsEntry k.first t w a b hs × (get_elem? hs id ≡ some h) × (me.0.position ≡ id) × (me.0.first ≡ k.first)
+
+  abbrev After : ℕ → ℕ → ℕ → List (List EntryStep) → ℕ → Type 0
+  After w a b hs n = ShowsEntry k.first t w a b (set hs id (m n ∷ h)) × IsByOwner id t (m n)
+
+  owes : (j : ℕ) → j < 3 → st.word ≡ place t r j → ((n : ℕ) → f n ≡ leaves n)
+      → ((s : State S View) → Shows k s → get_elem? s.views id ≡ some me.0 → let n : ℕ = get_or s.words (place t r j) 0 in let ws : List ℕ = set s.words (place t r j) (f n) in
+      n < 18446744073709551616 → After (get_or ws (place t r 0) 0) (get_or ws (place t r 1) 0) (get_or ws (place t r 2) 0) (map (steps_on t r) s.views) n)
+      → Allows (Shows k) slots id me (place t r j) f (tells (entry_kind k t r m leaves) st me)
+  owes j jn is ok step s shown len at fits = let n : ℕ = get_or s.words (place t r j) 0 in let v : View = me.0 in let w : View = added t r (m n) v in let after = step s shown at fits in
+      let z = shows_step k s id v t r (m n) shown at j (f n) tn rn jn after.0 in let own = (shown.seats id v at).0 in
+      let at_word : ℕ × ℕ × ℕ → State S View = λ u. stepped s u.0 u.1 u.2 [] w keeps in let same : (place t r j, f n, id) ≡ (st.word, leaves n, v.position) = λ i. (sym is i, ok n i, sym own i) in (
+        w,
+        keeps,
+        tt,
+        z,
+        (
+          refl,
+          refl,
+          record {
+            before = s;
+            shown = shown;
+            mine = subst (λ (i : ℕ). get_elem? s.views i ≡ some v) (sym own) at;
+            found_is = ap (λ (i : ℕ). get_or s.words i 0) is;
+            still_shown = subst (λ (u : ℕ × ℕ × ℕ). Shows k (at_word u)) same z;
+            happens = subst (λ (u : ℕ × ℕ × ℕ). Happens k u.2 (on_entry t r (m n)) s (at_word u)) same (entry_happens k s id v at t r (m n) (place t r j) (f n) after.1);
+          },
+        ),
+      )
+
+  history_at : (s : State S View) → get_elem? s.views id ≡ some me.0 → get_elem? (map (steps_on t r) s.views) id ≡ some h
+  history_at s at = at_map (steps_on t r) s.views id me.0 at
+
+  before : (s : State S View) → Shows k s → get_elem? s.views id ≡ some me.0
+      → Before (get_or s.words (place t r 0) 0) (get_or s.words (place t r 1) 0) (get_or s.words (place t r 2) 0) (map (steps_on t r) s.views)
+  before s shown at = (shown.entries t r tn rn, history_at s at, (shown.seats id me.0 at).0, (shown.seats id me.0 at).1)
+
+  here : (s : State S View) (j y : ℕ) → Shows k s → j < 3 → get_or (set s.words (place t r j) y) (place t r j) 0 ≡ y
+  here s j y shown jn = get_or-set_same s.words (place t r j) y 0 (let i = inside k.domains t r j tn rn jn in let w = shown.wide in omega arith)
+
+  there : (s : State S View) (i j y : ℕ) → i ≢ j → get_or (set s.words (place t r j) y) (place t r i) 0 ≡ get_or s.words (place t r i) 0
+  there s i j y n = get_or-set_other s.words (place t r j) (place t r i) y 0 (λ e. n (omega arith))
+
+  -- a step on the control word
+  pub control_owes : st.word ≡ place t r 0 → ((n : ℕ) → f n ≡ leaves n) → ((w a b : ℕ) (hs : List (List EntryStep)) → Before w a b hs → w < 18446744073709551616 → After (leaves w) a b hs w)
+      → Allows (Shows k) slots id me (place t r 0) f (tells (entry_kind k t r m leaves) st me)
+  control_owes is ok step = owes 0 (omega arith) is ok (λ s shown at fits. let w : ℕ = get_or s.words (place t r 0) 0 in let a : ℕ = get_or s.words (place t r 1) 0 in let b : ℕ = get_or s.words (place t r 2) 0 in
+      let hs : List (List EntryStep) = map (steps_on t r) s.views in
+      subst (λ (u : ℕ × ℕ × ℕ). After u.0 u.1 u.2 hs w) (λ i. (sym (here s 0 (f w) shown (omega arith) ∙ ok w) i, sym (there s 1 0 (f w) (λ e. omega arith)) i, sym (there s 2 0 (f w) (λ e. omega arith)) i))
+      (step w a b hs (before s shown at) fits))
+
+  pub first_owes : st.word ≡ place t r 1 → ((n : ℕ) → f n ≡ leaves n) → ((w a b : ℕ) (hs : List (List EntryStep)) → Before w a b hs → After w (leaves a) b hs a)
+      → Allows (Shows k) slots id me (place t r 1) f (tells (entry_kind k t r m leaves) st me)
+  first_owes is ok step = owes 1 (omega arith) is ok (λ s shown at fits. let w : ℕ = get_or s.words (place t r 0) 0 in let a : ℕ = get_or s.words (place t r 1) 0 in let b : ℕ = get_or s.words (place t r 2) 0 in
+      let hs : List (List EntryStep) = map (steps_on t r) s.views in
+      subst (λ (u : ℕ × ℕ × ℕ). After u.0 u.1 u.2 hs a) (λ i. (sym (there s 0 1 (f a) (λ e. omega arith)) i, sym (here s 1 (f a) shown (omega arith) ∙ ok a) i, sym (there s 2 1 (f a) (λ e. omega arith)) i))
+      (step w a b hs (before s shown at)))
+
+  pub second_owes : st.word ≡ place t r 2 → ((n : ℕ) → f n ≡ leaves n) → ((w a b : ℕ) (hs : List (List EntryStep)) → Before w a b hs → After w a (leaves b) hs b)
+      → Allows (Shows k) slots id me (place t r 2) f (tells (entry_kind k t r m leaves) st me)
+  second_owes is ok step = owes 2 (omega arith) is ok (λ s shown at fits. let w : ℕ = get_or s.words (place t r 0) 0 in let a : ℕ = get_or s.words (place t r 1) 0 in let b : ℕ = get_or s.words (place t r 2) 0 in
+      let hs : List (List EntryStep) = map (steps_on t r) s.views in
+      subst (λ (u : ℕ × ℕ × ℕ). After u.0 u.1 u.2 hs b) (λ i. (sym (there s 0 2 (f b) (λ e. omega arith)) i, sym (there s 1 2 (f b) (λ e. omega arith)) i, sym (here s 2 (f b) shown (omega arith) ∙ ok b) i))
+      (step w a b hs (before s shown at)))
+
+by_cases : (n old : ℕ) (F : Bool → Type 0) → (n ≡ old → F true) → (n ≢ old → F false) → F (n == old)
+by_cases n old F hit miss = dite (ℕ_discrete n old) (λ e. subst F (sym (eq-eqb n old e)) (hit e)) (λ ne. subst F (sym (ne_eqb n old ne)) (miss ne))
+
+pub stored_owes : {S : Type 0} {k : Layout} {slots id : ℕ} {me : Me S View} (d : StepKind) (i : ℕ) (f : ℕ → ℕ) (st : TableStep S) → Allows (Shows k) slots id me i f (tells d st me) → Allows (Shows k) slots id me i f (λ _. tells_stored d st me)
+stored_owes d i f st owed s shown len at fits = let z = owed s shown len at fits in (z.0, z.1, z.2, z.3, (get_or s.words i 0, z.4))
+
+-- the generation in the control word of a record in range
+pub spelled_generation : (x : Record) (word reads writes : ℕ) → IsRecord x → (reads < 4096) × (writes < 4096) → word ≡ word_of x.entry x.generation reads writes → word / 17592186044416 ≡ x.generation
+spelled_generation x word reads writes ok in_range is = ap generation_of is ∙ (spelled_parts x.entry x.generation reads writes ok.0 in_range).generation
+
+module _ {S : Type 0} (k : Layout) (slots id : ℕ) (me : Me S View) (t r : ℕ) (tn : t < k.domains) (rn : r < 2048) where
+  pub look_owes : Allows (Shows k) slots id me (place t r 0) (λ n. n) (tells (looking k t r) (step slots (place t r 0) 0 0 none) me)
+  look_owes = control_owes k t r (λ n. Looked n) (λ n. n) slots id me (λ n. n) (step slots (place t r 0) 0 0 none) tn rn refl (λ n. refl) (λ w a b hs z fits. (entry_looks k.first t hs id _ z.1 w a b z.0, tt))
+
+  read_first_owes : Allows (Shows k) slots id me (place t r 1) (λ n. n) (tells (reading k t r First) (step slots (place t r 1) 0 0 none) me)
+  read_first_owes = first_owes k t r (λ n. ReadBody First n) (λ n. n) slots id me (λ n. n) (step slots (place t r 1) 0 0 none) tn rn refl (λ n. refl) (λ w a b hs z. (entry_saw k.first t hs id _ z.1 w a b z.0 First a (λ _. refl) (λ e. cc), tt))
+
+  read_second_owes : Allows (Shows k) slots id me (place t r 2) (λ n. n) (tells (reading k t r Second) (step slots (place t r 2) 0 0 none) me)
+  read_second_owes = second_owes k t r (λ n. ReadBody Second n) (λ n. n) slots id me (λ n. n) (step slots (place t r 2) 0 0 none) tn rn refl (λ n. refl) (λ w a b hs z. (entry_saw k.first t hs id _ z.1 w a b z.0 Second b (λ e. cc) (λ _. refl), tt))
+
+  pub read_owes : (h : Half) (i : ℕ) → i ≡ half_index h → Allows (Shows k) slots id me (place t r i) (λ n. n) (tells (reading k t r (half_of i)) (step slots (place t r i) 0 0 none) me)
+  read_owes h i e = subst (λ (u : ℕ). Allows (Shows k) slots id me (place t r u) (λ n. n) (tells (reading k t r (half_of u)) (step slots (place t r u) 0 0 none) me)) (sym e) (at_half h)
+    where
+      at_half : (h : Half) → Allows (Shows k) slots id me (place t r (half_index h)) (λ n. n) (tells (reading k t r (half_of (half_index h))) (step slots (place t r (half_index h)) 0 0 none) me)
+      at_half First = read_first_owes
+      at_half Second = read_second_owes
+
+  -- an exchange, taken where the word is the one expected
+  exchange_owes : (p : Purpose) (old new : ℕ)
+      → ((w a b : ℕ) (hs : List (List EntryStep)) → Before k t r (λ n. Looked n) (λ n. n) slots id me (λ n. n) (step slots (place t r 0) old new none) tn rn w a b hs → w ≡ old → ShowsEntry k.first t new a b (set hs id (taken t r me.0 p old new ∷ steps_on t r me.0)) × IsByOwner id t (taken t r me.0 p old new))
+      → ((w a b : ℕ) (hs : List (List EntryStep)) → Before k t r (λ n. Looked n) (λ n. n) slots id me (λ n. n) (step slots (place t r 0) old new none) tn rn w a b hs → w ≢ old → ShowsEntry k.first t w a b (set hs id (missed p old w ∷ steps_on t r me.0)) × IsByOwner id t (missed p old w))
+      → Allows (Shows k) slots id me (place t r 0) (λ n. either (n == old) new n) (tells (exchanging k t r me.0 p old new) (step slots (place t r 0) old new none) me)
+  exchange_owes p old new hit miss = control_owes k t r (λ n. cond (n == old) (taken t r me.0 p old new) (missed p old n)) (λ n. either (n == old) new n) slots id me (λ n. either (n == old) new n) (step slots (place t r 0) old new none) tn rn refl (λ n. refl)
+      (λ w a b hs z fits. by_cases w old (λ (q : Bool). let m : EntryStep = cond q (taken t r me.0 p old new) (missed p old w) in ShowsEntry k.first t (either q new w) a b (set hs id (m ∷ steps_on t r me.0)) × IsByOwner id t m)
+      (hit w a b hs z) (miss w a b hs z))
+
+  pub pin_owes : (d : Dir) (old new : ℕ) → new ≡ old + unit_of d → HasLooked t r me.0 old → IsValid old → pins_in d old < 4095
+      → Allows (Shows k) slots id me (place t r 0) (λ n. either (n == old) new n) (tells (exchanging k t r me.0 (purpose.Pin d) old new) (step slots (place t r 0) old new none) me)
+  pin_owes d old new one looked valid room = exchange_owes (purpose.Pin d) old new
+      (λ w a b hs z e. (
+        subst (λ (u : ℕ). ShowsEntry k.first t u a b (set hs id (taken t r me.0 (purpose.Pin d) old new ∷ steps_on t r me.0))) (ap (λ (u : ℕ). u + unit_of d) e ∙ sym one)
+            (entry_pins k.first t hs id (steps_on t r me.0) z.1 w a b z.0 d old (last_seen t r me.0) looked.0 (looked.1 ∙ sym e) (subst IsValid (sym e) valid) looked.2 (subst (λ (u : ℕ). pins_in d u < 4095) (sym e) room)),
+        tt,
+      ))
+      (λ w a b hs z n. (entry_misses_pin k.first t hs id (steps_on t r me.0) z.1 w a b z.0 d old, tt))
+
+  lowered : (d : Dir) (w : ℕ) → unit_of d ≤ w → w < 18446744073709551616 → w - unit_of d ≡ (w + (2 ^ 64 - unit_of d)) % 2 ^ 64
+  lowered Read w a b = omega arith
+  lowered Write w a b = omega arith
+
+  pub unpin_owes : (d : Dir) (g one : ℕ) → one ≡ unit_of d → Holds t r d g me.0
+      → Allows (Shows k) slots id me (place t r 0) (λ n. (n + (2 ^ 64 - one)) % 2 ^ 64) (tells (unpinning k t r d g) (step slots (place t r 0) one 0 none) me)
+  unpin_owes d g one is holds = control_owes k t r (λ n. Unpinned d g) (λ n. (n + (2 ^ 64 - unit_of d)) % 2 ^ 64) slots id me (λ n. (n + (2 ^ 64 - one)) % 2 ^ 64) (step slots (place t r 0) one 0 none) tn rn refl (λ n. ap (λ (u : ℕ). (n + (2 ^ 64 - u)) % 2 ^ 64) is)
+      (λ w a b hs z fits. let p = holds.0 in (
+        subst (λ (u : ℕ × ℕ). ShowsEntry k.first t u.0 a b (set hs id (Unpinned d u.1 ∷ steps_on t r me.0)))
+            (λ i. (lowered d w (pin_counted k.first t hs id (steps_on t r me.0) z.1 w a b z.0 d p holds.1 holds.2) fits i, holds.3 i))
+            (entry_unpins k.first t hs id (steps_on t r me.0) z.1 w a b z.0 d p holds.1 holds.2),
+        tt,
+      ))
+
+  -- the owner's steps
+
+  module _ (own : me.0.position ≡ t) where
+    at_home : (hs : List (List EntryStep)) → get_elem? hs id ≡ some (steps_on t r me.0) → me.0.position ≡ id → get_elem? hs t ≡ some (steps_on t r me.0)
+    at_home hs at e = subst (λ (u : ℕ). get_elem? hs u ≡ some (steps_on t r me.0)) (sym e ∙ own) at
+
+    to_seat : (w a b : ℕ) (hs : List (List EntryStep)) (m : EntryStep) → me.0.position ≡ id → ShowsEntry k.first t w a b (set hs t (m ∷ steps_on t r me.0)) → ShowsEntry k.first t w a b (set hs id (m ∷ steps_on t r me.0))
+    to_seat w a b hs m e = subst (λ (u : ℕ). ShowsEntry k.first t w a b (set hs u (m ∷ steps_on t r me.0))) (sym own ∙ e)
+
+    last_is : me.0.first ≡ k.first → last_of r me.0 ≡ last_record k.first (steps_on t r me.0)
+    last_is e = λ i. last_record (e i) (steps_on (own i) r me.0)
+
+    store_first_owes : (v : ℕ) → (last_of r me.0).entry ≡ Invalid → Allows (Shows k) slots id me (place t r 1) (λ _. v) (λ _. tells_stored (storing k t r First v) (step slots (place t r 1) v 0 none) me)
+    store_first_owes v none_yet = stored_owes (storing k t r First v) (place t r 1) (λ _. v) (step slots (place t r 1) v 0 none) (first_owes k t r (λ n. StoredBody First v) (λ n. v) slots id me (λ _. v) (step slots (place t r 1) v 0 none) tn rn refl (λ n. refl)
+        (λ w a b hs z. (to_seat w v b hs (StoredBody First v) z.2 (entry_stores_first k.first t hs (steps_on t r me.0) (at_home hs z.1 z.2) w a b z.0 v (ap (λ (x : Record). x.entry) (sym (last_is z.3)) ∙ none_yet)), sym z.2 ∙ own)))
+
+    store_second_owes : (v : ℕ) → (last_of r me.0).entry ≡ Invalid → Allows (Shows k) slots id me (place t r 2) (λ _. v) (λ _. tells_stored (storing k t r Second v) (step slots (place t r 2) v 0 none) me)
+    store_second_owes v none_yet = stored_owes (storing k t r Second v) (place t r 2) (λ _. v) (step slots (place t r 2) v 0 none) (second_owes k t r (λ n. StoredBody Second v) (λ n. v) slots id me (λ _. v) (step slots (place t r 2) v 0 none) tn rn refl (λ n. refl)
+        (λ w a b hs z. (to_seat w a v hs (StoredBody Second v) z.2 (entry_stores_second k.first t hs (steps_on t r me.0) (at_home hs z.1 z.2) w a b z.0 v (ap (λ (x : Record). x.entry) (sym (last_is z.3)) ∙ none_yet)), sym z.2 ∙ own)))
+
+    pub store_owes : (h : Half) (i v : ℕ) → i ≡ half_index h → (last_of r me.0).entry ≡ Invalid → Allows (Shows k) slots id me (place t r i) (λ _. v) (λ _. tells_stored (storing k t r (half_of i) v) (step slots (place t r i) v 0 none) me)
+    store_owes h i v e none_yet = subst (λ (u : ℕ). Allows (Shows k) slots id me (place t r u) (λ _. v) (λ _. tells_stored (storing k t r (half_of u) v) (step slots (place t r u) v 0 none) me)) (sym e) (at_half h)
+      where
+        at_half : (h : Half) → Allows (Shows k) slots id me (place t r (half_index h)) (λ _. v) (λ _. tells_stored (storing k t r (half_of (half_index h)) v) (step slots (place t r (half_index h)) v 0 none) me)
+        at_half First = store_first_owes v none_yet
+        at_half Second = store_second_owes v none_yet
+
+    -- an exchange by the owner
+    change_owes : (m : Purpose) (c : Change) (y : Record) (old new : ℕ) → taken t r me.0 m old new ≡ Changed c old new y → ((n : ℕ) → missed m old n ≡ ChangeMissed c old n)
+        → ((w a b : ℕ) (hs : List (List EntryStep)) → ShowsEntry k.first t w a b hs → get_elem? hs t ≡ some (steps_on t r me.0) → me.0.first ≡ k.first → w ≡ old → ShowsEntry k.first t new a b (set hs t (Changed c old new y ∷ steps_on t r me.0)))
+        → Allows (Shows k) slots id me (place t r 0) (λ n. either (n == old) new n) (tells (exchanging k t r me.0 m old new) (step slots (place t r 0) old new none) me)
+    change_owes m c y old new is_taken is_missed hit = exchange_owes m old new
+        (λ w a b hs z e. subst (λ (u : EntryStep). ShowsEntry k.first t new a b (set hs id (u ∷ steps_on t r me.0)) × IsByOwner id t u) (sym is_taken) (to_seat new a b hs (Changed c old new y) z.2 (hit w a b hs z.0 (at_home hs z.1 z.2) z.3 e), sym z.2 ∙ own))
+        (λ w a b hs z n. subst (λ (u : EntryStep). ShowsEntry k.first t w a b (set hs id (u ∷ steps_on t r me.0)) × IsByOwner id t u) (sym (is_missed w)) (entry_misses_change k.first t hs id (steps_on t r me.0) z.1 w a b z.0 c old, tt))
+
+    pub revoke_owes : (old new : ℕ) → IsIdleOf (last_of r me.0) old → new ≡ invalid_word old
+        → Allows (Shows k) slots id me (place t r 0) (λ n. either (n == old) new n)
+        (tells (exchanging k t r me.0 purpose.Revoke old new) (step slots (place t r 0) old new none) me)
+    revoke_owes old new idle is = change_owes purpose.Revoke change.Revoke (invalid_at (last_of r me.0).generation) old new refl (λ _. refl) (λ w a b hs z at f e.
+        let h : List EntryStep = steps_on t r me.0 in let y : Record = last_record k.first h in let l = last_is f in let m = mine k.first t hs h at w a b z in
+        let g : old / 17592186044416 ≡ y.generation = ap generation_of (sym e) ∙ spelled_generation y w (total_pins Read hs) (total_pins Write hs) (legal_record y (earlier_records k.first h) m.lawful) m.in_range m.spelled in
+        let i : new ≡ idle_word_of Invalid y.generation = omega arith in
+        subst (λ (u : ℕ). ShowsEntry k.first t u a b (set hs t (Changed change.Revoke old new (invalid_at (last_of r me.0).generation) ∷ h))) (sym i)
+        (subst (λ (u : Record). ShowsEntry k.first t (idle_word_of Invalid y.generation) a b (set hs t (Changed change.Revoke old new (invalid_at u.generation) ∷ h))) (sym l)
+        (entry_revokes k.first t hs h at w a b z old new (e ∙ (idle ∙ ap (λ (u : Record). idle_word_of u.entry u.generation) l)))))
+
+    pub grant_owes : (e : Entry) (old new : ℕ) → IsIdleOf (last_of r me.0) old → new ≡ idle_word_of e ((last_of r me.0).generation + 1) → (last_of r me.0).entry ≡ Invalid → IsEntry e → e ≢ Invalid
+        → (last_of r me.0).generation < 1048575 → IsSpelled e (stored_body First (steps_on t r me.0)) (stored_body Second (steps_on t r me.0))
+        → Allows (Shows k) slots id me (place t r 0) (λ n. either (n == old) new n)
+        (tells (exchanging k t r me.0 (purpose.Publish e) old new) (step slots (place t r 0) old new none) me)
+    grant_owes e old new idle is none_yet ok some_kind room body = let x : Record = last_of r me.0 in
+        change_owes (purpose.Publish e) change.Publish (record { generation = x.generation + 1; entry = e }) old new refl (λ _. refl) (λ w a b hs z at f q.
+        let l = last_is f in subst (λ (u : ℕ). ShowsEntry k.first t u a b (set hs t (Changed change.Publish old new (record { generation = x.generation + 1; entry = e }) ∷ steps_on t r me.0))) (sym is)
+        (subst (λ (y : Record). ShowsEntry k.first t (idle_word_of e (y.generation + 1)) a b (set hs t (Changed change.Publish old new (record { generation = y.generation + 1; entry = e }) ∷ steps_on t r me.0))) (sym l)
+        (entry_grants k.first t hs (steps_on t r me.0) at w a b z old new e (q ∙ (idle ∙ ((λ i. idle_word_of (none_yet i) x.generation) ∙ ap (λ (y : Record). idle_word_of Invalid y.generation) l))) (ap (λ (y : Record). y.entry) (sym l) ∙ none_yet) ok some_kind
+        (subst (λ (y : Record). y.generation < 1048575) l room) body)))
+
+    -- the word after a turn, with its pins
+    turned_is : (o : Bool) (x : Record) (reads writes w new : ℕ) → x.entry ≢ Invalid → is_read_only x.entry ≡ not o → w ≡ word_of x.entry x.generation reads writes → new + flag (not o) ≡ w + flag o + 17592186044416
+        → new ≡ word_of (with_ro o x.entry) (x.generation + 1) reads writes
+    turned_is o x reads writes w new n now is e = let l = turned_low o x.entry n now in let d = turned_domain o x.entry in
+        let L : ℕ = low_bits (with_ro o x.entry) in let D : ℕ = named_domain (with_ro o x.entry) in let L0 : ℕ = low_bits x.entry in let D0 : ℕ = named_domain x.entry in
+        let l' : L + flag (not o) ≡ L0 + flag o = l in let d' : D ≡ D0 = d in omega arith
+
+    turn_owes : (o : Bool) (m : Purpose) (c : Change) (old new : ℕ) → taken t r me.0 m old new ≡ Changed c old new (turned o (last_of r me.0)) → ((n : ℕ) → missed m old n ≡ ChangeMissed c old n) → (last_of r me.0).entry ≢ Invalid → generation_of old < 1048575 → is_read_only (last_of r me.0).entry ≡ not o
+        → new + flag (not o) ≡ old + flag o + 17592186044416
+        → Allows (Shows k) slots id me (place t r 0) (λ n. either (n == old) new n)
+        (tells (exchanging k t r me.0 m old new) (step slots (place t r 0) old new none) me)
+    turn_owes o m c old new is_taken is_missed some_kind room now is = let x : Record = last_of r me.0 in
+        change_owes m c (turned o x) old new is_taken is_missed (λ w a b hs z at f q. let l = last_is f in let h : List EntryStep = steps_on t r me.0 in let y : Record = last_record k.first h in let s = mine k.first t hs h at w a b z in
+        let g : old / 17592186044416 ≡ y.generation = ap generation_of (sym q) ∙ spelled_generation y w (total_pins Read hs) (total_pins Write hs) (legal_record y (earlier_records k.first h) s.lawful) s.in_range s.spelled in
+        let turns : is_read_only y.entry ≡ not o = ap (λ (u : Record). is_read_only u.entry) (sym l) ∙ now in let kind : y.entry ≢ Invalid = subst (λ (u : Record). u.entry ≢ Invalid) l some_kind in
+        subst (λ (u : Record). ShowsEntry k.first t new a b (set hs t (Changed c old new (turned o u) ∷ h))) (sym l)
+        (entry_turns k.first t hs h at w a b z o c new old new kind turns (omega arith)
+        (turned_is o y (total_pins Read hs) (total_pins Write hs) w new kind turns s.spelled (is ∙ ap (λ (u : ℕ). u + flag o + 17592186044416) (sym q)))))
+
+    pub demote_owes : (old new : ℕ) → (last_of r me.0).entry ≢ Invalid → generation_of old < 1048575 → is_read_only (last_of r me.0).entry ≡ false → new ≡ demoted_word old
+        → Allows (Shows k) slots id me (place t r 0) (λ n. either (n == old) new n) (tells (exchanging k t r me.0 purpose.Demote old new) (step slots (place t r 0) old new none) me)
+    demote_owes old new some_kind room now is = turn_owes true purpose.Demote change.Demote old new refl (λ _. refl) some_kind room now (omega arith)
+
+    pub promote_owes : (old new : ℕ) → (last_of r me.0).entry ≢ Invalid → generation_of old < 1048575 → is_read_only (last_of r me.0).entry ≡ true → new ≡ promoted_word old
+        → Allows (Shows k) slots id me (place t r 0) (λ n. either (n == old) new n) (tells (exchanging k t r me.0 purpose.Promote old new) (step slots (place t r 0) old new none) me)
+    promote_owes old new some_kind room now is = turn_owes false purpose.Promote change.Promote old new refl (λ _. refl) some_kind room now (omega arith)

@@ -1,0 +1,309 @@
+-- What each kind of step does to the words of one entry keeps the rule of that entry.
+use Rattle.std.proofs.Common.{◌≡◌, ◌≢◌, ◌⊎◌, inl, inr, ⊎_elim, ℕ, zero, suc, ◌+◌, ◌-◌, ◌*◌, ◌/◌, ◌%◌, ◌<◌, ◌≤◌, Bool, true, false, cond, ◌==◌, ◌&&◌, List, [], ◌∷◌, set, sym, refl, ap, ◌∙◌, subst, arith, Option, Some, None, IsSome, eq-eqb, ne_eqb}
+use Rattle.std.proofs.lemmas.Grind.{common_steps}
+use mathlib.Core.Option.{some, some-injective, some-ne-none}
+use lib.ListN.{get_elem?}
+use Rattle.atomic_table.proofs.Lists.{at_set}
+use Rattle.gt_entry.specs.Entries.{IsEntry}
+use Rattle.gt_entry.specs.Laws.{PartsOf, control-round, digits, entry-read, entry-word, parts}
+use Rattle.gt_entry.specs.Spelling.{IsSpelled, control_with, entry_of, low_bits, named_domain, word_of}
+use Rattle.gt_entry.specs.Words.{IsInRange, control_of, unit_of}
+use Rattle.gt_entry.specs.declared.control.Control.{Control}
+use Rattle.gt_entry.specs.declared.entry.Entry.{Entry}
+use Rattle.gt_entry.specs.declared.entry.Entry.TheVariants.{Invalid, Page, Sub, Via}
+use Rattle.gt_types.specs.declared.Dir.{Dir}
+use Rattle.gt_types.specs.declared.Dir.TheVariants.{Read, Write}
+use Rattle.gt_words.specs.Controls.{IsValid, generation_of, pins_in}
+use Rattle.gt_words.specs.Rule.{Agrees, IsLawful, IsNextEntry, IsRecord, IsRevocation, IsSeenOf, MayFollow, SawRecord, ShowsRecord, total_pins}
+use Rattle.gt_words.specs.Views.{HasBody, IsIn, LivePin, Seen, is_same_dir, pin_count, pins, record_seen, seen, value_or_zero, weight, with_body, without_pin}
+use Rattle.gt_words.specs.declared.view.Change.{Change}
+use Rattle.gt_words.specs.declared.view.EntryStep.{EntryStep}
+use Rattle.gt_words.specs.declared.view.EntryStep.TheVariants.{Changed, Pinned, StoredBody, Unpinned}
+use Rattle.gt_words.specs.declared.view.Half.{Half}
+use Rattle.gt_words.specs.declared.view.Half.TheVariants.{First, Second}
+use Rattle.gt_words.specs.declared.view.Record.{Record}
+use Rattle.gt_entry.specs.declared.control.Kind.TheVariants as kind
+
+pub total_pins-set : (d : Dir) (hs : List (List EntryStep)) (i : ℕ) (h h' : List EntryStep) → get_elem? hs i ≡ some h → total_pins d (set hs i h') + pin_count d (pins h) ≡ total_pins d hs + pin_count d (pins h')
+total_pins-set d [] i h h' e = absurd (some-ne-none h (sym e))
+total_pins-set d (x ∷ xs) zero h h' e = let p : pin_count d (pins x) ≡ pin_count d (pins h) = ap (λ (z : List EntryStep). pin_count d (pins z)) (some-injective x h e) in omega arith
+total_pins-set d (x ∷ xs) (suc i) h h' e = let r = total_pins-set d xs i h h' e in omega arith
+
+same_weight : (d c e : Dir) → is_same_dir c e ≡ true → weight d c ≡ weight d e
+same_weight d Read Read h = refl
+same_weight d Read Write h = cc
+same_weight d Write Read h = cc
+same_weight d Write Write h = refl
+
+is_same : (c : Dir) → is_same_dir c c ≡ true
+is_same Read = refl
+is_same Write = refl
+
+pub pin_count-without_pin : (d c : Dir) (g : ℕ) (p : LivePin) (ps : List LivePin) → IsIn p ps → p.0 ≡ c → p.1.generation ≡ g → pin_count d (without_pin c g ps) + weight d c ≡ pin_count d ps
+pin_count-without_pin d c g p [] h e f = absurd h
+pin_count-without_pin d c g p (q ∷ qs) h e f = go (λ r. pin_count-without_pin d c g p qs r e f) (is_same_dir c q.0 && (g == q.1.generation)) refl
+  where
+    go : (IsIn p qs → pin_count d (without_pin c g qs) + weight d c ≡ pin_count d qs) → (b : Bool) → (is_same_dir c q.0 && (g == q.1.generation)) ≡ b
+        → pin_count d (cond b qs (q ∷ without_pin c g qs)) + weight d c ≡ weight d q.0 + pin_count d qs
+    go more true is = let s : is_same_dir c q.0 ≡ true = grind arith in let w = same_weight d c q.0 s in omega arith
+    go more false is = ⊎_elim (λ (same : p ≡ q). absurd (let k : is_same_dir c q.0 ≡ true = subst (λ (z : LivePin). is_same_dir c z.0 ≡ true) same (subst (λ (z : Dir). is_same_dir c z ≡ true) (sym e) (is_same c)) in
+        let n : g ≡ q.1.generation = sym f ∙ ap (λ (z : LivePin). z.1.generation) same in grind (arith, common_steps)))
+        (λ (rest : IsIn p qs). let r = more rest in omega arith) h
+
+pub IsIn-without_pin : (c : Dir) (g : ℕ) (p : LivePin) (ps : List LivePin) → IsIn p (without_pin c g ps) → IsIn p ps
+IsIn-without_pin c g p [] h = h
+IsIn-without_pin c g p (q ∷ qs) h = go (IsIn-without_pin c g p qs) (is_same_dir c q.0 && (g == q.1.generation)) h
+  where
+    go : (IsIn p (without_pin c g qs) → IsIn p qs) → (b : Bool) → IsIn p (cond b qs (q ∷ without_pin c g qs)) → (p ≡ q) ⊎ IsIn p qs
+    go more true k = inr k
+    go more false k = ⊎_elim (λ (e : p ≡ q). inl e) (λ (r : IsIn p (without_pin c g qs)). inr (more r)) k
+
+-- the list of records
+
+pub bounded : (x : Record) (xs : List Record) (y : Record) → IsLawful x xs → IsIn y (x ∷ xs) → y.generation ≤ x.generation
+bounded x [] y l (inl e) = let g : y.generation ≡ x.generation = ap (λ (z : Record). z.generation) e in omega arith
+bounded x [] y l (inr h) = absurd h
+bounded x (z ∷ zs) y l (inl e) = let g : y.generation ≡ x.generation = ap (λ (w : Record). w.generation) e in omega arith
+bounded x (z ∷ zs) y l (inr h) = let r = bounded z zs y l.2 h in ⊎_elim (λ (t : IsRevocation x z). let e = t.1 in omega arith)
+    (λ (t : IsNextEntry x z). let e = t.0 in omega arith) l.1
+
+-- where the last record is an entry, no other has its generation
+pub alone : (x : Record) (xs : List Record) (y : Record) → IsLawful x xs → x.entry ≢ Invalid → IsIn y (x ∷ xs) → y.generation ≡ x.generation → y ≡ x
+alone x [] y l n (inl e) g = e
+alone x [] y l n (inr h) g = absurd h
+alone x (z ∷ zs) y l n (inl e) g = e
+alone x (z ∷ zs) y l n (inr h) g = let r = bounded z zs y l.2 h in absurd (⊎_elim (λ (t : IsRevocation x z). n t.0)
+    (λ (t : IsNextEntry x z). let e = t.0 in omega arith) l.1)
+
+-- a record that comes after a list is none of it, if it is an entry
+pub fresh : (x : Record) (xs : List Record) (w y : Record) → IsLawful x xs → MayFollow w x → IsIn y (x ∷ xs) → w ≡ y → w.entry ≡ Invalid
+fresh x xs w y l f h e = let r = bounded x xs y l h in ⊎_elim (λ (t : IsRevocation w x). t.0)
+    (λ (t : IsNextEntry w x). let a = t.0 in let g : w.generation ≡ y.generation = ap (λ (z : Record). z.generation) e in absurd (omega arith)) f
+
+pub legal_record : (x : Record) (xs : List Record) → IsLawful x xs → IsRecord x
+legal_record x [] l = l.0
+legal_record x (z ∷ zs) l = l.0
+
+pub listed_record : (x : Record) (xs : List Record) (y : Record) → IsLawful x xs → IsIn y (x ∷ xs) → IsRecord y
+listed_record x xs y l (inl e) = subst IsRecord (sym e) (legal_record x xs l)
+listed_record x [] y l (inr h) = absurd h
+listed_record x (z ∷ zs) y l (inr h) = listed_record z zs y l.2 h
+
+-- the parts of a control word
+
+pub low_small : (e : Entry) → low_bits e < 16
+low_small Invalid = omega arith
+low_small (Page d true f) = omega arith
+low_small (Page d false f) = omega arith
+low_small (Sub d true f a n) = omega arith
+low_small (Sub d false f a n) = omega arith
+low_small (Via d true t r) = omega arith
+low_small (Via d false t r) = omega arith
+
+pub domain_small : (e : Entry) → IsEntry e → named_domain e < 65536
+domain_small Invalid h = omega arith
+domain_small (Page d o f) h = h.0
+domain_small (Sub d o f a n) h = h.0
+domain_small (Via d o t r) h = h.0
+
+pub spelled_parts : (e : Entry) (g r w : ℕ) → IsEntry e → (r < 4096) × (w < 4096) → PartsOf (word_of e g r w) (low_bits e) (named_domain e) g r w
+spelled_parts e g r w ok in_range = parts (low_bits e) (named_domain e) g r w (low_small e) (domain_small e ok) in_range.0 in_range.1
+
+-- what the word of an entry holds
+pub spelled_control : (e : Entry) (g r w : ℕ) → IsEntry e → (r < 4096) × (w < 4096) → g < 1048576 → control_of (word_of e g r w) ≡ control_with e g r w
+spelled_control e g r w ok in_range small = ap control_of (sym (entry-word e g r w)) ∙ control-round (control_with e g r w) (range e) (named e ok)
+  where
+    range : (e : Entry) → IsInRange (control_with e g r w)
+    range Invalid = record { reads = in_range.0; writes = in_range.1; generation = small }
+    range (Page d o f) = record { reads = in_range.0; writes = in_range.1; generation = small }
+    range (Sub d o f a n) = record { reads = in_range.0; writes = in_range.1; generation = small }
+    range (Via d o t q) = record { reads = in_range.0; writes = in_range.1; generation = small }
+
+    named : (e : Entry) → IsEntry e → (control_with e g r w).dom.0 < 65536
+    named Invalid ok = omega arith
+    named (Page d o f) ok = ok.0
+    named (Sub d o f a n) ok = ok.0
+    named (Via d o t q) ok = ok.0
+
+-- one step of the seat i, whose moves on the entry were h
+
+module _ (x : Record) (xs : List Record) (a b : ℕ) (hs : List (List EntryStep)) (i : ℕ) (h : List EntryStep) (m : EntryStep) where
+  all_known : (f : SawRecord x xs (seen (m ∷ h))) → ((j : ℕ) (y : List EntryStep) → get_elem? hs j ≡ some y → SawRecord x xs (seen y)) → (j : ℕ) (y : List EntryStep) → get_elem? (set hs i (m ∷ h)) j ≡ some y → SawRecord x xs (seen y)
+  all_known f saw j y e = ⊎_elim (λ (t : (j ≡ i) × ((m ∷ h) ≡ y)). subst (λ (z : List EntryStep). SawRecord x xs (seen z)) t.1 f) (λ (t : (j ≢ i) × (get_elem? hs j ≡ some y)). saw j y t.1) (at_set hs i j (m ∷ h) y e)
+
+  all_pinned : ((p : LivePin) → IsIn p (pins (m ∷ h)) → IsIn p.1 (x ∷ xs)) → ((j : ℕ) (y : List EntryStep) → get_elem? hs j ≡ some y → (p : LivePin) → IsIn p (pins y) → IsIn p.1 (x ∷ xs))
+      → (j : ℕ) (y : List EntryStep) → get_elem? (set hs i (m ∷ h)) j ≡ some y → (p : LivePin) → IsIn p (pins y) → IsIn p.1 (x ∷ xs)
+  all_pinned f pinned j y e = ⊎_elim (λ (t : (j ≡ i) × ((m ∷ h) ≡ y)). subst (λ (z : List EntryStep). (p : LivePin) → IsIn p (pins z) → IsIn p.1 (x ∷ xs)) t.1 f)
+      (λ (t : (j ≢ i) × (get_elem? hs j ≡ some y)). pinned j y t.1) (at_set hs i j (m ∷ h) y e)
+
+  same_held : (d : Dir) → get_elem? hs i ≡ some h → pins (m ∷ h) ≡ pins h → total_pins d (set hs i (m ∷ h)) ≡ total_pins d hs
+  same_held d e p = let r = total_pins-set d hs i h (m ∷ h) e in let q : pin_count d (pins (m ∷ h)) ≡ pin_count d (pins h) = ap (pin_count d) p in omega arith
+
+  -- a step that changes neither the word nor a pin
+  pub sees_shown : (word : ℕ) → ShowsRecord x xs word a b hs → get_elem? hs i ≡ some h → pins (m ∷ h) ≡ pins h → SawRecord x xs (seen (m ∷ h)) → ShowsRecord x xs word a b (set hs i (m ∷ h))
+  sees_shown word k e p f = let r = same_held Read e p in let w = same_held Write e p in record {
+    spelled = k.spelled ∙ ap (λ (z : ℕ × ℕ). word_of x.entry x.generation z.0 z.1) (λ j. (sym r j, sym w j));
+    in_range = (let t = k.in_range.0 in omega arith, let t = k.in_range.1 in omega arith);
+    body = k.body;
+    lawful = k.lawful;
+    unpinned = λ n. (r ∙ (k.unpinned n).0, w ∙ (k.unpinned n).1);
+    pinned = all_pinned (λ q t. k.pinned i h e q (subst (IsIn q) p t)) k.pinned;
+    saw = all_known f k.saw;
+  }
+
+-- the word of the last record is a look at it
+pub looks_at : (x : Record) (xs : List Record) (r w : ℕ) (word : ℕ) → (r < 4096) × (w < 4096) → word ≡ word_of x.entry x.generation r w → SawRecord x xs (Some (record { word = word; first = None; second = None }))
+looks_at x xs r w word f e = record { at = x; reads = r; writes = w; listed = inl refl; in_range = f; spelled = e; agrees = λ _. blank x.entry }
+  where
+    blank : (e : Entry) → Agrees e None None
+    blank Invalid = tt
+    blank (Page d o f) = tt
+    blank (Sub d o f a n) = (tt, tt)
+    blank (Via d o t r) = tt
+
+saw_first : (e : Entry) (a b : ℕ) (p q : Option ℕ) → IsSpelled e a b → Agrees e p q → Agrees e (Some a) q
+saw_first Invalid a b p q s g = tt
+saw_first (Page d o f) a b p q s g = s
+saw_first (Sub d o f y n) a b p q s g = (s.0, g.1)
+saw_first (Via d o t r) a b p q s g = s
+
+saw_second : (e : Entry) (a b : ℕ) (p q : Option ℕ) → IsSpelled e a b → Agrees e p q → Agrees e p (Some b)
+saw_second Invalid a b p q s g = tt
+saw_second (Page d o f) a b p q s g = g
+saw_second (Sub d o f y n) a b p q s g = (g.0, s.1)
+saw_second (Via d o t r) a b p q s g = g
+
+-- a look at a body word
+pub saw_known : (x : Record) (xs : List Record) (a b : ℕ) (k : Half) (v : ℕ) (s : Option Seen) → IsSpelled x.entry a b → (k ≡ First → v ≡ a) → (k ≡ Second → v ≡ b) → SawRecord x xs s → SawRecord x xs (with_body k v s)
+saw_known x xs a b k v None body f g n = tt
+saw_known x xs a b First v (Some s) body f g n = record {
+  at = n.at;
+  reads = n.reads;
+  writes = n.writes;
+  listed = n.listed;
+  in_range = n.in_range;
+  spelled = n.spelled;
+  agrees = λ e. subst (λ (y : ℕ). Agrees n.at.entry (Some y) s.second) (sym (f refl)) (saw_first n.at.entry a b s.first s.second (subst (λ (y : Record). IsSpelled y.entry a b) e body) (n.agrees e));
+}
+saw_known x xs a b Second v (Some s) body f g n = record {
+  at = n.at;
+  reads = n.reads;
+  writes = n.writes;
+  listed = n.listed;
+  in_range = n.in_range;
+  spelled = n.spelled;
+  agrees = λ e. subst (λ (y : ℕ). Agrees n.at.entry s.first (Some y)) (sym (g refl)) (saw_second n.at.entry a b s.first s.second (subst (λ (y : Record). IsSpelled y.entry a b) e body) (n.agrees e));
+}
+
+-- the word with one pin more of the kind d
+more : (d : Dir) (e : Entry) (g r w r' w' : ℕ) → r' ≡ r + weight Read d → w' ≡ w + weight Write d → word_of e g r w + unit_of d ≡ word_of e g r' w'
+more Read e g r w r' w' p q = omega arith
+more Write e g r w r' w' p q = omega arith
+
+few_more : (d : Dir) (r w r' w' : ℕ) → r' ≡ r + weight Read d → w' ≡ w + weight Write d → (r < 4096) × (w < 4096) → (d ≡ Read → r < 4095) → (d ≡ Write → w < 4095) → (r' < 4096) × (w' < 4096)
+few_more Read r w r' w' p q f a b = let h = a refl in let g = f.1 in (omega arith, omega arith)
+few_more Write r w r' w' p q f a b = let h = b refl in let g = f.0 in (omega arith, omega arith)
+
+module _ (x : Record) (xs : List Record) (a b : ℕ) (hs : List (List EntryStep)) (i : ℕ) (h : List EntryStep) where
+  pub pins_shown : (word expected : ℕ) (d : Dir) → ShowsRecord x xs word a b hs → get_elem? hs i ≡ some h → x.entry ≢ Invalid → (d ≡ Read → total_pins Read hs < 4095) → (d ≡ Write → total_pins Write hs < 4095)
+      → ShowsRecord x xs (word + unit_of d) a b (set hs i (Pinned d expected x ∷ h))
+  pins_shown word expected d k e n fr fw = let hs' : List (List EntryStep) = set hs i (Pinned d expected x ∷ h) in
+      let r : total_pins Read hs' ≡ total_pins Read hs + weight Read d = let t = total_pins-set Read hs i h (Pinned d expected x ∷ h) e in omega arith in
+      let w : total_pins Write hs' ≡ total_pins Write hs + weight Write d = let t = total_pins-set Write hs i h (Pinned d expected x ∷ h) e in omega arith in record {
+        spelled = ap (λ (z : ℕ). z + unit_of d) k.spelled ∙ more d x.entry x.generation (total_pins Read hs) (total_pins Write hs) (total_pins Read hs') (total_pins Write hs') r w;
+        in_range = few_more d (total_pins Read hs) (total_pins Write hs) (total_pins Read hs') (total_pins Write hs') r w k.in_range fr fw;
+        body = k.body;
+        lawful = k.lawful;
+        unpinned = λ z. absurd (n z);
+        pinned = all_pinned x xs a b hs i h (Pinned d expected x) (λ p t. ⊎_elim (λ (s : p ≡ (d, x)). inl (ap (λ (z : LivePin). z.1) s)) (λ (s : IsIn p (pins h)). k.pinned i h e p s) t) k.pinned;
+        saw = all_known x xs a b hs i h (Pinned d expected x) (k.saw i h e) k.saw;
+      }
+
+  pub unpins_shown : (word : ℕ) (d : Dir) (p : LivePin) → ShowsRecord x xs word a b hs → get_elem? hs i ≡ some h → IsIn p (pins h) → p.0 ≡ d
+      → ShowsRecord x xs (word - unit_of d) a b (set hs i (Unpinned d p.1.generation ∷ h))
+  unpins_shown word d p k e is_in same = let g : ℕ = p.1.generation in let m : EntryStep = Unpinned d g in let hs' : List (List EntryStep) = set hs i (m ∷ h) in
+      let r : total_pins Read hs ≡ total_pins Read hs' + weight Read d = let t = total_pins-set Read hs i h (m ∷ h) e in let c = pin_count-without_pin Read d g p (pins h) is_in same refl in omega arith in
+      let w : total_pins Write hs ≡ total_pins Write hs' + weight Write d = let t = total_pins-set Write hs i h (m ∷ h) e in let c = pin_count-without_pin Write d g p (pins h) is_in same refl in omega arith in
+      let f = k.in_range in let f0 = f.0 in let f1 = f.1 in record {
+        spelled = let t = more d x.entry x.generation (total_pins Read hs') (total_pins Write hs') (total_pins Read hs) (total_pins Write hs) r w in let s = k.spelled in omega arith;
+        in_range = (omega arith, omega arith);
+        body = k.body;
+        lawful = k.lawful;
+        unpinned = λ z. let q = k.unpinned z in let q0 = q.0 in let q1 = q.1 in (omega arith, omega arith);
+        pinned = all_pinned x xs a b hs i h m (λ q t. k.pinned i h e q (IsIn-without_pin d g q (pins h) t)) k.pinned;
+        saw = all_known x xs a b hs i h m (k.saw i h e) k.saw;
+      }
+
+  -- the owner stores a body word of an invalid entry
+  pub stores_shown : (word : ℕ) (k : Half) (v a' b' : ℕ) → ShowsRecord x xs word a b hs → get_elem? hs i ≡ some h → x.entry ≡ Invalid → ShowsRecord x xs word a' b' (set hs i (StoredBody k v ∷ h))
+  stores_shown word k v a' b' z e n = let s = sees_shown x xs a b hs i h (StoredBody k v) word z e refl (z.saw i h e) in record {
+    spelled = s.spelled;
+    in_range = s.in_range;
+    body = subst (λ (y : Entry). IsSpelled y a' b') (sym n) tt;
+    lawful = s.lawful;
+    unpinned = s.unpinned;
+    pinned = s.pinned;
+    saw = s.saw;
+  }
+
+  -- the owner exchanges the control word
+  pub changes_shown : (word word' expected stored : ℕ) (c : Change) (y : Record) → ShowsRecord x xs word a b hs → get_elem? hs i ≡ some h → IsRecord y → MayFollow y x → IsSpelled y.entry a b
+      → word' ≡ word_of y.entry y.generation (total_pins Read hs) (total_pins Write hs) → (y.entry ≡ Invalid → (total_pins Read hs ≡ 0) × (total_pins Write hs ≡ 0))
+      → ShowsRecord y (x ∷ xs) word' a b (set hs i (Changed c expected stored y ∷ h))
+  changes_shown word word' expected stored c y k e ok may body is unpinned = let m : EntryStep = Changed c expected stored y in let s = sees_shown x xs a b hs i h m word k e refl (k.saw i h e) in
+      let r = same_held x xs a b hs i h m Read e refl in let w = same_held x xs a b hs i h m Write e refl in record {
+        spelled = is ∙ ap (λ (z : ℕ × ℕ). word_of y.entry y.generation z.0 z.1) (λ j. (sym r j, sym w j));
+        in_range = s.in_range;
+        body = body;
+        lawful = (ok, may, k.lawful);
+        unpinned = λ n. (r ∙ (unpinned n).0, w ∙ (unpinned n).1);
+        pinned = λ j z at p t. inr (s.pinned j z at p t);
+        saw = λ j z at. on (seen z) (s.saw j z at);
+      }
+    where
+      on : (s : Option Seen) → SawRecord x xs s → SawRecord y (x ∷ xs) s
+      on None n = tt
+      on (Some s) n = record {
+        at = n.at;
+        reads = n.reads;
+        writes = n.writes;
+        listed = inr n.listed;
+        in_range = n.in_range;
+        spelled = n.spelled;
+        agrees = λ q. let inv = fresh x xs y n.at k.lawful may n.listed q in subst (λ (z : Entry). Agrees z s.first s.second) (sym (ap (λ (z : Record). z.entry) (sym q) ∙ inv)) tt;
+      }
+
+-- what was seen is the last record, where the word is still the one seen
+
+none_some : IsSome {T = ℕ} None → ⊥
+none_some h = cc
+
+-- body values that agree with the entry, and were read, spell it
+read_body : (e : Entry) (p q : Option ℕ) (g r w : ℕ) → Agrees e p q → IsSome p → ((control_with e g r w).kind ≡ kind.Sub → IsSome q) → IsSpelled e (value_or_zero p) (value_or_zero q)
+read_body Invalid p q g r w a s t = tt
+read_body (Page d o f) (Some x) q g r w a s t = a
+read_body (Sub d o f y k) (Some x) (Some z) g r w a s t = a
+read_body (Via d o u k) (Some x) q g r w a s t = a
+read_body (Page d o f) None q g r w a s t = absurd (none_some s)
+read_body (Sub d o f y k) None q g r w a s t = absurd (none_some s)
+read_body (Sub d o f y k) (Some x) None g r w a s t = absurd (none_some (t refl))
+read_body (Via d o u k) None q g r w a s t = absurd (none_some s)
+
+-- what the seat saw of the entry is its last record, where the word is still the one seen
+pub seen_is_last : (x : Record) (xs : List Record) (s : Seen) (word r w : ℕ) → IsLawful x xs → IsSeenOf x xs s → (r < 4096) × (w < 4096) → word ≡ word_of x.entry x.generation r w → s.word ≡ word → IsValid word → HasBody s
+    → (record_seen s ≡ x) × (x.entry ≢ Invalid) × (pins_in Read word ≡ r) × (pins_in Write word ≡ w)
+seen_is_last x xs s word r w lawful k in_range is same valid body =
+    let rec = legal_record x xs lawful in let old = listed_record x xs k.at lawful k.listed in
+    let e : s.word ≡ word_of x.entry x.generation r w = same ∙ is in
+    let c : control_of s.word ≡ control_with x.entry x.generation r w = ap control_of e ∙ spelled_control x.entry x.generation r w rec.0 in_range rec.1 in
+    let n : x.entry ≢ Invalid = λ h. valid (ap (λ (u : ℕ). (control_of u).kind) (sym same) ∙ (ap (λ (u : Control). u.kind) c ∙ ap (λ (u : Entry). (control_with u x.generation r w).kind) h)) in
+    let same_word : word_of k.at.entry k.at.generation k.reads k.writes ≡ word_of x.entry x.generation r w = sym k.spelled ∙ e in
+    let d = digits (low_bits k.at.entry) (named_domain k.at.entry) k.at.generation k.reads k.writes (low_bits x.entry) (named_domain x.entry) x.generation r w
+    (low_small k.at.entry) (low_small x.entry) k.in_range.0 in_range.0 k.in_range.1 in_range.1 (domain_small k.at.entry old.0) (domain_small x.entry rec.0) same_word in
+    let here : k.at ≡ x = alone x xs k.at lawful n k.listed d.generation in let agrees : Agrees x.entry s.first s.second = subst (λ (y : Record). Agrees y.entry s.first s.second) here (k.agrees (sym here)) in
+    let spelled = read_body x.entry s.first s.second x.generation r w agrees body.0 (λ h. body.1 (ap (λ (u : Control). u.kind) c ∙ h)) in
+    let read : entry_of (control_of s.word) (value_or_zero s.first) (value_or_zero s.second) ≡ x.entry = ap (λ (u : Control). entry_of u (value_or_zero s.first) (value_or_zero s.second)) c
+    ∙ entry-read x.entry x.generation r w (value_or_zero s.first) (value_or_zero s.second) rec.0 spelled in
+    let t = spelled_parts x.entry x.generation r w rec.0 in_range in
+    let gen : generation_of s.word ≡ x.generation = ap generation_of e ∙ t.generation in
+    ((λ i. record { generation = gen i; entry = read i }), n, ap (pins_in Read) is ∙ t.reads, ap (pins_in Write) is ∙ t.writes)

@@ -1,0 +1,6 @@
+use Rattle.std.proofs.Common.{◌≡◌}
+use Rattle.gt_words.specs.Conditions.{IsSeatOf}
+use Rattle.gt_words.proofs.tests.churn.Given as goal
+
+abbrev pub invariant-loop : goal.invariant-loop
+invariant-loop l = IsSeatOf l.words l.seat

@@ -1,0 +1,7 @@
+pub mod Controls
+pub mod Views
+pub mod Rule
+pub mod Events
+pub mod Steps
+pub mod Conditions
+pub mod Places

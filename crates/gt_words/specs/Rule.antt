@@ -1,0 +1,146 @@
+-- The rule of the table: between any two steps words and views show a state of the core.
+use Rattle.std.specs.Prelude.{◌≡◌, ◌≢◌, ◌⊎◌, ℕ, ◌+◌, ◌*◌, ◌/◌, ◌%◌, ◌<◌, ◌≤◌, Bool, not, cond, ◌==◌, List, [], ◌∷◌, map, length, slice_index, slice_index_or, Option, Some, None, IfSome, position, unwrap_or}
+use mathlib.Core.Option.{some}
+use lib.ListN.{get_elem?}
+use Rattle.atomic_table.specs.Table.{State}
+use Rattle.gt_entry.specs.Entries.{IsEntry, is_read_only, with_ro}
+use Rattle.gt_entry.specs.Spelling.{IsSpelled, word_of}
+use Rattle.gt_entry.specs.declared.entry.Entry.{Entry}
+use Rattle.gt_entry.specs.declared.entry.Entry.TheVariants.{Invalid, Page, Sub, Via}
+use Rattle.gt_types.specs.declared.Dir.{Dir}
+use Rattle.gt_types.specs.declared.Dir.TheVariants.{Read, Write}
+use Rattle.gt_types.specs.declared.DomId.{DomId}
+use Rattle.gt_types.specs.declared.config.Config.{Config}
+use Rattle.gt_types.specs.declared.limits.TheConstants.{MAX_TABLE_FRAMES}
+use Rattle.gt_words.specs.Views.{IsIn, LivePin, Seen, earlier_records, last_record, pin_count, pins, seen, steps_on, steps_on_header, stored_body, stored_header}
+use Rattle.gt_words.specs.declared.view.EntryStep.{EntryStep}
+use Rattle.gt_words.specs.declared.view.Half.TheVariants.{First, Second}
+use Rattle.gt_words.specs.declared.view.HeaderStep.{HeaderStep}
+use Rattle.gt_words.specs.declared.view.Record.{Record}
+use Rattle.gt_words.specs.declared.view.View.{View}
+
+-- the run as the words need it: the domains in order, the first generation of all entries, and the first header of each domain
+pub record Layout : Type 0 where
+  pub ids : List DomId
+  pub domains : ℕ
+  pub first : ℕ
+  pub headers : List ℕ
+
+-- version in the low two bits, table frames above (own)
+abbrev pub header_number : ℕ → ℕ → ℕ
+header_number version frames = version + frames * 4
+
+-- the same header with another version, and with another number of table frames
+abbrev pub version_set : ℕ → ℕ → ℕ
+version_set version w = header_number version (w / 4)
+
+abbrev pub frames_set : ℕ → ℕ → ℕ
+frames_set frames w = header_number (w % 4) frames
+
+abbrev pub layout_of : Config → Layout
+layout_of c = record { ids = map (λ d. d.id) c.domains.items; domains = length c.domains.items; first = c.first_gen; headers = map (λ d. header_number d.version d.table_frames) c.domains.items }
+
+-- the position of a domain among those of the run, or their number where it is none of them
+abbrev pub position_in : List DomId → DomId → ℕ
+position_in xs d = unwrap_or (position (λ x. x.0 == d.0) xs) (length xs)
+
+-- the number of the domain at a position
+abbrev pub id_at : List DomId → ℕ → DomId
+id_at xs t = slice_index_or xs t (record { 0 = 0 })
+
+-- where the words stand: each domain has one header word, and three words for each of 2,048 entries (own)
+abbrev pub place : ℕ → ℕ → ℕ → ℕ
+place t r j = t * 6145 + (3 * r + (1 + j))
+
+abbrev pub header_place : ℕ → ℕ
+header_place t = t * 6145
+
+-- each part of the record is in its range
+abbrev pub IsRecord : Record → Type 0
+IsRecord x = IsEntry x.entry × (x.generation < 1048576)
+
+-- x is the record y revoked: invalid, of the same generation
+abbrev pub IsRevocation : Record → Record → Type 0
+IsRevocation x y = (x.entry ≡ Invalid) × (x.generation ≡ y.generation)
+
+-- x is an entry of the next generation: a publication after an invalid record, or the record before with the other readonly
+abbrev pub IsNextEntry : Record → Record → Type 0
+IsNextEntry x y = (x.generation ≡ y.generation + 1) × (x.entry ≢ Invalid) × ((y.entry ≡ Invalid) ⊎ (x.entry ≡ with_ro (not (is_read_only y.entry)) y.entry))
+
+-- the record x may come next after y
+abbrev pub MayFollow : Record → Record → Type 0
+MayFollow x y = IsRevocation x y ⊎ IsNextEntry x y
+
+-- the list of records that x ends, with what came before it
+abbrev pub IsLawful : Record → List Record → Type 0
+IsLawful x [] = IsRecord x × (x.entry ≡ Invalid)
+IsLawful x (y ∷ ys) = IsRecord x × MayFollow x y × IsLawful y ys
+
+-- the pins of a kind on an entry, added up seat by seat
+abbrev pub total_pins : Dir → List (List EntryStep) → ℕ
+total_pins d [] = 0
+total_pins d (h ∷ hs) = pin_count d (pins h) + total_pins d hs
+
+-- the body values read are those of the entry
+abbrev pub Agrees : Entry → Option ℕ → Option ℕ → Type 0
+Agrees Invalid a b = Unit {0}
+Agrees (Page d o f) a b = IfSome a (λ x. x ≡ f)
+Agrees (Sub d o f y n) a b = IfSome a (λ x. x ≡ f) × IfSome b (λ x. x ≡ y + n * 65536)
+Agrees (Via d o t r) a b = IfSome a (λ x. x ≡ t.0 + r.0 * 65536)
+
+-- the word seen spells a record of the owner's list x ∷ xs, and so do the body values read since, if that record is still the last one
+pub record IsSeenOf (x : Record) (xs : List Record) (s : Seen) : Type 0 where
+  pub at : Record
+  pub reads : ℕ
+  pub writes : ℕ
+  pub listed : IsIn at (x ∷ xs)
+  pub in_range : (reads < 4096) × (writes < 4096)
+  pub spelled : s.word ≡ word_of at.entry at.generation reads writes
+  pub agrees : x ≡ at → Agrees at.entry s.first s.second
+
+abbrev pub SawRecord : Record → List Record → Option Seen → Type 0
+SawRecord x xs None = Unit {0}
+SawRecord x xs (Some s) = IsSeenOf x xs s
+
+-- The words of one entry and the steps of each seat on it show the last record x, after the records xs
+pub record ShowsRecord (x : Record) (xs : List Record) (word a b : ℕ) (hs : List (List EntryStep)) : Type 0 where
+  -- owner part and generation of the control word spell the last record, and its counts are the sums of the views' pins
+  pub spelled : word ≡ word_of x.entry x.generation (total_pins Read hs) (total_pins Write hs)
+  pub in_range : (total_pins Read hs < 4096) × (total_pins Write hs < 4096)
+  pub body : IsSpelled x.entry a b
+  pub lawful : IsLawful x xs
+  -- an invalid last record has no pins in any view
+  pub unpinned : x.entry ≡ Invalid → (total_pins Read hs ≡ 0) × (total_pins Write hs ≡ 0)
+  -- each pin is of a record of the owner's list
+  pub pinned : (i : ℕ) (h : List EntryStep) → get_elem? hs i ≡ some h → (p : LivePin) → IsIn p (pins h) → IsIn p.1 (x ∷ xs)
+  pub saw : (i : ℕ) (h : List EntryStep) → get_elem? hs i ≡ some h → SawRecord x xs (seen h)
+
+-- the owner's steps on the entry, out of those of each seat
+abbrev pub owner_steps : ℕ → List (List EntryStep) → List EntryStep
+owner_steps t hs = slice_index_or hs t []
+
+-- the same where the records and the body words are those of the owner t
+pub record ShowsEntry (g t word a b : ℕ) (hs : List (List EntryStep)) : Type 0 where
+  pub record_shown : ShowsRecord (last_record g (owner_steps t hs)) (earlier_records g (owner_steps t hs)) word a b hs
+  pub first : a ≡ stored_body First (owner_steps t hs)
+  pub second : b ≡ stored_body Second (owner_steps t hs)
+
+-- version 1 or 2, and a number of table frames within the limit
+abbrev pub IsHeader : ℕ → Type 0
+IsHeader w = (version : ℕ) × (frames : ℕ) × ((version ≡ 1) ⊎ (version ≡ 2)) × (0 < frames) × (frames ≤ MAX_TABLE_FRAMES) × (w ≡ header_number version frames)
+
+-- the header of the domain t, by the steps of each seat on it
+abbrev pub header_now : Layout → ℕ → List (List HeaderStep) → ℕ
+header_now k t hs = stored_header (slice_index k.headers t) (slice_index_or hs t [])
+
+-- Words and views show a state of the core (own)
+module _ {S : Type 0} where
+  pub record Shows (k : Layout) (s : State S View) : Type 0 where
+    pub wide : length s.words ≡ k.domains * 6145
+    -- the first seat deals the others, and counts them
+    pub dealt : ((v : View) → get_elem? s.views 0 ≡ some v → v.dealt ≡ length s.views) × (length s.views ≤ k.domains) × (0 < length s.views)
+    -- the seat of each domain stands at its position
+    pub seats : (j : ℕ) (v : View) → get_elem? s.views j ≡ some v → (v.position ≡ j) × (v.first ≡ k.first) × (v.headers ≡ k.headers)
+    pub entries : (t r : ℕ) → t < k.domains → r < 2048
+        → ShowsEntry k.first t (slice_index s.words (place t r 0)) (slice_index s.words (place t r 1)) (slice_index s.words (place t r 2)) (map (steps_on t r) s.views)
+    pub headers : (t : ℕ) → t < k.domains → (slice_index s.words (header_place t) ≡ header_now k t (map (steps_on_header t) s.views)) × IsHeader (slice_index s.words (header_place t))

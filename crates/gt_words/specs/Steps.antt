@@ -1,0 +1,113 @@
+-- One atomic step: what it adds to its seat's view, and the state that it was taken in.
+use Rattle.std.specs.Prelude.{◌≡◌, ◌≢◌, ℕ, ◌+◌, ◌-◌, ◌*◌, ◌%◌, ◌^◌, ◌<◌, ◌≤◌, Bool, true, false, cond, ◌==◌, [], slice_index, IfSome}
+use mathlib.Core.Option.{some}
+use lib.ListN.{get_elem?}
+use prog.Atomic.{either}
+use Rattle.atomic_table.specs.Table.{State, Me, Step as TableStep, stepped, keeps}
+use Rattle.gt_entry.specs.Entries.{with_ro}
+use Rattle.gt_entry.specs.Words.{unit_of}
+use Rattle.gt_entry.specs.declared.entry.Entry.{Entry}
+use Rattle.gt_types.specs.declared.Dir.{Dir}
+use Rattle.gt_words.specs.Events.{Happens}
+use Rattle.gt_words.specs.Rule.{Layout, Shows}
+use Rattle.gt_words.specs.Views.{invalid_at, last_of, last_seen, record_seen, with_step}
+use Rattle.gt_words.specs.declared.view.EntryStep.{EntryStep}
+use Rattle.gt_words.specs.declared.view.EntryStep.TheVariants.{ChangeMissed, Changed, Looked, PinMissed, Pinned, ReadBody, StoredBody, Unpinned}
+use Rattle.gt_words.specs.declared.view.Half.{Half}
+use Rattle.gt_words.specs.declared.view.Half.TheVariants.{First, Second}
+use Rattle.gt_words.specs.declared.view.HeaderStep.{HeaderStep}
+use Rattle.gt_words.specs.declared.view.Purpose.{Purpose}
+use Rattle.gt_words.specs.declared.view.Record.{Record}
+use Rattle.gt_words.specs.declared.view.Step.{Step}
+use Rattle.gt_words.specs.declared.view.View.{View}
+use Rattle.gt_words.specs.declared.view.Change.TheVariants as change
+use Rattle.gt_words.specs.declared.view.Purpose.TheVariants as purpose
+use Rattle.gt_words.specs.declared.view.HeaderStep.TheVariants as header
+use Rattle.gt_words.specs.declared.view.Step.TheVariants as step_of
+
+-- The seat with the view v takes the step x on this word, where it finds one number and leaves another: words and views show a state before it and after it, and it takes the one to what the core's event makes of it (own)
+pub record TakesStep (S : Type 0) (k : Layout) (v : View) (x : Step) (word found left : ℕ) : Type 0 where
+  pub before : State S View
+  pub shown : Shows k before
+  pub mine : get_elem? before.views v.position ≡ some v
+  pub found_is : slice_index before.words word ≡ found
+  pub still_shown : Shows k (stepped before word left v.position [] (with_step x v) keeps)
+  pub happens : Happens k v.position x before (stepped before word left v.position [] (with_step x v) keeps)
+
+-- a step on the entry r of the domain t
+abbrev pub on_entry : ℕ → ℕ → EntryStep → Step
+on_entry t r m = step_of.Entry t r m
+
+-- a step on the header of the domain t
+abbrev pub on_header : ℕ → HeaderStep → Step
+on_header t m = step_of.Header t m
+
+-- a kind of step: the step by the number found, and the number that it leaves
+pub record StepKind : Type 0 where
+  pub layout : Layout
+  pub step : ℕ → Step
+  pub leaves : ℕ → ℕ
+
+-- what a step of this kind tells its caller
+abbrev pub tells : {S : Type 0} → StepKind → TableStep S → Me S View → ℕ → Me S View → Type 0
+tells {S} d st m n m' = (m'.1 ≡ m.1) × (m'.0 ≡ with_step (d.step n) m.0) × TakesStep S d.layout m.0 (d.step n) st.word n (d.leaves n)
+
+-- the same of a store, which does not say what it found
+abbrev pub tells_stored : {S : Type 0} → StepKind → TableStep S → Me S View → Me S View → Type 0
+tells_stored {S} d st m m' = (found : ℕ) × tells {S = S} d st m found m'
+
+-- the kinds of step
+
+abbrev pub entry_kind : Layout → ℕ → ℕ → (ℕ → EntryStep) → (ℕ → ℕ) → StepKind
+entry_kind k t r m f = record { layout = k; step = λ n. on_entry t r (m n); leaves = f }
+
+abbrev pub looking : Layout → ℕ → ℕ → StepKind
+looking k t r = entry_kind k t r (λ n. Looked n) (λ n. n)
+
+abbrev pub reading : Layout → ℕ → ℕ → Half → StepKind
+reading k t r h = entry_kind k t r (λ n. ReadBody h n) (λ n. n)
+
+abbrev pub storing : Layout → ℕ → ℕ → Half → ℕ → StepKind
+storing k t r h v = entry_kind k t r (λ n. StoredBody h v) (λ n. v)
+
+abbrev pub unpinning : Layout → ℕ → ℕ → Dir → ℕ → StepKind
+unpinning k t r d g = entry_kind k t r (λ n. Unpinned d g) (λ n. (n + (2 ^ 64 - unit_of d)) % 2 ^ 64)
+
+abbrev pub looking_at_header : Layout → ℕ → StepKind
+looking_at_header k t = record { layout = k; step = λ n. on_header t (header.Looked n); leaves = λ n. n }
+
+abbrev pub storing_header : Layout → ℕ → ℕ → StepKind
+storing_header k t w = record { layout = k; step = λ n. on_header t (header.Stored w); leaves = λ n. w }
+
+-- the record after a publication, and after a demotion or promotion
+abbrev pub published : Entry → Record → Record
+published e x = record { generation = x.generation + 1; entry = e }
+
+abbrev pub turned : Bool → Record → Record
+turned o x = record { generation = x.generation + 1; entry = with_ro o x.entry }
+
+-- the step of an exchange that is taken, and of one that is missed
+abbrev pub taken : ℕ → ℕ → View → Purpose → ℕ → ℕ → EntryStep
+taken t r v (purpose.Pin d) old new = Pinned d old (record_seen (last_seen t r v))
+taken t r v (purpose.Publish e) old new = Changed change.Publish old new (published e (last_of r v))
+taken t r v purpose.Revoke old new = Changed change.Revoke old new (invalid_at (last_of r v).generation)
+taken t r v purpose.Demote old new = Changed change.Demote old new (turned true (last_of r v))
+taken t r v purpose.Promote old new = Changed change.Promote old new (turned false (last_of r v))
+
+abbrev pub missed : Purpose → ℕ → ℕ → EntryStep
+missed (purpose.Pin d) old n = PinMissed d old n
+missed (purpose.Publish e) old n = ChangeMissed change.Publish old n
+missed purpose.Revoke old n = ChangeMissed change.Revoke old n
+missed purpose.Demote old n = ChangeMissed change.Demote old n
+missed purpose.Promote old n = ChangeMissed change.Promote old n
+
+abbrev pub exchanging : Layout → ℕ → ℕ → View → Purpose → ℕ → ℕ → StepKind
+exchanging k t r v p old new = entry_kind k t r (λ n. cond (n == old) (taken t r v p old new) (missed p old n)) (λ n. either (n == old) new n)
+
+-- the index of a body word among the words of an entry
+abbrev pub half_index : Half → ℕ
+half_index First = 1
+half_index Second = 2
+
+abbrev pub half_of : ℕ → Half
+half_of i = cond (i == 1) First Second

@@ -1,0 +1,361 @@
+//! The table of the words, and its steps by the positions of the domains.
+ghost use Rattle.std.specs.Prelude.{◌≡◌, ◌≢◌, ℕ, ◌+◌, ◌-◌, ◌*◌, ◌/◌, ◌%◌, ◌^◌, ◌<◌, ◌≤◌, ◌==◌, [], length, slice_index, true, false, IfOk, IsOk, MatchResult, HoldsAt};
+ghost use mathlib.Core.Option.{none};
+ghost use prog.Atomic.{either};
+ghost use Rattle.atomic_table.specs.Table.{step, Allows};
+ghost use Rattle.gt_entry.specs.Entries.{IsEntry, is_read_only};
+ghost use Rattle.gt_entry.specs.Spelling.{IsSpelled, idle_word_of};
+ghost use Rattle.gt_words.specs.Controls.{IsValid, IsTurnable, pins_in, generation_of, turned_word, promoted_word};
+ghost use Rattle.gt_words.specs.Views.{stored_body, steps_on, last_of, last_seen, record_seen};
+ghost use Rattle.gt_words.specs.Rule.{Shows, layout_of, place, header_place, IsHeader};
+ghost use Rattle.gt_words.specs.Steps.{StepKind, tells, tells_stored, looking, published, turned, half_index};
+ghost use Rattle.gt_words.specs.Conditions.{CountsPins, IsWide, IsIdleOf, IsWordOf, IsBusyOf, HasLooked, Holds, MayPin, IsNotEarlier, Steps, BodySteps, HeaderSteps, StoresBody, StoresHeader, KeepsPins, Unpins, Pins, MissesPin, Changes, MissesChange, Revokes, Demotes};
+ghost use Rattle.gt_words.specs.Places.{new_view, IsSamePlace};
+
+use crate::view::{Change, EntryStep, Half, HeaderStep, Purpose, View};
+use atomic_table::{Play, Seat, Shared, Table, TableRule};
+use gt_entry::{Control, Entry, pin_unit};
+use gt_types::{Config, Dir};
+use std::alloc::Global;
+use std::marker::{Brand, PhantomData};
+
+/// The rule of the table: words and views show a state of the core.
+pub struct Entries;
+
+impl TableRule<(), View, Config> for Entries {
+    ghost holds = { λ c. Shows (layout_of c) };
+
+    ghost first = { λ c. new_view c.first_gen (layout_of c).headers 0 };
+}
+
+/// The kind of a step, which each call of a raw step picks.
+pub trait OfKind {
+    ghost kind: { StepKind };
+}
+
+impl OfKind for Brand {
+    ghost kind = { looking (record { ids = []; domains = 0; first = 0; headers = [] }) 0 0 };
+}
+
+struct Tells<J> {
+    kind: PhantomData<J>,
+}
+
+impl<J: OfKind> Play<(), View> for Tells<J> {
+    ghost then = { tells J.kind };
+}
+
+// A store does not say what it found.
+struct TellsStore<J> {
+    kind: PhantomData<J>,
+}
+
+impl<J: OfKind> Play<(), View> for TellsStore<J> {
+    ghost then = { λ st m _ m'. tells_stored J.kind st m m' };
+}
+
+/// A seat of the table, which holds no slot.
+pub type Place = Seat<(), View>;
+
+type Board = Shared<(), View, Config, Entries>;
+
+/// The words of all entries and headers.
+#[derive(Drop)]
+pub struct WordTable {
+    pub table: Table<(), View, Config, Entries, Global>,
+    ghost wide: { IsWide table.shared.table_id.words (layout_of table.shared.key) },
+}
+
+// One load of a word of an entry.
+fn load_word<J: OfKind>(board: &Board, seat: &mut Place, at: usize, gref: usize, word: usize) -> u64
+    requires fits { (seat.old.table_id ≡ board.now.table_id) × IsWide board.now.table_id.words (layout_of board.now.key) × (at < length board.now.key.domains.items) × (gref < 2048) × (word < 3) }
+    requires allowed { Allows (Shows (layout_of board.now.key)) board.now.table_id.slots seat.old.id seat.old.me (place at gref word) (λ n. n) (tells J.kind (step board.now.table_id.slots (place at gref word) 0 0 none) seat.old.me) }
+    ensures { (seat.new.table_id ≡ seat.old.table_id) × (seat.new.id ≡ seat.old.id) × tells J.kind (step board.now.table_id.slots (place at gref word) 0 0 none) seat.old.me result seat.new.me }
+{
+    board.load::<Tells<J>>(seat, at * 6145 + (3 * gref + (1 + word)))
+}
+
+// One store of a word of an entry.
+fn store_word<J: OfKind>(
+    board: &Board,
+    seat: &mut Place,
+    at: usize,
+    gref: usize,
+    word: usize,
+    new: u64,
+)
+    requires fits { (seat.old.table_id ≡ board.now.table_id) × IsWide board.now.table_id.words (layout_of board.now.key) × (at < length board.now.key.domains.items) × (gref < 2048) × (word < 3) }
+    requires allowed { Allows (Shows (layout_of board.now.key)) board.now.table_id.slots seat.old.id seat.old.me (place at gref word) (λ _. new) (λ _. tells_stored J.kind (step board.now.table_id.slots (place at gref word) new 0 none) seat.old.me) }
+    ensures { (seat.new.table_id ≡ seat.old.table_id) × (seat.new.id ≡ seat.old.id) × tells_stored J.kind (step board.now.table_id.slots (place at gref word) new 0 none) seat.old.me seat.new.me }
+{
+    board.store::<TellsStore<J>>(seat, at * 6145 + (3 * gref + (1 + word)), new)
+}
+
+// One exchange of the control word of an entry. Only the proof reads `purpose`.
+fn exchange_word<J: OfKind>(
+    board: &Board,
+    seat: &mut Place,
+    at: usize,
+    gref: usize,
+    old: u64,
+    new: u64,
+    purpose: Purpose,
+) -> u64
+    requires fits { (seat.old.table_id ≡ board.now.table_id) × IsWide board.now.table_id.words (layout_of board.now.key) × (at < length board.now.key.domains.items) × (gref < 2048) }
+    requires allowed { Allows (Shows (layout_of board.now.key)) board.now.table_id.slots seat.old.id seat.old.me (place at gref 0) (λ n. either (n == old) new n) (tells J.kind (step board.now.table_id.slots (place at gref 0) old new none) seat.old.me) }
+    ensures { (seat.new.table_id ≡ seat.old.table_id) × (seat.new.id ≡ seat.old.id) × tells J.kind (step board.now.table_id.slots (place at gref 0) old new none) seat.old.me result seat.new.me }
+{
+    let _ = purpose;
+    board.compare_exchange::<Tells<J>>(seat, at * 6145 + (3 * gref + 1), old, new)
+}
+
+// One subtraction from the control word of an entry. Only the proof reads `dir` and `generation`.
+fn subtract_from_word<J: OfKind>(
+    board: &Board,
+    seat: &mut Place,
+    at: usize,
+    gref: usize,
+    one: u64,
+    dir: Dir,
+    generation: u64,
+) -> u64
+    requires fits { (seat.old.table_id ≡ board.now.table_id) × IsWide board.now.table_id.words (layout_of board.now.key) × (at < length board.now.key.domains.items) × (gref < 2048) }
+    requires allowed { Allows (Shows (layout_of board.now.key)) board.now.table_id.slots seat.old.id seat.old.me (place at gref 0) (λ n. (n + (2 ^ 64 - one)) % 2 ^ 64) (tells J.kind (step board.now.table_id.slots (place at gref 0) one 0 none) seat.old.me) }
+    ensures { (seat.new.table_id ≡ seat.old.table_id) × (seat.new.id ≡ seat.old.id) × tells J.kind (step board.now.table_id.slots (place at gref 0) one 0 none) seat.old.me result seat.new.me }
+{
+    let _ = dir;
+    let _ = generation;
+    board.fetch_sub::<Tells<J>>(seat, at * 6145 + (3 * gref + 1), one)
+}
+
+// One load of a header word.
+fn load_header_word<J: OfKind>(board: &Board, seat: &mut Place, at: usize) -> u64
+    requires fits { (seat.old.table_id ≡ board.now.table_id) × IsWide board.now.table_id.words (layout_of board.now.key) × (at < length board.now.key.domains.items) }
+    requires allowed { Allows (Shows (layout_of board.now.key)) board.now.table_id.slots seat.old.id seat.old.me (header_place at) (λ n. n) (tells J.kind (step board.now.table_id.slots (header_place at) 0 0 none) seat.old.me) }
+    ensures { (seat.new.table_id ≡ seat.old.table_id) × (seat.new.id ≡ seat.old.id) × tells J.kind (step board.now.table_id.slots (header_place at) 0 0 none) seat.old.me result seat.new.me }
+{
+    board.load::<Tells<J>>(seat, at * 6145)
+}
+
+// One store of a header word.
+fn store_header_word<J: OfKind>(board: &Board, seat: &mut Place, at: usize, new: u64)
+    requires fits { (seat.old.table_id ≡ board.now.table_id) × IsWide board.now.table_id.words (layout_of board.now.key) × (at < length board.now.key.domains.items) }
+    requires allowed { Allows (Shows (layout_of board.now.key)) board.now.table_id.slots seat.old.id seat.old.me (header_place at) (λ _. new) (λ _. tells_stored J.kind (step board.now.table_id.slots (header_place at) new 0 none) seat.old.me) }
+    ensures { (seat.new.table_id ≡ seat.old.table_id) × (seat.new.id ≡ seat.old.id) × tells_stored J.kind (step board.now.table_id.slots (header_place at) new 0 none) seat.old.me seat.new.me }
+{
+    board.store::<TellsStore<J>>(seat, at * 6145, new)
+}
+
+// Where a body word stands among the words of its entry.
+fn index_of(half: Half) -> usize
+    ensures index { result ≡ half_index half }
+    ensures inside { result < 3 }
+{
+    match half {
+        Half::First => 1,
+        Half::Second => 2,
+    }
+}
+
+impl WordTable {
+    /// A look at a domain's header.
+    pub fn load_header(&self, seat: &mut Place, at: usize) -> u64
+        requires mine { seat.old.table_id ≡ self.now.table.shared.table_id }
+        requires domain { at < length self.now.table.shared.key.domains.items }
+        ensures header { IsHeader result }
+        ensures seat { IsSamePlace seat.old seat.new }
+        ensures step { HeaderSteps (layout_of self.now.table.shared.key) at (HeaderStep.Looked result) result result seat.old.me.0 seat.new.me.0 }
+        ensures pins { KeepsPins seat.old.me.0 seat.new.me.0 }
+    {
+        load_header_word::<Brand>(&self.table.shared, seat, at)
+    }
+
+    /// The owner stores its header.
+    pub fn store_header(&self, seat: &mut Place, at: usize, header: u64)
+        requires mine { (seat.old.table_id ≡ self.now.table.shared.table_id) × (seat.old.me.0.position ≡ at) }
+        requires domain { at < length self.now.table.shared.key.domains.items }
+        requires header { IsHeader header }
+        ensures seat { IsSamePlace seat.old seat.new }
+        ensures step { StoresHeader (layout_of self.now.table.shared.key) header seat.old.me.0 seat.new.me.0 }
+    {
+        store_header_word::<Brand>(&self.table.shared, seat, at, header)
+    }
+
+    /// A look at the control word of an entry.
+    pub fn load_control(&self, seat: &mut Place, at: usize, gref: usize) -> u64
+        requires mine { seat.old.table_id ≡ self.now.table.shared.table_id }
+        requires entry { (at < length self.now.table.shared.key.domains.items) × (gref < 2048) }
+        ensures seat { IsSamePlace seat.old seat.new }
+        ensures step { Steps (layout_of self.now.table.shared.key) at gref (EntryStep.Looked result) result result seat.old.me.0 seat.new.me.0 }
+        ensures not_earlier { IsNotEarlier at gref seat.old.me.0 result }
+        ensures own { seat.old.me.0.position ≡ at → IsWordOf (last_of gref seat.new.me.0) result }
+        ensures pins { KeepsPins seat.old.me.0 seat.new.me.0 }
+    {
+        load_word::<Brand>(&self.table.shared, seat, at, gref, 0)
+    }
+
+    /// A look at a body word of an entry.
+    pub fn load_body(&self, seat: &mut Place, at: usize, gref: usize, half: Half) -> u64
+        requires mine { seat.old.table_id ≡ self.now.table.shared.table_id }
+        requires entry { (at < length self.now.table.shared.key.domains.items) × (gref < 2048) }
+        ensures seat { IsSamePlace seat.old seat.new }
+        ensures step { BodySteps (layout_of self.now.table.shared.key) at gref half (EntryStep.ReadBody half result) result result seat.old.me.0 seat.new.me.0 }
+        ensures pins { KeepsPins seat.old.me.0 seat.new.me.0 }
+    {
+        load_word::<Brand>(&self.table.shared, seat, at, gref, index_of(half))
+    }
+
+    /// Takes a pin, where the control word still is the one looked at. Answers the word found where it is another.
+    pub fn pin(
+        &self,
+        seat: &mut Place,
+        at: usize,
+        gref: usize,
+        looked: u64,
+        dir: Dir,
+    ) -> Result<(), u64>
+        requires mine { seat.old.table_id ≡ self.now.table.shared.table_id }
+        requires entry { (at < length self.now.table.shared.key.domains.items) × (gref < 2048) }
+        requires looked { HasLooked at gref seat.old.me.0 looked × IsValid looked }
+        requires room { pins_in dir looked < 4095 }
+        requires permitted { MayPin (layout_of self.now.table.shared.key) at gref seat.old.me.0 dir (record_seen (last_seen at gref seat.old.me.0)) }
+        ensures seat { IsSamePlace seat.old seat.new }
+        ensures step { MatchResult result
+            (λ _. Pins (layout_of self.now.table.shared.key) at gref dir looked seat.old.me.0 seat.new.me.0)
+            (λ n. MissesPin (layout_of self.now.table.shared.key) at gref dir looked n seat.old.me.0 seat.new.me.0) }
+        ensures counted { CountsPins (layout_of self.now.table.shared.key) at gref dir }
+    {
+        let new = looked + pin_unit(dir);
+        let purpose = Purpose::Pin(dir);
+        let found = exchange_word::<Brand>(
+            &self.table.shared,
+            seat,
+            at,
+            gref,
+            looked,
+            new,
+            purpose,
+        );
+        if found == looked { Ok(()) } else { Err(found) }
+    }
+
+    /// Gives a pin back.
+    pub fn unpin(&self, seat: &mut Place, at: usize, gref: usize, dir: Dir, generation: u64)
+        requires mine { seat.old.table_id ≡ self.now.table.shared.table_id }
+        requires entry { (at < length self.now.table.shared.key.domains.items) × (gref < 2048) }
+        requires held { Holds at gref dir generation seat.old.me.0 }
+        ensures seat { IsSamePlace seat.old seat.new }
+        ensures step { Unpins (layout_of self.now.table.shared.key) at gref dir generation seat.old.me.0 seat.new.me.0 }
+    {
+        let one = pin_unit(dir);
+        subtract_from_word::<Brand>(&self.table.shared, seat, at, gref, one, dir, generation);
+    }
+
+    /// The owner stores a body word of its invalid entry.
+    pub fn store_body(&self, seat: &mut Place, at: usize, gref: usize, half: Half, value: u64)
+        requires mine { (seat.old.table_id ≡ self.now.table.shared.table_id) × (seat.old.me.0.position ≡ at) }
+        requires entry { (at < length self.now.table.shared.key.domains.items) × (gref < 2048) }
+        requires invalid { (last_of gref seat.old.me.0).entry ≡ Entry.Invalid }
+        ensures seat { IsSamePlace seat.old seat.new }
+        ensures step { StoresBody (layout_of self.now.table.shared.key) gref half value seat.old.me.0 seat.new.me.0 }
+    {
+        store_word::<Brand>(&self.table.shared, seat, at, gref, index_of(half), value);
+    }
+
+    /// The owner publishes an entry whose body it has stored. Answers the word found where it is another than the one handed in.
+    pub fn grant(
+        &self,
+        seat: &mut Place,
+        at: usize,
+        gref: usize,
+        word: u64,
+        entry: Entry,
+    ) -> Result<(), u64>
+        requires mine { (seat.old.table_id ≡ self.now.table.shared.table_id) × (seat.old.me.0.position ≡ at) }
+        requires entry { (at < length self.now.table.shared.key.domains.items) × (gref < 2048) }
+        requires invalid { IsIdleOf (last_of gref seat.old.me.0) word × ((last_of gref seat.old.me.0).entry ≡ Entry.Invalid) × ((last_of gref seat.old.me.0).generation < 1048575) }
+        requires given { IsEntry entry × (entry ≢ Entry.Invalid) × IsSpelled entry (stored_body Half.First (steps_on at gref seat.old.me.0)) (stored_body Half.Second (steps_on at gref seat.old.me.0)) }
+        ensures seat { IsSamePlace seat.old seat.new }
+        ensures step { MatchResult result
+            (λ _. Changes (layout_of self.now.table.shared.key) gref Change.Publish word (idle_word_of entry ((last_of gref seat.old.me.0).generation + 1)) (published entry (last_of gref seat.old.me.0)) seat.old.me.0 seat.new.me.0)
+            (λ n. MissesChange (layout_of self.now.table.shared.key) gref Change.Publish word n seat.old.me.0 seat.new.me.0 × IsBusyOf (last_of gref seat.old.me.0) n) }
+        ensures taken { IsOk result }
+    {
+        let new = idle_word(entry, Control::unpack(word).generation + 1);
+        let purpose = Purpose::Publish(entry);
+        let found = exchange_word::<Brand>(&self.table.shared, seat, at, gref, word, new, purpose);
+        if found == word { Ok(()) } else { Err(found) }
+    }
+
+    /// The owner makes its entry invalid, where it has no pins. Answers the word found where it has some.
+    pub fn revoke(&self, seat: &mut Place, at: usize, gref: usize, word: u64) -> Result<(), u64>
+        requires mine { (seat.old.table_id ≡ self.now.table.shared.table_id) × (seat.old.me.0.position ≡ at) }
+        requires entry { (at < length self.now.table.shared.key.domains.items) × (gref < 2048) }
+        requires idle { IsIdleOf (last_of gref seat.old.me.0) word × ((last_of gref seat.old.me.0).entry ≢ Entry.Invalid) }
+        ensures seat { IsSamePlace seat.old seat.new }
+        ensures step { MatchResult result
+            (λ _. Revokes (layout_of self.now.table.shared.key) gref word seat.old.me.0 seat.new.me.0)
+            (λ n. MissesChange (layout_of self.now.table.shared.key) gref Change.Revoke word n seat.old.me.0 seat.new.me.0 × IsBusyOf (last_of gref seat.old.me.0) n) }
+    {
+        let new = idle_word(Entry::Invalid, Control::unpack(word).generation);
+        let purpose = Purpose::Revoke;
+        let found = exchange_word::<Brand>(&self.table.shared, seat, at, gref, word, new, purpose);
+        if found == word { Ok(()) } else { Err(found) }
+    }
+
+    /// The owner makes its entry read-only, where its word still is the one handed in, which has no write pins.
+    pub fn demote(&self, seat: &mut Place, at: usize, gref: usize, word: u64) -> Result<(), u64>
+        requires mine { (seat.old.table_id ≡ self.now.table.shared.table_id) × (seat.old.me.0.position ≡ at) }
+        requires entry { (at < length self.now.table.shared.key.domains.items) × (gref < 2048) }
+        requires word { IsWordOf (last_of gref seat.old.me.0) word × (pins_in Dir.Write word ≡ 0) × (generation_of word < 1048575) }
+        requires writable { ((last_of gref seat.old.me.0).entry ≢ Entry.Invalid) × (is_read_only (last_of gref seat.old.me.0).entry ≡ false) }
+        ensures seat { IsSamePlace seat.old seat.new }
+        ensures step { MatchResult result
+            (λ _. Demotes (layout_of self.now.table.shared.key) gref word seat.old.me.0 seat.new.me.0)
+            (λ n. MissesChange (layout_of self.now.table.shared.key) gref Change.Demote word n seat.old.me.0 seat.new.me.0) }
+    {
+        let new = turned(word, true);
+        let purpose = Purpose::Demote;
+        let found = exchange_word::<Brand>(&self.table.shared, seat, at, gref, word, new, purpose);
+        if found == word { Ok(()) } else { Err(found) }
+    }
+
+    /// The owner makes its entry writable, where its word still is the one handed in.
+    pub fn promote(&self, seat: &mut Place, at: usize, gref: usize, word: u64) -> Result<(), u64>
+        requires mine { (seat.old.table_id ≡ self.now.table.shared.table_id) × (seat.old.me.0.position ≡ at) }
+        requires entry { (at < length self.now.table.shared.key.domains.items) × (gref < 2048) }
+        requires word { IsWordOf (last_of gref seat.old.me.0) word × (generation_of word < 1048575) }
+        requires readonly { ((last_of gref seat.old.me.0).entry ≢ Entry.Invalid) × (is_read_only (last_of gref seat.old.me.0).entry ≡ true) }
+        ensures seat { IsSamePlace seat.old seat.new }
+        ensures step { MatchResult result
+            (λ _. Changes (layout_of self.now.table.shared.key) gref Change.Promote word (promoted_word word) (turned false (last_of gref seat.old.me.0)) seat.old.me.0 seat.new.me.0)
+            (λ n. MissesChange (layout_of self.now.table.shared.key) gref Change.Promote word n seat.old.me.0 seat.new.me.0) }
+    {
+        let new = turned(word, false);
+        let purpose = Purpose::Promote;
+        let found = exchange_word::<Brand>(&self.table.shared, seat, at, gref, word, new, purpose);
+        if found == word { Ok(()) } else { Err(found) }
+    }
+}
+
+// The control word of the entry at a generation, with no pins.
+fn idle_word(entry: Entry, generation: u32) -> u64
+    requires { generation < 1048576 }
+    ensures { result ≡ idle_word_of entry generation }
+{
+    Control::of_entry(entry, generation, 0, 0).pack()
+}
+
+// The same word read-only or writable, at the next generation.
+fn turned(word: u64, readonly: bool) -> u64
+    requires { (generation_of word < 1048575) × IsTurnable readonly word }
+    ensures { result ≡ turned_word readonly word }
+{
+    let control = Control::unpack(word);
+    let next = Control {
+        ro: readonly,
+        generation: control.generation + 1,
+        ..control
+    };
+    next.pack()
+}

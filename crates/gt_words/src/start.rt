@@ -1,0 +1,91 @@
+//! The words at the start, and a seat for each domain.
+ghost use Rattle.std.specs.Prelude.{◌≡◌, ℕ, ◌*◌, ◌<◌, ◌≤◌, length, slice_index, slice_get, Some, IfOk, HoldsAt};
+ghost use Rattle.gt_types.specs.Config.{IsWithinLimits};
+ghost use Rattle.gt_words.specs.Rule.{Layout, layout_of, header_number};
+ghost use Rattle.gt_words.specs.Conditions.{Board, IsNewSeat, initial};
+ghost use Rattle.gt_words.specs.Places.{IsNewPlace, dealer_after, dealt_to};
+
+use crate::board::{Place, WordTable};
+use crate::view::View;
+use crate::words::Seat;
+use atomic_table::Split;
+use gt_entry::Header;
+use gt_types::{Config, DomainConfig};
+use std::alloc::{AllocError, Global};
+
+/// How the first seat deals the next one.
+pub struct Deal;
+
+impl Split<View> for Deal {
+    ghost left = { dealer_after };
+
+    ghost right = { dealt_to };
+}
+
+// The header of a domain at the start.
+fn first_header(domain: DomainConfig) -> Header
+    requires { (domain.version < 4) × (domain.table_frames < 256) }
+    ensures { (result.version ≡ domain.version) × (result.frames ≡ domain.table_frames) }
+{
+    Header {
+        version: domain.version as u8,
+        frames: domain.table_frames as u8,
+    }
+}
+
+/// The words at the start: each header as it is configured, each entry invalid at the first generation.
+pub fn first_words(alloc: Global, config: &Config) -> Result<Vec<u64>, AllocError>
+    requires { IsWithinLimits config.now }
+    ensures { IfOk result (λ v. (length v.items ≡ length config.now.domains.items * 6145) × ((i : ℕ) → i < length config.now.domains.items * 6145 → slice_index v.items i ≡ initial (layout_of config.now) i)) }
+{
+    let count = config.domains.len() * 6145;
+    let mut words = Vec::with_capacity(alloc, count)?;
+    for i in 0..count {
+        let word = if i % 6145 == 0 {
+            first_header(config.domains[i / 6145]).pack()
+        } else if i % 6145 % 3 == 1 {
+            17_592_186_044_416 * u64::from(config.first_gen)
+        } else {
+            0
+        };
+        words.push(word)?;
+    }
+    Ok(words)
+}
+
+// The seat of the domain at a position, which has done nothing.
+fn new_seat(config: &Config, place: Place, at: usize) -> Seat
+    requires config { IsWithinLimits config.now × (at < length config.now.domains.items) }
+    requires place { IsNewPlace place.table_id (layout_of config.now) at place }
+    ensures { IsNewSeat (record { table = place.table_id; layout = layout_of config.now }) at result }
+{
+    let domain = config.domains[at];
+    Seat {
+        place,
+        dom: domain.id,
+        position: at,
+        header: first_header(domain),
+    }
+}
+
+/// A seat for each domain in order, out of the first one.
+pub fn deal_seats(
+    alloc: Global,
+    words: &WordTable,
+    config: &Config,
+    mut first: Place,
+) -> Result<Vec<Seat>, AllocError>
+    requires config { IsWithinLimits config.now × (words.now.table.shared.key ≡ config.now) }
+    requires first { IsNewPlace words.now.table.shared.table_id (layout_of config.now) 0 first × (first.me.0.dealt ≡ 1) }
+    ensures count { IfOk result (λ v. length v.items ≡ length config.now.domains.items) }
+    ensures seats { IfOk result (λ v. (i : ℕ) → i < length config.now.domains.items → HoldsAt (λ s. IsNewSeat (record { table = words.now.table.shared.table_id; layout = layout_of config.now }) i s) v.items i) }
+{
+    let count = config.domains.len();
+    let mut seats = Vec::with_capacity(alloc, count)?;
+    for at in 1..count {
+        let place = words.table.shared.split_seat::<Deal>(&mut first);
+        seats.push(new_seat(config, place, at))?;
+    }
+    seats.insert(0, new_seat(config, first, 0))?;
+    Ok(seats)
+}

@@ -1,0 +1,106 @@
+//! What a seat knows, as plain data for contracts. No value of it is made when the program runs.
+use gt_entry::Entry;
+use gt_types::Dir;
+use std::collections::LinkedList;
+
+/// One of the two body words of an entry.
+#[derive(Clone, Copy, Debug, PartialEq, Eq)]
+pub enum Half {
+    First,
+    Second,
+}
+
+/// What an entry was from one change by its owner to the next.
+#[derive(Clone, Copy)]
+pub struct Record {
+    pub generation: u64,
+    pub entry: Entry,
+}
+
+/// What the owner's exchange of a control word made of the entry.
+#[derive(Clone, Copy)]
+pub enum Change {
+    Publish,
+    Revoke,
+    Demote,
+    Promote,
+}
+
+/// One step on the words of an entry.
+#[derive(Clone, Copy)]
+pub enum EntryStep {
+    /// A load of the control word, and the word seen.
+    Looked(u64),
+    /// A load of a body word, and the value seen.
+    ReadBody(Half, u64),
+    /// A pin was taken: the word expected, and the entry as this record has it.
+    Pinned {
+        dir: Dir,
+        expected: u64,
+        record: Record,
+    },
+    /// A pin was missed: the word found is another than the one expected.
+    PinMissed {
+        dir: Dir,
+        expected: u64,
+        found: u64,
+    },
+    /// A pin of this kind and generation was given back.
+    Unpinned {
+        dir: Dir,
+        generation: u64,
+    },
+    /// The owner stored a body word.
+    StoredBody(Half, u64),
+    /// The owner exchanged the control word: the word expected, the word stored and the record it spells.
+    Changed {
+        change: Change,
+        expected: u64,
+        stored: u64,
+        record: Record,
+    },
+    /// The owner's exchange was missed: the word found is another than the one expected.
+    ChangeMissed {
+        change: Change,
+        expected: u64,
+        found: u64,
+    },
+}
+
+/// One step on the header word of a domain.
+#[derive(Clone, Copy)]
+pub enum HeaderStep {
+    /// A load, and the word seen.
+    Looked(u64),
+    /// The owner stored a word.
+    Stored(u64),
+}
+
+/// A step, with the position of the domain among those of the run, and the reference where it is on an entry.
+#[derive(Clone, Copy)]
+pub enum Step {
+    Entry(u64, u64, EntryStep),
+    Header(u64, HeaderStep),
+}
+
+/// What an exchange of a control word is for.
+#[derive(Clone, Copy)]
+pub enum Purpose {
+    Pin(Dir),
+    Publish(Entry),
+    Revoke,
+    Demote,
+    Promote,
+}
+
+/// What a seat knows: which domain's it is, by its position among those of the run, and its own steps, the last first.
+pub struct View {
+    pub position: u64,
+    /// The generation that all entries began with.
+    pub first: u64,
+    /// The headers that the domains began with.
+    pub headers: LinkedList<u64>,
+    /// The number of seats that this one has dealt, its own among them.
+    pub dealt: u64,
+    pub steps: LinkedList<Step>,
+}

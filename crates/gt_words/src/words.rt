@@ -1,0 +1,361 @@
+//! The words and the seats with nothing in sight but what contracts name.
+ghost use Rattle.std.specs.Prelude.{◌≡◌, ◌≢◌, ◌⊎◌, ◌+◌, ◌<◌, ◌≤◌, [], length, MatchResult, IfOk, IfErr, OnOk, IsOk, HoldsAt, ℕ, position, ◌==◌, true, false};
+ghost use Rattle.gt_types.specs.Config.{IsWithinLimits};
+ghost use Rattle.gt_entry.specs.Words.{header_word};
+ghost use Rattle.gt_entry.specs.Entries.{IsEntry, is_read_only};
+ghost use Rattle.gt_entry.specs.Spelling.{IsSpelled, idle_word_of};
+ghost use Rattle.gt_words.specs.Controls.{IsValid, pins_in, generation_of, promoted_word};
+ghost use Rattle.gt_words.specs.Views.{own_header, own_body, last_of, last_seen, record_seen};
+ghost use Rattle.gt_words.specs.Rule.{layout_of, position_in, IsHeader, version_set, frames_set};
+ghost use Rattle.gt_words.specs.Steps.{published, turned};
+ghost use Rattle.gt_words.specs.Conditions.{IsKeptHeader, Board, SeatOf, IsSeatOf, IsSameSeat, IsNewSeat, IsStartFault, IsIdleOf, IsWordOf, IsBusyOf, HasLooked, Holds, MayPin, CountsPins, IsNotEarlier, Steps, BodySteps, HeaderSteps, StoresBody, StoresHeader, KeepsPins, Unpins, Pins, MissesPin, Changes, MissesChange, Revokes, Demotes};
+
+use crate::board::{Place, WordTable};
+use crate::start::{deal_seats, first_words};
+use crate::view::{Change, EntryStep, Half, HeaderStep};
+use atomic_table::Table;
+use gt_entry::{Control, Entry, Header};
+use gt_types::{
+    Config, Dir, DomId, GrantRef, LAST_GENERATION, MAX_TABLE_FRAMES, StartFault, TABLE_ENTRIES,
+};
+use std::alloc::{AllocError, Global};
+use std::marker::Model;
+
+/// A domain's right to step on the words. There is one for each domain of the run.
+#[derive(Drop)]
+pub struct Seat {
+    pub(crate) place: Place,
+    pub(crate) dom: DomId,
+    pub(crate) position: usize,
+    pub(crate) header: Header,
+}
+
+impl Model for Seat {
+    ghost Value = { SeatOf };
+
+    ghost view = { λ s. record { table = s.place.table_id; dom = s.dom; view = s.place.me.0 } };
+
+    ghost invariant = { λ s. (s.place.me.1 ≡ []) × (s.place.me.0.position ≡ s.position) × (own_header s.place.me.0 ≡ header_word s.header) × IsKeptHeader s.header };
+}
+
+impl Seat {
+    /// The domain whose seat this is.
+    pub fn dom(&self) -> DomId
+        ensures { result ≡ self.now.dom }
+    {
+        self.dom
+    }
+}
+
+/// The words of all entries and headers of a run.
+#[derive(Drop)]
+pub struct Words {
+    pub(crate) words: WordTable,
+    pub(crate) ids: Vec<DomId>,
+}
+
+impl Model for Words {
+    ghost Value = { Board };
+
+    ghost view = { λ w. record { table = w.words.table.shared.table_id; layout = layout_of w.words.table.shared.key } };
+
+    ghost invariant = { λ w. (w.ids.items ≡ (layout_of w.words.table.shared.key).ids) × IsWithinLimits w.words.table.shared.key };
+}
+
+/// A pin that a seat holds: of which entry, the control word that was looked at, and its kind.
+#[derive(Clone, Copy, Debug, PartialEq, Eq)]
+pub struct Pin {
+    pub dom: DomId,
+    pub gref: GrantRef,
+    pub word: u64,
+    pub dir: Dir,
+}
+
+// Where the domain stands in the list.
+fn found_in(ids: &[DomId], dom: DomId) -> Option<usize>
+    ensures { result ≡ position (λ x. x.0 == dom.0) ids.now }
+{
+    ids.iter().position(|id| id.0 == dom.0)
+}
+
+// The position of a domain, or the number of domains where it is none of them.
+fn position_of(ids: &[DomId], dom: DomId) -> usize
+    ensures { result ≡ position_in ids.now dom }
+{
+    match found_in(ids, dom) {
+        Some(at) => at,
+        None => ids.len(),
+    }
+}
+
+// The same header with another version.
+fn with_version(header: Header, version: u32) -> Header
+    requires { version < 4 }
+    ensures { (result.version ≡ version) × (result.frames ≡ header.frames) }
+{
+    Header {
+        version: version as u8,
+        ..header
+    }
+}
+
+// The same header with another number of table frames.
+fn with_frames(header: Header, frames: u32) -> Header
+    requires { frames < 256 }
+    ensures { (result.version ≡ header.version) × (result.frames ≡ frames) }
+{
+    Header {
+        frames: frames as u8,
+        ..header
+    }
+}
+
+impl Words {
+    /// The words of a run, all entries invalid at the first generation, and a seat for each domain, in order.
+    ///
+    /// # Errors
+    /// The first fault of the configuration, or `Memory` where it has none and memory is refused.
+    pub fn new(alloc: Global, config: &Config) -> Result<(Words, Vec<Seat>), StartFault>
+        ensures ok { OnOk result (IsWithinLimits config.now) }
+        ensures words { IfOk result (λ r. r.0.layout ≡ layout_of config.now) }
+        ensures count { IfOk result (λ r. length r.1.items ≡ length config.now.domains.items) }
+        ensures seats { IfOk result (λ r. (i : ℕ) → i < length config.now.domains.items → HoldsAt (λ s. IsNewSeat r.0 i s) r.1.items i) }
+        ensures err { IfErr result (IsStartFault config.now) }
+    {
+        if let Err(fault) = config.check() {
+            return Err(StartFault::Config(fault));
+        }
+        match make_words(alloc, config) {
+            Ok(made) => Ok(made),
+            Err(AllocError) => Err(StartFault::Memory),
+        }
+    }
+
+    /// A look at the header word of a domain: its table's version and number of frames.
+    pub fn load_header(&self, seat: &mut Seat, dom: DomId) -> u64
+        requires seat { IsSeatOf self.now seat.old }
+        requires domain { position_in self.now.layout.ids dom < length self.now.layout.ids }
+        ensures header { IsHeader result }
+        ensures seat { IsSameSeat seat.old seat.new }
+        ensures step { HeaderSteps self.now.layout (position_in self.now.layout.ids dom) (HeaderStep.Looked result) result result seat.old.view seat.new.view }
+        ensures pins { KeepsPins seat.old.view seat.new.view }
+    {
+        let at = position_of(&self.ids, dom);
+        self.words.load_header(&mut seat.place, at)
+    }
+
+    /// The owner stores the version of its table, which is 1 or 2, in its header.
+    pub fn set_version(&self, seat: &mut Seat, version: u32)
+        requires seat { IsSeatOf self.now seat.old }
+        requires version { (version ≡ 1) ⊎ (version ≡ 2) }
+        ensures seat { IsSameSeat seat.old seat.new }
+        ensures step { StoresHeader self.now.layout (version_set version (own_header seat.old.view)) seat.old.view seat.new.view }
+    {
+        let at = seat.position;
+        let header = with_version(seat.header, version);
+        self.words.store_header(&mut seat.place, at, header.pack());
+        seat.header = header;
+    }
+
+    /// The owner stores the number of frames of its table in its header.
+    pub fn setup(&self, seat: &mut Seat, frames: u32)
+        requires seat { IsSeatOf self.now seat.old }
+        requires frames { (0 < frames) × (frames ≤ MAX_TABLE_FRAMES) }
+        ensures seat { IsSameSeat seat.old seat.new }
+        ensures step { StoresHeader self.now.layout (frames_set frames (own_header seat.old.view)) seat.old.view seat.new.view }
+    {
+        let at = seat.position;
+        let header = with_frames(seat.header, frames);
+        self.words.store_header(&mut seat.place, at, header.pack());
+        seat.header = header;
+    }
+
+    /// A look at the control word of an entry.
+    pub fn load_control(&self, seat: &mut Seat, dom: DomId, gref: GrantRef) -> u64
+        requires seat { IsSeatOf self.now seat.old }
+        requires entry { (position_in self.now.layout.ids dom < length self.now.layout.ids) × (gref.0 < TABLE_ENTRIES) }
+        ensures seat { IsSameSeat seat.old seat.new }
+        ensures step { Steps self.now.layout (position_in self.now.layout.ids dom) gref.0 (EntryStep.Looked result) result result seat.old.view seat.new.view }
+        ensures not_earlier { IsNotEarlier (position_in self.now.layout.ids dom) gref.0 seat.old.view result }
+        ensures own { dom ≡ seat.old.dom → IsWordOf (last_of gref.0 seat.new.view) result }
+        ensures pins { KeepsPins seat.old.view seat.new.view }
+    {
+        let at = position_of(&self.ids, dom);
+        self.words
+            .load_control(&mut seat.place, at, gref.0 as usize)
+    }
+
+    /// A look at a body word of an entry.
+    pub fn load_body(&self, seat: &mut Seat, dom: DomId, gref: GrantRef, half: Half) -> u64
+        requires seat { IsSeatOf self.now seat.old }
+        requires entry { (position_in self.now.layout.ids dom < length self.now.layout.ids) × (gref.0 < TABLE_ENTRIES) }
+        ensures seat { IsSameSeat seat.old seat.new }
+        ensures step { BodySteps self.now.layout (position_in self.now.layout.ids dom) gref.0 half (EntryStep.ReadBody half result) result result seat.old.view seat.new.view }
+        ensures pins { KeepsPins seat.old.view seat.new.view }
+    {
+        let at = position_of(&self.ids, dom);
+        self.words
+            .load_body(&mut seat.place, at, gref.0 as usize, half)
+    }
+
+    /// Takes a pin by one exchange from the control word of the last look, whose body words were read since.
+    ///
+    /// # Errors
+    /// The word found, where it is another than the one looked at. No pin was taken then.
+    pub fn pin(
+        &self,
+        seat: &mut Seat,
+        dom: DomId,
+        gref: GrantRef,
+        looked: u64,
+        dir: Dir,
+    ) -> Result<Pin, u64>
+        requires seat { IsSeatOf self.now seat.old }
+        requires entry { (position_in self.now.layout.ids dom < length self.now.layout.ids) × (gref.0 < TABLE_ENTRIES) }
+        requires looked { HasLooked (position_in self.now.layout.ids dom) gref.0 seat.old.view looked × IsValid looked }
+        requires room { pins_in dir looked < 4095 }
+        requires permitted { MayPin self.now.layout (position_in self.now.layout.ids dom) gref.0 seat.old.view dir (record_seen (last_seen (position_in self.now.layout.ids dom) gref.0 seat.old.view)) }
+        ensures seat { IsSameSeat seat.old seat.new }
+        ensures pin { IfOk result (λ p. p ≡ record { dom = dom; gref = gref; word = looked; dir = dir }) }
+        ensures step { MatchResult result
+            (λ _. Pins self.now.layout (position_in self.now.layout.ids dom) gref.0 dir looked seat.old.view seat.new.view)
+            (λ n. MissesPin self.now.layout (position_in self.now.layout.ids dom) gref.0 dir looked n seat.old.view seat.new.view) }
+        ensures counted { CountsPins self.now.layout (position_in self.now.layout.ids dom) gref.0 dir }
+    {
+        let at = position_of(&self.ids, dom);
+        self.words
+            .pin(&mut seat.place, at, gref.0 as usize, looked, dir)?;
+        Ok(Pin {
+            dom,
+            gref,
+            word: looked,
+            dir,
+        })
+    }
+
+    /// Gives a pin of the seat back, by one subtraction.
+    pub fn unpin(&self, seat: &mut Seat, pin: Pin)
+        requires seat { IsSeatOf self.now seat.old }
+        requires entry { (position_in self.now.layout.ids pin.dom < length self.now.layout.ids) × (pin.gref.0 < TABLE_ENTRIES) }
+        requires held { Holds (position_in self.now.layout.ids pin.dom) pin.gref.0 pin.dir (generation_of pin.word) seat.old.view }
+        ensures seat { IsSameSeat seat.old seat.new }
+        ensures step { Unpins self.now.layout (position_in self.now.layout.ids pin.dom) pin.gref.0 pin.dir (generation_of pin.word) seat.old.view seat.new.view }
+    {
+        let at = position_of(&self.ids, pin.dom);
+        let generation = u64::from(Control::unpack(pin.word).generation);
+        self.words.unpin(
+            &mut seat.place,
+            at,
+            pin.gref.0 as usize,
+            pin.dir,
+            generation,
+        );
+    }
+
+    /// The owner stores a body word of its invalid entry.
+    pub fn store_body(&self, seat: &mut Seat, gref: GrantRef, half: Half, value: u64)
+        requires seat { IsSeatOf self.now seat.old }
+        requires entry { gref.0 < TABLE_ENTRIES }
+        requires invalid { (last_of gref.0 seat.old.view).entry ≡ Entry.Invalid }
+        ensures seat { IsSameSeat seat.old seat.new }
+        ensures step { StoresBody self.now.layout gref.0 half value seat.old.view seat.new.view }
+    {
+        let at = seat.position;
+        self.words
+            .store_body(&mut seat.place, at, gref.0 as usize, half, value);
+    }
+
+    /// The owner publishes an entry whose body words it has stored, at the next generation.
+    ///
+    /// # Errors
+    /// The word found, where it is another than the one handed in: it has pins. That can't be while an invalid entry has none.
+    pub fn grant(&self, seat: &mut Seat, gref: GrantRef, word: u64, entry: Entry) -> Result<(), u64>
+        requires seat { IsSeatOf self.now seat.old }
+        requires entry { gref.0 < TABLE_ENTRIES }
+        requires invalid { IsIdleOf (last_of gref.0 seat.old.view) word × ((last_of gref.0 seat.old.view).entry ≡ Entry.Invalid) × ((last_of gref.0 seat.old.view).generation < LAST_GENERATION) }
+        requires given { IsEntry entry × (entry ≢ Entry.Invalid) × IsSpelled entry (own_body gref.0 Half.First seat.old.view) (own_body gref.0 Half.Second seat.old.view) }
+        ensures seat { IsSameSeat seat.old seat.new }
+        ensures step { MatchResult result
+            (λ _. Changes self.now.layout gref.0 Change.Publish word (idle_word_of entry ((last_of gref.0 seat.old.view).generation + 1)) (published entry (last_of gref.0 seat.old.view)) seat.old.view seat.new.view)
+            (λ n. MissesChange self.now.layout gref.0 Change.Publish word n seat.old.view seat.new.view × IsBusyOf (last_of gref.0 seat.old.view) n) }
+        ensures taken { IsOk result }
+    {
+        let at = seat.position;
+        self.words
+            .grant(&mut seat.place, at, gref.0 as usize, word, entry)
+    }
+
+    /// The owner makes its entry invalid by one exchange from its idle word.
+    ///
+    /// # Errors
+    /// The word found, where the entry has pins. The owner's list is then as it was.
+    pub fn revoke(&self, seat: &mut Seat, gref: GrantRef, word: u64) -> Result<(), u64>
+        requires seat { IsSeatOf self.now seat.old }
+        requires entry { gref.0 < TABLE_ENTRIES }
+        requires idle { IsIdleOf (last_of gref.0 seat.old.view) word × ((last_of gref.0 seat.old.view).entry ≢ Entry.Invalid) }
+        ensures seat { IsSameSeat seat.old seat.new }
+        ensures step { MatchResult result
+            (λ _. Revokes self.now.layout gref.0 word seat.old.view seat.new.view)
+            (λ n. MissesChange self.now.layout gref.0 Change.Revoke word n seat.old.view seat.new.view × IsBusyOf (last_of gref.0 seat.old.view) n) }
+    {
+        let at = seat.position;
+        self.words
+            .revoke(&mut seat.place, at, gref.0 as usize, word)
+    }
+
+    /// The owner makes its writable entry read-only at the next generation, by one exchange from a word without write pins.
+    ///
+    /// # Errors
+    /// The word found, where it is another than the one handed in.
+    pub fn demote(&self, seat: &mut Seat, gref: GrantRef, word: u64) -> Result<(), u64>
+        requires seat { IsSeatOf self.now seat.old }
+        requires entry { gref.0 < TABLE_ENTRIES }
+        requires word { IsWordOf (last_of gref.0 seat.old.view) word × (pins_in Dir.Write word ≡ 0) × (generation_of word < LAST_GENERATION) }
+        requires writable { ((last_of gref.0 seat.old.view).entry ≢ Entry.Invalid) × (is_read_only (last_of gref.0 seat.old.view).entry ≡ false) }
+        ensures seat { IsSameSeat seat.old seat.new }
+        ensures step { MatchResult result
+            (λ _. Demotes self.now.layout gref.0 word seat.old.view seat.new.view)
+            (λ n. MissesChange self.now.layout gref.0 Change.Demote word n seat.old.view seat.new.view) }
+    {
+        let at = seat.position;
+        self.words
+            .demote(&mut seat.place, at, gref.0 as usize, word)
+    }
+
+    /// The owner makes its read-only entry writable at the next generation, by one exchange from the word handed in.
+    ///
+    /// # Errors
+    /// The word found, where it is another than the one handed in.
+    pub fn promote(&self, seat: &mut Seat, gref: GrantRef, word: u64) -> Result<(), u64>
+        requires seat { IsSeatOf self.now seat.old }
+        requires entry { gref.0 < TABLE_ENTRIES }
+        requires word { IsWordOf (last_of gref.0 seat.old.view) word × (generation_of word < LAST_GENERATION) }
+        requires readonly { ((last_of gref.0 seat.old.view).entry ≢ Entry.Invalid) × (is_read_only (last_of gref.0 seat.old.view).entry ≡ true) }
+        ensures seat { IsSameSeat seat.old seat.new }
+        ensures step { MatchResult result
+            (λ _. Changes self.now.layout gref.0 Change.Promote word (promoted_word word) (turned false (last_of gref.0 seat.old.view)) seat.old.view seat.new.view)
+            (λ n. MissesChange self.now.layout gref.0 Change.Promote word n seat.old.view seat.new.view) }
+    {
+        let at = seat.position;
+        self.words
+            .promote(&mut seat.place, at, gref.0 as usize, word)
+    }
+}
+
+// The words and the seats of a configuration within the limits.
+fn make_words(alloc: Global, config: &Config) -> Result<(Words, Vec<Seat>), AllocError>
+    requires { IsWithinLimits config.now }
+    ensures words { IfOk result (λ r. r.0.layout ≡ layout_of config.now) }
+    ensures count { IfOk result (λ r. length r.1.items ≡ length config.now.domains.items) }
+    ensures seats { IfOk result (λ r. (i : ℕ) → i < length config.now.domains.items → HoldsAt (λ s. IsNewSeat r.0 i s) r.1.items i) }
+{
+    let start = first_words(alloc, config)?;
+    let mut ids = Vec::with_capacity(alloc, config.domains.len())?;
+    for domain in &config.domains {
+        ids.push(domain.id)?;
+    }
+    let (table, first) = Table::of_words(alloc, &start, config)?;
+    let words = WordTable { table };
+    let seats = deal_seats(alloc, &words, config, first)?;
+    Ok((Words { words, ids }, seats))
+}
