@@ -1,4 +1,4 @@
-use Rattle.std.proofs.Common.{◌≡◌, ◌≤◌, ℕ, ◌+◌, Bool, List, [], ◌∷◌, ◌++◌, length, replicate, Option, Some, None, Result, Ok, Err, IfOk, refl, ap, sym, subst, ◌∙◌, arith, add-one, length-append, zero, suc}
+use Rattle.std.proofs.Common.{◌≡◌, ℕ, ◌+◌, Bool, List, [], ◌∷◌, ◌++◌, length, replicate, None, Result, Ok, Err, IfOk, refl, ap, sym, subst, ◌∙◌, arith, length-append}
 use Rattle.std.proofs.lemmas.Grind.{replicate_next}
 use Rattle.gt_types.specs.declared.DomId.{DomId}
 use Rattle.gt_types.specs.declared.TypeId.{TypeId}
@@ -22,7 +22,7 @@ use Rattle.gt_core.specs.declared.core_state.Ticked.TheVariants as ticked
 use Rattle.gt_host.specs.declared.outcome.Outcome.{Outcome}
 use Rattle.gt_host.specs.declared.outcome.Outcome.TheVariants.{Answered, Busy, Unanswered}
 use Rattle.gt_host.specs.declared.outcome.TheConstants.{MOST_TICKS}
-use Rattle.gt_host.specs.Runs.{answer_in, AnswerNothing, EndsWith, ComesTo, call_events}
+use Rattle.gt_host.specs.Runs.{answer_in, AnswerNothing, ComesTo}
 use Rattle.gt_host.specs.Ticking.{Happens, Calls, TicksTo, TicksComeTo}
 
 -- the setting of a core is that of one with the same domains and rights

@@ -1,4 +1,4 @@
-use Rattle.std.proofs.Common.{◌≡◌, ◌≢◌, ◌<◌, ◌≤◌, ℕ, List, [], ◌∷◌, length, None, Some, ap, sym, ◌∙◌, inl, inr, arith, refl, subst, Option}
+use Rattle.std.proofs.Common.{◌≡◌, ◌≤◌, [], length, None, Some, ap, sym, ◌∙◌, inl, inr, arith, subst, Option}
 use Rattle.gt_types.specs.Config.{AreFaultless, IsFirstFault}
 use Rattle.gt_types.specs.declared.config.Config.{Config}
 use Rattle.gt_types.specs.declared.config.ConfigFault.{ConfigFault}

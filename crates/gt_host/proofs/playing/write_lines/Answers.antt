@@ -1,4 +1,4 @@
-use Rattle.std.proofs.Common.{◌<◌, ◌≡◌, ◌∙◌, length, refl, arith}
+use Rattle.std.proofs.Common.{◌<◌, ◌∙◌, length, refl, arith}
 use Rattle.gt_types.specs.Rights.{is_listed}
 use Rattle.gt_types.specs.declared.rights.Triples.{Triples}
 use Rattle.gt_host.proofs.RunLemmas.{same_setting}
