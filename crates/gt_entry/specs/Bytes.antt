@@ -55,11 +55,11 @@ pub record SpellsV2 (bytes : List ℕ) (entry : Entry) : Type 0 where
   pub size : AreBytes 16 bytes
   pub layout : IsLaidOutV2 bytes entry
 
--- the bytes spell the entry in a table of this version
+-- the bytes spell the entry in a table of this version (grant_table.h)
 abbrev pub Spells : ℕ → List ℕ → Entry → Type 0
 Spells version bytes entry = MatchBool (version == 2) (SpellsV2 bytes entry) (SpellsV1 bytes entry)
 
--- a bit of the flags, by its value, is set
+-- a bit of the flags, by its value, is set (own)
 abbrev pub is_set : ℕ → ℕ → Bool
 is_set flags bit = flags / bit % 2 == 1
 

@@ -13,19 +13,25 @@ const PERMIT_ACCESS: u16 = 1;
 /// The type of a transitive entry (the header's `GTF_transitive`).
 const TRANSITIVE: u16 = 3;
 
-/// The bits of the flags above the type, as the header names them.
+/// The owner refuses writing (`GTF_readonly`).
 const READONLY: u16 = 4;
 
+/// The hypervisor's mark of a live pin (`GTF_reading`), which no owner sets.
 const READING: u16 = 8;
 
+/// The hypervisor's mark of a live write pin (`GTF_writing`), which no owner sets.
 const WRITING: u16 = 16;
 
+/// A mapping's cache bit (`GTF_PWT`), outside this profile.
 const PWT: u16 = 32;
 
+/// A mapping's cache bit (`GTF_PCD`), outside this profile.
 const PCD: u16 = 64;
 
+/// A mapping's cache bit (`GTF_PAT`), outside this profile.
 const PAT: u16 = 128;
 
+/// With the type of a page: a sub-page (`GTF_sub_page`).
 const SUB_PAGE: u16 = 256;
 
 /// The first bit that is not defined; those above it are not either.
