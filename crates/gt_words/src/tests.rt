@@ -309,23 +309,16 @@ fn turns_an_entry_and_stores_headers(rt: HostRuntime) -> Result<(), Fail> {
     publish(&words, &mut owner, ENTRY, &mut row, page(5))
         .ok()
         .ok_or("a grant")?;
-    let sight = look(&words, &mut other, OWNER, ENTRY);
-    let mut was_pinned = false;
-    if let Some(Ok(pin)) = try_pin(&words, &mut other, OWNER, ENTRY, &sight, Dir::Read) {
-        assert_eq!(rt; turn(&words, &mut owner, ENTRY, &mut row, true), Ok(true));
-        assert_eq!(rt;
-            revoke(&words, &mut owner, ENTRY, &mut row),
-            Err(0x0000_2000_2000_0015)
-        );
-        assert_eq!(rt; turn(&words, &mut owner, ENTRY, &mut row, false), Ok(true));
-        assert_eq!(rt;
-            revoke(&words, &mut owner, ENTRY, &mut row),
-            Err(0x0000_3000_2000_0011)
-        );
-        words.unpin(&mut other, pin);
-        was_pinned = true;
-    }
-    assert!(rt; was_pinned);
+    assert_eq!(rt; turn(&words, &mut owner, ENTRY, &mut row, true), Ok(true));
+    assert_eq!(rt;
+        look(&words, &mut other, OWNER, ENTRY).word,
+        0x0000_2000_2000_0005
+    );
+    assert_eq!(rt; turn(&words, &mut owner, ENTRY, &mut row, false), Ok(true));
+    assert_eq!(rt;
+        look(&words, &mut other, OWNER, ENTRY).word,
+        0x0000_3000_2000_0001
+    );
     assert_eq!(rt; revoke(&words, &mut owner, ENTRY, &mut row), Ok(()));
     assert!(rt; row.entry.is_invalid());
     Ok(())
