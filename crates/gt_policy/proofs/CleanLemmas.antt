@@ -127,8 +127,8 @@ append_none (x ∷ xs) = ap (λ ys. x ∷ ys) (append_none xs)
 abbrev names : List (List ℕ) → List (List ℕ) → ℕ → Names
 names ts gs n = record { types = ts; attributes = gs; allows = n }
 
-same_names : (t t2 a a2 : List (List ℕ)) (n n2 : ℕ) → t ≡ t2 → a ≡ a2 → n ≡ n2 → names t a n ≡ names t2 a2 n2
-same_names t t2 a a2 n n2 e f g = ap (λ x. names x a n) e ∙ ap (λ x. names t2 x n) f ∙ ap (λ x. names t2 a2 x) g
+same_names : (t t' a a' : List (List ℕ)) (n n' : ℕ) → t ≡ t' → a ≡ a' → n ≡ n' → names t a n ≡ names t' a' n'
+same_names t t' a a' n n' e f g = ap (λ x. names x a n) e ∙ ap (λ x. names t' x n) f ∙ ap (λ x. names t' a' x) g
 
 -- each statement by itself
 tests_pass : (v u : Bool) (f g : Fault) (x : Names) → v ≡ false → u ≡ true → (if v then Err f else (if u then ok_of x else Err g)) ≡ ok_of x
