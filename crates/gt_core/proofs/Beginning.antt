@@ -21,6 +21,7 @@ use Rattle.gt_core.specs.declared.action.Action.TheVariants.{Step as Makes, Done
 use Rattle.gt_core.specs.declared.trace.Item.{Item}
 use Rattle.gt_core.specs.declared.trace.Happened.TheVariants.{Began}
 use Rattle.gt_core.specs.declared.trace.Answer.{Answer}
+use Rattle.gt_core.specs.declared.trace.Answer.TheVariants.{Frames}
 use Rattle.gt_core.specs.declared.call.Call.{Call}
 use Rattle.gt_core.specs.declared.call.Start.TheVariants.{Open as StartOpen}
 use Rattle.gt_core.specs.declared.call.Phase.{Phase}
@@ -34,7 +35,7 @@ use Rattle.gt_core.specs.declared.slot.Open.{Open}
 use Rattle.gt_core.specs.declared.core_state.Opening.TheVariants.{Open as OpeningOpen}
 use Rattle.std.specs.Prelude.{is_some}
 use Rattle.std.specs.Prelude.{◌||◌, not, is_none, nat_le, ◌^◌, ◌-◌}
-use Rattle.gt_types.specs.Names.{resolved}
+use Rattle.gt_types.specs.Names.{resolved, query}
 use Rattle.gt_types.specs.Denial.{denial_of}
 use Rattle.gt_types.specs.declared.TypeId.{TypeId}
 use Rattle.gt_types.specs.declared.perms.Perms.{Perms}
@@ -42,8 +43,8 @@ use Rattle.gt_types.specs.declared.denial.Rule.{Rule}
 use Rattle.gt_types.specs.declared.denial.Rule.TheVariants.{N1, N2, N3, N5, N6, N8}
 use Rattle.gt_types.specs.declared.denial.Facts.TheVariants.{Policy}
 use Rattle.gt_core.specs.declared.request.Handle.{Handle}
-use Rattle.gt_core.specs.declared.request.Request.TheVariants.{Grant, Revoke, Demote, Promote, Map, Unmap, Load}
-use Rattle.gt_core.specs.Rules.{first, refused_when, denied, asked_by, label_of, mapping_of, map_begun, load_begun, CallerKnowledge, begun, knowledge_of, generation_in, control_with}
+use Rattle.gt_core.specs.declared.request.Request.TheVariants.{Grant, Revoke, Demote, Promote, Map, Unmap, Load, SetVersion, SetupTable, QuerySize, GetVersion}
+use Rattle.gt_core.specs.Rules.{first, refused_when, denied, asked_by, label_of, mapping_of, map_begun, load_begun, query_begun, CallerKnowledge, begun, knowledge_of, generation_in, control_with}
 use Rattle.std.proofs.lemmas.Option.{none-some, slice_get_read}
 use Rattle.gt_types.specs.declared.GrantRef.{GrantRef}
 use Rattle.gt_core.specs.declared.action.Step.{Step}
@@ -54,8 +55,8 @@ use Rattle.gt_core.specs.Machine.{expects, first_phase, phase_after, starts_as, 
 use Rattle.gt_core.specs.History.{History, Setting, entry_at, generation_at, body_at, word_at, control_at, reads_at, writes_at, Pin, table_at, mappings_at, mappings_in, known_at, Underway, underway_after, open_call, values, is_pin_on, one_if_mapped}
 use Rattle.gt_core.specs.Legal.{StepsSoFar, IsSpelled, leg_of, stood, stood_with, first_of_item, AnsweredBy, GivesValue, refusal_in, refusal_of, MayDo, IsRight}
 use Rattle.gt_core.specs.States.{asks_memory}
-use Rattle.gt_core.specs.Standing.{WantsMemory, IsLawful, FitsWord, FitsRequest, PhaseStands, HasStored, HasStoredFirst, OpenAgrees, CallAgrees, Agrees, StateAgrees, CoreStands, state_of, plain_answer, Opens}
-use Rattle.gt_core.proofs.Quiet.{IsQuiet, kept-contents, quiet-entry, quiet-raises, quiet-body, quiet-live, quiet-maps_answered, quiet-generations, quiet-known}
+use Rattle.gt_core.specs.Standing.{WantsMemory, IsLawful, FitsTable, FitsWord, FitsRequest, PhaseStands, HasStored, HasStoredFirst, OpenAgrees, CallAgrees, Agrees, StateAgrees, CoreStands, state_of, answer_begun, Opens}
+use Rattle.gt_core.proofs.Quiet.{IsQuiet, kept-contents, quiet-entry, quiet-raises, quiet-body, quiet-live, quiet-maps_answered, quiet-generations, quiet-table, quiet-known}
 use Rattle.gt_core.proofs.Places.{has_id, found, not-found, state_of-set}
 
 -- the first action of a call
@@ -80,7 +81,7 @@ pub quiet-agrees : (s : Setting) (i : Item) (h : History) (d : State) (o : Optio
     → CallAgrees s (i ∷ h) d.id o (open_call (i ∷ h) d.id.0) → Agrees s (i ∷ h) (record d { underway = o })
 quiet-agrees s i h d o q a call =
     record {
-      header = a.header;
+      header = a.header ∙ sym (quiet-table s i h d.id q);
       rows = a.rows;
       frames = λ f below. a.frames f below ∙ ap (λ (l : List ℕ). Some l) (sym (kept-contents i h d.id.0 f));
       entries = a.entries ∙ fun_ext (λ r. sym (quiet-entry i h d.id.0 r q));
@@ -119,6 +120,10 @@ stored-first-stays i h d (Promote gref) b a = a
 stored-first-stays i h d (Map dom gref flags) b a = a
 stored-first-stays i h d (Unmap handle) b a = a
 stored-first-stays i h d (Load handle off len) b a = a
+stored-first-stays i h d (SetVersion version) b a = a
+stored-first-stays i h d (SetupTable frames) b a = a
+stored-first-stays i h d (QuerySize dom) b a = a
+stored-first-stays i h d (GetVersion dom) b a = a
 
 pub spelled-stays : (i : Item) (h : History) (t r : ℕ) (entry : Entry) → BodyStays i h t → IsSpelled entry (body_at h t r false) (body_at h t r true)
     → IsSpelled entry (body_at (i ∷ h) t r false) (body_at (i ∷ h) t r true)
@@ -134,6 +139,10 @@ stored-stays i h d (Promote gref) b a = tt
 stored-stays i h d (Map dom gref flags) b a = tt
 stored-stays i h d (Unmap handle) b a = tt
 stored-stays i h d (Load handle off len) b a = tt
+stored-stays i h d (SetVersion version) b a = tt
+stored-stays i h d (SetupTable frames) b a = tt
+stored-stays i h d (QuerySize dom) b a = tt
+stored-stays i h d (GetVersion dom) b a = tt
 
 -- where a call stands, it stands after an item that leaves what its domain knows and its body words
 pub place-stays : (s : Setting) (i : Item) (h : History) (d : DomId) (r : Request) (so_far : StepsSoFar) (phase : Phase) → known_at s (i ∷ h) d ≡ known_at s h d → BodyStays i h d.0
@@ -222,7 +231,7 @@ quiet-stands s i h domains domains' new q a e n some =
       each = λ dom. subst (λ (o : Option State). StateAgrees s (i ∷ h) dom o) (sym (e dom.0))
           (pick-state (i.actor.0 == dom.0) s i h dom (state_of domains dom.0) new q refl (a.each dom) n
           (λ b none. some (ap (state_of domains) (eqb-true i.actor.0 dom.0 b) ∙ none)));
-      tables = λ dom. a.tables dom;
+      tables = λ dom. subst FitsTable (sym (quiet-table s i h dom q)) (a.tables dom);
       lawful = subst (All (IsLawful s)) (sym (quiet-live i h q)) a.lawful;
       free = λ t r e. let was = a.free t r (sym (quiet-entry i h t r q) ∙ e) in
           (ap (λ (ps : List Pin). count_by (is_pin_on t r Read) ps) (quiet-live i h q) ∙ was.0, ap (λ (ps : List Pin). count_by (is_pin_on t r Write) ps) (quiet-live i h q) ∙ was.1);
@@ -238,7 +247,7 @@ began dom request answer = record { actor = dom; happened = Began request; answe
 
 began-quiet : (dom : DomId) (request : Request) (answer : Option Answer) → one_if_mapped answer ≡ 0 → IsQuiet (began dom request answer)
 began-quiet dom request answer e =
-    record { keeps = record { changes = λ r. refl; pins = λ before. refl; unpins = λ pins. refl; maps = e }; stores = λ r which. refl }
+    record { keeps = record { changes = λ r. refl; pins = λ before. refl; unpins = λ pins. refl; maps = e }; stores = λ r which. refl; header = refl }
 
 same-number : (n : ℕ) → (n == n) ≡ true
 same-number n = eq-eqb n n refl
@@ -264,7 +273,7 @@ call-some s h id (Some o) (Some c) e a n = cc
 
 -- an opened call
 
-map-domain : (b : Bool) (o : Option DomainConfig) (more : List (Option Verdict)) → first (refused_when (is_none o) N1 ∷ more) ≡ None → o ≢ None
+pub map-domain : (b : Bool) (o : Option DomainConfig) (more : List (Option Verdict)) → first (refused_when (is_none o) N1 ∷ more) ≡ None → o ≢ None
 map-domain b None more e n = let f : Some (Refused (denial_of N1 NoFacts)) ≡ None = e in cc
 map-domain b (Some c) more e n = cc
 
@@ -277,6 +286,10 @@ first-place s h d (Promote gref) e = (refl, refl)
 first-place s h d (Map dom gref flags) e = (refl, map-domain true (domain_of s.domains (resolved d dom)) _ e, tt)
 first-place s h d (Unmap handle) e = tt
 first-place s h d (Load handle off len) e = tt
+first-place s h d (SetVersion version) e = tt
+first-place s h d (SetupTable frames) e = tt
+first-place s h d (QuerySize dom) e = tt
+first-place s h d (GetVersion dom) e = tt
 
 pub begin-opens : (s : Setting) (h : History) (d : State) (request : Request) (o : Open) → FitsRequest request → Agrees s h d → d.underway ≡ None
     → Opens (knowledge_of s.domains s.first_generation s.may d.own d.header d.mappings d.maps_answered) d.id request (OpeningOpen o)
@@ -311,15 +324,35 @@ begin-opens s h d request o fits a closed opens =
 
 -- a call that is answered at once
 
-pub plain-unmapped : (v : Verdict) → one_if_mapped (Some (plain_answer v)) ≡ 0
-plain-unmapped Granted = refl
-plain-unmapped (Refused denial) = refl
+pub plain-unmapped : (r : Request) (x : Header) (v : Verdict) → one_if_mapped (Some (answer_begun r x v)) ≡ 0
+plain-unmapped r x (Refused denial) = refl
+plain-unmapped (Grant gref entry) x Granted = refl
+plain-unmapped (Revoke gref) x Granted = refl
+plain-unmapped (Demote gref) x Granted = refl
+plain-unmapped (Promote gref) x Granted = refl
+plain-unmapped (Map dom gref flags) x Granted = refl
+plain-unmapped (Unmap handle) x Granted = refl
+plain-unmapped (Load handle off len) x Granted = refl
+plain-unmapped (SetVersion version) x Granted = refl
+plain-unmapped (SetupTable frames) x Granted = refl
+plain-unmapped (QuerySize dom) x Granted = refl
+plain-unmapped (GetVersion dom) x Granted = refl
 
-pub plain-refusal : (v : Verdict) → refusal_of (plain_answer v) ≡ refusal_in (Some v)
-plain-refusal Granted = refl
-plain-refusal (Refused denial) = refl
+pub plain-refusal : (r : Request) (x : Header) (v : Verdict) → refusal_of (answer_begun r x v) ≡ refusal_in (Some v)
+plain-refusal r x (Refused denial) = refl
+plain-refusal (Grant gref entry) x Granted = refl
+plain-refusal (Revoke gref) x Granted = refl
+plain-refusal (Demote gref) x Granted = refl
+plain-refusal (Promote gref) x Granted = refl
+plain-refusal (Map dom gref flags) x Granted = refl
+plain-refusal (Unmap handle) x Granted = refl
+plain-refusal (Load handle off len) x Granted = refl
+plain-refusal (SetVersion version) x Granted = refl
+plain-refusal (SetupTable frames) x Granted = refl
+plain-refusal (QuerySize dom) x Granted = refl
+plain-refusal (GetVersion dom) x Granted = refl
 
--- maps and loads are never done at their beginning
+-- maps, loads and queries are never done at their beginning
 
 first-refused : (b : Bool) (rule : Rule) (more : List (Option Verdict)) → (first more ≡ Some Granted → ⊥) → first (refused_when b rule ∷ more) ≡ Some Granted → ⊥
 first-refused true rule more n e = cc
@@ -349,22 +382,32 @@ load-refused : (mappings : List Mapping) (handle : Handle) (off len : ℕ) → l
 load-refused mappings handle off len =
     first-refused (nat_lt 4096 (off + len)) N3 _ (first-refused (is_none (mapping_of mappings handle)) N6 _ none-granted)
 
-gives-value : (s : Setting) (h : History) (k : CallerKnowledge) (d : DomId) (request : Request) (v : Verdict) → begun k d request ≡ Some v → GivesValue s h d request None (plain_answer v)
-gives-value s h k d request (Refused denial) e = tt
-gives-value s h k d (Grant gref entry) Granted e = refl
-gives-value s h k d (Revoke gref) Granted e = refl
-gives-value s h k d (Demote gref) Granted e = refl
-gives-value s h k d (Promote gref) Granted e = refl
-gives-value s h k d (Map dom gref flags) Granted e = absurd (map-refused k d dom flags e)
-gives-value s h k d (Unmap handle) Granted e = refl
-gives-value s h k d (Load handle off len) Granted e = absurd (load-refused k.mappings handle off len e)
+query-refused : (k : CallerKnowledge) (caller dom : DomId) → query_begun k caller dom ≡ Some Granted → ⊥
+query-refused k caller dom =
+    first-refused (is_none (domain_of k.domains (resolved caller dom))) N1 _
+    (denied-refused k.may (label_of k.domains caller) (label_of k.domains (resolved caller dom)) (query ∷ []) _ none-granted)
+
+gives-value : (s : Setting) (h : History) (k : CallerKnowledge) (d : DomId) (request : Request) (x : Header) (v : Verdict) → x ≡ table_at s h d → begun k d request ≡ Some v
+    → GivesValue s h d request None (answer_begun request x v)
+gives-value s h k d request x (Refused denial) same e = tt
+gives-value s h k d (Grant gref entry) x Granted same e = refl
+gives-value s h k d (Revoke gref) x Granted same e = refl
+gives-value s h k d (Demote gref) x Granted same e = refl
+gives-value s h k d (Promote gref) x Granted same e = refl
+gives-value s h k d (Map dom gref flags) x Granted same e = absurd (map-refused k d dom flags e)
+gives-value s h k d (Unmap handle) x Granted same e = refl
+gives-value s h k d (Load handle off len) x Granted same e = absurd (load-refused k.mappings handle off len e)
+gives-value s h k d (SetVersion version) x Granted same e = refl
+gives-value s h k d (SetupTable frames) x Granted same e = ap (λ (t : Header). Frames t.frames) same
+gives-value s h k d (QuerySize dom) x Granted same e = absurd (query-refused k d dom e)
+gives-value s h k d (GetVersion dom) x Granted same e = absurd (query-refused k d dom e)
 
 pub begin-done : (s : Setting) (h : History) (d : State) (request : Request) (v : Verdict) → Agrees s h d → d.underway ≡ None
     → begun (knowledge_of s.domains s.first_generation s.may d.own d.header d.mappings d.maps_answered) d.id request ≡ Some v
-    → IsRight s h (began d.id request (Some (plain_answer v))) × Agrees s (began d.id request (Some (plain_answer v)) ∷ h) d
+    → IsRight s h (began d.id request (Some (answer_begun request d.header v))) × Agrees s (began d.id request (Some (answer_begun request d.header v)) ∷ h) d
 begin-done s h d request v a closed opens =
-    let i = began d.id request (Some (plain_answer v)) in
-    let q = began-quiet d.id request (Some (plain_answer v)) (plain-unmapped v) in
+    let i = began d.id request (Some (answer_begun request d.header v)) in
+    let q = began-quiet d.id request (Some (answer_begun request d.header v)) (plain-unmapped request d.header v) in
     let was = known-same s h d a in
     let at_once : begun (known_at s h d.id) d.id request ≡ Some v = ap (λ (k : CallerKnowledge). begun k d.id request) (sym was) ∙ opens in
     let against : stood s (i ∷ h) d.id.0 ≡ refusal_in (Some v) = stood-own s i h ∙ ap refusal_in at_once in
@@ -375,8 +418,8 @@ begin-done s h d request v a closed opens =
     (subst (λ (c : Option Underway). CallAgrees s (i ∷ h) d.id None c) (sym now) tt) in (
       (
         empty,
-        subst (λ (x : Option Verdict). AnsweredBy s h d.id request None x (Some (plain_answer v)) (stood s (i ∷ h) d.id.0)) (sym at_once)
-            (plain-refusal v, plain-refusal v ∙ sym against, gives-value s h (known_at s h d.id) d.id request v at_once),
+        subst (λ (x : Option Verdict). AnsweredBy s h d.id request None x (Some (answer_begun request d.header v)) (stood s (i ∷ h) d.id.0)) (sym at_once)
+            (plain-refusal request d.header v, plain-refusal request d.header v ∙ sym against, gives-value s h (known_at s h d.id) d.id request d.header v a.header at_once),
       ),
       quiet-agrees s i h d d.underway q a call,
     )
@@ -433,6 +476,10 @@ steps-begin k dom (Promote gref) v e = turn-step false dom gref v e
 steps-begin k dom (Map d gref flags) v e = cc
 steps-begin k dom (Unmap handle) v e = unpin-step (mapping_of k.mappings handle) v e
 steps-begin k dom (Load handle off len) v e = read-step (mapping_of k.mappings handle) off len v e
+steps-begin k dom (SetVersion version) v e = cc
+steps-begin k dom (SetupTable frames) v e = cc
+steps-begin k dom (QuerySize d) v e = cc
+steps-begin k dom (GetVersion d) v e = cc
 
 pub not-done : (k : CallerKnowledge) (dom : DomId) (request : Request) (first new : Call) (v : Verdict) → StartOpen first ≡ starts_as dom request (begun k dom request)
     → ((vs : List Seen) → expects k first.caller first.request new.phase vs ≡ expects k first.caller first.request first.phase (Nothing ∷ vs))
@@ -472,15 +519,15 @@ same-state domains x q e = by (x.id.0 == q) refl
 pub begin-answered : (s : Setting) (h : History) (domains : List State) (dom : DomId) (at : ℕ) (x : State) (request : Request) (v : Verdict)
     → position (has_id dom.0) domains ≡ Some at → x ≡ get_or domains at x → is_some x.underway ≡ false
     → begun (knowledge_of s.domains s.first_generation s.may x.own x.header x.mappings x.maps_answered) dom request ≡ Some v → CoreStands s h domains
-    → (domain_of s.domains dom ≢ None) × IsRight s h (began dom request (Some (plain_answer v))) × CoreStands s (began dom request (Some (plain_answer v)) ∷ h) domains
+    → (domain_of s.domains dom ≢ None) × IsRight s h (began dom request (Some (answer_begun request x.header v))) × CoreStands s (began dom request (Some (answer_begun request x.header v)) ∷ h) domains
 begin-answered s h domains dom at x request v p here idle opens st =
     let a = agrees-found s h domains dom at x p here st in
     let f = found domains dom.0 at x p ∙ ap (λ (y : State). Some y) (sym here) in
     let both = subst (λ (d : DomId). begun (knowledge_of s.domains s.first_generation s.may x.own x.header x.mappings x.maps_answered) d request ≡ Some v → state_of domains d.0 ≡ Some x
-    → IsRight s h (began d request (Some (plain_answer v))) × CoreStands s (began d request (Some (plain_answer v)) ∷ h) domains) a.1
+    → IsRight s h (began d request (Some (answer_begun request x.header v))) × CoreStands s (began d request (Some (answer_begun request x.header v)) ∷ h) domains) a.1
     (λ op g. let b = begin-done s h x request v a.2 (closed-from x.underway idle) op in (
       b.0,
-      quiet-stands s (began x.id request (Some (plain_answer v))) h domains domains x (began-quiet x.id request (Some (plain_answer v)) (plain-unmapped v)) st
+      quiet-stands s (began x.id request (Some (answer_begun request x.header v))) h domains domains x (began-quiet x.id request (Some (answer_begun request x.header v)) (plain-unmapped request x.header v)) st
           (λ q. same-state domains x q g) (refl, b.1) (λ none. none-some x (sym none ∙ g)),
     ))
     opens f in
@@ -508,7 +555,7 @@ begin-opened s h domains dom at x request o fits p here idle opens st =
 pub place-at : (domains : List State) (d at : ℕ) (x : State) → position (has_id d) domains ≡ Some at → x ≡ get_or domains at x → slice_get domains at ≡ Some x
 place-at domains d at x p here = slice_get_read domains (length domains) at x refl (position-Some (has_id d) domains at x p).0 here
 
-pub begin-answers : (s : Setting) (h : History) (domains : List State) (dom : DomId) (at : ℕ) (x : State) (request : Request) (v : Verdict) (y : Answer) → y ≡ plain_answer v
+pub begin-answers : (s : Setting) (h : History) (domains : List State) (dom : DomId) (at : ℕ) (x : State) (request : Request) (v : Verdict) (y : Answer) → y ≡ answer_begun request x.header v
     → position (has_id dom.0) domains ≡ Some at → x ≡ get_or domains at x → is_some x.underway ≡ false
     → begun (knowledge_of s.domains s.first_generation s.may x.own x.header x.mappings x.maps_answered) dom request ≡ Some v → CoreStands s h domains
     → (domain_of s.domains dom ≢ None) × IsRight s h (began dom request (Some y)) × CoreStands s (began dom request (Some y) ∷ h) domains

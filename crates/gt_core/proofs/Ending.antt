@@ -16,6 +16,7 @@ use Rattle.gt_types.specs.declared.denial.Denial.{Denial}
 use Rattle.gt_entry.specs.declared.entry.Entry.{Entry}
 use Rattle.gt_entry.specs.declared.entry.Entry.TheVariants.{Invalid, Page, Sub, Via}
 use Rattle.gt_entry.specs.Words.{control_of, header_word, header_of}
+use Rattle.gt_entry.specs.declared.header.Header.{Header}
 use Rattle.gt_core.specs.declared.known.Mapping.{Mapping}
 use Rattle.gt_types.specs.declared.Dir.{Dir}
 use Rattle.gt_types.specs.declared.Dir.TheVariants.{Read, Write}
@@ -24,11 +25,11 @@ use Rattle.gt_core.specs.declared.request.Handle.{Handle}
 use Rattle.gt_core.specs.declared.request.Holder.{Holder}
 use Rattle.gt_core.specs.declared.request.Holder.TheVariants.{Mapping as ByMapping, Leg as ByLeg}
 use Rattle.gt_core.specs.declared.request.Request.{Request}
-use Rattle.gt_core.specs.declared.request.Request.TheVariants.{Grant, Revoke, Demote, Promote, Map, Unmap, Load}
+use Rattle.gt_core.specs.declared.request.Request.TheVariants.{Grant, Revoke, Demote, Promote, Map, Unmap, Load, SetVersion, SetupTable, QuerySize, GetVersion}
 use Rattle.gt_core.specs.declared.action.Verdict.TheVariants.{Granted, Refused}
 use Rattle.gt_core.specs.declared.action.Change.{Change}
 use Rattle.gt_core.specs.declared.action.Step.{Step}
-use Rattle.gt_core.specs.declared.action.Step.TheVariants.{LookHeader, LookControl, LookBody, Pin as PinStep, Unpin, StoreBody, Exchange, Read as ReadBytes}
+use Rattle.gt_core.specs.declared.action.Step.TheVariants.{LookHeader, LookControl, LookBody, Pin as PinStep, Unpin, StoreBody, StoreHeader, Exchange, Read as ReadBytes}
 use Rattle.gt_core.specs.declared.action.Seen.{Seen}
 use Rattle.gt_core.specs.declared.action.Seen.TheVariants.{Nothing, Value, Taken, Missed}
 use Rattle.gt_core.specs.declared.action.Action.{Action}
@@ -54,7 +55,7 @@ use Rattle.gt_core.specs.Legal.{Permits, MayUse, IsSafe, PinIsSound, StepsSoFar,
 use Rattle.gt_core.specs.Standing.{IsLawful, IsLawfullyHeld, PhaseStands, OpenAgrees, CallAgrees, Agrees, StateAgrees, CoreStands, Advances, state_of}
 use Rattle.gt_core.proofs.Calls.{comes-some}
 use Rattle.gt_core.proofs.Places.{has_id, found}
-use Rattle.gt_core.proofs.Fitting.{word-shows}
+use Rattle.gt_core.proofs.Fitting.{word-shows, table-fits}
 use Rattle.gt_core.proofs.Beginning.{quiet-agrees, quiet-stands, open_call-own, agrees-found}
 use Rattle.gt_core.proofs.Owners.{phase_refusal}
 use Rattle.gt_core.specs.States.{changed_in}
@@ -75,14 +76,14 @@ use Rattle.gt_types.specs.declared.denial.Facts.TheVariants.{Policy}
 use Rattle.gt_types.specs.declared.Use.{Use}
 use Rattle.gt_entry.specs.declared.control.Control.{Control}
 use Rattle.gt_entry.specs.declared.control.Kind.TheVariants.{Page as KindPage, Sub as KindSub, Via as KindVia}
-use Rattle.gt_core.specs.declared.trace.Answer.TheVariants.{Done as AnswerDone, Mapped, Bytes as BytesAnswer}
+use Rattle.gt_core.specs.declared.trace.Answer.TheVariants.{Done as AnswerDone, Mapped, Bytes as BytesAnswer, Frames as FramesAnswer, Size as SizeAnswer, Version as VersionAnswer}
 use Rattle.gt_core.specs.declared.trace.Bytes.{Bytes}
 use Rattle.gt_core.specs.Rules.{stands, first_look, before_pin, is_kind, wants, writes_by, denied, asked_by, label_of, frames_of, holds, pins_of}
 use Rattle.gt_core.specs.Path.{map_leg}
 use Rattle.gt_core.specs.Legal.{GivesValue, refusal_of, NoneStands}
-use Rattle.gt_core.specs.Standing.{Settled, NeedsNoRoom, IsMapping, IsLoadOf}
+use Rattle.gt_core.specs.Standing.{Settled, value_of, FitsTable, NeedsNoRoom, IsMapping, IsLoadOf}
 use Rattle.gt_core.proofs.Rows.{length-changed_in}
-use Rattle.gt_core.specs.Effects.{with_own, with_mapping, without_mapping, or_none, frame_in, bytes_in}
+use Rattle.gt_core.specs.Effects.{with_own, with_header, with_mapping, without_mapping, or_none, frame_in, bytes_in}
 use Rattle.gt_core.specs.Machine.{frame_read, after_miss, after_words, after_look, after_own_look}
 use Rattle.gt_types.specs.declared.denial.Facts.TheVariants.{Header as HeaderFacts}
 use Rattle.gt_core.specs.declared.slot.SlotChange.TheVariants.{Pinned, Unpinned}
@@ -94,6 +95,7 @@ use Rattle.gt_core.proofs.Ticking.{refused-changes-nothing}
 use Rattle.gt_core.specs.Standing.{Advances}
 use Rattle.gt_core.proofs.Exchanging.{exchange-stands, exchange-ends, exchange-safe}
 use Rattle.gt_core.proofs.Unpinning.{unpin-stands}
+use Rattle.gt_core.proofs.Headers.{header-stands, version-fits, setup-fits}
 use Rattle.gt_core.proofs.Pinning.{pin-stands, new_pin, pins_at}
 
 -- a call that is answered Ok
@@ -204,39 +206,57 @@ read-loud : (m : Option Mapping) (off len : ℕ) (step : Step) → read_of m off
 read-loud None off len step e a = cc
 read-loud (Some m) off len step e a = subst LooksOrStores (sym (makes-same _ _ e)) a
 
+-- the call asks for a header alone
+abbrev is_query : Request → Bool
+is_query (QuerySize dom) = true
+is_query (GetVersion dom) = true
+is_query request = false
+
 never-ends : (s : Setting) (h : History) (d : DomId) (r : Request) (so_far : StepsSoFar) (phase : Phase) (step : Step) → PhaseStands s h d r so_far phase
-    → Comes (expects (known_at s h d) d r phase []) → action_at (known_at s h d) d r phase ≡ Makes step → LooksOrStores step
+    → Comes (expects (known_at s h d) d r phase []) → action_at (known_at s h d) d r phase ≡ Makes step → is_query r ≡ false → LooksOrStores step
     → Done Granted ≡ action_at (known_at s h d) d r (phase_after (known_at s h d) d r phase (seen_by s h d step)) → ⊥
-never-ends s h d r so_far PhaseBegun step a comes act looks e = a
-never-ends s h d r so_far (LegPinning l p) step a comes act looks e =
+never-ends s h d r so_far PhaseBegun step a comes act plain looks e = a
+never-ends s h d r so_far (LegPinning l p) step a comes act plain looks e =
     subst (λ (z : Step). LooksOrStores z → Done Granted ≡ action_at (known_at s h d) d r (after_leg l (leg_after l p (seen_by s h d z))) → ⊥) (makes-same _ _ act)
     (λ z. not-granted (known_at s h d) d r l (leg_after l p (seen_by s h d (leg_step l p))) (looked-goes s h d l p z)) looks e
-never-ends s h d (Grant gref entry) so_far Storing step a comes act looks e = stored-goes (known_at s h d) d gref entry (is_sub (Grant gref entry)) e
-never-ends s h d (Grant gref entry) so_far StoringSecond step a comes act looks e = stored-goes (known_at s h d) d gref entry false e
-never-ends s h d (Grant gref entry) so_far Single step a comes act looks e = subst LooksOrStores (sym (makes-same _ _ act)) looks
-never-ends s h d (Revoke gref) so_far Single step a comes act looks e = subst LooksOrStores (sym (makes-same _ _ act)) looks
-never-ends s h d (Unmap handle) so_far Single step a comes act looks e = unpin-loud _ step act looks
-never-ends s h d (Load handle off len) so_far Single step a comes act looks e = read-loud _ off len step act looks
-never-ends s h d (Demote gref) so_far Single step a comes act looks e = comes
-never-ends s h d (Promote gref) so_far Single step a comes act looks e = comes
-never-ends s h d (Map dom gref flags) so_far Single step a comes act looks e = comes
-never-ends s h d r so_far (OwnLook more) step a comes act looks e =
+never-ends s h d (Grant gref entry) so_far Storing step a comes act plain looks e = stored-goes (known_at s h d) d gref entry (is_sub (Grant gref entry)) e
+never-ends s h d (Grant gref entry) so_far StoringSecond step a comes act plain looks e = stored-goes (known_at s h d) d gref entry false e
+never-ends s h d (Grant gref entry) so_far Single step a comes act plain looks e = subst LooksOrStores (sym (makes-same _ _ act)) looks
+never-ends s h d (Revoke gref) so_far Single step a comes act plain looks e = subst LooksOrStores (sym (makes-same _ _ act)) looks
+never-ends s h d (Unmap handle) so_far Single step a comes act plain looks e = unpin-loud _ step act looks
+never-ends s h d (Load handle off len) so_far Single step a comes act plain looks e = read-loud _ off len step act looks
+never-ends s h d (SetVersion version) so_far Single step a comes act plain looks e = subst LooksOrStores (sym (makes-same _ _ act)) looks
+never-ends s h d (SetupTable frames) so_far Single step a comes act plain looks e = subst LooksOrStores (sym (makes-same _ _ act)) looks
+never-ends s h d (QuerySize dom) so_far Single step a comes act plain looks e = true≢false plain
+never-ends s h d (GetVersion dom) so_far Single step a comes act plain looks e = true≢false plain
+never-ends s h d (Demote gref) so_far Single step a comes act plain looks e = comes
+never-ends s h d (Promote gref) so_far Single step a comes act plain looks e = comes
+never-ends s h d (Map dom gref flags) so_far Single step a comes act plain looks e = comes
+never-ends s h d r so_far (OwnLook more) step a comes act plain looks e =
     subst (λ (z : Step). Done Granted ≡ action_at (known_at s h d) d r (phase_after (known_at s h d) d r (OwnLook more) (seen_by s h d z)) → ⊥) (makes-same _ _ act)
     (own-look-goes (known_at s h d) d r more (word_at s h d.0 (own_gref r).0)) e
-never-ends s h d r so_far (OwnChange more word) step a comes act looks e = subst LooksOrStores (sym (makes-same _ _ act)) looks
-never-ends s h d r so_far (Ended verdict) step a comes act looks e = a
-never-ends s h d (Revoke gref) so_far Storing step a comes act looks e = comes
-never-ends s h d (Demote gref) so_far Storing step a comes act looks e = comes
-never-ends s h d (Promote gref) so_far Storing step a comes act looks e = comes
-never-ends s h d (Map dom gref flags) so_far Storing step a comes act looks e = comes
-never-ends s h d (Unmap handle) so_far Storing step a comes act looks e = comes
-never-ends s h d (Load handle off len) so_far Storing step a comes act looks e = comes
-never-ends s h d (Revoke gref) so_far StoringSecond step a comes act looks e = a
-never-ends s h d (Demote gref) so_far StoringSecond step a comes act looks e = a
-never-ends s h d (Promote gref) so_far StoringSecond step a comes act looks e = a
-never-ends s h d (Map dom gref flags) so_far StoringSecond step a comes act looks e = a
-never-ends s h d (Unmap handle) so_far StoringSecond step a comes act looks e = a
-never-ends s h d (Load handle off len) so_far StoringSecond step a comes act looks e = a
+never-ends s h d r so_far (OwnChange more word) step a comes act plain looks e = subst LooksOrStores (sym (makes-same _ _ act)) looks
+never-ends s h d r so_far (Ended verdict) step a comes act plain looks e = a
+never-ends s h d (Revoke gref) so_far Storing step a comes act plain looks e = comes
+never-ends s h d (Demote gref) so_far Storing step a comes act plain looks e = comes
+never-ends s h d (Promote gref) so_far Storing step a comes act plain looks e = comes
+never-ends s h d (Map dom gref flags) so_far Storing step a comes act plain looks e = comes
+never-ends s h d (Unmap handle) so_far Storing step a comes act plain looks e = comes
+never-ends s h d (Load handle off len) so_far Storing step a comes act plain looks e = comes
+never-ends s h d (SetVersion version) so_far Storing step a comes act plain looks e = comes
+never-ends s h d (SetupTable frames) so_far Storing step a comes act plain looks e = comes
+never-ends s h d (QuerySize dom) so_far Storing step a comes act plain looks e = comes
+never-ends s h d (GetVersion dom) so_far Storing step a comes act plain looks e = comes
+never-ends s h d (Revoke gref) so_far StoringSecond step a comes act plain looks e = a
+never-ends s h d (Demote gref) so_far StoringSecond step a comes act plain looks e = a
+never-ends s h d (Promote gref) so_far StoringSecond step a comes act plain looks e = a
+never-ends s h d (Map dom gref flags) so_far StoringSecond step a comes act plain looks e = a
+never-ends s h d (Unmap handle) so_far StoringSecond step a comes act plain looks e = a
+never-ends s h d (Load handle off len) so_far StoringSecond step a comes act plain looks e = a
+never-ends s h d (SetVersion version) so_far StoringSecond step a comes act plain looks e = a
+never-ends s h d (SetupTable frames) so_far StoringSecond step a comes act plain looks e = a
+never-ends s h d (QuerySize dom) so_far StoringSecond step a comes act plain looks e = a
+never-ends s h d (GetVersion dom) so_far StoringSecond step a comes act plain looks e = a
 
 -- an unpin is of the mapping that an unmap names
 
@@ -277,27 +297,56 @@ three-none false true c h = cc
 three-none false false true h = cc
 three-none false false false h = (refl, refl)
 
+-- a grant stores body words, and no other call does
+abbrev StoresBody : Step → Type 0
+StoresBody (StoreBody gref second word) = Unit {0}
+StoresBody step = ⊥
+
+store-only : (r : Request) (step : Step) → store_at r ≡ Makes step → StoresBody step
+store-only (Grant gref entry) step e = subst StoresBody (makes-same _ _ e) tt
+store-only (Revoke gref) step e = cc
+store-only (Demote gref) step e = cc
+store-only (Promote gref) step e = cc
+store-only (Map dom gref flags) step e = cc
+store-only (Unmap handle) step e = cc
+store-only (Load handle off len) step e = cc
+store-only (SetVersion version) step e = cc
+store-only (SetupTable frames) step e = cc
+store-only (QuerySize dom) step e = cc
+store-only (GetVersion dom) step e = cc
+
+second-only : (r : Request) (step : Step) → second_at r ≡ Makes step → StoresBody step
+second-only (Grant gref entry) step e = subst StoresBody (makes-same _ _ e) tt
+second-only (Revoke gref) step e = cc
+second-only (Demote gref) step e = cc
+second-only (Promote gref) step e = cc
+second-only (Map dom gref flags) step e = cc
+second-only (Unmap handle) step e = cc
+second-only (Load handle off len) step e = cc
+second-only (SetVersion version) step e = cc
+second-only (SetupTable frames) step e = cc
+second-only (QuerySize dom) step e = cc
+second-only (GetVersion dom) step e = cc
+
+-- a leg looks and pins
+abbrev LooksOrPins : Step → Type 0
+LooksOrPins (LookHeader dom) = Unit {0}
+LooksOrPins (LookControl dom gref) = Unit {0}
+LooksOrPins (LookBody dom gref second) = Unit {0}
+LooksOrPins (PinStep dom gref looked dir) = Unit {0}
+LooksOrPins step = ⊥
+
+leg-only : (l : Leg) (p : LegPhase) (step : Step) → Makes (leg_step l p) ≡ Makes step → LooksOrPins step
+leg-only l AtHeader step e = subst LooksOrPins (makes-same _ _ e) tt
+leg-only l (Look more) step e = subst LooksOrPins (makes-same _ _ e) tt
+leg-only l (Body more word) step e = subst LooksOrPins (makes-same _ _ e) tt
+leg-only l (Second more word body) step e = subst LooksOrPins (makes-same _ _ e) tt
+leg-only l (Pinning more word body second) step e = subst LooksOrPins (makes-same _ _ e) tt
+leg-only l (Relook more word rule) step e = subst LooksOrPins (makes-same _ _ e) tt
+
 -- the pin of a leg, by the words of its try
 abbrev PinsBy : Request → Phase → Step → Type 0
 PinsBy r phase step = (l : Leg) × (more : ℕ) × (word : ℕ) × (body : ℕ) × (second : ℕ) × (phase ≡ LegPinning l (Pinning more word body second)) × (step ≡ PinStep l.dom l.gref word l.dir)
-
-store-no-pin : (r : Request) (t : DomId) (gref : GrantRef) (looked : ℕ) (dir : Dir) → store_at r ≡ Makes (PinStep t gref looked dir) → ⊥
-store-no-pin (Grant gref' entry) t gref looked dir e = cc
-store-no-pin (Revoke gref') t gref looked dir e = cc
-store-no-pin (Demote gref') t gref looked dir e = cc
-store-no-pin (Promote gref') t gref looked dir e = cc
-store-no-pin (Map dom gref' flags) t gref looked dir e = cc
-store-no-pin (Unmap handle) t gref looked dir e = cc
-store-no-pin (Load handle off len) t gref looked dir e = cc
-
-second-no-pin : (r : Request) (t : DomId) (gref : GrantRef) (looked : ℕ) (dir : Dir) → second_at r ≡ Makes (PinStep t gref looked dir) → ⊥
-second-no-pin (Grant gref' entry) t gref looked dir e = cc
-second-no-pin (Revoke gref') t gref looked dir e = cc
-second-no-pin (Demote gref') t gref looked dir e = cc
-second-no-pin (Promote gref') t gref looked dir e = cc
-second-no-pin (Map dom gref' flags) t gref looked dir e = cc
-second-no-pin (Unmap handle) t gref looked dir e = cc
-second-no-pin (Load handle off len) t gref looked dir e = cc
 
 unpin-no-pin : (m : Option Mapping) (t : DomId) (gref : GrantRef) (looked : ℕ) (dir : Dir) → unpin_of m ≡ Makes (PinStep t gref looked dir) → ⊥
 unpin-no-pin None t gref looked dir e = cc
@@ -307,14 +356,18 @@ read-no-pin : (m : Option Mapping) (off len : ℕ) (t : DomId) (gref : GrantRef)
 read-no-pin None off len t gref looked dir e = cc
 read-no-pin (Some m) off len t gref looked dir e = cc
 
-single-no-pin : (k : CallerKnowledge) (r : Request) (t : DomId) (gref : GrantRef) (looked : ℕ) (dir : Dir) → single_at k r ≡ Makes (PinStep t gref looked dir) → ⊥
-single-no-pin k (Grant gref' entry) t gref looked dir e = cc
-single-no-pin k (Revoke gref') t gref looked dir e = cc
-single-no-pin k (Demote gref') t gref looked dir e = cc
-single-no-pin k (Promote gref') t gref looked dir e = cc
-single-no-pin k (Map dom gref' flags) t gref looked dir e = cc
-single-no-pin k (Unmap handle) t gref looked dir e = unpin-no-pin (mapping_of k.mappings handle) t gref looked dir e
-single-no-pin k (Load handle off len) t gref looked dir e = read-no-pin (mapping_of k.mappings handle) off len t gref looked dir e
+single-no-pin : (k : CallerKnowledge) (d : DomId) (r : Request) (t : DomId) (gref : GrantRef) (looked : ℕ) (dir : Dir) → single_at k d r ≡ Makes (PinStep t gref looked dir) → ⊥
+single-no-pin k d (Grant gref' entry) t gref looked dir e = cc
+single-no-pin k d (Revoke gref') t gref looked dir e = cc
+single-no-pin k d (Demote gref') t gref looked dir e = cc
+single-no-pin k d (Promote gref') t gref looked dir e = cc
+single-no-pin k d (Map dom gref' flags) t gref looked dir e = cc
+single-no-pin k d (Unmap handle) t gref looked dir e = unpin-no-pin (mapping_of k.mappings handle) t gref looked dir e
+single-no-pin k d (Load handle off len) t gref looked dir e = read-no-pin (mapping_of k.mappings handle) off len t gref looked dir e
+single-no-pin k d (SetVersion version) t gref looked dir e = cc
+single-no-pin k d (SetupTable frames) t gref looked dir e = cc
+single-no-pin k d (QuerySize dom) t gref looked dir e = cc
+single-no-pin k d (GetVersion dom) t gref looked dir e = cc
 
 leg-pin : (r : Request) (l : Leg) (p : LegPhase) (t : DomId) (gref : GrantRef) (looked : ℕ) (dir : Dir) → Makes (leg_step l p) ≡ Makes (PinStep t gref looked dir) → PinsBy r (LegPinning l p) (PinStep t gref looked dir)
 leg-pin r l AtHeader t gref looked dir e = cc
@@ -327,9 +380,9 @@ leg-pin r l (Pinning more word body second) t gref looked dir e = (l, more, word
 pins-by : (k : CallerKnowledge) (d : DomId) (r : Request) (phase : Phase) (t : DomId) (gref : GrantRef) (looked : ℕ) (dir : Dir) → action_at k d r phase ≡ Makes (PinStep t gref looked dir) → PinsBy r phase (PinStep t gref looked dir)
 pins-by k d r PhaseBegun t gref looked dir e = cc
 pins-by k d r (LegPinning l p) t gref looked dir e = leg-pin r l p t gref looked dir e
-pins-by k d r Storing t gref looked dir e = absurd (store-no-pin r t gref looked dir e)
-pins-by k d r StoringSecond t gref looked dir e = absurd (second-no-pin r t gref looked dir e)
-pins-by k d r Single t gref looked dir e = absurd (single-no-pin k r t gref looked dir e)
+pins-by k d r Storing t gref looked dir e = absurd (store-only r (PinStep t gref looked dir) e)
+pins-by k d r StoringSecond t gref looked dir e = absurd (second-only r (PinStep t gref looked dir) e)
+pins-by k d r Single t gref looked dir e = absurd (single-no-pin k d r t gref looked dir e)
 pins-by k d r (OwnLook more) t gref looked dir e = cc
 pins-by k d r (OwnChange more word) t gref looked dir e = cc
 pins-by k d r (Ended verdict) t gref looked dir e = cc
@@ -424,6 +477,10 @@ map-of-leg k d (Promote gref) l e = cc
 map-of-leg k d (Map dom gref flags) l e = (dom, gref, flags, refl, sym (same_Some _ l e))
 map-of-leg k d (Unmap handle) l e = cc
 map-of-leg k d (Load handle off len) l e = cc
+map-of-leg k d (SetVersion version) l e = cc
+map-of-leg k d (SetupTable frames) l e = cc
+map-of-leg k d (QuerySize dom) l e = cc
+map-of-leg k d (GetVersion dom) l e = cc
 
 -- a mapping shows a frame of its owner
 
@@ -539,14 +596,14 @@ few-pins h t r Write e g f n =
     (ap (λ (k : ℕ). k == 4095) (sym (control-writes e g (reads_at h t r) (writes_at h t r))) ∙ n)
 
 -- what is settled where a call is over after this last step, the changed state told by its number
-abbrev pub SettledIn : List State → State → Open → Step → Answer → List State → Type 0
-SettledIn xs d o (PinStep dom gref looked dir) answer new =
+abbrev pub SettledIn : List State → State → Open → Seen → Step → Answer → List State → Type 0
+SettledIn xs d o seen (PinStep dom gref looked dir) answer new =
     (handle : Handle) × (answer ≡ Mapped handle) × (handle.serial ≡ d.maps_answered)
     × (new ≡ changed_in d.id.0 (with_mapping (record { handle = handle; dom = dom; gref = gref; dir = dir; frame = frame_read o.call.phase })) xs)
-SettledIn xs d o (ReadBytes dom frame off len) answer new =
+SettledIn xs d o seen (ReadBytes dom frame off len) answer new =
     (b : Bytes) × (answer ≡ BytesAnswer b) × (new ≡ changed_in d.id.0 (with_underway None) xs)
     × ((n : ℕ) → IsLoadOf o.call.request n → length (bytes_in new dom.0 frame off n) ≡ n → b.bytes.items ≡ bytes_in new dom.0 frame off n)
-SettledIn xs d o step answer new = (answer ≡ AnswerDone) × (new ≡ changed_in d.id.0 (with_underway None) xs)
+SettledIn xs d o seen step answer new = (answer ≡ value_of o.call.request seen) × (new ≡ changed_in d.id.0 (with_underway None) xs)
 
 abbrev EndsRight : Setting → History → List State → State → Open → Underway → Step → Seen → Answer → List State → Type 0
 EndsRight s h xs x o c step seen answer settled =
@@ -558,7 +615,7 @@ gives-handle s h d dom t gref r' flags looked dir request handle is serial = sub
 
 pin-ends : (s : Setting) (h : History) (xs : List State) (x : State) (o : Open) (c : Underway) (seen : Seen) (new : Call) (answer : Answer) (settled : List State) (l : Leg) (more word body second : ℕ)
     → CoreStands s h xs → state_of xs x.id.0 ≡ Some x → Agrees s h x → open_call h x.id.0 ≡ Some c → OpenAgrees s h x.id o c → Stepping s h x.id o c seen new (Done Granted)
-    → o.call.phase ≡ LegPinning l (Pinning more word body second) → o.step ≡ PinStep l.dom l.gref word l.dir → SettledIn xs x o (PinStep l.dom l.gref word l.dir) answer settled
+    → o.call.phase ≡ LegPinning l (Pinning more word body second) → o.step ≡ PinStep l.dom l.gref word l.dir → SettledIn xs x o seen (PinStep l.dom l.gref word l.dir) answer settled
     → EndsRight s h xs x o c o.step seen answer settled
 pin-ends s h xs x o c seen new answer settled l more word body second st here a call oa w is step done =
     let d = x.id in
@@ -615,15 +672,16 @@ pin-ends s h xs x o c seen new answer settled l more word body second st here a 
 
 exchange-over : (s : Setting) (h : History) (xs : List State) (x : State) (o : Open) (c : Underway) (seen : Seen) (new : Call) (answer : Answer) (settled : List State) (gref : GrantRef) (looked : ℕ) (change : Change)
     → CoreStands s h xs → open_call h x.id.0 ≡ Some c → OpenAgrees s h x.id o c → Stepping s h x.id o c seen new (Done Granted)
-    → o.step ≡ Exchange gref looked change → SettledIn xs x o (Exchange gref looked change) answer settled → GivesValue s h x.id c.request (Some o.step) AnswerDone
+    → o.step ≡ Exchange gref looked change → SettledIn xs x o seen (Exchange gref looked change) answer settled → GivesValue s h x.id c.request (Some o.step) AnswerDone × (value_of c.request seen ≡ AnswerDone)
     → EndsRight s h xs x o c o.step seen answer settled
 exchange-over s h xs x o c seen new answer settled gref looked change st call oa w step done value =
     let d = x.id in
     let e = exchange-ends s h xs d o c seen new gref looked change st oa w step in
     let right : StepsRight s h (stepped d o.step seen (Some AnswerDone)) o.step seen c =
     granted-right s h xs d o c seen new AnswerDone st call oa w (exchange-safe s h d gref looked change o.step seen (Some AnswerDone) step e)
-    (subst (λ (z : Step). PinIsSound s h d c.request z seen) (sym step) tt) refl value in
-    subst (λ (z : Answer). EndsRight s h xs x o c o.step seen z settled) (sym done.0) (
+    (subst (λ (z : Step). PinIsSound s h d c.request z seen) (sym step) tt) refl value.0 in
+    let plain : answer ≡ AnswerDone = done.0 ∙ ap (λ (q : Request). value_of q seen) oa.request ∙ value.1 in
+    subst (λ (z : Answer). EndsRight s h xs x o c o.step seen z settled) (sym plain) (
       right,
       subst (λ (z : Step). CoreStands s (stepped d z seen (Some AnswerDone) ∷ h) (applied d z seen settled)) (sym step)
           (subst (λ (v : Seen). CoreStands s (stepped d (Exchange gref looked change) v (Some AnswerDone) ∷ h) (applied d (Exchange gref looked change) v settled)) (sym e.taken)
@@ -634,7 +692,7 @@ exchange-over s h xs x o c seen new answer settled gref looked change st call oa
 unpin-over : (s : Setting) (h : History) (xs : List State) (x : State) (o : Open) (c : Underway) (seen : Seen) (new : Call) (answer : Answer) (settled : List State) (handle : Handle) (m : Mapping)
     → CoreStands s h xs → state_of xs x.id.0 ≡ Some x → open_call h x.id.0 ≡ Some c → OpenAgrees s h x.id o c → Stepping s h x.id o c seen new (Done Granted)
     → c.request ≡ Unmap handle → mapping_of (mappings_at h x.id.0) handle ≡ Some m → o.step ≡ Unpin m.dom m.gref m.dir (ByMapping m.handle)
-    → SettledIn xs x o (Unpin m.dom m.gref m.dir (ByMapping m.handle)) answer settled
+    → SettledIn xs x o seen (Unpin m.dom m.gref m.dir (ByMapping m.handle)) answer settled
     → EndsRight s h xs x o c o.step seen answer settled
 unpin-over s h xs x o c seen new answer settled handle m st here call oa w asks found step done =
     let d = x.id in
@@ -644,7 +702,8 @@ unpin-over s h xs x o c seen new answer settled handle m st here call oa w asks 
     (subst (λ (z : Step). IsSafe s h (stepped d z seen (Some AnswerDone))) (sym step) tt)
     (subst (λ (z : Step). PinIsSound s h d c.request z seen) (sym step) tt) refl
     (subst (λ (z : Request). GivesValue s h d z (Some o.step) AnswerDone) (sym asks) refl) in
-    subst (λ (z : Answer). EndsRight s h xs x o c o.step seen z settled) (sym done.0) (
+    let plain : answer ≡ AnswerDone = done.0 ∙ ap (λ (q : Request). value_of q seen) (oa.request ∙ asks) in
+    subst (λ (z : Answer). EndsRight s h xs x o c o.step seen z settled) (sym plain) (
       right,
       subst (λ (z : Step). CoreStands s (stepped d z seen (Some AnswerDone) ∷ h) (applied d z seen settled)) (sym step)
           (subst (λ (v : Seen). CoreStands s (stepped d (Unpin m.dom m.gref m.dir (ByMapping m.handle)) v (Some AnswerDone) ∷ h) (applied d (Unpin m.dom m.gref m.dir (ByMapping m.handle)) v settled)) (sym nothing)
@@ -674,7 +733,7 @@ quiet-over s h xs x step seen answer st here a q m =
 load-over : (s : Setting) (h : History) (xs : List State) (x : State) (o : Open) (c : Underway) (seen : Seen) (new : Call) (answer : Answer) (settled : List State) (handle : Handle) (off len : ℕ) (m : Mapping)
     → CoreStands s h xs → state_of xs x.id.0 ≡ Some x → Agrees s h x → open_call h x.id.0 ≡ Some c → OpenAgrees s h x.id o c → Stepping s h x.id o c seen new (Done Granted)
     → c.request ≡ Load handle off len → mapping_of (mappings_at h x.id.0) handle ≡ Some m → o.step ≡ ReadBytes m.dom m.frame off len
-    → SettledIn xs x o (ReadBytes m.dom m.frame off len) answer settled
+    → SettledIn xs x o seen (ReadBytes m.dom m.frame off len) answer settled
     → EndsRight s h xs x o c o.step seen answer settled
 load-over s h xs x o c seen new answer settled handle off len m st here a call oa w asks found step done =
     let d = x.id in
@@ -698,87 +757,213 @@ load-over s h xs x o c seen new answer settled handle off len m st here a call o
     )
 
 -- a call whose last step is an exchange gives no value
-exchange-gives : (s : Setting) (h : History) (d : DomId) (k : CallerKnowledge) (r : Request) (phase : Phase) (gref : GrantRef) (looked : ℕ) (change : Change) (step : Option Step) → action_at k d r phase ≡ Makes (Exchange gref looked change)
-    → Comes (expects k d r phase []) → GivesValue s h d r step AnswerDone
-exchange-gives s h d k (Grant g entry) phase gref looked change step act comes = refl
-exchange-gives s h d k (Revoke g) phase gref looked change step act comes = refl
-exchange-gives s h d k (Demote g) phase gref looked change step act comes = refl
-exchange-gives s h d k (Promote g) phase gref looked change step act comes = refl
-exchange-gives s h d k (Unmap handle) phase gref looked change step act comes = refl
-exchange-gives s h d k (Map dom g flags) phase gref looked change step act comes = absurd (no-exchange phase act comes)
-  where
-    leg-no : (l : Leg) (p : LegPhase) → Makes (leg_step l p) ≡ Makes (Exchange gref looked change) → ⊥
-    leg-no l AtHeader e = cc
-    leg-no l (Look more) e = cc
-    leg-no l (Body more word) e = cc
-    leg-no l (Second more word body) e = cc
-    leg-no l (Relook more word rule) e = cc
-    leg-no l (Pinning more word body second) e = cc
+abbrev IsPlain : Setting → History → DomId → Request → Option Step → Seen → Type 0
+IsPlain s h d r step seen = GivesValue s h d r step AnswerDone × (value_of r seen ≡ AnswerDone)
 
-    no-exchange : (phase : Phase) → action_at k d (Map dom g flags) phase ≡ Makes (Exchange gref looked change) → Comes (expects k d (Map dom g flags) phase []) → ⊥
-    no-exchange PhaseBegun e comes = cc
-    no-exchange (LegPinning l p) e comes = leg-no l p e
-    no-exchange Storing e comes = cc
-    no-exchange StoringSecond e comes = cc
-    no-exchange Single e comes = cc
-    no-exchange (OwnLook more) e comes = cc
-    no-exchange (OwnChange more word) e comes = comes
-    no-exchange (Ended verdict) e comes = cc
-exchange-gives s h d k (Load handle off len) phase gref looked change step act comes = absurd (no-exchange phase act comes)
-  where
-    leg-no : (l : Leg) (p : LegPhase) → Makes (leg_step l p) ≡ Makes (Exchange gref looked change) → ⊥
-    leg-no l AtHeader e = cc
-    leg-no l (Look more) e = cc
-    leg-no l (Body more word) e = cc
-    leg-no l (Second more word body) e = cc
-    leg-no l (Relook more word rule) e = cc
-    leg-no l (Pinning more word body second) e = cc
+exchange-no-unpin : (m : Option Mapping) (gref : GrantRef) (looked : ℕ) (change : Change) → unpin_of m ≡ Makes (Exchange gref looked change) → ⊥
+exchange-no-unpin None gref looked change e = cc
+exchange-no-unpin (Some m) gref looked change e = cc
 
-    read-no : (m : Option Mapping) → read_of m off len ≡ Makes (Exchange gref looked change) → ⊥
-    read-no None e = cc
-    read-no (Some m) e = cc
+exchange-no-read : (m : Option Mapping) (off len : ℕ) (gref : GrantRef) (looked : ℕ) (change : Change) → read_of m off len ≡ Makes (Exchange gref looked change) → ⊥
+exchange-no-read None off len gref looked change e = cc
+exchange-no-read (Some m) off len gref looked change e = cc
 
-    no-exchange : (phase : Phase) → action_at k d (Load handle off len) phase ≡ Makes (Exchange gref looked change) → Comes (expects k d (Load handle off len) phase []) → ⊥
-    no-exchange PhaseBegun e comes = cc
-    no-exchange (LegPinning l p) e comes = leg-no l p e
-    no-exchange Storing e comes = cc
-    no-exchange StoringSecond e comes = cc
-    no-exchange Single e comes = read-no (mapping_of k.mappings handle) e
-    no-exchange (OwnLook more) e comes = cc
-    no-exchange (OwnChange more word) e comes = comes
-    no-exchange (Ended verdict) e comes = cc
+exchange-single : (s : Setting) (h : History) (d : DomId) (k : CallerKnowledge) (r : Request) (gref : GrantRef) (looked : ℕ) (change : Change) (step : Option Step) (seen : Seen) → single_at k d r ≡ Makes (Exchange gref looked change) → IsPlain s h d r step seen
+exchange-single s h d k (Grant g entry) gref looked change step seen e = (refl, refl)
+exchange-single s h d k (Revoke g) gref looked change step seen e = (refl, refl)
+exchange-single s h d k (Demote g) gref looked change step seen e = (refl, refl)
+exchange-single s h d k (Promote g) gref looked change step seen e = (refl, refl)
+exchange-single s h d k (Map dom g flags) gref looked change step seen e = cc
+exchange-single s h d k (Unmap handle) gref looked change step seen e = absurd (exchange-no-unpin (mapping_of k.mappings handle) gref looked change e)
+exchange-single s h d k (Load handle off len) gref looked change step seen e = absurd (exchange-no-read (mapping_of k.mappings handle) off len gref looked change e)
+exchange-single s h d k (SetVersion version) gref looked change step seen e = cc
+exchange-single s h d k (SetupTable frames) gref looked change step seen e = cc
+exchange-single s h d k (QuerySize dom) gref looked change step seen e = cc
+exchange-single s h d k (GetVersion dom) gref looked change step seen e = cc
 
-unmaps-leg : (l : Leg) (p : LegPhase) (t : DomId) (gref : GrantRef) (dir : Dir) (holder : Holder) → Makes (leg_step l p) ≡ Makes (Unpin t gref dir holder) → ⊥
-unmaps-leg l AtHeader t gref dir holder e = cc
-unmaps-leg l (Look more) t gref dir holder e = cc
-unmaps-leg l (Body more word) t gref dir holder e = cc
-unmaps-leg l (Second more word body) t gref dir holder e = cc
-unmaps-leg l (Relook more word rule) t gref dir holder e = cc
-unmaps-leg l (Pinning more word body second) t gref dir holder e = cc
+exchange-turn : (s : Setting) (h : History) (d : DomId) (k : CallerKnowledge) (r : Request) (more word : ℕ) (step : Option Step) (seen : Seen) → Comes (expects k d r (OwnChange more word) []) → IsPlain s h d r step seen
+exchange-turn s h d k (Demote g) more word step seen comes = (refl, refl)
+exchange-turn s h d k (Promote g) more word step seen comes = (refl, refl)
+exchange-turn s h d k (Grant g entry) more word step seen comes = absurd comes
+exchange-turn s h d k (Revoke g) more word step seen comes = absurd comes
+exchange-turn s h d k (Map dom g flags) more word step seen comes = absurd comes
+exchange-turn s h d k (Unmap handle) more word step seen comes = absurd comes
+exchange-turn s h d k (Load handle off len) more word step seen comes = absurd comes
+exchange-turn s h d k (SetVersion version) more word step seen comes = absurd comes
+exchange-turn s h d k (SetupTable frames) more word step seen comes = absurd comes
+exchange-turn s h d k (QuerySize dom) more word step seen comes = absurd comes
+exchange-turn s h d k (GetVersion dom) more word step seen comes = absurd comes
 
-unmaps-store : (r : Request) (t : DomId) (gref : GrantRef) (dir : Dir) (holder : Holder) → store_at r ≡ Makes (Unpin t gref dir holder) → ⊥
-unmaps-store (Grant g entry) t gref dir holder e = cc
-unmaps-store (Revoke g) t gref dir holder e = cc
-unmaps-store (Demote g) t gref dir holder e = cc
-unmaps-store (Promote g) t gref dir holder e = cc
-unmaps-store (Map dom g flags) t gref dir holder e = cc
-unmaps-store (Unmap handle) t gref dir holder e = cc
-unmaps-store (Load handle off len) t gref dir holder e = cc
+exchange-gives : (s : Setting) (h : History) (d : DomId) (k : CallerKnowledge) (r : Request) (phase : Phase) (gref : GrantRef) (looked : ℕ) (change : Change) (step : Option Step) (seen : Seen)
+    → action_at k d r phase ≡ Makes (Exchange gref looked change) → Comes (expects k d r phase []) → IsPlain s h d r step seen
+exchange-gives s h d k r PhaseBegun gref looked change step seen act comes = cc
+exchange-gives s h d k r (LegPinning l p) gref looked change step seen act comes = absurd (leg-only l p (Exchange gref looked change) act)
+exchange-gives s h d k r Storing gref looked change step seen act comes = absurd (store-only r (Exchange gref looked change) act)
+exchange-gives s h d k r StoringSecond gref looked change step seen act comes = absurd (second-only r (Exchange gref looked change) act)
+exchange-gives s h d k r Single gref looked change step seen act comes = exchange-single s h d k r gref looked change step seen act
+exchange-gives s h d k r (OwnLook more) gref looked change step seen act comes = cc
+exchange-gives s h d k r (OwnChange more word) gref looked change step seen act comes = exchange-turn s h d k r more word step seen comes
+exchange-gives s h d k r (Ended v) gref looked change step seen act comes = cc
 
-unmaps-second : (r : Request) (t : DomId) (gref : GrantRef) (dir : Dir) (holder : Holder) → second_at r ≡ Makes (Unpin t gref dir holder) → ⊥
-unmaps-second (Grant g entry) t gref dir holder e = cc
-unmaps-second (Revoke g) t gref dir holder e = cc
-unmaps-second (Demote g) t gref dir holder e = cc
-unmaps-second (Promote g) t gref dir holder e = cc
-unmaps-second (Map dom g flags) t gref dir holder e = cc
-unmaps-second (Unmap handle) t gref dir holder e = cc
-unmaps-second (Load handle off len) t gref dir holder e = cc
+-- a query gives what its look saw
+query-value : (s : Setting) (h : History) (d t : DomId) (r : Request) → header_of (header_word (table_at s h t)) ≡ table_at s h t → is_query r ≡ true
+    → GivesValue s h d r (Some (LookHeader t)) (value_of r (Value (header_word (table_at s h t)))) × (refusal_of (value_of r (Value (header_word (table_at s h t)))) ≡ None)
+    × (one_if_mapped (Some (value_of r (Value (header_word (table_at s h t))))) ≡ 0)
+query-value s h d t (QuerySize dom) round is = (ap (λ (x : Header). SizeAnswer (record { frames = x.frames; max = 4 })) round, refl, refl)
+query-value s h d t (GetVersion dom) round is = (ap (λ (x : Header). VersionAnswer x.version) round, refl, refl)
+query-value s h d t (Grant gref entry) round is = absurd (false≢true is)
+query-value s h d t (Revoke gref) round is = absurd (false≢true is)
+query-value s h d t (Demote gref) round is = absurd (false≢true is)
+query-value s h d t (Promote gref) round is = absurd (false≢true is)
+query-value s h d t (Map dom gref flags) round is = absurd (false≢true is)
+query-value s h d t (Unmap handle) round is = absurd (false≢true is)
+query-value s h d t (Load handle off len) round is = absurd (false≢true is)
+query-value s h d t (SetVersion version) round is = absurd (false≢true is)
+query-value s h d t (SetupTable frames) round is = absurd (false≢true is)
+
+-- a query makes no other step
+abbrev LooksHeader : Step → Type 0
+LooksHeader (LookHeader dom) = Unit {0}
+LooksHeader step = ⊥
+
+query-steps : (s : Setting) (h : History) (d : DomId) (r : Request) (so_far : StepsSoFar) (phase : Phase) (step : Step) → is_query r ≡ true → PhaseStands s h d r so_far phase
+    → Comes (expects (known_at s h d) d r phase []) → action_at (known_at s h d) d r phase ≡ Makes step → LooksHeader step
+query-steps s h d (QuerySize dom) so_far PhaseBegun step is a comes act = absurd a
+query-steps s h d (QuerySize dom) so_far (LegPinning l p) step is a comes act = let f : None ≡ Some l = a.0 in cc
+query-steps s h d (QuerySize dom) so_far Storing step is a comes act = absurd comes
+query-steps s h d (QuerySize dom) so_far StoringSecond step is a comes act = absurd a
+query-steps s h d (QuerySize dom) so_far Single step is a comes act = subst LooksHeader (makes-same _ _ act) tt
+query-steps s h d (QuerySize dom) so_far (OwnLook more) step is a comes act = absurd comes
+query-steps s h d (QuerySize dom) so_far (OwnChange more word) step is a comes act = absurd comes
+query-steps s h d (QuerySize dom) so_far (Ended v) step is a comes act = absurd a
+query-steps s h d (GetVersion dom) so_far PhaseBegun step is a comes act = absurd a
+query-steps s h d (GetVersion dom) so_far (LegPinning l p) step is a comes act = let f : None ≡ Some l = a.0 in cc
+query-steps s h d (GetVersion dom) so_far Storing step is a comes act = absurd comes
+query-steps s h d (GetVersion dom) so_far StoringSecond step is a comes act = absurd a
+query-steps s h d (GetVersion dom) so_far Single step is a comes act = subst LooksHeader (makes-same _ _ act) tt
+query-steps s h d (GetVersion dom) so_far (OwnLook more) step is a comes act = absurd comes
+query-steps s h d (GetVersion dom) so_far (OwnChange more word) step is a comes act = absurd comes
+query-steps s h d (GetVersion dom) so_far (Ended v) step is a comes act = absurd a
+query-steps s h d (Grant gref entry) so_far phase step is a comes act = absurd (false≢true is)
+query-steps s h d (Revoke gref) so_far phase step is a comes act = absurd (false≢true is)
+query-steps s h d (Demote gref) so_far phase step is a comes act = absurd (false≢true is)
+query-steps s h d (Promote gref) so_far phase step is a comes act = absurd (false≢true is)
+query-steps s h d (Map dom gref flags) so_far phase step is a comes act = absurd (false≢true is)
+query-steps s h d (Unmap handle) so_far phase step is a comes act = absurd (false≢true is)
+query-steps s h d (Load handle off len) so_far phase step is a comes act = absurd (false≢true is)
+query-steps s h d (SetVersion version) so_far phase step is a comes act = absurd (false≢true is)
+query-steps s h d (SetupTable frames) so_far phase step is a comes act = absurd (false≢true is)
+
+query-over : (s : Setting) (h : History) (xs : List State) (x : State) (o : Open) (c : Underway) (seen : Seen) (new : Call) (answer : Answer) (settled : List State) (t : DomId)
+    → CoreStands s h xs → state_of xs x.id.0 ≡ Some x → Agrees s h x → open_call h x.id.0 ≡ Some c → OpenAgrees s h x.id o c → Stepping s h x.id o c seen new (Done Granted)
+    → is_query c.request ≡ true → o.step ≡ LookHeader t → SettledIn xs x o seen (LookHeader t) answer settled → EndsRight s h xs x o c o.step seen answer settled
+query-over s h xs x o c seen new answer settled t st here a call oa w is step done =
+    let d = x.id in
+    let word = header_word (table_at s h t) in
+    let saw : seen ≡ Value word = w.sees ∙ ap (seen_by s h d) step in
+    let value = query-value s h d t c.request (table-fits _ (st.tables t)).1 is in
+    let gives : answer ≡ value_of c.request (Value word) = done.0 ∙ ap (λ (q : Request). value_of q seen) oa.request ∙ ap (value_of c.request) saw in
+    let right : StepsRight s h (stepped d o.step seen (Some (value_of c.request (Value word)))) o.step seen c =
+    granted-right s h xs d o c seen new (value_of c.request (Value word)) st call oa w
+    (subst (λ (z : Step). IsSafe s h (stepped d z seen (Some (value_of c.request (Value word))))) (sym step) tt)
+    (subst (λ (z : Step). PinIsSound s h d c.request z seen) (sym step) tt) value.1
+    (subst (λ (z : Step). GivesValue s h d c.request (Some z) (value_of c.request (Value word))) (sym step) value.0) in
+    let q : changes_nothing o.step seen ≡ true = ap (λ (z : Step). changes_nothing z seen) step in
+    subst (λ (z : Answer). EndsRight s h xs x o c o.step seen z settled) (sym gives) (
+      right,
+      subst (λ (z : List State). CoreStands s (stepped d o.step seen (Some (value_of c.request (Value word))) ∷ h) z) (sym (applied-quiet d o.step seen settled q ∙ done.1))
+          (quiet-over s h xs x o.step seen (value_of c.request (Value word)) st here a q value.2),
+    )
+
+-- a call that stores a header
+
+abbrev Heads : CallerKnowledge → Request → Header → Type 0
+Heads k (SetVersion version) header = record { version = version; frames = k.header.frames } ≡ header
+Heads k (SetupTable frames) header = record { version = k.header.version; frames = frames } ≡ header
+Heads k request header = ⊥
+
+abbrev header_in : Action → Header
+header_in (Makes (StoreHeader version frames)) = record { version = version; frames = frames }
+header_in action = record { version = 0; frames = 0 }
+
+heads-no-unpin : (m : Option Mapping) (version frames : ℕ) → unpin_of m ≡ Makes (StoreHeader version frames) → ⊥
+heads-no-unpin None version frames e = cc
+heads-no-unpin (Some m) version frames e = cc
+
+heads-no-read : (m : Option Mapping) (off len version frames : ℕ) → read_of m off len ≡ Makes (StoreHeader version frames) → ⊥
+heads-no-read None off len version frames e = cc
+heads-no-read (Some m) off len version frames e = cc
+
+heads-single : (k : CallerKnowledge) (d : DomId) (r : Request) (version frames : ℕ) → single_at k d r ≡ Makes (StoreHeader version frames) → Heads k r (record { version = version; frames = frames })
+heads-single k d (SetVersion v) version frames e = ap header_in e
+heads-single k d (SetupTable n) version frames e = ap header_in e
+heads-single k d (Unmap handle) version frames e = absurd (heads-no-unpin (mapping_of k.mappings handle) version frames e)
+heads-single k d (Load handle off len) version frames e = absurd (heads-no-read (mapping_of k.mappings handle) off len version frames e)
+heads-single k d (Grant g entry) version frames e = cc
+heads-single k d (Revoke g) version frames e = cc
+heads-single k d (Demote g) version frames e = cc
+heads-single k d (Promote g) version frames e = cc
+heads-single k d (Map dom g flags) version frames e = cc
+heads-single k d (QuerySize dom) version frames e = cc
+heads-single k d (GetVersion dom) version frames e = cc
+
+heads : (k : CallerKnowledge) (d : DomId) (r : Request) (phase : Phase) (version frames : ℕ) → action_at k d r phase ≡ Makes (StoreHeader version frames) → Heads k r (record { version = version; frames = frames })
+heads k d r PhaseBegun version frames e = cc
+heads k d r (LegPinning l p) version frames e = absurd (leg-only l p (StoreHeader version frames) e)
+heads k d r Storing version frames e = absurd (store-only r (StoreHeader version frames) e)
+heads k d r StoringSecond version frames e = absurd (second-only r (StoreHeader version frames) e)
+heads k d r Single version frames e = heads-single k d r version frames e
+heads k d r (OwnLook more) version frames e = cc
+heads k d r (OwnChange more word) version frames e = cc
+heads k d r (Ended v) version frames e = cc
+
+-- the header that is stored is within the limits, and the call gives the frames asked for
+abbrev HeaderGives : Setting → History → DomId → Request → ℕ → ℕ → Type 0
+HeaderGives s h d r version frames =
+    FitsTable (record { version = version; frames = frames }) × GivesValue s h d r (Some (StoreHeader version frames)) (value_of r Nothing)
+    × (refusal_of (value_of r Nothing) ≡ None) × (one_if_mapped (Some (value_of r Nothing)) ≡ 0)
+
+header-gives : (s : Setting) (h : History) (d : DomId) (k : CallerKnowledge) (r : Request) (version frames : ℕ) → begun k d r ≡ None → FitsTable k.header → Heads k r (record { version = version; frames = frames })
+    → HeaderGives s h d r version frames
+header-gives s h d k (SetVersion v) version frames e f same = (subst FitsTable same (version-fits k.header k.entry v e f), refl, refl, refl)
+header-gives s h d k (SetupTable n) version frames e f same = (subst FitsTable same (setup-fits k.header n _ e f), ap (λ (x : Header). FramesAnswer x.frames) same, refl, refl)
+header-gives s h d k (Grant g entry) version frames e f same = absurd same
+header-gives s h d k (Revoke g) version frames e f same = absurd same
+header-gives s h d k (Demote g) version frames e f same = absurd same
+header-gives s h d k (Promote g) version frames e f same = absurd same
+header-gives s h d k (Map dom g flags) version frames e f same = absurd same
+header-gives s h d k (Unmap handle) version frames e f same = absurd same
+header-gives s h d k (Load handle off len) version frames e f same = absurd same
+header-gives s h d k (QuerySize dom) version frames e f same = absurd same
+header-gives s h d k (GetVersion dom) version frames e f same = absurd same
+
+header-over : (s : Setting) (h : History) (xs : List State) (x : State) (o : Open) (c : Underway) (seen : Seen) (new : Call) (answer : Answer) (settled : List State) (version frames : ℕ)
+    → CoreStands s h xs → state_of xs x.id.0 ≡ Some x → Agrees s h x → open_call h x.id.0 ≡ Some c → OpenAgrees s h x.id o c → Stepping s h x.id o c seen new (Done Granted)
+    → o.step ≡ StoreHeader version frames → SettledIn xs x o seen (StoreHeader version frames) answer settled → HeaderGives s h x.id c.request version frames
+    → EndsRight s h xs x o c o.step seen answer settled
+header-over s h xs x o c seen new answer settled version frames st here a call oa w step done value =
+    let d = x.id in
+    let now = value_of c.request Nothing in
+    let nothing : seen ≡ Nothing = w.sees ∙ ap (seen_by s h d) step in
+    let gives : answer ≡ now = done.0 ∙ ap (λ (q : Request). value_of q seen) oa.request ∙ ap (value_of c.request) nothing in
+    let right : StepsRight s h (stepped d o.step seen (Some now)) o.step seen c =
+    granted-right s h xs d o c seen new now st call oa w
+    (subst (λ (z : Step). IsSafe s h (stepped d z seen (Some now))) (sym step) tt)
+    (subst (λ (z : Step). PinIsSound s h d c.request z seen) (sym step) tt) value.2
+    (subst (λ (z : Step). GivesValue s h d c.request (Some z) now) (sym step) value.1) in
+    subst (λ (z : Answer). EndsRight s h xs x o c o.step seen z settled) (sym gives) (
+      right,
+      subst (λ (z : Step). CoreStands s (stepped d z seen (Some now) ∷ h) (applied d z seen settled)) (sym step)
+          (subst (λ (v : Seen). CoreStands s (stepped d (StoreHeader version frames) v (Some now) ∷ h) (applied d (StoreHeader version frames) v settled)) (sym nothing)
+          (subst (λ (z : List State). CoreStands s (stepped d (StoreHeader version frames) Nothing (Some now) ∷ h) (changed_in d.0 (with_header version frames) z)) (sym done.1)
+          (header-stands s h xs x version frames now st here a value.3 value.0))),
+    )
 
 unmaps-other : (o : Option Mapping) (off len : ℕ) (t : DomId) (gref : GrantRef) (dir : Dir) (holder : Holder) → read_of o off len ≡ Makes (Unpin t gref dir holder) → ⊥
 unmaps-other None off len t gref dir holder e = cc
 unmaps-other (Some x) off len t gref dir holder e = cc
 
-unmaps-single : (s : Setting) (h : History) (d : DomId) (r : Request) (t : DomId) (gref : GrantRef) (dir : Dir) (holder : Holder) → single_at (known_at s h d) r ≡ Makes (Unpin t gref dir holder) → Unmaps s h d r (Unpin t gref dir holder)
+unmaps-single : (s : Setting) (h : History) (d : DomId) (r : Request) (t : DomId) (gref : GrantRef) (dir : Dir) (holder : Holder) → single_at (known_at s h d) d r ≡ Makes (Unpin t gref dir holder) → Unmaps s h d r (Unpin t gref dir holder)
 unmaps-single s h d (Grant g entry) t gref dir holder e = cc
 unmaps-single s h d (Revoke g) t gref dir holder e = cc
 unmaps-single s h d (Demote g) t gref dir holder e = cc
@@ -786,48 +971,26 @@ unmaps-single s h d (Promote g) t gref dir holder e = cc
 unmaps-single s h d (Map dom g flags) t gref dir holder e = cc
 unmaps-single s h d (Unmap handle) t gref dir holder e = unmaps-by s h d handle (mapping_of (mappings_at h d.0) handle) (Unpin t gref dir holder) refl e
 unmaps-single s h d (Load handle off len) t gref dir holder e = absurd (unmaps-other (mapping_of (mappings_at h d.0) handle) off len t gref dir holder e)
+unmaps-single s h d (SetVersion version) t gref dir holder e = cc
+unmaps-single s h d (SetupTable frames) t gref dir holder e = cc
+unmaps-single s h d (QuerySize dom) t gref dir holder e = cc
+unmaps-single s h d (GetVersion dom) t gref dir holder e = cc
 
 unmaps : (s : Setting) (h : History) (d : DomId) (r : Request) (phase : Phase) (t : DomId) (gref : GrantRef) (dir : Dir) (holder : Holder) → action_at (known_at s h d) d r phase ≡ Makes (Unpin t gref dir holder) → Unmaps s h d r (Unpin t gref dir holder)
 unmaps s h d r PhaseBegun t gref dir holder e = cc
-unmaps s h d r (LegPinning l p) t gref dir holder e = absurd (unmaps-leg l p t gref dir holder e)
-unmaps s h d r Storing t gref dir holder e = absurd (unmaps-store r t gref dir holder e)
-unmaps s h d r StoringSecond t gref dir holder e = absurd (unmaps-second r t gref dir holder e)
+unmaps s h d r (LegPinning l p) t gref dir holder e = absurd (leg-only l p (Unpin t gref dir holder) e)
+unmaps s h d r Storing t gref dir holder e = absurd (store-only r (Unpin t gref dir holder) e)
+unmaps s h d r StoringSecond t gref dir holder e = absurd (second-only r (Unpin t gref dir holder) e)
 unmaps s h d r Single t gref dir holder e = unmaps-single s h d r t gref dir holder e
 unmaps s h d r (OwnLook more) t gref dir holder e = cc
 unmaps s h d r (OwnChange more word) t gref dir holder e = cc
 unmaps s h d r (Ended v) t gref dir holder e = cc
 
-loads-leg : (l : Leg) (p : LegPhase) (t : DomId) (frame n m : ℕ) → Makes (leg_step l p) ≡ Makes (ReadBytes t frame n m) → ⊥
-loads-leg l AtHeader t frame n m e = cc
-loads-leg l (Look more) t frame n m e = cc
-loads-leg l (Body more word) t frame n m e = cc
-loads-leg l (Second more word body) t frame n m e = cc
-loads-leg l (Relook more word rule) t frame n m e = cc
-loads-leg l (Pinning more word body second) t frame n m e = cc
-
-loads-store : (r : Request) (t : DomId) (frame n m : ℕ) → store_at r ≡ Makes (ReadBytes t frame n m) → ⊥
-loads-store (Grant g entry) t frame n m e = cc
-loads-store (Revoke g) t frame n m e = cc
-loads-store (Demote g) t frame n m e = cc
-loads-store (Promote g) t frame n m e = cc
-loads-store (Map dom g flags) t frame n m e = cc
-loads-store (Unmap handle) t frame n m e = cc
-loads-store (Load handle off len) t frame n m e = cc
-
-loads-second : (r : Request) (t : DomId) (frame n m : ℕ) → second_at r ≡ Makes (ReadBytes t frame n m) → ⊥
-loads-second (Grant g entry) t frame n m e = cc
-loads-second (Revoke g) t frame n m e = cc
-loads-second (Demote g) t frame n m e = cc
-loads-second (Promote g) t frame n m e = cc
-loads-second (Map dom g flags) t frame n m e = cc
-loads-second (Unmap handle) t frame n m e = cc
-loads-second (Load handle off len) t frame n m e = cc
-
 loads-other : (o : Option Mapping) (t : DomId) (frame n m : ℕ) → unpin_of o ≡ Makes (ReadBytes t frame n m) → ⊥
 loads-other None t frame n m e = cc
 loads-other (Some x) t frame n m e = cc
 
-loads-single : (s : Setting) (h : History) (d : DomId) (r : Request) (t : DomId) (frame n m : ℕ) → single_at (known_at s h d) r ≡ Makes (ReadBytes t frame n m) → Loads s h d r (ReadBytes t frame n m)
+loads-single : (s : Setting) (h : History) (d : DomId) (r : Request) (t : DomId) (frame n m : ℕ) → single_at (known_at s h d) d r ≡ Makes (ReadBytes t frame n m) → Loads s h d r (ReadBytes t frame n m)
 loads-single s h d (Grant g entry) t frame n m e = cc
 loads-single s h d (Revoke g) t frame n m e = cc
 loads-single s h d (Demote g) t frame n m e = cc
@@ -835,12 +998,16 @@ loads-single s h d (Promote g) t frame n m e = cc
 loads-single s h d (Map dom g flags) t frame n m e = cc
 loads-single s h d (Unmap handle) t frame n m e = absurd (loads-other (mapping_of (mappings_at h d.0) handle) t frame n m e)
 loads-single s h d (Load handle off len) t frame n m e = loads-by s h d handle off len (mapping_of (mappings_at h d.0) handle) (ReadBytes t frame n m) refl e
+loads-single s h d (SetVersion version) t frame n m e = cc
+loads-single s h d (SetupTable table_frames) t frame n m e = cc
+loads-single s h d (QuerySize dom) t frame n m e = cc
+loads-single s h d (GetVersion dom) t frame n m e = cc
 
 loads : (s : Setting) (h : History) (d : DomId) (r : Request) (phase : Phase) (t : DomId) (frame n m : ℕ) → action_at (known_at s h d) d r phase ≡ Makes (ReadBytes t frame n m) → Loads s h d r (ReadBytes t frame n m)
 loads s h d r PhaseBegun t frame n m e = cc
-loads s h d r (LegPinning l p) t frame n m e = absurd (loads-leg l p t frame n m e)
-loads s h d r Storing t frame n m e = absurd (loads-store r t frame n m e)
-loads s h d r StoringSecond t frame n m e = absurd (loads-second r t frame n m e)
+loads s h d r (LegPinning l p) t frame n m e = absurd (leg-only l p (ReadBytes t frame n m) e)
+loads s h d r Storing t frame n m e = absurd (store-only r (ReadBytes t frame n m) e)
+loads s h d r StoringSecond t frame n m e = absurd (second-only r (ReadBytes t frame n m) e)
 loads s h d r Single t frame n m e = loads-single s h d r t frame n m e
 loads s h d r (OwnLook more) t frame n m e = cc
 loads s h d r (OwnChange more word) t frame n m e = cc
@@ -849,7 +1016,7 @@ loads s h d r (Ended v) t frame n m e = cc
 -- a call that nothing stood against is over: its last step is right, and the core stands for it
 pub tick-ends : (s : Setting) (h : History) (xs : List State) (x : State) (o : Open) (c : Underway) (seen : Seen) (new : Call) (answer : Answer) (settled : List State)
     → CoreStands s h xs → state_of xs x.id.0 ≡ Some x → Agrees s h x → open_call h x.id.0 ≡ Some c → OpenAgrees s h x.id o c → Stepping s h x.id o c seen new (Done Granted)
-    → SettledIn xs x o o.step answer settled → EndsRight s h xs x o c o.step seen answer settled
+    → SettledIn xs x o seen o.step answer settled → EndsRight s h xs x o c o.step seen answer settled
 tick-ends s h xs x o c seen new answer settled st here a call oa w done = by o.step refl done
   where
     k : CallerKnowledge
@@ -861,41 +1028,46 @@ tick-ends s h xs x o c seen new answer settled st here a call oa w done = by o.s
     comes : Comes (expects k x.id c.request o.call.phase [])
     comes = comes-some _ _ oa.comes
 
-    never : (step : Step) → o.step ≡ step → LooksOrStores step → EndsRight s h xs x o c o.step seen answer settled
-    never step e looks = absurd (never-ends s h x.id c.request (reverse c.steps) o.call.phase o.step oa.place comes w.act (subst LooksOrStores (sym e) looks) next)
+    never : (step : Step) → o.step ≡ step → is_query c.request ≡ false → LooksOrStores step → EndsRight s h xs x o c o.step seen answer settled
+    never step e plain looks = absurd (never-ends s h x.id c.request (reverse c.steps) o.call.phase o.step oa.place comes w.act plain (subst LooksOrStores (sym e) looks) next)
 
     act : (step : Step) → o.step ≡ step → action_at k x.id c.request o.call.phase ≡ Makes step
     act step e = w.act ∙ ap (λ (z : Step). Makes z) e
 
-    by : (step : Step) → o.step ≡ step → SettledIn xs x o step answer settled → EndsRight s h xs x o c o.step seen answer settled
-    by (LookHeader dom) e z = never (LookHeader dom) e tt
-    by (LookControl dom gref) e z = never (LookControl dom gref) e tt
-    by (LookBody dom gref second) e z = never (LookBody dom gref second) e tt
-    by (StoreBody gref second word) e z = never (StoreBody gref second word) e tt
+    by : (step : Step) → o.step ≡ step → SettledIn xs x o seen step answer settled → EndsRight s h xs x o c o.step seen answer settled
+    by (LookHeader dom) e z =
+        decide (is_query c.request) (λ is. query-over s h xs x o c seen new answer settled dom st here a call oa w is e z) (λ plain. never (LookHeader dom) e plain tt)
+    by (LookControl dom gref) e z = decide (is_query c.request) (λ is. absurd (query-steps s h x.id c.request (reverse c.steps) o.call.phase (LookControl dom gref) is oa.place comes (act (LookControl dom gref) e))) (λ plain. never (LookControl dom gref) e plain tt)
+    by (LookBody dom gref second) e z = decide (is_query c.request) (λ is. absurd (query-steps s h x.id c.request (reverse c.steps) o.call.phase (LookBody dom gref second) is oa.place comes (act (LookBody dom gref second) e))) (λ plain. never (LookBody dom gref second) e plain tt)
+    by (StoreBody gref second word) e z = decide (is_query c.request) (λ is. absurd (query-steps s h x.id c.request (reverse c.steps) o.call.phase (StoreBody gref second word) is oa.place comes (act (StoreBody gref second word) e))) (λ plain. never (StoreBody gref second word) e plain tt)
+    by (StoreHeader version frames) e z =
+        header-over s h xs x o c seen new answer settled version frames st here a call oa w e z
+        (header-gives s h x.id k c.request version frames w.none (st.tables x.id) (heads k x.id c.request o.call.phase version frames (act (StoreHeader version frames) e)))
     by (PinStep t gref looked dir) e z =
         let p = pins-by k x.id c.request o.call.phase t gref looked dir (act (PinStep t gref looked dir) e) in
-        pin-ends s h xs x o c seen new answer settled p.0 p.1 p.2 p.3 p.4 st here a call oa w p.5 (e ∙ p.6) (subst (λ (q : Step). SettledIn xs x o q answer settled) p.6 z)
+        pin-ends s h xs x o c seen new answer settled p.0 p.1 p.2 p.3 p.4 st here a call oa w p.5 (e ∙ p.6) (subst (λ (q : Step). SettledIn xs x o seen q answer settled) p.6 z)
     by (Exchange gref looked change) e z =
         exchange-over s h xs x o c seen new answer settled gref looked change st call oa w e z
-        (exchange-gives s h x.id k c.request o.call.phase gref looked change (Some o.step) (act (Exchange gref looked change) e) comes)
+        (exchange-gives s h x.id k c.request o.call.phase gref looked change (Some o.step) seen (act (Exchange gref looked change) e) comes)
     by (Unpin t gref dir holder) e z =
         let u = unmaps s h x.id c.request o.call.phase t gref dir holder (act (Unpin t gref dir holder) e) in
         unpin-over s h xs x o c seen new answer settled u.0 u.1 st here call oa w u.2 u.3 (e ∙ u.4) z
     by (ReadBytes t frame n m) e z =
         let u = loads s h x.id c.request o.call.phase t frame n m (act (ReadBytes t frame n m) e) in
-        load-over s h xs x o c seen new answer settled u.0 u.1 u.2 u.3 st here a call oa w u.4 u.5 (e ∙ u.6) (subst (λ (q : Step). SettledIn xs x o q answer settled) u.6 z)
+        load-over s h xs x o c seen new answer settled u.0 u.1 u.2 u.3 st here a call oa w u.4 u.5 (e ∙ u.6) (subst (λ (q : Step). SettledIn xs x o seen q answer settled) u.6 z)
 
 -- the changed state by its place and by its number
-settled-in : (xs : List State) (at : ℕ) (x : State) (o : Open) (step : Step) (answer : Answer) (new : List State) → position (has_id x.id.0) xs ≡ Some at → x ≡ get_or xs at x
-    → Settled xs at x o step answer new → SettledIn xs x o step answer new
-settled-in xs at x o (LookHeader dom) answer new p here z = (z.0, z.1 ∙ set-state xs x.id.0 at (with_underway None) x _ p here refl)
-settled-in xs at x o (LookControl dom gref) answer new p here z = (z.0, z.1 ∙ set-state xs x.id.0 at (with_underway None) x _ p here refl)
-settled-in xs at x o (LookBody dom gref second) answer new p here z = (z.0, z.1 ∙ set-state xs x.id.0 at (with_underway None) x _ p here refl)
-settled-in xs at x o (StoreBody gref second word) answer new p here z = (z.0, z.1 ∙ set-state xs x.id.0 at (with_underway None) x _ p here refl)
-settled-in xs at x o (Exchange gref looked change) answer new p here z = (z.0, z.1 ∙ set-state xs x.id.0 at (with_underway None) x _ p here refl)
-settled-in xs at x o (Unpin t gref dir holder) answer new p here z = (z.0, z.1 ∙ set-state xs x.id.0 at (with_underway None) x _ p here refl)
-settled-in xs at x o (ReadBytes t frame off len) answer new p here z = (z.0, z.1, z.2 ∙ set-state xs x.id.0 at (with_underway None) x _ p here refl, z.3)
-settled-in xs at x o (PinStep t gref looked dir) answer new p here z =
+settled-in : (xs : List State) (at : ℕ) (x : State) (o : Open) (seen : Seen) (step : Step) (answer : Answer) (new : List State) → position (has_id x.id.0) xs ≡ Some at → x ≡ get_or xs at x
+    → Settled xs at x o seen step answer new → SettledIn xs x o seen step answer new
+settled-in xs at x o seen (LookHeader dom) answer new p here z = (z.0, z.1 ∙ set-state xs x.id.0 at (with_underway None) x _ p here refl)
+settled-in xs at x o seen (LookControl dom gref) answer new p here z = (z.0, z.1 ∙ set-state xs x.id.0 at (with_underway None) x _ p here refl)
+settled-in xs at x o seen (LookBody dom gref second) answer new p here z = (z.0, z.1 ∙ set-state xs x.id.0 at (with_underway None) x _ p here refl)
+settled-in xs at x o seen (StoreBody gref second word) answer new p here z = (z.0, z.1 ∙ set-state xs x.id.0 at (with_underway None) x _ p here refl)
+settled-in xs at x o seen (StoreHeader version frames) answer new p here z = (z.0, z.1 ∙ set-state xs x.id.0 at (with_underway None) x _ p here refl)
+settled-in xs at x o seen (Exchange gref looked change) answer new p here z = (z.0, z.1 ∙ set-state xs x.id.0 at (with_underway None) x _ p here refl)
+settled-in xs at x o seen (Unpin t gref dir holder) answer new p here z = (z.0, z.1 ∙ set-state xs x.id.0 at (with_underway None) x _ p here refl)
+settled-in xs at x o seen (ReadBytes t frame off len) answer new p here z = (z.0, z.1, z.2 ∙ set-state xs x.id.0 at (with_underway None) x _ p here refl, z.3)
+settled-in xs at x o seen (PinStep t gref looked dir) answer new p here z =
     (z.0, z.1, z.2, z.3 ∙ set-state xs x.id.0 at (with_mapping (record { handle = z.0; dom = t; gref = gref; dir = dir; frame = frame_read o.call.phase })) x _ p here refl)
 
 -- a tick of the domain, by what the core made of it
@@ -907,7 +1079,7 @@ TickRight s h dom step seen answer new =
 pub tick-granted : (s : Setting) (h : History) (xs : List State) (dom : DomId) (at : ℕ) (x : State) (o : Open) (seen : Seen) (new : Call) (answer : Answer) (settled : List State)
     → position (has_id dom.0) xs ≡ Some at → x ≡ get_or xs at x → x.underway ≡ Some o → CoreStands s h xs → seen ≡ sees xs dom o.step
     → Advances (knowledge_of s.domains s.first_generation s.may x.own x.header x.mappings x.maps_answered) o.call.caller o.call.request o.call.phase seen new (Done Granted)
-    → Settled xs at x o o.step answer settled
+    → Settled xs at x o seen o.step answer settled
     → TickRight s h dom o.step seen (Some answer) (applied dom o.step seen settled)
 tick-granted s h xs dom at x o seen new answer settled p here is st saw adv done =
     let a = agrees-found s h xs dom at x p here st in
@@ -917,7 +1089,7 @@ tick-granted s h xs dom at x o seen new answer settled p here is st saw adv done
     (λ q g sees.
     let c = call-here s h x.id x.underway (open_call h x.id.0) o is a.2.call in
     let w = stepping s h xs x o c.0 seen new (Done Granted) st g a.2 c.2 sees adv in
-    let e = tick-ends s h xs x o c.0 seen new answer settled st g a.2 c.1 c.2 w (settled-in xs at x o o.step answer settled q here done) in
+    let e = tick-ends s h xs x o c.0 seen new answer settled st g a.2 c.1 c.2 w (settled-in xs at x o seen o.step answer settled q here done) in
     (subst (λ (u : Option Underway). StepsRightIn s h (stepped x.id o.step seen (Some answer)) o.step seen u) (sym c.1) e.0, e.1))
     p f saw in
     (a.0, both.0, both.1)
@@ -973,6 +1145,7 @@ length-applied d (Exchange gref looked change) Nothing xs = refl
 length-applied d (Unpin t gref dir holder) seen xs =
     length-changed_in (changed_in t.0 (with_slot gref.0 (Unpinned dir)) xs) d.0 (without_mapping holder) ∙ length-changed_in xs t.0 (with_slot gref.0 (Unpinned dir))
 length-applied d (StoreBody gref second word) seen xs = length-changed_in xs d.0 (with_slot gref.0 (Stored second word))
+length-applied d (StoreHeader version frames) seen xs = length-changed_in xs d.0 (with_header version frames)
 
 -- what a call of a slice leaves of a vector
 pub slice-after : (n : ℕ) (d : DomId) (step : Step) (seen : Seen) (xs ys zs : List State) → length xs ≡ n → ys ≡ xs → zs ≡ applied d step seen ys → take n (zs ++ drop (length zs) xs) ≡ applied d step seen xs
@@ -987,6 +1160,7 @@ no-room-by k d r phase (LookHeader dom) is act = tt
 no-room-by k d r phase (LookControl dom gref) is act = tt
 no-room-by k d r phase (LookBody dom gref second) is act = tt
 no-room-by k d r phase (StoreBody gref second word) is act = tt
+no-room-by k d r phase (StoreHeader version frames) is act = tt
 no-room-by k d r phase (Exchange gref looked change) is act = tt
 no-room-by k d r phase (Unpin t gref dir holder) is act = tt
 no-room-by k d r phase (ReadBytes t frame off len) is act = tt

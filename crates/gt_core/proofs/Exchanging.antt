@@ -33,7 +33,7 @@ use Rattle.gt_core.specs.declared.trace.Answer.{Answer}
 use Rattle.gt_core.specs.declared.trace.Answer.TheVariants.{Done as AnswerDone}
 use Rattle.gt_core.specs.declared.slot.Open.{Open}
 use Rattle.gt_core.specs.declared.request.Request.{Request}
-use Rattle.gt_core.specs.declared.request.Request.TheVariants.{Grant, Revoke, Demote, Promote, Map, Unmap, Load}
+use Rattle.gt_core.specs.declared.request.Request.TheVariants.{Grant, Revoke, Demote, Promote, Map, Unmap, Load, SetVersion, SetupTable, QuerySize, GetVersion}
 use Rattle.gt_core.specs.declared.action.Verdict.{Verdict}
 use Rattle.gt_core.specs.declared.action.Verdict.TheVariants.{Granted, Refused}
 use Rattle.gt_core.specs.declared.action.Action.{Action}
@@ -50,15 +50,15 @@ use Rattle.gt_core.specs.States.{State, state_of, changed_in}
 use Rattle.gt_core.specs.Effects.{with_own, with_underway, own_after}
 use Rattle.gt_core.specs.History.{History, Setting, Pin, live, entry_at, raises_at, raise_of, changed_entry, generation_at, body_at, reads_at, writes_at, table_at, word_at, control_at, mappings_in, maps_answered_at, known_at, open_call, is_pin_on, change_of, entry_after, with_ro, raise_after, or_else, Underway, seen_by}
 use Rattle.gt_core.specs.Legal.{IsSafeChange, IsSpelled, StepsSoFar, IsSafe}
-use Rattle.gt_core.specs.Standing.{IsLawful, FitsWord, FitsEntry, SlotAgrees, Agrees, StateAgrees, CoreStands, CallAgrees, PhaseStands, HasStored, FitsRequest, OpenAgrees}
+use Rattle.gt_core.specs.Standing.{IsLawful, FitsTable, FitsWord, FitsEntry, SlotAgrees, Agrees, StateAgrees, CoreStands, CallAgrees, PhaseStands, HasStored, FitsRequest, OpenAgrees}
 use Rattle.gt_core.specs.Path.{entry_refusal, idle_word}
 use Rattle.gt_core.specs.Machine.{expects, action_at, phase_after, after_single, leg_step, own_gref, store_at, second_at, single_at, unpin_of, read_of, Comes}
 use Rattle.gt_core.proofs.Rows.{get-changed, length-changed, state-changed}
-use Rattle.gt_core.proofs.Quiet.{kept-contents}
+use Rattle.gt_core.proofs.Quiet.{kept-contents, kept-table}
 use Rattle.gt_core.proofs.Beginning.{open_call-own}
 use Rattle.gt_core.proofs.Others.{other-agrees}
 use Rattle.gt_core.proofs.Calls.{comes-some}
-use Rattle.gt_core.proofs.Fitting.{word-shows}
+use Rattle.gt_core.proofs.Fitting.{word-shows, table-fits}
 use Rattle.gt_core.proofs.Owners.{writes-shown, idle-pins}
 use Rattle.gt_core.proofs.Ticking.{owns, own-within, stepped, Stepping}
 
@@ -174,7 +174,7 @@ exchange-agrees s h x gref looked change within room a =
     let i = exchanged x.id gref looked change in
     let now : open_call (i ∷ h) x.id.0 ≡ None = open_call-own i h in
     record {
-      header = a.header;
+      header = a.header ∙ sym (kept-table s i h x.id refl);
       rows = length-changed x.own gref.0 (own_after change) ∙ a.rows;
       entries = fun_ext (λ r. own-entry s h x gref looked change r within a);
       generations = fun_ext (λ r. own-raised s h x gref looked change r within room a);
@@ -344,7 +344,7 @@ exchange-stands s h xs d gref looked change st within safe fits room =
     record {
       each = λ dom. subst (λ (o : Option State). StateAgrees s (exchanged d gref looked change ∷ h) dom o) (sym (exchanged-state xs d.0 dom.0 gref.0 change))
           (exchange-each (d.0 == dom.0) s h d gref looked change dom (state_of xs dom.0) refl within room (st.each dom));
-      tables = λ dom. st.tables dom;
+      tables = λ dom. subst FitsTable (sym (kept-table s (exchanged d gref looked change) h dom refl)) (st.tables dom);
       words = λ t r below. exchange-words s h xs d gref looked change t r st within fits room below;
       lawful = subst (All (IsLawful s)) (sym (exchanged-live h d gref looked change)) st.lawful;
       free = λ t r e. exchange-free s h xs d gref looked change t r st safe e;
@@ -378,7 +378,7 @@ not-granted false more e = e
 own-below : (s : Setting) (h : History) (xs : List State) (d : DomId) (r : Request) → CoreStands s h xs → begun (known_at s h d) d r ≡ None → owns r ≡ true → (own_gref r).0 < 2048
 own-below s h xs d r st e t =
     let a : (own_gref r).0 < size_of (table_at s h d) = own-within (known_at s h d) d r e t in
-    let b : size_of (table_at s h d) ≤ 2048 = (st.tables d).0 in omega arith
+    let b : size_of (table_at s h d) ≤ 2048 = (table-fits _ (st.tables d)).0 in omega arith
 
 was-invalid : (old : Entry) → not (is_invalid old) ≡ false → old ≡ Invalid
 was-invalid Invalid e = refl
@@ -541,6 +541,10 @@ store-ends s h d seen (Promote gref) step e saw = cc
 store-ends s h d seen (Map dom gref flags) step e saw = cc
 store-ends s h d seen (Unmap handle) step e saw = cc
 store-ends s h d seen (Load handle off len) step e saw = cc
+store-ends s h d seen (SetVersion version) step e saw = cc
+store-ends s h d seen (SetupTable frames) step e saw = cc
+store-ends s h d seen (QuerySize dom) step e saw = cc
+store-ends s h d seen (GetVersion dom) step e saw = cc
 
 second-ends : (s : Setting) (h : History) (d : DomId) (seen : Seen) (r : Request) (step : Step) → second_at r ≡ Makes step → Ends s h d seen step
 second-ends s h d seen (Grant gref entry) step e saw = subst (λ (z : Step). EndsBy s h d z seen) (makes-same _ _ e) tt
@@ -550,6 +554,10 @@ second-ends s h d seen (Promote gref) step e saw = cc
 second-ends s h d seen (Map dom gref flags) step e saw = cc
 second-ends s h d seen (Unmap handle) step e saw = cc
 second-ends s h d seen (Load handle off len) step e saw = cc
+second-ends s h d seen (SetVersion version) step e saw = cc
+second-ends s h d seen (SetupTable frames) step e saw = cc
+second-ends s h d seen (QuerySize dom) step e saw = cc
+second-ends s h d seen (GetVersion dom) step e saw = cc
 
 unpin-ends : (s : Setting) (h : History) (d : DomId) (seen : Seen) (m : Option Mapping) (step : Step) → unpin_of m ≡ Makes step → Ends s h d seen step
 unpin-ends s h d seen None step e saw = cc
@@ -560,7 +568,7 @@ read-ends s h d seen None off len step e saw = cc
 read-ends s h d seen (Some m) off len step e saw = subst (λ (z : Step). EndsBy s h d z seen) (makes-same _ _ e) tt
 
 single-ends : (s : Setting) (h : History) (xs : List State) (d : DomId) (r : Request) (seen : Seen) (step : Step) → CoreStands s h xs → begun (known_at s h d) d r ≡ None
-    → HasStored h d r → FitsRequest r → single_at (known_at s h d) r ≡ Makes step → Done Granted ≡ action_at (known_at s h d) d r (after_single d (own_gref r) seen) → Ends s h d seen step
+    → HasStored h d r → FitsRequest r → single_at (known_at s h d) d r ≡ Makes step → Done Granted ≡ action_at (known_at s h d) d r (after_single d (own_gref r) seen) → Ends s h d seen step
 single-ends s h xs d (Grant gref entry) seen step st e stored fits act next =
     subst (Ends s h d seen) (makes-same _ _ act) (λ saw. grant-ends s h xs d gref entry seen st e stored fits saw next)
 single-ends s h xs d (Revoke gref) seen step st e stored fits act next =
@@ -570,6 +578,10 @@ single-ends s h xs d (Promote gref) seen step st e stored fits act next = cc
 single-ends s h xs d (Map dom gref flags) seen step st e stored fits act next = cc
 single-ends s h xs d (Unmap handle) seen step st e stored fits act next = unpin-ends s h d seen _ step act
 single-ends s h xs d (Load handle off len) seen step st e stored fits act next = read-ends s h d seen _ off len step act
+single-ends s h xs d (SetVersion version) seen step st e stored fits act next = subst (Ends s h d seen) (makes-same _ _ act) (λ saw. tt)
+single-ends s h xs d (SetupTable frames) seen step st e stored fits act next = subst (Ends s h d seen) (makes-same _ _ act) (λ saw. tt)
+single-ends s h xs d (QuerySize dom) seen step st e stored fits act next = subst (Ends s h d seen) (makes-same _ _ act) (λ saw. tt)
+single-ends s h xs d (GetVersion dom) seen step st e stored fits act next = subst (Ends s h d seen) (makes-same _ _ act) (λ saw. tt)
 
 change-ends : (s : Setting) (h : History) (xs : List State) (d : DomId) (r : Request) (so_far : StepsSoFar) (more word : ℕ) (seen : Seen) (step : Step) → CoreStands s h xs
     → begun (known_at s h d) d r ≡ None → PhaseStands s h d r so_far (OwnChange more word) → Comes (expects (known_at s h d) d r (OwnChange more word) [])
@@ -584,6 +596,10 @@ change-ends s h xs d (Revoke gref) so_far more word seen step st e a comes act n
 change-ends s h xs d (Map dom gref flags) so_far more word seen step st e a comes act next = absurd comes
 change-ends s h xs d (Unmap handle) so_far more word seen step st e a comes act next = absurd comes
 change-ends s h xs d (Load handle off len) so_far more word seen step st e a comes act next = absurd comes
+change-ends s h xs d (SetVersion version) so_far more word seen step st e a comes act next = absurd comes
+change-ends s h xs d (SetupTable frames) so_far more word seen step st e a comes act next = absurd comes
+change-ends s h xs d (QuerySize dom) so_far more word seen step st e a comes act next = absurd comes
+change-ends s h xs d (GetVersion dom) so_far more word seen step st e a comes act next = absurd comes
 
 phase-ends : (s : Setting) (h : History) (xs : List State) (d : DomId) (r : Request) (so_far : StepsSoFar) (phase : Phase) (seen : Seen) (step : Step) → CoreStands s h xs
     → begun (known_at s h d) d r ≡ None → PhaseStands s h d r so_far phase → FitsRequest r → Comes (expects (known_at s h d) d r phase [])

@@ -16,6 +16,8 @@ pub mod Ticking
 pub mod Others
 pub mod Turning
 pub mod Exchanging
+pub mod Validity
+pub mod Headers
 pub mod Unpinning
 pub mod Pinning
 pub mod Starting

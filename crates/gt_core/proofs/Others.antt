@@ -3,10 +3,11 @@ use Rattle.std.proofs.Common.{◌≡◌, ◌+◌, ℕ, refl, Bool, true, false, 
 use Rattle.std.specs.Prelude.{nat_lt, ◌==◌, ◌&&◌, slice_get}
 use Rattle.gt_types.specs.declared.DomId.{DomId}
 use Rattle.gt_entry.specs.declared.entry.Entry.{Entry}
+use Rattle.gt_entry.specs.declared.header.Header.{Header}
 use Rattle.gt_core.specs.declared.request.Holder.{Holder}
 use Rattle.gt_core.specs.declared.request.Holder.TheVariants.{Mapping as ByMapping, Leg as ByLeg}
 use Rattle.gt_core.specs.declared.action.Change.{Change}
-use Rattle.gt_core.specs.declared.action.Step.TheVariants.{LookHeader, LookControl, LookBody, Pin as PinStep, Unpin, StoreBody, Exchange, Read as ReadBytes}
+use Rattle.gt_core.specs.declared.action.Step.TheVariants.{LookHeader, LookControl, LookBody, Pin as PinStep, Unpin, StoreBody, StoreHeader, Exchange, Read as ReadBytes}
 use Rattle.gt_core.specs.declared.action.Seen.TheVariants.{Nothing, Value, Taken, Missed}
 use Rattle.gt_core.specs.declared.known.Mapping.{Mapping}
 use Rattle.gt_core.specs.declared.slot.Slot.{Slot}
@@ -14,7 +15,7 @@ use Rattle.gt_core.specs.declared.trace.Item.{Item}
 use Rattle.gt_core.specs.declared.trace.Happened.TheVariants.{Began, Stepped}
 use Rattle.gt_core.specs.declared.trace.Answer.{Answer}
 use Rattle.gt_core.specs.States.{State}
-use Rattle.gt_core.specs.History.{History, Setting, Pin, live, entry_at, raises_at, generation_at, body_at, table_at, mappings_at, mappings_in, maps_answered_at, known_at, without, is_holder, frame_of}
+use Rattle.gt_core.specs.History.{History, Setting, Pin, live, entry_at, raises_at, generation_at, body_at, header_stored, header_or, table_at, mappings_at, mappings_in, maps_answered_at, known_at, without, is_holder, frame_of}
 use Rattle.gt_core.specs.Standing.{SlotAgrees, Agrees}
 use mathlib.Core.Path.{fun_ext}
 use Rattle.std.proofs.lemmas.Bool.{eqb-true, false≢true}
@@ -81,6 +82,7 @@ pinned-apart d actor (Stepped (LookControl dom gref) seen) answer before apart =
 pinned-apart d actor (Stepped (LookBody dom gref second) seen) answer before apart = no-mappings d
 pinned-apart d actor (Stepped (Unpin dom gref dir holder) seen) answer before apart = no-mappings d
 pinned-apart d actor (Stepped (StoreBody gref second word) seen) answer before apart = no-mappings d
+pinned-apart d actor (Stepped (StoreHeader version frames) seen) answer before apart = no-mappings d
 pinned-apart d actor (Stepped (Exchange gref looked change) seen) answer before apart = no-mappings d
 pinned-apart d actor (Stepped (ReadBytes dom frame off len) seen) answer before apart = no-mappings d
 pinned-apart d actor (Began request) answer before apart = no-mappings d
@@ -105,6 +107,7 @@ unpinned-apart d actor (Stepped (LookHeader dom) seen) ps apart = refl
 unpinned-apart d actor (Stepped (LookControl dom gref) seen) ps apart = refl
 unpinned-apart d actor (Stepped (LookBody dom gref second) seen) ps apart = refl
 unpinned-apart d actor (Stepped (StoreBody gref second word) seen) ps apart = refl
+unpinned-apart d actor (Stepped (StoreHeader version frames) seen) ps apart = refl
 unpinned-apart d actor (Stepped (Exchange gref looked change) seen) ps apart = refl
 unpinned-apart d actor (Stepped (ReadBytes dom frame off len) seen) ps apart = refl
 unpinned-apart d actor (Began request) ps apart = refl
@@ -121,13 +124,19 @@ other-generations : (s : Setting) (i : Item) (h : History) (d : ℕ) → (i.acto
     → ◌≡◌ {A = ℕ → ℕ} (λ r. generation_at s (i ∷ h) d r) (λ r. generation_at s h d r)
 other-generations s i h d apart = fun_ext (λ r. ap (λ (n : ℕ). s.first_generation + n) (other-raises i h d r apart))
 
+pub other-table : (s : Setting) (i : Item) (h : History) (d : DomId) → (i.actor.0 == d.0) ≡ false → table_at s (i ∷ h) d ≡ table_at s h d
+unfolding table_at
+other-table s i h d apart = ap (λ (o : Option Header). header_or o (table_at s h d)) (none-of (i.actor.0 == d.0) (header_stored i.happened) apart)
+
 -- no domain but the actor knows another thing by itself
 pub other-known : (s : Setting) (i : Item) (h : History) (d : DomId) → (i.actor.0 == d.0) ≡ false → known_at s (i ∷ h) d ≡ known_at s h d
 other-known s i h d apart =
     ap (λ (f : ℕ → Entry). record { domains = s.domains; may = s.may; entry = f; generation = λ r. generation_at s (i ∷ h) d.0 r; header = table_at s (i ∷ h) d; mappings = mappings_at (i ∷ h) d.0; maps_answered = maps_answered_at (i ∷ h) d.0 })
     (fun_ext (λ r. other-entry i h d.0 r apart))
-    ∙ ap (λ (f : ℕ → ℕ). record { domains = s.domains; may = s.may; entry = λ r. entry_at h d.0 r; generation = f; header = table_at s h d; mappings = mappings_at (i ∷ h) d.0; maps_answered = maps_answered_at (i ∷ h) d.0 })
+    ∙ ap (λ (f : ℕ → ℕ). record { domains = s.domains; may = s.may; entry = λ r. entry_at h d.0 r; generation = f; header = table_at s (i ∷ h) d; mappings = mappings_at (i ∷ h) d.0; maps_answered = maps_answered_at (i ∷ h) d.0 })
     (other-generations s i h d.0 apart)
+    ∙ ap (λ (x : Header). record { domains = s.domains; may = s.may; entry = λ r. entry_at h d.0 r; generation = λ r. generation_at s h d.0 r; header = x; mappings = mappings_at (i ∷ h) d.0; maps_answered = maps_answered_at (i ∷ h) d.0 })
+    (other-table s i h d apart)
     ∙ ap (λ (l : List Mapping). record { domains = s.domains; may = s.may; entry = λ r. entry_at h d.0 r; generation = λ r. generation_at s h d.0 r; header = table_at s h d; mappings = l; maps_answered = maps_answered_at (i ∷ h) d.0 })
     (other-mappings i h d.0 apart)
     ∙ ap (λ (n : ℕ). record { domains = s.domains; may = s.may; entry = λ r. entry_at h d.0 r; generation = λ r. generation_at s h d.0 r; header = table_at s h d; mappings = mappings_at h d.0; maps_answered = n })
@@ -139,7 +148,7 @@ pub other-agrees : (s : Setting) (i : Item) (h : History) (x : State) (slots : L
     → Agrees s (i ∷ h) (record x { slots = slots })
 other-agrees s i h x slots apart a len agree =
     record {
-      header = a.header;
+      header = a.header ∙ sym (other-table s i h x.id apart);
       rows = a.rows;
       entries = a.entries ∙ fun_ext (λ r. sym (other-entry i h x.id.0 r apart));
       generations = a.generations ∙ sym (other-generations s i h x.id.0 apart);

@@ -19,7 +19,8 @@ use Rattle.gt_core.specs.declared.trace.Answer.TheVariants.{Mapped}
 use Rattle.gt_core.specs.States.{State, state_of, changed_in}
 use Rattle.gt_core.specs.Effects.{with_slot, with_mapping, slot_after}
 use Rattle.gt_core.specs.History.{History, Setting, Pin, live, entry_at, body_at, reads_at, writes_at, mappings_at, mappings_in, maps_answered_at, open_call, is_pin_on, frame_of, mapping_on, same_dir}
-use Rattle.gt_core.specs.Standing.{IsLawful, SlotAgrees, Agrees, StateAgrees, CoreStands}
+use Rattle.gt_core.specs.Standing.{IsLawful, FitsTable, SlotAgrees, Agrees, StateAgrees, CoreStands}
+use Rattle.gt_core.proofs.Quiet.{kept-table}
 use Rattle.std.proofs.lemmas.Bool.{eqb-true, eq-eqb, and_parts, and_from, false≢true, true≢false}
 use Rattle.std.proofs.lemmas.List.{append-nil, append_assoc}
 use Rattle.std.proofs.lemmas.List.Sums.{sum_by_push}
@@ -159,7 +160,7 @@ abbrev mapping_made : DomId → GrantRef → Dir → Handle → ℕ → Mapping
 mapping_made t gref dir handle frame = record { handle = handle; dom = t; gref = gref; dir = dir; frame = frame }
 
 pins-keeps : (d t : DomId) (gref : GrantRef) (looked : ℕ) (dir : Dir) (handle : Handle) → KeepsEntries (pins d t gref looked dir handle)
-pins-keeps d t gref looked dir handle = record { changes = λ r. refl; stores = λ r which. refl }
+pins-keeps d t gref looked dir handle = record { changes = λ r. refl; stores = λ r which. refl; header = refl }
 
 pinned-live : (h : History) (d t : DomId) (gref : GrantRef) (looked : ℕ) (dir : Dir) (handle : Handle) → Grows h (pins d t gref looked dir handle) (new_pin h d t gref dir handle)
 unfolding live
@@ -242,7 +243,7 @@ pin-within bound s h xs d t gref looked dir handle frame st valid shows room few
       each = λ q. subst (λ (o : Option State). StateAgrees s (i ∷ h) q o)
           (sym (state-twice xs d.0 t.0 q.0 (mapped_within bound (mapping_made t gref dir handle frame)) (with_slot gref.0 (Pinned dir)) (λ y. refl) (λ y. refl)))
           (pinned-state s h d t gref looked dir handle frame bound q (d.0 == q.0) (t.0 == q.0) (state_of xs q.0) refl refl shows room few (st.each q));
-      tables = λ dom. st.tables dom;
+      tables = λ dom. subst FitsTable (sym (kept-table s i h dom refl)) (st.tables dom);
       words = λ u r within.
           let was = counts-fit s h u r (st.words u r within) in
           word-fits s i h u r keeps

@@ -10,7 +10,7 @@ use Rattle.gt_core.specs.declared.slot.Slot.{Slot}
 use Rattle.gt_core.specs.declared.known.Own.{Own}
 use Rattle.gt_core.specs.States.{State}
 use Rattle.gt_core.specs.declared.action.Step.{Step}
-use Rattle.gt_core.specs.declared.action.Step.TheVariants.{LookHeader, LookControl, LookBody, Pin, Unpin, StoreBody, Exchange, Read as ReadBytes}
+use Rattle.gt_core.specs.declared.action.Step.TheVariants.{LookHeader, LookControl, LookBody, Pin, Unpin, StoreBody, StoreHeader, Exchange, Read as ReadBytes}
 use Rattle.gt_core.specs.declared.action.Seen.TheVariants.{Value}
 use Rattle.gt_core.specs.Rules.{control_with, generation_in}
 use Rattle.gt_core.specs.History.{History, Setting, entry_at, generation_at, reads_at, body_at, table_at, word_at, seen_by, exchange_sees}
@@ -109,4 +109,5 @@ sees-agree s h xs d (Pin dom gref looked dir) st w = ap (λ (n : ℕ). exchange_
 sees-agree s h xs d (Exchange gref looked change) st w = ap (λ (n : ℕ). exchange_sees n looked) (control-agrees s h xs d gref.0 st w.0 w.1)
 sees-agree s h xs d (Unpin dom gref dir handle) st w = refl
 sees-agree s h xs d (StoreBody gref second word) st w = refl
+sees-agree s h xs d (StoreHeader version frames) st w = refl
 sees-agree s h xs d (ReadBytes dom frame off len) st w = refl

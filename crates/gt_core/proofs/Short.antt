@@ -12,7 +12,7 @@ use Rattle.gt_entry.specs.declared.entry.Entry.TheVariants.{Invalid, Page, Sub, 
 use Rattle.gt_entry.specs.declared.control.Kind.TheVariants.{Sub as KindSub}
 use Rattle.gt_entry.specs.Words.{control_of, header_of}
 use Rattle.gt_core.specs.declared.request.Request.{Request}
-use Rattle.gt_core.specs.declared.request.Request.TheVariants.{Grant, Revoke, Demote, Promote, Map, Unmap, Load}
+use Rattle.gt_core.specs.declared.request.Request.TheVariants.{Grant, Revoke, Demote, Promote, Map, Unmap, Load, SetVersion, SetupTable, QuerySize, GetVersion}
 use Rattle.gt_core.specs.declared.known.Mapping.{Mapping}
 use Rattle.gt_core.specs.declared.action.Verdict.{Verdict}
 use Rattle.gt_core.specs.declared.action.Verdict.TheVariants.{Granted}
@@ -156,6 +156,10 @@ short-steps k caller (Promote gref) = short-turns false caller gref 3
 short-steps k caller (Map dom gref flags) = short-more _ 17 71 (omega arith) (short-leg (map_leg k caller dom gref flags))
 short-steps k caller (Unmap handle) = short-more _ 1 71 (omega arith) (short-gives (mapping_of k.mappings handle))
 short-steps k caller (Load handle off len) = short-more _ 1 71 (omega arith) (short-reads (mapping_of k.mappings handle) off len)
+short-steps k caller (SetVersion version) = short-more _ (0 + 1) 71 (omega arith) (short-makes _ (ended Granted) 0 (short-ended Granted 0))
+short-steps k caller (SetupTable frames) = short-more _ (0 + 1) 71 (omega arith) (short-makes _ (ended Granted) 0 (short-ended Granted 0))
+short-steps k caller (QuerySize dom) = short-more _ (0 + 1) 71 (omega arith) (short-looks _ (λ word. ended Granted) 0 (λ word. short-ended Granted 0))
+short-steps k caller (GetVersion dom) = short-more _ (0 + 1) 71 (omega arith) (short-looks _ (λ word. ended Granted) 0 (λ word. short-ended Granted 0))
 
 -- a step of a call comes after fewer steps than its bound
 pub path-is-short : (k : CallerKnowledge) (caller : DomId) (r : Request) (vs : List Seen) (step : Step) → path k caller r vs ≡ Some (Makes step) → length vs < most_steps r

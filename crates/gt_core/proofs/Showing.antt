@@ -16,6 +16,7 @@ use Rattle.gt_core.specs.States.{State, state_of}
 use Rattle.gt_core.specs.History.{History, Setting, entry_at, generation_at, reads_at, writes_at, table_at}
 use Rattle.gt_core.specs.Shown.{shown_in, shown_at}
 use Rattle.gt_core.specs.Standing.{Agrees, SlotAgrees, CoreStands}
+use Rattle.gt_core.proofs.Fitting.{table-fits}
 use Rattle.gt_core.proofs.Places.{has_id}
 use Rattle.gt_core.proofs.Beginning.{begin-nowhere, agrees-found}
 
@@ -76,7 +77,7 @@ pub shown-there : (s : Setting) (h : History) (xs : List State) (dom : DomId) (r
 shown-there s h xs dom r at x p here within st =
     let a = agrees-found s h xs dom at x p here st in
     let size : r < size_of (table_at s h dom) = subst (λ (d : DomId). r < size_of (table_at s h d)) a.1 (subst (λ (z : Header). r < size_of z) a.2.header within) in
-    let most : size_of (table_at s h dom) ≤ 2048 = (st.tables dom).0 in
+    let most : size_of (table_at s h dom) ≤ 2048 = (table-fits _ (st.tables dom)).0 in
     rows-show s h x r a.2 (omega arith)
     ∙ ap (λ (d : DomId). Some (record { entry = entry_at h d.0 r; generation = generation_at s h d.0 r; reads = reads_at h d.0 r; writes = writes_at h d.0 r })) a.1
     ∙ sym (shown-in-range s h dom r true a.0 (lt-ltb r (size_of (table_at s h dom)) size))

@@ -23,8 +23,8 @@ use Rattle.gt_core.specs.declared.slot.Slot.{Slot}
 use Rattle.gt_core.specs.declared.known.TheConstants.{ENTRIES, FRAME_LEN}
 use Rattle.gt_core.specs.Rules.{size_of, entry_in, generation_in, row_entry, row_generation, frames_in, frames_of}
 use Rattle.gt_core.specs.States.{State, state_of, first_state}
-use Rattle.gt_core.specs.History.{Setting, entry_at, raises_at, body_at, live, mappings_at, mappings_in, maps_answered_at, open_call, contents_at, header_from, reads_at, writes_at, control_at}
-use Rattle.gt_core.specs.Standing.{setting_of, Agrees, StateAgrees, SlotAgrees, CallAgrees, FitsWord, IsLawful, CoreStands}
+use Rattle.gt_core.specs.History.{Setting, entry_at, raises_at, body_at, live, mappings_at, mappings_in, maps_answered_at, open_call, contents_at, header_from, table_at, reads_at, writes_at, control_at}
+use Rattle.gt_core.specs.Standing.{setting_of, Agrees, StateAgrees, SlotAgrees, CallAgrees, FitsTable, FitsWord, IsLawful, CoreStands}
 
 state-of-map : (g : ℕ) (ds : List DomainConfig) (dom : DomId) → state_of (map (first_state g) ds) dom.0 ≡ option_map (first_state g) (domain_of ds dom)
 state-of-map g [] dom = refl
@@ -109,6 +109,10 @@ no-call : (d : ℕ) → open_call [] d ≡ None
 unfolding open_call
 no-call d = refl
 
+no-header : (s : Setting) (t : DomId) → table_at s [] t ≡ header_from (domain_of s.domains t)
+unfolding table_at
+no-header s t = refl
+
 no-contents : (t f : ℕ) → contents_at [] t f ≡ replicate 4096 0
 unfolding contents_at
 no-contents t f = refl
@@ -124,12 +128,13 @@ no-writes t r = refl
 -- each domain at rest
 
 abbrev Fine : DomainConfig → Type 0
-Fine d = (d.version < 4) × (d.table_frames ≤ 4)
+Fine d = (d.version ≤ 2) × (d.table_frames ≤ 4)
 
 header-kept : (d : DomainConfig) → Fine d → ◌≡◌ {A = Header} (record { version = d.version % 4; frames = d.table_frames % 256 }) (record { version = d.version; frames = d.table_frames })
 header-kept d f =
     let small : d.table_frames < 256 = let le = f.1 in omega arith in
-    ap (λ (n : ℕ). record { version = n; frames = d.table_frames % 256 }) (mod-eq_of_lt f.0) ∙ ap (λ (n : ℕ). record { version = d.version; frames = n }) (mod-eq_of_lt small)
+    let low : d.version < 4 = let le = f.0 in omega arith in
+    ap (λ (n : ℕ). record { version = n; frames = d.table_frames % 256 }) (mod-eq_of_lt low) ∙ ap (λ (n : ℕ). record { version = d.version; frames = n }) (mod-eq_of_lt small)
 
 slot-starts : (t n r : ℕ) (slot : Slot) → slice_get (replicate n (record { reads = 0; writes = 0; first = 0; second = 0 })) r ≡ Some slot → SlotAgrees [] t r slot
 slot-starts t n r slot e = by (ltb r n) (sym (get-replicate n r (record { reads = 0; writes = 0; first = 0; second = 0 })) ∙ e)
@@ -152,7 +157,7 @@ rest-agrees : (s : Setting) (d : DomainConfig) → domain_of s.domains d.id ≡ 
 rest-agrees s d is f le =
     let g : min s.first_generation 1048575 ≡ s.first_generation = omega arith in
     record {
-      header = header-kept d f ∙ sym (ap header_from is);
+      header = header-kept d f ∙ sym (ap header_from is) ∙ sym (no-header s d.id);
       rows = length-replicate {A = Own} ENTRIES (record { entry = Invalid; generation = min s.first_generation 1048575 });
       entries = fun_ext (λ r. rows-entry (min s.first_generation 1048575) r ∙ sym (no-entry d.id.0 r));
       generations = fun_ext (λ r. rows-generation s.first_generation r ∙ g ∙ (let z : s.first_generation ≡ s.first_generation + 0 = omega arith in z) ∙ ap (λ (n : ℕ). s.first_generation + n) (sym (no-raises d.id.0 r)));
@@ -174,22 +179,9 @@ state-starts s dom (Some d) e a le =
     let f = domain-found Fine s.domains dom d a e in
     (λ none. none-some d (sym none ∙ e), f.0, rest-agrees s d (ap (domain_of s.domains) f.0 ∙ e) f.1 le)
 
-table-starts : (o : Option DomainConfig) → ((d : DomainConfig) → o ≡ Some d → Fine d) → (size_of (header_from o) ≤ 2048) × (header_of (header_word (header_from o)) ≡ header_from o)
-table-starts None f = (omega arith, refl)
-table-starts (Some d) f = (by (d.version == 2), header-round d (f d refl))
-  where
-    few : d.table_frames ≤ 4
-    few = (f d refl).1
-
-    by : (b : Bool) → d.table_frames * cond b 256 512 ≤ 2048
-    by true = let le = few in omega arith
-    by false = let le = few in omega arith
-
-    header-round : (d : DomainConfig) → Fine d → header_of (header_word (record { version = d.version; frames = d.table_frames })) ≡ record { version = d.version; frames = d.table_frames }
-    header-round d g =
-        let v : (d.version + d.table_frames * 4) % 4 ≡ d.version = let a = g.0 in omega arith in
-        let w : (d.version + d.table_frames * 4) / 4 % 256 ≡ d.table_frames = let a = g.0 in let b = g.1 in omega arith in
-        ap (λ (n : ℕ). record { version = n; frames = (d.version + d.table_frames * 4) / 4 % 256 }) v ∙ ap (λ (n : ℕ). record { version = d.version; frames = n }) w
+table-starts : (o : Option DomainConfig) → ((d : DomainConfig) → o ≡ Some d → Fine d) → FitsTable (header_from o)
+table-starts None f = record { version = omega arith; frames = omega arith }
+table-starts (Some d) f = record { version = (f d refl).0; frames = (f d refl).1 }
 
 fine-all : (ds : List DomainConfig) → All (λ d. (1 ≤ d.table_frames) × (d.table_frames ≤ 4)) ds → All (λ d. (1 ≤ d.version) × (d.version ≤ 1)) ds → All Fine ds
 fine-all ds a b = λ i d within. (let v = b i d within in (let h : (get_or ds i d).version ≤ 1 = v.1 in omega arith), (a i d within).1)
@@ -206,7 +198,7 @@ starts config may l =
     let fine : All Fine s.domains = fine-all config.domains.items l.table_frames l.versions in
     record {
       each = λ dom. subst (λ (o : Option State). StateAgrees s [] dom o) (sym (state-of-map config.first_gen config.domains.items dom)) (state-starts s dom (domain_of s.domains dom) refl fine l.generation);
-      tables = λ dom. table-starts (domain_of s.domains dom) (λ d e. (domain-found Fine s.domains dom d fine e).1);
+      tables = λ dom. subst FitsTable (sym (no-header s dom)) (table-starts (domain_of s.domains dom) (λ d e. (domain-found Fine s.domains dom d fine e).1));
       words = λ t r within. rest-word s t r l.generation;
       lawful = subst (All (IsLawful s)) (sym no-live) (λ i p below. absurd (omega arith));
       free = λ t r e. (no-reads t r, no-writes t r);

@@ -7,7 +7,7 @@ use Rattle.std.proofs.lemmas.List.Quantifiers.{position-Some}
 use Rattle.std.proofs.lemmas.Option.{none-some, same_Some}
 use Rattle.std.specs.Prelude.{nat_lt, nat_le, ◌==◌, ◌&&◌, not, position, All, Any}
 use Rattle.gt_types.specs.Denial.{denial_of}
-use Rattle.gt_types.specs.Names.{domain_of}
+use Rattle.gt_types.specs.Names.{domain_of, resolved}
 use Rattle.gt_types.specs.declared.DomId.{DomId}
 use Rattle.gt_types.specs.declared.GrantRef.{GrantRef}
 use Rattle.gt_types.specs.declared.denial.Rule.{Rule}
@@ -25,12 +25,12 @@ use Rattle.gt_core.specs.declared.request.Handle.{Handle}
 use Rattle.gt_core.specs.declared.request.Holder.{Holder}
 use Rattle.gt_core.specs.declared.request.Holder.TheVariants.{Mapping as ByMapping, Leg as ByLeg}
 use Rattle.gt_core.specs.declared.request.Request.{Request}
-use Rattle.gt_core.specs.declared.request.Request.TheVariants.{Grant, Revoke, Demote, Promote, Map, Unmap, Load}
+use Rattle.gt_core.specs.declared.request.Request.TheVariants.{Grant, Revoke, Demote, Promote, Map, Unmap, Load, SetVersion, SetupTable, QuerySize, GetVersion}
 use Rattle.gt_core.specs.declared.action.Verdict.{Verdict}
 use Rattle.gt_core.specs.declared.action.Verdict.TheVariants.{Refused}
 use Rattle.gt_core.specs.declared.action.Change.{Change}
 use Rattle.gt_core.specs.declared.action.Step.{Step}
-use Rattle.gt_core.specs.declared.action.Step.TheVariants.{LookHeader, LookControl, LookBody, Pin as PinStep, Unpin, StoreBody, Exchange, Read as ReadBytes}
+use Rattle.gt_core.specs.declared.action.Step.TheVariants.{LookHeader, LookControl, LookBody, Pin as PinStep, Unpin, StoreBody, StoreHeader, Exchange, Read as ReadBytes}
 use Rattle.gt_core.specs.declared.action.Seen.{Seen}
 use Rattle.gt_core.specs.declared.action.Seen.TheVariants.{Nothing, Value, Taken, Missed}
 use Rattle.gt_core.specs.declared.action.Action.{Action}
@@ -61,9 +61,9 @@ use Rattle.gt_core.proofs.Places.{has_id, found, state_of-set}
 use Rattle.std.proofs.lemmas.List.{length-append, length-map}
 use Rattle.gt_core.specs.Legal.{most_steps}
 use Rattle.gt_core.proofs.Short.{path-is-short}
-use Rattle.gt_core.proofs.Fitting.{word-shows}
+use Rattle.gt_core.proofs.Fitting.{word-shows, table-fits}
 use Rattle.gt_core.proofs.Quiet.{IsQuiet, quiet-known}
-use Rattle.gt_core.proofs.Beginning.{known-same, quiet-agrees, quiet-stands, place-keeps, open_call-own, stood-own, agrees-found}
+use Rattle.gt_core.proofs.Beginning.{known-same, quiet-agrees, quiet-stands, map-domain, place-keeps, open_call-own, stood-own, agrees-found}
 use Rattle.gt_core.proofs.Seeing.{IsWithin, sees-agree}
 use Rattle.gt_core.proofs.FirstRules.{first-of-leg, refusal_next, misses-look}
 use Rattle.gt_core.proofs.Placing.{NextStands, leg-place}
@@ -79,6 +79,10 @@ abbrev pub owns : Request → Bool
 owns (Map dom gref flags) = false
 owns (Unmap handle) = false
 owns (Load handle off len) = false
+owns (SetVersion version) = false
+owns (SetupTable frames) = false
+owns (QuerySize dom) = false
+owns (GetVersion dom) = false
 owns r = true
 
 -- an owner's call is on an entry of its table
@@ -90,11 +94,15 @@ own-within k d (Promote gref) e t = leb-false (size_of k.header) gref.0 (not-ref
 own-within k d (Map dom gref flags) e t = absurd (false≢true t)
 own-within k d (Unmap handle) e t = absurd (false≢true t)
 own-within k d (Load handle off len) e t = absurd (false≢true t)
+own-within k d (SetVersion version) e t = absurd (false≢true t)
+own-within k d (SetupTable frames) e t = absurd (false≢true t)
+own-within k d (QuerySize dom) e t = absurd (false≢true t)
+own-within k d (GetVersion dom) e t = absurd (false≢true t)
 
 pub own-below : (s : Setting) (h : History) (xs : List State) (d : DomId) (r : Request) → CoreStands s h xs → begun (known_at s h d) d r ≡ None → owns r ≡ true → (own_gref r).0 < 2048
 own-below s h xs d r st e t =
     let a : (own_gref r).0 < size_of (table_at s h d) = own-within (known_at s h d) d r e t in
-    let b : size_of (table_at s h d) ≤ 2048 = (st.tables d).0 in omega arith
+    let b : size_of (table_at s h d) ≤ 2048 = (table-fits _ (st.tables d)).0 in omega arith
 
 -- actions
 
@@ -113,6 +121,10 @@ leg-plain k d (Promote gref) l e = refl
 leg-plain k d (Map dom gref flags) l e = refl
 leg-plain k d (Unmap handle) l e = refl
 leg-plain k d (Load handle off len) l e = refl
+leg-plain k d (SetVersion version) l e = refl
+leg-plain k d (SetupTable frames) l e = refl
+leg-plain k d (QuerySize dom) l e = refl
+leg-plain k d (GetVersion dom) l e = refl
 
 leg-refusal : (l : Leg) (next : LegNext) → phase_refusal (after_leg l next) ≡ refusal_next next
 leg-refusal l (Going phase) = refl
@@ -208,6 +220,10 @@ single-judged s h xs d (Revoke gref) so_far step st e comes act =
     (λ b none. false≢true (sym b ∙ eq-eqb w (idle_word k gref) (idle-here s h d gref within none))))
 single-judged s h xs d (Unmap handle) so_far step st e comes act = unpin-refusal s h d (Unmap handle) so_far (own_gref (Unmap handle)) _ step act
 single-judged s h xs d (Load handle off len) so_far step st e comes act = read-refusal s h d (Load handle off len) so_far (own_gref (Load handle off len)) _ off len step act
+single-judged s h xs d (SetVersion version) so_far step st e comes act = subst (λ (z : Step). Judged s h d (SetVersion version) so_far Single z) (makes-same _ _ act) refl
+single-judged s h xs d (SetupTable frames) so_far step st e comes act = subst (λ (z : Step). Judged s h d (SetupTable frames) so_far Single z) (makes-same _ _ act) refl
+single-judged s h xs d (QuerySize dom) so_far step st e comes act = subst (λ (z : Step). Judged s h d (QuerySize dom) so_far Single z) (makes-same _ _ act) refl
+single-judged s h xs d (GetVersion dom) so_far step st e comes act = subst (λ (z : Step). Judged s h d (GetVersion dom) so_far Single z) (makes-same _ _ act) refl
 single-judged s h xs d (Demote gref) so_far step st e comes act = absurd comes
 single-judged s h xs d (Promote gref) so_far step st e comes act = absurd comes
 single-judged s h xs d (Map dom gref flags) so_far step st e comes act = absurd comes
@@ -225,6 +241,10 @@ look-judged s h xs d (Revoke gref) more so_far step st e a comes act = absurd co
 look-judged s h xs d (Map dom gref flags) more so_far step st e a comes act = absurd comes
 look-judged s h xs d (Unmap handle) more so_far step st e a comes act = absurd comes
 look-judged s h xs d (Load handle off len) more so_far step st e a comes act = absurd comes
+look-judged s h xs d (SetVersion version) more so_far step st e a comes act = absurd comes
+look-judged s h xs d (SetupTable frames) more so_far step st e a comes act = absurd comes
+look-judged s h xs d (QuerySize dom) more so_far step st e a comes act = absurd comes
+look-judged s h xs d (GetVersion dom) more so_far step st e a comes act = absurd comes
 
 change-judged : (s : Setting) (h : History) (d : DomId) (r : Request) (more word : ℕ) (so_far : StepsSoFar) (step : Step) → PhaseStands s h d r so_far (OwnChange more word)
     → Comes (expects (known_at s h d) d r (OwnChange more word) []) → action_at (known_at s h d) d r (OwnChange more word) ≡ Makes step → Judged s h d r so_far (OwnChange more word) step
@@ -243,6 +263,10 @@ change-judged s h d (Revoke gref) more word so_far step a comes act = absurd com
 change-judged s h d (Map dom gref flags) more word so_far step a comes act = absurd comes
 change-judged s h d (Unmap handle) more word so_far step a comes act = absurd comes
 change-judged s h d (Load handle off len) more word so_far step a comes act = absurd comes
+change-judged s h d (SetVersion version) more word so_far step a comes act = absurd comes
+change-judged s h d (SetupTable frames) more word so_far step a comes act = absurd comes
+change-judged s h d (QuerySize dom) more word so_far step a comes act = absurd comes
+change-judged s h d (GetVersion dom) more word so_far step a comes act = absurd comes
 
 -- at each step: the refusal that its words lead to is the first rule that stands
 pub judged : (s : Setting) (h : History) (xs : List State) (d : DomId) (r : Request) (so_far : StepsSoFar) (phase : Phase) (step : Step) → CoreStands s h xs → begun (known_at s h d) d r ≡ None
@@ -251,7 +275,7 @@ judged s h xs d r so_far PhaseBegun step st e a comes act = absurd a
 judged s h xs d r so_far (LegPinning l p) step st e a comes act =
     subst (λ (z : Step). Judged s h d r so_far (LegPinning l p) z) (makes-same _ _ act)
     (leg-refusal l (leg_after l p (seen_by s h d (leg_step l p)))
-    ∙ first-of-leg s h d r l so_far p a.0 (leg-plain (known_at s h d) d r l a.0) (st.tables l.dom).1 (λ within. word-shows s h xs l.dom.0 l.gref.0 st within) a.2)
+    ∙ first-of-leg s h d r l so_far p a.0 (leg-plain (known_at s h d) d r l a.0) (table-fits _ (st.tables l.dom)).1 (λ within. word-shows s h xs l.dom.0 l.gref.0 st within) a.2)
 judged s h xs d (Grant gref entry) so_far Storing step st e a comes act =
     subst (λ (z : Step). Judged s h d (Grant gref entry) so_far Storing z) (makes-same _ _ act) (store-refusal (is_sub (Grant gref entry)))
 judged s h xs d (Grant gref entry) so_far StoringSecond step st e a comes act =
@@ -266,12 +290,20 @@ judged s h xs d (Promote gref) so_far Storing step st e a comes act = absurd com
 judged s h xs d (Map dom gref flags) so_far Storing step st e a comes act = absurd comes
 judged s h xs d (Unmap handle) so_far Storing step st e a comes act = absurd comes
 judged s h xs d (Load handle off len) so_far Storing step st e a comes act = absurd comes
+judged s h xs d (SetVersion version) so_far Storing step st e a comes act = absurd comes
+judged s h xs d (SetupTable frames) so_far Storing step st e a comes act = absurd comes
+judged s h xs d (QuerySize dom) so_far Storing step st e a comes act = absurd comes
+judged s h xs d (GetVersion dom) so_far Storing step st e a comes act = absurd comes
 judged s h xs d (Revoke gref) so_far StoringSecond step st e a comes act = absurd a
 judged s h xs d (Demote gref) so_far StoringSecond step st e a comes act = absurd a
 judged s h xs d (Promote gref) so_far StoringSecond step st e a comes act = absurd a
 judged s h xs d (Map dom gref flags) so_far StoringSecond step st e a comes act = absurd a
 judged s h xs d (Unmap handle) so_far StoringSecond step st e a comes act = absurd a
 judged s h xs d (Load handle off len) so_far StoringSecond step st e a comes act = absurd a
+judged s h xs d (SetVersion version) so_far StoringSecond step st e a comes act = absurd a
+judged s h xs d (SetupTable frames) so_far StoringSecond step st e a comes act = absurd a
+judged s h xs d (QuerySize dom) so_far StoringSecond step st e a comes act = absurd a
+judged s h xs d (GetVersion dom) so_far StoringSecond step st e a comes act = absurd a
 
 -- where the call stands next
 
@@ -334,7 +366,7 @@ placed s h xs d r so_far PhaseBegun step st a comes act quiet = absurd a
 placed s h xs d r so_far (LegPinning l p) step st a comes act quiet =
     subst (λ (z : Step). Placed s h d r so_far (LegPinning l p) z) (makes-same _ _ act)
     (leg-follows s h d r _ l (leg_after l p (seen_by s h d (leg_step l p))) a.0 a.1
-    (leg-place s h d l so_far p (st.tables l.dom) (λ within. word-shows s h xs l.dom.0 l.gref.0 st within) (st.spelled l.dom.0 l.gref.0) a.2))
+    (leg-place s h d l so_far p (table-fits _ (st.tables l.dom)) (λ within. word-shows s h xs l.dom.0 l.gref.0 st within) (st.spelled l.dom.0 l.gref.0) a.2))
 placed s h xs d (Grant gref entry) so_far Storing step st a comes act quiet =
     absurd (false≢true (subst (λ (z : Step). changes_nothing z (seen_by s h d z) ≡ true) (sym (makes-same _ _ act)) quiet))
 placed s h xs d (Grant gref entry) so_far StoringSecond step st a comes act quiet =
@@ -353,12 +385,20 @@ placed s h xs d (Promote gref) so_far Storing step st a comes act quiet = absurd
 placed s h xs d (Map dom gref flags) so_far Storing step st a comes act quiet = absurd comes
 placed s h xs d (Unmap handle) so_far Storing step st a comes act quiet = absurd comes
 placed s h xs d (Load handle off len) so_far Storing step st a comes act quiet = absurd comes
+placed s h xs d (SetVersion version) so_far Storing step st a comes act quiet = absurd comes
+placed s h xs d (SetupTable frames) so_far Storing step st a comes act quiet = absurd comes
+placed s h xs d (QuerySize dom) so_far Storing step st a comes act quiet = absurd comes
+placed s h xs d (GetVersion dom) so_far Storing step st a comes act quiet = absurd comes
 placed s h xs d (Revoke gref) so_far StoringSecond step st a comes act quiet = absurd a
 placed s h xs d (Demote gref) so_far StoringSecond step st a comes act quiet = absurd a
 placed s h xs d (Promote gref) so_far StoringSecond step st a comes act quiet = absurd a
 placed s h xs d (Map dom gref flags) so_far StoringSecond step st a comes act quiet = absurd a
 placed s h xs d (Unmap handle) so_far StoringSecond step st a comes act quiet = absurd a
 placed s h xs d (Load handle off len) so_far StoringSecond step st a comes act quiet = absurd a
+placed s h xs d (SetVersion version) so_far StoringSecond step st a comes act quiet = absurd a
+placed s h xs d (SetupTable frames) so_far StoringSecond step st a comes act quiet = absurd a
+placed s h xs d (QuerySize dom) so_far StoringSecond step st a comes act quiet = absurd a
+placed s h xs d (GetVersion dom) so_far StoringSecond step st a comes act quiet = absurd a
 
 -- each step is on an entry that there is
 
@@ -394,6 +434,12 @@ step-within s h xs d (Revoke gref) so_far Single step st e own a comes act =
     subst (λ (z : Step). IsWithin xs d z) (makes-same _ _ act) (own, own-below s h xs d (Revoke gref) st e refl)
 step-within s h xs d (Unmap handle) so_far Single step st e own a comes act = unpin-within xs d _ step act
 step-within s h xs d (Load handle off len) so_far Single step st e own a comes act = read-within xs d _ off len step act
+step-within s h xs d (SetVersion version) so_far Single step st e own a comes act = subst (λ (z : Step). IsWithin xs d z) (makes-same _ _ act) tt
+step-within s h xs d (SetupTable frames) so_far Single step st e own a comes act = subst (λ (z : Step). IsWithin xs d z) (makes-same _ _ act) tt
+step-within s h xs d (QuerySize dom) so_far Single step st e own a comes act =
+    subst (λ (z : Step). IsWithin xs d z) (makes-same _ _ act) (state-some s h xs (resolved d dom) st (map-domain true (domain_of s.domains (resolved d dom)) _ e))
+step-within s h xs d (GetVersion dom) so_far Single step st e own a comes act =
+    subst (λ (z : Step). IsWithin xs d z) (makes-same _ _ act) (state-some s h xs (resolved d dom) st (map-domain true (domain_of s.domains (resolved d dom)) _ e))
 step-within s h xs d (Demote gref) so_far (OwnLook more) step st e own a comes act =
     subst (λ (z : Step). IsWithin xs d z) (makes-same _ _ act) (own, own-below s h xs d (Demote gref) st e refl)
 step-within s h xs d (Promote gref) so_far (OwnLook more) step st e own a comes act =
@@ -409,12 +455,20 @@ step-within s h xs d (Promote gref) so_far Storing step st e own a comes act = a
 step-within s h xs d (Map dom gref flags) so_far Storing step st e own a comes act = absurd comes
 step-within s h xs d (Unmap handle) so_far Storing step st e own a comes act = absurd comes
 step-within s h xs d (Load handle off len) so_far Storing step st e own a comes act = absurd comes
+step-within s h xs d (SetVersion version) so_far Storing step st e own a comes act = absurd comes
+step-within s h xs d (SetupTable frames) so_far Storing step st e own a comes act = absurd comes
+step-within s h xs d (QuerySize dom) so_far Storing step st e own a comes act = absurd comes
+step-within s h xs d (GetVersion dom) so_far Storing step st e own a comes act = absurd comes
 step-within s h xs d (Revoke gref) so_far StoringSecond step st e own a comes act = absurd a
 step-within s h xs d (Demote gref) so_far StoringSecond step st e own a comes act = absurd a
 step-within s h xs d (Promote gref) so_far StoringSecond step st e own a comes act = absurd a
 step-within s h xs d (Map dom gref flags) so_far StoringSecond step st e own a comes act = absurd a
 step-within s h xs d (Unmap handle) so_far StoringSecond step st e own a comes act = absurd a
 step-within s h xs d (Load handle off len) so_far StoringSecond step st e own a comes act = absurd a
+step-within s h xs d (SetVersion version) so_far StoringSecond step st e own a comes act = absurd a
+step-within s h xs d (SetupTable frames) so_far StoringSecond step st e own a comes act = absurd a
+step-within s h xs d (QuerySize dom) so_far StoringSecond step st e own a comes act = absurd a
+step-within s h xs d (GetVersion dom) so_far StoringSecond step st e own a comes act = absurd a
 step-within s h xs d (Demote gref) so_far Single step st e own a comes act = absurd comes
 step-within s h xs d (Promote gref) so_far Single step st e own a comes act = absurd comes
 step-within s h xs d (Map dom gref flags) so_far Single step st e own a comes act = absurd comes
@@ -423,11 +477,19 @@ step-within s h xs d (Revoke gref) so_far (OwnLook more) step st e own a comes a
 step-within s h xs d (Map dom gref flags) so_far (OwnLook more) step st e own a comes act = absurd comes
 step-within s h xs d (Unmap handle) so_far (OwnLook more) step st e own a comes act = absurd comes
 step-within s h xs d (Load handle off len) so_far (OwnLook more) step st e own a comes act = absurd comes
+step-within s h xs d (SetVersion version) so_far (OwnLook more) step st e own a comes act = absurd comes
+step-within s h xs d (SetupTable frames) so_far (OwnLook more) step st e own a comes act = absurd comes
+step-within s h xs d (QuerySize dom) so_far (OwnLook more) step st e own a comes act = absurd comes
+step-within s h xs d (GetVersion dom) so_far (OwnLook more) step st e own a comes act = absurd comes
 step-within s h xs d (Grant gref entry) so_far (OwnChange more word) step st e own a comes act = absurd comes
 step-within s h xs d (Revoke gref) so_far (OwnChange more word) step st e own a comes act = absurd comes
 step-within s h xs d (Map dom gref flags) so_far (OwnChange more word) step st e own a comes act = absurd comes
 step-within s h xs d (Unmap handle) so_far (OwnChange more word) step st e own a comes act = absurd comes
 step-within s h xs d (Load handle off len) so_far (OwnChange more word) step st e own a comes act = absurd comes
+step-within s h xs d (SetVersion version) so_far (OwnChange more word) step st e own a comes act = absurd comes
+step-within s h xs d (SetupTable frames) so_far (OwnChange more word) step st e own a comes act = absurd comes
+step-within s h xs d (QuerySize dom) so_far (OwnChange more word) step st e own a comes act = absurd comes
+step-within s h xs d (GetVersion dom) so_far (OwnChange more word) step st e own a comes act = absurd comes
 
 -- what the step sees fits it
 
@@ -443,6 +505,7 @@ seen-fits s h d (PinStep dom gref looked dir) = exchange-fits (word_at s h dom.0
 seen-fits s h d (Exchange gref looked change) = exchange-fits (word_at s h d.0 gref.0 == looked) (word_at s h d.0 gref.0)
 seen-fits s h d (Unpin dom gref dir holder) = refl
 seen-fits s h d (StoreBody gref second word) = refl
+seen-fits s h d (StoreHeader version frames) = refl
 seen-fits s h d (ReadBytes dom frame off len) = refl
 
 phase-fits : (s : Setting) (h : History) (d : DomId) (r : Request) (so_far : StepsSoFar) (phase : Phase) (step : Step) (seen : Seen) → PhaseStands s h d r so_far phase
@@ -473,20 +536,21 @@ abbrev pub stepped : DomId → Step → Seen → Option Answer → Item
 stepped d step seen answer = record { actor = d; happened = Stepped step seen; answer = answer }
 
 pub stepped-quiet : (d : DomId) (step : Step) (seen : Seen) (answer : Option Answer) → changes_nothing step seen ≡ true → one_if_mapped answer ≡ 0 → IsQuiet (stepped d step seen answer)
-stepped-quiet d (LookHeader dom) seen answer q m = record { keeps = record { changes = λ r. refl; pins = λ before. refl; unpins = λ pins. refl; maps = m }; stores = λ r which. refl }
-stepped-quiet d (LookControl dom gref) seen answer q m = record { keeps = record { changes = λ r. refl; pins = λ before. refl; unpins = λ pins. refl; maps = m }; stores = λ r which. refl }
-stepped-quiet d (LookBody dom gref second) seen answer q m = record { keeps = record { changes = λ r. refl; pins = λ before. refl; unpins = λ pins. refl; maps = m }; stores = λ r which. refl }
-stepped-quiet d (ReadBytes dom frame off len) seen answer q m = record { keeps = record { changes = λ r. refl; pins = λ before. refl; unpins = λ pins. refl; maps = m }; stores = λ r which. refl }
-stepped-quiet d (PinStep dom gref looked dir) (Missed w) answer q m = record { keeps = record { changes = λ r. refl; pins = λ before. refl; unpins = λ pins. refl; maps = m }; stores = λ r which. refl }
-stepped-quiet d (PinStep dom gref looked dir) (Value w) answer q m = record { keeps = record { changes = λ r. refl; pins = λ before. refl; unpins = λ pins. refl; maps = m }; stores = λ r which. refl }
-stepped-quiet d (PinStep dom gref looked dir) Nothing answer q m = record { keeps = record { changes = λ r. refl; pins = λ before. refl; unpins = λ pins. refl; maps = m }; stores = λ r which. refl }
+stepped-quiet d (LookHeader dom) seen answer q m = record { keeps = record { changes = λ r. refl; pins = λ before. refl; unpins = λ pins. refl; maps = m }; stores = λ r which. refl; header = refl }
+stepped-quiet d (LookControl dom gref) seen answer q m = record { keeps = record { changes = λ r. refl; pins = λ before. refl; unpins = λ pins. refl; maps = m }; stores = λ r which. refl; header = refl }
+stepped-quiet d (LookBody dom gref second) seen answer q m = record { keeps = record { changes = λ r. refl; pins = λ before. refl; unpins = λ pins. refl; maps = m }; stores = λ r which. refl; header = refl }
+stepped-quiet d (ReadBytes dom frame off len) seen answer q m = record { keeps = record { changes = λ r. refl; pins = λ before. refl; unpins = λ pins. refl; maps = m }; stores = λ r which. refl; header = refl }
+stepped-quiet d (PinStep dom gref looked dir) (Missed w) answer q m = record { keeps = record { changes = λ r. refl; pins = λ before. refl; unpins = λ pins. refl; maps = m }; stores = λ r which. refl; header = refl }
+stepped-quiet d (PinStep dom gref looked dir) (Value w) answer q m = record { keeps = record { changes = λ r. refl; pins = λ before. refl; unpins = λ pins. refl; maps = m }; stores = λ r which. refl; header = refl }
+stepped-quiet d (PinStep dom gref looked dir) Nothing answer q m = record { keeps = record { changes = λ r. refl; pins = λ before. refl; unpins = λ pins. refl; maps = m }; stores = λ r which. refl; header = refl }
 stepped-quiet d (PinStep dom gref looked dir) Taken answer q m = absurd (false≢true q)
-stepped-quiet d (Exchange gref looked change) (Missed w) answer q m = record { keeps = record { changes = λ r. refl; pins = λ before. refl; unpins = λ pins. refl; maps = m }; stores = λ r which. refl }
-stepped-quiet d (Exchange gref looked change) (Value w) answer q m = record { keeps = record { changes = λ r. refl; pins = λ before. refl; unpins = λ pins. refl; maps = m }; stores = λ r which. refl }
-stepped-quiet d (Exchange gref looked change) Nothing answer q m = record { keeps = record { changes = λ r. refl; pins = λ before. refl; unpins = λ pins. refl; maps = m }; stores = λ r which. refl }
+stepped-quiet d (Exchange gref looked change) (Missed w) answer q m = record { keeps = record { changes = λ r. refl; pins = λ before. refl; unpins = λ pins. refl; maps = m }; stores = λ r which. refl; header = refl }
+stepped-quiet d (Exchange gref looked change) (Value w) answer q m = record { keeps = record { changes = λ r. refl; pins = λ before. refl; unpins = λ pins. refl; maps = m }; stores = λ r which. refl; header = refl }
+stepped-quiet d (Exchange gref looked change) Nothing answer q m = record { keeps = record { changes = λ r. refl; pins = λ before. refl; unpins = λ pins. refl; maps = m }; stores = λ r which. refl; header = refl }
 stepped-quiet d (Exchange gref looked change) Taken answer q m = absurd (false≢true q)
 stepped-quiet d (Unpin dom gref dir holder) seen answer q m = absurd (false≢true q)
 stepped-quiet d (StoreBody gref second word) seen answer q m = absurd (false≢true q)
+stepped-quiet d (StoreHeader version frames) seen answer q m = absurd (false≢true q)
 
 -- what is known of a step of an open call
 pub record Stepping (s : Setting) (h : History) (d : DomId) (o : Open) (c : Underway) (seen : Seen) (new : Call) (action : Action) : Type 0 where
@@ -706,6 +770,10 @@ step-justified s h xs d (Promote gref) Storing step st act = cc
 step-justified s h xs d (Map dom gref flags) Storing step st act = cc
 step-justified s h xs d (Unmap handle) Storing step st act = cc
 step-justified s h xs d (Load handle off len) Storing step st act = cc
+step-justified s h xs d (SetVersion version) Storing step st act = cc
+step-justified s h xs d (SetupTable frames) Storing step st act = cc
+step-justified s h xs d (QuerySize dom) Storing step st act = cc
+step-justified s h xs d (GetVersion dom) Storing step st act = cc
 step-justified s h xs d (Grant gref entry) StoringSecond step st act = subst (λ (z : Step). Justified s h d z) (makes-same _ _ act) tt
 step-justified s h xs d (Revoke gref) StoringSecond step st act = cc
 step-justified s h xs d (Demote gref) StoringSecond step st act = cc
@@ -713,6 +781,10 @@ step-justified s h xs d (Promote gref) StoringSecond step st act = cc
 step-justified s h xs d (Map dom gref flags) StoringSecond step st act = cc
 step-justified s h xs d (Unmap handle) StoringSecond step st act = cc
 step-justified s h xs d (Load handle off len) StoringSecond step st act = cc
+step-justified s h xs d (SetVersion version) StoringSecond step st act = cc
+step-justified s h xs d (SetupTable frames) StoringSecond step st act = cc
+step-justified s h xs d (QuerySize dom) StoringSecond step st act = cc
+step-justified s h xs d (GetVersion dom) StoringSecond step st act = cc
 step-justified s h xs d (Grant gref entry) Single step st act = subst (λ (z : Step). Justified s h d z) (makes-same _ _ act) tt
 step-justified s h xs d (Revoke gref) Single step st act = subst (λ (z : Step). Justified s h d z) (makes-same _ _ act) tt
 step-justified s h xs d (Demote gref) Single step st act = cc
@@ -720,6 +792,10 @@ step-justified s h xs d (Promote gref) Single step st act = cc
 step-justified s h xs d (Map dom gref flags) Single step st act = cc
 step-justified s h xs d (Unmap handle) Single step st act = unpin-justified s h d _ step act
 step-justified s h xs d (Load handle off len) Single step st act = read-justified s h xs d handle _ off len step st refl act
+step-justified s h xs d (SetVersion version) Single step st act = subst (λ (z : Step). Justified s h d z) (makes-same _ _ act) tt
+step-justified s h xs d (SetupTable frames) Single step st act = subst (λ (z : Step). Justified s h d z) (makes-same _ _ act) tt
+step-justified s h xs d (QuerySize dom) Single step st act = subst (λ (z : Step). Justified s h d z) (makes-same _ _ act) tt
+step-justified s h xs d (GetVersion dom) Single step st act = subst (λ (z : Step). Justified s h d z) (makes-same _ _ act) tt
 step-justified s h xs d r (OwnLook more) step st act = subst (λ (z : Step). Justified s h d z) (makes-same _ _ act) tt
 step-justified s h xs d r (OwnChange more word) step st act = subst (λ (z : Step). Justified s h d z) (makes-same _ _ act) tt
 step-justified s h xs d r (Ended v) step st act = cc
@@ -736,6 +812,7 @@ quiet-safe s h d (Exchange gref looked change) Nothing answer q = tt
 quiet-safe s h d (Exchange gref looked change) Taken answer q = absurd (false≢true q)
 quiet-safe s h d (Unpin dom gref dir holder) seen answer q = tt
 quiet-safe s h d (StoreBody gref second word) seen answer q = tt
+quiet-safe s h d (StoreHeader version frames) seen answer q = tt
 
 quiet-sound : (s : Setting) (h : History) (d : DomId) (r : Request) (step : Step) (seen : Seen) → changes_nothing step seen ≡ true → PinIsSound s h d r step seen
 quiet-sound s h d r (LookHeader dom) seen q = tt
@@ -749,6 +826,7 @@ quiet-sound s h d r (PinStep dom gref looked dir) Taken q = absurd (false≢true
 quiet-sound s h d r (Exchange gref looked change) seen q = tt
 quiet-sound s h d r (Unpin dom gref dir holder) seen q = tt
 quiet-sound s h d r (StoreBody gref second word) seen q = tt
+quiet-sound s h d r (StoreHeader version frames) seen q = tt
 
 -- a call that goes on has made fewer steps than its bound
 goes-soon : (s : Setting) (h : History) (d : DomId) (o : Open) (c : Underway) (seen : Seen) (new : Call) (step : Step) → OpenAgrees s h d o c → Stepping s h d o c seen new (Makes step)
@@ -849,6 +927,10 @@ store-granted (Promote gref) denial e = cc
 store-granted (Map dom gref flags) denial e = cc
 store-granted (Unmap handle) denial e = cc
 store-granted (Load handle off len) denial e = cc
+store-granted (SetVersion version) denial e = cc
+store-granted (SetupTable frames) denial e = cc
+store-granted (QuerySize dom) denial e = cc
+store-granted (GetVersion dom) denial e = cc
 
 second-granted : (r : Request) (denial : Denial) → Done (Refused denial) ≡ second_at r → ⊥
 second-granted (Grant gref entry) denial e = cc
@@ -858,6 +940,10 @@ second-granted (Promote gref) denial e = cc
 second-granted (Map dom gref flags) denial e = cc
 second-granted (Unmap handle) denial e = cc
 second-granted (Load handle off len) denial e = cc
+second-granted (SetVersion version) denial e = cc
+second-granted (SetupTable frames) denial e = cc
+second-granted (QuerySize dom) denial e = cc
+second-granted (GetVersion dom) denial e = cc
 
 unpin-granted : (m : Option Mapping) (denial : Denial) → Done (Refused denial) ≡ unpin_of m → ⊥
 unpin-granted None denial e = cc
@@ -867,14 +953,18 @@ read-granted : (m : Option Mapping) (off len : ℕ) (denial : Denial) → Done (
 read-granted None off len denial e = cc
 read-granted (Some m) off len denial e = cc
 
-single-granted : (k : CallerKnowledge) (r : Request) (denial : Denial) → Done (Refused denial) ≡ single_at k r → ⊥
-single-granted k (Grant gref entry) denial e = cc
-single-granted k (Revoke gref) denial e = cc
-single-granted k (Demote gref) denial e = cc
-single-granted k (Promote gref) denial e = cc
-single-granted k (Map dom gref flags) denial e = cc
-single-granted k (Unmap handle) denial e = unpin-granted (mapping_of k.mappings handle) denial e
-single-granted k (Load handle off len) denial e = read-granted (mapping_of k.mappings handle) off len denial e
+single-granted : (k : CallerKnowledge) (d : DomId) (r : Request) (denial : Denial) → Done (Refused denial) ≡ single_at k d r → ⊥
+single-granted k d (Grant gref entry) denial e = cc
+single-granted k d (Revoke gref) denial e = cc
+single-granted k d (Demote gref) denial e = cc
+single-granted k d (Promote gref) denial e = cc
+single-granted k d (Map dom gref flags) denial e = cc
+single-granted k d (Unmap handle) denial e = unpin-granted (mapping_of k.mappings handle) denial e
+single-granted k d (Load handle off len) denial e = read-granted (mapping_of k.mappings handle) off len denial e
+single-granted k d (SetVersion version) denial e = cc
+single-granted k d (SetupTable frames) denial e = cc
+single-granted k d (QuerySize dom) denial e = cc
+single-granted k d (GetVersion dom) denial e = cc
 
 abbrev refusal_of_action : Action → Option Denial
 refusal_of_action (Makes step) = None
@@ -886,7 +976,7 @@ ended-refusal k d r PhaseBegun denial e = cc
 ended-refusal k d r (LegPinning l p) denial e = cc
 ended-refusal k d r Storing denial e = absurd (store-granted r denial e)
 ended-refusal k d r StoringSecond denial e = absurd (second-granted r denial e)
-ended-refusal k d r Single denial e = absurd (single-granted k r denial e)
+ended-refusal k d r Single denial e = absurd (single-granted k d r denial e)
 ended-refusal k d r (OwnLook more) denial e = cc
 ended-refusal k d r (OwnChange more word) denial e = cc
 ended-refusal k d r (Ended v) denial e = ap refusal_of_action (sym e)
@@ -948,6 +1038,7 @@ seen-missed s h d (Exchange gref looked change) w e = refl
 seen-missed s h d (ReadBytes dom frame off len) w e = refl
 seen-missed s h d (Unpin dom gref dir holder) w e = let f : Nothing ≡ Missed w = e in cc
 seen-missed s h d (StoreBody gref second word) w e = let f : Nothing ≡ Missed w = e in cc
+seen-missed s h d (StoreHeader version frames) w e = let f : Nothing ≡ Missed w = e in cc
 
 single-missed : (d : DomId) (gref : GrantRef) (seen : Seen) (denial : Denial) → phase_refusal (after_single d gref seen) ≡ Some denial → (w : ℕ) × (seen ≡ Missed w)
 single-missed d gref Nothing denial e = absurd (none-some denial e)

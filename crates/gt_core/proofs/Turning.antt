@@ -14,11 +14,11 @@ use Rattle.gt_entry.specs.declared.entry.Entry.TheVariants.{Invalid, Page, Sub, 
 use Rattle.gt_types.specs.declared.Dir.{Dir}
 use Rattle.gt_types.specs.declared.Dir.TheVariants.{Read, Write}
 use Rattle.gt_core.specs.declared.request.Request.{Request}
-use Rattle.gt_core.specs.declared.request.Request.TheVariants.{Grant, Revoke, Demote, Promote, Map, Unmap, Load}
+use Rattle.gt_core.specs.declared.request.Request.TheVariants.{Grant, Revoke, Demote, Promote, Map, Unmap, Load, SetVersion, SetupTable, QuerySize, GetVersion}
 use Rattle.gt_core.specs.declared.action.Verdict.TheVariants.{Granted}
 use Rattle.gt_core.specs.declared.action.Change.{Change}
 use Rattle.gt_core.specs.declared.action.Step.{Step}
-use Rattle.gt_core.specs.declared.action.Step.TheVariants.{LookHeader, LookControl, LookBody, Pin as PinStep, Unpin, StoreBody, Exchange, Read as ReadBytes}
+use Rattle.gt_core.specs.declared.action.Step.TheVariants.{LookHeader, LookControl, LookBody, Pin as PinStep, Unpin, StoreBody, StoreHeader, Exchange, Read as ReadBytes}
 use Rattle.gt_core.specs.declared.action.Seen.{Seen}
 use Rattle.gt_core.specs.declared.action.Seen.TheVariants.{Nothing, Value, Taken, Missed}
 use Rattle.gt_core.specs.declared.action.Action.TheVariants.{Step as Makes, Done}
@@ -47,10 +47,10 @@ use Rattle.gt_core.specs.declared.slot.Slot.{Slot}
 use Rattle.gt_core.specs.declared.slot.SlotChange.TheVariants.{Stored}
 use Rattle.gt_core.specs.Rules.{first_body, second_body, begun}
 use Rattle.gt_core.specs.History.{or_else, stored_at}
-use Rattle.gt_core.specs.Standing.{SlotAgrees, FitsWord}
+use Rattle.gt_core.specs.Standing.{SlotAgrees, FitsTable, FitsWord}
 use Rattle.gt_core.proofs.Rows.{get-changed, length-changed, state-changed}
 use Rattle.gt_core.proofs.Others.{other-agrees, other-body}
-use Rattle.gt_core.proofs.Quiet.{KeepsKnown, kept-entry, kept-raises, kept-live, kept-maps_answered, kept-generations, kept-known, kept-contents}
+use Rattle.gt_core.proofs.Quiet.{KeepsKnown, kept-entry, kept-raises, kept-live, kept-maps_answered, kept-generations, kept-table, kept-known, kept-contents}
 use Rattle.gt_core.proofs.Ticking.{Stepping, stepped, goes-on-after, going-right, makes-same, grant-invalid, one-more}
 
 -- a step that changes nothing leaves the states
@@ -69,6 +69,7 @@ applied-quiet d (Exchange gref looked change) Nothing xs q = refl
 applied-quiet d (Exchange gref looked change) Taken xs q = absurd (false≢true q)
 applied-quiet d (Unpin dom gref dir holder) seen xs q = absurd (false≢true q)
 applied-quiet d (StoreBody gref second word) seen xs q = absurd (false≢true q)
+applied-quiet d (StoreHeader version frames) seen xs q = absurd (false≢true q)
 
 -- a call that goes on after a step that changes something has stored a body word of its grant
 
@@ -169,7 +170,7 @@ store-agrees s h x gref second word o a call =
     let i = stepped x.id (StoreBody gref second word) Nothing None in
     let k = store-keeps x.id gref second word in
     record {
-      header = a.header;
+      header = a.header ∙ sym (kept-table s i h x.id refl);
       rows = a.rows;
       entries = a.entries ∙ fun_ext (λ r. sym (kept-entry i h x.id.0 r k));
       generations = a.generations ∙ sym (kept-generations s i h x.id.0 k);
@@ -191,7 +192,7 @@ store-stands s h xs x gref second word o st here a invalid call =
     let k = store-keeps x.id gref second word in
     record {
       each = λ dom. each dom;
-      tables = st.tables;
+      tables = λ dom. subst FitsTable (sym (kept-table s i h dom refl)) (st.tables dom);
       words = λ t r within. subst FitsWord (sym (kept-control t r)) (st.words t r within);
       lawful = subst (All (IsLawful s)) (sym (kept-live i h k)) st.lawful;
       free = λ t r e. let was = st.free t r (sym (kept-entry i h t r k) ∙ e) in
@@ -361,12 +362,20 @@ stores-next s h d (Promote gref) so_far Storing step next a comes act q e = absu
 stores-next s h d (Map dom gref flags) so_far Storing step next a comes act q e = absurd comes
 stores-next s h d (Unmap handle) so_far Storing step next a comes act q e = absurd comes
 stores-next s h d (Load handle off len) so_far Storing step next a comes act q e = absurd comes
+stores-next s h d (SetVersion version) so_far Storing step next a comes act q e = absurd comes
+stores-next s h d (SetupTable frames) so_far Storing step next a comes act q e = absurd comes
+stores-next s h d (QuerySize dom) so_far Storing step next a comes act q e = absurd comes
+stores-next s h d (GetVersion dom) so_far Storing step next a comes act q e = absurd comes
 stores-next s h d (Revoke gref) so_far StoringSecond step next a comes act q e = absurd a
 stores-next s h d (Demote gref) so_far StoringSecond step next a comes act q e = absurd a
 stores-next s h d (Promote gref) so_far StoringSecond step next a comes act q e = absurd a
 stores-next s h d (Map dom gref flags) so_far StoringSecond step next a comes act q e = absurd a
 stores-next s h d (Unmap handle) so_far StoringSecond step next a comes act q e = absurd a
 stores-next s h d (Load handle off len) so_far StoringSecond step next a comes act q e = absurd a
+stores-next s h d (SetVersion version) so_far StoringSecond step next a comes act q e = absurd a
+stores-next s h d (SetupTable frames) so_far StoringSecond step next a comes act q e = absurd a
+stores-next s h d (QuerySize dom) so_far StoringSecond step next a comes act q e = absurd a
+stores-next s h d (GetVersion dom) so_far StoringSecond step next a comes act q e = absurd a
 
 -- a loud step of a call that goes on: it is right, and the core stands for it
 pub tick-stores : (s : Setting) (h : History) (xs : List State) (x : State) (o : Open) (c : Underway) (seen : Seen) (new : Call) (next : Step) → CoreStands s h xs
@@ -397,7 +406,7 @@ tick-stores s h xs x o c seen new next st here a call oa w loud =
         (subst (λ (v : Seen). OpenAgrees s (stepped x.id o.step v None ∷ h) x.id o' (one-more c o.step v)) nothing
         (goes-on-after s h x.id o c seen new next
         (subst (λ (v : Seen). known_at s (stepped x.id o.step v None ∷ h) x.id ≡ known_at s h x.id) (sym nothing)
-        (subst (λ (z : Step). known_at s (stepped x.id z Nothing None ∷ h) x.id ≡ known_at s h x.id) (sym is) (kept-known s i h x.id (store-keeps x.id gref second word))))
+        (subst (λ (z : Step). known_at s (stepped x.id z Nothing None ∷ h) x.id ≡ known_at s h x.id) (sym is) (kept-known s i h x.id (store-keeps x.id gref second word) refl)))
         call oa w
         (subst (λ (v : Seen). PhaseStands s (stepped x.id o.step v None ∷ h) x.id c.request ((o.step, v) ∷ reverse c.steps) new.phase) (sym nothing)
         (subst (λ (z : Step). PhaseStands s (stepped x.id z Nothing None ∷ h) x.id c.request ((z, Nothing) ∷ reverse c.steps) new.phase) (sym is) place)))) in

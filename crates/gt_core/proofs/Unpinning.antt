@@ -21,9 +21,9 @@ use Rattle.gt_core.specs.declared.trace.Answer.TheVariants.{Done as AnswerDone}
 use Rattle.gt_core.specs.Rules.{mapping_of, control_with}
 use Rattle.gt_core.specs.States.{State, state_of, changed_in}
 use Rattle.gt_core.specs.Effects.{with_slot, with_underway, without_mapping, slot_after, less}
-use Rattle.gt_core.specs.History.{History, Setting, Pin, live, entry_at, raises_at, generation_at, body_at, reads_at, writes_at, control_at, mappings_at, mappings_in, maps_answered_at, open_call, is_pin_on, without, is_holder, is_handle, frame_of, Underway, change_of, change_at, entry_after, raise_after, or_else, stored_at, mapping_on, same_dir}
+use Rattle.gt_core.specs.History.{History, Setting, Pin, live, entry_at, raises_at, generation_at, body_at, reads_at, writes_at, control_at, mappings_at, mappings_in, maps_answered_at, open_call, is_pin_on, without, is_holder, is_handle, frame_of, Underway, change_of, change_at, entry_after, raise_after, or_else, stored_at, header_stored, mapping_on, same_dir}
 use Rattle.gt_core.specs.Legal.{IsSpelled}
-use Rattle.gt_core.specs.Standing.{IsLawful, FitsWord, SlotAgrees, Agrees, StateAgrees, CoreStands, CallAgrees}
+use Rattle.gt_core.specs.Standing.{IsLawful, FitsTable, FitsWord, SlotAgrees, Agrees, StateAgrees, CoreStands, CallAgrees}
 use Rattle.gt_core.proofs.Rows.{get-changed, length-changed, state-changed}
 use Rattle.std.specs.Option.{option_map}
 use mathlib.Core.Path.{fun_ext}
@@ -33,7 +33,7 @@ use Rattle.std.proofs.lemmas.List.{append-nil}
 use Rattle.std.proofs.lemmas.List.Sums.{sum_by-cons, sum_by-append}
 use Rattle.std.proofs.lemmas.List.Elements.{All-cons, All-head, All-tail}
 use Rattle.gt_core.specs.Rows.{changed_at}
-use Rattle.gt_core.proofs.Quiet.{kept-contents}
+use Rattle.gt_core.proofs.Quiet.{kept-contents, kept-table}
 use Rattle.gt_core.proofs.Beginning.{open_call-own}
 use Rattle.gt_core.proofs.Others.{other-agrees}
 
@@ -186,11 +186,12 @@ all-drop P (x ∷ front) p back a = All-cons P x (front ++ back) (All-head P x (
 pub all-less : (P : Pin → Type 0) (m : Mapping) (whole less : List Pin) → Loses m whole less → All P whole → All P less
 all-less P m whole less l a = subst (All P) (sym l.left) (all-drop P l.front l.pin l.back (subst (All P) l.is a))
 
--- items that change no entry and store no body word
+-- items that change no entry and store no word
 
 pub record KeepsEntries (i : Item) : Type 0 where
   pub changes : (r : ℕ) → change_at i.happened r ≡ None
   pub stores : (r : ℕ) (which : Bool) → stored_at i.happened r which ≡ None
+  pub header : header_stored i.happened ≡ None
 
 cond-same : {A : Type 0} (b : Bool) (x : A) → cond b x x ≡ x
 cond-same true x = refl
@@ -231,7 +232,7 @@ pub actor-agrees : (s : Setting) (i : Item) (h : History) (x : State) (slots : L
     → Agrees s (i ∷ h) (record x { slots = slots; mappings = mappings; maps_answered = answered; underway = None })
 actor-agrees s i h x slots mappings answered q a len agree same count over =
     record {
-      header = a.header;
+      header = a.header ∙ sym (kept-table s i h x.id q.header);
       rows = a.rows;
       frames = λ f below. a.frames f below ∙ ap (λ (l : List ℕ). Some l) (sym (kept-contents i h x.id.0 f));
       entries = a.entries ∙ fun_ext (λ r. sym (same-entry i h x.id.0 r q));
@@ -304,7 +305,7 @@ abbrev unpins : DomId → Mapping → Item
 unpins d m = record { actor = d; happened = Stepped (Unpin m.dom m.gref m.dir (ByMapping m.handle)) Nothing; answer = Some AnswerDone }
 
 unpins-keeps : (d : DomId) (m : Mapping) → KeepsEntries (unpins d m)
-unpins-keeps d m = record { changes = λ r. refl; stores = λ r which. refl }
+unpins-keeps d m = record { changes = λ r. refl; stores = λ r which. refl; header = refl }
 
 unpinned-live : (d : DomId) (m : Mapping) (h : History) → live (unpins d m ∷ h) ≡ without d.0 (ByMapping m.handle) (live h)
 unfolding live
@@ -442,7 +443,7 @@ unpin-stands s h xs d x handle m st here same found =
           (sym (state-changed (changed_in m.dom.0 (with_slot m.gref.0 (Unpinned m.dir)) (changed_in d.0 (with_underway None) xs)) d.0 q.0 (without_mapping (ByMapping m.handle)) (λ y. refl)
           ∙ ap (after_change (d.0 == q.0) (without_mapping (ByMapping m.handle))) (state-twice xs d.0 m.dom.0 q.0 (with_underway None) (with_slot m.gref.0 (Unpinned m.dir)) (λ y. refl) (λ y. refl))))
           (unpinned-state s h d m q (d.0 == q.0) (m.dom.0 == q.0) (state_of xs q.0) refl refl own (st.each q));
-      tables = λ dom. st.tables dom;
+      tables = λ dom. subst FitsTable (sym (kept-table s i h dom refl)) (st.tables dom);
       words = λ t r within.
           let was = counts-fit s h t r (st.words t r within) in
           word-fits s i h t r keeps (le-lt (reads_at (i ∷ h) t r) (reads_at h t r) 4096 (unpinned-le d m h t r Read own) was.0)

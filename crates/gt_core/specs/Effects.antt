@@ -1,5 +1,5 @@
 -- What a step does to the states of the domains: the code's own representation, which stands here since private contracts cite it.
-use Rattle.std.specs.Prelude.{ℕ, true, false, List, [], ◌∷◌, ◌++◌, Option, Some, None, if◌then◌else◌, ◌+◌, ◌-◌, ◌^◌, min, take, drop, slice_get}
+use Rattle.std.specs.Prelude.{ℕ, true, false, List, [], ◌∷◌, ◌++◌, Option, Some, None, if◌then◌else◌, ◌+◌, ◌-◌, ◌^◌, ◌%◌, min, take, drop, slice_get}
 use Rattle.gt_types.specs.declared.DomId.{DomId}
 use Rattle.gt_types.specs.declared.Dir.TheVariants.{Read, Write}
 use Rattle.gt_core.specs.declared.request.Handle.{Handle}
@@ -7,7 +7,7 @@ use Rattle.gt_core.specs.declared.request.Holder.{Holder}
 use Rattle.gt_core.specs.declared.request.Holder.TheVariants.{Mapping as ByMapping, Leg as ByLeg}
 use Rattle.gt_core.specs.declared.action.Change.{Change}
 use Rattle.gt_core.specs.declared.action.Step.{Step}
-use Rattle.gt_core.specs.declared.action.Step.TheVariants.{Pin, Unpin, StoreBody, Exchange}
+use Rattle.gt_core.specs.declared.action.Step.TheVariants.{Pin, Unpin, StoreBody, StoreHeader, Exchange}
 use Rattle.gt_core.specs.declared.action.Seen.{Seen}
 use Rattle.gt_core.specs.declared.action.Seen.TheVariants.{Taken}
 use Rattle.gt_core.specs.declared.known.Own.{Own}
@@ -41,6 +41,10 @@ with_slot r change x = record x { slots = changed_at r (slot_after change) x.slo
 abbrev pub with_own : ℕ → Change → State → State
 with_own r change x = record x { own = changed_at r (own_after change) x.own }
 
+-- the state with another header of its table, as far as its word has room (own)
+abbrev pub with_header : ℕ → ℕ → State → State
+with_header version frames x = record x { header = record { version = version % 4; frames = frames % 256 } }
+
 -- the state with this call under way, or none (own)
 abbrev pub with_underway : Option Open → State → State
 with_underway underway x = record x { underway = underway }
@@ -64,6 +68,7 @@ abbrev pub applied : DomId → Step → Seen → List State → List State
 applied d (Pin t gref looked dir) Taken xs = changed_in t.0 (with_slot gref.0 (Pinned dir)) xs
 applied d (Unpin t gref dir holder) seen xs = changed_in d.0 (without_mapping holder) (changed_in t.0 (with_slot gref.0 (Unpinned dir)) xs)
 applied d (StoreBody gref second word) seen xs = changed_in d.0 (with_slot gref.0 (Stored second word)) xs
+applied d (StoreHeader version frames) seen xs = changed_in d.0 (with_header version frames) xs
 applied d (Exchange gref looked change) Taken xs = changed_in d.0 (with_own gref.0 change) xs
 applied d step seen xs = xs
 

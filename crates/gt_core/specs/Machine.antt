@@ -6,6 +6,7 @@ use Rattle.gt_types.specs.declared.denial.Rule.{Rule}
 use Rattle.gt_types.specs.declared.denial.Rule.TheVariants.{N9, N18, N19}
 use Rattle.gt_types.specs.declared.denial.Facts.TheVariants.{Header as HeaderFacts}
 use Rattle.gt_types.specs.Denial.{denial_of}
+use Rattle.gt_types.specs.Names.{resolved}
 use Rattle.gt_entry.specs.declared.control.Kind.TheVariants.{Sub as KindSub}
 use Rattle.gt_entry.specs.Words.{control_of, header_of}
 use Rattle.gt_core.specs.declared.action.Verdict.{Verdict}
@@ -17,13 +18,13 @@ use Rattle.gt_core.specs.declared.known.Mapping.{Mapping}
 use Rattle.gt_core.specs.declared.request.Holder.TheVariants.{Mapping as HeldBy}
 use Rattle.gt_entry.specs.declared.entry.Entry.TheVariants.{Sub}
 use Rattle.gt_core.specs.declared.action.Step.{Step}
-use Rattle.gt_core.specs.declared.action.Step.TheVariants.{LookHeader, LookControl, LookBody, Pin, Unpin, StoreBody, Exchange, Read as ReadBytes}
+use Rattle.gt_core.specs.declared.action.Step.TheVariants.{LookHeader, LookControl, LookBody, Pin, Unpin, StoreBody, StoreHeader, Exchange, Read as ReadBytes}
 use Rattle.gt_core.specs.declared.call.Start.{Start}
 use Rattle.gt_core.specs.declared.call.Start.TheVariants.{Open, Done as StartDone}
 use Rattle.gt_core.specs.declared.call.Phase.{Phase}
 use Rattle.gt_core.specs.declared.call.Phase.TheVariants.{Begun, Pinning as LegPinning, Storing, StoringSecond, Single, Look as OwnLook, Change as OwnChange, Ended}
 use Rattle.gt_core.specs.declared.request.Request.{Request}
-use Rattle.gt_core.specs.declared.request.Request.TheVariants.{Grant, Revoke, Demote, Promote, Map, Unmap, Load}
+use Rattle.gt_core.specs.declared.request.Request.TheVariants.{Grant, Revoke, Demote, Promote, Map, Unmap, Load, SetVersion, SetupTable, QuerySize, GetVersion}
 use Rattle.gt_core.specs.declared.action.Seen.{Seen}
 use Rattle.gt_core.specs.declared.action.Seen.TheVariants.{Nothing, Value, Taken, Missed}
 use Rattle.gt_core.specs.declared.leg.Leg.{Leg}
@@ -142,6 +143,10 @@ single_to_come k caller (Grant gref entry) = publishes k caller gref entry
 single_to_come k caller (Revoke gref) = steps_of k caller (Revoke gref)
 single_to_come k caller (Unmap handle) = steps_of k caller (Unmap handle)
 single_to_come k caller (Load handle off len) = steps_of k caller (Load handle off len)
+single_to_come k caller (SetVersion version) = steps_of k caller (SetVersion version)
+single_to_come k caller (SetupTable frames) = steps_of k caller (SetupTable frames)
+single_to_come k caller (QuerySize dom) = steps_of k caller (QuerySize dom)
+single_to_come k caller (GetVersion dom) = steps_of k caller (GetVersion dom)
 single_to_come k caller _ = nowhere
 
 -- what a grant has to come before it stored a word (own)
@@ -196,6 +201,7 @@ FitsStep (Pin dom gref looked dir) seen = IsExchanged seen
 FitsStep (Exchange gref looked change) seen = IsExchanged seen
 FitsStep (Unpin dom gref dir holder) seen = seen ≡ Nothing
 FitsStep (StoreBody gref second word) seen = seen ≡ Nothing
+FitsStep (StoreHeader version frames) seen = seen ≡ Nothing
 FitsStep (ReadBytes dom frame off len) seen = seen ≡ Nothing
 
 -- a call as a machine
@@ -209,6 +215,10 @@ own_gref (Promote gref) = gref
 own_gref (Map dom gref flags) = gref
 own_gref (Unmap handle) = record { 0 = 0 }
 own_gref (Load handle off len) = record { 0 = 0 }
+own_gref (SetVersion version) = record { 0 = 0 }
+own_gref (SetupTable frames) = record { 0 = 0 }
+own_gref (QuerySize dom) = record { 0 = 0 }
+own_gref (GetVersion dom) = record { 0 = 0 }
 
 -- the grant of a sub-page (own)
 abbrev pub is_sub : Request → Bool
@@ -224,6 +234,10 @@ first_phase k caller (Promote gref) = OwnLook 3
 first_phase k caller (Map dom gref flags) = LegPinning (map_leg k caller dom gref flags) Header
 first_phase k caller (Unmap handle) = Single
 first_phase k caller (Load handle off len) = Single
+first_phase k caller (SetVersion version) = Single
+first_phase k caller (SetupTable frames) = Single
+first_phase k caller (QuerySize dom) = Single
+first_phase k caller (GetVersion dom) = Single
 
 -- where a call stands after a step of its leg (own)
 abbrev pub after_leg : Leg → LegNext → Phase
@@ -270,13 +284,17 @@ abbrev pub read_of : Option Mapping → ℕ → ℕ → Action
 read_of None off len = Done Granted
 read_of (Some m) off len = Makes (ReadBytes m.dom m.frame off len)
 
--- the exchange of a grant or revoke, or the only step of an unmap or load (own)
-abbrev pub single_at : CallerKnowledge → Request → Action
-single_at k (Grant gref entry) = Makes (Exchange gref (idle_word k gref) (Publish entry))
-single_at k (Revoke gref) = Makes (Exchange gref (idle_word k gref) ToInvalid)
-single_at k (Unmap handle) = unpin_of (mapping_of k.mappings handle)
-single_at k (Load handle off len) = read_of (mapping_of k.mappings handle) off len
-single_at k _ = Done Granted
+-- the exchange of a grant or revoke, or the only step of a call that makes one (own)
+abbrev pub single_at : CallerKnowledge → DomId → Request → Action
+single_at k caller (Grant gref entry) = Makes (Exchange gref (idle_word k gref) (Publish entry))
+single_at k caller (Revoke gref) = Makes (Exchange gref (idle_word k gref) ToInvalid)
+single_at k caller (Unmap handle) = unpin_of (mapping_of k.mappings handle)
+single_at k caller (Load handle off len) = read_of (mapping_of k.mappings handle) off len
+single_at k caller (SetVersion version) = Makes (StoreHeader version k.header.frames)
+single_at k caller (SetupTable frames) = Makes (StoreHeader k.header.version frames)
+single_at k caller (QuerySize dom) = Makes (LookHeader (resolved caller dom))
+single_at k caller (GetVersion dom) = Makes (LookHeader (resolved caller dom))
+single_at k caller _ = Done Granted
 
 -- the store of the first body word of a grant (own)
 abbrev pub store_at : Request → Action
@@ -294,7 +312,7 @@ action_at k caller request Begun = Done Granted
 action_at k caller request (LegPinning l phase) = Makes (leg_step l phase)
 action_at k caller request Storing = store_at request
 action_at k caller request StoringSecond = second_at request
-action_at k caller request Single = single_at k request
+action_at k caller request Single = single_at k caller request
 action_at k caller request (OwnLook more) = Makes (LookControl caller (own_gref request))
 action_at k caller request (OwnChange more word) = Makes (Exchange (own_gref request) word (to_ro_or_back (is_demote request)))
 action_at k caller request (Ended verdict) = Done verdict

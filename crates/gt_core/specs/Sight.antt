@@ -3,7 +3,7 @@ use Rattle.std.specs.Prelude.{ℕ, Bool, true, false, ◌==◌, if◌then◌else
 use Rattle.gt_types.specs.declared.DomId.{DomId}
 use Rattle.gt_entry.specs.Words.{control_word, header_word}
 use Rattle.gt_core.specs.declared.action.Step.{Step}
-use Rattle.gt_core.specs.declared.action.Step.TheVariants.{LookHeader, LookControl, LookBody, Pin, Unpin, StoreBody, Exchange, Read as ReadBytes}
+use Rattle.gt_core.specs.declared.action.Step.TheVariants.{LookHeader, LookControl, LookBody, Pin, Unpin, StoreBody, StoreHeader, Exchange, Read as ReadBytes}
 use Rattle.gt_core.specs.declared.action.Seen.{Seen}
 use Rattle.gt_core.specs.declared.action.Seen.TheVariants.{Nothing, Value, Taken}
 use Rattle.gt_core.specs.declared.known.Own.{Own}
@@ -80,4 +80,5 @@ sees xs d (Pin dom gref looked dir) = exchange_sees (control_seen xs dom.0 gref.
 sees xs d (Exchange gref looked change) = exchange_sees (control_seen xs d.0 gref.0) looked
 sees xs d (Unpin dom gref dir holder) = Nothing
 sees xs d (StoreBody gref second word) = Nothing
+sees xs d (StoreHeader version frames) = Nothing
 sees xs d (ReadBytes dom frame off len) = Nothing

@@ -15,9 +15,11 @@ use Rattle.gt_core.specs.declared.request.Request.{Request}
 use Rattle.gt_core.specs.declared.action.Verdict.{Verdict}
 use Rattle.gt_core.specs.declared.action.Verdict.TheVariants.{Granted, Refused}
 use Rattle.gt_core.specs.declared.action.Seen.{Seen}
+use Rattle.gt_core.specs.declared.action.Seen.TheVariants.{Value}
+use Rattle.gt_entry.specs.declared.header.Header.{Header}
 use Rattle.gt_core.specs.declared.action.Action.TheVariants.{Step as Makes}
 use Rattle.gt_core.specs.declared.trace.Answer.{Answer}
-use Rattle.gt_core.specs.declared.trace.Answer.TheVariants.{Denied, Done as AnswerDone, Mapped, Bytes as BytesAnswer}
+use Rattle.gt_core.specs.declared.trace.Answer.TheVariants.{Denied, Done as AnswerDone, Mapped, Bytes as BytesAnswer, Frames as FramesAnswer, Size as SizeAnswer, Version as VersionAnswer}
 use Rattle.gt_core.specs.declared.trace.Bytes.{Bytes}
 use Rattle.gt_core.specs.declared.request.Handle.{Handle}
 use Rattle.gt_core.specs.declared.action.Step.{Step}
@@ -37,17 +39,17 @@ use Rattle.gt_core.specs.declared.core_state.Ticked.{Ticked}
 use Rattle.gt_core.specs.declared.core_state.Ticked.TheVariants.{Step as TickedStep, Done as TickedDone, Idle as TickedIdle, NoDomain as TickedNoDomain}
 use Rattle.gt_core.specs.declared.core_state.Opening.{Opening}
 use Rattle.gt_core.specs.declared.core_state.Opening.TheVariants.{Open as OpeningOpen, Done as OpeningDone}
-use Rattle.gt_core.specs.Rules.{CallerKnowledge, is_demote, begun, entry_in, generation_in, first_look, before_pin, first_body, second_body, size_of, is_kind, frames_of}
+use Rattle.gt_core.specs.Rules.{CallerKnowledge, is_demote, begun, entry_in, generation_in, first_look, before_pin, first_body, second_body, is_kind, frames_of}
 use Rattle.gt_types.specs.declared.denial.Rule.{Rule}
 use Rattle.gt_entry.specs.declared.entry.Entry.{Entry}
 use Rattle.gt_entry.specs.declared.entry.Entry.TheVariants.{Invalid, Page, Sub, Via}
 use Rattle.gt_entry.specs.declared.control.Control.{Control}
 use Rattle.gt_entry.specs.declared.control.Kind.TheVariants.{Sub as KindSub}
-use Rattle.gt_entry.specs.Words.{IsInRange, control_of, header_of, header_word}
-use Rattle.gt_core.specs.declared.request.Request.TheVariants.{Grant, Load}
+use Rattle.gt_entry.specs.Words.{IsInRange, control_of, header_of}
+use Rattle.gt_core.specs.declared.request.Request.TheVariants.{Grant, Load, SetupTable, QuerySize, GetVersion}
 use Rattle.gt_core.specs.declared.leg.Leg.{Leg}
 use Rattle.gt_core.specs.declared.leg.LegPhase.{LegPhase}
-use Rattle.gt_core.specs.declared.leg.LegPhase.TheVariants.{Header, Look, Body, Second, Pinning, Relook}
+use Rattle.gt_core.specs.declared.leg.LegPhase.TheVariants.{Header as AtHeader, Look, Body, Second, Pinning, Relook}
 use Rattle.gt_core.specs.declared.call.Phase.{Phase}
 use Rattle.gt_core.specs.declared.call.Phase.TheVariants.{Begun as PhaseBegun, Pinning as LegPinning, Storing, StoringSecond, Single, Look as OwnLook, Change as OwnChange, Ended}
 use Rattle.gt_core.specs.Path.{path, steps_of}
@@ -74,10 +76,18 @@ pub record Advances (k : CallerKnowledge) (caller : DomId) (request : Request) (
   pub goes_on : IsUnderway k caller request phase → FitsPhase k caller request phase seen → (vs : List Seen) → expects k caller request new.phase vs ≡ expects k caller request phase (seen ∷ vs)
   pub next : IsUnderway k caller request phase → FitsPhase k caller request phase seen → expects k caller request new.phase [] ≡ Some action
 
--- the answer of a call that gives no value (own)
-abbrev pub plain_answer : Verdict → Answer
-plain_answer Granted = AnswerDone
-plain_answer (Refused denial) = Denied denial
+-- the answer of a call that makes no step, by the header of its caller's table (own)
+abbrev pub answer_begun : Request → Header → Verdict → Answer
+answer_begun request header (Refused denial) = Denied denial
+answer_begun (SetupTable frames) header Granted = FramesAnswer header.frames
+answer_begun request header Granted = AnswerDone
+
+-- the answer of a call that gives no mapping and no bytes, by what its last step saw (own)
+abbrev pub value_of : Request → Seen → Answer
+value_of (QuerySize dom) (Value word) = SizeAnswer (record { frames = (header_of word).frames; max = 4 })
+value_of (GetVersion dom) (Value word) = VersionAnswer (header_of word).version
+value_of (SetupTable frames) seen = FramesAnswer frames
+value_of request seen = AnswerDone
 
 -- what the trace has for what `begin` did (own)
 abbrev pub begun_element : DomId → Request → Begun → Element
@@ -103,14 +113,14 @@ IsLoadOf (Load handle off len) n = len ≡ n
 IsLoadOf request n = ⊥
 
 -- a call that nothing stood against is over after this last step: its answer, and the states (own)
-abbrev pub Settled : List State → ℕ → State → Open → Step → Answer → List State → Type 0
-Settled xs at d o (Pin dom gref looked dir) answer new =
+abbrev pub Settled : List State → ℕ → State → Open → Seen → Step → Answer → List State → Type 0
+Settled xs at d o seen (Pin dom gref looked dir) answer new =
     (handle : Handle) × (answer ≡ Mapped handle) × (handle.serial ≡ d.maps_answered)
     × (new ≡ set xs at (with_mapping (record { handle = handle; dom = dom; gref = gref; dir = dir; frame = frame_read o.call.phase }) d))
-Settled xs at d o (ReadBytes dom frame off len) answer new =
+Settled xs at d o seen (ReadBytes dom frame off len) answer new =
     (b : Bytes) × (answer ≡ BytesAnswer b) × (new ≡ set xs at (with_underway None d))
     × ((n : ℕ) → IsLoadOf o.call.request n → length (bytes_in new dom.0 frame off n) ≡ n → b.bytes.items ≡ bytes_in new dom.0 frame off n)
-Settled xs at d o step answer new = (answer ≡ AnswerDone) × (new ≡ set xs at (with_underway None d))
+Settled xs at d o seen step answer new = (answer ≡ value_of o.call.request seen) × (new ≡ set xs at (with_underway None d))
 
 -- the answer of this last step wants no room, or it was made already: a pin is that of a map (own)
 abbrev pub NeedsNoRoom : Request → Step → Type 0
@@ -118,8 +128,8 @@ NeedsNoRoom request (Pin dom gref looked dir) = IsMapping (Some request)
 NeedsNoRoom request step = Unit {0}
 
 -- the last step of a call is answered, or memory was wanted, and it is not where room was made (own)
-abbrev pub Settles : List State → ℕ → State → Open → Result Answer Memory → List State → Type 0
-Settles xs at d o result new = IfOk result (λ answer. Settled xs at d o o.step answer new) × (NeedsNoRoom o.call.request o.step → IsOk result)
+abbrev pub Settles : List State → ℕ → State → Open → Seen → Result Answer Memory → List State → Type 0
+Settles xs at d o seen result new = IfOk result (λ answer. Settled xs at d o seen o.step answer new) × (NeedsNoRoom o.call.request o.step → IsOk result)
 
 -- a run can't start for this reason: the first fault of its configuration, or want of memory where that has none (own)
 abbrev pub IsStartFaultOf : Config → StartFault → Type 0
@@ -163,7 +173,7 @@ pub record HasRead (s : Setting) (h : History) (l : Leg) (so_far : StepsSoFar) (
 
 -- where a leg stands, by the steps so far (own)
 abbrev pub LegStands : Setting → History → Leg → StepsSoFar → LegPhase → Type 0
-LegStands s h l so_far Header = Unit {0}
+LegStands s h l so_far AtHeader = Unit {0}
 LegStands s h l so_far (Look more) = (l.gref.0 < 2048) × (misses so_far + more ≡ 3) × (is_in_body so_far ≡ false)
 LegStands s h l so_far (Body more word) = HasLooked s h l so_far more word
 LegStands s h l so_far (Second more word body) = HasLooked s h l so_far more word × IsStill s h l word IsValid first_body body
@@ -259,6 +269,11 @@ IsLawfullyHeld s p (ByLeg number) = Unit {0}
 abbrev pub IsLawful : Setting → HeldPin → Type 0
 IsLawful s p = IsLawfullyHeld s p p.holder
 
+-- the header of a table, or of none, is within the limits of a run (own)
+pub record FitsTable (header : Header) : Type 0 where
+  pub version : header.version ≤ 2
+  pub frames : header.frames ≤ 4
+
 -- each part of a control has room in its word (own)
 pub record FitsWord (c : Control) : Type 0 where
   pub in_range : IsInRange c
@@ -267,7 +282,7 @@ pub record FitsWord (c : Control) : Type 0 where
 -- the core stands for the history (own)
 pub record CoreStands (s : Setting) (h : History) (domains : List State) : Type 0 where
   pub each : (dom : DomId) → StateAgrees s h dom (state_of domains dom.0)
-  pub tables : (dom : DomId) → (size_of (table_at s h dom) ≤ 2048) × (header_of (header_word (table_at s h dom)) ≡ table_at s h dom)
+  pub tables : (dom : DomId) → FitsTable (table_at s h dom)
   pub words : (t r : ℕ) → r < 2048 → FitsWord (control_at s h t r)
   pub lawful : All (IsLawful s) (live h)
   pub free : (t r : ℕ) → entry_at h t r ≡ Invalid → (reads_at h t r ≡ 0) × (writes_at h t r ≡ 0)

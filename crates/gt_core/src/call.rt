@@ -76,7 +76,7 @@ fn own_gref(request: Request) -> GrantRef
         | Request::Demote { gref }
         | Request::Promote { gref }
         | Request::Map { gref, .. } => gref,
-        Request::Unmap { .. } | Request::Load { .. } => GrantRef(0),
+        _ => GrantRef(0),
     }
 }
 
@@ -147,7 +147,7 @@ fn first_phase<P: Allows>(known: &Known<'_, P>, caller: DomId, request: Request)
         Request::Map { dom, gref, flags } => {
             Phase::Pinning(map_leg(known, caller, dom, gref, flags), LegPhase::Header)
         }
-        Request::Revoke { .. } | Request::Unmap { .. } | Request::Load { .. } => Phase::Single,
+        _ => Phase::Single,
     }
 }
 
@@ -186,8 +186,8 @@ fn read(known: &[Mapping], handle: Handle, off: u16, len: u16) -> Action
     }
 }
 
-fn single<P: Allows>(known: &Known<'_, P>, request: Request) -> Action
-    ensures { result ≡ single_at (knowledge_of known.now.config.now.domains.items known.now.config.now.first_gen (P.may known.now.rights.now) known.now.own.now known.now.header known.now.mappings.now known.now.maps_answered) request }
+fn single<P: Allows>(known: &Known<'_, P>, caller: DomId, request: Request) -> Action
+    ensures { result ≡ single_at (knowledge_of known.now.config.now.domains.items known.now.config.now.first_gen (P.may known.now.rights.now) known.now.own.now known.now.header known.now.mappings.now known.now.maps_answered) caller request }
 {
     match request {
         Request::Grant { gref, entry } => Action::Step(Step::Exchange {
@@ -202,6 +202,19 @@ fn single<P: Allows>(known: &Known<'_, P>, request: Request) -> Action
         }),
         Request::Unmap { handle } => unpin(known.mappings, handle),
         Request::Load { handle, off, len } => read(known.mappings, handle, off, len),
+        Request::SetVersion { version } => Action::Step(Step::StoreHeader {
+            version,
+            frames: u32::from(known.header.frames),
+        }),
+        Request::SetupTable { frames } => Action::Step(Step::StoreHeader {
+            version: u32::from(known.header.version),
+            frames,
+        }),
+        Request::QuerySize { dom } | Request::GetVersion { dom } => {
+            Action::Step(Step::LookHeader {
+                dom: resolve(caller, dom),
+            })
+        }
         _ => Action::Done(Verdict::Granted),
     }
 }
@@ -298,7 +311,7 @@ impl Call {
             Phase::Pinning(leg, phase) => Action::Step(leg_step(leg, phase)),
             Phase::Storing => store(self.request),
             Phase::StoringSecond => store_second(self.request),
-            Phase::Single => single(known, self.request),
+            Phase::Single => single(known, self.caller, self.request),
             Phase::Look { .. } => Action::Step(Step::LookControl {
                 dom: self.caller,
                 gref: own_gref(self.request),

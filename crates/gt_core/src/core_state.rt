@@ -7,7 +7,7 @@ ghost use Rattle.gt_core.specs.Legal.{MayDo, grown, Legal};
 ghost use Rattle.gt_core.specs.States.{State, changed_in};
 ghost use Rattle.gt_core.specs.Effects.{with_underway, bytes_in};
 ghost use Rattle.gt_core.specs.Shown.{shown_at};
-ghost use Rattle.gt_core.specs.Standing.{Opens, Advances, CoreStands, Settles, IsMapping, IsStartFaultOf, WantsMemory, setting_of, begun_element, ticked_element, plain_answer, first_state};
+ghost use Rattle.gt_core.specs.Standing.{Opens, Advances, CoreStands, Settles, IsMapping, IsStartFaultOf, WantsMemory, setting_of, begun_element, ticked_element, answer_begun, value_of, first_state};
 ghost use Rattle.gt_core.specs.declared.trace.Event.TheVariants.{Begin, Tick};
 
 use crate::action::{Action, Seen, Step, Verdict};
@@ -19,8 +19,8 @@ use crate::sight::see;
 use crate::slot::Open;
 use crate::state::{DomainState, find};
 use crate::trace::{Answer, Bytes, Element, Event, Happened, Item, Trace};
-use gt_entry::Entry;
-use gt_types::{Allows, Config, DomId, GrantRef, Memory, StartFault};
+use gt_entry::{Entry, Header};
+use gt_types::{Allows, Config, DomId, GrantRef, MAX_TABLE_FRAMES, Memory, Size, StartFault};
 use std::alloc::Global;
 
 /// The grant tables of a run.
@@ -81,12 +81,31 @@ fn open_call<P: Allows>(known: &Known<'_, P>, dom: DomId, request: Request) -> O
     }
 }
 
-fn plain_answer(verdict: Verdict) -> Answer
-    ensures { result ≡ plain_answer verdict }
+// The answer of a call that makes no step.
+fn answer_begun(request: Request, header: Header, verdict: Verdict) -> Answer
+    ensures { result ≡ answer_begun request header verdict }
 {
-    match verdict {
-        Verdict::Granted => Answer::Done,
-        Verdict::Refused(denial) => Answer::Denied(denial),
+    match (verdict, request) {
+        (Verdict::Refused(denial), _) => Answer::Denied(denial),
+        (Verdict::Granted, Request::SetupTable { .. }) => Answer::Frames(u32::from(header.frames)),
+        (Verdict::Granted, _) => Answer::Done,
+    }
+}
+
+// The answer of a call that gives no mapping and no bytes, by what its last step saw.
+fn value_of(request: Request, seen: Seen) -> Answer
+    ensures { result ≡ value_of request seen }
+{
+    match (request, seen) {
+        (Request::QuerySize { .. }, Seen::Value(word)) => Answer::Size(Size {
+            frames: u32::from(Header::unpack(word).frames),
+            max: MAX_TABLE_FRAMES,
+        }),
+        (Request::GetVersion { .. }, Seen::Value(word)) => {
+            Answer::Version(u32::from(Header::unpack(word).version))
+        }
+        (Request::SetupTable { frames }, _) => Answer::Frames(frames),
+        _ => Answer::Done,
     }
 }
 
@@ -117,6 +136,14 @@ impl<P: Allows> Core<P> {
         open_call(&known, dom, request)
     }
 
+    fn header_at(&self, at: usize) -> Header
+        requires { at < length self.now.domains.items }
+        ensures { (d : State) → slice_get self.now.domains.items at ≡ Some d → result ≡ d.header }
+    {
+        let domain = &self.domains[at];
+        domain.header
+    }
+
     /// Begins a call of the domain.
     pub fn begin(&mut self, dom: DomId, request: Request) -> Result<Begun, Memory>
         ensures stands { (h : History) → CoreStands (setting_of self.old.config (P.may self.old.rights)) h self.old.domains.items → IfOk result (λ b.
@@ -134,7 +161,10 @@ impl<P: Allows> Core<P> {
             return Ok(Begun::Busy);
         }
         match self.open_at(at, dom, request) {
-            Opening::Done(verdict) => Ok(Begun::Done(plain_answer(verdict))),
+            Opening::Done(verdict) => {
+                let header = self.header_at(at);
+                Ok(Begun::Done(answer_begun(request, header, verdict)))
+            }
             Opening::Open(open) => {
                 request_fits(request);
                 let alloc = self.alloc;
@@ -163,12 +193,12 @@ impl<P: Allows> Core<P> {
     }
 
     // The answer of a call that nothing stood against, whose last step was this one. The call is over.
-    fn settle(&mut self, at: usize, last: Open) -> Result<Answer, Memory>
+    fn settle(&mut self, at: usize, last: Open, seen: Seen) -> Result<Answer, Memory>
         requires { at < length self.old.domains.items }
         ensures config { self.new.config ≡ self.old.config }
         ensures rights { self.new.rights ≡ self.old.rights }
         ensures err { OnErr result (self.new.domains.items ≡ self.old.domains.items) }
-        ensures settles { (d : State) → slice_get self.old.domains.items at ≡ Some d → d.underway ≡ Some last → Settles self.old.domains.items at d last result self.new.domains.items }
+        ensures settles { (d : State) → slice_get self.old.domains.items at ≡ Some d → d.underway ≡ Some last → Settles self.old.domains.items at d last seen result self.new.domains.items }
     {
         match last.step {
             Step::Pin { dom, gref, dir, .. } => {
@@ -188,7 +218,7 @@ impl<P: Allows> Core<P> {
             }
             _ => {
                 self.domains[at].close();
-                Ok(Answer::Done)
+                Ok(value_of(last.call.request, seen))
             }
         }
     }
@@ -224,7 +254,7 @@ impl<P: Allows> Core<P> {
                     Ok(Ticked::Done(open.step, seen, Answer::Denied(denial)))
                 }
                 Verdict::Granted => {
-                    let answer = self.settle(at, open)?;
+                    let answer = self.settle(at, open, seen)?;
                     apply(&mut self.domains, dom, open.step, seen);
                     Ok(Ticked::Done(open.step, seen, answer))
                 }

@@ -1,7 +1,7 @@
 //! What steps do to the states of the domains.
 ghost use Rattle.std.specs.Prelude.{◌≡◌};
 ghost use Rattle.gt_core.specs.States.{changed_in};
-ghost use Rattle.gt_core.specs.Effects.{with_slot, applied, without_mapping, with_own};
+ghost use Rattle.gt_core.specs.Effects.{with_slot, applied, without_mapping, with_own, with_header};
 
 use crate::action::{Change, Seen, Step};
 use crate::request::Holder;
@@ -33,6 +33,14 @@ fn forget(domains: &mut [DomainState], dom: DomId, holder: Holder)
     }
 }
 
+fn store_header(domains: &mut [DomainState], dom: DomId, version: u32, frames: u32)
+    ensures { domains.new ≡ changed_in dom.0 (with_header version frames) domains.old }
+{
+    if let Some(at) = find(domains, dom) {
+        domains[at].store_header(version, frames);
+    }
+}
+
 /// What a step of the domain that saw this does to the words, and to the actor's mappings where it gives one up.
 pub fn apply(domains: &mut [DomainState], actor: DomId, step: Step, seen: Seen)
     ensures { domains.new ≡ applied actor step seen domains.old }
@@ -55,6 +63,9 @@ pub fn apply(domains: &mut [DomainState], actor: DomId, step: Step, seen: Seen)
         }
         (Step::StoreBody { gref, second, word }, _) => {
             change_slot(domains, actor, gref, SlotChange::Stored(second, word));
+        }
+        (Step::StoreHeader { version, frames }, _) => {
+            store_header(domains, actor, version, frames);
         }
         (Step::Exchange { gref, change, .. }, Seen::Taken) => {
             change_own(domains, actor, gref, change);

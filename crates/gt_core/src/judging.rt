@@ -1,8 +1,8 @@
 //! How a call is judged at its beginning.
 ghost use Rattle.std.specs.Prelude.{◌≡◌, ◌∷◌, [], Option, IsTrue, ◌↔◌};
-ghost use Rattle.gt_types.specs.Names.{resolved, domain_of, unmap};
+ghost use Rattle.gt_types.specs.Names.{resolved, domain_of, unmap, setup, query};
 ghost use Rattle.gt_types.specs.Denial.{denial_of};
-ghost use Rattle.gt_core.specs.Rules.{knowledge_of, begun, cannot_stand, entry_in, generation_in, label_of, frames_of, mapping_of, denied, asked_by, grant_begun, revoke_begun, change_begun, map_begun, unmap_begun, load_begun};
+ghost use Rattle.gt_core.specs.Rules.{knowledge_of, begun, cannot_stand, entry_in, generation_in, label_of, frames_of, mapping_of, denied, asked_by, grant_begun, revoke_begun, change_begun, map_begun, unmap_begun, load_begun, has_valid, version_begun, setup_begun, query_begun};
 
 use crate::action::Verdict;
 use crate::known::{Known, Mapping, Own};
@@ -10,7 +10,7 @@ use crate::request::{Handle, Request};
 use gt_entry::{Entry, Header};
 use gt_types::{
     Allows, DOMID_SELF, Denial, DomId, DomainConfig, Facts, GrantRef, LAST_GENERATION,
-    MAX_MAPPINGS, Perms, Rule, TypeId,
+    MAX_MAPPINGS, MAX_TABLE_FRAMES, Perms, Rule, TypeId,
 };
 
 /// The serials of a domain's mappings are below this number.
@@ -207,6 +207,58 @@ fn begin_load(mappings: &[Mapping], handle: Handle, off: u16, len: u16) -> Optio
     }
 }
 
+// Some entry of the table is valid.
+fn has_valid(own: &[Own], size: u32) -> bool
+    ensures { result ≡ has_valid (entry_in own.now) size }
+{
+    'entries: for at in 0..size {
+        if !own_at(own, 0, GrantRef(at)).entry().is_invalid() {
+            return true;
+        }
+    }
+    false
+}
+
+fn begin_version(header: Header, own: &[Own], version: u32) -> Option<Verdict>
+    ensures { result ≡ version_begun header (entry_in own.now) version }
+{
+    if version != 1 && version != 2 {
+        refused(Rule::N2)
+    } else if version == u32::from(header.version) {
+        Some(Verdict::Granted)
+    } else if has_valid(own, header.entries()) {
+        refused(Rule::N24)
+    } else {
+        None
+    }
+}
+
+fn begin_setup<P: Allows>(known: &Known<'_, P>, caller: DomId, frames: u32) -> Option<Verdict>
+    ensures { result ≡ setup_begun (knowledge_of known.now.config.now.domains.items known.now.config.now.first_gen (P.may known.now.rights.now) known.now.own.now known.now.header known.now.mappings.now known.now.maps_answered) caller frames }
+{
+    let label = label_of(&known.config.domains, caller);
+    if let Some(verdict) = not_allowed(known.rights, label, label, Perms::SETUP) {
+        return Some(verdict);
+    }
+    if frames <= u32::from(known.header.frames) {
+        Some(Verdict::Granted)
+    } else if frames > MAX_TABLE_FRAMES {
+        refused(Rule::N23)
+    } else {
+        None
+    }
+}
+
+fn begin_query<P: Allows>(known: &Known<'_, P>, caller: DomId, dom: DomId) -> Option<Verdict>
+    ensures { result ≡ query_begun (knowledge_of known.now.config.now.domains.items known.now.config.now.first_gen (P.may known.now.rights.now) known.now.own.now known.now.header known.now.mappings.now known.now.maps_answered) caller dom }
+{
+    let Some(named) = find_domain(&known.config.domains, resolve(caller, dom)) else {
+        return refused(Rule::N1);
+    };
+    let source = label_of(&known.config.domains, caller);
+    not_allowed(known.rights, source, named.label, Perms::QUERY)
+}
+
 /// How the call is answered at its beginning, if it is.
 pub fn judge_beginning<P: Allows>(
     known: &Known<'_, P>,
@@ -246,5 +298,8 @@ pub fn judge_beginning<P: Allows>(
         Request::Map { dom, flags, .. } => begin_map(known, caller, dom, flags),
         Request::Unmap { handle } => begin_unmap(known, caller, handle),
         Request::Load { handle, off, len } => begin_load(known.mappings, handle, off, len),
+        Request::SetVersion { version } => begin_version(known.header, known.own, version),
+        Request::SetupTable { frames } => begin_setup(known, caller, frames),
+        Request::QuerySize { dom } | Request::GetVersion { dom } => begin_query(known, caller, dom),
     }
 }

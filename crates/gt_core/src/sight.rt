@@ -104,6 +104,9 @@ pub fn see(domains: &[DomainState], actor: DomId, step: Step) -> Seen
         Step::Exchange { gref, looked, .. } => {
             exchange(look_control(domains, actor, gref), looked)
         }
-        Step::Unpin { .. } | Step::StoreBody { .. } | Step::Read { .. } => Seen::Nothing,
+        Step::Unpin { .. }
+        | Step::StoreBody { .. }
+        | Step::StoreHeader { .. }
+        | Step::Read { .. } => Seen::Nothing,
     }
 }

@@ -1,5 +1,5 @@
 //! The state of a domain, as plain lists.
-ghost use Rattle.std.specs.Prelude.{◌≡◌, ◌==◌, position};
+ghost use Rattle.std.specs.Prelude.{◌≡◌, ◌==◌, ◌%◌, position};
 ghost use Rattle.gt_core.specs.History.{is_handle};
 
 use crate::action::Change;
@@ -55,11 +55,21 @@ fn place_of(mappings: &[Mapping], handle: Handle) -> Option<usize>
     mappings.iter().position(|m| m.handle.serial == handle.serial && m.handle.key == handle.key)
 }
 
+// The header of a table, as far as its word has room.
+fn table_header(version: u32, frames: u32) -> Header
+    ensures { result ≡ record { version = version % 4; frames = frames % 256 } }
+{
+    Header {
+        version: (version % 4) as u8,
+        frames: (frames % 256) as u8,
+    }
+}
+
 impl DomainState {
     ghost use Rattle.std.specs.Prelude.{◌≡◌, IfOk, IsOk, OnErr, OnOk, Some, None, true, length, take, drop, slice_get};
     ghost use Rattle.gt_core.specs.States.{first_state, asked_in, asks_memory, IsMapping, IsLoading};
     ghost use Rattle.gt_core.specs.Shown.{shown_in};
-    ghost use Rattle.gt_core.specs.Effects.{frame_in, with_slot, with_own, with_underway, with_mapping, without_mapping};
+    ghost use Rattle.gt_core.specs.Effects.{frame_in, with_slot, with_own, with_header, with_underway, with_mapping, without_mapping};
 
     /// A domain at rest: all entries invalid and of the first generation, all frames zero.
     pub fn new(alloc: Global, domain: DomainConfig, first_gen: u32) -> Result<DomainState, Memory>
@@ -77,10 +87,7 @@ impl DomainState {
         }
         Ok(DomainState {
             id: domain.id,
-            header: Header {
-                version: (domain.version % 4) as u8,
-                frames: (domain.table_frames % 256) as u8,
-            },
+            header: table_header(domain.version, domain.table_frames),
             own,
             slots,
             mappings: Vec::new(alloc),
@@ -219,6 +226,13 @@ impl DomainState {
         if at < self.own.len() {
             self.own[at] = self.own[at].after(change);
         }
+    }
+
+    /// Stores the header of the table; its word has room for versions below 4 and 255 frames.
+    pub fn store_header(&mut self, version: u32, frames: u32)
+        ensures { self.new ≡ with_header version frames self.old }
+    {
+        self.header = table_header(version, frames);
     }
 
     /// Gives up the first mapping with this handle.

@@ -2,6 +2,7 @@ use Rattle.std.proofs.Common.{◌≡◌, ℕ, List, length, Option, Some, None, 
 use Rattle.std.proofs.lemmas.Option.{same_Some, slice_get_read}
 use Rattle.gt_core.specs.declared.slot.Open.{Open}
 use Rattle.gt_core.specs.declared.action.Step.{Step}
+use Rattle.gt_core.specs.declared.trace.Answer.{Answer}
 use Rattle.gt_core.specs.declared.trace.Answer.TheVariants.{Bytes as BytesAnswer}
 use Rattle.gt_core.specs.States.{State, IsLoading, asked_in}
 use Rattle.gt_core.specs.Effects.{with_underway, bytes_in}
@@ -29,7 +30,7 @@ returns-in-Read-clause-settles g c =
     subst (λ (l : List State). length (bytes_in l t frame off (length out)) ≡ length out → bytes.items ≡ bytes_in l t frame off (length out)) c.deref.ensures.value c.read_into-bytes.ensures in
     let whole : (n : ℕ) → IsLoadOf c.args.last.call.request n → length (bytes_in new t frame off n) ≡ n → bytes.items ≡ bytes_in new t frame off n =
     λ n l. subst (λ (m : ℕ). length (bytes_in new t frame off m) ≡ m → bytes.items ≡ bytes_in new t frame off m) (loaded c.args.last.call.request (length out) n asks l) read in (
-      subst (λ (s : Step). Settled xs at d c.args.last s (BytesAnswer (record { bytes = bytes })) new) (sym c.in-Read.is) (record { bytes = bytes }, refl, after, whole),
+      subst (λ (s : Step). Settled xs at d c.args.last c.args.seen s (BytesAnswer (record { bytes = bytes })) new) (sym c.in-Read.is) (record { bytes = bytes }, refl, after, whole),
       λ _. refl,
     )
 
@@ -44,8 +45,8 @@ returns-in_default g c =
       err = tt;
       settles = λ d here is.
           let same : y ≡ d = same_Some _ _ (sym (slice_get_read xs (length xs) at y refl c.requires c.index_mut-in_default.ensures.value) ∙ here) in (
-            settled-plain xs (set xs at c.close.new.self) at d c.args.last c.args.last.step c.in_default.not-Pin c.in_default.not-Read
-                (ap (λ (z : State). set xs at z) (c.close.ensures ∙ ap (with_underway None) same)),
+            subst (λ (z : Answer). Settled xs at d c.args.last c.args.seen c.args.last.step z (set xs at c.close.new.self)) (sym c.value_of.ensures) (settled-plain xs (set xs at c.close.new.self) at d c.args.last c.args.seen c.args.last.step c.in_default.not-Pin c.in_default.not-Read
+                (ap (λ (z : State). set xs at z) (c.close.ensures ∙ ap (with_underway None) same))),
             λ _. refl,
           );
     }
