@@ -1,5 +1,5 @@
 -- A beginning keeps what a core stands for.
-use Rattle.std.proofs.Common.{◌⊎◌, inl, inr, ◌≡◌, ◌≢◌, ◌<◌, ◌+◌, ℕ, refl, Bool, true, false, List, [], ◌∷◌, ◌++◌, length, Option, Some, None, cond, sym, ap, ◌∙◌, subst, get_or, set, reverse}
+use Rattle.std.proofs.Common.{arith, ◌≤◌, ◌⊎◌, inl, inr, ◌≡◌, ◌≢◌, ◌<◌, ◌+◌, ℕ, refl, Bool, true, false, List, [], ◌∷◌, ◌++◌, length, Option, Some, None, cond, sym, ap, ◌∙◌, subst, get_or, set, reverse}
 use Rattle.std.proofs.lemmas.Bool.{eqb-true, eq-eqb, false≢true, true≢false}
 use Rattle.std.specs.Prelude.{nat_lt, ◌==◌, if◌then◌else◌, position, slice_get}
 use mathlib.Core.Path.{fun_ext}
@@ -13,6 +13,13 @@ use Rattle.gt_core.specs.declared.known.Mapping.{Mapping}
 use Rattle.std.specs.Prelude.{count_by, All}
 use Rattle.gt_types.specs.declared.Dir.TheVariants.{Read, Write}
 use Rattle.gt_core.specs.declared.request.Request.{Request}
+use Rattle.gt_core.specs.declared.request.Request.TheVariants as requests
+use Rattle.gt_core.specs.declared.asked.Asked.{Asked}
+use Rattle.gt_core.specs.Asking.{asked, entry_said, field_refused, begun_of, bytes_begun, IsSaid}
+use Rattle.gt_entry.specs.Bytes.{SpellsV1, SpellsV2, IsLaidOutV2, first_refused}
+use Rattle.gt_types.specs.declared.denial.Field.{Field}
+use Rattle.gt_entry.specs.declared.entry.Entry.TheVariants.{Invalid, Page, Sub, Via}
+use Rattle.gt_core.proofs.Numbers.{four-bytes, ltb-from-le}
 use Rattle.gt_core.specs.declared.action.Seen.{Seen}
 use Rattle.gt_core.specs.declared.action.Seen.TheVariants.{Nothing}
 use Rattle.gt_core.specs.declared.action.Verdict.{Verdict}
@@ -33,18 +40,18 @@ use Rattle.gt_core.proofs.Still.{leg-keeps}
 use Rattle.gt_core.specs.States.{State}
 use Rattle.gt_core.specs.declared.slot.Open.{Open}
 use Rattle.gt_core.specs.declared.core_state.Opening.TheVariants.{Open as OpeningOpen}
-use Rattle.std.specs.Prelude.{is_some}
+use Rattle.std.specs.Prelude.{is_some, MatchBool, ◌&&◌}
 use Rattle.std.specs.Prelude.{◌||◌, not, is_none, nat_le, ◌^◌, ◌-◌}
 use Rattle.gt_types.specs.Names.{resolved, query}
 use Rattle.gt_types.specs.Denial.{denial_of}
 use Rattle.gt_types.specs.declared.TypeId.{TypeId}
 use Rattle.gt_types.specs.declared.perms.Perms.{Perms}
 use Rattle.gt_types.specs.declared.denial.Rule.{Rule}
-use Rattle.gt_types.specs.declared.denial.Rule.TheVariants.{N1, N2, N3, N5, N6, N8}
+use Rattle.gt_types.specs.declared.denial.Rule.TheVariants.{N1, N2, N3, N5, N6, N8, N9, N20, N21, N22}
 use Rattle.gt_types.specs.declared.denial.Facts.TheVariants.{Policy}
 use Rattle.gt_core.specs.declared.request.Handle.{Handle}
-use Rattle.gt_core.specs.declared.request.Request.TheVariants.{Grant, Revoke, Demote, Promote, Map, Unmap, Load, SetVersion, SetupTable, QuerySize, GetVersion}
-use Rattle.gt_core.specs.Rules.{first, refused_when, denied, asked_by, label_of, mapping_of, map_begun, load_begun, query_begun, CallerKnowledge, begun, knowledge_of, generation_in, control_with}
+use Rattle.gt_core.specs.declared.asked.Asked.TheVariants.{Grant, Revoke, Demote, Promote, Map, Unmap, Load, SetVersion, SetupTable, QuerySize, GetVersion}
+use Rattle.gt_core.specs.Rules.{first, refused_when, denied, asked_by, label_of, mapping_of, map_begun, load_begun, query_begun, grant_begun, cannot_stand, is_invalid, size_of, CallerKnowledge, begun, knowledge_of, generation_in, control_with}
 use Rattle.std.proofs.lemmas.Option.{none-some, slice_get_read}
 use Rattle.gt_types.specs.declared.GrantRef.{GrantRef}
 use Rattle.gt_core.specs.declared.action.Step.{Step}
@@ -55,13 +62,13 @@ use Rattle.gt_core.specs.Machine.{expects, first_phase, phase_after, starts_as, 
 use Rattle.gt_core.specs.History.{History, Setting, entry_at, generation_at, body_at, word_at, control_at, reads_at, writes_at, Pin, table_at, mappings_at, mappings_in, known_at, Underway, underway_after, open_call, values, is_pin_on, one_if_mapped}
 use Rattle.gt_core.specs.Legal.{StepsSoFar, IsSpelled, leg_of, stood, stood_with, first_of_item, AnsweredBy, GivesValue, refusal_in, refusal_of, MayDo, IsRight}
 use Rattle.gt_core.specs.States.{asks_memory}
-use Rattle.gt_core.specs.Standing.{WantsMemory, IsLawful, FitsTable, FitsWord, FitsRequest, PhaseStands, HasStored, HasStoredFirst, OpenAgrees, CallAgrees, Agrees, StateAgrees, CoreStands, state_of, answer_begun, Opens}
+use Rattle.gt_core.specs.Standing.{WantsMemory, IsLawful, FitsTable, FitsWord, FitsAsked, PhaseStands, HasStored, HasStoredFirst, OpenAgrees, CallAgrees, Agrees, StateAgrees, CoreStands, state_of, answer_begun, Opens}
 use Rattle.gt_core.proofs.Quiet.{IsQuiet, kept-contents, quiet-entry, quiet-raises, quiet-body, quiet-live, quiet-maps_answered, quiet-generations, quiet-table, quiet-known}
 use Rattle.gt_core.proofs.Places.{has_id, found, not-found, state_of-set}
 
 -- the first action of a call
 
-pub starts-open : (caller : DomId) (r : Request) (o : Option Verdict) (first : Call) → StartOpen first ≡ starts_as caller r o
+pub starts-open : (caller : DomId) (r : Asked) (o : Option Verdict) (first : Call) → StartOpen first ≡ starts_as caller r o
     → (o ≡ None) × (first ≡ record { caller = caller; request = r; phase = PhaseBegun })
 starts-open caller r None first e = (refl, cc)
 starts-open caller r (Some v) first e = cc
@@ -112,7 +119,7 @@ stood-other s i h d e = ap (λ (b : Bool). cond b (stood_with i.happened (stood 
 abbrev pub BodyStays : Item → History → ℕ → Type 0
 BodyStays i h d = (r : ℕ) (which : Bool) → body_at (i ∷ h) d r which ≡ body_at h d r which
 
-stored-first-stays : (i : Item) (h : History) (d : DomId) (r : Request) → BodyStays i h d.0 → HasStoredFirst h d r → HasStoredFirst (i ∷ h) d r
+stored-first-stays : (i : Item) (h : History) (d : DomId) (r : Asked) → BodyStays i h d.0 → HasStoredFirst h d r → HasStoredFirst (i ∷ h) d r
 stored-first-stays i h d (Grant gref entry) b a = b gref.0 false ∙ a
 stored-first-stays i h d (Revoke gref) b a = a
 stored-first-stays i h d (Demote gref) b a = a
@@ -131,7 +138,7 @@ spelled-stays i h t r entry b a =
     subst (λ (n : ℕ). IsSpelled entry n (body_at (i ∷ h) t r true)) (sym (b r false))
     (subst (λ (n : ℕ). IsSpelled entry (body_at h t r false) n) (sym (b r true)) a)
 
-stored-stays : (i : Item) (h : History) (d : DomId) (r : Request) → BodyStays i h d.0 → HasStored h d r → HasStored (i ∷ h) d r
+stored-stays : (i : Item) (h : History) (d : DomId) (r : Asked) → BodyStays i h d.0 → HasStored h d r → HasStored (i ∷ h) d r
 stored-stays i h d (Grant gref entry) b a = spelled-stays i h d.0 gref.0 entry b a
 stored-stays i h d (Revoke gref) b a = tt
 stored-stays i h d (Demote gref) b a = tt
@@ -145,7 +152,7 @@ stored-stays i h d (QuerySize dom) b a = tt
 stored-stays i h d (GetVersion dom) b a = tt
 
 -- where a call stands, it stands after an item that leaves what its domain knows and its body words
-pub place-stays : (s : Setting) (i : Item) (h : History) (d : DomId) (r : Request) (so_far : StepsSoFar) (phase : Phase) → known_at s (i ∷ h) d ≡ known_at s h d → BodyStays i h d.0
+pub place-stays : (s : Setting) (i : Item) (h : History) (d : DomId) (r : Asked) (so_far : StepsSoFar) (phase : Phase) → known_at s (i ∷ h) d ≡ known_at s h d → BodyStays i h d.0
     → PhaseStands s h d r so_far phase → PhaseStands s (i ∷ h) d r so_far phase
 place-stays s i h d r so_far PhaseBegun k b a = a
 place-stays s i h d r so_far (LegPinning l phase) k b a =
@@ -157,7 +164,7 @@ place-stays s i h d r so_far (OwnLook more) k b a = a
 place-stays s i h d r so_far (OwnChange more word) k b a = a
 place-stays s i h d r so_far (Ended verdict) k b a = a
 
-pub place-keeps : (s : Setting) (i : Item) (h : History) (d : DomId) (r : Request) (so_far : StepsSoFar) (phase : Phase) → IsQuiet i
+pub place-keeps : (s : Setting) (i : Item) (h : History) (d : DomId) (r : Asked) (so_far : StepsSoFar) (phase : Phase) → IsQuiet i
     → PhaseStands s h d r so_far phase → PhaseStands s (i ∷ h) d r so_far phase
 place-keeps s i h d r so_far phase q a = place-stays s i h d r so_far phase (quiet-known s i h d q) (λ r which. quiet-body i h d.0 r which q) a
 
@@ -277,7 +284,7 @@ pub map-domain : (b : Bool) (o : Option DomainConfig) (more : List (Option Verdi
 map-domain b None more e n = let f : Some (Refused (denial_of N1 NoFacts)) ≡ None = e in cc
 map-domain b (Some c) more e n = cc
 
-first-place : (s : Setting) (h : History) (d : DomId) (r : Request) → begun (known_at s h d) d r ≡ None → PhaseStands s h d r [] (first_phase (known_at s h d) d r)
+first-place : (s : Setting) (h : History) (d : DomId) (r : Asked) → begun (known_at s h d) d r ≡ None → PhaseStands s h d r [] (first_phase (known_at s h d) d r)
 unfolding Rattle.gt_core.specs.Legal.misses
 first-place s h d (Grant gref entry) e = tt
 first-place s h d (Revoke gref) e = tt
@@ -291,34 +298,99 @@ first-place s h d (SetupTable frames) e = tt
 first-place s h d (QuerySize dom) e = tt
 first-place s h d (GetVersion dom) e = tt
 
-pub begin-opens : (s : Setting) (h : History) (d : State) (request : Request) (o : Open) → FitsRequest request → Agrees s h d → d.underway ≡ None
+-- a request that is not answered at its beginning asks a call that is not
+
+entry-stands : (entry : Entry) (version : ℕ) → (version == 1) ≡ false → (entry ≡ Invalid → ⊥) → cannot_stand entry version ≡ false
+entry-stands Invalid version e valid = absurd (valid refl)
+entry-stands (Page dom ro frame) version e valid = ap (λ (b : Bool). b && nat_lt 4294967295 frame) e
+entry-stands (Sub dom ro frame off len) version e valid = e
+entry-stands (Via dom ro dom2 gref) version e valid = e
+
+laid-out-valid : (bytes : List ℕ) (entry : Entry) → IsLaidOutV2 bytes entry → entry ≡ Invalid → ⊥
+laid-out-valid bytes Invalid a e = a
+laid-out-valid bytes (Page dom ro frame) a e = cc
+laid-out-valid bytes (Sub dom ro frame off len) a e = cc
+laid-out-valid bytes (Via dom ro dom2 gref) a e = cc
+
+page-stands : (bytes : List ℕ) (entry : Entry) (version : ℕ) → SpellsV1 bytes entry → cannot_stand entry version ≡ false
+page-stands bytes Invalid version a = absurd a.layout
+page-stands bytes (Sub dom ro frame off len) version a = absurd a.layout
+page-stands bytes (Via dom ro dom2 gref) version a = absurd a.layout
+page-stands bytes (Page dom ro frame) version a =
+    let small : frame < 4294967296 = subst (λ (n : ℕ). n < 4294967296) a.layout.2 (four-bytes bytes a.size.0 a.size.1) in
+    by (version == 1) (lt-leb-not frame small)
+  where
+    lt-leb-not : (n : ℕ) → n < 4294967296 → nat_lt 4294967295 n ≡ false
+    lt-leb-not n lt = ltb-from-le 4294967295 n (omega arith)
+
+    by : (b : Bool) → nat_lt 4294967295 frame ≡ false → (b && nat_lt 4294967295 frame) ≡ false
+    by true e = e
+    by false e = refl
+
+spelled-stands : (version : ℕ) (bytes : List ℕ) (entry : Entry) (b : Bool) → (version == 2) ≡ b → MatchBool b (SpellsV2 bytes entry) (SpellsV1 bytes entry) → cannot_stand entry version ≡ false
+spelled-stands version bytes entry true e a =
+    let two : version ≡ 2 = eqb-true version 2 e in
+    entry-stands entry version (ap (λ (n : ℕ). n == 1) two) (laid-out-valid bytes entry a.layout)
+spelled-stands version bytes entry false e a = page-stands bytes entry version a
+
+begun-bytes : (header : Header) (old entry : Entry) (generation r : ℕ) (bytes : List ℕ) → bytes_begun header old generation r bytes ≡ None → cannot_stand entry header.version ≡ false
+    → grant_begun header old generation r entry ≡ None
+begun-bytes header old entry generation r bytes e stands = by (nat_le (size_of header) r) (not (is_invalid old)) (cannot_stand entry header.version) (generation == 1048575) (field_refused (first_refused header.version bytes)) e stands
+  where
+    by : (a b c g : Bool) (o : Option Verdict) → first (refused_when a N9 ∷ refused_when b N20 ∷ refused_when g N22 ∷ o ∷ []) ≡ None → c ≡ false
+        → first (refused_when a N9 ∷ refused_when b N20 ∷ refused_when c N21 ∷ refused_when g N22 ∷ []) ≡ None
+    by true b c g o e f = cc
+    by false true c g o e f = cc
+    by false false true g o e f = absurd (true≢false f)
+    by false false false true o e f = cc
+    by false false false false o e f = refl
+
+pub begun-asked : (k : CallerKnowledge) (d : DomId) (request : Request) → begun_of k d request ≡ None → IsSaid k.header request → begun k d (asked request) ≡ None
+begun-asked k d (requests.GrantBytes gref bytes) e said =
+    begun-bytes k.header (k.entry gref.0) (entry_said bytes.now) (k.generation gref.0) gref.0 bytes.now e (spelled-stands k.header.version bytes.now (entry_said bytes.now) (k.header.version == 2) refl said)
+begun-asked k d (requests.Grant gref entry) e said = e
+begun-asked k d (requests.Revoke gref) e said = e
+begun-asked k d (requests.Demote gref) e said = e
+begun-asked k d (requests.Promote gref) e said = e
+begun-asked k d (requests.Map dom gref flags) e said = e
+begun-asked k d (requests.Unmap handle) e said = e
+begun-asked k d (requests.Load handle off len) e said = e
+begun-asked k d (requests.SetVersion version) e said = e
+begun-asked k d (requests.SetupTable frames) e said = e
+begun-asked k d (requests.QuerySize dom) e said = e
+begun-asked k d (requests.GetVersion dom) e said = e
+
+pub begin-opens : (s : Setting) (h : History) (d : State) (request : Request) (o : Open) → FitsAsked o.call.request → Agrees s h d → d.underway ≡ None
     → Opens (knowledge_of s.domains s.first_generation s.may d.own d.header d.mappings d.maps_answered) d.id request (OpeningOpen o)
     → IsRight s h (began d.id request None) × Agrees s (began d.id request None ∷ h) (record d { underway = Some o })
 begin-opens s h d request o fits a closed opens =
     let i = began d.id request None in
     let q = began-quiet d.id request None refl in
+    let r = asked request in
     let was = known-same s h d a in
     let still = was ∙ sym (quiet-known s i h d.id q) in
-    let quiet : begun (known_at s h d.id) d.id request ≡ None = ap (λ (k : CallerKnowledge). begun k d.id request) (sym was) ∙ opens.0 in
-    let later : begun (known_at s (i ∷ h) d.id) d.id request ≡ None = ap (λ (k : CallerKnowledge). begun k d.id request) (sym still) ∙ opens.0 in
+    let quiet : begun_of (known_at s h d.id) d.id request ≡ None = ap (λ (k : CallerKnowledge). begun_of k d.id request) (sym was) ∙ opens.0 in
+    let said : IsSaid (table_at s h d.id) request = subst (λ (x : Header). IsSaid x request) a.header opens.6 in
+    let now : begun_of (known_at s (i ∷ h) d.id) d.id request ≡ None = ap (λ (k : CallerKnowledge). begun_of k d.id request) (sym still) ∙ opens.0 in
+    let later : begun (known_at s (i ∷ h) d.id) d.id r ≡ None = begun-asked (known_at s (i ∷ h) d.id) d.id request now (subst (λ (x : Header). IsSaid x request) (sym (quiet-table s i h d.id q)) said) in
     let fair : stood s (i ∷ h) d.id.0 ≡ None = stood-own s i h ∙ ap refusal_in quiet in
     let empty : open_call h d.id.0 ≡ None = call-none s h d.id d.underway (open_call h d.id.0) closed a.call in
-    let agrees : OpenAgrees s (i ∷ h) d.id o (record { request = request; steps = [] }) =
+    let agrees : OpenAgrees s (i ∷ h) d.id o (record { request = r; steps = [] }) =
     record {
       caller = opens.1;
       request = opens.2;
-      comes = ap (λ (k : CallerKnowledge). expects k d.id request o.call.phase []) (sym still) ∙ opens.3;
+      comes = ap (λ (k : CallerKnowledge). expects k d.id r o.call.phase []) (sym still) ∙ opens.3;
       leads = λ vs.
-          ap (λ (v : Option Verdict). after_beginning v (steps_of (known_at s (i ∷ h) d.id) d.id request) vs) later
-          ∙ ap (λ (k : CallerKnowledge). steps_of k d.id request vs) (sym still)
+          ap (λ (v : Option Verdict). after_beginning v (steps_of (known_at s (i ∷ h) d.id) d.id r) vs) later
+          ∙ ap (λ (k : CallerKnowledge). steps_of k d.id r vs) (sym still)
           ∙ sym (opens.4 vs)
-          ∙ ap (λ (k : CallerKnowledge). expects k d.id request o.call.phase vs) still;
+          ∙ ap (λ (k : CallerKnowledge). expects k d.id r o.call.phase vs) still;
       fair = fair;
-      fits = fits;
-      place = subst (λ (p : Phase). PhaseStands s (i ∷ h) d.id request [] p)
-          (ap (λ (k : CallerKnowledge). first_phase k d.id request) (sym still) ∙ sym opens.5) (first-place s (i ∷ h) d.id request later);
+      fits = subst FitsAsked opens.2 fits;
+      place = subst (λ (p : Phase). PhaseStands s (i ∷ h) d.id r [] p)
+          (ap (λ (k : CallerKnowledge). first_phase k d.id r) (sym still) ∙ sym opens.5) (first-place s (i ∷ h) d.id r later);
     } in (
-      (empty, subst (λ (v : Option Verdict). AnsweredBy s h d.id request None v None (stood s (i ∷ h) d.id.0)) (sym quiet) fair),
+      (empty, subst (λ (v : Option Verdict). AnsweredBy s h d.id r None v None (stood s (i ∷ h) d.id.0)) (sym quiet) fair, λ e. said),
       quiet-agrees s i h d (Some o) q a (subst (λ (c : Option Underway). CallAgrees s (i ∷ h) d.id (Some o) c) (sym (open_call-own i h)) agrees),
     )
 
@@ -326,31 +398,33 @@ begin-opens s h d request o fits a closed opens =
 
 pub plain-unmapped : (r : Request) (x : Header) (v : Verdict) → one_if_mapped (Some (answer_begun r x v)) ≡ 0
 plain-unmapped r x (Refused denial) = refl
-plain-unmapped (Grant gref entry) x Granted = refl
-plain-unmapped (Revoke gref) x Granted = refl
-plain-unmapped (Demote gref) x Granted = refl
-plain-unmapped (Promote gref) x Granted = refl
-plain-unmapped (Map dom gref flags) x Granted = refl
-plain-unmapped (Unmap handle) x Granted = refl
-plain-unmapped (Load handle off len) x Granted = refl
-plain-unmapped (SetVersion version) x Granted = refl
-plain-unmapped (SetupTable frames) x Granted = refl
-plain-unmapped (QuerySize dom) x Granted = refl
-plain-unmapped (GetVersion dom) x Granted = refl
+plain-unmapped (requests.Grant gref entry) x Granted = refl
+plain-unmapped (requests.GrantBytes gref bytes) x Granted = refl
+plain-unmapped (requests.Revoke gref) x Granted = refl
+plain-unmapped (requests.Demote gref) x Granted = refl
+plain-unmapped (requests.Promote gref) x Granted = refl
+plain-unmapped (requests.Map dom gref flags) x Granted = refl
+plain-unmapped (requests.Unmap handle) x Granted = refl
+plain-unmapped (requests.Load handle off len) x Granted = refl
+plain-unmapped (requests.SetVersion version) x Granted = refl
+plain-unmapped (requests.SetupTable frames) x Granted = refl
+plain-unmapped (requests.QuerySize dom) x Granted = refl
+plain-unmapped (requests.GetVersion dom) x Granted = refl
 
 pub plain-refusal : (r : Request) (x : Header) (v : Verdict) → refusal_of (answer_begun r x v) ≡ refusal_in (Some v)
 plain-refusal r x (Refused denial) = refl
-plain-refusal (Grant gref entry) x Granted = refl
-plain-refusal (Revoke gref) x Granted = refl
-plain-refusal (Demote gref) x Granted = refl
-plain-refusal (Promote gref) x Granted = refl
-plain-refusal (Map dom gref flags) x Granted = refl
-plain-refusal (Unmap handle) x Granted = refl
-plain-refusal (Load handle off len) x Granted = refl
-plain-refusal (SetVersion version) x Granted = refl
-plain-refusal (SetupTable frames) x Granted = refl
-plain-refusal (QuerySize dom) x Granted = refl
-plain-refusal (GetVersion dom) x Granted = refl
+plain-refusal (requests.Grant gref entry) x Granted = refl
+plain-refusal (requests.GrantBytes gref bytes) x Granted = refl
+plain-refusal (requests.Revoke gref) x Granted = refl
+plain-refusal (requests.Demote gref) x Granted = refl
+plain-refusal (requests.Promote gref) x Granted = refl
+plain-refusal (requests.Map dom gref flags) x Granted = refl
+plain-refusal (requests.Unmap handle) x Granted = refl
+plain-refusal (requests.Load handle off len) x Granted = refl
+plain-refusal (requests.SetVersion version) x Granted = refl
+plain-refusal (requests.SetupTable frames) x Granted = refl
+plain-refusal (requests.QuerySize dom) x Granted = refl
+plain-refusal (requests.GetVersion dom) x Granted = refl
 
 -- maps, loads and queries are never done at their beginning
 
@@ -387,29 +461,38 @@ query-refused k caller dom =
     first-refused (is_none (domain_of k.domains (resolved caller dom))) N1 _
     (denied-refused k.may (label_of k.domains caller) (label_of k.domains (resolved caller dom)) (query ∷ []) _ none-granted)
 
-gives-value : (s : Setting) (h : History) (k : CallerKnowledge) (d : DomId) (request : Request) (x : Header) (v : Verdict) → x ≡ table_at s h d → begun k d request ≡ Some v
-    → GivesValue s h d request None (answer_begun request x v)
+bytes-refused : (header : Header) (old : Entry) (generation r : ℕ) (bytes : List ℕ) → bytes_begun header old generation r bytes ≡ Some Granted → ⊥
+bytes-refused header old generation r bytes =
+    first-refused (nat_le (size_of header) r) N9 _ (first-refused (not (is_invalid old)) N20 _ (first-refused (generation == 1048575) N22 _ (by (first_refused header.version bytes))))
+  where
+    by : (o : Option Field) → first (field_refused o ∷ []) ≡ Some Granted → ⊥
+    by None e = cc
+    by (Some f) e = cc
+
+gives-value : (s : Setting) (h : History) (k : CallerKnowledge) (d : DomId) (request : Request) (x : Header) (v : Verdict) → x ≡ table_at s h d → begun_of k d request ≡ Some v
+    → GivesValue s h d (asked request) None (answer_begun request x v)
 gives-value s h k d request x (Refused denial) same e = tt
-gives-value s h k d (Grant gref entry) x Granted same e = refl
-gives-value s h k d (Revoke gref) x Granted same e = refl
-gives-value s h k d (Demote gref) x Granted same e = refl
-gives-value s h k d (Promote gref) x Granted same e = refl
-gives-value s h k d (Map dom gref flags) x Granted same e = absurd (map-refused k d dom flags e)
-gives-value s h k d (Unmap handle) x Granted same e = refl
-gives-value s h k d (Load handle off len) x Granted same e = absurd (load-refused k.mappings handle off len e)
-gives-value s h k d (SetVersion version) x Granted same e = refl
-gives-value s h k d (SetupTable frames) x Granted same e = ap (λ (t : Header). Frames t.frames) same
-gives-value s h k d (QuerySize dom) x Granted same e = absurd (query-refused k d dom e)
-gives-value s h k d (GetVersion dom) x Granted same e = absurd (query-refused k d dom e)
+gives-value s h k d (requests.GrantBytes gref bytes) x Granted same e = absurd (bytes-refused k.header (k.entry gref.0) (k.generation gref.0) gref.0 bytes.now e)
+gives-value s h k d (requests.Map dom gref flags) x Granted same e = absurd (map-refused k d dom flags e)
+gives-value s h k d (requests.Load handle off len) x Granted same e = absurd (load-refused k.mappings handle off len e)
+gives-value s h k d (requests.SetupTable frames) x Granted same e = ap (λ (t : Header). Frames t.frames) same
+gives-value s h k d (requests.QuerySize dom) x Granted same e = absurd (query-refused k d dom e)
+gives-value s h k d (requests.GetVersion dom) x Granted same e = absurd (query-refused k d dom e)
+gives-value s h k d (requests.Grant gref entry) x Granted same e = refl
+gives-value s h k d (requests.Revoke gref) x Granted same e = refl
+gives-value s h k d (requests.Demote gref) x Granted same e = refl
+gives-value s h k d (requests.Promote gref) x Granted same e = refl
+gives-value s h k d (requests.Unmap handle) x Granted same e = refl
+gives-value s h k d (requests.SetVersion version) x Granted same e = refl
 
 pub begin-done : (s : Setting) (h : History) (d : State) (request : Request) (v : Verdict) → Agrees s h d → d.underway ≡ None
-    → begun (knowledge_of s.domains s.first_generation s.may d.own d.header d.mappings d.maps_answered) d.id request ≡ Some v
+    → begun_of (knowledge_of s.domains s.first_generation s.may d.own d.header d.mappings d.maps_answered) d.id request ≡ Some v
     → IsRight s h (began d.id request (Some (answer_begun request d.header v))) × Agrees s (began d.id request (Some (answer_begun request d.header v)) ∷ h) d
 begin-done s h d request v a closed opens =
     let i = began d.id request (Some (answer_begun request d.header v)) in
     let q = began-quiet d.id request (Some (answer_begun request d.header v)) (plain-unmapped request d.header v) in
     let was = known-same s h d a in
-    let at_once : begun (known_at s h d.id) d.id request ≡ Some v = ap (λ (k : CallerKnowledge). begun k d.id request) (sym was) ∙ opens in
+    let at_once : begun_of (known_at s h d.id) d.id request ≡ Some v = ap (λ (k : CallerKnowledge). begun_of k d.id request) (sym was) ∙ opens in
     let against : stood s (i ∷ h) d.id.0 ≡ refusal_in (Some v) = stood-own s i h ∙ ap refusal_in at_once in
     let empty : open_call h d.id.0 ≡ None = call-none s h d.id d.underway (open_call h d.id.0) closed a.call in
     let now : open_call (i ∷ h) d.id.0 ≡ None = open_call-own i h in
@@ -418,41 +501,42 @@ begin-done s h d request v a closed opens =
     (subst (λ (c : Option Underway). CallAgrees s (i ∷ h) d.id None c) (sym now) tt) in (
       (
         empty,
-        subst (λ (x : Option Verdict). AnsweredBy s h d.id request None x (Some (answer_begun request d.header v)) (stood s (i ∷ h) d.id.0)) (sym at_once)
+        subst (λ (x : Option Verdict). AnsweredBy s h d.id (asked request) None x (Some (answer_begun request d.header v)) (stood s (i ∷ h) d.id.0)) (sym at_once)
             (plain-refusal request d.header v, plain-refusal request d.header v ∙ sym against, gives-value s h (known_at s h d.id) d.id request d.header v a.header at_once),
+        λ e. let f : Some (answer_begun request d.header v) ≡ None = e in cc,
       ),
       quiet-agrees s i h d d.underway q a call,
     )
 
 -- the machine's first action
 
-opens-at : (k : CallerKnowledge) (dom : DomId) (request : Request) (new : Call) (step : Step) → begun k dom request ≡ None → new.caller ≡ dom → new.request ≡ request
-    → ((vs : List Seen) → expects k dom request new.phase vs ≡ expects k dom request PhaseBegun (Nothing ∷ vs))
-    → expects k dom request new.phase [] ≡ Some (Makes step) → new.phase ≡ first_phase k dom request → Opens k dom request (OpeningOpen (record { call = new; step = step }))
-opens-at k dom request new step none caller asked goes comes first = (none, caller, asked, comes, goes, first)
+opens-at : (k : CallerKnowledge) (dom : DomId) (request : Request) (new : Call) (step : Step) → begun_of k dom request ≡ None → IsSaid k.header request → new.caller ≡ dom → new.request ≡ asked request
+    → ((vs : List Seen) → expects k dom (asked request) new.phase vs ≡ expects k dom (asked request) PhaseBegun (Nothing ∷ vs))
+    → expects k dom (asked request) new.phase [] ≡ Some (Makes step) → new.phase ≡ first_phase k dom (asked request) → Opens k dom request (OpeningOpen (record { call = new; step = step }))
+opens-at k dom request new step none said caller same goes comes first = (none, caller, same, comes, goes, first, said)
 
-pub opens-next : (k : CallerKnowledge) (dom : DomId) (request : Request) (first new : Call) (step : Step) → StartOpen first ≡ starts_as dom request (begun k dom request)
-    → new.caller ≡ first.caller → new.request ≡ first.request
+pub opens-next : (k : CallerKnowledge) (dom : DomId) (request : Request) (first new : Call) (step : Step) → StartOpen first ≡ starts_as dom (asked request) (begun_of k dom request)
+    → (begun_of k dom request ≡ None → IsSaid k.header request) → new.caller ≡ first.caller → new.request ≡ first.request
     → ((vs : List Seen) → expects k first.caller first.request new.phase vs ≡ expects k first.caller first.request first.phase (Nothing ∷ vs))
     → expects k first.caller first.request new.phase [] ≡ Some (Makes step) → new.phase ≡ phase_after k first.caller first.request first.phase Nothing
     → Opens k dom request (OpeningOpen (record { call = new; step = step }))
-opens-next k dom request first new step e caller asked goes comes phase =
-    let t = starts-open dom request (begun k dom request) first e in
-    opens-at k dom request new step t.0
+opens-next k dom request first new step e said caller same goes comes phase =
+    let t = starts-open dom (asked request) (begun_of k dom request) first e in
+    opens-at k dom request new step t.0 (said t.0)
     (caller ∙ ap (λ (f : Call). f.caller) t.1)
-    (asked ∙ ap (λ (f : Call). f.request) t.1)
+    (same ∙ ap (λ (f : Call). f.request) t.1)
     (subst (λ (f : Call). (vs : List Seen) → expects k f.caller f.request new.phase vs ≡ expects k f.caller f.request f.phase (Nothing ∷ vs)) t.1 goes)
     (subst (λ (f : Call). expects k f.caller f.request new.phase [] ≡ Some (Makes step)) t.1 comes)
     (subst (λ (f : Call). new.phase ≡ phase_after k f.caller f.request f.phase Nothing) t.1 phase)
 
-pub opens-underway : (k : CallerKnowledge) (dom : DomId) (request : Request) (first : Call) → StartOpen first ≡ starts_as dom request (begun k dom request) → IsUnderway k first.caller first.request first.phase
-opens-underway k dom request first e =
-    let t = starts-open dom request (begun k dom request) first e in
-    subst (λ (f : Call). IsUnderway k f.caller f.request f.phase) (sym t.1) t.0
+pub opens-underway : (k : CallerKnowledge) (dom : DomId) (request : Request) (first : Call) → StartOpen first ≡ starts_as dom (asked request) (begun_of k dom request) → (begun_of k dom request ≡ None → IsSaid k.header request) → IsUnderway k first.caller first.request first.phase
+opens-underway k dom request first e said =
+    let t = starts-open dom (asked request) (begun_of k dom request) first e in
+    subst (λ (f : Call). IsUnderway k f.caller f.request f.phase) (sym t.1) (begun-asked k dom request t.0 (said t.0))
 
-pub opens-fits : (k : CallerKnowledge) (dom : DomId) (request : Request) (first : Call) → StartOpen first ≡ starts_as dom request (begun k dom request) → FitsPhase k first.caller first.request first.phase Nothing
+pub opens-fits : (k : CallerKnowledge) (dom : DomId) (request : Request) (first : Call) → StartOpen first ≡ starts_as dom (asked request) (begun_of k dom request) → FitsPhase k first.caller first.request first.phase Nothing
 opens-fits k dom request first e =
-    let t = starts-open dom request (begun k dom request) first e in
+    let t = starts-open dom (asked request) (begun_of k dom request) first e in
     subst (λ (f : Call). FitsPhase k f.caller f.request f.phase Nothing) (sym t.1) refl
 
 unpin-step : (m : Option Mapping) (v : Verdict) → gives_up m [] ≡ Some (Done v) → ⊥
@@ -468,7 +552,7 @@ turn-step to_ro caller gref v e =
     let first : Some (Makes (LookControl caller gref)) ≡ Some (Done v) = sym (ap (λ (t : Continuation). t []) (turns-one to_ro caller gref 3)) ∙ e in cc
 
 -- a call that is not answered at its beginning begins with a step
-steps-begin : (k : CallerKnowledge) (dom : DomId) (request : Request) (v : Verdict) → steps_of k dom request [] ≡ Some (Done v) → ⊥
+steps-begin : (k : CallerKnowledge) (dom : DomId) (request : Asked) (v : Verdict) → steps_of k dom request [] ≡ Some (Done v) → ⊥
 steps-begin k dom (Grant gref entry) v e = cc
 steps-begin k dom (Revoke gref) v e = cc
 steps-begin k dom (Demote gref) v e = turn-step true dom gref v e
@@ -481,12 +565,12 @@ steps-begin k dom (SetupTable frames) v e = cc
 steps-begin k dom (QuerySize d) v e = cc
 steps-begin k dom (GetVersion d) v e = cc
 
-pub not-done : (k : CallerKnowledge) (dom : DomId) (request : Request) (first new : Call) (v : Verdict) → StartOpen first ≡ starts_as dom request (begun k dom request)
+pub not-done : (k : CallerKnowledge) (dom : DomId) (request : Request) (first new : Call) (v : Verdict) → StartOpen first ≡ starts_as dom (asked request) (begun_of k dom request)
     → ((vs : List Seen) → expects k first.caller first.request new.phase vs ≡ expects k first.caller first.request first.phase (Nothing ∷ vs))
     → expects k first.caller first.request new.phase [] ≡ Some (Done v) → ⊥
 not-done k dom request first new v e goes comes =
-    let t = starts-open dom request (begun k dom request) first e in
-    steps-begin k dom request v
+    let t = starts-open dom (asked request) (begun_of k dom request) first e in
+    steps-begin k dom (asked request) v
     (subst (λ (f : Call). expects k f.caller f.request f.phase (Nothing ∷ []) ≡ Some (Done v)) t.1 (sym (goes []) ∙ comes))
 
 -- the four ways that the core begins
@@ -518,12 +602,12 @@ same-state domains x q e = by (x.id.0 == q) refl
 
 pub begin-answered : (s : Setting) (h : History) (domains : List State) (dom : DomId) (at : ℕ) (x : State) (request : Request) (v : Verdict)
     → position (has_id dom.0) domains ≡ Some at → x ≡ get_or domains at x → is_some x.underway ≡ false
-    → begun (knowledge_of s.domains s.first_generation s.may x.own x.header x.mappings x.maps_answered) dom request ≡ Some v → CoreStands s h domains
+    → begun_of (knowledge_of s.domains s.first_generation s.may x.own x.header x.mappings x.maps_answered) dom request ≡ Some v → CoreStands s h domains
     → (domain_of s.domains dom ≢ None) × IsRight s h (began dom request (Some (answer_begun request x.header v))) × CoreStands s (began dom request (Some (answer_begun request x.header v)) ∷ h) domains
 begin-answered s h domains dom at x request v p here idle opens st =
     let a = agrees-found s h domains dom at x p here st in
     let f = found domains dom.0 at x p ∙ ap (λ (y : State). Some y) (sym here) in
-    let both = subst (λ (d : DomId). begun (knowledge_of s.domains s.first_generation s.may x.own x.header x.mappings x.maps_answered) d request ≡ Some v → state_of domains d.0 ≡ Some x
+    let both = subst (λ (d : DomId). begun_of (knowledge_of s.domains s.first_generation s.may x.own x.header x.mappings x.maps_answered) d request ≡ Some v → state_of domains d.0 ≡ Some x
     → IsRight s h (began d request (Some (answer_begun request x.header v))) × CoreStands s (began d request (Some (answer_begun request x.header v)) ∷ h) domains) a.1
     (λ op g. let b = begin-done s h x request v a.2 (closed-from x.underway idle) op in (
       b.0,
@@ -534,7 +618,7 @@ begin-answered s h domains dom at x request v p here idle opens st =
     (a.0, both.0, both.1)
 
 pub begin-opened : (s : Setting) (h : History) (domains : List State) (dom : DomId) (at : ℕ) (x : State) (request : Request) (o : Open)
-    → FitsRequest request → position (has_id dom.0) domains ≡ Some at → x ≡ get_or domains at x → is_some x.underway ≡ false
+    → FitsAsked o.call.request → position (has_id dom.0) domains ≡ Some at → x ≡ get_or domains at x → is_some x.underway ≡ false
     → Opens (knowledge_of s.domains s.first_generation s.may x.own x.header x.mappings x.maps_answered) dom request (OpeningOpen o) → CoreStands s h domains
     → (domain_of s.domains dom ≢ None) × IsRight s h (began dom request None) × CoreStands s (began dom request None ∷ h) (set domains at (record x { underway = Some o }))
 begin-opened s h domains dom at x request o fits p here idle opens st =
@@ -557,7 +641,7 @@ place-at domains d at x p here = slice_get_read domains (length domains) at x re
 
 pub begin-answers : (s : Setting) (h : History) (domains : List State) (dom : DomId) (at : ℕ) (x : State) (request : Request) (v : Verdict) (y : Answer) → y ≡ answer_begun request x.header v
     → position (has_id dom.0) domains ≡ Some at → x ≡ get_or domains at x → is_some x.underway ≡ false
-    → begun (knowledge_of s.domains s.first_generation s.may x.own x.header x.mappings x.maps_answered) dom request ≡ Some v → CoreStands s h domains
+    → begun_of (knowledge_of s.domains s.first_generation s.may x.own x.header x.mappings x.maps_answered) dom request ≡ Some v → CoreStands s h domains
     → (domain_of s.domains dom ≢ None) × IsRight s h (began dom request (Some y)) × CoreStands s (began dom request (Some y) ∷ h) domains
 begin-answers s h domains dom at x request v y e p here idle opens st =
     subst (λ (z : Answer). (domain_of s.domains dom ≢ None) × IsRight s h (began dom request (Some z)) × CoreStands s (began dom request (Some z) ∷ h) domains) (sym e)
@@ -578,5 +662,5 @@ begin-wants s h domains dom at x request o asks p here idle opens st =
     let a = agrees-found s h domains dom at x p here st in (
       ap asks_memory (sym opens.2) ∙ asks,
       subst (λ (d : DomId). open_call h d.0 ≡ None) a.1 (call-none s h x.id x.underway (open_call h x.id.0) (closed-from x.underway idle) a.2.call),
-      subst (λ (d : DomId). begun (known_at s h d) dom request ≡ None) a.1 (ap (λ (k : CallerKnowledge). begun k dom request) (sym (known-same s h x a.2)) ∙ opens.0),
+      subst (λ (d : DomId). begun_of (known_at s h d) dom request ≡ None) a.1 (ap (λ (k : CallerKnowledge). begun_of k dom request) (sym (known-same s h x a.2)) ∙ opens.0),
     )

@@ -24,8 +24,8 @@ use Rattle.gt_types.specs.declared.Use.TheVariants.{Map as ForMap}
 use Rattle.gt_core.specs.declared.request.Handle.{Handle}
 use Rattle.gt_core.specs.declared.request.Holder.{Holder}
 use Rattle.gt_core.specs.declared.request.Holder.TheVariants.{Mapping as ByMapping, Leg as ByLeg}
-use Rattle.gt_core.specs.declared.request.Request.{Request}
-use Rattle.gt_core.specs.declared.request.Request.TheVariants.{Grant, Revoke, Demote, Promote, Map, Unmap, Load, SetVersion, SetupTable, QuerySize, GetVersion}
+use Rattle.gt_core.specs.declared.asked.Asked.{Asked}
+use Rattle.gt_core.specs.declared.asked.Asked.TheVariants.{Grant, Revoke, Demote, Promote, Map, Unmap, Load, SetVersion, SetupTable, QuerySize, GetVersion}
 use Rattle.gt_core.specs.declared.action.Verdict.TheVariants.{Granted, Refused}
 use Rattle.gt_core.specs.declared.action.Change.{Change}
 use Rattle.gt_core.specs.declared.action.Step.{Step}
@@ -100,7 +100,7 @@ use Rattle.gt_core.proofs.Pinning.{pin-stands, new_pin, pins_at}
 
 -- a call that is answered Ok
 
-ended-none : (k : CallerKnowledge) (d : DomId) (r : Request) (phase : Phase) → Done Granted ≡ action_at k d r phase → phase_refusal phase ≡ None
+ended-none : (k : CallerKnowledge) (d : DomId) (r : Asked) (phase : Phase) → Done Granted ≡ action_at k d r phase → phase_refusal phase ≡ None
 ended-none k d r PhaseBegun e = refl
 ended-none k d r (LegPinning l p) e = refl
 ended-none k d r Storing e = refl
@@ -144,7 +144,7 @@ NotPinned (Going phase) = Unit {0}
 NotPinned (LegRefused denial) = Unit {0}
 NotPinned (Pinned word body second) = ⊥
 
-not-granted : (k : CallerKnowledge) (d : DomId) (r : Request) (l : Leg) (next : LegNext) → NotPinned next → Done Granted ≡ action_at k d r (after_leg l next) → ⊥
+not-granted : (k : CallerKnowledge) (d : DomId) (r : Asked) (l : Leg) (next : LegNext) → NotPinned next → Done Granted ≡ action_at k d r (after_leg l next) → ⊥
 not-granted k d r l (Going phase) n e = cc
 not-granted k d r l (LegRefused denial) n e = cc
 not-granted k d r l (Pinned word body second) n e = n
@@ -187,7 +187,7 @@ looked-goes s h d l (Relook more word rule) a = by (word_at s h l.dom.0 l.gref.0
     by false = miss-goes l more (word_at s h l.dom.0 l.gref.0)
 looked-goes s h d l (Pinning more word body second) a = absurd a
 
-own-look-goes : (k : CallerKnowledge) (d : DomId) (r : Request) (more word : ℕ) → Done Granted ≡ action_at k d r (after_own_look d r more word) → ⊥
+own-look-goes : (k : CallerKnowledge) (d : DomId) (r : Asked) (more word : ℕ) → Done Granted ≡ action_at k d r (after_own_look d r more word) → ⊥
 own-look-goes k d r more word = by (is_demote r && nat_lt 0 (control_of word).writes)
   where
     by : (b : Bool) → Done Granted ≡ action_at k d r (cond b (Ended (Refused (entry_refusal d (own_gref r) N19 word))) (OwnChange more word)) → ⊥
@@ -207,12 +207,12 @@ read-loud None off len step e a = cc
 read-loud (Some m) off len step e a = subst LooksOrStores (sym (makes-same _ _ e)) a
 
 -- the call asks for a header alone
-abbrev is_query : Request → Bool
+abbrev is_query : Asked → Bool
 is_query (QuerySize dom) = true
 is_query (GetVersion dom) = true
 is_query request = false
 
-never-ends : (s : Setting) (h : History) (d : DomId) (r : Request) (so_far : StepsSoFar) (phase : Phase) (step : Step) → PhaseStands s h d r so_far phase
+never-ends : (s : Setting) (h : History) (d : DomId) (r : Asked) (so_far : StepsSoFar) (phase : Phase) (step : Step) → PhaseStands s h d r so_far phase
     → Comes (expects (known_at s h d) d r phase []) → action_at (known_at s h d) d r phase ≡ Makes step → is_query r ≡ false → LooksOrStores step
     → Done Granted ≡ action_at (known_at s h d) d r (phase_after (known_at s h d) d r phase (seen_by s h d step)) → ⊥
 never-ends s h d r so_far PhaseBegun step a comes act plain looks e = a
@@ -260,7 +260,7 @@ never-ends s h d (GetVersion dom) so_far StoringSecond step a comes act plain lo
 
 -- an unpin is of the mapping that an unmap names
 
-abbrev Unmaps : Setting → History → DomId → Request → Step → Type 0
+abbrev Unmaps : Setting → History → DomId → Asked → Step → Type 0
 Unmaps s h d r step = (handle : Handle) × (m : Mapping) × (r ≡ Unmap handle) × (mapping_of (mappings_at h d.0) handle ≡ Some m) × (step ≡ Unpin m.dom m.gref m.dir (ByMapping m.handle))
 
 unmaps-by : (s : Setting) (h : History) (d : DomId) (handle : Handle) (o : Option Mapping) (step : Step) → mapping_of (mappings_at h d.0) handle ≡ o → unpin_of o ≡ Makes step → Unmaps s h d (Unmap handle) step
@@ -269,7 +269,7 @@ unmaps-by s h d handle (Some m) step e act = (handle, m, refl, e, sym (makes-sam
 
 -- a load reads the frame that its mapping shows
 
-abbrev Loads : Setting → History → DomId → Request → Step → Type 0
+abbrev Loads : Setting → History → DomId → Asked → Step → Type 0
 Loads s h d r step = (handle : Handle) × (off : ℕ) × (len : ℕ) × (m : Mapping) × (r ≡ Load handle off len) × (mapping_of (mappings_at h d.0) handle ≡ Some m) × (step ≡ ReadBytes m.dom m.frame off len)
 
 loads-by : (s : Setting) (h : History) (d : DomId) (handle : Handle) (off len : ℕ) (o : Option Mapping) (step : Step) → mapping_of (mappings_at h d.0) handle ≡ o → read_of o off len ≡ Makes step → Loads s h d (Load handle off len) step
@@ -302,7 +302,7 @@ abbrev StoresBody : Step → Type 0
 StoresBody (StoreBody gref second word) = Unit {0}
 StoresBody step = ⊥
 
-store-only : (r : Request) (step : Step) → store_at r ≡ Makes step → StoresBody step
+store-only : (r : Asked) (step : Step) → store_at r ≡ Makes step → StoresBody step
 store-only (Grant gref entry) step e = subst StoresBody (makes-same _ _ e) tt
 store-only (Revoke gref) step e = cc
 store-only (Demote gref) step e = cc
@@ -315,7 +315,7 @@ store-only (SetupTable frames) step e = cc
 store-only (QuerySize dom) step e = cc
 store-only (GetVersion dom) step e = cc
 
-second-only : (r : Request) (step : Step) → second_at r ≡ Makes step → StoresBody step
+second-only : (r : Asked) (step : Step) → second_at r ≡ Makes step → StoresBody step
 second-only (Grant gref entry) step e = subst StoresBody (makes-same _ _ e) tt
 second-only (Revoke gref) step e = cc
 second-only (Demote gref) step e = cc
@@ -345,7 +345,7 @@ leg-only l (Pinning more word body second) step e = subst LooksOrPins (makes-sam
 leg-only l (Relook more word rule) step e = subst LooksOrPins (makes-same _ _ e) tt
 
 -- the pin of a leg, by the words of its try
-abbrev PinsBy : Request → Phase → Step → Type 0
+abbrev PinsBy : Asked → Phase → Step → Type 0
 PinsBy r phase step = (l : Leg) × (more : ℕ) × (word : ℕ) × (body : ℕ) × (second : ℕ) × (phase ≡ LegPinning l (Pinning more word body second)) × (step ≡ PinStep l.dom l.gref word l.dir)
 
 unpin-no-pin : (m : Option Mapping) (t : DomId) (gref : GrantRef) (looked : ℕ) (dir : Dir) → unpin_of m ≡ Makes (PinStep t gref looked dir) → ⊥
@@ -356,7 +356,7 @@ read-no-pin : (m : Option Mapping) (off len : ℕ) (t : DomId) (gref : GrantRef)
 read-no-pin None off len t gref looked dir e = cc
 read-no-pin (Some m) off len t gref looked dir e = cc
 
-single-no-pin : (k : CallerKnowledge) (d : DomId) (r : Request) (t : DomId) (gref : GrantRef) (looked : ℕ) (dir : Dir) → single_at k d r ≡ Makes (PinStep t gref looked dir) → ⊥
+single-no-pin : (k : CallerKnowledge) (d : DomId) (r : Asked) (t : DomId) (gref : GrantRef) (looked : ℕ) (dir : Dir) → single_at k d r ≡ Makes (PinStep t gref looked dir) → ⊥
 single-no-pin k d (Grant gref' entry) t gref looked dir e = cc
 single-no-pin k d (Revoke gref') t gref looked dir e = cc
 single-no-pin k d (Demote gref') t gref looked dir e = cc
@@ -369,7 +369,7 @@ single-no-pin k d (SetupTable frames) t gref looked dir e = cc
 single-no-pin k d (QuerySize dom) t gref looked dir e = cc
 single-no-pin k d (GetVersion dom) t gref looked dir e = cc
 
-leg-pin : (r : Request) (l : Leg) (p : LegPhase) (t : DomId) (gref : GrantRef) (looked : ℕ) (dir : Dir) → Makes (leg_step l p) ≡ Makes (PinStep t gref looked dir) → PinsBy r (LegPinning l p) (PinStep t gref looked dir)
+leg-pin : (r : Asked) (l : Leg) (p : LegPhase) (t : DomId) (gref : GrantRef) (looked : ℕ) (dir : Dir) → Makes (leg_step l p) ≡ Makes (PinStep t gref looked dir) → PinsBy r (LegPinning l p) (PinStep t gref looked dir)
 leg-pin r l AtHeader t gref looked dir e = cc
 leg-pin r l (Look more) t gref looked dir e = cc
 leg-pin r l (Body more word) t gref looked dir e = cc
@@ -377,7 +377,7 @@ leg-pin r l (Second more word body) t gref looked dir e = cc
 leg-pin r l (Relook more word rule) t gref looked dir e = cc
 leg-pin r l (Pinning more word body second) t gref looked dir e = (l, more, word, body, second, refl, sym (makes-same _ _ e))
 
-pins-by : (k : CallerKnowledge) (d : DomId) (r : Request) (phase : Phase) (t : DomId) (gref : GrantRef) (looked : ℕ) (dir : Dir) → action_at k d r phase ≡ Makes (PinStep t gref looked dir) → PinsBy r phase (PinStep t gref looked dir)
+pins-by : (k : CallerKnowledge) (d : DomId) (r : Asked) (phase : Phase) (t : DomId) (gref : GrantRef) (looked : ℕ) (dir : Dir) → action_at k d r phase ≡ Makes (PinStep t gref looked dir) → PinsBy r phase (PinStep t gref looked dir)
 pins-by k d r PhaseBegun t gref looked dir e = cc
 pins-by k d r (LegPinning l p) t gref looked dir e = leg-pin r l p t gref looked dir e
 pins-by k d r Storing t gref looked dir e = absurd (store-only r (PinStep t gref looked dir) e)
@@ -388,7 +388,7 @@ pins-by k d r (OwnChange more word) t gref looked dir e = cc
 pins-by k d r (Ended verdict) t gref looked dir e = cc
 
 -- a pin that ends a call was taken
-pin-taken : (k : CallerKnowledge) (d : DomId) (r : Request) (l : Leg) (more word body second w : ℕ) (b : Bool)
+pin-taken : (k : CallerKnowledge) (d : DomId) (r : Asked) (l : Leg) (more word body second w : ℕ) (b : Bool)
     → Done Granted ≡ action_at k d r (after_leg l (leg_after l (Pinning more word body second) (cond b Taken (Missed w)))) → b ≡ true
 pin-taken k d r l more word body second w true e = refl
 pin-taken k d r l more word body second w false e = absurd (not-granted k d r l (after_miss l more w) (miss-goes l more w) e)
@@ -469,7 +469,7 @@ map-asked s h d dom gref flags e =
       leb-false (2 ^ 64 - 1) k.maps_answered (or-false (nat_le 8192 (length k.mappings)) (nat_le (2 ^ 64 - 1) k.maps_answered) (refused-none (nat_le 8192 (length k.mappings) || nat_le (2 ^ 64 - 1) k.maps_answered) N8 f.0)),
     )
 
-map-of-leg : (k : CallerKnowledge) (d : DomId) (r : Request) (l : Leg) → leg_of k d r ≡ Some l → (dom : DomId) × (gref : GrantRef) × (flags : ℕ) × (r ≡ Map dom gref flags) × (l ≡ map_leg k d dom gref flags)
+map-of-leg : (k : CallerKnowledge) (d : DomId) (r : Asked) (l : Leg) → leg_of k d r ≡ Some l → (dom : DomId) × (gref : GrantRef) × (flags : ℕ) × (r ≡ Map dom gref flags) × (l ≡ map_leg k d dom gref flags)
 map-of-leg k d (Grant gref entry) l e = cc
 map-of-leg k d (Revoke gref) l e = cc
 map-of-leg k d (Demote gref) l e = cc
@@ -609,9 +609,9 @@ abbrev EndsRight : Setting → History → List State → State → Open → Und
 EndsRight s h xs x o c step seen answer settled =
     StepsRight s h (stepped x.id step seen (Some answer)) step seen c × CoreStands s (stepped x.id step seen (Some answer) ∷ h) (applied x.id step seen settled)
 
-gives-handle : (s : Setting) (h : History) (d dom t : DomId) (gref r' : GrantRef) (flags looked : ℕ) (dir : Dir) (request : Request) (handle : Handle) → request ≡ Map dom gref flags
+gives-handle : (s : Setting) (h : History) (d dom t : DomId) (gref r' : GrantRef) (flags looked : ℕ) (dir : Dir) (request : Asked) (handle : Handle) → request ≡ Map dom gref flags
     → handle.serial ≡ maps_answered_at h d.0 → GivesValue s h d request (Some (PinStep t r' looked dir)) (Mapped handle)
-gives-handle s h d dom t gref r' flags looked dir request handle is serial = subst (λ (z : Request). GivesValue s h d z (Some (PinStep t r' looked dir)) (Mapped handle)) (sym is) serial
+gives-handle s h d dom t gref r' flags looked dir request handle is serial = subst (λ (z : Asked). GivesValue s h d z (Some (PinStep t r' looked dir)) (Mapped handle)) (sym is) serial
 
 pin-ends : (s : Setting) (h : History) (xs : List State) (x : State) (o : Open) (c : Underway) (seen : Seen) (new : Call) (answer : Answer) (settled : List State) (l : Leg) (more word body second : ℕ)
     → CoreStands s h xs → state_of xs x.id.0 ≡ Some x → Agrees s h x → open_call h x.id.0 ≡ Some c → OpenAgrees s h x.id o c → Stepping s h x.id o c seen new (Done Granted)
@@ -644,7 +644,7 @@ pin-ends s h xs x o c seen new answer settled l more word body second st here a 
     let facts = page-facts l entry g (reads_at h t r) (writes_at h t r) (second_body entry) page judged in
     let generation : g ≡ (control_of word).generation = sym (control-generation entry g (reads_at h t r) (writes_at h t r)) ∙ sym (ap (λ (z : Control). z.generation) now) in
     let frame : body ≡ frame_of entry = sym (read.first_stays generation facts.0) ∙ sym facts.1 in
-    let asked = map-asked s h d m.0 m.1 flags (ap (λ (z : Request). begun k d z) (sym m.3) ∙ w.none) in
+    let asked = map-asked s h d m.0 m.1 flags (ap (λ (z : Asked). begun k d z) (sym m.3) ∙ w.none) in
     let may : MayUse s d l.dom l.dir = subst (λ (z : Leg). MayUse s d z.dom z.dir) (sym leg) asked.0 in
     let frames : frame_of entry < frames_of s.domains l.dom = subst (λ (n : ℕ). frame_of entry < n) (ap (λ (z : Leg). z.frames) leg ∙ sym (ap (λ (z : Leg). frames_of s.domains z.dom) leg)) facts.3 in
     let handle = done.0 in
@@ -680,7 +680,7 @@ exchange-over s h xs x o c seen new answer settled gref looked change st call oa
     let right : StepsRight s h (stepped d o.step seen (Some AnswerDone)) o.step seen c =
     granted-right s h xs d o c seen new AnswerDone st call oa w (exchange-safe s h d gref looked change o.step seen (Some AnswerDone) step e)
     (subst (λ (z : Step). PinIsSound s h d c.request z seen) (sym step) tt) refl value.0 in
-    let plain : answer ≡ AnswerDone = done.0 ∙ ap (λ (q : Request). value_of q seen) oa.request ∙ value.1 in
+    let plain : answer ≡ AnswerDone = done.0 ∙ ap (λ (q : Asked). value_of q seen) oa.request ∙ value.1 in
     subst (λ (z : Answer). EndsRight s h xs x o c o.step seen z settled) (sym plain) (
       right,
       subst (λ (z : Step). CoreStands s (stepped d z seen (Some AnswerDone) ∷ h) (applied d z seen settled)) (sym step)
@@ -701,8 +701,8 @@ unpin-over s h xs x o c seen new answer settled handle m st here call oa w asks 
     granted-right s h xs d o c seen new AnswerDone st call oa w
     (subst (λ (z : Step). IsSafe s h (stepped d z seen (Some AnswerDone))) (sym step) tt)
     (subst (λ (z : Step). PinIsSound s h d c.request z seen) (sym step) tt) refl
-    (subst (λ (z : Request). GivesValue s h d z (Some o.step) AnswerDone) (sym asks) refl) in
-    let plain : answer ≡ AnswerDone = done.0 ∙ ap (λ (q : Request). value_of q seen) (oa.request ∙ asks) in
+    (subst (λ (z : Asked). GivesValue s h d z (Some o.step) AnswerDone) (sym asks) refl) in
+    let plain : answer ≡ AnswerDone = done.0 ∙ ap (λ (q : Asked). value_of q seen) (oa.request ∙ asks) in
     subst (λ (z : Answer). EndsRight s h xs x o c o.step seen z settled) (sym plain) (
       right,
       subst (λ (z : Step). CoreStands s (stepped d z seen (Some AnswerDone) ∷ h) (applied d z seen settled)) (sym step)
@@ -741,13 +741,13 @@ load-over s h xs x o c seen new answer settled handle off len m st here a call o
     let same : o.call.request ≡ Load handle off len = oa.request ∙ asks in
     let read : length (bytes_in (changed_in d.0 (with_underway None) xs) m.dom.0 m.frame off len) ≡ len → b.bytes.items ≡ bytes_in (changed_in d.0 (with_underway None) xs) m.dom.0 m.frame off len =
     subst (λ (z : List State). length (bytes_in z m.dom.0 m.frame off len) ≡ len → b.bytes.items ≡ bytes_in z m.dom.0 m.frame off len) done.2
-    (done.3 len (subst (λ (z : Request). IsLoadOf z len) (sym same) refl)) in
-    let bytes = load-bytes s h xs d handle off len m b st (ap (λ (z : Request). begun (known_at s h d) d z) (sym asks) ∙ w.none) found read in
+    (done.3 len (subst (λ (z : Asked). IsLoadOf z len) (sym same) refl)) in
+    let bytes = load-bytes s h xs d handle off len m b st (ap (λ (z : Asked). begun (known_at s h d) d z) (sym asks) ∙ w.none) found read in
     let right : StepsRight s h (stepped d o.step seen (Some (BytesAnswer b))) o.step seen c =
     granted-right s h xs d o c seen new (BytesAnswer b) st call oa w
     (subst (λ (z : Step). IsSafe s h (stepped d z seen (Some (BytesAnswer b)))) (sym step) tt)
     (subst (λ (z : Step). PinIsSound s h d c.request z seen) (sym step) tt) refl
-    (subst (λ (z : Request). GivesValue s h d z (Some o.step) (BytesAnswer b)) (sym asks)
+    (subst (λ (z : Asked). GivesValue s h d z (Some o.step) (BytesAnswer b)) (sym asks)
     (subst (λ (z : Step). GivesValue s h d (Load handle off len) (Some z) (BytesAnswer b)) (sym step) bytes)) in
     let q : changes_nothing o.step seen ≡ true = ap (λ (z : Step). changes_nothing z seen) step in
     subst (λ (z : Answer). EndsRight s h xs x o c o.step seen z settled) (sym done.1) (
@@ -757,7 +757,7 @@ load-over s h xs x o c seen new answer settled handle off len m st here a call o
     )
 
 -- a call whose last step is an exchange gives no value
-abbrev IsPlain : Setting → History → DomId → Request → Option Step → Seen → Type 0
+abbrev IsPlain : Setting → History → DomId → Asked → Option Step → Seen → Type 0
 IsPlain s h d r step seen = GivesValue s h d r step AnswerDone × (value_of r seen ≡ AnswerDone)
 
 exchange-no-unpin : (m : Option Mapping) (gref : GrantRef) (looked : ℕ) (change : Change) → unpin_of m ≡ Makes (Exchange gref looked change) → ⊥
@@ -768,7 +768,7 @@ exchange-no-read : (m : Option Mapping) (off len : ℕ) (gref : GrantRef) (looke
 exchange-no-read None off len gref looked change e = cc
 exchange-no-read (Some m) off len gref looked change e = cc
 
-exchange-single : (s : Setting) (h : History) (d : DomId) (k : CallerKnowledge) (r : Request) (gref : GrantRef) (looked : ℕ) (change : Change) (step : Option Step) (seen : Seen) → single_at k d r ≡ Makes (Exchange gref looked change) → IsPlain s h d r step seen
+exchange-single : (s : Setting) (h : History) (d : DomId) (k : CallerKnowledge) (r : Asked) (gref : GrantRef) (looked : ℕ) (change : Change) (step : Option Step) (seen : Seen) → single_at k d r ≡ Makes (Exchange gref looked change) → IsPlain s h d r step seen
 exchange-single s h d k (Grant g entry) gref looked change step seen e = (refl, refl)
 exchange-single s h d k (Revoke g) gref looked change step seen e = (refl, refl)
 exchange-single s h d k (Demote g) gref looked change step seen e = (refl, refl)
@@ -781,7 +781,7 @@ exchange-single s h d k (SetupTable frames) gref looked change step seen e = cc
 exchange-single s h d k (QuerySize dom) gref looked change step seen e = cc
 exchange-single s h d k (GetVersion dom) gref looked change step seen e = cc
 
-exchange-turn : (s : Setting) (h : History) (d : DomId) (k : CallerKnowledge) (r : Request) (more word : ℕ) (step : Option Step) (seen : Seen) → Comes (expects k d r (OwnChange more word) []) → IsPlain s h d r step seen
+exchange-turn : (s : Setting) (h : History) (d : DomId) (k : CallerKnowledge) (r : Asked) (more word : ℕ) (step : Option Step) (seen : Seen) → Comes (expects k d r (OwnChange more word) []) → IsPlain s h d r step seen
 exchange-turn s h d k (Demote g) more word step seen comes = (refl, refl)
 exchange-turn s h d k (Promote g) more word step seen comes = (refl, refl)
 exchange-turn s h d k (Grant g entry) more word step seen comes = absurd comes
@@ -794,7 +794,7 @@ exchange-turn s h d k (SetupTable frames) more word step seen comes = absurd com
 exchange-turn s h d k (QuerySize dom) more word step seen comes = absurd comes
 exchange-turn s h d k (GetVersion dom) more word step seen comes = absurd comes
 
-exchange-gives : (s : Setting) (h : History) (d : DomId) (k : CallerKnowledge) (r : Request) (phase : Phase) (gref : GrantRef) (looked : ℕ) (change : Change) (step : Option Step) (seen : Seen)
+exchange-gives : (s : Setting) (h : History) (d : DomId) (k : CallerKnowledge) (r : Asked) (phase : Phase) (gref : GrantRef) (looked : ℕ) (change : Change) (step : Option Step) (seen : Seen)
     → action_at k d r phase ≡ Makes (Exchange gref looked change) → Comes (expects k d r phase []) → IsPlain s h d r step seen
 exchange-gives s h d k r PhaseBegun gref looked change step seen act comes = cc
 exchange-gives s h d k r (LegPinning l p) gref looked change step seen act comes = absurd (leg-only l p (Exchange gref looked change) act)
@@ -806,7 +806,7 @@ exchange-gives s h d k r (OwnChange more word) gref looked change step seen act 
 exchange-gives s h d k r (Ended v) gref looked change step seen act comes = cc
 
 -- a query gives what its look saw
-query-value : (s : Setting) (h : History) (d t : DomId) (r : Request) → header_of (header_word (table_at s h t)) ≡ table_at s h t → is_query r ≡ true
+query-value : (s : Setting) (h : History) (d t : DomId) (r : Asked) → header_of (header_word (table_at s h t)) ≡ table_at s h t → is_query r ≡ true
     → GivesValue s h d r (Some (LookHeader t)) (value_of r (Value (header_word (table_at s h t)))) × (refusal_of (value_of r (Value (header_word (table_at s h t)))) ≡ None)
     × (one_if_mapped (Some (value_of r (Value (header_word (table_at s h t))))) ≡ 0)
 query-value s h d t (QuerySize dom) round is = (ap (λ (x : Header). SizeAnswer (record { frames = x.frames; max = 4 })) round, refl, refl)
@@ -826,7 +826,7 @@ abbrev LooksHeader : Step → Type 0
 LooksHeader (LookHeader dom) = Unit {0}
 LooksHeader step = ⊥
 
-query-steps : (s : Setting) (h : History) (d : DomId) (r : Request) (so_far : StepsSoFar) (phase : Phase) (step : Step) → is_query r ≡ true → PhaseStands s h d r so_far phase
+query-steps : (s : Setting) (h : History) (d : DomId) (r : Asked) (so_far : StepsSoFar) (phase : Phase) (step : Step) → is_query r ≡ true → PhaseStands s h d r so_far phase
     → Comes (expects (known_at s h d) d r phase []) → action_at (known_at s h d) d r phase ≡ Makes step → LooksHeader step
 query-steps s h d (QuerySize dom) so_far PhaseBegun step is a comes act = absurd a
 query-steps s h d (QuerySize dom) so_far (LegPinning l p) step is a comes act = let f : None ≡ Some l = a.0 in cc
@@ -862,7 +862,7 @@ query-over s h xs x o c seen new answer settled t st here a call oa w is step do
     let word = header_word (table_at s h t) in
     let saw : seen ≡ Value word = w.sees ∙ ap (seen_by s h d) step in
     let value = query-value s h d t c.request (table-fits _ (st.tables t)).1 is in
-    let gives : answer ≡ value_of c.request (Value word) = done.0 ∙ ap (λ (q : Request). value_of q seen) oa.request ∙ ap (value_of c.request) saw in
+    let gives : answer ≡ value_of c.request (Value word) = done.0 ∙ ap (λ (q : Asked). value_of q seen) oa.request ∙ ap (value_of c.request) saw in
     let right : StepsRight s h (stepped d o.step seen (Some (value_of c.request (Value word)))) o.step seen c =
     granted-right s h xs d o c seen new (value_of c.request (Value word)) st call oa w
     (subst (λ (z : Step). IsSafe s h (stepped d z seen (Some (value_of c.request (Value word))))) (sym step) tt)
@@ -877,7 +877,7 @@ query-over s h xs x o c seen new answer settled t st here a call oa w is step do
 
 -- a call that stores a header
 
-abbrev Heads : CallerKnowledge → Request → Header → Type 0
+abbrev Heads : CallerKnowledge → Asked → Header → Type 0
 Heads k (SetVersion version) header = record { version = version; frames = k.header.frames } ≡ header
 Heads k (SetupTable frames) header = record { version = k.header.version; frames = frames } ≡ header
 Heads k request header = ⊥
@@ -894,7 +894,7 @@ heads-no-read : (m : Option Mapping) (off len version frames : ℕ) → read_of 
 heads-no-read None off len version frames e = cc
 heads-no-read (Some m) off len version frames e = cc
 
-heads-single : (k : CallerKnowledge) (d : DomId) (r : Request) (version frames : ℕ) → single_at k d r ≡ Makes (StoreHeader version frames) → Heads k r (record { version = version; frames = frames })
+heads-single : (k : CallerKnowledge) (d : DomId) (r : Asked) (version frames : ℕ) → single_at k d r ≡ Makes (StoreHeader version frames) → Heads k r (record { version = version; frames = frames })
 heads-single k d (SetVersion v) version frames e = ap header_in e
 heads-single k d (SetupTable n) version frames e = ap header_in e
 heads-single k d (Unmap handle) version frames e = absurd (heads-no-unpin (mapping_of k.mappings handle) version frames e)
@@ -907,7 +907,7 @@ heads-single k d (Map dom g flags) version frames e = cc
 heads-single k d (QuerySize dom) version frames e = cc
 heads-single k d (GetVersion dom) version frames e = cc
 
-heads : (k : CallerKnowledge) (d : DomId) (r : Request) (phase : Phase) (version frames : ℕ) → action_at k d r phase ≡ Makes (StoreHeader version frames) → Heads k r (record { version = version; frames = frames })
+heads : (k : CallerKnowledge) (d : DomId) (r : Asked) (phase : Phase) (version frames : ℕ) → action_at k d r phase ≡ Makes (StoreHeader version frames) → Heads k r (record { version = version; frames = frames })
 heads k d r PhaseBegun version frames e = cc
 heads k d r (LegPinning l p) version frames e = absurd (leg-only l p (StoreHeader version frames) e)
 heads k d r Storing version frames e = absurd (store-only r (StoreHeader version frames) e)
@@ -918,12 +918,12 @@ heads k d r (OwnChange more word) version frames e = cc
 heads k d r (Ended v) version frames e = cc
 
 -- the header that is stored is within the limits, and the call gives the frames asked for
-abbrev HeaderGives : Setting → History → DomId → Request → ℕ → ℕ → Type 0
+abbrev HeaderGives : Setting → History → DomId → Asked → ℕ → ℕ → Type 0
 HeaderGives s h d r version frames =
     FitsTable (record { version = version; frames = frames }) × GivesValue s h d r (Some (StoreHeader version frames)) (value_of r Nothing)
     × (refusal_of (value_of r Nothing) ≡ None) × (one_if_mapped (Some (value_of r Nothing)) ≡ 0)
 
-header-gives : (s : Setting) (h : History) (d : DomId) (k : CallerKnowledge) (r : Request) (version frames : ℕ) → begun k d r ≡ None → FitsTable k.header → Heads k r (record { version = version; frames = frames })
+header-gives : (s : Setting) (h : History) (d : DomId) (k : CallerKnowledge) (r : Asked) (version frames : ℕ) → begun k d r ≡ None → FitsTable k.header → Heads k r (record { version = version; frames = frames })
     → HeaderGives s h d r version frames
 header-gives s h d k (SetVersion v) version frames e f same = (subst FitsTable same (version-fits k.header k.entry v e f), refl, refl, refl)
 header-gives s h d k (SetupTable n) version frames e f same = (subst FitsTable same (setup-fits k.header n _ e f), ap (λ (x : Header). FramesAnswer x.frames) same, refl, refl)
@@ -945,7 +945,7 @@ header-over s h xs x o c seen new answer settled version frames st here a call o
     let d = x.id in
     let now = value_of c.request Nothing in
     let nothing : seen ≡ Nothing = w.sees ∙ ap (seen_by s h d) step in
-    let gives : answer ≡ now = done.0 ∙ ap (λ (q : Request). value_of q seen) oa.request ∙ ap (value_of c.request) nothing in
+    let gives : answer ≡ now = done.0 ∙ ap (λ (q : Asked). value_of q seen) oa.request ∙ ap (value_of c.request) nothing in
     let right : StepsRight s h (stepped d o.step seen (Some now)) o.step seen c =
     granted-right s h xs d o c seen new now st call oa w
     (subst (λ (z : Step). IsSafe s h (stepped d z seen (Some now))) (sym step) tt)
@@ -963,7 +963,7 @@ unmaps-other : (o : Option Mapping) (off len : ℕ) (t : DomId) (gref : GrantRef
 unmaps-other None off len t gref dir holder e = cc
 unmaps-other (Some x) off len t gref dir holder e = cc
 
-unmaps-single : (s : Setting) (h : History) (d : DomId) (r : Request) (t : DomId) (gref : GrantRef) (dir : Dir) (holder : Holder) → single_at (known_at s h d) d r ≡ Makes (Unpin t gref dir holder) → Unmaps s h d r (Unpin t gref dir holder)
+unmaps-single : (s : Setting) (h : History) (d : DomId) (r : Asked) (t : DomId) (gref : GrantRef) (dir : Dir) (holder : Holder) → single_at (known_at s h d) d r ≡ Makes (Unpin t gref dir holder) → Unmaps s h d r (Unpin t gref dir holder)
 unmaps-single s h d (Grant g entry) t gref dir holder e = cc
 unmaps-single s h d (Revoke g) t gref dir holder e = cc
 unmaps-single s h d (Demote g) t gref dir holder e = cc
@@ -976,7 +976,7 @@ unmaps-single s h d (SetupTable frames) t gref dir holder e = cc
 unmaps-single s h d (QuerySize dom) t gref dir holder e = cc
 unmaps-single s h d (GetVersion dom) t gref dir holder e = cc
 
-unmaps : (s : Setting) (h : History) (d : DomId) (r : Request) (phase : Phase) (t : DomId) (gref : GrantRef) (dir : Dir) (holder : Holder) → action_at (known_at s h d) d r phase ≡ Makes (Unpin t gref dir holder) → Unmaps s h d r (Unpin t gref dir holder)
+unmaps : (s : Setting) (h : History) (d : DomId) (r : Asked) (phase : Phase) (t : DomId) (gref : GrantRef) (dir : Dir) (holder : Holder) → action_at (known_at s h d) d r phase ≡ Makes (Unpin t gref dir holder) → Unmaps s h d r (Unpin t gref dir holder)
 unmaps s h d r PhaseBegun t gref dir holder e = cc
 unmaps s h d r (LegPinning l p) t gref dir holder e = absurd (leg-only l p (Unpin t gref dir holder) e)
 unmaps s h d r Storing t gref dir holder e = absurd (store-only r (Unpin t gref dir holder) e)
@@ -990,7 +990,7 @@ loads-other : (o : Option Mapping) (t : DomId) (frame n m : ℕ) → unpin_of o 
 loads-other None t frame n m e = cc
 loads-other (Some x) t frame n m e = cc
 
-loads-single : (s : Setting) (h : History) (d : DomId) (r : Request) (t : DomId) (frame n m : ℕ) → single_at (known_at s h d) d r ≡ Makes (ReadBytes t frame n m) → Loads s h d r (ReadBytes t frame n m)
+loads-single : (s : Setting) (h : History) (d : DomId) (r : Asked) (t : DomId) (frame n m : ℕ) → single_at (known_at s h d) d r ≡ Makes (ReadBytes t frame n m) → Loads s h d r (ReadBytes t frame n m)
 loads-single s h d (Grant g entry) t frame n m e = cc
 loads-single s h d (Revoke g) t frame n m e = cc
 loads-single s h d (Demote g) t frame n m e = cc
@@ -1003,7 +1003,7 @@ loads-single s h d (SetupTable table_frames) t frame n m e = cc
 loads-single s h d (QuerySize dom) t frame n m e = cc
 loads-single s h d (GetVersion dom) t frame n m e = cc
 
-loads : (s : Setting) (h : History) (d : DomId) (r : Request) (phase : Phase) (t : DomId) (frame n m : ℕ) → action_at (known_at s h d) d r phase ≡ Makes (ReadBytes t frame n m) → Loads s h d r (ReadBytes t frame n m)
+loads : (s : Setting) (h : History) (d : DomId) (r : Asked) (phase : Phase) (t : DomId) (frame n m : ℕ) → action_at (known_at s h d) d r phase ≡ Makes (ReadBytes t frame n m) → Loads s h d r (ReadBytes t frame n m)
 loads s h d r PhaseBegun t frame n m e = cc
 loads s h d r (LegPinning l p) t frame n m e = absurd (leg-only l p (ReadBytes t frame n m) e)
 loads s h d r Storing t frame n m e = absurd (store-only r (ReadBytes t frame n m) e)
@@ -1155,7 +1155,7 @@ slice-after n d step seen xs ys zs len same new =
     ap (λ (k : List State). take n (zs ++ k)) (drop_all (length zs) xs (omega arith)) ∙ ap (λ (k : List State). take n k) (append-nil zs) ∙ take_all n zs (omega arith) ∙ e
 
 -- a pin is of a map, for which room was made
-no-room-by : (k : CallerKnowledge) (d : DomId) (r : Request) (phase : Phase) (step : Step) → ((l : Leg) (p : LegPhase) → phase ≡ LegPinning l p → leg_of k d r ≡ Some l) → action_at k d r phase ≡ Makes step → NeedsNoRoom r step
+no-room-by : (k : CallerKnowledge) (d : DomId) (r : Asked) (phase : Phase) (step : Step) → ((l : Leg) (p : LegPhase) → phase ≡ LegPinning l p → leg_of k d r ≡ Some l) → action_at k d r phase ≡ Makes step → NeedsNoRoom r step
 no-room-by k d r phase (LookHeader dom) is act = tt
 no-room-by k d r phase (LookControl dom gref) is act = tt
 no-room-by k d r phase (LookBody dom gref second) is act = tt
@@ -1167,9 +1167,9 @@ no-room-by k d r phase (ReadBytes t frame off len) is act = tt
 no-room-by k d r phase (PinStep t gref looked dir) is act =
     let p = pins-by k d r phase t gref looked dir act in
     let m = map-of-leg k d r p.0 (is p.0 (Pinning p.1 p.2 p.3 p.4) p.5) in
-    subst (λ (z : Request). IsMapping (Some z)) (sym m.3) tt
+    subst (λ (z : Asked). IsMapping (Some z)) (sym m.3) tt
 
-place-leg : (s : Setting) (h : History) (d : DomId) (r : Request) (so_far : StepsSoFar) (phase : Phase) (l : Leg) (p : LegPhase) → PhaseStands s h d r so_far phase → phase ≡ LegPinning l p → leg_of (known_at s h d) d r ≡ Some l
+place-leg : (s : Setting) (h : History) (d : DomId) (r : Asked) (so_far : StepsSoFar) (phase : Phase) (l : Leg) (p : LegPhase) → PhaseStands s h d r so_far phase → phase ≡ LegPinning l p → leg_of (known_at s h d) d r ≡ Some l
 place-leg s h d r so_far phase l p a e = (subst (PhaseStands s h d r so_far) e a).0
 
 pub needs-no-room : (s : Setting) (h : History) (xs : List State) (dom : DomId) (at : ℕ) (x : State) (o : Open) (seen : Seen) (new : Call) (action : Action)
@@ -1183,6 +1183,6 @@ needs-no-room s h xs dom at x o seen new action p here is st saw adv =
     (λ g sees.
     let c = call-here s h x.id x.underway (open_call h x.id.0) o is a.2.call in
     let w = stepping s h xs x o c.0 seen new action st g a.2 c.2 sees adv in
-    subst (λ (r : Request). NeedsNoRoom r o.step) (sym c.2.request)
+    subst (λ (r : Asked). NeedsNoRoom r o.step) (sym c.2.request)
     (no-room-by (known_at s h x.id) x.id c.0.request o.call.phase o.step (λ l q e. place-leg s h x.id c.0.request (reverse c.0.steps) o.call.phase l q c.2.place e) w.act))
     f saw

@@ -32,8 +32,8 @@ use Rattle.gt_core.specs.declared.trace.Happened.TheVariants.{Stepped}
 use Rattle.gt_core.specs.declared.trace.Answer.{Answer}
 use Rattle.gt_core.specs.declared.trace.Answer.TheVariants.{Done as AnswerDone}
 use Rattle.gt_core.specs.declared.slot.Open.{Open}
-use Rattle.gt_core.specs.declared.request.Request.{Request}
-use Rattle.gt_core.specs.declared.request.Request.TheVariants.{Grant, Revoke, Demote, Promote, Map, Unmap, Load, SetVersion, SetupTable, QuerySize, GetVersion}
+use Rattle.gt_core.specs.declared.asked.Asked.{Asked}
+use Rattle.gt_core.specs.declared.asked.Asked.TheVariants.{Grant, Revoke, Demote, Promote, Map, Unmap, Load, SetVersion, SetupTable, QuerySize, GetVersion}
 use Rattle.gt_core.specs.declared.action.Verdict.{Verdict}
 use Rattle.gt_core.specs.declared.action.Verdict.TheVariants.{Granted, Refused}
 use Rattle.gt_core.specs.declared.action.Action.{Action}
@@ -50,7 +50,7 @@ use Rattle.gt_core.specs.States.{State, state_of, changed_in}
 use Rattle.gt_core.specs.Effects.{with_own, with_underway, own_after}
 use Rattle.gt_core.specs.History.{History, Setting, Pin, live, entry_at, raises_at, raise_of, changed_entry, generation_at, body_at, reads_at, writes_at, table_at, word_at, control_at, mappings_in, maps_answered_at, known_at, open_call, is_pin_on, change_of, entry_after, with_ro, raise_after, or_else, Underway, seen_by}
 use Rattle.gt_core.specs.Legal.{IsSafeChange, IsSpelled, StepsSoFar, IsSafe}
-use Rattle.gt_core.specs.Standing.{IsLawful, FitsTable, FitsWord, FitsEntry, SlotAgrees, Agrees, StateAgrees, CoreStands, CallAgrees, PhaseStands, HasStored, FitsRequest, OpenAgrees}
+use Rattle.gt_core.specs.Standing.{IsLawful, FitsTable, FitsWord, FitsEntry, SlotAgrees, Agrees, StateAgrees, CoreStands, CallAgrees, PhaseStands, HasStored, FitsAsked, OpenAgrees}
 use Rattle.gt_core.specs.Path.{entry_refusal, idle_word}
 use Rattle.gt_core.specs.Machine.{expects, action_at, phase_after, after_single, leg_step, own_gref, store_at, second_at, single_at, unpin_of, read_of, Comes}
 use Rattle.gt_core.proofs.Rows.{get-changed, length-changed, state-changed}
@@ -375,7 +375,7 @@ not-granted : (b : Bool) (more : List (Option Verdict)) → first (granted_when 
 not-granted true more e = let f : Some Granted ≡ None = e in cc
 not-granted false more e = e
 
-own-below : (s : Setting) (h : History) (xs : List State) (d : DomId) (r : Request) → CoreStands s h xs → begun (known_at s h d) d r ≡ None → owns r ≡ true → (own_gref r).0 < 2048
+own-below : (s : Setting) (h : History) (xs : List State) (d : DomId) (r : Asked) → CoreStands s h xs → begun (known_at s h d) d r ≡ None → owns r ≡ true → (own_gref r).0 < 2048
 own-below s h xs d r st e t =
     let a : (own_gref r).0 < size_of (table_at s h d) = own-within (known_at s h d) d r e t in
     let b : size_of (table_at s h d) ≤ 2048 = (table-fits _ (st.tables d)).0 in omega arith
@@ -433,17 +433,17 @@ raise-room s h xs d gref st within e =
 
 -- a missed exchange is not answered Ok
 
-single-taken : (k : CallerKnowledge) (d : DomId) (r : Request) (gref : GrantRef) (b : Bool) (w : ℕ) (seen : Seen) → seen ≡ cond b Taken (Missed w)
+single-taken : (k : CallerKnowledge) (d : DomId) (r : Asked) (gref : GrantRef) (b : Bool) (w : ℕ) (seen : Seen) → seen ≡ cond b Taken (Missed w)
     → Done Granted ≡ action_at k d r (after_single d gref seen) → (seen ≡ Taken) × (b ≡ true)
 single-taken k d r gref true w seen saw next = (saw, refl)
 single-taken k d r gref false w seen saw next =
     let f : Done Granted ≡ Done (Refused (entry_refusal d gref N19 w)) = next ∙ ap (λ (v : Seen). action_at k d r (after_single d gref v)) saw in cc
 
-missed-again : (k : CallerKnowledge) (d : DomId) (r : Request) (b : Bool) (more : ℕ) (denial : Denial) → Done Granted ≡ action_at k d r (cond b (OwnLook more) (Ended (Refused denial))) → ⊥
+missed-again : (k : CallerKnowledge) (d : DomId) (r : Asked) (b : Bool) (more : ℕ) (denial : Denial) → Done Granted ≡ action_at k d r (cond b (OwnLook more) (Ended (Refused denial))) → ⊥
 missed-again k d r true more denial e = cc
 missed-again k d r false more denial e = cc
 
-change-taken : (k : CallerKnowledge) (d : DomId) (r : Request) (more word : ℕ) (b : Bool) (w : ℕ) (seen : Seen) → seen ≡ cond b Taken (Missed w)
+change-taken : (k : CallerKnowledge) (d : DomId) (r : Asked) (more word : ℕ) (b : Bool) (w : ℕ) (seen : Seen) → seen ≡ cond b Taken (Missed w)
     → Done Granted ≡ action_at k d r (phase_after k d r (OwnChange more word) seen) → (seen ≡ Taken) × (b ≡ true)
 change-taken k d r more word true w seen saw next = (saw, refl)
 change-taken k d r more word false w seen saw next =
@@ -533,7 +533,7 @@ leg-ends s h d seen l (Second more word body) saw = tt
 leg-ends s h d seen l (Pinning more word body second) saw = tt
 leg-ends s h d seen l (Relook more word rule) saw = tt
 
-store-ends : (s : Setting) (h : History) (d : DomId) (seen : Seen) (r : Request) (step : Step) → store_at r ≡ Makes step → Ends s h d seen step
+store-ends : (s : Setting) (h : History) (d : DomId) (seen : Seen) (r : Asked) (step : Step) → store_at r ≡ Makes step → Ends s h d seen step
 store-ends s h d seen (Grant gref entry) step e saw = subst (λ (z : Step). EndsBy s h d z seen) (makes-same _ _ e) tt
 store-ends s h d seen (Revoke gref) step e saw = cc
 store-ends s h d seen (Demote gref) step e saw = cc
@@ -546,7 +546,7 @@ store-ends s h d seen (SetupTable frames) step e saw = cc
 store-ends s h d seen (QuerySize dom) step e saw = cc
 store-ends s h d seen (GetVersion dom) step e saw = cc
 
-second-ends : (s : Setting) (h : History) (d : DomId) (seen : Seen) (r : Request) (step : Step) → second_at r ≡ Makes step → Ends s h d seen step
+second-ends : (s : Setting) (h : History) (d : DomId) (seen : Seen) (r : Asked) (step : Step) → second_at r ≡ Makes step → Ends s h d seen step
 second-ends s h d seen (Grant gref entry) step e saw = subst (λ (z : Step). EndsBy s h d z seen) (makes-same _ _ e) tt
 second-ends s h d seen (Revoke gref) step e saw = cc
 second-ends s h d seen (Demote gref) step e saw = cc
@@ -567,8 +567,8 @@ read-ends : (s : Setting) (h : History) (d : DomId) (seen : Seen) (m : Option Ma
 read-ends s h d seen None off len step e saw = cc
 read-ends s h d seen (Some m) off len step e saw = subst (λ (z : Step). EndsBy s h d z seen) (makes-same _ _ e) tt
 
-single-ends : (s : Setting) (h : History) (xs : List State) (d : DomId) (r : Request) (seen : Seen) (step : Step) → CoreStands s h xs → begun (known_at s h d) d r ≡ None
-    → HasStored h d r → FitsRequest r → single_at (known_at s h d) d r ≡ Makes step → Done Granted ≡ action_at (known_at s h d) d r (after_single d (own_gref r) seen) → Ends s h d seen step
+single-ends : (s : Setting) (h : History) (xs : List State) (d : DomId) (r : Asked) (seen : Seen) (step : Step) → CoreStands s h xs → begun (known_at s h d) d r ≡ None
+    → HasStored h d r → FitsAsked r → single_at (known_at s h d) d r ≡ Makes step → Done Granted ≡ action_at (known_at s h d) d r (after_single d (own_gref r) seen) → Ends s h d seen step
 single-ends s h xs d (Grant gref entry) seen step st e stored fits act next =
     subst (Ends s h d seen) (makes-same _ _ act) (λ saw. grant-ends s h xs d gref entry seen st e stored fits saw next)
 single-ends s h xs d (Revoke gref) seen step st e stored fits act next =
@@ -583,7 +583,7 @@ single-ends s h xs d (SetupTable frames) seen step st e stored fits act next = s
 single-ends s h xs d (QuerySize dom) seen step st e stored fits act next = subst (Ends s h d seen) (makes-same _ _ act) (λ saw. tt)
 single-ends s h xs d (GetVersion dom) seen step st e stored fits act next = subst (Ends s h d seen) (makes-same _ _ act) (λ saw. tt)
 
-change-ends : (s : Setting) (h : History) (xs : List State) (d : DomId) (r : Request) (so_far : StepsSoFar) (more word : ℕ) (seen : Seen) (step : Step) → CoreStands s h xs
+change-ends : (s : Setting) (h : History) (xs : List State) (d : DomId) (r : Asked) (so_far : StepsSoFar) (more word : ℕ) (seen : Seen) (step : Step) → CoreStands s h xs
     → begun (known_at s h d) d r ≡ None → PhaseStands s h d r so_far (OwnChange more word) → Comes (expects (known_at s h d) d r (OwnChange more word) [])
     → action_at (known_at s h d) d r (OwnChange more word) ≡ Makes step
     → Done Granted ≡ action_at (known_at s h d) d r (phase_after (known_at s h d) d r (OwnChange more word) seen) → Ends s h d seen step
@@ -601,8 +601,8 @@ change-ends s h xs d (SetupTable frames) so_far more word seen step st e a comes
 change-ends s h xs d (QuerySize dom) so_far more word seen step st e a comes act next = absurd comes
 change-ends s h xs d (GetVersion dom) so_far more word seen step st e a comes act next = absurd comes
 
-phase-ends : (s : Setting) (h : History) (xs : List State) (d : DomId) (r : Request) (so_far : StepsSoFar) (phase : Phase) (seen : Seen) (step : Step) → CoreStands s h xs
-    → begun (known_at s h d) d r ≡ None → PhaseStands s h d r so_far phase → FitsRequest r → Comes (expects (known_at s h d) d r phase [])
+phase-ends : (s : Setting) (h : History) (xs : List State) (d : DomId) (r : Asked) (so_far : StepsSoFar) (phase : Phase) (seen : Seen) (step : Step) → CoreStands s h xs
+    → begun (known_at s h d) d r ≡ None → PhaseStands s h d r so_far phase → FitsAsked r → Comes (expects (known_at s h d) d r phase [])
     → action_at (known_at s h d) d r phase ≡ Makes step → Done Granted ≡ action_at (known_at s h d) d r (phase_after (known_at s h d) d r phase seen) → Ends s h d seen step
 phase-ends s h xs d r so_far PhaseBegun seen step st e a fits comes act next = absurd a
 phase-ends s h xs d r so_far (LegPinning l p) seen step st e a fits comes act next = subst (Ends s h d seen) (makes-same _ _ act) (leg-ends s h d seen l p)

@@ -5,6 +5,8 @@ pub mod Fitting
 pub mod Rows
 pub mod Settling
 pub mod Quiet
+pub mod Numbers
+pub mod Saying
 pub mod Beginning
 pub mod Still
 pub mod Seeing

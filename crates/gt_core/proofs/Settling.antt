@@ -12,8 +12,8 @@ use Rattle.gt_core.specs.declared.known.Own.{Own}
 use Rattle.gt_core.specs.declared.known.Mapping.{Mapping}
 use Rattle.gt_core.specs.declared.slot.Slot.{Slot}
 use Rattle.gt_core.specs.declared.slot.Open.{Open}
-use Rattle.gt_core.specs.declared.request.Request.{Request}
-use Rattle.gt_core.specs.declared.request.Request.TheVariants.{Grant, Revoke, Demote, Promote, Map, Unmap, Load, SetVersion, SetupTable, QuerySize, GetVersion}
+use Rattle.gt_core.specs.declared.asked.Asked.{Asked}
+use Rattle.gt_core.specs.declared.asked.Asked.TheVariants.{Grant, Revoke, Demote, Promote, Map, Unmap, Load, SetVersion, SetupTable, QuerySize, GetVersion}
 use Rattle.gt_core.specs.declared.action.Step.{Step}
 use Rattle.gt_core.specs.declared.action.Step.TheVariants.{LookHeader, LookControl, LookBody, Pin as PinStep, Unpin, StoreBody, StoreHeader, Exchange, Read as ReadBytes}
 use Rattle.gt_core.specs.declared.action.Seen.{Seen}
@@ -22,7 +22,7 @@ use Rattle.gt_core.specs.Effects.{with_underway}
 use Rattle.gt_core.specs.Standing.{Settled, value_of, IsLoadOf}
 
 -- the room of a load is as long as what it asks
-pub loaded : (r : Request) (m n : ℕ) → IsLoading (Some r) m → IsLoadOf r n → m ≡ n
+pub loaded : (r : Asked) (m n : ℕ) → IsLoading (Some r) m → IsLoadOf r n → m ≡ n
 loaded (Grant gref entry) m n a b = absurd b
 loaded (Revoke gref) m n a b = absurd b
 loaded (Demote gref) m n a b = absurd b

@@ -11,8 +11,8 @@ use Rattle.gt_entry.specs.declared.entry.Entry.{Entry}
 use Rattle.gt_entry.specs.declared.entry.Entry.TheVariants.{Invalid, Page, Sub, Via}
 use Rattle.gt_entry.specs.declared.control.Kind.TheVariants.{Sub as KindSub}
 use Rattle.gt_entry.specs.Words.{control_of, header_of}
-use Rattle.gt_core.specs.declared.request.Request.{Request}
-use Rattle.gt_core.specs.declared.request.Request.TheVariants.{Grant, Revoke, Demote, Promote, Map, Unmap, Load, SetVersion, SetupTable, QuerySize, GetVersion}
+use Rattle.gt_core.specs.declared.asked.Asked.{Asked}
+use Rattle.gt_core.specs.declared.asked.Asked.TheVariants.{Grant, Revoke, Demote, Promote, Map, Unmap, Load, SetVersion, SetupTable, QuerySize, GetVersion}
 use Rattle.gt_core.specs.declared.known.Mapping.{Mapping}
 use Rattle.gt_core.specs.declared.action.Verdict.{Verdict}
 use Rattle.gt_core.specs.declared.action.Verdict.TheVariants.{Granted}
@@ -148,7 +148,7 @@ short-reads : (m : Option Mapping) (off len : ℕ) → Short (reads m off len) 1
 short-reads None off len = record { least = λ vs step e. cc }
 short-reads (Some m) off len = short-makes _ (ended Granted) 0 (short-ended Granted 0)
 
-short-steps : (k : CallerKnowledge) (caller : DomId) (r : Request) → Short (steps_of k caller r) (most_steps r)
+short-steps : (k : CallerKnowledge) (caller : DomId) (r : Asked) → Short (steps_of k caller r) (most_steps r)
 short-steps k caller (Grant gref entry) = short-more _ (1 + 1 + 1) 71 (omega arith) (short-makes _ _ (1 + 1) (short-stores entry gref (publishes k caller gref entry) 1 (short-publishes k caller gref entry)))
 short-steps k caller (Revoke gref) = short-more _ (0 + 1) 71 (omega arith) (short-exchanges _ (ended Granted) (refused_at caller gref N19) 0 (short-ended Granted 0) (λ w. short-ended _ 0))
 short-steps k caller (Demote gref) = short-turns true caller gref 3
@@ -162,7 +162,7 @@ short-steps k caller (QuerySize dom) = short-more _ (0 + 1) 71 (omega arith) (sh
 short-steps k caller (GetVersion dom) = short-more _ (0 + 1) 71 (omega arith) (short-looks _ (λ word. ended Granted) 0 (λ word. short-ended Granted 0))
 
 -- a step of a call comes after fewer steps than its bound
-pub path-is-short : (k : CallerKnowledge) (caller : DomId) (r : Request) (vs : List Seen) (step : Step) → path k caller r vs ≡ Some (Makes step) → length vs < most_steps r
+pub path-is-short : (k : CallerKnowledge) (caller : DomId) (r : Asked) (vs : List Seen) (step : Step) → path k caller r vs ≡ Some (Makes step) → length vs < most_steps r
 path-is-short k caller r vs step e = by (begun k caller r) e
   where
     by : (o : Option Verdict) → after_beginning o (steps_of k caller r) vs ≡ Some (Makes step) → length vs < most_steps r

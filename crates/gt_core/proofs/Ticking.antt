@@ -24,8 +24,8 @@ use Rattle.gt_types.specs.declared.Use.TheVariants.{Map as ForMap}
 use Rattle.gt_core.specs.declared.request.Handle.{Handle}
 use Rattle.gt_core.specs.declared.request.Holder.{Holder}
 use Rattle.gt_core.specs.declared.request.Holder.TheVariants.{Mapping as ByMapping, Leg as ByLeg}
-use Rattle.gt_core.specs.declared.request.Request.{Request}
-use Rattle.gt_core.specs.declared.request.Request.TheVariants.{Grant, Revoke, Demote, Promote, Map, Unmap, Load, SetVersion, SetupTable, QuerySize, GetVersion}
+use Rattle.gt_core.specs.declared.asked.Asked.{Asked}
+use Rattle.gt_core.specs.declared.asked.Asked.TheVariants.{Grant, Revoke, Demote, Promote, Map, Unmap, Load, SetVersion, SetupTable, QuerySize, GetVersion}
 use Rattle.gt_core.specs.declared.action.Verdict.{Verdict}
 use Rattle.gt_core.specs.declared.action.Verdict.TheVariants.{Refused}
 use Rattle.gt_core.specs.declared.action.Change.{Change}
@@ -75,7 +75,7 @@ pub not-refused : (b : Bool) (rule : Rule) (more : List (Option Verdict)) → fi
 not-refused true rule more e = let f : Some (Refused (denial_of rule NoFacts)) ≡ None = e in cc
 not-refused false rule more e = (refl, e)
 
-abbrev pub owns : Request → Bool
+abbrev pub owns : Asked → Bool
 owns (Map dom gref flags) = false
 owns (Unmap handle) = false
 owns (Load handle off len) = false
@@ -86,7 +86,7 @@ owns (GetVersion dom) = false
 owns r = true
 
 -- an owner's call is on an entry of its table
-pub own-within : (k : CallerKnowledge) (d : DomId) (r : Request) → begun k d r ≡ None → owns r ≡ true → (own_gref r).0 < size_of k.header
+pub own-within : (k : CallerKnowledge) (d : DomId) (r : Asked) → begun k d r ≡ None → owns r ≡ true → (own_gref r).0 < size_of k.header
 own-within k d (Grant gref entry) e t = leb-false (size_of k.header) gref.0 (not-refused _ N9 _ e).0
 own-within k d (Revoke gref) e t = leb-false (size_of k.header) gref.0 (not-refused _ N9 _ e).0
 own-within k d (Demote gref) e t = leb-false (size_of k.header) gref.0 (not-refused _ N9 _ e).0
@@ -99,7 +99,7 @@ own-within k d (SetupTable frames) e t = absurd (false≢true t)
 own-within k d (QuerySize dom) e t = absurd (false≢true t)
 own-within k d (GetVersion dom) e t = absurd (false≢true t)
 
-pub own-below : (s : Setting) (h : History) (xs : List State) (d : DomId) (r : Request) → CoreStands s h xs → begun (known_at s h d) d r ≡ None → owns r ≡ true → (own_gref r).0 < 2048
+pub own-below : (s : Setting) (h : History) (xs : List State) (d : DomId) (r : Asked) → CoreStands s h xs → begun (known_at s h d) d r ≡ None → owns r ≡ true → (own_gref r).0 < 2048
 own-below s h xs d r st e t =
     let a : (own_gref r).0 < size_of (table_at s h d) = own-within (known_at s h d) d r e t in
     let b : size_of (table_at s h d) ≤ 2048 = (table-fits _ (st.tables d)).0 in omega arith
@@ -113,7 +113,7 @@ step_in (Done verdict) other = other
 pub makes-same : (a b : Step) → Makes a ≡ Makes b → a ≡ b
 makes-same a b e = ap (λ (x : Action). step_in x a) e
 
-leg-plain : (k : CallerKnowledge) (d : DomId) (r : Request) (l : Leg) → leg_of k d r ≡ Some l → is_demote r ≡ false
+leg-plain : (k : CallerKnowledge) (d : DomId) (r : Asked) (l : Leg) → leg_of k d r ≡ Some l → is_demote r ≡ false
 leg-plain k d (Grant gref entry) l e = refl
 leg-plain k d (Revoke gref) l e = refl
 leg-plain k d (Demote gref) l e = let f : None ≡ Some l = e in cc
@@ -181,28 +181,28 @@ revoke-refusal d gref w zero false free held = absurd (held refl refl)
 revoke-refusal d gref w (suc pins) false free held =
     ap (λ (b : Bool). at_entry d gref w (stands_when b N19)) (sym (lt-ltb 0 (suc pins) (omega arith)))
 
-unpin-refusal : (s : Setting) (h : History) (d : DomId) (r : Request) (so_far : StepsSoFar) (gref : GrantRef) (m : Option Mapping) (step : Step) → unpin_of m ≡ Makes step
+unpin-refusal : (s : Setting) (h : History) (d : DomId) (r : Asked) (so_far : StepsSoFar) (gref : GrantRef) (m : Option Mapping) (step : Step) → unpin_of m ≡ Makes step
     → phase_refusal (after_single d gref (seen_by s h d step)) ≡ first_at s h d r so_far step
 unpin-refusal s h d r so_far gref None step e = cc
 unpin-refusal s h d r so_far gref (Some m) step e =
     subst (λ (z : Step). phase_refusal (after_single d gref (seen_by s h d z)) ≡ first_at s h d r so_far z) (makes-same _ _ e) refl
 
-read-refusal : (s : Setting) (h : History) (d : DomId) (r : Request) (so_far : StepsSoFar) (gref : GrantRef) (m : Option Mapping) (off len : ℕ) (step : Step) → read_of m off len ≡ Makes step
+read-refusal : (s : Setting) (h : History) (d : DomId) (r : Asked) (so_far : StepsSoFar) (gref : GrantRef) (m : Option Mapping) (off len : ℕ) (step : Step) → read_of m off len ≡ Makes step
     → phase_refusal (after_single d gref (seen_by s h d step)) ≡ first_at s h d r so_far step
 read-refusal s h d r so_far gref None off len step e = cc
 read-refusal s h d r so_far gref (Some m) off len step e =
     subst (λ (z : Step). phase_refusal (after_single d gref (seen_by s h d z)) ≡ first_at s h d r so_far z) (makes-same _ _ e) refl
 
-change-refusal : (k : CallerKnowledge) (d : DomId) (r : Request) (more word w : ℕ) (b : Bool)
+change-refusal : (k : CallerKnowledge) (d : DomId) (r : Asked) (more word w : ℕ) (b : Bool)
     → phase_refusal (phase_after k d r (OwnChange more word) (cond b Taken (Missed w)))
     ≡ cond b None (phase_refusal (cond (nat_lt 0 more) (OwnLook (more - 1)) (Ended (Refused (entry_refusal d (own_gref r) N18 w)))))
 change-refusal k d r more word w true = refl
 change-refusal k d r more word w false = refl
 
-abbrev Judged : Setting → History → DomId → Request → StepsSoFar → Phase → Step → Type 0
+abbrev Judged : Setting → History → DomId → Asked → StepsSoFar → Phase → Step → Type 0
 Judged s h d r so_far phase step = phase_refusal (phase_after (known_at s h d) d r phase (seen_by s h d step)) ≡ first_at s h d r so_far step
 
-single-judged : (s : Setting) (h : History) (xs : List State) (d : DomId) (r : Request) (so_far : StepsSoFar) (step : Step) → CoreStands s h xs → begun (known_at s h d) d r ≡ None
+single-judged : (s : Setting) (h : History) (xs : List State) (d : DomId) (r : Asked) (so_far : StepsSoFar) (step : Step) → CoreStands s h xs → begun (known_at s h d) d r ≡ None
     → Comes (expects (known_at s h d) d r Single []) → action_at (known_at s h d) d r Single ≡ Makes step → Judged s h d r so_far Single step
 single-judged s h xs d (Grant gref entry) so_far step st e comes act =
     let k = known_at s h d in
@@ -228,7 +228,7 @@ single-judged s h xs d (Demote gref) so_far step st e comes act = absurd comes
 single-judged s h xs d (Promote gref) so_far step st e comes act = absurd comes
 single-judged s h xs d (Map dom gref flags) so_far step st e comes act = absurd comes
 
-look-judged : (s : Setting) (h : History) (xs : List State) (d : DomId) (r : Request) (more : ℕ) (so_far : StepsSoFar) (step : Step) → CoreStands s h xs → begun (known_at s h d) d r ≡ None
+look-judged : (s : Setting) (h : History) (xs : List State) (d : DomId) (r : Asked) (more : ℕ) (so_far : StepsSoFar) (step : Step) → CoreStands s h xs → begun (known_at s h d) d r ≡ None
     → PhaseStands s h d r so_far (OwnLook more) → Comes (expects (known_at s h d) d r (OwnLook more) []) → action_at (known_at s h d) d r (OwnLook more) ≡ Makes step → Judged s h d r so_far (OwnLook more) step
 look-judged s h xs d (Demote gref) more so_far step st e a comes act =
     subst (λ (z : Step). Judged s h d (Demote gref) so_far (OwnLook more) z) (makes-same _ _ act)
@@ -246,7 +246,7 @@ look-judged s h xs d (SetupTable frames) more so_far step st e a comes act = abs
 look-judged s h xs d (QuerySize dom) more so_far step st e a comes act = absurd comes
 look-judged s h xs d (GetVersion dom) more so_far step st e a comes act = absurd comes
 
-change-judged : (s : Setting) (h : History) (d : DomId) (r : Request) (more word : ℕ) (so_far : StepsSoFar) (step : Step) → PhaseStands s h d r so_far (OwnChange more word)
+change-judged : (s : Setting) (h : History) (d : DomId) (r : Asked) (more word : ℕ) (so_far : StepsSoFar) (step : Step) → PhaseStands s h d r so_far (OwnChange more word)
     → Comes (expects (known_at s h d) d r (OwnChange more word) []) → action_at (known_at s h d) d r (OwnChange more word) ≡ Makes step → Judged s h d r so_far (OwnChange more word) step
 change-judged s h d (Demote gref) more word so_far step a comes act =
     let w = word_at s h d.0 gref.0 in
@@ -269,7 +269,7 @@ change-judged s h d (QuerySize dom) more word so_far step a comes act = absurd c
 change-judged s h d (GetVersion dom) more word so_far step a comes act = absurd comes
 
 -- at each step: the refusal that its words lead to is the first rule that stands
-pub judged : (s : Setting) (h : History) (xs : List State) (d : DomId) (r : Request) (so_far : StepsSoFar) (phase : Phase) (step : Step) → CoreStands s h xs → begun (known_at s h d) d r ≡ None
+pub judged : (s : Setting) (h : History) (xs : List State) (d : DomId) (r : Asked) (so_far : StepsSoFar) (phase : Phase) (step : Step) → CoreStands s h xs → begun (known_at s h d) d r ≡ None
     → PhaseStands s h d r so_far phase → Comes (expects (known_at s h d) d r phase []) → action_at (known_at s h d) d r phase ≡ Makes step → Judged s h d r so_far phase step
 judged s h xs d r so_far PhaseBegun step st e a comes act = absurd a
 judged s h xs d r so_far (LegPinning l p) step st e a comes act =
@@ -308,17 +308,17 @@ judged s h xs d (GetVersion dom) so_far StoringSecond step st e a comes act = ab
 -- where the call stands next
 
 -- where the call stands, if it goes on
-abbrev pub FollowsPlace : Setting → History → DomId → Request → StepsSoFar → Phase → Type 0
+abbrev pub FollowsPlace : Setting → History → DomId → Asked → StepsSoFar → Phase → Type 0
 FollowsPlace s h d r so_far (Ended verdict) = Unit {0}
 FollowsPlace s h d r so_far phase = PhaseStands s h d r so_far phase
 
-leg-follows : (s : Setting) (h : History) (d : DomId) (r : Request) (now : StepsSoFar) (l : Leg) (next : LegNext) → leg_of (known_at s h d) d r ≡ Some l → domain_of s.domains l.dom ≢ None
+leg-follows : (s : Setting) (h : History) (d : DomId) (r : Asked) (now : StepsSoFar) (l : Leg) (next : LegNext) → leg_of (known_at s h d) d r ≡ Some l → domain_of s.domains l.dom ≢ None
     → NextStands s h l now next → FollowsPlace s h d r now (after_leg l next)
 leg-follows s h d r now l (Going phase) is some a = (is, some, a)
 leg-follows s h d r now l (LegRefused denial) is some a = tt
 leg-follows s h d r now l (Pinned word body second) is some a = tt
 
-single-follows : (s : Setting) (h : History) (d : DomId) (r : Request) (now : StepsSoFar) (gref : GrantRef) (seen : Seen) → FollowsPlace s h d r now (after_single d gref seen)
+single-follows : (s : Setting) (h : History) (d : DomId) (r : Asked) (now : StepsSoFar) (gref : GrantRef) (seen : Seen) → FollowsPlace s h d r now (after_single d gref seen)
 single-follows s h d r now gref Nothing = tt
 single-follows s h d r now gref (Value w) = tt
 single-follows s h d r now gref Taken = tt
@@ -328,7 +328,7 @@ misses-own-look : (d : DomId) (gref : GrantRef) (w : ℕ) (so_far : StepsSoFar) 
 unfolding looked_at
 misses-own-look d gref w so_far = refl
 
-look-follows : (s : Setting) (h : History) (d : DomId) (r : Request) (gref : GrantRef) (more w : ℕ) (so_far : StepsSoFar) (b : Bool) (denial : Denial) → misses so_far + more ≡ 3 → is_in_body so_far ≡ false
+look-follows : (s : Setting) (h : History) (d : DomId) (r : Asked) (gref : GrantRef) (more w : ℕ) (so_far : StepsSoFar) (b : Bool) (denial : Denial) → misses so_far + more ≡ 3 → is_in_body so_far ≡ false
     → (is_demote r && nat_lt 0 (control_of w).writes) ≡ b
     → FollowsPlace s h d r ((LookControl d gref, Value w) ∷ so_far) (cond b (Ended (Refused denial)) (OwnChange more w))
 look-follows s h d r gref more w so_far true denial turn out e = tt
@@ -342,7 +342,7 @@ look-follows s h d r gref more w so_far false denial turn out e = (
     none zero f = refl
     none (suc n) f = absurd (true≢false (sym (lt-ltb 0 (suc n) (omega arith)) ∙ f))
 
-change-follows : (s : Setting) (h : History) (d : DomId) (r : Request) (gref : GrantRef) (more word w : ℕ) (change : Change) (so_far : StepsSoFar) (b : Bool) → misses so_far + more ≡ 3
+change-follows : (s : Setting) (h : History) (d : DomId) (r : Asked) (gref : GrantRef) (more word w : ℕ) (change : Change) (so_far : StepsSoFar) (b : Bool) → misses so_far + more ≡ 3
     → FollowsPlace s h d r ((Exchange gref word change, cond b Taken (Missed w)) ∷ so_far) (phase_after (known_at s h d) d r (OwnChange more word) (cond b Taken (Missed w)))
 change-follows s h d r gref more word w change so_far true turn = tt
 change-follows s h d r gref zero word w change so_far false turn = tt
@@ -355,11 +355,11 @@ change-follows s h d r gref (suc more) word w change so_far false turn = go (nat
     go true e = (let m : misses now ≡ 1 + misses so_far = misses-exchange gref word w change so_far in omega arith, refl)
     go false e = absurd (false≢true e)
 
-abbrev Placed : Setting → History → DomId → Request → StepsSoFar → Phase → Step → Type 0
+abbrev Placed : Setting → History → DomId → Asked → StepsSoFar → Phase → Step → Type 0
 Placed s h d r so_far phase step = FollowsPlace s h d r ((step, seen_by s h d step) ∷ so_far) (phase_after (known_at s h d) d r phase (seen_by s h d step))
 
 -- each step that changes nothing leads where the next phase says
-pub placed : (s : Setting) (h : History) (xs : List State) (d : DomId) (r : Request) (so_far : StepsSoFar) (phase : Phase) (step : Step) → CoreStands s h xs
+pub placed : (s : Setting) (h : History) (xs : List State) (d : DomId) (r : Asked) (so_far : StepsSoFar) (phase : Phase) (step : Step) → CoreStands s h xs
     → PhaseStands s h d r so_far phase → Comes (expects (known_at s h d) d r phase []) → action_at (known_at s h d) d r phase ≡ Makes step
     → changes_nothing step (seen_by s h d step) ≡ true → Placed s h d r so_far phase step
 placed s h xs d r so_far PhaseBegun step st a comes act quiet = absurd a
@@ -421,7 +421,7 @@ read-within : (xs : List State) (d : DomId) (m : Option Mapping) (off len : ℕ)
 read-within xs d None off len step e = cc
 read-within xs d (Some m) off len step e = subst (λ (z : Step). IsWithin xs d z) (makes-same _ _ e) tt
 
-pub step-within : (s : Setting) (h : History) (xs : List State) (d : DomId) (r : Request) (so_far : StepsSoFar) (phase : Phase) (step : Step) → CoreStands s h xs → begun (known_at s h d) d r ≡ None
+pub step-within : (s : Setting) (h : History) (xs : List State) (d : DomId) (r : Asked) (so_far : StepsSoFar) (phase : Phase) (step : Step) → CoreStands s h xs → begun (known_at s h d) d r ≡ None
     → state_of xs d.0 ≢ None → PhaseStands s h d r so_far phase → Comes (expects (known_at s h d) d r phase []) → action_at (known_at s h d) d r phase ≡ Makes step → IsWithin xs d step
 step-within s h xs d r so_far PhaseBegun step st e own a comes act = absurd a
 step-within s h xs d r so_far (LegPinning l p) step st e own a comes act =
@@ -508,7 +508,7 @@ seen-fits s h d (StoreBody gref second word) = refl
 seen-fits s h d (StoreHeader version frames) = refl
 seen-fits s h d (ReadBytes dom frame off len) = refl
 
-phase-fits : (s : Setting) (h : History) (d : DomId) (r : Request) (so_far : StepsSoFar) (phase : Phase) (step : Step) (seen : Seen) → PhaseStands s h d r so_far phase
+phase-fits : (s : Setting) (h : History) (d : DomId) (r : Asked) (so_far : StepsSoFar) (phase : Phase) (step : Step) (seen : Seen) → PhaseStands s h d r so_far phase
     → action_at (known_at s h d) d r phase ≡ Makes step → FitsStep step seen → FitsPhase (known_at s h d) d r phase seen
 phase-fits s h d r so_far PhaseBegun step seen a act f = absurd a
 phase-fits s h d r so_far (LegPinning l p) step seen a act f = subst (λ (z : Action). FitsAction z seen) (sym act) f
@@ -519,7 +519,7 @@ phase-fits s h d r so_far (OwnLook more) step seen a act f = subst (λ (z : Acti
 phase-fits s h d r so_far (OwnChange more word) step seen a act f = subst (λ (z : Action). FitsAction z seen) (sym act) f
 phase-fits s h d r so_far (Ended verdict) step seen a act f = absurd a
 
-phase-underway : (s : Setting) (h : History) (d : DomId) (r : Request) (so_far : StepsSoFar) (phase : Phase) → PhaseStands s h d r so_far phase
+phase-underway : (s : Setting) (h : History) (d : DomId) (r : Asked) (so_far : StepsSoFar) (phase : Phase) → PhaseStands s h d r so_far phase
     → Comes (expects (known_at s h d) d r phase []) → IsUnderway (known_at s h d) d r phase
 phase-underway s h d r so_far PhaseBegun a comes = absurd a
 phase-underway s h d r so_far (LegPinning l p) a comes = comes
@@ -565,7 +565,7 @@ pub record Stepping (s : Setting) (h : History) (d : DomId) (o : Open) (c : Unde
   pub is_next : action ≡ action_at (known_at s h d) d c.request new.phase
   pub judged : phase_refusal new.phase ≡ first_at s h d c.request (reverse c.steps) o.step
 
-begun-none : (k : CallerKnowledge) (d : DomId) (r : Request) (o : Option Verdict) (vs : List Seen) (step : Step) → after_beginning o (steps_of k d r) vs ≡ Some (Makes step) → o ≡ None
+begun-none : (k : CallerKnowledge) (d : DomId) (r : Asked) (o : Option Verdict) (vs : List Seen) (step : Step) → after_beginning o (steps_of k d r) vs ≡ Some (Makes step) → o ≡ None
 begun-none k d r None vs step e = refl
 begun-none k d r (Some v) [] step e = cc
 begun-none k d r (Some v) (x ∷ vs) step e = cc
@@ -579,7 +579,7 @@ stepping s h xs x o c seen new action st here a oa saw adv =
     let r = c.request in
     let k = known_at s h d in
     let v : Advances k d r o.call.phase seen new action =
-    subst (λ (q : Request). Advances k d q o.call.phase seen new action) oa.request
+    subst (λ (q : Asked). Advances k d q o.call.phase seen new action) oa.request
     (subst (λ (z : DomId). Advances k z o.call.request o.call.phase seen new action) oa.caller
     (subst (λ (m : CallerKnowledge). Advances m o.call.caller o.call.request o.call.phase seen new action) (known-same s h x a) adv)) in
     let comes : Comes (expects k d r o.call.phase []) = comes-some _ _ oa.comes in
@@ -604,7 +604,7 @@ stepping s h xs x o c seen new action st here a oa saw adv =
       judged = ap phase_refusal (v.stands ∙ ap (phase_after k d r o.call.phase) same) ∙ judged s h xs d r (reverse c.steps) o.call.phase o.step st none place comes act;
     }
 
-going-none : (k : CallerKnowledge) (d : DomId) (r : Request) (phase : Phase) (step : Step) → Makes step ≡ action_at k d r phase → phase_refusal phase ≡ None
+going-none : (k : CallerKnowledge) (d : DomId) (r : Asked) (phase : Phase) (step : Step) → Makes step ≡ action_at k d r phase → phase_refusal phase ≡ None
 going-none k d r PhaseBegun step e = refl
 going-none k d r (LegPinning l p) step e = refl
 going-none k d r Storing step e = refl
@@ -614,7 +614,7 @@ going-none k d r (OwnLook more) step e = refl
 going-none k d r (OwnChange more word) step e = refl
 going-none k d r (Ended v) step e = cc
 
-follows-stands : (s : Setting) (h : History) (d : DomId) (r : Request) (so_far : StepsSoFar) (phase : Phase) (step : Step) → Makes step ≡ action_at (known_at s h d) d r phase
+follows-stands : (s : Setting) (h : History) (d : DomId) (r : Asked) (so_far : StepsSoFar) (phase : Phase) (step : Step) → Makes step ≡ action_at (known_at s h d) d r phase
     → FollowsPlace s h d r so_far phase → PhaseStands s h d r so_far phase
 follows-stands s h d r so_far PhaseBegun step e a = a
 follows-stands s h d r so_far (LegPinning l p) step e a = a
@@ -759,7 +759,7 @@ leg-justified s h d l (Pinning more word body second) = tt
 leg-justified s h d l (Relook more word rule) = tt
 
 -- each access of an open call is justified
-pub step-justified : (s : Setting) (h : History) (xs : List State) (d : DomId) (r : Request) (phase : Phase) (step : Step) → CoreStands s h xs
+pub step-justified : (s : Setting) (h : History) (xs : List State) (d : DomId) (r : Asked) (phase : Phase) (step : Step) → CoreStands s h xs
     → action_at (known_at s h d) d r phase ≡ Makes step → Justified s h d step
 step-justified s h xs d r PhaseBegun step st act = cc
 step-justified s h xs d r (LegPinning l p) step st act = subst (λ (z : Step). Justified s h d z) (makes-same _ _ act) (leg-justified s h d l p)
@@ -814,7 +814,7 @@ quiet-safe s h d (Unpin dom gref dir holder) seen answer q = tt
 quiet-safe s h d (StoreBody gref second word) seen answer q = tt
 quiet-safe s h d (StoreHeader version frames) seen answer q = tt
 
-quiet-sound : (s : Setting) (h : History) (d : DomId) (r : Request) (step : Step) (seen : Seen) → changes_nothing step seen ≡ true → PinIsSound s h d r step seen
+quiet-sound : (s : Setting) (h : History) (d : DomId) (r : Asked) (step : Step) (seen : Seen) → changes_nothing step seen ≡ true → PinIsSound s h d r step seen
 quiet-sound s h d r (LookHeader dom) seen q = tt
 quiet-sound s h d r (LookControl dom gref) seen q = tt
 quiet-sound s h d r (LookBody dom gref second) seen q = tt
@@ -919,7 +919,7 @@ slice-left n xs ys len same =
 
 -- a call that ends with a refusal
 
-store-granted : (r : Request) (denial : Denial) → Done (Refused denial) ≡ store_at r → ⊥
+store-granted : (r : Asked) (denial : Denial) → Done (Refused denial) ≡ store_at r → ⊥
 store-granted (Grant gref entry) denial e = cc
 store-granted (Revoke gref) denial e = cc
 store-granted (Demote gref) denial e = cc
@@ -932,7 +932,7 @@ store-granted (SetupTable frames) denial e = cc
 store-granted (QuerySize dom) denial e = cc
 store-granted (GetVersion dom) denial e = cc
 
-second-granted : (r : Request) (denial : Denial) → Done (Refused denial) ≡ second_at r → ⊥
+second-granted : (r : Asked) (denial : Denial) → Done (Refused denial) ≡ second_at r → ⊥
 second-granted (Grant gref entry) denial e = cc
 second-granted (Revoke gref) denial e = cc
 second-granted (Demote gref) denial e = cc
@@ -953,7 +953,7 @@ read-granted : (m : Option Mapping) (off len : ℕ) (denial : Denial) → Done (
 read-granted None off len denial e = cc
 read-granted (Some m) off len denial e = cc
 
-single-granted : (k : CallerKnowledge) (d : DomId) (r : Request) (denial : Denial) → Done (Refused denial) ≡ single_at k d r → ⊥
+single-granted : (k : CallerKnowledge) (d : DomId) (r : Asked) (denial : Denial) → Done (Refused denial) ≡ single_at k d r → ⊥
 single-granted k d (Grant gref entry) denial e = cc
 single-granted k d (Revoke gref) denial e = cc
 single-granted k d (Demote gref) denial e = cc
@@ -971,7 +971,7 @@ refusal_of_action (Makes step) = None
 refusal_of_action (Done verdict) = refusal_in (Some verdict)
 
 -- a call that is answered by a refusal has come to it
-ended-refusal : (k : CallerKnowledge) (d : DomId) (r : Request) (phase : Phase) (denial : Denial) → Done (Refused denial) ≡ action_at k d r phase → phase_refusal phase ≡ Some denial
+ended-refusal : (k : CallerKnowledge) (d : DomId) (r : Asked) (phase : Phase) (denial : Denial) → Done (Refused denial) ≡ action_at k d r phase → phase_refusal phase ≡ Some denial
 ended-refusal k d r PhaseBegun denial e = cc
 ended-refusal k d r (LegPinning l p) denial e = cc
 ended-refusal k d r Storing denial e = absurd (store-granted r denial e)
@@ -1051,15 +1051,15 @@ pin-missed : (l : Leg) (more word body second w : ℕ) (b : Bool) (denial : Deni
 pin-missed l more word body second w true denial e = absurd (none-some denial e)
 pin-missed l more word body second w false denial e = refl
 
-change-missed : (k : CallerKnowledge) (d : DomId) (r : Request) (gref : GrantRef) (more word w : ℕ) (change : Change) (b : Bool) (denial : Denial) → phase_refusal (phase_after k d r (OwnChange more word) (cond b Taken (Missed w))) ≡ Some denial
+change-missed : (k : CallerKnowledge) (d : DomId) (r : Asked) (gref : GrantRef) (more word w : ℕ) (change : Change) (b : Bool) (denial : Denial) → phase_refusal (phase_after k d r (OwnChange more word) (cond b Taken (Missed w))) ≡ Some denial
     → changes_nothing (Exchange gref word change) (cond b Taken (Missed w)) ≡ true
 change-missed k d r gref more word w change true denial e = absurd (none-some denial e)
 change-missed k d r gref more word w change false denial e = refl
 
-abbrev RefusedQuietly : Setting → History → DomId → Request → Phase → Denial → Step → Type 0
+abbrev RefusedQuietly : Setting → History → DomId → Asked → Phase → Denial → Step → Type 0
 RefusedQuietly s h d r phase denial step = phase_refusal (phase_after (known_at s h d) d r phase (seen_by s h d step)) ≡ Some denial → changes_nothing step (seen_by s h d step) ≡ true
 
-leg-refused-quietly : (s : Setting) (h : History) (d : DomId) (r : Request) (l : Leg) (p : LegPhase) (denial : Denial) → RefusedQuietly s h d r (LegPinning l p) denial (leg_step l p)
+leg-refused-quietly : (s : Setting) (h : History) (d : DomId) (r : Asked) (l : Leg) (p : LegPhase) (denial : Denial) → RefusedQuietly s h d r (LegPinning l p) denial (leg_step l p)
 leg-refused-quietly s h d r l AtHeader denial e = refl
 leg-refused-quietly s h d r l (Look more) denial e = refl
 leg-refused-quietly s h d r l (Body more word) denial e = refl
@@ -1068,7 +1068,7 @@ leg-refused-quietly s h d r l (Pinning more word body second) denial e =
     pin-missed l more word body second (word_at s h l.dom.0 l.gref.0) (word_at s h l.dom.0 l.gref.0 == word) denial e
 leg-refused-quietly s h d r l (Relook more word rule) denial e = refl
 
-refused-quietly : (s : Setting) (h : History) (d : DomId) (r : Request) (phase : Phase) (denial : Denial) (step : Step) → action_at (known_at s h d) d r phase ≡ Makes step → RefusedQuietly s h d r phase denial step
+refused-quietly : (s : Setting) (h : History) (d : DomId) (r : Asked) (phase : Phase) (denial : Denial) (step : Step) → action_at (known_at s h d) d r phase ≡ Makes step → RefusedQuietly s h d r phase denial step
 refused-quietly s h d r PhaseBegun denial step act e = cc
 refused-quietly s h d r (LegPinning l p) denial step act e =
     subst (λ (z : Step). RefusedQuietly s h d r (LegPinning l p) denial z) (makes-same _ _ act) (leg-refused-quietly s h d r l p denial) e

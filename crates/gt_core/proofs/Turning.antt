@@ -13,8 +13,8 @@ use Rattle.gt_entry.specs.declared.entry.Entry.{Entry}
 use Rattle.gt_entry.specs.declared.entry.Entry.TheVariants.{Invalid, Page, Sub, Via}
 use Rattle.gt_types.specs.declared.Dir.{Dir}
 use Rattle.gt_types.specs.declared.Dir.TheVariants.{Read, Write}
-use Rattle.gt_core.specs.declared.request.Request.{Request}
-use Rattle.gt_core.specs.declared.request.Request.TheVariants.{Grant, Revoke, Demote, Promote, Map, Unmap, Load, SetVersion, SetupTable, QuerySize, GetVersion}
+use Rattle.gt_core.specs.declared.asked.Asked.{Asked}
+use Rattle.gt_core.specs.declared.asked.Asked.TheVariants.{Grant, Revoke, Demote, Promote, Map, Unmap, Load, SetVersion, SetupTable, QuerySize, GetVersion}
 use Rattle.gt_core.specs.declared.action.Verdict.TheVariants.{Granted}
 use Rattle.gt_core.specs.declared.action.Change.{Change}
 use Rattle.gt_core.specs.declared.action.Step.{Step}
@@ -262,7 +262,7 @@ store-stands s h xs x gref second word o st here a invalid call =
         (by dom (x.id.0 == dom.0) refl)
 
 -- what a call stores, and where it stands then
-abbrev pub StoresNext : Setting → History → DomId → Request → StepsSoFar → Step → Phase → Type 0
+abbrev pub StoresNext : Setting → History → DomId → Asked → StepsSoFar → Step → Phase → Type 0
 StoresNext s h d r so_far step next =
     (gref : GrantRef) × (second : Bool) × (word : ℕ) × (step ≡ StoreBody gref second word) × ((begun (known_at s h d) d r ≡ None) → entry_at h d.0 gref.0 ≡ Invalid)
     × PhaseStands s (stepped d (StoreBody gref second word) Nothing None ∷ h) d r ((StoreBody gref second word, Nothing) ∷ so_far) next
@@ -276,7 +276,7 @@ pinned-loud true w word dom gref dir e = refl
 pinned-loud false w word dom gref dir e = absurd (true≢false e)
 
 -- a leg's loud step ends it
-leg-quiet : (s : Setting) (h : History) (k : CallerKnowledge) (d : DomId) (r : Request) (l : Leg) (p : LegPhase) (next : Step) → changes_nothing (leg_step l p) (seen_by s h d (leg_step l p)) ≡ false
+leg-quiet : (s : Setting) (h : History) (k : CallerKnowledge) (d : DomId) (r : Asked) (l : Leg) (p : LegPhase) (next : Step) → changes_nothing (leg_step l p) (seen_by s h d (leg_step l p)) ≡ false
     → Makes next ≡ action_at k d r (phase_after k d r (LegPinning l p) (seen_by s h d (leg_step l p))) → ⊥
 leg-quiet s h k d r l AtHeader next q e = true≢false q
 leg-quiet s h k d r l (Look more) next q e = true≢false q
@@ -288,13 +288,13 @@ leg-quiet s h k d r l (Pinning more word body second) next q e =
     let b : (w == word) ≡ true = pinned-loud (w == word) w word l.dom l.gref l.dir q in
     let f : Makes next ≡ Done Granted = subst (λ (z : Bool). Makes next ≡ action_at k d r (after_leg l (leg_after l (Pinning more word body second) (cond z Taken (Missed w))))) b e in cc
 
-single-ends : (k : CallerKnowledge) (d : DomId) (r : Request) (gref : GrantRef) (seen : Seen) (next : Step) → Makes next ≡ action_at k d r (after_single d gref seen) → ⊥
+single-ends : (k : CallerKnowledge) (d : DomId) (r : Asked) (gref : GrantRef) (seen : Seen) (next : Step) → Makes next ≡ action_at k d r (after_single d gref seen) → ⊥
 single-ends k d r gref Nothing next e = cc
 single-ends k d r gref (Value w) next e = cc
 single-ends k d r gref Taken next e = cc
 single-ends k d r gref (Missed w) next e = cc
 
-change-ends : (s : Setting) (h : History) (k : CallerKnowledge) (d : DomId) (r : Request) (gref : GrantRef) (more word : ℕ) (change : Change) (next : Step)
+change-ends : (s : Setting) (h : History) (k : CallerKnowledge) (d : DomId) (r : Asked) (gref : GrantRef) (more word : ℕ) (change : Change) (next : Step)
     → changes_nothing (Exchange gref word change) (seen_by s h d (Exchange gref word change)) ≡ false
     → Makes next ≡ action_at k d r (phase_after k d r (OwnChange more word) (seen_by s h d (Exchange gref word change))) → ⊥
 change-ends s h k d r gref more word change next q e =
@@ -321,7 +321,7 @@ stores-first s h d gref entry so_far false e =
     plain (Via dom ro dom2 r) e = refl
 
 -- a loud step of a call that goes on is a store of its grant
-stores-next : (s : Setting) (h : History) (d : DomId) (r : Request) (so_far : StepsSoFar) (phase : Phase) (step next : Step) → PhaseStands s h d r so_far phase
+stores-next : (s : Setting) (h : History) (d : DomId) (r : Asked) (so_far : StepsSoFar) (phase : Phase) (step next : Step) → PhaseStands s h d r so_far phase
     → Comes (expects (known_at s h d) d r phase []) → action_at (known_at s h d) d r phase ≡ Makes step → changes_nothing step (seen_by s h d step) ≡ false
     → Makes next ≡ action_at (known_at s h d) d r (phase_after (known_at s h d) d r phase (seen_by s h d step))
     → StoresNext s h d r so_far step (phase_after (known_at s h d) d r phase (seen_by s h d step))

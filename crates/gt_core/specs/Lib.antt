@@ -1,3 +1,4 @@
+pub mod Asking
 pub mod Rows
 pub mod Rules
 pub mod Path

@@ -23,8 +23,8 @@ use Rattle.gt_core.specs.declared.call.Start.{Start}
 use Rattle.gt_core.specs.declared.call.Start.TheVariants.{Open, Done as StartDone}
 use Rattle.gt_core.specs.declared.call.Phase.{Phase}
 use Rattle.gt_core.specs.declared.call.Phase.TheVariants.{Begun, Pinning as LegPinning, Storing, StoringSecond, Single, Look as OwnLook, Change as OwnChange, Ended}
-use Rattle.gt_core.specs.declared.request.Request.{Request}
-use Rattle.gt_core.specs.declared.request.Request.TheVariants.{Grant, Revoke, Demote, Promote, Map, Unmap, Load, SetVersion, SetupTable, QuerySize, GetVersion}
+use Rattle.gt_core.specs.declared.asked.Asked.{Asked}
+use Rattle.gt_core.specs.declared.asked.Asked.TheVariants.{Grant, Revoke, Demote, Promote, Map, Unmap, Load, SetVersion, SetupTable, QuerySize, GetVersion}
 use Rattle.gt_core.specs.declared.action.Seen.{Seen}
 use Rattle.gt_core.specs.declared.action.Seen.TheVariants.{Nothing, Value, Taken, Missed}
 use Rattle.gt_core.specs.declared.leg.Leg.{Leg}
@@ -138,7 +138,7 @@ abbrev pub nowhere : Continuation
 nowhere vs = None
 
 -- a call's last step, where it has just one, and a grant's exchange (own)
-abbrev pub single_to_come : CallerKnowledge → DomId → Request → Continuation
+abbrev pub single_to_come : CallerKnowledge → DomId → Asked → Continuation
 single_to_come k caller (Grant gref entry) = publishes k caller gref entry
 single_to_come k caller (Revoke gref) = steps_of k caller (Revoke gref)
 single_to_come k caller (Unmap handle) = steps_of k caller (Unmap handle)
@@ -150,12 +150,12 @@ single_to_come k caller (GetVersion dom) = steps_of k caller (GetVersion dom)
 single_to_come k caller _ = nowhere
 
 -- what a grant has to come before it stored a word (own)
-abbrev pub storing_to_come : CallerKnowledge → DomId → Request → Continuation
+abbrev pub storing_to_come : CallerKnowledge → DomId → Asked → Continuation
 storing_to_come k caller (Grant gref entry) = steps_of k caller (Grant gref entry)
 storing_to_come k caller _ = nowhere
 
 -- what the grant of a sub-page has to come before it stored the second word (own)
-abbrev pub second_to_come : CallerKnowledge → DomId → Request → Continuation
+abbrev pub second_to_come : CallerKnowledge → DomId → Asked → Continuation
 second_to_come k caller (Grant gref (Sub dom ro frame off len)) = stores_second (Sub dom ro frame off len) gref (publishes k caller gref (Sub dom ro frame off len))
 second_to_come k caller _ = nowhere
 
@@ -170,19 +170,19 @@ change_to_come to_ro caller gref more word =
     exchanges (Exchange gref word (to_ro_or_back to_ro)) (ended Granted) (missed_turn to_ro caller gref more)
 
 -- what a demote or promote has to come before its look (own)
-abbrev pub own_look_to_come : DomId → Request → ℕ → Continuation
+abbrev pub own_look_to_come : DomId → Asked → ℕ → Continuation
 own_look_to_come caller (Demote gref) more = turns true caller gref more
 own_look_to_come caller (Promote gref) more = turns false caller gref more
 own_look_to_come caller _ more = nowhere
 
 -- what a demote or promote has to come after a look that showed this word (own)
-abbrev pub own_change_to_come : DomId → Request → ℕ → ℕ → Continuation
+abbrev pub own_change_to_come : DomId → Asked → ℕ → ℕ → Continuation
 own_change_to_come caller (Demote gref) more word = change_to_come true caller gref more word
 own_change_to_come caller (Promote gref) more word = change_to_come false caller gref more word
 own_change_to_come caller _ more word = nowhere
 
 -- what is to come where a call stands (own)
-abbrev pub expects : CallerKnowledge → DomId → Request → Phase → Continuation
+abbrev pub expects : CallerKnowledge → DomId → Asked → Phase → Continuation
 expects k caller request Begun = begins (steps_of k caller request)
 expects k caller request (LegPinning l phase) = leg_to_come l phase refused_with granted
 expects k caller request Storing = storing_to_come k caller request
@@ -207,7 +207,7 @@ FitsStep (ReadBytes dom frame off len) seen = seen ≡ Nothing
 -- a call as a machine
 
 -- the reference that a call names, 0 where it names none (own)
-abbrev pub own_gref : Request → GrantRef
+abbrev pub own_gref : Asked → GrantRef
 own_gref (Grant gref entry) = gref
 own_gref (Revoke gref) = gref
 own_gref (Demote gref) = gref
@@ -221,12 +221,12 @@ own_gref (QuerySize dom) = record { 0 = 0 }
 own_gref (GetVersion dom) = record { 0 = 0 }
 
 -- the grant of a sub-page (own)
-abbrev pub is_sub : Request → Bool
+abbrev pub is_sub : Asked → Bool
 is_sub (Grant gref (Sub dom ro frame off len)) = true
 is_sub _ = false
 
 -- where a call stands before its first step (own)
-abbrev pub first_phase : CallerKnowledge → DomId → Request → Phase
+abbrev pub first_phase : CallerKnowledge → DomId → Asked → Phase
 first_phase k caller (Grant gref entry) = Storing
 first_phase k caller (Revoke gref) = Single
 first_phase k caller (Demote gref) = OwnLook 3
@@ -251,18 +251,18 @@ after_single caller gref (Missed found) = Ended (Refused (entry_refusal caller g
 after_single caller gref _ = Ended Granted
 
 -- where a demote or promote stands after a look: N19 ends a demote where a write pin is live (own)
-abbrev pub after_own_look : DomId → Request → ℕ → ℕ → Phase
+abbrev pub after_own_look : DomId → Asked → ℕ → ℕ → Phase
 after_own_look caller request more word =
     if is_demote request && nat_lt 0 (control_of word).writes then Ended (Refused (entry_refusal caller (own_gref request) N19 word))
     else OwnChange more word
 
 -- where a demote or promote stands after a missed exchange (own)
-abbrev pub after_own_miss : DomId → Request → ℕ → ℕ → Phase
+abbrev pub after_own_miss : DomId → Asked → ℕ → ℕ → Phase
 after_own_miss caller request more found =
     if nat_lt 0 more then OwnLook (more - 1) else Ended (Refused (entry_refusal caller (own_gref request) N18 found))
 
 -- where a call stands after what its step saw (own)
-abbrev pub phase_after : CallerKnowledge → DomId → Request → Phase → Seen → Phase
+abbrev pub phase_after : CallerKnowledge → DomId → Asked → Phase → Seen → Phase
 phase_after k caller request Begun seen = first_phase k caller request
 phase_after k caller request (LegPinning l phase) seen = after_leg l (leg_after l phase seen)
 phase_after k caller request Storing seen = if is_sub request then StoringSecond else Single
@@ -285,7 +285,7 @@ read_of None off len = Done Granted
 read_of (Some m) off len = Makes (ReadBytes m.dom m.frame off len)
 
 -- the exchange of a grant or revoke, or the only step of a call that makes one (own)
-abbrev pub single_at : CallerKnowledge → DomId → Request → Action
+abbrev pub single_at : CallerKnowledge → DomId → Asked → Action
 single_at k caller (Grant gref entry) = Makes (Exchange gref (idle_word k gref) (Publish entry))
 single_at k caller (Revoke gref) = Makes (Exchange gref (idle_word k gref) ToInvalid)
 single_at k caller (Unmap handle) = unpin_of (mapping_of k.mappings handle)
@@ -297,17 +297,17 @@ single_at k caller (GetVersion dom) = Makes (LookHeader (resolved caller dom))
 single_at k caller _ = Done Granted
 
 -- the store of the first body word of a grant (own)
-abbrev pub store_at : Request → Action
+abbrev pub store_at : Asked → Action
 store_at (Grant gref entry) = Makes (StoreBody gref false (first_body entry))
 store_at _ = Done Granted
 
 -- the store of the second body word of a grant (own)
-abbrev pub second_at : Request → Action
+abbrev pub second_at : Asked → Action
 second_at (Grant gref entry) = Makes (StoreBody gref true (second_body entry))
 second_at _ = Done Granted
 
 -- the next action of a call that stands here (own)
-abbrev pub action_at : CallerKnowledge → DomId → Request → Phase → Action
+abbrev pub action_at : CallerKnowledge → DomId → Asked → Phase → Action
 action_at k caller request Begun = Done Granted
 action_at k caller request (LegPinning l phase) = Makes (leg_step l phase)
 action_at k caller request Storing = store_at request
@@ -323,7 +323,7 @@ Comes None = ⊥
 Comes (Some action) = Unit {0}
 
 -- a call that was begun and not answered, or that has something to come (own)
-abbrev pub IsUnderway : CallerKnowledge → DomId → Request → Phase → Type 0
+abbrev pub IsUnderway : CallerKnowledge → DomId → Asked → Phase → Type 0
 IsUnderway k caller request Begun = begun k caller request ≡ None
 IsUnderway k caller request phase = Comes (expects k caller request phase [])
 
@@ -333,12 +333,12 @@ FitsAction (Makes step) seen = FitsStep step seen
 FitsAction (Done verdict) seen = ⊥
 
 -- the value is one that the call's last action can see; the beginning sees nothing (own)
-abbrev pub FitsPhase : CallerKnowledge → DomId → Request → Phase → Seen → Type 0
+abbrev pub FitsPhase : CallerKnowledge → DomId → Asked → Phase → Seen → Type 0
 FitsPhase k caller request Begun seen = seen ≡ Nothing
 FitsPhase k caller request phase seen = FitsAction (action_at k caller request phase) seen
 
 -- how a call starts: open, or answered at once (own)
-abbrev pub starts_as : DomId → Request → Option Verdict → Start
+abbrev pub starts_as : DomId → Asked → Option Verdict → Start
 starts_as caller request None = Open (record { caller = caller; request = request; phase = Begun })
 starts_as caller request (Some verdict) = StartDone verdict
 

@@ -12,6 +12,9 @@ use Rattle.gt_types.specs.declared.config.StartFault.{StartFault}
 use Rattle.gt_types.specs.declared.config.StartFault.TheVariants.{Config as ConfigFault, Memory as NoMemory}
 use Rattle.gt_types.specs.declared.config.Config.{Config}
 use Rattle.gt_core.specs.declared.request.Request.{Request}
+use Rattle.gt_core.specs.declared.request.Request.TheVariants as requests
+use Rattle.gt_core.specs.declared.asked.Asked.{Asked}
+use Rattle.gt_core.specs.Asking.{asked, begun_of, IsSaid}
 use Rattle.gt_core.specs.declared.action.Verdict.{Verdict}
 use Rattle.gt_core.specs.declared.action.Verdict.TheVariants.{Granted, Refused}
 use Rattle.gt_core.specs.declared.action.Seen.{Seen}
@@ -39,14 +42,14 @@ use Rattle.gt_core.specs.declared.core_state.Ticked.{Ticked}
 use Rattle.gt_core.specs.declared.core_state.Ticked.TheVariants.{Step as TickedStep, Done as TickedDone, Idle as TickedIdle, NoDomain as TickedNoDomain}
 use Rattle.gt_core.specs.declared.core_state.Opening.{Opening}
 use Rattle.gt_core.specs.declared.core_state.Opening.TheVariants.{Open as OpeningOpen, Done as OpeningDone}
-use Rattle.gt_core.specs.Rules.{CallerKnowledge, is_demote, begun, entry_in, generation_in, first_look, before_pin, first_body, second_body, is_kind, frames_of}
+use Rattle.gt_core.specs.Rules.{CallerKnowledge, is_demote, entry_in, generation_in, first_look, before_pin, first_body, second_body, is_kind, frames_of}
 use Rattle.gt_types.specs.declared.denial.Rule.{Rule}
 use Rattle.gt_entry.specs.declared.entry.Entry.{Entry}
 use Rattle.gt_entry.specs.declared.entry.Entry.TheVariants.{Invalid, Page, Sub, Via}
 use Rattle.gt_entry.specs.declared.control.Control.{Control}
 use Rattle.gt_entry.specs.declared.control.Kind.TheVariants.{Sub as KindSub}
 use Rattle.gt_entry.specs.Words.{IsInRange, control_of, header_of}
-use Rattle.gt_core.specs.declared.request.Request.TheVariants.{Grant, Load, SetupTable, QuerySize, GetVersion}
+use Rattle.gt_core.specs.declared.asked.Asked.TheVariants.{Grant, Load, SetupTable, QuerySize, GetVersion}
 use Rattle.gt_core.specs.declared.leg.Leg.{Leg}
 use Rattle.gt_core.specs.declared.leg.LegPhase.{LegPhase}
 use Rattle.gt_core.specs.declared.leg.LegPhase.TheVariants.{Header as AtHeader, Look, Body, Second, Pinning, Relook}
@@ -61,15 +64,15 @@ use Rattle.gt_core.specs.Legal.{Permits, MayUse, stood, StepsSoFar, misses, look
 
 -- a call begins so: with an answer, or with a first step and all that may follow it (own)
 abbrev pub Opens : CallerKnowledge → DomId → Request → Opening → Type 0
-Opens k dom request (OpeningDone verdict) = begun k dom request ≡ Some verdict
+Opens k dom request (OpeningDone verdict) = begun_of k dom request ≡ Some verdict
 Opens k dom request (OpeningOpen o) =
-    (begun k dom request ≡ None) × (o.call.caller ≡ dom) × (o.call.request ≡ request)
-    × (expects k dom request o.call.phase [] ≡ Some (Makes o.step))
-    × ((vs : List Seen) → expects k dom request o.call.phase vs ≡ steps_of k dom request vs)
-    × (o.call.phase ≡ first_phase k dom request)
+    (begun_of k dom request ≡ None) × (o.call.caller ≡ dom) × (o.call.request ≡ asked request)
+    × (expects k dom (asked request) o.call.phase [] ≡ Some (Makes o.step))
+    × ((vs : List Seen) → expects k dom (asked request) o.call.phase vs ≡ steps_of k dom (asked request) vs)
+    × (o.call.phase ≡ first_phase k dom (asked request)) × IsSaid k.header request
 
 -- a call of the caller, standing here, goes on so after what its step saw (own)
-pub record Advances (k : CallerKnowledge) (caller : DomId) (request : Request) (phase : Phase) (seen : Seen) (new : Call) (action : Action) : Type 0 where
+pub record Advances (k : CallerKnowledge) (caller : DomId) (request : Asked) (phase : Phase) (seen : Seen) (new : Call) (action : Action) : Type 0 where
   pub by : new.caller ≡ caller
   pub asks : new.request ≡ request
   pub stands : new.phase ≡ phase_after k caller request phase seen
@@ -79,11 +82,11 @@ pub record Advances (k : CallerKnowledge) (caller : DomId) (request : Request) (
 -- the answer of a call that makes no step, by the header of its caller's table (own)
 abbrev pub answer_begun : Request → Header → Verdict → Answer
 answer_begun request header (Refused denial) = Denied denial
-answer_begun (SetupTable frames) header Granted = FramesAnswer header.frames
+answer_begun (requests.SetupTable frames) header Granted = FramesAnswer header.frames
 answer_begun request header Granted = AnswerDone
 
 -- the answer of a call that gives no mapping and no bytes, by what its last step saw (own)
-abbrev pub value_of : Request → Seen → Answer
+abbrev pub value_of : Asked → Seen → Answer
 value_of (QuerySize dom) (Value word) = SizeAnswer (record { frames = (header_of word).frames; max = 4 })
 value_of (GetVersion dom) (Value word) = VersionAnswer (header_of word).version
 value_of (SetupTable frames) seen = FramesAnswer frames
@@ -108,7 +111,7 @@ abbrev pub setting_of : Config → (TypeId → TypeId → Perms → Bool) → Se
 setting_of config may = record { domains = config.domains.items; first_generation = config.first_gen; may = may }
 
 -- a request for so many bytes (own)
-abbrev pub IsLoadOf : Request → ℕ → Type 0
+abbrev pub IsLoadOf : Asked → ℕ → Type 0
 IsLoadOf (Load handle off len) n = len ≡ n
 IsLoadOf request n = ⊥
 
@@ -123,7 +126,7 @@ Settled xs at d o seen (ReadBytes dom frame off len) answer new =
 Settled xs at d o seen step answer new = (answer ≡ value_of o.call.request seen) × (new ≡ set xs at (with_underway None d))
 
 -- the answer of this last step wants no room, or it was made already: a pin is that of a map (own)
-abbrev pub NeedsNoRoom : Request → Step → Type 0
+abbrev pub NeedsNoRoom : Asked → Step → Type 0
 NeedsNoRoom request (Pin dom gref looked dir) = IsMapping (Some request)
 NeedsNoRoom request step = Unit {0}
 
@@ -138,7 +141,7 @@ IsStartFaultOf config NoMemory = IsWithinLimits config
 
 -- memory can be wanted where a domain at rest begins a map or a load against which no rule stands (own)
 abbrev pub WantsMemory : Setting → History → DomId → Request → Type 0
-WantsMemory s h d request = (asks_memory request ≡ true) × (open_call h d.0 ≡ None) × (begun (known_at s h d) d request ≡ None)
+WantsMemory s h d request = (asks_memory (asked request) ≡ true) × (open_call h d.0 ≡ None) × (begun_of (known_at s h d) d request ≡ None)
 
 -- what a call has seen
 
@@ -182,17 +185,17 @@ LegStands s h l so_far (Relook more word rule) =
     HasLooked s h l so_far more word × ((body : ℕ) × (second : ℕ) × HasRead s h l so_far word body second (Some rule))
 
 -- the body words of a grant that it has stored so far (own)
-abbrev pub HasStored : History → DomId → Request → Type 0
+abbrev pub HasStored : History → DomId → Asked → Type 0
 HasStored h d (Grant gref entry) = IsSpelled entry (body_at h d.0 gref.0 false) (body_at h d.0 gref.0 true)
 HasStored h d request = Unit {0}
 
 -- the first body word of a grant that it has stored (own)
-abbrev pub HasStoredFirst : History → DomId → Request → Type 0
+abbrev pub HasStoredFirst : History → DomId → Asked → Type 0
 HasStoredFirst h d (Grant gref entry) = body_at h d.0 gref.0 false ≡ first_body entry
 HasStoredFirst h d request = ⊥
 
 -- where a call stands, by the steps so far (the newest first) (own)
-abbrev pub PhaseStands : Setting → History → DomId → Request → StepsSoFar → Phase → Type 0
+abbrev pub PhaseStands : Setting → History → DomId → Asked → StepsSoFar → Phase → Type 0
 PhaseStands s h d request so_far PhaseBegun = ⊥
 PhaseStands s h d request so_far (LegPinning l phase) =
     (leg_of (known_at s h d) d request ≡ Some l) × (domain_of s.domains l.dom ≢ None) × LegStands s h l so_far phase
@@ -212,9 +215,9 @@ FitsEntry (Sub dom ro frame off len) = dom.0 < 65536
 FitsEntry (Via dom ro dom2 gref) = dom.0 < 65536
 
 -- the domain in the entry that a grant gives has a number of 16 bits (own)
-abbrev pub FitsRequest : Request → Type 0
-FitsRequest (Grant gref entry) = FitsEntry entry
-FitsRequest request = Unit {0}
+abbrev pub FitsAsked : Asked → Type 0
+FitsAsked (Grant gref entry) = FitsEntry entry
+FitsAsked request = Unit {0}
 
 -- an open call is where its steps have led it, and no rule stood so far (own)
 pub record OpenAgrees (s : Setting) (h : History) (id : DomId) (o : Open) (c : Underway) : Type 0 where
@@ -224,7 +227,7 @@ pub record OpenAgrees (s : Setting) (h : History) (id : DomId) (o : Open) (c : U
   pub leads : (vs : List Seen) → path (known_at s h id) id c.request (values c ++ vs) ≡ expects (known_at s h id) id c.request o.call.phase vs
   pub fair : stood s h id.0 ≡ None
   pub place : PhaseStands s h id c.request (reverse c.steps) o.call.phase
-  pub fits : FitsRequest c.request
+  pub fits : FitsAsked c.request
 
 -- the open call is that of the history, and there is one in both or in neither (own)
 abbrev pub CallAgrees : Setting → History → DomId → Option Open → Option Underway → Type 0

@@ -3,8 +3,8 @@ use Rattle.std.specs.Prelude.{Bool, true, false, ℕ, List, [], ◌∷◌, Optio
 use Rattle.gt_types.specs.declared.config.DomainConfig.{DomainConfig}
 use Rattle.gt_entry.specs.declared.entry.Entry.TheVariants.{Invalid}
 use Rattle.gt_core.specs.declared.known.TheConstants.{ENTRIES, FRAME_LEN}
-use Rattle.gt_core.specs.declared.request.Request.{Request}
-use Rattle.gt_core.specs.declared.request.Request.TheVariants.{Map, Load}
+use Rattle.gt_core.specs.declared.asked.Asked.{Asked}
+use Rattle.gt_core.specs.declared.asked.Asked.TheVariants.{Map, Load}
 use Rattle.gt_types.specs.declared.DomId.{DomId}
 use Rattle.gt_entry.specs.declared.header.Header.{Header}
 use Rattle.gt_core.specs.declared.known.Own.{Own}
@@ -24,28 +24,28 @@ pub record State : Type 0 where
   pub underway : Option Open
 
 -- what the call under way asks (own)
-abbrev pub asked_in : Option Open → Option Request
+abbrev pub asked_in : Option Open → Option Asked
 asked_in None = None
 asked_in (Some o) = Some o.call.request
 
 -- the calls that ask for memory: a map for its mapping, a load for its bytes (own)
-abbrev pub asks_memory : Request → Bool
+abbrev pub asks_memory : Asked → Bool
 asks_memory (Map dom gref flags) = true
 asks_memory (Load handle off len) = true
 asks_memory _ = false
 
 -- a map is under way (own)
-abbrev pub IsMapping : Option Request → Type 0
+abbrev pub IsMapping : Option Asked → Type 0
 IsMapping (Some (Map dom gref flags)) = Unit {0}
 IsMapping _ = ⊥
 
 -- a load under way is of so many bytes (own)
-abbrev pub IsLoading : Option Request → ℕ → Type 0
+abbrev pub IsLoading : Option Asked → ℕ → Type 0
 IsLoading (Some (Load handle off len)) n = n ≡ len
 IsLoading _ n = Unit {0}
 
 -- the room that a call's answer wants was made when it began: for one more mapping, or for the bytes of a load (own)
-abbrev pub HasRoom : Option Request → ℕ → ℕ → Option ℕ → Type 0
+abbrev pub HasRoom : Option Asked → ℕ → ℕ → Option ℕ → Type 0
 HasRoom (Some (Map dom gref flags)) mappings capacity bytes = mappings < capacity
 HasRoom (Some (Load handle off len)) mappings capacity bytes = bytes ≡ Some len
 HasRoom _ mappings capacity bytes = Unit {0}

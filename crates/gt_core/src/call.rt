@@ -6,7 +6,8 @@ ghost use Rattle.gt_core.specs.Path.{entry_refusal, map_leg, idle_word, to_ro_or
 ghost use Rattle.gt_core.specs.Machine.{expects, own_gref, is_sub, first_phase, after_leg, after_single, after_own_look, after_own_miss, phase_after, single_at, store_at, second_at, unpin_of, read_of, action_at, IsUnderway, FitsPhase};
 
 use crate::action::{Action, Change, Seen, Step, Verdict};
-use crate::judging::{find_domain, find_mapping, judge_beginning, own_at, resolve};
+use crate::asked::Asked;
+use crate::judging::{Judged, find_domain, find_mapping, judge_request, own_at, resolve};
 use crate::known::{Known, Mapping};
 use crate::leg::{Leg, LegNext, LegPhase, body_read, entry_refusal, leg_next, leg_step};
 use crate::request::{Handle, Holder, Request};
@@ -30,7 +31,7 @@ pub enum Phase {
 #[derive(Clone, Copy, Debug, PartialEq, Eq)]
 pub struct Call {
     pub caller: DomId,
-    pub request: Request,
+    pub request: Asked,
     pub phase: Phase,
 }
 
@@ -67,30 +68,30 @@ fn map_leg<P: Allows>(
     }
 }
 
-fn own_gref(request: Request) -> GrantRef
+fn own_gref(request: Asked) -> GrantRef
     ensures { result ≡ own_gref request }
 {
     match request {
-        Request::Grant { gref, .. }
-        | Request::Revoke { gref }
-        | Request::Demote { gref }
-        | Request::Promote { gref }
-        | Request::Map { gref, .. } => gref,
+        Asked::Grant { gref, .. }
+        | Asked::Revoke { gref }
+        | Asked::Demote { gref }
+        | Asked::Promote { gref }
+        | Asked::Map { gref, .. } => gref,
         _ => GrantRef(0),
     }
 }
 
-fn is_demote(request: Request) -> bool
+fn is_demote(request: Asked) -> bool
     ensures { result ≡ is_demote request }
 {
-    matches!(request, Request::Demote { .. })
+    matches!(request, Asked::Demote { .. })
 }
 
-fn is_sub(request: Request) -> bool
+fn is_sub(request: Asked) -> bool
     ensures { result ≡ is_sub request }
 {
     match request {
-        Request::Grant { entry, .. } => matches!(entry, Entry::Sub { .. }),
+        Asked::Grant { entry, .. } => matches!(entry, Entry::Sub { .. }),
         _ => false,
     }
 }
@@ -116,7 +117,7 @@ fn after_single(caller: DomId, gref: GrantRef, seen: Seen) -> Phase
     }
 }
 
-fn after_own_look(caller: DomId, request: Request, more: u8, word: u64) -> Phase
+fn after_own_look(caller: DomId, request: Asked, more: u8, word: u64) -> Phase
     ensures { result ≡ after_own_look caller request more word }
 {
     if is_demote(request) && Control::unpack(word).writes > 0 {
@@ -127,7 +128,7 @@ fn after_own_look(caller: DomId, request: Request, more: u8, word: u64) -> Phase
     }
 }
 
-fn after_own_miss(caller: DomId, request: Request, more: u8, found: u64) -> Phase
+fn after_own_miss(caller: DomId, request: Asked, more: u8, found: u64) -> Phase
     ensures { result ≡ after_own_miss caller request more found }
 {
     if more > 0 {
@@ -138,13 +139,13 @@ fn after_own_miss(caller: DomId, request: Request, more: u8, found: u64) -> Phas
     }
 }
 
-fn first_phase<P: Allows>(known: &Known<'_, P>, caller: DomId, request: Request) -> Phase
+fn first_phase<P: Allows>(known: &Known<'_, P>, caller: DomId, request: Asked) -> Phase
     ensures { result ≡ first_phase (knowledge_of known.now.config.now.domains.items known.now.config.now.first_gen (P.may known.now.rights.now) known.now.own.now known.now.header known.now.mappings.now known.now.maps_answered) caller request }
 {
     match request {
-        Request::Grant { .. } => Phase::Storing,
-        Request::Demote { .. } | Request::Promote { .. } => Phase::Look { more: 3 },
-        Request::Map { dom, gref, flags } => {
+        Asked::Grant { .. } => Phase::Storing,
+        Asked::Demote { .. } | Asked::Promote { .. } => Phase::Look { more: 3 },
+        Asked::Map { dom, gref, flags } => {
             Phase::Pinning(map_leg(known, caller, dom, gref, flags), LegPhase::Header)
         }
         _ => Phase::Single,
@@ -186,31 +187,31 @@ fn read(known: &[Mapping], handle: Handle, off: u16, len: u16) -> Action
     }
 }
 
-fn single<P: Allows>(known: &Known<'_, P>, caller: DomId, request: Request) -> Action
+fn single<P: Allows>(known: &Known<'_, P>, caller: DomId, request: Asked) -> Action
     ensures { result ≡ single_at (knowledge_of known.now.config.now.domains.items known.now.config.now.first_gen (P.may known.now.rights.now) known.now.own.now known.now.header known.now.mappings.now known.now.maps_answered) caller request }
 {
     match request {
-        Request::Grant { gref, entry } => Action::Step(Step::Exchange {
+        Asked::Grant { gref, entry } => Action::Step(Step::Exchange {
             gref,
             looked: idle_word(known, gref),
             change: Change::Publish(entry),
         }),
-        Request::Revoke { gref } => Action::Step(Step::Exchange {
+        Asked::Revoke { gref } => Action::Step(Step::Exchange {
             gref,
             looked: idle_word(known, gref),
             change: Change::Revoke,
         }),
-        Request::Unmap { handle } => unpin(known.mappings, handle),
-        Request::Load { handle, off, len } => read(known.mappings, handle, off, len),
-        Request::SetVersion { version } => Action::Step(Step::StoreHeader {
+        Asked::Unmap { handle } => unpin(known.mappings, handle),
+        Asked::Load { handle, off, len } => read(known.mappings, handle, off, len),
+        Asked::SetVersion { version } => Action::Step(Step::StoreHeader {
             version,
             frames: u32::from(known.header.frames),
         }),
-        Request::SetupTable { frames } => Action::Step(Step::StoreHeader {
+        Asked::SetupTable { frames } => Action::Step(Step::StoreHeader {
             version: u32::from(known.header.version),
             frames,
         }),
-        Request::QuerySize { dom } | Request::GetVersion { dom } => {
+        Asked::QuerySize { dom } | Asked::GetVersion { dom } => {
             Action::Step(Step::LookHeader {
                 dom: resolve(caller, dom),
             })
@@ -219,11 +220,11 @@ fn single<P: Allows>(known: &Known<'_, P>, caller: DomId, request: Request) -> A
     }
 }
 
-fn store(request: Request) -> Action
+fn store(request: Asked) -> Action
     ensures { result ≡ store_at request }
 {
     match request {
-        Request::Grant { gref, entry } => Action::Step(Step::StoreBody {
+        Asked::Grant { gref, entry } => Action::Step(Step::StoreBody {
             gref,
             second: false,
             word: entry.first_body(),
@@ -232,11 +233,11 @@ fn store(request: Request) -> Action
     }
 }
 
-fn store_second(request: Request) -> Action
+fn store_second(request: Asked) -> Action
     ensures { result ≡ second_at request }
 {
     match request {
-        Request::Grant { gref, entry } => Action::Step(Step::StoreBody {
+        Asked::Grant { gref, entry } => Action::Step(Step::StoreBody {
             gref,
             second: true,
             word: entry.second_body(),
@@ -245,7 +246,7 @@ fn store_second(request: Request) -> Action
     }
 }
 
-fn change(request: Request) -> Change
+fn change(request: Asked) -> Change
     ensures { result ≡ to_ro_or_back (is_demote request) }
 {
     if is_demote(request) {
@@ -259,18 +260,20 @@ impl Call {
     ghost use Rattle.std.specs.Prelude.{◌≡◌, List, [], ◌∷◌, Option};
     ghost use Rattle.gt_core.specs.declared.action.Seen.{Seen};
     ghost use Rattle.gt_core.specs.declared.action.Verdict.TheVariants.{Granted};
-    ghost use Rattle.gt_core.specs.Rules.{knowledge_of, begun};
+    ghost use Rattle.gt_core.specs.Rules.{knowledge_of};
+    ghost use Rattle.gt_core.specs.Asking.{asked, begun_of, IsSaid};
     ghost use Rattle.gt_core.specs.Machine.{expects, phase_after, action_at, IsUnderway, FitsPhase, starts_as, frame_read};
 
     /// Judges the beginning of a call.
-    pub fn begin<P: Allows>(caller: DomId, request: Request, known: &Known<'_, P>) -> Start
-        ensures { result ≡ starts_as caller request (begun (knowledge_of known.now.config.now.domains.items known.now.config.now.first_gen (P.may known.now.rights.now) known.now.own.now known.now.header known.now.mappings.now known.now.maps_answered) caller request) }
+    pub fn begin<P: Allows>(caller: DomId, request: Request<'_>, known: &Known<'_, P>) -> Start
+        ensures start { result ≡ starts_as caller (asked request.entry) (begun_of (knowledge_of known.now.config.now.domains.items known.now.config.now.first_gen (P.may known.now.rights.now) known.now.own.now known.now.header known.now.mappings.now known.now.maps_answered) caller request.entry) }
+        ensures said { begun_of (knowledge_of known.now.config.now.domains.items known.now.config.now.first_gen (P.may known.now.rights.now) known.now.own.now known.now.header known.now.mappings.now known.now.maps_answered) caller request.entry ≡ None → IsSaid known.now.header request.entry }
     {
-        match judge_beginning(known, caller, request) {
-            Some(verdict) => Start::Done(verdict),
-            None => Start::Open(Call {
+        match judge_request(known, caller, request) {
+            Judged::Done(verdict) => Start::Done(verdict),
+            Judged::Open(asked) => Start::Open(Call {
                 caller,
-                request,
+                request: asked,
                 phase: Phase::Begun,
             }),
         }

@@ -11,10 +11,11 @@ ghost use Rattle.gt_core.specs.Standing.{Opens, Advances, CoreStands, Settles, I
 ghost use Rattle.gt_core.specs.declared.trace.Event.TheVariants.{Begin, Tick};
 
 use crate::action::{Action, Seen, Step, Verdict};
+use crate::asked::{Asked, asked_fits};
 use crate::call::{Call, Start};
 use crate::effects::apply;
 use crate::known::Known;
-use crate::request::{Handle, Request, request_fits};
+use crate::request::{Handle, Request};
 use crate::sight::see;
 use crate::slot::Open;
 use crate::state::{DomainState, find};
@@ -66,8 +67,8 @@ pub enum Opening {
     Done(Verdict),
 }
 
-fn open_call<P: Allows>(known: &Known<'_, P>, dom: DomId, request: Request) -> Opening
-    ensures { Opens (knowledge_of known.now.config.now.domains.items known.now.config.now.first_gen (P.may known.now.rights.now) known.now.own.now known.now.header known.now.mappings.now known.now.maps_answered) dom request result }
+fn open_call<P: Allows>(known: &Known<'_, P>, dom: DomId, request: Request<'_>) -> Opening
+    ensures { Opens (knowledge_of known.now.config.now.domains.items known.now.config.now.first_gen (P.may known.now.rights.now) known.now.own.now known.now.header known.now.mappings.now known.now.maps_answered) dom request.entry result }
 {
     match Call::begin(dom, request, known) {
         Start::Done(verdict) => Opening::Done(verdict),
@@ -82,8 +83,8 @@ fn open_call<P: Allows>(known: &Known<'_, P>, dom: DomId, request: Request) -> O
 }
 
 // The answer of a call that makes no step.
-fn answer_begun(request: Request, header: Header, verdict: Verdict) -> Answer
-    ensures { result ≡ answer_begun request header verdict }
+fn answer_begun(request: Request<'_>, header: Header, verdict: Verdict) -> Answer
+    ensures { result ≡ answer_begun request.entry header verdict }
 {
     match (verdict, request) {
         (Verdict::Refused(denial), _) => Answer::Denied(denial),
@@ -93,18 +94,18 @@ fn answer_begun(request: Request, header: Header, verdict: Verdict) -> Answer
 }
 
 // The answer of a call that gives no mapping and no bytes, by what its last step saw.
-fn value_of(request: Request, seen: Seen) -> Answer
-    ensures { result ≡ value_of request seen }
+fn value_of(asked: Asked, seen: Seen) -> Answer
+    ensures { result ≡ value_of asked seen }
 {
-    match (request, seen) {
-        (Request::QuerySize { .. }, Seen::Value(word)) => Answer::Size(Size {
+    match (asked, seen) {
+        (Asked::QuerySize { .. }, Seen::Value(word)) => Answer::Size(Size {
             frames: u32::from(Header::unpack(word).frames),
             max: MAX_TABLE_FRAMES,
         }),
-        (Request::GetVersion { .. }, Seen::Value(word)) => {
+        (Asked::GetVersion { .. }, Seen::Value(word)) => {
             Answer::Version(u32::from(Header::unpack(word).version))
         }
-        (Request::SetupTable { frames }, _) => Answer::Frames(frames),
+        (Asked::SetupTable { frames }, _) => Answer::Frames(frames),
         _ => Answer::Done,
     }
 }
@@ -120,9 +121,9 @@ fn read_into(domains: &[DomainState], dom: DomId, frame: u64, off: u16, out: Vec
 }
 
 impl<P: Allows> Core<P> {
-    fn open_at(&self, at: usize, dom: DomId, request: Request) -> Opening
+    fn open_at(&self, at: usize, dom: DomId, request: Request<'_>) -> Opening
         requires { at < length self.now.domains.items }
-        ensures { (d : State) → slice_get self.now.domains.items at ≡ Some d → Opens (knowledge_of self.now.config.domains.items self.now.config.first_gen (P.may self.now.rights) d.own d.header d.mappings d.maps_answered) dom request result }
+        ensures { (d : State) → slice_get self.now.domains.items at ≡ Some d → Opens (knowledge_of self.now.config.domains.items self.now.config.first_gen (P.may self.now.rights) d.own d.header d.mappings d.maps_answered) dom request.entry result }
     {
         let domain = &self.domains[at];
         let known = Known {
@@ -145,13 +146,13 @@ impl<P: Allows> Core<P> {
     }
 
     /// Begins a call of the domain.
-    pub fn begin(&mut self, dom: DomId, request: Request) -> Result<Begun, Memory>
+    pub fn begin(&mut self, dom: DomId, request: Request<'_>) -> Result<Begun, Memory>
         ensures stands { (h : History) → CoreStands (setting_of self.old.config (P.may self.old.rights)) h self.old.domains.items → IfOk result (λ b.
-            MayDo (setting_of self.old.config (P.may self.old.rights)) h (Begin dom request) (begun_element dom request b)
-            × CoreStands (setting_of self.old.config (P.may self.old.rights)) (grown h (begun_element dom request b)) self.new.domains.items) }
+            MayDo (setting_of self.old.config (P.may self.old.rights)) h (Begin dom request.entry) (begun_element dom request.entry b)
+            × CoreStands (setting_of self.old.config (P.may self.old.rights)) (grown h (begun_element dom request.entry b)) self.new.domains.items) }
         ensures config { self.new.config ≡ self.old.config }
         ensures rights { self.new.rights ≡ self.old.rights }
-        ensures memory { (h : History) → CoreStands (setting_of self.old.config (P.may self.old.rights)) h self.old.domains.items → OnErr result (WantsMemory (setting_of self.old.config (P.may self.old.rights)) h dom request) }
+        ensures memory { (h : History) → CoreStands (setting_of self.old.config (P.may self.old.rights)) h self.old.domains.items → OnErr result (WantsMemory (setting_of self.old.config (P.may self.old.rights)) h dom request.entry) }
         ensures err { OnErr result (self.new.domains.items ≡ self.old.domains.items) }
     {
         let Some(at) = find(&self.domains, dom) else {
@@ -166,7 +167,7 @@ impl<P: Allows> Core<P> {
                 Ok(Begun::Done(answer_begun(request, header, verdict)))
             }
             Opening::Open(open) => {
-                request_fits(request);
+                asked_fits(open.call.request);
                 let alloc = self.alloc;
                 self.domains[at].begin(alloc, open)?;
                 Ok(Begun::Open)
@@ -285,9 +286,9 @@ fn start_domains(alloc: Global, config: &Config) -> Result<Vec<DomainState>, Mem
     Ok(domains)
 }
 
-fn one_event<P: Allows>(core: &mut Core<P>, event: Event) -> Result<Element, Memory>
+fn one_event<'a, P: Allows>(core: &mut Core<P>, event: Event<'a>) -> Result<Element<'a>, Memory>
     ensures stands { (h : History) → CoreStands (setting_of core.old.config (P.may core.old.rights)) h core.old.domains.items → IfOk result (λ x.
-        MayDo (setting_of core.old.config (P.may core.old.rights)) h event x
+        MayDo (setting_of core.old.config (P.may core.old.rights)) h event.entry x
         × CoreStands (setting_of core.old.config (P.may core.old.rights)) (grown h x) core.new.domains.items) }
     ensures config { core.new.config ≡ core.old.config }
     ensures rights { core.new.rights ≡ core.old.rights }
@@ -325,12 +326,12 @@ fn one_event<P: Allows>(core: &mut Core<P>, event: Event) -> Result<Element, Mem
 }
 
 /// Plays a list of events.
-pub fn play<P: Allows + Drop>(
+pub fn play<'a, P: Allows + Drop>(
     alloc: Global,
     config: Config,
     rights: P,
-    events: &[Event],
-) -> Result<Trace, StartFault>
+    events: &[Event<'a>],
+) -> Result<Trace<'a>, StartFault>
     ensures legal { IfOk result (λ trace. Legal (setting_of config (P.may rights)) events.now trace.items) }
     ensures fits { IsOk result → IsWithinLimits config }
     ensures fault { IfErr result (IsStartFaultOf config) }

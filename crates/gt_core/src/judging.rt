@@ -2,12 +2,14 @@
 ghost use Rattle.std.specs.Prelude.{◌≡◌, ◌∷◌, [], Option, IsTrue, ◌↔◌};
 ghost use Rattle.gt_types.specs.Names.{resolved, domain_of, unmap, setup, query};
 ghost use Rattle.gt_types.specs.Denial.{denial_of};
+ghost use Rattle.gt_core.specs.Asking.{asked, asked_with, begun_of, judged_as, bytes_begun, JudgesBytes, IsSaid};
 ghost use Rattle.gt_core.specs.Rules.{knowledge_of, begun, cannot_stand, entry_in, generation_in, label_of, frames_of, mapping_of, denied, asked_by, grant_begun, revoke_begun, change_begun, map_begun, unmap_begun, load_begun, has_valid, version_begun, setup_begun, query_begun};
 
 use crate::action::Verdict;
+use crate::asked::Asked;
 use crate::known::{Known, Mapping, Own};
 use crate::request::{Handle, Request};
-use gt_entry::{Entry, Header};
+use gt_entry::{Entry, Header, decode};
 use gt_types::{
     Allows, DOMID_SELF, Denial, DomId, DomainConfig, Facts, GrantRef, LAST_GENERATION,
     MAX_MAPPINGS, MAX_TABLE_FRAMES, Perms, Rule, TypeId,
@@ -259,16 +261,16 @@ fn begin_query<P: Allows>(known: &Known<'_, P>, caller: DomId, dom: DomId) -> Op
     not_allowed(known.rights, source, named.label, Perms::QUERY)
 }
 
-/// How the call is answered at its beginning, if it is.
-pub fn judge_beginning<P: Allows>(
+// How the call is answered at its beginning, if it is.
+fn judge_beginning<P: Allows>(
     known: &Known<'_, P>,
     caller: DomId,
-    request: Request,
+    request: Asked,
 ) -> Option<Verdict>
     ensures { result ≡ begun (knowledge_of known.now.config.now.domains.items known.now.config.now.first_gen (P.may known.now.rights.now) known.now.own.now known.now.header known.now.mappings.now known.now.maps_answered) caller request }
 {
     match request {
-        Request::Grant { gref, entry } => {
+        Asked::Grant { gref, entry } => {
             begin_grant(
                 known.header,
                 own_at(known.own, known.config.first_gen, gref),
@@ -276,18 +278,18 @@ pub fn judge_beginning<P: Allows>(
                 entry,
             )
         }
-        Request::Revoke { gref } => begin_revoke(
+        Asked::Revoke { gref } => begin_revoke(
             known.header,
             own_at(known.own, known.config.first_gen, gref),
             gref,
         ),
-        Request::Demote { gref } => begin_change(
+        Asked::Demote { gref } => begin_change(
             true,
             known.header,
             own_at(known.own, known.config.first_gen, gref),
             gref,
         ),
-        Request::Promote { gref } => {
+        Asked::Promote { gref } => {
             begin_change(
                 false,
                 known.header,
@@ -295,11 +297,79 @@ pub fn judge_beginning<P: Allows>(
                 gref,
             )
         }
-        Request::Map { dom, flags, .. } => begin_map(known, caller, dom, flags),
-        Request::Unmap { handle } => begin_unmap(known, caller, handle),
-        Request::Load { handle, off, len } => begin_load(known.mappings, handle, off, len),
-        Request::SetVersion { version } => begin_version(known.header, known.own, version),
-        Request::SetupTable { frames } => begin_setup(known, caller, frames),
-        Request::QuerySize { dom } | Request::GetVersion { dom } => begin_query(known, caller, dom),
+        Asked::Map { dom, flags, .. } => begin_map(known, caller, dom, flags),
+        Asked::Unmap { handle } => begin_unmap(known, caller, handle),
+        Asked::Load { handle, off, len } => begin_load(known.mappings, handle, off, len),
+        Asked::SetVersion { version } => begin_version(known.header, known.own, version),
+        Asked::SetupTable { frames } => begin_setup(known, caller, frames),
+        Asked::QuerySize { dom } | Asked::GetVersion { dom } => begin_query(known, caller, dom),
+    }
+}
+
+/// How a request is judged at its beginning.
+#[derive(Clone, Copy, Debug, PartialEq, Eq)]
+pub enum Judged {
+    Open(Asked),
+    Done(Verdict),
+}
+
+fn begin_bytes(header: Header, own: Own, gref: GrantRef, bytes: &[u8]) -> Judged
+    ensures { JudgesBytes header (bytes_begun header own.entry own.generation gref.0 bytes.now) gref bytes.now result }
+{
+    if gref.0 >= header.entries() {
+        return Judged::Done(Verdict::Refused(Denial::new(Rule::N9, Facts::None)));
+    }
+    if !own.entry().is_invalid() {
+        return Judged::Done(Verdict::Refused(Denial::new(Rule::N20, Facts::None)));
+    }
+    if own.generation() == LAST_GENERATION {
+        return Judged::Done(Verdict::Refused(Denial::new(Rule::N22, Facts::None)));
+    }
+    match decode(header.version, bytes) {
+        Ok(entry) => Judged::Open(Asked::Grant { gref, entry }),
+        Err(field) => {
+            let denial = Denial::new(Rule::N25, Facts::Field(field));
+            Judged::Done(Verdict::Refused(denial))
+        }
+    }
+}
+
+// What a request without bytes asks.
+#[tactic(auto, unfolding(crate::specs::Asking::asked_with))]
+fn plainly_asked(request: Request<'_>) -> Asked
+    ensures { result ≡ asked_with Entry.Invalid request.entry }
+{
+    match request {
+        Request::Grant { gref, entry } => Asked::Grant { gref, entry },
+        Request::GrantBytes { gref, .. } => Asked::Grant {
+            gref,
+            entry: Entry::Invalid,
+        },
+        Request::Revoke { gref } => Asked::Revoke { gref },
+        Request::Demote { gref } => Asked::Demote { gref },
+        Request::Promote { gref } => Asked::Promote { gref },
+        Request::Map { dom, gref, flags } => Asked::Map { dom, gref, flags },
+        Request::Unmap { handle } => Asked::Unmap { handle },
+        Request::Load { handle, off, len } => Asked::Load { handle, off, len },
+        Request::SetVersion { version } => Asked::SetVersion { version },
+        Request::SetupTable { frames } => Asked::SetupTable { frames },
+        Request::QuerySize { dom } => Asked::QuerySize { dom },
+        Request::GetVersion { dom } => Asked::GetVersion { dom },
+    }
+}
+
+/// What a request asks, or how it is answered at its beginning.
+pub fn judge_request<P: Allows>(known: &Known<'_, P>, caller: DomId, request: Request<'_>) -> Judged
+    ensures judged { result ≡ judged_as (asked request.entry) (begun_of (knowledge_of known.now.config.now.domains.items known.now.config.now.first_gen (P.may known.now.rights.now) known.now.own.now known.now.header known.now.mappings.now known.now.maps_answered) caller request.entry) }
+    ensures said { begun_of (knowledge_of known.now.config.now.domains.items known.now.config.now.first_gen (P.may known.now.rights.now) known.now.own.now known.now.header known.now.mappings.now known.now.maps_answered) caller request.entry ≡ None → IsSaid known.now.header request.entry }
+{
+    if let Request::GrantBytes { gref, bytes } = request {
+        let own = own_at(known.own, known.config.first_gen, gref);
+        return begin_bytes(known.header, own, gref, bytes);
+    }
+    let asked = plainly_asked(request);
+    match judge_beginning(known, caller, asked) {
+        Some(verdict) => Judged::Done(verdict),
+        None => Judged::Open(asked),
     }
 }

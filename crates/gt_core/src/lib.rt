@@ -13,6 +13,7 @@
 #![tactic(auto)]
 
 mod action;
+mod asked;
 mod call;
 mod core_state;
 mod effects;

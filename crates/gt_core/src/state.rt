@@ -3,9 +3,10 @@ ghost use Rattle.std.specs.Prelude.{◌≡◌, ◌==◌, ◌%◌, position};
 ghost use Rattle.gt_core.specs.History.{is_handle};
 
 use crate::action::Change;
+use crate::asked::Asked;
 use crate::core_state::Shown;
 use crate::known::{ENTRIES, FRAME_LEN, Mapping, Own};
-use crate::request::{Handle, Holder, Request};
+use crate::request::{Handle, Holder};
 use crate::slot::{Open, Slot, SlotChange};
 use gt_entry::Header;
 use gt_types::{Dir, DomId, DomainConfig, GrantRef, LAST_GENERATION, Memory};
@@ -113,8 +114,8 @@ impl DomainState {
     {
         let mut room = None;
         match call.call.request {
-            Request::Map { .. } => self.mappings.reserve(1)?,
-            Request::Load { len, .. } => room = Some(vec![in alloc; 0u8; usize::from(len)]?),
+            Asked::Map { .. } => self.mappings.reserve(1)?,
+            Asked::Load { len, .. } => room = Some(vec![in alloc; 0u8; usize::from(len)]?),
             _ => {}
         }
         self.room = room;

@@ -50,7 +50,7 @@ returns-in_ok-begin-in-Open-clause-stands g c =
     let y = c.index_mut.result.now in
     let same : x ≡ y = same_Some x y (sym (place-at xs c.args.dom.0 c.in-Some.at x p c.index.ensures) ∙ place-at xs c.args.dom.0 c.in-Some.at y p c.index_mut.ensures.value) in
     let new : c.begin.new.self ≡ with_underway (Some c.in-Open.open) x = c.in_ok-begin-in-Open.ensures.opened ∙ ap (with_underway (Some c.in-Open.open)) (sym same) in
-    λ h st. let r = begin-opened s h xs c.args.dom c.in-Some.at x c.args.request c.in-Open.open c.request_fits.ensures p c.index.ensures
+    λ h st. let r = begin-opened s h xs c.args.dom c.in-Some.at x c.args.request c.in-Open.open c.asked_fits.ensures p c.index.ensures
     (ap (λ (o : Option Open). is_some o) (sym c.underway.ensures) ∙ sym c.is_some.ensures ∙ c.if-is_some.false) opens st in (
       (r.0, (refl, refl), r.1),
       subst (λ (z : State). CoreStands s (began c.args.dom c.args.request None ∷ h) (set xs c.in-Some.at z)) (sym new) r.2,

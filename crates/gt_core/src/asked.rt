@@ -1,0 +1,78 @@
+//! What calls keep of what they were asked.
+ghost use Rattle.gt_core.specs.Standing.{FitsEntry, FitsAsked};
+
+use crate::request::Handle;
+use gt_entry::Entry;
+use gt_types::{DomId, GrantRef};
+
+/// What a call asks, as far as it is kept while the call is open: the entry in the place of its bytes.
+#[derive(Clone, Copy, Debug, PartialEq, Eq)]
+pub enum Asked {
+    Grant {
+        gref: GrantRef,
+        entry: Entry,
+    },
+    Revoke {
+        gref: GrantRef,
+    },
+    Demote {
+        gref: GrantRef,
+    },
+    Promote {
+        gref: GrantRef,
+    },
+    Map {
+        dom: DomId,
+        gref: GrantRef,
+        flags: u32,
+    },
+    Unmap {
+        handle: Handle,
+    },
+    Load {
+        handle: Handle,
+        off: u16,
+        len: u16,
+    },
+    /// Gives the caller's table this version; all its entries must be invalid.
+    SetVersion {
+        version: u32,
+    },
+    /// Gives the caller's table so many frames, where it has fewer.
+    SetupTable {
+        frames: u32,
+    },
+    QuerySize {
+        dom: DomId,
+    },
+    GetVersion {
+        dom: DomId,
+    },
+}
+
+// A law: the domain that an entry names has a number of 16 bits.
+fn entry_fits(entry: Entry)
+    ensures { FitsEntry entry }
+{
+    match entry {
+        Entry::Invalid => {}
+        Entry::Page { dom, .. } => {
+            let _number = dom.0;
+        }
+        Entry::Sub { dom, .. } => {
+            let _number = dom.0;
+        }
+        Entry::Via { dom, .. } => {
+            let _number = dom.0;
+        }
+    }
+}
+
+/// A law: the domain that an entry asked for names has a number of 16 bits.
+pub fn asked_fits(asked: Asked)
+    ensures { FitsAsked asked }
+{
+    if let Asked::Grant { entry, .. } = asked {
+        entry_fits(entry);
+    }
+}
