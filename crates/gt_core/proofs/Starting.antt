@@ -183,8 +183,8 @@ table-starts : (o : Option DomainConfig) → ((d : DomainConfig) → o ≡ Some 
 table-starts None f = record { version = omega arith; frames = omega arith }
 table-starts (Some d) f = record { version = (f d refl).0; frames = (f d refl).1 }
 
-fine-all : (ds : List DomainConfig) → All (λ d. (1 ≤ d.table_frames) × (d.table_frames ≤ 4)) ds → All (λ d. (1 ≤ d.version) × (d.version ≤ 1)) ds → All Fine ds
-fine-all ds a b = λ i d within. (let v = b i d within in (let h : (get_or ds i d).version ≤ 1 = v.1 in omega arith), (a i d within).1)
+fine-all : (ds : List DomainConfig) → All (λ d. (1 ≤ d.table_frames) × (d.table_frames ≤ 4)) ds → All (λ d. (1 ≤ d.version) × (d.version ≤ 2)) ds → All Fine ds
+fine-all ds a b = λ i d within. (let v = b i d within in (let h : (get_or ds i d).version ≤ 2 = v.1 in omega arith), (a i d within).1)
 
 rest-word : (s : Setting) (t r : ℕ) → s.first_generation ≤ 1048575 → FitsWord (control_at s [] t r)
 unfolding entry_at raises_at live

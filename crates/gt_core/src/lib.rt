@@ -25,6 +25,8 @@ mod sight;
 mod slot;
 mod state;
 #[cfg(test)]
+mod table_tests;
+#[cfg(test)]
 mod tests;
 mod trace;
 

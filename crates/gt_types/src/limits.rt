@@ -27,7 +27,7 @@ pub const ENTRIES_V2: u32 = 256;
 pub const TABLE_ENTRIES: u32 = 2_048;
 
 /// The last version of grant tables that a domain may have; the first is 1.
-pub const LAST_VERSION: u32 = 1;
+pub const LAST_VERSION: u32 = 2;
 
 /// The most live pins of one kind on one entry.
 pub const MAX_PINS: u16 = 4_095;
