@@ -1,4 +1,5 @@
 pub mod LabelLemmas
+pub mod OpenLemmas
 pub mod PlayLemmas
 pub mod PlayedLemmas
 pub mod RunLemmas

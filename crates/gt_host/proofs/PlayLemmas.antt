@@ -19,8 +19,12 @@ use Rattle.gt_host.specs.Naming.{AreNamed}
 use Rattle.gt_host.specs.Playing.{StartsFor, BeginsRun, setting_of_script}
 use Rattle.gt_host.specs.Runs.{Progress, LeadsTo, IsRunOf, ComesTo, with_step, at_start, outcome_text, call_events, request_of, call_of}
 use Rattle.gt_host.specs.Streams.{AppendsBeginning, Sends}
-use Rattle.gt_host.specs.Ticking.{Happens, RunsStep}
+use Rattle.gt_host.specs.Ticking.{Happens, IsReady, RunsStep}
+use Rattle.std.proofs.lemmas.List.Elements.{All-get_or}
+use Rattle.std.specs.Prelude.{All, IsTrue}
+use Rattle.gt_types.specs.Config.{is_taken}
 use Rattle.gt_host.proofs.RunLemmas.{Happens-append}
+use Rattle.gt_host.proofs.StartLemmas.{taken_known}
 
 append-nil : (ys : List ℕ) → ys ++ [] ≡ ys
 append-nil [] = refl
@@ -130,3 +134,15 @@ pub begins_step : (c : Contents) (t : Setting) (known : List (List ℕ)) (steps 
 begins_step c t known steps i s domains next before after w more old mid new setting all u within is same runs h =
     begins c steps (i + 1) next after more old mid new all
     (goes_on c t known steps i s domains next before after w more more old mid mid setting u within is same runs ([], refl, Appends-nothing mid)) h
+
+-- the next step finds a core that stands for what was done, and is one of a domain of the run
+pub ready : (c : Contents) (t : Setting) (steps : List Step) (i : ℕ) (s : Step) (domains : List State) (labels : Labels) (w : List ℕ) (old mid : Option (List ℕ))
+    → t ≡ setting_of_script c → steps ≡ c.steps → All (λ (x : Step). IsTrue (is_taken c.domains x.dom)) c.steps → IsUnderway c (take i steps) domains labels w old mid → i < length steps → s ≡ get_or steps i s → IsReady t s.dom domains
+ready c t steps i s domains labels w old mid setting all configured u within is =
+    let every : All (λ (x : Step). IsTrue (is_taken c.domains x.dom)) steps = subst (λ (l : List Step). All (λ (x : Step). IsTrue (is_taken c.domains x.dom)) l) (sym all) configured in
+    let taken : IsTrue (is_taken c.domains s.dom) = subst (λ (x : Step). IsTrue (is_taken c.domains x.dom)) (sym is) (All-get_or (λ (x : Step). IsTrue (is_taken c.domains x.dom)) steps i s within every) in
+    subst (λ (q : Setting). IsReady q s.dom domains) (sym setting) (record {
+      history = history_after [] u.progress.trace;
+      stands = u.happened.stands;
+      known = taken_known c.domains s.dom taken;
+    })

@@ -1,4 +1,4 @@
-use Rattle.std.proofs.Common.{◌≡◌, ℕ, ◌+◌, Bool, List, [], ◌∷◌, ◌++◌, length, replicate, None, Result, Ok, Err, IfOk, refl, ap, sym, subst, ◌∙◌, arith, length-append}
+use Rattle.std.proofs.Common.{◌≡◌, ◌⊎◌, inl, inr, ◌<◌, ◌≤◌, ℕ, ◌+◌, Bool, List, [], ◌∷◌, ◌++◌, length, replicate, Option, None, Some, refl, ap, sym, subst, ◌∙◌, arith, length-append}
 use Rattle.std.proofs.lemmas.Grind.{replicate_next}
 use Rattle.gt_types.specs.declared.DomId.{DomId}
 use Rattle.gt_types.specs.declared.TypeId.{TypeId}
@@ -19,11 +19,9 @@ use Rattle.gt_core.specs.declared.core_state.Begun.{Begun}
 use Rattle.gt_core.specs.declared.core_state.Begun.TheVariants as begun
 use Rattle.gt_core.specs.declared.core_state.Ticked.{Ticked}
 use Rattle.gt_core.specs.declared.core_state.Ticked.TheVariants as ticked
-use Rattle.gt_host.specs.declared.outcome.Outcome.{Outcome}
-use Rattle.gt_host.specs.declared.outcome.Outcome.TheVariants.{Answered, Busy, Unanswered}
-use Rattle.gt_host.specs.declared.outcome.TheConstants.{MOST_TICKS}
-use Rattle.gt_host.specs.Runs.{answer_in, AnswerNothing, ComesTo}
-use Rattle.gt_host.specs.Ticking.{Happens, Calls, TicksTo, TicksComeTo}
+use Rattle.gt_host.specs.declared.outcome.Outcome.TheVariants.{Answered, Busy}
+use Rattle.gt_host.specs.Runs.{answer_in, AnswerNothing, EndsWith, ComesTo}
+use Rattle.gt_host.specs.Ticking.{Happens, Calls, TicksTo}
 
 -- the setting of a core is that of one with the same domains and rights
 pub same_setting : {R : Type 0} (may : R → TypeId → TypeId → Perms → Bool) (a b : Config) (x y : R) → a ≡ b → x ≡ y → setting_of a (may x) ≡ setting_of b (may y)
@@ -99,22 +97,26 @@ tick_more s t h dom count mid new said same other told u =
     }
 
 -- the tick that answers
-pub tick_last : (s t : Setting) (h : History) (dom : DomId) (count : ℕ) (mid new : List State) (said : Ticked) (step : Step) (seen : Seen) (answer : Answer) → t ≡ s → said ≡ ticked.Done step seen answer
+pub tick_last : (s t : Setting) (h : History) (dom : DomId) (most count : ℕ) (mid new : List State) (said : Ticked) (step : Step) (seen : Seen) (answer : Answer) → t ≡ s → count < most → said ≡ ticked.Done step seen answer
     → ((g : History) → CoreStands t g mid → MayDo t g (Tick dom) (ticked_element dom said) × CoreStands t (grown g (ticked_element dom said)) new)
-    → IsTicking s h dom count mid → TicksTo s h dom new (Answered answer)
-tick_last s t h dom count mid new said step seen answer same is told u =
+    → IsTicking s h dom count mid → TicksTo s h dom most new (Some answer)
+tick_last s t h dom most count mid new said step seen answer same few is told u =
     let known = subst (λ (q : Setting). (g : History) → CoreStands q g mid → MayDo q g (Tick dom) (ticked_element dom said) × CoreStands q (grown g (ticked_element dom said)) new) same told in
+    let long : length (u.trace ++ ticked_element dom said ∷ []) ≡ count + 1 = one_more count u.trace (ticked_element dom said) u.length_of in
     record {
       ticks = count + 1;
       trace = u.trace ++ ticked_element dom said ∷ [];
-      length_of = one_more count u.trace (ticked_element dom said) u.length_of;
-      comes = record { before = u.trace; last = ticked_element dom said; order = refl; quiet = u.quiet; answers = ap (λ (q : Ticked). answer_in (ticked_element dom q)) is };
+      length_of = long;
+      comes = (
+        record { before = u.trace; last = ticked_element dom said; order = refl; quiet = u.quiet; answers = ap (λ (q : Ticked). answer_in (ticked_element dom q)) is },
+        subst (λ (n : ℕ). n ≤ most) (sym long) (omega arith),
+      );
       happens = ticked_more s h dom count mid new (ticked_element dom said) u (known (history_after h u.trace) u.happens.stands);
     }
 
 -- no tick answered
-pub tick_none : (s : Setting) (h : History) (dom : DomId) (count : ℕ) (new : List State) → count ≡ MOST_TICKS → IsTicking s h dom count new → TicksTo s h dom new Unanswered
-tick_none s h dom count new all u = record {
+pub tick_none : (s : Setting) (h : History) (dom : DomId) (most count : ℕ) (new : List State) → count ≡ most → IsTicking s h dom count new → TicksTo s h dom most new None
+tick_none s h dom most count new all u = record {
   ticks = count;
   trace = u.trace;
   length_of = u.length_of;
@@ -146,38 +148,35 @@ call_busy s h dom request said new is told = record {
   happens = happens_one s h (Begin dom request) (begun_element dom request said) new told;
 }
 
-comes_after : (x : Element) (trace : List Element) (outcome : Outcome) → answer_in x ≡ None → TicksComeTo trace outcome → ComesTo (x ∷ trace) outcome
-comes_after x trace (Answered answer) none ends = record {
+comes_after : (x : Element) (trace : List Element) (answer : Answer) → answer_in x ≡ None → EndsWith trace answer → ComesTo (x ∷ trace) (Answered answer)
+comes_after x trace answer none ends = record {
   before = x ∷ ends.before;
   last = ends.last;
   order = ap (λ (xs : List Element). x ∷ xs) ends.order;
   quiet = (none, ends.quiet);
   answers = ends.answers;
 }
-comes_after x trace Busy none h = absurd h
-comes_after x trace Unanswered none h = let long = h.1 in ((none, h.0), omega arith)
 
 -- a call that began, and then its ticks
-call_with_ticks : (s : Setting) (h : History) (dom : DomId) (request : Request) (x : Element) (mid new : List State) (outcome : Outcome) → answer_in x ≡ None
-    → MayDo s h (Begin dom request) x × CoreStands s (grown h x) mid → TicksTo s (grown h x) dom new outcome → Calls s h dom request new outcome
-call_with_ticks s h dom request x mid new outcome none told t = record {
+call_with_ticks : (s : Setting) (h : History) (dom : DomId) (most : ℕ) (request : Request) (x : Element) (mid new : List State) (answer : Answer) → answer_in x ≡ None
+    → MayDo s h (Begin dom request) x × CoreStands s (grown h x) mid → TicksTo s (grown h x) dom most new (Some answer) → Calls s h dom request new (Answered answer)
+call_with_ticks s h dom most request x mid new answer none told t = record {
   ticks = t.ticks;
   trace = x ∷ t.trace;
   length_of = let long = t.length_of in omega arith;
-  comes = comes_after x t.trace outcome none t.comes;
+  comes = comes_after x t.trace answer none t.comes.0;
   happens = Happens-append s h (Begin dom request ∷ []) (x ∷ []) (replicate t.ticks (Tick dom)) t.trace mid new (happens_one s h (Begin dom request) x mid told) t.happens;
 }
 
-pub call_ticked : {E : Type 0} (s t : Setting) (h : History) (dom : DomId) (request : Request) (x : Element) (mid new : List State) (r : Result Outcome E) → t ≡ s → answer_in x ≡ None
-    → MayDo s h (Begin dom request) x × CoreStands s (grown h x) mid → ((g : History) → CoreStands t g mid → IfOk r (TicksTo t g dom new)) → IfOk r (Calls s h dom request new)
-call_ticked s t h dom request x mid new (Ok outcome) same none told ticks =
-    let known = subst (λ (q : Setting). (g : History) → CoreStands q g mid → TicksTo q g dom new outcome) same ticks in
-    call_with_ticks s h dom request x mid new outcome none told (known (grown h x) told.1)
-call_ticked s t h dom request x mid new (Err e) same none told ticks = tt
+pub call_ticked : (s t : Setting) (h : History) (dom : DomId) (most : ℕ) (request : Request) (x : Element) (mid new : List State) (answer : Answer) (said : Option Answer) → t ≡ s → answer_in x ≡ None
+    → MayDo s h (Begin dom request) x × CoreStands s (grown h x) mid → ((g : History) → CoreStands t g mid → TicksTo t g dom most new said) → said ≡ Some answer → Calls s h dom request new (Answered answer)
+call_ticked s t h dom most request x mid new answer said same none told ticks is =
+    let known = subst (λ (q : Setting). (g : History) → CoreStands q g mid → TicksTo q g dom most new said) same ticks in
+    call_with_ticks s h dom most request x mid new answer none told (subst (λ (o : Option Answer). TicksTo s (grown h x) dom most new o) is (known (grown h x) told.1))
 
 -- a beginning that answers nothing
-pub quiet_beginning : (dom : DomId) (request : Request) (said : Begun) → ((a : Answer) → said ≡ begun.Done a → ⊥) → answer_in (begun_element dom request said) ≡ None
-quiet_beginning dom request begun.Open other = refl
-quiet_beginning dom request (begun.Done answer) other = absurd (other answer refl)
-quiet_beginning dom request begun.Busy other = refl
-quiet_beginning dom request begun.NoDomain other = refl
+pub quiet_beginning : (dom : DomId) (request : Request) (said : Begun) → (said ≡ begun.Open) ⊎ (said ≡ begun.NoDomain) → answer_in (begun_element dom request said) ≡ None
+quiet_beginning dom request begun.Open is = refl
+quiet_beginning dom request (begun.Done answer) is = elim is [ inl e ↦ cc | inr e ↦ cc ]
+quiet_beginning dom request begun.Busy is = refl
+quiet_beginning dom request begun.NoDomain is = refl

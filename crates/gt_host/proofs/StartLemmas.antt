@@ -1,5 +1,9 @@
-use Rattle.std.proofs.Common.{◌≡◌, ◌≤◌, [], length, None, Some, ap, sym, ◌∙◌, inl, inr, arith, subst, Option}
-use Rattle.gt_types.specs.Config.{AreFaultless, IsFirstFault}
+use Rattle.std.proofs.Common.{◌≡◌, ◌≢◌, ◌≤◌, Bool, true, false, cond, List, [], ◌∷◌, length, None, Some, refl, ap, sym, ◌∙◌, inl, inr, arith, subst, Option}
+use Rattle.std.specs.Prelude.{◌==◌, ◌||◌, IsTrue}
+use Rattle.gt_types.specs.Config.{AreFaultless, IsFirstFault, is_taken}
+use Rattle.gt_types.specs.Names.{domain_of}
+use Rattle.gt_types.specs.declared.DomId.{DomId}
+use Rattle.gt_types.specs.declared.config.DomainConfig.{DomainConfig}
 use Rattle.gt_types.specs.declared.config.Config.{Config}
 use Rattle.gt_types.specs.declared.config.ConfigFault.{ConfigFault}
 use Rattle.gt_types.specs.Rights.{is_listed}
@@ -31,3 +35,12 @@ starts_for c core config rights same_config same_rights stands domains generatio
   stands = subst (λ (s : Setting). CoreStands s [] core.domains.items)
       (sym (same_setting (λ (r : Triples) source target perm. is_listed r.allowed.items source target perm) core.config config core.rights rights same_config same_rights)) stands;
 }
+
+known_here : (b rest : Bool) (d : DomainConfig) (more : Option DomainConfig) → (rest ≡ true → more ≢ None) → (b || rest) ≡ true → cond {A = Option DomainConfig} b (Some d) more ≢ None
+known_here true rest d more known taken = λ e. cc
+known_here false rest d more known taken = known taken
+
+-- a number that one of the domains has is that of a domain
+pub taken_known : (ds : List DomainConfig) (dom : DomId) → IsTrue (is_taken ds dom) → domain_of ds dom ≢ None
+taken_known [] dom taken = cc
+taken_known (d ∷ ds) dom taken = known_here (d.id.0 == dom.0) (is_taken ds dom) d (domain_of ds dom) (taken_known ds dom) taken

@@ -4,5 +4,6 @@ pub mod Naming
 pub mod Playing
 pub mod Printing
 pub mod Runs
+pub mod Showing
 pub mod Streams
 pub mod Ticking

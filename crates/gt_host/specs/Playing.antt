@@ -1,7 +1,7 @@
 -- What is written for what is read.
-use Rattle.std.specs.Prelude.{◌≡◌, ℕ, ◌≤◌, List, [], length, take, Option, Result, Ok, Err}
+use Rattle.std.specs.Prelude.{◌≡◌, ℕ, ◌≤◌, List, [], length, take, Option, Result, Ok, Err, All, IsTrue}
 use Rattle.std.specs.Io.KnownBytes.{Appends, Keeps}
-use Rattle.gt_types.specs.Config.{AreFaultless}
+use Rattle.gt_types.specs.Config.{AreFaultless, is_taken}
 use Rattle.gt_types.specs.Rights.{is_listed}
 use Rattle.gt_types.specs.declared.rights.Triples.{Triples}
 use Rattle.gt_script.specs.Contents.{Contents}
@@ -16,9 +16,9 @@ use Rattle.gt_host.specs.declared.fault.Fault.TheVariants.{Memory, Read, Write, 
 use Rattle.gt_host.specs.Runs.{Progress, IsRunOf}
 use Rattle.gt_host.specs.Streams.{AppendsBeginning}
 
--- (own) the domains of the script are within the limits of a run
+-- (own) the domains of the script are within the limits of a run, and each step is one of a domain of it
 abbrev pub CanStart : Contents → Type 0
-CanStart c = AreFaultless c.domains × (1 ≤ length c.domains)
+CanStart c = AreFaultless c.domains × (1 ≤ length c.domains) × All (λ s. IsTrue (is_taken c.domains s.dom)) c.steps
 
 -- (own) what is fixed for the run of a script: its domains, its triples, and the generation 0
 abbrev pub setting_of_script : Contents → Setting

@@ -62,3 +62,11 @@ answer_line names line dom answer = call_text line dom ++ answer_text names answ
 -- (own) `LINE ID busy`: the domain had a call open
 abbrev pub busy_line : ℕ → DomId → List ℕ
 busy_line line dom = call_text line dom ++ codes "busy\n"
+
+-- (own) `LINE ID idle`: the domain has no call open
+abbrev pub idle_line : ℕ → DomId → List ℕ
+idle_line line dom = call_text line dom ++ codes "idle\n"
+
+-- (own) `LINE ID open`: the call of that line has no answer when the script ends
+abbrev pub open_line : ℕ → DomId → List ℕ
+open_line line dom = call_text line dom ++ codes "open\n"

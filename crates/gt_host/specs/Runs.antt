@@ -21,8 +21,7 @@ use Rattle.gt_core.specs.declared.trace.Event.TheVariants.{Begin, Tick}
 use Rattle.gt_core.specs.declared.trace.Element.{Element}
 use Rattle.gt_core.specs.declared.trace.Element.TheVariants as elements
 use Rattle.gt_host.specs.declared.outcome.Outcome.{Outcome}
-use Rattle.gt_host.specs.declared.outcome.Outcome.TheVariants.{Answered, Busy, Unanswered}
-use Rattle.gt_host.specs.declared.outcome.TheConstants.{MOST_TICKS}
+use Rattle.gt_host.specs.declared.outcome.Outcome.TheVariants.{Answered, Busy}
 use Rattle.gt_host.specs.Printing.{answer_line, busy_line}
 
 -- (own) a label of a domain, and the handle that a map of that label answered
@@ -88,7 +87,6 @@ pub record EndsWith (trace : List Element) (answer : Answer) : Type 0 where
 abbrev pub ComesTo : List Element → Outcome → Type 0
 ComesTo trace (Answered answer) = EndsWith trace answer
 ComesTo trace Busy = trace ≡ elements.Busy ∷ []
-ComesTo trace Unanswered = AnswerNothing trace × (length trace ≡ 1 + MOST_TICKS)
 
 -- (own) the events of a call: its beginning, and ticks
 abbrev pub call_events : DomId → Request → ℕ → List Event
@@ -98,7 +96,6 @@ call_events dom request ticks = Begin dom request ∷ replicate ticks (Tick dom)
 abbrev pub outcome_text : List (List ℕ) → Step → Outcome → List ℕ
 outcome_text types s (Answered answer) = answer_line types s.line s.dom answer
 outcome_text types s Busy = busy_line s.line s.dom
-outcome_text types s Unanswered = []
 
 -- (own) the call of a line `do ID CALL`
 abbrev pub call_of : Action → Call

@@ -1,6 +1,6 @@
 //! What a run prints: a line for each answer.
 ghost use Rattle.std.specs.Prelude.{◌≡◌, ◌++◌, OnOk};
-ghost use Rattle.gt_host.specs.Printing.{permission_text, type_text, facts_text, denial_text, bytes_text, answer_text, call_text, answer_line, busy_line};
+ghost use Rattle.gt_host.specs.Printing.{permission_text, type_text, facts_text, denial_text, bytes_text, answer_text, call_text, answer_line, busy_line, idle_line, open_line};
 
 use gt_core::Answer;
 use gt_script::Text;
@@ -32,13 +32,13 @@ fn permission_name(perm: Perms) -> &'static str
     }
 }
 
-fn push_text(out: &mut Vec<u8>, text: &str) -> Result<(), AllocError>
+pub fn push_text(out: &mut Vec<u8>, text: &str) -> Result<(), AllocError>
     ensures { OnOk result (out.new.items ≡ out.old.items ++ text.now) }
 {
     out.extend_from_slice(text.as_bytes())
 }
 
-fn push_number<I: Integer>(out: &mut Vec<u8>, number: I) -> Result<(), AllocError>
+pub fn push_number<I: Integer>(out: &mut Vec<u8>, number: I) -> Result<(), AllocError>
     ensures { OnOk result (out.new.items ≡ out.old.items ++ I.text number) }
 {
     let mut buffer = Buffer::new();
@@ -149,4 +149,20 @@ pub fn push_busy_line(out: &mut Vec<u8>, line: usize, dom: DomId) -> Result<(), 
 {
     push_call(out, line, dom)?;
     push_text(out, "busy\n")
+}
+
+/// Appends the line of a tick of a domain that has no call open.
+pub fn push_idle_line(out: &mut Vec<u8>, line: usize, dom: DomId) -> Result<(), AllocError>
+    ensures { OnOk result (out.new.items ≡ out.old.items ++ idle_line line dom) }
+{
+    push_call(out, line, dom)?;
+    push_text(out, "idle\n")
+}
+
+/// Appends the line of a call that has no answer when the script ends.
+pub fn push_open_line(out: &mut Vec<u8>, line: usize, dom: DomId) -> Result<(), AllocError>
+    ensures { OnOk result (out.new.items ≡ out.old.items ++ open_line line dom) }
+{
+    push_call(out, line, dom)?;
+    push_text(out, "open\n")
 }

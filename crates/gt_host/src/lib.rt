@@ -17,6 +17,7 @@ mod labels;
 mod outcome;
 mod playing;
 mod run;
+mod showing;
 mod streams;
 #[cfg(test)]
 mod tests;

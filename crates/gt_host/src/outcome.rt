@@ -12,6 +12,4 @@ pub enum Outcome {
     Answered(Answer),
     /// It did not begin: its domain has another call open.
     Busy,
-    /// It has no answer after [`MOST_TICKS`] ticks.
-    Unanswered,
 }

@@ -41,7 +41,8 @@ fn write_lines<W: Write>(
     script: &Script,
     writer: &mut W,
 ) -> Result<(), Fault>
-    requires { StartsFor script.now core.old }
+    requires can { CanStart script.now }
+    requires starts { StartsFor script.now core.old }
     ensures whole { OnOk result (WritesRun script.now (W.contents writer.old) (W.contents writer.new)) }
     ensures beginning { OnErr result (BeginsRun script.now (W.contents writer.old) (W.contents writer.new)) }
     ensures errors { IfErr result (λ e. (e ≡ faults.Memory) ⊎ (e ≡ faults.Write)) }

@@ -4,7 +4,7 @@ ghost use Rattle.gt_core.specs.History.{History};
 ghost use Rattle.gt_core.specs.Standing.{CoreStands, setting_of};
 ghost use Rattle.gt_host.specs.Runs.{Named, entry_of, request_of, named_after, outcome_text};
 ghost use Rattle.gt_host.specs.Naming.{AreNamed};
-ghost use Rattle.gt_host.specs.Ticking.{Calls, TicksTo, RunsStep};
+ghost use Rattle.gt_host.specs.Ticking.{IsReady, Calls, TicksTo, RunsStep};
 ghost use Rattle.gt_host.specs.declared.fault.Fault.TheVariants as faults;
 
 use crate::answers::{push_answer_line, push_busy_line};
@@ -108,23 +108,28 @@ fn name_mapping<'a>(
     }
 }
 
-// Ticks of an open call up to its answer.
-fn tick_to_answer<P: Allows>(core: &mut Core<P>, dom: DomId) -> Result<Outcome, Memory>
+// At most so many ticks of a domain, up to the answer of its call.
+fn tick_up_to<P: Allows>(
+    core: &mut Core<P>,
+    dom: DomId,
+    most: u32,
+) -> Result<Option<Answer>, Memory>
     ensures ticks { (h : History) → CoreStands (setting_of core.old.config (P.may core.old.rights)) h core.old.domains.items →
-        IfOk result (TicksTo (setting_of core.old.config (P.may core.old.rights)) h dom core.new.domains.items) }
+        IfOk result (TicksTo (setting_of core.old.config (P.may core.old.rights)) h dom most core.new.domains.items) }
     ensures config { core.new.config ≡ core.old.config }
     ensures rights { core.new.rights ≡ core.old.rights }
 {
-    'ticks: for _ in 0..MOST_TICKS {
+    'ticks: for _ in 0..most {
         if let Ticked::Done(_, _, answer) = core.tick(dom)? {
-            return Ok(Outcome::Answered(answer));
+            return Ok(Some(answer));
         }
     }
-    Ok(Outcome::Unanswered)
+    Ok(None)
 }
 
 // A call, from its beginning to its answer.
 fn run_call<P: Allows>(core: &mut Core<P>, dom: DomId, request: Request) -> Result<Outcome, Memory>
+    requires { IsReady (setting_of core.old.config (P.may core.old.rights)) dom core.old.domains.items }
     ensures calls { (h : History) → CoreStands (setting_of core.old.config (P.may core.old.rights)) h core.old.domains.items →
         IfOk result (Calls (setting_of core.old.config (P.may core.old.rights)) h dom request core.new.domains.items) }
     ensures config { core.new.config ≡ core.old.config }
@@ -133,7 +138,10 @@ fn run_call<P: Allows>(core: &mut Core<P>, dom: DomId, request: Request) -> Resu
     match core.begin(dom, request)? {
         Begun::Done(answer) => Ok(Outcome::Answered(answer)),
         Begun::Busy => Ok(Outcome::Busy),
-        _ => tick_to_answer(core, dom),
+        Begun::Open | Begun::NoDomain => match tick_up_to(core, dom, MOST_TICKS)? {
+            Some(answer) => Ok(Outcome::Answered(answer)),
+            None => unreachable!(),
+        },
     }
 }
 
@@ -151,7 +159,6 @@ fn push_outcome(
             push_answer_line(alloc, out, types, step.line, step.dom, answer)
         }
         Outcome::Busy => push_busy_line(out, step.line, step.dom),
-        Outcome::Unanswered => Ok(()),
     }
 }
 
@@ -165,6 +172,7 @@ pub fn run_step<'a, P: Allows>(
     step: &Step<'a>,
     out: &mut Vec<u8>,
 ) -> Result<(), Fault>
+    requires { IsReady (setting_of core.old.config (P.may core.old.rights)) step.now.dom core.old.domains.items }
     ensures runs { OnOk result (RunsStep (setting_of core.old.config (P.may core.old.rights)) types.now step.now
         core.old.domains.items core.new.domains.items labels.old labels.new out.old.items out.new.items) }
     ensures config { core.new.config ≡ core.old.config }

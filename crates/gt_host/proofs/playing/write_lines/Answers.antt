@@ -2,11 +2,11 @@ use Rattle.std.proofs.Common.{◌<◌, ◌∙◌, length, refl, arith}
 use Rattle.gt_types.specs.Rights.{is_listed}
 use Rattle.gt_types.specs.declared.rights.Triples.{Triples}
 use Rattle.gt_host.proofs.RunLemmas.{same_setting}
-use Rattle.gt_host.proofs.PlayLemmas.{OnErr-all, begins, begins_step, goes_on, has_begun, same_setting_of_script, starts_underway}
+use Rattle.gt_host.proofs.PlayLemmas.{OnErr-all, begins, begins_step, goes_on, has_begun, same_setting_of_script, ready, starts_underway}
 use Rattle.gt_host.proofs.playing.write_lines.Goals as goal
 
 pub steps-init : goal.steps-init
-steps-init g c = (refl, refl, starts_underway c.args.script.now c.args.core.now _ _ _ c.requires c.new-labels.ensures c.new-waiting.ensures.items)
+steps-init g c = (refl, refl, starts_underway c.args.script.now c.args.core.now _ _ _ c.requires.starts c.new-labels.ensures c.new-waiting.ensures.items)
 
 pub returns-in_err-run_step-clause-beginning : goal.returns-in_err-run_step-clause-beginning
 returns-in_err-run_step-clause-beginning g c =
@@ -15,14 +15,14 @@ returns-in_err-run_step-clause-beginning g c =
 pub returns-in_err-send-clause-beginning : goal.returns-in_err-send-clause-beginning
 returns-in_err-send-clause-beginning g c =
     let within : c.steps.step-index < length c.steps-steps.result.now = omega arith in
-    let setting = same_setting (λ (r : Triples) source target perm. is_listed r.allowed.items source target perm) _ _ _ _ c.steps.invariant.0 c.steps.invariant.1 ∙ same_setting_of_script c.args.script.now c.args.core.now c.requires in
+    let setting = same_setting (λ (r : Triples) source target perm. is_listed r.allowed.items source target perm) _ _ _ _ c.steps.invariant.0 c.steps.invariant.1 ∙ same_setting_of_script c.args.script.now c.args.core.now c.requires.starts in
     OnErr-all _ _ (begins_step c.args.script.now _ c.types.result.now c.steps-steps.result.now c.steps.step-index c.step-item.result c.steps.core.domains.items c.run_step.new.core.domains.items c.steps.labels c.run_step.new.labels _ _ _ _ _
     setting c.steps-steps.ensures c.steps.invariant.2 within c.step-item.is c.types.ensures c.in_ok-run_step.ensures.runs c.in_err-send.ensures.err)
 
 pub steps-preserved : goal.steps-preserved
 steps-preserved g c =
     let within : c.steps.step-index < length c.steps-steps.result.now = omega arith in
-    let setting = same_setting (λ (r : Triples) source target perm. is_listed r.allowed.items source target perm) _ _ _ _ c.steps.invariant.0 c.steps.invariant.1 ∙ same_setting_of_script c.args.script.now c.args.core.now c.requires in (
+    let setting = same_setting (λ (r : Triples) source target perm. is_listed r.allowed.items source target perm) _ _ _ _ c.steps.invariant.0 c.steps.invariant.1 ∙ same_setting_of_script c.args.script.now c.args.core.now c.requires.starts in (
       c.run_step.ensures.config ∙ c.steps.invariant.0,
       c.run_step.ensures.rights ∙ c.steps.invariant.1,
       goes_on c.args.script.now _ c.types.result.now c.steps-steps.result.now c.steps.step-index c.step-item.result c.steps.core.domains.items c.run_step.new.core.domains.items c.steps.labels c.run_step.new.labels _ _ _ _ _ _
@@ -32,3 +32,10 @@ steps-preserved g c =
 pub returns-clause-beginning : goal.returns-clause-beginning
 returns-clause-beginning g c =
     OnErr-all _ _ (begins c.args.script.now c.steps-steps.result.now c.steps.step-index c.steps.core.domains.items c.steps.labels _ _ _ _ c.steps-steps.ensures c.steps.invariant.2 (rw c.as_slice.ensures.value at c.finish.ensures.beginning))
+
+pub run_step-requires : goal.run_step-requires
+run_step-requires g c =
+    let within : c.steps.step-index < length c.steps-steps.result.now = omega arith in
+    let setting = same_setting (λ (r : Triples) source target perm. is_listed r.allowed.items source target perm) _ _ _ _ c.steps.invariant.0 c.steps.invariant.1 ∙ same_setting_of_script c.args.script.now c.args.core.now c.requires.starts in
+    ready c.args.script.now _ c.steps-steps.result.now c.steps.step-index c.step-item.result c.steps.core.domains.items c.steps.labels _ _ _
+    setting c.steps-steps.ensures c.requires.can.2 c.steps.invariant.2 within c.step-item.is

@@ -1,0 +1,138 @@
+//! What a run prints of an entry.
+ghost use Rattle.std.specs.Prelude.{◌≡◌, ◌++◌, OnOk, codes};
+ghost use Rattle.gt_host.specs.Showing.{mode_text, kind_text, part_text, range_text, entry_text, counts_text, status_text, shown_text, show_line};
+
+use crate::answers::{push_number, push_text};
+use gt_core::Shown;
+use gt_entry::{Control, Entry, status_word};
+use gt_types::{DomId, GrantRef};
+use itoa::Integer;
+use std::alloc::{AllocError, Global};
+
+fn mode(ro: bool) -> &'static str
+    ensures { result.now ≡ mode_text ro }
+{
+    if ro { "ro" } else { "rw" }
+}
+
+fn push_kind(out: &mut Vec<u8>, kind: &str, dom: DomId, ro: bool) -> Result<(), AllocError>
+    ensures { OnOk result (out.new.items ≡ out.old.items ++ kind_text kind.now dom ro) }
+{
+    push_text(out, kind)?;
+    push_text(out, " ")?;
+    push_number(out, dom.0)?;
+    push_text(out, " ")?;
+    push_text(out, mode(ro))
+}
+
+fn push_part<I: Integer>(out: &mut Vec<u8>, name: &str, number: I) -> Result<(), AllocError>
+    ensures { OnOk result (out.new.items ≡ out.old.items ++ codes " " ++ name.now ++ codes "=" ++ I.text number) }
+{
+    push_text(out, " ")?;
+    push_text(out, name)?;
+    push_text(out, "=")?;
+    push_number(out, number)
+}
+
+fn push_range(out: &mut Vec<u8>, off: u16, len: u16) -> Result<(), AllocError>
+    ensures { OnOk result (out.new.items ≡ out.old.items ++ range_text off len) }
+{
+    push_part(out, "off", off)?;
+    push_part(out, "len", len)
+}
+
+fn push_entry(out: &mut Vec<u8>, entry: Entry) -> Result<(), AllocError>
+    ensures { OnOk result (out.new.items ≡ out.old.items ++ entry_text entry) }
+{
+    match entry {
+        Entry::Invalid => push_text(out, "invalid"),
+        Entry::Page { dom, ro, frame } => {
+            push_kind(out, "page", dom, ro)?;
+            push_part(out, "frame", frame)
+        }
+        Entry::Sub {
+            dom,
+            ro,
+            frame,
+            off,
+            len,
+        } => {
+            push_kind(out, "sub", dom, ro)?;
+            push_part(out, "frame", frame)?;
+            push_range(out, off, len)
+        }
+        Entry::Via {
+            dom,
+            ro,
+            dom2,
+            gref,
+        } => {
+            push_kind(out, "via", dom, ro)?;
+            push_part(out, "to", dom2.0)?;
+            push_part(out, "ref", gref.0)
+        }
+    }
+}
+
+fn push_status(alloc: Global, out: &mut Vec<u8>, status: u16) -> Result<(), AllocError>
+    ensures { OnOk result (out.new.items ≡ out.old.items ++ status_text status) }
+{
+    let digits = hex::encode(alloc, status.to_be_bytes())?;
+    push_text(out, digits.as_str())
+}
+
+fn push_counts(
+    out: &mut Vec<u8>,
+    generation: u32,
+    reads: u16,
+    writes: u16,
+) -> Result<(), AllocError>
+    ensures { OnOk result (out.new.items ≡ out.old.items ++ counts_text generation reads writes) }
+{
+    push_part(out, "gen", generation)?;
+    push_part(out, "reads", reads)?;
+    push_part(out, "writes", writes)
+}
+
+fn push_shown(alloc: Global, out: &mut Vec<u8>, shown: Option<Shown>) -> Result<(), AllocError>
+    ensures { OnOk result (out.new.items ≡ out.old.items ++ shown_text shown) }
+{
+    let Some(
+        Shown {
+            entry,
+            generation,
+            reads,
+            writes,
+        },
+    ) = shown
+    else {
+        return push_text(out, "none");
+    };
+    push_entry(out, entry)?;
+    push_counts(out, generation, reads, writes)?;
+    push_text(out, " status=")?;
+    let control = Control::of_entry(entry, generation, reads, writes);
+    push_status(alloc, out, status_word(&control))
+}
+
+/// Appends the line that shows an entry of the domain: None where the reference is past its table.
+/// After an Err a part of the line may stand.
+pub fn push_show_line(
+    alloc: Global,
+    out: &mut Vec<u8>,
+    line: usize,
+    dom: DomId,
+    gref: GrantRef,
+    shown: Option<Shown>,
+) -> Result<(), AllocError>
+    ensures { OnOk result (out.new.items ≡ out.old.items ++ show_line line dom gref shown) }
+{
+    push_number(out, line)?;
+    push_text(out, " show ")?;
+    push_number(out, dom.0)?;
+    push_text(out, " ")?;
+    push_number(out, gref.0)?;
+    push_text(out, " ")?;
+    push_shown(alloc, out, shown)?;
+    push_text(out, "\n")
+}
