@@ -175,11 +175,11 @@ impl<P: Allows> Core<P> {
         }
     }
 
-    fn advance(&self, at: usize, open: Open, seen: Seen) -> (Call, Action)
+    fn advance(&self, at: usize, last: Open, seen: Seen) -> (Call, Action)
         requires { at < length self.now.domains.items }
-        ensures { (d : State) → slice_get self.now.domains.items at ≡ Some d → Advances (knowledge_of self.now.config.domains.items self.now.config.first_gen (P.may self.now.rights) d.own d.header d.mappings d.maps_answered) open.call.caller open.call.request open.call.phase seen result.0 result.1 }
+        ensures { (d : State) → slice_get self.now.domains.items at ≡ Some d → Advances (knowledge_of self.now.config.domains.items self.now.config.first_gen (P.may self.now.rights) d.own d.header d.mappings d.maps_answered) last.call.caller last.call.request last.call.phase seen result.0 result.1 }
     {
-        let mut call = open.call;
+        let mut call = last.call;
         let domain = &self.domains[at];
         let known = Known {
             config: &self.config,

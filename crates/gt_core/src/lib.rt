@@ -31,6 +31,7 @@ mod tests;
 mod trace;
 
 pub use action::{Change, Seen, Step};
+pub use asked::Asked;
 pub use core_state::{Begun, Core, Shown, Ticked, play};
 pub use request::{Handle, Holder, Request};
 pub use trace::{Answer, Bytes, Element, Event, Happened, Item, Trace};

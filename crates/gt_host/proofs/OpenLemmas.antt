@@ -9,7 +9,9 @@ use Rattle.gt_core.specs.Legal.{MayDo, IsRight, StepsRight, StepsRightIn, grown,
 use Rattle.gt_core.specs.Standing.{CoreStands, begun_element}
 use Rattle.gt_core.specs.States.{State}
 use Rattle.gt_core.specs.declared.request.Request.{Request}
-use Rattle.gt_core.specs.declared.request.Request.TheVariants as requests
+use Rattle.gt_core.specs.declared.asked.Asked.{Asked}
+use Rattle.gt_core.specs.declared.asked.Asked.TheVariants as asks
+use Rattle.gt_core.specs.Asking.{asked}
 use Rattle.gt_core.specs.declared.action.Seen.{Seen}
 use Rattle.gt_core.specs.declared.action.Step.{Step}
 use Rattle.gt_core.specs.declared.trace.Answer.{Answer}
@@ -35,7 +37,7 @@ unfolding open_call
 other_call i h d apart = ap (λ (b : Bool). cond b (underway_after i (open_call h d)) (open_call h d)) (ne_eqb i.actor.0 d apart)
 
 -- the domain has this call open, and so many of its steps are made
-pub record HasOpen (h : History) (d : ℕ) (request : Request) (count : ℕ) : Type 0 where
+pub record HasOpen (h : History) (d : ℕ) (request : Asked) (count : ℕ) : Type 0 where
   pub call : Underway
   pub is : open_call h d ≡ Some call
   pub asks : call.request ≡ request
@@ -45,7 +47,7 @@ stepped_once : (steps : List (Step × Seen)) (p : Step × Seen) (count : ℕ) �
 stepped_once steps p count e = length-append steps (p ∷ []) ∙ ap (λ (n : ℕ). n + 1) e
 
 -- a step of an open call that is not answered
-step_stays : (s : Setting) (h : History) (actor d : DomId) (step : Step) (seen : Seen) (c : Underway) (request : Request) (count : ℕ) → actor ≡ d → open_call h d.0 ≡ Some c → c.request ≡ request → length c.steps ≡ count
+step_stays : (s : Setting) (h : History) (actor d : DomId) (step : Step) (seen : Seen) (c : Underway) (request : Asked) (count : ℕ) → actor ≡ d → open_call h d.0 ≡ Some c → c.request ≡ request → length c.steps ≡ count
     → StepsRightIn s h (record { actor = actor; happened = Stepped step seen; answer = None }) step seen (open_call h actor.0)
     → HasOpen (record { actor = actor; happened = Stepped step seen; answer = None } ∷ h) d.0 request (count + 1) × (count + 1 < most_steps request)
 step_stays s h actor d step seen c request count own is asks made right =
@@ -59,13 +61,13 @@ step_stays s h actor d step seen c request count own is asks made right =
         asks = asks;
         made = stepped_once c.steps (step, seen) count made;
       },
-      subst (λ (n : ℕ). n + 1 < most_steps request) made (subst (λ (r : Request). length c.steps + 1 < most_steps r) asks soon),
+      subst (λ (n : ℕ). n + 1 < most_steps request) made (subst (λ (r : Asked). length c.steps + 1 < most_steps r) asks soon),
     )
 
-item_stays : (s : Setting) (h : History) (d : DomId) (actor : DomId) (happened : Happened) (answer : Option Answer) (request : Request) (count : ℕ) → HasOpen h d.0 request count → answer ≡ None
+item_stays : (s : Setting) (h : History) (d : DomId) (actor : DomId) (happened : Happened) (answer : Option Answer) (request : Asked) (count : ℕ) → HasOpen h d.0 request count → answer ≡ None
     → MayDo s h (Tick d) (Did (record { actor = actor; happened = happened; answer = answer }))
     → HasOpen (record { actor = actor; happened = happened; answer = answer } ∷ h) d.0 request (count + 1) × (count + 1 < most_steps request)
-item_stays s h d actor (Began asked) answer request count open_now none may = absurd may.1.1
+item_stays s h d actor (Began other) answer request count open_now none may = absurd may.1.1
 item_stays s h d actor (Stepped step seen) None request count open_now none may =
     step_stays s h actor d step seen open_now.call request count may.1.0 open_now.is open_now.asks open_now.made may.2
 item_stays s h d actor (Stepped step seen) (Some answer) request count open_now none may = cc
@@ -74,7 +76,7 @@ Some-None : {A : Type 0} (o : Option A) (x : A) → o ≡ Some x → o ≡ None 
 Some-None o x p q = cc
 
 -- a tick of an open call that does not answer it
-tick_stays : (s : Setting) (h : History) (d : DomId) (x : Element) (request : Request) (count : ℕ) → domain_of s.domains d ≢ None → HasOpen h d.0 request count → answer_in x ≡ None → MayDo s h (Tick d) x
+tick_stays : (s : Setting) (h : History) (d : DomId) (x : Element) (request : Asked) (count : ℕ) → domain_of s.domains d ≢ None → HasOpen h d.0 request count → answer_in x ≡ None → MayDo s h (Tick d) x
     → HasOpen (grown h x) d.0 request (count + 1) × (count + 1 < most_steps request)
 tick_stays s h d NoDomain request count known open_now none may = absurd (known may)
 tick_stays s h d Busy request count known open_now none may = absurd may
@@ -82,7 +84,7 @@ tick_stays s h d Idle request count known open_now none may = absurd (Some-None 
 tick_stays s h d (Did i) request count known open_now none may = item_stays s h d i.actor i.happened i.answer request count open_now none may
 
 -- ticks of an open call that do not answer it: it stays open, and has steps left
-pub ticks_stay : (s : Setting) (h : History) (d : DomId) (n : ℕ) (xs : List Element) (request : Request) (count : ℕ) → domain_of s.domains d ≢ None → HasOpen h d.0 request count → AnswerNothing xs
+pub ticks_stay : (s : Setting) (h : History) (d : DomId) (n : ℕ) (xs : List Element) (request : Asked) (count : ℕ) → domain_of s.domains d ≢ None → HasOpen h d.0 request count → AnswerNothing xs
     → LegalAfter s h (replicate n (Tick d)) xs → HasOpen (history_after h xs) d.0 request (count + n) × ((n ≡ 0) ⊎ (count + n < most_steps request))
 ticks_stay s h d zero [] request count known open_now quiet legal = (subst (λ (k : ℕ). HasOpen h d.0 request k) (omega arith) open_now, inl refl)
 ticks_stay s h d zero (x ∷ xs) request count known open_now quiet legal = absurd legal
@@ -100,9 +102,9 @@ ticks_stay s h d (suc n) (x ∷ xs) request count known open_now quiet legal =
 
 -- a call that began and is not answered at once
 pub begins_open : (s : Setting) (h : History) (d : DomId) (request : Request) (said : Begun) → domain_of s.domains d ≢ None → (said ≡ begun.Open) ⊎ (said ≡ begun.NoDomain)
-    → MayDo s h (Begin d request) (begun_element d request said) → HasOpen (grown h (begun_element d request said)) d.0 request 0
+    → MayDo s h (Begin d request) (begun_element d request said) → HasOpen (grown h (begun_element d request said)) d.0 (asked request) 0
 begins_open s h d request begun.Open known is may = record {
-  call = record { request = request; steps = [] };
+  call = record { request = asked request; steps = [] };
   is = own_call (record { actor = d; happened = Began request; answer = None }) h d.0 refl;
   asks = refl;
   made = refl;
@@ -111,17 +113,21 @@ begins_open s h d request (begun.Done answer) known is may = elim is [ inl e ↦
 begins_open s h d request begun.Busy known is may = elim is [ inl e ↦ cc | inr e ↦ cc ]
 begins_open s h d request begun.NoDomain known is may = absurd (known may)
 
-few_steps : (request : Request) → most_steps request ≤ 71
-few_steps (requests.Grant gref entry) = omega arith
-few_steps (requests.Revoke gref) = omega arith
-few_steps (requests.Demote gref) = omega arith
-few_steps (requests.Promote gref) = omega arith
-few_steps (requests.Map dom gref flags) = omega arith
-few_steps (requests.Unmap handle) = omega arith
-few_steps (requests.Load handle off len) = omega arith
+few_steps : (request : Asked) → most_steps request ≤ 71
+few_steps (asks.Grant gref entry) = omega arith
+few_steps (asks.Revoke gref) = omega arith
+few_steps (asks.Demote gref) = omega arith
+few_steps (asks.Promote gref) = omega arith
+few_steps (asks.Map dom gref flags) = omega arith
+few_steps (asks.Unmap handle) = omega arith
+few_steps (asks.Load handle off len) = omega arith
+few_steps (asks.SetVersion version) = omega arith
+few_steps (asks.SetupTable frames) = omega arith
+few_steps (asks.QuerySize dom) = omega arith
+few_steps (asks.GetVersion dom) = omega arith
 
 -- no call is without an answer after as many ticks
-pub always_answered : (s : Setting) (h : History) (d : DomId) (most : ℕ) (xs : List Element) (request : Request) → most ≡ 71 → domain_of s.domains d ≢ None → HasOpen h d.0 request 0 → AnswerNothing xs
+pub always_answered : (s : Setting) (h : History) (d : DomId) (most : ℕ) (xs : List Element) (request : Asked) → most ≡ 71 → domain_of s.domains d ≢ None → HasOpen h d.0 request 0 → AnswerNothing xs
     → LegalAfter s h (replicate most (Tick d)) xs → ⊥
 always_answered s h d most xs request all known open_now quiet legal =
     let most_of : most_steps request ≤ 71 = few_steps request in
@@ -131,7 +137,7 @@ always_answered s h d most xs request all known open_now quiet legal =
     ]
 
 -- ticks of a call that has just begun come to its answer
-pub unanswered : (s t : Setting) (h : History) (d : DomId) (most : ℕ) (request : Request) (mid new : List State) (said : Option Answer) → most ≡ 71 → t ≡ s → domain_of s.domains d ≢ None → HasOpen h d.0 request 0
+pub unanswered : (s t : Setting) (h : History) (d : DomId) (most : ℕ) (request : Asked) (mid new : List State) (said : Option Answer) → most ≡ 71 → t ≡ s → domain_of s.domains d ≢ None → HasOpen h d.0 request 0
     → CoreStands s h mid → ((g : History) → CoreStands t g mid → TicksTo t g d most new said) → said ≡ None → ⊥
 unanswered s t h d most request mid new said all same known open_now stands ticks none =
     let here = subst (λ (q : Setting). (g : History) → CoreStands q g mid → TicksTo q g d most new said) same ticks in

@@ -44,11 +44,18 @@ denial_text names d = rule_text d.rule ++ codes " " ++ signed_decimal (status_nu
 abbrev pub bytes_text : List ℕ → List ℕ
 bytes_text bytes = if length bytes == 0 then [] else codes " " ++ encode_lower bytes
 
+-- (own) ` NAME=NUMBER`
+abbrev pub part_text : List ℕ → ℕ → List ℕ
+part_text name n = codes " " ++ name ++ codes "=" ++ decimal n
+
 -- (own) an answer
 abbrev pub answer_text : List (List ℕ) → Answer → List ℕ
 answer_text names answers.Done = codes "ok"
 answer_text names (answers.Mapped handle) = codes "ok"
 answer_text names (answers.Bytes b) = codes "ok" ++ bytes_text b.bytes.items
+answer_text names (answers.Frames frames) = codes "ok" ++ part_text (codes "frames") frames
+answer_text names (answers.Size size) = codes "ok" ++ part_text (codes "frames") size.frames ++ part_text (codes "max") size.max
+answer_text names (answers.Version version) = codes "ok" ++ part_text (codes "version") version
 answer_text names (answers.Denied d) = denial_text names d
 
 -- (own) `LINE ID `, which begins a line about the call of that line

@@ -2,6 +2,7 @@
 use Rattle.std.specs.Prelude.{ℕ, Bool, true, false, List, ◌++◌, codes, decimal, Option, Some, None}
 use Rattle.std.specs.Int.{to_be_bytes, w16}
 use Rattle.hex.specs.Hex.{encode_lower}
+pub use Rattle.gt_host.specs.Printing.{part_text}
 use Rattle.gt_types.specs.declared.DomId.{DomId}
 use Rattle.gt_types.specs.declared.GrantRef.{GrantRef}
 use Rattle.gt_entry.specs.Spelling.{control_with}
@@ -18,10 +19,6 @@ mode_text false = codes "rw"
 -- (own) `KIND DOM MODE`: the kind of the entry, the domain that it names, and its mode
 abbrev pub kind_text : List ℕ → DomId → Bool → List ℕ
 kind_text kind dom ro = kind ++ codes " " ++ decimal dom.0 ++ codes " " ++ mode_text ro
-
--- (own) ` NAME=NUMBER`
-abbrev pub part_text : List ℕ → ℕ → List ℕ
-part_text name n = codes " " ++ name ++ codes "=" ++ decimal n
 
 -- (own) the range of a sub-page
 abbrev pub range_text : ℕ → ℕ → List ℕ

@@ -1,6 +1,6 @@
 //! What a run prints: a line for each answer.
-ghost use Rattle.std.specs.Prelude.{◌≡◌, ◌++◌, OnOk};
-ghost use Rattle.gt_host.specs.Printing.{permission_text, type_text, facts_text, denial_text, bytes_text, answer_text, call_text, answer_line, busy_line, idle_line, open_line};
+ghost use Rattle.std.specs.Prelude.{◌≡◌, ◌++◌, OnOk, codes};
+ghost use Rattle.gt_host.specs.Printing.{permission_text, type_text, facts_text, denial_text, bytes_text, part_text, answer_text, call_text, answer_line, busy_line, idle_line, open_line};
 
 use gt_core::Answer;
 use gt_script::Text;
@@ -43,6 +43,15 @@ pub fn push_number<I: Integer>(out: &mut Vec<u8>, number: I) -> Result<(), Alloc
 {
     let mut buffer = Buffer::new();
     push_text(out, buffer.format(number))
+}
+
+pub fn push_part<I: Integer>(out: &mut Vec<u8>, name: &str, number: I) -> Result<(), AllocError>
+    ensures { OnOk result (out.new.items ≡ out.old.items ++ codes " " ++ name.now ++ codes "=" ++ I.text number) }
+{
+    push_text(out, " ")?;
+    push_text(out, name)?;
+    push_text(out, "=")?;
+    push_number(out, number)
 }
 
 fn push_type(out: &mut Vec<u8>, names: &[Text], id: TypeId) -> Result<(), AllocError>
@@ -112,6 +121,19 @@ fn push_answer(
         Answer::Bytes(answered) => {
             push_text(out, "ok")?;
             push_bytes(alloc, out, answered.bytes.as_slice())
+        }
+        Answer::Frames(frames) => {
+            push_text(out, "ok")?;
+            push_part(out, "frames", *frames)
+        }
+        Answer::Size(size) => {
+            push_text(out, "ok")?;
+            push_part(out, "frames", size.frames)?;
+            push_part(out, "max", size.max)
+        }
+        Answer::Version(version) => {
+            push_text(out, "ok")?;
+            push_part(out, "version", *version)
         }
         Answer::Denied(denial) => push_denial(out, names, *denial),
     }

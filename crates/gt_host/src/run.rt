@@ -60,7 +60,7 @@ fn entry_of(grant: Grant) -> Entry
 
 // What a call asks of the core.
 #[tactic(auto, unfolding(crate::specs::Runs::request_of))]
-fn request_of<'a>(labels: &Labels<'a>, dom: DomId, call: &Call<'a>) -> Request
+fn request_of<'a>(labels: &Labels<'a>, dom: DomId, call: &Call<'a>) -> Request<'static>
     ensures { (named : List Named) → AreNamed labels.now named → result ≡ request_of named dom call.now }
 {
     match call {
@@ -128,10 +128,14 @@ fn tick_up_to<P: Allows>(
 }
 
 // A call, from its beginning to its answer.
-fn run_call<P: Allows>(core: &mut Core<P>, dom: DomId, request: Request) -> Result<Outcome, Memory>
+fn run_call<P: Allows>(
+    core: &mut Core<P>,
+    dom: DomId,
+    request: Request<'_>,
+) -> Result<Outcome, Memory>
     requires { IsReady (setting_of core.old.config (P.may core.old.rights)) dom core.old.domains.items }
     ensures calls { (h : History) → CoreStands (setting_of core.old.config (P.may core.old.rights)) h core.old.domains.items →
-        IfOk result (Calls (setting_of core.old.config (P.may core.old.rights)) h dom request core.new.domains.items) }
+        IfOk result (Calls (setting_of core.old.config (P.may core.old.rights)) h dom request.entry core.new.domains.items) }
     ensures config { core.new.config ≡ core.old.config }
     ensures rights { core.new.rights ≡ core.old.rights }
 {

@@ -2,11 +2,10 @@
 ghost use Rattle.std.specs.Prelude.{◌≡◌, ◌++◌, OnOk, codes};
 ghost use Rattle.gt_host.specs.Showing.{mode_text, kind_text, part_text, range_text, entry_text, counts_text, status_text, shown_text, show_line};
 
-use crate::answers::{push_number, push_text};
+use crate::answers::{push_number, push_part, push_text};
 use gt_core::Shown;
 use gt_entry::{Control, Entry, status_word};
 use gt_types::{DomId, GrantRef};
-use itoa::Integer;
 use std::alloc::{AllocError, Global};
 
 fn mode(ro: bool) -> &'static str
@@ -23,15 +22,6 @@ fn push_kind(out: &mut Vec<u8>, kind: &str, dom: DomId, ro: bool) -> Result<(), 
     push_number(out, dom.0)?;
     push_text(out, " ")?;
     push_text(out, mode(ro))
-}
-
-fn push_part<I: Integer>(out: &mut Vec<u8>, name: &str, number: I) -> Result<(), AllocError>
-    ensures { OnOk result (out.new.items ≡ out.old.items ++ codes " " ++ name.now ++ codes "=" ++ I.text number) }
-{
-    push_text(out, " ")?;
-    push_text(out, name)?;
-    push_text(out, "=")?;
-    push_number(out, number)
 }
 
 fn push_range(out: &mut Vec<u8>, off: u16, len: u16) -> Result<(), AllocError>
