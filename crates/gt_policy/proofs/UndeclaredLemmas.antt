@@ -49,6 +49,10 @@ right_true : (a b : Bool) → (a && b) ≡ true → b ≡ true
 right_true true b e = e
 right_true false b e = absurd (cc)
 
+or_true : (a b : Bool) → b ≡ true → (a || b) ≡ true
+or_true true b e = refl
+or_true false b e = e
+
 both_declared : (ss : List Statement) (us vs : List Use) → list_all (is_met ss) us ≡ true → list_all (is_met ss) vs ≡ true → list_all (is_met ss) (us ++ vs) ≡ true
 both_declared ss us vs a b = list_all-append (is_met ss) us vs ∙ and_true (list_all (is_met ss) us) (list_all (is_met ss) vs) a b
 
@@ -98,11 +102,7 @@ declared_type (DeclareType v ms ∷ ss) w e = go (λ h. declared_type ss w h) (b
     go : (is_type ss w ≡ true → list_any (λ u. bytes_eq w u) (declared_in ss) ≡ true) → (b : Bool) → bytes_eq v w ≡ b → (b || is_type ss w) ≡ true → (bytes_eq w v || list_any (λ u. bytes_eq w u) (declared_in ss)) ≡ true
     go more true x h = ap (λ b. b || list_any (λ u. bytes_eq w u) (declared_in ss)) (bytes_eq_swap w v ∙ x)
     go more false x h = ap (λ b. b || list_any (λ u. bytes_eq w u) (declared_in ss)) (bytes_eq_swap w v ∙ x) ∙ more h
-declared_type (DeclareAttribute v ∷ ss) w e = or_right (bytes_eq w v) (list_any (λ u. bytes_eq w u) (declared_in ss)) (declared_type ss w e)
-  where
-    or_right : (a b : Bool) → b ≡ true → (a || b) ≡ true
-    or_right true b h = refl
-    or_right false b h = h
+declared_type (DeclareAttribute v ∷ ss) w e = or_true (bytes_eq w v) (list_any (λ u. bytes_eq w u) (declared_in ss)) (declared_type ss w e)
 declared_type (GiveAttributes m ms ∷ ss) w e = declared_type ss w e
 declared_type (Allow a ∷ ss) w e = declared_type ss w e
 
@@ -113,16 +113,9 @@ declared_attribute (DeclareAttribute v ∷ ss) w e = go (λ h. declared_attribut
     go : (is_attribute ss w ≡ true → list_any (λ u. bytes_eq w u) (declared_in ss) ≡ true) → (b : Bool) → bytes_eq v w ≡ b → (b || is_attribute ss w) ≡ true → (bytes_eq w v || list_any (λ u. bytes_eq w u) (declared_in ss)) ≡ true
     go more true x h = ap (λ b. b || list_any (λ u. bytes_eq w u) (declared_in ss)) (bytes_eq_swap w v ∙ x)
     go more false x h = ap (λ b. b || list_any (λ u. bytes_eq w u) (declared_in ss)) (bytes_eq_swap w v ∙ x) ∙ more h
-declared_attribute (DeclareType v ms ∷ ss) w e = or_right (bytes_eq w v) (list_any (λ u. bytes_eq w u) (declared_in ss)) (declared_attribute ss w e)
-  where
-    or_right : (a b : Bool) → b ≡ true → (a || b) ≡ true
-    or_right true b h = refl
-    or_right false b h = h
+declared_attribute (DeclareType v ms ∷ ss) w e = or_true (bytes_eq w v) (list_any (λ u. bytes_eq w u) (declared_in ss)) (declared_attribute ss w e)
 declared_attribute (GiveAttributes m ms ∷ ss) w e = declared_attribute ss w e
 declared_attribute (Allow a ∷ ss) w e = declared_attribute ss w e
-
-either_no : (a b : Bool) → a ≡ false → (a && b) ≡ false
-either_no a b e = rw e refl
 
 kinds_apart : (ss : List Statement) (w : List ℕ) → AreDistinct (declared_in ss) → is_type ss w ≡ true → is_attribute ss w ≡ false
 kinds_apart [] w d e = refl
@@ -245,10 +238,6 @@ statements_tell : (ss : List Statement) → AreDistinct (declared_in ss) → (xs
 statements_tell ss distinct [] d own = refl
 statements_tell ss distinct (x ∷ xs) d own =
     tells_bind ss (statement_uses x) (uses_of xs) (with_statement (names_of ss) d x) (λ e. resolved (names_of ss) e xs) (statement_tells ss distinct x d own.0) (λ e. statements_tell ss distinct xs e own.1)
-
-or_true : (a b : Bool) → b ≡ true → (a || b) ≡ true
-or_true true b e = refl
-or_true false b e = e
 
 eq_self : (w : List ℕ) → bytes_eq w w ≡ true
 eq_self w = (bytes_eq-Decides w w).1 refl
