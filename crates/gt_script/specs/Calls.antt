@@ -87,6 +87,20 @@ revoke_of (gref ∷ []) = do
   Some (calls.Revoke r)
 revoke_of _ = None
 
+-- what stands after `demote`: REF (own)
+unfoldable pub demote_of : List (List ℕ) → Option Call
+demote_of (gref ∷ []) = do
+  r ← reference_word gref
+  Some (calls.Demote r)
+demote_of _ = None
+
+-- what stands after `promote`: REF (own)
+unfoldable pub promote_of : List (List ℕ) → Option Call
+promote_of (gref ∷ []) = do
+  r ← reference_word gref
+  Some (calls.Promote r)
+promote_of _ = None
+
 -- a call word and its arguments (own)
 unfoldable pub call_of : List (List ℕ) → Option Call
 call_of [] = None
@@ -94,7 +108,9 @@ call_of (word ∷ args) = if bytes_eq word (codes "grant") then grant_of args
     else (if bytes_eq word (codes "map") then map_of args
     else (if bytes_eq word (codes "unmap") then unmap_of args
     else (if bytes_eq word (codes "load") then load_of args
-    else (if bytes_eq word (codes "revoke") then revoke_of args else None))))
+    else (if bytes_eq word (codes "revoke") then revoke_of args
+    else (if bytes_eq word (codes "demote") then demote_of args
+    else (if bytes_eq word (codes "promote") then promote_of args else None))))))
 
 -- what a body line's first word says together with the words after its domain (own)
 unfoldable pub action_of : List ℕ → List (List ℕ) → Option Action

@@ -1,6 +1,6 @@
 //! The calls that a script can ask for.
 ghost use Rattle.std.specs.Prelude.{◌≡◌, map};
-ghost use Rattle.gt_script.specs.Calls.{page_of, sub_of, via_of, granted, grant_of, map_of, unmap_of, load_of, revoke_of, call_of, action_of};
+ghost use Rattle.gt_script.specs.Calls.{page_of, sub_of, via_of, granted, grant_of, map_of, unmap_of, load_of, revoke_of, demote_of, promote_of, call_of, action_of};
 
 use crate::fields::{domain, flags, is, label, mode, reference, u16_of, u64_of};
 use crate::texts::Text;
@@ -59,6 +59,14 @@ pub enum Call<'a> {
     },
     /// `revoke REF`
     Revoke {
+        gref: GrantRef,
+    },
+    /// `demote REF`
+    Demote {
+        gref: GrantRef,
+    },
+    /// `promote REF`
+    Promote {
         gref: GrantRef,
     },
 }
@@ -196,6 +204,30 @@ fn read_revoke<'a>(args: &[&'a [u8]]) -> Option<Call<'a>>
     }
 }
 
+#[tactic(auto, unfolding(crate::specs::Calls::demote_of))]
+fn read_demote<'a>(args: &[&'a [u8]]) -> Option<Call<'a>>
+    ensures { result ≡ demote_of (map (λ word. word.now) args.now) }
+{
+    match args {
+        [gref] => Some(Call::Demote {
+            gref: reference(gref)?,
+        }),
+        _ => None,
+    }
+}
+
+#[tactic(auto, unfolding(crate::specs::Calls::promote_of))]
+fn read_promote<'a>(args: &[&'a [u8]]) -> Option<Call<'a>>
+    ensures { result ≡ promote_of (map (λ word. word.now) args.now) }
+{
+    match args {
+        [gref] => Some(Call::Promote {
+            gref: reference(gref)?,
+        }),
+        _ => None,
+    }
+}
+
 #[tactic(auto, unfolding(crate::specs::Calls::call_of))]
 fn read_call<'a>(words: &[&'a [u8]]) -> Option<Call<'a>>
     ensures { result ≡ call_of (map (λ word. word.now) words.now) }
@@ -211,6 +243,10 @@ fn read_call<'a>(words: &[&'a [u8]]) -> Option<Call<'a>>
         read_load(args)
     } else if is(word, "revoke") {
         read_revoke(args)
+    } else if is(word, "demote") {
+        read_demote(args)
+    } else if is(word, "promote") {
+        read_promote(args)
     } else {
         None
     }

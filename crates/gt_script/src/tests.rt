@@ -154,6 +154,38 @@ fn reads_the_steps(rt: HostRuntime) -> Result<(), Fail> {
 }
 
 #[test]
+fn reads_demote_and_promote(rt: HostRuntime) -> Result<(), Fail> {
+    let alloc = rt.alloc();
+    let text = and_line(alloc, HEAD, "do 1 demote 7")?;
+    let text = and_line(alloc, text.as_str(), "do 2 promote 8")?;
+    let script = parse(alloc, text.as_bytes())?;
+    let [demote, promote] = script.steps() else {
+        return Err(Fail::from("two steps"));
+    };
+    assert!(rt;
+        matches!(
+            demote,
+            Step {
+                line: 4,
+                dom: DomId(1),
+                action: Action::Do(Call::Demote { gref: GrantRef(7) })
+            }
+        )
+    );
+    assert!(rt;
+        matches!(
+            promote,
+            Step {
+                line: 5,
+                dom: DomId(2),
+                action: Action::Do(Call::Promote { gref: GrantRef(8) })
+            }
+        )
+    );
+    Ok(())
+}
+
+#[test]
 fn names_the_first_fault(rt: HostRuntime) -> Result<(), Fail> {
     let alloc = rt.alloc();
     assert_eq!(rt; fault(alloc, b""), on_line(1, SYNTAX));
@@ -232,6 +264,8 @@ fn reads_the_lines_of_a_body(rt: HostRuntime) -> Result<(), Fail> {
         "do 2 map abcdefghijabcdefghijabcdefghij_9 1 0 ro",
         "do 1 load h 65535 65535",
         "do 1 revoke 0#x",
+        "do 1 demote 0",
+        "do 1 promote 4294967295",
         "\tdo\t1  revoke 0 # a comment",
         "do 001 revoke 0000000000000000000000000000000000000000",
         "",
@@ -261,6 +295,12 @@ fn refuses_what_no_line_says(rt: HostRuntime) -> Result<(), Fail> {
         "do 1 revoke 0x1",
         "do 1 revoke 4294967296",
         "do 1 revoke \u{662}",
+        "do 1 demote",
+        "do 1 demote 4294967296",
+        "do 1 demote 0 ro",
+        "do 1 promote",
+        "do 1 promote -1",
+        "do 1 promote 0 rw",
         "do\u{a0}1 revoke 0",
         "\u{feff}do 1 revoke 0",
         "do\u{b}1 revoke 0",
