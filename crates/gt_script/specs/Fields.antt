@@ -72,6 +72,12 @@ unfoldable pub flags_word : List ℕ → Option ℕ
 flags_word word = if bytes_eq word (codes "rw") then Some 2
     else (if bytes_eq word (codes "ro") then Some 6 else u32_word word)
 
+-- the steps of a tick: 1 to 100,000 (own)
+unfoldable pub tick_word : List ℕ → Option ℕ
+tick_word word = do
+  n ← number_word 100001 word
+  if n == 0 then None else Some n
+
 -- the seven permissions of class `grant`, as XSM FLASK names them
 unfoldable pub permission_word : List ℕ → Option Perms
 permission_word word = if bytes_eq word (codes "map_read") then Some map_read

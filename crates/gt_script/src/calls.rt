@@ -1,8 +1,8 @@
 //! The calls that a script can ask for.
 ghost use Rattle.std.specs.Prelude.{◌≡◌, map};
-ghost use Rattle.gt_script.specs.Calls.{page_of, sub_of, via_of, granted, grant_of, map_of, unmap_of, load_of, revoke_of, demote_of, promote_of, call_of, action_of};
+ghost use Rattle.gt_script.specs.Calls.{page_of, sub_of, via_of, granted, grant_of, map_of, unmap_of, load_of, revoke_of, demote_of, promote_of, call_of, tick_of, show_of, action_of};
 
-use crate::fields::{domain, flags, is, label, mode, reference, u16_of, u64_of};
+use crate::fields::{domain, flags, is, label, mode, reference, tick_count, u16_of, u64_of};
 use crate::texts::Text;
 use gt_types::{DomId, GrantRef};
 
@@ -76,6 +76,12 @@ pub enum Call<'a> {
 pub enum Action<'a> {
     /// `do ID CALL`: the call from its beginning to its answer.
     Do(Call<'a>),
+    /// `begin ID CALL`: the beginning of the call alone.
+    Begin(Call<'a>),
+    /// `tick ID N`: up to N steps, from 1 to 100,000, of the call that the domain has open.
+    Tick(u32),
+    /// `show ID REF`: a line on the entry with this reference, which changes nothing.
+    Show(GrantRef),
 }
 
 #[tactic(auto, unfolding(crate::specs::Calls::page_of))]
@@ -252,6 +258,26 @@ fn read_call<'a>(words: &[&'a [u8]]) -> Option<Call<'a>>
     }
 }
 
+#[tactic(auto, unfolding(crate::specs::Calls::tick_of))]
+fn read_tick<'a>(args: &[&'a [u8]]) -> Option<Action<'a>>
+    ensures { result ≡ tick_of (map (λ word. word.now) args.now) }
+{
+    match args {
+        [count] => Some(Action::Tick(tick_count(count)?)),
+        _ => None,
+    }
+}
+
+#[tactic(auto, unfolding(crate::specs::Calls::show_of))]
+fn read_show<'a>(args: &[&'a [u8]]) -> Option<Action<'a>>
+    ensures { result ≡ show_of (map (λ word. word.now) args.now) }
+{
+    match args {
+        [gref] => Some(Action::Show(reference(gref)?)),
+        _ => None,
+    }
+}
+
 /// What a body line's first word says together with the words after its domain.
 #[tactic(auto, unfolding(crate::specs::Calls::action_of))]
 pub fn read_action<'a>(word: &[u8], args: &[&'a [u8]]) -> Option<Action<'a>>
@@ -259,6 +285,12 @@ pub fn read_action<'a>(word: &[u8], args: &[&'a [u8]]) -> Option<Action<'a>>
 {
     if is(word, "do") {
         Some(Action::Do(read_call(args)?))
+    } else if is(word, "begin") {
+        Some(Action::Begin(read_call(args)?))
+    } else if is(word, "tick") {
+        read_tick(args)
+    } else if is(word, "show") {
+        read_show(args)
     } else {
         None
     }

@@ -186,6 +186,50 @@ fn reads_demote_and_promote(rt: HostRuntime) -> Result<(), Fail> {
 }
 
 #[test]
+fn reads_an_interleaving(rt: HostRuntime) -> Result<(), Fail> {
+    let alloc = rt.alloc();
+    let mut text = String::from_str(alloc, HEAD)?;
+    for line in ["begin 2 map h 1 0 ro", "tick 2 3", "show 1 7"] {
+        text = and_line(alloc, text.as_str(), line)?;
+    }
+    let script = parse(alloc, text.as_bytes())?;
+    let [begin, tick, show] = script.steps() else {
+        return Err(Fail::from("three steps"));
+    };
+    assert!(rt;
+        matches!(
+        begin,
+        Step {
+            line: 4,
+            dom: DomId(2),
+            action: Action::Begin(Call::Map { label, dom: DomId(1), gref: GrantRef(0), flags: 6 }),
+        } if is_h(label)
+    )
+    );
+    assert!(rt;
+        matches!(
+            tick,
+            Step {
+                line: 5,
+                dom: DomId(2),
+                action: Action::Tick(3)
+            }
+        )
+    );
+    assert!(rt;
+        matches!(
+            show,
+            Step {
+                line: 6,
+                dom: DomId(1),
+                action: Action::Show(GrantRef(7))
+            }
+        )
+    );
+    Ok(())
+}
+
+#[test]
 fn names_the_first_fault(rt: HostRuntime) -> Result<(), Fail> {
     let alloc = rt.alloc();
     assert_eq!(rt; fault(alloc, b""), on_line(1, SYNTAX));
@@ -229,7 +273,9 @@ fn asks_for_the_parts_in_order(rt: HostRuntime) -> Result<(), Fail> {
         ("# nothing", 2, SYNTAX),
         ("domain 1 u:r:a_t 8 1 1\n", 1, SYNTAX),
         ("do 1 revoke 0\n", 1, SYNTAX),
+        ("tick 1 1\n", 1, SYNTAX),
         ("triple a a copy\ndo 1 revoke 0\n", 2, SYNTAX),
+        ("triple a a copy\nshow 1 0\n", 2, SYNTAX),
         ("triple a a copy\ndomain 9 u:r:t 65 1 1\n", 2, CONFIG),
         ("triple a a copy\n\n#\n", 4, CONFIG),
         ("policy\n", 1, SYNTAX),
@@ -266,6 +312,13 @@ fn reads_the_lines_of_a_body(rt: HostRuntime) -> Result<(), Fail> {
         "do 1 revoke 0#x",
         "do 1 demote 0",
         "do 1 promote 4294967295",
+        "begin 2 map h 1 0 ro",
+        "begin 1 grant 0 page 2 rw 5",
+        "tick 2 1",
+        "tick 2 100000",
+        "tick 2 00000000000000000000100000",
+        "show 1 0",
+        "show 2 4294967295",
         "\tdo\t1  revoke 0 # a comment",
         "do 001 revoke 0000000000000000000000000000000000000000",
         "",
@@ -320,14 +373,55 @@ fn refuses_what_no_line_says(rt: HostRuntime) -> Result<(), Fail> {
         "do 1 map abcdefghijabcdefghijabcdefghij_99 1 0 rw",
         "do 1 load h 0 65536",
         "DO 1 revoke 0",
-        "begin 1 revoke 0",
+        "begin",
+        "begin 1",
+        "begin 1 unknown 0",
+        "begin x revoke 0",
+        "begin 1 revoke",
+        "begin 99 revoke x",
+        "tick",
+        "tick 1",
+        "tick 1 0",
+        "tick 1 100001",
+        "tick 1 4294967297",
+        "tick 1 18446744073709551617",
+        "tick 1 x",
+        "tick 1 -1",
+        "tick x 1",
+        "tick 1 1 1",
+        "tick 99 0",
+        "tick 1 revoke 0",
+        "show",
+        "show 1",
+        "show 1 4294967296",
+        "show 1 self",
+        "show self 0",
+        "show 1 0 0",
+        "show 99 x",
+        "tell 1 x",
+        "await 1 x",
     ] {
         let text = and_line(alloc, HEAD, line)?;
         assert_eq!(rt; fault(alloc, text.as_bytes()), on_line(4, SYNTAX), "{line}");
     }
-    let text = and_line(alloc, HEAD, "do 9 revoke 0")?;
-    let text = and_line(alloc, text.as_str(), "nonsense")?;
-    assert_eq!(rt; fault(alloc, text.as_bytes()), on_line(4, CONFIG));
+    Ok(())
+}
+
+#[test]
+fn refuses_domains_that_are_not_configured(rt: HostRuntime) -> Result<(), Fail> {
+    let alloc = rt.alloc();
+    for line in [
+        "do 9 revoke 0",
+        "begin 9 revoke 0",
+        "tick 9 1",
+        "show 9 0",
+        "tick 18446744073709551616 100000",
+        "show 65537 0",
+    ] {
+        let text = and_line(alloc, HEAD, line)?;
+        let text = and_line(alloc, text.as_str(), "nonsense")?;
+        assert_eq!(rt; fault(alloc, text.as_bytes()), on_line(4, CONFIG), "{line}");
+    }
     Ok(())
 }
 
