@@ -55,6 +55,11 @@ fn and_line(alloc: Global, text: &str, line: &str) -> Result<String, AllocError>
     Ok(out)
 }
 
+/// A head with this line between its triple and its domain.
+fn head_with(alloc: Global, line: &str) -> Result<String, AllocError> {
+    format!(in alloc; "triple a_t a_t copy\n{line}\ndomain 1 u:r:a_t 8 1 1\n")
+}
+
 fn is_h(label: &Text) -> bool {
     label.as_bytes() == b"h".as_slice()
 }
@@ -276,6 +281,12 @@ fn asks_for_the_parts_in_order(rt: HostRuntime) -> Result<(), Fail> {
         ("tick 1 1\n", 1, SYNTAX),
         ("triple a a copy\ndo 1 revoke 0\n", 2, SYNTAX),
         ("triple a a copy\nshow 1 0\n", 2, SYNTAX),
+        ("wear 5\n", 1, SYNTAX),
+        ("wear 5\ntriple a a copy\n", 1, SYNTAX),
+        ("triple a a copy\nwear 0\nwear 0\n", 3, SYNTAX),
+        ("triple a a copy\nwear 0\ntriple a a copy\n", 3, SYNTAX),
+        ("triple a a copy\nwear 0\ndo 1 revoke 0\n", 3, SYNTAX),
+        ("triple a a copy\nwear 0\n", 3, CONFIG),
         ("triple a a copy\ndomain 9 u:r:t 65 1 1\n", 2, CONFIG),
         ("triple a a copy\n\n#\n", 4, CONFIG),
         ("policy\n", 1, SYNTAX),
@@ -286,13 +297,15 @@ fn asks_for_the_parts_in_order(rt: HostRuntime) -> Result<(), Fail> {
             "{text}"
         );
     }
-    for line in ["triple a_t a_t copy", "domain 3 u:r:a_t 8 1 1"] {
+    for line in ["triple a_t a_t copy", "wear 1", "domain 3 u:r:a_t 8 1 1"] {
         let text = and_line(alloc, HEAD, "do 1 revoke 0")?;
         let text = and_line(alloc, text.as_str(), line)?;
         assert_eq!(rt; fault(alloc, text.as_bytes()), on_line(5, SYNTAX), "{line}");
     }
-    let text = and_line(alloc, HEAD, "triple a_t a_t copy")?;
-    assert_eq!(rt; fault(alloc, text.as_bytes()), on_line(4, SYNTAX));
+    for line in ["triple a_t a_t copy", "wear 0"] {
+        let text = and_line(alloc, HEAD, line)?;
+        assert_eq!(rt; fault(alloc, text.as_bytes()), on_line(4, SYNTAX), "{line}");
+    }
     assert_eq!(rt; fault(alloc, HEAD.as_bytes()), None);
     Ok(())
 }
@@ -327,6 +340,35 @@ fn reads_the_lines_of_a_body(rt: HostRuntime) -> Result<(), Fail> {
     ] {
         let text = and_line(alloc, HEAD, line)?;
         assert_eq!(rt; fault(alloc, text.as_bytes()), None, "{line}");
+    }
+    Ok(())
+}
+
+#[test]
+fn reads_the_first_generation(rt: HostRuntime) -> Result<(), Fail> {
+    let alloc = rt.alloc();
+    for (line, first) in [
+        ("wear 0", 0),
+        ("wear 1048574", 1_048_574),
+        ("wear 1048575", 1_048_575),
+        ("  wear\t00000000000000000000000000000007 # worn", 7),
+        ("# wear 7", 0),
+    ] {
+        let text = head_with(alloc, line)?;
+        assert_eq!(rt; parse(alloc, text.as_bytes())?.first_gen(), first, "{line}");
+    }
+    assert_eq!(rt; parse(alloc, FIRST.as_bytes())?.first_gen(), 0);
+    for line in [
+        "wear",
+        "wear 1048576",
+        "wear 18446744073709551616",
+        "wear -1",
+        "wear x",
+        "wear 1 1",
+        "Wear 1",
+    ] {
+        let text = head_with(alloc, line)?;
+        assert_eq!(rt; fault(alloc, text.as_bytes()), on_line(2, SYNTAX), "{line}");
     }
     Ok(())
 }
