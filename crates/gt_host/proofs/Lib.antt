@@ -1,4 +1,5 @@
 pub mod LabelLemmas
+pub mod LineLemmas
 pub mod OpenLemmas
 pub mod PlayLemmas
 pub mod PlayedLemmas

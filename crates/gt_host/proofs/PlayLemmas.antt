@@ -1,29 +1,25 @@
-use Rattle.std.proofs.Common.{◌≡◌, ℕ, ◌+◌, ◌<◌, List, [], ◌∷◌, ◌++◌, length, take, get_or, Option, None, Some, Result, Ok, Err, OnErr, refl, ap, sym, subst, ◌∙◌, append_assoc, length-append, add-one, arith}
-use Rattle.std.proofs.Math.Seq.{take-suc, take-append-add}
+use Rattle.std.proofs.Common.{◌≡◌, ℕ, ◌+◌, ◌<◌, List, [], ◌∷◌, ◌++◌, length, take, get_or, Option, None, Some, Result, Ok, Err, OnOk, OnErr, refl, ap, sym, subst, ◌∙◌, append_assoc, length-append, add-one, inl, inr, arith}
+use Rattle.std.proofs.Math.Seq.{take-suc, take-append-add, take-length}
+use Rattle.std.proofs.lemmas.List.Elements.{All-get_or}
 use Rattle.std.specs.Io.KnownBytes.{Appends, Keeps}
+use Rattle.std.specs.Prelude.{All, IsTrue}
 use Rattle.gt_script.specs.declared.script.Step.{Step}
-use Rattle.gt_script.specs.Contents.{Contents}
+use Rattle.gt_script.specs.Contents.{Contents, first_gen}
+use Rattle.gt_types.specs.Config.{is_taken}
 use Rattle.gt_types.specs.Rights.{is_listed}
 use Rattle.gt_types.specs.declared.config.DomainConfig.{DomainConfig}
 use Rattle.gt_types.specs.declared.rights.Triple.{Triple}
 use Rattle.gt_types.specs.declared.rights.Triples.{Triples}
-use Rattle.gt_core.specs.History.{Setting}
-use Rattle.gt_core.specs.Legal.{history_after}
+use Rattle.gt_core.specs.History.{Setting, open_call}
 use Rattle.gt_core.specs.Standing.{CoreStands, setting_of}
 use Rattle.gt_core.specs.States.{State}
 use Rattle.gt_core.specs.declared.core_state.Core.{Core}
-use Rattle.gt_core.specs.declared.trace.Element.{Element}
-use Rattle.gt_host.specs.declared.labels.Labels.{Labels}
-use Rattle.gt_host.specs.declared.outcome.Outcome.{Outcome}
-use Rattle.gt_host.specs.Naming.{AreNamed}
-use Rattle.gt_host.specs.Playing.{StartsFor, BeginsRun, setting_of_script}
-use Rattle.gt_host.specs.Runs.{Progress, LeadsTo, IsRunOf, ComesTo, with_step, at_start, outcome_text, call_events, request_of, call_of}
+use Rattle.gt_host.specs.declared.kept.Kept.{Kept}
+use Rattle.gt_host.specs.OpenCalls.{call_in}
+use Rattle.gt_host.specs.Playing.{StartsFor, BeginsRun, WritesRun, IsLegalRunOf, setting_of_script, whole_text}
+use Rattle.gt_host.specs.Runs.{Progress, LeadsTo, IsRunOf, RunsLine, at_start, history_of, open_text, open_lines}
 use Rattle.gt_host.specs.Streams.{AppendsBeginning, Sends}
-use Rattle.gt_host.specs.Ticking.{Happens, IsReady, RunsStep}
-use Rattle.std.proofs.lemmas.List.Elements.{All-get_or}
-use Rattle.std.specs.Prelude.{All, IsTrue}
-use Rattle.gt_types.specs.Config.{is_taken}
-use Rattle.gt_host.proofs.RunLemmas.{Happens-append}
+use Rattle.gt_host.specs.Ticking.{IsReady, IsKept, HasCome, Leads}
 use Rattle.gt_host.proofs.StartLemmas.{taken_known}
 
 append-nil : (ys : List ℕ) → ys ++ [] ≡ ys
@@ -34,12 +30,11 @@ Appends-nothing : (old : Option (List ℕ)) → Appends old old []
 Appends-nothing None = tt
 Appends-nothing (Some xs) = sym (append-nil xs)
 
--- how far a run has come: what it did is legal, the core stands for it, its labels name what they stand for, and of its text some went out and the rest waits
-pub record IsUnderway (c : Contents) (steps : List Step) (domains : List State) (labels : Labels) (waiting : List ℕ) (old now : Option (List ℕ)) : Type 0 where
+-- how far a run has come: it stands where these steps led, and of its text some went out and the rest waits
+pub record IsUnderway (c : Contents) (steps : List Step) (domains : List State) (kept : Kept) (waiting : List ℕ) (old now : Option (List ℕ)) : Type 0 where
   pub progress : Progress
-  pub run : IsRunOf c.types steps progress
-  pub happened : Happens (setting_of_script c) [] progress.events progress.trace domains
-  pub named : AreNamed labels progress.named
+  pub run : IsRunOf (setting_of_script c) c.types steps progress
+  pub come : HasCome (setting_of_script c) progress domains kept
   pub sent : List ℕ
   pub parts : progress.text ≡ sent ++ waiting
   pub went : Appends old now sent
@@ -50,27 +45,29 @@ pub same_setting_of_script : (c : Contents) (core : Core Triples) → StartsFor 
 same_setting_of_script c core starts =
     ap (λ (ds : List DomainConfig). record { domains = ds; first_generation = core.config.first_gen; may = λ source target perm. is_listed core.rights.allowed.items source target perm }) starts.domains
     ∙ ap (λ (n : ℕ). record { domains = c.domains; first_generation = n; may = λ source target perm. is_listed core.rights.allowed.items source target perm }) starts.generation
-    ∙ ap (λ (ts : List Triple). record { domains = c.domains; first_generation = 0; may = λ source target perm. is_listed ts source target perm }) starts.triples
+    ∙ ap (λ (ts : List Triple). record { domains = c.domains; first_generation = first_gen c; may = λ source target perm. is_listed ts source target perm }) starts.triples
 
 -- nothing has happened yet
-pub starts_underway : (c : Contents) (core : Core Triples) (labels : Labels) (waiting : List ℕ) (old : Option (List ℕ)) → StartsFor c core → AreNamed labels [] → waiting ≡ [] → IsUnderway c [] core.domains.items labels waiting old old
-starts_underway c core labels waiting old starts named none = record {
+pub starts_underway : (c : Contents) (core : Core Triples) (kept : Kept) (waiting : List ℕ) (old : Option (List ℕ)) → StartsFor c core → IsKept kept at_start → waiting ≡ [] → IsUnderway c [] core.domains.items kept waiting old old
+unfolding open_call
+starts_underway c core kept waiting old starts keeps none = record {
   progress = at_start;
   run = refl;
-  happened = record { legal = tt; stands = subst (λ (s : Setting). CoreStands s [] core.domains.items) (same_setting_of_script c core starts) starts.stands };
-  named = named;
+  come = record {
+    legal = tt;
+    stands = subst (λ (s : Setting). CoreStands s [] core.domains.items) (same_setting_of_script c core starts) starts.stands;
+    keeps = keeps;
+    knows = λ dom. refl;
+  };
   sent = [];
   parts = sym none;
   went = Appends-nothing old;
 }
 
 -- a step after the others
-LeadsTo-append : (types : List (List ℕ)) (p q : Progress) (steps : List Step) (s : Step) (ticks : ℕ) (trace : List Element) (outcome : Outcome)
-    → LeadsTo types p steps q → length trace ≡ 1 + ticks → ComesTo trace outcome → LeadsTo types p (steps ++ s ∷ []) (with_step types q s ticks trace outcome)
-LeadsTo-append types p q [] s ticks trace outcome led long comes =
-    (ticks, trace, outcome, long, comes, ap (λ (r : Progress). with_step types r s ticks trace outcome) led)
-LeadsTo-append types p q (t ∷ steps) s ticks trace outcome (n, xs, o, length_of, came, led) long comes =
-    (n, xs, o, length_of, came, LeadsTo-append types (with_step types p t n xs o) q steps s ticks trace outcome led long comes)
+LeadsTo-append : (t : Setting) (types : List (List ℕ)) (p q r : Progress) (steps : List Step) (s : Step) → LeadsTo t types p steps q → RunsLine t types s s.action q r → LeadsTo t types p (steps ++ s ∷ []) r
+LeadsTo-append t types p q r [] s led runs = (r, subst (λ (o : Progress). RunsLine t types s s.action o r) (sym led) runs, refl)
+LeadsTo-append t types p q r (x ∷ steps) s led runs = (led.0, led.1, LeadsTo-append t types led.0 q r steps s led.2 runs)
 
 -- two writes, one after the other
 Appends-both : (a b c : Option (List ℕ)) (xs ys : List ℕ) → Appends a b xs → Appends b c ys → Appends a c (xs ++ ys)
@@ -90,59 +87,135 @@ Keeps-begins None b xs h = (0, omega arith, tt)
 Keeps-begins (Some x) None xs h = absurd h
 Keeps-begins (Some x) (Some y) xs h = (0, omega arith, h ∙ sym (append-nil x))
 
+-- nothing was done, and nothing went out
+pub not_begun : (c : Contents) (old new : Option (List ℕ)) → Keeps old new → BeginsRun c old new
+unfolding open_call
+not_begun c old new kept = inl (0, at_start, (refl, tt, λ dom. refl), Keeps-begins old new [] kept)
+
+pub Keeps-same : (a : Option (List ℕ)) → Keeps a a
+Keeps-same None = tt
+Keeps-same (Some xs) = refl
+
 -- a run that has come some way has written a beginning, and goes on to do so
-pub begins : (c : Contents) (steps : List Step) (n : ℕ) (domains : List State) (labels : Labels) (waiting : List ℕ) (old mid new : Option (List ℕ))
-    → steps ≡ c.steps → IsUnderway c (take n steps) domains labels waiting old mid → AppendsBeginning mid new waiting → BeginsRun c old new
-begins c steps n domains labels waiting old mid new all u h =
-    (n, u.progress, (subst (λ (l : List Step). IsRunOf c.types (take n l) u.progress) all u.run, u.happened.legal), subst (λ (l : List ℕ). AppendsBeginning old new l) (sym u.parts) (begins_after old mid new u.sent waiting u.went h))
+pub begins : (c : Contents) (steps : List Step) (n : ℕ) (domains : List State) (kept : Kept) (waiting : List ℕ) (old mid new : Option (List ℕ))
+    → steps ≡ c.steps → IsUnderway c (take n steps) domains kept waiting old mid → AppendsBeginning mid new waiting → BeginsRun c old new
+begins c steps n domains kept waiting old mid new all u h =
+    inl (
+      n,
+      u.progress,
+      (subst (λ (l : List Step). IsRunOf (setting_of_script c) c.types (take n l) u.progress) all u.run, u.come.legal, u.come.knows),
+      subst (λ (l : List ℕ). AppendsBeginning old new l) (sym u.parts) (begins_after old mid new u.sent waiting u.went h),
+    )
 
 -- it has written a beginning already
-pub has_begun : (c : Contents) (steps : List Step) (n : ℕ) (domains : List State) (labels : Labels) (waiting : List ℕ) (old mid : Option (List ℕ))
-    → steps ≡ c.steps → IsUnderway c (take n steps) domains labels waiting old mid → BeginsRun c old mid
-has_begun c steps n domains labels waiting old mid all u =
-    begins c steps n domains labels waiting old mid mid all u (0, omega arith, Appends-nothing mid)
+pub has_begun : (c : Contents) (steps : List Step) (n : ℕ) (domains : List State) (kept : Kept) (waiting : List ℕ) (old mid : Option (List ℕ))
+    → steps ≡ c.steps → IsUnderway c (take n steps) domains kept waiting old mid → BeginsRun c old mid
+has_begun c steps n domains kept waiting old mid all u =
+    begins c steps n domains kept waiting old mid mid all u (0, omega arith, Appends-nothing mid)
 
 pub OnErr-all : {T E : Type 0} (r : Result T E) (P : Type 0) → P → OnErr r P
 OnErr-all (Ok x) P h = tt
 OnErr-all (Err e) P h = h
 
+pub OnOk-map : {T E : Type 0} (r : Result T E) (P Q : Type 0) → (P → Q) → OnOk r P → OnOk r Q
+OnOk-map (Ok x) P Q f h = f h
+OnOk-map (Err e) P Q f h = tt
+
 -- a step more, of whose line some goes out
-pub goes_on : (c : Contents) (t : Setting) (known : List (List ℕ)) (steps : List Step) (i : ℕ) (s : Step) (domains next : List State) (before after : Labels) (w more rest : List ℕ) (old mid now : Option (List ℕ))
-    → t ≡ setting_of_script c → IsUnderway c (take i steps) domains before w old mid → i < length steps → s ≡ get_or steps i s → known ≡ c.types
-    → RunsStep t known s domains next before after w more → Sends mid now more rest → IsUnderway c (take (i + 1) steps) next after rest old now
-goes_on c t known steps i s domains next before after w more rest old mid now setting u within is same runs (sent, split, went) =
-    let told = subst (λ (l : List (List ℕ)). RunsStep t l s domains next before after w more) same runs in
-    let here = subst (λ (q : Setting). RunsStep q c.types s domains next before after w more) setting told in
-    let step = here (history_after [] u.progress.trace) u.progress.named u.happened.stands u.named in
+pub goes_on : (c : Contents) (t : Setting) (known : List (List ℕ)) (steps : List Step) (i : ℕ) (s : Step) (domains next : List State) (kept later : Kept) (w more rest : List ℕ) (old mid now : Option (List ℕ))
+    → t ≡ setting_of_script c → IsUnderway c (take i steps) domains kept w old mid → i < length steps → s ≡ get_or steps i s → known ≡ c.types
+    → Leads t (λ p q. RunsLine t known s s.action p q) domains next kept later w more → Sends mid now more rest → IsUnderway c (take (i + 1) steps) next later rest old now
+goes_on c t known steps i s domains next kept later w more rest old mid now setting u within is same leads (sent, split, went) =
+    let told = subst (λ (l : List (List ℕ)). Leads t (λ p q. RunsLine t l s s.action p q) domains next kept later w more) same leads in
+    let here = subst (λ (x : Setting). Leads x (λ p q. RunsLine x c.types s s.action p q) domains next kept later w more) setting told in
+    let step = here u.progress u.come in
     let first : take (i + 1) steps ≡ take i steps ++ s ∷ [] = rw add-one (take-suc steps i s within ∙ ap (λ (x : Step). take i steps ++ x ∷ []) (sym is)) in
     record {
-      progress = with_step c.types u.progress s step.calls.ticks step.calls.trace step.outcome;
-      run = subst (λ (l : List Step). IsRunOf c.types l (with_step c.types u.progress s step.calls.ticks step.calls.trace step.outcome)) (sym first)
-          (LeadsTo-append c.types at_start u.progress (take i steps) s step.calls.ticks step.calls.trace step.outcome u.run step.calls.length_of step.calls.comes);
-      happened = Happens-append (setting_of_script c) [] u.progress.events u.progress.trace (call_events s.dom (request_of u.progress.named s.dom (call_of s.action)) step.calls.ticks) step.calls.trace domains next u.happened step.calls.happens;
-      named = step.names;
+      progress = step.0;
+      run = subst (λ (l : List Step). IsRunOf (setting_of_script c) c.types l step.0) (sym first) (LeadsTo-append (setting_of_script c) c.types at_start u.progress step.0 (take i steps) s u.run step.1);
+      come = step.2;
       sent = u.sent ++ sent;
-      parts = ap (λ (l : List ℕ). l ++ outcome_text c.types s step.outcome) u.parts ∙ append_assoc u.sent w (outcome_text c.types s step.outcome)
-          ∙ ap (λ (l : List ℕ). u.sent ++ l) (sym step.line ∙ split) ∙ sym (append_assoc u.sent sent rest);
+      parts = step.3.1 ∙ ap (λ (l : List ℕ). l ++ step.3.0) u.parts ∙ append_assoc u.sent w step.3.0 ∙ ap (λ (l : List ℕ). u.sent ++ l) (sym step.3.2 ∙ split) ∙ sym (append_assoc u.sent sent rest);
       went = Appends-both old mid now u.sent sent u.went went;
     }
 
 -- a step more, whose line waits with the others, of which a beginning goes out
-pub begins_step : (c : Contents) (t : Setting) (known : List (List ℕ)) (steps : List Step) (i : ℕ) (s : Step) (domains next : List State) (before after : Labels) (w more : List ℕ) (old mid new : Option (List ℕ))
-    → t ≡ setting_of_script c → steps ≡ c.steps → IsUnderway c (take i steps) domains before w old mid → i < length steps → s ≡ get_or steps i s → known ≡ c.types
-    → RunsStep t known s domains next before after w more → AppendsBeginning mid new more → BeginsRun c old new
-begins_step c t known steps i s domains next before after w more old mid new setting all u within is same runs h =
-    begins c steps (i + 1) next after more old mid new all
-    (goes_on c t known steps i s domains next before after w more more old mid mid setting u within is same runs ([], refl, Appends-nothing mid)) h
+pub begins_step : (c : Contents) (t : Setting) (known : List (List ℕ)) (steps : List Step) (i : ℕ) (s : Step) (domains next : List State) (kept later : Kept) (w more : List ℕ) (old mid new : Option (List ℕ))
+    → t ≡ setting_of_script c → steps ≡ c.steps → IsUnderway c (take i steps) domains kept w old mid → i < length steps → s ≡ get_or steps i s → known ≡ c.types
+    → Leads t (λ p q. RunsLine t known s s.action p q) domains next kept later w more → AppendsBeginning mid new more → BeginsRun c old new
+begins_step c t known steps i s domains next kept later w more old mid new setting all u within is same leads h =
+    begins c steps (i + 1) next later more old mid new all
+    (goes_on c t known steps i s domains next kept later w more more old mid mid setting u within is same leads ([], refl, Appends-nothing mid)) h
 
 -- the next step finds a core that stands for what was done, and is one of a domain of the run
-pub ready : (c : Contents) (t : Setting) (steps : List Step) (i : ℕ) (s : Step) (domains : List State) (labels : Labels) (w : List ℕ) (old mid : Option (List ℕ))
-    → t ≡ setting_of_script c → steps ≡ c.steps → All (λ (x : Step). IsTrue (is_taken c.domains x.dom)) c.steps → IsUnderway c (take i steps) domains labels w old mid → i < length steps → s ≡ get_or steps i s → IsReady t s.dom domains
-ready c t steps i s domains labels w old mid setting all configured u within is =
+pub ready : (c : Contents) (t : Setting) (steps : List Step) (i : ℕ) (s : Step) (domains : List State) (kept : Kept) (w : List ℕ) (old mid : Option (List ℕ))
+    → t ≡ setting_of_script c → steps ≡ c.steps → All (λ (x : Step). IsTrue (is_taken c.domains x.dom)) c.steps → IsUnderway c (take i steps) domains kept w old mid → i < length steps → s ≡ get_or steps i s → IsReady t s.dom domains
+ready c t steps i s domains kept w old mid setting all configured u within is =
     let every : All (λ (x : Step). IsTrue (is_taken c.domains x.dom)) steps = subst (λ (l : List Step). All (λ (x : Step). IsTrue (is_taken c.domains x.dom)) l) (sym all) configured in
     let taken : IsTrue (is_taken c.domains s.dom) = subst (λ (x : Step). IsTrue (is_taken c.domains x.dom)) (sym is) (All-get_or (λ (x : Step). IsTrue (is_taken c.domains x.dom)) steps i s within every) in
     subst (λ (q : Setting). IsReady q s.dom domains) (sym setting) (record {
-      history = history_after [] u.progress.trace;
-      stands = u.happened.stands;
+      history = history_of u.progress;
+      stands = u.come.stands;
       known = taken_known c.domains s.dom taken;
     })
+
+-- the end
+
+open_lines-same : (ds : List DomainConfig) (calls known : ℕ → Option Step) → ((n : ℕ) → calls n ≡ known n) → open_lines ds calls ≡ open_lines ds known
+open_lines-same [] calls known same = refl
+open_lines-same (d ∷ ds) calls known same = ap (λ (o : Option Step). open_text d.id o ++ open_lines ds calls) (same d.id.0) ∙ ap (λ (l : List ℕ). open_text d.id (known d.id.0) ++ l) (open_lines-same ds calls known same)
+
+-- the lines of the open calls wait with the others
+last_lines : (c : Contents) (domains : List State) (kept : Kept) (ds : List DomainConfig) (steps : List Step) (waiting more : List ℕ) (old mid : Option (List ℕ)) → ds ≡ c.domains → more ≡ waiting ++ open_lines ds (call_in kept.calls)
+    → (u : IsUnderway c steps domains kept waiting old mid) → u.sent ++ more ≡ whole_text c u.progress
+last_lines c domains kept ds steps waiting more old mid all appended u =
+    ap (λ (l : List ℕ). u.sent ++ l) (appended ∙ ap (λ (l : List DomainConfig). waiting ++ open_lines l (call_in kept.calls)) all ∙ ap (λ (l : List ℕ). waiting ++ l) (open_lines-same c.domains (call_in kept.calls) u.progress.open_steps u.come.keeps.calls))
+    ∙ sym (append_assoc u.sent waiting (open_lines c.domains u.progress.open_steps)) ∙ ap (λ (l : List ℕ). l ++ open_lines c.domains u.progress.open_steps) (sym u.parts)
+
+-- all steps were made: the run stands where they lead
+is_run : (c : Contents) (steps : List Step) (n : ℕ) (domains : List State) (kept : Kept) (waiting : List ℕ) (old mid : Option (List ℕ))
+    → steps ≡ c.steps → n ≡ length steps → (u : IsUnderway c (take n steps) domains kept waiting old mid) → IsLegalRunOf c c.steps u.progress
+is_run c steps n domains kept waiting old mid all made u =
+    let whole : take n steps ≡ c.steps = ap (λ (k : ℕ). take k steps) made ∙ take-length steps ∙ all in
+    (subst (λ (l : List Step). IsRunOf (setting_of_script c) c.types l u.progress) whole u.run, u.come.legal, u.come.knows)
+
+-- the last lines went out
+pub ends : (c : Contents) (steps : List Step) (n : ℕ) (domains : List State) (kept : Kept) (ds : List DomainConfig) (waiting more : List ℕ) (old mid new : Option (List ℕ))
+    → steps ≡ c.steps → n ≡ length steps → ds ≡ c.domains → more ≡ waiting ++ open_lines ds (call_in kept.calls) → IsUnderway c (take n steps) domains kept waiting old mid → Appends mid new more → WritesRun c old new
+ends c steps n domains kept ds waiting more old mid new all made configured appended u went = (
+  u.progress,
+  is_run c steps n domains kept waiting old mid all made u,
+  subst (λ (l : List ℕ). Appends old new l) (last_lines c domains kept ds (take n steps) waiting more old mid configured appended u) (Appends-both old mid new u.sent more u.went went),
+)
+
+-- of the last lines a beginning went out
+pub begins_end : (c : Contents) (steps : List Step) (n : ℕ) (domains : List State) (kept : Kept) (ds : List DomainConfig) (waiting more : List ℕ) (old mid new : Option (List ℕ))
+    → steps ≡ c.steps → n ≡ length steps → ds ≡ c.domains → more ≡ waiting ++ open_lines ds (call_in kept.calls) → IsUnderway c (take n steps) domains kept waiting old mid → AppendsBeginning mid new more → BeginsRun c old new
+begins_end c steps n domains kept ds waiting more old mid new all made configured appended u went =
+    inr (
+      u.progress,
+      is_run c steps n domains kept waiting old mid all made u,
+      subst (λ (l : List ℕ). AppendsBeginning old new l) (last_lines c domains kept ds (take n steps) waiting more old mid configured appended u) (begins_after old mid new u.sent more u.went went),
+    )
+
+-- the lines of the open calls, one after the other
+
+open_lines-append : (ds : List DomainConfig) (d : DomainConfig) (calls : ℕ → Option Step) → open_lines (ds ++ d ∷ []) calls ≡ open_lines ds calls ++ open_text d.id (calls d.id.0)
+open_lines-append [] d calls = append-nil (open_text d.id (calls d.id.0))
+open_lines-append (x ∷ ds) d calls = ap (λ (l : List ℕ). open_text x.id (calls x.id.0) ++ l) (open_lines-append ds d calls) ∙ sym (append_assoc (open_text x.id (calls x.id.0)) (open_lines ds calls) (open_text d.id (calls d.id.0)))
+
+pub no_line : (xs : List ℕ) → xs ≡ xs ++ []
+no_line xs = sym (append-nil xs)
+
+-- a domain more
+pub line_more : (ds : List DomainConfig) (i : ℕ) (e : DomainConfig) (calls : ℕ → Option Step) (o : Option Step) (start before after : List ℕ) → i < length ds → before ≡ start ++ open_lines (take i ds) calls → o ≡ calls (get_or ds i e).id.0
+    → after ≡ before ++ open_text (get_or ds i e).id o → after ≡ start ++ open_lines (take (i + 1) ds) calls
+line_more ds i e calls o start before after within so_far known line =
+    let d : DomainConfig = get_or ds i e in
+    let first : take (i + 1) ds ≡ take i ds ++ d ∷ [] = rw add-one (take-suc ds i e within) in
+    line ∙ ap (λ (l : List ℕ). l ++ open_text d.id o) so_far ∙ ap (λ (q : Option Step). (start ++ open_lines (take i ds) calls) ++ open_text d.id q) known ∙ append_assoc start (open_lines (take i ds) calls) (open_text d.id (calls d.id.0))
+    ∙ ap (λ (l : List ℕ). start ++ l) (sym (ap (λ (l : List DomainConfig). open_lines l calls) first ∙ open_lines-append (take i ds) d calls))
+
+-- all of them
+pub all_lines : (ds : List DomainConfig) (i : ℕ) (calls : ℕ → Option Step) (start after : List ℕ) → i ≡ length ds → after ≡ start ++ open_lines (take i ds) calls → after ≡ start ++ open_lines ds calls
+all_lines ds i calls start after all so_far = so_far ∙ ap (λ (l : List DomainConfig). start ++ open_lines l calls) (ap (λ (k : ℕ). take k ds) all ∙ take-length ds)

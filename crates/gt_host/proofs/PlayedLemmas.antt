@@ -10,16 +10,11 @@ use Rattle.gt_host.specs.declared.fault.Fault.{Fault}
 use Rattle.gt_host.specs.declared.fault.Fault.TheVariants as faults
 use Rattle.gt_host.specs.Faults.{fault_of}
 use Rattle.gt_host.specs.Playing.{Begins, BeginsRun, WritesRun, Played}
-use Rattle.gt_host.specs.Runs.{at_start}
-use Rattle.gt_host.proofs.PlayLemmas.{Keeps-begins}
-
-pub Keeps-same : (a : Option (List ℕ)) → Keeps a a
-Keeps-same None = tt
-Keeps-same (Some xs) = refl
+use Rattle.gt_host.proofs.PlayLemmas.{Keeps-same, not_begun}
 
 -- nothing went out
 pub nothing_begun : (said : Result Contents script.Fault) (old new : Option (List ℕ)) → Keeps old new → Begins said old new
-nothing_begun (Ok c) old new kept = (0, at_start, (refl, tt), Keeps-begins old new [] kept)
+nothing_begun (Ok c) old new kept = not_begun c old new kept
 nothing_begun (Err fault) old new kept = kept
 
 -- there is no script, and nothing went out
@@ -46,3 +41,11 @@ pub played_all : (known old new : Option (List ℕ)) (bytes : List ℕ) (r : Res
     → ((all : List ℕ) → bytes ≡ take 1048577 all → Played (script_in all) old new r) → IfSome known (λ all. Played (script_in all) old new r)
 played_all None old new bytes r e h = tt
 played_all (Some all) old new bytes r e h = h all e
+
+-- nothing could be read
+pub played_unread : (known old : Option (List ℕ)) (fault : Fault) → (fault ≡ faults.Memory) ⊎ (fault ≡ faults.Read) → IfSome known (λ input. Played (script_in input) old old (Err fault))
+played_unread None old fault few = tt
+played_unread (Some all) old faults.Memory few = nothing_begun (script_in all) old old (Keeps-same old)
+played_unread (Some all) old faults.Read few = Keeps-same old
+played_unread (Some all) old faults.Write few = elim few [ inl e ↦ cc | inr e ↦ cc ]
+played_unread (Some all) old (faults.Script f) few = elim few [ inl e ↦ cc | inr e ↦ cc ]

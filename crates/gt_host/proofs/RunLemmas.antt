@@ -1,4 +1,4 @@
-use Rattle.std.proofs.Common.{◌≡◌, ◌⊎◌, inl, inr, ◌<◌, ◌≤◌, ℕ, ◌+◌, Bool, List, [], ◌∷◌, ◌++◌, length, replicate, Option, None, Some, refl, ap, sym, subst, ◌∙◌, arith, length-append}
+use Rattle.std.proofs.Common.{◌≡◌, ◌≢◌, ◌⊎◌, inl, inr, ◌<◌, ◌≤◌, ℕ, ◌+◌, Bool, List, [], ◌∷◌, ◌++◌, length, replicate, Option, None, Some, refl, ap, sym, subst, ◌∙◌, arith, length-append}
 use Rattle.std.proofs.lemmas.Grind.{replicate_next}
 use Rattle.gt_types.specs.declared.DomId.{DomId}
 use Rattle.gt_types.specs.declared.TypeId.{TypeId}
@@ -13,6 +13,10 @@ use Rattle.gt_core.specs.declared.trace.Answer.{Answer}
 use Rattle.gt_core.specs.declared.trace.Event.{Event}
 use Rattle.gt_core.specs.declared.trace.Event.TheVariants.{Begin, Tick}
 use Rattle.gt_core.specs.declared.trace.Element.{Element}
+use Rattle.gt_core.specs.declared.trace.Element.TheVariants.{Item as Did}
+use Rattle.gt_core.specs.declared.trace.Item.{Item}
+use Rattle.gt_core.specs.declared.trace.Happened.TheVariants.{Began}
+use Rattle.gt_types.specs.Names.{domain_of}
 use Rattle.gt_core.specs.declared.action.Seen.{Seen}
 use Rattle.gt_core.specs.declared.action.Step.{Step}
 use Rattle.gt_core.specs.declared.core_state.Begun.{Begun}
@@ -29,11 +33,11 @@ same_setting {R} may a b x y e f = ap (λ (c : Config). setting_of c (may x)) e 
 
 -- histories
 
-history_after-append : (h : History) (xs ys : List Element) → history_after h (xs ++ ys) ≡ history_after (history_after h xs) ys
+pub history_after-append : (h : History) (xs ys : List Element) → history_after h (xs ++ ys) ≡ history_after (history_after h xs) ys
 history_after-append h [] ys = refl
 history_after-append h (x ∷ xs) ys = history_after-append (grown h x) xs ys
 
-LegalAfter-append : (s : Setting) (h : History) (es : List Event) (xs : List Element) (more : List Event) (ys : List Element)
+pub LegalAfter-append : (s : Setting) (h : History) (es : List Event) (xs : List Element) (more : List Event) (ys : List Element)
     → LegalAfter s h es xs → LegalAfter s (history_after h xs) more ys → LegalAfter s h (es ++ more) (xs ++ ys)
 LegalAfter-append s h [] [] more ys p q = q
 LegalAfter-append s h (e ∷ es) (x ∷ xs) more ys p q = (p.0, LegalAfter-append s (grown h x) es xs more ys p.1 q)
@@ -133,7 +137,12 @@ call_done s h dom request said answer new is told = record {
   ticks = 0;
   trace = begun_element dom request said ∷ [];
   length_of = refl;
-  comes = record { before = []; last = begun_element dom request said; order = refl; quiet = tt; answers = ap (λ (q : Begun). answer_in (begun_element dom request q)) is };
+  comes = (
+    record { actor = dom; happened = Began request; answer = Some answer },
+    [],
+    ap (λ (q : Begun). begun_element dom request q ∷ []) is,
+    record { before = []; last = begun_element dom request said; order = refl; quiet = tt; answers = ap (λ (q : Begun). answer_in (begun_element dom request q)) is },
+  );
   happens = happens_one s h (Begin dom request) (begun_element dom request said) new told;
 }
 
@@ -148,35 +157,37 @@ call_busy s h dom request said new is told = record {
   happens = happens_one s h (Begin dom request) (begun_element dom request said) new told;
 }
 
-comes_after : (x : Element) (trace : List Element) (answer : Answer) → answer_in x ≡ None → EndsWith trace answer → ComesTo (x ∷ trace) (Answered answer)
-comes_after x trace answer none ends = record {
-  before = x ∷ ends.before;
-  last = ends.last;
-  order = ap (λ (xs : List Element). x ∷ xs) ends.order;
-  quiet = (none, ends.quiet);
-  answers = ends.answers;
-}
+comes_after : (i : Item) (trace : List Element) (answer : Answer) → i.answer ≡ None → EndsWith trace answer → ComesTo (Did i ∷ trace) (Answered answer)
+comes_after i trace answer none ends = (
+  i,
+  trace,
+  refl,
+  record {
+    before = Did i ∷ ends.before;
+    last = ends.last;
+    order = ap (λ (xs : List Element). Did i ∷ xs) ends.order;
+    quiet = (none, ends.quiet);
+    answers = ends.answers;
+  },
+)
 
 -- a call that began, and then its ticks
-call_with_ticks : (s : Setting) (h : History) (dom : DomId) (most : ℕ) (request : Request) (x : Element) (mid new : List State) (answer : Answer) → answer_in x ≡ None
-    → MayDo s h (Begin dom request) x × CoreStands s (grown h x) mid → TicksTo s (grown h x) dom most new (Some answer) → Calls s h dom request new (Answered answer)
-call_with_ticks s h dom most request x mid new answer none told t = record {
+call_with_ticks : (s : Setting) (h : History) (dom : DomId) (most : ℕ) (request : Request) (i : Item) (mid new : List State) (answer : Answer) → i.answer ≡ None
+    → MayDo s h (Begin dom request) (Did i) × CoreStands s (i ∷ h) mid → TicksTo s (i ∷ h) dom most new (Some answer) → Calls s h dom request new (Answered answer)
+call_with_ticks s h dom most request i mid new answer none told t = record {
   ticks = t.ticks;
-  trace = x ∷ t.trace;
+  trace = Did i ∷ t.trace;
   length_of = let long = t.length_of in omega arith;
-  comes = comes_after x t.trace answer none t.comes.0;
-  happens = Happens-append s h (Begin dom request ∷ []) (x ∷ []) (replicate t.ticks (Tick dom)) t.trace mid new (happens_one s h (Begin dom request) x mid told) t.happens;
+  comes = comes_after i t.trace answer none t.comes.0;
+  happens = Happens-append s h (Begin dom request ∷ []) (Did i ∷ []) (replicate t.ticks (Tick dom)) t.trace mid new (happens_one s h (Begin dom request) (Did i) mid told) t.happens;
 }
 
-pub call_ticked : (s t : Setting) (h : History) (dom : DomId) (most : ℕ) (request : Request) (x : Element) (mid new : List State) (answer : Answer) (said : Option Answer) → t ≡ s → answer_in x ≡ None
-    → MayDo s h (Begin dom request) x × CoreStands s (grown h x) mid → ((g : History) → CoreStands t g mid → TicksTo t g dom most new said) → said ≡ Some answer → Calls s h dom request new (Answered answer)
-call_ticked s t h dom most request x mid new answer said same none told ticks is =
+pub call_ticked : (s t : Setting) (h : History) (dom : DomId) (most : ℕ) (request : Request) (began : Begun) (mid new : List State) (answer : Answer) (said : Option Answer) → t ≡ s → domain_of s.domains dom ≢ None → (began ≡ begun.Open) ⊎ (began ≡ begun.NoDomain)
+    → MayDo s h (Begin dom request) (begun_element dom request began) × CoreStands s (grown h (begun_element dom request began)) mid → ((g : History) → CoreStands t g mid → TicksTo t g dom most new said) → said ≡ Some answer → Calls s h dom request new (Answered answer)
+call_ticked s t h dom most request began mid new answer said same configured (inl open_now) told ticks is =
     let known = subst (λ (q : Setting). (g : History) → CoreStands q g mid → TicksTo q g dom most new said) same ticks in
-    call_with_ticks s h dom most request x mid new answer none told (subst (λ (o : Option Answer). TicksTo s (grown h x) dom most new o) is (known (grown h x) told.1))
-
--- a beginning that answers nothing
-pub quiet_beginning : (dom : DomId) (request : Request) (said : Begun) → (said ≡ begun.Open) ⊎ (said ≡ begun.NoDomain) → answer_in (begun_element dom request said) ≡ None
-quiet_beginning dom request begun.Open is = refl
-quiet_beginning dom request (begun.Done answer) is = elim is [ inl e ↦ cc | inr e ↦ cc ]
-quiet_beginning dom request begun.Busy is = refl
-quiet_beginning dom request begun.NoDomain is = refl
+    let told_so = subst (λ (b : Begun). MayDo s h (Begin dom request) (begun_element dom request b) × CoreStands s (grown h (begun_element dom request b)) mid) open_now told in
+    call_with_ticks s h dom most request (record { actor = dom; happened = Began request; answer = None }) mid new answer refl told_so
+    (subst (λ (o : Option Answer). TicksTo s (record { actor = dom; happened = Began request; answer = None } ∷ h) dom most new o) is (known _ told_so.1))
+call_ticked s t h dom most request began mid new answer said same configured (inr nowhere) told ticks is =
+    absurd (configured (subst (λ (b : Begun). MayDo s h (Begin dom request) (begun_element dom request b)) nowhere told.0))

@@ -1,6 +1,7 @@
 pub mod Faults
 pub mod Labels
 pub mod Naming
+pub mod OpenCalls
 pub mod Playing
 pub mod Printing
 pub mod Runs

@@ -1,10 +1,11 @@
 -- What is written for what is read.
-use Rattle.std.specs.Prelude.{◌≡◌, ℕ, ◌≤◌, List, [], length, take, Option, Result, Ok, Err, All, IsTrue}
+use Rattle.std.specs.Prelude.{◌≡◌, ◌⊎◌, ◌++◌, ℕ, ◌≤◌, List, [], length, take, Option, Result, Ok, Err, All, IsTrue}
 use Rattle.std.specs.Io.KnownBytes.{Appends, Keeps}
 use Rattle.gt_types.specs.Config.{AreFaultless, is_taken}
 use Rattle.gt_types.specs.Rights.{is_listed}
+use Rattle.gt_types.specs.declared.limits.TheConstants.{LAST_GENERATION}
 use Rattle.gt_types.specs.declared.rights.Triples.{Triples}
-use Rattle.gt_script.specs.Contents.{Contents}
+use Rattle.gt_script.specs.Contents.{Contents, first_gen}
 use Rattle.gt_script.specs.declared.faults.Fault as script
 use Rattle.gt_script.specs.declared.script.Step.{Step}
 use Rattle.gt_core.specs.History.{Setting}
@@ -13,35 +14,47 @@ use Rattle.gt_core.specs.Standing.{CoreStands, setting_of}
 use Rattle.gt_core.specs.declared.core_state.Core.{Core}
 use Rattle.gt_host.specs.declared.fault.Fault.{Fault}
 use Rattle.gt_host.specs.declared.fault.Fault.TheVariants.{Memory, Read, Write, Script}
-use Rattle.gt_host.specs.Runs.{Progress, IsRunOf}
+use Rattle.gt_host.specs.Runs.{Progress, IsRunOf, KnowsOpen, open_lines}
 use Rattle.gt_host.specs.Streams.{AppendsBeginning}
 
--- (own) the domains of the script are within the limits of a run, and each step is one of a domain of it
+-- (own) the domains of the script and its first generation are within the limits of a run, and each step is one of a domain of it
 abbrev pub CanStart : Contents → Type 0
-CanStart c = AreFaultless c.domains × (1 ≤ length c.domains) × All (λ s. IsTrue (is_taken c.domains s.dom)) c.steps
+CanStart c = AreFaultless c.domains × (1 ≤ length c.domains) × (first_gen c ≤ LAST_GENERATION) × All (λ s. IsTrue (is_taken c.domains s.dom)) c.steps
 
--- (own) what is fixed for the run of a script: its domains, its triples, and the generation 0
+-- (own) what is fixed for the run of a script: its domains, its triples, and the first generation
 abbrev pub setting_of_script : Contents → Setting
-setting_of_script c = record { domains = c.domains; first_generation = 0; may = λ source target perm. is_listed c.triples source target perm }
+setting_of_script c = record { domains = c.domains; first_generation = first_gen c; may = λ source target perm. is_listed c.triples source target perm }
 
 -- (own) the core starts with the domains and the triples of the script
 pub record StartsFor (c : Contents) (core : Core Triples) : Type 0 where
   pub domains : core.config.domains.items ≡ c.domains
-  pub generation : core.config.first_gen ≡ 0
+  pub generation : core.config.first_gen ≡ first_gen c
   pub triples : core.rights.allowed.items ≡ c.triples
   pub stands : CoreStands (setting_of core.config (λ source target perm. is_listed core.rights.allowed.items source target perm)) [] core.domains.items
 
--- (own) the steps lead here, and what their events did is a legal trace
+-- (own) the steps lead here, what their events did is a legal trace, and the calls that are open are those of the trace
 abbrev pub IsLegalRunOf : Contents → List Step → Progress → Type 0
-IsLegalRunOf c steps p = IsRunOf c.types steps p × Legal (setting_of_script c) p.events p.trace
+IsLegalRunOf c steps p = IsRunOf (setting_of_script c) c.types steps p × Legal (setting_of_script c) p.events p.trace × KnowsOpen p
+
+-- (own) the text of a run that has come to the end of the script: the lines of its steps, and those of the calls that are open
+abbrev pub whole_text : Contents → Progress → List ℕ
+whole_text c p = p.text ++ open_lines c.domains p.open_steps
 
 -- (own) the text of the script's run went out
 abbrev pub WritesRun : Contents → Option (List ℕ) → Option (List ℕ) → Type 0
-WritesRun c old new = (p : Progress) × IsLegalRunOf c c.steps p × Appends old new p.text
+WritesRun c old new = (p : Progress) × IsLegalRunOf c c.steps p × Appends old new (whole_text c p)
 
 -- (own) a beginning of the text went out, of a run that came some way
+abbrev pub BeginsSome : Contents → Option (List ℕ) → Option (List ℕ) → Type 0
+BeginsSome c old new = (steps : ℕ) × (p : Progress) × IsLegalRunOf c (take steps c.steps) p × AppendsBeginning old new p.text
+
+-- (own) a beginning of the text went out, of a run that came to the end
+abbrev pub BeginsWhole : Contents → Option (List ℕ) → Option (List ℕ) → Type 0
+BeginsWhole c old new = (p : Progress) × IsLegalRunOf c c.steps p × AppendsBeginning old new (whole_text c p)
+
+-- (own) a beginning of the text went out
 abbrev pub BeginsRun : Contents → Option (List ℕ) → Option (List ℕ) → Type 0
-BeginsRun c old new = (steps : ℕ) × (p : Progress) × IsLegalRunOf c (take steps c.steps) p × AppendsBeginning old new p.text
+BeginsRun c old new = BeginsSome c old new ⊎ BeginsWhole c old new
 
 -- (own) a beginning of the text went out, and nothing for a script with a fault
 abbrev pub Begins : Result Contents script.Fault → Option (List ℕ) → Option (List ℕ) → Type 0

@@ -1,7 +1,9 @@
 -- What a run of a script does and prints.
-use Rattle.std.specs.Prelude.{◌≡◌, ℕ, ◌+◌, ◌-◌, ◌^◌, ◌==◌, ◌&&◌, List, [], ◌∷◌, ◌++◌, length, replicate, Option, Some, None, unwrap_or, if◌then◌else◌}
+use Rattle.std.specs.Prelude.{◌≡◌, ◌≤◌, ℕ, ◌+◌, ◌-◌, ◌^◌, ◌==◌, ◌&&◌, List, [], ◌∷◌, ◌++◌, length, replicate, Option, Some, None, unwrap_or, is_some, if◌then◌else◌}
 use Rattle.std.specs.Str.{bytes_eq}
 use Rattle.gt_types.specs.declared.DomId.{DomId}
+use Rattle.gt_types.specs.declared.GrantRef.{GrantRef}
+use Rattle.gt_types.specs.declared.config.DomainConfig.{DomainConfig}
 use Rattle.gt_entry.specs.declared.entry.Entry.{Entry}
 use Rattle.gt_entry.specs.declared.entry.Entry.TheVariants as entries
 use Rattle.gt_script.specs.declared.calls.Grant.{Grant}
@@ -18,11 +20,18 @@ use Rattle.gt_core.specs.declared.trace.Answer.{Answer}
 use Rattle.gt_core.specs.declared.trace.Answer.TheVariants.{Mapped}
 use Rattle.gt_core.specs.declared.trace.Event.{Event}
 use Rattle.gt_core.specs.declared.trace.Event.TheVariants.{Begin, Tick}
+use Rattle.gt_core.specs.declared.trace.Item.{Item}
 use Rattle.gt_core.specs.declared.trace.Element.{Element}
 use Rattle.gt_core.specs.declared.trace.Element.TheVariants as elements
+use Rattle.gt_core.specs.History.{History, Setting, open_call}
+use Rattle.gt_core.specs.Legal.{history_after}
+use Rattle.gt_core.specs.Shown.{shown_at}
 use Rattle.gt_host.specs.declared.outcome.Outcome.{Outcome}
 use Rattle.gt_host.specs.declared.outcome.Outcome.TheVariants.{Answered, Busy}
-use Rattle.gt_host.specs.Printing.{answer_line, busy_line}
+use Rattle.gt_host.specs.Printing.{answer_line, busy_line, idle_line, open_line}
+use Rattle.gt_host.specs.Showing.{show_line}
+
+-- labels
 
 -- (own) a label of a domain, and the handle that a map of that label answered
 pub record Named : Type 0 where
@@ -43,6 +52,8 @@ never_given = record { serial = 2 ^ 64 - 1; key = 0 }
 abbrev pub handle_of : List Named → DomId → List ℕ → Handle
 handle_of named dom label = unwrap_or (handle_named named dom.0 label) never_given
 
+-- calls
+
 -- (own) the entry that a grant publishes
 unfoldable pub entry_of : Grant → Entry
 entry_of (grants.Page dom ro frame) = entries.Page dom ro frame
@@ -56,11 +67,36 @@ request_of named dom (calls.Map label to gref flags) = requests.Map to gref flag
 request_of named dom (calls.Unmap label) = requests.Unmap (handle_of named dom label)
 request_of named dom (calls.Load label off len) = requests.Load (handle_of named dom label) off len
 request_of named dom (calls.Revoke gref) = requests.Revoke gref
+request_of named dom (calls.Demote gref) = requests.Demote gref
+request_of named dom (calls.Promote gref) = requests.Promote gref
 
--- (own) the labels after a call: a map answered Ok gives its handle to its label
-unfoldable pub named_after : List Named → DomId → Call → Outcome → List Named
-named_after named dom (calls.Map label to gref flags) (Answered (Mapped handle)) = record { dom = dom; label = label; handle = handle } ∷ named
-named_after named dom call outcome = named
+-- (own) the label to which a call gives its handle: that of a map
+unfoldable pub label_given : Call → Option (List ℕ)
+label_given (calls.Map label to gref flags) = Some label
+label_given call = None
+
+-- (own) the label to which the call of a line gives its handle
+unfoldable pub label_in : Action → Option (List ℕ)
+label_in (actions.Do call) = label_given call
+label_in (actions.Begin call) = label_given call
+label_in action = None
+
+-- (own) the handle that an answer gives: that of a map answered Ok
+abbrev pub handle_given : Answer → Option Handle
+handle_given (Mapped handle) = Some handle
+handle_given answer = None
+
+-- (own) with a label more, where there is one to be given this handle
+abbrev pub with_name : List Named → DomId → Option (List ℕ) → Option Handle → List Named
+with_name named dom (Some label) (Some handle) = record { dom = dom; label = label; handle = handle } ∷ named
+with_name named dom (Some label) None = named
+with_name named dom None given = named
+
+-- (own) the labels of the domain once its call of this line has its answer: a map answered Ok gives its handle to its label
+abbrev pub named_after : List Named → DomId → Step → Answer → List Named
+named_after named dom s answer = with_name named dom (label_in s.action) (handle_given answer)
+
+-- answers
 
 -- (own) the answer that an element of a trace carries
 abbrev pub answer_in : Element → Option Answer
@@ -82,51 +118,127 @@ pub record EndsWith (trace : List Element) (answer : Answer) : Type 0 where
   pub quiet : AnswerNothing before
   pub answers : answer_in last ≡ Some answer
 
--- (own) what came of a call, by the elements of its beginning and its ticks: it goes on up to its answer;
+-- (own) what came of a call, by the elements of its beginning and its ticks: it begins, and goes on up to its answer;
 -- one that its domain can't begin has no tick
 abbrev pub ComesTo : List Element → Outcome → Type 0
-ComesTo trace (Answered answer) = EndsWith trace answer
+ComesTo trace (Answered answer) = (first : Item) × (more : List Element) × (trace ≡ elements.Item first ∷ more) × EndsWith trace answer
 ComesTo trace Busy = trace ≡ elements.Busy ∷ []
+
+-- (own) what so many ticks of a domain come to: the last one answers its call, or none of them all does
+abbrev pub TicksComeTo : ℕ → List Element → Option Answer → Type 0
+TicksComeTo most trace (Some answer) = EndsWith trace answer × (length trace ≤ most)
+TicksComeTo most trace None = AnswerNothing trace × (length trace ≡ most)
 
 -- (own) the events of a call: its beginning, and ticks
 abbrev pub call_events : DomId → Request → ℕ → List Event
 call_events dom request ticks = Begin dom request ∷ replicate ticks (Tick dom)
 
--- (own) the line that a call prints
-abbrev pub outcome_text : List (List ℕ) → Step → Outcome → List ℕ
-outcome_text types s (Answered answer) = answer_line types s.line s.dom answer
-outcome_text types s Busy = busy_line s.line s.dom
+-- runs
 
--- (own) the call of a line `do ID CALL`
-abbrev pub call_of : Action → Call
-call_of (actions.Do call) = call
-
--- (own) how far a run has come: the events so far, what each of them did, what the labels stand for, and the text
+-- (own) how far a run has come: the events so far, what each of them did, what the labels stand for,
+-- the lines whose calls the domains have open, and the text
 pub record Progress : Type 0 where
   pub events : List Event
   pub trace : List Element
   pub named : List Named
+  pub open_steps : ℕ → Option Step
   pub text : List ℕ
 
 abbrev pub at_start : Progress
-at_start = record { events = []; trace = []; named = []; text = [] }
+at_start = record { events = []; trace = []; named = []; open_steps = λ dom. None; text = [] }
 
--- (own) a step more: a call with so many ticks, whose elements and outcome are these
-abbrev pub with_step : List (List ℕ) → Progress → Step → ℕ → List Element → Outcome → Progress
-with_step types p s ticks trace outcome = record {
-  events = p.events ++ call_events s.dom (request_of p.named s.dom (call_of s.action)) ticks;
-  trace = p.trace ++ trace;
-  named = named_after p.named s.dom (call_of s.action) outcome;
-  text = p.text ++ outcome_text types s outcome;
-}
+-- (own) what happened so far
+abbrev pub history_of : Progress → History
+history_of p = history_after [] p.trace
+
+-- (own) with more events, and what each of them did
+abbrev pub with_events : Progress → List Event → List Element → Progress
+with_events p events trace = record p { events = p.events ++ events; trace = p.trace ++ trace }
+
+-- (own) with a line more
+abbrev pub with_line : Progress → List ℕ → Progress
+with_line p line = record p { text = p.text ++ line }
+
+-- (own) the domain has the call of this line open from now on, or none
+abbrev pub with_call : Progress → DomId → Option Step → Progress
+with_call p dom step = record p { open_steps = λ d. if d == dom.0 then step else p.open_steps d }
+
+-- (own) the domain's call of this line has its answer
+abbrev pub answered : List (List ℕ) → Progress → DomId → Step → Answer → Progress
+answered types p dom s answer = record p { named = named_after p.named dom s answer; text = p.text ++ answer_line types s.line dom answer }
+
+-- (own) a call from its beginning on came to this
+abbrev pub after_call : List (List ℕ) → Progress → Step → Outcome → Progress
+after_call types p s (Answered answer) = answered types p s.dom s answer
+after_call types p s Busy = with_line p (busy_line s.line s.dom)
+
+-- (own) a call was begun, and not answered or answered at once
+abbrev pub after_item : List (List ℕ) → Progress → Step → Option Answer → Progress
+after_item types p s None = with_call p s.dom (Some s)
+after_item types p s (Some answer) = answered types p s.dom s answer
+
+-- (own) the beginning of a call did this; a domain of the run is not idle then
+abbrev pub after_beginning : List (List ℕ) → Progress → Step → Element → Progress
+after_beginning types p s (elements.Item item) = after_item types p s item.answer
+after_beginning types p s elements.Busy = with_line p (busy_line s.line s.dom)
+after_beginning types p s elements.Idle = p
+after_beginning types p s elements.NoDomain = p
+
+-- (own) ticks of the domain's call, which this line began, came to this
+abbrev pub after_ticks : List (List ℕ) → Progress → DomId → Step → Option Answer → Progress
+after_ticks types p dom begun (Some answer) = answered types (with_call p dom None) dom begun answer
+after_ticks types p dom begun None = p
+
+-- (own) the line `do ID CALL`
+abbrev pub DoLine : List (List ℕ) → Step → Call → Progress → Progress → Type 0
+DoLine types s call p q =
+    (ticks : ℕ) × (trace : List Element) × (outcome : Outcome) × (length trace ≡ 1 + ticks) × ComesTo trace outcome
+    × (q ≡ after_call types (with_events p (call_events s.dom (request_of p.named s.dom call) ticks) trace) s outcome)
+
+-- (own) the line `begin ID CALL`
+abbrev pub BeginLine : List (List ℕ) → Step → Call → Progress → Progress → Type 0
+BeginLine types s call p q =
+    (x : Element) × (q ≡ after_beginning types (with_events p (Begin s.dom (request_of p.named s.dom call) ∷ []) (x ∷ [])) s x)
+
+-- (own) the line `tick ID N`: idle where the domain has no call open, and then nothing happens
+abbrev pub TickLine : List (List ℕ) → Step → ℕ → Option Step → Progress → Progress → Type 0
+TickLine types s most None p q = (open_call (history_of p) s.dom.0 ≡ None) × (q ≡ with_line p (idle_line s.line s.dom))
+TickLine types s most (Some begun) p q =
+    (ticks : ℕ) × (trace : List Element) × (answer : Option Answer) × (length trace ≡ ticks) × TicksComeTo most trace answer
+    × (q ≡ after_ticks types (with_events p (replicate ticks (Tick s.dom)) trace) s.dom begun answer)
+
+-- (own) the line `show ID REF`: what the entry is after what happened so far
+abbrev pub ShowLine : Setting → Step → GrantRef → Progress → Progress → Type 0
+ShowLine t s gref p q = q ≡ with_line p (show_line s.line s.dom gref (shown_at t (history_of p) s.dom gref.0))
+
+-- (own) what a line of the body asks for
+abbrev pub RunsLine : Setting → List (List ℕ) → Step → Action → Progress → Progress → Type 0
+RunsLine t types s (actions.Do call) p q = DoLine types s call p q
+RunsLine t types s (actions.Begin call) p q = BeginLine types s call p q
+RunsLine t types s (actions.Tick count) p q = TickLine types s count (p.open_steps s.dom.0) p q
+RunsLine t types s (actions.Show gref) p q = ShowLine t s gref p q
 
 -- (own) the steps, one after the other, lead from one point of a run to another
-abbrev pub LeadsTo : List (List ℕ) → Progress → List Step → Progress → Type 0
-LeadsTo types p [] q = p ≡ q
-LeadsTo types p (s ∷ steps) q =
-    (ticks : ℕ) × (trace : List Element) × (outcome : Outcome)
-    × (length trace ≡ 1 + ticks) × ComesTo trace outcome × LeadsTo types (with_step types p s ticks trace outcome) steps q
+abbrev pub LeadsTo : Setting → List (List ℕ) → Progress → List Step → Progress → Type 0
+LeadsTo t types p [] q = p ≡ q
+LeadsTo t types p (s ∷ steps) q = (r : Progress) × RunsLine t types s s.action p r × LeadsTo t types r steps q
 
 -- (own) this is where the steps of a script lead
-abbrev pub IsRunOf : List (List ℕ) → List Step → Progress → Type 0
-IsRunOf types steps p = LeadsTo types at_start steps p
+abbrev pub IsRunOf : Setting → List (List ℕ) → List Step → Progress → Type 0
+IsRunOf t types steps p = LeadsTo t types at_start steps p
+
+-- (own) a domain has a line's call open exactly where it has one open by what happened
+abbrev pub KnowsOpen : Progress → Type 0
+KnowsOpen p = (dom : ℕ) → is_some (p.open_steps dom) ≡ is_some (open_call (history_of p) dom)
+
+-- the end
+
+-- (own) the line of a call that is open at the end of the script
+abbrev pub open_text : DomId → Option Step → List ℕ
+open_text dom None = []
+open_text dom (Some s) = open_line s.line dom
+
+-- (own) the lines of the open calls, in the order of the domains
+abbrev pub open_lines : List DomainConfig → (ℕ → Option Step) → List ℕ
+open_lines [] steps = []
+open_lines (d ∷ ds) steps = open_text d.id (steps d.id.0) ++ open_lines ds steps

@@ -2,9 +2,8 @@
 use Rattle.std.specs.Prelude.{◌≡◌, ◌≢◌, ◌≤◌, ℕ, ◌+◌, List, ◌++◌, length, replicate, Option, Some, None}
 use Rattle.gt_types.specs.Names.{domain_of}
 use Rattle.gt_types.specs.declared.DomId.{DomId}
-use Rattle.gt_script.specs.declared.script.Step.{Step}
 use Rattle.gt_core.specs.History.{History, Setting}
-use Rattle.gt_core.specs.Legal.{LegalAfter, history_after}
+use Rattle.gt_core.specs.Legal.{Legal, LegalAfter, history_after}
 use Rattle.gt_core.specs.Standing.{CoreStands}
 use Rattle.gt_core.specs.States.{State}
 use Rattle.gt_core.specs.declared.request.Request.{Request}
@@ -12,10 +11,11 @@ use Rattle.gt_core.specs.declared.trace.Answer.{Answer}
 use Rattle.gt_core.specs.declared.trace.Event.{Event}
 use Rattle.gt_core.specs.declared.trace.Event.TheVariants.{Tick}
 use Rattle.gt_core.specs.declared.trace.Element.{Element}
-use Rattle.gt_host.specs.declared.labels.Labels.{Labels}
+use Rattle.gt_host.specs.declared.kept.Kept.{Kept}
 use Rattle.gt_host.specs.declared.outcome.Outcome.{Outcome}
 use Rattle.gt_host.specs.Naming.{AreNamed}
-use Rattle.gt_host.specs.Runs.{Named, ComesTo, EndsWith, AnswerNothing, call_events, call_of, request_of, named_after, outcome_text}
+use Rattle.gt_host.specs.OpenCalls.{call_in}
+use Rattle.gt_host.specs.Runs.{Progress, ComesTo, TicksComeTo, KnowsOpen, call_events, history_of}
 
 -- (own) the events did what they may after the history, and the core stands for what they leave
 pub record Happens (s : Setting) (h : History) (events : List Event) (trace : List Element) (domains : List State) : Type 0 where
@@ -29,11 +29,6 @@ pub record Calls (s : Setting) (h : History) (dom : DomId) (request : Request) (
   pub length_of : length trace ≡ 1 + ticks
   pub comes : ComesTo trace outcome
   pub happens : Happens s h (call_events dom request ticks) trace domains
-
--- (own) what so many ticks of a domain come to: the last one answers its call, or none of them all does
-abbrev pub TicksComeTo : ℕ → List Element → Option Answer → Type 0
-TicksComeTo most trace (Some answer) = EndsWith trace answer × (length trace ≤ most)
-TicksComeTo most trace None = AnswerNothing trace × (length trace ≡ most)
 
 -- (own) at most so many ticks of a domain come to this
 pub record TicksTo (s : Setting) (h : History) (dom : DomId) (most : ℕ) (domains : List State) (answer : Option Answer) : Type 0 where
@@ -49,15 +44,24 @@ pub record IsReady (s : Setting) (dom : DomId) (domains : List State) : Type 0 w
   pub stands : CoreStands s history domains
   pub known : domain_of s.domains dom ≢ None
 
--- (own) a step was run: its call came to this outcome, the labels name what they then stand for, and its line was appended
-pub record StepsTo (s : Setting) (h : History) (types : List (List ℕ)) (step : Step) (named : List Named) (domains : List State) (labels : Labels) (before after : List ℕ) : Type 0 where
-  pub outcome : Outcome
-  pub calls : Calls s h step.dom (request_of named step.dom (call_of step.action)) domains outcome
-  pub names : AreNamed labels (named_after named step.dom (call_of step.action) outcome)
-  pub line : after ≡ before ++ outcome_text types step outcome
+-- (own) what is kept beside the core is what a run that has come here knows: what labels name, and the open calls
+pub record IsKept (kept : Kept) (p : Progress) : Type 0 where
+  pub names : AreNamed kept.labels p.named
+  pub calls : (dom : ℕ) → call_in kept.calls dom ≡ p.open_steps dom
 
--- (own) from labels that name what they stand for, and from a core that stands for a history
-abbrev pub RunsStep : Setting → List (List ℕ) → Step → List State → List State → Labels → Labels → List ℕ → List ℕ → Type 0
-RunsStep s types step old_domains new_domains old_labels new_labels before after =
-    (h : History) (named : List Named) → CoreStands s h old_domains → AreNamed old_labels named
-    → StepsTo s h types step named new_domains new_labels before after
+-- (own) the run has come to this point: what it did is legal, and the core and what is kept stand for it
+pub record HasCome (s : Setting) (p : Progress) (domains : List State) (kept : Kept) : Type 0 where
+  pub legal : Legal s p.events p.trace
+  pub stands : CoreStands s (history_of p) domains
+  pub keeps : IsKept kept p
+  pub knows : KnowsOpen p
+
+-- (own) text was appended, in the run as in the code
+abbrev pub IsAppended : List ℕ → List ℕ → List ℕ → List ℕ → Type 0
+IsAppended was is before after = (text : List ℕ) × (is ≡ was ++ text) × (after ≡ before ++ text)
+
+-- (own) from each point that the run may have come to, this leads to a next one
+abbrev pub Leads : Setting → (Progress → Progress → Type 0) → List State → List State → Kept → Kept → List ℕ → List ℕ → Type 0
+Leads s ToNext old_domains new_domains old_kept new_kept before after =
+    (p : Progress) → HasCome s p old_domains old_kept
+    → (q : Progress) × ToNext p q × HasCome s q new_domains new_kept × IsAppended p.text q.text before after

@@ -13,7 +13,9 @@
 
 mod answers;
 mod fault;
+mod kept;
 mod labels;
+mod open_calls;
 mod outcome;
 mod playing;
 mod run;

@@ -1,17 +1,22 @@
 //! A script in, and the lines of its run out.
-ghost use Rattle.std.specs.Prelude.{◌≡◌, ◌⊎◌, ℕ, List, take, OnOk, OnErr, IfOk, IfErr, IfSome};
+ghost use Rattle.std.specs.Prelude.{◌≡◌, ◌⊎◌, ◌++◌, ℕ, List, take, OnOk, OnErr, IfOk, IfErr, IfSome};
+ghost use Rattle.std.specs.Option.{option_map};
 ghost use Rattle.gt_script.specs.Script.{script_in};
 ghost use Rattle.gt_host.specs.declared.fault.Fault.TheVariants as faults;
+ghost use Rattle.gt_host.specs.OpenCalls.{call_in};
+ghost use Rattle.gt_host.specs.Runs.{open_text, open_lines};
 ghost use Rattle.gt_host.specs.Playing.{CanStart, StartsFor, WritesRun, BeginsRun, Played};
 
+use crate::answers::push_open_line;
 use crate::fault::Fault;
-use crate::labels::Labels;
+use crate::kept::Kept;
+use crate::open_calls::OpenCalls;
 use crate::run::run_step;
 use crate::streams::{finish, read_text, send};
 use gt_core::Core;
-use gt_script::{Script, parse};
-use gt_types::{Config, StartFault, Triples};
-use std::alloc::Global;
+use gt_script::{Script, Step, parse};
+use gt_types::{Config, DomId, DomainConfig, StartFault, Triples};
+use std::alloc::{AllocError, Global};
 use std::io::{Read, Write};
 
 // A core with the domains and the rights of the script.
@@ -22,7 +27,7 @@ fn start(alloc: Global, script: &Script) -> Result<Core<Triples>, Fault>
 {
     let config = Config {
         domains: Vec::from_slice(alloc, script.domains())?,
-        first_gen: 0,
+        first_gen: script.first_gen(),
     };
     let rights = Triples {
         allowed: Vec::from_slice(alloc, script.triples())?,
@@ -32,6 +37,30 @@ fn start(alloc: Global, script: &Script) -> Result<Core<Triples>, Fault>
         Err(StartFault::Memory) => Err(Fault::Memory),
         Err(StartFault::Config(_)) => unreachable!(),
     }
+}
+
+// The line of a domain's call that has no answer, if it has one.
+fn push_if_open(out: &mut Vec<u8>, dom: DomId, begun: Option<&Step>) -> Result<(), AllocError>
+    ensures { OnOk result (out.new.items ≡ out.old.items ++ open_text dom (option_map (λ s. s.now) begun.entry)) }
+{
+    match begun {
+        Some(step) => push_open_line(out, step.line, dom),
+        None => Ok(()),
+    }
+}
+
+// The lines of the calls that have no answer, in the order of the domains.
+fn push_open_lines(
+    out: &mut Vec<u8>,
+    domains: &[DomainConfig],
+    calls: &OpenCalls,
+) -> Result<(), AllocError>
+    ensures { OnOk result (out.new.items ≡ out.old.items ++ open_lines domains.now (call_in calls.now)) }
+{
+    'domains: for domain in domains {
+        push_if_open(out, domain.id, calls.of(domain.id))?;
+    }
+    Ok(())
 }
 
 // Runs the steps of the script, and writes their lines.
@@ -47,13 +76,14 @@ fn write_lines<W: Write>(
     ensures beginning { OnErr result (BeginsRun script.now (W.contents writer.old) (W.contents writer.new)) }
     ensures errors { IfErr result (λ e. (e ≡ faults.Memory) ⊎ (e ≡ faults.Write)) }
 {
-    let mut labels = Labels::new(alloc);
+    let mut kept = Kept::new(alloc);
     let mut waiting = Vec::new(alloc);
     let steps = script.steps();
     'steps: for step in steps {
-        run_step(alloc, core, &mut labels, script.types(), step, &mut waiting)?;
+        run_step(alloc, core, &mut kept, script.types(), step, &mut waiting)?;
         send(writer, &mut waiting)?;
     }
+    push_open_lines(&mut waiting, script.domains(), &kept.calls)?;
     finish(writer, waiting.as_slice())
 }
 

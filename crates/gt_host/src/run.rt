@@ -1,16 +1,21 @@
-//! The run of a script: its calls, one after the other, on the core.
-ghost use Rattle.std.specs.Prelude.{◌≡◌, ◌++◌, List, OnOk, IfOk, IfErr};
+//! The run of a script: its lines, one after the other, on the core.
+ghost use Rattle.std.specs.Prelude.{◌≡◌, ◌≢◌, ◌++◌, List, None, OnOk, IfOk, IfErr};
+ghost use Rattle.std.specs.Option.{option_map};
+ghost use Rattle.gt_types.specs.Names.{domain_of};
 ghost use Rattle.gt_core.specs.History.{History};
 ghost use Rattle.gt_core.specs.Standing.{CoreStands, setting_of};
-ghost use Rattle.gt_host.specs.Runs.{Named, entry_of, request_of, named_after, outcome_text};
+ghost use Rattle.gt_host.specs.Printing.{answer_line};
+ghost use Rattle.gt_host.specs.Runs.{Named, entry_of, request_of, label_in, named_after, DoLine, BeginLine, TickLine, RunsLine};
 ghost use Rattle.gt_host.specs.Naming.{AreNamed};
-ghost use Rattle.gt_host.specs.Ticking.{IsReady, Calls, TicksTo, RunsStep};
+ghost use Rattle.gt_host.specs.Ticking.{IsReady, Calls, TicksTo, Leads};
 ghost use Rattle.gt_host.specs.declared.fault.Fault.TheVariants as faults;
 
-use crate::answers::{push_answer_line, push_busy_line};
+use crate::answers::{push_answer_line, push_busy_line, push_idle_line};
 use crate::fault::Fault;
+use crate::kept::Kept;
 use crate::labels::Labels;
 use crate::outcome::{MOST_TICKS, Outcome};
+use crate::showing::push_show_line;
 use gt_core::{Answer, Begun, Core, Request, Ticked};
 use gt_entry::Entry;
 use gt_script::{Action, Call, Grant, Step, Text};
@@ -87,25 +92,54 @@ fn request_of<'a>(labels: &Labels<'a>, dom: DomId, call: &Call<'a>) -> Request<'
             len: *len,
         },
         Call::Revoke { gref } => Request::Revoke { gref: *gref },
+        Call::Demote { gref } => Request::Demote { gref: *gref },
+        Call::Promote { gref } => Request::Promote { gref: *gref },
+    }
+}
+
+// The label to which the call of a step gives its handle.
+#[tactic(auto, unfolding(crate::specs::Runs::label_in, crate::specs::Runs::label_given))]
+fn label_in<'a>(action: &Action<'a>) -> Option<&'a [u8]>
+    ensures { option_map (λ l. l.now) result ≡ label_in action.now }
+{
+    match action {
+        Action::Do(Call::Map { label, .. }) | Action::Begin(Call::Map { label, .. }) => {
+            Some(label.as_bytes())
+        }
+        _ => None,
     }
 }
 
 // A map that is answered Ok gives its handle to its label.
-#[tactic(auto, unfolding(crate::specs::Runs::named_after))]
 fn name_mapping<'a>(
     labels: &mut Labels<'a>,
     dom: DomId,
-    call: &Call<'a>,
-    outcome: &Outcome,
+    step: &Step<'a>,
+    answer: &Answer,
 ) -> Result<(), AllocError>
-    ensures { OnOk result ((named : List Named) → AreNamed labels.old named → AreNamed labels.new (named_after named dom call.now outcome.now)) }
+    ensures { OnOk result ((named : List Named) → AreNamed labels.old named → AreNamed labels.new (named_after named dom step.now answer.now)) }
 {
-    match (call, outcome) {
-        (Call::Map { label, .. }, Outcome::Answered(Answer::Mapped(handle))) => {
-            labels.name(dom, label.as_bytes(), *handle)
-        }
+    match (label_in(&step.action), answer) {
+        (Some(label), Answer::Mapped(handle)) => labels.name(dom, label, *handle),
         _ => Ok(()),
     }
+}
+
+// The domain's call, which this step began, has its answer.
+fn settle<'a>(
+    alloc: Global,
+    labels: &mut Labels<'a>,
+    types: &[Text<'a>],
+    dom: DomId,
+    step: &Step<'a>,
+    answer: &Answer,
+    out: &mut Vec<u8>,
+) -> Result<(), AllocError>
+    ensures named { OnOk result ((named : List Named) → AreNamed labels.old named → AreNamed labels.new (named_after named dom step.now answer.now)) }
+    ensures line { OnOk result (out.new.items ≡ out.old.items ++ answer_line types.now step.now.line dom answer.now) }
+{
+    name_mapping(labels, dom, step, answer)?;
+    push_answer_line(alloc, out, types, step.line, dom, answer)
 }
 
 // At most so many ticks of a domain, up to the answer of its call.
@@ -149,46 +183,133 @@ fn run_call<P: Allows>(
     }
 }
 
-fn push_outcome(
-    alloc: Global,
-    out: &mut Vec<u8>,
-    types: &[Text],
-    step: &Step,
-    outcome: &Outcome,
-) -> Result<(), AllocError>
-    ensures { OnOk result (out.new.items ≡ out.old.items ++ outcome_text types.now step.now outcome.now) }
-{
-    match outcome {
-        Outcome::Answered(answer) => {
-            push_answer_line(alloc, out, types, step.line, step.dom, answer)
-        }
-        Outcome::Busy => push_busy_line(out, step.line, step.dom),
-    }
-}
-
-/// Runs a step of a script on the core, and appends its line. After an Err a part of the line may
-/// stand.
-pub fn run_step<'a, P: Allows>(
+// A line `do ID CALL`.
+fn run_do<'b, 'a, P: Allows>(
     alloc: Global,
     core: &mut Core<P>,
-    labels: &mut Labels<'a>,
+    kept: &mut Kept<'b, 'a>,
     types: &[Text<'a>],
     step: &Step<'a>,
+    call: &Call<'a>,
     out: &mut Vec<u8>,
 ) -> Result<(), Fault>
     requires { IsReady (setting_of core.old.config (P.may core.old.rights)) step.now.dom core.old.domains.items }
-    ensures runs { OnOk result (RunsStep (setting_of core.old.config (P.may core.old.rights)) types.now step.now
-        core.old.domains.items core.new.domains.items labels.old labels.new out.old.items out.new.items) }
+    ensures leads { OnOk result (Leads (setting_of core.old.config (P.may core.old.rights)) (DoLine types.now step.now call.now)
+        core.old.domains.items core.new.domains.items kept.old kept.new out.old.items out.new.items) }
+    ensures config { core.new.config ≡ core.old.config }
+    ensures rights { core.new.rights ≡ core.old.rights }
+    ensures errors { IfErr result (λ e. e ≡ faults.Memory) }
+{
+    let request = request_of(&kept.labels, step.dom, call);
+    match run_call(core, step.dom, request)? {
+        Outcome::Answered(answer) => settle(
+            alloc,
+            &mut kept.labels,
+            types,
+            step.dom,
+            step,
+            &answer,
+            out,
+        )?,
+        Outcome::Busy => push_busy_line(out, step.line, step.dom)?,
+    }
+    Ok(())
+}
+
+// A line `begin ID CALL`.
+fn run_begin<'b, 'a, P: Allows>(
+    alloc: Global,
+    core: &mut Core<P>,
+    kept: &mut Kept<'b, 'a>,
+    types: &[Text<'a>],
+    step: &'b Step<'a>,
+    call: &Call<'a>,
+    out: &mut Vec<u8>,
+) -> Result<(), Fault>
+    requires { domain_of core.old.config.domains.items step.now.dom ≢ None }
+    ensures leads { OnOk result (Leads (setting_of core.old.config (P.may core.old.rights)) (BeginLine types.now step.now call.now)
+        core.old.domains.items core.new.domains.items kept.old kept.new out.old.items out.new.items) }
+    ensures config { core.new.config ≡ core.old.config }
+    ensures rights { core.new.rights ≡ core.old.rights }
+    ensures errors { IfErr result (λ e. e ≡ faults.Memory) }
+{
+    let request = request_of(&kept.labels, step.dom, call);
+    match core.begin(step.dom, request)? {
+        Begun::Done(answer) => settle(
+            alloc,
+            &mut kept.labels,
+            types,
+            step.dom,
+            step,
+            &answer,
+            out,
+        )?,
+        Begun::Busy => push_busy_line(out, step.line, step.dom)?,
+        Begun::Open | Begun::NoDomain => kept.calls.begin(step.dom, step)?,
+    }
+    Ok(())
+}
+
+// A line `tick ID N`.
+fn run_ticks<'b, 'a, P: Allows>(
+    alloc: Global,
+    core: &mut Core<P>,
+    kept: &mut Kept<'b, 'a>,
+    types: &[Text<'a>],
+    step: &Step<'a>,
+    most: u32,
+    out: &mut Vec<u8>,
+) -> Result<(), Fault>
+    requires { domain_of core.old.config.domains.items step.now.dom ≢ None }
+    ensures leads { OnOk result (Leads (setting_of core.old.config (P.may core.old.rights)) (λ p q. TickLine types.now step.now most (p.open_steps step.now.dom.0) p q)
+        core.old.domains.items core.new.domains.items kept.old kept.new out.old.items out.new.items) }
+    ensures config { core.new.config ≡ core.old.config }
+    ensures rights { core.new.rights ≡ core.old.rights }
+    ensures errors { IfErr result (λ e. e ≡ faults.Memory) }
+{
+    let Some(begun) = kept.calls.of(step.dom) else {
+        push_idle_line(out, step.line, step.dom)?;
+        return Ok(());
+    };
+    if let Some(answer) = tick_up_to(core, step.dom, most)? {
+        kept.calls.end(step.dom);
+        settle(
+            alloc,
+            &mut kept.labels,
+            types,
+            step.dom,
+            begun,
+            &answer,
+            out,
+        )?;
+    }
+    Ok(())
+}
+
+/// Runs a step of a script on the core, and appends its line if it has one. After an Err a part of
+/// the line may stand.
+pub fn run_step<'b, 'a, P: Allows>(
+    alloc: Global,
+    core: &mut Core<P>,
+    kept: &mut Kept<'b, 'a>,
+    types: &[Text<'a>],
+    step: &'b Step<'a>,
+    out: &mut Vec<u8>,
+) -> Result<(), Fault>
+    requires { IsReady (setting_of core.old.config (P.may core.old.rights)) step.now.dom core.old.domains.items }
+    ensures leads { OnOk result (Leads (setting_of core.old.config (P.may core.old.rights)) (λ p q. RunsLine (setting_of core.old.config (P.may core.old.rights)) types.now step.now step.now.action p q)
+        core.old.domains.items core.new.domains.items kept.old kept.new out.old.items out.new.items) }
     ensures config { core.new.config ≡ core.old.config }
     ensures rights { core.new.rights ≡ core.old.rights }
     ensures errors { IfErr result (λ e. e ≡ faults.Memory) }
 {
     match &step.action {
-        Action::Do(call) => {
-            let request = request_of(labels, step.dom, call);
-            let outcome = run_call(core, step.dom, request)?;
-            name_mapping(labels, step.dom, call, &outcome)?;
-            push_outcome(alloc, out, types, step, &outcome)?;
+        Action::Do(call) => run_do(alloc, core, kept, types, step, call, out),
+        Action::Begin(call) => run_begin(alloc, core, kept, types, step, call, out),
+        Action::Tick(most) => run_ticks(alloc, core, kept, types, step, *most, out),
+        Action::Show(gref) => {
+            let shown = core.show(step.dom, *gref);
+            push_show_line(alloc, out, step.line, step.dom, *gref, shown)?;
             Ok(())
         }
     }

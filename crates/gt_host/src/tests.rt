@@ -3,6 +3,7 @@ use crate::{Fault, play};
 use gt_script::{Fault as ScriptFault, FaultKind};
 use std::alloc::Global;
 use std::io::{self, ErrorKind, Read, Write};
+use std::process::Abort;
 use std::test::Fail;
 
 const FIRST: &str = "triple b_t a_t map_read\n\
@@ -26,15 +27,16 @@ domain 1 u:r:a_t 8 1 1\n\
 domain 2 u:r:b_t 8 1 1\n";
 
 // Eight triples and three domains, so that the calls begin at line 12.
-const THREE_DOMAINS: &str = "triple b_t a_t map_read\n\
+const EIGHT_TRIPLES: &str = "triple b_t a_t map_read\n\
 triple b_t a_t map_write\n\
 triple b_t a_t unmap\n\
 triple c_t a_t map_read\n\
 triple c_t a_t map_write\n\
 triple c_t a_t unmap\n\
 triple a_t b_t map_read\n\
-triple b_t c_t map_read\n\
-domain 1 u:r:a_t 8 1 1\n\
+triple b_t c_t map_read\n";
+
+const THREE_DOMAINS: &str = "domain 1 u:r:a_t 8 1 1\n\
 domain 2 u:r:b_t 8 1 1\n\
 domain 3 u:r:c_t 8 1 1\n";
 
@@ -54,12 +56,6 @@ fn played(alloc: Global, script: &str) -> Result<(Vec<u8>, Result<(), Fault>), F
 fn plays_scripts(rt: HostRuntime) -> Result<(), Fail> {
     let cases = [
         ("", FIRST, FIRST_TEXT),
-        // A refusal names the first rule that stands: N11 comes before N13.
-        (
-            THREE_DOMAINS,
-            "do 1 grant 0 page 2 ro 5\ndo 3 map h 1 0 rw\ndo 2 map h 1 0 rw\n",
-            "12 1 ok\n13 3 N11 -1\n14 2 N13 -1\n",
-        ),
         // What the policy does not allow is named with both types.
         (
             READ_ONLY,
@@ -79,6 +75,181 @@ fn plays_scripts(rt: HostRuntime) -> Result<(), Fail> {
         assert_eq!(rt; outcome, Ok(()), "{body}");
         assert_eq!(rt; text.as_slice(), want.as_bytes(), "{body}");
     }
+    Ok(())
+}
+
+// Three domains, step by step: what each line prints stands beside it.
+const STEPS: &str = "do 1 grant 0 page 2 rw 5\n\
+begin 3 map k 1 0 ro\n\
+begin 2 map h 1 0 ro\n\
+do 2 unmap h\n\
+begin 2 unmap h\n\
+tick 1 5\n\
+tick 2 100000\n\
+tick 2 1\n\
+begin 2 unmap h\n\
+begin 1 revoke 9\n\
+tick 1 1\n\
+show 1 0\n\
+show 1 1\n\
+show 1 512\n\
+tick 3 1\n";
+
+const STEPS_TEXT: &str = "12 1 ok\n15 2 busy\n16 2 busy\n17 1 idle\n14 2 ok\n19 2 idle\n\
+21 1 N10 -1\n22 1 idle\n\
+23 show 1 0 page 2 rw frame=5 gen=1 reads=1 writes=0 status=0008\n\
+24 show 1 1 invalid gen=0 reads=0 writes=0 status=0000\n\
+25 show 1 512 none\n\
+20 2 open\n13 3 open\n";
+
+// Each with the three domains, so that the first line is line 12.
+const ROWS: [(&str, &str); 9] = [
+    (STEPS, STEPS_TEXT),
+    // A mapping holds up a revocation until the step that gives its pin back.
+    (
+        "do 1 grant 0 page 2 rw 5\n\
+do 2 map h 1 0 rw\n\
+begin 2 unmap h\n\
+do 1 revoke 0\n\
+tick 2 1\n\
+do 1 revoke 0\n",
+        "12 1 ok\n13 2 ok\n15 1 N19 -1\n14 2 ok\n17 1 ok\n",
+    ),
+    // A pin that finds another word than it looked at is missed, and the map begins again.
+    (
+        "do 1 grant 0 page 2 rw 5\n\
+begin 2 map h 1 0 ro\n\
+tick 2 3\n\
+do 1 revoke 0\n\
+do 1 grant 0 page 2 rw 6\n\
+tick 2 4\n\
+show 1 0\n",
+        "12 1 ok\n15 1 ok\n16 1 ok\n13 2 ok\n\
+18 show 1 0 page 2 rw frame=6 gen=2 reads=1 writes=0 status=0008\n",
+    ),
+    (
+        "do 2 map h 1 0 ro\n\
+do 1 grant 0 page 2 ro 5\n\
+do 2 map h 1 0 ro\n\
+show 1 0\n",
+        "12 2 N10 -1\n13 1 ok\n14 2 ok\n\
+15 show 1 0 page 2 ro frame=5 gen=1 reads=1 writes=0 status=0008\n",
+    ),
+    // N13 stands against domain 3 too, and comes after N11.
+    (
+        "do 1 grant 0 page 2 ro 5\n\
+do 3 map h 1 0 rw\n\
+do 2 map h 1 0 rw\n",
+        "12 1 ok\n13 3 N11 -1\n14 2 N13 -1\n",
+    ),
+    // Four tries of a map are missed.
+    (
+        "do 1 grant 0 page 2 rw 5\n\
+begin 2 map h 1 0 ro\n\
+tick 2 2\n\
+do 1 demote 0\n\
+tick 2 3\n\
+do 1 promote 0\n\
+tick 2 3\n\
+do 1 demote 0\n\
+tick 2 3\n\
+do 1 promote 0\n\
+tick 2 2\n\
+show 1 0\n",
+        "12 1 ok\n15 1 ok\n17 1 ok\n19 1 ok\n21 1 ok\n13 2 N18 -12\n\
+23 show 1 0 page 2 rw frame=5 gen=5 reads=0 writes=0 status=0000\n",
+    ),
+    // Three are, and the fourth is taken.
+    (
+        "do 1 grant 0 page 2 rw 5\n\
+begin 2 map h 1 0 ro\n\
+tick 2 2\n\
+do 1 demote 0\n\
+tick 2 3\n\
+do 1 promote 0\n\
+tick 2 3\n\
+do 1 demote 0\n\
+tick 2 3\n\
+tick 2 2\n\
+show 1 0\n",
+        "12 1 ok\n15 1 ok\n17 1 ok\n19 1 ok\n13 2 ok\n\
+22 show 1 0 page 2 ro frame=5 gen=4 reads=1 writes=0 status=0008\n",
+    ),
+    (
+        "do 1 grant 0 page 2 rw 8\n\
+do 2 map h 1 0 ro\n\
+do 2 map h 1 512 ro\n\
+do 2 map h 1 511 ro\n",
+        "12 1 ok\n13 2 N16 -9\n14 2 N9 -3\n15 2 N10 -1\n",
+    ),
+    // A demotion leaves the pins that are live, and a second one changes nothing.
+    (
+        "do 1 grant 0 page 2 rw 5\n\
+do 2 map h 1 0 ro\n\
+do 1 demote 0\n\
+do 1 demote 0\n\
+do 2 load h 0 1\n\
+do 2 map k 1 0 rw\n\
+show 1 0\n",
+        "12 1 ok\n13 2 ok\n14 1 ok\n15 1 ok\n16 2 ok 00\n17 2 N13 -1\n\
+18 show 1 0 page 2 ro frame=5 gen=2 reads=1 writes=0 status=0008\n",
+    ),
+];
+
+#[test]
+fn plays_step_by_step(rt: HostRuntime) -> Result<(), Fail> {
+    for (body, want) in ROWS {
+        let script = format!(in rt.alloc(); "{EIGHT_TRIPLES}{THREE_DOMAINS}{body}")?;
+        let (text, outcome) = played(rt.alloc(), script.as_str())?;
+        assert_eq!(rt; outcome, Ok(()), "{body}");
+        assert_eq!(rt; text.as_slice(), want.as_bytes(), "{body}");
+    }
+    Ok(())
+}
+
+// An entry at the last generation but one is published once, and is worn then.
+#[test]
+fn plays_worn_entries(rt: HostRuntime) -> Result<(), Fail> {
+    let body = "do 1 grant 0 page 2 rw 5\n\
+do 1 demote 0\n\
+do 1 revoke 0\n\
+do 1 grant 0 page 2 rw 5\n";
+    let script = format!(in rt.alloc(); "{EIGHT_TRIPLES}wear 1048574\n{THREE_DOMAINS}{body}")?;
+    let (text, outcome) = played(rt.alloc(), script.as_str())?;
+    assert_eq!(rt; outcome, Ok(()));
+    assert_eq!(rt;
+        text.as_slice(),
+        b"13 1 ok\n14 1 N22 -1\n15 1 ok\n16 1 N22 -1\n".as_slice()
+    );
+    Ok(())
+}
+
+// As many read pins on one entry as it can have.
+#[test]
+fn plays_as_many_pins_as_there_can_be(rt: HostRuntime) -> Result<(), Fail> {
+    let mut script = Vec::from_slice(rt.alloc(), EIGHT_TRIPLES.as_bytes())?;
+    script.extend_from_slice(THREE_DOMAINS.as_bytes())?;
+    script.extend_from_slice(b"do 1 grant 0 page 2 rw 5\n")?;
+    let mut want = Vec::from_slice(rt.alloc(), b"12 1 ok\n")?;
+    for line in 13..13 + 4095 {
+        script.extend_from_slice(b"do 2 map h 1 0 ro\n")?;
+        let text = format!(in rt.alloc(); "{line} 2 ok\n")?;
+        want.extend_from_slice(text.as_bytes())?;
+    }
+    script.extend_from_slice(
+        b"do 2 map h 1 0 ro\nshow 1 0\ndo 2 map h 1 0 rw\nshow 1 0\ndo 1 demote 0\n",
+    )?;
+    want.extend_from_slice(
+        b"4108 2 N17 -1\n\
+4109 show 1 0 page 2 rw frame=5 gen=1 reads=4095 writes=0 status=0008\n\
+4110 2 ok\n\
+4111 show 1 0 page 2 rw frame=5 gen=1 reads=4095 writes=1 status=0018\n\
+4112 1 N19 -1\n",
+    )?;
+    let mut writer = Vec::new(rt.alloc());
+    let outcome = play(rt.alloc(), &mut script.as_slice(), &mut writer, false);
+    assert_eq!(rt; outcome, Ok(()));
+    assert_eq!(rt; writer.as_slice(), want.as_slice());
     Ok(())
 }
 
@@ -248,20 +419,37 @@ fn a_writer_that_fails(rt: HostRuntime) -> Result<(), Fail> {
     Ok(())
 }
 
-// For runs in which one allocation fails: the answer is that memory was refused and what went out
-// is a beginning, or all of it.
-#[test]
-fn memory_that_is_refused(rt: HostRuntime) -> Result<(), Fail> {
+// A run in which one allocation may fail: then memory was refused, and what went out is a
+// beginning of the text.
+fn refused_at_most_once(
+    rt: &impl Abort,
+    alloc: Global,
+    script: &[u8],
+    text: &[u8],
+) -> Result<(), Fail> {
+    let mut reader = script;
     let mut writer = FailingWriter {
-        taken: Vec::with_capacity(rt.alloc(), 4096)?,
+        taken: Vec::with_capacity(alloc, 4096)?,
         left: 4096,
     };
-    match play(rt.alloc(), &mut FIRST.as_bytes(), &mut writer, false) {
-        Ok(()) => assert_eq!(rt; writer.taken.as_slice(), FIRST_TEXT.as_bytes()),
+    match play(alloc, &mut reader, &mut writer, false) {
+        Ok(()) => assert_eq!(rt; writer.taken.as_slice(), text),
         Err(fault) => {
             assert_eq!(rt; fault, Fault::Memory);
-            assert!(rt; FIRST_TEXT.as_bytes().starts_with(writer.taken.as_slice()));
+            assert!(rt; text.starts_with(writer.taken.as_slice()));
         }
     }
     Ok(())
+}
+
+#[test]
+fn memory_that_is_refused(rt: HostRuntime) -> Result<(), Fail> {
+    refused_at_most_once(&rt, rt.alloc(), FIRST.as_bytes(), FIRST_TEXT.as_bytes())?;
+    let script = format!(in rt.alloc(); "{EIGHT_TRIPLES}{THREE_DOMAINS}{STEPS}")?;
+    refused_at_most_once(
+        &rt,
+        rt.alloc(),
+        script.as_str().as_bytes(),
+        STEPS_TEXT.as_bytes(),
+    )
 }

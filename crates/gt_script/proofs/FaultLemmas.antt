@@ -21,6 +21,7 @@ use Rattle.gt_script.specs.declared.faults.FaultKind.TheVariants.{Limit, Utf8, S
 use Rattle.gt_script.specs.declared.faults.Fault.{Fault}
 use Rattle.gt_script.proofs.LawLemmas.{with_lines-Extends, faultless-none}
 use Rattle.gt_script.proofs.TypeLemmas.{Grown-refl}
+use Rattle.gt_script.proofs.WearLemmas.{first_gen-small}
 
 -- the fault is that of the line at this place behind line n
 record FaultAt (n : ℕ) (ls : List (List ℕ)) (c : Contents) (f : Fault) : Type 0 where
@@ -102,11 +103,13 @@ end-script ls c s false false h p q e =
     subst (λ (k : Contents). IsScriptOf ls k) same (record {
       readable = x.readable;
       triples = x.triples c.types (Grown-refl c.types);
+      wear = x.wear;
       domains = x.domains c.types (Grown-refl c.types);
       steps = x.steps;
       distinct = x.types.distinct (λ i j y below past. absurd (omega arith));
       few_types = x.types.few (omega arith);
       faultless = x.faultless faultless-none;
+      generation = first_gen-small 1 ls c.wear x.wear;
       configured = x.configured (λ k y past. absurd (omega arith));
       some_triple = empty-false c.triples p;
       some_domain = empty-false c.domains q;

@@ -1,7 +1,7 @@
 -- What a script's parts are, line by line.
-use Rattle.std.proofs.Common.{◌≡◌, ◌⊎◌, inl, inr, ℕ, ◌+◌, ◌^◌, Bool, true, false, List, [], ◌∷◌, ◌++◌, length, take, Option, Some, None, Result, Ok, Err, IsSome, IsTrue, All, refl, sym, ap, ◌∙◌, subst, arith, cond, append_assoc, get_or, ◌==◌}
+use Rattle.std.proofs.Common.{◌≡◌, ◌⊎◌, inl, inr, ℕ, ◌+◌, ◌^◌, Bool, true, false, not, ◌||◌, List, [], ◌∷◌, ◌++◌, length, take, Option, Some, None, Result, Ok, Err, IsSome, IsTrue, All, refl, sym, ap, ◌∙◌, subst, arith, cond, append_assoc, get_or, ◌==◌}
 use Rattle.std.specs.List.{filter_map, cons_option, slice_get}
-use Rattle.std.specs.Option.{option_map, option_to_list, is_none}
+use Rattle.std.specs.Option.{option_map, option_to_list, is_none, is_some}
 use Rattle.std.proofs.lemmas.Bool.{cases_lt}
 use Rattle.std.proofs.Math.Seq.{take-append_seam, get_or-append_seam}
 use Rattle.std.proofs.lemmas.List.{append-nil, length-append, get_or_append_left, take-append-le}
@@ -19,8 +19,8 @@ use Rattle.gt_script.specs.Fields.{◌>>=◌}
 use Rattle.gt_script.specs.Lines.{line_of}
 use Rattle.gt_script.specs.Types.{with_type}
 use Rattle.gt_script.specs.Contents.{Contents}
-use Rattle.gt_script.specs.Script.{or_config, domain_written, with_triple, with_domain, with_step, with_placed, with_line, with_words, with_lines}
-use Rattle.gt_script.specs.Laws.{said, type_number, triple_in, domain_in, step_on, IsLine}
+use Rattle.gt_script.specs.Script.{is_empty, is_misplaced, or_config, domain_written, with_triple, with_domain, with_step, with_placed, with_line, with_words, with_lines}
+use Rattle.gt_script.specs.Laws.{said, type_number, triple_in, wear_in, domain_in, step_on, IsLine}
 use Rattle.gt_script.specs.declared.numbers.Number.{Number}
 use Rattle.gt_script.specs.declared.calls.Action.{Action}
 use Rattle.gt_script.specs.declared.lines.TripleLine.{TripleLine}
@@ -47,9 +47,9 @@ then-Some : {A : Type 0} (b : Bool) (x y : A) → cond b (Some x) None ≡ Some 
 then-Some true x y e = (refl, cc)
 then-Some false x y e = absurd cc
 
-not-fault : {A E : Type 0} (b : Bool) (e : E) (r : Result A E) (x : A) → cond b (Err e) r ≡ Ok x → r ≡ Ok x
+not-fault : {A E : Type 0} (b : Bool) (e : E) (r : Result A E) (x : A) → cond b (Err e) r ≡ Ok x → (b ≡ false) × (r ≡ Ok x)
 not-fault true e r x h = absurd cc
-not-fault false e r x h = h
+not-fault false e r x h = (refl, h)
 
 none-is : {A : Type 0} (o : Option A) → is_none o ≡ true → o ≡ None
 none-is None h = refl
@@ -84,6 +84,7 @@ taken-push ds d id h = list_any-append (λ (e : DomainConfig). e.id.0 == id.0) d
 record Adds (n : ℕ) (l : Option Line) (c d : Contents) : Type 0 where
   types : Grown c.types d.types
   triples : (types : List (List ℕ)) → Grown d.types types → d.triples ≡ c.triples ++ option_to_list (l >>= triple_in types)
+  wear : option_to_list d.wear ≡ option_to_list c.wear ++ option_to_list (l >>= wear_in)
   domains : (types : List (List ℕ)) → Grown d.types types → d.domains ≡ c.domains ++ option_to_list (l >>= domain_in types)
   steps : d.steps ≡ c.steps ++ option_to_list (l >>= step_on n)
   faultless : AreFaultless c.domains → AreFaultless d.domains
@@ -93,6 +94,7 @@ adds-nothing : (n : ℕ) (c : Contents) → Adds n None c c
 adds-nothing n c = record {
   types = Grown-refl c.types;
   triples = λ types g. sym (append-nil c.triples);
+  wear = sym (append-nil (option_to_list c.wear));
   domains = λ types g. sym (append-nil c.domains);
   steps = sym (append-nil c.steps);
   faultless = λ h. h;
@@ -114,6 +116,7 @@ adds-triple-of n c d t source target s r same =
           let second : type_number types t.target ≡ Some target.1 = g.kept _ _ b.number in
           let said : triple_in types (line.Triple t) ≡ Some (record { source = source.1; target = target.1; perm = t.perm }) = bind-at _ _ _ first ∙ bind-at _ _ _ second in
           ap (λ (o : Option Triple). c.triples ++ option_to_list o) (sym said);
+      wear = sym (append-nil (option_to_list c.wear));
       domains = λ types g. sym (append-nil c.domains);
       steps = sym (append-nil c.steps);
       faultless = λ h. h;
@@ -134,6 +137,7 @@ adds-domain-of n c d l label domain t w fine same =
     subst (λ (x : Contents). Adds n (Some (line.Domain l)) c x) same (record {
       types = a.grown;
       triples = λ types g. sym (append-nil c.triples);
+      wear = sym (append-nil (option_to_list c.wear));
       domains = λ types g.
           let number : type_number types l.type_name ≡ Some label.1 = g.kept _ _ a.number in
           let said : domain_in types (line.Domain l) ≡ Some domain = bind-at _ _ _ number ∙ w in
@@ -157,6 +161,7 @@ adds-step-of n c d number action id small taken same =
     subst (λ (x : Contents). Adds n (Some (line.Body number action)) c x) same (record {
       types = Grown-refl c.types;
       triples = λ types g. sym (append-nil c.triples);
+      wear = sym (append-nil (option_to_list c.wear));
       domains = λ types g. sym (append-nil c.domains);
       steps =
           let said : step_on n (line.Body number action) ≡ Some (record { line = n; dom = record { 0 = id }; action = action }) = bind-at _ _ _ small in
@@ -172,14 +177,42 @@ adds-step n c d number action e =
     let r = then-Some _ _ d p.2 in
     adds-step-of n c d number action p.0 p.1 r.0 r.1
 
-adds-placed : (n : ℕ) (c d : Contents) (l : Line) → with_placed c n l ≡ Ok d → Adds n (Some l) c d
-adds-placed n c d (line.Triple t) e = adds-triple n c d t e
-adds-placed n c d (line.Domain l) e = adds-domain n c d l e
-adds-placed n c d (line.Body number action) e = adds-step n c d number action e
+-- a line in its place that gives the first generation is the first to do so
+
+no-wear : (a b c : Bool) → ((a || b) || c) ≡ false → b ≡ false
+no-wear true b c h = absurd cc
+no-wear false true c h = absurd cc
+no-wear false false c h = refl
+
+none-yet : {A : Type 0} (o : Option A) → is_some o ≡ false → o ≡ None
+none-yet None h = refl
+none-yet (Some x) h = absurd cc
+
+adds-wear : (n : ℕ) (c d : Contents) (first : ℕ) → c.wear ≡ None → record c { wear = Some first } ≡ d → Adds n (Some (line.Wear first)) c d
+adds-wear n c d first fresh same =
+    subst (λ (x : Contents). Adds n (Some (line.Wear first)) c x) same (record {
+      types = Grown-refl c.types;
+      triples = λ types g. sym (append-nil c.triples);
+      wear = ap (λ (o : Option ℕ). option_to_list o ++ first ∷ []) (sym fresh);
+      domains = λ types g. sym (append-nil c.domains);
+      steps = sym (append-nil c.steps);
+      faultless = λ h. h;
+      configured = λ h. h;
+    })
+
+adds-placed : (n : ℕ) (c d : Contents) (l : Line) → is_misplaced c l ≡ false → with_placed c n l ≡ Ok d → Adds n (Some l) c d
+unfolding is_misplaced
+adds-placed n c d (line.Triple t) p e = adds-triple n c d t e
+adds-placed n c d (line.Wear first) p e =
+    let fresh : c.wear ≡ None = none-yet c.wear (no-wear (is_empty c.triples) (is_some c.wear) (not (is_empty c.domains)) p) in
+    let same : record c { wear = Some first } ≡ d = cc in
+    adds-wear n c d first fresh same
+adds-placed n c d (line.Domain l) p e = adds-domain n c d l e
+adds-placed n c d (line.Body number action) p e = adds-step n c d number action e
 
 adds-line : (n : ℕ) (c d : Contents) (l : Line) → with_line c n l ≡ Ok d → Adds n (Some l) c d
 unfolding with_line
-adds-line n c d l e = adds-placed n c d l (not-fault _ _ _ d e)
+adds-line n c d l e = let p = not-fault _ _ _ d e in adds-placed n c d l p.0 p.1
 
 -- a line that adds something without fault is blank or says something
 record Said (n : ℕ) (ws : List (List ℕ)) (c d : Contents) : Type 0 where
@@ -203,6 +236,7 @@ pub record Extends (n : ℕ) (ls : List (List ℕ)) (c d : Contents) : Type 0 wh
   pub readable : All IsLine ls
   pub types : Grown c.types d.types
   pub triples : (types : List (List ℕ)) → Grown d.types types → d.triples ≡ c.triples ++ filter_map (λ l. triple_in types l.1) (said n ls)
+  pub wear : option_to_list d.wear ≡ option_to_list c.wear ++ filter_map (λ l. wear_in l.1) (said n ls)
   pub domains : (types : List (List ℕ)) → Grown d.types types → d.domains ≡ c.domains ++ filter_map (λ l. domain_in types l.1) (said n ls)
   pub steps : d.steps ≡ c.steps ++ filter_map (λ l. step_on l.0 l.1) (said n ls)
   pub faultless : AreFaultless c.domains → AreFaultless d.domains
@@ -212,7 +246,7 @@ cons-list : {X : Type 0} (o : Option X) (xs : List X) → cons_option o xs ≡ o
 cons-list None xs = refl
 cons-list (Some x) xs = refl
 
-filter-cons : {X : Type 0} (g : ℕ → Line → Option X) (n : ℕ) (o : Option Line) (xs : List (ℕ × Line))
+pub filter-cons : {X : Type 0} (g : ℕ → Line → Option X) (n : ℕ) (o : Option Line) (xs : List (ℕ × Line))
     → filter_map (λ l. g l.0 l.1) (cons_option (option_map (λ x. (n, x)) o) xs) ≡ option_to_list (o >>= g n) ++ filter_map (λ l. g l.0 l.1) xs
 filter-cons g n None xs = refl
 filter-cons g n (Some l) xs = cons-list (g n l) _
@@ -228,6 +262,8 @@ extends-cons n l ls c d e a x =
       types = Grown-trans c.types d.types e.types here.types x.types;
       triples = λ types g. joined c.triples d.triples e.triples _ _ (here.triples types (Grown-trans _ _ _ x.types g)) (x.triples types g)
           ∙ ap (λ (ts : List Triple). c.triples ++ ts) (sym (filter-cons (λ _ y. triple_in types y) n (line_of (words l)) (said (n + 1) ls)));
+      wear = joined (option_to_list c.wear) (option_to_list d.wear) (option_to_list e.wear) _ _ here.wear x.wear
+          ∙ ap (λ (gs : List ℕ). option_to_list c.wear ++ gs) (sym (filter-cons (λ _ y. wear_in y) n (line_of (words l)) (said (n + 1) ls)));
       domains = λ types g. joined c.domains d.domains e.domains _ _ (here.domains types (Grown-trans _ _ _ x.types g)) (x.domains types g)
           ∙ ap (λ (ds : List DomainConfig). c.domains ++ ds) (sym (filter-cons (λ _ y. domain_in types y) n (line_of (words l)) (said (n + 1) ls)));
       steps = joined c.steps d.steps e.steps _ _ here.steps x.steps
@@ -249,6 +285,7 @@ with_lines-Extends n [] c e h =
       readable = All-nil IsLine;
       types = Grown-refl c.types;
       triples = λ types g. sym (append-nil c.triples);
+      wear = sym (append-nil (option_to_list c.wear));
       domains = λ types g. sym (append-nil c.domains);
       steps = sym (append-nil c.steps);
       faultless = λ k. k;

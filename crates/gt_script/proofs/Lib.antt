@@ -3,3 +3,4 @@ pub mod FaultLemmas
 pub mod LawLemmas
 pub mod ScriptLemmas
 pub mod TypeLemmas
+pub mod WearLemmas

@@ -2,7 +2,7 @@
 use Rattle.std.specs.Prelude.{ℕ, List, [], ◌∷◌, Option, Some, None, if◌then◌else◌, codes}
 use Rattle.std.specs.Option.{option_map}
 use Rattle.std.specs.Str.{bytes_eq}
-use Rattle.gt_script.specs.Fields.{◌>>=◌, u16_word, u64_word, reference_word, domain_word, mode_word, flags_word, label_word, text_where}
+use Rattle.gt_script.specs.Fields.{◌>>=◌, u16_word, u64_word, reference_word, domain_word, mode_word, flags_word, tick_word, label_word, text_where}
 use Rattle.gt_script.specs.declared.calls.Grant.{Grant}
 use Rattle.gt_script.specs.declared.calls.Grant.TheVariants as grants
 use Rattle.gt_script.specs.declared.calls.Call.{Call}
@@ -87,6 +87,20 @@ revoke_of (gref ∷ []) = do
   Some (calls.Revoke r)
 revoke_of _ = None
 
+-- what stands after `demote`: REF (own)
+unfoldable pub demote_of : List (List ℕ) → Option Call
+demote_of (gref ∷ []) = do
+  r ← reference_word gref
+  Some (calls.Demote r)
+demote_of _ = None
+
+-- what stands after `promote`: REF (own)
+unfoldable pub promote_of : List (List ℕ) → Option Call
+promote_of (gref ∷ []) = do
+  r ← reference_word gref
+  Some (calls.Promote r)
+promote_of _ = None
+
 -- a call word and its arguments (own)
 unfoldable pub call_of : List (List ℕ) → Option Call
 call_of [] = None
@@ -94,8 +108,27 @@ call_of (word ∷ args) = if bytes_eq word (codes "grant") then grant_of args
     else (if bytes_eq word (codes "map") then map_of args
     else (if bytes_eq word (codes "unmap") then unmap_of args
     else (if bytes_eq word (codes "load") then load_of args
-    else (if bytes_eq word (codes "revoke") then revoke_of args else None))))
+    else (if bytes_eq word (codes "revoke") then revoke_of args
+    else (if bytes_eq word (codes "demote") then demote_of args
+    else (if bytes_eq word (codes "promote") then promote_of args else None))))))
+
+-- what stands after `tick` and its domain: N (own)
+unfoldable pub tick_of : List (List ℕ) → Option Action
+tick_of (count ∷ []) = do
+  n ← tick_word count
+  Some (actions.Tick n)
+tick_of _ = None
+
+-- what stands after `show` and its domain: REF (own)
+unfoldable pub show_of : List (List ℕ) → Option Action
+show_of (gref ∷ []) = do
+  r ← reference_word gref
+  Some (actions.Show r)
+show_of _ = None
 
 -- what a body line's first word says together with the words after its domain (own)
 unfoldable pub action_of : List ℕ → List (List ℕ) → Option Action
-action_of word args = if bytes_eq word (codes "do") then option_map actions.Do (call_of args) else None
+action_of word args = if bytes_eq word (codes "do") then option_map actions.Do (call_of args)
+    else (if bytes_eq word (codes "begin") then option_map actions.Begin (call_of args)
+    else (if bytes_eq word (codes "tick") then tick_of args
+    else (if bytes_eq word (codes "show") then show_of args else None)))

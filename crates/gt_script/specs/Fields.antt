@@ -1,10 +1,11 @@
 -- What one word says.
 use Rattle.std.specs.Char.{is_ascii_alphabetic, is_ascii_alphanumeric}
 use Rattle.std.specs.List.{list_all}
-use Rattle.std.specs.Prelude.{◌||◌, ◌&&◌, ◌==◌, nat_le, length, ℕ, ◌^◌, Bool, true, false, List, [], ◌∷◌, Option, Some, None, if◌then◌else◌, codes}
+use Rattle.std.specs.Prelude.{◌||◌, ◌&&◌, ◌==◌, nat_le, length, ℕ, ◌+◌, ◌^◌, Bool, true, false, List, [], ◌∷◌, Option, Some, None, if◌then◌else◌, codes}
 use Rattle.std.specs.Option.{option_map}
 use Rattle.std.specs.Str.{bytes_eq}
 use Rattle.gt_types.specs.Names.{map_read, map_write, unmap, transfer, setup, copy, query}
+use Rattle.gt_types.specs.declared.limits.TheConstants.{LAST_GENERATION}
 use Rattle.gt_types.specs.declared.DomId.{DomId}
 use Rattle.gt_types.specs.declared.GrantRef.{GrantRef}
 use Rattle.gt_types.specs.declared.perms.Perms.{Perms}
@@ -71,6 +72,16 @@ mode_word word = if bytes_eq word (codes "rw") then Some false
 unfoldable pub flags_word : List ℕ → Option ℕ
 flags_word word = if bytes_eq word (codes "rw") then Some 2
     else (if bytes_eq word (codes "ro") then Some 6 else u32_word word)
+
+-- the steps of a tick: 1 to 100,000 (own)
+unfoldable pub tick_word : List ℕ → Option ℕ
+tick_word word = do
+  n ← number_word 100001 word
+  if n == 0 then None else Some n
+
+-- a generation of an entry, of which there is a last (own)
+unfoldable pub generation_word : List ℕ → Option ℕ
+generation_word word = number_word (LAST_GENERATION + 1) word
 
 -- the seven permissions of class `grant`, as XSM FLASK names them
 unfoldable pub permission_word : List ℕ → Option Perms

@@ -1,11 +1,12 @@
 -- What the parts of a script are, said without the order of reading (own).
 use Rattle.std.specs.Prelude.{◌≡◌, ◌≢◌, ◌≤◌, ◌<◌, ◌+◌, ◌^◌, ◌⊎◌, ℕ, List, [], length, take, Option, Some, None, Ok, Err, IsSome, IsTrue, All, AllPairs, position, slice_get}
-use Rattle.std.specs.Option.{option_map}
+use Rattle.std.specs.Option.{option_map, option_to_list}
 use Rattle.std.specs.List.{filter_map, enumerate_from}
 use Rattle.std.specs.Str.{bytes_eq, IsUtf8}
 use Rattle.std.specs.Str.Lines.{lines as lines_in}
 use Rattle.std.specs.Str.Lossy.{utf8_valid_len}
 use Rattle.gt_types.specs.Config.{is_taken, AreFaultless}
+use Rattle.gt_types.specs.declared.limits.TheConstants.{LAST_GENERATION}
 use Rattle.gt_types.specs.declared.TypeId.{TypeId}
 use Rattle.gt_types.specs.declared.rights.Triple.{Triple}
 use Rattle.gt_types.specs.declared.config.DomainConfig.{DomainConfig}
@@ -13,7 +14,7 @@ use Rattle.gt_script.specs.Words.{words}
 use Rattle.gt_script.specs.Numbers.{number_below}
 use Rattle.gt_script.specs.Fields.{◌>>=◌}
 use Rattle.gt_script.specs.Lines.{line_of}
-use Rattle.gt_script.specs.Contents.{Contents, empty}
+use Rattle.gt_script.specs.Contents.{Contents, empty, first_gen}
 use Rattle.gt_script.specs.Script.{domain_written, with_words, with_lines, line_after}
 use Rattle.gt_script.specs.declared.lines.Line.{Line}
 use Rattle.gt_script.specs.declared.lines.Line.TheVariants as line
@@ -38,12 +39,21 @@ triple_in types (line.Triple t) = do
   source ← type_number types t.source
   target ← type_number types t.target
   Some (record { source = source; target = target; perm = t.perm })
+triple_in types (line.Wear first) = None
 triple_in types (line.Domain d) = None
 triple_in types (line.Body id action) = None
+
+-- the first generation of a line, if it gives one (own)
+abbrev pub wear_in : Line → Option ℕ
+wear_in (line.Triple t) = None
+wear_in (line.Wear first) = Some first
+wear_in (line.Domain d) = None
+wear_in (line.Body id action) = None
 
 -- the domain of a line, if it configures one (own)
 abbrev pub domain_in : List (List ℕ) → Line → Option DomainConfig
 domain_in types (line.Triple t) = None
+domain_in types (line.Wear first) = None
 domain_in types (line.Domain d) = do
   label ← type_number types d.type_name
   domain_written d label
@@ -52,6 +62,7 @@ domain_in types (line.Body id action) = None
 -- the step of line n, if it is one of the body (own)
 abbrev pub step_on : ℕ → Line → Option Step
 step_on n (line.Triple t) = None
+step_on n (line.Wear first) = None
 step_on n (line.Domain d) = None
 step_on n (line.Body number action) = do
   id ← number_below (2 ^ 16) number
@@ -61,15 +72,17 @@ step_on n (line.Body number action) = do
 abbrev pub IsLine : List ℕ → Type 0
 IsLine line = (words line ≡ []) ⊎ IsSome (line_of (words line))
 
--- the lines are those of this script: each part holds what the lines say of it, in their order (own)
+-- the lines are those of this script: each part holds what the lines say of it, in their order; so at most one of them is a line `wear` (own)
 pub record IsScriptOf (lines : List (List ℕ)) (c : Contents) : Type 0 where
   pub readable : All IsLine lines
   pub triples : c.triples ≡ filter_map (λ l. triple_in c.types l.1) (said 1 lines)
+  pub wear : option_to_list c.wear ≡ filter_map (λ l. wear_in l.1) (said 1 lines)
   pub domains : c.domains ≡ filter_map (λ l. domain_in c.types l.1) (said 1 lines)
   pub steps : c.steps ≡ filter_map (λ l. step_on l.0 l.1) (said 1 lines)
   pub distinct : AllPairs (λ a b. a ≢ b) c.types
   pub few_types : length c.types ≤ 256
   pub faultless : AreFaultless c.domains
+  pub generation : first_gen c ≤ LAST_GENERATION
   pub configured : All (λ s. IsTrue (is_taken c.domains s.dom)) c.steps
   pub some_triple : 1 ≤ length c.triples
   pub some_domain : 1 ≤ length c.domains

@@ -3,7 +3,7 @@ use Rattle.std.specs.Prelude.{ℕ, List, [], ◌∷◌, Option, Some, None, if�
 use Rattle.std.specs.Option.{option_map}
 use Rattle.std.specs.Str.{bytes_eq}
 use Rattle.gt_script.specs.Numbers.{decimal_number}
-use Rattle.gt_script.specs.Fields.{◌>>=◌, name_word, text_where, permission_word, type_word}
+use Rattle.gt_script.specs.Fields.{◌>>=◌, name_word, text_where, permission_word, generation_word, type_word}
 use Rattle.gt_script.specs.Calls.{action_of}
 use Rattle.gt_script.specs.declared.lines.TripleLine.{TripleLine}
 use Rattle.gt_script.specs.declared.lines.DomainLine.{DomainLine}
@@ -18,6 +18,11 @@ triple_of (source ∷ target ∷ permission ∷ []) = do
   p ← permission_word permission
   Some (record { source = s; target = t; perm = p })
 triple_of _ = None
+
+-- what stands after `wear`: N (own)
+unfoldable pub wear_of : List (List ℕ) → Option ℕ
+wear_of (first ∷ []) = generation_word first
+wear_of _ = None
 
 -- what stands after `domain`: ID USER:ROLE:TYPE FRAMES TABLEFRAMES VERSION (own)
 unfoldable pub domain_of : List (List ℕ) → Option DomainLine
@@ -42,5 +47,6 @@ body_of word (id ∷ args) = do
 abbrev pub line_of : List (List ℕ) → Option Line
 line_of [] = None
 line_of (word ∷ args) = if bytes_eq word (codes "triple") then option_map lines.Triple (triple_of args)
+    else (if bytes_eq word (codes "wear") then option_map lines.Wear (wear_of args)
     else (if bytes_eq word (codes "domain") then option_map lines.Domain (domain_of args)
-    else body_of word args)
+    else body_of word args))

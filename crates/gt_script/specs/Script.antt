@@ -1,5 +1,5 @@
 -- The script that bytes say, line by line, or their first fault (own).
-use Rattle.std.specs.Prelude.{ℕ, ◌+◌, ◌==◌, ◌||◌, not, Bool, List, [], ◌∷◌, ◌++◌, length, Option, Some, None, Result, Ok, Err, nat_lt, take, count_by, is_none, ◌^◌, if◌then◌else◌}
+use Rattle.std.specs.Prelude.{ℕ, ◌+◌, ◌==◌, ◌||◌, not, Bool, List, [], ◌∷◌, ◌++◌, length, Option, Some, None, Result, Ok, Err, nat_lt, take, count_by, is_none, is_some, ◌^◌, if◌then◌else◌}
 use Rattle.std.specs.Str.{is_utf8}
 use Rattle.std.specs.Str.Lossy.{utf8_valid_len}
 use Rattle.std.specs.Str.Lines.{lines as lines_in}
@@ -35,9 +35,10 @@ domain_written d label = do
   version ← number_below (2 ^ 32) d.version
   Some (record { id = record { 0 = id }; label = label; frames = frames; table_frames = tables; version = version })
 
--- triples come first, then domains, then steps (own)
+-- triples come first, then at most one line `wear`, then domains, then steps (own)
 unfoldable pub is_misplaced : Contents → Line → Bool
-is_misplaced c (line.Triple t) = not (is_empty c.domains)
+is_misplaced c (line.Triple t) = is_some c.wear || not (is_empty c.domains)
+is_misplaced c (line.Wear first) = (is_empty c.triples || is_some c.wear) || not (is_empty c.domains)
 is_misplaced c (line.Domain d) = is_empty c.triples || not (is_empty c.steps)
 is_misplaced c (line.Body id action) = is_empty c.domains
 
@@ -71,6 +72,7 @@ with_step c n number action = or_config (do
 -- a script with line n more, which is in its place (own)
 abbrev pub with_placed : Contents → ℕ → Line → Result Contents FaultKind
 with_placed c n (line.Triple t) = with_triple c t
+with_placed c n (line.Wear first) = Ok (record c { wear = Some first })
 with_placed c n (line.Domain d) = with_domain c d
 with_placed c n (line.Body id action) = with_step c n id action
 

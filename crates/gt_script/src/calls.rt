@@ -1,8 +1,8 @@
 //! The calls that a script can ask for.
 ghost use Rattle.std.specs.Prelude.{◌≡◌, map};
-ghost use Rattle.gt_script.specs.Calls.{page_of, sub_of, via_of, granted, grant_of, map_of, unmap_of, load_of, revoke_of, call_of, action_of};
+ghost use Rattle.gt_script.specs.Calls.{page_of, sub_of, via_of, granted, grant_of, map_of, unmap_of, load_of, revoke_of, demote_of, promote_of, call_of, tick_of, show_of, action_of};
 
-use crate::fields::{domain, flags, is, label, mode, reference, u16_of, u64_of};
+use crate::fields::{domain, flags, is, label, mode, reference, tick_count, u16_of, u64_of};
 use crate::texts::Text;
 use gt_types::{DomId, GrantRef};
 
@@ -61,6 +61,14 @@ pub enum Call<'a> {
     Revoke {
         gref: GrantRef,
     },
+    /// `demote REF`
+    Demote {
+        gref: GrantRef,
+    },
+    /// `promote REF`
+    Promote {
+        gref: GrantRef,
+    },
 }
 
 /// What a line of the body asks of its domain.
@@ -68,6 +76,12 @@ pub enum Call<'a> {
 pub enum Action<'a> {
     /// `do ID CALL`: the call from its beginning to its answer.
     Do(Call<'a>),
+    /// `begin ID CALL`: the beginning of the call alone.
+    Begin(Call<'a>),
+    /// `tick ID N`: up to N steps, from 1 to 100,000, of the call that the domain has open.
+    Tick(u32),
+    /// `show ID REF`: a line on the entry with this reference, which changes nothing.
+    Show(GrantRef),
 }
 
 #[tactic(auto, unfolding(crate::specs::Calls::page_of))]
@@ -196,6 +210,30 @@ fn read_revoke<'a>(args: &[&'a [u8]]) -> Option<Call<'a>>
     }
 }
 
+#[tactic(auto, unfolding(crate::specs::Calls::demote_of))]
+fn read_demote<'a>(args: &[&'a [u8]]) -> Option<Call<'a>>
+    ensures { result ≡ demote_of (map (λ word. word.now) args.now) }
+{
+    match args {
+        [gref] => Some(Call::Demote {
+            gref: reference(gref)?,
+        }),
+        _ => None,
+    }
+}
+
+#[tactic(auto, unfolding(crate::specs::Calls::promote_of))]
+fn read_promote<'a>(args: &[&'a [u8]]) -> Option<Call<'a>>
+    ensures { result ≡ promote_of (map (λ word. word.now) args.now) }
+{
+    match args {
+        [gref] => Some(Call::Promote {
+            gref: reference(gref)?,
+        }),
+        _ => None,
+    }
+}
+
 #[tactic(auto, unfolding(crate::specs::Calls::call_of))]
 fn read_call<'a>(words: &[&'a [u8]]) -> Option<Call<'a>>
     ensures { result ≡ call_of (map (λ word. word.now) words.now) }
@@ -211,8 +249,32 @@ fn read_call<'a>(words: &[&'a [u8]]) -> Option<Call<'a>>
         read_load(args)
     } else if is(word, "revoke") {
         read_revoke(args)
+    } else if is(word, "demote") {
+        read_demote(args)
+    } else if is(word, "promote") {
+        read_promote(args)
     } else {
         None
+    }
+}
+
+#[tactic(auto, unfolding(crate::specs::Calls::tick_of))]
+fn read_tick<'a>(args: &[&'a [u8]]) -> Option<Action<'a>>
+    ensures { result ≡ tick_of (map (λ word. word.now) args.now) }
+{
+    match args {
+        [count] => Some(Action::Tick(tick_count(count)?)),
+        _ => None,
+    }
+}
+
+#[tactic(auto, unfolding(crate::specs::Calls::show_of))]
+fn read_show<'a>(args: &[&'a [u8]]) -> Option<Action<'a>>
+    ensures { result ≡ show_of (map (λ word. word.now) args.now) }
+{
+    match args {
+        [gref] => Some(Action::Show(reference(gref)?)),
+        _ => None,
     }
 }
 
@@ -223,6 +285,12 @@ pub fn read_action<'a>(word: &[u8], args: &[&'a [u8]]) -> Option<Action<'a>>
 {
     if is(word, "do") {
         Some(Action::Do(read_call(args)?))
+    } else if is(word, "begin") {
+        Some(Action::Begin(read_call(args)?))
+    } else if is(word, "tick") {
+        read_tick(args)
+    } else if is(word, "show") {
+        read_show(args)
     } else {
         None
     }

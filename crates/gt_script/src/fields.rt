@@ -3,11 +3,14 @@ ghost use Rattle.std.specs.Prelude.{◌≡◌, map};
 ghost use Rattle.std.specs.Option.{option_map};
 ghost use Rattle.std.specs.Str.{bytes_eq};
 ghost use Rattle.std.specs.List.{list_all};
-ghost use Rattle.gt_script.specs.Fields.{u16_word, u32_word, u64_word, reference_word, domain_word, mode_word, flags_word, permission_word, name_byte, label_byte, name_word, label_word, text_where, at_colon, type_word};
+ghost use Rattle.gt_script.specs.Fields.{u16_word, u32_word, u64_word, reference_word, domain_word, mode_word, flags_word, tick_word, generation_word, permission_word, name_byte, label_byte, name_word, label_word, text_where, at_colon, type_word};
 
 use crate::numbers::{Number, decimal};
 use crate::texts::Text;
-use gt_types::{DOMID_SELF, DomId, GrantRef, Perms};
+use gt_types::{DOMID_SELF, DomId, GrantRef, LAST_GENERATION, Perms};
+
+/// The most steps that a tick may ask for; the least is one.
+const MOST_TICKS: u64 = 100_000;
 
 /// A number below 2^16.
 #[tactic(auto, unfolding(crate::specs::Fields::u16_word, crate::specs::Numbers::decimal_number))]
@@ -82,6 +85,28 @@ pub fn flags(word: &[u8]) -> Option<u32>
         b"rw" => Some(2),
         b"ro" => Some(6),
         _ => u32_of(word),
+    }
+}
+
+/// The steps of a tick: 1 to 100,000.
+#[tactic(auto, unfolding(crate::specs::Fields::tick_word, crate::specs::Numbers::decimal_number))]
+pub fn tick_count(word: &[u8]) -> Option<u32>
+    ensures { result ≡ tick_word word.now }
+{
+    match decimal(word)?.below(MOST_TICKS + 1) {
+        Some(n) if n > 0 => Some(n as u32),
+        _ => None,
+    }
+}
+
+/// A generation of an entry: 0 to 1,048,575.
+#[tactic(auto, unfolding(crate::specs::Fields::generation_word, crate::specs::Numbers::decimal_number))]
+pub fn generation(word: &[u8]) -> Option<u32>
+    ensures { result ≡ generation_word word.now }
+{
+    match decimal(word)?.below(u64::from(LAST_GENERATION) + 1) {
+        Some(n) => Some(n as u32),
+        None => None,
     }
 }
 

@@ -1,9 +1,9 @@
 //! What the words of a line say.
 ghost use Rattle.std.specs.Prelude.{◌≡◌, map};
-ghost use Rattle.gt_script.specs.Lines.{triple_of, domain_of, body_of, line_of};
+ghost use Rattle.gt_script.specs.Lines.{triple_of, wear_of, domain_of, body_of, line_of};
 
 use crate::calls::{Action, read_action};
-use crate::fields::{is, label_type, name, permission};
+use crate::fields::{generation, is, label_type, name, permission};
 use crate::numbers::{Number, decimal};
 use crate::texts::Text;
 use gt_types::Perms;
@@ -29,6 +29,8 @@ pub struct DomainLine<'a> {
 #[derive(Debug, Drop)]
 pub enum Line<'a> {
     Triple(TripleLine<'a>),
+    /// `wear N`: the first generation of all entries.
+    Wear(u32),
     Domain(DomainLine<'a>),
     Body { id: Number, action: Action<'a> },
 }
@@ -43,6 +45,16 @@ fn read_triple<'a>(args: &[&'a [u8]]) -> Option<TripleLine<'a>>
             target: name(target)?,
             perm: permission(perm)?,
         }),
+        _ => None,
+    }
+}
+
+#[tactic(auto, unfolding(crate::specs::Lines::wear_of))]
+fn read_wear(args: &[&[u8]]) -> Option<u32>
+    ensures { result ≡ wear_of (map (λ word. word.now) args.now) }
+{
+    match args {
+        [first] => generation(first),
         _ => None,
     }
 }
@@ -83,6 +95,8 @@ pub fn read_line<'a>(words: &[&'a [u8]]) -> Option<Line<'a>>
     let (word, args) = words.split_first()?;
     if is(word, "triple") {
         Some(Line::Triple(read_triple(args)?))
+    } else if is(word, "wear") {
+        Some(Line::Wear(read_wear(args)?))
     } else if is(word, "domain") {
         Some(Line::Domain(read_domain(args)?))
     } else {

@@ -33,6 +33,7 @@ pub struct Step<'a> {
 pub struct Script<'a> {
     types: TypeNames<'a>,
     triples: Vec<Triple>,
+    wear: Option<u32>,
     domains: Vec<DomainConfig>,
     steps: Vec<Step<'a>>,
 }
@@ -45,6 +46,7 @@ impl<'a> Model for Script<'a> {
     ghost view = { λ s. record {
       types = s.types;
       triples = s.triples.items;
+      wear = s.wear;
       domains = s.domains.items;
       steps = s.steps.items;
     } };
@@ -105,7 +107,7 @@ fn domain_written(line: &DomainLine, label: TypeId) -> Option<DomainConfig>
 impl<'a> Script<'a> {
     ghost use Rattle.std.specs.Prelude.{◌≡◌, map, ◌<◌, ◌-◌, ◌^◌};
     ghost use Rattle.gt_script.specs.Words.{words as words_in};
-    ghost use Rattle.gt_script.specs.Contents.{empty};
+    ghost use Rattle.gt_script.specs.Contents.{empty, first_gen};
     ghost use Rattle.gt_script.specs.Script.{with_triple, with_domain, with_step, with_line, with_words, with_lines, completed, is_misplaced};
     ghost use Rattle.gt_script.specs.Outcomes.{Adds, Says};
 
@@ -115,6 +117,7 @@ impl<'a> Script<'a> {
         Script {
             types: TypeNames::new(alloc),
             triples: Vec::new(alloc),
+            wear: None,
             domains: Vec::new(alloc),
             steps: Vec::new(alloc),
         }
@@ -132,6 +135,13 @@ impl<'a> Script<'a> {
         ensures { result.now ≡ self.now.triples }
     {
         self.triples.as_slice()
+    }
+
+    /// The first generation of all entries, 0 to 1,048,575: that of the line `wear`, or 0.
+    pub fn first_gen(&self) -> u32
+        ensures { result ≡ first_gen self.now }
+    {
+        self.wear.unwrap_or(0)
     }
 
     /// The domains of the run, in their order.
@@ -213,14 +223,17 @@ impl<'a> Script<'a> {
         ensures { result ≡ is_misplaced self.now line.now }
     {
         match line {
-            Line::Triple(_) => !self.domains.is_empty(),
+            Line::Triple(_) => self.wear.is_some() || !self.domains.is_empty(),
+            Line::Wear(_) => {
+                self.triples.is_empty() || self.wear.is_some() || !self.domains.is_empty()
+            }
             Line::Domain(_) => self.triples.is_empty() || !self.steps.is_empty(),
             Line::Body { .. } => self.domains.is_empty(),
         }
     }
 
     #[tactic(auto, unfolding(crate::specs::Script::with_line))]
-    fn with_line(self, number: usize, line: Line<'a>) -> Result<Script<'a>, AddError>
+    fn with_line(mut self, number: usize, line: Line<'a>) -> Result<Script<'a>, AddError>
         ensures { Adds result (with_line self.entry number line.entry) }
     {
         if self.is_misplaced(&line) {
@@ -228,6 +241,10 @@ impl<'a> Script<'a> {
         }
         match line {
             Line::Triple(triple) => self.with_triple(triple),
+            Line::Wear(first) => {
+                self.wear = Some(first);
+                Ok(self)
+            }
             Line::Domain(domain) => self.with_domain(domain),
             Line::Body { id, action } => self.with_step(number, id, action),
         }

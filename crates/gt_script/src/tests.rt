@@ -55,6 +55,11 @@ fn and_line(alloc: Global, text: &str, line: &str) -> Result<String, AllocError>
     Ok(out)
 }
 
+/// A head with this line between its triple and its domain.
+fn head_with(alloc: Global, line: &str) -> Result<String, AllocError> {
+    format!(in alloc; "triple a_t a_t copy\n{line}\ndomain 1 u:r:a_t 8 1 1\n")
+}
+
 fn is_h(label: &Text) -> bool {
     label.as_bytes() == b"h".as_slice()
 }
@@ -154,6 +159,82 @@ fn reads_the_steps(rt: HostRuntime) -> Result<(), Fail> {
 }
 
 #[test]
+fn reads_demote_and_promote(rt: HostRuntime) -> Result<(), Fail> {
+    let alloc = rt.alloc();
+    let text = and_line(alloc, HEAD, "do 1 demote 7")?;
+    let text = and_line(alloc, text.as_str(), "do 2 promote 8")?;
+    let script = parse(alloc, text.as_bytes())?;
+    let [demote, promote] = script.steps() else {
+        return Err(Fail::from("two steps"));
+    };
+    assert!(rt;
+        matches!(
+            demote,
+            Step {
+                line: 4,
+                dom: DomId(1),
+                action: Action::Do(Call::Demote { gref: GrantRef(7) })
+            }
+        )
+    );
+    assert!(rt;
+        matches!(
+            promote,
+            Step {
+                line: 5,
+                dom: DomId(2),
+                action: Action::Do(Call::Promote { gref: GrantRef(8) })
+            }
+        )
+    );
+    Ok(())
+}
+
+#[test]
+fn reads_an_interleaving(rt: HostRuntime) -> Result<(), Fail> {
+    let alloc = rt.alloc();
+    let mut text = String::from_str(alloc, HEAD)?;
+    for line in ["begin 2 map h 1 0 ro", "tick 2 3", "show 1 7"] {
+        text = and_line(alloc, text.as_str(), line)?;
+    }
+    let script = parse(alloc, text.as_bytes())?;
+    let [begin, tick, show] = script.steps() else {
+        return Err(Fail::from("three steps"));
+    };
+    assert!(rt;
+        matches!(
+        begin,
+        Step {
+            line: 4,
+            dom: DomId(2),
+            action: Action::Begin(Call::Map { label, dom: DomId(1), gref: GrantRef(0), flags: 6 }),
+        } if is_h(label)
+    )
+    );
+    assert!(rt;
+        matches!(
+            tick,
+            Step {
+                line: 5,
+                dom: DomId(2),
+                action: Action::Tick(3)
+            }
+        )
+    );
+    assert!(rt;
+        matches!(
+            show,
+            Step {
+                line: 6,
+                dom: DomId(1),
+                action: Action::Show(GrantRef(7))
+            }
+        )
+    );
+    Ok(())
+}
+
+#[test]
 fn names_the_first_fault(rt: HostRuntime) -> Result<(), Fail> {
     let alloc = rt.alloc();
     assert_eq!(rt; fault(alloc, b""), on_line(1, SYNTAX));
@@ -197,7 +278,15 @@ fn asks_for_the_parts_in_order(rt: HostRuntime) -> Result<(), Fail> {
         ("# nothing", 2, SYNTAX),
         ("domain 1 u:r:a_t 8 1 1\n", 1, SYNTAX),
         ("do 1 revoke 0\n", 1, SYNTAX),
+        ("tick 1 1\n", 1, SYNTAX),
         ("triple a a copy\ndo 1 revoke 0\n", 2, SYNTAX),
+        ("triple a a copy\nshow 1 0\n", 2, SYNTAX),
+        ("wear 5\n", 1, SYNTAX),
+        ("wear 5\ntriple a a copy\n", 1, SYNTAX),
+        ("triple a a copy\nwear 0\nwear 0\n", 3, SYNTAX),
+        ("triple a a copy\nwear 0\ntriple a a copy\n", 3, SYNTAX),
+        ("triple a a copy\nwear 0\ndo 1 revoke 0\n", 3, SYNTAX),
+        ("triple a a copy\nwear 0\n", 3, CONFIG),
         ("triple a a copy\ndomain 9 u:r:t 65 1 1\n", 2, CONFIG),
         ("triple a a copy\n\n#\n", 4, CONFIG),
         ("policy\n", 1, SYNTAX),
@@ -208,13 +297,15 @@ fn asks_for_the_parts_in_order(rt: HostRuntime) -> Result<(), Fail> {
             "{text}"
         );
     }
-    for line in ["triple a_t a_t copy", "domain 3 u:r:a_t 8 1 1"] {
+    for line in ["triple a_t a_t copy", "wear 1", "domain 3 u:r:a_t 8 1 1"] {
         let text = and_line(alloc, HEAD, "do 1 revoke 0")?;
         let text = and_line(alloc, text.as_str(), line)?;
         assert_eq!(rt; fault(alloc, text.as_bytes()), on_line(5, SYNTAX), "{line}");
     }
-    let text = and_line(alloc, HEAD, "triple a_t a_t copy")?;
-    assert_eq!(rt; fault(alloc, text.as_bytes()), on_line(4, SYNTAX));
+    for line in ["triple a_t a_t copy", "wear 0"] {
+        let text = and_line(alloc, HEAD, line)?;
+        assert_eq!(rt; fault(alloc, text.as_bytes()), on_line(4, SYNTAX), "{line}");
+    }
     assert_eq!(rt; fault(alloc, HEAD.as_bytes()), None);
     Ok(())
 }
@@ -232,6 +323,15 @@ fn reads_the_lines_of_a_body(rt: HostRuntime) -> Result<(), Fail> {
         "do 2 map abcdefghijabcdefghijabcdefghij_9 1 0 ro",
         "do 1 load h 65535 65535",
         "do 1 revoke 0#x",
+        "do 1 demote 0",
+        "do 1 promote 4294967295",
+        "begin 2 map h 1 0 ro",
+        "begin 1 grant 0 page 2 rw 5",
+        "tick 2 1",
+        "tick 2 100000",
+        "tick 2 00000000000000000000100000",
+        "show 1 0",
+        "show 2 4294967295",
         "\tdo\t1  revoke 0 # a comment",
         "do 001 revoke 0000000000000000000000000000000000000000",
         "",
@@ -240,6 +340,35 @@ fn reads_the_lines_of_a_body(rt: HostRuntime) -> Result<(), Fail> {
     ] {
         let text = and_line(alloc, HEAD, line)?;
         assert_eq!(rt; fault(alloc, text.as_bytes()), None, "{line}");
+    }
+    Ok(())
+}
+
+#[test]
+fn reads_the_first_generation(rt: HostRuntime) -> Result<(), Fail> {
+    let alloc = rt.alloc();
+    for (line, first) in [
+        ("wear 0", 0),
+        ("wear 1048574", 1_048_574),
+        ("wear 1048575", 1_048_575),
+        ("  wear\t00000000000000000000000000000007 # worn", 7),
+        ("# wear 7", 0),
+    ] {
+        let text = head_with(alloc, line)?;
+        assert_eq!(rt; parse(alloc, text.as_bytes())?.first_gen(), first, "{line}");
+    }
+    assert_eq!(rt; parse(alloc, FIRST.as_bytes())?.first_gen(), 0);
+    for line in [
+        "wear",
+        "wear 1048576",
+        "wear 18446744073709551616",
+        "wear -1",
+        "wear x",
+        "wear 1 1",
+        "Wear 1",
+    ] {
+        let text = head_with(alloc, line)?;
+        assert_eq!(rt; fault(alloc, text.as_bytes()), on_line(2, SYNTAX), "{line}");
     }
     Ok(())
 }
@@ -261,6 +390,12 @@ fn refuses_what_no_line_says(rt: HostRuntime) -> Result<(), Fail> {
         "do 1 revoke 0x1",
         "do 1 revoke 4294967296",
         "do 1 revoke \u{662}",
+        "do 1 demote",
+        "do 1 demote 4294967296",
+        "do 1 demote 0 ro",
+        "do 1 promote",
+        "do 1 promote -1",
+        "do 1 promote 0 rw",
         "do\u{a0}1 revoke 0",
         "\u{feff}do 1 revoke 0",
         "do\u{b}1 revoke 0",
@@ -280,14 +415,55 @@ fn refuses_what_no_line_says(rt: HostRuntime) -> Result<(), Fail> {
         "do 1 map abcdefghijabcdefghijabcdefghij_99 1 0 rw",
         "do 1 load h 0 65536",
         "DO 1 revoke 0",
-        "begin 1 revoke 0",
+        "begin",
+        "begin 1",
+        "begin 1 unknown 0",
+        "begin x revoke 0",
+        "begin 1 revoke",
+        "begin 99 revoke x",
+        "tick",
+        "tick 1",
+        "tick 1 0",
+        "tick 1 100001",
+        "tick 1 4294967297",
+        "tick 1 18446744073709551617",
+        "tick 1 x",
+        "tick 1 -1",
+        "tick x 1",
+        "tick 1 1 1",
+        "tick 99 0",
+        "tick 1 revoke 0",
+        "show",
+        "show 1",
+        "show 1 4294967296",
+        "show 1 self",
+        "show self 0",
+        "show 1 0 0",
+        "show 99 x",
+        "tell 1 x",
+        "await 1 x",
     ] {
         let text = and_line(alloc, HEAD, line)?;
         assert_eq!(rt; fault(alloc, text.as_bytes()), on_line(4, SYNTAX), "{line}");
     }
-    let text = and_line(alloc, HEAD, "do 9 revoke 0")?;
-    let text = and_line(alloc, text.as_str(), "nonsense")?;
-    assert_eq!(rt; fault(alloc, text.as_bytes()), on_line(4, CONFIG));
+    Ok(())
+}
+
+#[test]
+fn refuses_domains_that_are_not_configured(rt: HostRuntime) -> Result<(), Fail> {
+    let alloc = rt.alloc();
+    for line in [
+        "do 9 revoke 0",
+        "begin 9 revoke 0",
+        "tick 9 1",
+        "show 9 0",
+        "tick 18446744073709551616 100000",
+        "show 65537 0",
+    ] {
+        let text = and_line(alloc, HEAD, line)?;
+        let text = and_line(alloc, text.as_str(), "nonsense")?;
+        assert_eq!(rt; fault(alloc, text.as_bytes()), on_line(4, CONFIG), "{line}");
+    }
     Ok(())
 }
 

@@ -1,4 +1,5 @@
-use Rattle.gt_host.proofs.PlayedLemmas.{Keeps-same, played_nothing, played_run}
+use Rattle.gt_host.proofs.PlayLemmas.{Keeps-same}
+use Rattle.gt_host.proofs.PlayedLemmas.{played_nothing, played_run}
 use Rattle.gt_host.proofs.playing.play_bytes.Goals as goal
 
 pub returns-in-Ok : goal.returns-in-Ok

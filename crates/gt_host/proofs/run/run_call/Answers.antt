@@ -3,7 +3,7 @@ use Rattle.gt_core.specs.Asking.{asked}
 use Rattle.gt_core.specs.History.{Setting}
 use Rattle.gt_core.specs.Standing.{setting_of}
 use Rattle.gt_host.proofs.OpenLemmas.{begins_open, unanswered}
-use Rattle.gt_host.proofs.RunLemmas.{call_busy, call_done, call_ticked, quiet_beginning, same_setting}
+use Rattle.gt_host.proofs.RunLemmas.{call_busy, call_done, call_ticked, same_setting}
 use Rattle.gt_host.proofs.run.run_call.Goals as goal
 
 pub returns-in-Done-clause-calls : goal.returns-in-Done-clause-calls
@@ -21,5 +21,5 @@ unreachable-requires g c =
 
 pub returns-in-Some-clause-calls : goal.returns-in-Some-clause-calls
 returns-in-Some-clause-calls g c = λ h stands.
-    call_ticked _ _ h c.args.dom 71 c.args.request _ _ _ c.in-Some.answer _ (same_setting g.P.Allows.may _ _ _ _ c.begin.ensures.config c.begin.ensures.rights)
-    (quiet_beginning c.args.dom c.args.request c.in_ok-answer.field-0 c.in-Open.is) (c.in_ok-answer.ensures.stands h stands) c.in_ok-answer-in-Open.ensures.ticks c.in-Some.is
+    call_ticked _ _ h c.args.dom 71 c.args.request c.in_ok-answer.field-0 _ _ c.in-Some.answer _ (same_setting g.P.Allows.may _ _ _ _ c.begin.ensures.config c.begin.ensures.rights) c.requires.known
+    c.in-Open.is (c.in_ok-answer.ensures.stands h stands) c.in_ok-answer-in-Open.ensures.ticks c.in-Some.is
