@@ -16,6 +16,7 @@ use Rattle.gt_core.specs.States.{State}
 use Rattle.gt_core.specs.declared.core_state.Begun.{Begun}
 use Rattle.gt_core.specs.declared.core_state.Begun.TheVariants as begun
 use Rattle.gt_core.specs.declared.core_state.Shown.{Shown}
+use Rattle.gt_core.specs.Asking.{asked}
 use Rattle.gt_core.specs.declared.request.Request.{Request}
 use Rattle.gt_core.specs.declared.trace.Answer.{Answer}
 use Rattle.gt_core.specs.declared.trace.Event.{Event}
@@ -244,12 +245,12 @@ begun_open : (s : Setting) (types : List (List ℕ)) (st : Step) (call : Call) (
     → next.labels ≡ kept.labels → ((n : ℕ) → call_in next.calls n ≡ cond (n == st.dom.0) (Some st) (call_in kept.calls n)) → after ≡ before
     → (q : Progress) × BeginLine types st call p q × HasCome s q new next × IsAppended p.text q.text before after
 begun_open s types st call p old new kept next before after come told same known line =
-    let asked : Request = request_of p.named st.dom call in
-    let i : Item = record { actor = st.dom; happened = Began asked; answer = None } in
+    let this : Request = request_of p.named st.dom call in
+    let i : Item = record { actor = st.dom; happened = Began this; answer = None } in
     let calls : ℕ → Option Step = λ n. cond (n == st.dom.0) (Some st) (p.open_steps n) in
-    let now : open_call (i ∷ history_of p) st.dom.0 ≡ Some (record { request = asked; steps = [] }) = own_call i (history_of p) st.dom.0 refl in
+    let now : open_call (i ∷ history_of p) st.dom.0 ≡ Some (record { request = asked this; steps = [] }) = own_call i (history_of p) st.dom.0 refl in
     begun_once s types st call p (Did i) p.named calls [] old new kept next before after come told
-    (ap (λ (text : List ℕ). record { events = p.events ++ Begin st.dom asked ∷ []; trace = p.trace ++ Did i ∷ []; named = p.named; open_steps = calls; text = text }) (sym (append-nil p.text)))
+    (ap (λ (text : List ℕ). record { events = p.events ++ Begin st.dom this ∷ []; trace = p.trace ++ Did i ∷ []; named = p.named; open_steps = calls; text = text }) (sym (append-nil p.text)))
     (subst (λ (l : Labels). AreNamed l p.named) (sym same) come.keeps.names)
     (λ n. known n ∙ ap (λ (o : Option Step). cond (n == st.dom.0) (Some st) o) (come.keeps.calls n))
     (pick_other p.open_steps (Some st) st.dom.0) (ap is_some (pick_own p.open_steps (Some st) st.dom.0) ∙ sym (ap is_some now)) (line ∙ sym (append-nil before))
