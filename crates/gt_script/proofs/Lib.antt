@@ -1,5 +1,6 @@
 pub mod BytesLemmas
 pub mod FaultLemmas
+pub mod HexadecimalLemmas
 pub mod LawLemmas
 pub mod ScriptLemmas
 pub mod TypeLemmas

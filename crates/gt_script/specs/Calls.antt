@@ -3,6 +3,7 @@ use Rattle.std.specs.Prelude.{ℕ, List, [], ◌∷◌, Option, Some, None, if�
 use Rattle.std.specs.Option.{option_map}
 use Rattle.std.specs.Str.{bytes_eq}
 use Rattle.gt_script.specs.Fields.{◌>>=◌, u16_word, u32_word, u64_word, reference_word, domain_word, mode_word, flags_word, tick_word, label_word, text_where}
+use Rattle.gt_script.specs.Hexadecimal.{hex_word}
 use Rattle.gt_script.specs.declared.calls.Grant.{Grant}
 use Rattle.gt_script.specs.declared.calls.Grant.TheVariants as grants
 use Rattle.gt_script.specs.declared.calls.Call.{Call}
@@ -53,6 +54,14 @@ grant_of (gref ∷ kind ∷ args) = do
   e ← granted kind args
   Some (calls.Grant r e)
 grant_of _ = None
+
+-- what stands after `bytes`: REF HEX (own)
+unfoldable pub bytes_of : List (List ℕ) → Option Call
+bytes_of (gref ∷ digits ∷ []) = do
+  r ← reference_word gref
+  h ← text_where hex_word digits
+  Some (calls.GrantBytes r h)
+bytes_of _ = None
 
 -- what stands after `map`: LABEL DOM REF FLAGS (own)
 unfoldable pub map_of : List (List ℕ) → Option Call
@@ -133,6 +142,7 @@ getversion_of _ = None
 unfoldable pub call_of : List (List ℕ) → Option Call
 call_of [] = None
 call_of (word ∷ args) = if bytes_eq word (codes "grant") then grant_of args
+    else (if bytes_eq word (codes "bytes") then bytes_of args
     else (if bytes_eq word (codes "map") then map_of args
     else (if bytes_eq word (codes "unmap") then unmap_of args
     else (if bytes_eq word (codes "load") then load_of args
@@ -142,7 +152,7 @@ call_of (word ∷ args) = if bytes_eq word (codes "grant") then grant_of args
     else (if bytes_eq word (codes "version") then version_of args
     else (if bytes_eq word (codes "setup") then setup_of args
     else (if bytes_eq word (codes "size") then size_of args
-    else (if bytes_eq word (codes "getversion") then getversion_of args else None))))))))))
+    else (if bytes_eq word (codes "getversion") then getversion_of args else None)))))))))))
 
 -- what stands after `tick` and its domain: N (own)
 unfoldable pub tick_of : List (List ℕ) → Option Action

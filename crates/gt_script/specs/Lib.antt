@@ -2,6 +2,7 @@ pub mod Calls
 pub mod Contents
 pub mod Faults
 pub mod Fields
+pub mod Hexadecimal
 pub mod Laws
 pub mod Lines
 pub mod Numbers

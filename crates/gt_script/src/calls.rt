@@ -1,10 +1,11 @@
 //! The calls that a script can ask for.
 ghost use Rattle.std.specs.Prelude.{◌≡◌, map};
-ghost use Rattle.gt_script.specs.Calls.{page_of, sub_of, via_of, granted, grant_of, map_of, unmap_of, load_of, revoke_of, demote_of, promote_of, version_of, setup_of, size_of, getversion_of, call_of, tick_of, show_of, action_of};
+ghost use Rattle.gt_script.specs.Calls.{page_of, sub_of, via_of, granted, grant_of, map_of, unmap_of, load_of, bytes_of, revoke_of, demote_of, promote_of, version_of, setup_of, size_of, getversion_of, call_of, tick_of, show_of, action_of};
 
 use crate::fields::{
     domain, flags, is, label, mode, reference, tick_count, u16_of, u32_of, u64_of,
 };
+use crate::hexadecimal::hex_text;
 use crate::texts::Text;
 use gt_types::{DomId, GrantRef};
 
@@ -41,6 +42,11 @@ pub enum Call<'a> {
     Grant {
         gref: GrantRef,
         entry: Grant,
+    },
+    /// `bytes REF HEX`: the entry that these bytes spell, as `hex_bytes` reads them.
+    GrantBytes {
+        gref: GrantRef,
+        hex: Text<'a>,
     },
     /// `map LABEL DOM REF FLAGS`
     Map {
@@ -175,6 +181,19 @@ fn read_grant<'a>(args: &[&'a [u8]]) -> Option<Call<'a>>
     }
 }
 
+#[tactic(auto, unfolding(crate::specs::Calls::bytes_of))]
+fn read_bytes<'a>(args: &[&'a [u8]]) -> Option<Call<'a>>
+    ensures { result ≡ bytes_of (map (λ word. word.now) args.now) }
+{
+    match args {
+        [gref, digits] => Some(Call::GrantBytes {
+            gref: reference(gref)?,
+            hex: hex_text(digits)?,
+        }),
+        _ => None,
+    }
+}
+
 #[tactic(auto, unfolding(crate::specs::Calls::map_of))]
 fn read_map<'a>(args: &[&'a [u8]]) -> Option<Call<'a>>
     ensures { result ≡ map_of (map (λ word. word.now) args.now) }
@@ -303,6 +322,8 @@ fn read_call<'a>(words: &[&'a [u8]]) -> Option<Call<'a>>
     let (word, args) = words.split_first()?;
     if is(word, "grant") {
         read_grant(args)
+    } else if is(word, "bytes") {
+        read_bytes(args)
     } else if is(word, "map") {
         read_map(args)
     } else if is(word, "unmap") {

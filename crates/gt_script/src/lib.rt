@@ -6,13 +6,14 @@
 //! so that reading a line takes no memory but for the list of its words.
 //!
 //! A line means what its words say, and whether it may stand depends on the lines before it:
-//! `specs/` holds both as functions by patterns on the words. The crate stands on `gt_types`
-//! alone, whose domains and triples a script is made of.
+//! `specs/` holds both as functions by patterns on the words. The crate stands on `gt_types`,
+//! whose domains and triples a script is made of, and on `hex`.
 #![tactic(auto)]
 
 mod calls;
 mod faults;
 mod fields;
+mod hexadecimal;
 mod lines;
 mod numbers;
 mod script;
@@ -24,5 +25,6 @@ mod words;
 
 pub use calls::{Action, Call, Grant};
 pub use faults::{Fault, FaultKind, ScriptError};
+pub use hexadecimal::hex_bytes;
 pub use script::{MOST_BYTES, Script, Step, parse};
 pub use texts::Text;

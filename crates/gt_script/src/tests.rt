@@ -1,5 +1,7 @@
 //! Whole scripts, and their first faults.
-use crate::{Action, Call, Fault, FaultKind, Grant, MOST_BYTES, ScriptError, Step, Text, parse};
+use crate::{
+    Action, Call, Fault, FaultKind, Grant, MOST_BYTES, ScriptError, Step, Text, hex_bytes, parse,
+};
 use gt_types::{DomId, DomainConfig, GrantRef, Perms, Triple, TypeId};
 use std::alloc::{AllocError, Global};
 use std::test::Fail;
@@ -224,6 +226,44 @@ fn reads_the_calls_on_tables(rt: HostRuntime) -> Result<(), Fail> {
 }
 
 #[test]
+fn reads_entry_bytes(rt: HostRuntime) -> Result<(), Fail> {
+    let alloc = rt.alloc();
+    for (digits, bytes) in [
+        ("0100020005000000", [1, 0, 2, 0, 5, 0, 0, 0].as_slice()),
+        ("01fFAb", [1, 255, 171].as_slice()),
+        ("-", [].as_slice()),
+    ] {
+        let line = format!(in alloc; "do 1 bytes 7 {digits}")?;
+        let text = and_line(alloc, HEAD, line.as_str())?;
+        let script = parse(alloc, text.as_bytes())?;
+        let [step] = script.steps() else {
+            return Err(Fail::from("one step"));
+        };
+        let Action::Do(Call::GrantBytes { gref, hex }) = &step.action else {
+            return Err(Fail::from("entry bytes"));
+        };
+        assert_eq!(rt; *gref, GrantRef(7));
+        assert_eq!(rt; hex.as_bytes(), digits.as_bytes());
+        assert_eq!(rt; hex_bytes(alloc, hex)?.as_slice(), bytes);
+    }
+    Ok(())
+}
+
+#[test]
+fn takes_8192_digits(rt: HostRuntime) -> Result<(), Fail> {
+    let alloc = rt.alloc();
+    let mut text = String::from_str(alloc, HEAD)?;
+    text.push_str("do 1 bytes 0 ")?;
+    for _ in 0..4096 {
+        text.push_str("a5")?;
+    }
+    assert_eq!(rt; fault(alloc, text.as_bytes()), None);
+    text.push_str("a5")?;
+    assert_eq!(rt; fault(alloc, text.as_bytes()), on_line(4, SYNTAX));
+    Ok(())
+}
+
+#[test]
 fn reads_an_interleaving(rt: HostRuntime) -> Result<(), Fail> {
     let alloc = rt.alloc();
     let mut text = String::from_str(alloc, HEAD)?;
@@ -358,6 +398,8 @@ fn reads_the_lines_of_a_body(rt: HostRuntime) -> Result<(), Fail> {
         "do 1 revoke 0#x",
         "do 1 demote 0",
         "do 1 promote 4294967295",
+        "do 1 bytes 0 -",
+        "do 1 bytes 4294967295 0aFf",
         "do 1 version 0",
         "do 1 version 3",
         "do 1 version 4294967295",
@@ -441,6 +483,15 @@ fn refuses_what_no_line_says(rt: HostRuntime) -> Result<(), Fail> {
         "do 1 promote",
         "do 1 promote -1",
         "do 1 promote 0 rw",
+        "do 1 bytes",
+        "do 1 bytes 0",
+        "do 1 bytes 0 0",
+        "do 1 bytes 0 0x01",
+        "do 1 bytes 0 0g",
+        "do 1 bytes 0 --",
+        "do 1 bytes 0 -0",
+        "do 1 bytes 0 01 02",
+        "do 1 bytes 4294967296 01",
         "do 1 version",
         "do 1 version 4294967296",
         "do 1 version self",

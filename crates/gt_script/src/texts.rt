@@ -2,7 +2,7 @@ ghost use Rattle.std.specs.Prelude.{◌≡◌};
 
 use std::marker::Model;
 
-/// A name or a label, in the script's own bytes: ASCII. A contract sees the bytes.
+/// A name, a label or hexadecimal text, in the script's own bytes: ASCII. A contract sees the bytes.
 #[derive(Debug, Drop)]
 pub struct Text<'a> {
     bytes: &'a [u8],
