@@ -26,7 +26,7 @@ impl From<Vec<u8>> for Bytes {
 
 impl Bytes {
     /// Gives the bytes back.
-    pub fn into_vec(self) -> Vec<u8>
+    pub(crate) fn into_vec(self) -> Vec<u8>
         ensures { result.items ≡ self }
     {
         self.items

@@ -33,7 +33,7 @@ is_some_from p n (x ∷ xs) = go (p x) (is_some_from p (n + 1) xs)
     go true h = refl
     go false h = h
 
-is_some_position : {X : Type 0} (p : X → Bool) (xs : List X) → is_some (position p xs) ≡ list_any p xs
+pub is_some_position : {X : Type 0} (p : X → Bool) (xs : List X) → is_some (position p xs) ≡ list_any p xs
 is_some_position p xs = ap (λ o. is_some o) (position_from-zero p xs) ∙ is_some_from p 0 xs
 
 some_at : (t a : Option ℕ) → is_some (symbol_at t a) ≡ (is_some t || is_some a)

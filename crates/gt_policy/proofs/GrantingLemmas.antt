@@ -119,7 +119,7 @@ apart names v w i j e f = go (bytes_eq v w) refl
         let number : IsAttribute j ≡ IsType i = same_Some (IsAttribute j) (IsType i) same in absurd (cc)
     go false s = refl
 
-bytes_eq_swap : (v w : List ℕ) → bytes_eq v w ≡ bytes_eq w v
+pub bytes_eq_swap : (v w : List ℕ) → bytes_eq v w ≡ bytes_eq w v
 bytes_eq_swap v w = go (bytes_eq v w) (bytes_eq w v) refl refl
   where
     go : (b c : Bool) → bytes_eq v w ≡ b → bytes_eq w v ≡ c → b ≡ c

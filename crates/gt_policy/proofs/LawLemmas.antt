@@ -11,9 +11,11 @@ use Rattle.gt_policy.specs.Spelling.{names_of}
 use Rattle.gt_policy.specs.Allowing.{Meaning}
 use Rattle.gt_policy.specs.Resolving.{resolved, nothing_given}
 use Rattle.gt_policy.specs.Whole.{Follows, ended, more, wrong, Says, too_long, clean, faulty, meaning_of}
+use Rattle.gt_policy.specs.Undeclared.{IsFirstUndeclared, uses_of}
 use Rattle.gt_policy.specs.Accepting.{IsWritten, IsBroken, SpellsFront, front_end, front_more, meant_by}
 use Rattle.gt_policy.proofs.TextLemmas.{added, all_added, bind_ok, statement_read, statement_spelled, text_read, text_spelled, follows_some}
 use Rattle.gt_policy.proofs.CleanLemmas.{clean_added, added_clean}
+use Rattle.gt_policy.proofs.UndeclaredLemmas.{meant_undeclared, undeclared_meant}
 
 abbrev says : List ℕ → Type 0
 says text = (said : Result Meaning Fault) × Says text said
@@ -75,7 +77,7 @@ broken_follows front ls rest (front_more s others _ behind _ h t) seen names ss 
 pub broken_says : (text : List ℕ) (f : Fault) → IsBroken text f → Says text (Err f)
 broken_says text f b = faulty text f b.short (broken_follows b.before (lexemes_of text) b.rest b.spelled no_names (names_of b.before) [] f (clean_added b.before b.clean) b.fault)
 
-pub says_faulty : (text : List ℕ) (said : Result Meaning Fault) → Says text said → (f : Fault) → said ≡ Err f
+says_faulty : (text : List ℕ) (said : Result Meaning Fault) → Says text said → (f : Fault) → said ≡ Err f
     → ((1048576 < length text) × (at 1 Limit ≡ f)) ⊎ (IsBroken text f ⊎ ((ss : List Statement) × IsWritten text ss × (meant_by ss ≡ Err f)))
 says_faulty text said (too_long _ long) f e = inl (long, cc)
 says_faulty text said (clean _ names ss short h) f e =
@@ -87,3 +89,15 @@ says_faulty text said (faulty _ g short h) f e =
     let r = follows_broken no_names [] (lexemes_of text) (Err g) h f (ap fault same) in
     let c = added_clean r.1 r.0 r.4 in
     inr (inl (record { before = r.1; rest = r.2; short = short; spelled = r.3; clean = c.0; fault = ap (λ q. statement q r.2) c.1 ∙ r.5 }))
+
+first_fault : (text : List ℕ) (f : Fault) → ((1048576 < length text) × (at 1 Limit ≡ f)) ⊎ (IsBroken text f ⊎ ((ss : List Statement) × IsWritten text ss × (meant_by ss ≡ Err f)))
+    → ((1048576 < length text) × (at 1 Limit ≡ f)) ⊎ (IsBroken text f ⊎ ((ss : List Statement) × IsWritten text ss × IsFirstUndeclared ss (uses_of ss) f))
+first_fault text f (inl long) = inl long
+first_fault text f (inr (inl broken)) = inr (inl broken)
+first_fault text f (inr (inr w)) = inr (inr (w.0, w.1, meant_undeclared w.0 f w.1.clean w.2))
+
+pub says_first_fault : (text : List ℕ) (f : Fault) → Says text (Err f) → ((1048576 < length text) × (at 1 Limit ≡ f)) ⊎ (IsBroken text f ⊎ ((ss : List Statement) × IsWritten text ss × IsFirstUndeclared ss (uses_of ss) f))
+says_first_fault text f h = first_fault text f (says_faulty text (Err f) h f refl)
+
+pub undeclared_says : (text : List ℕ) (ss : List Statement) (f : Fault) → IsWritten text ss → IsFirstUndeclared ss (uses_of ss) f → Says text (Err f)
+undeclared_says text ss f w first = subst (λ (r : Result Meaning Fault). Says text r) (undeclared_meant ss f w.clean first) (written_says text ss w)

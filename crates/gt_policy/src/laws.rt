@@ -5,6 +5,7 @@ ghost use Rattle.gt_policy.specs.Allowing.{Meaning, type_named, is_allowed, list
 ghost use Rattle.gt_policy.specs.Grammar.{at, permission_of};
 ghost use Rattle.gt_policy.specs.Granting.{is_granted, lists_word};
 ghost use Rattle.gt_policy.specs.Resolving.{granted, has_grant};
+ghost use Rattle.gt_policy.specs.Undeclared.{AreDeclared, IsFirstUndeclared, uses_of};
 ghost use Rattle.gt_policy.specs.Whole.{Says};
 ghost use Rattle.gt_policy.specs.declared.fault.Fault.{Fault};
 ghost use Rattle.gt_policy.specs.declared.fault.Kind.{Kind};
@@ -24,24 +25,27 @@ pub fn one_meaning()
         Says text one → Says text other → one ≡ other }
 {}
 
-/// A text is a policy exactly where its tokens are spelled by clean statements whose names all stand
-/// for something, and it then means what they mean. Where a name of such statements stands for
-/// nothing, the text says which is the first.
+/// A text is a policy exactly where its tokens are spelled by clean statements whose names are all
+/// declared, and it then means what they mean.
 pub fn written_texts()
     ensures accepted { (text : List ℕ) (m : Meaning) → Says text (Ok m) →
-        (ss : List Statement) × IsWritten text ss × (meant_by ss ≡ Ok m) }
+        (ss : List Statement) × IsWritten text ss × AreDeclared ss × (meant_by ss ≡ Ok m) }
     ensures written { (text : List ℕ) (ss : List Statement) →
         IsWritten text ss → Says text (meant_by ss) }
+    ensures meant { (text : List ℕ) (ss : List Statement) →
+        IsWritten text ss → AreDeclared ss → (m : Meaning) × (meant_by ss ≡ Ok m) }
 {}
 
 /// The fault of a text is that it is too long, or that of its first statement that is none, or that
-/// of the first name that stands for nothing in a text of clean statements.
+/// of the first name that is not declared in a text of clean statements.
 pub fn first_faults()
     ensures faulty { (text : List ℕ) (f : Fault) → Says text (Err f) →
         ((1048576 < length text) × (at 1 Kind.Limit ≡ f))
         ⊎ (IsBroken text f
-        ⊎ ((ss : List Statement) × IsWritten text ss × (meant_by ss ≡ Err f))) }
+        ⊎ ((ss : List Statement) × IsWritten text ss × IsFirstUndeclared ss (uses_of ss) f)) }
     ensures broken { (text : List ℕ) (f : Fault) → IsBroken text f → Says text (Err f) }
+    ensures undeclared { (text : List ℕ) (ss : List Statement) (f : Fault) →
+        IsWritten text ss → IsFirstUndeclared ss (uses_of ss) f → Says text (Err f) }
 {}
 
 /// A policy allows what the statements of its text grant, by the names that stand in them: some allow

@@ -25,7 +25,7 @@ pub struct Rule {
 
 impl Rule {
     /// Whether the source has the permission on the target.
-    pub fn grants(&self, source: TypeId, target: TypeId, perm: Perms) -> bool
+    pub(crate) fn grants(&self, source: TypeId, target: TypeId, perm: Perms) -> bool
         ensures { result ≡ grants self.now source.0 target.0 perm }
     {
         self.perms.contains(perm)
@@ -34,7 +34,7 @@ impl Rule {
     }
 
     /// The types on which the source has the permission.
-    pub fn targets(&self, source: TypeId, perm: Perms) -> TypeSet
+    pub(crate) fn targets(&self, source: TypeId, perm: Perms) -> TypeSet
         ensures { (t : ℕ) → holds result t ≡ grants self.now source.0 t perm }
     {
         if !self.perms.contains(perm) || !self.source.contains(source) {
@@ -62,7 +62,7 @@ pub struct Members {
 
 impl Members {
     /// The types that were given each attribute.
-    pub fn new(given: &[Given]) -> Members
+    pub(crate) fn new(given: &[Given]) -> Members
         ensures { (a n : ℕ) → has result a n ≡ was_given given.now a n }
     {
         let mut sets = [TypeSet::empty(); 256];
@@ -131,7 +131,7 @@ impl Members {
     }
 
     /// The allow statements, with their sets as sets of types.
-    pub fn rules(&self, alloc: Global, drafts: &[DraftRule]) -> Result<Vec<Rule>, AllocError>
+    pub(crate) fn rules(&self, alloc: Global, drafts: &[DraftRule]) -> Result<Vec<Rule>, AllocError>
         ensures { IfOk result (λ rules. (s t : ℕ) (perm : Perms) →
             some_grants rules.items s t perm
             ≡ list_any (λ draft. is_granted_by (has self.now) s t perm draft) drafts.now) }

@@ -1,38 +1,31 @@
-use crate::parse::FaultKind;
+//! Worked texts, limits, and every beginning of a text.
+use crate::parse::{FaultKind, MAX_BYTES};
 use crate::policy::Policy;
 use crate::types::TypeSet;
 use gt_types::{Allows, Perms, TypeId};
 use std::alloc::{AllocError, Global};
 use std::test::Fail;
 
-fn shown(alloc: Global, text: &str) -> Result<String, AllocError> {
-    match Policy::parse(alloc, text) {
-        Ok(policy) => triples(alloc, &policy),
-        Err(fault) => fault.to_string(alloc),
-    }
-}
+const PERMS: [(&str, Perms); 7] = [
+    ("map_read", Perms::MAP_READ),
+    ("map_write", Perms::MAP_WRITE),
+    ("unmap", Perms::UNMAP),
+    ("transfer", Perms::TRANSFER),
+    ("setup", Perms::SETUP),
+    ("copy", Perms::COPY),
+    ("query", Perms::QUERY),
+];
 
 fn triples(alloc: Global, policy: &Policy) -> Result<String, AllocError> {
     let mut out = String::new(alloc);
     for s in 0..policy.count() {
+        let source = policy.name(TypeId(s)).unwrap_or("?");
         for t in 0..policy.count() {
-            for perm in [
-                ("map_read", Perms::MAP_READ),
-                ("map_write", Perms::MAP_WRITE),
-                ("unmap", Perms::UNMAP),
-                ("transfer", Perms::TRANSFER),
-                ("setup", Perms::SETUP),
-                ("copy", Perms::COPY),
-                ("query", Perms::QUERY),
-            ] {
-                let (word, perm) = perm;
+            let target = policy.name(TypeId(t)).unwrap_or("?");
+            for (word, perm) in PERMS {
                 if policy.allows(TypeId(s), TypeId(t), perm) {
-                    out.push_str(policy.name(TypeId(s)).unwrap_or("?"))?;
-                    out.push_str(" ")?;
-                    out.push_str(policy.name(TypeId(t)).unwrap_or("?"))?;
-                    out.push_str(" ")?;
-                    out.push_str(word)?;
-                    out.push_str(";")?;
+                    let line = format!(in alloc; "{source} {target} {word};")?;
+                    out.push_str(line.as_str())?;
                 }
             }
         }
@@ -40,86 +33,242 @@ fn triples(alloc: Global, policy: &Policy) -> Result<String, AllocError> {
     Ok(out)
 }
 
+// What a text allows, or its fault.
+fn shown(alloc: Global, text: &str) -> Result<String, AllocError> {
+    match Policy::parse(alloc, text) {
+        Ok(policy) => triples(alloc, &policy),
+        Err(fault) => fault.to_string(alloc),
+    }
+}
+
+// Two types of one attribute, of which one is taken out of a source set.
+const DOMAINS: &str = "attribute domain;\n\
+type dom0_t, domain;\n\
+type domU_t, domain;\n";
+
+const SEEN_BY_DOMU: &str =
+    "domU_t dom0_t map_read;domU_t dom0_t copy;domU_t domU_t map_read;domU_t domU_t copy;";
+
 #[test]
-fn rows(rt: HostRuntime) -> Result<(), Fail> {
-    let cases = [
+fn allows_what_a_set_holds(rt: HostRuntime) -> Result<(), Fail> {
+    let alloc = rt.alloc();
+    for (allow, wanted) in [
         (
-            "attribute s;\ntype a_t, s;\ntype b_t;\ntypeattribute b_t s;\nallow s { self -a_t b_t }:{ grant file } { copy open };\n",
-            "a_t a_t copy;a_t b_t copy;b_t b_t copy;",
+            "allow { domain -dom0_t } domain:grant { map_read copy };\n",
+            SEEN_BY_DOMU,
         ),
         (
-            "attribute domain;\ntype dom0_t, domain;\ntype domU_t, domain;\nallow { domain -dom0_t } domain:grant { map_read copy };\n",
-            "domU_t dom0_t map_read;domU_t dom0_t copy;domU_t domU_t map_read;domU_t domU_t copy;",
+            "allow { -dom0_t domain } domain:grant { map_read copy };\n",
+            SEEN_BY_DOMU,
         ),
+        ("allow { -dom0_t } domain:grant copy;\n", ""),
+        ("allow dom0_t { -domain }:grant copy;\n", ""),
         (
-            "attribute domain;\ntype dom0_t, domain;\ntype domU_t, domain;\nallow { -dom0_t domain } domain:grant { map_read copy };\n",
-            "domU_t dom0_t map_read;domU_t dom0_t copy;domU_t domU_t map_read;domU_t domU_t copy;",
+            "allow dom0_t { domain - domU_t }:grant copy;\n",
+            "dom0_t dom0_t copy;",
         ),
+    ] {
+        let text = format!(in alloc; "{DOMAINS}{allow}")?;
+        assert_eq!(rt; shown(alloc, text.as_str())?.as_str(), wanted, "{allow}");
+    }
+    Ok(())
+}
+
+#[test]
+fn allows_self_beside_a_set(rt: HostRuntime) -> Result<(), Fail> {
+    let alloc = rt.alloc();
+    let text = "attribute s;\n\
+type a_t, s;\n\
+type b_t;\n\
+typeattribute b_t s;\n\
+allow s { self -a_t b_t }:{ grant file } { copy open };\n";
+    let wanted = "a_t a_t copy;a_t b_t copy;b_t b_t copy;";
+    assert_eq!(rt; shown(alloc, text)?.as_str(), wanted);
+    for (text, wanted) in [
+        ("type a; type b; allow a self:grant copy;", "a a copy;"),
+        ("type a; allow a { - a self }:grant copy;", "a a copy;"),
+    ] {
+        assert_eq!(rt; shown(alloc, text)?.as_str(), wanted, "{text}");
+    }
+    Ok(())
+}
+
+#[test]
+fn allows_permissions_of_class_grant(rt: HostRuntime) -> Result<(), Fail> {
+    let alloc = rt.alloc();
+    let every = "a a map_read;a a map_write;a a unmap;a a transfer;a a setup;a a copy;a a query;";
+    for (text, wanted) in [
         ("", ""),
+        ("allow a a:grant *; # all\ntype a;", every),
+        ("type a; allow a a:{ file grant } *;", every),
+        ("type a;allow a a:{grant grant} copy;", "a a copy;"),
+        ("type a;\nallow a a:{ grant file } map_red;\n", ""),
+        ("type a; allow a a:file copy;", ""),
+        ("type a; allow a a:file *;", ""),
+    ] {
+        assert_eq!(rt; shown(alloc, text)?.as_str(), wanted, "{text}");
+    }
+    Ok(())
+}
+
+#[test]
+fn reads_names_and_separators(rt: HostRuntime) -> Result<(), Fail> {
+    let alloc = rt.alloc();
+    for (text, wanted) in [
+        (
+            "type a-b.c_d;\r\nallow a-b.c_d self:grant copy;",
+            "a-b.c_d a-b.c_d copy;",
+        ),
+        ("attribute alias; type a;\ttypeattribute a alias;", ""),
+        ("# \u{e9}\ntype a#x\n;", ""),
+        ("type \u{e9};", "line 1: policy syntax"),
+        ("type a;\x0b", "line 1: policy syntax"),
+        ("\u{feff}type a;", "line 1: policy syntax"),
+        ("type a; 9", "line 1: policy syntax"),
+        ("type a_;\r\rtype _a;", "line 1: policy syntax"),
+    ] {
+        assert_eq!(rt; shown(alloc, text)?.as_str(), wanted, "{text}");
+    }
+    Ok(())
+}
+
+#[test]
+fn names_the_line_of_the_end(rt: HostRuntime) -> Result<(), Fail> {
+    let alloc = rt.alloc();
+    for (text, wanted) in [
+        ("type a_t\n", "line 2: policy syntax"),
+        ("type a_t", "line 2: policy syntax"),
+        ("type a_t\n\n# and no more", "line 4: policy syntax"),
+        ("type a; allow a a:grant { copy } ", "line 2: policy syntax"),
+    ] {
+        assert_eq!(rt; shown(alloc, text)?.as_str(), wanted, "{text}");
+    }
+    Ok(())
+}
+
+#[test]
+fn refuses_what_fits_nowhere(rt: HostRuntime) -> Result<(), Fail> {
+    let alloc = rt.alloc();
+    for text in [
+        "type a;allow a { a { a } }:grant copy;",
+        "type a; allow a {}:grant copy;",
+        "type a;allow a a:grant { * };",
+        "type a;allow self a:grant copy;",
+        "type a;allow a { a - self }:grant copy;",
+        "type a;allow a a:self copy;",
+        "type a;allow a a grant copy;",
+        "type a, ;",
+        "attribute a, b;",
+        "attribute *;",
+        "self;",
+        ";",
+    ] {
+        let fault = shown(alloc, text)?;
+        assert_eq!(rt; fault.as_str(), "line 1: policy syntax", "{text}");
+    }
+    Ok(())
+}
+
+#[test]
+fn names_what_is_outside(rt: HostRuntime) -> Result<(), Fail> {
+    let alloc = rt.alloc();
+    for (text, wanted) in [
+        (
+            "type a_t;\nneverallow a_t a_t:grant copy;\n",
+            "line 2: policy outside neverallow",
+        ),
+        ("bool b true;", "line 1: policy outside bool"),
+        ("type a_t alias b_t;\n", "line 1: policy outside alias"),
+        ("type alias;", "line 1: policy outside alias"),
+        ("type a, alias;", "line 1: policy outside alias"),
+        ("allow ~a_t a_t:grant copy;\n", "line 1: policy outside ~"),
+        ("allow a_t a_t:grant ~copy;\n", "line 1: policy outside ~"),
+        ("type a;allow a a:* copy;", "line 1: policy outside *"),
+        (
+            "type a;allow a { a -* }:grant copy;",
+            "line 1: policy outside *",
+        ),
+        ("type *;", "line 1: policy outside *"),
+        ("typeattribute * a;", "line 1: policy outside *"),
+    ] {
+        assert_eq!(rt; shown(alloc, text)?.as_str(), wanted, "{text}");
+    }
+    Ok(())
+}
+
+#[test]
+fn names_the_first_fault(rt: HostRuntime) -> Result<(), Fail> {
+    let alloc = rt.alloc();
+    for (text, wanted) in [
+        ("type a_t;\ntype a_t;\n", "line 2: policy twice a_t"),
+        ("type a;attribute a;", "line 1: policy twice a"),
         (
             "type a_t;\nallow a_t a_t:grant map_red;\n",
             "line 2: policy permission map_red",
         ),
         (
-            "allow a_t b_t:grant copy;\ntype a_t;\n",
-            "line 1: policy unknown b_t",
-        ),
-        (
-            "type a_t;\nneverallow a_t a_t:grant copy;\n",
-            "line 2: policy outside neverallow",
-        ),
-        ("type a_t\n", "line 2: policy syntax"),
-        ("type a_t;\ntype a_t;\n", "line 2: policy twice a_t"),
-        ("type a_t alias b_t;\n", "line 1: policy outside alias"),
-        ("allow ~a_t a_t:grant copy;\n", "line 1: policy outside ~"),
-        (
             "allow a_t b_t:grant map_red;\n",
             "line 1: policy permission map_red",
         ),
-        ("type a_t;\nallow a_t a_t:{ grant file } map_red;\n", ""),
-        ("type a_t", "line 2: policy syntax"),
-        ("type alias;", "line 1: policy outside alias"),
         (
-            "attribute alias; type a, alias;",
-            "line 1: policy outside alias",
+            "type a;\nallow a a:grant { copy map_red ~ };",
+            "line 2: policy permission map_red",
         ),
-        (
-            "allow a a:grant *; # all\ntype a;",
-            "a a map_read;a a map_write;a a unmap;a a transfer;a a setup;a a copy;a a query;",
-        ),
-        (
-            "type a-b.c_d;\r\nallow a-b.c_d self:grant copy;",
-            "a-b.c_d a-b.c_d copy;",
-        ),
-        (
-            "type a;allow a { - a self }:{grant grant} copy;",
-            "a a copy;",
-        ),
-        (
-            "type a;allow a { a { a } }:grant copy;",
-            "line 1: policy syntax",
-        ),
-        ("type a;allow a a:* copy;", "line 1: policy outside *"),
-        ("type a;allow a a:grant { * };", "line 1: policy syntax"),
-        ("type a;allow self a:grant copy;", "line 1: policy syntax"),
-        ("type a;\x0b", "line 1: policy syntax"),
-        ("type a; 9", "line 1: policy syntax"),
-        ("type a, a;", "line 1: policy unknown a"),
-        ("type a; typeattribute b a;", "line 1: policy unknown b"),
-        ("type a; allow a a:file copy;", ""),
-        ("type a; allow a b:file copy;", "line 1: policy unknown b"),
-        ("type a; allow a a:grant { copy } ", "line 2: policy syntax"),
-        ("type \u{e9};", "line 1: policy syntax"),
-        ("# \u{e9}\ntype a#x\n;", ""),
-        ("type a; allow a {}:grant copy;", "line 1: policy syntax"),
-    ];
-    for (text, wanted) in cases {
-        assert_eq!(rt; shown(rt.alloc(), text)?.as_str(), wanted);
+        ("allow b b:grant copy;\n;", "line 2: policy syntax"),
+    ] {
+        assert_eq!(rt; shown(alloc, text)?.as_str(), wanted, "{text}");
     }
     Ok(())
 }
 
-fn repeated(alloc: Global, head: &str, each: &str, count: u32) -> Result<String, AllocError> {
+#[test]
+fn names_the_first_undeclared(rt: HostRuntime) -> Result<(), Fail> {
+    let alloc = rt.alloc();
+    for (text, wanted) in [
+        (
+            "allow a_t b_t:grant copy;\ntype a_t;\n",
+            "line 1: policy unknown b_t",
+        ),
+        ("type a, a;", "line 1: policy unknown a"),
+        ("type a; typeattribute b a;", "line 1: policy unknown b"),
+        (
+            "attribute s; typeattribute s s;",
+            "line 1: policy unknown s",
+        ),
+        ("type a; allow a b:file copy;", "line 1: policy unknown b"),
+        (
+            "type a;\nallow a { a -b }:grant copy;\ntype d, c;",
+            "line 2: policy unknown b",
+        ),
+    ] {
+        assert_eq!(rt; shown(alloc, text)?.as_str(), wanted, "{text}");
+    }
+    Ok(())
+}
+
+// A beginning is a policy where a statement has just ended, and has one fault elsewhere.
+#[test]
+fn ends_each_beginning_of_a_text(rt: HostRuntime) -> Result<(), Fail> {
+    let alloc = rt.alloc();
+    let whole = format!(in alloc;
+        "{DOMAINS}allow {{ domain -dom0_t }} domain:grant {{ map_read copy }};\n"
+    )?;
+    let mut text = String::new(alloc);
+    for c in whole.as_str().chars() {
+        text.push(c)?;
+        match Policy::parse(alloc, text.as_str()) {
+            Ok(_) => assert!(rt; c == ';' || c == '\n', "{text}"),
+            Err(fault) => {
+                assert!(rt; c != ';' && c != '\n', "{text}");
+                assert!(rt; !matches!(&fault.kind, FaultKind::Memory), "{text}");
+            }
+        }
+    }
+    assert_eq!(rt; shown(alloc, text.as_str())?.as_str(), SEEN_BY_DOMU);
+    Ok(())
+}
+
+fn repeated(alloc: Global, head: &str, each: &str, count: usize) -> Result<String, AllocError> {
     let mut text = String::from_str(alloc, head)?;
     for _ in 0..count {
         text.push_str(each)?;
@@ -128,23 +277,61 @@ fn repeated(alloc: Global, head: &str, each: &str, count: u32) -> Result<String,
 }
 
 #[test]
-fn many_allows(rt: HostRuntime) -> Result<(), Fail> {
-    let most = repeated(rt.alloc(), "type a;", "allow a a:c d;\n", 65536)?;
-    assert_eq!(rt; shown(rt.alloc(), most.as_str())?.as_str(), "");
-    let more = repeated(rt.alloc(), "type a;", "allow a a:c d;\n", 65537)?;
-    assert_eq!(rt;
-        shown(rt.alloc(), more.as_str())?.as_str(),
-        "line 65537: policy limit"
-    );
+fn takes_65536_allow_statements(rt: HostRuntime) -> Result<(), Fail> {
+    let alloc = rt.alloc();
+    let most = repeated(alloc, "type a;", "allow a a:c d;\n", 65536)?;
+    assert_eq!(rt; shown(alloc, most.as_str())?.as_str(), "");
+    let more = repeated(alloc, "type a;", "allow a a:c d;\n", 65537)?;
+    let fault = shown(alloc, more.as_str())?;
+    assert_eq!(rt; fault.as_str(), "line 65537: policy limit");
     Ok(())
 }
 
-const ROW: &str =
-    "attribute domain;\ntype dom0_t, domain;\ntype domU_t, domain;\nallow { domain -dom0_t } domain:grant { map_read copy };\nallow dom0_t self:grant query;\n";
+#[test]
+fn takes_1048576_bytes(rt: HostRuntime) -> Result<(), Fail> {
+    let alloc = rt.alloc();
+    let most = repeated(alloc, "type a;", "\n", MAX_BYTES - 7)?;
+    assert_eq!(rt; most.len(), 1_048_576);
+    assert_eq!(rt; Policy::parse(alloc, most.as_str())?.count(), 1);
+    let more = repeated(alloc, "type a;", "\n", MAX_BYTES - 6)?;
+    let fault = shown(alloc, more.as_str())?;
+    assert_eq!(rt; fault.as_str(), "line 1: policy limit");
+    Ok(())
+}
+
+// So many declarations, a line each.
+fn declarations(alloc: Global, word: &str, count: u32) -> Result<String, AllocError> {
+    let mut text = String::new(alloc);
+    for i in 0..count {
+        let line = format!(in alloc; "{word} n{i};\n")?;
+        text.push_str(line.as_str())?;
+    }
+    Ok(text)
+}
 
 #[test]
-fn types_of_names(rt: HostRuntime) -> Result<(), Fail> {
-    let policy = Policy::parse(rt.alloc(), ROW)?;
+fn takes_256_types_and_256_attributes(rt: HostRuntime) -> Result<(), Fail> {
+    let alloc = rt.alloc();
+    for word in ["type", "attribute"] {
+        let most = declarations(alloc, word, 256)?;
+        assert_eq!(rt; shown(alloc, most.as_str())?.as_str(), "", "{word}");
+        let more = declarations(alloc, word, 257)?;
+        let fault = shown(alloc, more.as_str())?;
+        assert_eq!(rt; fault.as_str(), "line 257: policy limit", "{word}");
+        let twice = format!(in alloc; "{most}{word} n255;")?;
+        let fault = shown(alloc, twice.as_str())?;
+        assert_eq!(rt; fault.as_str(), "line 257: policy twice n255", "{word}");
+    }
+    let most = declarations(alloc, "type", 256)?;
+    let policy = Policy::parse(alloc, most.as_str())?;
+    assert_eq!(rt; policy.count(), 256);
+    assert_eq!(rt; policy.name(TypeId(255)), Some("n255"));
+    Ok(())
+}
+
+#[test]
+fn tells_types_by_number_and_name(rt: HostRuntime) -> Result<(), Fail> {
+    let policy = Policy::parse(rt.alloc(), DOMAINS)?;
     assert_eq!(rt; policy.count(), 2);
     assert_eq!(rt; policy.type_of("domU_t"), Some(TypeId(1)));
     assert_eq!(rt; policy.type_of("domain"), None);
@@ -153,21 +340,25 @@ fn types_of_names(rt: HostRuntime) -> Result<(), Fail> {
     Ok(())
 }
 
+const COPY_AND_QUERY: &str = "attribute domain;\n\
+type dom0_t, domain;\n\
+type domU_t, domain;\n\
+allow { domain -dom0_t } domain:grant { map_read copy };\n\
+allow dom0_t self:grant query;\n";
+
 #[test]
-fn targets(rt: HostRuntime) -> Result<(), Fail> {
-    let policy = Policy::parse(rt.alloc(), ROW)?;
-    let both = TypeSet::empty().with(0).with(1);
-    assert_eq!(rt; policy.targets(TypeId(1), Perms::COPY), both);
-    assert_eq!(rt; policy.targets(TypeId(0), Perms::COPY), TypeSet::empty());
+fn lists_the_targets_of_a_source(rt: HostRuntime) -> Result<(), Fail> {
+    let policy = Policy::parse(rt.alloc(), COPY_AND_QUERY)?;
+    let none = TypeSet::empty();
     assert_eq!(rt;
-        policy.targets(TypeId(0), Perms::QUERY),
-        both.without(TypeSet::empty().with(1))
+        policy.targets(TypeId(1), Perms::COPY),
+        none.with(0).with(1)
     );
-    assert_eq!(rt; policy.targets(TypeId(300), Perms::COPY), TypeSet::empty());
-    assert_eq!(rt;
-        TypeSet::empty().with(200).union(both).contains(TypeId(200)),
-        true
-    );
+    assert_eq!(rt; policy.targets(TypeId(0), Perms::COPY), none);
+    assert_eq!(rt; policy.targets(TypeId(0), Perms::QUERY), none.with(0));
+    assert_eq!(rt; policy.targets(TypeId(300), Perms::COPY), none);
+    assert!(rt; none.with(200).contains(TypeId(200)));
+    assert!(rt; !none.with(200).contains(TypeId(72)));
     Ok(())
 }
 
@@ -175,7 +366,7 @@ fn targets(rt: HostRuntime) -> Result<(), Fail> {
 // same, or the text was refused for want of memory.
 #[test]
 fn memory(rt: HostRuntime) {
-    match Policy::parse(rt.alloc(), ROW) {
+    match Policy::parse(rt.alloc(), COPY_AND_QUERY) {
         Ok(policy) => {
             assert_eq!(rt; policy.count(), 2);
             assert!(rt; policy.allows(TypeId(1), TypeId(0), Perms::MAP_READ));

@@ -13,7 +13,7 @@ pub struct TypeSet {
 
 impl TypeSet {
     /// The set with no type.
-    pub fn empty() -> TypeSet
+    pub(crate) fn empty() -> TypeSet
         ensures { (n : ℕ) → holds result n ≡ false }
     {
         TypeSet { low: 0, high: 0 }
@@ -31,7 +31,7 @@ impl TypeSet {
     }
 
     /// The set and one more type.
-    pub fn with(self, id: u8) -> TypeSet
+    pub(crate) fn with(self, id: u8) -> TypeSet
         ensures { (n : ℕ) → holds result n ≡ (holds self n || (n == id)) }
     {
         if id < 128 {
@@ -48,7 +48,7 @@ impl TypeSet {
     }
 
     /// The types of either set.
-    pub fn union(self, other: TypeSet) -> TypeSet
+    pub(crate) fn union(self, other: TypeSet) -> TypeSet
         ensures { (n : ℕ) → holds result n ≡ (holds self n || holds other n) }
     {
         TypeSet {
@@ -58,7 +58,7 @@ impl TypeSet {
     }
 
     /// The types of the set that are not in the other.
-    pub fn without(self, other: TypeSet) -> TypeSet
+    pub(crate) fn without(self, other: TypeSet) -> TypeSet
         ensures { (n : ℕ) → holds result n ≡ (holds self n && not (holds other n)) }
     {
         TypeSet {

@@ -12,15 +12,16 @@ use Rattle.gt_words.specs.Steps.{on_entry}
 use Rattle.gt_words.specs.Views.{steps_on, steps_on_header, with_step}
 use Rattle.gt_words.specs.declared.view.EntryStep.{EntryStep}
 use Rattle.gt_words.specs.declared.view.View.{View}
+use Rattle.gt_types.specs.declared.limits.TheConstants.{TABLE_ENTRIES}
 
 -- the view after one more step on an entry
 abbrev pub added : ℕ → ℕ → EntryStep → View → View
 added t r m v = with_step (on_entry t r m) v
 
-pub apart : (t r j t' r' j' : ℕ) → r < 2048 → r' < 2048 → j < 3 → j' < 3 → place t r j ≡ place t' r' j' → (t ≡ t') × (r ≡ r')
+pub apart : (t r j t' r' j' : ℕ) → r < TABLE_ENTRIES → r' < TABLE_ENTRIES → j < 3 → j' < 3 → place t r j ≡ place t' r' j' → (t ≡ t') × (r ≡ r')
 apart t r j t' r' j' a b c d e = (omega arith, omega arith)
 
-pub inside : (n t r j : ℕ) → t < n → r < 2048 → j < 3 → place t r j < n * 6145
+pub inside : (n t r j : ℕ) → t < n → r < TABLE_ENTRIES → j < 3 → place t r j < n * 16392
 inside n t r j a b c = omega arith
 
 pub steps_on-added : (t r : ℕ) (m : EntryStep) (v : View) → steps_on t r (added t r m v) ≡ m ∷ steps_on t r v
@@ -43,10 +44,10 @@ module _ {S : Type 0} (s : State S View) (id : ℕ) (v : View) (t r : ℕ) (m : 
 
 module _ {S : Type 0} (k : Layout) (s : State S View) (id : ℕ) (v : View) (t r : ℕ) (m : EntryStep) (shown : Shows k s) (at : get_elem? s.views id ≡ some v) where
   -- the words of another entry stay
-  stays : (j y t' r' j' : ℕ) → r < 2048 → r' < 2048 → j < 3 → j' < 3 → (t ≡ t' → r ≡ r' → ⊥) → get_or (set s.words (place t r j) y) (place t' r' j') 0 ≡ get_or s.words (place t' r' j') 0
+  stays : (j y t' r' j' : ℕ) → r < TABLE_ENTRIES → r' < TABLE_ENTRIES → j < 3 → j' < 3 → (t ≡ t' → r ≡ r' → ⊥) → get_or (set s.words (place t r j) y) (place t' r' j') 0 ≡ get_or s.words (place t' r' j') 0
   stays j y t' r' j' a b c d n = get_or-set_other s.words (place t r j) (place t' r' j') y 0 (λ e. let p = apart t r j t' r' j' a b c d (sym e) in n p.0 p.1)
 
-  pub shows_step : (j y : ℕ) → t < k.domains → r < 2048 → j < 3
+  pub shows_step : (j y : ℕ) → t < k.domains → r < TABLE_ENTRIES → j < 3
       → (let ws : List ℕ = set s.words (place t r j) y in ShowsEntry k.first t (get_or ws (place t r 0) 0) (get_or ws (place t r 1) 0) (get_or ws (place t r 2) 0) (set (map (steps_on t r) s.views) id (m ∷ steps_on t r v)))
       → Shows k (stepped s (place t r j) y id [] (added t r m v) keeps)
   shows_step j y tn rn jn entries = let w : View = added t r m v in let ws : List ℕ = set s.words (place t r j) y in record {
@@ -70,7 +71,7 @@ module _ {S : Type 0} (k : Layout) (s : State S View) (id : ℕ) (v : View) (t r
         (p ∙ (h.0 ∙ ap (header_now k t') (sym q)), subst IsHeader (sym p) h.1);
   }
     where
-      other : (t' r' : ℕ) → t' < k.domains → r' < 2048 → (t ≡ t' → r ≡ r' → ⊥) → let u : List ℕ = set s.words (place t r j) y in
+      other : (t' r' : ℕ) → t' < k.domains → r' < TABLE_ENTRIES → (t ≡ t' → r ≡ r' → ⊥) → let u : List ℕ = set s.words (place t r j) y in
           ShowsEntry k.first t' (get_or u (place t' r' 0) 0) (get_or u (place t' r' 1) 0) (get_or u (place t' r' 2) 0) (map (steps_on t' r') (set s.views id (added t r m v)))
       other t' r' tn' rn' n = let p0 = stays j y t' r' 0 rn rn' jn (omega arith) n in let p1 = stays j y t' r' 1 rn rn' jn (omega arith) n in let p2 = stays j y t' r' 2 rn rn' jn (omega arith) n in
           let h = map_else s id v t r m at t' r' n in let f = shown.entries t' r' tn' rn' in

@@ -11,7 +11,7 @@ use Rattle.gt_entry.specs.Spelling.{word_of}
 use Rattle.gt_types.specs.declared.Dir.{Dir}
 use Rattle.gt_types.specs.declared.Dir.TheVariants.{Read, Write}
 use Rattle.gt_types.specs.declared.config.DomainConfig.{DomainConfig}
-use Rattle.gt_types.specs.declared.limits.TheConstants.{LAST_VERSION, MAX_TABLE_FRAMES}
+use Rattle.gt_types.specs.declared.limits.TheConstants.{LAST_VERSION, MAX_TABLE_FRAMES, TABLE_ENTRIES}
 use Rattle.gt_words.specs.Conditions.{initial}
 use Rattle.gt_words.specs.Places.{dealer_after, dealt_to, new_view}
 use Rattle.gt_words.specs.Rule.{IsHeader, Layout, SawRecord, Shows, ShowsEntry, ShowsRecord, header_now, header_number, header_place, owner_steps, place, total_pins}
@@ -41,21 +41,21 @@ entry_opens g t small word a b w p q = subst (λ (ms : List EntryStep). ShowsRec
   saw = λ i h at. subst (λ (ms : List EntryStep). SawRecord (last_record g []) [] (seen ms)) (sym (alone_at i h at)) tt;
 } p q
 
-initial_here : (k : Layout) (t r j : ℕ) → r < 2048 → j < 3 → initial k (place t r j) ≡ cond (j == 0) (17592186044416 * k.first) 0
-initial_here k t r j rn jn = let p : place t r j % 6145 ≡ 3 * r + (1 + j) = omega arith in let q : (place t r j % 6145 == 0) ≡ false = ne_eqb _ 0 (λ e. omega arith) in
-    ap (λ (c : Bool). cond c (get_or k.headers (place t r j / 6145) 0) (cond (place t r j % 6145 % 3 == 1) (17592186044416 * k.first) 0)) q ∙ ap (λ (c : Bool). cond c (17592186044416 * k.first) 0) (turn j jn (place t r j % 6145) p)
+initial_here : (k : Layout) (t r j : ℕ) → r < TABLE_ENTRIES → j < 3 → initial k (place t r j) ≡ cond (j == 0) (17592186044416 * k.first) 0
+initial_here k t r j rn jn = let p : place t r j % 16392 ≡ 8 * r + (8 + j) = omega arith in let q : (place t r j % 16392 == 0) ≡ false = ne_eqb _ 0 (λ e. omega arith) in
+    ap (λ (c : Bool). cond c (get_or k.headers (place t r j / 16392) 0) (cond (place t r j % 16392 % 8 == 0) (17592186044416 * k.first) 0)) q ∙ ap (λ (c : Bool). cond c (17592186044416 * k.first) 0) (turn j jn (place t r j % 16392) p)
   where
-    turn : (j : ℕ) → j < 3 → (n : ℕ) → n ≡ 3 * r + (1 + j) → (n % 3 == 1) ≡ (j == 0)
-    turn zero h n e = eq-eqb (n % 3) 1 (omega arith)
-    turn (suc zero) h n e = ne_eqb (n % 3) 1 (λ f. omega arith)
-    turn (suc (suc zero)) h n e = ne_eqb (n % 3) 1 (λ f. omega arith)
+    turn : (j : ℕ) → j < 3 → (n : ℕ) → n ≡ 8 * r + (8 + j) → (n % 8 == 0) ≡ (j == 0)
+    turn zero h n e = eq-eqb (n % 8) 0 (omega arith)
+    turn (suc zero) h n e = ne_eqb (n % 8) 0 (λ f. omega arith)
+    turn (suc (suc zero)) h n e = ne_eqb (n % 8) 0 (λ f. omega arith)
     turn (suc (suc (suc m))) h n e = absurd (omega arith)
 
 initial_header : (k : Layout) (t : ℕ) → initial k (header_place t) ≡ get_or k.headers t 0
-initial_header k t = let p : header_place t % 6145 ≡ 0 = omega arith in let q : header_place t / 6145 ≡ t = omega arith in
-    ap (λ (c : Bool). cond c (get_or k.headers (header_place t / 6145) 0) (cond (header_place t % 6145 % 3 == 1) (17592186044416 * k.first) 0)) (eq-eqb _ 0 p) ∙ ap (λ (i : ℕ). get_or k.headers i 0) q
+initial_header k t = let p : header_place t % 16392 ≡ 0 = omega arith in let q : header_place t / 16392 ≡ t = omega arith in
+    ap (λ (c : Bool). cond c (get_or k.headers (header_place t / 16392) 0) (cond (header_place t % 16392 % 8 == 0) (17592186044416 * k.first) 0)) (eq-eqb _ 0 p) ∙ ap (λ (i : ℕ). get_or k.headers i 0) q
 
-pub opens : {S : Type 0} (k : Layout) (ws : List ℕ) → length ws ≡ k.domains * 6145 → 0 < k.domains → k.first < 1048576 → ((t : ℕ) → t < k.domains → IsHeader (get_or k.headers t 0)) → ((i : ℕ) → i < k.domains * 6145 → get_or ws i 0 ≡ initial k i)
+pub opens : {S : Type 0} (k : Layout) (ws : List ℕ) → length ws ≡ k.domains * 16392 → 0 < k.domains → k.first < 1048576 → ((t : ℕ) → t < k.domains → IsHeader (get_or k.headers t 0)) → ((i : ℕ) → i < k.domains * 16392 → get_or ws i 0 ≡ initial k i)
     → Shows {S = S} k (opening ws [] (new_view k.first k.headers 0))
 opens k ws wide some_domain small headers is = record {
   wide = wide;

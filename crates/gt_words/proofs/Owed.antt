@@ -34,10 +34,11 @@ use Rattle.gt_words.specs.declared.view.Record.{Record}
 use Rattle.gt_words.specs.declared.view.View.{View}
 use Rattle.gt_words.specs.declared.view.Change.TheVariants as change
 use Rattle.gt_words.specs.declared.view.Purpose.TheVariants as purpose
+use Rattle.gt_types.specs.declared.limits.TheConstants.{TABLE_ENTRIES}
 
 -- what a step owes, by the word that it is on: what was found there, and the rule of the entry after it
 
-module _ {S : Type 0} (k : Layout) (t r : ℕ) (m : ℕ → EntryStep) (leaves : ℕ → ℕ) (slots id : ℕ) (me : Me S View) (f : ℕ → ℕ) (st : TableStep S) (tn : t < k.domains) (rn : r < 2048) where
+module _ {S : Type 0} (k : Layout) (t r : ℕ) (m : ℕ → EntryStep) (leaves : ℕ → ℕ) (slots id : ℕ) (me : Me S View) (f : ℕ → ℕ) (st : TableStep S) (tn : t < k.domains) (rn : r < TABLE_ENTRIES) where
   abbrev h : List EntryStep
   h = steps_on t r me.0
 
@@ -117,7 +118,7 @@ stored_owes d i f st owed s shown len at fits = let z = owed s shown len at fits
 pub spelled_generation : (x : Record) (word reads writes : ℕ) → IsRecord x → (reads < 4096) × (writes < 4096) → word ≡ word_of x.entry x.generation reads writes → word / 17592186044416 ≡ x.generation
 spelled_generation x word reads writes ok in_range is = ap generation_of is ∙ (spelled_parts x.entry x.generation reads writes ok.0 in_range).generation
 
-module _ {S : Type 0} (k : Layout) (slots id : ℕ) (me : Me S View) (t r : ℕ) (tn : t < k.domains) (rn : r < 2048) where
+module _ {S : Type 0} (k : Layout) (slots id : ℕ) (me : Me S View) (t r : ℕ) (tn : t < k.domains) (rn : r < TABLE_ENTRIES) where
   pub look_owes : Allows (Shows k) slots id me (place t r 0) (λ n. n) (tells (looking k t r) (step slots (place t r 0) 0 0 none) me)
   look_owes = control_owes k t r (λ n. Looked n) (λ n. n) slots id me (λ n. n) (step slots (place t r 0) 0 0 none) tn rn refl (λ n. refl) (λ w a b hs z fits. (entry_looks k.first t hs id _ z.1 w a b z.0, tt))
 

@@ -31,6 +31,7 @@ use Rattle.gt_words.specs.declared.view.Purpose.{Purpose}
 use Rattle.gt_words.specs.declared.view.Record.{Record}
 use Rattle.gt_words.specs.declared.view.View.{View}
 use Rattle.gt_words.specs.declared.view.Change.TheVariants as change
+use Rattle.gt_types.specs.declared.limits.TheConstants.{TABLE_ENTRIES}
 
 -- one more step on an entry
 pub adds_to_entry : (t r : ℕ) (m : EntryStep) (v w : View) → w ≡ with_step (on_entry t r m) v → AddsToEntry t r m v w
@@ -66,7 +67,7 @@ exchange_missed k t r v p old new found w n view step = let b : (found == old) �
   step = subst (λ (q : Bool). TakesStep (Unit {0}) k v (on_entry t r (cond q (taken t r v p old new) (missed p old found))) (place t r 0) found (either q new found)) b step;
 }
 
-module _ (k : Layout) (t r : ℕ) (m : EntryStep) (found left : ℕ) (v w : View) (tn : t < k.domains) (rn : r < 2048) (z : Steps k t r m found left v w) where
+module _ (k : Layout) (t r : ℕ) (m : EntryStep) (found left : ℕ) (v w : View) (tn : t < k.domains) (rn : r < TABLE_ENTRIES) (z : Steps k t r m found left v w) where
   -- the steps of each seat on the entry before it
   abbrev all : List (List EntryStep)
   all = map (steps_on t r) z.step.before.views
@@ -150,7 +151,7 @@ own_steps t r m v own_is = subst (λ (u : ℕ). steps_on u r (with_step (on_entr
 pub keeps_last : (t r : ℕ) (m : EntryStep) (v w : View) → v.position ≡ t → AddsToEntry t r m v w → last_record v.first (m ∷ steps_on v.position r v) ≡ last_record v.first (steps_on v.position r v) → last_of r w ≡ last_of r v
 keeps_last t r m v w own_is z same = ap (last_of r) z.view ∙ (ap (last_record v.first) (own_steps t r m v own_is) ∙ same)
 
-module _ (k : Layout) (r : ℕ) (c : Change) (word : ℕ) (v w : View) (vn : v.position < k.domains) (rn : r < 2048) where
+module _ (k : Layout) (r : ℕ) (c : Change) (word : ℕ) (v w : View) (vn : v.position < k.domains) (rn : r < TABLE_ENTRIES) where
   -- the owner's exchange was taken
   pub changes : (new : ℕ) (y : Record) → Steps k v.position r (Changed c word new y) word new v w → Changes k r c word new y v w
   changes new y z = record {
@@ -170,7 +171,7 @@ module _ (k : Layout) (r : ℕ) (c : Change) (word : ℕ) (v w : View) (vn : v.p
     not_earlier = not_earlier k v.position r (ChangeMissed c word found) found found v w vn rn z;
   }
 
-module _ (k : Layout) (t r : ℕ) (d : Dir) (word : ℕ) (v w : View) (tn : t < k.domains) (rn : r < 2048) (looked : HasLooked t r v word) where
+module _ (k : Layout) (t r : ℕ) (d : Dir) (word : ℕ) (v w : View) (tn : t < k.domains) (rn : r < TABLE_ENTRIES) (looked : HasLooked t r v word) where
   -- a pin was taken
   pub pins_entry : IsValid word → MayPin k t r v d (record_seen (last_seen t r v)) → Steps k t r (Pinned d word (record_seen (last_seen t r v))) word (word + unit_of d) v w → Pins k t r d word v w
   pins_entry valid may z = let m : EntryStep = Pinned d word (record_seen (last_seen t r v)) in let all : List (List EntryStep) = map (steps_on t r) z.step.before.views in let f = (shown_there k t r m word (word + unit_of d) v w tn rn z).record_shown in
@@ -190,7 +191,7 @@ pins_in-spelled Read x word reads writes ok in_range is hs a b = ap (pins_in Rea
 pins_in-spelled Write x word reads writes ok in_range is hs a b = ap (pins_in Write) is ∙ ((spelled_parts x.entry x.generation reads writes ok.0 in_range).writes ∙ b)
 
 -- while a view has a pin of an entry, its control word counts it
-pub counts_pins : (k : Layout) (t r : ℕ) (d : Dir) → t < k.domains → r < 2048 → CountsPins k t r d
+pub counts_pins : (k : Layout) (t r : ℕ) (d : Dir) → t < k.domains → r < TABLE_ENTRIES → CountsPins k t r d
 counts_pins k t r d tn rn s i v shown at = let hs : List (List EntryStep) = map (steps_on t r) s.views in let f = (shown.entries t r tn rn).record_shown in
     let x : Record = last_record k.first (owner_steps t hs) in let xs : List Record = earlier_records k.first (owner_steps t hs) in
     let e = pins_in-spelled d x (get_or s.words (place t r 0) 0) (total_pins Read hs) (total_pins Write hs) (legal_record x xs f.lawful) f.in_range f.spelled hs refl refl in
@@ -201,7 +202,7 @@ lowered Read w a b = omega arith
 lowered Write w a b = omega arith
 
 -- a pin was given back
-pub unpins : (k : Layout) (t r : ℕ) (d : Dir) (g : ℕ) (v : View) (found : ℕ) (w : View) → t < k.domains → r < 2048 → Holds t r d g v → found < 18446744073709551616
+pub unpins : (k : Layout) (t r : ℕ) (d : Dir) (g : ℕ) (v : View) (found : ℕ) (w : View) → t < k.domains → r < TABLE_ENTRIES → Holds t r d g v → found < 18446744073709551616
     → w ≡ with_step (on_entry t r (Unpinned d g)) v → TakesStep (Unit {0}) k v (on_entry t r (Unpinned d g)) (place t r 0) found ((found + (2 ^ 64 - unit_of d)) % 2 ^ 64) → Unpins k t r d g v w
 unpins k t r d g v found w tn rn holds fits view step = let p = holds.0 in let c = count_in d p (pins (steps_on t r v)) holds.1 holds.2 in
     let l = counts_pins k t r d tn rn step.before v.position v step.shown step.mine in let e : get_or step.before.words (place t r 0) 0 ≡ found = step.found_is in
@@ -211,7 +212,7 @@ unpins k t r d g v found w tn rn holds fits view step = let p = holds.0 in let c
       steps = record { adds = adds_to_entry t r (Unpinned d g) v w view; step = subst (λ (n : ℕ). TakesStep (Unit {0}) k v (on_entry t r (Unpinned d g)) (place t r 0) found n) (lowered d found some_pin fits) step };
     }
 
-module _ (k : Layout) (t r : ℕ) (word : ℕ) (v : View) (w : View) (tn : t < k.domains) (rn : r < 2048) (own_is : v.position ≡ t) where
+module _ (k : Layout) (t r : ℕ) (word : ℕ) (v : View) (w : View) (tn : t < k.domains) (rn : r < TABLE_ENTRIES) (own_is : v.position ≡ t) where
   vn : v.position < k.domains
   vn = subst (λ (u : ℕ). u < k.domains) (sym own_is) tn
 

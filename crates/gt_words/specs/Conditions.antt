@@ -20,6 +20,7 @@ use Rattle.gt_words.specs.Events.{shown_entry}
 use Rattle.gt_words.specs.Rule.{Layout, Shows, header_place, id_at, place}
 use Rattle.gt_words.specs.Steps.{TakesStep, half_index, on_entry, on_header, turned}
 use Rattle.gt_words.specs.Views.{HasBody, IsIn, LivePin, invalid_at, last_of, last_seen, own_body, own_header, own_list, pin_count, pins, record_seen, seen, steps_on, steps_on_header, with_step}
+use Rattle.gt_words.specs.declared.board.TheConstants.{DOMAIN_WORDS, ENTRY_WORDS}
 use Rattle.gt_words.specs.declared.view.Change.{Change}
 use Rattle.gt_words.specs.declared.view.EntryStep.{EntryStep}
 use Rattle.gt_words.specs.declared.view.EntryStep.TheVariants.{ChangeMissed, Changed, PinMissed, Pinned, StoredBody, Unpinned}
@@ -62,9 +63,9 @@ pub record IsSameSeat (s s' : SeatOf) : Type 0 where
   pub first : s'.view.first ≡ s.view.first
   pub headers : s'.view.headers ≡ s.view.headers
 
--- one header word and 2,048 entries of three words for each domain
+-- the words of each domain
 abbrev pub IsWide : ℕ → Layout → Type 0
-IsWide words k = (words ≡ k.domains * 6145) × (k.domains ≤ 64)
+IsWide words k = (words ≡ k.domains * DOMAIN_WORDS) × (k.domains ≤ 64)
 
 -- the word has the owner's part and the generation of this record, and some pins
 abbrev pub IsWordOf : Record → ℕ → Type 0
@@ -225,4 +226,4 @@ pub record IsNewSeat (b : Board) (i : ℕ) (s : SeatOf) : Type 0 where
 
 -- the words at the start
 abbrev pub initial : Layout → ℕ → ℕ
-initial k i = cond (i % 6145 == 0) (slice_index k.headers (i / 6145)) (cond (i % 6145 % 3 == 1) (17592186044416 * k.first) 0)
+initial k i = cond (i % DOMAIN_WORDS == 0) (slice_index k.headers (i / DOMAIN_WORDS)) (cond (i % DOMAIN_WORDS % ENTRY_WORDS == 0) (17592186044416 * k.first) 0)

@@ -11,7 +11,8 @@ use Rattle.gt_types.specs.declared.Dir.{Dir}
 use Rattle.gt_types.specs.declared.Dir.TheVariants.{Read, Write}
 use Rattle.gt_types.specs.declared.DomId.{DomId}
 use Rattle.gt_types.specs.declared.config.Config.{Config}
-use Rattle.gt_types.specs.declared.limits.TheConstants.{MAX_TABLE_FRAMES}
+use Rattle.gt_types.specs.declared.limits.TheConstants.{MAX_TABLE_FRAMES, TABLE_ENTRIES}
+use Rattle.gt_words.specs.declared.board.TheConstants.{DOMAIN_WORDS, ENTRY_WORDS}
 use Rattle.gt_words.specs.Views.{IsIn, LivePin, Seen, earlier_records, last_record, pin_count, pins, seen, steps_on, steps_on_header, stored_body, stored_header}
 use Rattle.gt_words.specs.declared.view.EntryStep.{EntryStep}
 use Rattle.gt_words.specs.declared.view.Half.TheVariants.{First, Second}
@@ -48,12 +49,12 @@ position_in xs d = unwrap_or (position (λ x. x.0 == d.0) xs) (length xs)
 abbrev pub id_at : List DomId → ℕ → DomId
 id_at xs t = slice_index_or xs t (record { 0 = 0 })
 
--- where the words stand: each domain has one header word, and three words for each of 2,048 entries (own)
+-- where the words stand: each domain has its header word, and then three words for each of its entries, each at a stride of its own (own)
 abbrev pub place : ℕ → ℕ → ℕ → ℕ
-place t r j = t * 6145 + (3 * r + (1 + j))
+place t r j = t * DOMAIN_WORDS + (ENTRY_WORDS * r + (ENTRY_WORDS + j))
 
 abbrev pub header_place : ℕ → ℕ
-header_place t = t * 6145
+header_place t = t * DOMAIN_WORDS
 
 -- each part of the record is in its range
 abbrev pub IsRecord : Record → Type 0
@@ -136,11 +137,11 @@ header_now k t hs = stored_header (slice_index k.headers t) (slice_index_or hs t
 -- Words and views show a state of the core (own)
 module _ {S : Type 0} where
   pub record Shows (k : Layout) (s : State S View) : Type 0 where
-    pub wide : length s.words ≡ k.domains * 6145
+    pub wide : length s.words ≡ k.domains * DOMAIN_WORDS
     -- the first seat deals the others, and counts them
     pub dealt : ((v : View) → get_elem? s.views 0 ≡ some v → v.dealt ≡ length s.views) × (length s.views ≤ k.domains) × (0 < length s.views)
     -- the seat of each domain stands at its position
     pub seats : (j : ℕ) (v : View) → get_elem? s.views j ≡ some v → (v.position ≡ j) × (v.first ≡ k.first) × (v.headers ≡ k.headers)
-    pub entries : (t r : ℕ) → t < k.domains → r < 2048
+    pub entries : (t r : ℕ) → t < k.domains → r < TABLE_ENTRIES
         → ShowsEntry k.first t (slice_index s.words (place t r 0)) (slice_index s.words (place t r 1)) (slice_index s.words (place t r 2)) (map (steps_on t r) s.views)
     pub headers : (t : ℕ) → t < k.domains → (slice_index s.words (header_place t) ≡ header_now k t (map (steps_on_header t) s.views)) × IsHeader (slice_index s.words (header_place t))

@@ -15,9 +15,15 @@ ghost use Rattle.gt_words.specs.Places.{new_view, IsSamePlace};
 use crate::view::{Change, EntryStep, Half, HeaderStep, Purpose, View};
 use atomic_table::{Play, Seat, Shared, Table, TableRule};
 use gt_entry::{Control, Entry, pin_unit};
-use gt_types::{Config, Dir};
+use gt_types::{Config, Dir, LAST_GENERATION, MAX_PINS, TABLE_ENTRIES};
 use std::alloc::Global;
 use std::marker::{Brand, PhantomData};
+
+/// The words from one entry to the next, of which three are used: so neighbours share no cache line.
+pub(crate) const ENTRY_WORDS: usize = 8;
+
+/// The words of a domain: as many for its header as for an entry, and those of each entry.
+pub(crate) const DOMAIN_WORDS: usize = 16_392;
 
 /// The rule of the table: words and views show a state of the core.
 pub struct Entries;
@@ -68,11 +74,14 @@ pub struct WordTable {
 
 // One load of a word of an entry.
 fn load_word<J: OfKind>(board: &Board, seat: &mut Place, at: usize, gref: usize, word: usize) -> u64
-    requires fits { (seat.old.table_id ≡ board.now.table_id) × IsWide board.now.table_id.words (layout_of board.now.key) × (at < length board.now.key.domains.items) × (gref < 2048) × (word < 3) }
+    requires fits { (seat.old.table_id ≡ board.now.table_id) × IsWide board.now.table_id.words (layout_of board.now.key) × (at < length board.now.key.domains.items) × (gref < TABLE_ENTRIES) × (word < 3) }
     requires allowed { Allows (Shows (layout_of board.now.key)) board.now.table_id.slots seat.old.id seat.old.me (place at gref word) (λ n. n) (tells J.kind (step board.now.table_id.slots (place at gref word) 0 0 none) seat.old.me) }
     ensures { (seat.new.table_id ≡ seat.old.table_id) × (seat.new.id ≡ seat.old.id) × tells J.kind (step board.now.table_id.slots (place at gref word) 0 0 none) seat.old.me result seat.new.me }
 {
-    board.load::<Tells<J>>(seat, at * 6145 + (3 * gref + (1 + word)))
+    board.load::<Tells<J>>(
+        seat,
+        at * DOMAIN_WORDS + (ENTRY_WORDS * gref + (ENTRY_WORDS + word)),
+    )
 }
 
 // One store of a word of an entry.
@@ -84,11 +93,15 @@ fn store_word<J: OfKind>(
     word: usize,
     new: u64,
 )
-    requires fits { (seat.old.table_id ≡ board.now.table_id) × IsWide board.now.table_id.words (layout_of board.now.key) × (at < length board.now.key.domains.items) × (gref < 2048) × (word < 3) }
+    requires fits { (seat.old.table_id ≡ board.now.table_id) × IsWide board.now.table_id.words (layout_of board.now.key) × (at < length board.now.key.domains.items) × (gref < TABLE_ENTRIES) × (word < 3) }
     requires allowed { Allows (Shows (layout_of board.now.key)) board.now.table_id.slots seat.old.id seat.old.me (place at gref word) (λ _. new) (λ _. tells_stored J.kind (step board.now.table_id.slots (place at gref word) new 0 none) seat.old.me) }
     ensures { (seat.new.table_id ≡ seat.old.table_id) × (seat.new.id ≡ seat.old.id) × tells_stored J.kind (step board.now.table_id.slots (place at gref word) new 0 none) seat.old.me seat.new.me }
 {
-    board.store::<TellsStore<J>>(seat, at * 6145 + (3 * gref + (1 + word)), new)
+    board.store::<TellsStore<J>>(
+        seat,
+        at * DOMAIN_WORDS + (ENTRY_WORDS * gref + (ENTRY_WORDS + word)),
+        new,
+    )
 }
 
 // One exchange of the control word of an entry. Only the proof reads `purpose`.
@@ -101,12 +114,17 @@ fn exchange_word<J: OfKind>(
     new: u64,
     purpose: Purpose,
 ) -> u64
-    requires fits { (seat.old.table_id ≡ board.now.table_id) × IsWide board.now.table_id.words (layout_of board.now.key) × (at < length board.now.key.domains.items) × (gref < 2048) }
+    requires fits { (seat.old.table_id ≡ board.now.table_id) × IsWide board.now.table_id.words (layout_of board.now.key) × (at < length board.now.key.domains.items) × (gref < TABLE_ENTRIES) }
     requires allowed { Allows (Shows (layout_of board.now.key)) board.now.table_id.slots seat.old.id seat.old.me (place at gref 0) (λ n. either (n == old) new n) (tells J.kind (step board.now.table_id.slots (place at gref 0) old new none) seat.old.me) }
     ensures { (seat.new.table_id ≡ seat.old.table_id) × (seat.new.id ≡ seat.old.id) × tells J.kind (step board.now.table_id.slots (place at gref 0) old new none) seat.old.me result seat.new.me }
 {
     let _ = purpose;
-    board.compare_exchange::<Tells<J>>(seat, at * 6145 + (3 * gref + 1), old, new)
+    board.compare_exchange::<Tells<J>>(
+        seat,
+        at * DOMAIN_WORDS + (ENTRY_WORDS * gref + ENTRY_WORDS),
+        old,
+        new,
+    )
 }
 
 // One subtraction from the control word of an entry. Only the proof reads `dir` and `generation`.
@@ -119,13 +137,17 @@ fn subtract_from_word<J: OfKind>(
     dir: Dir,
     generation: u64,
 ) -> u64
-    requires fits { (seat.old.table_id ≡ board.now.table_id) × IsWide board.now.table_id.words (layout_of board.now.key) × (at < length board.now.key.domains.items) × (gref < 2048) }
+    requires fits { (seat.old.table_id ≡ board.now.table_id) × IsWide board.now.table_id.words (layout_of board.now.key) × (at < length board.now.key.domains.items) × (gref < TABLE_ENTRIES) }
     requires allowed { Allows (Shows (layout_of board.now.key)) board.now.table_id.slots seat.old.id seat.old.me (place at gref 0) (λ n. (n + (2 ^ 64 - one)) % 2 ^ 64) (tells J.kind (step board.now.table_id.slots (place at gref 0) one 0 none) seat.old.me) }
     ensures { (seat.new.table_id ≡ seat.old.table_id) × (seat.new.id ≡ seat.old.id) × tells J.kind (step board.now.table_id.slots (place at gref 0) one 0 none) seat.old.me result seat.new.me }
 {
     let _ = dir;
     let _ = generation;
-    board.fetch_sub::<Tells<J>>(seat, at * 6145 + (3 * gref + 1), one)
+    board.fetch_sub::<Tells<J>>(
+        seat,
+        at * DOMAIN_WORDS + (ENTRY_WORDS * gref + ENTRY_WORDS),
+        one,
+    )
 }
 
 // One load of a header word.
@@ -134,7 +156,7 @@ fn load_header_word<J: OfKind>(board: &Board, seat: &mut Place, at: usize) -> u6
     requires allowed { Allows (Shows (layout_of board.now.key)) board.now.table_id.slots seat.old.id seat.old.me (header_place at) (λ n. n) (tells J.kind (step board.now.table_id.slots (header_place at) 0 0 none) seat.old.me) }
     ensures { (seat.new.table_id ≡ seat.old.table_id) × (seat.new.id ≡ seat.old.id) × tells J.kind (step board.now.table_id.slots (header_place at) 0 0 none) seat.old.me result seat.new.me }
 {
-    board.load::<Tells<J>>(seat, at * 6145)
+    board.load::<Tells<J>>(seat, at * DOMAIN_WORDS)
 }
 
 // One store of a header word.
@@ -143,7 +165,7 @@ fn store_header_word<J: OfKind>(board: &Board, seat: &mut Place, at: usize, new:
     requires allowed { Allows (Shows (layout_of board.now.key)) board.now.table_id.slots seat.old.id seat.old.me (header_place at) (λ _. new) (λ _. tells_stored J.kind (step board.now.table_id.slots (header_place at) new 0 none) seat.old.me) }
     ensures { (seat.new.table_id ≡ seat.old.table_id) × (seat.new.id ≡ seat.old.id) × tells_stored J.kind (step board.now.table_id.slots (header_place at) new 0 none) seat.old.me seat.new.me }
 {
-    board.store::<TellsStore<J>>(seat, at * 6145, new)
+    board.store::<TellsStore<J>>(seat, at * DOMAIN_WORDS, new)
 }
 
 // Where a body word stands among the words of its entry.
@@ -159,7 +181,7 @@ fn index_of(half: Half) -> usize
 
 impl WordTable {
     /// A look at a domain's header.
-    pub fn load_header(&self, seat: &mut Place, at: usize) -> u64
+    pub(crate) fn load_header(&self, seat: &mut Place, at: usize) -> u64
         requires mine { seat.old.table_id ≡ self.now.table.shared.table_id }
         requires domain { at < length self.now.table.shared.key.domains.items }
         ensures header { IsHeader result }
@@ -171,7 +193,7 @@ impl WordTable {
     }
 
     /// The owner stores its header.
-    pub fn store_header(&self, seat: &mut Place, at: usize, header: u64)
+    pub(crate) fn store_header(&self, seat: &mut Place, at: usize, header: u64)
         requires mine { (seat.old.table_id ≡ self.now.table.shared.table_id) × (seat.old.me.0.position ≡ at) }
         requires domain { at < length self.now.table.shared.key.domains.items }
         requires header { IsHeader header }
@@ -182,9 +204,9 @@ impl WordTable {
     }
 
     /// A look at the control word of an entry.
-    pub fn load_control(&self, seat: &mut Place, at: usize, gref: usize) -> u64
+    pub(crate) fn load_control(&self, seat: &mut Place, at: usize, gref: usize) -> u64
         requires mine { seat.old.table_id ≡ self.now.table.shared.table_id }
-        requires entry { (at < length self.now.table.shared.key.domains.items) × (gref < 2048) }
+        requires entry { (at < length self.now.table.shared.key.domains.items) × (gref < TABLE_ENTRIES) }
         ensures seat { IsSamePlace seat.old seat.new }
         ensures step { Steps (layout_of self.now.table.shared.key) at gref (EntryStep.Looked result) result result seat.old.me.0 seat.new.me.0 }
         ensures not_earlier { IsNotEarlier at gref seat.old.me.0 result }
@@ -195,9 +217,9 @@ impl WordTable {
     }
 
     /// A look at a body word of an entry.
-    pub fn load_body(&self, seat: &mut Place, at: usize, gref: usize, half: Half) -> u64
+    pub(crate) fn load_body(&self, seat: &mut Place, at: usize, gref: usize, half: Half) -> u64
         requires mine { seat.old.table_id ≡ self.now.table.shared.table_id }
-        requires entry { (at < length self.now.table.shared.key.domains.items) × (gref < 2048) }
+        requires entry { (at < length self.now.table.shared.key.domains.items) × (gref < TABLE_ENTRIES) }
         ensures seat { IsSamePlace seat.old seat.new }
         ensures step { BodySteps (layout_of self.now.table.shared.key) at gref half (EntryStep.ReadBody half result) result result seat.old.me.0 seat.new.me.0 }
         ensures pins { KeepsPins seat.old.me.0 seat.new.me.0 }
@@ -206,7 +228,7 @@ impl WordTable {
     }
 
     /// Takes a pin, where the control word still is the one looked at. Answers the word found where it is another.
-    pub fn pin(
+    pub(crate) fn pin(
         &self,
         seat: &mut Place,
         at: usize,
@@ -215,9 +237,9 @@ impl WordTable {
         dir: Dir,
     ) -> Result<(), u64>
         requires mine { seat.old.table_id ≡ self.now.table.shared.table_id }
-        requires entry { (at < length self.now.table.shared.key.domains.items) × (gref < 2048) }
+        requires entry { (at < length self.now.table.shared.key.domains.items) × (gref < TABLE_ENTRIES) }
         requires looked { HasLooked at gref seat.old.me.0 looked × IsValid looked }
-        requires room { pins_in dir looked < 4095 }
+        requires room { pins_in dir looked < MAX_PINS }
         requires permitted { MayPin (layout_of self.now.table.shared.key) at gref seat.old.me.0 dir (record_seen (last_seen at gref seat.old.me.0)) }
         ensures seat { IsSamePlace seat.old seat.new }
         ensures step { MatchResult result
@@ -240,9 +262,9 @@ impl WordTable {
     }
 
     /// Gives a pin back.
-    pub fn unpin(&self, seat: &mut Place, at: usize, gref: usize, dir: Dir, generation: u64)
+    pub(crate) fn unpin(&self, seat: &mut Place, at: usize, gref: usize, dir: Dir, generation: u64)
         requires mine { seat.old.table_id ≡ self.now.table.shared.table_id }
-        requires entry { (at < length self.now.table.shared.key.domains.items) × (gref < 2048) }
+        requires entry { (at < length self.now.table.shared.key.domains.items) × (gref < TABLE_ENTRIES) }
         requires held { Holds at gref dir generation seat.old.me.0 }
         ensures seat { IsSamePlace seat.old seat.new }
         ensures step { Unpins (layout_of self.now.table.shared.key) at gref dir generation seat.old.me.0 seat.new.me.0 }
@@ -252,9 +274,16 @@ impl WordTable {
     }
 
     /// The owner stores a body word of its invalid entry.
-    pub fn store_body(&self, seat: &mut Place, at: usize, gref: usize, half: Half, value: u64)
+    pub(crate) fn store_body(
+        &self,
+        seat: &mut Place,
+        at: usize,
+        gref: usize,
+        half: Half,
+        value: u64,
+    )
         requires mine { (seat.old.table_id ≡ self.now.table.shared.table_id) × (seat.old.me.0.position ≡ at) }
-        requires entry { (at < length self.now.table.shared.key.domains.items) × (gref < 2048) }
+        requires entry { (at < length self.now.table.shared.key.domains.items) × (gref < TABLE_ENTRIES) }
         requires invalid { (last_of gref seat.old.me.0).entry ≡ Entry.Invalid }
         ensures seat { IsSamePlace seat.old seat.new }
         ensures step { StoresBody (layout_of self.now.table.shared.key) gref half value seat.old.me.0 seat.new.me.0 }
@@ -263,7 +292,7 @@ impl WordTable {
     }
 
     /// The owner publishes an entry whose body it has stored. Answers the word found where it is another than the one handed in.
-    pub fn grant(
+    pub(crate) fn grant(
         &self,
         seat: &mut Place,
         at: usize,
@@ -272,8 +301,8 @@ impl WordTable {
         entry: Entry,
     ) -> Result<(), u64>
         requires mine { (seat.old.table_id ≡ self.now.table.shared.table_id) × (seat.old.me.0.position ≡ at) }
-        requires entry { (at < length self.now.table.shared.key.domains.items) × (gref < 2048) }
-        requires invalid { IsIdleOf (last_of gref seat.old.me.0) word × ((last_of gref seat.old.me.0).entry ≡ Entry.Invalid) × ((last_of gref seat.old.me.0).generation < 1048575) }
+        requires entry { (at < length self.now.table.shared.key.domains.items) × (gref < TABLE_ENTRIES) }
+        requires invalid { IsIdleOf (last_of gref seat.old.me.0) word × ((last_of gref seat.old.me.0).entry ≡ Entry.Invalid) × ((last_of gref seat.old.me.0).generation < LAST_GENERATION) }
         requires given { IsEntry entry × (entry ≢ Entry.Invalid) × IsSpelled entry (stored_body Half.First (steps_on at gref seat.old.me.0)) (stored_body Half.Second (steps_on at gref seat.old.me.0)) }
         ensures seat { IsSamePlace seat.old seat.new }
         ensures step { MatchResult result
@@ -288,9 +317,15 @@ impl WordTable {
     }
 
     /// The owner makes its entry invalid, where it has no pins. Answers the word found where it has some.
-    pub fn revoke(&self, seat: &mut Place, at: usize, gref: usize, word: u64) -> Result<(), u64>
+    pub(crate) fn revoke(
+        &self,
+        seat: &mut Place,
+        at: usize,
+        gref: usize,
+        word: u64,
+    ) -> Result<(), u64>
         requires mine { (seat.old.table_id ≡ self.now.table.shared.table_id) × (seat.old.me.0.position ≡ at) }
-        requires entry { (at < length self.now.table.shared.key.domains.items) × (gref < 2048) }
+        requires entry { (at < length self.now.table.shared.key.domains.items) × (gref < TABLE_ENTRIES) }
         requires idle { IsIdleOf (last_of gref seat.old.me.0) word × ((last_of gref seat.old.me.0).entry ≢ Entry.Invalid) }
         ensures seat { IsSamePlace seat.old seat.new }
         ensures step { MatchResult result
@@ -304,10 +339,16 @@ impl WordTable {
     }
 
     /// The owner makes its entry read-only, where its word still is the one handed in, which has no write pins.
-    pub fn demote(&self, seat: &mut Place, at: usize, gref: usize, word: u64) -> Result<(), u64>
+    pub(crate) fn demote(
+        &self,
+        seat: &mut Place,
+        at: usize,
+        gref: usize,
+        word: u64,
+    ) -> Result<(), u64>
         requires mine { (seat.old.table_id ≡ self.now.table.shared.table_id) × (seat.old.me.0.position ≡ at) }
-        requires entry { (at < length self.now.table.shared.key.domains.items) × (gref < 2048) }
-        requires word { IsWordOf (last_of gref seat.old.me.0) word × (pins_in Dir.Write word ≡ 0) × (generation_of word < 1048575) }
+        requires entry { (at < length self.now.table.shared.key.domains.items) × (gref < TABLE_ENTRIES) }
+        requires word { IsWordOf (last_of gref seat.old.me.0) word × (pins_in Dir.Write word ≡ 0) × (generation_of word < LAST_GENERATION) }
         requires writable { ((last_of gref seat.old.me.0).entry ≢ Entry.Invalid) × (is_read_only (last_of gref seat.old.me.0).entry ≡ false) }
         ensures seat { IsSamePlace seat.old seat.new }
         ensures step { MatchResult result
@@ -321,10 +362,16 @@ impl WordTable {
     }
 
     /// The owner makes its entry writable, where its word still is the one handed in.
-    pub fn promote(&self, seat: &mut Place, at: usize, gref: usize, word: u64) -> Result<(), u64>
+    pub(crate) fn promote(
+        &self,
+        seat: &mut Place,
+        at: usize,
+        gref: usize,
+        word: u64,
+    ) -> Result<(), u64>
         requires mine { (seat.old.table_id ≡ self.now.table.shared.table_id) × (seat.old.me.0.position ≡ at) }
-        requires entry { (at < length self.now.table.shared.key.domains.items) × (gref < 2048) }
-        requires word { IsWordOf (last_of gref seat.old.me.0) word × (generation_of word < 1048575) }
+        requires entry { (at < length self.now.table.shared.key.domains.items) × (gref < TABLE_ENTRIES) }
+        requires word { IsWordOf (last_of gref seat.old.me.0) word × (generation_of word < LAST_GENERATION) }
         requires readonly { ((last_of gref seat.old.me.0).entry ≢ Entry.Invalid) × (is_read_only (last_of gref seat.old.me.0).entry ≡ true) }
         ensures seat { IsSamePlace seat.old seat.new }
         ensures step { MatchResult result
@@ -348,7 +395,7 @@ fn idle_word(entry: Entry, generation: u32) -> u64
 
 // The same word read-only or writable, at the next generation.
 fn turned(word: u64, readonly: bool) -> u64
-    requires { (generation_of word < 1048575) × IsTurnable readonly word }
+    requires { (generation_of word < LAST_GENERATION) × IsTurnable readonly word }
     ensures { result ≡ turned_word readonly word }
 {
     let control = Control::unpack(word);

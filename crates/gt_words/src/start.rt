@@ -5,7 +5,7 @@ ghost use Rattle.gt_words.specs.Rule.{Layout, layout_of, header_number};
 ghost use Rattle.gt_words.specs.Conditions.{Board, IsNewSeat, initial};
 ghost use Rattle.gt_words.specs.Places.{IsNewPlace, dealer_after, dealt_to};
 
-use crate::board::{Place, WordTable};
+use crate::board::{DOMAIN_WORDS, ENTRY_WORDS, Place, WordTable};
 use crate::view::View;
 use crate::words::Seat;
 use atomic_table::Split;
@@ -34,16 +34,16 @@ fn first_header(domain: DomainConfig) -> Header
 }
 
 /// The words at the start: each header as it is configured, each entry invalid at the first generation.
-pub fn first_words(alloc: Global, config: &Config) -> Result<Vec<u64>, AllocError>
+pub(crate) fn first_words(alloc: Global, config: &Config) -> Result<Vec<u64>, AllocError>
     requires { IsWithinLimits config.now }
-    ensures { IfOk result (λ v. (length v.items ≡ length config.now.domains.items * 6145) × ((i : ℕ) → i < length config.now.domains.items * 6145 → slice_index v.items i ≡ initial (layout_of config.now) i)) }
+    ensures { IfOk result (λ v. (length v.items ≡ length config.now.domains.items * DOMAIN_WORDS) × ((i : ℕ) → i < length config.now.domains.items * DOMAIN_WORDS → slice_index v.items i ≡ initial (layout_of config.now) i)) }
 {
-    let count = config.domains.len() * 6145;
+    let count = config.domains.len() * DOMAIN_WORDS;
     let mut words = Vec::with_capacity(alloc, count)?;
     for i in 0..count {
-        let word = if i % 6145 == 0 {
-            first_header(config.domains[i / 6145]).pack()
-        } else if i % 6145 % 3 == 1 {
+        let word = if i % DOMAIN_WORDS == 0 {
+            first_header(config.domains[i / DOMAIN_WORDS]).pack()
+        } else if i % DOMAIN_WORDS % ENTRY_WORDS == 0 {
             17_592_186_044_416 * u64::from(config.first_gen)
         } else {
             0
@@ -69,7 +69,7 @@ fn new_seat(config: &Config, place: Place, at: usize) -> Seat
 }
 
 /// A seat for each domain in order, out of the first one.
-pub fn deal_seats(
+pub(crate) fn deal_seats(
     alloc: Global,
     words: &WordTable,
     config: &Config,

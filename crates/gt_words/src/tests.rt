@@ -157,6 +157,34 @@ fn turn(
     Ok(true)
 }
 
+// The other domain pins the entry and gives the pin back, and the owner tries to revoke it in between. Answers what the
+// owner was answered, or nothing where the pin was not taken.
+fn revoke_pinned(
+    words: &Words,
+    owner: &mut Seat,
+    other: &mut Seat,
+    dom: DomId,
+    gref: GrantRef,
+    row: &mut Row,
+    dir: Dir,
+) -> Option<Result<(), u64>>
+    requires owner { IsSeatOf words.now owner.old }
+    requires other { IsSeatOf words.now other.old }
+    requires entry { (position_in words.now.layout.ids dom < length words.now.layout.ids) × (gref.0 < TABLE_ENTRIES) }
+    requires row { last_of gref.0 owner.old.view ≡ record { generation = row.old.generation; entry = row.old.entry } }
+    ensures owner { IsSameSeat owner.old owner.new }
+    ensures other { IsSameSeat other.old other.new }
+    ensures row { last_of gref.0 owner.new.view ≡ record { generation = row.new.generation; entry = row.new.entry } }
+{
+    let sight = look(words, other, dom, gref);
+    let Some(Ok(pin)) = try_pin(words, other, dom, gref, &sight, dir) else {
+        return None;
+    };
+    let answer = revoke(words, owner, gref, row);
+    words.unpin(other, pin);
+    Some(answer)
+}
+
 // Grants a page and revokes it again, so many times.
 fn toggle(words: &Words, mut seat: Seat, gref: GrantRef, mut row: Row, times: u32) -> (Seat, Row)
     requires seat { IsSeatOf words.now seat }
@@ -257,12 +285,54 @@ fn pins_no_entry_that_was_granted_anew(rt: HostRuntime) -> Result<(), Fail> {
         .ok()
         .ok_or("a revocation")?;
     assert_eq!(rt; (row.entry, row.generation), (Entry::Invalid, 1));
-    // Its exchange is from the invalid word of generation 1, which is 0000100000000000.
+    assert_eq!(rt;
+        words.load_control(&mut owner, OWNER, ENTRY),
+        0x0000_1000_0000_0000
+    );
     publish(&words, &mut owner, ENTRY, &mut row, page(6))
         .ok()
         .ok_or("a second grant")?;
     let pinned = try_pin(&words, &mut other, OWNER, ENTRY, &sight, Dir::Read);
     assert_eq!(rt; pinned, Some(Err(0x0000_2000_2000_0001)));
+    Ok(())
+}
+
+#[test]
+fn refuses_to_revoke_a_pinned_entry(rt: HostRuntime) -> Result<(), Fail> {
+    let config = two_domains(rt.alloc())?;
+    let (words, mut owner, mut other) = start(rt.alloc(), &config)?;
+    let mut row = Row {
+        entry: Entry::Invalid,
+        generation: 0,
+    };
+    publish(&words, &mut owner, ENTRY, &mut row, page(5))
+        .ok()
+        .ok_or("a grant")?;
+    let refused = revoke_pinned(
+        &words,
+        &mut owner,
+        &mut other,
+        OWNER,
+        ENTRY,
+        &mut row,
+        Dir::Read,
+    );
+    assert_eq!(rt; refused, Some(Err(0x0000_1000_2000_0011)));
+    let refused = revoke_pinned(
+        &words,
+        &mut owner,
+        &mut other,
+        OWNER,
+        ENTRY,
+        &mut row,
+        Dir::Write,
+    );
+    assert_eq!(rt; refused, Some(Err(0x0000_1000_2001_0001)));
+    assert_eq!(rt;
+        words.load_control(&mut owner, OWNER, ENTRY),
+        0x0000_1000_2000_0001
+    );
+    assert_eq!(rt; revoke(&words, &mut owner, ENTRY, &mut row), Ok(()));
     Ok(())
 }
 

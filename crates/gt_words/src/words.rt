@@ -16,7 +16,8 @@ use crate::view::{Change, EntryStep, Half, HeaderStep};
 use atomic_table::Table;
 use gt_entry::{Control, Entry, Header};
 use gt_types::{
-    Config, Dir, DomId, GrantRef, LAST_GENERATION, MAX_TABLE_FRAMES, StartFault, TABLE_ENTRIES,
+    Config, Dir, DomId, GrantRef, LAST_GENERATION, MAX_PINS, MAX_TABLE_FRAMES, StartFault,
+    TABLE_ENTRIES,
 };
 use std::alloc::{AllocError, Global};
 use std::marker::Model;
@@ -213,7 +214,7 @@ impl Words {
         requires seat { IsSeatOf self.now seat.old }
         requires entry { (position_in self.now.layout.ids dom < length self.now.layout.ids) × (gref.0 < TABLE_ENTRIES) }
         requires looked { HasLooked (position_in self.now.layout.ids dom) gref.0 seat.old.view looked × IsValid looked }
-        requires room { pins_in dir looked < 4095 }
+        requires room { pins_in dir looked < MAX_PINS }
         requires permitted { MayPin self.now.layout (position_in self.now.layout.ids dom) gref.0 seat.old.view dir (record_seen (last_seen (position_in self.now.layout.ids dom) gref.0 seat.old.view)) }
         ensures seat { IsSameSeat seat.old seat.new }
         ensures pin { IfOk result (λ p. p ≡ record { dom = dom; gref = gref; word = looked; dir = dir }) }

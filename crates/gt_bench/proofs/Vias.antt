@@ -1,0 +1,53 @@
+-- A transitive entry that is kept pinned.
+use Rattle.std.proofs.Common.{◌≡◌, ◌≢◌, ℕ, ◌<◌, Bool, true, ◌==◌, List, length, Option, Some, None, refl, sym, ap, ◌∙◌, subst, arith, inl}
+use Rattle.std.specs.Prelude.{position, unwrap_or}
+use Rattle.std.proofs.lemmas.Bool.Decides.{nat_tests}
+use Rattle.std.proofs.lemmas.List.Quantifiers.{position-Some}
+use Rattle.gt_entry.specs.Permits.{forwards}
+use Rattle.gt_entry.specs.declared.entry.Entry.{Entry}
+use Rattle.gt_types.specs.declared.Dir.TheVariants.{Read}
+use Rattle.gt_types.specs.declared.DomId.{DomId}
+use Rattle.gt_words.specs.Conditions.{Board, IsSameSeat, IsSeatOf, Pins, SeatOf}
+use Rattle.gt_words.specs.Controls.{LeadsTo}
+use Rattle.gt_words.specs.Rule.{Layout, id_at, position_in}
+use Rattle.gt_words.specs.Views.{IsIn, last_seen, pins, record_seen}
+use Rattle.gt_words.specs.declared.view.EntryStep.{EntryStep}
+use Rattle.gt_words.specs.declared.view.View.{View}
+use Rattle.gt_bench.specs.Mapping.{KeepsVia}
+
+found_at : (xs : List DomId) (d : DomId) (o : Option ℕ) → position (λ (x : DomId). x.0 == d.0) xs ≡ o → unwrap_or o (length xs) < length xs → (id_at xs (unwrap_or o (length xs))).0 ≡ d.0
+found_at xs d None is inside = absurd (omega arith)
+found_at xs d (Some i) is inside = let passes = (position-Some (λ (x : DomId). x.0 == d.0) xs i (record { 0 = 0 }) is).1 in grind (arith, nat_tests)
+
+abbrev numbered : ℕ → DomId
+numbered n = record { 0 = n }
+
+-- where a domain is found, it stands
+pub at_position : (xs : List DomId) (d : DomId) → position_in xs d < length xs → id_at xs (position_in xs d) ≡ d
+at_position xs d inside = ap numbered (found_at xs d (position (λ (x : DomId). x.0 == d.0) xs) refl inside)
+
+-- domains with other numbers are found elsewhere
+pub found_apart : (xs : List DomId) (d e : DomId) → position_in xs d < length xs → position_in xs e < length xs → e.0 ≢ d.0 → position_in xs d ≢ position_in xs e
+found_apart xs d e d_inside e_inside apart same = apart (ap (λ (x : DomId). x.0) (sym (at_position xs e e_inside) ∙ (ap (λ (i : ℕ). id_at xs i) (sym same) ∙ at_position xs d d_inside)))
+
+-- the same seat is of the same words
+pub still_seat : (b : Board) (s s' : SeatOf) → IsSeatOf b s → IsSameSeat s s' → IsSeatOf b s'
+still_seat b s s' is same = record {
+  table = same.table ∙ is.table;
+  inside = subst (λ (p : ℕ). p < length b.layout.ids) (sym same.position) is.inside;
+  named = ap (λ (p : ℕ). id_at b.layout.ids p) same.position ∙ (is.named ∙ sym same.dom);
+}
+
+-- the pin just taken is that of a transitive entry
+pub via_kept : (k : Layout) (t r o q word : ℕ) (m d : DomId) (v w : View) (e : Entry) → Pins k o q Read word v w → w.position ≡ v.position → id_at k.ids v.position ≡ d → (record_seen (last_seen o q v)).entry ≡ e → forwards e d Read ≡ true → LeadsTo e (id_at k.ids t) r → id_at k.ids o ≡ m → t ≢ o → KeepsVia k t r m w
+via_kept k t r o q word m d v w e taken same mine seen forwarded leads named apart = let x = record_seen (last_seen o q v) in record {
+  owner = o;
+  reference = q;
+  via = (Read, x);
+  held = subst (λ (ms : List EntryStep). IsIn (Read, x) (pins ms)) (sym taken.steps.adds.here) (inl refl);
+  same_kind = refl;
+  forwarded = ap (λ (z : Entry). forwards z (id_at k.ids w.position) Read) seen ∙ (ap (λ (u : DomId). forwards e u Read) (ap (λ (i : ℕ). id_at k.ids i) same ∙ mine) ∙ forwarded);
+  leads = subst (λ (z : Entry). LeadsTo z (id_at k.ids t) r) (sym seen) leads;
+  named = named;
+  apart = apart;
+}

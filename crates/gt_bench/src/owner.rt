@@ -1,0 +1,103 @@
+//! An owner, who knows its own entries from its own calls.
+ghost use Rattle.std.specs.Prelude.{◌≡◌, ◌≢◌, ◌+◌, ◌<◌, ℕ};
+ghost use Rattle.gt_words.specs.Views.{last_of};
+ghost use Rattle.gt_words.specs.Conditions.{IsSeatOf, IsSameSeat};
+
+use gt_entry::{Control, Entry};
+use gt_types::{DomId, GrantRef, LAST_GENERATION, TABLE_ENTRIES};
+use gt_words::{Half, Seat, Words};
+
+/// What an owner keeps of one of its entries.
+#[derive(Clone, Copy)]
+pub struct Row {
+    pub entry: Entry,
+    pub generation: u32,
+}
+
+/// Publishes an entry in place of the invalid one, and answers whether it did: not where the old one is not invalid, or
+/// worn.
+pub(crate) fn publish(
+    words: &Words,
+    seat: &mut Seat,
+    gref: GrantRef,
+    row: &mut Row,
+    entry: Entry,
+) -> bool
+    requires seat { IsSeatOf words.now seat.old }
+    requires reference { gref.0 < TABLE_ENTRIES }
+    requires row { last_of gref.0 seat.old.view ≡ record { generation = row.old.generation; entry = row.old.entry } }
+    requires given { entry ≢ Entry.Invalid }
+    ensures seat { IsSameSeat seat.old seat.new }
+    ensures row { last_of gref.0 seat.new.view ≡ record { generation = row.new.generation; entry = row.new.entry } }
+    ensures others { (r : ℕ) → gref.0 ≢ r → last_of r seat.new.view ≡ last_of r seat.old.view }
+{
+    if !row.entry.is_invalid() || row.generation >= LAST_GENERATION {
+        return false;
+    }
+    words.store_body(seat, gref, Half::First, entry.first_body());
+    words.store_body(seat, gref, Half::Second, entry.second_body());
+    let word = Control::of_entry(Entry::Invalid, row.generation, 0, 0).pack();
+    if words.grant(seat, gref, word, entry).is_err() {
+        return false;
+    }
+    row.entry = entry;
+    row.generation += 1;
+    true
+}
+
+/// Revokes the entry, and answers whether it did: not where it has pins, or is invalid.
+pub(crate) fn revoke(words: &Words, seat: &mut Seat, gref: GrantRef, row: &mut Row) -> bool
+    requires seat { IsSeatOf words.now seat.old }
+    requires reference { gref.0 < TABLE_ENTRIES }
+    requires row { last_of gref.0 seat.old.view ≡ record { generation = row.old.generation; entry = row.old.entry } }
+    ensures seat { IsSameSeat seat.old seat.new }
+    ensures row { last_of gref.0 seat.new.view ≡ record { generation = row.new.generation; entry = row.new.entry } }
+{
+    if row.entry.is_invalid() || row.generation > LAST_GENERATION {
+        return false;
+    }
+    let word = Control::of_entry(row.entry, row.generation, 0, 0).pack();
+    if words.revoke(seat, gref, word).is_err() {
+        return false;
+    }
+    row.entry = Entry::Invalid;
+    true
+}
+
+/// A writable page for the domain.
+pub(crate) fn page(dom: DomId) -> Entry
+    ensures { result ≢ Entry.Invalid }
+{
+    Entry::Page {
+        dom,
+        ro: false,
+        frame: 5,
+    }
+}
+
+/// Revokes the entry and grants it to the domain again, so many times, each time with as many tries as it takes.
+/// Answers how often: less where the entry is worn.
+pub(crate) fn revoke_and_grant(
+    words: &Words,
+    mut seat: Seat,
+    gref: GrantRef,
+    mut row: Row,
+    named: DomId,
+    rounds: u32,
+) -> u32
+    requires seat { IsSeatOf words.now seat }
+    requires reference { gref.0 < TABLE_ENTRIES }
+    requires row { last_of gref.0 seat.view ≡ record { generation = row.generation; entry = row.entry } }
+{
+    let mut done = 0;
+    for _ in 0..u64::MAX {
+        if done >= rounds || row.generation >= LAST_GENERATION {
+            break;
+        }
+        if revoke(words, &mut seat, gref, &mut row) {
+            publish(words, &mut seat, gref, &mut row, page(named));
+            done += 1;
+        }
+    }
+    done
+}
