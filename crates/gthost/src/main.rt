@@ -9,6 +9,8 @@
 #![tactic(auto)]
 
 pub mod plan;
+#[cfg(test)]
+mod tests;
 
 use gt_host::{Fault, play};
 use plan::{Invocation, Mode};

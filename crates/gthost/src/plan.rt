@@ -1,10 +1,9 @@
 //! The command line.
-ghost use Rattle.std.specs.Prelude.{◌≡◌, IfOk, false, map, string_bytes};
+ghost use Rattle.std.specs.Prelude.{◌≡◌, IfOk, false, map, drop, string_bytes};
 ghost use Rattle.clap.specs.Words.{subcommand_of, app_of};
 ghost use Rattle.clap.specs.declared.builder.command.Command.TheViews.{out-Command as fields_of};
-ghost use Rattle.gthost.specs.CommandLine.{gthost_app, play_app, IsPlanOf, IsRead};
+ghost use Rattle.gthost.specs.CommandLine.{gthost_app, play_app, asked, IsAnswerTo, IsPlanOf, IsRead};
 
-use clap::error::ErrorKind;
 use clap::{Arg, ArgMatches, Command, Error};
 use std::alloc::{AllocError, Global};
 
@@ -58,14 +57,16 @@ fn play_plan<'a>(matches: &ArgMatches<'a>) -> Invocation<'a>
 }
 
 /// What the words of a command line, the program's name first, ask for: a command and its FILE.
-/// An error prints as the text for standard error, or is the help that was asked for.
+/// A line that asks for a command is refused for want of memory alone. Any other error prints as
+/// the help that was asked for, or as the text for standard error.
 pub fn plan<'a>(alloc: Global, words: &'a [String]) -> Result<Invocation<'a>, Error>
-    ensures { IfOk result (λ p. IsPlanOf p (subcommand_of gthost_app (map string_bytes words.entry.now))) }
+    ensures answers { IsAnswerTo (asked (drop 1 (map string_bytes words.entry.now))) result }
+    ensures matches { IfOk result (λ p. IsPlanOf p (subcommand_of gthost_app (map string_bytes words.entry.now))) }
 {
-    let mut command = gthost_command(alloc)?;
-    let matches = command.try_get_matches_from_mut(words)?;
+    let command = gthost_command(alloc)?;
+    let matches = command.try_get_matches_from(words)?;
     match matches.subcommand_matches("play") {
         Some(matches) => Ok(play_plan(matches)),
-        None => Err(command.error(ErrorKind::MissingSubcommand, "no command")?),
+        None => unreachable!(),
     }
 }
