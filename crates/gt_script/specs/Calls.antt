@@ -2,7 +2,7 @@
 use Rattle.std.specs.Prelude.{ℕ, List, [], ◌∷◌, Option, Some, None, if◌then◌else◌, codes}
 use Rattle.std.specs.Option.{option_map}
 use Rattle.std.specs.Str.{bytes_eq}
-use Rattle.gt_script.specs.Fields.{◌>>=◌, u16_word, u64_word, reference_word, domain_word, mode_word, flags_word, tick_word, label_word, text_where}
+use Rattle.gt_script.specs.Fields.{◌>>=◌, u16_word, u32_word, u64_word, reference_word, domain_word, mode_word, flags_word, tick_word, label_word, text_where}
 use Rattle.gt_script.specs.declared.calls.Grant.{Grant}
 use Rattle.gt_script.specs.declared.calls.Grant.TheVariants as grants
 use Rattle.gt_script.specs.declared.calls.Call.{Call}
@@ -101,6 +101,34 @@ promote_of (gref ∷ []) = do
   Some (calls.Promote r)
 promote_of _ = None
 
+-- what stands after `version`: V, of 32 bits as in grant_table.h
+unfoldable pub version_of : List (List ℕ) → Option Call
+version_of (number ∷ []) = do
+  v ← u32_word number
+  Some (calls.SetVersion v)
+version_of _ = None
+
+-- what stands after `setup`: N, of 32 bits as in grant_table.h
+unfoldable pub setup_of : List (List ℕ) → Option Call
+setup_of (number ∷ []) = do
+  n ← u32_word number
+  Some (calls.SetupTable n)
+setup_of _ = None
+
+-- what stands after `size`: DOM (own)
+unfoldable pub size_of : List (List ℕ) → Option Call
+size_of (dom ∷ []) = do
+  d ← domain_word dom
+  Some (calls.QuerySize d)
+size_of _ = None
+
+-- what stands after `getversion`: DOM (own)
+unfoldable pub getversion_of : List (List ℕ) → Option Call
+getversion_of (dom ∷ []) = do
+  d ← domain_word dom
+  Some (calls.GetVersion d)
+getversion_of _ = None
+
 -- a call word and its arguments (own)
 unfoldable pub call_of : List (List ℕ) → Option Call
 call_of [] = None
@@ -110,7 +138,11 @@ call_of (word ∷ args) = if bytes_eq word (codes "grant") then grant_of args
     else (if bytes_eq word (codes "load") then load_of args
     else (if bytes_eq word (codes "revoke") then revoke_of args
     else (if bytes_eq word (codes "demote") then demote_of args
-    else (if bytes_eq word (codes "promote") then promote_of args else None))))))
+    else (if bytes_eq word (codes "promote") then promote_of args
+    else (if bytes_eq word (codes "version") then version_of args
+    else (if bytes_eq word (codes "setup") then setup_of args
+    else (if bytes_eq word (codes "size") then size_of args
+    else (if bytes_eq word (codes "getversion") then getversion_of args else None))))))))))
 
 -- what stands after `tick` and its domain: N (own)
 unfoldable pub tick_of : List (List ℕ) → Option Action

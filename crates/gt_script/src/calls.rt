@@ -1,8 +1,10 @@
 //! The calls that a script can ask for.
 ghost use Rattle.std.specs.Prelude.{◌≡◌, map};
-ghost use Rattle.gt_script.specs.Calls.{page_of, sub_of, via_of, granted, grant_of, map_of, unmap_of, load_of, revoke_of, demote_of, promote_of, call_of, tick_of, show_of, action_of};
+ghost use Rattle.gt_script.specs.Calls.{page_of, sub_of, via_of, granted, grant_of, map_of, unmap_of, load_of, revoke_of, demote_of, promote_of, version_of, setup_of, size_of, getversion_of, call_of, tick_of, show_of, action_of};
 
-use crate::fields::{domain, flags, is, label, mode, reference, tick_count, u16_of, u64_of};
+use crate::fields::{
+    domain, flags, is, label, mode, reference, tick_count, u16_of, u32_of, u64_of,
+};
 use crate::texts::Text;
 use gt_types::{DomId, GrantRef};
 
@@ -68,6 +70,22 @@ pub enum Call<'a> {
     /// `promote REF`
     Promote {
         gref: GrantRef,
+    },
+    /// `version V`: any number of 32 bits, also one of no version.
+    SetVersion {
+        version: u32,
+    },
+    /// `setup N`
+    SetupTable {
+        frames: u32,
+    },
+    /// `size DOM`
+    QuerySize {
+        dom: DomId,
+    },
+    /// `getversion DOM`
+    GetVersion {
+        dom: DomId,
     },
 }
 
@@ -234,6 +252,50 @@ fn read_promote<'a>(args: &[&'a [u8]]) -> Option<Call<'a>>
     }
 }
 
+#[tactic(auto, unfolding(crate::specs::Calls::version_of))]
+fn read_version<'a>(args: &[&'a [u8]]) -> Option<Call<'a>>
+    ensures { result ≡ version_of (map (λ word. word.now) args.now) }
+{
+    match args {
+        [number] => Some(Call::SetVersion {
+            version: u32_of(number)?,
+        }),
+        _ => None,
+    }
+}
+
+#[tactic(auto, unfolding(crate::specs::Calls::setup_of))]
+fn read_setup<'a>(args: &[&'a [u8]]) -> Option<Call<'a>>
+    ensures { result ≡ setup_of (map (λ word. word.now) args.now) }
+{
+    match args {
+        [number] => Some(Call::SetupTable {
+            frames: u32_of(number)?,
+        }),
+        _ => None,
+    }
+}
+
+#[tactic(auto, unfolding(crate::specs::Calls::size_of))]
+fn read_size<'a>(args: &[&'a [u8]]) -> Option<Call<'a>>
+    ensures { result ≡ size_of (map (λ word. word.now) args.now) }
+{
+    match args {
+        [dom] => Some(Call::QuerySize { dom: domain(dom)? }),
+        _ => None,
+    }
+}
+
+#[tactic(auto, unfolding(crate::specs::Calls::getversion_of))]
+fn read_getversion<'a>(args: &[&'a [u8]]) -> Option<Call<'a>>
+    ensures { result ≡ getversion_of (map (λ word. word.now) args.now) }
+{
+    match args {
+        [dom] => Some(Call::GetVersion { dom: domain(dom)? }),
+        _ => None,
+    }
+}
+
 #[tactic(auto, unfolding(crate::specs::Calls::call_of))]
 fn read_call<'a>(words: &[&'a [u8]]) -> Option<Call<'a>>
     ensures { result ≡ call_of (map (λ word. word.now) words.now) }
@@ -253,6 +315,14 @@ fn read_call<'a>(words: &[&'a [u8]]) -> Option<Call<'a>>
         read_demote(args)
     } else if is(word, "promote") {
         read_promote(args)
+    } else if is(word, "version") {
+        read_version(args)
+    } else if is(word, "setup") {
+        read_setup(args)
+    } else if is(word, "size") {
+        read_size(args)
+    } else if is(word, "getversion") {
+        read_getversion(args)
     } else {
         None
     }

@@ -191,6 +191,39 @@ fn reads_demote_and_promote(rt: HostRuntime) -> Result<(), Fail> {
 }
 
 #[test]
+fn reads_the_calls_on_tables(rt: HostRuntime) -> Result<(), Fail> {
+    let alloc = rt.alloc();
+    let mut text = String::from_str(alloc, HEAD)?;
+    for line in [
+        "do 1 version 2",
+        "do 1 setup 4",
+        "do 1 size self",
+        "do 1 getversion 3",
+    ] {
+        text = and_line(alloc, text.as_str(), line)?;
+    }
+    let script = parse(alloc, text.as_bytes())?;
+    let [version, setup, size, getversion] = script.steps() else {
+        return Err(Fail::from("four steps"));
+    };
+    assert!(rt; matches!(version.action, Action::Do(Call::SetVersion { version: 2 })));
+    assert!(rt; matches!(setup.action, Action::Do(Call::SetupTable { frames: 4 })));
+    assert!(rt;
+        matches!(
+            size.action,
+            Action::Do(Call::QuerySize { dom: DomId(32752) })
+        )
+    );
+    assert!(rt;
+        matches!(
+            getversion.action,
+            Action::Do(Call::GetVersion { dom: DomId(3) })
+        )
+    );
+    Ok(())
+}
+
+#[test]
 fn reads_an_interleaving(rt: HostRuntime) -> Result<(), Fail> {
     let alloc = rt.alloc();
     let mut text = String::from_str(alloc, HEAD)?;
@@ -325,6 +358,18 @@ fn reads_the_lines_of_a_body(rt: HostRuntime) -> Result<(), Fail> {
         "do 1 revoke 0#x",
         "do 1 demote 0",
         "do 1 promote 4294967295",
+        "do 1 version 0",
+        "do 1 version 3",
+        "do 1 version 4294967295",
+        "do 1 setup 0",
+        "do 1 setup 4294967295",
+        "do 1 size 2",
+        "do 1 size self",
+        "do 1 size 65535",
+        "do 1 getversion 2",
+        "do 1 getversion self",
+        "do 1 getversion 65535",
+        "begin 1 size 0",
         "begin 2 map h 1 0 ro",
         "begin 1 grant 0 page 2 rw 5",
         "tick 2 1",
@@ -396,6 +441,24 @@ fn refuses_what_no_line_says(rt: HostRuntime) -> Result<(), Fail> {
         "do 1 promote",
         "do 1 promote -1",
         "do 1 promote 0 rw",
+        "do 1 version",
+        "do 1 version 4294967296",
+        "do 1 version self",
+        "do 1 version 1 2",
+        "do 1 setup",
+        "do 1 setup -1",
+        "do 1 setup 4294967296",
+        "do 1 setup 1 2",
+        "do 1 size",
+        "do 1 size 65536",
+        "do 1 size Self",
+        "do 1 size 1 2",
+        "do 1 getversion",
+        "do 1 getversion 65536",
+        "do 1 getversion selfs",
+        "do 1 getversion 1 2",
+        "do 1 get_version 1",
+        "do 1 set_version 1",
         "do\u{a0}1 revoke 0",
         "\u{feff}do 1 revoke 0",
         "do\u{b}1 revoke 0",
@@ -527,7 +590,7 @@ fn judges_a_domain_line(rt: HostRuntime) -> Result<(), Fail> {
         ("domain 2 u:r:a_t 8 0 1", CONFIG),
         ("domain 2 u:r:a_t 8 5 1", CONFIG),
         ("domain 2 u:r:a_t 8 1 0", CONFIG),
-        ("domain 2 u:r:a_t 8 1 2", CONFIG),
+        ("domain 2 u:r:a_t 8 1 3", CONFIG),
         ("domain 2 u:r:a_t 8 1 18446744073709551617", CONFIG),
     ] {
         let text = with_line(alloc, HEAD, 3, line)?;
@@ -536,6 +599,7 @@ fn judges_a_domain_line(rt: HostRuntime) -> Result<(), Fail> {
     for line in [
         "domain 0 u:r:new_t 64 4 1",
         "domain 32751 u:r:a_t 1 1 1",
+        "domain 2 u:r:a_t 8 4 2",
         "domain 00000000000000000000000000000000000000002 u:r:a_t 8 01 1",
     ] {
         let text = with_line(alloc, HEAD, 3, line)?;
