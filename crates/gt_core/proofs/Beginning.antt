@@ -185,6 +185,7 @@ call-stays s i h d (Some o) (Some c) same b e a =
       leads = λ vs. ap (λ (k : CallerKnowledge). path k d c.request (values c ++ vs)) same ∙ a.leads vs ∙ ap (λ (k : CallerKnowledge). expects k d c.request o.call.phase vs) (sym same);
       fair = stood-other s i h d.0 e ∙ a.fair;
       fits = a.fits;
+      clean = a.clean;
       place = place-stays s i h d c.request (reverse c.steps) o.call.phase same b a.place;
     }
 
@@ -387,6 +388,7 @@ begin-opens s h d request o fits a closed opens =
           ∙ ap (λ (k : CallerKnowledge). expects k d.id r o.call.phase vs) still;
       fair = fair;
       fits = subst FitsAsked opens.2 fits;
+      clean = λ i step below. absurd (omega arith);
       place = subst (λ (p : Phase). PhaseStands s (i ∷ h) d.id r [] p)
           (ap (λ (k : CallerKnowledge). first_phase k d.id r) (sym still) ∙ sym opens.5) (first-place s (i ∷ h) d.id r later);
     } in (

@@ -126,6 +126,7 @@ granted-right s h xs d o c seen new answer st call oa p safe sound plain value =
       safe = safe;
       sound = sound;
       soon = λ e. let f : Some answer ≡ None = e in cc;
+      left = λ some. absurd (some plain);
       answered = subst (λ (a : Option Action). AnsweredBy s h d c.request (Some o.step) (verdict_in a) (Some answer) (stood s (stepped d o.step seen (Some answer) ∷ h) d.0))
           (sym (path-next s h d o c seen new (Done Granted) oa p)) (plain, plain ∙ sym fair, value);
     }

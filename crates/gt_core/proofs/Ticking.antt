@@ -2,7 +2,7 @@
 use Rattle.std.proofs.Common.{◌≡◌, ◌≢◌, ◌<◌, ◌≤◌, ◌+◌, ◌-◌, ℕ, zero, suc, refl, Bool, true, false, List, [], ◌∷◌, ◌++◌, length, Option, Some, None, cond, sym, ap, ◌∙◌, arith, subst, get_or, set, reverse, take, drop}
 use Rattle.std.proofs.lemmas.Bool.{lt-ltb, leb-false, eqb-true, eq-eqb, false≢true, true≢false}
 use Rattle.std.proofs.lemmas.List.{append-nil, map-append, reverse-append, append_assoc, take_all, drop_all}
-use Rattle.std.proofs.lemmas.List.Elements.{All-tail}
+use Rattle.std.proofs.lemmas.List.Elements.{All-tail, All-push}
 use Rattle.std.proofs.lemmas.List.Quantifiers.{position-Some}
 use Rattle.std.proofs.lemmas.Option.{none-some, same_Some}
 use Rattle.std.specs.Prelude.{nat_lt, nat_le, ◌==◌, ◌&&◌, not, position, All, Any}
@@ -54,7 +54,7 @@ use Rattle.gt_core.specs.Path.{entry_refusal, path, steps_of, after_beginning, t
 use Rattle.gt_core.specs.Machine.{expects, action_at, phase_after, after_leg, after_single, leg_after, leg_step, own_gref, is_sub, store_at, second_at, single_at, unpin_of, read_of, IsUnderway, Comes, IsExchanged, FitsStep, FitsAction, FitsPhase}
 use Rattle.gt_core.specs.Sight.{sees, changes_nothing}
 use Rattle.gt_core.specs.History.{History, Setting, word_at, table_at, known_at, writes_at, reads_at, entry_at, generation_at, seen_by, Underway, open_call, underway_after, values, one_if_mapped, live, Pin, mapping_on, mappings_in, mappings_at, frame_of, is_handle}
-use Rattle.gt_core.specs.Legal.{Permits, Reaches, MayUse, Justified, IsSafe, PinIsSound, StepsSoFar, first_at, leg_of, misses, is_in_body, looked_at, stands_when, at_entry, refusal_in, verdict_in, or_then, stood, first_in_call, first_of_item, AnsweredBy, StepsRight, StepsRightIn}
+use Rattle.gt_core.specs.Legal.{LeavesAll, Permits, Reaches, MayUse, Justified, IsSafe, PinIsSound, StepsSoFar, first_at, leg_of, misses, is_in_body, looked_at, stands_when, at_entry, refusal_in, verdict_in, or_then, stood, first_in_call, first_of_item, AnsweredBy, StepsRight, StepsRightIn}
 use Rattle.gt_core.specs.Standing.{IsLawful, IsLawfullyHeld, LegStands, PhaseStands, OpenAgrees, CallAgrees, Agrees, StateAgrees, CoreStands, Advances, state_of}
 use Rattle.gt_core.proofs.Calls.{wants-action, comes-some}
 use Rattle.gt_core.proofs.Places.{has_id, found, state_of-set}
@@ -625,6 +625,24 @@ follows-stands s h d r so_far (OwnLook more) step e a = a
 follows-stands s h d r so_far (OwnChange more word) step e a = a
 follows-stands s h d r so_far (Ended v) step e a = cc
 
+-- a step that changes nothing leaves all as it was
+pub quiet-leaves : (step : Step) (seen : Seen) → changes_nothing step seen ≡ true → LeavesAll (step, seen)
+quiet-leaves (LookHeader dom) seen q = tt
+quiet-leaves (LookControl dom gref) seen q = tt
+quiet-leaves (LookBody dom gref second) seen q = tt
+quiet-leaves (ReadBytes dom frame off len) seen q = tt
+quiet-leaves (PinStep dom gref looked dir) (Missed w) q = tt
+quiet-leaves (PinStep dom gref looked dir) (Value w) q = tt
+quiet-leaves (PinStep dom gref looked dir) Nothing q = tt
+quiet-leaves (PinStep dom gref looked dir) Taken q = absurd (false≢true q)
+quiet-leaves (Exchange gref looked change) (Missed w) q = tt
+quiet-leaves (Exchange gref looked change) (Value w) q = tt
+quiet-leaves (Exchange gref looked change) Nothing q = tt
+quiet-leaves (Exchange gref looked change) Taken q = absurd (false≢true q)
+quiet-leaves (Unpin dom gref dir holder) seen q = absurd (false≢true q)
+quiet-leaves (StoreBody gref second word) seen q = tt
+quiet-leaves (StoreHeader version frames) seen q = absurd (false≢true q)
+
 -- the call with one step more
 
 abbrev pub one-more : Underway → Step → Seen → Underway
@@ -656,9 +674,9 @@ path-here s h d o c oa = ap (path (known_at s h d) d c.request) (sym (append-nil
 -- a call that goes on: the open call agrees with one item more
 pub goes-on-after : (s : Setting) (h : History) (d : DomId) (o : Open) (c : Underway) (seen : Seen) (new : Call) (step : Step)
     → known_at s (stepped d o.step seen None ∷ h) d ≡ known_at s h d → open_call h d.0 ≡ Some c
-    → OpenAgrees s h d o c → Stepping s h d o c seen new (Makes step) → PhaseStands s (stepped d o.step seen None ∷ h) d c.request ((o.step, seen) ∷ reverse c.steps) new.phase
+    → OpenAgrees s h d o c → Stepping s h d o c seen new (Makes step) → PhaseStands s (stepped d o.step seen None ∷ h) d c.request ((o.step, seen) ∷ reverse c.steps) new.phase → LeavesAll (o.step, seen)
     → OpenAgrees s (stepped d o.step seen None ∷ h) d (record { call = new; step = step }) (one-more c o.step seen)
-goes-on-after s h d o c seen new step same call oa p place =
+goes-on-after s h d o c seen new step same call oa p place leaves =
     let i = stepped d o.step seen None in
     let r = c.request in
     record {
@@ -673,17 +691,18 @@ goes-on-after s h d o c seen new step same call oa p place =
           ∙ ap (λ (k : CallerKnowledge). expects k d r new.phase vs) (sym same);
       fair = stood-step s h d c o.step seen None call oa.fair ∙ sym p.judged ∙ going-none (known_at s h d) d r new.phase step p.is_next;
       fits = oa.fits;
+      clean = All-push LeavesAll c.steps (o.step, seen) oa.clean leaves;
       place = subst (λ (so_far : StepsSoFar). PhaseStands s (i ∷ h) d r so_far new.phase) (sym (steps-more c o.step seen)) place;
     }
 
 -- the same after an item that changes nothing
 pub goes-on-agrees : (s : Setting) (h : History) (d : DomId) (o : Open) (c : Underway) (seen : Seen) (new : Call) (step : Step) → IsQuiet (stepped d o.step seen None) → open_call h d.0 ≡ Some c
-    → OpenAgrees s h d o c → Stepping s h d o c seen new (Makes step) → FollowsPlace s h d c.request ((o.step, seen) ∷ reverse c.steps) new.phase
+    → OpenAgrees s h d o c → Stepping s h d o c seen new (Makes step) → FollowsPlace s h d c.request ((o.step, seen) ∷ reverse c.steps) new.phase → LeavesAll (o.step, seen)
     → OpenAgrees s (stepped d o.step seen None ∷ h) d (record { call = new; step = step }) (one-more c o.step seen)
-goes-on-agrees s h d o c seen new step q call oa p f =
+goes-on-agrees s h d o c seen new step q call oa p f leaves =
     let i = stepped d o.step seen None in
     goes-on-after s h d o c seen new step (quiet-known s i h d q) call oa p
-    (place-keeps s i h d c.request ((o.step, seen) ∷ reverse c.steps) new.phase q (follows-stands s h d c.request ((o.step, seen) ∷ reverse c.steps) new.phase step p.is_next f))
+    (place-keeps s i h d c.request ((o.step, seen) ∷ reverse c.steps) new.phase q (follows-stands s h d c.request ((o.step, seen) ∷ reverse c.steps) new.phase step p.is_next f)) leaves
 
 -- an access by a mapping is justified by the pin that it holds
 
@@ -850,6 +869,7 @@ going-right s h xs d o c seen new step st call oa p safe sound =
       safe = safe;
       sound = sound;
       soon = λ e. goes-soon s h d o c seen new step oa p;
+      left = λ some. absurd (some refl);
       answered = subst (λ (a : Option Action). AnsweredBy s h d c.request (Some o.step) (verdict_in a) None (stood s (stepped d o.step seen None ∷ h) d.0))
           (sym (path-next s h d o c seen new (Makes step) oa p)) fair;
     }
@@ -898,7 +918,7 @@ tick-goes-on s h xs dom at x o seen new step p here is st saw adv q =
     (subst (λ (z : Seen). FollowsPlace s h x.id c.0.request ((o.step, z) ∷ reverse c.0.steps) (phase_after (known_at s h x.id) x.id c.0.request o.call.phase z)) (sym w.sees)
     (placed s h xs x.id c.0.request (reverse c.0.steps) o.call.phase o.step st c.2.place (comes-some _ _ c.2.comes) w.act
     (ap (changes_nothing o.step) (sym w.sees) ∙ q))) in
-    let agrees = goes-on-agrees s h x.id o c.0 seen new step quiet c.1 c.2 w follows in
+    let agrees = goes-on-agrees s h x.id o c.0 seen new step quiet c.1 c.2 w follows (quiet-leaves o.step seen q) in
     let now : open_call (i ∷ h) x.id.0 ≡ Some (one-more c.0 o.step seen) = open_call-own i h ∙ ap (underway_after i) c.1 in
     let state : Agrees s (i ∷ h) (with_open x (Some (record { call = new; step = step }))) =
     quiet-agrees s i h x (Some (record { call = new; step = step })) quiet a.2
@@ -994,6 +1014,7 @@ quiet-refused s h xs d o c seen new denial st call oa p q =
       safe = quiet-safe s h d o.step seen (Some (Denied denial)) q;
       sound = quiet-sound s h d c.request o.step seen q;
       soon = λ e. let f : Some (Denied denial) ≡ None = e in cc;
+      left = λ some. All-push LeavesAll c.steps (o.step, seen) oa.clean (quiet-leaves o.step seen q);
       answered = subst (λ (a : Option Action). AnsweredBy s h d c.request (Some o.step) (verdict_in a) (Some (Denied denial)) (stood s (stepped d o.step seen (Some (Denied denial)) ∷ h) d.0))
           (sym (path-next s h d o c seen new (Done (Refused denial)) oa p)) (refl, sym against, tt);
     }

@@ -37,7 +37,7 @@ use Rattle.gt_core.specs.Path.{to_ro_or_back}
 use Rattle.gt_core.specs.Machine.{expects, action_at, phase_after, after_leg, after_single, leg_after, leg_step, own_gref, is_sub, Comes}
 use Rattle.gt_core.specs.Sight.{changes_nothing}
 use Rattle.gt_core.specs.History.{History, Setting, word_at, control_at, known_at, writes_at, reads_at, entry_at, generation_at, body_at, seen_by, Underway, open_call, underway_after, Pin, mappings_in}
-use Rattle.gt_core.specs.Legal.{IsSafe, PinIsSound, StepsSoFar, IsSpelled, StepsRight}
+use Rattle.gt_core.specs.Legal.{LeavesAll, IsSafe, PinIsSound, StepsSoFar, IsSpelled, StepsRight}
 use Rattle.gt_core.specs.Standing.{IsLawful, PhaseStands, OpenAgrees, CallAgrees, Agrees, StateAgrees, CoreStands, state_of}
 use Rattle.gt_core.proofs.Calls.{comes-some}
 use Rattle.gt_core.proofs.Beginning.{open_call-own}
@@ -409,7 +409,8 @@ tick-stores s h xs x o c seen new next st here a call oa w loud =
         (subst (λ (z : Step). known_at s (stepped x.id z Nothing None ∷ h) x.id ≡ known_at s h x.id) (sym is) (kept-known s i h x.id (store-keeps x.id gref second word) refl)))
         call oa w
         (subst (λ (v : Seen). PhaseStands s (stepped x.id o.step v None ∷ h) x.id c.request ((o.step, v) ∷ reverse c.steps) new.phase) (sym nothing)
-        (subst (λ (z : Step). PhaseStands s (stepped x.id z Nothing None ∷ h) x.id c.request ((z, Nothing) ∷ reverse c.steps) new.phase) (sym is) place)))) in
+        (subst (λ (z : Step). PhaseStands s (stepped x.id z Nothing None ∷ h) x.id c.request ((z, Nothing) ∷ reverse c.steps) new.phase) (sym is) place))
+        (subst (λ (z : Step). LeavesAll (z, seen)) (sym is) tt))) in
         let now : open_call (i ∷ h) x.id.0 ≡ Some (one-more c (StoreBody gref second word) Nothing) = open_call-own i h ∙ ap (underway_after i) call in (
           going-right s h xs x.id o c seen new next st call oa w
               (subst (λ (z : Step). IsSafe s h (stepped x.id z seen None)) (sym is) tt)

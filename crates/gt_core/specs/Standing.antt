@@ -60,7 +60,7 @@ use Rattle.gt_core.specs.Machine.{expects, first_phase, phase_after, IsUnderway,
 use Rattle.gt_core.specs.declared.call.Call.{Call}
 use Rattle.gt_core.specs.declared.action.Action.{Action}
 use Rattle.gt_core.specs.History.{History, Setting, Pin as HeldPin, live, entry_at, generation_at, body_at, reads_at, writes_at, table_at, control_at, mappings_at, maps_answered_at, known_at, Underway, open_call, values, contents_at, frame_of}
-use Rattle.gt_core.specs.Legal.{Permits, MayUse, stood, StepsSoFar, misses, looked_at, is_in_body, leg_of, IsSpelled}
+use Rattle.gt_core.specs.Legal.{LeavesAll, Permits, MayUse, stood, StepsSoFar, misses, looked_at, is_in_body, leg_of, IsSpelled}
 
 -- a call begins so: with an answer, or with a first step and all that may follow it (own)
 abbrev pub Opens : CallerKnowledge → DomId → Request → Opening → Type 0
@@ -228,6 +228,7 @@ pub record OpenAgrees (s : Setting) (h : History) (id : DomId) (o : Open) (c : U
   pub fair : stood s h id.0 ≡ None
   pub place : PhaseStands s h id c.request (reverse c.steps) o.call.phase
   pub fits : FitsAsked c.request
+  pub clean : All LeavesAll c.steps
 
 -- the open call is that of the history, and there is one in both or in neither (own)
 abbrev pub CallAgrees : Setting → History → DomId → Option Open → Option Underway → Type 0

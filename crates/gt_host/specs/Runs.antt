@@ -69,6 +69,10 @@ request_of named dom (calls.Load label off len) = requests.Load (handle_of named
 request_of named dom (calls.Revoke gref) = requests.Revoke gref
 request_of named dom (calls.Demote gref) = requests.Demote gref
 request_of named dom (calls.Promote gref) = requests.Promote gref
+request_of named dom (calls.SetVersion version) = requests.SetVersion version
+request_of named dom (calls.SetupTable frames) = requests.SetupTable frames
+request_of named dom (calls.QuerySize to) = requests.QuerySize to
+request_of named dom (calls.GetVersion to) = requests.GetVersion to
 
 -- (own) the label to which a call gives its handle: that of a map
 unfoldable pub label_given : Call → Option (List ℕ)

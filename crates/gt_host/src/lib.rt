@@ -22,6 +22,8 @@ mod run;
 mod showing;
 mod streams;
 #[cfg(test)]
+mod table_tests;
+#[cfg(test)]
 mod tests;
 
 pub use fault::Fault;

@@ -94,6 +94,10 @@ fn request_of<'a>(labels: &Labels<'a>, dom: DomId, call: &Call<'a>) -> Request<'
         Call::Revoke { gref } => Request::Revoke { gref: *gref },
         Call::Demote { gref } => Request::Demote { gref: *gref },
         Call::Promote { gref } => Request::Promote { gref: *gref },
+        Call::SetVersion { version } => Request::SetVersion { version: *version },
+        Call::SetupTable { frames } => Request::SetupTable { frames: *frames },
+        Call::QuerySize { dom } => Request::QuerySize { dom: *dom },
+        Call::GetVersion { dom } => Request::GetVersion { dom: *dom },
     }
 }
 

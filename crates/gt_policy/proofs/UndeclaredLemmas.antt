@@ -2,13 +2,12 @@
 use Rattle.std.proofs.Common.{subst, ◌≡◌, ℕ, ◌||◌, ◌&&◌, Bool, true, false, List, [], ◌∷◌, ◌++◌, Option, Some, None, is_some, Result, Ok, Err, position, refl, sym, ap, ◌∙◌, append_assoc}
 use Rattle.std.specs.List.{list_any, list_all}
 use Rattle.std.specs.Str.{bytes_eq}
-use Rattle.std.proofs.lemmas.List.Folds.{list_all-append, list_any-append}
+use Rattle.std.proofs.lemmas.List.Folds.{list_all-append}
 use Rattle.std.proofs.lemmas.Bool.{false≢true}
 use Rattle.std.proofs.lemmas.Slice.Eq.{bytes_eq-Decides}
 use Rattle.gt_policy.specs.declared.fault.Fault.{Fault}
 use Rattle.gt_policy.specs.declared.fault.Kind.TheVariants.{Unknown}
 use Rattle.gt_policy.specs.declared.symbols.Symbol.{Symbol}
-use Rattle.gt_policy.specs.declared.symbols.Symbol.TheVariants.{IsType, IsAttribute}
 use Rattle.gt_policy.specs.declared.statements.Mention.{Mention}
 use Rattle.gt_policy.specs.declared.statements.Item.{Item}
 use Rattle.gt_policy.specs.declared.statements.Item.TheVariants as item
@@ -16,10 +15,9 @@ use Rattle.gt_policy.specs.declared.statements.Statement.{Statement}
 use Rattle.gt_policy.specs.declared.statements.Statement.TheVariants.{DeclareType, DeclareAttribute, GiveAttributes, Allow}
 use Rattle.gt_policy.specs.declared.statements.Allowance.{Allowance}
 use Rattle.gt_policy.specs.declared.resolve.Element.{Element}
-use Rattle.gt_policy.specs.declared.resolve.Element.TheVariants.{With, Without, Itself}
+use Rattle.gt_policy.specs.declared.resolve.Element.TheVariants.{With, Without}
 use Rattle.gt_policy.specs.declared.resolve.Draft.{Draft}
-use Rattle.gt_policy.specs.declared.resolve.DraftRule.{DraftRule}
-use Rattle.gt_policy.specs.Names.{Names, symbol_at, symbol_of}
+use Rattle.gt_policy.specs.Names.{symbol_at, symbol_of}
 use Rattle.gt_policy.specs.Grammar.{◌>>=◌, at}
 use Rattle.gt_policy.specs.Spelling.{types_in, attributes_in, declared_in, names_of, AreDistinct, AreClean}
 use Rattle.gt_policy.specs.Allowing.{Meaning}

@@ -340,6 +340,21 @@ fn tells_types_by_number_and_name(rt: HostRuntime) -> Result<(), Fail> {
     Ok(())
 }
 
+#[test]
+fn lists_types_by_name(rt: HostRuntime) -> Result<(), Fail> {
+    let policy = Policy::parse(
+        rt.alloc(),
+        "type b;type a-b;type a0;type a;type B;type a.b;",
+    )?;
+    let ids = policy.by_name(rt.alloc())?;
+    let wanted = [4, 3, 1, 5, 2, 0];
+    assert_eq!(rt; ids.len(), wanted.len());
+    for (id, number) in ids.iter().zip(wanted) {
+        assert_eq!(rt; *id, TypeId(number));
+    }
+    Ok(())
+}
+
 const COPY_AND_QUERY: &str = "attribute domain;\n\
 type dom0_t, domain;\n\
 type domU_t, domain;\n\

@@ -1,4 +1,3 @@
-use Rattle.std.proofs.Common.{Err, inl, inr, refl, subst}
 use Rattle.gt_policy.proofs.LawLemmas.{says_first_fault, broken_says, undeclared_says}
 use Rattle.gt_policy.proofs.laws.first_faults.Goals as goal
 

@@ -1,4 +1,4 @@
-use Rattle.std.proofs.Common.{◌≡◌, Ok, refl}
+use Rattle.std.proofs.Common.{Ok, refl}
 use Rattle.gt_policy.proofs.LawLemmas.{says_written, written_says}
 use Rattle.gt_policy.proofs.UndeclaredLemmas.{meant_declared, declared_meant}
 use Rattle.gt_policy.proofs.laws.written_texts.Goals as goal
