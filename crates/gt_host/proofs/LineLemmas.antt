@@ -34,7 +34,7 @@ use Rattle.gt_host.specs.declared.outcome.Outcome.TheVariants.{Answered, Busy as
 use Rattle.gt_host.specs.Naming.{AreNamed}
 use Rattle.gt_host.specs.OpenCalls.{call_in}
 use Rattle.gt_host.specs.Printing.{answer_line, busy_line, idle_line}
-use Rattle.gt_host.specs.Runs.{Progress, Named, KnowsOpen, answer_in, DoLine, BeginLine, TickLine, ShowLine, history_of, with_events, with_line, with_call, answered, after_call, after_ticks, after_beginning, named_after, request_of, call_events, AnswerNothing}
+use Rattle.gt_host.specs.Runs.{Progress, Named, KnowsOpen, answer_in, DoLine, BeginLine, TickLine, ShowLine, history_of, with_events, with_line, with_call, answered, after_call, after_ticks, after_beginning, named_after, Asks, call_events, AnswerNothing}
 use Rattle.gt_host.specs.Showing.{show_line}
 use Rattle.gt_host.specs.Ticking.{Happens, Calls, TicksTo, IsKept, HasCome, IsAppended}
 use Rattle.gt_host.proofs.OpenLemmas.{own_call, other_call, HasOpen, ticks_stay}
@@ -161,21 +161,20 @@ answered_leaves s h d request count i xs before last a order answers legal n =
     ]
 
 pub do_answered : (s : Setting) (types : List (List ℕ)) (st : Step) (call : Call) (p : Progress) (old new : List State) (kept next : Kept) (before after : List ℕ) (request : Request) (said : Outcome) (a : Answer)
-    → request ≡ request_of p.named st.dom call → said ≡ Answered a → HasCome s p old kept → Calls s (history_of p) st.dom request new said
+    → Asks p.named st.dom call request → said ≡ Answered a → HasCome s p old kept → Calls s (history_of p) st.dom request new said
     → AreNamed next.labels (named_after p.named st.dom st a) → next.calls ≡ kept.calls → after ≡ before ++ answer_line types st.line st.dom a
     → (q : Progress) × DoLine types st call p q × HasCome s q new next × IsAppended p.text q.text before after
 do_answered s types st call p old new kept next before after request said a asks is come made names same line =
-    let made_so = subst (λ (o : Outcome). Calls s (history_of p) st.dom (request_of p.named st.dom call) new o) is (subst (λ (r : Request). Calls s (history_of p) st.dom r new said) asks made) in
-    let asked : Request = request_of p.named st.dom call in
-    let events : List Event = call_events st.dom asked made_so.ticks in
+    let made_so = subst (λ (o : Outcome). Calls s (history_of p) st.dom request new o) is made in
+    let events : List Event = call_events st.dom request made_so.ticks in
     let ends = made_so.comes.3 in
     let first : made_so.trace ≡ Did made_so.comes.0 ∷ made_so.comes.1 = made_so.comes.2 in
     let legal = subst (λ (l : List Element). LegalAfter s (history_of p) events l) first made_so.happens.legal in
     let left : (n : ℕ) → open_call (history_after (history_of p) made_so.trace) n ≡ open_call (history_of p) n = λ n.
     subst (λ (l : List Element). open_call (history_after (history_of p) l) n ≡ open_call (history_of p) n) (sym first)
-    (answered_leaves s (history_of p) st.dom asked made_so.ticks made_so.comes.0 made_so.comes.1 ends.before ends.last a (sym first ∙ ends.order) ends.answers legal n) in (
+    (answered_leaves s (history_of p) st.dom request made_so.ticks made_so.comes.0 made_so.comes.1 ends.before ends.last a (sym first ∙ ends.order) ends.answers legal n) in (
       after_call types (with_events p events made_so.trace) st (Answered a),
-      (made_so.ticks, made_so.trace, Answered a, made_so.length_of, made_so.comes, refl),
+      (request, asks, made_so.ticks, made_so.trace, Answered a, made_so.length_of, made_so.comes, refl),
       came s p events made_so.trace (named_after p.named st.dom st a) p.open_steps (p.text ++ answer_line types st.line st.dom a) old new kept next come made_so.happens
           (record { names = names; calls = λ n. ap (λ (c : OpenCalls). call_in c n) same ∙ come.keeps.calls n })
           (λ n. come.knows n ∙ ap is_some (sym (left n))),
@@ -183,13 +182,13 @@ do_answered s types st call p old new kept next before after request said a asks
     )
 
 pub do_busy : (s : Setting) (types : List (List ℕ)) (st : Step) (call : Call) (p : Progress) (old new : List State) (kept : Kept) (before after : List ℕ) (request : Request) (said : Outcome)
-    → request ≡ request_of p.named st.dom call → said ≡ IsBusy → HasCome s p old kept → Calls s (history_of p) st.dom request new said → after ≡ before ++ busy_line st.line st.dom
+    → Asks p.named st.dom call request → said ≡ IsBusy → HasCome s p old kept → Calls s (history_of p) st.dom request new said → after ≡ before ++ busy_line st.line st.dom
     → (q : Progress) × DoLine types st call p q × HasCome s q new kept × IsAppended p.text q.text before after
 do_busy s types st call p old new kept before after request said asks is come made line =
-    let made_so = subst (λ (o : Outcome). Calls s (history_of p) st.dom (request_of p.named st.dom call) new o) is (subst (λ (r : Request). Calls s (history_of p) st.dom r new said) asks made) in
-    let events : List Event = call_events st.dom (request_of p.named st.dom call) made_so.ticks in (
+    let made_so = subst (λ (o : Outcome). Calls s (history_of p) st.dom request new o) is made in
+    let events : List Event = call_events st.dom request made_so.ticks in (
       after_call types (with_events p events made_so.trace) st IsBusy,
-      (made_so.ticks, made_so.trace, IsBusy, made_so.length_of, made_so.comes, refl),
+      (request, asks, made_so.ticks, made_so.trace, IsBusy, made_so.length_of, made_so.comes, refl),
       came s p events made_so.trace p.named p.open_steps (p.text ++ busy_line st.line st.dom) old new kept kept come made_so.happens
           (record { names = come.keeps.names; calls = come.keeps.calls })
           (λ n. come.knows n ∙ ap (λ (l : List Element). is_some (open_call (history_after (history_of p) l) n)) (sym made_so.comes)),
@@ -199,72 +198,64 @@ do_busy s types st call p old new kept before after request said asks is come ma
 -- `begin ID CALL`
 
 -- one event of the domain
-begun_once : (s : Setting) (types : List (List ℕ)) (st : Step) (call : Call) (p : Progress) (x : Element) (named : List Named) (calls : ℕ → Option Step) (text : List ℕ) (old new : List State) (kept next : Kept) (before after : List ℕ)
-    → HasCome s p old kept → MayDo s (history_of p) (Begin st.dom (request_of p.named st.dom call)) x × CoreStands s (grown (history_of p) x) new
-    → after_beginning types (with_events p (Begin st.dom (request_of p.named st.dom call) ∷ []) (x ∷ [])) st x
-    ≡ record { events = p.events ++ Begin st.dom (request_of p.named st.dom call) ∷ []; trace = p.trace ++ x ∷ []; named = named; open_steps = calls; text = p.text ++ text }
+begun_once : (s : Setting) (types : List (List ℕ)) (st : Step) (call : Call) (p : Progress) (request : Request) (x : Element) (named : List Named) (calls : ℕ → Option Step) (text : List ℕ) (old new : List State) (kept next : Kept) (before after : List ℕ)
+    → Asks p.named st.dom call request → HasCome s p old kept → MayDo s (history_of p) (Begin st.dom request) x × CoreStands s (grown (history_of p) x) new
+    → after_beginning types (with_events p (Begin st.dom request ∷ []) (x ∷ [])) st x
+    ≡ record { events = p.events ++ Begin st.dom request ∷ []; trace = p.trace ++ x ∷ []; named = named; open_steps = calls; text = p.text ++ text }
     → AreNamed next.labels named → ((n : ℕ) → call_in next.calls n ≡ calls n) → ((n : ℕ) → (st.dom.0 ≡ n → ⊥) → calls n ≡ p.open_steps n) → is_some (calls st.dom.0) ≡ is_some (open_call (grown (history_of p) x) st.dom.0)
     → after ≡ before ++ text → (q : Progress) × BeginLine types st call p q × HasCome s q new next × IsAppended p.text q.text before after
-begun_once s types st call p x named calls text old new kept next before after come told is names known others here line =
-    let asked : Request = request_of p.named st.dom call in
-    let happens = happens_one s (history_of p) (Begin st.dom asked) x new told in (
-      record { events = p.events ++ Begin st.dom asked ∷ []; trace = p.trace ++ x ∷ []; named = named; open_steps = calls; text = p.text ++ text },
-      (x, sym is),
-      came s p (Begin st.dom asked ∷ []) (x ∷ []) named calls (p.text ++ text) old new kept next come happens (record { names = names; calls = known })
+begun_once s types st call p request x named calls text old new kept next before after asks come told is names known others here line =
+    let happens = happens_one s (history_of p) (Begin st.dom request) x new told in (
+      record { events = p.events ++ Begin st.dom request ∷ []; trace = p.trace ++ x ∷ []; named = named; open_steps = calls; text = p.text ++ text },
+      (request, asks, x, sym is),
+      came s p (Begin st.dom request ∷ []) (x ∷ []) named calls (p.text ++ text) old new kept next come happens (record { names = names; calls = known })
           (knows_next p.open_steps calls (history_of p) (grown (history_of p) x) st.dom.0 come.knows others
-          (λ n apart. event_other s (history_of p) (Begin st.dom asked) x st.dom n refl told.0 apart) here),
+          (λ n apart. event_other s (history_of p) (Begin st.dom request) x st.dom n refl told.0 apart) here),
       (text, refl, line),
     )
 
 pub begin_answered : (s : Setting) (types : List (List ℕ)) (st : Step) (call : Call) (p : Progress) (old new : List State) (kept next : Kept) (before after : List ℕ) (request : Request) (said : Begun) (a : Answer)
-    → request ≡ request_of p.named st.dom call → said ≡ begun.Done a → HasCome s p old kept → MayDo s (history_of p) (Begin st.dom request) (begun_element st.dom request said) × CoreStands s (grown (history_of p) (begun_element st.dom request said)) new
+    → Asks p.named st.dom call request → said ≡ begun.Done a → HasCome s p old kept → MayDo s (history_of p) (Begin st.dom request) (begun_element st.dom request said) × CoreStands s (grown (history_of p) (begun_element st.dom request said)) new
     → AreNamed next.labels (named_after p.named st.dom st a) → next.calls ≡ kept.calls → after ≡ before ++ answer_line types st.line st.dom a
     → (q : Progress) × BeginLine types st call p q × HasCome s q new next × IsAppended p.text q.text before after
 begin_answered s types st call p old new kept next before after request said a asks is come told names same line =
-    let asked : Request = request_of p.named st.dom call in
-    let i : Item = record { actor = st.dom; happened = Began asked; answer = Some a } in
-    let told_so = subst (λ (b : Begun). MayDo s (history_of p) (Begin st.dom asked) (begun_element st.dom asked b) × CoreStands s (grown (history_of p) (begun_element st.dom asked b)) new) is
-    (subst (λ (r : Request). MayDo s (history_of p) (Begin st.dom r) (begun_element st.dom r said) × CoreStands s (grown (history_of p) (begun_element st.dom r said)) new) asks told) in
-    let was : open_call (history_of p) st.dom.0 ≡ None = begins_fresh s (history_of p) st.dom asked i told_so.0 in
-    let now : open_call (i ∷ history_of p) st.dom.0 ≡ None = event_closes s (history_of p) (Begin st.dom asked) (Did i) st.dom a refl told_so.0 refl in
-    begun_once s types st call p (Did i) (named_after p.named st.dom st a) p.open_steps (answer_line types st.line st.dom a) old new kept next before after come told_so refl names
+    let i : Item = record { actor = st.dom; happened = Began request; answer = Some a } in
+    let told_so = subst (λ (b : Begun). MayDo s (history_of p) (Begin st.dom request) (begun_element st.dom request b) × CoreStands s (grown (history_of p) (begun_element st.dom request b)) new) is told in
+    let was : open_call (history_of p) st.dom.0 ≡ None = begins_fresh s (history_of p) st.dom request i told_so.0 in
+    let now : open_call (i ∷ history_of p) st.dom.0 ≡ None = event_closes s (history_of p) (Begin st.dom request) (Did i) st.dom a refl told_so.0 refl in
+    begun_once s types st call p request (Did i) (named_after p.named st.dom st a) p.open_steps (answer_line types st.line st.dom a) old new kept next before after asks come told_so refl names
     (λ n. ap (λ (c : OpenCalls). call_in c n) same ∙ come.keeps.calls n) (λ n apart. refl) (come.knows st.dom.0 ∙ ap is_some (was ∙ sym now)) line
 
 pub begin_busy : (s : Setting) (types : List (List ℕ)) (st : Step) (call : Call) (p : Progress) (old new : List State) (kept : Kept) (before after : List ℕ) (request : Request) (said : Begun)
-    → request ≡ request_of p.named st.dom call → said ≡ begun.Busy → HasCome s p old kept → MayDo s (history_of p) (Begin st.dom request) (begun_element st.dom request said) × CoreStands s (grown (history_of p) (begun_element st.dom request said)) new
+    → Asks p.named st.dom call request → said ≡ begun.Busy → HasCome s p old kept → MayDo s (history_of p) (Begin st.dom request) (begun_element st.dom request said) × CoreStands s (grown (history_of p) (begun_element st.dom request said)) new
     → after ≡ before ++ busy_line st.line st.dom → (q : Progress) × BeginLine types st call p q × HasCome s q new kept × IsAppended p.text q.text before after
 begin_busy s types st call p old new kept before after request said asks is come told line =
-    let asked : Request = request_of p.named st.dom call in
-    let told_so = subst (λ (b : Begun). MayDo s (history_of p) (Begin st.dom asked) (begun_element st.dom asked b) × CoreStands s (grown (history_of p) (begun_element st.dom asked b)) new) is
-    (subst (λ (r : Request). MayDo s (history_of p) (Begin st.dom r) (begun_element st.dom r said) × CoreStands s (grown (history_of p) (begun_element st.dom r said)) new) asks told) in
-    begun_once s types st call p Busy p.named p.open_steps (busy_line st.line st.dom) old new kept kept before after come told_so refl come.keeps.names come.keeps.calls (λ n apart. refl) (come.knows st.dom.0) line
+    let told_so = subst (λ (b : Begun). MayDo s (history_of p) (Begin st.dom request) (begun_element st.dom request b) × CoreStands s (grown (history_of p) (begun_element st.dom request b)) new) is told in
+    begun_once s types st call p request Busy p.named p.open_steps (busy_line st.line st.dom) old new kept kept before after asks come told_so refl come.keeps.names come.keeps.calls (λ n apart. refl) (come.knows st.dom.0) line
 
-begun_open : (s : Setting) (types : List (List ℕ)) (st : Step) (call : Call) (p : Progress) (old new : List State) (kept next : Kept) (before after : List ℕ)
-    → HasCome s p old kept → MayDo s (history_of p) (Begin st.dom (request_of p.named st.dom call)) (Did (record { actor = st.dom; happened = Began (request_of p.named st.dom call); answer = None }))
-    × CoreStands s (record { actor = st.dom; happened = Began (request_of p.named st.dom call); answer = None } ∷ history_of p) new
+begun_open : (s : Setting) (types : List (List ℕ)) (st : Step) (call : Call) (p : Progress) (old new : List State) (kept next : Kept) (before after : List ℕ) (request : Request)
+    → Asks p.named st.dom call request → HasCome s p old kept → MayDo s (history_of p) (Begin st.dom request) (Did (record { actor = st.dom; happened = Began request; answer = None }))
+    × CoreStands s (record { actor = st.dom; happened = Began request; answer = None } ∷ history_of p) new
     → next.labels ≡ kept.labels → ((n : ℕ) → call_in next.calls n ≡ cond (n == st.dom.0) (Some st) (call_in kept.calls n)) → after ≡ before
     → (q : Progress) × BeginLine types st call p q × HasCome s q new next × IsAppended p.text q.text before after
-begun_open s types st call p old new kept next before after come told same known line =
-    let this : Request = request_of p.named st.dom call in
-    let i : Item = record { actor = st.dom; happened = Began this; answer = None } in
+begun_open s types st call p old new kept next before after request asks come told same known line =
+    let i : Item = record { actor = st.dom; happened = Began request; answer = None } in
     let calls : ℕ → Option Step = λ n. cond (n == st.dom.0) (Some st) (p.open_steps n) in
-    let now : open_call (i ∷ history_of p) st.dom.0 ≡ Some (record { request = asked this; steps = [] }) = own_call i (history_of p) st.dom.0 refl in
-    begun_once s types st call p (Did i) p.named calls [] old new kept next before after come told
-    (ap (λ (text : List ℕ). record { events = p.events ++ Begin st.dom this ∷ []; trace = p.trace ++ Did i ∷ []; named = p.named; open_steps = calls; text = text }) (sym (append-nil p.text)))
+    let now : open_call (i ∷ history_of p) st.dom.0 ≡ Some (record { request = asked request; steps = [] }) = own_call i (history_of p) st.dom.0 refl in
+    begun_once s types st call p request (Did i) p.named calls [] old new kept next before after asks come told
+    (ap (λ (text : List ℕ). record { events = p.events ++ Begin st.dom request ∷ []; trace = p.trace ++ Did i ∷ []; named = p.named; open_steps = calls; text = text }) (sym (append-nil p.text)))
     (subst (λ (l : Labels). AreNamed l p.named) (sym same) come.keeps.names)
     (λ n. known n ∙ ap (λ (o : Option Step). cond (n == st.dom.0) (Some st) o) (come.keeps.calls n))
     (pick_other p.open_steps (Some st) st.dom.0) (ap is_some (pick_own p.open_steps (Some st) st.dom.0) ∙ sym (ap is_some now)) (line ∙ sym (append-nil before))
 
 pub begin_open : (s : Setting) (types : List (List ℕ)) (st : Step) (call : Call) (p : Progress) (old new : List State) (kept next : Kept) (before after : List ℕ) (request : Request) (said : Begun)
-    → request ≡ request_of p.named st.dom call → domain_of s.domains st.dom ≢ None → (said ≡ begun.Open) ⊎ (said ≡ begun.NoDomain) → HasCome s p old kept
+    → Asks p.named st.dom call request → domain_of s.domains st.dom ≢ None → (said ≡ begun.Open) ⊎ (said ≡ begun.NoDomain) → HasCome s p old kept
     → MayDo s (history_of p) (Begin st.dom request) (begun_element st.dom request said) × CoreStands s (grown (history_of p) (begun_element st.dom request said)) new
     → next.labels ≡ kept.labels → ((n : ℕ) → call_in next.calls n ≡ cond (n == st.dom.0) (Some st) (call_in kept.calls n)) → after ≡ before
     → (q : Progress) × BeginLine types st call p q × HasCome s q new next × IsAppended p.text q.text before after
 begin_open s types st call p old new kept next before after request said asks configured (inl is) come told same known line =
-    let asked : Request = request_of p.named st.dom call in
-    begun_open s types st call p old new kept next before after come
-    (subst (λ (b : Begun). MayDo s (history_of p) (Begin st.dom asked) (begun_element st.dom asked b) × CoreStands s (grown (history_of p) (begun_element st.dom asked b)) new) is
-    (subst (λ (r : Request). MayDo s (history_of p) (Begin st.dom r) (begun_element st.dom r said) × CoreStands s (grown (history_of p) (begun_element st.dom r said)) new) asks told))
+    begun_open s types st call p old new kept next before after request asks come
+    (subst (λ (b : Begun). MayDo s (history_of p) (Begin st.dom request) (begun_element st.dom request b) × CoreStands s (grown (history_of p) (begun_element st.dom request b)) new) is told)
     same known line
 begin_open s types st call p old new kept next before after request said asks configured (inr is) come told same known line =
     absurd (configured (subst (λ (b : Begun). MayDo s (history_of p) (Begin st.dom request) (begun_element st.dom request b)) is told.0))

@@ -1,11 +1,13 @@
 -- What a run of a script does and prints.
 use Rattle.std.specs.Prelude.{◌≡◌, ◌≤◌, ℕ, ◌+◌, ◌-◌, ◌^◌, ◌==◌, ◌&&◌, List, [], ◌∷◌, ◌++◌, length, replicate, Option, Some, None, unwrap_or, is_some, if◌then◌else◌}
+use Rattle.std.specs.Borrow.{Bor}
 use Rattle.std.specs.Str.{bytes_eq}
 use Rattle.gt_types.specs.declared.DomId.{DomId}
 use Rattle.gt_types.specs.declared.GrantRef.{GrantRef}
 use Rattle.gt_types.specs.declared.config.DomainConfig.{DomainConfig}
 use Rattle.gt_entry.specs.declared.entry.Entry.{Entry}
 use Rattle.gt_entry.specs.declared.entry.Entry.TheVariants as entries
+use Rattle.gt_script.specs.Hexadecimal.{hex_bytes}
 use Rattle.gt_script.specs.declared.calls.Grant.{Grant}
 use Rattle.gt_script.specs.declared.calls.Grant.TheVariants as grants
 use Rattle.gt_script.specs.declared.calls.Call.{Call}
@@ -60,19 +62,29 @@ entry_of (grants.Page dom ro frame) = entries.Page dom ro frame
 entry_of (grants.Sub dom ro frame off len) = entries.Sub dom ro frame off len
 entry_of (grants.Via dom ro to gref) = entries.Via dom ro to gref
 
--- (own) what a call of a script asks of the core, where its labels stand for these handles
-unfoldable pub request_of : List Named → DomId → Call → Request
-request_of named dom (calls.Grant gref grant) = requests.Grant gref (entry_of grant)
-request_of named dom (calls.Map label to gref flags) = requests.Map to gref flags
-request_of named dom (calls.Unmap label) = requests.Unmap (handle_of named dom label)
-request_of named dom (calls.Load label off len) = requests.Load (handle_of named dom label) off len
-request_of named dom (calls.Revoke gref) = requests.Revoke gref
-request_of named dom (calls.Demote gref) = requests.Demote gref
-request_of named dom (calls.Promote gref) = requests.Promote gref
-request_of named dom (calls.SetVersion version) = requests.SetVersion version
-request_of named dom (calls.SetupTable frames) = requests.SetupTable frames
-request_of named dom (calls.QuerySize to) = requests.QuerySize to
-request_of named dom (calls.GetVersion to) = requests.GetVersion to
+-- (own) the bytes that a call of a script says: those of an entry
+unfoldable pub bytes_said : Call → List ℕ
+bytes_said (calls.GrantBytes gref hex) = hex_bytes hex
+bytes_said call = []
+
+-- (own) what a call of a script asks of the core, where its labels stand for these handles and these are its bytes
+unfoldable pub request_of : List Named → DomId → Bor (List ℕ) → Call → Request
+request_of named dom bytes (calls.Grant gref grant) = requests.Grant gref (entry_of grant)
+request_of named dom bytes (calls.GrantBytes gref hex) = requests.GrantBytes gref bytes
+request_of named dom bytes (calls.Map label to gref flags) = requests.Map to gref flags
+request_of named dom bytes (calls.Unmap label) = requests.Unmap (handle_of named dom label)
+request_of named dom bytes (calls.Load label off len) = requests.Load (handle_of named dom label) off len
+request_of named dom bytes (calls.Revoke gref) = requests.Revoke gref
+request_of named dom bytes (calls.Demote gref) = requests.Demote gref
+request_of named dom bytes (calls.Promote gref) = requests.Promote gref
+request_of named dom bytes (calls.SetVersion version) = requests.SetVersion version
+request_of named dom bytes (calls.SetupTable frames) = requests.SetupTable frames
+request_of named dom bytes (calls.QuerySize to) = requests.QuerySize to
+request_of named dom bytes (calls.GetVersion to) = requests.GetVersion to
+
+-- (own) a call of a script asks this of the core, where its labels stand for these handles
+abbrev pub Asks : List Named → DomId → Call → Request → Type 0
+Asks named dom call request = (bytes : Bor (List ℕ)) × (bytes.now ≡ bytes_said call) × (request ≡ request_of named dom bytes call)
 
 -- (own) the label to which a call gives its handle: that of a map
 unfoldable pub label_given : Call → Option (List ℕ)
@@ -196,13 +208,15 @@ after_ticks types p dom begun None = p
 -- (own) the line `do ID CALL`
 abbrev pub DoLine : List (List ℕ) → Step → Call → Progress → Progress → Type 0
 DoLine types s call p q =
-    (ticks : ℕ) × (trace : List Element) × (outcome : Outcome) × (length trace ≡ 1 + ticks) × ComesTo trace outcome
-    × (q ≡ after_call types (with_events p (call_events s.dom (request_of p.named s.dom call) ticks) trace) s outcome)
+    (request : Request) × Asks p.named s.dom call request
+    × (ticks : ℕ) × (trace : List Element) × (outcome : Outcome) × (length trace ≡ 1 + ticks) × ComesTo trace outcome
+    × (q ≡ after_call types (with_events p (call_events s.dom request ticks) trace) s outcome)
 
 -- (own) the line `begin ID CALL`
 abbrev pub BeginLine : List (List ℕ) → Step → Call → Progress → Progress → Type 0
 BeginLine types s call p q =
-    (x : Element) × (q ≡ after_beginning types (with_events p (Begin s.dom (request_of p.named s.dom call) ∷ []) (x ∷ [])) s x)
+    (request : Request) × Asks p.named s.dom call request
+    × (x : Element) × (q ≡ after_beginning types (with_events p (Begin s.dom request ∷ []) (x ∷ [])) s x)
 
 -- (own) the line `tick ID N`: idle where the domain has no call open, and then nothing happens
 abbrev pub TickLine : List (List ℕ) → Step → ℕ → Option Step → Progress → Progress → Type 0

@@ -5,7 +5,7 @@ ghost use Rattle.gt_types.specs.Names.{domain_of};
 ghost use Rattle.gt_core.specs.History.{History};
 ghost use Rattle.gt_core.specs.Standing.{CoreStands, setting_of};
 ghost use Rattle.gt_host.specs.Printing.{answer_line};
-ghost use Rattle.gt_host.specs.Runs.{Named, entry_of, request_of, label_in, named_after, DoLine, BeginLine, TickLine, RunsLine};
+ghost use Rattle.gt_host.specs.Runs.{Named, entry_of, bytes_said as said_in, request_of, label_in, named_after, DoLine, BeginLine, TickLine, RunsLine};
 ghost use Rattle.gt_host.specs.Naming.{AreNamed};
 ghost use Rattle.gt_host.specs.Ticking.{IsReady, Calls, TicksTo, Leads};
 ghost use Rattle.gt_host.specs.declared.fault.Fault.TheVariants as faults;
@@ -18,7 +18,7 @@ use crate::outcome::{MOST_TICKS, Outcome};
 use crate::showing::push_show_line;
 use gt_core::{Answer, Begun, Core, Request, Ticked};
 use gt_entry::Entry;
-use gt_script::{Action, Call, Grant, Step, Text};
+use gt_script::{Action, Call, Grant, Step, Text, hex_bytes};
 use gt_types::{Allows, DomId, Memory};
 use std::alloc::{AllocError, Global};
 
@@ -63,16 +63,33 @@ fn entry_of(grant: Grant) -> Entry
     }
 }
 
-// What a call asks of the core.
+// The bytes that a call says: those of an entry.
+#[tactic(auto, unfolding(crate::specs::Runs::bytes_said))]
+fn bytes_said<'a>(alloc: Global, call: &Call<'a>) -> Result<Vec<u8>, AllocError>
+    ensures { IfOk result (λ bytes. bytes.items ≡ said_in call.now) }
+{
+    match call {
+        Call::GrantBytes { hex, .. } => hex_bytes(alloc, hex),
+        _ => Ok(Vec::new(alloc)),
+    }
+}
+
+// What a call that says these bytes asks of the core.
 #[tactic(auto, unfolding(crate::specs::Runs::request_of))]
-fn request_of<'a>(labels: &Labels<'a>, dom: DomId, call: &Call<'a>) -> Request<'static>
-    ensures { (named : List Named) → AreNamed labels.now named → result ≡ request_of named dom call.now }
+fn request_of<'a, 'c>(
+    labels: &Labels<'a>,
+    dom: DomId,
+    bytes: &'c [u8],
+    call: &Call<'a>,
+) -> Request<'c>
+    ensures { (named : List Named) → AreNamed labels.now named → result ≡ request_of named dom bytes.entry call.now }
 {
     match call {
         Call::Grant { gref, entry } => Request::Grant {
             gref: *gref,
             entry: entry_of(*entry),
         },
+        Call::GrantBytes { gref, .. } => Request::GrantBytes { gref: *gref, bytes },
         Call::Map {
             dom,
             gref,
@@ -187,7 +204,7 @@ fn run_call<P: Allows>(
     }
 }
 
-// A line `do ID CALL`.
+// A line `do ID CALL`, whose call says these bytes.
 fn run_do<'b, 'a, P: Allows>(
     alloc: Global,
     core: &mut Core<P>,
@@ -195,16 +212,18 @@ fn run_do<'b, 'a, P: Allows>(
     types: &[Text<'a>],
     step: &Step<'a>,
     call: &Call<'a>,
+    bytes: &[u8],
     out: &mut Vec<u8>,
 ) -> Result<(), Fault>
-    requires { IsReady (setting_of core.old.config (P.may core.old.rights)) step.now.dom core.old.domains.items }
+    requires ready { IsReady (setting_of core.old.config (P.may core.old.rights)) step.now.dom core.old.domains.items }
+    requires said { bytes.now ≡ said_in call.now }
     ensures leads { OnOk result (Leads (setting_of core.old.config (P.may core.old.rights)) (DoLine types.now step.now call.now)
         core.old.domains.items core.new.domains.items kept.old kept.new out.old.items out.new.items) }
     ensures config { core.new.config ≡ core.old.config }
     ensures rights { core.new.rights ≡ core.old.rights }
     ensures errors { IfErr result (λ e. e ≡ faults.Memory) }
 {
-    let request = request_of(&kept.labels, step.dom, call);
+    let request = request_of(&kept.labels, step.dom, bytes, call);
     match run_call(core, step.dom, request)? {
         Outcome::Answered(answer) => settle(
             alloc,
@@ -220,7 +239,7 @@ fn run_do<'b, 'a, P: Allows>(
     Ok(())
 }
 
-// A line `begin ID CALL`.
+// A line `begin ID CALL`, whose call says these bytes.
 fn run_begin<'b, 'a, P: Allows>(
     alloc: Global,
     core: &mut Core<P>,
@@ -228,16 +247,18 @@ fn run_begin<'b, 'a, P: Allows>(
     types: &[Text<'a>],
     step: &'b Step<'a>,
     call: &Call<'a>,
+    bytes: &[u8],
     out: &mut Vec<u8>,
 ) -> Result<(), Fault>
-    requires { domain_of core.old.config.domains.items step.now.dom ≢ None }
+    requires known { domain_of core.old.config.domains.items step.now.dom ≢ None }
+    requires said { bytes.now ≡ said_in call.now }
     ensures leads { OnOk result (Leads (setting_of core.old.config (P.may core.old.rights)) (BeginLine types.now step.now call.now)
         core.old.domains.items core.new.domains.items kept.old kept.new out.old.items out.new.items) }
     ensures config { core.new.config ≡ core.old.config }
     ensures rights { core.new.rights ≡ core.old.rights }
     ensures errors { IfErr result (λ e. e ≡ faults.Memory) }
 {
-    let request = request_of(&kept.labels, step.dom, call);
+    let request = request_of(&kept.labels, step.dom, bytes, call);
     match core.begin(step.dom, request)? {
         Begun::Done(answer) => settle(
             alloc,
@@ -308,8 +329,14 @@ pub fn run_step<'b, 'a, P: Allows>(
     ensures errors { IfErr result (λ e. e ≡ faults.Memory) }
 {
     match &step.action {
-        Action::Do(call) => run_do(alloc, core, kept, types, step, call, out),
-        Action::Begin(call) => run_begin(alloc, core, kept, types, step, call, out),
+        Action::Do(call) => {
+            let bytes = bytes_said(alloc, call)?;
+            run_do(alloc, core, kept, types, step, call, bytes.as_slice(), out)
+        }
+        Action::Begin(call) => {
+            let bytes = bytes_said(alloc, call)?;
+            run_begin(alloc, core, kept, types, step, call, bytes.as_slice(), out)
+        }
         Action::Tick(most) => run_ticks(alloc, core, kept, types, step, *most, out),
         Action::Show(gref) => {
             let shown = core.show(step.dom, *gref);

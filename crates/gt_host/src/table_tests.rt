@@ -82,3 +82,35 @@ show 1 1\n";
     assert_eq!(rt; text.as_slice(), want.as_bytes());
     Ok(())
 }
+
+#[test]
+fn entries_by_their_bytes(rt: HostRuntime) -> Result<(), Fail> {
+    let body = "do 1 bytes 0 0900020005000000\n\
+do 1 bytes 0 0100020005000000\n\
+do 1 bytes 1 01000200050000\n\
+do 1 bytes 1 0101020005000000\n\
+do 1 bytes 1 0300020005000000\n\
+do 1 bytes 1 -\n\
+do 1 bytes 0 0100020006000000\n\
+begin 1 bytes 2 0500030006000000\n\
+tick 1 1\n\
+do 2 map h 1 0 rw\n\
+show 1 0\n\
+tick 1 9\n\
+show 1 2\n";
+    let want = "12 1 N25 -1 field=reading\n13 1 ok\n14 1 N25 -1 field=length\n\
+15 1 N25 -1 field=sub_page\n16 1 N25 -1 field=type\n17 1 N25 -1 field=length\n\
+18 1 N20 -1\n21 2 ok\n\
+22 show 1 0 page 2 rw frame=5 gen=1 reads=0 writes=1 status=0018\n\
+19 1 ok\n\
+24 show 1 2 page 3 ro frame=6 gen=1 reads=0 writes=0 status=0000\n";
+    let text = text_of(rt.alloc(), FIRST_VERSION, body)?;
+    assert_eq!(rt; text.as_slice(), want.as_bytes());
+
+    let body = "do 1 bytes 0 05010300640032000700000000000000\nshow 1 0\n";
+    let want = "12 1 ok\n\
+13 show 1 0 sub 3 ro frame=7 off=100 len=50 gen=1 reads=0 writes=0 status=0000\n";
+    let text = text_of(rt.alloc(), SECOND_VERSION, body)?;
+    assert_eq!(rt; text.as_slice(), want.as_bytes());
+    Ok(())
+}
