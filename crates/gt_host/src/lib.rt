@@ -1,11 +1,12 @@
 //! What a run of grant tables reads and prints.
 //!
-//! `play` takes a script from a reader, runs its calls one after the other on the core, and
-//! writes a line for each answer. It works over any reader and writer, so the program, a test
-//! and a service drive the same code.
+//! `play` takes a script from a reader, runs its lines one after the other on the core, and
+//! writes a line for each answer and for what a line shows. A call runs to its answer, or step by
+//! step between those of others. It works over any reader and writer, so the program, a test and a
+//! service drive the same code.
 //!
-//! What holds of it: the text that went out is the lines of the answers of a run of the script,
-//! and what the run did is a legal trace of the core. It is whole where `play` answers Ok; a
+//! What holds of it: the text that went out is that of a run of the script, and what the run did
+//! is a legal trace of the core. It is whole where `play` answers Ok; a
 //! script with a fault writes nothing, and the fault is the script's first; after a failed write,
 //! or for want of memory, what went out is a beginning of such a text. It stands on `gt_script`
 //! for what a script says and on `gt_core` for what its calls do.

@@ -109,8 +109,8 @@ fn play_bytes<W: Write>(alloc: Global, input: &[u8], writer: &mut W) -> Result<(
     }
 }
 
-/// Plays the script that the reader has: runs its calls on the core, one after the other, and
-/// writes a line for each answer.
+/// Plays the script that the reader has: runs its lines on the core, one after the other, and
+/// writes a line for each answer, for what a line shows, and at the end for each call that is open.
 ///
 /// Of the reader at most 1,048,577 bytes are read. A script with a fault writes nothing. After a
 /// failed write, or for want of memory, a beginning of the text was written. `audit` asks for the
