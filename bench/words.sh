@@ -54,11 +54,12 @@ compare() {
 
 printf '%-9s %7s %8s %8s %8s %9s %9s\n' load threads proved atomics locks /atomics /locks
 for load in apart adjacent one grants; do
-  case "$load" in
-    apart | adjacent) rounds=5000000 ;;
-    *) rounds=100000 ;;
-  esac
   for threads in 1 2 3 4; do
+    case "$load $threads" in
+      apart* | adjacent*) rounds=5000000 ;;
+      *" 1") rounds=1000000 ;;
+      *) rounds=200000 ;;
+    esac
     compare "$load" "$threads" "$rounds"
   done
 done
