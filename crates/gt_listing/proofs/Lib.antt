@@ -1,0 +1,4 @@
+pub mod LineLemmas
+pub mod ListedLemmas
+pub mod PieceLemmas
+pub mod StreamLemmas
