@@ -1,18 +1,16 @@
 -- The lines of all triples, source by source and target by target.
-use Rattle.std.proofs.Common.{◌≡◌, ℕ, Bool, true, false, List, [], ◌∷◌, ◌++◌, map, Option, Result, Ok, Err, OnOk, refl, ap, sym, subst, ◌∙◌}
+use Rattle.std.proofs.Common.{◌≡◌, ℕ, Bool, true, false, List, [], ◌∷◌, ◌++◌, Option, Result, Ok, Err, OnOk, refl, ap, sym, subst, ◌∙◌}
 use Rattle.std.specs.Prelude.{if◌then◌else◌, filter}
 use Rattle.std.specs.List.{flat_map}
 use Rattle.std.proofs.lemmas.List.Concat.{flat_map-append}
 use Rattle.std.proofs.lemmas.List.Folds.{flat_map-map}
-use Rattle.std.proofs.lemmas.List.{append-nil}
 use Rattle.std.specs.Io.KnownBytes.{Appends}
 use Rattle.gt_types.specs.declared.TypeId.{TypeId}
 use Rattle.gt_types.specs.declared.perms.Perms.{Perms}
 use Rattle.gt_types.specs.declared.rights.Triple.{Triple}
 use Rattle.gt_policy.specs.Listing.{name_of}
-use Rattle.gt_policy.specs.TypeSets.{holds}
 use Rattle.gt_listing.specs.Listing.{permissions, triple_line, line_of, pair_triples, triples_of, is_one, listing}
-use Rattle.gt_listing.specs.Rights.{AreRights, held_on, may_on, right_line, pair_lines, source_lines}
+use Rattle.gt_listing.specs.Rights.{AreRights, held_on, may_on, pair_lines, source_lines}
 use Rattle.gt_listing.specs.Streams.{AppendsBeginning, Sends}
 use Rattle.gt_listing.specs.declared.lines.Right.{Right}
 use Rattle.gt_listing.proofs.PieceLemmas.{sends_all}

@@ -1,7 +1,7 @@
 -- From what was read and written to what is listed.
-use Rattle.std.proofs.Common.{◌≡◌, ◌⊎◌, ℕ, ◌+◌, ◌<◌, ◌≤◌, zero, suc, List, [], ◌∷◌, length, length-take, take, min, Option, None, Some, Result, Ok, Err, OnOk, OnErr, IfErr, IfSome, refl, ap, sym, subst, ◌∙◌, inl, inr, arith}
+use Rattle.std.proofs.Common.{◌≡◌, ◌⊎◌, ℕ, ◌+◌, ◌<◌, ◌≤◌, List, length, length-take, take, min, Option, None, Some, Result, Ok, Err, OnOk, OnErr, IfErr, IfSome, refl, sym, subst, ◌∙◌, inl, inr, arith}
 use Rattle.std.proofs.lemmas.List.{take_all}
-use Rattle.std.specs.Io.KnownBytes.{Appends, Keeps}
+use Rattle.std.specs.Io.KnownBytes.{Appends}
 use Rattle.std.specs.Str.{IsUtf8}
 use Rattle.gt_types.specs.declared.TypeId.{TypeId}
 use Rattle.gt_policy.specs.Allowing.{Meaning, Rights, Shows, may_of, is_allowed}

@@ -1,5 +1,5 @@
 -- Texts that grow piece by piece, and go out in parts.
-use Rattle.std.proofs.Common.{◌≡◌, ℕ, ◌+◌, ◌<◌, ◌≤◌, List, [], ◌∷◌, ◌++◌, length, take, drop, get_or, Option, None, Some, Result, Ok, Err, OnOk, OnErr, refl, ap, sym, subst, ◌∙◌, append_assoc, length-append, add-one, arith}
+use Rattle.std.proofs.Common.{◌≡◌, ℕ, ◌+◌, ◌<◌, List, [], ◌∷◌, ◌++◌, length, take, drop, get_or, Option, None, Some, Result, Ok, Err, OnErr, refl, ap, sym, subst, ◌∙◌, append_assoc, length-append, add-one, arith}
 use Rattle.std.proofs.Math.Seq.{take-suc, take-append-add, take-length}
 use Rattle.std.proofs.lemmas.List.{append-nil, flat_map_more, take-append-drop, take-append-le}
 use Rattle.std.proofs.lemmas.List.Concat.{flat_map-append}

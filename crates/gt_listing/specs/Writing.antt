@@ -2,7 +2,6 @@
 use Rattle.std.specs.Prelude.{◌≡◌, ◌⊎◌, ℕ, List, Option, Some, Result, Ok, Err}
 use Rattle.std.specs.Io.KnownBytes.{Appends, Keeps}
 use Rattle.gt_types.specs.declared.TypeId.{TypeId}
-use Rattle.gt_types.specs.declared.perms.Perms.{Perms}
 use Rattle.gt_policy.specs.Allowing.{Meaning, Rights, may_of, is_allowed}
 use Rattle.gt_policy.specs.Listing.{AreByName}
 use Rattle.gt_policy.specs.Shown.{fault_shown}

@@ -11,6 +11,7 @@
 #![tactic(auto)]
 
 mod fault;
+mod laws;
 mod lines;
 mod listing;
 mod sources;
@@ -20,4 +21,5 @@ mod tests;
 mod text;
 
 pub use fault::Fault;
+pub use laws::one_listing;
 pub use listing::policy;

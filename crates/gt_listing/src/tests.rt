@@ -114,7 +114,11 @@ fn every_beginning_is_listed_or_refused(rt: HostRuntime) -> Result<(), Fail> {
         let mut reader = &GUESTS.as_bytes()[..length];
         let mut writer = Vec::new(rt.alloc());
         match policy(rt.alloc(), &mut reader, &mut writer) {
-            Ok(()) => assert!(rt; writer.is_empty() || length + 1 == GUESTS.len()),
+            Ok(()) => {
+                let is_whole = length + 1 == GUESTS.len();
+                let want = if is_whole { GUESTS_LINES } else { "" };
+                assert_eq!(rt; writer.as_slice(), want.as_bytes(), "{length} bytes");
+            }
             Err(Fault::Policy(_)) => assert!(rt; writer.is_empty(), "{length} bytes"),
             Err(_) => assert!(rt; false, "{length} bytes"),
         }

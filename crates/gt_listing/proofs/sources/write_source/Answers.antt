@@ -1,8 +1,7 @@
-use Rattle.std.proofs.Common.{◌≡◌, ◌<◌, ◌++◌, List, ℕ, Option, length, refl, subst, arith}
+use Rattle.std.proofs.Common.{◌≡◌, ◌<◌, length, arith}
 use Rattle.gt_types.specs.declared.TypeId.{TypeId}
 use Rattle.gt_policy.specs.Listing.{name_of}
 use Rattle.gt_listing.specs.Rights.{pair_lines}
-use Rattle.gt_listing.specs.Streams.{Sends}
 use Rattle.gt_listing.proofs.LineLemmas.{pair_named}
 use Rattle.gt_listing.proofs.PieceLemmas.{OnErr-all, begins_pieces, has_begun, sends_nothing, sent_all, step_begun, step_sent}
 use Rattle.gt_listing.proofs.sources.write_source.Goals as goal
