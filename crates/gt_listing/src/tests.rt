@@ -254,8 +254,8 @@ fn a_writer_that_fails(rt: HostRuntime) -> Result<(), Fail> {
     Ok(())
 }
 
-// A listing in which one allocation may fail: then memory was refused, and what went out is a
-// beginning of the lines.
+// For listings in which one allocation fails. Where that is one of `policy`, it answers that memory
+// was refused, and what went out is a beginning of the lines. The test's own room is asked for again.
 fn refused_at_most_once(
     rt: &impl Abort,
     alloc: Global,
@@ -263,10 +263,11 @@ fn refused_at_most_once(
     lines: &str,
 ) -> Result<(), Fail> {
     let mut reader = text.as_bytes();
-    let mut writer = FailingWriter {
-        taken: Vec::with_capacity(alloc, 4096)?,
-        left: 4096,
+    let taken = match Vec::with_capacity(alloc, 4096) {
+        Ok(taken) => taken,
+        Err(_) => Vec::with_capacity(alloc, 4096)?,
     };
+    let mut writer = FailingWriter { taken, left: 4096 };
     match policy(alloc, &mut reader, &mut writer) {
         Ok(()) => assert_eq!(rt; writer.taken.as_slice(), lines.as_bytes()),
         Err(fault) => {

@@ -6,4 +6,4 @@ use Rattle.gt_listing.proofs.lines.rights_of.Given as goal
 
 abbrev pub invariant-permissions : goal.invariant-permissions
 invariant-permissions l =
-    (t : ℕ) → map (held_on t) l.rights.items ≡ map (may_on (may_of l.policy) l.source.0 t) (take l.perm-index permissions)
+    (t : ℕ) → map (held_on t) l.rights.items ≡ map (may_on (may_of l.policy) l.fn.source.0 t) (take l.perm-index permissions)
