@@ -1,0 +1,5 @@
+pub mod LineLemmas
+pub mod OrderLemmas
+pub mod ListedLemmas
+pub mod PieceLemmas
+pub mod StreamLemmas

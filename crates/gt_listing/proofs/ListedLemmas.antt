@@ -1,0 +1,117 @@
+-- From what was read and written to what is listed.
+use Rattle.std.proofs.Common.{◌≡◌, ◌⊎◌, ℕ, ◌+◌, ◌<◌, ◌≤◌, List, length, length-take, take, min, Option, None, Some, Result, Ok, Err, OnOk, OnErr, IfErr, IfSome, refl, sym, subst, ◌∙◌, inl, inr, arith}
+use Rattle.std.proofs.lemmas.List.{take_all}
+use Rattle.std.specs.Io.KnownBytes.{Appends}
+use Rattle.std.specs.Str.{IsUtf8}
+use Rattle.gt_types.specs.declared.TypeId.{TypeId}
+use Rattle.gt_policy.specs.Allowing.{Meaning, Rights, Shows, may_of, is_allowed}
+use Rattle.gt_policy.specs.Grammar.{at}
+use Rattle.gt_policy.specs.Listing.{AreByName}
+use Rattle.gt_policy.specs.Shown.{fault_shown}
+use Rattle.gt_policy.specs.Whole.{Says, too_long}
+use Rattle.gt_policy.specs.declared.fault.Fault as policy
+use Rattle.gt_policy.specs.declared.fault.Kind.TheVariants.{Limit}
+use Rattle.gt_policy.specs.declared.parse.FaultKind.{FaultKind}
+use Rattle.gt_policy.specs.declared.parse.FaultKind.TheVariants as kinds
+use Rattle.gt_listing.specs.declared.fault.Fault.{Fault}
+use Rattle.gt_listing.specs.declared.fault.Fault.TheVariants as faults
+use Rattle.gt_listing.specs.Faults.{fault_of}
+use Rattle.gt_listing.specs.Reading.{IsNoText}
+use Rattle.gt_listing.specs.Streams.{AppendsBeginning}
+use Rattle.gt_listing.specs.Writing.{IsListing, Listed, Parsed, Writes, text_with}
+use Rattle.gt_listing.proofs.LineLemmas.{listing_same}
+use Rattle.gt_listing.proofs.PieceLemmas.{Keeps-same}
+
+-- the lines went out, or a beginning of them
+pub writes : (p : Rights) (ids : List TypeId) (old new : Option (List ℕ)) (r : Result (Unit {0}) Fault) → AreByName p.types ids → OnOk r (Appends old new (text_with p ids)) → OnErr r (AppendsBeginning old new (text_with p ids))
+    → IfErr r (λ e. (e ≡ faults.Memory) ⊎ (e ≡ faults.Write)) → Writes p old new r
+writes p ids old new (Ok done) named whole begun few = (ids, named, whole)
+writes p ids old new (Err faults.Write) named whole begun few = (ids, named, begun)
+writes p ids old new (Err faults.Memory) named whole begun few = inr (ids, named, begun)
+writes p ids old new (Err faults.Read) named whole begun few = elim few [ inl e ↦ cc | inr e ↦ cc ]
+writes p ids old new (Err (faults.Utf8 line)) named whole begun few = elim few [ inl e ↦ cc | inr e ↦ cc ]
+writes p ids old new (Err (faults.Policy shown)) named whole begun few = elim few [ inl e ↦ cc | inr e ↦ cc ]
+
+-- memory ran out before a line
+pub writes_nothing : (p : Rights) (old : Option (List ℕ)) (fault : Fault) → fault ≡ faults.Memory → Writes p old old (Err fault)
+writes_nothing p old fault is = subst (λ (f : Fault). Writes p old old (Err f)) (sym is) (inl (Keeps-same old))
+
+-- the text of what is kept is that of the meaning
+is_listing : (p : Rights) (m : Meaning) (ids : List TypeId) → Shows p m → AreByName p.types ids → IsListing m (text_with p ids)
+is_listing p m ids shows named =
+    (ids, subst (λ (l : List (List ℕ)). AreByName l ids) shows.types named, listing_same p.types m.types (may_of p) (is_allowed m) ids shows.types shows.may)
+
+pub parsed : (p : Rights) (m : Meaning) (text : List ℕ) (old new : Option (List ℕ)) (r : Result (Unit {0}) Fault) → Says text (Ok m) → Shows p m → Writes p old new r → Parsed text old new r
+parsed p m text old new (Ok done) says shows w = (m, says, (text_with p w.0, is_listing p m w.0 shows w.1, w.2))
+parsed p m text old new (Err faults.Write) says shows w = (m, says, (text_with p w.0, is_listing p m w.0 shows w.1, w.2))
+parsed p m text old new (Err faults.Memory) says shows (inl kept) = inl kept
+parsed p m text old new (Err faults.Memory) says shows (inr w) = inr (m, says, (text_with p w.0, is_listing p m w.0 shows w.1, w.2))
+parsed p m text old new (Err faults.Read) says shows w = absurd w
+parsed p m text old new (Err (faults.Utf8 line)) says shows w = absurd w
+parsed p m text old new (Err (faults.Policy shown)) says shows w = absurd w
+
+-- the text is no policy
+refused : (line : ℕ) (kind : FaultKind) (text : List ℕ) (old : Option (List ℕ)) → ((f : policy.Fault) → fault_shown (record { line = line; kind = kind }) ≡ Some f → Says text (Err f)) → Parsed text old old (Err (fault_of line kind))
+refused line kinds.Memory text old says = inl (Keeps-same old)
+refused line kinds.Syntax text old says = (_, refl, says _ refl, Keeps-same old)
+refused line (kinds.Unknown name) text old says = (_, refl, says _ refl, Keeps-same old)
+refused line (kinds.Twice name) text old says = (_, refl, says _ refl, Keeps-same old)
+refused line (kinds.Permission name) text old says = (_, refl, says _ refl, Keeps-same old)
+refused line (kinds.Outside word) text old says = (_, refl, says _ refl, Keeps-same old)
+refused line kinds.Limit text old says = (_, refl, says _ refl, Keeps-same old)
+
+pub parsed_no : (line : ℕ) (kind : FaultKind) (fault : Fault) (text : List ℕ) (old : Option (List ℕ)) → fault ≡ fault_of line kind
+    → ((f : policy.Fault) → fault_shown (record { line = line; kind = kind }) ≡ Some f → Says text (Err f)) → Parsed text old old (Err fault)
+parsed_no line kind fault text old is says = subst (λ (f : Fault). Parsed text old old (Err f)) (sym is) (refused line kind text old says)
+
+-- a front with no more than n elements of n + 1 that were asked for is the whole
+take_whole : (n : ℕ) (xs : List ℕ) → length (take (n + 1) xs) ≤ n → take (n + 1) xs ≡ xs
+take_whole n xs h =
+    let few : min (n + 1) (length xs) ≤ n = subst (λ (k : ℕ). k ≤ n) (length-take (n + 1) xs) h in
+    take_all (n + 1) xs (omega (arith, few))
+
+take_shorter : (n : ℕ) (xs : List ℕ) → length (take n xs) ≤ length xs
+take_shorter n xs = rw length-take (omega arith)
+
+-- the same of all that there is to read
+from_text : (bytes : List ℕ) (old new : Option (List ℕ)) (r : Result (Unit {0}) Fault) → IsUtf8 bytes → Parsed bytes old new r → Listed bytes old new r
+from_text bytes old new (Ok done) utf8 p = (p.0, (utf8, p.1), p.2)
+from_text bytes old new (Err faults.Write) utf8 p = (p.0, (utf8, p.1), p.2)
+from_text bytes old new (Err faults.Memory) utf8 (inl kept) = inl kept
+from_text bytes old new (Err faults.Memory) utf8 (inr p) = inr (p.0, (utf8, p.1), p.2)
+from_text bytes old new (Err faults.Read) utf8 p = absurd p
+from_text bytes old new (Err (faults.Utf8 line)) utf8 p = absurd p
+from_text bytes old new (Err (faults.Policy shown)) utf8 p = (p.0, p.1, (inr utf8, p.2), p.3)
+
+pub listed_text : (all bytes text : List ℕ) (old new : Option (List ℕ)) (r : Result (Unit {0}) Fault) → bytes ≡ take 1048577 all → text ≡ bytes → length bytes ≤ 1048576 → IsUtf8 bytes → Parsed text old new r → Listed all old new r
+listed_text all bytes text old new r read same short utf8 p =
+    let few : length (take 1048577 all) ≤ 1048576 = subst (λ (l : List ℕ). length l ≤ 1048576) read short in
+    let whole : bytes ≡ all = read ∙ take_whole 1048576 all few in
+    subst (λ (l : List ℕ). Listed l old new r) whole (from_text bytes old new r utf8 (subst (λ (l : List ℕ). Parsed l old new r) same p))
+
+pub listed_no : (all bytes : List ℕ) (fault : Fault) (old : Option (List ℕ)) → bytes ≡ take 1048577 all → IsNoText bytes fault → Listed all old old (Err fault)
+listed_no all bytes (faults.Utf8 line) old read h =
+    let few : length (take 1048577 all) ≤ 1048576 = subst (λ (l : List ℕ). length l ≤ 1048576) read h.0 in
+    let whole : bytes ≡ all = read ∙ take_whole 1048576 all few in
+    subst (λ (l : List ℕ). Listed l old old (Err (faults.Utf8 line))) whole (h, Keeps-same old)
+listed_no all bytes (faults.Policy shown) old read h =
+    let many : 1048576 < length (take 1048577 all) = subst (λ (l : List ℕ). 1048576 < length l) read h.0 in
+    let long : 1048576 < length all = omega (arith, many, take_shorter 1048577 all) in
+    (at 1 Limit, h.1, (inl long, too_long all long), Keeps-same old)
+listed_no all bytes faults.Memory old read h = absurd h
+listed_no all bytes faults.Read old read h = absurd h
+listed_no all bytes faults.Write old read h = absurd h
+
+pub listed_all : (known old new : Option (List ℕ)) (bytes : List ℕ) (r : Result (Unit {0}) Fault) → IfSome known (λ all. bytes ≡ take 1048577 all)
+    → ((all : List ℕ) → bytes ≡ take 1048577 all → Listed all old new r) → IfSome known (λ all. Listed all old new r)
+listed_all None old new bytes r e h = tt
+listed_all (Some all) old new bytes r e h = h all e
+
+-- nothing could be read
+pub listed_unread : (known old : Option (List ℕ)) (fault : Fault) → (fault ≡ faults.Memory) ⊎ (fault ≡ faults.Read) → IfSome known (λ all. Listed all old old (Err fault))
+listed_unread None old fault few = tt
+listed_unread (Some all) old faults.Memory few = inl (Keeps-same old)
+listed_unread (Some all) old faults.Read few = Keeps-same old
+listed_unread (Some all) old faults.Write few = elim few [ inl e ↦ cc | inr e ↦ cc ]
+listed_unread (Some all) old (faults.Utf8 line) few = elim few [ inl e ↦ cc | inr e ↦ cc ]
+listed_unread (Some all) old (faults.Policy shown) few = elim few [ inl e ↦ cc | inr e ↦ cc ]

@@ -1,0 +1,16 @@
+-- Faults of a policy as faults of a listing.
+use Rattle.std.specs.Prelude.{ℕ}
+use Rattle.gt_policy.specs.declared.parse.FaultKind.{FaultKind}
+use Rattle.gt_policy.specs.declared.parse.FaultKind.TheVariants as kinds
+use Rattle.gt_listing.specs.declared.fault.Fault.{Fault}
+use Rattle.gt_listing.specs.declared.fault.Fault.TheVariants as faults
+
+-- (own) what ends a listing that has no policy
+abbrev pub fault_of : ℕ → FaultKind → Fault
+fault_of line kinds.Memory = faults.Memory
+fault_of line kinds.Syntax = faults.Policy (record { line = line; kind = kinds.Syntax })
+fault_of line (kinds.Unknown name) = faults.Policy (record { line = line; kind = kinds.Unknown name })
+fault_of line (kinds.Twice name) = faults.Policy (record { line = line; kind = kinds.Twice name })
+fault_of line (kinds.Permission name) = faults.Policy (record { line = line; kind = kinds.Permission name })
+fault_of line (kinds.Outside word) = faults.Policy (record { line = line; kind = kinds.Outside word })
+fault_of line kinds.Limit = faults.Policy (record { line = line; kind = kinds.Limit })

@@ -1,0 +1,6 @@
+pub mod Faults
+pub mod Listing
+pub mod Reading
+pub mod Rights
+pub mod Streams
+pub mod Writing

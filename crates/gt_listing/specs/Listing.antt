@@ -1,0 +1,46 @@
+-- The lines of the triples that are allowed.
+use Rattle.std.specs.Prelude.{ℕ, ◌==◌, Bool, List, [], ◌∷◌, ◌++◌, codes, if◌then◌else◌, map, filter, flat_map}
+use Rattle.gt_types.specs.Names as names
+use Rattle.gt_types.specs.declared.TypeId.{TypeId}
+use Rattle.gt_types.specs.declared.perms.Perms.{Perms}
+use Rattle.gt_types.specs.declared.rights.Triple.{Triple}
+use Rattle.gt_policy.specs.Listing.{name_of}
+
+-- a permission by its name (class grant of XSM FLASK); a set of several has none
+unfoldable pub permission_text : Perms → List ℕ
+permission_text perm =
+    if perm.0 == 1 then codes "map_read"
+    else (if perm.0 == 2 then codes "map_write"
+    else (if perm.0 == 4 then codes "unmap"
+    else (if perm.0 == 8 then codes "transfer"
+    else (if perm.0 == 16 then codes "setup"
+    else (if perm.0 == 32 then codes "copy"
+    else (if perm.0 == 64 then codes "query" else []))))))
+
+-- (own) the permissions in the order of the lines
+abbrev pub permissions : List Perms
+permissions = names.map_read ∷ names.map_write ∷ names.unmap ∷ names.transfer ∷ names.setup ∷ names.copy ∷ names.query ∷ []
+
+-- (own) `SOURCE TARGET PERMISSION`
+abbrev pub triple_line : List ℕ → List ℕ → Perms → List ℕ
+triple_line source target perm = source ++ codes " " ++ target ++ codes " " ++ permission_text perm ++ codes "\n"
+
+-- (own) the line of a triple, by the names of its types
+abbrev pub line_of : List (List ℕ) → Triple → List ℕ
+line_of types x = triple_line (name_of types x.source.0) (name_of types x.target.0) x.perm
+
+-- (own) all triples of a source and a target, by permission
+abbrev pub pair_triples : TypeId → TypeId → List Triple
+pair_triples source target = map (λ perm. record { source = source; target = target; perm = perm }) permissions
+
+-- (own) all triples of these types: by source, then by target, then by permission
+abbrev pub triples_of : List TypeId → List Triple
+triples_of ids = flat_map (λ source. flat_map (λ target. pair_triples source target) ids) ids
+
+-- (own) whether a triple is one that may be
+abbrev pub is_one : (ℕ → ℕ → Perms → Bool) → Triple → Bool
+is_one may x = may x.source.0 x.target.0 x.perm
+
+-- (own) the lines of those triples of these types that may be, in their order
+abbrev pub listing : List (List ℕ) → (ℕ → ℕ → Perms → Bool) → List TypeId → List ℕ
+listing types may ids = flat_map (line_of types) (filter (is_one may) (triples_of ids))

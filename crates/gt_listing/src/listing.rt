@@ -1,0 +1,47 @@
+//! A policy in, and the lines of its triples out.
+ghost use Rattle.std.specs.Prelude.{◌≡◌, ℕ, List, take, IfSome};
+ghost use Rattle.gt_listing.specs.Writing.{Listed, Parsed};
+
+use crate::fault::Fault;
+use crate::sources::write_policy;
+use crate::streams::read_text;
+use crate::text::text_of;
+use std::alloc::Global;
+use std::io::{Read, Write};
+
+// Lists the policy of a text.
+fn list_text<W: Write>(alloc: Global, text: &str, writer: &mut W) -> Result<(), Fault>
+    ensures { Parsed text.now (W.contents writer.old) (W.contents writer.new) result }
+{
+    match gt_policy::Policy::parse(alloc, text) {
+        Ok(rights) => write_policy(alloc, &rights, writer),
+        Err(error) => Err(Fault::from(error)),
+    }
+}
+
+// Lists the policy that bytes say, of which those up to the limit were read.
+fn list_bytes<W: Write>(alloc: Global, input: &[u8], writer: &mut W) -> Result<(), Fault>
+    ensures { (all : List ℕ) → input.now ≡ take 1048577 all →
+        Listed all (W.contents writer.old) (W.contents writer.new) result }
+{
+    match text_of(input) {
+        Ok(text) => list_text(alloc, text, writer),
+        Err(fault) => Err(fault),
+    }
+}
+
+/// Lists the triples that the policy of the reader's text allows: one line `SOURCE TARGET
+/// PERMISSION` each, by the name of the source, then of the target, in the order of their bytes, then
+/// by permission: map_read, map_write, unmap, transfer, setup, copy, query.
+///
+/// Of the reader at most 1,048,577 bytes are read. A text with a fault writes nothing. After a failed
+/// write, or for want of memory, a beginning of the lines was written.
+pub fn policy<R: Read, W: Write>(alloc: Global, reader: &mut R, writer: &mut W) -> Result<(), Fault>
+    ensures { IfSome (R.remaining reader.old) (λ input.
+        Listed input (W.contents writer.old) (W.contents writer.new) result) }
+{
+    match read_text(alloc, reader) {
+        Ok(input) => list_bytes(alloc, input.as_slice(), writer),
+        Err(fault) => Err(fault),
+    }
+}
