@@ -4,6 +4,9 @@
 #
 # A script makes the calls grant, map, load, unmap and revoke by turns, with a label of its own
 # for each map.
+#
+# Then 30,000 lines of map, load and unmap of one mapping more, with 10 and with 8,000 mappings in use:
+# prints mappings and seconds, those of making the mappings in use taken away. Both should take the same.
 set -euo pipefail
 
 top="$(cd "$(dirname "${BASH_SOURCE[0]}")/.." && pwd)"
@@ -42,9 +45,39 @@ seconds() {
   awk -v ns="$((to - from))" 'BEGIN { printf "%.3f\n", ns / 1e9 }'
 }
 
+# The least of five runs.
+least() {
+  for _ in 1 2 3 4 5; do seconds "$1"; done | sort -n | head -n 1
+}
+
 printf '%8s  %s\n' lines seconds
 for lines in 10000 20000 40000; do
   script "$lines" >"$work/$lines.gt"
-  least="$(for _ in 1 2 3 4 5; do seconds "$work/$lines.gt"; done | sort -n | head -n 1)"
-  printf '%8s  %s\n' "$lines" "$least"
+  printf '%8s  %s\n' "$lines" "$(least "$work/$lines.gt")"
+done
+
+# A script with so many mappings in use, and so many lines of calls by one more.
+held() {
+  awk -v held="$1" -v lines="$2" 'BEGIN {
+    print "triple b_t a_t map_read"
+    print "triple b_t a_t unmap"
+    print "domain 1 u:r:a_t 8 1 1"
+    print "domain 2 u:r:b_t 8 1 1"
+    for (entry = 0; entry <= 16; entry++) print "do 1 grant " entry " page 2 ro 5"
+    for (made = 0; made < held; made++) print "do 2 map k" made " 1 " made % 16 " ro"
+    for (line = 0; line < lines; line++) {
+      step = line % 3
+      if (step == 0) print "do 2 map h 1 16 ro"
+      if (step == 1) print "do 2 load h 0 2"
+      if (step == 2) print "do 2 unmap h"
+    }
+  }'
+}
+
+printf '%8s  %s\n' mappings seconds
+for mappings in 10 8000; do
+  held "$mappings" 0 >"$work/before.gt"
+  held "$mappings" 30000 >"$work/all.gt"
+  awk -v mappings="$mappings" -v all="$(least "$work/all.gt")" -v before="$(least "$work/before.gt")" \
+    'BEGIN { printf "%8d  %.3f\n", mappings, all - before }'
 done

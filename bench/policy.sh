@@ -1,12 +1,21 @@
 #!/usr/bin/env bash
-# Times the parsing of large policy texts over 256 types, and the listing of all their triples:
-# milliseconds, the least of five runs. The time of making the text is taken off.
+# Times large policy texts over 256 types: milliseconds, the least of five runs.
+#
+# First the parsing of a text and the listing of all its triples, by the program policy_bench; the
+# time of making the text is taken off. Then `gthost policy` as it is built, on the same texts from a
+# file, with the processor time that it took beside the time that passed.
 #
 # 65,536 statements fit into a text where they are as short as `allow a b:c *;`, which grants
 # nothing; of class `grant` 53,500 do.
 set -euo pipefail
-cd "$(dirname "$0")/../crates/policy_bench"
+
+top="$(cd "$(dirname "${BASH_SOURCE[0]}")/.." && pwd)"
+"$top/gthost" --help >/dev/null # proves and builds it, where that is not done yet
+program="$top/crates/gthost/out/gthost"
+cd "$top/crates/policy_bench"
 [ -x out/policy_bench ] || rt run -- make grant 0 > /dev/null 2>&1
+work="$(mktemp -d)"
+trap 'rm -rf "$work"' EXIT
 
 # nanoseconds of the quickest of five runs
 quickest() {
@@ -28,5 +37,37 @@ each() {
   echo "class $1, $2 statements: parse $(((parsed - made) / 1000000)) ms, list $(((listed - parsed) / 1000000)) ms"
 }
 
+# A text of 256 types and so many statements of a class, each of another pair of types as long as
+# there are any.
+text() {
+  awk -v class="$1" -v count="$2" 'BEGIN {
+    letters = "abcdefghijklmnopqrstuvwxyzABCDEFGHIJKLMNOPQRSTUVWXYZ"
+    for (front = 0; front < 5; front++)
+      for (letter = 1; letter <= 52; letter++)
+        if (types < 256) name[types++] = substr("abcd", front, front > 0) substr(letters, letter, 1)
+    for (i = 0; i < types; i++) printf "type %s;", name[i]
+    for (i = 0; i < count; i++)
+      printf "allow %s %s:%s *;", name[i % types], name[int(i / types) % types], class
+    print ""
+  }'
+}
+
+# seconds that passed, and seconds of the processor, of one run
+seconds() {
+  local TIMEFORMAT='%R %U'
+  { time "$program" policy "$1" > /dev/null; } 2>&1
+}
+
+listing() {
+  local passed worked
+  text "$1" "$2" > "$work/$1.te"
+  for _ in 1 2 3 4 5; do seconds "$work/$1.te"; done > "$work/times"
+  passed=$(sort -n "$work/times" | head -n 1 | cut -d ' ' -f 1)
+  worked=$(sort -n -k 2 "$work/times" | head -n 1 | cut -d ' ' -f 2)
+  echo "gthost policy, class $1, $2 statements: $passed s, of which $worked s of the processor"
+}
+
 each c 65536
 each grant 53500
+listing c 65536
+listing grant 53500

@@ -3,12 +3,12 @@
 # with a ticket lock for each entry. Prints millions of operations a second (a map, an unmap, a grant or a revocation is
 # one) and the ratios of `gt_bench` to the two.
 #
-# `bench/words.sh [RUNS]` takes the least time of so many runs of each program by turns (7), less that of no rounds. Where
+# `bench/words.sh [RUNS]` makes so many runs of each program by turns (21), and takes from their time that of no rounds. Where
 # the machine has other work, `PRIORITY='chrt -f 1' bench/words.sh` runs the programs before it.
 set -euo pipefail
 
 top="$(cd "$(dirname "${BASH_SOURCE[0]}")/.." && pwd)"
-runs="${1:-7}"
+runs="${1:-21}"
 read -ra priority <<<"${PRIORITY:-}"
 work="$(mktemp -d)"
 trap 'rm -rf "$work"' EXIT
@@ -28,21 +28,25 @@ nanoseconds() {
   echo "$((to - from))"
 }
 
-# The least times of the three programs, one a line.
-least_times() {
+# The times of the three programs, one a line: the least, or the middle one where threads want the same entry, since the
+# least is then that of a run whose threads hardly met.
+chosen_times() {
   local program
   for _ in $(seq "$runs"); do
     for program in proved atomics locks; do
       echo "$program $(nanoseconds "$program" "$1" "$2" "$3")"
     done
-  done | awk '!($1 in least) || $2 < least[$1] { least[$1] = $2 } END { print least["proved"], least["atomics"], least["locks"] }'
+  done | sort -k1,1 -k2,2n | awk -v load="$1" -v threads="$2" '
+    { times[$1, ++count[$1]] = $2 }
+    function chosen(program) { return times[program, shared ? int((count[program] + 1) / 2) : 1] }
+    END { shared = threads > 1 && (load == "one" || load == "grants"); print chosen("proved"), chosen("atomics"), chosen("locks") }'
 }
 
 # One line of the table.
 compare() {
   local none some
-  none="$(least_times "$1" "$2" 0)"
-  some="$(least_times "$1" "$2" "$3")"
+  none="$(chosen_times "$1" "$2" 0)"
+  some="$(chosen_times "$1" "$2" "$3")"
   cmp "$work/proved.out" "$work/atomics.out"
   cmp "$work/proved.out" "$work/locks.out"
   awk -v load="$1" -v threads="$2" -v rounds="$3" -v none="$none" -v some="$some" 'BEGIN {
@@ -56,9 +60,9 @@ printf '%-9s %7s %8s %8s %8s %9s %9s\n' load threads proved atomics locks /atomi
 for load in apart adjacent one grants; do
   for threads in 1 2 3 4; do
     case "$load $threads" in
-      apart* | adjacent*) rounds=5000000 ;;
-      *" 1") rounds=1000000 ;;
-      *) rounds=200000 ;;
+      apart* | adjacent*) rounds=3000000 ;;
+      *" 1") rounds=1000000 ;; # generations end the load `grants` soon after
+      *) rounds=300000 ;;
     esac
     compare "$load" "$threads" "$rounds"
   done

@@ -7,6 +7,8 @@
 // How often a thread looks for its turn before it lets another run.
 enum { SPINS = 64 };
 
+enum kind { INVALID, PAGE, SUB_PAGE, TRANSITIVE };
+
 struct entry {
     atomic_uint next;
     atomic_uint serving;
@@ -15,7 +17,7 @@ struct entry {
     uint32_t reads;
     uint32_t writes;
     uint64_t frame;
-    bool valid;
+    uint8_t kind;
     bool read_only;
 };
 
@@ -40,51 +42,56 @@ static void unlock(struct entry *entry) {
 static bool make_entries(void) {
     domains = calloc(DOMAINS, sizeof *domains);
     if (domains == NULL) return false;
-    for (uint32_t domain = 0; domain < DOMAINS; domain++) atomic_store(&domains[domain].header, 1 + 4 * 4);
+    for (uint32_t position = 0; position < DOMAINS; position++) atomic_store(&domains[position].header, 1 + 4 * 4);
     return true;
 }
 
-static bool publish(uint32_t owner, uint32_t reference, struct row *row, uint32_t domain, uint64_t frame) {
-    struct entry *entry = &domains[owner].entries[reference];
+static bool publish(const struct seat *owner, uint32_t reference, struct row *row, uint32_t domain, uint64_t frame) {
+    struct entry *entry = &domains[owner->position].entries[reference];
     lock(entry);
-    bool free = !entry->valid && entry->generation < LAST_GENERATION;
+    bool free = entry->kind == INVALID && entry->generation < LAST_GENERATION;
     if (free) {
         entry->domain = domain;
         entry->frame = frame;
         entry->generation++;
-        entry->valid = true;
+        entry->kind = PAGE;
         *row = (struct row){domain, frame, entry->generation, true};
     }
     unlock(entry);
     return free;
 }
 
-static bool revoke(uint32_t owner, uint32_t reference, struct row *row) {
-    struct entry *entry = &domains[owner].entries[reference];
+static bool revoke(const struct seat *owner, uint32_t reference, struct row *row) {
+    struct entry *entry = &domains[owner->position].entries[reference];
     lock(entry);
-    bool idle = entry->valid && entry->reads == 0 && entry->writes == 0;
+    bool idle = entry->kind != INVALID && entry->reads == 0 && entry->writes == 0;
     if (idle) {
-        entry->valid = false;
+        entry->kind = INVALID;
         row->valid = false;
     }
     unlock(entry);
     return idle;
 }
 
-static bool map(const struct target *target) {
-    uint64_t header = atomic_load(&domains[target->granter].header);
+static bool map(struct seat *seat, const struct target *target) {
+    uint32_t granter = position_of(seat, target->granter);
+    uint64_t header = atomic_load(&domains[granter].header);
     uint32_t frames = header / 4 % 256;
     if (target->reference >= frames * (header % 4 == 2 ? 256 : 512)) return false;
-    struct entry *entry = &domains[target->granter].entries[target->reference];
+    struct entry *entry = &domains[granter].entries[target->reference];
     lock(entry);
-    bool permitted = entry->valid && entry->domain == target->named && entry->reads < MOST_PINS;
-    if (permitted) entry->reads++;
+    bool permitted = false;
+    if (entry->kind == PAGE) {
+        (void)*(volatile uint64_t *)&entry->frame;
+        permitted = entry->reads < MOST_PINS && entry->domain == target->named;
+        if (permitted) entry->reads++;
+    }
     unlock(entry);
     return permitted;
 }
 
-static void unmap(const struct target *target) {
-    struct entry *entry = &domains[target->granter].entries[target->reference];
+static void unmap(struct seat *seat, const struct target *target) {
+    struct entry *entry = &domains[position_of(seat, target->granter)].entries[target->reference];
     lock(entry);
     entry->reads--;
     unlock(entry);

@@ -1,5 +1,5 @@
 -- A transitive entry that is kept pinned.
-use Rattle.std.proofs.Common.{◌≡◌, ◌≢◌, ℕ, ◌<◌, Bool, true, ◌==◌, List, length, Option, Some, None, refl, sym, ap, ◌∙◌, subst, arith, inl}
+use Rattle.std.proofs.Common.{◌≡◌, ◌≢◌, ℕ, ◌<◌, true, ◌==◌, List, length, Option, Some, None, refl, sym, ap, ◌∙◌, subst, arith, inl}
 use Rattle.std.specs.Prelude.{position, unwrap_or}
 use Rattle.std.proofs.lemmas.Bool.Decides.{nat_tests}
 use Rattle.std.proofs.lemmas.List.Quantifiers.{position-Some}
@@ -36,6 +36,7 @@ still_seat b s s' is same = record {
   table = same.table ∙ is.table;
   inside = subst (λ (p : ℕ). p < length b.layout.ids) (sym same.position) is.inside;
   named = ap (λ (p : ℕ). id_at b.layout.ids p) same.position ∙ (is.named ∙ sym same.dom);
+  ids = same.ids ∙ is.ids;
 }
 
 -- the pin just taken is that of a transitive entry

@@ -1,6 +1,6 @@
 //! A domain that maps another's entry and unmaps it.
 ghost use Rattle.std.specs.Prelude.{◌≡◌, ◌≢◌, IfSome};
-ghost use Rattle.gt_words.specs.Controls.{generation_of};
+ghost use Rattle.gt_words.specs.Controls.{IsValid, generation_of};
 ghost use Rattle.gt_words.specs.Views.{last_seen, record_seen};
 ghost use Rattle.gt_words.specs.Rule.{position_in};
 ghost use Rattle.gt_words.specs.Conditions.{IsSeatOf, IsSameSeat, HasLooked, Holds, KeepsPins};
@@ -55,7 +55,27 @@ fn look(words: &Words, seat: &mut Seat, dom: DomId, gref: GrantRef) -> Sight
     Sight { word, entry }
 }
 
-// Tries once to map the entry, where it is of the table and granted to the domain named.
+// Looks at an entry and reads its frame, as a map does. None where it is no page, since nothing else can be mapped.
+#[inline(always)]
+fn look_at_page(words: &Words, seat: &mut Seat, dom: DomId, gref: GrantRef) -> Option<Sight>
+    requires seat { IsSeatOf words.now seat.old }
+    requires entry { IsEntryOf words.now dom gref }
+    ensures seat { IsSameSeat seat.old seat.new }
+    ensures looked { IfSome result (λ s. HasLooked (position_in words.now.layout.ids dom) gref.0 seat.new.view s.word × IsValid s.word) }
+    ensures entry { IfSome result (λ s. (record_seen (last_seen (position_in words.now.layout.ids dom) gref.0 seat.new.view)).entry ≡ s.entry) }
+    ensures pins { KeepsPins seat.old.view seat.new.view }
+{
+    let word = words.load_control(seat, dom, gref);
+    let control = Control::unpack(word);
+    if control.kind != Kind::Page {
+        return None;
+    }
+    let frame = words.load_body(seat, dom, gref, Half::First);
+    let entry = Entry::spelled(control, frame, 0);
+    Some(Sight { word, entry })
+}
+
+// Tries once to map the entry, where it is a page of the table and granted to the domain named.
 fn map(words: &Words, seat: &mut Seat, target: Target) -> Option<Pin>
     requires seat { IsSeatOf words.now seat.old }
     requires entry { IsEntryOf words.now target.granter target.gref }
@@ -68,14 +88,15 @@ fn map(words: &Words, seat: &mut Seat, target: Target) -> Option<Pin>
     if target.gref.0 >= header.entries() {
         return None;
     }
-    let sight = look(words, seat, target.granter, target.gref);
+    let Some(sight) = look_at_page(words, seat, target.granter, target.gref) else {
+        return None;
+    };
     let control = Control::unpack(sight.word);
     let nothing = Range { off: 0, len: 0 };
-    if control.kind == Kind::Invalid
-        || control.reads >= MAX_PINS
+    if control.reads >= MAX_PINS
         || !sight
             .entry
-            .permits(target.named, Dir::Read, Use::Copy, nothing)
+            .permits(target.named, Dir::Read, Use::Map, nothing)
     {
         return None;
     }

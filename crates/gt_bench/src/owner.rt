@@ -1,6 +1,7 @@
 //! An owner, who knows its own entries from its own calls.
 ghost use Rattle.std.specs.Prelude.{◌≡◌, ◌≢◌, ◌+◌, ◌<◌, ℕ};
-ghost use Rattle.gt_words.specs.Views.{last_of};
+ghost use Rattle.gt_entry.specs.Spelling.{IsSpelled};
+ghost use Rattle.gt_words.specs.Views.{last_of, own_body};
 ghost use Rattle.gt_words.specs.Conditions.{IsSeatOf, IsSameSeat};
 
 use gt_entry::{Control, Entry};
@@ -12,6 +13,23 @@ use gt_words::{Half, Seat, Words};
 pub struct Row {
     pub entry: Entry,
     pub generation: u32,
+}
+
+// Stores the body of an entry that is to be published: the second word of a sub-page alone.
+#[inline(always)]
+fn store_body(words: &Words, seat: &mut Seat, gref: GrantRef, entry: Entry)
+    requires seat { IsSeatOf words.now seat.old }
+    requires reference { gref.0 < TABLE_ENTRIES }
+    requires invalid { (last_of gref.0 seat.old.view).entry ≡ Entry.Invalid }
+    ensures seat { IsSameSeat seat.old seat.new }
+    ensures spelled { IsSpelled entry (own_body gref.0 Half.First seat.new.view) (own_body gref.0 Half.Second seat.new.view) }
+    ensures row { last_of gref.0 seat.new.view ≡ last_of gref.0 seat.old.view }
+    ensures others { (r : ℕ) → gref.0 ≢ r → last_of r seat.new.view ≡ last_of r seat.old.view }
+{
+    words.store_body(seat, gref, Half::First, entry.first_body());
+    if let Entry::Sub { .. } = entry {
+        words.store_body(seat, gref, Half::Second, entry.second_body());
+    }
 }
 
 /// Publishes an entry in place of the invalid one, and answers whether it did: not where the old one is not invalid, or
@@ -34,8 +52,7 @@ pub(crate) fn publish(
     if !row.entry.is_invalid() || row.generation >= LAST_GENERATION {
         return false;
     }
-    words.store_body(seat, gref, Half::First, entry.first_body());
-    words.store_body(seat, gref, Half::Second, entry.second_body());
+    store_body(words, seat, gref, entry);
     let word = Control::of_entry(Entry::Invalid, row.generation, 0, 0).pack();
     if words.grant(seat, gref, word, entry).is_err() {
         return false;

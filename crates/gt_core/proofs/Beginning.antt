@@ -1,7 +1,9 @@
 -- A beginning keeps what a core stands for.
 use Rattle.std.proofs.Common.{arith, ◌≤◌, ◌⊎◌, inl, inr, ◌≡◌, ◌≢◌, ◌<◌, ◌+◌, ℕ, refl, Bool, true, false, List, [], ◌∷◌, ◌++◌, length, Option, Some, None, cond, sym, ap, ◌∙◌, subst, get_or, set, reverse}
-use Rattle.std.proofs.lemmas.Bool.{eqb-true, eq-eqb, false≢true, true≢false}
-use Rattle.std.specs.Prelude.{nat_lt, ◌==◌, if◌then◌else◌, position, slice_get}
+use Rattle.std.proofs.lemmas.Bool.{eqb-true, eq-eqb, false≢true, true≢false, ltb-false}
+use Rattle.gt_handles.specs.Handles.{value_of, count_of}
+use Rattle.gt_core.proofs.Mappings.{mappings-same}
+use Rattle.std.specs.Prelude.{nat_lt, ◌==◌, position, slice_get}
 use mathlib.Core.Path.{fun_ext}
 use Rattle.std.proofs.lemmas.List.Quantifiers.{position-Some}
 use Rattle.gt_types.specs.Names.{domain_of}
@@ -9,30 +11,28 @@ use Rattle.gt_types.specs.declared.DomId.{DomId}
 use Rattle.gt_types.specs.declared.denial.Denial.{Denial}
 use Rattle.gt_entry.specs.declared.entry.Entry.{Entry}
 use Rattle.gt_entry.specs.declared.header.Header.{Header}
-use Rattle.gt_core.specs.declared.known.Mapping.{Mapping}
+use Rattle.gt_calls.specs.declared.known.Mapping.{Mapping}
 use Rattle.std.specs.Prelude.{count_by, All}
 use Rattle.gt_types.specs.declared.Dir.TheVariants.{Read, Write}
-use Rattle.gt_core.specs.declared.request.Request.{Request}
-use Rattle.gt_core.specs.declared.request.Request.TheVariants as requests
-use Rattle.gt_core.specs.declared.asked.Asked.{Asked}
-use Rattle.gt_core.specs.Asking.{asked, entry_said, field_refused, begun_of, bytes_begun, IsSaid}
-use Rattle.gt_entry.specs.Bytes.{SpellsV1, SpellsV2, IsLaidOutV2, first_refused}
+use Rattle.gt_calls.specs.declared.request.Request.{Request}
+use Rattle.gt_calls.specs.declared.request.Request.TheVariants as requests
+use Rattle.gt_calls.specs.declared.asked.Asked.{Asked}
+use Rattle.gt_calls.specs.Asking.{asked, field_refused, begun_of, bytes_begun, IsSaid, given_by}
+use Rattle.gt_entry.specs.Bytes.{first_refused}
 use Rattle.gt_types.specs.declared.denial.Field.{Field}
-use Rattle.gt_entry.specs.declared.entry.Entry.TheVariants.{Invalid, Page, Sub, Via}
-use Rattle.gt_core.proofs.Numbers.{four-bytes, ltb-from-le}
-use Rattle.gt_core.specs.declared.action.Seen.{Seen}
-use Rattle.gt_core.specs.declared.action.Seen.TheVariants.{Nothing}
-use Rattle.gt_core.specs.declared.action.Verdict.{Verdict}
-use Rattle.gt_core.specs.declared.action.Verdict.TheVariants.{Granted, Refused}
-use Rattle.gt_core.specs.declared.action.Action.TheVariants.{Step as Makes, Done}
+use Rattle.gt_calls.specs.declared.action.Seen.{Seen}
+use Rattle.gt_calls.specs.declared.action.Seen.TheVariants.{Nothing}
+use Rattle.gt_calls.specs.declared.action.Verdict.{Verdict}
+use Rattle.gt_calls.specs.declared.action.Verdict.TheVariants.{Granted, Refused}
+use Rattle.gt_calls.specs.declared.action.Action.TheVariants.{Step as Makes, Done}
 use Rattle.gt_core.specs.declared.trace.Item.{Item}
 use Rattle.gt_core.specs.declared.trace.Happened.TheVariants.{Began}
 use Rattle.gt_core.specs.declared.trace.Answer.{Answer}
 use Rattle.gt_core.specs.declared.trace.Answer.TheVariants.{Frames}
-use Rattle.gt_core.specs.declared.call.Call.{Call}
-use Rattle.gt_core.specs.declared.call.Start.TheVariants.{Open as StartOpen}
-use Rattle.gt_core.specs.declared.call.Phase.{Phase}
-use Rattle.gt_core.specs.declared.call.Phase.TheVariants.{Begun as PhaseBegun, Pinning as LegPinning, Storing, StoringSecond, Single, Look as OwnLook, Change as OwnChange, Ended}
+use Rattle.gt_calls.specs.declared.call.Call.{Call}
+use Rattle.gt_calls.specs.declared.call.Start.TheVariants.{Open as StartOpen}
+use Rattle.gt_calls.specs.declared.call.Phase.{Phase}
+use Rattle.gt_calls.specs.declared.call.Phase.TheVariants.{Begun as PhaseBegun, Pinning as LegPinning, Storing, StoringSecond, Single, Look as OwnLook, Change as OwnChange, Ended}
 use Rattle.gt_types.specs.declared.config.DomainConfig.{DomainConfig}
 use Rattle.gt_types.specs.declared.denial.Facts.TheVariants.{None as NoFacts}
 use Rattle.gt_entry.specs.Words.{control_word}
@@ -40,30 +40,30 @@ use Rattle.gt_core.proofs.Still.{leg-keeps}
 use Rattle.gt_core.specs.States.{State}
 use Rattle.gt_core.specs.declared.slot.Open.{Open}
 use Rattle.gt_core.specs.declared.core_state.Opening.TheVariants.{Open as OpeningOpen}
-use Rattle.std.specs.Prelude.{is_some, MatchBool, ◌&&◌}
+use Rattle.std.specs.Prelude.{is_some}
 use Rattle.std.specs.Prelude.{◌||◌, not, is_none, nat_le, ◌^◌, ◌-◌}
 use Rattle.gt_types.specs.Names.{resolved, query}
 use Rattle.gt_types.specs.Denial.{denial_of}
 use Rattle.gt_types.specs.declared.TypeId.{TypeId}
 use Rattle.gt_types.specs.declared.perms.Perms.{Perms}
 use Rattle.gt_types.specs.declared.denial.Rule.{Rule}
-use Rattle.gt_types.specs.declared.denial.Rule.TheVariants.{N1, N2, N3, N5, N6, N8, N9, N20, N21, N22}
+use Rattle.gt_types.specs.declared.denial.Rule.TheVariants.{N1, N2, N3, N5, N6, N8, N9, N20, N22, N16}
 use Rattle.gt_types.specs.declared.denial.Facts.TheVariants.{Policy}
-use Rattle.gt_core.specs.declared.request.Handle.{Handle}
-use Rattle.gt_core.specs.declared.asked.Asked.TheVariants.{Grant, Revoke, Demote, Promote, Map, Unmap, Load, SetVersion, SetupTable, QuerySize, GetVersion}
-use Rattle.gt_core.specs.Rules.{first, refused_when, denied, asked_by, label_of, mapping_of, map_begun, load_begun, query_begun, grant_begun, cannot_stand, is_invalid, size_of, CallerKnowledge, begun, knowledge_of, generation_in, control_with}
-use Rattle.std.proofs.lemmas.Option.{none-some, slice_get_read}
+use Rattle.gt_calls.specs.declared.asked.Asked.TheVariants.{Grant, Revoke, Demote, Promote, Map, Unmap, Load, SetVersion, SetupTable, QuerySize, GetVersion, Store, Peek, Poke}
+use Rattle.gt_calls.specs.Rules.{first, refused_when, denied, asked_by, label_of, map_begun, load_begun, query_begun, is_invalid, size_of, CallerKnowledge, begun, knowledge_of, generation_in, control_with, frames_of, own_access_begun}
+use Rattle.std.proofs.lemmas.Option.{none-some, slice_get_read, same_Some}
+use Rattle.gt_handles.specs.declared.handles.Handle.{Handle}
 use Rattle.gt_types.specs.declared.GrantRef.{GrantRef}
-use Rattle.gt_core.specs.declared.action.Step.{Step}
-use Rattle.gt_core.specs.declared.action.Step.TheVariants.{LookControl}
-use Rattle.gt_core.proofs.Legs.{turns-one}
-use Rattle.gt_core.specs.Path.{Continuation, path, steps_of, after_beginning, gives_up, reads, turns}
-use Rattle.gt_core.specs.Machine.{expects, first_phase, phase_after, starts_as, IsUnderway, FitsPhase}
-use Rattle.gt_core.specs.History.{History, Setting, entry_at, generation_at, body_at, word_at, control_at, reads_at, writes_at, Pin, table_at, mappings_at, mappings_in, known_at, Underway, underway_after, open_call, values, is_pin_on, one_if_mapped}
+use Rattle.gt_calls.specs.declared.action.Step.{Step}
+use Rattle.gt_calls.specs.declared.action.Step.TheVariants.{LookControl}
+use Rattle.gt_calls.specs.Path.{path, steps_of, after_beginning, gives_up, reads, turns, writes}
+use Rattle.gt_calls.specs.Machine.{expects, first_phase, phase_after, starts_as, IsUnderway, FitsPhase}
+use Rattle.gt_core.specs.History.{History, Setting, entry_at, generation_at, body_at, word_at, control_at, reads_at, writes_at, Pin, table_at, mappings_at, mappings_in, known_at, Underway, underway_after, open_call, values, is_pin_on, one_if_mapped, contents_at, mapping_of}
 use Rattle.gt_core.specs.Legal.{StepsSoFar, IsSpelled, leg_of, stood, stood_with, first_of_item, AnsweredBy, GivesValue, refusal_in, refusal_of, MayDo, IsRight}
-use Rattle.gt_core.specs.States.{asks_memory}
-use Rattle.gt_core.specs.Standing.{WantsMemory, IsLawful, FitsTable, FitsWord, FitsAsked, PhaseStands, HasStored, HasStoredFirst, OpenAgrees, CallAgrees, Agrees, StateAgrees, CoreStands, state_of, answer_begun, Opens}
-use Rattle.gt_core.proofs.Quiet.{IsQuiet, kept-contents, quiet-entry, quiet-raises, quiet-body, quiet-live, quiet-maps_answered, quiet-generations, quiet-table, quiet-known}
+use Rattle.gt_core.specs.States.{asks_memory, kept_by}
+use Rattle.gt_core.specs.Effects.{with_call}
+use Rattle.gt_core.specs.Standing.{WantsMemory, IsLawful, FitsTable, FitsWord, FitsAsked, PhaseStands, HasStored, HasStoredFirst, OpenAgrees, CallAgrees, FitsGiven, GivenAgrees, Agrees, StateAgrees, CoreStands, state_of, answer_begun, Opens}
+use Rattle.gt_core.proofs.Quiet.{IsQuiet, WritesNone, kept-contents, quiet-entry, quiet-raises, quiet-body, quiet-live, quiet-maps_answered, quiet-generations, quiet-table, quiet-known}
 use Rattle.gt_core.proofs.Places.{has_id, found, not-found, state_of-set}
 
 -- the first action of a call
@@ -75,22 +75,32 @@ starts-open caller r (Some v) first e = cc
 
 -- what a domain itself knows is what the core keeps of it
 pub known-same : (s : Setting) (h : History) (d : State) → Agrees s h d
-    → knowledge_of s.domains s.first_generation s.may d.own d.header d.mappings d.maps_answered ≡ known_at s h d.id
+    → knowledge_of s.domains s.first_generation s.may d.own d.header d.mappings ≡ known_at s h d.id
 known-same s h d a =
-    ap (λ (f : ℕ → Entry). record { domains = s.domains; may = s.may; entry = f; generation = generation_in s.first_generation d.own; header = d.header; mappings = d.mappings; maps_answered = d.maps_answered }) a.entries
-    ∙ ap (λ (f : ℕ → ℕ). record { domains = s.domains; may = s.may; entry = λ r. entry_at h d.id.0 r; generation = f; header = d.header; mappings = d.mappings; maps_answered = d.maps_answered }) a.generations
-    ∙ ap (λ (x : Header). record { domains = s.domains; may = s.may; entry = λ r. entry_at h d.id.0 r; generation = λ r. generation_at s h d.id.0 r; header = x; mappings = d.mappings; maps_answered = d.maps_answered }) a.header
-    ∙ ap (λ (x : List Mapping). record { domains = s.domains; may = s.may; entry = λ r. entry_at h d.id.0 r; generation = λ r. generation_at s h d.id.0 r; header = table_at s h d.id; mappings = x; maps_answered = d.maps_answered }) a.mappings
-    ∙ ap (λ (x : ℕ). record { domains = s.domains; may = s.may; entry = λ r. entry_at h d.id.0 r; generation = λ r. generation_at s h d.id.0 r; header = table_at s h d.id; mappings = mappings_at h d.id.0; maps_answered = x }) a.maps_answered
+    ap (λ (f : ℕ → Entry). record { domains = s.domains; may = s.may; entry = f; generation = generation_in s.first_generation d.own; header = d.header; mapping = value_of d.mappings; in_use = count_of d.mappings; maps_answered = d.mappings.given }) a.entries
+    ∙ ap (λ (f : ℕ → ℕ). record { domains = s.domains; may = s.may; entry = λ r. entry_at h d.id.0 r; generation = f; header = d.header; mapping = value_of d.mappings; in_use = count_of d.mappings; maps_answered = d.mappings.given }) a.generations
+    ∙ ap (λ (x : Header). record { domains = s.domains; may = s.may; entry = λ r. entry_at h d.id.0 r; generation = λ r. generation_at s h d.id.0 r; header = x; mapping = value_of d.mappings; in_use = count_of d.mappings; maps_answered = d.mappings.given }) a.header
+    ∙ ap (λ (f : Handle → Option Mapping). record { domains = s.domains; may = s.may; entry = λ r. entry_at h d.id.0 r; generation = λ r. generation_at s h d.id.0 r; header = table_at s h d.id; mapping = f; in_use = count_of d.mappings; maps_answered = d.mappings.given }) a.mappings.named
+    ∙ ap (λ (x : ℕ). record { domains = s.domains; may = s.may; entry = λ r. entry_at h d.id.0 r; generation = λ r. generation_at s h d.id.0 r; header = table_at s h d.id; mapping = mapping_of (mappings_at h d.id.0); in_use = x; maps_answered = d.mappings.given }) a.mappings.count
+    ∙ ap (λ (x : ℕ). record { domains = s.domains; may = s.may; entry = λ r. entry_at h d.id.0 r; generation = λ r. generation_at s h d.id.0 r; header = table_at s h d.id; mapping = mapping_of (mappings_at h d.id.0); in_use = length (mappings_at h d.id.0); maps_answered = x }) a.mappings.given
 
--- a quiet item leaves a domain as it was, but for its call
-pub quiet-agrees : (s : Setting) (i : Item) (h : History) (d : State) (o : Option Open) → IsQuiet i → Agrees s h d
-    → CallAgrees s (i ∷ h) d.id o (open_call (i ∷ h) d.id.0) → Agrees s (i ∷ h) (record d { underway = o })
-quiet-agrees s i h d o q a call =
+-- these frames hold what the history left in them
+abbrev pub FramesAgree : Setting → History → DomId → List (List ℕ) → Type 0
+FramesAgree s h id frames = (f : ℕ) → f < frames_of s.domains id → slice_get frames f ≡ Some (contents_at h id.0 f)
+
+pub frames-stay : (s : Setting) (i : Item) (h : History) (id : DomId) (frames : List (List ℕ)) → WritesNone i → FramesAgree s h id frames → FramesAgree s (i ∷ h) id frames
+frames-stay s i h id frames none a = λ f below. a f below ∙ ap (λ (l : List ℕ). Some l) (sym (kept-contents i h id.0 f none))
+
+-- a quiet item leaves a domain as it was, but for its call, the bytes given to it, and its frames
+pub quiet-agrees : (s : Setting) (i : Item) (h : History) (d : State) (o : Option Open) (given : List ℕ) (frames : List (List ℕ)) → IsQuiet i → Agrees s h d
+    → CallAgrees s (i ∷ h) d.id o (open_call (i ∷ h) d.id.0) → GivenAgrees (i ∷ h) d.id.0 given → FramesAgree s (i ∷ h) d.id frames
+    → Agrees s (i ∷ h) (record d { underway = o; given = given; frames = frames })
+quiet-agrees s i h d o given frames q a call given-agrees frames-agree =
     record {
       header = a.header ∙ sym (quiet-table s i h d.id q);
       rows = a.rows;
-      frames = λ f below. a.frames f below ∙ ap (λ (l : List ℕ). Some l) (sym (kept-contents i h d.id.0 f));
+      frames = frames-agree;
+      given = given-agrees;
       entries = a.entries ∙ fun_ext (λ r. sym (quiet-entry i h d.id.0 r q));
       generations = a.generations ∙ sym (quiet-generations s i h d.id.0 q);
       room = a.room;
@@ -100,8 +110,7 @@ quiet-agrees s i h d o q a call =
         first = b.first ∙ sym (quiet-body i h d.id.0 r false q);
         second = b.second ∙ sym (quiet-body i h d.id.0 r true q);
       };
-      mappings = a.mappings ∙ ap (λ (ps : List Pin). mappings_in d.id.0 ps) (sym (quiet-live i h q));
-      maps_answered = a.maps_answered ∙ sym (quiet-maps_answered i h d.id.0 q);
+      mappings = mappings-same d.mappings _ _ _ _ (ap (λ (ps : List Pin). mappings_in d.id.0 ps) (sym (quiet-live i h q))) (sym (quiet-maps_answered i h d.id.0 q)) a.mappings;
       call = call;
     }
 
@@ -115,6 +124,14 @@ stood-other : (s : Setting) (i : Item) (h : History) (d : ℕ) → (i.actor.0 ==
 unfolding stood
 stood-other s i h d e = ap (λ (b : Bool). cond b (stood_with i.happened (stood s h d) (first_of_item s h i)) (stood s h d)) e
 
+-- the bytes given to a call stay, whatever another domain does
+pub given-other : (i : Item) (h : History) (d : ℕ) (given : List ℕ) → (i.actor.0 == d) ≡ false → GivenAgrees h d given → GivenAgrees (i ∷ h) d given
+given-other i h d given e a = λ c call. a c (sym (open_call-other i h d e) ∙ call)
+
+-- there is none to have bytes
+pub given-none : (h : History) (d : ℕ) (given : List ℕ) → open_call h d ≡ None → GivenAgrees h d given
+given-none h d given none = λ c call. absurd (none-some c (sym none ∙ call))
+
 -- the domain's own body words are as they were
 abbrev pub BodyStays : Item → History → ℕ → Type 0
 BodyStays i h d = (r : ℕ) (which : Bool) → body_at (i ∷ h) d r which ≡ body_at h d r which
@@ -127,6 +144,9 @@ stored-first-stays i h d (Promote gref) b a = a
 stored-first-stays i h d (Map dom gref flags) b a = a
 stored-first-stays i h d (Unmap handle) b a = a
 stored-first-stays i h d (Load handle off len) b a = a
+stored-first-stays i h d (Store handle off len) b a = a
+stored-first-stays i h d (Peek frame off len) b a = a
+stored-first-stays i h d (Poke frame off len) b a = a
 stored-first-stays i h d (SetVersion version) b a = a
 stored-first-stays i h d (SetupTable frames) b a = a
 stored-first-stays i h d (QuerySize dom) b a = a
@@ -146,6 +166,9 @@ stored-stays i h d (Promote gref) b a = tt
 stored-stays i h d (Map dom gref flags) b a = tt
 stored-stays i h d (Unmap handle) b a = tt
 stored-stays i h d (Load handle off len) b a = tt
+stored-stays i h d (Store handle off len) b a = tt
+stored-stays i h d (Peek frame off len) b a = tt
+stored-stays i h d (Poke frame off len) b a = tt
 stored-stays i h d (SetVersion version) b a = tt
 stored-stays i h d (SetupTable frames) b a = tt
 stored-stays i h d (QuerySize dom) b a = tt
@@ -200,12 +223,18 @@ other-call : (s : Setting) (i : Item) (h : History) (d : DomId) (o : Option Open
 other-call s i h d o q e a =
     call-of-other s i h d o (quiet-known s i h d q) (λ r which. quiet-body i h d.0 r which q) e a
 
-pub other-state : (s : Setting) (i : Item) (h : History) (dom : DomId) (o : Option State) → IsQuiet i → (i.actor.0 == dom.0) ≡ false
+-- a domain that does not act, where its frames agree
+pub bystander-agrees : (s : Setting) (i : Item) (h : History) (d : State) (frames : List (List ℕ)) → IsQuiet i → (i.actor.0 == d.id.0) ≡ false → FramesAgree s (i ∷ h) d.id frames
+    → Agrees s h d → Agrees s (i ∷ h) (record d { frames = frames })
+bystander-agrees s i h d frames q apart there a =
+    quiet-agrees s i h d d.underway d.given frames q a (other-call s i h d.id d.underway q apart a.call) (given-other i h d.id.0 d.given apart a.given) there
+
+pub other-state : (s : Setting) (i : Item) (h : History) (dom : DomId) (o : Option State) → IsQuiet i → WritesNone i → (i.actor.0 == dom.0) ≡ false
     → StateAgrees s h dom o → StateAgrees s (i ∷ h) dom o
-other-state s i h dom None q e a = a
-other-state s i h dom (Some d) q e a =
+other-state s i h dom None q n e a = a
+other-state s i h dom (Some d) q n e a =
     let apart : (i.actor.0 == d.id.0) ≡ false = ap (λ (x : DomId). i.actor.0 == x.0) a.1 ∙ e in
-    (a.0, a.1, quiet-agrees s i h d d.underway q a.2 (other-call s i h d.id d.underway q apart a.2.call))
+    (a.0, a.1, bystander-agrees s i h d d.frames q apart (frames-stay s i h d.id d.frames n a.2.frames) a.2)
 
 actor-state : (s : Setting) (i : Item) (h : History) (dom : DomId) (o : Option State) (new : State) → (i.actor.0 == dom.0) ≡ true
     → StateAgrees s h dom o → ((d : State) → o ≡ Some d → ⊥) ⊎ ((new.id ≡ i.actor) × Agrees s (i ∷ h) new) → (o ≡ None → ⊥)
@@ -215,11 +244,11 @@ actor-state s i h dom (Some d) new e a (inl none) some = absurd (none d refl)
 actor-state s i h dom (Some d) new e a (inr b) some =
     (a.0, b.0 ∙ ap (λ (n : ℕ). record { 0 = n }) (eqb-true i.actor.0 dom.0 e), b.1)
 
-pick-state : (b : Bool) (s : Setting) (i : Item) (h : History) (dom : DomId) (o : Option State) (new : State) → IsQuiet i → (i.actor.0 == dom.0) ≡ b
+pick-state : (b : Bool) (s : Setting) (i : Item) (h : History) (dom : DomId) (o : Option State) (new : State) → IsQuiet i → WritesNone i → (i.actor.0 == dom.0) ≡ b
     → StateAgrees s h dom o → (new.id ≡ i.actor) × Agrees s (i ∷ h) new → (b ≡ true → o ≡ None → ⊥)
     → StateAgrees s (i ∷ h) dom (cond b (Some new) o)
-pick-state true s i h dom o new q e a n some = actor-state s i h dom o new e a (inr n) (some refl)
-pick-state false s i h dom o new q e a n some = other-state s i h dom o q e a
+pick-state true s i h dom o new q w e a n some = actor-state s i h dom o new e a (inr n) (some refl)
+pick-state false s i h dom o new q w e a n some = other-state s i h dom o q w e a
 
 quiet-control : (s : Setting) (i : Item) (h : History) (t r : ℕ) → IsQuiet i → control_at s (i ∷ h) t r ≡ control_at s h t r
 quiet-control s i h t r q =
@@ -230,15 +259,13 @@ quiet-control s i h t r q =
 quiet-word : (s : Setting) (i : Item) (h : History) (t r : ℕ) → IsQuiet i → word_at s (i ∷ h) t r ≡ word_at s h t r
 quiet-word s i h t r q = ap control_word (quiet-control s i h t r q)
 
--- a core stands for one quiet item more, where just the actor's state is another one
-pub quiet-stands : (s : Setting) (i : Item) (h : History) (domains domains' : List State) (new : State) → IsQuiet i → CoreStands s h domains
-    → ((q : ℕ) → state_of domains' q ≡ cond (i.actor.0 == q) (Some new) (state_of domains q))
-    → (new.id ≡ i.actor) × Agrees s (i ∷ h) new → (state_of domains i.actor.0 ≡ None → ⊥) → CoreStands s (i ∷ h) domains'
-quiet-stands s i h domains domains' new q a e n some =
+-- a core stands for one item more that stores no word, where each domain agrees and each frame is full
+pub quiet-rest : (s : Setting) (i : Item) (h : History) (domains domains' : List State) → IsQuiet i → CoreStands s h domains
+    → ((dom : DomId) → StateAgrees s (i ∷ h) dom (state_of domains' dom.0)) → ((t f : ℕ) → length (contents_at (i ∷ h) t f) ≡ 4096) → CoreStands s (i ∷ h) domains'
+quiet-rest s i h domains domains' q a each filled =
     record {
-      each = λ dom. subst (λ (o : Option State). StateAgrees s (i ∷ h) dom o) (sym (e dom.0))
-          (pick-state (i.actor.0 == dom.0) s i h dom (state_of domains dom.0) new q refl (a.each dom) n
-          (λ b none. some (ap (state_of domains) (eqb-true i.actor.0 dom.0 b) ∙ none)));
+      each = each;
+      filled = filled;
       tables = λ dom. subst FitsTable (sym (quiet-table s i h dom q)) (a.tables dom);
       lawful = subst (All (IsLawful s)) (sym (quiet-live i h q)) a.lawful;
       free = λ t r e. let was = a.free t r (sym (quiet-entry i h t r q) ∙ e) in
@@ -248,6 +275,21 @@ quiet-stands s i h domains domains' new q a e n some =
           (spelled-keeps i h t r (entry_at h t r) q (a.spelled t r (λ e. valid (quiet-entry i h t r q ∙ e))));
     }
 
+-- each frame is as full as it was
+pub filled-stays : (s : Setting) (i : Item) (h : History) (domains : List State) → WritesNone i → CoreStands s h domains → (t f : ℕ) → length (contents_at (i ∷ h) t f) ≡ 4096
+filled-stays s i h domains none a t f = ap (λ (l : List ℕ). length l) (kept-contents i h t f none) ∙ a.filled t f
+
+-- a core stands for one quiet item more, where just the actor's state is another one
+pub quiet-stands : (s : Setting) (i : Item) (h : History) (domains domains' : List State) (new : State) → IsQuiet i → WritesNone i → CoreStands s h domains
+    → ((q : ℕ) → state_of domains' q ≡ cond (i.actor.0 == q) (Some new) (state_of domains q))
+    → (new.id ≡ i.actor) × Agrees s (i ∷ h) new → (state_of domains i.actor.0 ≡ None → ⊥) → CoreStands s (i ∷ h) domains'
+quiet-stands s i h domains domains' new q w a e n some =
+    quiet-rest s i h domains domains' q a
+    (λ dom. subst (λ (o : Option State). StateAgrees s (i ∷ h) dom o) (sym (e dom.0))
+    (pick-state (i.actor.0 == dom.0) s i h dom (state_of domains dom.0) new q w refl (a.each dom) n
+    (λ b none. some (ap (state_of domains) (eqb-true i.actor.0 dom.0 b) ∙ none))))
+    (filled-stays s i h domains w a)
+
 -- beginnings
 
 abbrev pub began : DomId → Request → Option Answer → Item
@@ -256,6 +298,9 @@ began dom request answer = record { actor = dom; happened = Began request; answe
 began-quiet : (dom : DomId) (request : Request) (answer : Option Answer) → one_if_mapped answer ≡ 0 → IsQuiet (began dom request answer)
 began-quiet dom request answer e =
     record { keeps = record { changes = λ r. refl; pins = λ before. refl; unpins = λ pins. refl; maps = e }; stores = λ r which. refl; header = refl }
+
+pub began-writes-none : (dom : DomId) (request : Request) (answer : Option Answer) → WritesNone (began dom request answer)
+began-writes-none dom request answer = λ given t f old. refl
 
 same-number : (n : ℕ) → (n == n) ≡ true
 same-number n = eq-eqb n n refl
@@ -294,76 +339,68 @@ first-place s h d (Promote gref) e = (refl, refl)
 first-place s h d (Map dom gref flags) e = (refl, map-domain true (domain_of s.domains (resolved d dom)) _ e, tt)
 first-place s h d (Unmap handle) e = tt
 first-place s h d (Load handle off len) e = tt
+first-place s h d (Store handle off len) e = tt
+first-place s h d (Peek frame off len) e = tt
+first-place s h d (Poke frame off len) e = tt
 first-place s h d (SetVersion version) e = tt
 first-place s h d (SetupTable frames) e = tt
 first-place s h d (QuerySize dom) e = tt
 first-place s h d (GetVersion dom) e = tt
 
--- a request that is not answered at its beginning asks a call that is not
+-- a call keeps the bytes that are given to it
+kept-given : (request : Request) → kept_by (asked request) (given_by request) ≡ given_by request
+kept-given (requests.Grant gref entry) = refl
+kept-given (requests.GrantBytes gref bytes) = refl
+kept-given (requests.Revoke gref) = refl
+kept-given (requests.Demote gref) = refl
+kept-given (requests.Promote gref) = refl
+kept-given (requests.Map dom gref flags) = refl
+kept-given (requests.Unmap handle) = refl
+kept-given (requests.Load handle off len) = refl
+kept-given (requests.Store handle off bytes) = refl
+kept-given (requests.Peek frame off len) = refl
+kept-given (requests.Poke frame off bytes) = refl
+kept-given (requests.SetVersion version) = refl
+kept-given (requests.SetupTable frames) = refl
+kept-given (requests.QuerySize dom) = refl
+kept-given (requests.GetVersion dom) = refl
 
-entry-stands : (entry : Entry) (version : ℕ) → (version == 1) ≡ false → (entry ≡ Invalid → ⊥) → cannot_stand entry version ≡ false
-entry-stands Invalid version e valid = absurd (valid refl)
-entry-stands (Page dom ro frame) version e valid = ap (λ (b : Bool). b && nat_lt 4294967295 frame) e
-entry-stands (Sub dom ro frame off len) version e valid = e
-entry-stands (Via dom ro dom2 gref) version e valid = e
-
-laid-out-valid : (bytes : List ℕ) (entry : Entry) → IsLaidOutV2 bytes entry → entry ≡ Invalid → ⊥
-laid-out-valid bytes Invalid a e = a
-laid-out-valid bytes (Page dom ro frame) a e = cc
-laid-out-valid bytes (Sub dom ro frame off len) a e = cc
-laid-out-valid bytes (Via dom ro dom2 gref) a e = cc
-
-page-stands : (bytes : List ℕ) (entry : Entry) (version : ℕ) → SpellsV1 bytes entry → cannot_stand entry version ≡ false
-page-stands bytes Invalid version a = absurd a.layout
-page-stands bytes (Sub dom ro frame off len) version a = absurd a.layout
-page-stands bytes (Via dom ro dom2 gref) version a = absurd a.layout
-page-stands bytes (Page dom ro frame) version a =
-    let small : frame < 4294967296 = subst (λ (n : ℕ). n < 4294967296) a.layout.2 (four-bytes bytes a.size.0 a.size.1) in
-    by (version == 1) (lt-leb-not frame small)
+-- a range that nothing stands against ends inside a frame
+pub within-frame : (off len : ℕ) (more : List (Option Verdict)) → first (refused_when (nat_lt 4096 (off + len)) N3 ∷ more) ≡ None → off + len ≤ 4096
+within-frame off len more e = by (nat_lt 4096 (off + len)) refl e
   where
-    lt-leb-not : (n : ℕ) → n < 4294967296 → nat_lt 4294967295 n ≡ false
-    lt-leb-not n lt = ltb-from-le 4294967295 n (omega arith)
+    by : (b : Bool) → nat_lt 4096 (off + len) ≡ b → first (refused_when b N3 ∷ more) ≡ None → off + len ≤ 4096
+    by true is f = let g : Some (Refused (denial_of N3 NoFacts)) ≡ None = f in cc
+    by false is f = ltb-false 4096 (off + len) is
 
-    by : (b : Bool) → nat_lt 4294967295 frame ≡ false → (b && nat_lt 4294967295 frame) ≡ false
-    by true e = e
-    by false e = refl
+-- where nothing stands against it, they end inside a frame
+given-fits : (k : CallerKnowledge) (d : DomId) (request : Request) → begun_of k d request ≡ None → FitsGiven (asked request) (given_by request)
+given-fits k d (requests.Store handle off bytes) e = (refl, within-frame off (length bytes.now) _ e)
+given-fits k d (requests.Poke frame off bytes) e = (refl, within-frame off (length bytes.now) _ e)
+given-fits k d (requests.Grant gref entry) e = tt
+given-fits k d (requests.GrantBytes gref bytes) e = tt
+given-fits k d (requests.Revoke gref) e = tt
+given-fits k d (requests.Demote gref) e = tt
+given-fits k d (requests.Promote gref) e = tt
+given-fits k d (requests.Map dom gref flags) e = tt
+given-fits k d (requests.Unmap handle) e = tt
+given-fits k d (requests.Load handle off len) e = tt
+given-fits k d (requests.Peek frame off len) e = tt
+given-fits k d (requests.SetVersion version) e = tt
+given-fits k d (requests.SetupTable frames) e = tt
+given-fits k d (requests.QuerySize dom) e = tt
+given-fits k d (requests.GetVersion dom) e = tt
 
-spelled-stands : (version : ℕ) (bytes : List ℕ) (entry : Entry) (b : Bool) → (version == 2) ≡ b → MatchBool b (SpellsV2 bytes entry) (SpellsV1 bytes entry) → cannot_stand entry version ≡ false
-spelled-stands version bytes entry true e a =
-    let two : version ≡ 2 = eqb-true version 2 e in
-    entry-stands entry version (ap (λ (n : ℕ). n == 1) two) (laid-out-valid bytes entry a.layout)
-spelled-stands version bytes entry false e a = page-stands bytes entry version a
-
-begun-bytes : (header : Header) (old entry : Entry) (generation r : ℕ) (bytes : List ℕ) → bytes_begun header old generation r bytes ≡ None → cannot_stand entry header.version ≡ false
-    → grant_begun header old generation r entry ≡ None
-begun-bytes header old entry generation r bytes e stands = by (nat_le (size_of header) r) (not (is_invalid old)) (cannot_stand entry header.version) (generation == 1048575) (field_refused (first_refused header.version bytes)) e stands
-  where
-    by : (a b c g : Bool) (o : Option Verdict) → first (refused_when a N9 ∷ refused_when b N20 ∷ refused_when g N22 ∷ o ∷ []) ≡ None → c ≡ false
-        → first (refused_when a N9 ∷ refused_when b N20 ∷ refused_when c N21 ∷ refused_when g N22 ∷ []) ≡ None
-    by true b c g o e f = cc
-    by false true c g o e f = cc
-    by false false true g o e f = absurd (true≢false f)
-    by false false false true o e f = cc
-    by false false false false o e f = refl
-
-pub begun-asked : (k : CallerKnowledge) (d : DomId) (request : Request) → begun_of k d request ≡ None → IsSaid k.header request → begun k d (asked request) ≡ None
-begun-asked k d (requests.GrantBytes gref bytes) e said =
-    begun-bytes k.header (k.entry gref.0) (entry_said bytes.now) (k.generation gref.0) gref.0 bytes.now e (spelled-stands k.header.version bytes.now (entry_said bytes.now) (k.header.version == 2) refl said)
-begun-asked k d (requests.Grant gref entry) e said = e
-begun-asked k d (requests.Revoke gref) e said = e
-begun-asked k d (requests.Demote gref) e said = e
-begun-asked k d (requests.Promote gref) e said = e
-begun-asked k d (requests.Map dom gref flags) e said = e
-begun-asked k d (requests.Unmap handle) e said = e
-begun-asked k d (requests.Load handle off len) e said = e
-begun-asked k d (requests.SetVersion version) e said = e
-begun-asked k d (requests.SetupTable frames) e said = e
-begun-asked k d (requests.QuerySize dom) e said = e
-begun-asked k d (requests.GetVersion dom) e said = e
+-- a call that was just begun has the bytes of its request
+given-begins : (i : Item) (h : History) (d : DomId) (request : Request) (given : List ℕ)
+    → open_call (i ∷ h) d.0 ≡ Some (record { request = asked request; given = given_by request; steps = [] }) → given ≡ given_by request → FitsGiven (asked request) (given_by request)
+    → GivenAgrees (i ∷ h) d.0 given
+given-begins i h d request given now same fits = λ c call.
+    subst (λ (u : Underway). (given ≡ u.given) × FitsGiven u.request u.given) (same_Some _ _ (sym now ∙ call)) (same, fits)
 
 pub begin-opens : (s : Setting) (h : History) (d : State) (request : Request) (o : Open) → FitsAsked o.call.request → Agrees s h d → d.underway ≡ None
-    → Opens (knowledge_of s.domains s.first_generation s.may d.own d.header d.mappings d.maps_answered) d.id request (OpeningOpen o)
-    → IsRight s h (began d.id request None) × Agrees s (began d.id request None ∷ h) (record d { underway = Some o })
+    → Opens (knowledge_of s.domains s.first_generation s.may d.own d.header d.mappings) d.id request (OpeningOpen o)
+    → IsRight s h (began d.id request None) × Agrees s (began d.id request None ∷ h) (with_call o (kept_by o.call.request (given_by request)) d)
 begin-opens s h d request o fits a closed opens =
     let i = began d.id request None in
     let q = began-quiet d.id request None refl in
@@ -372,11 +409,10 @@ begin-opens s h d request o fits a closed opens =
     let still = was ∙ sym (quiet-known s i h d.id q) in
     let quiet : begun_of (known_at s h d.id) d.id request ≡ None = ap (λ (k : CallerKnowledge). begun_of k d.id request) (sym was) ∙ opens.0 in
     let said : IsSaid (table_at s h d.id) request = subst (λ (x : Header). IsSaid x request) a.header opens.6 in
-    let now : begun_of (known_at s (i ∷ h) d.id) d.id request ≡ None = ap (λ (k : CallerKnowledge). begun_of k d.id request) (sym still) ∙ opens.0 in
-    let later : begun (known_at s (i ∷ h) d.id) d.id r ≡ None = begun-asked (known_at s (i ∷ h) d.id) d.id request now (subst (λ (x : Header). IsSaid x request) (sym (quiet-table s i h d.id q)) said) in
+    let later : begun (known_at s (i ∷ h) d.id) d.id r ≡ None = ap (λ (k : CallerKnowledge). begun k d.id r) (sym still) ∙ opens.7 in
     let fair : stood s (i ∷ h) d.id.0 ≡ None = stood-own s i h ∙ ap refusal_in quiet in
     let empty : open_call h d.id.0 ≡ None = call-none s h d.id d.underway (open_call h d.id.0) closed a.call in
-    let agrees : OpenAgrees s (i ∷ h) d.id o (record { request = r; steps = [] }) =
+    let agrees : OpenAgrees s (i ∷ h) d.id o (record { request = r; given = given_by request; steps = [] }) =
     record {
       caller = opens.1;
       request = opens.2;
@@ -393,7 +429,10 @@ begin-opens s h d request o fits a closed opens =
           (ap (λ (k : CallerKnowledge). first_phase k d.id r) (sym still) ∙ sym opens.5) (first-place s (i ∷ h) d.id r later);
     } in (
       (empty, subst (λ (v : Option Verdict). AnsweredBy s h d.id r None v None (stood s (i ∷ h) d.id.0)) (sym quiet) fair, λ e. said),
-      quiet-agrees s i h d (Some o) q a (subst (λ (c : Option Underway). CallAgrees s (i ∷ h) d.id (Some o) c) (sym (open_call-own i h)) agrees),
+      quiet-agrees s i h d (Some o) (kept_by o.call.request (given_by request)) d.frames q a
+          (subst (λ (c : Option Underway). CallAgrees s (i ∷ h) d.id (Some o) c) (sym (open_call-own i h)) agrees)
+          (given-begins i h d.id request (kept_by o.call.request (given_by request)) (open_call-own i h) (ap (λ (z : Asked). kept_by z (given_by request)) opens.2 ∙ kept-given request) (given-fits (known_at s h d.id) d.id request quiet))
+          (frames-stay s i h d.id d.frames (began-writes-none d.id request None) a.frames),
     )
 
 -- a call that is answered at once
@@ -408,6 +447,9 @@ plain-unmapped (requests.Promote gref) x Granted = refl
 plain-unmapped (requests.Map dom gref flags) x Granted = refl
 plain-unmapped (requests.Unmap handle) x Granted = refl
 plain-unmapped (requests.Load handle off len) x Granted = refl
+plain-unmapped (requests.Store handle off bytes) x Granted = refl
+plain-unmapped (requests.Peek frame off len) x Granted = refl
+plain-unmapped (requests.Poke frame off bytes) x Granted = refl
 plain-unmapped (requests.SetVersion version) x Granted = refl
 plain-unmapped (requests.SetupTable frames) x Granted = refl
 plain-unmapped (requests.QuerySize dom) x Granted = refl
@@ -423,6 +465,9 @@ plain-refusal (requests.Promote gref) x Granted = refl
 plain-refusal (requests.Map dom gref flags) x Granted = refl
 plain-refusal (requests.Unmap handle) x Granted = refl
 plain-refusal (requests.Load handle off len) x Granted = refl
+plain-refusal (requests.Store handle off bytes) x Granted = refl
+plain-refusal (requests.Peek frame off len) x Granted = refl
+plain-refusal (requests.Poke frame off bytes) x Granted = refl
 plain-refusal (requests.SetVersion version) x Granted = refl
 plain-refusal (requests.SetupTable frames) x Granted = refl
 plain-refusal (requests.QuerySize dom) x Granted = refl
@@ -452,11 +497,15 @@ map-refused : (k : CallerKnowledge) (caller dom : DomId) (flags : ℕ) → map_b
 map-refused k caller dom flags =
     first-refused (is_none (domain_of k.domains (resolved caller dom))) N1 _ (first-refused (not ((flags == 2) || (flags == 6))) N2 _
     (denied-refused k.may (label_of k.domains caller) (label_of k.domains (resolved caller dom)) (asked_by flags) _
-    (first-refused (nat_le 8192 (length k.mappings) || nat_le (2 ^ 64 - 1) k.maps_answered) N8 _ none-granted)))
+    (first-refused (nat_le 8192 k.in_use || nat_le (2 ^ 64 - 1) k.maps_answered) N8 _ none-granted)))
 
-load-refused : (mappings : List Mapping) (handle : Handle) (off len : ℕ) → load_begun mappings handle off len ≡ Some Granted → ⊥
-load-refused mappings handle off len =
-    first-refused (nat_lt 4096 (off + len)) N3 _ (first-refused (is_none (mapping_of mappings handle)) N6 _ none-granted)
+load-refused : (mapping : Handle → Option Mapping) (handle : Handle) (off len : ℕ) → load_begun mapping handle off len ≡ Some Granted → ⊥
+load-refused mapping handle off len =
+    first-refused (nat_lt 4096 (off + len)) N3 _ (first-refused (is_none (mapping handle)) N6 _ none-granted)
+
+own-access-refused : (domains : List DomainConfig) (caller : DomId) (frame off len : ℕ) → own_access_begun domains caller frame off len ≡ Some Granted → ⊥
+own-access-refused domains caller frame off len =
+    first-refused (nat_lt 4096 (off + len)) N3 _ (first-refused (nat_le (frames_of domains caller) frame) N16 _ none-granted)
 
 query-refused : (k : CallerKnowledge) (caller dom : DomId) → query_begun k caller dom ≡ Some Granted → ⊥
 query-refused k caller dom =
@@ -476,7 +525,10 @@ gives-value : (s : Setting) (h : History) (k : CallerKnowledge) (d : DomId) (req
 gives-value s h k d request x (Refused denial) same e = tt
 gives-value s h k d (requests.GrantBytes gref bytes) x Granted same e = absurd (bytes-refused k.header (k.entry gref.0) (k.generation gref.0) gref.0 bytes.now e)
 gives-value s h k d (requests.Map dom gref flags) x Granted same e = absurd (map-refused k d dom flags e)
-gives-value s h k d (requests.Load handle off len) x Granted same e = absurd (load-refused k.mappings handle off len e)
+gives-value s h k d (requests.Load handle off len) x Granted same e = absurd (load-refused k.mapping handle off len e)
+gives-value s h k d (requests.Store handle off bytes) x Granted same e = refl
+gives-value s h k d (requests.Peek frame off len) x Granted same e = absurd (own-access-refused k.domains d frame off len e)
+gives-value s h k d (requests.Poke frame off bytes) x Granted same e = refl
 gives-value s h k d (requests.SetupTable frames) x Granted same e = ap (λ (t : Header). Frames t.frames) same
 gives-value s h k d (requests.QuerySize dom) x Granted same e = absurd (query-refused k d dom e)
 gives-value s h k d (requests.GetVersion dom) x Granted same e = absurd (query-refused k d dom e)
@@ -488,7 +540,7 @@ gives-value s h k d (requests.Unmap handle) x Granted same e = refl
 gives-value s h k d (requests.SetVersion version) x Granted same e = refl
 
 pub begin-done : (s : Setting) (h : History) (d : State) (request : Request) (v : Verdict) → Agrees s h d → d.underway ≡ None
-    → begun_of (knowledge_of s.domains s.first_generation s.may d.own d.header d.mappings d.maps_answered) d.id request ≡ Some v
+    → begun_of (knowledge_of s.domains s.first_generation s.may d.own d.header d.mappings) d.id request ≡ Some v
     → IsRight s h (began d.id request (Some (answer_begun request d.header v))) × Agrees s (began d.id request (Some (answer_begun request d.header v)) ∷ h) d
 begin-done s h d request v a closed opens =
     let i = began d.id request (Some (answer_begun request d.header v)) in
@@ -507,51 +559,58 @@ begin-done s h d request v a closed opens =
             (plain-refusal request d.header v, plain-refusal request d.header v ∙ sym against, gives-value s h (known_at s h d.id) d.id request d.header v a.header at_once),
         λ e. let f : Some (answer_begun request d.header v) ≡ None = e in cc,
       ),
-      quiet-agrees s i h d d.underway q a call,
+      quiet-agrees s i h d d.underway d.given d.frames q a call (given-none (i ∷ h) d.id.0 d.given (open_call-own i h)) (frames-stay s i h d.id d.frames (began-writes-none d.id request (Some (answer_begun request d.header v))) a.frames),
     )
 
 -- the machine's first action
 
-opens-at : (k : CallerKnowledge) (dom : DomId) (request : Request) (new : Call) (step : Step) → begun_of k dom request ≡ None → IsSaid k.header request → new.caller ≡ dom → new.request ≡ asked request
+opens-at : (k : CallerKnowledge) (dom : DomId) (request : Request) (new : Call) (step : Step) → begun_of k dom request ≡ None → IsSaid k.header request → begun k dom (asked request) ≡ None → new.caller ≡ dom → new.request ≡ asked request
     → ((vs : List Seen) → expects k dom (asked request) new.phase vs ≡ expects k dom (asked request) PhaseBegun (Nothing ∷ vs))
     → expects k dom (asked request) new.phase [] ≡ Some (Makes step) → new.phase ≡ first_phase k dom (asked request) → Opens k dom request (OpeningOpen (record { call = new; step = step }))
-opens-at k dom request new step none said caller same goes comes first = (none, caller, same, comes, goes, first, said)
+opens-at k dom request new step none said quiet caller same goes comes first = (none, caller, same, comes, goes, first, said, quiet)
 
 pub opens-next : (k : CallerKnowledge) (dom : DomId) (request : Request) (first new : Call) (step : Step) → StartOpen first ≡ starts_as dom (asked request) (begun_of k dom request)
-    → (begun_of k dom request ≡ None → IsSaid k.header request) → new.caller ≡ first.caller → new.request ≡ first.request
+    → (begun_of k dom request ≡ None → IsSaid k.header request) → (begun_of k dom request ≡ None → begun k dom (asked request) ≡ None) → new.caller ≡ first.caller → new.request ≡ first.request
     → ((vs : List Seen) → expects k first.caller first.request new.phase vs ≡ expects k first.caller first.request first.phase (Nothing ∷ vs))
     → expects k first.caller first.request new.phase [] ≡ Some (Makes step) → new.phase ≡ phase_after k first.caller first.request first.phase Nothing
     → Opens k dom request (OpeningOpen (record { call = new; step = step }))
-opens-next k dom request first new step e said caller same goes comes phase =
+opens-next k dom request first new step e said quiet caller same goes comes phase =
     let t = starts-open dom (asked request) (begun_of k dom request) first e in
-    opens-at k dom request new step t.0 (said t.0)
+    opens-at k dom request new step t.0 (said t.0) (quiet t.0)
     (caller ∙ ap (λ (f : Call). f.caller) t.1)
     (same ∙ ap (λ (f : Call). f.request) t.1)
     (subst (λ (f : Call). (vs : List Seen) → expects k f.caller f.request new.phase vs ≡ expects k f.caller f.request f.phase (Nothing ∷ vs)) t.1 goes)
     (subst (λ (f : Call). expects k f.caller f.request new.phase [] ≡ Some (Makes step)) t.1 comes)
     (subst (λ (f : Call). new.phase ≡ phase_after k f.caller f.request f.phase Nothing) t.1 phase)
 
-pub opens-underway : (k : CallerKnowledge) (dom : DomId) (request : Request) (first : Call) → StartOpen first ≡ starts_as dom (asked request) (begun_of k dom request) → (begun_of k dom request ≡ None → IsSaid k.header request) → IsUnderway k first.caller first.request first.phase
-opens-underway k dom request first e said =
+pub opens-underway : (k : CallerKnowledge) (dom : DomId) (request : Request) (first : Call) → StartOpen first ≡ starts_as dom (asked request) (begun_of k dom request) → (begun_of k dom request ≡ None → begun k dom (asked request) ≡ None) → IsUnderway k first.caller first.request first.phase
+opens-underway k dom request first e quiet =
     let t = starts-open dom (asked request) (begun_of k dom request) first e in
-    subst (λ (f : Call). IsUnderway k f.caller f.request f.phase) (sym t.1) (begun-asked k dom request t.0 (said t.0))
+    subst (λ (f : Call). IsUnderway k f.caller f.request f.phase) (sym t.1) (quiet t.0)
 
 pub opens-fits : (k : CallerKnowledge) (dom : DomId) (request : Request) (first : Call) → StartOpen first ≡ starts_as dom (asked request) (begun_of k dom request) → FitsPhase k first.caller first.request first.phase Nothing
 opens-fits k dom request first e =
     let t = starts-open dom (asked request) (begun_of k dom request) first e in
     subst (λ (f : Call). FitsPhase k f.caller f.request f.phase Nothing) (sym t.1) refl
 
-unpin-step : (m : Option Mapping) (v : Verdict) → gives_up m [] ≡ Some (Done v) → ⊥
-unpin-step None v e = cc
-unpin-step (Some m) v e = cc
+unpin-step : (handle : Handle) (m : Option Mapping) (v : Verdict) → gives_up handle m [] ≡ Some (Done v) → ⊥
+unpin-step handle None v e = cc
+unpin-step handle (Some m) v e = cc
 
 read-step : (m : Option Mapping) (off len : ℕ) (v : Verdict) → reads m off len [] ≡ Some (Done v) → ⊥
 read-step None off len v e = cc
 read-step (Some m) off len v e = cc
 
+turns-look : (to_ro : Bool) (caller : DomId) (gref : GrantRef) → turns to_ro caller gref 3 [] ≡ Some (Makes (LookControl caller gref))
+unfolding turns
+turns-look to_ro caller gref = refl
+
+write-step : (m : Option Mapping) (off len : ℕ) (v : Verdict) → writes m off len [] ≡ Some (Done v) → ⊥
+write-step None off len v e = cc
+write-step (Some m) off len v e = cc
+
 turn-step : (to_ro : Bool) (caller : DomId) (gref : GrantRef) (v : Verdict) → turns to_ro caller gref 3 [] ≡ Some (Done v) → ⊥
-turn-step to_ro caller gref v e =
-    let first : Some (Makes (LookControl caller gref)) ≡ Some (Done v) = sym (ap (λ (t : Continuation). t []) (turns-one to_ro caller gref 3)) ∙ e in cc
+turn-step to_ro caller gref v e = let first : Some (Makes (LookControl caller gref)) ≡ Some (Done v) = sym (turns-look to_ro caller gref) ∙ e in cc
 
 -- a call that is not answered at its beginning begins with a step
 steps-begin : (k : CallerKnowledge) (dom : DomId) (request : Asked) (v : Verdict) → steps_of k dom request [] ≡ Some (Done v) → ⊥
@@ -560,8 +619,11 @@ steps-begin k dom (Revoke gref) v e = cc
 steps-begin k dom (Demote gref) v e = turn-step true dom gref v e
 steps-begin k dom (Promote gref) v e = turn-step false dom gref v e
 steps-begin k dom (Map d gref flags) v e = cc
-steps-begin k dom (Unmap handle) v e = unpin-step (mapping_of k.mappings handle) v e
-steps-begin k dom (Load handle off len) v e = read-step (mapping_of k.mappings handle) off len v e
+steps-begin k dom (Unmap handle) v e = unpin-step handle (k.mapping handle) v e
+steps-begin k dom (Load handle off len) v e = read-step (k.mapping handle) off len v e
+steps-begin k dom (Store handle off len) v e = write-step (k.mapping handle) off len v e
+steps-begin k dom (Peek frame off len) v e = cc
+steps-begin k dom (Poke frame off len) v e = cc
 steps-begin k dom (SetVersion version) v e = cc
 steps-begin k dom (SetupTable frames) v e = cc
 steps-begin k dom (QuerySize d) v e = cc
@@ -604,16 +666,16 @@ same-state domains x q e = by (x.id.0 == q) refl
 
 pub begin-answered : (s : Setting) (h : History) (domains : List State) (dom : DomId) (at : ℕ) (x : State) (request : Request) (v : Verdict)
     → position (has_id dom.0) domains ≡ Some at → x ≡ get_or domains at x → is_some x.underway ≡ false
-    → begun_of (knowledge_of s.domains s.first_generation s.may x.own x.header x.mappings x.maps_answered) dom request ≡ Some v → CoreStands s h domains
+    → begun_of (knowledge_of s.domains s.first_generation s.may x.own x.header x.mappings) dom request ≡ Some v → CoreStands s h domains
     → (domain_of s.domains dom ≢ None) × IsRight s h (began dom request (Some (answer_begun request x.header v))) × CoreStands s (began dom request (Some (answer_begun request x.header v)) ∷ h) domains
 begin-answered s h domains dom at x request v p here idle opens st =
     let a = agrees-found s h domains dom at x p here st in
     let f = found domains dom.0 at x p ∙ ap (λ (y : State). Some y) (sym here) in
-    let both = subst (λ (d : DomId). begun_of (knowledge_of s.domains s.first_generation s.may x.own x.header x.mappings x.maps_answered) d request ≡ Some v → state_of domains d.0 ≡ Some x
+    let both = subst (λ (d : DomId). begun_of (knowledge_of s.domains s.first_generation s.may x.own x.header x.mappings) d request ≡ Some v → state_of domains d.0 ≡ Some x
     → IsRight s h (began d request (Some (answer_begun request x.header v))) × CoreStands s (began d request (Some (answer_begun request x.header v)) ∷ h) domains) a.1
     (λ op g. let b = begin-done s h x request v a.2 (closed-from x.underway idle) op in (
       b.0,
-      quiet-stands s (began x.id request (Some (answer_begun request x.header v))) h domains domains x (began-quiet x.id request (Some (answer_begun request x.header v)) (plain-unmapped request x.header v)) st
+      quiet-stands s (began x.id request (Some (answer_begun request x.header v))) h domains domains x (began-quiet x.id request (Some (answer_begun request x.header v)) (plain-unmapped request x.header v)) (began-writes-none x.id request (Some (answer_begun request x.header v))) st
           (λ q. same-state domains x q g) (refl, b.1) (λ none. none-some x (sym none ∙ g)),
     ))
     opens f in
@@ -621,19 +683,19 @@ begin-answered s h domains dom at x request v p here idle opens st =
 
 pub begin-opened : (s : Setting) (h : History) (domains : List State) (dom : DomId) (at : ℕ) (x : State) (request : Request) (o : Open)
     → FitsAsked o.call.request → position (has_id dom.0) domains ≡ Some at → x ≡ get_or domains at x → is_some x.underway ≡ false
-    → Opens (knowledge_of s.domains s.first_generation s.may x.own x.header x.mappings x.maps_answered) dom request (OpeningOpen o) → CoreStands s h domains
-    → (domain_of s.domains dom ≢ None) × IsRight s h (began dom request None) × CoreStands s (began dom request None ∷ h) (set domains at (record x { underway = Some o }))
+    → Opens (knowledge_of s.domains s.first_generation s.may x.own x.header x.mappings) dom request (OpeningOpen o) → CoreStands s h domains
+    → (domain_of s.domains dom ≢ None) × IsRight s h (began dom request None) × CoreStands s (began dom request None ∷ h) (set domains at (with_call o (kept_by o.call.request (given_by request)) x))
 begin-opened s h domains dom at x request o fits p here idle opens st =
     let a = agrees-found s h domains dom at x p here st in
     let f = found domains dom.0 at x p ∙ ap (λ (y : State). Some y) (sym here) in
     let places = position-Some (has_id dom.0) domains at x p in
-    let both = subst (λ (d : DomId). Opens (knowledge_of s.domains s.first_generation s.may x.own x.header x.mappings x.maps_answered) d request (OpeningOpen o) → state_of domains d.0 ≡ Some x
+    let both = subst (λ (d : DomId). Opens (knowledge_of s.domains s.first_generation s.may x.own x.header x.mappings) d request (OpeningOpen o) → state_of domains d.0 ≡ Some x
     → ((k : ℕ) → k < at → has_id d.0 (get_or domains k x) ≡ false)
-    → IsRight s h (began d request None) × CoreStands s (began d request None ∷ h) (set domains at (record x { underway = Some o }))) a.1
+    → IsRight s h (began d request None) × CoreStands s (began d request None ∷ h) (set domains at (with_call o (kept_by o.call.request (given_by request)) x))) a.1
     (λ op g apart. let b = begin-opens s h x request o fits a.2 (closed-from x.underway idle) op in (
       b.0,
-      quiet-stands s (began x.id request None) h domains (set domains at (record x { underway = Some o })) (record x { underway = Some o }) (began-quiet x.id request None refl) st
-          (λ q. state_of-set domains at x (record x { underway = Some o }) q places.0 (sym here) refl apart) (refl, b.1) (λ none. none-some x (sym none ∙ g)),
+      quiet-stands s (began x.id request None) h domains (set domains at (with_call o (kept_by o.call.request (given_by request)) x)) (with_call o (kept_by o.call.request (given_by request)) x) (began-quiet x.id request None refl) (began-writes-none x.id request None) st
+          (λ q. state_of-set domains at x (with_call o (kept_by o.call.request (given_by request)) x) q places.0 (sym here) refl apart) (refl, b.1) (λ none. none-some x (sym none ∙ g)),
     ))
     opens f (λ k below. places.2 k below) in
     (a.0, both.0, both.1)
@@ -643,7 +705,7 @@ place-at domains d at x p here = slice_get_read domains (length domains) at x re
 
 pub begin-answers : (s : Setting) (h : History) (domains : List State) (dom : DomId) (at : ℕ) (x : State) (request : Request) (v : Verdict) (y : Answer) → y ≡ answer_begun request x.header v
     → position (has_id dom.0) domains ≡ Some at → x ≡ get_or domains at x → is_some x.underway ≡ false
-    → begun_of (knowledge_of s.domains s.first_generation s.may x.own x.header x.mappings x.maps_answered) dom request ≡ Some v → CoreStands s h domains
+    → begun_of (knowledge_of s.domains s.first_generation s.may x.own x.header x.mappings) dom request ≡ Some v → CoreStands s h domains
     → (domain_of s.domains dom ≢ None) × IsRight s h (began dom request (Some y)) × CoreStands s (began dom request (Some y) ∷ h) domains
 begin-answers s h domains dom at x request v y e p here idle opens st =
     subst (λ (z : Answer). (domain_of s.domains dom ≢ None) × IsRight s h (began dom request (Some z)) × CoreStands s (began dom request (Some z) ∷ h) domains) (sym e)
@@ -659,7 +721,7 @@ tick-idle s h domains dom at x p here closed st =
 -- a beginning for which memory is wanted
 pub begin-wants : (s : Setting) (h : History) (domains : List State) (dom : DomId) (at : ℕ) (x : State) (request : Request) (o : Open)
     → asks_memory o.call.request ≡ true → position (has_id dom.0) domains ≡ Some at → x ≡ get_or domains at x → is_some x.underway ≡ false
-    → Opens (knowledge_of s.domains s.first_generation s.may x.own x.header x.mappings x.maps_answered) dom request (OpeningOpen o) → CoreStands s h domains → WantsMemory s h dom request
+    → Opens (knowledge_of s.domains s.first_generation s.may x.own x.header x.mappings) dom request (OpeningOpen o) → CoreStands s h domains → WantsMemory s h dom request
 begin-wants s h domains dom at x request o asks p here idle opens st =
     let a = agrees-found s h domains dom at x p here st in (
       ap asks_memory (sym opens.2) ∙ asks,

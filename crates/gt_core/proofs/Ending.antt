@@ -1,5 +1,7 @@
 -- A tick after which a call is answered Ok.
 use Rattle.std.proofs.Common.{◌≡◌, ◌≢◌, ◌<◌, ◌≤◌, ◌+◌, ◌-◌, ℕ, refl, Bool, true, false, List, [], ◌∷◌, ◌++◌, length, Option, Some, None, cond, sym, ap, ◌∙◌, arith, subst, get_or, set, reverse, take, drop}
+use Rattle.gt_handles.specs.Handles.{Kept}
+use Rattle.gt_core.specs.Effects.{Adds}
 use Rattle.std.proofs.lemmas.Bool.{leb-false, eqb-true, eq-eqb, false≢true, true≢false}
 use Rattle.std.proofs.lemmas.List.{append-nil, take_all, drop_all}
 use Rattle.std.proofs.lemmas.List.Elements.{All-tail}
@@ -17,51 +19,50 @@ use Rattle.gt_entry.specs.declared.entry.Entry.{Entry}
 use Rattle.gt_entry.specs.declared.entry.Entry.TheVariants.{Invalid, Page, Sub, Via}
 use Rattle.gt_entry.specs.Words.{control_of, header_word, header_of}
 use Rattle.gt_entry.specs.declared.header.Header.{Header}
-use Rattle.gt_core.specs.declared.known.Mapping.{Mapping}
+use Rattle.gt_calls.specs.declared.known.Mapping.{Mapping}
 use Rattle.gt_types.specs.declared.Dir.{Dir}
 use Rattle.gt_types.specs.declared.Dir.TheVariants.{Read, Write}
 use Rattle.gt_types.specs.declared.Use.TheVariants.{Map as ForMap}
-use Rattle.gt_core.specs.declared.request.Handle.{Handle}
-use Rattle.gt_core.specs.declared.request.Holder.{Holder}
-use Rattle.gt_core.specs.declared.request.Holder.TheVariants.{Mapping as ByMapping, Leg as ByLeg}
-use Rattle.gt_core.specs.declared.asked.Asked.{Asked}
-use Rattle.gt_core.specs.declared.asked.Asked.TheVariants.{Grant, Revoke, Demote, Promote, Map, Unmap, Load, SetVersion, SetupTable, QuerySize, GetVersion}
-use Rattle.gt_core.specs.declared.action.Verdict.TheVariants.{Granted, Refused}
-use Rattle.gt_core.specs.declared.action.Change.{Change}
-use Rattle.gt_core.specs.declared.action.Step.{Step}
-use Rattle.gt_core.specs.declared.action.Step.TheVariants.{LookHeader, LookControl, LookBody, Pin as PinStep, Unpin, StoreBody, StoreHeader, Exchange, Read as ReadBytes}
-use Rattle.gt_core.specs.declared.action.Seen.{Seen}
-use Rattle.gt_core.specs.declared.action.Seen.TheVariants.{Nothing, Value, Taken, Missed}
-use Rattle.gt_core.specs.declared.action.Action.{Action}
-use Rattle.gt_core.specs.declared.action.Action.TheVariants.{Step as Makes, Done}
-use Rattle.gt_core.specs.declared.leg.Leg.{Leg}
-use Rattle.gt_core.specs.declared.leg.LegPhase.{LegPhase}
-use Rattle.gt_core.specs.declared.leg.LegPhase.TheVariants.{Header as AtHeader, Look, Body, Second, Pinning, Relook}
-use Rattle.gt_core.specs.declared.leg.LegNext.{LegNext}
-use Rattle.gt_core.specs.declared.leg.LegNext.TheVariants.{Going, Refused as LegRefused, Pinned}
-use Rattle.gt_core.specs.declared.call.Call.{Call}
-use Rattle.gt_core.specs.declared.call.Phase.{Phase}
-use Rattle.gt_core.specs.declared.call.Phase.TheVariants.{Begun as PhaseBegun, Pinning as LegPinning, Storing, StoringSecond, Single, Look as OwnLook, Change as OwnChange, Ended}
+use Rattle.gt_handles.specs.declared.handles.Handle.{Handle}
+use Rattle.gt_calls.specs.declared.request.Holder.{Holder}
+use Rattle.gt_calls.specs.declared.request.Holder.TheVariants.{Mapping as ByMapping, Leg as ByLeg}
+use Rattle.gt_calls.specs.declared.asked.Asked.{Asked}
+use Rattle.gt_calls.specs.declared.asked.Asked.TheVariants.{Grant, Revoke, Demote, Promote, Map, Unmap, Load, SetVersion, SetupTable, QuerySize, GetVersion, Store, Peek, Poke}
+use Rattle.gt_calls.specs.declared.action.Verdict.TheVariants.{Granted, Refused}
+use Rattle.gt_calls.specs.declared.action.Change.{Change}
+use Rattle.gt_calls.specs.declared.action.Step.{Step}
+use Rattle.gt_calls.specs.declared.action.Step.TheVariants.{LookHeader, LookControl, LookBody, Pin as PinStep, Unpin, StoreBody, StoreHeader, Exchange, Read as ReadBytes, Write as WriteBytes}
+use Rattle.gt_calls.specs.declared.action.Seen.{Seen}
+use Rattle.gt_calls.specs.declared.action.Seen.TheVariants.{Nothing, Value, Taken, Missed}
+use Rattle.gt_calls.specs.declared.action.Action.{Action}
+use Rattle.gt_calls.specs.declared.action.Action.TheVariants.{Step as Makes, Done}
+use Rattle.gt_calls.specs.declared.leg.Leg.{Leg}
+use Rattle.gt_calls.specs.declared.leg.LegPhase.{LegPhase}
+use Rattle.gt_calls.specs.declared.leg.LegPhase.TheVariants.{Header as AtHeader, Look, Body, Second, Pinning, Relook}
+use Rattle.gt_calls.specs.declared.leg.LegNext.{LegNext}
+use Rattle.gt_calls.specs.declared.leg.LegNext.TheVariants.{Going, Refused as LegRefused, Pinned}
+use Rattle.gt_calls.specs.declared.call.Call.{Call}
+use Rattle.gt_calls.specs.declared.call.Phase.{Phase}
+use Rattle.gt_calls.specs.declared.call.Phase.TheVariants.{Begun as PhaseBegun, Pinning as LegPinning, Storing, StoringSecond, Single, Look as OwnLook, Change as OwnChange, Ended}
 use Rattle.gt_core.specs.declared.trace.Answer.{Answer}
 use Rattle.gt_core.specs.declared.trace.Answer.TheVariants.{Denied}
 use Rattle.gt_core.specs.States.{State}
 use Rattle.gt_core.specs.declared.slot.Open.{Open}
-use Rattle.gt_core.specs.Rules.{CallerKnowledge, knowledge_of, is_demote, begun, first, refused_when, size_of, control_with, mapping_of}
-use Rattle.gt_core.specs.Path.{entry_refusal}
-use Rattle.gt_core.specs.Machine.{expects, action_at, phase_after, after_leg, leg_after, leg_step, own_gref, is_sub, store_at, second_at, single_at, unpin_of, read_of, Comes}
+use Rattle.gt_calls.specs.Rules.{CallerKnowledge, knowledge_of, is_demote, begun, first, refused_when, size_of, control_with}
+use Rattle.gt_calls.specs.Path.{entry_refusal}
+use Rattle.gt_calls.specs.Machine.{expects, action_at, phase_after, after_leg, leg_after, leg_step, own_gref, is_sub, store_at, second_at, single_at, unpin_of, read_of, Comes, write_of}
 use Rattle.gt_core.specs.Sight.{sees, changes_nothing}
-use Rattle.gt_core.specs.History.{History, Setting, word_at, control_at, table_at, known_at, writes_at, reads_at, entry_at, generation_at, body_at, seen_by, Underway, open_call, one_if_mapped, live, Pin, mapping_on, mappings_in, mappings_at, frame_of, is_handle}
+use Rattle.gt_core.specs.History.{History, Setting, word_at, control_at, table_at, known_at, writes_at, reads_at, entry_at, generation_at, body_at, seen_by, Underway, open_call, one_if_mapped, live, Pin, mapping_on, mappings_in, mappings_at, frame_of, same_handle, mapping_of}
 use Rattle.gt_core.specs.Legal.{Permits, MayUse, IsSafe, PinIsSound, StepsSoFar, leg_of, verdict_in, stood, AnsweredBy, StepsRight, StepsRightIn}
 use Rattle.gt_core.specs.Standing.{IsLawful, IsLawfullyHeld, PhaseStands, OpenAgrees, CallAgrees, Agrees, StateAgrees, CoreStands, Advances, state_of}
-use Rattle.gt_core.proofs.Calls.{comes-some}
 use Rattle.gt_core.proofs.Places.{has_id, found}
 use Rattle.gt_core.proofs.Fitting.{word-shows, table-fits}
-use Rattle.gt_core.proofs.Beginning.{quiet-agrees, quiet-stands, open_call-own, agrees-found}
+use Rattle.gt_core.proofs.Beginning.{frames-stay, given-none, quiet-agrees, quiet-stands, open_call-own, agrees-found}
 use Rattle.gt_core.proofs.Owners.{phase_refusal}
 use Rattle.gt_core.specs.States.{changed_in}
 use Rattle.gt_core.specs.Effects.{applied, with_slot, with_underway}
 use Rattle.gt_core.specs.declared.slot.SlotChange.TheVariants.{Stored}
-use Rattle.gt_core.specs.Rules.{first_body, second_body, begun}
+use Rattle.gt_calls.specs.Rules.{first_body, second_body, begun}
 use Rattle.gt_core.specs.History.{contents_at, maps_answered_at}
 use Rattle.gt_core.specs.Standing.{FitsWord}
 use Rattle.gt_core.proofs.Rows.{state-changed, set-state}
@@ -78,18 +79,20 @@ use Rattle.gt_entry.specs.declared.control.Control.{Control}
 use Rattle.gt_entry.specs.declared.control.Kind.TheVariants.{Page as KindPage, Sub as KindSub, Via as KindVia}
 use Rattle.gt_core.specs.declared.trace.Answer.TheVariants.{Done as AnswerDone, Mapped, Bytes as BytesAnswer, Frames as FramesAnswer, Size as SizeAnswer, Version as VersionAnswer}
 use Rattle.gt_core.specs.declared.trace.Bytes.{Bytes}
-use Rattle.gt_core.specs.Rules.{stands, first_look, before_pin, is_kind, wants, writes_by, denied, asked_by, label_of, frames_of, holds, pins_of}
-use Rattle.gt_core.specs.Path.{map_leg}
+use Rattle.gt_calls.specs.Rules.{stands, first_look, before_pin, is_kind, wants, writes_by, denied, asked_by, label_of, frames_of, holds, pins_of, load_begun, map_begun}
+use Rattle.gt_calls.specs.Path.{map_leg}
 use Rattle.gt_core.specs.Legal.{GivesValue, refusal_of, NoneStands}
-use Rattle.gt_core.specs.Standing.{Settled, value_of, FitsTable, NeedsNoRoom, IsMapping, IsLoadOf}
+use Rattle.gt_core.specs.Standing.{FitsGiven, Settled, value_of, FitsTable, NeedsNoRoom, IsMapping, IsLoadOf}
 use Rattle.gt_core.proofs.Rows.{length-changed_in}
-use Rattle.gt_core.specs.Effects.{with_own, with_header, with_mapping, without_mapping, or_none, frame_in, bytes_in}
-use Rattle.gt_core.specs.Machine.{frame_read, after_miss, after_words, after_look, after_own_look}
+use Rattle.gt_core.specs.Effects.{with_own, with_header, with_mapping, without_mapping, or_none, frame_in, bytes_in, without_given, with_bytes}
+use Rattle.gt_calls.specs.Machine.{frame_read, after_miss, after_words, after_look, after_own_look}
 use Rattle.gt_types.specs.declared.denial.Facts.TheVariants.{Header as HeaderFacts}
 use Rattle.gt_core.specs.declared.slot.SlotChange.TheVariants.{Pinned, Unpinned}
 use Rattle.gt_core.proofs.Fitting.{word-shows}
 use Rattle.gt_core.proofs.FirstRules.{still-judged, control-generation, control-writes}
-use Rattle.gt_core.proofs.Ticking.{path-here, path-next, stood-step, step-justified, stepped-quiet}
+use Rattle.gt_core.proofs.Accessing.{Accesses, first-none, refused-none, load-accesses, own-accesses}
+use Rattle.gt_core.proofs.Writing.{write-stands}
+use Rattle.gt_core.proofs.Ticking.{stepped-writes-none, path-here, path-next, stood-step, step-justified, stepped-quiet}
 use Rattle.gt_core.proofs.Turning.{applied-quiet, tick-stores}
 use Rattle.gt_core.proofs.Ticking.{refused-changes-nothing}
 use Rattle.gt_core.specs.Standing.{Advances}
@@ -122,7 +125,7 @@ granted-right s h xs d o c seen new answer st call oa p safe sound plain value =
     record {
       continues = path-here s h d o c oa;
       sees = p.sees;
-      justified = step-justified s h xs d c.request o.call.phase o.step st p.act;
+      justified = step-justified s h xs d c.request o.call.phase o.step st p.none p.act;
       safe = safe;
       sound = sound;
       soon = λ e. let f : Some answer ≡ None = e in cc;
@@ -199,13 +202,17 @@ stored-goes : (k : CallerKnowledge) (d : DomId) (gref : GrantRef) (entry : Entry
 stored-goes k d gref entry true e = cc
 stored-goes k d gref entry false e = cc
 
-unpin-loud : (m : Option Mapping) (step : Step) → unpin_of m ≡ Makes step → LooksOrStores step → ⊥
-unpin-loud None step e a = cc
-unpin-loud (Some m) step e a = subst LooksOrStores (sym (makes-same _ _ e)) a
+unpin-loud : (handle : Handle) (m : Option Mapping) (step : Step) → unpin_of handle m ≡ Makes step → LooksOrStores step → ⊥
+unpin-loud handle None step e a = cc
+unpin-loud handle (Some m) step e a = subst LooksOrStores (sym (makes-same _ _ e)) a
 
 read-loud : (m : Option Mapping) (off len : ℕ) (step : Step) → read_of m off len ≡ Makes step → LooksOrStores step → ⊥
 read-loud None off len step e a = cc
 read-loud (Some m) off len step e a = subst LooksOrStores (sym (makes-same _ _ e)) a
+
+write-loud : (m : Option Mapping) (off len : ℕ) (step : Step) → write_of m off len ≡ Makes step → LooksOrStores step → ⊥
+write-loud None off len step e a = cc
+write-loud (Some m) off len step e a = subst LooksOrStores (sym (makes-same _ _ e)) a
 
 -- the call asks for a header alone
 abbrev is_query : Asked → Bool
@@ -224,8 +231,11 @@ never-ends s h d (Grant gref entry) so_far Storing step a comes act plain looks 
 never-ends s h d (Grant gref entry) so_far StoringSecond step a comes act plain looks e = stored-goes (known_at s h d) d gref entry false e
 never-ends s h d (Grant gref entry) so_far Single step a comes act plain looks e = subst LooksOrStores (sym (makes-same _ _ act)) looks
 never-ends s h d (Revoke gref) so_far Single step a comes act plain looks e = subst LooksOrStores (sym (makes-same _ _ act)) looks
-never-ends s h d (Unmap handle) so_far Single step a comes act plain looks e = unpin-loud _ step act looks
+never-ends s h d (Unmap handle) so_far Single step a comes act plain looks e = unpin-loud handle _ step act looks
 never-ends s h d (Load handle off len) so_far Single step a comes act plain looks e = read-loud _ off len step act looks
+never-ends s h d (Store handle off len) so_far Single step a comes act plain looks e = write-loud _ off len step act looks
+never-ends s h d (Peek frame off len) so_far Single step a comes act plain looks e = subst LooksOrStores (sym (makes-same _ _ act)) looks
+never-ends s h d (Poke frame off len) so_far Single step a comes act plain looks e = subst LooksOrStores (sym (makes-same _ _ act)) looks
 never-ends s h d (SetVersion version) so_far Single step a comes act plain looks e = subst LooksOrStores (sym (makes-same _ _ act)) looks
 never-ends s h d (SetupTable frames) so_far Single step a comes act plain looks e = subst LooksOrStores (sym (makes-same _ _ act)) looks
 never-ends s h d (QuerySize dom) so_far Single step a comes act plain looks e = true≢false plain
@@ -244,6 +254,9 @@ never-ends s h d (Promote gref) so_far Storing step a comes act plain looks e = 
 never-ends s h d (Map dom gref flags) so_far Storing step a comes act plain looks e = comes
 never-ends s h d (Unmap handle) so_far Storing step a comes act plain looks e = comes
 never-ends s h d (Load handle off len) so_far Storing step a comes act plain looks e = comes
+never-ends s h d (Store handle off len) so_far Storing step a comes act plain looks e = comes
+never-ends s h d (Peek frame off len) so_far Storing step a comes act plain looks e = comes
+never-ends s h d (Poke frame off len) so_far Storing step a comes act plain looks e = comes
 never-ends s h d (SetVersion version) so_far Storing step a comes act plain looks e = comes
 never-ends s h d (SetupTable frames) so_far Storing step a comes act plain looks e = comes
 never-ends s h d (QuerySize dom) so_far Storing step a comes act plain looks e = comes
@@ -254,6 +267,9 @@ never-ends s h d (Promote gref) so_far StoringSecond step a comes act plain look
 never-ends s h d (Map dom gref flags) so_far StoringSecond step a comes act plain looks e = a
 never-ends s h d (Unmap handle) so_far StoringSecond step a comes act plain looks e = a
 never-ends s h d (Load handle off len) so_far StoringSecond step a comes act plain looks e = a
+never-ends s h d (Store handle off len) so_far StoringSecond step a comes act plain looks e = a
+never-ends s h d (Peek frame off len) so_far StoringSecond step a comes act plain looks e = a
+never-ends s h d (Poke frame off len) so_far StoringSecond step a comes act plain looks e = a
 never-ends s h d (SetVersion version) so_far StoringSecond step a comes act plain looks e = a
 never-ends s h d (SetupTable frames) so_far StoringSecond step a comes act plain looks e = a
 never-ends s h d (QuerySize dom) so_far StoringSecond step a comes act plain looks e = a
@@ -262,26 +278,13 @@ never-ends s h d (GetVersion dom) so_far StoringSecond step a comes act plain lo
 -- an unpin is of the mapping that an unmap names
 
 abbrev Unmaps : Setting → History → DomId → Asked → Step → Type 0
-Unmaps s h d r step = (handle : Handle) × (m : Mapping) × (r ≡ Unmap handle) × (mapping_of (mappings_at h d.0) handle ≡ Some m) × (step ≡ Unpin m.dom m.gref m.dir (ByMapping m.handle))
+Unmaps s h d r step = (handle : Handle) × (m : Mapping) × (r ≡ Unmap handle) × (mapping_of (mappings_at h d.0) handle ≡ Some m) × (step ≡ Unpin m.dom m.gref m.dir (ByMapping handle))
 
-unmaps-by : (s : Setting) (h : History) (d : DomId) (handle : Handle) (o : Option Mapping) (step : Step) → mapping_of (mappings_at h d.0) handle ≡ o → unpin_of o ≡ Makes step → Unmaps s h d (Unmap handle) step
+unmaps-by : (s : Setting) (h : History) (d : DomId) (handle : Handle) (o : Option Mapping) (step : Step) → mapping_of (mappings_at h d.0) handle ≡ o → unpin_of handle o ≡ Makes step → Unmaps s h d (Unmap handle) step
 unmaps-by s h d handle None step e act = cc
 unmaps-by s h d handle (Some m) step e act = (handle, m, refl, e, sym (makes-same _ _ act))
 
--- a load reads the frame that its mapping shows
-
-abbrev Loads : Setting → History → DomId → Asked → Step → Type 0
-Loads s h d r step = (handle : Handle) × (off : ℕ) × (len : ℕ) × (m : Mapping) × (r ≡ Load handle off len) × (mapping_of (mappings_at h d.0) handle ≡ Some m) × (step ≡ ReadBytes m.dom m.frame off len)
-
-loads-by : (s : Setting) (h : History) (d : DomId) (handle : Handle) (off len : ℕ) (o : Option Mapping) (step : Step) → mapping_of (mappings_at h d.0) handle ≡ o → read_of o off len ≡ Makes step → Loads s h d (Load handle off len) step
-loads-by s h d handle off len None step e act = cc
-loads-by s h d handle off len (Some m) step e act = (handle, off, len, m, refl, e, sym (makes-same _ _ act))
-
 -- which step a call makes
-
-first-none : {A : Type 0} (o : Option A) (more : List (Option A)) → first (o ∷ more) ≡ None → (o ≡ None) × (first more ≡ None)
-first-none None more e = (refl, e)
-first-none (Some a) more e = cc
 
 -- where none of five rules stands
 five-none : (a b c d e : Bool) → first (stands a N10 ∷ stands b N11 ∷ stands c N12 ∷ stands d N13 ∷ stands e N15 ∷ []) ≡ None → (a ≡ false) × (b ≡ false) × (c ≡ false) × (d ≡ false)
@@ -311,6 +314,9 @@ store-only (Promote gref) step e = cc
 store-only (Map dom gref flags) step e = cc
 store-only (Unmap handle) step e = cc
 store-only (Load handle off len) step e = cc
+store-only (Store handle off len) step e = cc
+store-only (Peek frame off len) step e = cc
+store-only (Poke frame off len) step e = cc
 store-only (SetVersion version) step e = cc
 store-only (SetupTable frames) step e = cc
 store-only (QuerySize dom) step e = cc
@@ -324,6 +330,9 @@ second-only (Promote gref) step e = cc
 second-only (Map dom gref flags) step e = cc
 second-only (Unmap handle) step e = cc
 second-only (Load handle off len) step e = cc
+second-only (Store handle off len) step e = cc
+second-only (Peek frame off len) step e = cc
+second-only (Poke frame off len) step e = cc
 second-only (SetVersion version) step e = cc
 second-only (SetupTable frames) step e = cc
 second-only (QuerySize dom) step e = cc
@@ -349,13 +358,17 @@ leg-only l (Relook more word rule) step e = subst LooksOrPins (makes-same _ _ e)
 abbrev PinsBy : Asked → Phase → Step → Type 0
 PinsBy r phase step = (l : Leg) × (more : ℕ) × (word : ℕ) × (body : ℕ) × (second : ℕ) × (phase ≡ LegPinning l (Pinning more word body second)) × (step ≡ PinStep l.dom l.gref word l.dir)
 
-unpin-no-pin : (m : Option Mapping) (t : DomId) (gref : GrantRef) (looked : ℕ) (dir : Dir) → unpin_of m ≡ Makes (PinStep t gref looked dir) → ⊥
-unpin-no-pin None t gref looked dir e = cc
-unpin-no-pin (Some m) t gref looked dir e = cc
+unpin-no-pin : (handle : Handle) (m : Option Mapping) (t : DomId) (gref : GrantRef) (looked : ℕ) (dir : Dir) → unpin_of handle m ≡ Makes (PinStep t gref looked dir) → ⊥
+unpin-no-pin handle None t gref looked dir e = cc
+unpin-no-pin handle (Some m) t gref looked dir e = cc
 
 read-no-pin : (m : Option Mapping) (off len : ℕ) (t : DomId) (gref : GrantRef) (looked : ℕ) (dir : Dir) → read_of m off len ≡ Makes (PinStep t gref looked dir) → ⊥
 read-no-pin None off len t gref looked dir e = cc
 read-no-pin (Some m) off len t gref looked dir e = cc
+
+write-no-pin : (m : Option Mapping) (off len : ℕ) (t : DomId) (gref : GrantRef) (looked : ℕ) (dir : Dir) → write_of m off len ≡ Makes (PinStep t gref looked dir) → ⊥
+write-no-pin None off len t gref looked dir e = cc
+write-no-pin (Some m) off len t gref looked dir e = cc
 
 single-no-pin : (k : CallerKnowledge) (d : DomId) (r : Asked) (t : DomId) (gref : GrantRef) (looked : ℕ) (dir : Dir) → single_at k d r ≡ Makes (PinStep t gref looked dir) → ⊥
 single-no-pin k d (Grant gref' entry) t gref looked dir e = cc
@@ -363,8 +376,11 @@ single-no-pin k d (Revoke gref') t gref looked dir e = cc
 single-no-pin k d (Demote gref') t gref looked dir e = cc
 single-no-pin k d (Promote gref') t gref looked dir e = cc
 single-no-pin k d (Map dom gref' flags) t gref looked dir e = cc
-single-no-pin k d (Unmap handle) t gref looked dir e = unpin-no-pin (mapping_of k.mappings handle) t gref looked dir e
-single-no-pin k d (Load handle off len) t gref looked dir e = read-no-pin (mapping_of k.mappings handle) off len t gref looked dir e
+single-no-pin k d (Unmap handle) t gref looked dir e = unpin-no-pin handle (k.mapping handle) t gref looked dir e
+single-no-pin k d (Load handle off len) t gref looked dir e = read-no-pin (k.mapping handle) off len t gref looked dir e
+single-no-pin k d (Store handle off len) t gref looked dir e = write-no-pin (k.mapping handle) off len t gref looked dir e
+single-no-pin k d (Peek frame off len) t gref looked dir e = cc
+single-no-pin k d (Poke frame off len) t gref looked dir e = cc
 single-no-pin k d (SetVersion version) t gref looked dir e = cc
 single-no-pin k d (SetupTable frames) t gref looked dir e = cc
 single-no-pin k d (QuerySize dom) t gref looked dir e = cc
@@ -447,28 +463,45 @@ asks-all s d t true e =
     (a.0, (denied-none s.may (label_of s.domains d) (label_of s.domains t) map_write [] a.1).0)
 asks-all s d t false e = (denied-none s.may (label_of s.domains d) (label_of s.domains t) map_read [] e).0
 
-refused-none : (b : Bool) (rule : Rule) → refused_when b rule ≡ None → b ≡ false
-refused-none true rule e = cc
-refused-none false rule e = refl
-
 or-false : (a b : Bool) → (a || b) ≡ false → b ≡ false
 or-false true b e = absurd (true≢false e)
 or-false false b e = e
 
-map-asked : (s : Setting) (h : History) (d dom : DomId) (gref : GrantRef) (flags : ℕ) → begun (known_at s h d) d (Map dom gref flags) ≡ None
-    → MayUse s d (resolved d dom) (cond (flags == 2) Write Read) × (maps_answered_at h d.0 < 2 ^ 64 - 1)
-map-asked s h d dom gref flags e =
-    let k = known_at s h d in
+-- a map that no rule stands against at its beginning asked what it may
+map-begins : (k : CallerKnowledge) (d dom : DomId) (flags : ℕ) → map_begun k d dom flags ≡ None
+    → (denied k.may (label_of k.domains d) (label_of k.domains (resolved d dom)) (asked_by flags) ≡ None) × (k.maps_answered < 2 ^ 64 - 1)
+map-begins k d dom flags e =
     let n5 = denied k.may (label_of k.domains d) (label_of k.domains (resolved d dom)) (asked_by flags) in
-    let n8 = refused_when (nat_le 8192 (length k.mappings) || nat_le (2 ^ 64 - 1) k.maps_answered) N8 in
+    let n8 = refused_when (nat_le 8192 k.in_use || nat_le (2 ^ 64 - 1) k.maps_answered) N8 in
     let n2 = refused_when (not ((flags == 2) || (flags == 6))) N2 in
     let a = first-none (refused_when (is_none (domain_of k.domains (resolved d dom))) N1) (n2 ∷ n5 ∷ n8 ∷ []) e in
     let b = first-none n2 (n5 ∷ n8 ∷ []) a.1 in
     let c = first-none n5 (n8 ∷ []) b.1 in
-    let f = first-none n8 [] c.1 in (
-      asks-all s d (resolved d dom) (flags == 2) c.0,
-      leb-false (2 ^ 64 - 1) k.maps_answered (or-false (nat_le 8192 (length k.mappings)) (nat_le (2 ^ 64 - 1) k.maps_answered) (refused-none (nat_le 8192 (length k.mappings) || nat_le (2 ^ 64 - 1) k.maps_answered) N8 f.0)),
-    )
+    let f = first-none n8 [] c.1 in
+    (c.0, leb-false (2 ^ 64 - 1) k.maps_answered (or-false (nat_le 8192 k.in_use) (nat_le (2 ^ 64 - 1) k.maps_answered) (refused-none (nat_le 8192 k.in_use || nat_le (2 ^ 64 - 1) k.maps_answered) N8 f.0)))
+
+map-asked : (s : Setting) (h : History) (d dom : DomId) (gref : GrantRef) (flags : ℕ) → begun (known_at s h d) d (Map dom gref flags) ≡ None → MayUse s d (resolved d dom) (cond (flags == 2) Write Read)
+map-asked s h d dom gref flags e = asks-all s d (resolved d dom) (flags == 2) (map-begins (known_at s h d) d dom flags e).0
+
+-- a serial is left for each map that begins
+pub serial-left : (k : CallerKnowledge) (d : DomId) (r : Asked) → begun k d r ≡ None → IsMapping (Some r) → k.maps_answered + 1 < 2 ^ 64
+serial-left k d (Map dom gref flags) e m = below (2 ^ 64) k.maps_answered (map-begins k d dom flags e).1
+  where
+    below : (n answered : ℕ) → answered < n - 1 → answered + 1 < n
+    below n answered lt = omega arith
+serial-left k d (Grant gref entry) e m = absurd m
+serial-left k d (Revoke gref) e m = absurd m
+serial-left k d (Demote gref) e m = absurd m
+serial-left k d (Promote gref) e m = absurd m
+serial-left k d (Unmap handle) e m = absurd m
+serial-left k d (Load handle off len) e m = absurd m
+serial-left k d (Store handle off len) e m = absurd m
+serial-left k d (Peek frame off len) e m = absurd m
+serial-left k d (Poke frame off len) e m = absurd m
+serial-left k d (SetVersion version) e m = absurd m
+serial-left k d (SetupTable frames) e m = absurd m
+serial-left k d (QuerySize dom) e m = absurd m
+serial-left k d (GetVersion dom) e m = absurd m
 
 map-of-leg : (k : CallerKnowledge) (d : DomId) (r : Asked) (l : Leg) → leg_of k d r ≡ Some l → (dom : DomId) × (gref : GrantRef) × (flags : ℕ) × (r ≡ Map dom gref flags) × (l ≡ map_leg k d dom gref flags)
 map-of-leg k d (Grant gref entry) l e = cc
@@ -478,49 +511,15 @@ map-of-leg k d (Promote gref) l e = cc
 map-of-leg k d (Map dom gref flags) l e = (dom, gref, flags, refl, sym (same_Some _ l e))
 map-of-leg k d (Unmap handle) l e = cc
 map-of-leg k d (Load handle off len) l e = cc
+map-of-leg k d (Store handle off len) l e = cc
+map-of-leg k d (Peek frame off len) l e = cc
+map-of-leg k d (Poke frame off len) l e = cc
 map-of-leg k d (SetVersion version) l e = cc
 map-of-leg k d (SetupTable frames) l e = cc
 map-of-leg k d (QuerySize dom) l e = cc
 map-of-leg k d (GetVersion dom) l e = cc
 
--- a mapping shows a frame of its owner
-
-abbrev ShowsFrame : Setting → Mapping → Type 0
-ShowsFrame s m = (m.frame < frames_of s.domains m.dom) × (domain_of s.domains m.dom ≢ None)
-
-shown-by-pin : (s : Setting) (p : Pin) (handle : Handle) → p.holder ≡ ByMapping handle → IsLawful s p
-    → ShowsFrame s (record { handle = handle; dom = p.dom; gref = record { 0 = p.gref }; dir = p.dir; frame = frame_of p.entry })
-shown-by-pin s p handle held law = let w : IsLawfullyHeld s p (ByMapping handle) = subst (λ (x : Holder). IsLawfullyHeld s p x) held law in (w.2, w.3)
-
-mapping-shows : (s : Setting) (d : ℕ) (handle : Handle) (m : Mapping) (ps : List Pin) → All (IsLawful s) ps → mapping_of (mappings_in d ps) handle ≡ Some m → ShowsFrame s m
-unfolding mappings_in
-mapping-shows s d handle m [] a e = cc
-mapping-shows s d handle m (p ∷ ps) a e = with-holder p.holder (mapping-shows s d handle m ps (All-tail (IsLawful s) p ps a)) refl e
-  where
-    Rest : Type 0
-    Rest = mapping_of (mappings_in d ps) handle ≡ Some m → ShowsFrame s m
-
-    shown : Handle → Mapping
-    shown held = record { handle = held; dom = p.dom; gref = record { 0 = p.gref }; dir = p.dir; frame = frame_of p.entry }
-
-    at : (b : Bool) (held : Handle) → Rest → p.holder ≡ ByMapping held → cond b (Some (shown held)) (mapping_of (mappings_in d ps) handle) ≡ Some m → ShowsFrame s m
-    at true held rest by f = subst (λ (z : Mapping). ShowsFrame s z) (same_Some _ _ f) (shown-by-pin s p held by (a 0 p (omega arith)))
-    at false held rest by f = rest f
-
-    with-own : (b : Bool) (held : Handle) → Rest → p.holder ≡ ByMapping held → mapping_of (cond b (shown held ∷ []) [] ++ mappings_in d ps) handle ≡ Some m → ShowsFrame s m
-    with-own true held rest by f = at (is_handle held handle) held rest by f
-    with-own false held rest by f = rest f
-
-    with-holder : (holder : Holder) → Rest → p.holder ≡ holder → mapping_of (mapping_on d p holder ++ mappings_in d ps) handle ≡ Some m → ShowsFrame s m
-    with-holder (ByMapping held) rest by f = with-own (p.actor == d) held rest by f
-    with-holder (ByLeg number) rest by f = rest f
-
 -- the bytes of a load
-
-length-contents : (h : History) (t f : ℕ) → length (contents_at h t f) ≡ 4096
-unfolding contents_at
-length-contents [] t f = length-replicate {A = ℕ} 4096 0
-length-contents (i ∷ h) t f = length-contents h t f
 
 length-range : (l : List ℕ) (off len : ℕ) → off + len ≤ length l → length (take len (drop off l)) ≡ len
 length-range l off len within =
@@ -545,21 +544,21 @@ frame-stays xs d t f u = ap (λ (o : Option State). frame_in o f) (state-changed
     by true (Some y) = refl
     by false o = refl
 
-load-within : (k : CallerKnowledge) (d : DomId) (handle : Handle) (off len : ℕ) → begun k d (Load handle off len) ≡ None → off + len ≤ 4096
-load-within k d handle off len e =
-    ltb-false 4096 (off + len) (refused-none (nat_lt 4096 (off + len)) N3 (first-none (refused_when (nat_lt 4096 (off + len)) N3) (refused_when (is_none (mapping_of k.mappings handle)) N6 ∷ []) e).0)
+-- a call reads this range
+record IsReading (s : Setting) (h : History) (d : DomId) (r : Asked) (t : DomId) (frame off len : ℕ) : Type 0 where
+  pub accesses : Accesses s h d Read t frame off len
+  pub asks : IsLoadOf r len
+  pub gives : (b : Bytes) → b.bytes.items ≡ take len (drop off (contents_at h t.0 frame)) → GivesValue s h d r (Some (ReadBytes t frame off len)) (BytesAnswer b)
 
--- a load's bytes are those of the contents
-load-bytes : (s : Setting) (h : History) (xs : List State) (d : DomId) (handle : Handle) (off len : ℕ) (m : Mapping) (b : Bytes) → CoreStands s h xs
-    → begun (known_at s h d) d (Load handle off len) ≡ None → mapping_of (mappings_at h d.0) handle ≡ Some m
-    → (length (bytes_in (changed_in d.0 (with_underway None) xs) m.dom.0 m.frame off len) ≡ len → b.bytes.items ≡ bytes_in (changed_in d.0 (with_underway None) xs) m.dom.0 m.frame off len)
-    → b.bytes.items ≡ take len (drop off (contents_at h m.dom.0 m.frame))
-load-bytes s h xs d handle off len m b st none found read =
-    let shows = mapping-shows s d.0 handle m (live h) st.lawful found in
-    let same : bytes_in (changed_in d.0 (with_underway None) xs) m.dom.0 m.frame off len ≡ take len (drop off (contents_at h m.dom.0 m.frame)) =
-    ap (λ (l : List ℕ). take len (drop off l)) (frame-stays xs d.0 m.dom.0 m.frame None ∙ frame-found s h xs m.dom m.frame st shows.1 shows.0) in
-    let whole : length (take len (drop off (contents_at h m.dom.0 m.frame))) ≡ len =
-    length-range (contents_at h m.dom.0 m.frame) off len (subst (λ (n : ℕ). off + len ≤ n) (sym (length-contents h m.dom.0 m.frame)) (load-within (known_at s h d) d handle off len none)) in
+-- the bytes that are read are those of the contents
+read-bytes : (s : Setting) (h : History) (xs : List State) (d : DomId) (r : Asked) (t : DomId) (frame off len : ℕ) (b : Bytes) → CoreStands s h xs → IsReading s h d r t frame off len
+    → (length (bytes_in (changed_in d.0 (with_underway None) xs) t.0 frame off len) ≡ len → b.bytes.items ≡ bytes_in (changed_in d.0 (with_underway None) xs) t.0 frame off len)
+    → b.bytes.items ≡ take len (drop off (contents_at h t.0 frame))
+read-bytes s h xs d r t frame off len b st is read =
+    let same : bytes_in (changed_in d.0 (with_underway None) xs) t.0 frame off len ≡ take len (drop off (contents_at h t.0 frame)) =
+    ap (λ (l : List ℕ). take len (drop off l)) (frame-stays xs d.0 t.0 frame None ∙ frame-found s h xs t frame st is.accesses.named is.accesses.inside.0) in
+    let whole : length (take len (drop off (contents_at h t.0 frame))) ≡ len =
+    length-range (contents_at h t.0 frame) off len (subst (λ (n : ℕ). off + len ≤ n) (sym (st.filled t.0 frame)) is.accesses.inside.1) in
     read (ap (λ (l : List ℕ). length l) same ∙ whole) ∙ same
 
 -- a pin that ends a map
@@ -599,11 +598,13 @@ few-pins h t r Write e g f n =
 -- what is settled where a call is over after this last step, the changed state told by its number
 abbrev pub SettledIn : List State → State → Open → Seen → Step → Answer → List State → Type 0
 SettledIn xs d o seen (PinStep dom gref looked dir) answer new =
-    (handle : Handle) × (answer ≡ Mapped handle) × (handle.serial ≡ d.maps_answered)
-    × (new ≡ changed_in d.id.0 (with_mapping (record { handle = handle; dom = dom; gref = gref; dir = dir; frame = frame_read o.call.phase })) xs)
+    (handle : Handle) × (mappings : Kept Mapping) × (answer ≡ Mapped handle)
+    × Adds d.mappings mappings handle (record { dom = dom; gref = gref; dir = dir; frame = frame_read o.call.phase }) × (new ≡ changed_in d.id.0 (with_mapping mappings) xs)
 SettledIn xs d o seen (ReadBytes dom frame off len) answer new =
     (b : Bytes) × (answer ≡ BytesAnswer b) × (new ≡ changed_in d.id.0 (with_underway None) xs)
     × ((n : ℕ) → IsLoadOf o.call.request n → length (bytes_in new dom.0 frame off n) ≡ n → b.bytes.items ≡ bytes_in new dom.0 frame off n)
+SettledIn xs d o seen (WriteBytes dom frame off len) answer new =
+    (answer ≡ AnswerDone) × (new ≡ changed_in dom.0 (with_bytes frame off d.given) (changed_in d.id.0 without_given xs))
 SettledIn xs d o seen step answer new = (answer ≡ value_of o.call.request seen) × (new ≡ changed_in d.id.0 (with_underway None) xs)
 
 abbrev EndsRight : Setting → History → List State → State → Open → Underway → Step → Seen → Answer → List State → Type 0
@@ -646,14 +647,15 @@ pin-ends s h xs x o c seen new answer settled l more word body second st here a 
     let generation : g ≡ (control_of word).generation = sym (control-generation entry g (reads_at h t r) (writes_at h t r)) ∙ sym (ap (λ (z : Control). z.generation) now) in
     let frame : body ≡ frame_of entry = sym (read.first_stays generation facts.0) ∙ sym facts.1 in
     let asked = map-asked s h d m.0 m.1 flags (ap (λ (z : Asked). begun k d z) (sym m.3) ∙ w.none) in
-    let may : MayUse s d l.dom l.dir = subst (λ (z : Leg). MayUse s d z.dom z.dir) (sym leg) asked.0 in
+    let may : MayUse s d l.dom l.dir = subst (λ (z : Leg). MayUse s d z.dom z.dir) (sym leg) asked in
     let frames : frame_of entry < frames_of s.domains l.dom = subst (λ (n : ℕ). frame_of entry < n) (ap (λ (z : Leg). z.frames) leg ∙ sym (ap (λ (z : Leg). frames_of s.domains z.dom) leg)) facts.3 in
     let handle = done.0 in
     let lawful : IsLawful s (new_pin h d l.dom l.gref l.dir handle) = (subst (λ (z : DomId). Permits entry z l.dir ForMap 0 0) (ap (λ (z : Leg). z.judge) leg) facts.2, may, frames, place.1) in
-    let serial : handle.serial ≡ maps_answered_at h d.0 = done.2 ∙ a.maps_answered in
-    let after : settled ≡ changed_in d.0 (with_mapping (record { handle = handle; dom = l.dom; gref = l.gref; dir = l.dir; frame = body })) xs =
-    done.3 ∙ ap (λ (n : ℕ). changed_in d.0 (with_mapping (record { handle = handle; dom = l.dom; gref = l.gref; dir = l.dir; frame = n })) xs) (ap frame_read is) in
-    let stood = pin-stands s h xs d x l.dom l.gref word l.dir handle body st here refl looked.within facts.0 frame asked.1
+    let kept = done.1 in
+    let serial : handle.serial ≡ maps_answered_at h d.0 = done.3.serial ∙ a.mappings.given in
+    let adds : Adds x.mappings kept handle (record { dom = l.dom; gref = l.gref; dir = l.dir; frame = body }) =
+    subst (λ (n : ℕ). Adds x.mappings kept handle (record { dom = l.dom; gref = l.gref; dir = l.dir; frame = n })) (ap frame_read is) done.3 in
+    let stood = pin-stands s h xs d x l.dom l.gref word l.dir handle body kept st here refl adds facts.0 frame
     (few-pins h t r l.dir entry g (st.words t r looked.within) facts.4) lawful in
     let sound : PinIsSound s h d c.request (PinStep l.dom l.gref word l.dir) Taken = subst (λ (z : Option Leg). NoneStands s h l.dom l.gref z) (sym place.0) (passed, judged) in
     let right : StepsRight s h (stepped d o.step seen (Some (Mapped handle))) o.step seen c =
@@ -662,11 +664,11 @@ pin-ends s h xs x o c seen new answer settled l more word body second st here a 
     (subst (λ (z : Step). PinIsSound s h d c.request z seen) (sym step) (subst (λ (v : Seen). PinIsSound s h d c.request (PinStep l.dom l.gref word l.dir) v) (sym taken) sound))
     refl
     (subst (λ (z : Step). GivesValue s h d c.request (Some z) (Mapped handle)) (sym step) (gives-handle s h d m.0 l.dom m.1 l.gref flags word l.dir c.request handle m.3 serial)) in
-    subst (λ (z : Answer). EndsRight s h xs x o c o.step seen z settled) (sym done.1) (
+    subst (λ (z : Answer). EndsRight s h xs x o c o.step seen z settled) (sym done.2) (
       right,
       subst (λ (z : Step). CoreStands s (stepped d z seen (Some (Mapped handle)) ∷ h) (applied d z seen settled)) (sym step)
           (subst (λ (v : Seen). CoreStands s (stepped d (PinStep l.dom l.gref word l.dir) v (Some (Mapped handle)) ∷ h) (applied d (PinStep l.dom l.gref word l.dir) v settled)) (sym taken)
-          (subst (λ (z : List State). CoreStands s (stepped d (PinStep l.dom l.gref word l.dir) Taken (Some (Mapped handle)) ∷ h) (changed_in t (with_slot r (Pinned l.dir)) z)) (sym after) stood)),
+          (subst (λ (z : List State). CoreStands s (stepped d (PinStep l.dom l.gref word l.dir) Taken (Some (Mapped handle)) ∷ h) (changed_in t (with_slot r (Pinned l.dir)) z)) (sym done.4) stood)),
     )
 
 -- a call is over with an exchange, an unpin or an access
@@ -692,8 +694,8 @@ exchange-over s h xs x o c seen new answer settled gref looked change st call oa
 
 unpin-over : (s : Setting) (h : History) (xs : List State) (x : State) (o : Open) (c : Underway) (seen : Seen) (new : Call) (answer : Answer) (settled : List State) (handle : Handle) (m : Mapping)
     → CoreStands s h xs → state_of xs x.id.0 ≡ Some x → open_call h x.id.0 ≡ Some c → OpenAgrees s h x.id o c → Stepping s h x.id o c seen new (Done Granted)
-    → c.request ≡ Unmap handle → mapping_of (mappings_at h x.id.0) handle ≡ Some m → o.step ≡ Unpin m.dom m.gref m.dir (ByMapping m.handle)
-    → SettledIn xs x o seen (Unpin m.dom m.gref m.dir (ByMapping m.handle)) answer settled
+    → c.request ≡ Unmap handle → mapping_of (mappings_at h x.id.0) handle ≡ Some m → o.step ≡ Unpin m.dom m.gref m.dir (ByMapping handle)
+    → SettledIn xs x o seen (Unpin m.dom m.gref m.dir (ByMapping handle)) answer settled
     → EndsRight s h xs x o c o.step seen answer settled
 unpin-over s h xs x o c seen new answer settled handle m st here call oa w asks found step done =
     let d = x.id in
@@ -707,8 +709,8 @@ unpin-over s h xs x o c seen new answer settled handle m st here call oa w asks 
     subst (λ (z : Answer). EndsRight s h xs x o c o.step seen z settled) (sym plain) (
       right,
       subst (λ (z : Step). CoreStands s (stepped d z seen (Some AnswerDone) ∷ h) (applied d z seen settled)) (sym step)
-          (subst (λ (v : Seen). CoreStands s (stepped d (Unpin m.dom m.gref m.dir (ByMapping m.handle)) v (Some AnswerDone) ∷ h) (applied d (Unpin m.dom m.gref m.dir (ByMapping m.handle)) v settled)) (sym nothing)
-          (subst (λ (z : List State). CoreStands s (stepped d (Unpin m.dom m.gref m.dir (ByMapping m.handle)) Nothing (Some AnswerDone) ∷ h) (changed_in d.0 (without_mapping (ByMapping m.handle)) (changed_in m.dom.0 (with_slot m.gref.0 (Unpinned m.dir)) z))) (sym done.1)
+          (subst (λ (v : Seen). CoreStands s (stepped d (Unpin m.dom m.gref m.dir (ByMapping handle)) v (Some AnswerDone) ∷ h) (applied d (Unpin m.dom m.gref m.dir (ByMapping handle)) v settled)) (sym nothing)
+          (subst (λ (z : List State). CoreStands s (stepped d (Unpin m.dom m.gref m.dir (ByMapping handle)) Nothing (Some AnswerDone) ∷ h) (changed_in d.0 (without_mapping (ByMapping handle)) (changed_in m.dom.0 (with_slot m.gref.0 (Unpinned m.dir)) z))) (sym done.1)
           (unpin-stands s h xs d x handle m st here refl found))),
     )
 
@@ -719,9 +721,12 @@ quiet-over s h xs x step seen answer st here a q m =
     let i = stepped x.id step seen (Some answer) in
     let quiet = stepped-quiet x.id step seen (Some answer) q m in
     let now : open_call (i ∷ h) x.id.0 ≡ None = open_call-own i h in
-    quiet-stands s i h xs (changed_in x.id.0 (with_underway None) xs) (with_underway None x) quiet st
-    (λ n. state-changed xs x.id.0 n (with_underway None) (λ y. refl) ∙ sym (state-there n))
-    (refl, quiet-agrees s i h x None quiet a (subst (λ (u : Option Underway). CallAgrees s (i ∷ h) x.id None u) (sym now) tt))
+    quiet-stands s i h xs (changed_in x.id.0 (with_underway None) xs) (with_underway None x) quiet (stepped-writes-none x.id step seen (Some answer) q) st
+    (λ n. state-changed xs x.id.0 n (with_underway None) (λ y. refl) ∙ sym (state-there n)) (
+      refl,
+      quiet-agrees s i h x None x.given x.frames quiet a (subst (λ (u : Option Underway). CallAgrees s (i ∷ h) x.id None u) (sym now) tt)
+          (given-none (i ∷ h) x.id.0 x.given now) (frames-stay s i h x.id x.frames (stepped-writes-none x.id step seen (Some answer) q) a.frames),
+    )
     (λ none. none-some x (sym none ∙ here))
   where
     state-there : (n : ℕ) → cond (x.id.0 == n) (Some (with_underway None x)) (state_of xs n) ≡ cond (x.id.0 == n) (option_map (with_underway None) (state_of xs n)) (state_of xs n)
@@ -731,25 +736,22 @@ quiet-over s h xs x step seen answer st here a q m =
         by true e = sym (ap (option_map (with_underway None)) (ap (state_of xs) (sym (eqb-true x.id.0 n e)) ∙ here))
         by false e = refl
 
-load-over : (s : Setting) (h : History) (xs : List State) (x : State) (o : Open) (c : Underway) (seen : Seen) (new : Call) (answer : Answer) (settled : List State) (handle : Handle) (off len : ℕ) (m : Mapping)
+read-over : (s : Setting) (h : History) (xs : List State) (x : State) (o : Open) (c : Underway) (seen : Seen) (new : Call) (answer : Answer) (settled : List State) (t : DomId) (frame off len : ℕ)
     → CoreStands s h xs → state_of xs x.id.0 ≡ Some x → Agrees s h x → open_call h x.id.0 ≡ Some c → OpenAgrees s h x.id o c → Stepping s h x.id o c seen new (Done Granted)
-    → c.request ≡ Load handle off len → mapping_of (mappings_at h x.id.0) handle ≡ Some m → o.step ≡ ReadBytes m.dom m.frame off len
-    → SettledIn xs x o seen (ReadBytes m.dom m.frame off len) answer settled
+    → IsReading s h x.id c.request t frame off len → o.step ≡ ReadBytes t frame off len → SettledIn xs x o seen (ReadBytes t frame off len) answer settled
     → EndsRight s h xs x o c o.step seen answer settled
-load-over s h xs x o c seen new answer settled handle off len m st here a call oa w asks found step done =
+read-over s h xs x o c seen new answer settled t frame off len st here a call oa w is step done =
     let d = x.id in
     let b = done.0 in
-    let same : o.call.request ≡ Load handle off len = oa.request ∙ asks in
-    let read : length (bytes_in (changed_in d.0 (with_underway None) xs) m.dom.0 m.frame off len) ≡ len → b.bytes.items ≡ bytes_in (changed_in d.0 (with_underway None) xs) m.dom.0 m.frame off len =
-    subst (λ (z : List State). length (bytes_in z m.dom.0 m.frame off len) ≡ len → b.bytes.items ≡ bytes_in z m.dom.0 m.frame off len) done.2
-    (done.3 len (subst (λ (z : Asked). IsLoadOf z len) (sym same) refl)) in
-    let bytes = load-bytes s h xs d handle off len m b st (ap (λ (z : Asked). begun (known_at s h d) d z) (sym asks) ∙ w.none) found read in
+    let read : length (bytes_in (changed_in d.0 (with_underway None) xs) t.0 frame off len) ≡ len → b.bytes.items ≡ bytes_in (changed_in d.0 (with_underway None) xs) t.0 frame off len =
+    subst (λ (z : List State). length (bytes_in z t.0 frame off len) ≡ len → b.bytes.items ≡ bytes_in z t.0 frame off len) done.2
+    (done.3 len (subst (λ (z : Asked). IsLoadOf z len) (sym oa.request) is.asks)) in
+    let bytes = read-bytes s h xs d c.request t frame off len b st is read in
     let right : StepsRight s h (stepped d o.step seen (Some (BytesAnswer b))) o.step seen c =
     granted-right s h xs d o c seen new (BytesAnswer b) st call oa w
     (subst (λ (z : Step). IsSafe s h (stepped d z seen (Some (BytesAnswer b)))) (sym step) tt)
     (subst (λ (z : Step). PinIsSound s h d c.request z seen) (sym step) tt) refl
-    (subst (λ (z : Asked). GivesValue s h d z (Some o.step) (BytesAnswer b)) (sym asks)
-    (subst (λ (z : Step). GivesValue s h d (Load handle off len) (Some z) (BytesAnswer b)) (sym step) bytes)) in
+    (subst (λ (z : Step). GivesValue s h d c.request (Some z) (BytesAnswer b)) (sym step) (is.gives b bytes)) in
     let q : changes_nothing o.step seen ≡ true = ap (λ (z : Step). changes_nothing z seen) step in
     subst (λ (z : Answer). EndsRight s h xs x o c o.step seen z settled) (sym done.1) (
       right,
@@ -757,17 +759,49 @@ load-over s h xs x o c seen new answer settled handle off len m st here a call o
           (quiet-over s h xs x o.step seen (BytesAnswer b) st here a q refl),
     )
 
+-- a call writes the bytes given to it, inside the frame
+record IsWriting (s : Setting) (h : History) (d : DomId) (r : Asked) (t : DomId) (frame off len : ℕ) : Type 0 where
+  pub room : (given : List ℕ) → FitsGiven r given → off + length given ≤ 4096
+  pub gives : GivesValue s h d r (Some (WriteBytes t frame off len)) AnswerDone
+
+write-over : (s : Setting) (h : History) (xs : List State) (x : State) (o : Open) (c : Underway) (seen : Seen) (new : Call) (answer : Answer) (settled : List State) (t : DomId) (frame off len : ℕ)
+    → CoreStands s h xs → Agrees s h x → open_call h x.id.0 ≡ Some c → OpenAgrees s h x.id o c → Stepping s h x.id o c seen new (Done Granted)
+    → IsWriting s h x.id c.request t frame off len → o.step ≡ WriteBytes t frame off len → SettledIn xs x o seen (WriteBytes t frame off len) answer settled
+    → EndsRight s h xs x o c o.step seen answer settled
+write-over s h xs x o c seen new answer settled t frame off len st a call oa w is step done =
+    let d = x.id in
+    let nothing : seen ≡ Nothing = w.sees ∙ ap (seen_by s h d) step in
+    let given = a.given c call in
+    let right : StepsRight s h (stepped d o.step seen (Some AnswerDone)) o.step seen c =
+    granted-right s h xs d o c seen new AnswerDone st call oa w
+    (subst (λ (z : Step). IsSafe s h (stepped d z seen (Some AnswerDone))) (sym step) tt)
+    (subst (λ (z : Step). PinIsSound s h d c.request z seen) (sym step) tt) refl
+    (subst (λ (z : Step). GivesValue s h d c.request (Some z) AnswerDone) (sym step) is.gives) in
+    let after : settled ≡ changed_in t.0 (with_bytes frame off c.given) (changed_in d.0 without_given xs) =
+    done.1 ∙ ap (λ (l : List ℕ). changed_in t.0 (with_bytes frame off l) (changed_in d.0 without_given xs)) given.0 in
+    subst (λ (z : Answer). EndsRight s h xs x o c o.step seen z settled) (sym done.0) (
+      right,
+      subst (λ (z : Step). CoreStands s (stepped d z seen (Some AnswerDone) ∷ h) (applied d z seen settled)) (sym step)
+          (subst (λ (v : Seen). CoreStands s (stepped d (WriteBytes t frame off len) v (Some AnswerDone) ∷ h) settled) (sym nothing)
+          (subst (λ (z : List State). CoreStands s (stepped d (WriteBytes t frame off len) Nothing (Some AnswerDone) ∷ h) z) (sym after)
+          (write-stands s h xs d t frame off len c st call (is.room c.given given.1)))),
+    )
+
 -- a call whose last step is an exchange gives no value
 abbrev IsPlain : Setting → History → DomId → Asked → Option Step → Seen → Type 0
 IsPlain s h d r step seen = GivesValue s h d r step AnswerDone × (value_of r seen ≡ AnswerDone)
 
-exchange-no-unpin : (m : Option Mapping) (gref : GrantRef) (looked : ℕ) (change : Change) → unpin_of m ≡ Makes (Exchange gref looked change) → ⊥
-exchange-no-unpin None gref looked change e = cc
-exchange-no-unpin (Some m) gref looked change e = cc
+exchange-no-unpin : (handle : Handle) (m : Option Mapping) (gref : GrantRef) (looked : ℕ) (change : Change) → unpin_of handle m ≡ Makes (Exchange gref looked change) → ⊥
+exchange-no-unpin handle None gref looked change e = cc
+exchange-no-unpin handle (Some m) gref looked change e = cc
 
 exchange-no-read : (m : Option Mapping) (off len : ℕ) (gref : GrantRef) (looked : ℕ) (change : Change) → read_of m off len ≡ Makes (Exchange gref looked change) → ⊥
 exchange-no-read None off len gref looked change e = cc
 exchange-no-read (Some m) off len gref looked change e = cc
+
+exchange-no-write : (m : Option Mapping) (off len : ℕ) (gref : GrantRef) (looked : ℕ) (change : Change) → write_of m off len ≡ Makes (Exchange gref looked change) → ⊥
+exchange-no-write None off len gref looked change e = cc
+exchange-no-write (Some m) off len gref looked change e = cc
 
 exchange-single : (s : Setting) (h : History) (d : DomId) (k : CallerKnowledge) (r : Asked) (gref : GrantRef) (looked : ℕ) (change : Change) (step : Option Step) (seen : Seen) → single_at k d r ≡ Makes (Exchange gref looked change) → IsPlain s h d r step seen
 exchange-single s h d k (Grant g entry) gref looked change step seen e = (refl, refl)
@@ -775,8 +809,11 @@ exchange-single s h d k (Revoke g) gref looked change step seen e = (refl, refl)
 exchange-single s h d k (Demote g) gref looked change step seen e = (refl, refl)
 exchange-single s h d k (Promote g) gref looked change step seen e = (refl, refl)
 exchange-single s h d k (Map dom g flags) gref looked change step seen e = cc
-exchange-single s h d k (Unmap handle) gref looked change step seen e = absurd (exchange-no-unpin (mapping_of k.mappings handle) gref looked change e)
-exchange-single s h d k (Load handle off len) gref looked change step seen e = absurd (exchange-no-read (mapping_of k.mappings handle) off len gref looked change e)
+exchange-single s h d k (Unmap handle) gref looked change step seen e = absurd (exchange-no-unpin handle (k.mapping handle) gref looked change e)
+exchange-single s h d k (Load handle off len) gref looked change step seen e = absurd (exchange-no-read (k.mapping handle) off len gref looked change e)
+exchange-single s h d k (Store handle off len) gref looked change step seen e = absurd (exchange-no-write (k.mapping handle) off len gref looked change e)
+exchange-single s h d k (Peek frame off len) gref looked change step seen e = cc
+exchange-single s h d k (Poke frame off len) gref looked change step seen e = cc
 exchange-single s h d k (SetVersion version) gref looked change step seen e = cc
 exchange-single s h d k (SetupTable frames) gref looked change step seen e = cc
 exchange-single s h d k (QuerySize dom) gref looked change step seen e = cc
@@ -790,6 +827,9 @@ exchange-turn s h d k (Revoke g) more word step seen comes = absurd comes
 exchange-turn s h d k (Map dom g flags) more word step seen comes = absurd comes
 exchange-turn s h d k (Unmap handle) more word step seen comes = absurd comes
 exchange-turn s h d k (Load handle off len) more word step seen comes = absurd comes
+exchange-turn s h d k (Store handle off len) more word step seen comes = absurd comes
+exchange-turn s h d k (Peek frame off len) more word step seen comes = absurd comes
+exchange-turn s h d k (Poke frame off len) more word step seen comes = absurd comes
 exchange-turn s h d k (SetVersion version) more word step seen comes = absurd comes
 exchange-turn s h d k (SetupTable frames) more word step seen comes = absurd comes
 exchange-turn s h d k (QuerySize dom) more word step seen comes = absurd comes
@@ -819,6 +859,9 @@ query-value s h d t (Promote gref) round is = absurd (false≢true is)
 query-value s h d t (Map dom gref flags) round is = absurd (false≢true is)
 query-value s h d t (Unmap handle) round is = absurd (false≢true is)
 query-value s h d t (Load handle off len) round is = absurd (false≢true is)
+query-value s h d t (Store handle off len) round is = absurd (false≢true is)
+query-value s h d t (Peek frame off len) round is = absurd (false≢true is)
+query-value s h d t (Poke frame off len) round is = absurd (false≢true is)
 query-value s h d t (SetVersion version) round is = absurd (false≢true is)
 query-value s h d t (SetupTable frames) round is = absurd (false≢true is)
 
@@ -852,6 +895,9 @@ query-steps s h d (Promote gref) so_far phase step is a comes act = absurd (fals
 query-steps s h d (Map dom gref flags) so_far phase step is a comes act = absurd (false≢true is)
 query-steps s h d (Unmap handle) so_far phase step is a comes act = absurd (false≢true is)
 query-steps s h d (Load handle off len) so_far phase step is a comes act = absurd (false≢true is)
+query-steps s h d (Store handle off len) so_far phase step is a comes act = absurd (false≢true is)
+query-steps s h d (Peek frame off len) so_far phase step is a comes act = absurd (false≢true is)
+query-steps s h d (Poke frame off len) so_far phase step is a comes act = absurd (false≢true is)
 query-steps s h d (SetVersion version) so_far phase step is a comes act = absurd (false≢true is)
 query-steps s h d (SetupTable frames) so_far phase step is a comes act = absurd (false≢true is)
 
@@ -887,19 +933,26 @@ abbrev header_in : Action → Header
 header_in (Makes (StoreHeader version frames)) = record { version = version; frames = frames }
 header_in action = record { version = 0; frames = 0 }
 
-heads-no-unpin : (m : Option Mapping) (version frames : ℕ) → unpin_of m ≡ Makes (StoreHeader version frames) → ⊥
-heads-no-unpin None version frames e = cc
-heads-no-unpin (Some m) version frames e = cc
+heads-no-unpin : (handle : Handle) (m : Option Mapping) (version frames : ℕ) → unpin_of handle m ≡ Makes (StoreHeader version frames) → ⊥
+heads-no-unpin handle None version frames e = cc
+heads-no-unpin handle (Some m) version frames e = cc
 
 heads-no-read : (m : Option Mapping) (off len version frames : ℕ) → read_of m off len ≡ Makes (StoreHeader version frames) → ⊥
 heads-no-read None off len version frames e = cc
 heads-no-read (Some m) off len version frames e = cc
 
+heads-no-write : (m : Option Mapping) (off len version frames : ℕ) → write_of m off len ≡ Makes (StoreHeader version frames) → ⊥
+heads-no-write None off len version frames e = cc
+heads-no-write (Some m) off len version frames e = cc
+
 heads-single : (k : CallerKnowledge) (d : DomId) (r : Asked) (version frames : ℕ) → single_at k d r ≡ Makes (StoreHeader version frames) → Heads k r (record { version = version; frames = frames })
 heads-single k d (SetVersion v) version frames e = ap header_in e
 heads-single k d (SetupTable n) version frames e = ap header_in e
-heads-single k d (Unmap handle) version frames e = absurd (heads-no-unpin (mapping_of k.mappings handle) version frames e)
-heads-single k d (Load handle off len) version frames e = absurd (heads-no-read (mapping_of k.mappings handle) off len version frames e)
+heads-single k d (Unmap handle) version frames e = absurd (heads-no-unpin handle (k.mapping handle) version frames e)
+heads-single k d (Load handle off len) version frames e = absurd (heads-no-read (k.mapping handle) off len version frames e)
+heads-single k d (Store handle off len) version frames e = absurd (heads-no-write (k.mapping handle) off len version frames e)
+heads-single k d (Peek frame off len) version frames e = cc
+heads-single k d (Poke frame off len) version frames e = cc
 heads-single k d (Grant g entry) version frames e = cc
 heads-single k d (Revoke g) version frames e = cc
 heads-single k d (Demote g) version frames e = cc
@@ -935,6 +988,9 @@ header-gives s h d k (Promote g) version frames e f same = absurd same
 header-gives s h d k (Map dom g flags) version frames e f same = absurd same
 header-gives s h d k (Unmap handle) version frames e f same = absurd same
 header-gives s h d k (Load handle off len) version frames e f same = absurd same
+header-gives s h d k (Store handle off len) version frames e f same = absurd same
+header-gives s h d k (Peek frame off len) version frames e f same = absurd same
+header-gives s h d k (Poke frame off len) version frames e f same = absurd same
 header-gives s h d k (QuerySize dom) version frames e f same = absurd same
 header-gives s h d k (GetVersion dom) version frames e f same = absurd same
 
@@ -964,6 +1020,10 @@ unmaps-other : (o : Option Mapping) (off len : ℕ) (t : DomId) (gref : GrantRef
 unmaps-other None off len t gref dir holder e = cc
 unmaps-other (Some x) off len t gref dir holder e = cc
 
+unmaps-other-write : (o : Option Mapping) (off len : ℕ) (t : DomId) (gref : GrantRef) (dir : Dir) (holder : Holder) → write_of o off len ≡ Makes (Unpin t gref dir holder) → ⊥
+unmaps-other-write None off len t gref dir holder e = cc
+unmaps-other-write (Some x) off len t gref dir holder e = cc
+
 unmaps-single : (s : Setting) (h : History) (d : DomId) (r : Asked) (t : DomId) (gref : GrantRef) (dir : Dir) (holder : Holder) → single_at (known_at s h d) d r ≡ Makes (Unpin t gref dir holder) → Unmaps s h d r (Unpin t gref dir holder)
 unmaps-single s h d (Grant g entry) t gref dir holder e = cc
 unmaps-single s h d (Revoke g) t gref dir holder e = cc
@@ -972,6 +1032,9 @@ unmaps-single s h d (Promote g) t gref dir holder e = cc
 unmaps-single s h d (Map dom g flags) t gref dir holder e = cc
 unmaps-single s h d (Unmap handle) t gref dir holder e = unmaps-by s h d handle (mapping_of (mappings_at h d.0) handle) (Unpin t gref dir holder) refl e
 unmaps-single s h d (Load handle off len) t gref dir holder e = absurd (unmaps-other (mapping_of (mappings_at h d.0) handle) off len t gref dir holder e)
+unmaps-single s h d (Store handle off len) t gref dir holder e = absurd (unmaps-other-write (mapping_of (mappings_at h d.0) handle) off len t gref dir holder e)
+unmaps-single s h d (Peek frame off len) t gref dir holder e = cc
+unmaps-single s h d (Poke frame off len) t gref dir holder e = cc
 unmaps-single s h d (SetVersion version) t gref dir holder e = cc
 unmaps-single s h d (SetupTable frames) t gref dir holder e = cc
 unmaps-single s h d (QuerySize dom) t gref dir holder e = cc
@@ -987,32 +1050,103 @@ unmaps s h d r (OwnLook more) t gref dir holder e = cc
 unmaps s h d r (OwnChange more word) t gref dir holder e = cc
 unmaps s h d r (Ended v) t gref dir holder e = cc
 
-loads-other : (o : Option Mapping) (t : DomId) (frame n m : ℕ) → unpin_of o ≡ Makes (ReadBytes t frame n m) → ⊥
-loads-other None t frame n m e = cc
-loads-other (Some x) t frame n m e = cc
+-- which range a call reads
 
-loads-single : (s : Setting) (h : History) (d : DomId) (r : Asked) (t : DomId) (frame n m : ℕ) → single_at (known_at s h d) d r ≡ Makes (ReadBytes t frame n m) → Loads s h d r (ReadBytes t frame n m)
-loads-single s h d (Grant g entry) t frame n m e = cc
-loads-single s h d (Revoke g) t frame n m e = cc
-loads-single s h d (Demote g) t frame n m e = cc
-loads-single s h d (Promote g) t frame n m e = cc
-loads-single s h d (Map dom g flags) t frame n m e = cc
-loads-single s h d (Unmap handle) t frame n m e = absurd (loads-other (mapping_of (mappings_at h d.0) handle) t frame n m e)
-loads-single s h d (Load handle off len) t frame n m e = loads-by s h d handle off len (mapping_of (mappings_at h d.0) handle) (ReadBytes t frame n m) refl e
-loads-single s h d (SetVersion version) t frame n m e = cc
-loads-single s h d (SetupTable table_frames) t frame n m e = cc
-loads-single s h d (QuerySize dom) t frame n m e = cc
-loads-single s h d (GetVersion dom) t frame n m e = cc
+abbrev ReadsIn : Setting → History → DomId → Asked → Step → Type 0
+ReadsIn s h d r (ReadBytes t frame off len) = IsReading s h d r t frame off len
+ReadsIn s h d r step = ⊥
 
-loads : (s : Setting) (h : History) (d : DomId) (r : Asked) (phase : Phase) (t : DomId) (frame n m : ℕ) → action_at (known_at s h d) d r phase ≡ Makes (ReadBytes t frame n m) → Loads s h d r (ReadBytes t frame n m)
-loads s h d r PhaseBegun t frame n m e = cc
-loads s h d r (LegPinning l p) t frame n m e = absurd (leg-only l p (ReadBytes t frame n m) e)
-loads s h d r Storing t frame n m e = absurd (store-only r (ReadBytes t frame n m) e)
-loads s h d r StoringSecond t frame n m e = absurd (second-only r (ReadBytes t frame n m) e)
-loads s h d r Single t frame n m e = loads-single s h d r t frame n m e
-loads s h d r (OwnLook more) t frame n m e = cc
-loads s h d r (OwnChange more word) t frame n m e = cc
-loads s h d r (Ended v) t frame n m e = cc
+unpin-no-read : (handle : Handle) (o : Option Mapping) (t : DomId) (frame n m : ℕ) → unpin_of handle o ≡ Makes (ReadBytes t frame n m) → ⊥
+unpin-no-read handle None t frame n m e = cc
+unpin-no-read handle (Some x) t frame n m e = cc
+
+write-no-read : (o : Option Mapping) (off len : ℕ) (t : DomId) (frame n m : ℕ) → write_of o off len ≡ Makes (ReadBytes t frame n m) → ⊥
+write-no-read None off len t frame n m e = cc
+write-no-read (Some x) off len t frame n m e = cc
+
+load-reads : (s : Setting) (h : History) (xs : List State) (d : DomId) (handle : Handle) (off len : ℕ) (o : Option Mapping) (step : Step) → CoreStands s h xs
+    → load_begun (mapping_of (mappings_at h d.0)) handle off len ≡ None → mapping_of (mappings_at h d.0) handle ≡ o → read_of o off len ≡ Makes step → ReadsIn s h d (Load handle off len) step
+load-reads s h xs d handle off len None step st none found e = cc
+load-reads s h xs d handle off len (Some m) step st none found e =
+    subst (ReadsIn s h d (Load handle off len)) (makes-same _ _ e) (record { accesses = load-accesses s h xs d handle off len m st none found; asks = refl; gives = λ b z. z })
+
+reads-single : (s : Setting) (h : History) (xs : List State) (d : DomId) (r : Asked) (t : DomId) (frame n m : ℕ) → CoreStands s h xs → begun (known_at s h d) d r ≡ None
+    → single_at (known_at s h d) d r ≡ Makes (ReadBytes t frame n m) → IsReading s h d r t frame n m
+reads-single s h xs d (Load handle off len) t frame n m st none e = load-reads s h xs d handle off len (mapping_of (mappings_at h d.0) handle) (ReadBytes t frame n m) st none refl e
+reads-single s h xs d (Peek f off len) t frame n m st none e =
+    subst (ReadsIn s h d (Peek f off len)) (makes-same _ _ e) (record { accesses = own-accesses s h d Read f off len none; asks = refl; gives = λ b z. z })
+reads-single s h xs d (Unmap handle) t frame n m st none e = absurd (unpin-no-read handle (mapping_of (mappings_at h d.0) handle) t frame n m e)
+reads-single s h xs d (Store handle off len) t frame n m st none e = absurd (write-no-read (mapping_of (mappings_at h d.0) handle) off len t frame n m e)
+reads-single s h xs d (Poke f off len) t frame n m st none e = cc
+reads-single s h xs d (Grant g entry) t frame n m st none e = cc
+reads-single s h xs d (Revoke g) t frame n m st none e = cc
+reads-single s h xs d (Demote g) t frame n m st none e = cc
+reads-single s h xs d (Promote g) t frame n m st none e = cc
+reads-single s h xs d (Map dom g flags) t frame n m st none e = cc
+reads-single s h xs d (SetVersion version) t frame n m st none e = cc
+reads-single s h xs d (SetupTable table_frames) t frame n m st none e = cc
+reads-single s h xs d (QuerySize dom) t frame n m st none e = cc
+reads-single s h xs d (GetVersion dom) t frame n m st none e = cc
+
+reads : (s : Setting) (h : History) (xs : List State) (d : DomId) (r : Asked) (phase : Phase) (t : DomId) (frame n m : ℕ) → CoreStands s h xs → begun (known_at s h d) d r ≡ None
+    → action_at (known_at s h d) d r phase ≡ Makes (ReadBytes t frame n m) → IsReading s h d r t frame n m
+reads s h xs d r PhaseBegun t frame n m st none e = cc
+reads s h xs d r (LegPinning l p) t frame n m st none e = absurd (leg-only l p (ReadBytes t frame n m) e)
+reads s h xs d r Storing t frame n m st none e = absurd (store-only r (ReadBytes t frame n m) e)
+reads s h xs d r StoringSecond t frame n m st none e = absurd (second-only r (ReadBytes t frame n m) e)
+reads s h xs d r Single t frame n m st none e = reads-single s h xs d r t frame n m st none e
+reads s h xs d r (OwnLook more) t frame n m st none e = cc
+reads s h xs d r (OwnChange more word) t frame n m st none e = cc
+reads s h xs d r (Ended v) t frame n m st none e = cc
+
+-- which range a call writes
+
+abbrev WritesIn : Setting → History → DomId → Asked → Step → Type 0
+WritesIn s h d r (WriteBytes t frame off len) = IsWriting s h d r t frame off len
+WritesIn s h d r step = ⊥
+
+unpin-no-write : (handle : Handle) (o : Option Mapping) (t : DomId) (frame n m : ℕ) → unpin_of handle o ≡ Makes (WriteBytes t frame n m) → ⊥
+unpin-no-write handle None t frame n m e = cc
+unpin-no-write handle (Some x) t frame n m e = cc
+
+read-no-write : (o : Option Mapping) (off len : ℕ) (t : DomId) (frame n m : ℕ) → read_of o off len ≡ Makes (WriteBytes t frame n m) → ⊥
+read-no-write None off len t frame n m e = cc
+read-no-write (Some x) off len t frame n m e = cc
+
+given-room : (given : List ℕ) (off len : ℕ) → (length given ≡ len) × (off + len ≤ 4096) → off + length given ≤ 4096
+given-room given off len a = let e = a.0 in let f = a.1 in omega arith
+
+store-writes : (s : Setting) (h : History) (d : DomId) (handle : Handle) (off len : ℕ) (o : Option Mapping) (step : Step) → write_of o off len ≡ Makes step → WritesIn s h d (Store handle off len) step
+store-writes s h d handle off len None step e = cc
+store-writes s h d handle off len (Some m) step e =
+    subst (WritesIn s h d (Store handle off len)) (makes-same _ _ e) (record { room = λ given a. given-room given off len a; gives = refl })
+
+writes-single : (s : Setting) (h : History) (d : DomId) (r : Asked) (t : DomId) (frame n m : ℕ) → single_at (known_at s h d) d r ≡ Makes (WriteBytes t frame n m) → IsWriting s h d r t frame n m
+writes-single s h d (Store handle off len) t frame n m e = store-writes s h d handle off len (mapping_of (mappings_at h d.0) handle) (WriteBytes t frame n m) e
+writes-single s h d (Poke f off len) t frame n m e =
+    subst (WritesIn s h d (Poke f off len)) (makes-same _ _ e) (record { room = λ given a. given-room given off len a; gives = refl })
+writes-single s h d (Unmap handle) t frame n m e = absurd (unpin-no-write handle (mapping_of (mappings_at h d.0) handle) t frame n m e)
+writes-single s h d (Load handle off len) t frame n m e = absurd (read-no-write (mapping_of (mappings_at h d.0) handle) off len t frame n m e)
+writes-single s h d (Peek f off len) t frame n m e = cc
+writes-single s h d (Grant g entry) t frame n m e = cc
+writes-single s h d (Revoke g) t frame n m e = cc
+writes-single s h d (Demote g) t frame n m e = cc
+writes-single s h d (Promote g) t frame n m e = cc
+writes-single s h d (Map dom g flags) t frame n m e = cc
+writes-single s h d (SetVersion version) t frame n m e = cc
+writes-single s h d (SetupTable table_frames) t frame n m e = cc
+writes-single s h d (QuerySize dom) t frame n m e = cc
+writes-single s h d (GetVersion dom) t frame n m e = cc
+
+writes : (s : Setting) (h : History) (d : DomId) (r : Asked) (phase : Phase) (t : DomId) (frame n m : ℕ) → action_at (known_at s h d) d r phase ≡ Makes (WriteBytes t frame n m) → IsWriting s h d r t frame n m
+writes s h d r PhaseBegun t frame n m e = cc
+writes s h d r (LegPinning l p) t frame n m e = absurd (leg-only l p (WriteBytes t frame n m) e)
+writes s h d r Storing t frame n m e = absurd (store-only r (WriteBytes t frame n m) e)
+writes s h d r StoringSecond t frame n m e = absurd (second-only r (WriteBytes t frame n m) e)
+writes s h d r Single t frame n m e = writes-single s h d r t frame n m e
+writes s h d r (OwnLook more) t frame n m e = cc
+writes s h d r (OwnChange more word) t frame n m e = cc
+writes s h d r (Ended v) t frame n m e = cc
 
 -- a call that nothing stood against is over: its last step is right, and the core stands for it
 pub tick-ends : (s : Setting) (h : History) (xs : List State) (x : State) (o : Open) (c : Underway) (seen : Seen) (new : Call) (answer : Answer) (settled : List State)
@@ -1027,7 +1161,7 @@ tick-ends s h xs x o c seen new answer settled st here a call oa w done = by o.s
     next = w.is_next ∙ ap (action_at k x.id c.request) (w.stands ∙ ap (phase_after k x.id c.request o.call.phase) w.sees)
 
     comes : Comes (expects k x.id c.request o.call.phase [])
-    comes = comes-some _ _ oa.comes
+    comes = subst Comes (sym oa.comes) tt
 
     never : (step : Step) → o.step ≡ step → is_query c.request ≡ false → LooksOrStores step → EndsRight s h xs x o c o.step seen answer settled
     never step e plain looks = absurd (never-ends s h x.id c.request (reverse c.steps) o.call.phase o.step oa.place comes w.act plain (subst LooksOrStores (sym e) looks) next)
@@ -1054,8 +1188,9 @@ tick-ends s h xs x o c seen new answer settled st here a call oa w done = by o.s
         let u = unmaps s h x.id c.request o.call.phase t gref dir holder (act (Unpin t gref dir holder) e) in
         unpin-over s h xs x o c seen new answer settled u.0 u.1 st here call oa w u.2 u.3 (e ∙ u.4) z
     by (ReadBytes t frame n m) e z =
-        let u = loads s h x.id c.request o.call.phase t frame n m (act (ReadBytes t frame n m) e) in
-        load-over s h xs x o c seen new answer settled u.0 u.1 u.2 u.3 st here a call oa w u.4 u.5 (e ∙ u.6) (subst (λ (q : Step). SettledIn xs x o seen q answer settled) u.6 z)
+        read-over s h xs x o c seen new answer settled t frame n m st here a call oa w (reads s h xs x.id c.request o.call.phase t frame n m st w.none (act (ReadBytes t frame n m) e)) e z
+    by (WriteBytes t frame n m) e z =
+        write-over s h xs x o c seen new answer settled t frame n m st a call oa w (writes s h x.id c.request o.call.phase t frame n m (act (WriteBytes t frame n m) e)) e z
 
 -- the changed state by its place and by its number
 settled-in : (xs : List State) (at : ℕ) (x : State) (o : Open) (seen : Seen) (step : Step) (answer : Answer) (new : List State) → position (has_id x.id.0) xs ≡ Some at → x ≡ get_or xs at x
@@ -1068,8 +1203,10 @@ settled-in xs at x o seen (StoreHeader version frames) answer new p here z = (z.
 settled-in xs at x o seen (Exchange gref looked change) answer new p here z = (z.0, z.1 ∙ set-state xs x.id.0 at (with_underway None) x _ p here refl)
 settled-in xs at x o seen (Unpin t gref dir holder) answer new p here z = (z.0, z.1 ∙ set-state xs x.id.0 at (with_underway None) x _ p here refl)
 settled-in xs at x o seen (ReadBytes t frame off len) answer new p here z = (z.0, z.1, z.2 ∙ set-state xs x.id.0 at (with_underway None) x _ p here refl, z.3)
+settled-in xs at x o seen (WriteBytes t frame off len) answer new p here z =
+    (z.0, z.1 ∙ ap (changed_in t.0 (with_bytes frame off x.given)) (set-state xs x.id.0 at without_given x _ p here refl))
 settled-in xs at x o seen (PinStep t gref looked dir) answer new p here z =
-    (z.0, z.1, z.2, z.3 ∙ set-state xs x.id.0 at (with_mapping (record { handle = z.0; dom = t; gref = gref; dir = dir; frame = frame_read o.call.phase })) x _ p here refl)
+    (z.0, z.1, z.2, z.3, z.4 ∙ set-state xs x.id.0 at (with_mapping z.1) x _ p here refl)
 
 -- a tick of the domain, by what the core made of it
 
@@ -1079,7 +1216,7 @@ TickRight s h dom step seen answer new =
 
 pub tick-granted : (s : Setting) (h : History) (xs : List State) (dom : DomId) (at : ℕ) (x : State) (o : Open) (seen : Seen) (new : Call) (answer : Answer) (settled : List State)
     → position (has_id dom.0) xs ≡ Some at → x ≡ get_or xs at x → x.underway ≡ Some o → CoreStands s h xs → seen ≡ sees xs dom o.step
-    → Advances (knowledge_of s.domains s.first_generation s.may x.own x.header x.mappings x.maps_answered) o.call.caller o.call.request o.call.phase seen new (Done Granted)
+    → Advances (knowledge_of s.domains s.first_generation s.may x.own x.header x.mappings) o.call.caller o.call.request o.call.phase seen new (Done Granted)
     → Settled xs at x o seen o.step answer settled
     → TickRight s h dom o.step seen (Some answer) (applied dom o.step seen settled)
 tick-granted s h xs dom at x o seen new answer settled p here is st saw adv done =
@@ -1097,7 +1234,7 @@ tick-granted s h xs dom at x o seen new answer settled p here is st saw adv done
 
 pub tick-goes : (s : Setting) (h : History) (xs : List State) (dom : DomId) (at : ℕ) (x : State) (o : Open) (seen : Seen) (new : Call) (step : Step)
     → position (has_id dom.0) xs ≡ Some at → x ≡ get_or xs at x → x.underway ≡ Some o → CoreStands s h xs → seen ≡ sees xs dom o.step
-    → Advances (knowledge_of s.domains s.first_generation s.may x.own x.header x.mappings x.maps_answered) o.call.caller o.call.request o.call.phase seen new (Makes step)
+    → Advances (knowledge_of s.domains s.first_generation s.may x.own x.header x.mappings) o.call.caller o.call.request o.call.phase seen new (Makes step)
     → TickRight s h dom o.step seen None (applied dom o.step seen (set xs at (with_underway (Some (record { call = new; step = step })) x)))
 tick-goes s h xs dom at x o seen new step p here is st saw adv =
     decide (changes_nothing o.step seen)
@@ -1121,7 +1258,7 @@ tick-goes s h xs dom at x o seen new step p here is st saw adv =
 
 pub tick-denied : (s : Setting) (h : History) (xs : List State) (dom : DomId) (at : ℕ) (x : State) (o : Open) (seen : Seen) (new : Call) (denial : Denial)
     → position (has_id dom.0) xs ≡ Some at → x ≡ get_or xs at x → x.underway ≡ Some o → CoreStands s h xs → seen ≡ sees xs dom o.step
-    → Advances (knowledge_of s.domains s.first_generation s.may x.own x.header x.mappings x.maps_answered) o.call.caller o.call.request o.call.phase seen new (Done (Refused denial))
+    → Advances (knowledge_of s.domains s.first_generation s.may x.own x.header x.mappings) o.call.caller o.call.request o.call.phase seen new (Done (Refused denial))
     → TickRight s h dom o.step seen (Some (Denied denial)) (applied dom o.step seen (set xs at (with_underway None x)))
 tick-denied s h xs dom at x o seen new denial p here is st saw adv =
     let q = refused-changes-nothing s h xs dom at x o seen new denial p here is st saw adv in
@@ -1135,6 +1272,7 @@ length-applied d (LookHeader dom) seen xs = refl
 length-applied d (LookControl dom gref) seen xs = refl
 length-applied d (LookBody dom gref second) seen xs = refl
 length-applied d (ReadBytes dom frame off len) seen xs = refl
+length-applied d (WriteBytes dom frame off len) seen xs = refl
 length-applied d (PinStep t gref looked dir) Taken xs = length-changed_in xs t.0 (with_slot gref.0 (Pinned dir))
 length-applied d (PinStep t gref looked dir) (Missed w) xs = refl
 length-applied d (PinStep t gref looked dir) (Value w) xs = refl
@@ -1165,6 +1303,7 @@ no-room-by k d r phase (StoreHeader version frames) is act = tt
 no-room-by k d r phase (Exchange gref looked change) is act = tt
 no-room-by k d r phase (Unpin t gref dir holder) is act = tt
 no-room-by k d r phase (ReadBytes t frame off len) is act = tt
+no-room-by k d r phase (WriteBytes t frame off len) is act = tt
 no-room-by k d r phase (PinStep t gref looked dir) is act =
     let p = pins-by k d r phase t gref looked dir act in
     let m = map-of-leg k d r p.0 (is p.0 (Pinning p.1 p.2 p.3 p.4) p.5) in
@@ -1175,7 +1314,7 @@ place-leg s h d r so_far phase l p a e = (subst (PhaseStands s h d r so_far) e a
 
 pub needs-no-room : (s : Setting) (h : History) (xs : List State) (dom : DomId) (at : ℕ) (x : State) (o : Open) (seen : Seen) (new : Call) (action : Action)
     → position (has_id dom.0) xs ≡ Some at → x ≡ get_or xs at x → x.underway ≡ Some o → CoreStands s h xs → seen ≡ sees xs dom o.step
-    → Advances (knowledge_of s.domains s.first_generation s.may x.own x.header x.mappings x.maps_answered) o.call.caller o.call.request o.call.phase seen new action
+    → Advances (knowledge_of s.domains s.first_generation s.may x.own x.header x.mappings) o.call.caller o.call.request o.call.phase seen new action
     → NeedsNoRoom o.call.request o.step
 needs-no-room s h xs dom at x o seen new action p here is st saw adv =
     let a = agrees-found s h xs dom at x p here st in

@@ -1,10 +1,12 @@
 -- An exchange that was taken keeps what a core stands for.
 use Rattle.std.proofs.Common.{◌≡◌, ◌≢◌, ◌<◌, ◌≤◌, ◌+◌, ◌-◌, ℕ, refl, Bool, true, false, List, [], ◌∷◌, length, Option, Some, None, cond, sym, ap, ◌∙◌, arith, subst, get_or}
-use Rattle.std.proofs.lemmas.Bool.{lt-ltb, eqb-true, eq-eqb, false≢true, true≢false}
+use Rattle.gt_handles.specs.declared.handles.Handle.{Handle}
+use Rattle.gt_core.proofs.Mappings.{mappings-same}
+use Rattle.std.proofs.lemmas.Bool.{eqb-true, eq-eqb, true≢false}
 use Rattle.std.proofs.lemmas.List.{append-nil}
 use Rattle.std.proofs.lemmas.Option.{none-some, slice_get-get_or}
 use Rattle.std.specs.Option.{option_map}
-use Rattle.std.specs.Prelude.{nat_lt, ◌==◌, All, count_by, slice_get, if◌then◌else◌, nat_le, not, reverse}
+use Rattle.std.specs.Prelude.{nat_lt, ◌==◌, All, count_by, slice_get, nat_le, not, reverse}
 use mathlib.Core.Path.{fun_ext}
 use Rattle.gt_types.specs.declared.DomId.{DomId}
 use Rattle.gt_types.specs.declared.GrantRef.{GrantRef}
@@ -18,46 +20,45 @@ use Rattle.gt_entry.specs.declared.entry.Entry.{Entry}
 use Rattle.gt_entry.specs.declared.entry.Entry.TheVariants.{Invalid, Page, Sub, Via}
 use Rattle.gt_entry.specs.declared.control.Control.{Control}
 use Rattle.gt_entry.specs.Words.{control_word, control_of}
-use Rattle.gt_core.specs.declared.action.Change.{Change}
-use Rattle.gt_core.specs.declared.action.Change.TheVariants.{Publish, Revoke as ToInvalid, Demote as ToReadOnly, Promote as ToWritable}
-use Rattle.gt_core.specs.declared.action.Step.{Step}
-use Rattle.gt_core.specs.declared.action.Step.TheVariants.{Exchange}
-use Rattle.gt_core.specs.declared.action.Seen.{Seen}
-use Rattle.gt_core.specs.declared.action.Seen.TheVariants.{Taken, Missed}
-use Rattle.gt_core.specs.declared.known.Mapping.{Mapping}
-use Rattle.gt_core.specs.declared.known.Own.{Own}
+use Rattle.gt_calls.specs.declared.action.Change.{Change}
+use Rattle.gt_calls.specs.declared.action.Change.TheVariants.{Publish, Revoke as ToInvalid, Demote as ToReadOnly, Promote as ToWritable}
+use Rattle.gt_calls.specs.declared.action.Step.{Step}
+use Rattle.gt_calls.specs.declared.action.Step.TheVariants.{Exchange}
+use Rattle.gt_calls.specs.declared.action.Seen.{Seen}
+use Rattle.gt_calls.specs.declared.action.Seen.TheVariants.{Taken, Missed}
+use Rattle.gt_calls.specs.declared.known.Mapping.{Mapping}
+use Rattle.gt_calls.specs.declared.known.Own.{Own}
 use Rattle.gt_core.specs.declared.slot.Slot.{Slot}
 use Rattle.gt_core.specs.declared.trace.Item.{Item}
 use Rattle.gt_core.specs.declared.trace.Happened.TheVariants.{Stepped}
 use Rattle.gt_core.specs.declared.trace.Answer.{Answer}
 use Rattle.gt_core.specs.declared.trace.Answer.TheVariants.{Done as AnswerDone}
 use Rattle.gt_core.specs.declared.slot.Open.{Open}
-use Rattle.gt_core.specs.declared.asked.Asked.{Asked}
-use Rattle.gt_core.specs.declared.asked.Asked.TheVariants.{Grant, Revoke, Demote, Promote, Map, Unmap, Load, SetVersion, SetupTable, QuerySize, GetVersion}
-use Rattle.gt_core.specs.declared.action.Verdict.{Verdict}
-use Rattle.gt_core.specs.declared.action.Verdict.TheVariants.{Granted, Refused}
-use Rattle.gt_core.specs.declared.action.Action.{Action}
-use Rattle.gt_core.specs.declared.action.Action.TheVariants.{Step as Makes, Done}
-use Rattle.gt_core.specs.declared.leg.Leg.{Leg}
-use Rattle.gt_core.specs.declared.leg.LegPhase.{LegPhase}
-use Rattle.gt_core.specs.declared.leg.LegPhase.TheVariants.{Header as AtHeader, Look, Body, Second, Pinning, Relook}
-use Rattle.gt_core.specs.declared.call.Call.{Call}
-use Rattle.gt_core.specs.declared.call.Phase.{Phase}
-use Rattle.gt_core.specs.declared.call.Phase.TheVariants.{Begun as PhaseBegun, Pinning as LegPinning, Storing, StoringSecond, Single, Look as OwnLook, Change as OwnChange, Ended}
-use Rattle.gt_core.specs.Rules.{entry_in, generation_in, control_with, row_entry, row_generation, CallerKnowledge, begun, first, refused_when, granted_when, size_of, is_invalid, cannot_stand, is_already}
+use Rattle.gt_calls.specs.declared.asked.Asked.{Asked}
+use Rattle.gt_calls.specs.declared.asked.Asked.TheVariants.{Grant, Revoke, Demote, Promote, Map, Unmap, Load, SetVersion, SetupTable, QuerySize, GetVersion, Store, Peek, Poke}
+use Rattle.gt_calls.specs.declared.action.Verdict.{Verdict}
+use Rattle.gt_calls.specs.declared.action.Verdict.TheVariants.{Granted, Refused}
+use Rattle.gt_calls.specs.declared.action.Action.{Action}
+use Rattle.gt_calls.specs.declared.action.Action.TheVariants.{Step as Makes, Done}
+use Rattle.gt_calls.specs.declared.leg.Leg.{Leg}
+use Rattle.gt_calls.specs.declared.leg.LegPhase.{LegPhase}
+use Rattle.gt_calls.specs.declared.leg.LegPhase.TheVariants.{Header as AtHeader, Look, Body, Second, Pinning, Relook}
+use Rattle.gt_calls.specs.declared.call.Call.{Call}
+use Rattle.gt_calls.specs.declared.call.Phase.{Phase}
+use Rattle.gt_calls.specs.declared.call.Phase.TheVariants.{Begun as PhaseBegun, Pinning as LegPinning, Storing, StoringSecond, Single, Look as OwnLook, Change as OwnChange, Ended}
+use Rattle.gt_calls.specs.Rules.{entry_in, generation_in, control_with, row_entry, row_generation, CallerKnowledge, begun, first, refused_when, granted_when, size_of, is_invalid, cannot_stand, is_already}
 use Rattle.gt_core.specs.Rows.{changed_at}
 use Rattle.gt_core.specs.States.{State, state_of, changed_in}
 use Rattle.gt_core.specs.Effects.{with_own, with_underway, own_after}
 use Rattle.gt_core.specs.History.{History, Setting, Pin, live, entry_at, raises_at, raise_of, changed_entry, generation_at, body_at, reads_at, writes_at, table_at, word_at, control_at, mappings_in, maps_answered_at, known_at, open_call, is_pin_on, change_of, entry_after, with_ro, raise_after, or_else, Underway, seen_by}
 use Rattle.gt_core.specs.Legal.{IsSafeChange, IsSpelled, StepsSoFar, IsSafe}
 use Rattle.gt_core.specs.Standing.{IsLawful, FitsTable, FitsWord, FitsEntry, SlotAgrees, Agrees, StateAgrees, CoreStands, CallAgrees, PhaseStands, HasStored, FitsAsked, OpenAgrees}
-use Rattle.gt_core.specs.Path.{entry_refusal, idle_word}
-use Rattle.gt_core.specs.Machine.{expects, action_at, phase_after, after_single, leg_step, own_gref, store_at, second_at, single_at, unpin_of, read_of, Comes}
+use Rattle.gt_calls.specs.Path.{entry_refusal, idle_word}
+use Rattle.gt_calls.specs.Machine.{expects, action_at, phase_after, after_single, leg_step, own_gref, store_at, second_at, single_at, unpin_of, read_of, Comes, write_of}
 use Rattle.gt_core.proofs.Rows.{get-changed, length-changed, state-changed}
-use Rattle.gt_core.proofs.Quiet.{kept-contents, kept-table}
-use Rattle.gt_core.proofs.Beginning.{open_call-own}
+use Rattle.gt_core.proofs.Quiet.{kept-table}
+use Rattle.gt_core.proofs.Beginning.{frames-stay, filled-stays, given-none, open_call-own}
 use Rattle.gt_core.proofs.Others.{other-agrees}
-use Rattle.gt_core.proofs.Calls.{comes-some}
 use Rattle.gt_core.proofs.Fitting.{word-shows, table-fits}
 use Rattle.gt_core.proofs.Owners.{writes-shown, idle-pins}
 use Rattle.gt_core.proofs.Ticking.{owns, own-within, stepped, Stepping}
@@ -180,10 +181,10 @@ exchange-agrees s h x gref looked change within room a =
       generations = fun_ext (λ r. own-raised s h x gref looked change r within room a);
       room = a.room;
       slots = λ r slot e. exchanged-slot h x.id gref looked change x.id.0 r slot (a.slots r slot e);
-      mappings = a.mappings ∙ ap (λ (ps : List Pin). mappings_in x.id.0 ps) (sym (exchanged-live h x.id gref looked change));
-      maps_answered = a.maps_answered ∙ sym (exchanged-maps h x.id gref looked change x.id.0);
-      frames = λ f below. a.frames f below ∙ ap (λ (l : List ℕ). Some l) (sym (kept-contents i h x.id.0 f));
+      mappings = mappings-same x.mappings _ _ _ _ (ap (λ (ps : List Pin). mappings_in x.id.0 ps) (sym (exchanged-live h x.id gref looked change))) (sym (exchanged-maps h x.id gref looked change x.id.0)) a.mappings;
+      frames = frames-stay s i h x.id x.frames (λ given u n old. refl) a.frames;
       call = subst (λ (u : Option Underway). CallAgrees s (i ∷ h) x.id None u) (sym now) tt;
+      given = given-none (i ∷ h) x.id.0 x.given now;
     }
 
 -- the states of the domains
@@ -214,7 +215,7 @@ exchange-each true s h d gref looked change dom (Some x) e within room a =
 exchange-each false s h d gref looked change dom None e within room a = a
 exchange-each false s h d gref looked change dom (Some x) e within room a =
     let apart : (d.0 == x.id.0) ≡ false = ap (λ (z : DomId). d.0 == z.0) a.1 ∙ e in
-    (a.0, a.1, other-agrees s (exchanged d gref looked change) h x x.slots apart a.2 a.2.room (λ r slot w. exchanged-slot h d gref looked change x.id.0 r slot (a.2.slots r slot w)))
+    (a.0, a.1, other-agrees s (exchanged d gref looked change) h x x.slots apart (λ given u n old. refl) a.2 a.2.room (λ r slot w. exchanged-slot h d gref looked change x.id.0 r slot (a.2.slots r slot w)))
 
 -- the entries: the one that the exchange changes, and the others
 hit-cases : (P : ℕ → ℕ → Option Change → Type 0) (d t g r : ℕ) (change : Change) → P t r None → P d g (Some change) → P t r (cond (d == t) (cond (g == r) (Some change) None) None)
@@ -347,6 +348,7 @@ exchange-stands s h xs d gref looked change st within safe fits room =
       tables = λ dom. subst FitsTable (sym (kept-table s (exchanged d gref looked change) h dom refl)) (st.tables dom);
       words = λ t r below. exchange-words s h xs d gref looked change t r st within fits room below;
       lawful = subst (All (IsLawful s)) (sym (exchanged-live h d gref looked change)) st.lawful;
+      filled = filled-stays s (exchanged d gref looked change) h xs (λ given u n old. refl) st;
       free = λ t r e. exchange-free s h xs d gref looked change t r st safe e;
       spelled = λ t r valid. exchange-spelled s h xs d gref looked change t r st safe valid;
     }
@@ -541,6 +543,9 @@ store-ends s h d seen (Promote gref) step e saw = cc
 store-ends s h d seen (Map dom gref flags) step e saw = cc
 store-ends s h d seen (Unmap handle) step e saw = cc
 store-ends s h d seen (Load handle off len) step e saw = cc
+store-ends s h d seen (Store handle off len) step e saw = cc
+store-ends s h d seen (Peek frame off len) step e saw = cc
+store-ends s h d seen (Poke frame off len) step e saw = cc
 store-ends s h d seen (SetVersion version) step e saw = cc
 store-ends s h d seen (SetupTable frames) step e saw = cc
 store-ends s h d seen (QuerySize dom) step e saw = cc
@@ -554,18 +559,25 @@ second-ends s h d seen (Promote gref) step e saw = cc
 second-ends s h d seen (Map dom gref flags) step e saw = cc
 second-ends s h d seen (Unmap handle) step e saw = cc
 second-ends s h d seen (Load handle off len) step e saw = cc
+second-ends s h d seen (Store handle off len) step e saw = cc
+second-ends s h d seen (Peek frame off len) step e saw = cc
+second-ends s h d seen (Poke frame off len) step e saw = cc
 second-ends s h d seen (SetVersion version) step e saw = cc
 second-ends s h d seen (SetupTable frames) step e saw = cc
 second-ends s h d seen (QuerySize dom) step e saw = cc
 second-ends s h d seen (GetVersion dom) step e saw = cc
 
-unpin-ends : (s : Setting) (h : History) (d : DomId) (seen : Seen) (m : Option Mapping) (step : Step) → unpin_of m ≡ Makes step → Ends s h d seen step
-unpin-ends s h d seen None step e saw = cc
-unpin-ends s h d seen (Some m) step e saw = subst (λ (z : Step). EndsBy s h d z seen) (makes-same _ _ e) tt
+unpin-ends : (s : Setting) (h : History) (d : DomId) (seen : Seen) (handle : Handle) (m : Option Mapping) (step : Step) → unpin_of handle m ≡ Makes step → Ends s h d seen step
+unpin-ends s h d seen handle None step e saw = cc
+unpin-ends s h d seen handle (Some m) step e saw = subst (λ (z : Step). EndsBy s h d z seen) (makes-same _ _ e) tt
 
 read-ends : (s : Setting) (h : History) (d : DomId) (seen : Seen) (m : Option Mapping) (off len : ℕ) (step : Step) → read_of m off len ≡ Makes step → Ends s h d seen step
 read-ends s h d seen None off len step e saw = cc
 read-ends s h d seen (Some m) off len step e saw = subst (λ (z : Step). EndsBy s h d z seen) (makes-same _ _ e) tt
+
+write-ends : (s : Setting) (h : History) (d : DomId) (seen : Seen) (m : Option Mapping) (off len : ℕ) (step : Step) → write_of m off len ≡ Makes step → Ends s h d seen step
+write-ends s h d seen None off len step e saw = cc
+write-ends s h d seen (Some m) off len step e saw = subst (λ (z : Step). EndsBy s h d z seen) (makes-same _ _ e) tt
 
 single-ends : (s : Setting) (h : History) (xs : List State) (d : DomId) (r : Asked) (seen : Seen) (step : Step) → CoreStands s h xs → begun (known_at s h d) d r ≡ None
     → HasStored h d r → FitsAsked r → single_at (known_at s h d) d r ≡ Makes step → Done Granted ≡ action_at (known_at s h d) d r (after_single d (own_gref r) seen) → Ends s h d seen step
@@ -576,8 +588,11 @@ single-ends s h xs d (Revoke gref) seen step st e stored fits act next =
 single-ends s h xs d (Demote gref) seen step st e stored fits act next = cc
 single-ends s h xs d (Promote gref) seen step st e stored fits act next = cc
 single-ends s h xs d (Map dom gref flags) seen step st e stored fits act next = cc
-single-ends s h xs d (Unmap handle) seen step st e stored fits act next = unpin-ends s h d seen _ step act
+single-ends s h xs d (Unmap handle) seen step st e stored fits act next = unpin-ends s h d seen handle _ step act
 single-ends s h xs d (Load handle off len) seen step st e stored fits act next = read-ends s h d seen _ off len step act
+single-ends s h xs d (Store handle off len) seen step st e stored fits act next = write-ends s h d seen _ off len step act
+single-ends s h xs d (Peek frame off len) seen step st e stored fits act next = subst (Ends s h d seen) (makes-same _ _ act) (λ saw. tt)
+single-ends s h xs d (Poke frame off len) seen step st e stored fits act next = subst (Ends s h d seen) (makes-same _ _ act) (λ saw. tt)
 single-ends s h xs d (SetVersion version) seen step st e stored fits act next = subst (Ends s h d seen) (makes-same _ _ act) (λ saw. tt)
 single-ends s h xs d (SetupTable frames) seen step st e stored fits act next = subst (Ends s h d seen) (makes-same _ _ act) (λ saw. tt)
 single-ends s h xs d (QuerySize dom) seen step st e stored fits act next = subst (Ends s h d seen) (makes-same _ _ act) (λ saw. tt)
@@ -596,6 +611,9 @@ change-ends s h xs d (Revoke gref) so_far more word seen step st e a comes act n
 change-ends s h xs d (Map dom gref flags) so_far more word seen step st e a comes act next = absurd comes
 change-ends s h xs d (Unmap handle) so_far more word seen step st e a comes act next = absurd comes
 change-ends s h xs d (Load handle off len) so_far more word seen step st e a comes act next = absurd comes
+change-ends s h xs d (Store handle off len) so_far more word seen step st e a comes act next = absurd comes
+change-ends s h xs d (Peek frame off len) so_far more word seen step st e a comes act next = absurd comes
+change-ends s h xs d (Poke frame off len) so_far more word seen step st e a comes act next = absurd comes
 change-ends s h xs d (SetVersion version) so_far more word seen step st e a comes act next = absurd comes
 change-ends s h xs d (SetupTable frames) so_far more word seen step st e a comes act next = absurd comes
 change-ends s h xs d (QuerySize dom) so_far more word seen step st e a comes act next = absurd comes
@@ -618,7 +636,7 @@ pub exchange-ends : (s : Setting) (h : History) (xs : List State) (d : DomId) (o
     → OpenAgrees s h d o c → Stepping s h d o c seen new (Done Granted) → o.step ≡ Exchange gref looked change → Exchanges s h d gref change seen
 exchange-ends s h xs d o c seen new gref looked change st oa p e =
     let k = known_at s h d in
-    let comes : Comes (expects k d c.request o.call.phase []) = comes-some _ _ oa.comes in
+    let comes : Comes (expects k d c.request o.call.phase []) = subst Comes (sym oa.comes) tt in
     let next : Done Granted ≡ action_at k d c.request (phase_after k d c.request o.call.phase seen) = p.is_next ∙ ap (action_at k d c.request) p.stands in
     subst (λ (z : Step). EndsBy s h d z seen) e (phase-ends s h xs d c.request (reverse c.steps) o.call.phase seen o.step st p.none oa.place oa.fits comes p.act next p.sees)
 

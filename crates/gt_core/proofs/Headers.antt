@@ -1,40 +1,36 @@
 -- A header that its owner stores.
-use Rattle.std.proofs.Common.{◌≡◌, ◌≢◌, ◌<◌, ◌≤◌, ◌+◌, ◌*◌, ◌/◌, ◌%◌, ℕ, refl, Bool, true, false, List, [], ◌∷◌, Option, Some, None, cond, sym, ap, ◌∙◌, arith, subst}
+use Rattle.std.proofs.Common.{◌≡◌, ◌<◌, ◌≤◌, ◌+◌, ◌%◌, ℕ, refl, Bool, true, false, List, [], ◌∷◌, Option, Some, None, cond, sym, ap, ◌∙◌, arith, subst}
+use Rattle.gt_core.proofs.Mappings.{mappings-same}
 use Rattle.std.proofs.lemmas.Bool.{eqb-true, eq-eqb, ltb-false, true≢false}
 use Rattle.std.proofs.Math.Nat.{mod-eq_of_lt}
-use Rattle.std.proofs.lemmas.Option.{none-some}
-use Rattle.std.specs.Prelude.{nat_lt, nat_le, ◌==◌, ◌||◌, not, All, count_by, slice_get}
+use Rattle.std.specs.Prelude.{nat_lt, nat_le, ◌==◌, ◌||◌, not, All, count_by}
 use Rattle.std.specs.Option.{option_map}
 use mathlib.Core.Path.{fun_ext}
 use Rattle.gt_types.specs.Denial.{denial_of}
-use Rattle.gt_types.specs.Names.{setup}
 use Rattle.gt_types.specs.declared.DomId.{DomId}
 use Rattle.gt_types.specs.declared.Dir.TheVariants.{Read, Write}
-use Rattle.gt_types.specs.declared.TypeId.{TypeId}
-use Rattle.gt_types.specs.declared.perms.Perms.{Perms}
 use Rattle.gt_types.specs.declared.denial.Rule.{Rule}
-use Rattle.gt_types.specs.declared.denial.Rule.TheVariants.{N2, N5, N23, N24}
-use Rattle.gt_types.specs.declared.denial.Facts.TheVariants.{None as NoFacts, Policy}
+use Rattle.gt_types.specs.declared.denial.Rule.TheVariants.{N2, N23}
+use Rattle.gt_types.specs.declared.denial.Facts.TheVariants.{None as NoFacts}
 use Rattle.gt_entry.specs.declared.entry.Entry.{Entry}
-use Rattle.gt_entry.specs.declared.entry.Entry.TheVariants.{Invalid}
 use Rattle.gt_entry.specs.declared.header.Header.{Header}
-use Rattle.gt_core.specs.declared.action.Verdict.{Verdict}
-use Rattle.gt_core.specs.declared.action.Verdict.TheVariants.{Granted, Refused}
-use Rattle.gt_core.specs.declared.action.Step.TheVariants.{StoreHeader}
-use Rattle.gt_core.specs.declared.action.Seen.TheVariants.{Nothing}
+use Rattle.gt_calls.specs.declared.action.Verdict.{Verdict}
+use Rattle.gt_calls.specs.declared.action.Verdict.TheVariants.{Granted, Refused}
+use Rattle.gt_calls.specs.declared.action.Step.TheVariants.{StoreHeader}
+use Rattle.gt_calls.specs.declared.action.Seen.TheVariants.{Nothing}
 use Rattle.gt_core.specs.declared.slot.Slot.{Slot}
 use Rattle.gt_core.specs.declared.trace.Item.{Item}
 use Rattle.gt_core.specs.declared.trace.Happened.TheVariants.{Stepped}
 use Rattle.gt_core.specs.declared.trace.Answer.{Answer}
-use Rattle.gt_core.specs.Rules.{first, refused_when, granted_when, denied, is_version, has_valid, version_begun, size_of, control_with}
+use Rattle.gt_calls.specs.Rules.{first, refused_when, granted_when, is_version, version_begun, control_with}
 use Rattle.gt_core.specs.States.{State, state_of, changed_in}
 use Rattle.gt_core.specs.Effects.{with_header, with_underway}
-use Rattle.gt_core.specs.History.{History, Setting, Pin, entry_at, generation_at, body_at, or_else, header_stored, header_or, table_at, control_at, live, reads_at, writes_at, is_pin_on, mappings_in, one_if_mapped, open_call, Underway}
+use Rattle.gt_core.specs.History.{History, Setting, Pin, entry_at, generation_at, body_at, or_else, header_or, table_at, control_at, reads_at, writes_at, is_pin_on, mappings_in, one_if_mapped, open_call, Underway}
 use Rattle.gt_core.specs.Legal.{IsSpelled}
 use Rattle.gt_core.specs.Standing.{IsLawful, FitsTable, FitsWord, SlotAgrees, Agrees, StateAgrees, CoreStands, CallAgrees}
-use Rattle.gt_core.proofs.Quiet.{KeepsKnown, kept-entry, kept-raises, kept-live, kept-maps_answered, kept-generations, kept-contents}
-use Rattle.gt_core.proofs.Beginning.{open_call-own}
-use Rattle.gt_core.proofs.Others.{other-agrees, other-body, other-table}
+use Rattle.gt_core.proofs.Quiet.{KeepsKnown, kept-entry, kept-raises, kept-live, kept-maps_answered, kept-generations}
+use Rattle.gt_core.proofs.Beginning.{open_call-own, frames-stay, filled-stays, given-none}
+use Rattle.gt_core.proofs.Others.{other-agrees, other-table}
 use Rattle.gt_core.proofs.Rows.{state-changed}
 
 -- the item of a header that is stored
@@ -93,10 +89,10 @@ headed-agrees s h x version frames answer m fits a =
       generations = a.generations ∙ sym (kept-generations s i h x.id.0 k);
       room = a.room;
       slots = λ r slot e. headed-slot h x.id version frames (Some answer) x.id.0 r slot k (a.slots r slot e);
-      mappings = a.mappings ∙ ap (λ (ps : List Pin). mappings_in x.id.0 ps) (sym (kept-live i h k));
-      maps_answered = a.maps_answered ∙ sym (kept-maps_answered i h x.id.0 k);
-      frames = λ f below. a.frames f below ∙ ap (λ (l : List ℕ). Some l) (sym (kept-contents i h x.id.0 f));
+      mappings = mappings-same x.mappings _ _ _ _ (ap (λ (ps : List Pin). mappings_in x.id.0 ps) (sym (kept-live i h k))) (sym (kept-maps_answered i h x.id.0 k)) a.mappings;
+      frames = frames-stay s i h x.id x.frames (λ given u n old. refl) a.frames;
       call = subst (λ (u : Option Underway). CallAgrees s (i ∷ h) x.id None u) (sym now) tt;
+      given = given-none (i ∷ h) x.id.0 x.given now;
     }
   where
     own : (n : ℕ) → (n == n) ≡ true
@@ -116,6 +112,7 @@ header-stands s h xs x version frames answer st here a m fits =
       tables = λ dom. headed-fits s h x.id version frames (Some answer) dom (x.id.0 == dom.0) refl fits (st.tables dom);
       words = λ t r within. subst FitsWord (sym (control t r)) (st.words t r within);
       lawful = subst (All (IsLawful s)) (sym (kept-live i h k)) st.lawful;
+      filled = filled-stays s i h xs (λ given u n old. refl) st;
       free = λ t r e. let was = st.free t r (sym (kept-entry i h t r k) ∙ e) in
           (ap (λ (ps : List Pin). count_by (is_pin_on t r Read) ps) (kept-live i h k) ∙ was.0, ap (λ (ps : List Pin). count_by (is_pin_on t r Write) ps) (kept-live i h k) ∙ was.1);
       spelled = λ t r valid. spelled t r (st.spelled t r (λ e. valid (kept-entry i h t r k ∙ e)));
@@ -143,7 +140,7 @@ header-stands s h xs x version frames answer st here a m fits =
     other dom None apart b = b
     other dom (Some y) apart b =
         let away : (x.id.0 == y.id.0) ≡ false = ap (λ (z : DomId). x.id.0 == z.0) b.1 ∙ apart in
-        (b.0, b.1, other-agrees s i h y y.slots away b.2 b.2.room (λ r slot e. headed-slot h x.id version frames (Some answer) y.id.0 r slot k (b.2.slots r slot e)))
+        (b.0, b.1, other-agrees s i h y y.slots away (λ given u n old. refl) b.2 b.2.room (λ r slot e. headed-slot h x.id version frames (Some answer) y.id.0 r slot k (b.2.slots r slot e)))
 
     by : (dom : DomId) (b : Bool) → (x.id.0 == dom.0) ≡ b → StateAgrees s (i ∷ h) dom (cond b (option_map (with_header version frames) (option_map (with_underway None) (state_of xs dom.0))) (state_of xs dom.0))
     by dom true own =

@@ -1,13 +1,11 @@
-pub mod Legs
-pub mod Calls
 pub mod Places
 pub mod Fitting
 pub mod Rows
 pub mod Settling
+pub mod Mappings
 pub mod Quiet
-pub mod Numbers
-pub mod Saying
 pub mod Beginning
+pub mod Accessing
 pub mod Still
 pub mod Seeing
 pub mod FirstRules
@@ -18,10 +16,10 @@ pub mod Ticking
 pub mod Others
 pub mod Turning
 pub mod Exchanging
-pub mod Validity
 pub mod Headers
 pub mod Unpinning
 pub mod Pinning
+pub mod Writing
 pub mod Starting
 pub mod Ending
 pub mod Showing

@@ -1,29 +1,30 @@
 -- What an item leaves of the other domains.
 use Rattle.std.proofs.Common.{◌≡◌, ◌+◌, ℕ, refl, Bool, true, false, List, [], ◌∷◌, ◌++◌, length, Option, Some, None, cond, sym, ap, ◌∙◌, arith}
-use Rattle.std.specs.Prelude.{nat_lt, ◌==◌, ◌&&◌, slice_get}
+use Rattle.gt_core.proofs.Mappings.{mappings-same}
+use Rattle.gt_handles.specs.declared.handles.Handle.{Handle}
+use Rattle.std.specs.Prelude.{◌==◌, ◌&&◌, slice_get}
 use Rattle.gt_types.specs.declared.DomId.{DomId}
 use Rattle.gt_entry.specs.declared.entry.Entry.{Entry}
 use Rattle.gt_entry.specs.declared.header.Header.{Header}
-use Rattle.gt_core.specs.declared.request.Holder.{Holder}
-use Rattle.gt_core.specs.declared.request.Holder.TheVariants.{Mapping as ByMapping, Leg as ByLeg}
-use Rattle.gt_core.specs.declared.action.Change.{Change}
-use Rattle.gt_core.specs.declared.action.Step.TheVariants.{LookHeader, LookControl, LookBody, Pin as PinStep, Unpin, StoreBody, StoreHeader, Exchange, Read as ReadBytes}
-use Rattle.gt_core.specs.declared.action.Seen.TheVariants.{Nothing, Value, Taken, Missed}
-use Rattle.gt_core.specs.declared.known.Mapping.{Mapping}
+use Rattle.gt_calls.specs.declared.request.Holder.{Holder}
+use Rattle.gt_calls.specs.declared.request.Holder.TheVariants.{Mapping as ByMapping, Leg as ByLeg}
+use Rattle.gt_calls.specs.declared.action.Change.{Change}
+use Rattle.gt_calls.specs.declared.action.Step.TheVariants.{LookHeader, LookControl, LookBody, Pin as PinStep, Unpin, StoreBody, StoreHeader, Exchange, Read as ReadBytes, Write as WriteBytes}
+use Rattle.gt_calls.specs.declared.action.Seen.TheVariants.{Nothing, Value, Taken, Missed}
+use Rattle.gt_calls.specs.declared.known.Mapping.{Mapping}
 use Rattle.gt_core.specs.declared.slot.Slot.{Slot}
 use Rattle.gt_core.specs.declared.trace.Item.{Item}
 use Rattle.gt_core.specs.declared.trace.Happened.TheVariants.{Began, Stepped}
 use Rattle.gt_core.specs.declared.trace.Answer.{Answer}
 use Rattle.gt_core.specs.States.{State}
-use Rattle.gt_core.specs.History.{History, Setting, Pin, live, entry_at, raises_at, generation_at, body_at, header_stored, header_or, table_at, mappings_at, mappings_in, maps_answered_at, known_at, without, is_holder, frame_of}
+use Rattle.gt_core.specs.History.{History, Setting, Pin, live, entry_at, raises_at, generation_at, body_at, header_stored, header_or, table_at, mappings_at, mappings_in, maps_answered_at, known_at, without, is_holder, frame_of, mapping_of}
 use Rattle.gt_core.specs.Standing.{SlotAgrees, Agrees}
 use mathlib.Core.Path.{fun_ext}
 use Rattle.std.proofs.lemmas.Bool.{eqb-true, false≢true}
 use Rattle.std.proofs.lemmas.List.{append-nil, append_assoc}
-use Rattle.std.specs.Prelude.{if◌then◌else◌}
 use Rattle.gt_core.specs.declared.trace.Happened.{Happened}
-use Rattle.gt_core.proofs.Quiet.{kept-contents}
-use Rattle.gt_core.proofs.Beginning.{call-of-other}
+use Rattle.gt_core.proofs.Quiet.{WritesNone}
+use Rattle.gt_core.proofs.Beginning.{frames-stay, given-other, call-of-other}
 use Rattle.gt_core.specs.History.{change_at, entry_after, raise_after, or_else, stored_at, pinned_by, unpinned_by, one_if_mapped, mapping_on}
 
 none-of : {A : Type 0} (b : Bool) (o : Option A) → b ≡ false → ◌≡◌ {A = Option A} (cond b o None) None
@@ -53,20 +54,20 @@ other-maps i h d apart = zero-of (i.actor.0 == d) (one_if_mapped i.answer) (maps
 pub mappings-append : (d : ℕ) (ps qs : List Pin) → mappings_in d (ps ++ qs) ≡ mappings_in d ps ++ mappings_in d qs
 unfolding mappings_in
 mappings-append d [] qs = refl
-mappings-append d (p ∷ ps) qs = ap (λ (l : List Mapping). mapping_on d p p.holder ++ l) (mappings-append d ps qs) ∙ sym (append_assoc (mapping_on d p p.holder) (mappings_in d ps) (mappings_in d qs))
+mappings-append d (p ∷ ps) qs = ap (λ (l : List (Handle × Mapping)). mapping_on d p p.holder ++ l) (mappings-append d ps qs) ∙ sym (append_assoc (mapping_on d p p.holder) (mappings_in d ps) (mappings_in d qs))
 
 -- another domain's pin holds no mapping of this one
 pub mapping-apart : (d : ℕ) (p : Pin) (holder : Holder) → (p.actor == d) ≡ false → mapping_on d p holder ≡ []
 mapping-apart d p (ByMapping handle) apart = by (p.actor == d) apart
   where
-    by : (b : Bool) → b ≡ false → cond {A = List Mapping} b (record { handle = handle; dom = p.dom; gref = record { 0 = p.gref }; dir = p.dir; frame = frame_of p.entry } ∷ []) [] ≡ []
+    by : (b : Bool) → b ≡ false → cond {A = List (Handle × Mapping)} b ((handle, record { dom = p.dom; gref = record { 0 = p.gref }; dir = p.dir; frame = frame_of p.entry }) ∷ []) [] ≡ []
     by true e = absurd (false≢true (sym e))
     by false e = refl
 mapping-apart d p (ByLeg number) apart = refl
 
 one-apart : (d : ℕ) (p : Pin) → (p.actor == d) ≡ false → mappings_in d (p ∷ []) ≡ []
 unfolding mappings_in
-one-apart d p apart = ap (λ (l : List Mapping). l ++ []) (mapping-apart d p p.holder apart)
+one-apart d p apart = ap (λ (l : List (Handle × Mapping)). l ++ []) (mapping-apart d p p.holder apart)
 
 no-mappings : (d : ℕ) → mappings_in d [] ≡ []
 unfolding mappings_in
@@ -85,6 +86,7 @@ pinned-apart d actor (Stepped (StoreBody gref second word) seen) answer before a
 pinned-apart d actor (Stepped (StoreHeader version frames) seen) answer before apart = no-mappings d
 pinned-apart d actor (Stepped (Exchange gref looked change) seen) answer before apart = no-mappings d
 pinned-apart d actor (Stepped (ReadBytes dom frame off len) seen) answer before apart = no-mappings d
+pinned-apart d actor (Stepped (WriteBytes dom frame off len) seen) answer before apart = no-mappings d
 pinned-apart d actor (Began request) answer before apart = no-mappings d
 
 -- a pin that another domain gives back
@@ -96,9 +98,9 @@ without-apart d actor holder (p ∷ ps) apart = by (p.actor == actor) (is_holder
     by : (b e : Bool) → (p.actor == actor) ≡ b → mappings_in d (without actor holder ps) ≡ mappings_in d ps
         → mappings_in d (cond (b && e) ps (p ∷ without actor holder ps)) ≡ mappings_in d (p ∷ ps)
     by true true own rest =
-        sym (ap (λ (l : List Mapping). l ++ mappings_in d ps) (mapping-apart d p p.holder (ap (λ (n : ℕ). n == d) (eqb-true p.actor actor own) ∙ apart)))
-    by true false own rest = ap (λ (l : List Mapping). mapping_on d p p.holder ++ l) rest
-    by false e own rest = ap (λ (l : List Mapping). mapping_on d p p.holder ++ l) rest
+        sym (ap (λ (l : List (Handle × Mapping)). l ++ mappings_in d ps) (mapping-apart d p p.holder (ap (λ (n : ℕ). n == d) (eqb-true p.actor actor own) ∙ apart)))
+    by true false own rest = ap (λ (l : List (Handle × Mapping)). mapping_on d p p.holder ++ l) rest
+    by false e own rest = ap (λ (l : List (Handle × Mapping)). mapping_on d p p.holder ++ l) rest
 
 unpinned-apart : (d : ℕ) (actor : DomId) (happened : Happened) (ps : List Pin) → (actor.0 == d) ≡ false → mappings_in d (unpinned_by actor happened ps) ≡ mappings_in d ps
 unpinned-apart d actor (Stepped (Unpin dom gref dir holder) seen) ps apart = without-apart d actor.0 holder ps apart
@@ -110,13 +112,14 @@ unpinned-apart d actor (Stepped (StoreBody gref second word) seen) ps apart = re
 unpinned-apart d actor (Stepped (StoreHeader version frames) seen) ps apart = refl
 unpinned-apart d actor (Stepped (Exchange gref looked change) seen) ps apart = refl
 unpinned-apart d actor (Stepped (ReadBytes dom frame off len) seen) ps apart = refl
+unpinned-apart d actor (Stepped (WriteBytes dom frame off len) seen) ps apart = refl
 unpinned-apart d actor (Began request) ps apart = refl
 
 pub other-mappings : (i : Item) (h : History) (d : ℕ) → (i.actor.0 == d) ≡ false → mappings_in d (live (i ∷ h)) ≡ mappings_in d (live h)
 unfolding live
 other-mappings i h d apart =
     mappings-append d (unpinned_by i.actor i.happened (live h)) (pinned_by i.actor i.happened i.answer h)
-    ∙ ap (λ (l : List Mapping). mappings_in d (unpinned_by i.actor i.happened (live h)) ++ l) (pinned-apart d i.actor i.happened i.answer h apart)
+    ∙ ap (λ (l : List (Handle × Mapping)). mappings_in d (unpinned_by i.actor i.happened (live h)) ++ l) (pinned-apart d i.actor i.happened i.answer h apart)
     ∙ append-nil (mappings_in d (unpinned_by i.actor i.happened (live h)))
     ∙ unpinned-apart d i.actor i.happened (live h) apart
 
@@ -131,22 +134,22 @@ other-table s i h d apart = ap (λ (o : Option Header). header_or o (table_at s 
 -- no domain but the actor knows another thing by itself
 pub other-known : (s : Setting) (i : Item) (h : History) (d : DomId) → (i.actor.0 == d.0) ≡ false → known_at s (i ∷ h) d ≡ known_at s h d
 other-known s i h d apart =
-    ap (λ (f : ℕ → Entry). record { domains = s.domains; may = s.may; entry = f; generation = λ r. generation_at s (i ∷ h) d.0 r; header = table_at s (i ∷ h) d; mappings = mappings_at (i ∷ h) d.0; maps_answered = maps_answered_at (i ∷ h) d.0 })
+    ap (λ (f : ℕ → Entry). record { domains = s.domains; may = s.may; entry = f; generation = λ r. generation_at s (i ∷ h) d.0 r; header = table_at s (i ∷ h) d; mapping = mapping_of (mappings_at (i ∷ h) d.0); in_use = length (mappings_at (i ∷ h) d.0); maps_answered = maps_answered_at (i ∷ h) d.0 })
     (fun_ext (λ r. other-entry i h d.0 r apart))
-    ∙ ap (λ (f : ℕ → ℕ). record { domains = s.domains; may = s.may; entry = λ r. entry_at h d.0 r; generation = f; header = table_at s (i ∷ h) d; mappings = mappings_at (i ∷ h) d.0; maps_answered = maps_answered_at (i ∷ h) d.0 })
+    ∙ ap (λ (f : ℕ → ℕ). record { domains = s.domains; may = s.may; entry = λ r. entry_at h d.0 r; generation = f; header = table_at s (i ∷ h) d; mapping = mapping_of (mappings_at (i ∷ h) d.0); in_use = length (mappings_at (i ∷ h) d.0); maps_answered = maps_answered_at (i ∷ h) d.0 })
     (other-generations s i h d.0 apart)
-    ∙ ap (λ (x : Header). record { domains = s.domains; may = s.may; entry = λ r. entry_at h d.0 r; generation = λ r. generation_at s h d.0 r; header = x; mappings = mappings_at (i ∷ h) d.0; maps_answered = maps_answered_at (i ∷ h) d.0 })
+    ∙ ap (λ (x : Header). record { domains = s.domains; may = s.may; entry = λ r. entry_at h d.0 r; generation = λ r. generation_at s h d.0 r; header = x; mapping = mapping_of (mappings_at (i ∷ h) d.0); in_use = length (mappings_at (i ∷ h) d.0); maps_answered = maps_answered_at (i ∷ h) d.0 })
     (other-table s i h d apart)
-    ∙ ap (λ (l : List Mapping). record { domains = s.domains; may = s.may; entry = λ r. entry_at h d.0 r; generation = λ r. generation_at s h d.0 r; header = table_at s h d; mappings = l; maps_answered = maps_answered_at (i ∷ h) d.0 })
+    ∙ ap (λ (l : List (Handle × Mapping)). record { domains = s.domains; may = s.may; entry = λ r. entry_at h d.0 r; generation = λ r. generation_at s h d.0 r; header = table_at s h d; mapping = mapping_of (l); in_use = length (l); maps_answered = maps_answered_at (i ∷ h) d.0 })
     (other-mappings i h d.0 apart)
-    ∙ ap (λ (n : ℕ). record { domains = s.domains; may = s.may; entry = λ r. entry_at h d.0 r; generation = λ r. generation_at s h d.0 r; header = table_at s h d; mappings = mappings_at h d.0; maps_answered = n })
+    ∙ ap (λ (n : ℕ). record { domains = s.domains; may = s.may; entry = λ r. entry_at h d.0 r; generation = λ r. generation_at s h d.0 r; header = table_at s h d; mapping = mapping_of (mappings_at h d.0); in_use = length (mappings_at h d.0); maps_answered = n })
     (other-maps i h d.0 apart)
 
 -- a domain that doesn't act: its pins and body words may have changed, its call stands where it stood
-pub other-agrees : (s : Setting) (i : Item) (h : History) (x : State) (slots : List Slot) → (i.actor.0 == x.id.0) ≡ false → Agrees s h x
+pub other-agrees : (s : Setting) (i : Item) (h : History) (x : State) (slots : List Slot) → (i.actor.0 == x.id.0) ≡ false → WritesNone i → Agrees s h x
     → length slots ≡ 2048 → ((r : ℕ) (slot : Slot) → slice_get slots r ≡ Some slot → SlotAgrees (i ∷ h) x.id.0 r slot)
     → Agrees s (i ∷ h) (record x { slots = slots })
-other-agrees s i h x slots apart a len agree =
+other-agrees s i h x slots apart none a len agree =
     record {
       header = a.header ∙ sym (other-table s i h x.id apart);
       rows = a.rows;
@@ -154,8 +157,8 @@ other-agrees s i h x slots apart a len agree =
       generations = a.generations ∙ sym (other-generations s i h x.id.0 apart);
       room = len;
       slots = agree;
-      mappings = a.mappings ∙ sym (other-mappings i h x.id.0 apart);
-      maps_answered = a.maps_answered ∙ sym (other-maps i h x.id.0 apart);
-      frames = λ f below. a.frames f below ∙ ap (λ (l : List ℕ). Some l) (sym (kept-contents i h x.id.0 f));
+      mappings = mappings-same x.mappings _ _ _ _ (sym (other-mappings i h x.id.0 apart)) (sym (other-maps i h x.id.0 apart)) a.mappings;
+      frames = frames-stay s i h x.id x.frames none a.frames;
+      given = given-other i h x.id.0 x.given apart a.given;
       call = call-of-other s i h x.id x.underway (other-known s i h x.id apart) (λ r which. other-body i h x.id.0 r which apart) apart a.call;
     }

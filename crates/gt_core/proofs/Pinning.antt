@@ -1,16 +1,16 @@
 -- A pin that was taken for a map keeps what a core stands for.
-use Rattle.std.proofs.Common.{◌≡◌, ◌≢◌, ◌<◌, ◌+◌, ◌-◌, ◌^◌, ℕ, refl, Bool, true, false, List, [], ◌∷◌, ◌++◌, Option, Some, None, cond, sym, ap, ◌∙◌, arith, subst}
+use Rattle.std.proofs.Common.{◌≡◌, ◌≢◌, ◌<◌, ◌+◌, ℕ, refl, Bool, true, false, List, [], ◌∷◌, ◌++◌, Option, Some, None, cond, sym, ap, ◌∙◌, arith, subst}
 use Rattle.std.specs.Prelude.{◌==◌, ◌&&◌, All, count_by, min}
 use Rattle.gt_types.specs.declared.DomId.{DomId}
 use Rattle.gt_types.specs.declared.GrantRef.{GrantRef}
 use Rattle.gt_types.specs.declared.Dir.{Dir}
 use Rattle.gt_types.specs.declared.Dir.TheVariants.{Read, Write}
 use Rattle.gt_entry.specs.declared.entry.Entry.TheVariants.{Invalid}
-use Rattle.gt_core.specs.declared.request.Handle.{Handle}
-use Rattle.gt_core.specs.declared.request.Holder.TheVariants.{Mapping as ByMapping}
-use Rattle.gt_core.specs.declared.action.Step.TheVariants.{Pin as PinStep}
-use Rattle.gt_core.specs.declared.action.Seen.TheVariants.{Taken}
-use Rattle.gt_core.specs.declared.known.Mapping.{Mapping}
+use Rattle.gt_handles.specs.declared.handles.Handle.{Handle}
+use Rattle.gt_calls.specs.declared.request.Holder.TheVariants.{Mapping as ByMapping}
+use Rattle.gt_calls.specs.declared.action.Step.TheVariants.{Pin as PinStep}
+use Rattle.gt_calls.specs.declared.action.Seen.TheVariants.{Taken}
+use Rattle.gt_calls.specs.declared.known.Mapping.{Mapping}
 use Rattle.gt_core.specs.declared.slot.Slot.{Slot}
 use Rattle.gt_core.specs.declared.slot.SlotChange.TheVariants.{Pinned}
 use Rattle.gt_core.specs.declared.trace.Item.{Item}
@@ -25,8 +25,12 @@ use Rattle.std.proofs.lemmas.Bool.{eqb-true, eq-eqb, and_parts, and_from, false�
 use Rattle.std.proofs.lemmas.List.{append-nil, append_assoc}
 use Rattle.std.proofs.lemmas.List.Sums.{sum_by_push}
 use Rattle.std.proofs.lemmas.List.Elements.{All-push}
+use Rattle.gt_handles.specs.Handles.{Kept}
+use Rattle.gt_core.specs.Effects.{Adds}
+use Rattle.std.proofs.lemmas.Option.{same_Some}
+use Rattle.gt_core.proofs.Mappings.{mappings-added, mappings-same}
 use Rattle.gt_core.specs.Rows.{changed_at}
-use Rattle.gt_core.proofs.Beginning.{open_call-own}
+use Rattle.gt_core.proofs.Beginning.{filled-stays, open_call-own}
 use Rattle.gt_core.proofs.Others.{other-agrees}
 use Rattle.gt_core.proofs.Unpinning.{KeepsEntries, same-entry, same-body, same-spelled, actor-agrees, SlotsAgree, slots-agree, length-slots, counts-fit, word-fits, after_change, state-twice}
 
@@ -128,7 +132,7 @@ mappings-push : (d : ℕ) (ps : List Pin) (p : Pin) → mappings_in d (ps ++ p �
 unfolding mappings_in
 mappings-push d [] p = append-nil (mapping_on d p p.holder)
 mappings-push d (x ∷ ps) p =
-    ap (λ (l : List Mapping). mapping_on d x x.holder ++ l) (mappings-push d ps p)
+    ap (λ (l : List (Handle × Mapping)). mapping_on d x x.holder ++ l) (mappings-push d ps p)
     ∙ sym (append_assoc (mapping_on d x x.holder) (mappings_in d ps) (mapping_on d p p.holder))
 
 -- counts and words
@@ -147,54 +151,52 @@ not-there h p t r k valid none e =
     let at = place-of p t r k e in
     valid (ap (λ (n : ℕ). entry_at h n p.gref) at.on_dom ∙ ap (λ (n : ℕ). entry_at h t n) at.on_gref ∙ none)
 
-answered-up : (b : Bool) (bound n was : ℕ) → b ≡ true → n ≡ was → was < bound → min (n + 1) bound ≡ cond b 1 0 + was
-answered-up true bound n was p e f = omega arith
-answered-up false bound n was p e f = absurd (false≢true p)
+answered-up : (b : Bool) (was : ℕ) → b ≡ true → was + 1 ≡ cond b 1 0 + was
+answered-up true was p = omega arith
+answered-up false was p = absurd (false≢true p)
 
 -- the item of a pin for a map
 
-abbrev pins : DomId → DomId → GrantRef → ℕ → Dir → Handle → Item
+abbrev pub pins : DomId → DomId → GrantRef → ℕ → Dir → Handle → Item
 pins d t gref looked dir handle = record { actor = d; happened = Stepped (PinStep t gref looked dir) Taken; answer = Some (Mapped handle) }
 
-abbrev mapping_made : DomId → GrantRef → Dir → Handle → ℕ → Mapping
-mapping_made t gref dir handle frame = record { handle = handle; dom = t; gref = gref; dir = dir; frame = frame }
+abbrev pub mapping_made : DomId → GrantRef → Dir → ℕ → Mapping
+mapping_made t gref dir frame = record { dom = t; gref = gref; dir = dir; frame = frame }
 
 pins-keeps : (d t : DomId) (gref : GrantRef) (looked : ℕ) (dir : Dir) (handle : Handle) → KeepsEntries (pins d t gref looked dir handle)
-pins-keeps d t gref looked dir handle = record { changes = λ r. refl; stores = λ r which. refl; header = refl }
+pins-keeps d t gref looked dir handle = record { changes = λ r. refl; stores = λ r which. refl; header = refl; writes = λ given u n old. refl }
 
 pinned-live : (h : History) (d t : DomId) (gref : GrantRef) (looked : ℕ) (dir : Dir) (handle : Handle) → Grows h (pins d t gref looked dir handle) (new_pin h d t gref dir handle)
 unfolding live
 pinned-live h d t gref looked dir handle = refl
 
-pinned-mappings : (h : History) (d t : DomId) (gref : GrantRef) (looked : ℕ) (dir : Dir) (handle : Handle) (frame q : ℕ) (ms : List Mapping) → (d.0 == q) ≡ true → frame ≡ frame_of (entry_at h t.0 gref.0) → ms ≡ mappings_at h q
-    → ms ++ mapping_made t gref dir handle frame ∷ [] ≡ mappings_at (pins d t gref looked dir handle ∷ h) q
-pinned-mappings h d t gref looked dir handle frame q ms own shows same =
-    ap (λ (l : List Mapping). l ++ mapping_made t gref dir handle frame ∷ []) same
-    ∙ ap (λ (n : ℕ). mappings_at h q ++ mapping_made t gref dir handle n ∷ []) shows
-    ∙ sym (ap (λ (b : Bool). mappings_at h q ++ cond b (mapping_made t gref dir handle (frame_of (entry_at h t.0 gref.0)) ∷ []) []) own)
+pinned-mappings : (h : History) (d t : DomId) (gref : GrantRef) (looked : ℕ) (dir : Dir) (handle : Handle) (frame q : ℕ) → (d.0 == q) ≡ true → frame ≡ frame_of (entry_at h t.0 gref.0)
+    → mappings_at h q ++ (handle, mapping_made t gref dir frame) ∷ [] ≡ mappings_at (pins d t gref looked dir handle ∷ h) q
+pinned-mappings h d t gref looked dir handle frame q own shows =
+    ap (λ (n : ℕ). mappings_at h q ++ (handle, mapping_made t gref dir n) ∷ []) shows
+    ∙ sym (ap (λ (b : Bool). mappings_at h q ++ cond b ((handle, mapping_made t gref dir (frame_of (entry_at h t.0 gref.0))) ∷ []) []) own)
     ∙ sym (mappings-push q (live h) (new_pin h d t gref dir handle))
     ∙ ap (mappings_in q) (sym (pinned-live h d t gref looked dir handle))
 
-pinned-answered : (h : History) (d t : DomId) (gref : GrantRef) (looked : ℕ) (dir : Dir) (handle : Handle) (bound q n : ℕ) → (d.0 == q) ≡ true → n ≡ maps_answered_at h q → maps_answered_at h q < bound
-    → min (n + 1) bound ≡ maps_answered_at (pins d t gref looked dir handle ∷ h) q
+pinned-answered : (h : History) (d t : DomId) (gref : GrantRef) (looked : ℕ) (dir : Dir) (handle : Handle) (q : ℕ) → (d.0 == q) ≡ true → maps_answered_at h q + 1 ≡ maps_answered_at (pins d t gref looked dir handle ∷ h) q
 unfolding maps_answered_at
-pinned-answered h d t gref looked dir handle bound q n own same room = answered-up (d.0 == q) bound n (maps_answered_at h q) own same room
+pinned-answered h d t gref looked dir handle q own = answered-up (d.0 == q) (maps_answered_at h q) own
 
 -- the actor's state, and the others
 
-pinned-actor : (s : Setting) (h : History) (d t : DomId) (gref : GrantRef) (looked : ℕ) (dir : Dir) (handle : Handle) (frame bound : ℕ) (x : State) (c : Bool) → (t.0 == x.id.0) ≡ c → d.0 ≡ x.id.0
-    → frame ≡ frame_of (entry_at h t.0 gref.0) → maps_answered_at h d.0 < bound → IsFew h (new_pin h d t gref dir handle) → Agrees s h x
+pinned-actor : (s : Setting) (h : History) (d t : DomId) (gref : GrantRef) (looked : ℕ) (dir : Dir) (handle : Handle) (frame : ℕ) (kept : Kept Mapping) (x : State) (c : Bool) → (t.0 == x.id.0) ≡ c → d.0 ≡ x.id.0 → Adds x.mappings kept handle (mapping_made t gref dir frame)
+    → frame ≡ frame_of (entry_at h t.0 gref.0) → IsFew h (new_pin h d t gref dir handle) → Agrees s h x
     → Agrees s (pins d t gref looked dir handle ∷ h)
-    (record x { slots = cond c (changed_at gref.0 (slot_after (Pinned dir)) x.slots) x.slots; mappings = x.mappings ++ mapping_made t gref dir handle frame ∷ []; maps_answered = min (x.maps_answered + 1) bound; underway = None })
-pinned-actor s h d t gref looked dir handle frame bound x c is own shows room few a =
+    (record x { slots = cond c (changed_at gref.0 (slot_after (Pinned dir)) x.slots) x.slots; mappings = kept; underway = None })
+pinned-actor s h d t gref looked dir handle frame kept x c is own adds shows few a =
     let i : Item = pins d t gref looked dir handle in
     let keeps = pins-keeps d t gref looked dir handle in
     let me : (d.0 == x.id.0) ≡ true = eq-eqb d.0 x.id.0 own in
-    actor-agrees s i h x (cond c (changed_at gref.0 (slot_after (Pinned dir)) x.slots) x.slots) (x.mappings ++ mapping_made t gref dir handle frame ∷ []) (min (x.maps_answered + 1) bound) keeps a
+    actor-agrees s i h x (cond c (changed_at gref.0 (slot_after (Pinned dir)) x.slots) x.slots) kept keeps a
     (length-slots gref.0 (slot_after (Pinned dir)) x.slots c a.room)
     (pinned-slots h i (new_pin h d t gref dir handle) x.id.0 x.slots c keeps (pinned-live h d t gref looked dir handle) few is a.slots)
-    (pinned-mappings h d t gref looked dir handle frame x.id.0 x.mappings me shows a.mappings)
-    (pinned-answered h d t gref looked dir handle bound x.id.0 x.maps_answered me a.maps_answered (subst (λ (n : ℕ). maps_answered_at h n < bound) own room))
+    (mappings-same kept _ _ _ _ (pinned-mappings h d t gref looked dir handle frame x.id.0 me shows) (pinned-answered h d t gref looked dir handle x.id.0 me)
+    (mappings-added x.mappings kept handle (mapping_made t gref dir frame) (mappings_at h x.id.0) (maps_answered_at h x.id.0) adds a.mappings))
     (ap (λ (n : ℕ). open_call (i ∷ h) n) (sym own) ∙ open_call-own i h)
 
 pinned-other : (s : Setting) (h : History) (d t : DomId) (gref : GrantRef) (looked : ℕ) (dir : Dir) (handle : Handle) (x : State) (c : Bool) → (t.0 == x.id.0) ≡ c → (d.0 == x.id.0) ≡ false
@@ -202,47 +204,41 @@ pinned-other : (s : Setting) (h : History) (d t : DomId) (gref : GrantRef) (look
     → Agrees s (pins d t gref looked dir handle ∷ h) (record x { slots = cond c (changed_at gref.0 (slot_after (Pinned dir)) x.slots) x.slots })
 pinned-other s h d t gref looked dir handle x c is apart few a =
     let i : Item = pins d t gref looked dir handle in
-    other-agrees s i h x (cond c (changed_at gref.0 (slot_after (Pinned dir)) x.slots) x.slots) apart a
+    other-agrees s i h x (cond c (changed_at gref.0 (slot_after (Pinned dir)) x.slots) x.slots) apart (pins-keeps d t gref looked dir handle).writes a
     (length-slots gref.0 (slot_after (Pinned dir)) x.slots c a.room)
     (pinned-slots h i (new_pin h d t gref dir handle) x.id.0 x.slots c (pins-keeps d t gref looked dir handle) (pinned-live h d t gref looked dir handle) few is a.slots)
 
--- a new mapping, where so many maps can be answered
-abbrev mapped_within : ℕ → Mapping → State → State
-mapped_within bound m x = record x { mappings = x.mappings ++ m ∷ []; maps_answered = min (x.maps_answered + 1) bound; underway = None }
-
-pinned-state : (s : Setting) (h : History) (d t : DomId) (gref : GrantRef) (looked : ℕ) (dir : Dir) (handle : Handle) (frame bound : ℕ) (q : DomId) (b c : Bool) (o : Option State) → (d.0 == q.0) ≡ b → (t.0 == q.0) ≡ c
-    → frame ≡ frame_of (entry_at h t.0 gref.0) → maps_answered_at h d.0 < bound → IsFew h (new_pin h d t gref dir handle) → StateAgrees s h q o
-    → StateAgrees s (pins d t gref looked dir handle ∷ h) q (after_change c (with_slot gref.0 (Pinned dir)) (after_change b (mapped_within bound (mapping_made t gref dir handle frame)) o))
-pinned-state s h d t gref looked dir handle frame bound q true true None own is shows room few a = a
-pinned-state s h d t gref looked dir handle frame bound q true false None own is shows room few a = a
-pinned-state s h d t gref looked dir handle frame bound q false true None own is shows room few a = a
-pinned-state s h d t gref looked dir handle frame bound q false false None own is shows room few a = a
-pinned-state s h d t gref looked dir handle frame bound q true true (Some x) own is shows room few a =
-    (a.0, a.1, pinned-actor s h d t gref looked dir handle frame bound x true (ap (λ (z : DomId). t.0 == z.0) a.1 ∙ is) (eqb-true d.0 q.0 own ∙ ap (λ (z : DomId). z.0) (sym a.1)) shows room few a.2)
-pinned-state s h d t gref looked dir handle frame bound q true false (Some x) own is shows room few a =
-    (a.0, a.1, pinned-actor s h d t gref looked dir handle frame bound x false (ap (λ (z : DomId). t.0 == z.0) a.1 ∙ is) (eqb-true d.0 q.0 own ∙ ap (λ (z : DomId). z.0) (sym a.1)) shows room few a.2)
-pinned-state s h d t gref looked dir handle frame bound q false true (Some x) own is shows room few a =
+pinned-state : (s : Setting) (h : History) (d t : DomId) (gref : GrantRef) (looked : ℕ) (dir : Dir) (handle : Handle) (frame : ℕ) (kept : Kept Mapping) (q : DomId) (b c : Bool) (o : Option State) → (d.0 == q.0) ≡ b → (t.0 == q.0) ≡ c → (b ≡ true → (y : State) → o ≡ Some y → Adds y.mappings kept handle (mapping_made t gref dir frame))
+    → frame ≡ frame_of (entry_at h t.0 gref.0) → IsFew h (new_pin h d t gref dir handle) → StateAgrees s h q o
+    → StateAgrees s (pins d t gref looked dir handle ∷ h) q (after_change c (with_slot gref.0 (Pinned dir)) (after_change b (with_mapping kept) o))
+pinned-state s h d t gref looked dir handle frame kept q true true None own is adds shows few a = a
+pinned-state s h d t gref looked dir handle frame kept q true false None own is adds shows few a = a
+pinned-state s h d t gref looked dir handle frame kept q false true None own is adds shows few a = a
+pinned-state s h d t gref looked dir handle frame kept q false false None own is adds shows few a = a
+pinned-state s h d t gref looked dir handle frame kept q true true (Some x) own is adds shows few a =
+    (a.0, a.1, pinned-actor s h d t gref looked dir handle frame kept x true (ap (λ (z : DomId). t.0 == z.0) a.1 ∙ is) (eqb-true d.0 q.0 own ∙ ap (λ (z : DomId). z.0) (sym a.1)) (adds refl x refl) shows few a.2)
+pinned-state s h d t gref looked dir handle frame kept q true false (Some x) own is adds shows few a =
+    (a.0, a.1, pinned-actor s h d t gref looked dir handle frame kept x false (ap (λ (z : DomId). t.0 == z.0) a.1 ∙ is) (eqb-true d.0 q.0 own ∙ ap (λ (z : DomId). z.0) (sym a.1)) (adds refl x refl) shows few a.2)
+pinned-state s h d t gref looked dir handle frame kept q false true (Some x) own is adds shows few a =
     (a.0, a.1, pinned-other s h d t gref looked dir handle x true (ap (λ (z : DomId). t.0 == z.0) a.1 ∙ is) (ap (λ (z : DomId). d.0 == z.0) a.1 ∙ own) few a.2)
-pinned-state s h d t gref looked dir handle frame bound q false false (Some x) own is shows room few a =
+pinned-state s h d t gref looked dir handle frame kept q false false (Some x) own is adds shows few a =
     (a.0, a.1, pinned-other s h d t gref looked dir handle x false (ap (λ (z : DomId). t.0 == z.0) a.1 ∙ is) (ap (λ (z : DomId). d.0 == z.0) a.1 ∙ own) few a.2)
 
--- the states after the pin, where so many maps can be answered
-abbrev pinned_within : ℕ → DomId → DomId → GrantRef → Dir → Handle → ℕ → List State → List State
-pinned_within bound d t gref dir handle frame xs = changed_in t.0 (with_slot gref.0 (Pinned dir)) (changed_in d.0 (mapped_within bound (mapping_made t gref dir handle frame)) xs)
-
-pin-within : (bound : ℕ) (s : Setting) (h : History) (xs : List State) (d t : DomId) (gref : GrantRef) (looked : ℕ) (dir : Dir) (handle : Handle) (frame : ℕ) → CoreStands s h xs
+-- the domain's map is over with its pin
+pub pin-stands : (s : Setting) (h : History) (xs : List State) (d : DomId) (x : State) (t : DomId) (gref : GrantRef) (looked : ℕ) (dir : Dir) (handle : Handle) (frame : ℕ) (kept : Kept Mapping) → CoreStands s h xs
+    → state_of xs d.0 ≡ Some x → x.id ≡ d → Adds x.mappings kept handle (mapping_made t gref dir frame)
     → entry_at h t.0 gref.0 ≢ Invalid → frame ≡ frame_of (entry_at h t.0 gref.0)
-    → maps_answered_at h d.0 < bound → pins_at h t.0 gref.0 dir < 4095 → IsLawful s (new_pin h d t gref dir handle)
-    → CoreStands s (pins d t gref looked dir handle ∷ h) (pinned_within bound d t gref dir handle frame xs)
-pin-within bound s h xs d t gref looked dir handle frame st valid shows room few lawful =
+    → pins_at h t.0 gref.0 dir < 4095 → IsLawful s (new_pin h d t gref dir handle)
+    → CoreStands s (pins d t gref looked dir handle ∷ h) (changed_in t.0 (with_slot gref.0 (Pinned dir)) (changed_in d.0 (with_mapping kept) xs))
+pin-stands s h xs d x t gref looked dir handle frame kept st here same adds valid shows few lawful =
     let i : Item = pins d t gref looked dir handle in
     let p : Pin = new_pin h d t gref dir handle in
     let keeps = pins-keeps d t gref looked dir handle in
     let grows : Grows h i p = pinned-live h d t gref looked dir handle in
     record {
       each = λ q. subst (λ (o : Option State). StateAgrees s (i ∷ h) q o)
-          (sym (state-twice xs d.0 t.0 q.0 (mapped_within bound (mapping_made t gref dir handle frame)) (with_slot gref.0 (Pinned dir)) (λ y. refl) (λ y. refl)))
-          (pinned-state s h d t gref looked dir handle frame bound q (d.0 == q.0) (t.0 == q.0) (state_of xs q.0) refl refl shows room few (st.each q));
+          (sym (state-twice xs d.0 t.0 q.0 (with_mapping kept) (with_slot gref.0 (Pinned dir)) (λ y. refl) (λ y. refl)))
+          (pinned-state s h d t gref looked dir handle frame kept q (d.0 == q.0) (t.0 == q.0) (state_of xs q.0) refl refl (found-adds q) shows few (st.each q));
       tables = λ dom. subst FitsTable (sym (kept-table s i h dom refl)) (st.tables dom);
       words = λ u r within.
           let was = counts-fit s h u r (st.words u r within) in
@@ -257,13 +253,11 @@ pin-within bound s h xs d t gref looked dir handle frame st valid shows room few
             now-none (is_pin_on u r Read p) (reads_at (i ∷ h) u r) (reads_at h u r) was.0 (not-there h p u r Read valid none) (grown-count h i p u r Read grows),
             now-none (is_pin_on u r Write p) (writes_at (i ∷ h) u r) (writes_at h u r) was.1 (not-there h p u r Write valid none) (grown-count h i p u r Write grows),
           );
+      filled = filled-stays s i h xs keeps.writes st;
       spelled = λ u r there. same-spelled i h u r keeps (st.spelled u r) there;
     }
-
--- the domain's map is over with its pin
-pub pin-stands : (s : Setting) (h : History) (xs : List State) (d : DomId) (x : State) (t : DomId) (gref : GrantRef) (looked : ℕ) (dir : Dir) (handle : Handle) (frame : ℕ) → CoreStands s h xs
-    → state_of xs d.0 ≡ Some x → x.id ≡ d → gref.0 < 2048 → entry_at h t.0 gref.0 ≢ Invalid → frame ≡ frame_of (entry_at h t.0 gref.0)
-    → maps_answered_at h d.0 < 2 ^ 64 - 1 → pins_at h t.0 gref.0 dir < 4095 → IsLawful s (new_pin h d t gref dir handle)
-    → CoreStands s (record { actor = d; happened = Stepped (PinStep t gref looked dir) Taken; answer = Some (Mapped handle) } ∷ h)
-    (changed_in t.0 (with_slot gref.0 (Pinned dir)) (changed_in d.0 (with_mapping (record { handle = handle; dom = t; gref = gref; dir = dir; frame = frame })) xs))
-pin-stands s h xs d x t gref looked dir handle frame st here same within valid shows room few lawful = pin-within (2 ^ 64 - 1) s h xs d t gref looked dir handle frame st valid shows room few lawful
+  where
+    found-adds : (q : DomId) → (d.0 == q.0) ≡ true → (y : State) → state_of xs q.0 ≡ Some y → Adds y.mappings kept handle (mapping_made t gref dir frame)
+    found-adds q own y at =
+        let is : x ≡ y = same_Some x y (sym here ∙ ap (state_of xs) (eqb-true d.0 q.0 own) ∙ at) in
+        subst (λ (z : State). Adds z.mappings kept handle (mapping_made t gref dir frame)) is adds

@@ -1,19 +1,14 @@
 -- A change of one element of a list, and of the first state with a number.
-use Rattle.std.proofs.Common.{◌≡◌, ◌<◌, ◌≤◌, ◌+◌, ℕ, zero, suc, refl, Bool, true, false, List, [], ◌∷◌, ◌++◌, length, Option, Some, None, cond, ltb, sym, ap, ◌∙◌, arith, subst, get_or, set, take, drop}
+use Rattle.std.proofs.Common.{◌≡◌, ◌<◌, ◌≤◌, ◌+◌, ℕ, zero, suc, refl, Bool, true, false, List, [], ◌∷◌, length, map, Option, Some, None, cond, ltb, sym, ap, ◌∙◌, arith, get_or, set, take, drop, ◌++◌}
 use Rattle.std.proofs.lemmas.Bool.{eqb-true, ne_eqb, eq-eqb, false≢true, true≢false, ltb-false}
 use Rattle.std.proofs.lemmas.List.Quantifiers.{position-Some}
-use Rattle.std.proofs.lemmas.List.{nil_from_length}
+use Rattle.std.proofs.lemmas.List.{nil_from_length, append-nil, take_all, drop_all}
 use Rattle.std.proofs.Math.Seq.{take-nil}
 use Rattle.std.specs.Prelude.{position, slice_get, ◌==◌, not}
 use Rattle.std.specs.List.{position_or_len}
 use Rattle.std.specs.Option.{option_map}
-use Rattle.gt_core.specs.declared.request.Handle.{Handle}
-use Rattle.gt_core.specs.declared.known.Mapping.{Mapping}
-use Rattle.gt_types.specs.declared.Dir.TheVariants.{Read}
 use Rattle.gt_core.specs.Rows.{changed_at}
 use Rattle.gt_core.specs.States.{State, state_of, changed_in}
-use Rattle.gt_core.specs.Effects.{less}
-use Rattle.gt_core.specs.History.{is_handle}
 use Rattle.gt_core.proofs.Places.{has_id}
 
 -- a write of the changed element
@@ -27,6 +22,12 @@ pub changed-past : {A : Type 0} (xs : List A) (r : ℕ) (f : A → A) → length
 changed-past [] r f past = refl
 changed-past (z ∷ zs) zero f past = absurd (omega arith)
 changed-past (z ∷ zs) (suc r) f past = ap (λ l. z ∷ l) (changed-past zs r f (omega arith))
+
+-- a write of the changed element, in a list of what the elements show
+pub map-changed : {A B : Type 0} (g : A → B) (xs : List A) (r : ℕ) (f : B → B) (y x : A) → r < length xs → x ≡ get_or xs r x → g y ≡ f (g x) → map g (set xs r y) ≡ changed_at r f (map g xs)
+map-changed g [] r f y x within e s = absurd (omega arith)
+map-changed g (z ∷ zs) zero f y x within e s = ap (λ v. v ∷ map g zs) (s ∙ ap (λ v. f (g v)) e)
+map-changed g (z ∷ zs) (suc r) f y x within e s = ap (λ l. g z ∷ l) (map-changed g zs r f y x (omega arith) e s)
 
 pub length-changed : {A : Type 0} (xs : List A) (r : ℕ) (f : A → A) → length (changed_at r f xs) ≡ length xs
 length-changed [] r f = refl
@@ -102,6 +103,13 @@ length-changed_in (z ∷ zs) d f = by (z.id.0 == d) (length-changed_in zs d f)
     by true e = refl
     by false e = ap suc e
 
+-- what a call of a slice leaves of a vector, where it changes one state
+pub slice-changed : (n d : ℕ) (f : State → State) (xs ys zs : List State) → length xs ≡ n → ys ≡ xs → zs ≡ changed_in d f ys → take n (zs ++ drop (length zs) xs) ≡ changed_in d f xs
+slice-changed n d f xs ys zs len same new =
+    let e : zs ≡ changed_in d f xs = new ∙ ap (changed_in d f) same in
+    let l : length zs ≡ n = ap (λ (y : List State). length y) e ∙ length-changed_in xs d f ∙ len in
+    ap (λ (k : List State). take n (zs ++ k)) (drop_all (length zs) xs (omega arith)) ∙ ap (λ (k : List State). take n k) (append-nil zs) ∙ take_all n zs (omega arith) ∙ e
+
 -- the first state with a number, after the change of the one with number d
 pub state-changed : (xs : List State) (d q : ℕ) (f : State → State) → ((x : State) → (f x).id ≡ x.id) → state_of (changed_in d f xs) q ≡ cond (d == q) (option_map f (state_of xs q)) (state_of xs q)
 state-changed [] d q f keeps = sym (cond-none (d == q))
@@ -129,49 +137,6 @@ state-changed (z ∷ zs) d q f keeps = by (z.id.0 == d) (state-changed zs d q f 
     by false rest e =
         ap (cond (z.id.0 == q) (Some z)) rest
         ∙ apart (z.id.0 == q) (d == q) (λ a c. true≢false (sym (eq-eqb z.id.0 d (eqb-true z.id.0 q a ∙ sym (eqb-true d q c))) ∙ e))
-
--- mappings
-
-less-there : (ms : List Mapping) (handle : Handle) (i : ℕ) → i ≡ position_or_len (λ (m : Mapping). is_handle m.handle handle) ms → i < length ms → less handle ms ≡ take i ms ++ drop (i + 1) ms
-less-there [] handle i is within = absurd (omega arith)
-less-there (m ∷ ms) handle i is within = by (is_handle m.handle handle) (λ n e w. less-there ms handle n e w) is
-  where
-    by : (b : Bool) → ((n : ℕ) → n ≡ position_or_len (λ (m : Mapping). is_handle m.handle handle) ms → n < length ms → less handle ms ≡ take n ms ++ drop (n + 1) ms)
-        → i ≡ cond (not b) (1 + position_or_len (λ (m : Mapping). is_handle m.handle handle) ms) 0
-        → cond b ms (m ∷ less handle ms) ≡ take i (m ∷ ms) ++ drop (i + 1) (m ∷ ms)
-    by true rest k = subst (λ n. ms ≡ take n (m ∷ ms) ++ drop (n + 1) (m ∷ ms)) (sym k) refl
-    by false rest k =
-        let n : ℕ = position_or_len (λ (m : Mapping). is_handle m.handle handle) ms in
-        let w : n < length ms = omega arith in
-        let j : i ≡ suc n = omega arith in
-        ap (λ l. m ∷ l) (rest n refl w)
-        ∙ subst (λ j. m ∷ (take n ms ++ drop (n + 1) ms) ≡ take j (m ∷ ms) ++ drop (j + 1) (m ∷ ms)) (sym j) (ap (λ t. m ∷ (take n ms ++ drop t (m ∷ ms))) (let z : suc (n + 1) ≡ suc n + 1 = omega arith in z))
-
-place-is : (n m i : ℕ) → cond (ltb n m) (Some n) None ≡ Some i → i ≡ n
-place-is n m i h = some (ltb n m) h
-  where
-    some : (b : Bool) → cond b (Some n) None ≡ Some i → i ≡ n
-    some true k = cc
-    some false k = cc
-
--- the mapping at the first place with this handle goes
-pub less-remove : (ms ms' : List Mapping) (handle : Handle) (i : ℕ) → position (λ (m : Mapping). is_handle m.handle handle) ms ≡ Some i → i < length ms → ms' ≡ take i ms ++ drop (i + 1) ms → ms' ≡ less handle ms
-less-remove ms ms' handle i p within e = e ∙ sym (less-there ms handle i (place-is (position_or_len (λ (m : Mapping). is_handle m.handle handle) ms) (length ms) i p) within)
-
-less-none : (ms : List Mapping) (handle : Handle) → length ms ≤ position_or_len (λ (m : Mapping). is_handle m.handle handle) ms → less handle ms ≡ ms
-less-none [] handle past = refl
-less-none (m ∷ ms) handle past = by (is_handle m.handle handle) (λ k. less-none ms handle k) past
-  where
-    by : (b : Bool) → (length ms ≤ position_or_len (λ (m : Mapping). is_handle m.handle handle) ms → less handle ms ≡ ms) → length (m ∷ ms) ≤ cond (not b) (1 + position_or_len (λ (m : Mapping). is_handle m.handle handle) ms) 0 → cond b ms (m ∷ less handle ms) ≡ m ∷ ms
-    by true rest k = absurd (omega arith)
-    by false rest k = ap (λ l. m ∷ l) (rest (omega arith))
-
--- no mapping has this handle
-pub less-nowhere : (ms : List Mapping) (handle : Handle) → position (λ (m : Mapping). is_handle m.handle handle) ms ≡ None → less handle ms ≡ ms
-less-nowhere ms handle p = less-none ms handle (past-place (position_or_len (λ (m : Mapping). is_handle m.handle handle) ms) (length ms) p)
-
-pub position-within : (ms : List Mapping) (handle : Handle) (i : ℕ) → position (λ (m : Mapping). is_handle m.handle handle) ms ≡ Some i → i < length ms
-position-within ms handle i p = (position-Some (λ (m : Mapping). is_handle m.handle handle) ms i (record { handle = handle; dom = record { 0 = 0 }; gref = record { 0 = 0 }; dir = Read; frame = 0 }) p).0
 
 drop-nil : (n : ℕ) → drop {A = ℕ} n [] ≡ []
 drop-nil zero = refl

@@ -1,18 +1,17 @@
 -- What the core's steps see is what the history left.
 use Rattle.std.proofs.Common.{◌≡◌, ◌≢◌, ◌<◌, ℕ, zero, suc, refl, Bool, true, false, List, [], ◌∷◌, length, Option, Some, None, cond, sym, ap, ◌∙◌, arith}
-use Rattle.std.proofs.lemmas.Bool.{lt-ltb}
 use Rattle.std.proofs.lemmas.Option.{none-some, same_Some}
-use Rattle.std.specs.Prelude.{nat_lt, ◌==◌, slice_get}
+use Rattle.std.specs.Prelude.{◌==◌, slice_get}
 use Rattle.gt_types.specs.declared.DomId.{DomId}
 use Rattle.gt_entry.specs.declared.entry.Entry.{Entry}
 use Rattle.gt_entry.specs.Words.{control_word, header_word}
 use Rattle.gt_core.specs.declared.slot.Slot.{Slot}
-use Rattle.gt_core.specs.declared.known.Own.{Own}
+use Rattle.gt_calls.specs.declared.known.Own.{Own}
 use Rattle.gt_core.specs.States.{State}
-use Rattle.gt_core.specs.declared.action.Step.{Step}
-use Rattle.gt_core.specs.declared.action.Step.TheVariants.{LookHeader, LookControl, LookBody, Pin, Unpin, StoreBody, StoreHeader, Exchange, Read as ReadBytes}
-use Rattle.gt_core.specs.declared.action.Seen.TheVariants.{Value}
-use Rattle.gt_core.specs.Rules.{control_with, generation_in}
+use Rattle.gt_calls.specs.declared.action.Step.{Step}
+use Rattle.gt_calls.specs.declared.action.Step.TheVariants.{LookHeader, LookControl, LookBody, Pin, Unpin, StoreBody, StoreHeader, Exchange, Read as ReadBytes, Write as WriteBytes}
+use Rattle.gt_calls.specs.declared.action.Seen.TheVariants.{Value}
+use Rattle.gt_calls.specs.Rules.{control_with, generation_in}
 use Rattle.gt_core.specs.History.{History, Setting, entry_at, generation_at, reads_at, body_at, table_at, word_at, seen_by, exchange_sees}
 use Rattle.gt_core.specs.Standing.{Agrees, StateAgrees, CoreStands, state_of}
 use Rattle.gt_core.specs.Sight.{reads_in, writes_in, body_in, slot_reads, slot_writes, slot_body, control_in, control_seen, header_seen, body_seen, sees}
@@ -111,3 +110,4 @@ sees-agree s h xs d (Unpin dom gref dir handle) st w = refl
 sees-agree s h xs d (StoreBody gref second word) st w = refl
 sees-agree s h xs d (StoreHeader version frames) st w = refl
 sees-agree s h xs d (ReadBytes dom frame off len) st w = refl
+sees-agree s h xs d (WriteBytes dom frame off len) st w = refl

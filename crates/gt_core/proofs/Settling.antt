@@ -1,22 +1,23 @@
 -- How a call that nothing stood against is over.
 use Rattle.std.proofs.lemmas.List.{take_more, map-append}
 use Rattle.std.proofs.Common.{◌≡◌, ◌<◌, ◌+◌, ◌++◌, ◌%◌, map, get_or, ℕ, List, [], ◌∷◌, length, take, Some, None, refl, sym, ap, ◌∙◌, set, replicate, min}
+use Rattle.gt_handles.specs.Handles.{Kept}
 use Rattle.gt_types.specs.declared.DomId.{DomId}
 use Rattle.gt_types.specs.declared.GrantRef.{GrantRef}
 use Rattle.gt_types.specs.declared.Dir.{Dir}
 use Rattle.gt_types.specs.declared.config.DomainConfig.{DomainConfig}
 use Rattle.gt_entry.specs.declared.entry.Entry.TheVariants.{Invalid}
 use Rattle.gt_entry.specs.declared.header.Header.{Header}
-use Rattle.gt_core.specs.declared.known.TheConstants.{ENTRIES, FRAME_LEN}
-use Rattle.gt_core.specs.declared.known.Own.{Own}
-use Rattle.gt_core.specs.declared.known.Mapping.{Mapping}
+use Rattle.gt_calls.specs.declared.known.TheConstants.{ENTRIES, FRAME_LEN}
+use Rattle.gt_calls.specs.declared.known.Own.{Own}
+use Rattle.gt_calls.specs.declared.known.Mapping.{Mapping}
 use Rattle.gt_core.specs.declared.slot.Slot.{Slot}
 use Rattle.gt_core.specs.declared.slot.Open.{Open}
-use Rattle.gt_core.specs.declared.asked.Asked.{Asked}
-use Rattle.gt_core.specs.declared.asked.Asked.TheVariants.{Grant, Revoke, Demote, Promote, Map, Unmap, Load, SetVersion, SetupTable, QuerySize, GetVersion}
-use Rattle.gt_core.specs.declared.action.Step.{Step}
-use Rattle.gt_core.specs.declared.action.Step.TheVariants.{LookHeader, LookControl, LookBody, Pin as PinStep, Unpin, StoreBody, StoreHeader, Exchange, Read as ReadBytes}
-use Rattle.gt_core.specs.declared.action.Seen.{Seen}
+use Rattle.gt_calls.specs.declared.asked.Asked.{Asked}
+use Rattle.gt_calls.specs.declared.asked.Asked.TheVariants.{Grant, Revoke, Demote, Promote, Map, Unmap, Load, SetVersion, SetupTable, QuerySize, GetVersion, Store, Peek, Poke}
+use Rattle.gt_calls.specs.declared.action.Step.{Step}
+use Rattle.gt_calls.specs.declared.action.Step.TheVariants.{LookHeader, LookControl, LookBody, Pin as PinStep, Unpin, StoreBody, StoreHeader, Exchange, Read as ReadBytes, Write as WriteBytes}
+use Rattle.gt_calls.specs.declared.action.Seen.{Seen}
 use Rattle.gt_core.specs.States.{State, first_state, IsLoading}
 use Rattle.gt_core.specs.Effects.{with_underway}
 use Rattle.gt_core.specs.Standing.{Settled, value_of, IsLoadOf}
@@ -30,6 +31,9 @@ loaded (Promote gref) m n a b = absurd b
 loaded (Map dom gref flags) m n a b = absurd b
 loaded (Unmap handle) m n a b = absurd b
 loaded (Load handle off len) m n a b = a ∙ b
+loaded (Store handle off len) m n a b = absurd b
+loaded (Peek frame off len) m n a b = a ∙ b
+loaded (Poke frame off len) m n a b = absurd b
 loaded (SetVersion version) m n a b = absurd b
 loaded (SetupTable frames) m n a b = absurd b
 loaded (QuerySize dom) m n a b = absurd b
@@ -39,31 +43,34 @@ loaded (GetVersion dom) m n a b = absurd b
 pub settled-plain : (xs new : List State) (at : ℕ) (d : State) (o : Open) (seen : Seen) (step : Step)
     → ((dom : DomId) (gref : GrantRef) (looked : ℕ) (dir : Dir) → step ≡ PinStep dom gref looked dir → ⊥)
     → ((dom : DomId) (frame off len : ℕ) → step ≡ ReadBytes dom frame off len → ⊥)
+    → ((dom : DomId) (frame off len : ℕ) → step ≡ WriteBytes dom frame off len → ⊥)
     → new ≡ set xs at (with_underway None d) → Settled xs at d o seen step (value_of o.call.request seen) new
-settled-plain xs new at d o seen (LookHeader dom) p r e = (refl, e)
-settled-plain xs new at d o seen (LookControl dom gref) p r e = (refl, e)
-settled-plain xs new at d o seen (LookBody dom gref second) p r e = (refl, e)
-settled-plain xs new at d o seen (PinStep dom gref looked dir) p r e = absurd (p dom gref looked dir refl)
-settled-plain xs new at d o seen (Unpin dom gref dir holder) p r e = (refl, e)
-settled-plain xs new at d o seen (StoreBody gref second word) p r e = (refl, e)
-settled-plain xs new at d o seen (StoreHeader version frames) p r e = (refl, e)
-settled-plain xs new at d o seen (Exchange gref looked change) p r e = (refl, e)
-settled-plain xs new at d o seen (ReadBytes dom frame off len) p r e = absurd (r dom frame off len refl)
+settled-plain xs new at d o seen (LookHeader dom) p r w e = (refl, e)
+settled-plain xs new at d o seen (LookControl dom gref) p r w e = (refl, e)
+settled-plain xs new at d o seen (LookBody dom gref second) p r w e = (refl, e)
+settled-plain xs new at d o seen (PinStep dom gref looked dir) p r w e = absurd (p dom gref looked dir refl)
+settled-plain xs new at d o seen (Unpin dom gref dir holder) p r w e = (refl, e)
+settled-plain xs new at d o seen (StoreBody gref second word) p r w e = (refl, e)
+settled-plain xs new at d o seen (StoreHeader version frames) p r w e = (refl, e)
+settled-plain xs new at d o seen (Exchange gref looked change) p r w e = (refl, e)
+settled-plain xs new at d o seen (ReadBytes dom frame off len) p r w e = absurd (r dom frame off len refl)
+settled-plain xs new at d o seen (WriteBytes dom frame off len) p r w e = absurd (w dom frame off len refl)
 
 -- a domain at rest, by its parts
-pub at-rest : (d : DomainConfig) (first_gen n m : ℕ) (own : List Own) (slots : List Slot) (mappings : List Mapping) (frames : List (List ℕ))
+pub at-rest : (d : DomainConfig) (first_gen n m : ℕ) (own : List Own) (slots : List Slot) (mappings : Kept Mapping) (frames : List (List ℕ)) (given : List ℕ)
     → n ≡ ENTRIES → m ≡ d.frames → own ≡ replicate n (record { entry = Invalid; generation = min first_gen 1048575 })
-    → slots ≡ replicate n (record { reads = 0; writes = 0; first = 0; second = 0 }) → mappings ≡ [] → frames ≡ replicate m (replicate FRAME_LEN 0)
-    → ◌≡◌ {A = State} (record { id = d.id; header = record { version = d.version % 4; frames = d.table_frames % 256 }; own = own; slots = slots; mappings = mappings; maps_answered = 0; frames = frames; underway = None }) (first_state first_gen d)
-at-rest d first_gen n m own slots mappings frames en em eo es ep ef =
+    → slots ≡ replicate n (record { reads = 0; writes = 0; first = 0; second = 0 }) → mappings ≡ record { slots = []; given = 0; room = 0 } → frames ≡ replicate m (replicate FRAME_LEN 0) → given ≡ []
+    → ◌≡◌ {A = State} (record { id = d.id; header = record { version = d.version % 4; frames = d.table_frames % 256 }; own = own; slots = slots; mappings = mappings; frames = frames; underway = None; given = given }) (first_state first_gen d)
+at-rest d first_gen n m own slots mappings frames given en em eo es ep ef eg =
     let h : Header = record { version = d.version % 4; frames = d.table_frames % 256 } in
     let o : own ≡ replicate ENTRIES (record { entry = Invalid; generation = min first_gen 1048575 }) = eo ∙ ap (λ (k : ℕ). replicate k (record { entry = Invalid; generation = min first_gen 1048575 })) en in
     let s : slots ≡ replicate ENTRIES (record { reads = 0; writes = 0; first = 0; second = 0 }) = es ∙ ap (λ (k : ℕ). replicate k (record { reads = 0; writes = 0; first = 0; second = 0 })) en in
     let f : frames ≡ replicate d.frames (replicate FRAME_LEN 0) = ef ∙ ap (λ (k : ℕ). replicate k (replicate FRAME_LEN 0)) em in
-    ap (λ (l : List Own). record { id = d.id; header = h; own = l; slots = slots; mappings = mappings; maps_answered = 0; frames = frames; underway = None }) o
-    ∙ ap (λ (l : List Slot). record { id = d.id; header = h; own = replicate ENTRIES (record { entry = Invalid; generation = min first_gen 1048575 }); slots = l; mappings = mappings; maps_answered = 0; frames = frames; underway = None }) s
-    ∙ ap (λ (l : List Mapping). record { id = d.id; header = h; own = replicate ENTRIES (record { entry = Invalid; generation = min first_gen 1048575 }); slots = replicate ENTRIES (record { reads = 0; writes = 0; first = 0; second = 0 }); mappings = l; maps_answered = 0; frames = frames; underway = None }) ep
-    ∙ ap (λ (l : List (List ℕ)). record { id = d.id; header = h; own = replicate ENTRIES (record { entry = Invalid; generation = min first_gen 1048575 }); slots = replicate ENTRIES (record { reads = 0; writes = 0; first = 0; second = 0 }); mappings = []; maps_answered = 0; frames = l; underway = None }) f
+    ap (λ (l : List ℕ). record { id = d.id; header = h; own = own; slots = slots; mappings = mappings; frames = frames; underway = None; given = l }) eg
+    ∙ ap (λ (l : List Own). record { id = d.id; header = h; own = l; slots = slots; mappings = mappings; frames = frames; underway = None; given = [] }) o
+    ∙ ap (λ (l : List Slot). record { id = d.id; header = h; own = replicate ENTRIES (record { entry = Invalid; generation = min first_gen 1048575 }); slots = l; mappings = mappings; frames = frames; underway = None; given = [] }) s
+    ∙ ap (λ (l : Kept Mapping). record { id = d.id; header = h; own = replicate ENTRIES (record { entry = Invalid; generation = min first_gen 1048575 }); slots = replicate ENTRIES (record { reads = 0; writes = 0; first = 0; second = 0 }); mappings = l; frames = frames; underway = None; given = [] }) ep
+    ∙ ap (λ (l : List (List ℕ)). record { id = d.id; header = h; own = replicate ENTRIES (record { entry = Invalid; generation = min first_gen 1048575 }); slots = replicate ENTRIES (record { reads = 0; writes = 0; first = 0; second = 0 }); mappings = record { slots = []; given = 0; room = 0 }; frames = l; underway = None; given = [] }) f
 
 -- one domain more at rest
 pub rest-more : (first_gen : ℕ) (items : List DomainConfig) (i : ℕ) (d : DomainConfig) (old new : List State) (x : State) → i < length items

@@ -1,5 +1,6 @@
 -- How many steps a call makes at most.
-use Rattle.std.proofs.Common.{◌≡◌, ◌≤◌, ◌<◌, ◌+◌, ◌*◌, ℕ, zero, suc, refl, Bool, true, false, List, [], ◌∷◌, ◌++◌, length, Option, Some, None, cond, sym, ap, ◌∙◌, arith, subst, map}
+use Rattle.std.proofs.Common.{◌≡◌, ◌≤◌, ◌<◌, ◌+◌, ◌*◌, ℕ, zero, suc, Bool, true, false, List, [], ◌∷◌, length, Option, Some, None, cond, arith}
+use Rattle.gt_handles.specs.declared.handles.Handle.{Handle}
 use Rattle.std.specs.Prelude.{nat_lt, ◌==◌, ◌&&◌}
 use Rattle.gt_types.specs.declared.DomId.{DomId}
 use Rattle.gt_types.specs.declared.GrantRef.{GrantRef}
@@ -11,19 +12,19 @@ use Rattle.gt_entry.specs.declared.entry.Entry.{Entry}
 use Rattle.gt_entry.specs.declared.entry.Entry.TheVariants.{Invalid, Page, Sub, Via}
 use Rattle.gt_entry.specs.declared.control.Kind.TheVariants.{Sub as KindSub}
 use Rattle.gt_entry.specs.Words.{control_of, header_of}
-use Rattle.gt_core.specs.declared.asked.Asked.{Asked}
-use Rattle.gt_core.specs.declared.asked.Asked.TheVariants.{Grant, Revoke, Demote, Promote, Map, Unmap, Load, SetVersion, SetupTable, QuerySize, GetVersion}
-use Rattle.gt_core.specs.declared.known.Mapping.{Mapping}
-use Rattle.gt_core.specs.declared.action.Verdict.{Verdict}
-use Rattle.gt_core.specs.declared.action.Verdict.TheVariants.{Granted}
-use Rattle.gt_core.specs.declared.action.Step.{Step}
-use Rattle.gt_core.specs.declared.action.Step.TheVariants.{LookHeader, LookControl, LookBody, Pin, StoreBody, Exchange}
-use Rattle.gt_core.specs.declared.action.Seen.{Seen}
-use Rattle.gt_core.specs.declared.action.Seen.TheVariants.{Nothing, Value, Taken, Missed}
-use Rattle.gt_core.specs.declared.action.Action.TheVariants.{Step as Makes, Done}
-use Rattle.gt_core.specs.declared.leg.Leg.{Leg}
-use Rattle.gt_core.specs.Rules.{CallerKnowledge, begun, first_look, before_pin, size_of, is_kind, mapping_of}
-use Rattle.gt_core.specs.Path.{Continuation, AfterPin, ended, refused_with, refused_at, entry_refusal, looks, exchanges, makes, at_first_look, last_step, reads_second, reads_body, try_pin, tries, leg, map_leg, turn, turns, to_ro_or_back, publishes, stores_second, gives_up, reads, idle_word, steps_of, after_beginning, path}
+use Rattle.gt_calls.specs.declared.asked.Asked.{Asked}
+use Rattle.gt_calls.specs.declared.asked.Asked.TheVariants.{Grant, Revoke, Demote, Promote, Map, Unmap, Load, SetVersion, SetupTable, QuerySize, GetVersion, Store, Peek, Poke}
+use Rattle.gt_calls.specs.declared.known.Mapping.{Mapping}
+use Rattle.gt_calls.specs.declared.action.Verdict.{Verdict}
+use Rattle.gt_calls.specs.declared.action.Verdict.TheVariants.{Granted}
+use Rattle.gt_calls.specs.declared.action.Step.{Step}
+use Rattle.gt_calls.specs.declared.action.Step.TheVariants.{LookHeader, LookControl, LookBody, Pin, Exchange}
+use Rattle.gt_calls.specs.declared.action.Seen.{Seen}
+use Rattle.gt_calls.specs.declared.action.Seen.TheVariants.{Nothing, Value, Taken, Missed}
+use Rattle.gt_calls.specs.declared.action.Action.TheVariants.{Step as Makes}
+use Rattle.gt_calls.specs.declared.leg.Leg.{Leg}
+use Rattle.gt_calls.specs.Rules.{CallerKnowledge, begun, first_look, before_pin, size_of, is_kind}
+use Rattle.gt_calls.specs.Path.{Continuation, ended, refused_with, refused_at, entry_refusal, looks, exchanges, makes, at_first_look, last_step, reads_second, reads_body, try_pin, tries, leg, map_leg, turn, turns, to_ro_or_back, publishes, stores_second, gives_up, reads, steps_of, after_beginning, path, writes}
 use Rattle.gt_core.specs.Legal.{most_steps}
 
 -- a step comes only after fewer values than so many
@@ -140,13 +141,17 @@ short-stores (Page dom ro frame) gref c n s = short-more c n (n + 1) (omega arit
 short-stores (Sub dom ro frame off len) gref c n s = short-makes _ c n s
 short-stores (Via dom ro dom2 r) gref c n s = short-more c n (n + 1) (omega arith) s
 
-short-gives : (m : Option Mapping) → Short (gives_up m) 1
-short-gives None = record { least = λ vs step e. cc }
-short-gives (Some m) = short-makes _ (ended Granted) 0 (short-ended Granted 0)
+short-gives : (handle : Handle) (m : Option Mapping) → Short (gives_up handle m) 1
+short-gives handle None = record { least = λ vs step e. cc }
+short-gives handle (Some m) = short-makes _ (ended Granted) 0 (short-ended Granted 0)
 
 short-reads : (m : Option Mapping) (off len : ℕ) → Short (reads m off len) 1
 short-reads None off len = record { least = λ vs step e. cc }
 short-reads (Some m) off len = short-makes _ (ended Granted) 0 (short-ended Granted 0)
+
+short-writes : (m : Option Mapping) (off len : ℕ) → Short (writes m off len) 1
+short-writes None off len = record { least = λ vs step e. cc }
+short-writes (Some m) off len = short-makes _ (ended Granted) 0 (short-ended Granted 0)
 
 short-steps : (k : CallerKnowledge) (caller : DomId) (r : Asked) → Short (steps_of k caller r) (most_steps r)
 short-steps k caller (Grant gref entry) = short-more _ (1 + 1 + 1) 71 (omega arith) (short-makes _ _ (1 + 1) (short-stores entry gref (publishes k caller gref entry) 1 (short-publishes k caller gref entry)))
@@ -154,8 +159,11 @@ short-steps k caller (Revoke gref) = short-more _ (0 + 1) 71 (omega arith) (shor
 short-steps k caller (Demote gref) = short-turns true caller gref 3
 short-steps k caller (Promote gref) = short-turns false caller gref 3
 short-steps k caller (Map dom gref flags) = short-more _ 17 71 (omega arith) (short-leg (map_leg k caller dom gref flags))
-short-steps k caller (Unmap handle) = short-more _ 1 71 (omega arith) (short-gives (mapping_of k.mappings handle))
-short-steps k caller (Load handle off len) = short-more _ 1 71 (omega arith) (short-reads (mapping_of k.mappings handle) off len)
+short-steps k caller (Unmap handle) = short-more _ 1 71 (omega arith) (short-gives handle (k.mapping handle))
+short-steps k caller (Load handle off len) = short-more _ 1 71 (omega arith) (short-reads (k.mapping handle) off len)
+short-steps k caller (Store handle off len) = short-more _ 1 71 (omega arith) (short-writes (k.mapping handle) off len)
+short-steps k caller (Peek frame off len) = short-more _ (0 + 1) 71 (omega arith) (short-makes _ (ended Granted) 0 (short-ended Granted 0))
+short-steps k caller (Poke frame off len) = short-more _ (0 + 1) 71 (omega arith) (short-makes _ (ended Granted) 0 (short-ended Granted 0))
 short-steps k caller (SetVersion version) = short-more _ (0 + 1) 71 (omega arith) (short-makes _ (ended Granted) 0 (short-ended Granted 0))
 short-steps k caller (SetupTable frames) = short-more _ (0 + 1) 71 (omega arith) (short-makes _ (ended Granted) 0 (short-ended Granted 0))
 short-steps k caller (QuerySize dom) = short-more _ (0 + 1) 71 (omega arith) (short-looks _ (λ word. ended Granted) 0 (λ word. short-ended Granted 0))

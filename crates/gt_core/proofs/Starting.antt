@@ -1,5 +1,6 @@
 -- A core at rest stands for the empty history.
-use Rattle.std.proofs.Common.{◌≡◌, ◌<◌, ◌≤◌, ◌+◌, ◌*◌, ◌%◌, ◌/◌, ℕ, refl, Bool, true, false, List, [], ◌∷◌, Option, Some, None, cond, ltb, sym, ap, ◌∙◌, arith, subst, map, replicate, min, get_or}
+use Rattle.std.proofs.Common.{◌≡◌, ◌<◌, ◌≤◌, ◌+◌, ◌%◌, ℕ, refl, Bool, true, false, List, [], ◌∷◌, Option, Some, None, cond, ltb, sym, ap, ◌∙◌, arith, subst, map, replicate, min, get_or, length}
+use Rattle.gt_core.proofs.Mappings.{mappings-same, no-handles}
 use Rattle.std.proofs.lemmas.Bool.{eqb-true, lt-ltb, ltb-false, ltb-true}
 use Rattle.std.proofs.lemmas.Option.{none-some, same_Some, slice_get-get_or, slice_get_past}
 use Rattle.std.proofs.Math.Nat.{mod-eq_of_lt}
@@ -17,14 +18,14 @@ use Rattle.gt_types.specs.declared.config.Config.{Config}
 use Rattle.gt_types.specs.declared.config.DomainConfig.{DomainConfig}
 use Rattle.gt_entry.specs.declared.header.Header.{Header}
 use Rattle.gt_entry.specs.declared.entry.Entry.TheVariants.{Invalid}
-use Rattle.gt_entry.specs.Words.{header_of, header_word}
-use Rattle.gt_core.specs.declared.known.Own.{Own}
+use Rattle.gt_calls.specs.declared.known.Own.{Own}
 use Rattle.gt_core.specs.declared.slot.Slot.{Slot}
-use Rattle.gt_core.specs.declared.known.TheConstants.{ENTRIES, FRAME_LEN}
-use Rattle.gt_core.specs.Rules.{size_of, entry_in, generation_in, row_entry, row_generation, frames_in, frames_of}
+use Rattle.gt_calls.specs.declared.known.TheConstants.{ENTRIES, FRAME_LEN}
+use Rattle.gt_calls.specs.Rules.{entry_in, generation_in, row_entry, row_generation, frames_in, frames_of}
 use Rattle.gt_core.specs.States.{State, state_of, first_state}
 use Rattle.gt_core.specs.History.{Setting, entry_at, raises_at, body_at, live, mappings_at, mappings_in, maps_answered_at, open_call, contents_at, header_from, table_at, reads_at, writes_at, control_at}
 use Rattle.gt_core.specs.Standing.{setting_of, Agrees, StateAgrees, SlotAgrees, CallAgrees, FitsTable, FitsWord, IsLawful, CoreStands}
+use Rattle.gt_core.proofs.Beginning.{given-none}
 
 state-of-map : (g : ℕ) (ds : List DomainConfig) (dom : DomId) → state_of (map (first_state g) ds) dom.0 ≡ option_map (first_state g) (domain_of ds dom)
 state-of-map g [] dom = refl
@@ -114,7 +115,7 @@ unfolding table_at
 no-header s t = refl
 
 no-contents : (t f : ℕ) → contents_at [] t f ≡ replicate 4096 0
-unfolding contents_at
+unfolding contents_at Rattle.gt_frames.specs.Bytes.zeros
 no-contents t f = refl
 
 no-reads : (t r : ℕ) → reads_at [] t r ≡ 0
@@ -163,13 +164,13 @@ rest-agrees s d is f le =
       generations = fun_ext (λ r. rows-generation s.first_generation r ∙ g ∙ (let z : s.first_generation ≡ s.first_generation + 0 = omega arith in z) ∙ ap (λ (n : ℕ). s.first_generation + n) (sym (no-raises d.id.0 r)));
       room = length-replicate {A = Slot} ENTRIES (record { reads = 0; writes = 0; first = 0; second = 0 });
       slots = λ r slot e. slot-starts d.id.0 ENTRIES r slot e;
-      mappings = sym (no-mappings d.id.0);
-      maps_answered = sym (no-maps d.id.0);
+      mappings = mappings-same _ _ _ _ _ (sym (no-mappings d.id.0)) (sym (no-maps d.id.0)) no-handles;
       frames = λ n below.
           let within : n < d.frames = subst (λ (k : ℕ). n < k) (frames-at s.domains d.id d is) below in
           get-replicate d.frames n (replicate FRAME_LEN 0) ∙ ap (λ (b : Bool). cond b (Some (replicate FRAME_LEN 0)) None) (lt-ltb n d.frames within)
           ∙ ap (λ (l : List ℕ). Some l) (sym (no-contents d.id.0 n));
       call = subst (λ (c : _). CallAgrees s [] d.id None c) (sym (no-call d.id.0)) tt;
+      given = given-none [] d.id.0 [] (no-call d.id.0);
     }
 
 state-starts : (s : Setting) (dom : DomId) (o : Option DomainConfig) → domain_of s.domains dom ≡ o → All Fine s.domains → s.first_generation ≤ 1048575
@@ -202,5 +203,6 @@ starts config may l =
       words = λ t r within. rest-word s t r l.generation;
       lawful = subst (All (IsLawful s)) (sym no-live) (λ i p below. absurd (omega arith));
       free = λ t r e. (no-reads t r, no-writes t r);
+      filled = λ t f. ap (λ (l : List ℕ). length l) (no-contents t f) ∙ length-replicate {A = ℕ} 4096 0;
       spelled = λ t r valid. absurd (valid (no-entry t r));
     }

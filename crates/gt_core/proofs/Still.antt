@@ -2,20 +2,20 @@
 use Rattle.std.proofs.Common.{◌≡◌, ◌≤◌, ◌<◌, ◌+◌, ℕ, refl, length, get_or, take, List, [], ◌∷◌, ◌++◌, Option, Some, None, sym, ap, ◌∙◌, arith, subst}
 use Rattle.gt_entry.specs.declared.entry.Entry.{Entry}
 use Rattle.gt_entry.specs.declared.entry.Entry.TheVariants.{Invalid}
-use Rattle.gt_core.specs.declared.action.Change.{Change}
-use Rattle.gt_core.specs.declared.action.Change.TheVariants.{Publish, Revoke, Demote, Promote}
+use Rattle.gt_calls.specs.declared.action.Change.{Change}
+use Rattle.gt_calls.specs.declared.action.Change.TheVariants.{Publish, Revoke, Demote, Promote}
 use Rattle.gt_core.specs.declared.trace.Item.{Item}
 use Rattle.gt_core.specs.declared.trace.Event.{Event}
 use Rattle.gt_core.specs.declared.trace.Element.{Element}
 use Rattle.std.proofs.lemmas.List.{take_more}
 use Rattle.gt_core.specs.States.{State}
 use Rattle.gt_core.specs.Standing.{CoreStands, HasLooked, HasRead, IsValid, IsSub, IsStill, LegStands}
-use Rattle.gt_core.specs.Rules.{first_body, second_body}
+use Rattle.gt_calls.specs.Rules.{first_body, second_body}
 use Rattle.gt_types.specs.declared.denial.Rule.{Rule}
 use Rattle.gt_entry.specs.Words.{control_of}
-use Rattle.gt_core.specs.declared.leg.Leg.{Leg}
-use Rattle.gt_core.specs.declared.leg.LegPhase.{LegPhase}
-use Rattle.gt_core.specs.declared.leg.LegPhase.TheVariants.{Header, Look, Body, Second, Pinning, Relook}
+use Rattle.gt_calls.specs.declared.leg.Leg.{Leg}
+use Rattle.gt_calls.specs.declared.leg.LegPhase.{LegPhase}
+use Rattle.gt_calls.specs.declared.leg.LegPhase.TheVariants.{Header, Look, Body, Second, Pinning, Relook}
 use Rattle.gt_core.specs.History.{History, Setting, entry_at, entry_after, raises_at, raise_after, generation_at, change_of}
 use Rattle.gt_core.specs.Legal.{StepsSoFar, LegalAfter, MayDo, grown, history_after}
 

@@ -17,54 +17,54 @@ use Rattle.gt_types.specs.declared.denial.Denial.{Denial}
 use Rattle.gt_entry.specs.declared.entry.Entry.{Entry}
 use Rattle.gt_entry.specs.declared.entry.Entry.TheVariants.{Invalid, Page, Sub, Via}
 use Rattle.gt_entry.specs.Words.{control_word, control_of}
-use Rattle.gt_core.specs.declared.known.Mapping.{Mapping}
+use Rattle.gt_calls.specs.declared.known.Mapping.{Mapping}
 use Rattle.gt_types.specs.declared.Dir.{Dir}
 use Rattle.gt_types.specs.declared.Dir.TheVariants.{Read, Write}
 use Rattle.gt_types.specs.declared.Use.TheVariants.{Map as ForMap}
-use Rattle.gt_core.specs.declared.request.Handle.{Handle}
-use Rattle.gt_core.specs.declared.request.Holder.{Holder}
-use Rattle.gt_core.specs.declared.request.Holder.TheVariants.{Mapping as ByMapping, Leg as ByLeg}
-use Rattle.gt_core.specs.declared.asked.Asked.{Asked}
-use Rattle.gt_core.specs.declared.asked.Asked.TheVariants.{Grant, Revoke, Demote, Promote, Map, Unmap, Load, SetVersion, SetupTable, QuerySize, GetVersion}
-use Rattle.gt_core.specs.declared.action.Verdict.{Verdict}
-use Rattle.gt_core.specs.declared.action.Verdict.TheVariants.{Refused}
-use Rattle.gt_core.specs.declared.action.Change.{Change}
-use Rattle.gt_core.specs.declared.action.Step.{Step}
-use Rattle.gt_core.specs.declared.action.Step.TheVariants.{LookHeader, LookControl, LookBody, Pin as PinStep, Unpin, StoreBody, StoreHeader, Exchange, Read as ReadBytes}
-use Rattle.gt_core.specs.declared.action.Seen.{Seen}
-use Rattle.gt_core.specs.declared.action.Seen.TheVariants.{Nothing, Value, Taken, Missed}
-use Rattle.gt_core.specs.declared.action.Action.{Action}
-use Rattle.gt_core.specs.declared.action.Action.TheVariants.{Step as Makes, Done}
-use Rattle.gt_core.specs.declared.leg.Leg.{Leg}
-use Rattle.gt_core.specs.declared.leg.LegPhase.{LegPhase}
-use Rattle.gt_core.specs.declared.leg.LegPhase.TheVariants.{Header as AtHeader, Look, Body, Second, Pinning, Relook}
-use Rattle.gt_core.specs.declared.leg.LegNext.{LegNext}
-use Rattle.gt_core.specs.declared.leg.LegNext.TheVariants.{Going, Refused as LegRefused, Pinned}
-use Rattle.gt_core.specs.declared.call.Call.{Call}
-use Rattle.gt_core.specs.declared.call.Phase.{Phase}
-use Rattle.gt_core.specs.declared.call.Phase.TheVariants.{Begun as PhaseBegun, Pinning as LegPinning, Storing, StoringSecond, Single, Look as OwnLook, Change as OwnChange, Ended}
+use Rattle.gt_handles.specs.declared.handles.Handle.{Handle}
+use Rattle.gt_calls.specs.declared.request.Holder.{Holder}
+use Rattle.gt_calls.specs.declared.request.Holder.TheVariants.{Mapping as ByMapping, Leg as ByLeg}
+use Rattle.gt_calls.specs.declared.asked.Asked.{Asked}
+use Rattle.gt_calls.specs.declared.asked.Asked.TheVariants.{Grant, Revoke, Demote, Promote, Map, Unmap, Load, SetVersion, SetupTable, QuerySize, GetVersion, Store, Peek, Poke}
+use Rattle.gt_calls.specs.declared.action.Verdict.{Verdict}
+use Rattle.gt_calls.specs.declared.action.Verdict.TheVariants.{Refused}
+use Rattle.gt_calls.specs.declared.action.Change.{Change}
+use Rattle.gt_calls.specs.declared.action.Step.{Step}
+use Rattle.gt_calls.specs.declared.action.Step.TheVariants.{LookHeader, LookControl, LookBody, Pin as PinStep, Unpin, StoreBody, StoreHeader, Exchange, Read as ReadBytes, Write as WriteBytes}
+use Rattle.gt_calls.specs.declared.action.Seen.{Seen}
+use Rattle.gt_calls.specs.declared.action.Seen.TheVariants.{Nothing, Value, Taken, Missed}
+use Rattle.gt_calls.specs.declared.action.Action.{Action}
+use Rattle.gt_calls.specs.declared.action.Action.TheVariants.{Step as Makes, Done}
+use Rattle.gt_calls.specs.declared.leg.Leg.{Leg}
+use Rattle.gt_calls.specs.declared.leg.LegPhase.{LegPhase}
+use Rattle.gt_calls.specs.declared.leg.LegPhase.TheVariants.{Header as AtHeader, Look, Body, Second, Pinning, Relook}
+use Rattle.gt_calls.specs.declared.leg.LegNext.{LegNext}
+use Rattle.gt_calls.specs.declared.leg.LegNext.TheVariants.{Going, Refused as LegRefused, Pinned}
+use Rattle.gt_calls.specs.declared.call.Call.{Call}
+use Rattle.gt_calls.specs.declared.call.Phase.{Phase}
+use Rattle.gt_calls.specs.declared.call.Phase.TheVariants.{Begun as PhaseBegun, Pinning as LegPinning, Storing, StoringSecond, Single, Look as OwnLook, Change as OwnChange, Ended}
 use Rattle.gt_core.specs.declared.trace.Item.{Item}
 use Rattle.gt_core.specs.declared.trace.Happened.TheVariants.{Stepped}
 use Rattle.gt_core.specs.declared.trace.Answer.{Answer}
 use Rattle.gt_core.specs.declared.trace.Answer.TheVariants.{Denied}
 use Rattle.gt_core.specs.States.{State}
 use Rattle.gt_core.specs.declared.slot.Open.{Open}
-use Rattle.gt_core.specs.Rules.{CallerKnowledge, knowledge_of, is_demote, begun, first, refused_when, size_of, is_invalid, cannot_stand, control_with, mapping_of}
-use Rattle.gt_core.specs.Path.{entry_refusal, path, steps_of, after_beginning, to_ro_or_back, idle_word}
-use Rattle.gt_core.specs.Machine.{expects, action_at, phase_after, after_leg, after_single, leg_after, leg_step, own_gref, is_sub, store_at, second_at, single_at, unpin_of, read_of, IsUnderway, Comes, IsExchanged, FitsStep, FitsAction, FitsPhase}
+use Rattle.gt_calls.specs.Rules.{CallerKnowledge, knowledge_of, is_demote, begun, first, refused_when, size_of, is_invalid, cannot_stand, control_with, load_begun, store_begun}
+use Rattle.gt_calls.specs.Path.{entry_refusal, path, steps_of, after_beginning, to_ro_or_back, idle_word}
+use Rattle.gt_calls.specs.Machine.{expects, action_at, phase_after, after_leg, after_single, leg_after, leg_step, own_gref, is_sub, store_at, second_at, single_at, unpin_of, read_of, IsUnderway, Comes, IsExchanged, FitsStep, FitsAction, FitsPhase, write_of}
 use Rattle.gt_core.specs.Sight.{sees, changes_nothing}
-use Rattle.gt_core.specs.History.{History, Setting, word_at, table_at, known_at, writes_at, reads_at, entry_at, generation_at, seen_by, Underway, open_call, underway_after, values, one_if_mapped, live, Pin, mapping_on, mappings_in, mappings_at, frame_of, is_handle}
+use Rattle.gt_core.specs.History.{History, Setting, word_at, table_at, known_at, writes_at, reads_at, entry_at, generation_at, seen_by, Underway, open_call, underway_after, values, one_if_mapped, live, Pin, mapping_on, mappings_in, mappings_at, frame_of, same_handle, mapping_of}
 use Rattle.gt_core.specs.Legal.{LeavesAll, Permits, Reaches, MayUse, Justified, IsSafe, PinIsSound, StepsSoFar, first_at, leg_of, misses, is_in_body, looked_at, stands_when, at_entry, refusal_in, verdict_in, or_then, stood, first_in_call, first_of_item, AnsweredBy, StepsRight, StepsRightIn}
-use Rattle.gt_core.specs.Standing.{IsLawful, IsLawfullyHeld, LegStands, PhaseStands, OpenAgrees, CallAgrees, Agrees, StateAgrees, CoreStands, Advances, state_of}
-use Rattle.gt_core.proofs.Calls.{wants-action, comes-some}
+use Rattle.gt_core.specs.Standing.{LegStands, PhaseStands, OpenAgrees, CallAgrees, Agrees, StateAgrees, CoreStands, Advances, state_of, FitsGiven, GivenAgrees}
 use Rattle.gt_core.proofs.Places.{has_id, found, state_of-set}
 use Rattle.std.proofs.lemmas.List.{length-append, length-map}
 use Rattle.gt_core.specs.Legal.{most_steps}
 use Rattle.gt_core.proofs.Short.{path-is-short}
 use Rattle.gt_core.proofs.Fitting.{word-shows, table-fits}
-use Rattle.gt_core.proofs.Quiet.{IsQuiet, quiet-known}
-use Rattle.gt_core.proofs.Beginning.{known-same, quiet-agrees, quiet-stands, map-domain, place-keeps, open_call-own, stood-own, agrees-found}
+use Rattle.gt_core.proofs.Quiet.{IsQuiet, WritesNone, quiet-known}
+use Rattle.gt_core.proofs.Beginning.{known-same, frames-stay, given-none, quiet-agrees, quiet-stands, map-domain, place-keeps, open_call-own, stood-own, agrees-found}
 use Rattle.gt_core.proofs.Seeing.{IsWithin, sees-agree}
+use Rattle.gt_core.proofs.Accessing.{Accesses, load-accesses, store-accesses, own-accesses}
 use Rattle.gt_core.proofs.FirstRules.{first-of-leg, refusal_next, misses-look}
 use Rattle.gt_core.proofs.Placing.{NextStands, leg-place}
 use Rattle.gt_core.proofs.Owners.{phase_refusal, first-own-look, first-own-change, idle-pins, misses-exchange}
@@ -79,6 +79,9 @@ abbrev pub owns : Asked → Bool
 owns (Map dom gref flags) = false
 owns (Unmap handle) = false
 owns (Load handle off len) = false
+owns (Store handle off len) = false
+owns (Peek frame off len) = false
+owns (Poke frame off len) = false
 owns (SetVersion version) = false
 owns (SetupTable frames) = false
 owns (QuerySize dom) = false
@@ -94,6 +97,9 @@ own-within k d (Promote gref) e t = leb-false (size_of k.header) gref.0 (not-ref
 own-within k d (Map dom gref flags) e t = absurd (false≢true t)
 own-within k d (Unmap handle) e t = absurd (false≢true t)
 own-within k d (Load handle off len) e t = absurd (false≢true t)
+own-within k d (Store handle off len) e t = absurd (false≢true t)
+own-within k d (Peek frame off len) e t = absurd (false≢true t)
+own-within k d (Poke frame off len) e t = absurd (false≢true t)
 own-within k d (SetVersion version) e t = absurd (false≢true t)
 own-within k d (SetupTable frames) e t = absurd (false≢true t)
 own-within k d (QuerySize dom) e t = absurd (false≢true t)
@@ -121,6 +127,9 @@ leg-plain k d (Promote gref) l e = refl
 leg-plain k d (Map dom gref flags) l e = refl
 leg-plain k d (Unmap handle) l e = refl
 leg-plain k d (Load handle off len) l e = refl
+leg-plain k d (Store handle off len) l e = refl
+leg-plain k d (Peek frame off len) l e = refl
+leg-plain k d (Poke frame off len) l e = refl
 leg-plain k d (SetVersion version) l e = refl
 leg-plain k d (SetupTable frames) l e = refl
 leg-plain k d (QuerySize dom) l e = refl
@@ -181,16 +190,22 @@ revoke-refusal d gref w zero false free held = absurd (held refl refl)
 revoke-refusal d gref w (suc pins) false free held =
     ap (λ (b : Bool). at_entry d gref w (stands_when b N19)) (sym (lt-ltb 0 (suc pins) (omega arith)))
 
-unpin-refusal : (s : Setting) (h : History) (d : DomId) (r : Asked) (so_far : StepsSoFar) (gref : GrantRef) (m : Option Mapping) (step : Step) → unpin_of m ≡ Makes step
+unpin-refusal : (s : Setting) (h : History) (d : DomId) (r : Asked) (so_far : StepsSoFar) (gref : GrantRef) (handle : Handle) (m : Option Mapping) (step : Step) → unpin_of handle m ≡ Makes step
     → phase_refusal (after_single d gref (seen_by s h d step)) ≡ first_at s h d r so_far step
-unpin-refusal s h d r so_far gref None step e = cc
-unpin-refusal s h d r so_far gref (Some m) step e =
+unpin-refusal s h d r so_far gref handle None step e = cc
+unpin-refusal s h d r so_far gref handle (Some m) step e =
     subst (λ (z : Step). phase_refusal (after_single d gref (seen_by s h d z)) ≡ first_at s h d r so_far z) (makes-same _ _ e) refl
 
 read-refusal : (s : Setting) (h : History) (d : DomId) (r : Asked) (so_far : StepsSoFar) (gref : GrantRef) (m : Option Mapping) (off len : ℕ) (step : Step) → read_of m off len ≡ Makes step
     → phase_refusal (after_single d gref (seen_by s h d step)) ≡ first_at s h d r so_far step
 read-refusal s h d r so_far gref None off len step e = cc
 read-refusal s h d r so_far gref (Some m) off len step e =
+    subst (λ (z : Step). phase_refusal (after_single d gref (seen_by s h d z)) ≡ first_at s h d r so_far z) (makes-same _ _ e) refl
+
+write-refusal : (s : Setting) (h : History) (d : DomId) (r : Asked) (so_far : StepsSoFar) (gref : GrantRef) (m : Option Mapping) (off len : ℕ) (step : Step) → write_of m off len ≡ Makes step
+    → phase_refusal (after_single d gref (seen_by s h d step)) ≡ first_at s h d r so_far step
+write-refusal s h d r so_far gref None off len step e = cc
+write-refusal s h d r so_far gref (Some m) off len step e =
     subst (λ (z : Step). phase_refusal (after_single d gref (seen_by s h d z)) ≡ first_at s h d r so_far z) (makes-same _ _ e) refl
 
 change-refusal : (k : CallerKnowledge) (d : DomId) (r : Asked) (more word w : ℕ) (b : Bool)
@@ -218,8 +233,11 @@ single-judged s h xs d (Revoke gref) so_far step st e comes act =
     (revoke-refusal d gref w (reads_at h d.0 gref.0 + writes_at h d.0 gref.0) (w == idle_word k gref)
     (λ b. idle-no-pins s h d gref within (eqb-true w (idle_word k gref) b))
     (λ b none. false≢true (sym b ∙ eq-eqb w (idle_word k gref) (idle-here s h d gref within none))))
-single-judged s h xs d (Unmap handle) so_far step st e comes act = unpin-refusal s h d (Unmap handle) so_far (own_gref (Unmap handle)) _ step act
+single-judged s h xs d (Unmap handle) so_far step st e comes act = unpin-refusal s h d (Unmap handle) so_far (own_gref (Unmap handle)) handle _ step act
 single-judged s h xs d (Load handle off len) so_far step st e comes act = read-refusal s h d (Load handle off len) so_far (own_gref (Load handle off len)) _ off len step act
+single-judged s h xs d (Store handle off len) so_far step st e comes act = write-refusal s h d (Store handle off len) so_far (own_gref (Store handle off len)) _ off len step act
+single-judged s h xs d (Peek frame off len) so_far step st e comes act = subst (λ (z : Step). Judged s h d (Peek frame off len) so_far Single z) (makes-same _ _ act) refl
+single-judged s h xs d (Poke frame off len) so_far step st e comes act = subst (λ (z : Step). Judged s h d (Poke frame off len) so_far Single z) (makes-same _ _ act) refl
 single-judged s h xs d (SetVersion version) so_far step st e comes act = subst (λ (z : Step). Judged s h d (SetVersion version) so_far Single z) (makes-same _ _ act) refl
 single-judged s h xs d (SetupTable frames) so_far step st e comes act = subst (λ (z : Step). Judged s h d (SetupTable frames) so_far Single z) (makes-same _ _ act) refl
 single-judged s h xs d (QuerySize dom) so_far step st e comes act = subst (λ (z : Step). Judged s h d (QuerySize dom) so_far Single z) (makes-same _ _ act) refl
@@ -241,6 +259,9 @@ look-judged s h xs d (Revoke gref) more so_far step st e a comes act = absurd co
 look-judged s h xs d (Map dom gref flags) more so_far step st e a comes act = absurd comes
 look-judged s h xs d (Unmap handle) more so_far step st e a comes act = absurd comes
 look-judged s h xs d (Load handle off len) more so_far step st e a comes act = absurd comes
+look-judged s h xs d (Store handle off len) more so_far step st e a comes act = absurd comes
+look-judged s h xs d (Peek frame off len) more so_far step st e a comes act = absurd comes
+look-judged s h xs d (Poke frame off len) more so_far step st e a comes act = absurd comes
 look-judged s h xs d (SetVersion version) more so_far step st e a comes act = absurd comes
 look-judged s h xs d (SetupTable frames) more so_far step st e a comes act = absurd comes
 look-judged s h xs d (QuerySize dom) more so_far step st e a comes act = absurd comes
@@ -263,6 +284,9 @@ change-judged s h d (Revoke gref) more word so_far step a comes act = absurd com
 change-judged s h d (Map dom gref flags) more word so_far step a comes act = absurd comes
 change-judged s h d (Unmap handle) more word so_far step a comes act = absurd comes
 change-judged s h d (Load handle off len) more word so_far step a comes act = absurd comes
+change-judged s h d (Store handle off len) more word so_far step a comes act = absurd comes
+change-judged s h d (Peek frame off len) more word so_far step a comes act = absurd comes
+change-judged s h d (Poke frame off len) more word so_far step a comes act = absurd comes
 change-judged s h d (SetVersion version) more word so_far step a comes act = absurd comes
 change-judged s h d (SetupTable frames) more word so_far step a comes act = absurd comes
 change-judged s h d (QuerySize dom) more word so_far step a comes act = absurd comes
@@ -290,6 +314,9 @@ judged s h xs d (Promote gref) so_far Storing step st e a comes act = absurd com
 judged s h xs d (Map dom gref flags) so_far Storing step st e a comes act = absurd comes
 judged s h xs d (Unmap handle) so_far Storing step st e a comes act = absurd comes
 judged s h xs d (Load handle off len) so_far Storing step st e a comes act = absurd comes
+judged s h xs d (Store handle off len) so_far Storing step st e a comes act = absurd comes
+judged s h xs d (Peek frame off len) so_far Storing step st e a comes act = absurd comes
+judged s h xs d (Poke frame off len) so_far Storing step st e a comes act = absurd comes
 judged s h xs d (SetVersion version) so_far Storing step st e a comes act = absurd comes
 judged s h xs d (SetupTable frames) so_far Storing step st e a comes act = absurd comes
 judged s h xs d (QuerySize dom) so_far Storing step st e a comes act = absurd comes
@@ -300,6 +327,9 @@ judged s h xs d (Promote gref) so_far StoringSecond step st e a comes act = absu
 judged s h xs d (Map dom gref flags) so_far StoringSecond step st e a comes act = absurd a
 judged s h xs d (Unmap handle) so_far StoringSecond step st e a comes act = absurd a
 judged s h xs d (Load handle off len) so_far StoringSecond step st e a comes act = absurd a
+judged s h xs d (Store handle off len) so_far StoringSecond step st e a comes act = absurd a
+judged s h xs d (Peek frame off len) so_far StoringSecond step st e a comes act = absurd a
+judged s h xs d (Poke frame off len) so_far StoringSecond step st e a comes act = absurd a
 judged s h xs d (SetVersion version) so_far StoringSecond step st e a comes act = absurd a
 judged s h xs d (SetupTable frames) so_far StoringSecond step st e a comes act = absurd a
 judged s h xs d (QuerySize dom) so_far StoringSecond step st e a comes act = absurd a
@@ -385,6 +415,9 @@ placed s h xs d (Promote gref) so_far Storing step st a comes act quiet = absurd
 placed s h xs d (Map dom gref flags) so_far Storing step st a comes act quiet = absurd comes
 placed s h xs d (Unmap handle) so_far Storing step st a comes act quiet = absurd comes
 placed s h xs d (Load handle off len) so_far Storing step st a comes act quiet = absurd comes
+placed s h xs d (Store handle off len) so_far Storing step st a comes act quiet = absurd comes
+placed s h xs d (Peek frame off len) so_far Storing step st a comes act quiet = absurd comes
+placed s h xs d (Poke frame off len) so_far Storing step st a comes act quiet = absurd comes
 placed s h xs d (SetVersion version) so_far Storing step st a comes act quiet = absurd comes
 placed s h xs d (SetupTable frames) so_far Storing step st a comes act quiet = absurd comes
 placed s h xs d (QuerySize dom) so_far Storing step st a comes act quiet = absurd comes
@@ -395,6 +428,9 @@ placed s h xs d (Promote gref) so_far StoringSecond step st a comes act quiet = 
 placed s h xs d (Map dom gref flags) so_far StoringSecond step st a comes act quiet = absurd a
 placed s h xs d (Unmap handle) so_far StoringSecond step st a comes act quiet = absurd a
 placed s h xs d (Load handle off len) so_far StoringSecond step st a comes act quiet = absurd a
+placed s h xs d (Store handle off len) so_far StoringSecond step st a comes act quiet = absurd a
+placed s h xs d (Peek frame off len) so_far StoringSecond step st a comes act quiet = absurd a
+placed s h xs d (Poke frame off len) so_far StoringSecond step st a comes act quiet = absurd a
 placed s h xs d (SetVersion version) so_far StoringSecond step st a comes act quiet = absurd a
 placed s h xs d (SetupTable frames) so_far StoringSecond step st a comes act quiet = absurd a
 placed s h xs d (QuerySize dom) so_far StoringSecond step st a comes act quiet = absurd a
@@ -413,13 +449,17 @@ leg-within s h xs d l so_far (Second more word body) some a = (some, a.0.within)
 leg-within s h xs d l so_far (Pinning more word body second) some a = (some, a.0.within)
 leg-within s h xs d l so_far (Relook more word rule) some a = (some, a.0.within)
 
-unpin-within : (xs : List State) (d : DomId) (m : Option Mapping) (step : Step) → unpin_of m ≡ Makes step → IsWithin xs d step
-unpin-within xs d None step e = cc
-unpin-within xs d (Some m) step e = subst (λ (z : Step). IsWithin xs d z) (makes-same _ _ e) tt
+unpin-within : (xs : List State) (d : DomId) (handle : Handle) (m : Option Mapping) (step : Step) → unpin_of handle m ≡ Makes step → IsWithin xs d step
+unpin-within xs d handle None step e = cc
+unpin-within xs d handle (Some m) step e = subst (λ (z : Step). IsWithin xs d z) (makes-same _ _ e) tt
 
 read-within : (xs : List State) (d : DomId) (m : Option Mapping) (off len : ℕ) (step : Step) → read_of m off len ≡ Makes step → IsWithin xs d step
 read-within xs d None off len step e = cc
 read-within xs d (Some m) off len step e = subst (λ (z : Step). IsWithin xs d z) (makes-same _ _ e) tt
+
+write-within : (xs : List State) (d : DomId) (m : Option Mapping) (off len : ℕ) (step : Step) → write_of m off len ≡ Makes step → IsWithin xs d step
+write-within xs d None off len step e = cc
+write-within xs d (Some m) off len step e = subst (λ (z : Step). IsWithin xs d z) (makes-same _ _ e) tt
 
 pub step-within : (s : Setting) (h : History) (xs : List State) (d : DomId) (r : Asked) (so_far : StepsSoFar) (phase : Phase) (step : Step) → CoreStands s h xs → begun (known_at s h d) d r ≡ None
     → state_of xs d.0 ≢ None → PhaseStands s h d r so_far phase → Comes (expects (known_at s h d) d r phase []) → action_at (known_at s h d) d r phase ≡ Makes step → IsWithin xs d step
@@ -432,8 +472,11 @@ step-within s h xs d (Grant gref entry) so_far Single step st e own a comes act 
     subst (λ (z : Step). IsWithin xs d z) (makes-same _ _ act) (own, own-below s h xs d (Grant gref entry) st e refl)
 step-within s h xs d (Revoke gref) so_far Single step st e own a comes act =
     subst (λ (z : Step). IsWithin xs d z) (makes-same _ _ act) (own, own-below s h xs d (Revoke gref) st e refl)
-step-within s h xs d (Unmap handle) so_far Single step st e own a comes act = unpin-within xs d _ step act
+step-within s h xs d (Unmap handle) so_far Single step st e own a comes act = unpin-within xs d handle _ step act
 step-within s h xs d (Load handle off len) so_far Single step st e own a comes act = read-within xs d _ off len step act
+step-within s h xs d (Store handle off len) so_far Single step st e own a comes act = write-within xs d _ off len step act
+step-within s h xs d (Peek frame off len) so_far Single step st e own a comes act = subst (λ (z : Step). IsWithin xs d z) (makes-same _ _ act) tt
+step-within s h xs d (Poke frame off len) so_far Single step st e own a comes act = subst (λ (z : Step). IsWithin xs d z) (makes-same _ _ act) tt
 step-within s h xs d (SetVersion version) so_far Single step st e own a comes act = subst (λ (z : Step). IsWithin xs d z) (makes-same _ _ act) tt
 step-within s h xs d (SetupTable frames) so_far Single step st e own a comes act = subst (λ (z : Step). IsWithin xs d z) (makes-same _ _ act) tt
 step-within s h xs d (QuerySize dom) so_far Single step st e own a comes act =
@@ -455,6 +498,9 @@ step-within s h xs d (Promote gref) so_far Storing step st e own a comes act = a
 step-within s h xs d (Map dom gref flags) so_far Storing step st e own a comes act = absurd comes
 step-within s h xs d (Unmap handle) so_far Storing step st e own a comes act = absurd comes
 step-within s h xs d (Load handle off len) so_far Storing step st e own a comes act = absurd comes
+step-within s h xs d (Store handle off len) so_far Storing step st e own a comes act = absurd comes
+step-within s h xs d (Peek frame off len) so_far Storing step st e own a comes act = absurd comes
+step-within s h xs d (Poke frame off len) so_far Storing step st e own a comes act = absurd comes
 step-within s h xs d (SetVersion version) so_far Storing step st e own a comes act = absurd comes
 step-within s h xs d (SetupTable frames) so_far Storing step st e own a comes act = absurd comes
 step-within s h xs d (QuerySize dom) so_far Storing step st e own a comes act = absurd comes
@@ -465,6 +511,9 @@ step-within s h xs d (Promote gref) so_far StoringSecond step st e own a comes a
 step-within s h xs d (Map dom gref flags) so_far StoringSecond step st e own a comes act = absurd a
 step-within s h xs d (Unmap handle) so_far StoringSecond step st e own a comes act = absurd a
 step-within s h xs d (Load handle off len) so_far StoringSecond step st e own a comes act = absurd a
+step-within s h xs d (Store handle off len) so_far StoringSecond step st e own a comes act = absurd a
+step-within s h xs d (Peek frame off len) so_far StoringSecond step st e own a comes act = absurd a
+step-within s h xs d (Poke frame off len) so_far StoringSecond step st e own a comes act = absurd a
 step-within s h xs d (SetVersion version) so_far StoringSecond step st e own a comes act = absurd a
 step-within s h xs d (SetupTable frames) so_far StoringSecond step st e own a comes act = absurd a
 step-within s h xs d (QuerySize dom) so_far StoringSecond step st e own a comes act = absurd a
@@ -477,6 +526,9 @@ step-within s h xs d (Revoke gref) so_far (OwnLook more) step st e own a comes a
 step-within s h xs d (Map dom gref flags) so_far (OwnLook more) step st e own a comes act = absurd comes
 step-within s h xs d (Unmap handle) so_far (OwnLook more) step st e own a comes act = absurd comes
 step-within s h xs d (Load handle off len) so_far (OwnLook more) step st e own a comes act = absurd comes
+step-within s h xs d (Store handle off len) so_far (OwnLook more) step st e own a comes act = absurd comes
+step-within s h xs d (Peek frame off len) so_far (OwnLook more) step st e own a comes act = absurd comes
+step-within s h xs d (Poke frame off len) so_far (OwnLook more) step st e own a comes act = absurd comes
 step-within s h xs d (SetVersion version) so_far (OwnLook more) step st e own a comes act = absurd comes
 step-within s h xs d (SetupTable frames) so_far (OwnLook more) step st e own a comes act = absurd comes
 step-within s h xs d (QuerySize dom) so_far (OwnLook more) step st e own a comes act = absurd comes
@@ -486,6 +538,9 @@ step-within s h xs d (Revoke gref) so_far (OwnChange more word) step st e own a 
 step-within s h xs d (Map dom gref flags) so_far (OwnChange more word) step st e own a comes act = absurd comes
 step-within s h xs d (Unmap handle) so_far (OwnChange more word) step st e own a comes act = absurd comes
 step-within s h xs d (Load handle off len) so_far (OwnChange more word) step st e own a comes act = absurd comes
+step-within s h xs d (Store handle off len) so_far (OwnChange more word) step st e own a comes act = absurd comes
+step-within s h xs d (Peek frame off len) so_far (OwnChange more word) step st e own a comes act = absurd comes
+step-within s h xs d (Poke frame off len) so_far (OwnChange more word) step st e own a comes act = absurd comes
 step-within s h xs d (SetVersion version) so_far (OwnChange more word) step st e own a comes act = absurd comes
 step-within s h xs d (SetupTable frames) so_far (OwnChange more word) step st e own a comes act = absurd comes
 step-within s h xs d (QuerySize dom) so_far (OwnChange more word) step st e own a comes act = absurd comes
@@ -507,6 +562,7 @@ seen-fits s h d (Unpin dom gref dir holder) = refl
 seen-fits s h d (StoreBody gref second word) = refl
 seen-fits s h d (StoreHeader version frames) = refl
 seen-fits s h d (ReadBytes dom frame off len) = refl
+seen-fits s h d (WriteBytes dom frame off len) = refl
 
 phase-fits : (s : Setting) (h : History) (d : DomId) (r : Asked) (so_far : StepsSoFar) (phase : Phase) (step : Step) (seen : Seen) → PhaseStands s h d r so_far phase
     → action_at (known_at s h d) d r phase ≡ Makes step → FitsStep step seen → FitsPhase (known_at s h d) d r phase seen
@@ -540,6 +596,7 @@ stepped-quiet d (LookHeader dom) seen answer q m = record { keeps = record { cha
 stepped-quiet d (LookControl dom gref) seen answer q m = record { keeps = record { changes = λ r. refl; pins = λ before. refl; unpins = λ pins. refl; maps = m }; stores = λ r which. refl; header = refl }
 stepped-quiet d (LookBody dom gref second) seen answer q m = record { keeps = record { changes = λ r. refl; pins = λ before. refl; unpins = λ pins. refl; maps = m }; stores = λ r which. refl; header = refl }
 stepped-quiet d (ReadBytes dom frame off len) seen answer q m = record { keeps = record { changes = λ r. refl; pins = λ before. refl; unpins = λ pins. refl; maps = m }; stores = λ r which. refl; header = refl }
+stepped-quiet d (WriteBytes dom frame off len) seen answer q m = absurd (false≢true q)
 stepped-quiet d (PinStep dom gref looked dir) (Missed w) answer q m = record { keeps = record { changes = λ r. refl; pins = λ before. refl; unpins = λ pins. refl; maps = m }; stores = λ r which. refl; header = refl }
 stepped-quiet d (PinStep dom gref looked dir) (Value w) answer q m = record { keeps = record { changes = λ r. refl; pins = λ before. refl; unpins = λ pins. refl; maps = m }; stores = λ r which. refl; header = refl }
 stepped-quiet d (PinStep dom gref looked dir) Nothing answer q m = record { keeps = record { changes = λ r. refl; pins = λ before. refl; unpins = λ pins. refl; maps = m }; stores = λ r which. refl; header = refl }
@@ -551,6 +608,28 @@ stepped-quiet d (Exchange gref looked change) Taken answer q m = absurd (false�
 stepped-quiet d (Unpin dom gref dir holder) seen answer q m = absurd (false≢true q)
 stepped-quiet d (StoreBody gref second word) seen answer q m = absurd (false≢true q)
 stepped-quiet d (StoreHeader version frames) seen answer q m = absurd (false≢true q)
+
+-- a step that changes nothing writes no bytes
+pub stepped-writes-none : (d : DomId) (step : Step) (seen : Seen) (answer : Option Answer) → changes_nothing step seen ≡ true → WritesNone (stepped d step seen answer)
+stepped-writes-none d (LookHeader dom) seen answer q = λ given t f old. refl
+stepped-writes-none d (LookControl dom gref) seen answer q = λ given t f old. refl
+stepped-writes-none d (LookBody dom gref second) seen answer q = λ given t f old. refl
+stepped-writes-none d (ReadBytes dom frame off len) seen answer q = λ given t f old. refl
+stepped-writes-none d (WriteBytes dom frame off len) seen answer q = absurd (false≢true q)
+stepped-writes-none d (PinStep dom gref looked dir) seen answer q = λ given t f old. refl
+stepped-writes-none d (Exchange gref looked change) seen answer q = λ given t f old. refl
+stepped-writes-none d (Unpin dom gref dir holder) seen answer q = λ given t f old. refl
+stepped-writes-none d (StoreBody gref second word) seen answer q = λ given t f old. refl
+stepped-writes-none d (StoreHeader version frames) seen answer q = λ given t f old. refl
+
+-- the bytes given to a call are the same after each of its steps
+pub given-goes-on : (d : DomId) (step : Step) (seen : Seen) (answer : Option Answer) (h : History) (given : List ℕ) → GivenAgrees h d.0 given → GivenAgrees (stepped d step seen answer ∷ h) d.0 given
+given-goes-on d step seen answer h given a = λ c call. by answer (open_call h d.0) refl c (sym (open_call-own (stepped d step seen answer) h) ∙ call)
+  where
+    by : (answer : Option Answer) (u : Option Underway) → open_call h d.0 ≡ u → (c : Underway) → underway_after (stepped d step seen answer) u ≡ Some c → (given ≡ c.given) × FitsGiven c.request c.given
+    by (Some x) u is c e = absurd (none-some c e)
+    by None None is c e = absurd (none-some c e)
+    by None (Some b) is c e = subst (λ (z : Underway). (given ≡ z.given) × FitsGiven z.request z.given) (same_Some _ _ e) (a b is)
 
 -- what is known of a step of an open call
 pub record Stepping (s : Setting) (h : History) (d : DomId) (o : Open) (c : Underway) (seen : Seen) (new : Call) (action : Action) : Type 0 where
@@ -572,7 +651,7 @@ begun-none k d r (Some v) (x ∷ vs) step e = cc
 
 pub stepping : (s : Setting) (h : History) (xs : List State) (x : State) (o : Open) (c : Underway) (seen : Seen) (new : Call) (action : Action)
     → CoreStands s h xs → state_of xs x.id.0 ≡ Some x → Agrees s h x → OpenAgrees s h x.id o c → seen ≡ sees xs x.id o.step
-    → Advances (knowledge_of s.domains s.first_generation s.may x.own x.header x.mappings x.maps_answered) o.call.caller o.call.request o.call.phase seen new action
+    → Advances (knowledge_of s.domains s.first_generation s.may x.own x.header x.mappings) o.call.caller o.call.request o.call.phase seen new action
     → Stepping s h x.id o c seen new action
 stepping s h xs x o c seen new action st here a oa saw adv =
     let d = x.id in
@@ -582,8 +661,8 @@ stepping s h xs x o c seen new action st here a oa saw adv =
     subst (λ (q : Asked). Advances k d q o.call.phase seen new action) oa.request
     (subst (λ (z : DomId). Advances k z o.call.request o.call.phase seen new action) oa.caller
     (subst (λ (m : CallerKnowledge). Advances m o.call.caller o.call.request o.call.phase seen new action) (known-same s h x a) adv)) in
-    let comes : Comes (expects k d r o.call.phase []) = comes-some _ _ oa.comes in
-    let act : action_at k d r o.call.phase ≡ Makes o.step = same_Some _ _ (sym (wants-action k d r o.call.phase comes) ∙ oa.comes) in
+    let comes : Comes (expects k d r o.call.phase []) = subst Comes (sym oa.comes) tt in
+    let act : action_at k d r o.call.phase ≡ Makes o.step = same_Some _ _ (sym (v.made comes) ∙ oa.comes) in
     let none : begun k d r ≡ None = begun-none k d r (begun k d r) (values c ++ []) o.step (oa.leads [] ∙ oa.comes) in
     let place = oa.place in
     let own : state_of xs d.0 ≢ None = λ e. none-some x (sym e ∙ here) in
@@ -600,7 +679,7 @@ stepping s h xs x o c seen new action st here a oa saw adv =
       stands = v.stands;
       goes_on = v.goes_on under fits;
       next = next;
-      is_next = same_Some _ _ (sym next ∙ wants-action k d r new.phase (comes-some _ _ next));
+      is_next = v.gives;
       judged = ap phase_refusal (v.stands ∙ ap (phase_after k d r o.call.phase) same) ∙ judged s h xs d r (reverse c.steps) o.call.phase o.step st none place comes act;
     }
 
@@ -631,6 +710,7 @@ quiet-leaves (LookHeader dom) seen q = tt
 quiet-leaves (LookControl dom gref) seen q = tt
 quiet-leaves (LookBody dom gref second) seen q = tt
 quiet-leaves (ReadBytes dom frame off len) seen q = tt
+quiet-leaves (WriteBytes dom frame off len) seen q = absurd (false≢true q)
 quiet-leaves (PinStep dom gref looked dir) (Missed w) q = tt
 quiet-leaves (PinStep dom gref looked dir) (Value w) q = tt
 quiet-leaves (PinStep dom gref looked dir) Nothing q = tt
@@ -646,7 +726,7 @@ quiet-leaves (StoreHeader version frames) seen q = absurd (false≢true q)
 -- the call with one step more
 
 abbrev pub one-more : Underway → Step → Seen → Underway
-one-more c step seen = record { request = c.request; steps = c.steps ++ (step, seen) ∷ [] }
+one-more c step seen = record { request = c.request; given = c.given; steps = c.steps ++ (step, seen) ∷ [] }
 
 pub values-more : (c : Underway) (step : Step) (seen : Seen) (vs : List Seen) → values (one-more c step seen) ++ vs ≡ values c ++ (seen ∷ vs)
 values-more c step seen vs =
@@ -704,70 +784,29 @@ goes-on-agrees s h d o c seen new step q call oa p f leaves =
     goes-on-after s h d o c seen new step (quiet-known s i h d q) call oa p
     (place-keeps s i h d c.request ((o.step, seen) ∷ reverse c.steps) new.phase q (follows-stands s h d c.request ((o.step, seen) ∷ reverse c.steps) new.phase step p.is_next f)) leaves
 
--- an access by a mapping is justified by the pin that it holds
+-- what a call reads or writes is justified
 
-permits-reading : (e : Entry) (d : DomId) (dir : Dir) (off len : ℕ) → Permits e d dir ForMap 0 0 → Permits e d Read ForMap off len
-permits-reading Invalid d dir off len a = a
-permits-reading (Page dom ro frame) d dir off len a = (a.0, λ e. refl)
-permits-reading (Sub dom ro frame start size) d dir off len a = let f = a.2 in cc
-permits-reading (Via dom ro dom2 gref) d dir off len a = a
+pub justified-read : (s : Setting) (h : History) (d t : DomId) (frame off len : ℕ) → Accesses s h d Read t frame off len → Justified s h d (ReadBytes t frame off len)
+justified-read s h d t frame off len a = (a.inside, a.by_right)
 
-abbrev MayRead : Setting → DomId → Mapping → ℕ → ℕ → Pin → Type 0
-MayRead s d m off len p = Reaches d Read ForMap m.dom m.frame off len p × MayUse s d m.dom p.dir
+pub justified-write : (s : Setting) (h : History) (d t : DomId) (frame off len : ℕ) → Accesses s h d Write t frame off len → Justified s h d (WriteBytes t frame off len)
+justified-write s h d t frame off len a = (a.inside, a.by_right)
 
-abbrev shown_by : Pin → Handle → Mapping
-shown_by p handle = record { handle = handle; dom = p.dom; gref = record { 0 = p.gref }; dir = p.dir; frame = frame_of p.entry }
+load-justified : (s : Setting) (h : History) (xs : List State) (d : DomId) (handle : Handle) (o : Option Mapping) (off len : ℕ) (step : Step) → CoreStands s h xs
+    → load_begun (mapping_of (mappings_at h d.0)) handle off len ≡ None → mapping_of (mappings_at h d.0) handle ≡ o → read_of o off len ≡ Makes step → Justified s h d step
+load-justified s h xs d handle None off len step st none e act = cc
+load-justified s h xs d handle (Some m) off len step st none e act =
+    subst (λ (z : Step). Justified s h d z) (makes-same _ _ act) (justified-read s h d m.dom m.frame off len (load-accesses s h xs d handle off len m st none e))
 
-reads-own : (s : Setting) (d : DomId) (off len : ℕ) (p : Pin) (handle : Handle) → p.holder ≡ ByMapping handle → IsLawful s p → p.actor ≡ d.0 → MayRead s d (shown_by p handle) off len p
-reads-own s d off len p handle held law own =
-    let w : IsLawfullyHeld s p (ByMapping handle) = subst (λ (x : Holder). IsLawfullyHeld s p x) held law in
-    let same : record { 0 = p.actor } ≡ d = ap (λ (n : ℕ). record { 0 = n }) own in
-    let v = subst (λ (z : DomId). Permits p.entry z p.dir ForMap 0 0 × MayUse s z p.dom p.dir) same (w.0, w.1) in
-    ((own, refl, refl, permits-reading p.entry d p.dir off len v.0, λ e. let f : Read ≡ Write = e in cc), v.1)
+store-justified : (s : Setting) (h : History) (xs : List State) (d : DomId) (handle : Handle) (o : Option Mapping) (off len : ℕ) (step : Step) → CoreStands s h xs
+    → store_begun (mapping_of (mappings_at h d.0)) handle off len ≡ None → mapping_of (mappings_at h d.0) handle ≡ o → write_of o off len ≡ Makes step → Justified s h d step
+store-justified s h xs d handle None off len step st none e act = cc
+store-justified s h xs d handle (Some m) off len step st none e act =
+    subst (λ (z : Step). Justified s h d z) (makes-same _ _ act) (justified-write s h d m.dom m.frame off len (store-accesses s h xs d handle off len m st none e))
 
-pub any-here : {X : Type 0} (P : X → Type 0) (x : X) (xs : List X) → P x → Any P (x ∷ xs)
-any-here P x xs a = (0, x, omega arith, refl, a)
-
-any-there : {X : Type 0} (P : X → Type 0) (x : X) (xs : List X) → Any P xs → Any P (x ∷ xs)
-any-there P x xs a = (suc a.0, a.1, (let lt = a.2 in omega arith), a.3, a.4)
-
--- the first mapping with this handle is held by a pin that lets it be read
-reads-by : (s : Setting) (d : DomId) (handle : Handle) (off len : ℕ) (m : Mapping) (ps : List Pin) → All (IsLawful s) ps → mapping_of (mappings_in d.0 ps) handle ≡ Some m → Any (MayRead s d m off len) ps
-unfolding mappings_in
-reads-by s d handle off len m [] a e = cc
-reads-by s d handle off len m (p ∷ ps) a e = with-holder p.holder (reads-by s d handle off len m ps (All-tail (IsLawful s) p ps a)) refl e
-  where
-    Rest : Type 0
-    Rest = mapping_of (mappings_in d.0 ps) handle ≡ Some m → Any (MayRead s d m off len) ps
-
-    at : (b : Bool) (handle' : Handle) → Rest → p.holder ≡ ByMapping handle' → p.actor ≡ d.0
-        → cond b (Some (shown_by p handle')) (mapping_of (mappings_in d.0 ps) handle) ≡ Some m
-        → Any (MayRead s d m off len) (p ∷ ps)
-    at true handle' rest held own f = any-here (MayRead s d m off len) p ps (subst (λ (z : Mapping). MayRead s d z off len p) (same_Some _ _ f) (reads-own s d off len p handle' held (a 0 p (omega arith)) own))
-    at false handle' rest held own f = any-there (MayRead s d m off len) p ps (rest f)
-
-    with-own : (b : Bool) (handle' : Handle) → Rest → p.holder ≡ ByMapping handle' → (p.actor == d.0) ≡ b
-        → mapping_of (cond b (shown_by p handle' ∷ []) [] ++ mappings_in d.0 ps) handle ≡ Some m
-        → Any (MayRead s d m off len) (p ∷ ps)
-    with-own true handle' rest held own f = at (is_handle handle' handle) handle' rest held (eqb-true p.actor d.0 own) f
-    with-own false handle' rest held own f = any-there (MayRead s d m off len) p ps (rest f)
-
-    with-holder : (holder : Holder) → Rest → p.holder ≡ holder → mapping_of (mapping_on d.0 p holder ++ mappings_in d.0 ps) handle ≡ Some m
-        → Any (MayRead s d m off len) (p ∷ ps)
-    with-holder (ByMapping handle') rest held f = with-own (p.actor == d.0) handle' rest held refl f
-    with-holder (ByLeg number) rest held f = any-there (MayRead s d m off len) p ps (rest f)
-
--- what a call reads is justified
-
-read-justified : (s : Setting) (h : History) (xs : List State) (d : DomId) (handle : Handle) (o : Option Mapping) (off len : ℕ) (step : Step) → CoreStands s h xs
-    → mapping_of (mappings_at h d.0) handle ≡ o → read_of o off len ≡ Makes step → Justified s h d step
-read-justified s h xs d handle None off len step st e act = cc
-read-justified s h xs d handle (Some m) off len step st e act =
-    subst (λ (z : Step). Justified s h d z) (makes-same _ _ act) (reads-by s d handle off len m (live h) st.lawful e)
-
-unpin-justified : (s : Setting) (h : History) (d : DomId) (m : Option Mapping) (step : Step) → unpin_of m ≡ Makes step → Justified s h d step
-unpin-justified s h d None step e = cc
-unpin-justified s h d (Some m) step e = subst (λ (z : Step). Justified s h d z) (makes-same _ _ e) tt
+unpin-justified : (s : Setting) (h : History) (d : DomId) (handle : Handle) (m : Option Mapping) (step : Step) → unpin_of handle m ≡ Makes step → Justified s h d step
+unpin-justified s h d handle None step e = cc
+unpin-justified s h d handle (Some m) step e = subst (λ (z : Step). Justified s h d z) (makes-same _ _ e) tt
 
 leg-justified : (s : Setting) (h : History) (d : DomId) (l : Leg) (p : LegPhase) → Justified s h d (leg_step l p)
 leg-justified s h d l AtHeader = tt
@@ -779,51 +818,61 @@ leg-justified s h d l (Relook more word rule) = tt
 
 -- each access of an open call is justified
 pub step-justified : (s : Setting) (h : History) (xs : List State) (d : DomId) (r : Asked) (phase : Phase) (step : Step) → CoreStands s h xs
-    → action_at (known_at s h d) d r phase ≡ Makes step → Justified s h d step
-step-justified s h xs d r PhaseBegun step st act = cc
-step-justified s h xs d r (LegPinning l p) step st act = subst (λ (z : Step). Justified s h d z) (makes-same _ _ act) (leg-justified s h d l p)
-step-justified s h xs d (Grant gref entry) Storing step st act = subst (λ (z : Step). Justified s h d z) (makes-same _ _ act) tt
-step-justified s h xs d (Revoke gref) Storing step st act = cc
-step-justified s h xs d (Demote gref) Storing step st act = cc
-step-justified s h xs d (Promote gref) Storing step st act = cc
-step-justified s h xs d (Map dom gref flags) Storing step st act = cc
-step-justified s h xs d (Unmap handle) Storing step st act = cc
-step-justified s h xs d (Load handle off len) Storing step st act = cc
-step-justified s h xs d (SetVersion version) Storing step st act = cc
-step-justified s h xs d (SetupTable frames) Storing step st act = cc
-step-justified s h xs d (QuerySize dom) Storing step st act = cc
-step-justified s h xs d (GetVersion dom) Storing step st act = cc
-step-justified s h xs d (Grant gref entry) StoringSecond step st act = subst (λ (z : Step). Justified s h d z) (makes-same _ _ act) tt
-step-justified s h xs d (Revoke gref) StoringSecond step st act = cc
-step-justified s h xs d (Demote gref) StoringSecond step st act = cc
-step-justified s h xs d (Promote gref) StoringSecond step st act = cc
-step-justified s h xs d (Map dom gref flags) StoringSecond step st act = cc
-step-justified s h xs d (Unmap handle) StoringSecond step st act = cc
-step-justified s h xs d (Load handle off len) StoringSecond step st act = cc
-step-justified s h xs d (SetVersion version) StoringSecond step st act = cc
-step-justified s h xs d (SetupTable frames) StoringSecond step st act = cc
-step-justified s h xs d (QuerySize dom) StoringSecond step st act = cc
-step-justified s h xs d (GetVersion dom) StoringSecond step st act = cc
-step-justified s h xs d (Grant gref entry) Single step st act = subst (λ (z : Step). Justified s h d z) (makes-same _ _ act) tt
-step-justified s h xs d (Revoke gref) Single step st act = subst (λ (z : Step). Justified s h d z) (makes-same _ _ act) tt
-step-justified s h xs d (Demote gref) Single step st act = cc
-step-justified s h xs d (Promote gref) Single step st act = cc
-step-justified s h xs d (Map dom gref flags) Single step st act = cc
-step-justified s h xs d (Unmap handle) Single step st act = unpin-justified s h d _ step act
-step-justified s h xs d (Load handle off len) Single step st act = read-justified s h xs d handle _ off len step st refl act
-step-justified s h xs d (SetVersion version) Single step st act = subst (λ (z : Step). Justified s h d z) (makes-same _ _ act) tt
-step-justified s h xs d (SetupTable frames) Single step st act = subst (λ (z : Step). Justified s h d z) (makes-same _ _ act) tt
-step-justified s h xs d (QuerySize dom) Single step st act = subst (λ (z : Step). Justified s h d z) (makes-same _ _ act) tt
-step-justified s h xs d (GetVersion dom) Single step st act = subst (λ (z : Step). Justified s h d z) (makes-same _ _ act) tt
-step-justified s h xs d r (OwnLook more) step st act = subst (λ (z : Step). Justified s h d z) (makes-same _ _ act) tt
-step-justified s h xs d r (OwnChange more word) step st act = subst (λ (z : Step). Justified s h d z) (makes-same _ _ act) tt
-step-justified s h xs d r (Ended v) step st act = cc
+    → begun (known_at s h d) d r ≡ None → action_at (known_at s h d) d r phase ≡ Makes step → Justified s h d step
+step-justified s h xs d r PhaseBegun step st none act = cc
+step-justified s h xs d r (LegPinning l p) step st none act = subst (λ (z : Step). Justified s h d z) (makes-same _ _ act) (leg-justified s h d l p)
+step-justified s h xs d (Grant gref entry) Storing step st none act = subst (λ (z : Step). Justified s h d z) (makes-same _ _ act) tt
+step-justified s h xs d (Revoke gref) Storing step st none act = cc
+step-justified s h xs d (Demote gref) Storing step st none act = cc
+step-justified s h xs d (Promote gref) Storing step st none act = cc
+step-justified s h xs d (Map dom gref flags) Storing step st none act = cc
+step-justified s h xs d (Unmap handle) Storing step st none act = cc
+step-justified s h xs d (Load handle off len) Storing step st none act = cc
+step-justified s h xs d (Store handle off len) Storing step st none act = cc
+step-justified s h xs d (Peek frame off len) Storing step st none act = cc
+step-justified s h xs d (Poke frame off len) Storing step st none act = cc
+step-justified s h xs d (SetVersion version) Storing step st none act = cc
+step-justified s h xs d (SetupTable frames) Storing step st none act = cc
+step-justified s h xs d (QuerySize dom) Storing step st none act = cc
+step-justified s h xs d (GetVersion dom) Storing step st none act = cc
+step-justified s h xs d (Grant gref entry) StoringSecond step st none act = subst (λ (z : Step). Justified s h d z) (makes-same _ _ act) tt
+step-justified s h xs d (Revoke gref) StoringSecond step st none act = cc
+step-justified s h xs d (Demote gref) StoringSecond step st none act = cc
+step-justified s h xs d (Promote gref) StoringSecond step st none act = cc
+step-justified s h xs d (Map dom gref flags) StoringSecond step st none act = cc
+step-justified s h xs d (Unmap handle) StoringSecond step st none act = cc
+step-justified s h xs d (Load handle off len) StoringSecond step st none act = cc
+step-justified s h xs d (Store handle off len) StoringSecond step st none act = cc
+step-justified s h xs d (Peek frame off len) StoringSecond step st none act = cc
+step-justified s h xs d (Poke frame off len) StoringSecond step st none act = cc
+step-justified s h xs d (SetVersion version) StoringSecond step st none act = cc
+step-justified s h xs d (SetupTable frames) StoringSecond step st none act = cc
+step-justified s h xs d (QuerySize dom) StoringSecond step st none act = cc
+step-justified s h xs d (GetVersion dom) StoringSecond step st none act = cc
+step-justified s h xs d (Grant gref entry) Single step st none act = subst (λ (z : Step). Justified s h d z) (makes-same _ _ act) tt
+step-justified s h xs d (Revoke gref) Single step st none act = subst (λ (z : Step). Justified s h d z) (makes-same _ _ act) tt
+step-justified s h xs d (Demote gref) Single step st none act = cc
+step-justified s h xs d (Promote gref) Single step st none act = cc
+step-justified s h xs d (Map dom gref flags) Single step st none act = cc
+step-justified s h xs d (Unmap handle) Single step st none act = unpin-justified s h d handle _ step act
+step-justified s h xs d (Load handle off len) Single step st none act = load-justified s h xs d handle _ off len step st none refl act
+step-justified s h xs d (Store handle off len) Single step st none act = store-justified s h xs d handle _ off len step st none refl act
+step-justified s h xs d (Peek frame off len) Single step st none act = subst (λ (z : Step). Justified s h d z) (makes-same _ _ act) (justified-read s h d d frame off len (own-accesses s h d Read frame off len none))
+step-justified s h xs d (Poke frame off len) Single step st none act = subst (λ (z : Step). Justified s h d z) (makes-same _ _ act) (justified-write s h d d frame off len (own-accesses s h d Write frame off len none))
+step-justified s h xs d (SetVersion version) Single step st none act = subst (λ (z : Step). Justified s h d z) (makes-same _ _ act) tt
+step-justified s h xs d (SetupTable frames) Single step st none act = subst (λ (z : Step). Justified s h d z) (makes-same _ _ act) tt
+step-justified s h xs d (QuerySize dom) Single step st none act = subst (λ (z : Step). Justified s h d z) (makes-same _ _ act) tt
+step-justified s h xs d (GetVersion dom) Single step st none act = subst (λ (z : Step). Justified s h d z) (makes-same _ _ act) tt
+step-justified s h xs d r (OwnLook more) step st none act = subst (λ (z : Step). Justified s h d z) (makes-same _ _ act) tt
+step-justified s h xs d r (OwnChange more word) step st none act = subst (λ (z : Step). Justified s h d z) (makes-same _ _ act) tt
+step-justified s h xs d r (Ended v) step st none act = cc
 
 quiet-safe : (s : Setting) (h : History) (d : DomId) (step : Step) (seen : Seen) (answer : Option Answer) → changes_nothing step seen ≡ true → IsSafe s h (stepped d step seen answer)
 quiet-safe s h d (LookHeader dom) seen answer q = tt
 quiet-safe s h d (LookControl dom gref) seen answer q = tt
 quiet-safe s h d (LookBody dom gref second) seen answer q = tt
 quiet-safe s h d (ReadBytes dom frame off len) seen answer q = tt
+quiet-safe s h d (WriteBytes dom frame off len) seen answer q = tt
 quiet-safe s h d (PinStep dom gref looked dir) seen answer q = tt
 quiet-safe s h d (Exchange gref looked change) (Missed w) answer q = tt
 quiet-safe s h d (Exchange gref looked change) (Value w) answer q = tt
@@ -838,6 +887,7 @@ quiet-sound s h d r (LookHeader dom) seen q = tt
 quiet-sound s h d r (LookControl dom gref) seen q = tt
 quiet-sound s h d r (LookBody dom gref second) seen q = tt
 quiet-sound s h d r (ReadBytes dom frame off len) seen q = tt
+quiet-sound s h d r (WriteBytes dom frame off len) seen q = tt
 quiet-sound s h d r (PinStep dom gref looked dir) (Missed w) q = tt
 quiet-sound s h d r (PinStep dom gref looked dir) (Value w) q = tt
 quiet-sound s h d r (PinStep dom gref looked dir) Nothing q = tt
@@ -865,7 +915,7 @@ going-right s h xs d o c seen new step st call oa p safe sound =
     record {
       continues = path-here s h d o c oa;
       sees = p.sees;
-      justified = step-justified s h xs d c.request o.call.phase o.step st p.act;
+      justified = step-justified s h xs d c.request o.call.phase o.step st p.none p.act;
       safe = safe;
       sound = sound;
       soon = λ e. goes-soon s h d o c seen new step oa p;
@@ -897,7 +947,7 @@ with_open x o = record x { underway = o }
 -- a step that changes nothing, of a call that goes on
 pub tick-goes-on : (s : Setting) (h : History) (xs : List State) (dom : DomId) (at : ℕ) (x : State) (o : Open) (seen : Seen) (new : Call) (step : Step)
     → position (has_id dom.0) xs ≡ Some at → x ≡ get_or xs at x → x.underway ≡ Some o → CoreStands s h xs → seen ≡ sees xs dom o.step
-    → Advances (knowledge_of s.domains s.first_generation s.may x.own x.header x.mappings x.maps_answered) o.call.caller o.call.request o.call.phase seen new (Makes step)
+    → Advances (knowledge_of s.domains s.first_generation s.may x.own x.header x.mappings) o.call.caller o.call.request o.call.phase seen new (Makes step)
     → changes_nothing o.step seen ≡ true
     → (domain_of s.domains dom ≢ None) × StepsRightIn s h (stepped dom o.step seen None) o.step seen (open_call h dom.0)
     × CoreStands s (stepped dom o.step seen None ∷ h) (set xs at (with_open x (Some (record { call = new; step = step }))))
@@ -916,15 +966,16 @@ tick-goes-on s h xs dom at x o seen new step p here is st saw adv q =
     let follows : FollowsPlace s h x.id c.0.request ((o.step, seen) ∷ reverse c.0.steps) new.phase =
     subst (λ (ph : Phase). FollowsPlace s h x.id c.0.request ((o.step, seen) ∷ reverse c.0.steps) ph) (sym w.stands)
     (subst (λ (z : Seen). FollowsPlace s h x.id c.0.request ((o.step, z) ∷ reverse c.0.steps) (phase_after (known_at s h x.id) x.id c.0.request o.call.phase z)) (sym w.sees)
-    (placed s h xs x.id c.0.request (reverse c.0.steps) o.call.phase o.step st c.2.place (comes-some _ _ c.2.comes) w.act
+    (placed s h xs x.id c.0.request (reverse c.0.steps) o.call.phase o.step st c.2.place (subst Comes (sym c.2.comes) tt) w.act
     (ap (changes_nothing o.step) (sym w.sees) ∙ q))) in
     let agrees = goes-on-agrees s h x.id o c.0 seen new step quiet c.1 c.2 w follows (quiet-leaves o.step seen q) in
     let now : open_call (i ∷ h) x.id.0 ≡ Some (one-more c.0 o.step seen) = open_call-own i h ∙ ap (underway_after i) c.1 in
     let state : Agrees s (i ∷ h) (with_open x (Some (record { call = new; step = step }))) =
-    quiet-agrees s i h x (Some (record { call = new; step = step })) quiet a.2
-    (subst (λ (u : Option Underway). CallAgrees s (i ∷ h) x.id (Some (record { call = new; step = step })) u) (sym now) agrees) in (
+    quiet-agrees s i h x (Some (record { call = new; step = step })) x.given x.frames quiet a.2
+    (subst (λ (u : Option Underway). CallAgrees s (i ∷ h) x.id (Some (record { call = new; step = step })) u) (sym now) agrees)
+    (given-goes-on x.id o.step seen None h x.given a.2.given) (frames-stay s i h x.id x.frames (stepped-writes-none x.id o.step seen None q) a.2.frames) in (
       subst (λ (u : Option Underway). StepsRightIn s h i o.step seen u) (sym c.1) (quiet-right s h xs x.id o c.0 seen new step st c.1 c.2 w q),
-      quiet-stands s i h xs (set xs at (with_open x (Some (record { call = new; step = step })))) (with_open x (Some (record { call = new; step = step }))) quiet st
+      quiet-stands s i h xs (set xs at (with_open x (Some (record { call = new; step = step })))) (with_open x (Some (record { call = new; step = step }))) quiet (stepped-writes-none x.id o.step seen None q) st
           (λ n. state_of-set xs at x (with_open x (Some (record { call = new; step = step }))) n places.0 (sym here) refl apart) (refl, state) (λ none. none-some x (sym none ∙ g)),
     ))
     f saw (λ k below. places.2 k below) in
@@ -947,6 +998,9 @@ store-granted (Promote gref) denial e = cc
 store-granted (Map dom gref flags) denial e = cc
 store-granted (Unmap handle) denial e = cc
 store-granted (Load handle off len) denial e = cc
+store-granted (Store handle off len) denial e = cc
+store-granted (Peek frame off len) denial e = cc
+store-granted (Poke frame off len) denial e = cc
 store-granted (SetVersion version) denial e = cc
 store-granted (SetupTable frames) denial e = cc
 store-granted (QuerySize dom) denial e = cc
@@ -960,18 +1014,25 @@ second-granted (Promote gref) denial e = cc
 second-granted (Map dom gref flags) denial e = cc
 second-granted (Unmap handle) denial e = cc
 second-granted (Load handle off len) denial e = cc
+second-granted (Store handle off len) denial e = cc
+second-granted (Peek frame off len) denial e = cc
+second-granted (Poke frame off len) denial e = cc
 second-granted (SetVersion version) denial e = cc
 second-granted (SetupTable frames) denial e = cc
 second-granted (QuerySize dom) denial e = cc
 second-granted (GetVersion dom) denial e = cc
 
-unpin-granted : (m : Option Mapping) (denial : Denial) → Done (Refused denial) ≡ unpin_of m → ⊥
-unpin-granted None denial e = cc
-unpin-granted (Some m) denial e = cc
+unpin-granted : (handle : Handle) (m : Option Mapping) (denial : Denial) → Done (Refused denial) ≡ unpin_of handle m → ⊥
+unpin-granted handle None denial e = cc
+unpin-granted handle (Some m) denial e = cc
 
 read-granted : (m : Option Mapping) (off len : ℕ) (denial : Denial) → Done (Refused denial) ≡ read_of m off len → ⊥
 read-granted None off len denial e = cc
 read-granted (Some m) off len denial e = cc
+
+write-granted : (m : Option Mapping) (off len : ℕ) (denial : Denial) → Done (Refused denial) ≡ write_of m off len → ⊥
+write-granted None off len denial e = cc
+write-granted (Some m) off len denial e = cc
 
 single-granted : (k : CallerKnowledge) (d : DomId) (r : Asked) (denial : Denial) → Done (Refused denial) ≡ single_at k d r → ⊥
 single-granted k d (Grant gref entry) denial e = cc
@@ -979,8 +1040,11 @@ single-granted k d (Revoke gref) denial e = cc
 single-granted k d (Demote gref) denial e = cc
 single-granted k d (Promote gref) denial e = cc
 single-granted k d (Map dom gref flags) denial e = cc
-single-granted k d (Unmap handle) denial e = unpin-granted (mapping_of k.mappings handle) denial e
-single-granted k d (Load handle off len) denial e = read-granted (mapping_of k.mappings handle) off len denial e
+single-granted k d (Unmap handle) denial e = unpin-granted handle (k.mapping handle) denial e
+single-granted k d (Load handle off len) denial e = read-granted (k.mapping handle) off len denial e
+single-granted k d (Store handle off len) denial e = write-granted (k.mapping handle) off len denial e
+single-granted k d (Peek frame off len) denial e = cc
+single-granted k d (Poke frame off len) denial e = cc
 single-granted k d (SetVersion version) denial e = cc
 single-granted k d (SetupTable frames) denial e = cc
 single-granted k d (QuerySize dom) denial e = cc
@@ -1010,7 +1074,7 @@ quiet-refused s h xs d o c seen new denial st call oa p q =
     record {
       continues = path-here s h d o c oa;
       sees = p.sees;
-      justified = step-justified s h xs d c.request o.call.phase o.step st p.act;
+      justified = step-justified s h xs d c.request o.call.phase o.step st p.none p.act;
       safe = quiet-safe s h d o.step seen (Some (Denied denial)) q;
       sound = quiet-sound s h d c.request o.step seen q;
       soon = λ e. let f : Some (Denied denial) ≡ None = e in cc;
@@ -1022,7 +1086,7 @@ quiet-refused s h xs d o c seen new denial st call oa p q =
 -- a step that changes nothing, of a call that is refused
 pub tick-refused : (s : Setting) (h : History) (xs : List State) (dom : DomId) (at : ℕ) (x : State) (o : Open) (seen : Seen) (new : Call) (denial : Denial)
     → position (has_id dom.0) xs ≡ Some at → x ≡ get_or xs at x → x.underway ≡ Some o → CoreStands s h xs → seen ≡ sees xs dom o.step
-    → Advances (knowledge_of s.domains s.first_generation s.may x.own x.header x.mappings x.maps_answered) o.call.caller o.call.request o.call.phase seen new (Done (Refused denial))
+    → Advances (knowledge_of s.domains s.first_generation s.may x.own x.header x.mappings) o.call.caller o.call.request o.call.phase seen new (Done (Refused denial))
     → changes_nothing o.step seen ≡ true
     → (domain_of s.domains dom ≢ None) × StepsRightIn s h (stepped dom o.step seen (Some (Denied denial))) o.step seen (open_call h dom.0)
     × CoreStands s (stepped dom o.step seen (Some (Denied denial)) ∷ h) (set xs at (with_open x None))
@@ -1040,9 +1104,10 @@ tick-refused s h xs dom at x o seen new denial p here is st saw adv q =
     let i = stepped x.id o.step seen (Some (Denied denial)) in
     let now : open_call (i ∷ h) x.id.0 ≡ None = open_call-own i h in
     let state : Agrees s (i ∷ h) (with_open x None) =
-    quiet-agrees s i h x None quiet a.2 (subst (λ (u : Option Underway). CallAgrees s (i ∷ h) x.id None u) (sym now) tt) in (
+    quiet-agrees s i h x None x.given x.frames quiet a.2 (subst (λ (u : Option Underway). CallAgrees s (i ∷ h) x.id None u) (sym now) tt)
+    (given-none (i ∷ h) x.id.0 x.given now) (frames-stay s i h x.id x.frames (stepped-writes-none x.id o.step seen (Some (Denied denial)) q) a.2.frames) in (
       subst (λ (u : Option Underway). StepsRightIn s h i o.step seen u) (sym c.1) (quiet-refused s h xs x.id o c.0 seen new denial st c.1 c.2 w q),
-      quiet-stands s i h xs (set xs at (with_open x None)) (with_open x None) quiet st
+      quiet-stands s i h xs (set xs at (with_open x None)) (with_open x None) quiet (stepped-writes-none x.id o.step seen (Some (Denied denial)) q) st
           (λ n. state_of-set xs at x (with_open x None) n places.0 (sym here) refl apart) (refl, state) (λ none. none-some x (sym none ∙ g)),
     ))
     f saw (λ k below. places.2 k below) in
@@ -1057,6 +1122,7 @@ seen-missed s h d (LookBody dom gref second) w e = refl
 seen-missed s h d (PinStep dom gref looked dir) w e = refl
 seen-missed s h d (Exchange gref looked change) w e = refl
 seen-missed s h d (ReadBytes dom frame off len) w e = refl
+seen-missed s h d (WriteBytes dom frame off len) w e = let f : Nothing ≡ Missed w = e in cc
 seen-missed s h d (Unpin dom gref dir holder) w e = let f : Nothing ≡ Missed w = e in cc
 seen-missed s h d (StoreBody gref second word) w e = let f : Nothing ≡ Missed w = e in cc
 seen-missed s h d (StoreHeader version frames) w e = let f : Nothing ≡ Missed w = e in cc
@@ -1108,7 +1174,7 @@ refused-quietly s h d r (Ended v) denial step act e = cc
 -- a step after which a call is refused changes nothing
 pub refused-changes-nothing : (s : Setting) (h : History) (xs : List State) (dom : DomId) (at : ℕ) (x : State) (o : Open) (seen : Seen) (new : Call) (denial : Denial)
     → position (has_id dom.0) xs ≡ Some at → x ≡ get_or xs at x → x.underway ≡ Some o → CoreStands s h xs → seen ≡ sees xs dom o.step
-    → Advances (knowledge_of s.domains s.first_generation s.may x.own x.header x.mappings x.maps_answered) o.call.caller o.call.request o.call.phase seen new (Done (Refused denial))
+    → Advances (knowledge_of s.domains s.first_generation s.may x.own x.header x.mappings) o.call.caller o.call.request o.call.phase seen new (Done (Refused denial))
     → changes_nothing o.step seen ≡ true
 refused-changes-nothing s h xs dom at x o seen new denial p here is st saw adv =
     let a = agrees-found s h xs dom at x p here st in

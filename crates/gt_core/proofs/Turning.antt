@@ -1,5 +1,6 @@
 -- A tick of a call that goes on, or is refused.
 use Rattle.std.proofs.Common.{◌≡◌, ◌≢◌, ◌+◌, ℕ, refl, Bool, true, false, List, [], ◌∷◌, Option, Some, None, cond, sym, ap, ◌∙◌, subst, reverse}
+use Rattle.gt_core.proofs.Mappings.{mappings-same}
 use Rattle.std.proofs.lemmas.Bool.{eqb-true, eq-eqb, false≢true, true≢false}
 use Rattle.std.proofs.lemmas.Option.{none-some, same_Some}
 use Rattle.std.specs.Prelude.{◌==◌, ◌&&◌, All, count_by, slice_get}
@@ -13,45 +14,44 @@ use Rattle.gt_entry.specs.declared.entry.Entry.{Entry}
 use Rattle.gt_entry.specs.declared.entry.Entry.TheVariants.{Invalid, Page, Sub, Via}
 use Rattle.gt_types.specs.declared.Dir.{Dir}
 use Rattle.gt_types.specs.declared.Dir.TheVariants.{Read, Write}
-use Rattle.gt_core.specs.declared.asked.Asked.{Asked}
-use Rattle.gt_core.specs.declared.asked.Asked.TheVariants.{Grant, Revoke, Demote, Promote, Map, Unmap, Load, SetVersion, SetupTable, QuerySize, GetVersion}
-use Rattle.gt_core.specs.declared.action.Verdict.TheVariants.{Granted}
-use Rattle.gt_core.specs.declared.action.Change.{Change}
-use Rattle.gt_core.specs.declared.action.Step.{Step}
-use Rattle.gt_core.specs.declared.action.Step.TheVariants.{LookHeader, LookControl, LookBody, Pin as PinStep, Unpin, StoreBody, StoreHeader, Exchange, Read as ReadBytes}
-use Rattle.gt_core.specs.declared.action.Seen.{Seen}
-use Rattle.gt_core.specs.declared.action.Seen.TheVariants.{Nothing, Value, Taken, Missed}
-use Rattle.gt_core.specs.declared.action.Action.TheVariants.{Step as Makes, Done}
-use Rattle.gt_core.specs.declared.leg.Leg.{Leg}
-use Rattle.gt_core.specs.declared.leg.LegPhase.{LegPhase}
-use Rattle.gt_core.specs.declared.leg.LegPhase.TheVariants.{Header as AtHeader, Look, Body, Second, Pinning, Relook}
-use Rattle.gt_core.specs.declared.call.Call.{Call}
-use Rattle.gt_core.specs.declared.call.Phase.{Phase}
-use Rattle.gt_core.specs.declared.call.Phase.TheVariants.{Begun as PhaseBegun, Pinning as LegPinning, Storing, StoringSecond, Single, Look as OwnLook, Change as OwnChange, Ended}
+use Rattle.gt_calls.specs.declared.asked.Asked.{Asked}
+use Rattle.gt_calls.specs.declared.asked.Asked.TheVariants.{Grant, Revoke, Demote, Promote, Map, Unmap, Load, SetVersion, SetupTable, QuerySize, GetVersion, Store, Peek, Poke}
+use Rattle.gt_calls.specs.declared.action.Verdict.TheVariants.{Granted}
+use Rattle.gt_calls.specs.declared.action.Change.{Change}
+use Rattle.gt_calls.specs.declared.action.Step.{Step}
+use Rattle.gt_calls.specs.declared.action.Step.TheVariants.{LookHeader, LookControl, LookBody, Pin as PinStep, Unpin, StoreBody, StoreHeader, Exchange, Read as ReadBytes, Write as WriteBytes}
+use Rattle.gt_calls.specs.declared.action.Seen.{Seen}
+use Rattle.gt_calls.specs.declared.action.Seen.TheVariants.{Nothing, Value, Taken, Missed}
+use Rattle.gt_calls.specs.declared.action.Action.TheVariants.{Step as Makes, Done}
+use Rattle.gt_calls.specs.declared.leg.Leg.{Leg}
+use Rattle.gt_calls.specs.declared.leg.LegPhase.{LegPhase}
+use Rattle.gt_calls.specs.declared.leg.LegPhase.TheVariants.{Header as AtHeader, Look, Body, Second, Pinning, Relook}
+use Rattle.gt_calls.specs.declared.call.Call.{Call}
+use Rattle.gt_calls.specs.declared.call.Phase.{Phase}
+use Rattle.gt_calls.specs.declared.call.Phase.TheVariants.{Begun as PhaseBegun, Pinning as LegPinning, Storing, StoringSecond, Single, Look as OwnLook, Change as OwnChange, Ended}
 use Rattle.gt_core.specs.declared.trace.Item.{Item}
 use Rattle.gt_core.specs.declared.trace.Happened.TheVariants.{Stepped}
 use Rattle.gt_core.specs.States.{State}
 use Rattle.gt_core.specs.declared.slot.Open.{Open}
-use Rattle.gt_core.specs.Rules.{CallerKnowledge, is_demote, begun, first, control_with}
-use Rattle.gt_core.specs.Path.{to_ro_or_back}
-use Rattle.gt_core.specs.Machine.{expects, action_at, phase_after, after_leg, after_single, leg_after, leg_step, own_gref, is_sub, Comes}
+use Rattle.gt_calls.specs.Rules.{CallerKnowledge, is_demote, begun, first, control_with}
+use Rattle.gt_calls.specs.Path.{to_ro_or_back}
+use Rattle.gt_calls.specs.Machine.{expects, action_at, phase_after, after_leg, after_single, leg_after, leg_step, own_gref, is_sub, Comes}
 use Rattle.gt_core.specs.Sight.{changes_nothing}
 use Rattle.gt_core.specs.History.{History, Setting, word_at, control_at, known_at, writes_at, reads_at, entry_at, generation_at, body_at, seen_by, Underway, open_call, underway_after, Pin, mappings_in}
 use Rattle.gt_core.specs.Legal.{LeavesAll, IsSafe, PinIsSound, StepsSoFar, IsSpelled, StepsRight}
 use Rattle.gt_core.specs.Standing.{IsLawful, PhaseStands, OpenAgrees, CallAgrees, Agrees, StateAgrees, CoreStands, state_of}
-use Rattle.gt_core.proofs.Calls.{comes-some}
-use Rattle.gt_core.proofs.Beginning.{open_call-own}
+use Rattle.gt_core.proofs.Beginning.{open_call-own, frames-stay, filled-stays}
 use Rattle.gt_core.specs.States.{changed_in}
 use Rattle.gt_core.specs.Effects.{applied, with_slot, with_underway, slot_after}
 use Rattle.gt_core.specs.declared.slot.Slot.{Slot}
 use Rattle.gt_core.specs.declared.slot.SlotChange.TheVariants.{Stored}
-use Rattle.gt_core.specs.Rules.{first_body, second_body, begun}
+use Rattle.gt_calls.specs.Rules.{first_body, second_body, begun}
 use Rattle.gt_core.specs.History.{or_else, stored_at}
 use Rattle.gt_core.specs.Standing.{SlotAgrees, FitsTable, FitsWord}
 use Rattle.gt_core.proofs.Rows.{get-changed, length-changed, state-changed}
 use Rattle.gt_core.proofs.Others.{other-agrees, other-body}
-use Rattle.gt_core.proofs.Quiet.{KeepsKnown, kept-entry, kept-raises, kept-live, kept-maps_answered, kept-generations, kept-table, kept-known, kept-contents}
-use Rattle.gt_core.proofs.Ticking.{Stepping, stepped, goes-on-after, going-right, makes-same, grant-invalid, one-more}
+use Rattle.gt_core.proofs.Quiet.{KeepsKnown, kept-entry, kept-raises, kept-live, kept-maps_answered, kept-generations, kept-table, kept-known}
+use Rattle.gt_core.proofs.Ticking.{given-goes-on, Stepping, stepped, goes-on-after, going-right, makes-same, grant-invalid, one-more}
 
 -- a step that changes nothing leaves the states
 pub applied-quiet : (d : DomId) (step : Step) (seen : Seen) (xs : List State) → changes_nothing step seen ≡ true → applied d step seen xs ≡ xs
@@ -59,6 +59,7 @@ applied-quiet d (LookHeader dom) seen xs q = refl
 applied-quiet d (LookControl dom gref) seen xs q = refl
 applied-quiet d (LookBody dom gref second) seen xs q = refl
 applied-quiet d (ReadBytes dom frame off len) seen xs q = refl
+applied-quiet d (WriteBytes dom frame off len) seen xs q = refl
 applied-quiet d (PinStep dom gref looked dir) (Missed w) xs q = refl
 applied-quiet d (PinStep dom gref looked dir) (Value w) xs q = refl
 applied-quiet d (PinStep dom gref looked dir) Nothing xs q = refl
@@ -176,10 +177,10 @@ store-agrees s h x gref second word o a call =
       generations = a.generations ∙ sym (kept-generations s i h x.id.0 k);
       room = length-changed x.slots gref.0 (slot_after (Stored second word)) ∙ a.room;
       slots = slots-stored x.id gref second word h x.slots a.slots;
-      mappings = a.mappings ∙ ap (λ (ps : List Pin). mappings_in x.id.0 ps) (sym (kept-live i h k));
-      maps_answered = a.maps_answered ∙ sym (kept-maps_answered i h x.id.0 k);
-      frames = λ f below. a.frames f below ∙ ap (λ (l : List ℕ). Some l) (sym (kept-contents i h x.id.0 f));
+      mappings = mappings-same x.mappings _ _ _ _ (ap (λ (ps : List Pin). mappings_in x.id.0 ps) (sym (kept-live i h k))) (sym (kept-maps_answered i h x.id.0 k)) a.mappings;
+      frames = frames-stay s i h x.id x.frames (λ given u n old. refl) a.frames;
       call = call;
+      given = given-goes-on x.id (StoreBody gref second word) Nothing None h x.given a.given;
     }
 
 -- a body word stored on an invalid entry keeps what the core stands for
@@ -195,6 +196,7 @@ store-stands s h xs x gref second word o st here a invalid call =
       tables = λ dom. subst FitsTable (sym (kept-table s i h dom refl)) (st.tables dom);
       words = λ t r within. subst FitsWord (sym (kept-control t r)) (st.words t r within);
       lawful = subst (All (IsLawful s)) (sym (kept-live i h k)) st.lawful;
+      filled = filled-stays s i h xs (λ given u n old. refl) st;
       free = λ t r e. let was = st.free t r (sym (kept-entry i h t r k) ∙ e) in
           (ap (λ (ps : List Pin). count_by (is_pin_on t r Read) ps) (kept-live i h k) ∙ was.0, ap (λ (ps : List Pin). count_by (is_pin_on t r Write) ps) (kept-live i h k) ∙ was.1);
       spelled = λ t r valid. spelled t r (λ e. valid (kept-entry i h t r k ∙ e));
@@ -243,7 +245,7 @@ store-stands s h xs x gref second word o st here a invalid call =
     other dom None apart b = b
     other dom (Some y) apart b =
         let away : (x.id.0 == y.id.0) ≡ false = ap (λ (z : DomId). x.id.0 == z.0) b.1 ∙ apart in
-        (b.0, b.1, other-agrees s i h y y.slots away b.2 b.2.room (old-slots dom.0 y b.2 away))
+        (b.0, b.1, other-agrees s i h y y.slots away (λ given u n old. refl) b.2 b.2.room (old-slots dom.0 y b.2 away))
 
     by : (dom : DomId) (b : Bool) → (x.id.0 == dom.0) ≡ b
         → StateAgrees s (i ∷ h) dom (cond b (option_map (with_slot gref.0 (Stored second word)) (cond b (option_map (with_underway o) (state_of xs dom.0)) (state_of xs dom.0))) (cond b (option_map (with_underway o) (state_of xs dom.0)) (state_of xs dom.0)))
@@ -362,6 +364,9 @@ stores-next s h d (Promote gref) so_far Storing step next a comes act q e = absu
 stores-next s h d (Map dom gref flags) so_far Storing step next a comes act q e = absurd comes
 stores-next s h d (Unmap handle) so_far Storing step next a comes act q e = absurd comes
 stores-next s h d (Load handle off len) so_far Storing step next a comes act q e = absurd comes
+stores-next s h d (Store handle off len) so_far Storing step next a comes act q e = absurd comes
+stores-next s h d (Peek frame off len) so_far Storing step next a comes act q e = absurd comes
+stores-next s h d (Poke frame off len) so_far Storing step next a comes act q e = absurd comes
 stores-next s h d (SetVersion version) so_far Storing step next a comes act q e = absurd comes
 stores-next s h d (SetupTable frames) so_far Storing step next a comes act q e = absurd comes
 stores-next s h d (QuerySize dom) so_far Storing step next a comes act q e = absurd comes
@@ -372,6 +377,9 @@ stores-next s h d (Promote gref) so_far StoringSecond step next a comes act q e 
 stores-next s h d (Map dom gref flags) so_far StoringSecond step next a comes act q e = absurd a
 stores-next s h d (Unmap handle) so_far StoringSecond step next a comes act q e = absurd a
 stores-next s h d (Load handle off len) so_far StoringSecond step next a comes act q e = absurd a
+stores-next s h d (Store handle off len) so_far StoringSecond step next a comes act q e = absurd a
+stores-next s h d (Peek frame off len) so_far StoringSecond step next a comes act q e = absurd a
+stores-next s h d (Poke frame off len) so_far StoringSecond step next a comes act q e = absurd a
 stores-next s h d (SetVersion version) so_far StoringSecond step next a comes act q e = absurd a
 stores-next s h d (SetupTable frames) so_far StoringSecond step next a comes act q e = absurd a
 stores-next s h d (QuerySize dom) so_far StoringSecond step next a comes act q e = absurd a
@@ -388,7 +396,7 @@ tick-stores s h xs x o c seen new next st here a call oa w loud =
     let so_far = reverse c.steps in
     let e : Makes next ≡ action_at k x.id c.request (phase_after k x.id c.request o.call.phase (seen_by s h x.id o.step)) =
     w.is_next ∙ ap (action_at k x.id c.request) (w.stands ∙ ap (phase_after k x.id c.request o.call.phase) w.sees) in
-    let f = stores-next s h x.id c.request so_far o.call.phase o.step next oa.place (comes-some _ _ oa.comes) w.act (ap (changes_nothing o.step) (sym w.sees) ∙ loud) e in
+    let f = stores-next s h x.id c.request so_far o.call.phase o.step next oa.place (subst Comes (sym oa.comes) tt) w.act (ap (changes_nothing o.step) (sym w.sees) ∙ loud) e in
     let nothing : seen ≡ Nothing = w.sees ∙ ap (seen_by s h x.id) f.3 in
     by f.0 f.1 f.2 f.3 nothing (f.4 w.none)
     (subst (λ (z : Phase). PhaseStands s (stepped x.id (StoreBody f.0 f.1 f.2) Nothing None ∷ h) x.id c.request ((StoreBody f.0 f.1 f.2, Nothing) ∷ so_far) z)

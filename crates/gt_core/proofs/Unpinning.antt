@@ -1,40 +1,42 @@
 -- An unpin keeps what a core stands for.
 use Rattle.std.proofs.Common.{◌≡◌, ◌≢◌, ◌<◌, ◌≤◌, ◌+◌, ◌-◌, ℕ, refl, Bool, true, false, List, [], ◌∷◌, ◌++◌, length, Option, Some, None, cond, sym, ap, ◌∙◌, arith, subst}
-use Rattle.std.specs.Prelude.{nat_lt, ◌==◌, ◌&&◌, All, count_by, slice_get, if◌then◌else◌}
+use Rattle.std.specs.Prelude.{◌==◌, ◌&&◌, All, count_by, slice_get}
 use Rattle.gt_types.specs.declared.DomId.{DomId}
 use Rattle.gt_types.specs.declared.Dir.{Dir}
 use Rattle.gt_types.specs.declared.Dir.TheVariants.{Read, Write}
 use Rattle.gt_entry.specs.declared.entry.Entry.{Entry}
 use Rattle.gt_entry.specs.declared.entry.Entry.TheVariants.{Invalid, Page, Sub, Via}
-use Rattle.gt_core.specs.declared.request.Handle.{Handle}
-use Rattle.gt_core.specs.declared.request.Holder.{Holder}
-use Rattle.gt_core.specs.declared.request.Holder.TheVariants.{Mapping as ByMapping, Leg as ByLeg}
-use Rattle.gt_core.specs.declared.action.Change.{Change}
-use Rattle.gt_core.specs.declared.action.Step.TheVariants.{Unpin}
-use Rattle.gt_core.specs.declared.action.Seen.TheVariants.{Nothing}
-use Rattle.gt_core.specs.declared.known.Mapping.{Mapping}
+use Rattle.gt_handles.specs.declared.handles.Handle.{Handle}
+use Rattle.gt_calls.specs.declared.request.Holder.{Holder}
+use Rattle.gt_calls.specs.declared.request.Holder.TheVariants.{Mapping as ByMapping, Leg as ByLeg}
+use Rattle.gt_calls.specs.declared.action.Change.{Change}
+use Rattle.gt_calls.specs.declared.action.Step.TheVariants.{Unpin}
+use Rattle.gt_calls.specs.declared.action.Seen.TheVariants.{Nothing}
+use Rattle.gt_calls.specs.declared.known.Mapping.{Mapping}
 use Rattle.gt_core.specs.declared.slot.Slot.{Slot}
 use Rattle.gt_core.specs.declared.slot.SlotChange.TheVariants.{Unpinned}
 use Rattle.gt_core.specs.declared.trace.Item.{Item}
 use Rattle.gt_core.specs.declared.trace.Happened.TheVariants.{Stepped}
 use Rattle.gt_core.specs.declared.trace.Answer.TheVariants.{Done as AnswerDone}
-use Rattle.gt_core.specs.Rules.{mapping_of, control_with}
+use Rattle.gt_calls.specs.Rules.{control_with}
 use Rattle.gt_core.specs.States.{State, state_of, changed_in}
-use Rattle.gt_core.specs.Effects.{with_slot, with_underway, without_mapping, slot_after, less}
-use Rattle.gt_core.specs.History.{History, Setting, Pin, live, entry_at, raises_at, generation_at, body_at, reads_at, writes_at, control_at, mappings_at, mappings_in, maps_answered_at, open_call, is_pin_on, without, is_holder, is_handle, frame_of, Underway, change_of, change_at, entry_after, raise_after, or_else, stored_at, header_stored, mapping_on, same_dir}
+use Rattle.gt_core.specs.Effects.{with_slot, with_underway, without_mapping, slot_after, taken}
+use Rattle.gt_core.specs.History.{History, Setting, Pin, live, entry_at, raises_at, generation_at, body_at, reads_at, writes_at, control_at, mappings_at, mappings_in, maps_answered_at, open_call, is_pin_on, without, is_holder, same_handle, frame_of, Underway, change_of, change_at, entry_after, raise_after, or_else, stored_at, header_stored, mapping_on, same_dir, mapping_of}
 use Rattle.gt_core.specs.Legal.{IsSpelled}
-use Rattle.gt_core.specs.Standing.{IsLawful, FitsTable, FitsWord, SlotAgrees, Agrees, StateAgrees, CoreStands, CallAgrees}
+use Rattle.gt_core.specs.Standing.{IsLawful, FitsTable, FitsWord, SlotAgrees, Agrees, StateAgrees, CoreStands, CallAgrees, MappingsAgree}
+use Rattle.gt_handles.specs.Handles.{Kept}
+use Rattle.gt_core.proofs.Mappings.{less, mappings-taken, mappings-same}
 use Rattle.gt_core.proofs.Rows.{get-changed, length-changed, state-changed}
 use Rattle.std.specs.Option.{option_map}
 use mathlib.Core.Path.{fun_ext}
-use Rattle.std.proofs.lemmas.Bool.{eqb-true, eq-eqb, and_parts, and_from, and_left, and_right, false≢true, true≢false}
+use Rattle.std.proofs.lemmas.Bool.{eqb-true, eq-eqb, and_from, and_left, and_right, false≢true, true≢false}
 use Rattle.std.proofs.lemmas.Option.{none-some}
 use Rattle.std.proofs.lemmas.List.{append-nil}
 use Rattle.std.proofs.lemmas.List.Sums.{sum_by-cons, sum_by-append}
 use Rattle.std.proofs.lemmas.List.Elements.{All-cons, All-head, All-tail}
 use Rattle.gt_core.specs.Rows.{changed_at}
-use Rattle.gt_core.proofs.Quiet.{kept-contents, kept-table}
-use Rattle.gt_core.proofs.Beginning.{open_call-own}
+use Rattle.gt_core.proofs.Quiet.{WritesNone, kept-table}
+use Rattle.gt_core.proofs.Beginning.{frames-stay, filled-stays, given-none, open_call-own}
 use Rattle.gt_core.proofs.Others.{other-agrees}
 
 -- what an unpin takes from the live pins
@@ -50,21 +52,6 @@ pub record Loses (m : Mapping) (whole less : List Pin) : Type 0 where
   pub on_gref : pin.gref ≡ m.gref.0
   pub of_dir : pin.dir ≡ m.dir
 
-same-handle : (a b : Handle) → is_handle a b ≡ true → a ≡ b
-same-handle a b e =
-    let p = and_parts (a.serial == b.serial) (a.key == b.key) e in
-    ap (λ (n : ℕ). record { serial = n; key = a.key }) (eqb-true a.serial b.serial p.0)
-    ∙ ap (λ (n : ℕ). record { serial = b.serial; key = n }) (eqb-true a.key b.key p.1)
-
--- a mapping that was found by a handle has it
-named : (ms : List Mapping) (handle : Handle) (m : Mapping) → mapping_of ms handle ≡ Some m → m.handle ≡ handle
-named [] handle m e = absurd (none-some m e)
-named (x ∷ ms) handle m e = by (is_handle x.handle handle) refl (λ k. named ms handle m k) e
-  where
-    by : (b : Bool) → is_handle x.handle handle ≡ b → (mapping_of ms handle ≡ Some m → m.handle ≡ handle) → cond b (Some x) (mapping_of ms handle) ≡ Some m → m.handle ≡ handle
-    by true is rest k = let y : x ≡ m = cc in ap (λ (z : Mapping). z.handle) (sym y) ∙ same-handle x.handle handle is
-    by false is rest k = rest k
-
 loses-later : (m : Mapping) (p : Pin) (whole less : List Pin) → Loses m whole less → Loses m (p ∷ whole) (p ∷ less)
 loses-later m p whole less l =
     record {
@@ -79,12 +66,12 @@ loses-later m p whole less l =
     }
 
 -- the mapping that a pin stands for
-abbrev mapping_for : Pin → Handle → Mapping
-mapping_for p handle = record { handle = handle; dom = p.dom; gref = record { 0 = p.gref }; dir = p.dir; frame = frame_of p.entry }
+abbrev mapping_for : Pin → Mapping
+mapping_for p = record { dom = p.dom; gref = record { 0 = p.gref }; dir = p.dir; frame = frame_of p.entry }
 
-loses-first : (m : Mapping) (p : Pin) (k : Handle) (ps : List Pin) → ◌≡◌ {A = Option Mapping} (Some (mapping_for p k)) (Some m) → Loses m (p ∷ ps) ps
-loses-first m p k ps e =
-    let y : mapping_for p k ≡ m = cc in
+loses-first : (m : Mapping) (p : Pin) (ps : List Pin) → ◌≡◌ {A = Option Mapping} (Some (mapping_for p)) (Some m) → Loses m (p ∷ ps) ps
+loses-first m p ps e =
+    let y : mapping_for p ≡ m = cc in
     record {
       front = [];
       pin = p;
@@ -96,19 +83,19 @@ loses-first m p k ps e =
       of_dir = ap (λ (z : Mapping). z.dir) y;
     }
 
-loses-named : (b c : Bool) (k handle : Handle) (m : Mapping) (p : Pin) (ps less : List Pin) (ms : List Mapping) → is_handle k handle ≡ c → (mapping_of ms handle ≡ Some m → Loses m ps less)
-    → mapping_of (cond b (mapping_for p k ∷ []) [] ++ ms) handle ≡ Some m → Loses m (p ∷ ps) (cond (b && c) ps (p ∷ less))
-loses-named true true k handle m p ps less ms is rest e = loses-first m p k ps (sym (ap (λ (z : Bool). cond z (Some (mapping_for p k)) (mapping_of ms handle)) is) ∙ e)
-loses-named true false k handle m p ps less ms is rest e = loses-later m p ps less (rest (sym (ap (λ (z : Bool). cond z (Some (mapping_for p k)) (mapping_of ms handle)) is) ∙ e))
+loses-named : (b c : Bool) (k handle : Handle) (m : Mapping) (p : Pin) (ps less : List Pin) (ms : List (Handle × Mapping)) → same_handle k handle ≡ c → (mapping_of ms handle ≡ Some m → Loses m ps less)
+    → mapping_of (cond b ((k, mapping_for p) ∷ []) [] ++ ms) handle ≡ Some m → Loses m (p ∷ ps) (cond (b && c) ps (p ∷ less))
+loses-named true true k handle m p ps less ms is rest e = loses-first m p ps (sym (ap (λ (z : Bool). cond z (Some (mapping_for p)) (mapping_of ms handle)) is) ∙ e)
+loses-named true false k handle m p ps less ms is rest e = loses-later m p ps less (rest (sym (ap (λ (z : Bool). cond z (Some (mapping_for p)) (mapping_of ms handle)) is) ∙ e))
 loses-named false c k handle m p ps less ms is rest e = loses-later m p ps less (rest e)
 
 loses-other : (b : Bool) (m : Mapping) (p : Pin) (ps less : List Pin) → Loses m ps less → Loses m (p ∷ ps) (cond (b && false) ps (p ∷ less))
 loses-other true m p ps less l = loses-later m p ps less l
 loses-other false m p ps less l = loses-later m p ps less l
 
-loses-one : (d : ℕ) (x : Holder) (handle : Handle) (m : Mapping) (p : Pin) (ps less : List Pin) (ms : List Mapping) → (mapping_of ms handle ≡ Some m → Loses m ps less)
+loses-one : (d : ℕ) (x : Holder) (handle : Handle) (m : Mapping) (p : Pin) (ps less : List Pin) (ms : List (Handle × Mapping)) → (mapping_of ms handle ≡ Some m → Loses m ps less)
     → mapping_of (mapping_on d p x ++ ms) handle ≡ Some m → Loses m (p ∷ ps) (cond ((p.actor == d) && is_holder x (ByMapping handle)) ps (p ∷ less))
-loses-one d (ByMapping k) handle m p ps less ms rest e = loses-named (p.actor == d) (is_handle k handle) k handle m p ps less ms refl rest e
+loses-one d (ByMapping k) handle m p ps less ms rest e = loses-named (p.actor == d) (same_handle k handle) k handle m p ps less ms refl rest e
 loses-one d (ByLeg n) handle m p ps less ms rest e = loses-other (p.actor == d) m p ps less (rest e)
 
 -- an unpin by a mapping's handle takes the pin of that mapping
@@ -119,21 +106,21 @@ loses d handle m (p ∷ ps) e = loses-one d p.holder handle m p ps (without d (B
 
 -- the mappings that are left
 
-less-named : (b c : Bool) (k handle : Handle) (d : ℕ) (p : Pin) (ps rest : List Pin) (ms : List Mapping) → is_handle k handle ≡ c → p.holder ≡ ByMapping k → (p.actor == d) ≡ b → mappings_in d ps ≡ ms → mappings_in d rest ≡ less handle ms
-    → mappings_in d (cond (b && c) ps (p ∷ rest)) ≡ less handle (cond b (mapping_for p k ∷ []) [] ++ ms)
+less-named : (b c : Bool) (k handle : Handle) (d : ℕ) (p : Pin) (ps rest : List Pin) (ms : List (Handle × Mapping)) → same_handle k handle ≡ c → p.holder ≡ ByMapping k → (p.actor == d) ≡ b → mappings_in d ps ≡ ms → mappings_in d rest ≡ less handle ms
+    → mappings_in d (cond (b && c) ps (p ∷ rest)) ≡ less handle (cond b ((k, mapping_for p) ∷ []) [] ++ ms)
 unfolding mappings_in
-less-named true true k handle d p ps rest ms is by own was left = was ∙ sym (ap (λ (z : Bool). cond z ms (mapping_for p k ∷ less handle ms)) is)
+less-named true true k handle d p ps rest ms is by own was left = was ∙ sym (ap (λ (z : Bool). cond z ms ((k, mapping_for p) ∷ less handle ms)) is)
 less-named true false k handle d p ps rest ms is by own was left =
     ap (λ (x : Holder). mapping_on d p x ++ mappings_in d rest) by
-    ∙ ap (λ (z : Bool). cond z (mapping_for p k ∷ []) [] ++ mappings_in d rest) own
-    ∙ ap (λ (l : List Mapping). mapping_for p k ∷ l) left
-    ∙ sym (ap (λ (z : Bool). cond z ms (mapping_for p k ∷ less handle ms)) is)
+    ∙ ap (λ (z : Bool). cond z ((k, mapping_for p) ∷ []) [] ++ mappings_in d rest) own
+    ∙ ap (λ (l : List (Handle × Mapping)). (k, mapping_for p) ∷ l) left
+    ∙ sym (ap (λ (z : Bool). cond z ms ((k, mapping_for p) ∷ less handle ms)) is)
 less-named false c k handle d p ps rest ms is by own was left =
     ap (λ (x : Holder). mapping_on d p x ++ mappings_in d rest) by
-    ∙ ap (λ (z : Bool). cond z (mapping_for p k ∷ []) [] ++ mappings_in d rest) own
+    ∙ ap (λ (z : Bool). cond z ((k, mapping_for p) ∷ []) [] ++ mappings_in d rest) own
     ∙ left
 
-less-other : (b : Bool) (n : ℕ) (handle : Handle) (d : ℕ) (p : Pin) (ps rest : List Pin) (ms : List Mapping) → p.holder ≡ ByLeg n → mappings_in d rest ≡ less handle ms
+less-other : (b : Bool) (n : ℕ) (handle : Handle) (d : ℕ) (p : Pin) (ps rest : List Pin) (ms : List (Handle × Mapping)) → p.holder ≡ ByLeg n → mappings_in d rest ≡ less handle ms
     → mappings_in d (cond (b && false) ps (p ∷ rest)) ≡ less handle ms
 unfolding mappings_in
 less-other true n handle d p ps rest ms by left = ap (λ (x : Holder). mapping_on d p x ++ mappings_in d rest) by ∙ left
@@ -141,7 +128,7 @@ less-other false n handle d p ps rest ms by left = ap (λ (x : Holder). mapping_
 
 less-one : (d : ℕ) (x : Holder) (handle : Handle) (p : Pin) (ps rest : List Pin) → p.holder ≡ x → mappings_in d rest ≡ less handle (mappings_in d ps)
     → mappings_in d (cond ((p.actor == d) && is_holder x (ByMapping handle)) ps (p ∷ rest)) ≡ less handle (mapping_on d p x ++ mappings_in d ps)
-less-one d (ByMapping k) handle p ps rest by left = less-named (p.actor == d) (is_handle k handle) k handle d p ps rest (mappings_in d ps) refl by refl refl left
+less-one d (ByMapping k) handle p ps rest by left = less-named (p.actor == d) (same_handle k handle) k handle d p ps rest (mappings_in d ps) refl by refl refl left
 less-one d (ByLeg n) handle p ps rest by left = less-other (p.actor == d) n handle d p ps rest (mappings_in d ps) by left
 
 -- the domain's mappings lose the one of the handle
@@ -186,12 +173,13 @@ all-drop P (x ∷ front) p back a = All-cons P x (front ++ back) (All-head P x (
 pub all-less : (P : Pin → Type 0) (m : Mapping) (whole less : List Pin) → Loses m whole less → All P whole → All P less
 all-less P m whole less l a = subst (All P) (sym l.left) (all-drop P l.front l.pin l.back (subst (All P) l.is a))
 
--- items that change no entry and store no word
+-- items that change no entry, and store no word and no bytes
 
 pub record KeepsEntries (i : Item) : Type 0 where
   pub changes : (r : ℕ) → change_at i.happened r ≡ None
   pub stores : (r : ℕ) (which : Bool) → stored_at i.happened r which ≡ None
   pub header : header_stored i.happened ≡ None
+  pub writes : WritesNone i
 
 cond-same : {A : Type 0} (b : Bool) (x : A) → cond b x x ≡ x
 cond-same true x = refl
@@ -226,22 +214,22 @@ same-spelled i h t r q a valid =
     (a (λ e. valid (same-entry i h t r q ∙ e)))))
 
 -- a domain whose call is over with such an item: its pins, body words and mappings may have changed
-pub actor-agrees : (s : Setting) (i : Item) (h : History) (x : State) (slots : List Slot) (mappings : List Mapping) (answered : ℕ) → KeepsEntries i → Agrees s h x
+pub actor-agrees : (s : Setting) (i : Item) (h : History) (x : State) (slots : List Slot) (mappings : Kept Mapping) → KeepsEntries i → Agrees s h x
     → length slots ≡ 2048 → ((r : ℕ) (slot : Slot) → slice_get slots r ≡ Some slot → SlotAgrees (i ∷ h) x.id.0 r slot)
-    → mappings ≡ mappings_at (i ∷ h) x.id.0 → answered ≡ maps_answered_at (i ∷ h) x.id.0 → open_call (i ∷ h) x.id.0 ≡ None
-    → Agrees s (i ∷ h) (record x { slots = slots; mappings = mappings; maps_answered = answered; underway = None })
-actor-agrees s i h x slots mappings answered q a len agree same count over =
+    → MappingsAgree mappings (mappings_at (i ∷ h) x.id.0) (maps_answered_at (i ∷ h) x.id.0) → open_call (i ∷ h) x.id.0 ≡ None
+    → Agrees s (i ∷ h) (record x { slots = slots; mappings = mappings; underway = None })
+actor-agrees s i h x slots mappings q a len agree same over =
     record {
       header = a.header ∙ sym (kept-table s i h x.id q.header);
       rows = a.rows;
-      frames = λ f below. a.frames f below ∙ ap (λ (l : List ℕ). Some l) (sym (kept-contents i h x.id.0 f));
+      frames = frames-stay s i h x.id x.frames q.writes a.frames;
       entries = a.entries ∙ fun_ext (λ r. sym (same-entry i h x.id.0 r q));
       generations = a.generations ∙ sym (same-generations s i h x.id.0 q);
       room = len;
       slots = agree;
       mappings = same;
-      maps_answered = count;
       call = subst (λ (c : Option Underway). CallAgrees s (i ∷ h) x.id None c) (sym over) tt;
+      given = given-none (i ∷ h) x.id.0 x.given over;
     }
 
 -- slots
@@ -301,25 +289,25 @@ word-fits s i h t r q a b f =
 
 -- the item of an unpin
 
-abbrev unpins : DomId → Mapping → Item
-unpins d m = record { actor = d; happened = Stepped (Unpin m.dom m.gref m.dir (ByMapping m.handle)) Nothing; answer = Some AnswerDone }
+abbrev unpins : DomId → Handle → Mapping → Item
+unpins d handle m = record { actor = d; happened = Stepped (Unpin m.dom m.gref m.dir (ByMapping handle)) Nothing; answer = Some AnswerDone }
 
-unpins-keeps : (d : DomId) (m : Mapping) → KeepsEntries (unpins d m)
-unpins-keeps d m = record { changes = λ r. refl; stores = λ r which. refl; header = refl }
+unpins-keeps : (d : DomId) (handle : Handle) (m : Mapping) → KeepsEntries (unpins d handle m)
+unpins-keeps d handle m = record { changes = λ r. refl; stores = λ r which. refl; header = refl; writes = λ given u n old. refl }
 
-unpinned-live : (d : DomId) (m : Mapping) (h : History) → live (unpins d m ∷ h) ≡ without d.0 (ByMapping m.handle) (live h)
+unpinned-live : (d : DomId) (handle : Handle) (m : Mapping) (h : History) → live (unpins d handle m ∷ h) ≡ without d.0 (ByMapping handle) (live h)
 unfolding live
-unpinned-live d m h = append-nil (without d.0 (ByMapping m.handle) (live h))
+unpinned-live d handle m h = append-nil (without d.0 (ByMapping handle) (live h))
 
-unpinned-count : (d : DomId) (m : Mapping) (h : History) (t r : ℕ) (k : Dir) → mapping_of (mappings_at h d.0) m.handle ≡ Some m
-    → count_by (is_pin_on t r k) (live h) ≡ cond (hits m.dom m.gref.0 m.dir t r k) 1 0 + count_by (is_pin_on t r k) (live (unpins d m ∷ h))
-unpinned-count d m h t r k found =
-    count-less m (live h) (without d.0 (ByMapping m.handle) (live h)) t r k (loses d.0 m.handle m (live h) found)
-    ∙ ap (λ (ps : List Pin). cond (hits m.dom m.gref.0 m.dir t r k) 1 0 + count_by (is_pin_on t r k) ps) (sym (unpinned-live d m h))
+unpinned-count : (d : DomId) (handle : Handle) (m : Mapping) (h : History) (t r : ℕ) (k : Dir) → mapping_of (mappings_at h d.0) handle ≡ Some m
+    → count_by (is_pin_on t r k) (live h) ≡ cond (hits m.dom m.gref.0 m.dir t r k) 1 0 + count_by (is_pin_on t r k) (live (unpins d handle m ∷ h))
+unpinned-count d handle m h t r k found =
+    count-less m (live h) (without d.0 (ByMapping handle) (live h)) t r k (loses d.0 handle m (live h) found)
+    ∙ ap (λ (ps : List Pin). cond (hits m.dom m.gref.0 m.dir t r k) 1 0 + count_by (is_pin_on t r k) ps) (sym (unpinned-live d handle m h))
 
-unpinned-le : (d : DomId) (m : Mapping) (h : History) (t r : ℕ) (k : Dir) → mapping_of (mappings_at h d.0) m.handle ≡ Some m
-    → count_by (is_pin_on t r k) (live (unpins d m ∷ h)) ≤ count_by (is_pin_on t r k) (live h)
-unpinned-le d m h t r k found = sums _ _ _ (unpinned-count d m h t r k found)
+unpinned-le : (d : DomId) (handle : Handle) (m : Mapping) (h : History) (t r : ℕ) (k : Dir) → mapping_of (mappings_at h d.0) handle ≡ Some m
+    → count_by (is_pin_on t r k) (live (unpins d handle m ∷ h)) ≤ count_by (is_pin_on t r k) (live h)
+unpinned-le d handle m h t r k found = sums _ _ _ (unpinned-count d handle m h t r k found)
   where
     sums : (a b c : ℕ) → a ≡ b + c → c ≤ a
     sums a b c e = omega arith
@@ -330,20 +318,20 @@ counted-down true true old now was p e f = omega arith
 counted-down true false old now was p e f = omega arith
 counted-down false hit old now was p e f = absurd (false≢true p)
 
-slot-down : (h : History) (d : DomId) (m : Mapping) (q : ℕ) (old : Slot) → mapping_of (mappings_at h d.0) m.handle ≡ Some m → (m.dom.0 == q) ≡ true
-    → SlotAgrees h q m.gref.0 old → SlotAgrees (unpins d m ∷ h) q m.gref.0 (slot_after (Unpinned m.dir) old)
-slot-down h d m q old found on a =
-    let i : Item = unpins d m in
-    let keeps = unpins-keeps d m in
+slot-down : (h : History) (d : DomId) (handle : Handle) (m : Mapping) (q : ℕ) (old : Slot) → mapping_of (mappings_at h d.0) handle ≡ Some m → (m.dom.0 == q) ≡ true
+    → SlotAgrees h q m.gref.0 old → SlotAgrees (unpins d handle m ∷ h) q m.gref.0 (slot_after (Unpinned m.dir) old)
+slot-down h d handle m q old found on a =
+    let i : Item = unpins d handle m in
+    let keeps = unpins-keeps d handle m in
     let both_on : ((m.dom.0 == q) && (m.gref.0 == m.gref.0)) ≡ true = and_from (m.dom.0 == q) (m.gref.0 == m.gref.0) on (eq-eqb m.gref.0 m.gref.0 refl) in
     both m.dir (a.first ∙ sym (same-body i h q m.gref.0 false keeps)) (a.second ∙ sym (same-body i h q m.gref.0 true keeps))
-    (counted-down ((m.dom.0 == q) && (m.gref.0 == m.gref.0)) (same_dir m.dir Read) old.reads (reads_at (i ∷ h) q m.gref.0) (reads_at h q m.gref.0) both_on a.reads (unpinned-count d m h q m.gref.0 Read found))
-    (counted-down ((m.dom.0 == q) && (m.gref.0 == m.gref.0)) (same_dir m.dir Write) old.writes (writes_at (i ∷ h) q m.gref.0) (writes_at h q m.gref.0) both_on a.writes (unpinned-count d m h q m.gref.0 Write found))
+    (counted-down ((m.dom.0 == q) && (m.gref.0 == m.gref.0)) (same_dir m.dir Read) old.reads (reads_at (i ∷ h) q m.gref.0) (reads_at h q m.gref.0) both_on a.reads (unpinned-count d handle m h q m.gref.0 Read found))
+    (counted-down ((m.dom.0 == q) && (m.gref.0 == m.gref.0)) (same_dir m.dir Write) old.writes (writes_at (i ∷ h) q m.gref.0) (writes_at h q m.gref.0) both_on a.writes (unpinned-count d handle m h q m.gref.0 Write found))
   where
-    both : (dir : Dir) → old.first ≡ body_at (unpins d m ∷ h) q m.gref.0 false → old.second ≡ body_at (unpins d m ∷ h) q m.gref.0 true
-        → cond (same_dir dir Read) (old.reads - 1) old.reads ≡ reads_at (unpins d m ∷ h) q m.gref.0
-        → cond (same_dir dir Write) (old.writes - 1) old.writes ≡ writes_at (unpins d m ∷ h) q m.gref.0
-        → SlotAgrees (unpins d m ∷ h) q m.gref.0 (slot_after (Unpinned dir) old)
+    both : (dir : Dir) → old.first ≡ body_at (unpins d handle m ∷ h) q m.gref.0 false → old.second ≡ body_at (unpins d handle m ∷ h) q m.gref.0 true
+        → cond (same_dir dir Read) (old.reads - 1) old.reads ≡ reads_at (unpins d handle m ∷ h) q m.gref.0
+        → cond (same_dir dir Write) (old.writes - 1) old.writes ≡ writes_at (unpins d handle m ∷ h) q m.gref.0
+        → SlotAgrees (unpins d handle m ∷ h) q m.gref.0 (slot_after (Unpinned dir) old)
     both Read f g r w = record { reads = r; writes = w; first = f; second = g }
     both Write f g r w = record { reads = r; writes = w; first = f; second = g }
 
@@ -352,23 +340,23 @@ no-hit true hit n was now p e f = absurd (true≢false p)
 no-hit false hit n was now p e f = omega arith
 
 -- a slot that the unpin doesn't name
-slot-stays : (h : History) (d : DomId) (m : Mapping) (q k : ℕ) (old : Slot) → mapping_of (mappings_at h d.0) m.handle ≡ Some m → ((m.dom.0 == q) && (m.gref.0 == k)) ≡ false
-    → SlotAgrees h q k old → SlotAgrees (unpins d m ∷ h) q k old
-slot-stays h d m q k old found off a =
-    let i : Item = unpins d m in
-    let keeps = unpins-keeps d m in
+slot-stays : (h : History) (d : DomId) (handle : Handle) (m : Mapping) (q k : ℕ) (old : Slot) → mapping_of (mappings_at h d.0) handle ≡ Some m → ((m.dom.0 == q) && (m.gref.0 == k)) ≡ false
+    → SlotAgrees h q k old → SlotAgrees (unpins d handle m ∷ h) q k old
+slot-stays h d handle m q k old found off a =
+    let i : Item = unpins d handle m in
+    let keeps = unpins-keeps d handle m in
     record {
-      reads = no-hit ((m.dom.0 == q) && (m.gref.0 == k)) (same_dir m.dir Read) old.reads (reads_at h q k) (reads_at (i ∷ h) q k) off a.reads (unpinned-count d m h q k Read found);
-      writes = no-hit ((m.dom.0 == q) && (m.gref.0 == k)) (same_dir m.dir Write) old.writes (writes_at h q k) (writes_at (i ∷ h) q k) off a.writes (unpinned-count d m h q k Write found);
+      reads = no-hit ((m.dom.0 == q) && (m.gref.0 == k)) (same_dir m.dir Read) old.reads (reads_at h q k) (reads_at (i ∷ h) q k) off a.reads (unpinned-count d handle m h q k Read found);
+      writes = no-hit ((m.dom.0 == q) && (m.gref.0 == k)) (same_dir m.dir Write) old.writes (writes_at h q k) (writes_at (i ∷ h) q k) off a.writes (unpinned-count d handle m h q k Write found);
       first = a.first ∙ sym (same-body i h q k false keeps);
       second = a.second ∙ sym (same-body i h q k true keeps);
     }
 
-unpinned-slots : (h : History) (d : DomId) (m : Mapping) (q : ℕ) (slots : List Slot) (b : Bool) → (m.dom.0 == q) ≡ b → mapping_of (mappings_at h d.0) m.handle ≡ Some m
-    → SlotsAgree h q slots → SlotsAgree (unpins d m ∷ h) q (cond b (changed_at m.gref.0 (slot_after (Unpinned m.dir)) slots) slots)
-unpinned-slots h d m q slots b is found was =
-    slots-agree h (unpins d m ∷ h) m.dom.0 q m.gref.0 (slot_after (Unpinned m.dir)) slots b is was
-    (λ on old a. slot-down h d m q old found on a) (λ k old off a. slot-stays h d m q k old found off a)
+unpinned-slots : (h : History) (d : DomId) (handle : Handle) (m : Mapping) (q : ℕ) (slots : List Slot) (b : Bool) → (m.dom.0 == q) ≡ b → mapping_of (mappings_at h d.0) handle ≡ Some m
+    → SlotsAgree h q slots → SlotsAgree (unpins d handle m ∷ h) q (cond b (changed_at m.gref.0 (slot_after (Unpinned m.dir)) slots) slots)
+unpinned-slots h d handle m q slots b is found was =
+    slots-agree h (unpins d handle m ∷ h) m.dom.0 q m.gref.0 (slot_after (Unpinned m.dir)) slots b is was
+    (λ on old a. slot-down h d handle m q old found on a) (λ k old off a. slot-stays h d handle m q k old found off a)
 
 -- the states
 
@@ -379,49 +367,49 @@ pub state-twice : (xs : List State) (d t q : ℕ) (f g : State → State) → ((
     → state_of (changed_in t g (changed_in d f xs)) q ≡ after_change (t == q) g (after_change (d == q) f (state_of xs q))
 state-twice xs d t q f g keeps holds = state-changed (changed_in d f xs) t q g holds ∙ ap (after_change (t == q) g) (state-changed xs d q f keeps)
 
-unpinned-maps_answered : (d : DomId) (m : Mapping) (h : History) (q : ℕ) → maps_answered_at (unpins d m ∷ h) q ≡ maps_answered_at h q
+unpinned-maps_answered : (d : DomId) (handle : Handle) (m : Mapping) (h : History) (q : ℕ) → maps_answered_at (unpins d handle m ∷ h) q ≡ maps_answered_at h q
 unfolding maps_answered_at
-unpinned-maps_answered d m h q = ap (λ (n : ℕ). n + maps_answered_at h q) (cond-same (d.0 == q) 0) ∙ omega arith
+unpinned-maps_answered d handle m h q = ap (λ (n : ℕ). n + maps_answered_at h q) (cond-same (d.0 == q) 0) ∙ omega arith
 
-unpinned-mappings : (d : DomId) (m : Mapping) (h : History) (q : ℕ) (ms : List Mapping) → d.0 ≡ q → ms ≡ mappings_at h q → less m.handle ms ≡ mappings_at (unpins d m ∷ h) q
-unpinned-mappings d m h q ms own same =
-    ap (less m.handle) same ∙ sym (less-mappings q m.handle (live h))
-    ∙ ap (λ (n : ℕ). mappings_in q (without n (ByMapping m.handle) (live h))) (sym own)
-    ∙ ap (mappings_in q) (sym (unpinned-live d m h))
+unpinned-mappings : (d : DomId) (handle : Handle) (m : Mapping) (h : History) (q : ℕ) → d.0 ≡ q → less handle (mappings_at h q) ≡ mappings_at (unpins d handle m ∷ h) q
+unpinned-mappings d handle m h q own =
+    sym (less-mappings q handle (live h))
+    ∙ ap (λ (n : ℕ). mappings_in q (without n (ByMapping handle) (live h))) (sym own)
+    ∙ ap (mappings_in q) (sym (unpinned-live d handle m h))
 
-unpinned-actor : (s : Setting) (h : History) (d : DomId) (m : Mapping) (x : State) (c : Bool) → (m.dom.0 == x.id.0) ≡ c → d.0 ≡ x.id.0 → mapping_of (mappings_at h d.0) m.handle ≡ Some m → Agrees s h x
-    → Agrees s (unpins d m ∷ h) (record x { slots = cond c (changed_at m.gref.0 (slot_after (Unpinned m.dir)) x.slots) x.slots; mappings = less m.handle x.mappings; maps_answered = x.maps_answered; underway = None })
-unpinned-actor s h d m x c is own found a =
-    let i : Item = unpins d m in
-    actor-agrees s i h x (cond c (changed_at m.gref.0 (slot_after (Unpinned m.dir)) x.slots) x.slots) (less m.handle x.mappings) x.maps_answered (unpins-keeps d m) a
+unpinned-actor : (s : Setting) (h : History) (d : DomId) (handle : Handle) (m : Mapping) (x : State) (c : Bool) → (m.dom.0 == x.id.0) ≡ c → d.0 ≡ x.id.0 → mapping_of (mappings_at h d.0) handle ≡ Some m → Agrees s h x
+    → Agrees s (unpins d handle m ∷ h) (record x { slots = cond c (changed_at m.gref.0 (slot_after (Unpinned m.dir)) x.slots) x.slots; mappings = taken handle x.mappings; underway = None })
+unpinned-actor s h d handle m x c is own found a =
+    let i : Item = unpins d handle m in
+    actor-agrees s i h x (cond c (changed_at m.gref.0 (slot_after (Unpinned m.dir)) x.slots) x.slots) (taken handle x.mappings) (unpins-keeps d handle m) a
     (length-slots m.gref.0 (slot_after (Unpinned m.dir)) x.slots c a.room)
-    (unpinned-slots h d m x.id.0 x.slots c is found a.slots)
-    (unpinned-mappings d m h x.id.0 x.mappings own a.mappings)
-    (a.maps_answered ∙ sym (unpinned-maps_answered d m h x.id.0))
+    (unpinned-slots h d handle m x.id.0 x.slots c is found a.slots)
+    (mappings-same (taken handle x.mappings) _ _ _ _ (unpinned-mappings d handle m h x.id.0 own) (sym (unpinned-maps_answered d handle m h x.id.0))
+    (mappings-taken x.mappings handle m (mappings_at h x.id.0) (maps_answered_at h x.id.0) (ap (λ (n : ℕ). mapping_of (mappings_at h n) handle) (sym own) ∙ found) a.mappings))
     (ap (λ (n : ℕ). open_call (i ∷ h) n) (sym own) ∙ open_call-own i h)
 
-unpinned-other : (s : Setting) (h : History) (d : DomId) (m : Mapping) (x : State) (c : Bool) → (m.dom.0 == x.id.0) ≡ c → (d.0 == x.id.0) ≡ false → mapping_of (mappings_at h d.0) m.handle ≡ Some m → Agrees s h x
-    → Agrees s (unpins d m ∷ h) (record x { slots = cond c (changed_at m.gref.0 (slot_after (Unpinned m.dir)) x.slots) x.slots })
-unpinned-other s h d m x c is apart found a =
-    other-agrees s (unpins d m) h x (cond c (changed_at m.gref.0 (slot_after (Unpinned m.dir)) x.slots) x.slots) apart a
+unpinned-other : (s : Setting) (h : History) (d : DomId) (handle : Handle) (m : Mapping) (x : State) (c : Bool) → (m.dom.0 == x.id.0) ≡ c → (d.0 == x.id.0) ≡ false → mapping_of (mappings_at h d.0) handle ≡ Some m → Agrees s h x
+    → Agrees s (unpins d handle m ∷ h) (record x { slots = cond c (changed_at m.gref.0 (slot_after (Unpinned m.dir)) x.slots) x.slots })
+unpinned-other s h d handle m x c is apart found a =
+    other-agrees s (unpins d handle m) h x (cond c (changed_at m.gref.0 (slot_after (Unpinned m.dir)) x.slots) x.slots) apart (unpins-keeps d handle m).writes a
     (length-slots m.gref.0 (slot_after (Unpinned m.dir)) x.slots c a.room)
-    (unpinned-slots h d m x.id.0 x.slots c is found a.slots)
+    (unpinned-slots h d handle m x.id.0 x.slots c is found a.slots)
 
-unpinned-state : (s : Setting) (h : History) (d : DomId) (m : Mapping) (q : DomId) (b c : Bool) (o : Option State) → (d.0 == q.0) ≡ b → (m.dom.0 == q.0) ≡ c → mapping_of (mappings_at h d.0) m.handle ≡ Some m
+unpinned-state : (s : Setting) (h : History) (d : DomId) (handle : Handle) (m : Mapping) (q : DomId) (b c : Bool) (o : Option State) → (d.0 == q.0) ≡ b → (m.dom.0 == q.0) ≡ c → mapping_of (mappings_at h d.0) handle ≡ Some m
     → StateAgrees s h q o
-    → StateAgrees s (unpins d m ∷ h) q (after_change b (without_mapping (ByMapping m.handle)) (after_change c (with_slot m.gref.0 (Unpinned m.dir)) (after_change b (with_underway None) o)))
-unpinned-state s h d m q true true None own is found a = a
-unpinned-state s h d m q true false None own is found a = a
-unpinned-state s h d m q false true None own is found a = a
-unpinned-state s h d m q false false None own is found a = a
-unpinned-state s h d m q true true (Some x) own is found a =
-    (a.0, a.1, unpinned-actor s h d m x true (ap (λ (z : DomId). m.dom.0 == z.0) a.1 ∙ is) (eqb-true d.0 q.0 own ∙ ap (λ (z : DomId). z.0) (sym a.1)) found a.2)
-unpinned-state s h d m q true false (Some x) own is found a =
-    (a.0, a.1, unpinned-actor s h d m x false (ap (λ (z : DomId). m.dom.0 == z.0) a.1 ∙ is) (eqb-true d.0 q.0 own ∙ ap (λ (z : DomId). z.0) (sym a.1)) found a.2)
-unpinned-state s h d m q false true (Some x) own is found a =
-    (a.0, a.1, unpinned-other s h d m x true (ap (λ (z : DomId). m.dom.0 == z.0) a.1 ∙ is) (ap (λ (z : DomId). d.0 == z.0) a.1 ∙ own) found a.2)
-unpinned-state s h d m q false false (Some x) own is found a =
-    (a.0, a.1, unpinned-other s h d m x false (ap (λ (z : DomId). m.dom.0 == z.0) a.1 ∙ is) (ap (λ (z : DomId). d.0 == z.0) a.1 ∙ own) found a.2)
+    → StateAgrees s (unpins d handle m ∷ h) q (after_change b (without_mapping (ByMapping handle)) (after_change c (with_slot m.gref.0 (Unpinned m.dir)) (after_change b (with_underway None) o)))
+unpinned-state s h d handle m q true true None own is found a = a
+unpinned-state s h d handle m q true false None own is found a = a
+unpinned-state s h d handle m q false true None own is found a = a
+unpinned-state s h d handle m q false false None own is found a = a
+unpinned-state s h d handle m q true true (Some x) own is found a =
+    (a.0, a.1, unpinned-actor s h d handle m x true (ap (λ (z : DomId). m.dom.0 == z.0) a.1 ∙ is) (eqb-true d.0 q.0 own ∙ ap (λ (z : DomId). z.0) (sym a.1)) found a.2)
+unpinned-state s h d handle m q true false (Some x) own is found a =
+    (a.0, a.1, unpinned-actor s h d handle m x false (ap (λ (z : DomId). m.dom.0 == z.0) a.1 ∙ is) (eqb-true d.0 q.0 own ∙ ap (λ (z : DomId). z.0) (sym a.1)) found a.2)
+unpinned-state s h d handle m q false true (Some x) own is found a =
+    (a.0, a.1, unpinned-other s h d handle m x true (ap (λ (z : DomId). m.dom.0 == z.0) a.1 ∙ is) (ap (λ (z : DomId). d.0 == z.0) a.1 ∙ own) found a.2)
+unpinned-state s h d handle m q false false (Some x) own is found a =
+    (a.0, a.1, unpinned-other s h d handle m x false (ap (λ (z : DomId). m.dom.0 == z.0) a.1 ∙ is) (ap (λ (z : DomId). d.0 == z.0) a.1 ∙ own) found a.2)
 
 le-lt : (a b n : ℕ) → a ≤ b → b < n → a < n
 le-lt a b n e f = omega arith
@@ -432,25 +420,25 @@ le-zero a b e f = omega arith
 -- the domain's unmap is over with its unpin
 pub unpin-stands : (s : Setting) (h : History) (xs : List State) (d : DomId) (x : State) (handle : Handle) (m : Mapping) → CoreStands s h xs
     → state_of xs d.0 ≡ Some x → x.id ≡ d → mapping_of (mappings_at h d.0) handle ≡ Some m
-    → CoreStands s (record { actor = d; happened = Stepped (Unpin m.dom m.gref m.dir (ByMapping m.handle)) Nothing; answer = Some AnswerDone } ∷ h)
-    (changed_in d.0 (without_mapping (ByMapping m.handle)) (changed_in m.dom.0 (with_slot m.gref.0 (Unpinned m.dir)) (changed_in d.0 (with_underway None) xs)))
+    → CoreStands s (record { actor = d; happened = Stepped (Unpin m.dom m.gref m.dir (ByMapping handle)) Nothing; answer = Some AnswerDone } ∷ h)
+    (changed_in d.0 (without_mapping (ByMapping handle)) (changed_in m.dom.0 (with_slot m.gref.0 (Unpinned m.dir)) (changed_in d.0 (with_underway None) xs)))
 unpin-stands s h xs d x handle m st here same found =
-    let i : Item = unpins d m in
-    let keeps = unpins-keeps d m in
-    let own : mapping_of (mappings_at h d.0) m.handle ≡ Some m = ap (λ (k : Handle). mapping_of (mappings_at h d.0) k) (named (mappings_at h d.0) handle m found) ∙ found in
+    let i : Item = unpins d handle m in
+    let keeps = unpins-keeps d handle m in
     record {
       each = λ q. subst (λ (o : Option State). StateAgrees s (i ∷ h) q o)
-          (sym (state-changed (changed_in m.dom.0 (with_slot m.gref.0 (Unpinned m.dir)) (changed_in d.0 (with_underway None) xs)) d.0 q.0 (without_mapping (ByMapping m.handle)) (λ y. refl)
-          ∙ ap (after_change (d.0 == q.0) (without_mapping (ByMapping m.handle))) (state-twice xs d.0 m.dom.0 q.0 (with_underway None) (with_slot m.gref.0 (Unpinned m.dir)) (λ y. refl) (λ y. refl))))
-          (unpinned-state s h d m q (d.0 == q.0) (m.dom.0 == q.0) (state_of xs q.0) refl refl own (st.each q));
+          (sym (state-changed (changed_in m.dom.0 (with_slot m.gref.0 (Unpinned m.dir)) (changed_in d.0 (with_underway None) xs)) d.0 q.0 (without_mapping (ByMapping handle)) (λ y. refl)
+          ∙ ap (after_change (d.0 == q.0) (without_mapping (ByMapping handle))) (state-twice xs d.0 m.dom.0 q.0 (with_underway None) (with_slot m.gref.0 (Unpinned m.dir)) (λ y. refl) (λ y. refl))))
+          (unpinned-state s h d handle m q (d.0 == q.0) (m.dom.0 == q.0) (state_of xs q.0) refl refl found (st.each q));
       tables = λ dom. subst FitsTable (sym (kept-table s i h dom refl)) (st.tables dom);
       words = λ t r within.
           let was = counts-fit s h t r (st.words t r within) in
-          word-fits s i h t r keeps (le-lt (reads_at (i ∷ h) t r) (reads_at h t r) 4096 (unpinned-le d m h t r Read own) was.0)
-          (le-lt (writes_at (i ∷ h) t r) (writes_at h t r) 4096 (unpinned-le d m h t r Write own) was.1) (st.words t r within);
-      lawful = subst (All (IsLawful s)) (sym (unpinned-live d m h)) (all-less (IsLawful s) m (live h) (without d.0 (ByMapping m.handle) (live h)) (loses d.0 m.handle m (live h) own) st.lawful);
+          word-fits s i h t r keeps (le-lt (reads_at (i ∷ h) t r) (reads_at h t r) 4096 (unpinned-le d handle m h t r Read found) was.0)
+          (le-lt (writes_at (i ∷ h) t r) (writes_at h t r) 4096 (unpinned-le d handle m h t r Write found) was.1) (st.words t r within);
+      lawful = subst (All (IsLawful s)) (sym (unpinned-live d handle m h)) (all-less (IsLawful s) m (live h) (without d.0 (ByMapping handle) (live h)) (loses d.0 handle m (live h) found) st.lawful);
       free = λ t r e.
           let was = st.free t r (sym (same-entry i h t r keeps) ∙ e) in
-          (le-zero (reads_at (i ∷ h) t r) (reads_at h t r) (unpinned-le d m h t r Read own) was.0, le-zero (writes_at (i ∷ h) t r) (writes_at h t r) (unpinned-le d m h t r Write own) was.1);
+          (le-zero (reads_at (i ∷ h) t r) (reads_at h t r) (unpinned-le d handle m h t r Read found) was.0, le-zero (writes_at (i ∷ h) t r) (writes_at h t r) (unpinned-le d handle m h t r Write found) was.1);
+      filled = filled-stays s i h xs keeps.writes st;
       spelled = λ t r valid. same-spelled i h t r keeps (st.spelled t r) valid;
     }

@@ -1,24 +1,25 @@
 -- What a step does to the states of the domains: the code's own representation, which stands here since private contracts cite it.
-use Rattle.std.specs.Prelude.{ℕ, true, false, List, [], ◌∷◌, ◌++◌, Option, Some, None, if◌then◌else◌, ◌+◌, ◌-◌, ◌^◌, ◌%◌, min, take, drop, slice_get}
+use Rattle.std.specs.Prelude.{ℕ, true, false, List, [], Option, Some, None, if◌then◌else◌, nat_le, ◌+◌, ◌-◌, ◌%◌, length, min, take, drop, slice_get, is_some, ◌≡◌, slice_set}
+use Rattle.gt_frames.specs.Bytes.{overlay}
 use Rattle.gt_types.specs.declared.DomId.{DomId}
 use Rattle.gt_types.specs.declared.Dir.TheVariants.{Read, Write}
-use Rattle.gt_core.specs.declared.request.Handle.{Handle}
-use Rattle.gt_core.specs.declared.request.Holder.{Holder}
-use Rattle.gt_core.specs.declared.request.Holder.TheVariants.{Mapping as ByMapping, Leg as ByLeg}
-use Rattle.gt_core.specs.declared.action.Change.{Change}
-use Rattle.gt_core.specs.declared.action.Step.{Step}
-use Rattle.gt_core.specs.declared.action.Step.TheVariants.{Pin, Unpin, StoreBody, StoreHeader, Exchange}
-use Rattle.gt_core.specs.declared.action.Seen.{Seen}
-use Rattle.gt_core.specs.declared.action.Seen.TheVariants.{Taken}
-use Rattle.gt_core.specs.declared.known.Own.{Own}
-use Rattle.gt_core.specs.declared.known.Mapping.{Mapping}
+use Rattle.gt_handles.specs.declared.handles.Handle.{Handle}
+use Rattle.gt_calls.specs.declared.request.Holder.{Holder}
+use Rattle.gt_calls.specs.declared.request.Holder.TheVariants.{Mapping as ByMapping, Leg as ByLeg}
+use Rattle.gt_calls.specs.declared.action.Change.{Change}
+use Rattle.gt_calls.specs.declared.action.Step.{Step}
+use Rattle.gt_calls.specs.declared.action.Step.TheVariants.{Pin, Unpin, StoreBody, StoreHeader, Exchange}
+use Rattle.gt_calls.specs.declared.action.Seen.{Seen}
+use Rattle.gt_calls.specs.declared.action.Seen.TheVariants.{Taken}
+use Rattle.gt_calls.specs.declared.known.Mapping.{Mapping}
 use Rattle.gt_core.specs.declared.slot.Slot.{Slot}
 use Rattle.gt_core.specs.declared.slot.SlotChange.{SlotChange}
 use Rattle.gt_core.specs.declared.slot.SlotChange.TheVariants.{Pinned, Unpinned, Stored}
 use Rattle.gt_core.specs.declared.slot.Open.{Open}
 use Rattle.gt_core.specs.Rows.{changed_at}
 use Rattle.gt_core.specs.States.{State, state_of, changed_in}
-use Rattle.gt_core.specs.History.{changed_entry, raise_of, is_handle}
+pub use Rattle.gt_calls.specs.Changes.{own_after}
+use Rattle.gt_handles.specs.Handles.{Kept, value_of, count_of, Updates}
 
 -- one pin more or less of a kind, or another body word (own)
 abbrev pub slot_after : SlotChange → Slot → Slot
@@ -28,10 +29,6 @@ slot_after (Unpinned Read) slot = record slot { reads = slot.reads - 1 }
 slot_after (Unpinned Write) slot = record slot { writes = slot.writes - 1 }
 slot_after (Stored true word) slot = record slot { second = word }
 slot_after (Stored false word) slot = record slot { first = word }
-
--- what an owner knows of its entry after a change (own)
-abbrev pub own_after : Change → Own → Own
-own_after change own = record { entry = changed_entry change own.entry; generation = min (own.generation + raise_of change) 1048575 }
 
 -- the state after a change of the pins or a body word of entry r (own)
 abbrev pub with_slot : ℕ → SlotChange → State → State
@@ -49,18 +46,41 @@ with_header version frames x = record x { header = record { version = version % 
 abbrev pub with_underway : Option Open → State → State
 with_underway underway x = record x { underway = underway }
 
--- a new mapping, and the call that made it is answered (own)
-abbrev pub with_mapping : Mapping → State → State
-with_mapping m x = record x { mappings = x.mappings ++ m ∷ []; maps_answered = min (x.maps_answered + 1) (2 ^ 64 - 1); underway = None }
+-- the state with this call under way, and the bytes given to it (own)
+abbrev pub with_call : Open → List ℕ → State → State
+with_call call given x = record x { underway = Some call; given = given }
 
--- the first mapping with this handle goes (own)
-abbrev pub less : Handle → List Mapping → List Mapping
-less handle [] = []
-less handle (m ∷ ms) = if is_handle m.handle handle then ms else m ∷ less handle ms
+-- the state after its call is over, and the bytes given to it are gone (own)
+abbrev pub without_given : State → State
+without_given x = record x { underway = None; given = [] }
+
+-- the bytes of a frame with these laid over them, where they have room (own)
+abbrev pub written_over : ℕ → List ℕ → List ℕ → List ℕ
+written_over off given old = if nat_le (off + length given) (length old) then overlay old off given else old
+
+-- the state with these bytes written to a frame (own)
+abbrev pub with_bytes : ℕ → ℕ → List ℕ → State → State
+with_bytes frame off given x = record x { frames = changed_at frame (written_over off given) x.frames }
+
+-- these handles are the old ones and a new one, under the next serial, which names this mapping (own)
+pub record Adds (old new : Kept Mapping) (handle : Handle) (m : Mapping) : Type 0 where
+  pub serial : handle.serial ≡ old.given
+  pub fresh : value_of old handle ≡ None
+  pub given : new.given ≡ old.given + 1
+  pub updates : Updates old new handle (Some m)
+  pub count : count_of new ≡ count_of old + 1
+
+-- the state with these mappings, after the call that made one is answered (own)
+abbrev pub with_mapping : Kept Mapping → State → State
+with_mapping mappings x = record x { mappings = mappings; underway = None }
+
+-- the mapping under this handle goes, if there is one (own)
+abbrev pub taken : Handle → Kept Mapping → Kept Mapping
+taken handle mappings = if is_some (value_of mappings handle) then record mappings { slots = slice_set mappings.slots handle.key None } else mappings
 
 -- the state after its holder gave up a pin: a mapping goes, a call has none to lose (own)
 abbrev pub without_mapping : Holder → State → State
-without_mapping (ByMapping handle) x = record x { mappings = less handle x.mappings }
+without_mapping (ByMapping handle) x = record x { mappings = taken handle x.mappings }
 without_mapping (ByLeg number) x = x
 
 -- the states after a step of domain d that saw this (own)

@@ -1,11 +1,7 @@
-pub mod Asking
 pub mod Rows
-pub mod Rules
-pub mod Path
 pub mod States
 pub mod History
 pub mod Legal
-pub mod Machine
 pub mod Standing
 pub mod Sight
 pub mod Effects

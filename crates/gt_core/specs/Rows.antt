@@ -1,11 +1,5 @@
 -- What the core keeps of an entry: the code's own representation, which stands here since private contracts cite it.
 use Rattle.std.specs.Prelude.{ℕ, zero, suc, List, [], ◌∷◌}
-use Rattle.gt_entry.specs.declared.entry.Entry.{Entry}
-
--- what an owner knows of an entry (own)
-pub record OwnRow : Type 0 where
-  pub entry : Entry
-  pub generation : ℕ
 
 -- the pins and body words of an entry (own)
 pub record SlotRow : Type 0 where

@@ -1,11 +1,11 @@
 -- What an entry shows.
-use Rattle.std.specs.Prelude.{ℕ, Bool, ◌&&◌, is_some, nat_lt, if◌then◌else◌, Option, Some, None}
+use Rattle.std.specs.Prelude.{ℕ, ◌&&◌, is_some, nat_lt, if◌then◌else◌, Option, Some, None}
 use Rattle.gt_types.specs.Names.{domain_of}
 use Rattle.gt_types.specs.declared.DomId.{DomId}
-use Rattle.gt_core.specs.declared.known.Own.{Own}
+use Rattle.gt_calls.specs.declared.known.Own.{Own}
 use Rattle.gt_core.specs.declared.slot.Slot.{Slot}
 use Rattle.gt_core.specs.declared.core_state.Shown.{Shown}
-use Rattle.gt_core.specs.Rules.{size_of}
+use Rattle.gt_calls.specs.Rules.{size_of}
 use Rattle.gt_core.specs.History.{History, Setting, entry_at, generation_at, reads_at, writes_at, table_at}
 
 -- what the rows of an entry show (own)

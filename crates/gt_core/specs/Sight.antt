@@ -2,14 +2,14 @@
 use Rattle.std.specs.Prelude.{ℕ, Bool, true, false, ◌==◌, if◌then◌else◌, List, [], ◌∷◌, Option, Some, None, slice_get}
 use Rattle.gt_types.specs.declared.DomId.{DomId}
 use Rattle.gt_entry.specs.Words.{control_word, header_word}
-use Rattle.gt_core.specs.declared.action.Step.{Step}
-use Rattle.gt_core.specs.declared.action.Step.TheVariants.{LookHeader, LookControl, LookBody, Pin, Unpin, StoreBody, StoreHeader, Exchange, Read as ReadBytes}
-use Rattle.gt_core.specs.declared.action.Seen.{Seen}
-use Rattle.gt_core.specs.declared.action.Seen.TheVariants.{Nothing, Value, Taken}
-use Rattle.gt_core.specs.declared.known.Own.{Own}
+use Rattle.gt_calls.specs.declared.action.Step.{Step}
+use Rattle.gt_calls.specs.declared.action.Step.TheVariants.{LookHeader, LookControl, LookBody, Pin, Unpin, StoreBody, StoreHeader, Exchange, Read as ReadBytes, Write as WriteBytes}
+use Rattle.gt_calls.specs.declared.action.Seen.{Seen}
+use Rattle.gt_calls.specs.declared.action.Seen.TheVariants.{Nothing, Value, Taken}
+use Rattle.gt_calls.specs.declared.known.Own.{Own}
 use Rattle.gt_core.specs.declared.slot.Slot.{Slot}
 use Rattle.gt_core.specs.States.{State}
-use Rattle.gt_core.specs.Rules.{control_with, entry_in, generation_in}
+use Rattle.gt_calls.specs.Rules.{control_with, entry_in, generation_in}
 pub use Rattle.gt_core.specs.History.{exchange_sees}
 
 -- the read pins in a slot, 0 where there is none (own)
@@ -82,3 +82,4 @@ sees xs d (Unpin dom gref dir holder) = Nothing
 sees xs d (StoreBody gref second word) = Nothing
 sees xs d (StoreHeader version frames) = Nothing
 sees xs d (ReadBytes dom frame off len) = Nothing
+sees xs d (WriteBytes dom frame off len) = Nothing

@@ -1,39 +1,42 @@
 -- When a core stands for a history. The upper half, up to `Settles`, tells the code's own representation and stands here since private contracts cite it.
-use Rattle.std.specs.Prelude.{◌≡◌, ◌≢◌, ◌<◌, ◌≤◌, ◌+◌, reverse, ℕ, Bool, true, false, nat_lt, if◌then◌else◌, List, [], ◌∷◌, ◌++◌, Option, Some, None, slice_get, length, All, Result, IfOk, IsOk}
+use Rattle.std.specs.Prelude.{◌≡◌, ◌≢◌, ◌<◌, ◌≤◌, ◌+◌, reverse, ℕ, Bool, true, false, List, [], ◌∷◌, ◌++◌, Option, Some, None, slice_get, length, All, Result, IfOk, IsOk}
 use Rattle.gt_types.specs.Names.{domain_of}
 use Rattle.gt_types.specs.declared.DomId.{DomId}
 use Rattle.gt_types.specs.declared.TypeId.{TypeId}
 use Rattle.gt_types.specs.declared.Use.TheVariants.{Map as ForMap}
-use Rattle.gt_core.specs.declared.request.Holder.{Holder}
-use Rattle.gt_core.specs.declared.request.Holder.TheVariants.{Mapping as ByMapping, Leg as ByLeg}
+use Rattle.gt_calls.specs.declared.request.Holder.{Holder}
+use Rattle.gt_calls.specs.declared.request.Holder.TheVariants.{Mapping as ByMapping, Leg as ByLeg}
 use Rattle.gt_types.specs.declared.perms.Perms.{Perms}
 use Rattle.gt_types.specs.Config.{IsWithinLimits, IsFirstFault}
 use Rattle.gt_types.specs.declared.config.StartFault.{StartFault}
 use Rattle.gt_types.specs.declared.config.StartFault.TheVariants.{Config as ConfigFault, Memory as NoMemory}
 use Rattle.gt_types.specs.declared.config.Config.{Config}
-use Rattle.gt_core.specs.declared.request.Request.{Request}
-use Rattle.gt_core.specs.declared.request.Request.TheVariants as requests
-use Rattle.gt_core.specs.declared.asked.Asked.{Asked}
-use Rattle.gt_core.specs.Asking.{asked, begun_of, IsSaid}
-use Rattle.gt_core.specs.declared.action.Verdict.{Verdict}
-use Rattle.gt_core.specs.declared.action.Verdict.TheVariants.{Granted, Refused}
-use Rattle.gt_core.specs.declared.action.Seen.{Seen}
-use Rattle.gt_core.specs.declared.action.Seen.TheVariants.{Value}
+use Rattle.gt_calls.specs.declared.request.Request.{Request}
+use Rattle.gt_calls.specs.declared.request.Request.TheVariants as requests
+use Rattle.gt_calls.specs.declared.asked.Asked.{Asked}
+use Rattle.gt_calls.specs.Asking.{asked, begun_of, IsSaid}
+pub use Rattle.gt_calls.specs.Asking.{FitsEntry, FitsAsked}
+use Rattle.gt_calls.specs.declared.action.Verdict.{Verdict}
+use Rattle.gt_calls.specs.declared.action.Verdict.TheVariants.{Granted, Refused}
+use Rattle.gt_calls.specs.declared.action.Seen.{Seen}
+use Rattle.gt_calls.specs.declared.action.Seen.TheVariants.{Value}
 use Rattle.gt_entry.specs.declared.header.Header.{Header}
-use Rattle.gt_core.specs.declared.action.Action.TheVariants.{Step as Makes}
+use Rattle.gt_calls.specs.declared.action.Action.TheVariants.{Step as Makes}
 use Rattle.gt_core.specs.declared.trace.Answer.{Answer}
 use Rattle.gt_core.specs.declared.trace.Answer.TheVariants.{Denied, Done as AnswerDone, Mapped, Bytes as BytesAnswer, Frames as FramesAnswer, Size as SizeAnswer, Version as VersionAnswer}
 use Rattle.gt_core.specs.declared.trace.Bytes.{Bytes}
-use Rattle.gt_core.specs.declared.request.Handle.{Handle}
-use Rattle.gt_core.specs.declared.action.Step.{Step}
-use Rattle.gt_core.specs.declared.action.Step.TheVariants.{Pin, Read as ReadBytes}
-use Rattle.gt_core.specs.Effects.{with_mapping, with_underway, bytes_in}
+use Rattle.gt_handles.specs.declared.handles.Handle.{Handle}
+use Rattle.gt_calls.specs.declared.action.Step.{Step}
+use Rattle.gt_calls.specs.declared.action.Step.TheVariants.{Pin, Read as ReadBytes, Write as WriteBytes}
+use Rattle.gt_core.specs.Effects.{with_mapping, with_underway, bytes_in, without_given, with_bytes, Adds}
+use Rattle.gt_handles.specs.Handles.{Kept, value_of as mapping_under, count_of}
+use Rattle.gt_calls.specs.declared.known.Mapping.{Mapping}
 use Rattle.gt_types.specs.declared.Memory.{Memory}
 use Rattle.std.proofs.Math.ListN.{set}
 use Rattle.gt_core.specs.declared.trace.Happened.TheVariants.{Began, Stepped}
 use Rattle.gt_core.specs.declared.trace.Element.{Element}
 use Rattle.gt_core.specs.declared.trace.Element.TheVariants.{Busy, Idle, NoDomain, Item as Did}
-pub use Rattle.gt_core.specs.States.{State, state_of, first_state, asks_memory, IsMapping}
+pub use Rattle.gt_core.specs.States.{State, state_of, first_state, changed_in, asks_memory, IsMapping}
 use Rattle.gt_core.specs.declared.slot.Slot.{Slot}
 use Rattle.gt_core.specs.declared.slot.Open.{Open}
 use Rattle.gt_core.specs.declared.core_state.Begun.{Begun}
@@ -42,24 +45,24 @@ use Rattle.gt_core.specs.declared.core_state.Ticked.{Ticked}
 use Rattle.gt_core.specs.declared.core_state.Ticked.TheVariants.{Step as TickedStep, Done as TickedDone, Idle as TickedIdle, NoDomain as TickedNoDomain}
 use Rattle.gt_core.specs.declared.core_state.Opening.{Opening}
 use Rattle.gt_core.specs.declared.core_state.Opening.TheVariants.{Open as OpeningOpen, Done as OpeningDone}
-use Rattle.gt_core.specs.Rules.{CallerKnowledge, is_demote, entry_in, generation_in, first_look, before_pin, first_body, second_body, is_kind, frames_of}
+use Rattle.gt_calls.specs.Rules.{CallerKnowledge, begun, is_demote, entry_in, generation_in, first_look, before_pin, first_body, second_body, is_kind, frames_of}
 use Rattle.gt_types.specs.declared.denial.Rule.{Rule}
 use Rattle.gt_entry.specs.declared.entry.Entry.{Entry}
-use Rattle.gt_entry.specs.declared.entry.Entry.TheVariants.{Invalid, Page, Sub, Via}
+use Rattle.gt_entry.specs.declared.entry.Entry.TheVariants.{Invalid, Sub}
 use Rattle.gt_entry.specs.declared.control.Control.{Control}
 use Rattle.gt_entry.specs.declared.control.Kind.TheVariants.{Sub as KindSub}
 use Rattle.gt_entry.specs.Words.{IsInRange, control_of, header_of}
-use Rattle.gt_core.specs.declared.asked.Asked.TheVariants.{Grant, Load, SetupTable, QuerySize, GetVersion}
-use Rattle.gt_core.specs.declared.leg.Leg.{Leg}
-use Rattle.gt_core.specs.declared.leg.LegPhase.{LegPhase}
-use Rattle.gt_core.specs.declared.leg.LegPhase.TheVariants.{Header as AtHeader, Look, Body, Second, Pinning, Relook}
-use Rattle.gt_core.specs.declared.call.Phase.{Phase}
-use Rattle.gt_core.specs.declared.call.Phase.TheVariants.{Begun as PhaseBegun, Pinning as LegPinning, Storing, StoringSecond, Single, Look as OwnLook, Change as OwnChange, Ended}
-use Rattle.gt_core.specs.Path.{path, steps_of}
-use Rattle.gt_core.specs.Machine.{expects, first_phase, phase_after, IsUnderway, FitsPhase, frame_read}
-use Rattle.gt_core.specs.declared.call.Call.{Call}
-use Rattle.gt_core.specs.declared.action.Action.{Action}
-use Rattle.gt_core.specs.History.{History, Setting, Pin as HeldPin, live, entry_at, generation_at, body_at, reads_at, writes_at, table_at, control_at, mappings_at, maps_answered_at, known_at, Underway, open_call, values, contents_at, frame_of}
+use Rattle.gt_calls.specs.declared.asked.Asked.TheVariants.{Grant, Load, SetupTable, QuerySize, GetVersion, Store, Peek, Poke}
+use Rattle.gt_calls.specs.declared.leg.Leg.{Leg}
+use Rattle.gt_calls.specs.declared.leg.LegPhase.{LegPhase}
+use Rattle.gt_calls.specs.declared.leg.LegPhase.TheVariants.{Header as AtHeader, Look, Body, Second, Pinning, Relook}
+use Rattle.gt_calls.specs.declared.call.Phase.{Phase}
+use Rattle.gt_calls.specs.declared.call.Phase.TheVariants.{Begun as PhaseBegun, Pinning as LegPinning, Storing, StoringSecond, Single, Look as OwnLook, Change as OwnChange, Ended}
+use Rattle.gt_calls.specs.Path.{path, steps_of}
+use Rattle.gt_calls.specs.Machine.{expects, first_phase, phase_after, action_at, Comes, IsUnderway, FitsPhase, frame_read}
+use Rattle.gt_calls.specs.declared.call.Call.{Call}
+use Rattle.gt_calls.specs.declared.action.Action.{Action}
+use Rattle.gt_core.specs.History.{History, Setting, Pin as HeldPin, live, entry_at, generation_at, body_at, reads_at, writes_at, table_at, control_at, mappings_at, maps_answered_at, known_at, Underway, open_call, values, contents_at, frame_of, mapping_of}
 use Rattle.gt_core.specs.Legal.{LeavesAll, Permits, MayUse, stood, StepsSoFar, misses, looked_at, is_in_body, leg_of, IsSpelled}
 
 -- a call begins so: with an answer, or with a first step and all that may follow it (own)
@@ -69,7 +72,7 @@ Opens k dom request (OpeningOpen o) =
     (begun_of k dom request ≡ None) × (o.call.caller ≡ dom) × (o.call.request ≡ asked request)
     × (expects k dom (asked request) o.call.phase [] ≡ Some (Makes o.step))
     × ((vs : List Seen) → expects k dom (asked request) o.call.phase vs ≡ steps_of k dom (asked request) vs)
-    × (o.call.phase ≡ first_phase k dom (asked request)) × IsSaid k.header request
+    × (o.call.phase ≡ first_phase k dom (asked request)) × IsSaid k.header request × (begun k dom (asked request) ≡ None)
 
 -- a call of the caller, standing here, goes on so after what its step saw (own)
 pub record Advances (k : CallerKnowledge) (caller : DomId) (request : Asked) (phase : Phase) (seen : Seen) (new : Call) (action : Action) : Type 0 where
@@ -78,6 +81,8 @@ pub record Advances (k : CallerKnowledge) (caller : DomId) (request : Asked) (ph
   pub stands : new.phase ≡ phase_after k caller request phase seen
   pub goes_on : IsUnderway k caller request phase → FitsPhase k caller request phase seen → (vs : List Seen) → expects k caller request new.phase vs ≡ expects k caller request phase (seen ∷ vs)
   pub next : IsUnderway k caller request phase → FitsPhase k caller request phase seen → expects k caller request new.phase [] ≡ Some action
+  pub made : Comes (expects k caller request phase []) → expects k caller request phase [] ≡ Some (action_at k caller request phase)
+  pub gives : action ≡ action_at k caller request new.phase
 
 -- the answer of a call that makes no step, by the header of its caller's table (own)
 abbrev pub answer_begun : Request → Header → Verdict → Answer
@@ -113,16 +118,19 @@ setting_of config may = record { domains = config.domains.items; first_generatio
 -- a request for so many bytes (own)
 abbrev pub IsLoadOf : Asked → ℕ → Type 0
 IsLoadOf (Load handle off len) n = len ≡ n
+IsLoadOf (Peek frame off len) n = len ≡ n
 IsLoadOf request n = ⊥
 
 -- a call that nothing stood against is over after this last step: its answer, and the states (own)
 abbrev pub Settled : List State → ℕ → State → Open → Seen → Step → Answer → List State → Type 0
 Settled xs at d o seen (Pin dom gref looked dir) answer new =
-    (handle : Handle) × (answer ≡ Mapped handle) × (handle.serial ≡ d.maps_answered)
-    × (new ≡ set xs at (with_mapping (record { handle = handle; dom = dom; gref = gref; dir = dir; frame = frame_read o.call.phase }) d))
+    (handle : Handle) × (mappings : Kept Mapping) × (answer ≡ Mapped handle)
+    × Adds d.mappings mappings handle (record { dom = dom; gref = gref; dir = dir; frame = frame_read o.call.phase }) × (new ≡ set xs at (with_mapping mappings d))
 Settled xs at d o seen (ReadBytes dom frame off len) answer new =
     (b : Bytes) × (answer ≡ BytesAnswer b) × (new ≡ set xs at (with_underway None d))
     × ((n : ℕ) → IsLoadOf o.call.request n → length (bytes_in new dom.0 frame off n) ≡ n → b.bytes.items ≡ bytes_in new dom.0 frame off n)
+Settled xs at d o seen (WriteBytes dom frame off len) answer new =
+    (answer ≡ AnswerDone) × (new ≡ changed_in dom.0 (with_bytes frame off d.given) (set xs at (without_given d)))
 Settled xs at d o seen step answer new = (answer ≡ value_of o.call.request seen) × (new ≡ set xs at (with_underway None d))
 
 -- the answer of this last step wants no room, or it was made already: a pin is that of a map (own)
@@ -139,7 +147,7 @@ abbrev pub IsStartFaultOf : Config → StartFault → Type 0
 IsStartFaultOf config (ConfigFault fault) = IsFirstFault config fault
 IsStartFaultOf config NoMemory = IsWithinLimits config
 
--- memory can be wanted where a domain at rest begins a map or a load against which no rule stands (own)
+-- memory can be wanted where a domain at rest begins a map, a load, a store, a peek or a poke against which no rule stands (own)
 abbrev pub WantsMemory : Setting → History → DomId → Request → Type 0
 WantsMemory s h d request = (asks_memory (asked request) ≡ true) × (open_call h d.0 ≡ None) × (begun_of (known_at s h d) d request ≡ None)
 
@@ -207,18 +215,6 @@ PhaseStands s h d request so_far (OwnChange more word) =
     (misses so_far + more ≡ 3) × (looked_at so_far ≡ Some word) × (is_demote request ≡ true → (control_of word).writes ≡ 0)
 PhaseStands s h d request so_far (Ended verdict) = ⊥
 
--- the domain that an entry names has a number of 16 bits (own)
-abbrev pub FitsEntry : Entry → Type 0
-FitsEntry Invalid = Unit {0}
-FitsEntry (Page dom ro frame) = dom.0 < 65536
-FitsEntry (Sub dom ro frame off len) = dom.0 < 65536
-FitsEntry (Via dom ro dom2 gref) = dom.0 < 65536
-
--- the domain in the entry that a grant gives has a number of 16 bits (own)
-abbrev pub FitsAsked : Asked → Type 0
-FitsAsked (Grant gref entry) = FitsEntry entry
-FitsAsked request = Unit {0}
-
 -- an open call is where its steps have led it, and no rule stood so far (own)
 pub record OpenAgrees (s : Setting) (h : History) (id : DomId) (o : Open) (c : Underway) : Type 0 where
   pub caller : o.call.caller ≡ id
@@ -237,12 +233,34 @@ CallAgrees s h id (Some o) (Some c) = OpenAgrees s h id o c
 CallAgrees s h id None (Some c) = ⊥
 CallAgrees s h id (Some o) None = ⊥
 
+-- bytes to be written are as many as the call asked, and end inside a frame (own)
+abbrev pub FitsGiven : Asked → List ℕ → Type 0
+FitsGiven (Store handle off len) given = (length given ≡ len) × (off + len ≤ 4096)
+FitsGiven (Poke frame off len) given = (length given ≡ len) × (off + len ≤ 4096)
+FitsGiven request given = Unit {0}
+
+-- the bytes given are those of the open call, if there is one (own)
+abbrev pub GivenAgrees : History → ℕ → List ℕ → Type 0
+GivenAgrees h d given = (c : Underway) → open_call h d ≡ Some c → (given ≡ c.given) × FitsGiven c.request c.given
+
 -- the pins and body words of an entry (own)
 pub record SlotAgrees (h : History) (t r : ℕ) (slot : Slot) : Type 0 where
   pub reads : slot.reads ≡ reads_at h t r
   pub writes : slot.writes ≡ writes_at h t r
   pub first : slot.first ≡ body_at h t r false
   pub second : slot.second ≡ body_at h t r true
+
+-- no two mappings are under one handle (own)
+abbrev pub AreApart : List (Handle × Mapping) → Type 0
+AreApart [] = Unit {0}
+AreApart (m ∷ ms) = (mapping_of ms m.0 ≡ None) × AreApart ms
+
+-- the handles name just these mappings, after so many maps were answered Ok (own)
+pub record MappingsAgree (kept : Kept Mapping) (ms : List (Handle × Mapping)) (answered : ℕ) : Type 0 where
+  pub named : mapping_under kept ≡ mapping_of ms
+  pub count : count_of kept ≡ length ms
+  pub given : kept.given ≡ answered
+  pub apart : AreApart ms
 
 -- a domain is as the history leaves it (own)
 pub record Agrees (s : Setting) (h : History) (d : State) : Type 0 where
@@ -252,10 +270,10 @@ pub record Agrees (s : Setting) (h : History) (d : State) : Type 0 where
   pub generations : generation_in s.first_generation d.own ≡ (λ r. generation_at s h d.id.0 r)
   pub room : length d.slots ≡ 2048
   pub slots : (r : ℕ) (slot : Slot) → slice_get d.slots r ≡ Some slot → SlotAgrees h d.id.0 r slot
-  pub mappings : d.mappings ≡ mappings_at h d.id.0
-  pub maps_answered : d.maps_answered ≡ maps_answered_at h d.id.0
+  pub mappings : MappingsAgree d.mappings (mappings_at h d.id.0) (maps_answered_at h d.id.0)
   pub frames : (f : ℕ) → f < frames_of s.domains d.id → slice_get d.frames f ≡ Some (contents_at h d.id.0 f)
   pub call : CallAgrees s h d.id d.underway (open_call h d.id.0)
+  pub given : GivenAgrees h d.id.0 d.given
 
 -- a domain of the run has a state that agrees, and no other domain has one (own)
 abbrev pub StateAgrees : Setting → History → DomId → Option State → Type 0
@@ -290,4 +308,5 @@ pub record CoreStands (s : Setting) (h : History) (domains : List State) : Type 
   pub words : (t r : ℕ) → r < 2048 → FitsWord (control_at s h t r)
   pub lawful : All (IsLawful s) (live h)
   pub free : (t r : ℕ) → entry_at h t r ≡ Invalid → (reads_at h t r ≡ 0) × (writes_at h t r ≡ 0)
+  pub filled : (t f : ℕ) → length (contents_at h t f) ≡ 4096
   pub spelled : (t r : ℕ) → entry_at h t r ≢ Invalid → IsSpelled (entry_at h t r) (body_at h t r false) (body_at h t r true)

@@ -1,54 +1,66 @@
 -- A domain's state, as the core keeps it: the code's own representation, which stands here since private contracts cite it.
-use Rattle.std.specs.Prelude.{Bool, true, false, ℕ, List, [], ◌∷◌, Option, Some, None, ◌==◌, ◌≡◌, ◌<◌, ◌%◌, min, replicate, if◌then◌else◌}
+use Rattle.std.specs.Prelude.{Bool, true, false, ℕ, List, [], ◌∷◌, Option, Some, None, ◌==◌, ◌≡◌, ◌<◌, ◌≤◌, ◌+◌, ◌^◌, ◌%◌, min, replicate, if◌then◌else◌}
 use Rattle.gt_types.specs.declared.config.DomainConfig.{DomainConfig}
 use Rattle.gt_entry.specs.declared.entry.Entry.TheVariants.{Invalid}
-use Rattle.gt_core.specs.declared.known.TheConstants.{ENTRIES, FRAME_LEN}
-use Rattle.gt_core.specs.declared.asked.Asked.{Asked}
-use Rattle.gt_core.specs.declared.asked.Asked.TheVariants.{Map, Load}
+use Rattle.gt_calls.specs.declared.known.TheConstants.{ENTRIES, FRAME_LEN}
+use Rattle.gt_calls.specs.declared.asked.Asked.{Asked}
+use Rattle.gt_calls.specs.declared.asked.Asked.TheVariants.{Map, Load, Store, Peek, Poke}
 use Rattle.gt_types.specs.declared.DomId.{DomId}
 use Rattle.gt_entry.specs.declared.header.Header.{Header}
-use Rattle.gt_core.specs.declared.known.Own.{Own}
-use Rattle.gt_core.specs.declared.known.Mapping.{Mapping}
+use Rattle.gt_calls.specs.declared.known.Own.{Own}
+use Rattle.gt_handles.specs.Handles.{Kept}
+use Rattle.gt_calls.specs.declared.known.Mapping.{Mapping}
 use Rattle.gt_core.specs.declared.slot.Slot.{Slot}
 use Rattle.gt_core.specs.declared.slot.Open.{Open}
 
--- what the core keeps of a domain: its header, what its owner knows of each entry, the pins and body words of each entry, its mappings, how many of its maps were answered Ok, its frames, and its call under way (own)
+-- what the core keeps of a domain: its header, what its owner knows of each entry, the pins and body words of each entry, its mappings by handle, its frames, its call under way, and the bytes given to that call to be written (own)
 pub record State : Type 0 where
   pub id : DomId
   pub header : Header
   pub own : List Own
   pub slots : List Slot
-  pub mappings : List Mapping
-  pub maps_answered : ℕ
+  pub mappings : Kept Mapping
   pub frames : List (List ℕ)
   pub underway : Option Open
+  pub given : List ℕ
 
 -- what the call under way asks (own)
 abbrev pub asked_in : Option Open → Option Asked
 asked_in None = None
 asked_in (Some o) = Some o.call.request
 
--- the calls that ask for memory: a map for its mapping, a load for its bytes (own)
+-- the calls that ask for memory: a map for its mapping, a load or peek for its answer, a store or poke for what it was given (own)
 abbrev pub asks_memory : Asked → Bool
 asks_memory (Map dom gref flags) = true
 asks_memory (Load handle off len) = true
+asks_memory (Store handle off len) = true
+asks_memory (Peek frame off len) = true
+asks_memory (Poke frame off len) = true
 asks_memory _ = false
+
+-- the bytes that a call keeps while it is under way: those given to a store or a poke (own)
+abbrev pub kept_by : Asked → List ℕ → List ℕ
+kept_by (Store handle off len) given = given
+kept_by (Poke frame off len) given = given
+kept_by request given = []
 
 -- a map is under way (own)
 abbrev pub IsMapping : Option Asked → Type 0
 IsMapping (Some (Map dom gref flags)) = Unit {0}
 IsMapping _ = ⊥
 
--- a load under way is of so many bytes (own)
+-- a load or peek under way is of so many bytes (own)
 abbrev pub IsLoading : Option Asked → ℕ → Type 0
 IsLoading (Some (Load handle off len)) n = n ≡ len
+IsLoading (Some (Peek frame off len)) n = n ≡ len
 IsLoading _ n = Unit {0}
 
--- the room that a call's answer wants was made when it began: for one more mapping, or for the bytes of a load (own)
-abbrev pub HasRoom : Option Asked → ℕ → ℕ → Option ℕ → Type 0
-HasRoom (Some (Map dom gref flags)) mappings capacity bytes = mappings < capacity
-HasRoom (Some (Load handle off len)) mappings capacity bytes = bytes ≡ Some len
-HasRoom _ mappings capacity bytes = Unit {0}
+-- the room that a call's answer wants was made when it began: for one more mapping, under a serial that is left, or for the bytes of a load or peek (own)
+abbrev pub HasRoom : Option Asked → Kept Mapping → Option ℕ → Type 0
+HasRoom (Some (Map dom gref flags)) mappings bytes = (1 ≤ mappings.room) × (mappings.given + 1 < 2 ^ 64)
+HasRoom (Some (Load handle off len)) mappings bytes = bytes ≡ Some len
+HasRoom (Some (Peek frame off len)) mappings bytes = bytes ≡ Some len
+HasRoom _ mappings bytes = Unit {0}
 
 -- a domain at rest (own)
 abbrev pub first_state : ℕ → DomainConfig → State
@@ -58,10 +70,10 @@ first_state first_gen d =
       header = record { version = d.version % 4; frames = d.table_frames % 256 };
       own = replicate ENTRIES (record { entry = Invalid; generation = min first_gen 1048575 });
       slots = replicate ENTRIES (record { reads = 0; writes = 0; first = 0; second = 0 });
-      mappings = [];
-      maps_answered = 0;
+      mappings = record { slots = []; given = 0; room = 0 };
       frames = replicate d.frames (replicate FRAME_LEN 0);
       underway = None;
+      given = [];
     }
 
 -- the first state with this number (own)

@@ -1,25 +1,24 @@
 //! The core: a machine over events.
 ghost use Rattle.std.specs.Prelude.{◌≡◌, ◌<◌, List, [], length, slice_get, map, replicate, IfOk, IfErr, OnOk, OnErr, IsOk, Option, Some, None};
 ghost use Rattle.gt_types.specs.Config.{IsWithinLimits};
-ghost use Rattle.gt_core.specs.Rules.{knowledge_of, begun};
+ghost use Rattle.gt_calls.specs.Rules.{knowledge_of, begun};
 ghost use Rattle.gt_core.specs.History.{History};
+ghost use Rattle.gt_calls.specs.Asking.{given_by};
 ghost use Rattle.gt_core.specs.Legal.{MayDo, grown, Legal};
 ghost use Rattle.gt_core.specs.States.{State, changed_in};
-ghost use Rattle.gt_core.specs.Effects.{with_underway, bytes_in};
+ghost use Rattle.gt_core.specs.Effects.{with_underway, with_bytes, bytes_in};
 ghost use Rattle.gt_core.specs.Shown.{shown_at};
 ghost use Rattle.gt_core.specs.Standing.{Opens, Advances, CoreStands, Settles, IsMapping, IsStartFaultOf, WantsMemory, setting_of, begun_element, ticked_element, answer_begun, value_of, first_state};
 ghost use Rattle.gt_core.specs.declared.trace.Event.TheVariants.{Begin, Tick};
 
-use crate::action::{Action, Seen, Step, Verdict};
-use crate::asked::{Asked, asked_fits};
-use crate::call::{Call, Start};
 use crate::effects::apply;
-use crate::known::Known;
-use crate::request::{Handle, Request};
 use crate::sight::see;
 use crate::slot::Open;
 use crate::state::{DomainState, find};
 use crate::trace::{Answer, Bytes, Element, Event, Happened, Item, Trace};
+use gt_calls::{
+    Action, Asked, Call, Handle, Known, Request, Seen, Start, Step, Verdict, asked_fits,
+};
 use gt_entry::{Entry, Header};
 use gt_types::{Allows, Config, DomId, GrantRef, MAX_TABLE_FRAMES, Memory, Size, StartFault};
 use std::alloc::Global;
@@ -68,7 +67,7 @@ pub enum Opening {
 }
 
 fn open_call<P: Allows>(known: &Known<'_, P>, dom: DomId, request: Request<'_>) -> Opening
-    ensures { Opens (knowledge_of known.now.config.now.domains.items known.now.config.now.first_gen (P.may known.now.rights.now) known.now.own.now known.now.header known.now.mappings.now known.now.maps_answered) dom request.entry result }
+    ensures { Opens (knowledge_of known.now.config.now.domains.items known.now.config.now.first_gen (P.may known.now.rights.now) known.now.own.now known.now.header known.now.mappings.now) dom request.entry result }
 {
     match Call::begin(dom, request, known) {
         Start::Done(verdict) => Opening::Done(verdict),
@@ -120,10 +119,29 @@ fn read_into(domains: &[DomainState], dom: DomId, frame: u64, off: u16, out: Vec
     }
 }
 
+// The bytes that a request gives to be written.
+fn given_by<'a>(request: Request<'a>) -> &'a [u8]
+    ensures { result.now ≡ given_by request.entry }
+{
+    match request {
+        Request::Store { bytes, .. } | Request::Poke { bytes, .. } => bytes,
+        _ => &[],
+    }
+}
+
+// Writes bytes to a frame from `off` on.
+fn write_to(domains: &mut [DomainState], dom: DomId, frame: u64, off: u16, bytes: &[u8])
+    ensures { domains.new ≡ changed_in dom.0 (with_bytes frame off bytes.now) domains.old }
+{
+    if let Some(at) = find(domains, dom) {
+        domains[at].write(frame, off, bytes);
+    }
+}
+
 impl<P: Allows> Core<P> {
     fn open_at(&self, at: usize, dom: DomId, request: Request<'_>) -> Opening
         requires { at < length self.now.domains.items }
-        ensures { (d : State) → slice_get self.now.domains.items at ≡ Some d → Opens (knowledge_of self.now.config.domains.items self.now.config.first_gen (P.may self.now.rights) d.own d.header d.mappings d.maps_answered) dom request.entry result }
+        ensures { (d : State) → slice_get self.now.domains.items at ≡ Some d → Opens (knowledge_of self.now.config.domains.items self.now.config.first_gen (P.may self.now.rights) d.own d.header d.mappings) dom request.entry result }
     {
         let domain = &self.domains[at];
         let known = Known {
@@ -132,7 +150,6 @@ impl<P: Allows> Core<P> {
             own: &domain.own,
             header: domain.header,
             mappings: &domain.mappings,
-            maps_answered: domain.maps_answered,
         };
         open_call(&known, dom, request)
     }
@@ -169,7 +186,7 @@ impl<P: Allows> Core<P> {
             Opening::Open(open) => {
                 asked_fits(open.call.request);
                 let alloc = self.alloc;
-                self.domains[at].begin(alloc, open)?;
+                self.domains[at].begin(alloc, open, given_by(request))?;
                 Ok(Begun::Open)
             }
         }
@@ -177,7 +194,7 @@ impl<P: Allows> Core<P> {
 
     fn advance(&self, at: usize, last: Open, seen: Seen) -> (Call, Action)
         requires { at < length self.now.domains.items }
-        ensures { (d : State) → slice_get self.now.domains.items at ≡ Some d → Advances (knowledge_of self.now.config.domains.items self.now.config.first_gen (P.may self.now.rights) d.own d.header d.mappings d.maps_answered) last.call.caller last.call.request last.call.phase seen result.0 result.1 }
+        ensures { (d : State) → slice_get self.now.domains.items at ≡ Some d → Advances (knowledge_of self.now.config.domains.items self.now.config.first_gen (P.may self.now.rights) d.own d.header d.mappings) last.call.caller last.call.request last.call.phase seen result.0 result.1 }
     {
         let mut call = last.call;
         let domain = &self.domains[at];
@@ -187,7 +204,6 @@ impl<P: Allows> Core<P> {
             own: &domain.own,
             header: domain.header,
             mappings: &domain.mappings,
-            maps_answered: domain.maps_answered,
         };
         let action = call.next(&known, seen);
         (call, action)
@@ -216,6 +232,17 @@ impl<P: Allows> Core<P> {
                 let out = self.domains[at].close_load(alloc);
                 let bytes = read_into(&self.domains, dom, frame, off, out);
                 Ok(Answer::Bytes(Bytes { bytes }))
+            }
+            Step::Write {
+                dom,
+                frame,
+                off,
+                ..
+            } => {
+                let alloc = self.alloc;
+                let given = self.domains[at].close_store(alloc);
+                write_to(&mut self.domains, dom, frame, off, &given);
+                Ok(Answer::Done)
             }
             _ => {
                 self.domains[at].close();

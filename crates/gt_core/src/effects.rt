@@ -3,10 +3,9 @@ ghost use Rattle.std.specs.Prelude.{◌≡◌};
 ghost use Rattle.gt_core.specs.States.{changed_in};
 ghost use Rattle.gt_core.specs.Effects.{with_slot, applied, without_mapping, with_own, with_header};
 
-use crate::action::{Change, Seen, Step};
-use crate::request::Holder;
 use crate::slot::SlotChange;
 use crate::state::{DomainState, find};
+use gt_calls::{Change, Holder, Seen, Step};
 use gt_types::{DomId, GrantRef};
 
 fn change_slot(domains: &mut [DomainState], dom: DomId, gref: GrantRef, change: SlotChange)

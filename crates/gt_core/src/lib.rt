@@ -7,20 +7,15 @@
 //! It promises that what it does is a legal trace, for every list of events: each step shows what the
 //! steps before it left, a foreign byte is read exactly where a live pin lets it and the policy allows it,
 //! a revocation is taken exactly where no pin on its entry is live, and a refusal names the first rule
-//! that stood. `specs/Legal.antt` says it, over histories (`specs/History.antt`), the rules
-//! (`specs/Rules.antt`) and the paths of calls (`specs/Path.antt`); `specs/Standing.antt` says when a core
-//! stands for a history. It stands on `gt_entry` and `gt_types`.
+//! that stood. `specs/Legal.antt` says it, over histories (`specs/History.antt`) and the rules and paths of
+//! calls (of `gt_calls`, which judges them); `specs/Standing.antt` says when a core stands for a history. It
+//! stands on `gt_calls`, `gt_entry`, `gt_handles` and `gt_types`.
 #![tactic(auto)]
 
-mod action;
-mod asked;
-mod call;
+#[cfg(test)]
+mod access_tests;
 mod core_state;
 mod effects;
-mod judging;
-mod known;
-mod leg;
-mod request;
 mod sight;
 mod slot;
 mod state;
@@ -30,8 +25,6 @@ mod table_tests;
 mod tests;
 mod trace;
 
-pub use action::{Change, Seen, Step};
-pub use asked::Asked;
 pub use core_state::{Begun, Core, Shown, Ticked, play};
-pub use request::{Handle, Holder, Request};
+pub use gt_calls::{Asked, Change, Handle, Holder, Request, Seen, Step};
 pub use trace::{Answer, Bytes, Element, Event, Happened, Item, Trace};

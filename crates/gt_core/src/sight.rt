@@ -2,11 +2,9 @@
 ghost use Rattle.std.specs.Prelude.{◌≡◌, true, false};
 ghost use Rattle.gt_core.specs.Sight.{reads_in, writes_in, control_in, body_in, control_seen, header_seen, body_seen, exchange_sees, sees};
 
-use crate::action::{Seen, Step};
-use crate::judging::own_at;
-use crate::known::Own;
 use crate::slot::Slot;
 use crate::state::DomainState;
+use gt_calls::{Own, Seen, Step, own_at};
 use gt_entry::Control;
 use gt_types::{DomId, GrantRef};
 
@@ -107,6 +105,7 @@ pub fn see(domains: &[DomainState], actor: DomId, step: Step) -> Seen
         Step::Unpin { .. }
         | Step::StoreBody { .. }
         | Step::StoreHeader { .. }
-        | Step::Read { .. } => Seen::Nothing,
+        | Step::Read { .. }
+        | Step::Write { .. } => Seen::Nothing,
     }
 }

@@ -2,8 +2,7 @@
 ghost use Rattle.std.specs.Prelude.{◌≡◌, ◌<◌, ◌+◌, min, if◌then◌else◌};
 ghost use Rattle.gt_core.specs.Effects.{slot_after};
 
-use crate::action::Step;
-use crate::call::Call;
+use gt_calls::{Call, Step};
 use gt_types::{Dir, MAX_PINS};
 use std::marker::Model;
 

@@ -1,17 +1,16 @@
 //! The state of a domain, as plain lists.
 ghost use Rattle.std.specs.Prelude.{◌≡◌, ◌==◌, ◌%◌, position};
-ghost use Rattle.gt_core.specs.History.{is_handle};
+ghost use Rattle.gt_core.specs.Effects.{written_over};
 
-use crate::action::Change;
-use crate::asked::Asked;
 use crate::core_state::Shown;
-use crate::known::{ENTRIES, FRAME_LEN, Mapping, Own};
-use crate::request::{Handle, Holder};
 use crate::slot::{Open, Slot, SlotChange};
+use gt_calls::{Asked, Change, END_OF_SERIALS, ENTRIES, FRAME_LEN, Holder, Mapping, Own};
 use gt_entry::Header;
+use gt_handles::{Handle, Handles};
 use gt_types::{Dir, DomId, DomainConfig, GrantRef, LAST_GENERATION, Memory};
 use std::alloc::Global;
 use std::marker::Model;
+use std::mem;
 
 /// A domain of the run.
 #[derive(Drop)]
@@ -20,23 +19,23 @@ pub struct DomainState {
     pub(crate) header: Header,
     pub(crate) own: Vec<Own>,
     pub(crate) slots: Vec<Slot>,
-    pub(crate) mappings: Vec<Mapping>,
-    pub(crate) maps_answered: u64,
+    pub(crate) mappings: Handles<Mapping>,
     pub(crate) frames: Vec<Vec<u8>>,
     pub(crate) underway: Option<Open>,
+    pub(crate) given: Vec<u8>,
     pub(crate) room: Option<Vec<u8>>,
 }
 
 impl Model for DomainState {
-    ghost use Rattle.std.specs.Prelude.{◌<◌, map, vec_len, vec_capacity};
+    ghost use Rattle.std.specs.Prelude.{◌<◌, map, vec_len};
     ghost use Rattle.std.specs.Option.{option_map};
     ghost use Rattle.gt_core.specs.States.{State, HasRoom, asked_in};
 
     ghost Value = { State };
 
-    ghost view = { λ d. record { id = d.id; header = d.header; own = d.own.items; slots = d.slots.items; mappings = d.mappings.items; maps_answered = d.maps_answered; frames = map (λ f. f.items) d.frames.items; underway = d.underway } };
+    ghost view = { λ d. record { id = d.id; header = d.header; own = d.own.items; slots = d.slots.items; mappings = record d.mappings { room = 0 }; frames = map (λ f. f.items) d.frames.items; underway = d.underway; given = d.given.items } };
 
-    ghost invariant = { λ d. (d.header.version < 4) × HasRoom (asked_in d.underway) (vec_len d.mappings) (vec_capacity d.mappings) (option_map (λ v. vec_len v) d.room) };
+    ghost invariant = { λ d. (d.header.version < 4) × HasRoom (asked_in d.underway) d.mappings (option_map (λ v. vec_len v) d.room) };
 }
 
 /// The place of the domain with this number.
@@ -49,13 +48,6 @@ pub fn find(domains: &[DomainState], dom: DomId) -> Option<usize>
     })
 }
 
-// The place of the first mapping with this handle.
-fn place_of(mappings: &[Mapping], handle: Handle) -> Option<usize>
-    ensures { result ≡ position (λ m. is_handle m.handle handle) mappings.now }
-{
-    mappings.iter().position(|m| m.handle.serial == handle.serial && m.handle.key == handle.key)
-}
-
 // The header of a table, as far as its word has room.
 fn table_header(version: u32, frames: u32) -> Header
     ensures { result ≡ record { version = version % 4; frames = frames % 256 } }
@@ -66,11 +58,21 @@ fn table_header(version: u32, frames: u32) -> Header
     }
 }
 
+// Lays bytes over the contents of a frame from `off` on, where they have room.
+fn write_over(contents: &mut Vec<u8>, off: u16, bytes: &[u8])
+    ensures { contents.new.items ≡ written_over off bytes.now contents.old.items }
+{
+    let start = usize::from(off);
+    if start <= contents.len() && bytes.len() <= contents.len() - start {
+        contents[start..start + bytes.len()].copy_from_slice(bytes);
+    }
+}
+
 impl DomainState {
-    ghost use Rattle.std.specs.Prelude.{◌≡◌, IfOk, IsOk, OnErr, OnOk, Some, None, true, length, take, drop, slice_get};
-    ghost use Rattle.gt_core.specs.States.{first_state, asked_in, asks_memory, IsMapping, IsLoading};
+    ghost use Rattle.std.specs.Prelude.{◌≡◌, ◌<◌, ◌+◌, ◌^◌, IfOk, IsOk, OnErr, OnOk, Some, None, true, length, take, drop, slice_get};
+    ghost use Rattle.gt_core.specs.States.{first_state, asked_in, asks_memory, kept_by, IsMapping, IsLoading};
     ghost use Rattle.gt_core.specs.Shown.{shown_in};
-    ghost use Rattle.gt_core.specs.Effects.{frame_in, with_slot, with_own, with_header, with_underway, with_mapping, without_mapping};
+    ghost use Rattle.gt_core.specs.Effects.{Adds, frame_in, with_slot, with_own, with_header, with_underway, with_call, without_given, with_bytes, with_mapping, without_mapping};
 
     /// A domain at rest: all entries invalid and of the first generation, all frames zero.
     pub fn new(alloc: Global, domain: DomainConfig, first_gen: u32) -> Result<DomainState, Memory>
@@ -91,10 +93,10 @@ impl DomainState {
             header: table_header(domain.version, domain.table_frames),
             own,
             slots,
-            mappings: Vec::new(alloc),
-            maps_answered: 0,
+            mappings: Handles::new(alloc),
             frames,
             underway: None,
+            given: Vec::new(alloc),
             room: None,
         })
     }
@@ -106,18 +108,25 @@ impl DomainState {
         self.underway
     }
 
-    /// A call begins. The room that its answer wants is made now.
-    pub fn begin(&mut self, alloc: Global, call: Open) -> Result<(), Memory>
-        ensures opened { OnOk result (self.new ≡ with_underway (Some call) self.old) }
+    /// A call begins, with the bytes that are to be written. They are copied, and the room that its answer wants is
+    /// made, now; for a map a serial is left.
+    pub fn begin(&mut self, alloc: Global, call: Open, bytes: &[u8]) -> Result<(), Memory>
+        requires { IsMapping (Some call.call.request) → self.old.mappings.given + 1 < 2 ^ 64 }
+        ensures opened { OnOk result (self.new ≡ with_call call (kept_by call.call.request bytes.now) self.old) }
         ensures refused { OnErr result (self.new ≡ self.old) }
         ensures memory { OnErr result (asks_memory call.call.request ≡ true) }
     {
+        let mut given = Vec::new(alloc);
         let mut room = None;
         match call.call.request {
-            Asked::Map { .. } => self.mappings.reserve(1)?,
-            Asked::Load { len, .. } => room = Some(vec![in alloc; 0u8; usize::from(len)]?),
+            Asked::Map { .. } => self.mappings.reserve()?,
+            Asked::Load { len, .. } | Asked::Peek { len, .. } => {
+                room = Some(vec![in alloc; 0u8; usize::from(len)]?);
+            }
+            Asked::Store { .. } | Asked::Poke { .. } => given = Vec::from_slice(alloc, bytes)?,
             _ => {}
         }
+        self.given = given;
         self.room = room;
         self.underway = Some(call);
         Ok(())
@@ -151,7 +160,17 @@ impl DomainState {
         }
     }
 
-    /// A map is over: a new mapping, under the next serial.
+    /// A store or poke is over: the bytes given to it.
+    pub fn close_store(&mut self, alloc: Global) -> Vec<u8>
+        ensures closed { self.new ≡ without_given self.old }
+        ensures given { result.items ≡ self.old.given }
+    {
+        self.underway = None;
+        self.room = None;
+        mem::replace(&mut self.given, Vec::new(alloc))
+    }
+
+    /// A map is over: a new mapping, under the next serial. Its room was made when it began.
     pub fn add_mapping(
         &mut self,
         dom: DomId,
@@ -159,23 +178,21 @@ impl DomainState {
         dir: Dir,
         frame: u64,
     ) -> Result<Handle, Memory>
-        ensures added { IfOk result (λ handle. self.new ≡ with_mapping (record { handle = handle; dom = dom; gref = gref; dir = dir; frame = frame }) self.old) }
-        ensures serial { IfOk result (λ handle. handle.serial ≡ self.old.maps_answered) }
+        ensures adds { IfOk result (λ handle. Adds self.old.mappings self.new.mappings handle (record { dom = dom; gref = gref; dir = dir; frame = frame })) }
+        ensures added { OnOk result (self.new ≡ with_mapping self.new.mappings self.old) }
         ensures refused { OnErr result (self.new ≡ self.old) }
         ensures room { IsMapping (asked_in self.old.underway) → IsOk result }
     {
-        let handle = Handle {
-            serial: self.maps_answered,
-            key: self.mappings.len(),
-        };
-        self.mappings.push(Mapping {
-            handle,
+        if self.mappings.given() >= END_OF_SERIALS {
+            return Err(Memory);
+        }
+        self.mappings.reserve()?;
+        let handle = self.mappings.insert(Mapping {
             dom,
             gref,
             dir,
             frame,
-        })?;
-        self.maps_answered = self.maps_answered.saturating_add(1);
+        });
         self.underway = None;
         Ok(handle)
     }
@@ -193,6 +210,15 @@ impl DomainState {
             }
         }
         out
+    }
+
+    /// Writes bytes to a frame from `off` on, where they have room.
+    pub fn write(&mut self, frame: u64, off: u16, bytes: &[u8])
+        ensures { self.new ≡ with_bytes frame off bytes.now self.old }
+    {
+        if frame < self.frames.len() as u64 {
+            write_over(&mut self.frames[frame as usize], off, bytes);
+        }
     }
 
     /// What an entry shows.
@@ -236,14 +262,12 @@ impl DomainState {
         self.header = table_header(version, frames);
     }
 
-    /// Gives up the first mapping with this handle.
+    /// Gives up the mapping under this handle.
     pub fn forget(&mut self, holder: Holder)
         ensures { self.new ≡ without_mapping holder self.old }
     {
         if let Holder::Mapping(handle) = holder {
-            if let Some(at) = place_of(&self.mappings, handle) {
-                let _ = self.mappings.remove(at);
-            }
+            let _ = self.mappings.take(handle);
         }
     }
 }

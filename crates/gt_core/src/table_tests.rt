@@ -2,7 +2,7 @@
 use crate::tests::{
     OTHER, OWNER, PEER, READ_ONLY, ask, ended, goes_on, grant, judged, opens, revoke, triple,
 };
-use crate::{Answer, Core, Request, Shown};
+use crate::{Answer, Change, Core, Request, Seen, Shown, Step, Ticked};
 use gt_entry::Entry;
 use gt_types::{
     Config, Denial, DomId, DomainConfig, Facts, Field, GrantRef, Memory, Perms, Rule, Size,
@@ -210,5 +210,107 @@ fn sub_page_met_behind_an_older_header(rt: HostRuntime) -> Result<(), Fail> {
         None
     );
     assert_eq!(rt; ended(&mut core, PEER, 1)?, Some(Rule::N12));
+    Ok(())
+}
+
+/// The steps of a whole call, and what each saw.
+fn steps_of(
+    alloc: Global,
+    core: &mut Core<Triples>,
+    dom: DomId,
+    request: Request,
+) -> Result<Vec<(Step, Seen)>, Fail> {
+    let mut steps = Vec::new(alloc);
+    if !opens(core, dom, request)? {
+        return Ok(steps);
+    }
+    for _ in 0..71 {
+        match core.tick(dom)? {
+            Ticked::Step(step, seen) => steps.push((step, seen))?,
+            Ticked::Done(step, seen, _) => {
+                steps.push((step, seen))?;
+                break;
+            }
+            _ => break,
+        }
+    }
+    Ok(steps)
+}
+
+// The owner's header was looked at.
+fn looked(word: u64) -> (Step, Seen) {
+    (Step::LookHeader { dom: OWNER }, Seen::Value(word))
+}
+
+fn header(version: u32, frames: u32) -> (Step, Seen) {
+    (Step::StoreHeader { version, frames }, Seen::Nothing)
+}
+
+fn stored(gref: u32, second: bool, word: u64) -> (Step, Seen) {
+    let gref = GrantRef(gref);
+    (Step::StoreBody { gref, second, word }, Seen::Nothing)
+}
+
+// The entry was never published before.
+fn published(gref: u32, entry: Entry) -> (Step, Seen) {
+    let exchange = Step::Exchange {
+        gref: GrantRef(gref),
+        looked: 0,
+        change: Change::Publish(entry),
+    };
+    (exchange, Seen::Taken)
+}
+
+#[test]
+fn steps_on_headers(rt: HostRuntime) -> Result<(), Fail> {
+    let alloc = rt.alloc();
+    let mut core = start(alloc, 1)?;
+    for (dom, request, step) in [
+        (PEER, Request::QuerySize { dom: OWNER }, looked(5)),
+        (OWNER, set_version(2), header(2, 1)),
+        (PEER, Request::GetVersion { dom: OWNER }, looked(6)),
+        (OWNER, setup(3), header(2, 3)),
+        (PEER, Request::QuerySize { dom: OWNER }, looked(14)),
+        (OWNER, set_version(1), header(1, 3)),
+        (PEER, Request::GetVersion { dom: OWNER }, looked(13)),
+    ] {
+        let steps = steps_of(alloc, &mut core, dom, request)?;
+        assert_eq!(rt; steps.as_slice(), [step].as_slice());
+    }
+    for request in [set_version(1), setup(3), setup(0)] {
+        assert!(rt; steps_of(alloc, &mut core, OWNER, request)?.is_empty());
+    }
+    Ok(())
+}
+
+#[test]
+fn steps_of_grants(rt: HostRuntime) -> Result<(), Fail> {
+    let alloc = rt.alloc();
+    let mut core = start(alloc, 2)?;
+    let sub = sub_page(100, 50);
+    let via = Entry::Via {
+        dom: PEER,
+        ro: false,
+        dom2: OTHER,
+        gref: GrantRef(7),
+    };
+    let steps = steps_of(alloc, &mut core, OWNER, grant_at(0, sub))?;
+    let wanted = [
+        stored(0, false, 5),
+        stored(0, true, 0x0032_0064),
+        published(0, sub),
+    ];
+    assert_eq!(rt; steps.as_slice(), wanted.as_slice());
+    let steps = steps_of(alloc, &mut core, OWNER, grant_at(1, via))?;
+    let wanted = [stored(1, false, 0x0007_0003), published(1, via)];
+    assert_eq!(rt; steps.as_slice(), wanted.as_slice());
+    let bytes = [1u8, 1, 2, 0, 100, 0, 50, 0, 5, 0, 0, 0, 0, 0, 0, 0];
+    let steps = steps_of(alloc, &mut core, OWNER, bytes_at(2, &bytes))?;
+    let wanted = [
+        stored(2, false, 5),
+        stored(2, true, 0x0032_0064),
+        published(2, sub),
+    ];
+    assert_eq!(rt; steps.as_slice(), wanted.as_slice());
     Ok(())
 }

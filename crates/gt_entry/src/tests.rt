@@ -243,6 +243,8 @@ impl Counts {
     }
 }
 
+// Counted by hand: three of four flags have another type, and of those that are left half have the reading bit, half of
+// the rest the writing bit, and so on to the sub-page bit. 256 have none of these, and two of them no bit from 9 to 15.
 #[test]
 fn takes_two_flags_in_version_1(rt: HostRuntime) {
     let mut counts = Counts::default();
@@ -267,6 +269,8 @@ fn takes_two_flags_in_version_1(rt: HostRuntime) {
     assert_eq!(rt; counts, wanted);
 }
 
+// Counted by hand: half of the flags have another type, and of those that are left each bit up to PAT takes half. 1,024
+// have none of these: 256 are of type 3 with the sub-page bit, and 6 of the others have no bit from 9 to 15.
 #[test]
 fn takes_six_flags_in_version_2(rt: HostRuntime) {
     let mut counts = Counts::default();

@@ -1,4 +1,4 @@
-ghost use Rattle.std.specs.Prelude.{◌≡◌, ◌+◌, ◌<◌, ◌≤◌, ◌^◌, ◌==◌, IsOk, IsSome, IfSome, IfNone, OnOk, OnSome, Some, None, option_copied, slice_index_or};
+ghost use Rattle.std.specs.Prelude.{◌≡◌, ◌+◌, ◌<◌, ◌≤◌, ◌^◌, ◌==◌, IsOk, IsSome, IfSome, IfNone, OnOk, OnSome, Some, None, option_copied, slice_index_or, slice_set};
 
 use gt_types::Memory;
 use slab::Slab;
@@ -74,6 +74,7 @@ impl<T> Handles<T> {
         requires room { 1 ≤ self.old.room }
         requires serial { self.old.given + 1 < 2 ^ 64 }
         ensures serial { result.serial ≡ self.old.given }
+        ensures fresh { value_of self.old result ≡ None }
         ensures given { self.new.given ≡ self.old.given + 1 }
         ensures updates { Updates self.old self.new result (Some value) }
         ensures count { count_of self.new ≡ count_of self.old + 1 }
@@ -104,6 +105,7 @@ impl<T> Handles<T> {
     pub fn take(&mut self, handle: Handle) -> Option<T>
         ensures value { result ≡ value_of self.old handle }
         ensures updates { Updates self.old self.new handle None }
+        ensures slots { OnSome result (self.new.slots ≡ slice_set self.old.slots handle.key None) }
         ensures given { self.new.given ≡ self.old.given }
         ensures count { OnSome result (count_of self.new + 1 ≡ count_of self.old) }
         ensures room { OnSome result (self.new.room ≡ self.old.room + 1) }

@@ -5,4 +5,3 @@ pub mod PlayLemmas
 pub mod PlayedLemmas
 pub mod RunLemmas
 pub mod StartLemmas
-pub mod StreamLemmas

@@ -16,8 +16,8 @@ use Rattle.gt_core.specs.States.{State}
 use Rattle.gt_core.specs.declared.core_state.Begun.{Begun}
 use Rattle.gt_core.specs.declared.core_state.Begun.TheVariants as begun
 use Rattle.gt_core.specs.declared.core_state.Shown.{Shown}
-use Rattle.gt_core.specs.Asking.{asked}
-use Rattle.gt_core.specs.declared.request.Request.{Request}
+use Rattle.gt_calls.specs.Asking.{asked, given_by}
+use Rattle.gt_calls.specs.declared.request.Request.{Request}
 use Rattle.gt_core.specs.declared.trace.Answer.{Answer}
 use Rattle.gt_core.specs.declared.trace.Event.{Event}
 use Rattle.gt_core.specs.declared.trace.Event.TheVariants.{Begin, Tick}
@@ -241,7 +241,7 @@ begun_open : (s : Setting) (types : List (List ℕ)) (st : Step) (call : Call) (
 begun_open s types st call p old new kept next before after request asks come told same known line =
     let i : Item = record { actor = st.dom; happened = Began request; answer = None } in
     let calls : ℕ → Option Step = λ n. cond (n == st.dom.0) (Some st) (p.open_steps n) in
-    let now : open_call (i ∷ history_of p) st.dom.0 ≡ Some (record { request = asked request; steps = [] }) = own_call i (history_of p) st.dom.0 refl in
+    let now : open_call (i ∷ history_of p) st.dom.0 ≡ Some (record { request = asked request; given = given_by request; steps = [] }) = own_call i (history_of p) st.dom.0 refl in
     begun_once s types st call p request (Did i) p.named calls [] old new kept next before after asks come told
     (ap (λ (text : List ℕ). record { events = p.events ++ Begin st.dom request ∷ []; trace = p.trace ++ Did i ∷ []; named = p.named; open_steps = calls; text = text }) (sym (append-nil p.text)))
     (subst (λ (l : Labels). AreNamed l p.named) (sym same) come.keeps.names)

@@ -8,12 +8,12 @@ use Rattle.gt_core.specs.History.{History, Setting, Underway, open_call, underwa
 use Rattle.gt_core.specs.Legal.{MayDo, IsRight, StepsRight, StepsRightIn, grown, LegalAfter, history_after, most_steps}
 use Rattle.gt_core.specs.Standing.{CoreStands, begun_element}
 use Rattle.gt_core.specs.States.{State}
-use Rattle.gt_core.specs.declared.request.Request.{Request}
-use Rattle.gt_core.specs.declared.asked.Asked.{Asked}
-use Rattle.gt_core.specs.declared.asked.Asked.TheVariants as asks
-use Rattle.gt_core.specs.Asking.{asked}
-use Rattle.gt_core.specs.declared.action.Seen.{Seen}
-use Rattle.gt_core.specs.declared.action.Step.{Step}
+use Rattle.gt_calls.specs.declared.request.Request.{Request}
+use Rattle.gt_calls.specs.declared.asked.Asked.{Asked}
+use Rattle.gt_calls.specs.declared.asked.Asked.TheVariants as asks
+use Rattle.gt_calls.specs.Asking.{asked, given_by}
+use Rattle.gt_calls.specs.declared.action.Seen.{Seen}
+use Rattle.gt_calls.specs.declared.action.Step.{Step}
 use Rattle.gt_core.specs.declared.trace.Answer.{Answer}
 use Rattle.gt_core.specs.declared.trace.Item.{Item}
 use Rattle.gt_core.specs.declared.trace.Happened.{Happened}
@@ -56,7 +56,7 @@ step_stays s h actor d step seen c request count own is asks made right =
     let steps : StepsRight s h i step seen c = subst (λ (o : Option Underway). StepsRightIn s h i step seen o) here right in
     let soon : length c.steps + 1 < most_steps c.request = steps.soon refl in (
       record {
-        call = record { request = c.request; steps = c.steps ++ (step, seen) ∷ [] };
+        call = record { request = c.request; given = c.given; steps = c.steps ++ (step, seen) ∷ [] };
         is = own_call i h d.0 (ap (λ (t : DomId). t.0) own) ∙ ap (λ (o : Option Underway). underway_after i o) is;
         asks = asks;
         made = stepped_once c.steps (step, seen) count made;
@@ -104,7 +104,7 @@ ticks_stay s h d (suc n) (x ∷ xs) request count known open_now quiet legal =
 pub begins_open : (s : Setting) (h : History) (d : DomId) (request : Request) (said : Begun) → domain_of s.domains d ≢ None → (said ≡ begun.Open) ⊎ (said ≡ begun.NoDomain)
     → MayDo s h (Begin d request) (begun_element d request said) → HasOpen (grown h (begun_element d request said)) d.0 (asked request) 0
 begins_open s h d request begun.Open known is may = record {
-  call = record { request = asked request; steps = [] };
+  call = record { request = asked request; given = given_by request; steps = [] };
   is = own_call (record { actor = d; happened = Began request; answer = None }) h d.0 refl;
   asks = refl;
   made = refl;
@@ -121,6 +121,9 @@ few_steps (asks.Promote gref) = omega arith
 few_steps (asks.Map dom gref flags) = omega arith
 few_steps (asks.Unmap handle) = omega arith
 few_steps (asks.Load handle off len) = omega arith
+few_steps (asks.Store handle off len) = omega arith
+few_steps (asks.Peek frame off len) = omega arith
+few_steps (asks.Poke frame off len) = omega arith
 few_steps (asks.SetVersion version) = omega arith
 few_steps (asks.SetupTable frames) = omega arith
 few_steps (asks.QuerySize dom) = omega arith

@@ -1,24 +1,25 @@
-use Rattle.std.proofs.Common.{◌≡◌, ℕ, ◌+◌, ◌<◌, List, [], ◌∷◌, ◌++◌, length, take, get_or, Option, None, Some, Result, Ok, Err, OnOk, OnErr, refl, ap, sym, subst, ◌∙◌, append_assoc, length-append, add-one, inl, inr, arith}
+use Rattle.std.proofs.Common.{◌≡◌, ℕ, Bool, ◌+◌, ◌<◌, List, [], ◌∷◌, ◌++◌, length, take, get_or, Option, None, Some, Result, Ok, Err, OnOk, OnErr, refl, ap, sym, subst, ◌∙◌, append_assoc, length-append, add-one, inl, inr, arith}
 use Rattle.std.proofs.Math.Seq.{take-suc, take-append-add, take-length}
 use Rattle.std.proofs.lemmas.List.Elements.{All-get_or}
 use Rattle.std.specs.Io.KnownBytes.{Appends, Keeps}
 use Rattle.std.specs.Prelude.{All, IsTrue}
 use Rattle.gt_script.specs.declared.script.Step.{Step}
-use Rattle.gt_script.specs.Contents.{Contents, first_gen}
+use Rattle.gt_script.specs.Contents.{Contents, type_names, first_gen}
 use Rattle.gt_types.specs.Config.{is_taken}
-use Rattle.gt_types.specs.Rights.{is_listed}
+use Rattle.gt_types.specs.declared.TypeId.{TypeId}
+use Rattle.gt_types.specs.declared.perms.Perms.{Perms}
 use Rattle.gt_types.specs.declared.config.DomainConfig.{DomainConfig}
-use Rattle.gt_types.specs.declared.rights.Triple.{Triple}
-use Rattle.gt_types.specs.declared.rights.Triples.{Triples}
 use Rattle.gt_core.specs.History.{Setting, open_call}
 use Rattle.gt_core.specs.Standing.{CoreStands, setting_of}
 use Rattle.gt_core.specs.States.{State}
 use Rattle.gt_core.specs.declared.core_state.Core.{Core}
 use Rattle.gt_host.specs.declared.kept.Kept.{Kept}
+use Rattle.gt_host.specs.declared.rights.Rights.{Rights}
+use Rattle.gt_host.specs.Rights.{may_by, may_in}
 use Rattle.gt_host.specs.OpenCalls.{call_in}
 use Rattle.gt_host.specs.Playing.{StartsFor, BeginsRun, WritesRun, IsLegalRunOf, setting_of_script, whole_text}
 use Rattle.gt_host.specs.Runs.{Progress, LeadsTo, IsRunOf, RunsLine, at_start, history_of, open_text, open_lines}
-use Rattle.gt_host.specs.Streams.{AppendsBeginning, Sends}
+use Rattle.gt_streams.specs.Streams.{AppendsBeginning, Sends}
 use Rattle.gt_host.specs.Ticking.{IsReady, IsKept, HasCome, Leads}
 use Rattle.gt_host.proofs.StartLemmas.{taken_known}
 
@@ -33,22 +34,21 @@ Appends-nothing (Some xs) = sym (append-nil xs)
 -- how far a run has come: it stands where these steps led, and of its text some went out and the rest waits
 pub record IsUnderway (c : Contents) (steps : List Step) (domains : List State) (kept : Kept) (waiting : List ℕ) (old now : Option (List ℕ)) : Type 0 where
   pub progress : Progress
-  pub run : IsRunOf (setting_of_script c) c.types steps progress
+  pub run : IsRunOf (setting_of_script c) (type_names c) steps progress
   pub come : HasCome (setting_of_script c) progress domains kept
   pub sent : List ℕ
   pub parts : progress.text ≡ sent ++ waiting
   pub went : Appends old now sent
 
 -- the setting of a core that starts with a script
-pub same_setting_of_script : (c : Contents) (core : Core Triples) → StartsFor c core
-    → setting_of core.config (λ source target perm. is_listed core.rights.allowed.items source target perm) ≡ setting_of_script c
+pub same_setting_of_script : (c : Contents) (core : Core Rights) → StartsFor c core → setting_of core.config (may_by core.rights) ≡ setting_of_script c
 same_setting_of_script c core starts =
-    ap (λ (ds : List DomainConfig). record { domains = ds; first_generation = core.config.first_gen; may = λ source target perm. is_listed core.rights.allowed.items source target perm }) starts.domains
-    ∙ ap (λ (n : ℕ). record { domains = c.domains; first_generation = n; may = λ source target perm. is_listed core.rights.allowed.items source target perm }) starts.generation
-    ∙ ap (λ (ts : List Triple). record { domains = c.domains; first_generation = first_gen c; may = λ source target perm. is_listed ts source target perm }) starts.triples
+    ap (λ (ds : List DomainConfig). record { domains = ds; first_generation = core.config.first_gen; may = may_by core.rights }) starts.domains
+    ∙ ap (λ (n : ℕ). record { domains = c.domains; first_generation = n; may = may_by core.rights }) starts.generation
+    ∙ ap (λ (may : TypeId → TypeId → Perms → Bool). record { domains = c.domains; first_generation = first_gen c; may = may }) starts.rights
 
 -- nothing has happened yet
-pub starts_underway : (c : Contents) (core : Core Triples) (kept : Kept) (waiting : List ℕ) (old : Option (List ℕ)) → StartsFor c core → IsKept kept at_start → waiting ≡ [] → IsUnderway c [] core.domains.items kept waiting old old
+pub starts_underway : (c : Contents) (core : Core Rights) (kept : Kept) (waiting : List ℕ) (old : Option (List ℕ)) → StartsFor c core → IsKept kept at_start → waiting ≡ [] → IsUnderway c [] core.domains.items kept waiting old old
 unfolding open_call
 starts_underway c core kept waiting old starts keeps none = record {
   progress = at_start;
@@ -103,7 +103,7 @@ begins c steps n domains kept waiting old mid new all u h =
     inl (
       n,
       u.progress,
-      (subst (λ (l : List Step). IsRunOf (setting_of_script c) c.types (take n l) u.progress) all u.run, u.come.legal, u.come.knows),
+      (subst (λ (l : List Step). IsRunOf (setting_of_script c) (type_names c) (take n l) u.progress) all u.run, u.come.legal, u.come.knows),
       subst (λ (l : List ℕ). AppendsBeginning old new l) (sym u.parts) (begins_after old mid new u.sent waiting u.went h),
     )
 
@@ -117,22 +117,18 @@ pub OnErr-all : {T E : Type 0} (r : Result T E) (P : Type 0) → P → OnErr r P
 OnErr-all (Ok x) P h = tt
 OnErr-all (Err e) P h = h
 
-pub OnOk-map : {T E : Type 0} (r : Result T E) (P Q : Type 0) → (P → Q) → OnOk r P → OnOk r Q
-OnOk-map (Ok x) P Q f h = f h
-OnOk-map (Err e) P Q f h = tt
-
 -- a step more, of whose line some goes out
 pub goes_on : (c : Contents) (t : Setting) (known : List (List ℕ)) (steps : List Step) (i : ℕ) (s : Step) (domains next : List State) (kept later : Kept) (w more rest : List ℕ) (old mid now : Option (List ℕ))
-    → t ≡ setting_of_script c → IsUnderway c (take i steps) domains kept w old mid → i < length steps → s ≡ get_or steps i s → known ≡ c.types
+    → t ≡ setting_of_script c → IsUnderway c (take i steps) domains kept w old mid → i < length steps → s ≡ get_or steps i s → known ≡ (type_names c)
     → Leads t (λ p q. RunsLine t known s s.action p q) domains next kept later w more → Sends mid now more rest → IsUnderway c (take (i + 1) steps) next later rest old now
 goes_on c t known steps i s domains next kept later w more rest old mid now setting u within is same leads (sent, split, went) =
     let told = subst (λ (l : List (List ℕ)). Leads t (λ p q. RunsLine t l s s.action p q) domains next kept later w more) same leads in
-    let here = subst (λ (x : Setting). Leads x (λ p q. RunsLine x c.types s s.action p q) domains next kept later w more) setting told in
+    let here = subst (λ (x : Setting). Leads x (λ p q. RunsLine x (type_names c) s s.action p q) domains next kept later w more) setting told in
     let step = here u.progress u.come in
     let first : take (i + 1) steps ≡ take i steps ++ s ∷ [] = rw add-one (take-suc steps i s within ∙ ap (λ (x : Step). take i steps ++ x ∷ []) (sym is)) in
     record {
       progress = step.0;
-      run = subst (λ (l : List Step). IsRunOf (setting_of_script c) c.types l step.0) (sym first) (LeadsTo-append (setting_of_script c) c.types at_start u.progress step.0 (take i steps) s u.run step.1);
+      run = subst (λ (l : List Step). IsRunOf (setting_of_script c) (type_names c) l step.0) (sym first) (LeadsTo-append (setting_of_script c) (type_names c) at_start u.progress step.0 (take i steps) s u.run step.1);
       come = step.2;
       sent = u.sent ++ sent;
       parts = step.3.1 ∙ ap (λ (l : List ℕ). l ++ step.3.0) u.parts ∙ append_assoc u.sent w step.3.0 ∙ ap (λ (l : List ℕ). u.sent ++ l) (sym step.3.2 ∙ split) ∙ sym (append_assoc u.sent sent rest);
@@ -141,7 +137,7 @@ goes_on c t known steps i s domains next kept later w more rest old mid now sett
 
 -- a step more, whose line waits with the others, of which a beginning goes out
 pub begins_step : (c : Contents) (t : Setting) (known : List (List ℕ)) (steps : List Step) (i : ℕ) (s : Step) (domains next : List State) (kept later : Kept) (w more : List ℕ) (old mid new : Option (List ℕ))
-    → t ≡ setting_of_script c → steps ≡ c.steps → IsUnderway c (take i steps) domains kept w old mid → i < length steps → s ≡ get_or steps i s → known ≡ c.types
+    → t ≡ setting_of_script c → steps ≡ c.steps → IsUnderway c (take i steps) domains kept w old mid → i < length steps → s ≡ get_or steps i s → known ≡ (type_names c)
     → Leads t (λ p q. RunsLine t known s s.action p q) domains next kept later w more → AppendsBeginning mid new more → BeginsRun c old new
 begins_step c t known steps i s domains next kept later w more old mid new setting all u within is same leads h =
     begins c steps (i + 1) next later more old mid new all
@@ -177,7 +173,7 @@ is_run : (c : Contents) (steps : List Step) (n : ℕ) (domains : List State) (ke
     → steps ≡ c.steps → n ≡ length steps → (u : IsUnderway c (take n steps) domains kept waiting old mid) → IsLegalRunOf c c.steps u.progress
 is_run c steps n domains kept waiting old mid all made u =
     let whole : take n steps ≡ c.steps = ap (λ (k : ℕ). take k steps) made ∙ take-length steps ∙ all in
-    (subst (λ (l : List Step). IsRunOf (setting_of_script c) c.types l u.progress) whole u.run, u.come.legal, u.come.knows)
+    (subst (λ (l : List Step). IsRunOf (setting_of_script c) (type_names c) l u.progress) whole u.run, u.come.legal, u.come.knows)
 
 -- the last lines went out
 pub ends : (c : Contents) (steps : List Step) (n : ℕ) (domains : List State) (kept : Kept) (ds : List DomainConfig) (waiting more : List ℕ) (old mid new : Option (List ℕ))

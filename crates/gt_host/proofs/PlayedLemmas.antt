@@ -1,51 +1,51 @@
-use Rattle.std.proofs.Common.{◌≡◌, ◌⊎◌, ℕ, List, [], take, Option, None, Some, Result, Ok, Err, OnOk, OnErr, IfErr, IfSome, refl, sym, subst, inl, inr}
+-- From what was read to what was played.
+use Rattle.std.proofs.Common.{◌≡◌, ◌⊎◌, ℕ, List, [], take, Option, None, Some, Result, Ok, Err, OnOk, OnErr, IfSome, refl, sym, subst, inl, inr}
 use Rattle.std.specs.Io.KnownBytes.{Keeps}
 use Rattle.gt_script.specs.Contents.{Contents}
-use Rattle.gt_script.specs.Outcomes.{Says}
-use Rattle.gt_script.specs.Script.{script_in}
-use Rattle.gt_script.specs.declared.faults.Fault as script
+use Rattle.gt_script.specs.Outcomes.{Answers}
+use Rattle.gt_script.specs.Script.{Tells, Wrong}
 use Rattle.gt_script.specs.declared.faults.ScriptError.{ScriptError}
 use Rattle.gt_script.specs.declared.faults.ScriptError.TheVariants as errors
+use Rattle.gt_streams.specs.declared.fault.ReadFault.{ReadFault}
+use Rattle.gt_streams.specs.declared.fault.ReadFault.TheVariants as reads
 use Rattle.gt_host.specs.declared.fault.Fault.{Fault}
-use Rattle.gt_host.specs.declared.fault.Fault.TheVariants as faults
-use Rattle.gt_host.specs.Faults.{fault_of}
-use Rattle.gt_host.specs.Playing.{Begins, BeginsRun, WritesRun, Played}
-use Rattle.gt_host.proofs.PlayLemmas.{Keeps-same, not_begun}
-
--- nothing went out
-pub nothing_begun : (said : Result Contents script.Fault) (old new : Option (List ℕ)) → Keeps old new → Begins said old new
-nothing_begun (Ok c) old new kept = not_begun c old new kept
-nothing_begun (Err fault) old new kept = kept
+use Rattle.gt_host.specs.declared.fault.Fault.TheVariants as runs
+use Rattle.gt_host.specs.declared.fault.PlayFault.{PlayFault}
+use Rattle.gt_host.specs.Faults.{fault_of, read_fault, ended}
+use Rattle.gt_host.specs.Playing.{BeginsRun, WritesRun, Played}
+use Rattle.gt_host.proofs.PlayLemmas.{Keeps-same}
 
 -- there is no script, and nothing went out
-pub played_nothing : (said : Result Contents script.Fault) (error : ScriptError) (fault : Fault) (old new : Option (List ℕ))
-    → Says (Err error) said → Keeps old new → fault ≡ fault_of error → Played said old new (Err fault)
-played_nothing said errors.Memory fault old new says kept is =
-    subst (λ (f : Fault). Played said old new (Err f)) (sym is) (nothing_begun said old new kept)
-played_nothing said (errors.Fault f) fault old new says kept is =
-    subst (λ (f : Fault). Played said old new (Err f)) (sym is) (says, kept)
+no_script : (Told : Result Contents Wrong → Type 0) (error : ScriptError) (old new : Option (List ℕ)) → Answers (Err error) Told → Keeps old new → Played Told old new (Err (fault_of error))
+no_script Told errors.Memory old new told kept = inl kept
+no_script Told (errors.Fault f) old new told kept = (told, kept)
+no_script Told (errors.Policy f) old new (g, shown, told) kept = (g, shown, told, kept)
+
+pub played_nothing : (Told : Result Contents Wrong → Type 0) (error : ScriptError) (fault : PlayFault) (old new : Option (List ℕ))
+    → Answers (Err error) Told → Keeps old new → fault ≡ fault_of error → Played Told old new (Err fault)
+played_nothing Told error fault old new told kept is = subst (λ (f : PlayFault). Played Told old new (Err f)) (sym is) (no_script Told error old new told kept)
 
 -- a script was run
-pub played_run : (said : Result Contents script.Fault) (c : Contents) (r : Result (Unit {0}) Fault) (old new : Option (List ℕ)) → said ≡ Ok c
-    → OnOk r (WritesRun c old new) → OnErr r (BeginsRun c old new) → IfErr r (λ e. (e ≡ faults.Memory) ⊎ (e ≡ faults.Write)) → Played said old new r
-played_run said c (Ok done) old new is whole begun few = (c, is, whole)
-played_run said c (Err faults.Memory) old new is whole begun few =
-    subst (λ (s : Result Contents script.Fault). Begins s old new) (sym is) begun
-played_run said c (Err faults.Write) old new is whole begun few =
-    subst (λ (s : Result Contents script.Fault). Begins s old new) (sym is) begun
-played_run said c (Err faults.Read) old new is whole begun few = elim few [ inl e ↦ cc | inr e ↦ cc ]
-played_run said c (Err (faults.Script f)) old new is whole begun few = elim few [ inl e ↦ cc | inr e ↦ cc ]
+run-told : (Told : Result Contents Wrong → Type 0) (c : Contents) (r : Result (Unit {0}) Fault) (old new : Option (List ℕ)) → Told (Ok c) → OnOk r (WritesRun c old new) → OnErr r (BeginsRun c old new) → Played Told old new (ended r)
+run-told Told c (Ok done) old new told whole begun = (c, told, whole)
+run-told Told c (Err runs.Memory) old new told whole begun = inr (c, told, begun)
+run-told Told c (Err runs.Write) old new told whole begun = (c, told, begun)
+
+pub played_run : (Told : Result Contents Wrong → Type 0) (c : Contents) (r : Result (Unit {0}) Fault) (t : Result (Unit {0}) PlayFault) (old new : Option (List ℕ)) → Told (Ok c)
+    → OnOk r (WritesRun c old new) → OnErr r (BeginsRun c old new) → t ≡ ended r → Played Told old new t
+played_run Told c r t old new told whole begun is = subst (λ (q : Result (Unit {0}) PlayFault). Played Told old new q) (sym is) (run-told Told c r old new told whole begun)
 
 -- what the bytes up to the limit say is what all of them say
-pub played_all : (known old new : Option (List ℕ)) (bytes : List ℕ) (r : Result (Unit {0}) Fault) → IfSome known (λ all. bytes ≡ take 1048577 all)
-    → ((all : List ℕ) → bytes ≡ take 1048577 all → Played (script_in all) old new r) → IfSome known (λ all. Played (script_in all) old new r)
+pub played_all : (known old new : Option (List ℕ)) (bytes : List ℕ) (r : Result (Unit {0}) PlayFault) → IfSome known (λ all. bytes ≡ take 1048577 all)
+    → ((all : List ℕ) → bytes ≡ take 1048577 all → Played (Tells all) old new r) → IfSome known (λ all. Played (Tells all) old new r)
 played_all None old new bytes r e h = tt
 played_all (Some all) old new bytes r e h = h all e
 
 -- nothing could be read
-pub played_unread : (known old : Option (List ℕ)) (fault : Fault) → (fault ≡ faults.Memory) ⊎ (fault ≡ faults.Read) → IfSome known (λ input. Played (script_in input) old old (Err fault))
-played_unread None old fault few = tt
-played_unread (Some all) old faults.Memory few = nothing_begun (script_in all) old old (Keeps-same old)
-played_unread (Some all) old faults.Read few = Keeps-same old
-played_unread (Some all) old faults.Write few = elim few [ inl e ↦ cc | inr e ↦ cc ]
-played_unread (Some all) old (faults.Script f) few = elim few [ inl e ↦ cc | inr e ↦ cc ]
+unread : (Told : Result Contents Wrong → Type 0) (old : Option (List ℕ)) (error : ReadFault) → Played Told old old (Err (read_fault error))
+unread Told old reads.Memory = inl (Keeps-same old)
+unread Told old reads.Read = Keeps-same old
+
+pub played_unread : (known old : Option (List ℕ)) (error : ReadFault) (fault : PlayFault) → fault ≡ read_fault error → IfSome known (λ input. Played (Tells input) old old (Err fault))
+played_unread None old error fault is = tt
+played_unread (Some all) old error fault is = subst (λ (f : PlayFault). Played (Tells all) old old (Err f)) (sym is) (unread (Tells all) old error)

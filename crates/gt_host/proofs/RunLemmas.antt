@@ -8,7 +8,7 @@ use Rattle.gt_core.specs.History.{History, Setting}
 use Rattle.gt_core.specs.Legal.{MayDo, grown, LegalAfter, history_after}
 use Rattle.gt_core.specs.Standing.{CoreStands, setting_of, begun_element, ticked_element}
 use Rattle.gt_core.specs.States.{State}
-use Rattle.gt_core.specs.declared.request.Request.{Request}
+use Rattle.gt_calls.specs.declared.request.Request.{Request}
 use Rattle.gt_core.specs.declared.trace.Answer.{Answer}
 use Rattle.gt_core.specs.declared.trace.Event.{Event}
 use Rattle.gt_core.specs.declared.trace.Event.TheVariants.{Begin, Tick}
@@ -17,8 +17,8 @@ use Rattle.gt_core.specs.declared.trace.Element.TheVariants.{Item as Did}
 use Rattle.gt_core.specs.declared.trace.Item.{Item}
 use Rattle.gt_core.specs.declared.trace.Happened.TheVariants.{Began}
 use Rattle.gt_types.specs.Names.{domain_of}
-use Rattle.gt_core.specs.declared.action.Seen.{Seen}
-use Rattle.gt_core.specs.declared.action.Step.{Step}
+use Rattle.gt_calls.specs.declared.action.Seen.{Seen}
+use Rattle.gt_calls.specs.declared.action.Step.{Step}
 use Rattle.gt_core.specs.declared.core_state.Begun.{Begun}
 use Rattle.gt_core.specs.declared.core_state.Begun.TheVariants as begun
 use Rattle.gt_core.specs.declared.core_state.Ticked.{Ticked}

@@ -1,10 +1,27 @@
--- Faults of a script as faults of a run.
+-- What ends a run, as its caller is told.
+use Rattle.std.specs.Prelude.{Result, Ok, Err}
 use Rattle.gt_script.specs.declared.faults.ScriptError.{ScriptError}
 use Rattle.gt_script.specs.declared.faults.ScriptError.TheVariants as errors
+use Rattle.gt_streams.specs.declared.fault.ReadFault.{ReadFault}
+use Rattle.gt_streams.specs.declared.fault.ReadFault.TheVariants as reads
 use Rattle.gt_host.specs.declared.fault.Fault.{Fault}
-use Rattle.gt_host.specs.declared.fault.Fault.TheVariants as faults
+use Rattle.gt_host.specs.declared.fault.Fault.TheVariants as runs
+use Rattle.gt_host.specs.declared.fault.PlayFault.{PlayFault}
+use Rattle.gt_host.specs.declared.fault.PlayFault.TheVariants as faults
 
 -- (own) what ends a run that has no script
-abbrev pub fault_of : ScriptError → Fault
+abbrev pub fault_of : ScriptError → PlayFault
 fault_of errors.Memory = faults.Memory
 fault_of (errors.Fault fault) = faults.Script fault
+fault_of (errors.Policy fault) = faults.Policy fault
+
+-- (own) what ends a run that has no text
+abbrev pub read_fault : ReadFault → PlayFault
+read_fault reads.Memory = faults.Memory
+read_fault reads.Read = faults.Read
+
+-- (own) what ends a run of steps
+abbrev pub ended : Result (Unit {0}) Fault → Result (Unit {0}) PlayFault
+ended (Ok done) = Ok done
+ended (Err runs.Memory) = Err faults.Memory
+ended (Err runs.Write) = Err faults.Write

@@ -4,7 +4,7 @@ use Rattle.std.specs.Prelude.{ℕ, Bool, List, Option}
 use Rattle.std.specs.Ordering.{nat_cmp, ordering_then, is_eq}
 use Rattle.std.specs.Cmp.Lexicographic.{slice_cmp}
 use Rattle.std.specs.Map.{lookup}
-use Rattle.gt_core.specs.declared.request.Handle.{Handle}
+use Rattle.gt_handles.specs.declared.handles.Handle.{Handle}
 
 -- (own) whether a key is this label of this domain
 abbrev pub is_label : ℕ → List ℕ → (ℕ × Bor (List ℕ)) → Bool

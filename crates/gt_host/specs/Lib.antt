@@ -4,7 +4,7 @@ pub mod Naming
 pub mod OpenCalls
 pub mod Playing
 pub mod Printing
+pub mod Rights
 pub mod Runs
 pub mod Showing
-pub mod Streams
 pub mod Ticking

@@ -1,40 +1,42 @@
 -- What is written for what is read.
-use Rattle.std.specs.Prelude.{◌≡◌, ◌⊎◌, ◌++◌, ℕ, ◌≤◌, List, [], length, take, Option, Result, Ok, Err, All, IsTrue}
+use Rattle.std.specs.Prelude.{◌≡◌, ◌⊎◌, ◌++◌, ℕ, ◌≤◌, List, [], length, take, Option, Some, Result, Ok, Err, All, IsTrue}
 use Rattle.std.specs.Io.KnownBytes.{Appends, Keeps}
 use Rattle.gt_types.specs.Config.{AreFaultless, is_taken}
-use Rattle.gt_types.specs.Rights.{is_listed}
 use Rattle.gt_types.specs.declared.limits.TheConstants.{LAST_GENERATION}
-use Rattle.gt_types.specs.declared.rights.Triples.{Triples}
-use Rattle.gt_script.specs.Contents.{Contents, first_gen}
-use Rattle.gt_script.specs.declared.faults.Fault as script
+use Rattle.gt_policy.specs.declared.fault.Fault as policy
+use Rattle.gt_script.specs.Blocks.{block_fault_shown}
+use Rattle.gt_script.specs.Contents.{Contents, type_names, first_gen}
+use Rattle.gt_script.specs.Script.{Wrong, in_script, in_policy}
 use Rattle.gt_script.specs.declared.script.Step.{Step}
 use Rattle.gt_core.specs.History.{Setting}
 use Rattle.gt_core.specs.Legal.{Legal}
 use Rattle.gt_core.specs.Standing.{CoreStands, setting_of}
 use Rattle.gt_core.specs.declared.core_state.Core.{Core}
-use Rattle.gt_host.specs.declared.fault.Fault.{Fault}
-use Rattle.gt_host.specs.declared.fault.Fault.TheVariants.{Memory, Read, Write, Script}
+use Rattle.gt_host.specs.declared.fault.PlayFault.{PlayFault}
+use Rattle.gt_host.specs.declared.fault.PlayFault.TheVariants.{Memory, Read, Write, Script, Policy}
+use Rattle.gt_host.specs.declared.rights.Rights.{Rights}
+use Rattle.gt_host.specs.Rights.{may_by, may_in}
 use Rattle.gt_host.specs.Runs.{Progress, IsRunOf, KnowsOpen, open_lines}
-use Rattle.gt_host.specs.Streams.{AppendsBeginning}
+use Rattle.gt_streams.specs.Streams.{AppendsBeginning}
 
 -- (own) the domains of the script and its first generation are within the limits of a run, and each step is one of a domain of it
 abbrev pub CanStart : Contents → Type 0
 CanStart c = AreFaultless c.domains × (1 ≤ length c.domains) × (first_gen c ≤ LAST_GENERATION) × All (λ s. IsTrue (is_taken c.domains s.dom)) c.steps
 
--- (own) what is fixed for the run of a script: its domains, its triples, and the first generation
+-- (own) what is fixed for the run of a script: its domains, what its policy or its triples allow, and the first generation
 abbrev pub setting_of_script : Contents → Setting
-setting_of_script c = record { domains = c.domains; first_generation = first_gen c; may = λ source target perm. is_listed c.triples source target perm }
+setting_of_script c = record { domains = c.domains; first_generation = first_gen c; may = may_in c }
 
--- (own) the core starts with the domains and the triples of the script
-pub record StartsFor (c : Contents) (core : Core Triples) : Type 0 where
+-- (own) the core starts with the domains and the rights of the script
+pub record StartsFor (c : Contents) (core : Core Rights) : Type 0 where
   pub domains : core.config.domains.items ≡ c.domains
   pub generation : core.config.first_gen ≡ first_gen c
-  pub triples : core.rights.allowed.items ≡ c.triples
-  pub stands : CoreStands (setting_of core.config (λ source target perm. is_listed core.rights.allowed.items source target perm)) [] core.domains.items
+  pub rights : may_by core.rights ≡ may_in c
+  pub stands : CoreStands (setting_of core.config (may_by core.rights)) [] core.domains.items
 
 -- (own) the steps lead here, what their events did is a legal trace, and the calls that are open are those of the trace
 abbrev pub IsLegalRunOf : Contents → List Step → Progress → Type 0
-IsLegalRunOf c steps p = IsRunOf (setting_of_script c) c.types steps p × Legal (setting_of_script c) p.events p.trace × KnowsOpen p
+IsLegalRunOf c steps p = IsRunOf (setting_of_script c) (type_names c) steps p × Legal (setting_of_script c) p.events p.trace × KnowsOpen p
 
 -- (own) the text of a run that has come to the end of the script: the lines of its steps, and those of the calls that are open
 abbrev pub whole_text : Contents → Progress → List ℕ
@@ -56,16 +58,16 @@ BeginsWhole c old new = (p : Progress) × IsLegalRunOf c c.steps p × AppendsBeg
 abbrev pub BeginsRun : Contents → Option (List ℕ) → Option (List ℕ) → Type 0
 BeginsRun c old new = BeginsSome c old new ⊎ BeginsWhole c old new
 
--- (own) a beginning of the text went out, and nothing for a script with a fault
-abbrev pub Begins : Result Contents script.Fault → Option (List ℕ) → Option (List ℕ) → Type 0
-Begins (Ok c) old new = BeginsRun c old new
-Begins (Err fault) old new = Keeps old new
+-- (own) what the bytes say is a script, and a beginning of its text went out
+abbrev pub Begins : (Result Contents Wrong → Type 0) → Option (List ℕ) → Option (List ℕ) → Type 0
+Begins Told old new = (c : Contents) × Told (Ok c) × BeginsRun c old new
 
--- (own) what `play` wrote, where it answers so for bytes that say this script or fault: at Ok the text of the run, whole;
--- at a fault of the script nothing, and the fault is the script's first; and else a beginning
-abbrev pub Played : Result Contents script.Fault → Option (List ℕ) → Option (List ℕ) → Result (Unit {0}) Fault → Type 0
-Played said old new (Ok done) = (c : Contents) × (said ≡ Ok c) × WritesRun c old new
-Played said old new (Err (Script fault)) = (said ≡ Err fault) × Keeps old new
-Played said old new (Err Memory) = Begins said old new
-Played said old new (Err Write) = Begins said old new
-Played said old new (Err Read) = Keeps old new
+-- (own) what `play` wrote, where it answers so for bytes of which this is told: at Ok the text of the run, whole;
+-- at a fault of the script nothing, and the fault is the script's first; after a failed write a beginning, and so for want of memory, unless nothing
+abbrev pub Played : (Result Contents Wrong → Type 0) → Option (List ℕ) → Option (List ℕ) → Result (Unit {0}) PlayFault → Type 0
+Played Told old new (Ok done) = (c : Contents) × Told (Ok c) × WritesRun c old new
+Played Told old new (Err (Script fault)) = Told (Err (in_script fault)) × Keeps old new
+Played Told old new (Err (Policy fault)) = (g : policy.Fault) × (block_fault_shown fault ≡ Some g) × Told (Err (in_policy g)) × Keeps old new
+Played Told old new (Err Memory) = Keeps old new ⊎ Begins Told old new
+Played Told old new (Err Write) = Begins Told old new
+Played Told old new (Err Read) = Keeps old new

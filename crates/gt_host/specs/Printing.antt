@@ -3,25 +3,14 @@ use Rattle.std.specs.Prelude.{ℕ, List, [], length, ◌++◌, ◌==◌, codes, 
 use Rattle.std.specs.Fmt.{signed_decimal}
 use Rattle.hex.specs.Hex.{encode_lower}
 use Rattle.gt_types.specs.Denial.{rule_text, status_number, field_name}
+use Rattle.gt_types.specs.Names.{permission_name}
 use Rattle.gt_types.specs.declared.DomId.{DomId}
 use Rattle.gt_types.specs.declared.TypeId.{TypeId}
-use Rattle.gt_types.specs.declared.perms.Perms.{Perms}
 use Rattle.gt_types.specs.declared.denial.Facts.{Facts}
 use Rattle.gt_types.specs.declared.denial.Facts.TheVariants as facts
 use Rattle.gt_types.specs.declared.denial.Denial.{Denial}
 use Rattle.gt_core.specs.declared.trace.Answer.{Answer}
 use Rattle.gt_core.specs.declared.trace.Answer.TheVariants as answers
-
--- a permission by its name (class grant of XSM FLASK); a set of several has none
-unfoldable pub permission_text : Perms → List ℕ
-permission_text perm =
-    if perm.0 == 1 then codes "map_read"
-    else (if perm.0 == 2 then codes "map_write"
-    else (if perm.0 == 4 then codes "unmap"
-    else (if perm.0 == 8 then codes "transfer"
-    else (if perm.0 == 16 then codes "setup"
-    else (if perm.0 == 32 then codes "copy"
-    else (if perm.0 == 64 then codes "query" else []))))))
 
 -- (own) a type by its name: the one that stands at its number
 abbrev pub type_text : List (List ℕ) → TypeId → List ℕ
@@ -30,7 +19,7 @@ type_text names t = unwrap_or (slice_get names t.0) []
 -- (own) what a refusal rests on, where its line names that
 abbrev pub facts_text : List (List ℕ) → Facts → List ℕ
 facts_text names (facts.Policy source target perm) =
-    codes " source=" ++ type_text names source ++ codes " target=" ++ type_text names target ++ codes " perm=" ++ permission_text perm
+    codes " source=" ++ type_text names source ++ codes " target=" ++ type_text names target ++ codes " perm=" ++ permission_name perm
 facts_text names (facts.Field f) = codes " field=" ++ field_name f
 facts_text names facts.None = []
 facts_text names (facts.Header dom word) = []

@@ -15,9 +15,9 @@ use Rattle.gt_script.specs.declared.calls.Call.TheVariants as calls
 use Rattle.gt_script.specs.declared.calls.Action.{Action}
 use Rattle.gt_script.specs.declared.calls.Action.TheVariants as actions
 use Rattle.gt_script.specs.declared.script.Step.{Step}
-use Rattle.gt_core.specs.declared.request.Handle.{Handle}
-use Rattle.gt_core.specs.declared.request.Request.{Request}
-use Rattle.gt_core.specs.declared.request.Request.TheVariants as requests
+use Rattle.gt_handles.specs.declared.handles.Handle.{Handle}
+use Rattle.gt_calls.specs.declared.request.Request.{Request}
+use Rattle.gt_calls.specs.declared.request.Request.TheVariants as requests
 use Rattle.gt_core.specs.declared.trace.Answer.{Answer}
 use Rattle.gt_core.specs.declared.trace.Answer.TheVariants.{Mapped}
 use Rattle.gt_core.specs.declared.trace.Event.{Event}
@@ -62,9 +62,11 @@ entry_of (grants.Page dom ro frame) = entries.Page dom ro frame
 entry_of (grants.Sub dom ro frame off len) = entries.Sub dom ro frame off len
 entry_of (grants.Via dom ro to gref) = entries.Via dom ro to gref
 
--- (own) the bytes that a call of a script says: those of an entry
+-- (own) the bytes that a call of a script says: those of an entry, or those that it writes
 unfoldable pub bytes_said : Call → List ℕ
 bytes_said (calls.GrantBytes gref hex) = hex_bytes hex
+bytes_said (calls.Store label off hex) = hex_bytes hex
+bytes_said (calls.Poke frame off hex) = hex_bytes hex
 bytes_said call = []
 
 -- (own) what a call of a script asks of the core, where its labels stand for these handles and these are its bytes
@@ -74,6 +76,9 @@ request_of named dom bytes (calls.GrantBytes gref hex) = requests.GrantBytes gre
 request_of named dom bytes (calls.Map label to gref flags) = requests.Map to gref flags
 request_of named dom bytes (calls.Unmap label) = requests.Unmap (handle_of named dom label)
 request_of named dom bytes (calls.Load label off len) = requests.Load (handle_of named dom label) off len
+request_of named dom bytes (calls.Store label off hex) = requests.Store (handle_of named dom label) off bytes
+request_of named dom bytes (calls.Peek frame off len) = requests.Peek frame off len
+request_of named dom bytes (calls.Poke frame off hex) = requests.Poke frame off bytes
 request_of named dom bytes (calls.Revoke gref) = requests.Revoke gref
 request_of named dom bytes (calls.Demote gref) = requests.Demote gref
 request_of named dom bytes (calls.Promote gref) = requests.Promote gref

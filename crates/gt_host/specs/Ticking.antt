@@ -6,7 +6,7 @@ use Rattle.gt_core.specs.History.{History, Setting}
 use Rattle.gt_core.specs.Legal.{Legal, LegalAfter, history_after}
 use Rattle.gt_core.specs.Standing.{CoreStands}
 use Rattle.gt_core.specs.States.{State}
-use Rattle.gt_core.specs.declared.request.Request.{Request}
+use Rattle.gt_calls.specs.declared.request.Request.{Request}
 use Rattle.gt_core.specs.declared.trace.Answer.{Answer}
 use Rattle.gt_core.specs.declared.trace.Event.{Event}
 use Rattle.gt_core.specs.declared.trace.Event.TheVariants.{Tick}

@@ -1,36 +1,12 @@
 //! What a run prints: a line for each answer.
 ghost use Rattle.std.specs.Prelude.{◌≡◌, ◌++◌, OnOk, codes};
-ghost use Rattle.gt_host.specs.Printing.{permission_text, type_text, facts_text, denial_text, bytes_text, part_text, answer_text, call_text, answer_line, busy_line, idle_line, open_line};
+ghost use Rattle.gt_host.specs.Printing.{type_text, facts_text, denial_text, bytes_text, part_text, answer_text, call_text, answer_line, busy_line, idle_line, open_line};
 
 use gt_core::Answer;
 use gt_script::Text;
-use gt_types::{Denial, DomId, Facts, Perms, TypeId};
+use gt_types::{Denial, DomId, Facts, TypeId};
 use itoa::{Buffer, Integer};
 use std::alloc::{AllocError, Global};
-
-// The name of a permission in the policy language. A set of several has none.
-#[tactic(auto, unfolding(crate::specs::Printing::permission_text))]
-fn permission_name(perm: Perms) -> &'static str
-    ensures { result.now ≡ permission_text perm }
-{
-    if perm == Perms::MAP_READ {
-        "map_read"
-    } else if perm == Perms::MAP_WRITE {
-        "map_write"
-    } else if perm == Perms::UNMAP {
-        "unmap"
-    } else if perm == Perms::TRANSFER {
-        "transfer"
-    } else if perm == Perms::SETUP {
-        "setup"
-    } else if perm == Perms::COPY {
-        "copy"
-    } else if perm == Perms::QUERY {
-        "query"
-    } else {
-        ""
-    }
-}
 
 pub fn push_text(out: &mut Vec<u8>, text: &str) -> Result<(), AllocError>
     ensures { OnOk result (out.new.items ≡ out.old.items ++ text.now) }
@@ -77,7 +53,7 @@ fn push_facts(out: &mut Vec<u8>, names: &[Text], facts: Facts) -> Result<(), All
             push_text(out, " target=")?;
             push_type(out, names, target)?;
             push_text(out, " perm=")?;
-            push_text(out, permission_name(perm))
+            push_text(out, perm.name())
         }
         Facts::Field(field) => {
             push_text(out, " field=")?;

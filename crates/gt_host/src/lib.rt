@@ -9,9 +9,12 @@
 //! is a legal trace of the core. It is whole where `play` answers Ok; a
 //! script with a fault writes nothing, and the fault is the script's first; after a failed write,
 //! or for want of memory, what went out is a beginning of such a text. It stands on `gt_script`
-//! for what a script says and on `gt_core` for what its calls do.
+//! for what a script says, on `gt_core` for what its calls do, and on `gt_streams` for reads and
+//! writes.
 #![tactic(auto)]
 
+#[cfg(test)]
+mod access_tests;
 mod answers;
 mod fault;
 mod kept;
@@ -19,13 +22,15 @@ mod labels;
 mod open_calls;
 mod outcome;
 mod playing;
+#[cfg(test)]
+mod policy_tests;
+mod rights;
 mod run;
 mod showing;
-mod streams;
 #[cfg(test)]
 mod table_tests;
 #[cfg(test)]
 mod tests;
 
-pub use fault::Fault;
+pub use fault::PlayFault;
 pub use playing::play;

@@ -1,37 +1,36 @@
 //! A script in, and the lines of its run out.
 ghost use Rattle.std.specs.Prelude.{◌≡◌, ◌⊎◌, ◌++◌, ℕ, List, take, OnOk, OnErr, IfOk, IfErr, IfSome};
 ghost use Rattle.std.specs.Option.{option_map};
-ghost use Rattle.gt_script.specs.Script.{script_in};
+ghost use Rattle.gt_script.specs.Script.{Tells};
 ghost use Rattle.gt_host.specs.declared.fault.Fault.TheVariants as faults;
 ghost use Rattle.gt_host.specs.OpenCalls.{call_in};
 ghost use Rattle.gt_host.specs.Runs.{open_text, open_lines};
 ghost use Rattle.gt_host.specs.Playing.{CanStart, StartsFor, WritesRun, BeginsRun, Played};
 
 use crate::answers::push_open_line;
-use crate::fault::Fault;
+use crate::fault::{Fault, PlayFault};
 use crate::kept::Kept;
 use crate::open_calls::OpenCalls;
+use crate::rights::Rights;
 use crate::run::run_step;
-use crate::streams::{finish, read_text, send};
 use gt_core::Core;
 use gt_script::{Script, Step, parse};
-use gt_types::{Config, DomId, DomainConfig, StartFault, Triples};
+use gt_streams::{finish, read_text, send};
+use gt_types::{Config, DomId, DomainConfig, StartFault};
 use std::alloc::{AllocError, Global};
 use std::io::{Read, Write};
 
 // A core with the domains and the rights of the script.
-fn start(alloc: Global, script: &Script) -> Result<Core<Triples>, Fault>
+fn start<'s, 'a>(alloc: Global, script: &'s Script<'a>) -> Result<Core<Rights<'s>>, Fault>
     requires { CanStart script.now }
-    ensures starts { IfOk result (StartsFor script.now) }
+    ensures starts { IfOk result (StartsFor script.entry.now) }
     ensures errors { IfErr result (λ e. e ≡ faults.Memory) }
 {
     let config = Config {
         domains: Vec::from_slice(alloc, script.domains())?,
         first_gen: script.first_gen(),
     };
-    let rights = Triples {
-        allowed: Vec::from_slice(alloc, script.triples())?,
-    };
+    let rights = Rights::of(alloc, script)?;
     match Core::new(alloc, config, rights) {
         Ok(core) => Ok(core),
         Err(StartFault::Memory) => Err(Fault::Memory),
@@ -64,10 +63,10 @@ fn push_open_lines(
 }
 
 // Runs the steps of the script, and writes their lines.
-fn write_lines<W: Write>(
+fn write_lines<'s, 'a, W: Write>(
     alloc: Global,
-    core: &mut Core<Triples>,
-    script: &Script,
+    core: &mut Core<Rights<'s>>,
+    script: &'s Script<'a>,
     writer: &mut W,
 ) -> Result<(), Fault>
     requires can { CanStart script.now }
@@ -76,15 +75,17 @@ fn write_lines<W: Write>(
     ensures beginning { OnErr result (BeginsRun script.now (W.contents writer.old) (W.contents writer.new)) }
     ensures errors { IfErr result (λ e. (e ≡ faults.Memory) ⊎ (e ≡ faults.Write)) }
 {
+    let types = script.type_names(alloc)?;
     let mut kept = Kept::new(alloc);
     let mut waiting = Vec::new(alloc);
     let steps = script.steps();
     'steps: for step in steps {
-        run_step(alloc, core, &mut kept, script.types(), step, &mut waiting)?;
+        run_step(alloc, core, &mut kept, types.as_slice(), step, &mut waiting)?;
         send(writer, &mut waiting)?;
     }
     push_open_lines(&mut waiting, script.domains(), &kept.calls)?;
-    finish(writer, waiting.as_slice())
+    finish(writer, waiting.as_slice())?;
+    Ok(())
 }
 
 // Runs the script, and writes its lines.
@@ -99,13 +100,13 @@ fn write_run<W: Write>(alloc: Global, script: &Script, writer: &mut W) -> Result
 }
 
 // Plays the script that bytes say, of which those up to the limit were read.
-fn play_bytes<W: Write>(alloc: Global, input: &[u8], writer: &mut W) -> Result<(), Fault>
+fn play_bytes<W: Write>(alloc: Global, input: &[u8], writer: &mut W) -> Result<(), PlayFault>
     ensures { (all : List ℕ) → input.now ≡ take 1048577 all →
-        Played (script_in all) (W.contents writer.old) (W.contents writer.new) result }
+        Played (Tells all) (W.contents writer.old) (W.contents writer.new) result }
 {
     match parse(alloc, input) {
-        Ok(script) => write_run(alloc, &script, writer),
-        Err(error) => Err(Fault::from(error)),
+        Ok(script) => PlayFault::told(write_run(alloc, &script, writer)),
+        Err(error) => Err(PlayFault::from(error)),
     }
 }
 
@@ -120,13 +121,13 @@ pub fn play<R: Read, W: Write>(
     reader: &mut R,
     writer: &mut W,
     audit: bool,
-) -> Result<(), Fault>
+) -> Result<(), PlayFault>
     ensures { IfSome (R.remaining reader.old) (λ input.
-        Played (script_in input) (W.contents writer.old) (W.contents writer.new) result) }
+        Played (Tells input) (W.contents writer.old) (W.contents writer.new) result) }
 {
     let _ = audit;
     match read_text(alloc, reader) {
         Ok(input) => play_bytes(alloc, input.as_slice(), writer),
-        Err(fault) => Err(fault),
+        Err(error) => Err(PlayFault::from(error)),
     }
 }

@@ -63,13 +63,15 @@ fn entry_of(grant: Grant) -> Entry
     }
 }
 
-// The bytes that a call says: those of an entry.
+// The bytes that a call says: those of an entry, or those that it writes.
 #[tactic(auto, unfolding(crate::specs::Runs::bytes_said))]
 fn bytes_said<'a>(alloc: Global, call: &Call<'a>) -> Result<Vec<u8>, AllocError>
     ensures { IfOk result (λ bytes. bytes.items ≡ said_in call.now) }
 {
     match call {
-        Call::GrantBytes { hex, .. } => hex_bytes(alloc, hex),
+        Call::GrantBytes { hex, .. } | Call::Store { hex, .. } | Call::Poke { hex, .. } => {
+            hex_bytes(alloc, hex)
+        }
         _ => Ok(Vec::new(alloc)),
     }
 }
@@ -107,6 +109,21 @@ fn request_of<'a, 'c>(
             handle: labels.handle(dom, label.as_bytes()),
             off: *off,
             len: *len,
+        },
+        Call::Store { label, off, .. } => Request::Store {
+            handle: labels.handle(dom, label.as_bytes()),
+            off: *off,
+            bytes,
+        },
+        Call::Peek { frame, off, len } => Request::Peek {
+            frame: *frame,
+            off: *off,
+            len: *len,
+        },
+        Call::Poke { frame, off, .. } => Request::Poke {
+            frame: *frame,
+            off: *off,
+            bytes,
         },
         Call::Revoke { gref } => Request::Revoke { gref: *gref },
         Call::Demote { gref } => Request::Demote { gref: *gref },

@@ -2,4 +2,3 @@ pub mod LineLemmas
 pub mod OrderLemmas
 pub mod ListedLemmas
 pub mod PieceLemmas
-pub mod StreamLemmas

@@ -11,7 +11,7 @@ use Rattle.gt_types.specs.declared.rights.Triple.{Triple}
 use Rattle.gt_policy.specs.Listing.{name_of}
 use Rattle.gt_listing.specs.Listing.{permissions, triple_line, line_of, pair_triples, triples_of, is_one, listing}
 use Rattle.gt_listing.specs.Rights.{AreRights, held_on, may_on, pair_lines, source_lines}
-use Rattle.gt_listing.specs.Streams.{AppendsBeginning, Sends}
+use Rattle.gt_streams.specs.Streams.{AppendsBeginning, Sends}
 use Rattle.gt_listing.specs.declared.lines.Right.{Right}
 use Rattle.gt_listing.proofs.PieceLemmas.{sends_all}
 
@@ -87,7 +87,5 @@ pub begins_listing : (types : List (List ℕ)) (may : ℕ → ℕ → Perms → 
 begins_listing types may ids a c h = subst (λ (l : List ℕ). AppendsBeginning a c l) (by_source types may ids) h
 
 -- the last lines went out
-pub finished : {E : Type 0} (r : Result (Unit {0}) E) (types : List (List ℕ)) (may : ℕ → ℕ → Perms → Bool) (ids : List TypeId) (a b c : Option (List ℕ)) (waiting : List ℕ) → Sends a b (flat_map (source_text types may ids) ids) waiting → OnOk r (Appends b c waiting)
-    → OnOk r (Appends a c (listing types may ids))
-finished (Ok done) types may ids a b c waiting sent h = appends_listing types may ids a c (sends_all a b c (flat_map (source_text types may ids) ids) waiting sent h)
-finished (Err e) types may ids a b c waiting sent h = tt
+pub finished : (types : List (List ℕ)) (may : ℕ → ℕ → Perms → Bool) (ids : List TypeId) (a b c : Option (List ℕ)) (waiting : List ℕ) → Sends a b (flat_map (source_text types may ids) ids) waiting → Appends b c waiting → Appends a c (listing types may ids)
+finished types may ids a b c waiting sent h = appends_listing types may ids a c (sends_all a b c (flat_map (source_text types may ids) ids) waiting sent h)

@@ -13,11 +13,13 @@ use Rattle.gt_policy.specs.declared.fault.Fault as policy
 use Rattle.gt_policy.specs.declared.fault.Kind.TheVariants.{Limit}
 use Rattle.gt_policy.specs.declared.parse.FaultKind.{FaultKind}
 use Rattle.gt_policy.specs.declared.parse.FaultKind.TheVariants as kinds
+use Rattle.gt_streams.specs.declared.fault.ReadFault.{ReadFault}
+use Rattle.gt_streams.specs.declared.fault.ReadFault.TheVariants as reads
 use Rattle.gt_listing.specs.declared.fault.Fault.{Fault}
 use Rattle.gt_listing.specs.declared.fault.Fault.TheVariants as faults
-use Rattle.gt_listing.specs.Faults.{fault_of}
+use Rattle.gt_listing.specs.Faults.{fault_of, read_fault}
 use Rattle.gt_listing.specs.Reading.{IsNoText}
-use Rattle.gt_listing.specs.Streams.{AppendsBeginning}
+use Rattle.gt_streams.specs.Streams.{AppendsBeginning}
 use Rattle.gt_listing.specs.Writing.{IsListing, Listed, Parsed, Writes, text_with}
 use Rattle.gt_listing.proofs.LineLemmas.{listing_same}
 use Rattle.gt_listing.proofs.PieceLemmas.{Keeps-same}
@@ -108,10 +110,10 @@ listed_all None old new bytes r e h = tt
 listed_all (Some all) old new bytes r e h = h all e
 
 -- nothing could be read
-pub listed_unread : (known old : Option (List ℕ)) (fault : Fault) → (fault ≡ faults.Memory) ⊎ (fault ≡ faults.Read) → IfSome known (λ all. Listed all old old (Err fault))
-listed_unread None old fault few = tt
-listed_unread (Some all) old faults.Memory few = inl (Keeps-same old)
-listed_unread (Some all) old faults.Read few = Keeps-same old
-listed_unread (Some all) old faults.Write few = elim few [ inl e ↦ cc | inr e ↦ cc ]
-listed_unread (Some all) old (faults.Utf8 line) few = elim few [ inl e ↦ cc | inr e ↦ cc ]
-listed_unread (Some all) old (faults.Policy shown) few = elim few [ inl e ↦ cc | inr e ↦ cc ]
+unread : (all : List ℕ) (old : Option (List ℕ)) (error : ReadFault) → Listed all old old (Err (read_fault error))
+unread all old reads.Memory = inl (Keeps-same old)
+unread all old reads.Read = Keeps-same old
+
+pub listed_unread : (known old : Option (List ℕ)) (error : ReadFault) (fault : Fault) → fault ≡ read_fault error → IfSome known (λ all. Listed all old old (Err fault))
+listed_unread None old error fault is = tt
+listed_unread (Some all) old error fault is = subst (λ (f : Fault). Listed all old old (Err f)) (sym is) (unread all old error)

@@ -1,7 +1,9 @@
--- Faults of a policy as faults of a listing.
+-- Faults of a policy and of a read as faults of a listing.
 use Rattle.std.specs.Prelude.{ℕ}
 use Rattle.gt_policy.specs.declared.parse.FaultKind.{FaultKind}
 use Rattle.gt_policy.specs.declared.parse.FaultKind.TheVariants as kinds
+use Rattle.gt_streams.specs.declared.fault.ReadFault.{ReadFault}
+use Rattle.gt_streams.specs.declared.fault.ReadFault.TheVariants as reads
 use Rattle.gt_listing.specs.declared.fault.Fault.{Fault}
 use Rattle.gt_listing.specs.declared.fault.Fault.TheVariants as faults
 
@@ -14,3 +16,8 @@ fault_of line (kinds.Twice name) = faults.Policy (record { line = line; kind = k
 fault_of line (kinds.Permission name) = faults.Policy (record { line = line; kind = kinds.Permission name })
 fault_of line (kinds.Outside word) = faults.Policy (record { line = line; kind = kinds.Outside word })
 fault_of line kinds.Limit = faults.Policy (record { line = line; kind = kinds.Limit })
+
+-- (own) what ends a listing that has no text
+abbrev pub read_fault : ReadFault → Fault
+read_fault reads.Memory = faults.Memory
+read_fault reads.Read = faults.Read

@@ -2,5 +2,4 @@ pub mod Faults
 pub mod Listing
 pub mod Reading
 pub mod Rights
-pub mod Streams
 pub mod Writing

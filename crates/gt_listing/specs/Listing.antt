@@ -1,21 +1,10 @@
 -- The lines of the triples that are allowed.
-use Rattle.std.specs.Prelude.{ℕ, ◌==◌, Bool, List, [], ◌∷◌, ◌++◌, codes, if◌then◌else◌, map, filter, flat_map}
+use Rattle.std.specs.Prelude.{ℕ, Bool, List, [], ◌∷◌, ◌++◌, codes, map, filter, flat_map}
 use Rattle.gt_types.specs.Names as names
 use Rattle.gt_types.specs.declared.TypeId.{TypeId}
 use Rattle.gt_types.specs.declared.perms.Perms.{Perms}
 use Rattle.gt_types.specs.declared.rights.Triple.{Triple}
 use Rattle.gt_policy.specs.Listing.{name_of}
-
--- a permission by its name (class grant of XSM FLASK); a set of several has none
-unfoldable pub permission_text : Perms → List ℕ
-permission_text perm =
-    if perm.0 == 1 then codes "map_read"
-    else (if perm.0 == 2 then codes "map_write"
-    else (if perm.0 == 4 then codes "unmap"
-    else (if perm.0 == 8 then codes "transfer"
-    else (if perm.0 == 16 then codes "setup"
-    else (if perm.0 == 32 then codes "copy"
-    else (if perm.0 == 64 then codes "query" else []))))))
 
 -- (own) the permissions in the order of the lines
 abbrev pub permissions : List Perms
@@ -23,7 +12,7 @@ permissions = names.map_read ∷ names.map_write ∷ names.unmap ∷ names.trans
 
 -- (own) `SOURCE TARGET PERMISSION`
 abbrev pub triple_line : List ℕ → List ℕ → Perms → List ℕ
-triple_line source target perm = source ++ codes " " ++ target ++ codes " " ++ permission_text perm ++ codes "\n"
+triple_line source target perm = source ++ codes " " ++ target ++ codes " " ++ names.permission_name perm ++ codes "\n"
 
 -- (own) the line of a triple, by the names of its types
 abbrev pub line_of : List (List ℕ) → Triple → List ℕ

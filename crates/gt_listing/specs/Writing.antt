@@ -11,7 +11,7 @@ use Rattle.gt_listing.specs.declared.fault.Fault.{Fault}
 use Rattle.gt_listing.specs.declared.fault.Fault.TheVariants.{Utf8, Policy, Memory, Read, Write}
 use Rattle.gt_listing.specs.Listing.{listing}
 use Rattle.gt_listing.specs.Reading.{IsPolicy, IsBadAt, IsFaulty}
-use Rattle.gt_listing.specs.Streams.{AppendsBeginning}
+use Rattle.gt_streams.specs.Streams.{AppendsBeginning}
 
 -- (own) the text of a policy: the lines of the triples that it allows, of its types in the byte order of their names
 abbrev pub IsListing : Meaning → List ℕ → Type 0

@@ -1,5 +1,6 @@
 //! Why a listing did not end well.
 use gt_policy::{FaultKind, PolicyFault};
+use gt_streams::{ReadFault, WriteFault};
 use std::alloc::{AllocError, AllocFailed};
 use thiserror::Error;
 
@@ -57,5 +58,30 @@ impl From<PolicyFault> for Fault {
             FaultKind::Memory => Fault::Memory,
             kind => Fault::Policy(PolicyFault { line, kind }),
         }
+    }
+}
+
+impl From<ReadFault> for Fault {
+    ghost use Rattle.std.specs.Prelude.{◌≡◌};
+    ghost use Rattle.gt_listing.specs.Faults.{read_fault};
+
+    ghost from_gives = { λ error fault. fault ≡ read_fault error };
+
+    fn from(error: ReadFault) -> Fault {
+        match error {
+            ReadFault::Memory => Fault::Memory,
+            ReadFault::Read => Fault::Read,
+        }
+    }
+}
+
+impl From<WriteFault> for Fault {
+    ghost use Rattle.std.specs.Prelude.{◌≡◌};
+    ghost use Rattle.gt_listing.specs.declared.fault.Fault.TheVariants as faults;
+
+    ghost from_gives = { λ _ e. e ≡ faults.Write };
+
+    fn from(_error: WriteFault) -> Fault {
+        Fault::Write
     }
 }

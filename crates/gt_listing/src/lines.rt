@@ -1,7 +1,7 @@
 //! The lines of triples.
 ghost use Rattle.std.specs.Prelude.{◌≡◌, ◌++◌, IfOk, OnOk};
 ghost use Rattle.gt_policy.specs.Allowing.{may_of};
-ghost use Rattle.gt_listing.specs.Listing.{permission_text, triple_line};
+ghost use Rattle.gt_listing.specs.Listing.{triple_line};
 ghost use Rattle.gt_listing.specs.Rights.{AreRights, right_line, pair_lines};
 
 use gt_policy::{Policy, TypeSet};
@@ -38,30 +38,6 @@ pub fn rights_of(alloc: Global, policy: &Policy, source: TypeId) -> Result<Vec<R
     Ok(rights)
 }
 
-// The name of a permission in the policy language. A set of several has none.
-#[tactic(auto, unfolding(crate::specs::Listing::permission_text))]
-fn permission_name(perm: Perms) -> &'static str
-    ensures { result.now ≡ permission_text perm }
-{
-    if perm == Perms::MAP_READ {
-        "map_read"
-    } else if perm == Perms::MAP_WRITE {
-        "map_write"
-    } else if perm == Perms::UNMAP {
-        "unmap"
-    } else if perm == Perms::TRANSFER {
-        "transfer"
-    } else if perm == Perms::SETUP {
-        "setup"
-    } else if perm == Perms::COPY {
-        "copy"
-    } else if perm == Perms::QUERY {
-        "query"
-    } else {
-        ""
-    }
-}
-
 fn push_text(out: &mut Vec<u8>, text: &str) -> Result<(), AllocError>
     ensures { OnOk result (out.new.items ≡ out.old.items ++ text.now) }
 {
@@ -76,7 +52,7 @@ fn push_triple(out: &mut Vec<u8>, source: &str, target: &str, perm: Perms) -> Re
     push_text(out, " ")?;
     push_text(out, target)?;
     push_text(out, " ")?;
-    push_text(out, permission_name(perm))?;
+    push_text(out, perm.name())?;
     push_text(out, "\n")
 }
 

@@ -4,8 +4,8 @@ ghost use Rattle.gt_listing.specs.Writing.{Listed, Parsed};
 
 use crate::fault::Fault;
 use crate::sources::write_policy;
-use crate::streams::read_text;
 use crate::text::text_of;
+use gt_streams::read_text;
 use std::alloc::Global;
 use std::io::{Read, Write};
 
@@ -42,6 +42,6 @@ pub fn policy<R: Read, W: Write>(alloc: Global, reader: &mut R, writer: &mut W) 
 {
     match read_text(alloc, reader) {
         Ok(input) => list_bytes(alloc, input.as_slice(), writer),
-        Err(fault) => Err(fault),
+        Err(fault) => Err(Fault::from(fault)),
     }
 }

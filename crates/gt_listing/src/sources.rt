@@ -5,14 +5,14 @@ ghost use Rattle.gt_policy.specs.Allowing.{may_of};
 ghost use Rattle.gt_policy.specs.Listing.{name_of};
 ghost use Rattle.gt_listing.specs.Listing.{listing};
 ghost use Rattle.gt_listing.specs.Rights.{source_lines};
-ghost use Rattle.gt_listing.specs.Streams.{AppendsBeginning, Sends};
+ghost use Rattle.gt_streams.specs.Streams.{AppendsBeginning, Sends};
 ghost use Rattle.gt_listing.specs.Writing.{Writes};
 ghost use Rattle.gt_listing.specs.declared.fault.Fault.TheVariants as faults;
 
 use crate::fault::Fault;
 use crate::lines::{Right, push_pair, rights_of};
-use crate::streams::{finish, send};
 use gt_policy::Policy;
+use gt_streams::{finish, send};
 use gt_types::TypeId;
 use std::alloc::Global;
 use std::io::Write;
@@ -74,7 +74,8 @@ fn write_sources<W: Write>(
             writer,
         )?;
     }
-    finish(writer, waiting.as_slice())
+    finish(writer, waiting.as_slice())?;
+    Ok(())
 }
 
 /// Writes the lines of all triples that the policy allows.

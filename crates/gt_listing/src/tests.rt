@@ -44,6 +44,8 @@ allow { -dom0_t domain } domain:grant { map_read copy };\n",
             GUESTS_LINES,
         ),
         ("", ""),
+        // A word beside class `grant` is a permission of the other class.
+        ("type a_t;\nallow a_t a_t:{ grant file } map_red;\n", ""),
         // Types stand in the order of their names, whatever the order of their declarations, and
         // permissions in their own; capital letters and digits come before small letters.
         (

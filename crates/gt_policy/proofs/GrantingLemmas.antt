@@ -29,7 +29,8 @@ use Rattle.gt_policy.specs.Spelling.{names_of}
 use Rattle.gt_policy.specs.Whole.{meaning_of}
 use Rattle.gt_policy.specs.Accepting.{meant_by}
 use Rattle.gt_policy.specs.Names.{Names, symbol_at, symbol_of}
-use Rattle.gt_policy.specs.Grammar.{◌>>=◌, permission_of}
+use Rattle.gt_types.specs.Names.{permission_of}
+use Rattle.gt_policy.specs.Grammar.{◌>>=◌}
 use Rattle.gt_policy.specs.Resolving.{known, any_symbol, type_in, type_symbol, attribute_in, attribute_symbol, element_of, elements_of, given_by, allowed_by, with_statement, resolved, granted, has_grant, nothing_given}
 use Rattle.gt_policy.specs.Allowing.{was_given, stands_for, is_with, is_without, holds_type, is_itself, says_itself, is_granted_by, is_allowed, type_named, Meaning}
 use Rattle.gt_policy.specs.Granting.{mentions, gives, is_named, names_with, names_without, set_holds, is_self, lists_word, statement_grants, is_granted}

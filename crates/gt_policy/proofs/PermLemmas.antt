@@ -13,7 +13,7 @@ use Rattle.gt_types.specs.declared.perms.Perms.{Perms}
 use Rattle.gt_policy.specs.declared.statements.Permissions.{Permissions}
 use Rattle.gt_policy.specs.declared.statements.Permissions.TheVariants.{Every, Named}
 use Rattle.gt_policy.specs.Allowing.{lists_perm}
-use Rattle.gt_policy.specs.Grammar.{permission_of}
+use Rattle.gt_types.specs.Names.{permission_of}
 use Rattle.gt_policy.specs.Resolving.{no_perms, all_perms, union, with_named, perms_from, has_grant, perms_listed, granted}
 use Rattle.gt_policy.specs.Granting.{lists_word}
 use Rattle.gt_policy.specs.TypeSets.{is_set}
@@ -96,6 +96,7 @@ record IsWord (c : List ℕ) (k : ℕ) : Type 0 where
   none : lists_perm no_perms (bit (2 ^ k)) ≡ false
 
 lists_named : (c : List ℕ) (k : ℕ) → IsWord c k → (w : List ℕ) → lists_opt (permission_of w) (bit (2 ^ k)) ≡ bytes_eq w c
+unfolding permission_of
 lists_named c k word w = go (bytes_eq w c) refl
   where
     go : (v : Bool) → bytes_eq w c ≡ v → lists_opt (look_up table w) (bit (2 ^ k)) ≡ v
@@ -134,6 +135,7 @@ or_next w c k rest perm classes perms word e next = go (bytes_eq w c) refl e
 
 -- the bits of a statement have the permission that a word names where the statement lists the word, or `*`, under class `grant`
 pub lists_words : (classes : List (List ℕ)) (perms : Permissions) (w : List ℕ) (perm : Perms) → permission_of w ≡ Some perm → lists_perm (granted classes perms) perm ≡ (has_grant classes && lists_word perms w)
+unfolding permission_of
 lists_words classes perms w perm e =
     or_next w (codes "map_read") 0 (look_up from_map_write w) perm classes perms (record { agrees = (refl, (refl, (refl, (refl, (refl, (refl, (refl, tt))))))); self = refl; every = refl; none = refl }) e (λ e1.
     or_next w (codes "map_write") 1 (look_up from_unmap w) perm classes perms (record { agrees = (refl, (refl, (refl, (refl, (refl, (refl, (refl, tt))))))); self = refl; every = refl; none = refl }) e1 (λ e2.

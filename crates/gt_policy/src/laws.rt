@@ -2,7 +2,7 @@
 ghost use Rattle.std.specs.Prelude.{◌≡◌, ◌<◌, ◌⊎◌, ◌&&◌, List, ℕ, Result, Ok, Err, Some, length};
 ghost use Rattle.gt_policy.specs.Accepting.{IsWritten, IsBroken, meant_by};
 ghost use Rattle.gt_policy.specs.Allowing.{Meaning, type_named, is_allowed, lists_perm};
-ghost use Rattle.gt_policy.specs.Grammar.{at, permission_of};
+ghost use Rattle.gt_policy.specs.Grammar.{at};
 ghost use Rattle.gt_policy.specs.Granting.{is_granted, lists_word};
 ghost use Rattle.gt_policy.specs.Resolving.{granted, has_grant};
 ghost use Rattle.gt_policy.specs.Undeclared.{AreDeclared, IsFirstUndeclared, uses_of};
@@ -12,6 +12,7 @@ ghost use Rattle.gt_policy.specs.declared.fault.Kind.{Kind};
 ghost use Rattle.gt_policy.specs.declared.statements.Permissions.{Permissions};
 ghost use Rattle.gt_policy.specs.declared.statements.Statement.{Statement};
 ghost use Rattle.gt_types.specs.declared.TypeId.{TypeId};
+ghost use Rattle.gt_types.specs.Names.{permission_of};
 ghost use Rattle.gt_types.specs.declared.perms.Perms.{Perms};
 
 /// Every text says something: a policy or a fault.

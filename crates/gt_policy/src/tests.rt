@@ -335,6 +335,8 @@ fn tells_types_by_number_and_name(rt: HostRuntime) -> Result<(), Fail> {
     assert_eq!(rt; policy.count(), 2);
     assert_eq!(rt; policy.type_of("domU_t"), Some(TypeId(1)));
     assert_eq!(rt; policy.type_of("domain"), None);
+    assert_eq!(rt; policy.type_spelled(b"domU_t"), Some(TypeId(1)));
+    assert_eq!(rt; policy.type_spelled(b"\xff"), None);
     assert_eq!(rt; policy.name(TypeId(0)), Some("dom0_t"));
     assert_eq!(rt; policy.name(TypeId(2)).is_none(), true);
     Ok(())
@@ -377,7 +379,7 @@ fn lists_the_targets_of_a_source(rt: HostRuntime) -> Result<(), Fail> {
     Ok(())
 }
 
-// Run with each allocation refused in turn, by `rt try --test --fail-alloc N`: the answer is the
+// With bench/refused.sh, which refuses each request for memory in turn: the answer is the
 // same, or the text was refused for want of memory.
 #[test]
 fn memory(rt: HostRuntime) {

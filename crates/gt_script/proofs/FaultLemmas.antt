@@ -1,42 +1,44 @@
--- Where the first fault of a script stands.
-use Rattle.std.proofs.Common.{◌≡◌, ◌≢◌, ◌⊎◌, inl, inr, ℕ, suc, ◌+◌, ◌<◌, ◌≤◌, Bool, true, false, List, [], ◌∷◌, length, take, Result, Ok, Err, Some, refl, sym, ap, ◌∙◌, subst, arith, ltb, cond, length-take, IfOk, IfErr}
-use Rattle.std.specs.List.{slice_get}
-use Rattle.std.specs.Str.{IsUtf8, is_utf8}
-use Rattle.std.specs.Str.Lossy.{utf8_valid_len}
+-- Where the first fault of a script stands, and what a script without fault is.
+use Rattle.std.proofs.Common.{◌≡◌, inl, inr, ℕ, suc, ◌+◌, ◌-◌, ◌<◌, ◌≤◌, ◌&&◌, Bool, true, false, List, [], ◌∷◌, ◌++◌, length, take, drop, Option, None, Some, Result, Ok, Err, refl, sym, ap, ◌∙◌, subst, arith, cond, length-take, length-drop, min, get_or, add-one, Bor, IfOk, IfErr}
+use Rattle.std.specs.List.{slice_get, filter_map}
+use Rattle.std.specs.Option.{is_none}
+use Rattle.std.specs.Str.{IsUtf8}
 use Rattle.std.specs.Str.Lines.{lines as lines_in}
-use Rattle.std.proofs.lemmas.Bool.{cases_lt}
 use Rattle.std.proofs.lemmas.Bool.Decides.{nat_tests}
-use Rattle.std.proofs.lemmas.List.{take_all}
-use Rattle.std.proofs.lemmas.Str.{IsUtf8-from_is_utf8, is_utf8-from_IsUtf8}
+use Rattle.std.proofs.Math.Seq.{take-suc}
+use Rattle.std.proofs.lemmas.List.{take_all, take-map, drop-map}
+use Rattle.std.proofs.lemmas.Option.{slice_get_within, get_or_from_slice_get}
+use Rattle.gt_policy.specs.Allowing.{Rights}
+use Rattle.gt_policy.specs.Shown.{fault_shown}
+use Rattle.gt_policy.specs.Whole as policies
+use Rattle.gt_policy.specs.declared.fault.Fault as policy
+use Rattle.gt_policy.specs.declared.parse.FaultKind as kinds
+use Rattle.gt_policy.specs.declared.parse.FaultKind.TheVariants as kind
 use Rattle.gt_script.specs.Words.{words}
-use Rattle.gt_script.specs.Contents.{Contents, empty}
-use Rattle.gt_script.specs.Script.{is_empty, with_words, with_lines, completed, completed_if_ok, script_of, script_in, line_after}
-use Rattle.gt_script.specs.Laws.{IsScriptOf, IsFaultOfLine, IsFaultOfEnd, IsFirstFault, IsFaultOf, Stands}
-use Rattle.gt_script.specs.Outcomes.{Says}
+use Rattle.gt_script.specs.Faults.{error_in_block}
+use Rattle.gt_script.specs.Blocks.{opening, closing, block_text, Means, IsFaulty, IsPolicyOf}
+use Rattle.gt_script.specs.Contents.{Contents, empty, with_policy, names_with}
+use Rattle.gt_script.specs.Script.{is_empty, has_no_rights, with_words, with_lines, completed, completed_if_ok, whole, in_result, in_script, in_policy, ClosedSays, BlockSays, LinesSay, TextSays, Tells, Wrong}
+use Rattle.gt_script.specs.Laws.{said, domain_in, SayParts, IsTripleScript, IsPolicyScript, IsScriptOf, HasBlock, lines_before, IsOpen, HasNone, IsFaultOfLine, IsFaultOfEnd, IsFirstFault, IsFaultBehind, IsFaultOfLines, IsUnread, IsFaultOf, IsFaultOfBlock, Stands}
+use Rattle.gt_script.specs.Outcomes.{Answers, Says}
 use Rattle.gt_script.specs.declared.script.Script.{Script}
 use Rattle.gt_script.specs.declared.faults.ScriptError.{ScriptError}
 use Rattle.gt_script.specs.declared.faults.ScriptError.TheVariants as errors
 use Rattle.gt_script.specs.declared.faults.FaultKind.{FaultKind}
-use Rattle.gt_script.specs.declared.faults.FaultKind.TheVariants.{Limit, Utf8, Syntax, Config}
+use Rattle.gt_script.specs.declared.faults.FaultKind.TheVariants.{Syntax, Config}
 use Rattle.gt_script.specs.declared.faults.Fault.{Fault}
+use Rattle.gt_script.proofs.BlockLemmas.{OpensAt, opens_at, NoneOpens, none_opens, ClosesAt, closes_at, none_closes}
+use Rattle.gt_script.proofs.ScriptLemmas.{texts}
 use Rattle.gt_script.proofs.LawLemmas.{with_lines-Extends, faultless-none}
 use Rattle.gt_script.proofs.TypeLemmas.{Grown-refl}
 use Rattle.gt_script.proofs.WearLemmas.{first_gen-small}
 
--- the fault is that of the line at this place behind line n
-record FaultAt (n : ℕ) (ls : List (List ℕ)) (c : Contents) (f : Fault) : Type 0 where
-  place : ℕ
-  line : List ℕ
-  before : Contents
-  number : f.line ≡ n + place
-  there : slice_get ls place ≡ Some line
-  earlier : with_lines c n (take place ls) ≡ Ok before
-  here : with_words before f.line (words line) ≡ Err f.kind
+-- the first line with a fault
 
 with_lines-first : (n : ℕ) (l : List ℕ) (ls : List (List ℕ)) (c d : Contents) → with_words c n (words l) ≡ Ok d → with_lines c n (l ∷ ls) ≡ with_lines d (n + 1) ls
 with_lines-first n l ls c d p = ap (λ (r : Result Contents FaultKind). let whole : Result Contents Fault = elim r [ Ok e ↦ with_lines e (n + 1) ls | Err kind ↦ Err (record { line = n; kind = kind }) ] in whole) p
 
-fault-later : (n : ℕ) (l : List ℕ) (ls : List (List ℕ)) (c d : Contents) (f : Fault) → with_words c n (words l) ≡ Ok d → FaultAt (n + 1) ls d f → FaultAt n (l ∷ ls) c f
+fault-later : (n : ℕ) (l : List ℕ) (ls : List (List ℕ)) (c d : Contents) (f : Fault) → with_words c n (words l) ≡ Ok d → IsFaultOfLine (n + 1) ls d f → IsFaultOfLine n (l ∷ ls) c f
 fault-later n l ls c d f p x = record {
   place = suc x.place;
   line = x.line;
@@ -48,21 +50,16 @@ fault-later n l ls c d f p x = record {
 }
 
 fault-line : (n : ℕ) (l : List ℕ) (ls : List (List ℕ)) (c : Contents) (f : Fault) (r : Result Contents FaultKind) → with_words c n (words l) ≡ r
-    → ((d : Contents) → with_lines d (n + 1) ls ≡ Err f → FaultAt (n + 1) ls d f)
-    → (let whole : Result Contents Fault = elim r [ Ok d ↦ with_lines d (n + 1) ls | Err kind ↦ Err (record { line = n; kind = kind }) ] in whole ≡ Err f) → FaultAt n (l ∷ ls) c f
+    → ((d : Contents) → with_lines d (n + 1) ls ≡ Err f → IsFaultOfLine (n + 1) ls d f)
+    → (let whole : Result Contents Fault = elim r [ Ok d ↦ with_lines d (n + 1) ls | Err kind ↦ Err (record { line = n; kind = kind }) ] in whole ≡ Err f) → IsFaultOfLine n (l ∷ ls) c f
 fault-line n l ls c f (Ok d) p rest h = fault-later n l ls c d f p (rest d h)
 fault-line n l ls c f (Err kind) p rest h =
     let same : record { line = n; kind = kind } ≡ f = cc in
-    subst (λ (g : Fault). FaultAt n (l ∷ ls) c g) same (record { place = 0; line = l; before = c; number = omega arith; there = refl; earlier = refl; here = p })
+    subst (λ (g : Fault). IsFaultOfLine n (l ∷ ls) c g) same (record { place = 0; line = l; before = c; number = omega arith; there = refl; earlier = refl; here = p })
 
-fault-at : (n : ℕ) (ls : List (List ℕ)) (c : Contents) (f : Fault) → with_lines c n ls ≡ Err f → FaultAt n ls c f
+fault-at : (n : ℕ) (ls : List (List ℕ)) (c : Contents) (f : Fault) → with_lines c n ls ≡ Err f → IsFaultOfLine n ls c f
 fault-at n [] c f h = absurd cc
 fault-at n (l ∷ ls) c f h = fault-line n l ls c f (with_words c n (words l)) refl (λ d. fault-at (n + 1) ls d f) h
-
-fault-of_line : (ls : List (List ℕ)) (f : Fault) → with_lines empty 1 ls ≡ Err f → IsFaultOfLine ls f
-fault-of_line ls f h =
-    let x = fault-at 1 ls empty f h in
-    record { place = x.place; line = x.line; before = x.before; number = x.number ∙ omega arith; there = x.there; earlier = x.earlier; here = x.here }
 
 -- the end of a script
 
@@ -74,121 +71,390 @@ empty-false : {X : Type 0} (xs : List X) → is_empty xs ≡ false → 1 ≤ len
 empty-false [] h = absurd cc
 empty-false (x ∷ xs) h = omega arith
 
-some-not_empty : {X : Type 0} (xs : List X) → 1 ≤ length xs → xs ≢ []
-some-not_empty [] h e = absurd (omega arith)
-some-not_empty (x ∷ xs) h e = cc
+lacks-both : (o : Option Rights) (t : Bool) → (is_none o && t) ≡ true → (o ≡ None) × (t ≡ true)
+lacks-both None true h = (refl, refl)
+lacks-both None false h = absurd cc
+lacks-both (Some p) t h = absurd cc
 
--- what the end of a script says, by whether it has triples and domains
+no_rights : (c : Contents) → has_no_rights c ≡ true → (c.policy ≡ None) × (c.triples ≡ [])
+unfolding has_no_rights
+no_rights c h = let both = lacks-both c.policy (is_empty c.triples) h in (both.0, empty-true c.triples both.1)
+
+has-triple : (o : Option Rights) (t : Bool) → o ≡ None → (is_none o && t) ≡ false → t ≡ false
+has-triple None t is h = h
+has-triple (Some p) t is h = absurd cc
+
+some_triple-of : (c : Contents) → c.policy ≡ None → has_no_rights c ≡ false → 1 ≤ length c.triples
+unfolding has_no_rights
+some_triple-of c free h = empty-false c.triples (has-triple c.policy (is_empty c.triples) free h)
+
+-- what the end of a script says, by whether it has rights and domains
 abbrev at_end : ℕ → Contents → Bool → Bool → Result Contents Fault
-at_end count c triples domains = cond triples (Err (record { line = count + 1; kind = Syntax })) (cond domains (Err (record { line = count + 1; kind = Config })) (Ok c))
+at_end count c rights domains = cond rights (Err (record { line = count + 1; kind = Syntax })) (cond domains (Err (record { line = count + 1; kind = Config })) (Ok c))
 
-end-fault : (ls : List (List ℕ)) (c : Contents) (f : Fault) (t d : Bool) → with_lines empty 1 ls ≡ Ok c → is_empty c.triples ≡ t → is_empty c.domains ≡ d → at_end (length ls) c t d ≡ Err f
-    → IsFaultOfEnd ls f
-end-fault ls c f true d h p q e =
-    let same : record { line = length ls + 1; kind = Syntax } ≡ f = cc in
+end-fault : (count n : ℕ) (ls : List (List ℕ)) (start c : Contents) (f : Fault) (r d : Bool) → with_lines start n ls ≡ Ok c → has_no_rights c ≡ r → is_empty c.domains ≡ d → at_end count c r d ≡ Err f
+    → IsFaultOfEnd count n ls start f
+end-fault count n ls start c f true d h p q e =
+    let same : record { line = count + 1; kind = Syntax } ≡ f = cc in
     let kind : Syntax ≡ f.kind = ap (λ (g : Fault). g.kind) same in
-    record { all = c; earlier = h; number = sym (ap (λ (g : Fault). g.line) same); lacks = inl (empty-true c.triples p, sym kind) }
-end-fault ls c f false true h p q e =
-    let same : record { line = length ls + 1; kind = Config } ≡ f = cc in
+    let lacks = no_rights c p in
+    record { all = c; earlier = h; number = sym (ap (λ (g : Fault). g.line) same); lacks = inl (lacks.0, lacks.1, sym kind) }
+end-fault count n ls start c f false true h p q e =
+    let same : record { line = count + 1; kind = Config } ≡ f = cc in
     let kind : Config ≡ f.kind = ap (λ (g : Fault). g.kind) same in
-    record { all = c; earlier = h; number = sym (ap (λ (g : Fault). g.line) same); lacks = inr (some-not_empty c.triples (empty-false c.triples p), empty-true c.domains q, sym kind) }
-end-fault ls c f false false h p q e = absurd cc
+    record { all = c; earlier = h; number = sym (ap (λ (g : Fault). g.line) same); lacks = inr (empty-true c.domains q, sym kind) }
+end-fault count n ls start c f false false h p q e = absurd cc
 
-end-script : (ls : List (List ℕ)) (c s : Contents) (t d : Bool) → with_lines empty 1 ls ≡ Ok c → is_empty c.triples ≡ t → is_empty c.domains ≡ d → at_end (length ls) c t d ≡ Ok s → IsScriptOf ls s
-end-script ls c s true d h p q e = absurd cc
-end-script ls c s false true h p q e = absurd cc
-end-script ls c s false false h p q e =
+-- a script that the lines make whole
+record Whole (n : ℕ) (ls : List (List ℕ)) (start c : Contents) : Type 0 where
+  made : with_lines start n ls ≡ Ok c
+  rights : has_no_rights c ≡ false
+  domains : is_empty c.domains ≡ false
+
+end-whole : (count n : ℕ) (ls : List (List ℕ)) (start c s : Contents) (r d : Bool) → with_lines start n ls ≡ Ok c → has_no_rights c ≡ r → is_empty c.domains ≡ d → at_end count c r d ≡ Ok s → Whole n ls start s
+end-whole count n ls start c s true d h p q e = absurd cc
+end-whole count n ls start c s false true h p q e = absurd cc
+end-whole count n ls start c s false false h p q e =
     let same : c ≡ s = cc in
-    let x = with_lines-Extends 1 ls empty c h in
-    subst (λ (k : Contents). IsScriptOf ls k) same (record {
-      readable = x.readable;
-      triples = x.triples c.types (Grown-refl c.types);
-      wear = x.wear;
-      domains = x.domains c.types (Grown-refl c.types);
-      steps = x.steps;
+    subst (λ (k : Contents). Whole n ls start k) same (record { made = h; rights = p; domains = q })
+
+whole-by : (count n : ℕ) (ls : List (List ℕ)) (start s : Contents) (r : Result Contents Fault) → with_lines start n ls ≡ r → completed_if_ok count r ≡ Ok s → Whole n ls start s
+unfolding completed
+whole-by count n ls start s (Ok c) h e = end-whole count n ls start c s (has_no_rights c) (is_empty c.domains) h refl refl e
+whole-by count n ls start s (Err f) h e = absurd cc
+
+fault-by : (count n : ℕ) (ls : List (List ℕ)) (start : Contents) (f : Fault) (r : Result Contents Fault) → with_lines start n ls ≡ r → completed_if_ok count r ≡ Err f → IsFirstFault count start n ls f
+unfolding completed
+fault-by count n ls start f (Ok c) h e = inr (end-fault count n ls start c f (has_no_rights c) (is_empty c.domains) h refl refl e)
+fault-by count n ls start f (Err g) h e = let same : g ≡ f = cc in inl (fault-at n ls start f (h ∙ ap Err same))
+
+in_result-Ok : (r : Result Contents Fault) (s : Contents) → Ok s ≡ in_result r → r ≡ Ok s
+in_result-Ok (Ok c) s e = let same : c ≡ s = cc in ap Ok same
+in_result-Ok (Err f) s e = absurd cc
+
+in_result-script : (r : Result Contents Fault) (f : Fault) → Err (in_script f) ≡ in_result r → r ≡ Err f
+in_result-script (Ok c) f e = absurd cc
+in_result-script (Err g) f e = let same : g ≡ f = cc in ap Err same
+
+in_result-policy : (r : Result Contents Fault) (g : policy.Fault) → Err (in_policy g) ≡ in_result r → ⊥
+in_result-policy (Ok c) g e = cc
+in_result-policy (Err f) g e = cc
+
+-- a script without fault
+
+triple_script : (ls : List (List ℕ)) (s : Contents) → Whole 1 ls empty s → IsTripleScript ls s
+triple_script ls s w =
+    let x = with_lines-Extends 1 ls empty s w.made in
+    record {
+      parts = record {
+        readable = x.readable;
+        triples = x.triples s.types (Grown-refl s.types);
+        wear = x.wear;
+        domains = subst (λ (o : Option Rights). s.domains ≡ filter_map (λ l. domain_in (names_with o s.types) l.1) (said 1 ls)) (sym x.policy) (x.domains s.types (Grown-refl s.types));
+        steps = x.steps;
+        faultless = x.faultless faultless-none;
+        generation = first_gen-small 1 ls s.wear x.wear;
+        configured = x.configured (λ k y past. absurd (omega arith));
+        some_domain = empty-false s.domains w.domains;
+      };
+      policy = x.policy;
       distinct = x.types.distinct (λ i j y below past. absurd (omega arith));
       few_types = x.types.few (omega arith);
+      some_triple = some_triple-of s x.policy w.rights;
+    }
+
+rest_says : (n : ℕ) (ls : List (List ℕ)) (p : Rights) (s : Contents) → Whole n ls (with_policy p) s → SayParts n ls s
+rest_says n ls p s w =
+    let x = with_lines-Extends n ls (with_policy p) s w.made in
+    record {
+      readable = x.readable;
+      triples = x.triples s.types (Grown-refl s.types);
+      wear = x.wear;
+      domains = subst (λ (o : Option Rights). s.domains ≡ filter_map (λ l. domain_in (names_with o s.types) l.1) (said n ls)) (sym x.policy) (x.domains s.types (Grown-refl s.types));
+      steps = x.steps;
       faultless = x.faultless faultless-none;
-      generation = first_gen-small 1 ls c.wear x.wear;
+      generation = first_gen-small n ls s.wear x.wear;
       configured = x.configured (λ k y past. absurd (omega arith));
-      some_triple = empty-false c.triples p;
-      some_domain = empty-false c.domains q;
-    })
+      some_domain = empty-false s.domains w.domains;
+    }
 
-script-by : (ls : List (List ℕ)) (s : Contents) (r : Result Contents Fault) → with_lines empty 1 ls ≡ r → completed_if_ok (length ls) r ≡ Ok s → IsScriptOf ls s
-unfolding completed
-script-by ls s (Ok c) h e = end-script ls c s (is_empty c.triples) (is_empty c.domains) h refl refl e
-script-by ls s (Err f) h e = absurd cc
+-- the block of lines that open one and close it
 
-fault-by : (ls : List (List ℕ)) (f : Fault) (r : Result Contents Fault) → with_lines empty 1 ls ≡ r → completed_if_ok (length ls) r ≡ Err f → IsFirstFault ls f
-unfolding completed
-fault-by ls f (Ok c) h e = inr (end-fault ls c f (is_empty c.triples) (is_empty c.domains) h refl refl e)
-fault-by ls f (Err g) h e = let same : g ≡ f = cc in inl (fault-of_line ls f (h ∙ ap Err same))
+record Block (ls : List (List ℕ)) (first end : ℕ) : Type 0 where
+  has : HasBlock ls (take end (drop first ls)) (drop (end + 1) (drop first ls))
+  before : lines_before has ≡ first
+  many : length (take end (drop first ls)) ≡ end
 
-script_of-Ok : (text : List ℕ) (s : Contents) → script_of text ≡ Ok s → IsScriptOf (lines_in text) s
-unfolding script_of
-script_of-Ok text s e = script-by (lines_in text) s (with_lines empty 1 (lines_in text)) refl e
+block-with : (ls : List (List ℕ)) (place end : ℕ) → OpensAt ls place → ClosesAt (drop (place + 1) ls) end → Block ls (place + 1) end
+block-with ls place end o c =
+    let inner : drop (place + 1) ls ≡ take end (drop (place + 1) ls) ++ c.closer ∷ drop (end + 1) (drop (place + 1) ls) =
+    c.parts ∙ (let same : suc end ≡ end + 1 = omega arith in ap (λ (k : ℕ). take end (drop (place + 1) ls) ++ c.closer ∷ drop k (drop (place + 1) ls)) same) in
+    let outer : ls ≡ take place ls ++ o.opener ∷ drop (place + 1) ls =
+    o.parts ∙ (let same : suc place ≡ place + 1 = omega arith in ap (λ (k : ℕ). take place ls ++ o.opener ∷ drop k ls) same) in
+    record {
+      has = record {
+        front = take place ls;
+        opener = o.opener;
+        closer = c.closer;
+        parts = outer ∙ ap (λ (l : List (List ℕ)). take place ls ++ o.opener ∷ l) inner;
+        nothing = o.nothing;
+        opens = o.opens;
+        inside = c.inside;
+        closes = c.closes;
+      };
+      before = ap (λ (k : ℕ). k + 1) o.many;
+      many = c.many;
+    }
 
-script_of-Err : (text : List ℕ) (f : Fault) → script_of text ≡ Err f → IsFirstFault (lines_in text) f
-unfolding script_of
-script_of-Err text f e = fault-by (lines_in text) f (with_lines empty 1 (lines_in text)) refl e
+block-at : (ls : List (List ℕ)) (place end : ℕ) → opening ls ≡ Some place → closing (drop (place + 1) ls) ≡ Some end → Block ls (place + 1) end
+block-at ls place end o c = block-with ls place end (opens_at ls place o) (closes_at (drop (place + 1) ls) end c)
 
--- what bytes say, by whether they are too many and whether they are text
-abbrev bytes-say : List ℕ → Bool → Bool → Result Contents Fault
-bytes-say bytes long text = cond long (Err (record { line = 1; kind = Limit })) (cond text (script_of bytes) (Err (record { line = line_after (take (utf8_valid_len bytes) bytes); kind = Utf8 })))
+-- the number of the line behind a block
+number-behind : (ls : List (List ℕ)) (first end : ℕ) → (b : Block ls first end) → first + end + 1 + 1 ≡ lines_before b.has + length (take end (drop first ls)) + 2
+number-behind ls first end b =
+    let same : first + end + 1 + 1 ≡ first + end + 2 = omega arith in
+    same ∙ sym (ap (λ (k : ℕ). k + length (take end (drop first ls)) + 2) b.before ∙ ap (λ (k : ℕ). first + k + 2) b.many)
 
-script-bytes : (bytes : List ℕ) (s : Contents) (long text : Bool) → bytes-say bytes long text ≡ Ok s → IsScriptOf (lines_in bytes) s
-script-bytes bytes s true text e = absurd cc
-script-bytes bytes s false true e = script_of-Ok bytes s e
-script-bytes bytes s false false e = absurd cc
+policy_script : (ls : List (List ℕ)) (first end : ℕ) (p : Rights) (s : Contents) → Block ls first end → Means (take end (drop first ls)) p
+    → Whole (first + end + 1 + 1) (drop (end + 1) (drop first ls)) (with_policy p) s → IsPolicyScript ls s
+policy_script ls first end p s b means w =
+    let x = with_lines-Extends (first + end + 1 + 1) (drop (end + 1) (drop first ls)) (with_policy p) s w.made in
+    record {
+      block = take end (drop first ls);
+      rest = drop (end + 1) (drop first ls);
+      has = b.has;
+      rights = p;
+      means = means;
+      policy = x.policy;
+      parts = subst (λ (k : ℕ). SayParts k (drop (end + 1) (drop first ls)) s) (number-behind ls first end b) (rest_says (first + end + 1 + 1) (drop (end + 1) (drop first ls)) p s w);
+      no_triples = x.no_triples p refl;
+    }
 
-no-text : (bytes : List ℕ) → is_utf8 bytes ≡ false → ¬ IsUtf8 bytes
-no-text bytes h u = let t = is_utf8-from_IsUtf8 bytes u in cc
+-- what the lines say, if it is no fault
 
-fault-bytes : (n : ℕ) (bytes : List ℕ) (f : Fault) (long text : Bool) → ltb n (length bytes) ≡ long → is_utf8 bytes ≡ text → bytes-say bytes long text ≡ Err f
-    → ((f ≡ record { line = 1; kind = Limit }) × (n < length bytes))
-    ⊎ (((f ≡ record { line = line_after (take (utf8_valid_len bytes) bytes); kind = Utf8 }) × (length bytes ≤ n) × ¬ IsUtf8 bytes)
-    ⊎ ((length bytes ≤ n) × IsUtf8 bytes × IsFirstFault (lines_in bytes) f))
-fault-bytes n bytes f true text p q e = inl (cc, grind (arith, nat_tests))
-fault-bytes n bytes f false true p q e = inr (inr (grind (arith, nat_tests), IsUtf8-from_is_utf8 bytes q, script_of-Err bytes f e))
-fault-bytes n bytes f false false p q e = inr (inl (cc, grind (arith, nat_tests), no-text bytes q))
+closed-Ok : (ls : List (List ℕ)) (first end : ℕ) (s : Contents) → Block ls first end → ClosedSays (length ls) first (drop first ls) end (Ok s) → IsScriptOf ls s
+closed-Ok ls first end s b (inl (p, means, e)) =
+    inr (policy_script ls first end p s b means
+    (whole-by (length ls) (first + end + 1 + 1) (drop (end + 1) (drop first ls)) (with_policy p) s (with_lines (with_policy p) (first + end + 1 + 1) (drop (end + 1) (drop first ls))) refl (in_result-Ok _ s e)))
+closed-Ok ls first end s b (inr (g, faulty, e)) = absurd cc
 
-pub script_in-Ok : (bytes : List ℕ) (s : Contents) → script_in bytes ≡ Ok s → IsScriptOf (lines_in bytes) s
-unfolding script_in
-script_in-Ok bytes s e = script-bytes bytes s (ltb 1048576 (length bytes)) (is_utf8 bytes) e
+block-Ok : (ls : List (List ℕ)) (place : ℕ) (o : Option ℕ) (s : Contents) → opening ls ≡ Some place → closing (drop (place + 1) ls) ≡ o → BlockSays (length ls) (place + 1) (drop (place + 1) ls) o (Ok s) → IsScriptOf ls s
+block-Ok ls place None s opens closes e = absurd cc
+block-Ok ls place (Some end) s opens closes e = closed-Ok ls (place + 1) end s (block-at ls place end opens closes) e
 
-pub script_in-Err : (bytes : List ℕ) (f : Fault) → script_in bytes ≡ Err f → IsFaultOf bytes f
-unfolding script_in
-script_in-Err bytes f e = fault-bytes 1048576 bytes f (ltb 1048576 (length bytes)) (is_utf8 bytes) refl refl e
+lines-Ok : (ls : List (List ℕ)) (o : Option ℕ) (s : Contents) → opening ls ≡ o → LinesSay ls o (Ok s) → IsScriptOf ls s
+lines-Ok ls None s opens e = inl (triple_script ls s (whole-by (length ls) 1 ls empty s (with_lines empty 1 ls) refl (in_result-Ok _ s e)))
+lines-Ok ls (Some place) s opens e = block-Ok ls place (closing (drop (place + 1) ls)) s opens refl e
+
+-- what the lines say, if it is a fault
+
+none-has : (ls : List (List ℕ)) → NoneOpens ls → HasNone ls
+none-has ls n = record { front = n.front; others = n.others; parts = n.parts; nothing = n.nothing; another = n.another }
+
+open-with : (ls : List (List ℕ)) (place : ℕ) → OpensAt ls place → closing (drop (place + 1) ls) ≡ None → IsOpen ls
+open-with ls place o none = record {
+  front = take place ls;
+  opener = o.opener;
+  block = drop (place + 1) ls;
+  parts = o.parts ∙ (let same : suc place ≡ place + 1 = omega arith in ap (λ (k : ℕ). take place ls ++ o.opener ∷ drop k ls) same);
+  nothing = o.nothing;
+  opens = o.opens;
+  inside = none_closes (drop (place + 1) ls) none;
+}
+
+closed-script : (ls : List (List ℕ)) (first end : ℕ) (f : Fault) → Block ls first end → ClosedSays (length ls) first (drop first ls) end (Err (in_script f)) → IsFaultBehind ls f
+closed-script ls first end f b (inl (p, means, e)) =
+    let r = fault-by (length ls) (first + end + 1 + 1) (drop (end + 1) (drop first ls)) (with_policy p) f (with_lines (with_policy p) (first + end + 1 + 1) (drop (end + 1) (drop first ls))) refl (in_result-script _ f e) in
+    record {
+      block = take end (drop first ls);
+      rest = drop (end + 1) (drop first ls);
+      has = b.has;
+      rights = p;
+      means = means;
+      first = subst (λ (k : ℕ). IsFirstFault (length ls) (with_policy p) k (drop (end + 1) (drop first ls)) f) (number-behind ls first end b) r;
+    }
+closed-script ls first end f b (inr (g, faulty, e)) = absurd cc
+
+block-script : (ls : List (List ℕ)) (place : ℕ) (o : Option ℕ) (f : Fault) → opening ls ≡ Some place → closing (drop (place + 1) ls) ≡ o → BlockSays (length ls) (place + 1) (drop (place + 1) ls) o (Err (in_script f)) → IsFaultOfLines ls f
+block-script ls place None f opens closes e = inr (inl (open-with ls place (opens_at ls place opens) closes, cc))
+block-script ls place (Some end) f opens closes e = inr (inr (closed-script ls (place + 1) end f (block-at ls place end opens closes) e))
+
+lines-script : (ls : List (List ℕ)) (o : Option ℕ) (f : Fault) → opening ls ≡ o → LinesSay ls o (Err (in_script f)) → IsFaultOfLines ls f
+lines-script ls None f opens e = inl (none-has ls (none_opens ls opens), fault-by (length ls) 1 ls empty f (with_lines empty 1 ls) refl (in_result-script _ f e))
+lines-script ls (Some place) f opens e = block-script ls place (closing (drop (place + 1) ls)) f opens refl e
+
+closed-policy : (bytes : List ℕ) (first end : ℕ) (g : policy.Fault) → length bytes ≤ 1048576 → IsUtf8 bytes → Block (lines_in bytes) first end → ClosedSays (length (lines_in bytes)) first (drop first (lines_in bytes)) end (Err (in_policy g)) → IsFaultOfBlock bytes g
+closed-policy bytes first end g short text b (inl (p, means, e)) = absurd (in_result-policy _ g e)
+closed-policy bytes first end g short text b (inr (h, faulty, e)) =
+    let same : h ≡ g = cc in
+    record {
+      short = short;
+      text = text;
+      block = take end (drop first (lines_in bytes));
+      rest = drop (end + 1) (drop first (lines_in bytes));
+      has = b.has;
+      faulty = subst (λ (k : ℕ). IsFaulty k (take end (drop first (lines_in bytes))) g) (sym b.before) (subst (λ (x : policy.Fault). IsFaulty first (take end (drop first (lines_in bytes))) x) same faulty);
+    }
+
+block-policy : (bytes : List ℕ) (place : ℕ) (o : Option ℕ) (g : policy.Fault) → length bytes ≤ 1048576 → IsUtf8 bytes → opening (lines_in bytes) ≡ Some place → closing (drop (place + 1) (lines_in bytes)) ≡ o
+    → BlockSays (length (lines_in bytes)) (place + 1) (drop (place + 1) (lines_in bytes)) o (Err (in_policy g)) → IsFaultOfBlock bytes g
+block-policy bytes place None g short text opens closes e = absurd cc
+block-policy bytes place (Some end) g short text opens closes e = closed-policy bytes (place + 1) end g short text (block-at (lines_in bytes) place end opens closes) e
+
+lines-policy : (bytes : List ℕ) (o : Option ℕ) (g : policy.Fault) → length bytes ≤ 1048576 → IsUtf8 bytes → opening (lines_in bytes) ≡ o → LinesSay (lines_in bytes) o (Err (in_policy g)) → IsFaultOfBlock bytes g
+lines-policy bytes None g short text opens e = absurd (in_result-policy _ g e)
+lines-policy bytes (Some place) g short text opens e = block-policy bytes place (closing (drop (place + 1) (lines_in bytes))) g short text opens refl e
+
+-- what bytes say
+
+tells-Ok : (bytes : List ℕ) (s : Contents) → Tells bytes (Ok s) → IsScriptOf (lines_in bytes) s
+tells-Ok bytes s (inl (long, e)) = absurd cc
+tells-Ok bytes s (inr (inl (short, bad, e))) = absurd cc
+tells-Ok bytes s (inr (inr (short, text, says))) = lines-Ok (lines_in bytes) (opening (lines_in bytes)) s refl says
+
+tells-script : (bytes : List ℕ) (f : Fault) → Tells bytes (Err (in_script f)) → IsFaultOf bytes f
+tells-script bytes f (inl (long, e)) = inl (inl (long, cc))
+tells-script bytes f (inr (inl (short, bad, e))) = inl (inr (short, bad, cc))
+tells-script bytes f (inr (inr (short, text, says))) = inr (short, text, lines-script (lines_in bytes) (opening (lines_in bytes)) f refl says)
+
+tells-policy : (bytes : List ℕ) (g : policy.Fault) → Tells bytes (Err (in_policy g)) → IsFaultOfBlock bytes g
+tells-policy bytes g (inl (long, e)) = absurd cc
+tells-policy bytes g (inr (inl (short, bad, e))) = absurd cc
+tells-policy bytes g (inr (inr (short, text, says))) = lines-policy bytes (opening (lines_in bytes)) g short text refl says
+
+pub answers-script : (bytes : List ℕ) (r : Result Script ScriptError) → Answers r (Tells bytes) → IfOk r (λ s. IsScriptOf (lines_in bytes) s)
+answers-script bytes (Ok s) h = tells-Ok bytes s h
+answers-script bytes (Err e) h = tt
+
+pub answers-fault : (bytes : List ℕ) (r : Result Script ScriptError) → Answers r (Tells bytes) → IfErr r (λ e. Stands bytes e)
+answers-fault bytes (Ok s) h = tt
+answers-fault bytes (Err errors.Memory) h = tt
+answers-fault bytes (Err (errors.Fault f)) h = tells-script bytes f h
+answers-fault bytes (Err (errors.Policy e)) (g, shown, h) = (g, shown, tells-policy bytes g h)
 
 -- a text past the limit is as long as what is read of it
 
-script_in-long : (bytes : List ℕ) → 1048576 < length bytes → script_in bytes ≡ Err (record { line = 1; kind = Limit })
-unfolding script_in
-script_in-long bytes h = let many : ltb 1048576 (length bytes) ≡ true = grind (arith, nat_tests) in rw many refl
+longer : (n : ℕ) (xs : List ℕ) → n < length (take (n + 1) xs) → n < length xs
+longer n xs h = let many : length (take (n + 1) xs) ≤ length xs = rw length-take (omega arith) in omega (arith, many, h)
 
-longer : (n : ℕ) (xs : List ℕ) → n < length xs → n < length (take (n + 1) xs)
-longer n xs h = rw length-take (omega arith)
+take_whole : (n : ℕ) (xs : List ℕ) → length (take (n + 1) xs) ≤ n → take (n + 1) xs ≡ xs
+take_whole n xs h =
+    let few : min (n + 1) (length xs) ≤ n = subst (λ (k : ℕ). k ≤ n) (length-take (n + 1) xs) h in
+    take_all (n + 1) xs (omega (arith, few))
 
-whole : (n : ℕ) (xs : List ℕ) → length xs ≤ n → take (n + 1) xs ≡ xs
-whole n xs h = take_all (n + 1) xs (omega arith)
+tells-all : (all : List ℕ) (told : Result Contents Wrong) → Tells (take 1048577 all) told → Tells all told
+tells-all all told (inl (long, e)) = inl (longer 1048576 all long, e)
+tells-all all told (inr (inl (short, bad, e))) = subst (λ (l : List ℕ). Tells l told) (take_whole 1048576 all short) (inr (inl (short, bad, e)))
+tells-all all told (inr (inr (short, text, says))) = subst (λ (l : List ℕ). Tells l told) (take_whole 1048576 all short) (inr (inr (short, text, says)))
 
-script_in-take : (all : List ℕ) → script_in (take 1048577 all) ≡ script_in all
-script_in-take all = elim (cases_lt 1048576 (length all)) [
-  | inl h ↦ script_in-long (take 1048577 all) (longer 1048576 all h) ∙ sym (script_in-long all h)
-  | inr h ↦ ap script_in (whole 1048576 all h)
-]
+pub answers-all : (bytes all : List ℕ) (r : Result Script ScriptError) → bytes ≡ take 1048577 all → Answers r (Tells bytes) → Answers r (Tells all)
+answers-all bytes all (Ok s) e h = tells-all all (Ok s) (subst (λ (l : List ℕ). Tells l (Ok s)) e h)
+answers-all bytes all (Err errors.Memory) e h = tt
+answers-all bytes all (Err (errors.Fault f)) e h = tells-all all (Err (in_script f)) (subst (λ (l : List ℕ). Tells l (Err (in_script f))) e h)
+answers-all bytes all (Err (errors.Policy fault)) e (g, shown, h) = (g, shown, tells-all all (Err (in_policy g)) (subst (λ (l : List ℕ). Tells l (Err (in_policy g))) e h))
 
--- what bytes say, as an answer that may lack memory has it
+-- from the answers of the parts to those of the whole
 
-pub says-script : (bytes : List ℕ) (r : Result Script ScriptError) → Says r (script_in bytes) → IfOk r (λ s. IsScriptOf (lines_in bytes) s)
-says-script bytes (Ok s) h = script_in-Ok bytes s h
-says-script bytes (Err e) h = tt
+pub answers-lines : (r : Result Script ScriptError) (told : Result Contents Fault) → Says r told → Answers r (λ w. w ≡ in_result told)
+answers-lines (Ok s) told h = ap in_result (sym h)
+answers-lines (Err errors.Memory) told h = tt
+answers-lines (Err (errors.Fault f)) told h = ap in_result (sym h)
+answers-lines (Err (errors.Policy e)) told h = absurd h
 
-pub says-fault : (bytes : List ℕ) (r : Result Script ScriptError) → Says r (script_in bytes) → IfErr r (λ e. Stands bytes e)
-says-fault bytes (Ok s) h = tt
-says-fault bytes (Err errors.Memory) h = tt
-says-fault bytes (Err (errors.Fault f)) h = script_in-Err bytes f h
+pub answers-weaker : (r : Result Script ScriptError) (P Q : Result Contents Wrong → Type 0) → ((w : Result Contents Wrong) → P w → Q w) → Answers r P → Answers r Q
+answers-weaker (Ok s) P Q f h = f (Ok s) h
+answers-weaker (Err errors.Memory) P Q f h = tt
+answers-weaker (Err (errors.Fault g)) P Q f h = f (Err (in_script g)) h
+answers-weaker (Err (errors.Policy e)) P Q f (g, shown, h) = (g, shown, f (Err (in_policy g)) h)
 
-pub says-all : (bytes all : List ℕ) (r : Result Script ScriptError) → bytes ≡ take 1048577 all → Says r (script_in bytes) → Says r (script_in all)
-says-all bytes all r e h = subst (λ said. Says r said) (ap script_in e ∙ script_in-take all) h
+-- a text that is none
+pub answers-unread : (bytes : List ℕ) (f : Fault) → IsUnread bytes f → Tells bytes (Err (in_script f))
+answers-unread bytes f (inl (long, e)) = inl (long, ap (λ (g : Fault). Err (in_script g)) e)
+answers-unread bytes f (inr (short, bad, e)) = inr (inl (short, bad, ap (λ (g : Fault). Err (in_script g)) e))
+
+-- a text
+pub answers-text : (bytes text : List ℕ) (r : Result Script ScriptError) → text ≡ bytes → length bytes ≤ 1048576 → IsUtf8 bytes → Answers r (TextSays text) → Answers r (Tells bytes)
+answers-text bytes text r same short utf8 h =
+    subst (λ (l : List ℕ). Answers r (Tells l)) same (answers-weaker r (TextSays text) (Tells text) (λ w says. inr (inr (subst (λ (l : List ℕ). length l ≤ 1048576) (sym same) short, subst IsUtf8 (sym same) utf8, says))) h)
+
+-- the parts of a text with a policy block
+
+texts-take : (n : ℕ) (ls : List (Bor (List ℕ))) → texts (take n ls) ≡ take n (texts ls)
+texts-take n ls = sym (take-map (λ (l : Bor (List ℕ)). l.now) n ls)
+
+texts-drop : (n : ℕ) (ls : List (Bor (List ℕ))) → texts (drop n ls) ≡ drop n (texts ls)
+texts-drop n ls = sym (drop-map (λ (l : Bor (List ℕ)). l.now) n ls)
+
+take_rest : (n : ℕ) (ls : List (Bor (List ℕ))) → take (length ls - n) (drop n ls) ≡ drop n ls
+take_rest n ls = let few : length (drop n ls) ≤ length ls - n = rw length-drop (omega arith) in take_all (length ls - n) (drop n ls) few
+
+texts-length : (ls : List (Bor (List ℕ))) → length (texts ls) ≡ length ls
+texts-length [] = refl
+texts-length (l ∷ ls) = ap suc (texts-length ls)
+
+-- no line closes the block
+pub block_open : (count first : ℕ) (lines : List (List ℕ)) (o : Option ℕ) → o ≡ closing lines → o ≡ None → BlockSays count first lines (closing lines) (Err (in_script (record { line = count + 1; kind = Syntax })))
+block_open count first lines o closes none =
+    subst (λ (q : Option ℕ). BlockSays count first lines q (Err (in_script (record { line = count + 1; kind = Syntax })))) (sym none ∙ closes) refl
+
+-- a line closes it, and the lines behind it say the rest
+pub block_rest : (count first end : ℕ) (lines : List (Bor (List ℕ))) (p : Rights) (c : Contents) (r : Result Script ScriptError) → Some end ≡ closing (texts lines) → Means (texts (take end lines)) p → c ≡ with_policy p
+    → Says r (whole count c (first + end + 1 + 1) (texts (take (length lines - (end + 1)) (drop (end + 1) lines)))) → Answers r (BlockSays count first (texts lines) (closing (texts lines)))
+block_rest count first end lines p c r closes means starts h =
+    let said : Says r (whole count (with_policy p) (first + end + 1 + 1) (drop (end + 1) (texts lines))) =
+    subst (λ (l : List (List ℕ)). Says r (whole count (with_policy p) (first + end + 1 + 1) l)) (ap texts (take_rest (end + 1) lines) ∙ texts-drop (end + 1) lines)
+    (subst (λ (k : Contents). Says r (whole count k (first + end + 1 + 1) (texts (take (length lines - (end + 1)) (drop (end + 1) lines))))) starts h) in
+    let meant : Means (take end (texts lines)) p = subst (λ (l : List (List ℕ)). Means l p) (texts-take end lines) means in
+    subst (λ (q : Option ℕ). Answers r (BlockSays count first (texts lines) q)) closes
+    (answers-weaker r (λ w. w ≡ in_result (whole count (with_policy p) (first + end + 1 + 1) (drop (end + 1) (texts lines)))) (ClosedSays count first (texts lines) end) (λ w e. inl (p, meant, e)) (answers-lines r _ said))
+
+block-fault : (count first end : ℕ) (lines : List (List ℕ)) (error : ScriptError) → IsPolicyOf first (take end lines) (Err error) → Answers (Err error) (ClosedSays count first lines end)
+block-fault count first end lines errors.Memory h = tt
+block-fault count first end lines (errors.Fault f) h = absurd h
+block-fault count first end lines (errors.Policy e) (g, shown, faulty) = (g, shown, inr (g, faulty, refl))
+
+pub block_faulty : (count first end : ℕ) (lines : List (Bor (List ℕ))) (error : ScriptError) → Some end ≡ closing (texts lines) → IsPolicyOf first (texts (take end lines)) (Err error)
+    → Answers (Err error) (BlockSays count first (texts lines) (closing (texts lines)))
+block_faulty count first end lines error closes h =
+    subst (λ (q : Option ℕ). Answers (Err error) (BlockSays count first (texts lines) q)) closes
+    (block-fault count first end (texts lines) error (subst (λ (l : List (List ℕ)). IsPolicyOf first l (Err error)) (texts-take end lines) h))
+
+-- lines with a block
+pub lines_block : (lines : List (Bor (List ℕ))) (place : ℕ) (r : Result Script ScriptError) → Some place ≡ opening (texts lines)
+    → (let behind : List (Bor (List ℕ)) = take (length lines - (place + 1)) (drop (place + 1) lines) in Answers r (BlockSays (length lines) (place + 1) (texts behind) (closing (texts behind)))) → Answers r (LinesSay (texts lines) (opening (texts lines)))
+lines_block lines place r opens h =
+    subst (λ (q : Option ℕ). Answers r (LinesSay (texts lines) q)) opens
+    (subst (λ (k : ℕ). Answers r (BlockSays k (place + 1) (drop (place + 1) (texts lines)) (closing (drop (place + 1) (texts lines))))) (sym (texts-length lines))
+    (subst (λ (l : List (List ℕ)). Answers r (BlockSays (length lines) (place + 1) l (closing l))) (ap texts (take_rest (place + 1) lines) ∙ texts-drop (place + 1) lines) h))
+
+-- lines without one
+pub lines_none : (lines : List (Bor (List ℕ))) (c : Contents) (o : Option ℕ) (r : Result Script ScriptError) → o ≡ opening (texts lines) → o ≡ None → c ≡ empty
+    → Says r (whole (length lines) c (0 + 1) (texts lines)) → Answers r (LinesSay (texts lines) (opening (texts lines)))
+lines_none lines c o r opens none starts h =
+    let said : Says r (whole (length (texts lines)) empty 1 (texts lines)) =
+    subst (λ (k : ℕ). Says r (whole k empty 1 (texts lines))) (sym (texts-length lines)) (subst (λ (k : Contents). Says r (whole (length lines) k 1 (texts lines))) starts h) in
+    subst (λ (q : Option ℕ). Answers r (LinesSay (texts lines) q)) (sym none ∙ opens) (answers-lines r (whole (length (texts lines)) empty 1 (texts lines)) said)
+
+-- the policy of a block's text
+
+shown-fault : (before line : ℕ) (kind : kinds.FaultKind) (lines : List (List ℕ)) → ((f : policy.Fault) → fault_shown (record { line = line; kind = kind }) ≡ Some f → policies.Says (block_text lines) (Err f))
+    → IsPolicyOf before lines (Err (error_in_block (before + line) kind))
+shown-fault before line kind.Memory lines says = tt
+shown-fault before line kind.Syntax lines says = (_, refl, (_, says _ refl, refl))
+shown-fault before line (kind.Unknown name) lines says = (_, refl, (_, says _ refl, refl))
+shown-fault before line (kind.Twice name) lines says = (_, refl, (_, says _ refl, refl))
+shown-fault before line (kind.Permission name) lines says = (_, refl, (_, says _ refl, refl))
+shown-fault before line (kind.Outside word) lines says = (_, refl, (_, says _ refl, refl))
+shown-fault before line kind.Limit lines says = (_, refl, (_, says _ refl, refl))
+
+pub policy_faulty : (before line : ℕ) (kind : kinds.FaultKind) (lines : List (List ℕ)) (text : List ℕ) (error : ScriptError) → text ≡ block_text lines
+    → ((f : policy.Fault) → fault_shown (record { line = line; kind = kind }) ≡ Some f → policies.Says text (Err f)) → error ≡ error_in_block (before + line) kind → IsPolicyOf before lines (Err error)
+policy_faulty before line kind lines text error same says is =
+    subst (λ (e : ScriptError). IsPolicyOf before lines (Err e)) (sym is) (shown-fault before line kind lines (λ f shown. subst (λ (t : List ℕ). policies.Says t (Err f)) same (says f shown)))
+
+-- the names of a policy's types, one more
+pub name_more : (types names after : List (List ℕ)) (i : ℕ) (name : List ℕ) → names ≡ take i types → Some name ≡ slice_get types i → after ≡ names ++ name ∷ [] → after ≡ take (i + 1) types
+name_more types names after i name so_far there pushed =
+    let within : i < length types = slice_get_within types i name (sym there) in
+    let is : get_or types i name ≡ name = get_or_from_slice_get types i name name (sym there) in
+    pushed ∙ ap (λ (l : List (List ℕ)). l ++ name ∷ []) so_far ∙ ap (λ (x : List ℕ). take i types ++ x ∷ []) (sym is) ∙ sym (rw add-one (take-suc types i name within))

@@ -18,8 +18,9 @@ use Rattle.gt_script.specs.Numbers.{number_below}
 use Rattle.gt_script.specs.Fields.{◌>>=◌}
 use Rattle.gt_script.specs.Lines.{line_of}
 use Rattle.gt_script.specs.Types.{with_type}
-use Rattle.gt_script.specs.Contents.{Contents}
-use Rattle.gt_script.specs.Script.{is_empty, is_misplaced, or_config, domain_written, with_triple, with_domain, with_step, with_placed, with_line, with_words, with_lines}
+use Rattle.gt_policy.specs.Allowing.{Rights, type_named}
+use Rattle.gt_script.specs.Contents.{Contents, names_with}
+use Rattle.gt_script.specs.Script.{is_empty, is_misplaced, has_no_rights, or_config, domain_written, with_triple, type_in, with_domain, with_step, with_placed, with_line, with_words, with_lines}
 use Rattle.gt_script.specs.Laws.{said, type_number, triple_in, wear_in, domain_in, step_on, IsLine}
 use Rattle.gt_script.specs.declared.numbers.Number.{Number}
 use Rattle.gt_script.specs.declared.calls.Action.{Action}
@@ -82,16 +83,20 @@ taken-push ds d id h = list_any-append (λ (e : DomainConfig). e.id.0 == id.0) d
 
 -- what the line l, if it says one, adds to a script as line n
 record Adds (n : ℕ) (l : Option Line) (c d : Contents) : Type 0 where
+  policy : d.policy ≡ c.policy
+  no_triples : (p : Rights) → c.policy ≡ Some p → d.triples ≡ c.triples
   types : Grown c.types d.types
   triples : (types : List (List ℕ)) → Grown d.types types → d.triples ≡ c.triples ++ option_to_list (l >>= triple_in types)
   wear : option_to_list d.wear ≡ option_to_list c.wear ++ option_to_list (l >>= wear_in)
-  domains : (types : List (List ℕ)) → Grown d.types types → d.domains ≡ c.domains ++ option_to_list (l >>= domain_in types)
+  domains : (types : List (List ℕ)) → Grown d.types types → d.domains ≡ c.domains ++ option_to_list (l >>= domain_in (names_with c.policy types))
   steps : d.steps ≡ c.steps ++ option_to_list (l >>= step_on n)
   faultless : AreFaultless c.domains → AreFaultless d.domains
   configured : All (λ (s : Step). IsTrue (is_taken c.domains s.dom)) c.steps → All (λ (s : Step). IsTrue (is_taken d.domains s.dom)) d.steps
 
 adds-nothing : (n : ℕ) (c : Contents) → Adds n None c c
 adds-nothing n c = record {
+  policy = refl;
+  no_triples = λ p e. refl;
   types = Grown-refl c.types;
   triples = λ types g. sym (append-nil c.triples);
   wear = sym (append-nil (option_to_list c.wear));
@@ -104,12 +109,14 @@ adds-nothing n c = record {
 bind-at : {A B : Type 0} (o : Option A) (x : A) (f : A → Option B) → o ≡ Some x → (o >>= f) ≡ f x
 bind-at o x f e = ap (λ (q : Option _). q >>= f) e
 
-adds-triple-of : (n : ℕ) (c d : Contents) (t : TripleLine) (source target : List (List ℕ) × TypeId) → with_type c.types t.source ≡ Some source → with_type source.0 t.target ≡ Some target
+adds-triple-of : (n : ℕ) (c d : Contents) (t : TripleLine) (source target : List (List ℕ) × TypeId) → c.policy ≡ None → with_type c.types t.source ≡ Some source → with_type source.0 t.target ≡ Some target
     → record c { types = target.0; triples = c.triples ++ record { source = source.1; target = target.1; perm = t.perm } ∷ [] } ≡ d → Adds n (Some (line.Triple t)) c d
-adds-triple-of n c d t source target s r same =
+adds-triple-of n c d t source target free s r same =
     let a = with_type-Typed c.types t.source source s in
     let b = with_type-Typed source.0 t.target target r in
     subst (λ (x : Contents). Adds n (Some (line.Triple t)) c x) same (record {
+      policy = refl;
+      no_triples = λ p e. absurd (cc (e, free));
       types = Grown-trans c.types source.0 target.0 a.grown b.grown;
       triples = λ types g.
           let first : type_number types t.source ≡ Some source.1 = g.kept _ _ (b.grown.kept _ _ a.number) in
@@ -123,24 +130,40 @@ adds-triple-of n c d t source target s r same =
       configured = λ h. h;
     })
 
-adds-triple : (n : ℕ) (c d : Contents) (t : TripleLine) → with_triple c t ≡ Ok d → Adds n (Some (line.Triple t)) c d
+adds-triple : (n : ℕ) (c d : Contents) (t : TripleLine) → c.policy ≡ None → with_triple c t ≡ Ok d → Adds n (Some (line.Triple t)) c d
 unfolding with_triple
-adds-triple n c d t e =
+adds-triple n c d t free e =
     let p = bind-Some _ _ d (or_config-Ok _ d e) in
     let q = bind-Some _ _ d p.2 in
-    adds-triple-of n c d t p.0 q.0 p.1 q.1 (same_Some _ _ q.2)
+    adds-triple-of n c d t p.0 q.0 free p.1 q.1 (same_Some _ _ q.2)
 
-adds-domain-of : (n : ℕ) (c d : Contents) (l : DomainLine) (label : List (List ℕ) × TypeId) (domain : DomainConfig) → with_type c.types l.type_name ≡ Some label → domain_written l label.1 ≡ Some domain
+-- the number that a domain's type has, with the names after its line
+record TypeIn (policy : Option Rights) (types : List (List ℕ)) (name : List ℕ) (label : List (List ℕ) × TypeId) : Type 0 where
+  grown : Grown types label.0
+  number : (later : List (List ℕ)) → Grown label.0 later → type_number (names_with policy later) name ≡ Some label.1
+
+declared-as : (types : List (List ℕ)) (o : Option TypeId) (label : List (List ℕ) × TypeId) → option_map (λ id. (types, id)) o ≡ Some label → (types ≡ label.0) × (o ≡ Some label.1)
+declared-as types None label e = absurd cc
+declared-as types (Some id) label e = let same : (types, id) ≡ label = same_Some _ _ e in (ap (λ (l : List (List ℕ) × TypeId). l.0) same, ap (λ (l : List (List ℕ) × TypeId). Some l.1) same)
+
+type_in-Is : (policy : Option Rights) (types : List (List ℕ)) (name : List ℕ) (label : List (List ℕ) × TypeId) → type_in policy types name ≡ Some label → TypeIn policy types name label
+type_in-Is None types name label e = let a = with_type-Typed types name label e in record { grown = a.grown; number = λ later g. g.kept _ _ a.number }
+type_in-Is (Some p) types name label e =
+    let is = declared-as types (type_named p.types name) label e in
+    record { grown = subst (λ (l : List (List ℕ)). Grown types l) is.0 (Grown-refl types); number = λ later g. is.1 }
+
+adds-domain-of : (n : ℕ) (c d : Contents) (l : DomainLine) (label : List (List ℕ) × TypeId) (domain : DomainConfig) → type_in c.policy c.types l.type_name ≡ Some label → domain_written l label.1 ≡ Some domain
     → is_none (domain_fault c.domains domain) ≡ true → record c { types = label.0; domains = c.domains ++ domain ∷ [] } ≡ d → Adds n (Some (line.Domain l)) c d
 adds-domain-of n c d l label domain t w fine same =
-    let a = with_type-Typed c.types l.type_name label t in
+    let a = type_in-Is c.policy c.types l.type_name label t in
     subst (λ (x : Contents). Adds n (Some (line.Domain l)) c x) same (record {
+      policy = refl;
+      no_triples = λ p e. refl;
       types = a.grown;
       triples = λ types g. sym (append-nil c.triples);
       wear = sym (append-nil (option_to_list c.wear));
       domains = λ types g.
-          let number : type_number types l.type_name ≡ Some label.1 = g.kept _ _ a.number in
-          let said : domain_in types (line.Domain l) ≡ Some domain = bind-at _ _ _ number ∙ w in
+          let said : domain_in (names_with c.policy types) (line.Domain l) ≡ Some domain = bind-at _ _ _ (a.number types g) ∙ w in
           ap (λ (o : Option DomainConfig). c.domains ++ option_to_list o) (sym said);
       steps = sym (append-nil c.steps);
       faultless = λ h. faultless-push c.domains domain h (none-is _ fine);
@@ -159,6 +182,8 @@ adds-step-of : (n : ℕ) (c d : Contents) (number : Number) (action : Action) (i
     → record c { steps = c.steps ++ record { line = n; dom = record { 0 = id }; action = action } ∷ [] } ≡ d → Adds n (Some (line.Body number action)) c d
 adds-step-of n c d number action id small taken same =
     subst (λ (x : Contents). Adds n (Some (line.Body number action)) c x) same (record {
+      policy = refl;
+      no_triples = λ p e. refl;
       types = Grown-refl c.types;
       triples = λ types g. sym (append-nil c.triples);
       wear = sym (append-nil (option_to_list c.wear));
@@ -177,12 +202,16 @@ adds-step n c d number action e =
     let r = then-Some _ _ d p.2 in
     adds-step-of n c d number action p.0 p.1 r.0 r.1
 
--- a line in its place that gives the first generation is the first to do so
+-- a line in its place that gives the first generation is the first to do so, and a triple stands behind no policy
 
 no-wear : (a b c : Bool) → ((a || b) || c) ≡ false → b ≡ false
 no-wear true b c h = absurd cc
 no-wear false true c h = absurd cc
 no-wear false false c h = refl
+
+first-false : (a b c : Bool) → ((a || b) || c) ≡ false → a ≡ false
+first-false true b c h = absurd cc
+first-false false b c h = refl
 
 none-yet : {A : Type 0} (o : Option A) → is_some o ≡ false → o ≡ None
 none-yet None h = refl
@@ -191,6 +220,8 @@ none-yet (Some x) h = absurd cc
 adds-wear : (n : ℕ) (c d : Contents) (first : ℕ) → c.wear ≡ None → record c { wear = Some first } ≡ d → Adds n (Some (line.Wear first)) c d
 adds-wear n c d first fresh same =
     subst (λ (x : Contents). Adds n (Some (line.Wear first)) c x) same (record {
+      policy = refl;
+      no_triples = λ p e. refl;
       types = Grown-refl c.types;
       triples = λ types g. sym (append-nil c.triples);
       wear = ap (λ (o : Option ℕ). option_to_list o ++ first ∷ []) (sym fresh);
@@ -202,9 +233,9 @@ adds-wear n c d first fresh same =
 
 adds-placed : (n : ℕ) (c d : Contents) (l : Line) → is_misplaced c l ≡ false → with_placed c n l ≡ Ok d → Adds n (Some l) c d
 unfolding is_misplaced
-adds-placed n c d (line.Triple t) p e = adds-triple n c d t e
+adds-placed n c d (line.Triple t) p e = adds-triple n c d t (none-yet c.policy (first-false (is_some c.policy) (is_some c.wear) (not (is_empty c.domains)) p)) e
 adds-placed n c d (line.Wear first) p e =
-    let fresh : c.wear ≡ None = none-yet c.wear (no-wear (is_empty c.triples) (is_some c.wear) (not (is_empty c.domains)) p) in
+    let fresh : c.wear ≡ None = none-yet c.wear (no-wear (has_no_rights c) (is_some c.wear) (not (is_empty c.domains)) p) in
     let same : record c { wear = Some first } ≡ d = cc in
     adds-wear n c d first fresh same
 adds-placed n c d (line.Domain l) p e = adds-domain n c d l e
@@ -233,11 +264,13 @@ said-words n (w ∷ ws) c d e = said-some n w ws c d (line_of (w ∷ ws)) refl e
 
 -- what the lines from number n on add to a script
 pub record Extends (n : ℕ) (ls : List (List ℕ)) (c d : Contents) : Type 0 where
+  pub policy : d.policy ≡ c.policy
+  pub no_triples : (p : Rights) → c.policy ≡ Some p → d.triples ≡ c.triples
   pub readable : All IsLine ls
   pub types : Grown c.types d.types
   pub triples : (types : List (List ℕ)) → Grown d.types types → d.triples ≡ c.triples ++ filter_map (λ l. triple_in types l.1) (said n ls)
   pub wear : option_to_list d.wear ≡ option_to_list c.wear ++ filter_map (λ l. wear_in l.1) (said n ls)
-  pub domains : (types : List (List ℕ)) → Grown d.types types → d.domains ≡ c.domains ++ filter_map (λ l. domain_in types l.1) (said n ls)
+  pub domains : (types : List (List ℕ)) → Grown d.types types → d.domains ≡ c.domains ++ filter_map (λ l. domain_in (names_with c.policy types) l.1) (said n ls)
   pub steps : d.steps ≡ c.steps ++ filter_map (λ l. step_on l.0 l.1) (said n ls)
   pub faultless : AreFaultless c.domains → AreFaultless d.domains
   pub configured : All (λ (s : Step). IsTrue (is_taken c.domains s.dom)) c.steps → All (λ (s : Step). IsTrue (is_taken d.domains s.dom)) d.steps
@@ -258,14 +291,17 @@ extends-cons : (n : ℕ) (l : List ℕ) (ls : List (List ℕ)) (c d e : Contents
 extends-cons n l ls c d e a x =
     let here = a.adds in
     record {
+      policy = x.policy ∙ here.policy;
+      no_triples = λ p e. x.no_triples p (here.policy ∙ e) ∙ here.no_triples p e;
       readable = All-cons IsLine l ls a.readable x.readable;
       types = Grown-trans c.types d.types e.types here.types x.types;
       triples = λ types g. joined c.triples d.triples e.triples _ _ (here.triples types (Grown-trans _ _ _ x.types g)) (x.triples types g)
           ∙ ap (λ (ts : List Triple). c.triples ++ ts) (sym (filter-cons (λ _ y. triple_in types y) n (line_of (words l)) (said (n + 1) ls)));
       wear = joined (option_to_list c.wear) (option_to_list d.wear) (option_to_list e.wear) _ _ here.wear x.wear
           ∙ ap (λ (gs : List ℕ). option_to_list c.wear ++ gs) (sym (filter-cons (λ _ y. wear_in y) n (line_of (words l)) (said (n + 1) ls)));
-      domains = λ types g. joined c.domains d.domains e.domains _ _ (here.domains types (Grown-trans _ _ _ x.types g)) (x.domains types g)
-          ∙ ap (λ (ds : List DomainConfig). c.domains ++ ds) (sym (filter-cons (λ _ y. domain_in types y) n (line_of (words l)) (said (n + 1) ls)));
+      domains = λ types g. joined c.domains d.domains e.domains _ _ (here.domains types (Grown-trans _ _ _ x.types g))
+          (subst (λ (q : Option Rights). e.domains ≡ d.domains ++ filter_map (λ l. domain_in (names_with q types) l.1) (said (n + 1) ls)) here.policy (x.domains types g))
+          ∙ ap (λ (ds : List DomainConfig). c.domains ++ ds) (sym (filter-cons (λ _ y. domain_in (names_with c.policy types) y) n (line_of (words l)) (said (n + 1) ls)));
       steps = joined c.steps d.steps e.steps _ _ here.steps x.steps
           ∙ ap (λ (ss : List Step). c.steps ++ ss) (sym (filter-cons step_on n (line_of (words l)) (said (n + 1) ls)));
       faultless = λ h. x.faultless (here.faultless h);
@@ -282,6 +318,8 @@ pub with_lines-Extends : (n : ℕ) (ls : List (List ℕ)) (c e : Contents) → w
 with_lines-Extends n [] c e h =
     let same : c ≡ e = cc in
     subst (λ (x : Contents). Extends n [] c x) same (record {
+      policy = refl;
+      no_triples = λ p e. refl;
       readable = All-nil IsLine;
       types = Grown-refl c.types;
       triples = λ types g. sym (append-nil c.triples);

@@ -1,4 +1,4 @@
-pub mod BytesLemmas
+pub mod BlockLemmas
 pub mod FaultLemmas
 pub mod HexadecimalLemmas
 pub mod LawLemmas

@@ -1,4 +1,4 @@
-use Rattle.std.proofs.Common.{◌≡◌, ℕ, ◌+◌, ◌<◌, List, ◌∷◌, length, map, drop, get_or, Result, Ok, Err, ap, ◌∙◌, Bor}
+use Rattle.std.proofs.Common.{◌≡◌, ℕ, ◌+◌, ◌<◌, List, ◌∷◌, length, map, drop, get_or, Result, Ok, Err, ap, ◌∙◌, Bor, arith}
 use Rattle.std.proofs.lemmas.List.{at_drop_more}
 use Rattle.gt_script.specs.Words.{words}
 use Rattle.gt_script.specs.Contents.{Contents}
@@ -14,14 +14,16 @@ with_lines-step : (c : Contents) (n : ℕ) (line : List ℕ) (ls : List (List �
 with_lines-step c n line ls r e =
     ap (λ (q : Result Contents FaultKind). elim q [ Ok d ↦ with_lines d (n + 1) ls | Err kind ↦ Err (record { line = n; kind = kind }) ]) e
 
-pub step_ok : (lines : List (Bor (List ℕ))) (c d : Contents) (i : ℕ) (x : Bor (List ℕ)) → i < length lines → with_words c (i + 1) (words (get_or lines i x).now) ≡ Ok d
-    → with_lines c (i + 1) (texts (drop i lines)) ≡ with_lines d (i + 1 + 1) (texts (drop (i + 1) lines))
-step_ok lines c d i x h e =
-    at_drop_more (λ rest. with_lines c (i + 1) (texts rest)) lines i x h
-    ∙ with_lines-step c (i + 1) (get_or lines i x).now (texts (drop (i + 1) lines)) (Ok d) e
+pub step_ok : (lines : List (Bor (List ℕ))) (c d : Contents) (before i : ℕ) (x : Bor (List ℕ)) → i < length lines → with_words c (before + i + 1) (words (get_or lines i x).now) ≡ Ok d
+    → with_lines c (before + i + 1) (texts (drop i lines)) ≡ with_lines d (before + (i + 1) + 1) (texts (drop (i + 1) lines))
+step_ok lines c d before i x h e =
+    let next : before + i + 1 + 1 ≡ before + (i + 1) + 1 = omega arith in
+    at_drop_more (λ rest. with_lines c (before + i + 1) (texts rest)) lines i x h
+    ∙ with_lines-step c (before + i + 1) (get_or lines i x).now (texts (drop (i + 1) lines)) (Ok d) e
+    ∙ ap (λ (n : ℕ). with_lines d n (texts (drop (i + 1) lines))) next
 
-pub step_err : (lines : List (Bor (List ℕ))) (c : Contents) (kind : FaultKind) (i : ℕ) (x : Bor (List ℕ)) → i < length lines → with_words c (i + 1) (words (get_or lines i x).now) ≡ Err kind
-    → with_lines c (i + 1) (texts (drop i lines)) ≡ Err (record { line = i + 1; kind = kind })
-step_err lines c kind i x h e =
-    at_drop_more (λ rest. with_lines c (i + 1) (texts rest)) lines i x h
-    ∙ with_lines-step c (i + 1) (get_or lines i x).now (texts (drop (i + 1) lines)) (Err kind) e
+pub step_err : (lines : List (Bor (List ℕ))) (c : Contents) (kind : FaultKind) (before i : ℕ) (x : Bor (List ℕ)) → i < length lines → with_words c (before + i + 1) (words (get_or lines i x).now) ≡ Err kind
+    → with_lines c (before + i + 1) (texts (drop i lines)) ≡ Err (record { line = before + i + 1; kind = kind })
+step_err lines c kind before i x h e =
+    at_drop_more (λ rest. with_lines c (before + i + 1) (texts rest)) lines i x h
+    ∙ with_lines-step c (before + i + 1) (get_or lines i x).now (texts (drop (i + 1) lines)) (Err kind) e

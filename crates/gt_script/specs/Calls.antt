@@ -89,6 +89,33 @@ load_of (label ∷ off ∷ len ∷ []) = do
   Some (calls.Load l o n)
 load_of _ = None
 
+-- what stands after `store`: LABEL OFF HEX (own)
+unfoldable pub store_of : List (List ℕ) → Option Call
+store_of (label ∷ off ∷ digits ∷ []) = do
+  l ← text_where label_word label
+  o ← u16_word off
+  h ← text_where hex_word digits
+  Some (calls.Store l o h)
+store_of _ = None
+
+-- what stands after `peek`: FRAME OFF LEN (own)
+unfoldable pub peek_of : List (List ℕ) → Option Call
+peek_of (frame ∷ off ∷ len ∷ []) = do
+  f ← u64_word frame
+  o ← u16_word off
+  n ← u16_word len
+  Some (calls.Peek f o n)
+peek_of _ = None
+
+-- what stands after `poke`: FRAME OFF HEX (own)
+unfoldable pub poke_of : List (List ℕ) → Option Call
+poke_of (frame ∷ off ∷ digits ∷ []) = do
+  f ← u64_word frame
+  o ← u16_word off
+  h ← text_where hex_word digits
+  Some (calls.Poke f o h)
+poke_of _ = None
+
 -- what stands after `revoke`: REF (own)
 unfoldable pub revoke_of : List (List ℕ) → Option Call
 revoke_of (gref ∷ []) = do
@@ -146,13 +173,16 @@ call_of (word ∷ args) = if bytes_eq word (codes "grant") then grant_of args
     else (if bytes_eq word (codes "map") then map_of args
     else (if bytes_eq word (codes "unmap") then unmap_of args
     else (if bytes_eq word (codes "load") then load_of args
+    else (if bytes_eq word (codes "store") then store_of args
+    else (if bytes_eq word (codes "peek") then peek_of args
+    else (if bytes_eq word (codes "poke") then poke_of args
     else (if bytes_eq word (codes "revoke") then revoke_of args
     else (if bytes_eq word (codes "demote") then demote_of args
     else (if bytes_eq word (codes "promote") then promote_of args
     else (if bytes_eq word (codes "version") then version_of args
     else (if bytes_eq word (codes "setup") then setup_of args
     else (if bytes_eq word (codes "size") then size_of args
-    else (if bytes_eq word (codes "getversion") then getversion_of args else None)))))))))))
+    else (if bytes_eq word (codes "getversion") then getversion_of args else None))))))))))))))
 
 -- what stands after `tick` and its domain: N (own)
 unfoldable pub tick_of : List (List ℕ) → Option Action

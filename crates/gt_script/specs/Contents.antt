@@ -1,12 +1,14 @@
 -- What a script holds.
-use Rattle.std.specs.Prelude.{ℕ, List, [], Option, None}
+use Rattle.std.specs.Prelude.{ℕ, List, [], Option, Some, None}
 use Rattle.std.specs.Option.{unwrap_or}
 use Rattle.gt_types.specs.declared.rights.Triple.{Triple}
 use Rattle.gt_types.specs.declared.config.DomainConfig.{DomainConfig}
+use Rattle.gt_policy.specs.Allowing.{Rights}
 use Rattle.gt_script.specs.declared.script.Step.{Step}
 
--- the names of its types, by their numbers; its triples, domains and steps in the order of their lines; and the number of its line `wear`, where it has one (own)
+-- the policy of its block, where it has one; else the names of its types, by their numbers, and its triples; its domains and steps; all in the order of their lines; and the number of its line `wear`, where it has one (own)
 pub record Contents : Type 0 where
+  pub policy : Option Rights
   pub types : List (List ℕ)
   pub triples : List Triple
   pub wear : Option ℕ
@@ -15,7 +17,20 @@ pub record Contents : Type 0 where
 
 -- a script of no line (own)
 abbrev pub empty : Contents
-empty = record { types = []; triples = []; wear = None; domains = []; steps = [] }
+empty = record { policy = None; types = []; triples = []; wear = None; domains = []; steps = [] }
+
+-- a script of a policy block alone (own)
+abbrev pub with_policy : Rights → Contents
+with_policy p = record empty { policy = Some p }
+
+-- the names of the types, with these where there is no policy (own)
+abbrev pub names_with : Option Rights → List (List ℕ) → List (List ℕ)
+names_with None types = types
+names_with (Some p) types = p.types
+
+-- the names of the types, by their numbers (own)
+abbrev pub type_names : Contents → List (List ℕ)
+type_names c = names_with c.policy c.types
 
 -- the first generation of all entries: 0 where no line gives it (own)
 abbrev pub first_gen : Contents → ℕ

@@ -1,6 +1,8 @@
 -- The texts of faults (own).
-use Rattle.std.specs.Prelude.{ℕ, List, ◌++◌, codes}
+use Rattle.std.specs.Prelude.{ℕ, List, ◌++◌, Option, Some, None, codes}
 use Rattle.std.specs.Fmt.{decimal}
+use Rattle.gt_policy.specs.declared.parse.FaultKind as policy
+use Rattle.gt_policy.specs.declared.parse.FaultKind.TheVariants as kinds
 use Rattle.gt_script.specs.declared.faults.FaultKind.{FaultKind}
 use Rattle.gt_script.specs.declared.faults.FaultKind.TheVariants.{Limit, Utf8, Syntax, Config}
 use Rattle.gt_script.specs.declared.faults.Fault.{Fault}
@@ -19,7 +21,18 @@ fault_word Config = codes "config"
 abbrev pub fault_text : Fault → List ℕ
 fault_text f = codes "line " ++ decimal f.line ++ codes ": " ++ fault_word f.kind
 
--- why there is no script (own)
-abbrev pub error_text : ScriptError → List ℕ
-error_text Memory = codes "memory"
-error_text (errors.Fault f) = fault_text f
+-- why there is no script; of a fault of a policy nothing is said here (own)
+abbrev pub error_text : ScriptError → Option (List ℕ)
+error_text Memory = Some (codes "memory")
+error_text (errors.Fault f) = Some (fault_text f)
+error_text (errors.Policy f) = None
+
+-- a kind of fault of a policy on this line of a script, where it is not want of memory (own)
+abbrev pub error_in_block : ℕ → policy.FaultKind → ScriptError
+error_in_block line kinds.Memory = Memory
+error_in_block line kinds.Syntax = errors.Policy (record { line = line; kind = kinds.Syntax })
+error_in_block line (kinds.Unknown name) = errors.Policy (record { line = line; kind = kinds.Unknown name })
+error_in_block line (kinds.Twice name) = errors.Policy (record { line = line; kind = kinds.Twice name })
+error_in_block line (kinds.Permission name) = errors.Policy (record { line = line; kind = kinds.Permission name })
+error_in_block line (kinds.Outside word) = errors.Policy (record { line = line; kind = kinds.Outside word })
+error_in_block line kinds.Limit = errors.Policy (record { line = line; kind = kinds.Limit })

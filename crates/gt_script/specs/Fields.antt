@@ -4,11 +4,9 @@ use Rattle.std.specs.List.{list_all}
 use Rattle.std.specs.Prelude.{◌||◌, ◌&&◌, ◌==◌, nat_le, length, ℕ, ◌+◌, ◌^◌, Bool, true, false, List, [], ◌∷◌, Option, Some, None, if◌then◌else◌, codes}
 use Rattle.std.specs.Option.{option_map}
 use Rattle.std.specs.Str.{bytes_eq}
-use Rattle.gt_types.specs.Names.{map_read, map_write, unmap, transfer, setup, copy, query}
 use Rattle.gt_types.specs.declared.limits.TheConstants.{LAST_GENERATION}
 use Rattle.gt_types.specs.declared.DomId.{DomId}
 use Rattle.gt_types.specs.declared.GrantRef.{GrantRef}
-use Rattle.gt_types.specs.declared.perms.Perms.{Perms}
 use Rattle.gt_script.specs.Numbers.{decimal_value, below}
 
 infixl 10 ◌>>=◌
@@ -82,16 +80,6 @@ tick_word word = do
 -- a generation of an entry, of which there is a last (own)
 unfoldable pub generation_word : List ℕ → Option ℕ
 generation_word word = number_word (LAST_GENERATION + 1) word
-
--- the seven permissions of class `grant`, as XSM FLASK names them
-unfoldable pub permission_word : List ℕ → Option Perms
-permission_word word = if bytes_eq word (codes "map_read") then Some map_read
-    else (if bytes_eq word (codes "map_write") then Some map_write
-    else (if bytes_eq word (codes "unmap") then Some unmap
-    else (if bytes_eq word (codes "transfer") then Some transfer
-    else (if bytes_eq word (codes "setup") then Some setup
-    else (if bytes_eq word (codes "copy") then Some copy
-    else (if bytes_eq word (codes "query") then Some query else None))))))
 
 -- a word that passes a test (own)
 abbrev pub text_where : (List ℕ → Bool) → List ℕ → Option (List ℕ)

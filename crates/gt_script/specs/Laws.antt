@@ -1,5 +1,5 @@
 -- What the parts of a script are, said without the order of reading (own).
-use Rattle.std.specs.Prelude.{◌≡◌, ◌≢◌, ◌≤◌, ◌<◌, ◌+◌, ◌^◌, ◌⊎◌, ℕ, List, [], length, take, Option, Some, None, Ok, Err, IsSome, IsTrue, All, AllPairs, position, slice_get}
+use Rattle.std.specs.Prelude.{◌≡◌, ◌≢◌, ◌≤◌, ◌<◌, ◌+◌, ◌^◌, ◌⊎◌, ℕ, List, [], ◌∷◌, ◌++◌, length, take, Option, Some, None, Ok, Err, IsSome, IsTrue, All, AllPairs, position, slice_get, codes}
 use Rattle.std.specs.Option.{option_map, option_to_list}
 use Rattle.std.specs.List.{filter_map, enumerate_from}
 use Rattle.std.specs.Str.{bytes_eq, IsUtf8}
@@ -10,11 +10,14 @@ use Rattle.gt_types.specs.declared.limits.TheConstants.{LAST_GENERATION}
 use Rattle.gt_types.specs.declared.TypeId.{TypeId}
 use Rattle.gt_types.specs.declared.rights.Triple.{Triple}
 use Rattle.gt_types.specs.declared.config.DomainConfig.{DomainConfig}
+use Rattle.gt_policy.specs.Allowing.{Rights}
+use Rattle.gt_policy.specs.declared.fault.Fault as policy
+use Rattle.gt_script.specs.Blocks.{Means, IsFaulty, block_fault_shown}
 use Rattle.gt_script.specs.Words.{words}
 use Rattle.gt_script.specs.Numbers.{number_below}
 use Rattle.gt_script.specs.Fields.{◌>>=◌}
 use Rattle.gt_script.specs.Lines.{line_of}
-use Rattle.gt_script.specs.Contents.{Contents, empty, first_gen}
+use Rattle.gt_script.specs.Contents.{Contents, empty, with_policy, type_names, first_gen}
 use Rattle.gt_script.specs.Script.{domain_written, with_words, with_lines, line_after}
 use Rattle.gt_script.specs.declared.lines.Line.{Line}
 use Rattle.gt_script.specs.declared.lines.Line.TheVariants as line
@@ -72,50 +75,132 @@ step_on n (line.Body number action) = do
 abbrev pub IsLine : List ℕ → Type 0
 IsLine line = (words line ≡ []) ⊎ IsSome (line_of (words line))
 
--- the lines are those of this script: each part holds what the lines say of it, in their order; so at most one of them is a line `wear` (own)
-pub record IsScriptOf (lines : List (List ℕ)) (c : Contents) : Type 0 where
+-- what the lines from number n on say of a script: each part holds what they say of it, in their order; so at most one of them is a line `wear` (own)
+pub record SayParts (n : ℕ) (lines : List (List ℕ)) (c : Contents) : Type 0 where
   pub readable : All IsLine lines
-  pub triples : c.triples ≡ filter_map (λ l. triple_in c.types l.1) (said 1 lines)
-  pub wear : option_to_list c.wear ≡ filter_map (λ l. wear_in l.1) (said 1 lines)
-  pub domains : c.domains ≡ filter_map (λ l. domain_in c.types l.1) (said 1 lines)
-  pub steps : c.steps ≡ filter_map (λ l. step_on l.0 l.1) (said 1 lines)
-  pub distinct : AllPairs (λ a b. a ≢ b) c.types
-  pub few_types : length c.types ≤ 256
+  pub triples : c.triples ≡ filter_map (λ l. triple_in c.types l.1) (said n lines)
+  pub wear : option_to_list c.wear ≡ filter_map (λ l. wear_in l.1) (said n lines)
+  pub domains : c.domains ≡ filter_map (λ l. domain_in (type_names c) l.1) (said n lines)
+  pub steps : c.steps ≡ filter_map (λ l. step_on l.0 l.1) (said n lines)
   pub faultless : AreFaultless c.domains
   pub generation : first_gen c ≤ LAST_GENERATION
   pub configured : All (λ s. IsTrue (is_taken c.domains s.dom)) c.steps
-  pub some_triple : 1 ≤ length c.triples
   pub some_domain : 1 ≤ length c.domains
 
--- the fault is that of the line at this place, counted from 0, and the lines before it have none (own)
-pub record IsFaultOfLine (lines : List (List ℕ)) (f : Fault) : Type 0 where
+-- the lines are those of this script, which says by triples what is allowed: any name is a type, and each has one number (own)
+pub record IsTripleScript (lines : List (List ℕ)) (c : Contents) : Type 0 where
+  pub parts : SayParts 1 lines c
+  pub policy : c.policy ≡ None
+  pub distinct : AllPairs (λ a b. a ≢ b) c.types
+  pub few_types : length c.types ≤ 256
+  pub some_triple : 1 ≤ length c.triples
+
+-- the lines have a policy block: in front of it stand lines without words and a line `policy`, then the lines of the block, of which none says just `end`, then a line `end` and the others (own)
+pub record HasBlock (lines block rest : List (List ℕ)) : Type 0 where
+  pub front : List (List ℕ)
+  pub opener : List ℕ
+  pub closer : List ℕ
+  pub parts : lines ≡ front ++ opener ∷ (block ++ closer ∷ rest)
+  pub nothing : All (λ l. words l ≡ []) front
+  pub opens : words opener ≡ codes "policy" ∷ []
+  pub inside : All (λ l. words l ≢ codes "end" ∷ []) block
+  pub closes : words closer ≡ codes "end" ∷ []
+
+-- how many lines stand in front of the block, its line `policy` among them (own)
+abbrev pub lines_before : {lines block rest : List (List ℕ)} → HasBlock lines block rest → ℕ
+lines_before b = length b.front + 1
+
+-- the lines are those of this script, whose policy is that of its block; the lines behind the block say the rest, and no triple is one of them (own)
+pub record IsPolicyScript (lines : List (List ℕ)) (c : Contents) : Type 0 where
+  pub block : List (List ℕ)
+  pub rest : List (List ℕ)
+  pub has : HasBlock lines block rest
+  pub rights : Rights
+  pub means : Means block rights
+  pub policy : c.policy ≡ Some rights
+  pub parts : SayParts (lines_before has + length block + 2) rest c
+  pub no_triples : c.triples ≡ []
+
+-- the lines are those of this script (own)
+abbrev pub IsScriptOf : List (List ℕ) → Contents → Type 0
+IsScriptOf lines c = IsTripleScript lines c ⊎ IsPolicyScript lines c
+
+-- the fault is that of the line at this place, counted from 0, of lines from number n on that are added to a script, and the lines before it have none (own)
+pub record IsFaultOfLine (n : ℕ) (lines : List (List ℕ)) (c : Contents) (f : Fault) : Type 0 where
   pub place : ℕ
   pub line : List ℕ
   pub before : Contents
-  pub number : f.line ≡ place + 1
+  pub number : f.line ≡ n + place
   pub there : slice_get lines place ≡ Some line
-  pub earlier : with_lines empty 1 (take place lines) ≡ Ok before
+  pub earlier : with_lines c n (take place lines) ≡ Ok before
   pub here : with_words before f.line (words line) ≡ Err f.kind
 
--- no line has a fault, and what the script lacks is named behind the last: syntax where nothing is allowed, config where no domain is configured (own)
-pub record IsFaultOfEnd (lines : List (List ℕ)) (f : Fault) : Type 0 where
+-- no line has a fault, and what the script of `count` lines lacks is named behind the last: syntax where nothing is allowed, config where no domain is configured (own)
+pub record IsFaultOfEnd (count n : ℕ) (lines : List (List ℕ)) (c : Contents) (f : Fault) : Type 0 where
   pub all : Contents
-  pub earlier : with_lines empty 1 lines ≡ Ok all
-  pub number : f.line ≡ length lines + 1
-  pub lacks : ((all.triples ≡ []) × (f.kind ≡ Syntax)) ⊎ ((all.triples ≢ []) × (all.domains ≡ []) × (f.kind ≡ Config))
+  pub earlier : with_lines c n lines ≡ Ok all
+  pub number : f.line ≡ count + 1
+  pub lacks : ((all.policy ≡ None) × (all.triples ≡ []) × (f.kind ≡ Syntax)) ⊎ ((all.domains ≡ []) × (f.kind ≡ Config))
 
--- the first fault of the lines (own)
-abbrev pub IsFirstFault : List (List ℕ) → Fault → Type 0
-IsFirstFault lines f = IsFaultOfLine lines f ⊎ IsFaultOfEnd lines f
+-- the first fault of lines from number n on that are added to a script of `count` lines (own)
+abbrev pub IsFirstFault : ℕ → Contents → ℕ → List (List ℕ) → Fault → Type 0
+IsFirstFault count c n lines f = IsFaultOfLine n lines c f ⊎ IsFaultOfEnd count n lines c f
 
--- the first fault of the bytes: too many, no text, or the first fault of the lines (own)
+-- a line `policy` opens a block that no line `end` closes (own)
+pub record IsOpen (lines : List (List ℕ)) : Type 0 where
+  pub front : List (List ℕ)
+  pub opener : List ℕ
+  pub block : List (List ℕ)
+  pub parts : lines ≡ front ++ opener ∷ block
+  pub nothing : All (λ l. words l ≡ []) front
+  pub opens : words opener ≡ codes "policy" ∷ []
+  pub inside : All (λ l. words l ≢ codes "end" ∷ []) block
+
+-- the lines open no block: they are all without words, or the first with words says something else than just `policy` (own)
+pub record HasNone (lines : List (List ℕ)) : Type 0 where
+  pub front : List (List ℕ)
+  pub others : List (List ℕ)
+  pub parts : lines ≡ front ++ others
+  pub nothing : All (λ l. words l ≡ []) front
+  pub another : (l : List ℕ) (ls : List (List ℕ)) → others ≡ l ∷ ls → (words l ≢ []) × (words l ≢ codes "policy" ∷ [])
+
+-- the first fault behind a policy block (own)
+pub record IsFaultBehind (lines : List (List ℕ)) (f : Fault) : Type 0 where
+  pub block : List (List ℕ)
+  pub rest : List (List ℕ)
+  pub has : HasBlock lines block rest
+  pub rights : Rights
+  pub means : Means block rights
+  pub first : IsFirstFault (length lines) (with_policy rights) (lines_before has + length block + 2) rest f
+
+-- the first fault of the lines, where it is none of a policy (own)
+abbrev pub IsFaultOfLines : List (List ℕ) → Fault → Type 0
+IsFaultOfLines lines f =
+    (HasNone lines × IsFirstFault (length lines) empty 1 lines f)
+    ⊎ ((IsOpen lines × (f ≡ record { line = length lines + 1; kind = Syntax }))
+    ⊎ IsFaultBehind lines f)
+
+-- the bytes are too many, or no text, and this is their fault (own)
+abbrev pub IsUnread : List ℕ → Fault → Type 0
+IsUnread bytes f =
+    ((1048576 < length bytes) × (f ≡ record { line = 1; kind = Limit }))
+    ⊎ ((length bytes ≤ 1048576) × (¬ IsUtf8 bytes) × (f ≡ record { line = line_after (take (utf8_valid_len bytes) bytes); kind = Utf8 }))
+
+-- the first fault of the bytes, where it is none of a policy: too many, no text, or the first fault of the lines (own)
 abbrev pub IsFaultOf : List ℕ → Fault → Type 0
-IsFaultOf bytes f =
-    ((f ≡ record { line = 1; kind = Limit }) × (1048576 < length bytes))
-    ⊎ (((f ≡ record { line = line_after (take (utf8_valid_len bytes) bytes); kind = Utf8 }) × (length bytes ≤ 1048576) × ¬ IsUtf8 bytes)
-    ⊎ ((length bytes ≤ 1048576) × IsUtf8 bytes × IsFirstFault (lines_in bytes) f))
+IsFaultOf bytes f = IsUnread bytes f ⊎ ((length bytes ≤ 1048576) × IsUtf8 bytes × IsFaultOfLines (lines_in bytes) f)
+
+-- the first fault of the bytes is that of their policy block, on its own line of them (own)
+pub record IsFaultOfBlock (bytes : List ℕ) (g : policy.Fault) : Type 0 where
+  pub short : length bytes ≤ 1048576
+  pub text : IsUtf8 bytes
+  pub block : List (List ℕ)
+  pub rest : List (List ℕ)
+  pub has : HasBlock (lines_in bytes) block rest
+  pub faulty : IsFaulty (lines_before has) block g
 
 -- memory ran out, or this is the first fault (own)
 abbrev pub Stands : List ℕ → ScriptError → Type 0
 Stands bytes Memory = Unit {0}
 Stands bytes (errors.Fault f) = IsFaultOf bytes f
+Stands bytes (errors.Policy e) = (g : policy.Fault) × (block_fault_shown e ≡ Some g) × IsFaultOfBlock bytes g

@@ -2,8 +2,9 @@
 use Rattle.std.specs.Prelude.{ℕ, List, [], ◌∷◌, Option, Some, None, if◌then◌else◌, codes}
 use Rattle.std.specs.Option.{option_map}
 use Rattle.std.specs.Str.{bytes_eq}
+use Rattle.gt_types.specs.Names.{permission_of}
 use Rattle.gt_script.specs.Numbers.{decimal_number}
-use Rattle.gt_script.specs.Fields.{◌>>=◌, name_word, text_where, permission_word, generation_word, type_word}
+use Rattle.gt_script.specs.Fields.{◌>>=◌, name_word, text_where, generation_word, type_word}
 use Rattle.gt_script.specs.Calls.{action_of}
 use Rattle.gt_script.specs.declared.lines.TripleLine.{TripleLine}
 use Rattle.gt_script.specs.declared.lines.DomainLine.{DomainLine}
@@ -15,7 +16,7 @@ unfoldable pub triple_of : List (List ℕ) → Option TripleLine
 triple_of (source ∷ target ∷ permission ∷ []) = do
   s ← text_where name_word source
   t ← text_where name_word target
-  p ← permission_word permission
+  p ← permission_of permission
   Some (record { source = s; target = t; perm = p })
 triple_of _ = None
 

@@ -1,17 +1,21 @@
--- The script that bytes say, line by line, or their first fault (own).
-use Rattle.std.specs.Prelude.{ℕ, ◌+◌, ◌==◌, ◌||◌, not, Bool, List, [], ◌∷◌, ◌++◌, length, Option, Some, None, Result, Ok, Err, nat_lt, take, count_by, is_none, is_some, ◌^◌, if◌then◌else◌}
-use Rattle.std.specs.Str.{is_utf8}
+-- The script that bytes say, its policy block and then line by line, or their first fault (own).
+use Rattle.std.specs.Prelude.{◌≡◌, ◌⊎◌, ◌<◌, ◌≤◌, ℕ, ◌+◌, ◌==◌, ◌&&◌, ◌||◌, not, Bool, List, [], ◌∷◌, ◌++◌, length, Option, Some, None, Result, Ok, Err, take, drop, count_by, is_none, is_some, ◌^◌, if◌then◌else◌}
+use Rattle.std.specs.Option.{option_map}
+use Rattle.std.specs.Str.{IsUtf8}
 use Rattle.std.specs.Str.Lossy.{utf8_valid_len}
 use Rattle.std.specs.Str.Lines.{lines as lines_in}
 use Rattle.gt_types.specs.Config.{is_taken, domain_fault}
 use Rattle.gt_types.specs.declared.TypeId.{TypeId}
 use Rattle.gt_types.specs.declared.config.DomainConfig.{DomainConfig}
+use Rattle.gt_policy.specs.Allowing.{Rights, type_named}
+use Rattle.gt_policy.specs.declared.fault.Fault as policy
+use Rattle.gt_script.specs.Blocks.{opening, closing, Means, IsFaulty}
 use Rattle.gt_script.specs.Words.{words}
 use Rattle.gt_script.specs.Numbers.{number_below}
 use Rattle.gt_script.specs.Fields.{◌>>=◌}
 use Rattle.gt_script.specs.Lines.{line_of}
 use Rattle.gt_script.specs.Types.{with_type}
-use Rattle.gt_script.specs.Contents.{Contents, empty}
+use Rattle.gt_script.specs.Contents.{Contents, empty, with_policy}
 use Rattle.gt_script.specs.declared.numbers.Number.{Number}
 use Rattle.gt_script.specs.declared.calls.Action.{Action}
 use Rattle.gt_script.specs.declared.lines.TripleLine.{TripleLine}
@@ -35,11 +39,15 @@ domain_written d label = do
   version ← number_below (2 ^ 32) d.version
   Some (record { id = record { 0 = id }; label = label; frames = frames; table_frames = tables; version = version })
 
--- triples come first, then at most one line `wear`, then domains, then steps (own)
+-- neither a policy nor a triple (own)
+unfoldable pub has_no_rights : Contents → Bool
+has_no_rights c = is_none c.policy && is_empty c.triples
+
+-- the policy or triples come first, then at most one line `wear`, then domains, then steps (own)
 unfoldable pub is_misplaced : Contents → Line → Bool
-is_misplaced c (line.Triple t) = is_some c.wear || not (is_empty c.domains)
-is_misplaced c (line.Wear first) = (is_empty c.triples || is_some c.wear) || not (is_empty c.domains)
-is_misplaced c (line.Domain d) = is_empty c.triples || not (is_empty c.steps)
+is_misplaced c (line.Triple t) = (is_some c.policy || is_some c.wear) || not (is_empty c.domains)
+is_misplaced c (line.Wear first) = (has_no_rights c || is_some c.wear) || not (is_empty c.domains)
+is_misplaced c (line.Domain d) = has_no_rights c || not (is_empty c.steps)
 is_misplaced c (line.Body id action) = is_empty c.domains
 
 -- what a line adds, or that it is past a limit (own)
@@ -54,10 +62,19 @@ with_triple c t = or_config (do
   target ← with_type source.0 t.target
   Some (record c { types = target.0; triples = c.triples ++ record { source = source.1; target = target.1; perm = t.perm } ∷ [] }))
 
+-- the number of a domain's type, which the policy has to declare; where there is none, any name is a type (own)
+abbrev pub type_in : Option Rights → List (List ℕ) → List ℕ → Option (List (List ℕ) × TypeId)
+type_in None types name = with_type types name
+type_in (Some p) types name = option_map (λ id. (types, id)) (type_named p.types name)
+
+-- a script with these names of its types, and the number of one of them (own)
+abbrev pub with_names : Contents → List (List ℕ) × TypeId → Contents × TypeId
+with_names c named = (record c { types = named.0 }, named.1)
+
 -- a script with one domain more, which has no fault behind those before it (own)
 unfoldable pub with_domain : Contents → DomainLine → Result Contents FaultKind
 with_domain c d = or_config (do
-  label ← with_type c.types d.type_name
+  label ← type_in c.policy c.types d.type_name
   domain ← domain_written d label.1
   if is_none (domain_fault c.domains domain)
       then Some (record c { types = label.0; domains = c.domains ++ domain ∷ [] }) else None)
@@ -95,7 +112,7 @@ with_lines c n (l ∷ ls) = elim (with_words c n (words l)) [
 
 -- a script with no line at all lacks its head, and one with no domain line its domains (own)
 unfoldable pub completed : ℕ → Contents → Result Contents Fault
-completed count c = if is_empty c.triples then Err (record { line = count + 1; kind = Syntax })
+completed count c = if has_no_rights c then Err (record { line = count + 1; kind = Syntax })
     else (if is_empty c.domains then Err (record { line = count + 1; kind = Config }) else Ok c)
 
 -- the same of a script that may have a fault already (own)
@@ -103,16 +120,47 @@ abbrev pub completed_if_ok : ℕ → Result Contents Fault → Result Contents F
 completed_if_ok count (Ok c) = completed count c
 completed_if_ok count (Err f) = Err f
 
--- what a text says, or its first fault (own)
-unfoldable pub script_of : List ℕ → Result Contents Fault
-script_of text = completed_if_ok (length (lines_in text)) (with_lines empty 1 (lines_in text))
+-- a script with lines from number n on, behind which the whole of `count` lines ends (own)
+abbrev pub whole : ℕ → Contents → ℕ → List (List ℕ) → Result Contents Fault
+whole count c n lines = completed_if_ok count (with_lines c n lines)
 
 -- the line on which a text stops (own)
 abbrev pub line_after : List ℕ → ℕ
 line_after text = count_by (λ b. b == 10) text + 1
 
--- what bytes say, which may be too many, or no text (own)
-unfoldable pub script_in : List ℕ → Result Contents Fault
-script_in bytes = if nat_lt 1048576 (length bytes) then Err (record { line = 1; kind = Limit })
-    else (if is_utf8 bytes then script_of bytes
-    else Err (record { line = line_after (take (utf8_valid_len bytes) bytes); kind = Utf8 }))
+-- a fault: of the script, or of its policy block (own)
+pub data Wrong : Type 0 where
+  in_script : Fault → Wrong
+  in_policy : policy.Fault → Wrong
+
+-- a script, or a fault that is none of a policy (own)
+abbrev pub in_result : Result Contents Fault → Result Contents Wrong
+in_result (Ok c) = Ok c
+in_result (Err f) = Err (in_script f)
+
+-- the lines behind a line `policy` of this number, of which the one at this place is `end`, say this: the rest of a script of `count` lines with the policy of the block, or its fault (own)
+abbrev pub ClosedSays : ℕ → ℕ → List (List ℕ) → ℕ → Result Contents Wrong → Type 0
+ClosedSays count first lines end said =
+    ((p : Rights) × Means (take end lines) p × (said ≡ in_result (whole count (with_policy p) (first + end + 1 + 1) (drop (end + 1) lines))))
+    ⊎ ((g : policy.Fault) × IsFaulty first (take end lines) g × (said ≡ Err (in_policy g)))
+
+-- the same, where a line `end` may be missing (own)
+abbrev pub BlockSays : ℕ → ℕ → List (List ℕ) → Option ℕ → Result Contents Wrong → Type 0
+BlockSays count first lines None said = said ≡ Err (in_script (record { line = count + 1; kind = Syntax }))
+BlockSays count first lines (Some end) said = ClosedSays count first lines end said
+
+-- the lines say this: they begin with a policy block, or have none (own)
+abbrev pub LinesSay : List (List ℕ) → Option ℕ → Result Contents Wrong → Type 0
+LinesSay lines None said = said ≡ in_result (whole (length lines) empty 1 lines)
+LinesSay lines (Some place) said = BlockSays (length lines) (place + 1) (drop (place + 1) lines) (closing (drop (place + 1) lines)) said
+
+-- the text says this (own)
+abbrev pub TextSays : List ℕ → Result Contents Wrong → Type 0
+TextSays text said = LinesSay (lines_in text) (opening (lines_in text)) said
+
+-- the bytes say this script, or have this fault, which is their first: they are too many, or no text, or it is that of the text (own)
+abbrev pub Tells : List ℕ → Result Contents Wrong → Type 0
+Tells bytes said =
+    ((1048576 < length bytes) × (said ≡ Err (in_script (record { line = 1; kind = Limit }))))
+    ⊎ (((length bytes ≤ 1048576) × (¬ IsUtf8 bytes) × (said ≡ Err (in_script (record { line = line_after (take (utf8_valid_len bytes) bytes); kind = Utf8 }))))
+    ⊎ ((length bytes ≤ 1048576) × IsUtf8 bytes × TextSays bytes said))

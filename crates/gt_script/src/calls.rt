@@ -1,6 +1,6 @@
 //! The calls that a script can ask for.
 ghost use Rattle.std.specs.Prelude.{◌≡◌, map};
-ghost use Rattle.gt_script.specs.Calls.{page_of, sub_of, via_of, granted, grant_of, map_of, unmap_of, load_of, bytes_of, revoke_of, demote_of, promote_of, version_of, setup_of, size_of, getversion_of, call_of, tick_of, show_of, action_of};
+ghost use Rattle.gt_script.specs.Calls.{page_of, sub_of, via_of, granted, grant_of, map_of, unmap_of, load_of, store_of, peek_of, poke_of, bytes_of, revoke_of, demote_of, promote_of, version_of, setup_of, size_of, getversion_of, call_of, tick_of, show_of, action_of};
 
 use crate::fields::{
     domain, flags, is, label, mode, reference, tick_count, u16_of, u32_of, u64_of,
@@ -64,6 +64,24 @@ pub enum Call<'a> {
         label: Text<'a>,
         off: u16,
         len: u16,
+    },
+    /// `store LABEL OFF HEX`: the bytes, as `hex_bytes` reads them, from `off` on.
+    Store {
+        label: Text<'a>,
+        off: u16,
+        hex: Text<'a>,
+    },
+    /// `peek FRAME OFF LEN`: of a frame of the caller's own, by its number.
+    Peek {
+        frame: u64,
+        off: u16,
+        len: u16,
+    },
+    /// `poke FRAME OFF HEX`: to a frame of the caller's own, the bytes as `hex_bytes` reads them.
+    Poke {
+        frame: u64,
+        off: u16,
+        hex: Text<'a>,
     },
     /// `revoke REF`
     Revoke {
@@ -235,6 +253,48 @@ fn read_load<'a>(args: &[&'a [u8]]) -> Option<Call<'a>>
     }
 }
 
+#[tactic(auto, unfolding(crate::specs::Calls::store_of))]
+fn read_store<'a>(args: &[&'a [u8]]) -> Option<Call<'a>>
+    ensures { result ≡ store_of (map (λ word. word.now) args.now) }
+{
+    match args {
+        [name, off, digits] => Some(Call::Store {
+            label: label(name)?,
+            off: u16_of(off)?,
+            hex: hex_text(digits)?,
+        }),
+        _ => None,
+    }
+}
+
+#[tactic(auto, unfolding(crate::specs::Calls::peek_of))]
+fn read_peek<'a>(args: &[&'a [u8]]) -> Option<Call<'a>>
+    ensures { result ≡ peek_of (map (λ word. word.now) args.now) }
+{
+    match args {
+        [frame, off, len] => Some(Call::Peek {
+            frame: u64_of(frame)?,
+            off: u16_of(off)?,
+            len: u16_of(len)?,
+        }),
+        _ => None,
+    }
+}
+
+#[tactic(auto, unfolding(crate::specs::Calls::poke_of))]
+fn read_poke<'a>(args: &[&'a [u8]]) -> Option<Call<'a>>
+    ensures { result ≡ poke_of (map (λ word. word.now) args.now) }
+{
+    match args {
+        [frame, off, digits] => Some(Call::Poke {
+            frame: u64_of(frame)?,
+            off: u16_of(off)?,
+            hex: hex_text(digits)?,
+        }),
+        _ => None,
+    }
+}
+
 #[tactic(auto, unfolding(crate::specs::Calls::revoke_of))]
 fn read_revoke<'a>(args: &[&'a [u8]]) -> Option<Call<'a>>
     ensures { result ≡ revoke_of (map (λ word. word.now) args.now) }
@@ -330,6 +390,12 @@ fn read_call<'a>(words: &[&'a [u8]]) -> Option<Call<'a>>
         read_unmap(args)
     } else if is(word, "load") {
         read_load(args)
+    } else if is(word, "store") {
+        read_store(args)
+    } else if is(word, "peek") {
+        read_peek(args)
+    } else if is(word, "poke") {
+        read_poke(args)
     } else if is(word, "revoke") {
         read_revoke(args)
     } else if is(word, "demote") {

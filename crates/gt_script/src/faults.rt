@@ -1,4 +1,5 @@
 //! What may be wrong with a script.
+use gt_policy::PolicyFault;
 use std::alloc::AllocError;
 use std::error::Error;
 use std::fmt;
@@ -25,25 +26,62 @@ pub struct Fault {
     pub kind: FaultKind,
 }
 
+/// The first fault of a script's policy block.
+#[derive(Debug, Drop)]
+pub struct BlockFault {
+    /// The number of its line in the script, from 1 on; a fault at the end of the block is on the
+    /// line `end`.
+    pub line: usize,
+    /// What is wrong with the policy; never want of memory.
+    pub kind: gt_policy::FaultKind,
+}
+
 /// Why there is no script: its first fault, or want of memory.
-#[derive(Clone, Copy, Debug, PartialEq, Eq)]
+#[derive(Debug, Drop)]
 pub enum ScriptError {
     Memory,
     Fault(Fault),
+    Policy(BlockFault),
+}
+
+impl ScriptError {
+    ghost use Rattle.std.specs.Prelude.{◌≡◌, ◌+◌, ◌<◌, ◌^◌};
+    ghost use Rattle.gt_script.specs.Faults.{error_in_block};
+
+    // The fault of a policy block that stands behind so many lines, or want of memory.
+    pub(crate) fn in_block(before: usize, fault: PolicyFault) -> ScriptError
+        requires { before < 2 ^ 63 }
+        ensures { result ≡ error_in_block (before + fault.line) fault.kind }
+    {
+        let PolicyFault { line, kind } = fault;
+        let line = before + line as usize;
+        match kind {
+            gt_policy::FaultKind::Memory => ScriptError::Memory,
+            kind => ScriptError::Policy(BlockFault { line, kind }),
+        }
+    }
 }
 
 impl Error for Fault {}
 
+impl fmt::Display for BlockFault {
+    fn fmt<W: fmt::Write>(&self, f: &mut fmt::Formatter<W>) -> fmt::Result {
+        write!(f, "line {}: policy {}", self.line, self.kind)
+    }
+}
+
+impl Error for BlockFault {}
+
 impl fmt::Display for ScriptError {
-    ghost use Rattle.std.specs.Prelude.{Some};
     ghost use Rattle.gt_script.specs.Faults.{error_text};
 
-    ghost output = { λ error. Some (error_text error) };
+    ghost output = { λ error. error_text error };
 
     fn fmt<W: fmt::Write>(&self, f: &mut fmt::Formatter<W>) -> fmt::Result {
         match self {
             ScriptError::Memory => f.write_str("memory"),
             ScriptError::Fault(fault) => write!(f, "{fault}"),
+            ScriptError::Policy(fault) => write!(f, "{fault}"),
         }
     }
 }

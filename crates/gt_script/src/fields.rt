@@ -3,11 +3,11 @@ ghost use Rattle.std.specs.Prelude.{◌≡◌, map};
 ghost use Rattle.std.specs.Option.{option_map};
 ghost use Rattle.std.specs.Str.{bytes_eq};
 ghost use Rattle.std.specs.List.{list_all};
-ghost use Rattle.gt_script.specs.Fields.{u16_word, u32_word, u64_word, reference_word, domain_word, mode_word, flags_word, tick_word, generation_word, permission_word, name_byte, label_byte, name_word, label_word, text_where, at_colon, type_word};
+ghost use Rattle.gt_script.specs.Fields.{u16_word, u32_word, u64_word, reference_word, domain_word, mode_word, flags_word, tick_word, generation_word, name_byte, label_byte, name_word, label_word, text_where, at_colon, type_word};
 
 use crate::numbers::{Number, decimal};
 use crate::texts::Text;
-use gt_types::{DOMID_SELF, DomId, GrantRef, LAST_GENERATION, Perms};
+use gt_types::{DOMID_SELF, DomId, GrantRef, LAST_GENERATION};
 
 /// The most steps that a tick may ask for; the least is one.
 const MOST_TICKS: u64 = 100_000;
@@ -115,30 +115,6 @@ pub fn is(word: &[u8], text: &str) -> bool
     ensures { result ≡ bytes_eq word.now text.now }
 {
     word == text.as_bytes()
-}
-
-/// One of the seven permissions of class `grant`.
-#[tactic(auto, unfolding(crate::specs::Fields::permission_word))]
-pub fn permission(word: &[u8]) -> Option<Perms>
-    ensures { result ≡ permission_word word.now }
-{
-    if is(word, "map_read") {
-        Some(Perms::MAP_READ)
-    } else if is(word, "map_write") {
-        Some(Perms::MAP_WRITE)
-    } else if is(word, "unmap") {
-        Some(Perms::UNMAP)
-    } else if is(word, "transfer") {
-        Some(Perms::TRANSFER)
-    } else if is(word, "setup") {
-        Some(Perms::SETUP)
-    } else if is(word, "copy") {
-        Some(Perms::COPY)
-    } else if is(word, "query") {
-        Some(Perms::QUERY)
-    } else {
-        None
-    }
 }
 
 fn is_name_byte(byte: u8) -> bool

@@ -3,7 +3,7 @@ ghost use Rattle.std.specs.Prelude.{◌≡◌, map};
 ghost use Rattle.gt_script.specs.Lines.{triple_of, wear_of, domain_of, body_of, line_of};
 
 use crate::calls::{Action, read_action};
-use crate::fields::{generation, is, label_type, name, permission};
+use crate::fields::{generation, is, label_type, name};
 use crate::numbers::{Number, decimal};
 use crate::texts::Text;
 use gt_types::Perms;
@@ -43,7 +43,7 @@ fn read_triple<'a>(args: &[&'a [u8]]) -> Option<TripleLine<'a>>
         [source, target, perm] => Some(TripleLine {
             source: name(source)?,
             target: name(target)?,
-            perm: permission(perm)?,
+            perm: Perms::named(perm)?,
         }),
         _ => None,
     }

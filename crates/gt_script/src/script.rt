@@ -1,11 +1,14 @@
 //! A script: what stands on its lines, in order.
-ghost use Rattle.std.specs.Prelude.{◌≡◌, ◌==◌, ℕ, List, take, count_by, IfOk, IfErr};
+ghost use Rattle.std.specs.Prelude.{◌≡◌, ◌≤◌, ◌<◌, ◌+◌, ◌==◌, ◌^◌, ◌⊎◌, ℕ, List, length, take, drop, count_by, map, IfOk, IfErr};
+ghost use Rattle.std.specs.Str.{IsUtf8};
 ghost use Rattle.std.specs.Str.Lines.{lines as lines_in};
 ghost use Rattle.gt_types.specs.Config.{is_taken};
-ghost use Rattle.gt_script.specs.Script.{domain_written, script_of, script_in};
-ghost use Rattle.gt_script.specs.Outcomes.{Says};
-ghost use Rattle.gt_script.specs.Laws.{IsScriptOf, Stands};
+ghost use Rattle.gt_script.specs.Blocks.{opening as opening_in, closing as closing_in};
+ghost use Rattle.gt_script.specs.Script.{domain_written, LinesSay, BlockSays, TextSays, Tells};
+ghost use Rattle.gt_script.specs.Outcomes.{Answers};
+ghost use Rattle.gt_script.specs.Laws.{IsScriptOf, Stands, IsUnread};
 
+use crate::blocks::{closing, opening, read_policy};
 use crate::calls::Action;
 use crate::faults::{Fault, FaultKind, ScriptError};
 use crate::lines::{DomainLine, Line, TripleLine, read_line};
@@ -13,6 +16,7 @@ use crate::numbers::Number;
 use crate::texts::Text;
 use crate::types::TypeNames;
 use crate::words::{lines, words};
+use gt_policy::Policy;
 use gt_types::{DomId, DomainConfig, Triple, TypeId};
 use std::alloc::{AllocError, Global};
 use std::marker::Model;
@@ -28,9 +32,10 @@ pub struct Step<'a> {
     pub action: Action<'a>,
 }
 
-/// A script without fault.
+/// A script without fault. With a policy block it has neither triples nor types of its own.
 #[derive(Drop)]
 pub struct Script<'a> {
+    policy: Option<Policy>,
     types: TypeNames<'a>,
     triples: Vec<Triple>,
     wear: Option<u32>,
@@ -44,6 +49,7 @@ impl<'a> Model for Script<'a> {
     ghost Value = { Contents };
 
     ghost view = { λ s. record {
+      policy = s.policy;
       types = s.types;
       triples = s.triples.items;
       wear = s.wear;
@@ -90,6 +96,30 @@ fn is_domain(domains: &[DomainConfig], id: DomId) -> bool
     domains.iter().any(|d| d.id == id)
 }
 
+// The names of a policy's types, by their numbers.
+fn names_of<'p>(alloc: Global, policy: &'p Policy) -> Result<Vec<Text<'p>>, AllocError>
+    ensures { IfOk result (λ names. names.items ≡ policy.entry.now.types) }
+{
+    let mut names = Vec::new(alloc);
+    'types: for id in 0..policy.count() {
+        let Some(name) = policy.name(TypeId(id)) else {
+            unreachable!();
+        };
+        names.push(Text::new(name.as_bytes()))?;
+    }
+    Ok(names)
+}
+
+fn copies<'a>(alloc: Global, names: &[Text<'a>]) -> Result<Vec<Text<'a>>, AllocError>
+    ensures { IfOk result (λ copies. copies.items ≡ names.now) }
+{
+    let mut copies = Vec::new(alloc);
+    'names: for name in names {
+        copies.push(Text::new(name.as_bytes()))?;
+    }
+    Ok(copies)
+}
+
 // The domain that a line writes, where its numbers are not larger than a domain's can be.
 #[tactic(auto, unfolding(crate::specs::Script::domain_written))]
 fn domain_written(line: &DomainLine, label: TypeId) -> Option<DomainConfig>
@@ -105,16 +135,18 @@ fn domain_written(line: &DomainLine, label: TypeId) -> Option<DomainConfig>
 }
 
 impl<'a> Script<'a> {
-    ghost use Rattle.std.specs.Prelude.{◌≡◌, map, ◌<◌, ◌-◌, ◌^◌};
+    ghost use Rattle.std.specs.Prelude.{◌≡◌, map, ◌<◌, ◌≤◌, ◌+◌, ◌-◌, ◌^◌, length};
     ghost use Rattle.gt_script.specs.Words.{words as words_in};
-    ghost use Rattle.gt_script.specs.Contents.{empty, first_gen};
-    ghost use Rattle.gt_script.specs.Script.{with_triple, with_domain, with_step, with_line, with_words, with_lines, completed, is_misplaced};
+    ghost use Rattle.std.specs.Option.{option_map};
+    ghost use Rattle.gt_script.specs.Contents.{empty, with_policy, type_names, first_gen};
+    ghost use Rattle.gt_script.specs.Script.{with_triple, type_in, with_names, with_domain, with_step, with_line, with_words, with_lines, completed, whole, has_no_rights, is_misplaced};
     ghost use Rattle.gt_script.specs.Outcomes.{Adds, Says};
 
     fn new(alloc: Global) -> Script<'a>
         ensures { result ≡ empty }
     {
         Script {
+            policy: None,
             types: TypeNames::new(alloc),
             triples: Vec::new(alloc),
             wear: None,
@@ -123,14 +155,34 @@ impl<'a> Script<'a> {
         }
     }
 
-    /// The names of the types: the type with number i has the name at place i.
-    pub fn types(&self) -> &[Text<'a>]
-        ensures { result.now ≡ self.now.types }
+    // A script with this policy, and nothing more so far.
+    fn with_policy(alloc: Global, policy: Policy) -> Script<'a>
+        ensures { result ≡ with_policy policy }
     {
-        self.types.as_slice()
+        let mut script = Script::new(alloc);
+        script.policy = Some(policy);
+        script
     }
 
-    /// What the head allows, in its order.
+    /// The names of the types, from the policy or from triples and labels: the type with number i has
+    /// the name at place i.
+    pub fn type_names(&self, alloc: Global) -> Result<Vec<Text<'_>>, AllocError>
+        ensures { IfOk result (λ names. names.items ≡ type_names self.now) }
+    {
+        match &self.policy {
+            Some(policy) => names_of(alloc, policy),
+            None => copies(alloc, self.types.as_slice()),
+        }
+    }
+
+    /// The policy of the script's block, if it has one; otherwise its triples are what is allowed.
+    pub fn policy(&self) -> Option<&Policy>
+        ensures { option_map (λ p. p.now) result ≡ self.now.policy }
+    {
+        self.policy.as_ref()
+    }
+
+    /// What the triples of the head allow, in their order.
     pub fn triples(&self) -> &[Triple]
         ensures { result.now ≡ self.now.triples }
     {
@@ -179,11 +231,21 @@ impl<'a> Script<'a> {
         Ok(self)
     }
 
+    // The number of a domain's type, which the policy has to declare; without one any name is a type.
+    fn type_number(&mut self, name: &'a [u8]) -> Result<Option<TypeId>, AllocError>
+        ensures { IfOk result (λ number. option_map (λ id. (self.new, id)) number ≡ option_map (with_names self.old) (type_in self.old.policy self.old.types name.entry.now)) }
+    {
+        match &self.policy {
+            Some(policy) => Ok(policy.type_spelled(name)),
+            None => self.types.number(name),
+        }
+    }
+
     #[tactic(auto, unfolding(crate::specs::Script::with_domain))]
     fn with_domain(mut self, line: DomainLine<'a>) -> Result<Script<'a>, AddError>
         ensures { Adds result (with_domain self.entry line.entry) }
     {
-        let Some(label) = self.types.number(line.type_name.as_bytes())? else {
+        let Some(label) = self.type_number(line.type_name.as_bytes())? else {
             return Err(AddError::Fault(FaultKind::Config));
         };
         let Some(domain) = domain_written(&line, label) else {
@@ -218,16 +280,25 @@ impl<'a> Script<'a> {
         Ok(self)
     }
 
+    #[tactic(auto, unfolding(crate::specs::Script::has_no_rights))]
+    fn has_no_rights(&self) -> bool
+        ensures { result ≡ has_no_rights self.now }
+    {
+        self.policy.is_none() && self.triples.is_empty()
+    }
+
     #[tactic(auto, unfolding(crate::specs::Script::is_misplaced))]
     fn is_misplaced(&self, line: &Line<'a>) -> bool
         ensures { result ≡ is_misplaced self.now line.now }
     {
         match line {
-            Line::Triple(_) => self.wear.is_some() || !self.domains.is_empty(),
-            Line::Wear(_) => {
-                self.triples.is_empty() || self.wear.is_some() || !self.domains.is_empty()
+            Line::Triple(_) => {
+                self.policy.is_some() || self.wear.is_some() || !self.domains.is_empty()
             }
-            Line::Domain(_) => self.triples.is_empty() || !self.steps.is_empty(),
+            Line::Wear(_) => {
+                self.has_no_rights() || self.wear.is_some() || !self.domains.is_empty()
+            }
+            Line::Domain(_) => self.has_no_rights() || !self.steps.is_empty(),
             Line::Body { .. } => self.domains.is_empty(),
         }
     }
@@ -275,14 +346,22 @@ impl<'a> Script<'a> {
         self.with_words(number, words.as_slice())
     }
 
-    fn of_lines(alloc: Global, lines: &[&'a str]) -> Result<Script<'a>, ScriptError>
-        ensures { Says result (with_lines empty 1 (map (λ line. line.now) lines.now)) }
+    // This script with more lines, which stand behind so many others.
+    fn with_lines(
+        self,
+        alloc: Global,
+        before: usize,
+        lines: &[&'a str],
+    ) -> Result<Script<'a>, ScriptError>
+        requires { before + length lines.now < 2 ^ 64 - 1 }
+        ensures { Says result (with_lines self.entry (before + 1) (map (λ line. line.now) lines.now)) }
     {
-        let mut script = Script::new(alloc);
+        let mut script = self;
         for (i, line) in lines.iter().enumerate() {
-            match script.with_text_line(alloc, i + 1, line) {
+            let number = before + i + 1;
+            match script.with_text_line(alloc, number, line) {
                 Ok(more) => script = more,
-                Err(e) => return Err(e.on_line(i + 1)),
+                Err(e) => return Err(e.on_line(number)),
             }
         }
         Ok(script)
@@ -294,7 +373,7 @@ impl<'a> Script<'a> {
         requires { count < 2 ^ 64 - 1 }
         ensures { Says result (completed count self.entry) }
     {
-        let kind = if self.triples.is_empty() {
+        let kind = if self.has_no_rights() {
             FaultKind::Syntax
         } else if self.domains.is_empty() {
             FaultKind::Config
@@ -304,14 +383,64 @@ impl<'a> Script<'a> {
         let line = count + 1;
         Err(ScriptError::Fault(Fault { line, kind }))
     }
+
+    // This script with the lines behind so many others, up to the end of a script of `count` lines.
+    fn with_rest(
+        self,
+        alloc: Global,
+        before: usize,
+        count: usize,
+        lines: &[&'a str],
+    ) -> Result<Script<'a>, ScriptError>
+        requires { (before + length lines.now ≤ count) × (count < 2 ^ 64 - 1) }
+        ensures { Says result (whole count self.entry (before + 1) (map (λ line. line.now) lines.now)) }
+    {
+        self.with_lines(alloc, before, lines)?.completed(count)
+    }
 }
 
-#[tactic(auto, unfolding(crate::specs::Script::script_of))]
+// The script of `count` lines that has a policy block, from the lines behind the line `policy` with the
+// number `first`.
+fn of_block<'a>(
+    alloc: Global,
+    count: usize,
+    first: usize,
+    lines: &[&'a str],
+) -> Result<Script<'a>, ScriptError>
+    requires whole { first + length lines.now ≡ count }
+    requires fits { count < 2 ^ 63 }
+    ensures { Answers result (BlockSays count first (map (λ line. line.now) lines.now) (closing_in (map (λ line. line.now) lines.now))) }
+{
+    let Some(end) = closing(alloc, lines)? else {
+        return Err(ScriptError::Fault(Fault {
+            line: count + 1,
+            kind: FaultKind::Syntax,
+        }));
+    };
+    match read_policy(alloc, first, &lines[..end]) {
+        Ok(policy) => {
+            let script = Script::with_policy(alloc, policy);
+            script.with_rest(alloc, first + end + 1, count, &lines[end + 1..])
+        }
+        Err(error) => Err(error),
+    }
+}
+
+// The script that the lines say.
+fn of_lines<'a>(alloc: Global, lines: &[&'a str]) -> Result<Script<'a>, ScriptError>
+    ensures { Answers result (LinesSay (map (λ line. line.now) lines.now) (opening_in (map (λ line. line.now) lines.now))) }
+{
+    match opening(alloc, lines)? {
+        Some(place) => of_block(alloc, lines.len(), place + 1, &lines[place + 1..]),
+        None => Script::new(alloc).with_rest(alloc, 0, lines.len(), lines),
+    }
+}
+
 fn of_text<'a>(alloc: Global, text: &'a str) -> Result<Script<'a>, ScriptError>
-    ensures { Says result (script_of text.entry.now) }
+    ensures { Answers result (TextSays text.entry.now) }
 {
     let lines = lines(alloc, text)?;
-    Script::of_lines(alloc, lines.as_slice())?.completed(lines.len())
+    of_lines(alloc, lines.as_slice())
 }
 
 // How many lines end in the bytes.
@@ -322,10 +451,9 @@ fn newlines(bytes: &[u8]) -> usize
 }
 
 // The bytes as text, if they are not too many.
-#[tactic(auto, unfolding(crate::specs::Script::script_in))]
 fn text_of<'a>(bytes: &'a [u8]) -> Result<&'a str, Fault>
-    ensures text { IfOk result (λ text. (text.now ≡ bytes.entry.now) × (script_in bytes.entry.now ≡ script_of text.now)) }
-    ensures fault { IfErr result (λ fault. script_in bytes.entry.now ≡ Err fault) }
+    ensures text { IfOk result (λ text. (text.now ≡ bytes.entry.now) × (length bytes.entry.now ≤ 1048576) × IsUtf8 bytes.entry.now) }
+    ensures fault { IfErr result (λ fault. IsUnread bytes.entry.now fault) }
 {
     if bytes.len() > MOST_BYTES {
         return Err(Fault {
@@ -343,14 +471,15 @@ fn text_of<'a>(bytes: &'a [u8]) -> Result<&'a str, Fault>
 }
 
 /// The script that the bytes say, or their first fault: too many bytes, then no UTF-8, then the
-/// first line that is wrong, then what the whole lacks.
+/// first line that is wrong, where a policy block is judged as a whole at its end, then what the
+/// whole lacks.
 pub fn parse<'a>(alloc: Global, bytes: &'a [u8]) -> Result<Script<'a>, ScriptError>
-    ensures script { Says result (script_in bytes.entry.now) }
+    ensures script { Answers result (Tells bytes.entry.now) }
     ensures holds { IfOk result (λ s. IsScriptOf (lines_in bytes.entry.now) s) }
     ensures fault { IfErr result (λ e. Stands bytes.entry.now e) }
 
     // What is read up to one byte past the limit decides for all that there is.
-    ensures beginning { (all : List ℕ) → bytes.entry.now ≡ take 1048577 all → Says result (script_in all) }
+    ensures beginning { (all : List ℕ) → bytes.entry.now ≡ take 1048577 all → Answers result (Tells all) }
 {
     match text_of(bytes) {
         Ok(text) => of_text(alloc, text),

@@ -27,15 +27,17 @@ const SYNTAX: FaultKind = FaultKind::Syntax;
 
 const CONFIG: FaultKind = FaultKind::Config;
 
-fn fault(alloc: Global, text: &[u8]) -> Option<ScriptError> {
+// The fault of a script; one on line 0 where there is another error.
+pub fn fault(alloc: Global, text: &[u8]) -> Option<Fault> {
     match parse(alloc, text) {
         Ok(_) => None,
-        Err(e) => Some(e),
+        Err(ScriptError::Fault(fault)) => Some(fault),
+        Err(_) => on_line(0, FaultKind::Limit),
     }
 }
 
-fn on_line(line: usize, kind: FaultKind) -> Option<ScriptError> {
-    Some(ScriptError::Fault(Fault { line, kind }))
+pub fn on_line(line: usize, kind: FaultKind) -> Option<Fault> {
+    Some(Fault { line, kind })
 }
 
 /// The text with this line in the place of the line with this number.
@@ -87,9 +89,11 @@ fn triple(perm: Perms) -> Triple {
 #[test]
 fn reads_the_head(rt: HostRuntime) -> Result<(), Fail> {
     let script = parse(rt.alloc(), FIRST.as_bytes())?;
-    assert_eq!(rt; script.types().len(), 2);
-    assert_eq!(rt; script.types()[0].as_bytes(), b"b_t".as_slice());
-    assert_eq!(rt; script.types()[1].as_bytes(), b"a_t".as_slice());
+    let types = script.type_names(rt.alloc())?;
+    assert_eq!(rt; types.len(), 2);
+    assert_eq!(rt; types[0].as_bytes(), b"b_t".as_slice());
+    assert_eq!(rt; types[1].as_bytes(), b"a_t".as_slice());
+    assert!(rt; script.policy().is_none());
     let perms = [Perms::MAP_READ, Perms::MAP_WRITE, Perms::UNMAP];
     assert_eq!(rt; script.triples(), perms.map(triple).as_slice());
     assert_eq!(rt; script.domains(), [domain(1, 1), domain(2, 0)].as_slice());
@@ -362,7 +366,8 @@ fn asks_for_the_parts_in_order(rt: HostRuntime) -> Result<(), Fail> {
         ("triple a a copy\nwear 0\n", 3, CONFIG),
         ("triple a a copy\ndomain 9 u:r:t 65 1 1\n", 2, CONFIG),
         ("triple a a copy\n\n#\n", 4, CONFIG),
-        ("policy\n", 1, SYNTAX),
+        ("policy\n", 2, SYNTAX),
+        ("policy x\n", 1, SYNTAX),
     ] {
         assert_eq!(rt;
             fault(alloc, text.as_bytes()),
@@ -461,7 +466,7 @@ fn reads_the_first_generation(rt: HostRuntime) -> Result<(), Fail> {
 }
 
 #[test]
-fn refuses_what_no_line_says(rt: HostRuntime) -> Result<(), Fail> {
+fn refuses_what_no_call_says(rt: HostRuntime) -> Result<(), Fail> {
     let alloc = rt.alloc();
     for line in [
         "do",
@@ -514,6 +519,17 @@ fn refuses_what_no_line_says(rt: HostRuntime) -> Result<(), Fail> {
         "\u{feff}do 1 revoke 0",
         "do\u{b}1 revoke 0",
         "do 1 revoke 0\rx",
+    ] {
+        let text = and_line(alloc, HEAD, line)?;
+        assert_eq!(rt; fault(alloc, text.as_bytes()), on_line(4, SYNTAX), "{line}");
+    }
+    Ok(())
+}
+
+#[test]
+fn refuses_grants_maps_and_loads_that_say_nothing(rt: HostRuntime) -> Result<(), Fail> {
+    let alloc = rt.alloc();
+    for line in [
         "do 99 revoke x",
         "do 1 grant 0 book 2 rw 5",
         "do 1 grant 0 page 2 wr 5",
@@ -528,6 +544,17 @@ fn refuses_what_no_line_says(rt: HostRuntime) -> Result<(), Fail> {
         "do 1 map h 1 0",
         "do 1 map abcdefghijabcdefghijabcdefghij_99 1 0 rw",
         "do 1 load h 0 65536",
+    ] {
+        let text = and_line(alloc, HEAD, line)?;
+        assert_eq!(rt; fault(alloc, text.as_bytes()), on_line(4, SYNTAX), "{line}");
+    }
+    Ok(())
+}
+
+#[test]
+fn refuses_what_no_line_says(rt: HostRuntime) -> Result<(), Fail> {
+    let alloc = rt.alloc();
+    for line in [
         "DO 1 revoke 0",
         "begin",
         "begin 1",
@@ -685,7 +712,7 @@ fn takes_256_types(rt: HostRuntime) -> Result<(), Fail> {
     assert_eq!(rt; fault(alloc, by_label.as_bytes()), on_line(257, CONFIG));
     text.push_str("domain 1 u:r:t255 8 1 1\n")?;
     let script = parse(alloc, text.as_bytes())?;
-    assert_eq!(rt; script.types().len(), 256);
+    assert_eq!(rt; script.type_names(alloc)?.len(), 256);
     assert_eq!(rt; script.domains(), [domain(1, 255)].as_slice());
     Ok(())
 }
@@ -695,7 +722,7 @@ fn ends_each_beginning_of_a_text(rt: HostRuntime) -> Result<(), Fail> {
     let alloc = rt.alloc();
     let text = FIRST.as_bytes();
     for end in 0..text.len() {
-        assert_ne!(rt; fault(alloc, &text[..end]), Some(ScriptError::Memory));
+        assert_ne!(rt; fault(alloc, &text[..end]), on_line(0, FaultKind::Limit));
     }
     Ok(())
 }

@@ -154,6 +154,25 @@ fn prints_fields(rt: HostRuntime) -> Result<(), Fail> {
 }
 
 #[test]
+fn permissions_have_the_names_of_the_class(rt: HostRuntime) -> Result<(), Fail> {
+    for (perm, name) in [
+        (Perms::MAP_READ, "map_read"),
+        (Perms::MAP_WRITE, "map_write"),
+        (Perms::UNMAP, "unmap"),
+        (Perms::TRANSFER, "transfer"),
+        (Perms::SETUP, "setup"),
+        (Perms::COPY, "copy"),
+        (Perms::QUERY, "query"),
+    ] {
+        assert_eq!(rt; perm.name(), name);
+        assert_eq!(rt; Perms::named(name.as_bytes()), Some(perm));
+    }
+    assert_eq!(rt; Perms::named(b"map_red"), None);
+    assert_eq!(rt; Perms::named(b"*"), None);
+    Ok(())
+}
+
+#[test]
 fn allows_what_is_listed(rt: HostRuntime) -> Result<(), Fail> {
     let (a, b) = (TypeId(0), TypeId(1));
     let rights = Triples {

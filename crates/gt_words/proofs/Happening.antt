@@ -1,5 +1,5 @@
 -- A step on an entry takes the state that words and views show to the one that its event gives.
-use Rattle.std.proofs.Common.{◌≡◌, ◌≢◌, ℕ, Bool, true, false, cond, ◌==◌, ◌&&◌, List, [], ◌∷◌, map, get_or, set, sym, refl, ap, ◌∙◌, subst, eq-eqb, ne_eqb}
+use Rattle.std.proofs.Common.{◌≡◌, ℕ, Bool, true, cond, ◌==◌, ◌&&◌, List, [], ◌∷◌, map, get_or, set, sym, refl, ap, ◌∙◌, subst, eq-eqb}
 use mathlib.Core.Option.{some}
 use mathlib.Core.Logic.{dite}
 use native.Mathlib.Decide.{ℕ_discrete}

@@ -1,5 +1,5 @@
 -- Steps on a header word keep the rule, and take the shown state to the one that their event gives.
-use Rattle.std.proofs.Common.{◌≡◌, ◌≢◌, ◌⊎◌, inl, inr, ⊎_elim, ℕ, zero, suc, ◌<◌, Bool, true, false, cond, ◌==◌, List, [], ◌∷◌, map, get_or, set, sym, refl, ap, ◌∙◌, subst, arith, length-set, get_or-set_other, get_or-set_same, eq-eqb, ne_eqb}
+use Rattle.std.proofs.Common.{◌≡◌, ◌≢◌, ◌⊎◌, inl, inr, ⊎_elim, ℕ, ◌<◌, Bool, true, false, cond, ◌==◌, List, [], ◌∷◌, map, get_or, set, sym, refl, ap, ◌∙◌, subst, arith, length-set, get_or-set_other, get_or-set_same, eq-eqb, ne_eqb}
 use mathlib.Core.Option.{some, none}
 use mathlib.Core.Logic.{dite}
 use native.Mathlib.Decide.{ℕ_discrete}
@@ -8,7 +8,6 @@ use lib.Seq.{map-set}
 use Rattle.atomic_table.specs.Table.{State, Me, step, stepped, keeps, Allows}
 use Rattle.atomic_table.proofs.Lists.{at_set, set_again, at_map}
 use Rattle.gt_words.proofs.Lists.{whose_at, whose_here}
-use Rattle.gt_words.proofs.OneEntry.{mine}
 use Rattle.gt_words.proofs.Owed.{stored_owes}
 use Rattle.gt_words.specs.Conditions.{AddsToHeader, HeaderSteps, StoresHeader}
 use Rattle.gt_words.specs.Events.{Happens, HeaderByOwner, entry_by, event_on_header, header_after, shown_header}

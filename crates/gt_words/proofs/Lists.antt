@@ -1,5 +1,5 @@
 -- An item of a list, by its index.
-use Rattle.std.proofs.Common.{◌≡◌, ◌≢◌, ℕ, zero, suc, ◌+◌, ◌<◌, Bool, true, false, not, cond, ◌==◌, List, [], ◌∷◌, map, length, get_or, set, sym, refl, ap, ◌∙◌, subst, arith, eq-eqb, ne_eqb, Option, Some, None}
+use Rattle.std.proofs.Common.{◌≡◌, ◌≢◌, ℕ, zero, suc, ◌+◌, ◌-◌, ◌<◌, ◌≤◌, Bool, not, cond, ◌==◌, List, [], ◌∷◌, map, length, get_or, set, sym, refl, ap, ◌∙◌, subst, arith, eq-eqb, ne_eqb, Some, None}
 use Rattle.std.specs.Prelude.{AllPairs, unwrap_or, nat_lt}
 use Rattle.std.proofs.lemmas.Bool.Decides.{nat_tests}
 use Rattle.std.specs.List.{position_or_len}
@@ -24,6 +24,13 @@ module _ {A : Type 0} where
   whose_here [] t h y e = absurd (some-ne-none h (sym e))
   whose_here (x ∷ xs) zero h y e = refl
   whose_here (x ∷ xs) (suc t) h y e = whose_here xs t h y e
+
+  -- what holds of each item by its place holds with one more item in front
+  pub one_in_front : (P : ℕ → A → Type 0) (x : A) (xs ys : List A) (n : ℕ) → P 0 x → ((i : ℕ) → i < length xs → (d : A) → P (i + 1) (get_or xs i d)) → n ≤ length xs + 1 → ((d : A) → get_or ys 0 d ≡ x) → ((k : ℕ) (d : A) → 0 < k → get_or ys k d ≡ get_or xs (k - 1) d)
+      → (i : ℕ) → i < n → (d : A) → P i (get_or ys i d)
+  one_in_front P x xs ys n first rest long here there zero inside d = subst (P 0) (sym (here d)) first
+  one_in_front P x xs ys n first rest long here there (suc i) inside d = let j : ℕ = suc i - 1 in let next : j + 1 ≡ suc i = omega arith in
+      subst (P (suc i)) (sym (there (suc i) d (omega arith))) (subst (λ (m : ℕ). P m (get_or xs j d)) next (rest j (omega arith) d))
 
 -- a number is found where it stands, if it does not stand before
 position_or_len-id : (xs : List DomId) (at : ℕ) → at < length xs → ((i : ℕ) → i < at → (id_at xs i).0 ≢ (id_at xs at).0) → position_or_len (λ (x : DomId). x.0 == (id_at xs at).0) xs ≡ at

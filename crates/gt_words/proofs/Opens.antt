@@ -56,7 +56,7 @@ initial_header k t = let p : header_place t % 16392 ≡ 0 = omega arith in let q
     ap (λ (c : Bool). cond c (get_or k.headers (header_place t / 16392) 0) (cond (header_place t % 16392 % 8 == 0) (17592186044416 * k.first) 0)) (eq-eqb _ 0 p) ∙ ap (λ (i : ℕ). get_or k.headers i 0) q
 
 pub opens : {S : Type 0} (k : Layout) (ws : List ℕ) → length ws ≡ k.domains * 16392 → 0 < k.domains → k.first < 1048576 → ((t : ℕ) → t < k.domains → IsHeader (get_or k.headers t 0)) → ((i : ℕ) → i < k.domains * 16392 → get_or ws i 0 ≡ initial k i)
-    → Shows {S = S} k (opening ws [] (new_view k.first k.headers 0))
+    → Shows {S = S} k (opening ws [] (new_view k.first k.headers k.ids 0))
 opens k ws wide some_domain small headers is = record {
   wide = wide;
   dealt = ((λ v e. ap (λ (z : View). z.dealt) (sym (some-injective _ v e))), omega arith, omega arith);
@@ -66,7 +66,7 @@ opens k ws wide some_domain small headers is = record {
       (e ∙ ap (stored_header (get_or k.headers t 0)) (sym (nothing_at t)), subst IsHeader (sym e) (headers t tn));
 }
   where
-    one : (j : ℕ) (v : View) → get_elem? (new_view k.first k.headers 0 ∷ []) j ≡ some v → (v.position ≡ j) × (v.first ≡ k.first) × (v.headers ≡ k.headers)
+    one : (j : ℕ) (v : View) → get_elem? (new_view k.first k.headers k.ids 0 ∷ []) j ≡ some v → (v.position ≡ j) × (v.first ≡ k.first) × (v.headers ≡ k.headers)
     one zero v e = (ap (λ (z : View). z.position) (sym (some-injective _ v e)), ap (λ (z : View). z.first) (sym (some-injective _ v e)), ap (λ (z : View). z.headers) (sym (some-injective _ v e)))
     one (suc j) v e = absurd (some-ne-none v (sym e))
 

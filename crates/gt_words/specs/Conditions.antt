@@ -1,10 +1,9 @@
 -- What calls ask of their caller, and what their answers say.
-use Rattle.std.specs.Prelude.{◌≡◌, ◌≢◌, ◌⊎◌, ℕ, ◌+◌, ◌-◌, ◌*◌, ◌<◌, ◌≤◌, List, [], ◌∷◌, length, Option, Some, IfSome, slice_get, cond, ◌==◌, ◌/◌, ◌%◌, slice_index, true, false}
+use Rattle.std.specs.Prelude.{◌≡◌, ◌≢◌, ◌⊎◌, ℕ, ◌+◌, ◌-◌, ◌*◌, ◌<◌, ◌≤◌, [], ◌∷◌, length, Some, IfSome, cond, ◌==◌, ◌/◌, ◌%◌, slice_index, true}
 use mathlib.Core.Option.{some}
 use lib.ListN.{get_elem?}
 use Rattle.atomic_table.specs.Table.{State}
 use Rattle.atomic_table.specs.Seated.{TableId}
-use Rattle.gt_entry.specs.Permits.{permits}
 use Rattle.gt_entry.specs.Spelling.{idle_word_of, word_of}
 use Rattle.gt_entry.specs.Words.{unit_of}
 use Rattle.gt_entry.specs.declared.header.Header.{Header}
@@ -43,11 +42,12 @@ pub record SeatOf : Type 0 where
   pub dom : DomId
   pub view : View
 
--- the seat is of these words, and of the domain at its position
+-- the seat is of these words, knows their domains, and is of the domain at its position
 pub record IsSeatOf (b : Board) (s : SeatOf) : Type 0 where
   pub table : s.table ≡ b.table
   pub inside : s.view.position < length b.layout.ids
   pub named : id_at b.layout.ids s.view.position ≡ s.dom
+  pub ids : s.view.ids ≡ b.layout.ids
 
 -- the header has version 1 or 2, and a number of table frames within the limit
 pub record IsKeptHeader (h : Header) : Type 0 where
@@ -62,6 +62,7 @@ pub record IsSameSeat (s s' : SeatOf) : Type 0 where
   pub position : s'.view.position ≡ s.view.position
   pub first : s'.view.first ≡ s.view.first
   pub headers : s'.view.headers ≡ s.view.headers
+  pub ids : s'.view.ids ≡ s.view.ids
 
 -- the words of each domain
 abbrev pub IsWide : ℕ → Layout → Type 0

@@ -1,5 +1,5 @@
 -- The state of the core that words and views show, and what each event of the core makes of it.
-use Rattle.std.specs.Prelude.{◌≡◌, ℕ, ◌<◌, Bool, cond, ◌==◌, ◌&&◌, List, [], ◌∷◌, map, slice_index_or, slice_set}
+use Rattle.std.specs.Prelude.{◌≡◌, ℕ, cond, ◌==◌, ◌&&◌, List, [], ◌∷◌, map, slice_index_or, slice_set}
 use Rattle.atomic_table.specs.Table.{State}
 use Rattle.gt_words.specs.declared.view.Half.TheVariants.{First, Second}
 use Rattle.gt_words.specs.declared.view.Record.{Record}

@@ -2,23 +2,24 @@
 use Rattle.std.specs.Prelude.{◌≡◌, ℕ, ◌+◌, List, []}
 use Rattle.atomic_table.specs.Seated.{TableId}
 use Rattle.atomic_table.specs.declared.shared.Seat.{Seat}
+use Rattle.gt_types.specs.declared.DomId.{DomId}
 use Rattle.gt_words.specs.declared.view.View.{View}
 use Rattle.gt_words.specs.Rule.{Layout}
 
 -- the view of a seat that has done nothing
-abbrev pub new_view : ℕ → List ℕ → ℕ → View
-new_view g headers t = record { position = t; first = g; headers = headers; dealt = 1; steps = [] }
+abbrev pub new_view : ℕ → List ℕ → List DomId → ℕ → View
+new_view g headers ids t = record { position = t; first = g; headers = headers; ids = ids; dealt = 1; steps = [] }
 
 -- a seat is dealt: the view of the seat that deals, and that of the new one
 abbrev pub dealer_after : View → View
 dealer_after v = record v { dealt = v.dealt + 1 }
 
 abbrev pub dealt_to : View → View
-dealt_to v = new_view v.first v.headers v.dealt
+dealt_to v = new_view v.first v.headers v.ids v.dealt
 
 -- the same seat, whatever it knows
 abbrev pub IsSamePlace : Seat (Unit {0}) View → Seat (Unit {0}) View → Type 0
-IsSamePlace s t = (t.table_id ≡ s.table_id) × (t.id ≡ s.id) × (t.me.1 ≡ s.me.1) × (t.me.0.position ≡ s.me.0.position) × (t.me.0.first ≡ s.me.0.first) × (t.me.0.headers ≡ s.me.0.headers)
+IsSamePlace s t = (t.table_id ≡ s.table_id) × (t.id ≡ s.id) × (t.me.1 ≡ s.me.1) × (t.me.0.position ≡ s.me.0.position) × (t.me.0.first ≡ s.me.0.first) × (t.me.0.headers ≡ s.me.0.headers) × (t.me.0.ids ≡ s.me.0.ids)
 
 -- the seat at the position i, which has done nothing
 pub record IsNewPlace (z : TableId) (k : Layout) (i : ℕ) (s : Seat (Unit {0}) View) : Type 0 where
@@ -27,4 +28,5 @@ pub record IsNewPlace (z : TableId) (k : Layout) (i : ℕ) (s : Seat (Unit {0}) 
   pub position : s.me.0.position ≡ i
   pub first : s.me.0.first ≡ k.first
   pub headers : s.me.0.headers ≡ k.headers
+  pub ids : s.me.0.ids ≡ k.ids
   pub steps : s.me.0.steps ≡ []

@@ -1,5 +1,5 @@
 -- What follows from the steps of one seat. Lists begin with what came last.
-use Rattle.std.specs.Prelude.{◌≡◌, ◌⊎◌, ℕ, ◌+◌, ◌*◌, ◌/◌, ◌%◌, Bool, true, false, cond, IsSome, ◌==◌, ◌&&◌, List, [], ◌∷◌, Option, Some, None, slice_index}
+use Rattle.std.specs.Prelude.{◌≡◌, ◌⊎◌, ℕ, ◌+◌, Bool, true, false, cond, IsSome, ◌==◌, ◌&&◌, List, [], ◌∷◌, Option, Some, None, slice_index}
 use Rattle.gt_types.specs.declared.Dir.{Dir}
 use Rattle.gt_types.specs.declared.Dir.TheVariants.{Read, Write}
 use Rattle.gt_entry.specs.declared.entry.Entry.TheVariants as entries

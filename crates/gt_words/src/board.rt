@@ -31,7 +31,7 @@ pub struct Entries;
 impl TableRule<(), View, Config> for Entries {
     ghost holds = { λ c. Shows (layout_of c) };
 
-    ghost first = { λ c. new_view c.first_gen (layout_of c).headers 0 };
+    ghost first = { λ c. new_view c.first_gen (layout_of c).headers (layout_of c).ids 0 };
 }
 
 /// The kind of a step, which each call of a raw step picks.

@@ -7,7 +7,7 @@ ghost use Rattle.gt_words.specs.Places.{IsNewPlace, dealer_after, dealt_to};
 
 use crate::board::{DOMAIN_WORDS, ENTRY_WORDS, Place, WordTable};
 use crate::view::View;
-use crate::words::Seat;
+use crate::words::{Found, Seat};
 use atomic_table::Split;
 use gt_entry::Header;
 use gt_types::{Config, DomainConfig};
@@ -65,6 +65,10 @@ fn new_seat(config: &Config, place: Place, at: usize) -> Seat
         dom: domain.id,
         position: at,
         header: first_header(domain),
+        found: Found {
+            dom: config.domains[0].id,
+            position: 0,
+        },
     }
 }
 

@@ -185,6 +185,31 @@ fn revoke_pinned(
     Some(answer)
 }
 
+// The other domain pins the entry and gives the pin back. Answers the pin and the control word that the owner saw while it
+// was live, or nothing where it was not taken.
+fn pin_for_a_while(
+    words: &Words,
+    owner: &mut Seat,
+    other: &mut Seat,
+    dom: DomId,
+    gref: GrantRef,
+    dir: Dir,
+) -> Option<(Pin, u64)>
+    requires owner { IsSeatOf words.now owner.old }
+    requires other { IsSeatOf words.now other.old }
+    requires entry { (position_in words.now.layout.ids dom < length words.now.layout.ids) × (gref.0 < TABLE_ENTRIES) }
+    ensures owner { IsSameSeat owner.old owner.new }
+    ensures other { IsSameSeat other.old other.new }
+{
+    let sight = look(words, other, dom, gref);
+    let Some(Ok(pin)) = try_pin(words, other, dom, gref, &sight, dir) else {
+        return None;
+    };
+    let word = words.load_control(owner, dom, gref);
+    words.unpin(other, pin);
+    Some((pin, word))
+}
+
 // Grants a page and revokes it again, so many times.
 fn toggle(words: &Words, mut seat: Seat, gref: GrantRef, mut row: Row, times: u32) -> (Seat, Row)
     requires seat { IsSeatOf words.now seat }
@@ -254,6 +279,7 @@ fn start(alloc: Global, config: &Config) -> Result<(Words, Seat, Seat), StartFau
     requires ids { (layout_of config.now).ids ≡ record { 0 = 1 } ∷ record { 0 = 2 } ∷ [] }
     requires first { config.now.first_gen ≡ 0 }
     ensures domain { IfOk result (λ r. position_in r.0.layout.ids (record { 0 = 1 }) < length r.0.layout.ids) }
+    ensures second { IfOk result (λ r. position_in r.0.layout.ids (record { 0 = 2 }) < length r.0.layout.ids) }
     ensures owner { IfOk result (λ r. IsSeatOf r.0 r.1 × (last_of 0 r.1.view ≡ record { generation = 0; entry = Entry.Invalid })) }
     ensures other { IfOk result (λ r. IsSeatOf r.0 r.2) }
 {
@@ -264,6 +290,8 @@ fn start(alloc: Global, config: &Config) -> Result<(Words, Seat, Seat), StartFau
 }
 
 const OWNER: DomId = DomId(1);
+
+const OTHER: DomId = DomId(2);
 
 const ENTRY: GrantRef = GrantRef(0);
 
@@ -333,6 +361,56 @@ fn refuses_to_revoke_a_pinned_entry(rt: HostRuntime) -> Result<(), Fail> {
         0x0000_1000_2000_0001
     );
     assert_eq!(rt; revoke(&words, &mut owner, ENTRY, &mut row), Ok(()));
+    Ok(())
+}
+
+#[test]
+fn counts_a_pin_until_it_is_given_back(rt: HostRuntime) -> Result<(), Fail> {
+    let config = two_domains(rt.alloc())?;
+    let (words, mut owner, mut other) = start(rt.alloc(), &config)?;
+    let mut row = Row {
+        entry: Entry::Invalid,
+        generation: 0,
+    };
+    publish(&words, &mut owner, ENTRY, &mut row, page(5))
+        .ok()
+        .ok_or("a grant")?;
+    let idle = 0x0000_1000_2000_0001;
+    let read = Pin {
+        dom: OWNER,
+        gref: ENTRY,
+        word: idle,
+        dir: Dir::Read,
+    };
+    let write = Pin {
+        dir: Dir::Write,
+        ..read
+    };
+    assert_eq!(rt;
+        pin_for_a_while(&words, &mut owner, &mut other, OWNER, ENTRY, Dir::Read),
+        Some((read, 0x0000_1000_2000_0011))
+    );
+    assert_eq!(rt; words.load_control(&mut owner, OWNER, ENTRY), idle);
+    assert_eq!(rt;
+        pin_for_a_while(&words, &mut owner, &mut other, OWNER, ENTRY, Dir::Write),
+        Some((write, 0x0000_1000_2001_0001))
+    );
+    assert_eq!(rt; words.load_control(&mut owner, OWNER, ENTRY), idle);
+    Ok(())
+}
+
+#[test]
+fn finds_each_domain_by_its_number(rt: HostRuntime) -> Result<(), Fail> {
+    let config = two_domains(rt.alloc())?;
+    let (words, mut owner, mut other) = start(rt.alloc(), &config)?;
+    words.set_version(&mut owner, 2);
+    words.setup(&mut other, 3);
+    assert_eq!(rt; words.load_header(&mut owner, OWNER), 6);
+    assert_eq!(rt; words.load_header(&mut owner, OTHER), 13);
+    assert_eq!(rt; words.load_header(&mut owner, OTHER), 13);
+    assert_eq!(rt; words.load_header(&mut owner, OWNER), 6);
+    assert_eq!(rt; words.load_header(&mut other, OWNER), 6);
+    assert_eq!(rt; words.load_header(&mut other, OTHER), 13);
     Ok(())
 }
 

@@ -1,6 +1,6 @@
 //! What a seat knows, as plain data for contracts. No value of it is made when the program runs.
 use gt_entry::Entry;
-use gt_types::Dir;
+use gt_types::{Dir, DomId};
 use std::collections::LinkedList;
 
 /// One of the two body words of an entry.
@@ -100,6 +100,8 @@ pub struct View {
     pub first: u64,
     /// The headers that the domains began with.
     pub headers: LinkedList<u64>,
+    /// The domains of the run, in order.
+    pub ids: LinkedList<DomId>,
     /// The number of seats that this one has dealt, its own among them.
     pub dealt: u64,
     pub steps: LinkedList<Step>,

@@ -22,6 +22,13 @@ use gt_types::{
 use std::alloc::{AllocError, Global};
 use std::marker::Model;
 
+/// A domain, and its position among those of the run.
+#[derive(Clone, Copy)]
+pub(crate) struct Found {
+    pub dom: DomId,
+    pub position: usize,
+}
+
 /// A domain's right to step on the words. There is one for each domain of the run.
 #[derive(Drop)]
 pub struct Seat {
@@ -29,6 +36,8 @@ pub struct Seat {
     pub(crate) dom: DomId,
     pub(crate) position: usize,
     pub(crate) header: Header,
+    /// The domain that was looked up last: the calls on one entry follow one another, and name one domain.
+    pub(crate) found: Found,
 }
 
 impl Model for Seat {
@@ -36,7 +45,7 @@ impl Model for Seat {
 
     ghost view = { λ s. record { table = s.place.table_id; dom = s.dom; view = s.place.me.0 } };
 
-    ghost invariant = { λ s. (s.place.me.1 ≡ []) × (s.place.me.0.position ≡ s.position) × (own_header s.place.me.0 ≡ header_word s.header) × IsKeptHeader s.header };
+    ghost invariant = { λ s. (s.place.me.1 ≡ []) × (s.place.me.0.position ≡ s.position) × (own_header s.place.me.0 ≡ header_word s.header) × IsKeptHeader s.header × (s.found.position ≡ position_in s.place.me.0.ids s.found.dom) };
 }
 
 impl Seat {
@@ -80,6 +89,8 @@ fn found_in(ids: &[DomId], dom: DomId) -> Option<usize>
 }
 
 // The position of a domain, or the number of domains where it is none of them.
+#[cold]
+#[inline(never)]
 fn position_of(ids: &[DomId], dom: DomId) -> usize
     ensures { result ≡ position_in ids.now dom }
 {
@@ -132,6 +143,21 @@ impl Words {
         }
     }
 
+    // The position of a domain, which is searched where it is another than the last one.
+    #[inline(always)]
+    fn position(&self, seat: &mut Seat, dom: DomId) -> usize
+        requires { IsSeatOf self.now seat.old }
+        ensures position { result ≡ position_in self.now.layout.ids dom }
+        ensures seat { seat.new ≡ seat.old }
+    {
+        if seat.found.dom.0 == dom.0 {
+            return seat.found.position;
+        }
+        let position = position_of(&self.ids, dom);
+        seat.found = Found { dom, position };
+        position
+    }
+
     /// A look at the header word of a domain: its table's version and number of frames.
     pub fn load_header(&self, seat: &mut Seat, dom: DomId) -> u64
         requires seat { IsSeatOf self.now seat.old }
@@ -141,7 +167,7 @@ impl Words {
         ensures step { HeaderSteps self.now.layout (position_in self.now.layout.ids dom) (HeaderStep.Looked result) result result seat.old.view seat.new.view }
         ensures pins { KeepsPins seat.old.view seat.new.view }
     {
-        let at = position_of(&self.ids, dom);
+        let at = self.position(seat, dom);
         self.words.load_header(&mut seat.place, at)
     }
 
@@ -181,7 +207,7 @@ impl Words {
         ensures own { dom ≡ seat.old.dom → IsWordOf (last_of gref.0 seat.new.view) result }
         ensures pins { KeepsPins seat.old.view seat.new.view }
     {
-        let at = position_of(&self.ids, dom);
+        let at = self.position(seat, dom);
         self.words
             .load_control(&mut seat.place, at, gref.0 as usize)
     }
@@ -194,7 +220,7 @@ impl Words {
         ensures step { BodySteps self.now.layout (position_in self.now.layout.ids dom) gref.0 half (EntryStep.ReadBody half result) result result seat.old.view seat.new.view }
         ensures pins { KeepsPins seat.old.view seat.new.view }
     {
-        let at = position_of(&self.ids, dom);
+        let at = self.position(seat, dom);
         self.words
             .load_body(&mut seat.place, at, gref.0 as usize, half)
     }
@@ -223,7 +249,7 @@ impl Words {
             (λ n. MissesPin self.now.layout (position_in self.now.layout.ids dom) gref.0 dir looked n seat.old.view seat.new.view) }
         ensures counted { CountsPins self.now.layout (position_in self.now.layout.ids dom) gref.0 dir }
     {
-        let at = position_of(&self.ids, dom);
+        let at = self.position(seat, dom);
         self.words
             .pin(&mut seat.place, at, gref.0 as usize, looked, dir)?;
         Ok(Pin {
@@ -242,7 +268,7 @@ impl Words {
         ensures seat { IsSameSeat seat.old seat.new }
         ensures step { Unpins self.now.layout (position_in self.now.layout.ids pin.dom) pin.gref.0 pin.dir (generation_of pin.word) seat.old.view seat.new.view }
     {
-        let at = position_of(&self.ids, pin.dom);
+        let at = self.position(seat, pin.dom);
         let generation = u64::from(Control::unpack(pin.word).generation);
         self.words.unpin(
             &mut seat.place,

@@ -9,32 +9,42 @@ use Rattle.clap.specs.declared.error.Error.{Error}
 use Rattle.clap.specs.declared.error.kind.ErrorKind.TheVariants.{DisplayHelp, InvalidSubcommand, MissingSubcommand, TooManyValues, UnknownArgument}
 use Rattle.clap.specs.declared.parser.matches.ArgMatches.{ArgMatches}
 use Rattle.gthost.specs.declared.plan.Invocation.{Invocation}
-use Rattle.gthost.specs.declared.plan.Mode.TheVariants.{Play}
+use Rattle.gthost.specs.declared.plan.Mode.{Mode}
+use Rattle.gthost.specs.declared.plan.Mode.TheVariants.{Play, Policy}
 
 -- (own) [FILE]
 abbrev pub file_rule : Rule
 file_rule = record (new_rule (codes "file")) { value_names = 1 }
 
--- (own) play [FILE]
-abbrev pub play_app : App
-play_app = with_rule (new_app (codes "play")) file_rule
+-- (own) the names of the commands
+abbrev pub command_name : Mode → Text
+command_name Play = codes "play"
+command_name Policy = codes "policy"
 
--- (own) gthost COMMAND; there is no command `help`
+-- (own) COMMAND [FILE]
+abbrev pub command_app : Text → App
+command_app name = with_rule (new_app name) file_rule
+
+-- (own) gthost with no command
+abbrev pub bare_app : App
+bare_app = on_top (λ s. record s { subcommand_required = true; disable_help_subcommand = true }) (new_app (codes "gthost"))
+
+-- (own) gthost COMMAND, of two commands; there is no command `help`
 abbrev pub gthost_app : App
-gthost_app = with_subcommand (on_top (λ s. record s { subcommand_required = true; disable_help_subcommand = true }) (new_app (codes "gthost"))) play_app.top
+gthost_app = with_subcommand (with_subcommand bare_app (command_app (codes "play")).top) (command_app (codes "policy")).top
 
 -- (own) the plan has the values of these rows
 abbrev pub Reads : Invocation → List Row → Type 0
 Reads p rows = option_map (λ f. f.now) p.file ≡ first_of (codes "file") rows
 
--- (own) the plan is to play, with what was matched
-abbrev pub IsRead : Invocation → ArgMatches → Type 0
-IsRead p m = (p.mode ≡ Play) × Reads p (rows_of (found_of m))
+-- (own) the plan is to do this, with what was matched
+abbrev pub IsRead : Mode → Invocation → ArgMatches → Type 0
+IsRead mode p m = (p.mode ≡ mode) × Reads p (rows_of (found_of m))
 
 -- (own) the plan is that of the subcommand that the words name, with its matches
 abbrev pub IsPlanOf : Invocation → Option (Text × List Row) → Type 0
 IsPlanOf p None = ⊥
-IsPlanOf p (Some (name, rows)) = (name ≡ codes "play") × (p.mode ≡ Play) × Reads p rows
+IsPlanOf p (Some (name, rows)) = (name ≡ command_name p.mode) × Reads p rows
 
 -- what a word is
 
@@ -64,51 +74,52 @@ word_of word = if bytes_eq word (codes "--") then mark else word_with (long_of w
 
 -- what the words ask for
 
--- (own) to play the script in the FILE, or on standard input; help; or nothing that the program does
+-- (own) to do this with the text in the FILE, or on standard input; help; or nothing that the program does
 pub data Request : Type 0 where
-  to_play : Option Text → Request
+  to_do : Mode → Option Text → Request
   for_help : Request
   nothing : Request
 
 -- (own) behind the mark each word is a FILE, of which there is one at most
-abbrev pub asked_behind_mark : Option Text → List Text → Request
-asked_behind_mark file [] = to_play file
-asked_behind_mark None (word ∷ rest) = asked_behind_mark (Some word) rest
-asked_behind_mark (Some file) (word ∷ rest) = nothing
+abbrev pub asked_behind_mark : Mode → Option Text → List Text → Request
+asked_behind_mark mode file [] = to_do mode file
+asked_behind_mark mode None (word ∷ rest) = asked_behind_mark mode (Some word) rest
+asked_behind_mark mode (Some file) (word ∷ rest) = nothing
 
--- (own) what a word behind `play` asks for: `later` is what the words behind it ask for where it is the FILE
-abbrev pub asked_by : Word → Option Text → List Text → Request → Request
-asked_by mark file rest later = asked_behind_mark file rest
-asked_by help file rest later = for_help
-asked_by flag file rest later = nothing
-asked_by plain None rest later = later
-asked_by plain (Some file) rest later = nothing
+-- (own) what a word behind a command asks for: `later` is what the words behind it ask for where it is the FILE
+abbrev pub asked_by : Mode → Word → Option Text → List Text → Request → Request
+asked_by mode mark file rest later = asked_behind_mark mode file rest
+asked_by mode help file rest later = for_help
+asked_by mode flag file rest later = nothing
+asked_by mode plain None rest later = later
+asked_by mode plain (Some file) rest later = nothing
 
--- (own) behind `play`, with the FILE so far
-abbrev pub asked_of_play : Option Text → List Text → Request
-asked_of_play file [] = to_play file
-asked_of_play file (word ∷ rest) = asked_by (word_of word) file rest (asked_of_play (Some word) rest)
+-- (own) behind a command, with the FILE so far
+abbrev pub asked_of : Mode → Option Text → List Text → Request
+asked_of mode file [] = to_do mode file
+asked_of mode file (word ∷ rest) = asked_by mode (word_of word) file rest (asked_of mode (Some word) rest)
 
 abbrev pub asked_of_none : Word → Request
 asked_of_none help = for_help
 asked_of_none _ = nothing
 
--- (own) the words behind the program's name: `play` and what is behind it, or a flag that asks for help
+-- (own) the words behind the program's name: a command and what is behind it, or a flag that asks for help
 abbrev pub asked : List Text → Request
 asked [] = nothing
-asked (word ∷ rest) = if bytes_eq (codes "play") word then asked_of_play None rest else asked_of_none (word_of word)
+asked (word ∷ rest) = if bytes_eq (codes "play") word then asked_of Play None rest
+    else (if bytes_eq (codes "policy") word then asked_of Policy None rest else asked_of_none (word_of word))
 
 -- what is answered
 
 -- (own) the kinds of error that answer it, beside want of memory
 abbrev pub refusals : Request → Kinds
-refusals (to_play file) = []
+refusals (to_do mode file) = []
 refusals for_help = DisplayHelp ∷ []
 refusals nothing = UnknownArgument ∷ InvalidSubcommand ∷ MissingSubcommand ∷ TooManyValues ∷ []
 
 -- (own) the plan is what was asked for
 abbrev pub IsPlanFor : Request → Invocation → Type 0
-IsPlanFor (to_play file) p = (p.mode ≡ Play) × (option_map (λ f. f.now) p.file ≡ file)
+IsPlanFor (to_do mode file) p = (p.mode ≡ mode) × (option_map (λ f. f.now) p.file ≡ file)
 IsPlanFor for_help p = ⊥
 IsPlanFor nothing p = ⊥
 

@@ -1,19 +1,23 @@
-//! The program `gthost`: a thin layer over the library `gt_host`.
+//! The program `gthost`: a thin layer over the libraries `gt_host` and `gt_listing`.
 //!
 //! `gthost play [FILE]` runs the script in FILE, or on standard input, and prints its answers.
+//! `gthost policy [FILE]` lists the triples that the policy in FILE, or on standard input, allows.
 //! A fault goes to standard error in one line. The exit status is 0 for success (of `--help`
-//! too), 1 for a fault of the script, the file or memory, and 2 for a wrong command line.
+//! too), 1 for a fault of script, policy, file or memory, and 2 for a wrong command line.
 //!
-//! What the words of a command line ask for is proved (`plan`), and so is what `play` writes
-//! (`gt_host`). That this file hands the one to the other is told by the run of the program.
+//! What the words of a command line ask for is proved (`plan`), and so is what `play` and `policy`
+//! write. That this file hands the one to the other is told by the run of the program.
 #![tactic(auto)]
 
 pub mod plan;
 #[cfg(test)]
 mod tests;
 
-use gt_host::{Fault, play};
+use gt_host::{PlayFault, play};
+use gt_listing::policy;
+use gt_streams::ReadFault;
 use plan::{Invocation, Mode};
+use std::fmt;
 use std::fs::File;
 use std::io::{self, ErrorKind};
 use std::process::ExitCode;
@@ -21,7 +25,7 @@ use std::process::ExitCode;
 fn main(rt: HostRuntime) -> ExitCode {
     match words(&rt) {
         Ok(words) => obey(&rt, words.as_slice()),
-        Err(error) if error.kind() == ErrorKind::OutOfMemory => report(&rt, Err(Fault::Memory)),
+        Err(error) if error.kind() == ErrorKind::OutOfMemory => report(&rt, Err(PlayFault::Memory)),
         Err(_) => {
             let _ = rt.eprintln("error: a word of the command line is no UTF-8");
             ExitCode::from(2)
@@ -38,9 +42,9 @@ fn words(rt: &HostRuntime) -> io::Result<Vec<String>> {
 // Does what the words ask for.
 fn obey(rt: &HostRuntime, words: &[String]) -> ExitCode {
     match plan::plan(rt.alloc(), words) {
-        Ok(invocation) => report(rt, run(rt, &invocation)),
+        Ok(invocation) => run(rt, &invocation),
         Err(error) if error.kind() == clap::error::ErrorKind::OutOfMemory => {
-            report(rt, Err(Fault::Memory))
+            report(rt, Err(PlayFault::Memory))
         }
         Err(error) => {
             let _ = error.print(rt);
@@ -49,25 +53,38 @@ fn obey(rt: &HostRuntime, words: &[String]) -> ExitCode {
     }
 }
 
-fn run(rt: &HostRuntime, invocation: &Invocation) -> Result<(), Fault> {
+fn run(rt: &HostRuntime, invocation: &Invocation) -> ExitCode {
     match invocation.mode {
-        Mode::Play => match invocation.file {
-            Some(name) => play_file(rt, name),
-            None => play(rt.alloc(), &mut rt.reader(), &mut io::writer(rt), false),
-        },
+        Mode::Play => report(rt, play_from(rt, invocation.file)),
+        Mode::Policy => report(rt, list_from(rt, invocation.file)),
     }
 }
 
-fn play_file(rt: &HostRuntime, name: &str) -> Result<(), Fault> {
+fn play_from(rt: &HostRuntime, file: Option<&str>) -> Result<(), PlayFault> {
+    match file {
+        Some(name) => play(rt.alloc(), &mut open(rt, name)?, &mut io::writer(rt), false),
+        None => play(rt.alloc(), &mut rt.reader(), &mut io::writer(rt), false),
+    }
+}
+
+fn list_from(rt: &HostRuntime, file: Option<&str>) -> Result<(), gt_listing::Fault> {
+    match file {
+        Some(name) => policy(rt.alloc(), &mut open(rt, name)?, &mut io::writer(rt)),
+        None => policy(rt.alloc(), &mut rt.reader(), &mut io::writer(rt)),
+    }
+}
+
+// A file that can't be opened can't be read.
+fn open(rt: &HostRuntime, name: &str) -> Result<File, ReadFault> {
     match File::open(rt, name) {
-        Ok(mut file) => play(rt.alloc(), &mut file, &mut io::writer(rt), false),
-        Err(error) if error.kind() == ErrorKind::OutOfMemory => Err(Fault::Memory),
-        Err(_) => Err(Fault::Read),
+        Ok(file) => Ok(file),
+        Err(error) if error.kind() == ErrorKind::OutOfMemory => Err(ReadFault::Memory),
+        Err(_) => Err(ReadFault::Read),
     }
 }
 
 // The exit status. A fault goes to standard error.
-fn report(rt: &HostRuntime, outcome: Result<(), Fault>) -> ExitCode {
+fn report<E: fmt::Display + Drop>(rt: &HostRuntime, outcome: Result<(), E>) -> ExitCode {
     match outcome {
         Ok(()) => ExitCode::SUCCESS,
         Err(fault) => {

@@ -12,20 +12,35 @@ fn words_of(alloc: Global, line: &[&str]) -> Result<Vec<String>, AllocError> {
 }
 
 #[test]
-fn play_takes_its_file_from_the_line(rt: HostRuntime) -> Result<(), Fail> {
+fn a_command_takes_its_file_from_the_line(rt: HostRuntime) -> Result<(), Fail> {
     let alloc = rt.alloc();
-    let lines: [(&[&str], Option<&str>); 5] = [
-        (&["gthost", "play"], None),
-        (&["gthost", "play", "first.gt"], Some("first.gt")),
-        (&["gthost", "play", "-"], Some("-")),
-        (&["gthost", "play", "--", "--help"], Some("--help")),
-        (&["gthost", "play", "first.gt", "--"], Some("first.gt")),
+    let lines: [(&[&str], Mode, Option<&str>); 8] = [
+        (&["gthost", "play"], Mode::Play, None),
+        (
+            &["gthost", "play", "first.gt"],
+            Mode::Play,
+            Some("first.gt"),
+        ),
+        (&["gthost", "play", "-"], Mode::Play, Some("-")),
+        (
+            &["gthost", "play", "--", "--help"],
+            Mode::Play,
+            Some("--help"),
+        ),
+        (
+            &["gthost", "play", "first.gt", "--"],
+            Mode::Play,
+            Some("first.gt"),
+        ),
+        (&["gthost", "policy"], Mode::Policy, None),
+        (&["gthost", "policy", "play"], Mode::Policy, Some("play")),
+        (&["gthost", "play", "policy"], Mode::Play, Some("policy")),
     ];
-    for (line, file) in lines {
+    for (line, mode, file) in lines {
         let words = words_of(alloc, line)?;
         match plan(alloc, words.as_slice()) {
             Ok(invocation) => {
-                assert_eq!(rt; invocation.mode, Mode::Play);
+                assert_eq!(rt; invocation.mode, mode);
                 assert_eq!(rt; invocation.file, file);
             }
             Err(_) => assert!(rt; false),
@@ -37,9 +52,12 @@ fn play_takes_its_file_from_the_line(rt: HostRuntime) -> Result<(), Fail> {
 #[test]
 fn help_is_no_fault(rt: HostRuntime) -> Result<(), Fail> {
     let alloc = rt.alloc();
-    let lines: [(&[&str], bool); 8] = [
+    let lines: [(&[&str], bool); 11] = [
         (&["gthost", "--help"], false),
         (&["gthost", "play", "-h"], false),
+        (&["gthost", "policy", "--help"], false),
+        (&["gthost", "policy", "a.te", "b.te"], true),
+        (&["gthost", "policy", "--audit"], true),
         (&["gthost"], true),
         (&["gthost", "run", "first.gt"], true),
         (&["gthost", "help"], true),

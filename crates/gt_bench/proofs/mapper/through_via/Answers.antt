@@ -1,4 +1,4 @@
-use Rattle.std.proofs.Common.{◌≡◌, ◌∙◌, sym, ap, subst, ℕ, true, inr}
+use Rattle.std.proofs.Common.{◌≡◌, ◌∙◌, sym, ap, subst, true, inr}
 use Rattle.gt_entry.specs.Permits.{forwards}
 use Rattle.gt_entry.specs.declared.entry.Entry.{Entry}
 use Rattle.gt_types.specs.declared.Dir.TheVariants.{Read}

@@ -1,11 +1,12 @@
+use Rattle.gt_script.specs.Script.{Tells}
 use Rattle.gt_host.proofs.PlayLemmas.{Keeps-same}
 use Rattle.gt_host.proofs.PlayedLemmas.{played_nothing, played_run}
 use Rattle.gt_host.proofs.playing.play_bytes.Goals as goal
 
 pub returns-in-Ok : goal.returns-in-Ok
 returns-in-Ok g c = λ all e.
-    played_run _ _ _ _ _ (c.in-Ok.ensures.beginning all e) c.write_run.ensures.whole c.write_run.ensures.beginning c.write_run.ensures.errors
+    played_run (Tells all) c.in-Ok.script c.write_run.result _ _ _ (c.in-Ok.ensures.beginning all e) c.write_run.ensures.whole c.write_run.ensures.beginning c.told.ensures
 
 pub returns-in-Err : goal.returns-in-Err
 returns-in-Err g c = λ all e.
-    played_nothing _ c.in-Err.error _ _ _ (c.in-Err.ensures.beginning all e) (Keeps-same _) c.from.ensures
+    played_nothing (Tells all) c.in-Err.error _ _ _ (c.in-Err.ensures.beginning all e) (Keeps-same _) c.from.ensures

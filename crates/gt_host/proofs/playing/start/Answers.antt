@@ -5,4 +5,4 @@ use Rattle.gt_host.proofs.playing.start.Goals as goal
 pub returns-in-Ok-clause-starts : goal.returns-in-Ok-clause-starts
 returns-in-Ok-clause-starts c =
     starts_for c.args.script.now c.in-Ok.core _ _ c.in-Ok.ensures.config c.in-Ok.ensures.rights c.in-Ok.ensures.stands
-    (c.in_ok-from_slice.ensures.items ∙ c.domains.ensures) c.first_gen.ensures (c.in_ok-from_slice-2.ensures.items ∙ c.triples.ensures)
+    (c.in_ok-from_slice.ensures.items ∙ c.domains.ensures) c.first_gen.ensures c.in_ok-rights.ensures

@@ -1,9 +1,8 @@
 use Rattle.std.proofs.Common.{◌≡◌, ◌<◌, ◌∙◌, length, refl, arith}
 use Rattle.gt_core.specs.History.{Setting}
-use Rattle.gt_types.specs.Rights.{is_listed}
-use Rattle.gt_types.specs.declared.rights.Triples.{Triples}
+use Rattle.gt_host.specs.Rights.{may_by}
 use Rattle.gt_host.proofs.RunLemmas.{same_setting}
-use Rattle.gt_host.proofs.PlayLemmas.{OnErr-all, OnOk-map, begins_end, begins_step, ends, goes_on, has_begun, ready, same_setting_of_script, starts_underway}
+use Rattle.gt_host.proofs.PlayLemmas.{Keeps-same, OnErr-all, not_begun, begins_end, begins_step, ends, goes_on, has_begun, ready, same_setting_of_script, starts_underway}
 use Rattle.gt_host.proofs.playing.write_lines.Goals as goal
 
 pub steps-init : goal.steps-init
@@ -16,24 +15,24 @@ returns-in_err-run_step-clause-beginning g c =
 pub returns-in_err-send-clause-beginning : goal.returns-in_err-send-clause-beginning
 returns-in_err-send-clause-beginning g c =
     let within : c.steps.step-index < length c.steps-steps.result.now = omega arith in
-    let setting = same_setting (λ (r : Triples) source target perm. is_listed r.allowed.items source target perm) _ _ _ _ c.steps.invariant.0 c.steps.invariant.1 ∙ same_setting_of_script c.args.script.now c.args.core.now c.requires.starts in
-    OnErr-all _ _ (begins_step c.args.script.now _ c.types.result.now c.steps-steps.result.now c.steps.step-index c.step-item.result c.steps.core.domains.items c.run_step.new.core.domains.items c.steps.kept c.run_step.new.kept _ _ _ _ _
-    setting c.steps-steps.ensures c.steps.invariant.2 within c.step-item.is c.types.ensures c.in_ok-run_step.ensures.leads c.in_err-send.ensures.err)
+    let setting = same_setting may_by _ _ _ _ c.steps.invariant.0 c.steps.invariant.1 ∙ same_setting_of_script c.args.script.now c.args.core.now c.requires.starts in
+    OnErr-all _ _ (begins_step c.args.script.now _ c.as_slice.result.now c.steps-steps.result.now c.steps.step-index c.step-item.result c.steps.core.domains.items c.run_step.new.core.domains.items c.steps.kept c.run_step.new.kept _ _ _ _ _
+    setting c.steps-steps.ensures c.steps.invariant.2 within c.step-item.is (c.as_slice.ensures.value ∙ c.in_ok-types.ensures) c.in_ok-run_step.ensures.leads c.in_err-send.ensures.err)
 
 pub steps-preserved : goal.steps-preserved
 steps-preserved g c =
     let within : c.steps.step-index < length c.steps-steps.result.now = omega arith in
-    let setting = same_setting (λ (r : Triples) source target perm. is_listed r.allowed.items source target perm) _ _ _ _ c.steps.invariant.0 c.steps.invariant.1 ∙ same_setting_of_script c.args.script.now c.args.core.now c.requires.starts in (
+    let setting = same_setting may_by _ _ _ _ c.steps.invariant.0 c.steps.invariant.1 ∙ same_setting_of_script c.args.script.now c.args.core.now c.requires.starts in (
       c.run_step.ensures.config ∙ c.steps.invariant.0,
       c.run_step.ensures.rights ∙ c.steps.invariant.1,
-      goes_on c.args.script.now _ c.types.result.now c.steps-steps.result.now c.steps.step-index c.step-item.result c.steps.core.domains.items c.run_step.new.core.domains.items c.steps.kept c.run_step.new.kept _ _ _ _ _ _
-          setting c.steps.invariant.2 within c.step-item.is c.types.ensures c.in_ok-run_step.ensures.leads c.in_ok-send.ensures.ok,
+      goes_on c.args.script.now _ c.as_slice.result.now c.steps-steps.result.now c.steps.step-index c.step-item.result c.steps.core.domains.items c.run_step.new.core.domains.items c.steps.kept c.run_step.new.kept _ _ _ _ _ _
+          setting c.steps.invariant.2 within c.step-item.is (c.as_slice.ensures.value ∙ c.in_ok-types.ensures) c.in_ok-run_step.ensures.leads c.in_ok-send.ensures.ok,
     )
 
 pub run_step-requires : goal.run_step-requires
 run_step-requires g c =
     let within : c.steps.step-index < length c.steps-steps.result.now = omega arith in
-    let setting = same_setting (λ (r : Triples) source target perm. is_listed r.allowed.items source target perm) _ _ _ _ c.steps.invariant.0 c.steps.invariant.1 ∙ same_setting_of_script c.args.script.now c.args.core.now c.requires.starts in
+    let setting = same_setting may_by _ _ _ _ c.steps.invariant.0 c.steps.invariant.1 ∙ same_setting_of_script c.args.script.now c.args.core.now c.requires.starts in
     ready c.args.script.now _ c.steps-steps.result.now c.steps.step-index c.step-item.result c.steps.core.domains.items c.steps.kept _ _ _
     setting c.steps-steps.ensures c.requires.can.3 c.steps.invariant.2 within c.step-item.is
 
@@ -44,11 +43,14 @@ returns-in_err-push_open_lines-clause-beginning g c =
 pub returns-clause-whole : goal.returns-clause-whole
 returns-clause-whole g c =
     let all : c.steps.step-index ≡ length c.steps-steps.result.now = omega arith in
-    OnOk-map _ _ _ (ends c.args.script.now c.steps-steps.result.now c.steps.step-index c.steps.core.domains.items c.steps.kept c.domains.result.now _ _ _ _ _ c.steps-steps.ensures all c.domains.ensures c.in_ok-push_open_lines.ensures c.steps.invariant.2)
-    (rw c.as_slice.ensures.value at c.finish.ensures.whole)
+    ends c.args.script.now c.steps-steps.result.now c.steps.step-index c.steps.core.domains.items c.steps.kept c.domains.result.now _ _ _ _ _ c.steps-steps.ensures all c.domains.ensures c.in_ok-push_open_lines.ensures c.steps.invariant.2
+    (rw c.as_slice-2.ensures.value at c.in_ok-finish.ensures.whole)
 
-pub returns-clause-beginning : goal.returns-clause-beginning
-returns-clause-beginning g c =
+pub returns-in_err-finish-clause-beginning : goal.returns-in_err-finish-clause-beginning
+returns-in_err-finish-clause-beginning g c =
     let all : c.steps.step-index ≡ length c.steps-steps.result.now = omega arith in
     OnErr-all _ _ (begins_end c.args.script.now c.steps-steps.result.now c.steps.step-index c.steps.core.domains.items c.steps.kept c.domains.result.now _ _ _ _ _ c.steps-steps.ensures all c.domains.ensures c.in_ok-push_open_lines.ensures c.steps.invariant.2
-    (rw c.as_slice.ensures.value at c.finish.ensures.beginning))
+    (rw c.as_slice-2.ensures.value at c.in_err-finish.ensures.beginning))
+
+pub returns-in_err-types-clause-beginning : goal.returns-in_err-types-clause-beginning
+returns-in_err-types-clause-beginning g c = OnErr-all _ _ (not_begun c.args.script.now _ _ (Keeps-same _))

@@ -1,5 +1,5 @@
 use Rattle.std.proofs.Common.{refl}
-use Rattle.gt_core.specs.Asking.{asked}
+use Rattle.gt_calls.specs.Asking.{asked}
 use Rattle.gt_core.specs.History.{Setting}
 use Rattle.gt_core.specs.Standing.{setting_of}
 use Rattle.gt_host.proofs.OpenLemmas.{begins_open, unanswered}

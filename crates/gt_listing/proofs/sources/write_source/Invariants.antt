@@ -1,6 +1,6 @@
 use Rattle.std.proofs.Common.{◌++◌, take}
 use Rattle.gt_listing.specs.Rights.{source_lines}
-use Rattle.gt_listing.specs.Streams.{Sends}
+use Rattle.gt_streams.specs.Streams.{Sends}
 use Rattle.gt_listing.proofs.sources.write_source.Given as goal
 
 abbrev pub invariant-targets : goal.invariant-targets

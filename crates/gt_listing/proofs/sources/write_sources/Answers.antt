@@ -27,10 +27,10 @@ pub returns-clause-whole : goal.returns-clause-whole
 returns-clause-whole g c =
     let all : c.sources.source-index ≡ length c.args.ids.now = omega arith in
     let sent = sent_all (source_text c.args.policy.now.types (may_of c.args.policy.now) c.args.ids.now) c.args.ids.now c.sources.source-index [] _ _ _ all c.sources.invariant in
-    finished _ c.args.policy.now.types (may_of c.args.policy.now) c.args.ids.now _ _ _ _ sent (rw c.as_slice-2.ensures.value at c.finish.ensures.whole)
+    finished c.args.policy.now.types (may_of c.args.policy.now) c.args.ids.now _ _ _ _ sent (rw c.as_slice-2.ensures.value at c.in_ok-finish.ensures.whole)
 
-pub returns-clause-beginning : goal.returns-clause-beginning
-returns-clause-beginning g c =
+pub returns-in_err-finish-clause-beginning : goal.returns-in_err-finish-clause-beginning
+returns-in_err-finish-clause-beginning g c =
     let all : c.sources.source-index ≡ length c.args.ids.now = omega arith in
     let sent = sent_all (source_text c.args.policy.now.types (may_of c.args.policy.now) c.args.ids.now) c.args.ids.now c.sources.source-index [] _ _ _ all c.sources.invariant in
-    OnErr-all _ _ (begins_listing c.args.policy.now.types (may_of c.args.policy.now) c.args.ids.now _ _ (begins_all _ _ _ _ _ sent (rw c.as_slice-2.ensures.value at c.finish.ensures.beginning)))
+    OnErr-all _ _ (begins_listing c.args.policy.now.types (may_of c.args.policy.now) c.args.ids.now _ _ (begins_all _ _ _ _ _ sent (rw c.as_slice-2.ensures.value at c.in_err-finish.ensures.beginning)))

@@ -1,6 +1,6 @@
 use Rattle.std.proofs.Common.{take, flat_map}
 use Rattle.gt_policy.specs.Allowing.{may_of}
-use Rattle.gt_listing.specs.Streams.{Sends}
+use Rattle.gt_streams.specs.Streams.{Sends}
 use Rattle.gt_listing.proofs.LineLemmas.{source_text}
 use Rattle.gt_listing.proofs.sources.write_sources.Given as goal
 

@@ -1,4 +1,4 @@
-use Rattle.std.proofs.Common.{◌≡◌, ◌*◌, ℕ, ◌<◌, get_or, length}
+use Rattle.std.proofs.Common.{◌≡◌, ℕ, ◌<◌, get_or, length}
 use Rattle.gt_words.specs.Conditions.{initial}
 use Rattle.gt_words.specs.Rule.{layout_of}
 use Rattle.gt_words.proofs.start.first_words.Given as goal

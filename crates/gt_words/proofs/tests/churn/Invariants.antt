@@ -1,4 +1,3 @@
-use Rattle.std.proofs.Common.{◌≡◌}
 use Rattle.gt_words.specs.Conditions.{IsSeatOf}
 use Rattle.gt_words.proofs.tests.churn.Given as goal
 

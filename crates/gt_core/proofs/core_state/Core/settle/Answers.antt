@@ -1,13 +1,15 @@
-use Rattle.std.proofs.Common.{◌≡◌, ℕ, List, length, Option, Some, None, refl, sym, ap, ◌∙◌, subst, set}
+use Rattle.std.proofs.Common.{◌≡◌, ◌++◌, ℕ, List, length, take, drop, Option, Some, None, refl, sym, ap, ◌∙◌, subst, set}
 use Rattle.std.proofs.lemmas.Option.{same_Some, slice_get_read}
 use Rattle.gt_core.specs.declared.slot.Open.{Open}
-use Rattle.gt_core.specs.declared.action.Step.{Step}
+use Rattle.gt_calls.specs.declared.action.Step.{Step}
 use Rattle.gt_core.specs.declared.trace.Answer.{Answer}
-use Rattle.gt_core.specs.declared.trace.Answer.TheVariants.{Bytes as BytesAnswer}
-use Rattle.gt_core.specs.States.{State, IsLoading, asked_in}
-use Rattle.gt_core.specs.Effects.{with_underway, bytes_in}
+use Rattle.gt_core.specs.declared.trace.Answer.TheVariants.{Done as AnswerDone, Bytes as BytesAnswer, Mapped}
+use Rattle.gt_core.specs.States.{State, IsLoading, asked_in, changed_in}
+use Rattle.gt_core.specs.Effects.{with_underway, without_given, with_bytes, bytes_in, Adds, with_mapping}
+use Rattle.gt_calls.specs.Machine.{frame_read}
 use Rattle.gt_core.specs.Standing.{Settled, IsLoadOf}
 use Rattle.gt_core.proofs.Settling.{loaded, settled-plain}
+use Rattle.gt_core.proofs.Rows.{slice-changed}
 use Rattle.gt_core.proofs.core_state.Core.settle.Goals as goal
 
 pub returns-in-Read-clause-settles : goal.returns-in-Read-clause-settles
@@ -34,6 +36,28 @@ returns-in-Read-clause-settles g c =
       λ _. refl,
     )
 
+pub returns-in-Write-clause-settles : goal.returns-in-Write-clause-settles
+returns-in-Write-clause-settles g c =
+    let xs = c.args.self.now.domains.items in
+    let at = c.args.at in
+    let y = c.index_mut-in-Write.result.now in
+    let zs = set xs at c.close_store-given.new.self in
+    let n = c.args.self.now.domains.len in
+    let t = c.in-Write.dom.0 in
+    let frame = c.in-Write.frame in
+    let off = c.in-Write.off in
+    let given = c.deref-in-Write.result.now in
+    let len : length zs ≡ n = ap (λ (l : List State). length l) (sym c.deref_mut.ensures.value) ∙ c.deref_mut.ensures.len in
+    let left = slice-changed n t (with_bytes frame off given) zs c.deref_mut.result.now c.write_to.new.domains len c.deref_mut.ensures.value c.write_to.ensures in
+    λ d here is.
+    let same : y ≡ d = same_Some _ _ (sym (slice_get_read xs (length xs) at y refl c.requires c.index_mut-in-Write.ensures.value) ∙ here) in
+    let kept : given ≡ d.given = c.deref-in-Write.ensures.value ∙ c.close_store-given.ensures.given ∙ ap (λ (z : State). z.given) same in
+    let after : zs ≡ set xs at (without_given d) = ap (λ (z : State). set xs at z) (c.close_store-given.ensures.closed ∙ ap without_given same) in
+    let wrote = left ∙ ap (λ (l : List ℕ). changed_in t (with_bytes frame off l) zs) kept ∙ ap (changed_in t (with_bytes frame off d.given)) after in (
+      subst (λ (s : Step). Settled xs at d c.args.last c.args.seen s AnswerDone (take n (c.write_to.new.domains ++ drop (length c.write_to.new.domains) zs))) (sym c.in-Write.is) (refl, wrote),
+      λ _. refl,
+    )
+
 pub returns-in_default : goal.returns-in_default
 returns-in_default g c =
     let xs = c.args.self.now.domains.items in
@@ -45,8 +69,28 @@ returns-in_default g c =
       err = tt;
       settles = λ d here is.
           let same : y ≡ d = same_Some _ _ (sym (slice_get_read xs (length xs) at y refl c.requires c.index_mut-in_default.ensures.value) ∙ here) in (
-            subst (λ (z : Answer). Settled xs at d c.args.last c.args.seen c.args.last.step z (set xs at c.close.new.self)) (sym c.value_of.ensures) (settled-plain xs (set xs at c.close.new.self) at d c.args.last c.args.seen c.args.last.step c.in_default.not-Pin c.in_default.not-Read
+            subst (λ (z : Answer). Settled xs at d c.args.last c.args.seen c.args.last.step z (set xs at c.close.new.self)) (sym c.value_of.ensures) (settled-plain xs (set xs at c.close.new.self) at d c.args.last c.args.seen c.args.last.step c.in_default.not-Pin c.in_default.not-Read c.in_default.not-Write
                 (ap (λ (z : State). set xs at z) (c.close.ensures ∙ ap (with_underway None) same))),
             λ _. refl,
           );
     }
+
+pub returns-in_ok-handle-in-Pin-clause-settles : goal.returns-in_ok-handle-in-Pin-clause-settles
+returns-in_ok-handle-in-Pin-clause-settles g c =
+    let xs = c.args.self.now.domains.items in
+    let at = c.args.at in
+    let y = c.index_mut.result.now in
+    let new = c.add_mapping.new.self in
+    let pin = c.in-Pin in
+    let handle = c.in_ok-handle-in-Pin.handle in
+    let phase = c.args.last.call.phase in
+    λ d here is.
+    let same : y ≡ d = same_Some _ _ (sym (slice_get_read xs (length xs) at y refl c.requires c.index_mut.ensures.value) ∙ here) in
+    let shows : Adds y.mappings new.mappings handle (record { dom = pin.dom; gref = pin.gref; dir = pin.dir; frame = frame_read phase }) =
+    subst (λ (n : ℕ). Adds y.mappings new.mappings handle (record { dom = pin.dom; gref = pin.gref; dir = pin.dir; frame = n })) c.frame.ensures c.in_ok-handle-in-Pin.ensures.adds in
+    let adds : Adds d.mappings new.mappings handle (record { dom = pin.dom; gref = pin.gref; dir = pin.dir; frame = frame_read phase }) =
+    subst (λ (z : State). Adds z.mappings new.mappings handle (record { dom = pin.dom; gref = pin.gref; dir = pin.dir; frame = frame_read phase })) same shows in
+    let after : set xs at new ≡ set xs at (with_mapping new.mappings d) = ap (λ (z : State). set xs at z) (c.in_ok-handle-in-Pin.ensures.added ∙ ap (with_mapping new.mappings) same) in (
+      subst (λ (s : Step). Settled xs at d c.args.last c.args.seen s (Mapped handle) (set xs at new)) (sym c.in-Pin.is) (handle, new.mappings, refl, adds, after),
+      λ _. refl,
+    )

@@ -1,6 +1,6 @@
-use Rattle.std.proofs.Common.{◌≡◌, ◌<◌, ◌≤◌, ℕ, List, Option, Some, None, sym, ap, ◌∙◌, arith, subst}
+use Rattle.std.proofs.Common.{◌≡◌, ◌<◌, ◌≤◌, ℕ, List, Some, None, sym, ap, ◌∙◌, subst}
 use Rattle.std.specs.Prelude.{position}
-use Rattle.gt_core.specs.Rules.{size_of}
+use Rattle.gt_calls.specs.Rules.{size_of}
 use Rattle.gt_core.specs.States.{State}
 use Rattle.gt_core.specs.Standing.{setting_of}
 use Rattle.gt_core.proofs.Places.{has_id}

@@ -4,12 +4,12 @@ use Rattle.std.proofs.lemmas.Bool.{false≢true}
 use Rattle.std.proofs.lemmas.Option.{same_Some}
 use Rattle.std.proofs.lemmas.List.{length-set}
 use Rattle.gt_types.specs.declared.Memory.{Memory}
-use Rattle.gt_core.specs.declared.action.Action.{Action}
-use Rattle.gt_core.specs.declared.action.Action.TheVariants.{Done}
-use Rattle.gt_core.specs.declared.action.Verdict.{Verdict}
+use Rattle.gt_calls.specs.declared.action.Action.{Action}
+use Rattle.gt_calls.specs.declared.action.Action.TheVariants.{Done}
+use Rattle.gt_calls.specs.declared.action.Verdict.{Verdict}
 use Rattle.gt_core.specs.declared.trace.Answer.{Answer}
 use Rattle.gt_core.specs.declared.trace.Answer.TheVariants.{Denied}
-use Rattle.gt_core.specs.Rules.{knowledge_of}
+use Rattle.gt_calls.specs.Rules.{knowledge_of}
 use Rattle.gt_core.specs.Sight.{sees}
 use Rattle.gt_core.specs.States.{State, asked_in}
 use Rattle.gt_core.specs.Effects.{applied, with_underway}
@@ -89,7 +89,7 @@ returns-in-Step-clause-stands g c =
     let after : zs ≡ set xs at (with_underway u x) = ap (λ (z : State). set xs at z) (c.go_on.ensures ∙ ap (with_underway u) same) in
     let len : length zs ≡ c.args.self.now.domains.len = length-set xs at c.go_on.new.self ∙ ap (λ (l : List State). length l) (sym c.deref.ensures.value) ∙ c.deref.ensures.len in
     let left = slice-after c.args.self.now.domains.len c.args.dom o.step seen zs c.deref_mut.result.now c.apply.new.domains len c.deref_mut.ensures.value c.apply.ensures in
-    let goes = subst (λ (a : Action). Advances (knowledge_of s.domains s.first_generation s.may x.own x.header x.mappings x.maps_answered) o.call.caller o.call.request o.call.phase seen new a) c.in-Step.is (c.advance-action.ensures x here) in
+    let goes = subst (λ (a : Action). Advances (knowledge_of s.domains s.first_generation s.may x.own x.header x.mappings) o.call.caller o.call.request o.call.phase seen new a) c.in-Step.is (c.advance-action.ensures x here) in
     λ h st. let r = tick-goes s h xs c.args.dom at x o seen new step p c.index.ensures is st saw goes in
     ((r.0, (refl, tt), r.1), subst (λ (l : List State). CoreStands s (stepped c.args.dom o.step seen None ∷ h) l) (sym (left ∙ ap (applied c.args.dom o.step seen) after)) r.2)
 
@@ -113,7 +113,7 @@ returns-in-Refused-clause-stands g c =
     let after : zs ≡ set xs at (with_underway None x) = ap (λ (z : State). set xs at z) (c.close.ensures ∙ ap (with_underway None) same) in
     let len : length zs ≡ c.args.self.now.domains.len = length-set xs at c.close.new.self ∙ ap (λ (l : List State). length l) (sym c.deref.ensures.value) ∙ c.deref.ensures.len in
     let left = slice-after c.args.self.now.domains.len c.args.dom o.step seen zs c.deref_mut-in-Refused.result.now c.apply-in-Refused.new.domains len c.deref_mut-in-Refused.ensures.value c.apply-in-Refused.ensures in
-    let goes = subst (λ (a : Action). Advances (knowledge_of s.domains s.first_generation s.may x.own x.header x.mappings x.maps_answered) o.call.caller o.call.request o.call.phase seen new a) (c.in-Done.is ∙ ap (λ (v : Verdict). Done v) c.in-Refused.is) (c.advance-action.ensures x here) in
+    let goes = subst (λ (a : Action). Advances (knowledge_of s.domains s.first_generation s.may x.own x.header x.mappings) o.call.caller o.call.request o.call.phase seen new a) (c.in-Done.is ∙ ap (λ (v : Verdict). Done v) c.in-Refused.is) (c.advance-action.ensures x here) in
     λ h st. let r = tick-denied s h xs c.args.dom at x o seen new denial p c.index.ensures is st saw goes in
     ((r.0, (refl, tt), r.1), subst (λ (l : List State). CoreStands s (stepped c.args.dom o.step seen (Some (Denied denial)) ∷ h) l) (sym (left ∙ ap (applied c.args.dom o.step seen) after)) r.2)
 
@@ -134,6 +134,6 @@ returns-in_ok-answer-in-Granted-clause-stands g c =
     let zs = c.settle.new.self.domains.items in
     let done = (c.in_ok-answer-in-Granted.ensures.settles x here is).0 in
     let left = slice-after c.settle.new.self.domains.len c.args.dom o.step seen zs c.deref_mut-in-Granted.result.now c.apply-in-Granted.new.domains (ap (λ (l : List State). length l) (sym c.deref_mut-in-Granted.ensures.value) ∙ c.deref_mut-in-Granted.ensures.len) c.deref_mut-in-Granted.ensures.value c.apply-in-Granted.ensures in
-    let goes = subst (λ (a : Action). Advances (knowledge_of s.domains s.first_generation s.may x.own x.header x.mappings x.maps_answered) o.call.caller o.call.request o.call.phase seen new a) (c.in-Done.is ∙ ap (λ (v : Verdict). Done v) c.in-Granted.is) (c.advance-action.ensures x here) in
+    let goes = subst (λ (a : Action). Advances (knowledge_of s.domains s.first_generation s.may x.own x.header x.mappings) o.call.caller o.call.request o.call.phase seen new a) (c.in-Done.is ∙ ap (λ (v : Verdict). Done v) c.in-Granted.is) (c.advance-action.ensures x here) in
     λ h st. let r = tick-granted s h xs c.args.dom at x o seen new answer zs p c.index.ensures is st saw goes done in
     ((r.0, (refl, tt), r.1), subst (λ (l : List State). CoreStands s (stepped c.args.dom o.step seen (Some answer) ∷ h) l) (sym left) r.2)

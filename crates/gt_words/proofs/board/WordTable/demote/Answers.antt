@@ -1,4 +1,4 @@
-use Rattle.std.proofs.Common.{◌≡◌, ℕ, ◌+◌, ◌*◌, ◌/◌, ap, ◌∙◌, arith, subst, true, false}
+use Rattle.std.proofs.Common.{ℕ, subst, true}
 use Rattle.gt_words.proofs.board.WordTable.demote.Goals as goal
 use Rattle.gt_words.proofs.Owed.{demote_owes}
 use Rattle.gt_words.proofs.Told.{demotes, exchange_missed, exchange_taken, finds_another, turnable}

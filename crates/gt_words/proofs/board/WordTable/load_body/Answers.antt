@@ -1,4 +1,4 @@
-use Rattle.std.proofs.Common.{◌≡◌, ℕ, ap, refl}
+use Rattle.std.proofs.Common.{refl}
 use Rattle.gt_words.proofs.board.WordTable.load_body.Goals as goal
 use Rattle.gt_words.proofs.Owed.{read_owes}
 use Rattle.gt_words.proofs.Told.{keeps_pins, reads_body}

@@ -1,4 +1,4 @@
-use Rattle.std.proofs.Common.{◌≡◌, ℕ, ap, refl, subst, sym}
+use Rattle.std.proofs.Common.{ℕ, refl, subst, sym}
 use Rattle.gt_words.proofs.board.WordTable.load_control.Goals as goal
 use Rattle.gt_words.proofs.Owed.{look_owes}
 use Rattle.gt_words.proofs.Told.{adds_to_entry, keeps_last, keeps_pins, not_earlier, own_word}

@@ -1,4 +1,4 @@
-use Rattle.std.proofs.Common.{◌≡◌, ℕ, ap, refl}
+use Rattle.std.proofs.Common.{ap}
 use Rattle.gt_words.proofs.board.WordTable.load_header.Goals as goal
 use Rattle.gt_words.proofs.Headers.{adds_to_header, look_header_owes}
 use Rattle.gt_words.specs.Rule.{layout_of}

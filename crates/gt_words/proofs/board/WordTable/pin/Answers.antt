@@ -1,4 +1,4 @@
-use Rattle.std.proofs.Common.{◌≡◌, ℕ, ◌+◌, ap, arith, subst}
+use Rattle.std.proofs.Common.{ℕ, ◌+◌, ap, subst}
 use Rattle.gt_words.proofs.board.WordTable.pin.Goals as goal
 use Rattle.gt_words.proofs.Owed.{pin_owes}
 use Rattle.gt_words.proofs.Told.{counts_pins, exchange_missed, exchange_taken, misses_pin, pins_entry}

@@ -1,4 +1,4 @@
-use Rattle.std.proofs.Common.{◌≡◌, ℕ, ◌+◌, ◌*◌, ◌/◌, ap, ◌∙◌, arith, subst, true, false}
+use Rattle.std.proofs.Common.{ℕ, subst, false}
 use Rattle.gt_words.proofs.board.WordTable.promote.Goals as goal
 use Rattle.gt_words.proofs.Owed.{promote_owes}
 use Rattle.gt_words.proofs.Told.{exchange_missed, exchange_taken, finds_another, takes_change, turnable}

@@ -1,4 +1,4 @@
-use Rattle.std.proofs.Common.{◌≡◌, ℕ, ◌+◌, ◌*◌, ◌/◌, ap, ◌∙◌, arith, subst, true, false}
+use Rattle.std.proofs.Common.{◌≡◌, ℕ, ap, ◌∙◌, arith, subst}
 use Rattle.gt_words.proofs.board.WordTable.revoke.Goals as goal
 use Rattle.gt_entry.specs.Spelling.{idle_word_of}
 use Rattle.gt_entry.specs.Words.{control_of}

@@ -1,4 +1,3 @@
-use Rattle.std.proofs.Common.{◌≡◌, ℕ, ap, refl}
 use Rattle.gt_words.proofs.board.WordTable.store_body.Goals as goal
 use Rattle.gt_words.proofs.Owed.{store_owes}
 use Rattle.gt_words.proofs.Told.{stores_body}

@@ -1,4 +1,4 @@
-use Rattle.std.proofs.Common.{◌≡◌, ℕ, ap, refl}
+use Rattle.std.proofs.Common.{refl}
 use Rattle.gt_words.proofs.board.WordTable.store_header.Goals as goal
 use Rattle.gt_words.proofs.Headers.{adds_to_header, store_header_owes, stores_header}
 use Rattle.gt_words.specs.Rule.{layout_of}

@@ -1,4 +1,4 @@
-use Rattle.std.proofs.Common.{◌≡◌, ℕ, ◌+◌, ap, arith, subst}
+use Rattle.std.proofs.Common.{ℕ, arith}
 use Rattle.gt_words.proofs.board.WordTable.unpin.Goals as goal
 use Rattle.gt_words.proofs.Owed.{unpin_owes}
 use Rattle.gt_words.proofs.Told.{unpins}

@@ -3,7 +3,7 @@ use Rattle.gt_words.proofs.words.Words.set_version.Goals as goal
 use Rattle.gt_words.proofs.Headers.{small_version}
 use Rattle.gt_words.specs.Conditions.{StoresHeader}
 use Rattle.gt_words.specs.Rule.{layout_of, version_set}
-use Rattle.gt_words.specs.Views.{own, own_header}
+use Rattle.gt_words.specs.Views.{own_header}
 
 pub store_header-requires-clause-header : goal.store_header-requires-clause-header
 store_header-requires-clause-header c = let inv = c.seat.invariant in let h = c.seat.inside.header in let e = c.with_version-header.ensures in

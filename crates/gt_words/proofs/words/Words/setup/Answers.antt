@@ -3,7 +3,7 @@ use Rattle.gt_words.proofs.words.Words.setup.Goals as goal
 use Rattle.gt_words.proofs.Headers.{small_version}
 use Rattle.gt_words.specs.Conditions.{StoresHeader}
 use Rattle.gt_words.specs.Rule.{frames_set, layout_of}
-use Rattle.gt_words.specs.Views.{own, own_header}
+use Rattle.gt_words.specs.Views.{own_header}
 
 pub store_header-requires-clause-header : goal.store_header-requires-clause-header
 store_header-requires-clause-header c = let inv = c.seat.invariant in let h = c.seat.inside.header in let e = c.with_frames-header.ensures in

@@ -1,0 +1,24 @@
+use Rattle.std.proofs.Common.{◌≡◌, ℕ, ◌+◌, Result, Err, sym, ◌∙◌}
+use Rattle.gt_script.specs.Outcomes.{Adds, Says, on_line}
+use Rattle.gt_script.specs.Contents.{Contents}
+use Rattle.gt_script.specs.declared.faults.Fault.{Fault}
+use Rattle.gt_script.specs.declared.faults.FaultKind.{FaultKind}
+use Rattle.gt_script.specs.declared.script.AddError.{AddError}
+use Rattle.gt_script.specs.declared.script.AddError.TheVariants as add
+use Rattle.gt_script.proofs.ScriptLemmas.{step_ok, step_err}
+use Rattle.gt_script.proofs.script.Script.with_lines.Goals as goal
+
+-- an error on line n is what all of the lines say, where it is what they say from line n on
+err_said : (e : AddError) (n : ℕ) (here : Result Contents FaultKind) (all rest : Result Contents Fault) → all ≡ rest → Adds (Err e) here
+    → ((kind : FaultKind) → here ≡ Err kind → rest ≡ Err (record { line = n; kind = kind })) → Says (Err (on_line n e)) all
+err_said add.Memory n here all rest same h step = tt
+err_said (add.Fault kind) n here all rest same h step = same ∙ step kind h
+
+pub returns-in-Err : goal.returns-in-Err
+returns-in-Err c =
+    rw c.on_line.ensures (err_said c.in-Err.e (c.args.before + c.loop-i.i + 1) _ _ _ (sym c.loop-i.invariant) c.in-Err.ensures
+    (λ kind e. step_err c.args.lines.now c.loop-i.script kind c.args.before c.loop-i.i _ c.loop-i-test.true e))
+
+pub loop-i-preserved : goal.loop-i-preserved
+loop-i-preserved c =
+    sym (step_ok c.args.lines.now c.loop-i.script c.in-Ok.more c.args.before c.loop-i.i _ c.loop-i-test.true c.in-Ok.ensures) ∙ c.loop-i.invariant

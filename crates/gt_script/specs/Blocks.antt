@@ -1,0 +1,60 @@
+-- The policy block of a script (own).
+use Rattle.std.specs.Prelude.{◌≡◌, ◌+◌, ℕ, suc, Bool, false, List, [], ◌∷◌, ◌++◌, length, Option, Some, None, Result, Ok, Err, codes, flat_map, if◌then◌else◌, ◌==◌}
+use Rattle.std.specs.Option.{option_map}
+use Rattle.std.specs.Str.{bytes_eq}
+use Rattle.gt_policy.specs.Allowing.{Meaning, Rights, Shows}
+use Rattle.gt_policy.specs.Shown.{kind_shown}
+use Rattle.gt_policy.specs.Whole.{Says}
+use Rattle.gt_policy.specs.declared.fault.Fault as policy
+use Rattle.gt_script.specs.Words.{words}
+use Rattle.gt_script.specs.declared.faults.BlockFault.{BlockFault}
+use Rattle.gt_script.specs.declared.faults.ScriptError.{ScriptError}
+use Rattle.gt_script.specs.declared.faults.ScriptError.TheVariants as errors
+
+-- the words of a line are just this one (own)
+abbrev pub is_just : List ℕ → List (List ℕ) → Bool
+is_just word [] = false
+is_just word (w ∷ []) = bytes_eq w word
+is_just word (w ∷ v ∷ ws) = false
+
+-- the place of the line `policy`, where it is the first line with words (own)
+abbrev pub opening : List (List ℕ) → Option ℕ
+opening [] = None
+opening (l ∷ ls) = if length (words l) == 0 then option_map (λ n. suc n) (opening ls)
+    else (if is_just (codes "policy") (words l) then Some 0 else None)
+
+-- the place of the first line `end` (own)
+abbrev pub closing : List (List ℕ) → Option ℕ
+closing [] = None
+closing (l ∷ ls) = if is_just (codes "end") (words l) then Some 0 else option_map (λ n. suc n) (closing ls)
+
+-- a line with its end (own)
+abbrev pub ended : List ℕ → List ℕ
+ended line = line ++ 10 ∷ []
+
+-- the text of a policy: the lines of its block, each with its end (own)
+abbrev pub block_text : List (List ℕ) → List ℕ
+block_text lines = flat_map ended lines
+
+-- a fault of a policy, on a line that has others in front of its text (own)
+abbrev pub behind : ℕ → policy.Fault → policy.Fault
+behind before f = record { line = before + f.line; kind = f.kind }
+
+-- the fault in the text that a fault of a block shows; none where memory ran out (own)
+abbrev pub block_fault_shown : BlockFault → Option policy.Fault
+block_fault_shown e = option_map (λ k. record { line = e.line; kind = k }) (kind_shown e.kind)
+
+-- the block means this policy (own)
+abbrev pub Means : List (List ℕ) → Rights → Type 0
+Means lines p = (m : Meaning) × Says (block_text lines) (Ok m) × Shows p m
+
+-- the block, behind so many lines, has this fault, which is its first (own)
+abbrev pub IsFaulty : ℕ → List (List ℕ) → policy.Fault → Type 0
+IsFaulty before lines g = (f : policy.Fault) × Says (block_text lines) (Err f) × (g ≡ behind before f)
+
+-- the policy of a block or its fault, unless memory ran out (own)
+abbrev pub IsPolicyOf : ℕ → List (List ℕ) → Result Rights ScriptError → Type 0
+IsPolicyOf before lines (Ok p) = Means lines p
+IsPolicyOf before lines (Err errors.Memory) = Unit {0}
+IsPolicyOf before lines (Err (errors.Fault f)) = ⊥
+IsPolicyOf before lines (Err (errors.Policy e)) = (g : policy.Fault) × (block_fault_shown e ≡ Some g) × IsFaulty before lines g

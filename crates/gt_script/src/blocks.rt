@@ -1,0 +1,71 @@
+//! The policy block of a script: where it stands, and the policy that it says.
+ghost use Rattle.std.specs.Prelude.{◌≡◌, ◌+◌, ◌<◌, ◌^◌, ℕ, List, IfOk, IfSome, map, length, string_bytes};
+ghost use Rattle.gt_script.specs.Blocks.{is_just as says_just, opening as opening_in, closing as closing_in, block_text as text_in, IsPolicyOf};
+
+use crate::faults::ScriptError;
+use crate::fields::is;
+use crate::words::words;
+use gt_policy::Policy;
+use std::alloc::{AllocError, Global};
+
+fn is_just(words: &[&[u8]], word: &str) -> bool
+    ensures { result ≡ says_just word.now (map (λ w. w.now) words.now) }
+{
+    match words {
+        [only] => is(only, word),
+        _ => false,
+    }
+}
+
+/// The place of the line `policy`, if it is the first line with words.
+pub fn opening(alloc: Global, lines: &[&str]) -> Result<Option<usize>, AllocError>
+    ensures opens { IfOk result (λ place. place ≡ opening_in (map (λ line. line.now) lines.now)) }
+    ensures within { IfOk result (λ place. IfSome place (λ i. i < length lines.now)) }
+{
+    'lines: for (i, line) in lines.iter().enumerate() {
+        let words = words(alloc, line)?;
+        if !words.is_empty() {
+            let opens = is_just(words.as_slice(), "policy");
+            return Ok(if opens { Some(i) } else { None });
+        }
+    }
+    Ok(None)
+}
+
+/// The place of the first line `end`.
+pub fn closing(alloc: Global, lines: &[&str]) -> Result<Option<usize>, AllocError>
+    ensures closes { IfOk result (λ place. place ≡ closing_in (map (λ line. line.now) lines.now)) }
+    ensures within { IfOk result (λ place. IfSome place (λ i. i < length lines.now)) }
+{
+    'lines: for (i, line) in lines.iter().enumerate() {
+        if is_just(words(alloc, line)?.as_slice(), "end") {
+            return Ok(Some(i));
+        }
+    }
+    Ok(None)
+}
+
+// The text of a block's lines.
+fn text_of(alloc: Global, lines: &[&str]) -> Result<String, AllocError>
+    ensures { IfOk result (λ text. string_bytes text ≡ text_in (map (λ line. line.now) lines.now)) }
+{
+    let mut text = String::new(alloc);
+    'lines: for line in lines {
+        text.push_str(line)?;
+        text.push('\n')?;
+    }
+    Ok(text)
+}
+
+/// The policy that the lines of a block say, or its first fault, where `before` lines stand in front
+/// of them in the script.
+pub fn read_policy(alloc: Global, before: usize, lines: &[&str]) -> Result<Policy, ScriptError>
+    requires { before < 2 ^ 63 }
+    ensures { IsPolicyOf before (map (λ line. line.now) lines.now) result }
+{
+    let text = text_of(alloc, lines)?;
+    match Policy::parse(alloc, text.as_str()) {
+        Ok(policy) => Ok(policy),
+        Err(fault) => Err(ScriptError::in_block(before, fault)),
+    }
+}

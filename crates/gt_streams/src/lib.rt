@@ -1,0 +1,19 @@
+//! Whole texts from a reader, and lines to a writer.
+//!
+//! A text is read up to a limit that is one byte past the longest text, so that what was read tells
+//! whether there is more. Lines wait until there are enough of them for a write, and a writer that
+//! takes a part of what it is given is given the rest.
+//!
+//! What holds over any reader and writer: what was read is what the reader had left, or its first
+//! bytes; what went out is at all times a beginning of the text, in its order and with no byte lost,
+//! and all of it where a call answers Ok. An error says whether memory was refused, a read failed
+//! or a write failed. The crate stands on `thiserror` alone.
+#![tactic(auto)]
+
+mod fault;
+mod streams;
+#[cfg(test)]
+mod tests;
+
+pub use fault::{ReadFault, WriteFault};
+pub use streams::{READ_LIMIT, finish, read_text, send, write_text};
