@@ -207,12 +207,7 @@ fn is_past(off: u16, len: usize) -> bool
     len > FRAME_LEN || usize::from(off) + len > FRAME_LEN
 }
 
-fn begin_store(
-    mappings: &Handles<Mapping>,
-    handle: Handle,
-    off: u16,
-    len: usize,
-) -> Option<Verdict>
+fn begin_store(mappings: &Handles<Mapping>, handle: Handle, off: u16, len: usize) -> Option<Verdict>
     ensures { result ≡ store_begun (value_of mappings.now) handle off len }
 {
     if is_past(off, len) {
