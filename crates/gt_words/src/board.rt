@@ -25,6 +25,10 @@ pub(crate) const ENTRY_WORDS: usize = 8;
 /// The words of a domain: as many for its header as for an entry, and those of each entry.
 pub(crate) const DOMAIN_WORDS: usize = 16_392;
 
+// The rows of `ENTRY_WORDS` words that a domain has. A step adds up rows and multiplies once, so that a loop on one entry
+// keeps one number for its place.
+const DOMAIN_ROWS: usize = 2_049;
+
 /// The rule of the table: words and views show a state of the core.
 pub struct Entries;
 
@@ -78,10 +82,7 @@ fn load_word<J: OfKind>(board: &Board, seat: &mut Place, at: usize, gref: usize,
     requires allowed { Allows (Shows (layout_of board.now.key)) board.now.table_id.slots seat.old.id seat.old.me (place at gref word) (λ n. n) (tells J.kind (step board.now.table_id.slots (place at gref word) 0 0 none) seat.old.me) }
     ensures { (seat.new.table_id ≡ seat.old.table_id) × (seat.new.id ≡ seat.old.id) × tells J.kind (step board.now.table_id.slots (place at gref word) 0 0 none) seat.old.me result seat.new.me }
 {
-    board.load::<Tells<J>>(
-        seat,
-        at * DOMAIN_WORDS + (ENTRY_WORDS * gref + (ENTRY_WORDS + word)),
-    )
+    board.load::<Tells<J>>(seat, (at * DOMAIN_ROWS + (gref + 1)) * ENTRY_WORDS + word)
 }
 
 // One store of a word of an entry.
@@ -99,7 +100,7 @@ fn store_word<J: OfKind>(
 {
     board.store::<TellsStore<J>>(
         seat,
-        at * DOMAIN_WORDS + (ENTRY_WORDS * gref + (ENTRY_WORDS + word)),
+        (at * DOMAIN_ROWS + (gref + 1)) * ENTRY_WORDS + word,
         new,
     )
 }
@@ -121,7 +122,7 @@ fn exchange_word<J: OfKind>(
     let _ = purpose;
     board.compare_exchange::<Tells<J>>(
         seat,
-        at * DOMAIN_WORDS + (ENTRY_WORDS * gref + ENTRY_WORDS),
+        (at * DOMAIN_ROWS + (gref + 1)) * ENTRY_WORDS,
         old,
         new,
     )
@@ -143,11 +144,7 @@ fn subtract_from_word<J: OfKind>(
 {
     let _ = dir;
     let _ = generation;
-    board.fetch_sub::<Tells<J>>(
-        seat,
-        at * DOMAIN_WORDS + (ENTRY_WORDS * gref + ENTRY_WORDS),
-        one,
-    )
+    board.fetch_sub::<Tells<J>>(seat, (at * DOMAIN_ROWS + (gref + 1)) * ENTRY_WORDS, one)
 }
 
 // One load of a header word.
