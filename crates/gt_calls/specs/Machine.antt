@@ -1,4 +1,4 @@
--- What is to come, by where a call stands: the code's own representation, which stands here since private contracts cite it.
+-- What is to come, by where a call stands: the code's own representation, which stands here since contracts cite it.
 use Rattle.std.specs.Prelude.{◌≡◌, ◌&&◌, ◌-◌, ◌==◌, nat_lt, if◌then◌else◌, ℕ, Bool, true, false, [], ◌∷◌, Option, Some, None, zero, suc}
 use Rattle.gt_types.specs.declared.DomId.{DomId}
 use Rattle.gt_types.specs.declared.GrantRef.{GrantRef}
@@ -10,7 +10,8 @@ use Rattle.gt_types.specs.Names.{resolved}
 use Rattle.gt_entry.specs.declared.control.Kind.TheVariants.{Sub as KindSub}
 use Rattle.gt_entry.specs.Words.{control_of, header_of}
 use Rattle.gt_calls.specs.declared.action.Verdict.{Verdict}
-use Rattle.gt_calls.specs.declared.action.Verdict.TheVariants.{Granted, Refused}
+use Rattle.gt_calls.specs.declared.action.Verdict.TheVariants.{Granted, Given, Refused}
+use Rattle.gt_calls.specs.declared.action.Value.TheVariants.{Frames}
 use Rattle.gt_calls.specs.declared.action.Change.TheVariants.{Publish, Revoke as ToInvalid}
 use Rattle.gt_calls.specs.declared.action.Action.{Action}
 use Rattle.gt_calls.specs.declared.action.Action.TheVariants.{Step as Makes, Done}
@@ -34,7 +35,7 @@ use Rattle.gt_calls.specs.declared.leg.LegPhase.TheVariants.{Header, Look, Body,
 use Rattle.gt_calls.specs.declared.leg.LegNext.{LegNext}
 use Rattle.gt_calls.specs.declared.leg.LegNext.TheVariants.{Going, Refused as LegRefused, Pinned}
 use Rattle.gt_calls.specs.Rules.{CallerKnowledge, is_demote, before_pin, first_look, first_body, second_body, size_of, is_kind, begun}
-use Rattle.gt_calls.specs.Path.{Continuation, AfterRefusal, AfterPin, ended, entry_refusal, refused_with, refused_at, exchanges, leg, tries, reads_body, reads_second, last_step, publishes, steps_of, stores_second, turns, to_ro_or_back, map_leg, idle_word}
+use Rattle.gt_calls.specs.Path.{Continuation, AfterRefusal, AfterPin, ended, entry_refusal, refused_with, refused_at, exchanges, leg, tries, reads_body, reads_second, last_step, publishes, steps_of, stores_second, turns, to_ro_or_back, map_leg, idle_word, size_told, version_told}
 
 -- a value was seen (own)
 abbrev pub IsValue : Seen → Type 0
@@ -256,10 +257,17 @@ after_leg l (Going phase) = LegPinning l phase
 after_leg l (LegRefused denial) = Ended (Refused denial)
 after_leg l (Pinned word body second) = Ended Granted
 
+-- how a call of one step ends, where that step was not missed (own)
+abbrev pub granted_by : Asked → Seen → Verdict
+granted_by (SetupTable frames) seen = Given (Frames frames)
+granted_by (QuerySize dom) (Value word) = size_told word
+granted_by (GetVersion dom) (Value word) = version_told word
+granted_by request seen = Granted
+
 -- where a call stands after its exchange, or its only step (own)
-abbrev pub after_single : DomId → GrantRef → Seen → Phase
-after_single caller gref (Missed found) = Ended (Refused (entry_refusal caller gref N19 found))
-after_single caller gref _ = Ended Granted
+abbrev pub after_single : DomId → Asked → Seen → Phase
+after_single caller request (Missed found) = Ended (Refused (entry_refusal caller (own_gref request) N19 found))
+after_single caller request seen = Ended (granted_by request seen)
 
 -- where a demote or promote stands after a look: N19 ends a demote where a write pin is live (own)
 abbrev pub after_own_look : DomId → Asked → ℕ → ℕ → Phase
@@ -278,7 +286,7 @@ phase_after k caller request Begun seen = first_phase k caller request
 phase_after k caller request (LegPinning l phase) seen = after_leg l (leg_after l phase seen)
 phase_after k caller request Storing seen = if is_sub request then StoringSecond else Single
 phase_after k caller request StoringSecond seen = Single
-phase_after k caller request Single seen = after_single caller (own_gref request) seen
+phase_after k caller request Single seen = after_single caller request seen
 phase_after k caller request (OwnLook more) (Value word) = after_own_look caller request more word
 phase_after k caller request (OwnLook more) seen = OwnLook more
 phase_after k caller request (OwnChange more word) (Missed found) = after_own_miss caller request more found

@@ -18,7 +18,8 @@ use Rattle.gt_calls.specs.declared.asked.Asked.{Asked}
 use Rattle.gt_calls.specs.declared.asked.Asked.TheVariants.{Grant, Revoke, Demote, Promote, Map, Unmap, Load, SetVersion, SetupTable, QuerySize, GetVersion, Store, Peek, Poke}
 use Rattle.gt_calls.specs.declared.request.Holder.TheVariants.{Mapping as HeldBy}
 use Rattle.gt_calls.specs.declared.action.Verdict.{Verdict}
-use Rattle.gt_calls.specs.declared.action.Verdict.TheVariants.{Granted, Refused}
+use Rattle.gt_calls.specs.declared.action.Verdict.TheVariants.{Granted, Given, Refused}
+use Rattle.gt_calls.specs.declared.action.Value.TheVariants.{Frames, Size as SizeTold, Version as VersionTold}
 use Rattle.gt_calls.specs.declared.action.Change.{Change}
 use Rattle.gt_calls.specs.declared.action.Change.TheVariants.{Publish, Revoke as ToInvalid, Demote as ToReadOnly, Promote as ToWritable}
 use Rattle.gt_calls.specs.declared.action.Step.{Step}
@@ -184,9 +185,17 @@ abbrev pub writes : Option Mapping → ℕ → ℕ → Continuation
 writes None off len = λ vs. None
 writes (Some m) off len = makes (WriteBytes m.dom m.frame off len) (ended Granted)
 
--- the one step of a query: the domain's header is looked at (own)
-abbrev pub asks_header : DomId → Continuation
-asks_header dom = looks (LookHeader dom) (λ word. ended Granted)
+-- the size that a header word tells (grant_table.h)
+abbrev pub size_told : ℕ → Verdict
+size_told word = Given (SizeTold (record { frames = (header_of word).frames; max = 4 }))
+
+-- the version that a header word tells (grant_table.h)
+abbrev pub version_told : ℕ → Verdict
+version_told word = Given (VersionTold (header_of word).version)
+
+-- the one step of a query: the domain's header is looked at, and its word tells the answer (own)
+abbrev pub asks_header : DomId → (ℕ → Verdict) → Continuation
+asks_header dom told = looks (LookHeader dom) (λ word. ended (told word))
 
 -- the steps of a call that was not answered at its beginning (own)
 abbrev pub steps_of : CallerKnowledge → DomId → Asked → Continuation
@@ -202,9 +211,9 @@ steps_of k caller (Store handle off len) = writes (k.mapping handle) off len
 steps_of k caller (Peek frame off len) = makes (ReadBytes caller frame off len) (ended Granted)
 steps_of k caller (Poke frame off len) = makes (WriteBytes caller frame off len) (ended Granted)
 steps_of k caller (SetVersion version) = makes (StoreHeader version k.header.frames) (ended Granted)
-steps_of k caller (SetupTable frames) = makes (StoreHeader k.header.version frames) (ended Granted)
-steps_of k caller (QuerySize dom) = asks_header (resolved caller dom)
-steps_of k caller (GetVersion dom) = asks_header (resolved caller dom)
+steps_of k caller (SetupTable frames) = makes (StoreHeader k.header.version frames) (ended (Given (Frames frames)))
+steps_of k caller (QuerySize dom) = asks_header (resolved caller dom) size_told
+steps_of k caller (GetVersion dom) = asks_header (resolved caller dom) version_told
 
 -- a call that is answered at its beginning makes no steps (own)
 abbrev pub after_beginning : Option Verdict → Continuation → Continuation

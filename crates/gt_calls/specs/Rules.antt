@@ -27,7 +27,9 @@ use Rattle.gt_handles.specs.Handles.{Kept, value_of, count_of}
 use Rattle.gt_calls.specs.declared.asked.Asked.{Asked}
 use Rattle.gt_calls.specs.declared.asked.Asked.TheVariants.{Grant, Revoke, Demote, Promote, Map, Unmap, Load, SetVersion, SetupTable, QuerySize, GetVersion, Store, Peek, Poke}
 use Rattle.gt_calls.specs.declared.action.Verdict.{Verdict}
-use Rattle.gt_calls.specs.declared.action.Verdict.TheVariants.{Granted, Refused}
+use Rattle.gt_calls.specs.declared.action.Verdict.TheVariants.{Granted, Given, Refused}
+use Rattle.gt_calls.specs.declared.action.Value.{Value}
+use Rattle.gt_calls.specs.declared.action.Value.TheVariants.{Frames}
 use Rattle.gt_calls.specs.declared.known.Mapping.{Mapping}
 use Rattle.gt_calls.specs.declared.known.Own.{Own}
 use Rattle.gt_calls.specs.declared.leg.Leg.{Leg}
@@ -63,6 +65,11 @@ refused_when false rule = None
 abbrev pub granted_when : Bool → Option Verdict
 granted_when true = Some Granted
 granted_when false = None
+
+-- the same with a value (own)
+abbrev pub given_when : Bool → Value → Option Verdict
+given_when true value = Some (Given value)
+given_when false value = None
 
 -- its kind needs version 2, or its frame number is too large for version 1, or it is no entry (grant_table.h)
 abbrev pub cannot_stand : Entry → ℕ → Bool
@@ -101,7 +108,7 @@ denied may source target (perm ∷ perms) =
 abbrev pub asked_by : ℕ → List Perms
 asked_by flags = if flags == 2 then map_read ∷ map_write ∷ [] else map_read ∷ []
 
--- may the caller give up this mapping (XSM FLASK)
+-- the caller's right to give up this mapping, if it lacks it (XSM FLASK)
 abbrev pub unmap_denied : CallerKnowledge → DomId → Option Mapping → Option Verdict
 unmap_denied k caller None = None
 unmap_denied k caller (Some m) = denied k.may (label_of k.domains caller) (label_of k.domains m.dom) (unmap ∷ [])
@@ -122,7 +129,7 @@ revoke_begun header old r = first (
     refused_when (nat_le (size_of header) r) N9
     ∷ refused_when (is_invalid old) N10 ∷ [])
 
--- is it already as asked (own)
+-- an entry that is already as asked (own)
 abbrev pub is_already : Bool → Entry → Bool
 is_already true old = is_read_only old
 is_already false old = not (is_read_only old)
@@ -187,21 +194,21 @@ unfoldable pub has_valid : (ℕ → Entry) → ℕ → Bool
 has_valid entry zero = false
 has_valid entry (suc r) = not (is_invalid (entry r)) || has_valid entry r
 
--- set_version: N2, Ok where the table has that version, N24 (own)
+-- set the version: N2, Ok where the table has that version, N24 (own)
 abbrev pub version_begun : Header → (ℕ → Entry) → ℕ → Option Verdict
 version_begun header entry version = first (
     refused_when (not (is_version version)) N2
     ∷ granted_when (version == header.version)
     ∷ refused_when (has_valid entry (size_of header)) N24 ∷ [])
 
--- setup_table: N5, Ok where the table has so many frames, N23 (own)
+-- set up a table: N5, Ok with its frames where it has so many, N23 (own)
 abbrev pub setup_begun : CallerKnowledge → DomId → ℕ → Option Verdict
 setup_begun k caller frames = first (
     denied k.may (label_of k.domains caller) (label_of k.domains caller) (setup ∷ [])
-    ∷ granted_when (nat_le frames k.header.frames)
+    ∷ given_when (nat_le frames k.header.frames) (Frames k.header.frames)
     ∷ refused_when (nat_lt 4 frames) N23 ∷ [])
 
--- query_size and get_version: N1 N5 (own)
+-- query a table's size or version: N1 N5 (own)
 abbrev pub query_begun : CallerKnowledge → DomId → DomId → Option Verdict
 query_begun k caller dom = first (
     refused_when (is_none (domain_of k.domains (resolved caller dom))) N1

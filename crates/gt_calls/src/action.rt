@@ -1,6 +1,6 @@
 use crate::request::Holder;
 use gt_entry::Entry;
-use gt_types::{Denial, Dir, DomId, GrantRef};
+use gt_types::{Denial, Dir, DomId, GrantRef, Size};
 
 /// What an owner's exchange does to its entry.
 #[derive(Clone, Copy, Debug, PartialEq, Eq)]
@@ -76,10 +76,24 @@ pub enum Seen {
     Missed(u64),
 }
 
+/// What a call that asks for it is told.
+#[derive(Clone, Copy, Debug, PartialEq, Eq)]
+pub enum Value {
+    /// The frames that the caller's table then has.
+    Frames(u32),
+    /// The frames of the table named, and the most that it may have.
+    Size(Size),
+    /// The version of the table named, 1 or 2.
+    Version(u32),
+}
+
 /// How a call ends, as far as its own steps tell.
 #[derive(Clone, Copy, Debug, PartialEq, Eq)]
 pub enum Verdict {
+    /// Ok. The handle of a map, and the bytes of a load or peek, are its driver's to add.
     Granted,
+    /// Ok, with this value.
+    Given(Value),
     Refused(Denial),
 }
 

@@ -4,17 +4,17 @@ ghost use Rattle.gt_calls.specs.declared.action.Seen.{Seen};
 ghost use Rattle.gt_handles.specs.Handles.{value_of};
 ghost use Rattle.gt_calls.specs.Rules.{knowledge_of, is_demote, begun};
 ghost use Rattle.gt_calls.specs.Path.{entry_refusal, map_leg, idle_word, to_ro_or_back};
-ghost use Rattle.gt_calls.specs.Machine.{expects, own_gref, is_sub, first_phase, after_leg, after_single, after_own_look, after_own_miss, phase_after, single_at, store_at, second_at, unpin_of, read_of, write_of, action_at, IsUnderway, FitsPhase};
+ghost use Rattle.gt_calls.specs.Machine.{expects, own_gref, is_sub, first_phase, after_leg, granted_by, after_single, after_own_look, after_own_miss, phase_after, single_at, store_at, second_at, unpin_of, read_of, write_of, action_at, IsUnderway, FitsPhase};
 
-use crate::action::{Action, Change, Seen, Step, Verdict};
+use crate::action::{Action, Change, Seen, Step, Value, Verdict};
 use crate::asked::Asked;
 use crate::judging::{Judged, frames_of, judge_request, own_at, resolve};
 use crate::known::{Known, Mapping};
 use crate::leg::{Leg, LegNext, LegPhase, body_read, entry_refusal, leg_next, leg_step};
 use crate::request::{Holder, Request};
-use gt_entry::{Control, Entry};
+use gt_entry::{Control, Entry, Header};
 use gt_handles::{Handle, Handles};
-use gt_types::{Allows, Dir, DomId, GrantRef, Rule, Use};
+use gt_types::{Allows, Dir, DomId, GrantRef, MAX_TABLE_FRAMES, Rule, Size, Use};
 
 /// Where a call stands. `more` counts the turns that may follow this one.
 #[derive(Clone, Copy, Debug, PartialEq, Eq)]
@@ -105,14 +105,32 @@ fn after_leg(leg: Leg, next: LegNext) -> Phase
     }
 }
 
-fn after_single(caller: DomId, gref: GrantRef, seen: Seen) -> Phase
-    ensures { result ≡ after_single caller gref seen }
+// How a call of one step ends, where that step was not missed.
+fn granted_by(request: Asked, seen: Seen) -> Verdict
+    ensures { result ≡ granted_by request seen }
+{
+    match (request, seen) {
+        (Asked::SetupTable { frames }, _) => Verdict::Given(Value::Frames(frames)),
+        (Asked::QuerySize { .. }, Seen::Value(word)) => Verdict::Given(Value::Size(Size {
+            frames: u32::from(Header::unpack(word).frames),
+            max: MAX_TABLE_FRAMES,
+        })),
+        (Asked::GetVersion { .. }, Seen::Value(word)) => {
+            Verdict::Given(Value::Version(u32::from(Header::unpack(word).version)))
+        }
+        _ => Verdict::Granted,
+    }
+}
+
+fn after_single(caller: DomId, request: Asked, seen: Seen) -> Phase
+    ensures { result ≡ after_single caller request seen }
 {
     match seen {
         Seen::Missed(found) => {
+            let gref = own_gref(request);
             Phase::Ended(Verdict::Refused(entry_refusal(caller, gref, Rule::N19, found)))
         }
-        _ => Phase::Ended(Verdict::Granted),
+        _ => Phase::Ended(granted_by(request, seen)),
     }
 }
 
@@ -158,10 +176,10 @@ fn idle_word<P: Allows>(known: &Known<'_, P>, gref: GrantRef) -> u64
     Control::of_entry(own.entry(), own.generation(), 0, 0).pack()
 }
 
-fn unpin(known: &Handles<Mapping>, handle: Handle) -> Action
-    ensures { result ≡ unpin_of handle (value_of known.now handle) }
+fn unpin(mappings: &Handles<Mapping>, handle: Handle) -> Action
+    ensures { result ≡ unpin_of handle (value_of mappings.now handle) }
 {
-    match known.get(handle).copied() {
+    match mappings.get(handle).copied() {
         Some(mapping) => Action::Step(Step::Unpin {
             dom: mapping.dom,
             gref: mapping.gref,
@@ -172,10 +190,10 @@ fn unpin(known: &Handles<Mapping>, handle: Handle) -> Action
     }
 }
 
-fn read(known: &Handles<Mapping>, handle: Handle, off: u16, len: u16) -> Action
-    ensures { result ≡ read_of (value_of known.now handle) off len }
+fn read(mappings: &Handles<Mapping>, handle: Handle, off: u16, len: u16) -> Action
+    ensures { result ≡ read_of (value_of mappings.now handle) off len }
 {
-    match known.get(handle).copied() {
+    match mappings.get(handle).copied() {
         Some(mapping) => Action::Step(Step::Read {
             dom: mapping.dom,
             frame: mapping.frame,
@@ -186,10 +204,10 @@ fn read(known: &Handles<Mapping>, handle: Handle, off: u16, len: u16) -> Action
     }
 }
 
-fn write(known: &Handles<Mapping>, handle: Handle, off: u16, len: usize) -> Action
-    ensures { result ≡ write_of (value_of known.now handle) off len }
+fn write(mappings: &Handles<Mapping>, handle: Handle, off: u16, len: usize) -> Action
+    ensures { result ≡ write_of (value_of mappings.now handle) off len }
 {
-    let Some(Mapping { dom, frame, .. }) = known.get(handle).copied() else {
+    let Some(Mapping { dom, frame, .. }) = mappings.get(handle).copied() else {
         return Action::Done(Verdict::Granted);
     };
     Action::Step(Step::Write {
@@ -322,7 +340,7 @@ impl Call {
                 }
             }
             Phase::StoringSecond => Phase::Single,
-            Phase::Single => after_single(self.caller, own_gref(self.request), seen),
+            Phase::Single => after_single(self.caller, self.request, seen),
             Phase::Look { more } => match seen {
                 Seen::Value(word) => after_own_look(self.caller, self.request, more, word),
                 _ => Phase::Look { more },
@@ -357,7 +375,8 @@ impl Call {
         }
     }
 
-    /// The first body word that the try under way has read, where its pin comes next: for a full page the frame.
+    /// The first body word that the try under way has read, where its pin comes next: for a page the frame. 0 where no
+    /// pin comes next.
     pub fn frame(&self) -> u64
         ensures { result ≡ frame_read self.now.phase }
     {

@@ -6,7 +6,7 @@ ghost use Rattle.gt_handles.specs.Handles.{value_of};
 ghost use Rattle.gt_calls.specs.Asking.{asked, asked_with, begun_of, judged_as, bytes_begun, JudgesBytes, IsSaid};
 ghost use Rattle.gt_calls.specs.Rules.{knowledge_of, begun, cannot_stand, entry_in, generation_in, label_of, frames_of, denied, asked_by, grant_begun, revoke_begun, change_begun, map_begun, unmap_begun, load_begun, store_begun, own_access_begun, has_valid, version_begun, setup_begun, query_begun};
 
-use crate::action::Verdict;
+use crate::action::{Value, Verdict};
 use crate::asked::Asked;
 use crate::known::{FRAME_LEN, Known, Mapping, Own};
 use crate::request::Request;
@@ -281,8 +281,9 @@ fn begin_setup<P: Allows>(known: &Known<'_, P>, caller: DomId, frames: u32) -> O
     if let Some(verdict) = not_allowed(known.rights, label, label, Perms::SETUP) {
         return Some(verdict);
     }
-    if frames <= u32::from(known.header.frames) {
-        Some(Verdict::Granted)
+    let present = u32::from(known.header.frames);
+    if frames <= present {
+        Some(Verdict::Given(Value::Frames(present)))
     } else if frames > MAX_TABLE_FRAMES {
         refused(Rule::N23)
     } else {
