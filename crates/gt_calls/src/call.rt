@@ -8,9 +8,11 @@ ghost use Rattle.gt_calls.specs.Machine.{expects, own_gref, is_sub, first_phase,
 
 use crate::action::{Action, Change, Seen, Step, Value, Verdict};
 use crate::asked::Asked;
-use crate::judging::{Judged, frames_of, judge_request, own_at, resolve};
+use crate::judging::{Judged, frames_of, judge_request, own_entry, resolve};
 use crate::known::{Known, Mapping};
-use crate::leg::{Leg, LegNext, LegPhase, body_read, entry_refusal, leg_next, leg_step};
+use crate::leg::{
+    Leg, LegNext, LegPhase, MORE_TRIES, body_read, entry_refusal, leg_next, leg_step,
+};
 use crate::request::{Holder, Request};
 use gt_entry::{Control, Entry, Header};
 use gt_handles::{Handle, Handles};
@@ -161,7 +163,7 @@ fn first_phase<P: Allows>(known: &Known<'_, P>, caller: DomId, request: Asked) -
 {
     match request {
         Asked::Grant { .. } => Phase::Storing,
-        Asked::Demote { .. } | Asked::Promote { .. } => Phase::Look { more: 3 },
+        Asked::Demote { .. } | Asked::Promote { .. } => Phase::Look { more: MORE_TRIES },
         Asked::Map { dom, gref, flags } => {
             Phase::Pinning(map_leg(known, caller, dom, gref, flags), LegPhase::Header)
         }
@@ -172,8 +174,19 @@ fn first_phase<P: Allows>(known: &Known<'_, P>, caller: DomId, request: Asked) -
 fn idle_word<P: Allows>(known: &Known<'_, P>, gref: GrantRef) -> u64
     ensures { result ≡ idle_word (knowledge_of known.now.config.now.domains.items known.now.config.now.first_gen (P.may known.now.rights.now) known.now.own.now known.now.header known.now.mappings.now) gref }
 {
-    let own = own_at(known.own, known.config.first_gen, gref);
+    let own = own_entry(known, gref);
     Control::of_entry(own.entry(), own.generation(), 0, 0).pack()
+}
+
+// An exchange from the word without pins.
+fn exchange_idle<P: Allows>(known: &Known<'_, P>, gref: GrantRef, change: Change) -> Action
+    ensures { result ≡ Action.Step (Step.Exchange gref (idle_word (knowledge_of known.now.config.now.domains.items known.now.config.now.first_gen (P.may known.now.rights.now) known.now.own.now known.now.header known.now.mappings.now) gref) change) }
+{
+    Action::Step(Step::Exchange {
+        gref,
+        looked: idle_word(known, gref),
+        change,
+    })
 }
 
 fn unpin(mappings: &Handles<Mapping>, handle: Handle) -> Action
@@ -222,16 +235,8 @@ fn single<P: Allows>(known: &Known<'_, P>, caller: DomId, request: Asked) -> Act
     ensures { result ≡ single_at (knowledge_of known.now.config.now.domains.items known.now.config.now.first_gen (P.may known.now.rights.now) known.now.own.now known.now.header known.now.mappings.now) caller request }
 {
     match request {
-        Asked::Grant { gref, entry } => Action::Step(Step::Exchange {
-            gref,
-            looked: idle_word(known, gref),
-            change: Change::Publish(entry),
-        }),
-        Asked::Revoke { gref } => Action::Step(Step::Exchange {
-            gref,
-            looked: idle_word(known, gref),
-            change: Change::Revoke,
-        }),
+        Asked::Grant { gref, entry } => exchange_idle(known, gref, Change::Publish(entry)),
+        Asked::Revoke { gref } => exchange_idle(known, gref, Change::Revoke),
         Asked::Unmap { handle } => unpin(known.mappings, handle),
         Asked::Load { handle, off, len } => read(known.mappings, handle, off, len),
         Asked::Store { handle, off, len } => write(known.mappings, handle, off, len),

@@ -20,12 +20,14 @@ use gt_types::{
 /// The serials of a domain's mappings are below this number.
 pub const END_OF_SERIALS: u64 = u64::MAX;
 
+/// The domain named, where `DOMID_SELF` names the caller.
 pub fn resolve(caller: DomId, dom: DomId) -> DomId
     ensures { result ≡ resolved caller dom }
 {
     if dom.0 == DOMID_SELF { caller } else { dom }
 }
 
+/// The domain of this number, None where the run has none.
 pub fn find_domain(domains: &[DomainConfig], dom: DomId) -> Option<DomainConfig>
     ensures { result ≡ domain_of domains.now dom }
 {
@@ -43,6 +45,8 @@ fn refused(rule: Rule) -> Option<Verdict>
     Some(Verdict::Refused(Denial::new(rule, Facts::None)))
 }
 
+/// What an owner knows of an entry by its rows; behind them an invalid entry at the first generation, or at 1,048,575
+/// where that is larger. (own)
 pub fn own_at(own: &[Own], first_gen: u32, gref: GrantRef) -> Own
     ensures entry { result.entry ≡ entry_in own.now gref.0 }
     ensures generation { result.generation ≡ generation_in first_gen own.now gref.0 }
@@ -53,6 +57,14 @@ pub fn own_at(own: &[Own], first_gen: u32, gref: GrantRef) -> Own
     } else {
         Own::new(first_gen.min(LAST_GENERATION))
     }
+}
+
+/// What a caller knows of an entry of its own.
+pub fn own_entry<P: Allows>(known: &Known<'_, P>, gref: GrantRef) -> Own
+    ensures entry { result.entry ≡ entry_in known.now.own.now gref.0 }
+    ensures generation { result.generation ≡ generation_in known.now.config.now.first_gen known.now.own.now gref.0 }
+{
+    own_at(known.own, known.config.first_gen, gref)
 }
 
 fn cannot_stand(entry: Entry, version: u8) -> bool
@@ -191,7 +203,7 @@ fn begin_unmap<P: Allows>(known: &Known<'_, P>, caller: DomId, handle: Handle) -
 fn begin_load(mappings: &Handles<Mapping>, handle: Handle, off: u16, len: u16) -> Option<Verdict>
     ensures { result ≡ load_begun (value_of mappings.now) handle off len }
 {
-    if u32::from(off) + u32::from(len) > 4096 {
+    if is_past(off, usize::from(len)) {
         return refused(Rule::N3);
     }
     match mappings.get(handle) {
@@ -220,7 +232,7 @@ fn begin_store(mappings: &Handles<Mapping>, handle: Handle, off: u16, len: usize
     }
 }
 
-// How many frames the domain has.
+/// How many frames the domain has; 0 where the run has no such domain.
 pub fn frames_of(domains: &[DomainConfig], dom: DomId) -> u32
     ensures { result ≡ frames_of domains.now dom }
 {
@@ -311,32 +323,11 @@ fn judge_beginning<P: Allows>(
 {
     match request {
         Asked::Grant { gref, entry } => {
-            begin_grant(
-                known.header,
-                own_at(known.own, known.config.first_gen, gref),
-                gref,
-                entry,
-            )
+            begin_grant(known.header, own_entry(known, gref), gref, entry)
         }
-        Asked::Revoke { gref } => begin_revoke(
-            known.header,
-            own_at(known.own, known.config.first_gen, gref),
-            gref,
-        ),
-        Asked::Demote { gref } => begin_change(
-            true,
-            known.header,
-            own_at(known.own, known.config.first_gen, gref),
-            gref,
-        ),
-        Asked::Promote { gref } => {
-            begin_change(
-                false,
-                known.header,
-                own_at(known.own, known.config.first_gen, gref),
-                gref,
-            )
-        }
+        Asked::Revoke { gref } => begin_revoke(known.header, own_entry(known, gref), gref),
+        Asked::Demote { gref } => begin_change(true, known.header, own_entry(known, gref), gref),
+        Asked::Promote { gref } => begin_change(false, known.header, own_entry(known, gref), gref),
         Asked::Map { dom, flags, .. } => begin_map(known, caller, dom, flags),
         Asked::Unmap { handle } => begin_unmap(known, caller, handle),
         Asked::Load { handle, off, len } => begin_load(known.mappings, handle, off, len),
@@ -426,8 +417,7 @@ pub fn judge_request<P: Allows>(known: &Known<'_, P>, caller: DomId, request: Re
     ensures said { begun_of (knowledge_of known.now.config.now.domains.items known.now.config.now.first_gen (P.may known.now.rights.now) known.now.own.now known.now.header known.now.mappings.now) caller request.entry ≡ None → IsSaid known.now.header request.entry }
 {
     if let Request::GrantBytes { gref, bytes } = request {
-        let own = own_at(known.own, known.config.first_gen, gref);
-        return begin_bytes(known.header, own, gref, bytes);
+        return begin_bytes(known.header, own_entry(known, gref), gref, bytes);
     }
     let asked = plainly_asked(request);
     match judge_beginning(known, caller, asked) {

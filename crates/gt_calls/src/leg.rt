@@ -7,7 +7,10 @@ ghost use Rattle.gt_calls.specs.Machine.{after_miss, after_header, after_look, a
 
 use crate::action::{Seen, Step};
 use gt_entry::{Control, Header, Kind};
-use gt_types::{Denial, Dir, DomId, Facts, GrantRef, MAX_PINS, Rule, Use};
+use gt_types::{Denial, Dir, DomId, Facts, GrantRef, MAX_PINS, MAX_TRIES, Rule, Use};
+
+/// The tries that may follow the first.
+pub(crate) const MORE_TRIES: u8 = (MAX_TRIES - 1) as u8;
 
 /// What a pin is wanted for, and on whose behalf.
 #[derive(Clone, Copy, Debug, PartialEq, Eq)]
@@ -100,6 +103,7 @@ fn judge_pin(leg: Leg, control: Control, body: u64, second: u64) -> Option<Rule>
     }
 }
 
+/// A refusal by the word that was found in the entry.
 pub fn entry_refusal(dom: DomId, gref: GrantRef, rule: Rule, word: u64) -> Denial
     ensures { result ≡ entry_refusal dom gref rule word }
 {
@@ -120,7 +124,7 @@ fn after_header(leg: Leg, word: u64) -> LegNext
     ensures { result ≡ after_header leg word }
 {
     if leg.gref.0 < Header::unpack(word).entries() {
-        LegNext::Going(LegPhase::Look { more: 3 })
+        LegNext::Going(LegPhase::Look { more: MORE_TRIES })
     } else {
         LegNext::Refused(Denial::new(Rule::N9, Facts::Header { dom: leg.dom, word }))
     }
