@@ -21,7 +21,7 @@ mod request;
 #[cfg(test)]
 mod tests;
 
-pub use action::{Action, Change, Seen, Step, Verdict};
+pub use action::{Action, Change, Seen, Step, Value, Verdict};
 pub use asked::{Asked, asked_fits};
 pub use call::{Call, Phase, Start};
 pub use gt_handles::{Handle, Handles};

@@ -24,7 +24,7 @@ use Rattle.gt_calls.specs.declared.action.Step.TheVariants.{Read as ReadBytes, W
 use Rattle.gt_core.specs.States.{State}
 use Rattle.gt_calls.specs.Rules.{first, refused_when, frames_of, frames_in, load_begun, store_begun, own_access_begun, is_for_reading, writes_by}
 use Rattle.gt_core.specs.History.{History, Setting, Pin, live, mapping_on, mappings_in, mappings_at, mapping_of, frame_of, same_handle}
-use Rattle.gt_core.specs.Legal.{Permits, Reaches, MayUse, MayAccess, IsInFrame, Justified}
+use Rattle.gt_core.specs.Legal.{Permits, Reaches, MayUse, MayUseMapping, MayAccess, IsInFrame}
 use Rattle.gt_core.specs.Standing.{IsLawful, IsLawfullyHeld, CoreStands}
 use Rattle.gt_core.proofs.Beginning.{within-frame}
 
@@ -50,17 +50,18 @@ permits-as (Via dom ro dom2 gref) d held dir off len w a = a
 
 -- the pin lets the domain access the mapping's frame in this way
 abbrev IsBy : Setting → DomId → Dir → ℕ → ℕ → Mapping → Pin → Type 0
-IsBy s d dir off len m p = ((dir ≡ Write) → m.dir ≡ Write) → Reaches d dir ForMap m.dom m.frame off len p × MayUse s d m.dom p.dir
+IsBy s d dir off len m p = ((dir ≡ Write) → m.dir ≡ Write) → Reaches d dir ForMap m.dom m.frame off len p
 
 abbrev shown_by : Pin → Mapping
 shown_by p = record { dom = p.dom; gref = record { 0 = p.gref }; dir = p.dir; frame = frame_of p.entry }
 
-lawful-by : (s : Setting) (d : DomId) (dir : Dir) (off len : ℕ) (p : Pin) (handle : Handle) → p.holder ≡ ByMapping handle → IsLawful s p → p.actor ≡ d.0 → IsBy s d dir off len (shown_by p) p
-lawful-by s d dir off len p handle held law own = λ w.
+lawful-by : (s : Setting) (d : DomId) (dir : Dir) (off len : ℕ) (p : Pin) (handle : Handle) → p.holder ≡ ByMapping handle → IsLawful s p → p.actor ≡ d.0
+    → MayUse s d p.dom p.dir × IsBy s d dir off len (shown_by p) p
+lawful-by s d dir off len p handle held law own =
     let a : IsLawfullyHeld s p (ByMapping handle) = subst (λ (x : Holder). IsLawfullyHeld s p x) held law in
     let same : record { 0 = p.actor } ≡ d = ap (λ (n : ℕ). record { 0 = n }) own in
     let v = subst (λ (z : DomId). Permits p.entry z p.dir ForMap 0 0 × MayUse s z p.dom p.dir) same (a.0, a.1) in
-    ((own, refl, refl, permits-as p.entry d p.dir dir off len w v.0, w), v.1)
+    (v.1, λ w. (own, refl, refl, permits-as p.entry d p.dir dir off len w v.0, w))
 
 any-here : {X : Type 0} (P : X → Type 0) (x : X) (xs : List X) → P x → Any P (x ∷ xs)
 any-here P x xs a = (0, x, omega arith, refl, a)
@@ -77,27 +78,29 @@ shown-by-pin s p handle held law = let w : IsLawfullyHeld s p (ByMapping handle)
 
 -- the first mapping with this handle shows a frame of its owner, and a pin lets it be used
 held-by : (s : Setting) (d : DomId) (dir : Dir) (handle : Handle) (off len : ℕ) (m : Mapping) (ps : List Pin) → All (IsLawful s) ps → mapping_of (mappings_in d.0 ps) handle ≡ Some m
-    → ShowsFrame s m × Any (IsBy s d dir off len m) ps
+    → ShowsFrame s m × MayUse s d m.dom m.dir × Any (IsBy s d dir off len m) ps
 unfolding mappings_in
 held-by s d dir handle off len m [] a e = cc
 held-by s d dir handle off len m (p ∷ ps) a e = with-holder p.holder (held-by s d dir handle off len m ps (All-tail (IsLawful s) p ps a)) refl e
   where
     Rest : Type 0
-    Rest = mapping_of (mappings_in d.0 ps) handle ≡ Some m → ShowsFrame s m × Any (IsBy s d dir off len m) ps
+    Rest = mapping_of (mappings_in d.0 ps) handle ≡ Some m → ShowsFrame s m × MayUse s d m.dom m.dir × Any (IsBy s d dir off len m) ps
 
     Found : Type 0
-    Found = ShowsFrame s m × Any (IsBy s d dir off len m) (p ∷ ps)
+    Found = ShowsFrame s m × MayUse s d m.dom m.dir × Any (IsBy s d dir off len m) (p ∷ ps)
 
     later : Rest → mapping_of (mappings_in d.0 ps) handle ≡ Some m → Found
-    later rest f = let r = rest f in (r.0, any-there (IsBy s d dir off len m) p ps r.1)
+    later rest f = let r = rest f in (r.0, r.1, any-there (IsBy s d dir off len m) p ps r.2)
 
     at : (b : Bool) (handle' : Handle) → Rest → p.holder ≡ ByMapping handle' → p.actor ≡ d.0
         → cond b (Some (shown_by p)) (mapping_of (mappings_in d.0 ps) handle) ≡ Some m → Found
     at true handle' rest held own f =
         let same : shown_by p ≡ m = same_Some _ _ f in
-        let law : IsLawful s p = a 0 p (omega arith) in (
+        let law : IsLawful s p = a 0 p (omega arith) in
+        let by = lawful-by s d dir off len p handle' held law own in (
           subst (λ (z : Mapping). ShowsFrame s z) same (shown-by-pin s p handle' held law),
-          any-here (IsBy s d dir off len m) p ps (subst (λ (z : Mapping). IsBy s d dir off len z p) same (lawful-by s d dir off len p handle' held law own)),
+          subst (λ (z : Mapping). MayUse s d z.dom z.dir) same by.0,
+          any-here (IsBy s d dir off len m) p ps (subst (λ (z : Mapping). IsBy s d dir off len z p) same by.1),
         )
     at false handle' rest held own f = later rest f
 
@@ -114,7 +117,7 @@ held-by s d dir handle off len m (p ∷ ps) a e = with-holder p.holder (held-by 
 pub record Accesses (s : Setting) (h : History) (d : DomId) (dir : Dir) (t : DomId) (frame off len : ℕ) : Type 0 where
   pub inside : IsInFrame s t frame off len
   pub named : domain_of s.domains t ≢ None
-  pub by_right : MayAccess s h d dir t frame off len
+  pub by_right : MayAccess h d dir t frame off len
 
 any-map : {X : Type 0} (P Q : X → Type 0) (xs : List X) → ((x : X) → P x → Q x) → Any P xs → Any Q xs
 any-map P Q xs f a = (a.0, a.1, a.2, a.3, f a.1 a.4)
@@ -126,8 +129,14 @@ mapping-accesses s h xs d dir handle off len m st found writes inside =
     record {
       inside = (by.0.0, inside);
       named = by.0.1;
-      by_right = inr (any-map (IsBy s d dir off len m) (λ (p : Pin). Reaches d dir ForMap m.dom m.frame off len p × MayUse s d m.dom p.dir) (live h) (λ p a. a writes) by.1);
+      by_right = inr (any-map (IsBy s d dir off len m) (Reaches d dir ForMap m.dom m.frame off len) (live h) (λ p a. a writes) by.2);
     }
+
+-- the policy allows what the pin of a mapping is for
+pub mapping-may : (s : Setting) (h : History) (xs : List State) (d : DomId) (handle : Handle) (m : Mapping) → CoreStands s h xs
+    → mapping_of (mappings_at h d.0) handle ≡ Some m → MayUseMapping s d (mapping_of (mappings_at h d.0) handle)
+mapping-may s h xs d handle m st found =
+    subst (MayUseMapping s d) (sym found) (held-by s d Read handle 0 0 m (live h) st.lawful found).1
 
 pub load-accesses : (s : Setting) (h : History) (xs : List State) (d : DomId) (handle : Handle) (off len : ℕ) (m : Mapping) → CoreStands s h xs
     → load_begun (mapping_of (mappings_at h d.0)) handle off len ≡ None → mapping_of (mappings_at h d.0) handle ≡ Some m → Accesses s h d Read m.dom m.frame off len

@@ -23,12 +23,13 @@ use Rattle.gt_types.specs.declared.denial.Field.{Field}
 use Rattle.gt_calls.specs.declared.action.Seen.{Seen}
 use Rattle.gt_calls.specs.declared.action.Seen.TheVariants.{Nothing}
 use Rattle.gt_calls.specs.declared.action.Verdict.{Verdict}
-use Rattle.gt_calls.specs.declared.action.Verdict.TheVariants.{Granted, Refused}
+use Rattle.gt_calls.specs.declared.action.Verdict.TheVariants.{Granted, Given, Refused}
+use Rattle.gt_calls.specs.declared.action.Value.TheVariants.{Frames as FramesTold, Size as SizeTold, Version as VersionTold}
 use Rattle.gt_calls.specs.declared.action.Action.TheVariants.{Step as Makes, Done}
 use Rattle.gt_core.specs.declared.trace.Item.{Item}
 use Rattle.gt_core.specs.declared.trace.Happened.TheVariants.{Began}
 use Rattle.gt_core.specs.declared.trace.Answer.{Answer}
-use Rattle.gt_core.specs.declared.trace.Answer.TheVariants.{Frames}
+use Rattle.gt_core.specs.declared.trace.Answer.TheVariants.{Frames, Done as AnswerDone}
 use Rattle.gt_calls.specs.declared.call.Call.{Call}
 use Rattle.gt_calls.specs.declared.call.Start.TheVariants.{Open as StartOpen}
 use Rattle.gt_calls.specs.declared.call.Phase.{Phase}
@@ -42,15 +43,15 @@ use Rattle.gt_core.specs.declared.slot.Open.{Open}
 use Rattle.gt_core.specs.declared.core_state.Opening.TheVariants.{Open as OpeningOpen}
 use Rattle.std.specs.Prelude.{is_some}
 use Rattle.std.specs.Prelude.{◌||◌, not, is_none, nat_le, ◌^◌, ◌-◌}
-use Rattle.gt_types.specs.Names.{resolved, query}
+use Rattle.gt_types.specs.Names.{resolved, unmap, setup, query}
 use Rattle.gt_types.specs.Denial.{denial_of}
 use Rattle.gt_types.specs.declared.TypeId.{TypeId}
 use Rattle.gt_types.specs.declared.perms.Perms.{Perms}
 use Rattle.gt_types.specs.declared.denial.Rule.{Rule}
-use Rattle.gt_types.specs.declared.denial.Rule.TheVariants.{N1, N2, N3, N5, N6, N8, N9, N20, N22, N16}
+use Rattle.gt_types.specs.declared.denial.Rule.TheVariants.{N1, N2, N3, N5, N6, N7, N8, N9, N10, N16, N20, N21, N22, N23, N24}
 use Rattle.gt_types.specs.declared.denial.Facts.TheVariants.{Policy}
 use Rattle.gt_calls.specs.declared.asked.Asked.TheVariants.{Grant, Revoke, Demote, Promote, Map, Unmap, Load, SetVersion, SetupTable, QuerySize, GetVersion, Store, Peek, Poke}
-use Rattle.gt_calls.specs.Rules.{first, refused_when, denied, asked_by, label_of, map_begun, load_begun, query_begun, is_invalid, size_of, CallerKnowledge, begun, knowledge_of, generation_in, control_with, frames_of, own_access_begun}
+use Rattle.gt_calls.specs.Rules.{first, refused_when, granted_when, given_when, denied, unmap_denied, asked_by, label_of, change_begun, is_already, query_begun, version_begun, setup_begun, is_version, has_valid, cannot_stand, is_for_reading, is_invalid, size_of, CallerKnowledge, begun, knowledge_of, generation_in, control_with, frames_of, own_access_begun}
 use Rattle.std.proofs.lemmas.Option.{none-some, slice_get_read, same_Some}
 use Rattle.gt_handles.specs.declared.handles.Handle.{Handle}
 use Rattle.gt_types.specs.declared.GrantRef.{GrantRef}
@@ -62,7 +63,7 @@ use Rattle.gt_core.specs.History.{History, Setting, entry_at, generation_at, bod
 use Rattle.gt_core.specs.Legal.{StepsSoFar, IsSpelled, leg_of, stood, stood_with, first_of_item, AnsweredBy, GivesValue, refusal_in, refusal_of, MayDo, IsRight}
 use Rattle.gt_core.specs.States.{asks_memory, kept_by}
 use Rattle.gt_core.specs.Effects.{with_call}
-use Rattle.gt_core.specs.Standing.{WantsMemory, IsLawful, FitsTable, FitsWord, FitsAsked, PhaseStands, HasStored, HasStoredFirst, OpenAgrees, CallAgrees, FitsGiven, GivenAgrees, Agrees, StateAgrees, CoreStands, state_of, answer_begun, Opens}
+use Rattle.gt_core.specs.Standing.{WantsMemory, IsLawful, FitsTable, FitsWord, FitsAsked, PhaseStands, HasStored, HasStoredFirst, OpenAgrees, CallAgrees, FitsGiven, GivenAgrees, Agrees, StateAgrees, CoreStands, state_of, answer_of, Opens}
 use Rattle.gt_core.proofs.Quiet.{IsQuiet, WritesNone, kept-contents, quiet-entry, quiet-raises, quiet-body, quiet-live, quiet-maps_answered, quiet-generations, quiet-table, quiet-known}
 use Rattle.gt_core.proofs.Places.{has_id, found, not-found, state_of-set}
 
@@ -437,114 +438,144 @@ begin-opens s h d request o fits a closed opens =
 
 -- a call that is answered at once
 
-pub plain-unmapped : (r : Request) (x : Header) (v : Verdict) → one_if_mapped (Some (answer_begun r x v)) ≡ 0
-plain-unmapped r x (Refused denial) = refl
-plain-unmapped (requests.Grant gref entry) x Granted = refl
-plain-unmapped (requests.GrantBytes gref bytes) x Granted = refl
-plain-unmapped (requests.Revoke gref) x Granted = refl
-plain-unmapped (requests.Demote gref) x Granted = refl
-plain-unmapped (requests.Promote gref) x Granted = refl
-plain-unmapped (requests.Map dom gref flags) x Granted = refl
-plain-unmapped (requests.Unmap handle) x Granted = refl
-plain-unmapped (requests.Load handle off len) x Granted = refl
-plain-unmapped (requests.Store handle off bytes) x Granted = refl
-plain-unmapped (requests.Peek frame off len) x Granted = refl
-plain-unmapped (requests.Poke frame off bytes) x Granted = refl
-plain-unmapped (requests.SetVersion version) x Granted = refl
-plain-unmapped (requests.SetupTable frames) x Granted = refl
-plain-unmapped (requests.QuerySize dom) x Granted = refl
-plain-unmapped (requests.GetVersion dom) x Granted = refl
+pub plain-unmapped : (v : Verdict) → one_if_mapped (Some (answer_of v)) ≡ 0
+plain-unmapped Granted = refl
+plain-unmapped (Given (FramesTold n)) = refl
+plain-unmapped (Given (SizeTold z)) = refl
+plain-unmapped (Given (VersionTold n)) = refl
+plain-unmapped (Refused denial) = refl
 
-pub plain-refusal : (r : Request) (x : Header) (v : Verdict) → refusal_of (answer_begun r x v) ≡ refusal_in (Some v)
-plain-refusal r x (Refused denial) = refl
-plain-refusal (requests.Grant gref entry) x Granted = refl
-plain-refusal (requests.GrantBytes gref bytes) x Granted = refl
-plain-refusal (requests.Revoke gref) x Granted = refl
-plain-refusal (requests.Demote gref) x Granted = refl
-plain-refusal (requests.Promote gref) x Granted = refl
-plain-refusal (requests.Map dom gref flags) x Granted = refl
-plain-refusal (requests.Unmap handle) x Granted = refl
-plain-refusal (requests.Load handle off len) x Granted = refl
-plain-refusal (requests.Store handle off bytes) x Granted = refl
-plain-refusal (requests.Peek frame off len) x Granted = refl
-plain-refusal (requests.Poke frame off bytes) x Granted = refl
-plain-refusal (requests.SetVersion version) x Granted = refl
-plain-refusal (requests.SetupTable frames) x Granted = refl
-plain-refusal (requests.QuerySize dom) x Granted = refl
-plain-refusal (requests.GetVersion dom) x Granted = refl
+pub plain-refusal : (v : Verdict) → refusal_of (answer_of v) ≡ refusal_in (Some v)
+plain-refusal Granted = refl
+plain-refusal (Given (FramesTold n)) = refl
+plain-refusal (Given (SizeTold z)) = refl
+plain-refusal (Given (VersionTold n)) = refl
+plain-refusal (Refused denial) = refl
 
--- maps, loads and queries are never done at their beginning
+-- what holds of a verdict, if there is one
 
-first-refused : (b : Bool) (rule : Rule) (more : List (Option Verdict)) → (first more ≡ Some Granted → ⊥) → first (refused_when b rule ∷ more) ≡ Some Granted → ⊥
-first-refused true rule more n e = cc
-first-refused false rule more n e = n e
+abbrev OnVerdict : (Verdict → Type 0) → Option Verdict → Type 0
+OnVerdict Q None = Unit {0}
+OnVerdict Q (Some v) = Q v
 
-one-denied : (b : Bool) (rest : Option Verdict) (denial : Denial) (more : List (Option Verdict)) → (first (rest ∷ more) ≡ Some Granted → ⊥)
-    → first (cond b rest (Some (Refused denial)) ∷ more) ≡ Some Granted → ⊥
-one-denied true rest denial more n e = n e
-one-denied false rest denial more n e = cc
+-- what each of the tests of a beginning gives holds of the first
+on-first : (Q : Verdict → Type 0) (o : Option Verdict) (more : List (Option Verdict)) → OnVerdict Q o → OnVerdict Q (first more) → OnVerdict Q (first (o ∷ more))
+on-first Q None more a b = b
+on-first Q (Some v) more a b = a
 
-denied-refused : (may : TypeId → TypeId → Perms → Bool) (source target : TypeId) (perms : List Perms) (more : List (Option Verdict)) → (first more ≡ Some Granted → ⊥)
-    → first (denied may source target perms ∷ more) ≡ Some Granted → ⊥
-denied-refused may source target [] more n e = n e
-denied-refused may source target (p ∷ ps) more n e =
-    one-denied (may source target p) (denied may source target ps) (denial_of N5 (Policy source target p)) more (denied-refused may source target ps more n) e
+on-cond : (Q : Verdict → Type 0) (b : Bool) (x y : Option Verdict) → OnVerdict Q x → OnVerdict Q y → OnVerdict Q (cond b x y)
+on-cond Q true x y a b = a
+on-cond Q false x y a b = b
 
-none-granted : first {A = Verdict} [] ≡ Some Granted → ⊥
-none-granted e = cc
+-- a value that is given at a beginning, or nothing, for a call that is asked so
+abbrev Fits : Setting → History → DomId → Asked → Verdict → Type 0
+Fits s h d r v = GivesValue s h d r None (answer_of v)
 
-map-refused : (k : CallerKnowledge) (caller dom : DomId) (flags : ℕ) → map_begun k caller dom flags ≡ Some Granted → ⊥
-map-refused k caller dom flags =
-    first-refused (is_none (domain_of k.domains (resolved caller dom))) N1 _ (first-refused (not ((flags == 2) || (flags == 6))) N2 _
-    (denied-refused k.may (label_of k.domains caller) (label_of k.domains (resolved caller dom)) (asked_by flags) _
-    (first-refused (nat_le 8192 k.in_use || nat_le (2 ^ 64 - 1) k.maps_answered) N8 _ none-granted)))
+or-refused : (s : Setting) (h : History) (d : DomId) (r : Asked) (b : Bool) (rule : Rule) (more : List (Option Verdict)) → OnVerdict (Fits s h d r) (first more)
+    → OnVerdict (Fits s h d r) (first (refused_when b rule ∷ more))
+or-refused s h d r true rule more a = tt
+or-refused s h d r false rule more a = a
 
-load-refused : (mapping : Handle → Option Mapping) (handle : Handle) (off len : ℕ) → load_begun mapping handle off len ≡ Some Granted → ⊥
-load-refused mapping handle off len =
-    first-refused (nat_lt 4096 (off + len)) N3 _ (first-refused (is_none (mapping handle)) N6 _ none-granted)
+denied-fits : (s : Setting) (h : History) (d : DomId) (r : Asked) (may : TypeId → TypeId → Perms → Bool) (source target : TypeId) (perms : List Perms) → OnVerdict (Fits s h d r) (denied may source target perms)
+denied-fits s h d r may source target [] = tt
+denied-fits s h d r may source target (p ∷ ps) =
+    on-cond (Fits s h d r) (may source target p) (denied may source target ps) (Some (Refused (denial_of N5 (Policy source target p)))) (denied-fits s h d r may source target ps) tt
 
-own-access-refused : (domains : List DomainConfig) (caller : DomId) (frame off len : ℕ) → own_access_begun domains caller frame off len ≡ Some Granted → ⊥
-own-access-refused domains caller frame off len =
-    first-refused (nat_lt 4096 (off + len)) N3 _ (first-refused (nat_le (frames_of domains caller) frame) N16 _ none-granted)
-
-query-refused : (k : CallerKnowledge) (caller dom : DomId) → query_begun k caller dom ≡ Some Granted → ⊥
-query-refused k caller dom =
-    first-refused (is_none (domain_of k.domains (resolved caller dom))) N1 _
-    (denied-refused k.may (label_of k.domains caller) (label_of k.domains (resolved caller dom)) (query ∷ []) _ none-granted)
-
-bytes-refused : (header : Header) (old : Entry) (generation r : ℕ) (bytes : List ℕ) → bytes_begun header old generation r bytes ≡ Some Granted → ⊥
-bytes-refused header old generation r bytes =
-    first-refused (nat_le (size_of header) r) N9 _ (first-refused (not (is_invalid old)) N20 _ (first-refused (generation == 1048575) N22 _ (by (first_refused header.version bytes))))
+turn-fits : (s : Setting) (h : History) (d : DomId) (r : Asked) (to_ro : Bool) (header : Header) (old : Entry) (generation n : ℕ) → GivesValue s h d r None AnswerDone
+    → OnVerdict (Fits s h d r) (change_begun to_ro header old generation n)
+turn-fits s h d r to_ro header old generation n plain =
+    or-refused s h d r (nat_le (size_of header) n) N9 _ (or-refused s h d r (is_invalid old) N10 _
+    (on-first (Fits s h d r) (granted_when (is_already to_ro old)) _ (granted (is_already to_ro old)) (or-refused s h d r (generation == 1048575) N22 [] tt)))
   where
-    by : (o : Option Field) → first (field_refused o ∷ []) ≡ Some Granted → ⊥
-    by None e = cc
-    by (Some f) e = cc
+    granted : (b : Bool) → OnVerdict (Fits s h d r) (granted_when b)
+    granted true = plain
+    granted false = tt
 
-gives-value : (s : Setting) (h : History) (k : CallerKnowledge) (d : DomId) (request : Request) (x : Header) (v : Verdict) → x ≡ table_at s h d → begun_of k d request ≡ Some v
-    → GivesValue s h d (asked request) None (answer_begun request x v)
-gives-value s h k d request x (Refused denial) same e = tt
-gives-value s h k d (requests.GrantBytes gref bytes) x Granted same e = absurd (bytes-refused k.header (k.entry gref.0) (k.generation gref.0) gref.0 bytes.now e)
-gives-value s h k d (requests.Map dom gref flags) x Granted same e = absurd (map-refused k d dom flags e)
-gives-value s h k d (requests.Load handle off len) x Granted same e = absurd (load-refused k.mapping handle off len e)
-gives-value s h k d (requests.Store handle off bytes) x Granted same e = refl
-gives-value s h k d (requests.Peek frame off len) x Granted same e = absurd (own-access-refused k.domains d frame off len e)
-gives-value s h k d (requests.Poke frame off bytes) x Granted same e = refl
-gives-value s h k d (requests.SetupTable frames) x Granted same e = ap (λ (t : Header). Frames t.frames) same
-gives-value s h k d (requests.QuerySize dom) x Granted same e = absurd (query-refused k d dom e)
-gives-value s h k d (requests.GetVersion dom) x Granted same e = absurd (query-refused k d dom e)
-gives-value s h k d (requests.Grant gref entry) x Granted same e = refl
-gives-value s h k d (requests.Revoke gref) x Granted same e = refl
-gives-value s h k d (requests.Demote gref) x Granted same e = refl
-gives-value s h k d (requests.Promote gref) x Granted same e = refl
-gives-value s h k d (requests.Unmap handle) x Granted same e = refl
-gives-value s h k d (requests.SetVersion version) x Granted same e = refl
+unmap-fits : (s : Setting) (h : History) (k : CallerKnowledge) (d : DomId) (r : Asked) (o : Option Mapping) → OnVerdict (Fits s h d r) (unmap_denied k d o)
+unmap-fits s h k d r None = tt
+unmap-fits s h k d r (Some m) = denied-fits s h d r k.may (label_of k.domains d) (label_of k.domains m.dom) (unmap ∷ [])
+
+version-fits : (s : Setting) (h : History) (k : CallerKnowledge) (d : DomId) (version : ℕ) → OnVerdict (Fits s h d (SetVersion version)) (version_begun k.header k.entry version)
+version-fits s h k d version =
+    let r = SetVersion version in
+    or-refused s h d r (not (is_version version)) N2 _
+    (on-first (Fits s h d r) (granted_when (version == k.header.version)) _ (granted (version == k.header.version)) (or-refused s h d r (has_valid k.entry (size_of k.header)) N24 [] tt))
+  where
+    granted : (b : Bool) → OnVerdict (Fits s h d (SetVersion version)) (granted_when b)
+    granted true = refl
+    granted false = tt
+
+setup-fits : (s : Setting) (h : History) (k : CallerKnowledge) (d : DomId) (frames : ℕ) → k.header ≡ table_at s h d → OnVerdict (Fits s h d (SetupTable frames)) (setup_begun k d frames)
+setup-fits s h k d frames same =
+    let r = SetupTable frames in
+    on-first (Fits s h d r) (denied k.may (label_of k.domains d) (label_of k.domains d) (setup ∷ [])) _ (denied-fits s h d r k.may (label_of k.domains d) (label_of k.domains d) (setup ∷ []))
+    (on-first (Fits s h d r) (given_when (nat_le frames k.header.frames) (FramesTold k.header.frames)) _ (given (nat_le frames k.header.frames)) (or-refused s h d r (nat_lt 4 frames) N23 [] tt))
+  where
+    given : (b : Bool) → OnVerdict (Fits s h d (SetupTable frames)) (given_when b (FramesTold k.header.frames))
+    given true = ap (λ (t : Header). Frames t.frames) same
+    given false = tt
+
+query-fits : (s : Setting) (h : History) (k : CallerKnowledge) (d : DomId) (r : Asked) (dom : DomId) → OnVerdict (Fits s h d r) (query_begun k d dom)
+query-fits s h k d r dom =
+    or-refused s h d r (is_none (domain_of k.domains (resolved d dom))) N1 _
+    (on-first (Fits s h d r) (denied k.may (label_of k.domains d) (label_of k.domains (resolved d dom)) (query ∷ [])) []
+    (denied-fits s h d r k.may (label_of k.domains d) (label_of k.domains (resolved d dom)) (query ∷ [])) tt)
+
+bytes-fits : (s : Setting) (h : History) (d : DomId) (r : Asked) (header : Header) (old : Entry) (generation n : ℕ) (bytes : List ℕ) → OnVerdict (Fits s h d r) (bytes_begun header old generation n bytes)
+bytes-fits s h d r header old generation n bytes =
+    or-refused s h d r (nat_le (size_of header) n) N9 _ (or-refused s h d r (not (is_invalid old)) N20 _ (or-refused s h d r (generation == 1048575) N22 _ (by (first_refused header.version bytes))))
+  where
+    by : (o : Option Field) → OnVerdict (Fits s h d r) (first (field_refused o ∷ []))
+    by None = tt
+    by (Some f) = tt
+
+access-fits : (s : Setting) (h : History) (d : DomId) (r : Asked) (domains : List DomainConfig) (caller : DomId) (frame off len : ℕ) → OnVerdict (Fits s h d r) (own_access_begun domains caller frame off len)
+access-fits s h d r domains caller frame off len = or-refused s h d r (nat_lt 4096 (off + len)) N3 _ (or-refused s h d r (nat_le (frames_of domains caller) frame) N16 [] tt)
+
+-- the value of a call that is answered at its beginning
+value-fits : (s : Setting) (h : History) (k : CallerKnowledge) (d : DomId) (request : Request) → k.header ≡ table_at s h d → OnVerdict (Fits s h d (asked request)) (begun_of k d request)
+value-fits s h k d (requests.Grant gref entry) same =
+    let r = Grant gref entry in
+    or-refused s h d r (nat_le (size_of k.header) gref.0) N9 _ (or-refused s h d r (not (is_invalid (k.entry gref.0))) N20 _
+    (or-refused s h d r (cannot_stand entry k.header.version) N21 _ (or-refused s h d r (k.generation gref.0 == 1048575) N22 [] tt)))
+value-fits s h k d (requests.GrantBytes gref bytes) same = bytes-fits s h d (asked (requests.GrantBytes gref bytes)) k.header (k.entry gref.0) (k.generation gref.0) gref.0 bytes.now
+value-fits s h k d (requests.Revoke gref) same =
+    let r = Revoke gref in
+    or-refused s h d r (nat_le (size_of k.header) gref.0) N9 _ (or-refused s h d r (is_invalid (k.entry gref.0)) N10 [] tt)
+value-fits s h k d (requests.Demote gref) same = turn-fits s h d (Demote gref) true k.header (k.entry gref.0) (k.generation gref.0) gref.0 refl
+value-fits s h k d (requests.Promote gref) same = turn-fits s h d (Promote gref) false k.header (k.entry gref.0) (k.generation gref.0) gref.0 refl
+value-fits s h k d (requests.Map dom gref flags) same =
+    let r = Map dom gref flags in
+    or-refused s h d r (is_none (domain_of k.domains (resolved d dom))) N1 _ (or-refused s h d r (not ((flags == 2) || (flags == 6))) N2 _
+    (on-first (Fits s h d r) (denied k.may (label_of k.domains d) (label_of k.domains (resolved d dom)) (asked_by flags)) _
+    (denied-fits s h d r k.may (label_of k.domains d) (label_of k.domains (resolved d dom)) (asked_by flags))
+    (or-refused s h d r (nat_le 8192 k.in_use || nat_le (2 ^ 64 - 1) k.maps_answered) N8 [] tt)))
+value-fits s h k d (requests.Unmap handle) same =
+    let r = Unmap handle in
+    or-refused s h d r (is_none (k.mapping handle)) N6 _ (on-first (Fits s h d r) (unmap_denied k d (k.mapping handle)) [] (unmap-fits s h k d r (k.mapping handle)) tt)
+value-fits s h k d (requests.Load handle off len) same =
+    let r = Load handle off len in
+    or-refused s h d r (nat_lt 4096 (off + len)) N3 _ (or-refused s h d r (is_none (k.mapping handle)) N6 [] tt)
+value-fits s h k d (requests.Store handle off bytes) same =
+    let r = asked (requests.Store handle off bytes) in
+    or-refused s h d r (nat_lt 4096 (off + length bytes.now)) N3 _ (or-refused s h d r (is_none (k.mapping handle)) N6 _ (or-refused s h d r (is_for_reading (k.mapping handle)) N7 [] tt))
+value-fits s h k d (requests.Peek frame off len) same = access-fits s h d (Peek frame off len) k.domains d frame off len
+value-fits s h k d (requests.Poke frame off bytes) same = access-fits s h d (asked (requests.Poke frame off bytes)) k.domains d frame off (length bytes.now)
+value-fits s h k d (requests.SetVersion version) same = version-fits s h k d version
+value-fits s h k d (requests.SetupTable frames) same = setup-fits s h k d frames same
+value-fits s h k d (requests.QuerySize dom) same = query-fits s h k d (QuerySize dom) dom
+value-fits s h k d (requests.GetVersion dom) same = query-fits s h k d (GetVersion dom) dom
+
+gives-value : (s : Setting) (h : History) (k : CallerKnowledge) (d : DomId) (request : Request) (v : Verdict) → k.header ≡ table_at s h d → begun_of k d request ≡ Some v
+    → GivesValue s h d (asked request) None (answer_of v)
+gives-value s h k d request v same e = subst (OnVerdict (Fits s h d (asked request))) e (value-fits s h k d request same)
 
 pub begin-done : (s : Setting) (h : History) (d : State) (request : Request) (v : Verdict) → Agrees s h d → d.underway ≡ None
     → begun_of (knowledge_of s.domains s.first_generation s.may d.own d.header d.mappings) d.id request ≡ Some v
-    → IsRight s h (began d.id request (Some (answer_begun request d.header v))) × Agrees s (began d.id request (Some (answer_begun request d.header v)) ∷ h) d
+    → IsRight s h (began d.id request (Some (answer_of v))) × Agrees s (began d.id request (Some (answer_of v)) ∷ h) d
 begin-done s h d request v a closed opens =
-    let i = began d.id request (Some (answer_begun request d.header v)) in
-    let q = began-quiet d.id request (Some (answer_begun request d.header v)) (plain-unmapped request d.header v) in
+    let i = began d.id request (Some (answer_of v)) in
+    let q = began-quiet d.id request (Some (answer_of v)) (plain-unmapped v) in
     let was = known-same s h d a in
     let at_once : begun_of (known_at s h d.id) d.id request ≡ Some v = ap (λ (k : CallerKnowledge). begun_of k d.id request) (sym was) ∙ opens in
     let against : stood s (i ∷ h) d.id.0 ≡ refusal_in (Some v) = stood-own s i h ∙ ap refusal_in at_once in
@@ -555,11 +586,11 @@ begin-done s h d request v a closed opens =
     (subst (λ (c : Option Underway). CallAgrees s (i ∷ h) d.id None c) (sym now) tt) in (
       (
         empty,
-        subst (λ (x : Option Verdict). AnsweredBy s h d.id (asked request) None x (Some (answer_begun request d.header v)) (stood s (i ∷ h) d.id.0)) (sym at_once)
-            (plain-refusal request d.header v, plain-refusal request d.header v ∙ sym against, gives-value s h (known_at s h d.id) d.id request d.header v a.header at_once),
-        λ e. let f : Some (answer_begun request d.header v) ≡ None = e in cc,
+        subst (λ (x : Option Verdict). AnsweredBy s h d.id (asked request) None x (Some (answer_of v)) (stood s (i ∷ h) d.id.0)) (sym at_once)
+            (plain-refusal v, plain-refusal v ∙ sym against, gives-value s h (known_at s h d.id) d.id request v refl at_once),
+        λ e. let f : Some (answer_of v) ≡ None = e in cc,
       ),
-      quiet-agrees s i h d d.underway d.given d.frames q a call (given-none (i ∷ h) d.id.0 d.given (open_call-own i h)) (frames-stay s i h d.id d.frames (began-writes-none d.id request (Some (answer_begun request d.header v))) a.frames),
+      quiet-agrees s i h d d.underway d.given d.frames q a call (given-none (i ∷ h) d.id.0 d.given (open_call-own i h)) (frames-stay s i h d.id d.frames (began-writes-none d.id request (Some (answer_of v))) a.frames),
     )
 
 -- the machine's first action
@@ -667,15 +698,15 @@ same-state domains x q e = by (x.id.0 == q) refl
 pub begin-answered : (s : Setting) (h : History) (domains : List State) (dom : DomId) (at : ℕ) (x : State) (request : Request) (v : Verdict)
     → position (has_id dom.0) domains ≡ Some at → x ≡ get_or domains at x → is_some x.underway ≡ false
     → begun_of (knowledge_of s.domains s.first_generation s.may x.own x.header x.mappings) dom request ≡ Some v → CoreStands s h domains
-    → (domain_of s.domains dom ≢ None) × IsRight s h (began dom request (Some (answer_begun request x.header v))) × CoreStands s (began dom request (Some (answer_begun request x.header v)) ∷ h) domains
+    → (domain_of s.domains dom ≢ None) × IsRight s h (began dom request (Some (answer_of v))) × CoreStands s (began dom request (Some (answer_of v)) ∷ h) domains
 begin-answered s h domains dom at x request v p here idle opens st =
     let a = agrees-found s h domains dom at x p here st in
     let f = found domains dom.0 at x p ∙ ap (λ (y : State). Some y) (sym here) in
     let both = subst (λ (d : DomId). begun_of (knowledge_of s.domains s.first_generation s.may x.own x.header x.mappings) d request ≡ Some v → state_of domains d.0 ≡ Some x
-    → IsRight s h (began d request (Some (answer_begun request x.header v))) × CoreStands s (began d request (Some (answer_begun request x.header v)) ∷ h) domains) a.1
+    → IsRight s h (began d request (Some (answer_of v))) × CoreStands s (began d request (Some (answer_of v)) ∷ h) domains) a.1
     (λ op g. let b = begin-done s h x request v a.2 (closed-from x.underway idle) op in (
       b.0,
-      quiet-stands s (began x.id request (Some (answer_begun request x.header v))) h domains domains x (began-quiet x.id request (Some (answer_begun request x.header v)) (plain-unmapped request x.header v)) (began-writes-none x.id request (Some (answer_begun request x.header v))) st
+      quiet-stands s (began x.id request (Some (answer_of v))) h domains domains x (began-quiet x.id request (Some (answer_of v)) (plain-unmapped v)) (began-writes-none x.id request (Some (answer_of v))) st
           (λ q. same-state domains x q g) (refl, b.1) (λ none. none-some x (sym none ∙ g)),
     ))
     opens f in
@@ -703,7 +734,7 @@ begin-opened s h domains dom at x request o fits p here idle opens st =
 pub place-at : (domains : List State) (d at : ℕ) (x : State) → position (has_id d) domains ≡ Some at → x ≡ get_or domains at x → slice_get domains at ≡ Some x
 place-at domains d at x p here = slice_get_read domains (length domains) at x refl (position-Some (has_id d) domains at x p).0 here
 
-pub begin-answers : (s : Setting) (h : History) (domains : List State) (dom : DomId) (at : ℕ) (x : State) (request : Request) (v : Verdict) (y : Answer) → y ≡ answer_begun request x.header v
+pub begin-answers : (s : Setting) (h : History) (domains : List State) (dom : DomId) (at : ℕ) (x : State) (request : Request) (v : Verdict) (y : Answer) → y ≡ answer_of v
     → position (has_id dom.0) domains ≡ Some at → x ≡ get_or domains at x → is_some x.underway ≡ false
     → begun_of (knowledge_of s.domains s.first_generation s.may x.own x.header x.mappings) dom request ≡ Some v → CoreStands s h domains
     → (domain_of s.domains dom ≢ None) × IsRight s h (began dom request (Some y)) × CoreStands s (began dom request (Some y) ∷ h) domains
@@ -725,6 +756,7 @@ pub begin-wants : (s : Setting) (h : History) (domains : List State) (dom : DomI
 begin-wants s h domains dom at x request o asks p here idle opens st =
     let a = agrees-found s h domains dom at x p here st in (
       ap asks_memory (sym opens.2) ∙ asks,
+      a.0,
       subst (λ (d : DomId). open_call h d.0 ≡ None) a.1 (call-none s h x.id x.underway (open_call h x.id.0) (closed-from x.underway idle) a.2.call),
       subst (λ (d : DomId). begun_of (known_at s h d) dom request ≡ None) a.1 (ap (λ (k : CallerKnowledge). begun_of k dom request) (sym (known-same s h x a.2)) ∙ opens.0),
     )

@@ -1,5 +1,5 @@
 -- A tick after which a call is answered Ok.
-use Rattle.std.proofs.Common.{◌≡◌, ◌≢◌, ◌<◌, ◌≤◌, ◌+◌, ◌-◌, ℕ, refl, Bool, true, false, List, [], ◌∷◌, ◌++◌, length, Option, Some, None, cond, sym, ap, ◌∙◌, arith, subst, get_or, set, reverse, take, drop}
+use Rattle.std.proofs.Common.{◌≡◌, ◌≢◌, ◌<◌, ◌≤◌, ◌+◌, ◌-◌, ◌⊎◌, inl, inr, ℕ, refl, Bool, true, false, List, [], ◌∷◌, ◌++◌, length, Option, Some, None, cond, sym, ap, ◌∙◌, arith, subst, get_or, set, reverse, take, drop}
 use Rattle.gt_handles.specs.Handles.{Kept}
 use Rattle.gt_core.specs.Effects.{Adds}
 use Rattle.std.proofs.lemmas.Bool.{leb-false, eqb-true, eq-eqb, false≢true, true≢false}
@@ -28,7 +28,10 @@ use Rattle.gt_calls.specs.declared.request.Holder.{Holder}
 use Rattle.gt_calls.specs.declared.request.Holder.TheVariants.{Mapping as ByMapping, Leg as ByLeg}
 use Rattle.gt_calls.specs.declared.asked.Asked.{Asked}
 use Rattle.gt_calls.specs.declared.asked.Asked.TheVariants.{Grant, Revoke, Demote, Promote, Map, Unmap, Load, SetVersion, SetupTable, QuerySize, GetVersion, Store, Peek, Poke}
-use Rattle.gt_calls.specs.declared.action.Verdict.TheVariants.{Granted, Refused}
+use Rattle.gt_calls.specs.declared.action.Verdict.{Verdict}
+use Rattle.gt_calls.specs.declared.action.Verdict.TheVariants.{Granted, Given, Refused}
+use Rattle.gt_calls.specs.declared.action.Value.{Value as GivenValue}
+use Rattle.gt_calls.specs.declared.action.Value.TheVariants.{Frames as FramesTold}
 use Rattle.gt_calls.specs.declared.action.Change.{Change}
 use Rattle.gt_calls.specs.declared.action.Step.{Step}
 use Rattle.gt_calls.specs.declared.action.Step.TheVariants.{LookHeader, LookControl, LookBody, Pin as PinStep, Unpin, StoreBody, StoreHeader, Exchange, Read as ReadBytes, Write as WriteBytes}
@@ -50,7 +53,7 @@ use Rattle.gt_core.specs.States.{State}
 use Rattle.gt_core.specs.declared.slot.Open.{Open}
 use Rattle.gt_calls.specs.Rules.{CallerKnowledge, knowledge_of, is_demote, begun, first, refused_when, size_of, control_with}
 use Rattle.gt_calls.specs.Path.{entry_refusal}
-use Rattle.gt_calls.specs.Machine.{expects, action_at, phase_after, after_leg, leg_after, leg_step, own_gref, is_sub, store_at, second_at, single_at, unpin_of, read_of, Comes, write_of}
+use Rattle.gt_calls.specs.Machine.{granted_by, after_single, expects, action_at, phase_after, after_leg, leg_after, leg_step, own_gref, is_sub, store_at, second_at, single_at, unpin_of, read_of, Comes, write_of}
 use Rattle.gt_core.specs.Sight.{sees, changes_nothing}
 use Rattle.gt_core.specs.History.{History, Setting, word_at, control_at, table_at, known_at, writes_at, reads_at, entry_at, generation_at, body_at, seen_by, Underway, open_call, one_if_mapped, live, Pin, mapping_on, mappings_in, mappings_at, frame_of, same_handle, mapping_of}
 use Rattle.gt_core.specs.Legal.{Permits, MayUse, IsSafe, PinIsSound, StepsSoFar, leg_of, verdict_in, stood, AnsweredBy, StepsRight, StepsRightIn}
@@ -81,8 +84,8 @@ use Rattle.gt_core.specs.declared.trace.Answer.TheVariants.{Done as AnswerDone, 
 use Rattle.gt_core.specs.declared.trace.Bytes.{Bytes}
 use Rattle.gt_calls.specs.Rules.{stands, first_look, before_pin, is_kind, wants, writes_by, denied, asked_by, label_of, frames_of, holds, pins_of, load_begun, map_begun}
 use Rattle.gt_calls.specs.Path.{map_leg}
-use Rattle.gt_core.specs.Legal.{GivesValue, refusal_of, NoneStands}
-use Rattle.gt_core.specs.Standing.{FitsGiven, Settled, value_of, FitsTable, NeedsNoRoom, IsMapping, IsLoadOf}
+use Rattle.gt_core.specs.Legal.{GivesValue, refusal_in, refusal_of, NoneStands}
+use Rattle.gt_core.specs.Standing.{FitsGiven, Settled, answer_with, FitsTable, NeedsNoRoom, IsMapping, IsLoadOf}
 use Rattle.gt_core.proofs.Rows.{length-changed_in}
 use Rattle.gt_core.specs.Effects.{with_own, with_header, with_mapping, without_mapping, or_none, frame_in, bytes_in, without_given, with_bytes}
 use Rattle.gt_calls.specs.Machine.{frame_read, after_miss, after_words, after_look, after_own_look}
@@ -103,25 +106,34 @@ use Rattle.gt_core.proofs.Pinning.{pin-stands, new_pin, pins_at}
 
 -- a call that is answered Ok
 
-ended-none : (k : CallerKnowledge) (d : DomId) (r : Asked) (phase : Phase) → Done Granted ≡ action_at k d r phase → phase_refusal phase ≡ None
-ended-none k d r PhaseBegun e = refl
-ended-none k d r (LegPinning l p) e = refl
-ended-none k d r Storing e = refl
-ended-none k d r StoringSecond e = refl
-ended-none k d r Single e = refl
-ended-none k d r (OwnLook more) e = refl
-ended-none k d r (OwnChange more word) e = refl
-ended-none k d r (Ended Granted) e = refl
-ended-none k d r (Ended (Refused denial)) e = cc
+-- the verdict of an end, Ok with nothing where it is none
+abbrev verdict_of : Action → Verdict
+verdict_of (Done verdict) = verdict
+verdict_of (Makes step) = Granted
+
+ended-none : (k : CallerKnowledge) (d : DomId) (r : Asked) (phase : Phase) (verdict : Verdict) → refusal_in (Some verdict) ≡ None → Done verdict ≡ action_at k d r phase → phase_refusal phase ≡ None
+ended-none k d r PhaseBegun verdict plain e = refl
+ended-none k d r (LegPinning l p) verdict plain e = refl
+ended-none k d r Storing verdict plain e = refl
+ended-none k d r StoringSecond verdict plain e = refl
+ended-none k d r Single verdict plain e = refl
+ended-none k d r (OwnLook more) verdict plain e = refl
+ended-none k d r (OwnChange more word) verdict plain e = refl
+ended-none k d r (Ended v) verdict plain e = by v (ap verdict_of e)
+  where
+    by : (v : Verdict) → verdict ≡ v → phase_refusal (Ended v) ≡ None
+    by Granted f = refl
+    by (Given value) f = refl
+    by (Refused denial) f = let g : Some denial ≡ None = ap (λ (z : Verdict). refusal_in (Some z)) (sym f) ∙ plain in cc
 
 -- its last step is right, with the value that it gives
-pub granted-right : (s : Setting) (h : History) (xs : List State) (d : DomId) (o : Open) (c : Underway) (seen : Seen) (new : Call) (answer : Answer) → CoreStands s h xs → open_call h d.0 ≡ Some c
-    → OpenAgrees s h d o c → Stepping s h d o c seen new (Done Granted) → IsSafe s h (stepped d o.step seen (Some answer)) → PinIsSound s h d c.request o.step seen
+pub ended-right : (s : Setting) (h : History) (xs : List State) (d : DomId) (o : Open) (c : Underway) (seen : Seen) (new : Call) (verdict : Verdict) (answer : Answer) → refusal_in (Some verdict) ≡ None
+    → CoreStands s h xs → open_call h d.0 ≡ Some c → OpenAgrees s h d o c → Stepping s h d o c seen new (Done verdict) → IsSafe s h (stepped d o.step seen (Some answer)) → PinIsSound s h d c.request o.step seen
     → refusal_of answer ≡ None → GivesValue s h d c.request (Some o.step) answer
     → StepsRight s h (stepped d o.step seen (Some answer)) o.step seen c
-granted-right s h xs d o c seen new answer st call oa p safe sound plain value =
+ended-right s h xs d o c seen new verdict answer ok st call oa p safe sound plain value =
     let fair : stood s (stepped d o.step seen (Some answer) ∷ h) d.0 ≡ None =
-    stood-step s h d c o.step seen (Some answer) call oa.fair ∙ sym p.judged ∙ ended-none (known_at s h d) d c.request new.phase p.is_next in
+    stood-step s h d c o.step seen (Some answer) call oa.fair ∙ sym p.judged ∙ ended-none (known_at s h d) d c.request new.phase verdict ok p.is_next in
     record {
       continues = path-here s h d o c oa;
       sees = p.sees;
@@ -131,8 +143,14 @@ granted-right s h xs d o c seen new answer st call oa p safe sound plain value =
       soon = λ e. let f : Some answer ≡ None = e in cc;
       left = λ some. absurd (some plain);
       answered = subst (λ (a : Option Action). AnsweredBy s h d c.request (Some o.step) (verdict_in a) (Some answer) (stood s (stepped d o.step seen (Some answer) ∷ h) d.0))
-          (sym (path-next s h d o c seen new (Done Granted) oa p)) (plain, plain ∙ sym fair, value);
+          (sym (path-next s h d o c seen new (Done verdict) oa p)) (plain ∙ sym ok, plain ∙ sym fair, value);
     }
+
+pub granted-right : (s : Setting) (h : History) (xs : List State) (d : DomId) (o : Open) (c : Underway) (seen : Seen) (new : Call) (answer : Answer) → CoreStands s h xs → open_call h d.0 ≡ Some c
+    → OpenAgrees s h d o c → Stepping s h d o c seen new (Done Granted) → IsSafe s h (stepped d o.step seen (Some answer)) → PinIsSound s h d c.request o.step seen
+    → refusal_of answer ≡ None → GivesValue s h d c.request (Some o.step) answer
+    → StepsRight s h (stepped d o.step seen (Some answer)) o.step seen c
+granted-right s h xs d o c seen new answer st call oa p = ended-right s h xs d o c seen new Granted answer refl st call oa p
 
 -- looks and stores end no call with Ok
 
@@ -221,59 +239,61 @@ is_query (GetVersion dom) = true
 is_query request = false
 
 never-ends : (s : Setting) (h : History) (d : DomId) (r : Asked) (so_far : StepsSoFar) (phase : Phase) (step : Step) → PhaseStands s h d r so_far phase
-    → Comes (expects (known_at s h d) d r phase []) → action_at (known_at s h d) d r phase ≡ Makes step → is_query r ≡ false → LooksOrStores step
+    → Comes (expects (known_at s h d) d r phase []) → action_at (known_at s h d) d r phase ≡ Makes step → LooksOrStores step
     → Done Granted ≡ action_at (known_at s h d) d r (phase_after (known_at s h d) d r phase (seen_by s h d step)) → ⊥
-never-ends s h d r so_far PhaseBegun step a comes act plain looks e = a
-never-ends s h d r so_far (LegPinning l p) step a comes act plain looks e =
+never-ends s h d r so_far PhaseBegun step a comes act looks e = a
+never-ends s h d r so_far (LegPinning l p) step a comes act looks e =
     subst (λ (z : Step). LooksOrStores z → Done Granted ≡ action_at (known_at s h d) d r (after_leg l (leg_after l p (seen_by s h d z))) → ⊥) (makes-same _ _ act)
     (λ z. not-granted (known_at s h d) d r l (leg_after l p (seen_by s h d (leg_step l p))) (looked-goes s h d l p z)) looks e
-never-ends s h d (Grant gref entry) so_far Storing step a comes act plain looks e = stored-goes (known_at s h d) d gref entry (is_sub (Grant gref entry)) e
-never-ends s h d (Grant gref entry) so_far StoringSecond step a comes act plain looks e = stored-goes (known_at s h d) d gref entry false e
-never-ends s h d (Grant gref entry) so_far Single step a comes act plain looks e = subst LooksOrStores (sym (makes-same _ _ act)) looks
-never-ends s h d (Revoke gref) so_far Single step a comes act plain looks e = subst LooksOrStores (sym (makes-same _ _ act)) looks
-never-ends s h d (Unmap handle) so_far Single step a comes act plain looks e = unpin-loud handle _ step act looks
-never-ends s h d (Load handle off len) so_far Single step a comes act plain looks e = read-loud _ off len step act looks
-never-ends s h d (Store handle off len) so_far Single step a comes act plain looks e = write-loud _ off len step act looks
-never-ends s h d (Peek frame off len) so_far Single step a comes act plain looks e = subst LooksOrStores (sym (makes-same _ _ act)) looks
-never-ends s h d (Poke frame off len) so_far Single step a comes act plain looks e = subst LooksOrStores (sym (makes-same _ _ act)) looks
-never-ends s h d (SetVersion version) so_far Single step a comes act plain looks e = subst LooksOrStores (sym (makes-same _ _ act)) looks
-never-ends s h d (SetupTable frames) so_far Single step a comes act plain looks e = subst LooksOrStores (sym (makes-same _ _ act)) looks
-never-ends s h d (QuerySize dom) so_far Single step a comes act plain looks e = true≢false plain
-never-ends s h d (GetVersion dom) so_far Single step a comes act plain looks e = true≢false plain
-never-ends s h d (Demote gref) so_far Single step a comes act plain looks e = comes
-never-ends s h d (Promote gref) so_far Single step a comes act plain looks e = comes
-never-ends s h d (Map dom gref flags) so_far Single step a comes act plain looks e = comes
-never-ends s h d r so_far (OwnLook more) step a comes act plain looks e =
+never-ends s h d (Grant gref entry) so_far Storing step a comes act looks e = stored-goes (known_at s h d) d gref entry (is_sub (Grant gref entry)) e
+never-ends s h d (Grant gref entry) so_far StoringSecond step a comes act looks e = stored-goes (known_at s h d) d gref entry false e
+never-ends s h d (Grant gref entry) so_far Single step a comes act looks e = subst LooksOrStores (sym (makes-same _ _ act)) looks
+never-ends s h d (Revoke gref) so_far Single step a comes act looks e = subst LooksOrStores (sym (makes-same _ _ act)) looks
+never-ends s h d (Unmap handle) so_far Single step a comes act looks e = unpin-loud handle _ step act looks
+never-ends s h d (Load handle off len) so_far Single step a comes act looks e = read-loud _ off len step act looks
+never-ends s h d (Store handle off len) so_far Single step a comes act looks e = write-loud _ off len step act looks
+never-ends s h d (Peek frame off len) so_far Single step a comes act looks e = subst LooksOrStores (sym (makes-same _ _ act)) looks
+never-ends s h d (Poke frame off len) so_far Single step a comes act looks e = subst LooksOrStores (sym (makes-same _ _ act)) looks
+never-ends s h d (SetVersion version) so_far Single step a comes act looks e = subst LooksOrStores (sym (makes-same _ _ act)) looks
+never-ends s h d (SetupTable frames) so_far Single step a comes act looks e = subst LooksOrStores (sym (makes-same _ _ act)) looks
+never-ends s h d (QuerySize dom) so_far Single step a comes act looks e =
+    subst (λ (z : Step). Done Granted ≡ action_at (known_at s h d) d (QuerySize dom) (after_single d (QuerySize dom) (seen_by s h d z)) → ⊥) (makes-same _ _ act) (λ f. cc) e
+never-ends s h d (GetVersion dom) so_far Single step a comes act looks e =
+    subst (λ (z : Step). Done Granted ≡ action_at (known_at s h d) d (GetVersion dom) (after_single d (GetVersion dom) (seen_by s h d z)) → ⊥) (makes-same _ _ act) (λ f. cc) e
+never-ends s h d (Demote gref) so_far Single step a comes act looks e = comes
+never-ends s h d (Promote gref) so_far Single step a comes act looks e = comes
+never-ends s h d (Map dom gref flags) so_far Single step a comes act looks e = comes
+never-ends s h d r so_far (OwnLook more) step a comes act looks e =
     subst (λ (z : Step). Done Granted ≡ action_at (known_at s h d) d r (phase_after (known_at s h d) d r (OwnLook more) (seen_by s h d z)) → ⊥) (makes-same _ _ act)
     (own-look-goes (known_at s h d) d r more (word_at s h d.0 (own_gref r).0)) e
-never-ends s h d r so_far (OwnChange more word) step a comes act plain looks e = subst LooksOrStores (sym (makes-same _ _ act)) looks
-never-ends s h d r so_far (Ended verdict) step a comes act plain looks e = a
-never-ends s h d (Revoke gref) so_far Storing step a comes act plain looks e = comes
-never-ends s h d (Demote gref) so_far Storing step a comes act plain looks e = comes
-never-ends s h d (Promote gref) so_far Storing step a comes act plain looks e = comes
-never-ends s h d (Map dom gref flags) so_far Storing step a comes act plain looks e = comes
-never-ends s h d (Unmap handle) so_far Storing step a comes act plain looks e = comes
-never-ends s h d (Load handle off len) so_far Storing step a comes act plain looks e = comes
-never-ends s h d (Store handle off len) so_far Storing step a comes act plain looks e = comes
-never-ends s h d (Peek frame off len) so_far Storing step a comes act plain looks e = comes
-never-ends s h d (Poke frame off len) so_far Storing step a comes act plain looks e = comes
-never-ends s h d (SetVersion version) so_far Storing step a comes act plain looks e = comes
-never-ends s h d (SetupTable frames) so_far Storing step a comes act plain looks e = comes
-never-ends s h d (QuerySize dom) so_far Storing step a comes act plain looks e = comes
-never-ends s h d (GetVersion dom) so_far Storing step a comes act plain looks e = comes
-never-ends s h d (Revoke gref) so_far StoringSecond step a comes act plain looks e = a
-never-ends s h d (Demote gref) so_far StoringSecond step a comes act plain looks e = a
-never-ends s h d (Promote gref) so_far StoringSecond step a comes act plain looks e = a
-never-ends s h d (Map dom gref flags) so_far StoringSecond step a comes act plain looks e = a
-never-ends s h d (Unmap handle) so_far StoringSecond step a comes act plain looks e = a
-never-ends s h d (Load handle off len) so_far StoringSecond step a comes act plain looks e = a
-never-ends s h d (Store handle off len) so_far StoringSecond step a comes act plain looks e = a
-never-ends s h d (Peek frame off len) so_far StoringSecond step a comes act plain looks e = a
-never-ends s h d (Poke frame off len) so_far StoringSecond step a comes act plain looks e = a
-never-ends s h d (SetVersion version) so_far StoringSecond step a comes act plain looks e = a
-never-ends s h d (SetupTable frames) so_far StoringSecond step a comes act plain looks e = a
-never-ends s h d (QuerySize dom) so_far StoringSecond step a comes act plain looks e = a
-never-ends s h d (GetVersion dom) so_far StoringSecond step a comes act plain looks e = a
+never-ends s h d r so_far (OwnChange more word) step a comes act looks e = subst LooksOrStores (sym (makes-same _ _ act)) looks
+never-ends s h d r so_far (Ended verdict) step a comes act looks e = a
+never-ends s h d (Revoke gref) so_far Storing step a comes act looks e = comes
+never-ends s h d (Demote gref) so_far Storing step a comes act looks e = comes
+never-ends s h d (Promote gref) so_far Storing step a comes act looks e = comes
+never-ends s h d (Map dom gref flags) so_far Storing step a comes act looks e = comes
+never-ends s h d (Unmap handle) so_far Storing step a comes act looks e = comes
+never-ends s h d (Load handle off len) so_far Storing step a comes act looks e = comes
+never-ends s h d (Store handle off len) so_far Storing step a comes act looks e = comes
+never-ends s h d (Peek frame off len) so_far Storing step a comes act looks e = comes
+never-ends s h d (Poke frame off len) so_far Storing step a comes act looks e = comes
+never-ends s h d (SetVersion version) so_far Storing step a comes act looks e = comes
+never-ends s h d (SetupTable frames) so_far Storing step a comes act looks e = comes
+never-ends s h d (QuerySize dom) so_far Storing step a comes act looks e = comes
+never-ends s h d (GetVersion dom) so_far Storing step a comes act looks e = comes
+never-ends s h d (Revoke gref) so_far StoringSecond step a comes act looks e = a
+never-ends s h d (Demote gref) so_far StoringSecond step a comes act looks e = a
+never-ends s h d (Promote gref) so_far StoringSecond step a comes act looks e = a
+never-ends s h d (Map dom gref flags) so_far StoringSecond step a comes act looks e = a
+never-ends s h d (Unmap handle) so_far StoringSecond step a comes act looks e = a
+never-ends s h d (Load handle off len) so_far StoringSecond step a comes act looks e = a
+never-ends s h d (Store handle off len) so_far StoringSecond step a comes act looks e = a
+never-ends s h d (Peek frame off len) so_far StoringSecond step a comes act looks e = a
+never-ends s h d (Poke frame off len) so_far StoringSecond step a comes act looks e = a
+never-ends s h d (SetVersion version) so_far StoringSecond step a comes act looks e = a
+never-ends s h d (SetupTable frames) so_far StoringSecond step a comes act looks e = a
+never-ends s h d (QuerySize dom) so_far StoringSecond step a comes act looks e = a
+never-ends s h d (GetVersion dom) so_far StoringSecond step a comes act looks e = a
 
 -- an unpin is of the mapping that an unmap names
 
@@ -596,16 +616,16 @@ few-pins h t r Write e g f n =
     (ap (λ (k : ℕ). k == 4095) (sym (control-writes e g (reads_at h t r) (writes_at h t r))) ∙ n)
 
 -- what is settled where a call is over after this last step, the changed state told by its number
-abbrev pub SettledIn : List State → State → Open → Seen → Step → Answer → List State → Type 0
-SettledIn xs d o seen (PinStep dom gref looked dir) answer new =
+abbrev pub SettledIn : List State → State → Open → Step → Answer → List State → Type 0
+SettledIn xs d o (PinStep dom gref looked dir) answer new =
     (handle : Handle) × (mappings : Kept Mapping) × (answer ≡ Mapped handle)
     × Adds d.mappings mappings handle (record { dom = dom; gref = gref; dir = dir; frame = frame_read o.call.phase }) × (new ≡ changed_in d.id.0 (with_mapping mappings) xs)
-SettledIn xs d o seen (ReadBytes dom frame off len) answer new =
+SettledIn xs d o (ReadBytes dom frame off len) answer new =
     (b : Bytes) × (answer ≡ BytesAnswer b) × (new ≡ changed_in d.id.0 (with_underway None) xs)
     × ((n : ℕ) → IsLoadOf o.call.request n → length (bytes_in new dom.0 frame off n) ≡ n → b.bytes.items ≡ bytes_in new dom.0 frame off n)
-SettledIn xs d o seen (WriteBytes dom frame off len) answer new =
+SettledIn xs d o (WriteBytes dom frame off len) answer new =
     (answer ≡ AnswerDone) × (new ≡ changed_in dom.0 (with_bytes frame off d.given) (changed_in d.id.0 without_given xs))
-SettledIn xs d o seen step answer new = (answer ≡ value_of o.call.request seen) × (new ≡ changed_in d.id.0 (with_underway None) xs)
+SettledIn xs d o step answer new = (answer ≡ AnswerDone) × (new ≡ changed_in d.id.0 (with_underway None) xs)
 
 abbrev EndsRight : Setting → History → List State → State → Open → Underway → Step → Seen → Answer → List State → Type 0
 EndsRight s h xs x o c step seen answer settled =
@@ -617,7 +637,7 @@ gives-handle s h d dom t gref r' flags looked dir request handle is serial = sub
 
 pin-ends : (s : Setting) (h : History) (xs : List State) (x : State) (o : Open) (c : Underway) (seen : Seen) (new : Call) (answer : Answer) (settled : List State) (l : Leg) (more word body second : ℕ)
     → CoreStands s h xs → state_of xs x.id.0 ≡ Some x → Agrees s h x → open_call h x.id.0 ≡ Some c → OpenAgrees s h x.id o c → Stepping s h x.id o c seen new (Done Granted)
-    → o.call.phase ≡ LegPinning l (Pinning more word body second) → o.step ≡ PinStep l.dom l.gref word l.dir → SettledIn xs x o seen (PinStep l.dom l.gref word l.dir) answer settled
+    → o.call.phase ≡ LegPinning l (Pinning more word body second) → o.step ≡ PinStep l.dom l.gref word l.dir → SettledIn xs x o (PinStep l.dom l.gref word l.dir) answer settled
     → EndsRight s h xs x o c o.step seen answer settled
 pin-ends s h xs x o c seen new answer settled l more word body second st here a call oa w is step done =
     let d = x.id in
@@ -675,16 +695,15 @@ pin-ends s h xs x o c seen new answer settled l more word body second st here a 
 
 exchange-over : (s : Setting) (h : History) (xs : List State) (x : State) (o : Open) (c : Underway) (seen : Seen) (new : Call) (answer : Answer) (settled : List State) (gref : GrantRef) (looked : ℕ) (change : Change)
     → CoreStands s h xs → open_call h x.id.0 ≡ Some c → OpenAgrees s h x.id o c → Stepping s h x.id o c seen new (Done Granted)
-    → o.step ≡ Exchange gref looked change → SettledIn xs x o seen (Exchange gref looked change) answer settled → GivesValue s h x.id c.request (Some o.step) AnswerDone × (value_of c.request seen ≡ AnswerDone)
+    → o.step ≡ Exchange gref looked change → SettledIn xs x o (Exchange gref looked change) answer settled → GivesValue s h x.id c.request (Some o.step) AnswerDone
     → EndsRight s h xs x o c o.step seen answer settled
 exchange-over s h xs x o c seen new answer settled gref looked change st call oa w step done value =
     let d = x.id in
     let e = exchange-ends s h xs d o c seen new gref looked change st oa w step in
     let right : StepsRight s h (stepped d o.step seen (Some AnswerDone)) o.step seen c =
     granted-right s h xs d o c seen new AnswerDone st call oa w (exchange-safe s h d gref looked change o.step seen (Some AnswerDone) step e)
-    (subst (λ (z : Step). PinIsSound s h d c.request z seen) (sym step) tt) refl value.0 in
-    let plain : answer ≡ AnswerDone = done.0 ∙ ap (λ (q : Asked). value_of q seen) oa.request ∙ value.1 in
-    subst (λ (z : Answer). EndsRight s h xs x o c o.step seen z settled) (sym plain) (
+    (subst (λ (z : Step). PinIsSound s h d c.request z seen) (sym step) tt) refl value in
+    subst (λ (z : Answer). EndsRight s h xs x o c o.step seen z settled) (sym done.0) (
       right,
       subst (λ (z : Step). CoreStands s (stepped d z seen (Some AnswerDone) ∷ h) (applied d z seen settled)) (sym step)
           (subst (λ (v : Seen). CoreStands s (stepped d (Exchange gref looked change) v (Some AnswerDone) ∷ h) (applied d (Exchange gref looked change) v settled)) (sym e.taken)
@@ -695,7 +714,7 @@ exchange-over s h xs x o c seen new answer settled gref looked change st call oa
 unpin-over : (s : Setting) (h : History) (xs : List State) (x : State) (o : Open) (c : Underway) (seen : Seen) (new : Call) (answer : Answer) (settled : List State) (handle : Handle) (m : Mapping)
     → CoreStands s h xs → state_of xs x.id.0 ≡ Some x → open_call h x.id.0 ≡ Some c → OpenAgrees s h x.id o c → Stepping s h x.id o c seen new (Done Granted)
     → c.request ≡ Unmap handle → mapping_of (mappings_at h x.id.0) handle ≡ Some m → o.step ≡ Unpin m.dom m.gref m.dir (ByMapping handle)
-    → SettledIn xs x o seen (Unpin m.dom m.gref m.dir (ByMapping handle)) answer settled
+    → SettledIn xs x o (Unpin m.dom m.gref m.dir (ByMapping handle)) answer settled
     → EndsRight s h xs x o c o.step seen answer settled
 unpin-over s h xs x o c seen new answer settled handle m st here call oa w asks found step done =
     let d = x.id in
@@ -705,8 +724,7 @@ unpin-over s h xs x o c seen new answer settled handle m st here call oa w asks 
     (subst (λ (z : Step). IsSafe s h (stepped d z seen (Some AnswerDone))) (sym step) tt)
     (subst (λ (z : Step). PinIsSound s h d c.request z seen) (sym step) tt) refl
     (subst (λ (z : Asked). GivesValue s h d z (Some o.step) AnswerDone) (sym asks) refl) in
-    let plain : answer ≡ AnswerDone = done.0 ∙ ap (λ (q : Asked). value_of q seen) (oa.request ∙ asks) in
-    subst (λ (z : Answer). EndsRight s h xs x o c o.step seen z settled) (sym plain) (
+    subst (λ (z : Answer). EndsRight s h xs x o c o.step seen z settled) (sym done.0) (
       right,
       subst (λ (z : Step). CoreStands s (stepped d z seen (Some AnswerDone) ∷ h) (applied d z seen settled)) (sym step)
           (subst (λ (v : Seen). CoreStands s (stepped d (Unpin m.dom m.gref m.dir (ByMapping handle)) v (Some AnswerDone) ∷ h) (applied d (Unpin m.dom m.gref m.dir (ByMapping handle)) v settled)) (sym nothing)
@@ -738,7 +756,7 @@ quiet-over s h xs x step seen answer st here a q m =
 
 read-over : (s : Setting) (h : History) (xs : List State) (x : State) (o : Open) (c : Underway) (seen : Seen) (new : Call) (answer : Answer) (settled : List State) (t : DomId) (frame off len : ℕ)
     → CoreStands s h xs → state_of xs x.id.0 ≡ Some x → Agrees s h x → open_call h x.id.0 ≡ Some c → OpenAgrees s h x.id o c → Stepping s h x.id o c seen new (Done Granted)
-    → IsReading s h x.id c.request t frame off len → o.step ≡ ReadBytes t frame off len → SettledIn xs x o seen (ReadBytes t frame off len) answer settled
+    → IsReading s h x.id c.request t frame off len → o.step ≡ ReadBytes t frame off len → SettledIn xs x o (ReadBytes t frame off len) answer settled
     → EndsRight s h xs x o c o.step seen answer settled
 read-over s h xs x o c seen new answer settled t frame off len st here a call oa w is step done =
     let d = x.id in
@@ -766,7 +784,7 @@ record IsWriting (s : Setting) (h : History) (d : DomId) (r : Asked) (t : DomId)
 
 write-over : (s : Setting) (h : History) (xs : List State) (x : State) (o : Open) (c : Underway) (seen : Seen) (new : Call) (answer : Answer) (settled : List State) (t : DomId) (frame off len : ℕ)
     → CoreStands s h xs → Agrees s h x → open_call h x.id.0 ≡ Some c → OpenAgrees s h x.id o c → Stepping s h x.id o c seen new (Done Granted)
-    → IsWriting s h x.id c.request t frame off len → o.step ≡ WriteBytes t frame off len → SettledIn xs x o seen (WriteBytes t frame off len) answer settled
+    → IsWriting s h x.id c.request t frame off len → o.step ≡ WriteBytes t frame off len → SettledIn xs x o (WriteBytes t frame off len) answer settled
     → EndsRight s h xs x o c o.step seen answer settled
 write-over s h xs x o c seen new answer settled t frame off len st a call oa w is step done =
     let d = x.id in
@@ -788,8 +806,6 @@ write-over s h xs x o c seen new answer settled t frame off len st a call oa w i
     )
 
 -- a call whose last step is an exchange gives no value
-abbrev IsPlain : Setting → History → DomId → Asked → Option Step → Seen → Type 0
-IsPlain s h d r step seen = GivesValue s h d r step AnswerDone × (value_of r seen ≡ AnswerDone)
 
 exchange-no-unpin : (handle : Handle) (m : Option Mapping) (gref : GrantRef) (looked : ℕ) (change : Change) → unpin_of handle m ≡ Makes (Exchange gref looked change) → ⊥
 exchange-no-unpin handle None gref looked change e = cc
@@ -803,123 +819,97 @@ exchange-no-write : (m : Option Mapping) (off len : ℕ) (gref : GrantRef) (look
 exchange-no-write None off len gref looked change e = cc
 exchange-no-write (Some m) off len gref looked change e = cc
 
-exchange-single : (s : Setting) (h : History) (d : DomId) (k : CallerKnowledge) (r : Asked) (gref : GrantRef) (looked : ℕ) (change : Change) (step : Option Step) (seen : Seen) → single_at k d r ≡ Makes (Exchange gref looked change) → IsPlain s h d r step seen
-exchange-single s h d k (Grant g entry) gref looked change step seen e = (refl, refl)
-exchange-single s h d k (Revoke g) gref looked change step seen e = (refl, refl)
-exchange-single s h d k (Demote g) gref looked change step seen e = (refl, refl)
-exchange-single s h d k (Promote g) gref looked change step seen e = (refl, refl)
-exchange-single s h d k (Map dom g flags) gref looked change step seen e = cc
-exchange-single s h d k (Unmap handle) gref looked change step seen e = absurd (exchange-no-unpin handle (k.mapping handle) gref looked change e)
-exchange-single s h d k (Load handle off len) gref looked change step seen e = absurd (exchange-no-read (k.mapping handle) off len gref looked change e)
-exchange-single s h d k (Store handle off len) gref looked change step seen e = absurd (exchange-no-write (k.mapping handle) off len gref looked change e)
-exchange-single s h d k (Peek frame off len) gref looked change step seen e = cc
-exchange-single s h d k (Poke frame off len) gref looked change step seen e = cc
-exchange-single s h d k (SetVersion version) gref looked change step seen e = cc
-exchange-single s h d k (SetupTable frames) gref looked change step seen e = cc
-exchange-single s h d k (QuerySize dom) gref looked change step seen e = cc
-exchange-single s h d k (GetVersion dom) gref looked change step seen e = cc
+exchange-single : (s : Setting) (h : History) (d : DomId) (k : CallerKnowledge) (r : Asked) (gref : GrantRef) (looked : ℕ) (change : Change) (step : Option Step) → single_at k d r ≡ Makes (Exchange gref looked change) → GivesValue s h d r step AnswerDone
+exchange-single s h d k (Grant g entry) gref looked change step e = refl
+exchange-single s h d k (Revoke g) gref looked change step e = refl
+exchange-single s h d k (Demote g) gref looked change step e = refl
+exchange-single s h d k (Promote g) gref looked change step e = refl
+exchange-single s h d k (Map dom g flags) gref looked change step e = cc
+exchange-single s h d k (Unmap handle) gref looked change step e = absurd (exchange-no-unpin handle (k.mapping handle) gref looked change e)
+exchange-single s h d k (Load handle off len) gref looked change step e = absurd (exchange-no-read (k.mapping handle) off len gref looked change e)
+exchange-single s h d k (Store handle off len) gref looked change step e = absurd (exchange-no-write (k.mapping handle) off len gref looked change e)
+exchange-single s h d k (Peek frame off len) gref looked change step e = cc
+exchange-single s h d k (Poke frame off len) gref looked change step e = cc
+exchange-single s h d k (SetVersion version) gref looked change step e = cc
+exchange-single s h d k (SetupTable frames) gref looked change step e = cc
+exchange-single s h d k (QuerySize dom) gref looked change step e = cc
+exchange-single s h d k (GetVersion dom) gref looked change step e = cc
 
-exchange-turn : (s : Setting) (h : History) (d : DomId) (k : CallerKnowledge) (r : Asked) (more word : ℕ) (step : Option Step) (seen : Seen) → Comes (expects k d r (OwnChange more word) []) → IsPlain s h d r step seen
-exchange-turn s h d k (Demote g) more word step seen comes = (refl, refl)
-exchange-turn s h d k (Promote g) more word step seen comes = (refl, refl)
-exchange-turn s h d k (Grant g entry) more word step seen comes = absurd comes
-exchange-turn s h d k (Revoke g) more word step seen comes = absurd comes
-exchange-turn s h d k (Map dom g flags) more word step seen comes = absurd comes
-exchange-turn s h d k (Unmap handle) more word step seen comes = absurd comes
-exchange-turn s h d k (Load handle off len) more word step seen comes = absurd comes
-exchange-turn s h d k (Store handle off len) more word step seen comes = absurd comes
-exchange-turn s h d k (Peek frame off len) more word step seen comes = absurd comes
-exchange-turn s h d k (Poke frame off len) more word step seen comes = absurd comes
-exchange-turn s h d k (SetVersion version) more word step seen comes = absurd comes
-exchange-turn s h d k (SetupTable frames) more word step seen comes = absurd comes
-exchange-turn s h d k (QuerySize dom) more word step seen comes = absurd comes
-exchange-turn s h d k (GetVersion dom) more word step seen comes = absurd comes
+exchange-turn : (s : Setting) (h : History) (d : DomId) (k : CallerKnowledge) (r : Asked) (more word : ℕ) (step : Option Step) → Comes (expects k d r (OwnChange more word) []) → GivesValue s h d r step AnswerDone
+exchange-turn s h d k (Demote g) more word step comes = refl
+exchange-turn s h d k (Promote g) more word step comes = refl
+exchange-turn s h d k (Grant g entry) more word step comes = absurd comes
+exchange-turn s h d k (Revoke g) more word step comes = absurd comes
+exchange-turn s h d k (Map dom g flags) more word step comes = absurd comes
+exchange-turn s h d k (Unmap handle) more word step comes = absurd comes
+exchange-turn s h d k (Load handle off len) more word step comes = absurd comes
+exchange-turn s h d k (Store handle off len) more word step comes = absurd comes
+exchange-turn s h d k (Peek frame off len) more word step comes = absurd comes
+exchange-turn s h d k (Poke frame off len) more word step comes = absurd comes
+exchange-turn s h d k (SetVersion version) more word step comes = absurd comes
+exchange-turn s h d k (SetupTable frames) more word step comes = absurd comes
+exchange-turn s h d k (QuerySize dom) more word step comes = absurd comes
+exchange-turn s h d k (GetVersion dom) more word step comes = absurd comes
 
-exchange-gives : (s : Setting) (h : History) (d : DomId) (k : CallerKnowledge) (r : Asked) (phase : Phase) (gref : GrantRef) (looked : ℕ) (change : Change) (step : Option Step) (seen : Seen)
-    → action_at k d r phase ≡ Makes (Exchange gref looked change) → Comes (expects k d r phase []) → IsPlain s h d r step seen
-exchange-gives s h d k r PhaseBegun gref looked change step seen act comes = cc
-exchange-gives s h d k r (LegPinning l p) gref looked change step seen act comes = absurd (leg-only l p (Exchange gref looked change) act)
-exchange-gives s h d k r Storing gref looked change step seen act comes = absurd (store-only r (Exchange gref looked change) act)
-exchange-gives s h d k r StoringSecond gref looked change step seen act comes = absurd (second-only r (Exchange gref looked change) act)
-exchange-gives s h d k r Single gref looked change step seen act comes = exchange-single s h d k r gref looked change step seen act
-exchange-gives s h d k r (OwnLook more) gref looked change step seen act comes = cc
-exchange-gives s h d k r (OwnChange more word) gref looked change step seen act comes = exchange-turn s h d k r more word step seen comes
-exchange-gives s h d k r (Ended v) gref looked change step seen act comes = cc
+exchange-gives : (s : Setting) (h : History) (d : DomId) (k : CallerKnowledge) (r : Asked) (phase : Phase) (gref : GrantRef) (looked : ℕ) (change : Change) (step : Option Step)
+    → action_at k d r phase ≡ Makes (Exchange gref looked change) → Comes (expects k d r phase []) → GivesValue s h d r step AnswerDone
+exchange-gives s h d k r PhaseBegun gref looked change step act comes = cc
+exchange-gives s h d k r (LegPinning l p) gref looked change step act comes = absurd (leg-only l p (Exchange gref looked change) act)
+exchange-gives s h d k r Storing gref looked change step act comes = absurd (store-only r (Exchange gref looked change) act)
+exchange-gives s h d k r StoringSecond gref looked change step act comes = absurd (second-only r (Exchange gref looked change) act)
+exchange-gives s h d k r Single gref looked change step act comes = exchange-single s h d k r gref looked change step act
+exchange-gives s h d k r (OwnLook more) gref looked change step act comes = cc
+exchange-gives s h d k r (OwnChange more word) gref looked change step act comes = exchange-turn s h d k r more word step comes
+exchange-gives s h d k r (Ended v) gref looked change step act comes = cc
+
+-- two values that are given are one
+abbrev value_in : Verdict → GivenValue
+value_in (Given value) = value
+value_in _ = FramesTold 0
+
+given-same : (a b : GivenValue) → Given a ≡ Given b → a ≡ b
+given-same a b e = ap value_in e
 
 -- a query gives what its look saw
-query-value : (s : Setting) (h : History) (d t : DomId) (r : Asked) → header_of (header_word (table_at s h t)) ≡ table_at s h t → is_query r ≡ true
-    → GivesValue s h d r (Some (LookHeader t)) (value_of r (Value (header_word (table_at s h t)))) × (refusal_of (value_of r (Value (header_word (table_at s h t)))) ≡ None)
-    × (one_if_mapped (Some (value_of r (Value (header_word (table_at s h t))))) ≡ 0)
-query-value s h d t (QuerySize dom) round is = (ap (λ (x : Header). SizeAnswer (record { frames = x.frames; max = 4 })) round, refl, refl)
-query-value s h d t (GetVersion dom) round is = (ap (λ (x : Header). VersionAnswer x.version) round, refl, refl)
-query-value s h d t (Grant gref entry) round is = absurd (false≢true is)
-query-value s h d t (Revoke gref) round is = absurd (false≢true is)
-query-value s h d t (Demote gref) round is = absurd (false≢true is)
-query-value s h d t (Promote gref) round is = absurd (false≢true is)
-query-value s h d t (Map dom gref flags) round is = absurd (false≢true is)
-query-value s h d t (Unmap handle) round is = absurd (false≢true is)
-query-value s h d t (Load handle off len) round is = absurd (false≢true is)
-query-value s h d t (Store handle off len) round is = absurd (false≢true is)
-query-value s h d t (Peek frame off len) round is = absurd (false≢true is)
-query-value s h d t (Poke frame off len) round is = absurd (false≢true is)
-query-value s h d t (SetVersion version) round is = absurd (false≢true is)
-query-value s h d t (SetupTable frames) round is = absurd (false≢true is)
+query-value : (s : Setting) (h : History) (d t : DomId) (r : Asked) (value : GivenValue) → header_of (header_word (table_at s h t)) ≡ table_at s h t → is_query r ≡ true
+    → granted_by r (Value (header_word (table_at s h t))) ≡ Given value
+    → GivesValue s h d r (Some (LookHeader t)) (answer_with value) × (refusal_of (answer_with value) ≡ None) × (one_if_mapped (Some (answer_with value)) ≡ 0)
+query-value s h d t (QuerySize dom) value round is e =
+    subst (λ (v : GivenValue). GivesValue s h d (QuerySize dom) (Some (LookHeader t)) (answer_with v) × (refusal_of (answer_with v) ≡ None) × (one_if_mapped (Some (answer_with v)) ≡ 0)) (given-same _ _ e)
+    (ap (λ (x : Header). SizeAnswer (record { frames = x.frames; max = 4 })) round, refl, refl)
+query-value s h d t (GetVersion dom) value round is e =
+    subst (λ (v : GivenValue). GivesValue s h d (GetVersion dom) (Some (LookHeader t)) (answer_with v) × (refusal_of (answer_with v) ≡ None) × (one_if_mapped (Some (answer_with v)) ≡ 0)) (given-same _ _ e)
+    (ap (λ (x : Header). VersionAnswer x.version) round, refl, refl)
+query-value s h d t (Grant gref entry) value round is e = absurd (false≢true is)
+query-value s h d t (Revoke gref) value round is e = absurd (false≢true is)
+query-value s h d t (Demote gref) value round is e = absurd (false≢true is)
+query-value s h d t (Promote gref) value round is e = absurd (false≢true is)
+query-value s h d t (Map dom gref flags) value round is e = absurd (false≢true is)
+query-value s h d t (Unmap handle) value round is e = absurd (false≢true is)
+query-value s h d t (Load handle off len) value round is e = absurd (false≢true is)
+query-value s h d t (Store handle off len) value round is e = absurd (false≢true is)
+query-value s h d t (Peek frame off len) value round is e = absurd (false≢true is)
+query-value s h d t (Poke frame off len) value round is e = absurd (false≢true is)
+query-value s h d t (SetVersion version) value round is e = absurd (false≢true is)
+query-value s h d t (SetupTable frames) value round is e = absurd (false≢true is)
 
--- a query makes no other step
-abbrev LooksHeader : Step → Type 0
-LooksHeader (LookHeader dom) = Unit {0}
-LooksHeader step = ⊥
-
-query-steps : (s : Setting) (h : History) (d : DomId) (r : Asked) (so_far : StepsSoFar) (phase : Phase) (step : Step) → is_query r ≡ true → PhaseStands s h d r so_far phase
-    → Comes (expects (known_at s h d) d r phase []) → action_at (known_at s h d) d r phase ≡ Makes step → LooksHeader step
-query-steps s h d (QuerySize dom) so_far PhaseBegun step is a comes act = absurd a
-query-steps s h d (QuerySize dom) so_far (LegPinning l p) step is a comes act = let f : None ≡ Some l = a.0 in cc
-query-steps s h d (QuerySize dom) so_far Storing step is a comes act = absurd comes
-query-steps s h d (QuerySize dom) so_far StoringSecond step is a comes act = absurd a
-query-steps s h d (QuerySize dom) so_far Single step is a comes act = subst LooksHeader (makes-same _ _ act) tt
-query-steps s h d (QuerySize dom) so_far (OwnLook more) step is a comes act = absurd comes
-query-steps s h d (QuerySize dom) so_far (OwnChange more word) step is a comes act = absurd comes
-query-steps s h d (QuerySize dom) so_far (Ended v) step is a comes act = absurd a
-query-steps s h d (GetVersion dom) so_far PhaseBegun step is a comes act = absurd a
-query-steps s h d (GetVersion dom) so_far (LegPinning l p) step is a comes act = let f : None ≡ Some l = a.0 in cc
-query-steps s h d (GetVersion dom) so_far Storing step is a comes act = absurd comes
-query-steps s h d (GetVersion dom) so_far StoringSecond step is a comes act = absurd a
-query-steps s h d (GetVersion dom) so_far Single step is a comes act = subst LooksHeader (makes-same _ _ act) tt
-query-steps s h d (GetVersion dom) so_far (OwnLook more) step is a comes act = absurd comes
-query-steps s h d (GetVersion dom) so_far (OwnChange more word) step is a comes act = absurd comes
-query-steps s h d (GetVersion dom) so_far (Ended v) step is a comes act = absurd a
-query-steps s h d (Grant gref entry) so_far phase step is a comes act = absurd (false≢true is)
-query-steps s h d (Revoke gref) so_far phase step is a comes act = absurd (false≢true is)
-query-steps s h d (Demote gref) so_far phase step is a comes act = absurd (false≢true is)
-query-steps s h d (Promote gref) so_far phase step is a comes act = absurd (false≢true is)
-query-steps s h d (Map dom gref flags) so_far phase step is a comes act = absurd (false≢true is)
-query-steps s h d (Unmap handle) so_far phase step is a comes act = absurd (false≢true is)
-query-steps s h d (Load handle off len) so_far phase step is a comes act = absurd (false≢true is)
-query-steps s h d (Store handle off len) so_far phase step is a comes act = absurd (false≢true is)
-query-steps s h d (Peek frame off len) so_far phase step is a comes act = absurd (false≢true is)
-query-steps s h d (Poke frame off len) so_far phase step is a comes act = absurd (false≢true is)
-query-steps s h d (SetVersion version) so_far phase step is a comes act = absurd (false≢true is)
-query-steps s h d (SetupTable frames) so_far phase step is a comes act = absurd (false≢true is)
-
-query-over : (s : Setting) (h : History) (xs : List State) (x : State) (o : Open) (c : Underway) (seen : Seen) (new : Call) (answer : Answer) (settled : List State) (t : DomId)
-    → CoreStands s h xs → state_of xs x.id.0 ≡ Some x → Agrees s h x → open_call h x.id.0 ≡ Some c → OpenAgrees s h x.id o c → Stepping s h x.id o c seen new (Done Granted)
-    → is_query c.request ≡ true → o.step ≡ LookHeader t → SettledIn xs x o seen (LookHeader t) answer settled → EndsRight s h xs x o c o.step seen answer settled
-query-over s h xs x o c seen new answer settled t st here a call oa w is step done =
+query-over : (s : Setting) (h : History) (xs : List State) (x : State) (o : Open) (c : Underway) (seen : Seen) (new : Call) (value : GivenValue) (settled : List State) (t : DomId)
+    → CoreStands s h xs → state_of xs x.id.0 ≡ Some x → Agrees s h x → open_call h x.id.0 ≡ Some c → OpenAgrees s h x.id o c → Stepping s h x.id o c seen new (Done (Given value))
+    → is_query c.request ≡ true → o.step ≡ LookHeader t → granted_by c.request seen ≡ Given value → settled ≡ changed_in x.id.0 (with_underway None) xs
+    → EndsRight s h xs x o c o.step seen (answer_with value) settled
+query-over s h xs x o c seen new value settled t st here a call oa w is step gives done =
     let d = x.id in
-    let word = header_word (table_at s h t) in
-    let saw : seen ≡ Value word = w.sees ∙ ap (seen_by s h d) step in
-    let value = query-value s h d t c.request (table-fits _ (st.tables t)).1 is in
-    let gives : answer ≡ value_of c.request (Value word) = done.0 ∙ ap (λ (q : Asked). value_of q seen) oa.request ∙ ap (value_of c.request) saw in
-    let right : StepsRight s h (stepped d o.step seen (Some (value_of c.request (Value word)))) o.step seen c =
-    granted-right s h xs d o c seen new (value_of c.request (Value word)) st call oa w
-    (subst (λ (z : Step). IsSafe s h (stepped d z seen (Some (value_of c.request (Value word))))) (sym step) tt)
-    (subst (λ (z : Step). PinIsSound s h d c.request z seen) (sym step) tt) value.1
-    (subst (λ (z : Step). GivesValue s h d c.request (Some z) (value_of c.request (Value word))) (sym step) value.0) in
-    let q : changes_nothing o.step seen ≡ true = ap (λ (z : Step). changes_nothing z seen) step in
-    subst (λ (z : Answer). EndsRight s h xs x o c o.step seen z settled) (sym gives) (
+    let saw : seen ≡ Value (header_word (table_at s h t)) = w.sees ∙ ap (seen_by s h d) step in
+    let told = query-value s h d t c.request value (table-fits _ (st.tables t)).1 is (ap (granted_by c.request) (sym saw) ∙ gives) in
+    let right : StepsRight s h (stepped d o.step seen (Some (answer_with value))) o.step seen c =
+    ended-right s h xs d o c seen new (Given value) (answer_with value) refl st call oa w
+    (subst (λ (z : Step). IsSafe s h (stepped d z seen (Some (answer_with value)))) (sym step) tt)
+    (subst (λ (z : Step). PinIsSound s h d c.request z seen) (sym step) tt) told.1
+    (subst (λ (z : Step). GivesValue s h d c.request (Some z) (answer_with value)) (sym step) told.0) in
+    let q : changes_nothing o.step seen ≡ true = ap (λ (z : Step). changes_nothing z seen) step in (
       right,
-      subst (λ (z : List State). CoreStands s (stepped d o.step seen (Some (value_of c.request (Value word))) ∷ h) z) (sym (applied-quiet d o.step seen settled q ∙ done.1))
-          (quiet-over s h xs x o.step seen (value_of c.request (Value word)) st here a q value.2),
+      subst (λ (z : List State). CoreStands s (stepped d o.step seen (Some (answer_with value)) ∷ h) z) (sym (applied-quiet d o.step seen settled q ∙ done))
+          (quiet-over s h xs x o.step seen (answer_with value) st here a q told.2),
     )
 
 -- a call that stores a header
@@ -971,49 +961,73 @@ heads k d r (OwnLook more) version frames e = cc
 heads k d r (OwnChange more word) version frames e = cc
 heads k d r (Ended v) version frames e = cc
 
--- the header that is stored is within the limits, and the call gives the frames asked for
-abbrev HeaderGives : Setting → History → DomId → Asked → ℕ → ℕ → Type 0
-HeaderGives s h d r version frames =
-    FitsTable (record { version = version; frames = frames }) × GivesValue s h d r (Some (StoreHeader version frames)) (value_of r Nothing)
-    × (refusal_of (value_of r Nothing) ≡ None) × (one_if_mapped (Some (value_of r Nothing)) ≡ 0)
+-- the header that is stored is within the limits
+header-fits : (k : CallerKnowledge) (d : DomId) (r : Asked) (version frames : ℕ) → begun k d r ≡ None → FitsTable k.header → Heads k r (record { version = version; frames = frames })
+    → FitsTable (record { version = version; frames = frames })
+header-fits k d (SetVersion v) version frames e f same = subst FitsTable same (version-fits k.header k.entry v e f)
+header-fits k d (SetupTable n) version frames e f same = subst FitsTable same (setup-fits k.header n _ e f)
+header-fits k d (Grant g entry) version frames e f same = absurd same
+header-fits k d (Revoke g) version frames e f same = absurd same
+header-fits k d (Demote g) version frames e f same = absurd same
+header-fits k d (Promote g) version frames e f same = absurd same
+header-fits k d (Map dom g flags) version frames e f same = absurd same
+header-fits k d (Unmap handle) version frames e f same = absurd same
+header-fits k d (Load handle off len) version frames e f same = absurd same
+header-fits k d (Store handle off len) version frames e f same = absurd same
+header-fits k d (Peek frame off len) version frames e f same = absurd same
+header-fits k d (Poke frame off len) version frames e f same = absurd same
+header-fits k d (QuerySize dom) version frames e f same = absurd same
+header-fits k d (GetVersion dom) version frames e f same = absurd same
 
-header-gives : (s : Setting) (h : History) (d : DomId) (k : CallerKnowledge) (r : Asked) (version frames : ℕ) → begun k d r ≡ None → FitsTable k.header → Heads k r (record { version = version; frames = frames })
-    → HeaderGives s h d r version frames
-header-gives s h d k (SetVersion v) version frames e f same = (subst FitsTable same (version-fits k.header k.entry v e f), refl, refl, refl)
-header-gives s h d k (SetupTable n) version frames e f same = (subst FitsTable same (setup-fits k.header n _ e f), ap (λ (x : Header). FramesAnswer x.frames) same, refl, refl)
-header-gives s h d k (Grant g entry) version frames e f same = absurd same
-header-gives s h d k (Revoke g) version frames e f same = absurd same
-header-gives s h d k (Demote g) version frames e f same = absurd same
-header-gives s h d k (Promote g) version frames e f same = absurd same
-header-gives s h d k (Map dom g flags) version frames e f same = absurd same
-header-gives s h d k (Unmap handle) version frames e f same = absurd same
-header-gives s h d k (Load handle off len) version frames e f same = absurd same
-header-gives s h d k (Store handle off len) version frames e f same = absurd same
-header-gives s h d k (Peek frame off len) version frames e f same = absurd same
-header-gives s h d k (Poke frame off len) version frames e f same = absurd same
-header-gives s h d k (QuerySize dom) version frames e f same = absurd same
-header-gives s h d k (GetVersion dom) version frames e f same = absurd same
+-- a call that stores a header and gives nothing is a change of version
+header-plain : (s : Setting) (h : History) (d : DomId) (k : CallerKnowledge) (r : Asked) (version frames : ℕ) → granted_by r Nothing ≡ Granted → Heads k r (record { version = version; frames = frames })
+    → GivesValue s h d r (Some (StoreHeader version frames)) AnswerDone
+header-plain s h d k (SetVersion v) version frames e same = refl
+header-plain s h d k (SetupTable n) version frames e same = cc
+header-plain s h d k (Grant g entry) version frames e same = absurd same
+header-plain s h d k (Revoke g) version frames e same = absurd same
+header-plain s h d k (Demote g) version frames e same = absurd same
+header-plain s h d k (Promote g) version frames e same = absurd same
+header-plain s h d k (Map dom g flags) version frames e same = absurd same
+header-plain s h d k (Unmap handle) version frames e same = absurd same
+header-plain s h d k (Load handle off len) version frames e same = absurd same
+header-plain s h d k (Store handle off len) version frames e same = absurd same
+header-plain s h d k (Peek frame off len) version frames e same = absurd same
+header-plain s h d k (Poke frame off len) version frames e same = absurd same
+header-plain s h d k (QuerySize dom) version frames e same = absurd same
+header-plain s h d k (GetVersion dom) version frames e same = absurd same
 
-header-over : (s : Setting) (h : History) (xs : List State) (x : State) (o : Open) (c : Underway) (seen : Seen) (new : Call) (answer : Answer) (settled : List State) (version frames : ℕ)
-    → CoreStands s h xs → state_of xs x.id.0 ≡ Some x → Agrees s h x → open_call h x.id.0 ≡ Some c → OpenAgrees s h x.id o c → Stepping s h x.id o c seen new (Done Granted)
-    → o.step ≡ StoreHeader version frames → SettledIn xs x o seen (StoreHeader version frames) answer settled → HeaderGives s h x.id c.request version frames
-    → EndsRight s h xs x o c o.step seen answer settled
-header-over s h xs x o c seen new answer settled version frames st here a call oa w step done value =
+-- how a call ends whose last step stores a header
+header-ends : (k : CallerKnowledge) (d : DomId) (r : Asked) (phase : Phase) (version frames : ℕ) (seen : Seen) (verdict : Verdict) → action_at k d r phase ≡ Makes (StoreHeader version frames)
+    → seen ≡ Nothing → Done verdict ≡ action_at k d r (phase_after k d r phase seen) → granted_by r Nothing ≡ verdict
+header-ends k d r PhaseBegun version frames seen verdict act nothing e = cc
+header-ends k d r (LegPinning l p) version frames seen verdict act nothing e = absurd (leg-only l p (StoreHeader version frames) act)
+header-ends k d r Storing version frames seen verdict act nothing e = absurd (store-only r (StoreHeader version frames) act)
+header-ends k d r StoringSecond version frames seen verdict act nothing e = absurd (second-only r (StoreHeader version frames) act)
+header-ends k d r Single version frames seen verdict act nothing e =
+    sym (ap verdict_of (e ∙ ap (λ (v : Seen). action_at k d r (after_single d r v)) nothing))
+header-ends k d r (OwnLook more) version frames seen verdict act nothing e = cc
+header-ends k d r (OwnChange more word) version frames seen verdict act nothing e = cc
+header-ends k d r (Ended v) version frames seen verdict act nothing e = cc
+
+header-over : (s : Setting) (h : History) (xs : List State) (x : State) (o : Open) (c : Underway) (seen : Seen) (new : Call) (verdict : Verdict) (answer : Answer) (settled : List State) (version frames : ℕ)
+    → refusal_in (Some verdict) ≡ None → refusal_of answer ≡ None → one_if_mapped (Some answer) ≡ 0
+    → CoreStands s h xs → state_of xs x.id.0 ≡ Some x → Agrees s h x → open_call h x.id.0 ≡ Some c → OpenAgrees s h x.id o c → Stepping s h x.id o c seen new (Done verdict)
+    → o.step ≡ StoreHeader version frames → settled ≡ changed_in x.id.0 (with_underway None) xs → FitsTable (record { version = version; frames = frames })
+    → GivesValue s h x.id c.request (Some (StoreHeader version frames)) answer → EndsRight s h xs x o c o.step seen answer settled
+header-over s h xs x o c seen new verdict answer settled version frames ok plain unmapped st here a call oa w step done fits gives =
     let d = x.id in
-    let now = value_of c.request Nothing in
     let nothing : seen ≡ Nothing = w.sees ∙ ap (seen_by s h d) step in
-    let gives : answer ≡ now = done.0 ∙ ap (λ (q : Asked). value_of q seen) oa.request ∙ ap (value_of c.request) nothing in
-    let right : StepsRight s h (stepped d o.step seen (Some now)) o.step seen c =
-    granted-right s h xs d o c seen new now st call oa w
-    (subst (λ (z : Step). IsSafe s h (stepped d z seen (Some now))) (sym step) tt)
-    (subst (λ (z : Step). PinIsSound s h d c.request z seen) (sym step) tt) value.2
-    (subst (λ (z : Step). GivesValue s h d c.request (Some z) now) (sym step) value.1) in
-    subst (λ (z : Answer). EndsRight s h xs x o c o.step seen z settled) (sym gives) (
+    let right : StepsRight s h (stepped d o.step seen (Some answer)) o.step seen c =
+    ended-right s h xs d o c seen new verdict answer ok st call oa w
+    (subst (λ (z : Step). IsSafe s h (stepped d z seen (Some answer))) (sym step) tt)
+    (subst (λ (z : Step). PinIsSound s h d c.request z seen) (sym step) tt) plain
+    (subst (λ (z : Step). GivesValue s h d c.request (Some z) answer) (sym step) gives) in (
       right,
-      subst (λ (z : Step). CoreStands s (stepped d z seen (Some now) ∷ h) (applied d z seen settled)) (sym step)
-          (subst (λ (v : Seen). CoreStands s (stepped d (StoreHeader version frames) v (Some now) ∷ h) (applied d (StoreHeader version frames) v settled)) (sym nothing)
-          (subst (λ (z : List State). CoreStands s (stepped d (StoreHeader version frames) Nothing (Some now) ∷ h) (changed_in d.0 (with_header version frames) z)) (sym done.1)
-          (header-stands s h xs x version frames now st here a value.3 value.0))),
+      subst (λ (z : Step). CoreStands s (stepped d z seen (Some answer) ∷ h) (applied d z seen settled)) (sym step)
+          (subst (λ (v : Seen). CoreStands s (stepped d (StoreHeader version frames) v (Some answer) ∷ h) (applied d (StoreHeader version frames) v settled)) (sym nothing)
+          (subst (λ (z : List State). CoreStands s (stepped d (StoreHeader version frames) Nothing (Some answer) ∷ h) (changed_in d.0 (with_header version frames) z)) (sym done)
+          (header-stands s h xs x version frames answer st here a unmapped fits))),
     )
 
 unmaps-other : (o : Option Mapping) (off len : ℕ) (t : DomId) (gref : GrantRef) (dir : Dir) (holder : Holder) → read_of o off len ≡ Makes (Unpin t gref dir holder) → ⊥
@@ -1151,7 +1165,7 @@ writes s h d r (Ended v) t frame n m e = cc
 -- a call that nothing stood against is over: its last step is right, and the core stands for it
 pub tick-ends : (s : Setting) (h : History) (xs : List State) (x : State) (o : Open) (c : Underway) (seen : Seen) (new : Call) (answer : Answer) (settled : List State)
     → CoreStands s h xs → state_of xs x.id.0 ≡ Some x → Agrees s h x → open_call h x.id.0 ≡ Some c → OpenAgrees s h x.id o c → Stepping s h x.id o c seen new (Done Granted)
-    → SettledIn xs x o seen o.step answer settled → EndsRight s h xs x o c o.step seen answer settled
+    → SettledIn xs x o o.step answer settled → EndsRight s h xs x o c o.step seen answer settled
 tick-ends s h xs x o c seen new answer settled st here a call oa w done = by o.step refl done
   where
     k : CallerKnowledge
@@ -1163,27 +1177,31 @@ tick-ends s h xs x o c seen new answer settled st here a call oa w done = by o.s
     comes : Comes (expects k x.id c.request o.call.phase [])
     comes = subst Comes (sym oa.comes) tt
 
-    never : (step : Step) → o.step ≡ step → is_query c.request ≡ false → LooksOrStores step → EndsRight s h xs x o c o.step seen answer settled
-    never step e plain looks = absurd (never-ends s h x.id c.request (reverse c.steps) o.call.phase o.step oa.place comes w.act plain (subst LooksOrStores (sym e) looks) next)
+    never : (step : Step) → o.step ≡ step → LooksOrStores step → EndsRight s h xs x o c o.step seen answer settled
+    never step e looks = absurd (never-ends s h x.id c.request (reverse c.steps) o.call.phase o.step oa.place comes w.act (subst LooksOrStores (sym e) looks) next)
 
     act : (step : Step) → o.step ≡ step → action_at k x.id c.request o.call.phase ≡ Makes step
     act step e = w.act ∙ ap (λ (z : Step). Makes z) e
 
-    by : (step : Step) → o.step ≡ step → SettledIn xs x o seen step answer settled → EndsRight s h xs x o c o.step seen answer settled
-    by (LookHeader dom) e z =
-        decide (is_query c.request) (λ is. query-over s h xs x o c seen new answer settled dom st here a call oa w is e z) (λ plain. never (LookHeader dom) e plain tt)
-    by (LookControl dom gref) e z = decide (is_query c.request) (λ is. absurd (query-steps s h x.id c.request (reverse c.steps) o.call.phase (LookControl dom gref) is oa.place comes (act (LookControl dom gref) e))) (λ plain. never (LookControl dom gref) e plain tt)
-    by (LookBody dom gref second) e z = decide (is_query c.request) (λ is. absurd (query-steps s h x.id c.request (reverse c.steps) o.call.phase (LookBody dom gref second) is oa.place comes (act (LookBody dom gref second) e))) (λ plain. never (LookBody dom gref second) e plain tt)
-    by (StoreBody gref second word) e z = decide (is_query c.request) (λ is. absurd (query-steps s h x.id c.request (reverse c.steps) o.call.phase (StoreBody gref second word) is oa.place comes (act (StoreBody gref second word) e))) (λ plain. never (StoreBody gref second word) e plain tt)
+    by : (step : Step) → o.step ≡ step → SettledIn xs x o step answer settled → EndsRight s h xs x o c o.step seen answer settled
+    by (LookHeader dom) e z = never (LookHeader dom) e tt
+    by (LookControl dom gref) e z = never (LookControl dom gref) e tt
+    by (LookBody dom gref second) e z = never (LookBody dom gref second) e tt
+    by (StoreBody gref second word) e z = never (StoreBody gref second word) e tt
     by (StoreHeader version frames) e z =
-        header-over s h xs x o c seen new answer settled version frames st here a call oa w e z
-        (header-gives s h x.id k c.request version frames w.none (st.tables x.id) (heads k x.id c.request o.call.phase version frames (act (StoreHeader version frames) e)))
+        let made = act (StoreHeader version frames) e in
+        let stores = heads k x.id c.request o.call.phase version frames made in
+        let nothing : seen_by s h x.id o.step ≡ Nothing = ap (seen_by s h x.id) e in
+        let plain = header-ends k x.id c.request o.call.phase version frames (seen_by s h x.id o.step) Granted made nothing next in
+        subst (λ (y : Answer). EndsRight s h xs x o c o.step seen y settled) (sym z.0)
+        (header-over s h xs x o c seen new Granted AnswerDone settled version frames refl refl refl st here a call oa w e z.1
+        (header-fits k x.id c.request version frames w.none (st.tables x.id) stores) (header-plain s h x.id k c.request version frames plain stores))
     by (PinStep t gref looked dir) e z =
         let p = pins-by k x.id c.request o.call.phase t gref looked dir (act (PinStep t gref looked dir) e) in
-        pin-ends s h xs x o c seen new answer settled p.0 p.1 p.2 p.3 p.4 st here a call oa w p.5 (e ∙ p.6) (subst (λ (q : Step). SettledIn xs x o seen q answer settled) p.6 z)
+        pin-ends s h xs x o c seen new answer settled p.0 p.1 p.2 p.3 p.4 st here a call oa w p.5 (e ∙ p.6) (subst (λ (q : Step). SettledIn xs x o q answer settled) p.6 z)
     by (Exchange gref looked change) e z =
         exchange-over s h xs x o c seen new answer settled gref looked change st call oa w e z
-        (exchange-gives s h x.id k c.request o.call.phase gref looked change (Some o.step) seen (act (Exchange gref looked change) e) comes)
+        (exchange-gives s h x.id k c.request o.call.phase gref looked change (Some o.step) (act (Exchange gref looked change) e) comes)
     by (Unpin t gref dir holder) e z =
         let u = unmaps s h x.id c.request o.call.phase t gref dir holder (act (Unpin t gref dir holder) e) in
         unpin-over s h xs x o c seen new answer settled u.0 u.1 st here call oa w u.2 u.3 (e ∙ u.4) z
@@ -1192,20 +1210,155 @@ tick-ends s h xs x o c seen new answer settled st here a call oa w done = by o.s
     by (WriteBytes t frame n m) e z =
         write-over s h xs x o c seen new answer settled t frame n m st a call oa w (writes s h x.id c.request o.call.phase t frame n m (act (WriteBytes t frame n m) e)) e z
 
+-- the last step of a call that gives a value: a look at a header for a query, a stored header for a set up
+abbrev GivesBy : Asked → Step → GivenValue → Type 0
+GivesBy r step value =
+    ((t : DomId) × (step ≡ LookHeader t) × (is_query r ≡ true))
+    ⊎ ((version frames : ℕ) × (step ≡ StoreHeader version frames) × (r ≡ SetupTable frames) × (value ≡ FramesTold frames))
+
+given-single : (k : CallerKnowledge) (d : DomId) (r : Asked) (step : Step) (seen : Seen) (value : GivenValue) → single_at k d r ≡ Makes step → granted_by r seen ≡ Given value → GivesBy r step value
+given-single k d (QuerySize dom) step seen value act e = inl (resolved d dom, sym (makes-same _ _ act), refl)
+given-single k d (GetVersion dom) step seen value act e = inl (resolved d dom, sym (makes-same _ _ act), refl)
+given-single k d (SetupTable n) step seen value act e = inr (k.header.version, n, sym (makes-same _ _ act), refl, sym (given-same _ _ e))
+given-single k d (Grant g entry) step seen value act e = cc
+given-single k d (Revoke g) step seen value act e = cc
+given-single k d (Demote g) step seen value act e = cc
+given-single k d (Promote g) step seen value act e = cc
+given-single k d (Map dom g flags) step seen value act e = cc
+given-single k d (Unmap handle) step seen value act e = cc
+given-single k d (Load handle off len) step seen value act e = cc
+given-single k d (Store handle off len) step seen value act e = cc
+given-single k d (Peek frame off len) step seen value act e = cc
+given-single k d (Poke frame off len) step seen value act e = cc
+given-single k d (SetVersion version) step seen value act e = cc
+
+-- an action that gives no value
+abbrev IsBare : Action → Type 0
+IsBare (Done (Given value)) = ⊥
+IsBare action = Unit {0}
+
+bare-unpin : (handle : Handle) (m : Option Mapping) → IsBare (unpin_of handle m)
+bare-unpin handle None = tt
+bare-unpin handle (Some m) = tt
+
+bare-read : (m : Option Mapping) (off len : ℕ) → IsBare (read_of m off len)
+bare-read None off len = tt
+bare-read (Some m) off len = tt
+
+bare-write : (m : Option Mapping) (off len : ℕ) → IsBare (write_of m off len)
+bare-write None off len = tt
+bare-write (Some m) off len = tt
+
+bare-single : (k : CallerKnowledge) (d : DomId) (r : Asked) → IsBare (single_at k d r)
+bare-single k d (Grant g entry) = tt
+bare-single k d (Revoke g) = tt
+bare-single k d (Demote g) = tt
+bare-single k d (Promote g) = tt
+bare-single k d (Map dom g flags) = tt
+bare-single k d (Unmap handle) = bare-unpin handle (k.mapping handle)
+bare-single k d (Load handle off len) = bare-read (k.mapping handle) off len
+bare-single k d (Store handle off len) = bare-write (k.mapping handle) off len
+bare-single k d (Peek frame off len) = tt
+bare-single k d (Poke frame off len) = tt
+bare-single k d (SetVersion version) = tt
+bare-single k d (SetupTable frames) = tt
+bare-single k d (QuerySize dom) = tt
+bare-single k d (GetVersion dom) = tt
+
+bare-second : (r : Asked) → IsBare (second_at r)
+bare-second (Grant g entry) = tt
+bare-second (Revoke g) = tt
+bare-second (Demote g) = tt
+bare-second (Promote g) = tt
+bare-second (Map dom g flags) = tt
+bare-second (Unmap handle) = tt
+bare-second (Load handle off len) = tt
+bare-second (Store handle off len) = tt
+bare-second (Peek frame off len) = tt
+bare-second (Poke frame off len) = tt
+bare-second (SetVersion version) = tt
+bare-second (SetupTable frames) = tt
+bare-second (QuerySize dom) = tt
+bare-second (GetVersion dom) = tt
+
+bare-cond : (k : CallerKnowledge) (d : DomId) (r : Asked) (b : Bool) (x y : Phase) → IsBare (action_at k d r x) → IsBare (action_at k d r y) → IsBare (action_at k d r (cond b x y))
+bare-cond k d r true x y a b = a
+bare-cond k d r false x y a b = b
+
+bare-leg : (k : CallerKnowledge) (d : DomId) (r : Asked) (l : Leg) (next : LegNext) → IsBare (action_at k d r (after_leg l next))
+bare-leg k d r l (Going phase) = tt
+bare-leg k d r l (LegRefused denial) = tt
+bare-leg k d r l (Pinned word body second) = tt
+
+bare-look : (k : CallerKnowledge) (d : DomId) (r : Asked) (more : ℕ) (seen : Seen) → IsBare (action_at k d r (phase_after k d r (OwnLook more) seen))
+bare-look k d r more (Value w) =
+    bare-cond k d r (is_demote r && nat_lt 0 (control_of w).writes) (Ended (Refused (entry_refusal d (own_gref r) N19 w))) (OwnChange more w) tt tt
+bare-look k d r more Nothing = tt
+bare-look k d r more Taken = tt
+bare-look k d r more (Missed w) = tt
+
+bare-change : (k : CallerKnowledge) (d : DomId) (r : Asked) (more word : ℕ) (seen : Seen) → IsBare (action_at k d r (phase_after k d r (OwnChange more word) seen))
+bare-change k d r more word (Missed w) = bare-cond k d r (nat_lt 0 more) (OwnLook (more - 1)) (Ended (Refused (entry_refusal d (own_gref r) N18 w))) tt tt
+bare-change k d r more word Nothing = tt
+bare-change k d r more word Taken = tt
+bare-change k d r more word (Value w) = tt
+
+given-by : (k : CallerKnowledge) (d : DomId) (r : Asked) (phase : Phase) (step : Step) (seen : Seen) (value : GivenValue) → action_at k d r phase ≡ Makes step
+    → Done (Given value) ≡ action_at k d r (phase_after k d r phase seen) → GivesBy r step value × (granted_by r seen ≡ Given value)
+given-by k d r PhaseBegun step seen value act e = cc
+given-by k d r (LegPinning l p) step seen value act e = absurd (subst IsBare (sym e) (bare-leg k d r l (leg_after l p seen)))
+given-by k d r Storing step seen value act e = absurd (subst IsBare (sym e) (bare-cond k d r (is_sub r) StoringSecond Single (bare-second r) (bare-single k d r)))
+given-by k d r StoringSecond step seen value act e = absurd (subst IsBare (sym e) (bare-single k d r))
+given-by k d r Single step seen value act e = by seen e
+  where
+    over : (v : Seen) → Done (Given value) ≡ Done (granted_by r v) → GivesBy r step value × (granted_by r v ≡ Given value)
+    over v f = let g : granted_by r v ≡ Given value = sym (ap verdict_of f) in (given-single k d r step v value act g, g)
+
+    by : (v : Seen) → Done (Given value) ≡ action_at k d r (after_single d r v) → GivesBy r step value × (granted_by r v ≡ Given value)
+    by (Missed w) f = cc
+    by Nothing f = over Nothing f
+    by Taken f = over Taken f
+    by (Value w) f = over (Value w) f
+given-by k d r (OwnLook more) step seen value act e = absurd (subst IsBare (sym e) (bare-look k d r more seen))
+given-by k d r (OwnChange more word) step seen value act e = absurd (subst IsBare (sym e) (bare-change k d r more word seen))
+given-by k d r (Ended v) step seen value act e = cc
+
+-- a call that gives a value is over: its last step is right, and the core stands for it
+tick-gives : (s : Setting) (h : History) (xs : List State) (x : State) (o : Open) (c : Underway) (seen : Seen) (new : Call) (value : GivenValue) (settled : List State)
+    → CoreStands s h xs → state_of xs x.id.0 ≡ Some x → Agrees s h x → open_call h x.id.0 ≡ Some c → OpenAgrees s h x.id o c → Stepping s h x.id o c seen new (Done (Given value))
+    → settled ≡ changed_in x.id.0 (with_underway None) xs → EndsRight s h xs x o c o.step seen (answer_with value) settled
+tick-gives s h xs x o c seen new value settled st here a call oa w done = by given.0
+  where
+    k : CallerKnowledge
+    k = known_at s h x.id
+
+    given : GivesBy c.request o.step value × (granted_by c.request seen ≡ Given value)
+    given = given-by k x.id c.request o.call.phase o.step seen value w.act (w.is_next ∙ ap (action_at k x.id c.request) w.stands)
+
+    by : GivesBy c.request o.step value → EndsRight s h xs x o c o.step seen (answer_with value) settled
+    by (inl (t, step, is)) = query-over s h xs x o c seen new value settled t st here a call oa w is step given.1 done
+    by (inr (version, frames, step, asks, told)) =
+        let stores = heads k x.id c.request o.call.phase version frames (w.act ∙ ap (λ (z : Step). Makes z) step) in
+        subst (λ (v : GivenValue). EndsRight s h xs x o c o.step seen (answer_with v) settled) (sym told)
+        (header-over s h xs x o c seen new (Given (FramesTold frames)) (FramesAnswer frames) settled version frames refl refl refl st here a call oa
+        (subst (λ (v : GivenValue). Stepping s h x.id o c seen new (Done (Given v))) told w) step done
+        (header-fits k x.id c.request version frames w.none (st.tables x.id) stores)
+        (subst (λ (r : Asked). GivesValue s h x.id r (Some (StoreHeader version frames)) (FramesAnswer frames)) (sym asks) refl))
+
 -- the changed state by its place and by its number
-settled-in : (xs : List State) (at : ℕ) (x : State) (o : Open) (seen : Seen) (step : Step) (answer : Answer) (new : List State) → position (has_id x.id.0) xs ≡ Some at → x ≡ get_or xs at x
-    → Settled xs at x o seen step answer new → SettledIn xs x o seen step answer new
-settled-in xs at x o seen (LookHeader dom) answer new p here z = (z.0, z.1 ∙ set-state xs x.id.0 at (with_underway None) x _ p here refl)
-settled-in xs at x o seen (LookControl dom gref) answer new p here z = (z.0, z.1 ∙ set-state xs x.id.0 at (with_underway None) x _ p here refl)
-settled-in xs at x o seen (LookBody dom gref second) answer new p here z = (z.0, z.1 ∙ set-state xs x.id.0 at (with_underway None) x _ p here refl)
-settled-in xs at x o seen (StoreBody gref second word) answer new p here z = (z.0, z.1 ∙ set-state xs x.id.0 at (with_underway None) x _ p here refl)
-settled-in xs at x o seen (StoreHeader version frames) answer new p here z = (z.0, z.1 ∙ set-state xs x.id.0 at (with_underway None) x _ p here refl)
-settled-in xs at x o seen (Exchange gref looked change) answer new p here z = (z.0, z.1 ∙ set-state xs x.id.0 at (with_underway None) x _ p here refl)
-settled-in xs at x o seen (Unpin t gref dir holder) answer new p here z = (z.0, z.1 ∙ set-state xs x.id.0 at (with_underway None) x _ p here refl)
-settled-in xs at x o seen (ReadBytes t frame off len) answer new p here z = (z.0, z.1, z.2 ∙ set-state xs x.id.0 at (with_underway None) x _ p here refl, z.3)
-settled-in xs at x o seen (WriteBytes t frame off len) answer new p here z =
+settled-in : (xs : List State) (at : ℕ) (x : State) (o : Open) (step : Step) (answer : Answer) (new : List State) → position (has_id x.id.0) xs ≡ Some at → x ≡ get_or xs at x
+    → Settled xs at x o step answer new → SettledIn xs x o step answer new
+settled-in xs at x o (LookHeader dom) answer new p here z = (z.0, z.1 ∙ set-state xs x.id.0 at (with_underway None) x _ p here refl)
+settled-in xs at x o (LookControl dom gref) answer new p here z = (z.0, z.1 ∙ set-state xs x.id.0 at (with_underway None) x _ p here refl)
+settled-in xs at x o (LookBody dom gref second) answer new p here z = (z.0, z.1 ∙ set-state xs x.id.0 at (with_underway None) x _ p here refl)
+settled-in xs at x o (StoreBody gref second word) answer new p here z = (z.0, z.1 ∙ set-state xs x.id.0 at (with_underway None) x _ p here refl)
+settled-in xs at x o (StoreHeader version frames) answer new p here z = (z.0, z.1 ∙ set-state xs x.id.0 at (with_underway None) x _ p here refl)
+settled-in xs at x o (Exchange gref looked change) answer new p here z = (z.0, z.1 ∙ set-state xs x.id.0 at (with_underway None) x _ p here refl)
+settled-in xs at x o (Unpin t gref dir holder) answer new p here z = (z.0, z.1 ∙ set-state xs x.id.0 at (with_underway None) x _ p here refl)
+settled-in xs at x o (ReadBytes t frame off len) answer new p here z = (z.0, z.1, z.2 ∙ set-state xs x.id.0 at (with_underway None) x _ p here refl, z.3)
+settled-in xs at x o (WriteBytes t frame off len) answer new p here z =
     (z.0, z.1 ∙ ap (changed_in t.0 (with_bytes frame off x.given)) (set-state xs x.id.0 at without_given x _ p here refl))
-settled-in xs at x o seen (PinStep t gref looked dir) answer new p here z =
+settled-in xs at x o (PinStep t gref looked dir) answer new p here z =
     (z.0, z.1, z.2, z.3, z.4 ∙ set-state xs x.id.0 at (with_mapping z.1) x _ p here refl)
 
 -- a tick of the domain, by what the core made of it
@@ -1217,7 +1370,7 @@ TickRight s h dom step seen answer new =
 pub tick-granted : (s : Setting) (h : History) (xs : List State) (dom : DomId) (at : ℕ) (x : State) (o : Open) (seen : Seen) (new : Call) (answer : Answer) (settled : List State)
     → position (has_id dom.0) xs ≡ Some at → x ≡ get_or xs at x → x.underway ≡ Some o → CoreStands s h xs → seen ≡ sees xs dom o.step
     → Advances (knowledge_of s.domains s.first_generation s.may x.own x.header x.mappings) o.call.caller o.call.request o.call.phase seen new (Done Granted)
-    → Settled xs at x o seen o.step answer settled
+    → Settled xs at x o o.step answer settled
     → TickRight s h dom o.step seen (Some answer) (applied dom o.step seen settled)
 tick-granted s h xs dom at x o seen new answer settled p here is st saw adv done =
     let a = agrees-found s h xs dom at x p here st in
@@ -1227,7 +1380,7 @@ tick-granted s h xs dom at x o seen new answer settled p here is st saw adv done
     (λ q g sees.
     let c = call-here s h x.id x.underway (open_call h x.id.0) o is a.2.call in
     let w = stepping s h xs x o c.0 seen new (Done Granted) st g a.2 c.2 sees adv in
-    let e = tick-ends s h xs x o c.0 seen new answer settled st g a.2 c.1 c.2 w (settled-in xs at x o seen o.step answer settled q here done) in
+    let e = tick-ends s h xs x o c.0 seen new answer settled st g a.2 c.1 c.2 w (settled-in xs at x o o.step answer settled q here done) in
     (subst (λ (u : Option Underway). StepsRightIn s h (stepped x.id o.step seen (Some answer)) o.step seen u) (sym c.1) e.0, e.1))
     p f saw in
     (a.0, both.0, both.1)
@@ -1255,6 +1408,23 @@ tick-goes s h xs dom at x o seen new step p here is st saw adv =
     ))
     p f saw in
     (a.0, both.0, both.1))
+
+pub tick-given : (s : Setting) (h : History) (xs : List State) (dom : DomId) (at : ℕ) (x : State) (o : Open) (seen : Seen) (new : Call) (value : GivenValue)
+    → position (has_id dom.0) xs ≡ Some at → x ≡ get_or xs at x → x.underway ≡ Some o → CoreStands s h xs → seen ≡ sees xs dom o.step
+    → Advances (knowledge_of s.domains s.first_generation s.may x.own x.header x.mappings) o.call.caller o.call.request o.call.phase seen new (Done (Given value))
+    → TickRight s h dom o.step seen (Some (answer_with value)) (applied dom o.step seen (set xs at (with_underway None x)))
+tick-given s h xs dom at x o seen new value p here is st saw adv =
+    let a = agrees-found s h xs dom at x p here st in
+    let f = found xs dom.0 at x p ∙ ap (λ (y : State). Some y) (sym here) in
+    let both = subst (λ (d : DomId). position (has_id d.0) xs ≡ Some at → state_of xs d.0 ≡ Some x → seen ≡ sees xs d o.step
+    → StepsRightIn s h (stepped d o.step seen (Some (answer_with value))) o.step seen (open_call h d.0) × CoreStands s (stepped d o.step seen (Some (answer_with value)) ∷ h) (applied d o.step seen (set xs at (with_underway None x)))) a.1
+    (λ q g sees.
+    let c = call-here s h x.id x.underway (open_call h x.id.0) o is a.2.call in
+    let w = stepping s h xs x o c.0 seen new (Done (Given value)) st g a.2 c.2 sees adv in
+    let e = tick-gives s h xs x o c.0 seen new value (set xs at (with_underway None x)) st g a.2 c.1 c.2 w (set-state xs x.id.0 at (with_underway None) x _ q here refl) in
+    (subst (λ (u : Option Underway). StepsRightIn s h (stepped x.id o.step seen (Some (answer_with value))) o.step seen u) (sym c.1) e.0, e.1))
+    p f saw in
+    (a.0, both.0, both.1)
 
 pub tick-denied : (s : Setting) (h : History) (xs : List State) (dom : DomId) (at : ℕ) (x : State) (o : Open) (seen : Seen) (new : Call) (denial : Denial)
     → position (has_id dom.0) xs ≡ Some at → x ≡ get_or xs at x → x.underway ≡ Some o → CoreStands s h xs → seen ≡ sees xs dom o.step

@@ -435,11 +435,11 @@ raise-room s h xs d gref st within e =
 
 -- a missed exchange is not answered Ok
 
-single-taken : (k : CallerKnowledge) (d : DomId) (r : Asked) (gref : GrantRef) (b : Bool) (w : ℕ) (seen : Seen) → seen ≡ cond b Taken (Missed w)
-    → Done Granted ≡ action_at k d r (after_single d gref seen) → (seen ≡ Taken) × (b ≡ true)
-single-taken k d r gref true w seen saw next = (saw, refl)
-single-taken k d r gref false w seen saw next =
-    let f : Done Granted ≡ Done (Refused (entry_refusal d gref N19 w)) = next ∙ ap (λ (v : Seen). action_at k d r (after_single d gref v)) saw in cc
+single-taken : (k : CallerKnowledge) (d : DomId) (r : Asked) (b : Bool) (w : ℕ) (seen : Seen) → seen ≡ cond b Taken (Missed w)
+    → Done Granted ≡ action_at k d r (after_single d r seen) → (seen ≡ Taken) × (b ≡ true)
+single-taken k d r true w seen saw next = (saw, refl)
+single-taken k d r false w seen saw next =
+    let f : Done Granted ≡ Done (Refused (entry_refusal d (own_gref r) N19 w)) = next ∙ ap (λ (v : Seen). action_at k d r (after_single d r v)) saw in cc
 
 missed-again : (k : CallerKnowledge) (d : DomId) (r : Asked) (b : Bool) (more : ℕ) (denial : Denial) → Done Granted ≡ action_at k d r (cond b (OwnLook more) (Ended (Refused denial))) → ⊥
 missed-again k d r true more denial e = cc
@@ -455,14 +455,14 @@ change-taken k d r more word false w seen saw next =
 
 grant-ends : (s : Setting) (h : History) (xs : List State) (d : DomId) (gref : GrantRef) (entry : Entry) (seen : Seen) → CoreStands s h xs → begun (known_at s h d) d (Grant gref entry) ≡ None
     → HasStored h d (Grant gref entry) → FitsEntry entry → seen ≡ seen_by s h d (Exchange gref (idle_word (known_at s h d) gref) (Publish entry))
-    → Done Granted ≡ action_at (known_at s h d) d (Grant gref entry) (after_single d gref seen) → Exchanges s h d gref (Publish entry) seen
+    → Done Granted ≡ action_at (known_at s h d) d (Grant gref entry) (after_single d (Grant gref entry) seen) → Exchanges s h d gref (Publish entry) seen
 grant-ends s h xs d gref entry seen st e stored fits saw next =
     let k = known_at s h d in
     let w = word_at s h d.0 gref.0 in
     let within : gref.0 < 2048 = own-below s h xs d (Grant gref entry) st e refl in
     let old = grant-begins k d gref entry e in
     record {
-      taken = (single-taken k d (Grant gref entry) gref (w == idle_word k gref) w seen saw next).0;
+      taken = (single-taken k d (Grant gref entry) (w == idle_word k gref) w seen saw next).0;
       within = within;
       safe = (old.0, stored);
       fits = fits;
@@ -471,12 +471,12 @@ grant-ends s h xs d gref entry seen st e stored fits saw next =
 
 revoke-ends : (s : Setting) (h : History) (xs : List State) (d : DomId) (gref : GrantRef) (seen : Seen) → CoreStands s h xs → begun (known_at s h d) d (Revoke gref) ≡ None
     → seen ≡ seen_by s h d (Exchange gref (idle_word (known_at s h d) gref) ToInvalid)
-    → Done Granted ≡ action_at (known_at s h d) d (Revoke gref) (after_single d gref seen) → Exchanges s h d gref ToInvalid seen
+    → Done Granted ≡ action_at (known_at s h d) d (Revoke gref) (after_single d (Revoke gref) seen) → Exchanges s h d gref ToInvalid seen
 revoke-ends s h xs d gref seen st e saw next =
     let k = known_at s h d in
     let w = word_at s h d.0 gref.0 in
     let within : gref.0 < 2048 = own-below s h xs d (Revoke gref) st e refl in
-    let t = single-taken k d (Revoke gref) gref (w == idle_word k gref) w seen saw next in
+    let t = single-taken k d (Revoke gref) (w == idle_word k gref) w seen saw next in
     let none : reads_at h d.0 gref.0 + writes_at h d.0 gref.0 ≡ 0 = idle-no-pins s h d gref within (eqb-true w (idle_word k gref) t.1) in
     let below : generation_at s h d.0 gref.0 < 1048576 = generation-below s h xs d gref st within in
     let reads : reads_at h d.0 gref.0 ≡ 0 = omega arith in
@@ -580,7 +580,7 @@ write-ends s h d seen None off len step e saw = cc
 write-ends s h d seen (Some m) off len step e saw = subst (λ (z : Step). EndsBy s h d z seen) (makes-same _ _ e) tt
 
 single-ends : (s : Setting) (h : History) (xs : List State) (d : DomId) (r : Asked) (seen : Seen) (step : Step) → CoreStands s h xs → begun (known_at s h d) d r ≡ None
-    → HasStored h d r → FitsAsked r → single_at (known_at s h d) d r ≡ Makes step → Done Granted ≡ action_at (known_at s h d) d r (after_single d (own_gref r) seen) → Ends s h d seen step
+    → HasStored h d r → FitsAsked r → single_at (known_at s h d) d r ≡ Makes step → Done Granted ≡ action_at (known_at s h d) d r (after_single d r seen) → Ends s h d seen step
 single-ends s h xs d (Grant gref entry) seen step st e stored fits act next =
     subst (Ends s h d seen) (makes-same _ _ act) (λ saw. grant-ends s h xs d gref entry seen st e stored fits saw next)
 single-ends s h xs d (Revoke gref) seen step st e stored fits act next =

@@ -15,14 +15,16 @@ use Rattle.gt_types.specs.declared.denial.Facts.TheVariants.{None as NoFacts}
 use Rattle.gt_entry.specs.declared.entry.Entry.{Entry}
 use Rattle.gt_entry.specs.declared.header.Header.{Header}
 use Rattle.gt_calls.specs.declared.action.Verdict.{Verdict}
-use Rattle.gt_calls.specs.declared.action.Verdict.TheVariants.{Granted, Refused}
+use Rattle.gt_calls.specs.declared.action.Verdict.TheVariants.{Given, Refused}
+use Rattle.gt_calls.specs.declared.action.Value.{Value}
+use Rattle.gt_calls.specs.declared.action.Value.TheVariants.{Frames}
 use Rattle.gt_calls.specs.declared.action.Step.TheVariants.{StoreHeader}
 use Rattle.gt_calls.specs.declared.action.Seen.TheVariants.{Nothing}
 use Rattle.gt_core.specs.declared.slot.Slot.{Slot}
 use Rattle.gt_core.specs.declared.trace.Item.{Item}
 use Rattle.gt_core.specs.declared.trace.Happened.TheVariants.{Stepped}
 use Rattle.gt_core.specs.declared.trace.Answer.{Answer}
-use Rattle.gt_calls.specs.Rules.{first, refused_when, granted_when, is_version, version_begun, control_with}
+use Rattle.gt_calls.specs.Rules.{first, refused_when, given_when, is_version, version_begun, control_with}
 use Rattle.gt_core.specs.States.{State, state_of, changed_in}
 use Rattle.gt_core.specs.Effects.{with_header, with_underway}
 use Rattle.gt_core.specs.History.{History, Setting, Pin, entry_at, generation_at, body_at, or_else, header_or, table_at, control_at, reads_at, writes_at, is_pin_on, mappings_in, one_if_mapped, open_call, Underway}
@@ -164,9 +166,9 @@ refused-not : (b : Bool) (rule : Rule) (more : List (Option Verdict)) → first 
 refused-not true rule more e = let f : Some (Refused (denial_of rule NoFacts)) ≡ None = e in cc
 refused-not false rule more e = (refl, e)
 
-granted-not : (b : Bool) (more : List (Option Verdict)) → first (granted_when b ∷ more) ≡ None → first more ≡ None
-granted-not true more e = let f : Some Granted ≡ None = e in cc
-granted-not false more e = e
+given-not : (b : Bool) (value : Value) (more : List (Option Verdict)) → first (given_when b value ∷ more) ≡ None → first more ≡ None
+given-not true value more e = let f : Some (Given value) ≡ None = e in cc
+given-not false value more e = e
 
 denied-not : (o : Option Verdict) (more : List (Option Verdict)) → first (o ∷ more) ≡ None → first more ≡ None
 denied-not None more e = e
@@ -185,8 +187,8 @@ pub version-fits : (header : Header) (entry : ℕ → Entry) (version : ℕ) →
 version-fits header entry version e f = record { version = version-low version (refused-not (not (is_version version)) N2 _ e).0; frames = f.frames }
 
 -- a number of table frames that is stored is at most 4
-pub setup-fits : (header : Header) (frames : ℕ) (o : Option Verdict) → first (o ∷ granted_when (nat_le frames header.frames) ∷ refused_when (nat_lt 4 frames) N23 ∷ []) ≡ None → FitsTable header
+pub setup-fits : (header : Header) (frames : ℕ) (o : Option Verdict) → first (o ∷ given_when (nat_le frames header.frames) (Frames header.frames) ∷ refused_when (nat_lt 4 frames) N23 ∷ []) ≡ None → FitsTable header
     → FitsTable (record { version = header.version; frames = frames })
 setup-fits header frames o e f =
-    let few = (refused-not (nat_lt 4 frames) N23 [] (granted-not (nat_le frames header.frames) _ (denied-not o _ e))).0 in
+    let few = (refused-not (nat_lt 4 frames) N23 [] (given-not (nat_le frames header.frames) (Frames header.frames) _ (denied-not o _ e))).0 in
     record { version = f.version; frames = ltb-false 4 frames few }

@@ -20,7 +20,8 @@ use Rattle.gt_calls.specs.declared.action.Step.TheVariants.{LookHeader, LookCont
 use Rattle.gt_calls.specs.declared.action.Seen.{Seen}
 use Rattle.gt_core.specs.States.{State, first_state, IsLoading}
 use Rattle.gt_core.specs.Effects.{with_underway}
-use Rattle.gt_core.specs.Standing.{Settled, value_of, IsLoadOf}
+use Rattle.gt_core.specs.declared.trace.Answer.TheVariants.{Done as AnswerDone}
+use Rattle.gt_core.specs.Standing.{Settled, IsLoadOf}
 
 -- the room of a load is as long as what it asks
 pub loaded : (r : Asked) (m n : ℕ) → IsLoading (Some r) m → IsLoadOf r n → m ≡ n
@@ -40,21 +41,21 @@ loaded (QuerySize dom) m n a b = absurd b
 loaded (GetVersion dom) m n a b = absurd b
 
 -- a last step that is no pin and no access
-pub settled-plain : (xs new : List State) (at : ℕ) (d : State) (o : Open) (seen : Seen) (step : Step)
+pub settled-plain : (xs new : List State) (at : ℕ) (d : State) (o : Open) (step : Step)
     → ((dom : DomId) (gref : GrantRef) (looked : ℕ) (dir : Dir) → step ≡ PinStep dom gref looked dir → ⊥)
     → ((dom : DomId) (frame off len : ℕ) → step ≡ ReadBytes dom frame off len → ⊥)
     → ((dom : DomId) (frame off len : ℕ) → step ≡ WriteBytes dom frame off len → ⊥)
-    → new ≡ set xs at (with_underway None d) → Settled xs at d o seen step (value_of o.call.request seen) new
-settled-plain xs new at d o seen (LookHeader dom) p r w e = (refl, e)
-settled-plain xs new at d o seen (LookControl dom gref) p r w e = (refl, e)
-settled-plain xs new at d o seen (LookBody dom gref second) p r w e = (refl, e)
-settled-plain xs new at d o seen (PinStep dom gref looked dir) p r w e = absurd (p dom gref looked dir refl)
-settled-plain xs new at d o seen (Unpin dom gref dir holder) p r w e = (refl, e)
-settled-plain xs new at d o seen (StoreBody gref second word) p r w e = (refl, e)
-settled-plain xs new at d o seen (StoreHeader version frames) p r w e = (refl, e)
-settled-plain xs new at d o seen (Exchange gref looked change) p r w e = (refl, e)
-settled-plain xs new at d o seen (ReadBytes dom frame off len) p r w e = absurd (r dom frame off len refl)
-settled-plain xs new at d o seen (WriteBytes dom frame off len) p r w e = absurd (w dom frame off len refl)
+    → new ≡ set xs at (with_underway None d) → Settled xs at d o step AnswerDone new
+settled-plain xs new at d o (LookHeader dom) p r w e = (refl, e)
+settled-plain xs new at d o (LookControl dom gref) p r w e = (refl, e)
+settled-plain xs new at d o (LookBody dom gref second) p r w e = (refl, e)
+settled-plain xs new at d o (PinStep dom gref looked dir) p r w e = absurd (p dom gref looked dir refl)
+settled-plain xs new at d o (Unpin dom gref dir holder) p r w e = (refl, e)
+settled-plain xs new at d o (StoreBody gref second word) p r w e = (refl, e)
+settled-plain xs new at d o (StoreHeader version frames) p r w e = (refl, e)
+settled-plain xs new at d o (Exchange gref looked change) p r w e = (refl, e)
+settled-plain xs new at d o (ReadBytes dom frame off len) p r w e = absurd (r dom frame off len refl)
+settled-plain xs new at d o (WriteBytes dom frame off len) p r w e = absurd (w dom frame off len refl)
 
 -- a domain at rest, by its parts
 pub at-rest : (d : DomainConfig) (first_gen n m : ℕ) (own : List Own) (slots : List Slot) (mappings : Kept Mapping) (frames : List (List ℕ)) (given : List ℕ)

@@ -16,7 +16,9 @@ use Rattle.gt_calls.specs.declared.asked.Asked.{Asked}
 use Rattle.gt_calls.specs.declared.asked.Asked.TheVariants.{Grant, Revoke, Demote, Promote, Map, Unmap, Load, SetVersion, SetupTable, QuerySize, GetVersion, Store, Peek, Poke}
 use Rattle.gt_calls.specs.declared.known.Mapping.{Mapping}
 use Rattle.gt_calls.specs.declared.action.Verdict.{Verdict}
-use Rattle.gt_calls.specs.declared.action.Verdict.TheVariants.{Granted}
+use Rattle.gt_calls.specs.declared.action.Verdict.TheVariants.{Granted, Given}
+use Rattle.gt_calls.specs.declared.action.Value.TheVariants.{Frames}
+use Rattle.gt_calls.specs.Path.{size_told, version_told}
 use Rattle.gt_calls.specs.declared.action.Step.{Step}
 use Rattle.gt_calls.specs.declared.action.Step.TheVariants.{LookHeader, LookControl, LookBody, Pin, Exchange}
 use Rattle.gt_calls.specs.declared.action.Seen.{Seen}
@@ -165,9 +167,9 @@ short-steps k caller (Store handle off len) = short-more _ 1 71 (omega arith) (s
 short-steps k caller (Peek frame off len) = short-more _ (0 + 1) 71 (omega arith) (short-makes _ (ended Granted) 0 (short-ended Granted 0))
 short-steps k caller (Poke frame off len) = short-more _ (0 + 1) 71 (omega arith) (short-makes _ (ended Granted) 0 (short-ended Granted 0))
 short-steps k caller (SetVersion version) = short-more _ (0 + 1) 71 (omega arith) (short-makes _ (ended Granted) 0 (short-ended Granted 0))
-short-steps k caller (SetupTable frames) = short-more _ (0 + 1) 71 (omega arith) (short-makes _ (ended Granted) 0 (short-ended Granted 0))
-short-steps k caller (QuerySize dom) = short-more _ (0 + 1) 71 (omega arith) (short-looks _ (λ word. ended Granted) 0 (λ word. short-ended Granted 0))
-short-steps k caller (GetVersion dom) = short-more _ (0 + 1) 71 (omega arith) (short-looks _ (λ word. ended Granted) 0 (λ word. short-ended Granted 0))
+short-steps k caller (SetupTable frames) = short-more _ (0 + 1) 71 (omega arith) (short-makes _ (ended (Given (Frames frames))) 0 (short-ended (Given (Frames frames)) 0))
+short-steps k caller (QuerySize dom) = short-more _ (0 + 1) 71 (omega arith) (short-looks _ (λ word. ended (size_told word)) 0 (λ word. short-ended (size_told word) 0))
+short-steps k caller (GetVersion dom) = short-more _ (0 + 1) 71 (omega arith) (short-looks _ (λ word. ended (version_told word)) 0 (λ word. short-ended (version_told word) 0))
 
 -- a step of a call comes after fewer steps than its bound
 pub path-is-short : (k : CallerKnowledge) (caller : DomId) (r : Asked) (vs : List Seen) (step : Step) → path k caller r vs ≡ Some (Makes step) → length vs < most_steps r

@@ -54,7 +54,7 @@ use Rattle.gt_calls.specs.Path.{entry_refusal, path, steps_of, after_beginning, 
 use Rattle.gt_calls.specs.Machine.{expects, action_at, phase_after, after_leg, after_single, leg_after, leg_step, own_gref, is_sub, store_at, second_at, single_at, unpin_of, read_of, IsUnderway, Comes, IsExchanged, FitsStep, FitsAction, FitsPhase, write_of}
 use Rattle.gt_core.specs.Sight.{sees, changes_nothing}
 use Rattle.gt_core.specs.History.{History, Setting, word_at, table_at, known_at, writes_at, reads_at, entry_at, generation_at, seen_by, Underway, open_call, underway_after, values, one_if_mapped, live, Pin, mapping_on, mappings_in, mappings_at, frame_of, same_handle, mapping_of}
-use Rattle.gt_core.specs.Legal.{LeavesAll, Permits, Reaches, MayUse, Justified, IsSafe, PinIsSound, StepsSoFar, first_at, leg_of, misses, is_in_body, looked_at, stands_when, at_entry, refusal_in, verdict_in, or_then, stood, first_in_call, first_of_item, AnsweredBy, StepsRight, StepsRightIn}
+use Rattle.gt_core.specs.Legal.{LeavesAll, Permits, Reaches, MayUse, MayAsk, Justified, IsSafe, PinIsSound, StepsSoFar, first_at, leg_of, misses, is_in_body, looked_at, stands_when, at_entry, refusal_in, verdict_in, or_then, stood, first_in_call, first_of_item, AnsweredBy, StepsRight, StepsRightIn}
 use Rattle.gt_core.specs.Standing.{LegStands, PhaseStands, OpenAgrees, CallAgrees, Agrees, StateAgrees, CoreStands, Advances, state_of, FitsGiven, GivenAgrees}
 use Rattle.gt_core.proofs.Places.{has_id, found, state_of-set}
 use Rattle.std.proofs.lemmas.List.{length-append, length-map}
@@ -64,10 +64,10 @@ use Rattle.gt_core.proofs.Fitting.{word-shows, table-fits}
 use Rattle.gt_core.proofs.Quiet.{IsQuiet, WritesNone, quiet-known}
 use Rattle.gt_core.proofs.Beginning.{known-same, frames-stay, given-none, quiet-agrees, quiet-stands, map-domain, place-keeps, open_call-own, stood-own, agrees-found}
 use Rattle.gt_core.proofs.Seeing.{IsWithin, sees-agree}
-use Rattle.gt_core.proofs.Accessing.{Accesses, load-accesses, store-accesses, own-accesses}
+use Rattle.gt_core.proofs.Accessing.{Accesses, load-accesses, store-accesses, own-accesses, mapping-may}
 use Rattle.gt_core.proofs.FirstRules.{first-of-leg, refusal_next, misses-look}
 use Rattle.gt_core.proofs.Placing.{NextStands, leg-place}
-use Rattle.gt_core.proofs.Owners.{phase_refusal, first-own-look, first-own-change, idle-pins, misses-exchange}
+use Rattle.gt_core.proofs.Owners.{granted-none, phase_refusal, first-own-look, first-own-change, idle-pins, misses-exchange}
 
 -- what a call's beginning has settled
 
@@ -179,34 +179,34 @@ store-refusal : (b : Bool) → phase_refusal (cond b StoringSecond Single) ≡ N
 store-refusal true = refl
 store-refusal false = refl
 
-grant-refusal : (d : DomId) (gref : GrantRef) (w idle : ℕ) (b : Bool) → b ≡ true → phase_refusal (after_single d gref (cond b Taken (Missed w))) ≡ None
-grant-refusal d gref w idle true e = refl
-grant-refusal d gref w idle false e = absurd (false≢true e)
+grant-refusal : (d : DomId) (gref : GrantRef) (entry : Entry) (w idle : ℕ) (b : Bool) → b ≡ true → phase_refusal (after_single d (Grant gref entry) (cond b Taken (Missed w))) ≡ None
+grant-refusal d gref entry w idle true e = refl
+grant-refusal d gref entry w idle false e = absurd (false≢true e)
 
 revoke-refusal : (d : DomId) (gref : GrantRef) (w pins : ℕ) (b : Bool) → (b ≡ true → pins ≡ 0) → (b ≡ false → pins ≡ 0 → ⊥)
-    → phase_refusal (after_single d gref (cond b Taken (Missed w))) ≡ at_entry d gref w (stands_when (nat_lt 0 pins) N19)
+    → phase_refusal (after_single d (Revoke gref) (cond b Taken (Missed w))) ≡ at_entry d gref w (stands_when (nat_lt 0 pins) N19)
 revoke-refusal d gref w pins true free held = ap (λ (n : ℕ). at_entry d gref w (stands_when (nat_lt 0 n) N19)) (sym (free refl))
 revoke-refusal d gref w zero false free held = absurd (held refl refl)
 revoke-refusal d gref w (suc pins) false free held =
     ap (λ (b : Bool). at_entry d gref w (stands_when b N19)) (sym (lt-ltb 0 (suc pins) (omega arith)))
 
-unpin-refusal : (s : Setting) (h : History) (d : DomId) (r : Asked) (so_far : StepsSoFar) (gref : GrantRef) (handle : Handle) (m : Option Mapping) (step : Step) → unpin_of handle m ≡ Makes step
-    → phase_refusal (after_single d gref (seen_by s h d step)) ≡ first_at s h d r so_far step
-unpin-refusal s h d r so_far gref handle None step e = cc
-unpin-refusal s h d r so_far gref handle (Some m) step e =
-    subst (λ (z : Step). phase_refusal (after_single d gref (seen_by s h d z)) ≡ first_at s h d r so_far z) (makes-same _ _ e) refl
+unpin-refusal : (s : Setting) (h : History) (d : DomId) (r : Asked) (so_far : StepsSoFar) (handle : Handle) (m : Option Mapping) (step : Step) → unpin_of handle m ≡ Makes step
+    → phase_refusal (after_single d r (seen_by s h d step)) ≡ first_at s h d r so_far step
+unpin-refusal s h d r so_far handle None step e = cc
+unpin-refusal s h d r so_far handle (Some m) step e =
+    subst (λ (z : Step). phase_refusal (after_single d r (seen_by s h d z)) ≡ first_at s h d r so_far z) (makes-same _ _ e) (granted-none r Nothing)
 
-read-refusal : (s : Setting) (h : History) (d : DomId) (r : Asked) (so_far : StepsSoFar) (gref : GrantRef) (m : Option Mapping) (off len : ℕ) (step : Step) → read_of m off len ≡ Makes step
-    → phase_refusal (after_single d gref (seen_by s h d step)) ≡ first_at s h d r so_far step
-read-refusal s h d r so_far gref None off len step e = cc
-read-refusal s h d r so_far gref (Some m) off len step e =
-    subst (λ (z : Step). phase_refusal (after_single d gref (seen_by s h d z)) ≡ first_at s h d r so_far z) (makes-same _ _ e) refl
+read-refusal : (s : Setting) (h : History) (d : DomId) (r : Asked) (so_far : StepsSoFar) (m : Option Mapping) (off len : ℕ) (step : Step) → read_of m off len ≡ Makes step
+    → phase_refusal (after_single d r (seen_by s h d step)) ≡ first_at s h d r so_far step
+read-refusal s h d r so_far None off len step e = cc
+read-refusal s h d r so_far (Some m) off len step e =
+    subst (λ (z : Step). phase_refusal (after_single d r (seen_by s h d z)) ≡ first_at s h d r so_far z) (makes-same _ _ e) (granted-none r Nothing)
 
-write-refusal : (s : Setting) (h : History) (d : DomId) (r : Asked) (so_far : StepsSoFar) (gref : GrantRef) (m : Option Mapping) (off len : ℕ) (step : Step) → write_of m off len ≡ Makes step
-    → phase_refusal (after_single d gref (seen_by s h d step)) ≡ first_at s h d r so_far step
-write-refusal s h d r so_far gref None off len step e = cc
-write-refusal s h d r so_far gref (Some m) off len step e =
-    subst (λ (z : Step). phase_refusal (after_single d gref (seen_by s h d z)) ≡ first_at s h d r so_far z) (makes-same _ _ e) refl
+write-refusal : (s : Setting) (h : History) (d : DomId) (r : Asked) (so_far : StepsSoFar) (m : Option Mapping) (off len : ℕ) (step : Step) → write_of m off len ≡ Makes step
+    → phase_refusal (after_single d r (seen_by s h d step)) ≡ first_at s h d r so_far step
+write-refusal s h d r so_far None off len step e = cc
+write-refusal s h d r so_far (Some m) off len step e =
+    subst (λ (z : Step). phase_refusal (after_single d r (seen_by s h d z)) ≡ first_at s h d r so_far z) (makes-same _ _ e) (granted-none r Nothing)
 
 change-refusal : (k : CallerKnowledge) (d : DomId) (r : Asked) (more word w : ℕ) (b : Bool)
     → phase_refusal (phase_after k d r (OwnChange more word) (cond b Taken (Missed w)))
@@ -224,7 +224,7 @@ single-judged s h xs d (Grant gref entry) so_far step st e comes act =
     let free = st.free d.0 gref.0 (grant-invalid k d gref entry e) in
     let same = idle-here s h d gref (own-below s h xs d (Grant gref entry) st e refl) (let a : reads_at h d.0 gref.0 ≡ 0 = free.0 in let b : writes_at h d.0 gref.0 ≡ 0 = free.1 in omega arith) in
     subst (λ (z : Step). Judged s h d (Grant gref entry) so_far Single z) (makes-same _ _ act)
-    (grant-refusal d gref (word_at s h d.0 gref.0) (idle_word k gref) (word_at s h d.0 gref.0 == idle_word k gref) (eq-eqb (word_at s h d.0 gref.0) (idle_word k gref) same))
+    (grant-refusal d gref entry (word_at s h d.0 gref.0) (idle_word k gref) (word_at s h d.0 gref.0 == idle_word k gref) (eq-eqb (word_at s h d.0 gref.0) (idle_word k gref) same))
 single-judged s h xs d (Revoke gref) so_far step st e comes act =
     let k = known_at s h d in
     let w = word_at s h d.0 gref.0 in
@@ -233,9 +233,9 @@ single-judged s h xs d (Revoke gref) so_far step st e comes act =
     (revoke-refusal d gref w (reads_at h d.0 gref.0 + writes_at h d.0 gref.0) (w == idle_word k gref)
     (λ b. idle-no-pins s h d gref within (eqb-true w (idle_word k gref) b))
     (λ b none. false≢true (sym b ∙ eq-eqb w (idle_word k gref) (idle-here s h d gref within none))))
-single-judged s h xs d (Unmap handle) so_far step st e comes act = unpin-refusal s h d (Unmap handle) so_far (own_gref (Unmap handle)) handle _ step act
-single-judged s h xs d (Load handle off len) so_far step st e comes act = read-refusal s h d (Load handle off len) so_far (own_gref (Load handle off len)) _ off len step act
-single-judged s h xs d (Store handle off len) so_far step st e comes act = write-refusal s h d (Store handle off len) so_far (own_gref (Store handle off len)) _ off len step act
+single-judged s h xs d (Unmap handle) so_far step st e comes act = unpin-refusal s h d (Unmap handle) so_far handle _ step act
+single-judged s h xs d (Load handle off len) so_far step st e comes act = read-refusal s h d (Load handle off len) so_far _ off len step act
+single-judged s h xs d (Store handle off len) so_far step st e comes act = write-refusal s h d (Store handle off len) so_far _ off len step act
 single-judged s h xs d (Peek frame off len) so_far step st e comes act = subst (λ (z : Step). Judged s h d (Peek frame off len) so_far Single z) (makes-same _ _ act) refl
 single-judged s h xs d (Poke frame off len) so_far step st e comes act = subst (λ (z : Step). Judged s h d (Poke frame off len) so_far Single z) (makes-same _ _ act) refl
 single-judged s h xs d (SetVersion version) so_far step st e comes act = subst (λ (z : Step). Judged s h d (SetVersion version) so_far Single z) (makes-same _ _ act) refl
@@ -348,11 +348,11 @@ leg-follows s h d r now l (Going phase) is some a = (is, some, a)
 leg-follows s h d r now l (LegRefused denial) is some a = tt
 leg-follows s h d r now l (Pinned word body second) is some a = tt
 
-single-follows : (s : Setting) (h : History) (d : DomId) (r : Asked) (now : StepsSoFar) (gref : GrantRef) (seen : Seen) → FollowsPlace s h d r now (after_single d gref seen)
-single-follows s h d r now gref Nothing = tt
-single-follows s h d r now gref (Value w) = tt
-single-follows s h d r now gref Taken = tt
-single-follows s h d r now gref (Missed w) = tt
+single-follows : (s : Setting) (h : History) (d : DomId) (r : Asked) (now : StepsSoFar) (seen : Seen) → FollowsPlace s h d r now (after_single d r seen)
+single-follows s h d r now Nothing = tt
+single-follows s h d r now (Value w) = tt
+single-follows s h d r now Taken = tt
+single-follows s h d r now (Missed w) = tt
 
 misses-own-look : (d : DomId) (gref : GrantRef) (w : ℕ) (so_far : StepsSoFar) → looked_at ((LookControl d gref, Value w) ∷ so_far) ≡ Some w
 unfolding looked_at
@@ -401,7 +401,7 @@ placed s h xs d (Grant gref entry) so_far Storing step st a comes act quiet =
     absurd (false≢true (subst (λ (z : Step). changes_nothing z (seen_by s h d z) ≡ true) (sym (makes-same _ _ act)) quiet))
 placed s h xs d (Grant gref entry) so_far StoringSecond step st a comes act quiet =
     absurd (false≢true (subst (λ (z : Step). changes_nothing z (seen_by s h d z) ≡ true) (sym (makes-same _ _ act)) quiet))
-placed s h xs d r so_far Single step st a comes act quiet = single-follows s h d r _ (own_gref r) (seen_by s h d step)
+placed s h xs d r so_far Single step st a comes act quiet = single-follows s h d r _ (seen_by s h d step)
 placed s h xs d r so_far (OwnLook more) step st a comes act quiet =
     subst (λ (z : Step). Placed s h d r so_far (OwnLook more) z) (makes-same _ _ act)
     (look-follows s h d r (own_gref r) more (word_at s h d.0 (own_gref r).0) so_far _ (entry_refusal d (own_gref r) N19 (word_at s h d.0 (own_gref r).0)) a.0 a.1 refl)
@@ -786,42 +786,46 @@ goes-on-agrees s h d o c seen new step q call oa p f leaves =
 
 -- what a call reads or writes is justified
 
-pub justified-read : (s : Setting) (h : History) (d t : DomId) (frame off len : ℕ) → Accesses s h d Read t frame off len → Justified s h d (ReadBytes t frame off len)
-justified-read s h d t frame off len a = (a.inside, a.by_right)
+pub justified-read : (s : Setting) (h : History) (d t : DomId) (r : Asked) (frame off len : ℕ) → MayAsk s h d r → Accesses s h d Read t frame off len
+    → Justified s h d r (ReadBytes t frame off len)
+justified-read s h d t r frame off len may a = (a.inside, a.by_right, may)
 
-pub justified-write : (s : Setting) (h : History) (d t : DomId) (frame off len : ℕ) → Accesses s h d Write t frame off len → Justified s h d (WriteBytes t frame off len)
-justified-write s h d t frame off len a = (a.inside, a.by_right)
+pub justified-write : (s : Setting) (h : History) (d t : DomId) (r : Asked) (frame off len : ℕ) → MayAsk s h d r → Accesses s h d Write t frame off len
+    → Justified s h d r (WriteBytes t frame off len)
+justified-write s h d t r frame off len may a = (a.inside, a.by_right, may)
 
 load-justified : (s : Setting) (h : History) (xs : List State) (d : DomId) (handle : Handle) (o : Option Mapping) (off len : ℕ) (step : Step) → CoreStands s h xs
-    → load_begun (mapping_of (mappings_at h d.0)) handle off len ≡ None → mapping_of (mappings_at h d.0) handle ≡ o → read_of o off len ≡ Makes step → Justified s h d step
+    → load_begun (mapping_of (mappings_at h d.0)) handle off len ≡ None → mapping_of (mappings_at h d.0) handle ≡ o → read_of o off len ≡ Makes step → Justified s h d (Load handle off len) step
 load-justified s h xs d handle None off len step st none e act = cc
 load-justified s h xs d handle (Some m) off len step st none e act =
-    subst (λ (z : Step). Justified s h d z) (makes-same _ _ act) (justified-read s h d m.dom m.frame off len (load-accesses s h xs d handle off len m st none e))
+    subst (λ (z : Step). Justified s h d (Load handle off len) z) (makes-same _ _ act)
+    (justified-read s h d m.dom (Load handle off len) m.frame off len (mapping-may s h xs d handle m st e) (load-accesses s h xs d handle off len m st none e))
 
 store-justified : (s : Setting) (h : History) (xs : List State) (d : DomId) (handle : Handle) (o : Option Mapping) (off len : ℕ) (step : Step) → CoreStands s h xs
-    → store_begun (mapping_of (mappings_at h d.0)) handle off len ≡ None → mapping_of (mappings_at h d.0) handle ≡ o → write_of o off len ≡ Makes step → Justified s h d step
+    → store_begun (mapping_of (mappings_at h d.0)) handle off len ≡ None → mapping_of (mappings_at h d.0) handle ≡ o → write_of o off len ≡ Makes step → Justified s h d (Store handle off len) step
 store-justified s h xs d handle None off len step st none e act = cc
 store-justified s h xs d handle (Some m) off len step st none e act =
-    subst (λ (z : Step). Justified s h d z) (makes-same _ _ act) (justified-write s h d m.dom m.frame off len (store-accesses s h xs d handle off len m st none e))
+    subst (λ (z : Step). Justified s h d (Store handle off len) z) (makes-same _ _ act)
+    (justified-write s h d m.dom (Store handle off len) m.frame off len (mapping-may s h xs d handle m st e) (store-accesses s h xs d handle off len m st none e))
 
-unpin-justified : (s : Setting) (h : History) (d : DomId) (handle : Handle) (m : Option Mapping) (step : Step) → unpin_of handle m ≡ Makes step → Justified s h d step
+unpin-justified : (s : Setting) (h : History) (d : DomId) (handle : Handle) (m : Option Mapping) (step : Step) → unpin_of handle m ≡ Makes step → Justified s h d (Unmap handle) step
 unpin-justified s h d handle None step e = cc
-unpin-justified s h d handle (Some m) step e = subst (λ (z : Step). Justified s h d z) (makes-same _ _ e) tt
+unpin-justified s h d handle (Some m) step e = subst (λ (z : Step). Justified s h d (Unmap handle) z) (makes-same _ _ e) tt
 
-leg-justified : (s : Setting) (h : History) (d : DomId) (l : Leg) (p : LegPhase) → Justified s h d (leg_step l p)
-leg-justified s h d l AtHeader = tt
-leg-justified s h d l (Look more) = tt
-leg-justified s h d l (Body more word) = tt
-leg-justified s h d l (Second more word body) = tt
-leg-justified s h d l (Pinning more word body second) = tt
-leg-justified s h d l (Relook more word rule) = tt
+leg-justified : (s : Setting) (h : History) (d : DomId) (r : Asked) (l : Leg) (p : LegPhase) → Justified s h d r (leg_step l p)
+leg-justified s h d r l AtHeader = tt
+leg-justified s h d r l (Look more) = tt
+leg-justified s h d r l (Body more word) = tt
+leg-justified s h d r l (Second more word body) = tt
+leg-justified s h d r l (Pinning more word body second) = tt
+leg-justified s h d r l (Relook more word rule) = tt
 
 -- each access of an open call is justified
 pub step-justified : (s : Setting) (h : History) (xs : List State) (d : DomId) (r : Asked) (phase : Phase) (step : Step) → CoreStands s h xs
-    → begun (known_at s h d) d r ≡ None → action_at (known_at s h d) d r phase ≡ Makes step → Justified s h d step
+    → begun (known_at s h d) d r ≡ None → action_at (known_at s h d) d r phase ≡ Makes step → Justified s h d r step
 step-justified s h xs d r PhaseBegun step st none act = cc
-step-justified s h xs d r (LegPinning l p) step st none act = subst (λ (z : Step). Justified s h d z) (makes-same _ _ act) (leg-justified s h d l p)
-step-justified s h xs d (Grant gref entry) Storing step st none act = subst (λ (z : Step). Justified s h d z) (makes-same _ _ act) tt
+step-justified s h xs d r (LegPinning l p) step st none act = subst (λ (z : Step). Justified s h d r z) (makes-same _ _ act) (leg-justified s h d r l p)
+step-justified s h xs d (Grant gref entry) Storing step st none act = subst (λ (z : Step). Justified s h d (Grant gref entry) z) (makes-same _ _ act) tt
 step-justified s h xs d (Revoke gref) Storing step st none act = cc
 step-justified s h xs d (Demote gref) Storing step st none act = cc
 step-justified s h xs d (Promote gref) Storing step st none act = cc
@@ -835,7 +839,7 @@ step-justified s h xs d (SetVersion version) Storing step st none act = cc
 step-justified s h xs d (SetupTable frames) Storing step st none act = cc
 step-justified s h xs d (QuerySize dom) Storing step st none act = cc
 step-justified s h xs d (GetVersion dom) Storing step st none act = cc
-step-justified s h xs d (Grant gref entry) StoringSecond step st none act = subst (λ (z : Step). Justified s h d z) (makes-same _ _ act) tt
+step-justified s h xs d (Grant gref entry) StoringSecond step st none act = subst (λ (z : Step). Justified s h d (Grant gref entry) z) (makes-same _ _ act) tt
 step-justified s h xs d (Revoke gref) StoringSecond step st none act = cc
 step-justified s h xs d (Demote gref) StoringSecond step st none act = cc
 step-justified s h xs d (Promote gref) StoringSecond step st none act = cc
@@ -849,22 +853,22 @@ step-justified s h xs d (SetVersion version) StoringSecond step st none act = cc
 step-justified s h xs d (SetupTable frames) StoringSecond step st none act = cc
 step-justified s h xs d (QuerySize dom) StoringSecond step st none act = cc
 step-justified s h xs d (GetVersion dom) StoringSecond step st none act = cc
-step-justified s h xs d (Grant gref entry) Single step st none act = subst (λ (z : Step). Justified s h d z) (makes-same _ _ act) tt
-step-justified s h xs d (Revoke gref) Single step st none act = subst (λ (z : Step). Justified s h d z) (makes-same _ _ act) tt
+step-justified s h xs d (Grant gref entry) Single step st none act = subst (λ (z : Step). Justified s h d (Grant gref entry) z) (makes-same _ _ act) tt
+step-justified s h xs d (Revoke gref) Single step st none act = subst (λ (z : Step). Justified s h d (Revoke gref) z) (makes-same _ _ act) tt
 step-justified s h xs d (Demote gref) Single step st none act = cc
 step-justified s h xs d (Promote gref) Single step st none act = cc
 step-justified s h xs d (Map dom gref flags) Single step st none act = cc
 step-justified s h xs d (Unmap handle) Single step st none act = unpin-justified s h d handle _ step act
 step-justified s h xs d (Load handle off len) Single step st none act = load-justified s h xs d handle _ off len step st none refl act
 step-justified s h xs d (Store handle off len) Single step st none act = store-justified s h xs d handle _ off len step st none refl act
-step-justified s h xs d (Peek frame off len) Single step st none act = subst (λ (z : Step). Justified s h d z) (makes-same _ _ act) (justified-read s h d d frame off len (own-accesses s h d Read frame off len none))
-step-justified s h xs d (Poke frame off len) Single step st none act = subst (λ (z : Step). Justified s h d z) (makes-same _ _ act) (justified-write s h d d frame off len (own-accesses s h d Write frame off len none))
-step-justified s h xs d (SetVersion version) Single step st none act = subst (λ (z : Step). Justified s h d z) (makes-same _ _ act) tt
-step-justified s h xs d (SetupTable frames) Single step st none act = subst (λ (z : Step). Justified s h d z) (makes-same _ _ act) tt
-step-justified s h xs d (QuerySize dom) Single step st none act = subst (λ (z : Step). Justified s h d z) (makes-same _ _ act) tt
-step-justified s h xs d (GetVersion dom) Single step st none act = subst (λ (z : Step). Justified s h d z) (makes-same _ _ act) tt
-step-justified s h xs d r (OwnLook more) step st none act = subst (λ (z : Step). Justified s h d z) (makes-same _ _ act) tt
-step-justified s h xs d r (OwnChange more word) step st none act = subst (λ (z : Step). Justified s h d z) (makes-same _ _ act) tt
+step-justified s h xs d (Peek frame off len) Single step st none act = subst (λ (z : Step). Justified s h d (Peek frame off len) z) (makes-same _ _ act) (justified-read s h d d (Peek frame off len) frame off len tt (own-accesses s h d Read frame off len none))
+step-justified s h xs d (Poke frame off len) Single step st none act = subst (λ (z : Step). Justified s h d (Poke frame off len) z) (makes-same _ _ act) (justified-write s h d d (Poke frame off len) frame off len tt (own-accesses s h d Write frame off len none))
+step-justified s h xs d (SetVersion version) Single step st none act = subst (λ (z : Step). Justified s h d (SetVersion version) z) (makes-same _ _ act) tt
+step-justified s h xs d (SetupTable frames) Single step st none act = subst (λ (z : Step). Justified s h d (SetupTable frames) z) (makes-same _ _ act) tt
+step-justified s h xs d (QuerySize dom) Single step st none act = subst (λ (z : Step). Justified s h d (QuerySize dom) z) (makes-same _ _ act) tt
+step-justified s h xs d (GetVersion dom) Single step st none act = subst (λ (z : Step). Justified s h d (GetVersion dom) z) (makes-same _ _ act) tt
+step-justified s h xs d r (OwnLook more) step st none act = subst (λ (z : Step). Justified s h d r z) (makes-same _ _ act) tt
+step-justified s h xs d r (OwnChange more word) step st none act = subst (λ (z : Step). Justified s h d r z) (makes-same _ _ act) tt
 step-justified s h xs d r (Ended v) step st none act = cc
 
 quiet-safe : (s : Setting) (h : History) (d : DomId) (step : Step) (seen : Seen) (answer : Option Answer) → changes_nothing step seen ≡ true → IsSafe s h (stepped d step seen answer)
@@ -1127,11 +1131,11 @@ seen-missed s h d (Unpin dom gref dir holder) w e = let f : Nothing ≡ Missed w
 seen-missed s h d (StoreBody gref second word) w e = let f : Nothing ≡ Missed w = e in cc
 seen-missed s h d (StoreHeader version frames) w e = let f : Nothing ≡ Missed w = e in cc
 
-single-missed : (d : DomId) (gref : GrantRef) (seen : Seen) (denial : Denial) → phase_refusal (after_single d gref seen) ≡ Some denial → (w : ℕ) × (seen ≡ Missed w)
-single-missed d gref Nothing denial e = absurd (none-some denial e)
-single-missed d gref (Value w) denial e = absurd (none-some denial e)
-single-missed d gref Taken denial e = absurd (none-some denial e)
-single-missed d gref (Missed w) denial e = (w, refl)
+single-missed : (d : DomId) (r : Asked) (seen : Seen) (denial : Denial) → phase_refusal (after_single d r seen) ≡ Some denial → (w : ℕ) × (seen ≡ Missed w)
+single-missed d r Nothing denial e = absurd (none-some denial (sym (granted-none r Nothing) ∙ e))
+single-missed d r (Value w) denial e = absurd (none-some denial (sym (granted-none r (Value w)) ∙ e))
+single-missed d r Taken denial e = absurd (none-some denial (sym (granted-none r Taken) ∙ e))
+single-missed d r (Missed w) denial e = (w, refl)
 
 pin-missed : (l : Leg) (more word body second w : ℕ) (b : Bool) (denial : Denial) → phase_refusal (after_leg l (leg_after l (Pinning more word body second) (cond b Taken (Missed w)))) ≡ Some denial
     → changes_nothing (PinStep l.dom l.gref word l.dir) (cond b Taken (Missed w)) ≡ true
@@ -1162,7 +1166,7 @@ refused-quietly s h d r (LegPinning l p) denial step act e =
 refused-quietly s h d r Storing denial step act e = absurd (none-some denial (sym (store-refusal (is_sub r)) ∙ e))
 refused-quietly s h d r StoringSecond denial step act e = absurd (none-some denial e)
 refused-quietly s h d r Single denial step act e =
-    let m = single-missed d (own_gref r) (seen_by s h d step) denial e in
+    let m = single-missed d r (seen_by s h d step) denial e in
     ap (changes_nothing step) m.1 ∙ seen-missed s h d step m.0 m.1
 refused-quietly s h d r (OwnLook more) denial step act e =
     subst (λ (z : Step). RefusedQuietly s h d r (OwnLook more) denial z) (makes-same _ _ act) (λ x. refl) e

@@ -290,11 +290,11 @@ leg-quiet s h k d r l (Pinning more word body second) next q e =
     let b : (w == word) ≡ true = pinned-loud (w == word) w word l.dom l.gref l.dir q in
     let f : Makes next ≡ Done Granted = subst (λ (z : Bool). Makes next ≡ action_at k d r (after_leg l (leg_after l (Pinning more word body second) (cond z Taken (Missed w))))) b e in cc
 
-single-ends : (k : CallerKnowledge) (d : DomId) (r : Asked) (gref : GrantRef) (seen : Seen) (next : Step) → Makes next ≡ action_at k d r (after_single d gref seen) → ⊥
-single-ends k d r gref Nothing next e = cc
-single-ends k d r gref (Value w) next e = cc
-single-ends k d r gref Taken next e = cc
-single-ends k d r gref (Missed w) next e = cc
+single-ends : (k : CallerKnowledge) (d : DomId) (r : Asked) (seen : Seen) (next : Step) → Makes next ≡ action_at k d r (after_single d r seen) → ⊥
+single-ends k d r Nothing next e = cc
+single-ends k d r (Value w) next e = cc
+single-ends k d r Taken next e = cc
+single-ends k d r (Missed w) next e = cc
 
 change-ends : (s : Setting) (h : History) (k : CallerKnowledge) (d : DomId) (r : Asked) (gref : GrantRef) (more word : ℕ) (change : Change) (next : Step)
     → changes_nothing (Exchange gref word change) (seen_by s h d (Exchange gref word change)) ≡ false
@@ -351,7 +351,7 @@ stores-next s h d (Grant gref (Sub dom ro frame off len)) so_far StoringSecond s
 stores-next s h d (Grant gref Invalid) so_far StoringSecond step next a comes act q e = absurd comes
 stores-next s h d (Grant gref (Page dom ro frame)) so_far StoringSecond step next a comes act q e = absurd comes
 stores-next s h d (Grant gref (Via dom ro dom2 r)) so_far StoringSecond step next a comes act q e = absurd comes
-stores-next s h d r so_far Single step next a comes act q e = absurd (single-ends (known_at s h d) d r (own_gref r) (seen_by s h d step) next e)
+stores-next s h d r so_far Single step next a comes act q e = absurd (single-ends (known_at s h d) d r (seen_by s h d step) next e)
 stores-next s h d r so_far (OwnLook more) step next a comes act q e =
     absurd (true≢false (subst (λ (z : Step). changes_nothing z (seen_by s h d z) ≡ false) (sym (makes-same _ _ act)) q))
 stores-next s h d r so_far (OwnChange more word) step next a comes act q e =

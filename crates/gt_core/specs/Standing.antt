@@ -12,14 +12,14 @@ use Rattle.gt_types.specs.declared.config.StartFault.{StartFault}
 use Rattle.gt_types.specs.declared.config.StartFault.TheVariants.{Config as ConfigFault, Memory as NoMemory}
 use Rattle.gt_types.specs.declared.config.Config.{Config}
 use Rattle.gt_calls.specs.declared.request.Request.{Request}
-use Rattle.gt_calls.specs.declared.request.Request.TheVariants as requests
 use Rattle.gt_calls.specs.declared.asked.Asked.{Asked}
 use Rattle.gt_calls.specs.Asking.{asked, begun_of, IsSaid}
 pub use Rattle.gt_calls.specs.Asking.{FitsEntry, FitsAsked}
 use Rattle.gt_calls.specs.declared.action.Verdict.{Verdict}
-use Rattle.gt_calls.specs.declared.action.Verdict.TheVariants.{Granted, Refused}
+use Rattle.gt_calls.specs.declared.action.Verdict.TheVariants.{Granted, Given, Refused}
+use Rattle.gt_calls.specs.declared.action.Value.{Value}
+use Rattle.gt_calls.specs.declared.action.Value.TheVariants.{Frames, Size as SizeTold, Version as VersionTold}
 use Rattle.gt_calls.specs.declared.action.Seen.{Seen}
-use Rattle.gt_calls.specs.declared.action.Seen.TheVariants.{Value}
 use Rattle.gt_entry.specs.declared.header.Header.{Header}
 use Rattle.gt_calls.specs.declared.action.Action.TheVariants.{Step as Makes}
 use Rattle.gt_core.specs.declared.trace.Answer.{Answer}
@@ -51,8 +51,8 @@ use Rattle.gt_entry.specs.declared.entry.Entry.{Entry}
 use Rattle.gt_entry.specs.declared.entry.Entry.TheVariants.{Invalid, Sub}
 use Rattle.gt_entry.specs.declared.control.Control.{Control}
 use Rattle.gt_entry.specs.declared.control.Kind.TheVariants.{Sub as KindSub}
-use Rattle.gt_entry.specs.Words.{IsInRange, control_of, header_of}
-use Rattle.gt_calls.specs.declared.asked.Asked.TheVariants.{Grant, Load, SetupTable, QuerySize, GetVersion, Store, Peek, Poke}
+use Rattle.gt_entry.specs.Words.{IsInRange, control_of}
+use Rattle.gt_calls.specs.declared.asked.Asked.TheVariants.{Grant, Load, Store, Peek, Poke}
 use Rattle.gt_calls.specs.declared.leg.Leg.{Leg}
 use Rattle.gt_calls.specs.declared.leg.LegPhase.{LegPhase}
 use Rattle.gt_calls.specs.declared.leg.LegPhase.TheVariants.{Header as AtHeader, Look, Body, Second, Pinning, Relook}
@@ -84,18 +84,17 @@ pub record Advances (k : CallerKnowledge) (caller : DomId) (request : Asked) (ph
   pub made : Comes (expects k caller request phase []) → expects k caller request phase [] ≡ Some (action_at k caller request phase)
   pub gives : action ≡ action_at k caller request new.phase
 
--- the answer of a call that makes no step, by the header of its caller's table (own)
-abbrev pub answer_begun : Request → Header → Verdict → Answer
-answer_begun request header (Refused denial) = Denied denial
-answer_begun (requests.SetupTable frames) header Granted = FramesAnswer header.frames
-answer_begun request header Granted = AnswerDone
+-- the answer with this value (own)
+abbrev pub answer_with : Value → Answer
+answer_with (Frames frames) = FramesAnswer frames
+answer_with (SizeTold size) = SizeAnswer size
+answer_with (VersionTold version) = VersionAnswer version
 
--- the answer of a call that gives no mapping and no bytes, by what its last step saw (own)
-abbrev pub value_of : Asked → Seen → Answer
-value_of (QuerySize dom) (Value word) = SizeAnswer (record { frames = (header_of word).frames; max = 4 })
-value_of (GetVersion dom) (Value word) = VersionAnswer (header_of word).version
-value_of (SetupTable frames) seen = FramesAnswer frames
-value_of request seen = AnswerDone
+-- the answer of a call that ends so, and gives no mapping and no bytes (own)
+abbrev pub answer_of : Verdict → Answer
+answer_of Granted = AnswerDone
+answer_of (Given value) = answer_with value
+answer_of (Refused denial) = Denied denial
 
 -- what the trace has for what `begin` did (own)
 abbrev pub begun_element : DomId → Request → Begun → Element
@@ -122,16 +121,16 @@ IsLoadOf (Peek frame off len) n = len ≡ n
 IsLoadOf request n = ⊥
 
 -- a call that nothing stood against is over after this last step: its answer, and the states (own)
-abbrev pub Settled : List State → ℕ → State → Open → Seen → Step → Answer → List State → Type 0
-Settled xs at d o seen (Pin dom gref looked dir) answer new =
+abbrev pub Settled : List State → ℕ → State → Open → Step → Answer → List State → Type 0
+Settled xs at d o (Pin dom gref looked dir) answer new =
     (handle : Handle) × (mappings : Kept Mapping) × (answer ≡ Mapped handle)
     × Adds d.mappings mappings handle (record { dom = dom; gref = gref; dir = dir; frame = frame_read o.call.phase }) × (new ≡ set xs at (with_mapping mappings d))
-Settled xs at d o seen (ReadBytes dom frame off len) answer new =
+Settled xs at d o (ReadBytes dom frame off len) answer new =
     (b : Bytes) × (answer ≡ BytesAnswer b) × (new ≡ set xs at (with_underway None d))
     × ((n : ℕ) → IsLoadOf o.call.request n → length (bytes_in new dom.0 frame off n) ≡ n → b.bytes.items ≡ bytes_in new dom.0 frame off n)
-Settled xs at d o seen (WriteBytes dom frame off len) answer new =
+Settled xs at d o (WriteBytes dom frame off len) answer new =
     (answer ≡ AnswerDone) × (new ≡ changed_in dom.0 (with_bytes frame off d.given) (set xs at (without_given d)))
-Settled xs at d o seen step answer new = (answer ≡ value_of o.call.request seen) × (new ≡ set xs at (with_underway None d))
+Settled xs at d o step answer new = (answer ≡ AnswerDone) × (new ≡ set xs at (with_underway None d))
 
 -- the answer of this last step wants no room, or it was made already: a pin is that of a map (own)
 abbrev pub NeedsNoRoom : Asked → Step → Type 0
@@ -139,17 +138,17 @@ NeedsNoRoom request (Pin dom gref looked dir) = IsMapping (Some request)
 NeedsNoRoom request step = Unit {0}
 
 -- the last step of a call is answered, or memory was wanted, and it is not where room was made (own)
-abbrev pub Settles : List State → ℕ → State → Open → Seen → Result Answer Memory → List State → Type 0
-Settles xs at d o seen result new = IfOk result (λ answer. Settled xs at d o seen o.step answer new) × (NeedsNoRoom o.call.request o.step → IsOk result)
+abbrev pub Settles : List State → ℕ → State → Open → Result Answer Memory → List State → Type 0
+Settles xs at d o result new = IfOk result (λ answer. Settled xs at d o o.step answer new) × (NeedsNoRoom o.call.request o.step → IsOk result)
 
 -- a run can't start for this reason: the first fault of its configuration, or want of memory where that has none (own)
 abbrev pub IsStartFaultOf : Config → StartFault → Type 0
 IsStartFaultOf config (ConfigFault fault) = IsFirstFault config fault
 IsStartFaultOf config NoMemory = IsWithinLimits config
 
--- memory can be wanted where a domain at rest begins a map, a load, a store, a peek or a poke against which no rule stands (own)
+-- memory can be wanted where a domain of the run, at rest, begins a map, a load, a store, a peek or a poke against which no rule stands (own)
 abbrev pub WantsMemory : Setting → History → DomId → Request → Type 0
-WantsMemory s h d request = (asks_memory (asked request) ≡ true) × (open_call h d.0 ≡ None) × (begun_of (known_at s h d) d request ≡ None)
+WantsMemory s h d request = (asks_memory (asked request) ≡ true) × (domain_of s.domains d ≢ None) × (open_call h d.0 ≡ None) × (begun_of (known_at s h d) d request ≡ None)
 
 -- what a call has seen
 

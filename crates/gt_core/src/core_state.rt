@@ -1,14 +1,14 @@
 //! The core: a machine over events.
-ghost use Rattle.std.specs.Prelude.{◌≡◌, ◌<◌, List, [], length, slice_get, map, replicate, IfOk, IfErr, OnOk, OnErr, IsOk, Option, Some, None};
+ghost use Rattle.std.specs.Prelude.{◌≡◌, ◌<◌, List, [], length, slice_get, set, map, replicate, IfOk, IfErr, OnOk, OnErr, IsOk, Option, Some, None};
 ghost use Rattle.gt_types.specs.Config.{IsWithinLimits};
 ghost use Rattle.gt_calls.specs.Rules.{knowledge_of, begun};
 ghost use Rattle.gt_core.specs.History.{History};
 ghost use Rattle.gt_calls.specs.Asking.{given_by};
 ghost use Rattle.gt_core.specs.Legal.{MayDo, grown, Legal};
 ghost use Rattle.gt_core.specs.States.{State, changed_in};
-ghost use Rattle.gt_core.specs.Effects.{with_underway, with_bytes, bytes_in};
+ghost use Rattle.gt_core.specs.Effects.{applied, with_underway, with_bytes, bytes_in};
 ghost use Rattle.gt_core.specs.Shown.{shown_at};
-ghost use Rattle.gt_core.specs.Standing.{Opens, Advances, CoreStands, Settles, IsMapping, IsStartFaultOf, WantsMemory, setting_of, begun_element, ticked_element, answer_begun, value_of, first_state};
+ghost use Rattle.gt_core.specs.Standing.{Opens, Advances, CoreStands, Settles, IsMapping, IsStartFaultOf, WantsMemory, setting_of, begun_element, ticked_element, answer_with, answer_of, first_state};
 ghost use Rattle.gt_core.specs.declared.trace.Event.TheVariants.{Begin, Tick};
 
 use crate::effects::apply;
@@ -17,10 +17,10 @@ use crate::slot::Open;
 use crate::state::{DomainState, find};
 use crate::trace::{Answer, Bytes, Element, Event, Happened, Item, Trace};
 use gt_calls::{
-    Action, Asked, Call, Handle, Known, Request, Seen, Start, Step, Verdict, asked_fits,
+    Action, Call, Handle, Known, Request, Seen, Start, Step, Value, Verdict, asked_fits,
 };
-use gt_entry::{Entry, Header};
-use gt_types::{Allows, Config, DomId, GrantRef, MAX_TABLE_FRAMES, Memory, Size, StartFault};
+use gt_entry::Entry;
+use gt_types::{Allows, Config, DomId, GrantRef, Memory, StartFault};
 use std::alloc::Global;
 
 /// The grant tables of a run.
@@ -81,31 +81,25 @@ fn open_call<P: Allows>(known: &Known<'_, P>, dom: DomId, request: Request<'_>) 
     }
 }
 
-// The answer of a call that makes no step.
-fn answer_begun(request: Request<'_>, header: Header, verdict: Verdict) -> Answer
-    ensures { result ≡ answer_begun request.entry header verdict }
+// The answer with this value.
+fn answer_with(value: Value) -> Answer
+    ensures { result ≡ answer_with value }
 {
-    match (verdict, request) {
-        (Verdict::Refused(denial), _) => Answer::Denied(denial),
-        (Verdict::Granted, Request::SetupTable { .. }) => Answer::Frames(u32::from(header.frames)),
-        (Verdict::Granted, _) => Answer::Done,
+    match value {
+        Value::Frames(frames) => Answer::Frames(frames),
+        Value::Size(size) => Answer::Size(size),
+        Value::Version(version) => Answer::Version(version),
     }
 }
 
-// The answer of a call that gives no mapping and no bytes, by what its last step saw.
-fn value_of(asked: Asked, seen: Seen) -> Answer
-    ensures { result ≡ value_of asked seen }
+// The answer of a call that ends so, and gives no mapping and no bytes.
+fn answer_of(verdict: Verdict) -> Answer
+    ensures { result ≡ answer_of verdict }
 {
-    match (asked, seen) {
-        (Asked::QuerySize { .. }, Seen::Value(word)) => Answer::Size(Size {
-            frames: u32::from(Header::unpack(word).frames),
-            max: MAX_TABLE_FRAMES,
-        }),
-        (Asked::GetVersion { .. }, Seen::Value(word)) => {
-            Answer::Version(u32::from(Header::unpack(word).version))
-        }
-        (Asked::SetupTable { frames }, _) => Answer::Frames(frames),
-        _ => Answer::Done,
+    match verdict {
+        Verdict::Granted => Answer::Done,
+        Verdict::Given(value) => answer_with(value),
+        Verdict::Refused(denial) => Answer::Denied(denial),
     }
 }
 
@@ -154,15 +148,12 @@ impl<P: Allows> Core<P> {
         open_call(&known, dom, request)
     }
 
-    fn header_at(&self, at: usize) -> Header
-        requires { at < length self.now.domains.items }
-        ensures { (d : State) → slice_get self.now.domains.items at ≡ Some d → result ≡ d.header }
-    {
-        let domain = &self.domains[at];
-        domain.header
-    }
-
-    /// Begins a call of the domain.
+    /// Begins a call of the domain: judges it, and makes the room that its answer wants. Its steps are made by `tick`.
+    ///
+    /// # Errors
+    ///
+    /// `Memory`, only for a map, a load, a store, a peek or a poke of a domain of the run, at rest, against which no rule
+    /// stands. No domain's state has changed then.
     pub fn begin(&mut self, dom: DomId, request: Request<'_>) -> Result<Begun, Memory>
         ensures stands { (h : History) → CoreStands (setting_of self.old.config (P.may self.old.rights)) h self.old.domains.items → IfOk result (λ b.
             MayDo (setting_of self.old.config (P.may self.old.rights)) h (Begin dom request.entry) (begun_element dom request.entry b)
@@ -179,10 +170,7 @@ impl<P: Allows> Core<P> {
             return Ok(Begun::Busy);
         }
         match self.open_at(at, dom, request) {
-            Opening::Done(verdict) => {
-                let header = self.header_at(at);
-                Ok(Begun::Done(answer_begun(request, header, verdict)))
-            }
+            Opening::Done(verdict) => Ok(Begun::Done(answer_of(verdict))),
             Opening::Open(open) => {
                 asked_fits(open.call.request);
                 let alloc = self.alloc;
@@ -210,12 +198,12 @@ impl<P: Allows> Core<P> {
     }
 
     // The answer of a call that nothing stood against, whose last step was this one. The call is over.
-    fn settle(&mut self, at: usize, last: Open, seen: Seen) -> Result<Answer, Memory>
+    fn settle(&mut self, at: usize, last: Open) -> Result<Answer, Memory>
         requires { at < length self.old.domains.items }
         ensures config { self.new.config ≡ self.old.config }
         ensures rights { self.new.rights ≡ self.old.rights }
         ensures err { OnErr result (self.new.domains.items ≡ self.old.domains.items) }
-        ensures settles { (d : State) → slice_get self.old.domains.items at ≡ Some d → d.underway ≡ Some last → Settles self.old.domains.items at d last seen result self.new.domains.items }
+        ensures settles { (d : State) → slice_get self.old.domains.items at ≡ Some d → d.underway ≡ Some last → Settles self.old.domains.items at d last result self.new.domains.items }
     {
         match last.step {
             Step::Pin { dom, gref, dir, .. } => {
@@ -246,12 +234,28 @@ impl<P: Allows> Core<P> {
             }
             _ => {
                 self.domains[at].close();
-                Ok(value_of(last.call.request, seen))
+                Ok(Answer::Done)
             }
         }
     }
 
-    /// Makes the next step of the domain's call.
+    // The domain's call is over after this step.
+    fn end(&mut self, at: usize, dom: DomId, step: Step, seen: Seen)
+        requires { at < length self.old.domains.items }
+        ensures config { self.new.config ≡ self.old.config }
+        ensures rights { self.new.rights ≡ self.old.rights }
+        ensures left { (d : State) → slice_get self.old.domains.items at ≡ Some d → self.new.domains.items ≡ applied dom step seen (set self.old.domains.items at (with_underway None d)) }
+    {
+        self.domains[at].close();
+        apply(&mut self.domains, dom, step, seen);
+    }
+
+    /// Makes the next step of the domain's open call, with its answer where that is the last one. A refused call has left
+    /// entries, pins, mappings, tables and frames as they were.
+    ///
+    /// # Errors
+    ///
+    /// `Memory`, but never of a core that stands for a history: `begin` made the room.
     pub fn tick(&mut self, dom: DomId) -> Result<Ticked, Memory>
         ensures stands { (h : History) → CoreStands (setting_of self.old.config (P.may self.old.rights)) h self.old.domains.items → IfOk result (λ t.
             MayDo (setting_of self.old.config (P.may self.old.rights)) h (Tick dom) (ticked_element dom t)
@@ -276,15 +280,18 @@ impl<P: Allows> Core<P> {
                 Ok(Ticked::Step(open.step, seen))
             }
             Action::Done(verdict) => match verdict {
-                Verdict::Refused(denial) => {
-                    self.domains[at].close();
-                    apply(&mut self.domains, dom, open.step, seen);
-                    Ok(Ticked::Done(open.step, seen, Answer::Denied(denial)))
-                }
                 Verdict::Granted => {
-                    let answer = self.settle(at, open, seen)?;
+                    let answer = self.settle(at, open)?;
                     apply(&mut self.domains, dom, open.step, seen);
                     Ok(Ticked::Done(open.step, seen, answer))
+                }
+                Verdict::Given(value) => {
+                    self.end(at, dom, open.step, seen);
+                    Ok(Ticked::Done(open.step, seen, answer_with(value)))
+                }
+                Verdict::Refused(denial) => {
+                    self.end(at, dom, open.step, seen);
+                    Ok(Ticked::Done(open.step, seen, Answer::Denied(denial)))
                 }
             },
         }
@@ -352,7 +359,11 @@ fn one_event<'a, P: Allows>(core: &mut Core<P>, event: Event<'a>) -> Result<Elem
     }
 }
 
-/// Plays a list of events.
+/// Plays the events on a new core: one element for each, in order.
+///
+/// # Errors
+///
+/// The first fault of the configuration, or `Memory` where it has none; the trace is lost then.
 pub fn play<'a, P: Allows + Drop>(
     alloc: Global,
     config: Config,
@@ -372,7 +383,11 @@ pub fn play<'a, P: Allows + Drop>(
 }
 
 impl<P: Allows + Drop> Core<P> {
-    /// A core at rest.
+    /// A core at rest: all entries invalid at the first generation, all frames zero, no mapping and no call.
+    ///
+    /// # Errors
+    ///
+    /// The first fault of the configuration, or `Memory` where it has none.
     pub fn new(alloc: Global, config: Config, rights: P) -> Result<Core<P>, StartFault>
         ensures stands { IfOk result (λ core. CoreStands (setting_of config (P.may rights)) [] core.domains.items) }
         ensures config { IfOk result (λ core. core.config ≡ config) }

@@ -3,14 +3,13 @@ use Rattle.std.specs.Prelude.{position, is_some}
 use Rattle.gt_core.specs.declared.slot.Open.{Open}
 use Rattle.gt_core.specs.Effects.{with_call}
 use Rattle.gt_calls.specs.Asking.{given_by}
-use Rattle.gt_entry.specs.declared.header.Header.{Header}
 use Rattle.gt_core.specs.States.{State, kept_by}
 use Rattle.gt_core.specs.declared.core_state.Opening.{Opening}
 use Rattle.std.proofs.Common.{◌<◌, ◌+◌, ◌^◌}
 use Rattle.gt_calls.specs.declared.asked.Asked.{Asked}
 use Rattle.gt_core.proofs.Ending.{serial-left}
 use Rattle.gt_calls.specs.Rules.{knowledge_of, begun}
-use Rattle.gt_core.specs.Standing.{setting_of, answer_begun, CoreStands, Opens}
+use Rattle.gt_core.specs.Standing.{setting_of, CoreStands, Opens}
 use Rattle.gt_core.proofs.Places.{has_id, on-err}
 use Rattle.gt_core.proofs.Beginning.{begin-wants, begin-nowhere, begin-busy, begin-answers, begin-opened, place-at, began}
 use Rattle.std.proofs.lemmas.Option.{same_Some}
@@ -39,8 +38,7 @@ returns-in-Done-clause-stands g c =
     let x = c.index.result.now in
     let k = knowledge_of s.domains s.first_generation s.may x.own x.header x.mappings in
     let opens = subst (λ (o : Opening). Opens k c.args.dom c.args.request o) c.in-Done.is (c.open_at.ensures x (place-at xs c.args.dom.0 c.in-Some.at x p c.index.ensures)) in
-    let given : c.answer_begun.result ≡ answer_begun c.args.request x.header c.in-Done.verdict = c.answer_begun.ensures ∙ ap (λ (z : Header). answer_begun c.args.request z c.in-Done.verdict) (c.header_at-header.ensures x (place-at xs c.args.dom.0 c.in-Some.at x p c.index.ensures)) in
-    λ h st. let r = begin-answers s h xs c.args.dom c.in-Some.at x c.args.request c.in-Done.verdict c.answer_begun.result given p c.index.ensures (ap (λ (o : Option Open). is_some o) (sym c.underway.ensures) ∙ sym c.is_some.ensures ∙ c.if-is_some.false) opens st in
+    λ h st. let r = begin-answers s h xs c.args.dom c.in-Some.at x c.args.request c.in-Done.verdict c.answer_of.result c.answer_of.ensures p c.index.ensures (ap (λ (o : Option Open). is_some o) (sym c.underway.ensures) ∙ sym c.is_some.ensures ∙ c.if-is_some.false) opens st in
     ((r.0, (refl, refl), r.1), r.2)
 
 pub returns-in_ok-begin-in-Open-clause-stands : goal.returns-in_ok-begin-in-Open-clause-stands

@@ -32,7 +32,7 @@ returns-in-Read-clause-settles g c =
     subst (λ (l : List State). length (bytes_in l t frame off (length out)) ≡ length out → bytes.items ≡ bytes_in l t frame off (length out)) c.deref.ensures.value c.read_into-bytes.ensures in
     let whole : (n : ℕ) → IsLoadOf c.args.last.call.request n → length (bytes_in new t frame off n) ≡ n → bytes.items ≡ bytes_in new t frame off n =
     λ n l. subst (λ (m : ℕ). length (bytes_in new t frame off m) ≡ m → bytes.items ≡ bytes_in new t frame off m) (loaded c.args.last.call.request (length out) n asks l) read in (
-      subst (λ (s : Step). Settled xs at d c.args.last c.args.seen s (BytesAnswer (record { bytes = bytes })) new) (sym c.in-Read.is) (record { bytes = bytes }, refl, after, whole),
+      subst (λ (s : Step). Settled xs at d c.args.last s (BytesAnswer (record { bytes = bytes })) new) (sym c.in-Read.is) (record { bytes = bytes }, refl, after, whole),
       λ _. refl,
     )
 
@@ -54,7 +54,7 @@ returns-in-Write-clause-settles g c =
     let kept : given ≡ d.given = c.deref-in-Write.ensures.value ∙ c.close_store-given.ensures.given ∙ ap (λ (z : State). z.given) same in
     let after : zs ≡ set xs at (without_given d) = ap (λ (z : State). set xs at z) (c.close_store-given.ensures.closed ∙ ap without_given same) in
     let wrote = left ∙ ap (λ (l : List ℕ). changed_in t (with_bytes frame off l) zs) kept ∙ ap (changed_in t (with_bytes frame off d.given)) after in (
-      subst (λ (s : Step). Settled xs at d c.args.last c.args.seen s AnswerDone (take n (c.write_to.new.domains ++ drop (length c.write_to.new.domains) zs))) (sym c.in-Write.is) (refl, wrote),
+      subst (λ (s : Step). Settled xs at d c.args.last s AnswerDone (take n (c.write_to.new.domains ++ drop (length c.write_to.new.domains) zs))) (sym c.in-Write.is) (refl, wrote),
       λ _. refl,
     )
 
@@ -69,8 +69,8 @@ returns-in_default g c =
       err = tt;
       settles = λ d here is.
           let same : y ≡ d = same_Some _ _ (sym (slice_get_read xs (length xs) at y refl c.requires c.index_mut-in_default.ensures.value) ∙ here) in (
-            subst (λ (z : Answer). Settled xs at d c.args.last c.args.seen c.args.last.step z (set xs at c.close.new.self)) (sym c.value_of.ensures) (settled-plain xs (set xs at c.close.new.self) at d c.args.last c.args.seen c.args.last.step c.in_default.not-Pin c.in_default.not-Read c.in_default.not-Write
-                (ap (λ (z : State). set xs at z) (c.close.ensures ∙ ap (with_underway None) same))),
+            settled-plain xs (set xs at c.close.new.self) at d c.args.last c.args.last.step c.in_default.not-Pin c.in_default.not-Read c.in_default.not-Write
+                (ap (λ (z : State). set xs at z) (c.close.ensures ∙ ap (with_underway None) same)),
             λ _. refl,
           );
     }
@@ -91,6 +91,6 @@ returns-in_ok-handle-in-Pin-clause-settles g c =
     let adds : Adds d.mappings new.mappings handle (record { dom = pin.dom; gref = pin.gref; dir = pin.dir; frame = frame_read phase }) =
     subst (λ (z : State). Adds z.mappings new.mappings handle (record { dom = pin.dom; gref = pin.gref; dir = pin.dir; frame = frame_read phase })) same shows in
     let after : set xs at new ≡ set xs at (with_mapping new.mappings d) = ap (λ (z : State). set xs at z) (c.in_ok-handle-in-Pin.ensures.added ∙ ap (with_mapping new.mappings) same) in (
-      subst (λ (s : Step). Settled xs at d c.args.last c.args.seen s (Mapped handle) (set xs at new)) (sym c.in-Pin.is) (handle, new.mappings, refl, adds, after),
+      subst (λ (s : Step). Settled xs at d c.args.last s (Mapped handle) (set xs at new)) (sym c.in-Pin.is) (handle, new.mappings, refl, adds, after),
       λ _. refl,
     )
