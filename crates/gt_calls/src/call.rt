@@ -189,6 +189,7 @@ fn exchange_idle<P: Allows>(known: &Known<'_, P>, gref: GrantRef, change: Change
     })
 }
 
+// The beginning has found the mapping, and nobody else gives it up: no arm that ends the call is met here.
 fn unpin(mappings: &Handles<Mapping>, handle: Handle) -> Action
     ensures { result ≡ unpin_of handle (value_of mappings.now handle) }
 {
@@ -231,6 +232,7 @@ fn write(mappings: &Handles<Mapping>, handle: Handle, off: u16, len: usize) -> A
     })
 }
 
+// The only step of a call that makes one, or a grant's exchange; no other call comes here.
 fn single<P: Allows>(known: &Known<'_, P>, caller: DomId, request: Asked) -> Action
     ensures { result ≡ single_at (knowledge_of known.now.config.now.domains.items known.now.config.now.first_gen (P.may known.now.rights.now) known.now.own.now known.now.header known.now.mappings.now) caller request }
 {
@@ -269,6 +271,7 @@ fn single<P: Allows>(known: &Known<'_, P>, caller: DomId, request: Asked) -> Act
     }
 }
 
+// The first body word of a grant; no other call comes here.
 fn store(request: Asked) -> Action
     ensures { result ≡ store_at request }
 {
@@ -282,6 +285,7 @@ fn store(request: Asked) -> Action
     }
 }
 
+// The second body word of a grant; no other call comes here.
 fn store_second(request: Asked) -> Action
     ensures { result ≡ second_at request }
 {

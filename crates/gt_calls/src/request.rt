@@ -31,6 +31,8 @@ pub enum Request<'a> {
     Promote {
         gref: GrantRef,
     },
+    /// Maps an entry of another domain, or of the caller's own. The flags are GNTMAP bits of the public header: 2
+    /// (host_map) for writing too, 6 (host_map and readonly) for reading; all others are refused.
     Map {
         dom: DomId,
         gref: GrantRef,
@@ -39,6 +41,8 @@ pub enum Request<'a> {
     Unmap {
         handle: Handle,
     },
+    /// Reads `len` bytes through a mapping of the caller's, from the offset on. As in each access, offset and length end by
+    /// 4,096.
     Load {
         handle: Handle,
         off: u16,
@@ -70,9 +74,11 @@ pub enum Request<'a> {
     SetupTable {
         frames: u32,
     },
+    /// How many frames the table of the domain named has, and how many it may have.
     QuerySize {
         dom: DomId,
     },
+    /// The version of the table of the domain named.
     GetVersion {
         dom: DomId,
     },

@@ -5,11 +5,11 @@
 //! access to bytes. [`play`] plays a list of events.
 //!
 //! It promises that what it does is a legal trace, for every list of events: each step shows what the
-//! steps before it left, a foreign byte is read exactly where a live pin lets it and the policy allows it,
+//! steps before it left, a foreign byte is read or written only where a live pin lets it and the policy allows it,
 //! a revocation is taken exactly where no pin on its entry is live, and a refusal names the first rule
 //! that stood. `specs/Legal.antt` says it, over histories (`specs/History.antt`) and the rules and paths of
 //! calls (of `gt_calls`, which judges them); `specs/Standing.antt` says when a core stands for a history. It
-//! stands on `gt_calls`, `gt_entry`, `gt_handles` and `gt_types`.
+//! stands on `gt_calls`, `gt_entry`, `gt_frames`, `gt_handles` and `gt_types`.
 #![tactic(auto)]
 
 #[cfg(test)]
