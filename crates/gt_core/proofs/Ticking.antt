@@ -883,7 +883,7 @@ quiet-safe s h d (Exchange gref looked change) (Value w) answer q = tt
 quiet-safe s h d (Exchange gref looked change) Nothing answer q = tt
 quiet-safe s h d (Exchange gref looked change) Taken answer q = absurd (false≢true q)
 quiet-safe s h d (Unpin dom gref dir holder) seen answer q = tt
-quiet-safe s h d (StoreBody gref second word) seen answer q = tt
+quiet-safe s h d (StoreBody gref second word) seen answer q = absurd (false≢true q)
 quiet-safe s h d (StoreHeader version frames) seen answer q = tt
 
 quiet-sound : (s : Setting) (h : History) (d : DomId) (r : Asked) (step : Step) (seen : Seen) → changes_nothing step seen ≡ true → PinIsSound s h d r step seen

@@ -421,7 +421,7 @@ tick-stores s h xs x o c seen new next st here a call oa w loud =
         (subst (λ (z : Step). LeavesAll (z, seen)) (sym is) tt))) in
         let now : open_call (i ∷ h) x.id.0 ≡ Some (one-more c (StoreBody gref second word) Nothing) = open_call-own i h ∙ ap (underway_after i) call in (
           going-right s h xs x.id o c seen new next st call oa w
-              (subst (λ (z : Step). IsSafe s h (stepped x.id z seen None)) (sym is) tt)
+              (subst (λ (z : Step). IsSafe s h (stepped x.id z seen None)) (sym is) invalid)
               (subst (λ (z : Step). PinIsSound s h x.id c.request z seen) (sym is) tt),
           subst (λ (v : Seen). CoreStands s (stepped x.id o.step v None ∷ h) (applied x.id o.step v (changed_in x.id.0 (with_underway (Some o')) xs))) (sym nothing)
               (subst (λ (z : Step). CoreStands s (stepped x.id z Nothing None ∷ h) (applied x.id z Nothing (changed_in x.id.0 (with_underway (Some o')) xs))) (sym is)
