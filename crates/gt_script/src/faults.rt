@@ -65,6 +65,11 @@ impl ScriptError {
 impl Error for Fault {}
 
 impl fmt::Display for BlockFault {
+    ghost use Rattle.std.specs.Prelude.{Some};
+    ghost use Rattle.gt_policy.specs.Texts.{fault_text};
+
+    ghost output = { λ fault. Some (fault_text fault.line fault.kind) };
+
     fn fmt<W: fmt::Write>(&self, f: &mut fmt::Formatter<W>) -> fmt::Result {
         write!(f, "line {}: policy {}", self.line, self.kind)
     }
@@ -73,9 +78,10 @@ impl fmt::Display for BlockFault {
 impl Error for BlockFault {}
 
 impl fmt::Display for ScriptError {
+    ghost use Rattle.std.specs.Prelude.{Some};
     ghost use Rattle.gt_script.specs.Faults.{error_text};
 
-    ghost output = { λ error. error_text error };
+    ghost output = { λ error. Some (error_text error) };
 
     fn fmt<W: fmt::Write>(&self, f: &mut fmt::Formatter<W>) -> fmt::Result {
         match self {
