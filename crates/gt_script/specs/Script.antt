@@ -110,7 +110,7 @@ with_lines c n (l ∷ ls) = elim (with_words c n (words l)) [
   | Err kind ↦ Err (record { line = n; kind = kind })
 ]
 
--- a script with no line at all lacks its head, and one with no domain line its domains (own)
+-- syntax where nothing is allowed (no policy and no triple), config where no domain is configured (own)
 unfoldable pub completed : ℕ → Contents → Result Contents Fault
 completed count c = if has_no_rights c then Err (record { line = count + 1; kind = Syntax })
     else (if is_empty c.domains then Err (record { line = count + 1; kind = Config }) else Ok c)
