@@ -11,10 +11,11 @@ pub enum FaultKind {
     Limit,
     /// A byte that is no UTF-8.
     Utf8,
-    /// An unknown word, a wrong count of words, a bad number, name or label, or a part out of
-    /// its place.
+    /// An unknown word, a wrong count of words, a bad number, name, label or hexadecimal text, a part
+    /// out of its place, no rights in front of the domains, or a policy block without `end`.
     Syntax,
-    /// A limit of the domains or types, a repeated domain, or one that is not configured.
+    /// A limit of the domains or types, a type that the policy does not declare, a repeated domain or
+    /// one that is not configured, or no domain at all.
     Config,
 }
 

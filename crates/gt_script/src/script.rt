@@ -367,7 +367,7 @@ impl<'a> Script<'a> {
         Ok(script)
     }
 
-    // A script with no line at all lacks its head, and one with no domain line its domains.
+    // What a script lacks at its end: a policy or a triple, else a domain.
     #[tactic(auto, unfolding(crate::specs::Script::completed))]
     fn completed(self, count: usize) -> Result<Script<'a>, ScriptError>
         requires { count < 2 ^ 64 - 1 }
