@@ -16,6 +16,7 @@ abbrev pub lists_word : Permissions → List ℕ → Bool
 lists_word Every w = true
 lists_word (Named ws) w = list_any (λ v. bytes_eq v w) ws
 
+-- some of these names is this one (own)
 abbrev pub mentions : List Mention → List ℕ → Bool
 mentions ms a = list_any (λ m. bytes_eq m.name a) ms
 
@@ -26,15 +27,17 @@ gives (DeclareAttribute w) a t = false
 gives (GiveAttributes m ms) a t = bytes_eq m.name t && mentions ms a
 gives (Allow r) a t = false
 
--- the name w is that of the type t, or of an attribute that some statement gives it
+-- the name w is that of the type t, or of an attribute that some statement gives it (SELinux policy language)
 abbrev pub is_named : List Statement → List ℕ → List ℕ → Bool
 is_named ss w t = bytes_eq w t || list_any (λ s. gives s w t) ss
 
+-- an item of a set names the type, or an attribute that it has (SELinux policy language)
 abbrev pub names_with : List Statement → Item → List ℕ → Bool
 names_with ss (With m) t = is_named ss m.name t
 names_with ss (Without m) t = false
 names_with ss Itself t = false
 
+-- an item of a set names the type, or an attribute that it has, behind `-` (SELinux policy language)
 abbrev pub names_without : List Statement → Item → List ℕ → Bool
 names_without ss (With m) t = false
 names_without ss (Without m) t = is_named ss m.name t
@@ -44,6 +47,7 @@ names_without ss Itself t = false
 abbrev pub set_holds : List Statement → List Item → List ℕ → Bool
 set_holds ss items t = list_any (λ i. names_with ss i t) items && not (list_any (λ i. names_without ss i t) items)
 
+-- an item is `self` (SELinux policy language)
 abbrev pub is_self : Item → Bool
 is_self (With m) = false
 is_self (Without m) = false
@@ -56,6 +60,6 @@ statement_grants ss s t w (DeclareAttribute v) = false
 statement_grants ss s t w (GiveAttributes m ms) = false
 statement_grants ss s t w (Allow r) = ((has_grant r.classes && lists_word r.perms w) && set_holds ss r.source s) && (set_holds ss r.target t || (list_any is_self r.target && bytes_eq s t))
 
--- some statement grants it
+-- some statement grants it (SELinux policy language)
 abbrev pub is_granted : List Statement → List ℕ → List ℕ → List ℕ → Bool
 is_granted ss s t w = list_any (λ x. statement_grants ss s t w x) ss

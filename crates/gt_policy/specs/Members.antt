@@ -5,6 +5,7 @@ use Rattle.gt_policy.specs.declared.types.TypeSet.{TypeSet}
 use Rattle.gt_policy.specs.declared.rules.Members.{Members}
 use Rattle.gt_policy.specs.TypeSets.{holds}
 
+-- the set of no type (own)
 abbrev pub no_types : TypeSet
 no_types = record { low = 0; high = 0 }
 

@@ -63,29 +63,32 @@ pub data SpellsText : List Statement → Lexemes → Type 0 where
   text_end : (n : ℕ) (ls : Lexemes) → SpellsText [] ((End, n) ∷ ls)
   statement_of : (s : Statement) (ss : List Statement) (ls rest : Lexemes) → SpellsStatement s ls rest → SpellsText ss rest → SpellsText (s ∷ ss) ls
 
--- what the statements declare, in their order
+-- the types that the statements declare, in their order (own)
 abbrev pub types_in : List Statement → List (List ℕ)
 types_in [] = []
 types_in (DeclareType w ms ∷ ss) = w ∷ types_in ss
 types_in (s ∷ ss) = types_in ss
 
+-- the attributes that the statements declare, in their order (own)
 abbrev pub attributes_in : List Statement → List (List ℕ)
 attributes_in [] = []
 attributes_in (DeclareAttribute w ∷ ss) = w ∷ attributes_in ss
 attributes_in (s ∷ ss) = attributes_in ss
 
+-- all names that the statements declare, in their order (own)
 abbrev pub declared_in : List Statement → List (List ℕ)
 declared_in [] = []
 declared_in (DeclareType w ms ∷ ss) = w ∷ declared_in ss
 declared_in (DeclareAttribute w ∷ ss) = w ∷ declared_in ss
 declared_in (s ∷ ss) = declared_in ss
 
+-- how many allow statements there are (own)
 abbrev pub allows_in : List Statement → ℕ
 allows_in [] = 0
 allows_in (Allow a ∷ ss) = allows_in ss + 1
 allows_in (s ∷ ss) = allows_in ss
 
--- no name stands twice
+-- no name stands twice (own)
 abbrev pub AreDistinct : List (List ℕ) → Type 0
 AreDistinct [] = Unit {0}
 AreDistinct (w ∷ ws) = (list_any (λ v. bytes_eq w v) ws ≡ false) × AreDistinct ws

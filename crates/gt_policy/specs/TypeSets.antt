@@ -3,6 +3,7 @@ use Rattle.std.specs.Prelude.{ℕ, ◌==◌, ◌-◌, ◌&&◌, Bool, nat_lt, if
 use Rattle.std.specs.Int.{bit_at}
 use Rattle.gt_policy.specs.declared.types.TypeSet.{TypeSet}
 
+-- bit n of the number is 1 (own)
 abbrev pub is_set : ℕ → ℕ → Bool
 is_set bits n = bit_at bits n == 1
 

@@ -18,14 +18,16 @@ pub data Role : Type 0 where
   OfType : Role
   OfAttribute : Role
 
+-- a name that is used, and what it has to be declared as (own)
 abbrev pub Use : Type 0
 Use = Role × Mention
 
+-- these names, all used in one role (own)
 abbrev pub all_used : Role → List Mention → List Use
 all_used role [] = []
 all_used role (m ∷ ms) = (role, m) ∷ all_used role ms
 
--- the names of a set, those behind `-` too
+-- the names of a set, those behind `-` too (own)
 abbrev pub set_uses : List Item → List Use
 set_uses [] = []
 set_uses (With m ∷ items) = (InSet, m) ∷ set_uses items
@@ -39,14 +41,16 @@ statement_uses (DeclareAttribute w) = []
 statement_uses (GiveAttributes m ms) = (OfType, m) ∷ all_used OfAttribute ms
 statement_uses (Allow a) = set_uses a.source ++ set_uses a.target
 
--- the names that the statements use, in the order of the text
+-- the names that the statements use, in the order of the text (own)
 abbrev pub uses_of : List Statement → List Use
 uses_of [] = []
 uses_of (s ∷ ss) = statement_uses s ++ uses_of ss
 
+-- some statement declares the name as a type (SELinux policy language)
 abbrev pub is_type : List Statement → List ℕ → Bool
 is_type ss w = list_any (λ t. bytes_eq t w) (types_in ss)
 
+-- some statement declares the name as an attribute (SELinux policy language)
 abbrev pub is_attribute : List Statement → List ℕ → Bool
 is_attribute ss w = list_any (λ a. bytes_eq a w) (attributes_in ss)
 

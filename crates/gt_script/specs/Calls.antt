@@ -137,14 +137,14 @@ promote_of (gref ∷ []) = do
   Some (calls.Promote r)
 promote_of _ = None
 
--- what stands after `version`: V, of 32 bits as in grant_table.h
+-- what stands after `version`: V, of 32 bits (grant_table.h)
 unfoldable pub version_of : List (List ℕ) → Option Call
 version_of (number ∷ []) = do
   v ← u32_word number
   Some (calls.SetVersion v)
 version_of _ = None
 
--- what stands after `setup`: N, of 32 bits as in grant_table.h
+-- what stands after `setup`: N, of 32 bits (grant_table.h)
 unfoldable pub setup_of : List (List ℕ) → Option Call
 setup_of (number ∷ []) = do
   n ← u32_word number

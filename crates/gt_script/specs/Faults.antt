@@ -1,8 +1,9 @@
 -- The texts of faults (own).
-use Rattle.std.specs.Prelude.{ℕ, List, ◌++◌, Option, Some, None, codes}
+use Rattle.std.specs.Prelude.{ℕ, List, ◌++◌, codes}
 use Rattle.std.specs.Fmt.{decimal}
 use Rattle.gt_policy.specs.declared.parse.FaultKind as policy
 use Rattle.gt_policy.specs.declared.parse.FaultKind.TheVariants as kinds
+use Rattle.gt_policy.specs.Texts.{fault_text as policy_fault_text}
 use Rattle.gt_script.specs.declared.faults.FaultKind.{FaultKind}
 use Rattle.gt_script.specs.declared.faults.FaultKind.TheVariants.{Limit, Utf8, Syntax, Config}
 use Rattle.gt_script.specs.declared.faults.Fault.{Fault}
@@ -21,11 +22,11 @@ fault_word Config = codes "config"
 abbrev pub fault_text : Fault → List ℕ
 fault_text f = codes "line " ++ decimal f.line ++ codes ": " ++ fault_word f.kind
 
--- why there is no script; of a fault of a policy nothing is said here (own)
-abbrev pub error_text : ScriptError → Option (List ℕ)
-error_text Memory = Some (codes "memory")
-error_text (errors.Fault f) = Some (fault_text f)
-error_text (errors.Policy f) = None
+-- why there is no script: a fault of its policy block is told as one of a policy, with its line in the script (own)
+abbrev pub error_text : ScriptError → List ℕ
+error_text Memory = codes "memory"
+error_text (errors.Fault f) = fault_text f
+error_text (errors.Policy f) = policy_fault_text f.line f.kind
 
 -- a kind of fault of a policy on this line of a script, where it is not want of memory (own)
 abbrev pub error_in_block : ℕ → policy.FaultKind → ScriptError

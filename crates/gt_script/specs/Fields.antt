@@ -37,25 +37,25 @@ label_word (b ∷ bs) = (is_ascii_alphabetic b && nat_le (length bs) 31) && list
 abbrev pub number_word : ℕ → List ℕ → Option ℕ
 number_word limit word = decimal_value word >>= below limit
 
--- an offset, a length or a domain's number: 16 bits, as in grant_table.h
+-- an offset, a length or a domain's number: 16 bits (grant_table.h)
 unfoldable pub u16_word : List ℕ → Option ℕ
 u16_word word = number_word (2 ^ 16) word
 
--- flags: 32 bits, as in grant_table.h
+-- flags, a version or a number of frames: 32 bits (grant_table.h)
 unfoldable pub u32_word : List ℕ → Option ℕ
 u32_word word = number_word (2 ^ 32) word
 
--- a frame's number: 64 bits, as in grant_table.h
+-- a frame's number: 64 bits (grant_table.h)
 unfoldable pub u64_word : List ℕ → Option ℕ
 u64_word word = number_word (2 ^ 64) word
 
--- a grant reference: 32 bits, as in grant_table.h
+-- a grant reference: 32 bits (grant_table.h)
 unfoldable pub reference_word : List ℕ → Option GrantRef
 reference_word word = do
   n ← u32_word word
   Some (record { 0 = n })
 
--- a domain by its number, or `self` for DOMID_SELF of xen.h
+-- a domain by its number, or `self` for DOMID_SELF (xen.h)
 unfoldable pub domain_word : List ℕ → Option DomId
 domain_word word = if bytes_eq word (codes "self") then Some (record { 0 = 32752 }) else (do
   n ← u16_word word

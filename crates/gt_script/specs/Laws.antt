@@ -18,7 +18,7 @@ use Rattle.gt_script.specs.Numbers.{number_below}
 use Rattle.gt_script.specs.Fields.{◌>>=◌}
 use Rattle.gt_script.specs.Lines.{line_of}
 use Rattle.gt_script.specs.Contents.{Contents, empty, with_policy, type_names, first_gen}
-use Rattle.gt_script.specs.Script.{domain_written, with_words, with_lines, line_after}
+use Rattle.gt_script.specs.Script.{domain_written, with_words, with_lines, line_after, most_bytes}
 use Rattle.gt_script.specs.declared.lines.Line.{Line}
 use Rattle.gt_script.specs.declared.lines.Line.TheVariants as line
 use Rattle.gt_script.specs.declared.script.Step.{Step}
@@ -183,16 +183,16 @@ IsFaultOfLines lines f =
 -- the bytes are too many, or no text, and this is their fault (own)
 abbrev pub IsUnread : List ℕ → Fault → Type 0
 IsUnread bytes f =
-    ((1048576 < length bytes) × (f ≡ record { line = 1; kind = Limit }))
-    ⊎ ((length bytes ≤ 1048576) × (¬ IsUtf8 bytes) × (f ≡ record { line = line_after (take (utf8_valid_len bytes) bytes); kind = Utf8 }))
+    ((most_bytes < length bytes) × (f ≡ record { line = 1; kind = Limit }))
+    ⊎ ((length bytes ≤ most_bytes) × (¬ IsUtf8 bytes) × (f ≡ record { line = line_after (take (utf8_valid_len bytes) bytes); kind = Utf8 }))
 
 -- the first fault of the bytes, where it is none of a policy: too many, no text, or the first fault of the lines (own)
 abbrev pub IsFaultOf : List ℕ → Fault → Type 0
-IsFaultOf bytes f = IsUnread bytes f ⊎ ((length bytes ≤ 1048576) × IsUtf8 bytes × IsFaultOfLines (lines_in bytes) f)
+IsFaultOf bytes f = IsUnread bytes f ⊎ ((length bytes ≤ most_bytes) × IsUtf8 bytes × IsFaultOfLines (lines_in bytes) f)
 
 -- the first fault of the bytes is that of their policy block, on its own line of them (own)
 pub record IsFaultOfBlock (bytes : List ℕ) (g : policy.Fault) : Type 0 where
-  pub short : length bytes ≤ 1048576
+  pub short : length bytes ≤ most_bytes
   pub text : IsUtf8 bytes
   pub block : List (List ℕ)
   pub rest : List (List ℕ)

@@ -110,7 +110,7 @@ with_lines c n (l ∷ ls) = elim (with_words c n (words l)) [
   | Err kind ↦ Err (record { line = n; kind = kind })
 ]
 
--- a script with no line at all lacks its head, and one with no domain line its domains (own)
+-- syntax where nothing is allowed (no policy and no triple), config where no domain is configured (own)
 unfoldable pub completed : ℕ → Contents → Result Contents Fault
 completed count c = if has_no_rights c then Err (record { line = count + 1; kind = Syntax })
     else (if is_empty c.domains then Err (record { line = count + 1; kind = Config }) else Ok c)
@@ -158,9 +158,13 @@ LinesSay lines (Some place) said = BlockSays (length lines) (place + 1) (drop (p
 abbrev pub TextSays : List ℕ → Result Contents Wrong → Type 0
 TextSays text said = LinesSay (lines_in text) (opening (lines_in text)) said
 
+-- the most bytes that a script may have (own)
+abbrev pub most_bytes : ℕ
+most_bytes = 1048576
+
 -- the bytes say this script, or have this fault, which is their first: they are too many, or no text, or it is that of the text (own)
 abbrev pub Tells : List ℕ → Result Contents Wrong → Type 0
 Tells bytes said =
-    ((1048576 < length bytes) × (said ≡ Err (in_script (record { line = 1; kind = Limit }))))
-    ⊎ (((length bytes ≤ 1048576) × (¬ IsUtf8 bytes) × (said ≡ Err (in_script (record { line = line_after (take (utf8_valid_len bytes) bytes); kind = Utf8 }))))
-    ⊎ ((length bytes ≤ 1048576) × IsUtf8 bytes × TextSays bytes said))
+    ((most_bytes < length bytes) × (said ≡ Err (in_script (record { line = 1; kind = Limit }))))
+    ⊎ (((length bytes ≤ most_bytes) × (¬ IsUtf8 bytes) × (said ≡ Err (in_script (record { line = line_after (take (utf8_valid_len bytes) bytes); kind = Utf8 }))))
+    ⊎ ((length bytes ≤ most_bytes) × IsUtf8 bytes × TextSays bytes said))

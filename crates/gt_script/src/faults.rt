@@ -11,10 +11,11 @@ pub enum FaultKind {
     Limit,
     /// A byte that is no UTF-8.
     Utf8,
-    /// An unknown word, a wrong count of words, a bad number, name or label, or a part out of
-    /// its place.
+    /// An unknown word, a wrong count of words, a bad number, name, label or hexadecimal text, a part
+    /// out of its place, no rights in front of the domains, or a policy block without `end`.
     Syntax,
-    /// A limit of the domains or types, a repeated domain, or one that is not configured.
+    /// A limit of the domains or types, a type that the policy does not declare, a repeated domain or
+    /// one that is not configured, or no domain at all.
     Config,
 }
 
@@ -65,6 +66,11 @@ impl ScriptError {
 impl Error for Fault {}
 
 impl fmt::Display for BlockFault {
+    ghost use Rattle.std.specs.Prelude.{Some};
+    ghost use Rattle.gt_policy.specs.Texts.{fault_text};
+
+    ghost output = { λ fault. Some (fault_text fault.line fault.kind) };
+
     fn fmt<W: fmt::Write>(&self, f: &mut fmt::Formatter<W>) -> fmt::Result {
         write!(f, "line {}: policy {}", self.line, self.kind)
     }
@@ -73,9 +79,10 @@ impl fmt::Display for BlockFault {
 impl Error for BlockFault {}
 
 impl fmt::Display for ScriptError {
+    ghost use Rattle.std.specs.Prelude.{Some};
     ghost use Rattle.gt_script.specs.Faults.{error_text};
 
-    ghost output = { λ error. error_text error };
+    ghost output = { λ error. Some (error_text error) };
 
     fn fmt<W: fmt::Write>(&self, f: &mut fmt::Formatter<W>) -> fmt::Result {
         match self {

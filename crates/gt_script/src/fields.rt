@@ -9,6 +9,15 @@ use crate::numbers::{Number, decimal};
 use crate::texts::Text;
 use gt_types::{DOMID_SELF, DomId, GrantRef, LAST_GENERATION};
 
+/// The flag of a map into the caller's memory: `GNTMAP_host_map` of the public header `grant_table.h`.
+const HOST_MAP: u32 = 2;
+
+/// The flag of a map that only reads: `GNTMAP_readonly` of the same header.
+const READONLY: u32 = 4;
+
+/// The most characters of a label behind its first.
+const MOST_BEHIND_LETTER: usize = 31;
+
 /// The most steps that a tick may ask for; the least is one.
 const MOST_TICKS: u64 = 100_000;
 
@@ -76,14 +85,14 @@ pub fn mode(word: &[u8]) -> Option<bool>
     }
 }
 
-/// The flags of a map: a number, or `rw` for 2 and `ro` for 6.
+/// The flags of a map: a number, or `rw` for host_map and `ro` for host_map with readonly.
 #[tactic(auto, unfolding(crate::specs::Fields::flags_word))]
 pub fn flags(word: &[u8]) -> Option<u32>
     ensures { result ≡ flags_word word.now }
 {
     match word {
-        b"rw" => Some(2),
-        b"ro" => Some(6),
+        b"rw" => Some(HOST_MAP),
+        b"ro" => Some(HOST_MAP | READONLY),
         _ => u32_of(word),
     }
 }
@@ -157,7 +166,7 @@ fn is_label(word: &[u8]) -> bool
 {
     match word {
         [first, rest @ ..] => {
-            first.is_ascii_alphabetic() && rest.len() <= 31 && are_label_bytes(rest)
+            first.is_ascii_alphabetic() && rest.len() <= MOST_BEHIND_LETTER && are_label_bytes(rest)
         }
         [] => false,
     }

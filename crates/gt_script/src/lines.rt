@@ -26,12 +26,14 @@ pub struct DomainLine<'a> {
     pub version: Number,
 }
 
+/// A line of a script, with what its words say.
 #[derive(Debug, Drop)]
 pub enum Line<'a> {
     Triple(TripleLine<'a>),
     /// `wear N`: the first generation of all entries.
     Wear(u32),
     Domain(DomainLine<'a>),
+    /// A line of the body: its domain, by a number of any size, and what it asks.
     Body { id: Number, action: Action<'a> },
 }
 

@@ -367,7 +367,7 @@ impl<'a> Script<'a> {
         Ok(script)
     }
 
-    // A script with no line at all lacks its head, and one with no domain line its domains.
+    // What a script lacks at its end: a policy or a triple, else a domain.
     #[tactic(auto, unfolding(crate::specs::Script::completed))]
     fn completed(self, count: usize) -> Result<Script<'a>, ScriptError>
         requires { count < 2 ^ 64 - 1 }
@@ -452,7 +452,7 @@ fn newlines(bytes: &[u8]) -> usize
 
 // The bytes as text, if they are not too many.
 fn text_of<'a>(bytes: &'a [u8]) -> Result<&'a str, Fault>
-    ensures text { IfOk result (λ text. (text.now ≡ bytes.entry.now) × (length bytes.entry.now ≤ 1048576) × IsUtf8 bytes.entry.now) }
+    ensures text { IfOk result (λ text. (text.now ≡ bytes.entry.now) × (length bytes.entry.now ≤ MOST_BYTES) × IsUtf8 bytes.entry.now) }
     ensures fault { IfErr result (λ fault. IsUnread bytes.entry.now fault) }
 {
     if bytes.len() > MOST_BYTES {
@@ -479,7 +479,7 @@ pub fn parse<'a>(alloc: Global, bytes: &'a [u8]) -> Result<Script<'a>, ScriptErr
     ensures fault { IfErr result (λ e. Stands bytes.entry.now e) }
 
     // What is read up to one byte past the limit decides for all that there is.
-    ensures beginning { (all : List ℕ) → bytes.entry.now ≡ take 1048577 all → Answers result (Tells all) }
+    ensures beginning { (all : List ℕ) → bytes.entry.now ≡ take (MOST_BYTES + 1) all → Answers result (Tells all) }
 {
     match text_of(bytes) {
         Ok(text) => of_text(alloc, text),

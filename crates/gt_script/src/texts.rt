@@ -1,3 +1,4 @@
+//! Pieces of a script.
 ghost use Rattle.std.specs.Prelude.{◌≡◌};
 
 use std::marker::Model;

@@ -37,6 +37,7 @@ impl<'a> TypeNames<'a> {
     ghost use Rattle.std.specs.Option.{option_map};
     ghost use Rattle.gt_script.specs.Types.{with_type};
 
+    /// No names.
     pub fn new(alloc: Global) -> TypeNames<'a>
         ensures { result ≡ [] }
     {
@@ -45,6 +46,7 @@ impl<'a> TypeNames<'a> {
         }
     }
 
+    /// The names, by their numbers.
     pub fn as_slice(&self) -> &[Text<'a>]
         ensures { result.now ≡ self.now }
     {

@@ -1,4 +1,4 @@
-//! Lines, words, and what single words spell.
+//! Lines and words.
 ghost use Rattle.std.specs.Prelude.{◌≡◌, IfOk, map};
 ghost use Rattle.std.specs.Str.Lines.{lines as lines_in};
 ghost use Rattle.gt_script.specs.Words.{words as words_in, uncommented as without_comment, is_blank as blank, is_nonempty as nonempty};
