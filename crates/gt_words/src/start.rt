@@ -10,7 +10,7 @@ use crate::view::View;
 use crate::words::{Found, Seat};
 use atomic_table::Split;
 use gt_entry::{Entry, Header};
-use gt_types::{Config, DomainConfig};
+use gt_types::{Config, DomId, DomainConfig};
 use std::alloc::{AllocError, Global};
 
 /// How the first seat deals the next one.
@@ -20,6 +20,17 @@ impl Split<View> for Deal {
     ghost left = { dealer_after };
 
     ghost right = { dealt_to };
+}
+
+/// The domains of the run, in order.
+pub(crate) fn domain_ids(alloc: Global, config: &Config) -> Result<Vec<DomId>, AllocError>
+    ensures { IfOk result (λ v. v.items ≡ (layout_of config.now).ids) }
+{
+    let mut ids = Vec::with_capacity(alloc, config.domains.len())?;
+    for domain in &config.domains {
+        ids.push(domain.id)?;
+    }
+    Ok(ids)
 }
 
 // The header of a domain at the start.
