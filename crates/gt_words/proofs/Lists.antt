@@ -33,11 +33,11 @@ module _ {A : Type 0} where
       subst (P (suc i)) (sym (there (suc i) d (omega arith))) (subst (λ (m : ℕ). P m (get_or xs j d)) next (rest j (omega arith) d))
 
   -- what holds of each item by its place holds with one more item behind
-  pub one_behind : (P : ℕ → A → Type 0) (x : A) (xs : List A) → ((i : ℕ) → i < length xs → (d : A) → P i (get_or xs i d)) → P (length xs) x → (i : ℕ) → i < length (xs ++ x ∷ []) → (d : A) → P i (get_or (xs ++ x ∷ []) i d)
-  one_behind P x [] each last zero inside d = last
-  one_behind P x [] each last (suc i) inside d = absurd (omega arith)
-  one_behind P x (y ∷ ys) each last zero inside d = each 0 (omega arith) d
-  one_behind P x (y ∷ ys) each last (suc i) inside d = one_behind (λ n. P (suc n)) x ys (λ j l. each (suc j) (omega arith)) last i (omega arith) d
+  pub one_behind : (P : ℕ → A → Type 0) (x : A) (xs : List A) (d : A) → ((i : ℕ) → i < length xs → P i (get_or xs i d)) → P (length xs) x → (i : ℕ) → i < length (xs ++ x ∷ []) → P i (get_or (xs ++ x ∷ []) i d)
+  one_behind P x [] d each last zero inside = last
+  one_behind P x [] d each last (suc i) inside = absurd (omega arith)
+  one_behind P x (y ∷ ys) d each last zero inside = each 0 (omega arith)
+  one_behind P x (y ∷ ys) d each last (suc i) inside = one_behind (λ n. P (suc n)) x ys d (λ j l. each (suc j) (omega arith)) last i (omega arith)
 
 -- a number is found where it stands, if it does not stand before
 position_or_len-id : (xs : List DomId) (at : ℕ) → at < length xs → ((i : ℕ) → i < at → (id_at xs i).0 ≢ (id_at xs at).0) → position_or_len (λ (x : DomId). x.0 == (id_at xs at).0) xs ≡ at

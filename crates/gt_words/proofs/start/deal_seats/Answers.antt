@@ -36,7 +36,7 @@ loop-at-preserved c = let i = c.loop-at.invariant in let e = c.split_seat-place.
       first = dealer_stays id k 0 c.loop-at.first c.split_seat-place.new.seat i.first e.0 e.2;
       dealt = ap (λ (m : Me (Unit {0}) View). m.0.dealt) e.2 ∙ ap (λ (n : ℕ). n + 1) i.dealt;
       many = let m = i.many in omega (arith, len);
-      each = subst (λ (xs : List SeatOf). (j : ℕ) → j < length xs → (d : SeatOf) → IsNewSeat (record { table = id; layout = k }) (j + 1) (get_or xs j d)) (sym items) (one_behind (λ j. IsNewSeat (record { table = id; layout = k }) (j + 1)) seat seats i.each last);
+      each = subst (λ (xs : List SeatOf). (j : ℕ) → j < length xs → (d : SeatOf) → IsNewSeat (record { table = id; layout = k }) (j + 1) (get_or xs j d)) (sym items) (λ j inside d. one_behind (λ n. IsNewSeat (record { table = id; layout = k }) (n + 1)) seat seats d (λ n l. i.each n l d) last j inside);
     }
 
 pub new_seat-requires-2-clause-place : goal.new_seat-requires-2-clause-place
