@@ -12,19 +12,19 @@ use Rattle.gt_words.specs.Views.{IsIn, LivePin, last_of, pins, steps_on}
 use Rattle.gt_words.specs.declared.view.View.{View}
 use Rattle.gt_bench.specs.declared.mapper.Target.{Target}
 
--- it is a domain of the run
+-- the domain is one of the run (own)
 abbrev pub HasDomain : Layout → DomId → Type 0
 HasDomain k d = position_in k.ids d < length k.ids
 
--- an entry of a domain of the run
+-- the reference is in the table of a domain of the run (own)
 abbrev pub IsEntryOf : Board → DomId → GrantRef → Type 0
 IsEntryOf b d q = HasDomain b.layout d × (q.0 < TABLE_ENTRIES)
 
--- the seat has published no entry from the reference n on
+-- the seat has published no entry from the reference n on (own)
 abbrev pub IsUnusedFrom : ℕ → View → Type 0
 IsUnusedFrom n v = (r : ℕ) → n ≤ r → last_of r v ≡ record { generation = 0; entry = Invalid }
 
--- the view has a read pin of a transitive entry of the domain m, another one than t, which forwarded the seat's domain and leads to the entry r of the domain t
+-- the view has a read pin of a transitive entry of the domain m, another one than t, which forwarded the seat's domain and leads to the entry r of the domain t (own, after grant_table.h, transitive)
 pub record KeepsVia (k : Layout) (t r : ℕ) (m : DomId) (v : View) : Type 0 where
   pub owner : ℕ
   pub reference : ℕ
@@ -36,15 +36,15 @@ pub record KeepsVia (k : Layout) (t r : ℕ) (m : DomId) (v : View) : Type 0 whe
   pub named : id_at k.ids owner ≡ m
   pub apart : t ≢ owner
 
--- the target names the seat's own domain, or one whose transitive entry to the target is kept pinned
+-- the target names the seat's own domain, or one whose transitive entry to the target is kept pinned (own, after grant_table.h, transitive)
 abbrev pub MayMap : Board → Target → View → Type 0
 MayMap b x v = (id_at b.layout.ids v.position ≡ x.named) ⊎ KeepsVia b.layout (position_in b.layout.ids x.granter) x.gref.0 x.named v
 
--- the seat has the pins that it had, but for those of entries of the domain t
+-- the seat has the pins that it had, but for those of entries of the domain t (own)
 abbrev pub KeepsPinsBeyond : ℕ → View → View → Type 0
 KeepsPinsBeyond t v w = (t' r' : ℕ) → t ≢ t' → pins (steps_on t' r' w) ≡ pins (steps_on t' r' v)
 
--- the seat can map the target
+-- the seat can map the target (own)
 pub record CanMap (b : Board) (s : SeatOf) (x : Target) : Type 0 where
   pub seat : IsSeatOf b s
   pub entry : IsEntryOf b x.granter x.gref

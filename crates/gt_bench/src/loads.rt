@@ -32,9 +32,10 @@ pub enum Load {
 /// The most threads of a load.
 const MOST: usize = 4;
 
-/// The domain that grants, and the one that passes its grant on.
+/// The domain that grants.
 const OWNER: DomId = DomId(1);
 
+/// The domain that passes its grant on.
 const MIDDLE: DomId = DomId(2);
 
 /// The entry that the threads of a load share, and the first of those that they have for themselves.
@@ -43,6 +44,7 @@ const SHARED: GrantRef = GrantRef(64);
 /// How far the entries of threads lie apart.
 const APART: u32 = 64;
 
+/// How far they lie apart where they are neighbours.
 const ADJACENT: u32 = 1;
 
 const UNUSED: Row = Row {

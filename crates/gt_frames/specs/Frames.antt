@@ -29,7 +29,7 @@ replay xs (r ∷ rs) = replay (overlay xs r.off r.bytes) rs
 abbrev pub contents : FrameState → List ℕ
 contents f = replay zeros f.journal
 
--- the bytes of a range: so many from an offset on
+-- the bytes of a range: so many from an offset on (own)
 abbrev pub bytes_at : FrameState → ℕ → ℕ → List ℕ
 bytes_at f off len = slice_range (contents f) off (off + len)
 
@@ -54,7 +54,7 @@ covers w owner number off len = suffices w.ground w.writer owner number off len
 abbrev pub is_rightful : DomId → ℕ → Record → Bool
 is_rightful owner number r = nat_le (r.off + length r.bytes) FRAME_SIZE && covers r.writ owner number r.off (length r.bytes)
 
--- each record is so
+-- each record of the list lies in the frame, and its writ is for its range (own)
 abbrev pub all_rightful : DomId → ℕ → List Record → Bool
 all_rightful owner number [] = true
 all_rightful owner number (r ∷ rs) = is_rightful owner number r && all_rightful owner number rs
@@ -63,7 +63,7 @@ all_rightful owner number (r ∷ rs) = is_rightful owner number r && all_rightfu
 abbrev pub IsKept : FrameState → Type 0
 IsKept f = IsTrue (all_rightful f.owner f.number f.journal)
 
--- these bytes are the journal's replay over zeros, and each write was by right
+-- these bytes are the journal's replay over zeros, and each write was by right (own)
 pub record IsSound (owner : DomId) (number : ℕ) (bytes : List ℕ) (journal : List Record) : Type 0 where
   pub replayed : bytes ≡ replay zeros journal
   pub len : length bytes ≡ FRAME_SIZE
@@ -71,7 +71,7 @@ pub record IsSound (owner : DomId) (number : ℕ) (bytes : List ℕ) (journal : 
 
 -- changes
 
--- the frame after one more write
+-- the frame after one more write (own)
 abbrev pub written : FrameState → Writ → ℕ → List ℕ → FrameState
 written f w off ys = record f { journal = f.journal ++ record { writ = w; off = off; bytes = ys } ∷ [] }
 

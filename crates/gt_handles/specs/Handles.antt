@@ -10,11 +10,11 @@ pub record Kept (T : Type 0) : Type 0 where
   pub given : ℕ
   pub room : ℕ
 
--- a slot is stored as the pair of its fields
+-- a slot is stored as the pair of its fields (own)
 abbrev pub slot_code : {T : Type 0} → Coded T → Coded (Slot T)
 slot_code {T} code = code_by (ℕ × T) (coded× coded_ℕ code) (λ s. (s.serial, s.value)) (λ p. record { serial = p.0; value = p.1 }) (λ _. refl)
 
--- the map is stored as the tuple of its fields
+-- the map is stored as the tuple of its fields (own)
 abbrev pub kept_code : {T : Type 0} → Coded T → Coded (Kept T)
 kept_code {T} code =
     code_by
@@ -24,12 +24,12 @@ kept_code {T} code =
     (λ p. record { slots = p.0; given = p.1.0; room = p.1.1 })
     (λ _. refl)
 
--- both are one handle
+-- both are one handle (own)
 abbrev pub same_handle : Handle → Handle → Bool
 same_handle a b = (a.serial == b.serial) && (a.key == b.key)
 
 module _ {T : Type 0} where
-  -- the value of a slot under this serial
+  -- the value of a slot under this serial (own)
   abbrev pub under : ℕ → Option (Slot T) → Option T
   under serial None = None
   under serial (Some slot) = if slot.serial == serial then Some slot.value else None
@@ -38,28 +38,28 @@ module _ {T : Type 0} where
   abbrev pub value_of : Kept T → Handle → Option T
   value_of s h = under h.serial (slice_index_or s.slots h.key None)
 
-  -- how many handles have a value
+  -- how many handles have a value (own)
   abbrev pub count_of : Kept T → ℕ
   count_of s = count_by is_some s.slots
 
-  -- the new map has this under the handle, and every other handle keeps what it had
+  -- the new map has this under the handle, and every other handle keeps what it had (own)
   abbrev pub Updates : Kept T → Kept T → Handle → Option T → Type 0
   Updates old new h what = (other : Handle) → value_of new other ≡ (if same_handle other h then what else value_of old other)
 
-  -- the handle was given, and has no value: it has none for good
+  -- the handle was given, and has no value: it has none for good (own)
   pub record IsSpent (s : Kept T) (h : Handle) : Type 0 where
     pub given : h.serial < s.given
     pub gone : value_of s h ≡ None
 
-  -- what was spent stays so
+  -- what was spent stays so (own)
   abbrev pub KeepsSpent : Kept T → Kept T → Type 0
   KeepsSpent old new = (h : Handle) → IsSpent old h → IsSpent new h
 
-  -- no handle of a lower key has a value
+  -- no handle of a lower key has a value (own)
   abbrev pub IsLeast : Kept T → ℕ → Type 0
   IsLeast s key = (lower : Handle) → lower.key < key → value_of s lower ≡ None
 
-  -- no handle has a value
+  -- no handle has a value (own)
   pub record IsEmpty (s : Kept T) : Type 0 where
     pub count : count_of s ≡ 0
     pub none : (h : Handle) → value_of s h ≡ None
@@ -69,7 +69,7 @@ module _ {T : Type 0} where
     pub given : (h : Handle) (x : T) → value_of s h ≡ Some x → h.serial < s.given
     pub one : (a b : Handle) (x y : T) → value_of s a ≡ Some x → value_of s b ≡ Some y → a.serial ≡ b.serial → a.key ≡ b.key
 
-  -- each slot has a serial that was given and that no other slot has, and no key below the lowest has a value
+  -- each slot has a serial that was given and that no other slot has, and no key below the lowest has a value (own)
   pub record IsInOrder (slots : List (Option (Slot T))) (next lowest : ℕ) : Type 0 where
     pub given : (key : ℕ) (slot : Slot T) → slice_index_or slots key None ≡ Some slot → slot.serial < next
     pub one : (a b : ℕ) (x y : Slot T) → slice_index_or slots a None ≡ Some x → slice_index_or slots b None ≡ Some y → x.serial ≡ y.serial → a ≡ b

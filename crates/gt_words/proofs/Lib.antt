@@ -7,3 +7,4 @@ pub mod Owed
 pub mod Headers
 pub mod Told
 pub mod Opens
+pub mod Dealt

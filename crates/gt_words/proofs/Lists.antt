@@ -1,5 +1,5 @@
 -- An item of a list, by its index.
-use Rattle.std.proofs.Common.{◌≡◌, ◌≢◌, ℕ, zero, suc, ◌+◌, ◌-◌, ◌<◌, ◌≤◌, Bool, not, cond, ◌==◌, List, [], ◌∷◌, map, length, get_or, set, sym, refl, ap, ◌∙◌, subst, arith, eq-eqb, ne_eqb, Some, None}
+use Rattle.std.proofs.Common.{◌≡◌, ◌≢◌, ℕ, zero, suc, ◌+◌, ◌-◌, ◌<◌, ◌≤◌, Bool, not, cond, ◌==◌, List, [], ◌∷◌, ◌++◌, map, length, get_or, set, sym, refl, ap, ◌∙◌, subst, arith, eq-eqb, ne_eqb, Some, None}
 use Rattle.std.specs.Prelude.{AllPairs, unwrap_or, nat_lt}
 use Rattle.std.proofs.lemmas.Bool.Decides.{nat_tests}
 use Rattle.std.specs.List.{position_or_len}
@@ -31,6 +31,13 @@ module _ {A : Type 0} where
   one_in_front P x xs ys n first rest long here there zero inside d = subst (P 0) (sym (here d)) first
   one_in_front P x xs ys n first rest long here there (suc i) inside d = let j : ℕ = suc i - 1 in let next : j + 1 ≡ suc i = omega arith in
       subst (P (suc i)) (sym (there (suc i) d (omega arith))) (subst (λ (m : ℕ). P m (get_or xs j d)) next (rest j (omega arith) d))
+
+  -- what holds of each item by its place holds with one more item behind
+  pub one_behind : (P : ℕ → A → Type 0) (x : A) (xs : List A) (d : A) → ((i : ℕ) → i < length xs → P i (get_or xs i d)) → P (length xs) x → (i : ℕ) → i < length (xs ++ x ∷ []) → P i (get_or (xs ++ x ∷ []) i d)
+  one_behind P x [] d each last zero inside = last
+  one_behind P x [] d each last (suc i) inside = absurd (omega arith)
+  one_behind P x (y ∷ ys) d each last zero inside = each 0 (omega arith)
+  one_behind P x (y ∷ ys) d each last (suc i) inside = one_behind (λ n. P (suc n)) x ys d (λ j l. each (suc j) (omega arith)) last i (omega arith)
 
 -- a number is found where it stands, if it does not stand before
 position_or_len-id : (xs : List DomId) (at : ℕ) → at < length xs → ((i : ℕ) → i < at → (id_at xs i).0 ≢ (id_at xs at).0) → position_or_len (λ (x : DomId). x.0 == (id_at xs at).0) xs ≡ at

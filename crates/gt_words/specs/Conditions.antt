@@ -31,31 +31,31 @@ use Rattle.gt_types.specs.declared.config.StartFault.TheVariants as fault
 use Rattle.gt_words.specs.declared.view.Change.TheVariants as change
 use Rattle.gt_words.specs.declared.view.HeaderStep.TheVariants as header
 
--- What clauses see of the words: which table of words it is, and the run that it serves
+-- what clauses see of the words: which table of words it is, and the run that it serves (own)
 pub record Board : Type 0 where
   pub table : TableId
   pub layout : Layout
 
--- What clauses see of a seat: the table of words that it is of, its domain and its view
+-- what clauses see of a seat: the table of words that it is of, its domain and its view (own)
 pub record SeatOf : Type 0 where
   pub table : TableId
   pub dom : DomId
   pub view : View
 
--- the seat is of these words, knows their domains, and is of the domain at its position
+-- the seat is of these words, knows their domains, and is of the domain at its position (own)
 pub record IsSeatOf (b : Board) (s : SeatOf) : Type 0 where
   pub table : s.table ≡ b.table
   pub inside : s.view.position < length b.layout.ids
   pub named : id_at b.layout.ids s.view.position ≡ s.dom
   pub ids : s.view.ids ≡ b.layout.ids
 
--- the header has version 1 or 2, and a number of table frames within the limit
+-- the header has version 1 or 2, and a number of table frames within the limit (versions: grant_table.h; the limit: own)
 pub record IsKeptHeader (h : Header) : Type 0 where
   pub version : (h.version ≡ 1) ⊎ (h.version ≡ 2)
   pub some : 0 < h.frames
   pub few : h.frames ≤ MAX_TABLE_FRAMES
 
--- the same seat, whatever it knows
+-- the seat is of the same table and domain and began with the same run, whatever it knows by now (own)
 pub record IsSameSeat (s s' : SeatOf) : Type 0 where
   pub table : s'.table ≡ s.table
   pub dom : s'.dom ≡ s.dom
@@ -64,31 +64,31 @@ pub record IsSameSeat (s s' : SeatOf) : Type 0 where
   pub headers : s'.view.headers ≡ s.view.headers
   pub ids : s'.view.ids ≡ s.view.ids
 
--- the words of each domain
+-- there are so many words for each domain, and at most 64 domains (own)
 abbrev pub IsWide : ℕ → Layout → Type 0
 IsWide words k = (words ≡ k.domains * DOMAIN_WORDS) × (k.domains ≤ 64)
 
--- the word has the owner's part and the generation of this record, and some pins
+-- the word has the owner's part and the generation of this record, and some pins (own)
 abbrev pub IsWordOf : Record → ℕ → Type 0
 IsWordOf x word = (reads : ℕ) × (writes : ℕ) × (reads < 4096) × (writes < 4096) × (word ≡ word_of x.entry x.generation reads writes)
 
--- the same, with no pins
+-- the word has the owner's part and the generation of this record, and no pins (own)
 abbrev pub IsIdleOf : Record → ℕ → Type 0
 IsIdleOf x word = word ≡ idle_word_of x.entry x.generation
 
--- the same, with a pin at least
+-- the word has the owner's part and the generation of this record, and a pin at least (own)
 abbrev pub IsBusyOf : Record → ℕ → Type 0
 IsBusyOf x word = (reads : ℕ) × (writes : ℕ) × (reads < 4096) × (writes < 4096) × (word ≡ word_of x.entry x.generation reads writes) × ((reads ≢ 0) ⊎ (writes ≢ 0))
 
--- the seat's last look at the entry found this word, and it read the body words since
+-- the seat's last look at the entry r of the domain t found this word, and it read the body words since (own)
 abbrev pub HasLooked : ℕ → ℕ → View → ℕ → Type 0
 HasLooked t r v word = (seen (steps_on t r v) ≡ Some (last_seen t r v)) × ((last_seen t r v).word ≡ word) × HasBody (last_seen t r v)
 
--- the seat holds a pin of this entry, kind and generation
+-- the seat holds a pin of this kind and generation of the entry r of the domain t (own)
 abbrev pub Holds : ℕ → ℕ → Dir → ℕ → View → Type 0
 Holds t r d g v = (p : LivePin) × IsIn p (pins (steps_on t r v)) × (p.0 ≡ d) × (p.1.generation ≡ g)
 
--- the view has a pin of that kind of a Via to the entry r of the domain t, which forwarded the seat's domain, and the record x permits the owner of that Via
+-- the view has a pin of that kind of a Via to the entry r of the domain t, which forwarded the seat's domain, and the record x permits the owner of that Via (own, after grant_table.h, transitive)
 pub record PermitsOwnerOfVia (k : Layout) (t r : ℕ) (v : View) (d : Dir) (x : Record) : Type 0 where
   pub owner : ℕ
   pub reference : ℕ
@@ -103,56 +103,56 @@ pub record PermitsOwnerOfVia (k : Layout) (t r : ℕ) (v : View) (d : Dir) (x : 
 abbrev pub MayPin : Layout → ℕ → ℕ → View → Dir → Record → Type 0
 MayPin k t r v d x = PermitsPin x.entry (id_at k.ids v.position) d ⊎ (ForwardsPin x.entry (id_at k.ids v.position) d ⊎ PermitsOwnerOfVia k t r v d x)
 
--- no view has a pin of the entry
+-- no view has a pin of the entry r of the domain t (own)
 abbrev pub HasNoPins : {S : Type 0} → ℕ → ℕ → State S View → Type 0
 HasNoPins t r s = (i : ℕ) (v : View) → get_elem? s.views i ≡ some v → pins (steps_on t r v) ≡ []
 
--- no view has a write pin of the entry
+-- no view has a write pin of the entry r of the domain t (own)
 abbrev pub HasNoWritePins : {S : Type 0} → ℕ → ℕ → State S View → Type 0
 HasNoWritePins t r s = (i : ℕ) (v : View) → get_elem? s.views i ≡ some v → pin_count Write (pins (steps_on t r v)) ≡ 0
 
--- while a view has a pin of an entry, its control word counts it
+-- in each state that words and views show, the control word of the entry counts the pins of that kind that a view has of it (own)
 abbrev pub CountsPins : Layout → ℕ → ℕ → Dir → Type 0
 CountsPins k t r d = (s : State (Unit {0}) View) (i : ℕ) (v : View) → Shows k s → get_elem? s.views i ≡ some v → pin_count d (pins (steps_on t r v)) ≤ pins_in d (slice_index s.words (place t r 0))
 
--- the word is of no earlier generation than the one last seen
+-- the word is of no earlier generation than the one that the view saw last of the entry, if it saw one (own)
 abbrev pub IsNotEarlier : ℕ → ℕ → View → ℕ → Type 0
 IsNotEarlier t r v word = IfSome (seen (steps_on t r v)) (λ s. generation_of s.word ≤ generation_of word)
 
--- the seat has the pins that it had
+-- the seat has the pins that it had (own)
 abbrev pub KeepsPins : View → View → Type 0
 KeepsPins v w = (t r : ℕ) → pins (steps_on t r w) ≡ pins (steps_on t r v)
 
--- the seat added the step m on the entry r of the domain t to its view, and nothing else
+-- the seat added the step m on the entry r of the domain t to its view, and nothing else (own)
 pub record AddsToEntry (t r : ℕ) (m : EntryStep) (v w : View) : Type 0 where
   pub view : w ≡ with_step (on_entry t r m) v
   pub here : steps_on t r w ≡ m ∷ steps_on t r v
   pub others : (t' r' : ℕ) → (t ≡ t' → r ≡ r' → ⊥) → steps_on t' r' w ≡ steps_on t' r' v
   pub headers : (t' : ℕ) → steps_on_header t' w ≡ steps_on_header t' v
 
--- the same on the header of the domain t
+-- the seat added the step m on the header of the domain t to its view, and nothing else (own)
 pub record AddsToHeader (t : ℕ) (m : HeaderStep) (v w : View) : Type 0 where
   pub view : w ≡ with_step (on_header t m) v
   pub here : steps_on_header t w ≡ m ∷ steps_on_header t v
   pub others : (t' : ℕ) → t ≢ t' → steps_on_header t' w ≡ steps_on_header t' v
   pub entries : (t' r' : ℕ) → steps_on t' r' w ≡ steps_on t' r' v
 
--- the step m was taken on the control word of the entry r of the domain t
+-- the step m was taken on the control word of the entry r of the domain t, where it found and left these numbers (own)
 pub record Steps (k : Layout) (t r : ℕ) (m : EntryStep) (found left : ℕ) (v w : View) : Type 0 where
   pub adds : AddsToEntry t r m v w
   pub step : TakesStep (Unit {0}) k v (on_entry t r m) (place t r 0) found left
 
--- the step was taken on a body word of the entry
+-- the step m was taken on the body word h of the entry r of the domain t, where it found and left these numbers (own)
 pub record BodySteps (k : Layout) (t r : ℕ) (h : Half) (m : EntryStep) (found left : ℕ) (v w : View) : Type 0 where
   pub adds : AddsToEntry t r m v w
   pub step : TakesStep (Unit {0}) k v (on_entry t r m) (place t r (half_index h)) found left
 
--- the step was taken on the header word of the domain t
+-- the step m was taken on the header word of the domain t, where it found and left these numbers (own)
 pub record HeaderSteps (k : Layout) (t : ℕ) (m : HeaderStep) (found left : ℕ) (v w : View) : Type 0 where
   pub adds : AddsToHeader t m v w
   pub step : TakesStep (Unit {0}) k v (on_header t m) (header_place t) found left
 
--- the owner stored a body word of its entry r
+-- the owner stored this value in the body word h of its entry r, by one step (own)
 pub record StoresBody (k : Layout) (r : ℕ) (h : Half) (value : ℕ) (v w : View) : Type 0 where
   pub found : ℕ
   pub steps : BodySteps k v.position r h (StoredBody h value) found value v w
@@ -160,40 +160,40 @@ pub record StoresBody (k : Layout) (r : ℕ) (h : Half) (value : ℕ) (v w : Vie
   pub unchanged : own_list r w ≡ own_list r v
   pub pins : KeepsPins v w
 
--- the owner stored its header
+-- the owner stored this value as its header, by one step (own)
 pub record StoresHeader (k : Layout) (value : ℕ) (v w : View) : Type 0 where
   pub found : ℕ
   pub steps : HeaderSteps k v.position (header.Stored value) found value v w
   pub header : own_header w ≡ value
   pub pins : KeepsPins v w
 
--- a pin was given back: the word has one pin less of that kind
+-- a pin was given back by one step: the word counted one of that kind at least, and counts one less now (own)
 pub record Unpins (k : Layout) (t r : ℕ) (d : Dir) (g : ℕ) (v w : View) : Type 0 where
   pub found : ℕ
   pub counted : 0 < pins_in d found
   pub steps : Steps k t r (Unpinned d g) found (found - unit_of d) v w
 
--- A pin was taken: of the entry as it was last seen, which was then the last record of its owner's list
+-- a pin was taken by one step: of the entry as it was last seen, which was then the last record of its owner's list, and which the seat may pin (own)
 pub record Pins (k : Layout) (t r : ℕ) (d : Dir) (word : ℕ) (v w : View) : Type 0 where
   pub steps : Steps k t r (Pinned d word (record_seen (last_seen t r v))) word (word + unit_of d) v w
   pub current : (shown_entry k t r steps.step.before).current ≡ record_seen (last_seen t r v)
   pub permitted : MayPin k t r v d (record_seen (last_seen t r v))
   pub held : Holds t r d (generation_of word) w
 
--- A pin was missed: the word found is another
+-- a pin was missed: the word found is another, and the seat has the pins that it had (own)
 pub record MissesPin (k : Layout) (t r : ℕ) (d : Dir) (word found : ℕ) (v w : View) : Type 0 where
   pub another : found ≢ word
   pub steps : Steps k t r (PinMissed d word found) found found v w
   pub not_earlier : IsNotEarlier t r v found
   pub pins : KeepsPins v w
 
--- The owner's exchange was taken: the record y is the last one now
+-- the owner's exchange was taken, and its last record of the entry r is y now (own)
 pub record Changes (k : Layout) (r : ℕ) (c : Change) (word new : ℕ) (y : Record) (v w : View) : Type 0 where
   pub steps : Steps k v.position r (Changed c word new y) word new v w
   pub last : last_of r w ≡ y
   pub pins : KeepsPins v w
 
--- The owner's exchange was missed: the word found is another of the same record, and the owner's list is as it was
+-- the owner's exchange was missed: the word found is another of the same record, and the owner's list is as it was (own)
 pub record MissesChange (k : Layout) (r : ℕ) (c : Change) (word found : ℕ) (v w : View) : Type 0 where
   pub another : found ≢ word
   pub same_record : IsWordOf (last_of r v) found
@@ -202,22 +202,22 @@ pub record MissesChange (k : Layout) (r : ℕ) (c : Change) (word found : ℕ) (
   pub not_earlier : IsNotEarlier v.position r v found
   pub pins : KeepsPins v w
 
--- The entry was made invalid by one exchange, in a state in which no view had a pin of it
+-- the entry was made invalid by one exchange, in a state in which no view had a pin of it (own)
 pub record Revokes (k : Layout) (r : ℕ) (word : ℕ) (v w : View) : Type 0 where
   pub changes : Changes k r change.Revoke word (invalid_word word) (invalid_at (last_of r v).generation) v w
   pub no_pins : HasNoPins v.position r changes.steps.step.before
 
--- The entry was made read-only by one exchange, in a state in which no view had a write pin of it
+-- the entry was made read-only by one exchange, in a state in which no view had a write pin of it (own)
 pub record Demotes (k : Layout) (r : ℕ) (word : ℕ) (v w : View) : Type 0 where
   pub changes : Changes k r change.Demote word (demoted_word word) (turned true (last_of r v)) v w
   pub no_write_pins : HasNoWritePins v.position r changes.steps.step.before
 
--- Why words are not made: the first fault of the configuration, or no memory where it has none
+-- why words are not made: the first fault of the configuration, or no memory where it has none (own)
 abbrev pub IsStartFault : Config → StartFault → Type 0
 IsStartFault c (fault.Config f) = (¬ IsWithinLimits c) × IsFirstFault c f
 IsStartFault c fault.Memory = IsWithinLimits c
 
--- the seat at the position i, which has done nothing
+-- the seat at the position i, which has done nothing (own)
 pub record IsNewSeat (b : Board) (i : ℕ) (s : SeatOf) : Type 0 where
   pub seat : IsSeatOf b s
   pub position : s.view.position ≡ i
@@ -225,6 +225,6 @@ pub record IsNewSeat (b : Board) (i : ℕ) (s : SeatOf) : Type 0 where
   pub headers : s.view.headers ≡ b.layout.headers
   pub steps : s.view.steps ≡ []
 
--- the words at the start
+-- the words at the start: the first header of each domain, the invalid word of the first generation for each entry, and zeros (own)
 abbrev pub initial : Layout → ℕ → ℕ
 initial k i = cond (i % DOMAIN_WORDS == 0) (slice_index k.headers (i / DOMAIN_WORDS)) (cond (i % DOMAIN_WORDS % ENTRY_WORDS == 0) (17592186044416 * k.first) 0)

@@ -11,14 +11,15 @@ use Rattle.gt_entry.specs.Permits.{permits, forwards}
 use Rattle.gt_entry.specs.Spelling.{low_bits}
 use Rattle.gt_entry.specs.Words.{control_of, pins_of, kind_of}
 
+-- the generation in a control word (own)
 abbrev pub generation_of : ℕ → ℕ
 generation_of word = (control_of word).generation
 
--- the number of pins of this kind that a control word counts
+-- the number of pins of this kind that a control word counts (own)
 abbrev pub pins_in : Dir → ℕ → ℕ
 pins_in d word = pins_of d (control_of word)
 
--- the word is none of an invalid entry
+-- the word is none of an invalid entry (own)
 abbrev pub IsValid : ℕ → Type 0
 IsValid word = kind_of word ≢ KindInvalid
 
@@ -26,18 +27,20 @@ IsValid word = kind_of word ≢ KindInvalid
 abbrev pub invalid_word : ℕ → ℕ
 invalid_word word = 17592186044416 * generation_of word
 
--- the word of the same entry read-only, or writable, at the next generation (own)
+-- the word of the same entry read-only, at the next generation, if the entry was writable (own)
 abbrev pub demoted_word : ℕ → ℕ
 demoted_word word = word + 17592186044420
 
+-- the word of the same entry writable, at the next generation, if the entry was read-only (own)
 abbrev pub promoted_word : ℕ → ℕ
 promoted_word word = word + 17592186044412
 
+-- the word of the same entry with this readonly, at the next generation, if it had the other (own)
 abbrev pub turned_word : Bool → ℕ → ℕ
 turned_word true word = demoted_word word
 turned_word false word = promoted_word word
 
--- the word is that of an entry that has the other readonly
+-- the word is that of an entry that has the other readonly (own)
 abbrev pub IsTurnable : Bool → ℕ → Type 0
 IsTurnable o word = (e : Entry) × (rest : ℕ) × (e ≢ Invalid) × (is_read_only e ≡ not o) × (word ≡ low_bits e + 16 * rest)
 

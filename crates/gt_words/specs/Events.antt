@@ -13,29 +13,30 @@ use Rattle.gt_words.specs.declared.view.View.{View}
 use Rattle.gt_words.specs.Views.{LivePin, pins, without_pin, last_record, stored_body, steps_on, steps_on_header}
 use Rattle.gt_words.specs.Rule.{Layout, owner_steps, header_now}
 
--- an entry of the core: entry and generation, the body words, and the live pins of each domain
+-- an entry of the core: entry and generation, the body words, and the live pins of each domain (own)
 pub record EntryState : Type 0 where
   pub current : Record
   pub first : ℕ
   pub second : ℕ
   pub live : List (List LivePin)
 
+-- an entry of the domain t as the steps of each seat on it leave it, from the first generation g (own)
 abbrev pub entry_by : ℕ → ℕ → List (List EntryStep) → EntryState
 entry_by g t hs = record { current = last_record g (owner_steps t hs); first = stored_body First (owner_steps t hs); second = stored_body Second (owner_steps t hs); live = map pins hs }
 
--- the entry r of the domain t that the state shows
+-- the entry r of the domain t that the state shows (own)
 abbrev pub shown_entry : {S : Type 0} → Layout → ℕ → ℕ → State S View → EntryState
 shown_entry k t r s = entry_by k.first t (map (steps_on t r) s.views)
 
--- the header of the domain t that the state shows
+-- the header of the domain t that the state shows (own)
 abbrev pub shown_header : {S : Type 0} → Layout → ℕ → State S View → ℕ
 shown_header k t s = header_now k t (map (steps_on_header t) s.views)
 
--- the pins of the domain i
+-- the live pins of the domain i (own)
 abbrev pub live_of : ℕ → EntryState → List LivePin
 live_of i x = slice_index_or x.live i []
 
--- what a step of the domain i on an entry makes of it: a taken pin is one more, an unpin takes it away, a store sets a body word, a taken exchange sets the record, and all else leaves it
+-- what a step of the domain i on an entry makes of it: a taken pin is one more, an unpin takes it away, a store sets a body word, a taken exchange sets the record, and all else leaves it (own)
 abbrev pub entry_after : ℕ → EntryStep → EntryState → EntryState
 entry_after i (Looked n) x = x
 entry_after i (ReadBody h n) x = x
@@ -47,32 +48,33 @@ entry_after i (StoredBody First n) x = record x { first = n }
 entry_after i (StoredBody Second n) x = record x { second = n }
 entry_after i (Changed c e n y) x = record x { current = y }
 
--- what a step on a header makes of it
+-- what a step on a header makes of it: a store sets it, and a look leaves it (own)
 abbrev pub header_after : HeaderStep → ℕ → ℕ
 header_after (header.Looked n) w = w
 header_after (header.Stored n) w = n
 
--- the event on the entry r of the domain t: none but that on it changes it
+-- what a step of the domain i makes of the entry r of the domain t: none but a step on it changes it (own)
 abbrev pub event_on_entry : ℕ → Step → ℕ → ℕ → EntryState → EntryState
 event_on_entry i (Entry d q m) t r x = cond ((d == t) && (q == r)) (entry_after i m x) x
 event_on_entry i (Header d m) t r x = x
 
--- the event on the header of the domain t
+-- what a step makes of the header of the domain t: none but a step on it changes it (own)
 abbrev pub event_on_header : Step → ℕ → ℕ → ℕ
 event_on_header (Header d m) t w = cond (d == t) (header_after m w) w
 event_on_header (Entry d q m) t w = w
 
--- The step x of the domain i takes the state shown before to the one that the event of the core gives
+-- the step x of the domain i takes the state shown before to the one that the event of the core gives (own)
 pub record Happens {S : Type 0} (k : Layout) (i : ℕ) (x : Step) (before after : State S View) : Type 0 where
   pub entries : (t r : ℕ) → shown_entry k t r after ≡ event_on_entry i x t r (shown_entry k t r before)
   pub headers : (t : ℕ) → shown_header k t after ≡ event_on_header x t (shown_header k t before)
 
--- only the owner stores and changes
+-- a step of the domain i on an entry of the domain t stores or changes only if i is t (own)
 abbrev pub IsByOwner : ℕ → ℕ → EntryStep → Type 0
 IsByOwner i t (StoredBody h n) = i ≡ t
 IsByOwner i t (Changed c e n y) = i ≡ t
 IsByOwner i t _ = Unit {0}
 
+-- a step of the domain i on the header of the domain t stores only if i is t (own)
 abbrev pub HeaderByOwner : ℕ → ℕ → HeaderStep → Type 0
 HeaderByOwner i t (header.Stored n) = i ≡ t
 HeaderByOwner i t (header.Looked n) = Unit {0}

@@ -20,7 +20,7 @@ use Rattle.gt_words.specs.declared.view.HeaderStep.{HeaderStep}
 use Rattle.gt_words.specs.declared.view.Record.{Record}
 use Rattle.gt_words.specs.declared.view.View.{View}
 
--- the run as the words need it: the domains in order, the first generation of all entries, and the first header of each domain
+-- the run as the words need it: the domains in order, their number, the first generation of all entries, and the first header of each domain (own)
 pub record Layout : Type 0 where
   pub ids : List DomId
   pub domains : ℕ
@@ -31,65 +31,68 @@ pub record Layout : Type 0 where
 abbrev pub header_number : ℕ → ℕ → ℕ
 header_number version frames = version + frames * 4
 
--- the same header with another version, and with another number of table frames
+-- the same header with another version (own)
 abbrev pub version_set : ℕ → ℕ → ℕ
 version_set version w = header_number version (w / 4)
 
+-- the same header with another number of table frames (own)
 abbrev pub frames_set : ℕ → ℕ → ℕ
 frames_set frames w = header_number (w % 4) frames
 
+-- the run of a configuration (own)
 abbrev pub layout_of : Config → Layout
 layout_of c = record { ids = map (λ d. d.id) c.domains.items; domains = length c.domains.items; first = c.first_gen; headers = map (λ d. header_number d.version d.table_frames) c.domains.items }
 
--- the position of a domain among those of the run, or their number where it is none of them
+-- the position of a domain among those of the run, or their number where it is none of them (own)
 abbrev pub position_in : List DomId → DomId → ℕ
 position_in xs d = unwrap_or (position (λ x. x.0 == d.0) xs) (length xs)
 
--- the number of the domain at a position
+-- the number of the domain at a position (own)
 abbrev pub id_at : List DomId → ℕ → DomId
 id_at xs t = slice_index_or xs t (record { 0 = 0 })
 
--- where the words stand: each domain has its header word, and then three words for each of its entries, each at a stride of its own (own)
+-- where the word j of the entry r of the domain t stands: behind the header of its domain, each entry at a stride of its own (own)
 abbrev pub place : ℕ → ℕ → ℕ → ℕ
 place t r j = t * DOMAIN_WORDS + (ENTRY_WORDS * r + (ENTRY_WORDS + j))
 
+-- where the header word of a domain stands: first of its words (own)
 abbrev pub header_place : ℕ → ℕ
 header_place t = t * DOMAIN_WORDS
 
--- each part of the record is in its range
+-- each part of the record is in its range (own)
 abbrev pub IsRecord : Record → Type 0
 IsRecord x = IsEntry x.entry × (x.generation < 1048576)
 
--- x is the record y revoked: invalid, of the same generation
+-- x is the record y revoked: invalid, of the same generation (own)
 abbrev pub IsRevocation : Record → Record → Type 0
 IsRevocation x y = (x.entry ≡ Invalid) × (x.generation ≡ y.generation)
 
--- x is an entry of the next generation: a publication after an invalid record, or the record before with the other readonly
+-- x is an entry of the next generation: a publication after an invalid record, or the record before with the other readonly (own)
 abbrev pub IsNextEntry : Record → Record → Type 0
 IsNextEntry x y = (x.generation ≡ y.generation + 1) × (x.entry ≢ Invalid) × ((y.entry ≡ Invalid) ⊎ (x.entry ≡ with_ro (not (is_read_only y.entry)) y.entry))
 
--- the record x may come next after y
+-- the record x may come next after y (own)
 abbrev pub MayFollow : Record → Record → Type 0
 MayFollow x y = IsRevocation x y ⊎ IsNextEntry x y
 
--- the list of records that x ends, with what came before it
+-- the owner's list, x the last record and behind it the earlier ones: the first is invalid, and each other may come next after the one before it (own)
 abbrev pub IsLawful : Record → List Record → Type 0
 IsLawful x [] = IsRecord x × (x.entry ≡ Invalid)
 IsLawful x (y ∷ ys) = IsRecord x × MayFollow x y × IsLawful y ys
 
--- the pins of a kind on an entry, added up seat by seat
+-- the pins of a kind on an entry, added up seat by seat (own)
 abbrev pub total_pins : Dir → List (List EntryStep) → ℕ
 total_pins d [] = 0
 total_pins d (h ∷ hs) = pin_count d (pins h) + total_pins d hs
 
--- the body values read are those of the entry
+-- the body values read are those of the entry (own)
 abbrev pub Agrees : Entry → Option ℕ → Option ℕ → Type 0
 Agrees Invalid a b = Unit {0}
 Agrees (Page d o f) a b = IfSome a (λ x. x ≡ f)
 Agrees (Sub d o f y n) a b = IfSome a (λ x. x ≡ f) × IfSome b (λ x. x ≡ y + n * 65536)
 Agrees (Via d o t r) a b = IfSome a (λ x. x ≡ t.0 + r.0 * 65536)
 
--- the word seen spells a record of the owner's list x ∷ xs, and so do the body values read since, if that record is still the last one
+-- the word seen spells a record of the owner's list x ∷ xs, and so do the body values read since, if that record is still the last one (own)
 pub record IsSeenOf (x : Record) (xs : List Record) (s : Seen) : Type 0 where
   pub at : Record
   pub reads : ℕ
@@ -99,11 +102,12 @@ pub record IsSeenOf (x : Record) (xs : List Record) (s : Seen) : Type 0 where
   pub spelled : s.word ≡ word_of at.entry at.generation reads writes
   pub agrees : x ≡ at → Agrees at.entry s.first s.second
 
+-- what a seat saw last, if anything, is of the owner's list x ∷ xs (own)
 abbrev pub SawRecord : Record → List Record → Option Seen → Type 0
 SawRecord x xs None = Unit {0}
 SawRecord x xs (Some s) = IsSeenOf x xs s
 
--- The words of one entry and the steps of each seat on it show the last record x, after the records xs
+-- the words of one entry and the steps of each seat on it show the last record x, after the records xs (own)
 pub record ShowsRecord (x : Record) (xs : List Record) (word a b : ℕ) (hs : List (List EntryStep)) : Type 0 where
   -- owner part and generation of the control word spell the last record, and its counts are the sums of the views' pins
   pub spelled : word ≡ word_of x.entry x.generation (total_pins Read hs) (total_pins Write hs)
@@ -116,26 +120,26 @@ pub record ShowsRecord (x : Record) (xs : List Record) (word a b : ℕ) (hs : Li
   pub pinned : (i : ℕ) (h : List EntryStep) → get_elem? hs i ≡ some h → (p : LivePin) → IsIn p (pins h) → IsIn p.1 (x ∷ xs)
   pub saw : (i : ℕ) (h : List EntryStep) → get_elem? hs i ≡ some h → SawRecord x xs (seen h)
 
--- the owner's steps on the entry, out of those of each seat
+-- the owner's steps on the entry, out of those of each seat (own)
 abbrev pub owner_steps : ℕ → List (List EntryStep) → List EntryStep
 owner_steps t hs = slice_index_or hs t []
 
--- the same where the records and the body words are those of the owner t
+-- words and steps show the last record of the owner t, after its earlier ones, and the body words are those that it stored last (own)
 pub record ShowsEntry (g t word a b : ℕ) (hs : List (List EntryStep)) : Type 0 where
   pub record_shown : ShowsRecord (last_record g (owner_steps t hs)) (earlier_records g (owner_steps t hs)) word a b hs
   pub first : a ≡ stored_body First (owner_steps t hs)
   pub second : b ≡ stored_body Second (owner_steps t hs)
 
--- version 1 or 2, and a number of table frames within the limit
+-- version 1 or 2, and a number of table frames within the limit (versions: grant_table.h; the limit: own)
 abbrev pub IsHeader : ℕ → Type 0
 IsHeader w = (version : ℕ) × (frames : ℕ) × ((version ≡ 1) ⊎ (version ≡ 2)) × (0 < frames) × (frames ≤ MAX_TABLE_FRAMES) × (w ≡ header_number version frames)
 
--- the header of the domain t, by the steps of each seat on it
+-- the header of the domain t, by the steps of each seat on it (own)
 abbrev pub header_now : Layout → ℕ → List (List HeaderStep) → ℕ
 header_now k t hs = stored_header (slice_index k.headers t) (slice_index_or hs t [])
 
--- Words and views show a state of the core (own)
 module _ {S : Type 0} where
+  -- words and views show a state of the core (own)
   pub record Shows (k : Layout) (s : State S View) : Type 0 where
     pub wide : length s.words ≡ k.domains * DOMAIN_WORDS
     -- the first seat deals the others, and counts them

@@ -25,7 +25,7 @@ use Rattle.gt_words.specs.declared.view.Purpose.TheVariants as purpose
 use Rattle.gt_words.specs.declared.view.HeaderStep.TheVariants as header
 use Rattle.gt_words.specs.declared.view.Step.TheVariants as step_of
 
--- The seat with the view v takes the step x on this word, where it finds one number and leaves another: words and views show a state before it and after it, and it takes the one to what the core's event makes of it (own)
+-- the seat with the view v takes the step x on this word, where it finds and leaves these numbers: words and views show a state before it and after it, and it takes the one to what the core's event makes of it (own)
 pub record TakesStep (S : Type 0) (k : Layout) (v : View) (x : Step) (word found left : ℕ) : Type 0 where
   pub before : State S View
   pub shown : Shows k before
@@ -34,59 +34,67 @@ pub record TakesStep (S : Type 0) (k : Layout) (v : View) (x : Step) (word found
   pub still_shown : Shows k (stepped before word left v.position [] (with_step x v) keeps)
   pub happens : Happens k v.position x before (stepped before word left v.position [] (with_step x v) keeps)
 
--- a step on the entry r of the domain t
+-- a step on the entry r of the domain t (own)
 abbrev pub on_entry : ℕ → ℕ → EntryStep → Step
 on_entry t r m = step_of.Entry t r m
 
--- a step on the header of the domain t
+-- a step on the header of the domain t (own)
 abbrev pub on_header : ℕ → HeaderStep → Step
 on_header t m = step_of.Header t m
 
--- a kind of step: the step by the number found, and the number that it leaves
+-- a kind of step: the step by the number found, and the number that it leaves (own)
 pub record StepKind : Type 0 where
   pub layout : Layout
   pub step : ℕ → Step
   pub leaves : ℕ → ℕ
 
--- what a step of this kind tells its caller
+-- what a step of this kind tells its caller: its view gained the step, which was taken on words and views that show a state (own)
 abbrev pub tells : {S : Type 0} → StepKind → TableStep S → Me S View → ℕ → Me S View → Type 0
 tells {S} d st m n m' = (m'.1 ≡ m.1) × (m'.0 ≡ with_step (d.step n) m.0) × TakesStep S d.layout m.0 (d.step n) st.word n (d.leaves n)
 
--- the same of a store, which does not say what it found
+-- the same of a store, which does not say what it found (own)
 abbrev pub tells_stored : {S : Type 0} → StepKind → TableStep S → Me S View → Me S View → Type 0
 tells_stored {S} d st m m' = (found : ℕ) × tells {S = S} d st m found m'
 
 -- the kinds of step
 
+-- a kind of step on the entry r of the domain t, by what it adds to the view and what it leaves (own)
 abbrev pub entry_kind : Layout → ℕ → ℕ → (ℕ → EntryStep) → (ℕ → ℕ) → StepKind
 entry_kind k t r m f = record { layout = k; step = λ n. on_entry t r (m n); leaves = f }
 
+-- a look at a control word: the word stays (C11 atomics: atomic_load)
 abbrev pub looking : Layout → ℕ → ℕ → StepKind
 looking k t r = entry_kind k t r (λ n. Looked n) (λ n. n)
 
+-- a look at a body word: the word stays (C11 atomics: atomic_load)
 abbrev pub reading : Layout → ℕ → ℕ → Half → StepKind
 reading k t r h = entry_kind k t r (λ n. ReadBody h n) (λ n. n)
 
+-- a store of a body word: the word is the one stored (C11 atomics: atomic_store)
 abbrev pub storing : Layout → ℕ → ℕ → Half → ℕ → StepKind
 storing k t r h v = entry_kind k t r (λ n. StoredBody h v) (λ n. v)
 
+-- a pin given back: one pin is taken from the word, modulo 2 to the 64th (C11 atomics: atomic_fetch_sub)
 abbrev pub unpinning : Layout → ℕ → ℕ → Dir → ℕ → StepKind
 unpinning k t r d g = entry_kind k t r (λ n. Unpinned d g) (λ n. (n + (2 ^ 64 - unit_of d)) % 2 ^ 64)
 
+-- a look at a header word: the word stays (C11 atomics: atomic_load)
 abbrev pub looking_at_header : Layout → ℕ → StepKind
 looking_at_header k t = record { layout = k; step = λ n. on_header t (header.Looked n); leaves = λ n. n }
 
+-- a store of a header word: the word is the one stored (C11 atomics: atomic_store)
 abbrev pub storing_header : Layout → ℕ → ℕ → StepKind
 storing_header k t w = record { layout = k; step = λ n. on_header t (header.Stored w); leaves = λ n. w }
 
--- the record after a publication, and after a demotion or promotion
+-- the record after a publication: this entry, at the next generation (own)
 abbrev pub published : Entry → Record → Record
 published e x = record { generation = x.generation + 1; entry = e }
 
+-- the record after a demotion or promotion: the same entry with this readonly, at the next generation (own)
 abbrev pub turned : Bool → Record → Record
 turned o x = record { generation = x.generation + 1; entry = with_ro o x.entry }
 
--- the step of an exchange that is taken, and of one that is missed
+-- the step of an exchange that is taken (own)
 abbrev pub taken : ℕ → ℕ → View → Purpose → ℕ → ℕ → EntryStep
 taken t r v (purpose.Pin d) old new = Pinned d old (record_seen (last_seen t r v))
 taken t r v (purpose.Publish e) old new = Changed change.Publish old new (published e (last_of r v))
@@ -94,6 +102,7 @@ taken t r v purpose.Revoke old new = Changed change.Revoke old new (invalid_at (
 taken t r v purpose.Demote old new = Changed change.Demote old new (turned true (last_of r v))
 taken t r v purpose.Promote old new = Changed change.Promote old new (turned false (last_of r v))
 
+-- the step of an exchange that is missed (own)
 abbrev pub missed : Purpose → ℕ → ℕ → EntryStep
 missed (purpose.Pin d) old n = PinMissed d old n
 missed (purpose.Publish e) old n = ChangeMissed change.Publish old n
@@ -101,13 +110,15 @@ missed purpose.Revoke old n = ChangeMissed change.Revoke old n
 missed purpose.Demote old n = ChangeMissed change.Demote old n
 missed purpose.Promote old n = ChangeMissed change.Promote old n
 
+-- an exchange of a control word: taken, and the word is the new one, exactly where the one expected is found (C11 atomics: atomic_compare_exchange_strong)
 abbrev pub exchanging : Layout → ℕ → ℕ → View → Purpose → ℕ → ℕ → StepKind
 exchanging k t r v p old new = entry_kind k t r (λ n. cond (n == old) (taken t r v p old new) (missed p old n)) (λ n. either (n == old) new n)
 
--- the index of a body word among the words of an entry
+-- the index of a body word among the words of an entry (own)
 abbrev pub half_index : Half → ℕ
 half_index First = 1
 half_index Second = 2
 
+-- the body word at an index: the first at 1, else the second (own)
 abbrev pub half_of : ℕ → Half
 half_of i = cond (i == 1) First Second

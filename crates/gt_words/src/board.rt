@@ -22,12 +22,12 @@ use std::marker::{Brand, PhantomData};
 /// The words from one entry to the next, of which three are used: so neighbours share no cache line.
 pub(crate) const ENTRY_WORDS: usize = 8;
 
-/// The words of a domain: as many for its header as for an entry, and those of each entry.
-pub(crate) const DOMAIN_WORDS: usize = 16_392;
+// The rows of `ENTRY_WORDS` words that a domain has: one for its header, and one for each entry. A step adds up rows and
+// multiplies once, so that a loop on one entry keeps one number for its place.
+const DOMAIN_ROWS: usize = TABLE_ENTRIES as usize + 1;
 
-// The rows of `ENTRY_WORDS` words that a domain has. A step adds up rows and multiplies once, so that a loop on one entry
-// keeps one number for its place.
-const DOMAIN_ROWS: usize = 2_049;
+/// The words of a domain.
+pub(crate) const DOMAIN_WORDS: usize = DOMAIN_ROWS * ENTRY_WORDS;
 
 /// The rule of the table: words and views show a state of the core.
 pub struct Entries;
@@ -382,8 +382,8 @@ impl WordTable {
     }
 }
 
-// The control word of the entry at a generation, with no pins.
-fn idle_word(entry: Entry, generation: u32) -> u64
+/// The control word of the entry at a generation, with no pins.
+pub(crate) fn idle_word(entry: Entry, generation: u32) -> u64
     requires { generation < 1048576 }
     ensures { result ≡ idle_word_of entry generation }
 {

@@ -5,12 +5,12 @@ ghost use Rattle.gt_words.specs.Rule.{Layout, layout_of, header_number};
 ghost use Rattle.gt_words.specs.Conditions.{Board, IsNewSeat, initial};
 ghost use Rattle.gt_words.specs.Places.{IsNewPlace, dealer_after, dealt_to};
 
-use crate::board::{DOMAIN_WORDS, ENTRY_WORDS, Place, WordTable};
+use crate::board::{DOMAIN_WORDS, ENTRY_WORDS, Place, WordTable, idle_word};
 use crate::view::View;
 use crate::words::{Found, Seat};
 use atomic_table::Split;
-use gt_entry::Header;
-use gt_types::{Config, DomainConfig};
+use gt_entry::{Entry, Header};
+use gt_types::{Config, DomId, DomainConfig};
 use std::alloc::{AllocError, Global};
 
 /// How the first seat deals the next one.
@@ -20,6 +20,17 @@ impl Split<View> for Deal {
     ghost left = { dealer_after };
 
     ghost right = { dealt_to };
+}
+
+/// The domains of the run, in order.
+pub(crate) fn domain_ids(alloc: Global, config: &Config) -> Result<Vec<DomId>, AllocError>
+    ensures { IfOk result (λ v. v.items ≡ (layout_of config.now).ids) }
+{
+    let mut ids = Vec::with_capacity(alloc, config.domains.len())?;
+    for domain in &config.domains {
+        ids.push(domain.id)?;
+    }
+    Ok(ids)
 }
 
 // The header of a domain at the start.
@@ -39,12 +50,13 @@ pub(crate) fn first_words(alloc: Global, config: &Config) -> Result<Vec<u64>, Al
     ensures { IfOk result (λ v. (length v.items ≡ length config.now.domains.items * DOMAIN_WORDS) × ((i : ℕ) → i < length config.now.domains.items * DOMAIN_WORDS → slice_index v.items i ≡ initial (layout_of config.now) i)) }
 {
     let count = config.domains.len() * DOMAIN_WORDS;
+    let invalid = idle_word(Entry::Invalid, config.first_gen);
     let mut words = Vec::with_capacity(alloc, count)?;
     for i in 0..count {
         let word = if i % DOMAIN_WORDS == 0 {
             first_header(config.domains[i / DOMAIN_WORDS]).pack()
         } else if i % DOMAIN_WORDS % ENTRY_WORDS == 0 {
-            17_592_186_044_416 * u64::from(config.first_gen)
+            invalid
         } else {
             0
         };

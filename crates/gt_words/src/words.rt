@@ -11,7 +11,7 @@ ghost use Rattle.gt_words.specs.Steps.{published, turned};
 ghost use Rattle.gt_words.specs.Conditions.{IsKeptHeader, Board, SeatOf, IsSeatOf, IsSameSeat, IsNewSeat, IsStartFault, IsIdleOf, IsWordOf, IsBusyOf, HasLooked, Holds, MayPin, CountsPins, IsNotEarlier, Steps, BodySteps, HeaderSteps, StoresBody, StoresHeader, KeepsPins, Unpins, Pins, MissesPin, Changes, MissesChange, Revokes, Demotes};
 
 use crate::board::{Place, WordTable};
-use crate::start::{deal_seats, first_words};
+use crate::start::{deal_seats, domain_ids, first_words};
 use crate::view::{Change, EntryStep, Half, HeaderStep};
 use atomic_table::Table;
 use gt_entry::{Control, Entry, Header};
@@ -377,10 +377,7 @@ fn make_words(alloc: Global, config: &Config) -> Result<(Words, Vec<Seat>), Allo
     ensures seats { IfOk result (λ r. (i : ℕ) → i < length config.now.domains.items → HoldsAt (λ s. IsNewSeat r.0 i s) r.1.items i) }
 {
     let start = first_words(alloc, config)?;
-    let mut ids = Vec::with_capacity(alloc, config.domains.len())?;
-    for domain in &config.domains {
-        ids.push(domain.id)?;
-    }
+    let ids = domain_ids(alloc, config)?;
     let (table, first) = Table::of_words(alloc, &start, config)?;
     let words = WordTable { table };
     let seats = deal_seats(alloc, &words, config, first)?;
