@@ -9,7 +9,7 @@ use crate::numbers::{Number, decimal};
 use crate::texts::Text;
 use gt_types::{DOMID_SELF, DomId, GrantRef, LAST_GENERATION};
 
-/// The flag of a map into the caller's memory: `GNTMAP_host_map` of the public header `grant_table.h`.
+/// The flag of a map for access by processors: `GNTMAP_host_map` of the public header `grant_table.h`.
 const HOST_MAP: u32 = 2;
 
 /// The flag of a map that only reads: `GNTMAP_readonly` of the same header.
