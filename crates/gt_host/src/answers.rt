@@ -4,16 +4,10 @@ ghost use Rattle.gt_host.specs.Printing.{type_text, facts_text, denial_text, byt
 
 use gt_core::Answer;
 use gt_script::Text;
+use gt_streams::push_text;
 use gt_types::{Denial, DomId, Facts, TypeId};
 use itoa::{Buffer, Integer};
 use std::alloc::{AllocError, Global};
-
-/// Appends a text. After an Err nothing was appended.
-pub fn push_text(out: &mut Vec<u8>, text: &str) -> Result<(), AllocError>
-    ensures { OnOk result (out.new.items ≡ out.old.items ++ text.now) }
-{
-    out.extend_from_slice(text.as_bytes())
-}
 
 /// Appends a number, in decimal digits.
 pub fn push_number<I: Integer>(out: &mut Vec<u8>, number: I) -> Result<(), AllocError>
