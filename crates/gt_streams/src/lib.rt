@@ -12,11 +12,13 @@
 #![tactic(auto)]
 
 mod fault;
+mod laws;
 mod streams;
 #[cfg(test)]
 mod tests;
 mod text;
 
 pub use fault::{ReadFault, WriteFault};
+pub use laws::{every_text_goes_on, every_writer_keeps_what_it_has};
 pub use streams::{READ_LIMIT, finish, read_text, send, write_text};
 pub use text::{push_text, text_of};
