@@ -1,6 +1,9 @@
 #!/usr/bin/env bash
-# Times `gthost play` on scripts of 10,000, 20,000 and 40,000 lines: prints lines and seconds, the
-# least of five runs. Twice the lines should take at most 2.2 times as long.
+# Times `gthost play` on scripts of 10,000, 20,000 and 40,000 lines: prints lines and seconds. Twice
+# the lines should take at most 2.2 times as long.
+#
+# `bench/play.sh [RUNS]` prints the least time of so many runs (5). Where the machine has other work,
+# `PRIORITY='chrt -f 1' bench/play.sh` runs the program before it.
 #
 # A script makes the calls grant, map, load, unmap and revoke by turns, with a label of its own
 # for each map.
@@ -10,6 +13,8 @@
 set -euo pipefail
 
 top="$(cd "$(dirname "${BASH_SOURCE[0]}")/.." && pwd)"
+runs="${1:-5}"
+read -ra priority <<<"${PRIORITY:-}"
 "$top/gthost" --help >/dev/null # proves and builds it, where that is not done yet
 program="$top/crates/gthost/out/gthost"
 work="$(mktemp -d)"
@@ -40,14 +45,14 @@ script() {
 seconds() {
   local from to
   from="$(date +%s%N)"
-  "$program" play "$1" >/dev/null
+  "${priority[@]}" "$program" play "$1" >/dev/null
   to="$(date +%s%N)"
   awk -v ns="$((to - from))" 'BEGIN { printf "%.3f\n", ns / 1e9 }'
 }
 
-# The least of five runs.
+# The least time of all runs.
 least() {
-  for _ in 1 2 3 4 5; do seconds "$1"; done | sort -n | head -n 1
+  for _ in $(seq "$runs"); do seconds "$1"; done | sort -n | head -n 1
 }
 
 printf '%8s  %s\n' lines seconds

@@ -1,5 +1,5 @@
 -- What the lines of a script lead to.
-use Rattle.std.proofs.Common.{◌≡◌, ◌≢◌, ◌⊎◌, ◌<◌, ◌≤◌, ◌+◌, ℕ, zero, suc, Bool, true, false, cond, List, [], ◌∷◌, ◌++◌, length, replicate, Option, None, Some, refl, ap, sym, subst, ◌∙◌, inl, inr, arith}
+use Rattle.std.proofs.Common.{◌≡◌, ◌≢◌, ◌⊎◌, ℕ, zero, suc, Bool, true, false, cond, List, [], ◌∷◌, ◌++◌, length, replicate, Option, None, Some, refl, ap, sym, subst, ◌∙◌, inl, inr}
 use Rattle.std.proofs.lemmas.List.{append-nil}
 use Rattle.std.proofs.lemmas.Bool.{eqb-true, eq-eqb, ne_eqb, false≢true}
 use Rattle.std.specs.Prelude.{◌==◌, is_some}
@@ -9,7 +9,7 @@ use Rattle.gt_types.specs.declared.GrantRef.{GrantRef}
 use Rattle.gt_script.specs.declared.calls.Call.{Call}
 use Rattle.gt_script.specs.declared.script.Step.{Step}
 use Rattle.gt_core.specs.History.{History, Setting, Underway, open_call, underway_after}
-use Rattle.gt_core.specs.Legal.{MayDo, IsRight, BeginsRight, grown, LegalAfter, history_after, actor_of}
+use Rattle.gt_core.specs.Legal.{MayDo, IsRight, grown, LegalAfter, history_after, actor_of}
 use Rattle.gt_core.specs.Shown.{shown_at}
 use Rattle.gt_core.specs.Standing.{CoreStands, begun_element}
 use Rattle.gt_core.specs.States.{State}
@@ -34,7 +34,7 @@ use Rattle.gt_host.specs.declared.outcome.Outcome.TheVariants.{Answered, Busy as
 use Rattle.gt_host.specs.Naming.{AreNamed}
 use Rattle.gt_host.specs.OpenCalls.{call_in}
 use Rattle.gt_host.specs.Printing.{answer_line, busy_line, idle_line}
-use Rattle.gt_host.specs.Runs.{Progress, Named, KnowsOpen, answer_in, DoLine, BeginLine, TickLine, ShowLine, history_of, with_events, with_line, with_call, answered, after_call, after_ticks, after_beginning, named_after, Asks, call_events, AnswerNothing}
+use Rattle.gt_host.specs.Runs.{Progress, Named, answer_in, DoLine, BeginLine, TickLine, ShowLine, history_of, with_events, with_line, after_call, after_ticks, after_beginning, named_after, Asks, call_events}
 use Rattle.gt_host.specs.Showing.{show_line}
 use Rattle.gt_host.specs.Ticking.{Happens, Calls, TicksTo, IsKept, HasCome, IsAppended}
 use Rattle.gt_host.proofs.OpenLemmas.{own_call, other_call, HasOpen, ticks_stay}

@@ -1,11 +1,10 @@
 -- The calls that are open, by the history.
 use Rattle.std.proofs.Common.{◌≡◌, ◌≢◌, ◌⊎◌, ◌<◌, ◌≤◌, ◌+◌, ℕ, zero, suc, Bool, cond, List, [], ◌∷◌, ◌++◌, length, replicate, Option, None, Some, refl, ap, sym, subst, ◌∙◌, inl, inr, arith, length-append}
 use Rattle.std.proofs.lemmas.Bool.{eq-eqb, ne_eqb}
-use Rattle.std.specs.Prelude.{◌==◌}
 use Rattle.gt_types.specs.Names.{domain_of}
 use Rattle.gt_types.specs.declared.DomId.{DomId}
-use Rattle.gt_core.specs.History.{History, Setting, Underway, open_call, underway_after, underway_with}
-use Rattle.gt_core.specs.Legal.{MayDo, IsRight, StepsRight, StepsRightIn, grown, LegalAfter, history_after, most_steps}
+use Rattle.gt_core.specs.History.{History, Setting, Underway, open_call, underway_after}
+use Rattle.gt_core.specs.Legal.{MayDo, StepsRight, StepsRightIn, grown, LegalAfter, history_after, most_steps}
 use Rattle.gt_core.specs.Standing.{CoreStands, begun_element}
 use Rattle.gt_core.specs.States.{State}
 use Rattle.gt_calls.specs.declared.request.Request.{Request}

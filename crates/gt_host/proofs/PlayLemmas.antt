@@ -1,5 +1,6 @@
-use Rattle.std.proofs.Common.{◌≡◌, ℕ, Bool, ◌+◌, ◌<◌, List, [], ◌∷◌, ◌++◌, length, take, get_or, Option, None, Some, Result, Ok, Err, OnOk, OnErr, refl, ap, sym, subst, ◌∙◌, append_assoc, length-append, add-one, inl, inr, arith}
-use Rattle.std.proofs.Math.Seq.{take-suc, take-append-add, take-length}
+use Rattle.std.proofs.Common.{◌≡◌, ℕ, Bool, ◌+◌, ◌<◌, List, [], ◌∷◌, ◌++◌, length, take, get_or, Option, None, Some, Result, Ok, Err, OnErr, refl, ap, sym, subst, ◌∙◌, append_assoc, add-one, inl, inr, arith}
+use Rattle.std.proofs.Math.Seq.{take-suc, take-length}
+use Rattle.std.proofs.lemmas.List.{append-nil}
 use Rattle.std.proofs.lemmas.List.Elements.{All-get_or}
 use Rattle.std.specs.Io.KnownBytes.{Appends, Keeps}
 use Rattle.std.specs.Prelude.{All, IsTrue}
@@ -15,21 +16,14 @@ use Rattle.gt_core.specs.States.{State}
 use Rattle.gt_core.specs.declared.core_state.Core.{Core}
 use Rattle.gt_host.specs.declared.kept.Kept.{Kept}
 use Rattle.gt_host.specs.declared.rights.Rights.{Rights}
-use Rattle.gt_host.specs.Rights.{may_by, may_in}
+use Rattle.gt_host.specs.Rights.{may_by}
 use Rattle.gt_host.specs.OpenCalls.{call_in}
 use Rattle.gt_host.specs.Playing.{StartsFor, BeginsRun, WritesRun, IsLegalRunOf, setting_of_script, whole_text}
 use Rattle.gt_host.specs.Runs.{Progress, LeadsTo, IsRunOf, RunsLine, at_start, history_of, open_text, open_lines}
+use Rattle.gt_streams.specs.Laws.{appends_both, appends_nothing, begins_after}
 use Rattle.gt_streams.specs.Streams.{AppendsBeginning, Sends}
 use Rattle.gt_host.specs.Ticking.{IsReady, IsKept, HasCome, Leads}
 use Rattle.gt_host.proofs.StartLemmas.{taken_known}
-
-append-nil : (ys : List ℕ) → ys ++ [] ≡ ys
-append-nil [] = refl
-append-nil (y ∷ ys) = ap (λ (zs : List ℕ). y ∷ zs) (append-nil ys)
-
-Appends-nothing : (old : Option (List ℕ)) → Appends old old []
-Appends-nothing None = tt
-Appends-nothing (Some xs) = sym (append-nil xs)
 
 -- how far a run has come: it stands where these steps led, and of its text some went out and the rest waits
 pub record IsUnderway (c : Contents) (steps : List Step) (domains : List State) (kept : Kept) (waiting : List ℕ) (old now : Option (List ℕ)) : Type 0 where
@@ -61,25 +55,13 @@ starts_underway c core kept waiting old starts keeps none = record {
   };
   sent = [];
   parts = sym none;
-  went = Appends-nothing old;
+  went = appends_nothing old;
 }
 
 -- a step after the others
 LeadsTo-append : (t : Setting) (types : List (List ℕ)) (p q r : Progress) (steps : List Step) (s : Step) → LeadsTo t types p steps q → RunsLine t types s s.action q r → LeadsTo t types p (steps ++ s ∷ []) r
 LeadsTo-append t types p q r [] s led runs = (r, subst (λ (o : Progress). RunsLine t types s s.action o r) (sym led) runs, refl)
 LeadsTo-append t types p q r (x ∷ steps) s led runs = (led.0, led.1, LeadsTo-append t types led.0 q r steps s led.2 runs)
-
--- two writes, one after the other
-Appends-both : (a b c : Option (List ℕ)) (xs ys : List ℕ) → Appends a b xs → Appends b c ys → Appends a c (xs ++ ys)
-Appends-both None b c xs ys p q = tt
-Appends-both (Some x) None c xs ys p q = absurd p
-Appends-both (Some x) (Some y) None xs ys p q = absurd q
-Appends-both (Some x) (Some y) (Some z) xs ys p q = q ∙ ap (λ (l : List ℕ). l ++ ys) p ∙ append_assoc x xs ys
-
--- a text goes out, and then a beginning of another
-begins_after : (a b c : Option (List ℕ)) (xs ys : List ℕ) → Appends a b xs → AppendsBeginning b c ys → AppendsBeginning a c (xs ++ ys)
-begins_after a b c xs ys p (n, few, q) =
-    (length xs + n, rw length-append (omega (arith, few)), subst (λ (l : List ℕ). Appends a c l) (sym (take-append-add xs ys n)) (Appends-both a b c xs (take n ys) p q))
 
 -- nothing went out
 pub Keeps-begins : (a b : Option (List ℕ)) (xs : List ℕ) → Keeps a b → AppendsBeginning a b xs
@@ -91,10 +73,6 @@ Keeps-begins (Some x) (Some y) xs h = (0, omega arith, h ∙ sym (append-nil x))
 pub not_begun : (c : Contents) (old new : Option (List ℕ)) → Keeps old new → BeginsRun c old new
 unfolding open_call
 not_begun c old new kept = inl (0, at_start, (refl, tt, λ dom. refl), Keeps-begins old new [] kept)
-
-pub Keeps-same : (a : Option (List ℕ)) → Keeps a a
-Keeps-same None = tt
-Keeps-same (Some xs) = refl
 
 -- a run that has come some way has written a beginning, and goes on to do so
 pub begins : (c : Contents) (steps : List Step) (n : ℕ) (domains : List State) (kept : Kept) (waiting : List ℕ) (old mid new : Option (List ℕ))
@@ -111,7 +89,7 @@ begins c steps n domains kept waiting old mid new all u h =
 pub has_begun : (c : Contents) (steps : List Step) (n : ℕ) (domains : List State) (kept : Kept) (waiting : List ℕ) (old mid : Option (List ℕ))
     → steps ≡ c.steps → IsUnderway c (take n steps) domains kept waiting old mid → BeginsRun c old mid
 has_begun c steps n domains kept waiting old mid all u =
-    begins c steps n domains kept waiting old mid mid all u (0, omega arith, Appends-nothing mid)
+    begins c steps n domains kept waiting old mid mid all u (0, omega arith, appends_nothing mid)
 
 pub OnErr-all : {T E : Type 0} (r : Result T E) (P : Type 0) → P → OnErr r P
 OnErr-all (Ok x) P h = tt
@@ -132,7 +110,7 @@ goes_on c t known steps i s domains next kept later w more rest old mid now sett
       come = step.2;
       sent = u.sent ++ sent;
       parts = step.3.1 ∙ ap (λ (l : List ℕ). l ++ step.3.0) u.parts ∙ append_assoc u.sent w step.3.0 ∙ ap (λ (l : List ℕ). u.sent ++ l) (sym step.3.2 ∙ split) ∙ sym (append_assoc u.sent sent rest);
-      went = Appends-both old mid now u.sent sent u.went went;
+      went = appends_both old mid now u.sent sent u.went went;
     }
 
 -- a step more, whose line waits with the others, of which a beginning goes out
@@ -141,7 +119,7 @@ pub begins_step : (c : Contents) (t : Setting) (known : List (List ℕ)) (steps 
     → Leads t (λ p q. RunsLine t known s s.action p q) domains next kept later w more → AppendsBeginning mid new more → BeginsRun c old new
 begins_step c t known steps i s domains next kept later w more old mid new setting all u within is same leads h =
     begins c steps (i + 1) next later more old mid new all
-    (goes_on c t known steps i s domains next kept later w more more old mid mid setting u within is same leads ([], refl, Appends-nothing mid)) h
+    (goes_on c t known steps i s domains next kept later w more more old mid mid setting u within is same leads ([], refl, appends_nothing mid)) h
 
 -- the next step finds a core that stands for what was done, and is one of a domain of the run
 pub ready : (c : Contents) (t : Setting) (steps : List Step) (i : ℕ) (s : Step) (domains : List State) (kept : Kept) (w : List ℕ) (old mid : Option (List ℕ))
@@ -181,7 +159,7 @@ pub ends : (c : Contents) (steps : List Step) (n : ℕ) (domains : List State) (
 ends c steps n domains kept ds waiting more old mid new all made configured appended u went = (
   u.progress,
   is_run c steps n domains kept waiting old mid all made u,
-  subst (λ (l : List ℕ). Appends old new l) (last_lines c domains kept ds (take n steps) waiting more old mid configured appended u) (Appends-both old mid new u.sent more u.went went),
+  subst (λ (l : List ℕ). Appends old new l) (last_lines c domains kept ds (take n steps) waiting more old mid configured appended u) (appends_both old mid new u.sent more u.went went),
 )
 
 -- of the last lines a beginning went out

@@ -1,5 +1,5 @@
 -- From what was read to what was played.
-use Rattle.std.proofs.Common.{◌≡◌, ◌⊎◌, ℕ, List, [], take, Option, None, Some, Result, Ok, Err, OnOk, OnErr, IfSome, refl, sym, subst, inl, inr}
+use Rattle.std.proofs.Common.{◌≡◌, ℕ, List, take, Option, None, Some, Result, Ok, Err, OnOk, OnErr, IfSome, sym, subst, inl, inr}
 use Rattle.std.specs.Io.KnownBytes.{Keeps}
 use Rattle.gt_script.specs.Contents.{Contents}
 use Rattle.gt_script.specs.Outcomes.{Answers}
@@ -13,7 +13,7 @@ use Rattle.gt_host.specs.declared.fault.Fault.TheVariants as runs
 use Rattle.gt_host.specs.declared.fault.PlayFault.{PlayFault}
 use Rattle.gt_host.specs.Faults.{fault_of, read_fault, ended}
 use Rattle.gt_host.specs.Playing.{BeginsRun, WritesRun, Played}
-use Rattle.gt_host.proofs.PlayLemmas.{Keeps-same}
+use Rattle.gt_streams.specs.Laws.{keeps_same}
 
 -- there is no script, and nothing went out
 no_script : (Told : Result Contents Wrong → Type 0) (error : ScriptError) (old new : Option (List ℕ)) → Answers (Err error) Told → Keeps old new → Played Told old new (Err (fault_of error))
@@ -43,8 +43,8 @@ played_all (Some all) old new bytes r e h = h all e
 
 -- nothing could be read
 unread : (Told : Result Contents Wrong → Type 0) (old : Option (List ℕ)) (error : ReadFault) → Played Told old old (Err (read_fault error))
-unread Told old reads.Memory = inl (Keeps-same old)
-unread Told old reads.Read = Keeps-same old
+unread Told old reads.Memory = inl (keeps_same old)
+unread Told old reads.Read = keeps_same old
 
 pub played_unread : (known old : Option (List ℕ)) (error : ReadFault) (fault : PlayFault) → fault ≡ read_fault error → IfSome known (λ input. Played (Tells input) old old (Err fault))
 played_unread None old error fault is = tt

@@ -9,18 +9,18 @@ use Rattle.gt_host.specs.declared.fault.Fault.TheVariants as runs
 use Rattle.gt_host.specs.declared.fault.PlayFault.{PlayFault}
 use Rattle.gt_host.specs.declared.fault.PlayFault.TheVariants as faults
 
--- (own) what ends a run that has no script
+-- what ends a run that has no script (own)
 abbrev pub fault_of : ScriptError → PlayFault
 fault_of errors.Memory = faults.Memory
 fault_of (errors.Fault fault) = faults.Script fault
 fault_of (errors.Policy fault) = faults.Policy fault
 
--- (own) what ends a run that has no text
+-- what ends a run that has no text (own)
 abbrev pub read_fault : ReadFault → PlayFault
 read_fault reads.Memory = faults.Memory
 read_fault reads.Read = faults.Read
 
--- (own) what ends a run of steps
+-- what ends a run of steps (own)
 abbrev pub ended : Result (Unit {0}) Fault → Result (Unit {0}) PlayFault
 ended (Ok done) = Ok done
 ended (Err runs.Memory) = Err faults.Memory

@@ -6,10 +6,10 @@ use Rattle.std.specs.Cmp.Lexicographic.{slice_cmp}
 use Rattle.std.specs.Map.{lookup}
 use Rattle.gt_handles.specs.declared.handles.Handle.{Handle}
 
--- (own) whether a key is this label of this domain
+-- whether a key is this label of this domain (own)
 abbrev pub is_label : ℕ → List ℕ → (ℕ × Bor (List ℕ)) → Bool
 is_label dom label key = is_eq (ordering_then (nat_cmp dom key.0) (slice_cmp nat_cmp label key.1.now))
 
--- (own) the handle that the domain's label names, if it names one
+-- the handle that the domain's label names, if it names one (own)
 abbrev pub handle_in : List ((ℕ × Bor (List ℕ)) × Handle) → ℕ → List ℕ → Option Handle
 handle_in entries dom label = lookup (is_label dom label) entries

@@ -19,51 +19,51 @@ use Rattle.gt_host.specs.Rights.{may_by, may_in}
 use Rattle.gt_host.specs.Runs.{Progress, IsRunOf, KnowsOpen, open_lines}
 use Rattle.gt_streams.specs.Streams.{AppendsBeginning}
 
--- (own) the domains of the script and its first generation are within the limits of a run, and each step is one of a domain of it
+-- the domains of the script and its first generation are within the limits of a run, and each step is one of a domain of it (own)
 abbrev pub CanStart : Contents → Type 0
 CanStart c = AreFaultless c.domains × (1 ≤ length c.domains) × (first_gen c ≤ LAST_GENERATION) × All (λ s. IsTrue (is_taken c.domains s.dom)) c.steps
 
--- (own) what is fixed for the run of a script: its domains, what its policy or its triples allow, and the first generation
+-- what is fixed for the run of a script: its domains, what its policy or its triples allow, and the first generation (own)
 abbrev pub setting_of_script : Contents → Setting
 setting_of_script c = record { domains = c.domains; first_generation = first_gen c; may = may_in c }
 
--- (own) the core starts with the domains and the rights of the script
+-- the core starts with the domains and the rights of the script (own)
 pub record StartsFor (c : Contents) (core : Core Rights) : Type 0 where
   pub domains : core.config.domains.items ≡ c.domains
   pub generation : core.config.first_gen ≡ first_gen c
   pub rights : may_by core.rights ≡ may_in c
   pub stands : CoreStands (setting_of core.config (may_by core.rights)) [] core.domains.items
 
--- (own) the steps lead here, what their events did is a legal trace, and the calls that are open are those of the trace
+-- the steps lead here, what their events did is a legal trace, and the calls that are open are those of the trace (own)
 abbrev pub IsLegalRunOf : Contents → List Step → Progress → Type 0
 IsLegalRunOf c steps p = IsRunOf (setting_of_script c) (type_names c) steps p × Legal (setting_of_script c) p.events p.trace × KnowsOpen p
 
--- (own) the text of a run that has come to the end of the script: the lines of its steps, and those of the calls that are open
+-- the text of a run that has come to the end of the script: the lines of its steps, and those of the calls that are open (own)
 abbrev pub whole_text : Contents → Progress → List ℕ
 whole_text c p = p.text ++ open_lines c.domains p.open_steps
 
--- (own) the text of the script's run went out
+-- the text of the script's run went out (own)
 abbrev pub WritesRun : Contents → Option (List ℕ) → Option (List ℕ) → Type 0
 WritesRun c old new = (p : Progress) × IsLegalRunOf c c.steps p × Appends old new (whole_text c p)
 
--- (own) a beginning of the text went out, of a run that came some way
+-- a beginning of the text went out, of a run that came some way (own)
 abbrev pub BeginsSome : Contents → Option (List ℕ) → Option (List ℕ) → Type 0
 BeginsSome c old new = (steps : ℕ) × (p : Progress) × IsLegalRunOf c (take steps c.steps) p × AppendsBeginning old new p.text
 
--- (own) a beginning of the text went out, of a run that came to the end
+-- a beginning of the text went out, of a run that came to the end (own)
 abbrev pub BeginsWhole : Contents → Option (List ℕ) → Option (List ℕ) → Type 0
 BeginsWhole c old new = (p : Progress) × IsLegalRunOf c c.steps p × AppendsBeginning old new (whole_text c p)
 
--- (own) a beginning of the text went out
+-- a beginning of the text went out (own)
 abbrev pub BeginsRun : Contents → Option (List ℕ) → Option (List ℕ) → Type 0
 BeginsRun c old new = BeginsSome c old new ⊎ BeginsWhole c old new
 
--- (own) what the bytes say is a script, and a beginning of its text went out
+-- what the bytes say is a script, and a beginning of its text went out (own)
 abbrev pub Begins : (Result Contents Wrong → Type 0) → Option (List ℕ) → Option (List ℕ) → Type 0
 Begins Told old new = (c : Contents) × Told (Ok c) × BeginsRun c old new
 
--- (own) what `play` wrote, where it answers so for bytes of which this is told: at Ok the text of the run, whole;
--- at a fault of the script nothing, and the fault is the script's first; after a failed write a beginning, and so for want of memory, unless nothing
+-- what `play` wrote, where it answers so for bytes of which this is told: at Ok the text of the run, whole;
+-- at a fault of the script nothing, and the fault is the script's first; after a failed write a beginning, and so for want of memory, unless nothing (own)
 abbrev pub Played : (Result Contents Wrong → Type 0) → Option (List ℕ) → Option (List ℕ) → Result (Unit {0}) PlayFault → Type 0
 Played Told old new (Ok done) = (c : Contents) × Told (Ok c) × WritesRun c old new
 Played Told old new (Err (Script fault)) = Told (Err (in_script fault)) × Keeps old new

@@ -12,11 +12,11 @@ use Rattle.gt_types.specs.declared.denial.Denial.{Denial}
 use Rattle.gt_core.specs.declared.trace.Answer.{Answer}
 use Rattle.gt_core.specs.declared.trace.Answer.TheVariants as answers
 
--- (own) a type by its name: the one that stands at its number
+-- a type by its name: the one that stands at its number (own)
 abbrev pub type_text : List (List ℕ) → TypeId → List ℕ
 type_text names t = unwrap_or (slice_get names t.0) []
 
--- (own) what a refusal rests on, where its line names that
+-- what a refusal rests on, where its line names that (own)
 abbrev pub facts_text : List (List ℕ) → Facts → List ℕ
 facts_text names (facts.Policy source target perm) =
     codes " source=" ++ type_text names source ++ codes " target=" ++ type_text names target ++ codes " perm=" ++ permission_name perm
@@ -25,19 +25,19 @@ facts_text names facts.None = []
 facts_text names (facts.Header dom word) = []
 facts_text names (facts.Entry dom gref word) = []
 
--- (own) a refusal: its rule, its status, and what it rests on
+-- a refusal: its rule, its status, and what it rests on (own)
 abbrev pub denial_text : List (List ℕ) → Denial → List ℕ
 denial_text names d = rule_text d.rule ++ codes " " ++ signed_decimal (status_number d.status) ++ facts_text names d.facts
 
--- (own) the bytes of an answer, two lower-case hexadecimal digits each: none where there are none
+-- the bytes of an answer, two lower-case hexadecimal digits each: none where there are none (own)
 abbrev pub bytes_text : List ℕ → List ℕ
 bytes_text bytes = if length bytes == 0 then [] else codes " " ++ encode_lower bytes
 
--- (own) ` NAME=NUMBER`
+-- ` NAME=NUMBER` (own)
 abbrev pub part_text : List ℕ → ℕ → List ℕ
 part_text name n = codes " " ++ name ++ codes "=" ++ decimal n
 
--- (own) an answer
+-- an answer (own)
 abbrev pub answer_text : List (List ℕ) → Answer → List ℕ
 answer_text names answers.Done = codes "ok"
 answer_text names (answers.Mapped handle) = codes "ok"
@@ -47,22 +47,22 @@ answer_text names (answers.Size size) = codes "ok" ++ part_text (codes "frames")
 answer_text names (answers.Version version) = codes "ok" ++ part_text (codes "version") version
 answer_text names (answers.Denied d) = denial_text names d
 
--- (own) `LINE ID `, which begins a line about the call of that line
+-- `LINE ID `, which begins a line about the call of that line (own)
 abbrev pub call_text : ℕ → DomId → List ℕ
 call_text line dom = decimal line ++ codes " " ++ decimal dom.0 ++ codes " "
 
--- (own) `LINE ID ANSWER`
+-- `LINE ID ANSWER` (own)
 abbrev pub answer_line : List (List ℕ) → ℕ → DomId → Answer → List ℕ
 answer_line names line dom answer = call_text line dom ++ answer_text names answer ++ codes "\n"
 
--- (own) `LINE ID busy`: the domain had a call open
+-- `LINE ID busy`: the domain had a call open (own)
 abbrev pub busy_line : ℕ → DomId → List ℕ
 busy_line line dom = call_text line dom ++ codes "busy\n"
 
--- (own) `LINE ID idle`: the domain has no call open
+-- `LINE ID idle`: the domain has no call open (own)
 abbrev pub idle_line : ℕ → DomId → List ℕ
 idle_line line dom = call_text line dom ++ codes "idle\n"
 
--- (own) `LINE ID open`: the call of that line has no answer when the script ends
+-- `LINE ID open`: the call of that line has no answer when the script ends (own)
 abbrev pub open_line : ℕ → DomId → List ℕ
 open_line line dom = call_text line dom ++ codes "open\n"

@@ -10,16 +10,16 @@ use Rattle.gt_script.specs.Contents.{Contents}
 use Rattle.gt_host.specs.declared.rights.Rights.{Rights}
 use Rattle.gt_host.specs.declared.rights.Rights.TheVariants as rights
 
--- (own) what these rights allow
+-- what these rights allow (own)
 abbrev pub may_by : Rights → TypeId → TypeId → Perms → Bool
 may_by (rights.Policy p) source target perm = may_of p.now source.0 target.0 perm
 may_by (rights.Triples t) source target perm = is_listed t.allowed.items source target perm
 
--- (own) what a policy allows, or where there is none these triples
+-- what a policy allows, or where there is none these triples (own)
 abbrev pub may_with : Option policies.Rights → List Triple → TypeId → TypeId → Perms → Bool
 may_with (Some p) triples source target perm = may_of p source.0 target.0 perm
 may_with None triples source target perm = is_listed triples source target perm
 
--- (own) what a script allows: what the policy of its block says, or what its triples list
+-- what a script allows: what the policy of its block says, or what its triples list (own)
 abbrev pub may_in : Contents → TypeId → TypeId → Perms → Bool
 may_in c source target perm = may_with c.policy c.triples source target perm

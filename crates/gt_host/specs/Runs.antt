@@ -1,5 +1,5 @@
 -- What a run of a script does and prints.
-use Rattle.std.specs.Prelude.{◌≡◌, ◌≤◌, ℕ, ◌+◌, ◌-◌, ◌^◌, ◌==◌, ◌&&◌, List, [], ◌∷◌, ◌++◌, length, replicate, Option, Some, None, unwrap_or, is_some, if◌then◌else◌}
+use Rattle.std.specs.Prelude.{◌≡◌, ◌≤◌, ℕ, ◌+◌, ◌-◌, ◌^◌, ◌==◌, ◌&&◌, Bool, true, false, List, [], ◌∷◌, ◌++◌, length, replicate, Option, Some, None, unwrap_or, is_some, if◌then◌else◌}
 use Rattle.std.specs.Borrow.{Bor}
 use Rattle.std.specs.Str.{bytes_eq}
 use Rattle.gt_types.specs.declared.DomId.{DomId}
@@ -35,41 +35,51 @@ use Rattle.gt_host.specs.Showing.{show_line}
 
 -- labels
 
--- (own) a label of a domain, and the handle that a map of that label answered
+-- a label of a domain, and the handle that a map of that label answered (own)
 pub record Named : Type 0 where
   pub dom : DomId
   pub label : List ℕ
   pub handle : Handle
 
--- (own) the handle that a label names for its domain: that of its last map that was answered Ok, which stands first
+-- the handle that a label names for its domain: that of its last map that was answered Ok, which stands first (own)
 abbrev pub handle_named : List Named → ℕ → List ℕ → Option Handle
 handle_named [] dom label = None
 handle_named (n ∷ more) dom label = if (n.dom.0 == dom) && bytes_eq n.label label then Some n.handle else handle_named more dom label
 
--- (own) the handle that no map answers
+-- the handle that no map answers (own)
 abbrev pub never_given : Handle
 never_given = record { serial = 2 ^ 64 - 1; key = 0 }
 
--- (own) the handle that a label stands for
+-- the handle that a label stands for (own)
 abbrev pub handle_of : List Named → DomId → List ℕ → Handle
 handle_of named dom label = unwrap_or (handle_named named dom.0 label) never_given
 
 -- calls
 
--- (own) the entry that a grant publishes
+-- the entry that a grant publishes (own)
 unfoldable pub entry_of : Grant → Entry
 entry_of (grants.Page dom ro frame) = entries.Page dom ro frame
 entry_of (grants.Sub dom ro frame off len) = entries.Sub dom ro frame off len
 entry_of (grants.Via dom ro to gref) = entries.Via dom ro to gref
 
--- (own) the bytes that a call of a script says: those of an entry, or those that it writes
+-- the bytes that a call of a script says: those of an entry, or those that it writes (own)
 unfoldable pub bytes_said : Call → List ℕ
 bytes_said (calls.GrantBytes gref hex) = hex_bytes hex
 bytes_said (calls.Store label off hex) = hex_bytes hex
 bytes_said (calls.Poke frame off hex) = hex_bytes hex
 bytes_said call = []
 
--- (own) what a call of a script asks of the core, where its labels stand for these handles and these are its bytes
+-- the call is on a table, its entries, its version or its size, and reaches no bytes (own)
+unfoldable pub is_on_table : Call → Bool
+is_on_table (calls.Map label to gref flags) = false
+is_on_table (calls.Unmap label) = false
+is_on_table (calls.Load label off len) = false
+is_on_table (calls.Store label off hex) = false
+is_on_table (calls.Peek frame off len) = false
+is_on_table (calls.Poke frame off hex) = false
+is_on_table call = true
+
+-- what a call of a script asks of the core, where its labels stand for these handles and these are its bytes (own)
 unfoldable pub request_of : List Named → DomId → Bor (List ℕ) → Call → Request
 request_of named dom bytes (calls.Grant gref grant) = requests.Grant gref (entry_of grant)
 request_of named dom bytes (calls.GrantBytes gref hex) = requests.GrantBytes gref bytes
@@ -87,51 +97,51 @@ request_of named dom bytes (calls.SetupTable frames) = requests.SetupTable frame
 request_of named dom bytes (calls.QuerySize to) = requests.QuerySize to
 request_of named dom bytes (calls.GetVersion to) = requests.GetVersion to
 
--- (own) a call of a script asks this of the core, where its labels stand for these handles
+-- a call of a script asks this of the core, where its labels stand for these handles (own)
 abbrev pub Asks : List Named → DomId → Call → Request → Type 0
 Asks named dom call request = (bytes : Bor (List ℕ)) × (bytes.now ≡ bytes_said call) × (request ≡ request_of named dom bytes call)
 
--- (own) the label to which a call gives its handle: that of a map
+-- the label to which a call gives its handle: that of a map (own)
 unfoldable pub label_given : Call → Option (List ℕ)
 label_given (calls.Map label to gref flags) = Some label
 label_given call = None
 
--- (own) the label to which the call of a line gives its handle
+-- the label to which the call of a line gives its handle (own)
 unfoldable pub label_in : Action → Option (List ℕ)
 label_in (actions.Do call) = label_given call
 label_in (actions.Begin call) = label_given call
 label_in action = None
 
--- (own) the handle that an answer gives: that of a map answered Ok
+-- the handle that an answer gives: that of a map answered Ok (own)
 abbrev pub handle_given : Answer → Option Handle
 handle_given (Mapped handle) = Some handle
 handle_given answer = None
 
--- (own) with a label more, where there is one to be given this handle
+-- with a label more, where there is one to be given this handle (own)
 abbrev pub with_name : List Named → DomId → Option (List ℕ) → Option Handle → List Named
 with_name named dom (Some label) (Some handle) = record { dom = dom; label = label; handle = handle } ∷ named
 with_name named dom (Some label) None = named
 with_name named dom None given = named
 
--- (own) the labels of the domain once its call of this line has its answer: a map answered Ok gives its handle to its label
+-- the labels of the domain once its call of this line has its answer: a map answered Ok gives its handle to its label (own)
 abbrev pub named_after : List Named → DomId → Step → Answer → List Named
 named_after named dom s answer = with_name named dom (label_in s.action) (handle_given answer)
 
 -- answers
 
--- (own) the answer that an element of a trace carries
+-- the answer that an element of a trace carries (own)
 abbrev pub answer_in : Element → Option Answer
 answer_in (elements.Item item) = item.answer
 answer_in elements.Busy = None
 answer_in elements.Idle = None
 answer_in elements.NoDomain = None
 
--- (own) elements of a trace that answer nothing
+-- elements of a trace that answer nothing (own)
 abbrev pub AnswerNothing : List Element → Type 0
 AnswerNothing [] = Unit {0}
 AnswerNothing (element ∷ more) = (answer_in element ≡ None) × AnswerNothing more
 
--- (own) the last of the elements answers, and no earlier one
+-- the last of the elements answers, and no earlier one (own)
 pub record EndsWith (trace : List Element) (answer : Answer) : Type 0 where
   pub before : List Element
   pub last : Element
@@ -139,25 +149,25 @@ pub record EndsWith (trace : List Element) (answer : Answer) : Type 0 where
   pub quiet : AnswerNothing before
   pub answers : answer_in last ≡ Some answer
 
--- (own) what came of a call, by the elements of its beginning and its ticks: it begins, and goes on up to its answer;
--- one that its domain can't begin has no tick
+-- what came of a call, by the elements of its beginning and its ticks: it begins, and goes on up to its answer;
+-- one that its domain can't begin has no tick (own)
 abbrev pub ComesTo : List Element → Outcome → Type 0
 ComesTo trace (Answered answer) = (first : Item) × (more : List Element) × (trace ≡ elements.Item first ∷ more) × EndsWith trace answer
 ComesTo trace Busy = trace ≡ elements.Busy ∷ []
 
--- (own) what so many ticks of a domain come to: the last one answers its call, or none of them all does
+-- what so many ticks of a domain come to: the last one answers its call, or none of them all does (own)
 abbrev pub TicksComeTo : ℕ → List Element → Option Answer → Type 0
 TicksComeTo most trace (Some answer) = EndsWith trace answer × (length trace ≤ most)
 TicksComeTo most trace None = AnswerNothing trace × (length trace ≡ most)
 
--- (own) the events of a call: its beginning, and ticks
+-- the events of a call: its beginning, and ticks (own)
 abbrev pub call_events : DomId → Request → ℕ → List Event
 call_events dom request ticks = Begin dom request ∷ replicate ticks (Tick dom)
 
 -- runs
 
--- (own) how far a run has come: the events so far, what each of them did, what the labels stand for,
--- the lines whose calls the domains have open, and the text
+-- how far a run has come: the events so far, what each of them did, what the labels stand for,
+-- the lines whose calls the domains have open, and the text (own)
 pub record Progress : Type 0 where
   pub events : List Event
   pub trace : List Element
@@ -165,103 +175,104 @@ pub record Progress : Type 0 where
   pub open_steps : ℕ → Option Step
   pub text : List ℕ
 
+-- before the first line nothing has happened, no label stands for a handle, no call is open, and nothing is printed (own)
 abbrev pub at_start : Progress
 at_start = record { events = []; trace = []; named = []; open_steps = λ dom. None; text = [] }
 
--- (own) what happened so far
+-- what happened so far (own)
 abbrev pub history_of : Progress → History
 history_of p = history_after [] p.trace
 
--- (own) with more events, and what each of them did
+-- with more events, and what each of them did (own)
 abbrev pub with_events : Progress → List Event → List Element → Progress
 with_events p events trace = record p { events = p.events ++ events; trace = p.trace ++ trace }
 
--- (own) with a line more
+-- with a line more (own)
 abbrev pub with_line : Progress → List ℕ → Progress
 with_line p line = record p { text = p.text ++ line }
 
--- (own) the domain has the call of this line open from now on, or none
+-- the domain has the call of this line open from now on, or none (own)
 abbrev pub with_call : Progress → DomId → Option Step → Progress
 with_call p dom step = record p { open_steps = λ d. if d == dom.0 then step else p.open_steps d }
 
--- (own) the domain's call of this line has its answer
+-- the domain's call of this line has its answer (own)
 abbrev pub answered : List (List ℕ) → Progress → DomId → Step → Answer → Progress
 answered types p dom s answer = record p { named = named_after p.named dom s answer; text = p.text ++ answer_line types s.line dom answer }
 
--- (own) a call from its beginning on came to this
+-- a call from its beginning on came to this (own)
 abbrev pub after_call : List (List ℕ) → Progress → Step → Outcome → Progress
 after_call types p s (Answered answer) = answered types p s.dom s answer
 after_call types p s Busy = with_line p (busy_line s.line s.dom)
 
--- (own) a call was begun, and not answered or answered at once
+-- a call was begun, and not answered or answered at once (own)
 abbrev pub after_item : List (List ℕ) → Progress → Step → Option Answer → Progress
 after_item types p s None = with_call p s.dom (Some s)
 after_item types p s (Some answer) = answered types p s.dom s answer
 
--- (own) the beginning of a call did this; a domain of the run is not idle then
+-- the beginning of a call did this; a domain of the run is not idle then (own)
 abbrev pub after_beginning : List (List ℕ) → Progress → Step → Element → Progress
 after_beginning types p s (elements.Item item) = after_item types p s item.answer
 after_beginning types p s elements.Busy = with_line p (busy_line s.line s.dom)
 after_beginning types p s elements.Idle = p
 after_beginning types p s elements.NoDomain = p
 
--- (own) ticks of the domain's call, which this line began, came to this
+-- ticks of the domain's call, which this line began, came to this (own)
 abbrev pub after_ticks : List (List ℕ) → Progress → DomId → Step → Option Answer → Progress
 after_ticks types p dom begun (Some answer) = answered types (with_call p dom None) dom begun answer
 after_ticks types p dom begun None = p
 
--- (own) the line `do ID CALL`
+-- the line `do ID CALL` (own)
 abbrev pub DoLine : List (List ℕ) → Step → Call → Progress → Progress → Type 0
 DoLine types s call p q =
     (request : Request) × Asks p.named s.dom call request
     × (ticks : ℕ) × (trace : List Element) × (outcome : Outcome) × (length trace ≡ 1 + ticks) × ComesTo trace outcome
     × (q ≡ after_call types (with_events p (call_events s.dom request ticks) trace) s outcome)
 
--- (own) the line `begin ID CALL`
+-- the line `begin ID CALL` (own)
 abbrev pub BeginLine : List (List ℕ) → Step → Call → Progress → Progress → Type 0
 BeginLine types s call p q =
     (request : Request) × Asks p.named s.dom call request
     × (x : Element) × (q ≡ after_beginning types (with_events p (Begin s.dom request ∷ []) (x ∷ [])) s x)
 
--- (own) the line `tick ID N`: idle where the domain has no call open, and then nothing happens
+-- the line `tick ID N`: idle where the domain has no call open, and then nothing happens (own)
 abbrev pub TickLine : List (List ℕ) → Step → ℕ → Option Step → Progress → Progress → Type 0
 TickLine types s most None p q = (open_call (history_of p) s.dom.0 ≡ None) × (q ≡ with_line p (idle_line s.line s.dom))
 TickLine types s most (Some begun) p q =
     (ticks : ℕ) × (trace : List Element) × (answer : Option Answer) × (length trace ≡ ticks) × TicksComeTo most trace answer
     × (q ≡ after_ticks types (with_events p (replicate ticks (Tick s.dom)) trace) s.dom begun answer)
 
--- (own) the line `show ID REF`: what the entry is after what happened so far
+-- the line `show ID REF`: what the entry is after what happened so far (own)
 abbrev pub ShowLine : Setting → Step → GrantRef → Progress → Progress → Type 0
 ShowLine t s gref p q = q ≡ with_line p (show_line s.line s.dom gref (shown_at t (history_of p) s.dom gref.0))
 
--- (own) what a line of the body asks for
+-- what a line of the body asks for (own)
 abbrev pub RunsLine : Setting → List (List ℕ) → Step → Action → Progress → Progress → Type 0
 RunsLine t types s (actions.Do call) p q = DoLine types s call p q
 RunsLine t types s (actions.Begin call) p q = BeginLine types s call p q
 RunsLine t types s (actions.Tick count) p q = TickLine types s count (p.open_steps s.dom.0) p q
 RunsLine t types s (actions.Show gref) p q = ShowLine t s gref p q
 
--- (own) the steps, one after the other, lead from one point of a run to another
+-- the steps, one after the other, lead from one point of a run to another (own)
 abbrev pub LeadsTo : Setting → List (List ℕ) → Progress → List Step → Progress → Type 0
 LeadsTo t types p [] q = p ≡ q
 LeadsTo t types p (s ∷ steps) q = (r : Progress) × RunsLine t types s s.action p r × LeadsTo t types r steps q
 
--- (own) this is where the steps of a script lead
+-- this is where the steps of a script lead (own)
 abbrev pub IsRunOf : Setting → List (List ℕ) → List Step → Progress → Type 0
 IsRunOf t types steps p = LeadsTo t types at_start steps p
 
--- (own) a domain has a line's call open exactly where it has one open by what happened
+-- a domain has a line's call open exactly where it has one open by what happened (own)
 abbrev pub KnowsOpen : Progress → Type 0
 KnowsOpen p = (dom : ℕ) → is_some (p.open_steps dom) ≡ is_some (open_call (history_of p) dom)
 
 -- the end
 
--- (own) the line of a call that is open at the end of the script
+-- the line of a call that is open at the end of the script (own)
 abbrev pub open_text : DomId → Option Step → List ℕ
 open_text dom None = []
 open_text dom (Some s) = open_line s.line dom
 
--- (own) the lines of the open calls, in the order of the domains
+-- the lines of the open calls, in the order of the domains (own)
 abbrev pub open_lines : List DomainConfig → (ℕ → Option Step) → List ℕ
 open_lines [] steps = []
 open_lines (d ∷ ds) steps = open_text d.id (steps d.id.0) ++ open_lines ds steps

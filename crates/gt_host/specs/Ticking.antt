@@ -1,5 +1,5 @@
 -- What the parts of a run do, after the items of a history.
-use Rattle.std.specs.Prelude.{◌≡◌, ◌≢◌, ◌≤◌, ℕ, ◌+◌, List, ◌++◌, length, replicate, Option, Some, None}
+use Rattle.std.specs.Prelude.{◌≡◌, ◌≢◌, ℕ, ◌+◌, List, ◌++◌, length, replicate, Option, None}
 use Rattle.gt_types.specs.Names.{domain_of}
 use Rattle.gt_types.specs.declared.DomId.{DomId}
 use Rattle.gt_core.specs.History.{History, Setting}
@@ -17,12 +17,12 @@ use Rattle.gt_host.specs.Naming.{AreNamed}
 use Rattle.gt_host.specs.OpenCalls.{call_in}
 use Rattle.gt_host.specs.Runs.{Progress, ComesTo, TicksComeTo, KnowsOpen, call_events, history_of}
 
--- (own) the events did what they may after the history, and the core stands for what they leave
+-- the events did what they may after the history, and the core stands for what they leave (own)
 pub record Happens (s : Setting) (h : History) (events : List Event) (trace : List Element) (domains : List State) : Type 0 where
   pub legal : LegalAfter s h events trace
   pub stands : CoreStands s (history_after h trace) domains
 
--- (own) a call comes to this, by its beginning and some ticks
+-- a call comes to this, by its beginning and some ticks (own)
 pub record Calls (s : Setting) (h : History) (dom : DomId) (request : Request) (domains : List State) (outcome : Outcome) : Type 0 where
   pub ticks : ℕ
   pub trace : List Element
@@ -30,7 +30,7 @@ pub record Calls (s : Setting) (h : History) (dom : DomId) (request : Request) (
   pub comes : ComesTo trace outcome
   pub happens : Happens s h (call_events dom request ticks) trace domains
 
--- (own) at most so many ticks of a domain come to this
+-- at most so many ticks of a domain come to this (own)
 pub record TicksTo (s : Setting) (h : History) (dom : DomId) (most : ℕ) (domains : List State) (answer : Option Answer) : Type 0 where
   pub ticks : ℕ
   pub trace : List Element
@@ -38,29 +38,29 @@ pub record TicksTo (s : Setting) (h : History) (dom : DomId) (most : ℕ) (domai
   pub comes : TicksComeTo most trace answer
   pub happens : Happens s h (replicate ticks (Tick dom)) trace domains
 
--- (own) the core stands for some history, and the domain is one of the run
+-- the core stands for some history, and the domain is one of the run (own)
 pub record IsReady (s : Setting) (dom : DomId) (domains : List State) : Type 0 where
   pub history : History
   pub stands : CoreStands s history domains
   pub known : domain_of s.domains dom ≢ None
 
--- (own) what is kept beside the core is what a run that has come here knows: what labels name, and the open calls
+-- what is kept beside the core is what a run that has come here knows: what labels name, and the open calls (own)
 pub record IsKept (kept : Kept) (p : Progress) : Type 0 where
   pub names : AreNamed kept.labels p.named
   pub calls : (dom : ℕ) → call_in kept.calls dom ≡ p.open_steps dom
 
--- (own) the run has come to this point: what it did is legal, and the core and what is kept stand for it
+-- the run has come to this point: what it did is legal, and the core and what is kept stand for it (own)
 pub record HasCome (s : Setting) (p : Progress) (domains : List State) (kept : Kept) : Type 0 where
   pub legal : Legal s p.events p.trace
   pub stands : CoreStands s (history_of p) domains
   pub keeps : IsKept kept p
   pub knows : KnowsOpen p
 
--- (own) text was appended, in the run as in the code
+-- text was appended, in the run as in the code (own)
 abbrev pub IsAppended : List ℕ → List ℕ → List ℕ → List ℕ → Type 0
 IsAppended was is before after = (text : List ℕ) × (is ≡ was ++ text) × (after ≡ before ++ text)
 
--- (own) from each point that the run may have come to, this leads to a next one
+-- from each point that the run may have come to, this leads to a next one (own)
 abbrev pub Leads : Setting → (Progress → Progress → Type 0) → List State → List State → Kept → Kept → List ℕ → List ℕ → Type 0
 Leads s ToNext old_domains new_domains old_kept new_kept before after =
     (p : Progress) → HasCome s p old_domains old_kept

@@ -4,16 +4,12 @@ ghost use Rattle.gt_host.specs.Printing.{type_text, facts_text, denial_text, byt
 
 use gt_core::Answer;
 use gt_script::Text;
+use gt_streams::push_text;
 use gt_types::{Denial, DomId, Facts, TypeId};
 use itoa::{Buffer, Integer};
 use std::alloc::{AllocError, Global};
 
-pub fn push_text(out: &mut Vec<u8>, text: &str) -> Result<(), AllocError>
-    ensures { OnOk result (out.new.items ≡ out.old.items ++ text.now) }
-{
-    out.extend_from_slice(text.as_bytes())
-}
-
+/// Appends a number, in decimal digits.
 pub fn push_number<I: Integer>(out: &mut Vec<u8>, number: I) -> Result<(), AllocError>
     ensures { OnOk result (out.new.items ≡ out.old.items ++ I.text number) }
 {
@@ -21,6 +17,7 @@ pub fn push_number<I: Integer>(out: &mut Vec<u8>, number: I) -> Result<(), Alloc
     push_text(out, buffer.format(number))
 }
 
+/// Appends ` NAME=NUMBER`. After an Err a part of it may stand.
 pub fn push_part<I: Integer>(out: &mut Vec<u8>, name: &str, number: I) -> Result<(), AllocError>
     ensures { OnOk result (out.new.items ≡ out.old.items ++ codes " " ++ name.now ++ codes "=" ++ I.text number) }
 {

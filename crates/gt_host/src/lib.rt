@@ -9,8 +9,10 @@
 //! is a legal trace of the core. It is whole where `play` answers Ok; a
 //! script with a fault writes nothing, and the fault is the script's first; after a failed write,
 //! or for want of memory, what went out is a beginning of such a text. It stands on `gt_script`
-//! for what a script says, on `gt_core` for what its calls do, and on `gt_streams` for reads and
-//! writes.
+//! for what a script says, on `gt_core` for what its calls do, on `gt_policy` and `gt_types` for
+//! what its policy or its triples allow, on `gt_entry` for the entries that lines grant and show,
+//! and on `gt_streams` for reads and writes; its definitions also speak of the requests of
+//! `gt_calls` and the handles of `gt_handles`.
 #![tactic(auto)]
 
 #[cfg(test)]

@@ -1,9 +1,9 @@
 //! What came of a call.
 use gt_core::Answer;
 
-/// The most ticks that a call takes to its answer: those of a copy with two Vias, each of whose
-/// legs misses all its tries but the last.
-pub const MOST_TICKS: u32 = 71;
+/// A bound on the ticks of any call, that of the trace's law (`most_steps`): room for a copy between
+/// two transitive entries. No call that is built takes more than 13.
+pub const TICKS_OF_A_CALL: u32 = 71;
 
 /// What came of a call.
 #[derive(Debug, Drop)]

@@ -1,11 +1,12 @@
 //! The run of a script: its lines, one after the other, on the core.
-ghost use Rattle.std.specs.Prelude.{◌≡◌, ◌≢◌, ◌++◌, List, None, OnOk, IfOk, IfErr};
+ghost use Rattle.std.specs.Prelude.{◌≡◌, ◌≢◌, ◌++◌, List, None, OnOk, IfOk, IfErr, IsTrue};
 ghost use Rattle.std.specs.Option.{option_map};
 ghost use Rattle.gt_types.specs.Names.{domain_of};
+ghost use Rattle.gt_types.specs.declared.DomId.{DomId};
 ghost use Rattle.gt_core.specs.History.{History};
 ghost use Rattle.gt_core.specs.Standing.{CoreStands, setting_of};
 ghost use Rattle.gt_host.specs.Printing.{answer_line};
-ghost use Rattle.gt_host.specs.Runs.{Named, entry_of, bytes_said as said_in, request_of, label_in, named_after, DoLine, BeginLine, TickLine, RunsLine};
+ghost use Rattle.gt_host.specs.Runs.{Named, entry_of, bytes_said as said_in, is_on_table, request_of, label_in, named_after, DoLine, BeginLine, TickLine, RunsLine};
 ghost use Rattle.gt_host.specs.Naming.{AreNamed};
 ghost use Rattle.gt_host.specs.Ticking.{IsReady, Calls, TicksTo, Leads};
 ghost use Rattle.gt_host.specs.declared.fault.Fault.TheVariants as faults;
@@ -14,7 +15,7 @@ use crate::answers::{push_answer_line, push_busy_line, push_idle_line};
 use crate::fault::Fault;
 use crate::kept::Kept;
 use crate::labels::Labels;
-use crate::outcome::{MOST_TICKS, Outcome};
+use crate::outcome::{Outcome, TICKS_OF_A_CALL};
 use crate::showing::push_show_line;
 use gt_core::{Answer, Begun, Core, Request, Ticked};
 use gt_entry::Entry;
@@ -76,8 +77,31 @@ fn bytes_said<'a>(alloc: Global, call: &Call<'a>) -> Result<Vec<u8>, AllocError>
     }
 }
 
+// What a call on a table asks of the core, where it says these bytes.
+#[tactic(auto, unfolding(crate::specs::Runs::request_of, crate::specs::Runs::is_on_table))]
+fn table_request<'a, 'c>(bytes: &'c [u8], call: &Call<'a>) -> Request<'c>
+    requires { IsTrue (is_on_table call.now) }
+    ensures { (named : List Named) (dom : DomId) → result ≡ request_of named dom bytes.entry call.now }
+{
+    match call {
+        Call::Grant { gref, entry } => Request::Grant {
+            gref: *gref,
+            entry: entry_of(*entry),
+        },
+        Call::GrantBytes { gref, .. } => Request::GrantBytes { gref: *gref, bytes },
+        Call::Revoke { gref } => Request::Revoke { gref: *gref },
+        Call::Demote { gref } => Request::Demote { gref: *gref },
+        Call::Promote { gref } => Request::Promote { gref: *gref },
+        Call::SetVersion { version } => Request::SetVersion { version: *version },
+        Call::SetupTable { frames } => Request::SetupTable { frames: *frames },
+        Call::QuerySize { dom } => Request::QuerySize { dom: *dom },
+        Call::GetVersion { dom } => Request::GetVersion { dom: *dom },
+        _ => unreachable!(),
+    }
+}
+
 // What a call that says these bytes asks of the core.
-#[tactic(auto, unfolding(crate::specs::Runs::request_of))]
+#[tactic(auto, unfolding(crate::specs::Runs::request_of, crate::specs::Runs::is_on_table))]
 fn request_of<'a, 'c>(
     labels: &Labels<'a>,
     dom: DomId,
@@ -87,11 +111,6 @@ fn request_of<'a, 'c>(
     ensures { (named : List Named) → AreNamed labels.now named → result ≡ request_of named dom bytes.entry call.now }
 {
     match call {
-        Call::Grant { gref, entry } => Request::Grant {
-            gref: *gref,
-            entry: entry_of(*entry),
-        },
-        Call::GrantBytes { gref, .. } => Request::GrantBytes { gref: *gref, bytes },
         Call::Map {
             dom,
             gref,
@@ -125,13 +144,7 @@ fn request_of<'a, 'c>(
             off: *off,
             bytes,
         },
-        Call::Revoke { gref } => Request::Revoke { gref: *gref },
-        Call::Demote { gref } => Request::Demote { gref: *gref },
-        Call::Promote { gref } => Request::Promote { gref: *gref },
-        Call::SetVersion { version } => Request::SetVersion { version: *version },
-        Call::SetupTable { frames } => Request::SetupTable { frames: *frames },
-        Call::QuerySize { dom } => Request::QuerySize { dom: *dom },
-        Call::GetVersion { dom } => Request::GetVersion { dom: *dom },
+        _ => table_request(bytes, call),
     }
 }
 
@@ -214,7 +227,7 @@ fn run_call<P: Allows>(
     match core.begin(dom, request)? {
         Begun::Done(answer) => Ok(Outcome::Answered(answer)),
         Begun::Busy => Ok(Outcome::Busy),
-        Begun::Open | Begun::NoDomain => match tick_up_to(core, dom, MOST_TICKS)? {
+        Begun::Open | Begun::NoDomain => match tick_up_to(core, dom, TICKS_OF_A_CALL)? {
             Some(answer) => Ok(Outcome::Answered(answer)),
             None => unreachable!(),
         },

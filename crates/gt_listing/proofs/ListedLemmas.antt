@@ -19,10 +19,10 @@ use Rattle.gt_listing.specs.declared.fault.Fault.{Fault}
 use Rattle.gt_listing.specs.declared.fault.Fault.TheVariants as faults
 use Rattle.gt_listing.specs.Faults.{fault_of, read_fault}
 use Rattle.gt_listing.specs.Reading.{IsNoText}
+use Rattle.gt_streams.specs.Laws.{keeps_same}
 use Rattle.gt_streams.specs.Streams.{AppendsBeginning}
 use Rattle.gt_listing.specs.Writing.{IsListing, Listed, Parsed, Writes, text_with}
 use Rattle.gt_listing.proofs.LineLemmas.{listing_same}
-use Rattle.gt_listing.proofs.PieceLemmas.{Keeps-same}
 
 -- the lines went out, or a beginning of them
 pub writes : (p : Rights) (ids : List TypeId) (old new : Option (List ℕ)) (r : Result (Unit {0}) Fault) → AreByName p.types ids → OnOk r (Appends old new (text_with p ids)) → OnErr r (AppendsBeginning old new (text_with p ids))
@@ -36,7 +36,7 @@ writes p ids old new (Err (faults.Policy shown)) named whole begun few = elim fe
 
 -- memory ran out before a line
 pub writes_nothing : (p : Rights) (old : Option (List ℕ)) (fault : Fault) → fault ≡ faults.Memory → Writes p old old (Err fault)
-writes_nothing p old fault is = subst (λ (f : Fault). Writes p old old (Err f)) (sym is) (inl (Keeps-same old))
+writes_nothing p old fault is = subst (λ (f : Fault). Writes p old old (Err f)) (sym is) (inl (keeps_same old))
 
 -- the text of what is kept is that of the meaning
 is_listing : (p : Rights) (m : Meaning) (ids : List TypeId) → Shows p m → AreByName p.types ids → IsListing m (text_with p ids)
@@ -54,13 +54,13 @@ parsed p m text old new (Err (faults.Policy shown)) says shows w = absurd w
 
 -- the text is no policy
 refused : (line : ℕ) (kind : FaultKind) (text : List ℕ) (old : Option (List ℕ)) → ((f : policy.Fault) → fault_shown (record { line = line; kind = kind }) ≡ Some f → Says text (Err f)) → Parsed text old old (Err (fault_of line kind))
-refused line kinds.Memory text old says = inl (Keeps-same old)
-refused line kinds.Syntax text old says = (_, refl, says _ refl, Keeps-same old)
-refused line (kinds.Unknown name) text old says = (_, refl, says _ refl, Keeps-same old)
-refused line (kinds.Twice name) text old says = (_, refl, says _ refl, Keeps-same old)
-refused line (kinds.Permission name) text old says = (_, refl, says _ refl, Keeps-same old)
-refused line (kinds.Outside word) text old says = (_, refl, says _ refl, Keeps-same old)
-refused line kinds.Limit text old says = (_, refl, says _ refl, Keeps-same old)
+refused line kinds.Memory text old says = inl (keeps_same old)
+refused line kinds.Syntax text old says = (_, refl, says _ refl, keeps_same old)
+refused line (kinds.Unknown name) text old says = (_, refl, says _ refl, keeps_same old)
+refused line (kinds.Twice name) text old says = (_, refl, says _ refl, keeps_same old)
+refused line (kinds.Permission name) text old says = (_, refl, says _ refl, keeps_same old)
+refused line (kinds.Outside word) text old says = (_, refl, says _ refl, keeps_same old)
+refused line kinds.Limit text old says = (_, refl, says _ refl, keeps_same old)
 
 pub parsed_no : (line : ℕ) (kind : FaultKind) (fault : Fault) (text : List ℕ) (old : Option (List ℕ)) → fault ≡ fault_of line kind
     → ((f : policy.Fault) → fault_shown (record { line = line; kind = kind }) ≡ Some f → Says text (Err f)) → Parsed text old old (Err fault)
@@ -95,11 +95,11 @@ pub listed_no : (all bytes : List ℕ) (fault : Fault) (old : Option (List ℕ))
 listed_no all bytes (faults.Utf8 line) old read h =
     let few : length (take 1048577 all) ≤ 1048576 = subst (λ (l : List ℕ). length l ≤ 1048576) read h.0 in
     let whole : bytes ≡ all = read ∙ take_whole 1048576 all few in
-    subst (λ (l : List ℕ). Listed l old old (Err (faults.Utf8 line))) whole (h, Keeps-same old)
+    subst (λ (l : List ℕ). Listed l old old (Err (faults.Utf8 line))) whole (h, keeps_same old)
 listed_no all bytes (faults.Policy shown) old read h =
     let many : 1048576 < length (take 1048577 all) = subst (λ (l : List ℕ). 1048576 < length l) read h.0 in
     let long : 1048576 < length all = omega (arith, many, take_shorter 1048577 all) in
-    (at 1 Limit, h.1, (inl long, too_long all long), Keeps-same old)
+    (at 1 Limit, h.1, (inl long, too_long all long), keeps_same old)
 listed_no all bytes faults.Memory old read h = absurd h
 listed_no all bytes faults.Read old read h = absurd h
 listed_no all bytes faults.Write old read h = absurd h
@@ -111,8 +111,8 @@ listed_all (Some all) old new bytes r e h = h all e
 
 -- nothing could be read
 unread : (all : List ℕ) (old : Option (List ℕ)) (error : ReadFault) → Listed all old old (Err (read_fault error))
-unread all old reads.Memory = inl (Keeps-same old)
-unread all old reads.Read = Keeps-same old
+unread all old reads.Memory = inl (keeps_same old)
+unread all old reads.Read = keeps_same old
 
 pub listed_unread : (known old : Option (List ℕ)) (error : ReadFault) (fault : Fault) → fault ≡ read_fault error → IfSome known (λ all. Listed all old old (Err fault))
 listed_unread None old error fault is = tt

@@ -1,10 +1,11 @@
 -- Texts that grow piece by piece, and go out in parts.
-use Rattle.std.proofs.Common.{◌≡◌, ℕ, ◌+◌, ◌<◌, List, [], ◌∷◌, ◌++◌, length, take, drop, get_or, Option, None, Some, Result, Ok, Err, OnErr, refl, ap, sym, subst, ◌∙◌, append_assoc, length-append, add-one, arith}
-use Rattle.std.proofs.Math.Seq.{take-suc, take-append-add, take-length}
-use Rattle.std.proofs.lemmas.List.{append-nil, flat_map_more, take-append-drop, take-append-le}
+use Rattle.std.proofs.Common.{◌≡◌, ℕ, ◌+◌, ◌<◌, List, [], ◌∷◌, ◌++◌, length, take, drop, get_or, Option, Result, Ok, Err, OnErr, ap, sym, subst, ◌∙◌, append_assoc, add-one, arith}
+use Rattle.std.proofs.Math.Seq.{take-suc, take-length}
+use Rattle.std.proofs.lemmas.List.{append-nil, flat_map_more, take-append-drop}
 use Rattle.std.proofs.lemmas.List.Concat.{flat_map-append}
-use Rattle.std.specs.Io.KnownBytes.{Appends, Keeps}
+use Rattle.std.specs.Io.KnownBytes.{Appends}
 use Rattle.std.specs.List.{flat_map}
+use Rattle.gt_streams.specs.Laws.{appends_both, appends_nothing, begins_after, begins_longer}
 use Rattle.gt_streams.specs.Streams.{AppendsBeginning, Sends}
 
 -- a piece more
@@ -28,31 +29,6 @@ split_pieces {X = X} f xs i start =
 
 -- what went out
 
-pub Keeps-same : (a : Option (List ℕ)) → Keeps a a
-Keeps-same None = tt
-Keeps-same (Some xs) = refl
-
-pub Appends-nothing : (a : Option (List ℕ)) → Appends a a []
-Appends-nothing None = tt
-Appends-nothing (Some xs) = sym (append-nil xs)
-
--- two writes, one after the other
-Appends-both : (a b c : Option (List ℕ)) (xs ys : List ℕ) → Appends a b xs → Appends b c ys → Appends a c (xs ++ ys)
-Appends-both None b c xs ys p q = tt
-Appends-both (Some x) None c xs ys p q = absurd p
-Appends-both (Some x) (Some y) None xs ys p q = absurd q
-Appends-both (Some x) (Some y) (Some z) xs ys p q = q ∙ ap (λ (l : List ℕ). l ++ ys) p ∙ append_assoc x xs ys
-
--- a text goes out, and then a beginning of another
-begins_after : (a b c : Option (List ℕ)) (xs ys : List ℕ) → Appends a b xs → AppendsBeginning b c ys → AppendsBeginning a c (xs ++ ys)
-begins_after a b c xs ys p (n, few, q) =
-    (length xs + n, rw length-append (omega (arith, few)), subst (λ (l : List ℕ). Appends a c l) (sym (take-append-add xs ys n)) (Appends-both a b c xs (take n ys) p q))
-
--- a beginning of a text is one of a longer text
-begins_longer : (a c : Option (List ℕ)) (xs ys : List ℕ) → AppendsBeginning a c xs → AppendsBeginning a c (xs ++ ys)
-begins_longer a c xs ys (n, few, q) =
-    (n, rw length-append (omega (arith, few)), subst (λ (l : List ℕ). Appends a c l) (sym (take-append-le n xs ys few)) q)
-
 -- of the first pieces a beginning went out, and so of all
 pub begins_pieces : {X : Type 0} (f : X → List ℕ) (xs : List X) (i : ℕ) (start : List ℕ) (a c : Option (List ℕ)) → AppendsBeginning a c (start ++ flat_map f (take i xs)) → AppendsBeginning a c (start ++ flat_map f xs)
 begins_pieces f xs i start a c h =
@@ -60,12 +36,12 @@ begins_pieces f xs i start a c h =
 
 -- nothing was added, and nothing went out
 pub sends_nothing : (a : Option (List ℕ)) (start : List ℕ) → Sends a a (start ++ []) start
-sends_nothing a start = ([], append-nil start, Appends-nothing a)
+sends_nothing a start = ([], append-nil start, appends_nothing a)
 
 -- of a text some went out and the rest waits; more waits with it, of which some goes out
 pub sends_more : (a b c : Option (List ℕ)) (text waiting more rest : List ℕ) → Sends a b text waiting → Sends b c (waiting ++ more) rest → Sends a c (text ++ more) rest
 sends_more a b c text waiting more rest (sent, split, went) (next, parts, goes) =
-    (sent ++ next, ap (λ (l : List ℕ). l ++ more) split ∙ append_assoc sent waiting more ∙ ap (λ (l : List ℕ). sent ++ l) parts ∙ sym (append_assoc sent next rest), Appends-both a b c sent next went goes)
+    (sent ++ next, ap (λ (l : List ℕ). l ++ more) split ∙ append_assoc sent waiting more ∙ ap (λ (l : List ℕ). sent ++ l) parts ∙ sym (append_assoc sent next rest), appends_both a b c sent next went goes)
 
 -- the same, and of what waits a beginning goes out
 pub begins_more : (a b c : Option (List ℕ)) (text waiting more : List ℕ) → Sends a b text waiting → AppendsBeginning b c (waiting ++ more) → AppendsBeginning a c (text ++ more)
@@ -79,7 +55,7 @@ has_begun a b text waiting (sent, split, went) =
 
 -- what waits goes out, all of it or a beginning
 pub sends_all : (a b c : Option (List ℕ)) (text waiting : List ℕ) → Sends a b text waiting → Appends b c waiting → Appends a c text
-sends_all a b c text waiting (sent, split, went) h = subst (λ (l : List ℕ). Appends a c l) (sym split) (Appends-both a b c sent waiting went h)
+sends_all a b c text waiting (sent, split, went) h = subst (λ (l : List ℕ). Appends a c l) (sym split) (appends_both a b c sent waiting went h)
 
 pub begins_all : (a b c : Option (List ℕ)) (text waiting : List ℕ) → Sends a b text waiting → AppendsBeginning b c waiting → AppendsBeginning a c text
 begins_all a b c text waiting (sent, split, went) h = subst (λ (l : List ℕ). AppendsBeginning a c l) (sym split) (begins_after a b c sent waiting went h)
@@ -105,7 +81,7 @@ OnErr-all (Err e) P h = h
 
 -- nothing waits yet
 pub sends_start : (a : Option (List ℕ)) (waiting : List ℕ) → waiting ≡ [] → Sends a a [] waiting
-sends_start a waiting none = ([], sym none, Appends-nothing a)
+sends_start a waiting none = ([], sym none, appends_nothing a)
 
 -- all pieces were added
 pub sent_all : {X : Type 0} (f : X → List ℕ) (xs : List X) (i : ℕ) (start rest : List ℕ) (a b : Option (List ℕ)) → i ≡ length xs → Sends a b (start ++ flat_map f (take i xs)) rest → Sends a b (start ++ flat_map f xs) rest

@@ -7,7 +7,7 @@ use Rattle.gt_streams.specs.declared.fault.ReadFault.TheVariants as reads
 use Rattle.gt_listing.specs.declared.fault.Fault.{Fault}
 use Rattle.gt_listing.specs.declared.fault.Fault.TheVariants as faults
 
--- (own) what ends a listing that has no policy
+-- what ends a listing that has no policy (own)
 abbrev pub fault_of : ℕ → FaultKind → Fault
 fault_of line kinds.Memory = faults.Memory
 fault_of line kinds.Syntax = faults.Policy (record { line = line; kind = kinds.Syntax })
@@ -17,7 +17,7 @@ fault_of line (kinds.Permission name) = faults.Policy (record { line = line; kin
 fault_of line (kinds.Outside word) = faults.Policy (record { line = line; kind = kinds.Outside word })
 fault_of line kinds.Limit = faults.Policy (record { line = line; kind = kinds.Limit })
 
--- (own) what ends a listing that has no text
+-- what ends a listing that has no text (own)
 abbrev pub read_fault : ReadFault → Fault
 read_fault reads.Memory = faults.Memory
 read_fault reads.Read = faults.Read

@@ -6,30 +6,30 @@ use Rattle.gt_types.specs.declared.perms.Perms.{Perms}
 use Rattle.gt_types.specs.declared.rights.Triple.{Triple}
 use Rattle.gt_policy.specs.Listing.{name_of}
 
--- (own) the permissions in the order of the lines
+-- the permissions in the order of the lines (own)
 abbrev pub permissions : List Perms
 permissions = names.map_read ∷ names.map_write ∷ names.unmap ∷ names.transfer ∷ names.setup ∷ names.copy ∷ names.query ∷ []
 
--- (own) `SOURCE TARGET PERMISSION`
+-- `SOURCE TARGET PERMISSION` (own)
 abbrev pub triple_line : List ℕ → List ℕ → Perms → List ℕ
 triple_line source target perm = source ++ codes " " ++ target ++ codes " " ++ names.permission_name perm ++ codes "\n"
 
--- (own) the line of a triple, by the names of its types
+-- the line of a triple, by the names of its types (own)
 abbrev pub line_of : List (List ℕ) → Triple → List ℕ
 line_of types x = triple_line (name_of types x.source.0) (name_of types x.target.0) x.perm
 
--- (own) all triples of a source and a target, by permission
+-- all triples of a source and a target, by permission (own)
 abbrev pub pair_triples : TypeId → TypeId → List Triple
 pair_triples source target = map (λ perm. record { source = source; target = target; perm = perm }) permissions
 
--- (own) all triples of these types: by source, then by target, then by permission
+-- all triples of these types: by source, then by target, then by permission (own)
 abbrev pub triples_of : List TypeId → List Triple
 triples_of ids = flat_map (λ source. flat_map (λ target. pair_triples source target) ids) ids
 
--- (own) whether a triple is one that may be
+-- whether a triple is one that may be (own)
 abbrev pub is_one : (ℕ → ℕ → Perms → Bool) → Triple → Bool
 is_one may x = may x.source.0 x.target.0 x.perm
 
--- (own) the lines of those triples of these types that may be, in their order
+-- the lines of those triples of these types that may be, in their order (own)
 abbrev pub listing : List (List ℕ) → (ℕ → ℕ → Perms → Bool) → List TypeId → List ℕ
 listing types may ids = flat_map (line_of types) (filter (is_one may) (triples_of ids))

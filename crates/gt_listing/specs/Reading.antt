@@ -1,33 +1,29 @@
 -- What bytes say: a policy, or their first fault.
-use Rattle.std.specs.Prelude.{◌≡◌, ◌⊎◌, ◌<◌, ◌≤◌, ◌==◌, ◌+◌, ℕ, List, length, take, count_by, Some, Ok, Err}
+use Rattle.std.specs.Prelude.{◌≡◌, ◌⊎◌, ◌<◌, ◌≤◌, ℕ, List, length, Some, Ok, Err}
 use Rattle.std.specs.Str.{IsUtf8}
-use Rattle.std.specs.Str.Lossy.{utf8_valid_len}
 use Rattle.gt_policy.specs.Allowing.{Meaning}
 use Rattle.gt_policy.specs.Grammar.{at}
 use Rattle.gt_policy.specs.Shown.{fault_shown}
 use Rattle.gt_policy.specs.Whole.{Says}
 use Rattle.gt_policy.specs.declared.fault.Fault as policy
 use Rattle.gt_policy.specs.declared.fault.Kind.TheVariants.{Limit}
+use Rattle.gt_streams.specs.Texts as texts
 use Rattle.gt_listing.specs.declared.fault.Fault.{Fault}
 use Rattle.gt_listing.specs.declared.fault.Fault.TheVariants.{Utf8, Policy, Memory, Read, Write}
 
--- (own) the line on which a text stops
-abbrev pub line_after : List ℕ → ℕ
-line_after text = count_by (λ b. b == 10) text + 1
-
--- (own) the bytes are the text of a policy that means this
+-- the bytes are the text of a policy that means this (own)
 abbrev pub IsPolicy : List ℕ → Meaning → Type 0
 IsPolicy bytes m = IsUtf8 bytes × Says bytes (Ok m)
 
--- (own) the bytes are not too many, and no UTF-8, from a byte of this line on
+-- the bytes are not too many, and no UTF-8, from a byte of this line on (own)
 abbrev pub IsBadAt : List ℕ → ℕ → Type 0
-IsBadAt bytes line = (length bytes ≤ 1048576) × (¬ IsUtf8 bytes) × (line ≡ line_after (take (utf8_valid_len bytes) bytes))
+IsBadAt bytes line = (length bytes ≤ 1048576) × texts.IsBadAt bytes line
 
--- (own) the first fault of the bytes is one of a policy: they are too many, or a text that has it
+-- the first fault of the bytes is one of a policy: they are too many, or a text that has it (own)
 abbrev pub IsFaulty : List ℕ → policy.Fault → Type 0
 IsFaulty bytes f = ((1048576 < length bytes) ⊎ IsUtf8 bytes) × Says bytes (Err f)
 
--- (own) the bytes are too many, or no UTF-8, and this is their fault
+-- the bytes are too many, or no UTF-8, and this is their fault (own)
 abbrev pub IsNoText : List ℕ → Fault → Type 0
 IsNoText bytes (Utf8 line) = IsBadAt bytes line
 IsNoText bytes (Policy shown) = (1048576 < length bytes) × (fault_shown shown ≡ Some (at 1 Limit))

@@ -13,20 +13,20 @@ use Rattle.gt_listing.specs.Listing.{listing}
 use Rattle.gt_listing.specs.Reading.{IsPolicy, IsBadAt, IsFaulty}
 use Rattle.gt_streams.specs.Streams.{AppendsBeginning}
 
--- (own) the text of a policy: the lines of the triples that it allows, of its types in the byte order of their names
+-- the text of a policy: the lines of the triples that it allows, of its types in the byte order of their names (own)
 abbrev pub IsListing : Meaning → List ℕ → Type 0
 IsListing m text = (ids : List TypeId) × AreByName m.types ids × (text ≡ listing m.types (is_allowed m) ids)
 
--- (own) that text went out
+-- that text went out (own)
 abbrev pub WritesListing : Meaning → Option (List ℕ) → Option (List ℕ) → Type 0
 WritesListing m old new = (text : List ℕ) × IsListing m text × Appends old new text
 
--- (own) a beginning of it went out
+-- a beginning of it went out (own)
 abbrev pub BeginsListing : Meaning → Option (List ℕ) → Option (List ℕ) → Type 0
 BeginsListing m old new = (text : List ℕ) × IsListing m text × AppendsBeginning old new text
 
--- (own) what `policy` wrote for these bytes, where it answers so: at Ok the text of the policy that they are, whole; at a fault
--- of the bytes nothing, and the fault is their first; after a failed write a beginning of that text, and so for want of memory, unless nothing
+-- what `policy` wrote for these bytes, where it answers so: at Ok the text of the policy that they are, whole; at a fault
+-- of the bytes nothing, and the fault is their first; after a failed write a beginning of that text, and so for want of memory, unless nothing (own)
 abbrev pub Listed : List ℕ → Option (List ℕ) → Option (List ℕ) → Result (Unit {0}) Fault → Type 0
 Listed bytes old new (Ok done) = (m : Meaning) × IsPolicy bytes m × WritesListing m old new
 Listed bytes old new (Err (Utf8 line)) = IsBadAt bytes line × Keeps old new
@@ -35,7 +35,7 @@ Listed bytes old new (Err Write) = (m : Meaning) × IsPolicy bytes m × BeginsLi
 Listed bytes old new (Err Memory) = Keeps old new ⊎ ((m : Meaning) × IsPolicy bytes m × BeginsListing m old new)
 Listed bytes old new (Err Read) = Keeps old new
 
--- (own) the same of a text
+-- the same of a text (own)
 abbrev pub Parsed : List ℕ → Option (List ℕ) → Option (List ℕ) → Result (Unit {0}) Fault → Type 0
 Parsed text old new (Ok done) = (m : Meaning) × Says text (Ok m) × WritesListing m old new
 Parsed text old new (Err (Utf8 line)) = ⊥
@@ -44,10 +44,11 @@ Parsed text old new (Err Write) = (m : Meaning) × Says text (Ok m) × BeginsLis
 Parsed text old new (Err Memory) = Keeps old new ⊎ ((m : Meaning) × Says text (Ok m) × BeginsListing m old new)
 Parsed text old new (Err Read) = ⊥
 
--- (own) the text of what a policy keeps, and what was written of it
+-- the lines of what a kept policy allows, of these types in their order (own)
 abbrev pub text_with : Rights → List TypeId → List ℕ
 text_with p ids = listing p.types (may_of p) ids
 
+-- what went out of that text: at Ok all of it; after a failed write a beginning, and so for want of memory, unless nothing (own)
 abbrev pub Writes : Rights → Option (List ℕ) → Option (List ℕ) → Result (Unit {0}) Fault → Type 0
 Writes p old new (Ok done) = (ids : List TypeId) × AreByName p.types ids × Appends old new (text_with p ids)
 Writes p old new (Err Write) = (ids : List TypeId) × AreByName p.types ids × AppendsBeginning old new (text_with p ids)

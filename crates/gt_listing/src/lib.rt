@@ -7,8 +7,8 @@
 //! What holds of it: the text that went out is the lines of the allowed triples, by source, then by
 //! target, then by permission, and it is whole where `policy` answers Ok; a text with a fault writes
 //! nothing, and the fault is the text's first; after a failed write, or for want of memory, what went
-//! out is a beginning of those lines. It stands on `gt_policy` for what a text allows, and on
-//! `gt_streams` for reads and writes.
+//! out is a beginning of those lines. It stands on `gt_policy` for what a text allows, on `gt_types`
+//! for types and permissions, and on `gt_streams` for reads and writes.
 #![tactic(auto)]
 
 mod fault;

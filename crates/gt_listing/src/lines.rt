@@ -5,6 +5,7 @@ ghost use Rattle.gt_listing.specs.Listing.{triple_line};
 ghost use Rattle.gt_listing.specs.Rights.{AreRights, right_line, pair_lines};
 
 use gt_policy::{Policy, TypeSet};
+use gt_streams::push_text;
 use gt_types::{Perms, TypeId};
 use std::alloc::{AllocError, Global};
 
@@ -36,12 +37,6 @@ pub fn rights_of(alloc: Global, policy: &Policy, source: TypeId) -> Result<Vec<R
         rights.push(Right { perm, targets })?;
     }
     Ok(rights)
-}
-
-fn push_text(out: &mut Vec<u8>, text: &str) -> Result<(), AllocError>
-    ensures { OnOk result (out.new.items ≡ out.old.items ++ text.now) }
-{
-    out.extend_from_slice(text.as_bytes())
 }
 
 // Appends the line of a triple.

@@ -4,7 +4,7 @@ ghost use Rattle.gt_listing.specs.Writing.{Listed, Parsed};
 
 use crate::fault::Fault;
 use crate::sources::write_policy;
-use crate::text::text_of;
+use crate::text::policy_text;
 use gt_streams::read_text;
 use std::alloc::Global;
 use std::io::{Read, Write};
@@ -24,7 +24,7 @@ fn list_bytes<W: Write>(alloc: Global, input: &[u8], writer: &mut W) -> Result<(
     ensures { (all : List ℕ) → input.now ≡ take 1048577 all →
         Listed all (W.contents writer.old) (W.contents writer.new) result }
 {
-    match text_of(input) {
+    match policy_text(input) {
         Ok(text) => list_text(alloc, text, writer),
         Err(fault) => Err(fault),
     }

@@ -1,20 +1,14 @@
 //! The bytes of a policy as text.
-ghost use Rattle.std.specs.Prelude.{◌≡◌, ◌≤◌, length, count_by, ◌==◌, IfOk, IfErr};
+ghost use Rattle.std.specs.Prelude.{◌≡◌, ◌≤◌, length, IfOk, IfErr};
 ghost use Rattle.std.specs.Str.{IsUtf8};
 ghost use Rattle.gt_listing.specs.Reading.{IsNoText};
 
 use crate::fault::Fault;
 use gt_policy::{FaultKind, MAX_BYTES, PolicyFault};
-
-// How many lines end in the bytes.
-fn newlines(bytes: &[u8]) -> usize
-    ensures { result ≡ count_by (λ b. b == 10) bytes.now }
-{
-    bytes.iter().filter(|b| **b == b'\n').count()
-}
+use gt_streams::text_of;
 
 /// The bytes as text, if they are not too many.
-pub fn text_of<'a>(bytes: &'a [u8]) -> Result<&'a str, Fault>
+pub fn policy_text<'a>(bytes: &'a [u8]) -> Result<&'a str, Fault>
     ensures text { IfOk result (λ text. (text.now ≡ bytes.entry.now) × (length bytes.entry.now ≤ 1048576) × IsUtf8 bytes.entry.now) }
     ensures fault { IfErr result (λ fault. IsNoText bytes.entry.now fault) }
 {
@@ -24,10 +18,8 @@ pub fn text_of<'a>(bytes: &'a [u8]) -> Result<&'a str, Fault>
             kind: FaultKind::Limit,
         }));
     }
-    match str::from_utf8(bytes) {
+    match text_of(bytes) {
         Ok(text) => Ok(text),
-        Err(e) => Err(Fault::Utf8 {
-            line: newlines(&bytes[..e.valid_up_to()]) + 1,
-        }),
+        Err(line) => Err(Fault::Utf8 { line }),
     }
 }

@@ -2,7 +2,8 @@
 //!
 //! A text is read up to a limit that is one byte past the longest text, so that what was read tells
 //! whether there is more. Lines wait until there are enough of them for a write, and a writer that
-//! takes a part of what it is given is given the rest.
+//! takes a part of what it is given is given the rest. Bytes that were read are a text where they
+//! are UTF-8, and a text waits as its bytes.
 //!
 //! What holds over any reader and writer: what was read is what the reader had left, or its first
 //! bytes; what went out is at all times a beginning of the text, in its order and with no byte lost,
@@ -11,9 +12,13 @@
 #![tactic(auto)]
 
 mod fault;
+mod laws;
 mod streams;
 #[cfg(test)]
 mod tests;
+mod text;
 
 pub use fault::{ReadFault, WriteFault};
+pub use laws::{every_text_goes_on, every_writer_keeps_what_it_has};
 pub use streams::{READ_LIMIT, finish, read_text, send, write_text};
+pub use text::{push_text, text_of};

@@ -71,7 +71,8 @@ pub fn send<W: Write>(writer: &mut W, waiting: &mut Vec<u8>) -> Result<(), Write
     Ok(())
 }
 
-/// Writes the last lines, and lets the writer hand on what it holds.
+/// Writes the last lines, and lets the writer hand on what it holds. After an Err a beginning of them
+/// may have gone out.
 pub fn finish<W: Write>(writer: &mut W, waiting: &[u8]) -> Result<(), WriteFault>
     ensures whole { OnOk result (Appends (W.contents writer.old) (W.contents writer.new) waiting.now) }
     ensures beginning { AppendsBeginning (W.contents writer.old) (W.contents writer.new) waiting.now }

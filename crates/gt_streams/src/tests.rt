@@ -1,5 +1,5 @@
 //! Streams in memory, and streams that fail.
-use crate::{ReadFault, WriteFault, finish, read_text, send, write_text};
+use crate::{ReadFault, WriteFault, finish, push_text, read_text, send, text_of, write_text};
 use std::io::{self, ErrorKind, Read, Write};
 use std::test::Fail;
 
@@ -118,6 +118,23 @@ fn lines_wait_for_enough_of_them(rt: HostRuntime) -> Result<(), Fail> {
     assert_eq!(rt; (writer.len(), waiting.len()), (65_536, 0));
     assert_eq!(rt; finish(&mut writer, b"end\n"), Ok(()));
     assert!(rt; writer.as_slice().ends_with(b".\nend\n"));
+    Ok(())
+}
+
+#[test]
+fn bytes_are_a_text_or_have_a_bad_line(rt: HostRuntime) -> Result<(), Fail> {
+    assert!(rt; matches!(text_of(TEXT), Ok(text) if text.as_bytes() == TEXT));
+    assert!(rt; matches!(text_of(b"\xffone\n"), Err(1)));
+    assert!(rt; matches!(text_of(b"one\ntwo\n\xe2\x82"), Err(3)));
+    Ok(())
+}
+
+#[test]
+fn texts_wait_as_their_bytes(rt: HostRuntime) -> Result<(), Fail> {
+    let mut waiting = Vec::new(rt.alloc());
+    push_text(&mut waiting, "one line\n")?;
+    push_text(&mut waiting, "and another\n")?;
+    assert_eq!(rt; waiting.as_slice(), TEXT);
     Ok(())
 }
 

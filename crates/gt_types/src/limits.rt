@@ -1,7 +1,7 @@
 //! The limits of a run, each in one place.
 
-/// The domain number that names the caller in every call (the header's `DOMID_SELF`).
-/// Each domain of a run has a number below it.
+/// The domain number that names the caller in every call (`DOMID_SELF` of the public header
+/// `xen.h`). Each domain of a run has a number below it.
 pub const DOMID_SELF: u16 = 0x7FF0;
 
 /// The most domains of a run.

@@ -31,7 +31,7 @@ fn play_command<'a>(alloc: Global) -> Result<Command<'a>, AllocError>
         .value_name("FILE")
         .help("The script; standard input where it is left out");
     Command::new(alloc, "play")
-        .about("Runs the calls of a script one after the other, and prints a line for each answer")
+        .about("Runs a script line by line, and prints a line for each answer")
         .arg(file)
 }
 

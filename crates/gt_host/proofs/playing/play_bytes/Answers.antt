@@ -1,5 +1,5 @@
 use Rattle.gt_script.specs.Script.{Tells}
-use Rattle.gt_host.proofs.PlayLemmas.{Keeps-same}
+use Rattle.gt_streams.specs.Laws.{keeps_same}
 use Rattle.gt_host.proofs.PlayedLemmas.{played_nothing, played_run}
 use Rattle.gt_host.proofs.playing.play_bytes.Goals as goal
 
@@ -9,4 +9,4 @@ returns-in-Ok g c = λ all e.
 
 pub returns-in-Err : goal.returns-in-Err
 returns-in-Err g c = λ all e.
-    played_nothing (Tells all) c.in-Err.error _ _ _ (c.in-Err.ensures.beginning all e) (Keeps-same _) c.from.ensures
+    played_nothing (Tells all) c.in-Err.error _ _ _ (c.in-Err.ensures.beginning all e) (keeps_same _) c.from.ensures

@@ -1,8 +1,8 @@
 use Rattle.std.proofs.Common.{◌≡◌, ◌<◌, ◌∙◌, length, refl, arith}
-use Rattle.gt_core.specs.History.{Setting}
 use Rattle.gt_host.specs.Rights.{may_by}
 use Rattle.gt_host.proofs.RunLemmas.{same_setting}
-use Rattle.gt_host.proofs.PlayLemmas.{Keeps-same, OnErr-all, not_begun, begins_end, begins_step, ends, goes_on, has_begun, ready, same_setting_of_script, starts_underway}
+use Rattle.gt_streams.specs.Laws.{keeps_same}
+use Rattle.gt_host.proofs.PlayLemmas.{OnErr-all, not_begun, begins_end, begins_step, ends, goes_on, has_begun, ready, same_setting_of_script, starts_underway}
 use Rattle.gt_host.proofs.playing.write_lines.Goals as goal
 
 pub steps-init : goal.steps-init
@@ -53,4 +53,4 @@ returns-in_err-finish-clause-beginning g c =
     (rw c.as_slice-2.ensures.value at c.in_err-finish.ensures.beginning))
 
 pub returns-in_err-types-clause-beginning : goal.returns-in_err-types-clause-beginning
-returns-in_err-types-clause-beginning g c = OnErr-all _ _ (not_begun c.args.script.now _ _ (Keeps-same _))
+returns-in_err-types-clause-beginning g c = OnErr-all _ _ (not_begun c.args.script.now _ _ (keeps_same _))

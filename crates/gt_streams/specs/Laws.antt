@@ -1,0 +1,32 @@
+-- What writes come to, one after the other.
+use Rattle.std.proofs.Common.{ℕ, ◌+◌, List, [], ◌++◌, length, take, Option, None, Some, refl, ap, sym, subst, ◌∙◌, append_assoc, length-append, arith}
+use Rattle.std.proofs.Math.Seq.{take-append-add}
+use Rattle.std.proofs.lemmas.List.{append-nil, take-append-le}
+use Rattle.std.specs.Io.KnownBytes.{Appends, Keeps}
+use Rattle.gt_streams.specs.Streams.{AppendsBeginning}
+
+-- nothing went out
+pub keeps_same : (a : Option (List ℕ)) → Keeps a a
+keeps_same None = tt
+keeps_same (Some xs) = refl
+
+pub appends_nothing : (a : Option (List ℕ)) → Appends a a []
+appends_nothing None = tt
+appends_nothing (Some xs) = sym (append-nil xs)
+
+-- two texts went out, one after the other
+pub appends_both : (a b c : Option (List ℕ)) (xs ys : List ℕ) → Appends a b xs → Appends b c ys → Appends a c (xs ++ ys)
+appends_both None b c xs ys p q = tt
+appends_both (Some x) None c xs ys p q = absurd p
+appends_both (Some x) (Some y) None xs ys p q = absurd q
+appends_both (Some x) (Some y) (Some z) xs ys p q = q ∙ ap (λ (l : List ℕ). l ++ ys) p ∙ append_assoc x xs ys
+
+-- a text went out, and then a beginning of another
+pub begins_after : (a b c : Option (List ℕ)) (xs ys : List ℕ) → Appends a b xs → AppendsBeginning b c ys → AppendsBeginning a c (xs ++ ys)
+begins_after a b c xs ys p (n, few, q) =
+    (length xs + n, rw length-append (omega (arith, few)), subst (λ (l : List ℕ). Appends a c l) (sym (take-append-add xs ys n)) (appends_both a b c xs (take n ys) p q))
+
+-- a beginning of a text is one of a longer text
+pub begins_longer : (a c : Option (List ℕ)) (xs ys : List ℕ) → AppendsBeginning a c xs → AppendsBeginning a c (xs ++ ys)
+begins_longer a c xs ys (n, few, q) =
+    (n, rw length-append (omega (arith, few)), subst (λ (l : List ℕ). Appends a c l) (sym (take-append-le n xs ys few)) q)

@@ -1,0 +1,12 @@
+-- The line of a byte that is no UTF-8.
+use Rattle.std.specs.Prelude.{◌≡◌, ◌==◌, ◌+◌, ℕ, List, take, count_by}
+use Rattle.std.specs.Str.{IsUtf8}
+use Rattle.std.specs.Str.Lossy.{utf8_valid_len}
+
+-- the line on which a text stops (own)
+abbrev pub line_after : List ℕ → ℕ
+line_after text = count_by (λ b. b == 10) text + 1
+
+-- the bytes are no UTF-8, from a byte of this line on (own)
+abbrev pub IsBadAt : List ℕ → ℕ → Type 0
+IsBadAt bytes line = (¬ IsUtf8 bytes) × (line ≡ line_after (take (utf8_valid_len bytes) bytes))
