@@ -8,13 +8,14 @@ use Rattle.atomic_table.specs.Table.{opening, Splits}
 use Rattle.atomic_table.proofs.Lists.{at_set, at_snoc, set_again, at_map}
 use Rattle.std.proofs.Common.{length-set}
 use Rattle.gt_entry.specs.Spelling.{word_of}
+use Rattle.gt_entry.specs.Words.{header_word}
 use Rattle.gt_types.specs.declared.Dir.{Dir}
 use Rattle.gt_types.specs.declared.Dir.TheVariants.{Read, Write}
 use Rattle.gt_types.specs.declared.config.DomainConfig.{DomainConfig}
 use Rattle.gt_types.specs.declared.limits.TheConstants.{LAST_VERSION, MAX_TABLE_FRAMES, TABLE_ENTRIES}
 use Rattle.gt_words.specs.Conditions.{initial}
 use Rattle.gt_words.specs.Places.{dealer_after, dealt_to, new_view}
-use Rattle.gt_words.specs.Rule.{CountsTaken, IsHeader, Layout, SawHeaders, SawRecord, Shows, ShowsEntry, ShowsRecord, header_now, header_number, header_place, headers_of, owner_steps, place, total_pins, total_taken}
+use Rattle.gt_words.specs.Rule.{CountsTaken, IsHeader, Layout, SawHeaders, SawRecord, Shows, ShowsEntry, ShowsRecord, first_header, header_now, header_place, headers_of, owner_steps, place, total_pins, total_taken}
 use Rattle.gt_words.specs.Views.{IsIn, Seen, earlier_records, last_record, own, pin_count, pins, seen, seen_header, steps_on, steps_on_header, stored_body, stored_header, stored_headers, taken_count}
 use Rattle.gt_words.specs.declared.view.EntryStep.{EntryStep}
 use Rattle.gt_entry.specs.declared.change.Half.TheVariants.{First, Second}
@@ -147,9 +148,9 @@ deals k id v own room s shown at = let is = shown.seats id v at in let zero_is :
 
 -- the first headers are headers
 pub headers_ok : (ds : List DomainConfig) → All (λ d. (1 ≤ d.table_frames) × (d.table_frames ≤ MAX_TABLE_FRAMES)) ds → All (λ d. (1 ≤ d.version) × (d.version ≤ LAST_VERSION)) ds → (t : ℕ) → t < length ds
-    → IsHeader (get_or (map (λ d. header_number d.version d.table_frames) ds) t 0)
+    → IsHeader (get_or (map (λ d. header_word (first_header d)) ds) t 0)
 headers_ok [] f h t l = absurd (omega arith)
-headers_ok (d ∷ ds) f h zero l = let x = h 0 d (omega arith) in let y = f 0 d (omega arith) in let a = x.0 in let b = x.1 in (d.version, d.table_frames, version d.version a (omega arith), y.0, y.1, refl)
+headers_ok (d ∷ ds) f h zero l = let x = h 0 d (omega arith) in let y = f 0 d (omega arith) in let a = x.0 in let b = x.1 in (first_header d, record { version = version d.version a (omega arith); some = y.0; few = y.1 }, refl)
   where
     version : (n : ℕ) → 0 < n → n ≤ 2 → (n ≡ 1) ⊎ (n ≡ 2)
     version zero a b = absurd (omega arith)

@@ -15,6 +15,7 @@ use Rattle.gt_entry.specs.declared.entry.Entry.TheVariants.{Invalid}
 use Rattle.gt_types.specs.declared.Dir.{Dir}
 use Rattle.gt_types.specs.declared.Dir.TheVariants.{Read, Write}
 use Rattle.gt_words.proofs.Happening.{entry_happens}
+use Rattle.gt_words.proofs.Kept.{there_is}
 use Rattle.gt_words.proofs.Lifts.{added, inside, shows_step}
 use Rattle.gt_words.proofs.OneEntry.{entry_grants, entry_looks, entry_misses_change, entry_misses_pin, entry_pins, entry_revokes, entry_saw, entry_stores_first, entry_stores_second, entry_turns, entry_unpins, mine, pin_counted, turned_domain, turned_low}
 use Rattle.gt_words.proofs.Records.{legal_record, spelled_parts}
@@ -23,7 +24,7 @@ use Rattle.gt_words.specs.Controls.{IsValid, demoted_word, generation_of, invali
 use Rattle.gt_words.specs.Events.{Happens, IsByOwner}
 use Rattle.gt_words.specs.Rule.{IsRecord, Layout, Shows, ShowsEntry, place, total_pins}
 use Rattle.gt_words.specs.Steps.{StepKind, changed, entry_kind, exchanging, half_index, half_of, looking, missed, on_entry, reading, storing, taken, tells, tells_stored, unpinning}
-use Rattle.gt_words.specs.Views.{earlier_records, invalid_at, last_of, last_record, last_seen, steps_on, stored_body}
+use Rattle.gt_words.specs.Views.{earlier_records, invalid_at, last_of, last_record, last_seen, pins, steps_on, stored_body}
 use Rattle.gt_entry.specs.declared.change.Change.{Change}
 use Rattle.gt_words.specs.declared.view.EntryStep.{EntryStep}
 use Rattle.gt_words.specs.declared.view.EntryStep.TheVariants.{Changed, Looked, ReadBody, StoredBody, Unpinned}
@@ -169,10 +170,10 @@ module _ {S : Type 0} (k : Layout) (slots id : ℕ) (me : Me S View) (t r : ℕ)
   pub unpin_owes : (d : Dir) (g one : ℕ) → one ≡ unit_of d → Holds t r d g me.0
       → Allows (Shows k) slots id me (place t r 0) (λ n. (n + (2 ^ 64 - one)) % 2 ^ 64) (tells (unpinning k t r d g) (step slots (place t r 0) one 0 none) me)
   unpin_owes d g one is holds = control_owes k t r (λ n. Unpinned d g) (λ n. (n + (2 ^ 64 - unit_of d)) % 2 ^ 64) slots id me (λ n. (n + (2 ^ 64 - one)) % 2 ^ 64) (step slots (place t r 0) one 0 none) tn rn refl (λ n. ap (λ (u : ℕ). (n + (2 ^ 64 - u)) % 2 ^ 64) is)
-      (λ w a b hs z fits. let p = holds.0 in (
+      (λ w a b hs z fits. let p = there_is d g (pins (steps_on t r me.0)) holds in (
         subst (λ (u : ℕ × ℕ). ShowsEntry k.first t u.0 a b (set hs id (Unpinned d u.1 ∷ steps_on t r me.0)))
-            (λ i. (lowered d w (pin_counted k.first t hs id (steps_on t r me.0) z.1 w a b z.0 d p holds.1 holds.2) fits i, holds.3 i))
-            (entry_unpins k.first t hs id (steps_on t r me.0) z.1 w a b z.0 d p holds.1 holds.2),
+            (λ i. (lowered d w (pin_counted k.first t hs id (steps_on t r me.0) z.1 w a b z.0 d p.0 p.1 p.2) fits i, p.3 i))
+            (entry_unpins k.first t hs id (steps_on t r me.0) z.1 w a b z.0 d p.0 p.1 p.2),
         tt,
       ))
 

@@ -115,6 +115,14 @@ alone x (z ∷ zs) y l n (inl e) g = e
 alone x (z ∷ zs) y l n (inr h) g = let r = bounded z zs y l.2 h in absurd (⊎_elim (λ (t : IsRevocation x z). n t.0)
     (λ (t : IsNextEntry x z). let e = t.0 in omega arith) l.1)
 
+-- entries of one generation are one record
+pub one_record : (x : EntryRecord) (xs : List EntryRecord) (y z : EntryRecord) → IsLawful x xs → IsIn y (x ∷ xs) → IsIn z (x ∷ xs) → y.entry ≢ Invalid → z.entry ≢ Invalid → y.generation ≡ z.generation → y ≡ z
+one_record x xs y z l (inl e) (inl f) a b g = e ∙ sym f
+one_record x xs y z l (inl e) (inr h) a b g = e ∙ sym (alone x xs z l (subst (λ (u : EntryRecord). u.entry ≢ Invalid) e a) (inr h) (sym g ∙ ap (λ (u : EntryRecord). u.generation) e))
+one_record x xs y z l (inr h) (inl f) a b g = alone x xs y l (subst (λ (u : EntryRecord). u.entry ≢ Invalid) f b) (inr h) (g ∙ ap (λ (u : EntryRecord). u.generation) f) ∙ sym f
+one_record x [] y z l (inr h) (inr j) a b g = absurd h
+one_record x (u ∷ us) y z l (inr h) (inr j) a b g = one_record u us y z l.2 h j a b g
+
 -- a record that comes after a list is none of it, if it is an entry
 pub fresh : (x : EntryRecord) (xs : List EntryRecord) (w y : EntryRecord) → IsLawful x xs → MayFollow w x → IsIn y (x ∷ xs) → w ≡ y → w.entry ≡ Invalid
 fresh x xs w y l f h e = let r = bounded x xs y l h in ⊎_elim (λ (t : IsRevocation w x). t.0)
@@ -171,9 +179,9 @@ module _ (x : EntryRecord) (xs : List EntryRecord) (a b : ℕ) (hs : List (List 
   all_known : (f : SawRecord x xs (seen (m ∷ h))) → ((j : ℕ) (y : List EntryStep) → get_elem? hs j ≡ some y → SawRecord x xs (seen y)) → (j : ℕ) (y : List EntryStep) → get_elem? (set hs i (m ∷ h)) j ≡ some y → SawRecord x xs (seen y)
   all_known f saw j y e = ⊎_elim (λ (t : (j ≡ i) × ((m ∷ h) ≡ y)). subst (λ (z : List EntryStep). SawRecord x xs (seen z)) t.1 f) (λ (t : (j ≢ i) × (get_elem? hs j ≡ some y)). saw j y t.1) (at_set hs i j (m ∷ h) y e)
 
-  all_pinned : ((p : LivePin) → IsIn p (pins (m ∷ h)) → IsIn p.1 (x ∷ xs)) → ((j : ℕ) (y : List EntryStep) → get_elem? hs j ≡ some y → (p : LivePin) → IsIn p (pins y) → IsIn p.1 (x ∷ xs))
-      → (j : ℕ) (y : List EntryStep) → get_elem? (set hs i (m ∷ h)) j ≡ some y → (p : LivePin) → IsIn p (pins y) → IsIn p.1 (x ∷ xs)
-  all_pinned f pinned j y e = ⊎_elim (λ (t : (j ≡ i) × ((m ∷ h) ≡ y)). subst (λ (z : List EntryStep). (p : LivePin) → IsIn p (pins z) → IsIn p.1 (x ∷ xs)) t.1 f)
+  all_pinned : ((p : LivePin) → IsIn p (pins (m ∷ h)) → IsIn p.1 (x ∷ xs) × (p.1.entry ≢ Invalid)) → ((j : ℕ) (y : List EntryStep) → get_elem? hs j ≡ some y → (p : LivePin) → IsIn p (pins y) → IsIn p.1 (x ∷ xs) × (p.1.entry ≢ Invalid))
+      → (j : ℕ) (y : List EntryStep) → get_elem? (set hs i (m ∷ h)) j ≡ some y → (p : LivePin) → IsIn p (pins y) → IsIn p.1 (x ∷ xs) × (p.1.entry ≢ Invalid)
+  all_pinned f pinned j y e = ⊎_elim (λ (t : (j ≡ i) × ((m ∷ h) ≡ y)). subst (λ (z : List EntryStep). (p : LivePin) → IsIn p (pins z) → IsIn p.1 (x ∷ xs) × (p.1.entry ≢ Invalid)) t.1 f)
       (λ (t : (j ≢ i) × (get_elem? hs j ≡ some y)). pinned j y t.1) (at_set hs i j (m ∷ h) y e)
 
   still_counted : get_elem? hs i ≡ some h → (s : Option Seen) → CountsTaken hs s → CountsTaken (set hs i (m ∷ h)) s
@@ -276,7 +284,7 @@ module _ (x : EntryRecord) (xs : List EntryRecord) (a b : ℕ) (hs : List (List 
         body = k.body;
         lawful = k.lawful;
         unpinned = λ z. absurd (n z);
-        pinned = all_pinned x xs a b hs i h (Pinned d expected x) (λ p t. ⊎_elim (λ (s : p ≡ (d, x)). inl (ap (λ (z : LivePin). z.1) s)) (λ (s : IsIn p (pins h)). k.pinned i h e p s) t) k.pinned;
+        pinned = all_pinned x xs a b hs i h (Pinned d expected x) (λ p t. ⊎_elim (λ (s : p ≡ (d, x)). let one = ap (λ (z : LivePin). z.1) s in (inl one, subst (λ (u : EntryRecord). u.entry ≢ Invalid) (sym one) n)) (λ (s : IsIn p (pins h)). k.pinned i h e p s) t) k.pinned;
         saw = all_known x xs a b hs i h (Pinned d expected x) (k.saw i h e) k.saw;
         counted = all_counted x xs a b hs i h (Pinned d expected x) e (k.counted i h e) k.counted;
       }
@@ -321,7 +329,7 @@ module _ (x : EntryRecord) (xs : List EntryRecord) (a b : ℕ) (hs : List (List 
         body = body;
         lawful = (ok, may, k.lawful);
         unpinned = λ n. (r ∙ (unpinned n).0, w ∙ (unpinned n).1);
-        pinned = λ j z at p t. inr (s.pinned j z at p t);
+        pinned = λ j z at p t. let old = s.pinned j z at p t in (inr old.0, old.1);
         saw = λ j z at. on (seen z) (s.saw j z at);
         counted = s.counted;
       }
