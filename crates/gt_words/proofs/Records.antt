@@ -14,6 +14,7 @@ use Rattle.gt_entry.specs.declared.entry.Entry.TheVariants.{Invalid, Page, Sub, 
 use Rattle.gt_types.specs.declared.Dir.{Dir}
 use Rattle.gt_types.specs.declared.Dir.TheVariants.{Read, Write}
 use Rattle.gt_words.specs.Controls.{IsValid, generation_of, pins_in}
+use Rattle.gt_words.specs.Laws.{alone, bounded}
 use Rattle.gt_words.specs.Rule.{Agrees, CountsTaken, IsLawful, IsNextEntry, IsRecord, IsRevocation, IsSeenOf, MayFollow, SawRecord, ShowsRecord, total_pins, total_taken}
 use Rattle.gt_words.specs.Views.{HasBody, IsIn, LivePin, Seen, is_same_dir, pin_count, pins, record_seen, seen, taken_count, value_or_zero, weight, with_body, without_pin}
 use Rattle.gt_entry.specs.declared.change.Change.{Change}
@@ -99,29 +100,6 @@ total_taken-set d (x ∷ xs) zero h m e = let p : taken_count d x ≡ taken_coun
 total_taken-set d (x ∷ xs) (suc i) h m e = let r = total_taken-set d xs i h m e in omega arith
 
 -- the list of records
-
-pub bounded : (x : EntryRecord) (xs : List EntryRecord) (y : EntryRecord) → IsLawful x xs → IsIn y (x ∷ xs) → y.generation ≤ x.generation
-bounded x [] y l (inl e) = let g : y.generation ≡ x.generation = ap (λ (z : EntryRecord). z.generation) e in omega arith
-bounded x [] y l (inr h) = absurd h
-bounded x (z ∷ zs) y l (inl e) = let g : y.generation ≡ x.generation = ap (λ (w : EntryRecord). w.generation) e in omega arith
-bounded x (z ∷ zs) y l (inr h) = let r = bounded z zs y l.2 h in ⊎_elim (λ (t : IsRevocation x z). let e = t.1 in omega arith)
-    (λ (t : IsNextEntry x z). let e = t.0 in omega arith) l.1
-
--- where the last record is an entry, no other has its generation
-pub alone : (x : EntryRecord) (xs : List EntryRecord) (y : EntryRecord) → IsLawful x xs → x.entry ≢ Invalid → IsIn y (x ∷ xs) → y.generation ≡ x.generation → y ≡ x
-alone x [] y l n (inl e) g = e
-alone x [] y l n (inr h) g = absurd h
-alone x (z ∷ zs) y l n (inl e) g = e
-alone x (z ∷ zs) y l n (inr h) g = let r = bounded z zs y l.2 h in absurd (⊎_elim (λ (t : IsRevocation x z). n t.0)
-    (λ (t : IsNextEntry x z). let e = t.0 in omega arith) l.1)
-
--- entries of one generation are one record
-pub one_record : (x : EntryRecord) (xs : List EntryRecord) (y z : EntryRecord) → IsLawful x xs → IsIn y (x ∷ xs) → IsIn z (x ∷ xs) → y.entry ≢ Invalid → z.entry ≢ Invalid → y.generation ≡ z.generation → y ≡ z
-one_record x xs y z l (inl e) (inl f) a b g = e ∙ sym f
-one_record x xs y z l (inl e) (inr h) a b g = e ∙ sym (alone x xs z l (subst (λ (u : EntryRecord). u.entry ≢ Invalid) e a) (inr h) (sym g ∙ ap (λ (u : EntryRecord). u.generation) e))
-one_record x xs y z l (inr h) (inl f) a b g = alone x xs y l (subst (λ (u : EntryRecord). u.entry ≢ Invalid) f b) (inr h) (g ∙ ap (λ (u : EntryRecord). u.generation) f) ∙ sym f
-one_record x [] y z l (inr h) (inr j) a b g = absurd h
-one_record x (u ∷ us) y z l (inr h) (inr j) a b g = one_record u us y z l.2 h j a b g
 
 -- a record that comes after a list is none of it, if it is an entry
 pub fresh : (x : EntryRecord) (xs : List EntryRecord) (w y : EntryRecord) → IsLawful x xs → MayFollow w x → IsIn y (x ∷ xs) → w ≡ y → w.entry ≡ Invalid

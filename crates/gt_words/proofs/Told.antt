@@ -19,7 +19,8 @@ use Rattle.gt_words.proofs.Lifts.{steps_on-added, steps_on-added-else}
 use Rattle.gt_words.proofs.OneEntry.{count_in, held_at, idle_held, mine}
 use Rattle.gt_words.proofs.Owed.{spelled_generation}
 use Rattle.gt_words.specs.Keeping.{HoldsOneMore, generation_in}
-use Rattle.gt_words.proofs.Records.{bounded, legal_record, listed_record, one_record, seen_is_last, spelled_control, spelled_parts}
+use Rattle.gt_words.specs.Laws.{bounded, one_record}
+use Rattle.gt_words.proofs.Records.{legal_record, listed_record, seen_is_last, spelled_control, spelled_parts}
 use Rattle.gt_words.specs.Conditions.{AddsToEntry, Changes, CountsPins, Demotes, HasLooked, HasNoPins, HasNoWritePins, Holds, IsBusyOf, IsIdleOf, IsNotEarlier, IsWordOf, LooksAtBody, LooksAtControl, MayPin, MissesBusy, MissesChange, MissesPin, Pins, Revokes, StepsOnControl, StoresBody, Unpins}
 use Rattle.gt_words.specs.Controls.{IsTurnable, IsValid, generation_of, pins_in}
 use Rattle.gt_words.specs.Rule.{IsRecord, Layout, SawRecord, ShowsEntry, ShowsRecord, owner_steps, place, total_pins}

@@ -6,3 +6,4 @@ pub mod Steps
 pub mod Keeping
 pub mod Conditions
 pub mod Places
+pub mod Laws
