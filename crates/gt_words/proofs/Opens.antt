@@ -1,4 +1,5 @@
 -- The rule at the start, and when a seat is dealt.
+use Rattle.gt_words.specs.declared.board.TheConstants.{DOMAIN_WORDS, ENTRY_WORDS}
 use Rattle.std.proofs.Common.{◌≡◌, ◌≢◌, ◌⊎◌, inl, inr, ⊎_elim, ℕ, zero, suc, ◌+◌, ◌*◌, ◌/◌, ◌%◌, ◌<◌, ◌≤◌, Bool, false, cond, ◌==◌, List, [], ◌∷◌, ◌++◌, map, length, get_or, set, sym, refl, ap, ◌∙◌, subst, arith, length-append, eq-eqb, ne_eqb, All, IfSome, Option, Some, None}
 use mathlib.Core.Option.{some, some-injective, some-ne-none}
 use mathlib.Core.List.{map-append}
@@ -44,20 +45,20 @@ entry_opens g t small word a b w p q = subst (λ (ms : List EntryStep). ShowsRec
 } p q
 
 initial_here : (k : Layout) (t r j : ℕ) → r < TABLE_ENTRIES → j < 3 → initial k (place t r j) ≡ cond (j == 0) (17592186044416 * k.first) 0
-initial_here k t r j rn jn = let p : place t r j % 16392 ≡ 8 * r + (8 + j) = omega arith in let q : (place t r j % 16392 == 0) ≡ false = ne_eqb _ 0 (λ e. omega arith) in
-    ap (λ (c : Bool). cond c (get_or k.headers (place t r j / 16392) 0) (cond (place t r j % 16392 % 8 == 0) (17592186044416 * k.first) 0)) q ∙ ap (λ (c : Bool). cond c (17592186044416 * k.first) 0) (turn j jn (place t r j % 16392) p)
+initial_here k t r j rn jn = let p : place t r j % DOMAIN_WORDS ≡ ENTRY_WORDS * r + (ENTRY_WORDS + j) = omega arith in let q : (place t r j % DOMAIN_WORDS == 0) ≡ false = ne_eqb _ 0 (λ e. omega arith) in
+    ap (λ (c : Bool). cond c (get_or k.headers (place t r j / DOMAIN_WORDS) 0) (cond (place t r j % DOMAIN_WORDS % ENTRY_WORDS == 0) (17592186044416 * k.first) 0)) q ∙ ap (λ (c : Bool). cond c (17592186044416 * k.first) 0) (turn j jn (place t r j % DOMAIN_WORDS) p)
   where
-    turn : (j : ℕ) → j < 3 → (n : ℕ) → n ≡ 8 * r + (8 + j) → (n % 8 == 0) ≡ (j == 0)
-    turn zero h n e = eq-eqb (n % 8) 0 (omega arith)
-    turn (suc zero) h n e = ne_eqb (n % 8) 0 (λ f. omega arith)
-    turn (suc (suc zero)) h n e = ne_eqb (n % 8) 0 (λ f. omega arith)
+    turn : (j : ℕ) → j < 3 → (n : ℕ) → n ≡ ENTRY_WORDS * r + (ENTRY_WORDS + j) → (n % ENTRY_WORDS == 0) ≡ (j == 0)
+    turn zero h n e = eq-eqb (n % ENTRY_WORDS) 0 (omega arith)
+    turn (suc zero) h n e = ne_eqb (n % ENTRY_WORDS) 0 (λ f. omega arith)
+    turn (suc (suc zero)) h n e = ne_eqb (n % ENTRY_WORDS) 0 (λ f. omega arith)
     turn (suc (suc (suc m))) h n e = absurd (omega arith)
 
 initial_header : (k : Layout) (t : ℕ) → initial k (header_place t) ≡ get_or k.headers t 0
-initial_header k t = let p : header_place t % 16392 ≡ 0 = omega arith in let q : header_place t / 16392 ≡ t = omega arith in
-    ap (λ (c : Bool). cond c (get_or k.headers (header_place t / 16392) 0) (cond (header_place t % 16392 % 8 == 0) (17592186044416 * k.first) 0)) (eq-eqb _ 0 p) ∙ ap (λ (i : ℕ). get_or k.headers i 0) q
+initial_header k t = let p : header_place t % DOMAIN_WORDS ≡ 0 = omega arith in let q : header_place t / DOMAIN_WORDS ≡ t = omega arith in
+    ap (λ (c : Bool). cond c (get_or k.headers (header_place t / DOMAIN_WORDS) 0) (cond (header_place t % DOMAIN_WORDS % ENTRY_WORDS == 0) (17592186044416 * k.first) 0)) (eq-eqb _ 0 p) ∙ ap (λ (i : ℕ). get_or k.headers i 0) q
 
-pub opens : {S : Type 0} (k : Layout) (ws : List ℕ) → length ws ≡ k.domains * 16392 → 0 < k.domains → k.first < 1048576 → ((t : ℕ) → t < k.domains → IsHeader (get_or k.headers t 0)) → ((i : ℕ) → i < k.domains * 16392 → get_or ws i 0 ≡ initial k i)
+pub opens : {S : Type 0} (k : Layout) (ws : List ℕ) → length ws ≡ k.domains * DOMAIN_WORDS → 0 < k.domains → k.first < 1048576 → ((t : ℕ) → t < k.domains → IsHeader (get_or k.headers t 0)) → ((i : ℕ) → i < k.domains * DOMAIN_WORDS → get_or ws i 0 ≡ initial k i)
     → Shows {S = S} k (opening ws [] (new_view k.first k.headers k.ids 0))
 opens k ws wide some_domain small headers is = record {
   wide = wide;

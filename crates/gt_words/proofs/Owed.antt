@@ -35,7 +35,7 @@ use Rattle.gt_words.specs.declared.view.EntryRecord.{EntryRecord}
 use Rattle.gt_words.specs.declared.view.View.{View}
 use Rattle.gt_entry.specs.declared.change.Change.TheVariants as change
 use Rattle.gt_words.specs.declared.view.Purpose.TheVariants as purpose
-use Rattle.gt_types.specs.declared.limits.TheConstants.{TABLE_ENTRIES}
+use Rattle.gt_types.specs.declared.limits.TheConstants.{LAST_GENERATION, MAX_PINS, TABLE_ENTRIES}
 
 -- what a step owes, by the word that it is on: what was found there, and the rule of the entry after it
 
@@ -153,12 +153,12 @@ module _ {S : Type 0} (k : Layout) (slots id : ℕ) (me : Me S View) (t r : ℕ)
       (λ w a b hs z fits. by_cases w old (λ (q : Bool). let m : EntryStep = cond q (taken t r me.0 p old new) (missed p old new w) in ShowsEntry k.first t (either q new w) a b (set hs id (m ∷ steps_on t r me.0)) × IsByOwner id t m)
       (hit w a b hs z) (miss w a b hs z))
 
-  pub pin_owes : (d : Dir) (old new : ℕ) → new ≡ old + unit_of d → HasLooked t r me.0 old → IsValid old → pins_in d old < 4095
+  pub pin_owes : (d : Dir) (old new : ℕ) → new ≡ old + unit_of d → HasLooked t r me.0 old → IsValid old → pins_in d old < MAX_PINS
       → Allows (Shows k) slots id me (place t r 0) (λ n. either (n == old) new n) (tells (exchanging k t r me.0 (purpose.Pin d) old new) (step slots (place t r 0) old new none) me)
   pin_owes d old new one looked valid room = exchange_owes (purpose.Pin d) old new
       (λ w a b hs z e. (
         subst (λ (u : ℕ). ShowsEntry k.first t u a b (set hs id (taken t r me.0 (purpose.Pin d) old new ∷ steps_on t r me.0))) (ap (λ (u : ℕ). u + unit_of d) e ∙ sym one)
-            (entry_pins k.first t hs id (steps_on t r me.0) z.1 w a b z.0 d old (last_seen t r me.0) looked.0 (looked.1 ∙ sym e) (subst IsValid (sym e) valid) looked.2 (subst (λ (u : ℕ). pins_in d u < 4095) (sym e) room)),
+            (entry_pins k.first t hs id (steps_on t r me.0) z.1 w a b z.0 d old (last_seen t r me.0) looked.0 (looked.1 ∙ sym e) (subst IsValid (sym e) valid) looked.2 (subst (λ (u : ℕ). pins_in d u < MAX_PINS) (sym e) room)),
         tt,
       ))
       (λ w a b hs z n. (entry_misses_pin k.first t hs id (steps_on t r me.0) z.1 w a b z.0 d old new, tt))
@@ -224,7 +224,7 @@ module _ {S : Type 0} (k : Layout) (slots id : ℕ) (me : Me S View) (t r : ℕ)
         (entry_revokes k.first t hs h at w a b z old new (e ∙ (idle ∙ ap (λ (u : EntryRecord). idle_word_of u.entry u.generation) l)))))
 
     pub grant_owes : (e : Entry) (old new : ℕ) → IsIdleOf (last_of r me.0) old → new ≡ idle_word_of e ((last_of r me.0).generation + 1) → (last_of r me.0).entry ≡ Invalid → IsEntry e → e ≢ Invalid
-        → (last_of r me.0).generation < 1048575 → IsSpelled e (stored_body First (steps_on t r me.0)) (stored_body Second (steps_on t r me.0))
+        → (last_of r me.0).generation < LAST_GENERATION → IsSpelled e (stored_body First (steps_on t r me.0)) (stored_body Second (steps_on t r me.0))
         → Allows (Shows k) slots id me (place t r 0) (λ n. either (n == old) new n)
         (tells (exchanging k t r me.0 (purpose.Change (change.Publish e)) old new) (step slots (place t r 0) old new none) me)
     grant_owes e old new idle is none_yet ok some_kind room body = let x : EntryRecord = last_of r me.0 in
@@ -232,7 +232,7 @@ module _ {S : Type 0} (k : Layout) (slots id : ℕ) (me : Me S View) (t r : ℕ)
         let l = last_is f in subst (λ (u : ℕ). ShowsEntry k.first t u a b (set hs t (Changed (change.Publish e) old new (record { generation = x.generation + 1; entry = e }) ∷ steps_on t r me.0))) (sym is)
         (subst (λ (y : EntryRecord). ShowsEntry k.first t (idle_word_of e (y.generation + 1)) a b (set hs t (Changed (change.Publish e) old new (record { generation = y.generation + 1; entry = e }) ∷ steps_on t r me.0))) (sym l)
         (entry_grants k.first t hs (steps_on t r me.0) at w a b z old new e (q ∙ (idle ∙ ((λ i. idle_word_of (none_yet i) x.generation) ∙ ap (λ (y : EntryRecord). idle_word_of Invalid y.generation) l))) (ap (λ (y : EntryRecord). y.entry) (sym l) ∙ none_yet) ok some_kind
-        (subst (λ (y : EntryRecord). y.generation < 1048575) l room) body)))
+        (subst (λ (y : EntryRecord). y.generation < LAST_GENERATION) l room) body)))
 
     -- the word after a turn, with its pins
     turned_is : (o : Bool) (x : EntryRecord) (reads writes w new : ℕ) → x.entry ≢ Invalid → is_read_only x.entry ≡ not o → w ≡ word_of x.entry x.generation reads writes → new + flag (not o) ≡ w + flag o + 17592186044416
@@ -241,7 +241,7 @@ module _ {S : Type 0} (k : Layout) (slots id : ℕ) (me : Me S View) (t r : ℕ)
         let L : ℕ = low_bits (with_ro o x.entry) in let D : ℕ = named_domain (with_ro o x.entry) in let L0 : ℕ = low_bits x.entry in let D0 : ℕ = named_domain x.entry in
         let l' : L + flag (not o) ≡ L0 + flag o = l in let d' : D ≡ D0 = d in omega arith
 
-    turn_owes : (o : Bool) (c : Change) (old new : ℕ) → ((x : EntryRecord) → changed c x ≡ turned o x) → (last_of r me.0).entry ≢ Invalid → generation_of old < 1048575 → is_read_only (last_of r me.0).entry ≡ not o
+    turn_owes : (o : Bool) (c : Change) (old new : ℕ) → ((x : EntryRecord) → changed c x ≡ turned o x) → (last_of r me.0).entry ≢ Invalid → generation_of old < LAST_GENERATION → is_read_only (last_of r me.0).entry ≡ not o
         → new + flag (not o) ≡ old + flag o + 17592186044416
         → Allows (Shows k) slots id me (place t r 0) (λ n. either (n == old) new n)
         (tells (exchanging k t r me.0 (purpose.Change c) old new) (step slots (place t r 0) old new none) me)
@@ -253,10 +253,10 @@ module _ {S : Type 0} (k : Layout) (slots id : ℕ) (me : Me S View) (t r : ℕ)
         (entry_turns k.first t hs h at w a b z o c new old new kind turns (omega arith)
         (turned_is o y (total_pins Read hs) (total_pins Write hs) w new kind turns s.spelled (is ∙ ap (λ (u : ℕ). u + flag o + 17592186044416) (sym q)))))
 
-    pub demote_owes : (old new : ℕ) → (last_of r me.0).entry ≢ Invalid → generation_of old < 1048575 → is_read_only (last_of r me.0).entry ≡ false → new ≡ demoted_word old
+    pub demote_owes : (old new : ℕ) → (last_of r me.0).entry ≢ Invalid → generation_of old < LAST_GENERATION → is_read_only (last_of r me.0).entry ≡ false → new ≡ demoted_word old
         → Allows (Shows k) slots id me (place t r 0) (λ n. either (n == old) new n) (tells (exchanging k t r me.0 (purpose.Change change.Demote) old new) (step slots (place t r 0) old new none) me)
     demote_owes old new some_kind room now is = turn_owes true change.Demote old new (λ _. refl) some_kind room now (omega arith)
 
-    pub promote_owes : (old new : ℕ) → (last_of r me.0).entry ≢ Invalid → generation_of old < 1048575 → is_read_only (last_of r me.0).entry ≡ true → new ≡ promoted_word old
+    pub promote_owes : (old new : ℕ) → (last_of r me.0).entry ≢ Invalid → generation_of old < LAST_GENERATION → is_read_only (last_of r me.0).entry ≡ true → new ≡ promoted_word old
         → Allows (Shows k) slots id me (place t r 0) (λ n. either (n == old) new n) (tells (exchanging k t r me.0 (purpose.Change change.Promote) old new) (step slots (place t r 0) old new none) me)
     promote_owes old new some_kind room now is = turn_owes false change.Promote old new (λ _. refl) some_kind room now (omega arith)

@@ -1,4 +1,5 @@
 -- What each kind of step does to the words of one entry keeps the rule of that entry.
+use Rattle.gt_types.specs.declared.limits.TheConstants.{MAX_PINS}
 use Rattle.std.proofs.Common.{◌≡◌, ◌≢◌, ◌⊎◌, inl, inr, ⊎_elim, ℕ, zero, suc, ◌+◌, ◌-◌, ◌<◌, ◌≤◌, Bool, true, false, cond, ◌==◌, ◌&&◌, List, [], ◌∷◌, set, sym, refl, ap, ◌∙◌, subst, arith, Option, Some, None, IsSome}
 use Rattle.std.proofs.lemmas.Grind.{common_steps}
 use mathlib.Core.Option.{some, some-injective, some-ne-none}
@@ -247,12 +248,12 @@ more : (d : Dir) (e : Entry) (g r w r' w' : ℕ) → r' ≡ r + weight Read d �
 more Read e g r w r' w' p q = omega arith
 more Write e g r w r' w' p q = omega arith
 
-few_more : (d : Dir) (r w r' w' : ℕ) → r' ≡ r + weight Read d → w' ≡ w + weight Write d → (r < 4096) × (w < 4096) → (d ≡ Read → r < 4095) → (d ≡ Write → w < 4095) → (r' < 4096) × (w' < 4096)
+few_more : (d : Dir) (r w r' w' : ℕ) → r' ≡ r + weight Read d → w' ≡ w + weight Write d → (r < 4096) × (w < 4096) → (d ≡ Read → r < MAX_PINS) → (d ≡ Write → w < MAX_PINS) → (r' < 4096) × (w' < 4096)
 few_more Read r w r' w' p q f a b = let h = a refl in let g = f.1 in (omega arith, omega arith)
 few_more Write r w r' w' p q f a b = let h = b refl in let g = f.0 in (omega arith, omega arith)
 
 module _ (x : EntryRecord) (xs : List EntryRecord) (a b : ℕ) (hs : List (List EntryStep)) (i : ℕ) (h : List EntryStep) where
-  pub pins_shown : (word expected : ℕ) (d : Dir) → ShowsRecord x xs word a b hs → get_elem? hs i ≡ some h → x.entry ≢ Invalid → (d ≡ Read → total_pins Read hs < 4095) → (d ≡ Write → total_pins Write hs < 4095)
+  pub pins_shown : (word expected : ℕ) (d : Dir) → ShowsRecord x xs word a b hs → get_elem? hs i ≡ some h → x.entry ≢ Invalid → (d ≡ Read → total_pins Read hs < MAX_PINS) → (d ≡ Write → total_pins Write hs < MAX_PINS)
       → ShowsRecord x xs (word + unit_of d) a b (set hs i (Pinned d expected x ∷ h))
   pins_shown word expected d k e n fr fw = let hs' : List (List EntryStep) = set hs i (Pinned d expected x ∷ h) in
       let r : total_pins Read hs' ≡ total_pins Read hs + weight Read d = let t = total_pins-set Read hs i h (Pinned d expected x ∷ h) e in omega arith in

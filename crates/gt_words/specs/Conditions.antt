@@ -17,7 +17,7 @@ use Rattle.gt_types.specs.declared.DomId.{DomId}
 use Rattle.gt_types.specs.declared.GrantRef.{GrantRef}
 use Rattle.gt_types.specs.declared.config.Config.{Config}
 use Rattle.gt_types.specs.declared.config.StartFault.{StartFault}
-use Rattle.gt_types.specs.declared.limits.TheConstants.{LAST_GENERATION, MAX_PINS, TABLE_ENTRIES}
+use Rattle.gt_types.specs.declared.limits.TheConstants.{LAST_GENERATION, MAX_DOMAINS, MAX_PINS, TABLE_ENTRIES}
 use Rattle.gt_words.specs.Controls.{ForwardsPin, IsValid, LeadsTo, PermitsPin, generation_of, pins_in}
 use Rattle.gt_words.specs.Events.{shown_entry}
 pub use Rattle.gt_words.specs.Keeping.{Holds, HoldsOneMore, Keeps, KeepsOtherRows, KeepsPins, KeepsRecords, KeepsRows, SeesNoEarlier, seen_generation}
@@ -85,9 +85,9 @@ pub record IsSameSeat (s s' : SeatOf) : Type 0 where
   pub headers : s'.view.headers ≡ s.view.headers
   pub ids : s'.view.ids ≡ s.view.ids
 
--- there are so many words for each domain, and at most 64 domains (own)
+-- there are so many words for each domain, and no more domains than there may be (own)
 abbrev pub IsWide : ℕ → Layout → Type 0
-IsWide words k = (words ≡ k.domains * DOMAIN_WORDS) × (k.domains ≤ 64)
+IsWide words k = (words ≡ k.domains * DOMAIN_WORDS) × (k.domains ≤ MAX_DOMAINS)
 
 -- the word has the owner's part and the generation of this record, and some pins: so it says kind, readonly, domain, generation and counts (own)
 pub record IsWordOf (x : EntryRecord) (word : ℕ) : Type 0 where
