@@ -39,6 +39,7 @@ entry_opens g t small word a b w p q = subst (λ (ms : List EntryStep). ShowsRec
   body = tt;
   lawful = ((tt, small), refl);
   unpinned = λ _. (refl, refl);
+  unwritten = λ _. refl;
   pinned = λ i h at z y. absurd (subst (λ (ms : List EntryStep). IsIn z (pins ms)) (alone_at i h at) y);
   saw = λ i h at. subst (λ (ms : List EntryStep). SawRecord (last_record g []) [] (seen ms)) (sym (alone_at i h at)) tt;
   counted = λ i h at. subst (λ (ms : List EntryStep). CountsTaken ([] ∷ []) (seen ms)) (sym (alone_at i h at)) tt;
@@ -107,6 +108,7 @@ entry_more g t word a b hs k = let same = nothing_more hs t in
       body = k.record_shown.body;
       lawful = k.record_shown.lawful;
       unpinned = λ n. (held_more Read hs ∙ (k.record_shown.unpinned n).0, held_more Write hs ∙ (k.record_shown.unpinned n).1);
+      unwritten = λ n. held_more Write hs ∙ k.record_shown.unwritten n;
       pinned = λ i h at p y. ⊎_elim (λ (e : get_elem? hs i ≡ some h). k.record_shown.pinned i h e p y) (λ (e : [] ≡ h). absurd (subst (λ (ms : List EntryStep). IsIn p (pins ms)) (sym e) y)) (at_snoc hs [] h i at);
       saw = λ i h at. ⊎_elim (λ (e : get_elem? hs i ≡ some h). k.record_shown.saw i h e) (λ (e : [] ≡ h). subst (λ (ms : List EntryStep). SawRecord (last_record g (owner_steps t hs)) (earlier_records g (owner_steps t hs)) (seen ms)) e tt) (at_snoc hs [] h i at);
       counted = λ i h at. counted_more hs (seen h) (⊎_elim (λ (e : get_elem? hs i ≡ some h). k.record_shown.counted i h e) (λ (e : [] ≡ h). subst (λ (ms : List EntryStep). CountsTaken hs (seen ms)) e tt) (at_snoc hs [] h i at));

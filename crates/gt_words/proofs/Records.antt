@@ -5,7 +5,7 @@ use Rattle.std.proofs.lemmas.Grind.{common_steps}
 use mathlib.Core.Option.{some, some-injective, some-ne-none}
 use lib.ListN.{get_elem?}
 use Rattle.atomic_table.proofs.Lists.{at_set}
-use Rattle.gt_entry.specs.Entries.{IsEntry}
+use Rattle.gt_entry.specs.Entries.{IsEntry, is_read_only}
 use Rattle.gt_entry.specs.Laws.{PartsOf, control-round, digits, entry-read, entry-word, parts}
 use Rattle.gt_entry.specs.Spelling.{IsSpelled, control_with, entry_of, low_bits, named_domain, word_of}
 use Rattle.gt_entry.specs.Words.{IsInRange, control_of, unit_of}
@@ -181,6 +181,7 @@ module _ (x : EntryRecord) (xs : List EntryRecord) (a b : ℕ) (hs : List (List 
     body = k.body;
     lawful = k.lawful;
     unpinned = λ n. (r ∙ (k.unpinned n).0, w ∙ (k.unpinned n).1);
+    unwritten = λ n. w ∙ k.unwritten n;
     pinned = all_pinned (λ q t. k.pinned i h e q (subst (IsIn q) p t)) k.pinned;
     saw = all_known f k.saw;
     counted = all_counted e c k.counted;
@@ -248,14 +249,19 @@ more : (d : Dir) (e : Entry) (g r w r' w' : ℕ) → r' ≡ r + weight Read d �
 more Read e g r w r' w' p q = omega arith
 more Write e g r w r' w' p q = omega arith
 
+-- a pin of a read-only record is a read pin
+read_pin : (d : Dir) (x : EntryRecord) → (d ≡ Write → is_read_only x.entry ≡ false) → (old new : ℕ) → new ≡ old + weight Write d → is_read_only x.entry ≡ true → old ≡ 0 → new ≡ 0
+read_pin Read x writable old new e ro none_yet = omega arith
+read_pin Write x writable old new e ro none_yet = let f = writable refl in absurd (cc)
+
 few_more : (d : Dir) (r w r' w' : ℕ) → r' ≡ r + weight Read d → w' ≡ w + weight Write d → (r < 4096) × (w < 4096) → (d ≡ Read → r < MAX_PINS) → (d ≡ Write → w < MAX_PINS) → (r' < 4096) × (w' < 4096)
 few_more Read r w r' w' p q f a b = let h = a refl in let g = f.1 in (omega arith, omega arith)
 few_more Write r w r' w' p q f a b = let h = b refl in let g = f.0 in (omega arith, omega arith)
 
 module _ (x : EntryRecord) (xs : List EntryRecord) (a b : ℕ) (hs : List (List EntryStep)) (i : ℕ) (h : List EntryStep) where
-  pub pins_shown : (word expected : ℕ) (d : Dir) → ShowsRecord x xs word a b hs → get_elem? hs i ≡ some h → x.entry ≢ Invalid → (d ≡ Read → total_pins Read hs < MAX_PINS) → (d ≡ Write → total_pins Write hs < MAX_PINS)
+  pub pins_shown : (word expected : ℕ) (d : Dir) → ShowsRecord x xs word a b hs → get_elem? hs i ≡ some h → x.entry ≢ Invalid → (d ≡ Write → is_read_only x.entry ≡ false) → (d ≡ Read → total_pins Read hs < MAX_PINS) → (d ≡ Write → total_pins Write hs < MAX_PINS)
       → ShowsRecord x xs (word + unit_of d) a b (set hs i (Pinned d expected x ∷ h))
-  pins_shown word expected d k e n fr fw = let hs' : List (List EntryStep) = set hs i (Pinned d expected x ∷ h) in
+  pins_shown word expected d k e n writable fr fw = let hs' : List (List EntryStep) = set hs i (Pinned d expected x ∷ h) in
       let r : total_pins Read hs' ≡ total_pins Read hs + weight Read d = let t = total_pins-set Read hs i h (Pinned d expected x ∷ h) e in omega arith in
       let w : total_pins Write hs' ≡ total_pins Write hs + weight Write d = let t = total_pins-set Write hs i h (Pinned d expected x ∷ h) e in omega arith in record {
         spelled = ap (λ (z : ℕ). z + unit_of d) k.spelled ∙ more d x.entry x.generation (total_pins Read hs) (total_pins Write hs) (total_pins Read hs') (total_pins Write hs') r w;
@@ -263,6 +269,7 @@ module _ (x : EntryRecord) (xs : List EntryRecord) (a b : ℕ) (hs : List (List 
         body = k.body;
         lawful = k.lawful;
         unpinned = λ z. absurd (n z);
+        unwritten = λ z. read_pin d x writable (total_pins Write hs) (total_pins Write hs') w z (k.unwritten z);
         pinned = all_pinned x xs a b hs i h (Pinned d expected x) (λ p t. ⊎_elim (λ (s : p ≡ (d, x)). let one = ap (λ (z : LivePin). z.1) s in (inl one, subst (λ (u : EntryRecord). u.entry ≢ Invalid) (sym one) n)) (λ (s : IsIn p (pins h)). k.pinned i h e p s) t) k.pinned;
         saw = all_known x xs a b hs i h (Pinned d expected x) (k.saw i h e) k.saw;
         counted = all_counted x xs a b hs i h (Pinned d expected x) e (k.counted i h e) k.counted;
@@ -279,6 +286,7 @@ module _ (x : EntryRecord) (xs : List EntryRecord) (a b : ℕ) (hs : List (List 
         body = k.body;
         lawful = k.lawful;
         unpinned = λ z. let q = k.unpinned z in let q0 = q.0 in let q1 = q.1 in (omega arith, omega arith);
+        unwritten = λ z. let q = k.unwritten z in omega arith;
         pinned = all_pinned x xs a b hs i h m (λ q t. k.pinned i h e q (IsIn-without_pin d g q (pins h) t)) k.pinned;
         saw = all_known x xs a b hs i h m (k.saw i h e) k.saw;
         counted = all_counted x xs a b hs i h m e (k.counted i h e) k.counted;
@@ -292,6 +300,7 @@ module _ (x : EntryRecord) (xs : List EntryRecord) (a b : ℕ) (hs : List (List 
     body = subst (λ (y : Entry). IsSpelled y a' b') (sym n) tt;
     lawful = s.lawful;
     unpinned = s.unpinned;
+    unwritten = s.unwritten;
     pinned = s.pinned;
     saw = s.saw;
     counted = s.counted;
@@ -299,15 +308,16 @@ module _ (x : EntryRecord) (xs : List EntryRecord) (a b : ℕ) (hs : List (List 
 
   -- the owner exchanges the control word
   pub changes_shown : (word word' expected stored : ℕ) (c : Change) (y : EntryRecord) → ShowsRecord x xs word a b hs → get_elem? hs i ≡ some h → IsRecord y → MayFollow y x → IsSpelled y.entry a b
-      → word' ≡ word_of y.entry y.generation (total_pins Read hs) (total_pins Write hs) → (y.entry ≡ Invalid → (total_pins Read hs ≡ 0) × (total_pins Write hs ≡ 0))
+      → word' ≡ word_of y.entry y.generation (total_pins Read hs) (total_pins Write hs) → (y.entry ≡ Invalid → (total_pins Read hs ≡ 0) × (total_pins Write hs ≡ 0)) → (is_read_only y.entry ≡ true → total_pins Write hs ≡ 0)
       → ShowsRecord y (x ∷ xs) word' a b (set hs i (Changed c expected stored y ∷ h))
-  changes_shown word word' expected stored c y k e ok may body is unpinned = let m : EntryStep = Changed c expected stored y in let s = sees_shown x xs a b hs i h m word k e refl (k.saw i h e) (k.counted i h e) in
+  changes_shown word word' expected stored c y k e ok may body is unpinned unwritten = let m : EntryStep = Changed c expected stored y in let s = sees_shown x xs a b hs i h m word k e refl (k.saw i h e) (k.counted i h e) in
       let r = same_held x xs a b hs i h m Read e refl in let w = same_held x xs a b hs i h m Write e refl in record {
         spelled = is ∙ ap (λ (z : ℕ × ℕ). word_of y.entry y.generation z.0 z.1) (λ j. (sym r j, sym w j));
         in_range = s.in_range;
         body = body;
         lawful = (ok, may, k.lawful);
         unpinned = λ n. (r ∙ (unpinned n).0, w ∙ (unpinned n).1);
+        unwritten = λ n. w ∙ unwritten n;
         pinned = λ j z at p t. let old = s.pinned j z at p t in (inr old.0, old.1);
         saw = λ j z at. on (seen z) (s.saw j z at);
         counted = s.counted;

@@ -39,6 +39,10 @@ abbrev pub PinsHaveOneRecord : Type 0
 PinsHaveOneRecord = (k : Layout) (s : State (Unit {0}) View) (i j : ℕ) (v w : View) (t r : ℕ) (p q : LivePin) → Shows k s → get_elem? s.views i ≡ some v → get_elem? s.views j ≡ some w → t < k.domains → r < TABLE_ENTRIES
     → IsIn p (pins (steps_on t r v)) → IsIn q (pins (steps_on t r w)) → p.1.generation ≡ q.1.generation → p.1 ≡ q.1
 
+-- in each state that words and views show, each pin is of an entry, and not of an invalid record (own)
+abbrev pub PinsAreOfEntries : Type 0
+PinsAreOfEntries = (k : Layout) (s : State (Unit {0}) View) (i : ℕ) (v : View) (t r : ℕ) (p : LivePin) → Shows k s → get_elem? s.views i ≡ some v → t < k.domains → r < TABLE_ENTRIES → IsIn p (pins (steps_on t r v)) → p.1.entry ≢ Invalid
+
 -- the list of records
 
 pub bounded : (x : EntryRecord) (xs : List EntryRecord) (y : EntryRecord) → IsLawful x xs → IsIn y (x ∷ xs) → y.generation ≤ x.generation
@@ -153,3 +157,7 @@ pub pins_alike : PinsHaveOneRecord
 pins_alike k s i j v w t r p q shown at_v at_w tn rn p_in q_in same = let f = (shown.entries t r tn rn).record_shown in
     let a = f.pinned i (steps_on t r v) (at_map (steps_on t r) s.views i v at_v) p p_in in let b = f.pinned j (steps_on t r w) (at_map (steps_on t r) s.views j w at_w) q q_in in
     one_record _ _ p.1 q.1 f.lawful a.0 b.0 a.1 b.1 same
+
+-- each pin is of an entry
+pub pin_entry : PinsAreOfEntries
+pin_entry k s i v t r p shown at tn rn p_in = ((shown.entries t r tn rn).record_shown.pinned i (steps_on t r v) (at_map (steps_on t r) s.views i v at) p p_in).1

@@ -1,5 +1,5 @@
 -- The rule of the table: between any two steps words and views show a state of the core.
-use Rattle.std.specs.Prelude.{◌≡◌, ◌≢◌, ◌⊎◌, ℕ, ◌+◌, ◌*◌, ◌<◌, ◌≤◌, not, ◌==◌, List, [], ◌∷◌, map, length, slice_index, slice_index_or, Option, Some, None, IfSome, position, unwrap_or}
+use Rattle.std.specs.Prelude.{◌≡◌, ◌≢◌, ◌⊎◌, ℕ, ◌+◌, ◌*◌, ◌<◌, ◌≤◌, true, not, ◌==◌, List, [], ◌∷◌, map, length, slice_index, slice_index_or, Option, Some, None, IfSome, position, unwrap_or}
 use mathlib.Core.Option.{some}
 use lib.ListN.{get_elem?}
 use Rattle.atomic_table.specs.Table.{State}
@@ -121,6 +121,8 @@ pub record ShowsRecord (x : EntryRecord) (xs : List EntryRecord) (word a b : ℕ
   pub lawful : IsLawful x xs
   -- an invalid last record has no pins in any view
   pub unpinned : x.entry ≡ Invalid → (total_pins Read hs ≡ 0) × (total_pins Write hs ≡ 0)
+  -- a read-only last record has no write pins in any view
+  pub unwritten : is_read_only x.entry ≡ true → total_pins Write hs ≡ 0
   -- each pin is of a record of the owner's list, which is an entry
   pub pinned : (i : ℕ) (h : List EntryStep) → get_elem? hs i ≡ some h → (p : LivePin) → IsIn p (pins h) → IsIn p.1 (x ∷ xs) × (p.1.entry ≢ Invalid)
   pub saw : (i : ℕ) (h : List EntryStep) → get_elem? hs i ≡ some h → SawRecord x xs (seen h)

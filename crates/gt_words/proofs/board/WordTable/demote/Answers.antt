@@ -19,7 +19,7 @@ pub turned_over-new-requires : goal.turned_over-new-requires
 turned_over-new-requires c = let can = c.requires.can.0 in (low _ c.args.word can.word_is can.room, turnable true (last_of c.args.gref c.args.seat.now.me.0) c.args.word can.word_is can.some can.now)
 
 pub exchange_word-found-requires-clause-allowed : goal.exchange_word-found-requires-clause-allowed
-exchange_word-found-requires-clause-allowed c = let b = c.args.self.now.table.shared in demote_owes (layout_of b.key) b.table_id.slots c.args.seat.now.id c.args.seat.now.me c.args.at c.args.gref c.requires.entry.0 c.requires.entry.1 c.requires.mine.1 c.args.word _ c.requires.can.0.some (let can = c.requires.can.0 in low _ c.args.word can.word_is can.room) c.requires.can.0.now c.turned_over-new.ensures
+exchange_word-found-requires-clause-allowed c = let b = c.args.self.now.table.shared in demote_owes (layout_of b.key) b.table_id.slots c.args.seat.now.id c.args.seat.now.me c.args.at c.args.gref c.requires.entry.0 c.requires.entry.1 c.requires.mine.1 c.args.word _ c.requires.can.0.some (let can = c.requires.can.0 in low _ c.args.word can.word_is can.room) c.requires.can.0.now c.requires.can.1 c.turned_over-new.ensures
 
 pub returns-then-found-word-clause-step : goal.returns-then-found-word-clause-step
 returns-then-found-word-clause-step c = let k = layout_of c.args.self.now.table.shared.key in let v = c.args.seat.now.me.0 in let w = c.exchange_word-found.new.seat.me.0 in let n : ℕ = c.exchange_word-found.result in let e = c.exchange_word-found.ensures.2 in

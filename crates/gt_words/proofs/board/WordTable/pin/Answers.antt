@@ -9,7 +9,7 @@ use Rattle.gt_words.specs.declared.view.EntryStep.TheVariants.{PinMissed, Pinned
 use Rattle.gt_words.specs.declared.view.Purpose.TheVariants as purpose
 
 pub exchange_word-found-requires-clause-allowed : goal.exchange_word-found-requires-clause-allowed
-exchange_word-found-requires-clause-allowed c = let b = c.args.self.now.table.shared in pin_owes (layout_of b.key) b.table_id.slots c.args.seat.now.id c.args.seat.now.me c.args.at c.args.gref c.requires.entry.0 c.requires.entry.1 c.args.dir c.args.looked _ (ap (λ u. c.args.looked + u) c.pin_unit.ensures) c.requires.can.looked c.requires.can.valid c.requires.can.room
+exchange_word-found-requires-clause-allowed c = let b = c.args.self.now.table.shared in pin_owes (layout_of b.key) b.table_id.slots c.args.seat.now.id c.args.seat.now.me c.args.at c.args.gref c.requires.entry.0 c.requires.entry.1 c.args.dir c.args.looked _ (ap (λ u. c.args.looked + u) c.pin_unit.ensures) c.requires.can.looked c.requires.can.valid c.requires.can.permitted c.requires.can.room
 
 pub returns-then-found-looked-clause-step : goal.returns-then-found-looked-clause-step
 returns-then-found-looked-clause-step c = let k = layout_of c.args.self.now.table.shared.key in let v = c.args.seat.now.me.0 in let w = c.exchange_word-found.new.seat.me.0 in let n : ℕ = c.exchange_word-found.result in let e = c.exchange_word-found.ensures.2 in
