@@ -1,5 +1,5 @@
 //! Lines of a script: what each is read as, and where each may stand.
-use crate::said::{HEAD, bytes_said, fault_text, steps_said};
+use crate::said::{HEAD, Part, fault_text, said};
 use std::test::Fail;
 
 // Lines that a body may have.
@@ -411,8 +411,8 @@ fn reads_the_lines_of_a_body(rt: HostRuntime) -> Result<(), Fail> {
     let alloc = rt.alloc();
     for (line, wanted) in READ {
         let script = format!(in alloc; "{HEAD}{line}\n")?;
-        let said = steps_said(alloc, script.as_bytes())?;
-        assert_eq!(rt; said.as_str(), wanted, "{line}");
+        let steps = said(alloc, script.as_bytes(), Part::Steps)?;
+        assert_eq!(rt; steps.as_str(), wanted, "{line}");
     }
     Ok(())
 }
@@ -432,7 +432,7 @@ fn reads_hexadecimal_text(rt: HostRuntime) -> Result<(), Fail> {
     ] {
         for call in ["bytes 7", "store h 10", "poke 7 0"] {
             let script = format!(in alloc; "{HEAD}do 1 {call} {digits}\n")?;
-            let said = bytes_said(alloc, script.as_bytes())?;
+            let said = said(alloc, script.as_bytes(), Part::Bytes)?;
             assert_eq!(rt; said.as_str(), bytes, "{call} {digits}");
         }
     }

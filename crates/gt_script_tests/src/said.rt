@@ -1,6 +1,7 @@
 //! What scripts are read as, in words.
-use gt_script::{Action, Call, hex_bytes, parse};
-use gt_types::{Allows, Perms, TypeId};
+use gt_policy::Policy;
+use gt_script::{Action, Call, Script, Step, Text, hex_bytes, parse};
+use gt_types::{Allows, DomainConfig, Perms, Triple, TypeId};
 use std::alloc::{AllocError, Global};
 use std::test::Fail;
 
@@ -42,11 +43,86 @@ pub fn fault_text(alloc: Global, text: &[u8]) -> Result<String, AllocError> {
     }
 }
 
-/// The steps of a script, a line each: the number of its line, its domain, and what it asks.
-pub fn steps_said(alloc: Global, text: &[u8]) -> Result<String, Fail> {
+/// What is asked of a script.
+#[derive(Clone, Copy)]
+pub enum Part {
+    /// The names of its types, its triples, its domains and its first generation.
+    Head,
+    /// Whether its policy lets type 1 read type 0, set up itself, and set up type 0.
+    Policy,
+    /// Its steps, a line each: the number of its line, its domain, and what it asks.
+    Steps,
+    /// The bytes that its hexadecimal texts say.
+    Bytes,
+}
+
+/// A part of a script, in words.
+pub fn said(alloc: Global, text: &[u8], part: Part) -> Result<String, Fail> {
     let script = parse(alloc, text)?;
+    let said = match part {
+        Part::Head => head_said(alloc, &script)?,
+        Part::Policy => policy_said(alloc, script.policy())?,
+        Part::Steps => steps_said(alloc, script.steps())?,
+        Part::Bytes => bytes_said(alloc, script.steps())?,
+    };
+    Ok(said)
+}
+
+fn head_said(alloc: Global, script: &Script<'_>) -> Result<String, AllocError> {
+    let types = script.type_names(alloc)?;
+    let names = names_said(alloc, types.as_slice())?;
+    let triples = triples_said(alloc, script.triples())?;
+    let domains = domains_said(alloc, script.domains())?;
+    let first = script.first_gen();
+    format!(in alloc; "{names}{triples}{domains}first generation {first}\n")
+}
+
+fn names_said(alloc: Global, names: &[Text<'_>]) -> Result<String, AllocError> {
     let mut out = String::new(alloc);
-    for step in script.steps() {
+    for name in names {
+        push_bytes(&mut out, name.as_bytes())?;
+        out.push('\n')?;
+    }
+    Ok(out)
+}
+
+// Appends ASCII bytes.
+fn push_bytes(out: &mut String, bytes: &[u8]) -> Result<(), AllocError> {
+    for byte in bytes {
+        out.push(char::from(*byte))?;
+    }
+    Ok(())
+}
+
+fn triples_said(alloc: Global, triples: &[Triple]) -> Result<String, AllocError> {
+    let mut out = String::new(alloc);
+    for triple in triples {
+        out.push_str(format!(in alloc; "{triple:?}\n")?.as_str())?;
+    }
+    Ok(out)
+}
+
+fn domains_said(alloc: Global, domains: &[DomainConfig]) -> Result<String, AllocError> {
+    let mut out = String::new(alloc);
+    for domain in domains {
+        out.push_str(format!(in alloc; "{domain:?}\n")?.as_str())?;
+    }
+    Ok(out)
+}
+
+fn policy_said(alloc: Global, policy: Option<&Policy>) -> Result<String, AllocError> {
+    let Some(policy) = policy else {
+        return String::from_str(alloc, "no policy");
+    };
+    let read = policy.allows(TypeId(1), TypeId(0), Perms::MAP_READ);
+    let itself = policy.allows(TypeId(1), TypeId(1), Perms::SETUP);
+    let other = policy.allows(TypeId(1), TypeId(0), Perms::SETUP);
+    format!(in alloc; "{read} {itself} {other}")
+}
+
+fn steps_said(alloc: Global, steps: &[Step<'_>]) -> Result<String, AllocError> {
+    let mut out = String::new(alloc);
+    for step in steps {
         let action = &step.action;
         let said = format!(in alloc; "{} {} {action:?}\n", step.line, step.dom.0)?;
         out.push_str(said.as_str())?;
@@ -54,15 +130,10 @@ pub fn steps_said(alloc: Global, text: &[u8]) -> Result<String, Fail> {
     Ok(out)
 }
 
-/// The bytes that the hexadecimal texts of a script say.
-pub fn bytes_said(alloc: Global, text: &[u8]) -> Result<String, Fail> {
-    let script = parse(alloc, text)?;
+fn bytes_said(alloc: Global, steps: &[Step<'_>]) -> Result<String, AllocError> {
     let mut out = String::new(alloc);
-    for step in script.steps() {
-        if let Action::Do(
-            Call::GrantBytes { hex, .. } | Call::Store { hex, .. } | Call::Poke { hex, .. },
-        ) = &step.action
-        {
+    for step in steps {
+        if let Some(hex) = hex_in(&step.action) {
             let bytes = hex_bytes(alloc, hex)?;
             out.push_str(format!(in alloc; "{bytes:?}")?.as_str())?;
         }
@@ -70,36 +141,12 @@ pub fn bytes_said(alloc: Global, text: &[u8]) -> Result<String, Fail> {
     Ok(out)
 }
 
-/// The names of the types, the triples, the domains and the first generation.
-pub fn head_said(alloc: Global, text: &[u8]) -> Result<String, Fail> {
-    let script = parse(alloc, text)?;
-    let mut out = String::new(alloc);
-    for name in script.type_names(alloc)?.iter() {
-        for byte in name.as_bytes() {
-            out.push(char::from(*byte))?;
-        }
-        out.push('\n')?;
+// The hexadecimal text of a call with one.
+fn hex_in<'b, 'a>(action: &'b Action<'a>) -> Option<&'b Text<'a>> {
+    match action {
+        Action::Do(
+            Call::GrantBytes { hex, .. } | Call::Store { hex, .. } | Call::Poke { hex, .. },
+        ) => Some(hex),
+        _ => None,
     }
-    for triple in script.triples() {
-        out.push_str(format!(in alloc; "{triple:?}\n")?.as_str())?;
-    }
-    for domain in script.domains() {
-        out.push_str(format!(in alloc; "{domain:?}\n")?.as_str())?;
-    }
-    let first = script.first_gen();
-    out.push_str(format!(in alloc; "first generation {first}\n")?.as_str())?;
-    Ok(out)
-}
-
-/// What the policy of a script says on type 1 as source: whether it may read type 0, set up itself, and set
-/// up type 0.
-pub fn policy_said(alloc: Global, text: &[u8]) -> Result<String, Fail> {
-    let script = parse(alloc, text)?;
-    let Some(policy) = script.policy() else {
-        return Ok(String::from_str(alloc, "no policy")?);
-    };
-    let read = policy.allows(TypeId(1), TypeId(0), Perms::MAP_READ);
-    let itself = policy.allows(TypeId(1), TypeId(1), Perms::SETUP);
-    let other = policy.allows(TypeId(1), TypeId(0), Perms::SETUP);
-    Ok(format!(in alloc; "{read} {itself} {other}")?)
 }

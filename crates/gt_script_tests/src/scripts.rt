@@ -1,6 +1,6 @@
 //! Whole scripts: what their heads say, their first faults, and the limits.
-use crate::said::{BLOCK, FIRST, HEAD, fault_text, head_said, policy_said, steps_said};
-use gt_script::{Fault, FaultKind, MOST_BYTES, ScriptError, parse};
+use crate::said::{BLOCK, FIRST, HEAD, Part, fault_text, said};
+use gt_script::{Fault, FaultKind, MOST_BYTES};
 use std::test::Fail;
 
 const FIRST_HEAD: &str = "b_t\na_t\n\
@@ -27,15 +27,16 @@ const FIRST_STEPS: &str =
 #[test]
 fn reads_whole_scripts(rt: HostRuntime) -> Result<(), Fail> {
     let alloc = rt.alloc();
-    for (text, head, policy, steps) in [
-        (FIRST, FIRST_HEAD, "no policy", FIRST_STEPS),
-        (BLOCK, BLOCK_HEAD, "true true false", ""),
+    for (text, part, wanted) in [
+        (FIRST, Part::Head, FIRST_HEAD),
+        (FIRST, Part::Policy, "no policy"),
+        (FIRST, Part::Steps, FIRST_STEPS),
+        (BLOCK, Part::Head, BLOCK_HEAD),
+        (BLOCK, Part::Policy, "true true false"),
+        (BLOCK, Part::Steps, ""),
     ] {
-        let mut said = head_said(alloc, text.as_bytes())?;
-        said.push_str(policy_said(alloc, text.as_bytes())?.as_str())?;
-        said.push_str(steps_said(alloc, text.as_bytes())?.as_str())?;
-        let wanted = format!(in alloc; "{head}{policy}{steps}")?;
-        assert_eq!(rt; said.as_str(), wanted.as_str());
+        let text = said(alloc, text.as_bytes(), part)?;
+        assert_eq!(rt; text.as_str(), wanted);
     }
     Ok(())
 }
@@ -43,6 +44,9 @@ fn reads_whole_scripts(rt: HostRuntime) -> Result<(), Fail> {
 #[test]
 fn reads_the_first_generation(rt: HostRuntime) -> Result<(), Fail> {
     let alloc = rt.alloc();
+    let triple = "Triple { source: TypeId(0), target: TypeId(0), perm: Perms(32) }";
+    let domain =
+        "DomainConfig { id: DomId(1), label: TypeId(0), frames: 8, table_frames: 1, version: 1 }";
     for (line, first) in [
         ("wear 0", 0),
         ("wear 1048574", 1_048_574),
@@ -51,8 +55,9 @@ fn reads_the_first_generation(rt: HostRuntime) -> Result<(), Fail> {
         ("# wear 7", 0),
     ] {
         let text = format!(in alloc; "triple a_t a_t copy\n{line}\ndomain 1 u:r:a_t 8 1 1\n")?;
-        let read = parse(alloc, text.as_bytes())?.first_gen();
-        assert_eq!(rt; read, first, "{line}");
+        let head = said(alloc, text.as_bytes(), Part::Head)?;
+        let wanted = format!(in alloc; "a_t\n{triple}\n{domain}\nfirst generation {first}\n")?;
+        assert_eq!(rt; head.as_str(), wanted.as_str(), "{line}");
     }
     Ok(())
 }
@@ -297,7 +302,7 @@ fn takes_256_types(rt: HostRuntime) -> Result<(), Fail> {
         "{names}{triples}DomainConfig {{ id: DomId(1), label: TypeId(255), frames: 8, table_frames: 1, version: 1 }}\nfirst generation 0\n"
     )?;
     assert_eq!(rt;
-        head_said(alloc, text.as_bytes())?.as_str(),
+        said(alloc, text.as_bytes(), Part::Head)?.as_str(),
         wanted.as_str()
     );
     Ok(())
@@ -309,12 +314,9 @@ fn every_beginning_is_a_script_or_has_a_fault(rt: HostRuntime) -> Result<(), Fai
     let alloc = rt.alloc();
     for (text, is_policy) in [(FIRST.as_bytes(), false), (BLOCK.as_bytes(), true)] {
         for end in 0..text.len() {
-            let is_read = match parse(alloc, &text[..end]) {
-                Ok(_) | Err(ScriptError::Fault(_)) => true,
-                Err(ScriptError::Policy(_)) => is_policy,
-                Err(ScriptError::Memory) => false,
-            };
-            assert!(rt; is_read, "{end} bytes");
+            let fault = fault_text(alloc, &text[..end])?;
+            let is_read = is_policy || !fault.contains("policy");
+            assert!(rt; is_read && fault.as_str() != "memory", "{end} bytes");
         }
     }
     Ok(())
