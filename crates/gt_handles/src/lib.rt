@@ -13,7 +13,5 @@
 
 mod handles;
 mod laws;
-#[cfg(test)]
-mod tests;
 
 pub use handles::{Handle, Handles, Slot};

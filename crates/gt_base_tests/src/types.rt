@@ -1,0 +1,237 @@
+//! Configurations, rights, and the numbers and names of the public header and the policy.
+use gt_types::{
+    Allows, Config, ConfigFault, Denial, DomId, DomainConfig, Facts, Field, Perms, Rule, Triple,
+    Triples, TypeId,
+};
+use std::test::Fail;
+
+// Domain 1 with the label and the sizes of the first worked script.
+const ONE: DomainConfig = DomainConfig {
+    id: DomId(1),
+    label: TypeId(0),
+    frames: 8,
+    table_frames: 1,
+    version: 1,
+};
+
+const TWO: DomainConfig = DomainConfig {
+    id: DomId(2),
+    ..ONE
+};
+
+// Domains with the first generation, and what is told of them. A fault of the second domain is named, whatever the
+// third has.
+const CONFIGS: [(&[DomainConfig], u32, Result<(), ConfigFault>); 11] = [
+    (
+        &[
+            DomainConfig {
+                id: DomId(0),
+                frames: 1,
+                ..ONE
+            },
+            DomainConfig {
+                id: DomId(0x7FEF),
+                frames: 64,
+                table_frames: 4,
+                ..ONE
+            },
+        ],
+        1_048_575,
+        Ok(()),
+    ),
+    (&[], 1_048_576, Err(ConfigFault::NoDomains)),
+    (&[ONE], 1_048_576, Err(ConfigFault::Generation)),
+    (
+        &[
+            ONE,
+            DomainConfig {
+                id: DomId(0x7FF0),
+                ..ONE
+            },
+            ONE,
+        ],
+        0,
+        Err(ConfigFault::Id(DomId(0x7FF0))),
+    ),
+    (&[ONE, ONE, ONE], 0, Err(ConfigFault::Repeated(DomId(1)))),
+    (
+        &[ONE, DomainConfig { frames: 0, ..TWO }, ONE],
+        0,
+        Err(ConfigFault::Frames(DomId(2))),
+    ),
+    (
+        &[
+            ONE,
+            DomainConfig {
+                frames: 65,
+                table_frames: 5,
+                ..TWO
+            },
+            ONE,
+        ],
+        0,
+        Err(ConfigFault::Frames(DomId(2))),
+    ),
+    (
+        &[
+            ONE,
+            DomainConfig {
+                table_frames: 0,
+                ..TWO
+            },
+            ONE,
+        ],
+        0,
+        Err(ConfigFault::TableFrames(DomId(2))),
+    ),
+    (
+        &[
+            ONE,
+            DomainConfig {
+                table_frames: 5,
+                version: 3,
+                ..TWO
+            },
+            ONE,
+        ],
+        0,
+        Err(ConfigFault::TableFrames(DomId(2))),
+    ),
+    (
+        &[ONE, DomainConfig { version: 0, ..TWO }, ONE],
+        0,
+        Err(ConfigFault::Version(DomId(2))),
+    ),
+    (
+        &[ONE, DomainConfig { version: 3, ..TWO }, ONE],
+        0,
+        Err(ConfigFault::Version(DomId(2))),
+    ),
+];
+
+#[test]
+fn names_the_fault_of_a_configuration(rt: HostRuntime) -> Result<(), Fail> {
+    for (domains, first_gen, told) in CONFIGS {
+        let config = Config {
+            domains: domains.to_vec(rt.alloc())?,
+            first_gen,
+        };
+        assert_eq!(rt; config.check(), told);
+    }
+    Ok(())
+}
+
+#[test]
+fn takes_sixteen_domains(rt: HostRuntime) -> Result<(), Fail> {
+    for (count, first_gen, told) in [
+        (16, 0, Ok(())),
+        (17, 1_048_576, Err(ConfigFault::TooMany(DomId(1)))),
+    ] {
+        let mut domains = Vec::new(rt.alloc());
+        for at in 0..count {
+            let id = DomId(at % 16 + 1);
+            domains.push(DomainConfig { id, ..ONE })?;
+        }
+        let config = Config { domains, first_gen };
+        assert_eq!(rt; config.check(), told);
+    }
+    Ok(())
+}
+
+// A rule's name, its status with the number of the header, and no facts.
+#[test]
+fn gives_the_numbers_of_the_header(rt: HostRuntime) -> Result<(), Fail> {
+    for (rule, wanted) in [
+        (Rule::N1, "N1 BadDomain -2 None"),
+        (Rule::N2, "N2 GeneralError -1 None"),
+        (Rule::N3, "N3 BadCopyArg -10 None"),
+        (Rule::N4, "N4 PermissionDenied -8 None"),
+        (Rule::N5, "N5 PermissionDenied -8 None"),
+        (Rule::N6, "N6 BadHandle -4 None"),
+        (Rule::N7, "N7 PermissionDenied -8 None"),
+        (Rule::N8, "N8 GeneralError -1 None"),
+        (Rule::N9, "N9 BadGntref -3 None"),
+        (Rule::N10, "N10 GeneralError -1 None"),
+        (Rule::N16, "N16 BadPage -9 None"),
+        (Rule::N18, "N18 Eagain -12 None"),
+        (Rule::N19, "N19 GeneralError -1 None"),
+        (Rule::N26, "N26 GeneralError -1 None"),
+    ] {
+        let Denial {
+            rule,
+            status,
+            facts,
+        } = Denial::new(rule, Facts::None);
+        let number = status.number();
+        let text = format!(in rt.alloc(); "{rule} {status:?} {number} {facts:?}")?;
+        assert_eq!(rt; text.as_str(), wanted);
+    }
+    Ok(())
+}
+
+#[test]
+fn prints_fields(rt: HostRuntime) -> Result<(), Fail> {
+    for (field, name) in [
+        (Field::Length, "length"),
+        (Field::Kind, "type"),
+        (Field::Reading, "reading"),
+        (Field::Writing, "writing"),
+        (Field::Pwt, "pwt"),
+        (Field::Pcd, "pcd"),
+        (Field::Pat, "pat"),
+        (Field::SubPage, "sub_page"),
+        (Field::Reserved, "reserved"),
+    ] {
+        assert_eq!(rt; field.to_string(rt.alloc())?.as_str(), name);
+    }
+    Ok(())
+}
+
+#[test]
+fn permissions_have_the_names_of_the_class(rt: HostRuntime) {
+    for (word, wanted) in [
+        ("map_read", Some(Perms::MAP_READ)),
+        ("map_write", Some(Perms::MAP_WRITE)),
+        ("unmap", Some(Perms::UNMAP)),
+        ("transfer", Some(Perms::TRANSFER)),
+        ("setup", Some(Perms::SETUP)),
+        ("copy", Some(Perms::COPY)),
+        ("query", Some(Perms::QUERY)),
+        ("map_red", None),
+        ("*", None),
+    ] {
+        let perm = Perms::named(word.as_bytes());
+        let name = match perm {
+            Some(perm) => perm.name(),
+            None => word,
+        };
+        assert_eq!(rt; (perm, name), (wanted, word));
+    }
+}
+
+#[test]
+fn allows_what_is_listed(rt: HostRuntime) -> Result<(), Fail> {
+    let (a, b) = (TypeId(0), TypeId(1));
+    let read = Triple {
+        source: b,
+        target: a,
+        perm: Perms::MAP_READ,
+    };
+    let unmap = Triple {
+        perm: Perms::UNMAP,
+        ..read
+    };
+    let rights = Triples {
+        allowed: vec![in rt.alloc(); read, unmap]?,
+    };
+    for (source, target, perm, wanted) in [
+        (b, a, Perms::MAP_READ, true),
+        (b, a, Perms::UNMAP, true),
+        (b, a, Perms::MAP_WRITE, false),
+        (a, b, Perms::MAP_READ, false),
+        (b, b, Perms::MAP_READ, false),
+    ] {
+        assert_eq!(rt; rights.allows(source, target, perm), wanted);
+    }
+    Ok(())
+}
