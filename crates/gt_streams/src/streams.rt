@@ -30,11 +30,7 @@ fn fault_of(error: &Error) -> ReadFault
 
 // One read, for which there is so much room: whether more may follow. One that is interrupted reads
 // nothing, and more may follow.
-fn read_on<R: Read>(
-    reader: &mut R,
-    bytes: &mut Vec<u8>,
-    room: usize,
-) -> Result<bool, ReadFault>
+fn read_on<R: Read>(reader: &mut R, bytes: &mut Vec<u8>, room: usize) -> Result<bool, ReadFault>
     requires { 0 < room }
     ensures ok { IfOk result (λ more. ReadsOn room more (R.remaining reader.old) (R.remaining reader.new) bytes.old.items bytes.new.items) }
     ensures err { OnErr result (ConsumesAtMost room (R.remaining reader.old) (R.remaining reader.new)) }
