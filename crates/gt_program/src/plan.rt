@@ -2,7 +2,7 @@
 ghost use Rattle.std.specs.Prelude.{◌≡◌, IfOk, false, map, drop, string_bytes, codes};
 ghost use Rattle.clap.specs.Words.{subcommand_of, app_of};
 ghost use Rattle.clap.specs.declared.builder.command.Command.TheViews.{out-Command as fields_of};
-ghost use Rattle.gthost.specs.CommandLine.{command_app, gthost_app, asked, IsAnswerTo, IsPlanOf, IsRead};
+ghost use Rattle.gt_program.specs.CommandLine.{command_app, gthost_app, asked, IsAnswerTo, IsPlanOf, IsRead};
 
 use clap::{Arg, ArgMatches, Command, Error};
 use std::alloc::{AllocError, Global};

@@ -8,9 +8,9 @@ use Rattle.clap.specs.Simple.{on_top}
 use Rattle.clap.specs.declared.error.Error.{Error}
 use Rattle.clap.specs.declared.error.kind.ErrorKind.TheVariants.{DisplayHelp, InvalidSubcommand, MissingSubcommand, TooManyValues, UnknownArgument}
 use Rattle.clap.specs.declared.parser.matches.ArgMatches.{ArgMatches}
-use Rattle.gthost.specs.declared.plan.Invocation.{Invocation}
-use Rattle.gthost.specs.declared.plan.Mode.{Mode}
-use Rattle.gthost.specs.declared.plan.Mode.TheVariants.{Play, Policy}
+use Rattle.gt_program.specs.declared.plan.Invocation.{Invocation}
+use Rattle.gt_program.specs.declared.plan.Mode.{Mode}
+use Rattle.gt_program.specs.declared.plan.Mode.TheVariants.{Play, Policy}
 
 -- [FILE] (own)
 abbrev pub file_rule : Rule

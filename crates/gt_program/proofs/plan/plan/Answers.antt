@@ -4,12 +4,12 @@ use Rattle.clap.specs.Kinds.{HasKind, Kinds}
 use Rattle.clap.specs.Faults.{fault_of, is_simple_and_free}
 use Rattle.clap.specs.Words.{Text, App, app_of, is_simple, subcommand_of, subcommand_rows_of, subcommand_name_of}
 use Rattle.clap.proofs.FaultLemmas.{failed_up}
-use Rattle.gthost.specs.CommandLine.{gthost_app, command_name, asked, Request, refusals, IsPlanFor, IsPlanOf}
-use Rattle.gthost.specs.declared.plan.Mode.{Mode}
-use Rattle.gthost.specs.declared.plan.Mode.TheVariants.{Play, Policy}
+use Rattle.gt_program.specs.CommandLine.{gthost_app, command_name, asked, Request, refusals, IsPlanFor, IsPlanOf}
+use Rattle.gt_program.specs.declared.plan.Mode.{Mode}
+use Rattle.gt_program.specs.declared.plan.Mode.TheVariants.{Play, Policy}
 use Rattle.clap.specs.declared.error.Error.{Error}
-use Rattle.gthost.proofs.Line.{gthost_is_simple, words_say, refusal, planned, entered_command}
-use Rattle.gthost.proofs.plan.plan.Goals as goal
+use Rattle.gt_program.proofs.Line.{gthost_is_simple, words_say, refusal, planned, entered_command}
+use Rattle.gt_program.proofs.plan.plan.Goals as goal
 
 never_both : {T : Type 0} (o : Option T) → IsSome o → o ≡ None → ⊥
 never_both None some none = true≢false (sym some)

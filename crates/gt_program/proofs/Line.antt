@@ -10,10 +10,10 @@ use Rattle.clap.specs.Simple.{Shape, built, built_leaf, inherited, entered, subc
 use Rattle.clap.specs.declared.error.kind.ErrorKind.TheVariants.{DisplayHelp, InvalidSubcommand, MissingSubcommand, TooManyValues, UnknownArgument}
 use Rattle.clap.proofs.WalkLemmas.{walk_stopped}
 use Rattle.clap.proofs.FaultLemmas.{stopped_fault}
-use Rattle.gthost.specs.CommandLine.{gthost_app, command_app, command_name, Word, mark, help, flag, plain, word_of, word_with, long_flag, short_flag, Request, to_do, for_help, nothing, asked_by, asked_behind_mark, asked_of, asked_of_none, asked, refusals, IsPlanFor, IsPlanOf}
-use Rattle.gthost.specs.declared.plan.Invocation.{Invocation}
-use Rattle.gthost.specs.declared.plan.Mode.{Mode}
-use Rattle.gthost.specs.declared.plan.Mode.TheVariants.{Play, Policy}
+use Rattle.gt_program.specs.CommandLine.{gthost_app, command_app, command_name, Word, mark, help, flag, plain, word_of, word_with, long_flag, short_flag, Request, to_do, for_help, nothing, asked_by, asked_behind_mark, asked_of, asked_of_none, asked, refusals, IsPlanFor, IsPlanOf}
+use Rattle.gt_program.specs.declared.plan.Invocation.{Invocation}
+use Rattle.gt_program.specs.declared.plan.Mode.{Mode}
+use Rattle.gt_program.specs.declared.plan.Mode.TheVariants.{Play, Policy}
 use Rattle.clap.specs.declared.error.Error.{Error}
 use Rattle.clap.specs.Matches.{subcommand_name_of}
 use Rattle.clap.specs.declared.parser.matches.ArgMatches.{ArgMatches}
