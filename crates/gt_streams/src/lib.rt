@@ -15,8 +15,6 @@
 mod fault;
 mod laws;
 mod streams;
-#[cfg(test)]
-mod tests;
 mod text;
 
 pub use fault::{ReadFault, WriteFault};

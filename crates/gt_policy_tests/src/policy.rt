@@ -1,7 +1,5 @@
 //! Worked texts, limits, and every beginning of a text.
-use crate::parse::{FaultKind, MAX_BYTES};
-use crate::policy::Policy;
-use crate::types::TypeSet;
+use gt_policy::{FaultKind, MAX_BYTES, Policy, TypeSet};
 use gt_types::{Allows, Perms, TypeId};
 use std::alloc::{AllocError, Global};
 use std::test::Fail;
@@ -363,19 +361,35 @@ type domU_t, domain;\n\
 allow { domain -dom0_t } domain:grant { map_read copy };\n\
 allow dom0_t self:grant query;\n";
 
+// The numbers of the types that a set holds.
+fn members(alloc: Global, set: TypeSet) -> Result<String, AllocError> {
+    let mut out = String::new(alloc);
+    for n in 0..400 {
+        if set.contains(TypeId(n)) {
+            let number = format!(in alloc; "{n} ")?;
+            out.push_str(number.as_str())?;
+        }
+    }
+    Ok(out)
+}
+
 #[test]
 fn lists_the_targets_of_a_source(rt: HostRuntime) -> Result<(), Fail> {
-    let policy = Policy::parse(rt.alloc(), COPY_AND_QUERY)?;
-    let none = TypeSet::empty();
-    assert_eq!(rt;
-        policy.targets(TypeId(1), Perms::COPY),
-        none.with(0).with(1)
-    );
-    assert_eq!(rt; policy.targets(TypeId(0), Perms::COPY), none);
-    assert_eq!(rt; policy.targets(TypeId(0), Perms::QUERY), none.with(0));
-    assert_eq!(rt; policy.targets(TypeId(300), Perms::COPY), none);
-    assert!(rt; none.with(200).contains(TypeId(200)));
-    assert!(rt; !none.with(200).contains(TypeId(72)));
+    let alloc = rt.alloc();
+    let types = declarations(alloc, "type", 256)?;
+    let many = format!(in alloc; "{types}allow n72 n200:grant copy;")?;
+    for (text, source, perm, wanted) in [
+        (COPY_AND_QUERY, 1, Perms::COPY, "0 1 "),
+        (COPY_AND_QUERY, 0, Perms::COPY, ""),
+        (COPY_AND_QUERY, 0, Perms::QUERY, "0 "),
+        (COPY_AND_QUERY, 300, Perms::COPY, ""),
+        (many.as_str(), 72, Perms::COPY, "200 "),
+        (many.as_str(), 200, Perms::COPY, ""),
+    ] {
+        let policy = Policy::parse(alloc, text)?;
+        let targets = policy.targets(TypeId(source), perm);
+        assert_eq!(rt; members(alloc, targets)?.as_str(), wanted, "type {source}");
+    }
     Ok(())
 }
 

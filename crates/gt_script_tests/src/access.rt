@@ -1,6 +1,6 @@
 //! The calls that write and read bytes: what they say, and what none of them says.
-use crate::tests::{fault, on_line};
-use crate::{Action, Call, Fault, FaultKind, Text, hex_bytes, parse};
+use crate::scripts::{fault, on_line};
+use gt_script::{Action, Call, Fault, FaultKind, Text, hex_bytes, parse};
 use gt_types::DomId;
 use std::alloc::{AllocError, Global};
 use std::process::Abort;

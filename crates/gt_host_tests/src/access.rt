@@ -1,6 +1,6 @@
 //! Whole runs of scripts that write and read bytes.
-use crate::play;
-use crate::tests::{reads_that_fail, refused_at_most_once, writes_that_fail};
+use crate::playing::{reads_that_fail, refused_at_most_once, writes_that_fail};
+use gt_host::play;
 use std::alloc::{AllocError, Global};
 use std::process::Abort;
 use std::test::Fail;

@@ -1,4 +1,4 @@
-use crate::{
+use gt_entry::{
     Control, Entry, Header, decode, decode_v1, decode_v2, encode_v1, encode_v2, status_word,
 };
 use gt_types::{Dir, DomId, Field, GrantRef, Range, Use};

@@ -1,5 +1,5 @@
 //! Whole listings over a reader and a writer in memory, and over ones that fail.
-use crate::{Fault, policy};
+use gt_listing::{Fault, policy};
 use gt_policy::{FaultKind, PolicyFault};
 use std::alloc::Global;
 use std::io::{self, ErrorKind, Read, Write};

@@ -1,5 +1,5 @@
 //! Scripts with a policy block, and its faults.
-use crate::{ScriptError, parse};
+use gt_script::{ScriptError, parse};
 use gt_types::{Allows, DomId, Perms, TypeId};
 use std::alloc::{AllocError, Global};
 use std::test::Fail;

@@ -1,5 +1,5 @@
 //! Whole scripts, and their first faults.
-use crate::{
+use gt_script::{
     Action, Call, Fault, FaultKind, Grant, MOST_BYTES, ScriptError, Step, Text, hex_bytes, parse,
 };
 use gt_types::{DomId, DomainConfig, GrantRef, Perms, Triple, TypeId};

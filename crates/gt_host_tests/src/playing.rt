@@ -1,5 +1,5 @@
 //! Whole runs over a reader and a writer in memory, and over ones that fail.
-use crate::{PlayFault as Fault, play};
+use gt_host::{PlayFault as Fault, play};
 use gt_script::{Fault as ScriptFault, FaultKind};
 use std::alloc::Global;
 use std::io::{self, ErrorKind, Read, Write};

@@ -1,5 +1,5 @@
 //! Whole runs over tables of both versions.
-use crate::play;
+use gt_host::play;
 use std::alloc::Global;
 use std::process::Abort;
 use std::test::Fail;

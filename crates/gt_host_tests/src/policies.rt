@@ -1,5 +1,5 @@
 //! Runs of scripts with a policy block.
-use crate::{PlayFault as Fault, play};
+use gt_host::{PlayFault as Fault, play};
 use std::alloc::Global;
 use std::test::Fail;
 

@@ -1,5 +1,5 @@
 //! Streams in memory, and streams that fail.
-use crate::{ReadFault, WriteFault, finish, push_text, read_text, send, text_of, write_text};
+use gt_streams::{ReadFault, WriteFault, finish, push_text, read_text, send, text_of, write_text};
 use std::io::{self, ErrorKind, Read, Write};
 use std::test::Fail;
 

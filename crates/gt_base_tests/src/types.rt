@@ -1,4 +1,4 @@
-use crate::{
+use gt_types::{
     Allows, Config, ConfigFault, Denial, DomId, DomainConfig, Facts, Field, Perms, Rule, Status,
     Triple, Triples, TypeId,
 };

@@ -1,9 +1,9 @@
 //! Accesses to bytes: through mappings, and to frames of the caller's own.
-use crate::tests::{
+use crate::calls::{
     OWNER, PEER, READ_ONLY, WRITABLE, ask, ask_again, goes_on, grant, judged, map, mapped, opens,
     revoke, start, unmap,
 };
-use crate::{Answer, Core, Handle, Request};
+use gt_core::{Answer, Core, Handle, Request};
 use gt_types::{DomId, Memory, Rule, StartFault, Triples};
 use std::process::Abort;
 use std::test::Fail;

@@ -1,8 +1,8 @@
 //! Tables of both versions: their headers, sizes and entries.
-use crate::tests::{
+use crate::calls::{
     OTHER, OWNER, PEER, READ_ONLY, ask, ended, goes_on, grant, judged, opens, revoke, triple,
 };
-use crate::{Answer, Change, Core, Request, Seen, Shown, Step, Ticked};
+use gt_core::{Answer, Change, Core, Request, Seen, Shown, Step, Ticked};
 use gt_entry::Entry;
 use gt_types::{
     Config, Denial, DomId, DomainConfig, Facts, Field, GrantRef, Memory, Perms, Rule, Size,
