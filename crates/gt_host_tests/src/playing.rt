@@ -256,28 +256,28 @@ fn plays_as_many_pins_as_there_can_be(rt: HostRuntime) -> Result<(), Fail> {
 #[test]
 fn a_fault_writes_nothing(rt: HostRuntime) -> Result<(), Fail> {
     let cases = [
-        ("", "", "gthost: line 1: syntax"),
-        ("triple b_t a_t map_read\n", "", "gthost: line 2: config"),
-        (FIRST_HEAD, "do 9 revoke 0\n", "gthost: line 6: config"),
+        ("", "", "line 1: syntax"),
+        ("triple b_t a_t map_read\n", "", "line 2: config"),
+        (FIRST_HEAD, "do 9 revoke 0\n", "line 6: config"),
         (
             FIRST_HEAD,
             "do 1 grant 0 page 2 rw\n",
-            "gthost: line 6: syntax",
+            "line 6: syntax",
         ),
         (
             "policy\ntype a_t\nend\n",
             "",
-            "gthost: line 3: policy syntax",
+            "line 3: policy syntax",
         ),
         (
             "policy\ntype a_t;\nend\n",
             "triple a_t a_t copy\n",
-            "gthost: line 4: syntax",
+            "line 4: syntax",
         ),
         (
             "policy\ntype a_t;\nallow a_t b_t:grant copy;\nend\n",
             "domain 1 u:r:a_t 8 1 1\n",
-            "gthost: line 3: policy unknown b_t",
+            "line 3: policy unknown b_t",
         ),
     ];
     for (head, body, want) in cases {
@@ -321,9 +321,9 @@ fn bytes_that_are_no_script(rt: HostRuntime) -> Result<(), Fail> {
 #[test]
 fn faults_without_a_line(rt: HostRuntime) -> Result<(), Fail> {
     let cases = [
-        (Fault::Memory, "gthost: memory"),
-        (Fault::Read, "gthost: read"),
-        (Fault::Write, "gthost: write"),
+        (Fault::Memory, "memory"),
+        (Fault::Read, "read"),
+        (Fault::Write, "write"),
     ];
     for (fault, want) in cases {
         let line = format!(in rt.alloc(); "{fault}")?;

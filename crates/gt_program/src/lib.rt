@@ -18,5 +18,5 @@ mod texts;
 
 pub use failure::{Failure, exit_status};
 pub use obeying::obey;
-pub use system::run;
+pub use system::{System, run};
 pub use texts::Texts;

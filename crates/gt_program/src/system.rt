@@ -8,10 +8,10 @@ use std::fs::File;
 use std::io::{self, ErrorKind};
 use std::rt::Runtime;
 
-// The files and the standard input of the system.
+/// The files and the standard input of the system.
 #[derive(Drop)]
-struct System<'r, R> {
-    rt: &'r R,
+pub struct System<'r, R> {
+    pub rt: &'r R,
 }
 
 impl<'r, R: Runtime> Texts for System<'r, R> {

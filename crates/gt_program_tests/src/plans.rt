@@ -1,4 +1,4 @@
-use crate::plan::{Mode, plan};
+use gt_program::plan::{Mode, plan};
 use std::alloc::{AllocError, Global};
 use std::test::Fail;
 
