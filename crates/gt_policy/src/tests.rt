@@ -1,8 +1,7 @@
 //! Worked texts, limits, and every beginning of a text.
-use crate::parse::{FaultKind, MAX_BYTES};
+use crate::parse::FaultKind;
 use crate::policy::Policy;
-use crate::types::TypeSet;
-use gt_types::{Allows, Perms, TypeId};
+use gt_types::{Allows, LONGEST_TEXT, Perms, TypeId};
 use std::alloc::{AllocError, Global};
 use std::test::Fail;
 
@@ -290,10 +289,10 @@ fn takes_65536_allow_statements(rt: HostRuntime) -> Result<(), Fail> {
 #[test]
 fn takes_1048576_bytes(rt: HostRuntime) -> Result<(), Fail> {
     let alloc = rt.alloc();
-    let most = repeated(alloc, "type a;", "\n", MAX_BYTES - 7)?;
+    let most = repeated(alloc, "type a;", "\n", LONGEST_TEXT - 7)?;
     assert_eq!(rt; most.len(), 1_048_576);
     assert_eq!(rt; Policy::parse(alloc, most.as_str())?.count(), 1);
-    let more = repeated(alloc, "type a;", "\n", MAX_BYTES - 6)?;
+    let more = repeated(alloc, "type a;", "\n", LONGEST_TEXT - 6)?;
     let fault = shown(alloc, more.as_str())?;
     assert_eq!(rt; fault.as_str(), "line 1: policy limit");
     Ok(())
@@ -362,22 +361,6 @@ type dom0_t, domain;\n\
 type domU_t, domain;\n\
 allow { domain -dom0_t } domain:grant { map_read copy };\n\
 allow dom0_t self:grant query;\n";
-
-#[test]
-fn lists_the_targets_of_a_source(rt: HostRuntime) -> Result<(), Fail> {
-    let policy = Policy::parse(rt.alloc(), COPY_AND_QUERY)?;
-    let none = TypeSet::empty();
-    assert_eq!(rt;
-        policy.targets(TypeId(1), Perms::COPY),
-        none.with(0).with(1)
-    );
-    assert_eq!(rt; policy.targets(TypeId(0), Perms::COPY), none);
-    assert_eq!(rt; policy.targets(TypeId(0), Perms::QUERY), none.with(0));
-    assert_eq!(rt; policy.targets(TypeId(300), Perms::COPY), none);
-    assert!(rt; none.with(200).contains(TypeId(200)));
-    assert!(rt; !none.with(200).contains(TypeId(72)));
-    Ok(())
-}
 
 // With bench/refused.sh, which refuses each request for memory in turn: the answer is the
 // same, or the text was refused for want of memory.
