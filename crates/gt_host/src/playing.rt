@@ -23,7 +23,7 @@ use std::alloc::{AllocError, Global};
 use std::io::{Read, Write};
 
 // A core with the domains and the rights of the script.
-fn start<'s, 'a>(alloc: Global, script: &'s Script<'a>) -> Result<Core<Rights<'s>>, Fault>
+fn start<'s, 'a>(alloc: Global, script: &'s Script<'a>) -> Result<Core<Rights>, Fault>
     requires { CanStart script.now }
     ensures starts { IfOk result (StartsFor script.entry.now) }
     ensures errors { IfErr result (λ e. e ≡ faults.Memory) }
@@ -67,7 +67,7 @@ fn push_open_lines(
 // Runs the steps of the script, and writes their lines.
 fn write_lines<'s, 'a, W: Write>(
     alloc: Global,
-    core: &mut Core<Rights<'s>>,
+    core: &mut Core<Rights>,
     script: &'s Script<'a>,
     writer: &mut W,
 ) -> Result<(), Fault>

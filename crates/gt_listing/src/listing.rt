@@ -1,5 +1,5 @@
 //! A policy in, and the lines of its triples out.
-ghost use Rattle.std.specs.Prelude.{◌≡◌, ℕ, List, take};
+ghost use Rattle.std.specs.Prelude.{◌≡◌, ◌+◌, ℕ, List, take};
 ghost use Rattle.gt_streams.specs.Streams.{OfInput, ConsumesAtMost};
 ghost use Rattle.gt_streams.specs.declared.streams.TheConstants.{READ_LIMIT};
 ghost use Rattle.gt_listing.specs.Writing.{Listed, Parsed};
@@ -8,6 +8,7 @@ use crate::fault::Fault;
 use crate::sources::write_policy;
 use crate::text::policy_text;
 use gt_streams::read_text;
+use gt_types::LONGEST_TEXT;
 use std::alloc::Global;
 use std::io::{Read, Write};
 
@@ -23,7 +24,7 @@ fn list_text<W: Write>(alloc: Global, text: &str, writer: &mut W) -> Result<(), 
 
 // Lists the policy that bytes say, of which those up to the limit were read.
 fn list_bytes<W: Write>(alloc: Global, input: &[u8], writer: &mut W) -> Result<(), Fault>
-    ensures { (all : List ℕ) → input.now ≡ take 1048577 all →
+    ensures { (all : List ℕ) → input.now ≡ take (LONGEST_TEXT + 1) all →
         Listed all (W.contents writer.old) (W.contents writer.new) result }
 {
     match policy_text(input) {

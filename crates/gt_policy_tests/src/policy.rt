@@ -1,6 +1,6 @@
 //! Worked texts, limits, and every beginning of a text.
-use gt_policy::{FaultKind, MAX_BYTES, Policy, TypeSet};
-use gt_types::{Allows, Perms, TypeId};
+use gt_policy::{FaultKind, Policy};
+use gt_types::{Allows, LONGEST_TEXT, Perms, TypeId};
 use std::alloc::{AllocError, Global};
 use std::test::Fail;
 
@@ -288,10 +288,10 @@ fn takes_65536_allow_statements(rt: HostRuntime) -> Result<(), Fail> {
 #[test]
 fn takes_1048576_bytes(rt: HostRuntime) -> Result<(), Fail> {
     let alloc = rt.alloc();
-    let most = repeated(alloc, "type a;", "\n", MAX_BYTES - 7)?;
+    let most = repeated(alloc, "type a;", "\n", LONGEST_TEXT - 7)?;
     assert_eq!(rt; most.len(), 1_048_576);
     assert_eq!(rt; Policy::parse(alloc, most.as_str())?.count(), 1);
-    let more = repeated(alloc, "type a;", "\n", MAX_BYTES - 6)?;
+    let more = repeated(alloc, "type a;", "\n", LONGEST_TEXT - 6)?;
     let fault = shown(alloc, more.as_str())?;
     assert_eq!(rt; fault.as_str(), "line 1: policy limit");
     Ok(())
@@ -360,38 +360,6 @@ type dom0_t, domain;\n\
 type domU_t, domain;\n\
 allow { domain -dom0_t } domain:grant { map_read copy };\n\
 allow dom0_t self:grant query;\n";
-
-// The numbers of the types that a set holds.
-fn members(alloc: Global, set: TypeSet) -> Result<String, AllocError> {
-    let mut out = String::new(alloc);
-    for n in 0..400 {
-        if set.contains(TypeId(n)) {
-            let number = format!(in alloc; "{n} ")?;
-            out.push_str(number.as_str())?;
-        }
-    }
-    Ok(out)
-}
-
-#[test]
-fn lists_the_targets_of_a_source(rt: HostRuntime) -> Result<(), Fail> {
-    let alloc = rt.alloc();
-    let types = declarations(alloc, "type", 256)?;
-    let many = format!(in alloc; "{types}allow n72 n200:grant copy;")?;
-    for (text, source, perm, wanted) in [
-        (COPY_AND_QUERY, 1, Perms::COPY, "0 1 "),
-        (COPY_AND_QUERY, 0, Perms::COPY, ""),
-        (COPY_AND_QUERY, 0, Perms::QUERY, "0 "),
-        (COPY_AND_QUERY, 300, Perms::COPY, ""),
-        (many.as_str(), 72, Perms::COPY, "200 "),
-        (many.as_str(), 200, Perms::COPY, ""),
-    ] {
-        let policy = Policy::parse(alloc, text)?;
-        let targets = policy.targets(TypeId(source), perm);
-        assert_eq!(rt; members(alloc, targets)?.as_str(), wanted, "type {source}");
-    }
-    Ok(())
-}
 
 // With bench/refused.sh, which refuses each request for memory in turn: the answer is the
 // same, or the text was refused for want of memory.
