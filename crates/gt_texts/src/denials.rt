@@ -1,12 +1,23 @@
 //! Refusals.
 ghost use Rattle.std.specs.Prelude.{◌≡◌, ◌++◌, OnOk};
 ghost use Rattle.gt_texts.specs.Printing.{type_text, facts_text, denial_text};
+ghost use Rattle.gt_texts.specs.Texts.{StaysText, AreTexts};
 
 use crate::numbers::push_number;
-use gt_streams::push_text;
+use crate::text::push_text;
 use gt_types::{Denial, Facts, TypeId};
 use std::alloc::AllocError;
 use std::convert::AsSlice;
+
+// The name that stands at a type's number: no bytes where none does.
+fn name_of<'n, N: AsSlice<u8>>(names: &'n [N], id: TypeId) -> &'n [u8]
+    ensures { result.now ≡ type_text N.items names.entry.now id }
+{
+    match names.get(usize::from(id.0)) {
+        Some(name) => name.as_slice(),
+        None => &[],
+    }
+}
 
 /// Appends the name of a type: the one that stands at its number in `names`, and nothing where none does.
 pub fn push_type<N: AsSlice<u8>>(
@@ -14,12 +25,11 @@ pub fn push_type<N: AsSlice<u8>>(
     names: &[N],
     id: TypeId,
 ) -> Result<(), AllocError>
-    ensures { OnOk result (out.new.items ≡ out.old.items ++ type_text N.items names.now id) }
+    ensures text { OnOk result (out.new.items ≡ out.old.items ++ type_text N.items names.now id) }
+    ensures stays { OnOk result (AreTexts N.items names.now → StaysText out.old.items out.new.items) }
 {
-    match names.get(usize::from(id.0)) {
-        Some(name) => out.extend_from_slice(name.as_slice()),
-        None => Ok(()),
-    }
+    out.extend_from_slice(name_of(names, id))?;
+    Ok(())
 }
 
 /// Appends what a refusal rests on, where its line names that. After an Err a part of it may stand.
@@ -28,7 +38,8 @@ pub fn push_facts<N: AsSlice<u8>>(
     names: &[N],
     facts: Facts,
 ) -> Result<(), AllocError>
-    ensures { OnOk result (out.new.items ≡ out.old.items ++ facts_text (type_text N.items names.now) facts) }
+    ensures text { OnOk result (out.new.items ≡ out.old.items ++ facts_text (type_text N.items names.now) facts) }
+    ensures stays { OnOk result (AreTexts N.items names.now → StaysText out.old.items out.new.items) }
 {
     match facts {
         Facts::Policy {
@@ -57,7 +68,8 @@ pub fn push_denial<N: AsSlice<u8>>(
     names: &[N],
     denial: Denial,
 ) -> Result<(), AllocError>
-    ensures { OnOk result (out.new.items ≡ out.old.items ++ denial_text (type_text N.items names.now) denial) }
+    ensures text { OnOk result (out.new.items ≡ out.old.items ++ denial_text (type_text N.items names.now) denial) }
+    ensures stays { OnOk result (AreTexts N.items names.now → StaysText out.old.items out.new.items) }
 {
     push_text(out, "N")?;
     push_number(out, denial.rule.number())?;
