@@ -1,10 +1,12 @@
 //! A script in, and the lines of its run out.
-ghost use Rattle.std.specs.Prelude.{◌≡◌, ◌⊎◌, ◌++◌, ℕ, List, take, OnOk, OnErr, IfOk, IfErr, IfSome};
+ghost use Rattle.std.specs.Prelude.{◌≡◌, ◌⊎◌, ◌++◌, ℕ, List, take, OnOk, OnErr, IfOk, IfErr};
 ghost use Rattle.std.specs.Option.{option_map};
 ghost use Rattle.gt_script.specs.Script.{Tells};
 ghost use Rattle.gt_host.specs.declared.fault.Fault.TheVariants as faults;
 ghost use Rattle.gt_host.specs.OpenCalls.{call_in};
 ghost use Rattle.gt_host.specs.Runs.{open_text, open_lines};
+ghost use Rattle.gt_streams.specs.Streams.{OfInput, ConsumesAtMost};
+ghost use Rattle.gt_streams.specs.declared.streams.TheConstants.{READ_LIMIT};
 ghost use Rattle.gt_host.specs.Playing.{CanStart, StartsFor, WritesRun, BeginsRun, Played};
 
 use crate::answers::push_open_line;
@@ -122,8 +124,9 @@ pub fn play<R: Read, W: Write>(
     writer: &mut W,
     audit: bool,
 ) -> Result<(), PlayFault>
-    ensures { IfSome (R.remaining reader.old) (λ input.
+    ensures text { OfInput (R.remaining reader.old) (λ input.
         Played (Tells input) (W.contents writer.old) (W.contents writer.new) result) }
+    ensures read { ConsumesAtMost READ_LIMIT (R.remaining reader.old) (R.remaining reader.new) }
 {
     let _ = audit;
     match read_text(alloc, reader) {

@@ -1,5 +1,5 @@
 -- From what was read and written to what is listed.
-use Rattle.std.proofs.Common.{◌≡◌, ◌⊎◌, ℕ, ◌+◌, ◌<◌, ◌≤◌, List, length, length-take, take, min, Option, None, Some, Result, Ok, Err, OnOk, OnErr, IfErr, IfSome, refl, sym, subst, ◌∙◌, inl, inr, arith}
+use Rattle.std.proofs.Common.{◌≡◌, ◌⊎◌, ℕ, ◌+◌, ◌<◌, ◌≤◌, List, length, length-take, take, min, Option, Some, Result, Ok, Err, OnOk, OnErr, IfErr, refl, sym, subst, ◌∙◌, inl, inr, arith}
 use Rattle.std.proofs.lemmas.List.{take_all}
 use Rattle.std.specs.Io.KnownBytes.{Appends}
 use Rattle.std.specs.Str.{IsUtf8}
@@ -19,8 +19,8 @@ use Rattle.gt_listing.specs.declared.fault.Fault.{Fault}
 use Rattle.gt_listing.specs.declared.fault.Fault.TheVariants as faults
 use Rattle.gt_listing.specs.Faults.{fault_of, read_fault}
 use Rattle.gt_listing.specs.Reading.{IsNoText}
-use Rattle.gt_streams.specs.Laws.{keeps_same}
-use Rattle.gt_streams.specs.Streams.{AppendsBeginning}
+use Rattle.gt_streams.specs.Laws.{keeps_same, of_any_input}
+use Rattle.gt_streams.specs.Streams.{AppendsBeginning, OfInput}
 use Rattle.gt_listing.specs.Writing.{IsListing, Listed, Parsed, Writes, text_with}
 use Rattle.gt_listing.proofs.LineLemmas.{listing_same}
 
@@ -104,16 +104,11 @@ listed_no all bytes faults.Memory old read h = absurd h
 listed_no all bytes faults.Read old read h = absurd h
 listed_no all bytes faults.Write old read h = absurd h
 
-pub listed_all : (known old new : Option (List ℕ)) (bytes : List ℕ) (r : Result (Unit {0}) Fault) → IfSome known (λ all. bytes ≡ take 1048577 all)
-    → ((all : List ℕ) → bytes ≡ take 1048577 all → Listed all old new r) → IfSome known (λ all. Listed all old new r)
-listed_all None old new bytes r e h = tt
-listed_all (Some all) old new bytes r e h = h all e
-
 -- nothing could be read
 unread : (all : List ℕ) (old : Option (List ℕ)) (error : ReadFault) → Listed all old old (Err (read_fault error))
 unread all old reads.Memory = inl (keeps_same old)
 unread all old reads.Read = keeps_same old
 
-pub listed_unread : (known old : Option (List ℕ)) (error : ReadFault) (fault : Fault) → fault ≡ read_fault error → IfSome known (λ all. Listed all old old (Err fault))
-listed_unread None old error fault is = tt
-listed_unread (Some all) old error fault is = subst (λ (f : Fault). Listed all old old (Err f)) (sym is) (unread all old error)
+pub listed_unread : (known old : Option (List ℕ)) (error : ReadFault) (fault : Fault) → fault ≡ read_fault error → OfInput known (λ input. Listed input old old (Err fault))
+listed_unread known old error fault is =
+    of_any_input known (λ (input : List ℕ). Listed input old old (Err fault)) (λ (input : List ℕ). subst (λ (f : Fault). Listed input old old (Err f)) (sym is) (unread input old error))

@@ -1,5 +1,5 @@
 //! The lines of all triples, source by source.
-ghost use Rattle.std.specs.Prelude.{◌≡◌, ◌++◌, ◌⊎◌, OnOk, OnErr, IfErr};
+ghost use Rattle.std.specs.Prelude.{◌≡◌, ◌++◌, ◌⊎◌, ◌<◌, length, OnOk, OnErr, IfErr};
 ghost use Rattle.std.specs.Io.KnownBytes.{Appends};
 ghost use Rattle.gt_policy.specs.Allowing.{may_of};
 ghost use Rattle.gt_policy.specs.Listing.{name_of};
@@ -12,7 +12,7 @@ ghost use Rattle.gt_listing.specs.declared.fault.Fault.TheVariants as faults;
 use crate::fault::Fault;
 use crate::lines::{Right, push_pair, rights_of};
 use gt_policy::Policy;
-use gt_streams::{finish, send};
+use gt_streams::{CHUNK, finish, send};
 use gt_types::TypeId;
 use std::alloc::Global;
 use std::io::Write;
@@ -35,8 +35,10 @@ fn write_source<W: Write>(
     waiting: &mut Vec<u8>,
     writer: &mut W,
 ) -> Result<(), Fault>
+    requires { length waiting.old.items < CHUNK }
     ensures ok { OnOk result (Sends (W.contents writer.old) (W.contents writer.new)
         (waiting.old.items ++ source_lines policy.now.types source rights.now ids.now) waiting.new.items) }
+    ensures few { OnOk result (length waiting.new.items < CHUNK) }
     ensures err { OnErr result (AppendsBeginning (W.contents writer.old) (W.contents writer.new)
         (waiting.old.items ++ source_lines policy.now.types source rights.now ids.now)) }
     ensures errors { IfErr result (λ e. (e ≡ faults.Memory) ⊎ (e ≡ faults.Write)) }

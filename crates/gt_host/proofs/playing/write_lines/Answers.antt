@@ -2,11 +2,16 @@ use Rattle.std.proofs.Common.{◌≡◌, ◌<◌, ◌∙◌, length, refl, arith
 use Rattle.gt_host.specs.Rights.{may_by}
 use Rattle.gt_host.proofs.RunLemmas.{same_setting}
 use Rattle.gt_streams.specs.Laws.{keeps_same}
-use Rattle.gt_host.proofs.PlayLemmas.{OnErr-all, not_begun, begins_end, begins_step, ends, goes_on, has_begun, ready, same_setting_of_script, starts_underway}
+use Rattle.gt_host.proofs.PlayLemmas.{OnErr-all, few_wait, not_begun, begins_end, begins_step, ends, goes_on, has_begun, ready, same_setting_of_script, starts_underway}
 use Rattle.gt_host.proofs.playing.write_lines.Goals as goal
 
 pub steps-init : goal.steps-init
-steps-init g c = (refl, refl, starts_underway c.args.script.now c.args.core.now _ _ _ c.requires.starts c.new-kept.ensures c.new-waiting.ensures.items)
+steps-init g c = (
+  refl,
+  refl,
+  starts_underway c.args.script.now c.args.core.now _ _ _ c.requires.starts c.new-kept.ensures c.new-waiting.ensures.items,
+  few_wait _ c.new-waiting.ensures.items,
+)
 
 pub returns-in_err-run_step-clause-beginning : goal.returns-in_err-run_step-clause-beginning
 returns-in_err-run_step-clause-beginning g c =
@@ -27,6 +32,7 @@ steps-preserved g c =
       c.run_step.ensures.rights ∙ c.steps.invariant.1,
       goes_on c.args.script.now _ c.as_slice.result.now c.steps-steps.result.now c.steps.step-index c.step-item.result c.steps.core.domains.items c.run_step.new.core.domains.items c.steps.kept c.run_step.new.kept _ _ _ _ _ _
           setting c.steps.invariant.2 within c.step-item.is (c.as_slice.ensures.value ∙ c.in_ok-types.ensures) c.in_ok-run_step.ensures.leads c.in_ok-send.ensures.ok,
+      c.in_ok-send.ensures.few,
     )
 
 pub run_step-requires : goal.run_step-requires

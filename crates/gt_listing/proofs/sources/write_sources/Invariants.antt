@@ -1,4 +1,4 @@
-use Rattle.std.proofs.Common.{take, flat_map}
+use Rattle.std.proofs.Common.{◌<◌, length, take, flat_map}
 use Rattle.gt_policy.specs.Allowing.{may_of}
 use Rattle.gt_streams.specs.Streams.{Sends}
 use Rattle.gt_listing.proofs.LineLemmas.{source_text}
@@ -6,4 +6,5 @@ use Rattle.gt_listing.proofs.sources.write_sources.Given as goal
 
 abbrev pub invariant-sources : goal.invariant-sources
 invariant-sources g l =
-    Sends (g.W.Write.contents l.initial.writer) (g.W.Write.contents l.writer) (flat_map (source_text l.policy.types (may_of l.policy) l.ids) (take l.source-index l.ids)) l.waiting.items
+    (length l.waiting.items < 65536)
+    × Sends (g.W.Write.contents l.initial.writer) (g.W.Write.contents l.writer) (flat_map (source_text l.policy.types (may_of l.policy) l.ids) (take l.source-index l.ids)) l.waiting.items
