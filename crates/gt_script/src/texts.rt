@@ -1,6 +1,7 @@
 //! Pieces of a script.
 ghost use Rattle.std.specs.Prelude.{◌≡◌};
 
+use std::convert::AsSlice;
 use std::marker::Model;
 
 /// A name, a label or hexadecimal text, in the script's own bytes: ASCII. A contract sees the bytes.
@@ -29,5 +30,13 @@ impl<'a> Text<'a> {
         ensures { result.now ≡ self.now }
     {
         self.bytes
+    }
+}
+
+impl<'a> AsSlice<u8> for Text<'a> {
+    ghost items = { λ text. text };
+
+    fn as_slice(&self) -> &[u8] {
+        self.as_bytes()
     }
 }

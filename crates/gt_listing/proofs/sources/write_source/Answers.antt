@@ -10,8 +10,11 @@ targets-init g c = (c.requires, sends_nothing _ c.args.waiting.now.items)
 
 pub targets-preserved : goal.targets-preserved
 targets-preserved g c =
-    let within : c.targets.target-index < length c.args.ids.now = omega arith in (c.in_ok-send.ensures.few, step_sent (λ (t : TypeId). pair_text c.args.policy.now.types (looks c.args.table.now) c.args.source t) c.args.ids.now c.targets.target-index _ c.args.waiting.now.items _ _ _ _ _ _ _
-    within refl c.targets.invariant.1 c.in_ok-push_pair.ensures c.in_ok-send.ensures.ok)
+    let within : c.targets.target-index < length c.args.ids.now = omega arith in (
+      c.in_ok-send.ensures.few,
+      step_sent (λ (t : TypeId). pair_text c.args.policy.now.types (looks c.args.table.now) c.args.source t) c.args.ids.now c.targets.target-index _ c.args.waiting.now.items _ _ _ _ _ _ _
+          within refl c.targets.invariant.1 c.in_ok-push_pair.ensures c.in_ok-send.ensures.ok,
+    )
 
 pub returns-in_err-push_pair-clause-err : goal.returns-in_err-push_pair-clause-err
 returns-in_err-push_pair-clause-err g c =

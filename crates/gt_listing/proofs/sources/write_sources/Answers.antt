@@ -10,8 +10,11 @@ sources-init g c = (rw c.new-waiting.ensures.items (omega arith), sends_start _ 
 
 pub sources-preserved : goal.sources-preserved
 sources-preserved g c =
-    let within : c.sources.source-index < length c.args.ids.now = omega arith in (c.in_ok-write_source.ensures.few, step_sent (source_text c.args.policy.now.types (looks c.args.table.now) c.args.ids.now) c.args.ids.now c.sources.source-index _ [] _ _ _ _ _ _ _ within
-    refl c.sources.invariant.1 refl c.in_ok-write_source.ensures.ok)
+    let within : c.sources.source-index < length c.args.ids.now = omega arith in (
+      c.in_ok-write_source.ensures.few,
+      step_sent (source_text c.args.policy.now.types (looks c.args.table.now) c.args.ids.now) c.args.ids.now c.sources.source-index _ [] _ _ _ _ _ _ _ within
+          refl c.sources.invariant.1 refl c.in_ok-write_source.ensures.ok,
+    )
 
 pub returns-in_err-write_source-clause-beginning : goal.returns-in_err-write_source-clause-beginning
 returns-in_err-write_source-clause-beginning g c =
