@@ -14,7 +14,7 @@ use Rattle.gt_policy.specs.Whole as policies
 use Rattle.gt_policy.specs.declared.fault.Fault as policy
 use Rattle.gt_policy.specs.declared.parse.FaultKind as kinds
 use Rattle.gt_policy.specs.declared.parse.FaultKind.TheVariants as kind
-use Rattle.gt_script.specs.Words.{words}
+use Rattle.gt_lines.specs.Words.{words}
 use Rattle.gt_script.specs.Faults.{error_in_block}
 use Rattle.gt_script.specs.Blocks.{opening, closing, block_text, Means, IsFaulty, IsPolicyOf}
 use Rattle.gt_script.specs.Contents.{Contents, empty, with_policy, names_with}

@@ -13,21 +13,21 @@ use Rattle.gt_types.specs.declared.DomId.{DomId}
 use Rattle.gt_types.specs.declared.TypeId.{TypeId}
 use Rattle.gt_types.specs.declared.rights.Triple.{Triple}
 use Rattle.gt_types.specs.declared.config.DomainConfig.{DomainConfig}
-use Rattle.gt_script.specs.Words.{words}
-use Rattle.gt_script.specs.Numbers.{number_below}
-use Rattle.gt_script.specs.Fields.{◌>>=◌}
-use Rattle.gt_script.specs.Lines.{line_of}
+use Rattle.gt_lines.specs.Words.{words}
+use Rattle.gt_lines.specs.Numbers.{number_below}
+use Rattle.gt_lines.specs.Fields.{◌>>=◌}
+use Rattle.gt_lines.specs.Lines.{line_of}
 use Rattle.gt_script.specs.Types.{with_type}
 use Rattle.gt_policy.specs.Allowing.{Rights, type_named}
 use Rattle.gt_script.specs.Contents.{Contents, names_with}
 use Rattle.gt_script.specs.Script.{is_empty, is_misplaced, has_no_rights, or_config, domain_written, with_triple, type_in, with_domain, with_step, with_placed, with_line, with_words, with_lines}
 use Rattle.gt_script.specs.Laws.{said, type_number, triple_in, wear_in, domain_in, step_on, IsLine}
-use Rattle.gt_script.specs.declared.numbers.Number.{Number}
-use Rattle.gt_script.specs.declared.calls.Action.{Action}
-use Rattle.gt_script.specs.declared.lines.TripleLine.{TripleLine}
-use Rattle.gt_script.specs.declared.lines.DomainLine.{DomainLine}
-use Rattle.gt_script.specs.declared.lines.Line.{Line}
-use Rattle.gt_script.specs.declared.lines.Line.TheVariants as line
+use Rattle.gt_lines.specs.declared.numbers.Number.{Number}
+use Rattle.gt_lines.specs.declared.calls.Action.{Action}
+use Rattle.gt_lines.specs.declared.lines.TripleLine.{TripleLine}
+use Rattle.gt_lines.specs.declared.lines.DomainLine.{DomainLine}
+use Rattle.gt_lines.specs.declared.lines.Line.{Line}
+use Rattle.gt_lines.specs.declared.lines.Line.TheVariants as line
 use Rattle.gt_script.specs.declared.script.Step.{Step}
 use Rattle.gt_script.specs.declared.faults.FaultKind.{FaultKind}
 use Rattle.gt_script.specs.declared.faults.FaultKind.TheVariants.{Syntax}

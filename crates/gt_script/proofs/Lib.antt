@@ -1,6 +1,5 @@
 pub mod BlockLemmas
 pub mod FaultLemmas
-pub mod HexadecimalLemmas
 pub mod LawLemmas
 pub mod ScriptLemmas
 pub mod TypeLemmas

@@ -6,7 +6,7 @@ use Rattle.gt_policy.specs.Allowing.{Meaning, Rights, Shows}
 use Rattle.gt_policy.specs.Shown.{kind_shown}
 use Rattle.gt_policy.specs.Whole.{Says}
 use Rattle.gt_policy.specs.declared.fault.Fault as policy
-use Rattle.gt_script.specs.Words.{words}
+use Rattle.gt_lines.specs.Words.{words}
 use Rattle.gt_script.specs.declared.faults.BlockFault.{BlockFault}
 use Rattle.gt_script.specs.declared.faults.ScriptError.{ScriptError}
 use Rattle.gt_script.specs.declared.faults.ScriptError.TheVariants as errors

@@ -3,6 +3,8 @@ use Rattle.std.specs.Prelude.{◌≡◌, ◌⊎◌, ◌<◌, ◌≤◌, ℕ, ◌
 use Rattle.std.specs.Option.{option_map}
 use Rattle.std.specs.Str.{IsUtf8}
 use Rattle.std.specs.Str.Lossy.{utf8_valid_len}
+use Rattle.gt_streams.specs.Texts.{line_after}
+use Rattle.gt_types.specs.declared.limits.TheConstants.{LONGEST_TEXT}
 use Rattle.std.specs.Str.Lines.{lines as lines_in}
 use Rattle.gt_types.specs.Config.{is_taken, domain_fault}
 use Rattle.gt_types.specs.declared.TypeId.{TypeId}
@@ -10,18 +12,18 @@ use Rattle.gt_types.specs.declared.config.DomainConfig.{DomainConfig}
 use Rattle.gt_policy.specs.Allowing.{Rights, type_named}
 use Rattle.gt_policy.specs.declared.fault.Fault as policy
 use Rattle.gt_script.specs.Blocks.{opening, closing, Means, IsFaulty}
-use Rattle.gt_script.specs.Words.{words}
-use Rattle.gt_script.specs.Numbers.{number_below}
-use Rattle.gt_script.specs.Fields.{◌>>=◌}
-use Rattle.gt_script.specs.Lines.{line_of}
+use Rattle.gt_lines.specs.Words.{words}
+use Rattle.gt_lines.specs.Numbers.{number_below}
+use Rattle.gt_lines.specs.Fields.{◌>>=◌}
+use Rattle.gt_lines.specs.Lines.{line_of}
 use Rattle.gt_script.specs.Types.{with_type}
 use Rattle.gt_script.specs.Contents.{Contents, empty, with_policy}
-use Rattle.gt_script.specs.declared.numbers.Number.{Number}
-use Rattle.gt_script.specs.declared.calls.Action.{Action}
-use Rattle.gt_script.specs.declared.lines.TripleLine.{TripleLine}
-use Rattle.gt_script.specs.declared.lines.DomainLine.{DomainLine}
-use Rattle.gt_script.specs.declared.lines.Line.{Line}
-use Rattle.gt_script.specs.declared.lines.Line.TheVariants as line
+use Rattle.gt_lines.specs.declared.numbers.Number.{Number}
+use Rattle.gt_lines.specs.declared.calls.Action.{Action}
+use Rattle.gt_lines.specs.declared.lines.TripleLine.{TripleLine}
+use Rattle.gt_lines.specs.declared.lines.DomainLine.{DomainLine}
+use Rattle.gt_lines.specs.declared.lines.Line.{Line}
+use Rattle.gt_lines.specs.declared.lines.Line.TheVariants as line
 use Rattle.gt_script.specs.declared.faults.FaultKind.{FaultKind}
 use Rattle.gt_script.specs.declared.faults.FaultKind.TheVariants.{Limit, Utf8, Syntax, Config}
 use Rattle.gt_script.specs.declared.faults.Fault.{Fault}
@@ -124,10 +126,6 @@ completed_if_ok count (Err f) = Err f
 abbrev pub whole : ℕ → Contents → ℕ → List (List ℕ) → Result Contents Fault
 whole count c n lines = completed_if_ok count (with_lines c n lines)
 
--- the line on which a text stops (own)
-abbrev pub line_after : List ℕ → ℕ
-line_after text = count_by (λ b. b == 10) text + 1
-
 -- a fault: of the script, or of its policy block (own)
 pub data Wrong : Type 0 where
   in_script : Fault → Wrong
@@ -158,13 +156,9 @@ LinesSay lines (Some place) said = BlockSays (length lines) (place + 1) (drop (p
 abbrev pub TextSays : List ℕ → Result Contents Wrong → Type 0
 TextSays text said = LinesSay (lines_in text) (opening (lines_in text)) said
 
--- the most bytes that a script may have (own)
-abbrev pub most_bytes : ℕ
-most_bytes = 1048576
-
 -- the bytes say this script, or have this fault, which is their first: they are too many, or no text, or it is that of the text (own)
 abbrev pub Tells : List ℕ → Result Contents Wrong → Type 0
 Tells bytes said =
-    ((most_bytes < length bytes) × (said ≡ Err (in_script (record { line = 1; kind = Limit }))))
-    ⊎ (((length bytes ≤ most_bytes) × (¬ IsUtf8 bytes) × (said ≡ Err (in_script (record { line = line_after (take (utf8_valid_len bytes) bytes); kind = Utf8 }))))
-    ⊎ ((length bytes ≤ most_bytes) × IsUtf8 bytes × TextSays bytes said))
+    ((LONGEST_TEXT < length bytes) × (said ≡ Err (in_script (record { line = 1; kind = Limit }))))
+    ⊎ (((length bytes ≤ LONGEST_TEXT) × (¬ IsUtf8 bytes) × (said ≡ Err (in_script (record { line = line_after (take (utf8_valid_len bytes) bytes); kind = Utf8 }))))
+    ⊎ ((length bytes ≤ LONGEST_TEXT) × IsUtf8 bytes × TextSays bytes said))

@@ -1,5 +1,5 @@
 //! A script: what stands on its lines, in order.
-ghost use Rattle.std.specs.Prelude.{◌≡◌, ◌≤◌, ◌<◌, ◌+◌, ◌==◌, ◌^◌, ◌⊎◌, ℕ, List, length, take, drop, count_by, map, IfOk, IfErr};
+ghost use Rattle.std.specs.Prelude.{◌≡◌, ◌≤◌, ◌<◌, ◌+◌, ◌^◌, ◌⊎◌, ℕ, List, length, take, drop, map, IfOk, IfErr};
 ghost use Rattle.std.specs.Str.{IsUtf8};
 ghost use Rattle.std.specs.Str.Lines.{lines as lines_in};
 ghost use Rattle.gt_types.specs.Config.{is_taken};
@@ -9,20 +9,15 @@ ghost use Rattle.gt_script.specs.Outcomes.{Answers};
 ghost use Rattle.gt_script.specs.Laws.{IsScriptOf, Stands, IsUnread};
 
 use crate::blocks::{closing, opening, read_policy};
-use crate::calls::Action;
 use crate::faults::{Fault, FaultKind, ScriptError};
-use crate::lines::{DomainLine, Line, TripleLine, read_line};
-use crate::numbers::Number;
-use crate::texts::Text;
 use crate::types::TypeNames;
-use crate::words::{lines, words};
+use gt_lines::{
+    Action, DomainLine, Line, Number, Text, TripleLine, line_words, read_line, text_lines,
+};
 use gt_policy::Policy;
-use gt_types::{DomId, DomainConfig, Triple, TypeId};
+use gt_types::{DomId, DomainConfig, LONGEST_TEXT, Triple, TypeId};
 use std::alloc::{AllocError, Global};
 use std::marker::Model;
-
-/// The most bytes that a script may have.
-pub const MOST_BYTES: usize = 1_048_576;
 
 /// What a line of the body asks, with the number of that line and its domain.
 #[derive(Debug, Drop)]
@@ -136,7 +131,7 @@ fn domain_written(line: &DomainLine, label: TypeId) -> Option<DomainConfig>
 
 impl<'a> Script<'a> {
     ghost use Rattle.std.specs.Prelude.{◌≡◌, map, ◌<◌, ◌≤◌, ◌+◌, ◌-◌, ◌^◌, length};
-    ghost use Rattle.gt_script.specs.Words.{words as words_in};
+    ghost use Rattle.gt_lines.specs.Words.{words as words_in};
     ghost use Rattle.std.specs.Option.{option_map};
     ghost use Rattle.gt_script.specs.Contents.{empty, with_policy, type_names, first_gen};
     ghost use Rattle.gt_script.specs.Script.{with_triple, type_in, with_names, with_domain, with_step, with_line, with_words, with_lines, completed, whole, has_no_rights, is_misplaced};
@@ -342,7 +337,7 @@ impl<'a> Script<'a> {
     ) -> Result<Script<'a>, AddError>
         ensures { Adds result (with_words self.entry number (words_in line.entry.now)) }
     {
-        let words = words(alloc, line)?;
+        let words = line_words(alloc, line)?;
         self.with_words(number, words.as_slice())
     }
 
@@ -439,32 +434,25 @@ fn of_lines<'a>(alloc: Global, lines: &[&'a str]) -> Result<Script<'a>, ScriptEr
 fn of_text<'a>(alloc: Global, text: &'a str) -> Result<Script<'a>, ScriptError>
     ensures { Answers result (TextSays text.entry.now) }
 {
-    let lines = lines(alloc, text)?;
+    let lines = text_lines(alloc, text)?;
     of_lines(alloc, lines.as_slice())
 }
 
-// How many lines end in the bytes.
-fn newlines(bytes: &[u8]) -> usize
-    ensures { result ≡ count_by (λ b. b == 10) bytes.now }
-{
-    bytes.iter().filter(|b| **b == b'\n').count()
-}
-
 // The bytes as text, if they are not too many.
-fn text_of<'a>(bytes: &'a [u8]) -> Result<&'a str, Fault>
-    ensures text { IfOk result (λ text. (text.now ≡ bytes.entry.now) × (length bytes.entry.now ≤ MOST_BYTES) × IsUtf8 bytes.entry.now) }
+fn script_text<'a>(bytes: &'a [u8]) -> Result<&'a str, Fault>
+    ensures text { IfOk result (λ text. (text.now ≡ bytes.entry.now) × (length bytes.entry.now ≤ LONGEST_TEXT) × IsUtf8 bytes.entry.now) }
     ensures fault { IfErr result (λ fault. IsUnread bytes.entry.now fault) }
 {
-    if bytes.len() > MOST_BYTES {
+    if bytes.len() > LONGEST_TEXT {
         return Err(Fault {
             line: 1,
             kind: FaultKind::Limit,
         });
     }
-    match str::from_utf8(bytes) {
+    match gt_streams::text_of(bytes) {
         Ok(text) => Ok(text),
-        Err(e) => Err(Fault {
-            line: newlines(&bytes[..e.valid_up_to()]) + 1,
+        Err(line) => Err(Fault {
+            line,
             kind: FaultKind::Utf8,
         }),
     }
@@ -479,9 +467,9 @@ pub fn parse<'a>(alloc: Global, bytes: &'a [u8]) -> Result<Script<'a>, ScriptErr
     ensures fault { IfErr result (λ e. Stands bytes.entry.now e) }
 
     // What is read up to one byte past the limit decides for all that there is.
-    ensures beginning { (all : List ℕ) → bytes.entry.now ≡ take (MOST_BYTES + 1) all → Answers result (Tells all) }
+    ensures beginning { (all : List ℕ) → bytes.entry.now ≡ take (LONGEST_TEXT + 1) all → Answers result (Tells all) }
 {
-    match text_of(bytes) {
+    match script_text(bytes) {
         Ok(text) => of_text(alloc, text),
         Err(fault) => Err(ScriptError::Fault(fault)),
     }

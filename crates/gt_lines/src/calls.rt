@@ -1,6 +1,6 @@
 //! The calls that a script can ask for.
 ghost use Rattle.std.specs.Prelude.{◌≡◌, map};
-ghost use Rattle.gt_script.specs.Calls.{page_of, sub_of, via_of, granted, grant_of, map_of, unmap_of, load_of, store_of, peek_of, poke_of, bytes_of, revoke_of, demote_of, promote_of, version_of, setup_of, size_of, getversion_of, call_of, tick_of, show_of, action_of};
+ghost use Rattle.gt_lines.specs.Calls.{page_of, sub_of, via_of, granted, grant_of, map_of, unmap_of, load_of, store_of, peek_of, poke_of, bytes_of, revoke_of, demote_of, promote_of, version_of, setup_of, size_of, getversion_of, call_of, tick_of, show_of, action_of};
 
 use crate::fields::{
     domain, flags, is, label, mode, reference, tick_count, u16_of, u32_of, u64_of,

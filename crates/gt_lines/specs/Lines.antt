@@ -3,13 +3,13 @@ use Rattle.std.specs.Prelude.{ℕ, List, [], ◌∷◌, Option, Some, None, if�
 use Rattle.std.specs.Option.{option_map}
 use Rattle.std.specs.Str.{bytes_eq}
 use Rattle.gt_types.specs.Names.{permission_of}
-use Rattle.gt_script.specs.Numbers.{decimal_number}
-use Rattle.gt_script.specs.Fields.{◌>>=◌, name_word, text_where, generation_word, type_word}
-use Rattle.gt_script.specs.Calls.{action_of}
-use Rattle.gt_script.specs.declared.lines.TripleLine.{TripleLine}
-use Rattle.gt_script.specs.declared.lines.DomainLine.{DomainLine}
-use Rattle.gt_script.specs.declared.lines.Line.{Line}
-use Rattle.gt_script.specs.declared.lines.Line.TheVariants as lines
+use Rattle.gt_lines.specs.Numbers.{decimal_number}
+use Rattle.gt_lines.specs.Fields.{◌>>=◌, name_word, text_where, generation_word, type_word}
+use Rattle.gt_lines.specs.Calls.{action_of}
+use Rattle.gt_lines.specs.declared.lines.TripleLine.{TripleLine}
+use Rattle.gt_lines.specs.declared.lines.DomainLine.{DomainLine}
+use Rattle.gt_lines.specs.declared.lines.Line.{Line}
+use Rattle.gt_lines.specs.declared.lines.Line.TheVariants as lines
 
 -- what stands after `triple`: SOURCE TARGET PERMISSION (own)
 unfoldable pub triple_of : List (List ℕ) → Option TripleLine

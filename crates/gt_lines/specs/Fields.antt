@@ -7,7 +7,7 @@ use Rattle.std.specs.Str.{bytes_eq}
 use Rattle.gt_types.specs.declared.limits.TheConstants.{LAST_GENERATION}
 use Rattle.gt_types.specs.declared.DomId.{DomId}
 use Rattle.gt_types.specs.declared.GrantRef.{GrantRef}
-use Rattle.gt_script.specs.Numbers.{decimal_value, below}
+use Rattle.gt_lines.specs.Numbers.{decimal_value, below}
 
 infixl 10 ◌>>=◌
 -- what follows, where there is a value to follow (own)

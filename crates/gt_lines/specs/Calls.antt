@@ -2,14 +2,14 @@
 use Rattle.std.specs.Prelude.{ℕ, List, [], ◌∷◌, Option, Some, None, if◌then◌else◌, codes}
 use Rattle.std.specs.Option.{option_map}
 use Rattle.std.specs.Str.{bytes_eq}
-use Rattle.gt_script.specs.Fields.{◌>>=◌, u16_word, u32_word, u64_word, reference_word, domain_word, mode_word, flags_word, tick_word, label_word, text_where}
-use Rattle.gt_script.specs.Hexadecimal.{hex_word}
-use Rattle.gt_script.specs.declared.calls.Grant.{Grant}
-use Rattle.gt_script.specs.declared.calls.Grant.TheVariants as grants
-use Rattle.gt_script.specs.declared.calls.Call.{Call}
-use Rattle.gt_script.specs.declared.calls.Call.TheVariants as calls
-use Rattle.gt_script.specs.declared.calls.Action.{Action}
-use Rattle.gt_script.specs.declared.calls.Action.TheVariants as actions
+use Rattle.gt_lines.specs.Fields.{◌>>=◌, u16_word, u32_word, u64_word, reference_word, domain_word, mode_word, flags_word, tick_word, label_word, text_where}
+use Rattle.gt_lines.specs.Hexadecimal.{hex_word}
+use Rattle.gt_lines.specs.declared.calls.Grant.{Grant}
+use Rattle.gt_lines.specs.declared.calls.Grant.TheVariants as grants
+use Rattle.gt_lines.specs.declared.calls.Call.{Call}
+use Rattle.gt_lines.specs.declared.calls.Call.TheVariants as calls
+use Rattle.gt_lines.specs.declared.calls.Action.{Action}
+use Rattle.gt_lines.specs.declared.calls.Action.TheVariants as actions
 
 -- a page: DOM MODE FRAME (own)
 unfoldable pub page_of : List (List ℕ) → Option Grant

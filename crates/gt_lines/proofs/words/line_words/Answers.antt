@@ -1,8 +1,8 @@
 use Rattle.std.proofs.Common.{rules, tests, ◌∙◌}
 use Rattle.std.proofs.lemmas.Iterator.Consumers.{map_from_collect, YieldsList-from_filter, YieldsList-at}
 use Rattle.std.proofs.lemmas.Iterator.Splits.{YieldsList-from_slice_split}
-use Rattle.gt_script.specs.Words.{is_blank, is_nonempty, uncommented}
-use Rattle.gt_script.proofs.words.words.Goals as goal
+use Rattle.gt_lines.specs.Words.{is_blank, is_nonempty, uncommented}
+use Rattle.gt_lines.proofs.words.line_words.Goals as goal
 
 pub returns : goal.returns
 returns c =

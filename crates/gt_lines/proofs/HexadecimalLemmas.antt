@@ -11,7 +11,7 @@ use Rattle.std.proofs.lemmas.List.Sums.{AllPass-from_list_all}
 use Rattle.std.proofs.lemmas.Slice.Eq.{bytes_eq-Decides}
 use Rattle.hex.specs.Hex.{decode_of, is_hex_digit}
 use Rattle.hex.proofs.HexLemmas.{decode_of-digits}
-use Rattle.gt_script.specs.Hexadecimal.{hex_word, hex_bytes, SaysItsBytes}
+use Rattle.gt_lines.specs.Hexadecimal.{hex_word, hex_bytes, SaysItsBytes}
 
 digit : (b : ℕ) → is_ascii_hexdigit b ≡ true → is_hex_digit b ≡ true
 digit b h = grind (arith, nat_tests)

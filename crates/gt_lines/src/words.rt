@@ -1,12 +1,12 @@
 //! Lines and words.
 ghost use Rattle.std.specs.Prelude.{◌≡◌, IfOk, map};
 ghost use Rattle.std.specs.Str.Lines.{lines as lines_in};
-ghost use Rattle.gt_script.specs.Words.{words as words_in, uncommented as without_comment, is_blank as blank, is_nonempty as nonempty};
+ghost use Rattle.gt_lines.specs.Words.{words as words_in, uncommented as without_comment, is_blank as blank, is_nonempty as nonempty};
 
 use std::alloc::{AllocError, Global};
 
 /// The lines of a text: each ends with LF, and a CR before that is no part of it.
-pub fn lines<'a>(alloc: Global, text: &'a str) -> Result<Vec<&'a str>, AllocError>
+pub fn text_lines<'a>(alloc: Global, text: &'a str) -> Result<Vec<&'a str>, AllocError>
     ensures { IfOk result (λ v. map (λ line. line.now) v.items ≡ lines_in text.entry.now) }
 {
     text.lines().collect(alloc)
@@ -34,7 +34,7 @@ fn is_nonempty(word: &[u8]) -> bool
 }
 
 /// The words of a line, parted by spaces and tabs.
-pub fn words<'a>(alloc: Global, line: &'a str) -> Result<Vec<&'a [u8]>, AllocError>
+pub fn line_words<'a>(alloc: Global, line: &'a str) -> Result<Vec<&'a [u8]>, AllocError>
     ensures { IfOk result (λ v. map (λ word. word.now) v.items ≡ words_in line.entry.now) }
 {
     uncommented(line)

@@ -2,8 +2,8 @@
 ghost use Rattle.std.specs.Prelude.{◌≡◌, IfOk};
 ghost use Rattle.std.specs.Char.{is_ascii_hexdigit};
 ghost use Rattle.std.specs.List.{list_all};
-ghost use Rattle.gt_script.specs.Fields.{text_where};
-ghost use Rattle.gt_script.specs.Hexadecimal.{hex_word, hex_bytes as bytes_in, SaysItsBytes};
+ghost use Rattle.gt_lines.specs.Fields.{text_where};
+ghost use Rattle.gt_lines.specs.Hexadecimal.{hex_word, hex_bytes as bytes_in};
 
 use crate::fields::is;
 use crate::texts::Text;
@@ -39,10 +39,9 @@ pub(crate) fn hex_text<'a>(word: &'a [u8]) -> Option<Text<'a>>
 
 /// The bytes that hexadecimal text says, two digits for each: none for `-`, and none for a text
 /// that is no hexadecimal text.
-#[tactic(auto, using(crate::proofs::HexadecimalLemmas::says_its_bytes), unfolding(crate::specs::Hexadecimal::hex_bytes))]
+#[tactic(auto, unfolding(crate::specs::Hexadecimal::hex_bytes))]
 pub fn hex_bytes(alloc: Global, text: &Text) -> Result<Vec<u8>, AllocError>
-    ensures decoded { IfOk result (λ bytes. bytes.items ≡ bytes_in text.now) }
-    ensures whole { SaysItsBytes text.now }
+    ensures { IfOk result (λ bytes. bytes.items ≡ bytes_in text.now) }
 {
     let digits = text.as_bytes();
     if is(digits, "-") {

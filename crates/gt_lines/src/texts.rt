@@ -19,7 +19,8 @@ impl<'a> Model for Text<'a> {
 }
 
 impl<'a> Text<'a> {
-    pub(crate) fn new(bytes: &'a [u8]) -> Text<'a>
+    /// These bytes, as a piece of a script.
+    pub fn new(bytes: &'a [u8]) -> Text<'a>
         ensures { result ≡ bytes.entry.now }
     {
         Text { bytes }

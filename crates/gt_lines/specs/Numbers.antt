@@ -2,8 +2,8 @@
 use Rattle.std.specs.Prelude.{ℕ, ◌+◌, ◌-◌, ◌*◌, ◌^◌, List, [], ◌∷◌, Option, Some, None, nat_lt, if◌then◌else◌}
 use Rattle.std.specs.Char.{is_ascii_digit}
 use Rattle.std.specs.Option.{option_map}
-use Rattle.gt_script.specs.declared.numbers.Number.{Number}
-use Rattle.gt_script.specs.declared.numbers.Number.TheVariants.{Small, Huge}
+use Rattle.gt_lines.specs.declared.numbers.Number.{Number}
+use Rattle.gt_lines.specs.declared.numbers.Number.TheVariants.{Small, Huge}
 
 -- a number as a value of 64 bits, or that it is 2 ^ 64 or above (own)
 abbrev pub number_of : ℕ → Number

@@ -1,6 +1,6 @@
 //! What the words of a line say.
 ghost use Rattle.std.specs.Prelude.{◌≡◌, map};
-ghost use Rattle.gt_script.specs.Lines.{triple_of, wear_of, domain_of, body_of, line_of};
+ghost use Rattle.gt_lines.specs.Lines.{triple_of, wear_of, domain_of, body_of, line_of};
 
 use crate::calls::{Action, read_action};
 use crate::fields::{generation, is, label_type, name};

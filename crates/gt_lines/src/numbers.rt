@@ -1,6 +1,6 @@
 //! What a word says as a number.
 ghost use Rattle.std.specs.Prelude.{◌≡◌, ℕ, ◌<◌, ◌+◌, ◌*◌};
-ghost use Rattle.gt_script.specs.Numbers.{number_of, decimal_number, number_below, below as value_below};
+ghost use Rattle.gt_lines.specs.Numbers.{number_of, decimal_number, number_below, below as value_below};
 
 /// A decimal number of any size: exact, or that it has more than 64 bits.
 #[derive(Clone, Copy, Debug, PartialEq, Eq)]
