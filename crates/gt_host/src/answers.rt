@@ -3,7 +3,7 @@ ghost use Rattle.std.specs.Prelude.{◌≡◌, ◌++◌, OnOk};
 ghost use Rattle.gt_host.specs.Printing.{bytes_text, answer_text, call_text, answer_line, busy_line, idle_line, open_line};
 
 use gt_core::Answer;
-use gt_script::Text;
+use gt_lines::Text;
 use gt_texts::{push_denial, push_frames, push_number, push_size, push_text, push_version};
 use gt_types::DomId;
 use std::alloc::{AllocError, Global};

@@ -1,6 +1,7 @@
 //! A script in, and the lines of its run out.
 ghost use Rattle.std.specs.Prelude.{◌≡◌, ◌⊎◌, ◌++◌, ℕ, List, take, OnOk, OnErr, IfOk, IfErr};
 ghost use Rattle.std.specs.Option.{option_map};
+ghost use Rattle.gt_script.specs.Contents.{told};
 ghost use Rattle.gt_script.specs.Script.{Tells};
 ghost use Rattle.gt_host.specs.declared.fault.Fault.TheVariants as faults;
 ghost use Rattle.gt_host.specs.OpenCalls.{call_in};
@@ -24,8 +25,8 @@ use std::io::{Read, Write};
 
 // A core with the domains and the rights of the script.
 fn start<'s, 'a>(alloc: Global, script: &'s Script<'a>) -> Result<Core<Rights>, Fault>
-    requires { CanStart script.now }
-    ensures starts { IfOk result (StartsFor script.entry.now) }
+    requires { CanStart (told script.now) }
+    ensures starts { IfOk result (StartsFor (told script.entry.now)) }
     ensures errors { IfErr result (λ e. e ≡ faults.Memory) }
 {
     let config = Config {
@@ -71,10 +72,10 @@ fn write_lines<'s, 'a, W: Write>(
     script: &'s Script<'a>,
     writer: &mut W,
 ) -> Result<(), Fault>
-    requires can { CanStart script.now }
-    requires starts { StartsFor script.now core.old }
-    ensures whole { OnOk result (WritesRun script.now (W.contents writer.old) (W.contents writer.new)) }
-    ensures beginning { OnErr result (BeginsRun script.now (W.contents writer.old) (W.contents writer.new)) }
+    requires can { CanStart (told script.now) }
+    requires starts { StartsFor (told script.now) core.old }
+    ensures whole { OnOk result (WritesRun (told script.now) (W.contents writer.old) (W.contents writer.new)) }
+    ensures beginning { OnErr result (BeginsRun (told script.now) (W.contents writer.old) (W.contents writer.new)) }
     ensures errors { IfErr result (λ e. (e ≡ faults.Memory) ⊎ (e ≡ faults.Write)) }
 {
     let types = script.type_names(alloc)?;
@@ -92,9 +93,9 @@ fn write_lines<'s, 'a, W: Write>(
 
 // Runs the script, and writes its lines.
 fn write_run<W: Write>(alloc: Global, script: &Script, writer: &mut W) -> Result<(), Fault>
-    requires { CanStart script.now }
-    ensures whole { OnOk result (WritesRun script.now (W.contents writer.old) (W.contents writer.new)) }
-    ensures beginning { OnErr result (BeginsRun script.now (W.contents writer.old) (W.contents writer.new)) }
+    requires { CanStart (told script.now) }
+    ensures whole { OnOk result (WritesRun (told script.now) (W.contents writer.old) (W.contents writer.new)) }
+    ensures beginning { OnErr result (BeginsRun (told script.now) (W.contents writer.old) (W.contents writer.new)) }
     ensures errors { IfErr result (λ e. (e ≡ faults.Memory) ⊎ (e ≡ faults.Write)) }
 {
     let mut core = start(alloc, script)?;

@@ -11,7 +11,7 @@ use Rattle.gt_types.specs.declared.limits.TheConstants.{LAST_GENERATION, LONGEST
 use Rattle.gt_types.specs.declared.TypeId.{TypeId}
 use Rattle.gt_types.specs.declared.rights.Triple.{Triple}
 use Rattle.gt_types.specs.declared.config.DomainConfig.{DomainConfig}
-use Rattle.gt_policy.specs.Allowing.{Rights}
+use Rattle.gt_policy.specs.Allowing.{Allowed}
 use Rattle.gt_policy.specs.declared.fault.Fault as policy
 use Rattle.gt_script.specs.Blocks.{Means, IsFaulty, block_fault_shown}
 use Rattle.gt_lines.specs.Words.{words}
@@ -116,7 +116,7 @@ pub record IsPolicyScript (lines : List (List ℕ)) (c : Contents) : Type 0 wher
   pub block : List (List ℕ)
   pub rest : List (List ℕ)
   pub has : HasBlock lines block rest
-  pub rights : Rights
+  pub rights : Allowed
   pub means : Means block rights
   pub policy : c.policy ≡ Some rights
   pub parts : SayParts (lines_before has + length block + 2) rest c
@@ -170,7 +170,7 @@ pub record IsFaultBehind (lines : List (List ℕ)) (f : Fault) : Type 0 where
   pub block : List (List ℕ)
   pub rest : List (List ℕ)
   pub has : HasBlock lines block rest
-  pub rights : Rights
+  pub rights : Allowed
   pub means : Means block rights
   pub first : IsFirstFault (length lines) (with_policy rights) (lines_before has + length block + 2) rest f
 

@@ -9,7 +9,7 @@ use Rattle.std.specs.Str.Lines.{lines as lines_in}
 use Rattle.gt_types.specs.Config.{is_taken, domain_fault}
 use Rattle.gt_types.specs.declared.TypeId.{TypeId}
 use Rattle.gt_types.specs.declared.config.DomainConfig.{DomainConfig}
-use Rattle.gt_policy.specs.Allowing.{Rights, type_named}
+use Rattle.gt_policy.specs.Allowing.{Allowed, type_named}
 use Rattle.gt_policy.specs.declared.fault.Fault as policy
 use Rattle.gt_script.specs.Blocks.{opening, closing, Means, IsFaulty}
 use Rattle.gt_lines.specs.Words.{words}
@@ -65,7 +65,7 @@ with_triple c t = or_config (do
   Some (record c { types = target.0; triples = c.triples ++ record { source = source.1; target = target.1; perm = t.perm } ∷ [] }))
 
 -- the number of a domain's type, which the policy has to declare; where there is none, any name is a type (own)
-abbrev pub type_in : Option Rights → List (List ℕ) → List ℕ → Option (List (List ℕ) × TypeId)
+abbrev pub type_in : Option Allowed → List (List ℕ) → List ℕ → Option (List (List ℕ) × TypeId)
 type_in None types name = with_type types name
 type_in (Some p) types name = option_map (λ id. (types, id)) (type_named p.types name)
 
@@ -139,7 +139,7 @@ in_result (Err f) = Err (in_script f)
 -- the lines behind a line `policy` of this number, of which the one at this place is `end`, say this: the rest of a script of `count` lines with the policy of the block, or its fault (own)
 abbrev pub ClosedSays : ℕ → ℕ → List (List ℕ) → ℕ → Result Contents Wrong → Type 0
 ClosedSays count first lines end said =
-    ((p : Rights) × Means (take end lines) p × (said ≡ in_result (whole count (with_policy p) (first + end + 1 + 1) (drop (end + 1) lines))))
+    ((p : Allowed) × Means (take end lines) p × (said ≡ in_result (whole count (with_policy p) (first + end + 1 + 1) (drop (end + 1) lines))))
     ⊎ ((g : policy.Fault) × IsFaulty first (take end lines) g × (said ≡ Err (in_policy g)))
 
 -- the same, where a line `end` may be missing (own)
