@@ -4,3 +4,4 @@ pub mod LawLemmas
 pub mod ScriptLemmas
 pub mod TypeLemmas
 pub mod WearLemmas
+pub mod OneLemmas

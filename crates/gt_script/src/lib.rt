@@ -11,9 +11,11 @@
 
 mod blocks;
 mod faults;
+mod laws;
 mod script;
 mod types;
 
 pub use faults::{BlockFault, Fault, FaultKind, ScriptError};
 pub use gt_lines::{Action, Call, Grant, Text, hex_bytes};
+pub use laws::every_text_tells_one_thing;
 pub use script::{Script, Step, parse};
