@@ -1,5 +1,5 @@
 -- Where the first fault of a script stands, and what a script without fault is.
-use Rattle.std.proofs.Common.{◌≡◌, inl, inr, ℕ, suc, ◌+◌, ◌-◌, ◌<◌, ◌≤◌, ◌&&◌, Bool, true, false, List, [], ◌∷◌, ◌++◌, length, take, drop, Option, None, Some, Result, Ok, Err, refl, sym, ap, ◌∙◌, subst, arith, cond, length-take, length-drop, min, get_or, add-one, Bor, IfOk, IfErr}
+use Rattle.std.proofs.Common.{◌≡◌, ◌⊎◌, IsSome, inl, inr, ℕ, suc, ◌+◌, ◌-◌, ◌<◌, ◌≤◌, ◌&&◌, Bool, true, false, List, [], ◌∷◌, ◌++◌, length, take, drop, Option, None, Some, Result, Ok, Err, refl, sym, ap, ◌∙◌, subst, arith, cond, length-take, length-drop, min, get_or, add-one, Bor, IfOk, IfErr}
 use Rattle.std.specs.List.{slice_get, filter_map}
 use Rattle.std.specs.Option.{is_none}
 use Rattle.std.specs.Str.{IsUtf8}
@@ -8,6 +8,7 @@ use Rattle.std.proofs.lemmas.Bool.Decides.{nat_tests}
 use Rattle.std.proofs.Math.Seq.{take-suc}
 use Rattle.std.proofs.lemmas.List.{take_all, take-map, drop-map}
 use Rattle.std.proofs.lemmas.Option.{slice_get_within, get_or_from_slice_get}
+use Rattle.gt_types.specs.declared.rights.Triple.{Triple}
 use Rattle.gt_policy.specs.Allowing.{Allowed}
 use Rattle.gt_policy.specs.Shown.{fault_shown}
 use Rattle.gt_policy.specs.Whole as policies
@@ -88,6 +89,14 @@ some_triple-of : (c : Contents) → c.policy ≡ None → has_no_rights c ≡ fa
 unfolding has_no_rights
 some_triple-of c free h = empty-false c.triples (has-triple c.policy (is_empty c.triples) free h)
 
+some-rights : (o : Option Allowed) (t : List Triple) → (is_none o && is_empty t) ≡ false → (1 ≤ length t) ⊎ IsSome o
+some-rights None t h = inl (empty-false t h)
+some-rights (Some p) t h = inr refl
+
+some_rights : (c : Contents) → has_no_rights c ≡ false → (1 ≤ length c.triples) ⊎ IsSome c.policy
+unfolding has_no_rights
+some_rights c h = some-rights c.policy c.triples h
+
 -- what the end of a script says, by whether it has rights and domains
 abbrev at_end : ℕ → Contents → Bool → Bool → Result Contents Fault
 at_end count c rights domains = cond rights (Err (record { line = count + 1; kind = Syntax })) (cond domains (Err (record { line = count + 1; kind = Config })) (Ok c))
@@ -102,7 +111,7 @@ end-fault count n ls start c f true d h p q e =
 end-fault count n ls start c f false true h p q e =
     let same : record { line = count + 1; kind = Config } ≡ f = cc in
     let kind : Config ≡ f.kind = ap (λ (g : Fault). g.kind) same in
-    record { all = c; earlier = h; number = sym (ap (λ (g : Fault). g.line) same); lacks = inr (empty-true c.domains q, sym kind) }
+    record { all = c; earlier = h; number = sym (ap (λ (g : Fault). g.line) same); lacks = inr (some_rights c p, empty-true c.domains q, sym kind) }
 end-fault count n ls start c f false false h p q e = absurd cc
 
 -- a script that the lines make whole

@@ -136,12 +136,12 @@ pub record IsFaultOfLine (n : ℕ) (lines : List (List ℕ)) (c : Contents) (f :
   pub earlier : with_lines c n (take place lines) ≡ Ok before
   pub here : with_words before f.line (words line) ≡ Err f.kind
 
--- no line has a fault, and what the script of `count` lines lacks is named behind the last: syntax where nothing is allowed, config where no domain is configured (own)
+-- no line has a fault, and what the script of `count` lines lacks is named behind the last: syntax where nothing is allowed, config where something is allowed and no domain is configured (own)
 pub record IsFaultOfEnd (count n : ℕ) (lines : List (List ℕ)) (c : Contents) (f : Fault) : Type 0 where
   pub all : Contents
   pub earlier : with_lines c n lines ≡ Ok all
   pub number : f.line ≡ count + 1
-  pub lacks : ((all.policy ≡ None) × (all.triples ≡ []) × (f.kind ≡ Syntax)) ⊎ ((all.domains ≡ []) × (f.kind ≡ Config))
+  pub lacks : ((all.policy ≡ None) × (all.triples ≡ []) × (f.kind ≡ Syntax)) ⊎ (((1 ≤ length all.triples) ⊎ IsSome all.policy) × (all.domains ≡ []) × (f.kind ≡ Config))
 
 -- the first fault of lines from number n on that are added to a script of `count` lines (own)
 abbrev pub IsFirstFault : ℕ → Contents → ℕ → List (List ℕ) → Fault → Type 0
