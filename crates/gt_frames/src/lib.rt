@@ -17,8 +17,6 @@
 mod bytes;
 mod frame;
 mod receipts;
-#[cfg(test)]
-mod tests;
 mod writ;
 
 pub use bytes::Bytes;
