@@ -44,7 +44,8 @@ allow driver_t guest:grant { map_read map_write unmap copy };\n\
 allow control_t { domain -control_t }:grant { map_read unmap };\n\
 allow control_t domain:grant query;\n";
 
-const OF_ANOTHER_CLASS: &str = "type a_t; allow a_t a_t:file *; allow a_t a_t:{ grant file } map_red;\n";
+const OF_ANOTHER_CLASS: &str =
+    "type a_t; allow a_t a_t:file *; allow a_t a_t:{ grant file } map_red;\n";
 
 /// Each allowed triple of so many types, `SOURCE TARGET PERMISSION;` with the numbers of the types.
 fn allowed<R: Allows>(alloc: Global, rights: &R, types: u16) -> Result<String, AllocError> {
@@ -81,7 +82,10 @@ fn a_table_answers_as_the_walk(rt: HostRuntime) -> Result<(), Fail> {
         let types = policy.count() + 1;
         let told = allowed(alloc, &table, types)?;
         let lines = told.as_bytes().iter().filter(|byte| **byte == b';').count();
-        assert_eq!(rt; (told.as_str(), lines), (allowed(alloc, &policy, types)?.as_str(), triples));
+        assert_eq!(rt;
+            (told.as_str(), lines),
+            (allowed(alloc, &policy, types)?.as_str(), triples)
+        );
     }
     Ok(())
 }
@@ -100,7 +104,13 @@ fn several_permissions_are_none(rt: HostRuntime) -> Result<(), Fail> {
         (Perms::all(), false),
     ] {
         let triples = Triples {
-            allowed: vec![in alloc; Triple { source: a, target: a, perm }]?,
+            allowed: vec![in alloc;
+                Triple {
+                    source: a,
+                    target: a,
+                    perm
+                },
+            ]?,
         };
         let answers = (
             policy.allows(a, a, perm),
