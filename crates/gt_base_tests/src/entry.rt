@@ -1,8 +1,8 @@
+//! Entries, their words and their bytes.
 use gt_entry::{
     Control, Entry, Header, decode, decode_v1, decode_v2, encode_v1, encode_v2, status_word,
 };
 use gt_types::{Dir, DomId, Field, GrantRef, Range, Use};
-use std::test::Fail;
 
 fn page(ro: bool, frame: u64) -> Entry {
     Entry::Page {
@@ -13,78 +13,63 @@ fn page(ro: bool, frame: u64) -> Entry {
 }
 
 #[test]
-fn packs_the_words_of_a_page(rt: HostRuntime) -> Result<(), Fail> {
-    let idle = Control::of_entry(page(false, 5), 1, 0, 0);
-    assert_eq!(rt; idle.pack(), 0x0000_1000_2000_0001);
-    assert_eq!(rt; Control::unpack(0x0000_1000_2000_0001), idle);
-    let full = Control::of_entry(page(false, 5), 1, 4_095, 1);
-    assert_eq!(rt; full.pack(), 0x0000_1000_2001_fff1);
-    assert_eq!(rt; Control::unpack(0x0000_1000_2001_fff1), full);
-    assert_eq!(rt;
-        Control::of_entry(Entry::Invalid, 1, 0, 0).pack(),
-        0x0000_1000_0000_0000
-    );
-    assert_eq!(rt;
-        Control::of_entry(Entry::Invalid, 1, 0, 1).pack(),
-        0x0000_1000_0001_0000
-    );
-    assert_eq!(rt;
-        Control::of_entry(page(false, 6), 2, 0, 0).pack(),
-        0x0000_2000_2000_0001
-    );
-    Ok(())
+fn packs_the_words_of_entries(rt: HostRuntime) {
+    for (entry, generation, reads, writes, word) in [
+        (page(false, 5), 1, 0, 0, 0x0000_1000_2000_0001),
+        (page(false, 5), 1, 4_095, 1, 0x0000_1000_2001_fff1),
+        (Entry::Invalid, 1, 0, 0, 0x0000_1000_0000_0000),
+        (Entry::Invalid, 1, 0, 1, 0x0000_1000_0001_0000),
+        (page(false, 6), 2, 0, 0, 0x0000_2000_2000_0001),
+    ] {
+        let control = Control::of_entry(entry, generation, reads, writes);
+        assert_eq!(rt; (control.pack(), Control::unpack(word)), (word, control));
+    }
+}
+
+// The control word of a page with so many pins.
+fn pins(reads: u16, writes: u16) -> Control {
+    Control::of_entry(page(false, 5), 1, reads, writes)
 }
 
 #[test]
-fn counts_pins(rt: HostRuntime) -> Result<(), Fail> {
-    let idle = Control::of_entry(page(false, 5), 1, 0, 0);
-    let read = idle.pinned(Dir::Read).ok_or("a read pin")?;
-    assert_eq!(rt; read, Control { reads: 1, ..idle });
-    assert_eq!(rt; status_word(&read), 0x0008);
-    let both = read.pinned(Dir::Write).ok_or("a write pin")?;
-    assert_eq!(rt; both, Control { writes: 1, ..read });
-    assert_eq!(rt; status_word(&both), 0x0018);
-    assert_eq!(rt; both.idle(), idle);
-    assert_eq!(rt; status_word(&idle), 0);
-    let full = Control::of_entry(page(false, 5), 1, 4_095, 1);
-    assert_eq!(rt; full.pinned(Dir::Read), None);
-    assert_eq!(rt;
-        full.pinned(Dir::Write),
-        Some(Control { writes: 2, ..full })
-    );
-    Ok(())
+fn counts_pins(rt: HostRuntime) {
+    for (control, status, dir, pinned) in [
+        (pins(0, 0), 0, Dir::Read, Some(pins(1, 0))),
+        (pins(1, 0), 0x0008, Dir::Write, Some(pins(1, 1))),
+        (pins(1, 1), 0x0018, Dir::Write, Some(pins(1, 2))),
+        (pins(4_095, 1), 0x0018, Dir::Read, None),
+        (pins(4_095, 1), 0x0018, Dir::Write, Some(pins(4_095, 2))),
+    ] {
+        let told = (status_word(&control), control.pinned(dir), control.idle());
+        assert_eq!(rt; told, (status, pinned, pins(0, 0)));
+    }
 }
 
 #[test]
-fn spells_every_kind(rt: HostRuntime) -> Result<(), Fail> {
+fn spells_every_kind(rt: HostRuntime) {
     for (entry, first, second) in [
         (page(true, 5), 5, 0),
         (sub(), 7, 0x0032_0064),
         (via(), 0x0007_0003, 0),
     ] {
-        assert_eq!(rt; entry.first_body(), first);
-        assert_eq!(rt; entry.second_body(), second);
         let control = Control::of_entry(entry, 1, 0, 0);
-        assert_eq!(rt; Entry::spelled(control, first, second), entry);
+        let spelled = Entry::spelled(control, first, second);
+        let told = (entry.first_body(), entry.second_body(), spelled);
+        assert_eq!(rt; told, (first, second, entry));
     }
-    Ok(())
 }
 
 #[test]
-fn packs_headers(rt: HostRuntime) -> Result<(), Fail> {
-    let header = Header {
-        version: 2,
-        frames: 4,
-    };
-    assert_eq!(rt; header.pack(), 18);
-    assert_eq!(rt; Header::unpack(18), header);
-    assert_eq!(rt; header.entries(), 1_024);
-    assert_eq!(rt; Header::unpack(5).entries(), 512);
-    Ok(())
+fn packs_headers(rt: HostRuntime) {
+    for (version, frames, word, entries) in [(2, 4, 18, 1_024), (1, 1, 5, 512)] {
+        let header = Header { version, frames };
+        let told = (header.pack(), Header::unpack(word), header.entries());
+        assert_eq!(rt; told, (word, header, entries));
+    }
 }
 
 #[test]
-fn permits_inside_a_sub_page(rt: HostRuntime) -> Result<(), Fail> {
+fn permits_inside_a_sub_page(rt: HostRuntime) {
     let sub = Entry::Sub {
         dom: DomId(2),
         ro: false,
@@ -92,21 +77,25 @@ fn permits_inside_a_sub_page(rt: HostRuntime) -> Result<(), Fail> {
         off: 100,
         len: 50,
     };
-    for (off, len, inside) in [
-        (100, 50, true),
-        (149, 2, false),
-        (150, 0, true),
-        (151, 0, false),
-        (99, 0, false),
+    for (entry, dom, dir, purpose, wanted) in [
+        (
+            sub,
+            2,
+            Dir::Write,
+            Use::Copy,
+            [true, false, true, false, false],
+        ),
+        (sub, 2, Dir::Read, Use::Map, [false; 5]),
+        (sub, 3, Dir::Read, Use::Copy, [false; 5]),
+        (page(true, 5), 2, Dir::Read, Use::Map, [true; 5]),
+        (page(true, 5), 2, Dir::Write, Use::Map, [false; 5]),
     ] {
-        let range = Range { off, len };
-        assert_eq!(rt; sub.permits(DomId(2), Dir::Write, Use::Copy, range), inside);
-        assert!(rt; !sub.permits(DomId(2), Dir::Read, Use::Map, range));
-        assert!(rt; !sub.permits(DomId(3), Dir::Read, Use::Copy, range));
-        assert!(rt; page(true, 5).permits(DomId(2), Dir::Read, Use::Map, range));
-        assert!(rt; !page(true, 5).permits(DomId(2), Dir::Write, Use::Map, range));
+        let told = [(100, 50), (149, 2), (150, 0), (151, 0), (99, 0)].map(|(
+            off,
+            len,
+        )| entry.permits(DomId(dom), dir, purpose, Range { off, len }));
+        assert_eq!(rt; told, wanted);
     }
-    Ok(())
 }
 
 fn sub() -> Entry {
@@ -144,11 +133,8 @@ fn reads_version_1(rt: HostRuntime) {
             Ok(page(true, 4_294_967_295)),
         ),
     ] {
-        assert_eq!(rt; decode_v1(&bytes), read);
-        assert_eq!(rt; decode(1, &bytes), read);
+        assert_eq!(rt; (decode_v1(&bytes), decode(1, &bytes)), (read, read));
     }
-    assert_eq!(rt; decode(1, &[1, 0, 2, 0, 5, 0, 0]), Err(Field::Length));
-    assert_eq!(rt; decode(1, &[0; 16]), Err(Field::Length));
 }
 
 #[test]
@@ -184,29 +170,37 @@ fn reads_version_2(rt: HostRuntime) {
             Err(Field::Kind),
         ),
     ] {
-        assert_eq!(rt; decode_v2(&bytes), read);
-        assert_eq!(rt; decode(2, &bytes), read);
+        assert_eq!(rt; (decode_v2(&bytes), decode(2, &bytes)), (read, read));
     }
-    assert_eq!(rt; decode(2, &[1, 0, 2, 0, 5, 0, 0, 0]), Err(Field::Length));
+}
+
+#[test]
+fn refuses_other_lengths(rt: HostRuntime) {
+    for (version, bytes) in [
+        (1, [1, 0, 2, 0, 5, 0, 0].as_slice()),
+        (1, [0; 16].as_slice()),
+        (2, [1, 0, 2, 0, 5, 0, 0, 0].as_slice()),
+    ] {
+        assert_eq!(rt; decode(version, bytes), Err(Field::Length));
+    }
 }
 
 #[test]
 fn writes_what_it_reads(rt: HostRuntime) {
-    assert_eq!(rt; encode_v1(&page(false, 5)), Some([1, 0, 2, 0, 5, 0, 0, 0]));
-    assert_eq!(rt; encode_v1(&page(true, 4_294_967_296)), None);
-    assert_eq!(rt; encode_v1(&sub()), None);
-    assert_eq!(rt; encode_v1(&via()), None);
-    assert_eq!(rt; encode_v1(&Entry::Invalid), None);
-    assert_eq!(rt; encode_v2(&Entry::Invalid), None);
-    for (entry, bytes) in [
-        (
-            page(true, 4_294_967_296),
-            [5, 0, 2, 0, 0, 0, 0, 0, 0, 0, 0, 0, 1, 0, 0, 0],
-        ),
-        (sub(), [5, 1, 3, 0, 100, 0, 50, 0, 7, 0, 0, 0, 0, 0, 0, 0]),
-        (via(), [3, 0, 2, 0, 3, 0, 0, 0, 7, 0, 0, 0, 0, 0, 0, 0]),
+    let first = Some([1, 0, 2, 0, 5, 0, 0, 0]);
+    let wide = [5, 0, 2, 0, 0, 0, 0, 0, 0, 0, 0, 0, 1, 0, 0, 0];
+    let narrow = [1, 0, 2, 0, 0, 0, 0, 0, 5, 0, 0, 0, 0, 0, 0, 0];
+    let sub_bytes = [5, 1, 3, 0, 100, 0, 50, 0, 7, 0, 0, 0, 0, 0, 0, 0];
+    let via_bytes = [3, 0, 2, 0, 3, 0, 0, 0, 7, 0, 0, 0, 0, 0, 0, 0];
+    for (entry, bytes_v1, bytes_v2) in [
+        (page(false, 5), first, Some(narrow)),
+        (page(true, 4_294_967_296), None, Some(wide)),
+        (sub(), None, Some(sub_bytes)),
+        (via(), None, Some(via_bytes)),
+        (Entry::Invalid, None, None),
     ] {
-        assert_eq!(rt; encode_v2(&entry), Some(bytes));
+        let told = (encode_v1(&entry), encode_v2(&entry));
+        assert_eq!(rt; told, (bytes_v1, bytes_v2));
     }
 }
 

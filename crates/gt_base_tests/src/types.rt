@@ -1,136 +1,170 @@
+//! Configurations, rights, and the numbers and names of the public header and the policy.
 use gt_types::{
-    Allows, Config, ConfigFault, Denial, DomId, DomainConfig, Facts, Field, Perms, Rule, Status,
-    Triple, Triples, TypeId,
+    Allows, Config, ConfigFault, Denial, DomId, DomainConfig, Facts, Field, Perms, Rule, Triple,
+    Triples, TypeId,
 };
-use std::alloc::{AllocError, Global};
 use std::test::Fail;
 
-/// Domain `id` with the label and the sizes of the first worked script.
-fn domain(id: u16) -> DomainConfig {
-    DomainConfig {
-        id: DomId(id),
-        label: TypeId(0),
-        frames: 8,
-        table_frames: 1,
-        version: 1,
-    }
-}
+// Domain 1 with the label and the sizes of the first worked script.
+const ONE: DomainConfig = DomainConfig {
+    id: DomId(1),
+    label: TypeId(0),
+    frames: 8,
+    table_frames: 1,
+    version: 1,
+};
 
-fn config(alloc: Global, domains: &[DomainConfig], first_gen: u32) -> Result<Config, AllocError> {
-    Ok(Config {
-        domains: domains.to_vec(alloc)?,
-        first_gen,
-    })
-}
+const TWO: DomainConfig = DomainConfig {
+    id: DomId(2),
+    ..ONE
+};
 
-#[test]
-fn takes_the_limits(rt: HostRuntime) -> Result<(), Fail> {
-    let least = DomainConfig {
-        frames: 1,
-        ..domain(0)
-    };
-    let most = DomainConfig {
-        frames: 64,
-        table_frames: 4,
-        ..domain(0x7FEF)
-    };
-    let taken = config(rt.alloc(), &[least, most], 1_048_575)?;
-    assert_eq!(rt; taken.check(), Ok(()));
-    let mut sixteen = Vec::new(rt.alloc());
-    for id in 1..17 {
-        sixteen.push(domain(id))?;
-    }
-    assert_eq!(rt; config(rt.alloc(), &sixteen, 0)?.check(), Ok(()));
-    sixteen.push(domain(1))?;
-    let seventeen = config(rt.alloc(), &sixteen, 1_048_576)?;
-    assert_eq!(rt; seventeen.check(), Err(ConfigFault::TooMany(DomId(1))));
-    Ok(())
-}
-
-#[test]
-fn names_the_fault(rt: HostRuntime) -> Result<(), Fail> {
-    let empty = config(rt.alloc(), &[], 1_048_576)?;
-    assert_eq!(rt; empty.check(), Err(ConfigFault::NoDomains));
-    let late = config(rt.alloc(), &[domain(1)], 1_048_576)?;
-    assert_eq!(rt; late.check(), Err(ConfigFault::Generation));
-    let good = domain(1);
-    for (second, fault) in [
-        (domain(0x7FF0), ConfigFault::Id(DomId(0x7FF0))),
-        (domain(1), ConfigFault::Repeated(DomId(1))),
-        (
+// Domains with the first generation, and what is told of them. A fault of the second domain is named, whatever the
+// third has.
+const CONFIGS: [(&[DomainConfig], u32, Result<(), ConfigFault>); 11] = [
+    (
+        &[
             DomainConfig {
-                frames: 0,
-                ..domain(2)
+                id: DomId(0),
+                frames: 1,
+                ..ONE
             },
-            ConfigFault::Frames(DomId(2)),
-        ),
-        (
+            DomainConfig {
+                id: DomId(0x7FEF),
+                frames: 64,
+                table_frames: 4,
+                ..ONE
+            },
+        ],
+        1_048_575,
+        Ok(()),
+    ),
+    (&[], 1_048_576, Err(ConfigFault::NoDomains)),
+    (&[ONE], 1_048_576, Err(ConfigFault::Generation)),
+    (
+        &[
+            ONE,
+            DomainConfig {
+                id: DomId(0x7FF0),
+                ..ONE
+            },
+            ONE,
+        ],
+        0,
+        Err(ConfigFault::Id(DomId(0x7FF0))),
+    ),
+    (&[ONE, ONE, ONE], 0, Err(ConfigFault::Repeated(DomId(1)))),
+    (
+        &[ONE, DomainConfig { frames: 0, ..TWO }, ONE],
+        0,
+        Err(ConfigFault::Frames(DomId(2))),
+    ),
+    (
+        &[
+            ONE,
             DomainConfig {
                 frames: 65,
                 table_frames: 5,
-                ..domain(2)
+                ..TWO
             },
-            ConfigFault::Frames(DomId(2)),
-        ),
-        (
+            ONE,
+        ],
+        0,
+        Err(ConfigFault::Frames(DomId(2))),
+    ),
+    (
+        &[
+            ONE,
             DomainConfig {
                 table_frames: 0,
-                ..domain(2)
+                ..TWO
             },
-            ConfigFault::TableFrames(DomId(2)),
-        ),
-        (
+            ONE,
+        ],
+        0,
+        Err(ConfigFault::TableFrames(DomId(2))),
+    ),
+    (
+        &[
+            ONE,
             DomainConfig {
                 table_frames: 5,
                 version: 3,
-                ..domain(2)
+                ..TWO
             },
-            ConfigFault::TableFrames(DomId(2)),
-        ),
-        (
-            DomainConfig {
-                version: 0,
-                ..domain(2)
-            },
-            ConfigFault::Version(DomId(2)),
-        ),
-        (
-            DomainConfig {
-                version: 3,
-                ..domain(2)
-            },
-            ConfigFault::Version(DomId(2)),
-        ),
-    ] {
-        let faulty = config(rt.alloc(), &[good, second, domain(1)], 0)?;
-        assert_eq!(rt; faulty.check(), Err(fault));
+            ONE,
+        ],
+        0,
+        Err(ConfigFault::TableFrames(DomId(2))),
+    ),
+    (
+        &[ONE, DomainConfig { version: 0, ..TWO }, ONE],
+        0,
+        Err(ConfigFault::Version(DomId(2))),
+    ),
+    (
+        &[ONE, DomainConfig { version: 3, ..TWO }, ONE],
+        0,
+        Err(ConfigFault::Version(DomId(2))),
+    ),
+];
+
+#[test]
+fn names_the_fault_of_a_configuration(rt: HostRuntime) -> Result<(), Fail> {
+    for (domains, first_gen, told) in CONFIGS {
+        let config = Config {
+            domains: domains.to_vec(rt.alloc())?,
+            first_gen,
+        };
+        assert_eq!(rt; config.check(), told);
     }
     Ok(())
 }
 
 #[test]
-fn gives_the_numbers_of_the_header(rt: HostRuntime) -> Result<(), Fail> {
-    for (rule, name, status, number) in [
-        (Rule::N1, "N1", Status::BadDomain, -2),
-        (Rule::N2, "N2", Status::GeneralError, -1),
-        (Rule::N3, "N3", Status::BadCopyArg, -10),
-        (Rule::N4, "N4", Status::PermissionDenied, -8),
-        (Rule::N5, "N5", Status::PermissionDenied, -8),
-        (Rule::N6, "N6", Status::BadHandle, -4),
-        (Rule::N7, "N7", Status::PermissionDenied, -8),
-        (Rule::N8, "N8", Status::GeneralError, -1),
-        (Rule::N9, "N9", Status::BadGntref, -3),
-        (Rule::N10, "N10", Status::GeneralError, -1),
-        (Rule::N16, "N16", Status::BadPage, -9),
-        (Rule::N18, "N18", Status::Eagain, -12),
-        (Rule::N19, "N19", Status::GeneralError, -1),
-        (Rule::N26, "N26", Status::GeneralError, -1),
+fn takes_sixteen_domains(rt: HostRuntime) -> Result<(), Fail> {
+    for (count, first_gen, told) in [
+        (16, 0, Ok(())),
+        (17, 1_048_576, Err(ConfigFault::TooMany(DomId(1)))),
     ] {
-        let denial = Denial::new(rule, Facts::None);
-        assert_eq!(rt; denial.rule, rule);
-        assert_eq!(rt; denial.status, status);
-        assert_eq!(rt; denial.status.number(), number);
-        assert_eq!(rt; rule.to_string(rt.alloc())?.as_str(), name);
+        let mut domains = Vec::new(rt.alloc());
+        for at in 0..count {
+            let id = DomId(at % 16 + 1);
+            domains.push(DomainConfig { id, ..ONE })?;
+        }
+        let config = Config { domains, first_gen };
+        assert_eq!(rt; config.check(), told);
+    }
+    Ok(())
+}
+
+// A rule's name, its status with the number of the header, and no facts.
+#[test]
+fn gives_the_numbers_of_the_header(rt: HostRuntime) -> Result<(), Fail> {
+    for (rule, wanted) in [
+        (Rule::N1, "N1 BadDomain -2 None"),
+        (Rule::N2, "N2 GeneralError -1 None"),
+        (Rule::N3, "N3 BadCopyArg -10 None"),
+        (Rule::N4, "N4 PermissionDenied -8 None"),
+        (Rule::N5, "N5 PermissionDenied -8 None"),
+        (Rule::N6, "N6 BadHandle -4 None"),
+        (Rule::N7, "N7 PermissionDenied -8 None"),
+        (Rule::N8, "N8 GeneralError -1 None"),
+        (Rule::N9, "N9 BadGntref -3 None"),
+        (Rule::N10, "N10 GeneralError -1 None"),
+        (Rule::N16, "N16 BadPage -9 None"),
+        (Rule::N18, "N18 Eagain -12 None"),
+        (Rule::N19, "N19 GeneralError -1 None"),
+        (Rule::N26, "N26 GeneralError -1 None"),
+    ] {
+        let Denial {
+            rule,
+            status,
+            facts,
+        } = Denial::new(rule, Facts::None);
+        let number = status.number();
+        let text = format!(in rt.alloc(); "{rule} {status:?} {number} {facts:?}")?;
+        assert_eq!(rt; text.as_str(), wanted);
     }
     Ok(())
 }
@@ -154,45 +188,50 @@ fn prints_fields(rt: HostRuntime) -> Result<(), Fail> {
 }
 
 #[test]
-fn permissions_have_the_names_of_the_class(rt: HostRuntime) -> Result<(), Fail> {
-    for (perm, name) in [
-        (Perms::MAP_READ, "map_read"),
-        (Perms::MAP_WRITE, "map_write"),
-        (Perms::UNMAP, "unmap"),
-        (Perms::TRANSFER, "transfer"),
-        (Perms::SETUP, "setup"),
-        (Perms::COPY, "copy"),
-        (Perms::QUERY, "query"),
+fn permissions_have_the_names_of_the_class(rt: HostRuntime) {
+    for (word, wanted) in [
+        ("map_read", Some(Perms::MAP_READ)),
+        ("map_write", Some(Perms::MAP_WRITE)),
+        ("unmap", Some(Perms::UNMAP)),
+        ("transfer", Some(Perms::TRANSFER)),
+        ("setup", Some(Perms::SETUP)),
+        ("copy", Some(Perms::COPY)),
+        ("query", Some(Perms::QUERY)),
+        ("map_red", None),
+        ("*", None),
     ] {
-        assert_eq!(rt; perm.name(), name);
-        assert_eq!(rt; Perms::named(name.as_bytes()), Some(perm));
+        let perm = Perms::named(word.as_bytes());
+        let name = match perm {
+            Some(perm) => perm.name(),
+            None => word,
+        };
+        assert_eq!(rt; (perm, name), (wanted, word));
     }
-    assert_eq!(rt; Perms::named(b"map_red"), None);
-    assert_eq!(rt; Perms::named(b"*"), None);
-    Ok(())
 }
 
 #[test]
 fn allows_what_is_listed(rt: HostRuntime) -> Result<(), Fail> {
     let (a, b) = (TypeId(0), TypeId(1));
-    let rights = Triples {
-        allowed: vec![in rt.alloc();
-            Triple {
-                source: b,
-                target: a,
-                perm: Perms::MAP_READ,
-            },
-            Triple {
-                source: b,
-                target: a,
-                perm: Perms::UNMAP,
-            },
-        ]?,
+    let read = Triple {
+        source: b,
+        target: a,
+        perm: Perms::MAP_READ,
     };
-    assert!(rt; rights.allows(b, a, Perms::MAP_READ));
-    assert!(rt; rights.allows(b, a, Perms::UNMAP));
-    assert!(rt; !rights.allows(b, a, Perms::MAP_WRITE));
-    assert!(rt; !rights.allows(a, b, Perms::MAP_READ));
-    assert!(rt; !rights.allows(b, b, Perms::MAP_READ));
+    let unmap = Triple {
+        perm: Perms::UNMAP,
+        ..read
+    };
+    let rights = Triples {
+        allowed: vec![in rt.alloc(); read, unmap]?,
+    };
+    for (source, target, perm, wanted) in [
+        (b, a, Perms::MAP_READ, true),
+        (b, a, Perms::UNMAP, true),
+        (b, a, Perms::MAP_WRITE, false),
+        (a, b, Perms::MAP_READ, false),
+        (b, b, Perms::MAP_READ, false),
+    ] {
+        assert_eq!(rt; rights.allows(source, target, perm), wanted);
+    }
     Ok(())
 }

@@ -5,8 +5,10 @@
 #![tactic(auto)]
 
 #[cfg(test)]
-mod access;
+mod doing;
 #[cfg(test)]
-mod calls;
+mod memory;
 #[cfg(test)]
-mod tables;
+mod pins;
+#[cfg(test)]
+mod runs;

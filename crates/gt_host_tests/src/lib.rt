@@ -1,14 +1,12 @@
 //! Tests of scripts played from a reader to a writer, over what the crate makes public.
 //!
-//! They say what no contract says: worked scripts with what they print, and readers, writers and allocators
-//! that fail.
+//! They say what no contract says: readers, writers and allocators that fail, scripts that are cut off, and as
+//! many pins as there can be. The worked scripts stand in `gt_host_cases`.
 #![tactic(auto)]
 
 #[cfg(test)]
-mod access;
+mod failing;
 #[cfg(test)]
 mod playing;
 #[cfg(test)]
-mod policies;
-#[cfg(test)]
-mod tables;
+mod scripts;

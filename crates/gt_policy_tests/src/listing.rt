@@ -24,16 +24,22 @@ domU_t dom0_t copy\n\
 domU_t domU_t map_read\n\
 domU_t domU_t copy\n";
 
-fn listed(alloc: Global, text: &str) -> (Vec<u8>, Result<(), Fault>) {
-    let mut reader = text.as_bytes();
+// What is listed of a text, and the fault as it prints, if there is one.
+fn listed(alloc: Global, mut text: &[u8]) -> Result<String, Fail> {
     let mut writer = Vec::new(alloc);
-    let outcome = policy(alloc, &mut reader, &mut writer);
-    (writer, outcome)
+    let mut out = match policy(alloc, &mut text, &mut writer) {
+        Ok(()) => String::new(alloc),
+        Err(fault) => fault.to_string(alloc)?,
+    };
+    for byte in writer.iter() {
+        out.push(char::from(*byte))?;
+    }
+    Ok(out)
 }
 
 #[test]
 fn lists_what_a_policy_allows(rt: HostRuntime) -> Result<(), Fail> {
-    let cases = [
+    for (text, wanted) in [
         (WITHOUT_ITSELF, WITHOUT_ITSELF_LINES),
         (GUESTS, GUESTS_LINES),
         (
@@ -57,18 +63,7 @@ a_t a_t unmap\na_t a_t query\na_t b_t unmap\na_t b_t query\n\
 b_t b_t map_read\nb_t b_t map_write\nb_t b_t unmap\nb_t b_t transfer\n\
 b_t b_t setup\nb_t b_t copy\nb_t b_t query\n",
         ),
-    ];
-    for (text, want) in cases {
-        let (lines, outcome) = listed(rt.alloc(), text);
-        assert!(rt; outcome.is_ok(), "{text}");
-        assert_eq!(rt; lines.as_slice(), want.as_bytes(), "{text}");
-    }
-    Ok(())
-}
-
-#[test]
-fn a_fault_writes_nothing(rt: HostRuntime) -> Result<(), Fail> {
-    let cases = [
+        // A text with a fault lists nothing.
         (
             "type a_t;\nallow a_t a_t:grant map_red;\n",
             "gthost: line 2: policy permission map_red",
@@ -95,16 +90,9 @@ fn a_fault_writes_nothing(rt: HostRuntime) -> Result<(), Fail> {
             "allow a_t b_t:grant map_red;\n",
             "gthost: line 1: policy permission map_red",
         ),
-    ];
-    for (text, want) in cases {
-        let (lines, outcome) = listed(rt.alloc(), text);
-        assert!(rt; lines.is_empty(), "{text}");
-        let Err(fault) = outcome else {
-            assert!(rt; false, "{text}");
-            return Ok(());
-        };
-        let line = format!(in rt.alloc(); "{fault}")?;
-        assert_eq!(rt; line.as_str(), want);
+    ] {
+        let lines = listed(rt.alloc(), text.as_bytes())?;
+        assert_eq!(rt; lines.as_str(), wanted, "{text}");
     }
     Ok(())
 }
@@ -115,51 +103,35 @@ fn every_beginning_is_listed_or_refused(rt: HostRuntime) -> Result<(), Fail> {
     for length in 0..GUESTS.len() {
         let mut reader = &GUESTS.as_bytes()[..length];
         let mut writer = Vec::new(rt.alloc());
-        match policy(rt.alloc(), &mut reader, &mut writer) {
-            Ok(()) => {
-                let is_whole = length + 1 == GUESTS.len();
-                let want = if is_whole { GUESTS_LINES } else { "" };
-                assert_eq!(rt; writer.as_slice(), want.as_bytes(), "{length} bytes");
-            }
-            Err(Fault::Policy(_)) => assert!(rt; writer.is_empty(), "{length} bytes"),
-            Err(_) => assert!(rt; false, "{length} bytes"),
-        }
+        let is_told = match policy(rt.alloc(), &mut reader, &mut writer) {
+            Ok(()) if length + 1 == GUESTS.len() => writer.as_slice() == GUESTS_LINES.as_bytes(),
+            Ok(()) | Err(Fault::Policy(_)) => writer.is_empty(),
+            Err(_) => false,
+        };
+        assert!(rt; is_told, "{length} bytes");
     }
     Ok(())
 }
 
-fn is_limit(fault: &Fault) -> bool {
-    matches!(
-        fault,
-        Fault::Policy(PolicyFault {
-            line: 1,
-            kind: FaultKind::Limit
-        })
-    )
-}
-
 #[test]
 fn bytes_that_are_no_text(rt: HostRuntime) -> Result<(), Fail> {
-    let mut bad = Vec::from_slice(rt.alloc(), b"type a_t;\ntype b_t;\nty")?;
-    bad.push(0xff)?;
-    let mut writer = Vec::new(rt.alloc());
-    let outcome = policy(rt.alloc(), &mut bad.as_slice(), &mut writer);
-    assert!(rt; matches!(outcome, Err(Fault::Utf8 { line: 3 })));
-    // A text with a fault and a bad byte behind it is no text.
-    let outcome = policy(rt.alloc(), &mut b"type a_t\n}\xc3(".as_slice(), &mut writer);
-    assert!(rt; matches!(outcome, Err(Fault::Utf8 { line: 2 })));
-    // Too many bytes come before bad ones.
-    for byte in [b' ', 0xff] {
-        let long = vec![in rt.alloc(); byte; 1_048_577]?;
-        match policy(rt.alloc(), &mut long.as_slice(), &mut writer) {
-            Ok(()) => assert!(rt; false),
-            Err(fault) => assert!(rt; is_limit(&fault)),
-        }
+    let alloc = rt.alloc();
+    let long = vec![in alloc; b' '; 1_048_577]?;
+    let bad = vec![in alloc; 0xff; 1_048_577]?;
+    for (text, wanted) in [
+        (
+            b"type a_t;\ntype b_t;\nty\xff".as_slice(),
+            "gthost: line 3: utf8",
+        ),
+        // A text with a fault and a bad byte behind it is no text.
+        (b"type a_t\n}\xc3(".as_slice(), "gthost: line 2: utf8"),
+        // Too many bytes come before bad ones.
+        (long.as_slice(), "gthost: line 1: policy limit"),
+        (bad.as_slice(), "gthost: line 1: policy limit"),
+        (&long[1..], ""),
+    ] {
+        assert_eq!(rt; listed(alloc, text)?.as_str(), wanted);
     }
-    let most = vec![in rt.alloc(); b' '; 1_048_576]?;
-    let outcome = policy(rt.alloc(), &mut most.as_slice(), &mut writer);
-    assert!(rt; outcome.is_ok());
-    assert!(rt; writer.is_empty());
     Ok(())
 }
 
@@ -236,8 +208,8 @@ fn a_reader_that_fails(rt: HostRuntime) -> Result<(), Fail> {
         };
         let mut writer = Vec::new(rt.alloc());
         let outcome = policy(rt.alloc(), &mut reader, &mut writer);
-        assert!(rt; matches!(outcome, Err(Fault::Read)), "after {left} bytes");
-        assert!(rt; writer.is_empty(), "after {left} bytes");
+        let is_told = matches!(outcome, Err(Fault::Read)) && writer.is_empty();
+        assert!(rt; is_told, "after {left} bytes");
     }
     Ok(())
 }
@@ -250,8 +222,9 @@ fn a_writer_that_fails(rt: HostRuntime) -> Result<(), Fail> {
             left,
         };
         let outcome = policy(rt.alloc(), &mut GUESTS.as_bytes(), &mut writer);
-        assert!(rt; matches!(outcome, Err(Fault::Write)), "after {left} bytes");
-        assert_eq!(rt; writer.taken.as_slice(), &GUESTS_LINES.as_bytes()[..left]);
+        let is_beginning = writer.taken.as_slice() == &GUESTS_LINES.as_bytes()[..left];
+        let is_told = matches!(outcome, Err(Fault::Write)) && is_beginning;
+        assert!(rt; is_told, "after {left} bytes");
     }
     Ok(())
 }

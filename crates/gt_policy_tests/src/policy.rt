@@ -1,19 +1,9 @@
 //! Worked texts, limits, and every beginning of a text.
 use bitflags::Flags;
 use gt_policy::{FaultKind, Policy};
-use gt_types::{Allows, LONGEST_TEXT, Perms, TypeId};
+use gt_types::{Allows, Perms, TypeId};
 use std::alloc::{AllocError, Global};
 use std::test::Fail;
-
-const PERMS: [(&str, Perms); 7] = [
-    ("map_read", Perms::MAP_READ),
-    ("map_write", Perms::MAP_WRITE),
-    ("unmap", Perms::UNMAP),
-    ("transfer", Perms::TRANSFER),
-    ("setup", Perms::SETUP),
-    ("copy", Perms::COPY),
-    ("query", Perms::QUERY),
-];
 
 fn triples(alloc: Global, policy: &Policy) -> Result<String, AllocError> {
     let mut out = String::new(alloc);
@@ -21,9 +11,9 @@ fn triples(alloc: Global, policy: &Policy) -> Result<String, AllocError> {
         let source = policy.name(TypeId(s)).unwrap_or("?");
         for t in 0..policy.count() {
             let target = policy.name(TypeId(t)).unwrap_or("?");
-            for (word, perm) in PERMS {
+            for perm in Perms::EVERY {
                 if policy.allows(TypeId(s), TypeId(t), perm) {
-                    let line = format!(in alloc; "{source} {target} {word};")?;
+                    let line = format!(in alloc; "{source} {target} {};", perm.name())?;
                     out.push_str(line.as_str())?;
                 }
             }
@@ -41,206 +31,197 @@ fn shown(alloc: Global, text: &str) -> Result<String, AllocError> {
 }
 
 // Two types of one attribute, of which one is taken out of a source set.
-const DOMAINS: &str = "attribute domain;\n\
+const GUESTS: &str = "attribute domain;\n\
 type dom0_t, domain;\n\
-type domU_t, domain;\n";
+type domU_t, domain;\n\
+allow { domain -dom0_t } domain:grant { map_read copy };\n";
 
 const SEEN_BY_DOMU: &str =
     "domU_t dom0_t map_read;domU_t dom0_t copy;domU_t domU_t map_read;domU_t domU_t copy;";
 
-#[test]
-fn allows_what_a_set_holds(rt: HostRuntime) -> Result<(), Fail> {
-    let alloc = rt.alloc();
-    for (allow, wanted) in [
-        (
-            "allow { domain -dom0_t } domain:grant { map_read copy };\n",
-            SEEN_BY_DOMU,
-        ),
-        (
-            "allow { -dom0_t domain } domain:grant { map_read copy };\n",
-            SEEN_BY_DOMU,
-        ),
-        ("allow { -dom0_t } domain:grant copy;\n", ""),
-        ("allow dom0_t { -domain }:grant copy;\n", ""),
-        (
-            "allow dom0_t { domain - domU_t }:grant copy;\n",
-            "dom0_t dom0_t copy;",
-        ),
-    ] {
-        let text = format!(in alloc; "{DOMAINS}{allow}")?;
-        assert_eq!(rt; shown(alloc, text.as_str())?.as_str(), wanted, "{allow}");
-    }
-    Ok(())
-}
+const EVERY: &str =
+    "a a map_read;a a map_write;a a unmap;a a transfer;a a setup;a a copy;a a query;";
 
-#[test]
-fn allows_self_beside_a_set(rt: HostRuntime) -> Result<(), Fail> {
-    let alloc = rt.alloc();
-    let text = "attribute s;\n\
+// What a set holds: names, the other names taken away, and `self` beside them.
+const SETS: [(&str, &str); 8] = [
+    (
+        "attribute domain;\n\
+type dom0_t, domain;\n\
+type domU_t, domain;\n\
+allow { domain -dom0_t } domain:grant { map_read copy };\n",
+        SEEN_BY_DOMU,
+    ),
+    (
+        "attribute domain;\n\
+type dom0_t, domain;\n\
+type domU_t, domain;\n\
+allow { -dom0_t domain } domain:grant { map_read copy };\n",
+        SEEN_BY_DOMU,
+    ),
+    (
+        "attribute domain;\n\
+type dom0_t, domain;\n\
+type domU_t, domain;\n\
+allow { -dom0_t } domain:grant copy;\n",
+        "",
+    ),
+    (
+        "attribute domain;\n\
+type dom0_t, domain;\n\
+type domU_t, domain;\n\
+allow dom0_t { -domain }:grant copy;\n",
+        "",
+    ),
+    (
+        "attribute domain;\n\
+type dom0_t, domain;\n\
+type domU_t, domain;\n\
+allow dom0_t { domain - domU_t }:grant copy;\n",
+        "dom0_t dom0_t copy;",
+    ),
+    (
+        "attribute s;\n\
 type a_t, s;\n\
 type b_t;\n\
 typeattribute b_t s;\n\
-allow s { self -a_t b_t }:{ grant file } { copy open };\n";
-    let wanted = "a_t a_t copy;a_t b_t copy;b_t b_t copy;";
-    assert_eq!(rt; shown(alloc, text)?.as_str(), wanted);
-    for (text, wanted) in [
-        ("type a; type b; allow a self:grant copy;", "a a copy;"),
-        ("type a; allow a { - a self }:grant copy;", "a a copy;"),
-    ] {
-        assert_eq!(rt; shown(alloc, text)?.as_str(), wanted, "{text}");
-    }
-    Ok(())
-}
+allow s { self -a_t b_t }:{ grant file } { copy open };\n",
+        "a_t a_t copy;a_t b_t copy;b_t b_t copy;",
+    ),
+    ("type a; type b; allow a self:grant copy;", "a a copy;"),
+    ("type a; allow a { - a self }:grant copy;", "a a copy;"),
+];
 
-#[test]
-fn allows_permissions_of_class_grant(rt: HostRuntime) -> Result<(), Fail> {
-    let alloc = rt.alloc();
-    let every = "a a map_read;a a map_write;a a unmap;a a transfer;a a setup;a a copy;a a query;";
-    for (text, wanted) in [
-        ("", ""),
-        ("allow a a:grant *; # all\ntype a;", every),
-        ("type a; allow a a:{ file grant } *;", every),
-        ("type a;allow a a:{grant grant} copy;", "a a copy;"),
-        ("type a;\nallow a a:{ grant file } map_red;\n", ""),
-        ("type a; allow a a:file copy;", ""),
-        ("type a; allow a a:file *;", ""),
-    ] {
-        assert_eq!(rt; shown(alloc, text)?.as_str(), wanted, "{text}");
-    }
-    Ok(())
-}
+// The permissions of class `grant`.
+const PERMISSIONS: [(&str, &str); 7] = [
+    ("", ""),
+    ("allow a a:grant *; # all\ntype a;", EVERY),
+    ("type a; allow a a:{ file grant } *;", EVERY),
+    ("type a;allow a a:{grant grant} copy;", "a a copy;"),
+    ("type a;\nallow a a:{ grant file } map_red;\n", ""),
+    ("type a; allow a a:file copy;", ""),
+    ("type a; allow a a:file *;", ""),
+];
 
-#[test]
-fn reads_names_and_separators(rt: HostRuntime) -> Result<(), Fail> {
-    let alloc = rt.alloc();
-    for (text, wanted) in [
-        (
-            "type a-b.c_d;\r\nallow a-b.c_d self:grant copy;",
-            "a-b.c_d a-b.c_d copy;",
-        ),
-        ("attribute alias; type a;\ttypeattribute a alias;", ""),
-        ("# \u{e9}\ntype a#x\n;", ""),
-        ("type \u{e9};", "line 1: policy syntax"),
-        ("type a;\x0b", "line 1: policy syntax"),
-        ("\u{feff}type a;", "line 1: policy syntax"),
-        ("type a; 9", "line 1: policy syntax"),
-        ("type a_;\r\rtype _a;", "line 1: policy syntax"),
-    ] {
-        assert_eq!(rt; shown(alloc, text)?.as_str(), wanted, "{text}");
-    }
-    Ok(())
-}
+// Names, and what stands between them.
+const NAMES: [(&str, &str); 8] = [
+    (
+        "type a-b.c_d;\r\nallow a-b.c_d self:grant copy;",
+        "a-b.c_d a-b.c_d copy;",
+    ),
+    ("attribute alias; type a;\ttypeattribute a alias;", ""),
+    ("# \u{e9}\ntype a#x\n;", ""),
+    ("type \u{e9};", "line 1: policy syntax"),
+    ("type a;\x0b", "line 1: policy syntax"),
+    ("\u{feff}type a;", "line 1: policy syntax"),
+    ("type a; 9", "line 1: policy syntax"),
+    ("type a_;\r\rtype _a;", "line 1: policy syntax"),
+];
 
-#[test]
-fn names_the_line_of_the_end(rt: HostRuntime) -> Result<(), Fail> {
-    let alloc = rt.alloc();
-    for (text, wanted) in [
-        ("type a_t\n", "line 2: policy syntax"),
-        ("type a_t", "line 2: policy syntax"),
-        ("type a_t\n\n# and no more", "line 4: policy syntax"),
-        ("type a; allow a a:grant { copy } ", "line 2: policy syntax"),
-    ] {
-        assert_eq!(rt; shown(alloc, text)?.as_str(), wanted, "{text}");
-    }
-    Ok(())
-}
+// A text that ends too early has its fault behind its last line.
+const ENDS: [(&str, &str); 4] = [
+    ("type a_t\n", "line 2: policy syntax"),
+    ("type a_t", "line 2: policy syntax"),
+    ("type a_t\n\n# and no more", "line 4: policy syntax"),
+    ("type a; allow a a:grant { copy } ", "line 2: policy syntax"),
+];
 
-#[test]
-fn refuses_what_fits_nowhere(rt: HostRuntime) -> Result<(), Fail> {
-    let alloc = rt.alloc();
-    for text in [
+// What fits nowhere.
+const NOWHERE: [(&str, &str); 12] = [
+    (
         "type a;allow a { a { a } }:grant copy;",
-        "type a; allow a {}:grant copy;",
-        "type a;allow a a:grant { * };",
-        "type a;allow self a:grant copy;",
+        "line 1: policy syntax",
+    ),
+    ("type a; allow a {}:grant copy;", "line 1: policy syntax"),
+    ("type a;allow a a:grant { * };", "line 1: policy syntax"),
+    ("type a;allow self a:grant copy;", "line 1: policy syntax"),
+    (
         "type a;allow a { a - self }:grant copy;",
-        "type a;allow a a:self copy;",
-        "type a;allow a a grant copy;",
-        "type a, ;",
-        "attribute a, b;",
-        "attribute *;",
-        "self;",
-        ";",
-    ] {
-        let fault = shown(alloc, text)?;
-        assert_eq!(rt; fault.as_str(), "line 1: policy syntax", "{text}");
-    }
-    Ok(())
-}
+        "line 1: policy syntax",
+    ),
+    ("type a;allow a a:self copy;", "line 1: policy syntax"),
+    ("type a;allow a a grant copy;", "line 1: policy syntax"),
+    ("type a, ;", "line 1: policy syntax"),
+    ("attribute a, b;", "line 1: policy syntax"),
+    ("attribute *;", "line 1: policy syntax"),
+    ("self;", "line 1: policy syntax"),
+    (";", "line 1: policy syntax"),
+];
+
+// What the language has and is not read.
+const OUTSIDE: [(&str, &str); 11] = [
+    (
+        "type a_t;\nneverallow a_t a_t:grant copy;\n",
+        "line 2: policy outside neverallow",
+    ),
+    ("bool b true;", "line 1: policy outside bool"),
+    ("type a_t alias b_t;\n", "line 1: policy outside alias"),
+    ("type alias;", "line 1: policy outside alias"),
+    ("type a, alias;", "line 1: policy outside alias"),
+    ("allow ~a_t a_t:grant copy;\n", "line 1: policy outside ~"),
+    ("allow a_t a_t:grant ~copy;\n", "line 1: policy outside ~"),
+    ("type a;allow a a:* copy;", "line 1: policy outside *"),
+    (
+        "type a;allow a { a -* }:grant copy;",
+        "line 1: policy outside *",
+    ),
+    ("type *;", "line 1: policy outside *"),
+    ("typeattribute * a;", "line 1: policy outside *"),
+];
+
+// The first of several faults.
+const FAULTS: [(&str, &str); 6] = [
+    ("type a_t;\ntype a_t;\n", "line 2: policy twice a_t"),
+    ("type a;attribute a;", "line 1: policy twice a"),
+    (
+        "type a_t;\nallow a_t a_t:grant map_red;\n",
+        "line 2: policy permission map_red",
+    ),
+    (
+        "allow a_t b_t:grant map_red;\n",
+        "line 1: policy permission map_red",
+    ),
+    (
+        "type a;\nallow a a:grant { copy map_red ~ };",
+        "line 2: policy permission map_red",
+    ),
+    ("allow b b:grant copy;\n;", "line 2: policy syntax"),
+];
+
+// Names that are not declared: the first fault is that of the first statement.
+const UNDECLARED: [(&str, &str); 6] = [
+    (
+        "allow a_t b_t:grant copy;\ntype a_t;\n",
+        "line 1: policy unknown b_t",
+    ),
+    ("type a, a;", "line 1: policy unknown a"),
+    ("type a; typeattribute b a;", "line 1: policy unknown b"),
+    (
+        "attribute s; typeattribute s s;",
+        "line 1: policy unknown s",
+    ),
+    ("type a; allow a b:file copy;", "line 1: policy unknown b"),
+    (
+        "type a;\nallow a { a -b }:grant copy;\ntype d, c;",
+        "line 2: policy unknown b",
+    ),
+];
 
 #[test]
-fn names_what_is_outside(rt: HostRuntime) -> Result<(), Fail> {
+fn allows_what_a_text_says(rt: HostRuntime) -> Result<(), Fail> {
     let alloc = rt.alloc();
-    for (text, wanted) in [
-        (
-            "type a_t;\nneverallow a_t a_t:grant copy;\n",
-            "line 2: policy outside neverallow",
-        ),
-        ("bool b true;", "line 1: policy outside bool"),
-        ("type a_t alias b_t;\n", "line 1: policy outside alias"),
-        ("type alias;", "line 1: policy outside alias"),
-        ("type a, alias;", "line 1: policy outside alias"),
-        ("allow ~a_t a_t:grant copy;\n", "line 1: policy outside ~"),
-        ("allow a_t a_t:grant ~copy;\n", "line 1: policy outside ~"),
-        ("type a;allow a a:* copy;", "line 1: policy outside *"),
-        (
-            "type a;allow a { a -* }:grant copy;",
-            "line 1: policy outside *",
-        ),
-        ("type *;", "line 1: policy outside *"),
-        ("typeattribute * a;", "line 1: policy outside *"),
+    for rows in [
+        SETS.as_slice(),
+        PERMISSIONS.as_slice(),
+        NAMES.as_slice(),
+        ENDS.as_slice(),
+        NOWHERE.as_slice(),
+        OUTSIDE.as_slice(),
+        FAULTS.as_slice(),
+        UNDECLARED.as_slice(),
     ] {
-        assert_eq!(rt; shown(alloc, text)?.as_str(), wanted, "{text}");
-    }
-    Ok(())
-}
-
-#[test]
-fn names_the_first_fault(rt: HostRuntime) -> Result<(), Fail> {
-    let alloc = rt.alloc();
-    for (text, wanted) in [
-        ("type a_t;\ntype a_t;\n", "line 2: policy twice a_t"),
-        ("type a;attribute a;", "line 1: policy twice a"),
-        (
-            "type a_t;\nallow a_t a_t:grant map_red;\n",
-            "line 2: policy permission map_red",
-        ),
-        (
-            "allow a_t b_t:grant map_red;\n",
-            "line 1: policy permission map_red",
-        ),
-        (
-            "type a;\nallow a a:grant { copy map_red ~ };",
-            "line 2: policy permission map_red",
-        ),
-        ("allow b b:grant copy;\n;", "line 2: policy syntax"),
-    ] {
-        assert_eq!(rt; shown(alloc, text)?.as_str(), wanted, "{text}");
-    }
-    Ok(())
-}
-
-#[test]
-fn names_the_first_undeclared(rt: HostRuntime) -> Result<(), Fail> {
-    let alloc = rt.alloc();
-    for (text, wanted) in [
-        (
-            "allow a_t b_t:grant copy;\ntype a_t;\n",
-            "line 1: policy unknown b_t",
-        ),
-        ("type a, a;", "line 1: policy unknown a"),
-        ("type a; typeattribute b a;", "line 1: policy unknown b"),
-        (
-            "attribute s; typeattribute s s;",
-            "line 1: policy unknown s",
-        ),
-        ("type a; allow a b:file copy;", "line 1: policy unknown b"),
-        (
-            "type a;\nallow a { a -b }:grant copy;\ntype d, c;",
-            "line 2: policy unknown b",
-        ),
-    ] {
-        assert_eq!(rt; shown(alloc, text)?.as_str(), wanted, "{text}");
+        for (text, wanted) in rows {
+            assert_eq!(rt; shown(alloc, text)?.as_str(), *wanted, "{text}");
+        }
     }
     Ok(())
 }
@@ -249,52 +230,37 @@ fn names_the_first_undeclared(rt: HostRuntime) -> Result<(), Fail> {
 #[test]
 fn ends_each_beginning_of_a_text(rt: HostRuntime) -> Result<(), Fail> {
     let alloc = rt.alloc();
-    let whole = format!(in alloc;
-        "{DOMAINS}allow {{ domain -dom0_t }} domain:grant {{ map_read copy }};\n"
-    )?;
     let mut text = String::new(alloc);
-    for c in whole.as_str().chars() {
+    for c in GUESTS.chars() {
         text.push(c)?;
-        match Policy::parse(alloc, text.as_str()) {
-            Ok(_) => assert!(rt; c == ';' || c == '\n', "{text}"),
-            Err(fault) => {
-                assert!(rt; c != ';' && c != '\n', "{text}");
-                assert!(rt; !matches!(&fault.kind, FaultKind::Memory), "{text}");
-            }
-        }
+        let is_end = c == ';' || c == '\n';
+        let is_told = match Policy::parse(alloc, text.as_str()) {
+            Ok(_) => is_end,
+            Err(fault) => !is_end && !matches!(&fault.kind, FaultKind::Memory),
+        };
+        assert!(rt; is_told, "{text}");
     }
-    assert_eq!(rt; shown(alloc, text.as_str())?.as_str(), SEEN_BY_DOMU);
     Ok(())
 }
 
+// The text `head` with so many times `each`.
 fn repeated(alloc: Global, head: &str, each: &str, count: usize) -> Result<String, AllocError> {
-    let mut text = String::from_str(alloc, head)?;
-    for _ in 0..count {
-        text.push_str(each)?;
+    let behind = each.repeat(alloc, count)?;
+    format!(in alloc; "{head}{behind}")
+}
+
+#[test]
+fn takes_the_most_statements_and_bytes(rt: HostRuntime) -> Result<(), Fail> {
+    let alloc = rt.alloc();
+    for (each, count, wanted) in [
+        ("allow a a:c d;\n", 65_536, ""),
+        ("allow a a:c d;\n", 65_537, "line 65537: policy limit"),
+        ("\n", 1_048_569, ""),
+        ("\n", 1_048_570, "line 1: policy limit"),
+    ] {
+        let text = repeated(alloc, "type a;", each, count)?;
+        assert_eq!(rt; shown(alloc, text.as_str())?.as_str(), wanted, "{count}");
     }
-    Ok(text)
-}
-
-#[test]
-fn takes_65536_allow_statements(rt: HostRuntime) -> Result<(), Fail> {
-    let alloc = rt.alloc();
-    let most = repeated(alloc, "type a;", "allow a a:c d;\n", 65536)?;
-    assert_eq!(rt; shown(alloc, most.as_str())?.as_str(), "");
-    let more = repeated(alloc, "type a;", "allow a a:c d;\n", 65537)?;
-    let fault = shown(alloc, more.as_str())?;
-    assert_eq!(rt; fault.as_str(), "line 65537: policy limit");
-    Ok(())
-}
-
-#[test]
-fn takes_1048576_bytes(rt: HostRuntime) -> Result<(), Fail> {
-    let alloc = rt.alloc();
-    let most = repeated(alloc, "type a;", "\n", LONGEST_TEXT - 7)?;
-    assert_eq!(rt; most.len(), 1_048_576);
-    assert_eq!(rt; Policy::parse(alloc, most.as_str())?.count(), 1);
-    let more = repeated(alloc, "type a;", "\n", LONGEST_TEXT - 6)?;
-    let fault = shown(alloc, more.as_str())?;
-    assert_eq!(rt; fault.as_str(), "line 1: policy limit");
     Ok(())
 }
 
@@ -313,46 +279,59 @@ fn takes_256_types_and_256_attributes(rt: HostRuntime) -> Result<(), Fail> {
     let alloc = rt.alloc();
     for word in ["type", "attribute"] {
         let most = declarations(alloc, word, 256)?;
-        assert_eq!(rt; shown(alloc, most.as_str())?.as_str(), "", "{word}");
-        let more = declarations(alloc, word, 257)?;
-        let fault = shown(alloc, more.as_str())?;
-        assert_eq!(rt; fault.as_str(), "line 257: policy limit", "{word}");
-        let twice = format!(in alloc; "{most}{word} n255;")?;
-        let fault = shown(alloc, twice.as_str())?;
-        assert_eq!(rt; fault.as_str(), "line 257: policy twice n255", "{word}");
+        for (name, wanted) in [
+            ("", ""),
+            ("n256", "line 257: policy limit"),
+            ("n255", "line 257: policy twice n255"),
+        ] {
+            let more = if name.is_empty() { "" } else { word };
+            let end = if name.is_empty() { "" } else { ";" };
+            let text = format!(in alloc; "{most}{more} {name}{end}")?;
+            assert_eq!(rt;
+                shown(alloc, text.as_str())?.as_str(),
+                wanted,
+                "{word} {name}"
+            );
+        }
     }
-    let most = declarations(alloc, "type", 256)?;
-    let policy = Policy::parse(alloc, most.as_str())?;
-    assert_eq!(rt; policy.count(), 256);
-    assert_eq!(rt; policy.name(TypeId(255)), Some("n255"));
     Ok(())
 }
 
+// The names that a policy gives its types, in the order of the numbers; and the numbers of these names.
 #[test]
 fn tells_types_by_number_and_name(rt: HostRuntime) -> Result<(), Fail> {
-    let policy = Policy::parse(rt.alloc(), DOMAINS)?;
-    assert_eq!(rt; policy.count(), 2);
-    assert_eq!(rt; policy.type_of("domU_t"), Some(TypeId(1)));
-    assert_eq!(rt; policy.type_of("domain"), None);
-    assert_eq!(rt; policy.type_spelled(b"domU_t"), Some(TypeId(1)));
-    assert_eq!(rt; policy.type_spelled(b"\xff"), None);
-    assert_eq!(rt; policy.name(TypeId(0)), Some("dom0_t"));
-    assert_eq!(rt; policy.name(TypeId(2)).is_none(), true);
+    let alloc = rt.alloc();
+    let many = declarations(alloc, "type", 256)?;
+    for (text, count, number, name) in [
+        (GUESTS, 2, 0, Some("dom0_t")),
+        (GUESTS, 2, 1, Some("domU_t")),
+        (GUESTS, 2, 2, None),
+        (many.as_str(), 256, 255, Some("n255")),
+    ] {
+        let policy = Policy::parse(alloc, text)?;
+        let told = (policy.count(), policy.name(TypeId(number)));
+        assert_eq!(rt; told, (count, name));
+    }
+    let policy = Policy::parse(alloc, GUESTS)?;
+    for (name, wanted) in [
+        (b"domU_t".as_slice(), Some(TypeId(1))),
+        (b"domain".as_slice(), None),
+        (b"\xff".as_slice(), None),
+    ] {
+        assert_eq!(rt; policy.type_spelled(name), wanted);
+    }
+    let told = (policy.type_of("domU_t"), policy.type_of("domain"));
+    assert_eq!(rt; told, (Some(TypeId(1)), None));
     Ok(())
 }
 
 #[test]
 fn lists_types_by_name(rt: HostRuntime) -> Result<(), Fail> {
-    let policy = Policy::parse(
-        rt.alloc(),
-        "type b;type a-b;type a0;type a;type B;type a.b;",
-    )?;
-    let ids = policy.by_name(rt.alloc())?;
-    let wanted = [4, 3, 1, 5, 2, 0];
-    assert_eq!(rt; ids.len(), wanted.len());
-    for (id, number) in ids.iter().zip(wanted) {
-        assert_eq!(rt; *id, TypeId(number));
-    }
+    let alloc = rt.alloc();
+    let text = "type b;type a-b;type a0;type a;type B;type a.b;";
+    let ids = Policy::parse(alloc, text)?.by_name(alloc)?;
+    let wanted = [4, 3, 1, 5, 2, 0].map(TypeId);
+    assert_eq!(rt; ids.as_slice(), wanted.as_slice());
     Ok(())
 }
 

@@ -5,8 +5,8 @@
 #![tactic(auto)]
 
 #[cfg(test)]
-mod access;
+mod lines;
 #[cfg(test)]
-mod blocks;
+mod said;
 #[cfg(test)]
 mod scripts;

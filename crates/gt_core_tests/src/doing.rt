@@ -1,0 +1,264 @@
+//! What is done to a machine in a test, and what comes of it, in words.
+use gt_core::{
+    Answer, Begun, Core, Element, Event, Handle, Happened, Item, Request, Seen, Shown, Step, Ticked,
+};
+use gt_entry::{Control, status_word};
+use gt_types::{
+    Config, DomId, DomainConfig, Facts, GrantRef, Memory, Perms, StartFault, Triple, Triples,
+    TypeId,
+};
+use std::alloc::{AllocError, Global};
+use std::test::Fail;
+
+pub const OWNER: DomId = DomId(1);
+
+pub const PEER: DomId = DomId(2);
+
+pub const OTHER: DomId = DomId(3);
+
+// The flags of a map.
+pub const WRITABLE: u32 = 2;
+
+pub const READ_ONLY: u32 = 6;
+
+// No call takes more steps.
+const MOST_STEPS: u32 = 71;
+
+/// Three domains whose labels are numbered as they are, with 8 frames and one table frame each.
+pub fn three_domains(alloc: Global, version: u32, first_gen: u32) -> Result<Config, Memory> {
+    let domain = DomainConfig {
+        id: OWNER,
+        label: TypeId(1),
+        frames: 8,
+        table_frames: 1,
+        version,
+    };
+    let peer = DomainConfig {
+        id: PEER,
+        label: TypeId(2),
+        ..domain
+    };
+    let other = DomainConfig {
+        id: OTHER,
+        label: TypeId(3),
+        ..domain
+    };
+    Ok(Config {
+        domains: vec![in alloc; domain, peer, other]?,
+        first_gen,
+    })
+}
+
+/// The peer and the other may map the owner's pages and unmap them, and may read each other's; each domain may query
+/// each and set up itself.
+pub fn rights(alloc: Global) -> Result<Triples, Memory> {
+    let mut allowed = Vec::new(alloc);
+    for (source, target, perm) in [
+        (PEER, OWNER, Perms::MAP_READ),
+        (PEER, OWNER, Perms::MAP_WRITE),
+        (PEER, OWNER, Perms::UNMAP),
+        (OTHER, OWNER, Perms::MAP_READ),
+        (OTHER, OWNER, Perms::MAP_WRITE),
+        (OTHER, OWNER, Perms::UNMAP),
+        (OWNER, PEER, Perms::MAP_READ),
+        (PEER, OTHER, Perms::MAP_READ),
+        (OWNER, OWNER, Perms::SETUP),
+        (PEER, OWNER, Perms::QUERY),
+    ] {
+        allowed.push(Triple {
+            source: TypeId(source.0),
+            target: TypeId(target.0),
+            perm,
+        })?;
+    }
+    Ok(Triples { allowed })
+}
+
+/// A machine of the three domains.
+pub fn start(alloc: Global, version: u32, first_gen: u32) -> Result<Core<Triples>, StartFault> {
+    Core::new(
+        alloc,
+        three_domains(alloc, version, first_gen)?,
+        rights(alloc)?,
+    )
+}
+
+/// What is done to a machine.
+#[derive(Clone, Copy)]
+pub enum Doing<'a> {
+    /// A whole call: its answer.
+    Do(DomId, Request<'a>),
+    /// A whole call: its steps with what each saw, and its answer.
+    Steps(DomId, Request<'a>),
+    /// The beginning of a call alone.
+    Begin(DomId, Request<'a>),
+    /// So many ticks of the domain, or fewer where its call ends: the answer, if it ended.
+    Tick(DomId, u32),
+    /// A look at an owner's entry from outside.
+    Show(u32),
+}
+
+fn word_said(alloc: Global, word: u64) -> Result<String, AllocError> {
+    format!(in alloc; " {word:x}")
+}
+
+/// An answer: `ok` with its values, or the rule that stood and what it rests on: the word that was seen, in
+/// hexadecimal digits, or the field.
+pub fn answer_said(alloc: Global, answer: &Answer) -> Result<String, AllocError> {
+    match answer {
+        Answer::Done => String::from_str(alloc, "ok"),
+        Answer::Mapped(Handle { serial, key }) => format!(in alloc; "ok {serial}.{key}"),
+        Answer::Bytes(b) => format!(in alloc; "ok {:?}", b.bytes),
+        Answer::Frames(n) => format!(in alloc; "ok frames={n}"),
+        Answer::Size(size) => format!(in alloc; "ok frames={} max={}", size.frames, size.max),
+        Answer::Version(n) => format!(in alloc; "ok version={n}"),
+        Answer::Denied(denial) => {
+            let facts = match denial.facts {
+                Facts::Field(field) => format!(in alloc; " {field}")?,
+                Facts::Header { word, .. } | Facts::Entry { word, .. } => word_said(alloc, word)?,
+                _ => String::new(alloc),
+            };
+            format!(in alloc; "{}{facts}", denial.rule)
+        }
+    }
+}
+
+/// What a step saw: a word in hexadecimal digits, `taken` or `missed` with the word found; `-` for nothing.
+fn seen_said(alloc: Global, seen: Seen) -> Result<String, AllocError> {
+    match seen {
+        Seen::Nothing => String::from_str(alloc, " -"),
+        Seen::Value(word) => word_said(alloc, word),
+        Seen::Taken => String::from_str(alloc, " taken"),
+        Seen::Missed(word) => format!(in alloc; " missed {word:x}"),
+    }
+}
+
+// What an entry shows, with its status word.
+fn shown_said(alloc: Global, shown: Option<Shown>) -> Result<String, AllocError> {
+    let Some(shown) = shown else {
+        return String::from_str(alloc, "none");
+    };
+    let Shown {
+        entry,
+        generation,
+        reads,
+        writes,
+    } = shown;
+    let status = status_word(&Control::of_entry(entry, generation, reads, writes));
+    format!(in alloc; "{entry:?} gen={generation} reads={reads} writes={writes} status={status:x}")
+}
+
+/// The answer of the open call, where it ends within so many ticks.
+pub fn ended(core: &mut Core<Triples>, dom: DomId, ticks: u32) -> Result<Option<Answer>, Fail> {
+    for _ in 0..ticks {
+        if let Ticked::Done(_, _, answer) = core.tick(dom)? {
+            return Ok(Some(answer));
+        }
+    }
+    Ok(None)
+}
+
+// What came of a call that was begun.
+fn call_said(
+    alloc: Global,
+    core: &mut Core<Triples>,
+    dom: DomId,
+    begun: Begun,
+    ticks: u32,
+) -> Result<String, Fail> {
+    let text = match begun {
+        Begun::Done(answer) => answer_said(alloc, &answer)?,
+        Begun::Busy => String::from_str(alloc, "busy")?,
+        Begun::NoDomain => String::from_str(alloc, "no domain")?,
+        Begun::Open => match ended(core, dom, ticks)? {
+            Some(answer) => answer_said(alloc, &answer)?,
+            None => String::from_str(alloc, "open")?,
+        },
+    };
+    Ok(text)
+}
+
+// The steps of the open call, a line each, and its answer.
+fn steps_said(alloc: Global, core: &mut Core<Triples>, dom: DomId) -> Result<String, Fail> {
+    let mut out = String::new(alloc);
+    for _ in 0..MOST_STEPS {
+        match core.tick(dom)? {
+            Ticked::Step(step, seen) => out.push_str(step_said(alloc, step, seen)?.as_str())?,
+            Ticked::Done(step, seen, answer) => {
+                out.push_str(step_said(alloc, step, seen)?.as_str())?;
+                out.push_str(answer_said(alloc, &answer)?.as_str())?;
+                return Ok(out);
+            }
+            _ => return Ok(out),
+        }
+    }
+    Ok(out)
+}
+
+fn step_said(alloc: Global, step: Step, seen: Seen) -> Result<String, AllocError> {
+    let seen = seen_said(alloc, seen)?;
+    format!(in alloc; "{step:?}{seen}\n")
+}
+
+/// What comes of it.
+pub fn said(alloc: Global, core: &mut Core<Triples>, doing: Doing<'_>) -> Result<String, Fail> {
+    match doing {
+        Doing::Do(dom, request) => {
+            let begun = core.begin(dom, request)?;
+            call_said(alloc, core, dom, begun, MOST_STEPS)
+        }
+        Doing::Steps(dom, request) => match core.begin(dom, request)? {
+            Begun::Open => steps_said(alloc, core, dom),
+            begun => call_said(alloc, core, dom, begun, 0),
+        },
+        Doing::Begin(dom, request) => {
+            let begun = core.begin(dom, request)?;
+            call_said(alloc, core, dom, begun, 0)
+        }
+        Doing::Tick(dom, ticks) => call_said(alloc, core, dom, Begun::Open, ticks),
+        Doing::Show(gref) => Ok(shown_said(alloc, core.show(OWNER, GrantRef(gref)))?),
+    }
+}
+
+/// What each event did, a line each: its domain, `begins` or what its step saw, and the answer where the call ended.
+pub fn trace_said(alloc: Global, trace: &[Element]) -> Result<String, AllocError> {
+    let mut out = String::new(alloc);
+    for element in trace {
+        let Element::Item(
+            Item {
+                actor,
+                happened,
+                answer,
+            },
+        ) = element
+        else {
+            out.push_str("nothing\n")?;
+            continue;
+        };
+        let saw = match happened {
+            Happened::Began(_) => String::from_str(alloc, " begins")?,
+            Happened::Stepped(_, seen) => seen_said(alloc, *seen)?,
+        };
+        out.push_str(format!(in alloc; "{}{saw}", actor.0)?.as_str())?;
+        if let Some(answer) = answer {
+            let answer = answer_said(alloc, answer)?;
+            out.push_str(format!(in alloc; " {answer}")?.as_str())?;
+        }
+        out.push('\n')?;
+    }
+    Ok(out)
+}
+
+/// The events of a call: its beginning, and so many ticks.
+pub fn add_call<'a>(
+    events: &mut Vec<Event<'a>>,
+    dom: DomId,
+    request: Request<'a>,
+    ticks: u32,
+) -> Result<(), Memory> {
+    events.push(Event::Begin(dom, request))?;
+    for _ in 0..ticks {
+        events.push(Event::Tick(dom))?;
+    }
+    Ok(())
+}

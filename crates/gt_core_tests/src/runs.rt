@@ -1,0 +1,1033 @@
+//! Whole runs: what is done, and what must come of each.
+use crate::doing::Doing::{self, Begin, Do, Show, Steps, Tick};
+use crate::doing::{OTHER, OWNER, PEER, READ_ONLY, WRITABLE, said, start};
+use gt_core::{Core, Handle, Request};
+use gt_entry::Entry;
+use gt_types::{DomId, GrantRef, Triples};
+use std::alloc::Global;
+use std::process::Abort;
+use std::test::Fail;
+
+// The calls on the owner's entry 0, where nothing else is said; the page is of frame 5 and for the peer.
+pub const GRANT: Request = Request::Grant {
+    gref: GrantRef(0),
+    entry: Entry::Page {
+        dom: PEER,
+        ro: false,
+        frame: 5,
+    },
+};
+
+const GRANT_RO: Request = Request::Grant {
+    gref: GrantRef(0),
+    entry: Entry::Page {
+        dom: PEER,
+        ro: true,
+        frame: 5,
+    },
+};
+
+pub const REVOKE: Request = Request::Revoke { gref: GrantRef(0) };
+
+pub const DEMOTE: Request = Request::Demote { gref: GrantRef(0) };
+
+const PROMOTE: Request = Request::Promote { gref: GrantRef(0) };
+
+pub const MAP_RO: Request = Request::Map {
+    dom: OWNER,
+    gref: GrantRef(0),
+    flags: READ_ONLY,
+};
+
+pub const MAP_RW: Request = Request::Map {
+    dom: OWNER,
+    gref: GrantRef(0),
+    flags: WRITABLE,
+};
+
+// The first mapping of a domain has the first handle. A key serves again once its mapping was given up.
+const FIRST_HANDLE: Handle = Handle { serial: 0, key: 0 };
+
+const SECOND_HANDLE: Handle = Handle { serial: 1, key: 0 };
+
+// A handle that was never given.
+const STRANGE: Handle = Handle {
+    serial: u64::MAX,
+    key: 0,
+};
+
+// A page is granted, mapped, read, unmapped and revoked.
+const FIRST: [(Doing, &str); 5] = [
+    (Do(OWNER, GRANT), "ok"),
+    (Do(PEER, MAP_RW), "ok 0.0"),
+    (
+        Do(
+            PEER,
+            Request::Load {
+                handle: FIRST_HANDLE,
+                off: 0,
+                len: 2,
+            },
+        ),
+        "ok [0, 0]",
+    ),
+    (
+        Do(
+            PEER,
+            Request::Unmap {
+                handle: FIRST_HANDLE,
+            },
+        ),
+        "ok",
+    ),
+    (Do(OWNER, REVOKE), "ok"),
+];
+
+// A revocation between the beginning and the unpin of an unmap.
+const REVOKE_BEFORE_THE_UNPIN: [(Doing, &str); 6] = [
+    (Do(OWNER, GRANT), "ok"),
+    (Do(PEER, MAP_RW), "ok 0.0"),
+    (
+        Begin(
+            PEER,
+            Request::Unmap {
+                handle: FIRST_HANDLE,
+            },
+        ),
+        "open",
+    ),
+    (Do(OWNER, REVOKE), "N19 100020010001"),
+    (Tick(PEER, 1), "ok"),
+    (Do(OWNER, REVOKE), "ok"),
+];
+
+// Another page is granted between the look and the pin of a map.
+const ANOTHER_GRANT_BEFORE_THE_PIN: [(Doing, &str); 8] = [
+    (Do(OWNER, GRANT), "ok"),
+    (Begin(PEER, MAP_RO), "open"),
+    (Tick(PEER, 3), "open"),
+    (Do(OWNER, REVOKE), "ok"),
+    (
+        Do(
+            OWNER,
+            Request::Grant {
+                gref: GrantRef(0),
+                entry: Entry::Page {
+                    dom: PEER,
+                    ro: false,
+                    frame: 6,
+                },
+            },
+        ),
+        "ok",
+    ),
+    (Tick(PEER, 3), "open"),
+    (Tick(PEER, 1), "ok 0.0"),
+    (
+        Show(0),
+        "Page { dom: DomId(2), ro: false, frame: 6 } gen=2 reads=1 writes=0 status=8",
+    ),
+];
+
+// A map before the grant of a read-only page, and one behind it.
+const READ_ONLY_PAGE: [(Doing, &str); 4] = [
+    (Do(PEER, MAP_RO), "N10 0"),
+    (Do(OWNER, GRANT_RO), "ok"),
+    (Do(PEER, MAP_RO), "ok 0.0"),
+    (
+        Show(0),
+        "Page { dom: DomId(2), ro: true, frame: 5 } gen=1 reads=1 writes=0 status=8",
+    ),
+];
+
+// That the entry is of another domain comes before that it is read-only.
+const ANOTHER_DOMAIN: [(Doing, &str); 3] = [
+    (Do(OWNER, GRANT_RO), "ok"),
+    (Do(OTHER, MAP_RW), "N11 100020000005"),
+    (Do(PEER, MAP_RW), "N13 100020000005"),
+];
+
+// Each try of a map is missed, for a demotion or a promotion since its look.
+const FOUR_MISSED_TRIES: [(Doing, &str); 12] = [
+    (Do(OWNER, GRANT), "ok"),
+    (Begin(PEER, MAP_RO), "open"),
+    (Tick(PEER, 2), "open"),
+    (Do(OWNER, DEMOTE), "ok"),
+    (Tick(PEER, 3), "open"),
+    (Do(OWNER, PROMOTE), "ok"),
+    (Tick(PEER, 3), "open"),
+    (Do(OWNER, DEMOTE), "ok"),
+    (Tick(PEER, 3), "open"),
+    (Do(OWNER, PROMOTE), "ok"),
+    (Tick(PEER, 2), "N18 500020000001"),
+    (
+        Show(0),
+        "Page { dom: DomId(2), ro: false, frame: 5 } gen=5 reads=0 writes=0 status=0",
+    ),
+];
+
+// Three are, and the fourth pins.
+const FOURTH_TRY: [(Doing, &str); 11] = [
+    (Do(OWNER, GRANT), "ok"),
+    (Begin(PEER, MAP_RO), "open"),
+    (Tick(PEER, 2), "open"),
+    (Do(OWNER, DEMOTE), "ok"),
+    (Tick(PEER, 3), "open"),
+    (Do(OWNER, PROMOTE), "ok"),
+    (Tick(PEER, 3), "open"),
+    (Do(OWNER, DEMOTE), "ok"),
+    (Tick(PEER, 3), "open"),
+    (Tick(PEER, 2), "ok 0.0"),
+    (
+        Show(0),
+        "Page { dom: DomId(2), ro: true, frame: 5 } gen=4 reads=1 writes=0 status=8",
+    ),
+];
+
+// A frame, and references, past the last ones.
+const PAST_THE_LAST: [(Doing, &str); 5] = [
+    (
+        Do(
+            OWNER,
+            Request::Grant {
+                gref: GrantRef(0),
+                entry: Entry::Page {
+                    dom: PEER,
+                    ro: false,
+                    frame: 8,
+                },
+            },
+        ),
+        "ok",
+    ),
+    (
+        Do(
+            PEER,
+            Request::Map {
+                dom: OWNER,
+                gref: GrantRef(0),
+                flags: READ_ONLY,
+            },
+        ),
+        "N16 100020000001",
+    ),
+    (
+        Do(
+            PEER,
+            Request::Map {
+                dom: OWNER,
+                gref: GrantRef(512),
+                flags: READ_ONLY,
+            },
+        ),
+        "N9 5",
+    ),
+    (
+        Do(
+            PEER,
+            Request::Map {
+                dom: OWNER,
+                gref: GrantRef(511),
+                flags: READ_ONLY,
+            },
+        ),
+        "N10 0",
+    ),
+    (Show(512), "none"),
+];
+
+// A demotion leaves a read pin, and a second one changes nothing.
+const DEMOTED_UNDER_A_PIN: [(Doing, &str); 7] = [
+    (Do(OWNER, GRANT), "ok"),
+    (Do(PEER, MAP_RO), "ok 0.0"),
+    (Do(OWNER, DEMOTE), "ok"),
+    (Do(OWNER, DEMOTE), "ok"),
+    (
+        Do(
+            PEER,
+            Request::Load {
+                handle: FIRST_HANDLE,
+                off: 0,
+                len: 1,
+            },
+        ),
+        "ok [0]",
+    ),
+    (Do(PEER, MAP_RW), "N13 200020000015"),
+    (
+        Show(0),
+        "Page { dom: DomId(2), ro: true, frame: 5 } gen=2 reads=1 writes=0 status=8",
+    ),
+];
+
+// An entry at the last generation but one is published once, and is worn then.
+const WORN: [(Doing, &str); 4] = [
+    (Do(OWNER, GRANT), "ok"),
+    (Do(OWNER, DEMOTE), "N22"),
+    (Do(OWNER, REVOKE), "ok"),
+    (Do(OWNER, GRANT), "N22"),
+];
+
+// A handle that was taken names no later mapping, though its key serves again.
+const TAKEN_HANDLE: [(Doing, &str); 9] = [
+    (Do(OWNER, GRANT), "ok"),
+    (Do(PEER, MAP_RO), "ok 0.0"),
+    (
+        Do(
+            PEER,
+            Request::Unmap {
+                handle: FIRST_HANDLE,
+            },
+        ),
+        "ok",
+    ),
+    (Do(PEER, MAP_RO), "ok 1.0"),
+    (
+        Do(
+            PEER,
+            Request::Load {
+                handle: FIRST_HANDLE,
+                off: 0,
+                len: 1,
+            },
+        ),
+        "N6",
+    ),
+    (
+        Do(
+            PEER,
+            Request::Unmap {
+                handle: FIRST_HANDLE,
+            },
+        ),
+        "N6",
+    ),
+    (
+        Do(
+            PEER,
+            Request::Load {
+                handle: SECOND_HANDLE,
+                off: 0,
+                len: 1,
+            },
+        ),
+        "ok [0]",
+    ),
+    (
+        Do(
+            PEER,
+            Request::Unmap {
+                handle: SECOND_HANDLE,
+            },
+        ),
+        "ok",
+    ),
+    (
+        Do(
+            PEER,
+            Request::Unmap {
+                handle: SECOND_HANDLE,
+            },
+        ),
+        "N6",
+    ),
+];
+
+// What one domain stores the other peeks.
+const SHARED_PAGE: [(Doing, &str); 10] = [
+    (Do(OWNER, GRANT), "ok"),
+    (Do(PEER, MAP_RW), "ok 0.0"),
+    (
+        Do(
+            PEER,
+            Request::Store {
+                handle: FIRST_HANDLE,
+                off: 10,
+                bytes: &[0xc0, 0xff, 0xee],
+            },
+        ),
+        "ok",
+    ),
+    (
+        Do(
+            OWNER,
+            Request::Peek {
+                frame: 5,
+                off: 9,
+                len: 5,
+            },
+        ),
+        "ok [0, 192, 255, 238, 0]",
+    ),
+    (
+        Do(
+            PEER,
+            Request::Load {
+                handle: FIRST_HANDLE,
+                off: 9,
+                len: 5,
+            },
+        ),
+        "ok [0, 192, 255, 238, 0]",
+    ),
+    (Do(OWNER, REVOKE), "N19 100020010001"),
+    (
+        Do(
+            PEER,
+            Request::Unmap {
+                handle: FIRST_HANDLE,
+            },
+        ),
+        "ok",
+    ),
+    (Do(OWNER, REVOKE), "ok"),
+    (
+        Do(
+            OWNER,
+            Request::Peek {
+                frame: 5,
+                off: 10,
+                len: 3,
+            },
+        ),
+        "ok [192, 255, 238]",
+    ),
+    (
+        Do(
+            PEER,
+            Request::Peek {
+                frame: 5,
+                off: 10,
+                len: 3,
+            },
+        ),
+        "ok [0, 0, 0]",
+    ),
+];
+
+// The range comes before the mapping, and the mapping before what it may do.
+const ORDER_OF_ACCESSES: [(Doing, &str); 13] = [
+    (Do(OWNER, GRANT), "ok"),
+    (Do(PEER, MAP_RO), "ok 0.0"),
+    (
+        Do(
+            PEER,
+            Request::Store {
+                handle: FIRST_HANDLE,
+                off: 4096,
+                bytes: &[1],
+            },
+        ),
+        "N3",
+    ),
+    (
+        Do(
+            PEER,
+            Request::Store {
+                handle: FIRST_HANDLE,
+                off: 4096,
+                bytes: &[],
+            },
+        ),
+        "N7",
+    ),
+    (
+        Do(
+            PEER,
+            Request::Store {
+                handle: STRANGE,
+                off: 4097,
+                bytes: &[],
+            },
+        ),
+        "N3",
+    ),
+    (
+        Do(
+            PEER,
+            Request::Store {
+                handle: STRANGE,
+                off: 4096,
+                bytes: &[],
+            },
+        ),
+        "N6",
+    ),
+    (
+        Do(
+            PEER,
+            Request::Load {
+                handle: FIRST_HANDLE,
+                off: 4096,
+                len: 0,
+            },
+        ),
+        "ok []",
+    ),
+    (
+        Do(
+            OWNER,
+            Request::Poke {
+                frame: 7,
+                off: 4095,
+                bytes: &[0xff],
+            },
+        ),
+        "ok",
+    ),
+    (
+        Do(
+            OWNER,
+            Request::Poke {
+                frame: 8,
+                off: 0,
+                bytes: &[],
+            },
+        ),
+        "N16",
+    ),
+    (
+        Do(
+            OWNER,
+            Request::Poke {
+                frame: 8,
+                off: 4095,
+                bytes: &[1, 2],
+            },
+        ),
+        "N3",
+    ),
+    (
+        Do(
+            PEER,
+            Request::Peek {
+                frame: 8,
+                off: 0,
+                len: 1,
+            },
+        ),
+        "N16",
+    ),
+    (
+        Do(
+            PEER,
+            Request::Peek {
+                frame: 8,
+                off: 4096,
+                len: 1,
+            },
+        ),
+        "N3",
+    ),
+    (
+        Do(
+            OWNER,
+            Request::Peek {
+                frame: 7,
+                off: 4094,
+                len: 2,
+            },
+        ),
+        "ok [0, 255]",
+    ),
+];
+
+// A handle that was taken stores nothing.
+const STORE_BY_A_TAKEN_HANDLE: [(Doing, &str); 7] = [
+    (Do(OWNER, GRANT), "ok"),
+    (Do(PEER, MAP_RW), "ok 0.0"),
+    (
+        Do(
+            PEER,
+            Request::Unmap {
+                handle: FIRST_HANDLE,
+            },
+        ),
+        "ok",
+    ),
+    (
+        Do(
+            PEER,
+            Request::Unmap {
+                handle: FIRST_HANDLE,
+            },
+        ),
+        "N6",
+    ),
+    (Do(PEER, MAP_RO), "ok 1.0"),
+    (
+        Do(
+            PEER,
+            Request::Store {
+                handle: FIRST_HANDLE,
+                off: 0,
+                bytes: &[1],
+            },
+        ),
+        "N6",
+    ),
+    (
+        Do(
+            PEER,
+            Request::Store {
+                handle: SECOND_HANDLE,
+                off: 0,
+                bytes: &[1],
+            },
+        ),
+        "N7",
+    ),
+];
+
+// The bytes of a store are those of its beginning, and are written with its step.
+const STORE_WITH_ITS_STEP: [(Doing, &str); 7] = [
+    (Do(OWNER, GRANT), "ok"),
+    (Do(PEER, MAP_RW), "ok 0.0"),
+    (
+        Begin(
+            PEER,
+            Request::Store {
+                handle: FIRST_HANDLE,
+                off: 0,
+                bytes: &[1, 2],
+            },
+        ),
+        "open",
+    ),
+    (
+        Do(
+            OWNER,
+            Request::Peek {
+                frame: 5,
+                off: 0,
+                len: 3,
+            },
+        ),
+        "ok [0, 0, 0]",
+    ),
+    (
+        Do(
+            OWNER,
+            Request::Poke {
+                frame: 5,
+                off: 0,
+                bytes: &[3, 3, 3],
+            },
+        ),
+        "ok",
+    ),
+    (Tick(PEER, 1), "ok"),
+    (
+        Do(
+            OWNER,
+            Request::Peek {
+                frame: 5,
+                off: 0,
+                len: 3,
+            },
+        ),
+        "ok [1, 2, 3]",
+    ),
+];
+
+// The version changes between the header and the control word that a map looks at.
+const VERSION_IN_A_MAP: [(Doing, &str); 5] = [
+    (
+        Begin(
+            PEER,
+            Request::Map {
+                dom: OWNER,
+                gref: GrantRef(300),
+                flags: READ_ONLY,
+            },
+        ),
+        "open",
+    ),
+    (Tick(PEER, 1), "open"),
+    (Do(OWNER, Request::SetVersion { version: 2 }), "ok"),
+    (Tick(PEER, 1), "N10 0"),
+    (
+        Do(
+            PEER,
+            Request::Map {
+                dom: OWNER,
+                gref: GrantRef(300),
+                flags: READ_ONLY,
+            },
+        ),
+        "N9 6",
+    ),
+];
+
+// Versions of a table.
+const VERSIONS: [(Doing, &str); 9] = [
+    (
+        Do(
+            OWNER,
+            Request::Grant {
+                gref: GrantRef(0),
+                entry: Entry::Sub {
+                    dom: PEER,
+                    ro: false,
+                    frame: 5,
+                    off: 0,
+                    len: 1,
+                },
+            },
+        ),
+        "N21",
+    ),
+    (Do(OWNER, GRANT), "ok"),
+    (Do(OWNER, GRANT), "N20"),
+    (Do(OWNER, Request::SetVersion { version: 2 }), "N24"),
+    (Do(OWNER, Request::SetVersion { version: 1 }), "ok"),
+    (Do(OWNER, REVOKE), "ok"),
+    (Do(OWNER, Request::SetVersion { version: 2 }), "ok"),
+    (Do(OWNER, Request::SetVersion { version: 3 }), "N2"),
+    (Do(PEER, Request::GetVersion { dom: OWNER }), "ok version=2"),
+];
+
+// Sizes of a table.
+const SIZES: [(Doing, &str); 7] = [
+    (
+        Do(
+            PEER,
+            Request::Map {
+                dom: OWNER,
+                gref: GrantRef(256),
+                flags: READ_ONLY,
+            },
+        ),
+        "N9 6",
+    ),
+    (Do(OWNER, Request::SetupTable { frames: 2 }), "ok frames=2"),
+    (
+        Do(PEER, Request::QuerySize { dom: OWNER }),
+        "ok frames=2 max=4",
+    ),
+    (
+        Do(
+            PEER,
+            Request::Map {
+                dom: OWNER,
+                gref: GrantRef(256),
+                flags: READ_ONLY,
+            },
+        ),
+        "N10 0",
+    ),
+    (Do(OWNER, Request::SetupTable { frames: 0 }), "ok frames=2"),
+    (Do(OWNER, Request::SetupTable { frames: 5 }), "N23"),
+    (Do(PEER, Request::QuerySize { dom: DomId(9) }), "N1"),
+];
+
+// Entries by their bytes, of version 1.
+const ENTRY_BYTES: [(Doing, &str); 6] = [
+    (
+        Do(
+            OWNER,
+            Request::GrantBytes {
+                gref: GrantRef(0),
+                bytes: &[9, 0, 2, 0, 5, 0, 0, 0],
+            },
+        ),
+        "N25 reading",
+    ),
+    (
+        Do(
+            OWNER,
+            Request::GrantBytes {
+                gref: GrantRef(0),
+                bytes: &[1, 0, 2, 0, 5, 0, 0],
+            },
+        ),
+        "N25 length",
+    ),
+    (
+        Do(
+            OWNER,
+            Request::GrantBytes {
+                gref: GrantRef(0),
+                bytes: &[1, 1, 2, 0, 5, 0, 0, 0],
+            },
+        ),
+        "N25 sub_page",
+    ),
+    (
+        Do(
+            OWNER,
+            Request::GrantBytes {
+                gref: GrantRef(0),
+                bytes: &[3, 0, 2, 0, 5, 0, 0, 0],
+            },
+        ),
+        "N25 type",
+    ),
+    (
+        Do(
+            OWNER,
+            Request::GrantBytes {
+                gref: GrantRef(0),
+                bytes: &[1, 0, 2, 0, 5, 0, 0, 0],
+            },
+        ),
+        "ok",
+    ),
+    (
+        Do(
+            OWNER,
+            Request::GrantBytes {
+                gref: GrantRef(0),
+                bytes: &[1, 0, 2, 0, 5, 0, 0, 0],
+            },
+        ),
+        "N20",
+    ),
+];
+
+// A sub-page by its bytes, of version 2.
+const SUB_PAGE_BYTES: [(Doing, &str); 2] = [
+    (
+        Do(
+            OWNER,
+            Request::GrantBytes {
+                gref: GrantRef(0),
+                bytes: &[5, 1, 3, 0, 100, 0, 50, 0, 7, 0, 0, 0, 0, 0, 0, 0],
+            },
+        ),
+        "ok",
+    ),
+    (
+        Show(0),
+        "Sub { dom: DomId(3), ro: true, frame: 7, off: 100, len: 50 } gen=1 reads=0 writes=0 status=0",
+    ),
+];
+
+// Sub-pages and transitive entries are not mapped.
+const NOT_MAPPED: [(Doing, &str); 4] = [
+    (
+        Do(
+            OWNER,
+            Request::Grant {
+                gref: GrantRef(0),
+                entry: Entry::Sub {
+                    dom: PEER,
+                    ro: false,
+                    frame: 5,
+                    off: 0,
+                    len: 4096,
+                },
+            },
+        ),
+        "ok",
+    ),
+    (
+        Do(
+            OWNER,
+            Request::Grant {
+                gref: GrantRef(1),
+                entry: Entry::Via {
+                    dom: PEER,
+                    ro: false,
+                    dom2: OTHER,
+                    gref: GrantRef(7),
+                },
+            },
+        ),
+        "ok",
+    ),
+    (
+        Do(
+            PEER,
+            Request::Map {
+                dom: OWNER,
+                gref: GrantRef(0),
+                flags: READ_ONLY,
+            },
+        ),
+        "N12 100020000009",
+    ),
+    (
+        Do(
+            PEER,
+            Request::Map {
+                dom: OWNER,
+                gref: GrantRef(1),
+                flags: READ_ONLY,
+            },
+        ),
+        "N12 100020000003",
+    ),
+];
+
+// A map looks at the older header, and then meets a sub-page.
+const SUB_PAGE_BEHIND_AN_OLDER_HEADER: [(Doing, &str); 5] = [
+    (
+        Begin(
+            PEER,
+            Request::Map {
+                dom: OWNER,
+                gref: GrantRef(0),
+                flags: READ_ONLY,
+            },
+        ),
+        "open",
+    ),
+    (Tick(PEER, 1), "open"),
+    (Do(OWNER, Request::SetVersion { version: 2 }), "ok"),
+    (
+        Do(
+            OWNER,
+            Request::Grant {
+                gref: GrantRef(0),
+                entry: Entry::Sub {
+                    dom: PEER,
+                    ro: false,
+                    frame: 5,
+                    off: 0,
+                    len: 4096,
+                },
+            },
+        ),
+        "ok",
+    ),
+    (Tick(PEER, 1), "N12 100020000009"),
+];
+
+// Calls on tables: one step each, and none where they change nothing.
+const STEPS_ON_HEADERS: [(Doing, &str); 10] = [
+    (
+        Steps(PEER, Request::QuerySize { dom: OWNER }),
+        "LookHeader { dom: DomId(1) } 5\nok frames=1 max=4",
+    ),
+    (
+        Steps(OWNER, Request::SetVersion { version: 2 }),
+        "StoreHeader { version: 2, frames: 1 } -\nok",
+    ),
+    (
+        Steps(PEER, Request::GetVersion { dom: OWNER }),
+        "LookHeader { dom: DomId(1) } 6\nok version=2",
+    ),
+    (
+        Steps(OWNER, Request::SetupTable { frames: 3 }),
+        "StoreHeader { version: 2, frames: 3 } -\nok frames=3",
+    ),
+    (
+        Steps(PEER, Request::QuerySize { dom: OWNER }),
+        "LookHeader { dom: DomId(1) } e\nok frames=3 max=4",
+    ),
+    (
+        Steps(OWNER, Request::SetVersion { version: 1 }),
+        "StoreHeader { version: 1, frames: 3 } -\nok",
+    ),
+    (
+        Steps(PEER, Request::GetVersion { dom: OWNER }),
+        "LookHeader { dom: DomId(1) } d\nok version=1",
+    ),
+    (Steps(OWNER, Request::SetVersion { version: 1 }), "ok"),
+    (
+        Steps(OWNER, Request::SetupTable { frames: 3 }),
+        "ok frames=3",
+    ),
+    (
+        Steps(OWNER, Request::SetupTable { frames: 0 }),
+        "ok frames=3",
+    ),
+];
+
+// A grant stores the body words, and then publishes.
+const STEPS_OF_GRANTS: [(Doing, &str); 3] = [
+    (
+        Steps(
+            OWNER,
+            Request::Grant {
+                gref: GrantRef(0),
+                entry: Entry::Sub {
+                    dom: PEER,
+                    ro: false,
+                    frame: 5,
+                    off: 100,
+                    len: 50,
+                },
+            },
+        ),
+        "StoreBody { gref: GrantRef(0), second: false, word: 5 } -\nStoreBody { gref: GrantRef(0), second: true, word: 3276900 } -\nExchange { gref: GrantRef(0), looked: 0, change: Publish(Sub { dom: DomId(2), ro: false, frame: 5, off: 100, len: 50 }) } taken\nok",
+    ),
+    (
+        Steps(
+            OWNER,
+            Request::Grant {
+                gref: GrantRef(1),
+                entry: Entry::Via {
+                    dom: PEER,
+                    ro: false,
+                    dom2: OTHER,
+                    gref: GrantRef(7),
+                },
+            },
+        ),
+        "StoreBody { gref: GrantRef(1), second: false, word: 458755 } -\nExchange { gref: GrantRef(1), looked: 0, change: Publish(Via { dom: DomId(2), ro: false, dom2: DomId(3), gref: GrantRef(7) }) } taken\nok",
+    ),
+    (
+        Steps(
+            OWNER,
+            Request::GrantBytes {
+                gref: GrantRef(2),
+                bytes: &[1, 1, 2, 0, 100, 0, 50, 0, 5, 0, 0, 0, 0, 0, 0, 0],
+            },
+        ),
+        "StoreBody { gref: GrantRef(2), second: false, word: 5 } -\nStoreBody { gref: GrantRef(2), second: true, word: 3276900 } -\nExchange { gref: GrantRef(2), looked: 0, change: Publish(Sub { dom: DomId(2), ro: false, frame: 5, off: 100, len: 50 }) } taken\nok",
+    ),
+];
+
+// Each run with the version of the tables and the first generation.
+const RUNS: [(u32, u32, &[(Doing, &str)]); 24] = [
+    (1, 0, &FIRST),
+    (1, 0, &REVOKE_BEFORE_THE_UNPIN),
+    (1, 0, &ANOTHER_GRANT_BEFORE_THE_PIN),
+    (1, 0, &READ_ONLY_PAGE),
+    (1, 0, &ANOTHER_DOMAIN),
+    (1, 0, &FOUR_MISSED_TRIES),
+    (1, 0, &FOURTH_TRY),
+    (1, 0, &PAST_THE_LAST),
+    (1, 0, &DEMOTED_UNDER_A_PIN),
+    (1, 1048574, &WORN),
+    (1, 0, &TAKEN_HANDLE),
+    (1, 0, &SHARED_PAGE),
+    (1, 0, &ORDER_OF_ACCESSES),
+    (1, 0, &STORE_BY_A_TAKEN_HANDLE),
+    (1, 0, &STORE_WITH_ITS_STEP),
+    (1, 0, &VERSION_IN_A_MAP),
+    (1, 0, &VERSIONS),
+    (2, 0, &SIZES),
+    (1, 0, &ENTRY_BYTES),
+    (2, 0, &SUB_PAGE_BYTES),
+    (2, 0, &NOT_MAPPED),
+    (1, 0, &SUB_PAGE_BEHIND_AN_OLDER_HEADER),
+    (1, 0, &STEPS_ON_HEADERS),
+    (2, 0, &STEPS_OF_GRANTS),
+];
+
+// A run: what comes of each that is done is what stands beside it.
+fn goes(
+    rt: &impl Abort,
+    core: &mut Core<Triples>,
+    alloc: Global,
+    rows: &[(Doing<'_>, &str)],
+) -> Result<(), Fail> {
+    for (doing, wanted) in rows {
+        let text = said(alloc, core, *doing)?;
+        assert_eq!(rt; text.as_str(), *wanted);
+    }
+    Ok(())
+}
+
+#[test]
+fn runs_go_as_they_must(rt: HostRuntime) -> Result<(), Fail> {
+    let alloc = rt.alloc();
+    for (version, first_gen, rows) in RUNS {
+        let mut core = start(alloc, version, first_gen)?;
+        goes(&rt, &mut core, alloc, rows)?;
+    }
+    Ok(())
+}

@@ -1,0 +1,134 @@
+//! Readers, writers and allocators that fail, after each count of bytes.
+use crate::scripts::{BYTES, BYTES_TEXT, FIRST, FIRST_TEXT, HEAD, STEPS, STEPS_TEXT};
+use gt_host::{PlayFault as Fault, play};
+use std::alloc::Global;
+use std::io::{self, ErrorKind, Read, Write};
+use std::process::Abort;
+use std::test::Fail;
+
+// A script of which so many bytes can be read; then each read fails.
+#[derive(Drop)]
+struct FailingReader<'a> {
+    bytes: &'a [u8],
+    left: usize,
+}
+
+impl<'a> Read for FailingReader<'a> {
+    fn read(&mut self, buf: &mut [u8]) -> io::Result<usize> {
+        if self.left == 0 {
+            return Err(io::Error::from(ErrorKind::ConnectionReset));
+        }
+        let bytes: &'a [u8] = self.bytes;
+        let count = buf.len().min(bytes.len()).min(self.left);
+        buf[..count].copy_from_slice(&bytes[..count]);
+        self.bytes = &bytes[count..];
+        self.left -= count;
+        Ok(count)
+    }
+}
+
+// Takes so many bytes, a few at a time; then each write fails.
+#[derive(Drop)]
+struct FailingWriter {
+    taken: Vec<u8>,
+    left: usize,
+}
+
+impl Write for FailingWriter {
+    fn write(&mut self, buf: &[u8]) -> io::Result<usize> {
+        if self.left == 0 {
+            return Err(io::Error::from(ErrorKind::BrokenPipe));
+        }
+        let count = buf.len().min(self.left).min(3);
+        self.taken.extend_from_slice(&buf[..count])?;
+        self.left -= count;
+        Ok(count)
+    }
+
+    fn flush(&mut self) -> io::Result<()> {
+        Ok(())
+    }
+}
+
+// Each read fails after so many bytes, for each number of them.
+#[test]
+fn a_reader_that_fails(rt: HostRuntime) -> Result<(), Fail> {
+    let alloc = rt.alloc();
+    for script in [FIRST.as_bytes(), BYTES.as_bytes()] {
+        for left in 0..script.len() {
+            let mut reader = FailingReader {
+                bytes: script,
+                left,
+            };
+            let mut writer = Vec::new(alloc);
+            let outcome = play(alloc, &mut reader, &mut writer, false);
+            let is_read = matches!(outcome, Err(Fault::Read)) && writer.is_empty();
+            assert!(rt; is_read, "after {left} bytes");
+        }
+    }
+    Ok(())
+}
+
+// Each write fails after so many bytes, for each number of them; and then none does.
+#[test]
+fn a_writer_that_fails(rt: HostRuntime) -> Result<(), Fail> {
+    let alloc = rt.alloc();
+    for (script, text) in [(FIRST, FIRST_TEXT), (BYTES, BYTES_TEXT)] {
+        for left in 0..=text.len() {
+            let is_short = left < text.len();
+            let mut reader = script.as_bytes();
+            let mut writer = FailingWriter {
+                taken: Vec::new(alloc),
+                left: if is_short { left } else { 4096 },
+            };
+            let outcome = play(alloc, &mut reader, &mut writer, false);
+            let is_told = match outcome {
+                Ok(()) => !is_short,
+                Err(fault) => is_short && matches!(fault, Fault::Write),
+            };
+            let is_beginning = writer.taken.as_slice() == &text.as_bytes()[..left];
+            assert!(rt; is_told && is_beginning, "after {left} bytes");
+        }
+    }
+    Ok(())
+}
+
+// For runs in which one allocation fails. Where that is one of `play`, it answers that memory was
+// refused, and what went out is a beginning of the text. The test's own room is asked for again.
+fn refused_at_most_once(
+    rt: &impl Abort,
+    alloc: Global,
+    script: &[u8],
+    text: &[u8],
+) -> Result<(), Fail> {
+    let mut reader = script;
+    let taken = match Vec::with_capacity(alloc, 4096) {
+        Ok(taken) => taken,
+        Err(_) => Vec::with_capacity(alloc, 4096)?,
+    };
+    let mut writer = FailingWriter { taken, left: 4096 };
+    match play(alloc, &mut reader, &mut writer, false) {
+        Ok(()) => assert_eq!(rt; writer.taken.as_slice(), text),
+        Err(fault) => {
+            assert!(rt; matches!(fault, Fault::Memory));
+            assert!(rt; text.starts_with(writer.taken.as_slice()));
+        }
+    }
+    Ok(())
+}
+
+#[test]
+fn memory_that_is_refused(rt: HostRuntime) -> Result<(), Fail> {
+    let script = match format!(in rt.alloc(); "{HEAD}{STEPS}") {
+        Ok(script) => script,
+        Err(_) => format!(in rt.alloc(); "{HEAD}{STEPS}")?,
+    };
+    for (script, text) in [
+        (FIRST, FIRST_TEXT),
+        (BYTES, BYTES_TEXT),
+        (script.as_str(), STEPS_TEXT),
+    ] {
+        refused_at_most_once(&rt, rt.alloc(), script.as_bytes(), text.as_bytes())?;
+    }
+    Ok(())
+}
