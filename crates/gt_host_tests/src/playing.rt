@@ -46,8 +46,8 @@ fn bytes_that_are_no_script(rt: HostRuntime) -> Result<(), Fail> {
     let bad = b"triple b_t a_t map_read\ntriple b_t a_t map_write\ntr\xff".as_slice();
     let long = vec![in rt.alloc(); b' '; 1_048_577]?;
     for (script, wanted) in [
-        (bad, "gthost: line 3: utf8"),
-        (long.as_slice(), "gthost: line 1: limit"),
+        (bad, "line 3: utf8"),
+        (long.as_slice(), "line 1: limit"),
     ] {
         let text = played(rt.alloc(), script)?;
         assert_eq!(rt; text.as_str(), wanted);
@@ -58,9 +58,9 @@ fn bytes_that_are_no_script(rt: HostRuntime) -> Result<(), Fail> {
 #[test]
 fn faults_without_a_line(rt: HostRuntime) -> Result<(), Fail> {
     let cases = [
-        (Fault::Memory, "gthost: memory"),
-        (Fault::Read, "gthost: read"),
-        (Fault::Write, "gthost: write"),
+        (Fault::Memory, "memory"),
+        (Fault::Read, "read"),
+        (Fault::Write, "write"),
     ];
     for (fault, want) in cases {
         let line = format!(in rt.alloc(); "{fault}")?;
