@@ -1,22 +1,31 @@
 //! Streams in memory, and streams that fail.
 use gt_streams::{ReadFault, WriteFault, finish, push_text, read_text, send, text_of, write_text};
+use std::alloc::Global;
 use std::io::{self, ErrorKind, Read, Write};
 use std::test::Fail;
 
-// A text of which so many bytes can be read, a few at a time; then each read fails.
+// A text of which so many bytes can be read, a few at a time, with an interruption before each read; then
+// each read fails as it says.
 #[derive(Drop)]
 struct FailingReader<'a> {
     bytes: &'a [u8],
     left: usize,
+    most: usize,
+    is_interrupted: bool,
+    end: ErrorKind,
 }
 
 impl<'a> Read for FailingReader<'a> {
     fn read(&mut self, buf: &mut [u8]) -> io::Result<usize> {
+        self.is_interrupted = !self.is_interrupted;
+        if self.is_interrupted {
+            return Err(io::Error::from(ErrorKind::Interrupted));
+        }
         if self.left == 0 {
-            return Err(io::Error::from(ErrorKind::ConnectionReset));
+            return Err(io::Error::from(self.end));
         }
         let bytes: &'a [u8] = self.bytes;
-        let count = buf.len().min(bytes.len()).min(self.left).min(3);
+        let count = buf.len().min(bytes.len()).min(self.left).min(self.most);
         buf[..count].copy_from_slice(&bytes[..count]);
         self.bytes = &bytes[count..];
         self.left -= count;
@@ -30,6 +39,7 @@ impl<'a> Read for FailingReader<'a> {
 struct FailingWriter {
     taken: Vec<u8>,
     left: usize,
+    most: usize,
     is_interrupted: bool,
     end: Option<ErrorKind>,
 }
@@ -46,7 +56,7 @@ impl Write for FailingWriter {
                 None => Ok(0),
             };
         }
-        let count = buf.len().min(self.left).min(3);
+        let count = buf.len().min(self.left).min(self.most);
         self.taken.extend_from_slice(&buf[..count])?;
         self.left -= count;
         Ok(count)
@@ -62,26 +72,83 @@ impl Write for FailingWriter {
 
 const TEXT: &[u8] = b"one line\nand another\n";
 
+// What comes of a reader that ends so behind so many bytes, of which it gives some at a time.
+fn read_behind(
+    alloc: Global,
+    bytes: &[u8],
+    left: usize,
+    most: usize,
+    end: ErrorKind,
+) -> Result<usize, ReadFault> {
+    let mut reader = FailingReader {
+        bytes,
+        left,
+        most,
+        is_interrupted: false,
+        end,
+    };
+    Ok(read_text(alloc, &mut reader)?.len())
+}
+
+// How many bytes are read of so many.
+fn length_read(alloc: Global, length: usize) -> Result<usize, ReadFault> {
+    let text = vec![in alloc; b' '; length].map_err(|_| ReadFault::Memory)?;
+    Ok(read_text(alloc, &mut text.as_slice())?.len())
+}
+
 #[test]
-fn reads_what_is_left(rt: HostRuntime) -> Result<(), Fail> {
-    let mut reader = TEXT;
-    let text = read_text(rt.alloc(), &mut reader);
-    assert!(rt; matches!(&text, Ok(bytes) if bytes.as_slice() == TEXT));
-    let long = vec![in rt.alloc(); b' '; 1_048_600]?;
-    match read_text(rt.alloc(), &mut long.as_slice()) {
-        Ok(bytes) => assert_eq!(rt; bytes.len(), 1_048_577),
-        Err(_) => assert!(rt; false),
+fn texts_up_to_the_limit(rt: HostRuntime) -> Result<(), Fail> {
+    for (length, want) in [
+        (0, 0),
+        (4_097, 4_097),
+        (1_048_577, 1_048_577),
+        (1_048_600, 1_048_577),
+    ] {
+        assert_eq!(rt; length_read(rt.alloc(), length), Ok(want));
     }
     Ok(())
 }
 
+// A read that fails is told as what it is; behind the limit there is none.
 #[test]
 fn a_reader_that_fails(rt: HostRuntime) -> Result<(), Fail> {
-    for left in 0..TEXT.len() {
-        let mut reader = FailingReader { bytes: TEXT, left };
-        let text = read_text(rt.alloc(), &mut reader);
-        assert!(rt; matches!(text, Err(ReadFault::Read)), "after {left} bytes");
+    let long = vec![in rt.alloc(); b' '; 1_048_600]?;
+    let cases = [
+        (0, 3, ErrorKind::ConnectionReset, Err(ReadFault::Read)),
+        (0, 3, ErrorKind::OutOfMemory, Err(ReadFault::Memory)),
+        (21, 3, ErrorKind::ConnectionReset, Err(ReadFault::Read)),
+        (21, 3, ErrorKind::OutOfMemory, Err(ReadFault::Memory)),
+        (
+            1_048_576,
+            5_000,
+            ErrorKind::UnexpectedEof,
+            Err(ReadFault::Read),
+        ),
+        (1_048_577, 5_000, ErrorKind::UnexpectedEof, Ok(1_048_577)),
+        (1_048_577, 1, ErrorKind::OutOfMemory, Ok(1_048_577)),
+    ];
+    for (left, most, end, want) in cases {
+        let read = read_behind(rt.alloc(), long.as_slice(), left, most, end);
+        assert_eq!(rt; read, want, "after {left} bytes");
     }
+    Ok(())
+}
+
+// As many writes as there are bytes, each behind an interruption.
+#[test]
+fn a_writer_of_single_bytes(rt: HostRuntime) -> Result<(), Fail> {
+    let text = vec![in rt.alloc(); b'.'; 70_000]?;
+    let mut writer = FailingWriter {
+        taken: Vec::new(rt.alloc()),
+        left: 70_000,
+        most: 1,
+        is_interrupted: false,
+        end: None,
+    };
+    assert_eq!(rt;
+        (write_text(&mut writer, text.as_slice()), writer.taken.len()),
+        (Ok(()), 70_000)
+    );
     Ok(())
 }
 
@@ -92,6 +159,7 @@ fn writes_go_on_until_all_is_out(rt: HostRuntime) -> Result<(), Fail> {
             let mut writer = FailingWriter {
                 taken: Vec::new(rt.alloc()),
                 left,
+                most: 3,
                 is_interrupted: false,
                 end,
             };
@@ -143,6 +211,7 @@ fn what_the_writer_holds_is_handed_on(rt: HostRuntime) -> Result<(), Fail> {
     let mut writer = FailingWriter {
         taken: Vec::new(rt.alloc()),
         left: TEXT.len(),
+        most: 3,
         is_interrupted: false,
         end: Some(ErrorKind::BrokenPipe),
     };

@@ -6,7 +6,7 @@ use Rattle.std.specs.Prelude.{◌==◌, is_some}
 use Rattle.gt_types.specs.Names.{domain_of}
 use Rattle.gt_types.specs.declared.DomId.{DomId}
 use Rattle.gt_types.specs.declared.GrantRef.{GrantRef}
-use Rattle.gt_script.specs.declared.calls.Call.{Call}
+use Rattle.gt_lines.specs.declared.calls.Call.{Call}
 use Rattle.gt_script.specs.declared.script.Step.{Step}
 use Rattle.gt_core.specs.History.{History, Setting, Underway, open_call, underway_after}
 use Rattle.gt_core.specs.Legal.{MayDo, IsRight, grown, LegalAfter, history_after, actor_of}

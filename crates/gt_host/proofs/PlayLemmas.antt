@@ -34,6 +34,10 @@ pub record IsUnderway (c : Contents) (steps : List Step) (domains : List State) 
   pub parts : progress.text ≡ sent ++ waiting
   pub went : Appends old now sent
 
+-- nothing waits yet
+pub few_wait : (waiting : List ℕ) → waiting ≡ [] → length waiting < 65536
+few_wait waiting none = rw none (omega arith)
+
 -- the setting of a core that starts with a script
 pub same_setting_of_script : (c : Contents) (core : Core Rights) → StartsFor c core → setting_of core.config (may_by core.rights) ≡ setting_of_script c
 same_setting_of_script c core starts =

@@ -1,5 +1,5 @@
 -- From what was read to what was played.
-use Rattle.std.proofs.Common.{◌≡◌, ℕ, List, take, Option, None, Some, Result, Ok, Err, OnOk, OnErr, IfSome, sym, subst, inl, inr}
+use Rattle.std.proofs.Common.{◌≡◌, ℕ, List, Option, Result, Ok, Err, OnOk, OnErr, sym, subst, inl, inr}
 use Rattle.std.specs.Io.KnownBytes.{Keeps}
 use Rattle.gt_script.specs.Contents.{Contents}
 use Rattle.gt_script.specs.Outcomes.{Answers}
@@ -13,7 +13,8 @@ use Rattle.gt_host.specs.declared.fault.Fault.TheVariants as runs
 use Rattle.gt_host.specs.declared.fault.PlayFault.{PlayFault}
 use Rattle.gt_host.specs.Faults.{fault_of, read_fault, ended}
 use Rattle.gt_host.specs.Playing.{BeginsRun, WritesRun, Played}
-use Rattle.gt_streams.specs.Laws.{keeps_same}
+use Rattle.gt_streams.specs.Laws.{keeps_same, of_any_input}
+use Rattle.gt_streams.specs.Streams.{OfInput}
 
 -- there is no script, and nothing went out
 no_script : (Told : Result Contents Wrong → Type 0) (error : ScriptError) (old new : Option (List ℕ)) → Answers (Err error) Told → Keeps old new → Played Told old new (Err (fault_of error))
@@ -35,17 +36,11 @@ pub played_run : (Told : Result Contents Wrong → Type 0) (c : Contents) (r : R
     → OnOk r (WritesRun c old new) → OnErr r (BeginsRun c old new) → t ≡ ended r → Played Told old new t
 played_run Told c r t old new told whole begun is = subst (λ (q : Result (Unit {0}) PlayFault). Played Told old new q) (sym is) (run-told Told c r old new told whole begun)
 
--- what the bytes up to the limit say is what all of them say
-pub played_all : (known old new : Option (List ℕ)) (bytes : List ℕ) (r : Result (Unit {0}) PlayFault) → IfSome known (λ all. bytes ≡ take 1048577 all)
-    → ((all : List ℕ) → bytes ≡ take 1048577 all → Played (Tells all) old new r) → IfSome known (λ all. Played (Tells all) old new r)
-played_all None old new bytes r e h = tt
-played_all (Some all) old new bytes r e h = h all e
-
 -- nothing could be read
 unread : (Told : Result Contents Wrong → Type 0) (old : Option (List ℕ)) (error : ReadFault) → Played Told old old (Err (read_fault error))
 unread Told old reads.Memory = inl (keeps_same old)
 unread Told old reads.Read = keeps_same old
 
-pub played_unread : (known old : Option (List ℕ)) (error : ReadFault) (fault : PlayFault) → fault ≡ read_fault error → IfSome known (λ input. Played (Tells input) old old (Err fault))
-played_unread None old error fault is = tt
-played_unread (Some all) old error fault is = subst (λ (f : PlayFault). Played (Tells all) old old (Err f)) (sym is) (unread (Tells all) old error)
+pub played_unread : (known old : Option (List ℕ)) (error : ReadFault) (fault : PlayFault) → fault ≡ read_fault error → OfInput known (λ input. Played (Tells input) old old (Err fault))
+played_unread known old error fault is =
+    of_any_input known (λ (input : List ℕ). Played (Tells input) old old (Err fault)) (λ (input : List ℕ). subst (λ (f : PlayFault). Played (Tells input) old old (Err f)) (sym is) (unread (Tells input) old error))

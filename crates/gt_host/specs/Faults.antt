@@ -1,5 +1,7 @@
 -- What ends a run, as its caller is told.
-use Rattle.std.specs.Prelude.{Result, Ok, Err}
+use Rattle.std.specs.Prelude.{ℕ, List, Result, Ok, Err, codes}
+use Rattle.gt_policy.specs.Texts.{fault_text as policy_fault_text}
+use Rattle.gt_script.specs.Faults.{fault_text}
 use Rattle.gt_script.specs.declared.faults.ScriptError.{ScriptError}
 use Rattle.gt_script.specs.declared.faults.ScriptError.TheVariants as errors
 use Rattle.gt_streams.specs.declared.fault.ReadFault.{ReadFault}
@@ -25,3 +27,11 @@ abbrev pub ended : Result (Unit {0}) Fault → Result (Unit {0}) PlayFault
 ended (Ok done) = Ok done
 ended (Err runs.Memory) = Err faults.Memory
 ended (Err runs.Write) = Err faults.Write
+
+-- what ends a run, as one line: a fault of the script with its line, or a word (own)
+abbrev pub play_fault_text : PlayFault → List ℕ
+play_fault_text (faults.Script fault) = fault_text fault
+play_fault_text (faults.Policy fault) = policy_fault_text fault.line fault.kind
+play_fault_text faults.Memory = codes "memory"
+play_fault_text faults.Read = codes "read"
+play_fault_text faults.Write = codes "write"

@@ -4,20 +4,20 @@ use Rattle.gt_types.specs.Rights.{is_listed}
 use Rattle.gt_types.specs.declared.TypeId.{TypeId}
 use Rattle.gt_types.specs.declared.perms.Perms.{Perms}
 use Rattle.gt_types.specs.declared.rights.Triple.{Triple}
-use Rattle.gt_policy.specs.Allowing.{may_of}
-use Rattle.gt_policy.specs.Allowing as policies
+use Rattle.gt_allow.specs.Looking.{looks}
+use Rattle.gt_policy.specs.Allowing.{Allowed}
 use Rattle.gt_script.specs.Contents.{Contents}
 use Rattle.gt_host.specs.declared.rights.Rights.{Rights}
 use Rattle.gt_host.specs.declared.rights.Rights.TheVariants as rights
 
 -- what these rights allow (own)
 abbrev pub may_by : Rights → TypeId → TypeId → Perms → Bool
-may_by (rights.Policy p) source target perm = may_of p.now source.0 target.0 perm
+may_by (rights.Table t) source target perm = looks t source.0 target.0 perm
 may_by (rights.Triples t) source target perm = is_listed t.allowed.items source target perm
 
 -- what a policy allows, or where there is none these triples (own)
-abbrev pub may_with : Option policies.Rights → List Triple → TypeId → TypeId → Perms → Bool
-may_with (Some p) triples source target perm = may_of p source.0 target.0 perm
+abbrev pub may_with : Option Allowed → List Triple → TypeId → TypeId → Perms → Bool
+may_with (Some a) triples source target perm = a.may source.0 target.0 perm
 may_with None triples source target perm = is_listed triples source target perm
 
 -- what a script allows: what the policy of its block says, or what its triples list (own)

@@ -7,13 +7,13 @@ use Rattle.gt_types.specs.declared.GrantRef.{GrantRef}
 use Rattle.gt_types.specs.declared.config.DomainConfig.{DomainConfig}
 use Rattle.gt_entry.specs.declared.entry.Entry.{Entry}
 use Rattle.gt_entry.specs.declared.entry.Entry.TheVariants as entries
-use Rattle.gt_script.specs.Hexadecimal.{hex_bytes}
-use Rattle.gt_script.specs.declared.calls.Grant.{Grant}
-use Rattle.gt_script.specs.declared.calls.Grant.TheVariants as grants
-use Rattle.gt_script.specs.declared.calls.Call.{Call}
-use Rattle.gt_script.specs.declared.calls.Call.TheVariants as calls
-use Rattle.gt_script.specs.declared.calls.Action.{Action}
-use Rattle.gt_script.specs.declared.calls.Action.TheVariants as actions
+use Rattle.gt_lines.specs.Hexadecimal.{hex_bytes}
+use Rattle.gt_lines.specs.declared.calls.Grant.{Grant}
+use Rattle.gt_lines.specs.declared.calls.Grant.TheVariants as grants
+use Rattle.gt_lines.specs.declared.calls.Call.{Call}
+use Rattle.gt_lines.specs.declared.calls.Call.TheVariants as calls
+use Rattle.gt_lines.specs.declared.calls.Action.{Action}
+use Rattle.gt_lines.specs.declared.calls.Action.TheVariants as actions
 use Rattle.gt_script.specs.declared.script.Step.{Step}
 use Rattle.gt_handles.specs.declared.handles.Handle.{Handle}
 use Rattle.gt_calls.specs.declared.request.Request.{Request}

@@ -1,74 +1,12 @@
 //! What a run prints: a line for each answer.
-ghost use Rattle.std.specs.Prelude.{◌≡◌, ◌++◌, OnOk, codes};
-ghost use Rattle.gt_host.specs.Printing.{type_text, facts_text, denial_text, bytes_text, part_text, answer_text, call_text, answer_line, busy_line, idle_line, open_line};
+ghost use Rattle.std.specs.Prelude.{◌≡◌, ◌++◌, OnOk};
+ghost use Rattle.gt_host.specs.Printing.{bytes_text, answer_text, call_text, answer_line, busy_line, idle_line, open_line};
 
 use gt_core::Answer;
-use gt_script::Text;
-use gt_streams::push_text;
-use gt_types::{Denial, DomId, Facts, TypeId};
-use itoa::{Buffer, Integer};
+use gt_lines::Text;
+use gt_texts::{push_denial, push_frames, push_number, push_size, push_text, push_version};
+use gt_types::DomId;
 use std::alloc::{AllocError, Global};
-
-/// Appends a number, in decimal digits.
-pub fn push_number<I: Integer>(out: &mut Vec<u8>, number: I) -> Result<(), AllocError>
-    ensures { OnOk result (out.new.items ≡ out.old.items ++ I.text number) }
-{
-    let mut buffer = Buffer::new();
-    push_text(out, buffer.format(number))
-}
-
-/// Appends ` NAME=NUMBER`. After an Err a part of it may stand.
-pub fn push_part<I: Integer>(out: &mut Vec<u8>, name: &str, number: I) -> Result<(), AllocError>
-    ensures { OnOk result (out.new.items ≡ out.old.items ++ codes " " ++ name.now ++ codes "=" ++ I.text number) }
-{
-    push_text(out, " ")?;
-    push_text(out, name)?;
-    push_text(out, "=")?;
-    push_number(out, number)
-}
-
-fn push_type(out: &mut Vec<u8>, names: &[Text], id: TypeId) -> Result<(), AllocError>
-    ensures { OnOk result (out.new.items ≡ out.old.items ++ type_text names.now id) }
-{
-    match names.get(usize::from(id.0)) {
-        Some(name) => out.extend_from_slice(name.as_bytes()),
-        None => Ok(()),
-    }
-}
-
-fn push_facts(out: &mut Vec<u8>, names: &[Text], facts: Facts) -> Result<(), AllocError>
-    ensures { OnOk result (out.new.items ≡ out.old.items ++ facts_text names.now facts) }
-{
-    match facts {
-        Facts::Policy {
-            source,
-            target,
-            perm,
-        } => {
-            push_text(out, " source=")?;
-            push_type(out, names, source)?;
-            push_text(out, " target=")?;
-            push_type(out, names, target)?;
-            push_text(out, " perm=")?;
-            push_text(out, perm.name())
-        }
-        Facts::Field(field) => {
-            push_text(out, " field=")?;
-            push_text(out, field.name())
-        }
-        Facts::None | Facts::Header { .. } | Facts::Entry { .. } => Ok(()),
-    }
-}
-
-fn push_denial(out: &mut Vec<u8>, names: &[Text], denial: Denial) -> Result<(), AllocError>
-    ensures { OnOk result (out.new.items ≡ out.old.items ++ denial_text names.now denial) }
-{
-    push_text(out, "N")?;
-    push_number(out, denial.rule.number())?;
-    push_text(out, " ")?;
-    push_number(out, denial.status.number())?;
-    push_facts(out, names, denial.facts)
-}
 
 fn push_bytes(alloc: Global, out: &mut Vec<u8>, bytes: &[u8]) -> Result<(), AllocError>
     ensures { OnOk result (out.new.items ≡ out.old.items ++ bytes_text bytes.now) }
@@ -95,19 +33,9 @@ fn push_answer(
             push_text(out, "ok")?;
             push_bytes(alloc, out, answered.bytes.as_slice())
         }
-        Answer::Frames(frames) => {
-            push_text(out, "ok")?;
-            push_part(out, "frames", *frames)
-        }
-        Answer::Size(size) => {
-            push_text(out, "ok")?;
-            push_part(out, "frames", size.frames)?;
-            push_part(out, "max", size.max)
-        }
-        Answer::Version(version) => {
-            push_text(out, "ok")?;
-            push_part(out, "version", *version)
-        }
+        Answer::Frames(frames) => push_frames(out, *frames),
+        Answer::Size(size) => push_size(out, *size),
+        Answer::Version(version) => push_version(out, *version),
         Answer::Denied(denial) => push_denial(out, names, *denial),
     }
 }

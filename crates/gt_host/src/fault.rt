@@ -3,7 +3,8 @@ use gt_script::{BlockFault, Fault as ScriptFault, ScriptError};
 use gt_streams::{ReadFault, WriteFault};
 use gt_types::Memory;
 use std::alloc::{AllocError, AllocFailed};
-use thiserror::Error;
+use std::error::Error;
+use std::fmt;
 
 /// Why the steps of a script were not run to their end. A beginning of the text was written.
 #[derive(Clone, Copy, Debug, PartialEq, Eq)]
@@ -58,25 +59,39 @@ impl From<WriteFault> for Fault {
     }
 }
 
-/// Why a run did not end well. It prints as the one line that goes to standard error.
-#[derive(Debug, Drop, Error)]
+/// Why a run did not end well. It prints as one line, without its end.
+#[derive(Debug, Drop)]
 pub enum PlayFault {
     /// The first fault of the script, with the number of its line. Nothing was written.
-    #[error("gthost: {0}")]
     Script(ScriptFault),
     /// The first fault of the script, where it is one of its policy block. Nothing was written.
-    #[error("gthost: {0}")]
     Policy(BlockFault),
     /// Memory was refused. A beginning of the text was written.
-    #[error("gthost: memory")]
     Memory,
     /// A read failed, or the script can't be opened. Nothing was written.
-    #[error("gthost: read")]
     Read,
     /// A write failed. A beginning of the text was written.
-    #[error("gthost: write")]
     Write,
 }
+
+impl fmt::Display for PlayFault {
+    ghost use Rattle.std.specs.Prelude.{Some};
+    ghost use Rattle.gt_host.specs.Faults.{play_fault_text};
+
+    ghost output = { λ fault. Some (play_fault_text fault) };
+
+    fn fmt<W: fmt::Write>(&self, f: &mut fmt::Formatter<W>) -> fmt::Result {
+        match self {
+            PlayFault::Script(fault) => write!(f, "{fault}"),
+            PlayFault::Policy(fault) => write!(f, "{fault}"),
+            PlayFault::Memory => f.write_str("memory"),
+            PlayFault::Read => f.write_str("read"),
+            PlayFault::Write => f.write_str("write"),
+        }
+    }
+}
+
+impl Error for PlayFault {}
 
 impl From<ScriptError> for PlayFault {
     ghost use Rattle.std.specs.Prelude.{◌≡◌};

@@ -1,10 +1,13 @@
 //! A script in, and the lines of its run out.
-ghost use Rattle.std.specs.Prelude.{◌≡◌, ◌⊎◌, ◌++◌, ℕ, List, take, OnOk, OnErr, IfOk, IfErr, IfSome};
+ghost use Rattle.std.specs.Prelude.{◌≡◌, ◌⊎◌, ◌++◌, ℕ, List, take, OnOk, OnErr, IfOk, IfErr};
 ghost use Rattle.std.specs.Option.{option_map};
+ghost use Rattle.gt_script.specs.Contents.{told};
 ghost use Rattle.gt_script.specs.Script.{Tells};
 ghost use Rattle.gt_host.specs.declared.fault.Fault.TheVariants as faults;
 ghost use Rattle.gt_host.specs.OpenCalls.{call_in};
 ghost use Rattle.gt_host.specs.Runs.{open_text, open_lines};
+ghost use Rattle.gt_streams.specs.Streams.{OfInput, ConsumesAtMost};
+ghost use Rattle.gt_streams.specs.declared.streams.TheConstants.{READ_LIMIT};
 ghost use Rattle.gt_host.specs.Playing.{CanStart, StartsFor, WritesRun, BeginsRun, Played};
 
 use crate::answers::push_open_line;
@@ -21,9 +24,9 @@ use std::alloc::{AllocError, Global};
 use std::io::{Read, Write};
 
 // A core with the domains and the rights of the script.
-fn start<'s, 'a>(alloc: Global, script: &'s Script<'a>) -> Result<Core<Rights<'s>>, Fault>
-    requires { CanStart script.now }
-    ensures starts { IfOk result (StartsFor script.entry.now) }
+fn start<'s, 'a>(alloc: Global, script: &'s Script<'a>) -> Result<Core<Rights>, Fault>
+    requires { CanStart (told script.now) }
+    ensures starts { IfOk result (StartsFor (told script.entry.now)) }
     ensures errors { IfErr result (λ e. e ≡ faults.Memory) }
 {
     let config = Config {
@@ -65,14 +68,14 @@ fn push_open_lines(
 // Runs the steps of the script, and writes their lines.
 fn write_lines<'s, 'a, W: Write>(
     alloc: Global,
-    core: &mut Core<Rights<'s>>,
+    core: &mut Core<Rights>,
     script: &'s Script<'a>,
     writer: &mut W,
 ) -> Result<(), Fault>
-    requires can { CanStart script.now }
-    requires starts { StartsFor script.now core.old }
-    ensures whole { OnOk result (WritesRun script.now (W.contents writer.old) (W.contents writer.new)) }
-    ensures beginning { OnErr result (BeginsRun script.now (W.contents writer.old) (W.contents writer.new)) }
+    requires can { CanStart (told script.now) }
+    requires starts { StartsFor (told script.now) core.old }
+    ensures whole { OnOk result (WritesRun (told script.now) (W.contents writer.old) (W.contents writer.new)) }
+    ensures beginning { OnErr result (BeginsRun (told script.now) (W.contents writer.old) (W.contents writer.new)) }
     ensures errors { IfErr result (λ e. (e ≡ faults.Memory) ⊎ (e ≡ faults.Write)) }
 {
     let types = script.type_names(alloc)?;
@@ -90,9 +93,9 @@ fn write_lines<'s, 'a, W: Write>(
 
 // Runs the script, and writes its lines.
 fn write_run<W: Write>(alloc: Global, script: &Script, writer: &mut W) -> Result<(), Fault>
-    requires { CanStart script.now }
-    ensures whole { OnOk result (WritesRun script.now (W.contents writer.old) (W.contents writer.new)) }
-    ensures beginning { OnErr result (BeginsRun script.now (W.contents writer.old) (W.contents writer.new)) }
+    requires { CanStart (told script.now) }
+    ensures whole { OnOk result (WritesRun (told script.now) (W.contents writer.old) (W.contents writer.new)) }
+    ensures beginning { OnErr result (BeginsRun (told script.now) (W.contents writer.old) (W.contents writer.new)) }
     ensures errors { IfErr result (λ e. (e ≡ faults.Memory) ⊎ (e ≡ faults.Write)) }
 {
     let mut core = start(alloc, script)?;
@@ -122,8 +125,9 @@ pub fn play<R: Read, W: Write>(
     writer: &mut W,
     audit: bool,
 ) -> Result<(), PlayFault>
-    ensures { IfSome (R.remaining reader.old) (λ input.
+    ensures text { OfInput (R.remaining reader.old) (λ input.
         Played (Tells input) (W.contents writer.old) (W.contents writer.new) result) }
+    ensures read { ConsumesAtMost READ_LIMIT (R.remaining reader.old) (R.remaining reader.new) }
 {
     let _ = audit;
     match read_text(alloc, reader) {

@@ -1,40 +1,41 @@
-//! The rights of a run: those of the script's policy, or its triples.
+//! The rights of a run: those of the script's policy, compiled, or its triples.
 ghost use Rattle.std.specs.Prelude.{◌≡◌, IfOk};
 
-use gt_policy::Policy;
+use gt_allow::AllowTable;
 use gt_script::Script;
-use gt_types::{Allows, Perms, Triples, TypeId};
-use std::alloc::{AllocError, Global};
+use gt_types::{Allows, Memory, Perms, Triples, TypeId};
+use std::alloc::Global;
 
 /// What the head of a script allows: what its policy says, or what its triples list.
 #[derive(Drop)]
-pub enum Rights<'s> {
-    Policy(&'s Policy),
+pub enum Rights {
+    Table(AllowTable),
     Triples(Triples),
 }
 
-impl<'s> Allows for Rights<'s> {
+impl Allows for Rights {
     ghost use Rattle.gt_host.specs.Rights.{may_by};
 
     ghost may = { λ rights source target perm. may_by rights source target perm };
 
     fn allows(&self, source: TypeId, target: TypeId, perm: Perms) -> bool {
         match self {
-            Rights::Policy(policy) => policy.allows(source, target, perm),
+            Rights::Table(table) => table.allows(source, target, perm),
             Rights::Triples(triples) => triples.allows(source, target, perm),
         }
     }
 }
 
-impl<'s> Rights<'s> {
+impl Rights {
+    ghost use Rattle.gt_script.specs.Contents.{told};
     ghost use Rattle.gt_host.specs.Rights.{may_by, may_in};
 
     /// The rights that the script's head gives.
-    pub fn of<'a>(alloc: Global, script: &'s Script<'a>) -> Result<Rights<'s>, AllocError>
-        ensures { IfOk result (λ rights. may_by rights ≡ may_in script.entry.now) }
+    pub fn of<'s, 'a>(alloc: Global, script: &'s Script<'a>) -> Result<Rights, Memory>
+        ensures { IfOk result (λ rights. may_by rights ≡ may_in (told script.entry.now)) }
     {
         if let Some(policy) = script.policy() {
-            return Ok(Rights::Policy(policy));
+            return Ok(Rights::Table(AllowTable::compile(alloc, policy)?));
         }
         Ok(Rights::Triples(Triples {
             allowed: Vec::from_slice(alloc, script.triples())?,

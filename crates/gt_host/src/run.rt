@@ -19,7 +19,8 @@ use crate::outcome::{Outcome, TICKS_OF_A_CALL};
 use crate::showing::push_show_line;
 use gt_core::{Answer, Begun, Core, Request, Ticked};
 use gt_entry::Entry;
-use gt_script::{Action, Call, Grant, Step, Text, hex_bytes};
+use gt_lines::{Action, Call, Grant, Text, hex_bytes};
+use gt_script::Step;
 use gt_types::{Allows, DomId, Memory};
 use std::alloc::{AllocError, Global};
 

@@ -2,10 +2,9 @@
 ghost use Rattle.std.specs.Prelude.{◌≡◌, ◌++◌, OnOk, codes};
 ghost use Rattle.gt_host.specs.Showing.{mode_text, kind_text, part_text, range_text, entry_text, counts_text, status_text, shown_text, show_line};
 
-use crate::answers::{push_number, push_part};
 use gt_core::Shown;
 use gt_entry::{Control, Entry, status_word};
-use gt_streams::push_text;
+use gt_texts::{push_number, push_part, push_text};
 use gt_types::{DomId, GrantRef};
 use std::alloc::{AllocError, Global};
 

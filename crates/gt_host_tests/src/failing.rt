@@ -27,7 +27,7 @@ impl<'a> Read for FailingReader<'a> {
     }
 }
 
-// Takes so many bytes, a few at a time; then each write fails.
+// Takes so many bytes, a few at a time; then each write fails, and each flush.
 #[derive(Drop)]
 struct FailingWriter {
     taken: Vec<u8>,
@@ -46,6 +46,9 @@ impl Write for FailingWriter {
     }
 
     fn flush(&mut self) -> io::Result<()> {
+        if self.left == 0 {
+            return Err(io::Error::from(ErrorKind::BrokenPipe));
+        }
         Ok(())
     }
 }
@@ -69,24 +72,24 @@ fn a_reader_that_fails(rt: HostRuntime) -> Result<(), Fail> {
     Ok(())
 }
 
-// Each write fails after so many bytes, for each number of them; and then none does.
+// Each write fails after so many bytes, for each number of them; then the flush alone, and then nothing.
 #[test]
 fn a_writer_that_fails(rt: HostRuntime) -> Result<(), Fail> {
     let alloc = rt.alloc();
     for (script, text) in [(FIRST, FIRST_TEXT), (BYTES, BYTES_TEXT)] {
-        for left in 0..=text.len() {
-            let is_short = left < text.len();
+        for left in 0..text.len() + 2 {
+            let is_short = left <= text.len();
             let mut reader = script.as_bytes();
             let mut writer = FailingWriter {
                 taken: Vec::new(alloc),
-                left: if is_short { left } else { 4096 },
+                left,
             };
             let outcome = play(alloc, &mut reader, &mut writer, false);
             let is_told = match outcome {
                 Ok(()) => !is_short,
                 Err(fault) => is_short && matches!(fault, Fault::Write),
             };
-            let is_beginning = writer.taken.as_slice() == &text.as_bytes()[..left];
+            let is_beginning = writer.taken.as_slice() == &text.as_bytes()[..left.min(text.len())];
             assert!(rt; is_told && is_beginning, "after {left} bytes");
         }
     }

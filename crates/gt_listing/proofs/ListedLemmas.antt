@@ -1,10 +1,11 @@
 -- From what was read and written to what is listed.
-use Rattle.std.proofs.Common.{◌≡◌, ◌⊎◌, ℕ, ◌+◌, ◌<◌, ◌≤◌, List, length, length-take, take, min, Option, None, Some, Result, Ok, Err, OnOk, OnErr, IfErr, IfSome, refl, sym, subst, ◌∙◌, inl, inr, arith}
+use Rattle.std.proofs.Common.{◌≡◌, ◌⊎◌, ℕ, ◌+◌, ◌<◌, ◌≤◌, List, length, length-take, take, min, Option, Some, Result, Ok, Err, OnOk, OnErr, IfErr, refl, sym, ap, subst, ◌∙◌, inl, inr, arith, Bool}
 use Rattle.std.proofs.lemmas.List.{take_all}
 use Rattle.std.specs.Io.KnownBytes.{Appends}
 use Rattle.std.specs.Str.{IsUtf8}
 use Rattle.gt_types.specs.declared.TypeId.{TypeId}
-use Rattle.gt_policy.specs.Allowing.{Meaning, Rights, Shows, may_of, is_allowed}
+use Rattle.gt_types.specs.declared.perms.Perms.{Perms}
+use Rattle.gt_policy.specs.Allowing.{Meaning, Rights, Allowed, Shows, may_of}
 use Rattle.gt_policy.specs.Grammar.{at}
 use Rattle.gt_policy.specs.Listing.{AreByName}
 use Rattle.gt_policy.specs.Shown.{fault_shown}
@@ -19,20 +20,20 @@ use Rattle.gt_listing.specs.declared.fault.Fault.{Fault}
 use Rattle.gt_listing.specs.declared.fault.Fault.TheVariants as faults
 use Rattle.gt_listing.specs.Faults.{fault_of, read_fault}
 use Rattle.gt_listing.specs.Reading.{IsNoText}
-use Rattle.gt_streams.specs.Laws.{keeps_same}
-use Rattle.gt_streams.specs.Streams.{AppendsBeginning}
+use Rattle.gt_streams.specs.Laws.{keeps_same, of_any_input}
+use Rattle.gt_streams.specs.Streams.{AppendsBeginning, OfInput}
 use Rattle.gt_listing.specs.Writing.{IsListing, Listed, Parsed, Writes, text_with}
-use Rattle.gt_listing.proofs.LineLemmas.{listing_same}
+use Rattle.gt_listing.specs.Listing.{listing}
 
 -- the lines went out, or a beginning of them
-pub writes : (p : Rights) (ids : List TypeId) (old new : Option (List ℕ)) (r : Result (Unit {0}) Fault) → AreByName p.types ids → OnOk r (Appends old new (text_with p ids)) → OnErr r (AppendsBeginning old new (text_with p ids))
-    → IfErr r (λ e. (e ≡ faults.Memory) ⊎ (e ≡ faults.Write)) → Writes p old new r
-writes p ids old new (Ok done) named whole begun few = (ids, named, whole)
-writes p ids old new (Err faults.Write) named whole begun few = (ids, named, begun)
-writes p ids old new (Err faults.Memory) named whole begun few = inr (ids, named, begun)
-writes p ids old new (Err faults.Read) named whole begun few = elim few [ inl e ↦ cc | inr e ↦ cc ]
-writes p ids old new (Err (faults.Utf8 line)) named whole begun few = elim few [ inl e ↦ cc | inr e ↦ cc ]
-writes p ids old new (Err (faults.Policy shown)) named whole begun few = elim few [ inl e ↦ cc | inr e ↦ cc ]
+pub writes : (p : Rights) (may : ℕ → ℕ → Perms → Bool) (ids : List TypeId) (old new : Option (List ℕ)) (r : Result (Unit {0}) Fault) → may ≡ may_of p → AreByName p.types ids → OnOk r (Appends old new (listing p.types may ids))
+    → OnErr r (AppendsBeginning old new (listing p.types may ids)) → IfErr r (λ e. (e ≡ faults.Memory) ⊎ (e ≡ faults.Write)) → Writes p old new r
+writes p may ids old new (Ok done) same named whole begun few = (ids, named, subst (λ (f : ℕ → ℕ → Perms → Bool). Appends old new (listing p.types f ids)) same whole)
+writes p may ids old new (Err faults.Write) same named whole begun few = (ids, named, subst (λ (f : ℕ → ℕ → Perms → Bool). AppendsBeginning old new (listing p.types f ids)) same begun)
+writes p may ids old new (Err faults.Memory) same named whole begun few = inr (ids, named, subst (λ (f : ℕ → ℕ → Perms → Bool). AppendsBeginning old new (listing p.types f ids)) same begun)
+writes p may ids old new (Err faults.Read) same named whole begun few = elim few [ inl e ↦ cc | inr e ↦ cc ]
+writes p may ids old new (Err (faults.Utf8 line)) same named whole begun few = elim few [ inl e ↦ cc | inr e ↦ cc ]
+writes p may ids old new (Err (faults.Policy shown)) same named whole begun few = elim few [ inl e ↦ cc | inr e ↦ cc ]
 
 -- memory ran out before a line
 pub writes_nothing : (p : Rights) (old : Option (List ℕ)) (fault : Fault) → fault ≡ faults.Memory → Writes p old old (Err fault)
@@ -41,7 +42,7 @@ writes_nothing p old fault is = subst (λ (f : Fault). Writes p old old (Err f))
 -- the text of what is kept is that of the meaning
 is_listing : (p : Rights) (m : Meaning) (ids : List TypeId) → Shows p m → AreByName p.types ids → IsListing m (text_with p ids)
 is_listing p m ids shows named =
-    (ids, subst (λ (l : List (List ℕ)). AreByName l ids) shows.types named, listing_same p.types m.types (may_of p) (is_allowed m) ids shows.types shows.may)
+    (ids, subst (λ (l : List (List ℕ)). AreByName l ids) (ap (λ (a : Allowed). a.types) shows) named, ap (λ (a : Allowed). listing a.types a.may ids) shows)
 
 pub parsed : (p : Rights) (m : Meaning) (text : List ℕ) (old new : Option (List ℕ)) (r : Result (Unit {0}) Fault) → Says text (Ok m) → Shows p m → Writes p old new r → Parsed text old new r
 parsed p m text old new (Ok done) says shows w = (m, says, (text_with p w.0, is_listing p m w.0 shows w.1, w.2))
@@ -104,16 +105,11 @@ listed_no all bytes faults.Memory old read h = absurd h
 listed_no all bytes faults.Read old read h = absurd h
 listed_no all bytes faults.Write old read h = absurd h
 
-pub listed_all : (known old new : Option (List ℕ)) (bytes : List ℕ) (r : Result (Unit {0}) Fault) → IfSome known (λ all. bytes ≡ take 1048577 all)
-    → ((all : List ℕ) → bytes ≡ take 1048577 all → Listed all old new r) → IfSome known (λ all. Listed all old new r)
-listed_all None old new bytes r e h = tt
-listed_all (Some all) old new bytes r e h = h all e
-
 -- nothing could be read
 unread : (all : List ℕ) (old : Option (List ℕ)) (error : ReadFault) → Listed all old old (Err (read_fault error))
 unread all old reads.Memory = inl (keeps_same old)
 unread all old reads.Read = keeps_same old
 
-pub listed_unread : (known old : Option (List ℕ)) (error : ReadFault) (fault : Fault) → fault ≡ read_fault error → IfSome known (λ all. Listed all old old (Err fault))
-listed_unread None old error fault is = tt
-listed_unread (Some all) old error fault is = subst (λ (f : Fault). Listed all old old (Err f)) (sym is) (unread all old error)
+pub listed_unread : (known old : Option (List ℕ)) (error : ReadFault) (fault : Fault) → fault ≡ read_fault error → OfInput known (λ input. Listed input old old (Err fault))
+listed_unread known old error fault is =
+    of_any_input known (λ (input : List ℕ). Listed input old old (Err fault)) (λ (input : List ℕ). subst (λ (f : Fault). Listed input old old (Err f)) (sym is) (unread input old error))

@@ -1,5 +1,7 @@
 -- Faults of a policy and of a read as faults of a listing.
-use Rattle.std.specs.Prelude.{ℕ}
+use Rattle.std.specs.Prelude.{ℕ, List, ◌++◌, codes}
+use Rattle.std.specs.Fmt.{decimal}
+use Rattle.gt_policy.specs.Texts.{fault_text}
 use Rattle.gt_policy.specs.declared.parse.FaultKind.{FaultKind}
 use Rattle.gt_policy.specs.declared.parse.FaultKind.TheVariants as kinds
 use Rattle.gt_streams.specs.declared.fault.ReadFault.{ReadFault}
@@ -21,3 +23,11 @@ fault_of line kinds.Limit = faults.Policy (record { line = line; kind = kinds.Li
 abbrev pub read_fault : ReadFault → Fault
 read_fault reads.Memory = faults.Memory
 read_fault reads.Read = faults.Read
+
+-- what ends a listing, as one line: a fault of the text with its line, or a word (own)
+abbrev pub listing_fault_text : Fault → List ℕ
+listing_fault_text (faults.Utf8 line) = codes "line " ++ decimal line ++ codes ": utf8"
+listing_fault_text (faults.Policy fault) = fault_text fault.line fault.kind
+listing_fault_text faults.Memory = codes "memory"
+listing_fault_text faults.Read = codes "read"
+listing_fault_text faults.Write = codes "write"

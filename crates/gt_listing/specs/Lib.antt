@@ -1,5 +1,5 @@
 pub mod Faults
+pub mod Lines
 pub mod Listing
 pub mod Reading
-pub mod Rights
 pub mod Writing

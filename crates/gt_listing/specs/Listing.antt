@@ -1,14 +1,10 @@
 -- The lines of the triples that are allowed.
-use Rattle.std.specs.Prelude.{ℕ, Bool, List, [], ◌∷◌, ◌++◌, codes, map, filter, flat_map}
+use Rattle.std.specs.Prelude.{ℕ, Bool, List, ◌++◌, codes, map, filter, flat_map}
 use Rattle.gt_types.specs.Names as names
 use Rattle.gt_types.specs.declared.TypeId.{TypeId}
 use Rattle.gt_types.specs.declared.perms.Perms.{Perms}
 use Rattle.gt_types.specs.declared.rights.Triple.{Triple}
 use Rattle.gt_policy.specs.Listing.{name_of}
-
--- the permissions in the order of the lines (own)
-abbrev pub permissions : List Perms
-permissions = names.map_read ∷ names.map_write ∷ names.unmap ∷ names.transfer ∷ names.setup ∷ names.copy ∷ names.query ∷ []
 
 -- `SOURCE TARGET PERMISSION` (own)
 abbrev pub triple_line : List ℕ → List ℕ → Perms → List ℕ
@@ -20,7 +16,7 @@ line_of types x = triple_line (name_of types x.source.0) (name_of types x.target
 
 -- all triples of a source and a target, by permission (own)
 abbrev pub pair_triples : TypeId → TypeId → List Triple
-pair_triples source target = map (λ perm. record { source = source; target = target; perm = perm }) permissions
+pair_triples source target = map (λ perm. record { source = source; target = target; perm = perm }) names.every_permission
 
 -- all triples of these types: by source, then by target, then by permission (own)
 abbrev pub triples_of : List TypeId → List Triple

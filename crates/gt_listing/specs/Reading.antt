@@ -1,6 +1,7 @@
 -- What bytes say: a policy, or their first fault.
 use Rattle.std.specs.Prelude.{◌≡◌, ◌⊎◌, ◌<◌, ◌≤◌, ℕ, List, length, Some, Ok, Err}
 use Rattle.std.specs.Str.{IsUtf8}
+use Rattle.gt_types.specs.declared.limits.TheConstants.{LONGEST_TEXT}
 use Rattle.gt_policy.specs.Allowing.{Meaning}
 use Rattle.gt_policy.specs.Grammar.{at}
 use Rattle.gt_policy.specs.Shown.{fault_shown}
@@ -17,16 +18,16 @@ IsPolicy bytes m = IsUtf8 bytes × Says bytes (Ok m)
 
 -- the bytes are not too many, and no UTF-8, from a byte of this line on (own)
 abbrev pub IsBadAt : List ℕ → ℕ → Type 0
-IsBadAt bytes line = (length bytes ≤ 1048576) × texts.IsBadAt bytes line
+IsBadAt bytes line = (length bytes ≤ LONGEST_TEXT) × texts.IsBadAt bytes line
 
 -- the first fault of the bytes is one of a policy: they are too many, or a text that has it (own)
 abbrev pub IsFaulty : List ℕ → policy.Fault → Type 0
-IsFaulty bytes f = ((1048576 < length bytes) ⊎ IsUtf8 bytes) × Says bytes (Err f)
+IsFaulty bytes f = ((LONGEST_TEXT < length bytes) ⊎ IsUtf8 bytes) × Says bytes (Err f)
 
 -- the bytes are too many, or no UTF-8, and this is their fault (own)
 abbrev pub IsNoText : List ℕ → Fault → Type 0
 IsNoText bytes (Utf8 line) = IsBadAt bytes line
-IsNoText bytes (Policy shown) = (1048576 < length bytes) × (fault_shown shown ≡ Some (at 1 Limit))
+IsNoText bytes (Policy shown) = (LONGEST_TEXT < length bytes) × (fault_shown shown ≡ Some (at 1 Limit))
 IsNoText bytes Memory = ⊥
 IsNoText bytes Read = ⊥
 IsNoText bytes Write = ⊥

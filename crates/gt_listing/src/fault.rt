@@ -2,27 +2,42 @@
 use gt_policy::{FaultKind, PolicyFault};
 use gt_streams::{ReadFault, WriteFault};
 use std::alloc::{AllocError, AllocFailed};
-use thiserror::Error;
+use std::error::Error;
+use std::fmt;
 
-/// Why a listing did not end well. It prints as the one line that goes to standard error.
-#[derive(Debug, Drop, Error)]
+/// Why a listing did not end well. It prints as one line, without its end.
+#[derive(Debug, Drop)]
 pub enum Fault {
     /// The bytes are no UTF-8, from a byte of this line on. Nothing was written.
-    #[error("gthost: line {line}: utf8")]
     Utf8 { line: usize },
     /// The first fault of the text, with the number of its line. Nothing was written.
-    #[error("gthost: {0}")]
     Policy(PolicyFault),
     /// Memory was refused. A beginning of the lines was written.
-    #[error("gthost: memory")]
     Memory,
     /// A read failed, or the text can't be opened. Nothing was written.
-    #[error("gthost: read")]
     Read,
     /// A write failed. A beginning of the lines was written.
-    #[error("gthost: write")]
     Write,
 }
+
+impl fmt::Display for Fault {
+    ghost use Rattle.std.specs.Prelude.{Some};
+    ghost use Rattle.gt_listing.specs.Faults.{listing_fault_text};
+
+    ghost output = { λ fault. Some (listing_fault_text fault) };
+
+    fn fmt<W: fmt::Write>(&self, f: &mut fmt::Formatter<W>) -> fmt::Result {
+        match self {
+            Fault::Utf8 { line } => write!(f, "line {line}: utf8"),
+            Fault::Policy(fault) => write!(f, "{fault}"),
+            Fault::Memory => f.write_str("memory"),
+            Fault::Read => f.write_str("read"),
+            Fault::Write => f.write_str("write"),
+        }
+    }
+}
+
+impl Error for Fault {}
 
 impl From<AllocError> for Fault {
     ghost use Rattle.std.specs.Prelude.{◌≡◌};

@@ -1,46 +1,27 @@
 //! The lines of triples.
-ghost use Rattle.std.specs.Prelude.{◌≡◌, ◌++◌, IfOk, OnOk};
-ghost use Rattle.gt_policy.specs.Allowing.{may_of};
+ghost use Rattle.std.specs.Prelude.{◌≡◌, ◌++◌, OnOk};
+ghost use Rattle.gt_policy.specs.Listing.{name_of};
+ghost use Rattle.gt_allow.specs.Looking.{looks};
 ghost use Rattle.gt_listing.specs.Listing.{triple_line};
-ghost use Rattle.gt_listing.specs.Rights.{AreRights, right_line, pair_lines};
+ghost use Rattle.gt_listing.specs.Lines.{triple_text, pair_text};
 
-use gt_policy::{Policy, TypeSet};
+use gt_allow::AllowTable;
+use gt_policy::Policy;
 use gt_streams::push_text;
-use gt_types::{Perms, TypeId};
-use std::alloc::{AllocError, Global};
+use gt_types::{Allows, Perms, Triple, TypeId};
+use std::alloc::AllocError;
 
-/// Every permission, in the order of the lines.
-const PERMISSIONS: [Perms; 7] = [
-    Perms::MAP_READ,
-    Perms::MAP_WRITE,
-    Perms::UNMAP,
-    Perms::TRANSFER,
-    Perms::SETUP,
-    Perms::COPY,
-    Perms::QUERY,
-];
-
-/// A permission, and the types on which a source has it.
-#[derive(Clone, Copy)]
-pub struct Right {
-    pub perm: Perms,
-    pub targets: TypeSet,
-}
-
-/// What the source may do: each permission with its targets, by one walk over the statements each.
-pub fn rights_of(alloc: Global, policy: &Policy, source: TypeId) -> Result<Vec<Right>, AllocError>
-    ensures { IfOk result (λ v. AreRights (may_of policy.now) source v.items) }
+fn name_at<'p>(policy: &'p Policy, id: TypeId) -> &'p str
+    ensures { result.now ≡ name_of policy.entry.now.types id.0 }
 {
-    let mut rights = Vec::new(alloc);
-    'permissions: for perm in PERMISSIONS {
-        let targets = policy.targets(source, perm);
-        rights.push(Right { perm, targets })?;
+    match policy.name(id) {
+        Some(name) => name,
+        None => "",
     }
-    Ok(rights)
 }
 
-// Appends the line of a triple.
-fn push_triple(out: &mut Vec<u8>, source: &str, target: &str, perm: Perms) -> Result<(), AllocError>
+// Appends the line of a source, a target and a permission.
+fn push_line(out: &mut Vec<u8>, source: &str, target: &str, perm: Perms) -> Result<(), AllocError>
     ensures { OnOk result (out.new.items ≡ out.old.items ++ triple_line source.now target.now perm) }
 {
     push_text(out, source)?;
@@ -51,35 +32,44 @@ fn push_triple(out: &mut Vec<u8>, source: &str, target: &str, perm: Perms) -> Re
     push_text(out, "\n")
 }
 
-// Appends the line of a permission, if the source has it on the target.
-fn push_right(
+// Appends the line of a triple, if the table allows it.
+fn push_triple(
     out: &mut Vec<u8>,
-    source: &str,
-    target: &str,
-    id: TypeId,
-    right: Right,
+    policy: &Policy,
+    table: &AllowTable,
+    triple: Triple,
 ) -> Result<(), AllocError>
-    ensures { OnOk result (out.new.items ≡ out.old.items ++ right_line source.now target.now id right) }
+    ensures { OnOk result (out.new.items ≡ out.old.items ++ triple_text policy.now.types (looks table.now) triple) }
 {
-    if right.targets.contains(id) {
-        push_triple(out, source, target, right.perm)
+    if table.allows(triple.source, triple.target, triple.perm) {
+        push_line(
+            out,
+            name_at(policy, triple.source),
+            name_at(policy, triple.target),
+            triple.perm,
+        )
     } else {
         Ok(())
     }
 }
 
-/// Appends the lines of a source and a target: one for each permission that the source has on it.
+/// Appends the lines of a source and a target: one for each permission that the table allows.
 pub fn push_pair(
     out: &mut Vec<u8>,
-    source: &str,
-    target: &str,
-    id: TypeId,
-    rights: &[Right],
+    policy: &Policy,
+    table: &AllowTable,
+    source: TypeId,
+    target: TypeId,
 ) -> Result<(), AllocError>
-    ensures { OnOk result (out.new.items ≡ out.old.items ++ pair_lines source.now target.now id rights.now) }
+    ensures { OnOk result (out.new.items ≡ out.old.items ++ pair_text policy.now.types (looks table.now) source target) }
 {
-    'rights: for right in rights {
-        push_right(out, source, target, id, *right)?;
+    'permissions: for perm in Perms::EVERY {
+        let triple = Triple {
+            source,
+            target,
+            perm,
+        };
+        push_triple(out, policy, table, triple)?;
     }
     Ok(())
 }

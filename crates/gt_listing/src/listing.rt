@@ -1,11 +1,14 @@
 //! A policy in, and the lines of its triples out.
-ghost use Rattle.std.specs.Prelude.{◌≡◌, ℕ, List, take, IfSome};
+ghost use Rattle.std.specs.Prelude.{◌≡◌, ◌+◌, ℕ, List, take};
+ghost use Rattle.gt_streams.specs.Streams.{OfInput, ConsumesAtMost};
+ghost use Rattle.gt_streams.specs.declared.streams.TheConstants.{READ_LIMIT};
 ghost use Rattle.gt_listing.specs.Writing.{Listed, Parsed};
 
 use crate::fault::Fault;
 use crate::sources::write_policy;
 use crate::text::policy_text;
 use gt_streams::read_text;
+use gt_types::LONGEST_TEXT;
 use std::alloc::Global;
 use std::io::{Read, Write};
 
@@ -21,7 +24,7 @@ fn list_text<W: Write>(alloc: Global, text: &str, writer: &mut W) -> Result<(), 
 
 // Lists the policy that bytes say, of which those up to the limit were read.
 fn list_bytes<W: Write>(alloc: Global, input: &[u8], writer: &mut W) -> Result<(), Fault>
-    ensures { (all : List ℕ) → input.now ≡ take 1048577 all →
+    ensures { (all : List ℕ) → input.now ≡ take (LONGEST_TEXT + 1) all →
         Listed all (W.contents writer.old) (W.contents writer.new) result }
 {
     match policy_text(input) {
@@ -37,8 +40,9 @@ fn list_bytes<W: Write>(alloc: Global, input: &[u8], writer: &mut W) -> Result<(
 /// Of the reader at most 1,048,577 bytes are read. A text with a fault writes nothing. After a failed
 /// write, or for want of memory, a beginning of the lines was written.
 pub fn policy<R: Read, W: Write>(alloc: Global, reader: &mut R, writer: &mut W) -> Result<(), Fault>
-    ensures { IfSome (R.remaining reader.old) (λ input.
+    ensures text { OfInput (R.remaining reader.old) (λ input.
         Listed input (W.contents writer.old) (W.contents writer.new) result) }
+    ensures read { ConsumesAtMost READ_LIMIT (R.remaining reader.old) (R.remaining reader.new) }
 {
     match read_text(alloc, reader) {
         Ok(input) => list_bytes(alloc, input.as_slice(), writer),

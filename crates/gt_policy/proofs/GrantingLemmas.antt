@@ -29,7 +29,7 @@ use Rattle.gt_policy.specs.Spelling.{names_of}
 use Rattle.gt_policy.specs.Whole.{meaning_of}
 use Rattle.gt_policy.specs.Accepting.{meant_by}
 use Rattle.gt_policy.specs.Names.{Names, symbol_at, symbol_of}
-use Rattle.gt_types.specs.Names.{permission_of}
+use Rattle.gt_types.specs.Names.{permission_of, is_permission}
 use Rattle.gt_policy.specs.Grammar.{◌>>=◌}
 use Rattle.gt_policy.specs.Resolving.{known, any_symbol, type_in, type_symbol, attribute_in, attribute_symbol, element_of, elements_of, given_by, allowed_by, with_statement, resolved, granted, has_grant, nothing_given}
 use Rattle.gt_policy.specs.Allowing.{was_given, stands_for, is_with, is_without, holds_type, is_itself, says_itself, is_granted_by, is_allowed, type_named, Meaning}
@@ -37,17 +37,17 @@ use Rattle.gt_policy.specs.Granting.{mentions, gives, is_named, names_with, name
 use Rattle.gt_policy.proofs.TextLemmas.{bind_ok}
 use Rattle.gt_policy.proofs.PermLemmas.{lists_words}
 
-abbrev ok_of : {A : Type 0} → A → Result A Fault
+abbrev pub ok_of : {A : Type 0} → A → Result A Fault
 ok_of a = Ok a
 
-ok_part : {A : Type 0} (a b : A) → ok_of a ≡ ok_of b → a ≡ b
+pub ok_part : {A : Type 0} (a b : A) → ok_of a ≡ ok_of b → a ≡ b
 ok_part a b e = cc
 
-known_ok : (w : List ℕ) (n : ℕ) (o : Option Symbol) (s : Symbol) → any_symbol w n o ≡ Ok s → o ≡ Some s
+pub known_ok : (w : List ℕ) (n : ℕ) (o : Option Symbol) (s : Symbol) → any_symbol w n o ≡ Ok s → o ≡ Some s
 known_ok w n (Some x) s e = ap (λ y. Some y) (ok_part x s e)
 known_ok w n None s e = absurd (cc)
 
-type_ok : (w : List ℕ) (n : ℕ) (o : Option Symbol) (i : ℕ) → type_symbol w n o ≡ Ok i → o ≡ Some (IsType i)
+pub type_ok : (w : List ℕ) (n : ℕ) (o : Option Symbol) (i : ℕ) → type_symbol w n o ≡ Ok i → o ≡ Some (IsType i)
 type_ok w n (Some (IsType x)) i e = ap (λ y. Some (IsType y)) (ok_part x i e)
 type_ok w n (Some (IsAttribute x)) i e = absurd (cc)
 type_ok w n None i e = absurd (cc)
@@ -64,7 +64,7 @@ at_place names v w i e f =
     let b = position-Some (λ t. bytes_eq t w) names i [] f in
     sym ((bytes_eq-Decides (get_or names i []) v).0 a.1) ∙ (bytes_eq-Decides (get_or names i []) w).0 b.1
 
-type_place : (t a : Option ℕ) (i : ℕ) → symbol_at t a ≡ Some (IsType i) → t ≡ Some i
+pub type_place : (t a : Option ℕ) (i : ℕ) → symbol_at t a ≡ Some (IsType i) → t ≡ Some i
 type_place (Some j) a i e = ap (λ y. Some y) (let same : IsType j ≡ IsType i = same_Some (IsType j) (IsType i) e in cc)
 type_place None (Some j) i e = let same : IsAttribute j ≡ IsType i = same_Some (IsAttribute j) (IsType i) e in absurd (cc)
 type_place None None i e = absurd (none-some (IsType i) e)
@@ -133,7 +133,7 @@ or_no true c = refl
 or_no false true = refl
 or_no false false = refl
 
-or_false : (b : Bool) → b ≡ (b || false)
+pub or_false : (b : Bool) → b ≡ (b || false)
 or_false true = refl
 or_false false = refl
 
@@ -164,7 +164,7 @@ give_read names aw a is (m ∷ ms) d end id n e =
     ∙ one_given (was_given d.given a n) (n == id) (a == b.0) (mentions ms aw)
     ∙ ap (λ x. was_given d.given a n || ((n == id) && (x || mentions ms aw))) (sym (same_attribute names m.name aw a b.0 here is))
 
-give_rules : (names : Names) (ms : List Mention) (d end : Draft) (id : ℕ) → given_by names d id ms ≡ Ok end → end.rules ≡ d.rules
+pub give_rules : (names : Names) (ms : List Mention) (d end : Draft) (id : ℕ) → given_by names d id ms ≡ Ok end → end.rules ≡ d.rules
 give_rules names [] d end id e = ap (λ (q : Draft). q.rules) (sym (ok_part d end e))
 give_rules names (m ∷ ms) d end id e =
     let next : ℕ → Draft = λ b. record { given = d.given ++ record { to = id; attribute = b } ∷ []; rules = d.rules } in
@@ -181,12 +181,12 @@ give_none names w i is (m ∷ ms) d end id e =
     rw other (give_none names w i is ms (next b.0) end id b.2)
 
 -- an allow statement
-rule_of : List Element → List Element → Perms → DraftRule
+abbrev pub rule_of : List Element → List Element → Perms → DraftRule
 rule_of s t p = record { source = s; target = t; perms = p }
 
-allow_read : (names : Names) (d end : Draft) (a : Allowance) → allowed_by names d a ≡ Ok end
+pub allow_read : (names : Names) (d end : Draft) (a : Allowance) → allowed_by names d a ≡ Ok end
     → (s : List Element) × (t : List Element) × (elements_of names [] a.source ≡ Ok s) × (elements_of names [] a.target ≡ Ok t) × (end.given ≡ d.given) × (end.rules ≡ d.rules ++ rule_of s t (granted a.classes a.perms) ∷ [])
-unfolding allowed_by rule_of
+unfolding allowed_by
 allow_read names d end a e =
     let made : List Element → List Element → Draft = λ s t. record { given = d.given; rules = d.rules ++ rule_of s t (granted a.classes a.perms) ∷ [] } in
     let b1 = bind_ok (elements_of names [] a.source) (λ s. elements_of names [] a.target >>= λ t. ok_of (made s t)) end e in
@@ -293,7 +293,7 @@ module _ (names : Names) (ss : List Statement) (has : ℕ → ℕ → Bool) (kno
   -- rules
   statement_rules : (s t w : List ℕ) (i j : ℕ) (perm : Perms) → symbol_of names s ≡ Some (IsType i) → symbol_of names t ≡ Some (IsType j) → permission_of w ≡ Some perm → (x : Statement) (d end : Draft) → with_statement names d x ≡ Ok end
       → list_any (λ r. is_granted_by has i j perm r) end.rules ≡ (list_any (λ r. is_granted_by has i j perm r) d.rules || statement_grants ss s t w x)
-  unfolding with_statement rule_of
+  unfolding with_statement
   statement_rules s t w i j perm is_s is_t is_w (DeclareType v ms) d end e =
       let b = bind_ok (type_in names v 0) (λ id. given_by names d id ms) end e in
       ap (λ (rs : List DraftRule). list_any (λ r. is_granted_by has i j perm r) rs) (give_rules names ms d end b.0 b.2) ∙ or_false (list_any (λ r. is_granted_by has i j perm r) d.rules)
@@ -342,9 +342,9 @@ type_at types attributes w (Some k) a i e =
 type_at types attributes w None a i e = absurd (none-some i e)
 
 -- what a policy allows is what its statements grant
-pub allowed_granted : (ss : List Statement) (m : Meaning) (s t w : List ℕ) (i j : TypeId) (perm : Perms) → meant_by ss ≡ Ok m → type_named m.types s ≡ Some i → type_named m.types t ≡ Some j → permission_of w ≡ Some perm
+pub allowed_granted : ((w : List ℕ) (perm : Perms) → permission_of w ≡ Some perm → is_permission perm ≡ true) → (ss : List Statement) (m : Meaning) (s t w : List ℕ) (i j : TypeId) (perm : Perms) → meant_by ss ≡ Ok m → type_named m.types s ≡ Some i → type_named m.types t ≡ Some j → permission_of w ≡ Some perm
     → is_allowed m i.0 j.0 perm ≡ is_granted ss s t w
-allowed_granted ss m s t w i j perm e is_s is_t is_w =
+allowed_granted named_one ss m s t w i j perm e is_s is_t is_w =
     let names : Names = names_of ss in
     let r = meaning_ok names (resolved names nothing_given ss) m e in
     let types : (v : List ℕ) (k : TypeId) → type_named m.types v ≡ Some k → symbol_of names v ≡ Some (IsType k.0) =
@@ -353,6 +353,7 @@ allowed_granted ss m s t w i j perm e is_s is_t is_w =
       given = λ aw v a n is_a is_v. statements_given names aw v a n is_a is_v ss nothing_given r.0 r.1;
       none = λ v u k is. statements_none names v u k is ss nothing_given r.0 r.1;
     } in
-    ap (λ (g : List Given). list_any (λ rule. is_granted_by (was_given g) i.0 j.0 perm rule) m.rules) r.3
+    ap (λ b. b && list_any (λ rule. is_granted_by (was_given m.given) i.0 j.0 perm rule) m.rules) (named_one w perm is_w)
+    ∙ ap (λ (g : List Given). list_any (λ rule. is_granted_by (was_given g) i.0 j.0 perm rule) m.rules) r.3
     ∙ ap (λ (rs : List DraftRule). list_any (λ rule. is_granted_by (was_given r.0.given) i.0 j.0 perm rule) rs) r.4
     ∙ statements_rules names ss (was_given r.0.given) knows s t w i.0 j.0 perm (types s i is_s) (types t j is_t) is_w ss nothing_given r.0 r.1

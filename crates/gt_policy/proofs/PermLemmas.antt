@@ -19,7 +19,7 @@ use Rattle.gt_policy.specs.Granting.{lists_word}
 use Rattle.gt_policy.specs.TypeSets.{is_set}
 use Rattle.gt_policy.proofs.TypeSetLemmas.{is_set-or}
 
-abbrev bit : ℕ → Perms
+abbrev pub bit : ℕ → Perms
 bit n = record { 0 = n }
 
 times_is : (b x : ℕ) → b < 2 → 0 < x → (b * x == x) ≡ (b == 1)
@@ -30,7 +30,7 @@ times_is (suc (suc b)) x h p = absurd (omega arith)
 lists_bit : (p : Perms) (k : ℕ) → lists_perm p (bit (2 ^ k)) ≡ is_set p.0 k
 lists_bit p k = ap (λ n. n == 2 ^ k) (and_pow p.0 k) ∙ times_is (bit_at p.0 k) (2 ^ k) (bit_at-lt p.0 k) (pow_pos k)
 
-lists_union : (p q : Perms) (k : ℕ) → lists_perm (union p q) (bit (2 ^ k)) ≡ (lists_perm p (bit (2 ^ k)) || lists_perm q (bit (2 ^ k)))
+pub lists_union : (p q : Perms) (k : ℕ) → lists_perm (union p q) (bit (2 ^ k)) ≡ (lists_perm p (bit (2 ^ k)) || lists_perm q (bit (2 ^ k)))
 lists_union p q k =
     lists_bit (union p q) k ∙ is_set-or p.0 q.0 k ∙ ap (λ b. b || is_set q.0 k) (sym (lists_bit p k)) ∙ ap (λ b. lists_perm p (bit (2 ^ k)) || b) (sym (lists_bit q k))
 

@@ -1,5 +1,6 @@
 -- Which texts are policies, and what they mean, without a reader.
 use Rattle.std.specs.Prelude.{◌≡◌, ℕ, ◌≤◌, List, [], ◌∷◌, length, Result, Err}
+use Rattle.gt_types.specs.declared.limits.TheConstants.{LONGEST_TEXT}
 use Rattle.gt_policy.specs.declared.fault.Fault.{Fault}
 use Rattle.gt_policy.specs.declared.statements.Statement.{Statement}
 use Rattle.gt_policy.specs.Lexing.{lexemes_of}
@@ -11,7 +12,7 @@ use Rattle.gt_policy.specs.Whole.{meaning_of}
 
 -- The text is no longer than a policy may be, and its tokens are the spellings of these statements, which declare no name twice and stay within the limits. (SELinux policy language; limits own)
 pub record IsWritten (text : List ℕ) (ss : List Statement) : Type 0 where
-  pub short : length text ≤ 1048576
+  pub short : length text ≤ LONGEST_TEXT
   pub spelled : SpellsText ss (lexemes_of text)
   pub clean : AreClean ss
 
@@ -28,7 +29,7 @@ pub data SpellsFront : List Statement → Lexemes → Lexemes → Type 0 where
 pub record IsBroken (text : List ℕ) (f : Fault) : Type 0 where
   pub before : List Statement
   pub rest : Lexemes
-  pub short : length text ≤ 1048576
+  pub short : length text ≤ LONGEST_TEXT
   pub spelled : SpellsFront before (lexemes_of text) rest
   pub clean : AreClean before
   pub fault : statement (names_of before) rest ≡ Err f

@@ -15,6 +15,8 @@ ghost use Rattle.gt_types.specs.declared.TypeId.{TypeId};
 ghost use Rattle.gt_types.specs.Names.{permission_of};
 ghost use Rattle.gt_types.specs.declared.perms.Perms.{Perms};
 
+use gt_types::{LONGEST_TEXT, the_permissions};
+
 /// Every text says something: a policy or a fault.
 pub fn every_text_says_something()
     ensures { (text : List ℕ) → (said : Result Meaning Fault) × Says text said }
@@ -41,7 +43,7 @@ pub fn written_texts()
 /// of the first name that is not declared in a text of clean statements.
 pub fn first_faults()
     ensures faulty { (text : List ℕ) (f : Fault) → Says text (Err f) →
-        ((1048576 < length text) × (at 1 Kind.Limit ≡ f))
+        ((LONGEST_TEXT < length text) × (at 1 Kind.Limit ≡ f))
         ⊎ (IsBroken text f
         ⊎ ((ss : List Statement) × IsWritten text ss × IsFirstUndeclared ss (uses_of ss) f)) }
     ensures broken { (text : List ℕ) (f : Fault) → IsBroken text f → Says text (Err f) }
@@ -60,4 +62,6 @@ pub fn granted_by_statements()
     ensures listed { (classes : List (List ℕ)) (perms : Permissions) (w : List ℕ) (perm : Perms) →
         permission_of w ≡ Some perm →
         lists_perm (granted classes perms) perm ≡ (has_grant classes && lists_word perms w) }
-{}
+{
+    the_permissions();
+}

@@ -4,6 +4,7 @@ ghost use Rattle.std.specs.List.{list_any};
 ghost use Rattle.gt_types.specs.declared.perms.Perms.{Perms};
 ghost use Rattle.gt_policy.specs.Allowing.{was_given, stands_for, is_with, is_without, holds_type, says_itself, is_granted_by, grants, some_grants};
 ghost use Rattle.gt_policy.specs.Members.{has};
+ghost use Rattle.gt_policy.specs.Rows.{is_reached};
 ghost use Rattle.gt_policy.specs.TypeSets.{holds};
 
 use crate::resolve::{DraftRule, Element, Given};
@@ -33,11 +34,11 @@ impl Rule {
             && (self.target.contains(target) || (self.itself && target == source))
     }
 
-    /// The types on which the source has the permission.
-    pub(crate) fn targets(&self, source: TypeId, perm: Perms) -> TypeSet
-        ensures { (t : ℕ) → holds result t ≡ grants self.now source.0 t perm }
+    /// The types on which the source has the permissions of the statement.
+    pub(crate) fn targets(&self, source: TypeId) -> TypeSet
+        ensures { (t : ℕ) → holds result t ≡ is_reached self.now source.0 t }
     {
-        if !self.perms.contains(perm) || !self.source.contains(source) {
+        if !self.source.contains(source) {
             return TypeSet::empty();
         }
         if self.itself {

@@ -1,4 +1,5 @@
-//! Tests of policies and of the listing of what they allow, over what their crates make public.
+//! Tests of policies, of their tables and of the listing of what they allow, over what their crates make
+//! public.
 //!
 //! They say what no contract says: worked texts with what they allow, printed faults, texts at the limits,
 //! and readers and writers that fail.
@@ -8,3 +9,5 @@
 mod listing;
 #[cfg(test)]
 mod policy;
+#[cfg(test)]
+mod tables;

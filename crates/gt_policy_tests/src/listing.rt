@@ -66,29 +66,23 @@ b_t b_t setup\nb_t b_t copy\nb_t b_t query\n",
         // A text with a fault lists nothing.
         (
             "type a_t;\nallow a_t a_t:grant map_red;\n",
-            "gthost: line 2: policy permission map_red",
+            "line 2: policy permission map_red",
         ),
         (
             "allow a_t b_t:grant copy;\ntype a_t;\n",
-            "gthost: line 1: policy unknown b_t",
+            "line 1: policy unknown b_t",
         ),
         (
             "type a_t;\nneverallow a_t a_t:grant copy;\n",
-            "gthost: line 2: policy outside neverallow",
+            "line 2: policy outside neverallow",
         ),
-        ("type a_t\n", "gthost: line 2: policy syntax"),
-        ("type a_t;\ntype a_t;\n", "gthost: line 2: policy twice a_t"),
-        (
-            "type a_t alias b_t;\n",
-            "gthost: line 1: policy outside alias",
-        ),
-        (
-            "allow ~a_t a_t:grant copy;\n",
-            "gthost: line 1: policy outside ~",
-        ),
+        ("type a_t\n", "line 2: policy syntax"),
+        ("type a_t;\ntype a_t;\n", "line 2: policy twice a_t"),
+        ("type a_t alias b_t;\n", "line 1: policy outside alias"),
+        ("allow ~a_t a_t:grant copy;\n", "line 1: policy outside ~"),
         (
             "allow a_t b_t:grant map_red;\n",
-            "gthost: line 1: policy permission map_red",
+            "line 1: policy permission map_red",
         ),
     ] {
         let lines = listed(rt.alloc(), text.as_bytes())?;
@@ -135,26 +129,6 @@ fn bytes_that_are_no_text(rt: HostRuntime) -> Result<(), Fail> {
     Ok(())
 }
 
-#[test]
-fn faults_print_as_lines(rt: HostRuntime) -> Result<(), Fail> {
-    let limit = PolicyFault {
-        line: 1,
-        kind: FaultKind::Limit,
-    };
-    let cases = [
-        (Fault::Utf8 { line: 7 }, "gthost: line 7: utf8"),
-        (Fault::Policy(limit), "gthost: line 1: policy limit"),
-        (Fault::Memory, "gthost: memory"),
-        (Fault::Read, "gthost: read"),
-        (Fault::Write, "gthost: write"),
-    ];
-    for (fault, want) in &cases {
-        let line = format!(in rt.alloc(); "{fault}")?;
-        assert_eq!(rt; line.as_str(), *want);
-    }
-    Ok(())
-}
-
 // A text of which so many bytes can be read; then each read fails.
 #[derive(Drop)]
 struct FailingReader<'a> {
@@ -176,7 +150,7 @@ impl<'a> Read for FailingReader<'a> {
     }
 }
 
-// Takes so many bytes, a few at a time; then each write fails.
+// Takes so many bytes, a few at a time; then each write fails, and each flush.
 #[derive(Drop)]
 struct FailingWriter {
     taken: Vec<u8>,
@@ -195,6 +169,9 @@ impl Write for FailingWriter {
     }
 
     fn flush(&mut self) -> io::Result<()> {
+        if self.left == 0 {
+            return Err(io::Error::from(ErrorKind::BrokenPipe));
+        }
         Ok(())
     }
 }
@@ -216,7 +193,7 @@ fn a_reader_that_fails(rt: HostRuntime) -> Result<(), Fail> {
 
 #[test]
 fn a_writer_that_fails(rt: HostRuntime) -> Result<(), Fail> {
-    for left in 0..GUESTS_LINES.len() {
+    for left in 0..GUESTS_LINES.len() + 1 {
         let mut writer = FailingWriter {
             taken: Vec::new(rt.alloc()),
             left,

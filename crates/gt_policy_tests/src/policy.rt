@@ -1,18 +1,9 @@
 //! Worked texts, limits, and every beginning of a text.
-use gt_policy::{FaultKind, MAX_BYTES, Policy, TypeSet};
+use bitflags::Flags;
+use gt_policy::{FaultKind, Policy};
 use gt_types::{Allows, Perms, TypeId};
 use std::alloc::{AllocError, Global};
 use std::test::Fail;
-
-const PERMS: [(&str, Perms); 7] = [
-    ("map_read", Perms::MAP_READ),
-    ("map_write", Perms::MAP_WRITE),
-    ("unmap", Perms::UNMAP),
-    ("transfer", Perms::TRANSFER),
-    ("setup", Perms::SETUP),
-    ("copy", Perms::COPY),
-    ("query", Perms::QUERY),
-];
 
 fn triples(alloc: Global, policy: &Policy) -> Result<String, AllocError> {
     let mut out = String::new(alloc);
@@ -20,9 +11,9 @@ fn triples(alloc: Global, policy: &Policy) -> Result<String, AllocError> {
         let source = policy.name(TypeId(s)).unwrap_or("?");
         for t in 0..policy.count() {
             let target = policy.name(TypeId(t)).unwrap_or("?");
-            for (word, perm) in PERMS {
+            for perm in Perms::EVERY {
                 if policy.allows(TypeId(s), TypeId(t), perm) {
-                    let line = format!(in alloc; "{source} {target} {word};")?;
+                    let line = format!(in alloc; "{source} {target} {};", perm.name())?;
                     out.push_str(line.as_str())?;
                 }
             }
@@ -270,7 +261,6 @@ fn takes_the_most_statements_and_bytes(rt: HostRuntime) -> Result<(), Fail> {
         let text = repeated(alloc, "type a;", each, count)?;
         assert_eq!(rt; shown(alloc, text.as_str())?.as_str(), wanted, "{count}");
     }
-    assert_eq!(rt; MAX_BYTES, 1_048_576);
     Ok(())
 }
 
@@ -351,34 +341,20 @@ type domU_t, domain;\n\
 allow { domain -dom0_t } domain:grant { map_read copy };\n\
 allow dom0_t self:grant query;\n";
 
-// The numbers of the types that a set holds.
-fn members(alloc: Global, set: TypeSet) -> Result<String, AllocError> {
-    let mut out = String::new(alloc);
-    for n in 0..400 {
-        if set.contains(TypeId(n)) {
-            let number = format!(in alloc; "{n} ")?;
-            out.push_str(number.as_str())?;
-        }
-    }
-    Ok(out)
-}
-
 #[test]
-fn lists_the_targets_of_a_source(rt: HostRuntime) -> Result<(), Fail> {
+fn says_what_a_source_may_do(rt: HostRuntime) -> Result<(), Fail> {
     let alloc = rt.alloc();
-    let types = declarations(alloc, "type", 256)?;
-    let many = format!(in alloc; "{types}allow n72 n200:grant copy;")?;
-    for (text, source, perm, wanted) in [
-        (COPY_AND_QUERY, 1, Perms::COPY, "0 1 "),
-        (COPY_AND_QUERY, 0, Perms::COPY, ""),
-        (COPY_AND_QUERY, 0, Perms::QUERY, "0 "),
-        (COPY_AND_QUERY, 300, Perms::COPY, ""),
-        (many.as_str(), 72, Perms::COPY, "200 "),
-        (many.as_str(), 200, Perms::COPY, ""),
+    let policy = Policy::parse(alloc, COPY_AND_QUERY)?;
+    for (source, target, wanted) in [
+        (0, 0, Perms::QUERY),
+        (0, 1, Perms::empty()),
+        (1, 0, Perms::MAP_READ | Perms::COPY),
+        (1, 1, Perms::MAP_READ | Perms::COPY),
+        (1, 2, Perms::empty()),
+        (300, 0, Perms::empty()),
     ] {
-        let policy = Policy::parse(alloc, text)?;
-        let targets = policy.targets(TypeId(source), perm);
-        assert_eq!(rt; members(alloc, targets)?.as_str(), wanted, "type {source}");
+        let row = policy.row(TypeId(source));
+        assert_eq!(rt; row.on(TypeId(target)), wanted, "{source} {target}");
     }
     Ok(())
 }

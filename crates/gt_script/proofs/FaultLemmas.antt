@@ -1,5 +1,5 @@
 -- Where the first fault of a script stands, and what a script without fault is.
-use Rattle.std.proofs.Common.{◌≡◌, inl, inr, ℕ, suc, ◌+◌, ◌-◌, ◌<◌, ◌≤◌, ◌&&◌, Bool, true, false, List, [], ◌∷◌, ◌++◌, length, take, drop, Option, None, Some, Result, Ok, Err, refl, sym, ap, ◌∙◌, subst, arith, cond, length-take, length-drop, min, get_or, add-one, Bor, IfOk, IfErr}
+use Rattle.std.proofs.Common.{◌≡◌, ◌⊎◌, IsSome, inl, inr, ℕ, suc, ◌+◌, ◌-◌, ◌<◌, ◌≤◌, ◌&&◌, Bool, true, false, List, [], ◌∷◌, ◌++◌, length, take, drop, Option, None, Some, Result, Ok, Err, refl, sym, ap, ◌∙◌, subst, arith, cond, length-take, length-drop, min, get_or, add-one, Bor, IfOk, IfErr}
 use Rattle.std.specs.List.{slice_get, filter_map}
 use Rattle.std.specs.Option.{is_none}
 use Rattle.std.specs.Str.{IsUtf8}
@@ -8,16 +8,17 @@ use Rattle.std.proofs.lemmas.Bool.Decides.{nat_tests}
 use Rattle.std.proofs.Math.Seq.{take-suc}
 use Rattle.std.proofs.lemmas.List.{take_all, take-map, drop-map}
 use Rattle.std.proofs.lemmas.Option.{slice_get_within, get_or_from_slice_get}
-use Rattle.gt_policy.specs.Allowing.{Rights}
+use Rattle.gt_types.specs.declared.rights.Triple.{Triple}
+use Rattle.gt_policy.specs.Allowing.{Allowed}
 use Rattle.gt_policy.specs.Shown.{fault_shown}
 use Rattle.gt_policy.specs.Whole as policies
 use Rattle.gt_policy.specs.declared.fault.Fault as policy
 use Rattle.gt_policy.specs.declared.parse.FaultKind as kinds
 use Rattle.gt_policy.specs.declared.parse.FaultKind.TheVariants as kind
-use Rattle.gt_script.specs.Words.{words}
+use Rattle.gt_lines.specs.Words.{words}
 use Rattle.gt_script.specs.Faults.{error_in_block}
 use Rattle.gt_script.specs.Blocks.{opening, closing, block_text, Means, IsFaulty, IsPolicyOf}
-use Rattle.gt_script.specs.Contents.{Contents, empty, with_policy, names_with}
+use Rattle.gt_script.specs.Contents.{told, Contents, empty, with_policy, names_with}
 use Rattle.gt_script.specs.Script.{is_empty, has_no_rights, with_words, with_lines, completed, completed_if_ok, whole, in_result, in_script, in_policy, ClosedSays, BlockSays, LinesSay, TextSays, Tells, Wrong}
 use Rattle.gt_script.specs.Laws.{said, domain_in, SayParts, IsTripleScript, IsPolicyScript, IsScriptOf, HasBlock, lines_before, IsOpen, HasNone, IsFaultOfLine, IsFaultOfEnd, IsFirstFault, IsFaultBehind, IsFaultOfLines, IsUnread, IsFaultOf, IsFaultOfBlock, Stands}
 use Rattle.gt_script.specs.Outcomes.{Answers, Says}
@@ -71,7 +72,7 @@ empty-false : {X : Type 0} (xs : List X) → is_empty xs ≡ false → 1 ≤ len
 empty-false [] h = absurd cc
 empty-false (x ∷ xs) h = omega arith
 
-lacks-both : (o : Option Rights) (t : Bool) → (is_none o && t) ≡ true → (o ≡ None) × (t ≡ true)
+lacks-both : (o : Option Allowed) (t : Bool) → (is_none o && t) ≡ true → (o ≡ None) × (t ≡ true)
 lacks-both None true h = (refl, refl)
 lacks-both None false h = absurd cc
 lacks-both (Some p) t h = absurd cc
@@ -80,13 +81,21 @@ no_rights : (c : Contents) → has_no_rights c ≡ true → (c.policy ≡ None) 
 unfolding has_no_rights
 no_rights c h = let both = lacks-both c.policy (is_empty c.triples) h in (both.0, empty-true c.triples both.1)
 
-has-triple : (o : Option Rights) (t : Bool) → o ≡ None → (is_none o && t) ≡ false → t ≡ false
+has-triple : (o : Option Allowed) (t : Bool) → o ≡ None → (is_none o && t) ≡ false → t ≡ false
 has-triple None t is h = h
 has-triple (Some p) t is h = absurd cc
 
 some_triple-of : (c : Contents) → c.policy ≡ None → has_no_rights c ≡ false → 1 ≤ length c.triples
 unfolding has_no_rights
 some_triple-of c free h = empty-false c.triples (has-triple c.policy (is_empty c.triples) free h)
+
+some-rights : (o : Option Allowed) (t : List Triple) → (is_none o && is_empty t) ≡ false → (1 ≤ length t) ⊎ IsSome o
+some-rights None t h = inl (empty-false t h)
+some-rights (Some p) t h = inr refl
+
+some_rights : (c : Contents) → has_no_rights c ≡ false → (1 ≤ length c.triples) ⊎ IsSome c.policy
+unfolding has_no_rights
+some_rights c h = some-rights c.policy c.triples h
 
 -- what the end of a script says, by whether it has rights and domains
 abbrev at_end : ℕ → Contents → Bool → Bool → Result Contents Fault
@@ -102,7 +111,7 @@ end-fault count n ls start c f true d h p q e =
 end-fault count n ls start c f false true h p q e =
     let same : record { line = count + 1; kind = Config } ≡ f = cc in
     let kind : Config ≡ f.kind = ap (λ (g : Fault). g.kind) same in
-    record { all = c; earlier = h; number = sym (ap (λ (g : Fault). g.line) same); lacks = inr (empty-true c.domains q, sym kind) }
+    record { all = c; earlier = h; number = sym (ap (λ (g : Fault). g.line) same); lacks = inr (some_rights c p, empty-true c.domains q, sym kind) }
 end-fault count n ls start c f false false h p q e = absurd cc
 
 -- a script that the lines make whole
@@ -150,7 +159,7 @@ triple_script ls s w =
         readable = x.readable;
         triples = x.triples s.types (Grown-refl s.types);
         wear = x.wear;
-        domains = subst (λ (o : Option Rights). s.domains ≡ filter_map (λ l. domain_in (names_with o s.types) l.1) (said 1 ls)) (sym x.policy) (x.domains s.types (Grown-refl s.types));
+        domains = subst (λ (o : Option Allowed). s.domains ≡ filter_map (λ l. domain_in (names_with o s.types) l.1) (said 1 ls)) (sym x.policy) (x.domains s.types (Grown-refl s.types));
         steps = x.steps;
         faultless = x.faultless faultless-none;
         generation = first_gen-small 1 ls s.wear x.wear;
@@ -163,14 +172,14 @@ triple_script ls s w =
       some_triple = some_triple-of s x.policy w.rights;
     }
 
-rest_says : (n : ℕ) (ls : List (List ℕ)) (p : Rights) (s : Contents) → Whole n ls (with_policy p) s → SayParts n ls s
+rest_says : (n : ℕ) (ls : List (List ℕ)) (p : Allowed) (s : Contents) → Whole n ls (with_policy p) s → SayParts n ls s
 rest_says n ls p s w =
     let x = with_lines-Extends n ls (with_policy p) s w.made in
     record {
       readable = x.readable;
       triples = x.triples s.types (Grown-refl s.types);
       wear = x.wear;
-      domains = subst (λ (o : Option Rights). s.domains ≡ filter_map (λ l. domain_in (names_with o s.types) l.1) (said n ls)) (sym x.policy) (x.domains s.types (Grown-refl s.types));
+      domains = subst (λ (o : Option Allowed). s.domains ≡ filter_map (λ l. domain_in (names_with o s.types) l.1) (said n ls)) (sym x.policy) (x.domains s.types (Grown-refl s.types));
       steps = x.steps;
       faultless = x.faultless faultless-none;
       generation = first_gen-small n ls s.wear x.wear;
@@ -215,7 +224,7 @@ number-behind ls first end b =
     let same : first + end + 1 + 1 ≡ first + end + 2 = omega arith in
     same ∙ sym (ap (λ (k : ℕ). k + length (take end (drop first ls)) + 2) b.before ∙ ap (λ (k : ℕ). first + k + 2) b.many)
 
-policy_script : (ls : List (List ℕ)) (first end : ℕ) (p : Rights) (s : Contents) → Block ls first end → Means (take end (drop first ls)) p
+policy_script : (ls : List (List ℕ)) (first end : ℕ) (p : Allowed) (s : Contents) → Block ls first end → Means (take end (drop first ls)) p
     → Whole (first + end + 1 + 1) (drop (end + 1) (drop first ls)) (with_policy p) s → IsPolicyScript ls s
 policy_script ls first end p s b means w =
     let x = with_lines-Extends (first + end + 1 + 1) (drop (end + 1) (drop first ls)) (with_policy p) s w.made in
@@ -322,8 +331,8 @@ tells-policy bytes g (inl (long, e)) = absurd cc
 tells-policy bytes g (inr (inl (short, bad, e))) = absurd cc
 tells-policy bytes g (inr (inr (short, text, says))) = lines-policy bytes (opening (lines_in bytes)) g short text refl says
 
-pub answers-script : (bytes : List ℕ) (r : Result Script ScriptError) → Answers r (Tells bytes) → IfOk r (λ s. IsScriptOf (lines_in bytes) s)
-answers-script bytes (Ok s) h = tells-Ok bytes s h
+pub answers-script : (bytes : List ℕ) (r : Result Script ScriptError) → Answers r (Tells bytes) → IfOk r (λ s. IsScriptOf (lines_in bytes) (told s))
+answers-script bytes (Ok s) h = tells-Ok bytes (told s) h
 answers-script bytes (Err e) h = tt
 
 pub answers-fault : (bytes : List ℕ) (r : Result Script ScriptError) → Answers r (Tells bytes) → IfErr r (λ e. Stands bytes e)
@@ -342,27 +351,27 @@ take_whole n xs h =
     let few : min (n + 1) (length xs) ≤ n = subst (λ (k : ℕ). k ≤ n) (length-take (n + 1) xs) h in
     take_all (n + 1) xs (omega (arith, few))
 
-tells-all : (all : List ℕ) (told : Result Contents Wrong) → Tells (take 1048577 all) told → Tells all told
-tells-all all told (inl (long, e)) = inl (longer 1048576 all long, e)
-tells-all all told (inr (inl (short, bad, e))) = subst (λ (l : List ℕ). Tells l told) (take_whole 1048576 all short) (inr (inl (short, bad, e)))
-tells-all all told (inr (inr (short, text, says))) = subst (λ (l : List ℕ). Tells l told) (take_whole 1048576 all short) (inr (inr (short, text, says)))
+tells-all : (all : List ℕ) (said : Result Contents Wrong) → Tells (take 1048577 all) said → Tells all said
+tells-all all said (inl (long, e)) = inl (longer 1048576 all long, e)
+tells-all all said (inr (inl (short, bad, e))) = subst (λ (l : List ℕ). Tells l said) (take_whole 1048576 all short) (inr (inl (short, bad, e)))
+tells-all all said (inr (inr (short, text, says))) = subst (λ (l : List ℕ). Tells l said) (take_whole 1048576 all short) (inr (inr (short, text, says)))
 
 pub answers-all : (bytes all : List ℕ) (r : Result Script ScriptError) → bytes ≡ take 1048577 all → Answers r (Tells bytes) → Answers r (Tells all)
-answers-all bytes all (Ok s) e h = tells-all all (Ok s) (subst (λ (l : List ℕ). Tells l (Ok s)) e h)
+answers-all bytes all (Ok s) e h = tells-all all (Ok (told s)) (subst (λ (l : List ℕ). Tells l (Ok (told s))) e h)
 answers-all bytes all (Err errors.Memory) e h = tt
 answers-all bytes all (Err (errors.Fault f)) e h = tells-all all (Err (in_script f)) (subst (λ (l : List ℕ). Tells l (Err (in_script f))) e h)
 answers-all bytes all (Err (errors.Policy fault)) e (g, shown, h) = (g, shown, tells-all all (Err (in_policy g)) (subst (λ (l : List ℕ). Tells l (Err (in_policy g))) e h))
 
 -- from the answers of the parts to those of the whole
 
-pub answers-lines : (r : Result Script ScriptError) (told : Result Contents Fault) → Says r told → Answers r (λ w. w ≡ in_result told)
-answers-lines (Ok s) told h = ap in_result (sym h)
-answers-lines (Err errors.Memory) told h = tt
-answers-lines (Err (errors.Fault f)) told h = ap in_result (sym h)
-answers-lines (Err (errors.Policy e)) told h = absurd h
+pub answers-lines : (r : Result Script ScriptError) (all : Result Contents Fault) → Says r all → Answers r (λ w. w ≡ in_result all)
+answers-lines (Ok s) all h = ap in_result (sym h)
+answers-lines (Err errors.Memory) all h = tt
+answers-lines (Err (errors.Fault f)) all h = ap in_result (sym h)
+answers-lines (Err (errors.Policy e)) all h = absurd h
 
 pub answers-weaker : (r : Result Script ScriptError) (P Q : Result Contents Wrong → Type 0) → ((w : Result Contents Wrong) → P w → Q w) → Answers r P → Answers r Q
-answers-weaker (Ok s) P Q f h = f (Ok s) h
+answers-weaker (Ok s) P Q f h = f (Ok (told s)) h
 answers-weaker (Err errors.Memory) P Q f h = tt
 answers-weaker (Err (errors.Fault g)) P Q f h = f (Err (in_script g)) h
 answers-weaker (Err (errors.Policy e)) P Q f (g, shown, h) = (g, shown, f (Err (in_policy g)) h)
@@ -398,7 +407,7 @@ block_open count first lines o closes none =
     subst (λ (q : Option ℕ). BlockSays count first lines q (Err (in_script (record { line = count + 1; kind = Syntax })))) (sym none ∙ closes) refl
 
 -- a line closes it, and the lines behind it say the rest
-pub block_rest : (count first end : ℕ) (lines : List (Bor (List ℕ))) (p : Rights) (c : Contents) (r : Result Script ScriptError) → Some end ≡ closing (texts lines) → Means (texts (take end lines)) p → c ≡ with_policy p
+pub block_rest : (count first end : ℕ) (lines : List (Bor (List ℕ))) (p : Allowed) (c : Contents) (r : Result Script ScriptError) → Some end ≡ closing (texts lines) → Means (texts (take end lines)) p → c ≡ with_policy p
     → Says r (whole count c (first + end + 1 + 1) (texts (take (length lines - (end + 1)) (drop (end + 1) lines)))) → Answers r (BlockSays count first (texts lines) (closing (texts lines)))
 block_rest count first end lines p c r closes means starts h =
     let said : Says r (whole count (with_policy p) (first + end + 1 + 1) (drop (end + 1) (texts lines))) =

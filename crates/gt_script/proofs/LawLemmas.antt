@@ -13,21 +13,21 @@ use Rattle.gt_types.specs.declared.DomId.{DomId}
 use Rattle.gt_types.specs.declared.TypeId.{TypeId}
 use Rattle.gt_types.specs.declared.rights.Triple.{Triple}
 use Rattle.gt_types.specs.declared.config.DomainConfig.{DomainConfig}
-use Rattle.gt_script.specs.Words.{words}
-use Rattle.gt_script.specs.Numbers.{number_below}
-use Rattle.gt_script.specs.Fields.{◌>>=◌}
-use Rattle.gt_script.specs.Lines.{line_of}
+use Rattle.gt_lines.specs.Words.{words}
+use Rattle.gt_lines.specs.Numbers.{number_below}
+use Rattle.gt_lines.specs.Fields.{◌>>=◌}
+use Rattle.gt_lines.specs.Lines.{line_of}
 use Rattle.gt_script.specs.Types.{with_type}
-use Rattle.gt_policy.specs.Allowing.{Rights, type_named}
+use Rattle.gt_policy.specs.Allowing.{Allowed, type_named}
 use Rattle.gt_script.specs.Contents.{Contents, names_with}
 use Rattle.gt_script.specs.Script.{is_empty, is_misplaced, has_no_rights, or_config, domain_written, with_triple, type_in, with_domain, with_step, with_placed, with_line, with_words, with_lines}
 use Rattle.gt_script.specs.Laws.{said, type_number, triple_in, wear_in, domain_in, step_on, IsLine}
-use Rattle.gt_script.specs.declared.numbers.Number.{Number}
-use Rattle.gt_script.specs.declared.calls.Action.{Action}
-use Rattle.gt_script.specs.declared.lines.TripleLine.{TripleLine}
-use Rattle.gt_script.specs.declared.lines.DomainLine.{DomainLine}
-use Rattle.gt_script.specs.declared.lines.Line.{Line}
-use Rattle.gt_script.specs.declared.lines.Line.TheVariants as line
+use Rattle.gt_lines.specs.declared.numbers.Number.{Number}
+use Rattle.gt_lines.specs.declared.calls.Action.{Action}
+use Rattle.gt_lines.specs.declared.lines.TripleLine.{TripleLine}
+use Rattle.gt_lines.specs.declared.lines.DomainLine.{DomainLine}
+use Rattle.gt_lines.specs.declared.lines.Line.{Line}
+use Rattle.gt_lines.specs.declared.lines.Line.TheVariants as line
 use Rattle.gt_script.specs.declared.script.Step.{Step}
 use Rattle.gt_script.specs.declared.faults.FaultKind.{FaultKind}
 use Rattle.gt_script.specs.declared.faults.FaultKind.TheVariants.{Syntax}
@@ -84,7 +84,7 @@ taken-push ds d id h = list_any-append (λ (e : DomainConfig). e.id.0 == id.0) d
 -- what the line l, if it says one, adds to a script as line n
 record Adds (n : ℕ) (l : Option Line) (c d : Contents) : Type 0 where
   policy : d.policy ≡ c.policy
-  no_triples : (p : Rights) → c.policy ≡ Some p → d.triples ≡ c.triples
+  no_triples : (p : Allowed) → c.policy ≡ Some p → d.triples ≡ c.triples
   types : Grown c.types d.types
   triples : (types : List (List ℕ)) → Grown d.types types → d.triples ≡ c.triples ++ option_to_list (l >>= triple_in types)
   wear : option_to_list d.wear ≡ option_to_list c.wear ++ option_to_list (l >>= wear_in)
@@ -138,7 +138,7 @@ adds-triple n c d t free e =
     adds-triple-of n c d t p.0 q.0 free p.1 q.1 (same_Some _ _ q.2)
 
 -- the number that a domain's type has, with the names after its line
-record TypeIn (policy : Option Rights) (types : List (List ℕ)) (name : List ℕ) (label : List (List ℕ) × TypeId) : Type 0 where
+record TypeIn (policy : Option Allowed) (types : List (List ℕ)) (name : List ℕ) (label : List (List ℕ) × TypeId) : Type 0 where
   grown : Grown types label.0
   number : (later : List (List ℕ)) → Grown label.0 later → type_number (names_with policy later) name ≡ Some label.1
 
@@ -146,7 +146,7 @@ declared-as : (types : List (List ℕ)) (o : Option TypeId) (label : List (List 
 declared-as types None label e = absurd cc
 declared-as types (Some id) label e = let same : (types, id) ≡ label = same_Some _ _ e in (ap (λ (l : List (List ℕ) × TypeId). l.0) same, ap (λ (l : List (List ℕ) × TypeId). Some l.1) same)
 
-type_in-Is : (policy : Option Rights) (types : List (List ℕ)) (name : List ℕ) (label : List (List ℕ) × TypeId) → type_in policy types name ≡ Some label → TypeIn policy types name label
+type_in-Is : (policy : Option Allowed) (types : List (List ℕ)) (name : List ℕ) (label : List (List ℕ) × TypeId) → type_in policy types name ≡ Some label → TypeIn policy types name label
 type_in-Is None types name label e = let a = with_type-Typed types name label e in record { grown = a.grown; number = λ later g. g.kept _ _ a.number }
 type_in-Is (Some p) types name label e =
     let is = declared-as types (type_named p.types name) label e in
@@ -265,7 +265,7 @@ said-words n (w ∷ ws) c d e = said-some n w ws c d (line_of (w ∷ ws)) refl e
 -- what the lines from number n on add to a script
 pub record Extends (n : ℕ) (ls : List (List ℕ)) (c d : Contents) : Type 0 where
   pub policy : d.policy ≡ c.policy
-  pub no_triples : (p : Rights) → c.policy ≡ Some p → d.triples ≡ c.triples
+  pub no_triples : (p : Allowed) → c.policy ≡ Some p → d.triples ≡ c.triples
   pub readable : All IsLine ls
   pub types : Grown c.types d.types
   pub triples : (types : List (List ℕ)) → Grown d.types types → d.triples ≡ c.triples ++ filter_map (λ l. triple_in types l.1) (said n ls)
@@ -300,7 +300,7 @@ extends-cons n l ls c d e a x =
       wear = joined (option_to_list c.wear) (option_to_list d.wear) (option_to_list e.wear) _ _ here.wear x.wear
           ∙ ap (λ (gs : List ℕ). option_to_list c.wear ++ gs) (sym (filter-cons (λ _ y. wear_in y) n (line_of (words l)) (said (n + 1) ls)));
       domains = λ types g. joined c.domains d.domains e.domains _ _ (here.domains types (Grown-trans _ _ _ x.types g))
-          (subst (λ (q : Option Rights). e.domains ≡ d.domains ++ filter_map (λ l. domain_in (names_with q types) l.1) (said (n + 1) ls)) here.policy (x.domains types g))
+          (subst (λ (q : Option Allowed). e.domains ≡ d.domains ++ filter_map (λ l. domain_in (names_with q types) l.1) (said (n + 1) ls)) here.policy (x.domains types g))
           ∙ ap (λ (ds : List DomainConfig). c.domains ++ ds) (sym (filter-cons (λ _ y. domain_in (names_with c.policy types) y) n (line_of (words l)) (said (n + 1) ls)));
       steps = joined c.steps d.steps e.steps _ _ here.steps x.steps
           ∙ ap (λ (ss : List Step). c.steps ++ ss) (sym (filter-cons step_on n (line_of (words l)) (said (n + 1) ls)));

@@ -1,7 +1,7 @@
 pub mod BlockLemmas
 pub mod FaultLemmas
-pub mod HexadecimalLemmas
 pub mod LawLemmas
 pub mod ScriptLemmas
 pub mod TypeLemmas
 pub mod WearLemmas
+pub mod OneLemmas

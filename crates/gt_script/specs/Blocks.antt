@@ -2,11 +2,11 @@
 use Rattle.std.specs.Prelude.{◌≡◌, ◌+◌, ℕ, suc, Bool, false, List, [], ◌∷◌, ◌++◌, length, Option, Some, None, Result, Ok, Err, codes, flat_map, if◌then◌else◌, ◌==◌}
 use Rattle.std.specs.Option.{option_map}
 use Rattle.std.specs.Str.{bytes_eq}
-use Rattle.gt_policy.specs.Allowing.{Meaning, Rights, Shows}
+use Rattle.gt_policy.specs.Allowing.{Meaning, Rights, Allowed, allowed_of, allowed_by}
 use Rattle.gt_policy.specs.Shown.{kind_shown}
 use Rattle.gt_policy.specs.Whole.{Says}
 use Rattle.gt_policy.specs.declared.fault.Fault as policy
-use Rattle.gt_script.specs.Words.{words}
+use Rattle.gt_lines.specs.Words.{words}
 use Rattle.gt_script.specs.declared.faults.BlockFault.{BlockFault}
 use Rattle.gt_script.specs.declared.faults.ScriptError.{ScriptError}
 use Rattle.gt_script.specs.declared.faults.ScriptError.TheVariants as errors
@@ -44,9 +44,9 @@ behind before f = record { line = before + f.line; kind = f.kind }
 abbrev pub block_fault_shown : BlockFault → Option policy.Fault
 block_fault_shown e = option_map (λ k. record { line = e.line; kind = k }) (kind_shown e.kind)
 
--- the block means this policy (own)
-abbrev pub Means : List (List ℕ) → Rights → Type 0
-Means lines p = (m : Meaning) × Says (block_text lines) (Ok m) × Shows p m
+-- the block tells these types and what they may do to one another: those of its meaning (own)
+abbrev pub Means : List (List ℕ) → Allowed → Type 0
+Means lines a = (m : Meaning) × Says (block_text lines) (Ok m) × (a ≡ allowed_by m)
 
 -- the block, behind so many lines, has this fault, which is its first (own)
 abbrev pub IsFaulty : ℕ → List (List ℕ) → policy.Fault → Type 0
@@ -54,7 +54,7 @@ IsFaulty before lines g = (f : policy.Fault) × Says (block_text lines) (Err f) 
 
 -- the policy of a block or its fault, unless memory ran out (own)
 abbrev pub IsPolicyOf : ℕ → List (List ℕ) → Result Rights ScriptError → Type 0
-IsPolicyOf before lines (Ok p) = Means lines p
+IsPolicyOf before lines (Ok p) = Means lines (allowed_of p)
 IsPolicyOf before lines (Err errors.Memory) = Unit {0}
 IsPolicyOf before lines (Err (errors.Fault f)) = ⊥
 IsPolicyOf before lines (Err (errors.Policy e)) = (g : policy.Fault) × (block_fault_shown e ≡ Some g) × IsFaulty before lines g

@@ -1,13 +1,22 @@
 -- What a script holds.
 use Rattle.std.specs.Prelude.{ℕ, List, [], Option, Some, None}
-use Rattle.std.specs.Option.{unwrap_or}
+use Rattle.std.specs.Option.{unwrap_or, option_map}
 use Rattle.gt_types.specs.declared.rights.Triple.{Triple}
 use Rattle.gt_types.specs.declared.config.DomainConfig.{DomainConfig}
-use Rattle.gt_policy.specs.Allowing.{Rights}
+use Rattle.gt_policy.specs.Allowing.{Rights, Allowed, allowed_of}
 use Rattle.gt_script.specs.declared.script.Step.{Step}
 
--- the policy of its block, where it has one; else the names of its types, by their numbers, and its triples; its domains and steps; all in the order of their lines; and the number of its line `wear`, where it has one (own)
+-- what the policy of its block tells, where it has one; else the names of its types, by their numbers, and its triples; its domains and steps; all in the order of their lines; and the number of its line `wear`, where it has one (own)
 pub record Contents : Type 0 where
+  pub policy : Option Allowed
+  pub types : List (List ℕ)
+  pub triples : List Triple
+  pub wear : Option ℕ
+  pub domains : List DomainConfig
+  pub steps : List Step
+
+-- the same, with the policy as it is kept (own)
+pub record Kept : Type 0 where
   pub policy : Option Rights
   pub types : List (List ℕ)
   pub triples : List Triple
@@ -15,16 +24,20 @@ pub record Contents : Type 0 where
   pub domains : List DomainConfig
   pub steps : List Step
 
+-- what a script holds that is kept so (own)
+abbrev pub told : Kept → Contents
+told k = record { policy = option_map allowed_of k.policy; types = k.types; triples = k.triples; wear = k.wear; domains = k.domains; steps = k.steps }
+
 -- a script of no line (own)
 abbrev pub empty : Contents
 empty = record { policy = None; types = []; triples = []; wear = None; domains = []; steps = [] }
 
 -- a script of a policy block alone (own)
-abbrev pub with_policy : Rights → Contents
+abbrev pub with_policy : Allowed → Contents
 with_policy p = record empty { policy = Some p }
 
 -- the names of the types, with these where there is no policy (own)
-abbrev pub names_with : Option Rights → List (List ℕ) → List (List ℕ)
+abbrev pub names_with : Option Allowed → List (List ℕ) → List (List ℕ)
 names_with None types = types
 names_with (Some p) types = p.types
 

@@ -5,22 +5,23 @@ use Rattle.std.specs.List.{filter_map, enumerate_from}
 use Rattle.std.specs.Str.{bytes_eq, IsUtf8}
 use Rattle.std.specs.Str.Lines.{lines as lines_in}
 use Rattle.std.specs.Str.Lossy.{utf8_valid_len}
+use Rattle.gt_streams.specs.Texts.{line_after}
 use Rattle.gt_types.specs.Config.{is_taken, AreFaultless}
-use Rattle.gt_types.specs.declared.limits.TheConstants.{LAST_GENERATION}
+use Rattle.gt_types.specs.declared.limits.TheConstants.{LAST_GENERATION, LONGEST_TEXT}
 use Rattle.gt_types.specs.declared.TypeId.{TypeId}
 use Rattle.gt_types.specs.declared.rights.Triple.{Triple}
 use Rattle.gt_types.specs.declared.config.DomainConfig.{DomainConfig}
-use Rattle.gt_policy.specs.Allowing.{Rights}
+use Rattle.gt_policy.specs.Allowing.{Allowed}
 use Rattle.gt_policy.specs.declared.fault.Fault as policy
 use Rattle.gt_script.specs.Blocks.{Means, IsFaulty, block_fault_shown}
-use Rattle.gt_script.specs.Words.{words}
-use Rattle.gt_script.specs.Numbers.{number_below}
-use Rattle.gt_script.specs.Fields.{◌>>=◌}
-use Rattle.gt_script.specs.Lines.{line_of}
+use Rattle.gt_lines.specs.Words.{words}
+use Rattle.gt_lines.specs.Numbers.{number_below}
+use Rattle.gt_lines.specs.Fields.{◌>>=◌}
+use Rattle.gt_lines.specs.Lines.{line_of}
 use Rattle.gt_script.specs.Contents.{Contents, empty, with_policy, type_names, first_gen}
-use Rattle.gt_script.specs.Script.{domain_written, with_words, with_lines, line_after, most_bytes}
-use Rattle.gt_script.specs.declared.lines.Line.{Line}
-use Rattle.gt_script.specs.declared.lines.Line.TheVariants as line
+use Rattle.gt_script.specs.Script.{domain_written, with_words, with_lines}
+use Rattle.gt_lines.specs.declared.lines.Line.{Line}
+use Rattle.gt_lines.specs.declared.lines.Line.TheVariants as line
 use Rattle.gt_script.specs.declared.script.Step.{Step}
 use Rattle.gt_script.specs.declared.faults.Fault.{Fault}
 use Rattle.gt_script.specs.declared.faults.FaultKind.TheVariants.{Limit, Utf8, Syntax, Config}
@@ -115,7 +116,7 @@ pub record IsPolicyScript (lines : List (List ℕ)) (c : Contents) : Type 0 wher
   pub block : List (List ℕ)
   pub rest : List (List ℕ)
   pub has : HasBlock lines block rest
-  pub rights : Rights
+  pub rights : Allowed
   pub means : Means block rights
   pub policy : c.policy ≡ Some rights
   pub parts : SayParts (lines_before has + length block + 2) rest c
@@ -135,12 +136,12 @@ pub record IsFaultOfLine (n : ℕ) (lines : List (List ℕ)) (c : Contents) (f :
   pub earlier : with_lines c n (take place lines) ≡ Ok before
   pub here : with_words before f.line (words line) ≡ Err f.kind
 
--- no line has a fault, and what the script of `count` lines lacks is named behind the last: syntax where nothing is allowed, config where no domain is configured (own)
+-- no line has a fault, and what the script of `count` lines lacks is named behind the last: syntax where nothing is allowed, config where something is allowed and no domain is configured (own)
 pub record IsFaultOfEnd (count n : ℕ) (lines : List (List ℕ)) (c : Contents) (f : Fault) : Type 0 where
   pub all : Contents
   pub earlier : with_lines c n lines ≡ Ok all
   pub number : f.line ≡ count + 1
-  pub lacks : ((all.policy ≡ None) × (all.triples ≡ []) × (f.kind ≡ Syntax)) ⊎ ((all.domains ≡ []) × (f.kind ≡ Config))
+  pub lacks : ((all.policy ≡ None) × (all.triples ≡ []) × (f.kind ≡ Syntax)) ⊎ (((1 ≤ length all.triples) ⊎ IsSome all.policy) × (all.domains ≡ []) × (f.kind ≡ Config))
 
 -- the first fault of lines from number n on that are added to a script of `count` lines (own)
 abbrev pub IsFirstFault : ℕ → Contents → ℕ → List (List ℕ) → Fault → Type 0
@@ -169,7 +170,7 @@ pub record IsFaultBehind (lines : List (List ℕ)) (f : Fault) : Type 0 where
   pub block : List (List ℕ)
   pub rest : List (List ℕ)
   pub has : HasBlock lines block rest
-  pub rights : Rights
+  pub rights : Allowed
   pub means : Means block rights
   pub first : IsFirstFault (length lines) (with_policy rights) (lines_before has + length block + 2) rest f
 
@@ -183,16 +184,16 @@ IsFaultOfLines lines f =
 -- the bytes are too many, or no text, and this is their fault (own)
 abbrev pub IsUnread : List ℕ → Fault → Type 0
 IsUnread bytes f =
-    ((most_bytes < length bytes) × (f ≡ record { line = 1; kind = Limit }))
-    ⊎ ((length bytes ≤ most_bytes) × (¬ IsUtf8 bytes) × (f ≡ record { line = line_after (take (utf8_valid_len bytes) bytes); kind = Utf8 }))
+    ((LONGEST_TEXT < length bytes) × (f ≡ record { line = 1; kind = Limit }))
+    ⊎ ((length bytes ≤ LONGEST_TEXT) × (¬ IsUtf8 bytes) × (f ≡ record { line = line_after (take (utf8_valid_len bytes) bytes); kind = Utf8 }))
 
 -- the first fault of the bytes, where it is none of a policy: too many, no text, or the first fault of the lines (own)
 abbrev pub IsFaultOf : List ℕ → Fault → Type 0
-IsFaultOf bytes f = IsUnread bytes f ⊎ ((length bytes ≤ most_bytes) × IsUtf8 bytes × IsFaultOfLines (lines_in bytes) f)
+IsFaultOf bytes f = IsUnread bytes f ⊎ ((length bytes ≤ LONGEST_TEXT) × IsUtf8 bytes × IsFaultOfLines (lines_in bytes) f)
 
 -- the first fault of the bytes is that of their policy block, on its own line of them (own)
 pub record IsFaultOfBlock (bytes : List ℕ) (g : policy.Fault) : Type 0 where
-  pub short : length bytes ≤ most_bytes
+  pub short : length bytes ≤ LONGEST_TEXT
   pub text : IsUtf8 bytes
   pub block : List (List ℕ)
   pub rest : List (List ℕ)

@@ -1,13 +1,7 @@
 pub mod Blocks
-pub mod Calls
 pub mod Contents
 pub mod Faults
-pub mod Fields
-pub mod Hexadecimal
 pub mod Laws
-pub mod Lines
-pub mod Numbers
 pub mod Outcomes
 pub mod Script
 pub mod Types
-pub mod Words

@@ -2,7 +2,7 @@
 use Rattle.std.specs.Prelude.{◌≡◌, ℕ, Some, Result, Ok, Err}
 use Rattle.gt_policy.specs.declared.fault.Fault as policy
 use Rattle.gt_script.specs.Blocks.{block_fault_shown}
-use Rattle.gt_script.specs.Contents.{Contents}
+use Rattle.gt_script.specs.Contents.{Contents, told}
 use Rattle.gt_script.specs.Script.{Wrong, in_script, in_policy}
 use Rattle.gt_script.specs.declared.faults.FaultKind.{FaultKind}
 use Rattle.gt_script.specs.declared.faults.Fault as text
@@ -14,20 +14,20 @@ use Rattle.gt_script.specs.declared.script.AddError.TheVariants.{Memory, Fault}
 
 -- a script with more lines is this one, or has this fault, unless memory ran out (own)
 abbrev pub Adds : Result Script AddError → Result Contents FaultKind → Type 0
-Adds (Ok script) added = added ≡ Ok script
+Adds (Ok script) added = added ≡ Ok (told script)
 Adds (Err Memory) added = Unit {0}
 Adds (Err (Fault kind)) added = added ≡ Err kind
 
 -- lines say this script, or have this fault, unless memory ran out; a fault of a policy is none of lines (own)
 abbrev pub Says : Result Script ScriptError → Result Contents text.Fault → Type 0
-Says (Ok script) said = said ≡ Ok script
+Says (Ok script) said = said ≡ Ok (told script)
 Says (Err errors.Memory) said = Unit {0}
 Says (Err (errors.Fault fault)) said = said ≡ Err fault
 Says (Err (errors.Policy fault)) said = ⊥
 
 -- what is told is this script, or this fault, unless memory ran out (own)
 abbrev pub Answers : Result Script ScriptError → (Result Contents Wrong → Type 0) → Type 0
-Answers (Ok script) Told = Told (Ok script)
+Answers (Ok script) Told = Told (Ok (told script))
 Answers (Err errors.Memory) Told = Unit {0}
 Answers (Err (errors.Fault fault)) Told = Told (Err (in_script fault))
 Answers (Err (errors.Policy fault)) Told = (g : policy.Fault) × (block_fault_shown fault ≡ Some g) × Told (Err (in_policy g))

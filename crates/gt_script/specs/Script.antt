@@ -3,25 +3,27 @@ use Rattle.std.specs.Prelude.{◌≡◌, ◌⊎◌, ◌<◌, ◌≤◌, ℕ, ◌
 use Rattle.std.specs.Option.{option_map}
 use Rattle.std.specs.Str.{IsUtf8}
 use Rattle.std.specs.Str.Lossy.{utf8_valid_len}
+use Rattle.gt_streams.specs.Texts.{line_after}
+use Rattle.gt_types.specs.declared.limits.TheConstants.{LONGEST_TEXT}
 use Rattle.std.specs.Str.Lines.{lines as lines_in}
 use Rattle.gt_types.specs.Config.{is_taken, domain_fault}
 use Rattle.gt_types.specs.declared.TypeId.{TypeId}
 use Rattle.gt_types.specs.declared.config.DomainConfig.{DomainConfig}
-use Rattle.gt_policy.specs.Allowing.{Rights, type_named}
+use Rattle.gt_policy.specs.Allowing.{Allowed, type_named}
 use Rattle.gt_policy.specs.declared.fault.Fault as policy
 use Rattle.gt_script.specs.Blocks.{opening, closing, Means, IsFaulty}
-use Rattle.gt_script.specs.Words.{words}
-use Rattle.gt_script.specs.Numbers.{number_below}
-use Rattle.gt_script.specs.Fields.{◌>>=◌}
-use Rattle.gt_script.specs.Lines.{line_of}
+use Rattle.gt_lines.specs.Words.{words}
+use Rattle.gt_lines.specs.Numbers.{number_below}
+use Rattle.gt_lines.specs.Fields.{◌>>=◌}
+use Rattle.gt_lines.specs.Lines.{line_of}
 use Rattle.gt_script.specs.Types.{with_type}
 use Rattle.gt_script.specs.Contents.{Contents, empty, with_policy}
-use Rattle.gt_script.specs.declared.numbers.Number.{Number}
-use Rattle.gt_script.specs.declared.calls.Action.{Action}
-use Rattle.gt_script.specs.declared.lines.TripleLine.{TripleLine}
-use Rattle.gt_script.specs.declared.lines.DomainLine.{DomainLine}
-use Rattle.gt_script.specs.declared.lines.Line.{Line}
-use Rattle.gt_script.specs.declared.lines.Line.TheVariants as line
+use Rattle.gt_lines.specs.declared.numbers.Number.{Number}
+use Rattle.gt_lines.specs.declared.calls.Action.{Action}
+use Rattle.gt_lines.specs.declared.lines.TripleLine.{TripleLine}
+use Rattle.gt_lines.specs.declared.lines.DomainLine.{DomainLine}
+use Rattle.gt_lines.specs.declared.lines.Line.{Line}
+use Rattle.gt_lines.specs.declared.lines.Line.TheVariants as line
 use Rattle.gt_script.specs.declared.faults.FaultKind.{FaultKind}
 use Rattle.gt_script.specs.declared.faults.FaultKind.TheVariants.{Limit, Utf8, Syntax, Config}
 use Rattle.gt_script.specs.declared.faults.Fault.{Fault}
@@ -63,7 +65,7 @@ with_triple c t = or_config (do
   Some (record c { types = target.0; triples = c.triples ++ record { source = source.1; target = target.1; perm = t.perm } ∷ [] }))
 
 -- the number of a domain's type, which the policy has to declare; where there is none, any name is a type (own)
-abbrev pub type_in : Option Rights → List (List ℕ) → List ℕ → Option (List (List ℕ) × TypeId)
+abbrev pub type_in : Option Allowed → List (List ℕ) → List ℕ → Option (List (List ℕ) × TypeId)
 type_in None types name = with_type types name
 type_in (Some p) types name = option_map (λ id. (types, id)) (type_named p.types name)
 
@@ -124,10 +126,6 @@ completed_if_ok count (Err f) = Err f
 abbrev pub whole : ℕ → Contents → ℕ → List (List ℕ) → Result Contents Fault
 whole count c n lines = completed_if_ok count (with_lines c n lines)
 
--- the line on which a text stops (own)
-abbrev pub line_after : List ℕ → ℕ
-line_after text = count_by (λ b. b == 10) text + 1
-
 -- a fault: of the script, or of its policy block (own)
 pub data Wrong : Type 0 where
   in_script : Fault → Wrong
@@ -141,7 +139,7 @@ in_result (Err f) = Err (in_script f)
 -- the lines behind a line `policy` of this number, of which the one at this place is `end`, say this: the rest of a script of `count` lines with the policy of the block, or its fault (own)
 abbrev pub ClosedSays : ℕ → ℕ → List (List ℕ) → ℕ → Result Contents Wrong → Type 0
 ClosedSays count first lines end said =
-    ((p : Rights) × Means (take end lines) p × (said ≡ in_result (whole count (with_policy p) (first + end + 1 + 1) (drop (end + 1) lines))))
+    ((p : Allowed) × Means (take end lines) p × (said ≡ in_result (whole count (with_policy p) (first + end + 1 + 1) (drop (end + 1) lines))))
     ⊎ ((g : policy.Fault) × IsFaulty first (take end lines) g × (said ≡ Err (in_policy g)))
 
 -- the same, where a line `end` may be missing (own)
@@ -158,13 +156,9 @@ LinesSay lines (Some place) said = BlockSays (length lines) (place + 1) (drop (p
 abbrev pub TextSays : List ℕ → Result Contents Wrong → Type 0
 TextSays text said = LinesSay (lines_in text) (opening (lines_in text)) said
 
--- the most bytes that a script may have (own)
-abbrev pub most_bytes : ℕ
-most_bytes = 1048576
-
 -- the bytes say this script, or have this fault, which is their first: they are too many, or no text, or it is that of the text (own)
 abbrev pub Tells : List ℕ → Result Contents Wrong → Type 0
 Tells bytes said =
-    ((most_bytes < length bytes) × (said ≡ Err (in_script (record { line = 1; kind = Limit }))))
-    ⊎ (((length bytes ≤ most_bytes) × (¬ IsUtf8 bytes) × (said ≡ Err (in_script (record { line = line_after (take (utf8_valid_len bytes) bytes); kind = Utf8 }))))
-    ⊎ ((length bytes ≤ most_bytes) × IsUtf8 bytes × TextSays bytes said))
+    ((LONGEST_TEXT < length bytes) × (said ≡ Err (in_script (record { line = 1; kind = Limit }))))
+    ⊎ (((length bytes ≤ LONGEST_TEXT) × (¬ IsUtf8 bytes) × (said ≡ Err (in_script (record { line = line_after (take (utf8_valid_len bytes) bytes); kind = Utf8 }))))
+    ⊎ ((length bytes ≤ LONGEST_TEXT) × IsUtf8 bytes × TextSays bytes said))

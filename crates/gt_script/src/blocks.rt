@@ -3,8 +3,7 @@ ghost use Rattle.std.specs.Prelude.{◌≡◌, ◌+◌, ◌<◌, ◌^◌, ℕ, L
 ghost use Rattle.gt_script.specs.Blocks.{is_just as says_just, opening as opening_in, closing as closing_in, block_text as text_in, IsPolicyOf};
 
 use crate::faults::ScriptError;
-use crate::fields::is;
-use crate::words::words;
+use gt_lines::{is, line_words};
 use gt_policy::Policy;
 use std::alloc::{AllocError, Global};
 
@@ -23,7 +22,7 @@ pub fn opening(alloc: Global, lines: &[&str]) -> Result<Option<usize>, AllocErro
     ensures within { IfOk result (λ place. IfSome place (λ i. i < length lines.now)) }
 {
     'lines: for (i, line) in lines.iter().enumerate() {
-        let words = words(alloc, line)?;
+        let words = line_words(alloc, line)?;
         if !words.is_empty() {
             let opens = is_just(words.as_slice(), "policy");
             return Ok(if opens { Some(i) } else { None });
@@ -38,7 +37,7 @@ pub fn closing(alloc: Global, lines: &[&str]) -> Result<Option<usize>, AllocErro
     ensures within { IfOk result (λ place. IfSome place (λ i. i < length lines.now)) }
 {
     'lines: for (i, line) in lines.iter().enumerate() {
-        if is_just(words(alloc, line)?.as_slice(), "end") {
+        if is_just(line_words(alloc, line)?.as_slice(), "end") {
             return Ok(Some(i));
         }
     }
@@ -46,7 +45,7 @@ pub fn closing(alloc: Global, lines: &[&str]) -> Result<Option<usize>, AllocErro
 }
 
 // The text of a block's lines.
-fn text_of(alloc: Global, lines: &[&str]) -> Result<String, AllocError>
+fn block_text(alloc: Global, lines: &[&str]) -> Result<String, AllocError>
     ensures { IfOk result (λ text. string_bytes text ≡ text_in (map (λ line. line.now) lines.now)) }
 {
     let mut text = String::new(alloc);
@@ -63,7 +62,7 @@ pub fn read_policy(alloc: Global, before: usize, lines: &[&str]) -> Result<Polic
     requires { before < 2 ^ 63 }
     ensures { IsPolicyOf before (map (λ line. line.now) lines.now) result }
 {
-    let text = text_of(alloc, lines)?;
+    let text = block_text(alloc, lines)?;
     match Policy::parse(alloc, text.as_str()) {
         Ok(policy) => Ok(policy),
         Err(fault) => Err(ScriptError::in_block(before, fault)),

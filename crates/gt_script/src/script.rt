@@ -1,28 +1,24 @@
 //! A script: what stands on its lines, in order.
-ghost use Rattle.std.specs.Prelude.{◌≡◌, ◌≤◌, ◌<◌, ◌+◌, ◌==◌, ◌^◌, ◌⊎◌, ℕ, List, length, take, drop, count_by, map, IfOk, IfErr};
+ghost use Rattle.std.specs.Prelude.{◌≡◌, ◌≤◌, ◌<◌, ◌+◌, ◌^◌, ◌⊎◌, ℕ, List, length, take, drop, map, IfOk, IfErr};
 ghost use Rattle.std.specs.Str.{IsUtf8};
 ghost use Rattle.std.specs.Str.Lines.{lines as lines_in};
 ghost use Rattle.gt_types.specs.Config.{is_taken};
 ghost use Rattle.gt_script.specs.Blocks.{opening as opening_in, closing as closing_in};
 ghost use Rattle.gt_script.specs.Script.{domain_written, LinesSay, BlockSays, TextSays, Tells};
+ghost use Rattle.gt_script.specs.Contents.{told};
 ghost use Rattle.gt_script.specs.Outcomes.{Answers};
 ghost use Rattle.gt_script.specs.Laws.{IsScriptOf, Stands, IsUnread};
 
 use crate::blocks::{closing, opening, read_policy};
-use crate::calls::Action;
 use crate::faults::{Fault, FaultKind, ScriptError};
-use crate::lines::{DomainLine, Line, TripleLine, read_line};
-use crate::numbers::Number;
-use crate::texts::Text;
 use crate::types::TypeNames;
-use crate::words::{lines, words};
+use gt_lines::{
+    Action, DomainLine, Line, Number, Text, TripleLine, line_words, read_line, text_lines,
+};
 use gt_policy::Policy;
-use gt_types::{DomId, DomainConfig, Triple, TypeId};
+use gt_types::{DomId, DomainConfig, LONGEST_TEXT, Triple, TypeId};
 use std::alloc::{AllocError, Global};
 use std::marker::Model;
-
-/// The most bytes that a script may have.
-pub const MOST_BYTES: usize = 1_048_576;
 
 /// What a line of the body asks, with the number of that line and its domain.
 #[derive(Debug, Drop)]
@@ -44,9 +40,9 @@ pub struct Script<'a> {
 }
 
 impl<'a> Model for Script<'a> {
-    ghost use Rattle.gt_script.specs.Contents.{Contents};
+    ghost use Rattle.gt_script.specs.Contents.{Kept};
 
-    ghost Value = { Contents };
+    ghost Value = { Kept };
 
     ghost view = { λ s. record {
       policy = s.policy;
@@ -136,14 +132,15 @@ fn domain_written(line: &DomainLine, label: TypeId) -> Option<DomainConfig>
 
 impl<'a> Script<'a> {
     ghost use Rattle.std.specs.Prelude.{◌≡◌, map, ◌<◌, ◌≤◌, ◌+◌, ◌-◌, ◌^◌, length};
-    ghost use Rattle.gt_script.specs.Words.{words as words_in};
+    ghost use Rattle.gt_lines.specs.Words.{words as words_in};
     ghost use Rattle.std.specs.Option.{option_map};
-    ghost use Rattle.gt_script.specs.Contents.{empty, with_policy, type_names, first_gen};
+    ghost use Rattle.gt_policy.specs.Allowing.{allowed_of};
+    ghost use Rattle.gt_script.specs.Contents.{told, empty, with_policy, type_names, first_gen};
     ghost use Rattle.gt_script.specs.Script.{with_triple, type_in, with_names, with_domain, with_step, with_line, with_words, with_lines, completed, whole, has_no_rights, is_misplaced};
     ghost use Rattle.gt_script.specs.Outcomes.{Adds, Says};
 
     fn new(alloc: Global) -> Script<'a>
-        ensures { result ≡ empty }
+        ensures { told result ≡ empty }
     {
         Script {
             policy: None,
@@ -157,7 +154,7 @@ impl<'a> Script<'a> {
 
     // A script with this policy, and nothing more so far.
     fn with_policy(alloc: Global, policy: Policy) -> Script<'a>
-        ensures { result ≡ with_policy policy }
+        ensures { told result ≡ with_policy (allowed_of policy) }
     {
         let mut script = Script::new(alloc);
         script.policy = Some(policy);
@@ -167,7 +164,7 @@ impl<'a> Script<'a> {
     /// The names of the types, from the policy or from triples and labels: the type with number i has
     /// the name at place i.
     pub fn type_names(&self, alloc: Global) -> Result<Vec<Text<'_>>, AllocError>
-        ensures { IfOk result (λ names. names.items ≡ type_names self.now) }
+        ensures { IfOk result (λ names. names.items ≡ type_names (told self.now)) }
     {
         match &self.policy {
             Some(policy) => names_of(alloc, policy),
@@ -191,7 +188,7 @@ impl<'a> Script<'a> {
 
     /// The first generation of all entries, 0 to 1,048,575: that of the line `wear`, or 0.
     pub fn first_gen(&self) -> u32
-        ensures { result ≡ first_gen self.now }
+        ensures { result ≡ first_gen (told self.now) }
     {
         self.wear.unwrap_or(0)
     }
@@ -212,7 +209,7 @@ impl<'a> Script<'a> {
 
     #[tactic(auto, unfolding(crate::specs::Script::with_triple))]
     fn with_triple(mut self, triple: TripleLine<'a>) -> Result<Script<'a>, AddError>
-        ensures { Adds result (with_triple self.entry triple.entry) }
+        ensures { Adds result (with_triple (told self.entry) triple.entry) }
     {
         let Some(source) = self.types.number(triple.source.as_bytes())? else {
             return Err(AddError::Fault(FaultKind::Config));
@@ -233,7 +230,7 @@ impl<'a> Script<'a> {
 
     // The number of a domain's type, which the policy has to declare; without one any name is a type.
     fn type_number(&mut self, name: &'a [u8]) -> Result<Option<TypeId>, AllocError>
-        ensures { IfOk result (λ number. option_map (λ id. (self.new, id)) number ≡ option_map (with_names self.old) (type_in self.old.policy self.old.types name.entry.now)) }
+        ensures { IfOk result (λ number. option_map (λ id. (told self.new, id)) number ≡ option_map (with_names (told self.old)) (type_in (told self.old).policy self.old.types name.entry.now)) }
     {
         match &self.policy {
             Some(policy) => Ok(policy.type_spelled(name)),
@@ -243,7 +240,7 @@ impl<'a> Script<'a> {
 
     #[tactic(auto, unfolding(crate::specs::Script::with_domain))]
     fn with_domain(mut self, line: DomainLine<'a>) -> Result<Script<'a>, AddError>
-        ensures { Adds result (with_domain self.entry line.entry) }
+        ensures { Adds result (with_domain (told self.entry) line.entry) }
     {
         let Some(label) = self.type_number(line.type_name.as_bytes())? else {
             return Err(AddError::Fault(FaultKind::Config));
@@ -265,7 +262,7 @@ impl<'a> Script<'a> {
         id: Number,
         action: Action<'a>,
     ) -> Result<Script<'a>, AddError>
-        ensures { Adds result (with_step self.entry line id action.entry) }
+        ensures { Adds result (with_step (told self.entry) line id action.entry) }
     {
         let Some(id) = id.below(1 << 16) else {
             return Err(AddError::Fault(FaultKind::Config));
@@ -282,14 +279,14 @@ impl<'a> Script<'a> {
 
     #[tactic(auto, unfolding(crate::specs::Script::has_no_rights))]
     fn has_no_rights(&self) -> bool
-        ensures { result ≡ has_no_rights self.now }
+        ensures { result ≡ has_no_rights (told self.now) }
     {
         self.policy.is_none() && self.triples.is_empty()
     }
 
     #[tactic(auto, unfolding(crate::specs::Script::is_misplaced))]
     fn is_misplaced(&self, line: &Line<'a>) -> bool
-        ensures { result ≡ is_misplaced self.now line.now }
+        ensures { result ≡ is_misplaced (told self.now) line.now }
     {
         match line {
             Line::Triple(_) => {
@@ -305,7 +302,7 @@ impl<'a> Script<'a> {
 
     #[tactic(auto, unfolding(crate::specs::Script::with_line))]
     fn with_line(mut self, number: usize, line: Line<'a>) -> Result<Script<'a>, AddError>
-        ensures { Adds result (with_line self.entry number line.entry) }
+        ensures { Adds result (with_line (told self.entry) number line.entry) }
     {
         if self.is_misplaced(&line) {
             return Err(AddError::Fault(FaultKind::Syntax));
@@ -323,7 +320,7 @@ impl<'a> Script<'a> {
 
     #[tactic(auto, unfolding(crate::specs::Script::with_words))]
     fn with_words(self, number: usize, words: &[&'a [u8]]) -> Result<Script<'a>, AddError>
-        ensures { Adds result (with_words self.entry number (map (λ w. w.now) words.now)) }
+        ensures { Adds result (with_words (told self.entry) number (map (λ w. w.now) words.now)) }
     {
         if words.is_empty() {
             return Ok(self);
@@ -340,9 +337,9 @@ impl<'a> Script<'a> {
         number: usize,
         line: &'a str,
     ) -> Result<Script<'a>, AddError>
-        ensures { Adds result (with_words self.entry number (words_in line.entry.now)) }
+        ensures { Adds result (with_words (told self.entry) number (words_in line.entry.now)) }
     {
-        let words = words(alloc, line)?;
+        let words = line_words(alloc, line)?;
         self.with_words(number, words.as_slice())
     }
 
@@ -354,7 +351,7 @@ impl<'a> Script<'a> {
         lines: &[&'a str],
     ) -> Result<Script<'a>, ScriptError>
         requires { before + length lines.now < 2 ^ 64 - 1 }
-        ensures { Says result (with_lines self.entry (before + 1) (map (λ line. line.now) lines.now)) }
+        ensures { Says result (with_lines (told self.entry) (before + 1) (map (λ line. line.now) lines.now)) }
     {
         let mut script = self;
         for (i, line) in lines.iter().enumerate() {
@@ -371,7 +368,7 @@ impl<'a> Script<'a> {
     #[tactic(auto, unfolding(crate::specs::Script::completed))]
     fn completed(self, count: usize) -> Result<Script<'a>, ScriptError>
         requires { count < 2 ^ 64 - 1 }
-        ensures { Says result (completed count self.entry) }
+        ensures { Says result (completed count (told self.entry)) }
     {
         let kind = if self.has_no_rights() {
             FaultKind::Syntax
@@ -393,7 +390,7 @@ impl<'a> Script<'a> {
         lines: &[&'a str],
     ) -> Result<Script<'a>, ScriptError>
         requires { (before + length lines.now ≤ count) × (count < 2 ^ 64 - 1) }
-        ensures { Says result (whole count self.entry (before + 1) (map (λ line. line.now) lines.now)) }
+        ensures { Says result (whole count (told self.entry) (before + 1) (map (λ line. line.now) lines.now)) }
     {
         self.with_lines(alloc, before, lines)?.completed(count)
     }
@@ -439,32 +436,25 @@ fn of_lines<'a>(alloc: Global, lines: &[&'a str]) -> Result<Script<'a>, ScriptEr
 fn of_text<'a>(alloc: Global, text: &'a str) -> Result<Script<'a>, ScriptError>
     ensures { Answers result (TextSays text.entry.now) }
 {
-    let lines = lines(alloc, text)?;
+    let lines = text_lines(alloc, text)?;
     of_lines(alloc, lines.as_slice())
 }
 
-// How many lines end in the bytes.
-fn newlines(bytes: &[u8]) -> usize
-    ensures { result ≡ count_by (λ b. b == 10) bytes.now }
-{
-    bytes.iter().filter(|b| **b == b'\n').count()
-}
-
 // The bytes as text, if they are not too many.
-fn text_of<'a>(bytes: &'a [u8]) -> Result<&'a str, Fault>
-    ensures text { IfOk result (λ text. (text.now ≡ bytes.entry.now) × (length bytes.entry.now ≤ MOST_BYTES) × IsUtf8 bytes.entry.now) }
+fn script_text<'a>(bytes: &'a [u8]) -> Result<&'a str, Fault>
+    ensures text { IfOk result (λ text. (text.now ≡ bytes.entry.now) × (length bytes.entry.now ≤ LONGEST_TEXT) × IsUtf8 bytes.entry.now) }
     ensures fault { IfErr result (λ fault. IsUnread bytes.entry.now fault) }
 {
-    if bytes.len() > MOST_BYTES {
+    if bytes.len() > LONGEST_TEXT {
         return Err(Fault {
             line: 1,
             kind: FaultKind::Limit,
         });
     }
-    match str::from_utf8(bytes) {
+    match gt_streams::text_of(bytes) {
         Ok(text) => Ok(text),
-        Err(e) => Err(Fault {
-            line: newlines(&bytes[..e.valid_up_to()]) + 1,
+        Err(line) => Err(Fault {
+            line,
             kind: FaultKind::Utf8,
         }),
     }
@@ -475,13 +465,13 @@ fn text_of<'a>(bytes: &'a [u8]) -> Result<&'a str, Fault>
 /// whole lacks.
 pub fn parse<'a>(alloc: Global, bytes: &'a [u8]) -> Result<Script<'a>, ScriptError>
     ensures script { Answers result (Tells bytes.entry.now) }
-    ensures holds { IfOk result (λ s. IsScriptOf (lines_in bytes.entry.now) s) }
+    ensures holds { IfOk result (λ s. IsScriptOf (lines_in bytes.entry.now) (told s)) }
     ensures fault { IfErr result (λ e. Stands bytes.entry.now e) }
 
     // What is read up to one byte past the limit decides for all that there is.
-    ensures beginning { (all : List ℕ) → bytes.entry.now ≡ take (MOST_BYTES + 1) all → Answers result (Tells all) }
+    ensures beginning { (all : List ℕ) → bytes.entry.now ≡ take (LONGEST_TEXT + 1) all → Answers result (Tells all) }
 {
-    match text_of(bytes) {
+    match script_text(bytes) {
         Ok(text) => of_text(alloc, text),
         Err(fault) => Err(ScriptError::Fault(fault)),
     }

@@ -1,6 +1,6 @@
 //! Whole scripts: what their heads say, their first faults, and the limits.
 use crate::said::{BLOCK, FIRST, HEAD, Part, fault_text, said};
-use gt_script::{Fault, FaultKind, MOST_BYTES};
+use gt_script::{Fault, FaultKind};
 use std::test::Fail;
 
 const FIRST_HEAD: &str = "b_t\na_t\n\
@@ -255,7 +255,6 @@ fn takes_1048576_bytes(rt: HostRuntime) -> Result<(), Fail> {
         let fault = fault_text(alloc, text)?;
         assert_eq!(rt; fault.as_str(), wanted);
     }
-    assert_eq!(rt; MOST_BYTES, 1_048_576);
     Ok(())
 }
 

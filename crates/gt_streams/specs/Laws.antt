@@ -1,9 +1,9 @@
 -- What writes come to, one after the other.
-use Rattle.std.proofs.Common.{ℕ, ◌+◌, List, [], ◌++◌, length, take, Option, None, Some, refl, ap, sym, subst, ◌∙◌, append_assoc, length-append, arith}
+use Rattle.std.proofs.Common.{◌≡◌, ◌≤◌, IfSome, ℕ, ◌+◌, List, [], ◌++◌, length, take, Option, None, Some, refl, ap, sym, subst, ◌∙◌, append_assoc, length-append, arith}
 use Rattle.std.proofs.Math.Seq.{take-append-add}
-use Rattle.std.proofs.lemmas.List.{append-nil, take-append-le}
+use Rattle.std.proofs.lemmas.List.{append-nil, take-append-le, take_all}
 use Rattle.std.specs.Io.KnownBytes.{Appends, Keeps}
-use Rattle.gt_streams.specs.Streams.{AppendsBeginning}
+use Rattle.gt_streams.specs.Streams.{AppendsBeginning, OfInput}
 
 -- nothing went out
 pub keeps_same : (a : Option (List ℕ)) → Keeps a a
@@ -30,3 +30,14 @@ begins_after a b c xs ys p (n, few, q) =
 pub begins_longer : (a c : Option (List ℕ)) (xs ys : List ℕ) → AppendsBeginning a c xs → AppendsBeginning a c (xs ++ ys)
 begins_longer a c xs ys (n, few, q) =
     (n, rw length-append (omega (arith, few)), subst (λ (l : List ℕ). Appends a c l) (sym (take-append-le n xs ys few)) q)
+
+-- what holds of all bytes that begin with those that were read holds of the input
+pub of_input : (known : Option (List ℕ)) (bytes : List ℕ) (P : List ℕ → Type 0) → length bytes ≤ 1048577 → IfSome known (λ all. bytes ≡ take 1048577 all)
+    → ((all : List ℕ) → bytes ≡ take 1048577 all → P all) → OfInput known P
+of_input None bytes P few e h = (bytes, few, h bytes (sym (take_all 1048577 bytes few)))
+of_input (Some all) bytes P few e h = h all e
+
+-- what holds of all bytes holds of the input
+pub of_any_input : (known : Option (List ℕ)) (P : List ℕ → Type 0) → ((all : List ℕ) → P all) → OfInput known P
+of_any_input None P h = ([], omega arith, h [])
+of_any_input (Some all) P h = h all

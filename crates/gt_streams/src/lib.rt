@@ -6,9 +6,10 @@
 //! are UTF-8, and a text waits as its bytes.
 //!
 //! What holds over any reader and writer: what was read is what the reader had left, or its first
-//! bytes; what went out is at all times a beginning of the text, in its order and with no byte lost,
-//! and all of it where a call answers Ok. An error says whether memory was refused, a read failed
-//! or a write failed. The crate stands on `thiserror` alone.
+//! bytes, and of the reader no more than those is lost; what went out is at all times a beginning of the
+//! text, in its order and with no byte lost, and all of it where a call answers Ok. An error says
+//! whether memory was refused, a read failed or a write failed; that it comes only then, and that the
+//! last call of a text flushes, is told by tests. The crate stands on std alone.
 #![tactic(auto)]
 
 mod fault;
@@ -18,5 +19,5 @@ mod text;
 
 pub use fault::{ReadFault, WriteFault};
 pub use laws::{every_text_goes_on, every_writer_keeps_what_it_has};
-pub use streams::{READ_LIMIT, finish, read_text, send, write_text};
+pub use streams::{CHUNK, READ_LIMIT, finish, read_text, send, write_text};
 pub use text::{push_text, text_of};

@@ -1,30 +1,72 @@
 //! A whole text in, and lines out.
-ghost use Rattle.std.specs.Prelude.{◌≡◌, ◌-◌, ◌<◌, ◌≤◌, OnOk, OnErr, IfOk, IfSome, take, drop, length};
-ghost use Rattle.std.specs.Io.KnownBytes.{Appends, Keeps};
-ghost use Rattle.gt_streams.specs.Streams.{AppendsBeginning, Sends};
+ghost use Rattle.std.specs.Prelude.{◌≡◌, ◌+◌, ◌-◌, ◌<◌, ◌≤◌, OnOk, OnErr, IfOk, IfSome, ◌↔◌, take, drop, length};
+ghost use Rattle.std.specs.Io.KnownBytes.{Appends, Consumes, Keeps};
+ghost use Rattle.std.specs.IoError.{error_kind};
+ghost use Rattle.gt_streams.specs.Streams.{AppendsBeginning, ConsumesAtMost, ReadsOn, Sends};
 
 use crate::fault::{ReadFault, WriteFault};
 use std::alloc::Global;
-use std::io::{ErrorKind, Read, Write};
+use std::io::{Error, ErrorKind, Read, Write};
 
 /// The most bytes that a read takes: one more than a text may have.
-pub const READ_LIMIT: u64 = 1_048_577;
+pub const READ_LIMIT: usize = 1_048_577;
 
-// Lines wait for the writer until there are so many bytes of them.
-const CHUNK: usize = 65_536;
+// The most bytes that one read of many is given room for.
+const PIECE: usize = 4_096;
 
-/// The bytes that the reader has left, or the first 1,048,577 of them where there are more. After
-/// an Err the reader may have lost some bytes.
+/// The most bytes that wait for the writer, and one: with so many of them they go out.
+pub const CHUNK: usize = 65_536;
+
+// Why a text was not read, by the error of a read.
+fn fault_of(error: &Error) -> ReadFault
+    ensures { (result ≡ ReadFault.Memory) ↔ (error_kind error.now ≡ ErrorKind.OutOfMemory) }
+{
+    if error.kind() == ErrorKind::OutOfMemory {
+        ReadFault::Memory
+    } else {
+        ReadFault::Read
+    }
+}
+
+// One read, for which there is so much room: whether more may follow. One that is interrupted reads
+// nothing, and more may follow.
+fn read_on<R: Read>(reader: &mut R, bytes: &mut Vec<u8>, room: usize) -> Result<bool, ReadFault>
+    requires { 0 < room }
+    ensures ok { IfOk result (λ more. ReadsOn room more (R.remaining reader.old) (R.remaining reader.new) bytes.old.items bytes.new.items) }
+    ensures err { OnErr result (ConsumesAtMost room (R.remaining reader.old) (R.remaining reader.new)) }
+{
+    let mut piece = [0; PIECE];
+    let most = room.min(PIECE);
+    match reader.read(&mut piece[..most]) {
+        Ok(count) => match bytes.extend_from_slice(&piece[..count]) {
+            Ok(()) => Ok(count != 0),
+            Err(_) => Err(ReadFault::Memory),
+        },
+        Err(error) if error.kind() == ErrorKind::Interrupted => Ok(true),
+        Err(error) => Err(fault_of(&error)),
+    }
+}
+
+/// The bytes that the reader has left, or the first 1,048,577 of them where there are more; it loses
+/// those bytes and no other. An Err tells whether memory was refused, here or in a read, or a read
+/// failed; the reader has then lost 1,048,577 bytes at most.
 pub fn read_text<R: Read>(alloc: Global, reader: &mut R) -> Result<Vec<u8>, ReadFault>
-    ensures { IfOk result (λ bytes. IfSome (R.remaining reader.old)
-        (λ all. bytes.items ≡ take READ_LIMIT all)) }
+    ensures text { IfOk result (λ bytes. IfSome (R.remaining reader.old) (λ all. bytes.items ≡ take READ_LIMIT all)) }
+    ensures limit { IfOk result (λ bytes. length bytes.items ≤ READ_LIMIT) }
+    ensures read { IfOk result (λ bytes. Consumes (R.remaining reader.old) (R.remaining reader.new) bytes.items) }
+    ensures err { OnErr result (ConsumesAtMost READ_LIMIT (R.remaining reader.old) (R.remaining reader.new)) }
 {
     let mut bytes = Vec::new(alloc);
-    match (&mut *reader).take(READ_LIMIT).read_to_end(&mut bytes) {
-        Ok(_) => Ok(bytes),
-        Err(error) if error.kind() == ErrorKind::OutOfMemory => Err(ReadFault::Memory),
-        Err(_) => Err(ReadFault::Read),
+    'reads: for _ in 0..u64::MAX {
+        let room = READ_LIMIT - bytes.len();
+        if room == 0 {
+            return Ok(bytes);
+        }
+        if !read_on(reader, &mut bytes, room)? {
+            return Ok(bytes);
+        }
     }
+    Err(ReadFault::Read)
 }
 
 // One write of the front of what is left. It answers how much of the text is written then.
@@ -58,10 +100,11 @@ pub fn write_text<W: Write>(writer: &mut W, text: &[u8]) -> Result<(), WriteFaul
     Err(WriteFault)
 }
 
-/// Writes the lines that wait, once there are 65,536 bytes of them. After an Err a beginning of them
-/// may have gone out.
+/// Writes the lines that wait, once there are 65,536 bytes of them: fewer wait then. After an Err a
+/// beginning of them may have gone out.
 pub fn send<W: Write>(writer: &mut W, waiting: &mut Vec<u8>) -> Result<(), WriteFault>
     ensures ok { OnOk result (Sends (W.contents writer.old) (W.contents writer.new) waiting.old.items waiting.new.items) }
+    ensures few { OnOk result (length waiting.new.items < CHUNK) }
     ensures err { OnErr result (AppendsBeginning (W.contents writer.old) (W.contents writer.new) waiting.old.items) }
 {
     if waiting.len() >= CHUNK {

@@ -40,3 +40,6 @@ pub const LAST_GENERATION: u32 = 1_048_575;
 
 /// How often a pin, a demotion or a promotion is tried.
 pub const MAX_TRIES: u32 = 4;
+
+/// The most bytes of a policy text, and of a script.
+pub const LONGEST_TEXT: usize = 1_048_576;

@@ -1,33 +1,25 @@
-//! A large policy, parsed and listed, to be timed from outside.
+//! A large policy, parsed, compiled and asked, to be timed from outside.
 //!
 //! `policy_bench WORK CLASS COUNT` makes a text of 256 types and COUNT statements
 //! `allow SOURCE TARGET:CLASS *;`, each of another pair of types as long as there are any. WORK is
-//! `make` (nothing more), `parse` (the text is parsed) or `list` (all triples of the policy are
-//! counted too). It prints counts, never a time.
+//! `make` (nothing more), `parse` (the text is parsed), `compile` (and its table is made), `table`
+//! (and the table is asked for every triple) or `walk` (the text is parsed, and the statements are
+//! walked for each triple of a type on itself). It prints counts, never a time.
 //!
-//! It promises nothing beyond the calls that it makes, and stands on `gt_policy` and `gt_types`. The
-//! script `bench/policy.sh` runs and times it.
+//! It promises nothing beyond the calls that it makes, and stands on `gt_allow`, `gt_policy` and
+//! `gt_types`. The script `bench/policy.sh` runs and times it.
 #![tactic(auto)]
 
 use anyhow::{Result, bail};
+use gt_allow::AllowTable;
 use gt_policy::Policy;
-use gt_types::{Perms, TypeId};
+use gt_types::{Allows, Perms, TypeId};
 use std::alloc::{AllocError, Global};
 use std::env;
 
 const TYPES: u32 = 256;
 
 const LETTERS: &str = "abcdefghijklmnopqrstuvwxyzABCDEFGHIJKLMNOPQRSTUVWXYZ";
-
-const PERMS: [Perms; 7] = [
-    Perms::MAP_READ,
-    Perms::MAP_WRITE,
-    Perms::UNMAP,
-    Perms::TRANSFER,
-    Perms::SETUP,
-    Perms::COPY,
-    Perms::QUERY,
-];
 
 /// Names of one letter or two, so that many statements fit into a text.
 fn type_names(alloc: Global) -> Result<Vec<String>, AllocError> {
@@ -63,18 +55,33 @@ fn large_text(alloc: Global, class: &str, count: u32) -> Result<String, AllocErr
     Ok(text)
 }
 
-/// How many triples the policy allows.
-fn count_triples(policy: &Policy) -> u32 {
-    let mut triples = 0u32;
-    for source in 0..policy.count() {
-        for perm in PERMS {
-            let targets = policy.targets(TypeId(source), perm);
-            for target in 0..policy.count() {
-                if targets.contains(TypeId(target)) {
-                    triples = triples.saturating_add(1);
-                }
-            }
+/// How many permissions the source has on the target.
+fn count_on<R: Allows>(rights: &R, source: u16, target: u16) -> u32 {
+    let mut yes = 0u32;
+    for perm in Perms::EVERY {
+        if rights.allows(TypeId(source), TypeId(target), perm) {
+            yes = yes.saturating_add(1);
         }
+    }
+    yes
+}
+
+/// How many triples of these types are allowed.
+fn count_triples<R: Allows>(rights: &R, types: u16) -> u32 {
+    let mut triples = 0u32;
+    for source in 0..types {
+        for target in 0..types {
+            triples = triples.saturating_add(count_on(rights, source, target));
+        }
+    }
+    triples
+}
+
+/// How many triples of one of these types on itself are allowed.
+fn count_own<R: Allows>(rights: &R, types: u16) -> u32 {
+    let mut triples = 0u32;
+    for id in 0..types {
+        triples = triples.saturating_add(count_on(rights, id, id));
     }
     triples
 }
@@ -92,8 +99,16 @@ fn main(rt: HostRuntime) -> Result<()> {
     }
     let policy = Policy::parse(rt.alloc(), text.as_str())?;
     println!(rt; "{} types", policy.count())?;
-    if work.as_str() == "list" {
-        println!(rt; "{} triples", count_triples(&policy))?;
+    if work.as_str() == "parse" {
+        return Ok(());
+    }
+    if work.as_str() == "walk" {
+        println!(rt; "{} own triples", count_own(&policy, policy.count()))?;
+        return Ok(());
+    }
+    let table = AllowTable::compile(rt.alloc(), &policy)?;
+    if work.as_str() == "table" {
+        println!(rt; "{} triples", count_triples(&table, policy.count()))?;
     }
     Ok(())
 }

@@ -1,3 +1,4 @@
+use Rattle.gt_script.specs.Contents.{told}
 use Rattle.gt_script.specs.Script.{Tells}
 use Rattle.gt_streams.specs.Laws.{keeps_same}
 use Rattle.gt_host.proofs.PlayedLemmas.{played_nothing, played_run}
@@ -5,7 +6,7 @@ use Rattle.gt_host.proofs.playing.play_bytes.Goals as goal
 
 pub returns-in-Ok : goal.returns-in-Ok
 returns-in-Ok g c = λ all e.
-    played_run (Tells all) c.in-Ok.script c.write_run.result _ _ _ (c.in-Ok.ensures.beginning all e) c.write_run.ensures.whole c.write_run.ensures.beginning c.told.ensures
+    played_run (Tells all) (told c.in-Ok.script) c.write_run.result _ _ _ (c.in-Ok.ensures.beginning all e) c.write_run.ensures.whole c.write_run.ensures.beginning c.told.ensures
 
 pub returns-in-Err : goal.returns-in-Err
 returns-in-Err g c = λ all e.

@@ -1,8 +1,10 @@
-use Rattle.std.proofs.Common.{◌≡◌, take}
+use Rattle.std.proofs.Common.{◌≡◌, ◌<◌, length, take}
+use Rattle.gt_script.specs.Contents.{told}
 use Rattle.gt_host.proofs.PlayLemmas.{IsUnderway}
 use Rattle.gt_host.proofs.playing.write_lines.Given as goal
 
 abbrev pub invariant-steps : goal.invariant-steps
 invariant-steps g l =
     (l.core.config ≡ l.initial.core.config) × (l.core.rights ≡ l.initial.core.rights)
-    × IsUnderway l.script (take l.step-index l.steps) l.core.domains.items l.kept l.waiting.items (g.W.Write.contents l.initial.writer) (g.W.Write.contents l.writer)
+    × IsUnderway (told l.script) (take l.step-index l.steps) l.core.domains.items l.kept l.waiting.items (g.W.Write.contents l.initial.writer) (g.W.Write.contents l.writer)
+    × (length l.waiting.items < 65536)

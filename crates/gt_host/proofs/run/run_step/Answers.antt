@@ -1,6 +1,6 @@
 use Rattle.std.proofs.Common.{subst, sym}
 use Rattle.gt_core.specs.Standing.{setting_of}
-use Rattle.gt_script.specs.declared.calls.Action.{Action}
+use Rattle.gt_lines.specs.declared.calls.Action.{Action}
 use Rattle.gt_host.specs.Runs.{RunsLine}
 use Rattle.gt_host.proofs.LineLemmas.{shows}
 use Rattle.gt_host.proofs.run.run_step.Goals as goal

@@ -1,18 +1,22 @@
-use Rattle.std.proofs.Common.{◌≡◌, ◌<◌, ◌∙◌, length, sym, arith}
+use Rattle.std.proofs.Common.{◌≡◌, ◌<◌, ◌∙◌, List, ℕ, length, sym, arith}
 use Rattle.std.proofs.lemmas.List.{append-nil}
-use Rattle.gt_listing.specs.Rights.{right_line}
+use Rattle.gt_types.specs.Names.{every_permission}
+use Rattle.gt_types.specs.declared.perms.Perms.{Perms}
+use Rattle.gt_allow.specs.Looking.{looks}
+use Rattle.gt_listing.specs.Lines.{triple_text}
 use Rattle.gt_listing.proofs.PieceLemmas.{grows, all_pieces}
 use Rattle.gt_listing.proofs.lines.push_pair.Goals as goal
 
-pub rights-init : goal.rights-init
-rights-init c = sym (append-nil c.args.out.now.items)
+pub permissions-init : goal.permissions-init
+permissions-init c = sym (append-nil c.args.out.now.items)
 
-pub rights-preserved : goal.rights-preserved
-rights-preserved c =
-    let within : c.rights.right-index < length c.args.rights.now = omega arith in
-    grows (right_line c.args.source.now c.args.target.now c.args.id) c.args.rights.now c.rights.right-index _ c.args.out.now.items c.rights.out.items c.push_right.new.out.items within c.rights.invariant c.in_ok-push_right.ensures
+pub permissions-preserved : goal.permissions-preserved
+permissions-preserved c =
+    let line : Perms → List ℕ = λ perm. triple_text c.args.policy.now.types (looks c.args.table.now) (record { source = c.args.source; target = c.args.target; perm = perm }) in
+    grows line every_permission c.permissions.perm-index (record { 0 = 0 }) c.args.out.now.items c.permissions.out.items c.push_triple.new.out.items c.permissions-test.true c.permissions.invariant c.in_ok-push_triple.ensures
 
 pub returns : goal.returns
 returns c =
-    let all : c.rights.right-index ≡ length c.args.rights.now = omega arith in
-    c.rights.invariant ∙ all_pieces (right_line c.args.source.now c.args.target.now c.args.id) c.args.rights.now c.rights.right-index c.args.out.now.items all
+    let line : Perms → List ℕ = λ perm. triple_text c.args.policy.now.types (looks c.args.table.now) (record { source = c.args.source; target = c.args.target; perm = perm }) in
+    let all : c.permissions.perm-index ≡ length every_permission = omega arith in
+    c.permissions.invariant ∙ all_pieces line every_permission c.permissions.perm-index c.args.out.now.items all

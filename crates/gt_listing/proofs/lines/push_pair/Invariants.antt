@@ -1,6 +1,9 @@
-use Rattle.std.proofs.Common.{◌≡◌, ◌++◌, take}
-use Rattle.gt_listing.specs.Rights.{pair_lines}
+use Rattle.std.proofs.Common.{◌≡◌, ◌++◌, take, flat_map}
+use Rattle.gt_types.specs.Names.{every_permission}
+use Rattle.gt_allow.specs.Looking.{looks}
+use Rattle.gt_listing.specs.Lines.{triple_text}
 use Rattle.gt_listing.proofs.lines.push_pair.Given as goal
 
-abbrev pub invariant-rights : goal.invariant-rights
-invariant-rights l = l.out.items ≡ l.initial.out.items ++ pair_lines l.source l.target l.id (take l.right-index l.rights)
+abbrev pub invariant-permissions : goal.invariant-permissions
+invariant-permissions l =
+    l.out.items ≡ l.initial.out.items ++ flat_map (λ perm. triple_text l.policy.types (looks l.table) (record { source = l.fn.source; target = l.fn.target; perm = perm })) (take l.perm-index every_permission)

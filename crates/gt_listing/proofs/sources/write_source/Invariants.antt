@@ -1,8 +1,10 @@
-use Rattle.std.proofs.Common.{◌++◌, take}
-use Rattle.gt_listing.specs.Rights.{source_lines}
+use Rattle.std.proofs.Common.{◌<◌, ◌++◌, length, take}
+use Rattle.gt_allow.specs.Looking.{looks}
+use Rattle.gt_listing.specs.Lines.{source_text}
 use Rattle.gt_streams.specs.Streams.{Sends}
 use Rattle.gt_listing.proofs.sources.write_source.Given as goal
 
 abbrev pub invariant-targets : goal.invariant-targets
 invariant-targets g l =
-    Sends (g.W.Write.contents l.initial.writer) (g.W.Write.contents l.writer) (l.initial.waiting.items ++ source_lines l.policy.types l.fn.source l.rights (take l.target-index l.ids)) l.waiting.items
+    (length l.waiting.items < 65536)
+    × Sends (g.W.Write.contents l.initial.writer) (g.W.Write.contents l.writer) (l.initial.waiting.items ++ source_text l.policy.types (looks l.table) (take l.target-index l.ids) l.fn.source) l.waiting.items

@@ -1,9 +1,10 @@
-use Rattle.std.proofs.Common.{take, flat_map}
-use Rattle.gt_policy.specs.Allowing.{may_of}
+use Rattle.std.proofs.Common.{◌<◌, length, take, flat_map}
+use Rattle.gt_allow.specs.Looking.{looks}
 use Rattle.gt_streams.specs.Streams.{Sends}
-use Rattle.gt_listing.proofs.LineLemmas.{source_text}
+use Rattle.gt_listing.specs.Lines.{source_text}
 use Rattle.gt_listing.proofs.sources.write_sources.Given as goal
 
 abbrev pub invariant-sources : goal.invariant-sources
 invariant-sources g l =
-    Sends (g.W.Write.contents l.initial.writer) (g.W.Write.contents l.writer) (flat_map (source_text l.policy.types (may_of l.policy) l.ids) (take l.source-index l.ids)) l.waiting.items
+    (length l.waiting.items < 65536)
+    × Sends (g.W.Write.contents l.initial.writer) (g.W.Write.contents l.writer) (flat_map (source_text l.policy.types (looks l.table) l.ids) (take l.source-index l.ids)) l.waiting.items

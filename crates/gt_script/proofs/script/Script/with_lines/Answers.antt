@@ -1,6 +1,6 @@
 use Rattle.std.proofs.Common.{◌≡◌, ℕ, ◌+◌, Result, Err, sym, ◌∙◌}
 use Rattle.gt_script.specs.Outcomes.{Adds, Says, on_line}
-use Rattle.gt_script.specs.Contents.{Contents}
+use Rattle.gt_script.specs.Contents.{Contents, told}
 use Rattle.gt_script.specs.declared.faults.Fault.{Fault}
 use Rattle.gt_script.specs.declared.faults.FaultKind.{FaultKind}
 use Rattle.gt_script.specs.declared.script.AddError.{AddError}
@@ -17,8 +17,8 @@ err_said (add.Fault kind) n here all rest same h step = same ∙ step kind h
 pub returns-in-Err : goal.returns-in-Err
 returns-in-Err c =
     rw c.on_line.ensures (err_said c.in-Err.e (c.args.before + c.loop-i.i + 1) _ _ _ (sym c.loop-i.invariant) c.in-Err.ensures
-    (λ kind e. step_err c.args.lines.now c.loop-i.script kind c.args.before c.loop-i.i _ c.loop-i-test.true e))
+    (λ kind e. step_err c.args.lines.now (told c.loop-i.script) kind c.args.before c.loop-i.i _ c.loop-i-test.true e))
 
 pub loop-i-preserved : goal.loop-i-preserved
 loop-i-preserved c =
-    sym (step_ok c.args.lines.now c.loop-i.script c.in-Ok.more c.args.before c.loop-i.i _ c.loop-i-test.true c.in-Ok.ensures) ∙ c.loop-i.invariant
+    sym (step_ok c.args.lines.now (told c.loop-i.script) (told c.in-Ok.more) c.args.before c.loop-i.i _ c.loop-i-test.true c.in-Ok.ensures) ∙ c.loop-i.invariant

@@ -1,7 +1,8 @@
 use Rattle.std.proofs.Common.{◌≡◌, ◌+◌, drop}
+use Rattle.gt_script.specs.Contents.{told}
 use Rattle.gt_script.specs.Script.{with_lines}
 use Rattle.gt_script.proofs.ScriptLemmas.{texts}
 use Rattle.gt_script.proofs.script.Script.with_lines.Given as goal
 
 abbrev pub invariant-loop-i : goal.invariant-loop-i
-invariant-loop-i l = with_lines l.script (l.before + l.i + 1) (texts (drop l.i l.lines)) ≡ with_lines l.initial.script (l.before + 1) (texts l.lines)
+invariant-loop-i l = with_lines (told l.script) (l.before + l.i + 1) (texts (drop l.i l.lines)) ≡ with_lines (told l.initial.script) (l.before + 1) (texts l.lines)

@@ -1,0 +1,79 @@
+//! Trails, and a log that threads share.
+use gt_audit::{Hypercall, Record, Reply, SharedLog, Told, Trail};
+use gt_types::DomId;
+use std::sync::Wait;
+use std::test::Fail;
+use std::thread;
+use std::thread::Threads;
+
+const RECORDS: u64 = 1000;
+
+// A record that differs from that of every other domain and number.
+fn record(dom: u16, number: u64) -> Record {
+    Record {
+        dom: DomId(dom),
+        call: Hypercall::SetVersion {
+            version: (number % 65_536) as u32,
+        },
+        reply: Reply::Done,
+    }
+}
+
+#[test]
+fn a_trail_keeps_each_record(rt: HostRuntime) -> Result<(), Fail> {
+    let mut trail = Trail::new(rt.alloc());
+    let mut wanted = Vec::new(rt.alloc());
+    for number in 0..RECORDS {
+        trail.push(record(1, number));
+        wanted.push(record(1, number))?;
+    }
+    assert_eq!(rt; (trail.records(), trail.lost()), (wanted.as_slice(), 0));
+    Ok(())
+}
+
+// Pushes records, and counts those that their token and a look under their number give back.
+fn pushes<R: Wait>(rt: &R, log: &SharedLog, dom: u16) -> u64 {
+    let mut same: u64 = 0;
+    for number in 0..RECORDS {
+        let wanted = record(dom, number);
+        if let Ok(token) = log.push(rt, DomId(dom), number, wanted) {
+            if *log.get(&token) == wanted && log.find(DomId(dom), number).copied() == Some(wanted) {
+                same = same.wrapping_add(1);
+            }
+        }
+    }
+    same
+}
+
+fn both<R: Threads + Wait + Sync>(rt: &R, log: &SharedLog) -> (u64, u64) {
+    thread::join(rt, || pushes(rt, log, 1), || pushes(rt, log, 2))
+}
+
+#[test]
+fn two_threads_push(rt: HostRuntime) -> Result<(), Fail> {
+    let log = SharedLog::new(rt.alloc())?;
+    assert_eq!(rt; both(&rt, &log), (RECORDS, RECORDS));
+    assert_eq!(rt;
+        (
+            log.find(DomId(1), 999).is_some(),
+            log.find(DomId(1), RECORDS).is_some()
+        ),
+        (true, false)
+    );
+    Ok(())
+}
+
+#[test]
+fn a_domain_tells_its_records(rt: HostRuntime) -> Result<(), Fail> {
+    let log = SharedLog::new(rt.alloc())?;
+    let mut told = Told::new(rt.alloc(), &log, DomId(2));
+    let mut wanted = Vec::new(rt.alloc());
+    for number in 0..RECORDS {
+        told.tell(&rt, number, record(2, number));
+        wanted.push(record(2, number))?;
+    }
+    let records = told.records(rt.alloc())?;
+    assert_eq!(rt; (records.as_slice(), told.lost()), (wanted.as_slice(), 0));
+    assert_eq!(rt; log.find(DomId(2), 1).copied(), Some(record(2, 1)));
+    Ok(())
+}

@@ -1,0 +1,206 @@
+-- What the words of a call say (own): REF, DOM and the others as in Fields.
+use Rattle.std.specs.Prelude.{ℕ, List, [], ◌∷◌, Option, Some, None, if◌then◌else◌, codes}
+use Rattle.std.specs.Option.{option_map}
+use Rattle.std.specs.Str.{bytes_eq}
+use Rattle.gt_lines.specs.Fields.{◌>>=◌, u16_word, u32_word, u64_word, reference_word, domain_word, mode_word, flags_word, tick_word, label_word, text_where}
+use Rattle.gt_lines.specs.Hexadecimal.{hex_word}
+use Rattle.gt_lines.specs.declared.calls.Grant.{Grant}
+use Rattle.gt_lines.specs.declared.calls.Grant.TheVariants as grants
+use Rattle.gt_lines.specs.declared.calls.Call.{Call}
+use Rattle.gt_lines.specs.declared.calls.Call.TheVariants as calls
+use Rattle.gt_lines.specs.declared.calls.Action.{Action}
+use Rattle.gt_lines.specs.declared.calls.Action.TheVariants as actions
+
+-- a page: DOM MODE FRAME (own)
+unfoldable pub page_of : List (List ℕ) → Option Grant
+page_of (dom ∷ mode ∷ frame ∷ []) = do
+  d ← domain_word dom
+  m ← mode_word mode
+  f ← u64_word frame
+  Some (grants.Page d m f)
+page_of _ = None
+
+-- a sub-page: DOM MODE FRAME OFF LEN (own)
+unfoldable pub sub_of : List (List ℕ) → Option Grant
+sub_of (dom ∷ mode ∷ frame ∷ off ∷ len ∷ []) = do
+  d ← domain_word dom
+  m ← mode_word mode
+  f ← u64_word frame
+  o ← u16_word off
+  n ← u16_word len
+  Some (grants.Sub d m f o n)
+sub_of _ = None
+
+-- a transitive entry: DOM MODE DOM2 REF2 (own)
+unfoldable pub via_of : List (List ℕ) → Option Grant
+via_of (dom ∷ mode ∷ to ∷ gref ∷ []) = do
+  d ← domain_word dom
+  m ← mode_word mode
+  t ← domain_word to
+  r ← reference_word gref
+  Some (grants.Via d m t r)
+via_of _ = None
+
+-- the entry that a grant publishes, by its kind (own)
+unfoldable pub granted : List ℕ → List (List ℕ) → Option Grant
+granted kind args = if bytes_eq kind (codes "page") then page_of args
+    else (if bytes_eq kind (codes "sub") then sub_of args
+    else (if bytes_eq kind (codes "via") then via_of args else None))
+
+-- what stands after `grant`: REF and an entry (own)
+unfoldable pub grant_of : List (List ℕ) → Option Call
+grant_of (gref ∷ kind ∷ args) = do
+  r ← reference_word gref
+  e ← granted kind args
+  Some (calls.Grant r e)
+grant_of _ = None
+
+-- what stands after `bytes`: REF HEX (own)
+unfoldable pub bytes_of : List (List ℕ) → Option Call
+bytes_of (gref ∷ digits ∷ []) = do
+  r ← reference_word gref
+  h ← text_where hex_word digits
+  Some (calls.GrantBytes r h)
+bytes_of _ = None
+
+-- what stands after `map`: LABEL DOM REF FLAGS (own)
+unfoldable pub map_of : List (List ℕ) → Option Call
+map_of (label ∷ dom ∷ gref ∷ flags ∷ []) = do
+  l ← text_where label_word label
+  d ← domain_word dom
+  r ← reference_word gref
+  f ← flags_word flags
+  Some (calls.Map l d r f)
+map_of _ = None
+
+-- what stands after `unmap`: LABEL (own)
+unfoldable pub unmap_of : List (List ℕ) → Option Call
+unmap_of (label ∷ []) = do
+  l ← text_where label_word label
+  Some (calls.Unmap l)
+unmap_of _ = None
+
+-- what stands after `load`: LABEL OFF LEN (own)
+unfoldable pub load_of : List (List ℕ) → Option Call
+load_of (label ∷ off ∷ len ∷ []) = do
+  l ← text_where label_word label
+  o ← u16_word off
+  n ← u16_word len
+  Some (calls.Load l o n)
+load_of _ = None
+
+-- what stands after `store`: LABEL OFF HEX (own)
+unfoldable pub store_of : List (List ℕ) → Option Call
+store_of (label ∷ off ∷ digits ∷ []) = do
+  l ← text_where label_word label
+  o ← u16_word off
+  h ← text_where hex_word digits
+  Some (calls.Store l o h)
+store_of _ = None
+
+-- what stands after `peek`: FRAME OFF LEN (own)
+unfoldable pub peek_of : List (List ℕ) → Option Call
+peek_of (frame ∷ off ∷ len ∷ []) = do
+  f ← u64_word frame
+  o ← u16_word off
+  n ← u16_word len
+  Some (calls.Peek f o n)
+peek_of _ = None
+
+-- what stands after `poke`: FRAME OFF HEX (own)
+unfoldable pub poke_of : List (List ℕ) → Option Call
+poke_of (frame ∷ off ∷ digits ∷ []) = do
+  f ← u64_word frame
+  o ← u16_word off
+  h ← text_where hex_word digits
+  Some (calls.Poke f o h)
+poke_of _ = None
+
+-- what stands after `revoke`: REF (own)
+unfoldable pub revoke_of : List (List ℕ) → Option Call
+revoke_of (gref ∷ []) = do
+  r ← reference_word gref
+  Some (calls.Revoke r)
+revoke_of _ = None
+
+-- what stands after `demote`: REF (own)
+unfoldable pub demote_of : List (List ℕ) → Option Call
+demote_of (gref ∷ []) = do
+  r ← reference_word gref
+  Some (calls.Demote r)
+demote_of _ = None
+
+-- what stands after `promote`: REF (own)
+unfoldable pub promote_of : List (List ℕ) → Option Call
+promote_of (gref ∷ []) = do
+  r ← reference_word gref
+  Some (calls.Promote r)
+promote_of _ = None
+
+-- what stands after `version`: V, of 32 bits (grant_table.h)
+unfoldable pub version_of : List (List ℕ) → Option Call
+version_of (number ∷ []) = do
+  v ← u32_word number
+  Some (calls.SetVersion v)
+version_of _ = None
+
+-- what stands after `setup`: N, of 32 bits (grant_table.h)
+unfoldable pub setup_of : List (List ℕ) → Option Call
+setup_of (number ∷ []) = do
+  n ← u32_word number
+  Some (calls.SetupTable n)
+setup_of _ = None
+
+-- what stands after `size`: DOM (own)
+unfoldable pub size_of : List (List ℕ) → Option Call
+size_of (dom ∷ []) = do
+  d ← domain_word dom
+  Some (calls.QuerySize d)
+size_of _ = None
+
+-- what stands after `getversion`: DOM (own)
+unfoldable pub getversion_of : List (List ℕ) → Option Call
+getversion_of (dom ∷ []) = do
+  d ← domain_word dom
+  Some (calls.GetVersion d)
+getversion_of _ = None
+
+-- a call word and its arguments (own)
+unfoldable pub call_of : List (List ℕ) → Option Call
+call_of [] = None
+call_of (word ∷ args) = if bytes_eq word (codes "grant") then grant_of args
+    else (if bytes_eq word (codes "bytes") then bytes_of args
+    else (if bytes_eq word (codes "map") then map_of args
+    else (if bytes_eq word (codes "unmap") then unmap_of args
+    else (if bytes_eq word (codes "load") then load_of args
+    else (if bytes_eq word (codes "store") then store_of args
+    else (if bytes_eq word (codes "peek") then peek_of args
+    else (if bytes_eq word (codes "poke") then poke_of args
+    else (if bytes_eq word (codes "revoke") then revoke_of args
+    else (if bytes_eq word (codes "demote") then demote_of args
+    else (if bytes_eq word (codes "promote") then promote_of args
+    else (if bytes_eq word (codes "version") then version_of args
+    else (if bytes_eq word (codes "setup") then setup_of args
+    else (if bytes_eq word (codes "size") then size_of args
+    else (if bytes_eq word (codes "getversion") then getversion_of args else None))))))))))))))
+
+-- what stands after `tick` and its domain: N (own)
+unfoldable pub tick_of : List (List ℕ) → Option Action
+tick_of (count ∷ []) = do
+  n ← tick_word count
+  Some (actions.Tick n)
+tick_of _ = None
+
+-- what stands after `show` and its domain: REF (own)
+unfoldable pub show_of : List (List ℕ) → Option Action
+show_of (gref ∷ []) = do
+  r ← reference_word gref
+  Some (actions.Show r)
+show_of _ = None
+
+-- what a body line's first word says together with the words after its domain (own)
+unfoldable pub action_of : List ℕ → List (List ℕ) → Option Action
+action_of word args = if bytes_eq word (codes "do") then option_map actions.Do (call_of args)
+    else (if bytes_eq word (codes "begin") then option_map actions.Begin (call_of args)
+    else (if bytes_eq word (codes "tick") then tick_of args
+    else (if bytes_eq word (codes "show") then show_of args else None)))

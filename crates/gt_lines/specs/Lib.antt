@@ -1,0 +1,6 @@
+pub mod Calls
+pub mod Fields
+pub mod Hexadecimal
+pub mod Lines
+pub mod Numbers
+pub mod Words

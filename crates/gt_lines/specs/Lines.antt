@@ -1,0 +1,53 @@
+-- What the words of a line say (own).
+use Rattle.std.specs.Prelude.{ℕ, List, [], ◌∷◌, Option, Some, None, if◌then◌else◌, codes}
+use Rattle.std.specs.Option.{option_map}
+use Rattle.std.specs.Str.{bytes_eq}
+use Rattle.gt_types.specs.Names.{permission_of}
+use Rattle.gt_lines.specs.Numbers.{decimal_number}
+use Rattle.gt_lines.specs.Fields.{◌>>=◌, name_word, text_where, generation_word, type_word}
+use Rattle.gt_lines.specs.Calls.{action_of}
+use Rattle.gt_lines.specs.declared.lines.TripleLine.{TripleLine}
+use Rattle.gt_lines.specs.declared.lines.DomainLine.{DomainLine}
+use Rattle.gt_lines.specs.declared.lines.Line.{Line}
+use Rattle.gt_lines.specs.declared.lines.Line.TheVariants as lines
+
+-- what stands after `triple`: SOURCE TARGET PERMISSION (own)
+unfoldable pub triple_of : List (List ℕ) → Option TripleLine
+triple_of (source ∷ target ∷ permission ∷ []) = do
+  s ← text_where name_word source
+  t ← text_where name_word target
+  p ← permission_of permission
+  Some (record { source = s; target = t; perm = p })
+triple_of _ = None
+
+-- what stands after `wear`: N (own)
+unfoldable pub wear_of : List (List ℕ) → Option ℕ
+wear_of (first ∷ []) = generation_word first
+wear_of _ = None
+
+-- what stands after `domain`: ID USER:ROLE:TYPE FRAMES TABLEFRAMES VERSION (own)
+unfoldable pub domain_of : List (List ℕ) → Option DomainLine
+domain_of (id ∷ label ∷ frames ∷ table_frames ∷ version ∷ []) = do
+  i ← decimal_number id
+  t ← type_word label
+  f ← decimal_number frames
+  n ← decimal_number table_frames
+  v ← decimal_number version
+  Some (record { id = i; type_name = t; frames = f; table_frames = n; version = v })
+domain_of _ = None
+
+-- a line of the body: its word, then ID and what follows (own)
+unfoldable pub body_of : List ℕ → List (List ℕ) → Option Line
+body_of word [] = None
+body_of word (id ∷ args) = do
+  n ← decimal_number id
+  a ← action_of word args
+  Some (lines.Body n a)
+
+-- a line of a script by its first word (own)
+abbrev pub line_of : List (List ℕ) → Option Line
+line_of [] = None
+line_of (word ∷ args) = if bytes_eq word (codes "triple") then option_map lines.Triple (triple_of args)
+    else (if bytes_eq word (codes "wear") then option_map lines.Wear (wear_of args)
+    else (if bytes_eq word (codes "domain") then option_map lines.Domain (domain_of args)
+    else body_of word args))

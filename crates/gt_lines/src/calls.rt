@@ -1,0 +1,454 @@
+//! The calls that a script can ask for.
+ghost use Rattle.std.specs.Prelude.{◌≡◌, map};
+ghost use Rattle.gt_lines.specs.Calls.{page_of, sub_of, via_of, granted, grant_of, map_of, unmap_of, load_of, store_of, peek_of, poke_of, bytes_of, revoke_of, demote_of, promote_of, version_of, setup_of, size_of, getversion_of, call_of, tick_of, show_of, action_of};
+
+use crate::fields::{
+    domain, flags, is, label, mode, reference, tick_count, u16_of, u32_of, u64_of,
+};
+use crate::hexadecimal::hex_text;
+use crate::texts::Text;
+use gt_types::{DomId, GrantRef};
+
+/// What a `grant` publishes. A domain written `self` is the number 32752 and nobody's.
+#[derive(Clone, Copy, Debug, PartialEq, Eq)]
+pub enum Grant {
+    /// Any range of the owner's frame.
+    Page {
+        dom: DomId,
+        read_only: bool,
+        frame: u64,
+    },
+    /// Copies inside `len` bytes from `off` on.
+    Sub {
+        dom: DomId,
+        read_only: bool,
+        frame: u64,
+        off: u16,
+        len: u16,
+    },
+    /// Copies by the grant `gref` of `to`.
+    Via {
+        dom: DomId,
+        read_only: bool,
+        to: DomId,
+        gref: GrantRef,
+    },
+}
+
+/// A call as it is written; a label stands for the handle of the last map of that label.
+#[derive(Debug, Drop)]
+pub enum Call<'a> {
+    /// `grant REF page|sub|via ..`
+    Grant {
+        gref: GrantRef,
+        entry: Grant,
+    },
+    /// `bytes REF HEX`: the entry that these bytes spell, as `hex_bytes` reads them.
+    GrantBytes {
+        gref: GrantRef,
+        hex: Text<'a>,
+    },
+    /// `map LABEL DOM REF FLAGS`
+    Map {
+        label: Text<'a>,
+        dom: DomId,
+        gref: GrantRef,
+        flags: u32,
+    },
+    /// `unmap LABEL`
+    Unmap {
+        label: Text<'a>,
+    },
+    /// `load LABEL OFF LEN`
+    Load {
+        label: Text<'a>,
+        off: u16,
+        len: u16,
+    },
+    /// `store LABEL OFF HEX`: the bytes, as `hex_bytes` reads them, from `off` on.
+    Store {
+        label: Text<'a>,
+        off: u16,
+        hex: Text<'a>,
+    },
+    /// `peek FRAME OFF LEN`: of a frame of the caller's own, by its number.
+    Peek {
+        frame: u64,
+        off: u16,
+        len: u16,
+    },
+    /// `poke FRAME OFF HEX`: to a frame of the caller's own, the bytes as `hex_bytes` reads them.
+    Poke {
+        frame: u64,
+        off: u16,
+        hex: Text<'a>,
+    },
+    /// `revoke REF`
+    Revoke {
+        gref: GrantRef,
+    },
+    /// `demote REF`
+    Demote {
+        gref: GrantRef,
+    },
+    /// `promote REF`
+    Promote {
+        gref: GrantRef,
+    },
+    /// `version V`: any number of 32 bits, also one of no version.
+    SetVersion {
+        version: u32,
+    },
+    /// `setup N`
+    SetupTable {
+        frames: u32,
+    },
+    /// `size DOM`
+    QuerySize {
+        dom: DomId,
+    },
+    /// `getversion DOM`
+    GetVersion {
+        dom: DomId,
+    },
+}
+
+/// What a line of the body asks of its domain.
+#[derive(Debug, Drop)]
+pub enum Action<'a> {
+    /// `do ID CALL`: the call from its beginning to its answer.
+    Do(Call<'a>),
+    /// `begin ID CALL`: the beginning of the call alone.
+    Begin(Call<'a>),
+    /// `tick ID N`: up to N steps, from 1 to 100,000, of the call that the domain has open.
+    Tick(u32),
+    /// `show ID REF`: a line on the entry with this reference, which changes nothing.
+    Show(GrantRef),
+}
+
+#[tactic(auto, unfolding(crate::specs::Calls::page_of))]
+fn read_page(args: &[&[u8]]) -> Option<Grant>
+    ensures { result ≡ page_of (map (λ word. word.now) args.now) }
+{
+    match args {
+        [dom, access, frame] => Some(Grant::Page {
+            dom: domain(dom)?,
+            read_only: mode(access)?,
+            frame: u64_of(frame)?,
+        }),
+        _ => None,
+    }
+}
+
+#[tactic(auto, unfolding(crate::specs::Calls::sub_of))]
+fn read_sub(args: &[&[u8]]) -> Option<Grant>
+    ensures { result ≡ sub_of (map (λ word. word.now) args.now) }
+{
+    match args {
+        [dom, access, frame, off, len] => Some(Grant::Sub {
+            dom: domain(dom)?,
+            read_only: mode(access)?,
+            frame: u64_of(frame)?,
+            off: u16_of(off)?,
+            len: u16_of(len)?,
+        }),
+        _ => None,
+    }
+}
+
+#[tactic(auto, unfolding(crate::specs::Calls::via_of))]
+fn read_via(args: &[&[u8]]) -> Option<Grant>
+    ensures { result ≡ via_of (map (λ word. word.now) args.now) }
+{
+    match args {
+        [dom, access, to, gref] => Some(Grant::Via {
+            dom: domain(dom)?,
+            read_only: mode(access)?,
+            to: domain(to)?,
+            gref: reference(gref)?,
+        }),
+        _ => None,
+    }
+}
+
+#[tactic(auto, unfolding(crate::specs::Calls::granted))]
+fn read_entry(kind: &[u8], args: &[&[u8]]) -> Option<Grant>
+    ensures { result ≡ granted kind.now (map (λ word. word.now) args.now) }
+{
+    if is(kind, "page") {
+        read_page(args)
+    } else if is(kind, "sub") {
+        read_sub(args)
+    } else if is(kind, "via") {
+        read_via(args)
+    } else {
+        None
+    }
+}
+
+#[tactic(auto, unfolding(crate::specs::Calls::grant_of))]
+fn read_grant<'a>(args: &[&'a [u8]]) -> Option<Call<'a>>
+    ensures { result ≡ grant_of (map (λ word. word.now) args.now) }
+{
+    match args {
+        [gref, kind, rest @ ..] => Some(Call::Grant {
+            gref: reference(gref)?,
+            entry: read_entry(kind, rest)?,
+        }),
+        _ => None,
+    }
+}
+
+#[tactic(auto, unfolding(crate::specs::Calls::bytes_of))]
+fn read_bytes<'a>(args: &[&'a [u8]]) -> Option<Call<'a>>
+    ensures { result ≡ bytes_of (map (λ word. word.now) args.now) }
+{
+    match args {
+        [gref, digits] => Some(Call::GrantBytes {
+            gref: reference(gref)?,
+            hex: hex_text(digits)?,
+        }),
+        _ => None,
+    }
+}
+
+#[tactic(auto, unfolding(crate::specs::Calls::map_of))]
+fn read_map<'a>(args: &[&'a [u8]]) -> Option<Call<'a>>
+    ensures { result ≡ map_of (map (λ word. word.now) args.now) }
+{
+    match args {
+        [name, dom, gref, bits] => Some(Call::Map {
+            label: label(name)?,
+            dom: domain(dom)?,
+            gref: reference(gref)?,
+            flags: flags(bits)?,
+        }),
+        _ => None,
+    }
+}
+
+#[tactic(auto, unfolding(crate::specs::Calls::unmap_of))]
+fn read_unmap<'a>(args: &[&'a [u8]]) -> Option<Call<'a>>
+    ensures { result ≡ unmap_of (map (λ word. word.now) args.now) }
+{
+    match args {
+        [name] => Some(Call::Unmap {
+            label: label(name)?,
+        }),
+        _ => None,
+    }
+}
+
+#[tactic(auto, unfolding(crate::specs::Calls::load_of))]
+fn read_load<'a>(args: &[&'a [u8]]) -> Option<Call<'a>>
+    ensures { result ≡ load_of (map (λ word. word.now) args.now) }
+{
+    match args {
+        [name, off, len] => Some(Call::Load {
+            label: label(name)?,
+            off: u16_of(off)?,
+            len: u16_of(len)?,
+        }),
+        _ => None,
+    }
+}
+
+#[tactic(auto, unfolding(crate::specs::Calls::store_of))]
+fn read_store<'a>(args: &[&'a [u8]]) -> Option<Call<'a>>
+    ensures { result ≡ store_of (map (λ word. word.now) args.now) }
+{
+    match args {
+        [name, off, digits] => Some(Call::Store {
+            label: label(name)?,
+            off: u16_of(off)?,
+            hex: hex_text(digits)?,
+        }),
+        _ => None,
+    }
+}
+
+#[tactic(auto, unfolding(crate::specs::Calls::peek_of))]
+fn read_peek<'a>(args: &[&'a [u8]]) -> Option<Call<'a>>
+    ensures { result ≡ peek_of (map (λ word. word.now) args.now) }
+{
+    match args {
+        [frame, off, len] => Some(Call::Peek {
+            frame: u64_of(frame)?,
+            off: u16_of(off)?,
+            len: u16_of(len)?,
+        }),
+        _ => None,
+    }
+}
+
+#[tactic(auto, unfolding(crate::specs::Calls::poke_of))]
+fn read_poke<'a>(args: &[&'a [u8]]) -> Option<Call<'a>>
+    ensures { result ≡ poke_of (map (λ word. word.now) args.now) }
+{
+    match args {
+        [frame, off, digits] => Some(Call::Poke {
+            frame: u64_of(frame)?,
+            off: u16_of(off)?,
+            hex: hex_text(digits)?,
+        }),
+        _ => None,
+    }
+}
+
+#[tactic(auto, unfolding(crate::specs::Calls::revoke_of))]
+fn read_revoke<'a>(args: &[&'a [u8]]) -> Option<Call<'a>>
+    ensures { result ≡ revoke_of (map (λ word. word.now) args.now) }
+{
+    match args {
+        [gref] => Some(Call::Revoke {
+            gref: reference(gref)?,
+        }),
+        _ => None,
+    }
+}
+
+#[tactic(auto, unfolding(crate::specs::Calls::demote_of))]
+fn read_demote<'a>(args: &[&'a [u8]]) -> Option<Call<'a>>
+    ensures { result ≡ demote_of (map (λ word. word.now) args.now) }
+{
+    match args {
+        [gref] => Some(Call::Demote {
+            gref: reference(gref)?,
+        }),
+        _ => None,
+    }
+}
+
+#[tactic(auto, unfolding(crate::specs::Calls::promote_of))]
+fn read_promote<'a>(args: &[&'a [u8]]) -> Option<Call<'a>>
+    ensures { result ≡ promote_of (map (λ word. word.now) args.now) }
+{
+    match args {
+        [gref] => Some(Call::Promote {
+            gref: reference(gref)?,
+        }),
+        _ => None,
+    }
+}
+
+#[tactic(auto, unfolding(crate::specs::Calls::version_of))]
+fn read_version<'a>(args: &[&'a [u8]]) -> Option<Call<'a>>
+    ensures { result ≡ version_of (map (λ word. word.now) args.now) }
+{
+    match args {
+        [number] => Some(Call::SetVersion {
+            version: u32_of(number)?,
+        }),
+        _ => None,
+    }
+}
+
+#[tactic(auto, unfolding(crate::specs::Calls::setup_of))]
+fn read_setup<'a>(args: &[&'a [u8]]) -> Option<Call<'a>>
+    ensures { result ≡ setup_of (map (λ word. word.now) args.now) }
+{
+    match args {
+        [number] => Some(Call::SetupTable {
+            frames: u32_of(number)?,
+        }),
+        _ => None,
+    }
+}
+
+#[tactic(auto, unfolding(crate::specs::Calls::size_of))]
+fn read_size<'a>(args: &[&'a [u8]]) -> Option<Call<'a>>
+    ensures { result ≡ size_of (map (λ word. word.now) args.now) }
+{
+    match args {
+        [dom] => Some(Call::QuerySize { dom: domain(dom)? }),
+        _ => None,
+    }
+}
+
+#[tactic(auto, unfolding(crate::specs::Calls::getversion_of))]
+fn read_getversion<'a>(args: &[&'a [u8]]) -> Option<Call<'a>>
+    ensures { result ≡ getversion_of (map (λ word. word.now) args.now) }
+{
+    match args {
+        [dom] => Some(Call::GetVersion { dom: domain(dom)? }),
+        _ => None,
+    }
+}
+
+#[tactic(auto, unfolding(crate::specs::Calls::call_of))]
+fn read_call<'a>(words: &[&'a [u8]]) -> Option<Call<'a>>
+    ensures { result ≡ call_of (map (λ word. word.now) words.now) }
+{
+    let (word, args) = words.split_first()?;
+    if is(word, "grant") {
+        read_grant(args)
+    } else if is(word, "bytes") {
+        read_bytes(args)
+    } else if is(word, "map") {
+        read_map(args)
+    } else if is(word, "unmap") {
+        read_unmap(args)
+    } else if is(word, "load") {
+        read_load(args)
+    } else if is(word, "store") {
+        read_store(args)
+    } else if is(word, "peek") {
+        read_peek(args)
+    } else if is(word, "poke") {
+        read_poke(args)
+    } else if is(word, "revoke") {
+        read_revoke(args)
+    } else if is(word, "demote") {
+        read_demote(args)
+    } else if is(word, "promote") {
+        read_promote(args)
+    } else if is(word, "version") {
+        read_version(args)
+    } else if is(word, "setup") {
+        read_setup(args)
+    } else if is(word, "size") {
+        read_size(args)
+    } else if is(word, "getversion") {
+        read_getversion(args)
+    } else {
+        None
+    }
+}
+
+#[tactic(auto, unfolding(crate::specs::Calls::tick_of))]
+fn read_tick<'a>(args: &[&'a [u8]]) -> Option<Action<'a>>
+    ensures { result ≡ tick_of (map (λ word. word.now) args.now) }
+{
+    match args {
+        [count] => Some(Action::Tick(tick_count(count)?)),
+        _ => None,
+    }
+}
+
+#[tactic(auto, unfolding(crate::specs::Calls::show_of))]
+fn read_show<'a>(args: &[&'a [u8]]) -> Option<Action<'a>>
+    ensures { result ≡ show_of (map (λ word. word.now) args.now) }
+{
+    match args {
+        [gref] => Some(Action::Show(reference(gref)?)),
+        _ => None,
+    }
+}
+
+/// What a body line's first word says together with the words after its domain.
+#[tactic(auto, unfolding(crate::specs::Calls::action_of))]
+pub fn read_action<'a>(word: &[u8], args: &[&'a [u8]]) -> Option<Action<'a>>
+    ensures { result ≡ action_of word.now (map (λ word. word.now) args.now) }
+{
+    if is(word, "do") {
+        Some(Action::Do(read_call(args)?))
+    } else if is(word, "begin") {
+        Some(Action::Begin(read_call(args)?))
+    } else if is(word, "tick") {
+        read_tick(args)
+    } else if is(word, "show") {
+        read_show(args)
+    } else {
+        None
+    }
+}

@@ -1,0 +1,29 @@
+//! What one line of a script says.
+//!
+//! A text is parted into lines and a line into words; `read_line` answers what the words say: a triple, a
+//! first generation, a domain, or what a line of the body asks of its domain. Names, labels and
+//! hexadecimal texts are borrowed from the script's bytes, so that reading a line takes no memory but for
+//! the list of its words.
+//!
+//! What the words mean is defined by patterns on them, in `specs/`, word by word; each function here
+//! answers exactly that. Whether a line may stand where it does is not judged here. The crate stands on
+//! `gt_types`, whose names and numbers the words spell, and on `hex`.
+#![tactic(auto)]
+
+mod calls;
+mod fields;
+mod hexadecimal;
+mod laws;
+mod lines;
+mod numbers;
+mod texts;
+mod words;
+
+pub use calls::{Action, Call, Grant};
+pub use fields::is;
+pub use hexadecimal::hex_bytes;
+pub use laws::every_hex_text_says_its_bytes;
+pub use lines::{DomainLine, Line, TripleLine, read_line};
+pub use numbers::Number;
+pub use texts::Text;
+pub use words::{line_words, text_lines};

@@ -1,0 +1,123 @@
+//! The compiled table beside the walk of the statements: both answer every question alike.
+use bitflags::Flags;
+use gt_allow::AllowTable;
+use gt_policy::Policy;
+use gt_types::{Allows, Perms, Triple, Triples, TypeId};
+use std::alloc::{AllocError, Global};
+use std::test::Fail;
+
+/// Two types of one attribute, of which a set takes one out, with `self` beside it.
+const TAKEN_OUT: &str = "attribute s;\n\
+type a_t, s;\n\
+type b_t;\n\
+typeattribute b_t s;\n\
+allow s { self -a_t b_t }:{ grant file } { copy open };\n";
+
+const ONE_STATEMENT: &str = "type a_t; type b_t; allow b_t a_t:grant map_read;\n";
+
+const BUT_DOM0: &str = "attribute domain;\n\
+type dom0_t, domain;\n\
+type domU_t, domain;\n\
+allow { domain -dom0_t } domain:grant { map_read copy };\n";
+
+const DOM0_TAKEN_FIRST: &str = "attribute domain;\n\
+type dom0_t, domain;\n\
+type domU_t, domain;\n\
+allow { -dom0_t domain } domain:grant { map_read copy };\n";
+
+const THREE_DOMAINS: &str = "attribute dom;\n\
+type a_t, dom;\n\
+type b_t, dom;\n\
+type c_t, dom;\n\
+allow dom dom:grant { map_read map_write unmap copy query };\n\
+allow dom self:grant setup;\n";
+
+/// The policy of the split driver, which a script and a policy text of the examples share.
+const SPLIT_DRIVER: &str = "attribute domain;\n\
+attribute guest;\n\
+type control_t, domain;\n\
+type driver_t, domain;\n\
+type guest_a_t, domain, guest;\n\
+type guest_b_t, domain, guest;\n\
+allow domain self:grant setup;\n\
+allow driver_t guest:grant { map_read map_write unmap copy };\n\
+allow control_t { domain -control_t }:grant { map_read unmap };\n\
+allow control_t domain:grant query;\n";
+
+const OF_ANOTHER_CLASS: &str =
+    "type a_t; allow a_t a_t:file *; allow a_t a_t:{ grant file } map_red;\n";
+
+/// Each allowed triple of so many types, `SOURCE TARGET PERMISSION;` with the numbers of the types.
+fn allowed<R: Allows>(alloc: Global, rights: &R, types: u16) -> Result<String, AllocError> {
+    let mut out = String::new(alloc);
+    for source in 0..types {
+        for target in 0..types {
+            for perm in Perms::EVERY {
+                if rights.allows(TypeId(source), TypeId(target), perm) {
+                    let line = format!(in alloc; "{source} {target} {};", perm.name())?;
+                    out.push_str(line.as_str())?;
+                }
+            }
+        }
+    }
+    Ok(out)
+}
+
+// On every triple of the types, and of one type that is not declared.
+#[test]
+fn a_table_answers_as_the_walk(rt: HostRuntime) -> Result<(), Fail> {
+    let alloc = rt.alloc();
+    for (text, triples) in [
+        (TAKEN_OUT, 3),
+        (ONE_STATEMENT, 1),
+        (BUT_DOM0, 4),
+        (DOM0_TAKEN_FIRST, 4),
+        (THREE_DOMAINS, 48),
+        (SPLIT_DRIVER, 22),
+        (OF_ANOTHER_CLASS, 0),
+        ("", 0),
+    ] {
+        let policy = Policy::parse(alloc, text)?;
+        let table = AllowTable::compile(alloc, &policy)?;
+        let types = policy.count() + 1;
+        let told = allowed(alloc, &table, types)?;
+        let lines = told.as_bytes().iter().filter(|byte| **byte == b';').count();
+        assert_eq!(rt;
+            (told.as_str(), lines),
+            (allowed(alloc, &policy, types)?.as_str(), triples)
+        );
+    }
+    Ok(())
+}
+
+// A question for several permissions, or for none, is answered no in all three forms.
+#[test]
+fn several_permissions_are_none(rt: HostRuntime) -> Result<(), Fail> {
+    let alloc = rt.alloc();
+    let a = TypeId(0);
+    let policy = Policy::parse(alloc, "type a_t; allow a_t a_t:grant *;")?;
+    let table = AllowTable::compile(alloc, &policy)?;
+    for (perm, wanted) in [
+        (Perms::COPY, true),
+        (Perms::empty(), false),
+        (Perms::MAP_READ | Perms::MAP_WRITE, false),
+        (Perms::all(), false),
+    ] {
+        let triples = Triples {
+            allowed: vec![in alloc;
+                Triple {
+                    source: a,
+                    target: a,
+                    perm
+                },
+            ]?,
+        };
+        let answers = (
+            policy.allows(a, a, perm),
+            table.allows(a, a, perm),
+            triples.allows(a, a, perm),
+        );
+        assert_eq!(rt; answers, (wanted, wanted, wanted), "{}", perm.bits());
+    }
+    Ok(())
+}

@@ -1,0 +1,58 @@
+use Rattle.std.proofs.Common.{◌≡◌, ◌∙◌, rules, ap, subst, sym, map, drop, List, [], Option, Some, None, IsSome, codes, true≢false}
+use Rattle.std.specs.Prelude.{string_bytes}
+use Rattle.clap.specs.Kinds.{HasKind, Kinds}
+use Rattle.clap.specs.Faults.{fault_of, is_simple_and_free}
+use Rattle.clap.specs.Words.{Text, App, app_of, is_simple, subcommand_of, subcommand_rows_of, subcommand_name_of}
+use Rattle.clap.proofs.FaultLemmas.{failed_up}
+use Rattle.gt_program.specs.CommandLine.{gthost_app, command_name, asked, Request, refusals, IsPlanFor, IsPlanOf}
+use Rattle.gt_program.specs.declared.plan.Mode.{Mode}
+use Rattle.gt_program.specs.declared.plan.Mode.TheVariants.{Play, Policy}
+use Rattle.clap.specs.declared.error.Error.{Error}
+use Rattle.gt_program.proofs.Line.{gthost_is_simple, words_say, refusal, planned, entered_command}
+use Rattle.gt_program.proofs.plan.plan.Goals as goal
+
+never_both : {T : Type 0} (o : Option T) → IsSome o → o ≡ None → ⊥
+never_both None some none = true≢false (sym some)
+never_both (Some x) some none = cc none
+
+pub returns-in_err-matches-clause-answers : goal.returns-in_err-matches-clause-answers
+returns-in_err-matches-clause-answers c =
+    let words : List Text = map string_bytes c.args.words.now in
+    let request : Request = asked (drop 1 words) in
+    let kinds : Kinds = fault_of gthost_app words in
+    let error : Error = c.in_err-matches.field-0.0 in
+    let app : app_of c.in_ok-command.command ≡ gthost_app = c.in_ok-command.ensures in
+    let has : HasKind kinds error = subst (λ (a : App). HasKind (fault_of a words) error) app (c.in_err-matches.ensures.kinds (ap is_simple_and_free app ∙ gthost_is_simple)) in
+    failed_up c.from_residual-in_err-matches.result error (IsPlanFor request) (refusals request) c.from_residual-in_err-matches.ensures.1
+    (refusal request kinds (subcommand_of gthost_app words) error (words_say words) has)
+
+pub returns-in-Some-clause-answers : goal.returns-in-Some-clause-answers
+returns-in-Some-clause-answers c =
+    let words : List Text = map string_bytes c.args.words.now in
+    let app : app_of c.in_ok-command.command ≡ gthost_app = c.in_ok-command.ensures in
+    let passes : fault_of gthost_app words ≡ [] = ap (λ (a : App). fault_of a words) (sym app) ∙ c.in_ok-matches.ensures.kinds (ap is_simple_and_free app ∙ gthost_is_simple) in
+    let plan : IsPlanOf c.plan_of.result (subcommand_of gthost_app words) = search rules in
+    planned (asked (drop 1 words)) (fault_of gthost_app words) (subcommand_of gthost_app words) c.plan_of.result (words_say words) passes plan
+
+pub returns-clause-answers : goal.returns-clause-answers
+returns-clause-answers c =
+    let words : List Text = map string_bytes c.args.words.now in
+    let app : app_of c.in_ok-command.command ≡ gthost_app = c.in_ok-command.ensures in
+    let passes : fault_of gthost_app words ≡ [] = ap (λ (a : App). fault_of a words) (sym app) ∙ c.in_ok-matches.ensures.kinds (ap is_simple_and_free app ∙ gthost_is_simple) in
+    let plan : IsPlanOf c.plan_of-in-Some-subcommand_matches.result (subcommand_of gthost_app words) = search rules in
+    planned (asked (drop 1 words)) (fault_of gthost_app words) (subcommand_of gthost_app words) c.plan_of-in-Some-subcommand_matches.result (words_say words) passes plan
+
+-- a command that was entered is one of the two
+neither : {T : Type 0} (play policy : Option T) (name : Option Text) (mode : Mode) → (name ≡ Some (codes "play") → IsSome play) → (name ≡ Some (codes "policy") → IsSome policy) → play ≡ None → policy ≡ None → name ≡ Some (command_name mode) → ⊥
+neither play policy name Play found also first second is = never_both play (found is) first
+neither play policy name Policy found also first second is = never_both policy (also is) second
+
+pub unreachable-requires : goal.unreachable-requires
+unreachable-requires c =
+    let words : List Text = map string_bytes c.args.words.now in
+    let app : app_of c.in_ok-command.command ≡ gthost_app = c.in_ok-command.ensures in
+    let passes : fault_of gthost_app words ≡ [] = ap (λ (a : App). fault_of a words) (sym app) ∙ c.in_ok-matches.ensures.kinds (ap is_simple_and_free app ∙ gthost_is_simple) in
+    let rows : subcommand_rows_of c.in_ok-matches.matches ≡ subcommand_of gthost_app words =
+    (c.in_ok-matches.ensures.matches (ap is_simple app)).1 ∙ ap (λ (a : App). subcommand_of a words) app in
+    let entered = entered_command c.in_ok-matches.matches (asked (drop 1 words)) (fault_of gthost_app words) (subcommand_of gthost_app words) (words_say words) passes rows in
+    neither c.subcommand_matches.result c.subcommand_matches-2.result (subcommand_name_of c.in_ok-matches.matches) entered.0 c.subcommand_matches.ensures.found.1 c.subcommand_matches-2.ensures.found.1 c.in_default.is c.in-None.is entered.1

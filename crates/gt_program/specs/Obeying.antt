@@ -1,0 +1,76 @@
+-- What a command line comes to: what is written, and the exit status.
+use Rattle.std.specs.Prelude.{◌≡◌, ◌⊎◌, ℕ, ◌≤◌, ◌++◌, List, Option, Some, None, Result, Ok, Err, IfSome, codes}
+use Rattle.std.specs.Io.KnownBytes.{Keeps}
+use Rattle.clap.specs.declared.error.kind.ErrorKind.{ErrorKind}
+use Rattle.clap.specs.declared.error.kind.ErrorKind.TheVariants.{DisplayHelp, DisplayVersion, OutOfMemory}
+use Rattle.gt_script.specs.Script.{Tells}
+use Rattle.gt_streams.specs.Texts.{read_word}
+use Rattle.gt_host.specs.Faults.{play_fault_text}
+use Rattle.gt_host.specs.Playing.{Played}
+use Rattle.gt_listing.specs.Faults.{listing_fault_text}
+use Rattle.gt_listing.specs.Writing.{Listed}
+use Rattle.gt_program.specs.CommandLine.{Request, to_do, for_help, nothing}
+use Rattle.gt_program.specs.declared.failure.Failure.{Failure}
+use Rattle.gt_program.specs.declared.failure.Failure.TheVariants as failures
+use Rattle.gt_program.specs.declared.plan.Mode.{Mode}
+use Rattle.gt_program.specs.declared.plan.Mode.TheVariants.{Play, Policy}
+
+-- the line for a failure (own)
+abbrev pub failure_text : Failure → List ℕ
+failure_text (failures.Play fault) = codes "gthost: " ++ play_fault_text fault
+failure_text (failures.List fault) = codes "gthost: " ++ listing_fault_text fault
+failure_text (failures.File fault) = codes "gthost: " ++ read_word fault
+failure_text (failures.Help fault) = codes "gthost: write"
+failure_text failures.Memory = codes "gthost: memory"
+
+-- the exit status: 0 for success, 1 for a failure (own)
+abbrev pub status_of : Result (Unit {0}) Failure → ℕ
+status_of (Ok done) = 0
+status_of (Err failure) = 1
+
+-- what a command wrote that ended so, where these are the bytes of its text (own)
+abbrev pub Performs : Mode → List ℕ → Option (List ℕ) → Option (List ℕ) → Result (Unit {0}) Failure → Type 0
+Performs Play input old new (Ok done) = Played (Tells input) old new (Ok done)
+Performs Play input old new (Err (failures.Play fault)) = Played (Tells input) old new (Err fault)
+Performs Play input old new (Err (failures.List fault)) = ⊥
+Performs Play input old new (Err (failures.File fault)) = ⊥
+Performs Play input old new (Err (failures.Help fault)) = ⊥
+Performs Play input old new (Err failures.Memory) = ⊥
+Performs Policy input old new (Ok done) = Listed input old new (Ok done)
+Performs Policy input old new (Err (failures.List fault)) = Listed input old new (Err fault)
+Performs Policy input old new (Err (failures.Play fault)) = ⊥
+Performs Policy input old new (Err (failures.File fault)) = ⊥
+Performs Policy input old new (Err (failures.Help fault)) = ⊥
+Performs Policy input old new (Err failures.Memory) = ⊥
+
+-- a file that was not opened: nothing was written (own)
+abbrev pub IsUnopened : Option (List ℕ) → Option (List ℕ) → Result (Unit {0}) Failure → Type 0
+IsUnopened old new (Ok done) = ⊥
+IsUnopened old new (Err (failures.Play fault)) = ⊥
+IsUnopened old new (Err (failures.List fault)) = ⊥
+IsUnopened old new (Err (failures.File fault)) = Keeps old new
+IsUnopened old new (Err (failures.Help fault)) = ⊥
+IsUnopened old new (Err failures.Memory) = ⊥
+
+-- the command did its work on these bytes, or could not open the file (own)
+abbrev pub Runs : Mode → List ℕ → Option (List ℕ) → Option (List ℕ) → Result (Unit {0}) Failure → Type 0
+Runs mode input old new r = Performs mode input old new r ⊎ IsUnopened old new r
+
+-- the bytes that are known of the file that is named, or of the standard input where none is (own)
+abbrev pub known_text : (List ℕ → Option (List ℕ)) → Option (List ℕ) → Option (List ℕ) → Option (List ℕ)
+known_text file input None = input
+known_text file input (Some name) = file name
+
+-- the exit status of a command line that is not obeyed: 1 for want of memory, 0 or 1 for help, as it was written or not, and else 2 (own)
+pub record FitsKind (kind : ErrorKind) (status : ℕ) : Type 0 where
+  pub memory : kind ≡ OutOfMemory → status ≡ 1
+  pub help : kind ≡ DisplayHelp → status ≤ 1
+  pub wrong : (kind ≡ OutOfMemory → ⊥) → (kind ≡ DisplayHelp → ⊥) → (kind ≡ DisplayVersion → ⊥) → status ≡ 2
+
+-- The exit status fits what was asked for, and what was written does: work that was done, help, or nothing for words that
+-- ask for nothing, whose status is 2. Want of memory is 1 for all of them. (own)
+abbrev pub Obeys : Request → (List ℕ → Option (List ℕ)) → Option (List ℕ) → Option (List ℕ) → Option (List ℕ) → ℕ → Type 0
+Obeys (to_do mode name) file input old new status =
+    IfSome (known_text file input name) (λ bytes. (r : Result (Unit {0}) Failure) × (status ≡ status_of r) × (Runs mode bytes old new r ⊎ (r ≡ Err failures.Memory)))
+Obeys for_help file input old new status = status ≤ 1
+Obeys nothing file input old new status = (status ≡ 2) ⊎ (status ≡ 1)

@@ -1,0 +1,53 @@
+//! Why a command did not end well.
+ghost use Rattle.std.specs.Prelude.{◌≡◌};
+ghost use Rattle.gt_program.specs.Obeying.{status_of};
+
+use gt_host::PlayFault;
+use gt_listing::Fault;
+use gt_streams::{ReadFault, WriteFault};
+use std::error::Error;
+use std::fmt;
+
+/// Why a command did not end well. It prints as one line, without its end.
+#[derive(Debug, Drop)]
+pub enum Failure {
+    /// A script was not played to its end.
+    Play(PlayFault),
+    /// A policy was not listed to its end.
+    List(Fault),
+    /// The file can't be opened. Nothing was written.
+    File(ReadFault),
+    /// The help was not written whole.
+    Help(WriteFault),
+    /// Memory was refused before there was anything to do.
+    Memory,
+}
+
+impl fmt::Display for Failure {
+    ghost use Rattle.std.specs.Prelude.{Some};
+    ghost use Rattle.gt_program.specs.Obeying.{failure_text};
+
+    ghost output = { λ failure. Some (failure_text failure) };
+
+    fn fmt<W: fmt::Write>(&self, f: &mut fmt::Formatter<W>) -> fmt::Result {
+        match self {
+            Failure::Play(fault) => write!(f, "gthost: {fault}"),
+            Failure::List(fault) => write!(f, "gthost: {fault}"),
+            Failure::File(fault) => write!(f, "gthost: {fault}"),
+            Failure::Help(fault) => write!(f, "gthost: {fault}"),
+            Failure::Memory => f.write_str("gthost: memory"),
+        }
+    }
+}
+
+impl Error for Failure {}
+
+/// The exit status of a command that ended so: 0 for success, and 1 for a failure.
+pub fn exit_status(outcome: &Result<(), Failure>) -> u8
+    ensures { result ≡ status_of outcome.now }
+{
+    match outcome {
+        Ok(()) => 0,
+        Err(_) => 1,
+    }
+}

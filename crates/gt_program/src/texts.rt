@@ -1,0 +1,28 @@
+//! Where the texts are.
+use gt_streams::ReadFault;
+use std::io::Read;
+
+/// Where the texts are that commands work on: files by their names, and the standard input. An
+/// implementation may tell the bytes of some of them; a contract then speaks of those.
+pub trait Texts {
+    ghost use Rattle.std.specs.Prelude.{◌≡◌, ℕ, List, Option, None, Some, IfOk, IfSome};
+
+    /// A file that is open.
+    type File: Read + Drop;
+
+    /// The standard input.
+    type Input: Read + Drop;
+
+    // The bytes of the file of a name, and those of the standard input, where they are known.
+    ghost file: { Self → List ℕ → Option (List ℕ) } = { λ _ _. None };
+
+    ghost input: { Self → Option (List ℕ) } = { λ _. None };
+
+    /// The file of this name, from its beginning.
+    fn open(&self, name: &str) -> Result<Self::File, ReadFault>
+        ensures { IfOk result (λ f. IfSome (file self.now name.now) (λ all. Self.File.remaining f ≡ Some all)) };
+
+    /// The standard input.
+    fn input(&self) -> Self::Input
+        ensures { IfSome (input self.now) (λ all. Self.Input.remaining result ≡ Some all) };
+}

@@ -1,0 +1,85 @@
+//! Tries command lines of the program `gthost`, and prints what each writes, with its exit status.
+//!
+//! Each word of this program's own command line is a command line of `gthost`: its words stand between
+//! blanks. Behind `full: ` stands one whose texts go to a writer that is full. What `gthost` writes to the
+//! standard error goes to the standard output here, so that `stdout` has it. `args` has the command
+//! lines, `data/` their files, and `stdin` the text for those that name none. A command line is added
+//! there; that costs no proof.
+#![tactic(auto)]
+
+use gt_program::{System, obey};
+use std::alloc::{AllocError, Global};
+use std::fmt::Display;
+use std::io::{self, ErrorKind, Write};
+use std::rt::Runtime;
+
+// The standard output, in the place of the standard error.
+#[derive(Drop)]
+struct Screen<'r, R> {
+    rt: &'r R,
+}
+
+impl<'r, R: Print> Eprint for Screen<'r, R> {
+    fn eprint<D: Display + Drop>(&self, value: D) -> io::Result<()> {
+        self.rt.print(value)
+    }
+
+    fn eprintln<D: Display + Drop>(&self, value: D) -> io::Result<()> {
+        self.rt.println(value)
+    }
+}
+
+// A writer that takes nothing.
+#[derive(Drop)]
+struct Full;
+
+impl Write for Full {
+    fn write(&mut self, _buf: &[u8]) -> io::Result<usize> {
+        Err(io::Error::from(ErrorKind::StorageFull))
+    }
+
+    fn flush(&mut self) -> io::Result<()> {
+        Ok(())
+    }
+}
+
+fn words_of(alloc: Global, line: &str) -> Result<Vec<String>, AllocError> {
+    let mut words = Vec::new(alloc);
+    for word in line.split(' ') {
+        words.push(String::from_str(alloc, word)?)?;
+    }
+    Ok(words)
+}
+
+// Does what a command line asks for, and answers the exit status.
+fn try_line<R: Runtime + AllocGlobal>(rt: &R, line: &str) -> Result<u8, AllocError> {
+    let alloc = rt.alloc();
+    let texts = System { rt };
+    let screen = Screen { rt };
+    match line.strip_prefix("full: ") {
+        Some(line) => {
+            let words = words_of(alloc, line)?;
+            Ok(obey(alloc, &texts, words.as_slice(), &mut Full, &screen))
+        }
+        None => {
+            let words = words_of(alloc, line)?;
+            Ok(obey(
+                alloc,
+                &texts,
+                words.as_slice(),
+                &mut io::writer(rt),
+                &screen,
+            ))
+        }
+    }
+}
+
+fn main(rt: HostRuntime) -> io::Result<()> {
+    let lines: Vec<String> = std::env::args(&rt)?.collect(rt.alloc())?;
+    for line in lines.iter().skip(1) {
+        println!(rt; "$ {line}")?;
+        let status = try_line(&rt, line.as_str())?;
+        println!(rt; "status {status}")?;
+    }
+    Ok(())
+}
