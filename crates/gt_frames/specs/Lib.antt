@@ -1,3 +1,5 @@
 pub mod Bytes
 pub mod Frames
+pub mod Places
 pub mod Receipts
+pub mod Sets

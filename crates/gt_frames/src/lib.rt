@@ -16,6 +16,8 @@
 
 mod bytes;
 mod frame;
+mod frames;
+mod places;
 mod receipts;
 #[cfg(test)]
 mod tests;
@@ -23,5 +25,7 @@ mod writ;
 
 pub use bytes::Bytes;
 pub use frame::Frame;
+pub use frames::Frames;
+pub use places::{FrameName, Owned, Spot};
 pub use receipts::{Copied, Read, Written};
 pub use writ::{Ground, Record, Writ};
