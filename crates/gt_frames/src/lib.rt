@@ -19,8 +19,6 @@ mod frame;
 mod frames;
 mod places;
 mod receipts;
-#[cfg(test)]
-mod tests;
 mod writ;
 
 pub use bytes::Bytes;

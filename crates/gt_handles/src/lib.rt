@@ -12,7 +12,5 @@
 #![tactic(auto)]
 
 mod handles;
-#[cfg(test)]
-mod tests;
 
 pub use handles::{Handle, Handles, Slot};

@@ -15,8 +15,6 @@
 //! `gt_calls` and the handles of `gt_handles`.
 #![tactic(auto)]
 
-#[cfg(test)]
-mod access_tests;
 mod answers;
 mod fault;
 mod kept;
@@ -24,15 +22,9 @@ mod labels;
 mod open_calls;
 mod outcome;
 mod playing;
-#[cfg(test)]
-mod policy_tests;
 mod rights;
 mod run;
 mod showing;
-#[cfg(test)]
-mod table_tests;
-#[cfg(test)]
-mod tests;
 
 pub use fault::PlayFault;
 pub use playing::play;

@@ -16,8 +16,6 @@ mod laws;
 mod lines;
 mod listing;
 mod sources;
-#[cfg(test)]
-mod tests;
 mod text;
 
 pub use fault::Fault;

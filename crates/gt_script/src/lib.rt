@@ -10,10 +10,6 @@
 //! whose domains and triples a script is made of, on `gt_policy` for its policy block, and on `hex`.
 #![tactic(auto)]
 
-#[cfg(test)]
-mod access_tests;
-#[cfg(test)]
-mod block_tests;
 mod blocks;
 mod calls;
 mod faults;
@@ -22,8 +18,6 @@ mod hexadecimal;
 mod lines;
 mod numbers;
 mod script;
-#[cfg(test)]
-mod tests;
 mod texts;
 mod types;
 mod words;

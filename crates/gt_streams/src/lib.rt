@@ -14,8 +14,6 @@
 mod fault;
 mod laws;
 mod streams;
-#[cfg(test)]
-mod tests;
 mod text;
 
 pub use fault::{ReadFault, WriteFault};

@@ -1,0 +1,152 @@
+//! Streams in memory, and streams that fail.
+use gt_streams::{ReadFault, WriteFault, finish, push_text, read_text, send, text_of, write_text};
+use std::io::{self, ErrorKind, Read, Write};
+use std::test::Fail;
+
+// A text of which so many bytes can be read, a few at a time; then each read fails.
+#[derive(Drop)]
+struct FailingReader<'a> {
+    bytes: &'a [u8],
+    left: usize,
+}
+
+impl<'a> Read for FailingReader<'a> {
+    fn read(&mut self, buf: &mut [u8]) -> io::Result<usize> {
+        if self.left == 0 {
+            return Err(io::Error::from(ErrorKind::ConnectionReset));
+        }
+        let bytes: &'a [u8] = self.bytes;
+        let count = buf.len().min(bytes.len()).min(self.left).min(3);
+        buf[..count].copy_from_slice(&bytes[..count]);
+        self.bytes = &bytes[count..];
+        self.left -= count;
+        Ok(count)
+    }
+}
+
+// Takes so many bytes, a few at a time, and is interrupted before each of them; then each write
+// fails as it says.
+#[derive(Drop)]
+struct FailingWriter {
+    taken: Vec<u8>,
+    left: usize,
+    is_interrupted: bool,
+    end: Option<ErrorKind>,
+}
+
+impl Write for FailingWriter {
+    fn write(&mut self, buf: &[u8]) -> io::Result<usize> {
+        self.is_interrupted = !self.is_interrupted;
+        if self.is_interrupted {
+            return Err(io::Error::from(ErrorKind::Interrupted));
+        }
+        if self.left == 0 {
+            return match self.end {
+                Some(kind) => Err(io::Error::from(kind)),
+                None => Ok(0),
+            };
+        }
+        let count = buf.len().min(self.left).min(3);
+        self.taken.extend_from_slice(&buf[..count])?;
+        self.left -= count;
+        Ok(count)
+    }
+
+    fn flush(&mut self) -> io::Result<()> {
+        match self.end {
+            Some(kind) => Err(io::Error::from(kind)),
+            None => Ok(()),
+        }
+    }
+}
+
+const TEXT: &[u8] = b"one line\nand another\n";
+
+#[test]
+fn reads_what_is_left(rt: HostRuntime) -> Result<(), Fail> {
+    let mut reader = TEXT;
+    let text = read_text(rt.alloc(), &mut reader);
+    assert!(rt; matches!(&text, Ok(bytes) if bytes.as_slice() == TEXT));
+    let long = vec![in rt.alloc(); b' '; 1_048_600]?;
+    match read_text(rt.alloc(), &mut long.as_slice()) {
+        Ok(bytes) => assert_eq!(rt; bytes.len(), 1_048_577),
+        Err(_) => assert!(rt; false),
+    }
+    Ok(())
+}
+
+#[test]
+fn a_reader_that_fails(rt: HostRuntime) -> Result<(), Fail> {
+    for left in 0..TEXT.len() {
+        let mut reader = FailingReader { bytes: TEXT, left };
+        let text = read_text(rt.alloc(), &mut reader);
+        assert!(rt; matches!(text, Err(ReadFault::Read)), "after {left} bytes");
+    }
+    Ok(())
+}
+
+#[test]
+fn writes_go_on_until_all_is_out(rt: HostRuntime) -> Result<(), Fail> {
+    for left in 0..TEXT.len() + 1 {
+        for end in [None, Some(ErrorKind::BrokenPipe)] {
+            let mut writer = FailingWriter {
+                taken: Vec::new(rt.alloc()),
+                left,
+                is_interrupted: false,
+                end,
+            };
+            let want = if left < TEXT.len() {
+                Err(WriteFault)
+            } else {
+                Ok(())
+            };
+            assert_eq!(rt; write_text(&mut writer, TEXT), want, "after {left} bytes");
+            assert_eq!(rt; writer.taken.as_slice(), &TEXT[..left]);
+        }
+    }
+    Ok(())
+}
+
+#[test]
+fn lines_wait_for_enough_of_them(rt: HostRuntime) -> Result<(), Fail> {
+    let mut writer = Vec::new(rt.alloc());
+    let mut waiting = vec![in rt.alloc(); b'.'; 65_535]?;
+    assert_eq!(rt; send(&mut writer, &mut waiting), Ok(()));
+    assert_eq!(rt; (writer.len(), waiting.len()), (0, 65_535));
+    waiting.push(b'\n')?;
+    assert_eq!(rt; send(&mut writer, &mut waiting), Ok(()));
+    assert_eq!(rt; (writer.len(), waiting.len()), (65_536, 0));
+    assert_eq!(rt; finish(&mut writer, b"end\n"), Ok(()));
+    assert!(rt; writer.as_slice().ends_with(b".\nend\n"));
+    Ok(())
+}
+
+#[test]
+fn bytes_are_a_text_or_have_a_bad_line(rt: HostRuntime) -> Result<(), Fail> {
+    assert!(rt; matches!(text_of(TEXT), Ok(text) if text.as_bytes() == TEXT));
+    assert!(rt; matches!(text_of(b"\xffone\n"), Err(1)));
+    assert!(rt; matches!(text_of(b"one\ntwo\n\xe2\x82"), Err(3)));
+    Ok(())
+}
+
+#[test]
+fn texts_wait_as_their_bytes(rt: HostRuntime) -> Result<(), Fail> {
+    let mut waiting = Vec::new(rt.alloc());
+    push_text(&mut waiting, "one line\n")?;
+    push_text(&mut waiting, "and another\n")?;
+    assert_eq!(rt; waiting.as_slice(), TEXT);
+    Ok(())
+}
+
+#[test]
+fn what_the_writer_holds_is_handed_on(rt: HostRuntime) -> Result<(), Fail> {
+    let mut writer = FailingWriter {
+        taken: Vec::new(rt.alloc()),
+        left: TEXT.len(),
+        is_interrupted: false,
+        end: Some(ErrorKind::BrokenPipe),
+    };
+    assert_eq!(rt; finish(&mut writer, TEXT), Err(WriteFault));
+    assert_eq!(rt; writer.taken.as_slice(), TEXT);
+    Ok(())
+}

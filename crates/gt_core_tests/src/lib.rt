@@ -1,0 +1,12 @@
+//! Tests of the machine over events, over what its crate makes public.
+//!
+//! They say what no contract says: worked runs with the answer of each call, and that a call goes on where
+//! memory is refused.
+#![tactic(auto)]
+
+#[cfg(test)]
+mod access;
+#[cfg(test)]
+mod calls;
+#[cfg(test)]
+mod tables;

@@ -1,0 +1,10 @@
+//! Tests of policies and of the listing of what they allow, over what their crates make public.
+//!
+//! They say what no contract says: worked texts with what they allow, printed faults, texts at the limits,
+//! and readers and writers that fail.
+#![tactic(auto)]
+
+#[cfg(test)]
+mod listing;
+#[cfg(test)]
+mod policy;
