@@ -2,8 +2,13 @@
 use Rattle.std.specs.Prelude.{ℕ, ◌+◌, ◌==◌, Bool, ◌&&◌, nat_lt, if◌then◌else◌, List, [], ◌∷◌, map, Option, Some, None}
 use Rattle.std.specs.List.{flat_map, range_with_len}
 use Rattle.gt_types.specs.declared.DomId.{DomId}
+use Rattle.gt_types.specs.declared.config.DomainConfig.{DomainConfig}
 use Rattle.gt_frames.specs.declared.places.Owned.{Owned}
 use Rattle.gt_frames.specs.declared.places.FrameName.{FrameName}
+
+-- how many frames each domain has (own)
+abbrev pub owned_by : List DomainConfig → List Owned
+owned_by ds = map (λ (d : DomainConfig). record { owner = d.id; frames = d.frames }) ds
 
 -- the pool number of a frame, where the frames of these domains begin at this one: they run over the frames of the first domain, then of the second, and so on (own)
 abbrev pub pool_number : List Owned → DomId → ℕ → ℕ → Option ℕ

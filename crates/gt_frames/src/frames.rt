@@ -3,9 +3,9 @@ ghost use Rattle.gt_frames.specs.Frames.{FrameState, covers};
 ghost use Rattle.gt_frames.specs.Receipts.{copying_of};
 ghost use Rattle.gt_frames.specs.Sets.{zero_frames, CopiesAmong};
 
-use crate::places::find;
+use crate::places::{find, owned_by};
 use crate::{Copied, Frame, FrameName, Owned, Spot, Writ, Written};
-use gt_types::{DomId, FRAME_SIZE, Memory, Range};
+use gt_types::{Config, DomId, FRAME_SIZE, Memory, Range};
 use std::alloc::Global;
 use std::marker::Model;
 
@@ -76,18 +76,22 @@ fn copy_among(
 }
 
 impl Frames {
-    ghost use Rattle.gt_frames.specs.Frames.{bytes_at, IsWrite};
+    ghost use Rattle.gt_frames.specs.Frames.{bytes_at, IsKept};
+    ghost use Rattle.gt_frames.specs.Places.{owned_by};
     ghost use Rattle.gt_frames.specs.Receipts.{writing_of, copying_of};
     ghost use Rattle.gt_frames.specs.Sets.{frame_at, place_in, has_frame, has_range, admits, all_zeros, AreKept, WritesTo};
 
-    /// The frames of these domains, each of zeros. The bytes of each are made on the heap, once.
+    /// The frames of all domains, in their order, each of zeros. The bytes of each are made on the
+    /// heap, once.
     ///
     /// # Errors
     ///
     /// `Memory`.
-    pub fn new(alloc: Global, domains: Vec<Owned>) -> Result<Frames, Memory>
-        ensures { IfOk result (λ fs. fs ≡ all_zeros domains.items) }
+    pub fn new(alloc: Global, config: &Config) -> Result<Frames, Memory>
+        ensures zeros { IfOk result (λ fs. fs ≡ all_zeros (owned_by config.now.domains.items)) }
+        ensures kept { IfOk result AreKept }
     {
+        let domains = owned_by(alloc, config)?;
         let mut frames = Vec::new(alloc);
         'domains: for domain in &domains {
             frames = with_domain(alloc, frames, domain.owner, domain.frames)?;
@@ -107,9 +111,11 @@ impl Frames {
     pub fn get(&self, name: FrameName) -> Option<&Frame>
         ensures some { IsSome result ↔ IsTrue (has_frame self.now name) }
         ensures frame { IfSome result (λ f. f.now ≡ frame_at self.now name) }
+        ensures kept { IfSome result (λ f. IsKept f.now) }
     {
         let place = self.place(name)?;
-        Some(&self.frames[place])
+        let frame = &self.frames[place];
+        Some(frame)
     }
 
     /// Whether there is a frame of this name, and the range ends inside it.

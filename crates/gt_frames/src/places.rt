@@ -1,8 +1,9 @@
 //! Where a frame stands among the frames of a run.
-ghost use Rattle.std.specs.Prelude.{◌≡◌, ◌<◌, ◌^◌};
-ghost use Rattle.gt_frames.specs.Places.{pool_number, frames_of};
+ghost use Rattle.std.specs.Prelude.{◌≡◌, ◌<◌, ◌^◌, IfOk};
+ghost use Rattle.gt_frames.specs.Places.{owned_by, pool_number, frames_of};
 
-use gt_types::DomId;
+use gt_types::{Config, DomId, Memory};
+use std::alloc::Global;
 
 /// How many frames a domain has.
 #[derive(Clone, Copy, Debug, PartialEq, Eq)]
@@ -23,6 +24,20 @@ pub struct FrameName {
 pub struct Spot {
     pub frame: FrameName,
     pub off: u16,
+}
+
+/// How many frames each domain has, in the order of the configuration.
+pub(crate) fn owned_by(alloc: Global, config: &Config) -> Result<Vec<Owned>, Memory>
+    ensures { IfOk result (λ owned. owned.items ≡ owned_by config.now.domains.items) }
+{
+    let mut owned = Vec::new(alloc);
+    'domains: for domain in &config.domains {
+        owned.push(Owned {
+            owner: domain.id,
+            frames: domain.frames,
+        })?;
+    }
+    Ok(owned)
 }
 
 /// The pool number of a frame. The numbers run over the frames of the first domain, then of the
