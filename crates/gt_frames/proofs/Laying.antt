@@ -10,7 +10,7 @@ use Rattle.std.proofs.lemmas.List.{set-append_left, set-get_or, map-set, map-app
 use Rattle.std.proofs.lemmas.List.FromFn.{map-range_with_len_more}
 use Rattle.std.proofs.lemmas.Option.{slice_get-map, slice_get_read, slice_get-get_or, slice_get_within, get_or_from_slice_get, unwrap_or-slice_get, same_Some, none-some}
 use Rattle.gt_types.specs.declared.DomId.{DomId}
-use Rattle.gt_frames.specs.declared.places.Owned.{Owned}
+use Rattle.gt_frames.specs.declared.places.FrameCount.{FrameCount}
 use Rattle.gt_frames.specs.declared.places.FrameName.{FrameName}
 use Rattle.gt_frames.specs.declared.writ.Writ.{Writ}
 use Rattle.gt_frames.specs.declared.writ.Record.{Record}
@@ -21,7 +21,7 @@ use Rattle.gt_frames.specs.Sets.{FrameSet, journal_in, place_in, frame_at, zero_
 use Rattle.gt_frames.proofs.Placing.{length-names_of, placed}
 
 -- what contracts see of these frames
-abbrev pub seen : List Owned → List FrameState → FrameSet
+abbrev pub seen : List FrameCount → List FrameState → FrameSet
 seen ds fs = record { domains = ds; journals = map journal_of fs }
 
 -- what stands in a list after one element was set: that one, or what stood there
@@ -33,7 +33,7 @@ set_cases (z ∷ zs) (suc k) zero y x h = inl h
 set_cases (z ∷ zs) (suc k) (suc j) y x h = set_cases zs k j y x h
 
 -- two names at one place are the same
-one_name : (ds : List Owned) (a b : FrameName) (place : ℕ) → pool_number ds a.owner a.number 0 ≡ Some place → pool_number ds b.owner b.number 0 ≡ Some place → a ≡ b
+one_name : (ds : List FrameCount) (a b : FrameName) (place : ℕ) → pool_number ds a.owner a.number 0 ≡ Some place → pool_number ds b.owner b.number 0 ≡ Some place → a ≡ b
 one_name ds a b place here there =
     let p = placed ds a 0 place here in
     let q = placed ds b 0 place there in
@@ -45,7 +45,7 @@ one_name ds a b place here there =
 same_name : (a b : FrameName) → a ≡ b → is_name a b ≡ true
 same_name a b e = and_from (a.owner.0 == b.owner.0) (a.number == b.number) (eq-eqb _ _ (ap (λ (n : FrameName). n.owner.0) e)) (eq-eqb _ _ (ap (λ (n : FrameName). n.number) e))
 
-module _ (ds : List Owned) (fs : List FrameState) (out : AreLaidOut ds fs) where
+module _ (ds : List FrameCount) (fs : List FrameState) (out : AreLaidOut ds fs) where
   pub below : (name : FrameName) (place : ℕ) → pool_number ds name.owner name.number 0 ≡ Some place → place < length fs
   below name place is =
       let p = placed ds name 0 place is in
@@ -91,7 +91,7 @@ module _ (ds : List Owned) (fs : List FrameState) (out : AreLaidOut ds fs) where
           subst (λ (g : FrameState). IsKept g) (found name place f is here) (out.kept place f here)
 
 module _
-    (ds : List Owned) (fs : List FrameState) (out : AreLaidOut ds fs) (name : FrameName) (place : ℕ) (f : FrameState)
+    (ds : List FrameCount) (fs : List FrameState) (out : AreLaidOut ds fs) (name : FrameName) (place : ℕ) (f : FrameState)
     (is : pool_number ds name.owner name.number 0 ≡ Some place) (here : slice_get fs place ≡ Some f)
     (g : FrameState) (w : Writ) (off : ℕ) (ys : List ℕ) (writes : IsWrite f g w off ys) (kept : IsKept g)
   where
@@ -135,27 +135,27 @@ module _
 
 -- frames that were never written
 
-pub zeros_more : (d : Owned) (n : ℕ) (base : List FrameState) → (base ++ map (zero_in d) (range_with_len 0 n)) ++ zero_in d n ∷ [] ≡ base ++ map (zero_in d) (range_with_len 0 (n + 1))
+pub zeros_more : (d : FrameCount) (n : ℕ) (base : List FrameState) → (base ++ map (zero_in d) (range_with_len 0 n)) ++ zero_in d n ∷ [] ≡ base ++ map (zero_in d) (range_with_len 0 (n + 1))
 zeros_more d n base =
     append_assoc base (map (zero_in d) (range_with_len 0 n)) (zero_in d n ∷ [])
     ∙ ap (λ (l : List FrameState). base ++ l) (sym (map-range_with_len_more (zero_in d) 0 n n (omega arith)))
 
-named_zeros : (d : Owned) (ns : List ℕ) → map name_of (map (zero_in d) ns) ≡ map (name_in d) ns
+named_zeros : (d : FrameCount) (ns : List ℕ) → map name_of (map (zero_in d) ns) ≡ map (name_in d) ns
 named_zeros d [] = refl
 named_zeros d (n ∷ ns) = ap (λ (l : List FrameName). name_in d n ∷ l) (named_zeros d ns)
 
-names_new : (ds : List Owned) → map name_of (flat_map zero_frames ds) ≡ names_of ds
+names_new : (ds : List FrameCount) → map name_of (flat_map zero_frames ds) ≡ names_of ds
 names_new [] = refl
 names_new (d ∷ ds) =
     map-append name_of (zero_frames d) (flat_map zero_frames ds)
     ∙ ap (λ (l : List FrameName). l ++ map name_of (flat_map zero_frames ds)) (named_zeros d (range_with_len 0 d.frames))
     ∙ ap (λ (l : List FrameName). map (name_in d) (range_with_len 0 d.frames) ++ l) (names_new ds)
 
-no_writes : (d : Owned) (a n : ℕ) → map journal_of (map (zero_in d) (range_with_len a n)) ≡ replicate n []
+no_writes : (d : FrameCount) (a n : ℕ) → map journal_of (map (zero_in d) (range_with_len a n)) ≡ replicate n []
 no_writes d a zero = refl
 no_writes d a (suc n) = ap (λ (l : List (List Record)). [] ∷ l) (no_writes d (a + 1) n)
 
-pub journals_new : (ds : List Owned) → map journal_of (flat_map zero_frames ds) ≡ replicate (frames_of ds) []
+pub journals_new : (ds : List FrameCount) → map journal_of (flat_map zero_frames ds) ≡ replicate (frames_of ds) []
 journals_new [] = refl
 journals_new (d ∷ ds) =
     map-append journal_of (zero_frames d) (flat_map zero_frames ds)
@@ -168,7 +168,7 @@ in_replicate zero k x y h = absurd (none-some y h)
 in_replicate (suc n) zero x y h = sym (same_Some x y h)
 in_replicate (suc n) (suc k) x y h = in_replicate n k x y h
 
-pub laid_new : (ds : List Owned) → AreLaidOut ds (flat_map zero_frames ds)
+pub laid_new : (ds : List FrameCount) → AreLaidOut ds (flat_map zero_frames ds)
 laid_new ds =
     let all : length (map journal_of (flat_map zero_frames ds)) ≡ frames_of ds = ap (λ (l : List (List Record)). length l) (journals_new ds) ∙ length-replicate {A = List Record} (frames_of ds) [] in
     record {
@@ -242,14 +242,14 @@ set_as_was fs place f g here same =
 
 -- the frame that is read at a place is the one of this name
 pub found_read :
-    (ds : List Owned) (fs : List FrameState) (out : AreLaidOut ds fs) (name : FrameName) (place : ℕ) (f : FrameState)
+    (ds : List FrameCount) (fs : List FrameState) (out : AreLaidOut ds fs) (name : FrameName) (place : ℕ) (f : FrameState)
     → pool_number ds name.owner name.number 0 ≡ Some place → f ≡ get_or fs place f → f ≡ frame_at (seen ds fs) name
 found_read ds fs out name place f is read =
     found ds fs out name place f is (slice_get_read fs (length fs) place f refl (below ds fs out name place is) read)
 
 -- one frame was written to, or the write was refused
 module _
-    (ds : List Owned) (fs : List FrameState) (out : AreLaidOut ds fs) (name : FrameName) (place : ℕ) (f : FrameState)
+    (ds : List FrameCount) (fs : List FrameState) (out : AreLaidOut ds fs) (name : FrameName) (place : ℕ) (f : FrameState)
     (is : pool_number ds name.owner name.number 0 ≡ Some place) (read : f ≡ get_or fs place f)
     {T E : Type 0} (r : Result T E) (g : FrameState) (w : Writ) (off : ℕ) (ys : List ℕ)
     (writes : OnOk r (IsWrite f g w off ys)) (kept : IsKept g) (refused : OnErr r (g ≡ f))
@@ -271,7 +271,7 @@ module _
 
 -- bytes were copied between two frames, or the copy was refused
 module _
-    (ds : List Owned) (fs new : List FrameState) (out : AreLaidOut ds fs) (from to : FrameName) (source dest : ℕ)
+    (ds : List FrameCount) (fs new : List FrameState) (out : AreLaidOut ds fs) (from to : FrameName) (source dest : ℕ)
     (is_source : pool_number ds from.owner from.number 0 ≡ Some source) (is_dest : pool_number ds to.owner to.number 0 ≡ Some dest)
     {T E : Type 0} (r : Result T E) (w : Writ) (from_off to_off len : ℕ)
     (copies : OnOk r (CopiesAmong fs new source dest w from_off to_off len)) (refused : OnErr r (new ≡ fs))

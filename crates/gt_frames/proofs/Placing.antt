@@ -6,27 +6,27 @@ use Rattle.std.proofs.lemmas.Option.{same_Some, none-some}
 use Rattle.std.proofs.lemmas.List.{get_or_append_left, get_or-append-add}
 use Rattle.std.proofs.lemmas.List.FromFn.{length-map-range_with_len, get_or-map-range_with_len, map-range_with_len_more}
 use Rattle.gt_types.specs.declared.DomId.{DomId}
-use Rattle.gt_frames.specs.declared.places.Owned.{Owned}
+use Rattle.gt_frames.specs.declared.places.FrameCount.{FrameCount}
 use Rattle.gt_frames.specs.declared.places.FrameName.{FrameName}
 use Rattle.gt_frames.specs.Places.{pool_number, frames_of, name_in, names_of}
 
 -- how many frames there are, by name
-pub length-names_of : (ds : List Owned) → length (names_of ds) ≡ frames_of ds
+pub length-names_of : (ds : List FrameCount) → length (names_of ds) ≡ frames_of ds
 length-names_of [] = refl
 length-names_of (d ∷ ds) =
     omega (arith, length-append (map (name_in d) (range_with_len 0 d.frames)) (names_of ds), length-map-range_with_len (name_in d) 0 d.frames, length-names_of ds)
 
 -- a place that is some way into the names of these domains has this name
-pub record StandsAt (ds : List Owned) (name : FrameName) (way : ℕ) : Type 0 where
+pub record StandsAt (ds : List FrameCount) (name : FrameName) (way : ℕ) : Type 0 where
   pub below : way < length (names_of ds)
   pub named : (default : FrameName) → get_or (names_of ds) way default ≡ name
 
-pub record IsPlaced (ds : List Owned) (name : FrameName) (at place : ℕ) : Type 0 where
+pub record IsPlaced (ds : List FrameCount) (name : FrameName) (at place : ℕ) : Type 0 where
   pub way : ℕ
   pub place_is : place ≡ at + way
   pub stands : StandsAt ds name way
 
-module _ (d : Owned) (ds : List Owned) (name : FrameName) (at place : ℕ) where
+module _ (d : FrameCount) (ds : List FrameCount) (name : FrameName) (at place : ℕ) where
   first : List FrameName
   first = map (name_in d) (range_with_len 0 d.frames)
 
@@ -68,7 +68,7 @@ module _ (d : Owned) (ds : List Owned) (name : FrameName) (at place : ℕ) where
   step false within owner below is rest = there (rest is)
 
 -- what stands at a pool number has the name that was looked for
-pub placed : (ds : List Owned) (name : FrameName) (at place : ℕ) → pool_number ds name.owner name.number at ≡ Some place → IsPlaced ds name at place
+pub placed : (ds : List FrameCount) (name : FrameName) (at place : ℕ) → pool_number ds name.owner name.number at ≡ Some place → IsPlaced ds name at place
 placed [] name at place is = absurd (none-some place is)
 placed (d ∷ ds) name at place is =
     step d ds name at place (d.owner.0 == name.owner.0) (nat_lt name.number d.frames) refl refl is (placed ds name (at + d.frames) place)

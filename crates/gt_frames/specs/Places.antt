@@ -3,15 +3,15 @@ use Rattle.std.specs.Prelude.{ℕ, ◌+◌, ◌==◌, Bool, ◌&&◌, nat_lt, if
 use Rattle.std.specs.List.{flat_map, range_with_len}
 use Rattle.gt_types.specs.declared.DomId.{DomId}
 use Rattle.gt_types.specs.declared.config.DomainConfig.{DomainConfig}
-use Rattle.gt_frames.specs.declared.places.Owned.{Owned}
+use Rattle.gt_frames.specs.declared.places.FrameCount.{FrameCount}
 use Rattle.gt_frames.specs.declared.places.FrameName.{FrameName}
 
 -- how many frames each domain has (own)
-abbrev pub owned_by : List DomainConfig → List Owned
-owned_by ds = map (λ (d : DomainConfig). record { owner = d.id; frames = d.frames }) ds
+abbrev pub frame_counts : List DomainConfig → List FrameCount
+frame_counts ds = map (λ (d : DomainConfig). record { owner = d.id; frames = d.frames }) ds
 
 -- the pool number of a frame, where the frames of these domains begin at this one: they run over the frames of the first domain, then of the second, and so on (own)
-abbrev pub pool_number : List Owned → DomId → ℕ → ℕ → Option ℕ
+abbrev pub pool_number : List FrameCount → DomId → ℕ → ℕ → Option ℕ
 pool_number [] owner number at = None
 pool_number (d ∷ ds) owner number at =
     if d.owner.0 == owner.0
@@ -19,17 +19,17 @@ pool_number (d ∷ ds) owner number at =
     else pool_number ds owner number (at + d.frames)
 
 -- how many frames these domains have (own)
-abbrev pub frames_of : List Owned → ℕ
+abbrev pub frames_of : List FrameCount → ℕ
 frames_of [] = 0
 frames_of (d ∷ ds) = d.frames + frames_of ds
 
 -- the frame of this domain with this number (own)
-abbrev pub name_in : Owned → ℕ → FrameName
+abbrev pub name_in : FrameCount → ℕ → FrameName
 name_in d number = record { owner = d.owner; number = number }
 
 -- the frames of these domains, by name, in the order of their pool numbers (own)
-abbrev pub names_of : List Owned → List FrameName
-names_of ds = flat_map (λ (d : Owned). map (name_in d) (range_with_len 0 d.frames)) ds
+abbrev pub names_of : List FrameCount → List FrameName
+names_of ds = flat_map (λ (d : FrameCount). map (name_in d) (range_with_len 0 d.frames)) ds
 
 -- the names are the same (own)
 abbrev pub is_name : FrameName → FrameName → Bool

@@ -3,7 +3,7 @@ use Rattle.std.specs.Prelude.{◌≡◌, ℕ, ◌+◌, Bool, false, ◌&&◌, na
 use Rattle.std.specs.List.{range_with_len}
 use Rattle.gt_types.specs.declared.DomId.{DomId}
 use Rattle.gt_types.specs.declared.limits.TheConstants.{FRAME_SIZE}
-use Rattle.gt_frames.specs.declared.places.Owned.{Owned}
+use Rattle.gt_frames.specs.declared.places.FrameCount.{FrameCount}
 use Rattle.gt_frames.specs.declared.places.FrameName.{FrameName}
 use Rattle.gt_frames.specs.declared.writ.Writ.{Writ}
 use Rattle.gt_frames.specs.declared.writ.Record.{Record}
@@ -12,7 +12,7 @@ use Rattle.gt_frames.specs.Places.{pool_number, frames_of, name_in, names_of, is
 
 -- the frames of a run: how many each domain has, and the writes to each frame by its pool number, the oldest first (own)
 pub record FrameSet : Type 0 where
-  pub domains : List Owned
+  pub domains : List FrameCount
   pub journals : List (List Record)
 
 -- the frame's pool number, if there is such a frame (own)
@@ -51,7 +51,7 @@ pub record WritesTo (old new : FrameSet) (name : FrameName) (w : Writ) (off : �
   pub others : (other : FrameName) → is_name other name ≡ false → frame_at new other ≡ frame_at old other
 
 -- no frame was written to yet (own)
-abbrev pub all_zeros : List Owned → FrameSet
+abbrev pub all_zeros : List FrameCount → FrameSet
 all_zeros ds = record { domains = ds; journals = replicate (frames_of ds) [] }
 
 -- the name of a frame (own)
@@ -63,7 +63,7 @@ abbrev pub journal_of : FrameState → List Record
 journal_of f = f.journal
 
 -- each frame of the list stands at the place of its name, and is kept (own)
-pub record AreLaidOut (domains : List Owned) (frames : List FrameState) : Type 0 where
+pub record AreLaidOut (domains : List FrameCount) (frames : List FrameState) : Type 0 where
   pub count : length frames ≡ frames_of domains
   pub names : map name_of frames ≡ names_of domains
   pub kept : (place : ℕ) (f : FrameState) → slice_get frames place ≡ Some f → IsKept f
@@ -73,11 +73,11 @@ abbrev pub zero_frame : FrameName → FrameState
 zero_frame name = record { owner = name.owner; number = name.number; journal = [] }
 
 -- the frame of this domain with this number, never written (own)
-abbrev pub zero_in : Owned → ℕ → FrameState
+abbrev pub zero_in : FrameCount → ℕ → FrameState
 zero_in d number = zero_frame (name_in d number)
 
 -- the frames of a domain, never written (own)
-abbrev pub zero_frames : Owned → List FrameState
+abbrev pub zero_frames : FrameCount → List FrameState
 zero_frames d = map (zero_in d) (range_with_len 0 d.frames)
 
 -- between two of these frames so many bytes were copied by this writ: the one written to is changed, in its place, and no other (own)

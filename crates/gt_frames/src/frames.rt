@@ -3,8 +3,8 @@ ghost use Rattle.gt_frames.specs.Frames.{FrameState, covers};
 ghost use Rattle.gt_frames.specs.Receipts.{copying_of};
 ghost use Rattle.gt_frames.specs.Sets.{zero_frames, CopiesAmong};
 
-use crate::places::{find, owned_by};
-use crate::{Copied, Frame, FrameName, Owned, Spot, Writ, Written};
+use crate::places::{find, frame_counts};
+use crate::{Copied, Frame, FrameCount, FrameName, Spot, Writ, Written};
 use gt_types::{Config, DomId, FRAME_SIZE, Memory, Range};
 use std::alloc::Global;
 use std::marker::Model;
@@ -12,7 +12,7 @@ use std::marker::Model;
 /// The frames of a run, each by its owner and number.
 #[derive(Drop)]
 pub struct Frames {
-    domains: Vec<Owned>,
+    domains: Vec<FrameCount>,
     frames: Vec<Frame>,
 }
 
@@ -77,7 +77,7 @@ fn copy_among(
 
 impl Frames {
     ghost use Rattle.gt_frames.specs.Frames.{bytes_at, IsKept};
-    ghost use Rattle.gt_frames.specs.Places.{owned_by};
+    ghost use Rattle.gt_frames.specs.Places.{frame_counts};
     ghost use Rattle.gt_frames.specs.Receipts.{writing_of, copying_of};
     ghost use Rattle.gt_frames.specs.Sets.{frame_at, place_in, has_frame, has_range, admits, all_zeros, AreKept, WritesTo};
 
@@ -88,10 +88,10 @@ impl Frames {
     ///
     /// `Memory`.
     pub fn new(alloc: Global, config: &Config) -> Result<Frames, Memory>
-        ensures zeros { IfOk result (λ fs. fs ≡ all_zeros (owned_by config.now.domains.items)) }
+        ensures zeros { IfOk result (λ fs. fs ≡ all_zeros (frame_counts config.now.domains.items)) }
         ensures kept { IfOk result AreKept }
     {
-        let domains = owned_by(alloc, config)?;
+        let domains = frame_counts(alloc, config)?;
         let mut frames = Vec::new(alloc);
         'domains: for domain in &domains {
             frames = with_domain(alloc, frames, domain.owner, domain.frames)?;

@@ -1,13 +1,13 @@
 //! Where a frame stands among the frames of a run.
 ghost use Rattle.std.specs.Prelude.{◌≡◌, ◌<◌, ◌^◌, IfOk};
-ghost use Rattle.gt_frames.specs.Places.{owned_by, pool_number, frames_of};
+ghost use Rattle.gt_frames.specs.Places.{frame_counts, pool_number, frames_of};
 
 use gt_types::{Config, DomId, Memory};
 use std::alloc::Global;
 
 /// How many frames a domain has.
 #[derive(Clone, Copy, Debug, PartialEq, Eq)]
-pub struct Owned {
+pub struct FrameCount {
     pub owner: DomId,
     pub frames: u32,
 }
@@ -27,22 +27,22 @@ pub struct Spot {
 }
 
 /// How many frames each domain has, in the order of the configuration.
-pub(crate) fn owned_by(alloc: Global, config: &Config) -> Result<Vec<Owned>, Memory>
-    ensures { IfOk result (λ owned. owned.items ≡ owned_by config.now.domains.items) }
+pub(crate) fn frame_counts(alloc: Global, config: &Config) -> Result<Vec<FrameCount>, Memory>
+    ensures { IfOk result (λ counts. counts.items ≡ frame_counts config.now.domains.items) }
 {
-    let mut owned = Vec::new(alloc);
+    let mut counts = Vec::new(alloc);
     'domains: for domain in &config.domains {
-        owned.push(Owned {
+        counts.push(FrameCount {
             owner: domain.id,
             frames: domain.frames,
         })?;
     }
-    Ok(owned)
+    Ok(counts)
 }
 
 /// The pool number of a frame. The numbers run over the frames of the first domain, then of the
 /// second, and so on.
-pub(crate) fn find(domains: &[Owned], name: FrameName) -> Option<usize>
+pub(crate) fn find(domains: &[FrameCount], name: FrameName) -> Option<usize>
     requires { frames_of domains.now < 2 ^ 64 }
     ensures { result ≡ pool_number domains.now name.owner name.number 0 }
 {

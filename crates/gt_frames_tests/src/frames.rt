@@ -1,3 +1,5 @@
+ghost use Rattle.std.specs.Prelude.{◌≡◌};
+
 use gt_frames::{FrameName, Frames, Ground, Spot, Writ};
 use gt_types::{Config, DomId, DomainConfig, Range, TypeId};
 use std::alloc::Global;
@@ -8,7 +10,7 @@ const ONE: DomId = DomId(1);
 const TWO: DomId = DomId(2);
 
 /// Two domains of two frames each.
-fn config(alloc: Global) -> Result<Config, Fail> {
+pub(crate) fn config(alloc: Global) -> Result<Config, Fail> {
     let mut domains = Vec::new(alloc);
     for id in [ONE, TWO] {
         domains.push(DomainConfig {
@@ -25,7 +27,10 @@ fn config(alloc: Global) -> Result<Config, Fail> {
     })
 }
 
-fn frame(owner: u16, number: u64) -> FrameName {
+/// The frame of this domain with this number.
+pub(crate) fn name(owner: u16, number: u64) -> FrameName
+    ensures { result ≡ record { owner = record { 0 = owner }; number = number } }
+{
     FrameName {
         owner: DomId(owner),
         number,
@@ -34,7 +39,7 @@ fn frame(owner: u16, number: u64) -> FrameName {
 
 fn spot(owner: u16, number: u64, off: u16) -> Spot {
     Spot {
-        frame: frame(owner, number),
+        frame: name(owner, number),
         off,
     }
 }

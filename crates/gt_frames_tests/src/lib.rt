@@ -1,4 +1,4 @@
-//! Tests of `gt_frames` over the frames of a run.
+//! Tests of `gt_frames` over the frames of a run, plain and under locks.
 //!
 //! They say what no contract says: that a call which could always answer `None` or want of memory
 //! does its work where there is memory, and what bytes a reader then finds. Each is a table of steps
@@ -10,3 +10,5 @@
 
 #[cfg(test)]
 mod frames;
+#[cfg(test)]
+mod pool;
