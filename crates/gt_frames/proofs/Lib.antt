@@ -1,2 +1,4 @@
+pub mod Laying
 pub mod Overlay
+pub mod Placing
 pub mod Writes

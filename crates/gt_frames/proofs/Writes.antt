@@ -6,11 +6,11 @@ use Rattle.gt_types.specs.declared.limits.TheConstants.{FRAME_SIZE}
 use Rattle.gt_types.specs.declared.DomId.{DomId}
 use Rattle.gt_frames.specs.declared.writ.Writ.{Writ}
 use Rattle.gt_frames.specs.declared.writ.Record.{Record}
-use Rattle.gt_frames.specs.Bytes.{overlay, zeros, IsLaidOver}
-use Rattle.gt_frames.specs.Frames.{FrameState, replay, contents, bytes_at, covers, is_rightful, all_rightful, IsSound, written, IsWrite}
+use Rattle.gt_frames.specs.Bytes.{overlay, zeros, replay, written, IsLaidOver}
+use Rattle.gt_frames.specs.Frames.{FrameState, patches, recorded, contents, bytes_at, covers, is_rightful, all_rightful, IsKept, IsSound, with_write, IsWrite}
 use Rattle.gt_frames.proofs.Overlay.{length-overlay, laid_over}
 
-pub replay-append : (xs : List ℕ) (rs : List Record) (r : Record) → replay xs (rs ++ r ∷ []) ≡ overlay (replay xs rs) r.off r.bytes
+pub replay-append : (xs : List ℕ) (rs : List Record) (r : Record) → replay xs (patches (rs ++ r ∷ [])) ≡ overlay (replay xs (patches rs)) r.off r.bytes
 replay-append xs [] r = refl
 replay-append xs (q ∷ rs) r = replay-append (overlay xs q.off q.bytes) rs r
 
@@ -40,10 +40,20 @@ module _
         let in_right : IsTrue (covers w owner number off (length ks)) = subst (λ (n : ℕ). IsTrue (covers w owner number off n)) (sym is) covered in
         let one : IsTrue (is_rightful owner number r) = grind (arith, nat_tests) in
         record {
-          replayed = lays ∙ ap (λ (l : List ℕ). overlay l off ks) sound.replayed ∙ sym (replay-append zeros journal r) ∙ ap (λ (rs : List Record). replay zeros rs) (sym adds);
+          replayed = lays ∙ ap (λ (l : List ℕ). overlay l off ks) sound.replayed ∙ sym (replay-append zeros journal r) ∙ ap (λ (rs : List Record). written (patches rs)) (sym adds);
           len = ap (λ (l : List ℕ). length l) lays ∙ length-overlay bytes off ks (omega (arith, sound.len)) ∙ sound.len;
           rightful = subst (λ (rs : List Record). IsTrue (all_rightful owner number rs)) (sym adds) (all_rightful-append owner number journal r sound.rightful one);
         }
+
+    -- and each write was by right
+    pub kept_after :
+        (bytes : List ℕ) (len : ℕ)
+        → IsSound owner number bytes journal
+        → length ks ≡ len
+        → off + len ≤ FRAME_SIZE
+        → IsTrue (covers w old.owner old.number off len)
+        → IsKept (record { owner = owner; number = number; journal = new_journal })
+    kept_after bytes len sound is fits right = (sound_after bytes (overlay bytes off ks) len sound refl is fits right).rightful
 
     -- and what contracts see of them is the write
     pub is_write :
@@ -51,7 +61,7 @@ module _
         → IsWrite old (record { owner = owner; number = number; journal = new_journal }) w off ys
     is_write bytes len sound is fits ys same =
         let new : FrameState = record { owner = owner; number = number; journal = new_journal } in
-        let next : new ≡ written old w off ys = cc (was, adds, same) in
+        let next : new ≡ with_write old w off ys = cc (was, adds, same) in
         let size : length (contents old) ≡ FRAME_SIZE = ap (λ (f : FrameState). length (contents f)) (sym was) ∙ ap (λ (l : List ℕ). length l) (sym sound.replayed) ∙ sound.len in
         let count : length ys ≡ len = ap (λ (l : List ℕ). length l) (sym same) ∙ is in
         let over : contents new ≡ overlay (contents old) off ys = ap contents next ∙ replay-append zeros old.journal (record { writ = w; off = off; bytes = ys }) in
@@ -76,7 +86,7 @@ zeros_are = unfold zeros in refl
 pub new_sound : (owner : DomId) (number : ℕ) (bytes : List ℕ) (journal : List Record) → bytes ≡ replicate FRAME_SIZE 0 → journal ≡ [] → IsSound owner number bytes journal
 new_sound owner number bytes journal fill none =
     record {
-      replayed = fill ∙ zeros_are ∙ ap (λ (rs : List Record). replay zeros rs) (sym none);
+      replayed = fill ∙ zeros_are ∙ ap (λ (rs : List Record). written (patches rs)) (sym none);
       len = ap (λ (l : List ℕ). length l) fill ∙ length-replicate {A = ℕ} FRAME_SIZE 0;
       rightful = subst (λ (rs : List Record). IsTrue (all_rightful owner number rs)) (sym none) refl;
     }

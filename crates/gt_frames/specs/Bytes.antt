@@ -1,5 +1,5 @@
 -- Bytes laid over bytes.
-use Rattle.std.specs.Prelude.{◌≡◌, ℕ, ◌+◌, ◌<◌, ◌≤◌, List, ◌++◌, take, drop, length, replicate, slice_index}
+use Rattle.std.specs.Prelude.{◌≡◌, ℕ, ◌+◌, ◌<◌, ◌≤◌, List, [], ◌∷◌, ◌++◌, take, drop, length, replicate, slice_index}
 use Rattle.gt_types.specs.declared.limits.TheConstants.{FRAME_SIZE}
 
 -- the list with ys laid over it from off on (own)
@@ -16,3 +16,17 @@ pub record IsLaidOver (xs : List ℕ) (off : ℕ) (ys zs : List ℕ) : Type 0 wh
 -- the bytes of a frame that was never written (own)
 unfoldable pub zeros : List ℕ
 zeros = replicate FRAME_SIZE 0
+
+-- a write: where its bytes begin, and the bytes (own)
+pub record Patch : Type 0 where
+  pub off : ℕ
+  pub bytes : List ℕ
+
+-- the list after these writes, the oldest first (own)
+abbrev pub replay : List ℕ → List Patch → List ℕ
+replay xs [] = xs
+replay xs (p ∷ ps) = replay (overlay xs p.off p.bytes) ps
+
+-- the bytes of a frame to which these writes were made, the oldest first (own)
+abbrev pub written : List Patch → List ℕ
+written ps = replay zeros ps

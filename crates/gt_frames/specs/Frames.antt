@@ -1,5 +1,5 @@
 -- What a frame holds, and by what right each of its bytes was written.
-use Rattle.std.specs.Prelude.{◌≡◌, ℕ, ◌+◌, ◌==◌, Bool, true, ◌&&◌, nat_le, IsTrue, List, [], ◌∷◌, ◌++◌, length, slice_range}
+use Rattle.std.specs.Prelude.{◌≡◌, ℕ, ◌+◌, ◌==◌, Bool, true, ◌&&◌, nat_le, IsTrue, List, [], ◌∷◌, ◌++◌, map, length, slice_range}
 use Rattle.gt_types.specs.declared.DomId.{DomId}
 use Rattle.gt_types.specs.declared.limits.TheConstants.{FRAME_SIZE}
 use Rattle.gt_types.specs.declared.Dir.TheVariants.{Write}
@@ -10,7 +10,7 @@ use Rattle.gt_frames.specs.declared.writ.Ground.{Ground}
 use Rattle.gt_frames.specs.declared.writ.Ground.TheVariants.{Owned, Granted, Forwarded}
 use Rattle.gt_frames.specs.declared.writ.Writ.{Writ}
 use Rattle.gt_frames.specs.declared.writ.Record.{Record}
-use Rattle.gt_frames.specs.Bytes.{overlay, IsLaidOver, zeros}
+use Rattle.gt_frames.specs.Bytes.{overlay, IsLaidOver, Patch, written}
 
 -- a frame: its owner, its number among the owner's frames, and its writes, the oldest first (own)
 pub record FrameState : Type 0 where
@@ -20,14 +20,17 @@ pub record FrameState : Type 0 where
 
 -- bytes
 
--- the list after these writes, the oldest first (own)
-abbrev pub replay : List ℕ → List Record → List ℕ
-replay xs [] = xs
-replay xs (r ∷ rs) = replay (overlay xs r.off r.bytes) rs
+-- the write that a record tells of (own)
+abbrev pub patch_of : Record → Patch
+patch_of r = record { off = r.off; bytes = r.bytes }
 
--- the bytes of a frame: its journal replayed over zeros (own)
+-- the writes that a journal tells of, the oldest first (own)
+abbrev pub patches : List Record → List Patch
+patches rs = map patch_of rs
+
+-- the bytes of a frame: the writes of its journal over zeros (own)
 abbrev pub contents : FrameState → List ℕ
-contents f = replay zeros f.journal
+contents f = written (patches f.journal)
 
 -- the bytes of a range: so many from an offset on (own)
 abbrev pub bytes_at : FrameState → ℕ → ℕ → List ℕ
@@ -65,18 +68,22 @@ IsKept f = IsTrue (all_rightful f.owner f.number f.journal)
 
 -- these bytes are the journal's replay over zeros, and each write was by right (own)
 pub record IsSound (owner : DomId) (number : ℕ) (bytes : List ℕ) (journal : List Record) : Type 0 where
-  pub replayed : bytes ≡ replay zeros journal
+  pub replayed : bytes ≡ written (patches journal)
   pub len : length bytes ≡ FRAME_SIZE
   pub rightful : IsTrue (all_rightful owner number journal)
 
 -- changes
 
+-- the journal with one more write (own)
+abbrev pub recorded : List Record → Writ → ℕ → List ℕ → List Record
+recorded rs w off ys = rs ++ record { writ = w; off = off; bytes = ys } ∷ []
+
 -- the frame after one more write (own)
-abbrev pub written : FrameState → Writ → ℕ → List ℕ → FrameState
-written f w off ys = record f { journal = f.journal ++ record { writ = w; off = off; bytes = ys } ∷ [] }
+abbrev pub with_write : FrameState → Writ → ℕ → List ℕ → FrameState
+with_write f w off ys = record f { journal = recorded f.journal w off ys }
 
 -- the new frame is the old one after this write, which changed the bytes of its range and no others (own)
 pub record IsWrite (old new : FrameState) (w : Writ) (off : ℕ) (ys : List ℕ) : Type 0 where
-  pub journal : new ≡ written old w off ys
+  pub journal : new ≡ with_write old w off ys
   pub bytes : IsLaidOver (contents old) off ys (contents new)
   pub contents : contents new ≡ overlay (contents old) off ys

@@ -1,3 +1,6 @@
 pub mod Bytes
 pub mod Frames
+pub mod Places
+pub mod Pool
 pub mod Receipts
+pub mod Sets

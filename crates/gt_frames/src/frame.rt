@@ -56,6 +56,7 @@ fn store(
 
 impl Frame {
     ghost use Rattle.gt_frames.specs.Frames.{contents, bytes_at, covers, IsKept, IsWrite};
+    ghost use Rattle.gt_frames.specs.Receipts.{reading_of, writing_of, copying_of};
 
     /// A frame of zeros, to which nothing was written.
     pub fn new(alloc: Global, owner: DomId, number: u64) -> Result<Self, Memory>
@@ -90,7 +91,8 @@ impl Frame {
     /// takes no memory.
     pub fn read(&self, off: u16, mut out: Vec<u8>) -> Read
         requires { off + vec_len out ≤ FRAME_SIZE }
-        ensures { result ≡ record { owner = self.now.owner; number = self.now.number; off = off; bytes = bytes_at self.now off (vec_len out) } }
+        ensures read { result ≡ reading_of self.now off (vec_len out) }
+        ensures len { length result.bytes ≡ vec_len out }
     {
         let start = usize::from(off);
         let end = start + out.len();
@@ -103,7 +105,11 @@ impl Frame {
         }
     }
 
-    /// Writes `bytes` from the offset `off` on. Where memory is refused nothing changes.
+    /// Writes `bytes` from the offset `off` on.
+    ///
+    /// # Errors
+    ///
+    /// `Memory`, with the frame as it was.
     pub fn write<'a>(
         &mut self,
         writ: &Writ,
@@ -113,13 +119,8 @@ impl Frame {
         requires range { off + length bytes.now ≤ FRAME_SIZE }
         requires right { IsTrue (covers writ.now self.old.owner self.old.number off (length bytes.now)) }
         ensures written { OnOk result (IsWrite self.old self.new writ.now off bytes.now) }
-        ensures receipt { IfOk result (λ r. r ≡ record {
-          owner = self.old.owner;
-          number = self.old.number;
-          off = off;
-          bytes = bytes.now;
-          writer = writ.now.writer;
-        }) }
+        ensures kept { IsKept self.new }
+        ensures receipt { IfOk result (λ r. r ≡ writing_of self.old off bytes.now writ.now.writer) }
         ensures refused { OnErr result (self.new ≡ self.old) }
     {
         let kept = Vec::from_slice(self.alloc, bytes)?;
@@ -133,7 +134,11 @@ impl Frame {
         })
     }
 
-    /// Copies `len` bytes of another frame. Where memory is refused nothing changes.
+    /// Copies `len` bytes of another frame.
+    ///
+    /// # Errors
+    ///
+    /// `Memory`, with the frame as it was.
     pub fn copy_between(
         from: &Frame,
         to: &mut Frame,
@@ -146,12 +151,8 @@ impl Frame {
         requires dest { to_off + len ≤ FRAME_SIZE }
         requires right { IsTrue (covers writ.now to.old.owner to.old.number to_off len) }
         ensures written { OnOk result (IsWrite to.old to.new writ.now to_off (bytes_at from.now from_off len)) }
-        ensures receipt { IfOk result (λ r. r ≡ record {
-          source = record { owner = from.now.owner; number = from.now.number; off = from_off };
-          dest = record { owner = to.old.owner; number = to.old.number; off = to_off };
-          len = len;
-          writer = writ.now.writer;
-        }) }
+        ensures kept { IsKept to.new }
+        ensures receipt { IfOk result (λ r. r ≡ copying_of from.now from_off to.old to_off len writ.now.writer) }
         ensures refused { OnErr result (to.new ≡ to.old) }
     {
         let start = usize::from(from_off);
@@ -167,7 +168,11 @@ impl Frame {
     }
 
     /// Copies `len` of its own bytes. The ranges may overlap: what is written is what the source
-    /// range held before. Where memory is refused nothing changes.
+    /// range held before.
+    ///
+    /// # Errors
+    ///
+    /// `Memory`, with the frame as it was.
     pub fn copy_within(
         &mut self,
         writ: &Writ,
@@ -179,12 +184,8 @@ impl Frame {
         requires dest { to_off + len ≤ FRAME_SIZE }
         requires right { IsTrue (covers writ.now self.old.owner self.old.number to_off len) }
         ensures written { OnOk result (IsWrite self.old self.new writ.now to_off (bytes_at self.old from_off len)) }
-        ensures receipt { IfOk result (λ r. r ≡ record {
-          source = record { owner = self.old.owner; number = self.old.number; off = from_off };
-          dest = record { owner = self.old.owner; number = self.old.number; off = to_off };
-          len = len;
-          writer = writ.now.writer;
-        }) }
+        ensures kept { IsKept self.new }
+        ensures receipt { IfOk result (λ r. r ≡ copying_of self.old from_off self.old to_off len writ.now.writer) }
         ensures refused { OnErr result (self.new ≡ self.old) }
     {
         let start = usize::from(from_off);

@@ -16,10 +16,16 @@
 
 mod bytes;
 mod frame;
+mod frames;
+mod places;
+mod pool;
 mod receipts;
 mod writ;
 
 pub use bytes::Bytes;
 pub use frame::Frame;
+pub use frames::Frames;
+pub use places::{FrameCount, FrameName, Spot};
+pub use pool::{Ends, Pool};
 pub use receipts::{Copied, Read, Written};
 pub use writ::{Ground, Record, Writ};

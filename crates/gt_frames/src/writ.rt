@@ -1,6 +1,10 @@
+ghost use Rattle.std.specs.Prelude.{◌≡◌};
+ghost use Rattle.gt_entry.specs.Permits.{is_of_frame, leads_to};
+ghost use Rattle.gt_frames.specs.Frames.{permits_writing, covers};
+
 use crate::Bytes;
 use gt_entry::Entry;
-use gt_types::DomId;
+use gt_types::{Dir, DomId, Range, Use};
 
 /// By what a domain may write to a frame. (own)
 #[derive(Clone, Copy, Debug, PartialEq, Eq)]
@@ -32,4 +36,48 @@ pub struct Record {
     pub writ: Writ,
     pub off: u16,
     pub bytes: Bytes,
+}
+
+// Whether the entry is of this frame of its owner.
+fn is_of_frame(entry: Entry, number: u64) -> bool
+    ensures { result ≡ is_of_frame entry number }
+{
+    match entry {
+        Entry::Page { frame, .. } | Entry::Sub { frame, .. } => frame == number,
+        Entry::Invalid | Entry::Via { .. } => false,
+    }
+}
+
+// Whether the entry leads to a grant of this domain.
+fn leads_to(entry: Entry, owner: DomId) -> bool
+    ensures { result ≡ leads_to entry owner }
+{
+    match entry {
+        Entry::Via { dom2, .. } => dom2.0 == owner.0,
+        _ => false,
+    }
+}
+
+// Whether the entry permits the domain to write this range of this frame.
+fn permits_writing(entry: Entry, dom: DomId, number: u64, range: Range) -> bool
+    ensures { result ≡ permits_writing entry dom number range.off range.len }
+{
+    is_of_frame(entry, number) && entry.permits(dom, Dir::Write, Use::Copy, range)
+}
+
+impl Writ {
+    /// Whether it is for this range of this frame of the owner's.
+    pub fn covers(&self, owner: DomId, number: u64, range: Range) -> bool
+        ensures { result ≡ covers self.now owner number range.off range.len }
+    {
+        match self.ground {
+            Ground::Owned => self.writer.0 == owner.0,
+            Ground::Granted(entry) => permits_writing(entry, self.writer, number, range),
+            Ground::Forwarded { via, middle, entry } => {
+                via.forwards(self.writer, Dir::Write)
+                    && leads_to(via, owner)
+                    && permits_writing(entry, middle, number, range)
+            }
+        }
+    }
 }

@@ -1,5 +1,5 @@
 use Rattle.std.proofs.Common.{rules, ◌≡◌, ◌+◌, ◌∙◌, length, slice_range}
-use Rattle.gt_frames.proofs.Writes.{sound_after, is_write, same_bytes}
+use Rattle.gt_frames.proofs.Writes.{kept_after, sound_after, is_write, same_bytes}
 use Rattle.gt_frames.proofs.frame.Frame.copy_between.Goals as goal
 
 pub invariant_of-to-2 : goal.invariant_of-to-2
@@ -14,3 +14,8 @@ returns-clause-written c =
     let range : c.in_ok-kept.kept.items ≡ slice_range c.from-2.inside.bytes.items c.args.from_off (c.args.from_off + c.args.len) = search rules in
     is_write _ _ _ _ _ _ _ _ c.to.view_is c.in_ok-store.ensures.journal _ _ c.to.invariant size c.requires.dest _
     (range ∙ same_bytes _ _ _ c.from-2.inside.bytes.items c.from-2.inside.journal.items c.args.from_off c.args.len c.from-2.view_is c.from-2.invariant)
+
+pub returns-clause-kept : goal.returns-clause-kept
+returns-clause-kept c =
+    let size : length c.in_ok-kept.kept.items ≡ c.args.len = search rules in
+    kept_after _ _ _ _ _ _ _ _ c.to.view_is c.in_ok-store.ensures.journal _ _ c.to.invariant size c.requires.dest c.requires.right

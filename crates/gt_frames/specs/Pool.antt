@@ -1,0 +1,19 @@
+-- Locked frames.
+use Rattle.std.specs.Prelude.{Option, Some, None}
+use Rattle.std.specs.Sync.Mutex.{mutex_guard_value}
+use Rattle.std.specs.declared.sync.MutexGuard.{MutexGuard}
+use Rattle.gt_frames.specs.declared.pool.Ends.{Ends}
+use Rattle.gt_frames.specs.Frames.{FrameState}
+
+-- the frame that the bytes go to (own)
+abbrev pub dest_of : Ends → FrameState
+dest_of e = mutex_guard_value e.dest
+
+-- the frame of this guard, or this one where there is no guard (own)
+abbrev pub frame_or : FrameState → Option (MutexGuard FrameState) → FrameState
+frame_or f None = f
+frame_or f (Some g) = mutex_guard_value g
+
+-- the frame that the bytes come from (own)
+abbrev pub source_of : Ends → FrameState
+source_of e = frame_or (dest_of e) e.source

@@ -1,0 +1,61 @@
+//! Where a frame stands among the frames of a run.
+ghost use Rattle.std.specs.Prelude.{◌≡◌, ◌<◌, ◌^◌, IfOk};
+ghost use Rattle.gt_frames.specs.Places.{frame_counts, pool_number, frames_of};
+
+use gt_types::{Config, DomId, Memory};
+use std::alloc::Global;
+
+/// How many frames a domain has.
+#[derive(Clone, Copy, Debug, PartialEq, Eq)]
+pub struct FrameCount {
+    pub owner: DomId,
+    pub frames: u32,
+}
+
+/// A frame, by its owner and its number among the owner's frames.
+#[derive(Clone, Copy, Debug, PartialEq, Eq)]
+pub struct FrameName {
+    pub owner: DomId,
+    pub number: u64,
+}
+
+/// A byte of a frame: the frame, and the byte's offset in it.
+#[derive(Clone, Copy, Debug, PartialEq, Eq)]
+pub struct Spot {
+    pub frame: FrameName,
+    pub off: u16,
+}
+
+/// How many frames each domain has, in the order of the configuration.
+pub(crate) fn frame_counts(alloc: Global, config: &Config) -> Result<Vec<FrameCount>, Memory>
+    ensures { IfOk result (λ counts. counts.items ≡ frame_counts config.now.domains.items) }
+{
+    let mut counts = Vec::new(alloc);
+    'domains: for domain in &config.domains {
+        counts.push(FrameCount {
+            owner: domain.id,
+            frames: domain.frames,
+        })?;
+    }
+    Ok(counts)
+}
+
+/// The pool number of a frame. The numbers run over the frames of the first domain, then of the
+/// second, and so on.
+pub(crate) fn find(domains: &[FrameCount], name: FrameName) -> Option<usize>
+    requires { frames_of domains.now < 2 ^ 64 }
+    ensures { result ≡ pool_number domains.now name.owner name.number 0 }
+{
+    let mut first = 0;
+    'domains: for domain in domains {
+        if domain.owner == name.owner {
+            return if name.number < u64::from(domain.frames) {
+                Some(first + name.number as usize)
+            } else {
+                None
+            };
+        }
+        first += domain.frames as usize;
+    }
+    None
+}
