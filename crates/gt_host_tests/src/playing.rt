@@ -1,6 +1,6 @@
 //! Runs that no worked script shows: as many pins as there can be, and scripts that are cut off or none.
 use crate::scripts::{HEAD, POLICY};
-use gt_host::{PlayFault as Fault, play};
+use gt_host::play;
 use std::alloc::Global;
 use std::test::Fail;
 
