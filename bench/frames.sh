@@ -29,5 +29,8 @@ each words 1000000
 each reads 2000000
 each copies 20000
 each overlaps 20000
+each named 20000
+each locks 2000000
+each locked 20000
 each handles 8192
 each handles 1000000

@@ -11,6 +11,10 @@
 //! makes a receipt, and none can be cloned. Where memory is refused nothing changes; reading takes
 //! none. Who may write is the caller's to show, by a writ that covers the range.
 //!
+//! [`Frames`] are all frames of a run for one thread: a write or a copy names its frames by owner and
+//! number, changes just the one written, and leaves all others as they were. A [`Pool`] has each of
+//! them under a lock of its own: a frame that is handed out has the name that was asked for.
+//!
 //! It stands on `gt_types` (names) and `gt_entry` (entries, and what they permit).
 #![tactic(auto)]
 
