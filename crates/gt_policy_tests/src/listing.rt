@@ -115,13 +115,13 @@ fn bytes_that_are_no_text(rt: HostRuntime) -> Result<(), Fail> {
     for (text, wanted) in [
         (
             b"type a_t;\ntype b_t;\nty\xff".as_slice(),
-            "gthost: line 3: utf8",
+            "line 3: utf8",
         ),
         // A text with a fault and a bad byte behind it is no text.
-        (b"type a_t\n}\xc3(".as_slice(), "gthost: line 2: utf8"),
+        (b"type a_t\n}\xc3(".as_slice(), "line 2: utf8"),
         // Too many bytes come before bad ones.
-        (long.as_slice(), "gthost: line 1: policy limit"),
-        (bad.as_slice(), "gthost: line 1: policy limit"),
+        (long.as_slice(), "line 1: policy limit"),
+        (bad.as_slice(), "line 1: policy limit"),
         (&long[1..], ""),
     ] {
         assert_eq!(rt; listed(alloc, text)?.as_str(), wanted);
