@@ -74,7 +74,7 @@ for crate in "${order[@]}"; do
     echo "| $crate | $functions | $proof | $tests | $count | $edits | $all |"
   fi
   # what stands above it is timed over the library
-  if [ ! -f src/main.rt ] && [ ! -e out/rlib ]; then rt lib --jobs 1 >"$work/said" 2>&1; fi
+  if [ ! -e out/rlib ] && grep -Eq ":.* $crate( |\$)" "$work/crates.txt"; then rt lib --jobs 1 >"$work/said" 2>&1; fi
   rm -rf out/incremental
 done
 echo

@@ -34,7 +34,8 @@ pub record StartsFor (c : Contents) (core : Core Rights) : Type 0 where
   pub rights : may_by core.rights ≡ may_in c
   pub stands : CoreStands (setting_of core.config (may_by core.rights)) [] core.domains.items
 
--- the steps lead here, what their events did is a legal trace, and the calls that are open are those of the trace (own)
+-- The steps lead here, what their events did is a legal trace, and the calls that are open are those of the trace. Asked of the last point, it holds at the
+-- earlier ones too, since a legal trace begins and answers calls one at a time. (own)
 abbrev pub IsLegalRunOf : Contents → List Step → Progress → Type 0
 IsLegalRunOf c steps p = IsRunOf (setting_of_script c) (type_names c) steps p × Legal (setting_of_script c) p.events p.trace × KnowsOpen p
 

@@ -10,6 +10,10 @@ use Rattle.gt_entry.specs.declared.entry.Entry.TheVariants as entries
 use Rattle.gt_lines.specs.Hexadecimal.{hex_bytes}
 use Rattle.gt_lines.specs.declared.calls.Grant.{Grant}
 use Rattle.gt_lines.specs.declared.calls.Grant.TheVariants as grants
+use Rattle.gt_lines.specs.declared.calls.TableCall.{TableCall}
+use Rattle.gt_lines.specs.declared.calls.TableCall.TheVariants as tables
+use Rattle.gt_lines.specs.declared.calls.AccessCall.{AccessCall}
+use Rattle.gt_lines.specs.declared.calls.AccessCall.TheVariants as accesses
 use Rattle.gt_lines.specs.declared.calls.Call.{Call}
 use Rattle.gt_lines.specs.declared.calls.Call.TheVariants as calls
 use Rattle.gt_lines.specs.declared.calls.Action.{Action}
@@ -62,55 +66,83 @@ entry_of (grants.Page dom ro frame) = entries.Page dom ro frame
 entry_of (grants.Sub dom ro frame off len) = entries.Sub dom ro frame off len
 entry_of (grants.Via dom ro to gref) = entries.Via dom ro to gref
 
--- the bytes that a call of a script says: those of an entry, or those that it writes (own)
-unfoldable pub bytes_said : Call → List ℕ
-bytes_said (calls.GrantBytes gref hex) = hex_bytes hex
-bytes_said (calls.Store label off hex) = hex_bytes hex
-bytes_said (calls.Poke frame off hex) = hex_bytes hex
-bytes_said call = []
+-- the hexadecimal text of a call on a table: that of an entry (own)
+abbrev pub table_text : TableCall → Option (List ℕ)
+table_text (tables.Grant gref grant) = None
+table_text (tables.GrantBytes gref hex) = Some hex
+table_text (tables.Revoke gref) = None
+table_text (tables.Demote gref) = None
+table_text (tables.Promote gref) = None
+table_text (tables.SetVersion version) = None
+table_text (tables.SetupTable frames) = None
+table_text (tables.QuerySize to) = None
+table_text (tables.GetVersion to) = None
 
--- the call is on a table, its entries, its version or its size, and reaches no bytes (own)
-unfoldable pub is_on_table : Call → Bool
-is_on_table (calls.Map label to gref flags) = false
-is_on_table (calls.Unmap label) = false
-is_on_table (calls.Load label off len) = false
-is_on_table (calls.Store label off hex) = false
-is_on_table (calls.Peek frame off len) = false
-is_on_table (calls.Poke frame off hex) = false
-is_on_table call = true
+-- the hexadecimal text of a call that ends a mapping or reaches bytes: that of the bytes that it writes (own)
+abbrev pub access_text : AccessCall → Option (List ℕ)
+access_text (accesses.Unmap label) = None
+access_text (accesses.Load label off len) = None
+access_text (accesses.Store label off hex) = Some hex
+access_text (accesses.Peek frame off len) = None
+access_text (accesses.Poke frame off hex) = Some hex
+
+-- the hexadecimal text of a call (own)
+abbrev pub text_said : Call → Option (List ℕ)
+text_said (calls.Table call) = table_text call
+text_said (calls.Map label to gref flags) = None
+text_said (calls.Access call) = access_text call
+
+-- the bytes of such a text, none where there is none (own)
+abbrev pub bytes_of : Option (List ℕ) → List ℕ
+bytes_of None = []
+bytes_of (Some hex) = hex_bytes hex
+
+-- the bytes that a call of a script says (own)
+abbrev pub bytes_said : Call → List ℕ
+bytes_said call = bytes_of (text_said call)
+
+-- what a call on a table asks of the core, where these are its bytes (own)
+unfoldable pub table_request : Bor (List ℕ) → TableCall → Request
+table_request bytes (tables.Grant gref grant) = requests.Grant gref (entry_of grant)
+table_request bytes (tables.GrantBytes gref hex) = requests.GrantBytes gref bytes
+table_request bytes (tables.Revoke gref) = requests.Revoke gref
+table_request bytes (tables.Demote gref) = requests.Demote gref
+table_request bytes (tables.Promote gref) = requests.Promote gref
+table_request bytes (tables.SetVersion version) = requests.SetVersion version
+table_request bytes (tables.SetupTable frames) = requests.SetupTable frames
+table_request bytes (tables.QuerySize to) = requests.QuerySize to
+table_request bytes (tables.GetVersion to) = requests.GetVersion to
+
+-- what a call asks of the core that ends a mapping or reaches bytes, where its label stands for this handle and these are its bytes (own)
+unfoldable pub access_request : (List ℕ → Handle) → Bor (List ℕ) → AccessCall → Request
+access_request handle bytes (accesses.Unmap label) = requests.Unmap (handle label)
+access_request handle bytes (accesses.Load label off len) = requests.Load (handle label) off len
+access_request handle bytes (accesses.Store label off hex) = requests.Store (handle label) off bytes
+access_request handle bytes (accesses.Peek frame off len) = requests.Peek frame off len
+access_request handle bytes (accesses.Poke frame off hex) = requests.Poke frame off bytes
 
 -- what a call of a script asks of the core, where its labels stand for these handles and these are its bytes (own)
-unfoldable pub request_of : List Named → DomId → Bor (List ℕ) → Call → Request
-request_of named dom bytes (calls.Grant gref grant) = requests.Grant gref (entry_of grant)
-request_of named dom bytes (calls.GrantBytes gref hex) = requests.GrantBytes gref bytes
+abbrev pub request_of : List Named → DomId → Bor (List ℕ) → Call → Request
+request_of named dom bytes (calls.Table call) = table_request bytes call
 request_of named dom bytes (calls.Map label to gref flags) = requests.Map to gref flags
-request_of named dom bytes (calls.Unmap label) = requests.Unmap (handle_of named dom label)
-request_of named dom bytes (calls.Load label off len) = requests.Load (handle_of named dom label) off len
-request_of named dom bytes (calls.Store label off hex) = requests.Store (handle_of named dom label) off bytes
-request_of named dom bytes (calls.Peek frame off len) = requests.Peek frame off len
-request_of named dom bytes (calls.Poke frame off hex) = requests.Poke frame off bytes
-request_of named dom bytes (calls.Revoke gref) = requests.Revoke gref
-request_of named dom bytes (calls.Demote gref) = requests.Demote gref
-request_of named dom bytes (calls.Promote gref) = requests.Promote gref
-request_of named dom bytes (calls.SetVersion version) = requests.SetVersion version
-request_of named dom bytes (calls.SetupTable frames) = requests.SetupTable frames
-request_of named dom bytes (calls.QuerySize to) = requests.QuerySize to
-request_of named dom bytes (calls.GetVersion to) = requests.GetVersion to
+request_of named dom bytes (calls.Access call) = access_request (handle_of named dom) bytes call
 
 -- a call of a script asks this of the core, where its labels stand for these handles (own)
 abbrev pub Asks : List Named → DomId → Call → Request → Type 0
 Asks named dom call request = (bytes : Bor (List ℕ)) × (bytes.now ≡ bytes_said call) × (request ≡ request_of named dom bytes call)
 
 -- the label to which a call gives its handle: that of a map (own)
-unfoldable pub label_given : Call → Option (List ℕ)
+abbrev pub label_given : Call → Option (List ℕ)
+label_given (calls.Table call) = None
 label_given (calls.Map label to gref flags) = Some label
-label_given call = None
+label_given (calls.Access call) = None
 
 -- the label to which the call of a line gives its handle (own)
-unfoldable pub label_in : Action → Option (List ℕ)
+abbrev pub label_in : Action → Option (List ℕ)
 label_in (actions.Do call) = label_given call
 label_in (actions.Begin call) = label_given call
-label_in action = None
+label_in (actions.Tick most) = None
+label_in (actions.Show gref) = None
 
 -- the handle that an answer gives: that of a map answered Ok (own)
 abbrev pub handle_given : Answer → Option Handle

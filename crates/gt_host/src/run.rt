@@ -6,7 +6,7 @@ ghost use Rattle.gt_types.specs.declared.DomId.{DomId};
 ghost use Rattle.gt_core.specs.History.{History};
 ghost use Rattle.gt_core.specs.Standing.{CoreStands, setting_of};
 ghost use Rattle.gt_host.specs.Printing.{answer_line};
-ghost use Rattle.gt_host.specs.Runs.{Named, entry_of, bytes_said as said_in, is_on_table, request_of, label_in, named_after, DoLine, BeginLine, TickLine, RunsLine};
+ghost use Rattle.gt_host.specs.Runs.{Named, entry_of, table_text, access_text, text_said, bytes_said as said_in, table_request, access_request, request_of, handle_of, label_given, label_in, named_after, DoLine, BeginLine, TickLine, RunsLine};
 ghost use Rattle.gt_host.specs.Naming.{AreNamed};
 ghost use Rattle.gt_host.specs.Ticking.{IsReady, Calls, TicksTo, Leads};
 ghost use Rattle.gt_host.specs.declared.fault.Fault.TheVariants as faults;
@@ -19,7 +19,7 @@ use crate::outcome::{Outcome, TICKS_OF_A_CALL};
 use crate::showing::push_show_line;
 use gt_core::{Answer, Begun, Core, Request, Ticked};
 use gt_entry::Entry;
-use gt_lines::{Action, Call, Grant, Text, hex_bytes};
+use gt_lines::{AccessCall, Action, Call, Grant, TableCall, Text, hex_bytes};
 use gt_script::Step;
 use gt_types::{Allows, DomId, Memory};
 use std::alloc::{AllocError, Global};
@@ -65,44 +65,113 @@ fn entry_of(grant: Grant) -> Entry
     }
 }
 
+// The hexadecimal text of a call on a table, if it has one.
+fn table_text<'b, 'a>(call: &'b TableCall<'a>) -> Option<&'b Text<'a>>
+    ensures { option_map (λ text. text.now) result ≡ table_text call.entry.now }
+{
+    match call {
+        TableCall::GrantBytes { hex, .. } => Some(hex),
+        TableCall::Grant { .. }
+        | TableCall::Revoke { .. }
+        | TableCall::Demote { .. }
+        | TableCall::Promote { .. }
+        | TableCall::SetVersion { .. }
+        | TableCall::SetupTable { .. }
+        | TableCall::QuerySize { .. }
+        | TableCall::GetVersion { .. } => None,
+    }
+}
+
+// The hexadecimal text of a call that reaches bytes, if it has one.
+fn access_text<'b, 'a>(call: &'b AccessCall<'a>) -> Option<&'b Text<'a>>
+    ensures { option_map (λ text. text.now) result ≡ access_text call.entry.now }
+{
+    match call {
+        AccessCall::Store { hex, .. } | AccessCall::Poke { hex, .. } => Some(hex),
+        AccessCall::Unmap { .. } | AccessCall::Load { .. } | AccessCall::Peek { .. } => None,
+    }
+}
+
+// The hexadecimal text of a call, if it has one.
+fn text_said<'b, 'a>(call: &'b Call<'a>) -> Option<&'b Text<'a>>
+    ensures { option_map (λ text. text.now) result ≡ text_said call.entry.now }
+{
+    match call {
+        Call::Table(call) => table_text(call),
+        Call::Map { .. } => None,
+        Call::Access(call) => access_text(call),
+    }
+}
+
 // The bytes that a call says: those of an entry, or those that it writes.
-#[tactic(auto, unfolding(crate::specs::Runs::bytes_said))]
 fn bytes_said<'a>(alloc: Global, call: &Call<'a>) -> Result<Vec<u8>, AllocError>
     ensures { IfOk result (λ bytes. bytes.items ≡ said_in call.now) }
 {
-    match call {
-        Call::GrantBytes { hex, .. } | Call::Store { hex, .. } | Call::Poke { hex, .. } => {
-            hex_bytes(alloc, hex)
-        }
-        _ => Ok(Vec::new(alloc)),
+    match text_said(call) {
+        Some(hex) => hex_bytes(alloc, hex),
+        None => Ok(Vec::new(alloc)),
     }
 }
 
 // What a call on a table asks of the core, where it says these bytes.
-#[tactic(auto, unfolding(crate::specs::Runs::request_of, crate::specs::Runs::is_on_table))]
-fn table_request<'a, 'c>(bytes: &'c [u8], call: &Call<'a>) -> Request<'c>
-    requires { IsTrue (is_on_table call.now) }
-    ensures { (named : List Named) (dom : DomId) → result ≡ request_of named dom bytes.entry call.now }
+#[tactic(auto, unfolding(crate::specs::Runs::table_request))]
+fn table_request<'a, 'c>(bytes: &'c [u8], call: &TableCall<'a>) -> Request<'c>
+    ensures { result ≡ table_request bytes.entry call.now }
 {
     match call {
-        Call::Grant { gref, entry } => Request::Grant {
+        TableCall::Grant { gref, entry } => Request::Grant {
             gref: *gref,
             entry: entry_of(*entry),
         },
-        Call::GrantBytes { gref, .. } => Request::GrantBytes { gref: *gref, bytes },
-        Call::Revoke { gref } => Request::Revoke { gref: *gref },
-        Call::Demote { gref } => Request::Demote { gref: *gref },
-        Call::Promote { gref } => Request::Promote { gref: *gref },
-        Call::SetVersion { version } => Request::SetVersion { version: *version },
-        Call::SetupTable { frames } => Request::SetupTable { frames: *frames },
-        Call::QuerySize { dom } => Request::QuerySize { dom: *dom },
-        Call::GetVersion { dom } => Request::GetVersion { dom: *dom },
-        _ => unreachable!(),
+        TableCall::GrantBytes { gref, .. } => Request::GrantBytes { gref: *gref, bytes },
+        TableCall::Revoke { gref } => Request::Revoke { gref: *gref },
+        TableCall::Demote { gref } => Request::Demote { gref: *gref },
+        TableCall::Promote { gref } => Request::Promote { gref: *gref },
+        TableCall::SetVersion { version } => Request::SetVersion { version: *version },
+        TableCall::SetupTable { frames } => Request::SetupTable { frames: *frames },
+        TableCall::QuerySize { dom } => Request::QuerySize { dom: *dom },
+        TableCall::GetVersion { dom } => Request::GetVersion { dom: *dom },
+    }
+}
+
+// What a call asks of the core that ends a mapping or reaches bytes, where it says these bytes.
+#[tactic(auto, unfolding(crate::specs::Runs::access_request))]
+fn access_request<'a, 'c>(
+    labels: &Labels<'a>,
+    dom: DomId,
+    bytes: &'c [u8],
+    call: &AccessCall<'a>,
+) -> Request<'c>
+    ensures { (named : List Named) → AreNamed labels.now named → result ≡ access_request (handle_of named dom) bytes.entry call.now }
+{
+    match call {
+        AccessCall::Unmap { label } => Request::Unmap {
+            handle: labels.handle(dom, label.as_bytes()),
+        },
+        AccessCall::Load { label, off, len } => Request::Load {
+            handle: labels.handle(dom, label.as_bytes()),
+            off: *off,
+            len: *len,
+        },
+        AccessCall::Store { label, off, .. } => Request::Store {
+            handle: labels.handle(dom, label.as_bytes()),
+            off: *off,
+            bytes,
+        },
+        AccessCall::Peek { frame, off, len } => Request::Peek {
+            frame: *frame,
+            off: *off,
+            len: *len,
+        },
+        AccessCall::Poke { frame, off, .. } => Request::Poke {
+            frame: *frame,
+            off: *off,
+            bytes,
+        },
     }
 }
 
 // What a call that says these bytes asks of the core.
-#[tactic(auto, unfolding(crate::specs::Runs::request_of, crate::specs::Runs::is_on_table))]
 fn request_of<'a, 'c>(
     labels: &Labels<'a>,
     dom: DomId,
@@ -112,6 +181,7 @@ fn request_of<'a, 'c>(
     ensures { (named : List Named) → AreNamed labels.now named → result ≡ request_of named dom bytes.entry call.now }
 {
     match call {
+        Call::Table(call) => table_request(bytes, call),
         Call::Map {
             dom,
             gref,
@@ -122,43 +192,27 @@ fn request_of<'a, 'c>(
             gref: *gref,
             flags: *flags,
         },
-        Call::Unmap { label } => Request::Unmap {
-            handle: labels.handle(dom, label.as_bytes()),
-        },
-        Call::Load { label, off, len } => Request::Load {
-            handle: labels.handle(dom, label.as_bytes()),
-            off: *off,
-            len: *len,
-        },
-        Call::Store { label, off, .. } => Request::Store {
-            handle: labels.handle(dom, label.as_bytes()),
-            off: *off,
-            bytes,
-        },
-        Call::Peek { frame, off, len } => Request::Peek {
-            frame: *frame,
-            off: *off,
-            len: *len,
-        },
-        Call::Poke { frame, off, .. } => Request::Poke {
-            frame: *frame,
-            off: *off,
-            bytes,
-        },
-        _ => table_request(bytes, call),
+        Call::Access(call) => access_request(labels, dom, bytes, call),
+    }
+}
+
+// The label to which a call gives its handle.
+fn label_given<'a>(call: &Call<'a>) -> Option<&'a [u8]>
+    ensures { option_map (λ l. l.now) result ≡ label_given call.now }
+{
+    match call {
+        Call::Map { label, .. } => Some(label.as_bytes()),
+        Call::Table(_) | Call::Access(_) => None,
     }
 }
 
 // The label to which the call of a step gives its handle.
-#[tactic(auto, unfolding(crate::specs::Runs::label_in, crate::specs::Runs::label_given))]
 fn label_in<'a>(action: &Action<'a>) -> Option<&'a [u8]>
     ensures { option_map (λ l. l.now) result ≡ label_in action.now }
 {
     match action {
-        Action::Do(Call::Map { label, .. }) | Action::Begin(Call::Map { label, .. }) => {
-            Some(label.as_bytes())
-        }
-        _ => None,
+        Action::Do(call) | Action::Begin(call) => label_given(call),
+        Action::Tick(_) | Action::Show(_) => None,
     }
 }
 

@@ -1,11 +1,15 @@
 -- What the words of a call say (own): REF, DOM and the others as in Fields.
-use Rattle.std.specs.Prelude.{ℕ, List, [], ◌∷◌, Option, Some, None, if◌then◌else◌, codes}
+use Rattle.std.specs.Prelude.{ℕ, ◌||◌, Bool, List, [], ◌∷◌, Option, Some, None, if◌then◌else◌, codes}
 use Rattle.std.specs.Option.{option_map}
 use Rattle.std.specs.Str.{bytes_eq}
 use Rattle.gt_lines.specs.Fields.{◌>>=◌, u16_word, u32_word, u64_word, reference_word, domain_word, mode_word, flags_word, tick_word, label_word, text_where}
 use Rattle.gt_lines.specs.Hexadecimal.{hex_word}
 use Rattle.gt_lines.specs.declared.calls.Grant.{Grant}
 use Rattle.gt_lines.specs.declared.calls.Grant.TheVariants as grants
+use Rattle.gt_lines.specs.declared.calls.TableCall.{TableCall}
+use Rattle.gt_lines.specs.declared.calls.TableCall.TheVariants as tables
+use Rattle.gt_lines.specs.declared.calls.AccessCall.{AccessCall}
+use Rattle.gt_lines.specs.declared.calls.AccessCall.TheVariants as accesses
 use Rattle.gt_lines.specs.declared.calls.Call.{Call}
 use Rattle.gt_lines.specs.declared.calls.Call.TheVariants as calls
 use Rattle.gt_lines.specs.declared.calls.Action.{Action}
@@ -48,19 +52,19 @@ granted kind args = if bytes_eq kind (codes "page") then page_of args
     else (if bytes_eq kind (codes "via") then via_of args else None))
 
 -- what stands after `grant`: REF and an entry (own)
-unfoldable pub grant_of : List (List ℕ) → Option Call
+unfoldable pub grant_of : List (List ℕ) → Option TableCall
 grant_of (gref ∷ kind ∷ args) = do
   r ← reference_word gref
   e ← granted kind args
-  Some (calls.Grant r e)
+  Some (tables.Grant r e)
 grant_of _ = None
 
 -- what stands after `bytes`: REF HEX (own)
-unfoldable pub bytes_of : List (List ℕ) → Option Call
+unfoldable pub bytes_of : List (List ℕ) → Option TableCall
 bytes_of (gref ∷ digits ∷ []) = do
   r ← reference_word gref
   h ← text_where hex_word digits
-  Some (calls.GrantBytes r h)
+  Some (tables.GrantBytes r h)
 bytes_of _ = None
 
 -- what stands after `map`: LABEL DOM REF FLAGS (own)
@@ -74,115 +78,127 @@ map_of (label ∷ dom ∷ gref ∷ flags ∷ []) = do
 map_of _ = None
 
 -- what stands after `unmap`: LABEL (own)
-unfoldable pub unmap_of : List (List ℕ) → Option Call
+unfoldable pub unmap_of : List (List ℕ) → Option AccessCall
 unmap_of (label ∷ []) = do
   l ← text_where label_word label
-  Some (calls.Unmap l)
+  Some (accesses.Unmap l)
 unmap_of _ = None
 
 -- what stands after `load`: LABEL OFF LEN (own)
-unfoldable pub load_of : List (List ℕ) → Option Call
+unfoldable pub load_of : List (List ℕ) → Option AccessCall
 load_of (label ∷ off ∷ len ∷ []) = do
   l ← text_where label_word label
   o ← u16_word off
   n ← u16_word len
-  Some (calls.Load l o n)
+  Some (accesses.Load l o n)
 load_of _ = None
 
 -- what stands after `store`: LABEL OFF HEX (own)
-unfoldable pub store_of : List (List ℕ) → Option Call
+unfoldable pub store_of : List (List ℕ) → Option AccessCall
 store_of (label ∷ off ∷ digits ∷ []) = do
   l ← text_where label_word label
   o ← u16_word off
   h ← text_where hex_word digits
-  Some (calls.Store l o h)
+  Some (accesses.Store l o h)
 store_of _ = None
 
 -- what stands after `peek`: FRAME OFF LEN (own)
-unfoldable pub peek_of : List (List ℕ) → Option Call
+unfoldable pub peek_of : List (List ℕ) → Option AccessCall
 peek_of (frame ∷ off ∷ len ∷ []) = do
   f ← u64_word frame
   o ← u16_word off
   n ← u16_word len
-  Some (calls.Peek f o n)
+  Some (accesses.Peek f o n)
 peek_of _ = None
 
 -- what stands after `poke`: FRAME OFF HEX (own)
-unfoldable pub poke_of : List (List ℕ) → Option Call
+unfoldable pub poke_of : List (List ℕ) → Option AccessCall
 poke_of (frame ∷ off ∷ digits ∷ []) = do
   f ← u64_word frame
   o ← u16_word off
   h ← text_where hex_word digits
-  Some (calls.Poke f o h)
+  Some (accesses.Poke f o h)
 poke_of _ = None
 
 -- what stands after `revoke`: REF (own)
-unfoldable pub revoke_of : List (List ℕ) → Option Call
+unfoldable pub revoke_of : List (List ℕ) → Option TableCall
 revoke_of (gref ∷ []) = do
   r ← reference_word gref
-  Some (calls.Revoke r)
+  Some (tables.Revoke r)
 revoke_of _ = None
 
 -- what stands after `demote`: REF (own)
-unfoldable pub demote_of : List (List ℕ) → Option Call
+unfoldable pub demote_of : List (List ℕ) → Option TableCall
 demote_of (gref ∷ []) = do
   r ← reference_word gref
-  Some (calls.Demote r)
+  Some (tables.Demote r)
 demote_of _ = None
 
 -- what stands after `promote`: REF (own)
-unfoldable pub promote_of : List (List ℕ) → Option Call
+unfoldable pub promote_of : List (List ℕ) → Option TableCall
 promote_of (gref ∷ []) = do
   r ← reference_word gref
-  Some (calls.Promote r)
+  Some (tables.Promote r)
 promote_of _ = None
 
 -- what stands after `version`: V, of 32 bits (grant_table.h)
-unfoldable pub version_of : List (List ℕ) → Option Call
+unfoldable pub version_of : List (List ℕ) → Option TableCall
 version_of (number ∷ []) = do
   v ← u32_word number
-  Some (calls.SetVersion v)
+  Some (tables.SetVersion v)
 version_of _ = None
 
 -- what stands after `setup`: N, of 32 bits (grant_table.h)
-unfoldable pub setup_of : List (List ℕ) → Option Call
+unfoldable pub setup_of : List (List ℕ) → Option TableCall
 setup_of (number ∷ []) = do
   n ← u32_word number
-  Some (calls.SetupTable n)
+  Some (tables.SetupTable n)
 setup_of _ = None
 
 -- what stands after `size`: DOM (own)
-unfoldable pub size_of : List (List ℕ) → Option Call
+unfoldable pub size_of : List (List ℕ) → Option TableCall
 size_of (dom ∷ []) = do
   d ← domain_word dom
-  Some (calls.QuerySize d)
+  Some (tables.QuerySize d)
 size_of _ = None
 
 -- what stands after `getversion`: DOM (own)
-unfoldable pub getversion_of : List (List ℕ) → Option Call
+unfoldable pub getversion_of : List (List ℕ) → Option TableCall
 getversion_of (dom ∷ []) = do
   d ← domain_word dom
-  Some (calls.GetVersion d)
+  Some (tables.GetVersion d)
 getversion_of _ = None
 
--- a call word and its arguments (own)
-unfoldable pub call_of : List (List ℕ) → Option Call
-call_of [] = None
-call_of (word ∷ args) = if bytes_eq word (codes "grant") then grant_of args
+-- a call on a table, by its word (own)
+unfoldable pub table_of : List ℕ → List (List ℕ) → Option TableCall
+table_of word args = if bytes_eq word (codes "grant") then grant_of args
     else (if bytes_eq word (codes "bytes") then bytes_of args
-    else (if bytes_eq word (codes "map") then map_of args
-    else (if bytes_eq word (codes "unmap") then unmap_of args
-    else (if bytes_eq word (codes "load") then load_of args
-    else (if bytes_eq word (codes "store") then store_of args
-    else (if bytes_eq word (codes "peek") then peek_of args
-    else (if bytes_eq word (codes "poke") then poke_of args
     else (if bytes_eq word (codes "revoke") then revoke_of args
     else (if bytes_eq word (codes "demote") then demote_of args
     else (if bytes_eq word (codes "promote") then promote_of args
     else (if bytes_eq word (codes "version") then version_of args
     else (if bytes_eq word (codes "setup") then setup_of args
     else (if bytes_eq word (codes "size") then size_of args
-    else (if bytes_eq word (codes "getversion") then getversion_of args else None))))))))))))))
+    else (if bytes_eq word (codes "getversion") then getversion_of args else None))))))))
+
+-- a call that ends a mapping or reaches bytes, by its word (own)
+unfoldable pub access_of : List ℕ → List (List ℕ) → Option AccessCall
+access_of word args = if bytes_eq word (codes "unmap") then unmap_of args
+    else (if bytes_eq word (codes "load") then load_of args
+    else (if bytes_eq word (codes "store") then store_of args
+    else (if bytes_eq word (codes "peek") then peek_of args
+    else (if bytes_eq word (codes "poke") then poke_of args else None))))
+
+-- the word of a call that ends a mapping or reaches bytes (own)
+abbrev pub is_access_word : List ℕ → Bool
+is_access_word word = (((bytes_eq word (codes "unmap") || bytes_eq word (codes "load")) || bytes_eq word (codes "store")) || bytes_eq word (codes "peek")) || bytes_eq word (codes "poke")
+
+-- a call word and its arguments (own)
+unfoldable pub call_of : List (List ℕ) → Option Call
+call_of [] = None
+call_of (word ∷ args) = if bytes_eq word (codes "map") then map_of args
+    else (if is_access_word word then option_map calls.Access (access_of word args)
+    else option_map calls.Table (table_of word args))
 
 -- what stands after `tick` and its domain: N (own)
 unfoldable pub tick_of : List (List ℕ) → Option Action

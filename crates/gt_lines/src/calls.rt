@@ -1,6 +1,6 @@
 //! The calls that a script can ask for.
 ghost use Rattle.std.specs.Prelude.{◌≡◌, map};
-ghost use Rattle.gt_lines.specs.Calls.{page_of, sub_of, via_of, granted, grant_of, map_of, unmap_of, load_of, store_of, peek_of, poke_of, bytes_of, revoke_of, demote_of, promote_of, version_of, setup_of, size_of, getversion_of, call_of, tick_of, show_of, action_of};
+ghost use Rattle.gt_lines.specs.Calls.{page_of, sub_of, via_of, granted, grant_of, map_of, unmap_of, load_of, store_of, peek_of, poke_of, bytes_of, revoke_of, demote_of, promote_of, version_of, setup_of, size_of, getversion_of, table_of, access_of, is_access_word, call_of, tick_of, show_of, action_of};
 
 use crate::fields::{
     domain, flags, is, label, mode, reference, tick_count, u16_of, u32_of, u64_of,
@@ -35,26 +35,32 @@ pub enum Grant {
     },
 }
 
-/// A call as it is written; a label stands for the handle of the last map of that label.
+/// A call on the caller's table: its entries, its version or its size, or on those of another domain.
 #[derive(Debug, Drop)]
-pub enum Call<'a> {
+pub enum TableCall<'a> {
     /// `grant REF page|sub|via ..`
-    Grant {
-        gref: GrantRef,
-        entry: Grant,
-    },
+    Grant { gref: GrantRef, entry: Grant },
     /// `bytes REF HEX`: the entry that these bytes spell, as `hex_bytes` reads them.
-    GrantBytes {
-        gref: GrantRef,
-        hex: Text<'a>,
-    },
-    /// `map LABEL DOM REF FLAGS`
-    Map {
-        label: Text<'a>,
-        dom: DomId,
-        gref: GrantRef,
-        flags: u32,
-    },
+    GrantBytes { gref: GrantRef, hex: Text<'a> },
+    /// `revoke REF`
+    Revoke { gref: GrantRef },
+    /// `demote REF`
+    Demote { gref: GrantRef },
+    /// `promote REF`
+    Promote { gref: GrantRef },
+    /// `version V`: any number of 32 bits, also one of no version.
+    SetVersion { version: u32 },
+    /// `setup N`
+    SetupTable { frames: u32 },
+    /// `size DOM`
+    QuerySize { dom: DomId },
+    /// `getversion DOM`
+    GetVersion { dom: DomId },
+}
+
+/// A call that ends a mapping or reaches bytes. A label stands for the handle of the last map of that label.
+#[derive(Debug, Drop)]
+pub enum AccessCall<'a> {
     /// `unmap LABEL`
     Unmap {
         label: Text<'a>,
@@ -83,34 +89,20 @@ pub enum Call<'a> {
         off: u16,
         hex: Text<'a>,
     },
-    /// `revoke REF`
-    Revoke {
-        gref: GrantRef,
-    },
-    /// `demote REF`
-    Demote {
-        gref: GrantRef,
-    },
-    /// `promote REF`
-    Promote {
-        gref: GrantRef,
-    },
-    /// `version V`: any number of 32 bits, also one of no version.
-    SetVersion {
-        version: u32,
-    },
-    /// `setup N`
-    SetupTable {
-        frames: u32,
-    },
-    /// `size DOM`
-    QuerySize {
+}
+
+/// A call as it is written.
+#[derive(Debug, Drop)]
+pub enum Call<'a> {
+    Table(TableCall<'a>),
+    /// `map LABEL DOM REF FLAGS`: the label stands for the handle that it answers.
+    Map {
+        label: Text<'a>,
         dom: DomId,
+        gref: GrantRef,
+        flags: u32,
     },
-    /// `getversion DOM`
-    GetVersion {
-        dom: DomId,
-    },
+    Access(AccessCall<'a>),
 }
 
 /// What a line of the body asks of its domain.
@@ -187,11 +179,11 @@ fn read_entry(kind: &[u8], args: &[&[u8]]) -> Option<Grant>
 }
 
 #[tactic(auto, unfolding(crate::specs::Calls::grant_of))]
-fn read_grant<'a>(args: &[&'a [u8]]) -> Option<Call<'a>>
+fn read_grant<'a>(args: &[&'a [u8]]) -> Option<TableCall<'a>>
     ensures { result ≡ grant_of (map (λ word. word.now) args.now) }
 {
     match args {
-        [gref, kind, rest @ ..] => Some(Call::Grant {
+        [gref, kind, rest @ ..] => Some(TableCall::Grant {
             gref: reference(gref)?,
             entry: read_entry(kind, rest)?,
         }),
@@ -200,11 +192,11 @@ fn read_grant<'a>(args: &[&'a [u8]]) -> Option<Call<'a>>
 }
 
 #[tactic(auto, unfolding(crate::specs::Calls::bytes_of))]
-fn read_bytes<'a>(args: &[&'a [u8]]) -> Option<Call<'a>>
+fn read_bytes<'a>(args: &[&'a [u8]]) -> Option<TableCall<'a>>
     ensures { result ≡ bytes_of (map (λ word. word.now) args.now) }
 {
     match args {
-        [gref, digits] => Some(Call::GrantBytes {
+        [gref, digits] => Some(TableCall::GrantBytes {
             gref: reference(gref)?,
             hex: hex_text(digits)?,
         }),
@@ -228,11 +220,11 @@ fn read_map<'a>(args: &[&'a [u8]]) -> Option<Call<'a>>
 }
 
 #[tactic(auto, unfolding(crate::specs::Calls::unmap_of))]
-fn read_unmap<'a>(args: &[&'a [u8]]) -> Option<Call<'a>>
+fn read_unmap<'a>(args: &[&'a [u8]]) -> Option<AccessCall<'a>>
     ensures { result ≡ unmap_of (map (λ word. word.now) args.now) }
 {
     match args {
-        [name] => Some(Call::Unmap {
+        [name] => Some(AccessCall::Unmap {
             label: label(name)?,
         }),
         _ => None,
@@ -240,11 +232,11 @@ fn read_unmap<'a>(args: &[&'a [u8]]) -> Option<Call<'a>>
 }
 
 #[tactic(auto, unfolding(crate::specs::Calls::load_of))]
-fn read_load<'a>(args: &[&'a [u8]]) -> Option<Call<'a>>
+fn read_load<'a>(args: &[&'a [u8]]) -> Option<AccessCall<'a>>
     ensures { result ≡ load_of (map (λ word. word.now) args.now) }
 {
     match args {
-        [name, off, len] => Some(Call::Load {
+        [name, off, len] => Some(AccessCall::Load {
             label: label(name)?,
             off: u16_of(off)?,
             len: u16_of(len)?,
@@ -254,11 +246,11 @@ fn read_load<'a>(args: &[&'a [u8]]) -> Option<Call<'a>>
 }
 
 #[tactic(auto, unfolding(crate::specs::Calls::store_of))]
-fn read_store<'a>(args: &[&'a [u8]]) -> Option<Call<'a>>
+fn read_store<'a>(args: &[&'a [u8]]) -> Option<AccessCall<'a>>
     ensures { result ≡ store_of (map (λ word. word.now) args.now) }
 {
     match args {
-        [name, off, digits] => Some(Call::Store {
+        [name, off, digits] => Some(AccessCall::Store {
             label: label(name)?,
             off: u16_of(off)?,
             hex: hex_text(digits)?,
@@ -268,11 +260,11 @@ fn read_store<'a>(args: &[&'a [u8]]) -> Option<Call<'a>>
 }
 
 #[tactic(auto, unfolding(crate::specs::Calls::peek_of))]
-fn read_peek<'a>(args: &[&'a [u8]]) -> Option<Call<'a>>
+fn read_peek<'a>(args: &[&'a [u8]]) -> Option<AccessCall<'a>>
     ensures { result ≡ peek_of (map (λ word. word.now) args.now) }
 {
     match args {
-        [frame, off, len] => Some(Call::Peek {
+        [frame, off, len] => Some(AccessCall::Peek {
             frame: u64_of(frame)?,
             off: u16_of(off)?,
             len: u16_of(len)?,
@@ -282,11 +274,11 @@ fn read_peek<'a>(args: &[&'a [u8]]) -> Option<Call<'a>>
 }
 
 #[tactic(auto, unfolding(crate::specs::Calls::poke_of))]
-fn read_poke<'a>(args: &[&'a [u8]]) -> Option<Call<'a>>
+fn read_poke<'a>(args: &[&'a [u8]]) -> Option<AccessCall<'a>>
     ensures { result ≡ poke_of (map (λ word. word.now) args.now) }
 {
     match args {
-        [frame, off, digits] => Some(Call::Poke {
+        [frame, off, digits] => Some(AccessCall::Poke {
             frame: u64_of(frame)?,
             off: u16_of(off)?,
             hex: hex_text(digits)?,
@@ -296,11 +288,11 @@ fn read_poke<'a>(args: &[&'a [u8]]) -> Option<Call<'a>>
 }
 
 #[tactic(auto, unfolding(crate::specs::Calls::revoke_of))]
-fn read_revoke<'a>(args: &[&'a [u8]]) -> Option<Call<'a>>
+fn read_revoke<'a>(args: &[&'a [u8]]) -> Option<TableCall<'a>>
     ensures { result ≡ revoke_of (map (λ word. word.now) args.now) }
 {
     match args {
-        [gref] => Some(Call::Revoke {
+        [gref] => Some(TableCall::Revoke {
             gref: reference(gref)?,
         }),
         _ => None,
@@ -308,11 +300,11 @@ fn read_revoke<'a>(args: &[&'a [u8]]) -> Option<Call<'a>>
 }
 
 #[tactic(auto, unfolding(crate::specs::Calls::demote_of))]
-fn read_demote<'a>(args: &[&'a [u8]]) -> Option<Call<'a>>
+fn read_demote<'a>(args: &[&'a [u8]]) -> Option<TableCall<'a>>
     ensures { result ≡ demote_of (map (λ word. word.now) args.now) }
 {
     match args {
-        [gref] => Some(Call::Demote {
+        [gref] => Some(TableCall::Demote {
             gref: reference(gref)?,
         }),
         _ => None,
@@ -320,11 +312,11 @@ fn read_demote<'a>(args: &[&'a [u8]]) -> Option<Call<'a>>
 }
 
 #[tactic(auto, unfolding(crate::specs::Calls::promote_of))]
-fn read_promote<'a>(args: &[&'a [u8]]) -> Option<Call<'a>>
+fn read_promote<'a>(args: &[&'a [u8]]) -> Option<TableCall<'a>>
     ensures { result ≡ promote_of (map (λ word. word.now) args.now) }
 {
     match args {
-        [gref] => Some(Call::Promote {
+        [gref] => Some(TableCall::Promote {
             gref: reference(gref)?,
         }),
         _ => None,
@@ -332,11 +324,11 @@ fn read_promote<'a>(args: &[&'a [u8]]) -> Option<Call<'a>>
 }
 
 #[tactic(auto, unfolding(crate::specs::Calls::version_of))]
-fn read_version<'a>(args: &[&'a [u8]]) -> Option<Call<'a>>
+fn read_version<'a>(args: &[&'a [u8]]) -> Option<TableCall<'a>>
     ensures { result ≡ version_of (map (λ word. word.now) args.now) }
 {
     match args {
-        [number] => Some(Call::SetVersion {
+        [number] => Some(TableCall::SetVersion {
             version: u32_of(number)?,
         }),
         _ => None,
@@ -344,11 +336,11 @@ fn read_version<'a>(args: &[&'a [u8]]) -> Option<Call<'a>>
 }
 
 #[tactic(auto, unfolding(crate::specs::Calls::setup_of))]
-fn read_setup<'a>(args: &[&'a [u8]]) -> Option<Call<'a>>
+fn read_setup<'a>(args: &[&'a [u8]]) -> Option<TableCall<'a>>
     ensures { result ≡ setup_of (map (λ word. word.now) args.now) }
 {
     match args {
-        [number] => Some(Call::SetupTable {
+        [number] => Some(TableCall::SetupTable {
             frames: u32_of(number)?,
         }),
         _ => None,
@@ -356,46 +348,33 @@ fn read_setup<'a>(args: &[&'a [u8]]) -> Option<Call<'a>>
 }
 
 #[tactic(auto, unfolding(crate::specs::Calls::size_of))]
-fn read_size<'a>(args: &[&'a [u8]]) -> Option<Call<'a>>
+fn read_size<'a>(args: &[&'a [u8]]) -> Option<TableCall<'a>>
     ensures { result ≡ size_of (map (λ word. word.now) args.now) }
 {
     match args {
-        [dom] => Some(Call::QuerySize { dom: domain(dom)? }),
+        [dom] => Some(TableCall::QuerySize { dom: domain(dom)? }),
         _ => None,
     }
 }
 
 #[tactic(auto, unfolding(crate::specs::Calls::getversion_of))]
-fn read_getversion<'a>(args: &[&'a [u8]]) -> Option<Call<'a>>
+fn read_getversion<'a>(args: &[&'a [u8]]) -> Option<TableCall<'a>>
     ensures { result ≡ getversion_of (map (λ word. word.now) args.now) }
 {
     match args {
-        [dom] => Some(Call::GetVersion { dom: domain(dom)? }),
+        [dom] => Some(TableCall::GetVersion { dom: domain(dom)? }),
         _ => None,
     }
 }
 
-#[tactic(auto, unfolding(crate::specs::Calls::call_of))]
-fn read_call<'a>(words: &[&'a [u8]]) -> Option<Call<'a>>
-    ensures { result ≡ call_of (map (λ word. word.now) words.now) }
+#[tactic(auto, unfolding(crate::specs::Calls::table_of))]
+fn read_table_call<'a>(word: &[u8], args: &[&'a [u8]]) -> Option<TableCall<'a>>
+    ensures { result ≡ table_of word.now (map (λ word. word.now) args.now) }
 {
-    let (word, args) = words.split_first()?;
     if is(word, "grant") {
         read_grant(args)
     } else if is(word, "bytes") {
         read_bytes(args)
-    } else if is(word, "map") {
-        read_map(args)
-    } else if is(word, "unmap") {
-        read_unmap(args)
-    } else if is(word, "load") {
-        read_load(args)
-    } else if is(word, "store") {
-        read_store(args)
-    } else if is(word, "peek") {
-        read_peek(args)
-    } else if is(word, "poke") {
-        read_poke(args)
     } else if is(word, "revoke") {
         read_revoke(args)
     } else if is(word, "demote") {
@@ -412,6 +391,50 @@ fn read_call<'a>(words: &[&'a [u8]]) -> Option<Call<'a>>
         read_getversion(args)
     } else {
         None
+    }
+}
+
+#[tactic(auto, unfolding(crate::specs::Calls::access_of))]
+fn read_access_call<'a>(word: &[u8], args: &[&'a [u8]]) -> Option<AccessCall<'a>>
+    ensures { result ≡ access_of word.now (map (λ word. word.now) args.now) }
+{
+    if is(word, "unmap") {
+        read_unmap(args)
+    } else if is(word, "load") {
+        read_load(args)
+    } else if is(word, "store") {
+        read_store(args)
+    } else if is(word, "peek") {
+        read_peek(args)
+    } else if is(word, "poke") {
+        read_poke(args)
+    } else {
+        None
+    }
+}
+
+// A word of a call that ends a mapping or reaches bytes.
+fn is_access_word(word: &[u8]) -> bool
+    ensures { result ≡ is_access_word word.now }
+{
+    is(word, "unmap")
+        || is(word, "load")
+        || is(word, "store")
+        || is(word, "peek")
+        || is(word, "poke")
+}
+
+#[tactic(auto, unfolding(crate::specs::Calls::call_of))]
+fn read_call<'a>(words: &[&'a [u8]]) -> Option<Call<'a>>
+    ensures { result ≡ call_of (map (λ word. word.now) words.now) }
+{
+    let (word, args) = words.split_first()?;
+    if is(word, "map") {
+        read_map(args)
+    } else if is_access_word(word) {
+        Some(Call::Access(read_access_call(word, args)?))
+    } else {
+        Some(Call::Table(read_table_call(word, args)?))
     }
 }
 

@@ -21,7 +21,7 @@ use Rattle.gt_script.specs.Types.{with_type}
 use Rattle.gt_policy.specs.Allowing.{Allowed, type_named}
 use Rattle.gt_script.specs.Contents.{Contents, names_with}
 use Rattle.gt_script.specs.Script.{is_empty, is_misplaced, has_no_rights, or_config, domain_written, with_triple, type_in, with_domain, with_step, with_placed, with_line, with_words, with_lines}
-use Rattle.gt_script.specs.Laws.{said, type_number, triple_in, wear_in, domain_in, step_on, IsLine}
+use Rattle.gt_script.specs.Laws.{said, triple_in, wear_in, domain_in, step_on, IsLine}
 use Rattle.gt_lines.specs.declared.numbers.Number.{Number}
 use Rattle.gt_lines.specs.declared.calls.Action.{Action}
 use Rattle.gt_lines.specs.declared.lines.TripleLine.{TripleLine}
@@ -119,8 +119,8 @@ adds-triple-of n c d t source target free s r same =
       no_triples = λ p e. absurd (cc (e, free));
       types = Grown-trans c.types source.0 target.0 a.grown b.grown;
       triples = λ types g.
-          let first : type_number types t.source ≡ Some source.1 = g.kept _ _ (b.grown.kept _ _ a.number) in
-          let second : type_number types t.target ≡ Some target.1 = g.kept _ _ b.number in
+          let first : type_named types t.source ≡ Some source.1 = g.kept _ _ (b.grown.kept _ _ a.number) in
+          let second : type_named types t.target ≡ Some target.1 = g.kept _ _ b.number in
           let said : triple_in types (line.Triple t) ≡ Some (record { source = source.1; target = target.1; perm = t.perm }) = bind-at _ _ _ first ∙ bind-at _ _ _ second in
           ap (λ (o : Option Triple). c.triples ++ option_to_list o) (sym said);
       wear = sym (append-nil (option_to_list c.wear));
@@ -140,7 +140,7 @@ adds-triple n c d t free e =
 -- the number that a domain's type has, with the names after its line
 record TypeIn (policy : Option Allowed) (types : List (List ℕ)) (name : List ℕ) (label : List (List ℕ) × TypeId) : Type 0 where
   grown : Grown types label.0
-  number : (later : List (List ℕ)) → Grown label.0 later → type_number (names_with policy later) name ≡ Some label.1
+  number : (later : List (List ℕ)) → Grown label.0 later → type_named (names_with policy later) name ≡ Some label.1
 
 declared-as : (types : List (List ℕ)) (o : Option TypeId) (label : List (List ℕ) × TypeId) → option_map (λ id. (types, id)) o ≡ Some label → (types ≡ label.0) × (o ≡ Some label.1)
 declared-as types None label e = absurd cc

@@ -10,7 +10,7 @@ use Rattle.std.proofs.lemmas.List.Quantifiers.{all_pairs_push}
 use Rattle.std.proofs.lemmas.Slice.Eq.{bytes_eq-Decides}
 use Rattle.gt_types.specs.declared.TypeId.{TypeId}
 use Rattle.gt_script.specs.Types.{with_type}
-use Rattle.gt_script.specs.Laws.{type_number}
+use Rattle.gt_policy.specs.Allowing.{type_named}
 
 number_kept : (b : Bool) (i n m l : ℕ) → cond (ltb n l) (Some n) None ≡ Some i → m ≡ cond (eqb n l) (l + cond b 0 1) n → cond (ltb m (l + 1)) (Some m) None ≡ Some i
 number_kept b i n m l h e = grind (arith, nat_tests)
@@ -36,7 +36,7 @@ position-new p xs y h t =
 
 -- the names grow so that each keeps its number
 pub record Grown (old new : List (List ℕ)) : Type 0 where
-  pub kept : (name : List ℕ) (id : TypeId) → type_number old name ≡ Some id → type_number new name ≡ Some id
+  pub kept : (name : List ℕ) (id : TypeId) → type_named old name ≡ Some id → type_named new name ≡ Some id
   pub distinct : AllPairs (λ a b. a ≢ b) old → AllPairs (λ a b. a ≢ b) new
   pub few : length old ≤ 256 → length new ≤ 256
 
@@ -52,7 +52,7 @@ Grown-trans a b c h k = record {
 
 -- the names after one more, which has this number
 pub record Typed (names : List (List ℕ)) (name : List ℕ) (r : List (List ℕ) × TypeId) : Type 0 where
-  pub number : type_number r.0 name ≡ Some r.1
+  pub number : type_named r.0 name ≡ Some r.1
   pub grown : Grown names r.0
 
 same_bytes : (name : List ℕ) → bytes_eq name name ≡ true

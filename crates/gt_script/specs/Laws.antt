@@ -1,17 +1,16 @@
 -- What the parts of a script are, said without the order of reading (own).
-use Rattle.std.specs.Prelude.{◌≡◌, ◌≢◌, ◌≤◌, ◌<◌, ◌+◌, ◌^◌, ◌⊎◌, ℕ, List, [], ◌∷◌, ◌++◌, length, take, Option, Some, None, Ok, Err, IsSome, IsTrue, All, AllPairs, position, slice_get, codes}
+use Rattle.std.specs.Prelude.{◌≡◌, ◌≢◌, ◌≤◌, ◌<◌, ◌+◌, ◌^◌, ◌⊎◌, ℕ, List, [], ◌∷◌, ◌++◌, length, take, Option, Some, None, Ok, Err, IsSome, IsTrue, All, AllPairs, slice_get, codes}
 use Rattle.std.specs.Option.{option_map, option_to_list}
 use Rattle.std.specs.List.{filter_map, enumerate_from}
-use Rattle.std.specs.Str.{bytes_eq, IsUtf8}
+use Rattle.std.specs.Str.{IsUtf8}
 use Rattle.std.specs.Str.Lines.{lines as lines_in}
 use Rattle.std.specs.Str.Lossy.{utf8_valid_len}
 use Rattle.gt_streams.specs.Texts.{line_after}
 use Rattle.gt_types.specs.Config.{is_taken, AreFaultless}
 use Rattle.gt_types.specs.declared.limits.TheConstants.{LAST_GENERATION, LONGEST_TEXT}
-use Rattle.gt_types.specs.declared.TypeId.{TypeId}
 use Rattle.gt_types.specs.declared.rights.Triple.{Triple}
 use Rattle.gt_types.specs.declared.config.DomainConfig.{DomainConfig}
-use Rattle.gt_policy.specs.Allowing.{Allowed}
+use Rattle.gt_policy.specs.Allowing.{Allowed, type_named}
 use Rattle.gt_policy.specs.declared.fault.Fault as policy
 use Rattle.gt_script.specs.Blocks.{Means, IsFaulty, block_fault_shown}
 use Rattle.gt_lines.specs.Words.{words}
@@ -33,15 +32,11 @@ use Rattle.gt_script.specs.declared.faults.ScriptError.TheVariants as errors
 abbrev pub said : ℕ → List (List ℕ) → List (ℕ × Line)
 said n lines = filter_map (λ l. option_map (λ x. (l.0, x)) (line_of (words l.1))) (enumerate_from n lines)
 
--- the number of a type is the place of its name (own)
-abbrev pub type_number : List (List ℕ) → List ℕ → Option TypeId
-type_number types name = option_map (λ i. record { 0 = i }) (position (λ t. bytes_eq t name) types)
-
 -- the triple of a line, if it says one (own)
 abbrev pub triple_in : List (List ℕ) → Line → Option Triple
 triple_in types (line.Triple t) = do
-  source ← type_number types t.source
-  target ← type_number types t.target
+  source ← type_named types t.source
+  target ← type_named types t.target
   Some (record { source = source; target = target; perm = t.perm })
 triple_in types (line.Wear first) = None
 triple_in types (line.Domain d) = None
@@ -59,7 +54,7 @@ abbrev pub domain_in : List (List ℕ) → Line → Option DomainConfig
 domain_in types (line.Triple t) = None
 domain_in types (line.Wear first) = None
 domain_in types (line.Domain d) = do
-  label ← type_number types d.type_name
+  label ← type_named types d.type_name
   domain_written d label
 domain_in types (line.Body id action) = None
 

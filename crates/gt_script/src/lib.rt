@@ -16,6 +16,6 @@ mod script;
 mod types;
 
 pub use faults::{BlockFault, Fault, FaultKind, ScriptError};
-pub use gt_lines::{Action, Call, Grant, Text, hex_bytes};
+pub use gt_lines::{AccessCall, Action, Call, Grant, TableCall, Text, hex_bytes};
 pub use laws::every_text_tells_one_thing;
 pub use script::{Script, Step, parse};

@@ -323,7 +323,7 @@ fn lines_in_their_places(rt: HostRuntime) -> Result<(), Fail> {
 const READ: [(&str, &str); 26] = [
     (
         "do 1 grant 0 page 2 rw 5",
-        "4 1 Do(Grant { gref: GrantRef(0), entry: Page { dom: DomId(2), read_only: false, frame: 5 } })\n",
+        "4 1 Do(Table(Grant { gref: GrantRef(0), entry: Page { dom: DomId(2), read_only: false, frame: 5 } }))\n",
     ),
     (
         "do 2 map h 1 0 rw",
@@ -335,72 +335,84 @@ const READ: [(&str, &str); 26] = [
     ),
     (
         "do 2 load h 0 2",
-        "4 2 Do(Load { label: Text { bytes: [104] }, off: 0, len: 2 })\n",
+        "4 2 Do(Access(Load { label: Text { bytes: [104] }, off: 0, len: 2 }))\n",
     ),
     (
         "do 2 unmap h",
-        "4 2 Do(Unmap { label: Text { bytes: [104] } })\n",
+        "4 2 Do(Access(Unmap { label: Text { bytes: [104] } }))\n",
     ),
-    ("do 1 revoke 0", "4 1 Do(Revoke { gref: GrantRef(0) })\n"),
-    ("do 1 demote 7", "4 1 Do(Demote { gref: GrantRef(7) })\n"),
-    ("do 2 promote 8", "4 2 Do(Promote { gref: GrantRef(8) })\n"),
-    ("do 1 version 2", "4 1 Do(SetVersion { version: 2 })\n"),
-    ("do 1 setup 4", "4 1 Do(SetupTable { frames: 4 })\n"),
+    (
+        "do 1 revoke 0",
+        "4 1 Do(Table(Revoke { gref: GrantRef(0) }))\n",
+    ),
+    (
+        "do 1 demote 7",
+        "4 1 Do(Table(Demote { gref: GrantRef(7) }))\n",
+    ),
+    (
+        "do 2 promote 8",
+        "4 2 Do(Table(Promote { gref: GrantRef(8) }))\n",
+    ),
+    (
+        "do 1 version 2",
+        "4 1 Do(Table(SetVersion { version: 2 }))\n",
+    ),
+    ("do 1 setup 4", "4 1 Do(Table(SetupTable { frames: 4 }))\n"),
     (
         "do 1 size self",
-        "4 1 Do(QuerySize { dom: DomId(32752) })\n",
+        "4 1 Do(Table(QuerySize { dom: DomId(32752) }))\n",
     ),
     (
         "do 1 getversion 3",
-        "4 1 Do(GetVersion { dom: DomId(3) })\n",
+        "4 1 Do(Table(GetVersion { dom: DomId(3) }))\n",
     ),
     (
         "do 1 bytes 7 0100020005000000",
-        "4 1 Do(GrantBytes { gref: GrantRef(7), hex: Text { bytes: [48, 49, 48, 48, 48, 50, 48, 48, 48, 53, 48, 48, 48, 48, 48, 48] } })\n",
+        "4 1 Do(Table(GrantBytes { gref: GrantRef(7), hex: Text { bytes: [48, 49, 48, 48, 48, 50, 48, 48, 48, 53, 48, 48, 48, 48, 48, 48] } }))\n",
     ),
     (
         "do 1 bytes 7 01fFAb",
-        "4 1 Do(GrantBytes { gref: GrantRef(7), hex: Text { bytes: [48, 49, 102, 70, 65, 98] } })\n",
+        "4 1 Do(Table(GrantBytes { gref: GrantRef(7), hex: Text { bytes: [48, 49, 102, 70, 65, 98] } }))\n",
     ),
     (
         "do 1 bytes 7 -",
-        "4 1 Do(GrantBytes { gref: GrantRef(7), hex: Text { bytes: [45] } })\n",
+        "4 1 Do(Table(GrantBytes { gref: GrantRef(7), hex: Text { bytes: [45] } }))\n",
     ),
     (
         "do 1 store h 10 c0ffee",
-        "4 1 Do(Store { label: Text { bytes: [104] }, off: 10, hex: Text { bytes: [99, 48, 102, 102, 101, 101] } })\n",
+        "4 1 Do(Access(Store { label: Text { bytes: [104] }, off: 10, hex: Text { bytes: [99, 48, 102, 102, 101, 101] } }))\n",
     ),
     (
         "do 1 store h 65535 -",
-        "4 1 Do(Store { label: Text { bytes: [104] }, off: 65535, hex: Text { bytes: [45] } })\n",
+        "4 1 Do(Access(Store { label: Text { bytes: [104] }, off: 65535, hex: Text { bytes: [45] } }))\n",
     ),
     (
         "do 1 store k_9 007 0aFf",
-        "4 1 Do(Store { label: Text { bytes: [107, 95, 57] }, off: 7, hex: Text { bytes: [48, 97, 70, 102] } })\n",
+        "4 1 Do(Access(Store { label: Text { bytes: [107, 95, 57] }, off: 7, hex: Text { bytes: [48, 97, 70, 102] } }))\n",
     ),
     (
         "begin 2 poke 7 4095 ff",
-        "4 2 Begin(Poke { frame: 7, off: 4095, hex: Text { bytes: [102, 102] } })\n",
+        "4 2 Begin(Access(Poke { frame: 7, off: 4095, hex: Text { bytes: [102, 102] } }))\n",
     ),
     (
         "begin 2 poke 18446744073709551615 0 -",
-        "4 2 Begin(Poke { frame: 18446744073709551615, off: 0, hex: Text { bytes: [45] } })\n",
+        "4 2 Begin(Access(Poke { frame: 18446744073709551615, off: 0, hex: Text { bytes: [45] } }))\n",
     ),
     (
         "begin 2 poke 0 65535 0102",
-        "4 2 Begin(Poke { frame: 0, off: 65535, hex: Text { bytes: [48, 49, 48, 50] } })\n",
+        "4 2 Begin(Access(Poke { frame: 0, off: 65535, hex: Text { bytes: [48, 49, 48, 50] } }))\n",
     ),
     (
         "do 1 peek 5 9 4",
-        "4 1 Do(Peek { frame: 5, off: 9, len: 4 })\n",
+        "4 1 Do(Access(Peek { frame: 5, off: 9, len: 4 }))\n",
     ),
     (
         "do 1 peek 18446744073709551615 65535 0",
-        "4 1 Do(Peek { frame: 18446744073709551615, off: 65535, len: 0 })\n",
+        "4 1 Do(Access(Peek { frame: 18446744073709551615, off: 65535, len: 0 }))\n",
     ),
     (
         "do 1 peek 0 0 65535",
-        "4 1 Do(Peek { frame: 0, off: 0, len: 65535 })\n",
+        "4 1 Do(Access(Peek { frame: 0, off: 0, len: 65535 }))\n",
     ),
     ("tick 2 3", "4 2 Tick(3)\n"),
     ("show 1 7", "4 1 Show(GrantRef(7))\n"),

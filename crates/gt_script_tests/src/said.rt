@@ -1,6 +1,6 @@
 //! What scripts are read as, in words.
 use gt_policy::Policy;
-use gt_script::{Action, Call, Script, Step, Text, hex_bytes, parse};
+use gt_script::{AccessCall, Action, Call, Script, Step, TableCall, Text, hex_bytes, parse};
 use gt_types::{Allows, DomainConfig, Perms, Triple, TypeId};
 use std::alloc::{AllocError, Global};
 use std::test::Fail;
@@ -145,7 +145,8 @@ fn bytes_said(alloc: Global, steps: &[Step<'_>]) -> Result<String, AllocError> {
 fn hex_in<'b, 'a>(action: &'b Action<'a>) -> Option<&'b Text<'a>> {
     match action {
         Action::Do(
-            Call::GrantBytes { hex, .. } | Call::Store { hex, .. } | Call::Poke { hex, .. },
+            Call::Table(TableCall::GrantBytes { hex, .. })
+            | Call::Access(AccessCall::Store { hex, .. } | AccessCall::Poke { hex, .. }),
         ) => Some(hex),
         _ => None,
     }

@@ -11,8 +11,6 @@
 mod board;
 mod laws;
 mod start;
-#[cfg(test)]
-mod tests;
 mod view;
 mod words;
 

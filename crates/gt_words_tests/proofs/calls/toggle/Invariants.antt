@@ -1,7 +1,7 @@
 use Rattle.std.proofs.Common.{◌≡◌}
 use Rattle.gt_words.specs.Conditions.{IsSeatOf}
 use Rattle.gt_words.specs.Views.{last_of}
-use Rattle.gt_words.proofs.tests.toggle.Given as goal
+use Rattle.gt_words_tests.proofs.calls.toggle.Given as goal
 
 abbrev pub invariant-loop : goal.invariant-loop
 invariant-loop l = record {

@@ -1,0 +1,157 @@
+//! Worked runs of two domains, each told in one text. Words are in base 16, but inside an answer in base 10.
+use crate::calls::{
+    Row, churn, look, page, pin_twice, publish, revoke, revoke_pinned, start, toggle, try_pin,
+    turn, two_domains,
+};
+use gt_entry::{Control, Entry};
+use gt_types::{Dir, DomId, GrantRef};
+use std::test::Fail;
+use std::thread::join;
+
+const OWNER: DomId = DomId(1);
+
+const OTHER: DomId = DomId(2);
+
+const ENTRY: GrantRef = GrantRef(0);
+
+const UNUSED: Row = Row {
+    entry: Entry::Invalid,
+    generation: 0,
+};
+
+// The word looked at, the invalid word after the revocation, and the word that the late pin found.
+const ANEW: &str = "100020000001 100000000000 Some(Err(35184908959745))";
+
+#[test]
+fn pins_no_entry_that_was_granted_anew(rt: HostRuntime) -> Result<(), Fail> {
+    let config = two_domains(rt.alloc())?;
+    let (words, mut owner, mut other) = start(rt.alloc(), &config)?;
+    let mut row = UNUSED;
+    let _ = publish(&words, &mut owner, ENTRY, &mut row, page(5));
+    let sight = look(&words, &mut other, OWNER, ENTRY);
+    let _ = revoke(&words, &mut owner, ENTRY, &mut row);
+    let idle = words.load_control(&mut owner, OWNER, ENTRY);
+    let _ = publish(&words, &mut owner, ENTRY, &mut row, page(6));
+    let late = try_pin(&words, &mut other, OWNER, ENTRY, &sight, Dir::Read);
+    let found = late.map(|r| r.map(|pin| pin.word));
+    let text = format!(in rt.alloc(); "{:x} {idle:x} {found:?}", sight.word)?;
+    assert_eq!(rt; text.as_str(), ANEW);
+    Ok(())
+}
+
+// What a revocation found under a read pin and under a write pin, and the word with none.
+const PINNED: &str = "Some(Err(17592722915345)) Some(Err(17592722980865)) 100020000001 Ok(())";
+
+#[test]
+fn refuses_to_revoke_a_pinned_entry(rt: HostRuntime) -> Result<(), Fail> {
+    let config = two_domains(rt.alloc())?;
+    let (words, mut owner, mut other) = start(rt.alloc(), &config)?;
+    let mut row = UNUSED;
+    let _ = publish(&words, &mut owner, ENTRY, &mut row, page(5));
+    let read = revoke_pinned(
+        &words,
+        &mut owner,
+        &mut other,
+        OWNER,
+        ENTRY,
+        &mut row,
+        Dir::Read,
+    );
+    let write = revoke_pinned(
+        &words,
+        &mut owner,
+        &mut other,
+        OWNER,
+        ENTRY,
+        &mut row,
+        Dir::Write,
+    );
+    let idle = words.load_control(&mut owner, OWNER, ENTRY);
+    let last = revoke(&words, &mut owner, ENTRY, &mut row);
+    let text = format!(in rt.alloc(); "{read:?} {write:?} {idle:x} {last:?}")?;
+    assert_eq!(rt; text.as_str(), PINNED);
+    Ok(())
+}
+
+// What the owner saw with two pins, with one of them left, and with none.
+#[test]
+fn counts_two_pins_of_one_entry(rt: HostRuntime) -> Result<(), Fail> {
+    let config = two_domains(rt.alloc())?;
+    let (words, mut owner, mut other) = start(rt.alloc(), &config)?;
+    let mut row = UNUSED;
+    let _ = publish(&words, &mut owner, ENTRY, &mut row, page(5));
+    let seen = pin_twice(&words, &mut owner, &mut other, OWNER, ENTRY);
+    assert_eq!(rt;
+        seen,
+        Some((0x1000_2000_0021, 0x1000_2000_0011, 0x1000_2000_0001))
+    );
+    Ok(())
+}
+
+// The headers of both domains as both seats see them, and as each seat keeps its own.
+const HEADERS: &str =
+    "5 5 6 13 13 6 6 13 Header { version: 2, frames: 1 } Header { version: 1, frames: 3 }";
+
+#[test]
+fn finds_each_domain_by_its_number(rt: HostRuntime) -> Result<(), Fail> {
+    let config = two_domains(rt.alloc())?;
+    let (words, mut owner, mut other) = start(rt.alloc(), &config)?;
+    let before = words.load_header(&mut other, OWNER);
+    let own_before = words.load_header(&mut other, OTHER);
+    words.set_version(&mut owner, 2);
+    words.setup(&mut other, 3);
+    let one = words.load_header(&mut owner, OWNER);
+    let two = words.load_header(&mut owner, OTHER);
+    let three = words.load_header(&mut owner, OTHER);
+    let four = words.load_header(&mut owner, OWNER);
+    let five = words.load_header(&mut other, OWNER);
+    let six = words.load_header(&mut other, OTHER);
+    let (mine, theirs) = (owner.header(), other.header());
+    let text = format!(in rt.alloc();
+        "{before} {own_before} {one} {two} {three} {four} {five} {six} {mine:?} {theirs:?}"
+    )?;
+    assert_eq!(rt; text.as_str(), HEADERS);
+    Ok(())
+}
+
+// Whether each turn was made, and the word that the other domain saw after it.
+const TURNED: &str = "Ok(true) 200020000005 Ok(true) 300020000001 Ok(false) Ok(())";
+
+#[test]
+fn turns_an_entry(rt: HostRuntime) -> Result<(), Fail> {
+    let config = two_domains(rt.alloc())?;
+    let (words, mut owner, mut other) = start(rt.alloc(), &config)?;
+    assert_eq!(rt; owner.dom(), OWNER);
+    let mut row = UNUSED;
+    let _ = publish(&words, &mut owner, ENTRY, &mut row, page(5));
+    let demoted = turn(&words, &mut owner, ENTRY, &mut row, true);
+    let read_only = look(&words, &mut other, OWNER, ENTRY).word;
+    let promoted = turn(&words, &mut owner, ENTRY, &mut row, false);
+    let writable = look(&words, &mut other, OWNER, ENTRY).word;
+    let again = turn(&words, &mut owner, ENTRY, &mut row, false);
+    let last = revoke(&words, &mut owner, ENTRY, &mut row);
+    let text = format!(in rt.alloc();
+        "{demoted:?} {read_only:x} {promoted:?} {writable:x} {again:?} {last:?}"
+    )?;
+    assert_eq!(rt; text.as_str(), TURNED);
+    Ok(())
+}
+
+// A thread that grants and revokes beside one that pins leaves the invalid word without pins.
+#[test]
+fn grants_beside_pins(rt: HostRuntime) -> Result<(), Fail> {
+    let config = two_domains(rt.alloc())?;
+    let (words, owner, other) = start(rt.alloc(), &config)?;
+    let (shared, row) = (&words, UNUSED);
+    let ((mut owner, mut row), ()) = join(
+        &rt,
+        || toggle(shared, owner, ENTRY, row, 1_000),
+        || churn(shared, other, OWNER, ENTRY, 1_000),
+    );
+    let last = revoke(&words, &mut owner, ENTRY, &mut row);
+    let word = words.load_control(&mut owner, OWNER, ENTRY);
+    let generation = Control::unpack(word).generation;
+    let idle = Control::of_entry(Entry::Invalid, generation, 0, 0).pack();
+    assert_eq!(rt; (last, word), (Ok(()), idle));
+    Ok(())
+}
