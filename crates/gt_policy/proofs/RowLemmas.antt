@@ -58,6 +58,15 @@ grown_row rule s old new one h t perm =
     ∙ ap (λ (b : Bool). reaches old t perm || (b && (lists_perm rule.perms perm && is_reached rule s t))) (one perm)
     ∙ ap (λ (b : Bool). reaches old t perm || (is_permission perm && b)) (and_assoc (lists_perm rule.perms perm) _ _)
 
+no_grant : (p l h r : Bool) → h ≡ false → false ≡ (p && ((l && h) && r))
+no_grant true true h r e = ap (λ (x : Bool). x && r) (sym e)
+no_grant true false h r e = refl
+no_grant false l h r e = refl
+
+-- a statement whose sources the type is not among adds nothing
+pub nothing_grown : (rule : Rule) (s t : ℕ) (perm : Perms) (b : Bool) → holds rule.source s ≡ false → b ≡ (b || (is_permission perm && grants rule s t perm))
+nothing_grown rule s t perm b e = or_none b ∙ ap (λ (x : Bool). b || x) (no_grant (is_permission perm) (lists_perm rule.perms perm) (holds rule.source s) _ e)
+
 -- a permission that has no lane
 pub no_lane : (ls : List Lane) (t : ℕ) (perm : Perms) → list_any (λ l. l.0.0 == perm.0) ls ≡ false → reaches ls t perm ≡ false
 no_lane [] t perm e = refl

@@ -67,6 +67,9 @@ impl Row {
         ensures { (t : ℕ) (perm : Perms) →
             reaches result t perm ≡ (reaches self t perm || (is_permission perm && grants rule.now source.0 t perm)) }
     {
+        if !rule.source.contains(source) {
+            return self;
+        }
         let targets = rule.targets(source);
         Row {
             map_read: grown(self.map_read, rule, Perms::MAP_READ, targets),
