@@ -113,10 +113,7 @@ fn bytes_that_are_no_text(rt: HostRuntime) -> Result<(), Fail> {
     let long = vec![in alloc; b' '; 1_048_577]?;
     let bad = vec![in alloc; 0xff; 1_048_577]?;
     for (text, wanted) in [
-        (
-            b"type a_t;\ntype b_t;\nty\xff".as_slice(),
-            "line 3: utf8",
-        ),
+        (b"type a_t;\ntype b_t;\nty\xff".as_slice(), "line 3: utf8"),
         // A text with a fault and a bad byte behind it is no text.
         (b"type a_t\n}\xc3(".as_slice(), "line 2: utf8"),
         // Too many bytes come before bad ones.

@@ -341,10 +341,22 @@ const READ: [(&str, &str); 26] = [
         "do 2 unmap h",
         "4 2 Do(Access(Unmap { label: Text { bytes: [104] } }))\n",
     ),
-    ("do 1 revoke 0", "4 1 Do(Table(Revoke { gref: GrantRef(0) }))\n"),
-    ("do 1 demote 7", "4 1 Do(Table(Demote { gref: GrantRef(7) }))\n"),
-    ("do 2 promote 8", "4 2 Do(Table(Promote { gref: GrantRef(8) }))\n"),
-    ("do 1 version 2", "4 1 Do(Table(SetVersion { version: 2 }))\n"),
+    (
+        "do 1 revoke 0",
+        "4 1 Do(Table(Revoke { gref: GrantRef(0) }))\n",
+    ),
+    (
+        "do 1 demote 7",
+        "4 1 Do(Table(Demote { gref: GrantRef(7) }))\n",
+    ),
+    (
+        "do 2 promote 8",
+        "4 2 Do(Table(Promote { gref: GrantRef(8) }))\n",
+    ),
+    (
+        "do 1 version 2",
+        "4 1 Do(Table(SetVersion { version: 2 }))\n",
+    ),
     ("do 1 setup 4", "4 1 Do(Table(SetupTable { frames: 4 }))\n"),
     (
         "do 1 size self",

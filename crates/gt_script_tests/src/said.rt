@@ -1,6 +1,6 @@
 //! What scripts are read as, in words.
 use gt_policy::Policy;
-use gt_script::{AccessCall, Action, Call, TableCall, Script, Step, Text, hex_bytes, parse};
+use gt_script::{AccessCall, Action, Call, Script, Step, TableCall, Text, hex_bytes, parse};
 use gt_types::{Allows, DomainConfig, Perms, Triple, TypeId};
 use std::alloc::{AllocError, Global};
 use std::test::Fail;
