@@ -18,11 +18,11 @@ DomainConfig { id: DomId(3), label: TypeId(2), frames: 8, table_frames: 1, versi
 first generation 0\n";
 
 const FIRST_STEPS: &str =
-    "6 1 Do(Grant { gref: GrantRef(0), entry: Page { dom: DomId(2), read_only: false, frame: 5 } })\n\
+    "6 1 Do(Table(Grant { gref: GrantRef(0), entry: Page { dom: DomId(2), read_only: false, frame: 5 } }))\n\
 7 2 Do(Map { label: Text { bytes: [104] }, dom: DomId(1), gref: GrantRef(0), flags: 2 })\n\
-8 2 Do(Load { label: Text { bytes: [104] }, off: 0, len: 2 })\n\
-9 2 Do(Unmap { label: Text { bytes: [104] } })\n\
-10 1 Do(Revoke { gref: GrantRef(0) })\n";
+8 2 Do(Access(Load { label: Text { bytes: [104] }, off: 0, len: 2 }))\n\
+9 2 Do(Access(Unmap { label: Text { bytes: [104] } }))\n\
+10 1 Do(Table(Revoke { gref: GrantRef(0) }))\n";
 
 #[test]
 fn reads_whole_scripts(rt: HostRuntime) -> Result<(), Fail> {
