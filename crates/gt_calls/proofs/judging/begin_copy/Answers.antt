@@ -21,7 +21,7 @@ pub returns : goal.returns
 returns g c =
     let k = knows g.P.Allows.may c.args.known.now in
     let denied = c.copy_denied.ensures ∙ ap (λ (d : DomId). copy_denied k d c.resolve-dest.result) c.resolve-source.ensures
-        ∙ ap (λ (d : DomId). copy_denied k (resolved c.args.caller c.args.copy.source.domid) d) c.resolve-dest.ensures in
+    ∙ ap (λ (d : DomId). copy_denied k (resolved c.args.caller c.args.copy.source.domid) d) c.resolve-dest.ensures in
     c.or-4.ensures ∙ ap (λ (o : Option Verdict). option_or o c.ends_framed.result) (c.or-3.ensures ∙ ap (λ (o : Option Verdict). option_or o c.copy_denied.result)
     (c.or-2.ensures ∙ ap (λ (o : Option Verdict). option_or o c.ends_owned.result) c.or.ensures))
     ∙ first-of-five c.ends_named.result c.ends_ranged.result c.ends_owned.result c.copy_denied.result c.ends_framed.result
