@@ -169,7 +169,7 @@ fn second_look_finds_all_pins(alloc: Global) -> Result<Row, Memory> {
     let mut script = Script::new(alloc);
     let idle = pin(OWNER, 0, Dir::Read, page(CALLER, false, 5));
     let full = Held {
-        word: idle.word + 16 * 4_095,
+        word: idle.word | 0xfff0,
         ..idle
     };
     script.header(OWNER)?;

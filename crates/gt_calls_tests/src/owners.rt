@@ -1,5 +1,5 @@
 use crate::script::{
-    CALLER, OWNER, Script, goes, known, page, pin, refused, refused_at, rights, three_domains,
+    CALLER, OWNER, Script, busy, goes, known, page, pin, refused, refused_at, rights, three_domains,
 };
 use gt_calls::{Change, Half, Handles, Held, Holder, Own, Request, Seen, Step, Verdict};
 use gt_types::{Dir, Facts, GrantRef, Perms, Rule};
@@ -33,10 +33,7 @@ fn map_pins_what_it_looked_at(rt: HostRuntime) -> Result<(), Fail> {
     taken.ends(Verdict::Mapped(mapping()))?;
     let mut missed = Script::new(alloc);
     missed.header(OWNER)?;
-    let found = Held {
-        word: mapping().word + 16,
-        ..mapping()
-    };
+    let found = busy(mapping());
     for _ in 0..4 {
         missed.try_pin(mapping(), Seen::Missed(found.word))?;
     }
@@ -72,18 +69,15 @@ fn owners_look_at_nothing(rt: HostRuntime) -> Result<(), Fail> {
     let bare = known(&config, &rights, &before, &none);
     assert!(rt; goes(&bare, OWNER, Request::Grant { gref: GREF, entry }, &grant));
     let after = [Own::new(0).after(Change::Publish(entry))];
-    let busy = Held {
-        word: mapping().word + 16,
-        ..mapping()
-    };
+    let found = busy(mapping());
     let mut revoke = Script::new(alloc);
     let clears = Step::Exchange {
         gref: GREF,
         looked: mapping().word,
         change: Change::Revoke,
     };
-    revoke.step(clears, Seen::Missed(busy.word))?;
-    revoke.ends(refused_at(Rule::N19, busy))?;
+    revoke.step(clears, Seen::Missed(found.word))?;
+    revoke.ends(refused_at(Rule::N19, found))?;
     let known = known(&config, &rights, &after, &none);
     assert!(rt; goes(&known, OWNER, Request::Revoke { gref: GREF }, &revoke));
     Ok(())

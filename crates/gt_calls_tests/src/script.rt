@@ -93,14 +93,14 @@ impl Script {
     pub fn long_leg(&mut self, missed: Held, held: Held) -> Result<(), Memory> {
         self.header(held.dom)?;
         for _ in 0..3 {
-            self.try_pin(missed, Seen::Missed(missed.word + 16))?;
+            self.try_pin(missed, Seen::Missed(busy(missed).word))?;
         }
         self.try_pin(held, Seen::Taken)
     }
 
     /// These pins are given back, the last one first.
     pub fn unpin(&mut self, held: &[Held]) -> Result<(), Memory> {
-        let mut number = held.len() as u8;
+        let mut number = u8::try_from(held.len()).unwrap_or(0);
         for pin in held {
             number = number.wrapping_sub(1);
             let step = Step::Unpin {
@@ -141,6 +141,14 @@ pub fn pin(dom: DomId, gref: u32, dir: Dir, entry: Entry) -> Held {
         dir,
         entry,
         word: word_of(entry),
+    }
+}
+
+/// The same pin of an entry that has one read pin more.
+pub fn busy(held: Held) -> Held {
+    Held {
+        word: held.word ^ 16,
+        ..held
     }
 }
 
