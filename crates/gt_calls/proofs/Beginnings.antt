@@ -14,7 +14,6 @@ use Rattle.gt_calls.specs.declared.copying.Aim.TheVariants.{Source, Dest}
 use Rattle.gt_calls.specs.declared.action.Verdict.{Verdict}
 use Rattle.gt_calls.specs.declared.action.Verdict.TheVariants.{Granted, Given}
 use Rattle.gt_calls.specs.declared.action.Value.TheVariants.{Frames}
-use Rattle.gt_calls.specs.declared.action.Action.{Action}
 use Rattle.gt_calls.specs.declared.action.Step.{Step}
 use Rattle.gt_calls.specs.declared.action.Step.TheVariants.{Unpin, StoreHeader, Read as ReadBytes, Write as WriteBytes}
 use Rattle.gt_calls.specs.declared.call.Phase.{Phase}
