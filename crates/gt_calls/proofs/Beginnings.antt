@@ -4,6 +4,10 @@ use Rattle.gt_types.specs.declared.DomId.{DomId}
 use Rattle.gt_types.specs.declared.Dir.TheVariants.{Read, Write}
 use Rattle.gt_types.specs.declared.limits.TheConstants.{MAX_TRIES}
 use Rattle.gt_entry.specs.Entries.{frame_of}
+use Rattle.gt_types.specs.declared.GrantRef.{GrantRef}
+use Rattle.gt_calls.specs.declared.request.Request.{Request}
+use Rattle.gt_calls.specs.declared.request.Request.TheVariants as requests
+use Rattle.gt_calls.specs.Asking.{bytes_of}
 use Rattle.gt_calls.specs.declared.request.Asked.{Asked}
 use Rattle.gt_calls.specs.declared.request.Asked.TheVariants.{Grant, Revoke, Demote, Promote, Map, Unmap, Load, SetVersion, SetupTable, QuerySize, GetVersion, Store, Peek, Poke, Copy}
 use Rattle.gt_calls.specs.declared.request.CopyArgs.{CopyArgs}
@@ -124,3 +128,25 @@ makes-step k caller r none =
     let steps : steps_of k caller r [] ≡ Some (action_at caller (first_phase k caller r)) =
     sym (ap (λ (t : Continuation). t []) b.same) ∙ wants-action k caller (first_phase k caller r) in
     subst MakesStep (sym (ap (λ (o : Option Verdict). after_beginning o (steps_of k caller r) []) none ∙ steps)) (moving-step caller (first_phase k caller r) b.moves)
+
+-- a request that grants by bytes is told from all others
+abbrev pub HasNoBytes : Request → Type 0
+HasNoBytes request = (gref : GrantRef) (bytes : _) → request ≡ requests.GrantBytes gref bytes → ⊥
+
+pub no-bytes : (request : Request) → HasNoBytes request → bytes_of request ≡ None
+no-bytes (requests.Grant gref entry) n = refl
+no-bytes (requests.GrantBytes gref bytes) n = absurd (n gref bytes refl)
+no-bytes (requests.Revoke gref) n = refl
+no-bytes (requests.Demote gref) n = refl
+no-bytes (requests.Promote gref) n = refl
+no-bytes (requests.Map dom gref flags) n = refl
+no-bytes (requests.Unmap handle) n = refl
+no-bytes (requests.Load handle off len) n = refl
+no-bytes (requests.Store handle off bytes) n = refl
+no-bytes (requests.Peek frame off len) n = refl
+no-bytes (requests.Poke frame off bytes) n = refl
+no-bytes (requests.Copy c) n = refl
+no-bytes (requests.SetVersion version) n = refl
+no-bytes (requests.SetupTable frames) n = refl
+no-bytes (requests.QuerySize dom) n = refl
+no-bytes (requests.GetVersion dom) n = refl
