@@ -3,7 +3,7 @@ use Rattle.std.specs.Prelude.{ℕ, Bool, true, false, ◌==◌, if◌then◌else
 use Rattle.gt_types.specs.declared.DomId.{DomId}
 use Rattle.gt_entry.specs.Words.{control_word, header_word}
 use Rattle.gt_calls.specs.declared.action.Step.{Step}
-use Rattle.gt_calls.specs.declared.action.Step.TheVariants.{LookHeader, LookControl, LookBody, Pin, Unpin, StoreBody, StoreHeader, Exchange, Read as ReadBytes, Write as WriteBytes}
+use Rattle.gt_calls.specs.declared.action.Step.TheVariants.{LookHeader, LookControl, LookBody, Pin, Unpin, StoreBody, StoreHeader, Exchange, Read as ReadBytes, Write as WriteBytes, Copy as CopyBytes}
 use Rattle.gt_calls.specs.declared.action.Seen.{Seen}
 use Rattle.gt_calls.specs.declared.action.Seen.TheVariants.{Nothing, Value, Taken}
 use Rattle.gt_calls.specs.declared.known.Own.{Own}
@@ -64,8 +64,8 @@ abbrev pub changes_nothing : Step → Seen → Bool
 changes_nothing (LookHeader dom) seen = true
 changes_nothing (LookControl dom gref) seen = true
 changes_nothing (LookBody dom gref second) seen = true
-changes_nothing (Pin dom gref looked dir) Taken = false
-changes_nothing (Pin dom gref looked dir) seen = true
+changes_nothing (Pin p) Taken = false
+changes_nothing (Pin p) seen = true
 changes_nothing (Exchange gref looked change) Taken = false
 changes_nothing (Exchange gref looked change) seen = true
 changes_nothing (ReadBytes dom frame off len) seen = true
@@ -76,10 +76,11 @@ abbrev pub sees : List State → DomId → Step → Seen
 sees xs d (LookHeader dom) = Value (header_seen xs dom.0)
 sees xs d (LookControl dom gref) = Value (control_seen xs dom.0 gref.0)
 sees xs d (LookBody dom gref second) = Value (body_seen xs dom.0 gref.0 second)
-sees xs d (Pin dom gref looked dir) = exchange_sees (control_seen xs dom.0 gref.0) looked
+sees xs d (Pin p) = exchange_sees (control_seen xs p.dom.0 p.gref.0) p.word
 sees xs d (Exchange gref looked change) = exchange_sees (control_seen xs d.0 gref.0) looked
-sees xs d (Unpin dom gref dir holder) = Nothing
+sees xs d (Unpin p holder) = Nothing
 sees xs d (StoreBody gref second word) = Nothing
 sees xs d (StoreHeader version frames) = Nothing
 sees xs d (ReadBytes dom frame off len) = Nothing
 sees xs d (WriteBytes dom frame off len) = Nothing
+sees xs d (CopyBytes from to len) = Nothing

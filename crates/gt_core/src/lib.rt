@@ -12,19 +12,15 @@
 //! stands on `gt_calls`, `gt_entry`, `gt_frames`, `gt_handles` and `gt_types`.
 #![tactic(auto)]
 
-#[cfg(test)]
-mod access_tests;
 mod core_state;
 mod effects;
 mod sight;
 mod slot;
 mod state;
-#[cfg(test)]
-mod table_tests;
-#[cfg(test)]
-mod tests;
 mod trace;
 
 pub use core_state::{Begun, Core, Shown, Ticked, play};
-pub use gt_calls::{Asked, Change, Handle, Holder, Request, Seen, Step};
+pub use gt_calls::{
+    Asked, Change, CopyArgs, End, Handle, Held, Holder, Place, Request, Seen, Step,
+};
 pub use trace::{Answer, Bytes, Element, Event, Happened, Item, Trace};

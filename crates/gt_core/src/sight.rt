@@ -93,12 +93,7 @@ pub fn see(domains: &[DomainState], actor: DomId, step: Step) -> Seen
         Step::LookBody { dom, gref, second } => {
             Seen::Value(look_body(domains, dom, gref, second))
         }
-        Step::Pin {
-            dom,
-            gref,
-            looked,
-            ..
-        } => exchange(look_control(domains, dom, gref), looked),
+        Step::Pin { held } => exchange(look_control(domains, held.dom, held.gref), held.word),
         Step::Exchange { gref, looked, .. } => {
             exchange(look_control(domains, actor, gref), looked)
         }
@@ -106,6 +101,7 @@ pub fn see(domains: &[DomainState], actor: DomId, step: Step) -> Seen
         | Step::StoreBody { .. }
         | Step::StoreHeader { .. }
         | Step::Read { .. }
-        | Step::Write { .. } => Seen::Nothing,
+        | Step::Write { .. }
+        | Step::Copy { .. } => Seen::Nothing,
     }
 }

@@ -37,7 +37,7 @@ pub enum SlotChange {
 }
 
 /// A call under way, and its next step.
-#[derive(Clone, Copy, Debug, PartialEq, Eq)]
+#[derive(Clone, Copy)]
 pub struct Open {
     pub call: Call,
     pub step: Step,
