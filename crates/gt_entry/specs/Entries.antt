@@ -1,5 +1,5 @@
 -- What an entry is.
-use Rattle.std.specs.Prelude.{◌^◌, ◌<◌, Bool, true, false}
+use Rattle.std.specs.Prelude.{◌^◌, ◌<◌, ℕ, Bool, true, false}
 use Rattle.gt_entry.specs.declared.entry.Entry.{Entry}
 use Rattle.gt_entry.specs.declared.entry.Entry.TheVariants.{Invalid, Page, Sub, Via}
 
@@ -23,6 +23,13 @@ with_ro ro Invalid = Invalid
 with_ro ro (Page dom old frame) = Page dom ro frame
 with_ro ro (Sub dom old frame off len) = Sub dom ro frame off len
 with_ro ro (Via dom old dom2 gref) = Via dom ro dom2 gref
+
+-- the frame of its owner that the entry is of, 0 where it is of none (grant_table.h)
+abbrev pub frame_of : Entry → ℕ
+frame_of Invalid = 0
+frame_of (Page dom ro frame) = frame
+frame_of (Sub dom ro frame off len) = frame
+frame_of (Via dom ro dom2 gref) = 0
 
 -- each number of the entry fits its type, as it does in every value of the program (own)
 abbrev pub IsEntry : Entry → Type 0

@@ -1,5 +1,5 @@
 -- Steps on a header word keep the rule, and take the shown state to the one that their event gives.
-use Rattle.std.proofs.Common.{◌≡◌, ◌≢◌, ◌⊎◌, inl, inr, ⊎_elim, ℕ, ◌<◌, Bool, true, false, cond, ◌==◌, List, [], ◌∷◌, map, get_or, set, sym, refl, ap, ◌∙◌, subst, arith, length-set, get_or-set_other, get_or-set_same, eq-eqb, ne_eqb}
+use Rattle.std.proofs.Common.{◌≡◌, ◌≢◌, ◌⊎◌, inl, inr, ⊎_elim, ℕ, ◌<◌, Bool, true, false, cond, ◌==◌, List, [], ◌∷◌, map, get_or, set, sym, refl, ap, ◌∙◌, subst, arith, length-set, get_or-set_other, get_or-set_same, eq-eqb, ne_eqb, Option, Some, None, IfSome}
 use mathlib.Core.Option.{some, none}
 use mathlib.Core.Logic.{dite}
 use native.Mathlib.Decide.{ℕ_discrete}
@@ -11,9 +11,9 @@ use Rattle.gt_words.proofs.Lists.{whose_at, whose_here}
 use Rattle.gt_words.proofs.Owed.{stored_owes}
 use Rattle.gt_words.specs.Conditions.{AddsToHeader, HeaderSteps, StoresHeader}
 use Rattle.gt_words.specs.Events.{Happens, HeaderByOwner, entry_by, event_on_header, header_after, shown_header}
-use Rattle.gt_words.specs.Rule.{IsHeader, Layout, Shows, ShowsEntry, header_now, header_place, place}
+use Rattle.gt_words.specs.Rule.{IsHeader, Layout, SawHeaders, Shows, ShowsEntry, header_now, header_place, headers_of, place}
 use Rattle.gt_words.specs.Steps.{looking_at_header, on_header, storing_header, tells, tells_stored}
-use Rattle.gt_words.specs.Views.{own, own_header, pins, steps_on, steps_on_header, stored_header, with_step}
+use Rattle.gt_words.specs.Views.{IsIn, own, own_header, pins, seen_header, steps_on, steps_on_header, stored_header, stored_headers, with_step}
 use Rattle.gt_words.specs.declared.view.EntryStep.{EntryStep}
 use Rattle.gt_words.specs.declared.view.HeaderStep.{HeaderStep}
 use Rattle.gt_words.specs.declared.view.View.{View}
@@ -32,6 +32,41 @@ header_now-set k t hs i h (header.Looked n) at own = let w : ℕ = get_or k.head
     (λ ne. ap (stored_header w) (get_or-set_other hs i t (m ∷ h) [] ne))
 header_now-set k t hs i h (header.Stored n) at own = let m : HeaderStep = header.Stored n in
     ap (stored_header (get_or k.headers t 0)) (subst (λ (z : ℕ). get_or (set hs i (m ∷ h)) z [] ≡ m ∷ h) own (whose_here hs i h (m ∷ h) at))
+
+stored_header-listed : (w : ℕ) (ms : List HeaderStep) → IsIn (stored_header w ms) (stored_headers w ms)
+stored_header-listed w [] = inl refl
+stored_header-listed w (header.Stored n ∷ ms) = inl refl
+stored_header-listed w (header.Looked n ∷ ms) = stored_header-listed w ms
+
+stored_headers-more : (w : ℕ) (m : HeaderStep) (ms : List HeaderStep) (n : ℕ) → IsIn n (stored_headers w ms) → IsIn n (stored_headers w (m ∷ ms))
+stored_headers-more w (header.Stored k) ms n h = inr h
+stored_headers-more w (header.Looked k) ms n h = h
+
+-- the list of the owner keeps its headers
+headers_of-set : (k : Layout) (t : ℕ) (hs : List (List HeaderStep)) (i : ℕ) (h : List HeaderStep) (m : HeaderStep) → get_elem? hs i ≡ some h → (n : ℕ) → IsIn n (headers_of k t hs) → IsIn n (headers_of k t (set hs i (m ∷ h)))
+headers_of-set k t hs i h m at n here = let w : ℕ = get_or k.headers t 0 in dite (ℕ_discrete i t)
+    (λ e. subst (λ (l : List HeaderStep). IsIn n (stored_headers w l)) (sym (subst (λ (z : ℕ). get_or (set hs i (m ∷ h)) z [] ≡ m ∷ h) e (whose_here hs i h (m ∷ h) at)))
+    (stored_headers-more w m h n (subst (λ (l : List HeaderStep). IsIn n (stored_headers w l)) (subst (λ (z : ℕ). get_or hs z [] ≡ h) e (whose_at hs i h at)) here)))
+    (λ ne. subst (λ (l : List HeaderStep). IsIn n (stored_headers w l)) (sym (get_or-set_other hs i t (m ∷ h) [] (λ e. ne (sym e)))) here)
+
+-- a look finds this header
+abbrev Finds : HeaderStep → ℕ → Type 0
+Finds (header.Looked n) w = n ≡ w
+Finds (header.Stored n) w = Unit {0}
+
+-- after a step of the seat i, whose steps on the header were h
+module _ (k : Layout) (t : ℕ) (hs : List (List HeaderStep)) (i : ℕ) (h : List HeaderStep) (at : get_elem? hs i ≡ some h) where
+  still_saw : (m : HeaderStep) (s : Option ℕ) → IfSome s (λ n. IsIn n (headers_of k t hs)) → IfSome s (λ n. IsIn n (headers_of k t (set hs i (m ∷ h))))
+  still_saw m None saw = tt
+  still_saw m (Some n) saw = headers_of-set k t hs i h m at n saw
+
+  saw_here : (m : HeaderStep) → Finds m (header_now k t hs) → IfSome (seen_header h) (λ n. IsIn n (headers_of k t hs)) → IfSome (seen_header (m ∷ h)) (λ n. IsIn n (headers_of k t (set hs i (m ∷ h))))
+  saw_here (header.Looked n) finds saw = headers_of-set k t hs i h (header.Looked n) at n (subst (λ (u : ℕ). IsIn u (headers_of k t hs)) (sym finds) (stored_header-listed (get_or k.headers t 0) (get_or hs t [])))
+  saw_here (header.Stored n) finds saw = still_saw (header.Stored n) (seen_header h) saw
+
+  saw_headers-set : (m : HeaderStep) → Finds m (header_now k t hs) → SawHeaders k t hs → SawHeaders k t (set hs i (m ∷ h))
+  saw_headers-set m finds saw j y e = ⊎_elim (λ (q : (j ≡ i) × ((m ∷ h) ≡ y)). subst (λ (z : List HeaderStep). IfSome (seen_header z) (λ n. IsIn n (headers_of k t (set hs i (m ∷ h))))) q.1 (saw_here m finds (saw i h at)))
+      (λ (q : (j ≢ i) × (get_elem? hs j ≡ some y)). still_saw m (seen_header y) (saw j y q.1)) (at_set hs i j (m ∷ h) y e)
 
 module _ {S : Type 0} (k : Layout) (s : State S View) (id : ℕ) (v : View) (t : ℕ) (m : HeaderStep) (at : get_elem? s.views id ≡ some v) where
   abbrev w : View
@@ -65,8 +100,8 @@ module _ {S : Type 0} (k : Layout) (s : State S View) (id : ℕ) (v : View) (t :
       other u n = ap (header_now k u) (map_header_else u n) ∙ chosen u false (t == u) (sym (ne_eqb t u n))
 
   module _ (shown : Shows k s) where
-    shows_header : (y : ℕ) → t < k.domains → HeaderByOwner id t m → y ≡ header_after m (shown_header k t s) → IsHeader y → Shows k (stepped s (header_place t) y id [] w keeps)
-    shows_header y tn own is ok = record {
+    shows_header : (y : ℕ) → t < k.domains → HeaderByOwner id t m → Finds m (shown_header k t s) → y ≡ header_after m (shown_header k t s) → IsHeader y → Shows k (stepped s (header_place t) y id [] w keeps)
+    shows_header y tn own finds is ok = record {
       wide = length-set s.words (header_place t) y ∙ shown.wide;
       dealt = (
         (λ u e. ⊎_elim (λ (q : (0 ≡ id) × (w ≡ u)). ap (λ (z : View). z.dealt) (sym q.1) ∙ (shown.dealt.0 v (subst (λ (z : ℕ). get_elem? s.views z ≡ some v) (sym q.0) at) ∙ sym (length-set s.views id w)))
@@ -85,15 +120,18 @@ module _ {S : Type 0} (k : Layout) (s : State S View) (id : ℕ) (v : View) (t :
           (p ∙ (is ∙ sym q), subst IsHeader (sym p) ok)))
           (λ n. let p : get_or (set s.words (header_place t) y) (header_place u) 0 ≡ get_or s.words (header_place u) 0 = get_or-set_other s.words (header_place t) (header_place u) y 0 (λ e. n (omega arith)) in
           let h = shown.headers u un in (p ∙ (h.0 ∙ ap (header_now k u) (sym (map_header_else u n))), subst IsHeader (sym p) h.1));
+      saw_headers = λ u un. dite (ℕ_discrete t u) (λ e. subst (λ (z : ℕ). SawHeaders k z (map (steps_on_header z) (set s.views id w))) e
+          (subst (SawHeaders k t) (sym map_header) (saw_headers-set k t (map (steps_on_header t) s.views) id (steps_on_header t v) (at_map (steps_on_header t) s.views id v at) m finds (shown.saw_headers t tn))))
+          (λ n. subst (SawHeaders k u) (sym (map_header_else u n)) (shown.saw_headers u un));
     }
 
 module _ {S : Type 0} (k : Layout) (slots id : ℕ) (me : Me S View) (t : ℕ) (tn : t < k.domains) where
   -- the step m is taken, where it leaves the header that its event gives
   header_owes : (m : ℕ → HeaderStep) (f : ℕ → ℕ) (a : ℕ) → ((s : State S View) → Shows k s → get_elem? s.views id ≡ some me.0 → HeaderByOwner id t (m (get_or s.words (header_place t) 0)))
-      → ((n : ℕ) → f n ≡ header_after (m n) n) → ((n : ℕ) → IsHeader n → IsHeader (f n))
+      → ((n : ℕ) → Finds (m n) n) → ((n : ℕ) → f n ≡ header_after (m n) n) → ((n : ℕ) → IsHeader n → IsHeader (f n))
       → Allows (Shows k) slots id me (header_place t) f (tells (record { layout = k; step = λ n. on_header t (m n); leaves = f }) (step slots (header_place t) a 0 none) me)
-  header_owes m f a own leaves ok s shown len at fits = let n : ℕ = get_or s.words (header_place t) 0 in let v : View = me.0 in let h = shown.headers t tn in
-      let by = own s shown at in let z = shows_header k s id v t (m n) at shown (f n) tn by (leaves n ∙ ap (header_after (m n)) h.0) (ok n h.1) in let p = (shown.seats id v at).0 in (
+  header_owes m f a own finds leaves ok s shown len at fits = let n : ℕ = get_or s.words (header_place t) 0 in let v : View = me.0 in let h = shown.headers t tn in
+      let by = own s shown at in let z = shows_header k s id v t (m n) at shown (f n) tn by (subst (Finds (m n)) h.0 (finds n)) (leaves n ∙ ap (header_after (m n)) h.0) (ok n h.1) in let p = (shown.seats id v at).0 in (
         with_step (on_header t (m n)) v,
         keeps,
         tt,
@@ -113,11 +151,11 @@ module _ {S : Type 0} (k : Layout) (slots id : ℕ) (me : Me S View) (t : ℕ) (
       )
 
   pub look_header_owes : Allows (Shows k) slots id me (header_place t) (λ n. n) (tells (looking_at_header k t) (step slots (header_place t) 0 0 none) me)
-  look_header_owes = header_owes (λ n. header.Looked n) (λ n. n) 0 (λ s shown at. tt) (λ n. refl) (λ n h. h)
+  look_header_owes = header_owes (λ n. header.Looked n) (λ n. n) 0 (λ s shown at. tt) (λ n. refl) (λ n. refl) (λ n h. h)
 
   pub store_header_owes : (y : ℕ) → me.0.position ≡ t → IsHeader y → Allows (Shows k) slots id me (header_place t) (λ _. y) (λ _. tells_stored (storing_header k t y) (step slots (header_place t) y 0 none) me)
   store_header_owes y own ok = stored_owes (storing_header k t y) (header_place t) (λ _. y) (step slots (header_place t) y 0 none)
-      (header_owes (λ n. header.Stored y) (λ n. y) y (λ s shown at. sym (shown.seats id me.0 at).0 ∙ own) (λ n. refl) (λ n h. ok))
+      (header_owes (λ n. header.Stored y) (λ n. y) y (λ s shown at. sym (shown.seats id me.0 at).0 ∙ own) (λ n. tt) (λ n. refl) (λ n h. ok))
 
 -- one more step on a header
 pub adds_to_header : (t : ℕ) (m : HeaderStep) (v w : View) → w ≡ with_step (on_header t m) v → AddsToHeader t m v w

@@ -7,7 +7,7 @@ use lib.ListN.{get_elem?}
 use lib.Seq.{map-set}
 use Rattle.atomic_table.specs.Table.{State, stepped, keeps}
 use Rattle.atomic_table.proofs.Lists.{at_set, set_again, at_map}
-use Rattle.gt_words.specs.Rule.{IsHeader, Layout, Shows, ShowsEntry, header_now, header_place, place}
+use Rattle.gt_words.specs.Rule.{IsHeader, Layout, SawHeaders, Shows, ShowsEntry, header_now, header_place, place}
 use Rattle.gt_words.specs.Steps.{on_entry}
 use Rattle.gt_words.specs.Views.{steps_on, steps_on_header, with_step}
 use Rattle.gt_words.specs.declared.view.EntryStep.{EntryStep}
@@ -69,6 +69,7 @@ module _ {S : Type 0} (k : Layout) (s : State S View) (id : ℕ) (v : View) (t r
         let p : get_or (set s.words (place t r j) y) (header_place t') 0 ≡ get_or s.words (header_place t') 0 = get_or-set_other s.words (place t r j) (header_place t') y 0 (λ e. omega arith) in
         let q : map (steps_on_header t') (set s.views id (added t r m v)) ≡ map (steps_on_header t') s.views = map-set (steps_on_header t') s.views id (added t r m v) ∙ set_again (map (steps_on_header t') s.views) id (steps_on_header t' v) (at_map (steps_on_header t') s.views id v at) in
         (p ∙ (h.0 ∙ ap (header_now k t') (sym q)), subst IsHeader (sym p) h.1);
+    saw_headers = λ t' tn'. subst (SawHeaders k t') (sym (map-set (steps_on_header t') s.views id w ∙ set_again (map (steps_on_header t') s.views) id (steps_on_header t' v) (at_map (steps_on_header t') s.views id v at))) (shown.saw_headers t' tn');
   }
     where
       other : (t' r' : ℕ) → t' < k.domains → r' < TABLE_ENTRIES → (t ≡ t' → r ≡ r' → ⊥) → let u : List ℕ = set s.words (place t r j) y in

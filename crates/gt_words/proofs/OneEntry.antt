@@ -12,7 +12,7 @@ use Rattle.gt_entry.specs.declared.entry.Entry.TheVariants.{Invalid, Page, Sub, 
 use Rattle.gt_types.specs.declared.Dir.{Dir}
 use Rattle.gt_types.specs.declared.Dir.TheVariants.{Read, Write}
 use Rattle.gt_words.proofs.Lists.{whose_at, whose_here}
-use Rattle.gt_words.proofs.Records.{changes_shown, legal_record, looks_at, pins_shown, saw_known, seen_is_last, sees_shown, stores_shown, unpins_shown}
+use Rattle.gt_words.proofs.Records.{body_counts, changes_shown, legal_record, looks_at, pins_shown, saw_known, seen_is_last, sees_shown, stores_shown, unpins_shown, word_counts}
 use Rattle.gt_words.specs.Controls.{IsValid, pins_in}
 use Rattle.gt_words.specs.Rule.{IsLawful, IsRecord, MayFollow, SawRecord, ShowsEntry, ShowsRecord, owner_steps, total_pins}
 use Rattle.gt_words.specs.Views.{HasBody, IsIn, LivePin, Seen, earlier_records, last_record, pin_count, pins, record_seen, seen, stored_body, weight}
@@ -65,16 +65,16 @@ module _ (g t : ℕ) (hs : List (List EntryStep)) (i : ℕ) (h : List EntryStep)
     }
 
     pub entry_looks : ShowsEntry g t word a b (set hs i (Looked word ∷ h))
-    entry_looks = plain word (Looked word) refl refl refl refl (sees_shown x xs a b hs i h (Looked word) word k.record_shown at refl (looks_at x xs (total_pins Read hs) (total_pins Write hs) word k.record_shown.in_range k.record_shown.spelled))
+    entry_looks = plain word (Looked word) refl refl refl refl (sees_shown x xs a b hs i h (Looked word) word k.record_shown at refl (looks_at x xs (total_pins Read hs) (total_pins Write hs) word k.record_shown.in_range k.record_shown.spelled) (word_counts x xs word a b hs k.record_shown))
 
     pub entry_misses_pin : (d : Dir) (expected : ℕ) → ShowsEntry g t word a b (set hs i (PinMissed d expected word ∷ h))
-    entry_misses_pin d expected = plain word (PinMissed d expected word) refl refl refl refl (sees_shown x xs a b hs i h (PinMissed d expected word) word k.record_shown at refl (looks_at x xs (total_pins Read hs) (total_pins Write hs) word k.record_shown.in_range k.record_shown.spelled))
+    entry_misses_pin d expected = plain word (PinMissed d expected word) refl refl refl refl (sees_shown x xs a b hs i h (PinMissed d expected word) word k.record_shown at refl (looks_at x xs (total_pins Read hs) (total_pins Write hs) word k.record_shown.in_range k.record_shown.spelled) (word_counts x xs word a b hs k.record_shown))
 
     pub entry_misses_change : (c : Change) (expected : ℕ) → ShowsEntry g t word a b (set hs i (ChangeMissed c expected word ∷ h))
-    entry_misses_change c expected = plain word (ChangeMissed c expected word) refl refl refl refl (sees_shown x xs a b hs i h (ChangeMissed c expected word) word k.record_shown at refl (looks_at x xs (total_pins Read hs) (total_pins Write hs) word k.record_shown.in_range k.record_shown.spelled))
+    entry_misses_change c expected = plain word (ChangeMissed c expected word) refl refl refl refl (sees_shown x xs a b hs i h (ChangeMissed c expected word) word k.record_shown at refl (looks_at x xs (total_pins Read hs) (total_pins Write hs) word k.record_shown.in_range k.record_shown.spelled) (word_counts x xs word a b hs k.record_shown))
 
     pub entry_saw : (p : Half) (v : ℕ) → (p ≡ First → v ≡ a) → (p ≡ Second → v ≡ b) → ShowsEntry g t word a b (set hs i (ReadBody p v ∷ h))
-    entry_saw p v e f = plain word (ReadBody p v) refl refl refl refl (sees_shown x xs a b hs i h (ReadBody p v) word k.record_shown at refl (saw_known x xs a b p v (seen h) k.record_shown.body e f (k.record_shown.saw i h at)))
+    entry_saw p v e f = plain word (ReadBody p v) refl refl refl refl (sees_shown x xs a b hs i h (ReadBody p v) word k.record_shown at refl (saw_known x xs a b p v (seen h) k.record_shown.body e f (k.record_shown.saw i h at)) (body_counts hs p v (seen h) (k.record_shown.counted i h at)))
 
     pub entry_pins : (d : Dir) (expected : ℕ) (s : Seen) → seen h ≡ Some s → s.word ≡ word → IsValid word → HasBody s → pins_in d word < 4095 → ShowsEntry g t (word + unit_of d) a b (set hs i (Pinned d expected (record_seen s) ∷ h))
     entry_pins d expected s e same some_kind body in_range =

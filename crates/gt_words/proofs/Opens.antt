@@ -1,5 +1,5 @@
 -- The rule at the start, and when a seat is dealt.
-use Rattle.std.proofs.Common.{◌≡◌, ◌≢◌, ◌⊎◌, inl, inr, ⊎_elim, ℕ, zero, suc, ◌+◌, ◌*◌, ◌/◌, ◌%◌, ◌<◌, ◌≤◌, Bool, false, cond, ◌==◌, List, [], ◌∷◌, ◌++◌, map, length, get_or, set, sym, refl, ap, ◌∙◌, subst, arith, length-append, eq-eqb, ne_eqb, All}
+use Rattle.std.proofs.Common.{◌≡◌, ◌≢◌, ◌⊎◌, inl, inr, ⊎_elim, ℕ, zero, suc, ◌+◌, ◌*◌, ◌/◌, ◌%◌, ◌<◌, ◌≤◌, Bool, false, cond, ◌==◌, List, [], ◌∷◌, ◌++◌, map, length, get_or, set, sym, refl, ap, ◌∙◌, subst, arith, length-append, eq-eqb, ne_eqb, All, IfSome, Option, Some, None}
 use mathlib.Core.Option.{some, some-injective, some-ne-none}
 use mathlib.Core.List.{map-append}
 use lib.ListN.{get_elem?}
@@ -14,8 +14,8 @@ use Rattle.gt_types.specs.declared.config.DomainConfig.{DomainConfig}
 use Rattle.gt_types.specs.declared.limits.TheConstants.{LAST_VERSION, MAX_TABLE_FRAMES, TABLE_ENTRIES}
 use Rattle.gt_words.specs.Conditions.{initial}
 use Rattle.gt_words.specs.Places.{dealer_after, dealt_to, new_view}
-use Rattle.gt_words.specs.Rule.{IsHeader, Layout, SawRecord, Shows, ShowsEntry, ShowsRecord, header_now, header_number, header_place, owner_steps, place, total_pins}
-use Rattle.gt_words.specs.Views.{IsIn, earlier_records, last_record, own, pin_count, pins, seen, steps_on, steps_on_header, stored_body, stored_header}
+use Rattle.gt_words.specs.Rule.{CountsTaken, IsHeader, Layout, SawHeaders, SawRecord, Shows, ShowsEntry, ShowsRecord, header_now, header_number, header_place, headers_of, owner_steps, place, total_pins, total_taken}
+use Rattle.gt_words.specs.Views.{IsIn, Seen, earlier_records, last_record, own, pin_count, pins, seen, seen_header, steps_on, steps_on_header, stored_body, stored_header, stored_headers, taken_count}
 use Rattle.gt_words.specs.declared.view.EntryStep.{EntryStep}
 use Rattle.gt_words.specs.declared.view.Half.TheVariants.{First, Second}
 use Rattle.gt_words.specs.declared.view.HeaderStep.{HeaderStep}
@@ -39,6 +39,7 @@ entry_opens g t small word a b w p q = subst (λ (ms : List EntryStep). ShowsRec
   unpinned = λ _. (refl, refl);
   pinned = λ i h at z y. absurd (subst (λ (ms : List EntryStep). IsIn z (pins ms)) (alone_at i h at) y);
   saw = λ i h at. subst (λ (ms : List EntryStep). SawRecord (last_record g []) [] (seen ms)) (sym (alone_at i h at)) tt;
+  counted = λ i h at. subst (λ (ms : List EntryStep). CountsTaken ([] ∷ []) (seen ms)) (sym (alone_at i h at)) tt;
 } p q
 
 initial_here : (k : Layout) (t r j : ℕ) → r < TABLE_ENTRIES → j < 3 → initial k (place t r j) ≡ cond (j == 0) (17592186044416 * k.first) 0
@@ -64,6 +65,7 @@ opens k ws wide some_domain small headers is = record {
   entries = λ t r tn rn. entry_opens k.first t small _ _ _ (is (place t r 0) (omega arith) ∙ initial_here k t r 0 rn (omega arith)) (is (place t r 1) (omega arith) ∙ initial_here k t r 1 rn (omega arith)) (is (place t r 2) (omega arith) ∙ initial_here k t r 2 rn (omega arith));
   headers = λ t tn. let e : get_or ws (header_place t) 0 ≡ get_or k.headers t 0 = is (header_place t) (omega arith) ∙ initial_header k t in
       (e ∙ ap (stored_header (get_or k.headers t 0)) (sym (nothing_at t)), subst IsHeader (sym e) (headers t tn));
+  saw_headers = λ t tn i h at. subst (λ (ms : List HeaderStep). IfSome (seen_header ms) (λ n. IsIn n (headers_of k t ([] ∷ [])))) (sym (alone_at i h at)) tt;
 }
   where
     one : (j : ℕ) (v : View) → get_elem? (new_view k.first k.headers k.ids 0 ∷ []) j ≡ some v → (v.position ≡ j) × (v.first ≡ k.first) × (v.headers ≡ k.headers)
@@ -78,9 +80,21 @@ nothing_more [] (suc t) = refl
 nothing_more (x ∷ xs) zero = refl
 nothing_more (x ∷ xs) (suc t) = nothing_more xs t
 
+heard_more : (k : Layout) (t : ℕ) (hs : List (List HeaderStep)) → SawHeaders k t hs → SawHeaders k t (hs ++ [] ∷ [])
+heard_more k t hs saw i h at = subst (λ (ms : List HeaderStep). IfSome (seen_header h) (λ n. IsIn n (stored_headers (get_or k.headers t 0) ms))) (sym (nothing_more hs t))
+    (⊎_elim (λ (e : get_elem? hs i ≡ some h). saw i h e) (λ (e : [] ≡ h). subst (λ (ms : List HeaderStep). IfSome (seen_header ms) (λ n. IsIn n (headers_of k t hs))) e tt) (at_snoc hs [] h i at))
+
 held_more : (d : Dir) (hs : List (List EntryStep)) → total_pins d (hs ++ [] ∷ []) ≡ total_pins d hs
 held_more d [] = refl
 held_more d (h ∷ hs) = ap (λ (n : ℕ). pin_count d (pins h) + n) (held_more d hs)
+
+taken_more : (d : Dir) (hs : List (List EntryStep)) → total_taken d (hs ++ [] ∷ []) ≡ total_taken d hs
+taken_more d [] = refl
+taken_more d (h ∷ hs) = ap (λ (n : ℕ). taken_count d h + n) (taken_more d hs)
+
+counted_more : (hs : List (List EntryStep)) (s : Option Seen) → CountsTaken hs s → CountsTaken (hs ++ [] ∷ []) s
+counted_more hs None k = tt
+counted_more hs (Some s) k = λ d. let l = k d in let e = taken_more d hs in omega arith
 
 entry_more : (g t word a b : ℕ) (hs : List (List EntryStep)) → ShowsEntry g t word a b hs → ShowsEntry g t word a b (hs ++ [] ∷ [])
 entry_more g t word a b hs k = let same = nothing_more hs t in
@@ -93,6 +107,7 @@ entry_more g t word a b hs k = let same = nothing_more hs t in
       unpinned = λ n. (held_more Read hs ∙ (k.record_shown.unpinned n).0, held_more Write hs ∙ (k.record_shown.unpinned n).1);
       pinned = λ i h at p y. ⊎_elim (λ (e : get_elem? hs i ≡ some h). k.record_shown.pinned i h e p y) (λ (e : [] ≡ h). absurd (subst (λ (ms : List EntryStep). IsIn p (pins ms)) (sym e) y)) (at_snoc hs [] h i at);
       saw = λ i h at. ⊎_elim (λ (e : get_elem? hs i ≡ some h). k.record_shown.saw i h e) (λ (e : [] ≡ h). subst (λ (ms : List EntryStep). SawRecord (last_record g (owner_steps t hs)) (earlier_records g (owner_steps t hs)) (seen ms)) e tt) (at_snoc hs [] h i at);
+      counted = λ i h at. counted_more hs (seen h) (⊎_elim (λ (e : get_elem? hs i ≡ some h). k.record_shown.counted i h e) (λ (e : [] ≡ h). subst (λ (ms : List EntryStep). CountsTaken hs (seen ms)) e tt) (at_snoc hs [] h i at));
     } k.first k.second
 
 new_index : {A : Type 0} (l : List A) (a b : A) (j : ℕ) → get_elem? (l ++ a ∷ []) j ≡ some b → (get_elem? l j ≡ some b) ⊎ ((a ≡ b) × (j ≡ length l))
@@ -125,6 +140,9 @@ deals k id v own room s shown at = let is = shown.seats id v at in let zero_is :
       headers = λ t tn. let hs : List (List HeaderStep) = map (steps_on_header t) s.views in let h = shown.headers t tn in
           let q : map (steps_on_header t) (vs ++ dealt_to v ∷ []) ≡ hs ++ [] ∷ [] = map-append (steps_on_header t) vs (dealt_to v ∷ []) ∙ ap (λ (l : List (List HeaderStep)). l ++ [] ∷ []) (map-set (steps_on_header t) s.views id u ∙ set_again hs id (steps_on_header t v) (at_map (steps_on_header t) s.views id v at)) in
           (h.0 ∙ sym (ap (header_now k t) q ∙ ap (stored_header (get_or k.headers t 0)) (nothing_more hs t)), h.1);
+      saw_headers = λ t tn. let hs : List (List HeaderStep) = map (steps_on_header t) s.views in
+          let q : map (steps_on_header t) (vs ++ dealt_to v ∷ []) ≡ hs ++ [] ∷ [] = map-append (steps_on_header t) vs (dealt_to v ∷ []) ∙ ap (λ (l : List (List HeaderStep)). l ++ [] ∷ []) (map-set (steps_on_header t) s.views id u ∙ set_again hs id (steps_on_header t v) (at_map (steps_on_header t) s.views id v at)) in
+          subst (SawHeaders k t) (sym q) (heard_more k t hs (shown.saw_headers t tn));
     }
 
 -- the first headers are headers

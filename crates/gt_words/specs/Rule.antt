@@ -13,7 +13,8 @@ use Rattle.gt_types.specs.declared.DomId.{DomId}
 use Rattle.gt_types.specs.declared.config.Config.{Config}
 use Rattle.gt_types.specs.declared.limits.TheConstants.{MAX_TABLE_FRAMES, TABLE_ENTRIES}
 use Rattle.gt_words.specs.declared.board.TheConstants.{DOMAIN_WORDS, ENTRY_WORDS}
-use Rattle.gt_words.specs.Views.{IsIn, LivePin, Seen, earlier_records, last_record, pin_count, pins, seen, steps_on, steps_on_header, stored_body, stored_header}
+use Rattle.gt_words.specs.Controls.{pins_in}
+use Rattle.gt_words.specs.Views.{IsIn, LivePin, Seen, earlier_records, last_record, pin_count, pins, seen, seen_header, steps_on, steps_on_header, stored_body, stored_header, stored_headers, taken_count}
 use Rattle.gt_words.specs.declared.view.EntryStep.{EntryStep}
 use Rattle.gt_words.specs.declared.view.Half.TheVariants.{First, Second}
 use Rattle.gt_words.specs.declared.view.HeaderStep.{HeaderStep}
@@ -85,6 +86,15 @@ abbrev pub total_pins : Dir → List (List EntryStep) → ℕ
 total_pins d [] = 0
 total_pins d (h ∷ hs) = pin_count d (pins h) + total_pins d hs
 
+-- the pins of a kind that were ever taken of an entry, added up seat by seat (own)
+abbrev pub total_taken : Dir → List (List EntryStep) → ℕ
+total_taken d [] = 0
+total_taken d (h ∷ hs) = taken_count d h + total_taken d hs
+
+-- the word seen, if any, counts no more pins of each kind than were ever taken (own)
+abbrev pub CountsTaken : List (List EntryStep) → Option Seen → Type 0
+CountsTaken hs s = IfSome s (λ s. (d : Dir) → pins_in d s.word ≤ total_taken d hs)
+
 -- the body values read are those of the entry (own)
 abbrev pub Agrees : Entry → Option ℕ → Option ℕ → Type 0
 Agrees Invalid a b = Unit {0}
@@ -119,6 +129,7 @@ pub record ShowsRecord (x : Record) (xs : List Record) (word a b : ℕ) (hs : Li
   -- each pin is of a record of the owner's list
   pub pinned : (i : ℕ) (h : List EntryStep) → get_elem? hs i ≡ some h → (p : LivePin) → IsIn p (pins h) → IsIn p.1 (x ∷ xs)
   pub saw : (i : ℕ) (h : List EntryStep) → get_elem? hs i ≡ some h → SawRecord x xs (seen h)
+  pub counted : (i : ℕ) (h : List EntryStep) → get_elem? hs i ≡ some h → CountsTaken hs (seen h)
 
 -- the owner's steps on the entry, out of those of each seat (own)
 abbrev pub owner_steps : ℕ → List (List EntryStep) → List EntryStep
@@ -138,6 +149,14 @@ IsHeader w = (version : ℕ) × (frames : ℕ) × ((version ≡ 1) ⊎ (version 
 abbrev pub header_now : Layout → ℕ → List (List HeaderStep) → ℕ
 header_now k t hs = stored_header (slice_index k.headers t) (slice_index_or hs t [])
 
+-- the owner's list of headers of the domain t, by the steps of each seat on it (own)
+abbrev pub headers_of : Layout → ℕ → List (List HeaderStep) → List ℕ
+headers_of k t hs = stored_headers (slice_index k.headers t) (slice_index_or hs t [])
+
+-- the header of the domain t that each seat saw last, if any, is one of the owner's list (own)
+abbrev pub SawHeaders : Layout → ℕ → List (List HeaderStep) → Type 0
+SawHeaders k t hs = (i : ℕ) (h : List HeaderStep) → get_elem? hs i ≡ some h → IfSome (seen_header h) (λ n. IsIn n (headers_of k t hs))
+
 module _ {S : Type 0} where
   -- words and views show a state of the core (own)
   pub record Shows (k : Layout) (s : State S View) : Type 0 where
@@ -149,3 +168,4 @@ module _ {S : Type 0} where
     pub entries : (t r : ℕ) → t < k.domains → r < TABLE_ENTRIES
         → ShowsEntry k.first t (slice_index s.words (place t r 0)) (slice_index s.words (place t r 1)) (slice_index s.words (place t r 2)) (map (steps_on t r) s.views)
     pub headers : (t : ℕ) → t < k.domains → (slice_index s.words (header_place t) ≡ header_now k t (map (steps_on_header t) s.views)) × IsHeader (slice_index s.words (header_place t))
+    pub saw_headers : (t : ℕ) → t < k.domains → SawHeaders k t (map (steps_on_header t) s.views)

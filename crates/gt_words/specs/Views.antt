@@ -80,6 +80,12 @@ abbrev pub pin_count : Dir → List LivePin → ℕ
 pin_count d [] = 0
 pin_count d (p ∷ ps) = weight d p.0 + pin_count d ps
 
+-- the number of pins of this kind that a seat ever took of an entry, given back or not (own)
+abbrev pub taken_count : Dir → List EntryStep → ℕ
+taken_count d [] = 0
+taken_count d (Pinned c _ x ∷ ms) = weight d c + taken_count d ms
+taken_count d (_ ∷ ms) = taken_count d ms
+
 -- an invalid entry at this generation, as each entry begins (own)
 abbrev pub invalid_at : ℕ → Record
 invalid_at g = record { generation = g; entry = entries.Invalid }
@@ -117,6 +123,12 @@ abbrev pub stored_header : ℕ → List HeaderStep → ℕ
 stored_header w [] = w
 stored_header w (header.Stored n ∷ ms) = n
 stored_header w (header.Looked n ∷ ms) = stored_header w ms
+
+-- the owner's list of headers, the last one first: those that it stored, and w, which it began with (own)
+abbrev pub stored_headers : ℕ → List HeaderStep → List ℕ
+stored_headers w [] = w ∷ []
+stored_headers w (header.Stored n ∷ ms) = n ∷ stored_headers w ms
+stored_headers w (header.Looked n ∷ ms) = stored_headers w ms
 
 -- the last header seen (own)
 abbrev pub seen_header : List HeaderStep → Option ℕ

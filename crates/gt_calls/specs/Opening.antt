@@ -1,0 +1,134 @@
+-- What is so of a call that no rule answers at its beginning.
+use Rattle.std.specs.Prelude.{◌≡◌, ◌≢◌, ◌⊎◌, ◌+◌, ◌<◌, ◌≤◌, ℕ, Bool, true, false, List, [], ◌∷◌, Some}
+use Rattle.gt_types.specs.declared.limits.TheConstants.{FRAME_SIZE, LAST_GENERATION, MAX_MAPPINGS, MAX_TABLE_FRAMES}
+use Rattle.gt_types.specs.declared.DomId.{DomId}
+use Rattle.gt_types.specs.declared.GrantRef.{GrantRef}
+use Rattle.gt_types.specs.declared.TypeId.{TypeId}
+use Rattle.gt_types.specs.declared.Dir.TheVariants.{Write}
+use Rattle.gt_types.specs.declared.perms.Perms.{Perms}
+use Rattle.gt_types.specs.declared.rights.Triple.{Triple}
+use Rattle.gt_types.specs.Names.{resolved}
+use Rattle.gt_entry.specs.declared.entry.Entry.{Entry}
+use Rattle.gt_entry.specs.declared.entry.Entry.TheVariants.{Invalid}
+use Rattle.gt_entry.specs.declared.change.Change.{Change}
+use Rattle.gt_entry.specs.declared.change.Change.TheVariants.{Demote as ToReadOnly, Promote as ToWritable}
+use Rattle.gt_handles.specs.declared.handles.Handle.{Handle}
+use Rattle.gt_calls.specs.declared.asked.Asked.{Asked}
+use Rattle.gt_calls.specs.declared.asked.Asked.TheVariants.{Grant, Revoke, Demote, Promote, Map, Unmap, Load, SetVersion, SetupTable, QuerySize, GetVersion, Store, Peek, Poke, Copy}
+use Rattle.gt_calls.specs.declared.judging.TheConstants.{END_OF_SERIALS}
+use Rattle.gt_calls.specs.declared.held.Held.{Held}
+use Rattle.gt_calls.specs.declared.request.CopyArgs.{CopyArgs}
+use Rattle.gt_calls.specs.declared.request.End.{End}
+use Rattle.gt_calls.specs.Rules.{CallerKnowledge, IsOfRun, is_already, cannot_stand, frames_of, is_invalid, size_of, map_dir, rights_to_map, rights_to_unmap, rights_to_copy, rights_to_setup, rights_to_query, is_source_granted, is_dest_granted}
+
+-- the policy allows each of these (XSM FLASK)
+abbrev pub IsAllowed : (TypeId → TypeId → Perms → Bool) → List Triple → Type 0
+IsAllowed may [] = Unit {0}
+IsAllowed may (t ∷ ts) = (may t.source t.target t.perm ≡ true) × IsAllowed may ts
+
+-- the caller's table has the reference (own)
+abbrev pub IsInTable : CallerKnowledge → GrantRef → Type 0
+IsInTable k gref = gref.0 < size_of k.header
+
+-- a grant: the reference holds no entry and is not worn, and the entry given is one that may stand in the table (own)
+pub record OpensGrant (k : CallerKnowledge) (gref : GrantRef) (entry : Entry) : Type 0 where
+  pub in_table : IsInTable k gref
+  pub free : is_invalid (k.entry gref.0) ≡ true
+  pub valid : is_invalid entry ≡ false
+  pub may_stand : cannot_stand entry k.header.version ≡ false
+  pub not_worn : k.generation gref.0 ≢ LAST_GENERATION
+
+-- a revocation: the reference holds an entry (own)
+pub record OpensRevoke (k : CallerKnowledge) (gref : GrantRef) : Type 0 where
+  pub in_table : IsInTable k gref
+  pub valid : is_invalid (k.entry gref.0) ≡ false
+
+-- a demotion or promotion: the reference holds an entry that is not so already and not worn (own)
+pub record OpensTurn (k : CallerKnowledge) (change : Change) (gref : GrantRef) : Type 0 where
+  pub in_table : IsInTable k gref
+  pub valid : is_invalid (k.entry gref.0) ≡ false
+  pub not_already : is_already change (k.entry gref.0) ≡ false
+  pub not_worn : k.generation gref.0 ≢ LAST_GENERATION
+
+-- a map: the domain is of the run, the flags are known, the policy allows it, and there is room (own)
+pub record OpensMap (k : CallerKnowledge) (caller dom : DomId) (flags : ℕ) : Type 0 where
+  pub of_run : IsOfRun k (resolved caller dom)
+  pub flags_known : (flags ≡ 2) ⊎ (flags ≡ 6)
+  pub allowed : IsAllowed k.may (rights_to_map k caller (resolved caller dom) (map_dir flags))
+  pub room : k.in_use < MAX_MAPPINGS
+  pub serials_left : k.maps_answered < END_OF_SERIALS
+
+-- an unmap: the handle has this mapping, which the policy allows to give up (own)
+pub record OpensUnmap (k : CallerKnowledge) (caller : DomId) (handle : Handle) : Type 0 where
+  pub mapping : Held
+  pub found : k.mapping handle ≡ Some mapping
+  pub allowed : IsAllowed k.may (rights_to_unmap k caller mapping.dom)
+
+-- a load: the range is inside a frame, and the handle has this mapping (own)
+pub record OpensLoad (k : CallerKnowledge) (handle : Handle) (off len : ℕ) : Type 0 where
+  pub mapping : Held
+  pub found : k.mapping handle ≡ Some mapping
+  pub range : off + len ≤ FRAME_SIZE
+
+-- a store: the same, and the mapping lets write (own)
+pub record OpensStore (k : CallerKnowledge) (handle : Handle) (off len : ℕ) : Type 0 where
+  pub mapping : Held
+  pub found : k.mapping handle ≡ Some mapping
+  pub writable : mapping.dir ≡ Write
+  pub range : off + len ≤ FRAME_SIZE
+
+-- a peek or poke: the range is inside a frame of the caller's own (own)
+pub record OpensOwn (k : CallerKnowledge) (caller : DomId) (frame off len : ℕ) : Type 0 where
+  pub range : off + len ≤ FRAME_SIZE
+  pub framed : frame < frames_of k.domains caller
+
+-- an end of a copy by a frame number is the caller's own, and a frame that it has (own)
+pub record IsOwnEnd (k : CallerKnowledge) (caller : DomId) (end : End) : Type 0 where
+  pub owned : (resolved caller end.domid).0 ≡ caller.0
+  pub framed : end.ptr < frames_of k.domains caller
+
+-- a copy: its domains are of the run, its flags are known, its ranges are inside frames, its frame numbers are the caller's, and the policy allows it for the domains named (own)
+pub record OpensCopy (k : CallerKnowledge) (caller : DomId) (c : CopyArgs) : Type 0 where
+  pub source_of_run : IsOfRun k (resolved caller c.source.domid)
+  pub dest_of_run : IsOfRun k (resolved caller c.dest.domid)
+  pub flags_known : c.flags ≤ 3
+  pub source_range : c.source.offset + c.len ≤ FRAME_SIZE
+  pub dest_range : c.dest.offset + c.len ≤ FRAME_SIZE
+  pub own_source : is_source_granted c ≡ false → IsOwnEnd k caller c.source
+  pub own_dest : is_dest_granted c ≡ false → IsOwnEnd k caller c.dest
+  pub allowed : IsAllowed k.may (rights_to_copy k (resolved caller c.source.domid) (resolved caller c.dest.domid))
+
+-- a new version: it is 1 or 2 and another than the table's, whose entries are all invalid (own)
+pub record OpensVersion (k : CallerKnowledge) (version : ℕ) : Type 0 where
+  pub version_known : (version ≡ 1) ⊎ (version ≡ 2)
+  pub another : version ≢ k.header.version
+  pub empty : (r : ℕ) → r < size_of k.header → is_invalid (k.entry r) ≡ true
+
+-- a larger table: the policy allows it, and it has more frames than now and not too many (own)
+pub record OpensSetup (k : CallerKnowledge) (caller : DomId) (frames : ℕ) : Type 0 where
+  pub allowed : IsAllowed k.may (rights_to_setup k caller)
+  pub larger : k.header.frames < frames
+  pub within : frames ≤ MAX_TABLE_FRAMES
+
+-- a question of a table: its domain is of the run, and the policy allows it (own)
+pub record OpensQuery (k : CallerKnowledge) (caller dom : DomId) : Type 0 where
+  pub of_run : IsOfRun k (resolved caller dom)
+  pub allowed : IsAllowed k.may (rights_to_query k caller (resolved caller dom))
+
+-- what is so of each call that no rule answers at its beginning (own)
+abbrev pub Opens : CallerKnowledge → DomId → Asked → Type 0
+Opens k caller (Grant gref entry) = OpensGrant k gref entry
+Opens k caller (Revoke gref) = OpensRevoke k gref
+Opens k caller (Demote gref) = OpensTurn k ToReadOnly gref
+Opens k caller (Promote gref) = OpensTurn k ToWritable gref
+Opens k caller (Map dom gref flags) = OpensMap k caller dom flags
+Opens k caller (Unmap handle) = OpensUnmap k caller handle
+Opens k caller (Load handle off len) = OpensLoad k handle off len
+Opens k caller (Store handle off len) = OpensStore k handle off len
+Opens k caller (Peek frame off len) = OpensOwn k caller frame off len
+Opens k caller (Poke frame off len) = OpensOwn k caller frame off len
+Opens k caller (Copy c) = OpensCopy k caller c
+Opens k caller (SetVersion version) = OpensVersion k version
+Opens k caller (SetupTable frames) = OpensSetup k caller frames
+Opens k caller (QuerySize dom) = OpensQuery k caller dom
+Opens k caller (GetVersion dom) = OpensQuery k caller dom

@@ -1,0 +1,21 @@
+-- What an owner's change makes of its entry.
+use Rattle.std.specs.Prelude.{ℕ, true, false}
+use Rattle.gt_entry.specs.declared.change.Change.{Change}
+use Rattle.gt_entry.specs.declared.change.Change.TheVariants.{Publish, Revoke, Demote, Promote}
+use Rattle.gt_entry.specs.declared.entry.Entry.{Entry}
+use Rattle.gt_entry.specs.declared.entry.Entry.TheVariants.{Invalid}
+use Rattle.gt_entry.specs.Entries.{with_ro}
+
+-- the entry after a change: the one published, nothing, or the same with another readonly bit (own)
+abbrev pub changed_entry : Change → Entry → Entry
+changed_entry (Publish entry) old = entry
+changed_entry Revoke old = Invalid
+changed_entry Demote old = with_ro true old
+changed_entry Promote old = with_ro false old
+
+-- how much a change raises the generation (own)
+abbrev pub raise_of : Change → ℕ
+raise_of (Publish entry) = 1
+raise_of Revoke = 0
+raise_of Demote = 1
+raise_of Promote = 1

@@ -1,0 +1,40 @@
+use crate::entry::Entry;
+
+/// One of the two body words of an entry.
+#[derive(Clone, Copy, Debug, PartialEq, Eq)]
+pub enum Half {
+    /// The frame, or the grant that the entry leads to.
+    First,
+    /// The bytes of a sub-page.
+    Second,
+}
+
+/// What an owner's exchange of a control word does to its entry.
+#[derive(Clone, Copy, Debug, PartialEq, Eq)]
+pub enum Change {
+    /// This entry stands there, at the next generation.
+    Publish(Entry),
+    /// Nothing is granted, and the generation stays.
+    Revoke,
+    /// The same entry refuses writing, at the next generation.
+    Demote,
+    /// The same entry allows writing, at the next generation.
+    Promote,
+}
+
+impl Change {
+    ghost use Rattle.std.specs.Prelude.{◌≡◌};
+    ghost use Rattle.gt_entry.specs.Changes.{changed_entry};
+
+    /// The entry that it leaves in place of this one.
+    pub fn applied(self, entry: Entry) -> Entry
+        ensures { result ≡ changed_entry self entry }
+    {
+        match self {
+            Change::Publish(new) => new,
+            Change::Revoke => Entry::Invalid,
+            Change::Demote => entry.with_ro(true),
+            Change::Promote => entry.with_ro(false),
+        }
+    }
+}
