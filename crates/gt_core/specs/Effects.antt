@@ -2,11 +2,12 @@
 use Rattle.std.specs.Prelude.{ℕ, true, false, List, [], Option, Some, None, if◌then◌else◌, nat_le, ◌+◌, ◌-◌, ◌%◌, length, min, take, drop, slice_get, is_some, ◌≡◌, slice_set}
 use Rattle.gt_frames.specs.Bytes.{overlay}
 use Rattle.gt_types.specs.declared.DomId.{DomId}
+use Rattle.gt_types.specs.declared.limits.TheConstants.{MAX_PINS}
 use Rattle.gt_types.specs.declared.Dir.TheVariants.{Read, Write}
 use Rattle.gt_handles.specs.declared.handles.Handle.{Handle}
 use Rattle.gt_calls.specs.declared.request.Holder.{Holder}
 use Rattle.gt_calls.specs.declared.request.Holder.TheVariants.{Mapping as ByMapping, Leg as ByLeg}
-use Rattle.gt_calls.specs.declared.action.Change.{Change}
+use Rattle.gt_entry.specs.declared.change.Change.{Change}
 use Rattle.gt_calls.specs.declared.action.Step.{Step}
 use Rattle.gt_calls.specs.declared.action.Step.TheVariants.{Pin, Unpin, StoreBody, StoreHeader, Exchange, Copy as CopyBytes}
 use Rattle.gt_calls.specs.declared.action.Seen.{Seen}
@@ -14,6 +15,7 @@ use Rattle.gt_calls.specs.declared.action.Seen.TheVariants.{Taken}
 use Rattle.gt_calls.specs.declared.held.Held.{Held}
 use Rattle.gt_core.specs.declared.slot.Slot.{Slot}
 use Rattle.gt_core.specs.declared.slot.SlotChange.{SlotChange}
+use Rattle.gt_entry.specs.declared.change.Half.TheVariants.{First as FirstHalf, Second as SecondHalf}
 use Rattle.gt_core.specs.declared.slot.SlotChange.TheVariants.{Pinned, Unpinned, Stored}
 use Rattle.gt_core.specs.declared.slot.Open.{Open}
 use Rattle.gt_core.specs.Rows.{changed_at}
@@ -23,12 +25,12 @@ use Rattle.gt_handles.specs.Handles.{Kept, value_of, count_of, Updates}
 
 -- one pin more or less of a kind, or another body word (own)
 abbrev pub slot_after : SlotChange → Slot → Slot
-slot_after (Pinned Read) slot = record slot { reads = min (slot.reads + 1) 4095 }
-slot_after (Pinned Write) slot = record slot { writes = min (slot.writes + 1) 4095 }
+slot_after (Pinned Read) slot = record slot { reads = min (slot.reads + 1) MAX_PINS }
+slot_after (Pinned Write) slot = record slot { writes = min (slot.writes + 1) MAX_PINS }
 slot_after (Unpinned Read) slot = record slot { reads = slot.reads - 1 }
 slot_after (Unpinned Write) slot = record slot { writes = slot.writes - 1 }
-slot_after (Stored true word) slot = record slot { second = word }
-slot_after (Stored false word) slot = record slot { first = word }
+slot_after (Stored SecondHalf word) slot = record slot { second = word }
+slot_after (Stored FirstHalf word) slot = record slot { first = word }
 
 -- the state after a change of the pins or a body word of entry r (own)
 abbrev pub with_slot : ℕ → SlotChange → State → State
@@ -106,7 +108,7 @@ copied_by xs step = []
 abbrev pub applied : DomId → Step → Seen → List ℕ → List State → List State
 applied d (Pin p) Taken bytes xs = changed_in p.dom.0 (with_slot p.gref.0 (Pinned p.dir)) xs
 applied d (Unpin p holder) seen bytes xs = changed_in d.0 (without_mapping holder) (changed_in p.dom.0 (with_slot p.gref.0 (Unpinned p.dir)) xs)
-applied d (StoreBody gref second word) seen bytes xs = changed_in d.0 (with_slot gref.0 (Stored second word)) xs
+applied d (StoreBody gref half word) seen bytes xs = changed_in d.0 (with_slot gref.0 (Stored half word)) xs
 applied d (StoreHeader version frames) seen bytes xs = changed_in d.0 (with_header version frames) xs
 applied d (Exchange gref looked change) Taken bytes xs = changed_in d.0 (with_own gref.0 change) xs
 applied d (CopyBytes from to len) seen bytes xs = changed_in to.owner.0 (with_bytes to.frame to.off bytes) xs

@@ -22,7 +22,8 @@ use Rattle.gt_calls.specs.declared.action.Verdict.{Verdict}
 use Rattle.gt_calls.specs.declared.action.Verdict.TheVariants.{Granted, Given, Mapped as KeptPin, Refused}
 use Rattle.gt_calls.specs.declared.action.Value.{Value}
 use Rattle.gt_calls.specs.declared.action.Value.TheVariants.{Frames, Size as SizeTold, Version as VersionTold}
-use Rattle.gt_calls.specs.declared.action.Change.TheVariants.{Publish}
+use Rattle.gt_entry.specs.declared.change.Change.TheVariants.{Publish}
+use Rattle.gt_entry.specs.declared.change.Half.TheVariants.{First as FirstHalf, Second as SecondHalf}
 use Rattle.gt_calls.specs.declared.action.Seen.{Seen}
 use Rattle.gt_entry.specs.declared.header.Header.{Header}
 use Rattle.gt_calls.specs.declared.action.Action.{Action}
@@ -50,8 +51,10 @@ use Rattle.gt_core.specs.declared.core_state.Ticked.{Ticked}
 use Rattle.gt_core.specs.declared.core_state.Ticked.TheVariants.{Step as TickedStep, Done as TickedDone, Idle as TickedIdle, NoDomain as TickedNoDomain}
 use Rattle.gt_core.specs.declared.core_state.Opening.{Opening}
 use Rattle.gt_core.specs.declared.core_state.Opening.TheVariants.{Open as OpeningOpen, Done as OpeningDone}
-use Rattle.gt_calls.specs.Rules.{CallerKnowledge, begun, entry_in, generation_in, first_look, before_pin, first_body, second_body, is_kind, frames_of}
-use Rattle.gt_calls.specs.Path.{path}
+use Rattle.gt_calls.specs.Rules.{CallerKnowledge, begun, entry_in, generation_in, first_look, first_body, is_kind, frames_of, control_with}
+use Rattle.gt_calls.specs.Path.{path, rule_of_try}
+use Rattle.gt_calls.specs.declared.leg.TheConstants.{MORE_TRIES}
+use Rattle.gt_entry.specs.Spelling.{entry_of}
 use Rattle.gt_calls.specs.Following.{GoesOn}
 use Rattle.gt_calls.specs.Machine.{first_phase, action_at}
 use Rattle.gt_calls.specs.Resting.{Rests}
@@ -59,7 +62,7 @@ use Rattle.gt_calls.specs.Standing.{IsAt, StandsAt, pins_by_call, held_in}
 use Rattle.gt_calls.specs.Counting.{most_steps as most_of, steps_left, steps_to_come}
 use Rattle.gt_types.specs.declared.denial.Rule.{Rule}
 use Rattle.gt_entry.specs.declared.entry.Entry.{Entry}
-use Rattle.gt_entry.specs.declared.entry.Entry.TheVariants.{Invalid, Sub}
+use Rattle.gt_entry.specs.declared.entry.Entry.TheVariants.{Invalid}
 use Rattle.gt_entry.specs.declared.control.Control.{Control}
 use Rattle.gt_entry.specs.declared.control.Kind.TheVariants.{Sub as KindSub}
 use Rattle.gt_entry.specs.Words.{IsInRange, control_of}
@@ -67,7 +70,7 @@ use Rattle.gt_entry.specs.Entries.{IsEntry}
 use Rattle.gt_entry.specs.Permits.{permits}
 use Rattle.gt_calls.specs.declared.asked.Asked.TheVariants.{Load, Store, Peek, Poke, Copy, SetVersion, SetupTable, QuerySize, GetVersion}
 use Rattle.gt_calls.specs.declared.held.Pins.{Pins}
-use Rattle.gt_calls.specs.Holding.{pins_of}
+use Rattle.gt_calls.specs.Holding.{last_first}
 use Rattle.gt_types.specs.Names.{resolved}
 use Rattle.gt_calls.specs.declared.call.Question.{Question}
 use Rattle.gt_calls.specs.declared.call.Question.TheVariants.{Size as AsksSize, Version as AsksVersion}
@@ -161,41 +164,36 @@ WantsMemoryNow s h d = (c : Underway) × (open_call h d.0 ≡ Some c) × IsCopyi
 
 -- what a call has seen
 
+-- while the leg's entry has the generation that was looked at and is valid, this holds of it (own)
+abbrev pub WhileSame : Setting → History → Leg → ℕ → (Entry → Type 0) → Type 0
+WhileSame s h l word Holds =
+    generation_at s h l.dom.0 l.gref.0 ≡ (control_of word).generation → entry_at h l.dom.0 l.gref.0 ≢ Invalid → Holds (entry_at h l.dom.0 l.gref.0)
+
+-- the entry is the one that this word shows (own)
+abbrev pub IsShown : Control → Entry → Type 0
+IsShown c entry = c ≡ control_with entry c.generation c.reads c.writes
+
 -- a control word of the leg's entry was looked at in this try, no rule on the entry stood, and the entry's generation was reached (own)
 pub record HasLooked (s : Setting) (h : History) (l : Leg) (so_far : StepsSoFar) (more word : ℕ) : Type 0 where
   pub within : l.gref.0 < TABLE_ENTRIES
-  pub turn : misses so_far + more ≡ 3
+  pub turn : misses so_far + more ≡ MORE_TRIES
   pub looked : looked_at so_far ≡ Some word
   pub passed : first_look l (control_of word) ≡ None
   pub reached : (control_of word).generation ≤ generation_at s h l.dom.0 l.gref.0
+  pub shown : WhileSame s h l word (IsShown (control_of word))
 
--- the entry is not Invalid (own)
-abbrev pub IsValid : Entry → Type 0
-IsValid entry = entry ≢ Invalid
-
--- the entry is a sub-page (own)
-abbrev pub IsSub : Entry → Type 0
-IsSub (Sub dom ro frame off len) = Unit {0}
-IsSub entry = ⊥
-
--- while the entry has the generation that was looked at, and is such an entry, this part of it is what was read (own)
-abbrev pub IsStill : Setting → History → Leg → ℕ → (Entry → Type 0) → (Entry → ℕ) → ℕ → Type 0
-IsStill s h l word IsSuch part body =
-    generation_at s h l.dom.0 l.gref.0 ≡ (control_of word).generation → IsSuch (entry_at h l.dom.0 l.gref.0) → part (entry_at h l.dom.0 l.gref.0) ≡ body
-
--- the body words of the try were read, and this rule stands on them (own)
+-- its body words were read too, and this rule stands on them (own)
 pub record HasRead (s : Setting) (h : History) (l : Leg) (so_far : StepsSoFar) (word body second : ℕ) (rule : Option Rule) : Type 0 where
   pub in_body : is_in_body so_far ≡ true
-  pub judged : before_pin l (control_of word) body second ≡ rule
-  pub first_stays : IsStill s h l word IsValid first_body body
-  pub second_stays : is_kind (control_of word).kind KindSub ≡ true → IsStill s h l word IsSub second_body second
+  pub judged : rule_of_try l word body second ≡ rule
+  pub spelled : WhileSame s h l word (λ entry. entry_of (control_of word) body second ≡ entry)
 
 -- where a leg stands, by the steps so far (own)
 abbrev pub LegStands : Setting → History → Leg → StepsSoFar → LegPhase → Type 0
 LegStands s h l so_far AtHeader = Unit {0}
-LegStands s h l so_far (Look more) = (l.gref.0 < TABLE_ENTRIES) × (misses so_far + more ≡ 3) × (is_in_body so_far ≡ false)
+LegStands s h l so_far (Look more) = (l.gref.0 < TABLE_ENTRIES) × (misses so_far + more ≡ MORE_TRIES) × (is_in_body so_far ≡ false)
 LegStands s h l so_far (Body more word) = HasLooked s h l so_far more word
-LegStands s h l so_far (Second more word body) = HasLooked s h l so_far more word × IsStill s h l word IsValid first_body body
+LegStands s h l so_far (Second more word body) = HasLooked s h l so_far more word × WhileSame s h l word (λ entry. first_body entry ≡ body) × (is_kind (control_of word).kind KindSub ≡ true)
 LegStands s h l so_far (Pinning more word body second) = HasLooked s h l so_far more word × HasRead s h l so_far word body second None
 LegStands s h l so_far (Relook more word rule) =
     HasLooked s h l so_far more word × ((body : ℕ) × (second : ℕ) × HasRead s h l so_far word body second (Some rule))
@@ -214,16 +212,16 @@ EndsAfter request step verdict = verdict ≡ Granted
 -- where a call stands, by the steps so far, the newest first (own)
 abbrev pub PhaseStands : Setting → History → DomId → Asked → StepsSoFar → Phase → Type 0
 PhaseStands s h d request so_far (Storing gref entry) = Unit {0}
-PhaseStands s h d request so_far (StoringSecond gref entry) = body_at h d.0 gref.0 false ≡ first_body entry
-PhaseStands s h d request so_far (Exchanging gref looked (Publish entry)) = IsSpelled entry (body_at h d.0 gref.0 false) (body_at h d.0 gref.0 true)
+PhaseStands s h d request so_far (StoringSecond gref entry) = body_at h d.0 gref.0 FirstHalf ≡ first_body entry
+PhaseStands s h d request so_far (Exchanging gref looked (Publish entry)) = IsSpelled entry (body_at h d.0 gref.0 FirstHalf) (body_at h d.0 gref.0 SecondHalf)
 PhaseStands s h d request so_far (Exchanging gref looked change) = Unit {0}
-PhaseStands s h d request so_far (Looking gref change more) = (misses so_far + more ≡ 3) × (is_in_body so_far ≡ false)
-PhaseStands s h d request so_far (Changing gref change more looked) = (misses so_far + more ≡ 3) × (looked_at so_far ≡ Some looked)
+PhaseStands s h d request so_far (Looking gref change more) = (misses so_far + more ≡ MORE_TRIES) × (is_in_body so_far ≡ false)
+PhaseStands s h d request so_far (Changing gref change more looked) = (misses so_far + more ≡ MORE_TRIES) × (looked_at so_far ≡ Some looked)
 PhaseStands s h d request so_far (Walking aim l at) = (domain_of s.domains l.dom ≢ None) × LegStands s h l so_far at
 PhaseStands s h d request so_far (Accessing copy source dest) = Unit {0}
 PhaseStands s h d request so_far (Asking dom question) = Asks d request dom question
 PhaseStands s h d request so_far (Last step verdict) = EndsAfter request step verdict
-PhaseStands s h d request so_far (Ending pins verdict) = (pins_of pins ≡ []) ⊎ ((copy : CopyArgs) × (request ≡ Copy copy))
+PhaseStands s h d request so_far (Ending pins verdict) = (last_first pins ≡ []) ⊎ ((copy : CopyArgs) × (request ≡ Copy copy))
 
 -- the refusal that a call ends with, where it has come to its end (own)
 abbrev pub phase_refusal : Phase → Option Denial
@@ -276,8 +274,8 @@ GivenAgrees h d given = (c : Underway) → open_call h d ≡ Some c → (given �
 pub record SlotAgrees (h : History) (t r : ℕ) (slot : Slot) : Type 0 where
   pub reads : slot.reads ≡ reads_at h t r
   pub writes : slot.writes ≡ writes_at h t r
-  pub first : slot.first ≡ body_at h t r false
-  pub second : slot.second ≡ body_at h t r true
+  pub first : slot.first ≡ body_at h t r FirstHalf
+  pub second : slot.second ≡ body_at h t r SecondHalf
 
 -- no two mappings are under one handle (own)
 abbrev pub AreApart : List (Handle × Held) → Type 0
@@ -339,4 +337,4 @@ pub record CoreStands (s : Setting) (h : History) (domains : List State) : Type 
   pub lawful : All (IsLawful s) (live h)
   pub free : (t r : ℕ) → entry_at h t r ≡ Invalid → (reads_at h t r ≡ 0) × (writes_at h t r ≡ 0)
   pub filled : (t f : ℕ) → length (contents_at h t f) ≡ FRAME_SIZE
-  pub spelled : (t r : ℕ) → entry_at h t r ≢ Invalid → IsSpelled (entry_at h t r) (body_at h t r false) (body_at h t r true)
+  pub spelled : (t r : ℕ) → entry_at h t r ≢ Invalid → IsSpelled (entry_at h t r) (body_at h t r FirstHalf) (body_at h t r SecondHalf)

@@ -62,8 +62,8 @@ pub fn apply(domains: &mut [DomainState], actor: DomId, step: Step, seen: Seen, 
             change_slot(domains, held.dom, held.gref, SlotChange::Unpinned(held.dir));
             forget(domains, actor, holder);
         }
-        (Step::StoreBody { gref, second, word }, _) => {
-            change_slot(domains, actor, gref, SlotChange::Stored(second, word));
+        (Step::StoreBody { gref, half, word }, _) => {
+            change_slot(domains, actor, gref, SlotChange::Stored(half, word));
         }
         (Step::StoreHeader { version, frames }, _) => {
             store_header(domains, actor, version, frames);
