@@ -1,1 +1,15 @@
 pub mod Places
+pub mod Rows
+pub mod Fitting
+pub mod Mappings
+pub mod Settling
+pub mod Quiet
+pub mod Seeing
+pub mod Others
+pub mod Still
+pub mod Tries
+pub mod Legs
+pub mod Aims
+pub mod Phases
+pub mod Judging
+pub mod Placing

@@ -65,7 +65,7 @@ body_seen (x ∷ xs) d r which = if x.id.0 == d then body_in x.slots r which els
 abbrev pub changes_nothing : Step → Seen → Bool
 changes_nothing (LookHeader dom) seen = true
 changes_nothing (LookControl dom gref) seen = true
-changes_nothing (LookBody dom gref second) seen = true
+changes_nothing (LookBody dom gref half) seen = true
 changes_nothing (Pin p) Taken = false
 changes_nothing (Pin p) seen = true
 changes_nothing (Exchange gref looked change) Taken = false
@@ -77,11 +77,11 @@ changes_nothing step seen = false
 abbrev pub sees : List State → DomId → Step → Seen
 sees xs d (LookHeader dom) = Word (header_seen xs dom.0)
 sees xs d (LookControl dom gref) = Word (control_seen xs dom.0 gref.0)
-sees xs d (LookBody dom gref second) = Word (body_seen xs dom.0 gref.0 second)
+sees xs d (LookBody dom gref half) = Word (body_seen xs dom.0 gref.0 half)
 sees xs d (Pin p) = exchange_sees (control_seen xs p.dom.0 p.gref.0) p.word
 sees xs d (Exchange gref looked change) = exchange_sees (control_seen xs d.0 gref.0) looked
 sees xs d (Unpin p holder) = Nothing
-sees xs d (StoreBody gref second word) = Nothing
+sees xs d (StoreBody gref half word) = Nothing
 sees xs d (StoreHeader version frames) = Nothing
 sees xs d (ReadBytes dom frame off len) = Nothing
 sees xs d (WriteBytes dom frame off len) = Nothing

@@ -15,14 +15,14 @@ use Rattle.gt_types.specs.declared.config.StartFault.{StartFault}
 use Rattle.gt_types.specs.declared.config.StartFault.TheVariants.{Config as ConfigFault, Memory as NoMemory}
 use Rattle.gt_types.specs.declared.config.Config.{Config}
 use Rattle.gt_calls.specs.declared.request.Request.{Request}
-use Rattle.gt_calls.specs.declared.asked.Asked.{Asked}
+use Rattle.gt_calls.specs.declared.request.Asked.{Asked}
 use Rattle.gt_calls.specs.Asking.{asked, begun_of, IsSaid}
 pub use Rattle.gt_calls.specs.Asking.{FitsAsked}
 use Rattle.gt_calls.specs.declared.action.Verdict.{Verdict}
 use Rattle.gt_calls.specs.declared.action.Verdict.TheVariants.{Granted, Given, Mapped as KeptPin, Refused}
 use Rattle.gt_calls.specs.declared.action.Value.{Value}
 use Rattle.gt_calls.specs.declared.action.Value.TheVariants.{Frames, Size as SizeTold, Version as VersionTold}
-use Rattle.gt_entry.specs.declared.change.Change.TheVariants.{Publish}
+use Rattle.gt_entry.specs.declared.change.Change.TheVariants.{Publish, Revoke as ToInvalid}
 use Rattle.gt_entry.specs.declared.change.Half.TheVariants.{First as FirstHalf, Second as SecondHalf}
 use Rattle.gt_calls.specs.declared.action.Seen.{Seen}
 use Rattle.gt_entry.specs.declared.header.Header.{Header}
@@ -68,7 +68,7 @@ use Rattle.gt_entry.specs.declared.control.Kind.TheVariants.{Sub as KindSub}
 use Rattle.gt_entry.specs.Words.{IsInRange, control_of}
 use Rattle.gt_entry.specs.Entries.{IsEntry}
 use Rattle.gt_entry.specs.Permits.{permits}
-use Rattle.gt_calls.specs.declared.asked.Asked.TheVariants.{Load, Store, Peek, Poke, Copy, SetVersion, SetupTable, QuerySize, GetVersion}
+use Rattle.gt_calls.specs.declared.request.Asked.TheVariants.{Load, Store, Peek, Poke, Copy, SetVersion, SetupTable, QuerySize, GetVersion}
 use Rattle.gt_calls.specs.declared.held.Pins.{Pins}
 use Rattle.gt_calls.specs.Holding.{last_first}
 use Rattle.gt_types.specs.Names.{resolved}
@@ -214,7 +214,8 @@ abbrev pub PhaseStands : Setting → History → DomId → Asked → StepsSoFar 
 PhaseStands s h d request so_far (Storing gref entry) = Unit {0}
 PhaseStands s h d request so_far (StoringSecond gref entry) = body_at h d.0 gref.0 FirstHalf ≡ first_body entry
 PhaseStands s h d request so_far (Exchanging gref looked (Publish entry)) = IsSpelled entry (body_at h d.0 gref.0 FirstHalf) (body_at h d.0 gref.0 SecondHalf)
-PhaseStands s h d request so_far (Exchanging gref looked change) = Unit {0}
+PhaseStands s h d request so_far (Exchanging gref looked ToInvalid) = Unit {0}
+PhaseStands s h d request so_far (Exchanging gref looked change) = ⊥
 PhaseStands s h d request so_far (Looking gref change more) = (misses so_far + more ≡ MORE_TRIES) × (is_in_body so_far ≡ false)
 PhaseStands s h d request so_far (Changing gref change more looked) = (misses so_far + more ≡ MORE_TRIES) × (looked_at so_far ≡ Some looked)
 PhaseStands s h d request so_far (Walking aim l at) = (domain_of s.domains l.dom ≢ None) × LegStands s h l so_far at

@@ -4,8 +4,8 @@ use Rattle.gt_types.specs.declared.config.DomainConfig.{DomainConfig}
 use Rattle.gt_entry.specs.declared.entry.Entry.TheVariants.{Invalid}
 use Rattle.gt_calls.specs.declared.known.TheConstants.{ENTRIES, FRAME_LEN}
 use Rattle.gt_types.specs.declared.limits.TheConstants.{LAST_GENERATION}
-use Rattle.gt_calls.specs.declared.asked.Asked.{Asked}
-use Rattle.gt_calls.specs.declared.asked.Asked.TheVariants.{Map, Load, Store, Peek, Poke}
+use Rattle.gt_calls.specs.declared.request.Asked.{Asked}
+use Rattle.gt_calls.specs.declared.request.Asked.TheVariants.{Map, Load, Store, Peek, Poke}
 use Rattle.gt_types.specs.declared.DomId.{DomId}
 use Rattle.gt_entry.specs.declared.header.Header.{Header}
 use Rattle.gt_calls.specs.declared.known.Own.{Own}

@@ -14,6 +14,7 @@
 
 mod core_state;
 mod effects;
+mod scratch;
 mod sight;
 mod slot;
 mod state;

@@ -1,0 +1,34 @@
+-- A control that has room in its word is what the word says.
+use Rattle.std.proofs.Common.{◌≡◌, ◌<◌, ◌≤◌, ◌+◌, ◌*◌, ◌/◌, ◌%◌, ℕ, Bool, true, false, cond, List, ap, ◌∙◌, arith}
+use Rattle.std.specs.Prelude.{◌==◌}
+use Rattle.gt_entry.specs.Laws.{control-round}
+use Rattle.gt_types.specs.declared.limits.TheConstants.{TABLE_ENTRIES}
+use Rattle.gt_entry.specs.Words.{control_word, control_of, header_word, header_of, size_of}
+use Rattle.gt_entry.specs.declared.control.Control.{Control}
+use Rattle.gt_entry.specs.declared.header.Header.{Header}
+use Rattle.gt_core.specs.States.{State}
+use Rattle.gt_core.specs.History.{History, Setting, word_at, control_at}
+use Rattle.gt_core.specs.Standing.{CoreStands, FitsTable, FitsWord}
+
+pub fits-word : (c : Control) → FitsWord c → control_of (control_word c) ≡ c
+fits-word c f = control-round c f.in_range f.domain
+
+pub word-shows : (s : Setting) (h : History) (xs : List State) (t r : ℕ) → CoreStands s h xs → r < TABLE_ENTRIES → control_of (word_at s h t r) ≡ control_at s h t r
+word-shows s h xs t r st within = fits-word (control_at s h t r) (st.words t r within)
+
+-- a header within the limits has room in its word, and its table has at most 2,048 entries
+pub table-fits : (x : Header) → FitsTable x → (size_of x ≤ TABLE_ENTRIES) × (header_of (header_word x) ≡ x)
+table-fits x f = (by (x.version == 2) few, ap (λ (n : ℕ). record { version = n; frames = (x.version + x.frames * 4) / 4 % 256 }) version ∙ ap (λ (n : ℕ). record { version = x.version; frames = n }) frames)
+  where
+    few : x.frames ≤ 4
+    few = f.frames
+
+    by : (b : Bool) → x.frames ≤ 4 → x.frames * cond b 256 512 ≤ 2048
+    by true le = omega arith
+    by false le = omega arith
+
+    version : (x.version + x.frames * 4) % 4 ≡ x.version
+    version = let a = f.version in omega arith
+
+    frames : (x.version + x.frames * 4) / 4 % 256 ≡ x.frames
+    frames = let a = f.version in let b = f.frames in omega arith

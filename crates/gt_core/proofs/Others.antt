@@ -1,0 +1,128 @@
+-- What an item leaves of the other domains.
+use Rattle.std.proofs.Common.{◌≡◌, ◌+◌, ℕ, refl, Bool, true, false, List, [], ◌∷◌, ◌++◌, length, Option, Some, None, cond, sym, ap, ◌∙◌, arith}
+use Rattle.gt_handles.specs.declared.handles.Handle.{Handle}
+use Rattle.std.specs.Prelude.{◌==◌, ◌&&◌, slice_get}
+use Rattle.gt_types.specs.declared.DomId.{DomId}
+use Rattle.gt_entry.specs.declared.entry.Entry.{Entry}
+use Rattle.gt_entry.specs.declared.header.Header.{Header}
+use Rattle.gt_calls.specs.declared.request.Holder.{Holder}
+use Rattle.gt_calls.specs.declared.request.Holder.TheVariants.{Mapping as ByMapping, Leg as ByLeg}
+use Rattle.gt_entry.specs.declared.change.Change.{Change}
+use Rattle.gt_entry.specs.declared.change.Half.{Half}
+use Rattle.gt_calls.specs.declared.action.Step.TheVariants.{Pin as PinStep, Unpin}
+use Rattle.gt_calls.specs.declared.action.Seen.TheVariants.{Taken}
+use Rattle.gt_calls.specs.declared.held.Held.{Held}
+use Rattle.gt_core.specs.declared.slot.Slot.{Slot}
+use Rattle.gt_core.specs.declared.trace.Item.{Item}
+use Rattle.gt_core.specs.declared.trace.Happened.TheVariants.{Stepped}
+use Rattle.gt_core.specs.declared.trace.Answer.{Answer}
+use Rattle.gt_core.specs.States.{State}
+use Rattle.gt_core.specs.History.{History, Setting, Pin, live, entry_at, raises_at, generation_at, body_at, header_stored, header_or, table_at, mappings_at, legs_at, gather, by_mapping, by_leg, maps_answered_at, known_at, without, is_holder, mapping_of}
+use mathlib.Core.Path.{fun_ext}
+use Rattle.std.proofs.lemmas.Bool.{eqb-true, false≢true}
+use Rattle.std.proofs.lemmas.List.{append-nil, append_assoc}
+use Rattle.gt_core.specs.declared.trace.Happened.{Happened}
+use Rattle.gt_core.specs.History.{change_at, entry_after, raise_after, or_else, stored_at, pinned_by, unpinned_by, one_if_mapped}
+
+none-of : {A : Type 0} (b : Bool) (o : Option A) → b ≡ false → ◌≡◌ {A = Option A} (cond b o None) None
+none-of true o e = absurd (false≢true (sym e))
+none-of false o e = refl
+
+zero-of : (b : Bool) (n m : ℕ) → b ≡ false → cond b n 0 + m ≡ m
+zero-of true n m e = absurd (false≢true (sym e))
+zero-of false n m e = omega arith
+
+pub other-entry : (i : Item) (h : History) (t r : ℕ) → (i.actor.0 == t) ≡ false → entry_at (i ∷ h) t r ≡ entry_at h t r
+unfolding entry_at
+other-entry i h t r apart = ap (λ (c : Option Change). entry_after c (entry_at h t r)) (none-of (i.actor.0 == t) (change_at i.happened r) apart)
+
+pub other-raises : (i : Item) (h : History) (t r : ℕ) → (i.actor.0 == t) ≡ false → raises_at (i ∷ h) t r ≡ raises_at h t r
+unfolding raises_at
+other-raises i h t r apart = ap (λ (c : Option Change). raises_at h t r + raise_after c) (none-of (i.actor.0 == t) (change_at i.happened r) apart) ∙ omega arith
+
+pub other-body : (i : Item) (h : History) (t r : ℕ) (which : Half) → (i.actor.0 == t) ≡ false → body_at (i ∷ h) t r which ≡ body_at h t r which
+unfolding body_at
+other-body i h t r which apart = ap (λ (o : Option ℕ). or_else o (body_at h t r which)) (none-of (i.actor.0 == t) (stored_at i.happened r which) apart)
+
+pub other-maps : (i : Item) (h : History) (d : ℕ) → (i.actor.0 == d) ≡ false → maps_answered_at (i ∷ h) d ≡ maps_answered_at h d
+unfolding maps_answered_at
+other-maps i h d apart = zero-of (i.actor.0 == d) (one_if_mapped i.answer) (maps_answered_at h d) apart
+
+pub gather-append : {A : Type 0} (give : Holder → Held → List A) (d : ℕ) (ps qs : List Pin) → gather give d (ps ++ qs) ≡ gather give d ps ++ gather give d qs
+unfolding gather
+gather-append give d [] qs = refl
+gather-append give d (p ∷ ps) qs =
+    ap (λ l. cond (p.actor == d) (give p.holder p.held) [] ++ l) (gather-append give d ps qs)
+    ∙ sym (append_assoc (cond (p.actor == d) (give p.holder p.held) []) (gather give d ps) (gather give d qs))
+
+-- another domain's pin gives nothing
+nothing-apart : {A : Type 0} (b : Bool) (l : List A) → b ≡ false → ◌≡◌ {A = List A} (cond b l []) []
+nothing-apart true l e = absurd (false≢true (sym e))
+nothing-apart false l e = refl
+
+one-apart : {A : Type 0} (give : Holder → Held → List A) (d : ℕ) (p : Pin) → (p.actor == d) ≡ false → gather give d (p ∷ []) ≡ []
+unfolding gather
+one-apart give d p apart = ap (λ l. l ++ []) (nothing-apart (p.actor == d) (give p.holder p.held) apart)
+
+no-pins : {A : Type 0} (give : Holder → Held → List A) (d : ℕ) → gather give d [] ≡ []
+unfolding gather
+no-pins give d = refl
+
+pinned-apart : {A : Type 0} (give : Holder → Held → List A) (d : ℕ) (actor : DomId) (happened : Happened) (answer : Option Answer) (before : History) (pins : List Pin) → (actor.0 == d) ≡ false
+    → gather give d (pinned_by actor happened answer before pins) ≡ []
+pinned-apart give d actor (Stepped (PinStep p) Taken) answer before pins apart = one-apart give d _ apart
+pinned-apart give d actor happened answer before pins apart = no-pins give d
+
+-- a pin that another domain gives back
+pub without-apart : {A : Type 0} (give : Holder → Held → List A) (d actor : ℕ) (holder : Holder) (ps : List Pin) → (actor == d) ≡ false → gather give d (without actor holder ps) ≡ gather give d ps
+unfolding gather without
+without-apart give d actor holder [] apart = refl
+without-apart give d actor holder (p ∷ ps) apart = by (p.actor == actor) (is_holder p.holder holder) refl (without-apart give d actor holder ps apart)
+  where
+    by : (b e : Bool) → (p.actor == actor) ≡ b → gather give d (without actor holder ps) ≡ gather give d ps
+        → gather give d (cond (b && e) ps (p ∷ without actor holder ps)) ≡ gather give d (p ∷ ps)
+    by true true own rest =
+        sym (ap (λ l. l ++ gather give d ps) (nothing-apart (p.actor == d) (give p.holder p.held) (ap (λ (n : ℕ). n == d) (eqb-true p.actor actor own) ∙ apart)))
+    by true false own rest = ap (λ l. cond (p.actor == d) (give p.holder p.held) [] ++ l) rest
+    by false e own rest = ap (λ l. cond (p.actor == d) (give p.holder p.held) [] ++ l) rest
+
+unpinned-apart : {A : Type 0} (give : Holder → Held → List A) (d : ℕ) (actor : DomId) (happened : Happened) (ps : List Pin) → (actor.0 == d) ≡ false → gather give d (unpinned_by actor happened ps) ≡ gather give d ps
+unpinned-apart give d actor (Stepped (Unpin p holder) seen) ps apart = without-apart give d actor.0 holder ps apart
+unpinned-apart give d actor happened ps apart = refl
+
+-- no domain but the actor holds other pins than before
+pub other-pins : {A : Type 0} (give : Holder → Held → List A) (i : Item) (h : History) (d : ℕ) → (i.actor.0 == d) ≡ false → gather give d (live (i ∷ h)) ≡ gather give d (live h)
+unfolding live
+other-pins give i h d apart =
+    gather-append give d (unpinned_by i.actor i.happened (live h)) (pinned_by i.actor i.happened i.answer h (live h))
+    ∙ ap (λ l. gather give d (unpinned_by i.actor i.happened (live h)) ++ l) (pinned-apart give d i.actor i.happened i.answer h (live h) apart)
+    ∙ append-nil (gather give d (unpinned_by i.actor i.happened (live h)))
+    ∙ unpinned-apart give d i.actor i.happened (live h) apart
+
+pub other-mappings : (i : Item) (h : History) (d : ℕ) → (i.actor.0 == d) ≡ false → mappings_at (i ∷ h) d ≡ mappings_at h d
+other-mappings i h d apart = other-pins by_mapping i h d apart
+
+pub other-legs : (i : Item) (h : History) (d : ℕ) → (i.actor.0 == d) ≡ false → legs_at (i ∷ h) d ≡ legs_at h d
+other-legs i h d apart = other-pins by_leg i h d apart
+
+other-generations : (s : Setting) (i : Item) (h : History) (d : ℕ) → (i.actor.0 == d) ≡ false
+    → ◌≡◌ {A = ℕ → ℕ} (λ r. generation_at s (i ∷ h) d r) (λ r. generation_at s h d r)
+other-generations s i h d apart = fun_ext (λ r. ap (λ (n : ℕ). s.first_generation + n) (other-raises i h d r apart))
+
+pub other-table : (s : Setting) (i : Item) (h : History) (d : DomId) → (i.actor.0 == d.0) ≡ false → table_at s (i ∷ h) d ≡ table_at s h d
+unfolding table_at
+other-table s i h d apart = ap (λ (o : Option Header). header_or o (table_at s h d)) (none-of (i.actor.0 == d.0) (header_stored i.happened) apart)
+
+-- no domain but the actor knows another thing by itself
+pub other-known : (s : Setting) (i : Item) (h : History) (d : DomId) → (i.actor.0 == d.0) ≡ false → known_at s (i ∷ h) d ≡ known_at s h d
+other-known s i h d apart =
+    ap (λ (f : ℕ → Entry). record { domains = s.domains; may = s.may; entry = f; generation = λ r. generation_at s (i ∷ h) d.0 r; header = table_at s (i ∷ h) d; mapping = mapping_of (mappings_at (i ∷ h) d.0); in_use = length (mappings_at (i ∷ h) d.0); maps_answered = maps_answered_at (i ∷ h) d.0 })
+    (fun_ext (λ r. other-entry i h d.0 r apart))
+    ∙ ap (λ (f : ℕ → ℕ). record { domains = s.domains; may = s.may; entry = λ r. entry_at h d.0 r; generation = f; header = table_at s (i ∷ h) d; mapping = mapping_of (mappings_at (i ∷ h) d.0); in_use = length (mappings_at (i ∷ h) d.0); maps_answered = maps_answered_at (i ∷ h) d.0 })
+    (other-generations s i h d.0 apart)
+    ∙ ap (λ (x : Header). record { domains = s.domains; may = s.may; entry = λ r. entry_at h d.0 r; generation = λ r. generation_at s h d.0 r; header = x; mapping = mapping_of (mappings_at (i ∷ h) d.0); in_use = length (mappings_at (i ∷ h) d.0); maps_answered = maps_answered_at (i ∷ h) d.0 })
+    (other-table s i h d apart)
+    ∙ ap (λ (l : List (Handle × Held)). record { domains = s.domains; may = s.may; entry = λ r. entry_at h d.0 r; generation = λ r. generation_at s h d.0 r; header = table_at s h d; mapping = mapping_of (l); in_use = length (l); maps_answered = maps_answered_at (i ∷ h) d.0 })
+    (other-mappings i h d.0 apart)
+    ∙ ap (λ (n : ℕ). record { domains = s.domains; may = s.may; entry = λ r. entry_at h d.0 r; generation = λ r. generation_at s h d.0 r; header = table_at s h d; mapping = mapping_of (mappings_at h d.0); in_use = length (mappings_at h d.0); maps_answered = n })
+    (other-maps i h d.0 apart)

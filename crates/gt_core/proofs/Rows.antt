@@ -1,0 +1,150 @@
+-- A change of one element of a list, and of the first state with a number.
+use Rattle.std.proofs.Common.{◌≡◌, ◌<◌, ◌≤◌, ◌+◌, ℕ, zero, suc, refl, Bool, true, false, List, [], ◌∷◌, length, map, Option, Some, None, cond, ltb, sym, ap, ◌∙◌, arith, get_or, set, take, drop, ◌++◌}
+use Rattle.std.proofs.lemmas.Bool.{eqb-true, ne_eqb, eq-eqb, false≢true, true≢false, ltb-false}
+use Rattle.std.proofs.lemmas.List.Quantifiers.{position-Some}
+use Rattle.std.proofs.lemmas.List.{nil_from_length, append-nil, take_all, drop_all}
+use Rattle.std.proofs.Math.Seq.{take-nil}
+use Rattle.std.specs.Prelude.{position, slice_get, ◌==◌, not}
+use Rattle.std.specs.List.{position_or_len}
+use Rattle.std.specs.Option.{option_map}
+use Rattle.gt_core.specs.Rows.{changed_at}
+use Rattle.gt_core.specs.States.{State, state_of, changed_in}
+use Rattle.gt_core.proofs.Places.{has_id}
+
+-- a write of the changed element
+pub set-changed : {A : Type 0} (xs : List A) (r : ℕ) (f : A → A) (y x : A) → r < length xs → x ≡ get_or xs r x → y ≡ f x → set xs r y ≡ changed_at r f xs
+set-changed [] r f y x within e s = absurd (omega arith)
+set-changed (z ∷ zs) zero f y x within e s = ap (λ v. v ∷ zs) (s ∙ ap f e)
+set-changed (z ∷ zs) (suc r) f y x within e s = ap (λ l. z ∷ l) (set-changed zs r f y x (omega arith) e s)
+
+-- past the end nothing changes
+pub changed-past : {A : Type 0} (xs : List A) (r : ℕ) (f : A → A) → length xs ≤ r → changed_at r f xs ≡ xs
+changed-past [] r f past = refl
+changed-past (z ∷ zs) zero f past = absurd (omega arith)
+changed-past (z ∷ zs) (suc r) f past = ap (λ l. z ∷ l) (changed-past zs r f (omega arith))
+
+-- a write of the changed element, in a list of what the elements show
+pub map-changed : {A B : Type 0} (g : A → B) (xs : List A) (r : ℕ) (f : B → B) (y x : A) → r < length xs → x ≡ get_or xs r x → g y ≡ f (g x) → map g (set xs r y) ≡ changed_at r f (map g xs)
+map-changed g [] r f y x within e s = absurd (omega arith)
+map-changed g (z ∷ zs) zero f y x within e s = ap (λ v. v ∷ map g zs) (s ∙ ap (λ v. f (g v)) e)
+map-changed g (z ∷ zs) (suc r) f y x within e s = ap (λ l. g z ∷ l) (map-changed g zs r f y x (omega arith) e s)
+
+pub length-changed : {A : Type 0} (xs : List A) (r : ℕ) (f : A → A) → length (changed_at r f xs) ≡ length xs
+length-changed [] r f = refl
+length-changed (z ∷ zs) zero f = refl
+length-changed (z ∷ zs) (suc r) f = ap suc (length-changed zs r f)
+
+suc-eqb : (r q : ℕ) → (suc r == suc q) ≡ (r == q)
+suc-eqb r q = by (r == q) refl
+  where
+    by : (b : Bool) → (r == q) ≡ b → (suc r == suc q) ≡ b
+    by true e = eq-eqb (suc r) (suc q) (ap suc (eqb-true r q e))
+    by false e = ne_eqb (suc r) (suc q) (λ s. false≢true (sym e ∙ eq-eqb r q (let t : suc r ≡ suc q = s in omega arith)))
+
+zero-suc-eqb : (q : ℕ) → (zero == suc q) ≡ false
+zero-suc-eqb q = ne_eqb zero (suc q) (λ s. absurd (let t : zero ≡ suc q = s in omega arith))
+
+suc-zero-eqb : (r : ℕ) → (suc r == zero) ≡ false
+suc-zero-eqb r = ne_eqb (suc r) zero (λ s. absurd (let t : suc r ≡ zero = s in omega arith))
+
+cond-none : {A : Type 0} (b : Bool) → ◌≡◌ {A = Option A} (cond b None None) None
+cond-none true = refl
+cond-none false = refl
+
+-- what stands at a place after the change
+pub get-changed : {A : Type 0} (xs : List A) (r q : ℕ) (f : A → A) → slice_get (changed_at r f xs) q ≡ cond (r == q) (option_map f (slice_get xs q)) (slice_get xs q)
+get-changed [] r q f = sym (cond-none (r == q))
+get-changed (z ∷ zs) zero zero f = refl
+get-changed (z ∷ zs) zero (suc q) f = sym (ap (λ b. cond b (option_map f (slice_get zs q)) (slice_get zs q)) (zero-suc-eqb q))
+get-changed (z ∷ zs) (suc r) zero f = sym (ap (λ b. cond b (Some (f z)) (Some z)) (suc-zero-eqb r))
+get-changed (z ∷ zs) (suc r) (suc q) f = get-changed zs r q f ∙ sym (ap (λ b. cond b (option_map f (slice_get zs q)) (slice_get zs q)) (suc-eqb r q))
+
+-- states
+
+changed-there : (xs : List State) (d i : ℕ) (f : State → State) (x : State) → i < length xs → x ≡ get_or xs i x → has_id d (get_or xs i x) ≡ true
+    → ((k : ℕ) → k < i → has_id d (get_or xs k x) ≡ false) → set xs i (f x) ≡ changed_in d f xs
+changed-there [] d i f x within here is apart = absurd (omega arith)
+changed-there (z ∷ zs) d zero f x within here is apart =
+    ap (λ v. f v ∷ zs) here ∙ sym (ap (λ b. cond b (f z ∷ zs) (z ∷ changed_in d f zs)) is)
+changed-there (z ∷ zs) d (suc i) f x within here is apart =
+    ap (λ l. z ∷ l) (changed-there zs d i f x (omega arith) here is (λ k below. apart (suc k) (omega arith)))
+    ∙ sym (ap (λ b. cond b (f z ∷ zs) (z ∷ changed_in d f zs)) (apart 0 (omega arith)))
+
+-- a write of the changed state
+pub set-state : (xs : List State) (d i : ℕ) (f : State → State) (x y : State) → position (has_id d) xs ≡ Some i → x ≡ get_or xs i x → y ≡ f x → set xs i y ≡ changed_in d f xs
+set-state xs d i f x y p here s =
+    let a = position-Some (has_id d) xs i x p in
+    ap (λ (v : State). set xs i v) s ∙ changed-there xs d i f x a.0 here a.1 a.2
+
+past-place : (n m : ℕ) → cond (ltb n m) (Some n) None ≡ None → m ≤ n
+past-place n m h = none (ltb n m) refl h
+  where
+    none : (b : Bool) → ltb n m ≡ b → cond b (Some n) None ≡ None → m ≤ n
+    none true e k = cc
+    none false e k = ltb-false n m e
+
+changed-none : (xs : List State) (d : ℕ) (f : State → State) → length xs ≤ position_or_len (has_id d) xs → changed_in d f xs ≡ xs
+changed-none [] d f past = refl
+changed-none (z ∷ zs) d f past = by (has_id d z) (λ k. changed-none zs d f k) past
+  where
+    by : (b : Bool) → (length zs ≤ position_or_len (has_id d) zs → changed_in d f zs ≡ zs) → length (z ∷ zs) ≤ cond (not b) (1 + position_or_len (has_id d) zs) 0 → cond b (f z ∷ zs) (z ∷ changed_in d f zs) ≡ z ∷ zs
+    by true rest k = absurd (omega arith)
+    by false rest k = ap (λ l. z ∷ l) (rest (omega arith))
+
+-- no state has the number
+pub changed-nowhere : (xs : List State) (d : ℕ) (f : State → State) → position (has_id d) xs ≡ None → changed_in d f xs ≡ xs
+changed-nowhere xs d f p = changed-none xs d f (past-place (position_or_len (has_id d) xs) (length xs) p)
+
+pub length-changed_in : (xs : List State) (d : ℕ) (f : State → State) → length (changed_in d f xs) ≡ length xs
+length-changed_in [] d f = refl
+length-changed_in (z ∷ zs) d f = by (z.id.0 == d) (length-changed_in zs d f)
+  where
+    by : (b : Bool) → length (changed_in d f zs) ≡ length zs → length (cond b (f z ∷ zs) (z ∷ changed_in d f zs)) ≡ length (z ∷ zs)
+    by true e = refl
+    by false e = ap suc e
+
+-- what a call of a slice leaves of a vector, where it changes one state
+pub slice-changed : (n d : ℕ) (f : State → State) (xs ys zs : List State) → length xs ≡ n → ys ≡ xs → zs ≡ changed_in d f ys → take n (zs ++ drop (length zs) xs) ≡ changed_in d f xs
+slice-changed n d f xs ys zs len same new =
+    let e : zs ≡ changed_in d f xs = new ∙ ap (changed_in d f) same in
+    let l : length zs ≡ n = ap (λ (y : List State). length y) e ∙ length-changed_in xs d f ∙ len in
+    ap (λ (k : List State). take n (zs ++ k)) (drop_all (length zs) xs (omega arith)) ∙ ap (λ (k : List State). take n k) (append-nil zs) ∙ take_all n zs (omega arith) ∙ e
+
+-- the first state with a number, after the change of the one with number d
+pub state-changed : (xs : List State) (d q : ℕ) (f : State → State) → ((x : State) → (f x).id ≡ x.id) → state_of (changed_in d f xs) q ≡ cond (d == q) (option_map f (state_of xs q)) (state_of xs q)
+state-changed [] d q f keeps = sym (cond-none (d == q))
+state-changed (z ∷ zs) d q f keeps = by (z.id.0 == d) (state-changed zs d q f keeps) refl
+  where
+    same-d : z.id.0 ≡ d → (z.id.0 == q) ≡ (d == q)
+    same-d e = ap (λ n. n == q) e
+
+    at : (b : Bool) → cond b (Some (f z)) (state_of zs q) ≡ cond b (option_map f (cond b (Some z) (state_of zs q))) (cond b (Some z) (state_of zs q))
+    at true = refl
+    at false = refl
+
+    apart : (b c : Bool) → (b ≡ true → c ≡ true → ⊥) → cond b (Some z) (cond c (option_map f (state_of zs q)) (state_of zs q)) ≡ cond c (option_map f (cond b (Some z) (state_of zs q))) (cond b (Some z) (state_of zs q))
+    apart true true n = absurd (n refl refl)
+    apart true false n = refl
+    apart false true n = refl
+    apart false false n = refl
+
+    by : (b : Bool) → state_of (changed_in d f zs) q ≡ cond (d == q) (option_map f (state_of zs q)) (state_of zs q) → (z.id.0 == d) ≡ b
+        → state_of (cond b (f z ∷ zs) (z ∷ changed_in d f zs)) q ≡ cond (d == q) (option_map f (cond (z.id.0 == q) (Some z) (state_of zs q))) (cond (z.id.0 == q) (Some z) (state_of zs q))
+    by true rest e =
+        ap (λ (w : ℕ). cond (w == q) (Some (f z)) (state_of zs q)) (ap (λ i. i.0) (keeps z))
+        ∙ at (z.id.0 == q)
+        ∙ ap (λ c. cond c (option_map f (cond (z.id.0 == q) (Some z) (state_of zs q))) (cond (z.id.0 == q) (Some z) (state_of zs q))) (same-d (eqb-true z.id.0 d e))
+    by false rest e =
+        ap (cond (z.id.0 == q) (Some z)) rest
+        ∙ apart (z.id.0 == q) (d == q) (λ a c. true≢false (sym (eq-eqb z.id.0 d (eqb-true z.id.0 q a ∙ sym (eqb-true d q c))) ∙ e))
+
+drop-nil : (n : ℕ) → drop {A = ℕ} n [] ≡ []
+drop-nil zero = refl
+drop-nil (suc n) = refl
+
+-- bytes read where there is no frame: none
+pub nothing-read : (out : List ℕ) (off : ℕ) → length (take (length out) (drop {A = ℕ} off [])) ≡ length out → out ≡ take (length out) (drop {A = ℕ} off [])
+nothing-read out off e =
+    let none : take (length out) (drop {A = ℕ} off []) ≡ [] = ap (λ (l : List ℕ). take (length out) l) (drop-nil off) ∙ take-nil (length out) in
+    let zero : length out ≡ 0 = sym e ∙ ap (λ (l : List ℕ). length l) none in
+    nil_from_length out zero ∙ sym none

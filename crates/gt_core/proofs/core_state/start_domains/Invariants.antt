@@ -1,0 +1,7 @@
+use Rattle.std.proofs.Common.{◌≡◌, map, take}
+use Rattle.gt_core.specs.States.{first_state}
+use Rattle.gt_core.proofs.core_state.start_domains.Given as goal
+
+-- so many domains are at rest
+abbrev pub invariant-loop-domain : goal.invariant-loop-domain
+invariant-loop-domain l = l.domains.items ≡ map (first_state l.config.first_gen) (take l.domain-index l.domain-items)
