@@ -13,3 +13,8 @@ pub mod Aims
 pub mod Phases
 pub mod Judging
 pub mod Placing
+pub mod Keeping
+pub mod Storing
+pub mod Exchanging
+pub mod Headers
+pub mod Pinning

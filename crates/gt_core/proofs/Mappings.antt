@@ -138,26 +138,26 @@ apart-less (x ∷ ms) handle a = by (same_handle x.0 handle) (apart-less ms hand
 
 -- the slots of the handles, and one less
 
-set-here : (slots : List (Option (Slot Mapping))) (key : ℕ) → slice_index_or (slice_set slots key None) key None ≡ None
+set-here : (slots : List (Option (Slot Held))) (key : ℕ) → slice_index_or (slice_set slots key None) key None ≡ None
 set-here [] key = refl
 set-here (x ∷ xs) zero = refl
 set-here (x ∷ xs) (suc key) = set-here xs key
 
-set-there : (slots : List (Option (Slot Mapping))) (key at : ℕ) → (at ≡ key → ⊥) → slice_index_or (slice_set slots key None) at None ≡ slice_index_or slots at None
+set-there : (slots : List (Option (Slot Held))) (key at : ℕ) → (at ≡ key → ⊥) → slice_index_or (slice_set slots key None) at None ≡ slice_index_or slots at None
 set-there [] key at apart = refl
 set-there (x ∷ xs) zero zero apart = absurd (apart refl)
 set-there (x ∷ xs) zero (suc at) apart = refl
 set-there (x ∷ xs) (suc key) zero apart = refl
 set-there (x ∷ xs) (suc key) (suc at) apart = set-there xs key at (λ e. apart (ap suc e))
 
-set-none : (slots : List (Option (Slot Mapping))) (key at : ℕ) → slice_index_or (slice_set slots key None) at None ≡ cond (at == key) None (slice_index_or slots at None)
+set-none : (slots : List (Option (Slot Held))) (key at : ℕ) → slice_index_or (slice_set slots key None) at None ≡ cond (at == key) None (slice_index_or slots at None)
 set-none slots key at = by (at == key) refl
   where
     by : (b : Bool) → (at == key) ≡ b → slice_index_or (slice_set slots key None) at None ≡ cond b None (slice_index_or slots at None)
     by true is = ap (λ (n : ℕ). slice_index_or (slice_set slots key None) n None) (eqb-true at key is) ∙ set-here slots key
     by false is = set-there slots key at (λ e. true≢false (sym (eq-eqb at key e) ∙ is))
 
-under-other : (o : Option (Slot Mapping)) (other serial : ℕ) (m : Held) → (other == serial) ≡ false → under serial o ≡ Some m → under other o ≡ None
+under-other : (o : Option (Slot Held)) (other serial : ℕ) (m : Held) → (other == serial) ≡ false → under serial o ≡ Some m → under other o ≡ None
 under-other None other serial m apart e = refl
 under-other (Some slot) other serial m apart e = by (slot.serial == serial) (slot.serial == other) refl refl e
   where
@@ -181,22 +181,22 @@ taken-of kept handle other m has =
         sym (ap (λ (n : ℕ). under other.serial (slice_index_or kept.slots n None)) (eqb-true other.key handle.key at)
         ∙ under-other (slice_index_or kept.slots handle.key None) other.serial handle.serial m is has)
 
-count-set : (slots : List (Option (Slot Mapping))) (key : ℕ) (slot : Slot Mapping) → slice_index_or slots key None ≡ Some slot → count_by is_some (slice_set slots key None) + 1 ≡ count_by is_some slots
+count-set : (slots : List (Option (Slot Held))) (key : ℕ) (slot : Slot Held) → slice_index_or slots key None ≡ Some slot → count_by is_some (slice_set slots key None) + 1 ≡ count_by is_some slots
 count-set [] key slot e = absurd (none-some slot e)
 count-set (None ∷ os) zero slot e = absurd (none-some slot e)
 count-set (Some x ∷ os) zero slot e =
-    omega (arith, sum_by-cons (λ (o : Option (Slot Mapping)). cond (is_some o) 1 0) (Some x) os, sum_by-cons (λ (o : Option (Slot Mapping)). cond (is_some o) 1 0) None os)
+    omega (arith, sum_by-cons (λ (o : Option (Slot Held)). cond (is_some o) 1 0) (Some x) os, sum_by-cons (λ (o : Option (Slot Held)). cond (is_some o) 1 0) None os)
 count-set (None ∷ os) (suc key) slot e =
-    omega (arith, count-set os key slot e, sum_by-cons (λ (o : Option (Slot Mapping)). cond (is_some o) 1 0) None os, sum_by-cons (λ (o : Option (Slot Mapping)). cond (is_some o) 1 0) None (slice_set os key None))
+    omega (arith, count-set os key slot e, sum_by-cons (λ (o : Option (Slot Held)). cond (is_some o) 1 0) None os, sum_by-cons (λ (o : Option (Slot Held)). cond (is_some o) 1 0) None (slice_set os key None))
 count-set (Some x ∷ os) (suc key) slot e =
-    omega (arith, count-set os key slot e, sum_by-cons (λ (o : Option (Slot Mapping)). cond (is_some o) 1 0) (Some x) os, sum_by-cons (λ (o : Option (Slot Mapping)). cond (is_some o) 1 0) (Some x) (slice_set os key None))
+    omega (arith, count-set os key slot e, sum_by-cons (λ (o : Option (Slot Held)). cond (is_some o) 1 0) (Some x) os, sum_by-cons (λ (o : Option (Slot Held)). cond (is_some o) 1 0) (Some x) (slice_set os key None))
 
 count-taken : (kept : Kept Held) (handle : Handle) (m : Held) → value_of kept handle ≡ Some m → count_of (taken handle kept) + 1 ≡ count_of kept
 count-taken kept handle m has =
     ap (λ (o : Option Held). count_of (cond (is_some o) (record kept { slots = slice_set kept.slots handle.key None }) kept) + 1) has
     ∙ by (slice_index_or kept.slots handle.key None) refl has
   where
-    by : (o : Option (Slot Mapping)) → slice_index_or kept.slots handle.key None ≡ o → under handle.serial o ≡ Some m → count_by is_some (slice_set kept.slots handle.key None) + 1 ≡ count_by is_some kept.slots
+    by : (o : Option (Slot Held)) → slice_index_or kept.slots handle.key None ≡ o → under handle.serial o ≡ Some m → count_by is_some (slice_set kept.slots handle.key None) + 1 ≡ count_by is_some kept.slots
     by None is f = absurd (none-some m f)
     by (Some slot) is f = count-set kept.slots handle.key slot is
 

@@ -105,7 +105,7 @@ other-mappings i h d apart = other-pins by_mapping i h d apart
 pub other-legs : (i : Item) (h : History) (d : ℕ) → (i.actor.0 == d) ≡ false → legs_at (i ∷ h) d ≡ legs_at h d
 other-legs i h d apart = other-pins by_leg i h d apart
 
-other-generations : (s : Setting) (i : Item) (h : History) (d : ℕ) → (i.actor.0 == d) ≡ false
+pub other-generations : (s : Setting) (i : Item) (h : History) (d : ℕ) → (i.actor.0 == d) ≡ false
     → ◌≡◌ {A = ℕ → ℕ} (λ r. generation_at s (i ∷ h) d r) (λ r. generation_at s h d r)
 other-generations s i h d apart = fun_ext (λ r. ap (λ (n : ℕ). s.first_generation + n) (other-raises i h d r apart))
 
