@@ -18,3 +18,5 @@ pub mod Storing
 pub mod Exchanging
 pub mod Headers
 pub mod Pinning
+pub mod Unpinning
+pub mod Writing

@@ -209,6 +209,12 @@ EndsAfter request (StoreHeader version frames) verdict =
     ((request ≡ SetVersion version) × (verdict ≡ Granted)) ⊎ ((request ≡ SetupTable frames) × (verdict ≡ Given (Frames frames)))
 EndsAfter request step verdict = verdict ≡ Granted
 
+-- a copy ends with Ok, or with a refusal (own)
+abbrev pub EndsCopy : Verdict → Type 0
+EndsCopy Granted = Unit {0}
+EndsCopy (Refused denial) = Unit {0}
+EndsCopy verdict = ⊥
+
 -- where a call stands, by the steps so far, the newest first (own)
 abbrev pub PhaseStands : Setting → History → DomId → Asked → StepsSoFar → Phase → Type 0
 PhaseStands s h d request so_far (Storing gref entry) = Unit {0}
@@ -222,7 +228,7 @@ PhaseStands s h d request so_far (Walking aim l at) = (domain_of s.domains l.dom
 PhaseStands s h d request so_far (Accessing copy source dest) = Unit {0}
 PhaseStands s h d request so_far (Asking dom question) = Asks d request dom question
 PhaseStands s h d request so_far (Last step verdict) = EndsAfter request step verdict
-PhaseStands s h d request so_far (Ending pins verdict) = (last_first pins ≡ []) ⊎ ((copy : CopyArgs) × (request ≡ Copy copy))
+PhaseStands s h d request so_far (Ending pins verdict) = (last_first pins ≡ []) ⊎ ((copy : CopyArgs) × (request ≡ Copy copy) × EndsCopy verdict)
 
 -- the refusal that a call ends with, where it has come to its end (own)
 abbrev pub phase_refusal : Phase → Option Denial

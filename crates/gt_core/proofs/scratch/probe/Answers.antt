@@ -1,6 +1,5 @@
 use Rattle.std.proofs.Common.{refl}
-use Rattle.gt_core.proofs.Pinning.{pin-stands}
-use Rattle.gt_core.proofs.Pinning.{map-agrees}
+use Rattle.gt_core.proofs.Placing.{placed}
 use Rattle.gt_core.proofs.scratch.probe.Goals as goal
 
 pub returns : goal.returns

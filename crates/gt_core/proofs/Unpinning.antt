@@ -1,0 +1,408 @@
+-- An unpin keeps what a core stands for.
+use Rattle.std.proofs.Common.{◌≡◌, ◌<◌, ◌≤◌, ◌+◌, ◌-◌, ◌⊎◌, inl, inr, ℕ, suc, refl, Bool, true, false, List, [], ◌∷◌, ◌++◌, length, Option, Some, None, cond, sym, ap, ◌∙◌, arith, subst, reverse}
+use Rattle.std.specs.Prelude.{◌==◌, ◌&&◌, All, count_by}
+use Rattle.std.proofs.lemmas.Bool.{eqb-true, eq-eqb, and_from, false≢true, true≢false}
+use Rattle.std.proofs.lemmas.Option.{none-some, same_Some}
+use Rattle.std.proofs.lemmas.List.{append-nil}
+use Rattle.std.proofs.lemmas.List.Sums.{sum_by-cons, sum_by-append}
+use Rattle.std.proofs.lemmas.List.Elements.{All-cons, All-head, All-tail}
+use Rattle.gt_types.specs.declared.DomId.{DomId}
+use Rattle.gt_types.specs.declared.Dir.{Dir}
+use Rattle.gt_types.specs.declared.Dir.TheVariants.{Read, Write}
+use Rattle.gt_entry.specs.declared.change.Half.TheVariants.{First as FirstHalf, Second as SecondHalf}
+use Rattle.gt_handles.specs.declared.handles.Handle.{Handle}
+use Rattle.gt_handles.specs.Handles.{Kept}
+use Rattle.gt_calls.specs.declared.held.Held.{Held}
+use Rattle.gt_calls.specs.declared.request.Holder.{Holder}
+use Rattle.gt_calls.specs.declared.request.Holder.TheVariants.{Mapping as ByMapping, Leg as ByLeg}
+use Rattle.gt_calls.specs.declared.action.Step.TheVariants.{Unpin}
+use Rattle.gt_calls.specs.declared.action.Seen.{Seen}
+use Rattle.gt_core.specs.declared.slot.Slot.{Slot}
+use Rattle.gt_core.specs.declared.slot.Open.{Open}
+use Rattle.gt_core.specs.declared.slot.SlotChange.TheVariants.{Unpinned}
+use Rattle.gt_core.specs.declared.trace.Item.{Item}
+use Rattle.gt_core.specs.declared.trace.Answer.{Answer}
+use Rattle.gt_core.specs.Rows.{changed_at}
+use Rattle.gt_core.specs.States.{State, state_of, changed_in}
+use Rattle.gt_core.specs.Effects.{with_slot, without_mapping, slot_after, taken}
+use Rattle.gt_core.specs.History.{History, Setting, Pin, live, body_at, reads_at, writes_at, mappings_at, maps_answered_at, legs_at, open_call, is_pin_on, without, is_holder, same_handle, same_dir, gather, by_mapping, by_leg, mapping_of, one_if_mapped}
+use Rattle.gt_core.specs.Standing.{IsLawful, SlotAgrees, Agrees, CoreStands, CallAgrees, GivenAgrees, MappingsAgree, numbered}
+use Rattle.gt_core.proofs.Mappings.{less, mappings-taken, mappings-same}
+use Rattle.gt_core.proofs.Rows.{state-changed}
+use Rattle.gt_core.proofs.Pinning.{answered-stays}
+use Rattle.gt_core.proofs.Keeping.{stepped, SlotsAgree, KeepsEntries, same-body, actor-agrees, other-agrees, slots-agree, length-slots, counts-fit, after_change, Becomes, becomes-changed, each-stands, keeps-stands, frames-stay, filled-stays}
+
+-- what an unpin takes from the live pins
+
+-- the first of these pins that is held so goes
+pub record Loses (m : Held) (whole less : List Pin) : Type 0 where
+  pub front : List Pin
+  pub pin : Pin
+  pub back : List Pin
+  pub is : whole ≡ front ++ pin ∷ back
+  pub left : less ≡ front ++ back
+  pub of : pin.held ≡ m
+
+loses-later : (m : Held) (p : Pin) (whole less : List Pin) → Loses m whole less → Loses m (p ∷ whole) (p ∷ less)
+loses-later m p whole less l =
+    record { front = p ∷ l.front; pin = l.pin; back = l.back; is = ap (λ (ps : List Pin). p ∷ ps) l.is; left = ap (λ (ps : List Pin). p ∷ ps) l.left; of = l.of }
+
+loses-first : (m : Held) (p : Pin) (ps : List Pin) → p.held ≡ m → Loses m (p ∷ ps) ps
+loses-first m p ps e = record { front = []; pin = p; back = ps; is = refl; left = refl; of = e }
+
+-- the one under a key, by a test of keys, and the list without it
+abbrev pub one_of : {K : Type 0} → (K → Bool) → List (K × Held) → Option Held
+one_of test [] = None
+one_of test (m ∷ ms) = cond (test m.0) (Some m.1) (one_of test ms)
+
+abbrev pub less_of : {K : Type 0} → (K → Bool) → List (K × Held) → List (K × Held)
+less_of test [] = []
+less_of test (m ∷ ms) = cond (test m.0) ms (m ∷ less_of test ms)
+
+-- a way to give pins by keys, and the test that finds a holder's key: each holder gives one key or none, and is the holder just where its key passes
+pub record Tells {K : Type 0} (give : Holder → Held → List (K × Held)) (test : K → Bool) (holder : Holder) : Type 0 where
+  pub tells : (x : Holder) → ((k : K) × ((p : Held) → give x p ≡ (k, p) ∷ []) × (is_holder x holder ≡ test k)) ⊎ (((p : Held) → give x p ≡ []) × (is_holder x holder ≡ false))
+
+loses-one : {K : Type 0} (give : Holder → Held → List (K × Held)) (test : K → Bool) (holder : Holder) (d : ℕ) (m : Held) (p : Pin) (ps less : List Pin) → Tells give test holder
+    → (one_of test (gather give d ps) ≡ Some m → Loses m ps less) → one_of test (gather give d (p ∷ ps)) ≡ Some m → Loses m (p ∷ ps) (cond ((p.actor == d) && is_holder p.holder holder) ps (p ∷ less))
+unfolding gather
+loses-one {K} give test holder d m p ps less t rest e = by (p.actor == d) (t.tells p.holder) e
+  where
+    at : (b : Bool) (k : K) → test k ≡ b → cond b (Some p.held) (one_of test (gather give d ps)) ≡ Some m → Loses m (p ∷ ps) (cond b ps (p ∷ less))
+    at true k is f = loses-first m p ps (same_Some _ _ f)
+    at false k is f = loses-later m p ps less (rest f)
+
+    by : (b : Bool) → ((k : K) × ((q : Held) → give p.holder q ≡ (k, q) ∷ []) × (is_holder p.holder holder ≡ test k)) ⊎ (((q : Held) → give p.holder q ≡ []) × (is_holder p.holder holder ≡ false))
+        → one_of test (cond b (give p.holder p.held) [] ++ gather give d ps) ≡ Some m → Loses m (p ∷ ps) (cond (b && is_holder p.holder holder) ps (p ∷ less))
+    by true (inl a) f =
+        subst (λ (z : Bool). Loses m (p ∷ ps) (cond z ps (p ∷ less))) (sym a.2)
+        (at (test a.0) a.0 refl (sym (ap (λ (l : List (K × Held)). one_of test (l ++ gather give d ps)) (a.1 p.held)) ∙ f))
+    by true (inr a) f =
+        subst (λ (z : Bool). Loses m (p ∷ ps) (cond z ps (p ∷ less))) (sym a.1)
+        (loses-later m p ps less (rest (sym (ap (λ (l : List (K × Held)). one_of test (l ++ gather give d ps)) (a.0 p.held)) ∙ f)))
+    by false a f = loses-later m p ps less (rest f)
+
+loses-of : {K : Type 0} (give : Holder → Held → List (K × Held)) (test : K → Bool) (holder : Holder) (d : ℕ) (m : Held) (ps : List Pin) → Tells give test holder → one_of test (gather give d ps) ≡ Some m → Loses m ps (without d holder ps)
+unfolding without gather
+loses-of give test holder d m [] t e = absurd (none-some m e)
+loses-of give test holder d m (p ∷ ps) t e = loses-one give test holder d m p ps (without d holder ps) t (λ k. loses-of give test holder d m ps t k) e
+
+less-one : {K : Type 0} (give : Holder → Held → List (K × Held)) (test : K → Bool) (holder : Holder) (d : ℕ) (p : Pin) (ps rest : List Pin) → Tells give test holder
+    → gather give d rest ≡ less_of test (gather give d ps) → gather give d (cond ((p.actor == d) && is_holder p.holder holder) ps (p ∷ rest)) ≡ less_of test (gather give d (p ∷ ps))
+unfolding gather
+less-one {K} give test holder d p ps rest t left = by (p.actor == d) refl (t.tells p.holder)
+  where
+    at : (b : Bool) (k : K) → test k ≡ b → (p.actor == d) ≡ true → ((q : Held) → give p.holder q ≡ (k, q) ∷ [])
+        → gather give d (cond b ps (p ∷ rest)) ≡ less_of test ((k, p.held) ∷ gather give d ps)
+    at true k is own gives = sym (ap (λ (z : Bool). cond z (gather give d ps) ((k, p.held) ∷ less_of test (gather give d ps))) is)
+    at false k is own gives =
+        ap (λ (z : Bool). cond z (give p.holder p.held) [] ++ gather give d rest) own
+        ∙ ap (λ (l : List (K × Held)). l ++ gather give d rest) (gives p.held)
+        ∙ ap (λ (l : List (K × Held)). (k, p.held) ∷ l) left
+        ∙ sym (ap (λ (z : Bool). cond z (gather give d ps) ((k, p.held) ∷ less_of test (gather give d ps))) is)
+
+    by : (b : Bool) → (p.actor == d) ≡ b → ((k : K) × ((q : Held) → give p.holder q ≡ (k, q) ∷ []) × (is_holder p.holder holder ≡ test k)) ⊎ (((q : Held) → give p.holder q ≡ []) × (is_holder p.holder holder ≡ false))
+        → gather give d (cond (b && is_holder p.holder holder) ps (p ∷ rest)) ≡ less_of test (cond b (give p.holder p.held) [] ++ gather give d ps)
+    by true own (inl a) =
+        ap (λ (z : Bool). gather give d (cond z ps (p ∷ rest))) a.2 ∙ at (test a.0) a.0 refl own a.1
+        ∙ ap (λ (l : List (K × Held)). less_of test (l ++ gather give d ps)) (sym (a.1 p.held))
+    by true own (inr a) =
+        ap (λ (z : Bool). gather give d (cond z ps (p ∷ rest))) a.1
+        ∙ ap (λ (z : Bool). cond z (give p.holder p.held) [] ++ gather give d rest) own
+        ∙ ap (λ (l : List (K × Held)). l ++ gather give d rest) (a.0 p.held)
+        ∙ left
+        ∙ ap (λ (l : List (K × Held)). less_of test (l ++ gather give d ps)) (sym (a.0 p.held))
+    by false own a = ap (λ (z : Bool). cond z (give p.holder p.held) [] ++ gather give d rest) own ∙ left
+
+-- what the others give stays, and the one is gone
+less-gather : {K : Type 0} (give : Holder → Held → List (K × Held)) (test : K → Bool) (holder : Holder) (d : ℕ) (ps : List Pin) → Tells give test holder → gather give d (without d holder ps) ≡ less_of test (gather give d ps)
+unfolding without gather
+less-gather give test holder d [] t = refl
+less-gather give test holder d (p ∷ ps) t = less-one give test holder d p ps (without d holder ps) t (less-gather give test holder d ps t)
+
+-- the tests that there are
+
+mapping-tells : (handle : Handle) → Tells by_mapping (λ (k : Handle). same_handle k handle) (ByMapping handle)
+mapping-tells handle = record { tells = by }
+  where
+    by : (x : Holder) → ((k : Handle) × ((p : Held) → by_mapping x p ≡ (k, p) ∷ []) × (is_holder x (ByMapping handle) ≡ same_handle k handle)) ⊎ (((p : Held) → by_mapping x p ≡ []) × (is_holder x (ByMapping handle) ≡ false))
+    by (ByMapping k) = inl (k, λ p. refl, refl)
+    by (ByLeg n) = inr (λ p. refl, refl)
+
+leg-tells : (number : ℕ) → Tells by_leg (λ (k : ℕ). k == number) (ByLeg number)
+leg-tells number = record { tells = by }
+  where
+    by : (x : Holder) → ((k : ℕ) × ((p : Held) → by_leg x p ≡ (k, p) ∷ []) × (is_holder x (ByLeg number) ≡ (k == number))) ⊎ (((p : Held) → by_leg x p ≡ []) × (is_holder x (ByLeg number) ≡ false))
+    by (ByMapping k) = inr (λ p. refl, refl)
+    by (ByLeg n) = inl (n, λ p. refl, refl)
+
+-- what a holder of another kind gives is not touched
+
+other-gather : {A : Type 0} (give : Holder → Held → List A) (holder : Holder) (d : ℕ) (ps : List Pin) → ((x : Holder) → is_holder x holder ≡ true → (p : Held) → give x p ≡ []) → gather give d (without d holder ps) ≡ gather give d ps
+unfolding without gather
+other-gather give holder d [] none = refl
+other-gather {A} give holder d (p ∷ ps) none = by (p.actor == d) (is_holder p.holder holder) refl (other-gather give holder d ps none)
+  where
+    both : (b : Bool) → give p.holder p.held ≡ [] → gather give d ps ≡ cond b (give p.holder p.held) [] ++ gather give d ps
+    both true e = sym (ap (λ (l : List A). l ++ gather give d ps) e)
+    both false e = refl
+
+    by : (b c : Bool) → is_holder p.holder holder ≡ c → gather give d (without d holder ps) ≡ gather give d ps → gather give d (cond (b && c) ps (p ∷ without d holder ps)) ≡ cond (p.actor == d) (give p.holder p.held) [] ++ gather give d ps
+    by true true is rest = both (p.actor == d) (none p.holder is p.held)
+    by true false is rest = ap (λ (l : List A). cond (p.actor == d) (give p.holder p.held) [] ++ l) rest
+    by false c is rest = ap (λ (l : List A). cond (p.actor == d) (give p.holder p.held) [] ++ l) rest
+
+leg-none : (number : ℕ) (x : Holder) → is_holder x (ByLeg number) ≡ true → (p : Held) → by_mapping x p ≡ []
+leg-none number (ByMapping k) e p = absurd (false≢true e)
+leg-none number (ByLeg n) e p = refl
+
+mapping-none : (handle : Handle) (x : Holder) → is_holder x (ByMapping handle) ≡ true → (p : Held) → by_leg x p ≡ []
+mapping-none handle (ByMapping k) e p = refl
+mapping-none handle (ByLeg n) e p = absurd (false≢true e)
+
+-- the item of an unpin
+abbrev pub unpins : DomId → Held → Holder → Seen → Option Answer → Item
+unpins d p holder seen answer = stepped d (Unpin p holder) seen answer
+
+pub unpinned-live : (h : History) (d : DomId) (p : Held) (holder : Holder) (seen : Seen) (answer : Option Answer) → live (unpins d p holder seen answer ∷ h) ≡ without d.0 holder (live h)
+unfolding live
+unpinned-live h d p holder seen answer = append-nil (without d.0 holder (live h))
+
+-- by a mapping's handle
+
+one-mapping : (ms : List (Handle × Held)) (handle : Handle) → one_of (λ (k : Handle). same_handle k handle) ms ≡ mapping_of ms handle
+one-mapping [] handle = refl
+one-mapping (m ∷ ms) handle = ap (λ (o : Option Held). cond (same_handle m.0 handle) (Some m.1) o) (one-mapping ms handle)
+
+less-mapping : (ms : List (Handle × Held)) (handle : Handle) → less_of (λ (k : Handle). same_handle k handle) ms ≡ less handle ms
+less-mapping [] handle = refl
+less-mapping (m ∷ ms) handle = ap (λ (l : List (Handle × Held)). cond (same_handle m.0 handle) ms (m ∷ l)) (less-mapping ms handle)
+
+pub loses-mapping : (h : History) (d : DomId) (handle : Handle) (p : Held) → mapping_of (mappings_at h d.0) handle ≡ Some p → Loses p (live h) (without d.0 (ByMapping handle) (live h))
+loses-mapping h d handle p found =
+    loses-of by_mapping (λ (k : Handle). same_handle k handle) (ByMapping handle) d.0 p (live h) (mapping-tells handle) (one-mapping (mappings_at h d.0) handle ∙ found)
+
+-- the domain's mappings lose the one of the handle
+mapping-left : (h : History) (d : DomId) (p : Held) (handle : Handle) (seen : Seen) (answer : Option Answer) → mappings_at (unpins d p (ByMapping handle) seen answer ∷ h) d.0 ≡ less handle (mappings_at h d.0)
+mapping-left h d p handle seen answer =
+    ap (gather by_mapping d.0) (unpinned-live h d p (ByMapping handle) seen answer)
+    ∙ less-gather by_mapping (λ (k : Handle). same_handle k handle) (ByMapping handle) d.0 (live h) (mapping-tells handle)
+    ∙ less-mapping (mappings_at h d.0) handle
+
+pub mapping-legs : (h : History) (d : DomId) (p : Held) (handle : Handle) (seen : Seen) (answer : Option Answer) → legs_at (unpins d p (ByMapping handle) seen answer ∷ h) d.0 ≡ legs_at h d.0
+mapping-legs h d p handle seen answer =
+    ap (gather by_leg d.0) (unpinned-live h d p (ByMapping handle) seen answer) ∙ other-gather by_leg (ByMapping handle) d.0 (live h) (mapping-none handle)
+
+pub mapping-agrees : (h : History) (d : DomId) (p : Held) (handle : Handle) (seen : Seen) (answer : Option Answer) (kept : Kept Held) → one_if_mapped answer ≡ 0 → mapping_of (mappings_at h d.0) handle ≡ Some p
+    → MappingsAgree kept (mappings_at h d.0) (maps_answered_at h d.0)
+    → MappingsAgree (taken handle kept) (mappings_at (unpins d p (ByMapping handle) seen answer ∷ h) d.0) (maps_answered_at (unpins d p (ByMapping handle) seen answer ∷ h) d.0)
+mapping-agrees h d p handle seen answer kept m found a =
+    mappings-same (taken handle kept) _ _ _ _ (sym (mapping-left h d p handle seen answer)) (sym (answered-stays h (unpins d p (ByMapping handle) seen answer) d.0 m))
+    (mappings-taken kept handle p (mappings_at h d.0) (maps_answered_at h d.0) found a)
+
+-- by the place of a call's own pin, the last one
+
+later : (m n : ℕ) → (m == m + suc n) ≡ false
+later m n = by (m == m + suc n) refl
+  where
+    by : (b : Bool) → (m == m + suc n) ≡ b → (m == m + suc n) ≡ false
+    by true e = absurd (let f : m ≡ m + suc n = eqb-true m (m + suc n) e in omega arith)
+    by false e = e
+
+last-one : (m : ℕ) (ps : List Held) (p : Held) → one_of (λ (k : ℕ). k == m + length ps) (numbered m (ps ++ p ∷ [])) ≡ Some p
+last-one m [] p = ap (λ (b : Bool). cond b (Some p) None) (eq-eqb m (m + 0) (omega arith))
+last-one m (q ∷ ps) p =
+    ap (λ (b : Bool). cond b (Some q) (one_of (λ (k : ℕ). k == m + suc (length ps)) (numbered (m + 1) (ps ++ p ∷ [])))) (later m (length ps))
+    ∙ (let e : m + suc (length ps) ≡ m + 1 + length ps = omega arith in ap (λ (n : ℕ). one_of (λ (k : ℕ). k == n) (numbered (m + 1) (ps ++ p ∷ []))) e)
+    ∙ last-one (m + 1) ps p
+
+last-less : (m : ℕ) (ps : List Held) (p : Held) → less_of (λ (k : ℕ). k == m + length ps) (numbered m (ps ++ p ∷ [])) ≡ numbered m ps
+last-less m [] p = ap (λ (b : Bool). cond b [] ((m, p) ∷ [])) (eq-eqb m (m + 0) (omega arith))
+last-less m (q ∷ ps) p =
+    ap (λ (b : Bool). cond b (numbered (m + 1) (ps ++ p ∷ [])) ((m, q) ∷ less_of (λ (k : ℕ). k == m + suc (length ps)) (numbered (m + 1) (ps ++ p ∷ [])))) (later m (length ps))
+    ∙ ap (λ (l : List (ℕ × Held)). (m, q) ∷ l)
+    ((let e : m + suc (length ps) ≡ m + 1 + length ps = omega arith in ap (λ (n : ℕ). less_of (λ (k : ℕ). k == n) (numbered (m + 1) (ps ++ p ∷ []))) e) ∙ last-less (m + 1) ps p)
+
+from-zero : (n : ℕ) → 0 + n ≡ n
+from-zero n = omega arith
+
+pub loses-leg : (h : History) (d : DomId) (ps : List Held) (p : Held) → legs_at h d.0 ≡ numbered 0 (ps ++ p ∷ []) → Loses p (live h) (without d.0 (ByLeg (length ps)) (live h))
+loses-leg h d ps p held =
+    loses-of by_leg (λ (k : ℕ). k == length ps) (ByLeg (length ps)) d.0 p (live h) (leg-tells (length ps)) (ap (one_of (λ (k : ℕ). k == length ps)) held ∙ subst (λ (n : ℕ). one_of (λ (k : ℕ). k == n) (numbered 0 (ps ++ p ∷ [])) ≡ Some p) (from-zero (length ps)) (last-one 0 ps p))
+
+pub leg-left : (h : History) (d : DomId) (ps : List Held) (p : Held) (seen : Seen) (answer : Option Answer) → legs_at h d.0 ≡ numbered 0 (ps ++ p ∷ [])
+    → legs_at (unpins d p (ByLeg (length ps)) seen answer ∷ h) d.0 ≡ numbered 0 ps
+leg-left h d ps p seen answer held =
+    ap (gather by_leg d.0) (unpinned-live h d p (ByLeg (length ps)) seen answer)
+    ∙ less-gather by_leg (λ (k : ℕ). k == length ps) (ByLeg (length ps)) d.0 (live h) (leg-tells (length ps))
+    ∙ ap (less_of (λ (k : ℕ). k == length ps)) held ∙ subst (λ (n : ℕ). less_of (λ (k : ℕ). k == n) (numbered 0 (ps ++ p ∷ [])) ≡ numbered 0 ps) (from-zero (length ps)) (last-less 0 ps p)
+
+pub leg-mappings : (h : History) (d : DomId) (p : Held) (number : ℕ) (seen : Seen) (answer : Option Answer) → mappings_at (unpins d p (ByLeg number) seen answer ∷ h) d.0 ≡ mappings_at h d.0
+leg-mappings h d p number seen answer =
+    ap (gather by_mapping d.0) (unpinned-live h d p (ByLeg number) seen answer) ∙ other-gather by_mapping (ByLeg number) d.0 (live h) (leg-none number)
+
+pub leg-agrees : (h : History) (d : DomId) (p : Held) (number : ℕ) (seen : Seen) (answer : Option Answer) (kept : Kept Held) → one_if_mapped answer ≡ 0
+    → MappingsAgree kept (mappings_at h d.0) (maps_answered_at h d.0) → MappingsAgree kept (mappings_at (unpins d p (ByLeg number) seen answer ∷ h) d.0) (maps_answered_at (unpins d p (ByLeg number) seen answer ∷ h) d.0)
+leg-agrees h d p number seen answer kept m a = mappings-same kept _ _ _ _ (sym (leg-mappings h d p number seen answer)) (sym (answered-stays h (unpins d p (ByLeg number) seen answer) d.0 m)) a
+
+-- counts
+
+count-append : (f : Pin → Bool) (front back : List Pin) → count_by f (front ++ back) ≡ count_by f front + count_by f back
+count-append f front back = sum_by-append (λ (p : Pin). cond (f p) 1 0) front back
+
+count-cons : (f : Pin → Bool) (p : Pin) (ps : List Pin) → count_by f (p ∷ ps) ≡ cond (f p) 1 0 + count_by f ps
+count-cons f p ps = sum_by-cons (λ (p : Pin). cond (f p) 1 0) p ps
+
+abbrev pub hits : Held → ℕ → ℕ → Dir → Bool
+hits m t r k = (m.dom.0 == t) && (m.gref.0 == r) && same_dir m.dir k
+
+-- the count of one kind on one entry falls by one, where the pin is of that
+count-less : (m : Held) (whole less : List Pin) (t r : ℕ) (k : Dir) → Loses m whole less → count_by (is_pin_on t r k) whole ≡ cond (hits m t r k) 1 0 + count_by (is_pin_on t r k) less
+count-less m whole less t r k l =
+    let f : Pin → Bool = is_pin_on t r k in
+    let one : cond (f l.pin) 1 0 ≡ cond (hits m t r k) 1 0 = ap (λ (p : Held). cond (hits p t r k) 1 0) l.of in
+    let all : count_by f whole ≡ count_by f l.front + count_by f (l.pin ∷ l.back) = ap (count_by f) l.is ∙ count-append f l.front (l.pin ∷ l.back) in
+    let some : count_by f less ≡ count_by f l.front + count_by f l.back = ap (count_by f) l.left ∙ count-append f l.front l.back in
+    let first : count_by f (l.pin ∷ l.back) ≡ cond (f l.pin) 1 0 + count_by f l.back = count-cons f l.pin l.back in
+    sums (count_by f whole) (count_by f less) (count_by f l.front) (count_by f l.back) (count_by f (l.pin ∷ l.back)) (cond (f l.pin) 1 0) (cond (hits m t r k) 1 0) one all some first
+  where
+    sums : (whole less front back more one hit : ℕ) → one ≡ hit → whole ≡ front + more → less ≡ front + back → more ≡ one + back → whole ≡ hit + less
+    sums whole less front back more one hit a b c e = omega arith
+
+all-drop : (P : Pin → Type 0) (front : List Pin) (p : Pin) (back : List Pin) → All P (front ++ p ∷ back) → All P (front ++ back)
+all-drop P [] p back a = All-tail P p back a
+all-drop P (x ∷ front) p back a = All-cons P x (front ++ back) (All-head P x (front ++ p ∷ back) a) (all-drop P front p back (All-tail P x (front ++ p ∷ back) a))
+
+-- what holds of all pins holds of those that are left
+all-less : (P : Pin → Type 0) (m : Held) (whole less : List Pin) → Loses m whole less → All P whole → All P less
+all-less P m whole less l a = subst (All P) (sym l.left) (all-drop P l.front l.pin l.back (subst (All P) l.is a))
+
+-- an item after which one pin less is live
+abbrev Shrinks : History → Item → Held → Type 0
+Shrinks h i p = Loses p (live h) (live (i ∷ h))
+
+shrunk-count : (h : History) (i : Item) (p : Held) (t r : ℕ) (k : Dir) → Shrinks h i p → count_by (is_pin_on t r k) (live h) ≡ cond (hits p t r k) 1 0 + count_by (is_pin_on t r k) (live (i ∷ h))
+shrunk-count h i p t r k l = count-less p (live h) (live (i ∷ h)) t r k l
+
+shrunk-le : (h : History) (i : Item) (p : Held) (t r : ℕ) (k : Dir) → Shrinks h i p → count_by (is_pin_on t r k) (live (i ∷ h)) ≤ count_by (is_pin_on t r k) (live h)
+shrunk-le h i p t r k l = sums _ _ _ (shrunk-count h i p t r k l)
+  where
+    sums : (a b c : ℕ) → a ≡ b + c → c ≤ a
+    sums a b c e = omega arith
+
+-- the slot that the unpin counts down
+counted-down : (on hit : Bool) (old now was : ℕ) → on ≡ true → old ≡ was → was ≡ cond (on && hit) 1 0 + now → cond hit (old - 1) old ≡ now
+counted-down true true old now was p e f = omega arith
+counted-down true false old now was p e f = omega arith
+counted-down false hit old now was p e f = absurd (false≢true p)
+
+slot-down : (h : History) (i : Item) (p : Held) (q : ℕ) (old : Slot) → KeepsEntries i → Shrinks h i p → (p.dom.0 == q) ≡ true → SlotAgrees h q p.gref.0 old → SlotAgrees (i ∷ h) q p.gref.0 (slot_after (Unpinned p.dir) old)
+slot-down h i p q old keeps shrinks on a =
+    let r = p.gref.0 in
+    let both_on : ((p.dom.0 == q) && (r == r)) ≡ true = and_from (p.dom.0 == q) (r == r) on (eq-eqb r r refl) in
+    both p.dir (a.first ∙ sym (same-body i h q r FirstHalf keeps)) (a.second ∙ sym (same-body i h q r SecondHalf keeps))
+    (counted-down ((p.dom.0 == q) && (r == r)) (same_dir p.dir Read) old.reads (reads_at (i ∷ h) q r) (reads_at h q r) both_on a.reads (shrunk-count h i p q r Read shrinks))
+    (counted-down ((p.dom.0 == q) && (r == r)) (same_dir p.dir Write) old.writes (writes_at (i ∷ h) q r) (writes_at h q r) both_on a.writes (shrunk-count h i p q r Write shrinks))
+  where
+    both : (dir : Dir) → old.first ≡ body_at (i ∷ h) q p.gref.0 FirstHalf → old.second ≡ body_at (i ∷ h) q p.gref.0 SecondHalf
+        → cond (same_dir dir Read) (old.reads - 1) old.reads ≡ reads_at (i ∷ h) q p.gref.0
+        → cond (same_dir dir Write) (old.writes - 1) old.writes ≡ writes_at (i ∷ h) q p.gref.0
+        → SlotAgrees (i ∷ h) q p.gref.0 (slot_after (Unpinned dir) old)
+    both Read f g r w = record { reads = r; writes = w; first = f; second = g }
+    both Write f g r w = record { reads = r; writes = w; first = f; second = g }
+
+no-hit : (on hit : Bool) (n was now : ℕ) → on ≡ false → n ≡ was → was ≡ cond (on && hit) 1 0 + now → n ≡ now
+no-hit true hit n was now p e f = absurd (true≢false p)
+no-hit false hit n was now p e f = omega arith
+
+-- a slot that the unpin doesn't name
+slot-stays : (h : History) (i : Item) (p : Held) (q k : ℕ) (old : Slot) → KeepsEntries i → Shrinks h i p → ((p.dom.0 == q) && (p.gref.0 == k)) ≡ false → SlotAgrees h q k old → SlotAgrees (i ∷ h) q k old
+slot-stays h i p q k old keeps shrinks off a =
+    record {
+      reads = no-hit ((p.dom.0 == q) && (p.gref.0 == k)) (same_dir p.dir Read) old.reads (reads_at h q k) (reads_at (i ∷ h) q k) off a.reads (shrunk-count h i p q k Read shrinks);
+      writes = no-hit ((p.dom.0 == q) && (p.gref.0 == k)) (same_dir p.dir Write) old.writes (writes_at h q k) (writes_at (i ∷ h) q k) off a.writes (shrunk-count h i p q k Write shrinks);
+      first = a.first ∙ sym (same-body i h q k FirstHalf keeps);
+      second = a.second ∙ sym (same-body i h q k SecondHalf keeps);
+    }
+
+unpinned-slots : (h : History) (i : Item) (p : Held) (q : ℕ) (slots : List Slot) (b : Bool) → KeepsEntries i → Shrinks h i p → (p.dom.0 == q) ≡ b → SlotsAgree h q slots
+    → SlotsAgree (i ∷ h) q (cond b (changed_at p.gref.0 (slot_after (Unpinned p.dir)) slots) slots)
+unpinned-slots h i p q slots b keeps shrinks is was =
+    slots-agree h (i ∷ h) p.dom.0 q p.gref.0 (slot_after (Unpinned p.dir)) slots b is was
+    (λ on old a. slot-down h i p q old keeps shrinks on a) (λ k old off a. slot-stays h i p q k old keeps shrinks off a)
+
+unpins-keeps : (d : DomId) (p : Held) (holder : Holder) (seen : Seen) (answer : Option Answer) → KeepsEntries (unpins d p holder seen answer)
+unpins-keeps d p holder seen answer = record { changes = λ r. refl; stores = λ r which. refl; header = refl }
+
+le-lt : (a b n : ℕ) → a ≤ b → b < n → a < n
+le-lt a b n e f = omega arith
+
+le-zero : (a b : ℕ) → a ≤ b → b ≡ 0 → a ≡ 0
+le-zero a b e f = omega arith
+
+-- a live pin that is given back keeps what the core stands for, where the domain's mappings are those that it then has
+pub unpin-stands : (s : Setting) (h : History) (xs zs : List State) (x : State) (p : Held) (holder : Holder) (seen : Seen) (answer : Option Answer) (kept : Kept Held) (o : Option Open) → CoreStands s h xs
+    → state_of xs x.id.0 ≡ Some x → Agrees s h x → Becomes xs zs x (record x { mappings = kept; underway = o }) p.dom.0 (with_slot p.gref.0 (Unpinned p.dir)) → Loses p (live h) (without x.id.0 holder (live h))
+    → MappingsAgree kept (mappings_at (unpins x.id p holder seen answer ∷ h) x.id.0) (maps_answered_at (unpins x.id p holder seen answer ∷ h) x.id.0)
+    → CallAgrees s (unpins x.id p holder seen answer ∷ h) x.id o (open_call (unpins x.id p holder seen answer ∷ h) x.id.0) → GivenAgrees (unpins x.id p holder seen answer ∷ h) x.id.0 x.given
+    → CoreStands s (unpins x.id p holder seen answer ∷ h) zs
+unpin-stands s h xs zs x p holder seen answer kept o st here a becomes loses maps call given =
+    keeps-stands s i h xs zs keeps st
+    (each-stands s i h xs zs x new p.dom.0 (with_slot p.gref.0 (Unpinned p.dir)) st here becomes refl (λ y. refl) (mine (p.dom.0 == x.id.0) refl) (λ y apart b. other y apart b (p.dom.0 == y.id.0) refl))
+    (subst (All (IsLawful s)) (sym (unpinned-live h x.id p holder seen answer)) (all-less (IsLawful s) p (live h) (without x.id.0 holder (live h)) loses st.lawful))
+    (λ t r within. let was = counts-fit s h t r (st.words t r within) in
+    (le-lt (reads_at (i ∷ h) t r) (reads_at h t r) 4096 (shrunk-le h i p t r Read shrinks) was.0, le-lt (writes_at (i ∷ h) t r) (writes_at h t r) 4096 (shrunk-le h i p t r Write shrinks) was.1))
+    (λ t r none. let was = st.free t r none in
+    (le-zero (reads_at (i ∷ h) t r) (reads_at h t r) (shrunk-le h i p t r Read shrinks) was.0, le-zero (writes_at (i ∷ h) t r) (writes_at h t r) (shrunk-le h i p t r Write shrinks) was.1))
+    (filled-stays s i h xs (λ given contents. refl) st)
+  where
+    i : Item
+    i = unpins x.id p holder seen answer
+
+    keeps : KeepsEntries i
+    keeps = unpins-keeps x.id p holder seen answer
+
+    new : State
+    new = record x { mappings = kept; underway = o }
+
+    shrinks : Shrinks h i p
+    shrinks = subst (Loses p (live h)) (sym (unpinned-live h x.id p holder seen answer)) loses
+
+    picked : (y : State) (b : Bool) → record y { slots = cond b (changed_at p.gref.0 (slot_after (Unpinned p.dir)) y.slots) y.slots } ≡ cond b (with_slot p.gref.0 (Unpinned p.dir) y) y
+    picked y true = refl
+    picked y false = refl
+
+    mine : (b : Bool) → (p.dom.0 == x.id.0) ≡ b → Agrees s (i ∷ h) (cond b (with_slot p.gref.0 (Unpinned p.dir) new) new)
+    mine b is =
+        subst (Agrees s (i ∷ h)) (picked new b)
+        (actor-agrees s i h x (cond b (changed_at p.gref.0 (slot_after (Unpinned p.dir)) x.slots) x.slots) kept x.frames o x.given keeps a
+        (length-slots p.gref.0 (slot_after (Unpinned p.dir)) x.slots b a.room) (unpinned-slots h i p x.id.0 x.slots b keeps shrinks is a.slots)
+        maps (frames-stay s i h x.id x.frames (λ given contents. refl) a.frames) call given)
+
+    other : (y : State) → (x.id.0 == y.id.0) ≡ false → Agrees s h y → (b : Bool) → (p.dom.0 == y.id.0) ≡ b → Agrees s (i ∷ h) (cond b (with_slot p.gref.0 (Unpinned p.dir) y) y)
+    other y apart c b is =
+        subst (Agrees s (i ∷ h)) (picked y b)
+        (other-agrees s i h y (cond b (changed_at p.gref.0 (slot_after (Unpinned p.dir)) y.slots) y.slots) y.frames apart c
+        (length-slots p.gref.0 (slot_after (Unpinned p.dir)) y.slots b c.room) (unpinned-slots h i p y.id.0 y.slots b keeps shrinks is c.slots)
+        (frames-stay s i h y.id y.frames (λ given contents. refl) c.frames))
+
+-- the states after an unpin: the mapping goes too, where it is of one
+pub becomes-unpinned : (xs ys : List State) (x : State) (p : Held) (holder : Holder) (o : Option Open) → ((q : ℕ) → state_of ys q ≡ cond (x.id.0 == q) (Some (record x { underway = o })) (state_of xs q))
+    → Becomes xs (changed_in x.id.0 (without_mapping holder) (changed_in p.dom.0 (with_slot p.gref.0 (Unpinned p.dir)) ys)) x (without_mapping holder (record x { underway = o })) p.dom.0 (with_slot p.gref.0 (Unpinned p.dir))
+becomes-unpinned xs ys x p holder o was = λ q.
+    state-changed (changed_in p.dom.0 (with_slot p.gref.0 (Unpinned p.dir)) ys) x.id.0 q (without_mapping holder) (keeps holder)
+    ∙ ap (λ (z : Option State). after_change (x.id.0 == q) (without_mapping holder) z) (becomes-changed xs ys x (record x { underway = o }) p.dom.0 (with_slot p.gref.0 (Unpinned p.dir)) (λ y. refl) was q)
+    ∙ by holder (x.id.0 == q) (p.dom.0 == q) (state_of xs q)
+  where
+    keeps : (w : Holder) (y : State) → (without_mapping w y).id ≡ y.id
+    keeps (ByMapping handle) y = refl
+    keeps (ByLeg number) y = refl
+
+    by : (w : Holder) (b c : Bool) (z : Option State) → after_change b (without_mapping w) (after_change c (with_slot p.gref.0 (Unpinned p.dir)) (cond b (Some (record x { underway = o })) z))
+        ≡ after_change c (with_slot p.gref.0 (Unpinned p.dir)) (cond b (Some (without_mapping w (record x { underway = o }))) z)
+    by (ByMapping handle) true true z = refl
+    by (ByMapping handle) true false z = refl
+    by (ByMapping handle) false c z = refl
+    by (ByLeg number) true true z = refl
+    by (ByLeg number) true false z = refl
+    by (ByLeg number) false c z = refl
