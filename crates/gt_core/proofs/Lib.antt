@@ -20,3 +20,4 @@ pub mod Headers
 pub mod Pinning
 pub mod Unpinning
 pub mod Writing
+pub mod Beginning

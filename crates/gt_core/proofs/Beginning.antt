@@ -1,0 +1,556 @@
+-- A beginning keeps what a core stands for.
+use Rattle.std.proofs.Common.{arith, ◌≤◌, ◌≡◌, ◌≢◌, ◌<◌, ◌+◌, ◌⊎◌, inl, inr, ℕ, refl, Bool, true, false, List, [], ◌∷◌, ◌++◌, length, Option, Some, None, cond, sym, ap, ◌∙◌, subst, get_or, set, reverse}
+use Rattle.std.proofs.lemmas.Bool.{eqb-true, true≢false}
+use Rattle.std.proofs.lemmas.Option.{none-some, slice_get_read, same_Some}
+use Rattle.std.proofs.lemmas.List.Quantifiers.{position-Some}
+use Rattle.std.specs.Prelude.{All, nat_lt, nat_le, ◌==◌, ◌||◌, ◌^◌, not, is_none, is_some, position, slice_get}
+use Rattle.gt_types.specs.Names.{domain_of, resolved}
+use Rattle.gt_types.specs.Denial.{denial_of}
+use Rattle.gt_types.specs.declared.DomId.{DomId}
+use Rattle.gt_types.specs.declared.TypeId.{TypeId}
+use Rattle.gt_types.specs.declared.Dir.TheVariants.{Read, Write}
+use Rattle.gt_types.specs.declared.perms.Perms.{Perms}
+use Rattle.gt_types.specs.declared.rights.Triple.{Triple}
+use Rattle.gt_types.specs.declared.limits.TheConstants.{FRAME_SIZE, LAST_GENERATION, MAX_MAPPINGS, MAX_TABLE_FRAMES}
+use Rattle.gt_types.specs.declared.denial.Denial.{Denial}
+use Rattle.gt_types.specs.declared.denial.Field.{Field}
+use Rattle.gt_types.specs.declared.denial.Rule.{Rule}
+use Rattle.gt_types.specs.declared.denial.Rule.TheVariants.{N1, N2, N3, N4, N5, N6, N7, N8, N9, N10, N16, N20, N21, N22, N23, N24}
+use Rattle.gt_types.specs.declared.denial.Facts.TheVariants.{Policy}
+use Rattle.gt_entry.specs.declared.entry.Entry.{Entry}
+use Rattle.gt_entry.specs.declared.header.Header.{Header}
+use Rattle.gt_entry.specs.declared.change.Change.{Change}
+use Rattle.gt_entry.specs.declared.change.Change.TheVariants.{Demote as ToReadOnly, Promote as ToWritable}
+use Rattle.gt_entry.specs.Bytes.{first_refused}
+use Rattle.gt_handles.specs.declared.handles.Handle.{Handle}
+use Rattle.gt_calls.specs.declared.held.Held.{Held}
+use Rattle.gt_calls.specs.declared.held.Route.TheVariants.{Own}
+use Rattle.gt_calls.specs.declared.request.Request.{Request}
+use Rattle.gt_calls.specs.declared.request.Request.TheVariants as requests
+use Rattle.gt_calls.specs.declared.request.CopyArgs.{CopyArgs}
+use Rattle.gt_calls.specs.declared.request.Asked.{Asked}
+use Rattle.gt_calls.specs.declared.request.Asked.TheVariants.{Grant, Revoke, Demote, Promote, Map, Unmap, Load, SetVersion, SetupTable, QuerySize, GetVersion, Store, Peek, Poke, Copy}
+use Rattle.gt_calls.specs.declared.action.Seen.{Seen}
+use Rattle.gt_calls.specs.declared.action.Verdict.{Verdict}
+use Rattle.gt_calls.specs.declared.action.Verdict.TheVariants.{Granted, Given, Refused, Mapped as KeptPin}
+use Rattle.gt_calls.specs.declared.action.Value.TheVariants.{Frames as FramesTold, Size as SizeTold, Version as VersionTold}
+use Rattle.gt_calls.specs.declared.action.Action.TheVariants.{Step as Makes}
+use Rattle.gt_calls.specs.declared.judging.TheConstants.{END_OF_SERIALS}
+use Rattle.gt_calls.specs.declared.call.Call.{Call}
+use Rattle.gt_calls.specs.declared.call.Phase.{Phase}
+use Rattle.gt_calls.specs.declared.call.Phase.TheVariants.{Storing, StoringSecond, Exchanging, Looking, Changing, Walking, Accessing, Asking, Last, Ending}
+use Rattle.gt_calls.specs.declared.copying.Aim.TheVariants.{Source, Dest}
+use Rattle.gt_calls.specs.declared.leg.LegPhase.TheVariants.{Header as AtHeader}
+use Rattle.gt_calls.specs.Asking.{asked, field_refused, begun_of, bytes_begun, IsSaid, given_by}
+use Rattle.gt_calls.specs.Rules.{CallerKnowledge, first, refused_when, granted_when, given_when, denied, unmap_denied, rights_to_map, rights_to_unmap, rights_to_copy, rights_to_setup, rights_to_query, map_dir, is_already, change_begun, version_begun, setup_begun, query_begun, own_access_begun, is_version, has_valid, cannot_stand, is_for_reading, is_invalid, size_of, begun, knowledge_of, frames_of, ends_named, ends_ranged, ends_owned, ends_framed, copy_denied, is_foreign, is_past_frames, is_source_granted, is_dest_granted}
+use Rattle.gt_calls.specs.Opening.{opens}
+use Rattle.gt_calls.specs.Path.{end_leg}
+use Rattle.gt_calls.specs.Machine.{first_phase, action_at, at_source, at_dest, unmap_phase, load_phase, store_phase}
+use Rattle.gt_calls.specs.Standing.{StandsAt, IsAt, held_in}
+use Rattle.gt_calls.specs.Counting.{most_steps as most_of, steps_left, steps_to_come}
+use Rattle.gt_core.specs.declared.trace.Item.{Item}
+use Rattle.gt_core.specs.declared.trace.Happened.TheVariants.{Began}
+use Rattle.gt_core.specs.declared.trace.Answer.{Answer}
+use Rattle.gt_core.specs.declared.trace.Answer.TheVariants.{Frames, Done as AnswerDone}
+use Rattle.gt_core.specs.declared.slot.Open.{Open}
+use Rattle.gt_core.specs.declared.core_state.Opening.TheVariants.{Open as OpeningOpen}
+use Rattle.gt_core.specs.States.{State, state_of, asks_memory, kept_by}
+use Rattle.gt_core.specs.Effects.{with_call}
+use Rattle.gt_core.specs.History.{History, Setting, table_at, known_at, Underway, open_call, values, legs_at, one_if_mapped}
+use Rattle.gt_core.specs.Legal.{LeavesAll, stood, AnsweredBy, GivesValue, refusal_in, refusal_of, MayDo, IsRight}
+use Rattle.gt_core.specs.Standing.{IsMapping, IsClean, phase_refusal, WantsMemory, IsOpened, FitsAsked, PhaseStands, OpenAgrees, CallAgrees, FitsGiven, GivenAgrees, Agrees, StateAgrees, CoreStands, answer_of, Opens, numbered}
+use Rattle.gt_core.proofs.Quiet.{KeepsKnown, WritesNone, kept-known, kept-legs}
+use Rattle.gt_core.proofs.Places.{has_id, found, not-found, state_of-set}
+use Rattle.gt_core.proofs.Phases.{of-run}
+use Rattle.gt_core.proofs.Placing.{dest-placed}
+use Rattle.gt_core.proofs.Keeping.{KeepsEntries, known-same, open_call-own, stood-own, given-none, quiet-stands}
+
+-- beginnings
+
+abbrev pub began : DomId → Request → Option Answer → Item
+began dom request answer = record { actor = dom; happened = Began request; answer = answer }
+
+began-keeps : (dom : DomId) (request : Request) (answer : Option Answer) → one_if_mapped answer ≡ 0 → KeepsKnown (began dom request answer)
+began-keeps dom request answer e = record { changes = λ r. refl; pins = λ before ps. refl; unpins = λ pins. refl; maps = e }
+
+began-entries : (dom : DomId) (request : Request) (answer : Option Answer) → KeepsEntries (began dom request answer)
+began-entries dom request answer = record { changes = λ r. refl; stores = λ r which. refl; header = refl }
+
+pub call-none : (s : Setting) (h : History) (id : DomId) (o : Option Open) (c : Option Underway) → o ≡ None → CallAgrees s h id o c → (c ≡ None) × (legs_at h id.0 ≡ [])
+call-none s h id None None e a = (refl, a)
+call-none s h id None (Some c) e a = absurd a
+call-none s h id (Some o) c e a = cc
+
+pub call-some : (s : Setting) (h : History) (id : DomId) (o : Option Open) (c : Option Underway) → is_some o ≡ true → CallAgrees s h id o c → c ≢ None
+call-some s h id None c e a n = absurd (true≢false (sym e))
+call-some s h id (Some o) None e a n = a
+call-some s h id (Some o) (Some c) e a n = cc
+
+-- an opened call
+
+held-by : (k : CallerKnowledge) (d : DomId) (r : Asked) → held_in (first_phase k d r) ≡ []
+held-by k d (Grant gref entry) = refl
+held-by k d (Revoke gref) = refl
+held-by k d (Demote gref) = refl
+held-by k d (Promote gref) = refl
+held-by k d (Map dom gref flags) = refl
+held-by k d (Unmap handle) = by (k.mapping handle)
+  where
+    by : (o : Option Held) → held_in (unmap_phase handle o) ≡ []
+    by None = refl
+    by (Some m) = refl
+held-by k d (Load handle off len) = by (k.mapping handle)
+  where
+    by : (o : Option Held) → held_in (load_phase o off len) ≡ []
+    by None = refl
+    by (Some m) = refl
+held-by k d (Store handle off len) = by (k.mapping handle)
+  where
+    by : (o : Option Held) → held_in (store_phase o off len) ≡ []
+    by None = refl
+    by (Some m) = refl
+held-by k d (Peek frame off len) = refl
+held-by k d (Poke frame off len) = refl
+held-by k d (Copy c) = by (is_source_granted c) (is_dest_granted c)
+  where
+    by : (a b : Bool) → held_in (cond a (Walking (Source c None) (end_leg k d c.source Read c.len) AtHeader) (cond b (Walking (Dest c Own None) (end_leg k d c.dest Write c.len) AtHeader) (Accessing c Own Own))) ≡ []
+    by true b = refl
+    by false true = refl
+    by false false = refl
+held-by k d (SetVersion version) = refl
+held-by k d (SetupTable frames) = refl
+held-by k d (QuerySize dom) = refl
+held-by k d (GetVersion dom) = refl
+
+first-place : (s : Setting) (h : History) (d : DomId) (r : Asked) → begun (known_at s h d) d r ≡ None → PhaseStands s h d r [] (first_phase (known_at s h d) d r)
+unfolding Rattle.gt_core.specs.Legal.misses
+first-place s h d (Grant gref entry) e = tt
+first-place s h d (Revoke gref) e = tt
+first-place s h d (Demote gref) e = (refl, refl)
+first-place s h d (Promote gref) e = (refl, refl)
+first-place s h d (Map dom gref flags) e = (of-run (domain_of s.domains (resolved d dom)) (opens (known_at s h d) d (Map dom gref flags) e).of_run, tt)
+first-place s h d (Unmap handle) e = by ((known_at s h d).mapping handle)
+  where
+    by : (o : Option Held) → PhaseStands s h d (Unmap handle) [] (unmap_phase handle o)
+    by None = inl refl
+    by (Some m) = refl
+first-place s h d (Load handle off len) e = by ((known_at s h d).mapping handle)
+  where
+    by : (o : Option Held) → PhaseStands s h d (Load handle off len) [] (load_phase o off len)
+    by None = inl refl
+    by (Some m) = refl
+first-place s h d (Store handle off len) e = by ((known_at s h d).mapping handle)
+  where
+    by : (o : Option Held) → PhaseStands s h d (Store handle off len) [] (store_phase o off len)
+    by None = inl refl
+    by (Some m) = refl
+first-place s h d (Peek frame off len) e = refl
+first-place s h d (Poke frame off len) e = refl
+first-place s h d (Copy c) e = by (is_source_granted c)
+  where
+    by : (b : Bool) → PhaseStands s h d (Copy c) [] (cond b (Walking (Source c None) (end_leg (known_at s h d) d c.source Read c.len) AtHeader) (at_dest (known_at s h d) d c Own))
+    by true = (of-run (domain_of s.domains (resolved d c.source.domid)) (opens (known_at s h d) d (Copy c) e).source_of_run, tt)
+    by false = dest-placed s h d (Copy c) c Own [] refl e
+first-place s h d (SetVersion version) e = inl (refl, refl)
+first-place s h d (SetupTable frames) e = inr (refl, refl)
+first-place s h d (QuerySize dom) e = (dom, refl, refl)
+first-place s h d (GetVersion dom) e = (dom, refl, refl)
+
+
+-- a call that opens has no rule against it where it then stands
+first-plain : (k : CallerKnowledge) (d : DomId) (r : Asked) → begun k d r ≡ None → phase_refusal (first_phase k d r) ≡ None
+first-plain k d (Grant gref entry) e = refl
+first-plain k d (Revoke gref) e = refl
+first-plain k d (Demote gref) e = refl
+first-plain k d (Promote gref) e = refl
+first-plain k d (Map dom gref flags) e = refl
+first-plain k d (Unmap handle) e = ap (λ (o : Option Held). phase_refusal (unmap_phase handle o)) (opens k d (Unmap handle) e).found
+first-plain k d (Load handle off len) e = ap (λ (o : Option Held). phase_refusal (load_phase o off len)) (opens k d (Load handle off len) e).found
+first-plain k d (Store handle off len) e = ap (λ (o : Option Held). phase_refusal (store_phase o off len)) (opens k d (Store handle off len) e).found
+first-plain k d (Peek frame off len) e = refl
+first-plain k d (Poke frame off len) e = refl
+first-plain k d (Copy c) e = by (is_source_granted c) (is_dest_granted c)
+  where
+    by : (a b : Bool) → phase_refusal (cond a (Walking (Source c None) (end_leg k d c.source Read c.len) AtHeader) (cond b (Walking (Dest c Own None) (end_leg k d c.dest Write c.len) AtHeader) (Accessing c Own Own))) ≡ None
+    by true b = refl
+    by false true = refl
+    by false false = refl
+first-plain k d (SetVersion version) e = refl
+first-plain k d (SetupTable frames) e = refl
+first-plain k d (QuerySize dom) e = refl
+first-plain k d (GetVersion dom) e = refl
+
+all-nothing : {A : Type 0} (P : A → Type 0) → All P []
+all-nothing P = λ i x below. absurd (omega arith)
+
+clean-nothing : (p : Phase) → IsClean p []
+clean-nothing (Storing gref entry) = all-nothing LeavesAll
+clean-nothing (StoringSecond gref entry) = all-nothing LeavesAll
+clean-nothing (Exchanging gref looked change) = all-nothing LeavesAll
+clean-nothing (Looking gref change more) = all-nothing LeavesAll
+clean-nothing (Changing gref change more looked) = all-nothing LeavesAll
+clean-nothing (Walking aim l at) = all-nothing LeavesAll
+clean-nothing (Accessing copy source dest) = all-nothing LeavesAll
+clean-nothing (Asking dom question) = all-nothing LeavesAll
+clean-nothing (Last step verdict) = all-nothing LeavesAll
+clean-nothing (Ending pins verdict) = inr (all-nothing LeavesAll)
+
+-- a call keeps the bytes that are given to it
+kept-given : (request : Request) → kept_by (asked request) (given_by request) ≡ given_by request
+kept-given (requests.Grant gref entry) = refl
+kept-given (requests.GrantBytes gref bytes) = refl
+kept-given (requests.Revoke gref) = refl
+kept-given (requests.Demote gref) = refl
+kept-given (requests.Promote gref) = refl
+kept-given (requests.Map dom gref flags) = refl
+kept-given (requests.Unmap handle) = refl
+kept-given (requests.Load handle off len) = refl
+kept-given (requests.Store handle off bytes) = refl
+kept-given (requests.Peek frame off len) = refl
+kept-given (requests.Poke frame off bytes) = refl
+kept-given (requests.Copy c) = refl
+kept-given (requests.SetVersion version) = refl
+kept-given (requests.SetupTable frames) = refl
+kept-given (requests.QuerySize dom) = refl
+kept-given (requests.GetVersion dom) = refl
+
+-- where nothing stands against it, they end inside a frame
+given-fits : (k : CallerKnowledge) (d : DomId) (request : Request) → begun_of k d request ≡ None → FitsGiven (asked request) (given_by request)
+given-fits k d (requests.Store handle off bytes) e = (refl, (opens k d (Store handle off (length bytes.now)) e).range)
+given-fits k d (requests.Poke frame off bytes) e = (refl, (opens k d (Poke frame off (length bytes.now)) e).range)
+given-fits k d (requests.Grant gref entry) e = tt
+given-fits k d (requests.GrantBytes gref bytes) e = tt
+given-fits k d (requests.Revoke gref) e = tt
+given-fits k d (requests.Demote gref) e = tt
+given-fits k d (requests.Promote gref) e = tt
+given-fits k d (requests.Map dom gref flags) e = tt
+given-fits k d (requests.Unmap handle) e = tt
+given-fits k d (requests.Load handle off len) e = tt
+given-fits k d (requests.Peek frame off len) e = tt
+given-fits k d (requests.Copy c) e = tt
+given-fits k d (requests.SetVersion version) e = tt
+given-fits k d (requests.SetupTable frames) e = tt
+given-fits k d (requests.QuerySize dom) e = tt
+given-fits k d (requests.GetVersion dom) e = tt
+
+-- a call that was just begun has the bytes of its request
+given-begins : (i : Item) (h : History) (d : DomId) (request : Request) (given : List ℕ)
+    → open_call (i ∷ h) d.0 ≡ Some (record { request = asked request; given = given_by request; steps = [] }) → given ≡ given_by request → FitsGiven (asked request) (given_by request)
+    → GivenAgrees (i ∷ h) d.0 given
+given-begins i h d request given now same fits = λ c call.
+    subst (λ (u : Underway). (given ≡ u.given) × FitsGiven u.request u.given) (same_Some _ _ (sym now ∙ call)) (same, fits)
+
+-- where a call stands, by its phase
+pub is-at : (k : CallerKnowledge) (call : Call) (shown : List Seen) (p : Phase) → call.phase ≡ Some p → IsAt k call shown → StandsAt k call.caller call.request shown p
+is-at k call shown p e a = subst (λ (c : Call). IsAt k c shown) (ap (λ (o : Option Phase). record call { phase = o }) e) a
+
+pub to-come : (call : Call) (p : Phase) → call.phase ≡ Some p → steps_to_come call ≡ steps_left p
+to-come call p e = ap (λ (o : Option Phase). steps_to_come (record call { phase = o })) e
+
+begin-opens : (s : Setting) (h : History) (d : State) (request : Request) (o : Open) → FitsAsked o.call.request → Agrees s h d → d.underway ≡ None
+    → IsOpened (knowledge_of s.domains s.first_generation s.may d.own d.header d.mappings) d.id request o
+    → IsRight s h (began d.id request None)
+    × CallAgrees s (began d.id request None ∷ h) d.id (Some o) (open_call (began d.id request None ∷ h) d.id.0)
+    × GivenAgrees (began d.id request None ∷ h) d.id.0 (kept_by o.call.request (given_by request))
+begin-opens s h d request o fits a closed op =
+    let i = began d.id request None in
+    let keeps = began-keeps d.id request None refl in
+    let r = asked request in
+    let was = known-same s h d a in
+    let still = was ∙ sym (kept-known s i h d.id keeps refl) in
+    let k = known_at s (i ∷ h) d.id in
+    let unanswered : begun_of (known_at s h d.id) d.id request ≡ None = ap (λ (k : CallerKnowledge). begun_of k d.id request) (sym was) ∙ op.unanswered in
+    let said : IsSaid (table_at s h d.id) request = subst (λ (x : Header). IsSaid x request) a.header op.said in
+    let none : begun k d.id r ≡ None = ap (λ (k : CallerKnowledge). begun k d.id r) (sym still) ∙ op.none in
+    let fair : stood s (i ∷ h) d.id.0 ≡ None = stood-own s i h ∙ ap refusal_in unanswered in
+    let empty = call-none s h d.id d.underway (open_call h d.id.0) closed a.call in
+    let here : o.call.phase ≡ Some (first_phase k d.id r) = op.phase ∙ ap (λ (k : CallerKnowledge). Some (first_phase k d.id r)) still in
+    let stands : StandsAt k o.call.caller o.call.request [] (first_phase k d.id r) = is-at k o.call [] (first_phase k d.id r) here (subst (λ (k : CallerKnowledge). IsAt k o.call []) still op.at) in
+    let few : steps_left (first_phase k d.id r) ≤ most_of r = subst (λ (n : ℕ). n ≤ most_of r) (to-come o.call (first_phase k d.id r) here) op.few in
+    let agrees : OpenAgrees s (i ∷ h) d.id o (record { request = r; given = given_by request; steps = [] }) =
+    record {
+      caller = op.caller;
+      asks = op.asks;
+      phase = first_phase k d.id r;
+      here = here;
+      at = subst (λ (z : DomId). StandsAt k z r [] (first_phase k d.id r)) op.caller (subst (λ (z : Asked). StandsAt k o.call.caller z [] (first_phase k d.id r)) op.asks stands);
+      acts = ap (λ (k : CallerKnowledge). action_at d.id (first_phase k d.id r)) (sym still) ∙ op.acts;
+      place = first-place s (i ∷ h) d.id r none;
+      fair = fair ∙ sym (first-plain k d.id r none);
+      fits = subst FitsAsked op.asks fits;
+      clean = clean-nothing (first_phase k d.id r);
+      held = kept-legs i h d.id.0 keeps ∙ empty.1 ∙ sym (ap (λ (l : List Held). numbered 0 (reverse l)) (held-by k d.id r));
+      few = (omega arith);
+    } in (
+      (empty.0, subst (λ (v : Option Verdict). AnsweredBy s h d.id r None false v None (stood s (i ∷ h) d.id.0)) (sym unanswered) (inl fair), λ e. said),
+      subst (λ (c : Option Underway). CallAgrees s (i ∷ h) d.id (Some o) c) (sym (open_call-own i h)) agrees,
+      given-begins i h d.id request (kept_by o.call.request (given_by request)) (open_call-own i h) (ap (λ (z : Asked). kept_by z (given_by request)) op.asks ∙ kept-given request) (given-fits (known_at s h d.id) d.id request unanswered),
+    )
+
+-- a call that is answered at once
+
+pub plain-unmapped : (v : Verdict) → one_if_mapped (Some (answer_of v)) ≡ 0
+plain-unmapped Granted = refl
+plain-unmapped (KeptPin p) = refl
+plain-unmapped (Given (FramesTold n)) = refl
+plain-unmapped (Given (SizeTold z)) = refl
+plain-unmapped (Given (VersionTold n)) = refl
+plain-unmapped (Refused denial) = refl
+
+pub plain-refusal : (v : Verdict) → refusal_of (answer_of v) ≡ refusal_in (Some v)
+plain-refusal Granted = refl
+plain-refusal (KeptPin p) = refl
+plain-refusal (Given (FramesTold n)) = refl
+plain-refusal (Given (SizeTold z)) = refl
+plain-refusal (Given (VersionTold n)) = refl
+plain-refusal (Refused denial) = refl
+
+-- what holds of a verdict, if there is one
+
+abbrev OnVerdict : (Verdict → Type 0) → Option Verdict → Type 0
+OnVerdict Q None = Unit {0}
+OnVerdict Q (Some v) = Q v
+
+-- what each of the tests of a beginning gives holds of the first
+on-first : (Q : Verdict → Type 0) (o : Option Verdict) (more : List (Option Verdict)) → OnVerdict Q o → OnVerdict Q (first more) → OnVerdict Q (first (o ∷ more))
+on-first Q None more a b = b
+on-first Q (Some v) more a b = a
+
+-- a value that is given at a beginning, or nothing, for a call that is asked so
+abbrev Fits : Setting → History → DomId → Asked → Verdict → Type 0
+Fits s h d r v = GivesValue s h d r None (answer_of v)
+
+or-refused : (s : Setting) (h : History) (d : DomId) (r : Asked) (b : Bool) (rule : Rule) (more : List (Option Verdict)) → OnVerdict (Fits s h d r) (first more)
+    → OnVerdict (Fits s h d r) (first (refused_when b rule ∷ more))
+or-refused s h d r true rule more a = tt
+or-refused s h d r false rule more a = a
+
+denied-fits : (s : Setting) (h : History) (d : DomId) (r : Asked) (may : TypeId → TypeId → Perms → Bool) (ts : List Triple) → OnVerdict (Fits s h d r) (denied may ts)
+denied-fits s h d r may [] = tt
+denied-fits s h d r may (t ∷ ts) = by (may t.source t.target t.perm) (denied-fits s h d r may ts)
+  where
+    by : (b : Bool) → OnVerdict (Fits s h d r) (denied may ts) → OnVerdict (Fits s h d r) (cond b (denied may ts) (Some (Refused (denial_of N5 (Policy t.source t.target t.perm)))))
+    by true a = a
+    by false a = tt
+
+or-denied : (s : Setting) (h : History) (d : DomId) (r : Asked) (may : TypeId → TypeId → Perms → Bool) (ts : List Triple) (more : List (Option Verdict)) → OnVerdict (Fits s h d r) (first more)
+    → OnVerdict (Fits s h d r) (first (denied may ts ∷ more))
+or-denied s h d r may ts more a = on-first (Fits s h d r) (denied may ts) more (denied-fits s h d r may ts) a
+
+granted-fits : (s : Setting) (h : History) (d : DomId) (r : Asked) (b : Bool) → GivesValue s h d r None AnswerDone → OnVerdict (Fits s h d r) (granted_when b)
+granted-fits s h d r true a = a
+granted-fits s h d r false a = tt
+
+turn-fits : (s : Setting) (h : History) (d : DomId) (r : Asked) (change : Change) (header : Header) (old : Entry) (generation n : ℕ) → GivesValue s h d r None AnswerDone
+    → OnVerdict (Fits s h d r) (change_begun change header old generation n)
+turn-fits s h d r change header old generation n plain =
+    or-refused s h d r (nat_le (size_of header) n) N9 _ (or-refused s h d r (is_invalid old) N10 _
+    (on-first (Fits s h d r) (granted_when (is_already change old)) _ (granted-fits s h d r (is_already change old) plain) (or-refused s h d r (generation == LAST_GENERATION) N22 [] tt)))
+
+unmap-fits : (s : Setting) (h : History) (k : CallerKnowledge) (d : DomId) (r : Asked) (o : Option Held) → OnVerdict (Fits s h d r) (unmap_denied k d o)
+unmap-fits s h k d r None = tt
+unmap-fits s h k d r (Some m) = denied-fits s h d r k.may (rights_to_unmap k d m.dom)
+
+version-fits : (s : Setting) (h : History) (k : CallerKnowledge) (d : DomId) (version : ℕ) → OnVerdict (Fits s h d (SetVersion version)) (version_begun k.header k.entry version)
+version-fits s h k d version =
+    let r = SetVersion version in
+    or-refused s h d r (not (is_version version)) N2 _
+    (on-first (Fits s h d r) (granted_when (version == k.header.version)) _ (granted-fits s h d r (version == k.header.version) refl) (or-refused s h d r (has_valid k.entry (size_of k.header)) N24 [] tt))
+
+setup-fits : (s : Setting) (h : History) (k : CallerKnowledge) (d : DomId) (frames : ℕ) → k.header ≡ table_at s h d → OnVerdict (Fits s h d (SetupTable frames)) (setup_begun k d frames)
+setup-fits s h k d frames same =
+    let r = SetupTable frames in
+    or-denied s h d r k.may (rights_to_setup k d) _
+    (on-first (Fits s h d r) (given_when (nat_le frames k.header.frames) (FramesTold k.header.frames)) _ (given (nat_le frames k.header.frames)) (or-refused s h d r (nat_lt MAX_TABLE_FRAMES frames) N23 [] tt))
+  where
+    given : (b : Bool) → OnVerdict (Fits s h d (SetupTable frames)) (given_when b (FramesTold k.header.frames))
+    given true = ap (λ (t : Header). Frames t.frames) same
+    given false = tt
+
+query-fits : (s : Setting) (h : History) (k : CallerKnowledge) (d : DomId) (r : Asked) (dom : DomId) → OnVerdict (Fits s h d r) (query_begun k d dom)
+query-fits s h k d r dom =
+    or-refused s h d r (is_none (domain_of k.domains (resolved d dom))) N1 _ (or-denied s h d r k.may (rights_to_query k d (resolved d dom)) [] tt)
+
+bytes-fits : (s : Setting) (h : History) (d : DomId) (r : Asked) (header : Header) (old : Entry) (generation n : ℕ) (bytes : List ℕ) → OnVerdict (Fits s h d r) (bytes_begun header old generation n bytes)
+bytes-fits s h d r header old generation n bytes =
+    or-refused s h d r (nat_le (size_of header) n) N9 _ (or-refused s h d r (not (is_invalid old)) N20 _ (or-refused s h d r (generation == LAST_GENERATION) N22 _ (by (first_refused header.version bytes))))
+  where
+    by : (o : Option Field) → OnVerdict (Fits s h d r) (first (field_refused o ∷ []))
+    by None = tt
+    by (Some f) = tt
+
+access-fits : (s : Setting) (h : History) (k : CallerKnowledge) (d : DomId) (r : Asked) (frame off len : ℕ) → OnVerdict (Fits s h d r) (own_access_begun k.domains d frame off len)
+access-fits s h k d r frame off len = or-refused s h d r (nat_lt FRAME_SIZE (off + len)) N3 _ (or-refused s h d r (nat_le (frames_of k.domains d) frame) N16 [] tt)
+
+copy-fits : (s : Setting) (h : History) (k : CallerKnowledge) (d : DomId) (r : Asked) (c : CopyArgs) → OnVerdict (Fits s h d r) (begun k d (Copy c))
+copy-fits s h k d r c =
+    let source = resolved d c.source.domid in
+    let dest = resolved d c.dest.domid in
+    on-first (Fits s h d r) (ends_named k d c) _ (or-refused s h d r (is_none (domain_of k.domains source)) N1 _ (or-refused s h d r (is_none (domain_of k.domains dest)) N1 _ (or-refused s h d r (nat_lt 3 c.flags) N2 [] tt)))
+    (on-first (Fits s h d r) (ends_ranged c) _ (or-refused s h d r (nat_lt FRAME_SIZE (c.source.offset + c.len)) N3 _ (or-refused s h d r (nat_lt FRAME_SIZE (c.dest.offset + c.len)) N3 [] tt))
+    (on-first (Fits s h d r) (ends_owned d c) _ (or-refused s h d r (is_foreign d (is_source_granted c) c.source) N4 _ (or-refused s h d r (is_foreign d (is_dest_granted c) c.dest) N4 [] tt))
+    (or-denied s h d r k.may (rights_to_copy k source dest) _
+    (on-first (Fits s h d r) (ends_framed k d c) [] (or-refused s h d r (is_past_frames k d (is_source_granted c) c.source) N16 _ (or-refused s h d r (is_past_frames k d (is_dest_granted c) c.dest) N16 [] tt)) tt))))
+
+-- the value of a call that is answered at its beginning
+value-fits : (s : Setting) (h : History) (k : CallerKnowledge) (d : DomId) (request : Request) → k.header ≡ table_at s h d → OnVerdict (Fits s h d (asked request)) (begun_of k d request)
+value-fits s h k d (requests.Grant gref entry) same =
+    let r = Grant gref entry in
+    or-refused s h d r (nat_le (size_of k.header) gref.0) N9 _ (or-refused s h d r (not (is_invalid (k.entry gref.0))) N20 _
+    (or-refused s h d r (cannot_stand entry k.header.version) N21 _ (or-refused s h d r (k.generation gref.0 == LAST_GENERATION) N22 [] tt)))
+value-fits s h k d (requests.GrantBytes gref bytes) same = bytes-fits s h d (asked (requests.GrantBytes gref bytes)) k.header (k.entry gref.0) (k.generation gref.0) gref.0 bytes.now
+value-fits s h k d (requests.Revoke gref) same =
+    let r = Revoke gref in
+    or-refused s h d r (nat_le (size_of k.header) gref.0) N9 _ (or-refused s h d r (is_invalid (k.entry gref.0)) N10 [] tt)
+value-fits s h k d (requests.Demote gref) same = turn-fits s h d (Demote gref) ToReadOnly k.header (k.entry gref.0) (k.generation gref.0) gref.0 refl
+value-fits s h k d (requests.Promote gref) same = turn-fits s h d (Promote gref) ToWritable k.header (k.entry gref.0) (k.generation gref.0) gref.0 refl
+value-fits s h k d (requests.Map dom gref flags) same =
+    let r = Map dom gref flags in
+    or-refused s h d r (is_none (domain_of k.domains (resolved d dom))) N1 _ (or-refused s h d r (not ((flags == 2) || (flags == 6))) N2 _
+    (or-denied s h d r k.may (rights_to_map k d (resolved d dom) (map_dir flags)) _ (or-refused s h d r (nat_le MAX_MAPPINGS k.in_use || nat_le END_OF_SERIALS k.maps_answered) N8 [] tt)))
+value-fits s h k d (requests.Unmap handle) same =
+    let r = Unmap handle in
+    or-refused s h d r (is_none (k.mapping handle)) N6 _ (on-first (Fits s h d r) (unmap_denied k d (k.mapping handle)) [] (unmap-fits s h k d r (k.mapping handle)) tt)
+value-fits s h k d (requests.Load handle off len) same =
+    let r = Load handle off len in
+    or-refused s h d r (nat_lt FRAME_SIZE (off + len)) N3 _ (or-refused s h d r (is_none (k.mapping handle)) N6 [] tt)
+value-fits s h k d (requests.Store handle off bytes) same =
+    let r = asked (requests.Store handle off bytes) in
+    or-refused s h d r (nat_lt FRAME_SIZE (off + length bytes.now)) N3 _ (or-refused s h d r (is_none (k.mapping handle)) N6 _ (or-refused s h d r (is_for_reading (k.mapping handle)) N7 [] tt))
+value-fits s h k d (requests.Peek frame off len) same = access-fits s h k d (Peek frame off len) frame off len
+value-fits s h k d (requests.Poke frame off bytes) same = access-fits s h k d (asked (requests.Poke frame off bytes)) frame off (length bytes.now)
+value-fits s h k d (requests.Copy c) same = copy-fits s h k d (Copy c) c
+value-fits s h k d (requests.SetVersion version) same = version-fits s h k d version
+value-fits s h k d (requests.SetupTable frames) same = setup-fits s h k d frames same
+value-fits s h k d (requests.QuerySize dom) same = query-fits s h k d (QuerySize dom) dom
+value-fits s h k d (requests.GetVersion dom) same = query-fits s h k d (GetVersion dom) dom
+
+gives-value : (s : Setting) (h : History) (k : CallerKnowledge) (d : DomId) (request : Request) (v : Verdict) → k.header ≡ table_at s h d → begun_of k d request ≡ Some v
+    → GivesValue s h d (asked request) None (answer_of v)
+gives-value s h k d request v same e = subst (OnVerdict (Fits s h d (asked request))) e (value-fits s h k d request same)
+
+begin-done : (s : Setting) (h : History) (d : State) (request : Request) (v : Verdict) → Agrees s h d → d.underway ≡ None
+    → begun_of (knowledge_of s.domains s.first_generation s.may d.own d.header d.mappings) d.id request ≡ Some v
+    → IsRight s h (began d.id request (Some (answer_of v)))
+    × CallAgrees s (began d.id request (Some (answer_of v)) ∷ h) d.id d.underway (open_call (began d.id request (Some (answer_of v)) ∷ h) d.id.0)
+    × GivenAgrees (began d.id request (Some (answer_of v)) ∷ h) d.id.0 d.given
+begin-done s h d request v a closed op =
+    let i = began d.id request (Some (answer_of v)) in
+    let keeps = began-keeps d.id request (Some (answer_of v)) (plain-unmapped v) in
+    let was = known-same s h d a in
+    let at_once : begun_of (known_at s h d.id) d.id request ≡ Some v = ap (λ (k : CallerKnowledge). begun_of k d.id request) (sym was) ∙ op in
+    let against : stood s (i ∷ h) d.id.0 ≡ refusal_in (Some v) = stood-own s i h ∙ ap refusal_in at_once in
+    let empty = call-none s h d.id d.underway (open_call h d.id.0) closed a.call in
+    let now : open_call (i ∷ h) d.id.0 ≡ None = open_call-own i h in (
+      (
+        empty.0,
+        subst (λ (x : Option Verdict). AnsweredBy s h d.id (asked request) None false x (Some (answer_of v)) (stood s (i ∷ h) d.id.0)) (sym at_once)
+            (plain-refusal v, plain-refusal v ∙ sym against, gives-value s h (known_at s h d.id) d.id request v refl at_once),
+        λ e. let f : Some (answer_of v) ≡ None = e in cc,
+      ),
+      subst (λ (o : Option Open). CallAgrees s (i ∷ h) d.id o (open_call (i ∷ h) d.id.0)) (sym closed)
+          (subst (λ (c : Option Underway). CallAgrees s (i ∷ h) d.id None c) (sym now) (kept-legs i h d.id.0 keeps ∙ empty.1)),
+      given-none (i ∷ h) d.id.0 d.given now,
+    )
+
+-- the four ways that the core begins
+
+pub begin-nowhere : (s : Setting) (h : History) (domains : List State) (dom : DomId) → position (has_id dom.0) domains ≡ None → CoreStands s h domains → domain_of s.domains dom ≡ None
+begin-nowhere s h domains dom p st = subst (λ (o : Option State). StateAgrees s h dom o) (not-found domains dom.0 p) (st.each dom)
+
+pub agrees-found : (s : Setting) (h : History) (domains : List State) (dom : DomId) (at : ℕ) (x : State) → position (has_id dom.0) domains ≡ Some at → x ≡ get_or domains at x
+    → CoreStands s h domains → (domain_of s.domains dom ≢ None) × (x.id ≡ dom) × Agrees s h x
+agrees-found s h domains dom at x p here st =
+    subst (λ (o : Option State). StateAgrees s h dom o) (found domains dom.0 at x p ∙ ap (λ (y : State). Some y) (sym here)) (st.each dom)
+
+pub begin-busy : (s : Setting) (h : History) (domains : List State) (dom : DomId) (at : ℕ) (x : State) → position (has_id dom.0) domains ≡ Some at → x ≡ get_or domains at x
+    → is_some x.underway ≡ true → CoreStands s h domains → (domain_of s.domains dom ≢ None) × (open_call h dom.0 ≢ None)
+begin-busy s h domains dom at x p here busy st =
+    let a = agrees-found s h domains dom at x p here st in
+    (a.0, subst (λ (d : DomId). open_call h d.0 ≢ None) a.1 (call-some s h x.id x.underway (open_call h x.id.0) busy a.2.call))
+
+pub closed-from : (o : Option Open) → is_some o ≡ false → o ≡ None
+closed-from None e = refl
+closed-from (Some o) e = absurd (true≢false e)
+
+-- the states with the actor's own one new
+same-state : (domains : List State) (x : State) (q : ℕ) → state_of domains x.id.0 ≡ Some x → state_of domains q ≡ cond (x.id.0 == q) (Some x) (state_of domains q)
+same-state domains x q e = by (x.id.0 == q) refl
+  where
+    by : (b : Bool) → (x.id.0 == q) ≡ b → state_of domains q ≡ cond b (Some x) (state_of domains q)
+    by true w = ap (state_of domains) (sym (eqb-true x.id.0 q w)) ∙ e
+    by false w = refl
+
+begin-answered : (s : Setting) (h : History) (domains : List State) (dom : DomId) (at : ℕ) (x : State) (request : Request) (v : Verdict)
+    → position (has_id dom.0) domains ≡ Some at → x ≡ get_or domains at x → is_some x.underway ≡ false
+    → begun_of (knowledge_of s.domains s.first_generation s.may x.own x.header x.mappings) dom request ≡ Some v → CoreStands s h domains
+    → (domain_of s.domains dom ≢ None) × IsRight s h (began dom request (Some (answer_of v))) × CoreStands s (began dom request (Some (answer_of v)) ∷ h) domains
+begin-answered s h domains dom at x request v p here idle op st =
+    let a = agrees-found s h domains dom at x p here st in
+    let f = found domains dom.0 at x p ∙ ap (λ (y : State). Some y) (sym here) in
+    let both = subst (λ (d : DomId). begun_of (knowledge_of s.domains s.first_generation s.may x.own x.header x.mappings) d request ≡ Some v → state_of domains d.0 ≡ Some x
+    → IsRight s h (began d request (Some (answer_of v))) × CoreStands s (began d request (Some (answer_of v)) ∷ h) domains) a.1
+    (λ op g. let b = begin-done s h x request v a.2 (closed-from x.underway idle) op in (
+      b.0,
+      quiet-stands s (began x.id request (Some (answer_of v))) h domains domains x x.underway x.given (began-entries x.id request (Some (answer_of v))) (began-keeps x.id request (Some (answer_of v)) (plain-unmapped v))
+          (λ given contents. refl) refl st g a.2 (λ q. same-state domains x q g) b.1 b.2,
+    ))
+    op f in
+    (a.0, both.0, both.1)
+
+pub begin-opened : (s : Setting) (h : History) (domains : List State) (dom : DomId) (at : ℕ) (x : State) (request : Request) (o : Open)
+    → FitsAsked o.call.request → position (has_id dom.0) domains ≡ Some at → x ≡ get_or domains at x → is_some x.underway ≡ false
+    → Opens (knowledge_of s.domains s.first_generation s.may x.own x.header x.mappings) dom request (OpeningOpen o) → CoreStands s h domains
+    → (domain_of s.domains dom ≢ None) × IsRight s h (began dom request None) × CoreStands s (began dom request None ∷ h) (set domains at (with_call o (kept_by o.call.request (given_by request)) x))
+begin-opened s h domains dom at x request o fits p here idle op st =
+    let a = agrees-found s h domains dom at x p here st in
+    let f = found domains dom.0 at x p ∙ ap (λ (y : State). Some y) (sym here) in
+    let places = position-Some (has_id dom.0) domains at x p in
+    let both = subst (λ (d : DomId). Opens (knowledge_of s.domains s.first_generation s.may x.own x.header x.mappings) d request (OpeningOpen o) → state_of domains d.0 ≡ Some x
+    → ((k : ℕ) → k < at → has_id d.0 (get_or domains k x) ≡ false)
+    → IsRight s h (began d request None) × CoreStands s (began d request None ∷ h) (set domains at (with_call o (kept_by o.call.request (given_by request)) x))) a.1
+    (λ op g apart. let b = begin-opens s h x request o fits a.2 (closed-from x.underway idle) op in (
+      b.0,
+      quiet-stands s (began x.id request None) h domains (set domains at (with_call o (kept_by o.call.request (given_by request)) x)) x (Some o) (kept_by o.call.request (given_by request)) (began-entries x.id request None) (began-keeps x.id request None refl)
+          (λ given contents. refl) refl st g a.2 (λ q. state_of-set domains at x (with_call o (kept_by o.call.request (given_by request)) x) q places.0 (sym here) refl apart) b.1 b.2,
+    ))
+    op f (λ k below. places.2 k below) in
+    (a.0, both.0, both.1)
+
+pub place-at : (domains : List State) (d at : ℕ) (x : State) → position (has_id d) domains ≡ Some at → x ≡ get_or domains at x → slice_get domains at ≡ Some x
+place-at domains d at x p here = slice_get_read domains (length domains) at x refl (position-Some (has_id d) domains at x p).0 here
+
+pub begin-answers : (s : Setting) (h : History) (domains : List State) (dom : DomId) (at : ℕ) (x : State) (request : Request) (v : Verdict) (y : Answer) → y ≡ answer_of v
+    → position (has_id dom.0) domains ≡ Some at → x ≡ get_or domains at x → is_some x.underway ≡ false
+    → begun_of (knowledge_of s.domains s.first_generation s.may x.own x.header x.mappings) dom request ≡ Some v → CoreStands s h domains
+    → (domain_of s.domains dom ≢ None) × IsRight s h (began dom request (Some y)) × CoreStands s (began dom request (Some y) ∷ h) domains
+begin-answers s h domains dom at x request v y e p here idle op st =
+    subst (λ (z : Answer). (domain_of s.domains dom ≢ None) × IsRight s h (began dom request (Some z)) × CoreStands s (began dom request (Some z) ∷ h) domains) (sym e)
+    (begin-answered s h domains dom at x request v p here idle op st)
+
+-- a tick without a call
+pub tick-idle : (s : Setting) (h : History) (domains : List State) (dom : DomId) (at : ℕ) (x : State) → position (has_id dom.0) domains ≡ Some at → x ≡ get_or domains at x
+    → x.underway ≡ None → CoreStands s h domains → (domain_of s.domains dom ≢ None) × (open_call h dom.0 ≡ None)
+tick-idle s h domains dom at x p here closed st =
+    let a = agrees-found s h domains dom at x p here st in
+    (a.0, subst (λ (d : DomId). open_call h d.0 ≡ None) a.1 (call-none s h x.id x.underway (open_call h x.id.0) closed a.2.call).0)
+
+-- a beginning for which memory is wanted
+pub begin-wants : (s : Setting) (h : History) (domains : List State) (dom : DomId) (at : ℕ) (x : State) (request : Request) (o : Open)
+    → asks_memory o.call.request ≡ true → position (has_id dom.0) domains ≡ Some at → x ≡ get_or domains at x → is_some x.underway ≡ false
+    → Opens (knowledge_of s.domains s.first_generation s.may x.own x.header x.mappings) dom request (OpeningOpen o) → CoreStands s h domains → WantsMemory s h dom request
+begin-wants s h domains dom at x request o asks p here idle op st =
+    let a = agrees-found s h domains dom at x p here st in (
+      ap asks_memory (sym op.asks) ∙ asks,
+      a.0,
+      subst (λ (d : DomId). open_call h d.0 ≡ None) a.1 (call-none s h x.id x.underway (open_call h x.id.0) (closed-from x.underway idle) a.2.call).0,
+      subst (λ (d : DomId). begun_of (known_at s h d) dom request ≡ None) a.1 (ap (λ (k : CallerKnowledge). begun_of k dom request) (sym (known-same s h x a.2)) ∙ op.unanswered),
+    )
+
+-- a map that opens has a serial left
+pub serial-left : (k : CallerKnowledge) (d : DomId) (request : Request) (r : Asked) → r ≡ asked request → begun k d (asked request) ≡ None → IsMapping (Some r) → k.maps_answered + 1 < 2 ^ 64
+serial-left k d request r same none m = by r (subst (λ (z : Asked). begun k d z ≡ None) (sym same) none) m
+  where
+    by : (z : Asked) → begun k d z ≡ None → IsMapping (Some z) → k.maps_answered + 1 < 2 ^ 64
+    by (Map dom gref flags) e a = let lt : k.maps_answered < END_OF_SERIALS = (opens k d (Map dom gref flags) e).serials_left in omega arith
+    by z e a = absurd a
