@@ -46,7 +46,10 @@ use Rattle.gt_calls.specs.Rules.{CallerKnowledge, first, refused_when, granted_w
 use Rattle.gt_calls.specs.Opening.{opens}
 use Rattle.gt_calls.specs.Path.{end_leg}
 use Rattle.gt_calls.specs.Machine.{first_phase, action_at, at_source, at_dest, unmap_phase, load_phase, store_phase}
-use Rattle.gt_calls.specs.Standing.{StandsAt, IsAt, held_in}
+use Rattle.gt_calls.specs.Standing.{StandsAt, IsAt, held_in, pins_at, pins_by_call}
+use Rattle.gt_calls.specs.Following.{GoesOn}
+use Rattle.gt_calls.specs.Resting.{Rests}
+use Rattle.gt_calls.specs.declared.held.Pins.{Pins}
 use Rattle.gt_calls.specs.Counting.{most_steps as most_of, steps_left, steps_to_come}
 use Rattle.gt_core.specs.declared.trace.Item.{Item}
 use Rattle.gt_core.specs.declared.trace.Happened.TheVariants.{Began}
@@ -247,6 +250,9 @@ is-at k call shown p e a = subst (λ (c : Call). IsAt k c shown) (ap (λ (o : Op
 pub to-come : (call : Call) (p : Phase) → call.phase ≡ Some p → steps_to_come call ≡ steps_left p
 to-come call p e = ap (λ (o : Option Phase). steps_to_come (record call { phase = o })) e
 
+pub pins-there : (call : Call) (p : Phase) → call.phase ≡ Some p → pins_by_call call ≡ pins_at p
+pins-there call p e = ap (λ (o : Option Phase). pins_by_call (record call { phase = o })) e
+
 begin-opens : (s : Setting) (h : History) (d : State) (request : Request) (o : Open) → FitsAsked o.call.request → Agrees s h d → d.underway ≡ None
     → IsOpened (knowledge_of s.domains s.first_generation s.may d.own d.header d.mappings) d.id request o
     → IsRight s h (began d.id request None)
@@ -275,6 +281,8 @@ begin-opens s h d request o fits a closed op =
       here = here;
       at = subst (λ (z : DomId). StandsAt k z r [] (first_phase k d.id r)) op.caller (subst (λ (z : Asked). StandsAt k o.call.caller z [] (first_phase k d.id r)) op.asks stands);
       acts = ap (λ (k : CallerKnowledge). action_at d.id (first_phase k d.id r)) (sym still) ∙ op.acts;
+      follows = subst (λ (k : CallerKnowledge). GoesOn k d.id r [] (Makes o.step)) still op.follows;
+      rests = subst (λ (z : Pins). Rests k d.id r z [] (Makes o.step)) (pins-there o.call (first_phase k d.id r) here) (subst (λ (k : CallerKnowledge). Rests k d.id r (pins_by_call o.call) [] (Makes o.step)) still op.rests);
       place = first-place s (i ∷ h) d.id r none;
       fair = fair ∙ sym (first-plain k d.id r none);
       fits = subst FitsAsked op.asks fits;

@@ -21,7 +21,10 @@ use Rattle.gt_handles.specs.Handles.{Kept, value_of, count_of}
 use Rattle.gt_calls.specs.declared.held.Held.{Held}
 use Rattle.gt_calls.specs.declared.request.Holder.TheVariants.{Mapping as ByMapping}
 use Rattle.gt_calls.specs.Rules.{CallerKnowledge, control_with, frames_of, knowledge_of, generation_in}
-use Rattle.gt_calls.specs.Standing.{StandsAt}
+use Rattle.gt_calls.specs.Standing.{StandsAt, pins_at}
+use Rattle.gt_calls.specs.Following.{GoesOn}
+use Rattle.gt_calls.specs.Resting.{Rests}
+use Rattle.gt_calls.specs.declared.action.Action.TheVariants.{Step as Makes}
 use Rattle.gt_core.specs.declared.slot.Slot.{Slot}
 use Rattle.gt_core.specs.declared.slot.Open.{Open}
 use Rattle.gt_core.specs.declared.trace.Item.{Item}
@@ -104,6 +107,8 @@ open-stays s i h d o c apart a =
       here = a.here;
       at = subst (λ (z : CallerKnowledge). StandsAt z d c.request (values c) a.phase) (sym (other-known s i h d apart)) a.at;
       acts = a.acts;
+      follows = subst (λ (z : CallerKnowledge). GoesOn z d c.request (values c) (Makes o.step)) (sym (other-known s i h d apart)) a.follows;
+      rests = subst (λ (z : CallerKnowledge). Rests z d c.request (pins_at a.phase) (values c) (Makes o.step)) (sym (other-known s i h d apart)) a.rests;
       place = place-stays s i h d c.request (reverse c.steps) a.phase (λ r which. other-body i h d.0 r which apart) a.place;
       fair = stood-other s i h d.0 apart ∙ a.fair;
       fits = a.fits;

@@ -21,3 +21,4 @@ pub mod Pinning
 pub mod Unpinning
 pub mod Writing
 pub mod Beginning
+pub mod Acting

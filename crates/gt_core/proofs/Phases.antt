@@ -74,6 +74,8 @@ pub record IsHere (s : Setting) (h : History) (xs : List State) (d : DomId) (r :
   pub acts : action_at d phase ≡ Makes step
   pub place : PhaseStands s h d r so_far phase
   pub held : legs_at h d.0 ≡ numbered 0 (reverse (last_first (Rattle.gt_calls.specs.Standing.pins_at phase)))
+  pub rests : Rattle.gt_calls.specs.Resting.Rests (known_at s h d) d r (Rattle.gt_calls.specs.Standing.pins_at phase) shown (Makes step)
+  pub fits : Rattle.gt_core.specs.Standing.FitsAsked r
 
 abbrev step_in : Action → Step → Step
 step_in (Makes step) other = step

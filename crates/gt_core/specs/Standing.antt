@@ -58,7 +58,7 @@ use Rattle.gt_entry.specs.Spelling.{entry_of}
 use Rattle.gt_calls.specs.Following.{GoesOn}
 use Rattle.gt_calls.specs.Machine.{first_phase, action_at}
 use Rattle.gt_calls.specs.Resting.{Rests}
-use Rattle.gt_calls.specs.Standing.{IsAt, StandsAt, pins_by_call, held_in}
+use Rattle.gt_calls.specs.Standing.{IsAt, StandsAt, pins_by_call, pins_at, held_in}
 use Rattle.gt_calls.specs.Counting.{most_steps as most_of, steps_left, steps_to_come}
 use Rattle.gt_types.specs.declared.denial.Rule.{Rule}
 use Rattle.gt_entry.specs.declared.entry.Entry.{Entry}
@@ -92,6 +92,8 @@ pub record IsOpened (k : CallerKnowledge) (dom : DomId) (request : Request) (o :
   pub phase : o.call.phase ≡ Some (first_phase k dom (asked request))
   pub at : IsAt k o.call []
   pub acts : action_at dom (first_phase k dom (asked request)) ≡ Makes o.step
+  pub follows : GoesOn k dom (asked request) [] (Makes o.step)
+  pub rests : Rests k dom (asked request) (pins_by_call o.call) [] (Makes o.step)
   pub few : steps_to_come o.call ≤ most_of (asked request)
 
 -- a call begins so: with an answer, or with a first step (own)
@@ -253,6 +255,8 @@ pub record OpenAgrees (s : Setting) (h : History) (id : DomId) (o : Open) (c : U
   pub here : o.call.phase ≡ Some phase
   pub at : StandsAt (known_at s h id) id c.request (values c) phase
   pub acts : action_at id phase ≡ Makes o.step
+  pub follows : GoesOn (known_at s h id) id c.request (values c) (Makes o.step)
+  pub rests : Rests (known_at s h id) id c.request (pins_at phase) (values c) (Makes o.step)
   pub place : PhaseStands s h id c.request (reverse c.steps) phase
   pub fair : stood s h id.0 ≡ phase_refusal phase
   pub fits : FitsAsked c.request
