@@ -22,3 +22,4 @@ pub mod Unpinning
 pub mod Writing
 pub mod Beginning
 pub mod Acting
+pub mod Accessing
