@@ -23,3 +23,5 @@ pub mod Writing
 pub mod Beginning
 pub mod Acting
 pub mod Accessing
+pub mod Outcomes
+pub mod Values
