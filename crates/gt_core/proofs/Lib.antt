@@ -25,3 +25,4 @@ pub mod Acting
 pub mod Accessing
 pub mod Outcomes
 pub mod Values
+pub mod Ticking

@@ -1,0 +1,604 @@
+-- A step of an open call is right, and the core stands for it.
+use Rattle.std.proofs.Common.{◌≡◌, ◌≢◌, ◌<◌, ◌≤◌, ◌+◌, ◌⊎◌, inl, inr, ℕ, suc, refl, Bool, true, false, List, [], ◌∷◌, ◌++◌, length, Option, Some, None, cond, sym, ap, ◌∙◌, subst, reverse, arith}
+use Rattle.std.proofs.lemmas.Bool.{eqb-true, eq-eqb, true≢false, false≢true}
+use Rattle.std.proofs.lemmas.List.{append-nil, map-append, reverse-append, append_assoc, length-append, length-reverse, length-take-le}
+use Rattle.std.proofs.lemmas.Grind.{reverse_onto}
+use Rattle.std.proofs.lemmas.Option.{none-some, same_Some}
+use Rattle.std.specs.Prelude.{◌==◌, nat_lt, All, map, take, drop, min, slice_get}
+use Rattle.gt_types.specs.declared.DomId.{DomId}
+use Rattle.gt_types.specs.declared.GrantRef.{GrantRef}
+use Rattle.gt_types.specs.declared.Use.TheVariants.{Map as ForMap}
+use Rattle.gt_types.specs.declared.limits.TheConstants.{MAX_PINS, FRAME_SIZE}
+use Rattle.gt_types.specs.declared.denial.Denial.{Denial}
+use Rattle.gt_entry.specs.declared.entry.Entry.{Entry}
+use Rattle.gt_entry.specs.declared.entry.Entry.TheVariants.{Invalid, Page, Sub, Via}
+use Rattle.gt_entry.specs.declared.header.Header.{Header}
+use Rattle.gt_entry.specs.declared.change.Change.{Change}
+use Rattle.gt_entry.specs.declared.change.Half.{Half}
+use Rattle.gt_entry.specs.declared.change.Half.TheVariants.{First as FirstHalf, Second as SecondHalf}
+use Rattle.gt_handles.specs.declared.handles.Handle.{Handle}
+use Rattle.gt_calls.specs.declared.held.Held.{Held}
+use Rattle.gt_calls.specs.declared.held.Pins.{Pins}
+use Rattle.gt_calls.specs.declared.action.Place.{Place}
+use Rattle.gt_calls.specs.declared.request.Asked.{Asked}
+use Rattle.gt_calls.specs.declared.request.Asked.TheVariants.{Grant, Revoke, Demote, Promote, Map, Unmap, Load, Store, Peek, Poke, Copy, SetVersion, SetupTable, QuerySize, GetVersion}
+use Rattle.gt_calls.specs.declared.request.Holder.{Holder}
+use Rattle.gt_calls.specs.declared.request.Holder.TheVariants.{Mapping as ByMapping, Leg as ByLeg}
+use Rattle.gt_calls.specs.declared.action.Seen.{Seen}
+use Rattle.gt_calls.specs.declared.action.Seen.TheVariants.{Nothing, Word, Taken, Missed}
+use Rattle.gt_calls.specs.declared.action.Verdict.{Verdict}
+use Rattle.gt_calls.specs.declared.action.Verdict.TheVariants.{Granted, Given, Mapped as KeptPin, Refused}
+use Rattle.gt_calls.specs.declared.action.Step.{Step}
+use Rattle.gt_calls.specs.declared.action.Step.TheVariants.{LookHeader, LookControl, LookBody, Pin as PinStep, Unpin, StoreBody, StoreHeader, Exchange, Read as ReadBytes, Write as WriteBytes, Copy as CopyBytes}
+use Rattle.gt_calls.specs.declared.action.Action.{Action}
+use Rattle.gt_calls.specs.declared.action.Action.TheVariants.{Step as Makes, Done}
+use Rattle.gt_calls.specs.declared.call.Call.{Call}
+use Rattle.gt_calls.specs.declared.call.Phase.{Phase}
+use Rattle.gt_calls.specs.declared.call.Phase.TheVariants.{Storing, StoringSecond, Exchanging, Looking, Changing, Walking, Accessing, Asking, Last, Ending}
+use Rattle.gt_calls.specs.Holding.{last_first, no_pins}
+use Rattle.gt_calls.specs.Rules.{CallerKnowledge, knowledge_of}
+use Rattle.gt_calls.specs.Path.{path, FitsStep}
+use Rattle.gt_calls.specs.Resting.{Rests, RestsStep}
+use Rattle.gt_calls.specs.Machine.{phase_after, action_at, next_to_give, after_store}
+use Rattle.gt_calls.specs.Standing.{StandsAt, IsAt, HasShown, pins_at, held_in}
+use Rattle.gt_calls.specs.Following.{Goes, GoesOn, FitsNext, FitsAction, HoldsAfter, HoldsNext}
+use Rattle.gt_calls.specs.Counting.{most_steps as most_of, steps_left, IsCounted}
+use Rattle.gt_core.specs.declared.slot.Open.{Open}
+use Rattle.gt_core.specs.declared.trace.Item.{Item}
+use Rattle.gt_core.specs.declared.trace.Answer.{Answer}
+use Rattle.gt_core.specs.declared.trace.Answer.TheVariants.{Denied, Done as AnswerDone, Mapped}
+use Rattle.gt_core.specs.declared.trace.Happened.TheVariants.{Stepped}
+use Rattle.gt_core.specs.States.{State, state_of, changed_in}
+use Rattle.gt_core.specs.Sight.{sees}
+use Rattle.gt_core.specs.History.{History, Setting, Pin, live, entry_at, generation_at, word_at, table_at, known_at, legs_at, mappings_at, mapping_of, maps_answered_at, seen_by, Underway, values, open_call, underway_after, holder_after, one_if_mapped}
+use Rattle.gt_core.specs.Legal.{StepsSoFar, StepsRight, Justified, IsSafe, PinIsSound, AnsweredBy, GivesValue, LeavesAll, IsSpelled, gives_back, verdict_in, refusal_in, refusal_of, refusal_if, or_then, first_of_item, first_in_call, stood, most_steps}
+use Rattle.gt_core.specs.Standing.{CoreStands, Agrees, CallAgrees, OpenAgrees, GivenAgrees, FitsGiven, PhaseStands, IsClean, phase_refusal, numbered}
+use Rattle.gt_core.proofs.Quiet.{KeepsKnown, WritesNone, kept-known, kept-legs}
+use Rattle.gt_core.proofs.Others.{other-body}
+use Rattle.gt_core.proofs.Seeing.{sees-agree}
+use Rattle.gt_core.proofs.Phases.{IsHere, makes-same, step-within, step-publishes, seen-fits}
+use Rattle.gt_core.proofs.Judging.{judged}
+use Rattle.gt_core.proofs.Placing.{IsStore, placed, place-stays, BodyStays}
+use Rattle.gt_core.proofs.Keeping.{stepped, KeepsEntries, same-entry, same-generations, known-same, open_call-own, stood-own, same-number}
+use Rattle.gt_core.proofs.Storing.{stores, store-keeps, half-stored, first-stays}
+use Rattle.gt_core.proofs.Pinning.{pins, leg-grows, leg-maps, map-legs, answered-stays}
+use Rattle.gt_core.proofs.Unpinning.{unpins, leg-left, leg-mappings, mapping-legs}
+use Rattle.gt_core.proofs.Beginning.{is-at, to-come, pins-there}
+use Rattle.gt_core.proofs.Acting.{can-change, can-pin, store-invalid}
+use Rattle.gt_core.proofs.Exchanging.{exchanged-live}
+use Rattle.gt_core.proofs.Accessing.{read-justified, write-justified, copy-justified}
+use Rattle.gt_core.proofs.Outcomes.{next_of, IsSingle, single-ends, taken-ends, clean-next, ends-so, is-last}
+
+-- what is known of a step of an open call, which saw what the history left
+pub record Ticks (s : Setting) (h : History) (xs : List State) (x : State) (o : Open) (c : Underway) (new : Call) (action : Action) : Type 0 where
+  pub st : CoreStands s h xs
+  pub here : state_of xs x.id.0 ≡ Some x
+  pub agrees : Agrees s h x
+  pub call : open_call h x.id.0 ≡ Some c
+  pub stands : OpenAgrees s h x.id o c
+  pub is_next : new.phase ≡ Some (next_of s h x.id stands.phase o.step)
+  pub caller : new.caller ≡ x.id
+  pub asks : new.request ≡ c.request
+  pub at : StandsAt (known_at s h x.id) x.id c.request (values c ++ seen_by s h x.id o.step ∷ []) (next_of s h x.id stands.phase o.step)
+  pub follows : GoesOn (known_at s h x.id) x.id c.request (values c ++ seen_by s h x.id o.step ∷ []) action
+  pub rests : Rests (known_at s h x.id) x.id c.request (pins_at (next_of s h x.id stands.phase o.step)) (values c ++ seen_by s h x.id o.step ∷ []) action
+  pub counted : IsCounted action (steps_left (next_of s h x.id stands.phase o.step))
+  pub fewer : steps_left (next_of s h x.id stands.phase o.step) < steps_left stands.phase
+  pub acts : action ≡ action_at x.id (next_of s h x.id stands.phase o.step)
+  pub holds : HoldsAfter o.step (seen_by s h x.id o.step) (held_in stands.phase) (held_in (next_of s h x.id stands.phase o.step)) action
+
+pub here-of : (s : Setting) (h : History) (xs : List State) (x : State) (o : Open) (c : Underway) → CoreStands s h xs → state_of xs x.id.0 ≡ Some x → (a : OpenAgrees s h x.id o c)
+    → IsHere s h xs x.id c.request (values c) (reverse c.steps) a.phase o.step
+here-of s h xs x o c st here a =
+    record { st = st; own = λ e. none-some x (sym e ∙ here); at = a.at; acts = a.acts; place = a.place; held = a.held; rests = a.rests; fits = a.fits }
+
+-- the call by its parts
+call-is : (call : Call) (d : DomId) (r : Asked) (p : Phase) → call.caller ≡ d → call.request ≡ r → call.phase ≡ Some p → call ≡ record { caller = d; request = r; phase = Some p }
+call-is call d r p a b e =
+    ap (λ (z : DomId). record { caller = z; request = call.request; phase = call.phase }) a
+    ∙ ap (λ (z : Asked). record { caller = d; request = z; phase = call.phase }) b
+    ∙ ap (λ (z : Option Phase). record { caller = d; request = r; phase = z }) e
+
+pub ticks : (s : Setting) (h : History) (xs : List State) (x : State) (o : Open) (c : Underway) (seen : Seen) (new : Call) (action : Action) → CoreStands s h xs → state_of xs x.id.0 ≡ Some x → Agrees s h x → open_call h x.id.0 ≡ Some c
+    → OpenAgrees s h x.id o c → seen ≡ sees xs x.id o.step → new.caller ≡ o.call.caller → new.request ≡ o.call.request
+    → Goes (knowledge_of s.domains s.first_generation s.may x.own x.header x.mappings) o.call seen new action → (seen ≡ seen_by s h x.id o.step) × Ticks s h xs x o c new action
+ticks s h xs x o c seen new action st here agrees call a saw caller asks goes =
+    let k = known_at s h x.id in
+    let i = here-of s h xs x o c st here a in
+    let step = o.step in
+    let same : seen ≡ seen_by s h x.id step = saw ∙ sees-agree s h xs x.id step st (step-within s h xs x.id c.request (values c) (reverse c.steps) a.phase step i) in
+    let old : Call = record { caller = x.id; request = c.request; phase = Some a.phase } in
+    let g : Goes k old (seen_by s h x.id step) new action =
+    subst (λ (z : Call). Goes k z (seen_by s h x.id step) new action) (call-is o.call x.id c.request a.phase a.caller a.asks a.here)
+    (subst (λ (z : CallerKnowledge). Goes z o.call (seen_by s h x.id step) new action) (known-same s h x agrees)
+    (subst (λ (v : Seen). Goes (knowledge_of s.domains s.first_generation s.may x.own x.header x.mappings) o.call v new action) same goes)) in
+    let fits : FitsNext (path k x.id c.request (values c)) (seen_by s h x.id step) =
+    subst (λ (z : Option Action). FitsNext z (seen_by s h x.id step)) (sym a.follows) (seen-fits s h x.id step (step-publishes s h xs x.id c.request (values c) (reverse c.steps) a.phase step i)) in
+    let l = g.later (values c) a.at fits in
+    let next = next_of s h x.id a.phase step in
+    let by : new.caller ≡ x.id = caller ∙ a.caller in
+    let asked : new.request ≡ c.request = asks ∙ a.asks in
+    let shown = values c ++ seen_by s h x.id step ∷ [] in
+    let stands : StandsAt k new.caller new.request shown next = is-at k new shown next g.moves l.0.at in (
+      same,
+      record {
+        st = st;
+        here = here;
+        agrees = agrees;
+        call = call;
+        stands = a;
+        is_next = g.moves;
+        caller = by;
+        asks = asked;
+        at = subst (λ (z : DomId). StandsAt k z c.request shown next) by (subst (λ (z : Asked). StandsAt k new.caller z shown next) asked stands);
+        follows = l.0.follows;
+        rests = subst (λ (z : Pins). Rests k x.id c.request z shown action) (pins-there new next g.moves) l.0.rests;
+        counted = subst (IsCounted action) (to-come new next g.moves) l.0.counted;
+        fewer = subst (λ (n : ℕ). n < steps_left a.phase) (to-come new next g.moves) l.2;
+        acts = g.acts;
+        holds = subst (λ (z : Pins). HoldsAfter step (seen_by s h x.id step) (held_in a.phase) (last_first z) action) (pins-there new next g.moves) (l.1 (Makes step) a.follows);
+      },
+    )
+
+-- the call with one step more
+
+values-more : (c : Underway) (step : Step) (seen : Seen) → values (record { request = c.request; given = c.given; steps = c.steps ++ (step, seen) ∷ [] }) ≡ values c ++ seen ∷ []
+values-more c step seen = map-append (λ (p : Step × Seen). p.1) c.steps ((step, seen) ∷ [])
+
+steps-more : (c : Underway) (step : Step) (seen : Seen) → reverse (c.steps ++ (step, seen) ∷ []) ≡ (step, seen) ∷ reverse c.steps
+steps-more c step seen = reverse-append c.steps ((step, seen) ∷ [])
+
+pub given-goes-on : (d : DomId) (step : Step) (seen : Seen) (answer : Option Answer) (h : History) (given : List ℕ) → GivenAgrees h d.0 given → GivenAgrees (stepped d step seen answer ∷ h) d.0 given
+given-goes-on d step seen answer h given a = λ c call. by answer (open_call h d.0) refl c (sym (open_call-own (stepped d step seen answer) h) ∙ call)
+  where
+    by : (answer : Option Answer) (u : Option Underway) → open_call h d.0 ≡ u → (c : Underway) → underway_after (stepped d step seen answer) u ≡ Some c → (given ≡ c.given) × FitsGiven c.request c.given
+    by (Some x) u is c e = absurd (none-some c e)
+    by None None is c e = absurd (none-some c e)
+    by None (Some b) is c e = subst (λ (z : Underway). (given ≡ z.given) × FitsGiven z.request z.given) (same_Some _ _ e) (a b is)
+
+-- the first rule that stood at the places of the call, up to this step
+pub stood-after : (s : Setting) (h : History) (xs : List State) (x : State) (o : Open) (c : Underway) (new : Call) (action : Action) (answer : Option Answer) → (t : Ticks s h xs x o c new action)
+    → stood s (stepped x.id o.step (seen_by s h x.id o.step) answer ∷ h) x.id.0 ≡ phase_refusal (next_of s h x.id t.stands.phase o.step)
+stood-after s h xs x o c new action answer t =
+    let i = stepped x.id o.step (seen_by s h x.id o.step) answer in
+    stood-own s i h
+    ∙ ap (λ (z : Option Denial). or_then z (first_of_item s h i)) t.stands.fair
+    ∙ ap (λ (u : Option Underway). or_then (phase_refusal t.stands.phase) (first_in_call s h x.id i.happened u)) t.call
+    ∙ judged s h xs x.id c.request (values c) (reverse c.steps) t.stands.phase o.step (here-of s h xs x o c t.st t.here t.stands)
+
+-- what a domain knows, where its entries, table and mappings stay
+
+known-from : (s : Setting) (i : Item) (h : History) (d : DomId) → KeepsEntries i → table_at s (i ∷ h) d ≡ table_at s h d → mappings_at (i ∷ h) d.0 ≡ mappings_at h d.0 → maps_answered_at (i ∷ h) d.0 ≡ maps_answered_at h d.0
+    → known_at s (i ∷ h) d ≡ known_at s h d
+known-from s i h d q table maps answered =
+    ap (λ (f : ℕ → Entry). record { domains = s.domains; may = s.may; entry = f; generation = λ r. generation_at s (i ∷ h) d.0 r; header = table_at s (i ∷ h) d; mapping = mapping_of (mappings_at (i ∷ h) d.0); in_use = length (mappings_at (i ∷ h) d.0); maps_answered = maps_answered_at (i ∷ h) d.0 })
+    (mathlib.Core.Path.fun_ext (λ r. same-entry i h d.0 r q))
+    ∙ ap (λ (f : ℕ → ℕ). record { domains = s.domains; may = s.may; entry = λ r. entry_at h d.0 r; generation = f; header = table_at s (i ∷ h) d; mapping = mapping_of (mappings_at (i ∷ h) d.0); in_use = length (mappings_at (i ∷ h) d.0); maps_answered = maps_answered_at (i ∷ h) d.0 })
+    (same-generations s i h d.0 q)
+    ∙ ap (λ (x : Header). record { domains = s.domains; may = s.may; entry = λ r. entry_at h d.0 r; generation = λ r. generation_at s h d.0 r; header = x; mapping = mapping_of (mappings_at (i ∷ h) d.0); in_use = length (mappings_at (i ∷ h) d.0); maps_answered = maps_answered_at (i ∷ h) d.0 })
+    table
+    ∙ ap (λ (l : List (Handle × Held)). record { domains = s.domains; may = s.may; entry = λ r. entry_at h d.0 r; generation = λ r. generation_at s h d.0 r; header = table_at s h d; mapping = mapping_of l; in_use = length l; maps_answered = maps_answered_at (i ∷ h) d.0 })
+    maps
+    ∙ ap (λ (n : ℕ). record { domains = s.domains; may = s.may; entry = λ r. entry_at h d.0 r; generation = λ r. generation_at s h d.0 r; header = table_at s h d; mapping = mapping_of (mappings_at h d.0); in_use = length (mappings_at h d.0); maps_answered = n })
+    answered
+
+taken-word : (word looked : ℕ) → Rattle.gt_core.specs.History.exchange_sees word looked ≡ Taken → word ≡ looked
+taken-word word looked e = by (word == looked) refl e
+  where
+    by : (b : Bool) → (word == looked) ≡ b → cond b Taken (Missed word) ≡ Taken → word ≡ looked
+    by true is f = eqb-true word looked is
+    by false is f = cc
+
+numbered-push : (n : ℕ) (ps : List Held) (p : Held) → numbered n (ps ++ p ∷ []) ≡ numbered n ps ++ (n + length ps, p) ∷ []
+numbered-push n [] p = let e : n ≡ n + 0 = omega arith in ap (λ (m : ℕ). (m, p) ∷ []) e
+numbered-push n (q ∷ ps) p =
+    ap (λ (l : List (ℕ × Held)). (n, q) ∷ l) (numbered-push (n + 1) ps p)
+    ∙ (let e : n + 1 + length ps ≡ n + suc (length ps) = omega arith in ap (λ (m : ℕ). (n, q) ∷ numbered (n + 1) ps ++ (m, p) ∷ []) e)
+
+length-numbered : (n : ℕ) (ps : List Held) → length (numbered n ps) ≡ length ps
+length-numbered n [] = refl
+length-numbered n (p ∷ ps) = let e = length-numbered (n + 1) ps in omega arith
+
+from-zero : (n : ℕ) → 0 + n ≡ n
+from-zero n = omega arith
+
+-- the pin that is taken is of the entry as it is
+abbrev PinFact : History → Step → Seen → Type 0
+PinFact h step seen = (p : Held) → step ≡ PinStep p → seen ≡ Taken → record p { entry = entry_at h p.dom.0 p.gref.0 } ≡ p
+
+-- the pin that is given back is the last one held
+abbrev LastFact : List Held → Step → Type 0
+LastFact old step = (p : Held) (place : ℕ) → step ≡ Unpin p (ByLeg place) → (others : List Held) × (old ≡ p ∷ others) × (place ≡ length others)
+
+legs-by : (h : History) (d : DomId) (answer : Option Answer) (old new : List Held) (action : Action) (step : Step) (seen : Seen) → one_if_mapped answer ≡ 0 → ((n : ℕ) → holder_after answer n ≡ ByLeg n) → ((m : Held) → action ≡ Done (KeptPin m) → ⊥)
+    → legs_at h d.0 ≡ numbered 0 (reverse old) → HoldsAfter step seen old new action → PinFact h step seen → LastFact old step → legs_at (stepped d step seen answer ∷ h) d.0 ≡ numbered 0 (reverse new)
+legs-by h d answer old new action step seen m leg unmapped held holds pinned last = by step seen holds pinned last
+  where
+    quiet : (z : Step) (v : Seen) → KeepsKnown (stepped d z v answer) → new ≡ old → legs_at (stepped d z v answer ∷ h) d.0 ≡ numbered 0 (reverse new)
+    quiet z v k e = kept-legs (stepped d z v answer) h d.0 k ∙ held ∙ ap (λ (l : List Held). numbered 0 (reverse l)) (sym e)
+
+    pin : (p : Held) → (new ≡ p ∷ old) ⊎ ((action ≡ Done (KeptPin p)) × (new ≡ old)) → record p { entry = entry_at h p.dom.0 p.gref.0 } ≡ p → legs_at (pins d p answer ∷ h) d.0 ≡ numbered 0 (reverse new)
+    pin p (inr b) is = absurd (unmapped p b.0)
+    pin p (inl b) is =
+        let n : length (legs_at h d.0) ≡ 0 + length (reverse old) = ap (λ (l : List (ℕ × Held)). length l) held ∙ length-numbered 0 (reverse old) ∙ sym (from-zero (length (reverse old))) in
+        leg-grows h d p answer (leg (length (legs_at h d.0)))
+        ∙ ap (λ (q : Held). legs_at h d.0 ++ (length (legs_at h d.0), q) ∷ []) is
+        ∙ ap (λ (k : ℕ). legs_at h d.0 ++ (k, p) ∷ []) n
+        ∙ ap (λ (l : List (ℕ × Held)). l ++ (0 + length (reverse old), p) ∷ []) held
+        ∙ sym (numbered-push 0 (reverse old) p)
+        ∙ ap (numbered 0) (sym (reverse_onto old p []))
+        ∙ ap (λ (l : List Held). numbered 0 (reverse l)) (sym b)
+
+    give : (p : Held) (place : ℕ) (v : Seen) → old ≡ p ∷ new → (others : List Held) × (old ≡ p ∷ others) × (place ≡ length others) → legs_at (unpins d p (ByLeg place) v answer ∷ h) d.0 ≡ numbered 0 (reverse new)
+    give p place v e (others, is, at) =
+        let both : p ∷ others ≡ p ∷ new = sym is ∙ e in
+        let same : others ≡ new = cc in
+        let legs : legs_at h d.0 ≡ numbered 0 (reverse new ++ p ∷ []) = held ∙ ap (λ (l : List Held). numbered 0 (reverse l)) e ∙ ap (numbered 0) (reverse_onto new p []) in
+        ap (λ (k : ℕ). legs_at (unpins d p (ByLeg k) v answer ∷ h) d.0) (at ∙ ap (λ (l : List Held). length l) same ∙ sym (length-reverse new)) ∙ leg-left h d (reverse new) p v answer legs
+
+    by : (z : Step) (v : Seen) → HoldsAfter z v old new action → PinFact h z v → LastFact old z → legs_at (stepped d z v answer ∷ h) d.0 ≡ numbered 0 (reverse new)
+    by (LookHeader dom) v e f g = quiet (LookHeader dom) v (record { changes = λ r. refl; pins = λ before ps. refl; unpins = λ pins. refl; maps = m }) e
+    by (LookControl dom gref) v e f g = quiet (LookControl dom gref) v (record { changes = λ r. refl; pins = λ before ps. refl; unpins = λ pins. refl; maps = m }) e
+    by (LookBody dom gref half) v e f g = quiet (LookBody dom gref half) v (record { changes = λ r. refl; pins = λ before ps. refl; unpins = λ pins. refl; maps = m }) e
+    by (PinStep p) Taken e f g = pin p e (f p refl refl)
+    by (PinStep p) (Missed w) e f g = quiet (PinStep p) (Missed w) (record { changes = λ r. refl; pins = λ before ps. refl; unpins = λ pins. refl; maps = m }) e
+    by (PinStep p) (Word w) e f g = quiet (PinStep p) (Word w) (record { changes = λ r. refl; pins = λ before ps. refl; unpins = λ pins. refl; maps = m }) e
+    by (PinStep p) Nothing e f g = quiet (PinStep p) Nothing (record { changes = λ r. refl; pins = λ before ps. refl; unpins = λ pins. refl; maps = m }) e
+    by (Unpin p (ByLeg place)) v e f g = give p place v e (g p place refl)
+    by (Unpin p (ByMapping handle)) v e f g = mapping-legs h d p handle v answer ∙ held ∙ ap (λ (l : List Held). numbered 0 (reverse l)) (sym e)
+    by (StoreBody gref half word) v e f g = quiet (StoreBody gref half word) v (record { changes = λ r. refl; pins = λ before ps. refl; unpins = λ pins. refl; maps = m }) e
+    by (StoreHeader version frames) v e f g = quiet (StoreHeader version frames) v (record { changes = λ r. refl; pins = λ before ps. refl; unpins = λ pins. refl; maps = m }) e
+    by (Exchange gref looked change) Taken e f g =
+        ap (λ (ps : List Pin). Rattle.gt_core.specs.History.gather Rattle.gt_core.specs.History.by_leg d.0 ps) (exchanged-live h d gref looked change answer) ∙ held ∙ ap (λ (l : List Held). numbered 0 (reverse l)) (sym e)
+    by (Exchange gref looked change) (Missed w) e f g = quiet (Exchange gref looked change) (Missed w) (record { changes = λ r. refl; pins = λ before ps. refl; unpins = λ pins. refl; maps = m }) e
+    by (Exchange gref looked change) (Word w) e f g = quiet (Exchange gref looked change) (Word w) (record { changes = λ r. refl; pins = λ before ps. refl; unpins = λ pins. refl; maps = m }) e
+    by (Exchange gref looked change) Nothing e f g = quiet (Exchange gref looked change) Nothing (record { changes = λ r. refl; pins = λ before ps. refl; unpins = λ pins. refl; maps = m }) e
+    by (ReadBytes dom frame off len) v e f g = quiet (ReadBytes dom frame off len) v (record { changes = λ r. refl; pins = λ before ps. refl; unpins = λ pins. refl; maps = m }) e
+    by (WriteBytes dom frame off len) v e f g = quiet (WriteBytes dom frame off len) v (record { changes = λ r. refl; pins = λ before ps. refl; unpins = λ pins. refl; maps = m }) e
+    by (CopyBytes from to len) v e f g = quiet (CopyBytes from to len) v (record { changes = λ r. refl; pins = λ before ps. refl; unpins = λ pins. refl; maps = m }) e
+
+pub pin-fact : (s : Setting) (h : History) (xs : List State) (x : State) (o : Open) (c : Underway) (new : Call) (action : Action) → Ticks s h xs x o c new action → PinFact h o.step (seen_by s h x.id o.step)
+pin-fact s h xs x o c new action t p is saw =
+    (can-pin s h xs x.id c.request (values c) (reverse c.steps) t.stands.phase p
+    (subst (IsHere s h xs x.id c.request (values c) (reverse c.steps) t.stands.phase) is (here-of s h xs x o c t.st t.here t.stands))
+    (taken-word (word_at s h p.dom.0 p.gref.0) p.word (subst (λ (z : Step). seen_by s h x.id z ≡ Taken) is saw))).is
+
+pub last-fact : (s : Setting) (h : History) (xs : List State) (x : State) (o : Open) (c : Underway) (new : Call) (action : Action) → (t : Ticks s h xs x o c new action) → LastFact (held_in t.stands.phase) o.step
+last-fact s h xs x o c new action t p place is =
+    let r = (subst (λ (z : Step). Rests (known_at s h x.id) x.id c.request (pins_at t.stands.phase) (values c) (Makes z)) is t.stands.rests).1 in
+    (r.others, r.held, r.place_is)
+
+-- the pins that the call then holds are those of its next phase
+pub legs-after : (s : Setting) (h : History) (xs : List State) (x : State) (o : Open) (c : Underway) (new : Call) (action : Action) (answer : Option Answer) → (t : Ticks s h xs x o c new action) → one_if_mapped answer ≡ 0
+    → ((n : ℕ) → holder_after answer n ≡ ByLeg n) → ((m : Held) → action ≡ Done (KeptPin m) → ⊥) → legs_at (stepped x.id o.step (seen_by s h x.id o.step) answer ∷ h) x.id.0 ≡ numbered 0 (reverse (held_in (next_of s h x.id t.stands.phase o.step)))
+legs-after s h xs x o c new action answer t m leg unmapped =
+    legs-by h x.id answer (held_in t.stands.phase) (held_in (next_of s h x.id t.stands.phase o.step)) action o.step (seen_by s h x.id o.step) m leg unmapped t.stands.held t.holds (pin-fact s h xs x o c new action t) (last-fact s h xs x o c new action t)
+
+-- what the domain knows stays, where its call goes on
+known-by : (s : Setting) (h : History) (d : DomId) (step : Step) (seen : Seen) → (IsSingle step → ⊥) → ((gref : GrantRef) (looked : ℕ) (change : Change) → step ≡ Exchange gref looked change → seen ≡ Taken → ⊥)
+    → known_at s (stepped d step seen None ∷ h) d ≡ known_at s h d
+known-by s h d step seen single exchange = by step seen single exchange
+  where
+    quiet : (z : Step) (v : Seen) → KeepsKnown (stepped d z v None) → Rattle.gt_core.specs.History.header_stored (Stepped z v) ≡ None → known_at s (stepped d z v None ∷ h) d ≡ known_at s h d
+    quiet z v k e = kept-known s (stepped d z v None) h d k e
+
+    by : (z : Step) (v : Seen) → (IsSingle z → ⊥) → ((gref : GrantRef) (looked : ℕ) (change : Change) → z ≡ Exchange gref looked change → v ≡ Taken → ⊥) → known_at s (stepped d z v None ∷ h) d ≡ known_at s h d
+    by (LookHeader dom) v n e = quiet (LookHeader dom) v (record { changes = λ r. refl; pins = λ before ps. refl; unpins = λ pins. refl; maps = refl }) refl
+    by (LookControl dom gref) v n e = quiet (LookControl dom gref) v (record { changes = λ r. refl; pins = λ before ps. refl; unpins = λ pins. refl; maps = refl }) refl
+    by (LookBody dom gref half) v n e = quiet (LookBody dom gref half) v (record { changes = λ r. refl; pins = λ before ps. refl; unpins = λ pins. refl; maps = refl }) refl
+    by (PinStep p) Taken n e =
+        known-from s (pins d p None) h d (record { changes = λ r. refl; stores = λ r which. refl; header = refl }) (Rattle.gt_core.proofs.Quiet.kept-table s (pins d p None) h d refl) (leg-maps h d p None refl) (answered-stays h (pins d p None) d.0 refl)
+    by (PinStep p) (Missed w) n e = quiet (PinStep p) (Missed w) (record { changes = λ r. refl; pins = λ before ps. refl; unpins = λ pins. refl; maps = refl }) refl
+    by (PinStep p) (Word w) n e = quiet (PinStep p) (Word w) (record { changes = λ r. refl; pins = λ before ps. refl; unpins = λ pins. refl; maps = refl }) refl
+    by (PinStep p) Nothing n e = quiet (PinStep p) Nothing (record { changes = λ r. refl; pins = λ before ps. refl; unpins = λ pins. refl; maps = refl }) refl
+    by (Unpin p (ByLeg place)) v n e =
+        known-from s (unpins d p (ByLeg place) v None) h d (record { changes = λ r. refl; stores = λ r which. refl; header = refl }) (Rattle.gt_core.proofs.Quiet.kept-table s (unpins d p (ByLeg place) v None) h d refl) (leg-mappings h d p place v None)
+        (answered-stays h (unpins d p (ByLeg place) v None) d.0 refl)
+    by (Unpin p (ByMapping handle)) v n e = absurd (n tt)
+    by (StoreBody gref half word) v n e = quiet (StoreBody gref half word) v (record { changes = λ r. refl; pins = λ before ps. refl; unpins = λ pins. refl; maps = refl }) refl
+    by (StoreHeader version frames) v n e = absurd (n tt)
+    by (Exchange gref looked change) Taken n e = absurd (e gref looked change refl refl)
+    by (Exchange gref looked change) (Missed w) n e = quiet (Exchange gref looked change) (Missed w) (record { changes = λ r. refl; pins = λ before ps. refl; unpins = λ pins. refl; maps = refl }) refl
+    by (Exchange gref looked change) (Word w) n e = quiet (Exchange gref looked change) (Word w) (record { changes = λ r. refl; pins = λ before ps. refl; unpins = λ pins. refl; maps = refl }) refl
+    by (Exchange gref looked change) Nothing n e = quiet (Exchange gref looked change) Nothing (record { changes = λ r. refl; pins = λ before ps. refl; unpins = λ pins. refl; maps = refl }) refl
+    by (ReadBytes dom frame off len) v n e = absurd (n tt)
+    by (WriteBytes dom frame off len) v n e = absurd (n tt)
+    by (CopyBytes from to len) v n e = quiet (CopyBytes from to len) v (record { changes = λ r. refl; pins = λ before ps. refl; unpins = λ pins. refl; maps = refl }) refl
+
+goes-not : (d : DomId) (z : Step) (p : Phase) (pins : Pins) (v : Verdict) → last_first pins ≡ [] → Makes z ≡ action_at d p → p ≡ Ending pins v → ⊥
+goes-not d z p pins v none e is = let f : Makes z ≡ Done v = e ∙ ap (action_at d) is ∙ ap (λ (l : List Held). next_to_give l v) none in cc
+
+pub known-after : (s : Setting) (h : History) (xs : List State) (x : State) (o : Open) (c : Underway) (new : Call) (z : Step) → Ticks s h xs x o c new (Makes z)
+    → known_at s (stepped x.id o.step (seen_by s h x.id o.step) None ∷ h) x.id ≡ known_at s h x.id
+known-after s h xs x o c new z t =
+    known-by s h x.id o.step (seen_by s h x.id o.step)
+    (λ single. let e = single-ends s h x.id c.request (reverse c.steps) t.stands.phase o.step t.stands.acts t.stands.place single in goes-not x.id z _ no_pins e.0 refl t.acts e.1)
+    (λ gref looked change is saw.
+    let e = taken-ends (known_at s h x.id) (path (known_at s h x.id) x.id c.request) x.id c.request (values c) t.stands.phase gref looked change t.stands.at.has_shown (t.stands.acts ∙ ap Makes is) in
+    goes-not x.id z _ no_pins Granted refl t.acts (ap (phase_after (known_at s h x.id) x.id t.stands.phase) saw ∙ e))
+
+-- where a store leads
+
+plain-spelled : (entry : Entry) (first second : ℕ) → (Rattle.gt_calls.specs.Resting.IsSubPage entry → ⊥) → first ≡ Rattle.gt_calls.specs.Rules.first_body entry → IsSpelled entry first second
+plain-spelled Invalid first second n f = tt
+plain-spelled (Page dom ro frame) first second n f = f
+plain-spelled (Sub dom ro frame off len) first second n f = absurd (n tt)
+plain-spelled (Via dom ro dom2 gref) first second n f = f
+
+store-place : (s : Setting) (h : History) (d : DomId) (r : Asked) (so_far now : StepsSoFar) (phase : Phase) (gref : GrantRef) (half : Half) (word : ℕ) (way : Rattle.gt_calls.specs.Path.Continuation) (shown : List Seen) → HasShown (known_at s h d) way d r shown phase → PhaseStands s h d r so_far phase
+    → action_at d phase ≡ Makes (StoreBody gref half word) → PhaseStands s (stores d gref half word ∷ h) d r now (phase_after (known_at s h d) d phase Nothing)
+store-place s h d r so_far now (Storing g entry) gref half word way shown a b e =
+    let z : StoreBody g FirstHalf (Rattle.gt_calls.specs.Rules.first_body entry) ≡ StoreBody gref half word = makes-same _ _ e in
+    subst (λ (st : Step). PhaseStands s (stepped d st Nothing None ∷ h) d r now (after_store (known_at s h d) g entry)) z (by entry)
+  where
+    by : (y : Entry) → PhaseStands s (stores d g FirstHalf (Rattle.gt_calls.specs.Rules.first_body y) ∷ h) d r now (after_store (known_at s h d) g y)
+    by Invalid = plain-spelled Invalid (Rattle.gt_core.specs.History.body_at (stores d g FirstHalf (Rattle.gt_calls.specs.Rules.first_body Invalid) ∷ h) d.0 g.0 FirstHalf) (Rattle.gt_core.specs.History.body_at (stores d g FirstHalf (Rattle.gt_calls.specs.Rules.first_body Invalid) ∷ h) d.0 g.0 SecondHalf) (λ n. n) (half-stored d g FirstHalf (Rattle.gt_calls.specs.Rules.first_body Invalid) h)
+    by (Page dom ro frame) = plain-spelled (Page dom ro frame) (Rattle.gt_core.specs.History.body_at (stores d g FirstHalf (Rattle.gt_calls.specs.Rules.first_body (Page dom ro frame)) ∷ h) d.0 g.0 FirstHalf) (Rattle.gt_core.specs.History.body_at (stores d g FirstHalf (Rattle.gt_calls.specs.Rules.first_body (Page dom ro frame)) ∷ h) d.0 g.0 SecondHalf) (λ n. n) (half-stored d g FirstHalf (Rattle.gt_calls.specs.Rules.first_body (Page dom ro frame)) h)
+    by (Sub dom ro frame off len) = half-stored d g FirstHalf (Rattle.gt_calls.specs.Rules.first_body (Sub dom ro frame off len)) h
+    by (Via dom ro dom2 gref) = plain-spelled (Via dom ro dom2 gref) (Rattle.gt_core.specs.History.body_at (stores d g FirstHalf (Rattle.gt_calls.specs.Rules.first_body (Via dom ro dom2 gref)) ∷ h) d.0 g.0 FirstHalf) (Rattle.gt_core.specs.History.body_at (stores d g FirstHalf (Rattle.gt_calls.specs.Rules.first_body (Via dom ro dom2 gref)) ∷ h) d.0 g.0 SecondHalf) (λ n. n) (half-stored d g FirstHalf (Rattle.gt_calls.specs.Rules.first_body (Via dom ro dom2 gref)) h)
+store-place s h d r so_far now (StoringSecond g entry) gref half word way shown a b e =
+    let z : StoreBody g SecondHalf (Rattle.gt_calls.specs.Rules.second_body entry) ≡ StoreBody gref half word = makes-same _ _ e in
+    subst (λ (st : Step). PhaseStands s (stepped d st Nothing None ∷ h) d r now (Rattle.gt_calls.specs.Machine.publishing (known_at s h d) g entry)) z (by entry a.3 b)
+  where
+    by : (y : Entry) → Rattle.gt_calls.specs.Resting.IsSubPage y → Rattle.gt_core.specs.History.body_at h d.0 g.0 FirstHalf ≡ Rattle.gt_calls.specs.Rules.first_body y
+        → PhaseStands s (stores d g SecondHalf (Rattle.gt_calls.specs.Rules.second_body y) ∷ h) d r now (Rattle.gt_calls.specs.Machine.publishing (known_at s h d) g y)
+    by Invalid n f = absurd n
+    by (Page dom ro frame) n f = absurd n
+    by (Via dom ro dom2 gref) n f = absurd n
+    by (Sub dom ro frame off len) n f =
+        let y : Entry = Sub dom ro frame off len in
+        (first-stays d g (Rattle.gt_calls.specs.Rules.second_body y) g.0 h ∙ f, half-stored d g SecondHalf (Rattle.gt_calls.specs.Rules.second_body y) h)
+store-place s h d r so_far now (Exchanging g w ch) gref half word way shown a b e = cc
+store-place s h d r so_far now (Looking g ch more) gref half word way shown a b e = cc
+store-place s h d r so_far now (Changing g ch more w) gref half word way shown a b e = cc
+store-place s h d r so_far now (Walking aim l at) gref half word way shown a b e = absurd (leg-store l at (subst IsStore (sym (makes-same _ _ e)) tt))
+  where
+    leg-store : (l : Rattle.gt_calls.specs.declared.leg.Leg.Leg) (at : Rattle.gt_calls.specs.declared.leg.LegPhase.LegPhase) → IsStore (Rattle.gt_calls.specs.Machine.leg_step l at) → ⊥
+    leg-store l Rattle.gt_calls.specs.declared.leg.LegPhase.TheVariants.Header f = f
+    leg-store l (Rattle.gt_calls.specs.declared.leg.LegPhase.TheVariants.Look more) f = f
+    leg-store l (Rattle.gt_calls.specs.declared.leg.LegPhase.TheVariants.Body more w) f = f
+    leg-store l (Rattle.gt_calls.specs.declared.leg.LegPhase.TheVariants.Second more w body) f = f
+    leg-store l (Rattle.gt_calls.specs.declared.leg.LegPhase.TheVariants.Pinning more w body second) f = f
+    leg-store l (Rattle.gt_calls.specs.declared.leg.LegPhase.TheVariants.Relook more w rule) f = f
+store-place s h d r so_far now (Accessing c source dest) gref half word way shown a b e = cc
+store-place s h d r so_far now (Asking dom question) gref half word way shown a b e = cc
+store-place s h d r so_far now (Last last verdict) gref half word way shown a b e =
+    absurd (subst (λ (z : Step). RestsOn z → ⊥) (sym (makes-same _ _ e)) (λ n. n) a.1)
+  where
+    RestsOn : Step → Type 0
+    RestsOn z = Rattle.gt_calls.specs.Resting.RestsOnRequest (known_at s h d) d r z
+store-place s h d r so_far now (Ending held_pins verdict) gref half word way shown a b e = absurd (give (last_first held_pins) e)
+  where
+    give : (held : List Held) → next_to_give held verdict ≡ Makes (StoreBody gref half word) → ⊥
+    give [] f = cc
+    give (p ∷ ps) f = cc
+
+body-stays : (i : Item) (h : History) (d : ℕ) → ((r : ℕ) (which : Half) → Rattle.gt_core.specs.History.stored_at i.happened r which ≡ None) → BodyStays i h d
+unfolding Rattle.gt_core.specs.History.body_at
+body-stays i h d none = λ r which. ap (λ (o : Option ℕ). Rattle.gt_core.specs.History.or_else o (Rattle.gt_core.specs.History.body_at h d r which)) (ap (λ (o : Option ℕ). cond (i.actor.0 == d) o None) (none r which) ∙ Rattle.gt_core.proofs.Keeping.cond-same (i.actor.0 == d) None)
+
+decide-store : (step : Step) → IsStore step ⊎ (IsStore step → ⊥)
+decide-store (StoreBody gref half word) = inl tt
+decide-store (LookHeader dom) = inr (λ n. n)
+decide-store (LookControl dom gref) = inr (λ n. n)
+decide-store (LookBody dom gref half) = inr (λ n. n)
+decide-store (PinStep p) = inr (λ n. n)
+decide-store (Unpin p holder) = inr (λ n. n)
+decide-store (StoreHeader version frames) = inr (λ n. n)
+decide-store (Exchange gref looked change) = inr (λ n. n)
+decide-store (ReadBytes dom frame off len) = inr (λ n. n)
+decide-store (WriteBytes dom frame off len) = inr (λ n. n)
+decide-store (CopyBytes from to len) = inr (λ n. n)
+
+stored-none : (step : Step) (seen : Seen) → (IsStore step → ⊥) → (r : ℕ) (which : Half) → Rattle.gt_core.specs.History.stored_at (Stepped step seen) r which ≡ None
+stored-none (StoreBody gref half word) seen n r which = absurd (n tt)
+stored-none (LookHeader dom) seen n r which = refl
+stored-none (LookControl dom gref) seen n r which = refl
+stored-none (LookBody dom gref half) seen n r which = refl
+stored-none (PinStep p) seen n r which = refl
+stored-none (Unpin p holder) seen n r which = refl
+stored-none (StoreHeader version frames) seen n r which = refl
+stored-none (Exchange gref looked change) seen n r which = refl
+stored-none (ReadBytes dom frame off len) seen n r which = refl
+stored-none (WriteBytes dom frame off len) seen n r which = refl
+stored-none (CopyBytes from to len) seen n r which = refl
+
+place-after : (s : Setting) (h : History) (xs : List State) (x : State) (o : Open) (c : Underway) (new : Call) (action : Action) → (t : Ticks s h xs x o c new action)
+    → PhaseStands s (stepped x.id o.step (seen_by s h x.id o.step) None ∷ h) x.id c.request ((o.step, seen_by s h x.id o.step) ∷ reverse c.steps) (next_of s h x.id t.stands.phase o.step)
+place-after s h xs x o c new action t = by (decide-store o.step)
+  where
+    d : DomId
+    d = x.id
+
+    store : (step : Step) → o.step ≡ step → IsStore step → PhaseStands s (stepped d step (seen_by s h d step) None ∷ h) d c.request ((step, seen_by s h d step) ∷ reverse c.steps) (next_of s h d t.stands.phase step)
+    store (StoreBody gref half word) is n = store-place s h d c.request (reverse c.steps) _ t.stands.phase gref half word (path (known_at s h d) d c.request) (values c) t.stands.at.has_shown t.stands.place (t.stands.acts ∙ ap Makes is)
+    store (LookHeader dom) is n = absurd n
+    store (LookControl dom gref) is n = absurd n
+    store (LookBody dom gref half) is n = absurd n
+    store (PinStep p) is n = absurd n
+    store (Unpin p holder) is n = absurd n
+    store (StoreHeader version frames) is n = absurd n
+    store (Exchange gref looked change) is n = absurd n
+    store (ReadBytes dom frame off len) is n = absurd n
+    store (WriteBytes dom frame off len) is n = absurd n
+    store (CopyBytes from to len) is n = absurd n
+
+    by : IsStore o.step ⊎ (IsStore o.step → ⊥) → PhaseStands s (stepped d o.step (seen_by s h d o.step) None ∷ h) d c.request ((o.step, seen_by s h d o.step) ∷ reverse c.steps) (next_of s h d t.stands.phase o.step)
+    by (inl n) = store o.step refl n
+    by (inr n) =
+        place-stays s (stepped d o.step (seen_by s h d o.step) None) h d c.request ((o.step, seen_by s h d o.step) ∷ reverse c.steps) (next_of s h d t.stands.phase o.step)
+        (body-stays (stepped d o.step (seen_by s h d o.step) None) h d.0 (stored-none o.step (seen_by s h d o.step) n))
+        (placed s h xs d c.request (values c) (reverse c.steps) t.stands.phase o.step (here-of s h xs x o c t.st t.here t.stands) n)
+
+-- a call that goes on is where this step has led it
+pub open-after : (s : Setting) (h : History) (xs : List State) (x : State) (o : Open) (c : Underway) (new : Call) (z : Step) → Ticks s h xs x o c new (Makes z)
+    → OpenAgrees s (stepped x.id o.step (seen_by s h x.id o.step) None ∷ h) x.id (record { call = new; step = z }) (record { request = c.request; given = c.given; steps = c.steps ++ (o.step, seen_by s h x.id o.step) ∷ [] })
+open-after s h xs x o c new z t =
+    let d = x.id in
+    let r = c.request in
+    let seen = seen_by s h d o.step in
+    let i = stepped d o.step seen None in
+    let next = next_of s h d t.stands.phase o.step in
+    let same = known-after s h xs x o c new z t in
+    let shown : values c ++ seen ∷ [] ≡ values (record { request = c.request; given = c.given; steps = c.steps ++ (o.step, seen) ∷ [] }) = sym (values-more c o.step seen) in
+    let longer : length (c.steps ++ (o.step, seen) ∷ []) ≡ length c.steps + 1 = length-append c.steps ((o.step, seen) ∷ []) in
+    let few = t.stands.few in
+    let fewer = t.fewer in
+    record {
+      caller = t.caller;
+      asks = t.asks;
+      phase = next;
+      here = t.is_next;
+      at = subst (λ (k : CallerKnowledge). StandsAt k d r (values (record { request = c.request; given = c.given; steps = c.steps ++ (o.step, seen) ∷ [] })) next) (sym same) (subst (λ (vs : List Seen). StandsAt (known_at s h d) d r vs next) shown t.at);
+      acts = sym t.acts;
+      follows = subst (λ (k : CallerKnowledge). GoesOn k d r (values (record { request = c.request; given = c.given; steps = c.steps ++ (o.step, seen) ∷ [] })) (Makes z)) (sym same) (subst (λ (vs : List Seen). GoesOn (known_at s h d) d r vs (Makes z)) shown t.follows);
+      rests = subst (λ (k : CallerKnowledge). Rests k d r (pins_at next) (values (record { request = c.request; given = c.given; steps = c.steps ++ (o.step, seen) ∷ [] })) (Makes z)) (sym same) (subst (λ (vs : List Seen). Rests (known_at s h d) d r (pins_at next) vs (Makes z)) shown t.rests);
+      place = subst (λ (so_far : StepsSoFar). PhaseStands s (i ∷ h) d r so_far next) (sym (steps-more c o.step seen)) (place-after s h xs x o c new (Makes z) t);
+      fair = stood-after s h xs x o c new (Makes z) None t;
+      fits = t.stands.fits;
+      clean = clean-next s h (path (known_at s h d) d r) d r (values c) (reverse c.steps) t.stands.phase o.step c.steps t.stands.at.has_shown t.stands.acts t.stands.place t.stands.clean;
+      held = legs-after s h xs x o c new (Makes z) None t refl (λ n. refl) (λ m e. cc);
+      few = (omega arith);
+    }
+
+-- a step is right
+
+step-justified : (s : Setting) (h : History) (xs : List State) (d : DomId) (r : Asked) (shown : List Seen) (so_far : StepsSoFar) (phase : Phase) (step : Step) → IsHere s h xs d r shown so_far phase step → Justified s h d r step
+step-justified s h xs d r shown so_far phase (ReadBytes dom frame off len) i = read-justified s h xs d r dom frame off len i.st i.rests.0 i.rests.1
+step-justified s h xs d r shown so_far phase (WriteBytes dom frame off len) i = write-justified s h xs d r dom frame off len i.st i.rests.0 i.rests.1
+step-justified s h xs d r shown so_far phase (CopyBytes from to len) i = copy-justified s h d r (pins_at phase) from to len i.rests.0 i.held i.rests.1
+step-justified s h xs d r shown so_far phase (LookHeader dom) i = tt
+step-justified s h xs d r shown so_far phase (LookControl dom gref) i = tt
+step-justified s h xs d r shown so_far phase (LookBody dom gref half) i = tt
+step-justified s h xs d r shown so_far phase (PinStep p) i = tt
+step-justified s h xs d r shown so_far phase (Unpin p holder) i = tt
+step-justified s h xs d r shown so_far phase (StoreBody gref half word) i = tt
+step-justified s h xs d r shown so_far phase (StoreHeader version frames) i = tt
+step-justified s h xs d r shown so_far phase (Exchange gref looked change) i = tt
+
+step-safe : (s : Setting) (h : History) (xs : List State) (d : DomId) (r : Asked) (shown : List Seen) (so_far : StepsSoFar) (phase : Phase) (step : Step) (answer : Option Answer) → IsHere s h xs d r shown so_far phase step → IsSafe s h (stepped d step (seen_by s h d step) answer)
+step-safe s h xs d r shown so_far phase (Exchange gref looked change) answer i = by (word_at s h d.0 gref.0 == looked) refl
+  where
+    by : (b : Bool) → (word_at s h d.0 gref.0 == looked) ≡ b → IsSafe s h (stepped d (Exchange gref looked change) (cond b Taken (Missed (word_at s h d.0 gref.0))) answer)
+    by true is = (can-change s h xs d r shown so_far phase gref looked change i (eqb-true (word_at s h d.0 gref.0) looked is)).safe
+    by false is = tt
+step-safe s h xs d r shown so_far phase (StoreBody gref half word) answer i = store-invalid s h d r gref half word i.rests.0 i.rests.1
+step-safe s h xs d r shown so_far phase (LookHeader dom) answer i = tt
+step-safe s h xs d r shown so_far phase (LookControl dom gref) answer i = tt
+step-safe s h xs d r shown so_far phase (LookBody dom gref half) answer i = tt
+step-safe s h xs d r shown so_far phase (PinStep p) answer i = by (word_at s h p.dom.0 p.gref.0 == p.word)
+  where
+    by : (b : Bool) → IsSafe s h (stepped d (PinStep p) (cond b Taken (Missed (word_at s h p.dom.0 p.gref.0))) answer)
+    by true = tt
+    by false = tt
+step-safe s h xs d r shown so_far phase (Unpin p holder) answer i = tt
+step-safe s h xs d r shown so_far phase (StoreHeader version frames) answer i = tt
+step-safe s h xs d r shown so_far phase (ReadBytes dom frame off len) answer i = tt
+step-safe s h xs d r shown so_far phase (WriteBytes dom frame off len) answer i = tt
+step-safe s h xs d r shown so_far phase (CopyBytes from to len) answer i = tt
+
+step-sound : (s : Setting) (h : History) (xs : List State) (d : DomId) (r : Asked) (shown : List Seen) (so_far : StepsSoFar) (phase : Phase) (step : Step) → IsHere s h xs d r shown so_far phase step → PinIsSound s h d r step (seen_by s h d step)
+step-sound s h xs d r shown so_far phase (PinStep p) i = by (word_at s h p.dom.0 p.gref.0 == p.word) refl
+  where
+    by : (b : Bool) → (word_at s h p.dom.0 p.gref.0 == p.word) ≡ b → PinIsSound s h d r (PinStep p) (cond b Taken (Missed (word_at s h p.dom.0 p.gref.0)))
+    by true is = (can-pin s h xs d r shown so_far phase p i (eqb-true (word_at s h p.dom.0 p.gref.0) p.word is)).sound
+    by false is = tt
+step-sound s h xs d r shown so_far phase (Exchange gref looked change) i = tt
+step-sound s h xs d r shown so_far phase (StoreBody gref half word) i = tt
+step-sound s h xs d r shown so_far phase (LookHeader dom) i = tt
+step-sound s h xs d r shown so_far phase (LookControl dom gref) i = tt
+step-sound s h xs d r shown so_far phase (LookBody dom gref half) i = tt
+step-sound s h xs d r shown so_far phase (Unpin p holder) i = tt
+step-sound s h xs d r shown so_far phase (StoreHeader version frames) i = tt
+step-sound s h xs d r shown so_far phase (ReadBytes dom frame off len) i = tt
+step-sound s h xs d r shown so_far phase (WriteBytes dom frame off len) i = tt
+step-sound s h xs d r shown so_far phase (CopyBytes from to len) i = tt
+
+most-fits : (r : Asked) → most_of r ≤ most_steps r
+most-fits (Demote gref) = omega arith
+most-fits (Promote gref) = omega arith
+most-fits (Grant gref entry) = omega arith
+most-fits (Revoke gref) = omega arith
+most-fits (Map dom gref flags) = omega arith
+most-fits (Unmap handle) = omega arith
+most-fits (Load handle off len) = omega arith
+most-fits (Store handle off len) = omega arith
+most-fits (Peek frame off len) = omega arith
+most-fits (Poke frame off len) = omega arith
+most-fits (Copy c) = omega arith
+most-fits (SetVersion version) = omega arith
+most-fits (SetupTable frames) = omega arith
+most-fits (QuerySize dom) = omega arith
+most-fits (GetVersion dom) = omega arith
+
+-- a call that goes on gives pins back, or has no rule against it
+goes-fair : (d : DomId) (p : Phase) (z : Step) → action_at d p ≡ Makes z → (phase_refusal p ≡ None) ⊎ (gives_back (Some (Makes z)) ≡ true)
+goes-fair d (Storing gref entry) z e = inl refl
+goes-fair d (StoringSecond gref entry) z e = inl refl
+goes-fair d (Exchanging gref looked change) z e = inl refl
+goes-fair d (Looking gref change more) z e = inl refl
+goes-fair d (Changing gref change more looked) z e = inl refl
+goes-fair d (Walking aim l at) z e = inl refl
+goes-fair d (Accessing c source dest) z e = inl refl
+goes-fair d (Asking dom question) z e = inl refl
+goes-fair d (Last step verdict) z e = inl refl
+goes-fair d (Ending pins verdict) z e = inr (by (last_first pins) e)
+  where
+    by : (held : List Held) → next_to_give held verdict ≡ Makes z → gives_back (Some (Makes z)) ≡ true
+    by [] f = cc
+    by (p ∷ ps) f = subst (λ (y : Step). gives_back (Some (Makes y)) ≡ true) (makes-same _ _ f) refl
+
+pub goes-right : (s : Setting) (h : History) (xs : List State) (x : State) (o : Open) (c : Underway) (new : Call) (z : Step) → Ticks s h xs x o c new (Makes z)
+    → StepsRight s h (stepped x.id o.step (seen_by s h x.id o.step) None) o.step (seen_by s h x.id o.step) c
+goes-right s h xs x o c new z t =
+    let d = x.id in
+    let seen = seen_by s h d o.step in
+    let i = here-of s h xs x o c t.st t.here t.stands in
+    let few = t.stands.few in
+    let fewer = t.fewer in
+    let counted = t.counted in
+    let most = most-fits c.request in
+    record {
+      continues = t.stands.follows;
+      sees = refl;
+      justified = step-justified s h xs d c.request (values c) (reverse c.steps) t.stands.phase o.step i;
+      safe = step-safe s h xs d c.request (values c) (reverse c.steps) t.stands.phase o.step None i;
+      sound = step-sound s h xs d c.request (values c) (reverse c.steps) t.stands.phase o.step i;
+      soon = λ none. (omega arith);
+      left = λ some. absurd (some refl);
+      answered = subst (λ (a : Option Action). AnsweredBy s h d c.request (Some o.step) (gives_back a) (verdict_in a) None (stood s (stepped d o.step seen None ∷ h) d.0)) (sym t.follows)
+          (fair (goes-fair d (next_of s h d t.stands.phase o.step) z (sym t.acts)));
+    }
+  where
+    fair : (phase_refusal (next_of s h x.id t.stands.phase o.step) ≡ None) ⊎ (gives_back (Some (Makes z)) ≡ true)
+        → (stood s (stepped x.id o.step (seen_by s h x.id o.step) None ∷ h) x.id.0 ≡ None) ⊎ (gives_back (Some (Makes z)) ≡ true)
+    fair (inl e) = inl (stood-after s h xs x o c new (Makes z) None t ∙ e)
+    fair (inr e) = inr e
+
+-- a call that is answered
+pub ends-right : (s : Setting) (h : History) (xs : List State) (x : State) (o : Open) (c : Underway) (new : Call) (v : Verdict) (answer : Answer) → Ticks s h xs x o c new (Done v) → refusal_of answer ≡ refusal_in (Some v)
+    → legs_at (stepped x.id o.step (seen_by s h x.id o.step) (Some answer) ∷ h) x.id.0 ≡ [] → GivesValue s h x.id c.request (Some o.step) answer
+    → StepsRight s h (stepped x.id o.step (seen_by s h x.id o.step) (Some answer)) o.step (seen_by s h x.id o.step) c
+ends-right s h xs x o c new v answer t same legs value =
+    let d = x.id in
+    let seen = seen_by s h d o.step in
+    let i = here-of s h xs x o c t.st t.here t.stands in
+    let e = ends-so d (next_of s h d t.stands.phase o.step) v (sym t.acts) in
+    let clean : IsClean (Ending e.0 v) (c.steps ++ (o.step, seen) ∷ []) =
+    subst (λ (p : Phase). IsClean p (c.steps ++ (o.step, seen) ∷ [])) e.1
+    (clean-next s h (path (known_at s h d) d c.request) d c.request (values c) (reverse c.steps) t.stands.phase o.step c.steps t.stands.at.has_shown t.stands.acts t.stands.place t.stands.clean) in
+    record {
+      continues = t.stands.follows;
+      sees = refl;
+      justified = step-justified s h xs d c.request (values c) (reverse c.steps) t.stands.phase o.step i;
+      safe = step-safe s h xs d c.request (values c) (reverse c.steps) t.stands.phase o.step (Some answer) i;
+      sound = step-sound s h xs d c.request (values c) (reverse c.steps) t.stands.phase o.step i;
+      soon = λ none. cc;
+      left = λ some. (by some clean, legs);
+      answered = subst (λ (a : Option Action). AnsweredBy s h d c.request (Some o.step) (gives_back a) (verdict_in a) (Some answer) (stood s (stepped d o.step seen (Some answer) ∷ h) d.0)) (sym t.follows)
+          (same, same ∙ sym (stood-after s h xs x o c new (Done v) (Some answer) t ∙ ap phase_refusal e.1), value);
+    }
+  where
+    by : refusal_if (Some answer) ≢ None → (refusal_in (Some v) ≡ None) ⊎ All LeavesAll (c.steps ++ (o.step, seen_by s h x.id o.step) ∷ []) → All LeavesAll (c.steps ++ (o.step, seen_by s h x.id o.step) ∷ [])
+    by some (inl none) = absurd (some (same ∙ none))
+    by some (inr all) = all
