@@ -26,3 +26,4 @@ pub mod Accessing
 pub mod Outcomes
 pub mod Values
 pub mod Ticking
+pub mod Stepping
