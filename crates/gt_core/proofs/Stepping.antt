@@ -205,3 +205,186 @@ step-stands s h xs ys x c phase (CopyBytes from to len) answer o' bytes i last h
     subst (λ (l : List ℕ). CoreStands s (stepped x.id (CopyBytes from to len) Nothing answer ∷ h) (changed_in to.owner.0 (with_bytes to.frame to.off l) ys)) (sym same)
     (write-stands s h xs ys x (stepped x.id (CopyBytes from to len) Nothing answer) to held x.given o' (record { changes = λ r. refl; stores = λ r which. refl; header = refl }) (record { changes = λ r. refl; pins = λ before ps. refl; unpins = λ pins. refl; maps = m }) refl
     i.st here a r refl (omega arith) call (given-goes-on x.id (CopyBytes from to len) Nothing answer h x.given a.given))
+
+-- the actor's call after this
+
+call-over : (s : Setting) (h : History) (d : DomId) (step : Step) (seen : Seen) (answer : Answer) → legs_at (stepped d step seen (Some answer) ∷ h) d.0 ≡ [] → CallAgrees s (stepped d step seen (Some answer) ∷ h) d None (open_call (stepped d step seen (Some answer) ∷ h) d.0)
+call-over s h d step seen answer legs = subst (λ (u : Option Underway). CallAgrees s (stepped d step seen (Some answer) ∷ h) d None u) (sym (open_call-own (stepped d step seen (Some answer)) h)) legs
+
+-- what a tick is to do
+abbrev pub Ticked : Setting → History → DomId → Step → Seen → Option Answer → List State → Type 0
+Ticked s h d step seen answer zs = IsRight s h (stepped d step seen answer) × CoreStands s (stepped d step seen answer ∷ h) zs
+
+right-in : (s : Setting) (h : History) (d : DomId) (step : Step) (seen : Seen) (answer : Option Answer) (c : Underway) → open_call h d.0 ≡ Some c → StepsRight s h (stepped d step seen answer) step seen c → IsRight s h (stepped d step seen answer)
+right-in s h d step seen answer c call a = subst (λ (u : Option Underway). StepsRightIn s h (stepped d step seen answer) step seen u) (sym call) a
+
+-- a call that goes on
+
+single-write : (step : Step) (dom : DomId) (frame off len : ℕ) → step ≡ WriteBytes dom frame off len → IsSingle step
+single-write step dom frame off len e = subst IsSingle (sym e) tt
+
+pub goes-core : (s : Setting) (h : History) (xs ys : List State) (x : State) (o : Open) (c : Underway) (new : Call) (z : Step) (bytes : List ℕ) → Ticks s h xs x o c new (Makes z) → Replaced xs ys x (record x { underway = Some (record { call = new; step = z }) }) → bytes ≡ copied_by xs o.step
+    → Ticked s h x.id o.step (seen_by s h x.id o.step) None (applied x.id o.step (seen_by s h x.id o.step) bytes ys)
+goes-core s h xs ys x o c new z bytes t r copied =
+    let seen = seen_by s h x.id o.step in
+    let i = stepped x.id o.step seen None in
+    let now : open_call (i ∷ h) x.id.0 ≡ Some (record { request = c.request; given = c.given; steps = c.steps ++ (o.step, seen) ∷ [] }) = open_call-own i h ∙ ap (underway_after i) t.call in (
+      right-in s h x.id o.step seen None c t.call (goes-right s h xs x o c new z t),
+      step-stands s h xs ys x c t.stands.phase o.step None (Some (record { call = new; step = z })) bytes (here-of s h xs x o c t.st t.here t.stands) (last-fact s h xs x o c new (Makes z) t) t.here t.agrees r refl (λ n. refl) copied
+          (λ dom frame off len e. no-write e (single-ends s h x.id c.request (reverse c.steps) t.stands.phase o.step t.stands.acts t.stands.place (single-write o.step dom frame off len e)))
+          (λ store. refl)
+          (subst (λ (u : Option Underway). CallAgrees s (i ∷ h) x.id (Some (record { call = new; step = z })) u) (sym now) (open-after s h xs x o c new z t)),
+    )
+  where
+    no-write : {A : Type 0} → A → (verdict : Verdict) × (next_of s h x.id t.stands.phase o.step ≡ Ending no_pins verdict) × Rattle.gt_core.specs.Standing.EndsAfter c.request o.step verdict → ⊥
+    no-write a e = let f : Makes z ≡ Done e.0 = t.acts ∙ ap (action_at x.id) e.1 in cc
+
+-- a call that is over
+
+-- no store ends a call
+store-goes : (s : Setting) (h : History) (xs : List State) (x : State) (o : Open) (c : Underway) (new : Call) (v : Verdict) → (t : Ticks s h xs x o c new (Done v)) → IsStore o.step → ⊥
+store-goes s h xs x o c new v t store = by o.step refl store
+  where
+    stored : (p : Phase) (gref : GrantRef) (half : Half) (word : ℕ) → HasShown (known_at s h x.id) (path (known_at s h x.id) x.id c.request) x.id c.request (values c) p → action_at x.id p ≡ Makes (StoreBody gref half word)
+        → Done v ≡ action_at x.id (phase_after (known_at s h x.id) x.id p Nothing) → ⊥
+    stored (Storing g entry) gref half word a e f = after entry f
+      where
+        after : (y : Entry) → Done v ≡ action_at x.id (after_store (known_at s h x.id) g y) → ⊥
+        after Invalid k = cc
+        after (Page dom ro frame) k = cc
+        after (Sub dom ro frame off len) k = cc
+        after (Via dom ro dom2 r) k = cc
+    stored (StoringSecond g entry) gref half word a e f = cc
+    stored (Exchanging g w ch) gref half word a e f = cc
+    stored (Looking g ch more) gref half word a e f = cc
+    stored (Changing g ch more w) gref half word a e f = cc
+    stored (Walking aim l at) gref half word a e f = Rattle.gt_core.proofs.Ticking.leg-store l at (subst IsStore (sym (makes-same _ _ e)) tt)
+    stored (Accessing cc' source dest) gref half word a e f = cc
+    stored (Asking dom question) gref half word a e f = cc
+    stored (Last last verdict) gref half word a e f = subst (Rattle.gt_calls.specs.Resting.RestsOnRequest (known_at s h x.id) x.id c.request) (makes-same _ _ e) a.1
+    stored (Ending held verdict) gref half word a e f = give (last_first held) e
+      where
+        give : (l : List Held) → next_to_give l verdict ≡ Makes (StoreBody gref half word) → ⊥
+        give [] k = cc
+        give (p ∷ ps) k = cc
+
+    by : (step : Step) → o.step ≡ step → IsStore step → ⊥
+    by (StoreBody gref half word) is n =
+        stored t.stands.phase gref half word t.stands.at.has_shown (t.stands.acts ∙ ap Makes is) (t.acts ∙ ap (λ (z : Step). action_at x.id (next_of s h x.id t.stands.phase z)) is)
+    by (LookHeader dom) is n = n
+    by (LookControl dom gref) is n = n
+    by (LookBody dom gref half) is n = n
+    by (PinStep p) is n = n
+    by (Unpin p holder) is n = n
+    by (StoreHeader version frames) is n = n
+    by (Exchange gref looked change) is n = n
+    by (ReadBytes dom frame off len) is n = n
+    by (WriteBytes dom frame off len) is n = n
+    by (CopyBytes from to len) is n = n
+
+none-held : (s : Setting) (h : History) (xs : List State) (x : State) (o : Open) (c : Underway) (new : Call) (v : Verdict) (answer : Answer) → (t : Ticks s h xs x o c new (Done v)) → one_if_mapped (Some answer) ≡ 0 → ((n : ℕ) → holder_after (Some answer) n ≡ ByLeg n)
+    → ((m : Held) → v ≡ KeptPin m → ⊥) → legs_at (stepped x.id o.step (seen_by s h x.id o.step) (Some answer) ∷ h) x.id.0 ≡ []
+none-held s h xs x o c new v answer t m leg unmapped =
+    let e = ends-so x.id (next_of s h x.id t.stands.phase o.step) v (sym t.acts) in
+    legs-after s h xs x o c new (Done v) (Some answer) t m leg (λ q f. unmapped q (let g : v ≡ KeptPin q = cc in g))
+    ∙ ap (λ (p : Phase). numbered 0 (reverse (held_in p))) e.1 ∙ ap (λ (l : List Held). numbered 0 (reverse l)) e.2
+
+-- an answer with no mapping
+abbrev pub IsPlainAnswer : Answer → Type 0
+IsPlainAnswer (Mapped handle) = ⊥
+IsPlainAnswer answer = Unit {0}
+
+plain-maps : (answer : Answer) → IsPlainAnswer answer → one_if_mapped (Some answer) ≡ 0
+plain-maps (Mapped handle) a = absurd a
+plain-maps AnswerDone a = refl
+plain-maps (Denied denial) a = refl
+plain-maps (BytesAnswer b) a = refl
+plain-maps (Rattle.gt_core.specs.declared.trace.Answer.TheVariants.Frames n) a = refl
+plain-maps (Rattle.gt_core.specs.declared.trace.Answer.TheVariants.Size z) a = refl
+plain-maps (Rattle.gt_core.specs.declared.trace.Answer.TheVariants.Version n) a = refl
+
+plain-leg : (answer : Answer) → IsPlainAnswer answer → (n : ℕ) → holder_after (Some answer) n ≡ ByLeg n
+plain-leg (Mapped handle) a n = absurd a
+plain-leg AnswerDone a n = refl
+plain-leg (Denied denial) a n = refl
+plain-leg (BytesAnswer b) a n = refl
+plain-leg (Rattle.gt_core.specs.declared.trace.Answer.TheVariants.Frames k) a n = refl
+plain-leg (Rattle.gt_core.specs.declared.trace.Answer.TheVariants.Size z) a n = refl
+plain-leg (Rattle.gt_core.specs.declared.trace.Answer.TheVariants.Version k) a n = refl
+
+pub ends-core : (s : Setting) (h : History) (xs ys : List State) (x : State) (o : Open) (c : Underway) (new : Call) (v : Verdict) (answer : Answer) (bytes : List ℕ) → Ticks s h xs x o c new (Done v) → Replaced xs ys x (record x { underway = None }) → bytes ≡ copied_by xs o.step
+    → IsPlainAnswer answer → ((m : Held) → v ≡ KeptPin m → ⊥) → ((dom : DomId) (frame off len : ℕ) → o.step ≡ WriteBytes dom frame off len → ⊥) → refusal_of answer ≡ refusal_in (Some v) → GivesValue s h x.id c.request (Some o.step) answer
+    → Ticked s h x.id o.step (seen_by s h x.id o.step) (Some answer) (applied x.id o.step (seen_by s h x.id o.step) bytes ys)
+ends-core s h xs ys x o c new v answer bytes t r copied plain unmapped write same value =
+    let seen = seen_by s h x.id o.step in
+    let legs = none-held s h xs x o c new v answer t (plain-maps answer plain) (plain-leg answer plain) unmapped in (
+      right-in s h x.id o.step seen (Some answer) c t.call (ends-right s h xs x o c new v answer t same legs value),
+      step-stands s h xs ys x c t.stands.phase o.step (Some answer) None bytes (here-of s h xs x o c t.st t.here t.stands) (last-fact s h xs x o c new (Done v) t) t.here t.agrees r (plain-maps answer plain) (plain-leg answer plain) copied
+          write (λ store. absurd (store-goes s h xs x o c new v t store)) (call-over s h x.id o.step seen answer legs),
+    )
+
+-- a write ends its call with Ok
+write-granted : (s : Setting) (h : History) (xs : List State) (x : State) (o : Open) (c : Underway) (new : Call) (v : Verdict) → (t : Ticks s h xs x o c new (Done v)) → (dom : DomId) (frame off len : ℕ) → o.step ≡ WriteBytes dom frame off len → v ≡ Granted
+write-granted s h xs x o c new v t dom frame off len e =
+    let l = single-ends s h x.id c.request (reverse c.steps) t.stands.phase o.step t.stands.acts t.stands.place (single-write o.step dom frame off len e) in
+    let f : Done v ≡ Done l.0 = t.acts ∙ ap (action_at x.id) l.1 in
+    let g : v ≡ l.0 = cc in
+    g ∙ subst (λ (z : Step). Rattle.gt_core.specs.Standing.EndsAfter c.request z l.0) e l.2
+
+pub given-core : (s : Setting) (h : History) (xs ys : List State) (x : State) (o : Open) (c : Underway) (new : Call) (value : Value) (bytes : List ℕ) → Ticks s h xs x o c new (Done (Given value)) → Replaced xs ys x (record x { underway = None }) → bytes ≡ copied_by xs o.step
+    → Ticked s h x.id o.step (seen_by s h x.id o.step) (Some (answer_with value)) (applied x.id o.step (seen_by s h x.id o.step) bytes ys)
+given-core s h xs ys x o c new value bytes t r copied =
+    ends-core s h xs ys x o c new (Given value) (answer_with value) bytes t r copied (plain value) (λ m e. cc)
+    (λ dom frame off len e. let f : Given value ≡ Granted = write-granted s h xs x o c new (Given value) t dom frame off len e in cc) (same value)
+    (given-value s h xs x.id c.request (values c) (reverse c.steps) t.stands.phase o.step value (here-of s h xs x o c t.st t.here t.stands) (sym t.acts))
+  where
+    plain : (z : Value) → IsPlainAnswer (answer_with z)
+    plain (FramesTold n) = tt
+    plain (SizeTold n) = tt
+    plain (VersionTold n) = tt
+
+    same : (z : Value) → refusal_of (answer_with z) ≡ None
+    same (FramesTold n) = refl
+    same (SizeTold n) = refl
+    same (VersionTold n) = refl
+
+pub refused-core : (s : Setting) (h : History) (xs ys : List State) (x : State) (o : Open) (c : Underway) (new : Call) (denial : Denial) (bytes : List ℕ) → Ticks s h xs x o c new (Done (Refused denial)) → Replaced xs ys x (record x { underway = None }) → bytes ≡ copied_by xs o.step
+    → Ticked s h x.id o.step (seen_by s h x.id o.step) (Some (Denied denial)) (applied x.id o.step (seen_by s h x.id o.step) bytes ys)
+refused-core s h xs ys x o c new denial bytes t r copied =
+    ends-core s h xs ys x o c new (Refused denial) (Denied denial) bytes t r copied tt (λ m e. cc)
+    (λ dom frame off len e. let f : Refused denial ≡ Granted = write-granted s h xs x o c new (Refused denial) t dom frame off len e in cc) refl tt
+
+-- a map with its pin
+pub mapped-core : (s : Setting) (h : History) (xs ys : List State) (x : State) (o : Open) (c : Underway) (new : Call) (held : Held) (handle : Handle) (kept : Kept Held) (bytes : List ℕ) → Ticks s h xs x o c new (Done (KeptPin held)) → Replaced xs ys x (record x { mappings = kept; underway = None })
+    → Adds x.mappings kept handle held → Ticked s h x.id o.step (seen_by s h x.id o.step) (Some (Mapped handle)) (applied x.id o.step (seen_by s h x.id o.step) bytes ys)
+mapped-core s h xs ys x o c new held handle kept bytes t r adds = by (seen_by s h x.id o.step) refl
+  where
+    d : DomId
+    d = x.id
+
+    i : IsHere s h xs x.id c.request (values c) (reverse c.steps) t.stands.phase o.step
+    i = here-of s h xs x o c t.st t.here t.stands
+
+    by : (seen : Seen) → seen_by s h d o.step ≡ seen → Ticked s h d o.step seen (Some (Mapped handle)) (applied d o.step seen bytes ys)
+    by seen saw =
+        let m = mapped-ends s h xs d c.request (values c) (reverse c.steps) t.stands.phase o.step held i (sym t.acts) in
+        let taken : seen ≡ Taken = sym saw ∙ ap (seen_by s h d) m.is ∙ ap (λ (b : Bool). cond b Taken (Missed (word_at s h held.dom.0 held.gref.0))) (eq-eqb (word_at s h held.dom.0 held.gref.0) held.word m.taken) in
+        let j : IsHere s h xs d c.request (values c) (reverse c.steps) t.stands.phase (PinStep held) = subst (IsHere s h xs d c.request (values c) (reverse c.steps) t.stands.phase) m.is i in
+        let can : CanPin s h d c.request held = can-pin s h xs d c.request (values c) (reverse c.steps) t.stands.phase held j m.taken in
+        let law = map-lawful s h d c.request held (values c) (pins_at t.stands.phase) j.rests.0 j.rests.1 m.dom m.gref m.flags m.of_map in
+        let lawful : IsLawful s (new_pin h d held (Some (Mapped handle))) =
+        subst (λ (q : Held). IsLawfullyHeld s (record { actor = d.0; holder = ByMapping handle; held = q }) (ByMapping handle)) (sym can.is) law in
+        let legs : legs_at (pins d held (Some (Mapped handle)) ∷ h) d.0 ≡ [] = map-legs h d held handle ∙ t.stands.held ∙ ap (λ (l : List Held). numbered 0 (reverse l)) m.none in
+        let maps = map-agrees h d held handle x.mappings kept (subst (λ (q : Held). Adds x.mappings kept handle q) (sym can.is) adds) t.agrees.mappings in
+        let after = pin-stands s h xs ys x held (Some (Mapped handle)) kept None t.st t.here t.agrees r can.valid can.few lawful maps (call-over s h d (PinStep held) Taken (Mapped handle) legs) (given-goes-on d (PinStep held) Taken (Some (Mapped handle)) h x.given t.agrees.given) in
+        let same_step : stepped d o.step (seen_by s h d o.step) (Some (Mapped handle)) ≡ pins d held (Some (Mapped handle)) =
+        ap (λ (v : Seen). stepped d o.step v (Some (Mapped handle))) (saw ∙ taken) ∙ ap (λ (z : Step). stepped d z Taken (Some (Mapped handle))) m.is in
+        let value : GivesValue s h d c.request (Some o.step) (Mapped handle) =
+        subst (λ (z : Step). GivesValue s h d c.request (Some z) (Mapped handle)) (sym m.is)
+        (subst (λ (q : Asked). GivesValue s h d q (Some (PinStep held)) (Mapped handle)) (sym m.of_map) (adds.serial ∙ t.agrees.mappings.given)) in (
+          subst (λ (v : Seen). IsRight s h (stepped d o.step v (Some (Mapped handle)))) saw
+              (right-in s h d o.step (seen_by s h d o.step) (Some (Mapped handle)) c t.call
+              (ends-right s h xs x o c new (KeptPin held) (Mapped handle) t refl (ap (λ (k : Item). legs_at (k ∷ h) d.0) same_step ∙ legs) value)),
+          subst (λ (z : Step). CoreStands s (stepped d z seen (Some (Mapped handle)) ∷ h) (applied d z seen bytes ys)) (sym m.is)
+              (subst (λ (v : Seen). CoreStands s (stepped d (PinStep held) v (Some (Mapped handle)) ∷ h) (applied d (PinStep held) v bytes ys)) (sym taken) after),
+        )

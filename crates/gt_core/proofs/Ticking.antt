@@ -325,6 +325,14 @@ plain-spelled (Page dom ro frame) first second n f = f
 plain-spelled (Sub dom ro frame off len) first second n f = absurd (n tt)
 plain-spelled (Via dom ro dom2 gref) first second n f = f
 
+pub leg-store : (l : Rattle.gt_calls.specs.declared.leg.Leg.Leg) (at : Rattle.gt_calls.specs.declared.leg.LegPhase.LegPhase) → IsStore (Rattle.gt_calls.specs.Machine.leg_step l at) → ⊥
+leg-store l Rattle.gt_calls.specs.declared.leg.LegPhase.TheVariants.Header f = f
+leg-store l (Rattle.gt_calls.specs.declared.leg.LegPhase.TheVariants.Look more) f = f
+leg-store l (Rattle.gt_calls.specs.declared.leg.LegPhase.TheVariants.Body more w) f = f
+leg-store l (Rattle.gt_calls.specs.declared.leg.LegPhase.TheVariants.Second more w body) f = f
+leg-store l (Rattle.gt_calls.specs.declared.leg.LegPhase.TheVariants.Pinning more w body second) f = f
+leg-store l (Rattle.gt_calls.specs.declared.leg.LegPhase.TheVariants.Relook more w rule) f = f
+
 store-place : (s : Setting) (h : History) (d : DomId) (r : Asked) (so_far now : StepsSoFar) (phase : Phase) (gref : GrantRef) (half : Half) (word : ℕ) (way : Rattle.gt_calls.specs.Path.Continuation) (shown : List Seen) → HasShown (known_at s h d) way d r shown phase → PhaseStands s h d r so_far phase
     → action_at d phase ≡ Makes (StoreBody gref half word) → PhaseStands s (stores d gref half word ∷ h) d r now (phase_after (known_at s h d) d phase Nothing)
 store-place s h d r so_far now (Storing g entry) gref half word way shown a b e =
@@ -352,14 +360,6 @@ store-place s h d r so_far now (Exchanging g w ch) gref half word way shown a b 
 store-place s h d r so_far now (Looking g ch more) gref half word way shown a b e = cc
 store-place s h d r so_far now (Changing g ch more w) gref half word way shown a b e = cc
 store-place s h d r so_far now (Walking aim l at) gref half word way shown a b e = absurd (leg-store l at (subst IsStore (sym (makes-same _ _ e)) tt))
-  where
-    leg-store : (l : Rattle.gt_calls.specs.declared.leg.Leg.Leg) (at : Rattle.gt_calls.specs.declared.leg.LegPhase.LegPhase) → IsStore (Rattle.gt_calls.specs.Machine.leg_step l at) → ⊥
-    leg-store l Rattle.gt_calls.specs.declared.leg.LegPhase.TheVariants.Header f = f
-    leg-store l (Rattle.gt_calls.specs.declared.leg.LegPhase.TheVariants.Look more) f = f
-    leg-store l (Rattle.gt_calls.specs.declared.leg.LegPhase.TheVariants.Body more w) f = f
-    leg-store l (Rattle.gt_calls.specs.declared.leg.LegPhase.TheVariants.Second more w body) f = f
-    leg-store l (Rattle.gt_calls.specs.declared.leg.LegPhase.TheVariants.Pinning more w body second) f = f
-    leg-store l (Rattle.gt_calls.specs.declared.leg.LegPhase.TheVariants.Relook more w rule) f = f
 store-place s h d r so_far now (Accessing c source dest) gref half word way shown a b e = cc
 store-place s h d r so_far now (Asking dom question) gref half word way shown a b e = cc
 store-place s h d r so_far now (Last last verdict) gref half word way shown a b e =
