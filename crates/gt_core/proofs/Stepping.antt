@@ -1,7 +1,7 @@
 -- What the core does for a step of an open call: it is right, and the core stands for it.
 use Rattle.std.proofs.Common.{◌≡◌, ◌≢◌, ◌<◌, ◌≤◌, ◌+◌, ◌⊎◌, inl, inr, ℕ, suc, refl, Bool, true, false, List, [], ◌∷◌, ◌++◌, length, Option, Some, None, cond, sym, ap, ◌∙◌, subst, reverse, arith}
 use Rattle.std.proofs.lemmas.Bool.{eqb-true, eq-eqb, true≢false, false≢true}
-use Rattle.std.proofs.lemmas.List.{append-nil, map-append, reverse-append, append_assoc, length-append, length-reverse, length-take-le, length-take}
+use Rattle.std.proofs.lemmas.List.{append-nil, map-append, reverse-append, append_assoc, length-append, length-reverse, length-take-le, length-take, length-drop}
 use Rattle.std.proofs.lemmas.Grind.{reverse_onto}
 use Rattle.std.proofs.lemmas.Option.{none-some, same_Some}
 use Rattle.std.specs.Prelude.{◌==◌, nat_lt, All, map, take, drop, min, slice_get}
@@ -388,3 +388,185 @@ mapped-core s h xs ys x o c new held handle kept bytes t r adds = by (seen_by s 
           subst (λ (z : Step). CoreStands s (stepped d z seen (Some (Mapped handle)) ∷ h) (applied d z seen bytes ys)) (sym m.is)
               (subst (λ (v : Seen). CoreStands s (stepped d (PinStep held) v (Some (Mapped handle)) ∷ h) (applied d (PinStep held) v bytes ys)) (sym taken) after),
         )
+
+-- a call that is answered Ok with no value but bytes
+
+-- what a read gave
+read-gives : (s : Setting) (h : History) (xs ys : List State) (x : State) (o : Open) (c : Underway) (new : Call) (dom : DomId) (frame off len : ℕ) (b : Bytes) → Ticks s h xs x o c new (Done Granted) → Replaced xs ys x (record x { underway = None }) → o.step ≡ ReadBytes dom frame off len
+    → ((n : ℕ) → IsLoadOf o.call.request n → length (bytes_in ys dom.0 frame off n) ≡ n → b.bytes.items ≡ bytes_in ys dom.0 frame off n) → GivesValue s h x.id c.request (Some (ReadBytes dom frame off len)) (BytesAnswer b)
+read-gives s h xs ys x o c new dom frame off len b t r is gives =
+    let i = subst (IsHere s h xs x.id c.request (values c) (reverse c.steps) t.stands.phase) is (here-of s h xs x o c t.st t.here t.stands) in
+    let just = read-justified s h xs x.id c.request dom frame off len i.st i.rests.0 i.rests.1 in
+    let inside : frame < frames_of s.domains dom = just.0.0 in
+    let range : off + len ≤ FRAME_SIZE = just.0.1 in
+    let bytes : bytes_in ys dom.0 frame off len ≡ take len (drop off (contents_at h dom.0 frame)) =
+    ap (λ (l : List ℕ). take len (drop off l)) (frame-same xs ys x (record x { underway = None }) dom.0 frame t.here refl r ∙ frame-there s h xs dom frame t.st inside) in
+    let full : length (take len (drop off (contents_at h dom.0 frame))) ≡ len = length-take-le len (drop off (contents_at h dom.0 frame)) (room range) in
+    by i.rests.1 bytes (ap (λ (l : List ℕ). length l) bytes ∙ full)
+  where
+    room : off + len ≤ FRAME_SIZE → len ≤ length (drop off (contents_at h dom.0 frame))
+    room range = let e = length-drop off (contents_at h dom.0 frame) in let f : length (contents_at h dom.0 frame) ≡ FRAME_SIZE = t.st.filled dom.0 frame in omega arith
+
+    by : Rattle.gt_calls.specs.Resting.RestsOnRequest (known_at s h x.id) x.id c.request (ReadBytes dom frame off len) → bytes_in ys dom.0 frame off len ≡ take len (drop off (contents_at h dom.0 frame)) → length (bytes_in ys dom.0 frame off len) ≡ len
+        → GivesValue s h x.id c.request (Some (ReadBytes dom frame off len)) (BytesAnswer b)
+    by (inl (handle, asked, mapped)) bytes full =
+        subst (λ (q : Asked). GivesValue s h x.id q (Some (ReadBytes dom frame off len)) (BytesAnswer b)) (sym asked)
+        (gives len (subst (λ (q : Asked). IsLoadOf q len) (sym (t.stands.asks ∙ asked)) refl) full ∙ bytes)
+    by (inr (asked, own)) bytes full =
+        subst (λ (q : Asked). GivesValue s h x.id q (Some (ReadBytes dom frame off len)) (BytesAnswer b)) (sym asked)
+        (gives len (subst (λ (q : Asked). IsLoadOf q len) (sym (t.stands.asks ∙ asked)) refl) full ∙ bytes)
+
+-- the bytes given to a write are as many as it asks
+given-fits : (k : CallerKnowledge) (d : DomId) (r : Asked) (dom : DomId) (frame off len : ℕ) (given : List ℕ) → Rattle.gt_calls.specs.Resting.RestsOnRequest k d r (WriteBytes dom frame off len) → FitsGiven r given → off + length given ≤ FRAME_SIZE
+given-fits k d r dom frame off len given (inl (handle, asked, mapped)) f =
+    let g : FitsGiven (Store handle off len) given = subst (λ (q : Asked). FitsGiven q given) asked f in
+    let e = g.0 in
+    let room = g.1 in omega arith
+given-fits k d r dom frame off len given (inr (asked, own)) f =
+    let g : FitsGiven (Poke frame off len) given = subst (λ (q : Asked). FitsGiven q given) asked f in
+    let e = g.0 in
+    let room = g.1 in omega arith
+
+granted-core : (s : Setting) (h : History) (xs zs : List State) (at : ℕ) (x : State) (o : Open) (c : Underway) (new : Call) (answer : Answer) (bytes : List ℕ) → Ticks s h xs x o c new (Done Granted)
+    → Replaced xs (set xs at (with_underway None x)) x (record x { underway = None }) → Replaced xs (set xs at (without_given x)) x (record x { underway = None; given = [] }) → bytes ≡ copied_by xs o.step → Settled xs at x o o.step answer zs
+    → Ticked s h x.id o.step (seen_by s h x.id o.step) (Some answer) (applied x.id o.step (seen_by s h x.id o.step) bytes zs)
+granted-core s h xs zs at x o c new answer bytes t plain written copied settled = by o.step refl settled
+  where
+    d : DomId
+    d = x.id
+
+    Goal : Step → Type 0
+    Goal step = Ticked s h d step (seen_by s h d step) (Some answer) (applied d step (seen_by s h d step) bytes zs)
+
+    over : (step : Step) → o.step ≡ step → (answer ≡ AnswerDone) × (zs ≡ set xs at (with_underway None x)) → ((dom : DomId) (frame off len : ℕ) → step ≡ ReadBytes dom frame off len → ⊥) → ((dom : DomId) (frame off len : ℕ) → step ≡ WriteBytes dom frame off len → ⊥) → Goal step
+    over step is (done, left) read write =
+        subst Goal is
+        (subst (λ (a : Answer). Ticked s h d o.step (seen_by s h d o.step) (Some a) (applied d o.step (seen_by s h d o.step) bytes zs)) (sym done)
+        (subst (λ (l : List State). Ticked s h d o.step (seen_by s h d o.step) (Some AnswerDone) (applied d o.step (seen_by s h d o.step) bytes l)) (sym left)
+        (ends-core s h xs (set xs at (with_underway None x)) x o c new Granted AnswerDone bytes t plain copied tt (λ m e. cc) (λ dom frame off len e. write dom frame off len (sym is ∙ e)) refl
+        (granted-value s h xs d c.request (values c) (reverse c.steps) t.stands.phase o.step (here-of s h xs x o c t.st t.here t.stands) (λ dom frame off len e. read dom frame off len (sym is ∙ e)) (sym t.acts)))))
+
+    by : (step : Step) → o.step ≡ step → Settled xs at x o step answer zs → Goal o.step
+    by (ReadBytes dom frame off len) is (b, done, left, gives) =
+        subst (λ (a : Answer). Ticked s h d o.step (seen_by s h d o.step) (Some a) (applied d o.step (seen_by s h d o.step) bytes zs)) (sym done)
+        (subst (λ (l : List State). Ticked s h d o.step (seen_by s h d o.step) (Some (BytesAnswer b)) (applied d o.step (seen_by s h d o.step) bytes l)) (sym left)
+        (ends-core s h xs (set xs at (with_underway None x)) x o c new Granted (BytesAnswer b) bytes t plain copied tt (λ m e. cc) (λ t' frame' off' len' e. let f : ReadBytes dom frame off len ≡ WriteBytes t' frame' off' len' = sym is ∙ e in cc) refl
+        (subst (λ (z : Step). GivesValue s h d c.request (Some z) (BytesAnswer b)) (sym is)
+        (read-gives s h xs (set xs at (with_underway None x)) x o c new dom frame off len b t plain is
+        (λ n l. subst (λ (z : List State). length (bytes_in z dom.0 frame off n) ≡ n → b.bytes.items ≡ bytes_in z dom.0 frame off n) left (gives n l))))))
+    by (WriteBytes dom frame off len) is (done, left) =
+        let i = subst (IsHere s h xs d c.request (values c) (reverse c.steps) t.stands.phase) is (here-of s h xs x o c t.st t.here t.stands) in
+        let given = t.agrees.given c t.call in
+        let room = given-fits (known_at s h d) d c.request dom frame off len c.given i.rests.1 given.1 in
+        let k = stepped d (WriteBytes dom frame off len) Nothing (Some AnswerDone) in
+        let legs : legs_at (k ∷ h) d.0 ≡ [] = subst (λ (z : Step). legs_at (stepped d z (seen_by s h d z) (Some AnswerDone) ∷ h) d.0 ≡ []) is (none-held s h xs x o c new Granted AnswerDone t refl (λ n. refl) (λ m e. cc)) in
+        subst (λ (a : Answer). Ticked s h d o.step (seen_by s h d o.step) (Some a) (applied d o.step (seen_by s h d o.step) bytes zs)) (sym done)
+        (right-in s h d o.step (seen_by s h d o.step) (Some AnswerDone) c t.call
+        (ends-right s h xs x o c new Granted AnswerDone t refl (none-held s h xs x o c new Granted AnswerDone t refl (λ n. refl) (λ m e. cc))
+        (granted-value s h xs d c.request (values c) (reverse c.steps) t.stands.phase o.step (here-of s h xs x o c t.st t.here t.stands) (λ t' frame' off' len' e. let f : WriteBytes dom frame off len ≡ ReadBytes t' frame' off' len' = sym is ∙ e in cc) (sym t.acts))),
+        subst (λ (z : Step). CoreStands s (stepped d z (seen_by s h d z) (Some AnswerDone) ∷ h) (applied d z (seen_by s h d z) bytes zs)) (sym is)
+        (subst (λ (l : List State). CoreStands s (k ∷ h) l) (sym left)
+        (subst (λ (l : List ℕ). CoreStands s (k ∷ h) (changed_in dom.0 (with_bytes frame off l) (set xs at (without_given x)))) (sym given.0)
+        (write-stands s h xs (set xs at (without_given x)) x k (record { owner = dom; frame = frame; off = off }) c.given [] None (record { changes = λ r. refl; stores = λ r which. refl; header = refl })
+        (record { changes = λ r. refl; pins = λ before ps. refl; unpins = λ pins. refl; maps = refl }) refl t.st t.here t.agrees written
+        (ap (λ (u : Option Underway). Some (record { at = record { owner = dom; frame = frame; off = off }; bytes = given_in u })) t.call) room (call-over s h d (WriteBytes dom frame off len) Nothing AnswerDone legs)
+        (Rattle.gt_core.proofs.Keeping.given-none (k ∷ h) d.0 [] (open_call-own k h))))))
+    by (LookHeader dom) is a = subst Goal (sym is) (over (LookHeader dom) is a (λ t frame off len e. cc) (λ t frame off len e. cc))
+    by (LookControl dom gref) is a = subst Goal (sym is) (over (LookControl dom gref) is a (λ t frame off len e. cc) (λ t frame off len e. cc))
+    by (LookBody dom gref half) is a = subst Goal (sym is) (over (LookBody dom gref half) is a (λ t frame off len e. cc) (λ t frame off len e. cc))
+    by (PinStep p) is a = subst Goal (sym is) (over (PinStep p) is a (λ t frame off len e. cc) (λ t frame off len e. cc))
+    by (Unpin p holder) is a = subst Goal (sym is) (over (Unpin p holder) is a (λ t frame off len e. cc) (λ t frame off len e. cc))
+    by (StoreBody gref half word) is a = subst Goal (sym is) (over (StoreBody gref half word) is a (λ t frame off len e. cc) (λ t frame off len e. cc))
+    by (StoreHeader version frames) is a = subst Goal (sym is) (over (StoreHeader version frames) is a (λ t frame off len e. cc) (λ t frame off len e. cc))
+    by (Exchange gref looked change) is a = subst Goal (sym is) (over (Exchange gref looked change) is a (λ t frame off len e. cc) (λ t frame off len e. cc))
+    by (CopyBytes from to len) is a = subst Goal (sym is) (over (CopyBytes from to len) is a (λ t frame off len e. cc) (λ t frame off len e. cc))
+
+-- the ways that a tick goes
+
+call-here : (s : Setting) (h : History) (id : DomId) (o : Option Open) (call : Option Underway) (one : Open) → o ≡ Some one → CallAgrees s h id o call → (c : Underway) × (call ≡ Some c) × OpenAgrees s h id one c
+call-here s h id None call one e a = cc
+call-here s h id (Some o) None one e a = absurd a
+call-here s h id (Some o) (Some c) one e a = (c, refl, subst (λ (x : Open). OpenAgrees s h id x c) (same_Some _ _ e) a)
+
+-- what a domain's tick has to begin with
+pub record Begins (s : Setting) (h : History) (xs : List State) (dom : DomId) (at : ℕ) (x : State) (o : Open) (seen : Seen) (new : Call) (action : Action) : Type 0 where
+  pub place : position (has_id dom.0) xs ≡ Some at
+  pub here : x ≡ get_or xs at x
+  pub under : x.underway ≡ Some o
+  pub stands : CoreStands s h xs
+  pub saw : seen ≡ sees xs dom o.step
+  pub caller : new.caller ≡ o.call.caller
+  pub asks : new.request ≡ o.call.request
+  pub goes : Goes (knowledge_of s.domains s.first_generation s.may x.own x.header x.mappings) o.call seen new action
+
+-- what there is of it
+pub record Begun (s : Setting) (h : History) (xs : List State) (dom : DomId) (at : ℕ) (x : State) (o : Open) (seen : Seen) (new : Call) (action : Action) : Type 0 where
+  pub named : domain_of s.domains dom ≢ None
+  pub is : x.id ≡ dom
+  pub c : Underway
+  pub same : seen ≡ seen_by s h x.id o.step
+  pub ticks : Ticks s h xs x o c new action
+  pub replaced : (new : State) → new.id.0 ≡ x.id.0 → Replaced xs (set xs at new) x new
+
+begun : (s : Setting) (h : History) (xs : List State) (dom : DomId) (at : ℕ) (x : State) (o : Open) (seen : Seen) (new : Call) (action : Action) → Begins s h xs dom at x o seen new action → Begun s h xs dom at x o seen new action
+begun s h xs dom at x o seen new action b =
+    let a = agrees-found s h xs dom at x b.place b.here b.stands in
+    let f : state_of xs dom.0 ≡ Some x = found xs dom.0 at x b.place ∙ ap (λ (y : State). Some y) (sym b.here) in
+    let g : state_of xs x.id.0 ≡ Some x = ap (λ (z : DomId). state_of xs z.0) a.1 ∙ f in
+    let u = call-here s h x.id x.underway (open_call h x.id.0) o b.under a.2.call in
+    let t = ticks s h xs x o u.0 seen new action b.stands g a.2 u.1 u.2 (b.saw ∙ ap (λ (z : DomId). sees xs z o.step) (sym a.1)) b.caller b.asks b.goes in
+    let places = position-Some (has_id dom.0) xs at x b.place in
+    record {
+      named = a.0;
+      is = a.1;
+      c = u.0;
+      same = t.0;
+      ticks = t.1;
+      replaced = λ y e q. state_of-set xs at x y q places.0 (sym b.here) e (λ k below. ap (λ (z : DomId). has_id z.0 (get_or xs k x)) a.1 ∙ places.2 k below);
+    }
+
+-- the same for the domain asked, and what its step saw
+settle : (s : Setting) (h : History) (xs : List State) (dom : DomId) (at : ℕ) (x : State) (o : Open) (seen : Seen) (new : Call) (action : Action) (answer : Option Answer) (bytes : List ℕ) (zs : List State) → Begun s h xs dom at x o seen new action
+    → Ticked s h x.id o.step (seen_by s h x.id o.step) answer (applied x.id o.step (seen_by s h x.id o.step) bytes zs)
+    → (domain_of s.domains dom ≢ None) × IsRight s h (stepped dom o.step seen answer) × CoreStands s (stepped dom o.step seen answer ∷ h) (applied dom o.step seen bytes zs)
+settle s h xs dom at x o seen new action answer bytes zs b t =
+    let u = subst (λ (d : DomId). Ticked s h d o.step seen answer (applied d o.step seen bytes zs)) b.is (subst (λ (v : Seen). Ticked s h x.id o.step v answer (applied x.id o.step v bytes zs)) (sym b.same) t) in
+    (b.named, u.0, u.1)
+
+pub tick-goes : (s : Setting) (h : History) (xs : List State) (dom : DomId) (at : ℕ) (x : State) (o : Open) (seen : Seen) (new : Call) (z : Step) (bytes : List ℕ) → Begins s h xs dom at x o seen new (Makes z) → bytes ≡ copied_by xs o.step
+    → (domain_of s.domains dom ≢ None) × IsRight s h (stepped dom o.step seen None) × CoreStands s (stepped dom o.step seen None ∷ h) (applied dom o.step seen bytes (set xs at (with_underway (Some (record { call = new; step = z })) x)))
+tick-goes s h xs dom at x o seen new z bytes b copied =
+    let n = begun s h xs dom at x o seen new (Makes z) b in
+    settle s h xs dom at x o seen new (Makes z) None bytes _ n (goes-core s h xs _ x o n.c new z bytes n.ticks (n.replaced (with_underway (Some (record { call = new; step = z })) x) refl) copied)
+
+pub tick-granted : (s : Setting) (h : History) (xs zs : List State) (dom : DomId) (at : ℕ) (x : State) (o : Open) (seen : Seen) (new : Call) (answer : Answer) (bytes : List ℕ) → Begins s h xs dom at x o seen new (Done Granted) → bytes ≡ copied_by xs o.step → Settled xs at x o o.step answer zs
+    → (domain_of s.domains dom ≢ None) × IsRight s h (stepped dom o.step seen (Some answer)) × CoreStands s (stepped dom o.step seen (Some answer) ∷ h) (applied dom o.step seen bytes zs)
+tick-granted s h xs zs dom at x o seen new answer bytes b copied settled =
+    let n = begun s h xs dom at x o seen new (Done Granted) b in
+    settle s h xs dom at x o seen new (Done Granted) (Some answer) bytes zs n (granted-core s h xs zs at x o n.c new answer bytes n.ticks (n.replaced (with_underway None x) refl) (n.replaced (without_given x) refl) copied settled)
+
+pub tick-mapped : (s : Setting) (h : History) (xs : List State) (dom : DomId) (at : ℕ) (x : State) (o : Open) (seen : Seen) (new : Call) (held : Held) (handle : Handle) (kept : Kept Held) (bytes : List ℕ) → Begins s h xs dom at x o seen new (Done (KeptPin held)) → Adds x.mappings kept handle held
+    → (domain_of s.domains dom ≢ None) × IsRight s h (stepped dom o.step seen (Some (Mapped handle))) × CoreStands s (stepped dom o.step seen (Some (Mapped handle)) ∷ h) (applied dom o.step seen bytes (set xs at (with_mapping kept x)))
+tick-mapped s h xs dom at x o seen new held handle kept bytes b adds =
+    let n = begun s h xs dom at x o seen new (Done (KeptPin held)) b in
+    settle s h xs dom at x o seen new (Done (KeptPin held)) (Some (Mapped handle)) bytes _ n (mapped-core s h xs _ x o n.c new held handle kept bytes n.ticks (n.replaced (with_mapping kept x) refl) adds)
+
+pub tick-given : (s : Setting) (h : History) (xs : List State) (dom : DomId) (at : ℕ) (x : State) (o : Open) (seen : Seen) (new : Call) (value : Value) (bytes : List ℕ) → Begins s h xs dom at x o seen new (Done (Given value)) → bytes ≡ copied_by xs o.step
+    → (domain_of s.domains dom ≢ None) × IsRight s h (stepped dom o.step seen (Some (answer_with value))) × CoreStands s (stepped dom o.step seen (Some (answer_with value)) ∷ h) (applied dom o.step seen bytes (set xs at (with_underway None x)))
+tick-given s h xs dom at x o seen new value bytes b copied =
+    let n = begun s h xs dom at x o seen new (Done (Given value)) b in
+    settle s h xs dom at x o seen new (Done (Given value)) (Some (answer_with value)) bytes _ n (given-core s h xs _ x o n.c new value bytes n.ticks (n.replaced (with_underway None x) refl) copied)
+
+pub tick-refused : (s : Setting) (h : History) (xs : List State) (dom : DomId) (at : ℕ) (x : State) (o : Open) (seen : Seen) (new : Call) (denial : Denial) (bytes : List ℕ) → Begins s h xs dom at x o seen new (Done (Refused denial)) → bytes ≡ copied_by xs o.step
+    → (domain_of s.domains dom ≢ None) × IsRight s h (stepped dom o.step seen (Some (Denied denial))) × CoreStands s (stepped dom o.step seen (Some (Denied denial)) ∷ h) (applied dom o.step seen bytes (set xs at (with_underway None x)))
+tick-refused s h xs dom at x o seen new denial bytes b copied =
+    let n = begun s h xs dom at x o seen new (Done (Refused denial)) b in
+    settle s h xs dom at x o seen new (Done (Refused denial)) (Some (Denied denial)) bytes _ n (refused-core s h xs _ x o n.c new denial bytes n.ticks (n.replaced (with_underway None x) refl) copied)
+
+-- a map that is over had asked for its room when it began
+pub map-asked : (s : Setting) (h : History) (xs : List State) (dom : DomId) (at : ℕ) (x : State) (o : Open) (seen : Seen) (new : Call) (held : Held) → Begins s h xs dom at x o seen new (Done (KeptPin held)) → Rattle.gt_core.specs.States.IsMapping (Rattle.gt_core.specs.States.asked_in x.underway)
+map-asked s h xs dom at x o seen new held b =
+    let n = begun s h xs dom at x o seen new (Done (KeptPin held)) b in
+    let t = n.ticks in
+    let m = mapped-ends s h xs x.id n.c.request (values n.c) (reverse n.c.steps) t.stands.phase o.step held (here-of s h xs x o n.c t.st t.here t.stands) (sym t.acts) in
+    subst (λ (z : Option Open). Rattle.gt_core.specs.States.IsMapping (Rattle.gt_core.specs.States.asked_in z)) (sym b.under) (subst (λ (q : Asked). Rattle.gt_core.specs.States.IsMapping (Some q)) (sym (t.stands.asks ∙ m.of_map)) tt)

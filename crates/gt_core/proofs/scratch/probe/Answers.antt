@@ -1,8 +1,10 @@
 use Rattle.std.proofs.Common.{refl}
-use Rattle.gt_core.proofs.Stepping.{goes-core}
-use Rattle.gt_core.proofs.Stepping.{given-core}
-use Rattle.gt_core.proofs.Stepping.{refused-core}
-use Rattle.gt_core.proofs.Stepping.{mapped-core}
+use Rattle.gt_core.proofs.Stepping.{tick-goes}
+use Rattle.gt_core.proofs.Stepping.{tick-granted}
+use Rattle.gt_core.proofs.Stepping.{tick-mapped}
+use Rattle.gt_core.proofs.Stepping.{tick-given}
+use Rattle.gt_core.proofs.Stepping.{tick-refused}
+use Rattle.gt_core.proofs.Stepping.{map-asked}
 use Rattle.gt_core.proofs.scratch.probe.Goals as goal
 
 pub returns : goal.returns
