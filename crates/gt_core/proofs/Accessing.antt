@@ -1,67 +1,65 @@
 -- What an access to bytes rests on: it is inside a frame, and justified.
-use Rattle.std.proofs.Common.{◌≡◌, ◌≢◌, ◌≤◌, ◌<◌, ◌+◌, ◌⊎◌, inl, inr, ℕ, suc, refl, Bool, true, false, List, [], ◌∷◌, ◌++◌, Option, Some, None, cond, sym, ap, ◌∙◌, arith, subst}
-use Rattle.std.proofs.lemmas.Bool.{eqb-true, leb-false, false≢true, true≢false}
-use Rattle.std.proofs.lemmas.List.Elements.{All-tail}
-use Rattle.std.proofs.lemmas.Option.{same_Some}
-use Rattle.std.specs.Prelude.{◌==◌, nat_lt, nat_le, not, is_none, All, Any}
-use Rattle.gt_types.specs.Names.{domain_of}
+use Rattle.std.proofs.Common.{◌≡◌, ◌≢◌, ◌≤◌, ◌<◌, ◌+◌, ◌⊎◌, inl, inr, ℕ, suc, refl, Bool, true, false, List, [], ◌∷◌, ◌++◌, length, Option, Some, None, cond, sym, ap, ◌∙◌, arith, subst, reverse}
+use Rattle.std.proofs.lemmas.Bool.{eqb-true, eq-eqb, and_parts, and_from, leb-false, false≢true, true≢false}
+use Rattle.std.proofs.lemmas.Option.{none-some, same_Some}
+use Rattle.std.specs.Prelude.{◌==◌, ◌&&◌, nat_lt, nat_le, not, is_none, All, Any, map}
+use Rattle.std.proofs.lemmas.Grind.{reverse_onto}
+use Rattle.gt_types.specs.Names.{domain_of, resolved}
+use Rattle.gt_types.specs.Denial.{denial_of}
 use Rattle.gt_types.specs.declared.DomId.{DomId}
+use Rattle.gt_types.specs.declared.TypeId.{TypeId}
 use Rattle.gt_types.specs.declared.Dir.{Dir}
 use Rattle.gt_types.specs.declared.Dir.TheVariants.{Read, Write}
-use Rattle.gt_types.specs.declared.Use.TheVariants.{Map as ForMap}
-use Rattle.gt_types.specs.declared.config.DomainConfig.{DomainConfig}
-use Rattle.gt_types.specs.declared.denial.Rule.{Rule}
-use Rattle.gt_types.specs.declared.denial.Rule.TheVariants.{N3, N6, N7, N16}
+use Rattle.gt_types.specs.declared.Use.TheVariants.{Map as ForMap, Copy as ForCopy}
+use Rattle.gt_types.specs.declared.perms.Perms.{Perms}
+use Rattle.gt_types.specs.declared.rights.Triple.{Triple}
+use Rattle.gt_types.specs.declared.limits.TheConstants.{FRAME_SIZE}
+use Rattle.gt_types.specs.declared.denial.Facts.TheVariants.{Policy}
+use Rattle.gt_types.specs.declared.denial.Rule.TheVariants.{N1, N5}
 use Rattle.gt_entry.specs.declared.entry.Entry.{Entry}
 use Rattle.gt_entry.specs.declared.entry.Entry.TheVariants.{Invalid, Page, Sub, Via}
+use Rattle.gt_entry.specs.Entries.{frame_of}
+use Rattle.gt_entry.specs.Permits.{permits, forwards, allows_direction}
 use Rattle.gt_handles.specs.declared.handles.Handle.{Handle}
+use Rattle.gt_calls.specs.declared.held.Held.{Held}
+use Rattle.gt_calls.specs.declared.held.Route.{Route}
+use Rattle.gt_calls.specs.declared.held.Route.TheVariants.{Own, Direct, Through}
+use Rattle.gt_calls.specs.declared.held.Pins.{Pins}
+use Rattle.gt_calls.specs.declared.request.End.{End}
+use Rattle.gt_calls.specs.declared.request.CopyArgs.{CopyArgs}
+use Rattle.gt_calls.specs.declared.request.Asked.{Asked}
+use Rattle.gt_calls.specs.declared.request.Asked.TheVariants.{Load, Store, Peek, Poke, Copy}
 use Rattle.gt_calls.specs.declared.request.Holder.{Holder}
 use Rattle.gt_calls.specs.declared.request.Holder.TheVariants.{Mapping as ByMapping, Leg as ByLeg}
-use Rattle.gt_calls.specs.declared.action.Verdict.{Verdict}
-use Rattle.gt_calls.specs.declared.known.Mapping.{Mapping}
+use Rattle.gt_calls.specs.declared.action.Place.{Place}
+use Rattle.gt_calls.specs.declared.action.Verdict.TheVariants.{Refused}
 use Rattle.gt_calls.specs.declared.action.Step.{Step}
-use Rattle.gt_calls.specs.declared.action.Step.TheVariants.{Read as ReadBytes, Write as WriteBytes}
+use Rattle.gt_calls.specs.declared.action.Step.TheVariants.{Read as ReadBytes, Write as WriteBytes, Copy as CopyBytes}
+use Rattle.gt_calls.specs.Holding.{last_first}
+use Rattle.gt_calls.specs.Rules.{CallerKnowledge, begun, frames_of, via_judged, denied, copy_denied, rights_to_copy, refused_when, first, is_source_granted, is_dest_granted}
+use Rattle.gt_calls.specs.Path.{place_of, source_pair, dest_pair}
+use Rattle.gt_calls.specs.Opening.{opens, IsAllowed, holds-first}
+use Rattle.gt_calls.specs.Resting.{RestsOnRequest, RestsOnWays, IsMapped, IsReached, IsPermitted, IsForwarded, LeadsTo}
 use Rattle.gt_core.specs.States.{State}
-use Rattle.gt_calls.specs.Rules.{first, refused_when, frames_of, frames_in, load_begun, store_begun, own_access_begun, is_for_reading, writes_by}
-use Rattle.gt_core.specs.History.{History, Setting, Pin, live, mapping_on, mappings_in, mappings_at, mapping_of, frame_of, same_handle}
-use Rattle.gt_core.specs.Legal.{Permits, Reaches, MayUse, MayUseMapping, MayAccess, IsInFrame}
-use Rattle.gt_core.specs.Standing.{IsLawful, IsLawfullyHeld, CoreStands}
-use Rattle.gt_core.proofs.Beginning.{within-frame}
+use Rattle.gt_core.specs.History.{History, Setting, Pin, live, known_at, legs_at, mappings_at, mapping_of, gather, by_mapping, by_leg, same_handle}
+use Rattle.gt_core.specs.Legal.{Reaches, Forwards, ReachesThrough, MayUse, MayCopy, MayUseMapping, MayAccess, MayAsk, IsInFrame, EndIsJustified, CopyIsJustified, Justified}
+use Rattle.gt_core.specs.Standing.{IsLawful, IsLawfullyHeld, CoreStands, numbered}
+use Rattle.gt_core.proofs.Unpinning.{one_of}
 
--- what stood against none of the rules at a beginning
-pub first-none : {A : Type 0} (o : Option A) (more : List (Option A)) → first (o ∷ more) ≡ None → (o ≡ None) × (first more ≡ None)
-first-none None more e = (refl, e)
-first-none (Some a) more e = cc
+-- pins among those that a domain's give
 
-pub refused-none : (b : Bool) (rule : Rule) → refused_when b rule ≡ None → b ≡ false
-refused-none true rule e = cc
-refused-none false rule e = refl
+-- the pin is one of these
+abbrev pub IsHeldIn : {K : Type 0} → Held → List (K × Held) → Type 0
+IsHeldIn m [] = ⊥
+IsHeldIn m (x ∷ xs) = (x.1 ≡ m) ⊎ IsHeldIn m xs
 
--- a pin that lets its mapping be used lets the domain access any range in that way
-permits-as : (e : Entry) (d : DomId) (held dir : Dir) (off len : ℕ) → ((dir ≡ Write) → held ≡ Write) → Permits e d held ForMap 0 0 → Permits e d dir ForMap off len
-permits-as Invalid d held dir off len w a = a
-permits-as (Page dom ro frame) d held dir off len w a = (a.0, λ e. by dir w (a.1 e))
-  where
-    by : (z : Dir) → ((z ≡ Write) → held ≡ Write) → held ≡ Read → z ≡ Read
-    by Read v r = refl
-    by Write v r = let f : Write ≡ Read = sym (v refl) ∙ r in cc
-permits-as (Sub dom ro frame start size) d held dir off len w a = let f = a.2 in cc
-permits-as (Via dom ro dom2 gref) d held dir off len w a = a
+-- what a holder gives is a pin under its key, or nothing
+abbrev Gives : {K : Type 0} → (Holder → Held → List (K × Held)) → Holder → Type 0
+Gives {K} give x = ((k : K) × ((p : Held) → give x p ≡ (k, p) ∷ [])) ⊎ ((p : Held) → give x p ≡ [])
 
--- the pin lets the domain access the mapping's frame in this way
-abbrev IsBy : Setting → DomId → Dir → ℕ → ℕ → Mapping → Pin → Type 0
-IsBy s d dir off len m p = ((dir ≡ Write) → m.dir ≡ Write) → Reaches d dir ForMap m.dom m.frame off len p
-
-abbrev shown_by : Pin → Mapping
-shown_by p = record { dom = p.dom; gref = record { 0 = p.gref }; dir = p.dir; frame = frame_of p.entry }
-
-lawful-by : (s : Setting) (d : DomId) (dir : Dir) (off len : ℕ) (p : Pin) (handle : Handle) → p.holder ≡ ByMapping handle → IsLawful s p → p.actor ≡ d.0
-    → MayUse s d p.dom p.dir × IsBy s d dir off len (shown_by p) p
-lawful-by s d dir off len p handle held law own =
-    let a : IsLawfullyHeld s p (ByMapping handle) = subst (λ (x : Holder). IsLawfullyHeld s p x) held law in
-    let same : record { 0 = p.actor } ≡ d = ap (λ (n : ℕ). record { 0 = n }) own in
-    let v = subst (λ (z : DomId). Permits p.entry z p.dir ForMap 0 0 × MayUse s z p.dom p.dir) same (a.0, a.1) in
-    (v.1, λ w. (own, refl, refl, permits-as p.entry d p.dir dir off len w v.0, w))
+-- the pin is the domain's, and held so that it is given
+abbrev IsBy : {K : Type 0} → (Holder → Held → List (K × Held)) → ℕ → Held → Pin → Type 0
+IsBy {K} give d m p = (p.actor ≡ d) × (p.held ≡ m) × ((k : K) × ((q : Held) → give p.holder q ≡ (k, q) ∷ []))
 
 any-here : {X : Type 0} (P : X → Type 0) (x : X) (xs : List X) → P x → Any P (x ∷ xs)
 any-here P x xs a = (0, x, omega arith, refl, a)
@@ -69,109 +67,293 @@ any-here P x xs a = (0, x, omega arith, refl, a)
 any-there : {X : Type 0} (P : X → Type 0) (x : X) (xs : List X) → Any P xs → Any P (x ∷ xs)
 any-there P x xs a = (suc a.0, a.1, (let lt = a.2 in omega arith), a.3, a.4)
 
--- a mapping shows a frame of its owner
-abbrev pub ShowsFrame : Setting → Mapping → Type 0
-ShowsFrame s m = (m.frame < frames_of s.domains m.dom) × (domain_of s.domains m.dom ≢ None)
-
-shown-by-pin : (s : Setting) (p : Pin) (handle : Handle) → p.holder ≡ ByMapping handle → IsLawful s p → ShowsFrame s (shown_by p)
-shown-by-pin s p handle held law = let w : IsLawfullyHeld s p (ByMapping handle) = subst (λ (x : Holder). IsLawfullyHeld s p x) held law in (w.2, w.3)
-
--- the first mapping with this handle shows a frame of its owner, and a pin lets it be used
-held-by : (s : Setting) (d : DomId) (dir : Dir) (handle : Handle) (off len : ℕ) (m : Mapping) (ps : List Pin) → All (IsLawful s) ps → mapping_of (mappings_in d.0 ps) handle ≡ Some m
-    → ShowsFrame s m × MayUse s d m.dom m.dir × Any (IsBy s d dir off len m) ps
-unfolding mappings_in
-held-by s d dir handle off len m [] a e = cc
-held-by s d dir handle off len m (p ∷ ps) a e = with-holder p.holder (held-by s d dir handle off len m ps (All-tail (IsLawful s) p ps a)) refl e
-  where
-    Rest : Type 0
-    Rest = mapping_of (mappings_in d.0 ps) handle ≡ Some m → ShowsFrame s m × MayUse s d m.dom m.dir × Any (IsBy s d dir off len m) ps
-
-    Found : Type 0
-    Found = ShowsFrame s m × MayUse s d m.dom m.dir × Any (IsBy s d dir off len m) (p ∷ ps)
-
-    later : Rest → mapping_of (mappings_in d.0 ps) handle ≡ Some m → Found
-    later rest f = let r = rest f in (r.0, r.1, any-there (IsBy s d dir off len m) p ps r.2)
-
-    at : (b : Bool) (handle' : Handle) → Rest → p.holder ≡ ByMapping handle' → p.actor ≡ d.0
-        → cond b (Some (shown_by p)) (mapping_of (mappings_in d.0 ps) handle) ≡ Some m → Found
-    at true handle' rest held own f =
-        let same : shown_by p ≡ m = same_Some _ _ f in
-        let law : IsLawful s p = a 0 p (omega arith) in
-        let by = lawful-by s d dir off len p handle' held law own in (
-          subst (λ (z : Mapping). ShowsFrame s z) same (shown-by-pin s p handle' held law),
-          subst (λ (z : Mapping). MayUse s d z.dom z.dir) same by.0,
-          any-here (IsBy s d dir off len m) p ps (subst (λ (z : Mapping). IsBy s d dir off len z p) same by.1),
-        )
-    at false handle' rest held own f = later rest f
-
-    with-own : (b : Bool) (handle' : Handle) → Rest → p.holder ≡ ByMapping handle' → (p.actor == d.0) ≡ b
-        → mapping_of (cond b ((handle', shown_by p) ∷ []) [] ++ mappings_in d.0 ps) handle ≡ Some m → Found
-    with-own true handle' rest held own f = at (same_handle handle' handle) handle' rest held (eqb-true p.actor d.0 own) f
-    with-own false handle' rest held own f = later rest f
-
-    with-holder : (holder : Holder) → Rest → p.holder ≡ holder → mapping_of (mapping_on d.0 p holder ++ mappings_in d.0 ps) handle ≡ Some m → Found
-    with-holder (ByMapping handle') rest held f = with-own (p.actor == d.0) handle' rest held refl f
-    with-holder (ByLeg number) rest held f = later rest f
-
--- an access is to bytes inside a frame of a domain of the run, by right
-pub record Accesses (s : Setting) (h : History) (d : DomId) (dir : Dir) (t : DomId) (frame off len : ℕ) : Type 0 where
-  pub inside : IsInFrame s t frame off len
-  pub named : domain_of s.domains t ≢ None
-  pub by_right : MayAccess h d dir t frame off len
-
-any-map : {X : Type 0} (P Q : X → Type 0) (xs : List X) → ((x : X) → P x → Q x) → Any P xs → Any Q xs
+pub any-map : {X : Type 0} (P Q : X → Type 0) (xs : List X) → ((x : X) → P x → Q x) → Any P xs → Any Q xs
 any-map P Q xs f a = (a.0, a.1, a.2, a.3, f a.1 a.4)
 
-pub mapping-accesses : (s : Setting) (h : History) (xs : List State) (d : DomId) (dir : Dir) (handle : Handle) (off len : ℕ) (m : Mapping) → CoreStands s h xs
-    → mapping_of (mappings_at h d.0) handle ≡ Some m → ((dir ≡ Write) → m.dir ≡ Write) → off + len ≤ 4096 → Accesses s h d dir m.dom m.frame off len
-mapping-accesses s h xs d dir handle off len m st found writes inside =
-    let by = held-by s d dir handle off len m (live h) st.lawful found in
-    record {
-      inside = (by.0.0, inside);
-      named = by.0.1;
-      by_right = inr (any-map (IsBy s d dir off len m) (Reaches d dir ForMap m.dom m.frame off len) (live h) (λ p a. a writes) by.2);
-    }
+-- what holds of all holds of some
+any-all : {X : Type 0} (A P Q : X → Type 0) (xs : List X) → All A xs → ((x : X) → A x → P x → Q x) → Any P xs → Any Q xs
+any-all A P Q xs all f a = (a.0, a.1, a.2, a.3, f a.1 (subst A a.3 (all a.0 a.1 a.2)) a.4)
 
--- the policy allows what the pin of a mapping is for
-pub mapping-may : (s : Setting) (h : History) (xs : List State) (d : DomId) (handle : Handle) (m : Mapping) → CoreStands s h xs
-    → mapping_of (mappings_at h d.0) handle ≡ Some m → MayUseMapping s d (mapping_of (mappings_at h d.0) handle)
-mapping-may s h xs d handle m st found =
-    subst (MayUseMapping s d) (sym found) (held-by s d Read handle 0 0 m (live h) st.lawful found).1
-
-pub load-accesses : (s : Setting) (h : History) (xs : List State) (d : DomId) (handle : Handle) (off len : ℕ) (m : Mapping) → CoreStands s h xs
-    → load_begun (mapping_of (mappings_at h d.0)) handle off len ≡ None → mapping_of (mappings_at h d.0) handle ≡ Some m → Accesses s h d Read m.dom m.frame off len
-load-accesses s h xs d handle off len m st e found =
-    mapping-accesses s h xs d Read handle off len m st found (λ z. let f : Read ≡ Write = z in cc) (within-frame off len _ e)
-
-writes-too : (m : Mapping) → is_for_reading (Some m) ≡ false → m.dir ≡ Write
-writes-too m e = by m.dir e
+gathered-any : {K : Type 0} (give : Holder → Held → List (K × Held)) (d : ℕ) (m : Held) (ps : List Pin) → ((x : Holder) → Gives give x) → IsHeldIn m (gather give d ps) → Any (IsBy give d m) ps
+unfolding gather
+gathered-any give d m [] gives a = absurd a
+gathered-any {K} give d m (p ∷ ps) gives a = by (p.actor == d) refl (gives p.holder) (gathered-any give d m ps gives) a
   where
-    by : (dir : Dir) → not (writes_by dir) ≡ false → dir ≡ Write
-    by Read f = absurd (true≢false f)
-    by Write f = refl
+    first-or : (k : K) → ((q : Held) → give p.holder q ≡ (k, q) ∷ []) → p.actor ≡ d → (IsHeldIn m (gather give d ps) → Any (IsBy give d m) ps) → (p.held ≡ m) ⊎ IsHeldIn m (gather give d ps) → Any (IsBy give d m) (p ∷ ps)
+    first-or k is own rest (inl e) = any-here (IsBy give d m) p ps (own, e, (k, is))
+    first-or k is own rest (inr b) = any-there (IsBy give d m) p ps (rest b)
 
-pub store-accesses : (s : Setting) (h : History) (xs : List State) (d : DomId) (handle : Handle) (off len : ℕ) (m : Mapping) → CoreStands s h xs
-    → store_begun (mapping_of (mappings_at h d.0)) handle off len ≡ None → mapping_of (mappings_at h d.0) handle ≡ Some m → Accesses s h d Write m.dom m.frame off len
-store-accesses s h xs d handle off len m st e found =
-    let ms = mappings_at h d.0 in
-    let n7 = refused_when (is_for_reading (mapping_of ms handle)) N7 in
-    let a = first-none (refused_when (nat_lt 4096 (off + len)) N3) (refused_when (is_none (mapping_of ms handle)) N6 ∷ n7 ∷ []) e in
-    let b = first-none (refused_when (is_none (mapping_of ms handle)) N6) (n7 ∷ []) a.1 in
-    let c = refused-none (is_for_reading (mapping_of ms handle)) N7 (first-none n7 [] b.1).0 in
-    mapping-accesses s h xs d Write handle off len m st found (λ z. writes-too m (ap is_for_reading (sym found) ∙ c)) (within-frame off len _ e)
+    by : (b : Bool) → (p.actor == d) ≡ b → Gives give p.holder → (IsHeldIn m (gather give d ps) → Any (IsBy give d m) ps) → IsHeldIn m (cond b (give p.holder p.held) [] ++ gather give d ps) → Any (IsBy give d m) (p ∷ ps)
+    by true own (inl g) rest e = first-or g.0 g.1 (eqb-true p.actor d own) rest (subst (λ (l : List (K × Held)). IsHeldIn m (l ++ gather give d ps)) (g.1 p.held) e)
+    by true own (inr g) rest e = any-there (IsBy give d m) p ps (rest (subst (λ (l : List (K × Held)). IsHeldIn m (l ++ gather give d ps)) (g p.held) e))
+    by false own g rest e = any-there (IsBy give d m) p ps (rest e)
 
--- a frame of a domain is one of a domain of the run
-frame-named : (o : Option DomainConfig) (frame : ℕ) → frame < frames_in o → o ≢ None
-frame-named None frame below = λ e. absurd (let b : frame < 0 = below in omega arith)
-frame-named (Some d) frame below = λ e. cc
+mapping-gives : (x : Holder) → Gives by_mapping x
+mapping-gives (ByMapping k) = inl (k, λ p. refl)
+mapping-gives (ByLeg n) = inr (λ p. refl)
 
-pub own-accesses : (s : Setting) (h : History) (d : DomId) (dir : Dir) (frame off len : ℕ) → own_access_begun s.domains d frame off len ≡ None → Accesses s h d dir d frame off len
-own-accesses s h d dir frame off len e =
-    let a = first-none (refused_when (nat_lt 4096 (off + len)) N3) (refused_when (nat_le (frames_of s.domains d) frame) N16 ∷ []) e in
-    let b = first-none (refused_when (nat_le (frames_of s.domains d) frame) N16) [] a.1 in
-    let below : frame < frames_of s.domains d = leb-false (frames_of s.domains d) frame (refused-none (nat_le (frames_of s.domains d) frame) N16 b.0) in
+leg-gives : (x : Holder) → Gives by_leg x
+leg-gives (ByMapping k) = inr (λ p. refl)
+leg-gives (ByLeg n) = inl (n, λ p. refl)
+
+-- through a mapping
+
+found-in : (ms : List (Handle × Held)) (handle : Handle) (m : Held) → mapping_of ms handle ≡ Some m → IsHeldIn m ms
+found-in [] handle m e = absurd (none-some m e)
+found-in (x ∷ ms) handle m e = by (same_handle x.0 handle) (found-in ms handle m) e
+  where
+    by : (b : Bool) → (mapping_of ms handle ≡ Some m → IsHeldIn m ms) → cond b (Some x.1) (mapping_of ms handle) ≡ Some m → (x.1 ≡ m) ⊎ IsHeldIn m ms
+    by true rest f = inl (same_Some _ _ f)
+    by false rest f = inr (rest f)
+
+-- a pin that lets its mapping be used lets the domain access any range in that way
+permits-as : (e : Entry) (d : DomId) (held dir : Dir) (off len : ℕ) → ((dir ≡ Write) → held ≡ Write) → permits e d held ForMap 0 0 ≡ true → permits e d dir ForMap off len ≡ true
+permits-as Invalid d held dir off len w a = a
+permits-as (Page dom ro frame) d held dir off len w a =
+    let parts = and_parts (dom.0 == d.0) (allows_direction ro held) a in
+    and_from (dom.0 == d.0) (allows_direction ro dir) parts.0 (by dir w parts.1)
+  where
+    by : (z : Dir) → ((z ≡ Write) → held ≡ Write) → allows_direction ro held ≡ true → allows_direction ro z ≡ true
+    by Read v r = refl
+    by Write v r = subst (λ (x : Dir). allows_direction ro x ≡ true) (v refl) r
+permits-as (Sub dom ro frame start size) d held dir off len w a = absurd (false≢true (sym (never (dom.0 == d.0) (allows_direction ro held)) ∙ a))
+  where
+    never : (b c : Bool) → (b && c && false && nat_le start 0 && nat_le (0 + 0) (start + size)) ≡ false
+    never true true = refl
+    never true false = refl
+    never false c = refl
+permits-as (Via dom ro dom2 gref) d held dir off len w a = a
+
+-- the mapping's pin is the domain's, by right
+pub record IsRightful (s : Setting) (d : DomId) (m : Held) (p : Pin) : Type 0 where
+  pub own : p.actor ≡ d.0
+  pub is : p.held ≡ m
+  pub permitted : permits m.entry d m.dir ForMap 0 0 ≡ true
+  pub may : MayUse s d m.dom m.dir
+  pub framed : frame_of m.entry < frames_of s.domains m.dom
+  pub named : domain_of s.domains m.dom ≢ None
+
+mapping-holder : (x : Holder) (handle : Handle) → ((q : Held) → by_mapping x q ≡ (handle, q) ∷ []) → (q : Held) → (k : Handle) × (x ≡ ByMapping k)
+mapping-holder (ByMapping k) handle e q = (k, refl)
+mapping-holder (ByLeg n) handle e q = absurd (let f = e q in cc)
+
+rightful : (s : Setting) (d : DomId) (m : Held) (p : Pin) → IsLawful s p → IsBy by_mapping d.0 m p → IsRightful s d m p
+rightful s d m p law a =
+    let held = mapping-holder p.holder a.2.0 a.2.1 m in
+    let w : IsLawfullyHeld s p (ByMapping held.0) = subst (IsLawfullyHeld s p) held.1 law in
+    let same : record { 0 = p.actor } ≡ d = ap (λ (n : ℕ). record { 0 = n }) a.0 in
+    let v = subst (λ (z : DomId). (permits p.held.entry z p.held.dir ForMap 0 0 ≡ true) × MayUse s z p.held.dom p.held.dir × (frame_of p.held.entry < frames_of s.domains p.held.dom) × (domain_of s.domains p.held.dom ≢ None)) same w in
+    let u = subst (λ (q : Held). (permits q.entry d q.dir ForMap 0 0 ≡ true) × MayUse s d q.dom q.dir × (frame_of q.entry < frames_of s.domains q.dom) × (domain_of s.domains q.dom ≢ None)) a.1 v in
+    record { own = a.0; is = a.1; permitted = u.0; may = u.1; framed = u.2; named = u.3 }
+
+-- the pin of a mapping is live
+pub mapping-pin : (s : Setting) (h : History) (xs : List State) (d : DomId) (handle : Handle) (m : Held) → CoreStands s h xs → mapping_of (mappings_at h d.0) handle ≡ Some m → Any (IsRightful s d m) (live h)
+mapping-pin s h xs d handle m st found =
+    any-all (IsLawful s) (IsBy by_mapping d.0 m) (IsRightful s d m) (live h) st.lawful (λ p law a. rightful s d m p law a)
+    (gathered-any by_mapping d.0 m (live h) mapping-gives (found-in (mappings_at h d.0) handle m found))
+
+reaches : (s : Setting) (d : DomId) (dir : Dir) (m : Held) (off len : ℕ) (p : Pin) → ((dir ≡ Write) → m.dir ≡ Write) → IsRightful s d m p
+    → Reaches d d dir ForMap (record { owner = m.dom; frame = frame_of m.entry; off = off }) len p
+reaches s d dir m off len p writes a =
     record {
-      inside = (below, within-frame off len _ e);
-      named = frame-named (domain_of s.domains d) frame below;
-      by_right = inl refl;
+      of_actor = a.own;
+      of_owner = ap (λ (q : Held). q.dom.0) a.is;
+      of_frame = ap (λ (q : Held). frame_of q.entry) a.is;
+      permitted = ap (λ (q : Held). permits q.entry d dir ForMap off len) a.is ∙ permits-as m.entry d m.dir dir off len writes a.permitted;
+      writes = λ w. ap (λ (q : Held). q.dir) a.is ∙ writes w;
     }
+
+-- an access is to bytes inside a frame of a domain of the run, by right
+pub record Accesses (s : Setting) (h : History) (d : DomId) (dir : Dir) (at : Place) (len : ℕ) : Type 0 where
+  pub inside : IsInFrame s at len
+  pub by_right : MayAccess h d dir at len
+
+mapping-accesses : (s : Setting) (h : History) (xs : List State) (d : DomId) (dir : Dir) (handle : Handle) (dom : DomId) (frame off len : ℕ) → CoreStands s h xs
+    → (a : IsMapped (known_at s h d) handle dom frame) → ((dir ≡ Write) → a.mapping.dir ≡ Write) → off + len ≤ FRAME_SIZE
+    → Accesses s h d dir (record { owner = dom; frame = frame; off = off }) len × MayUseMapping s d (mapping_of (mappings_at h d.0) handle)
+mapping-accesses s h xs d dir handle dom frame off len st a writes inside =
+    let m = a.mapping in
+    let pin = mapping-pin s h xs d handle m st a.found in
+    let one = pin.4 in (
+      subst (λ (z : DomId). Accesses s h d dir (record { owner = z; frame = frame; off = off }) len) (sym a.of_dom)
+          (subst (λ (n : ℕ). Accesses s h d dir (record { owner = m.dom; frame = n; off = off }) len) (sym a.of_frame)
+          (record { inside = (one.framed, inside); by_right = inr (any-map (IsRightful s d m) (Reaches d d dir ForMap (record { owner = m.dom; frame = frame_of m.entry; off = off }) len) (live h) (λ p b. reaches s d dir m off len p writes b) pin) })),
+      subst (MayUseMapping s d) (sym a.found) one.may,
+    )
+
+none-of : (k : CallerKnowledge) (d : DomId) (r q : Asked) → r ≡ q → begun k d r ≡ None → begun k d q ≡ None
+none-of k d r q is none = subst (λ (z : Asked). begun k d z ≡ None) is none
+
+not-write : (P : Type 0) → Read ≡ Write → P
+not-write P e = cc
+
+same-held : (k : CallerKnowledge) (handle : Handle) (a b : Held) → k.mapping handle ≡ Some a → k.mapping handle ≡ Some b → a ≡ b
+same-held k handle a b e f = same_Some a b (sym e ∙ f)
+
+pub read-justified : (s : Setting) (h : History) (xs : List State) (d : DomId) (r : Asked) (dom : DomId) (frame off len : ℕ) → CoreStands s h xs → begun (known_at s h d) d r ≡ None
+    → RestsOnRequest (known_at s h d) d r (ReadBytes dom frame off len) → Justified s h d r (ReadBytes dom frame off len)
+read-justified s h xs d r dom frame off len st none (inl (handle, is, mapped)) =
+    let o = opens (known_at s h d) d (Load handle off len) (none-of (known_at s h d) d r (Load handle off len) is none) in
+    let a = mapping-accesses s h xs d Read handle dom frame off len st mapped (not-write _) o.range in
+    (a.0.inside, a.0.by_right, subst (MayAsk s h d) (sym is) a.1)
+read-justified s h xs d r dom frame off len st none (inr (is, own)) =
+    let o = opens (known_at s h d) d (Peek frame off len) (none-of (known_at s h d) d r (Peek frame off len) is none) in
+    (subst (λ (z : DomId). IsInFrame s (record { owner = z; frame = frame; off = off }) len) (sym own) (o.framed, o.range), inl (ap (λ (z : DomId). z.0) own), subst (MayAsk s h d) (sym is) tt)
+
+pub write-justified : (s : Setting) (h : History) (xs : List State) (d : DomId) (r : Asked) (dom : DomId) (frame off len : ℕ) → CoreStands s h xs → begun (known_at s h d) d r ≡ None
+    → RestsOnRequest (known_at s h d) d r (WriteBytes dom frame off len) → Justified s h d r (WriteBytes dom frame off len)
+write-justified s h xs d r dom frame off len st none (inl (handle, is, mapped)) =
+    let o = opens (known_at s h d) d (Store handle off len) (none-of (known_at s h d) d r (Store handle off len) is none) in
+    let same : o.mapping ≡ mapped.mapping = same-held (known_at s h d) handle o.mapping mapped.mapping o.found mapped.found in
+    let a = mapping-accesses s h xs d Write handle dom frame off len st mapped (λ w. ap (λ (m : Held). m.dir) (sym same) ∙ o.writable) o.range in
+    (a.0.inside, a.0.by_right, subst (MayAsk s h d) (sym is) a.1)
+write-justified s h xs d r dom frame off len st none (inr (is, own)) =
+    let o = opens (known_at s h d) d (Poke frame off len) (none-of (known_at s h d) d r (Poke frame off len) is none) in
+    (subst (λ (z : DomId). IsInFrame s (record { owner = z; frame = frame; off = off }) len) (sym own) (o.framed, o.range), inl (ap (λ (z : DomId). z.0) own), subst (MayAsk s h d) (sym is) tt)
+
+-- a copy
+
+-- a pin that the call holds is live
+in-append : {K : Type 0} (m : Held) (xs ys : List (K × Held)) → IsHeldIn m xs → IsHeldIn m (xs ++ ys)
+in-append m [] ys a = absurd a
+in-append m (x ∷ xs) ys (inl e) = inl e
+in-append m (x ∷ xs) ys (inr a) = inr (in-append m xs ys a)
+
+abbrev IsAmong : Held → List Held → Type 0
+IsAmong m [] = ⊥
+IsAmong m (x ∷ xs) = (x ≡ m) ⊎ IsAmong m xs
+
+among-numbered : (n : ℕ) (m : Held) (l : List Held) → IsAmong m l → IsHeldIn m (numbered n l)
+among-numbered n m [] a = absurd a
+among-numbered n m (x ∷ l) (inl e) = inl e
+among-numbered n m (x ∷ l) (inr a) = inr (among-numbered (n + 1) m l a)
+
+among-left : (m : Held) (xs ys : List Held) → IsAmong m xs → IsAmong m (xs ++ ys)
+among-left m [] ys a = absurd a
+among-left m (x ∷ xs) ys (inl e) = inl e
+among-left m (x ∷ xs) ys (inr a) = inr (among-left m xs ys a)
+
+among-right : (m : Held) (xs ys : List Held) → IsAmong m ys → IsAmong m (xs ++ ys)
+among-right m [] ys a = a
+among-right m (x ∷ xs) ys a = inr (among-right m xs ys a)
+
+among-reverse : (m : Held) (l : List Held) → IsAmong m l → IsAmong m (reverse l)
+among-reverse m [] a = absurd a
+among-reverse m (x ∷ l) (inl e) = subst (IsAmong m) (sym (reverse_onto l x [])) (among-right m (reverse l) (x ∷ []) (inl e))
+among-reverse m (x ∷ l) (inr a) = subst (IsAmong m) (sym (reverse_onto l x [])) (among-left m (reverse l) (x ∷ []) (among-reverse m l a))
+
+-- the pin is the domain's
+abbrev IsOwnPin : DomId → Held → Pin → Type 0
+IsOwnPin d m p = (p.actor ≡ d.0) × (p.held ≡ m)
+
+pub leg-pin : (h : History) (d : DomId) (m : Held) (held : List Held) → legs_at h d.0 ≡ numbered 0 (reverse held) → IsAmong m held → Any (IsOwnPin d m) (live h)
+leg-pin h d m held legs a =
+    any-map (IsBy by_leg d.0 m) (IsOwnPin d m) (live h) (λ p b. (b.0, b.1))
+    (gathered-any by_leg d.0 m (live h) leg-gives (subst (IsHeldIn m) (sym legs) (among-numbered 0 m (reverse held) (among-reverse m held a))))
+
+-- the policy allows what is not denied
+allowed : (may : TypeId → TypeId → Perms → Bool) (ts : List Triple) → denied may ts ≡ None → IsAllowed may ts
+allowed may [] e = tt
+allowed may (t ∷ ts) e = by (may t.source t.target t.perm) refl (allowed may ts) e
+  where
+    by : (b : Bool) → may t.source t.target t.perm ≡ b → (denied may ts ≡ None → IsAllowed may ts) → cond b (denied may ts) (Some (Refused (denial_of N5 (Policy t.source t.target t.perm)))) ≡ None → IsAllowed may (t ∷ ts)
+    by true is more f = (is, more f)
+    by false is more f = cc
+
+via-may : (k : CallerKnowledge) (pair : DomId × DomId) (dom : DomId) → via_judged k pair dom ≡ None → IsAllowed k.may (rights_to_copy k pair.0 pair.1)
+via-may k pair dom e = allowed k.may (rights_to_copy k pair.0 pair.1) (by (is_none (domain_of k.domains dom)) (copy_denied k pair.0 pair.1) e)
+  where
+    by : (b : Bool) (o : Option Rattle.gt_calls.specs.declared.action.Verdict.Verdict) → first (refused_when b N1 ∷ o ∷ []) ≡ None → o ≡ None
+    by true o f = cc
+    by false None f = refl
+    by false (Some v) f = cc
+
+reached-frame : (s : Setting) (h : History) (d : DomId) (granted : Bool) (end : End) (dir : Dir) (len : ℕ) (pair : DomId → DomId × DomId) (route : Route) → IsReached (known_at s h d) d granted end dir len pair route → end.offset + len ≤ FRAME_SIZE
+    → IsInFrame s (place_of d end route) len
+reached-frame s h d granted end dir len pair Own a range = (leb-false (frames_of s.domains d) end.ptr a.1, range)
+reached-frame s h d granted end dir len pair (Direct p) a range = (leb-false (frames_of s.domains p.dom) (frame_of p.entry) a.2.in_frames, range)
+reached-frame s h d granted end dir len pair (Through via p) a range = (leb-false (frames_of s.domains p.dom) (frame_of p.entry) a.3.in_frames, range)
+
+reaches-by : (s : Setting) (h : History) (d judged : DomId) (dir : Dir) (off len : ℕ) (p : Held) (q : Pin) → IsPermitted (known_at s h d) p judged dir off len → IsOwnPin d p q
+    → Reaches d judged dir ForCopy (record { owner = p.dom; frame = frame_of p.entry; off = off }) len q
+reaches-by s h d judged dir off len p q a own =
+    record {
+      of_actor = own.0;
+      of_owner = ap (λ (x : Held). x.dom.0) own.1;
+      of_frame = ap (λ (x : Held). frame_of x.entry) own.1;
+      permitted = ap (λ (x : Held). permits x.entry judged dir ForCopy off len) own.1 ∙ a.permitted;
+      writes = λ w. ap (λ (x : Held). x.dir) own.1 ∙ a.taken_for ∙ w;
+    }
+
+-- the pins of a route are among these
+abbrev pub HasRoute : List Held → Route → Type 0
+HasRoute held Own = Unit {0}
+HasRoute held (Direct p) = IsAmong p held
+HasRoute held (Through via p) = IsAmong via held × IsAmong p held
+
+end-justified : (s : Setting) (h : History) (d : DomId) (granted : Bool) (end : End) (dir : Dir) (len : ℕ) (pair : DomId → DomId × DomId) (owners : DomId × DomId) (route : Route) (held : List Held) → legs_at h d.0 ≡ numbered 0 (reverse held) → HasRoute held route
+    → IsReached (known_at s h d) d granted end dir len pair route → ((p : Held) (via : Held) → route ≡ Through via p → pair p.dom ≡ owners) → EndIsJustified s h d dir (place_of d end route) len (resolved d end.domid) owners
+end-justified s h d granted end dir len pair owners Own held legs has a same = inl refl
+end-justified s h d granted end dir len pair owners (Direct p) held legs has a same =
+    inr (inl (a.1, any-map (IsOwnPin d p) (Reaches d d dir ForCopy (place_of d end (Direct p)) len) (live h) (λ q own. reaches-by s h d d dir end.offset len p q a.2 own) (leg-pin h d p held legs has)))
+end-justified s h d granted end dir len pair owners (Through via p) held legs has a same =
+    inr (inr (
+      any-map (IsOwnPin d p) _ (live h)
+          (λ q own. any-map (IsOwnPin d via) _ (live h) (λ v of_via. (forwards-by q own v of_via, reaches-by s h d (resolved d end.domid) dir end.offset len p q a.3 own)) (leg-pin h d via held legs has.0))
+          (leg-pin h d p held legs has.1),
+      subst (MayCopy s) (same p via refl) (via-may (known_at s h d) (pair p.dom) p.dom a.4),
+    ))
+  where
+    leads : (e : Entry) (m q : Held) → m ≡ q → LeadsTo e m → LeadsTo e q
+    leads e m q is b = subst (LeadsTo e) is b
+
+    forwards-by : (q : Pin) → IsOwnPin d p q → (v : Pin) → IsOwnPin d via v → Forwards d dir (resolved d end.domid) q v
+    forwards-by q own v of_via =
+        record {
+          of_actor = of_via.0;
+          of_named = ap (λ (x : Held). x.dom) of_via.1 ∙ a.1.named;
+          forwarded = ap (λ (x : Held). forwards x.entry d dir) of_via.1 ∙ a.1.forwarded;
+          leads = subst (λ (x : Held). LeadsTo x.entry q.held) (sym of_via.1) (leads via.entry p q.held (sym own.1) a.2);
+          writes = λ w. ap (λ (x : Held). x.dir) of_via.1 ∙ a.1.taken_for ∙ w;
+        }
+
+-- the pins of both routes are held
+route-first : (pins : Pins) → HasRoute (last_first pins) pins.source × HasRoute (last_first pins) pins.dest
+route-first pins = (source pins.source pins.dest, dest pins.source pins.dest)
+  where
+    source : (a b : Route) → HasRoute (last_first (record { source = a; dest = b })) a
+    source Own b = tt
+    source (Direct p) Own = inl refl
+    source (Direct p) (Direct q) = inr (inl refl)
+    source (Direct p) (Through via q) = inr (inr (inl refl))
+    source (Through v p) Own = (inr (inl refl), inl refl)
+    source (Through v p) (Direct q) = (inr (inr (inl refl)), inr (inl refl))
+    source (Through v p) (Through via q) = (inr (inr (inr (inl refl))), inr (inr (inl refl)))
+
+    dest : (a b : Route) → HasRoute (last_first (record { source = a; dest = b })) b
+    dest a Own = tt
+    dest a (Direct q) = inl refl
+    dest a (Through via q) = (inr (inl refl), inl refl)
+
+pub copy-justified : (s : Setting) (h : History) (d : DomId) (r : Asked) (pins : Pins) (from to : Place) (len : ℕ) → begun (known_at s h d) d r ≡ None → legs_at h d.0 ≡ numbered 0 (reverse (last_first pins))
+    → RestsOnWays (known_at s h d) d r pins from to len → CopyIsJustified s h d r from to len
+copy-justified s h d r pins from to len none legs a =
+    let k = known_at s h d in
+    let c = a.copy in
+    let has = route-first pins in
+    let o = opens k d (Copy c) (none-of k d r (Copy c) a.of_copy none) in
+    let f = place_of d c.source pins.source in
+    let t = place_of d c.dest pins.dest in
+    let fits : CopyIsJustified s h d (Copy c) f t c.len = (
+      reached-frame s h d (is_source_granted c) c.source Read c.len (source_pair d c) pins.source a.source_reached o.source_range,
+      reached-frame s h d (is_dest_granted c) c.dest Write c.len (dest_pair d pins.source) pins.dest a.dest_reached o.dest_range,
+      o.allowed,
+      end-justified s h d (is_source_granted c) c.source Read c.len (source_pair d c) (f.owner, resolved d c.dest.domid) pins.source (last_first pins) legs has.0 a.source_reached
+          (λ p via e. ap (λ (z : Route). (Rattle.gt_calls.specs.Holding.owner_by d z, resolved d c.dest.domid)) (sym e)),
+      end-justified s h d (is_dest_granted c) c.dest Write c.len (dest_pair d pins.source) (f.owner, t.owner) pins.dest (last_first pins) legs has.1 a.dest_reached
+          (λ p via e. ap (λ (z : Route). (f.owner, Rattle.gt_calls.specs.Holding.owner_by d z)) (sym e)),
+    ) in
+    subst (λ (z : Asked). CopyIsJustified s h d z from to len) (sym a.of_copy)
+    (subst (λ (z : Place). CopyIsJustified s h d (Copy c) z to len) (sym a.from_is)
+    (subst (λ (z : Place). CopyIsJustified s h d (Copy c) f z len) (sym a.to_is)
+    (subst (λ (n : ℕ). CopyIsJustified s h d (Copy c) f t n) (sym a.len_is) fits)))

@@ -2,6 +2,7 @@
 use Rattle.std.proofs.Common.{◌≡◌, ◌<◌, ◌≤◌, ◌+◌, ◌*◌, ◌/◌, ◌%◌, ℕ, Bool, true, false, cond, List, ap, ◌∙◌, arith}
 use Rattle.std.specs.Prelude.{◌==◌}
 use Rattle.gt_entry.specs.Laws.{control-round}
+use Rattle.gt_types.specs.declared.limits.TheConstants.{TABLE_ENTRIES}
 use Rattle.gt_entry.specs.Words.{control_word, control_of, header_word, header_of, size_of}
 use Rattle.gt_entry.specs.declared.control.Control.{Control}
 use Rattle.gt_entry.specs.declared.header.Header.{Header}
@@ -12,11 +13,11 @@ use Rattle.gt_core.specs.Standing.{CoreStands, FitsTable, FitsWord}
 pub fits-word : (c : Control) → FitsWord c → control_of (control_word c) ≡ c
 fits-word c f = control-round c f.in_range f.domain
 
-pub word-shows : (s : Setting) (h : History) (xs : List State) (t r : ℕ) → CoreStands s h xs → r < 2048 → control_of (word_at s h t r) ≡ control_at s h t r
+pub word-shows : (s : Setting) (h : History) (xs : List State) (t r : ℕ) → CoreStands s h xs → r < TABLE_ENTRIES → control_of (word_at s h t r) ≡ control_at s h t r
 word-shows s h xs t r st within = fits-word (control_at s h t r) (st.words t r within)
 
 -- a header within the limits has room in its word, and its table has at most 2,048 entries
-pub table-fits : (x : Header) → FitsTable x → (size_of x ≤ 2048) × (header_of (header_word x) ≡ x)
+pub table-fits : (x : Header) → FitsTable x → (size_of x ≤ TABLE_ENTRIES) × (header_of (header_word x) ≡ x)
 table-fits x f = (by (x.version == 2) few, ap (λ (n : ℕ). record { version = n; frames = (x.version + x.frames * 4) / 4 % 256 }) version ∙ ap (λ (n : ℕ). record { version = x.version; frames = n }) frames)
   where
     few : x.frames ≤ 4

@@ -9,7 +9,7 @@ use Rattle.std.proofs.lemmas.List.Sums.{sum_by-cons}
 use Rattle.gt_handles.specs.declared.handles.Handle.{Handle}
 use Rattle.gt_handles.specs.declared.handles.Slot.{Slot}
 use Rattle.gt_handles.specs.Handles.{Kept, value_of, count_of, under}
-use Rattle.gt_calls.specs.declared.known.Mapping.{Mapping}
+use Rattle.gt_calls.specs.declared.held.Held.{Held}
 use Rattle.gt_core.specs.History.{mapping_of, same_handle}
 use Rattle.gt_core.specs.Effects.{Adds, taken}
 use Rattle.gt_core.specs.Standing.{AreApart, MappingsAgree}
@@ -37,20 +37,20 @@ swap-handles a b = by (same_handle a b) refl
     by true e = e ∙ sym (handle-same a) ∙ ap (λ (x : Handle). same_handle x a) (same-handle a b e)
     by false e = e ∙ sym (apart-back a b e)
 
-none-both : (b : Bool) → ◌≡◌ {A = Option Mapping} (cond b None None) None
+none-both : (b : Bool) → ◌≡◌ {A = Option Held} (cond b None None) None
 none-both true = refl
 none-both false = refl
 
 -- a list of mappings, and one more
 
-none-of : (x : Handle × Mapping) (ms : List (Handle × Mapping)) (handle : Handle) → mapping_of (x ∷ ms) handle ≡ None → (same_handle x.0 handle ≡ false) × (mapping_of ms handle ≡ None)
+none-of : (x : Handle × Held) (ms : List (Handle × Held)) (handle : Handle) → mapping_of (x ∷ ms) handle ≡ None → (same_handle x.0 handle ≡ false) × (mapping_of ms handle ≡ None)
 none-of x ms handle e = by (same_handle x.0 handle) refl e
   where
     by : (b : Bool) → same_handle x.0 handle ≡ b → cond b (Some x.1) (mapping_of ms handle) ≡ None → (same_handle x.0 handle ≡ false) × (mapping_of ms handle ≡ None)
     by true is f = absurd (none-some x.1 (sym f))
     by false is f = (is, f)
 
-push-of : (ms : List (Handle × Mapping)) (handle : Handle) (m : Mapping) (other : Handle) → mapping_of ms handle ≡ None
+push-of : (ms : List (Handle × Held)) (handle : Handle) (m : Held) (other : Handle) → mapping_of ms handle ≡ None
     → mapping_of (ms ++ (handle, m) ∷ []) other ≡ cond (same_handle other handle) (Some m) (mapping_of ms other)
 push-of [] handle m other none = ap (λ (b : Bool). cond b (Some m) None) (swap-handles handle other)
 push-of (x ∷ ms) handle m other none = by (same_handle x.0 other) refl (push-of ms handle m other (none-of x ms handle none).1)
@@ -62,19 +62,19 @@ push-of (x ∷ ms) handle m other none = by (same_handle x.0 other) refl (push-o
         sym (ap (λ (c : Bool). cond c (Some m) (Some x.1)) off)
     by false is rest = rest
 
-apart-push : (ms : List (Handle × Mapping)) (handle : Handle) (m : Mapping) → AreApart ms → mapping_of ms handle ≡ None → AreApart (ms ++ (handle, m) ∷ [])
+apart-push : (ms : List (Handle × Held)) (handle : Handle) (m : Held) → AreApart ms → mapping_of ms handle ≡ None → AreApart (ms ++ (handle, m) ∷ [])
 apart-push [] handle m a none = (refl, tt)
 apart-push (x ∷ ms) handle m a none =
     let n = none-of x ms handle none in
     (push-of ms handle m x.0 n.1 ∙ ap (λ (b : Bool). cond b (Some m) (mapping_of ms x.0)) n.0 ∙ a.0, apart-push ms handle m a.1 n.1)
 
 -- the handles with one mapping more are those of the mappings with one more
-pub mappings-added : (old new : Kept Mapping) (handle : Handle) (m : Mapping) (ms : List (Handle × Mapping)) (n : ℕ) → Adds old new handle m → MappingsAgree old ms n
+pub mappings-added : (old new : Kept Held) (handle : Handle) (m : Held) (ms : List (Handle × Held)) (n : ℕ) → Adds old new handle m → MappingsAgree old ms n
     → MappingsAgree new (ms ++ (handle, m) ∷ []) (n + 1)
 mappings-added old new handle m ms n d a =
-    let none : mapping_of ms handle ≡ None = ap (λ (f : Handle → Option Mapping). f handle) (sym a.named) ∙ d.fresh in
+    let none : mapping_of ms handle ≡ None = ap (λ (f : Handle → Option Held). f handle) (sym a.named) ∙ d.fresh in
     record {
-      named = fun_ext (λ other. d.updates other ∙ ap (λ (f : Handle → Option Mapping). cond (same_handle other handle) (Some m) (f other)) a.named ∙ sym (push-of ms handle m other none));
+      named = fun_ext (λ other. d.updates other ∙ ap (λ (f : Handle → Option Held). cond (same_handle other handle) (Some m) (f other)) a.named ∙ sym (push-of ms handle m other none));
       count = d.count ∙ ap (λ (k : ℕ). k + 1) a.count ∙ sym (length-append ms ((handle, m) ∷ []));
       given = d.given ∙ ap (λ (k : ℕ). k + 1) a.given;
       apart = apart-push ms handle m a.apart none;
@@ -83,11 +83,11 @@ mappings-added old new handle m ms n d a =
 -- a list of mappings, and one less
 
 -- without the first mapping under this handle
-abbrev pub less : Handle → List (Handle × Mapping) → List (Handle × Mapping)
+abbrev pub less : Handle → List (Handle × Held) → List (Handle × Held)
 less handle [] = []
 less handle (m ∷ ms) = cond (same_handle m.0 handle) ms (m ∷ less handle ms)
 
-less-of : (ms : List (Handle × Mapping)) (handle other : Handle) → AreApart ms → mapping_of (less handle ms) other ≡ cond (same_handle other handle) None (mapping_of ms other)
+less-of : (ms : List (Handle × Held)) (handle other : Handle) → AreApart ms → mapping_of (less handle ms) other ≡ cond (same_handle other handle) None (mapping_of ms other)
 less-of [] handle other a = sym (none-both (same_handle other handle))
 less-of (x ∷ ms) handle other a = by (same_handle x.0 handle) refl (less-of ms handle other a.1)
   where
@@ -109,7 +109,7 @@ less-of (x ∷ ms) handle other a = by (same_handle x.0 handle) refl (less-of ms
     by true is rest = gone (same-handle x.0 handle is) (same_handle other handle) refl
     by false is rest = stays is rest (same_handle x.0 other) refl
 
-length-less : (ms : List (Handle × Mapping)) (handle : Handle) (m : Mapping) → mapping_of ms handle ≡ Some m → length ms ≡ length (less handle ms) + 1
+length-less : (ms : List (Handle × Held)) (handle : Handle) (m : Held) → mapping_of ms handle ≡ Some m → length ms ≡ length (less handle ms) + 1
 length-less [] handle m e = absurd (none-some m e)
 length-less (x ∷ ms) handle m e = by (same_handle x.0 handle) (λ k. length-less ms handle m k) e
   where
@@ -118,7 +118,7 @@ length-less (x ∷ ms) handle m e = by (same_handle x.0 handle) (λ k. length-le
     by true rest f = omega arith
     by false rest f = let r : length ms ≡ length (less handle ms) + 1 = rest f in omega arith
 
-less-none : (ms : List (Handle × Mapping)) (handle other : Handle) → mapping_of ms other ≡ None → mapping_of (less handle ms) other ≡ None
+less-none : (ms : List (Handle × Held)) (handle other : Handle) → mapping_of ms other ≡ None → mapping_of (less handle ms) other ≡ None
 less-none [] handle other e = refl
 less-none (x ∷ ms) handle other e =
     let n = none-of x ms other e in
@@ -128,7 +128,7 @@ less-none (x ∷ ms) handle other e =
     by true off none rest = none
     by false off none rest = ap (λ (c : Bool). cond c (Some x.1) (mapping_of (less handle ms) other)) off ∙ rest
 
-apart-less : (ms : List (Handle × Mapping)) (handle : Handle) → AreApart ms → AreApart (less handle ms)
+apart-less : (ms : List (Handle × Held)) (handle : Handle) → AreApart ms → AreApart (less handle ms)
 apart-less [] handle a = tt
 apart-less (x ∷ ms) handle a = by (same_handle x.0 handle) (apart-less ms handle a.1)
   where
@@ -138,26 +138,26 @@ apart-less (x ∷ ms) handle a = by (same_handle x.0 handle) (apart-less ms hand
 
 -- the slots of the handles, and one less
 
-set-here : (slots : List (Option (Slot Mapping))) (key : ℕ) → slice_index_or (slice_set slots key None) key None ≡ None
+set-here : (slots : List (Option (Slot Held))) (key : ℕ) → slice_index_or (slice_set slots key None) key None ≡ None
 set-here [] key = refl
 set-here (x ∷ xs) zero = refl
 set-here (x ∷ xs) (suc key) = set-here xs key
 
-set-there : (slots : List (Option (Slot Mapping))) (key at : ℕ) → (at ≡ key → ⊥) → slice_index_or (slice_set slots key None) at None ≡ slice_index_or slots at None
+set-there : (slots : List (Option (Slot Held))) (key at : ℕ) → (at ≡ key → ⊥) → slice_index_or (slice_set slots key None) at None ≡ slice_index_or slots at None
 set-there [] key at apart = refl
 set-there (x ∷ xs) zero zero apart = absurd (apart refl)
 set-there (x ∷ xs) zero (suc at) apart = refl
 set-there (x ∷ xs) (suc key) zero apart = refl
 set-there (x ∷ xs) (suc key) (suc at) apart = set-there xs key at (λ e. apart (ap suc e))
 
-set-none : (slots : List (Option (Slot Mapping))) (key at : ℕ) → slice_index_or (slice_set slots key None) at None ≡ cond (at == key) None (slice_index_or slots at None)
+set-none : (slots : List (Option (Slot Held))) (key at : ℕ) → slice_index_or (slice_set slots key None) at None ≡ cond (at == key) None (slice_index_or slots at None)
 set-none slots key at = by (at == key) refl
   where
     by : (b : Bool) → (at == key) ≡ b → slice_index_or (slice_set slots key None) at None ≡ cond b None (slice_index_or slots at None)
     by true is = ap (λ (n : ℕ). slice_index_or (slice_set slots key None) n None) (eqb-true at key is) ∙ set-here slots key
     by false is = set-there slots key at (λ e. true≢false (sym (eq-eqb at key e) ∙ is))
 
-under-other : (o : Option (Slot Mapping)) (other serial : ℕ) (m : Mapping) → (other == serial) ≡ false → under serial o ≡ Some m → under other o ≡ None
+under-other : (o : Option (Slot Held)) (other serial : ℕ) (m : Held) → (other == serial) ≡ false → under serial o ≡ Some m → under other o ≡ None
 under-other None other serial m apart e = refl
 under-other (Some slot) other serial m apart e = by (slot.serial == serial) (slot.serial == other) refl refl e
   where
@@ -166,9 +166,9 @@ under-other (Some slot) other serial m apart e = by (slot.serial == serial) (slo
     by true false is at f = refl
     by false c is at f = absurd (none-some m f)
 
-taken-of : (kept : Kept Mapping) (handle other : Handle) (m : Mapping) → value_of kept handle ≡ Some m → value_of (taken handle kept) other ≡ cond (same_handle other handle) None (value_of kept other)
+taken-of : (kept : Kept Held) (handle other : Handle) (m : Held) → value_of kept handle ≡ Some m → value_of (taken handle kept) other ≡ cond (same_handle other handle) None (value_of kept other)
 taken-of kept handle other m has =
-    ap (λ (o : Option Mapping). value_of (cond (is_some o) (record kept { slots = slice_set kept.slots handle.key None }) kept) other) has
+    ap (λ (o : Option Held). value_of (cond (is_some o) (record kept { slots = slice_set kept.slots handle.key None }) kept) other) has
     ∙ ap (under other.serial) (set-none kept.slots handle.key other.key)
     ∙ by (other.serial == handle.serial) (other.key == handle.key) refl refl
   where
@@ -181,34 +181,34 @@ taken-of kept handle other m has =
         sym (ap (λ (n : ℕ). under other.serial (slice_index_or kept.slots n None)) (eqb-true other.key handle.key at)
         ∙ under-other (slice_index_or kept.slots handle.key None) other.serial handle.serial m is has)
 
-count-set : (slots : List (Option (Slot Mapping))) (key : ℕ) (slot : Slot Mapping) → slice_index_or slots key None ≡ Some slot → count_by is_some (slice_set slots key None) + 1 ≡ count_by is_some slots
+count-set : (slots : List (Option (Slot Held))) (key : ℕ) (slot : Slot Held) → slice_index_or slots key None ≡ Some slot → count_by is_some (slice_set slots key None) + 1 ≡ count_by is_some slots
 count-set [] key slot e = absurd (none-some slot e)
 count-set (None ∷ os) zero slot e = absurd (none-some slot e)
 count-set (Some x ∷ os) zero slot e =
-    omega (arith, sum_by-cons (λ (o : Option (Slot Mapping)). cond (is_some o) 1 0) (Some x) os, sum_by-cons (λ (o : Option (Slot Mapping)). cond (is_some o) 1 0) None os)
+    omega (arith, sum_by-cons (λ (o : Option (Slot Held)). cond (is_some o) 1 0) (Some x) os, sum_by-cons (λ (o : Option (Slot Held)). cond (is_some o) 1 0) None os)
 count-set (None ∷ os) (suc key) slot e =
-    omega (arith, count-set os key slot e, sum_by-cons (λ (o : Option (Slot Mapping)). cond (is_some o) 1 0) None os, sum_by-cons (λ (o : Option (Slot Mapping)). cond (is_some o) 1 0) None (slice_set os key None))
+    omega (arith, count-set os key slot e, sum_by-cons (λ (o : Option (Slot Held)). cond (is_some o) 1 0) None os, sum_by-cons (λ (o : Option (Slot Held)). cond (is_some o) 1 0) None (slice_set os key None))
 count-set (Some x ∷ os) (suc key) slot e =
-    omega (arith, count-set os key slot e, sum_by-cons (λ (o : Option (Slot Mapping)). cond (is_some o) 1 0) (Some x) os, sum_by-cons (λ (o : Option (Slot Mapping)). cond (is_some o) 1 0) (Some x) (slice_set os key None))
+    omega (arith, count-set os key slot e, sum_by-cons (λ (o : Option (Slot Held)). cond (is_some o) 1 0) (Some x) os, sum_by-cons (λ (o : Option (Slot Held)). cond (is_some o) 1 0) (Some x) (slice_set os key None))
 
-count-taken : (kept : Kept Mapping) (handle : Handle) (m : Mapping) → value_of kept handle ≡ Some m → count_of (taken handle kept) + 1 ≡ count_of kept
+count-taken : (kept : Kept Held) (handle : Handle) (m : Held) → value_of kept handle ≡ Some m → count_of (taken handle kept) + 1 ≡ count_of kept
 count-taken kept handle m has =
-    ap (λ (o : Option Mapping). count_of (cond (is_some o) (record kept { slots = slice_set kept.slots handle.key None }) kept) + 1) has
+    ap (λ (o : Option Held). count_of (cond (is_some o) (record kept { slots = slice_set kept.slots handle.key None }) kept) + 1) has
     ∙ by (slice_index_or kept.slots handle.key None) refl has
   where
-    by : (o : Option (Slot Mapping)) → slice_index_or kept.slots handle.key None ≡ o → under handle.serial o ≡ Some m → count_by is_some (slice_set kept.slots handle.key None) + 1 ≡ count_by is_some kept.slots
+    by : (o : Option (Slot Held)) → slice_index_or kept.slots handle.key None ≡ o → under handle.serial o ≡ Some m → count_by is_some (slice_set kept.slots handle.key None) + 1 ≡ count_by is_some kept.slots
     by None is f = absurd (none-some m f)
     by (Some slot) is f = count-set kept.slots handle.key slot is
 
 -- the handles without one mapping are those of the mappings without it
-pub mappings-taken : (kept : Kept Mapping) (handle : Handle) (m : Mapping) (ms : List (Handle × Mapping)) (n : ℕ) → mapping_of ms handle ≡ Some m → MappingsAgree kept ms n
+pub mappings-taken : (kept : Kept Held) (handle : Handle) (m : Held) (ms : List (Handle × Held)) (n : ℕ) → mapping_of ms handle ≡ Some m → MappingsAgree kept ms n
     → MappingsAgree (taken handle kept) (less handle ms) n
 mappings-taken kept handle m ms n found a =
-    let has : value_of kept handle ≡ Some m = ap (λ (f : Handle → Option Mapping). f handle) a.named ∙ found in
+    let has : value_of kept handle ≡ Some m = ap (λ (f : Handle → Option Held). f handle) a.named ∙ found in
     record {
-      named = fun_ext (λ other. taken-of kept handle other m has ∙ ap (λ (f : Handle → Option Mapping). cond (same_handle other handle) None (f other)) a.named ∙ sym (less-of ms handle other a.apart));
+      named = fun_ext (λ other. taken-of kept handle other m has ∙ ap (λ (f : Handle → Option Held). cond (same_handle other handle) None (f other)) a.named ∙ sym (less-of ms handle other a.apart));
       count = sums (count_of (taken handle kept)) (count_of kept) (length ms) (length (less handle ms)) (count-taken kept handle m has) a.count (length-less ms handle m found);
-      given = ap (λ (o : Option Mapping). (cond (is_some o) (record kept { slots = slice_set kept.slots handle.key None }) kept).given) has ∙ a.given;
+      given = ap (λ (o : Option Held). (cond (is_some o) (record kept { slots = slice_set kept.slots handle.key None }) kept).given) has ∙ a.given;
       apart = apart-less ms handle a.apart;
     }
   where
@@ -216,8 +216,8 @@ mappings-taken kept handle m ms n found a =
     sums now was all left a b c = omega arith
 
 -- the same handles stand for the same mappings
-pub mappings-same : (kept : Kept Mapping) (ms ms' : List (Handle × Mapping)) (n n' : ℕ) → ms ≡ ms' → n ≡ n' → MappingsAgree kept ms n → MappingsAgree kept ms' n'
-mappings-same kept ms ms' n n' e f a = subst (λ (l : List (Handle × Mapping)). MappingsAgree kept l n') e (subst (λ (k : ℕ). MappingsAgree kept ms k) f a)
+pub mappings-same : (kept : Kept Held) (ms ms' : List (Handle × Held)) (n n' : ℕ) → ms ≡ ms' → n ≡ n' → MappingsAgree kept ms n → MappingsAgree kept ms' n'
+mappings-same kept ms ms' n n' e f a = subst (λ (l : List (Handle × Held)). MappingsAgree kept l n') e (subst (λ (k : ℕ). MappingsAgree kept ms k) f a)
 
 -- no handles yet
 pub no-handles : MappingsAgree (record { slots = []; given = 0; room = 0 }) [] 0

@@ -1,6 +1,5 @@
 -- What an item leaves of the other domains.
 use Rattle.std.proofs.Common.{◌≡◌, ◌+◌, ℕ, refl, Bool, true, false, List, [], ◌∷◌, ◌++◌, length, Option, Some, None, cond, sym, ap, ◌∙◌, arith}
-use Rattle.gt_core.proofs.Mappings.{mappings-same}
 use Rattle.gt_handles.specs.declared.handles.Handle.{Handle}
 use Rattle.std.specs.Prelude.{◌==◌, ◌&&◌, slice_get}
 use Rattle.gt_types.specs.declared.DomId.{DomId}
@@ -8,24 +7,22 @@ use Rattle.gt_entry.specs.declared.entry.Entry.{Entry}
 use Rattle.gt_entry.specs.declared.header.Header.{Header}
 use Rattle.gt_calls.specs.declared.request.Holder.{Holder}
 use Rattle.gt_calls.specs.declared.request.Holder.TheVariants.{Mapping as ByMapping, Leg as ByLeg}
-use Rattle.gt_calls.specs.declared.action.Change.{Change}
-use Rattle.gt_calls.specs.declared.action.Step.TheVariants.{LookHeader, LookControl, LookBody, Pin as PinStep, Unpin, StoreBody, StoreHeader, Exchange, Read as ReadBytes, Write as WriteBytes}
-use Rattle.gt_calls.specs.declared.action.Seen.TheVariants.{Nothing, Value, Taken, Missed}
-use Rattle.gt_calls.specs.declared.known.Mapping.{Mapping}
+use Rattle.gt_entry.specs.declared.change.Change.{Change}
+use Rattle.gt_entry.specs.declared.change.Half.{Half}
+use Rattle.gt_calls.specs.declared.action.Step.TheVariants.{Pin as PinStep, Unpin}
+use Rattle.gt_calls.specs.declared.action.Seen.TheVariants.{Taken}
+use Rattle.gt_calls.specs.declared.held.Held.{Held}
 use Rattle.gt_core.specs.declared.slot.Slot.{Slot}
 use Rattle.gt_core.specs.declared.trace.Item.{Item}
-use Rattle.gt_core.specs.declared.trace.Happened.TheVariants.{Began, Stepped}
+use Rattle.gt_core.specs.declared.trace.Happened.TheVariants.{Stepped}
 use Rattle.gt_core.specs.declared.trace.Answer.{Answer}
 use Rattle.gt_core.specs.States.{State}
-use Rattle.gt_core.specs.History.{History, Setting, Pin, live, entry_at, raises_at, generation_at, body_at, header_stored, header_or, table_at, mappings_at, mappings_in, maps_answered_at, known_at, without, is_holder, frame_of, mapping_of}
-use Rattle.gt_core.specs.Standing.{SlotAgrees, Agrees}
+use Rattle.gt_core.specs.History.{History, Setting, Pin, live, entry_at, raises_at, generation_at, body_at, header_stored, header_or, table_at, mappings_at, legs_at, gather, by_mapping, by_leg, maps_answered_at, known_at, without, is_holder, mapping_of}
 use mathlib.Core.Path.{fun_ext}
 use Rattle.std.proofs.lemmas.Bool.{eqb-true, false≢true}
 use Rattle.std.proofs.lemmas.List.{append-nil, append_assoc}
 use Rattle.gt_core.specs.declared.trace.Happened.{Happened}
-use Rattle.gt_core.proofs.Quiet.{WritesNone}
-use Rattle.gt_core.proofs.Beginning.{frames-stay, given-other, call-of-other}
-use Rattle.gt_core.specs.History.{change_at, entry_after, raise_after, or_else, stored_at, pinned_by, unpinned_by, one_if_mapped, mapping_on}
+use Rattle.gt_core.specs.History.{change_at, entry_after, raise_after, or_else, stored_at, pinned_by, unpinned_by, one_if_mapped}
 
 none-of : {A : Type 0} (b : Bool) (o : Option A) → b ≡ false → ◌≡◌ {A = Option A} (cond b o None) None
 none-of true o e = absurd (false≢true (sym e))
@@ -43,7 +40,7 @@ pub other-raises : (i : Item) (h : History) (t r : ℕ) → (i.actor.0 == t) ≡
 unfolding raises_at
 other-raises i h t r apart = ap (λ (c : Option Change). raises_at h t r + raise_after c) (none-of (i.actor.0 == t) (change_at i.happened r) apart) ∙ omega arith
 
-pub other-body : (i : Item) (h : History) (t r : ℕ) (which : Bool) → (i.actor.0 == t) ≡ false → body_at (i ∷ h) t r which ≡ body_at h t r which
+pub other-body : (i : Item) (h : History) (t r : ℕ) (which : Half) → (i.actor.0 == t) ≡ false → body_at (i ∷ h) t r which ≡ body_at h t r which
 unfolding body_at
 other-body i h t r which apart = ap (λ (o : Option ℕ). or_else o (body_at h t r which)) (none-of (i.actor.0 == t) (stored_at i.happened r which) apart)
 
@@ -51,79 +48,64 @@ pub other-maps : (i : Item) (h : History) (d : ℕ) → (i.actor.0 == d) ≡ fal
 unfolding maps_answered_at
 other-maps i h d apart = zero-of (i.actor.0 == d) (one_if_mapped i.answer) (maps_answered_at h d) apart
 
-pub mappings-append : (d : ℕ) (ps qs : List Pin) → mappings_in d (ps ++ qs) ≡ mappings_in d ps ++ mappings_in d qs
-unfolding mappings_in
-mappings-append d [] qs = refl
-mappings-append d (p ∷ ps) qs = ap (λ (l : List (Handle × Mapping)). mapping_on d p p.holder ++ l) (mappings-append d ps qs) ∙ sym (append_assoc (mapping_on d p p.holder) (mappings_in d ps) (mappings_in d qs))
+pub gather-append : {A : Type 0} (give : Holder → Held → List A) (d : ℕ) (ps qs : List Pin) → gather give d (ps ++ qs) ≡ gather give d ps ++ gather give d qs
+unfolding gather
+gather-append give d [] qs = refl
+gather-append give d (p ∷ ps) qs =
+    ap (λ l. cond (p.actor == d) (give p.holder p.held) [] ++ l) (gather-append give d ps qs)
+    ∙ sym (append_assoc (cond (p.actor == d) (give p.holder p.held) []) (gather give d ps) (gather give d qs))
 
--- another domain's pin holds no mapping of this one
-pub mapping-apart : (d : ℕ) (p : Pin) (holder : Holder) → (p.actor == d) ≡ false → mapping_on d p holder ≡ []
-mapping-apart d p (ByMapping handle) apart = by (p.actor == d) apart
-  where
-    by : (b : Bool) → b ≡ false → cond {A = List (Handle × Mapping)} b ((handle, record { dom = p.dom; gref = record { 0 = p.gref }; dir = p.dir; frame = frame_of p.entry }) ∷ []) [] ≡ []
-    by true e = absurd (false≢true (sym e))
-    by false e = refl
-mapping-apart d p (ByLeg number) apart = refl
+-- another domain's pin gives nothing
+nothing-apart : {A : Type 0} (b : Bool) (l : List A) → b ≡ false → ◌≡◌ {A = List A} (cond b l []) []
+nothing-apart true l e = absurd (false≢true (sym e))
+nothing-apart false l e = refl
 
-one-apart : (d : ℕ) (p : Pin) → (p.actor == d) ≡ false → mappings_in d (p ∷ []) ≡ []
-unfolding mappings_in
-one-apart d p apart = ap (λ (l : List (Handle × Mapping)). l ++ []) (mapping-apart d p p.holder apart)
+one-apart : {A : Type 0} (give : Holder → Held → List A) (d : ℕ) (p : Pin) → (p.actor == d) ≡ false → gather give d (p ∷ []) ≡ []
+unfolding gather
+one-apart give d p apart = ap (λ l. l ++ []) (nothing-apart (p.actor == d) (give p.holder p.held) apart)
 
-no-mappings : (d : ℕ) → mappings_in d [] ≡ []
-unfolding mappings_in
-no-mappings d = refl
+no-pins : {A : Type 0} (give : Holder → Held → List A) (d : ℕ) → gather give d [] ≡ []
+unfolding gather
+no-pins give d = refl
 
-pinned-apart : (d : ℕ) (actor : DomId) (happened : Happened) (answer : Option Answer) (before : History) → (actor.0 == d) ≡ false → mappings_in d (pinned_by actor happened answer before) ≡ []
-pinned-apart d actor (Stepped (PinStep dom gref looked dir) Taken) answer before apart = one-apart d _ apart
-pinned-apart d actor (Stepped (PinStep dom gref looked dir) Nothing) answer before apart = no-mappings d
-pinned-apart d actor (Stepped (PinStep dom gref looked dir) (Value w)) answer before apart = no-mappings d
-pinned-apart d actor (Stepped (PinStep dom gref looked dir) (Missed w)) answer before apart = no-mappings d
-pinned-apart d actor (Stepped (LookHeader dom) seen) answer before apart = no-mappings d
-pinned-apart d actor (Stepped (LookControl dom gref) seen) answer before apart = no-mappings d
-pinned-apart d actor (Stepped (LookBody dom gref second) seen) answer before apart = no-mappings d
-pinned-apart d actor (Stepped (Unpin dom gref dir holder) seen) answer before apart = no-mappings d
-pinned-apart d actor (Stepped (StoreBody gref second word) seen) answer before apart = no-mappings d
-pinned-apart d actor (Stepped (StoreHeader version frames) seen) answer before apart = no-mappings d
-pinned-apart d actor (Stepped (Exchange gref looked change) seen) answer before apart = no-mappings d
-pinned-apart d actor (Stepped (ReadBytes dom frame off len) seen) answer before apart = no-mappings d
-pinned-apart d actor (Stepped (WriteBytes dom frame off len) seen) answer before apart = no-mappings d
-pinned-apart d actor (Began request) answer before apart = no-mappings d
+pinned-apart : {A : Type 0} (give : Holder → Held → List A) (d : ℕ) (actor : DomId) (happened : Happened) (answer : Option Answer) (before : History) (pins : List Pin) → (actor.0 == d) ≡ false
+    → gather give d (pinned_by actor happened answer before pins) ≡ []
+pinned-apart give d actor (Stepped (PinStep p) Taken) answer before pins apart = one-apart give d _ apart
+pinned-apart give d actor happened answer before pins apart = no-pins give d
 
 -- a pin that another domain gives back
-pub without-apart : (d actor : ℕ) (holder : Holder) (ps : List Pin) → (actor == d) ≡ false → mappings_in d (without actor holder ps) ≡ mappings_in d ps
-unfolding mappings_in without
-without-apart d actor holder [] apart = refl
-without-apart d actor holder (p ∷ ps) apart = by (p.actor == actor) (is_holder p.holder holder) refl (without-apart d actor holder ps apart)
+pub without-apart : {A : Type 0} (give : Holder → Held → List A) (d actor : ℕ) (holder : Holder) (ps : List Pin) → (actor == d) ≡ false → gather give d (without actor holder ps) ≡ gather give d ps
+unfolding gather without
+without-apart give d actor holder [] apart = refl
+without-apart give d actor holder (p ∷ ps) apart = by (p.actor == actor) (is_holder p.holder holder) refl (without-apart give d actor holder ps apart)
   where
-    by : (b e : Bool) → (p.actor == actor) ≡ b → mappings_in d (without actor holder ps) ≡ mappings_in d ps
-        → mappings_in d (cond (b && e) ps (p ∷ without actor holder ps)) ≡ mappings_in d (p ∷ ps)
+    by : (b e : Bool) → (p.actor == actor) ≡ b → gather give d (without actor holder ps) ≡ gather give d ps
+        → gather give d (cond (b && e) ps (p ∷ without actor holder ps)) ≡ gather give d (p ∷ ps)
     by true true own rest =
-        sym (ap (λ (l : List (Handle × Mapping)). l ++ mappings_in d ps) (mapping-apart d p p.holder (ap (λ (n : ℕ). n == d) (eqb-true p.actor actor own) ∙ apart)))
-    by true false own rest = ap (λ (l : List (Handle × Mapping)). mapping_on d p p.holder ++ l) rest
-    by false e own rest = ap (λ (l : List (Handle × Mapping)). mapping_on d p p.holder ++ l) rest
+        sym (ap (λ l. l ++ gather give d ps) (nothing-apart (p.actor == d) (give p.holder p.held) (ap (λ (n : ℕ). n == d) (eqb-true p.actor actor own) ∙ apart)))
+    by true false own rest = ap (λ l. cond (p.actor == d) (give p.holder p.held) [] ++ l) rest
+    by false e own rest = ap (λ l. cond (p.actor == d) (give p.holder p.held) [] ++ l) rest
 
-unpinned-apart : (d : ℕ) (actor : DomId) (happened : Happened) (ps : List Pin) → (actor.0 == d) ≡ false → mappings_in d (unpinned_by actor happened ps) ≡ mappings_in d ps
-unpinned-apart d actor (Stepped (Unpin dom gref dir holder) seen) ps apart = without-apart d actor.0 holder ps apart
-unpinned-apart d actor (Stepped (PinStep dom gref looked dir) seen) ps apart = refl
-unpinned-apart d actor (Stepped (LookHeader dom) seen) ps apart = refl
-unpinned-apart d actor (Stepped (LookControl dom gref) seen) ps apart = refl
-unpinned-apart d actor (Stepped (LookBody dom gref second) seen) ps apart = refl
-unpinned-apart d actor (Stepped (StoreBody gref second word) seen) ps apart = refl
-unpinned-apart d actor (Stepped (StoreHeader version frames) seen) ps apart = refl
-unpinned-apart d actor (Stepped (Exchange gref looked change) seen) ps apart = refl
-unpinned-apart d actor (Stepped (ReadBytes dom frame off len) seen) ps apart = refl
-unpinned-apart d actor (Stepped (WriteBytes dom frame off len) seen) ps apart = refl
-unpinned-apart d actor (Began request) ps apart = refl
+unpinned-apart : {A : Type 0} (give : Holder → Held → List A) (d : ℕ) (actor : DomId) (happened : Happened) (ps : List Pin) → (actor.0 == d) ≡ false → gather give d (unpinned_by actor happened ps) ≡ gather give d ps
+unpinned-apart give d actor (Stepped (Unpin p holder) seen) ps apart = without-apart give d actor.0 holder ps apart
+unpinned-apart give d actor happened ps apart = refl
 
-pub other-mappings : (i : Item) (h : History) (d : ℕ) → (i.actor.0 == d) ≡ false → mappings_in d (live (i ∷ h)) ≡ mappings_in d (live h)
+-- no domain but the actor holds other pins than before
+pub other-pins : {A : Type 0} (give : Holder → Held → List A) (i : Item) (h : History) (d : ℕ) → (i.actor.0 == d) ≡ false → gather give d (live (i ∷ h)) ≡ gather give d (live h)
 unfolding live
-other-mappings i h d apart =
-    mappings-append d (unpinned_by i.actor i.happened (live h)) (pinned_by i.actor i.happened i.answer h)
-    ∙ ap (λ (l : List (Handle × Mapping)). mappings_in d (unpinned_by i.actor i.happened (live h)) ++ l) (pinned-apart d i.actor i.happened i.answer h apart)
-    ∙ append-nil (mappings_in d (unpinned_by i.actor i.happened (live h)))
-    ∙ unpinned-apart d i.actor i.happened (live h) apart
+other-pins give i h d apart =
+    gather-append give d (unpinned_by i.actor i.happened (live h)) (pinned_by i.actor i.happened i.answer h (live h))
+    ∙ ap (λ l. gather give d (unpinned_by i.actor i.happened (live h)) ++ l) (pinned-apart give d i.actor i.happened i.answer h (live h) apart)
+    ∙ append-nil (gather give d (unpinned_by i.actor i.happened (live h)))
+    ∙ unpinned-apart give d i.actor i.happened (live h) apart
 
-other-generations : (s : Setting) (i : Item) (h : History) (d : ℕ) → (i.actor.0 == d) ≡ false
+pub other-mappings : (i : Item) (h : History) (d : ℕ) → (i.actor.0 == d) ≡ false → mappings_at (i ∷ h) d ≡ mappings_at h d
+other-mappings i h d apart = other-pins by_mapping i h d apart
+
+pub other-legs : (i : Item) (h : History) (d : ℕ) → (i.actor.0 == d) ≡ false → legs_at (i ∷ h) d ≡ legs_at h d
+other-legs i h d apart = other-pins by_leg i h d apart
+
+pub other-generations : (s : Setting) (i : Item) (h : History) (d : ℕ) → (i.actor.0 == d) ≡ false
     → ◌≡◌ {A = ℕ → ℕ} (λ r. generation_at s (i ∷ h) d r) (λ r. generation_at s h d r)
 other-generations s i h d apart = fun_ext (λ r. ap (λ (n : ℕ). s.first_generation + n) (other-raises i h d r apart))
 
@@ -140,25 +122,7 @@ other-known s i h d apart =
     (other-generations s i h d.0 apart)
     ∙ ap (λ (x : Header). record { domains = s.domains; may = s.may; entry = λ r. entry_at h d.0 r; generation = λ r. generation_at s h d.0 r; header = x; mapping = mapping_of (mappings_at (i ∷ h) d.0); in_use = length (mappings_at (i ∷ h) d.0); maps_answered = maps_answered_at (i ∷ h) d.0 })
     (other-table s i h d apart)
-    ∙ ap (λ (l : List (Handle × Mapping)). record { domains = s.domains; may = s.may; entry = λ r. entry_at h d.0 r; generation = λ r. generation_at s h d.0 r; header = table_at s h d; mapping = mapping_of (l); in_use = length (l); maps_answered = maps_answered_at (i ∷ h) d.0 })
+    ∙ ap (λ (l : List (Handle × Held)). record { domains = s.domains; may = s.may; entry = λ r. entry_at h d.0 r; generation = λ r. generation_at s h d.0 r; header = table_at s h d; mapping = mapping_of (l); in_use = length (l); maps_answered = maps_answered_at (i ∷ h) d.0 })
     (other-mappings i h d.0 apart)
     ∙ ap (λ (n : ℕ). record { domains = s.domains; may = s.may; entry = λ r. entry_at h d.0 r; generation = λ r. generation_at s h d.0 r; header = table_at s h d; mapping = mapping_of (mappings_at h d.0); in_use = length (mappings_at h d.0); maps_answered = n })
     (other-maps i h d.0 apart)
-
--- a domain that doesn't act: its pins and body words may have changed, its call stands where it stood
-pub other-agrees : (s : Setting) (i : Item) (h : History) (x : State) (slots : List Slot) → (i.actor.0 == x.id.0) ≡ false → WritesNone i → Agrees s h x
-    → length slots ≡ 2048 → ((r : ℕ) (slot : Slot) → slice_get slots r ≡ Some slot → SlotAgrees (i ∷ h) x.id.0 r slot)
-    → Agrees s (i ∷ h) (record x { slots = slots })
-other-agrees s i h x slots apart none a len agree =
-    record {
-      header = a.header ∙ sym (other-table s i h x.id apart);
-      rows = a.rows;
-      entries = a.entries ∙ fun_ext (λ r. sym (other-entry i h x.id.0 r apart));
-      generations = a.generations ∙ sym (other-generations s i h x.id.0 apart);
-      room = len;
-      slots = agree;
-      mappings = mappings-same x.mappings _ _ _ _ (sym (other-mappings i h x.id.0 apart)) (sym (other-maps i h x.id.0 apart)) a.mappings;
-      frames = frames-stay s i h x.id x.frames none a.frames;
-      given = given-other i h x.id.0 x.given apart a.given;
-      call = call-of-other s i h x.id x.underway (other-known s i h x.id apart) (λ r which. other-body i h x.id.0 r which apart) apart a.call;
-    }

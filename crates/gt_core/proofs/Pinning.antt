@@ -1,46 +1,49 @@
--- A pin that was taken for a map keeps what a core stands for.
-use Rattle.std.proofs.Common.{◌≡◌, ◌≢◌, ◌<◌, ◌+◌, ℕ, refl, Bool, true, false, List, [], ◌∷◌, ◌++◌, Option, Some, None, cond, sym, ap, ◌∙◌, arith, subst}
+-- A pin that was taken keeps what a core stands for.
+use Rattle.std.proofs.Common.{◌≡◌, ◌≢◌, ◌<◌, ◌+◌, ℕ, refl, Bool, true, false, List, [], ◌∷◌, ◌++◌, length, Option, Some, None, cond, sym, ap, ◌∙◌, arith, subst}
 use Rattle.std.specs.Prelude.{◌==◌, ◌&&◌, All, count_by, min}
-use Rattle.gt_types.specs.declared.DomId.{DomId}
-use Rattle.gt_types.specs.declared.GrantRef.{GrantRef}
-use Rattle.gt_types.specs.declared.Dir.{Dir}
-use Rattle.gt_types.specs.declared.Dir.TheVariants.{Read, Write}
-use Rattle.gt_entry.specs.declared.entry.Entry.TheVariants.{Invalid}
-use Rattle.gt_handles.specs.declared.handles.Handle.{Handle}
-use Rattle.gt_calls.specs.declared.request.Holder.TheVariants.{Mapping as ByMapping}
-use Rattle.gt_calls.specs.declared.action.Step.TheVariants.{Pin as PinStep}
-use Rattle.gt_calls.specs.declared.action.Seen.TheVariants.{Taken}
-use Rattle.gt_calls.specs.declared.known.Mapping.{Mapping}
-use Rattle.gt_core.specs.declared.slot.Slot.{Slot}
-use Rattle.gt_core.specs.declared.slot.SlotChange.TheVariants.{Pinned}
-use Rattle.gt_core.specs.declared.trace.Item.{Item}
-use Rattle.gt_core.specs.declared.trace.Happened.TheVariants.{Stepped}
-use Rattle.gt_core.specs.declared.trace.Answer.TheVariants.{Mapped}
-use Rattle.gt_core.specs.States.{State, state_of, changed_in}
-use Rattle.gt_core.specs.Effects.{with_slot, with_mapping, slot_after}
-use Rattle.gt_core.specs.History.{History, Setting, Pin, live, entry_at, body_at, reads_at, writes_at, mappings_at, mappings_in, maps_answered_at, open_call, is_pin_on, frame_of, mapping_on, same_dir}
-use Rattle.gt_core.specs.Standing.{IsLawful, FitsTable, SlotAgrees, Agrees, StateAgrees, CoreStands}
-use Rattle.gt_core.proofs.Quiet.{kept-table}
 use Rattle.std.proofs.lemmas.Bool.{eqb-true, eq-eqb, and_parts, and_from, false≢true, true≢false}
-use Rattle.std.proofs.lemmas.List.{append-nil, append_assoc}
 use Rattle.std.proofs.lemmas.List.Sums.{sum_by_push}
 use Rattle.std.proofs.lemmas.List.Elements.{All-push}
+use Rattle.std.proofs.lemmas.List.{append-nil}
+use Rattle.gt_types.specs.declared.DomId.{DomId}
+use Rattle.gt_types.specs.declared.Dir.{Dir}
+use Rattle.gt_types.specs.declared.Dir.TheVariants.{Read, Write}
+use Rattle.gt_types.specs.declared.limits.TheConstants.{MAX_PINS}
+use Rattle.gt_entry.specs.declared.entry.Entry.TheVariants.{Invalid}
+use Rattle.gt_entry.specs.declared.change.Half.TheVariants.{First as FirstHalf, Second as SecondHalf}
 use Rattle.gt_handles.specs.Handles.{Kept}
-use Rattle.gt_core.specs.Effects.{Adds}
-use Rattle.std.proofs.lemmas.Option.{same_Some}
-use Rattle.gt_core.proofs.Mappings.{mappings-added, mappings-same}
+use Rattle.gt_handles.specs.declared.handles.Handle.{Handle}
+use Rattle.gt_calls.specs.declared.held.Held.{Held}
+use Rattle.gt_calls.specs.declared.request.Holder.{Holder}
+use Rattle.gt_calls.specs.declared.request.Holder.TheVariants.{Mapping as ByMapping, Leg as ByLeg}
+use Rattle.gt_calls.specs.declared.action.Step.TheVariants.{Pin as PinStep}
+use Rattle.gt_calls.specs.declared.action.Seen.TheVariants.{Taken}
+use Rattle.gt_core.specs.declared.slot.Slot.{Slot}
+use Rattle.gt_core.specs.declared.slot.Open.{Open}
+use Rattle.gt_core.specs.declared.slot.SlotChange.TheVariants.{Pinned}
+use Rattle.gt_core.specs.declared.trace.Item.{Item}
+use Rattle.gt_core.specs.declared.trace.Answer.{Answer}
+use Rattle.gt_core.specs.declared.trace.Answer.TheVariants.{Mapped}
 use Rattle.gt_core.specs.Rows.{changed_at}
-use Rattle.gt_core.proofs.Beginning.{filled-stays, open_call-own}
-use Rattle.gt_core.proofs.Others.{other-agrees}
-use Rattle.gt_core.proofs.Unpinning.{KeepsEntries, same-entry, same-body, same-spelled, actor-agrees, SlotsAgree, slots-agree, length-slots, counts-fit, word-fits, after_change, state-twice}
+use Rattle.gt_core.specs.States.{State, state_of, changed_in}
+use Rattle.gt_core.specs.Effects.{with_slot, slot_after, Adds}
+use Rattle.gt_core.specs.History.{History, Setting, Pin, live, entry_at, body_at, reads_at, writes_at, mappings_at, maps_answered_at, legs_at, open_call, is_pin_on, same_dir, gather, by_mapping, by_leg, holder_after, one_if_mapped}
+use Rattle.gt_core.specs.Standing.{IsLawful, SlotAgrees, Agrees, CoreStands, CallAgrees, GivenAgrees, MappingsAgree}
+use Rattle.gt_core.proofs.Mappings.{mappings-added, mappings-same}
+use Rattle.gt_core.proofs.Others.{gather-append}
+use Rattle.gt_core.proofs.Keeping.{stepped, SlotsAgree, KeepsEntries, same-entry, same-body, actor-agrees, other-agrees, slots-agree, length-slots, counts-fit, becomes-changed, each-stands, keeps-stands, frames-stay, filled-stays, same-number}
 
 abbrev pub pins_at : History → ℕ → ℕ → Dir → ℕ
 pins_at h t r Read = reads_at h t r
 pins_at h t r Write = writes_at h t r
 
--- the pin of a new mapping
-abbrev pub new_pin : History → DomId → DomId → GrantRef → Dir → Handle → Pin
-new_pin h d t gref dir handle = record { actor = d.0; dom = t; gref = gref.0; dir = dir; holder = ByMapping handle; entry = entry_at h t.0 gref.0 }
+-- the pin that is held after a step that took it
+abbrev pub new_pin : History → DomId → Held → Option Answer → Pin
+new_pin h d p answer = record { actor = d.0; holder = holder_after answer (length (gather by_leg d.0 (live h))); held = record p { entry = entry_at h p.dom.0 p.gref.0 } }
+
+-- the item of a pin that was taken
+abbrev pub pins : DomId → Held → Option Answer → Item
+pins d p answer = stepped d (PinStep p) Taken answer
 
 -- a history that has one pin more
 
@@ -48,14 +51,14 @@ abbrev Grows : History → Item → Pin → Type 0
 Grows h i p = live (i ∷ h) ≡ live h ++ p ∷ []
 
 -- the pin may be counted
-abbrev IsFew : History → Pin → Type 0
-IsFew h p = pins_at h p.dom.0 p.gref p.dir < 4095
+abbrev pub IsFew : History → Pin → Type 0
+IsFew h p = pins_at h p.held.dom.0 p.held.gref.0 p.held.dir < MAX_PINS
 
 grown-count : (h : History) (i : Item) (p : Pin) (t r : ℕ) (k : Dir) → Grows h i p
     → count_by (is_pin_on t r k) (live (i ∷ h)) ≡ count_by (is_pin_on t r k) (live h) + cond (is_pin_on t r k p) 1 0
 grown-count h i p t r k e = ap (λ (ps : List Pin). count_by (is_pin_on t r k) ps) e ∙ sum_by_push (λ (x : Pin). cond (is_pin_on t r k x) 1 0) (live h) p
 
-same-dir : (a b : Dir) → same_dir a b ≡ true → a ≡ b
+pub same-dir : (a b : Dir) → same_dir a b ≡ true → a ≡ b
 same-dir Read Read e = refl
 same-dir Read Write e = absurd (false≢true e)
 same-dir Write Read e = absurd (false≢true e)
@@ -67,42 +70,44 @@ pins-counted h t r Write = refl
 
 -- the place of a pin
 record IsPlace (p : Pin) (t r : ℕ) (k : Dir) : Type 0 where
-  on_dom : p.dom.0 ≡ t
-  on_gref : p.gref ≡ r
-  of_dir : p.dir ≡ k
+  on_dom : p.held.dom.0 ≡ t
+  on_gref : p.held.gref.0 ≡ r
+  of_dir : p.held.dir ≡ k
 
 place-of : (p : Pin) (t r : ℕ) (k : Dir) → is_pin_on t r k p ≡ true → IsPlace p t r k
 place-of p t r k e =
-    let outer = and_parts ((p.dom.0 == t) && (p.gref == r)) (same_dir p.dir k) e in
-    let inner = and_parts (p.dom.0 == t) (p.gref == r) outer.0 in
-    record { on_dom = eqb-true p.dom.0 t inner.0; on_gref = eqb-true p.gref r inner.1; of_dir = same-dir p.dir k outer.1 }
+    let outer = and_parts ((p.held.dom.0 == t) && (p.held.gref.0 == r)) (same_dir p.held.dir k) e in
+    let inner = and_parts (p.held.dom.0 == t) (p.held.gref.0 == r) outer.0 in
+    record { on_dom = eqb-true p.held.dom.0 t inner.0; on_gref = eqb-true p.held.gref.0 r inner.1; of_dir = same-dir p.held.dir k outer.1 }
 
-few-there : (h : History) (p : Pin) (t r : ℕ) (k : Dir) → IsFew h p → is_pin_on t r k p ≡ true → count_by (is_pin_on t r k) (live h) < 4095
+few-there : (h : History) (p : Pin) (t r : ℕ) (k : Dir) → IsFew h p → is_pin_on t r k p ≡ true → count_by (is_pin_on t r k) (live h) < MAX_PINS
 few-there h p t r k few e =
     let at = place-of p t r k e in
-    subst (λ (n : ℕ). n < 4095) (pins-counted h t r k)
-    (subst (λ (z : Dir). pins_at h t r z < 4095) at.of_dir
-    (subst (λ (n : ℕ). pins_at h t n p.dir < 4095) at.on_gref
-    (subst (λ (n : ℕ). pins_at h n p.gref p.dir < 4095) at.on_dom few)))
+    subst (λ (n : ℕ). n < MAX_PINS) (pins-counted h t r k)
+    (subst (λ (z : Dir). pins_at h t r z < MAX_PINS) at.of_dir
+    (subst (λ (n : ℕ). pins_at h t n p.held.dir < MAX_PINS) at.on_gref
+    (subst (λ (n : ℕ). pins_at h n p.held.gref.0 p.held.dir < MAX_PINS) at.on_dom few)))
 
 -- slots
 
-counted-up : (on hit : Bool) (old now was : ℕ) → on ≡ true → ((on && hit) ≡ true → was < 4095) → old ≡ was → now ≡ was + cond (on && hit) 1 0 → cond hit (min (old + 1) 4095) old ≡ now
-counted-up true true old now was p few e f = let c : was < 4095 = few refl in omega arith
+counted-up : (on hit : Bool) (old now was : ℕ) → on ≡ true → ((on && hit) ≡ true → was < MAX_PINS) → old ≡ was → now ≡ was + cond (on && hit) 1 0 → cond hit (min (old + 1) MAX_PINS) old ≡ now
+counted-up true true old now was p few e f = let c : was < MAX_PINS = few refl in omega arith
 counted-up true false old now was p few e f = omega arith
 counted-up false hit old now was p few e f = absurd (false≢true p)
 
-slot-up : (h : History) (i : Item) (p : Pin) (q : ℕ) (old : Slot) → KeepsEntries i → Grows h i p → IsFew h p → (p.dom.0 == q) ≡ true → SlotAgrees h q p.gref old → SlotAgrees (i ∷ h) q p.gref (slot_after (Pinned p.dir) old)
+slot-up : (h : History) (i : Item) (p : Pin) (q : ℕ) (old : Slot) → KeepsEntries i → Grows h i p → IsFew h p → (p.held.dom.0 == q) ≡ true → SlotAgrees h q p.held.gref.0 old
+    → SlotAgrees (i ∷ h) q p.held.gref.0 (slot_after (Pinned p.held.dir) old)
 slot-up h i p q old keeps grows few on a =
-    let both_on : ((p.dom.0 == q) && (p.gref == p.gref)) ≡ true = and_from (p.dom.0 == q) (p.gref == p.gref) on (eq-eqb p.gref p.gref refl) in
-    both p.dir (a.first ∙ sym (same-body i h q p.gref false keeps)) (a.second ∙ sym (same-body i h q p.gref true keeps))
-    (counted-up ((p.dom.0 == q) && (p.gref == p.gref)) (same_dir p.dir Read) old.reads (reads_at (i ∷ h) q p.gref) (reads_at h q p.gref) both_on (few-there h p q p.gref Read few) a.reads (grown-count h i p q p.gref Read grows))
-    (counted-up ((p.dom.0 == q) && (p.gref == p.gref)) (same_dir p.dir Write) old.writes (writes_at (i ∷ h) q p.gref) (writes_at h q p.gref) both_on (few-there h p q p.gref Write few) a.writes (grown-count h i p q p.gref Write grows))
+    let r = p.held.gref.0 in
+    let both_on : ((p.held.dom.0 == q) && (r == r)) ≡ true = and_from (p.held.dom.0 == q) (r == r) on (eq-eqb r r refl) in
+    both p.held.dir (a.first ∙ sym (same-body i h q r FirstHalf keeps)) (a.second ∙ sym (same-body i h q r SecondHalf keeps))
+    (counted-up ((p.held.dom.0 == q) && (r == r)) (same_dir p.held.dir Read) old.reads (reads_at (i ∷ h) q r) (reads_at h q r) both_on (few-there h p q r Read few) a.reads (grown-count h i p q r Read grows))
+    (counted-up ((p.held.dom.0 == q) && (r == r)) (same_dir p.held.dir Write) old.writes (writes_at (i ∷ h) q r) (writes_at h q r) both_on (few-there h p q r Write few) a.writes (grown-count h i p q r Write grows))
   where
-    both : (dir : Dir) → old.first ≡ body_at (i ∷ h) q p.gref false → old.second ≡ body_at (i ∷ h) q p.gref true
-        → cond (same_dir dir Read) (min (old.reads + 1) 4095) old.reads ≡ reads_at (i ∷ h) q p.gref
-        → cond (same_dir dir Write) (min (old.writes + 1) 4095) old.writes ≡ writes_at (i ∷ h) q p.gref
-        → SlotAgrees (i ∷ h) q p.gref (slot_after (Pinned dir) old)
+    both : (dir : Dir) → old.first ≡ body_at (i ∷ h) q p.held.gref.0 FirstHalf → old.second ≡ body_at (i ∷ h) q p.held.gref.0 SecondHalf
+        → cond (same_dir dir Read) (min (old.reads + 1) MAX_PINS) old.reads ≡ reads_at (i ∷ h) q p.held.gref.0
+        → cond (same_dir dir Write) (min (old.writes + 1) MAX_PINS) old.writes ≡ writes_at (i ∷ h) q p.held.gref.0
+        → SlotAgrees (i ∷ h) q p.held.gref.0 (slot_after (Pinned dir) old)
     both Read f g r w = record { reads = r; writes = w; first = f; second = g }
     both Write f g r w = record { reads = r; writes = w; first = f; second = g }
 
@@ -111,34 +116,25 @@ no-hit true hit n was now p e f = absurd (true≢false p)
 no-hit false hit n was now p e f = omega arith
 
 -- a slot that the pin doesn't name
-slot-stays : (h : History) (i : Item) (p : Pin) (q k : ℕ) (old : Slot) → KeepsEntries i → Grows h i p → ((p.dom.0 == q) && (p.gref == k)) ≡ false → SlotAgrees h q k old → SlotAgrees (i ∷ h) q k old
+slot-stays : (h : History) (i : Item) (p : Pin) (q k : ℕ) (old : Slot) → KeepsEntries i → Grows h i p → ((p.held.dom.0 == q) && (p.held.gref.0 == k)) ≡ false → SlotAgrees h q k old → SlotAgrees (i ∷ h) q k old
 slot-stays h i p q k old keeps grows off a =
     record {
-      reads = no-hit ((p.dom.0 == q) && (p.gref == k)) (same_dir p.dir Read) old.reads (reads_at h q k) (reads_at (i ∷ h) q k) off a.reads (grown-count h i p q k Read grows);
-      writes = no-hit ((p.dom.0 == q) && (p.gref == k)) (same_dir p.dir Write) old.writes (writes_at h q k) (writes_at (i ∷ h) q k) off a.writes (grown-count h i p q k Write grows);
-      first = a.first ∙ sym (same-body i h q k false keeps);
-      second = a.second ∙ sym (same-body i h q k true keeps);
+      reads = no-hit ((p.held.dom.0 == q) && (p.held.gref.0 == k)) (same_dir p.held.dir Read) old.reads (reads_at h q k) (reads_at (i ∷ h) q k) off a.reads (grown-count h i p q k Read grows);
+      writes = no-hit ((p.held.dom.0 == q) && (p.held.gref.0 == k)) (same_dir p.held.dir Write) old.writes (writes_at h q k) (writes_at (i ∷ h) q k) off a.writes (grown-count h i p q k Write grows);
+      first = a.first ∙ sym (same-body i h q k FirstHalf keeps);
+      second = a.second ∙ sym (same-body i h q k SecondHalf keeps);
     }
 
-pinned-slots : (h : History) (i : Item) (p : Pin) (q : ℕ) (slots : List Slot) (b : Bool) → KeepsEntries i → Grows h i p → IsFew h p → (p.dom.0 == q) ≡ b
-    → SlotsAgree h q slots → SlotsAgree (i ∷ h) q (cond b (changed_at p.gref (slot_after (Pinned p.dir)) slots) slots)
+pinned-slots : (h : History) (i : Item) (p : Pin) (q : ℕ) (slots : List Slot) (b : Bool) → KeepsEntries i → Grows h i p → IsFew h p → (p.held.dom.0 == q) ≡ b
+    → SlotsAgree h q slots → SlotsAgree (i ∷ h) q (cond b (changed_at p.held.gref.0 (slot_after (Pinned p.held.dir)) slots) slots)
 pinned-slots h i p q slots b keeps grows few is was =
-    slots-agree h (i ∷ h) p.dom.0 q p.gref (slot_after (Pinned p.dir)) slots b is was
+    slots-agree h (i ∷ h) p.held.dom.0 q p.held.gref.0 (slot_after (Pinned p.held.dir)) slots b is was
     (λ on old a. slot-up h i p q old keeps grows few on a) (λ k old off a. slot-stays h i p q k old keeps grows off a)
-
--- mappings
-
-mappings-push : (d : ℕ) (ps : List Pin) (p : Pin) → mappings_in d (ps ++ p ∷ []) ≡ mappings_in d ps ++ mapping_on d p p.holder
-unfolding mappings_in
-mappings-push d [] p = append-nil (mapping_on d p p.holder)
-mappings-push d (x ∷ ps) p =
-    ap (λ (l : List (Handle × Mapping)). mapping_on d x x.holder ++ l) (mappings-push d ps p)
-    ∙ sym (append_assoc (mapping_on d x x.holder) (mappings_in d ps) (mapping_on d p p.holder))
 
 -- counts and words
 
-now-fits : (b : Bool) (now was : ℕ) → was < 4096 → (b ≡ true → was < 4095) → now ≡ was + cond b 1 0 → now < 4096
-now-fits true now was a few e = let c : was < 4095 = few refl in omega arith
+now-fits : (b : Bool) (now was : ℕ) → was < 4096 → (b ≡ true → was < MAX_PINS) → now ≡ was + cond b 1 0 → now < 4096
+now-fits true now was a few e = let c : was < MAX_PINS = few refl in omega arith
 now-fits false now was a few e = omega arith
 
 now-none : (b : Bool) (now was : ℕ) → was ≡ 0 → (b ≡ true → ⊥) → now ≡ was + cond b 1 0 → now ≡ 0
@@ -146,118 +142,118 @@ now-none true now was a none e = absurd (none refl)
 now-none false now was a none e = omega arith
 
 -- a pin stands on a valid entry
-not-there : (h : History) (p : Pin) (t r : ℕ) (k : Dir) → entry_at h p.dom.0 p.gref ≢ Invalid → entry_at h t r ≡ Invalid → is_pin_on t r k p ≡ true → ⊥
+not-there : (h : History) (p : Pin) (t r : ℕ) (k : Dir) → entry_at h p.held.dom.0 p.held.gref.0 ≢ Invalid → entry_at h t r ≡ Invalid → is_pin_on t r k p ≡ true → ⊥
 not-there h p t r k valid none e =
     let at = place-of p t r k e in
-    valid (ap (λ (n : ℕ). entry_at h n p.gref) at.on_dom ∙ ap (λ (n : ℕ). entry_at h t n) at.on_gref ∙ none)
+    valid (ap (λ (n : ℕ). entry_at h n p.held.gref.0) at.on_dom ∙ ap (λ (n : ℕ). entry_at h t n) at.on_gref ∙ none)
 
-answered-up : (b : Bool) (was : ℕ) → b ≡ true → was + 1 ≡ cond b 1 0 + was
-answered-up true was p = omega arith
-answered-up false was p = absurd (false≢true p)
+pins-keeps : (d : DomId) (p : Held) (answer : Option Answer) → KeepsEntries (pins d p answer)
+pins-keeps d p answer = record { changes = λ r. refl; stores = λ r which. refl; header = refl }
 
--- the item of a pin for a map
-
-abbrev pub pins : DomId → DomId → GrantRef → ℕ → Dir → Handle → Item
-pins d t gref looked dir handle = record { actor = d; happened = Stepped (PinStep t gref looked dir) Taken; answer = Some (Mapped handle) }
-
-abbrev pub mapping_made : DomId → GrantRef → Dir → ℕ → Mapping
-mapping_made t gref dir frame = record { dom = t; gref = gref; dir = dir; frame = frame }
-
-pins-keeps : (d t : DomId) (gref : GrantRef) (looked : ℕ) (dir : Dir) (handle : Handle) → KeepsEntries (pins d t gref looked dir handle)
-pins-keeps d t gref looked dir handle = record { changes = λ r. refl; stores = λ r which. refl; header = refl; writes = λ given u n old. refl }
-
-pinned-live : (h : History) (d t : DomId) (gref : GrantRef) (looked : ℕ) (dir : Dir) (handle : Handle) → Grows h (pins d t gref looked dir handle) (new_pin h d t gref dir handle)
+pub pinned-live : (h : History) (d : DomId) (p : Held) (answer : Option Answer) → live (pins d p answer ∷ h) ≡ live h ++ new_pin h d p answer ∷ []
 unfolding live
-pinned-live h d t gref looked dir handle = refl
+pinned-live h d p answer = refl
 
-pinned-mappings : (h : History) (d t : DomId) (gref : GrantRef) (looked : ℕ) (dir : Dir) (handle : Handle) (frame q : ℕ) → (d.0 == q) ≡ true → frame ≡ frame_of (entry_at h t.0 gref.0)
-    → mappings_at h q ++ (handle, mapping_made t gref dir frame) ∷ [] ≡ mappings_at (pins d t gref looked dir handle ∷ h) q
-pinned-mappings h d t gref looked dir handle frame q own shows =
-    ap (λ (n : ℕ). mappings_at h q ++ (handle, mapping_made t gref dir n) ∷ []) shows
-    ∙ sym (ap (λ (b : Bool). mappings_at h q ++ cond b ((handle, mapping_made t gref dir (frame_of (entry_at h t.0 gref.0))) ∷ []) []) own)
-    ∙ sym (mappings-push q (live h) (new_pin h d t gref dir handle))
-    ∙ ap (mappings_in q) (sym (pinned-live h d t gref looked dir handle))
-
-pinned-answered : (h : History) (d t : DomId) (gref : GrantRef) (looked : ℕ) (dir : Dir) (handle : Handle) (q : ℕ) → (d.0 == q) ≡ true → maps_answered_at h q + 1 ≡ maps_answered_at (pins d t gref looked dir handle ∷ h) q
-unfolding maps_answered_at
-pinned-answered h d t gref looked dir handle q own = answered-up (d.0 == q) (maps_answered_at h q) own
-
--- the actor's state, and the others
-
-pinned-actor : (s : Setting) (h : History) (d t : DomId) (gref : GrantRef) (looked : ℕ) (dir : Dir) (handle : Handle) (frame : ℕ) (kept : Kept Mapping) (x : State) (c : Bool) → (t.0 == x.id.0) ≡ c → d.0 ≡ x.id.0 → Adds x.mappings kept handle (mapping_made t gref dir frame)
-    → frame ≡ frame_of (entry_at h t.0 gref.0) → IsFew h (new_pin h d t gref dir handle) → Agrees s h x
-    → Agrees s (pins d t gref looked dir handle ∷ h)
-    (record x { slots = cond c (changed_at gref.0 (slot_after (Pinned dir)) x.slots) x.slots; mappings = kept; underway = None })
-pinned-actor s h d t gref looked dir handle frame kept x c is own adds shows few a =
-    let i : Item = pins d t gref looked dir handle in
-    let keeps = pins-keeps d t gref looked dir handle in
-    let me : (d.0 == x.id.0) ≡ true = eq-eqb d.0 x.id.0 own in
-    actor-agrees s i h x (cond c (changed_at gref.0 (slot_after (Pinned dir)) x.slots) x.slots) kept keeps a
-    (length-slots gref.0 (slot_after (Pinned dir)) x.slots c a.room)
-    (pinned-slots h i (new_pin h d t gref dir handle) x.id.0 x.slots c keeps (pinned-live h d t gref looked dir handle) few is a.slots)
-    (mappings-same kept _ _ _ _ (pinned-mappings h d t gref looked dir handle frame x.id.0 me shows) (pinned-answered h d t gref looked dir handle x.id.0 me)
-    (mappings-added x.mappings kept handle (mapping_made t gref dir frame) (mappings_at h x.id.0) (maps_answered_at h x.id.0) adds a.mappings))
-    (ap (λ (n : ℕ). open_call (i ∷ h) n) (sym own) ∙ open_call-own i h)
-
-pinned-other : (s : Setting) (h : History) (d t : DomId) (gref : GrantRef) (looked : ℕ) (dir : Dir) (handle : Handle) (x : State) (c : Bool) → (t.0 == x.id.0) ≡ c → (d.0 == x.id.0) ≡ false
-    → IsFew h (new_pin h d t gref dir handle) → Agrees s h x
-    → Agrees s (pins d t gref looked dir handle ∷ h) (record x { slots = cond c (changed_at gref.0 (slot_after (Pinned dir)) x.slots) x.slots })
-pinned-other s h d t gref looked dir handle x c is apart few a =
-    let i : Item = pins d t gref looked dir handle in
-    other-agrees s i h x (cond c (changed_at gref.0 (slot_after (Pinned dir)) x.slots) x.slots) apart (pins-keeps d t gref looked dir handle).writes a
-    (length-slots gref.0 (slot_after (Pinned dir)) x.slots c a.room)
-    (pinned-slots h i (new_pin h d t gref dir handle) x.id.0 x.slots c (pins-keeps d t gref looked dir handle) (pinned-live h d t gref looked dir handle) few is a.slots)
-
-pinned-state : (s : Setting) (h : History) (d t : DomId) (gref : GrantRef) (looked : ℕ) (dir : Dir) (handle : Handle) (frame : ℕ) (kept : Kept Mapping) (q : DomId) (b c : Bool) (o : Option State) → (d.0 == q.0) ≡ b → (t.0 == q.0) ≡ c → (b ≡ true → (y : State) → o ≡ Some y → Adds y.mappings kept handle (mapping_made t gref dir frame))
-    → frame ≡ frame_of (entry_at h t.0 gref.0) → IsFew h (new_pin h d t gref dir handle) → StateAgrees s h q o
-    → StateAgrees s (pins d t gref looked dir handle ∷ h) q (after_change c (with_slot gref.0 (Pinned dir)) (after_change b (with_mapping kept) o))
-pinned-state s h d t gref looked dir handle frame kept q true true None own is adds shows few a = a
-pinned-state s h d t gref looked dir handle frame kept q true false None own is adds shows few a = a
-pinned-state s h d t gref looked dir handle frame kept q false true None own is adds shows few a = a
-pinned-state s h d t gref looked dir handle frame kept q false false None own is adds shows few a = a
-pinned-state s h d t gref looked dir handle frame kept q true true (Some x) own is adds shows few a =
-    (a.0, a.1, pinned-actor s h d t gref looked dir handle frame kept x true (ap (λ (z : DomId). t.0 == z.0) a.1 ∙ is) (eqb-true d.0 q.0 own ∙ ap (λ (z : DomId). z.0) (sym a.1)) (adds refl x refl) shows few a.2)
-pinned-state s h d t gref looked dir handle frame kept q true false (Some x) own is adds shows few a =
-    (a.0, a.1, pinned-actor s h d t gref looked dir handle frame kept x false (ap (λ (z : DomId). t.0 == z.0) a.1 ∙ is) (eqb-true d.0 q.0 own ∙ ap (λ (z : DomId). z.0) (sym a.1)) (adds refl x refl) shows few a.2)
-pinned-state s h d t gref looked dir handle frame kept q false true (Some x) own is adds shows few a =
-    (a.0, a.1, pinned-other s h d t gref looked dir handle x true (ap (λ (z : DomId). t.0 == z.0) a.1 ∙ is) (ap (λ (z : DomId). d.0 == z.0) a.1 ∙ own) few a.2)
-pinned-state s h d t gref looked dir handle frame kept q false false (Some x) own is adds shows few a =
-    (a.0, a.1, pinned-other s h d t gref looked dir handle x false (ap (λ (z : DomId). t.0 == z.0) a.1 ∙ is) (ap (λ (z : DomId). d.0 == z.0) a.1 ∙ own) few a.2)
-
--- the domain's map is over with its pin
-pub pin-stands : (s : Setting) (h : History) (xs : List State) (d : DomId) (x : State) (t : DomId) (gref : GrantRef) (looked : ℕ) (dir : Dir) (handle : Handle) (frame : ℕ) (kept : Kept Mapping) → CoreStands s h xs
-    → state_of xs d.0 ≡ Some x → x.id ≡ d → Adds x.mappings kept handle (mapping_made t gref dir frame)
-    → entry_at h t.0 gref.0 ≢ Invalid → frame ≡ frame_of (entry_at h t.0 gref.0)
-    → pins_at h t.0 gref.0 dir < 4095 → IsLawful s (new_pin h d t gref dir handle)
-    → CoreStands s (pins d t gref looked dir handle ∷ h) (changed_in t.0 (with_slot gref.0 (Pinned dir)) (changed_in d.0 (with_mapping kept) xs))
-pin-stands s h xs d x t gref looked dir handle frame kept st here same adds valid shows few lawful =
-    let i : Item = pins d t gref looked dir handle in
-    let p : Pin = new_pin h d t gref dir handle in
-    let keeps = pins-keeps d t gref looked dir handle in
-    let grows : Grows h i p = pinned-live h d t gref looked dir handle in
-    record {
-      each = λ q. subst (λ (o : Option State). StateAgrees s (i ∷ h) q o)
-          (sym (state-twice xs d.0 t.0 q.0 (with_mapping kept) (with_slot gref.0 (Pinned dir)) (λ y. refl) (λ y. refl)))
-          (pinned-state s h d t gref looked dir handle frame kept q (d.0 == q.0) (t.0 == q.0) (state_of xs q.0) refl refl (found-adds q) shows few (st.each q));
-      tables = λ dom. subst FitsTable (sym (kept-table s i h dom refl)) (st.tables dom);
-      words = λ u r within.
-          let was = counts-fit s h u r (st.words u r within) in
-          word-fits s i h u r keeps
-          (now-fits (is_pin_on u r Read p) (reads_at (i ∷ h) u r) (reads_at h u r) was.0 (few-there h p u r Read few) (grown-count h i p u r Read grows))
-          (now-fits (is_pin_on u r Write p) (writes_at (i ∷ h) u r) (writes_at h u r) was.1 (few-there h p u r Write few) (grown-count h i p u r Write grows))
-          (st.words u r within);
-      lawful = subst (All (IsLawful s)) (sym grows) (All-push (IsLawful s) (live h) p st.lawful lawful);
-      free = λ u r e.
-          let none : entry_at h u r ≡ Invalid = sym (same-entry i h u r keeps) ∙ e in
-          let was = st.free u r none in (
-            now-none (is_pin_on u r Read p) (reads_at (i ∷ h) u r) (reads_at h u r) was.0 (not-there h p u r Read valid none) (grown-count h i p u r Read grows),
-            now-none (is_pin_on u r Write p) (writes_at (i ∷ h) u r) (writes_at h u r) was.1 (not-there h p u r Write valid none) (grown-count h i p u r Write grows),
-          );
-      filled = filled-stays s i h xs keeps.writes st;
-      spelled = λ u r there. same-spelled i h u r keeps (st.spelled u r) there;
-    }
+-- what the pin gives to its domain
+gathered : {A : Type 0} (give : Holder → Held → List A) (h : History) (d : DomId) (p : Held) (answer : Option Answer)
+    → gather give d.0 (live (pins d p answer ∷ h)) ≡ gather give d.0 (live h) ++ give (holder_after answer (length (gather by_leg d.0 (live h)))) (record p { entry = entry_at h p.dom.0 p.gref.0 })
+unfolding gather
+gathered {A} give h d p answer = ap (gather give d.0) (pinned-live h d p answer) ∙ gather-append give d.0 (live h) (new_pin h d p answer ∷ []) ∙ ap (λ (l : List A). gather give d.0 (live h) ++ l) (one (new_pin h d p answer) (same-number d.0))
   where
-    found-adds : (q : DomId) → (d.0 == q.0) ≡ true → (y : State) → state_of xs q.0 ≡ Some y → Adds y.mappings kept handle (mapping_made t gref dir frame)
-    found-adds q own y at =
-        let is : x ≡ y = same_Some x y (sym here ∙ ap (state_of xs) (eqb-true d.0 q.0 own) ∙ at) in
-        subst (λ (z : State). Adds z.mappings kept handle (mapping_made t gref dir frame)) is adds
+    one : (q : Pin) → (q.actor == d.0) ≡ true → gather give d.0 (q ∷ []) ≡ give q.holder q.held
+    one q own = ap (λ (b : Bool). cond b (give q.holder q.held) [] ++ []) own ∙ append-nil (give q.holder q.held)
+
+-- a pin of a leg is its domain's last one, and no mapping
+pub leg-grows : (h : History) (d : DomId) (p : Held) (answer : Option Answer) → holder_after answer (length (legs_at h d.0)) ≡ ByLeg (length (legs_at h d.0))
+    → legs_at (pins d p answer ∷ h) d.0 ≡ legs_at h d.0 ++ (length (legs_at h d.0), record p { entry = entry_at h p.dom.0 p.gref.0 }) ∷ []
+leg-grows h d p answer leg = gathered by_leg h d p answer ∙ ap (λ (x : Holder). legs_at h d.0 ++ by_leg x (record p { entry = entry_at h p.dom.0 p.gref.0 })) leg
+
+pub leg-maps : (h : History) (d : DomId) (p : Held) (answer : Option Answer) → holder_after answer (length (legs_at h d.0)) ≡ ByLeg (length (legs_at h d.0)) → mappings_at (pins d p answer ∷ h) d.0 ≡ mappings_at h d.0
+leg-maps h d p answer leg =
+    gathered by_mapping h d p answer ∙ ap (λ (x : Holder). mappings_at h d.0 ++ by_mapping x (record p { entry = entry_at h p.dom.0 p.gref.0 })) leg ∙ append-nil (mappings_at h d.0)
+
+-- a pin of a map is a mapping, and no leg's
+map-grows : (h : History) (d : DomId) (p : Held) (handle : Handle) → mappings_at (pins d p (Some (Mapped handle)) ∷ h) d.0 ≡ mappings_at h d.0 ++ (handle, record p { entry = entry_at h p.dom.0 p.gref.0 }) ∷ []
+map-grows h d p handle = gathered by_mapping h d p (Some (Mapped handle))
+
+pub map-legs : (h : History) (d : DomId) (p : Held) (handle : Handle) → legs_at (pins d p (Some (Mapped handle)) ∷ h) d.0 ≡ legs_at h d.0
+map-legs h d p handle = gathered by_leg h d p (Some (Mapped handle)) ∙ append-nil (legs_at h d.0)
+
+answered-up : (h : History) (d : DomId) (p : Held) (handle : Handle) → maps_answered_at h d.0 + 1 ≡ maps_answered_at (pins d p (Some (Mapped handle)) ∷ h) d.0
+unfolding maps_answered_at
+answered-up h d p handle = by (d.0 == d.0) (maps_answered_at h d.0) (same-number d.0)
+  where
+    by : (b : Bool) (was : ℕ) → b ≡ true → was + 1 ≡ cond b 1 0 + was
+    by true was e = omega arith
+    by false was e = absurd (false≢true e)
+
+pub answered-stays : (h : History) (i : Item) (d : ℕ) → one_if_mapped i.answer ≡ 0 → maps_answered_at (i ∷ h) d ≡ maps_answered_at h d
+unfolding maps_answered_at
+answered-stays h i d m = by (i.actor.0 == d) (one_if_mapped i.answer) (maps_answered_at h d) m
+  where
+    by : (b : Bool) (n was : ℕ) → n ≡ 0 → cond b n 0 + was ≡ was
+    by true n was e = omega arith
+    by false n was e = omega arith
+
+-- a pin that is taken on a valid entry, and lawful, keeps what the core stands for, where the domain's mappings are those that it then has
+pub pin-stands : (s : Setting) (h : History) (xs ys : List State) (x : State) (p : Held) (answer : Option Answer) (kept : Kept Held) (o : Option Open) → CoreStands s h xs → state_of xs x.id.0 ≡ Some x → Agrees s h x
+    → ((q : ℕ) → state_of ys q ≡ cond (x.id.0 == q) (Some (record x { mappings = kept; underway = o })) (state_of xs q))
+    → entry_at h p.dom.0 p.gref.0 ≢ Invalid → IsFew h (new_pin h x.id p answer) → IsLawful s (new_pin h x.id p answer)
+    → MappingsAgree kept (mappings_at (pins x.id p answer ∷ h) x.id.0) (maps_answered_at (pins x.id p answer ∷ h) x.id.0)
+    → CallAgrees s (pins x.id p answer ∷ h) x.id o (open_call (pins x.id p answer ∷ h) x.id.0) → GivenAgrees (pins x.id p answer ∷ h) x.id.0 x.given
+    → CoreStands s (pins x.id p answer ∷ h) (changed_in p.dom.0 (with_slot p.gref.0 (Pinned p.dir)) ys)
+pin-stands s h xs ys x p answer kept o st here a becomes valid few lawful maps call given =
+    let i : Item = pins x.id p answer in
+    let q : Pin = new_pin h x.id p answer in
+    let keeps = pins-keeps x.id p answer in
+    let grows : Grows h i q = pinned-live h x.id p answer in
+    let new : State = record x { mappings = kept; underway = o } in
+    keeps-stands s i h xs _ keeps st
+    (each-stands s i h xs _ x new p.dom.0 (with_slot p.gref.0 (Pinned p.dir)) st here (becomes-changed xs ys x new p.dom.0 (with_slot p.gref.0 (Pinned p.dir)) (λ y. refl) becomes) refl (λ y. refl)
+    (mine (p.dom.0 == x.id.0) refl)
+    (λ y apart b. other y apart b (p.dom.0 == y.id.0) refl))
+    (subst (All (IsLawful s)) (sym grows) (All-push (IsLawful s) (live h) q st.lawful lawful))
+    (λ u r within. let was = counts-fit s h u r (st.words u r within) in (
+      now-fits (is_pin_on u r Read q) (reads_at (i ∷ h) u r) (reads_at h u r) was.0 (few-there h q u r Read few) (grown-count h i q u r Read grows),
+      now-fits (is_pin_on u r Write q) (writes_at (i ∷ h) u r) (writes_at h u r) was.1 (few-there h q u r Write few) (grown-count h i q u r Write grows),
+    ))
+    (λ u r none. let was = st.free u r none in (
+      now-none (is_pin_on u r Read q) (reads_at (i ∷ h) u r) (reads_at h u r) was.0 (not-there h q u r Read valid none) (grown-count h i q u r Read grows),
+      now-none (is_pin_on u r Write q) (writes_at (i ∷ h) u r) (writes_at h u r) was.1 (not-there h q u r Write valid none) (grown-count h i q u r Write grows),
+    ))
+    (filled-stays s i h xs (λ given contents. refl) st)
+  where
+    after : State → Bool → State
+    after y b = cond b (with_slot p.gref.0 (Pinned p.dir) y) y
+
+    picked : (y : State) (b : Bool) → record y { slots = cond b (changed_at p.gref.0 (slot_after (Pinned p.dir)) y.slots) y.slots } ≡ cond b (with_slot p.gref.0 (Pinned p.dir) y) y
+    picked y true = refl
+    picked y false = refl
+
+    mine : (b : Bool) → (p.dom.0 == x.id.0) ≡ b → Agrees s (pins x.id p answer ∷ h) (cond b (with_slot p.gref.0 (Pinned p.dir) (record x { mappings = kept; underway = o })) (record x { mappings = kept; underway = o }))
+    mine b is =
+        subst (Agrees s (pins x.id p answer ∷ h)) (picked (record x { mappings = kept; underway = o }) b)
+        (actor-agrees s (pins x.id p answer) h x (cond b (changed_at p.gref.0 (slot_after (Pinned p.dir)) x.slots) x.slots) kept x.frames o x.given (pins-keeps x.id p answer) a
+        (length-slots p.gref.0 (slot_after (Pinned p.dir)) x.slots b a.room)
+        (pinned-slots h (pins x.id p answer) (new_pin h x.id p answer) x.id.0 x.slots b (pins-keeps x.id p answer) (pinned-live h x.id p answer) few is a.slots)
+        maps (frames-stay s (pins x.id p answer) h x.id x.frames (λ given contents. refl) a.frames) call given)
+
+    other : (y : State) → (x.id.0 == y.id.0) ≡ false → Agrees s h y → (b : Bool) → (p.dom.0 == y.id.0) ≡ b → Agrees s (pins x.id p answer ∷ h) (cond b (with_slot p.gref.0 (Pinned p.dir) y) y)
+    other y apart c b is =
+        subst (Agrees s (pins x.id p answer ∷ h)) (picked y b)
+        (other-agrees s (pins x.id p answer) h y (cond b (changed_at p.gref.0 (slot_after (Pinned p.dir)) y.slots) y.slots) y.frames apart c
+        (length-slots p.gref.0 (slot_after (Pinned p.dir)) y.slots b c.room)
+        (pinned-slots h (pins x.id p answer) (new_pin h x.id p answer) y.id.0 y.slots b (pins-keeps x.id p answer) (pinned-live h x.id p answer) few is c.slots)
+        (frames-stay s (pins x.id p answer) h y.id y.frames (λ given contents. refl) c.frames))
+
+-- the mappings after the pin of a map
+pub map-agrees : (h : History) (d : DomId) (p : Held) (handle : Handle) (old kept : Kept Held) → Adds old kept handle (record p { entry = entry_at h p.dom.0 p.gref.0 }) → MappingsAgree old (mappings_at h d.0) (maps_answered_at h d.0)
+    → MappingsAgree kept (mappings_at (pins d p (Some (Mapped handle)) ∷ h) d.0) (maps_answered_at (pins d p (Some (Mapped handle)) ∷ h) d.0)
+map-agrees h d p handle old kept adds a =
+    mappings-same kept _ _ _ _ (sym (map-grows h d p handle)) (answered-up h d p handle)
+    (mappings-added old kept handle (record p { entry = entry_at h p.dom.0 p.gref.0 }) (mappings_at h d.0) (maps_answered_at h d.0) adds a)
+
+-- and after the pin of a leg
+pub leg-agrees : (h : History) (d : DomId) (p : Held) (answer : Option Answer) (kept : Kept Held) → holder_after answer (length (legs_at h d.0)) ≡ ByLeg (length (legs_at h d.0)) → one_if_mapped answer ≡ 0
+    → MappingsAgree kept (mappings_at h d.0) (maps_answered_at h d.0) → MappingsAgree kept (mappings_at (pins d p answer ∷ h) d.0) (maps_answered_at (pins d p answer ∷ h) d.0)
+leg-agrees h d p answer kept leg m a = mappings-same kept _ _ _ _ (sym (leg-maps h d p answer leg)) (sym (answered-stays h (pins d p answer) d.0 m)) a

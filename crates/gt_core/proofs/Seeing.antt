@@ -9,9 +9,12 @@ use Rattle.gt_core.specs.declared.slot.Slot.{Slot}
 use Rattle.gt_calls.specs.declared.known.Own.{Own}
 use Rattle.gt_core.specs.States.{State}
 use Rattle.gt_calls.specs.declared.action.Step.{Step}
-use Rattle.gt_calls.specs.declared.action.Step.TheVariants.{LookHeader, LookControl, LookBody, Pin, Unpin, StoreBody, StoreHeader, Exchange, Read as ReadBytes, Write as WriteBytes}
-use Rattle.gt_calls.specs.declared.action.Seen.TheVariants.{Value}
+use Rattle.gt_calls.specs.declared.action.Step.TheVariants.{LookHeader, LookControl, LookBody, Pin, Unpin, StoreBody, StoreHeader, Exchange, Read as ReadBytes, Write as WriteBytes, Copy as CopyBytes}
+use Rattle.gt_calls.specs.declared.action.Seen.TheVariants.{Word}
 use Rattle.gt_calls.specs.Rules.{control_with, generation_in}
+use Rattle.gt_entry.specs.declared.change.Half.{Half}
+use Rattle.gt_entry.specs.declared.change.Half.TheVariants.{First as FirstHalf, Second as SecondHalf}
+use Rattle.gt_types.specs.declared.limits.TheConstants.{TABLE_ENTRIES}
 use Rattle.gt_core.specs.History.{History, Setting, entry_at, generation_at, reads_at, body_at, table_at, word_at, seen_by, exchange_sees}
 use Rattle.gt_core.specs.Standing.{Agrees, StateAgrees, CoreStands, state_of}
 use Rattle.gt_core.specs.Sight.{reads_in, writes_in, body_in, slot_reads, slot_writes, slot_body, control_in, control_seen, header_seen, body_seen, sees}
@@ -33,7 +36,7 @@ control_seen-state (y ∷ ys) d r x e = by (y.id.0 == d) e (control_seen-state y
     by true k t = ap (λ (z : State). control_in z.own z.slots r) (same_Some y x k)
     by false k t = t k
 
-body_seen-state : (xs : List State) (d r : ℕ) (which : Bool) (x : State) → state_of xs d ≡ Some x → body_seen xs d r which ≡ body_in x.slots r which
+body_seen-state : (xs : List State) (d r : ℕ) (which : Half) (x : State) → state_of xs d ≡ Some x → body_seen xs d r which ≡ body_in x.slots r which
 body_seen-state [] d r which x e = cc
 body_seen-state (y ∷ ys) d r which x e = by (y.id.0 == d) e (body_seen-state ys d r which x)
   where
@@ -47,12 +50,12 @@ past-none [] r within e = absurd (omega arith)
 past-none (x ∷ xs) zero within e = none-some x (sym e)
 past-none (x ∷ xs) (suc r) within e = past-none xs r (omega arith) e
 
-slot-here : (s : Setting) (h : History) (x : State) (r : ℕ) → Agrees s h x → r < 2048 → (slot : Slot) × (slice_get x.slots r ≡ Some slot)
+slot-here : (s : Setting) (h : History) (x : State) (r : ℕ) → Agrees s h x → r < TABLE_ENTRIES → (slot : Slot) × (slice_get x.slots r ≡ Some slot)
 slot-here s h x r a within = some (slice_get x.slots r) refl
   where
     some : (o : Option Slot) → slice_get x.slots r ≡ o → (slot : Slot) × (slice_get x.slots r ≡ Some slot)
     some (Some slot) e = (slot, e)
-    some None e = absurd (past-none x.slots r (let room : length x.slots ≡ 2048 = a.room in omega arith) e)
+    some None e = absurd (past-none x.slots r (let room : length x.slots ≡ TABLE_ENTRIES = a.room in omega arith) e)
 
 -- where there is a row, its generation is the entry's
 generation-there : (a b : ℕ) (own : List Own) (r : ℕ) → r < length own → generation_in a own r ≡ generation_in b own r
@@ -60,27 +63,27 @@ generation-there a b [] r within = absurd (omega arith)
 generation-there a b (x ∷ xs) zero within = refl
 generation-there a b (x ∷ xs) (suc r) within = generation-there a b xs r (omega arith)
 
-word-agrees : (s : Setting) (h : History) (x : State) (r : ℕ) → Agrees s h x → r < 2048 → control_in x.own x.slots r ≡ word_at s h x.id.0 r
+word-agrees : (s : Setting) (h : History) (x : State) (r : ℕ) → Agrees s h x → r < TABLE_ENTRIES → control_in x.own x.slots r ≡ word_at s h x.id.0 r
 word-agrees s h x r a within =
     let here = slot-here s h x r a within in
     let b = a.slots r here.0 here.1 in
     ap (λ (e : Entry). control_word (control_with e (generation_in 0 x.own r) (reads_in x.slots r) (writes_in x.slots r))) (ap (λ (f : ℕ → Entry). f r) a.entries)
     ∙ ap (λ (g : ℕ). control_word (control_with (entry_at h x.id.0 r) g (reads_in x.slots r) (writes_in x.slots r)))
-    (generation-there 0 s.first_generation x.own r (let rows : length x.own ≡ 2048 = a.rows in omega arith) ∙ ap (λ (f : ℕ → ℕ). f r) a.generations)
+    (generation-there 0 s.first_generation x.own r (let rows : length x.own ≡ TABLE_ENTRIES = a.rows in omega arith) ∙ ap (λ (f : ℕ → ℕ). f r) a.generations)
     ∙ ap (λ (n : ℕ). control_word (control_with (entry_at h x.id.0 r) (generation_at s h x.id.0 r) n (writes_in x.slots r))) (ap slot_reads here.1 ∙ b.reads)
     ∙ ap (λ (n : ℕ). control_word (control_with (entry_at h x.id.0 r) (generation_at s h x.id.0 r) (reads_at h x.id.0 r) n)) (ap slot_writes here.1 ∙ b.writes)
 
-body-agrees : (s : Setting) (h : History) (x : State) (r : ℕ) (which : Bool) → Agrees s h x → r < 2048 → body_in x.slots r which ≡ body_at h x.id.0 r which
-body-agrees s h x r true a within = let here = slot-here s h x r a within in ap (λ (o : Option Slot). slot_body o true) here.1 ∙ (a.slots r here.0 here.1).second
-body-agrees s h x r false a within = let here = slot-here s h x r a within in ap (λ (o : Option Slot). slot_body o false) here.1 ∙ (a.slots r here.0 here.1).first
+body-agrees : (s : Setting) (h : History) (x : State) (r : ℕ) (which : Half) → Agrees s h x → r < TABLE_ENTRIES → body_in x.slots r which ≡ body_at h x.id.0 r which
+body-agrees s h x r SecondHalf a within = let here = slot-here s h x r a within in ap (λ (o : Option Slot). slot_body o SecondHalf) here.1 ∙ (a.slots r here.0 here.1).second
+body-agrees s h x r FirstHalf a within = let here = slot-here s h x r a within in ap (λ (o : Option Slot). slot_body o FirstHalf) here.1 ∙ (a.slots r here.0 here.1).first
 
 -- the step is on an entry that there is
 abbrev pub IsWithin : List State → DomId → Step → Type 0
 IsWithin xs d (LookHeader dom) = state_of xs dom.0 ≢ None
-IsWithin xs d (LookControl dom gref) = (state_of xs dom.0 ≢ None) × (gref.0 < 2048)
-IsWithin xs d (LookBody dom gref second) = (state_of xs dom.0 ≢ None) × (gref.0 < 2048)
-IsWithin xs d (Pin dom gref looked dir) = (state_of xs dom.0 ≢ None) × (gref.0 < 2048)
-IsWithin xs d (Exchange gref looked change) = (state_of xs d.0 ≢ None) × (gref.0 < 2048)
+IsWithin xs d (LookControl dom gref) = (state_of xs dom.0 ≢ None) × (gref.0 < TABLE_ENTRIES)
+IsWithin xs d (LookBody dom gref half) = (state_of xs dom.0 ≢ None) × (gref.0 < TABLE_ENTRIES)
+IsWithin xs d (Pin p) = (state_of xs p.dom.0 ≢ None) × (p.gref.0 < TABLE_ENTRIES)
+IsWithin xs d (Exchange gref looked change) = (state_of xs d.0 ≢ None) × (gref.0 < TABLE_ENTRIES)
 IsWithin xs d step = Unit {0}
 
 pub state-there : (s : Setting) (h : History) (xs : List State) (dom : DomId) → CoreStands s h xs → state_of xs dom.0 ≢ None → (x : State) × (state_of xs dom.0 ≡ Some x) × (x.id ≡ dom) × Agrees s h x
@@ -90,7 +93,7 @@ state-there s h xs dom st some = by (state_of xs dom.0) refl (st.each dom)
     by None e a = absurd (some e)
     by (Some x) e a = (x, e, a.1, a.2)
 
-control-agrees : (s : Setting) (h : History) (xs : List State) (dom : DomId) (r : ℕ) → CoreStands s h xs → state_of xs dom.0 ≢ None → r < 2048 → control_seen xs dom.0 r ≡ word_at s h dom.0 r
+control-agrees : (s : Setting) (h : History) (xs : List State) (dom : DomId) (r : ℕ) → CoreStands s h xs → state_of xs dom.0 ≢ None → r < TABLE_ENTRIES → control_seen xs dom.0 r ≡ word_at s h dom.0 r
 control-agrees s h xs dom r st some within =
     let x = state-there s h xs dom st some in
     control_seen-state xs dom.0 r x.0 x.1 ∙ word-agrees s h x.0 r x.3 within ∙ ap (λ (d : DomId). word_at s h d.0 r) x.2
@@ -99,15 +102,16 @@ control-agrees s h xs dom r st some within =
 pub sees-agree : (s : Setting) (h : History) (xs : List State) (d : DomId) (step : Step) → CoreStands s h xs → IsWithin xs d step → sees xs d step ≡ seen_by s h d step
 sees-agree s h xs d (LookHeader dom) st w =
     let x = state-there s h xs dom st w in
-    ap (λ (n : ℕ). Value n) (header_seen-state xs dom.0 x.0 x.1 ∙ ap header_word (x.3.header) ∙ ap (λ (t : DomId). header_word (table_at s h t)) x.2)
-sees-agree s h xs d (LookControl dom gref) st w = ap (λ (n : ℕ). Value n) (control-agrees s h xs dom gref.0 st w.0 w.1)
-sees-agree s h xs d (LookBody dom gref second) st w =
+    ap (λ (n : ℕ). Word n) (header_seen-state xs dom.0 x.0 x.1 ∙ ap header_word (x.3.header) ∙ ap (λ (t : DomId). header_word (table_at s h t)) x.2)
+sees-agree s h xs d (LookControl dom gref) st w = ap (λ (n : ℕ). Word n) (control-agrees s h xs dom gref.0 st w.0 w.1)
+sees-agree s h xs d (LookBody dom gref half) st w =
     let x = state-there s h xs dom st w.0 in
-    ap (λ (n : ℕ). Value n) (body_seen-state xs dom.0 gref.0 second x.0 x.1 ∙ body-agrees s h x.0 gref.0 second x.3 w.1 ∙ ap (λ (t : DomId). body_at h t.0 gref.0 second) x.2)
-sees-agree s h xs d (Pin dom gref looked dir) st w = ap (λ (n : ℕ). exchange_sees n looked) (control-agrees s h xs dom gref.0 st w.0 w.1)
+    ap (λ (n : ℕ). Word n) (body_seen-state xs dom.0 gref.0 half x.0 x.1 ∙ body-agrees s h x.0 gref.0 half x.3 w.1 ∙ ap (λ (t : DomId). body_at h t.0 gref.0 half) x.2)
+sees-agree s h xs d (Pin p) st w = ap (λ (n : ℕ). exchange_sees n p.word) (control-agrees s h xs p.dom p.gref.0 st w.0 w.1)
 sees-agree s h xs d (Exchange gref looked change) st w = ap (λ (n : ℕ). exchange_sees n looked) (control-agrees s h xs d gref.0 st w.0 w.1)
-sees-agree s h xs d (Unpin dom gref dir handle) st w = refl
-sees-agree s h xs d (StoreBody gref second word) st w = refl
+sees-agree s h xs d (Unpin p holder) st w = refl
+sees-agree s h xs d (StoreBody gref half word) st w = refl
 sees-agree s h xs d (StoreHeader version frames) st w = refl
 sees-agree s h xs d (ReadBytes dom frame off len) st w = refl
 sees-agree s h xs d (WriteBytes dom frame off len) st w = refl
+sees-agree s h xs d (CopyBytes from to len) st w = refl

@@ -10,13 +10,13 @@ use Rattle.gt_entry.specs.declared.entry.Entry.TheVariants.{Invalid}
 use Rattle.gt_entry.specs.declared.header.Header.{Header}
 use Rattle.gt_calls.specs.declared.known.TheConstants.{ENTRIES, FRAME_LEN}
 use Rattle.gt_calls.specs.declared.known.Own.{Own}
-use Rattle.gt_calls.specs.declared.known.Mapping.{Mapping}
+use Rattle.gt_calls.specs.declared.held.Held.{Held}
 use Rattle.gt_core.specs.declared.slot.Slot.{Slot}
 use Rattle.gt_core.specs.declared.slot.Open.{Open}
-use Rattle.gt_calls.specs.declared.asked.Asked.{Asked}
-use Rattle.gt_calls.specs.declared.asked.Asked.TheVariants.{Grant, Revoke, Demote, Promote, Map, Unmap, Load, SetVersion, SetupTable, QuerySize, GetVersion, Store, Peek, Poke}
+use Rattle.gt_calls.specs.declared.request.Asked.{Asked}
+use Rattle.gt_calls.specs.declared.request.Asked.TheVariants.{Grant, Revoke, Demote, Promote, Map, Unmap, Load, SetVersion, SetupTable, QuerySize, GetVersion, Store, Peek, Poke, Copy}
 use Rattle.gt_calls.specs.declared.action.Step.{Step}
-use Rattle.gt_calls.specs.declared.action.Step.TheVariants.{LookHeader, LookControl, LookBody, Pin as PinStep, Unpin, StoreBody, StoreHeader, Exchange, Read as ReadBytes, Write as WriteBytes}
+use Rattle.gt_calls.specs.declared.action.Step.TheVariants.{LookHeader, LookControl, LookBody, Pin as PinStep, Unpin, StoreBody, StoreHeader, Exchange, Read as ReadBytes, Write as WriteBytes, Copy as CopyBytes}
 use Rattle.gt_calls.specs.declared.action.Seen.{Seen}
 use Rattle.gt_core.specs.States.{State, first_state, IsLoading}
 use Rattle.gt_core.specs.Effects.{with_underway}
@@ -25,53 +25,25 @@ use Rattle.gt_core.specs.Standing.{Settled, IsLoadOf}
 
 -- the room of a load is as long as what it asks
 pub loaded : (r : Asked) (m n : ℕ) → IsLoading (Some r) m → IsLoadOf r n → m ≡ n
-loaded (Grant gref entry) m n a b = absurd b
-loaded (Revoke gref) m n a b = absurd b
-loaded (Demote gref) m n a b = absurd b
-loaded (Promote gref) m n a b = absurd b
-loaded (Map dom gref flags) m n a b = absurd b
-loaded (Unmap handle) m n a b = absurd b
 loaded (Load handle off len) m n a b = a ∙ b
-loaded (Store handle off len) m n a b = absurd b
 loaded (Peek frame off len) m n a b = a ∙ b
-loaded (Poke frame off len) m n a b = absurd b
-loaded (SetVersion version) m n a b = absurd b
-loaded (SetupTable frames) m n a b = absurd b
-loaded (QuerySize dom) m n a b = absurd b
-loaded (GetVersion dom) m n a b = absurd b
-
--- a last step that is no pin and no access
-pub settled-plain : (xs new : List State) (at : ℕ) (d : State) (o : Open) (step : Step)
-    → ((dom : DomId) (gref : GrantRef) (looked : ℕ) (dir : Dir) → step ≡ PinStep dom gref looked dir → ⊥)
-    → ((dom : DomId) (frame off len : ℕ) → step ≡ ReadBytes dom frame off len → ⊥)
-    → ((dom : DomId) (frame off len : ℕ) → step ≡ WriteBytes dom frame off len → ⊥)
-    → new ≡ set xs at (with_underway None d) → Settled xs at d o step AnswerDone new
-settled-plain xs new at d o (LookHeader dom) p r w e = (refl, e)
-settled-plain xs new at d o (LookControl dom gref) p r w e = (refl, e)
-settled-plain xs new at d o (LookBody dom gref second) p r w e = (refl, e)
-settled-plain xs new at d o (PinStep dom gref looked dir) p r w e = absurd (p dom gref looked dir refl)
-settled-plain xs new at d o (Unpin dom gref dir holder) p r w e = (refl, e)
-settled-plain xs new at d o (StoreBody gref second word) p r w e = (refl, e)
-settled-plain xs new at d o (StoreHeader version frames) p r w e = (refl, e)
-settled-plain xs new at d o (Exchange gref looked change) p r w e = (refl, e)
-settled-plain xs new at d o (ReadBytes dom frame off len) p r w e = absurd (r dom frame off len refl)
-settled-plain xs new at d o (WriteBytes dom frame off len) p r w e = absurd (w dom frame off len refl)
+loaded r m n a b = absurd b
 
 -- a domain at rest, by its parts
-pub at-rest : (d : DomainConfig) (first_gen n m : ℕ) (own : List Own) (slots : List Slot) (mappings : Kept Mapping) (frames : List (List ℕ)) (given : List ℕ)
-    → n ≡ ENTRIES → m ≡ d.frames → own ≡ replicate n (record { entry = Invalid; generation = min first_gen 1048575 })
+pub at-rest : (d : DomainConfig) (first_gen n m : ℕ) (own : List Own) (slots : List Slot) (mappings : Kept Held) (frames : List (List ℕ)) (given : List ℕ)
+    → n ≡ ENTRIES → m ≡ d.frames → own ≡ replicate n (record { entry = Invalid; generation = min first_gen LAST_GENERATION })
     → slots ≡ replicate n (record { reads = 0; writes = 0; first = 0; second = 0 }) → mappings ≡ record { slots = []; given = 0; room = 0 } → frames ≡ replicate m (replicate FRAME_LEN 0) → given ≡ []
     → ◌≡◌ {A = State} (record { id = d.id; header = record { version = d.version % 4; frames = d.table_frames % 256 }; own = own; slots = slots; mappings = mappings; frames = frames; underway = None; given = given }) (first_state first_gen d)
 at-rest d first_gen n m own slots mappings frames given en em eo es ep ef eg =
     let h : Header = record { version = d.version % 4; frames = d.table_frames % 256 } in
-    let o : own ≡ replicate ENTRIES (record { entry = Invalid; generation = min first_gen 1048575 }) = eo ∙ ap (λ (k : ℕ). replicate k (record { entry = Invalid; generation = min first_gen 1048575 })) en in
+    let o : own ≡ replicate ENTRIES (record { entry = Invalid; generation = min first_gen LAST_GENERATION }) = eo ∙ ap (λ (k : ℕ). replicate k (record { entry = Invalid; generation = min first_gen LAST_GENERATION })) en in
     let s : slots ≡ replicate ENTRIES (record { reads = 0; writes = 0; first = 0; second = 0 }) = es ∙ ap (λ (k : ℕ). replicate k (record { reads = 0; writes = 0; first = 0; second = 0 })) en in
     let f : frames ≡ replicate d.frames (replicate FRAME_LEN 0) = ef ∙ ap (λ (k : ℕ). replicate k (replicate FRAME_LEN 0)) em in
     ap (λ (l : List ℕ). record { id = d.id; header = h; own = own; slots = slots; mappings = mappings; frames = frames; underway = None; given = l }) eg
     ∙ ap (λ (l : List Own). record { id = d.id; header = h; own = l; slots = slots; mappings = mappings; frames = frames; underway = None; given = [] }) o
-    ∙ ap (λ (l : List Slot). record { id = d.id; header = h; own = replicate ENTRIES (record { entry = Invalid; generation = min first_gen 1048575 }); slots = l; mappings = mappings; frames = frames; underway = None; given = [] }) s
-    ∙ ap (λ (l : Kept Mapping). record { id = d.id; header = h; own = replicate ENTRIES (record { entry = Invalid; generation = min first_gen 1048575 }); slots = replicate ENTRIES (record { reads = 0; writes = 0; first = 0; second = 0 }); mappings = l; frames = frames; underway = None; given = [] }) ep
-    ∙ ap (λ (l : List (List ℕ)). record { id = d.id; header = h; own = replicate ENTRIES (record { entry = Invalid; generation = min first_gen 1048575 }); slots = replicate ENTRIES (record { reads = 0; writes = 0; first = 0; second = 0 }); mappings = record { slots = []; given = 0; room = 0 }; frames = l; underway = None; given = [] }) f
+    ∙ ap (λ (l : List Slot). record { id = d.id; header = h; own = replicate ENTRIES (record { entry = Invalid; generation = min first_gen LAST_GENERATION }); slots = l; mappings = mappings; frames = frames; underway = None; given = [] }) s
+    ∙ ap (λ (l : Kept Held). record { id = d.id; header = h; own = replicate ENTRIES (record { entry = Invalid; generation = min first_gen LAST_GENERATION }); slots = replicate ENTRIES (record { reads = 0; writes = 0; first = 0; second = 0 }); mappings = l; frames = frames; underway = None; given = [] }) ep
+    ∙ ap (λ (l : List (List ℕ)). record { id = d.id; header = h; own = replicate ENTRIES (record { entry = Invalid; generation = min first_gen LAST_GENERATION }); slots = replicate ENTRIES (record { reads = 0; writes = 0; first = 0; second = 0 }); mappings = record { slots = []; given = 0; room = 0 }; frames = l; underway = None; given = [] }) f
 
 -- one domain more at rest
 pub rest-more : (first_gen : ℕ) (items : List DomainConfig) (i : ℕ) (d : DomainConfig) (old new : List State) (x : State) → i < length items

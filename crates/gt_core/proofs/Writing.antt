@@ -1,41 +1,34 @@
--- A store or a poke is over: its bytes are in the frame.
-use Rattle.std.proofs.Common.{◌≡◌, ◌≢◌, ◌≤◌, ◌<◌, ◌+◌, ◌-◌, ◌++◌, ℕ, refl, Bool, true, false, List, [], ◌∷◌, length, take, drop, Option, Some, None, cond, sym, ap, ◌∙◌, arith, subst}
-use Rattle.std.proofs.lemmas.Bool.{eqb-true, le-leb}
+-- Bytes that are written to a frame keep what a core stands for.
+use Rattle.std.proofs.Common.{◌≡◌, ◌≤◌, ◌<◌, ◌+◌, ◌-◌, ℕ, refl, Bool, true, false, List, [], ◌∷◌, ◌++◌, length, Option, Some, None, cond, sym, ap, ◌∙◌, arith, subst}
+use Rattle.std.proofs.lemmas.Bool.{le-leb}
 use Rattle.std.proofs.lemmas.List.{length-append, length-drop, length-take-le}
-use Rattle.std.specs.Prelude.{◌==◌, ◌&&◌, nat_le, slice_get}
+use Rattle.std.specs.Prelude.{◌==◌, ◌&&◌, take, drop, slice_get, All}
 use Rattle.std.specs.Option.{option_map}
-use Rattle.gt_types.specs.Names.{domain_of}
 use Rattle.gt_types.specs.declared.DomId.{DomId}
+use Rattle.gt_types.specs.declared.limits.TheConstants.{FRAME_SIZE}
 use Rattle.gt_frames.specs.Bytes.{overlay}
-use Rattle.gt_calls.specs.declared.action.Step.TheVariants.{Write as WriteBytes}
-use Rattle.gt_calls.specs.declared.action.Seen.TheVariants.{Nothing}
-use Rattle.gt_core.specs.declared.trace.Item.{Item}
-use Rattle.gt_core.specs.declared.trace.Happened.TheVariants.{Stepped}
-use Rattle.gt_core.specs.declared.trace.Answer.TheVariants.{Done as AnswerDone}
 use Rattle.gt_calls.specs.Rules.{frames_of}
+use Rattle.gt_calls.specs.declared.action.Place.{Place}
+use Rattle.gt_core.specs.declared.slot.Open.{Open}
+use Rattle.gt_core.specs.declared.trace.Item.{Item}
 use Rattle.gt_core.specs.Rows.{changed_at}
-use Rattle.gt_core.specs.States.{State, changed_in}
-use Rattle.gt_core.specs.Effects.{without_given, with_bytes, written_over}
-use Rattle.gt_core.specs.History.{History, Setting, Underway, open_call, given_in, contents_at, contents_after}
-use Rattle.gt_core.specs.Standing.{CallAgrees, Agrees, StateAgrees, CoreStands, state_of}
-use Rattle.gt_core.proofs.Quiet.{IsQuiet}
+use Rattle.gt_core.specs.States.{State, state_of, changed_in}
+use Rattle.gt_core.specs.Effects.{with_bytes, written_over}
+use Rattle.gt_core.specs.History.{History, Setting, contents_at, contents_after, written_by, Writing, given_in, open_call}
+use Rattle.gt_core.specs.Standing.{Agrees, CoreStands, CallAgrees, GivenAgrees}
 use Rattle.gt_core.proofs.Rows.{get-changed}
-use Rattle.gt_core.proofs.Beginning.{FramesAgree, quiet-agrees, bystander-agrees, quiet-rest, given-none, open_call-own}
-use Rattle.gt_core.proofs.Unpinning.{after_change, state-twice}
+use Rattle.gt_core.proofs.Quiet.{KeepsKnown}
+use Rattle.gt_core.proofs.Keeping.{FramesAgree, KeepsEntries, actor-agrees, other-agrees, slots-stay, mappings-stay, becomes-changed, each-stands, pins-stand}
 
--- the item of a write
-abbrev pub wrote : DomId → DomId → ℕ → ℕ → ℕ → Item
-wrote d t frame off len = record { actor = d; happened = Stepped (WriteBytes t frame off len) Nothing; answer = Some AnswerDone }
-
-wrote-quiet : (d t : DomId) (frame off len : ℕ) → IsQuiet (wrote d t frame off len)
-wrote-quiet d t frame off len =
-    record { keeps = record { changes = λ r. refl; pins = λ before. refl; unpins = λ pins. refl; maps = refl }; stores = λ r which. refl; header = refl }
+-- the item writes these bytes there
+abbrev pub Writes : History → Item → Place → List ℕ → Type 0
+Writes h i at bytes = written_by i.happened (given_in (open_call h i.actor.0)) (λ u g. contents_at h u g) ≡ Some (record { at = at; bytes = bytes })
 
 -- what a write leaves in a frame
-wrote-contents : (h : History) (d t : DomId) (frame off len : ℕ) (c : Underway) (q f : ℕ) → open_call h d.0 ≡ Some c
-    → contents_at (wrote d t frame off len ∷ h) q f ≡ cond ((t.0 == q) && (frame == f)) (overlay (contents_at h q f) off c.given) (contents_at h q f)
+wrote-contents : (h : History) (i : Item) (at : Place) (bytes : List ℕ) (q f : ℕ) → Writes h i at bytes
+    → contents_at (i ∷ h) q f ≡ cond ((at.owner.0 == q) && (at.frame == f)) (overlay (contents_at h q f) at.off bytes) (contents_at h q f)
 unfolding contents_at
-wrote-contents h d t frame off len c q f call = ap (λ (u : Option Underway). contents_after (Stepped (WriteBytes t frame off len) Nothing) (given_in u) q f (contents_at h q f)) call
+wrote-contents h i at bytes q f w = ap (λ (z : Option Writing). contents_after z q f (contents_at h q f)) w
 
 -- bytes that are laid over a frame inside it leave it as long as it was
 length-overlay : (xs : List ℕ) (off : ℕ) (ys : List ℕ) → off + length ys ≤ length xs → length (overlay xs off ys) ≡ length xs
@@ -48,13 +41,13 @@ length-overlay xs off ys within =
     let whole : length ((take off xs ++ ys) ++ back) ≡ length xs = omega arith in
     whole
 
-wrote-filled : (s : Setting) (h : History) (xs : List State) (d t : DomId) (frame off len : ℕ) (c : Underway) (q f : ℕ) → CoreStands s h xs → open_call h d.0 ≡ Some c → off + length c.given ≤ 4096
-    → length (contents_at (wrote d t frame off len ∷ h) q f) ≡ 4096
-wrote-filled s h xs d t frame off len c q f st call within =
-    ap (λ (l : List ℕ). length l) (wrote-contents h d t frame off len c q f call) ∙ by ((t.0 == q) && (frame == f))
+wrote-filled : (s : Setting) (h : History) (xs : List State) (i : Item) (at : Place) (bytes : List ℕ) (q f : ℕ) → CoreStands s h xs → Writes h i at bytes → at.off + length bytes ≤ FRAME_SIZE
+    → length (contents_at (i ∷ h) q f) ≡ FRAME_SIZE
+wrote-filled s h xs i at bytes q f st w within =
+    ap (λ (l : List ℕ). length l) (wrote-contents h i at bytes q f w) ∙ by ((at.owner.0 == q) && (at.frame == f))
   where
-    by : (b : Bool) → length (cond b (overlay (contents_at h q f) off c.given) (contents_at h q f)) ≡ 4096
-    by true = length-overlay (contents_at h q f) off c.given (subst (λ (n : ℕ). off + length c.given ≤ n) (sym (st.filled q f)) within) ∙ st.filled q f
+    by : (b : Bool) → length (cond b (overlay (contents_at h q f) at.off bytes) (contents_at h q f)) ≡ FRAME_SIZE
+    by true = length-overlay (contents_at h q f) at.off bytes (subst (λ (n : ℕ). at.off + length bytes ≤ n) (sym (st.filled q f)) within) ∙ st.filled q f
     by false = st.filled q f
 
 -- where there is room, the bytes are written
@@ -62,58 +55,50 @@ written-there : (off : ℕ) (given old : List ℕ) → off + length given ≤ le
 written-there off given old within = ap (λ (b : Bool). cond b (overlay old off given) old) (le-leb (off + length given) (length old) within)
 
 -- the frames of a domain after the write
-wrote-frames : (s : Setting) (h : History) (xs : List State) (d t : DomId) (frame off len : ℕ) (c : Underway) (y : State) (b : Bool) → CoreStands s h xs → open_call h d.0 ≡ Some c
-    → off + length c.given ≤ 4096 → (t.0 == y.id.0) ≡ b → FramesAgree s h y.id y.frames
-    → FramesAgree s (wrote d t frame off len ∷ h) y.id (cond b (changed_at frame (written_over off c.given) y.frames) y.frames)
-wrote-frames s h xs d t frame off len c y false st call within is a = λ f below.
+wrote-frames : (s : Setting) (h : History) (xs : List State) (i : Item) (at : Place) (bytes : List ℕ) (y : State) (b : Bool) → CoreStands s h xs → Writes h i at bytes
+    → at.off + length bytes ≤ FRAME_SIZE → (at.owner.0 == y.id.0) ≡ b → FramesAgree s h y.id y.frames
+    → FramesAgree s (i ∷ h) y.id (cond b (changed_at at.frame (written_over at.off bytes) y.frames) y.frames)
+wrote-frames s h xs i at bytes y false st w within is a = λ f below.
     a f below ∙ ap (λ (l : List ℕ). Some l)
-    (sym (wrote-contents h d t frame off len c y.id.0 f call ∙ ap (λ (z : Bool). cond (z && (frame == f)) (overlay (contents_at h y.id.0 f) off c.given) (contents_at h y.id.0 f)) is))
-wrote-frames s h xs d t frame off len c y true st call within is a = λ f below.
-    get-changed y.frames frame f (written_over off c.given)
-    ∙ by f (frame == f) below
+    (sym (wrote-contents h i at bytes y.id.0 f w ∙ ap (λ (z : Bool). cond (z && (at.frame == f)) (overlay (contents_at h y.id.0 f) at.off bytes) (contents_at h y.id.0 f)) is))
+wrote-frames s h xs i at bytes y true st w within is a = λ f below.
+    get-changed y.frames at.frame f (written_over at.off bytes)
+    ∙ by f (at.frame == f) below
     ∙ ap (λ (l : List ℕ). Some l)
-    (sym (wrote-contents h d t frame off len c y.id.0 f call ∙ ap (λ (z : Bool). cond (z && (frame == f)) (overlay (contents_at h y.id.0 f) off c.given) (contents_at h y.id.0 f)) is))
+    (sym (wrote-contents h i at bytes y.id.0 f w ∙ ap (λ (z : Bool). cond (z && (at.frame == f)) (overlay (contents_at h y.id.0 f) at.off bytes) (contents_at h y.id.0 f)) is))
   where
     by : (f : ℕ) (e : Bool) → f < frames_of s.domains y.id
-        → cond e (option_map (written_over off c.given) (slice_get y.frames f)) (slice_get y.frames f) ≡ Some (cond e (overlay (contents_at h y.id.0 f) off c.given) (contents_at h y.id.0 f))
+        → cond e (option_map (written_over at.off bytes) (slice_get y.frames f)) (slice_get y.frames f) ≡ Some (cond e (overlay (contents_at h y.id.0 f) at.off bytes) (contents_at h y.id.0 f))
     by f true below =
-        ap (option_map (written_over off c.given)) (a f below)
-        ∙ ap (λ (l : List ℕ). Some l) (written-there off c.given (contents_at h y.id.0 f) (subst (λ (n : ℕ). off + length c.given ≤ n) (sym (st.filled y.id.0 f)) within))
+        ap (option_map (written_over at.off bytes)) (a f below)
+        ∙ ap (λ (l : List ℕ). Some l) (written-there at.off bytes (contents_at h y.id.0 f) (subst (λ (n : ℕ). at.off + length bytes ≤ n) (sym (st.filled y.id.0 f)) within))
     by f false below = a f below
 
-wrote-actor : (s : Setting) (h : History) (d t : DomId) (frame off len : ℕ) (y : State) (frames : List (List ℕ)) → d.0 ≡ y.id.0 → FramesAgree s (wrote d t frame off len ∷ h) y.id frames → Agrees s h y
-    → Agrees s (wrote d t frame off len ∷ h) (record y { underway = None; given = []; frames = frames })
-wrote-actor s h d t frame off len y frames own there a =
-    let i = wrote d t frame off len in
-    let now : open_call (i ∷ h) y.id.0 ≡ None = ap (λ (n : ℕ). open_call (i ∷ h) n) (sym own) ∙ open_call-own i h in
-    quiet-agrees s i h y None [] frames (wrote-quiet d t frame off len) a (subst (λ (u : Option Underway). CallAgrees s (i ∷ h) y.id None u) (sym now) tt) (given-none (i ∷ h) y.id.0 [] now) there
+-- a write inside a frame keeps what the core stands for
+pub write-stands : (s : Setting) (h : History) (xs ys : List State) (x : State) (i : Item) (at : Place) (bytes given : List ℕ) (o : Option Open) → KeepsEntries i → KeepsKnown i → i.actor ≡ x.id → CoreStands s h xs → state_of xs x.id.0 ≡ Some x → Agrees s h x
+    → ((q : ℕ) → state_of ys q ≡ cond (x.id.0 == q) (Some (record x { underway = o; given = given })) (state_of xs q)) → Writes h i at bytes → at.off + length bytes ≤ FRAME_SIZE
+    → CallAgrees s (i ∷ h) x.id o (open_call (i ∷ h) x.id.0) → GivenAgrees (i ∷ h) x.id.0 given → CoreStands s (i ∷ h) (changed_in at.owner.0 (with_bytes at.frame at.off bytes) ys)
+write-stands s h xs ys x i at bytes given o e k own st here a becomes w within call agree =
+    pins-stand s i h xs _ e k st
+    (each-stands s i h xs _ x new at.owner.0 (with_bytes at.frame at.off bytes) st here (becomes-changed xs ys x new at.owner.0 (with_bytes at.frame at.off bytes) (λ y. refl) becomes) refl (λ y. refl)
+    (mine (at.owner.0 == x.id.0) refl) (λ y apart b. other y apart b (at.owner.0 == y.id.0) refl))
+    (λ q f. wrote-filled s h xs i at bytes q f st w within)
+  where
+    new : State
+    new = record x { underway = o; given = given }
 
-wrote-state : (s : Setting) (h : History) (xs : List State) (d t : DomId) (frame off len : ℕ) (c : Underway) (q : DomId) (b e : Bool) (o : Option State) → CoreStands s h xs → open_call h d.0 ≡ Some c
-    → off + length c.given ≤ 4096 → (d.0 == q.0) ≡ b → (t.0 == q.0) ≡ e → StateAgrees s h q o
-    → StateAgrees s (wrote d t frame off len ∷ h) q (after_change e (with_bytes frame off c.given) (after_change b without_given o))
-wrote-state s h xs d t frame off len c q true true None st call within own is a = a
-wrote-state s h xs d t frame off len c q true false None st call within own is a = a
-wrote-state s h xs d t frame off len c q false true None st call within own is a = a
-wrote-state s h xs d t frame off len c q false false None st call within own is a = a
-wrote-state s h xs d t frame off len c q true true (Some y) st call within own is a =
-    let frames = wrote-frames s h xs d t frame off len c y true st call within (ap (λ (z : DomId). t.0 == z.0) a.1 ∙ is) a.2.frames in
-    (a.0, a.1, wrote-actor s h d t frame off len y (changed_at frame (written_over off c.given) y.frames) (eqb-true d.0 q.0 own ∙ ap (λ (z : DomId). z.0) (sym a.1)) frames a.2)
-wrote-state s h xs d t frame off len c q true false (Some y) st call within own is a =
-    let frames = wrote-frames s h xs d t frame off len c y false st call within (ap (λ (z : DomId). t.0 == z.0) a.1 ∙ is) a.2.frames in
-    (a.0, a.1, wrote-actor s h d t frame off len y y.frames (eqb-true d.0 q.0 own ∙ ap (λ (z : DomId). z.0) (sym a.1)) frames a.2)
-wrote-state s h xs d t frame off len c q false true (Some y) st call within own is a =
-    let frames = wrote-frames s h xs d t frame off len c y true st call within (ap (λ (z : DomId). t.0 == z.0) a.1 ∙ is) a.2.frames in
-    (a.0, a.1, bystander-agrees s (wrote d t frame off len) h y (changed_at frame (written_over off c.given) y.frames) (wrote-quiet d t frame off len) (ap (λ (z : DomId). d.0 == z.0) a.1 ∙ own) frames a.2)
-wrote-state s h xs d t frame off len c q false false (Some y) st call within own is a =
-    let frames = wrote-frames s h xs d t frame off len c y false st call within (ap (λ (z : DomId). t.0 == z.0) a.1 ∙ is) a.2.frames in
-    (a.0, a.1, bystander-agrees s (wrote d t frame off len) h y y.frames (wrote-quiet d t frame off len) (ap (λ (z : DomId). d.0 == z.0) a.1 ∙ own) frames a.2)
+    picked : (y : State) (b : Bool) → record y { frames = cond b (changed_at at.frame (written_over at.off bytes) y.frames) y.frames } ≡ cond b (with_bytes at.frame at.off bytes y) y
+    picked y true = refl
+    picked y false = refl
 
--- the core stands for the write: the call is over, and the bytes given to it are in the frame
-pub write-stands : (s : Setting) (h : History) (xs : List State) (d t : DomId) (frame off len : ℕ) (c : Underway) → CoreStands s h xs → open_call h d.0 ≡ Some c → off + length c.given ≤ 4096
-    → CoreStands s (record { actor = d; happened = Stepped (WriteBytes t frame off len) Nothing; answer = Some AnswerDone } ∷ h) (changed_in t.0 (with_bytes frame off c.given) (changed_in d.0 without_given xs))
-write-stands s h xs d t frame off len c st call within =
-    quiet-rest s (wrote d t frame off len) h xs (changed_in t.0 (with_bytes frame off c.given) (changed_in d.0 without_given xs)) (wrote-quiet d t frame off len) st
-    (λ q. subst (λ (o : Option State). StateAgrees s (wrote d t frame off len ∷ h) q o)
-    (sym (state-twice xs d.0 t.0 q.0 without_given (with_bytes frame off c.given) (λ y. refl) (λ y. refl)))
-    (wrote-state s h xs d t frame off len c q (d.0 == q.0) (t.0 == q.0) (state_of xs q.0) st call within refl refl (st.each q)))
-    (λ q f. wrote-filled s h xs d t frame off len c q f st call within)
+    mine : (b : Bool) → (at.owner.0 == x.id.0) ≡ b → Agrees s (i ∷ h) (cond b (with_bytes at.frame at.off bytes new) new)
+    mine b is =
+        subst (Agrees s (i ∷ h)) (picked new b)
+        (actor-agrees s i h x x.slots x.mappings (cond b (changed_at at.frame (written_over at.off bytes) x.frames) x.frames) o given e a a.room (slots-stay i h x.id.0 x.slots e k a.slots) (mappings-stay i h x.id.0 x.mappings k a.mappings)
+        (wrote-frames s h xs i at bytes x b st w within is a.frames) call agree)
+
+    other : (y : State) → (x.id.0 == y.id.0) ≡ false → Agrees s h y → (b : Bool) → (at.owner.0 == y.id.0) ≡ b → Agrees s (i ∷ h) (cond b (with_bytes at.frame at.off bytes y) y)
+    other y apart c b is =
+        subst (Agrees s (i ∷ h)) (picked y b)
+        (other-agrees s i h y y.slots (cond b (changed_at at.frame (written_over at.off bytes) y.frames) y.frames) (ap (λ (z : DomId). z.0 == y.id.0) own ∙ apart) c c.room (slots-stay i h y.id.0 y.slots e k c.slots)
+        (wrote-frames s h xs i at bytes y b st w within is c.frames))

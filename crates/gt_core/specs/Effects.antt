@@ -2,18 +2,20 @@
 use Rattle.std.specs.Prelude.{ℕ, true, false, List, [], Option, Some, None, if◌then◌else◌, nat_le, ◌+◌, ◌-◌, ◌%◌, length, min, take, drop, slice_get, is_some, ◌≡◌, slice_set}
 use Rattle.gt_frames.specs.Bytes.{overlay}
 use Rattle.gt_types.specs.declared.DomId.{DomId}
+use Rattle.gt_types.specs.declared.limits.TheConstants.{MAX_PINS}
 use Rattle.gt_types.specs.declared.Dir.TheVariants.{Read, Write}
 use Rattle.gt_handles.specs.declared.handles.Handle.{Handle}
 use Rattle.gt_calls.specs.declared.request.Holder.{Holder}
 use Rattle.gt_calls.specs.declared.request.Holder.TheVariants.{Mapping as ByMapping, Leg as ByLeg}
-use Rattle.gt_calls.specs.declared.action.Change.{Change}
+use Rattle.gt_entry.specs.declared.change.Change.{Change}
 use Rattle.gt_calls.specs.declared.action.Step.{Step}
-use Rattle.gt_calls.specs.declared.action.Step.TheVariants.{Pin, Unpin, StoreBody, StoreHeader, Exchange}
+use Rattle.gt_calls.specs.declared.action.Step.TheVariants.{Pin, Unpin, StoreBody, StoreHeader, Exchange, Copy as CopyBytes}
 use Rattle.gt_calls.specs.declared.action.Seen.{Seen}
 use Rattle.gt_calls.specs.declared.action.Seen.TheVariants.{Taken}
-use Rattle.gt_calls.specs.declared.known.Mapping.{Mapping}
+use Rattle.gt_calls.specs.declared.held.Held.{Held}
 use Rattle.gt_core.specs.declared.slot.Slot.{Slot}
 use Rattle.gt_core.specs.declared.slot.SlotChange.{SlotChange}
+use Rattle.gt_entry.specs.declared.change.Half.TheVariants.{First as FirstHalf, Second as SecondHalf}
 use Rattle.gt_core.specs.declared.slot.SlotChange.TheVariants.{Pinned, Unpinned, Stored}
 use Rattle.gt_core.specs.declared.slot.Open.{Open}
 use Rattle.gt_core.specs.Rows.{changed_at}
@@ -23,12 +25,12 @@ use Rattle.gt_handles.specs.Handles.{Kept, value_of, count_of, Updates}
 
 -- one pin more or less of a kind, or another body word (own)
 abbrev pub slot_after : SlotChange → Slot → Slot
-slot_after (Pinned Read) slot = record slot { reads = min (slot.reads + 1) 4095 }
-slot_after (Pinned Write) slot = record slot { writes = min (slot.writes + 1) 4095 }
+slot_after (Pinned Read) slot = record slot { reads = min (slot.reads + 1) MAX_PINS }
+slot_after (Pinned Write) slot = record slot { writes = min (slot.writes + 1) MAX_PINS }
 slot_after (Unpinned Read) slot = record slot { reads = slot.reads - 1 }
 slot_after (Unpinned Write) slot = record slot { writes = slot.writes - 1 }
-slot_after (Stored true word) slot = record slot { second = word }
-slot_after (Stored false word) slot = record slot { first = word }
+slot_after (Stored SecondHalf word) slot = record slot { second = word }
+slot_after (Stored FirstHalf word) slot = record slot { first = word }
 
 -- the state after a change of the pins or a body word of entry r (own)
 abbrev pub with_slot : ℕ → SlotChange → State → State
@@ -63,7 +65,7 @@ abbrev pub with_bytes : ℕ → ℕ → List ℕ → State → State
 with_bytes frame off given x = record x { frames = changed_at frame (written_over off given) x.frames }
 
 -- these handles are the old ones and a new one, under the next serial, which names this mapping (own)
-pub record Adds (old new : Kept Mapping) (handle : Handle) (m : Mapping) : Type 0 where
+pub record Adds (old new : Kept Held) (handle : Handle) (m : Held) : Type 0 where
   pub serial : handle.serial ≡ old.given
   pub fresh : value_of old handle ≡ None
   pub given : new.given ≡ old.given + 1
@@ -71,26 +73,17 @@ pub record Adds (old new : Kept Mapping) (handle : Handle) (m : Mapping) : Type 
   pub count : count_of new ≡ count_of old + 1
 
 -- the state with these mappings, after the call that made one is answered (own)
-abbrev pub with_mapping : Kept Mapping → State → State
+abbrev pub with_mapping : Kept Held → State → State
 with_mapping mappings x = record x { mappings = mappings; underway = None }
 
 -- the mapping under this handle goes, if there is one (own)
-abbrev pub taken : Handle → Kept Mapping → Kept Mapping
+abbrev pub taken : Handle → Kept Held → Kept Held
 taken handle mappings = if is_some (value_of mappings handle) then record mappings { slots = slice_set mappings.slots handle.key None } else mappings
 
 -- the state after its holder gave up a pin: a mapping goes, a call has none to lose (own)
 abbrev pub without_mapping : Holder → State → State
 without_mapping (ByMapping handle) x = record x { mappings = taken handle x.mappings }
 without_mapping (ByLeg number) x = x
-
--- the states after a step of domain d that saw this (own)
-abbrev pub applied : DomId → Step → Seen → List State → List State
-applied d (Pin t gref looked dir) Taken xs = changed_in t.0 (with_slot gref.0 (Pinned dir)) xs
-applied d (Unpin t gref dir holder) seen xs = changed_in d.0 (without_mapping holder) (changed_in t.0 (with_slot gref.0 (Unpinned dir)) xs)
-applied d (StoreBody gref second word) seen xs = changed_in d.0 (with_slot gref.0 (Stored second word)) xs
-applied d (StoreHeader version frames) seen xs = changed_in d.0 (with_header version frames) xs
-applied d (Exchange gref looked change) Taken xs = changed_in d.0 (with_own gref.0 change) xs
-applied d step seen xs = xs
 
 -- the bytes of a frame, none where there is no such frame (own)
 abbrev pub or_none : Option (List ℕ) → List ℕ
@@ -105,3 +98,23 @@ frame_in (Some x) f = or_none (slice_get x.frames f)
 -- the bytes of a range in frame f of domain t (own)
 abbrev pub bytes_in : List State → ℕ → ℕ → ℕ → ℕ → List ℕ
 bytes_in xs t f off len = take len (drop off (frame_in (state_of xs t) f))
+
+-- the bytes that a copy writes: those of its source range (own)
+abbrev pub copied_by : List State → Step → List ℕ
+copied_by xs (CopyBytes from to len) = bytes_in xs from.owner.0 from.frame from.off len
+copied_by xs step = []
+
+-- the states after a step of domain d that saw this; a copy writes these bytes (own)
+abbrev pub applied : DomId → Step → Seen → List ℕ → List State → List State
+applied d (Pin p) Taken bytes xs = changed_in p.dom.0 (with_slot p.gref.0 (Pinned p.dir)) xs
+applied d (Unpin p holder) seen bytes xs = changed_in d.0 (without_mapping holder) (changed_in p.dom.0 (with_slot p.gref.0 (Unpinned p.dir)) xs)
+applied d (StoreBody gref half word) seen bytes xs = changed_in d.0 (with_slot gref.0 (Stored half word)) xs
+applied d (StoreHeader version frames) seen bytes xs = changed_in d.0 (with_header version frames) xs
+applied d (Exchange gref looked change) Taken bytes xs = changed_in d.0 (with_own gref.0 change) xs
+applied d (CopyBytes from to len) seen bytes xs = changed_in to.owner.0 (with_bytes to.frame to.off bytes) xs
+applied d step seen bytes xs = xs
+
+-- the step is a copy's access (own)
+abbrev pub IsCopy : Step → Type 0
+IsCopy (CopyBytes from to len) = Unit {0}
+IsCopy step = ⊥

@@ -1,11 +1,13 @@
 -- What steps see in the states of the domains: the code's own representation, which stands here since private contracts cite it.
 use Rattle.std.specs.Prelude.{ℕ, Bool, true, false, ◌==◌, if◌then◌else◌, List, [], ◌∷◌, Option, Some, None, slice_get}
 use Rattle.gt_types.specs.declared.DomId.{DomId}
+use Rattle.gt_entry.specs.declared.change.Half.{Half}
+use Rattle.gt_entry.specs.declared.change.Half.TheVariants.{First as FirstHalf, Second as SecondHalf}
 use Rattle.gt_entry.specs.Words.{control_word, header_word}
 use Rattle.gt_calls.specs.declared.action.Step.{Step}
-use Rattle.gt_calls.specs.declared.action.Step.TheVariants.{LookHeader, LookControl, LookBody, Pin, Unpin, StoreBody, StoreHeader, Exchange, Read as ReadBytes, Write as WriteBytes}
+use Rattle.gt_calls.specs.declared.action.Step.TheVariants.{LookHeader, LookControl, LookBody, Pin, Unpin, StoreBody, StoreHeader, Exchange, Read as ReadBytes, Write as WriteBytes, Copy as CopyBytes}
 use Rattle.gt_calls.specs.declared.action.Seen.{Seen}
-use Rattle.gt_calls.specs.declared.action.Seen.TheVariants.{Nothing, Value, Taken}
+use Rattle.gt_calls.specs.declared.action.Seen.TheVariants.{Nothing, Word, Taken}
 use Rattle.gt_calls.specs.declared.known.Own.{Own}
 use Rattle.gt_core.specs.declared.slot.Slot.{Slot}
 use Rattle.gt_core.specs.States.{State}
@@ -23,10 +25,10 @@ slot_writes None = 0
 slot_writes (Some slot) = slot.writes
 
 -- a body word in a slot, 0 where there is none (own)
-abbrev pub slot_body : Option Slot → Bool → ℕ
+abbrev pub slot_body : Option Slot → Half → ℕ
 slot_body None which = 0
-slot_body (Some slot) true = slot.second
-slot_body (Some slot) false = slot.first
+slot_body (Some slot) SecondHalf = slot.second
+slot_body (Some slot) FirstHalf = slot.first
 
 -- the read pins in slot r (own)
 abbrev pub reads_in : List Slot → ℕ → ℕ
@@ -37,7 +39,7 @@ abbrev pub writes_in : List Slot → ℕ → ℕ
 writes_in slots r = slot_writes (slice_get slots r)
 
 -- a body word in slot r (own)
-abbrev pub body_in : List Slot → ℕ → Bool → ℕ
+abbrev pub body_in : List Slot → ℕ → Half → ℕ
 body_in slots r which = slot_body (slice_get slots r) which
 
 -- the control word made of an owner's row and a slot (own)
@@ -55,7 +57,7 @@ control_seen [] d r = 0
 control_seen (x ∷ xs) d r = if x.id.0 == d then control_in x.own x.slots r else control_seen xs d r
 
 -- a body word of entry r of domain d, 0 where there is no such state (own)
-abbrev pub body_seen : List State → ℕ → ℕ → Bool → ℕ
+abbrev pub body_seen : List State → ℕ → ℕ → Half → ℕ
 body_seen [] d r which = 0
 body_seen (x ∷ xs) d r which = if x.id.0 == d then body_in x.slots r which else body_seen xs d r which
 
@@ -63,9 +65,9 @@ body_seen (x ∷ xs) d r which = if x.id.0 == d then body_in x.slots r which els
 abbrev pub changes_nothing : Step → Seen → Bool
 changes_nothing (LookHeader dom) seen = true
 changes_nothing (LookControl dom gref) seen = true
-changes_nothing (LookBody dom gref second) seen = true
-changes_nothing (Pin dom gref looked dir) Taken = false
-changes_nothing (Pin dom gref looked dir) seen = true
+changes_nothing (LookBody dom gref half) seen = true
+changes_nothing (Pin p) Taken = false
+changes_nothing (Pin p) seen = true
 changes_nothing (Exchange gref looked change) Taken = false
 changes_nothing (Exchange gref looked change) seen = true
 changes_nothing (ReadBytes dom frame off len) seen = true
@@ -73,13 +75,14 @@ changes_nothing step seen = false
 
 -- what a step of the domain sees (own)
 abbrev pub sees : List State → DomId → Step → Seen
-sees xs d (LookHeader dom) = Value (header_seen xs dom.0)
-sees xs d (LookControl dom gref) = Value (control_seen xs dom.0 gref.0)
-sees xs d (LookBody dom gref second) = Value (body_seen xs dom.0 gref.0 second)
-sees xs d (Pin dom gref looked dir) = exchange_sees (control_seen xs dom.0 gref.0) looked
+sees xs d (LookHeader dom) = Word (header_seen xs dom.0)
+sees xs d (LookControl dom gref) = Word (control_seen xs dom.0 gref.0)
+sees xs d (LookBody dom gref half) = Word (body_seen xs dom.0 gref.0 half)
+sees xs d (Pin p) = exchange_sees (control_seen xs p.dom.0 p.gref.0) p.word
 sees xs d (Exchange gref looked change) = exchange_sees (control_seen xs d.0 gref.0) looked
-sees xs d (Unpin dom gref dir holder) = Nothing
-sees xs d (StoreBody gref second word) = Nothing
+sees xs d (Unpin p holder) = Nothing
+sees xs d (StoreBody gref half word) = Nothing
 sees xs d (StoreHeader version frames) = Nothing
 sees xs d (ReadBytes dom frame off len) = Nothing
 sees xs d (WriteBytes dom frame off len) = Nothing
+sees xs d (CopyBytes from to len) = Nothing

@@ -1,36 +1,42 @@
 -- When a core stands for a history. The upper half, up to `Settles`, tells the code's own representation and stands here since private contracts cite it.
-use Rattle.std.specs.Prelude.{◌≡◌, ◌≢◌, ◌<◌, ◌≤◌, ◌+◌, reverse, ℕ, Bool, true, false, List, [], ◌∷◌, ◌++◌, Option, Some, None, slice_get, length, All, Result, IfOk, IsOk}
+use Rattle.std.specs.Prelude.{◌≡◌, ◌≢◌, ◌<◌, ◌≤◌, ◌+◌, ◌⊎◌, reverse, ℕ, Bool, true, false, List, [], ◌∷◌, ◌++◌, Option, Some, None, slice_get, length, All, Result, IfOk, IsOk}
 use Rattle.gt_types.specs.Names.{domain_of}
 use Rattle.gt_types.specs.declared.DomId.{DomId}
 use Rattle.gt_types.specs.declared.TypeId.{TypeId}
 use Rattle.gt_types.specs.declared.Use.TheVariants.{Map as ForMap}
+use Rattle.gt_types.specs.declared.denial.Denial.{Denial}
+use Rattle.gt_types.specs.declared.limits.TheConstants.{TABLE_ENTRIES, MAX_TABLE_FRAMES, LAST_VERSION, FRAME_SIZE}
 use Rattle.gt_calls.specs.declared.request.Holder.{Holder}
 use Rattle.gt_calls.specs.declared.request.Holder.TheVariants.{Mapping as ByMapping, Leg as ByLeg}
+use Rattle.gt_calls.specs.declared.request.CopyArgs.{CopyArgs}
 use Rattle.gt_types.specs.declared.perms.Perms.{Perms}
 use Rattle.gt_types.specs.Config.{IsWithinLimits, IsFirstFault}
 use Rattle.gt_types.specs.declared.config.StartFault.{StartFault}
 use Rattle.gt_types.specs.declared.config.StartFault.TheVariants.{Config as ConfigFault, Memory as NoMemory}
 use Rattle.gt_types.specs.declared.config.Config.{Config}
 use Rattle.gt_calls.specs.declared.request.Request.{Request}
-use Rattle.gt_calls.specs.declared.asked.Asked.{Asked}
+use Rattle.gt_calls.specs.declared.request.Asked.{Asked}
 use Rattle.gt_calls.specs.Asking.{asked, begun_of, IsSaid}
-pub use Rattle.gt_calls.specs.Asking.{FitsEntry, FitsAsked}
+pub use Rattle.gt_calls.specs.Asking.{FitsAsked}
 use Rattle.gt_calls.specs.declared.action.Verdict.{Verdict}
-use Rattle.gt_calls.specs.declared.action.Verdict.TheVariants.{Granted, Given, Refused}
+use Rattle.gt_calls.specs.declared.action.Verdict.TheVariants.{Granted, Given, Mapped as KeptPin, Refused}
 use Rattle.gt_calls.specs.declared.action.Value.{Value}
 use Rattle.gt_calls.specs.declared.action.Value.TheVariants.{Frames, Size as SizeTold, Version as VersionTold}
+use Rattle.gt_entry.specs.declared.change.Change.TheVariants.{Publish, Revoke as ToInvalid}
+use Rattle.gt_entry.specs.declared.change.Half.TheVariants.{First as FirstHalf, Second as SecondHalf}
 use Rattle.gt_calls.specs.declared.action.Seen.{Seen}
 use Rattle.gt_entry.specs.declared.header.Header.{Header}
+use Rattle.gt_calls.specs.declared.action.Action.{Action}
 use Rattle.gt_calls.specs.declared.action.Action.TheVariants.{Step as Makes}
 use Rattle.gt_core.specs.declared.trace.Answer.{Answer}
 use Rattle.gt_core.specs.declared.trace.Answer.TheVariants.{Denied, Done as AnswerDone, Mapped, Bytes as BytesAnswer, Frames as FramesAnswer, Size as SizeAnswer, Version as VersionAnswer}
 use Rattle.gt_core.specs.declared.trace.Bytes.{Bytes}
 use Rattle.gt_handles.specs.declared.handles.Handle.{Handle}
 use Rattle.gt_calls.specs.declared.action.Step.{Step}
-use Rattle.gt_calls.specs.declared.action.Step.TheVariants.{Pin, Read as ReadBytes, Write as WriteBytes}
+use Rattle.gt_calls.specs.declared.action.Step.TheVariants.{Unpin, StoreHeader, Read as ReadBytes, Write as WriteBytes, Copy as CopyBytes}
 use Rattle.gt_core.specs.Effects.{with_mapping, with_underway, bytes_in, without_given, with_bytes, Adds}
 use Rattle.gt_handles.specs.Handles.{Kept, value_of as mapping_under, count_of}
-use Rattle.gt_calls.specs.declared.known.Mapping.{Mapping}
+use Rattle.gt_calls.specs.declared.held.Held.{Held}
 use Rattle.gt_types.specs.declared.Memory.{Memory}
 use Rattle.std.proofs.Math.ListN.{set}
 use Rattle.gt_core.specs.declared.trace.Happened.TheVariants.{Began, Stepped}
@@ -45,44 +51,55 @@ use Rattle.gt_core.specs.declared.core_state.Ticked.{Ticked}
 use Rattle.gt_core.specs.declared.core_state.Ticked.TheVariants.{Step as TickedStep, Done as TickedDone, Idle as TickedIdle, NoDomain as TickedNoDomain}
 use Rattle.gt_core.specs.declared.core_state.Opening.{Opening}
 use Rattle.gt_core.specs.declared.core_state.Opening.TheVariants.{Open as OpeningOpen, Done as OpeningDone}
-use Rattle.gt_calls.specs.Rules.{CallerKnowledge, begun, is_demote, entry_in, generation_in, first_look, before_pin, first_body, second_body, is_kind, frames_of}
+use Rattle.gt_calls.specs.Rules.{CallerKnowledge, begun, entry_in, generation_in, first_look, first_body, is_kind, frames_of, control_with}
+use Rattle.gt_calls.specs.Path.{path, rule_of_try}
+use Rattle.gt_calls.specs.declared.leg.TheConstants.{MORE_TRIES}
+use Rattle.gt_entry.specs.Spelling.{entry_of}
+use Rattle.gt_calls.specs.Following.{GoesOn}
+use Rattle.gt_calls.specs.Machine.{first_phase, action_at}
+use Rattle.gt_calls.specs.Resting.{Rests}
+use Rattle.gt_calls.specs.Standing.{IsAt, StandsAt, pins_by_call, pins_at, held_in}
+use Rattle.gt_calls.specs.Counting.{most_steps as most_of, steps_left, steps_to_come}
 use Rattle.gt_types.specs.declared.denial.Rule.{Rule}
 use Rattle.gt_entry.specs.declared.entry.Entry.{Entry}
-use Rattle.gt_entry.specs.declared.entry.Entry.TheVariants.{Invalid, Sub}
+use Rattle.gt_entry.specs.declared.entry.Entry.TheVariants.{Invalid}
 use Rattle.gt_entry.specs.declared.control.Control.{Control}
 use Rattle.gt_entry.specs.declared.control.Kind.TheVariants.{Sub as KindSub}
 use Rattle.gt_entry.specs.Words.{IsInRange, control_of}
-use Rattle.gt_calls.specs.declared.asked.Asked.TheVariants.{Grant, Load, Store, Peek, Poke}
+use Rattle.gt_entry.specs.Entries.{IsEntry}
+use Rattle.gt_entry.specs.Permits.{permits}
+use Rattle.gt_calls.specs.declared.request.Asked.TheVariants.{Load, Store, Peek, Poke, Copy, SetVersion, SetupTable, QuerySize, GetVersion}
+use Rattle.gt_calls.specs.declared.held.Pins.{Pins}
+use Rattle.gt_calls.specs.Holding.{last_first}
+use Rattle.gt_types.specs.Names.{resolved}
+use Rattle.gt_calls.specs.declared.call.Question.{Question}
+use Rattle.gt_calls.specs.declared.call.Question.TheVariants.{Size as AsksSize, Version as AsksVersion}
 use Rattle.gt_calls.specs.declared.leg.Leg.{Leg}
 use Rattle.gt_calls.specs.declared.leg.LegPhase.{LegPhase}
 use Rattle.gt_calls.specs.declared.leg.LegPhase.TheVariants.{Header as AtHeader, Look, Body, Second, Pinning, Relook}
 use Rattle.gt_calls.specs.declared.call.Phase.{Phase}
-use Rattle.gt_calls.specs.declared.call.Phase.TheVariants.{Begun as PhaseBegun, Pinning as LegPinning, Storing, StoringSecond, Single, Look as OwnLook, Change as OwnChange, Ended}
-use Rattle.gt_calls.specs.Path.{path, steps_of}
-use Rattle.gt_calls.specs.Machine.{expects, first_phase, phase_after, action_at, Comes, IsUnderway, FitsPhase, frame_read}
-use Rattle.gt_calls.specs.declared.call.Call.{Call}
-use Rattle.gt_calls.specs.declared.action.Action.{Action}
-use Rattle.gt_core.specs.History.{History, Setting, Pin as HeldPin, live, entry_at, generation_at, body_at, reads_at, writes_at, table_at, control_at, mappings_at, maps_answered_at, known_at, Underway, open_call, values, contents_at, frame_of, mapping_of}
-use Rattle.gt_core.specs.Legal.{LeavesAll, Permits, MayUse, stood, StepsSoFar, misses, looked_at, is_in_body, leg_of, IsSpelled}
+use Rattle.gt_calls.specs.declared.call.Phase.TheVariants.{Storing, StoringSecond, Exchanging, Looking, Changing, Walking, Accessing, Asking, Last, Ending}
+use Rattle.gt_core.specs.History.{History, Setting, Pin, live, entry_at, generation_at, body_at, table_at, reads_at, writes_at, control_at, contents_at, known_at, maps_answered_at, mappings_at, mapping_of, legs_at, frame_of, Underway, open_call, values}
+use Rattle.gt_core.specs.Legal.{LeavesAll, MayUse, IsSpelled, stood, StepsSoFar, misses, looked_at, is_in_body, refusal_in}
 
--- a call begins so: with an answer, or with a first step and all that may follow it (own)
+-- a call opens so: no rule stands at its beginning, and it is about to make its first step (own)
+pub record IsOpened (k : CallerKnowledge) (dom : DomId) (request : Request) (o : Open) : Type 0 where
+  pub unanswered : begun_of k dom request ≡ None
+  pub said : IsSaid k.header request
+  pub caller : o.call.caller ≡ dom
+  pub asks : o.call.request ≡ asked request
+  pub none : begun k dom (asked request) ≡ None
+  pub phase : o.call.phase ≡ Some (first_phase k dom (asked request))
+  pub at : IsAt k o.call []
+  pub acts : action_at dom (first_phase k dom (asked request)) ≡ Makes o.step
+  pub follows : GoesOn k dom (asked request) [] (Makes o.step)
+  pub rests : Rests k dom (asked request) (pins_by_call o.call) [] (Makes o.step)
+  pub few : steps_to_come o.call ≤ most_of (asked request)
+
+-- a call begins so: with an answer, or with a first step (own)
 abbrev pub Opens : CallerKnowledge → DomId → Request → Opening → Type 0
 Opens k dom request (OpeningDone verdict) = begun_of k dom request ≡ Some verdict
-Opens k dom request (OpeningOpen o) =
-    (begun_of k dom request ≡ None) × (o.call.caller ≡ dom) × (o.call.request ≡ asked request)
-    × (expects k dom (asked request) o.call.phase [] ≡ Some (Makes o.step))
-    × ((vs : List Seen) → expects k dom (asked request) o.call.phase vs ≡ steps_of k dom (asked request) vs)
-    × (o.call.phase ≡ first_phase k dom (asked request)) × IsSaid k.header request × (begun k dom (asked request) ≡ None)
-
--- a call of the caller, standing here, goes on so after what its step saw (own)
-pub record Advances (k : CallerKnowledge) (caller : DomId) (request : Asked) (phase : Phase) (seen : Seen) (new : Call) (action : Action) : Type 0 where
-  pub by : new.caller ≡ caller
-  pub asks : new.request ≡ request
-  pub stands : new.phase ≡ phase_after k caller request phase seen
-  pub goes_on : IsUnderway k caller request phase → FitsPhase k caller request phase seen → (vs : List Seen) → expects k caller request new.phase vs ≡ expects k caller request phase (seen ∷ vs)
-  pub next : IsUnderway k caller request phase → FitsPhase k caller request phase seen → expects k caller request new.phase [] ≡ Some action
-  pub made : Comes (expects k caller request phase []) → expects k caller request phase [] ≡ Some (action_at k caller request phase)
-  pub gives : action ≡ action_at k caller request new.phase
+Opens k dom request (OpeningOpen o) = IsOpened k dom request o
 
 -- the answer with this value (own)
 abbrev pub answer_with : Value → Answer
@@ -93,6 +110,7 @@ answer_with (VersionTold version) = VersionAnswer version
 -- the answer of a call that ends so, and gives no mapping and no bytes (own)
 abbrev pub answer_of : Verdict → Answer
 answer_of Granted = AnswerDone
+answer_of (KeptPin p) = AnswerDone
 answer_of (Given value) = answer_with value
 answer_of (Refused denial) = Denied denial
 
@@ -122,24 +140,12 @@ IsLoadOf request n = ⊥
 
 -- a call that nothing stood against is over after this last step: its answer, and the states (own)
 abbrev pub Settled : List State → ℕ → State → Open → Step → Answer → List State → Type 0
-Settled xs at d o (Pin dom gref looked dir) answer new =
-    (handle : Handle) × (mappings : Kept Mapping) × (answer ≡ Mapped handle)
-    × Adds d.mappings mappings handle (record { dom = dom; gref = gref; dir = dir; frame = frame_read o.call.phase }) × (new ≡ set xs at (with_mapping mappings d))
 Settled xs at d o (ReadBytes dom frame off len) answer new =
     (b : Bytes) × (answer ≡ BytesAnswer b) × (new ≡ set xs at (with_underway None d))
     × ((n : ℕ) → IsLoadOf o.call.request n → length (bytes_in new dom.0 frame off n) ≡ n → b.bytes.items ≡ bytes_in new dom.0 frame off n)
 Settled xs at d o (WriteBytes dom frame off len) answer new =
     (answer ≡ AnswerDone) × (new ≡ changed_in dom.0 (with_bytes frame off d.given) (set xs at (without_given d)))
 Settled xs at d o step answer new = (answer ≡ AnswerDone) × (new ≡ set xs at (with_underway None d))
-
--- the answer of this last step wants no room, or it was made already: a pin is that of a map (own)
-abbrev pub NeedsNoRoom : Asked → Step → Type 0
-NeedsNoRoom request (Pin dom gref looked dir) = IsMapping (Some request)
-NeedsNoRoom request step = Unit {0}
-
--- the last step of a call is answered, or memory was wanted, and it is not where room was made (own)
-abbrev pub Settles : List State → ℕ → State → Open → Result Answer Memory → List State → Type 0
-Settles xs at d o result new = IfOk result (λ answer. Settled xs at d o o.step answer new) × (NeedsNoRoom o.call.request o.step → IsOk result)
 
 -- a run can't start for this reason: the first fault of its configuration, or want of memory where that has none (own)
 abbrev pub IsStartFaultOf : Config → StartFault → Type 0
@@ -150,92 +156,125 @@ IsStartFaultOf config NoMemory = IsWithinLimits config
 abbrev pub WantsMemory : Setting → History → DomId → Request → Type 0
 WantsMemory s h d request = (asks_memory (asked request) ≡ true) × (domain_of s.domains d ≢ None) × (open_call h d.0 ≡ None) × (begun_of (known_at s h d) d request ≡ None)
 
+-- memory can be wanted where the domain's open call is about to copy (own)
+abbrev pub WantsMemoryNow : Setting → History → DomId → Type 0
+WantsMemoryNow s h d = (c : Underway) × (open_call h d.0 ≡ Some c) × IsCopying (path (known_at s h d) d c.request (values c))
+  where
+    IsCopying : Option Action → Type 0
+    IsCopying (Some (Makes (CopyBytes from to len))) = Unit {0}
+    IsCopying action = ⊥
+
 -- what a call has seen
+
+-- while the leg's entry has the generation that was looked at and is valid, this holds of it (own)
+abbrev pub WhileSame : Setting → History → Leg → ℕ → (Entry → Type 0) → Type 0
+WhileSame s h l word Holds =
+    generation_at s h l.dom.0 l.gref.0 ≡ (control_of word).generation → entry_at h l.dom.0 l.gref.0 ≢ Invalid → Holds (entry_at h l.dom.0 l.gref.0)
+
+-- the entry is the one that this word shows (own)
+abbrev pub IsShown : Control → Entry → Type 0
+IsShown c entry = c ≡ control_with entry c.generation c.reads c.writes
 
 -- a control word of the leg's entry was looked at in this try, no rule on the entry stood, and the entry's generation was reached (own)
 pub record HasLooked (s : Setting) (h : History) (l : Leg) (so_far : StepsSoFar) (more word : ℕ) : Type 0 where
-  pub within : l.gref.0 < 2048
-  pub turn : misses so_far + more ≡ 3
+  pub within : l.gref.0 < TABLE_ENTRIES
+  pub turn : misses so_far + more ≡ MORE_TRIES
   pub looked : looked_at so_far ≡ Some word
   pub passed : first_look l (control_of word) ≡ None
   pub reached : (control_of word).generation ≤ generation_at s h l.dom.0 l.gref.0
+  pub shown : WhileSame s h l word (IsShown (control_of word))
 
--- the entry is not Invalid (own)
-abbrev pub IsValid : Entry → Type 0
-IsValid entry = entry ≢ Invalid
-
--- the entry is a sub-page (own)
-abbrev pub IsSub : Entry → Type 0
-IsSub (Sub dom ro frame off len) = Unit {0}
-IsSub entry = ⊥
-
--- while the entry has the generation that was looked at, and is such an entry, this part of it is what was read (own)
-abbrev pub IsStill : Setting → History → Leg → ℕ → (Entry → Type 0) → (Entry → ℕ) → ℕ → Type 0
-IsStill s h l word IsSuch part body =
-    generation_at s h l.dom.0 l.gref.0 ≡ (control_of word).generation → IsSuch (entry_at h l.dom.0 l.gref.0) → part (entry_at h l.dom.0 l.gref.0) ≡ body
-
--- the body words of the try were read, and this rule stands on them (own)
+-- its body words were read too, and this rule stands on them (own)
 pub record HasRead (s : Setting) (h : History) (l : Leg) (so_far : StepsSoFar) (word body second : ℕ) (rule : Option Rule) : Type 0 where
   pub in_body : is_in_body so_far ≡ true
-  pub judged : before_pin l (control_of word) body second ≡ rule
-  pub first_stays : IsStill s h l word IsValid first_body body
-  pub second_stays : is_kind (control_of word).kind KindSub ≡ true → IsStill s h l word IsSub second_body second
+  pub judged : rule_of_try l word body second ≡ rule
+  pub spelled : WhileSame s h l word (λ entry. entry_of (control_of word) body second ≡ entry)
 
 -- where a leg stands, by the steps so far (own)
 abbrev pub LegStands : Setting → History → Leg → StepsSoFar → LegPhase → Type 0
 LegStands s h l so_far AtHeader = Unit {0}
-LegStands s h l so_far (Look more) = (l.gref.0 < 2048) × (misses so_far + more ≡ 3) × (is_in_body so_far ≡ false)
+LegStands s h l so_far (Look more) = (l.gref.0 < TABLE_ENTRIES) × (misses so_far + more ≡ MORE_TRIES) × (is_in_body so_far ≡ false)
 LegStands s h l so_far (Body more word) = HasLooked s h l so_far more word
-LegStands s h l so_far (Second more word body) = HasLooked s h l so_far more word × IsStill s h l word IsValid first_body body
+LegStands s h l so_far (Second more word body) = HasLooked s h l so_far more word × WhileSame s h l word (λ entry. first_body entry ≡ body) × (is_kind (control_of word).kind KindSub ≡ true)
 LegStands s h l so_far (Pinning more word body second) = HasLooked s h l so_far more word × HasRead s h l so_far word body second None
 LegStands s h l so_far (Relook more word rule) =
     HasLooked s h l so_far more word × ((body : ℕ) × (second : ℕ) × HasRead s h l so_far word body second (Some rule))
 
--- the body words of a grant that it has stored so far (own)
-abbrev pub HasStored : History → DomId → Asked → Type 0
-HasStored h d (Grant gref entry) = IsSpelled entry (body_at h d.0 gref.0 false) (body_at h d.0 gref.0 true)
-HasStored h d request = Unit {0}
+-- the call asks this of a header (own)
+abbrev pub Asks : DomId → Asked → DomId → Question → Type 0
+Asks d request dom AsksSize = (named : DomId) × (request ≡ QuerySize named) × (dom ≡ resolved d named)
+Asks d request dom AsksVersion = (named : DomId) × (request ≡ GetVersion named) × (dom ≡ resolved d named)
 
--- the first body word of a grant that it has stored (own)
-abbrev pub HasStoredFirst : History → DomId → Asked → Type 0
-HasStoredFirst h d (Grant gref entry) = body_at h d.0 gref.0 false ≡ first_body entry
-HasStoredFirst h d request = ⊥
+-- the call ends so after its one step: a set up with the frames that it stored, each other one with no value (own)
+abbrev pub EndsAfter : Asked → Step → Verdict → Type 0
+EndsAfter request (StoreHeader version frames) verdict =
+    ((request ≡ SetVersion version) × (verdict ≡ Granted)) ⊎ ((request ≡ SetupTable frames) × (verdict ≡ Given (Frames frames)))
+EndsAfter request step verdict = verdict ≡ Granted
 
--- where a call stands, by the steps so far (the newest first) (own)
+-- a copy ends with Ok, or with a refusal (own)
+abbrev pub EndsCopy : Verdict → Type 0
+EndsCopy Granted = Unit {0}
+EndsCopy (Refused denial) = Unit {0}
+EndsCopy verdict = ⊥
+
+-- where a call stands, by the steps so far, the newest first (own)
 abbrev pub PhaseStands : Setting → History → DomId → Asked → StepsSoFar → Phase → Type 0
-PhaseStands s h d request so_far PhaseBegun = ⊥
-PhaseStands s h d request so_far (LegPinning l phase) =
-    (leg_of (known_at s h d) d request ≡ Some l) × (domain_of s.domains l.dom ≢ None) × LegStands s h l so_far phase
-PhaseStands s h d request so_far Storing = Unit {0}
-PhaseStands s h d request so_far StoringSecond = HasStoredFirst h d request
-PhaseStands s h d request so_far Single = HasStored h d request
-PhaseStands s h d request so_far (OwnLook more) = (misses so_far + more ≡ 3) × (is_in_body so_far ≡ false)
-PhaseStands s h d request so_far (OwnChange more word) =
-    (misses so_far + more ≡ 3) × (looked_at so_far ≡ Some word) × (is_demote request ≡ true → (control_of word).writes ≡ 0)
-PhaseStands s h d request so_far (Ended verdict) = ⊥
+PhaseStands s h d request so_far (Storing gref entry) = Unit {0}
+PhaseStands s h d request so_far (StoringSecond gref entry) = body_at h d.0 gref.0 FirstHalf ≡ first_body entry
+PhaseStands s h d request so_far (Exchanging gref looked (Publish entry)) = IsSpelled entry (body_at h d.0 gref.0 FirstHalf) (body_at h d.0 gref.0 SecondHalf)
+PhaseStands s h d request so_far (Exchanging gref looked ToInvalid) = Unit {0}
+PhaseStands s h d request so_far (Exchanging gref looked change) = ⊥
+PhaseStands s h d request so_far (Looking gref change more) = (misses so_far + more ≡ MORE_TRIES) × (is_in_body so_far ≡ false)
+PhaseStands s h d request so_far (Changing gref change more looked) = (misses so_far + more ≡ MORE_TRIES) × (looked_at so_far ≡ Some looked)
+PhaseStands s h d request so_far (Walking aim l at) = (domain_of s.domains l.dom ≢ None) × LegStands s h l so_far at
+PhaseStands s h d request so_far (Accessing copy source dest) = Unit {0}
+PhaseStands s h d request so_far (Asking dom question) = Asks d request dom question
+PhaseStands s h d request so_far (Last step verdict) = EndsAfter request step verdict
+PhaseStands s h d request so_far (Ending pins verdict) = (last_first pins ≡ []) ⊎ ((copy : CopyArgs) × (request ≡ Copy copy) × EndsCopy verdict)
 
--- an open call is where its steps have led it, and no rule stood so far (own)
+-- the refusal that a call ends with, where it has come to its end (own)
+abbrev pub phase_refusal : Phase → Option Denial
+phase_refusal (Ending pins verdict) = refusal_in (Some verdict)
+phase_refusal phase = None
+
+-- the steps so far have left all as it was, unless the call is to end with Ok (own)
+abbrev pub IsClean : Phase → List (Step × Seen) → Type 0
+IsClean (Ending pins verdict) steps = (refusal_in (Some verdict) ≡ None) ⊎ All LeavesAll steps
+IsClean phase steps = All LeavesAll steps
+
+-- these, each under its place from this one on (own)
+abbrev pub numbered : ℕ → List Held → List (ℕ × Held)
+numbered n [] = []
+numbered n (p ∷ ps) = (n, p) ∷ numbered (n + 1) ps
+
+-- an open call is where its steps have led it, it holds its live pins, and the first rule that stood so far is the one that it ends with (own)
 pub record OpenAgrees (s : Setting) (h : History) (id : DomId) (o : Open) (c : Underway) : Type 0 where
   pub caller : o.call.caller ≡ id
-  pub request : o.call.request ≡ c.request
-  pub comes : expects (known_at s h id) id c.request o.call.phase [] ≡ Some (Makes o.step)
-  pub leads : (vs : List Seen) → path (known_at s h id) id c.request (values c ++ vs) ≡ expects (known_at s h id) id c.request o.call.phase vs
-  pub fair : stood s h id.0 ≡ None
-  pub place : PhaseStands s h id c.request (reverse c.steps) o.call.phase
+  pub asks : o.call.request ≡ c.request
+  pub phase : Phase
+  pub here : o.call.phase ≡ Some phase
+  pub at : StandsAt (known_at s h id) id c.request (values c) phase
+  pub acts : action_at id phase ≡ Makes o.step
+  pub follows : GoesOn (known_at s h id) id c.request (values c) (Makes o.step)
+  pub rests : Rests (known_at s h id) id c.request (pins_at phase) (values c) (Makes o.step)
+  pub place : PhaseStands s h id c.request (reverse c.steps) phase
+  pub fair : stood s h id.0 ≡ phase_refusal phase
   pub fits : FitsAsked c.request
-  pub clean : All LeavesAll c.steps
+  pub clean : IsClean phase c.steps
+  pub held : legs_at h id.0 ≡ numbered 0 (reverse (held_in phase))
+  pub few : length c.steps + steps_left phase ≤ most_of c.request
 
--- the open call is that of the history, and there is one in both or in neither (own)
+-- the open call is that of the history, and there is one in both or in neither; with none open no pin is held by one (own)
 abbrev pub CallAgrees : Setting → History → DomId → Option Open → Option Underway → Type 0
-CallAgrees s h id None None = Unit {0}
+CallAgrees s h id None None = legs_at h id.0 ≡ []
 CallAgrees s h id (Some o) (Some c) = OpenAgrees s h id o c
 CallAgrees s h id None (Some c) = ⊥
 CallAgrees s h id (Some o) None = ⊥
 
 -- bytes to be written are as many as the call asked, and end inside a frame (own)
 abbrev pub FitsGiven : Asked → List ℕ → Type 0
-FitsGiven (Store handle off len) given = (length given ≡ len) × (off + len ≤ 4096)
-FitsGiven (Poke frame off len) given = (length given ≡ len) × (off + len ≤ 4096)
+FitsGiven (Store handle off len) given = (length given ≡ len) × (off + len ≤ FRAME_SIZE)
+FitsGiven (Poke frame off len) given = (length given ≡ len) × (off + len ≤ FRAME_SIZE)
 FitsGiven request given = Unit {0}
 
 -- the bytes given are those of the open call, if there is one (own)
@@ -246,16 +285,16 @@ GivenAgrees h d given = (c : Underway) → open_call h d ≡ Some c → (given �
 pub record SlotAgrees (h : History) (t r : ℕ) (slot : Slot) : Type 0 where
   pub reads : slot.reads ≡ reads_at h t r
   pub writes : slot.writes ≡ writes_at h t r
-  pub first : slot.first ≡ body_at h t r false
-  pub second : slot.second ≡ body_at h t r true
+  pub first : slot.first ≡ body_at h t r FirstHalf
+  pub second : slot.second ≡ body_at h t r SecondHalf
 
 -- no two mappings are under one handle (own)
-abbrev pub AreApart : List (Handle × Mapping) → Type 0
+abbrev pub AreApart : List (Handle × Held) → Type 0
 AreApart [] = Unit {0}
 AreApart (m ∷ ms) = (mapping_of ms m.0 ≡ None) × AreApart ms
 
 -- the handles name just these mappings, after so many maps were answered Ok (own)
-pub record MappingsAgree (kept : Kept Mapping) (ms : List (Handle × Mapping)) (answered : ℕ) : Type 0 where
+pub record MappingsAgree (kept : Kept Held) (ms : List (Handle × Held)) (answered : ℕ) : Type 0 where
   pub named : mapping_under kept ≡ mapping_of ms
   pub count : count_of kept ≡ length ms
   pub given : kept.given ≡ answered
@@ -264,10 +303,10 @@ pub record MappingsAgree (kept : Kept Mapping) (ms : List (Handle × Mapping)) (
 -- a domain is as the history leaves it (own)
 pub record Agrees (s : Setting) (h : History) (d : State) : Type 0 where
   pub header : d.header ≡ table_at s h d.id
-  pub rows : length d.own ≡ 2048
+  pub rows : length d.own ≡ TABLE_ENTRIES
   pub entries : entry_in d.own ≡ (λ r. entry_at h d.id.0 r)
   pub generations : generation_in s.first_generation d.own ≡ (λ r. generation_at s h d.id.0 r)
-  pub room : length d.slots ≡ 2048
+  pub room : length d.slots ≡ TABLE_ENTRIES
   pub slots : (r : ℕ) (slot : Slot) → slice_get d.slots r ≡ Some slot → SlotAgrees h d.id.0 r slot
   pub mappings : MappingsAgree d.mappings (mappings_at h d.id.0) (maps_answered_at h d.id.0)
   pub frames : (f : ℕ) → f < frames_of s.domains d.id → slice_get d.frames f ≡ Some (contents_at h d.id.0 f)
@@ -280,20 +319,20 @@ StateAgrees s h dom None = domain_of s.domains dom ≡ None
 StateAgrees s h dom (Some d) = (domain_of s.domains dom ≢ None) × (d.id ≡ dom) × Agrees s h d
 
 -- a mapping's pin was taken by right, on a frame of its owner; of a call's own pin nothing is asked (own)
-abbrev pub IsLawfullyHeld : Setting → HeldPin → Holder → Type 0
+abbrev pub IsLawfullyHeld : Setting → Pin → Holder → Type 0
 IsLawfullyHeld s p (ByMapping handle) =
-    Permits p.entry (record { 0 = p.actor }) p.dir ForMap 0 0 × MayUse s (record { 0 = p.actor }) p.dom p.dir
-    × (frame_of p.entry < frames_of s.domains p.dom) × (domain_of s.domains p.dom ≢ None)
+    (permits p.held.entry (record { 0 = p.actor }) p.held.dir ForMap 0 0 ≡ true) × MayUse s (record { 0 = p.actor }) p.held.dom p.held.dir
+    × (frame_of p.held.entry < frames_of s.domains p.held.dom) × (domain_of s.domains p.held.dom ≢ None)
 IsLawfullyHeld s p (ByLeg number) = Unit {0}
 
 -- the pin of a mapping was taken on an entry that permitted it, for a frame of its owner, and the policy allows what it is for (own)
-abbrev pub IsLawful : Setting → HeldPin → Type 0
+abbrev pub IsLawful : Setting → Pin → Type 0
 IsLawful s p = IsLawfullyHeld s p p.holder
 
 -- the header of a table, or of none, is within the limits of a run (own)
 pub record FitsTable (header : Header) : Type 0 where
-  pub version : header.version ≤ 2
-  pub frames : header.frames ≤ 4
+  pub version : header.version ≤ LAST_VERSION
+  pub frames : header.frames ≤ MAX_TABLE_FRAMES
 
 -- each part of a control has room in its word (own)
 pub record FitsWord (c : Control) : Type 0 where
@@ -304,8 +343,9 @@ pub record FitsWord (c : Control) : Type 0 where
 pub record CoreStands (s : Setting) (h : History) (domains : List State) : Type 0 where
   pub each : (dom : DomId) → StateAgrees s h dom (state_of domains dom.0)
   pub tables : (dom : DomId) → FitsTable (table_at s h dom)
-  pub words : (t r : ℕ) → r < 2048 → FitsWord (control_at s h t r)
+  pub words : (t r : ℕ) → r < TABLE_ENTRIES → FitsWord (control_at s h t r)
+  pub entries : (t r : ℕ) → IsEntry (entry_at h t r)
   pub lawful : All (IsLawful s) (live h)
   pub free : (t r : ℕ) → entry_at h t r ≡ Invalid → (reads_at h t r ≡ 0) × (writes_at h t r ≡ 0)
-  pub filled : (t f : ℕ) → length (contents_at h t f) ≡ 4096
-  pub spelled : (t r : ℕ) → entry_at h t r ≢ Invalid → IsSpelled (entry_at h t r) (body_at h t r false) (body_at h t r true)
+  pub filled : (t f : ℕ) → length (contents_at h t f) ≡ FRAME_SIZE
+  pub spelled : (t r : ℕ) → entry_at h t r ≢ Invalid → IsSpelled (entry_at h t r) (body_at h t r FirstHalf) (body_at h t r SecondHalf)

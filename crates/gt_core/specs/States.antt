@@ -3,13 +3,14 @@ use Rattle.std.specs.Prelude.{Bool, true, false, ℕ, List, [], ◌∷◌, Optio
 use Rattle.gt_types.specs.declared.config.DomainConfig.{DomainConfig}
 use Rattle.gt_entry.specs.declared.entry.Entry.TheVariants.{Invalid}
 use Rattle.gt_calls.specs.declared.known.TheConstants.{ENTRIES, FRAME_LEN}
-use Rattle.gt_calls.specs.declared.asked.Asked.{Asked}
-use Rattle.gt_calls.specs.declared.asked.Asked.TheVariants.{Map, Load, Store, Peek, Poke}
+use Rattle.gt_types.specs.declared.limits.TheConstants.{LAST_GENERATION}
+use Rattle.gt_calls.specs.declared.request.Asked.{Asked}
+use Rattle.gt_calls.specs.declared.request.Asked.TheVariants.{Map, Load, Store, Peek, Poke}
 use Rattle.gt_types.specs.declared.DomId.{DomId}
 use Rattle.gt_entry.specs.declared.header.Header.{Header}
 use Rattle.gt_calls.specs.declared.known.Own.{Own}
 use Rattle.gt_handles.specs.Handles.{Kept}
-use Rattle.gt_calls.specs.declared.known.Mapping.{Mapping}
+use Rattle.gt_calls.specs.declared.held.Held.{Held}
 use Rattle.gt_core.specs.declared.slot.Slot.{Slot}
 use Rattle.gt_core.specs.declared.slot.Open.{Open}
 
@@ -19,7 +20,7 @@ pub record State : Type 0 where
   pub header : Header
   pub own : List Own
   pub slots : List Slot
-  pub mappings : Kept Mapping
+  pub mappings : Kept Held
   pub frames : List (List ℕ)
   pub underway : Option Open
   pub given : List ℕ
@@ -56,7 +57,7 @@ IsLoading (Some (Peek frame off len)) n = n ≡ len
 IsLoading _ n = Unit {0}
 
 -- the room that a call's answer wants was made when it began: for one more mapping, under a serial that is left, or for the bytes of a load or peek (own)
-abbrev pub HasRoom : Option Asked → Kept Mapping → Option ℕ → Type 0
+abbrev pub HasRoom : Option Asked → Kept Held → Option ℕ → Type 0
 HasRoom (Some (Map dom gref flags)) mappings bytes = (1 ≤ mappings.room) × (mappings.given + 1 < 2 ^ 64)
 HasRoom (Some (Load handle off len)) mappings bytes = bytes ≡ Some len
 HasRoom (Some (Peek frame off len)) mappings bytes = bytes ≡ Some len
@@ -68,7 +69,7 @@ first_state first_gen d =
     record {
       id = d.id;
       header = record { version = d.version % 4; frames = d.table_frames % 256 };
-      own = replicate ENTRIES (record { entry = Invalid; generation = min first_gen 1048575 });
+      own = replicate ENTRIES (record { entry = Invalid; generation = min first_gen LAST_GENERATION });
       slots = replicate ENTRIES (record { reads = 0; writes = 0; first = 0; second = 0 });
       mappings = record { slots = []; given = 0; room = 0 };
       frames = replicate d.frames (replicate FRAME_LEN 0);

@@ -1,24 +1,23 @@
 //! The core: a machine over events.
 ghost use Rattle.std.specs.Prelude.{◌≡◌, ◌<◌, List, [], length, slice_get, set, map, replicate, IfOk, IfErr, OnOk, OnErr, IsOk, Option, Some, None};
 ghost use Rattle.gt_types.specs.Config.{IsWithinLimits};
-ghost use Rattle.gt_calls.specs.Rules.{knowledge_of, begun};
+ghost use Rattle.gt_calls.specs.Rules.{knowledge_of, knows, begun};
+ghost use Rattle.gt_calls.specs.Following.{Goes};
 ghost use Rattle.gt_core.specs.History.{History};
 ghost use Rattle.gt_calls.specs.Asking.{given_by};
 ghost use Rattle.gt_core.specs.Legal.{MayDo, grown, Legal};
 ghost use Rattle.gt_core.specs.States.{State, changed_in};
-ghost use Rattle.gt_core.specs.Effects.{applied, with_underway, with_bytes, bytes_in};
+ghost use Rattle.gt_core.specs.Effects.{applied, with_underway, bytes_in, copied_by, IsCopy};
 ghost use Rattle.gt_core.specs.Shown.{shown_at};
-ghost use Rattle.gt_core.specs.Standing.{Opens, Advances, CoreStands, Settles, IsMapping, IsStartFaultOf, WantsMemory, setting_of, begun_element, ticked_element, answer_with, answer_of, first_state};
+ghost use Rattle.gt_core.specs.Standing.{Opens, CoreStands, Settled, IsMapping, IsStartFaultOf, WantsMemory, WantsMemoryNow, setting_of, begun_element, ticked_element, answer_with, answer_of, first_state};
 ghost use Rattle.gt_core.specs.declared.trace.Event.TheVariants.{Begin, Tick};
 
-use crate::effects::apply;
+use crate::effects::{apply, write_to};
 use crate::sight::see;
 use crate::slot::Open;
 use crate::state::{DomainState, find};
 use crate::trace::{Answer, Bytes, Element, Event, Happened, Item, Trace};
-use gt_calls::{
-    Action, Call, Handle, Known, Request, Seen, Start, Step, Value, Verdict, asked_fits,
-};
+use gt_calls::{Action, Call, Known, Request, Seen, Start, Step, Value, Verdict, asked_fits};
 use gt_entry::Entry;
 use gt_types::{Allows, Config, DomId, GrantRef, Memory, StartFault};
 use std::alloc::Global;
@@ -60,14 +59,14 @@ pub struct Shown {
 }
 
 /// How a call begins in the core.
-#[derive(Clone, Copy, Debug, PartialEq, Eq)]
+#[derive(Clone, Copy)]
 pub enum Opening {
     Open(Open),
     Done(Verdict),
 }
 
 fn open_call<P: Allows>(known: &Known<'_, P>, dom: DomId, request: Request<'_>) -> Opening
-    ensures { Opens (knowledge_of known.now.config.now.domains.items known.now.config.now.first_gen (P.may known.now.rights.now) known.now.own.now known.now.header known.now.mappings.now) dom request.entry result }
+    ensures { Opens (knows P.may known.now) dom request.entry result }
 {
     match Call::begin(dom, request, known) {
         Start::Done(verdict) => Opening::Done(verdict),
@@ -97,7 +96,7 @@ fn answer_of(verdict: Verdict) -> Answer
     ensures { result ≡ answer_of verdict }
 {
     match verdict {
-        Verdict::Granted => Answer::Done,
+        Verdict::Granted | Verdict::Mapped(_) => Answer::Done,
         Verdict::Given(value) => answer_with(value),
         Verdict::Refused(denial) => Answer::Denied(denial),
     }
@@ -123,12 +122,17 @@ fn given_by<'a>(request: Request<'a>) -> &'a [u8]
     }
 }
 
-// Writes bytes to a frame from `off` on.
-fn write_to(domains: &mut [DomainState], dom: DomId, frame: u64, off: u16, bytes: &[u8])
-    ensures { domains.new ≡ changed_in dom.0 (with_bytes frame off bytes.now) domains.old }
+// The bytes that a copy is about to write; none for another step.
+fn copied(domains: &[DomainState], alloc: Global, step: Step) -> Result<Vec<u8>, Memory>
+    ensures bytes { IfOk result (λ v. v.items ≡ copied_by domains.now step) }
+    ensures memory { OnErr result (IsCopy step) }
 {
-    if let Some(at) = find(domains, dom) {
-        domains[at].write(frame, off, bytes);
+    let Step::Copy { from, len, .. } = step else {
+        return Ok(Vec::new(alloc));
+    };
+    match find(domains, from.owner) {
+        Some(at) => Ok(Vec::from_slice(alloc, domains[at].range(from.frame, from.off, len))?),
+        None => Ok(Vec::new(alloc)),
     }
 }
 
@@ -182,7 +186,9 @@ impl<P: Allows> Core<P> {
 
     fn advance(&self, at: usize, last: Open, seen: Seen) -> (Call, Action)
         requires { at < length self.now.domains.items }
-        ensures { (d : State) → slice_get self.now.domains.items at ≡ Some d → Advances (knowledge_of self.now.config.domains.items self.now.config.first_gen (P.may self.now.rights) d.own d.header d.mappings) last.call.caller last.call.request last.call.phase seen result.0 result.1 }
+        ensures caller { result.0.caller ≡ last.call.caller }
+        ensures request { result.0.request ≡ last.call.request }
+        ensures goes { (d : State) → slice_get self.now.domains.items at ≡ Some d → Goes (knowledge_of self.now.config.domains.items self.now.config.first_gen (P.may self.now.rights) d.own d.header d.mappings) last.call seen result.0 result.1 }
     {
         let mut call = last.call;
         let domain = &self.domains[at];
@@ -197,29 +203,25 @@ impl<P: Allows> Core<P> {
         (call, action)
     }
 
-    // The answer of a call that nothing stood against, whose last step was this one. The call is over.
-    fn settle(&mut self, at: usize, last: Open) -> Result<Answer, Memory>
+    // The answer of a call that nothing stood against, and that gives no value: what its last step read, or nothing. The
+    // call is over.
+    fn settle(&mut self, at: usize, last: Open) -> Answer
         requires { at < length self.old.domains.items }
         ensures config { self.new.config ≡ self.old.config }
         ensures rights { self.new.rights ≡ self.old.rights }
-        ensures err { OnErr result (self.new.domains.items ≡ self.old.domains.items) }
-        ensures settles { (d : State) → slice_get self.old.domains.items at ≡ Some d → d.underway ≡ Some last → Settles self.old.domains.items at d last result self.new.domains.items }
+        ensures settles { (d : State) → slice_get self.old.domains.items at ≡ Some d → d.underway ≡ Some last → Settled self.old.domains.items at d last last.step result self.new.domains.items }
     {
+        let alloc = self.alloc;
         match last.step {
-            Step::Pin { dom, gref, dir, .. } => {
-                let handle = self.domains[at].add_mapping(dom, gref, dir, last.call.frame())?;
-                Ok(Answer::Mapped(handle))
-            }
             Step::Read {
                 dom,
                 frame,
                 off,
                 ..
             } => {
-                let alloc = self.alloc;
                 let out = self.domains[at].close_load(alloc);
                 let bytes = read_into(&self.domains, dom, frame, off, out);
-                Ok(Answer::Bytes(Bytes { bytes }))
+                Answer::Bytes(Bytes { bytes })
             }
             Step::Write {
                 dom,
@@ -227,42 +229,41 @@ impl<P: Allows> Core<P> {
                 off,
                 ..
             } => {
-                let alloc = self.alloc;
                 let given = self.domains[at].close_store(alloc);
                 write_to(&mut self.domains, dom, frame, off, &given);
-                Ok(Answer::Done)
+                Answer::Done
             }
             _ => {
                 self.domains[at].close();
-                Ok(Answer::Done)
+                Answer::Done
             }
         }
     }
 
     // The domain's call is over after this step.
-    fn end(&mut self, at: usize, dom: DomId, step: Step, seen: Seen)
+    fn end(&mut self, at: usize, dom: DomId, step: Step, seen: Seen, bytes: &[u8])
         requires { at < length self.old.domains.items }
         ensures config { self.new.config ≡ self.old.config }
         ensures rights { self.new.rights ≡ self.old.rights }
-        ensures left { (d : State) → slice_get self.old.domains.items at ≡ Some d → self.new.domains.items ≡ applied dom step seen (set self.old.domains.items at (with_underway None d)) }
+        ensures left { (d : State) → slice_get self.old.domains.items at ≡ Some d → self.new.domains.items ≡ applied dom step seen bytes.now (set self.old.domains.items at (with_underway None d)) }
     {
         self.domains[at].close();
-        apply(&mut self.domains, dom, step, seen);
+        apply(&mut self.domains, dom, step, seen, bytes);
     }
 
     /// Makes the next step of the domain's open call, with its answer where that is the last one. A refused call has left
-    /// entries, pins, mappings, tables and frames as they were.
+    /// entries, mappings, tables and frames as they were, and holds no pin.
     ///
     /// # Errors
     ///
-    /// `Memory`, but never of a core that stands for a history: `begin` made the room.
+    /// `Memory`, only where that step copies. No domain's state has changed then.
     pub fn tick(&mut self, dom: DomId) -> Result<Ticked, Memory>
         ensures stands { (h : History) → CoreStands (setting_of self.old.config (P.may self.old.rights)) h self.old.domains.items → IfOk result (λ t.
             MayDo (setting_of self.old.config (P.may self.old.rights)) h (Tick dom) (ticked_element dom t)
             × CoreStands (setting_of self.old.config (P.may self.old.rights)) (grown h (ticked_element dom t)) self.new.domains.items) }
         ensures config { self.new.config ≡ self.old.config }
         ensures rights { self.new.rights ≡ self.old.rights }
-        ensures memory { (h : History) → CoreStands (setting_of self.old.config (P.may self.old.rights)) h self.old.domains.items → IsOk result }
+        ensures memory { (h : History) → CoreStands (setting_of self.old.config (P.may self.old.rights)) h self.old.domains.items → OnErr result (WantsMemoryNow (setting_of self.old.config (P.may self.old.rights)) h dom) }
         ensures err { OnErr result (self.new.domains.items ≡ self.old.domains.items) }
     {
         let Some(at) = find(&self.domains, dom) else {
@@ -271,26 +272,32 @@ impl<P: Allows> Core<P> {
         let Some(open) = self.domains[at].underway() else {
             return Ok(Ticked::Idle);
         };
+        let bytes = copied(&self.domains, self.alloc, open.step)?;
         let seen = see(&self.domains, dom, open.step);
         let (call, action) = self.advance(at, open, seen);
         match action {
             Action::Step(step) => {
                 self.domains[at].go_on(Open { call, step });
-                apply(&mut self.domains, dom, open.step, seen);
+                apply(&mut self.domains, dom, open.step, seen, &bytes);
                 Ok(Ticked::Step(open.step, seen))
             }
             Action::Done(verdict) => match verdict {
                 Verdict::Granted => {
-                    let answer = self.settle(at, open)?;
-                    apply(&mut self.domains, dom, open.step, seen);
+                    let answer = self.settle(at, open);
+                    apply(&mut self.domains, dom, open.step, seen, &bytes);
                     Ok(Ticked::Done(open.step, seen, answer))
                 }
+                Verdict::Mapped(held) => {
+                    let handle = self.domains[at].add_mapping(held)?;
+                    apply(&mut self.domains, dom, open.step, seen, &bytes);
+                    Ok(Ticked::Done(open.step, seen, Answer::Mapped(handle)))
+                }
                 Verdict::Given(value) => {
-                    self.end(at, dom, open.step, seen);
+                    self.end(at, dom, open.step, seen, &bytes);
                     Ok(Ticked::Done(open.step, seen, answer_with(value)))
                 }
                 Verdict::Refused(denial) => {
-                    self.end(at, dom, open.step, seen);
+                    self.end(at, dom, open.step, seen, &bytes);
                     Ok(Ticked::Done(open.step, seen, Answer::Denied(denial)))
                 }
             },

@@ -14,11 +14,14 @@
 
 mod core_state;
 mod effects;
+mod scratch;
 mod sight;
 mod slot;
 mod state;
 mod trace;
 
 pub use core_state::{Begun, Core, Shown, Ticked, play};
-pub use gt_calls::{Asked, Change, Handle, Holder, Request, Seen, Step};
+pub use gt_calls::{
+    Asked, Change, CopyArgs, End, Handle, Held, Holder, Place, Request, Seen, Step,
+};
 pub use trace::{Answer, Bytes, Element, Event, Happened, Item, Trace};

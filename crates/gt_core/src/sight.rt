@@ -4,15 +4,15 @@ ghost use Rattle.gt_core.specs.Sight.{reads_in, writes_in, control_in, body_in, 
 
 use crate::slot::Slot;
 use crate::state::DomainState;
-use gt_calls::{Own, Seen, Step, own_at};
+use gt_calls::{Half, Own, Seen, Step, own_at};
 use gt_entry::Control;
 use gt_types::{DomId, GrantRef};
 
 fn slot_at(slots: &[Slot], gref: GrantRef) -> Slot
     ensures reads { result.reads ≡ reads_in slots.now gref.0 }
     ensures writes { result.writes ≡ writes_in slots.now gref.0 }
-    ensures first { result.first ≡ body_in slots.now gref.0 false }
-    ensures second { result.second ≡ body_in slots.now gref.0 true }
+    ensures first { result.first ≡ body_in slots.now gref.0 Half.First }
+    ensures second { result.second ≡ body_in slots.now gref.0 Half.Second }
 {
     let at = gref.0 as usize;
     if at < slots.len() {
@@ -30,11 +30,11 @@ fn control_word(own: &[Own], slots: &[Slot], gref: GrantRef) -> u64
     Control::of_entry(row.entry(), row.generation(), slot.reads(), slot.writes()).pack()
 }
 
-fn body_word(slots: &[Slot], gref: GrantRef, second: bool) -> u64
-    ensures { result ≡ body_in slots.now gref.0 second }
+fn body_word(slots: &[Slot], gref: GrantRef, half: Half) -> u64
+    ensures { result ≡ body_in slots.now gref.0 half }
 {
     let slot = slot_at(slots, gref);
-    slot.body(second)
+    slot.body(half)
 }
 
 fn look_header(domains: &[DomainState], dom: DomId) -> u64
@@ -61,13 +61,13 @@ fn look_control(domains: &[DomainState], dom: DomId, gref: GrantRef) -> u64
     0
 }
 
-pub fn look_body(domains: &[DomainState], dom: DomId, gref: GrantRef, second: bool) -> u64
-    ensures { result ≡ body_seen domains.now dom.0 gref.0 second }
+pub fn look_body(domains: &[DomainState], dom: DomId, gref: GrantRef, half: Half) -> u64
+    ensures { result ≡ body_seen domains.now dom.0 gref.0 half }
 {
     for domain in domains {
         let domain: &DomainState = domain;
         if domain.id.0 == dom.0 {
-            return body_word(&domain.slots, gref, second);
+            return body_word(&domain.slots, gref, half);
         }
     }
     0
@@ -88,17 +88,10 @@ pub fn see(domains: &[DomainState], actor: DomId, step: Step) -> Seen
     ensures { result ≡ sees domains.now actor step }
 {
     match step {
-        Step::LookHeader { dom } => Seen::Value(look_header(domains, dom)),
-        Step::LookControl { dom, gref } => Seen::Value(look_control(domains, dom, gref)),
-        Step::LookBody { dom, gref, second } => {
-            Seen::Value(look_body(domains, dom, gref, second))
-        }
-        Step::Pin {
-            dom,
-            gref,
-            looked,
-            ..
-        } => exchange(look_control(domains, dom, gref), looked),
+        Step::LookHeader { dom } => Seen::Word(look_header(domains, dom)),
+        Step::LookControl { dom, gref } => Seen::Word(look_control(domains, dom, gref)),
+        Step::LookBody { dom, gref, half } => { Seen::Word(look_body(domains, dom, gref, half)) }
+        Step::Pin { held } => exchange(look_control(domains, held.dom, held.gref), held.word),
         Step::Exchange { gref, looked, .. } => {
             exchange(look_control(domains, actor, gref), looked)
         }
@@ -106,6 +99,7 @@ pub fn see(domains: &[DomainState], actor: DomId, step: Step) -> Seen
         | Step::StoreBody { .. }
         | Step::StoreHeader { .. }
         | Step::Read { .. }
-        | Step::Write { .. } => Seen::Nothing,
+        | Step::Write { .. }
+        | Step::Copy { .. } => Seen::Nothing,
     }
 }

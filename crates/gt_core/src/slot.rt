@@ -2,7 +2,7 @@
 ghost use Rattle.std.specs.Prelude.{◌≡◌, ◌<◌, ◌+◌, min, if◌then◌else◌};
 ghost use Rattle.gt_core.specs.Effects.{slot_after};
 
-use gt_calls::{Call, Step};
+use gt_calls::{Call, Half, Step};
 use gt_types::{Dir, MAX_PINS};
 use std::marker::Model;
 
@@ -33,19 +33,20 @@ impl Model for Slot {
 pub enum SlotChange {
     Pinned(Dir),
     Unpinned(Dir),
-    Stored(bool, u64),
+    Stored(Half, u64),
 }
 
 /// A call under way, and its next step.
-#[derive(Clone, Copy, Debug, PartialEq, Eq)]
+#[derive(Clone, Copy)]
 pub struct Open {
     pub call: Call,
     pub step: Step,
 }
 
 impl Slot {
-    ghost use Rattle.std.specs.Prelude.{◌≡◌, ◌<◌, if◌then◌else◌};
+    ghost use Rattle.std.specs.Prelude.{◌≡◌, ◌<◌, Some};
     ghost use Rattle.gt_core.specs.Effects.{slot_after};
+    ghost use Rattle.gt_core.specs.Sight.{slot_body};
 
     /// No pins, and both body words zero.
     pub fn new() -> Slot
@@ -76,10 +77,13 @@ impl Slot {
     }
 
     /// One of the body words.
-    pub fn body(self, second: bool) -> u64
-        ensures { result ≡ (if second then self.second else self.first) }
+    pub fn body(self, half: Half) -> u64
+        ensures { result ≡ slot_body (Some self) half }
     {
-        if second { self.second } else { self.first }
+        match half {
+            Half::First => self.first,
+            Half::Second => self.second,
+        }
     }
 
     /// After a change.
@@ -92,8 +96,8 @@ impl Slot {
             SlotChange::Pinned(Dir::Write) => slot.writes = more(slot.writes),
             SlotChange::Unpinned(Dir::Read) => slot.reads = slot.reads.saturating_sub(1),
             SlotChange::Unpinned(Dir::Write) => slot.writes = slot.writes.saturating_sub(1),
-            SlotChange::Stored(true, word) => slot.second = word,
-            SlotChange::Stored(false, word) => slot.first = word,
+            SlotChange::Stored(Half::Second, word) => slot.second = word,
+            SlotChange::Stored(Half::First, word) => slot.first = word,
         }
         slot
     }

@@ -4,10 +4,10 @@ ghost use Rattle.gt_core.specs.Effects.{written_over};
 
 use crate::core_state::Shown;
 use crate::slot::{Open, Slot, SlotChange};
-use gt_calls::{Asked, Change, END_OF_SERIALS, ENTRIES, FRAME_LEN, Holder, Mapping, Own};
+use gt_calls::{Asked, Change, END_OF_SERIALS, ENTRIES, FRAME_LEN, Held, Holder, Own};
 use gt_entry::Header;
 use gt_handles::{Handle, Handles};
-use gt_types::{Dir, DomId, DomainConfig, GrantRef, LAST_GENERATION, Memory};
+use gt_types::{DomId, DomainConfig, GrantRef, LAST_GENERATION, Memory};
 use std::alloc::Global;
 use std::marker::Model;
 use std::mem;
@@ -19,7 +19,7 @@ pub struct DomainState {
     pub(crate) header: Header,
     pub(crate) own: Vec<Own>,
     pub(crate) slots: Vec<Slot>,
-    pub(crate) mappings: Handles<Mapping>,
+    pub(crate) mappings: Handles<Held>,
     pub(crate) frames: Vec<Vec<u8>>,
     pub(crate) underway: Option<Open>,
     pub(crate) given: Vec<u8>,
@@ -170,15 +170,9 @@ impl DomainState {
         mem::replace(&mut self.given, Vec::new(alloc))
     }
 
-    /// A map is over: a new mapping, under the next serial. Its room was made when it began.
-    pub fn add_mapping(
-        &mut self,
-        dom: DomId,
-        gref: GrantRef,
-        dir: Dir,
-        frame: u64,
-    ) -> Result<Handle, Memory>
-        ensures adds { IfOk result (λ handle. Adds self.old.mappings self.new.mappings handle (record { dom = dom; gref = gref; dir = dir; frame = frame })) }
+    /// A map is over: its pin is kept as a new mapping, under the next serial. Its room was made when it began.
+    pub fn add_mapping(&mut self, held: Held) -> Result<Handle, Memory>
+        ensures adds { IfOk result (λ handle. Adds self.old.mappings self.new.mappings handle held) }
         ensures added { OnOk result (self.new ≡ with_mapping self.new.mappings self.old) }
         ensures refused { OnErr result (self.new ≡ self.old) }
         ensures room { IsMapping (asked_in self.old.underway) → IsOk result }
@@ -187,12 +181,7 @@ impl DomainState {
             return Err(Memory);
         }
         self.mappings.reserve()?;
-        let handle = self.mappings.insert(Mapping {
-            dom,
-            gref,
-            dir,
-            frame,
-        });
+        let handle = self.mappings.insert(held);
         self.underway = None;
         Ok(handle)
     }
@@ -210,6 +199,19 @@ impl DomainState {
             }
         }
         out
+    }
+
+    /// The bytes of a frame from `off` on, at most `len` of them; none where there is no such frame.
+    pub fn range(&self, frame: u64, off: u16, len: u16) -> &[u8]
+        ensures { result.now ≡ take len (drop off (frame_in (Some self.now) frame)) }
+    {
+        if frame >= self.frames.len() as u64 {
+            return &[];
+        }
+        let bytes = &self.frames[frame as usize];
+        let start = usize::from(off).min(bytes.len());
+        let end = (start + usize::from(len)).min(bytes.len());
+        &bytes[start..end]
     }
 
     /// Writes bytes to a frame from `off` on, where they have room.

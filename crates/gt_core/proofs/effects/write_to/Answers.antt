@@ -1,7 +1,7 @@
 use Rattle.std.proofs.Common.{sym, ap, ◌∙◌}
 use Rattle.gt_core.specs.Effects.{with_bytes}
 use Rattle.gt_core.proofs.Rows.{set-state, changed-nowhere}
-use Rattle.gt_core.proofs.core_state.write_to.Goals as goal
+use Rattle.gt_core.proofs.effects.write_to.Goals as goal
 
 pub returns-in-Some : goal.returns-in-Some
 returns-in-Some c =

@@ -1,0 +1,116 @@
+-- The leg that an open call walks is the one that its pins tell.
+use Rattle.std.proofs.Common.{◌≡◌, ◌+◌, ℕ, refl, Bool, true, false, List, [], ◌∷◌, ◌++◌, map, reverse, Option, Some, None, cond, sym, ap, ◌∙◌, subst}
+use Rattle.std.proofs.lemmas.Bool.{true≢false, false≢true}
+use Rattle.gt_types.specs.declared.DomId.{DomId}
+use Rattle.gt_types.specs.declared.GrantRef.{GrantRef}
+use Rattle.gt_types.specs.declared.Dir.{Dir}
+use Rattle.gt_types.specs.declared.Dir.TheVariants.{Read, Write}
+use Rattle.gt_types.specs.declared.Use.TheVariants.{Copy as ForCopy}
+use Rattle.gt_entry.specs.declared.entry.Entry.{Entry}
+use Rattle.gt_entry.specs.declared.entry.Entry.TheVariants.{Invalid, Page, Sub, Via}
+use Rattle.gt_entry.specs.Permits.{permits}
+use Rattle.gt_calls.specs.declared.request.Asked.{Asked}
+use Rattle.gt_calls.specs.declared.request.Asked.TheVariants.{Map, Copy}
+use Rattle.gt_calls.specs.declared.request.CopyArgs.{CopyArgs}
+use Rattle.gt_calls.specs.declared.held.Held.{Held}
+use Rattle.gt_calls.specs.declared.held.Route.{Route}
+use Rattle.gt_calls.specs.declared.held.Route.TheVariants.{Own, Direct, Through}
+use Rattle.gt_calls.specs.declared.copying.Aim.{Aim}
+use Rattle.gt_calls.specs.declared.copying.Aim.TheVariants.{Mapping, Source, Dest}
+use Rattle.gt_calls.specs.declared.leg.Leg.{Leg}
+use Rattle.gt_calls.specs.Holding.{last_first, pins_so_far, begun_route, held_by}
+use Rattle.gt_calls.specs.Rules.{CallerKnowledge, is_source_granted, is_dest_granted}
+use Rattle.gt_calls.specs.Path.{map_leg, end_leg, second_leg, source_pair, dest_pair}
+use Rattle.gt_calls.specs.Resting.{IsFor, IsToward, IsReached, IsOnFrom, LeadsTo, IsPermitted}
+use Rattle.gt_core.specs.History.{History, Setting, known_at, legs_at}
+use Rattle.gt_core.specs.Legal.{LegNow, leg_at, leg_now, copy_now, toward_source, from_source, after_source, toward_dest, source_now, dest_now, second_now}
+use Rattle.gt_core.specs.Standing.{numbered}
+use Rattle.gt_core.proofs.Legs.{IsLegOf}
+
+-- whose right to copy to whom a Via of this leg asks
+abbrev pub pair_of : DomId → Aim → DomId → DomId × DomId
+pair_of d Mapping owner = (d, owner)
+pair_of d (Source c via) owner = source_pair d c owner
+pair_of d (Dest c source via) owner = dest_pair d source owner
+
+pub unnumbered : (n : ℕ) (ps : List Held) → map (λ (p : ℕ × Held). p.1) (numbered n ps) ≡ ps
+unnumbered n [] = refl
+unnumbered n (p ∷ ps) = ap (λ (l : List Held). p ∷ l) (unnumbered (n + 1) ps)
+
+on-from : (k : CallerKnowledge) (n : LegNow) (e : Entry) (l : Leg) → IsOnFrom k n.leg e l → second_now k n e ≡ Some (record { leg = l; pair = n.pair })
+on-from k n (Via dom ro dom2 gref) l is = ap (λ (x : Leg). Some (record { leg = x; pair = n.pair })) (sym is)
+on-from k n Invalid l is = absurd is
+on-from k n (Page dom ro frame) l is = absurd is
+on-from k n (Sub dom ro frame off len) l is = absurd is
+
+from-via : (k : CallerKnowledge) (d : DomId) (c : CopyArgs) (p : Held) (e : Entry) (l : Leg) → IsOnFrom k (source_now k d c).leg e l → from_source k d c p e [] ≡ Some (record { leg = l; pair = source_pair d c })
+from-via k d c p (Via dom ro dom2 gref) l is = on-from k (source_now k d c) (Via dom ro dom2 gref) l is
+from-via k d c p Invalid l is = absurd is
+from-via k d c p (Page dom ro frame) l is = absurd is
+from-via k d c p (Sub dom ro frame off len) l is = absurd is
+
+past-via : (k : CallerKnowledge) (d : DomId) (c : CopyArgs) (p q : Held) (e : Entry) (more : List Held) → LeadsTo e q → from_source k d c p e (q ∷ more) ≡ after_source k d c (Through p q) more
+past-via k d c p q (Via dom ro dom2 gref) more leads = refl
+past-via k d c p q Invalid more leads = absurd leads
+past-via k d c p q (Page dom ro frame) more leads = absurd leads
+past-via k d c p q (Sub dom ro frame off len) more leads = absurd leads
+
+past-direct : (k : CallerKnowledge) (d judged : DomId) (dir : Dir) (off len : ℕ) (c : CopyArgs) (p : Held) (e : Entry) (more : List Held) → permits e judged dir ForCopy off len ≡ true
+    → from_source k d c p e more ≡ after_source k d c (Direct p) more
+past-direct k d judged dir off len c p (Page dom ro frame) more may = refl
+past-direct k d judged dir off len c p (Sub dom ro frame start size) more may = refl
+past-direct k d judged dir off len c p Invalid more may = absurd (false≢true may)
+past-direct k d judged dir off len c p (Via dom ro dom2 gref) [] may = absurd (false≢true may)
+past-direct k d judged dir off len c p (Via dom ro dom2 gref) (q ∷ more) may = absurd (false≢true may)
+
+granted-source : (k : CallerKnowledge) (d : DomId) (c : CopyArgs) (held : List Held) → is_source_granted c ≡ true → copy_now k d c held ≡ toward_source k d c held
+granted-source k d c held e = ap (λ (b : Bool). cond b (toward_source k d c held) (after_source k d c Own held)) e
+
+-- once the source is reached, the leg is the destination's
+reached-source : (k : CallerKnowledge) (d : DomId) (c : CopyArgs) (source : Route) (held : List Held) → IsReached k d (is_source_granted c) c.source Read c.len (source_pair d c) source
+    → copy_now k d c (reverse (held_by source) ++ held) ≡ after_source k d c source held
+reached-source k d c Own held is = ap (λ (b : Bool). cond b (toward_source k d c held) (after_source k d c Own held)) is.0
+reached-source k d c (Direct p) held is = granted-source k d c (p ∷ held) is.0 ∙ past-direct k d d Read c.source.offset c.len c p p.entry held is.2.permitted
+reached-source k d c (Through via p) held is = granted-source k d c (via ∷ p ∷ held) is.0 ∙ past-via k d c via p via.entry held is.2
+
+toward-dest : (k : CallerKnowledge) (d : DomId) (c : CopyArgs) (source : Route) (via : Option Held) (l : Leg) → IsToward k d (is_dest_granted c) c.dest Write c.len (dest_pair d source) via l
+    → after_source k d c source (held_by (begun_route via)) ≡ Some (record { leg = l; pair = dest_pair d source })
+toward-dest k d c source None l is =
+    ap (λ (b : Bool). cond b (Some (dest_now k d c source)) None) is.0 ∙ ap (λ (x : Leg). Some (record { leg = x; pair = dest_pair d source })) (sym is.1)
+toward-dest k d c source (Some via) l is =
+    ap (λ (b : Bool). cond b (second_now k (dest_now k d c source) via.entry) None) is.0 ∙ on-from k (dest_now k d c source) via.entry l is.2
+
+toward-source : (k : CallerKnowledge) (d : DomId) (c : CopyArgs) (via : Option Held) (l : Leg) → IsToward k d (is_source_granted c) c.source Read c.len (source_pair d c) via l
+    → copy_now k d c (held_by (begun_route via)) ≡ Some (record { leg = l; pair = source_pair d c })
+toward-source k d c None l is = granted-source k d c [] is.0 ∙ ap (λ (x : Leg). Some (record { leg = x; pair = source_pair d c })) (sym is.1)
+toward-source k d c (Some via) l is = granted-source k d c (via ∷ []) is.0 ∙ from-via k d c via via.entry l is.2
+
+-- the pins held, the first one first
+first-source : (via : Option Held) → reverse (held_by Own ++ held_by (begun_route via)) ≡ held_by (begun_route via)
+first-source None = refl
+first-source (Some via) = refl
+
+first-dest : (source : Route) (via : Option Held) → reverse (held_by (begun_route via) ++ held_by source) ≡ reverse (held_by source) ++ held_by (begun_route via)
+first-dest Own None = refl
+first-dest (Direct p) None = refl
+first-dest (Through v p) None = refl
+first-dest Own (Some via) = refl
+first-dest (Direct p) (Some via) = refl
+first-dest (Through v p) (Some via) = refl
+
+walks : (k : CallerKnowledge) (d : DomId) (r : Asked) (aim : Aim) (l : Leg) → IsFor k d r aim l → leg_now k d r (reverse (last_first (pins_so_far aim))) ≡ Some (record { leg = l; pair = pair_of d aim })
+walks k d r Mapping l is =
+    ap (λ (z : Asked). leg_now k d z []) is.of_map ∙ ap (λ (x : Leg). Some (record { leg = x; pair = pair_of d Mapping })) (sym is.leg_is)
+walks k d r (Source c via) l is =
+    ap (λ (z : Asked). leg_now k d z (reverse (last_first (pins_so_far (Source c via))))) is.0
+    ∙ ap (copy_now k d c) (first-source via) ∙ toward-source k d c via l is.1
+walks k d r (Dest c source via) l is =
+    ap (λ (z : Asked). leg_now k d z (reverse (last_first (pins_so_far (Dest c source via))))) is.0
+    ∙ ap (copy_now k d c) (first-dest source via) ∙ reached-source k d c source (held_by (begun_route via)) is.1 ∙ toward-dest k d c source via l is.2
+
+-- the leg of a call is the one that its steps so far tell
+pub leg-here : (s : Setting) (h : History) (d : DomId) (r : Asked) (aim : Aim) (l : Leg) → IsFor (known_at s h d) d r aim l → legs_at h d.0 ≡ numbered 0 (reverse (last_first (pins_so_far aim)))
+    → IsLegOf s h d r l (pair_of d aim)
+leg-here s h d r aim l is held =
+    ap (λ (ps : List (ℕ × Held)). leg_now (known_at s h d) d r (map (λ (p : ℕ × Held). p.1) ps)) held
+    ∙ ap (leg_now (known_at s h d) d r) (unnumbered 0 (reverse (last_first (pins_so_far aim)))) ∙ walks (known_at s h d) d r aim l is

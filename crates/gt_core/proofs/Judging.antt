@@ -1,0 +1,419 @@
+-- The refusal that a step leads to is the first rule that stands, and where the call stands then.
+use Rattle.std.proofs.Common.{◌≡◌, ◌≢◌, ◌<◌, ◌≤◌, ◌+◌, ◌-◌, ◌⊎◌, inl, inr, ℕ, zero, suc, refl, Bool, true, false, List, [], ◌∷◌, Option, Some, None, cond, sym, ap, ◌∙◌, subst, ltb, reverse, arith}
+use Rattle.std.specs.Prelude.{nat_lt, nat_le, ◌==◌, ◌&&◌, ◌||◌, not, is_none}
+use Rattle.std.proofs.lemmas.Bool.{lt-ltb, eqb-true, eq-eqb, true≢false, false≢true}
+use Rattle.std.proofs.lemmas.Option.{none-some, same_Some}
+use Rattle.gt_types.specs.Names.{domain_of, resolved}
+use Rattle.gt_types.specs.declared.DomId.{DomId}
+use Rattle.gt_types.specs.declared.GrantRef.{GrantRef}
+use Rattle.gt_types.specs.declared.Use.TheVariants.{Copy as ForCopy}
+use Rattle.gt_types.specs.declared.config.DomainConfig.{DomainConfig}
+use Rattle.gt_types.specs.declared.denial.Rule.{Rule}
+use Rattle.gt_types.specs.declared.denial.Rule.TheVariants.{N10, N11, N12, N13, N15, N18, N19}
+use Rattle.gt_types.specs.declared.denial.Denial.{Denial}
+use Rattle.gt_types.specs.declared.limits.TheConstants.{MAX_TRIES, TABLE_ENTRIES}
+use Rattle.gt_entry.specs.declared.entry.Entry.{Entry}
+use Rattle.gt_entry.specs.declared.entry.Entry.TheVariants.{Invalid, Page, Sub, Via}
+use Rattle.gt_entry.specs.declared.control.Control.{Control}
+use Rattle.gt_entry.specs.declared.control.Kind.TheVariants.{Invalid as KindInvalid, Page as KindPage, Via as KindVia}
+use Rattle.gt_entry.specs.declared.change.Change.{Change}
+use Rattle.gt_entry.specs.declared.change.Change.TheVariants.{Publish, Revoke as ToInvalid, Demote as ToReadOnly, Promote as ToWritable}
+use Rattle.gt_entry.specs.Entries.{is_invalid}
+use Rattle.gt_entry.specs.Permits.{is_copying, allows_direction}
+use Rattle.gt_entry.specs.Words.{control_word, control_of}
+use Rattle.gt_entry.specs.Spelling.{control_with}
+use Rattle.gt_calls.specs.declared.leg.TheConstants.{MORE_TRIES}
+use Rattle.gt_calls.specs.declared.held.Held.{Held}
+use Rattle.gt_calls.specs.declared.held.Route.{Route}
+use Rattle.gt_calls.specs.declared.held.Route.TheVariants.{Direct, Through}
+use Rattle.gt_calls.specs.declared.request.Asked.{Asked}
+use Rattle.gt_calls.specs.declared.request.Asked.TheVariants.{Grant, Revoke, Demote, Promote, Map, QuerySize, GetVersion, Copy}
+use Rattle.gt_calls.specs.declared.request.CopyArgs.{CopyArgs}
+use Rattle.gt_calls.specs.declared.request.Holder.TheVariants.{Mapping as ByMapping, Leg as ByLeg}
+use Rattle.gt_calls.specs.declared.action.Verdict.{Verdict}
+use Rattle.gt_calls.specs.declared.action.Verdict.TheVariants.{Granted, Given, Mapped, Refused}
+use Rattle.gt_calls.specs.declared.action.Step.{Step}
+use Rattle.gt_calls.specs.declared.action.Step.TheVariants.{LookHeader, LookControl, LookBody, Pin as PinStep, Unpin, StoreBody, StoreHeader, Exchange, Read as ReadBytes, Write as WriteBytes, Copy as CopyBytes}
+use Rattle.gt_calls.specs.declared.action.Seen.{Seen}
+use Rattle.gt_calls.specs.declared.action.Seen.TheVariants.{Nothing, Word, Taken, Missed}
+use Rattle.gt_calls.specs.declared.action.Action.{Action}
+use Rattle.gt_calls.specs.declared.action.Action.TheVariants.{Step as Makes, Done}
+use Rattle.gt_calls.specs.declared.copying.Aim.{Aim}
+use Rattle.gt_calls.specs.declared.copying.Aim.TheVariants.{Mapping, Source, Dest}
+use Rattle.gt_calls.specs.declared.call.Question.{Question}
+use Rattle.gt_calls.specs.declared.call.Question.TheVariants.{Size as AsksSize, Version as AsksVersion}
+use Rattle.gt_calls.specs.declared.call.Phase.{Phase}
+use Rattle.gt_calls.specs.declared.call.Phase.TheVariants.{Storing, StoringSecond, Exchanging, Looking, Changing, Walking, Accessing, Asking, Last, Ending}
+use Rattle.gt_calls.specs.declared.leg.Leg.{Leg}
+use Rattle.gt_calls.specs.declared.leg.LegPhase.{LegPhase}
+use Rattle.gt_calls.specs.declared.leg.LegPhase.TheVariants.{Header as AtHeader, Look, Body, Second, Pinning, Relook}
+use Rattle.gt_calls.specs.declared.leg.LegNext.{LegNext}
+use Rattle.gt_calls.specs.declared.leg.LegNext.TheVariants.{Going, Refused as LegRefused, Pinned}
+use Rattle.gt_calls.specs.Holding.{last_first, pins_so_far}
+use Rattle.gt_calls.specs.Rules.{CallerKnowledge, IsOfRun, begun, first, stands, first_look, is_kind, size_of, via_judged, is_dest_granted, is_source_granted}
+use Rattle.gt_calls.specs.Opening.{Opens, opens}
+use Rattle.gt_calls.specs.Path.{Continuation, FitsStep, IsExchanged, IsChanged, path, entry_refusal, refused_at, idle_word, is_stopped, told, held_of, rule_of_try, source_pair, dest_pair, end_leg, map_leg, second_leg}
+use Rattle.gt_calls.specs.Resting.{IsFor, IsToward, IsOnFrom, RestsOnWord, RestsOnRequest}
+use Rattle.gt_calls.specs.Machine.{phase_after, action_at, after_leg, leg_after, leg_step, after_miss, after_pin_of, after_source_pin, after_dest_pin, at_dest, where_via, after_store, publishing, after_own_look, after_own_miss, refused_as, next_to_give}
+use Rattle.gt_calls.specs.Standing.{IsTurn, IsQuiet, HasShown, StandsAt}
+use Rattle.gt_core.specs.States.{State, state_of}
+use Rattle.gt_core.specs.History.{History, Setting, word_at, control_at, table_at, entry_at, generation_at, body_at, reads_at, writes_at, known_at, seen_by, legs_at}
+use Rattle.gt_core.specs.Legal.{StepsSoFar, LegNow, leg_at, leg_now, misses, looked_at, is_in_body, is_demote, at_entry, rule_at_exchange, rule_at_header, rule_at_via, rule_at_pin, first_at, refusal_in, or_then}
+use Rattle.gt_core.specs.Standing.{CoreStands, StateAgrees, PhaseStands, LegStands, Asks, EndsAfter, phase_refusal, numbered}
+use Rattle.gt_core.proofs.Fitting.{word-shows, table-fits}
+use Rattle.gt_core.proofs.Seeing.{IsWithin}
+use Rattle.gt_core.proofs.Tries.{misses-look, misses-exchange, misses-exchanged, looked-here, few, miss-late}
+use Rattle.gt_core.proofs.Legs.{Words, IsAsTried, as-tried, still-judged, TakesNone, leg-judged, leg-place, NextStands, refusal_next, IsLegOf, control-writes}
+use Rattle.gt_core.proofs.Aims.{pair_of, leg-here}
+use Rattle.gt_core.proofs.Phases.{IsHere, makes-same, words-of, of-run, word-below, turn-below, IsPublished, step-publishes, idle-here, idle-no-pins, grant-invalid}
+
+-- the first rule that stands at this step, or before it, is the refusal that the call comes to
+abbrev pub Judged : Setting → History → DomId → Asked → StepsSoFar → Phase → Step → Type 0
+Judged s h d r so_far phase step = or_then (phase_refusal phase) (first_at s h d r so_far step) ≡ phase_refusal (phase_after (known_at s h d) d phase (seen_by s h d step))
+
+-- a grant
+
+stored-refusal : (k : CallerKnowledge) (gref : GrantRef) (entry : Entry) → None ≡ phase_refusal (after_store k gref entry)
+stored-refusal k gref Invalid = refl
+stored-refusal k gref (Page dom ro frame) = refl
+stored-refusal k gref (Sub dom ro frame off len) = refl
+stored-refusal k gref (Via dom ro dom2 r) = refl
+
+published-refusal : (k : CallerKnowledge) (d : DomId) (gref : GrantRef) (looked w : ℕ) (entry : Entry) (b : Bool) → b ≡ true → None ≡ phase_refusal (phase_after k d (Exchanging gref looked (Publish entry)) (cond b Taken (Missed w)))
+published-refusal k d gref looked w entry true e = refl
+published-refusal k d gref looked w entry false e = absurd (false≢true e)
+
+-- a revocation
+
+revoke-refusal : (k : CallerKnowledge) (d : DomId) (gref : GrantRef) (looked w pins : ℕ) (b : Bool) → (b ≡ true → pins ≡ 0) → (b ≡ false → pins ≡ 0 → ⊥)
+    → at_entry d gref w (stands (nat_lt 0 pins) N19) ≡ phase_refusal (phase_after k d (Exchanging gref looked ToInvalid) (cond b Taken (Missed w)))
+revoke-refusal k d gref looked w pins true free held = ap (λ (n : ℕ). at_entry d gref w (stands (nat_lt 0 n) N19)) (free refl)
+revoke-refusal k d gref looked w zero false free held = absurd (held refl refl)
+revoke-refusal k d gref looked w (suc pins) false free held = ap (λ (b : Bool). at_entry d gref w (stands b N19)) (lt-ltb 0 (suc pins) (omega arith))
+
+once-judged : (s : Setting) (h : History) (d : DomId) (r : Asked) (way : Continuation) (shown : List Seen) (so_far : StepsSoFar) (gref : GrantRef) (looked : ℕ) (change : Change) → IsPublished s h d (Exchange gref looked change)
+    → RestsOnWord (known_at s h d) way d r shown gref looked change → PhaseStands s h d r so_far (Exchanging gref looked change) → Judged s h d r so_far (Exchanging gref looked change) (Exchange gref looked change)
+once-judged s h d r way shown so_far gref looked (Publish entry) published rests place =
+    let w = word_at s h d.0 gref.0 in
+    published-refusal (known_at s h d) d gref looked w entry (w == looked) (eq-eqb w looked published)
+once-judged s h d r way shown so_far gref looked ToInvalid published rests place =
+    let w = word_at s h d.0 gref.0 in
+    revoke-refusal (known_at s h d) d gref looked w (reads_at h d.0 gref.0 + writes_at h d.0 gref.0) (w == looked)
+    (λ b. idle-no-pins s h d gref (eqb-true w looked b ∙ rests.1))
+    (λ b none. false≢true (sym b ∙ eq-eqb w looked (idle-here s h d gref none ∙ sym rests.1)))
+once-judged s h d r way shown so_far gref looked ToReadOnly published rests place = absurd place
+once-judged s h d r way shown so_far gref looked ToWritable published rests place = absurd place
+
+-- an owner's turns
+
+-- what a look shows of the write pins
+pub writes-shown : (s : Setting) (h : History) (t r : ℕ) → control_of (word_at s h t r) ≡ control_at s h t r → (control_of (word_at s h t r)).writes ≡ writes_at h t r
+writes-shown s h t r round =
+    ap (λ (c : Control). c.writes) round ∙ control-writes (entry_at h t r) (generation_at s h t r) (reads_at h t r) (writes_at h t r)
+
+look-refusal : (d : DomId) (gref : GrantRef) (change : Change) (more w : ℕ) (b late : Bool) → late ≡ false
+    → at_entry d gref w (first (stands b N19 ∷ None ∷ stands late N18 ∷ [])) ≡ phase_refusal (cond b (refused_as d gref N19 w) (Changing gref change more w))
+look-refusal d gref change more w true late e = refl
+look-refusal d gref change more w false true e = absurd (true≢false e)
+look-refusal d gref change more w false false e = refl
+
+look-judged : (s : Setting) (h : History) (d : DomId) (r : Asked) (so_far : StepsSoFar) (gref : GrantRef) (change : Change) (more : ℕ) → control_of (word_at s h d.0 gref.0) ≡ control_at s h d.0 gref.0
+    → IsTurn r gref change → PhaseStands s h d r so_far (Looking gref change more) → Judged s h d r so_far (Looking gref change more) (LookControl d gref)
+look-judged s h d r so_far gref ToReadOnly more round is place =
+    let w = word_at s h d.0 gref.0 in
+    subst (λ (z : Asked). Judged s h d z so_far (Looking gref ToReadOnly more) (LookControl d gref)) (sym is)
+    (look-refusal d gref ToReadOnly more w (nat_lt 0 (writes_at h d.0 gref.0)) _ (ap (nat_le MAX_TRIES) (misses-look d gref w so_far place.1) ∙ few (misses so_far) more place.0)
+    ∙ ap (λ (n : ℕ). phase_refusal (cond (nat_lt 0 n) (refused_as d gref N19 w) (Changing gref ToReadOnly more w))) (sym (writes-shown s h d.0 gref.0 round)))
+look-judged s h d r so_far gref ToWritable more round is place =
+    let w = word_at s h d.0 gref.0 in
+    subst (λ (z : Asked). Judged s h d z so_far (Looking gref ToWritable more) (LookControl d gref)) (sym is)
+    (look-refusal d gref ToWritable more w false _ (ap (nat_le MAX_TRIES) (misses-look d gref w so_far place.1) ∙ few (misses so_far) more place.0))
+look-judged s h d r so_far gref (Publish entry) more round is place = absurd is
+look-judged s h d r so_far gref ToInvalid more round is place = absurd is
+
+own-miss-late : (d : DomId) (gref : GrantRef) (change : Change) (more found m : ℕ) → m + more ≡ MORE_TRIES
+    → at_entry d gref found (stands (nat_le MAX_TRIES (1 + m)) N18) ≡ phase_refusal (after_own_miss d gref change more found)
+own-miss-late d gref change more found m e = sym (miss-late d gref more found m e) ∙ by (nat_lt 0 more)
+  where
+    by : (b : Bool) → cond b None (at_entry d gref found (Some N18)) ≡ phase_refusal (cond b (Looking gref change (more - 1)) (refused_as d gref N18 found))
+    by true = refl
+    by false = refl
+
+change-refusal : (k : CallerKnowledge) (d : DomId) (gref : GrantRef) (change : Change) (more looked w : ℕ) (so_far : StepsSoFar) (b : Bool) → misses so_far + more ≡ MORE_TRIES
+    → at_entry d gref w (stands (nat_le MAX_TRIES (misses ((Exchange gref looked change, cond b Taken (Missed w)) ∷ so_far))) N18)
+    ≡ phase_refusal (phase_after k d (Changing gref change more looked) (cond b Taken (Missed w)))
+change-refusal k d gref change more looked w so_far true turn =
+    ap (λ (n : ℕ). at_entry d gref w (stands (nat_le MAX_TRIES n) N18)) (misses-exchanged gref looked change so_far)
+    ∙ ap (λ (x : Bool). at_entry d gref w (stands x N18)) (few (misses so_far) more turn)
+change-refusal k d gref change more looked w so_far false turn =
+    ap (λ (n : ℕ). at_entry d gref w (stands (nat_le MAX_TRIES n) N18)) (misses-exchange gref looked w change so_far) ∙ own-miss-late d gref change more w (misses so_far) turn
+
+change-judged : (s : Setting) (h : History) (d : DomId) (r : Asked) (so_far : StepsSoFar) (gref : GrantRef) (change : Change) (more looked : ℕ) → IsTurn r gref change
+    → PhaseStands s h d r so_far (Changing gref change more looked) → Judged s h d r so_far (Changing gref change more looked) (Exchange gref looked change)
+change-judged s h d r so_far gref ToReadOnly more looked is place =
+    let w = word_at s h d.0 gref.0 in change-refusal (known_at s h d) d gref ToReadOnly more looked w so_far (w == looked) place.0
+change-judged s h d r so_far gref ToWritable more looked is place =
+    let w = word_at s h d.0 gref.0 in change-refusal (known_at s h d) d gref ToWritable more looked w so_far (w == looked) place.0
+change-judged s h d r so_far gref (Publish entry) more looked is place = absurd is
+change-judged s h d r so_far gref ToInvalid more looked is place = absurd is
+
+-- a leg
+
+leg-refusal : (k : CallerKnowledge) (d : DomId) (aim : Aim) (l : Leg) (next : LegNext) → ((p : Held) → next ≡ Pinned p → ⊥) → refusal_next next ≡ phase_refusal (after_leg k d aim l next)
+leg-refusal k d aim l (Going phase) none = refl
+leg-refusal k d aim l (LegRefused denial) none = refl
+leg-refusal k d aim l (Pinned p) none = absurd (none p refl)
+
+-- the aim is not a call for a leg: no demote walks one
+plain-leg : (k : CallerKnowledge) (d : DomId) (r : Asked) (aim : Aim) (l : Leg) → IsFor k d r aim l → is_demote r ≡ false
+plain-leg k d r Mapping l is = ap is_demote is.of_map
+plain-leg k d r (Source c via) l is = ap is_demote is.0
+plain-leg k d r (Dest c source via) l is = ap is_demote is.0
+
+pub not-pinned : (s : Setting) (h : History) (d : DomId) (l : Leg) (at : LegPhase) → TakesNone s h d l at → (p : Held) → leg_after l at (seen_by s h d (leg_step l at)) ≡ Pinned p → ⊥
+not-pinned s h d l AtHeader none p e = by (nat_lt l.gref.0 (size_of (Rattle.gt_entry.specs.Words.header_of (Rattle.gt_entry.specs.Words.header_word (table_at s h l.dom))))) e
+  where
+    by : (b : Bool) → cond b (Going (Look MORE_TRIES)) (LegRefused (Rattle.gt_types.specs.Denial.denial_of Rattle.gt_types.specs.declared.denial.Rule.TheVariants.N9 (Rattle.gt_types.specs.declared.denial.Facts.TheVariants.Header l.dom (Rattle.gt_entry.specs.Words.header_word (table_at s h l.dom))))) ≡ Pinned p → ⊥
+    by true f = cc
+    by false f = cc
+not-pinned s h d l (Look more) none p e = by (first_look l (control_of (word_at s h l.dom.0 l.gref.0))) e
+  where
+    by : (o : Option Rule) → Rattle.gt_calls.specs.Machine.after_look l more (word_at s h l.dom.0 l.gref.0) o ≡ Pinned p → ⊥
+    by None f = cc
+    by (Some rule) f = cc
+not-pinned s h d l (Body more word) none p e = by (is_kind (control_of word).kind Rattle.gt_entry.specs.declared.control.Kind.TheVariants.Sub) (rule_of_try l word (body_at h l.dom.0 l.gref.0 Rattle.gt_entry.specs.declared.change.Half.TheVariants.First) 0) e
+  where
+    body : ℕ
+    body = body_at h l.dom.0 l.gref.0 Rattle.gt_entry.specs.declared.change.Half.TheVariants.First
+
+    by : (b : Bool) (o : Option Rule) → cond b (Going (Second more word body)) (Rattle.gt_calls.specs.Machine.after_words more word body 0 o) ≡ Pinned p → ⊥
+    by true o f = cc
+    by false None f = cc
+    by false (Some rule) f = cc
+not-pinned s h d l (Second more word body) none p e = by (rule_of_try l word body (body_at h l.dom.0 l.gref.0 Rattle.gt_entry.specs.declared.change.Half.TheVariants.Second)) e
+  where
+    by : (o : Option Rule) → Rattle.gt_calls.specs.Machine.after_words more word body (body_at h l.dom.0 l.gref.0 Rattle.gt_entry.specs.declared.change.Half.TheVariants.Second) o ≡ Pinned p → ⊥
+    by None f = cc
+    by (Some rule) f = cc
+not-pinned s h d l (Pinning more word body second) none p e = by (word_at s h l.dom.0 l.gref.0 == word) none e
+  where
+    found : ℕ
+    found = word_at s h l.dom.0 l.gref.0
+
+    late : (b : Bool) → cond b (Going (Look (more - 1))) (LegRefused (entry_refusal l.dom l.gref N18 found)) ≡ Pinned p → ⊥
+    late true f = cc
+    late false f = cc
+
+    by : (b : Bool) → b ≡ false → leg_after l (Pinning more word body second) (cond b Taken (Missed found)) ≡ Pinned p → ⊥
+    by true n f = absurd (true≢false n)
+    by false n f = late (nat_lt 0 more) f
+not-pinned s h d l (Relook more word rule) none p e = by (word_at s h l.dom.0 l.gref.0 == word) e
+  where
+    found : ℕ
+    found = word_at s h l.dom.0 l.gref.0
+
+    late : (b : Bool) → cond b (Going (Look (more - 1))) (LegRefused (entry_refusal l.dom l.gref N18 found)) ≡ Pinned p → ⊥
+    late true f = cc
+    late false f = cc
+
+    by : (b : Bool) → cond b (LegRefused (entry_refusal l.dom l.gref rule word)) (after_miss l more found) ≡ Pinned p → ⊥
+    by true f = cc
+    by false f = late (nat_lt 0 more) f
+
+leg-step-judged : (s : Setting) (h : History) (d : DomId) (r : Asked) (so_far : StepsSoFar) (aim : Aim) (l : Leg) (at : LegPhase) → Words s h l → IsFor (known_at s h d) d r aim l
+    → IsLegOf s h d r l (pair_of d aim) → LegStands s h l so_far at → TakesNone s h d l at → Judged s h d r so_far (Walking aim l at) (leg_step l at)
+leg-step-judged s h d r so_far aim l at ws is leg a none =
+    sym (leg-judged s h d r l (pair_of d aim) so_far at leg (plain-leg (known_at s h d) d r aim l is) ws a none)
+    ∙ leg-refusal (known_at s h d) d aim l (leg_after l at (seen_by s h d (leg_step l at))) (not-pinned s h d l at none)
+
+-- a pin that is taken
+
+-- a leg that may meet a Via: the first one to an end of a copy
+abbrev pub IsFirstLeg : Aim → Type 0
+IsFirstLeg (Source c None) = Unit {0}
+IsFirstLeg (Dest c source None) = Unit {0}
+IsFirstLeg aim = ⊥
+
+-- the entry is a Via
+abbrev pub IsVia : Entry → Type 0
+IsVia (Via dom ro dom2 gref) = Unit {0}
+IsVia entry = ⊥
+
+where-refusal : (o : Option Verdict) (aim : Aim) (l : Leg) → phase_refusal (where_via o aim l) ≡ refusal_in o
+where-refusal None aim l = refl
+where-refusal (Some v) aim l = refl
+
+dest-refusal : (k : CallerKnowledge) (d : DomId) (c : CopyArgs) (source : Route) → phase_refusal (at_dest k d c source) ≡ None
+dest-refusal k d c source = by (is_dest_granted c)
+  where
+    by : (b : Bool) → phase_refusal (cond b (Walking (Dest c source None) (end_leg k d c.dest Rattle.gt_types.specs.declared.Dir.TheVariants.Write c.len) AtHeader) (Accessing c source Rattle.gt_calls.specs.declared.held.Route.TheVariants.Own)) ≡ None
+    by true = refl
+    by false = refl
+
+no-via : (k : CallerKnowledge) (l : Leg) (pair : DomId → DomId × DomId) (e : Entry) → (IsVia e → ⊥) → rule_at_via k (Some (record { leg = l; pair = pair })) e ≡ None
+no-via k l pair Invalid n = refl
+no-via k l pair (Page dom ro frame) n = refl
+no-via k l pair (Sub dom ro frame off len) n = refl
+no-via k l pair (Via dom ro dom2 gref) n = absurd (n tt)
+
+source-pin-refusal : (k : CallerKnowledge) (d : DomId) (c : CopyArgs) (l : Leg) (p : Held) (e : Entry)
+    → phase_refusal (after_source_pin k d c l p e) ≡ rule_at_via k (Some (record { leg = l; pair = source_pair d c })) e
+source-pin-refusal k d c l p (Via dom ro dom2 gref) = where-refusal (via_judged k (source_pair d c dom2) dom2) (Source c (Some p)) (second_leg k l dom2 gref)
+source-pin-refusal k d c l p Invalid = dest-refusal k d c (Direct p)
+source-pin-refusal k d c l p (Page dom ro frame) = dest-refusal k d c (Direct p)
+source-pin-refusal k d c l p (Sub dom ro frame off len) = dest-refusal k d c (Direct p)
+
+dest-pin-refusal : (k : CallerKnowledge) (d : DomId) (c : CopyArgs) (source : Route) (l : Leg) (p : Held) (e : Entry)
+    → phase_refusal (after_dest_pin k d c source l p e) ≡ rule_at_via k (Some (record { leg = l; pair = dest_pair d source })) e
+dest-pin-refusal k d c source l p (Via dom ro dom2 gref) = where-refusal (via_judged k (dest_pair d source dom2) dom2) (Dest c source (Some p)) (second_leg k l dom2 gref)
+dest-pin-refusal k d c source l p Invalid = refl
+dest-pin-refusal k d c source l p (Page dom ro frame) = refl
+dest-pin-refusal k d c source l p (Sub dom ro frame off len) = refl
+
+pin-refusal : (k : CallerKnowledge) (d : DomId) (aim : Aim) (l : Leg) (p : Held) (e : Entry) → p.entry ≡ e → (IsVia e → IsFirstLeg aim)
+    → phase_refusal (after_pin_of k d aim l p) ≡ rule_at_via k (Some (record { leg = l; pair = pair_of d aim })) e
+pin-refusal k d Mapping l p e same first = sym (no-via k l (pair_of d Mapping) e (λ v. first v))
+pin-refusal k d (Source c None) l p e same first = ap (λ (z : Entry). phase_refusal (after_source_pin k d c l p z)) same ∙ source-pin-refusal k d c l p e
+pin-refusal k d (Source c (Some via)) l p e same first = dest-refusal k d c (Through via p) ∙ sym (no-via k l (pair_of d (Source c (Some via))) e (λ v. first v))
+pin-refusal k d (Dest c source None) l p e same first = ap (λ (z : Entry). phase_refusal (after_dest_pin k d c source l p z)) same ∙ dest-pin-refusal k d c source l p e
+pin-refusal k d (Dest c source (Some via)) l p e same first = sym (no-via k l (pair_of d (Dest c source (Some via))) e (λ v. first v))
+
+-- where none of five rules stands
+pub five-none : (a b c d e : Bool) → first (stands a N10 ∷ stands b N11 ∷ stands c N12 ∷ stands d N13 ∷ stands e N15 ∷ []) ≡ None → (a ≡ false) × (b ≡ false) × (c ≡ false) × (d ≡ false) × (e ≡ false)
+five-none true b c d e h = cc
+five-none false true c d e h = cc
+five-none false false true d e h = cc
+five-none false false false true e h = cc
+five-none false false false false true h = cc
+five-none false false false false false h = (refl, refl, refl, refl, refl)
+
+-- a Via is met in a copy's first legs alone
+via-passed : (l : Leg) (dom : DomId) (ro : Bool) (dom2 : DomId) (gref : GrantRef) (g r w : ℕ) → first_look l (control_with (Via dom ro dom2 gref) g r w) ≡ None → (is_copying l.purpose ≡ true) × (l.beyond_via ≡ false)
+via-passed l dom ro dom2 gref g r w e =
+    let c = control_with (Via dom ro dom2 gref) g r w in
+    let f = five-none false (not (dom.0 == l.grantee.0)) (not (is_copying l.purpose || is_kind c.kind KindPage)) (not (allows_direction ro l.dir)) (l.beyond_via && is_kind c.kind KindVia) e in
+    (copying (is_copying l.purpose) f.2, beyond l.beyond_via f.4)
+  where
+    copying : (b : Bool) → not (b || false) ≡ false → b ≡ true
+    copying true e = refl
+    copying false e = absurd (true≢false e)
+
+    beyond : (b : Bool) → (b && true) ≡ false → b ≡ false
+    beyond true e = absurd (true≢false e)
+    beyond false e = refl
+
+second-beyond : (k : CallerKnowledge) (n : Leg) (e : Entry) (l : Leg) → IsOnFrom k n e l → l.beyond_via ≡ true
+second-beyond k n (Via dom ro dom2 gref) l is = ap (λ (z : Leg). z.beyond_via) is
+second-beyond k n Invalid l is = absurd is
+second-beyond k n (Page dom ro frame) l is = absurd is
+second-beyond k n (Sub dom ro frame off len) l is = absurd is
+
+first-leg-of : (k : CallerKnowledge) (d : DomId) (r : Asked) (aim : Aim) (l : Leg) → IsFor k d r aim l → is_copying l.purpose ≡ true → l.beyond_via ≡ false → IsFirstLeg aim
+first-leg-of k d r Mapping l is copying beyond = false≢true (ap (λ (z : Leg). is_copying z.purpose) (sym is.leg_is) ∙ copying)
+first-leg-of k d r (Source c None) l is copying beyond = tt
+first-leg-of k d r (Source c (Some via)) l is copying beyond = true≢false (sym (second-beyond k (end_leg k d c.source Rattle.gt_types.specs.declared.Dir.TheVariants.Read c.len) via.entry l is.1.2) ∙ beyond)
+first-leg-of k d r (Dest c source None) l is copying beyond = tt
+first-leg-of k d r (Dest c source (Some via)) l is copying beyond = true≢false (sym (second-beyond k (end_leg k d c.dest Rattle.gt_types.specs.declared.Dir.TheVariants.Write c.len) via.entry l is.2.2) ∙ beyond)
+
+pub met-first : (k : CallerKnowledge) (d : DomId) (r : Asked) (aim : Aim) (l : Leg) (e : Entry) (g n m : ℕ) → IsFor k d r aim l → first_look l (control_with e g n m) ≡ None → IsVia e → IsFirstLeg aim
+met-first k d r aim l (Via dom ro dom2 gref) g n m is passed v = let f = via-passed l dom ro dom2 gref g n m passed in first-leg-of k d r aim l is f.0 f.1
+met-first k d r aim l Invalid g n m is passed v = absurd v
+met-first k d r aim l (Page dom ro frame) g n m is passed v = absurd v
+met-first k d r aim l (Sub dom ro frame off len) g n m is passed v = absurd v
+
+pub taken-first : (s : Setting) (h : History) (d : DomId) (r : Asked) (aim : Aim) (l : Leg) (word body second : ℕ) → IsFor (known_at s h d) d r aim l → first_look l (control_of word) ≡ None → IsAsTried s h l word body second
+    → IsVia (entry_at h l.dom.0 l.gref.0) → IsFirstLeg aim
+taken-first s h d r aim l word body second is passed tried =
+    met-first (known_at s h d) d r aim l (entry_at h l.dom.0 l.gref.0) (generation_at s h l.dom.0 l.gref.0) (reads_at h l.dom.0 l.gref.0) (writes_at h l.dom.0 l.gref.0) is (ap (first_look l) (sym tried.control) ∙ passed)
+
+taken-judged : (s : Setting) (h : History) (d : DomId) (r : Asked) (so_far : StepsSoFar) (aim : Aim) (l : Leg) (more word body second : ℕ) (b : Bool) → b ≡ true → IsFor (known_at s h d) d r aim l → IsLegOf s h d r l (pair_of d aim)
+    → first_look l (control_of word) ≡ None → IsAsTried s h l word body second
+    → rule_at_pin s h d r so_far (held_of l word body second) (cond b Taken (Missed (word_at s h l.dom.0 l.gref.0)))
+    ≡ phase_refusal (phase_after (known_at s h d) d (Walking aim l (Pinning more word body second)) (cond b Taken (Missed (word_at s h l.dom.0 l.gref.0))))
+taken-judged s h d r so_far aim l more word body second false e is leg passed tried = absurd (false≢true e)
+taken-judged s h d r so_far aim l more word body second true e is leg passed tried =
+    ap (λ (o : Option LegNow). rule_at_via (known_at s h d) o (entry_at h l.dom.0 l.gref.0)) leg
+    ∙ sym (pin-refusal (known_at s h d) d aim l (held_of l word body second) (entry_at h l.dom.0 l.gref.0) tried.entry (taken-first s h d r aim l word body second is passed tried))
+
+-- each step of a walk
+walk-judged : (s : Setting) (h : History) (d : DomId) (r : Asked) (so_far : StepsSoFar) (aim : Aim) (l : Leg) (at : LegPhase) → Words s h l → IsFor (known_at s h d) d r aim l
+    → IsLegOf s h d r l (pair_of d aim) → LegStands s h l so_far at → Judged s h d r so_far (Walking aim l at) (leg_step l at)
+walk-judged s h d r so_far aim l (Pinning more word body second) ws is leg a = by (word_at s h l.dom.0 l.gref.0 == word) refl
+  where
+    by : (b : Bool) → (word_at s h l.dom.0 l.gref.0 == word) ≡ b → Judged s h d r so_far (Walking aim l (Pinning more word body second)) (leg_step l (Pinning more word body second))
+    by false e = leg-step-judged s h d r so_far aim l (Pinning more word body second) ws is leg a e
+    by true e =
+        taken-judged s h d r so_far aim l more word body second (word_at s h l.dom.0 l.gref.0 == word) e is leg a.0.passed
+        (as-tried s h l so_far more word body second None a.0 a.1 ws (eqb-true (word_at s h l.dom.0 l.gref.0) word e))
+walk-judged s h d r so_far aim l AtHeader ws is leg a = leg-step-judged s h d r so_far aim l AtHeader ws is leg a tt
+walk-judged s h d r so_far aim l (Look more) ws is leg a = leg-step-judged s h d r so_far aim l (Look more) ws is leg a tt
+walk-judged s h d r so_far aim l (Body more word) ws is leg a = leg-step-judged s h d r so_far aim l (Body more word) ws is leg a tt
+walk-judged s h d r so_far aim l (Second more word body) ws is leg a = leg-step-judged s h d r so_far aim l (Second more word body) ws is leg a tt
+walk-judged s h d r so_far aim l (Relook more word rule) ws is leg a = leg-step-judged s h d r so_far aim l (Relook more word rule) ws is leg a tt
+
+-- single steps
+
+asked-judged : (s : Setting) (h : History) (d : DomId) (r : Asked) (so_far : StepsSoFar) (dom : DomId) (question : Question) → Asks d r dom question → Judged s h d r so_far (Asking dom question) (LookHeader dom)
+asked-judged s h d r so_far dom AsksSize a = subst (λ (z : Asked). Judged s h d z so_far (Asking dom AsksSize) (LookHeader dom)) (sym a.1) refl
+asked-judged s h d r so_far dom AsksVersion a = subst (λ (z : Asked). Judged s h d z so_far (Asking dom AsksVersion) (LookHeader dom)) (sym a.1) refl
+
+ends-plain : (r : Asked) (step : Step) (verdict : Verdict) → EndsAfter r step verdict → refusal_in (Some verdict) ≡ None
+ends-plain r (StoreHeader version frames) verdict (inl e) = ap (λ (v : Verdict). refusal_in (Some v)) e.1
+ends-plain r (StoreHeader version frames) verdict (inr e) = ap (λ (v : Verdict). refusal_in (Some v)) e.1
+ends-plain r (LookHeader dom) verdict e = ap (λ (v : Verdict). refusal_in (Some v)) e
+ends-plain r (LookControl dom gref) verdict e = ap (λ (v : Verdict). refusal_in (Some v)) e
+ends-plain r (LookBody dom gref half) verdict e = ap (λ (v : Verdict). refusal_in (Some v)) e
+ends-plain r (PinStep p) verdict e = ap (λ (v : Verdict). refusal_in (Some v)) e
+ends-plain r (Unpin p holder) verdict e = ap (λ (v : Verdict). refusal_in (Some v)) e
+ends-plain r (StoreBody gref half word) verdict e = ap (λ (v : Verdict). refusal_in (Some v)) e
+ends-plain r (Exchange gref looked change) verdict e = ap (λ (v : Verdict). refusal_in (Some v)) e
+ends-plain r (ReadBytes dom frame off len) verdict e = ap (λ (v : Verdict). refusal_in (Some v)) e
+ends-plain r (WriteBytes dom frame off len) verdict e = ap (λ (v : Verdict). refusal_in (Some v)) e
+ends-plain r (CopyBytes from to len) verdict e = ap (λ (v : Verdict). refusal_in (Some v)) e
+
+last-judged : (s : Setting) (h : History) (d : DomId) (r : Asked) (so_far : StepsSoFar) (step : Step) (verdict : Verdict) → IsQuiet step → refusal_in (Some verdict) ≡ None → Judged s h d r so_far (Last step verdict) step
+last-judged s h d r so_far (Unpin p (ByMapping handle)) verdict q plain = sym plain
+last-judged s h d r so_far (Unpin p (ByLeg number)) verdict q plain = absurd q
+last-judged s h d r so_far (StoreBody gref half word) verdict q plain = sym plain
+last-judged s h d r so_far (StoreHeader version frames) verdict q plain = sym plain
+last-judged s h d r so_far (ReadBytes dom frame off len) verdict q plain = sym plain
+last-judged s h d r so_far (WriteBytes dom frame off len) verdict q plain = sym plain
+last-judged s h d r so_far (CopyBytes from to len) verdict q plain = absurd q
+last-judged s h d r so_far (LookHeader dom) verdict q plain = absurd q
+last-judged s h d r so_far (LookControl dom gref) verdict q plain = absurd q
+last-judged s h d r so_far (LookBody dom gref half) verdict q plain = absurd q
+last-judged s h d r so_far (PinStep p) verdict q plain = absurd q
+last-judged s h d r so_far (Exchange gref looked change) verdict q plain = absurd q
+
+pub then-none : (o : Option Denial) → or_then o None ≡ o
+then-none None = refl
+then-none (Some d) = refl
+
+give-judged : (s : Setting) (h : History) (d : DomId) (r : Asked) (so_far : StepsSoFar) (pins : Rattle.gt_calls.specs.declared.held.Pins.Pins) (held : List Held) (verdict : Verdict) (step : Step) → next_to_give held verdict ≡ Makes step
+    → Judged s h d r so_far (Ending pins verdict) step
+give-judged s h d r so_far pins [] verdict step e = cc
+give-judged s h d r so_far pins (p ∷ ps) verdict step e = subst (λ (z : Step). Judged s h d r so_far (Ending pins verdict) z) (makes-same _ _ e) (then-none (refusal_in (Some verdict)))
+
+-- at each step: the first rule that stands, here or before, is the refusal that its words lead to
+pub judged : (s : Setting) (h : History) (xs : List State) (d : DomId) (r : Asked) (shown : List Seen) (so_far : StepsSoFar) (phase : Phase) (step : Step) → IsHere s h xs d r shown so_far phase step → Judged s h d r so_far phase step
+judged s h xs d r shown so_far phase step i = subst (λ (a : Action). OfAction phase a) i.acts (by phase i.at.has_shown i.place i.acts i.held (step-publishes s h xs d r shown so_far phase step i))
+  where
+    k : CallerKnowledge
+    k = known_at s h d
+
+    OfAction : Phase → Action → Type 0
+    OfAction p (Makes z) = Judged s h d r so_far p z
+    OfAction p (Done v) = Unit {0}
+
+    by : (p : Phase) → HasShown k (path k d r) d r shown p → PhaseStands s h d r so_far p → action_at d p ≡ Makes step → legs_at h d.0 ≡ numbered 0 (reverse (last_first (Rattle.gt_calls.specs.Standing.pins_at p)))
+        → IsPublished s h d step → OfAction p (action_at d p)
+    by (Storing gref entry) a b e held pub_here = stored-refusal k gref entry
+    by (StoringSecond gref entry) a b e held pub_here = refl
+    by (Exchanging gref looked change) a b e held pub_here = once-judged s h d r (path k d r) shown so_far gref looked change (subst (IsPublished s h d) (sym (makes-same _ _ e)) pub_here) a b
+    by (Looking gref change more) a b e held pub_here = look-judged s h d r so_far gref change more (word-shows s h xs d.0 gref.0 i.st (turn-below s h xs d r gref change i.st i.at.unanswered a)) a b
+    by (Changing gref change more looked) a b e held pub_here = change-judged s h d r so_far gref change more looked a.1 b
+    by (Walking aim l at) a b e held pub_here = walk-judged s h d r so_far aim l at (words-of s h xs l i.st) a.1 (leg-here s h d r aim l a.1 held) b.1
+    by (Accessing c source dest) a b e held pub_here = refl
+    by (Asking dom question) a b e held pub_here = asked-judged s h d r so_far dom question b
+    by (Last last verdict) a b e held pub_here = last-judged s h d r so_far last verdict a.0 (ends-plain r last verdict b)
+    by (Ending pins verdict) a b e held pub_here = subst (λ (x : Action). OfAction (Ending pins verdict) x) (sym e) (give-judged s h d r so_far pins (last_first pins) verdict step e)

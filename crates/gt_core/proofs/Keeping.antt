@@ -1,0 +1,379 @@
+-- What stays of a core's agreement with a history after one item more.
+use Rattle.std.proofs.Common.{◌≡◌, ◌≢◌, ◌<◌, ◌+◌, ℕ, refl, Bool, true, false, List, [], ◌∷◌, length, Option, Some, None, cond, sym, ap, ◌∙◌, arith, subst, reverse}
+use Rattle.std.proofs.lemmas.Bool.{eqb-true, eq-eqb, and_left, and_right}
+use Rattle.std.proofs.lemmas.Option.{none-some}
+use Rattle.std.specs.Prelude.{◌==◌, ◌&&◌, All, count_by, slice_get}
+use Rattle.std.specs.Option.{option_map}
+use mathlib.Core.Path.{fun_ext}
+use Rattle.gt_types.specs.Names.{domain_of}
+use Rattle.gt_types.specs.declared.DomId.{DomId}
+use Rattle.gt_types.specs.declared.Dir.TheVariants.{Read, Write}
+use Rattle.gt_types.specs.declared.limits.TheConstants.{TABLE_ENTRIES, FRAME_SIZE}
+use Rattle.gt_entry.specs.declared.entry.Entry.{Entry}
+use Rattle.gt_entry.specs.declared.entry.Entry.TheVariants.{Invalid, Page, Sub, Via}
+use Rattle.gt_entry.specs.declared.header.Header.{Header}
+use Rattle.gt_entry.specs.declared.change.Change.{Change}
+use Rattle.gt_entry.specs.declared.change.Half.{Half}
+use Rattle.gt_entry.specs.declared.change.Half.TheVariants.{First as FirstHalf, Second as SecondHalf}
+use Rattle.gt_entry.specs.Entries.{IsEntry}
+use Rattle.gt_handles.specs.declared.handles.Handle.{Handle}
+use Rattle.gt_handles.specs.Handles.{Kept, value_of, count_of}
+use Rattle.gt_calls.specs.declared.held.Held.{Held}
+use Rattle.gt_calls.specs.declared.request.Holder.TheVariants.{Mapping as ByMapping}
+use Rattle.gt_calls.specs.Rules.{CallerKnowledge, control_with, frames_of, knowledge_of, generation_in}
+use Rattle.gt_calls.specs.Standing.{StandsAt, pins_at}
+use Rattle.gt_calls.specs.Following.{GoesOn}
+use Rattle.gt_calls.specs.Resting.{Rests}
+use Rattle.gt_calls.specs.declared.action.Action.TheVariants.{Step as Makes}
+use Rattle.gt_core.specs.declared.slot.Slot.{Slot}
+use Rattle.gt_core.specs.declared.slot.Open.{Open}
+use Rattle.gt_core.specs.declared.trace.Item.{Item}
+use Rattle.gt_core.specs.declared.trace.Answer.{Answer}
+use Rattle.gt_core.specs.declared.trace.Happened.TheVariants.{Stepped}
+use Rattle.gt_calls.specs.declared.action.Step.{Step}
+use Rattle.gt_calls.specs.declared.action.Seen.{Seen}
+use Rattle.gt_core.specs.Rows.{changed_at}
+use Rattle.gt_core.specs.States.{State, state_of, changed_in}
+use Rattle.gt_core.specs.History.{History, Setting, Pin, live, entry_at, raises_at, generation_at, body_at, table_at, reads_at, writes_at, control_at, contents_at, known_at, mappings_at, mapping_of, maps_answered_at, legs_at, is_pin_on, open_call, underway_after, Underway, values, change_of, change_at, entry_after, raise_after, or_else, stored_at, header_stored}
+use Rattle.gt_core.specs.Legal.{IsSpelled, stood, stood_with, first_of_item}
+use Rattle.gt_core.specs.Standing.{FitsGiven, IsLawful, FitsTable, FitsWord, SlotAgrees, MappingsAgree, Agrees, StateAgrees, CoreStands, CallAgrees, OpenAgrees, GivenAgrees}
+use Rattle.gt_core.proofs.Rows.{get-changed, length-changed, state-changed}
+use Rattle.gt_core.proofs.Mappings.{mappings-same}
+use Rattle.gt_core.proofs.Quiet.{KeepsKnown, WritesNone, kept-contents, kept-table, kept-live, kept-maps_answered}
+use Rattle.gt_core.proofs.Others.{other-entry, other-body, other-maps, other-mappings, other-legs, other-generations, other-table, other-known}
+use Rattle.gt_core.proofs.Placing.{BodyStays, place-stays}
+
+-- what a domain itself knows is what the core keeps of it
+pub known-same : (s : Setting) (h : History) (d : State) → Agrees s h d
+    → knowledge_of s.domains s.first_generation s.may d.own d.header d.mappings ≡ known_at s h d.id
+known-same s h d a =
+    ap (λ (f : ℕ → Entry). record { domains = s.domains; may = s.may; entry = f; generation = generation_in s.first_generation d.own; header = d.header; mapping = value_of d.mappings; in_use = count_of d.mappings; maps_answered = d.mappings.given }) a.entries
+    ∙ ap (λ (f : ℕ → ℕ). record { domains = s.domains; may = s.may; entry = λ r. entry_at h d.id.0 r; generation = f; header = d.header; mapping = value_of d.mappings; in_use = count_of d.mappings; maps_answered = d.mappings.given }) a.generations
+    ∙ ap (λ (x : Header). record { domains = s.domains; may = s.may; entry = λ r. entry_at h d.id.0 r; generation = λ r. generation_at s h d.id.0 r; header = x; mapping = value_of d.mappings; in_use = count_of d.mappings; maps_answered = d.mappings.given }) a.header
+    ∙ ap (λ (f : Handle → Option Held). record { domains = s.domains; may = s.may; entry = λ r. entry_at h d.id.0 r; generation = λ r. generation_at s h d.id.0 r; header = table_at s h d.id; mapping = f; in_use = count_of d.mappings; maps_answered = d.mappings.given }) a.mappings.named
+    ∙ ap (λ (x : ℕ). record { domains = s.domains; may = s.may; entry = λ r. entry_at h d.id.0 r; generation = λ r. generation_at s h d.id.0 r; header = table_at s h d.id; mapping = mapping_of (mappings_at h d.id.0); in_use = x; maps_answered = d.mappings.given }) a.mappings.count
+    ∙ ap (λ (x : ℕ). record { domains = s.domains; may = s.may; entry = λ r. entry_at h d.id.0 r; generation = λ r. generation_at s h d.id.0 r; header = table_at s h d.id; mapping = mapping_of (mappings_at h d.id.0); in_use = length (mappings_at h d.id.0); maps_answered = x }) a.mappings.given
+
+-- frames
+
+-- these frames hold what the history left in them
+abbrev pub FramesAgree : Setting → History → DomId → List (List ℕ) → Type 0
+FramesAgree s h id frames = (f : ℕ) → f < frames_of s.domains id → slice_get frames f ≡ Some (contents_at h id.0 f)
+
+pub frames-stay : (s : Setting) (i : Item) (h : History) (id : DomId) (frames : List (List ℕ)) → WritesNone i → FramesAgree s h id frames → FramesAgree s (i ∷ h) id frames
+frames-stay s i h id frames none a = λ f below. a f below ∙ ap (λ (l : List ℕ). Some l) (sym (kept-contents i h id.0 f none))
+
+-- each frame is as full as it was
+pub filled-stays : (s : Setting) (i : Item) (h : History) (xs : List State) → WritesNone i → CoreStands s h xs → (t f : ℕ) → length (contents_at (i ∷ h) t f) ≡ FRAME_SIZE
+filled-stays s i h xs none a t f = ap (λ (l : List ℕ). length l) (kept-contents i h t f none) ∙ a.filled t f
+
+-- calls
+
+pub same-number : (n : ℕ) → (n == n) ≡ true
+same-number n = eq-eqb n n refl
+
+pub open_call-other : (i : Item) (h : History) (d : ℕ) → (i.actor.0 == d) ≡ false → open_call (i ∷ h) d ≡ open_call h d
+unfolding open_call
+open_call-other i h d e = ap (λ (b : Bool). cond b (underway_after i (open_call h d)) (open_call h d)) e
+
+pub open_call-own : (i : Item) (h : History) → open_call (i ∷ h) i.actor.0 ≡ underway_after i (open_call h i.actor.0)
+unfolding open_call
+open_call-own i h = ap (λ (b : Bool). cond b (underway_after i (open_call h i.actor.0)) (open_call h i.actor.0)) (same-number i.actor.0)
+
+pub stood-other : (s : Setting) (i : Item) (h : History) (d : ℕ) → (i.actor.0 == d) ≡ false → stood s (i ∷ h) d ≡ stood s h d
+unfolding stood
+stood-other s i h d e = ap (λ (b : Bool). cond b (stood_with i.happened (stood s h d) (first_of_item s h i)) (stood s h d)) e
+
+pub stood-own : (s : Setting) (i : Item) (h : History) → stood s (i ∷ h) i.actor.0 ≡ stood_with i.happened (stood s h i.actor.0) (first_of_item s h i)
+unfolding stood
+stood-own s i h =
+    ap (λ (b : Bool). cond b (stood_with i.happened (stood s h i.actor.0) (first_of_item s h i)) (stood s h i.actor.0)) (same-number i.actor.0)
+
+-- the bytes given to a call stay, whatever another domain does
+pub given-other : (i : Item) (h : History) (d : ℕ) (given : List ℕ) → (i.actor.0 == d) ≡ false → GivenAgrees h d given → GivenAgrees (i ∷ h) d given
+given-other i h d given e a = λ c call. a c (sym (open_call-other i h d e) ∙ call)
+
+-- there is none to have bytes
+pub given-none : (h : History) (d : ℕ) (given : List ℕ) → open_call h d ≡ None → GivenAgrees h d given
+given-none h d given none = λ c call. absurd (none-some c (sym none ∙ call))
+
+-- the call of another domain stands where it stood
+open-stays : (s : Setting) (i : Item) (h : History) (d : DomId) (o : Open) (c : Underway) → (i.actor.0 == d.0) ≡ false → OpenAgrees s h d o c → OpenAgrees s (i ∷ h) d o c
+open-stays s i h d o c apart a =
+    record {
+      caller = a.caller;
+      asks = a.asks;
+      phase = a.phase;
+      here = a.here;
+      at = subst (λ (z : CallerKnowledge). StandsAt z d c.request (values c) a.phase) (sym (other-known s i h d apart)) a.at;
+      acts = a.acts;
+      follows = subst (λ (z : CallerKnowledge). GoesOn z d c.request (values c) (Makes o.step)) (sym (other-known s i h d apart)) a.follows;
+      rests = subst (λ (z : CallerKnowledge). Rests z d c.request (pins_at a.phase) (values c) (Makes o.step)) (sym (other-known s i h d apart)) a.rests;
+      place = place-stays s i h d c.request (reverse c.steps) a.phase (λ r which. other-body i h d.0 r which apart) a.place;
+      fair = stood-other s i h d.0 apart ∙ a.fair;
+      fits = a.fits;
+      clean = a.clean;
+      held = other-legs i h d.0 apart ∙ a.held;
+      few = a.few;
+    }
+
+call-stays : (s : Setting) (i : Item) (h : History) (d : DomId) (o : Option Open) (c : Option Underway) → (i.actor.0 == d.0) ≡ false → CallAgrees s h d o c → CallAgrees s (i ∷ h) d o c
+call-stays s i h d None None apart a = other-legs i h d.0 apart ∙ a
+call-stays s i h d None (Some c) apart a = a
+call-stays s i h d (Some o) None apart a = a
+call-stays s i h d (Some o) (Some c) apart a = open-stays s i h d o c apart a
+
+call-of-other : (s : Setting) (i : Item) (h : History) (d : DomId) (o : Option Open) → (i.actor.0 == d.0) ≡ false → CallAgrees s h d o (open_call h d.0) → CallAgrees s (i ∷ h) d o (open_call (i ∷ h) d.0)
+call-of-other s i h d o apart a =
+    subst (λ (c : Option Underway). CallAgrees s (i ∷ h) d o c) (sym (open_call-other i h d.0 apart)) (call-stays s i h d o (open_call h d.0) apart a)
+
+-- slots
+
+abbrev pub SlotsAgree : History → ℕ → List Slot → Type 0
+SlotsAgree h q slots = (r : ℕ) (slot : Slot) → slice_get slots r ≡ Some slot → SlotAgrees h q r slot
+
+slot-agrees : (h new : History) (q r k : ℕ) (f : Slot → Slot) (b : Bool) (o : Option Slot) (slot : Slot) → (r == k) ≡ b → ((old : Slot) → o ≡ Some old → SlotAgrees h q k old)
+    → ((old : Slot) → SlotAgrees h q r old → SlotAgrees new q r (f old)) → ((r == k) ≡ false → (old : Slot) → SlotAgrees h q k old → SlotAgrees new q k old)
+    → cond b (option_map f o) o ≡ Some slot → SlotAgrees new q k slot
+slot-agrees h new q r k f true None slot is was there apart e = absurd (none-some slot e)
+slot-agrees h new q r k f true (Some old) slot is was there apart e =
+    let y : f old ≡ slot = cc in
+    let n : r ≡ k = eqb-true r k is in
+    subst (λ (z : Slot). SlotAgrees new q k z) y
+    (subst (λ (m : ℕ). SlotAgrees new q m (f old)) n (there old (subst (λ (m : ℕ). SlotAgrees h q m old) (sym n) (was old refl))))
+slot-agrees h new q r k f false o slot is was there apart e = apart is slot (was slot e)
+
+-- the slots of domain q, after the change of one slot of domain t
+pub slots-agree : (h new : History) (t q r : ℕ) (f : Slot → Slot) (slots : List Slot) (b : Bool) → (t == q) ≡ b → SlotsAgree h q slots
+    → ((t == q) ≡ true → (old : Slot) → SlotAgrees h q r old → SlotAgrees new q r (f old))
+    → ((k : ℕ) (old : Slot) → ((t == q) && (r == k)) ≡ false → SlotAgrees h q k old → SlotAgrees new q k old)
+    → SlotsAgree new q (cond b (changed_at r f slots) slots)
+slots-agree h new t q r f slots true is was there apart =
+    λ k slot e. slot-agrees h new q r k f (r == k) (slice_get slots k) slot refl (λ old o. was k old o) (there is)
+    (λ no old a. apart k old (and_right (t == q) (r == k) no) a) (sym (get-changed slots r k f) ∙ e)
+slots-agree h new t q r f slots false is was there apart = λ k slot e. apart k slot (and_left (t == q) (r == k) is) (was k slot e)
+
+pub length-slots : (r : ℕ) (f : Slot → Slot) (slots : List Slot) (b : Bool) → length slots ≡ TABLE_ENTRIES → length (cond b (changed_at r f slots) slots) ≡ TABLE_ENTRIES
+length-slots r f slots true e = length-changed slots r f ∙ e
+length-slots r f slots false e = e
+
+-- a domain that doesn't act: its pins and frames may have changed, its call stands where it stood
+pub other-agrees : (s : Setting) (i : Item) (h : History) (x : State) (slots : List Slot) (frames : List (List ℕ)) → (i.actor.0 == x.id.0) ≡ false → Agrees s h x
+    → length slots ≡ TABLE_ENTRIES → SlotsAgree (i ∷ h) x.id.0 slots → FramesAgree s (i ∷ h) x.id frames → Agrees s (i ∷ h) (record x { slots = slots; frames = frames })
+other-agrees s i h x slots frames apart a len agree full =
+    record {
+      header = a.header ∙ sym (other-table s i h x.id apart);
+      rows = a.rows;
+      entries = a.entries ∙ fun_ext (λ r. sym (other-entry i h x.id.0 r apart));
+      generations = a.generations ∙ sym (other-generations s i h x.id.0 apart);
+      room = len;
+      slots = agree;
+      mappings = mappings-same x.mappings _ _ _ _ (sym (other-mappings i h x.id.0 apart)) (sym (other-maps i h x.id.0 apart)) a.mappings;
+      frames = full;
+      given = given-other i h x.id.0 x.given apart a.given;
+      call = call-of-other s i h x.id x.underway apart a.call;
+    }
+
+-- items that change no entry, and store no word
+
+pub record KeepsEntries (i : Item) : Type 0 where
+  pub changes : (r : ℕ) → change_at i.happened r ≡ None
+  pub stores : (r : ℕ) (which : Half) → stored_at i.happened r which ≡ None
+  pub header : header_stored i.happened ≡ None
+
+pub cond-same : {A : Type 0} (b : Bool) (x : A) → cond b x x ≡ x
+cond-same true x = refl
+cond-same false x = refl
+
+no-change : (i : Item) (t r : ℕ) → KeepsEntries i → change_of i t r ≡ None
+no-change i t r q = ap (λ (c : Option Change). cond (i.actor.0 == t) c None) (q.changes r) ∙ cond-same (i.actor.0 == t) None
+
+pub same-entry : (i : Item) (h : History) (t r : ℕ) → KeepsEntries i → entry_at (i ∷ h) t r ≡ entry_at h t r
+unfolding entry_at
+same-entry i h t r q = ap (λ (c : Option Change). entry_after c (entry_at h t r)) (no-change i t r q)
+
+pub same-raises : (i : Item) (h : History) (t r : ℕ) → KeepsEntries i → raises_at (i ∷ h) t r ≡ raises_at h t r
+unfolding raises_at
+same-raises i h t r q = ap (λ (c : Option Change). raises_at h t r + raise_after c) (no-change i t r q) ∙ omega arith
+
+pub same-body : (i : Item) (h : History) (t r : ℕ) (which : Half) → KeepsEntries i → body_at (i ∷ h) t r which ≡ body_at h t r which
+unfolding body_at
+same-body i h t r which q =
+    ap (λ (o : Option ℕ). or_else o (body_at h t r which)) (ap (λ (o : Option ℕ). cond (i.actor.0 == t) o None) (q.stores r which) ∙ cond-same (i.actor.0 == t) None)
+
+pub same-generations : (s : Setting) (i : Item) (h : History) (d : ℕ) → KeepsEntries i
+    → ◌≡◌ {A = ℕ → ℕ} (λ r. generation_at s (i ∷ h) d r) (λ r. generation_at s h d r)
+same-generations s i h d q = fun_ext (λ r. ap (λ (n : ℕ). s.first_generation + n) (same-raises i h d r q))
+
+same-spelled : (i : Item) (h : History) (t r : ℕ) → KeepsEntries i → (entry_at h t r ≢ Invalid → IsSpelled (entry_at h t r) (body_at h t r FirstHalf) (body_at h t r SecondHalf))
+    → entry_at (i ∷ h) t r ≢ Invalid → IsSpelled (entry_at (i ∷ h) t r) (body_at (i ∷ h) t r FirstHalf) (body_at (i ∷ h) t r SecondHalf)
+same-spelled i h t r q a valid =
+    subst (λ (e : Entry). IsSpelled e (body_at (i ∷ h) t r FirstHalf) (body_at (i ∷ h) t r SecondHalf)) (sym (same-entry i h t r q))
+    (subst (λ (n : ℕ). IsSpelled (entry_at h t r) n (body_at (i ∷ h) t r SecondHalf)) (sym (same-body i h t r FirstHalf q))
+    (subst (λ (n : ℕ). IsSpelled (entry_at h t r) (body_at h t r FirstHalf) n) (sym (same-body i h t r SecondHalf q))
+    (a (λ e. valid (same-entry i h t r q ∙ e)))))
+
+-- the domain that acts: its pins, mappings, frames and call may have changed
+pub actor-agrees : (s : Setting) (i : Item) (h : History) (x : State) (slots : List Slot) (mappings : Kept Held) (frames : List (List ℕ)) (o : Option Open) (given : List ℕ) → KeepsEntries i → Agrees s h x
+    → length slots ≡ TABLE_ENTRIES → SlotsAgree (i ∷ h) x.id.0 slots → MappingsAgree mappings (mappings_at (i ∷ h) x.id.0) (maps_answered_at (i ∷ h) x.id.0) → FramesAgree s (i ∷ h) x.id frames
+    → CallAgrees s (i ∷ h) x.id o (open_call (i ∷ h) x.id.0) → GivenAgrees (i ∷ h) x.id.0 given
+    → Agrees s (i ∷ h) (record x { slots = slots; mappings = mappings; frames = frames; underway = o; given = given })
+actor-agrees s i h x slots mappings frames o given q a len agree same full call bytes =
+    record {
+      header = a.header ∙ sym (kept-table s i h x.id q.header);
+      rows = a.rows;
+      frames = full;
+      entries = a.entries ∙ fun_ext (λ r. sym (same-entry i h x.id.0 r q));
+      generations = a.generations ∙ sym (same-generations s i h x.id.0 q);
+      room = len;
+      slots = agree;
+      mappings = same;
+      call = call;
+      given = bytes;
+    }
+
+-- control words
+
+room-for : (e : Entry) (g r w : ℕ) → FitsWord (control_with e g r w) → (r < 4096) × (w < 4096)
+room-for Invalid g r w f = (f.in_range.reads, f.in_range.writes)
+room-for (Page dom ro frame) g r w f = (f.in_range.reads, f.in_range.writes)
+room-for (Sub dom ro frame off len) g r w f = (f.in_range.reads, f.in_range.writes)
+room-for (Via dom ro dom2 gref) g r w f = (f.in_range.reads, f.in_range.writes)
+
+fits-with : (e : Entry) (g r w r' w' : ℕ) → r' < 4096 → w' < 4096 → FitsWord (control_with e g r w) → FitsWord (control_with e g r' w')
+fits-with Invalid g r w r' w' a b f = record { in_range = record { reads = a; writes = b; generation = f.in_range.generation }; domain = f.domain }
+fits-with (Page dom ro frame) g r w r' w' a b f = record { in_range = record { reads = a; writes = b; generation = f.in_range.generation }; domain = f.domain }
+fits-with (Sub dom ro frame off len) g r w r' w' a b f = record { in_range = record { reads = a; writes = b; generation = f.in_range.generation }; domain = f.domain }
+fits-with (Via dom ro dom2 gref) g r w r' w' a b f = record { in_range = record { reads = a; writes = b; generation = f.in_range.generation }; domain = f.domain }
+
+-- the counts that a control word holds are below 4,096
+pub counts-fit : (s : Setting) (h : History) (t r : ℕ) → FitsWord (control_at s h t r) → (reads_at h t r < 4096) × (writes_at h t r < 4096)
+counts-fit s h t r f = room-for (entry_at h t r) (generation_at s h t r) (reads_at h t r) (writes_at h t r) f
+
+-- a word whose counts have changed has room for them
+word-fits : (s : Setting) (i : Item) (h : History) (t r : ℕ) → KeepsEntries i → reads_at (i ∷ h) t r < 4096 → writes_at (i ∷ h) t r < 4096 → FitsWord (control_at s h t r) → FitsWord (control_at s (i ∷ h) t r)
+word-fits s i h t r q a b f =
+    subst (λ (e : Entry). FitsWord (control_with e (generation_at s (i ∷ h) t r) (reads_at (i ∷ h) t r) (writes_at (i ∷ h) t r))) (sym (same-entry i h t r q))
+    (subst (λ (n : ℕ). FitsWord (control_with (entry_at h t r) (s.first_generation + n) (reads_at (i ∷ h) t r) (writes_at (i ∷ h) t r))) (sym (same-raises i h t r q))
+    (fits-with (entry_at h t r) (generation_at s h t r) (reads_at h t r) (writes_at h t r) (reads_at (i ∷ h) t r) (writes_at (i ∷ h) t r) a b f))
+
+-- the states
+
+abbrev pub after_change : Bool → (State → State) → Option State → Option State
+after_change b f o = cond b (option_map f o) o
+
+-- the states after an item, where the actor's is new and a step changes the state of domain t
+abbrev pub Becomes : List State → List State → State → State → ℕ → (State → State) → Type 0
+Becomes xs zs x new t g = (q : ℕ) → state_of zs q ≡ after_change (t == q) g (cond (x.id.0 == q) (Some new) (state_of xs q))
+
+-- each domain agrees after an item, where the actor does, and each other one
+pub each-stands : (s : Setting) (i : Item) (h : History) (xs zs : List State) (x new : State) (t : ℕ) (g : State → State) → CoreStands s h xs → state_of xs x.id.0 ≡ Some x
+    → Becomes xs zs x new t g → new.id ≡ x.id → ((y : State) → (g y).id ≡ y.id) → Agrees s (i ∷ h) (cond (t == x.id.0) (g new) new)
+    → ((y : State) → (x.id.0 == y.id.0) ≡ false → Agrees s h y → Agrees s (i ∷ h) (cond (t == y.id.0) (g y) y))
+    → (dom : DomId) → StateAgrees s (i ∷ h) dom (state_of zs dom.0)
+each-stands s i h xs zs x new t g st here becomes same keeps mine others dom = subst (StateAgrees s (i ∷ h) dom) (sym (becomes dom.0)) (by (x.id.0 == dom.0) refl)
+  where
+    picked : (c : Bool) (y : State) → after_change c g (Some y) ≡ Some (cond c (g y) y)
+    picked true y = refl
+    picked false y = refl
+
+    named : (c : Bool) (y : State) → (cond c (g y) y).id ≡ y.id
+    named true y = keeps y
+    named false y = refl
+
+    nobody : (c : Bool) → domain_of s.domains dom ≡ None → StateAgrees s (i ∷ h) dom (after_change c g None)
+    nobody true a = a
+    nobody false a = a
+
+    bystander : (o : Option State) → (x.id.0 == dom.0) ≡ false → StateAgrees s h dom o → StateAgrees s (i ∷ h) dom (after_change (t == dom.0) g o)
+    bystander None apart a = nobody (t == dom.0) a
+    bystander (Some y) apart a =
+        subst (StateAgrees s (i ∷ h) dom) (sym (picked (t == dom.0) y))
+        (a.0, named (t == dom.0) y ∙ a.1, subst (λ (n : DomId). Agrees s (i ∷ h) (cond (t == n.0) (g y) y)) a.1 (others y (ap (λ (z : DomId). x.id.0 == z.0) a.1 ∙ apart) a.2))
+
+    by : (b : Bool) → (x.id.0 == dom.0) ≡ b → StateAgrees s (i ∷ h) dom (after_change (t == dom.0) g (cond b (Some new) (state_of xs dom.0)))
+    by true own =
+        let at : x.id ≡ dom = ap (λ (n : ℕ). record { 0 = n }) (eqb-true x.id.0 dom.0 own) in
+        let was = subst (StateAgrees s h dom) (ap (state_of xs) (sym (eqb-true x.id.0 dom.0 own)) ∙ here) (st.each dom) in
+        subst (StateAgrees s (i ∷ h) dom) (sym (picked (t == dom.0) new))
+        (was.0, named (t == dom.0) new ∙ same ∙ at, subst (λ (z : DomId). Agrees s (i ∷ h) (cond (t == z.0) (g new) new)) at mine)
+    by false apart = bystander (state_of xs dom.0) apart (st.each dom)
+
+-- the same, where no step changes a state
+pub each-stays : (s : Setting) (i : Item) (h : History) (xs zs : List State) (x new : State) → CoreStands s h xs → state_of xs x.id.0 ≡ Some x → i.actor ≡ x.id → WritesNone i → KeepsKnown i
+    → ((q : ℕ) → state_of zs q ≡ cond (x.id.0 == q) (Some new) (state_of xs q)) → new.id ≡ x.id → Agrees s (i ∷ h) new
+    → ((y : State) → (x.id.0 == y.id.0) ≡ false → SlotsAgree h y.id.0 y.slots → SlotsAgree (i ∷ h) y.id.0 y.slots) → (dom : DomId) → StateAgrees s (i ∷ h) dom (state_of zs dom.0)
+each-stays s i h xs zs x new st here own none kept becomes same mine slots dom =
+    each-stands s i h xs zs x new 0 (λ (y : State). y) st here (λ q. becomes q ∙ sym (plain (0 == q) (cond (x.id.0 == q) (Some new) (state_of xs q)))) same (λ y. refl)
+    (subst (Agrees s (i ∷ h)) (sym (cond-same (0 == x.id.0) new)) mine)
+    (λ y apart a. subst (Agrees s (i ∷ h)) (sym (cond-same (0 == y.id.0) y))
+    (other-agrees s i h y y.slots y.frames (ap (λ (z : DomId). z.0 == y.id.0) own ∙ apart) a a.room (slots y apart a.slots) (frames-stay s i h y.id y.frames none a.frames)))
+    dom
+  where
+    plain : (b : Bool) (o : Option State) → after_change b (λ (y : State). y) o ≡ o
+    plain true None = refl
+    plain true (Some y) = refl
+    plain false o = refl
+
+-- a core stands for one item more that changes no entry and stores no word
+pub keeps-stands : (s : Setting) (i : Item) (h : History) (xs zs : List State) → KeepsEntries i → CoreStands s h xs → ((dom : DomId) → StateAgrees s (i ∷ h) dom (state_of zs dom.0))
+    → All (IsLawful s) (live (i ∷ h)) → ((t r : ℕ) → r < TABLE_ENTRIES → (reads_at (i ∷ h) t r < 4096) × (writes_at (i ∷ h) t r < 4096))
+    → ((t r : ℕ) → entry_at h t r ≡ Invalid → (reads_at (i ∷ h) t r ≡ 0) × (writes_at (i ∷ h) t r ≡ 0)) → ((t f : ℕ) → length (contents_at (i ∷ h) t f) ≡ FRAME_SIZE)
+    → CoreStands s (i ∷ h) zs
+keeps-stands s i h xs zs q st each lawful counts free filled =
+    record {
+      each = each;
+      tables = λ dom. subst FitsTable (sym (kept-table s i h dom q.header)) (st.tables dom);
+      words = λ t r within. let c = counts t r within in word-fits s i h t r q c.0 c.1 (st.words t r within);
+      entries = λ t r. subst IsEntry (sym (same-entry i h t r q)) (st.entries t r);
+      lawful = lawful;
+      free = λ t r e. free t r (sym (same-entry i h t r q) ∙ e);
+      filled = filled;
+      spelled = λ t r valid. same-spelled i h t r q (st.spelled t r) valid;
+    }
+
+-- the same, where no pin is taken or given back
+pub pins-stand : (s : Setting) (i : Item) (h : History) (xs zs : List State) → KeepsEntries i → KeepsKnown i → CoreStands s h xs → ((dom : DomId) → StateAgrees s (i ∷ h) dom (state_of zs dom.0))
+    → ((t f : ℕ) → length (contents_at (i ∷ h) t f) ≡ FRAME_SIZE) → CoreStands s (i ∷ h) zs
+pins-stand s i h xs zs q k st each filled =
+    keeps-stands s i h xs zs q st each (subst (All (IsLawful s)) (sym (kept-live i h k)) st.lawful)
+    (λ t r within. let c = counts-fit s h t r (st.words t r within) in (subst (λ (n : ℕ). n < 4096) (sym (count t r Read)) c.0, subst (λ (n : ℕ). n < 4096) (sym (count t r Write)) c.1))
+    (λ t r e. let f = st.free t r e in (count t r Read ∙ f.0, count t r Write ∙ f.1)) filled
+  where
+    count : (t r : ℕ) (dir : Rattle.gt_types.specs.declared.Dir.Dir) → count_by (is_pin_on t r dir) (live (i ∷ h)) ≡ count_by (is_pin_on t r dir) (live h)
+    count t r dir = ap (λ (ps : List Pin). count_by (is_pin_on t r dir) ps) (kept-live i h k)
+
+-- the slots of a domain stay, where no pin is taken or given back and no body word stored
+pub slots-stay : (i : Item) (h : History) (q : ℕ) (slots : List Slot) → KeepsEntries i → KeepsKnown i → SlotsAgree h q slots → SlotsAgree (i ∷ h) q slots
+slots-stay i h q slots e k a = λ r slot at. let b = a r slot at in
+    record {
+      reads = b.reads ∙ ap (λ (ps : List Pin). count_by (is_pin_on q r Read) ps) (sym (kept-live i h k));
+      writes = b.writes ∙ ap (λ (ps : List Pin). count_by (is_pin_on q r Write) ps) (sym (kept-live i h k));
+      first = b.first ∙ sym (same-body i h q r FirstHalf e);
+      second = b.second ∙ sym (same-body i h q r SecondHalf e);
+    }
+
+-- and its mappings
+pub mappings-stay : (i : Item) (h : History) (q : ℕ) (kept : Kept Held) → KeepsKnown i → MappingsAgree kept (mappings_at h q) (maps_answered_at h q) → MappingsAgree kept (mappings_at (i ∷ h) q) (maps_answered_at (i ∷ h) q)
+mappings-stay i h q kept k a =
+    mappings-same kept _ _ _ _ (ap (λ (ps : List Pin). Rattle.gt_core.specs.History.gather Rattle.gt_core.specs.History.by_mapping q ps) (sym (kept-live i h k))) (sym (kept-maps_answered i h q k)) a
+
+-- a core stands for one item more that leaves all words, pins and frames as they are
+pub quiet-stands : (s : Setting) (i : Item) (h : History) (xs zs : List State) (x : State) (o : Option Open) (given : List ℕ) → KeepsEntries i → KeepsKnown i → WritesNone i → i.actor ≡ x.id → CoreStands s h xs
+    → state_of xs x.id.0 ≡ Some x → Agrees s h x → ((q : ℕ) → state_of zs q ≡ cond (x.id.0 == q) (Some (record x { underway = o; given = given })) (state_of xs q))
+    → CallAgrees s (i ∷ h) x.id o (open_call (i ∷ h) x.id.0) → GivenAgrees (i ∷ h) x.id.0 given → CoreStands s (i ∷ h) zs
+quiet-stands s i h xs zs x o given e k none own st here a becomes call bytes =
+    pins-stand s i h xs zs e k st
+    (each-stays s i h xs zs x (record x { underway = o; given = given }) st here own none k becomes refl
+    (actor-agrees s i h x x.slots x.mappings x.frames o given e a a.room (slots-stay i h x.id.0 x.slots e k a.slots) (mappings-stay i h x.id.0 x.mappings k a.mappings) (frames-stay s i h x.id x.frames none a.frames) call bytes)
+    (λ y apart b. slots-stay i h y.id.0 y.slots e k b))
+    (filled-stays s i h xs none st)
+
+-- the item of a step
+abbrev pub stepped : DomId → Step → Seen → Option Answer → Item
+stepped d step seen answer = record { actor = d; happened = Stepped step seen; answer = answer }
+
+-- the states after one change more
+pub becomes-changed : (xs ys : List State) (x new : State) (t : ℕ) (g : State → State) → ((y : State) → (g y).id ≡ y.id) → ((q : ℕ) → state_of ys q ≡ cond (x.id.0 == q) (Some new) (state_of xs q))
+    → Becomes xs (changed_in t g ys) x new t g
+becomes-changed xs ys x new t g keeps was = λ q. state-changed ys t q g keeps ∙ ap (λ (o : Option State). after_change (t == q) g o) (was q)

@@ -1,0 +1,295 @@
+-- Each step of an open call: it is on words that there are, its refusal is the first rule that stands, and where the call stands after it.
+use Rattle.std.proofs.Common.{◌≡◌, ◌≢◌, ◌<◌, ◌≤◌, ◌+◌, ◌-◌, ◌⊎◌, inl, inr, ℕ, zero, suc, refl, Bool, true, false, List, [], ◌∷◌, Option, Some, None, cond, sym, ap, ◌∙◌, subst, ltb, reverse, arith}
+use Rattle.std.specs.Prelude.{nat_lt, nat_le, ◌==◌, ◌&&◌, ◌||◌, not, is_none}
+use Rattle.std.proofs.lemmas.Bool.{lt-ltb, eqb-true, eq-eqb, true≢false, false≢true}
+use Rattle.std.proofs.lemmas.Option.{none-some, same_Some}
+use Rattle.gt_types.specs.Names.{domain_of, resolved}
+use Rattle.gt_types.specs.declared.DomId.{DomId}
+use Rattle.gt_types.specs.declared.GrantRef.{GrantRef}
+use Rattle.gt_types.specs.declared.Use.TheVariants.{Copy as ForCopy}
+use Rattle.gt_types.specs.declared.config.DomainConfig.{DomainConfig}
+use Rattle.gt_types.specs.declared.denial.Rule.{Rule}
+use Rattle.gt_types.specs.declared.denial.Rule.TheVariants.{N10, N11, N12, N13, N15, N18, N19}
+use Rattle.gt_types.specs.declared.denial.Denial.{Denial}
+use Rattle.gt_types.specs.declared.limits.TheConstants.{MAX_TRIES, TABLE_ENTRIES}
+use Rattle.gt_entry.specs.declared.entry.Entry.{Entry}
+use Rattle.gt_entry.specs.declared.entry.Entry.TheVariants.{Invalid, Page, Sub, Via}
+use Rattle.gt_entry.specs.declared.control.Control.{Control}
+use Rattle.gt_entry.specs.declared.control.Kind.TheVariants.{Invalid as KindInvalid, Page as KindPage, Via as KindVia}
+use Rattle.gt_entry.specs.declared.change.Change.{Change}
+use Rattle.gt_entry.specs.declared.change.Change.TheVariants.{Publish, Revoke as ToInvalid, Demote as ToReadOnly, Promote as ToWritable}
+use Rattle.gt_entry.specs.Entries.{is_invalid}
+use Rattle.gt_entry.specs.Permits.{is_copying, allows_direction}
+use Rattle.gt_entry.specs.Words.{control_word, control_of}
+use Rattle.gt_entry.specs.Spelling.{control_with}
+use Rattle.gt_calls.specs.declared.leg.TheConstants.{MORE_TRIES}
+use Rattle.gt_calls.specs.declared.held.Held.{Held}
+use Rattle.gt_calls.specs.declared.held.Route.{Route}
+use Rattle.gt_calls.specs.declared.held.Route.TheVariants.{Direct, Through}
+use Rattle.gt_calls.specs.declared.request.Asked.{Asked}
+use Rattle.gt_calls.specs.declared.request.Asked.TheVariants.{Grant, Revoke, Demote, Promote, Map, QuerySize, GetVersion, Copy}
+use Rattle.gt_calls.specs.declared.request.CopyArgs.{CopyArgs}
+use Rattle.gt_calls.specs.declared.request.Holder.TheVariants.{Mapping as ByMapping, Leg as ByLeg}
+use Rattle.gt_calls.specs.declared.action.Verdict.{Verdict}
+use Rattle.gt_calls.specs.declared.action.Verdict.TheVariants.{Granted, Given, Mapped, Refused}
+use Rattle.gt_calls.specs.declared.action.Step.{Step}
+use Rattle.gt_calls.specs.declared.action.Step.TheVariants.{LookHeader, LookControl, LookBody, Pin as PinStep, Unpin, StoreBody, StoreHeader, Exchange, Read as ReadBytes, Write as WriteBytes, Copy as CopyBytes}
+use Rattle.gt_calls.specs.declared.action.Seen.{Seen}
+use Rattle.gt_calls.specs.declared.action.Seen.TheVariants.{Nothing, Word, Taken, Missed}
+use Rattle.gt_calls.specs.declared.action.Action.{Action}
+use Rattle.gt_calls.specs.declared.action.Action.TheVariants.{Step as Makes, Done}
+use Rattle.gt_calls.specs.declared.copying.Aim.{Aim}
+use Rattle.gt_calls.specs.declared.copying.Aim.TheVariants.{Mapping, Source, Dest}
+use Rattle.gt_calls.specs.declared.call.Question.{Question}
+use Rattle.gt_calls.specs.declared.call.Question.TheVariants.{Size as AsksSize, Version as AsksVersion}
+use Rattle.gt_calls.specs.declared.call.Phase.{Phase}
+use Rattle.gt_calls.specs.declared.call.Phase.TheVariants.{Storing, StoringSecond, Exchanging, Looking, Changing, Walking, Accessing, Asking, Last, Ending}
+use Rattle.gt_calls.specs.declared.leg.Leg.{Leg}
+use Rattle.gt_calls.specs.declared.leg.LegPhase.{LegPhase}
+use Rattle.gt_calls.specs.declared.leg.LegPhase.TheVariants.{Header as AtHeader, Look, Body, Second, Pinning, Relook}
+use Rattle.gt_calls.specs.declared.leg.LegNext.{LegNext}
+use Rattle.gt_calls.specs.declared.leg.LegNext.TheVariants.{Going, Refused as LegRefused, Pinned}
+use Rattle.gt_calls.specs.Holding.{last_first, pins_so_far}
+use Rattle.gt_calls.specs.Rules.{CallerKnowledge, IsOfRun, begun, first, stands, first_look, is_kind, size_of, via_judged, is_dest_granted, is_source_granted}
+use Rattle.gt_calls.specs.Opening.{Opens, opens}
+use Rattle.gt_calls.specs.Path.{Continuation, FitsStep, IsExchanged, IsChanged, path, entry_refusal, refused_at, idle_word, is_stopped, told, held_of, rule_of_try, source_pair, dest_pair, end_leg, map_leg, second_leg}
+use Rattle.gt_calls.specs.Resting.{IsFor, IsToward, IsOnFrom, RestsOnWord, RestsOnRequest}
+use Rattle.gt_calls.specs.Machine.{phase_after, action_at, after_leg, leg_after, leg_step, after_miss, after_pin_of, after_source_pin, after_dest_pin, at_dest, where_via, after_store, publishing, after_own_look, after_own_miss, refused_as, next_to_give}
+use Rattle.gt_calls.specs.Standing.{IsTurn, IsQuiet, HasShown, StandsAt}
+use Rattle.gt_core.specs.States.{State, state_of}
+use Rattle.gt_core.specs.History.{History, Setting, word_at, control_at, table_at, entry_at, generation_at, body_at, reads_at, writes_at, known_at, seen_by, legs_at}
+use Rattle.gt_core.specs.Legal.{StepsSoFar, LegNow, leg_at, leg_now, misses, looked_at, is_in_body, is_demote, at_entry, rule_at_exchange, rule_at_header, rule_at_via, rule_at_pin, first_at, refusal_in, or_then}
+use Rattle.gt_core.specs.Standing.{CoreStands, StateAgrees, PhaseStands, LegStands, Asks, EndsAfter, phase_refusal, numbered}
+use Rattle.gt_core.proofs.Fitting.{word-shows, table-fits}
+use Rattle.gt_core.proofs.Seeing.{IsWithin}
+use Rattle.gt_core.proofs.Tries.{misses-look, misses-exchange, misses-exchanged, looked-here, few, miss-late}
+use Rattle.gt_core.proofs.Legs.{Words, IsAsTried, as-tried, still-judged, TakesNone, leg-judged, leg-place, NextStands, refusal_next, IsLegOf, control-writes}
+use Rattle.gt_core.proofs.Aims.{pair_of, leg-here}
+
+-- where a call stands before its next step, in a core that stands for the history
+pub record IsHere (s : Setting) (h : History) (xs : List State) (d : DomId) (r : Asked) (shown : List Seen) (so_far : StepsSoFar) (phase : Phase) (step : Step) : Type 0 where
+  pub st : CoreStands s h xs
+  pub own : state_of xs d.0 ≢ None
+  pub at : StandsAt (known_at s h d) d r shown phase
+  pub acts : action_at d phase ≡ Makes step
+  pub place : PhaseStands s h d r so_far phase
+  pub held : legs_at h d.0 ≡ numbered 0 (reverse (last_first (Rattle.gt_calls.specs.Standing.pins_at phase)))
+  pub rests : Rattle.gt_calls.specs.Resting.Rests (known_at s h d) d r (Rattle.gt_calls.specs.Standing.pins_at phase) shown (Makes step)
+  pub fits : Rattle.gt_core.specs.Standing.FitsAsked r
+
+abbrev step_in : Action → Step → Step
+step_in (Makes step) other = step
+step_in (Done verdict) other = other
+
+pub makes-same : (a b : Step) → Makes a ≡ Makes b → a ≡ b
+makes-same a b e = ap (λ (x : Action). step_in x a) e
+
+pub state-some : (s : Setting) (h : History) (xs : List State) (dom : DomId) → CoreStands s h xs → domain_of s.domains dom ≢ None → state_of xs dom.0 ≢ None
+state-some s h xs dom st some e = some (subst (λ (o : Option State). StateAgrees s h dom o) e (st.each dom))
+
+pub of-run : (o : Option DomainConfig) → is_none o ≡ false → o ≢ None
+of-run None e n = absurd (true≢false e)
+of-run (Some c) e n = absurd (none-some c (sym n))
+
+pub words-of : (s : Setting) (h : History) (xs : List State) (l : Leg) → CoreStands s h xs → Words s h l
+words-of s h xs l st =
+    record {
+      round = λ within. word-shows s h xs l.dom.0 l.gref.0 st within;
+      is_entry = st.entries l.dom.0 l.gref.0;
+      spelled = st.spelled l.dom.0 l.gref.0;
+      size = (table-fits _ (st.tables l.dom)).0;
+      header = (table-fits _ (st.tables l.dom)).1;
+    }
+
+-- an owner's reference is below the end of its words
+
+table-below : (s : Setting) (h : History) (xs : List State) (d : DomId) (gref : GrantRef) → CoreStands s h xs → gref.0 < size_of (table_at s h d) → gref.0 < TABLE_ENTRIES
+table-below s h xs d gref st lt = let le : size_of (table_at s h d) ≤ TABLE_ENTRIES = (table-fits _ (st.tables d)).0 in omega arith
+
+pub word-below : (s : Setting) (h : History) (xs : List State) (d : DomId) (r : Asked) (way : Continuation) (shown : List Seen) (gref : GrantRef) (word : ℕ) (change : Change) → CoreStands s h xs → begun (known_at s h d) d r ≡ None
+    → RestsOnWord (known_at s h d) way d r shown gref word change → gref.0 < TABLE_ENTRIES
+word-below s h xs d r way shown gref word (Publish entry) st none rests = table-below s h xs d gref st (opens (known_at s h d) d (Grant gref entry) (subst (λ (z : Asked). begun (known_at s h d) d z ≡ None) rests.0 none)).in_table
+word-below s h xs d r way shown gref word ToInvalid st none rests = table-below s h xs d gref st (opens (known_at s h d) d (Revoke gref) (subst (λ (z : Asked). begun (known_at s h d) d z ≡ None) rests.0 none)).in_table
+word-below s h xs d r way shown gref word ToReadOnly st none rests = table-below s h xs d gref st (opens (known_at s h d) d (Demote gref) (subst (λ (z : Asked). begun (known_at s h d) d z ≡ None) rests.0 none)).in_table
+word-below s h xs d r way shown gref word ToWritable st none rests = table-below s h xs d gref st (opens (known_at s h d) d (Promote gref) (subst (λ (z : Asked). begun (known_at s h d) d z ≡ None) rests.0 none)).in_table
+
+pub turn-below : (s : Setting) (h : History) (xs : List State) (d : DomId) (r : Asked) (gref : GrantRef) (change : Change) → CoreStands s h xs → begun (known_at s h d) d r ≡ None
+    → IsTurn r gref change → gref.0 < TABLE_ENTRIES
+turn-below s h xs d r gref ToReadOnly st none is = table-below s h xs d gref st (opens (known_at s h d) d (Demote gref) (subst (λ (z : Asked). begun (known_at s h d) d z ≡ None) is none)).in_table
+turn-below s h xs d r gref ToWritable st none is = table-below s h xs d gref st (opens (known_at s h d) d (Promote gref) (subst (λ (z : Asked). begun (known_at s h d) d z ≡ None) is none)).in_table
+turn-below s h xs d r gref (Publish entry) st none is = absurd is
+turn-below s h xs d r gref ToInvalid st none is = absurd is
+
+-- each step is on words that there are
+
+leg-within : (s : Setting) (h : History) (xs : List State) (d : DomId) (l : Leg) (so_far : StepsSoFar) (p : LegPhase) → state_of xs l.dom.0 ≢ None → LegStands s h l so_far p → IsWithin xs d (leg_step l p)
+leg-within s h xs d l so_far AtHeader some a = some
+leg-within s h xs d l so_far (Look more) some a = (some, a.0)
+leg-within s h xs d l so_far (Body more word) some a = (some, a.within)
+leg-within s h xs d l so_far (Second more word body) some a = (some, a.0.within)
+leg-within s h xs d l so_far (Pinning more word body second) some a = (some, a.0.within)
+leg-within s h xs d l so_far (Relook more word rule) some a = (some, a.0.within)
+
+quiet-within : (xs : List State) (d : DomId) (step : Step) → IsQuiet step → IsWithin xs d step
+quiet-within xs d (Unpin p holder) q = tt
+quiet-within xs d (StoreBody gref half word) q = tt
+quiet-within xs d (StoreHeader version frames) q = tt
+quiet-within xs d (ReadBytes dom frame off len) q = tt
+quiet-within xs d (WriteBytes dom frame off len) q = tt
+quiet-within xs d (CopyBytes from to len) q = tt
+quiet-within xs d step q = absurd q
+
+give-within : (xs : List State) (d : DomId) (held : List Held) (verdict : Verdict) (step : Step) → next_to_give held verdict ≡ Makes step → IsWithin xs d step
+give-within xs d [] verdict step e = cc
+give-within xs d (p ∷ ps) verdict step e = subst (λ (z : Step). IsWithin xs d z) (makes-same _ _ e) tt
+
+asks-run : (s : Setting) (h : History) (d : DomId) (r : Asked) (dom : DomId) (question : Question) → begun (known_at s h d) d r ≡ None → Asks d r dom question → domain_of s.domains dom ≢ None
+asks-run s h d r dom AsksSize none a =
+    subst (λ (z : DomId). domain_of s.domains z ≢ None) (sym a.2)
+    (of-run (domain_of s.domains (resolved d a.0)) (opens (known_at s h d) d (QuerySize a.0) (subst (λ (z : Asked). begun (known_at s h d) d z ≡ None) a.1 none)).of_run)
+asks-run s h d r dom AsksVersion none a =
+    subst (λ (z : DomId). domain_of s.domains z ≢ None) (sym a.2)
+    (of-run (domain_of s.domains (resolved d a.0)) (opens (known_at s h d) d (GetVersion a.0) (subst (λ (z : Asked). begun (known_at s h d) d z ≡ None) a.1 none)).of_run)
+
+pub step-within : (s : Setting) (h : History) (xs : List State) (d : DomId) (r : Asked) (shown : List Seen) (so_far : StepsSoFar) (phase : Phase) (step : Step) → IsHere s h xs d r shown so_far phase step → IsWithin xs d step
+step-within s h xs d r shown so_far phase step i = subst (λ (a : Action). OfAction a) i.acts (by phase i.at.has_shown i.place i.acts)
+  where
+    OfAction : Action → Type 0
+    OfAction (Makes z) = IsWithin xs d z
+    OfAction (Done v) = Unit {0}
+
+    by : (p : Phase) → HasShown (known_at s h d) (path (known_at s h d) d r) d r shown p → PhaseStands s h d r so_far p → action_at d p ≡ Makes step → OfAction (action_at d p)
+    by (Storing gref entry) a b e = tt
+    by (StoringSecond gref entry) a b e = tt
+    by (Exchanging gref looked change) a b e = (i.own, word-below s h xs d r (path (known_at s h d) d r) shown gref looked change i.st i.at.unanswered a)
+    by (Looking gref change more) a b e = (i.own, turn-below s h xs d r gref change i.st i.at.unanswered a)
+    by (Changing gref change more looked) a b e = (i.own, turn-below s h xs d r gref change i.st i.at.unanswered a.1)
+    by (Walking aim l at) a b e = leg-within s h xs d l so_far at (state-some s h xs l.dom i.st b.0) b.1
+    by (Accessing c source dest) a b e = tt
+    by (Asking dom question) a b e = state-some s h xs dom i.st (asks-run s h d r dom question i.at.unanswered b)
+    by (Last last verdict) a b e = quiet-within xs d last a.0
+    by (Ending pins verdict) a b e = subst (λ (x : Action). OfAction x) (sym e) (give-within xs d (last_first pins) verdict step e)
+
+-- what a step sees fits it
+
+exchange-fits : (b : Bool) (word w : ℕ) → (w == word) ≡ b → IsExchanged word (cond b Taken (Missed w))
+exchange-fits true word w e = tt
+exchange-fits false word w e = λ same. true≢false (sym (eq-eqb w word same) ∙ e)
+
+pub exchanged-fits : (word w : ℕ) → IsExchanged word (cond (w == word) Taken (Missed w))
+exchanged-fits word w = exchange-fits (w == word) word w refl
+
+-- no step but an owner's publication may see what it can't
+abbrev pub IsPublished : Setting → History → DomId → Step → Type 0
+IsPublished s h d (Exchange gref looked (Publish entry)) = word_at s h d.0 gref.0 ≡ looked
+IsPublished s h d step = Unit {0}
+
+changed-fits : (s : Setting) (h : History) (d : DomId) (gref : GrantRef) (looked : ℕ) (change : Change) → IsPublished s h d (Exchange gref looked change)
+    → IsChanged change looked (cond (word_at s h d.0 gref.0 == looked) Taken (Missed (word_at s h d.0 gref.0)))
+changed-fits s h d gref looked (Publish entry) p = ap (λ (b : Bool). cond b Taken (Missed (word_at s h d.0 gref.0))) (eq-eqb (word_at s h d.0 gref.0) looked p)
+changed-fits s h d gref looked ToInvalid p = exchanged-fits looked (word_at s h d.0 gref.0)
+changed-fits s h d gref looked ToReadOnly p = exchanged-fits looked (word_at s h d.0 gref.0)
+changed-fits s h d gref looked ToWritable p = exchanged-fits looked (word_at s h d.0 gref.0)
+
+pub seen-fits : (s : Setting) (h : History) (d : DomId) (step : Step) → IsPublished s h d step → FitsStep step (seen_by s h d step)
+seen-fits s h d (LookHeader dom) p = tt
+seen-fits s h d (LookControl dom gref) p = tt
+seen-fits s h d (LookBody dom gref half) p = tt
+seen-fits s h d (PinStep q) p = exchanged-fits q.word (word_at s h q.dom.0 q.gref.0)
+seen-fits s h d (Exchange gref looked change) p = changed-fits s h d gref looked change p
+seen-fits s h d (Unpin q holder) p = refl
+seen-fits s h d (StoreBody gref half word) p = refl
+seen-fits s h d (StoreHeader version frames) p = refl
+seen-fits s h d (ReadBytes dom frame off len) p = refl
+seen-fits s h d (WriteBytes dom frame off len) p = refl
+seen-fits s h d (CopyBytes from to len) p = refl
+
+-- the owner's word with no pins
+
+-- a word with no pins is the idle word, and no other
+pub idle-pins : (e : Entry) (g r w : ℕ) → control_word (control_with e g r w) ≡ control_word (control_with e g 0 0) → r + w ≡ 0
+idle-pins Invalid g r w e = omega arith
+idle-pins (Page dom ro frame) g r w e = omega arith
+idle-pins (Sub dom ro frame off len) g r w e = omega arith
+idle-pins (Via dom ro dom2 gref) g r w e = omega arith
+
+pub idle-here : (s : Setting) (h : History) (d : DomId) (gref : GrantRef) → reads_at h d.0 gref.0 + writes_at h d.0 gref.0 ≡ 0 → word_at s h d.0 gref.0 ≡ idle_word (known_at s h d) gref
+idle-here s h d gref none =
+    let r : reads_at h d.0 gref.0 ≡ 0 = omega arith in
+    let w : writes_at h d.0 gref.0 ≡ 0 = omega arith in
+    ap (λ (n : ℕ). control_word (control_with (entry_at h d.0 gref.0) (generation_at s h d.0 gref.0) n (writes_at h d.0 gref.0))) r
+    ∙ ap (λ (n : ℕ). control_word (control_with (entry_at h d.0 gref.0) (generation_at s h d.0 gref.0) 0 n)) w
+
+pub idle-no-pins : (s : Setting) (h : History) (d : DomId) (gref : GrantRef) → word_at s h d.0 gref.0 ≡ idle_word (known_at s h d) gref → reads_at h d.0 gref.0 + writes_at h d.0 gref.0 ≡ 0
+idle-no-pins s h d gref e = idle-pins (entry_at h d.0 gref.0) (generation_at s h d.0 gref.0) (reads_at h d.0 gref.0) (writes_at h d.0 gref.0) e
+
+invalid-is : (e : Entry) → is_invalid e ≡ true → e ≡ Invalid
+invalid-is Invalid e = refl
+invalid-is (Page dom ro frame) e = absurd (false≢true e)
+invalid-is (Sub dom ro frame off len) e = absurd (false≢true e)
+invalid-is (Via dom ro dom2 gref) e = absurd (false≢true e)
+
+pub grant-invalid : (s : Setting) (h : History) (d : DomId) (gref : GrantRef) (entry : Entry) → begun (known_at s h d) d (Grant gref entry) ≡ None → entry_at h d.0 gref.0 ≡ Invalid
+grant-invalid s h d gref entry none = invalid-is (entry_at h d.0 gref.0) (opens (known_at s h d) d (Grant gref entry) none).free
+
+-- a publication is of the word that its entry has
+publish-here : (s : Setting) (h : History) (xs : List State) (d : DomId) (r : Asked) (shown : List Seen) (gref : GrantRef) (looked : ℕ) (change : Change) → CoreStands s h xs → begun (known_at s h d) d r ≡ None
+    → RestsOnWord (known_at s h d) (path (known_at s h d) d r) d r shown gref looked change → IsPublished s h d (Exchange gref looked change)
+publish-here s h xs d r shown gref looked (Publish entry) st none rests =
+    let free = st.free d.0 gref.0 (grant-invalid s h d gref entry (subst (λ (z : Asked). begun (known_at s h d) d z ≡ None) rests.0 none)) in
+    let a : reads_at h d.0 gref.0 ≡ 0 = free.0 in
+    let b : writes_at h d.0 gref.0 ≡ 0 = free.1 in
+    idle-here s h d gref (omega arith) ∙ sym rests.1
+publish-here s h xs d r shown gref looked ToInvalid st none rests = tt
+publish-here s h xs d r shown gref looked ToReadOnly st none rests = tt
+publish-here s h xs d r shown gref looked ToWritable st none rests = tt
+
+turn-publishes : (s : Setting) (h : History) (d : DomId) (r : Asked) (gref : GrantRef) (looked : ℕ) (change : Change) → IsTurn r gref change → IsPublished s h d (Exchange gref looked change)
+turn-publishes s h d r gref looked (Publish entry) is = absurd is
+turn-publishes s h d r gref looked ToInvalid is = tt
+turn-publishes s h d r gref looked ToReadOnly is = tt
+turn-publishes s h d r gref looked ToWritable is = tt
+
+leg-publishes : (s : Setting) (h : History) (d : DomId) (l : Leg) (p : LegPhase) → IsPublished s h d (leg_step l p)
+leg-publishes s h d l AtHeader = tt
+leg-publishes s h d l (Look more) = tt
+leg-publishes s h d l (Body more word) = tt
+leg-publishes s h d l (Second more word body) = tt
+leg-publishes s h d l (Pinning more word body second) = tt
+leg-publishes s h d l (Relook more word rule) = tt
+
+quiet-publishes : (s : Setting) (h : History) (d : DomId) (step : Step) → IsQuiet step → IsPublished s h d step
+quiet-publishes s h d (Exchange gref looked change) q = absurd q
+quiet-publishes s h d (LookHeader dom) q = tt
+quiet-publishes s h d (LookControl dom gref) q = tt
+quiet-publishes s h d (LookBody dom gref half) q = tt
+quiet-publishes s h d (PinStep p) q = tt
+quiet-publishes s h d (Unpin p holder) q = tt
+quiet-publishes s h d (StoreBody gref half word) q = tt
+quiet-publishes s h d (StoreHeader version frames) q = tt
+quiet-publishes s h d (ReadBytes dom frame off len) q = tt
+quiet-publishes s h d (WriteBytes dom frame off len) q = tt
+quiet-publishes s h d (CopyBytes from to len) q = tt
+
+give-publishes : (s : Setting) (h : History) (d : DomId) (held : List Held) (verdict : Verdict) (step : Step) → next_to_give held verdict ≡ Makes step → IsPublished s h d step
+give-publishes s h d [] verdict step e = cc
+give-publishes s h d (p ∷ ps) verdict step e = subst (IsPublished s h d) (makes-same _ _ e) tt
+
+pub step-publishes : (s : Setting) (h : History) (xs : List State) (d : DomId) (r : Asked) (shown : List Seen) (so_far : StepsSoFar) (phase : Phase) (step : Step) → IsHere s h xs d r shown so_far phase step → IsPublished s h d step
+step-publishes s h xs d r shown so_far phase step i = subst (λ (a : Action). OfAction a) i.acts (by phase i.at.has_shown i.acts)
+  where
+    OfAction : Action → Type 0
+    OfAction (Makes z) = IsPublished s h d z
+    OfAction (Done v) = Unit {0}
+
+    by : (p : Phase) → HasShown (known_at s h d) (path (known_at s h d) d r) d r shown p → action_at d p ≡ Makes step → OfAction (action_at d p)
+    by (Storing gref entry) a e = tt
+    by (StoringSecond gref entry) a e = tt
+    by (Exchanging gref looked change) a e = publish-here s h xs d r shown gref looked change i.st i.at.unanswered a
+    by (Looking gref change more) a e = tt
+    by (Changing gref change more looked) a e = turn-publishes s h d r gref looked change a.1
+    by (Walking aim l at) a e = leg-publishes s h d l at
+    by (Accessing c source dest) a e = tt
+    by (Asking dom question) a e = tt
+    by (Last last verdict) a e = quiet-publishes s h d last a.0
+    by (Ending pins verdict) a e = subst (λ (x : Action). OfAction x) (sym e) (give-publishes s h d (last_first pins) verdict step e)

@@ -1,0 +1,572 @@
+-- What the core does for a step of an open call: it is right, and the core stands for it.
+use Rattle.std.proofs.Common.{◌≡◌, ◌≢◌, ◌<◌, ◌≤◌, ◌+◌, ◌⊎◌, inl, inr, ℕ, suc, refl, Bool, true, false, List, [], ◌∷◌, ◌++◌, length, Option, Some, None, cond, sym, ap, ◌∙◌, subst, reverse, arith}
+use Rattle.std.proofs.lemmas.Bool.{eqb-true, eq-eqb, true≢false, false≢true}
+use Rattle.std.proofs.lemmas.List.{append-nil, map-append, reverse-append, append_assoc, length-append, length-reverse, length-take-le, length-take, length-drop}
+use Rattle.std.proofs.lemmas.Grind.{reverse_onto}
+use Rattle.std.proofs.lemmas.Option.{none-some, same_Some}
+use Rattle.std.specs.Prelude.{◌==◌, nat_lt, All, map, take, drop, min, slice_get}
+use Rattle.gt_types.specs.declared.DomId.{DomId}
+use Rattle.gt_types.specs.declared.GrantRef.{GrantRef}
+use Rattle.gt_types.specs.declared.Use.TheVariants.{Map as ForMap}
+use Rattle.gt_types.specs.declared.limits.TheConstants.{MAX_PINS, FRAME_SIZE}
+use Rattle.gt_types.specs.declared.denial.Denial.{Denial}
+use Rattle.gt_entry.specs.declared.entry.Entry.{Entry}
+use Rattle.gt_entry.specs.declared.entry.Entry.TheVariants.{Invalid, Page, Sub, Via}
+use Rattle.gt_entry.specs.declared.header.Header.{Header}
+use Rattle.gt_entry.specs.declared.change.Change.{Change}
+use Rattle.gt_entry.specs.declared.change.Half.{Half}
+use Rattle.gt_entry.specs.declared.change.Half.TheVariants.{First as FirstHalf, Second as SecondHalf}
+use Rattle.gt_handles.specs.declared.handles.Handle.{Handle}
+use Rattle.gt_calls.specs.declared.held.Held.{Held}
+use Rattle.gt_calls.specs.declared.held.Pins.{Pins}
+use Rattle.gt_calls.specs.declared.action.Place.{Place}
+use Rattle.gt_calls.specs.declared.request.Asked.{Asked}
+use Rattle.gt_calls.specs.declared.request.Asked.TheVariants.{Grant, Revoke, Demote, Promote, Map, Unmap, Load, Store, Peek, Poke, Copy, SetVersion, SetupTable, QuerySize, GetVersion}
+use Rattle.gt_calls.specs.declared.request.Holder.{Holder}
+use Rattle.gt_calls.specs.declared.request.Holder.TheVariants.{Mapping as ByMapping, Leg as ByLeg}
+use Rattle.gt_calls.specs.declared.action.Seen.{Seen}
+use Rattle.gt_calls.specs.declared.action.Seen.TheVariants.{Nothing, Word, Taken, Missed}
+use Rattle.gt_calls.specs.declared.action.Verdict.{Verdict}
+use Rattle.gt_calls.specs.declared.action.Verdict.TheVariants.{Granted, Given, Mapped as KeptPin, Refused}
+use Rattle.gt_calls.specs.declared.action.Step.{Step}
+use Rattle.gt_calls.specs.declared.action.Step.TheVariants.{LookHeader, LookControl, LookBody, Pin as PinStep, Unpin, StoreBody, StoreHeader, Exchange, Read as ReadBytes, Write as WriteBytes, Copy as CopyBytes}
+use Rattle.gt_calls.specs.declared.action.Action.{Action}
+use Rattle.gt_calls.specs.declared.action.Action.TheVariants.{Step as Makes, Done}
+use Rattle.gt_calls.specs.declared.call.Call.{Call}
+use Rattle.gt_calls.specs.declared.call.Phase.{Phase}
+use Rattle.gt_calls.specs.declared.call.Phase.TheVariants.{Storing, StoringSecond, Exchanging, Looking, Changing, Walking, Accessing, Asking, Last, Ending}
+use Rattle.gt_calls.specs.Holding.{last_first, no_pins}
+use Rattle.gt_calls.specs.Rules.{CallerKnowledge, knowledge_of}
+use Rattle.gt_calls.specs.Path.{path, FitsStep}
+use Rattle.gt_calls.specs.Resting.{Rests, RestsStep}
+use Rattle.gt_calls.specs.Machine.{phase_after, action_at, next_to_give, after_store}
+use Rattle.gt_calls.specs.Standing.{StandsAt, IsAt, HasShown, pins_at, held_in}
+use Rattle.gt_calls.specs.Following.{Goes, GoesOn, FitsNext, FitsAction, HoldsAfter, HoldsNext}
+use Rattle.gt_calls.specs.Counting.{most_steps as most_of, steps_left, IsCounted}
+use Rattle.gt_core.specs.declared.slot.Open.{Open}
+use Rattle.gt_core.specs.declared.trace.Item.{Item}
+use Rattle.gt_core.specs.declared.trace.Answer.{Answer}
+use Rattle.gt_core.specs.declared.trace.Answer.TheVariants.{Denied, Done as AnswerDone, Mapped}
+use Rattle.gt_core.specs.declared.trace.Happened.TheVariants.{Stepped}
+use Rattle.gt_core.specs.States.{State, state_of, changed_in}
+use Rattle.gt_core.specs.Sight.{sees}
+use Rattle.gt_core.specs.History.{History, Setting, Pin, live, entry_at, generation_at, word_at, table_at, known_at, legs_at, mappings_at, mapping_of, maps_answered_at, seen_by, Underway, values, open_call, underway_after, holder_after, one_if_mapped}
+use Rattle.gt_core.specs.Legal.{StepsSoFar, StepsRight, Justified, IsSafe, PinIsSound, AnsweredBy, GivesValue, LeavesAll, IsSpelled, gives_back, verdict_in, refusal_in, refusal_of, refusal_if, or_then, first_of_item, first_in_call, stood, most_steps}
+use Rattle.gt_core.specs.Standing.{CoreStands, Agrees, CallAgrees, OpenAgrees, GivenAgrees, FitsGiven, PhaseStands, IsClean, phase_refusal, numbered}
+use Rattle.gt_core.proofs.Quiet.{KeepsKnown, WritesNone, kept-known, kept-legs}
+use Rattle.gt_core.proofs.Others.{other-body}
+use Rattle.gt_core.proofs.Seeing.{sees-agree}
+use Rattle.gt_core.proofs.Phases.{IsHere, makes-same, step-within, step-publishes, seen-fits}
+use Rattle.gt_core.proofs.Judging.{judged}
+use Rattle.gt_core.proofs.Placing.{IsStore, placed, place-stays, BodyStays}
+use Rattle.gt_core.proofs.Keeping.{stepped, KeepsEntries, same-entry, same-generations, known-same, open_call-own, stood-own, same-number}
+use Rattle.gt_core.proofs.Storing.{stores, store-keeps, half-stored, first-stays}
+use Rattle.gt_core.proofs.Pinning.{pins, leg-grows, leg-maps, map-legs, answered-stays}
+use Rattle.gt_core.proofs.Unpinning.{unpins, leg-left, leg-mappings, mapping-legs}
+use Rattle.gt_core.proofs.Beginning.{is-at, to-come, pins-there}
+use Rattle.gt_core.proofs.Acting.{can-change, can-pin, store-invalid}
+use Rattle.gt_core.proofs.Exchanging.{exchanged-live}
+use Rattle.gt_core.proofs.Accessing.{read-justified, write-justified, copy-justified}
+use Rattle.gt_core.proofs.Outcomes.{next_of, IsSingle, single-ends, taken-ends, clean-next, ends-so, is-last}
+use Rattle.std.specs.Prelude.{position}
+use Rattle.std.proofs.Common.{get_or, set}
+use Rattle.std.proofs.lemmas.Bool.{ltb-true}
+use Rattle.std.proofs.lemmas.List.Quantifiers.{position-Some}
+use Rattle.gt_types.specs.Names.{domain_of}
+use Rattle.gt_calls.specs.Rules.{frames_of, frames_in}
+use Rattle.gt_calls.specs.declared.action.Value.{Value}
+use Rattle.gt_calls.specs.declared.action.Value.TheVariants.{Frames as FramesTold, Size as SizeTold, Version as VersionTold}
+use Rattle.gt_core.specs.declared.trace.Bytes.{Bytes}
+use Rattle.gt_core.specs.declared.trace.Answer.TheVariants.{Bytes as BytesAnswer}
+use Rattle.gt_handles.specs.Handles.{Kept}
+use Rattle.gt_core.specs.Effects.{applied, copied_by, bytes_in, frame_in, or_none, with_underway, with_mapping, without_given, with_bytes, with_slot, Adds}
+use Rattle.gt_core.specs.History.{contents_at, given_in}
+use Rattle.gt_core.specs.Legal.{IsRight, StepsRightIn, IsInFrame}
+use Rattle.gt_core.specs.Standing.{StateAgrees, Settled, IsLoadOf, IsLawful, IsLawfullyHeld, answer_with}
+use Rattle.gt_core.proofs.Places.{has_id, found, state_of-set}
+use Rattle.gt_core.proofs.Keeping.{quiet-stands, becomes-changed}
+use Rattle.gt_core.proofs.Storing.{store-stands}
+use Rattle.gt_core.proofs.Exchanging.{exchange-stands}
+use Rattle.gt_core.proofs.Headers.{header-stands}
+use Rattle.gt_core.proofs.Pinning.{new_pin, pin-stands, map-agrees, leg-agrees as pin-agrees}
+use Rattle.gt_core.proofs.Unpinning.{unpin-stands, becomes-unpinned, loses-leg, loses-mapping, mapping-agrees, leg-agrees as unpin-agrees}
+use Rattle.gt_core.proofs.Writing.{write-stands}
+use Rattle.gt_core.proofs.Acting.{header-fits, map-lawful, CanPin}
+use Rattle.gt_core.proofs.Values.{granted-value, given-value, mapped-ends}
+use Rattle.gt_core.proofs.Beginning.{agrees-found}
+use Rattle.gt_core.proofs.Ticking.{Ticks, ticks, here-of, given-goes-on, legs-after, open-after, goes-right, ends-right, last-fact}
+
+-- the frames that the core keeps
+
+frame-there : (s : Setting) (h : History) (xs : List State) (t : DomId) (f : ℕ) → CoreStands s h xs → f < frames_of s.domains t → frame_in (state_of xs t.0) f ≡ contents_at h t.0 f
+frame-there s h xs t f st below = by (state_of xs t.0) (st.each t)
+  where
+    by : (o : Option State) → StateAgrees s h t o → frame_in o f ≡ contents_at h t.0 f
+    by None a = absurd (let b : f < frames_in (domain_of s.domains t) = below in let e : f < 0 = subst (λ (z : _). f < frames_in z) a b in omega arith)
+    by (Some y) a = ap or_none (a.2.frames f (subst (λ (z : DomId). f < frames_of s.domains z) (sym a.1) below)) ∙ ap (λ (z : DomId). contents_at h z.0 f) a.1
+
+-- the states where just the actor's call, or its handles or bytes, are others
+abbrev Replaced : List State → List State → State → State → Type 0
+Replaced xs ys x new = (q : ℕ) → state_of ys q ≡ cond (x.id.0 == q) (Some new) (state_of xs q)
+
+frame-same : (xs ys : List State) (x new : State) (t f : ℕ) → state_of xs x.id.0 ≡ Some x → new.frames ≡ x.frames → Replaced xs ys x new → frame_in (state_of ys t) f ≡ frame_in (state_of xs t) f
+frame-same xs ys x new t f here same r = ap (λ (o : Option State). frame_in o f) (r t) ∙ by (x.id.0 == t) refl
+  where
+    by : (b : Bool) → (x.id.0 == t) ≡ b → frame_in (cond b (Some new) (state_of xs t)) f ≡ frame_in (state_of xs t) f
+    by true is = ap (λ (l : List (List ℕ)). or_none (slice_get l f)) same ∙ ap (λ (o : Option State). frame_in o f) (sym here ∙ ap (state_of xs) (eqb-true x.id.0 t is))
+    by false is = refl
+
+take-short : (n : ℕ) (l : List ℕ) → length (take n l) ≤ n
+take-short n l = let e = length-take n l in omega arith
+
+frame-of-copy : (s : Setting) (h : History) (d : DomId) (r : Asked) (from to : Place) (len : ℕ) → Rattle.gt_core.specs.Legal.CopyIsJustified s h d r from to len → IsInFrame s from len
+frame-of-copy s h d (Copy c) from to len a = a.0
+frame-of-copy s h d r from to len a = absurd a
+
+frame-to-copy : (s : Setting) (h : History) (d : DomId) (r : Asked) (from to : Place) (len : ℕ) → Rattle.gt_core.specs.Legal.CopyIsJustified s h d r from to len → IsInFrame s to len
+frame-to-copy s h d (Copy c) from to len a = a.1
+frame-to-copy s h d r from to len a = absurd a
+
+-- each step but a write and the pin of a map
+
+calm : (s : Setting) (h : History) (xs ys : List State) (x : State) (o' : Option Open) (step : Step) (seen : Seen) (answer : Option Answer) → KeepsEntries (stepped x.id step seen answer) → KeepsKnown (stepped x.id step seen answer) → WritesNone (stepped x.id step seen answer)
+    → CoreStands s h xs → state_of xs x.id.0 ≡ Some x → Agrees s h x → Replaced xs ys x (record x { underway = o' }) → CallAgrees s (stepped x.id step seen answer ∷ h) x.id o' (open_call (stepped x.id step seen answer ∷ h) x.id.0)
+    → CoreStands s (stepped x.id step seen answer ∷ h) ys
+calm s h xs ys x o' step seen answer e k w st here a r call =
+    quiet-stands s (stepped x.id step seen answer) h xs ys x o' x.given e k w refl st here a r call (given-goes-on x.id step seen answer h x.given a.given)
+
+pub step-stands : (s : Setting) (h : History) (xs ys : List State) (x : State) (c : Underway) (phase : Phase) (step : Step) (answer : Option Answer) (o' : Option Open) (bytes : List ℕ) → IsHere s h xs x.id c.request (values c) (reverse c.steps) phase step
+    → ((p : Held) (place : ℕ) → step ≡ Unpin p (ByLeg place) → (others : List Held) × (held_in phase ≡ p ∷ others) × (place ≡ length others))
+    → state_of xs x.id.0 ≡ Some x → Agrees s h x → Replaced xs ys x (record x { underway = o' }) → one_if_mapped answer ≡ 0 → ((n : ℕ) → holder_after answer n ≡ ByLeg n) → bytes ≡ copied_by xs step
+    → ((dom : DomId) (frame off len : ℕ) → step ≡ WriteBytes dom frame off len → ⊥) → (IsStore step → answer ≡ None)
+    → CallAgrees s (stepped x.id step (seen_by s h x.id step) answer ∷ h) x.id o' (open_call (stepped x.id step (seen_by s h x.id step) answer ∷ h) x.id.0)
+    → CoreStands s (stepped x.id step (seen_by s h x.id step) answer ∷ h) (applied x.id step (seen_by s h x.id step) bytes ys)
+step-stands s h xs ys x c phase (LookHeader dom) answer o' bytes i last here a r m leg copied write store call =
+    calm s h xs ys x o' (LookHeader dom) _ answer (record { changes = λ r. refl; stores = λ r which. refl; header = refl }) (record { changes = λ r. refl; pins = λ before ps. refl; unpins = λ pins. refl; maps = m }) (λ given contents. refl) i.st here a r call
+step-stands s h xs ys x c phase (LookControl dom gref) answer o' bytes i last here a r m leg copied write store call =
+    calm s h xs ys x o' (LookControl dom gref) _ answer (record { changes = λ r. refl; stores = λ r which. refl; header = refl }) (record { changes = λ r. refl; pins = λ before ps. refl; unpins = λ pins. refl; maps = m }) (λ given contents. refl) i.st here a r call
+step-stands s h xs ys x c phase (LookBody dom gref half) answer o' bytes i last here a r m leg copied write store call =
+    calm s h xs ys x o' (LookBody dom gref half) _ answer (record { changes = λ r. refl; stores = λ r which. refl; header = refl }) (record { changes = λ r. refl; pins = λ before ps. refl; unpins = λ pins. refl; maps = m }) (λ given contents. refl) i.st here a r call
+step-stands s h xs ys x c phase (ReadBytes dom frame off len) answer o' bytes i last here a r m leg copied write store call =
+    calm s h xs ys x o' (ReadBytes dom frame off len) _ answer (record { changes = λ r. refl; stores = λ r which. refl; header = refl }) (record { changes = λ r. refl; pins = λ before ps. refl; unpins = λ pins. refl; maps = m }) (λ given contents. refl) i.st here a r call
+step-stands s h xs ys x c phase (WriteBytes dom frame off len) answer o' bytes i last here a r m leg copied write store call = absurd (write dom frame off len refl)
+step-stands s h xs ys x c phase (PinStep p) answer o' bytes i last here a r m leg copied write store call = by (word_at s h p.dom.0 p.gref.0 == p.word) refl call
+  where
+    seen : Bool → Seen
+    seen b = cond b Taken (Missed (word_at s h p.dom.0 p.gref.0))
+
+    by : (b : Bool) → (word_at s h p.dom.0 p.gref.0 == p.word) ≡ b → CallAgrees s (stepped x.id (PinStep p) (seen b) answer ∷ h) x.id o' (open_call (stepped x.id (PinStep p) (seen b) answer ∷ h) x.id.0)
+        → CoreStands s (stepped x.id (PinStep p) (seen b) answer ∷ h) (applied x.id (PinStep p) (seen b) bytes ys)
+    by true is call =
+        let can = can-pin s h xs x.id c.request (values c) (reverse c.steps) phase p i (eqb-true (word_at s h p.dom.0 p.gref.0) p.word is) in
+        pin-stands s h xs ys x p answer x.mappings o' i.st here a r can.valid can.few
+        (subst (IsLawfullyHeld s (new_pin h x.id p answer)) (sym (leg (length (legs_at h x.id.0)))) tt)
+        (pin-agrees h x.id p answer x.mappings (leg (length (legs_at h x.id.0))) m a.mappings) call (given-goes-on x.id (PinStep p) Taken answer h x.given a.given)
+    by false is call =
+        calm s h xs ys x o' (PinStep p) (seen false) answer (record { changes = λ r. refl; stores = λ r which. refl; header = refl }) (record { changes = λ r. refl; pins = λ before ps. refl; unpins = λ pins. refl; maps = m }) (λ given contents. refl) i.st here a r call
+step-stands s h xs ys x c phase (Exchange gref looked change) answer o' bytes i last here a r m leg copied write store call = by (word_at s h x.id.0 gref.0 == looked) refl call
+  where
+    seen : Bool → Seen
+    seen b = cond b Taken (Missed (word_at s h x.id.0 gref.0))
+
+    by : (b : Bool) → (word_at s h x.id.0 gref.0 == looked) ≡ b → CallAgrees s (stepped x.id (Exchange gref looked change) (seen b) answer ∷ h) x.id o' (open_call (stepped x.id (Exchange gref looked change) (seen b) answer ∷ h) x.id.0)
+        → CoreStands s (stepped x.id (Exchange gref looked change) (seen b) answer ∷ h) (applied x.id (Exchange gref looked change) (seen b) bytes ys)
+    by true is call =
+        let can = can-change s h xs x.id c.request (values c) (reverse c.steps) phase gref looked change i (eqb-true (word_at s h x.id.0 gref.0) looked is) in
+        exchange-stands s h xs ys x gref looked change answer o' i.st here a r can.within can.safe can.fits can.room m call (given-goes-on x.id (Exchange gref looked change) Taken answer h x.given a.given)
+    by false is call =
+        calm s h xs ys x o' (Exchange gref looked change) (seen false) answer (record { changes = λ r. refl; stores = λ r which. refl; header = refl }) (record { changes = λ r. refl; pins = λ before ps. refl; unpins = λ pins. refl; maps = m }) (λ given contents. refl) i.st here a r call
+step-stands s h xs ys x c phase (Unpin p (ByLeg place)) answer o' bytes i last here a r m leg copied write store call =
+    let l = last p place refl in
+    let legs : legs_at h x.id.0 ≡ numbered 0 (reverse l.0 ++ p ∷ []) = i.held ∙ ap (λ (z : List Held). numbered 0 (reverse z)) l.1 ∙ ap (numbered 0) (reverse_onto l.0 p []) in
+    let at : length (reverse l.0) ≡ place = length-reverse l.0 ∙ sym l.2 in
+    unpin-stands s h xs _ x p (ByLeg place) Nothing answer x.mappings o' i.st here a (becomes-unpinned xs ys x p (ByLeg place) o' r)
+    (subst (λ (n : ℕ). Rattle.gt_core.proofs.Unpinning.Loses p (live h) (Rattle.gt_core.specs.History.without x.id.0 (ByLeg n) (live h))) at (loses-leg h x.id (reverse l.0) p legs))
+    (unpin-agrees h x.id p place Nothing answer x.mappings m a.mappings) call (given-goes-on x.id (Unpin p (ByLeg place)) Nothing answer h x.given a.given)
+step-stands s h xs ys x c phase (Unpin p (ByMapping handle)) answer o' bytes i last here a r m leg copied write store call =
+    let found : mapping_of (mappings_at h x.id.0) handle ≡ Some p = i.rests.1.1 in
+    unpin-stands s h xs _ x p (ByMapping handle) Nothing answer (Rattle.gt_core.specs.Effects.taken handle x.mappings) o' i.st here a (becomes-unpinned xs ys x p (ByMapping handle) o' r)
+    (loses-mapping h x.id handle p found) (mapping-agrees h x.id p handle Nothing answer x.mappings m found a.mappings) call (given-goes-on x.id (Unpin p (ByMapping handle)) Nothing answer h x.given a.given)
+step-stands s h xs ys x c phase (StoreHeader version frames) answer o' bytes i last here a r m leg copied write store call =
+    header-stands s h xs ys x version frames answer o' i.st here a r m (header-fits s h xs x.id c.request version frames i.st i.rests.0 i.rests.1) call (given-goes-on x.id (StoreHeader version frames) Nothing answer h x.given a.given)
+step-stands s h xs ys x c phase (StoreBody gref half word) answer o' bytes i last here a r m leg copied write store call =
+    subst (λ (z : Option Answer). CoreStands s (stepped x.id (StoreBody gref half word) Nothing z ∷ h) (applied x.id (StoreBody gref half word) Nothing bytes ys)) (sym (store tt))
+    (store-stands s h xs ys x gref half word o' i.st here a (store-invalid s h x.id c.request gref half word i.rests.0 i.rests.1) r
+    (subst (λ (z : Option Answer). CallAgrees s (stepped x.id (StoreBody gref half word) Nothing z ∷ h) x.id o' (open_call (stepped x.id (StoreBody gref half word) Nothing z ∷ h) x.id.0)) (store tt) call)
+    (given-goes-on x.id (StoreBody gref half word) Nothing None h x.given a.given))
+step-stands s h xs ys x c phase (CopyBytes from to len) answer o' bytes i last here a r m leg copied write store call =
+    let just = copy-justified s h x.id c.request (pins_at phase) from to len i.rests.0 i.held i.rests.1 in
+    let in_from : IsInFrame s from len = frame-of-copy s h x.id c.request from to len just in
+    let in_to : IsInFrame s to len = frame-to-copy s h x.id c.request from to len just in
+    let held : List ℕ = take len (drop from.off (contents_at h from.owner.0 from.frame)) in
+    let same : bytes ≡ held = copied ∙ ap (λ (l : List ℕ). take len (drop from.off l)) (frame-there s h xs from.owner from.frame i.st in_from.0) in
+    let short : length held ≤ len = take-short len (drop from.off (contents_at h from.owner.0 from.frame)) in
+    let room = in_to.1 in
+    subst (λ (l : List ℕ). CoreStands s (stepped x.id (CopyBytes from to len) Nothing answer ∷ h) (changed_in to.owner.0 (with_bytes to.frame to.off l) ys)) (sym same)
+    (write-stands s h xs ys x (stepped x.id (CopyBytes from to len) Nothing answer) to held x.given o' (record { changes = λ r. refl; stores = λ r which. refl; header = refl }) (record { changes = λ r. refl; pins = λ before ps. refl; unpins = λ pins. refl; maps = m }) refl
+    i.st here a r refl (omega arith) call (given-goes-on x.id (CopyBytes from to len) Nothing answer h x.given a.given))
+
+-- the actor's call after this
+
+call-over : (s : Setting) (h : History) (d : DomId) (step : Step) (seen : Seen) (answer : Answer) → legs_at (stepped d step seen (Some answer) ∷ h) d.0 ≡ [] → CallAgrees s (stepped d step seen (Some answer) ∷ h) d None (open_call (stepped d step seen (Some answer) ∷ h) d.0)
+call-over s h d step seen answer legs = subst (λ (u : Option Underway). CallAgrees s (stepped d step seen (Some answer) ∷ h) d None u) (sym (open_call-own (stepped d step seen (Some answer)) h)) legs
+
+-- what a tick is to do
+abbrev pub Ticked : Setting → History → DomId → Step → Seen → Option Answer → List State → Type 0
+Ticked s h d step seen answer zs = IsRight s h (stepped d step seen answer) × CoreStands s (stepped d step seen answer ∷ h) zs
+
+right-in : (s : Setting) (h : History) (d : DomId) (step : Step) (seen : Seen) (answer : Option Answer) (c : Underway) → open_call h d.0 ≡ Some c → StepsRight s h (stepped d step seen answer) step seen c → IsRight s h (stepped d step seen answer)
+right-in s h d step seen answer c call a = subst (λ (u : Option Underway). StepsRightIn s h (stepped d step seen answer) step seen u) (sym call) a
+
+-- a call that goes on
+
+single-write : (step : Step) (dom : DomId) (frame off len : ℕ) → step ≡ WriteBytes dom frame off len → IsSingle step
+single-write step dom frame off len e = subst IsSingle (sym e) tt
+
+pub goes-core : (s : Setting) (h : History) (xs ys : List State) (x : State) (o : Open) (c : Underway) (new : Call) (z : Step) (bytes : List ℕ) → Ticks s h xs x o c new (Makes z) → Replaced xs ys x (record x { underway = Some (record { call = new; step = z }) }) → bytes ≡ copied_by xs o.step
+    → Ticked s h x.id o.step (seen_by s h x.id o.step) None (applied x.id o.step (seen_by s h x.id o.step) bytes ys)
+goes-core s h xs ys x o c new z bytes t r copied =
+    let seen = seen_by s h x.id o.step in
+    let i = stepped x.id o.step seen None in
+    let now : open_call (i ∷ h) x.id.0 ≡ Some (record { request = c.request; given = c.given; steps = c.steps ++ (o.step, seen) ∷ [] }) = open_call-own i h ∙ ap (underway_after i) t.call in (
+      right-in s h x.id o.step seen None c t.call (goes-right s h xs x o c new z t),
+      step-stands s h xs ys x c t.stands.phase o.step None (Some (record { call = new; step = z })) bytes (here-of s h xs x o c t.st t.here t.stands) (last-fact s h xs x o c new (Makes z) t) t.here t.agrees r refl (λ n. refl) copied
+          (λ dom frame off len e. no-write e (single-ends s h x.id c.request (reverse c.steps) t.stands.phase o.step t.stands.acts t.stands.place (single-write o.step dom frame off len e)))
+          (λ store. refl)
+          (subst (λ (u : Option Underway). CallAgrees s (i ∷ h) x.id (Some (record { call = new; step = z })) u) (sym now) (open-after s h xs x o c new z t)),
+    )
+  where
+    no-write : {A : Type 0} → A → (verdict : Verdict) × (next_of s h x.id t.stands.phase o.step ≡ Ending no_pins verdict) × Rattle.gt_core.specs.Standing.EndsAfter c.request o.step verdict → ⊥
+    no-write a e = let f : Makes z ≡ Done e.0 = t.acts ∙ ap (action_at x.id) e.1 in cc
+
+-- a call that is over
+
+-- no store ends a call
+store-goes : (s : Setting) (h : History) (xs : List State) (x : State) (o : Open) (c : Underway) (new : Call) (v : Verdict) → (t : Ticks s h xs x o c new (Done v)) → IsStore o.step → ⊥
+store-goes s h xs x o c new v t store = by o.step refl store
+  where
+    stored : (p : Phase) (gref : GrantRef) (half : Half) (word : ℕ) → HasShown (known_at s h x.id) (path (known_at s h x.id) x.id c.request) x.id c.request (values c) p → action_at x.id p ≡ Makes (StoreBody gref half word)
+        → Done v ≡ action_at x.id (phase_after (known_at s h x.id) x.id p Nothing) → ⊥
+    stored (Storing g entry) gref half word a e f = after entry f
+      where
+        after : (y : Entry) → Done v ≡ action_at x.id (after_store (known_at s h x.id) g y) → ⊥
+        after Invalid k = cc
+        after (Page dom ro frame) k = cc
+        after (Sub dom ro frame off len) k = cc
+        after (Via dom ro dom2 r) k = cc
+    stored (StoringSecond g entry) gref half word a e f = cc
+    stored (Exchanging g w ch) gref half word a e f = cc
+    stored (Looking g ch more) gref half word a e f = cc
+    stored (Changing g ch more w) gref half word a e f = cc
+    stored (Walking aim l at) gref half word a e f = Rattle.gt_core.proofs.Ticking.leg-store l at (subst IsStore (sym (makes-same _ _ e)) tt)
+    stored (Accessing cc' source dest) gref half word a e f = cc
+    stored (Asking dom question) gref half word a e f = cc
+    stored (Last last verdict) gref half word a e f = subst (Rattle.gt_calls.specs.Resting.RestsOnRequest (known_at s h x.id) x.id c.request) (makes-same _ _ e) a.1
+    stored (Ending held verdict) gref half word a e f = give (last_first held) e
+      where
+        give : (l : List Held) → next_to_give l verdict ≡ Makes (StoreBody gref half word) → ⊥
+        give [] k = cc
+        give (p ∷ ps) k = cc
+
+    by : (step : Step) → o.step ≡ step → IsStore step → ⊥
+    by (StoreBody gref half word) is n =
+        stored t.stands.phase gref half word t.stands.at.has_shown (t.stands.acts ∙ ap Makes is) (t.acts ∙ ap (λ (z : Step). action_at x.id (next_of s h x.id t.stands.phase z)) is)
+    by (LookHeader dom) is n = n
+    by (LookControl dom gref) is n = n
+    by (LookBody dom gref half) is n = n
+    by (PinStep p) is n = n
+    by (Unpin p holder) is n = n
+    by (StoreHeader version frames) is n = n
+    by (Exchange gref looked change) is n = n
+    by (ReadBytes dom frame off len) is n = n
+    by (WriteBytes dom frame off len) is n = n
+    by (CopyBytes from to len) is n = n
+
+none-held : (s : Setting) (h : History) (xs : List State) (x : State) (o : Open) (c : Underway) (new : Call) (v : Verdict) (answer : Answer) → (t : Ticks s h xs x o c new (Done v)) → one_if_mapped (Some answer) ≡ 0 → ((n : ℕ) → holder_after (Some answer) n ≡ ByLeg n)
+    → ((m : Held) → v ≡ KeptPin m → ⊥) → legs_at (stepped x.id o.step (seen_by s h x.id o.step) (Some answer) ∷ h) x.id.0 ≡ []
+none-held s h xs x o c new v answer t m leg unmapped =
+    let e = ends-so x.id (next_of s h x.id t.stands.phase o.step) v (sym t.acts) in
+    legs-after s h xs x o c new (Done v) (Some answer) t m leg (λ q f. unmapped q (let g : v ≡ KeptPin q = cc in g))
+    ∙ ap (λ (p : Phase). numbered 0 (reverse (held_in p))) e.1 ∙ ap (λ (l : List Held). numbered 0 (reverse l)) e.2
+
+-- an answer with no mapping
+abbrev pub IsPlainAnswer : Answer → Type 0
+IsPlainAnswer (Mapped handle) = ⊥
+IsPlainAnswer answer = Unit {0}
+
+plain-maps : (answer : Answer) → IsPlainAnswer answer → one_if_mapped (Some answer) ≡ 0
+plain-maps (Mapped handle) a = absurd a
+plain-maps AnswerDone a = refl
+plain-maps (Denied denial) a = refl
+plain-maps (BytesAnswer b) a = refl
+plain-maps (Rattle.gt_core.specs.declared.trace.Answer.TheVariants.Frames n) a = refl
+plain-maps (Rattle.gt_core.specs.declared.trace.Answer.TheVariants.Size z) a = refl
+plain-maps (Rattle.gt_core.specs.declared.trace.Answer.TheVariants.Version n) a = refl
+
+plain-leg : (answer : Answer) → IsPlainAnswer answer → (n : ℕ) → holder_after (Some answer) n ≡ ByLeg n
+plain-leg (Mapped handle) a n = absurd a
+plain-leg AnswerDone a n = refl
+plain-leg (Denied denial) a n = refl
+plain-leg (BytesAnswer b) a n = refl
+plain-leg (Rattle.gt_core.specs.declared.trace.Answer.TheVariants.Frames k) a n = refl
+plain-leg (Rattle.gt_core.specs.declared.trace.Answer.TheVariants.Size z) a n = refl
+plain-leg (Rattle.gt_core.specs.declared.trace.Answer.TheVariants.Version k) a n = refl
+
+pub ends-core : (s : Setting) (h : History) (xs ys : List State) (x : State) (o : Open) (c : Underway) (new : Call) (v : Verdict) (answer : Answer) (bytes : List ℕ) → Ticks s h xs x o c new (Done v) → Replaced xs ys x (record x { underway = None }) → bytes ≡ copied_by xs o.step
+    → IsPlainAnswer answer → ((m : Held) → v ≡ KeptPin m → ⊥) → ((dom : DomId) (frame off len : ℕ) → o.step ≡ WriteBytes dom frame off len → ⊥) → refusal_of answer ≡ refusal_in (Some v) → GivesValue s h x.id c.request (Some o.step) answer
+    → Ticked s h x.id o.step (seen_by s h x.id o.step) (Some answer) (applied x.id o.step (seen_by s h x.id o.step) bytes ys)
+ends-core s h xs ys x o c new v answer bytes t r copied plain unmapped write same value =
+    let seen = seen_by s h x.id o.step in
+    let legs = none-held s h xs x o c new v answer t (plain-maps answer plain) (plain-leg answer plain) unmapped in (
+      right-in s h x.id o.step seen (Some answer) c t.call (ends-right s h xs x o c new v answer t same legs value),
+      step-stands s h xs ys x c t.stands.phase o.step (Some answer) None bytes (here-of s h xs x o c t.st t.here t.stands) (last-fact s h xs x o c new (Done v) t) t.here t.agrees r (plain-maps answer plain) (plain-leg answer plain) copied
+          write (λ store. absurd (store-goes s h xs x o c new v t store)) (call-over s h x.id o.step seen answer legs),
+    )
+
+-- a write ends its call with Ok
+write-granted : (s : Setting) (h : History) (xs : List State) (x : State) (o : Open) (c : Underway) (new : Call) (v : Verdict) → (t : Ticks s h xs x o c new (Done v)) → (dom : DomId) (frame off len : ℕ) → o.step ≡ WriteBytes dom frame off len → v ≡ Granted
+write-granted s h xs x o c new v t dom frame off len e =
+    let l = single-ends s h x.id c.request (reverse c.steps) t.stands.phase o.step t.stands.acts t.stands.place (single-write o.step dom frame off len e) in
+    let f : Done v ≡ Done l.0 = t.acts ∙ ap (action_at x.id) l.1 in
+    let g : v ≡ l.0 = cc in
+    g ∙ subst (λ (z : Step). Rattle.gt_core.specs.Standing.EndsAfter c.request z l.0) e l.2
+
+pub given-core : (s : Setting) (h : History) (xs ys : List State) (x : State) (o : Open) (c : Underway) (new : Call) (value : Value) (bytes : List ℕ) → Ticks s h xs x o c new (Done (Given value)) → Replaced xs ys x (record x { underway = None }) → bytes ≡ copied_by xs o.step
+    → Ticked s h x.id o.step (seen_by s h x.id o.step) (Some (answer_with value)) (applied x.id o.step (seen_by s h x.id o.step) bytes ys)
+given-core s h xs ys x o c new value bytes t r copied =
+    ends-core s h xs ys x o c new (Given value) (answer_with value) bytes t r copied (plain value) (λ m e. cc)
+    (λ dom frame off len e. let f : Given value ≡ Granted = write-granted s h xs x o c new (Given value) t dom frame off len e in cc) (same value)
+    (given-value s h xs x.id c.request (values c) (reverse c.steps) t.stands.phase o.step value (here-of s h xs x o c t.st t.here t.stands) (sym t.acts))
+  where
+    plain : (z : Value) → IsPlainAnswer (answer_with z)
+    plain (FramesTold n) = tt
+    plain (SizeTold n) = tt
+    plain (VersionTold n) = tt
+
+    same : (z : Value) → refusal_of (answer_with z) ≡ None
+    same (FramesTold n) = refl
+    same (SizeTold n) = refl
+    same (VersionTold n) = refl
+
+pub refused-core : (s : Setting) (h : History) (xs ys : List State) (x : State) (o : Open) (c : Underway) (new : Call) (denial : Denial) (bytes : List ℕ) → Ticks s h xs x o c new (Done (Refused denial)) → Replaced xs ys x (record x { underway = None }) → bytes ≡ copied_by xs o.step
+    → Ticked s h x.id o.step (seen_by s h x.id o.step) (Some (Denied denial)) (applied x.id o.step (seen_by s h x.id o.step) bytes ys)
+refused-core s h xs ys x o c new denial bytes t r copied =
+    ends-core s h xs ys x o c new (Refused denial) (Denied denial) bytes t r copied tt (λ m e. cc)
+    (λ dom frame off len e. let f : Refused denial ≡ Granted = write-granted s h xs x o c new (Refused denial) t dom frame off len e in cc) refl tt
+
+-- a map with its pin
+pub mapped-core : (s : Setting) (h : History) (xs ys : List State) (x : State) (o : Open) (c : Underway) (new : Call) (held : Held) (handle : Handle) (kept : Kept Held) (bytes : List ℕ) → Ticks s h xs x o c new (Done (KeptPin held)) → Replaced xs ys x (record x { mappings = kept; underway = None })
+    → Adds x.mappings kept handle held → Ticked s h x.id o.step (seen_by s h x.id o.step) (Some (Mapped handle)) (applied x.id o.step (seen_by s h x.id o.step) bytes ys)
+mapped-core s h xs ys x o c new held handle kept bytes t r adds = by (seen_by s h x.id o.step) refl
+  where
+    d : DomId
+    d = x.id
+
+    i : IsHere s h xs x.id c.request (values c) (reverse c.steps) t.stands.phase o.step
+    i = here-of s h xs x o c t.st t.here t.stands
+
+    by : (seen : Seen) → seen_by s h d o.step ≡ seen → Ticked s h d o.step seen (Some (Mapped handle)) (applied d o.step seen bytes ys)
+    by seen saw =
+        let m = mapped-ends s h xs d c.request (values c) (reverse c.steps) t.stands.phase o.step held i (sym t.acts) in
+        let taken : seen ≡ Taken = sym saw ∙ ap (seen_by s h d) m.is ∙ ap (λ (b : Bool). cond b Taken (Missed (word_at s h held.dom.0 held.gref.0))) (eq-eqb (word_at s h held.dom.0 held.gref.0) held.word m.taken) in
+        let j : IsHere s h xs d c.request (values c) (reverse c.steps) t.stands.phase (PinStep held) = subst (IsHere s h xs d c.request (values c) (reverse c.steps) t.stands.phase) m.is i in
+        let can : CanPin s h d c.request held = can-pin s h xs d c.request (values c) (reverse c.steps) t.stands.phase held j m.taken in
+        let law = map-lawful s h d c.request held (values c) (pins_at t.stands.phase) j.rests.0 j.rests.1 m.dom m.gref m.flags m.of_map in
+        let lawful : IsLawful s (new_pin h d held (Some (Mapped handle))) =
+        subst (λ (q : Held). IsLawfullyHeld s (record { actor = d.0; holder = ByMapping handle; held = q }) (ByMapping handle)) (sym can.is) law in
+        let legs : legs_at (pins d held (Some (Mapped handle)) ∷ h) d.0 ≡ [] = map-legs h d held handle ∙ t.stands.held ∙ ap (λ (l : List Held). numbered 0 (reverse l)) m.none in
+        let maps = map-agrees h d held handle x.mappings kept (subst (λ (q : Held). Adds x.mappings kept handle q) (sym can.is) adds) t.agrees.mappings in
+        let after = pin-stands s h xs ys x held (Some (Mapped handle)) kept None t.st t.here t.agrees r can.valid can.few lawful maps (call-over s h d (PinStep held) Taken (Mapped handle) legs) (given-goes-on d (PinStep held) Taken (Some (Mapped handle)) h x.given t.agrees.given) in
+        let same_step : stepped d o.step (seen_by s h d o.step) (Some (Mapped handle)) ≡ pins d held (Some (Mapped handle)) =
+        ap (λ (v : Seen). stepped d o.step v (Some (Mapped handle))) (saw ∙ taken) ∙ ap (λ (z : Step). stepped d z Taken (Some (Mapped handle))) m.is in
+        let value : GivesValue s h d c.request (Some o.step) (Mapped handle) =
+        subst (λ (z : Step). GivesValue s h d c.request (Some z) (Mapped handle)) (sym m.is)
+        (subst (λ (q : Asked). GivesValue s h d q (Some (PinStep held)) (Mapped handle)) (sym m.of_map) (adds.serial ∙ t.agrees.mappings.given)) in (
+          subst (λ (v : Seen). IsRight s h (stepped d o.step v (Some (Mapped handle)))) saw
+              (right-in s h d o.step (seen_by s h d o.step) (Some (Mapped handle)) c t.call
+              (ends-right s h xs x o c new (KeptPin held) (Mapped handle) t refl (ap (λ (k : Item). legs_at (k ∷ h) d.0) same_step ∙ legs) value)),
+          subst (λ (z : Step). CoreStands s (stepped d z seen (Some (Mapped handle)) ∷ h) (applied d z seen bytes ys)) (sym m.is)
+              (subst (λ (v : Seen). CoreStands s (stepped d (PinStep held) v (Some (Mapped handle)) ∷ h) (applied d (PinStep held) v bytes ys)) (sym taken) after),
+        )
+
+-- a call that is answered Ok with no value but bytes
+
+-- what a read gave
+read-gives : (s : Setting) (h : History) (xs ys : List State) (x : State) (o : Open) (c : Underway) (new : Call) (dom : DomId) (frame off len : ℕ) (b : Bytes) → Ticks s h xs x o c new (Done Granted) → Replaced xs ys x (record x { underway = None }) → o.step ≡ ReadBytes dom frame off len
+    → ((n : ℕ) → IsLoadOf o.call.request n → length (bytes_in ys dom.0 frame off n) ≡ n → b.bytes.items ≡ bytes_in ys dom.0 frame off n) → GivesValue s h x.id c.request (Some (ReadBytes dom frame off len)) (BytesAnswer b)
+read-gives s h xs ys x o c new dom frame off len b t r is gives =
+    let i = subst (IsHere s h xs x.id c.request (values c) (reverse c.steps) t.stands.phase) is (here-of s h xs x o c t.st t.here t.stands) in
+    let just = read-justified s h xs x.id c.request dom frame off len i.st i.rests.0 i.rests.1 in
+    let inside : frame < frames_of s.domains dom = just.0.0 in
+    let range : off + len ≤ FRAME_SIZE = just.0.1 in
+    let bytes : bytes_in ys dom.0 frame off len ≡ take len (drop off (contents_at h dom.0 frame)) =
+    ap (λ (l : List ℕ). take len (drop off l)) (frame-same xs ys x (record x { underway = None }) dom.0 frame t.here refl r ∙ frame-there s h xs dom frame t.st inside) in
+    let full : length (take len (drop off (contents_at h dom.0 frame))) ≡ len = length-take-le len (drop off (contents_at h dom.0 frame)) (room range) in
+    by i.rests.1 bytes (ap (λ (l : List ℕ). length l) bytes ∙ full)
+  where
+    room : off + len ≤ FRAME_SIZE → len ≤ length (drop off (contents_at h dom.0 frame))
+    room range = let e = length-drop off (contents_at h dom.0 frame) in let f : length (contents_at h dom.0 frame) ≡ FRAME_SIZE = t.st.filled dom.0 frame in omega arith
+
+    by : Rattle.gt_calls.specs.Resting.RestsOnRequest (known_at s h x.id) x.id c.request (ReadBytes dom frame off len) → bytes_in ys dom.0 frame off len ≡ take len (drop off (contents_at h dom.0 frame)) → length (bytes_in ys dom.0 frame off len) ≡ len
+        → GivesValue s h x.id c.request (Some (ReadBytes dom frame off len)) (BytesAnswer b)
+    by (inl (handle, asked, mapped)) bytes full =
+        subst (λ (q : Asked). GivesValue s h x.id q (Some (ReadBytes dom frame off len)) (BytesAnswer b)) (sym asked)
+        (gives len (subst (λ (q : Asked). IsLoadOf q len) (sym (t.stands.asks ∙ asked)) refl) full ∙ bytes)
+    by (inr (asked, own)) bytes full =
+        subst (λ (q : Asked). GivesValue s h x.id q (Some (ReadBytes dom frame off len)) (BytesAnswer b)) (sym asked)
+        (gives len (subst (λ (q : Asked). IsLoadOf q len) (sym (t.stands.asks ∙ asked)) refl) full ∙ bytes)
+
+-- the bytes given to a write are as many as it asks
+given-fits : (k : CallerKnowledge) (d : DomId) (r : Asked) (dom : DomId) (frame off len : ℕ) (given : List ℕ) → Rattle.gt_calls.specs.Resting.RestsOnRequest k d r (WriteBytes dom frame off len) → FitsGiven r given → off + length given ≤ FRAME_SIZE
+given-fits k d r dom frame off len given (inl (handle, asked, mapped)) f =
+    let g : FitsGiven (Store handle off len) given = subst (λ (q : Asked). FitsGiven q given) asked f in
+    let e = g.0 in
+    let room = g.1 in omega arith
+given-fits k d r dom frame off len given (inr (asked, own)) f =
+    let g : FitsGiven (Poke frame off len) given = subst (λ (q : Asked). FitsGiven q given) asked f in
+    let e = g.0 in
+    let room = g.1 in omega arith
+
+granted-core : (s : Setting) (h : History) (xs zs : List State) (at : ℕ) (x : State) (o : Open) (c : Underway) (new : Call) (answer : Answer) (bytes : List ℕ) → Ticks s h xs x o c new (Done Granted)
+    → Replaced xs (set xs at (with_underway None x)) x (record x { underway = None }) → Replaced xs (set xs at (without_given x)) x (record x { underway = None; given = [] }) → bytes ≡ copied_by xs o.step → Settled xs at x o o.step answer zs
+    → Ticked s h x.id o.step (seen_by s h x.id o.step) (Some answer) (applied x.id o.step (seen_by s h x.id o.step) bytes zs)
+granted-core s h xs zs at x o c new answer bytes t plain written copied settled = by o.step refl settled
+  where
+    d : DomId
+    d = x.id
+
+    Goal : Step → Type 0
+    Goal step = Ticked s h d step (seen_by s h d step) (Some answer) (applied d step (seen_by s h d step) bytes zs)
+
+    over : (step : Step) → o.step ≡ step → (answer ≡ AnswerDone) × (zs ≡ set xs at (with_underway None x)) → ((dom : DomId) (frame off len : ℕ) → step ≡ ReadBytes dom frame off len → ⊥) → ((dom : DomId) (frame off len : ℕ) → step ≡ WriteBytes dom frame off len → ⊥) → Goal step
+    over step is (done, left) read write =
+        subst Goal is
+        (subst (λ (a : Answer). Ticked s h d o.step (seen_by s h d o.step) (Some a) (applied d o.step (seen_by s h d o.step) bytes zs)) (sym done)
+        (subst (λ (l : List State). Ticked s h d o.step (seen_by s h d o.step) (Some AnswerDone) (applied d o.step (seen_by s h d o.step) bytes l)) (sym left)
+        (ends-core s h xs (set xs at (with_underway None x)) x o c new Granted AnswerDone bytes t plain copied tt (λ m e. cc) (λ dom frame off len e. write dom frame off len (sym is ∙ e)) refl
+        (granted-value s h xs d c.request (values c) (reverse c.steps) t.stands.phase o.step (here-of s h xs x o c t.st t.here t.stands) (λ dom frame off len e. read dom frame off len (sym is ∙ e)) (sym t.acts)))))
+
+    by : (step : Step) → o.step ≡ step → Settled xs at x o step answer zs → Goal o.step
+    by (ReadBytes dom frame off len) is (b, done, left, gives) =
+        subst (λ (a : Answer). Ticked s h d o.step (seen_by s h d o.step) (Some a) (applied d o.step (seen_by s h d o.step) bytes zs)) (sym done)
+        (subst (λ (l : List State). Ticked s h d o.step (seen_by s h d o.step) (Some (BytesAnswer b)) (applied d o.step (seen_by s h d o.step) bytes l)) (sym left)
+        (ends-core s h xs (set xs at (with_underway None x)) x o c new Granted (BytesAnswer b) bytes t plain copied tt (λ m e. cc) (λ t' frame' off' len' e. let f : ReadBytes dom frame off len ≡ WriteBytes t' frame' off' len' = sym is ∙ e in cc) refl
+        (subst (λ (z : Step). GivesValue s h d c.request (Some z) (BytesAnswer b)) (sym is)
+        (read-gives s h xs (set xs at (with_underway None x)) x o c new dom frame off len b t plain is
+        (λ n l. subst (λ (z : List State). length (bytes_in z dom.0 frame off n) ≡ n → b.bytes.items ≡ bytes_in z dom.0 frame off n) left (gives n l))))))
+    by (WriteBytes dom frame off len) is (done, left) =
+        let i = subst (IsHere s h xs d c.request (values c) (reverse c.steps) t.stands.phase) is (here-of s h xs x o c t.st t.here t.stands) in
+        let given = t.agrees.given c t.call in
+        let room = given-fits (known_at s h d) d c.request dom frame off len c.given i.rests.1 given.1 in
+        let k = stepped d (WriteBytes dom frame off len) Nothing (Some AnswerDone) in
+        let legs : legs_at (k ∷ h) d.0 ≡ [] = subst (λ (z : Step). legs_at (stepped d z (seen_by s h d z) (Some AnswerDone) ∷ h) d.0 ≡ []) is (none-held s h xs x o c new Granted AnswerDone t refl (λ n. refl) (λ m e. cc)) in
+        subst (λ (a : Answer). Ticked s h d o.step (seen_by s h d o.step) (Some a) (applied d o.step (seen_by s h d o.step) bytes zs)) (sym done)
+        (right-in s h d o.step (seen_by s h d o.step) (Some AnswerDone) c t.call
+        (ends-right s h xs x o c new Granted AnswerDone t refl (none-held s h xs x o c new Granted AnswerDone t refl (λ n. refl) (λ m e. cc))
+        (granted-value s h xs d c.request (values c) (reverse c.steps) t.stands.phase o.step (here-of s h xs x o c t.st t.here t.stands) (λ t' frame' off' len' e. let f : WriteBytes dom frame off len ≡ ReadBytes t' frame' off' len' = sym is ∙ e in cc) (sym t.acts))),
+        subst (λ (z : Step). CoreStands s (stepped d z (seen_by s h d z) (Some AnswerDone) ∷ h) (applied d z (seen_by s h d z) bytes zs)) (sym is)
+        (subst (λ (l : List State). CoreStands s (k ∷ h) l) (sym left)
+        (subst (λ (l : List ℕ). CoreStands s (k ∷ h) (changed_in dom.0 (with_bytes frame off l) (set xs at (without_given x)))) (sym given.0)
+        (write-stands s h xs (set xs at (without_given x)) x k (record { owner = dom; frame = frame; off = off }) c.given [] None (record { changes = λ r. refl; stores = λ r which. refl; header = refl })
+        (record { changes = λ r. refl; pins = λ before ps. refl; unpins = λ pins. refl; maps = refl }) refl t.st t.here t.agrees written
+        (ap (λ (u : Option Underway). Some (record { at = record { owner = dom; frame = frame; off = off }; bytes = given_in u })) t.call) room (call-over s h d (WriteBytes dom frame off len) Nothing AnswerDone legs)
+        (Rattle.gt_core.proofs.Keeping.given-none (k ∷ h) d.0 [] (open_call-own k h))))))
+    by (LookHeader dom) is a = subst Goal (sym is) (over (LookHeader dom) is a (λ t frame off len e. cc) (λ t frame off len e. cc))
+    by (LookControl dom gref) is a = subst Goal (sym is) (over (LookControl dom gref) is a (λ t frame off len e. cc) (λ t frame off len e. cc))
+    by (LookBody dom gref half) is a = subst Goal (sym is) (over (LookBody dom gref half) is a (λ t frame off len e. cc) (λ t frame off len e. cc))
+    by (PinStep p) is a = subst Goal (sym is) (over (PinStep p) is a (λ t frame off len e. cc) (λ t frame off len e. cc))
+    by (Unpin p holder) is a = subst Goal (sym is) (over (Unpin p holder) is a (λ t frame off len e. cc) (λ t frame off len e. cc))
+    by (StoreBody gref half word) is a = subst Goal (sym is) (over (StoreBody gref half word) is a (λ t frame off len e. cc) (λ t frame off len e. cc))
+    by (StoreHeader version frames) is a = subst Goal (sym is) (over (StoreHeader version frames) is a (λ t frame off len e. cc) (λ t frame off len e. cc))
+    by (Exchange gref looked change) is a = subst Goal (sym is) (over (Exchange gref looked change) is a (λ t frame off len e. cc) (λ t frame off len e. cc))
+    by (CopyBytes from to len) is a = subst Goal (sym is) (over (CopyBytes from to len) is a (λ t frame off len e. cc) (λ t frame off len e. cc))
+
+-- the ways that a tick goes
+
+call-here : (s : Setting) (h : History) (id : DomId) (o : Option Open) (call : Option Underway) (one : Open) → o ≡ Some one → CallAgrees s h id o call → (c : Underway) × (call ≡ Some c) × OpenAgrees s h id one c
+call-here s h id None call one e a = cc
+call-here s h id (Some o) None one e a = absurd a
+call-here s h id (Some o) (Some c) one e a = (c, refl, subst (λ (x : Open). OpenAgrees s h id x c) (same_Some _ _ e) a)
+
+-- what a domain's tick has to begin with
+pub record Begins (s : Setting) (h : History) (xs : List State) (dom : DomId) (at : ℕ) (x : State) (o : Open) (seen : Seen) (new : Call) (action : Action) : Type 0 where
+  pub place : position (has_id dom.0) xs ≡ Some at
+  pub here : x ≡ get_or xs at x
+  pub under : x.underway ≡ Some o
+  pub stands : CoreStands s h xs
+  pub saw : seen ≡ sees xs dom o.step
+  pub caller : new.caller ≡ o.call.caller
+  pub asks : new.request ≡ o.call.request
+  pub goes : Goes (knowledge_of s.domains s.first_generation s.may x.own x.header x.mappings) o.call seen new action
+
+-- what there is of it
+pub record Begun (s : Setting) (h : History) (xs : List State) (dom : DomId) (at : ℕ) (x : State) (o : Open) (seen : Seen) (new : Call) (action : Action) : Type 0 where
+  pub named : domain_of s.domains dom ≢ None
+  pub is : x.id ≡ dom
+  pub c : Underway
+  pub same : seen ≡ seen_by s h x.id o.step
+  pub ticks : Ticks s h xs x o c new action
+  pub replaced : (new : State) → new.id.0 ≡ x.id.0 → Replaced xs (set xs at new) x new
+
+begun : (s : Setting) (h : History) (xs : List State) (dom : DomId) (at : ℕ) (x : State) (o : Open) (seen : Seen) (new : Call) (action : Action) → Begins s h xs dom at x o seen new action → Begun s h xs dom at x o seen new action
+begun s h xs dom at x o seen new action b =
+    let a = agrees-found s h xs dom at x b.place b.here b.stands in
+    let f : state_of xs dom.0 ≡ Some x = found xs dom.0 at x b.place ∙ ap (λ (y : State). Some y) (sym b.here) in
+    let g : state_of xs x.id.0 ≡ Some x = ap (λ (z : DomId). state_of xs z.0) a.1 ∙ f in
+    let u = call-here s h x.id x.underway (open_call h x.id.0) o b.under a.2.call in
+    let t = ticks s h xs x o u.0 seen new action b.stands g a.2 u.1 u.2 (b.saw ∙ ap (λ (z : DomId). sees xs z o.step) (sym a.1)) b.caller b.asks b.goes in
+    let places = position-Some (has_id dom.0) xs at x b.place in
+    record {
+      named = a.0;
+      is = a.1;
+      c = u.0;
+      same = t.0;
+      ticks = t.1;
+      replaced = λ y e q. state_of-set xs at x y q places.0 (sym b.here) e (λ k below. ap (λ (z : DomId). has_id z.0 (get_or xs k x)) a.1 ∙ places.2 k below);
+    }
+
+-- the same for the domain asked, and what its step saw
+settle : (s : Setting) (h : History) (xs : List State) (dom : DomId) (at : ℕ) (x : State) (o : Open) (seen : Seen) (new : Call) (action : Action) (answer : Option Answer) (bytes : List ℕ) (zs : List State) → Begun s h xs dom at x o seen new action
+    → Ticked s h x.id o.step (seen_by s h x.id o.step) answer (applied x.id o.step (seen_by s h x.id o.step) bytes zs)
+    → (domain_of s.domains dom ≢ None) × IsRight s h (stepped dom o.step seen answer) × CoreStands s (stepped dom o.step seen answer ∷ h) (applied dom o.step seen bytes zs)
+settle s h xs dom at x o seen new action answer bytes zs b t =
+    let u = subst (λ (d : DomId). Ticked s h d o.step seen answer (applied d o.step seen bytes zs)) b.is (subst (λ (v : Seen). Ticked s h x.id o.step v answer (applied x.id o.step v bytes zs)) (sym b.same) t) in
+    (b.named, u.0, u.1)
+
+pub tick-goes : (s : Setting) (h : History) (xs : List State) (dom : DomId) (at : ℕ) (x : State) (o : Open) (seen : Seen) (new : Call) (z : Step) (bytes : List ℕ) → Begins s h xs dom at x o seen new (Makes z) → bytes ≡ copied_by xs o.step
+    → (domain_of s.domains dom ≢ None) × IsRight s h (stepped dom o.step seen None) × CoreStands s (stepped dom o.step seen None ∷ h) (applied dom o.step seen bytes (set xs at (with_underway (Some (record { call = new; step = z })) x)))
+tick-goes s h xs dom at x o seen new z bytes b copied =
+    let n = begun s h xs dom at x o seen new (Makes z) b in
+    settle s h xs dom at x o seen new (Makes z) None bytes _ n (goes-core s h xs _ x o n.c new z bytes n.ticks (n.replaced (with_underway (Some (record { call = new; step = z })) x) refl) copied)
+
+pub tick-granted : (s : Setting) (h : History) (xs zs : List State) (dom : DomId) (at : ℕ) (x : State) (o : Open) (seen : Seen) (new : Call) (answer : Answer) (bytes : List ℕ) → Begins s h xs dom at x o seen new (Done Granted) → bytes ≡ copied_by xs o.step → Settled xs at x o o.step answer zs
+    → (domain_of s.domains dom ≢ None) × IsRight s h (stepped dom o.step seen (Some answer)) × CoreStands s (stepped dom o.step seen (Some answer) ∷ h) (applied dom o.step seen bytes zs)
+tick-granted s h xs zs dom at x o seen new answer bytes b copied settled =
+    let n = begun s h xs dom at x o seen new (Done Granted) b in
+    settle s h xs dom at x o seen new (Done Granted) (Some answer) bytes zs n (granted-core s h xs zs at x o n.c new answer bytes n.ticks (n.replaced (with_underway None x) refl) (n.replaced (without_given x) refl) copied settled)
+
+pub tick-mapped : (s : Setting) (h : History) (xs : List State) (dom : DomId) (at : ℕ) (x : State) (o : Open) (seen : Seen) (new : Call) (held : Held) (handle : Handle) (kept : Kept Held) (bytes : List ℕ) → Begins s h xs dom at x o seen new (Done (KeptPin held)) → Adds x.mappings kept handle held
+    → (domain_of s.domains dom ≢ None) × IsRight s h (stepped dom o.step seen (Some (Mapped handle))) × CoreStands s (stepped dom o.step seen (Some (Mapped handle)) ∷ h) (applied dom o.step seen bytes (set xs at (with_mapping kept x)))
+tick-mapped s h xs dom at x o seen new held handle kept bytes b adds =
+    let n = begun s h xs dom at x o seen new (Done (KeptPin held)) b in
+    settle s h xs dom at x o seen new (Done (KeptPin held)) (Some (Mapped handle)) bytes _ n (mapped-core s h xs _ x o n.c new held handle kept bytes n.ticks (n.replaced (with_mapping kept x) refl) adds)
+
+pub tick-given : (s : Setting) (h : History) (xs : List State) (dom : DomId) (at : ℕ) (x : State) (o : Open) (seen : Seen) (new : Call) (value : Value) (bytes : List ℕ) → Begins s h xs dom at x o seen new (Done (Given value)) → bytes ≡ copied_by xs o.step
+    → (domain_of s.domains dom ≢ None) × IsRight s h (stepped dom o.step seen (Some (answer_with value))) × CoreStands s (stepped dom o.step seen (Some (answer_with value)) ∷ h) (applied dom o.step seen bytes (set xs at (with_underway None x)))
+tick-given s h xs dom at x o seen new value bytes b copied =
+    let n = begun s h xs dom at x o seen new (Done (Given value)) b in
+    settle s h xs dom at x o seen new (Done (Given value)) (Some (answer_with value)) bytes _ n (given-core s h xs _ x o n.c new value bytes n.ticks (n.replaced (with_underway None x) refl) copied)
+
+pub tick-refused : (s : Setting) (h : History) (xs : List State) (dom : DomId) (at : ℕ) (x : State) (o : Open) (seen : Seen) (new : Call) (denial : Denial) (bytes : List ℕ) → Begins s h xs dom at x o seen new (Done (Refused denial)) → bytes ≡ copied_by xs o.step
+    → (domain_of s.domains dom ≢ None) × IsRight s h (stepped dom o.step seen (Some (Denied denial))) × CoreStands s (stepped dom o.step seen (Some (Denied denial)) ∷ h) (applied dom o.step seen bytes (set xs at (with_underway None x)))
+tick-refused s h xs dom at x o seen new denial bytes b copied =
+    let n = begun s h xs dom at x o seen new (Done (Refused denial)) b in
+    settle s h xs dom at x o seen new (Done (Refused denial)) (Some (Denied denial)) bytes _ n (refused-core s h xs _ x o n.c new denial bytes n.ticks (n.replaced (with_underway None x) refl) copied)
+
+-- a map that is over had asked for its room when it began
+pub map-asked : (s : Setting) (h : History) (xs : List State) (dom : DomId) (at : ℕ) (x : State) (o : Open) (seen : Seen) (new : Call) (held : Held) → Begins s h xs dom at x o seen new (Done (KeptPin held)) → Rattle.gt_core.specs.States.IsMapping (Rattle.gt_core.specs.States.asked_in x.underway)
+map-asked s h xs dom at x o seen new held b =
+    let n = begun s h xs dom at x o seen new (Done (KeptPin held)) b in
+    let t = n.ticks in
+    let m = mapped-ends s h xs x.id n.c.request (values n.c) (reverse n.c.steps) t.stands.phase o.step held (here-of s h xs x o n.c t.st t.here t.stands) (sym t.acts) in
+    subst (λ (z : Option Open). Rattle.gt_core.specs.States.IsMapping (Rattle.gt_core.specs.States.asked_in z)) (sym b.under) (subst (λ (q : Asked). Rattle.gt_core.specs.States.IsMapping (Some q)) (sym (t.stands.asks ∙ m.of_map)) tt)

@@ -1,0 +1,195 @@
+-- A body word stored on an invalid entry keeps what a core stands for.
+use Rattle.std.proofs.Common.{◌≡◌, ◌≢◌, ◌+◌, ℕ, refl, Bool, true, false, List, [], ◌∷◌, Option, Some, None, cond, sym, ap, ◌∙◌, subst}
+use Rattle.std.proofs.lemmas.Bool.{eqb-true, eq-eqb}
+use Rattle.std.proofs.lemmas.Option.{none-some, same_Some}
+use Rattle.std.specs.Prelude.{◌==◌, ◌&&◌, All, count_by, slice_get}
+use Rattle.std.specs.Option.{option_map}
+use mathlib.Core.Path.{fun_ext}
+use Rattle.gt_types.specs.declared.DomId.{DomId}
+use Rattle.gt_types.specs.declared.GrantRef.{GrantRef}
+use Rattle.gt_types.specs.declared.Dir.TheVariants.{Read, Write}
+use Rattle.gt_entry.specs.declared.entry.Entry.{Entry}
+use Rattle.gt_entry.specs.declared.entry.Entry.TheVariants.{Invalid}
+use Rattle.gt_entry.specs.declared.change.Half.{Half}
+use Rattle.gt_entry.specs.declared.change.Half.TheVariants.{First as FirstHalf, Second as SecondHalf}
+use Rattle.gt_entry.specs.Entries.{IsEntry}
+use Rattle.gt_calls.specs.declared.action.Step.TheVariants.{StoreBody}
+use Rattle.gt_calls.specs.declared.action.Seen.TheVariants.{Nothing}
+use Rattle.gt_calls.specs.Rules.{control_with}
+use Rattle.gt_core.specs.declared.slot.Slot.{Slot}
+use Rattle.gt_core.specs.declared.slot.SlotChange.TheVariants.{Stored}
+use Rattle.gt_core.specs.declared.slot.Open.{Open}
+use Rattle.gt_core.specs.declared.trace.Item.{Item}
+use Rattle.gt_core.specs.declared.trace.Happened.TheVariants.{Stepped}
+use Rattle.gt_core.specs.Rows.{changed_at}
+use Rattle.gt_core.specs.States.{State, state_of, changed_in}
+use Rattle.gt_core.specs.Effects.{with_slot, slot_after}
+use Rattle.gt_core.specs.History.{History, Setting, Pin, live, entry_at, generation_at, body_at, reads_at, writes_at, control_at, same_half, or_else, stored_at, is_pin_on, open_call}
+use Rattle.gt_core.specs.Legal.{IsSpelled}
+use Rattle.gt_core.specs.Standing.{IsLawful, FitsTable, FitsWord, SlotAgrees, Agrees, CoreStands, CallAgrees, GivenAgrees}
+use Rattle.gt_core.proofs.Rows.{get-changed, length-changed}
+use Rattle.gt_core.proofs.Quiet.{KeepsKnown, kept-entry, kept-raises, kept-live, kept-table, kept-generations}
+use Rattle.gt_core.proofs.Others.{other-body}
+use Rattle.gt_core.proofs.Keeping.{stepped, SlotsAgree, Becomes, becomes-changed, each-stands, other-agrees, frames-stay, filled-stays, mappings-stay, same-number}
+
+-- the item of a store
+abbrev pub stores : DomId → GrantRef → Half → ℕ → Item
+stores d gref half word = stepped d (StoreBody gref half word) Nothing None
+
+pub store-keeps : (d : DomId) (gref : GrantRef) (half : Half) (word : ℕ) → KeepsKnown (stores d gref half word)
+store-keeps d gref half word = record { changes = λ r. refl; pins = λ before ps. refl; unpins = λ pins. refl; maps = refl }
+
+own-stored : (d : DomId) (gref : GrantRef) (half : Half) (word : ℕ) (h : History) (r : ℕ) (which : Half)
+    → body_at (stores d gref half word ∷ h) d.0 r which ≡ or_else (stored_at (Stepped (StoreBody gref half word) Nothing) r which) (body_at h d.0 r which)
+unfolding body_at
+own-stored d gref half word h r which =
+    ap (λ (b : Bool). or_else (cond b (stored_at (Stepped (StoreBody gref half word) Nothing) r which) None) (body_at h d.0 r which)) (eq-eqb d.0 d.0 refl)
+
+-- a half that is not the one stored stays
+pub half-stays : (d : DomId) (gref : GrantRef) (half : Half) (word r : ℕ) (which : Half) (h : History) → ((gref.0 == r) && same_half half which) ≡ false
+    → body_at (stores d gref half word ∷ h) d.0 r which ≡ body_at h d.0 r which
+half-stays d gref half word r which h e = own-stored d gref half word h r which ∙ ap (λ (b : Bool). or_else (cond b (Some word) None) (body_at h d.0 r which)) e
+
+-- and the one stored is the word
+pub half-stored : (d : DomId) (gref : GrantRef) (half : Half) (word : ℕ) (h : History) → body_at (stores d gref half word ∷ h) d.0 gref.0 half ≡ word
+half-stored d gref half word h =
+    own-stored d gref half word h gref.0 half
+    ∙ ap (λ (b : Bool). or_else (cond (b && same_half half half) (Some word) None) (body_at h d.0 gref.0 half)) (eq-eqb gref.0 gref.0 refl)
+    ∙ by half
+  where
+    by : (z : Half) → or_else (cond (same_half z z) (Some word) None) (body_at h d.0 gref.0 half) ≡ word
+    by FirstHalf = refl
+    by SecondHalf = refl
+
+and-false : (b : Bool) → (b && false) ≡ false
+and-false true = refl
+and-false false = refl
+
+-- the other half stays
+pub second-stays : (d : DomId) (gref : GrantRef) (word r : ℕ) (h : History) → body_at (stores d gref FirstHalf word ∷ h) d.0 r SecondHalf ≡ body_at h d.0 r SecondHalf
+second-stays d gref word r h = half-stays d gref FirstHalf word r SecondHalf h (and-false (gref.0 == r))
+
+pub first-stays : (d : DomId) (gref : GrantRef) (word r : ℕ) (h : History) → body_at (stores d gref SecondHalf word ∷ h) d.0 r FirstHalf ≡ body_at h d.0 r FirstHalf
+first-stays d gref word r h = half-stays d gref SecondHalf word r FirstHalf h (and-false (gref.0 == r))
+
+-- at another entry both stay
+elsewhere-stays : (d : DomId) (gref : GrantRef) (half : Half) (word r : ℕ) (which : Half) (h : History) → (gref.0 == r) ≡ false → body_at (stores d gref half word ∷ h) d.0 r which ≡ body_at h d.0 r which
+elsewhere-stays d gref half word r which h apart = half-stays d gref half word r which h (ap (λ (b : Bool). b && same_half half which) apart)
+
+-- the slot of the entry, and the others
+slot-stored : (d : DomId) (gref : GrantRef) (half : Half) (word : ℕ) (h : History) (slot : Slot) → SlotAgrees h d.0 gref.0 slot
+    → SlotAgrees (stores d gref half word ∷ h) d.0 gref.0 (slot_after (Stored half word) slot)
+slot-stored d gref SecondHalf word h slot a =
+    let k = kept-live (stores d gref SecondHalf word) h (store-keeps d gref SecondHalf word) in
+    record {
+      reads = a.reads ∙ ap (λ (ps : List Pin). count_by (is_pin_on d.0 gref.0 Read) ps) (sym k);
+      writes = a.writes ∙ ap (λ (ps : List Pin). count_by (is_pin_on d.0 gref.0 Write) ps) (sym k);
+      first = a.first ∙ sym (first-stays d gref word gref.0 h);
+      second = sym (half-stored d gref SecondHalf word h);
+    }
+slot-stored d gref FirstHalf word h slot a =
+    let k = kept-live (stores d gref FirstHalf word) h (store-keeps d gref FirstHalf word) in
+    record {
+      reads = a.reads ∙ ap (λ (ps : List Pin). count_by (is_pin_on d.0 gref.0 Read) ps) (sym k);
+      writes = a.writes ∙ ap (λ (ps : List Pin). count_by (is_pin_on d.0 gref.0 Write) ps) (sym k);
+      first = sym (half-stored d gref FirstHalf word h);
+      second = a.second ∙ sym (second-stays d gref word gref.0 h);
+    }
+
+slot-same : (d : DomId) (gref : GrantRef) (half : Half) (word t r : ℕ) (h : History) (slot : Slot) → ((which : Half) → body_at (stores d gref half word ∷ h) t r which ≡ body_at h t r which)
+    → SlotAgrees h t r slot → SlotAgrees (stores d gref half word ∷ h) t r slot
+slot-same d gref half word t r h slot same a =
+    let k = kept-live (stores d gref half word) h (store-keeps d gref half word) in
+    record {
+      reads = a.reads ∙ ap (λ (ps : List Pin). count_by (is_pin_on t r Read) ps) (sym k);
+      writes = a.writes ∙ ap (λ (ps : List Pin). count_by (is_pin_on t r Write) ps) (sym k);
+      first = a.first ∙ sym (same FirstHalf);
+      second = a.second ∙ sym (same SecondHalf);
+    }
+
+slots-stored : (d : DomId) (gref : GrantRef) (half : Half) (word : ℕ) (h : History) (slots : List Slot) → SlotsAgree h d.0 slots
+    → SlotsAgree (stores d gref half word ∷ h) d.0 (changed_at gref.0 (slot_after (Stored half word)) slots)
+slots-stored d gref half word h slots a r slot e = by (gref.0 == r) refl (sym (get-changed slots gref.0 r (slot_after (Stored half word))) ∙ e)
+  where
+    at : (o : Option Slot) → slice_get slots r ≡ o → gref.0 ≡ r → option_map (slot_after (Stored half word)) o ≡ Some slot → SlotAgrees (stores d gref half word ∷ h) d.0 r slot
+    at None there same k = absurd (none-some slot k)
+    at (Some old) there same k =
+        subst (λ (z : Slot). SlotAgrees (stores d gref half word ∷ h) d.0 r z) (same_Some _ slot k)
+        (subst (λ (n : ℕ). SlotAgrees h d.0 n old → SlotAgrees (stores d gref half word ∷ h) d.0 n (slot_after (Stored half word) old)) same
+        (slot-stored d gref half word h old) (a r old there))
+
+    by : (b : Bool) → (gref.0 == r) ≡ b → cond b (option_map (slot_after (Stored half word)) (slice_get slots r)) (slice_get slots r) ≡ Some slot
+        → SlotAgrees (stores d gref half word ∷ h) d.0 r slot
+    by true t k = at (slice_get slots r) refl (eqb-true gref.0 r t) k
+    by false t k = slot-same d gref half word d.0 r h slot (λ which. elsewhere-stays d gref half word r which h t) (a r slot k)
+
+-- the actor after its store
+store-agrees : (s : Setting) (h : History) (x : State) (gref : GrantRef) (half : Half) (word : ℕ) (o : Option Open) → Agrees s h x
+    → CallAgrees s (stores x.id gref half word ∷ h) x.id o (open_call (stores x.id gref half word ∷ h) x.id.0) → GivenAgrees (stores x.id gref half word ∷ h) x.id.0 x.given
+    → Agrees s (stores x.id gref half word ∷ h) (with_slot gref.0 (Stored half word) (record x { underway = o }))
+store-agrees s h x gref half word o a call given =
+    let i = stores x.id gref half word in
+    let k = store-keeps x.id gref half word in
+    record {
+      header = a.header ∙ sym (kept-table s i h x.id refl);
+      rows = a.rows;
+      entries = a.entries ∙ fun_ext (λ r. sym (kept-entry i h x.id.0 r k));
+      generations = a.generations ∙ sym (kept-generations s i h x.id.0 k);
+      room = length-changed x.slots gref.0 (slot_after (Stored half word)) ∙ a.room;
+      slots = slots-stored x.id gref half word h x.slots a.slots;
+      mappings = mappings-stay i h x.id.0 x.mappings k a.mappings;
+      frames = frames-stay s i h x.id x.frames (λ given contents. refl) a.frames;
+      call = call;
+      given = given;
+    }
+
+-- a body word stored on an invalid entry keeps what the core stands for
+pub store-stands : (s : Setting) (h : History) (xs ys : List State) (x : State) (gref : GrantRef) (half : Half) (word : ℕ) (o : Option Open) → CoreStands s h xs
+    → state_of xs x.id.0 ≡ Some x → Agrees s h x → entry_at h x.id.0 gref.0 ≡ Invalid → ((q : ℕ) → state_of ys q ≡ cond (x.id.0 == q) (Some (record x { underway = o })) (state_of xs q))
+    → CallAgrees s (stores x.id gref half word ∷ h) x.id o (open_call (stores x.id gref half word ∷ h) x.id.0) → GivenAgrees (stores x.id gref half word ∷ h) x.id.0 x.given
+    → CoreStands s (stores x.id gref half word ∷ h) (changed_in x.id.0 (with_slot gref.0 (Stored half word)) ys)
+store-stands s h xs ys x gref half word o st here a invalid becomes call given =
+    record {
+      each = each-stands s i h xs _ x (record x { underway = o }) x.id.0 (with_slot gref.0 (Stored half word)) st here
+          (becomes-changed xs ys x (record x { underway = o }) x.id.0 (with_slot gref.0 (Stored half word)) (λ y. refl) becomes) refl (λ y. refl)
+          (subst (λ (b : Bool). Agrees s (i ∷ h) (cond b (with_slot gref.0 (Stored half word) (record x { underway = o })) (record x { underway = o }))) (sym (same-number x.id.0)) (store-agrees s h x gref half word o a call given))
+          (λ y apart b. subst (λ (c : Bool). Agrees s (i ∷ h) (cond c (with_slot gref.0 (Stored half word) y) y)) (sym apart)
+          (other-agrees s i h y y.slots y.frames apart b b.room (λ r slot e. slot-same x.id gref half word y.id.0 r h slot (λ which. other-body i h y.id.0 r which apart) (b.slots r slot e)) (frames-stay s i h y.id y.frames (λ given contents. refl) b.frames)));
+      tables = λ dom. subst FitsTable (sym (kept-table s i h dom refl)) (st.tables dom);
+      words = λ t r within. subst FitsWord (sym (kept-control t r)) (st.words t r within);
+      entries = λ t r. subst IsEntry (sym (kept-entry i h t r k)) (st.entries t r);
+      lawful = subst (All (IsLawful s)) (sym (kept-live i h k)) st.lawful;
+      filled = filled-stays s i h xs (λ given contents. refl) st;
+      free = λ t r e. let was = st.free t r (sym (kept-entry i h t r k) ∙ e) in
+          (ap (λ (ps : List Pin). count_by (is_pin_on t r Read) ps) (kept-live i h k) ∙ was.0, ap (λ (ps : List Pin). count_by (is_pin_on t r Write) ps) (kept-live i h k) ∙ was.1);
+      spelled = λ t r valid. spelled t r (λ e. valid (kept-entry i h t r k ∙ e));
+    }
+  where
+    i : Item
+    i = stores x.id gref half word
+
+    k : KeepsKnown i
+    k = store-keeps x.id gref half word
+
+    kept-control : (t r : ℕ) → control_at s (i ∷ h) t r ≡ control_at s h t r
+    kept-control t r =
+        ap (λ (e : Entry). control_with e (generation_at s (i ∷ h) t r) (reads_at (i ∷ h) t r) (writes_at (i ∷ h) t r)) (kept-entry i h t r k)
+        ∙ ap (λ (n : ℕ). control_with (entry_at h t r) (s.first_generation + n) (reads_at (i ∷ h) t r) (writes_at (i ∷ h) t r)) (kept-raises i h t r k)
+        ∙ ap (λ (ps : List Pin). control_with (entry_at h t r) (generation_at s h t r) (count_by (is_pin_on t r Read) ps) (count_by (is_pin_on t r Write) ps)) (kept-live i h k)
+
+    body-there : (t r : ℕ) → entry_at h t r ≢ Invalid → (b e : Bool) → (x.id.0 == t) ≡ b → (gref.0 == r) ≡ e → (which : Half) → body_at (i ∷ h) t r which ≡ body_at h t r which
+    body-there t r valid false e own at which = other-body i h t r which own
+    body-there t r valid true false own at which =
+        subst (λ (n : ℕ). body_at (i ∷ h) n r which ≡ body_at h n r which) (eqb-true x.id.0 t own) (elsewhere-stays x.id gref half word r which h at)
+    body-there t r valid true true own at which =
+        absurd (valid (subst (λ (n : ℕ). entry_at h n r ≡ Invalid) (eqb-true x.id.0 t own) (subst (λ (n : ℕ). entry_at h x.id.0 n ≡ Invalid) (eqb-true gref.0 r at) invalid)))
+
+    spelled-by : (t r : ℕ) (entry : Entry) → ((which : Half) → body_at (i ∷ h) t r which ≡ body_at h t r which) → IsSpelled entry (body_at h t r FirstHalf) (body_at h t r SecondHalf)
+        → IsSpelled entry (body_at (i ∷ h) t r FirstHalf) (body_at (i ∷ h) t r SecondHalf)
+    spelled-by t r entry b z =
+        subst (λ (n : ℕ). IsSpelled entry n (body_at (i ∷ h) t r SecondHalf)) (sym (b FirstHalf)) (subst (λ (n : ℕ). IsSpelled entry (body_at h t r FirstHalf) n) (sym (b SecondHalf)) z)
+
+    spelled : (t r : ℕ) → entry_at h t r ≢ Invalid → IsSpelled (entry_at (i ∷ h) t r) (body_at (i ∷ h) t r FirstHalf) (body_at (i ∷ h) t r SecondHalf)
+    spelled t r valid =
+        subst (λ (e : Entry). IsSpelled e (body_at (i ∷ h) t r FirstHalf) (body_at (i ∷ h) t r SecondHalf)) (sym (kept-entry i h t r k))
+        (spelled-by t r (entry_at h t r) (body-there t r valid (x.id.0 == t) (gref.0 == r) refl refl) (st.spelled t r valid))

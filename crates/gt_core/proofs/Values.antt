@@ -1,0 +1,391 @@
+-- What an answer of a call is, by its last step.
+use Rattle.std.proofs.Common.{◌≡◌, ◌≢◌, ◌<◌, ◌≤◌, ◌+◌, ◌⊎◌, inl, inr, ℕ, zero, suc, refl, Bool, true, false, List, [], ◌∷◌, ◌++◌, length, Option, Some, None, cond, sym, ap, ◌∙◌, subst, reverse, arith}
+use Rattle.std.proofs.lemmas.Bool.{eqb-true, eq-eqb, true≢false, false≢true}
+use Rattle.std.proofs.lemmas.Option.{none-some, same_Some}
+use Rattle.std.specs.Prelude.{◌==◌, nat_lt, All}
+use Rattle.gt_types.specs.declared.DomId.{DomId}
+use Rattle.gt_types.specs.declared.GrantRef.{GrantRef}
+use Rattle.gt_types.specs.declared.denial.Denial.{Denial}
+use Rattle.gt_types.specs.declared.denial.Rule.{Rule}
+use Rattle.gt_types.specs.declared.denial.Rule.TheVariants.{N18, N19}
+use Rattle.gt_entry.specs.declared.entry.Entry.{Entry}
+use Rattle.gt_entry.specs.declared.entry.Entry.TheVariants.{Invalid, Page, Sub, Via}
+use Rattle.gt_entry.specs.declared.header.Header.{Header}
+use Rattle.gt_entry.specs.declared.change.Change.{Change}
+use Rattle.gt_entry.specs.declared.change.Change.TheVariants.{Publish, Revoke as ToInvalid, Demote as ToReadOnly, Promote as ToWritable}
+use Rattle.gt_entry.specs.Words.{control_of, header_of, header_word}
+use Rattle.gt_calls.specs.declared.held.Held.{Held}
+use Rattle.gt_calls.specs.declared.held.Route.{Route}
+use Rattle.gt_calls.specs.declared.held.Route.TheVariants.{Own, Direct, Through}
+use Rattle.gt_calls.specs.declared.held.Pins.{Pins}
+use Rattle.gt_calls.specs.declared.request.CopyArgs.{CopyArgs}
+use Rattle.gt_calls.specs.declared.request.Asked.{Asked}
+use Rattle.gt_calls.specs.declared.request.Asked.TheVariants.{Grant, Revoke, Demote, Promote, Map, Unmap, Load, Store, Peek, Poke, Copy, SetVersion, SetupTable, QuerySize, GetVersion}
+use Rattle.gt_calls.specs.declared.request.Holder.TheVariants.{Mapping as ByMapping, Leg as ByLeg}
+use Rattle.gt_calls.specs.declared.action.Seen.{Seen}
+use Rattle.gt_calls.specs.declared.action.Seen.TheVariants.{Nothing, Word, Taken, Missed}
+use Rattle.gt_calls.specs.declared.action.Verdict.{Verdict}
+use Rattle.gt_calls.specs.declared.action.Verdict.TheVariants.{Granted, Given, Mapped, Refused}
+use Rattle.gt_calls.specs.declared.action.Value.{Value}
+use Rattle.gt_calls.specs.declared.action.Value.TheVariants.{Frames as FramesTold, Size as SizeTold, Version as VersionTold}
+use Rattle.gt_calls.specs.declared.action.Step.{Step}
+use Rattle.gt_calls.specs.declared.action.Step.TheVariants.{LookHeader, LookControl, LookBody, Pin as PinStep, Unpin, StoreBody, StoreHeader, Exchange, Read as ReadBytes, Write as WriteBytes, Copy as CopyBytes}
+use Rattle.gt_calls.specs.declared.action.Action.{Action}
+use Rattle.gt_calls.specs.declared.action.Action.TheVariants.{Step as Makes, Done}
+use Rattle.gt_calls.specs.declared.copying.Aim.{Aim}
+use Rattle.gt_calls.specs.declared.copying.Aim.TheVariants.{Mapping, Source, Dest}
+use Rattle.gt_calls.specs.declared.call.Question.{Question}
+use Rattle.gt_calls.specs.declared.call.Question.TheVariants.{Size as AsksSize, Version as AsksVersion}
+use Rattle.gt_calls.specs.declared.call.Phase.{Phase}
+use Rattle.gt_calls.specs.declared.call.Phase.TheVariants.{Storing, StoringSecond, Exchanging, Looking, Changing, Walking, Accessing, Asking, Last, Ending}
+use Rattle.gt_calls.specs.declared.leg.Leg.{Leg}
+use Rattle.gt_calls.specs.declared.leg.LegPhase.{LegPhase}
+use Rattle.gt_calls.specs.declared.leg.LegPhase.TheVariants.{Header as AtHeader, Look, Body, Second, Pinning, Relook}
+use Rattle.gt_calls.specs.declared.leg.LegNext.{LegNext}
+use Rattle.gt_calls.specs.declared.leg.LegNext.TheVariants.{Going, Refused as LegRefused, Pinned}
+use Rattle.gt_calls.specs.Holding.{last_first, pins_so_far, no_pins, without_last}
+use Rattle.gt_calls.specs.Rules.{CallerKnowledge, via_judged, is_dest_granted, is_kind}
+use Rattle.gt_calls.specs.Path.{path, held_of, is_stopped, source_pair, dest_pair, second_leg, end_leg, Continuation}
+use Rattle.gt_calls.specs.Resting.{IsFor, RestsOnWord, RestsOnRequest}
+use Rattle.gt_calls.specs.Machine.{phase_after, action_at, after_leg, leg_after, leg_step, after_pin_of, after_source_pin, after_dest_pin, at_dest, where_via, after_store, publishing, after_own_look, after_own_miss, refused_as, ended_as, next_to_give}
+use Rattle.gt_calls.specs.Standing.{HasShown, IsQuiet, IsTurn, held_in}
+use Rattle.gt_core.specs.declared.trace.Answer.{Answer}
+use Rattle.gt_core.specs.declared.trace.Answer.TheVariants.{Done as AnswerDone, Frames, Size, Version}
+use Rattle.gt_core.specs.States.{State}
+use Rattle.gt_core.specs.History.{History, Setting, word_at, table_at, known_at, seen_by, legs_at, contents_at}
+use Rattle.gt_core.specs.Legal.{StepsSoFar, LeavesAll, GivesValue, refusal_in, refusal_of}
+use Rattle.gt_core.specs.Standing.{CoreStands, PhaseStands, EndsAfter, EndsCopy, Asks, IsClean, phase_refusal, answer_with, numbered}
+use Rattle.gt_core.proofs.Fitting.{table-fits}
+use Rattle.gt_core.proofs.Phases.{IsHere, makes-same}
+use Rattle.gt_core.proofs.Outcomes.{next_of, walk-done, ends-so}
+use Rattle.gt_calls.specs.Path.{told}
+
+-- the next phase of a call that stands at a question
+abbrev Next : Setting → History → DomId → Phase → Step → Verdict → Type 0
+Next s h d p step v = action_at d (next_of s h d p step) ≡ Done v
+
+held-not : (held : List Held) (w v : Verdict) → next_to_give held w ≡ Done v → w ≡ v
+held-not [] w v e = cc
+held-not (p ∷ ps) w v e = cc
+
+-- a call that is answered Ok with no value
+granted-last : (s : Setting) (h : History) (d : DomId) (r : Asked) (last : Step) (verdict : Verdict) → IsQuiet last → RestsOnRequest (known_at s h d) d r last → EndsAfter r last verdict → verdict ≡ Granted → ((dom : DomId) (frame off len : ℕ) → last ≡ ReadBytes dom frame off len → ⊥)
+    → GivesValue s h d r (Some last) AnswerDone
+granted-last s h d r (Unpin p (ByMapping handle)) verdict q a b g read = subst (λ (z : Asked). GivesValue s h d z (Some (Unpin p (ByMapping handle))) AnswerDone) (sym a.0) refl
+granted-last s h d r (Unpin p (ByLeg n)) verdict q a b g read = absurd q
+granted-last s h d r (StoreHeader version frames) verdict q a (inl b) g read = subst (λ (z : Asked). GivesValue s h d z (Some (StoreHeader version frames)) AnswerDone) (sym b.0) refl
+granted-last s h d r (StoreHeader version frames) verdict q a (inr b) g read = absurd (let f : Granted ≡ Given (FramesTold frames) = sym g ∙ b.1 in cc)
+granted-last s h d r (ReadBytes dom frame off len) verdict q a b g read = absurd (read dom frame off len refl)
+granted-last s h d r (WriteBytes dom frame off len) verdict q (inl a) b g read = subst (λ (z : Asked). GivesValue s h d z (Some (WriteBytes dom frame off len)) AnswerDone) (sym a.1) refl
+granted-last s h d r (WriteBytes dom frame off len) verdict q (inr a) b g read = subst (λ (z : Asked). GivesValue s h d z (Some (WriteBytes dom frame off len)) AnswerDone) (sym a.0) refl
+granted-last s h d r (StoreBody gref half word) verdict q a b g read = absurd a
+granted-last s h d r (LookHeader dom) verdict q a b g read = absurd q
+granted-last s h d r (LookControl dom gref) verdict q a b g read = absurd q
+granted-last s h d r (LookBody dom gref half) verdict q a b g read = absurd q
+granted-last s h d r (PinStep p) verdict q a b g read = absurd q
+granted-last s h d r (Exchange gref looked change) verdict q a b g read = absurd q
+granted-last s h d r (CopyBytes from to len) verdict q a b g read = absurd q
+
+last-next : (s : Setting) (h : History) (d : DomId) (last : Step) (verdict v : Verdict) → IsQuiet last → Next s h d (Last last verdict) last v → verdict ≡ v
+last-next s h d (Unpin p (ByMapping handle)) verdict v q e = cc
+last-next s h d (Unpin p (ByLeg n)) verdict v q e = absurd q
+last-next s h d (StoreHeader version frames) verdict v q e = cc
+last-next s h d (ReadBytes dom frame off len) verdict v q e = cc
+last-next s h d (WriteBytes dom frame off len) verdict v q e = cc
+last-next s h d (StoreBody gref half word) verdict v q e = cc
+last-next s h d (LookHeader dom) verdict v q e = absurd q
+last-next s h d (LookControl dom gref) verdict v q e = absurd q
+last-next s h d (LookBody dom gref half) verdict v q e = absurd q
+last-next s h d (PinStep p) verdict v q e = absurd q
+last-next s h d (Exchange gref looked change) verdict v q e = absurd q
+last-next s h d (CopyBytes from to len) verdict v q e = absurd q
+
+turn-value : (s : Setting) (h : History) (d : DomId) (r : Asked) (gref : GrantRef) (change : Change) (step : Option Step) → IsTurn r gref change → GivesValue s h d r step AnswerDone
+turn-value s h d r gref (Publish entry) step a = absurd a
+turn-value s h d r gref ToInvalid step a = absurd a
+turn-value s h d r gref ToReadOnly step a = subst (λ (z : Asked). GivesValue s h d z step AnswerDone) (sym a) refl
+turn-value s h d r gref ToWritable step a = subst (λ (z : Asked). GivesValue s h d z step AnswerDone) (sym a) refl
+
+once-value : (s : Setting) (h : History) (way : Continuation) (d : DomId) (r : Asked) (shown : List Seen) (so_far : StepsSoFar) (gref : GrantRef) (looked : ℕ) (change : Change) (step : Option Step) → RestsOnWord (known_at s h d) way d r shown gref looked change
+    → PhaseStands s h d r so_far (Exchanging gref looked change) → GivesValue s h d r step AnswerDone
+once-value s h way d r shown so_far gref looked (Publish entry) step a b = subst (λ (z : Asked). GivesValue s h d z step AnswerDone) (sym a.0) refl
+once-value s h way d r shown so_far gref looked ToInvalid step a b = subst (λ (z : Asked). GivesValue s h d z step AnswerDone) (sym a.0) refl
+once-value s h way d r shown so_far gref looked ToReadOnly step a b = absurd b
+once-value s h way d r shown so_far gref looked ToWritable step a b = absurd b
+
+walk-value : (s : Setting) (h : History) (d : DomId) (r : Asked) (aim : Aim) (l : Leg) (next : LegNext) (step : Option Step) → IsFor (known_at s h d) d r aim l → action_at d (after_leg (known_at s h d) d aim l next) ≡ Done Granted → GivesValue s h d r step AnswerDone
+walk-value s h d r Mapping l next step a e = absurd (by (walk-done (known_at s h d) d Mapping l next Granted e))
+  where
+    by : ((denial : Denial) × (Granted ≡ Refused denial)) ⊎ ((p : Held) × (Granted ≡ Mapped p) × (next ≡ Pinned p) × (Mapping ≡ Mapping)) → ⊥
+    by (inl x) = let f : Granted ≡ Refused x.0 = x.1 in cc
+    by (inr x) = let f : Granted ≡ Mapped x.0 = x.1 in cc
+walk-value s h d r (Source c via) l next step a e = subst (λ (z : Asked). GivesValue s h d z step AnswerDone) (sym a.0) refl
+walk-value s h d r (Dest c source via) l next step a e = subst (λ (z : Asked). GivesValue s h d z step AnswerDone) (sym a.0) refl
+
+pub granted-value : (s : Setting) (h : History) (xs : List State) (d : DomId) (r : Asked) (shown : List Seen) (so_far : StepsSoFar) (phase : Phase) (step : Step) → IsHere s h xs d r shown so_far phase step → ((dom : DomId) (frame off len : ℕ) → step ≡ ReadBytes dom frame off len → ⊥)
+    → Next s h d phase step Granted → GivesValue s h d r (Some step) AnswerDone
+granted-value s h xs d r shown so_far phase step i read next = by phase i.at.has_shown i.place i.acts next
+  where
+    k : CallerKnowledge
+    k = known_at s h d
+
+    by : (p : Phase) → HasShown k (path k d r) d r shown p → PhaseStands s h d r so_far p → action_at d p ≡ Makes step → Next s h d p step Granted → GivesValue s h d r (Some step) AnswerDone
+    by (Storing gref entry) a b e n = subst (λ (z : Asked). GivesValue s h d z (Some step) AnswerDone) (sym a.0) refl
+    by (StoringSecond gref entry) a b e n = subst (λ (z : Asked). GivesValue s h d z (Some step) AnswerDone) (sym a.0) refl
+    by (Exchanging gref looked change) a b e n = once-value s h (path k d r) d r shown so_far gref looked change (Some step) a b
+    by (Looking gref change more) a b e n = turn-value s h d r gref change (Some step) a
+    by (Changing gref change more looked) a b e n = turn-value s h d r gref change (Some step) a.1
+    by (Walking aim l at) a b e n = walk-value s h d r aim l (leg_after l at (seen_by s h d step)) (Some step) a.1 n
+    by (Accessing c source dest) a b e n = subst (λ (z : Asked). GivesValue s h d z (Some step) AnswerDone) (sym a.0) refl
+    by (Asking dom AsksSize) a b e n = absurd (let f : Done (Given (SizeTold _)) ≡ Done Granted = subst (λ (z : Step). Next s h d (Asking dom AsksSize) z Granted) (sym (makes-same _ _ e)) n in cc)
+    by (Asking dom AsksVersion) a b e n = absurd (let f : Done (Given (VersionTold _)) ≡ Done Granted = subst (λ (z : Step). Next s h d (Asking dom AsksVersion) z Granted) (sym (makes-same _ _ e)) n in cc)
+    by (Last last verdict) a b e n =
+        let same = makes-same _ _ e in
+        subst (λ (z : Step). GivesValue s h d r (Some z) AnswerDone) same
+        (granted-last s h d r last verdict a.0 a.1 b (last-next s h d last verdict Granted a.0 (subst (λ (z : Step). Next s h d (Last last verdict) z Granted) (sym same) n)) (λ dom frame off len f. read dom frame off len (sym same ∙ f)))
+    by (Ending pins verdict) a (inl none) e n = absurd (let f : Done verdict ≡ Makes step = sym (ap (λ (l : List Held). next_to_give l verdict) none) ∙ e in cc)
+    by (Ending pins verdict) a (inr c) e n = subst (λ (z : Asked). GivesValue s h d z (Some step) AnswerDone) (sym c.1) refl
+
+-- a call that is answered with a value
+
+told-value : (s : Setting) (h : History) (xs : List State) (d : DomId) (r : Asked) (dom : DomId) (question : Question) (value : Value) → CoreStands s h xs → Asks d r dom question → told question (header_word (table_at s h dom)) ≡ Given value
+    → GivesValue s h d r (Some (LookHeader dom)) (answer_with value)
+told-value s h xs d r dom AsksSize value st a e =
+    let v : SizeTold (record { frames = (header_of (header_word (table_at s h dom))).frames; max = Rattle.gt_types.specs.declared.limits.TheConstants.MAX_TABLE_FRAMES }) ≡ value = cc in
+    subst (λ (z : Asked). GivesValue s h d z (Some (LookHeader dom)) (answer_with value)) (sym a.1)
+    (subst (λ (x : Value). GivesValue s h d (QuerySize a.0) (Some (LookHeader dom)) (answer_with x)) v
+    (ap (λ (t : Header). Size (record { frames = t.frames; max = Rattle.gt_types.specs.declared.limits.TheConstants.MAX_TABLE_FRAMES })) (table-fits _ (st.tables dom)).1))
+told-value s h xs d r dom AsksVersion value st a e =
+    let v : VersionTold (header_of (header_word (table_at s h dom))).version ≡ value = cc in
+    subst (λ (z : Asked). GivesValue s h d z (Some (LookHeader dom)) (answer_with value)) (sym a.1)
+    (subst (λ (x : Value). GivesValue s h d (GetVersion a.0) (Some (LookHeader dom)) (answer_with x)) v (ap (λ (t : Header). Version t.version) (table-fits _ (st.tables dom)).1))
+
+given-last : (s : Setting) (h : History) (d : DomId) (r : Asked) (last : Step) (verdict : Verdict) (value : Value) → IsQuiet last → EndsAfter r last verdict → verdict ≡ Given value → GivesValue s h d r (Some last) (answer_with value)
+given-last s h d r (StoreHeader version frames) verdict value q (inl b) g = absurd (let f : Granted ≡ Given value = sym b.1 ∙ g in cc)
+given-last s h d r (StoreHeader version frames) verdict value q (inr b) g =
+    let f : Given (FramesTold frames) ≡ Given value = sym b.1 ∙ g in
+    let v : FramesTold frames ≡ value = cc in
+    subst (λ (z : Asked). GivesValue s h d z (Some (StoreHeader version frames)) (answer_with value)) (sym b.0)
+    (subst (λ (x : Value). GivesValue s h d (SetupTable frames) (Some (StoreHeader version frames)) (answer_with x)) v refl)
+given-last s h d r (Unpin p holder) verdict value q b g = absurd (let f : Granted ≡ Given value = sym b ∙ g in cc)
+given-last s h d r (ReadBytes dom frame off len) verdict value q b g = absurd (let f : Granted ≡ Given value = sym b ∙ g in cc)
+given-last s h d r (WriteBytes dom frame off len) verdict value q b g = absurd (let f : Granted ≡ Given value = sym b ∙ g in cc)
+given-last s h d r (StoreBody gref half word) verdict value q b g = absurd (let f : Granted ≡ Given value = sym b ∙ g in cc)
+given-last s h d r (LookHeader dom) verdict value q b g = absurd q
+given-last s h d r (LookControl dom gref) verdict value q b g = absurd q
+given-last s h d r (LookBody dom gref half) verdict value q b g = absurd q
+given-last s h d r (PinStep p) verdict value q b g = absurd q
+given-last s h d r (Exchange gref looked change) verdict value q b g = absurd q
+given-last s h d r (CopyBytes from to len) verdict value q b g = absurd q
+
+-- no call but a question or a set up gives a value
+abbrev NoValue : Verdict → Type 0
+NoValue (Given value) = ⊥
+NoValue v = Unit {0}
+
+-- nor one but a map a pin
+abbrev NoPin : Verdict → Type 0
+NoPin (Mapped p) = ⊥
+NoPin v = Unit {0}
+
+-- what is so of the end of a phase, if it is one
+abbrev AtEnd : (Verdict → Type 0) → Action → Type 0
+AtEnd Q (Makes step) = Unit {0}
+AtEnd Q (Done v) = Q v
+
+-- an end by Ok or by a refusal
+abbrev Plain : (Verdict → Type 0) → Type 0
+Plain Q = Q Granted × ((denial : Denial) → Q (Refused denial))
+
+store-end : (Q : Verdict → Type 0) (k : CallerKnowledge) (d : DomId) (gref : GrantRef) (entry : Entry) → AtEnd Q (action_at d (after_store k gref entry))
+store-end Q k d gref Invalid = tt
+store-end Q k d gref (Page dom ro frame) = tt
+store-end Q k d gref (Sub dom ro frame off len) = tt
+store-end Q k d gref (Via dom ro dom2 r) = tt
+
+give-end : (Q : Verdict → Type 0) (held : List Held) (v : Verdict) → Q v → AtEnd Q (next_to_give held v)
+give-end Q [] v a = a
+give-end Q (p ∷ ps) v a = tt
+
+exchange-end : (Q : Verdict → Type 0) (k : CallerKnowledge) (d : DomId) (gref : GrantRef) (looked w : ℕ) (change : Change) (b : Bool) → Plain Q → AtEnd Q (action_at d (phase_after k d (Exchanging gref looked change) (cond b Taken (Missed w))))
+exchange-end Q k d gref looked w change true plain = plain.0
+exchange-end Q k d gref looked w change false plain = plain.1 _
+
+look-end : (Q : Verdict → Type 0) (d : DomId) (gref : GrantRef) (change : Change) (more w : ℕ) (b : Bool) → Plain Q → AtEnd Q (action_at d (cond b (refused_as d gref N19 w) (Changing gref change more w)))
+look-end Q d gref change more w true plain = plain.1 _
+look-end Q d gref change more w false plain = tt
+
+change-end : (Q : Verdict → Type 0) (k : CallerKnowledge) (d : DomId) (gref : GrantRef) (change : Change) (more looked w : ℕ) (b : Bool) → Plain Q → AtEnd Q (action_at d (phase_after k d (Changing gref change more looked) (cond b Taken (Missed w))))
+change-end Q k d gref change more looked w true plain = plain.0
+change-end Q k d gref change more looked w false plain = by (nat_lt 0 more)
+  where
+    by : (c : Bool) → AtEnd Q (action_at d (cond c (Looking gref change (Rattle.std.proofs.Common.◌-◌ more 1)) (refused_as d gref N18 w)))
+    by true = tt
+    by false = plain.1 _
+
+at-end : (Q : Verdict → Type 0) (a : Action) (v : Verdict) → AtEnd Q a → a ≡ Done v → Q v
+at-end Q a v q e = subst (AtEnd Q) e q
+
+copy-end : (Q : Verdict → Type 0) (v : Verdict) → EndsCopy v → Plain Q → Q v
+copy-end Q Granted e plain = plain.0
+copy-end Q (Refused denial) e plain = plain.1 denial
+copy-end Q (Given value) e plain = absurd e
+copy-end Q (Mapped p) e plain = absurd e
+
+-- an end of a call that is no question, no set up and no map is by Ok or by a refusal
+plain-end : (Q : Verdict → Type 0) (s : Setting) (h : History) (d : DomId) (r : Asked) (so_far : StepsSoFar) (p : Phase) (step : Step) (v : Verdict) → Plain Q → PhaseStands s h d r so_far p → action_at d p ≡ Makes step → Next s h d p step v
+    → ((dom : DomId) (question : Question) → p ≡ Asking dom question → Q v) → ((last : Step) (verdict : Verdict) → p ≡ Last last verdict → Q v) → ((aim : Aim) (l : Leg) (at : LegPhase) → p ≡ Walking aim l at → Q v) → Q v
+plain-end Q s h d r so_far (Storing gref entry) step v plain b e n asking last walking =
+    at-end Q _ v (store-end Q (known_at s h d) d gref entry) (subst (λ (z : Step). Next s h d (Storing gref entry) z v) (sym (makes-same _ _ e)) n)
+plain-end Q s h d r so_far (StoringSecond gref entry) step v plain b e n asking last walking =
+    at-end Q (Makes (Exchange gref _ (Publish entry))) v tt (subst (λ (z : Step). Next s h d (StoringSecond gref entry) z v) (sym (makes-same _ _ e)) n)
+plain-end Q s h d r so_far (Exchanging gref looked change) step v plain b e n asking last walking =
+    at-end Q _ v (exchange-end Q (known_at s h d) d gref looked (word_at s h d.0 gref.0) change (word_at s h d.0 gref.0 == looked) plain) (subst (λ (z : Step). Next s h d (Exchanging gref looked change) z v) (sym (makes-same _ _ e)) n)
+plain-end Q s h d r so_far (Looking gref change more) step v plain b e n asking last walking =
+    at-end Q _ v (look-end Q d gref change more (word_at s h d.0 gref.0) (is_stopped change (control_of (word_at s h d.0 gref.0))) plain) (subst (λ (z : Step). Next s h d (Looking gref change more) z v) (sym (makes-same _ _ e)) n)
+plain-end Q s h d r so_far (Changing gref change more looked) step v plain b e n asking last walking =
+    at-end Q _ v (change-end Q (known_at s h d) d gref change more looked (word_at s h d.0 gref.0) (word_at s h d.0 gref.0 == looked) plain) (subst (λ (z : Step). Next s h d (Changing gref change more looked) z v) (sym (makes-same _ _ e)) n)
+plain-end Q s h d r so_far (Walking aim l at) step v plain b e n asking last walking = walking aim l at refl
+plain-end Q s h d r so_far (Accessing c source dest) step v plain b e n asking last walking =
+    at-end Q _ v (give-end Q (last_first (record { source = source; dest = dest })) Granted plain.0) (subst (λ (z : Step). Next s h d (Accessing c source dest) z v) (sym (makes-same _ _ e)) n)
+plain-end Q s h d r so_far (Asking dom question) step v plain b e n asking last walking = asking dom question refl
+plain-end Q s h d r so_far (Last last' verdict) step v plain b e n asking last walking = last last' verdict refl
+plain-end Q s h d r so_far (Ending pins verdict) step v plain (inl none) e n asking last walking = absurd (let f : Done verdict ≡ Makes step = sym (ap (λ (l : List Held). next_to_give l verdict) none) ∙ e in cc)
+plain-end Q s h d r so_far (Ending pins verdict) step v plain (inr c) e n asking last walking = by (last_first pins) e
+  where
+    by : (held : List Held) → next_to_give held verdict ≡ Makes step → Q v
+    by [] f = cc
+    by (q ∷ qs) f =
+        at-end Q _ v (give-end Q (last_first (without_last pins)) verdict (copy-end Q verdict c.2 plain)) (subst (λ (z : Step). Next s h d (Ending pins verdict) z v) (sym (makes-same (Unpin q (ByLeg (length qs))) step f)) n)
+
+walk-plain : (Q : Verdict → Type 0) (k : CallerKnowledge) (d : DomId) (aim : Aim) (l : Leg) (next : LegNext) (v : Verdict) → Plain Q → action_at d (after_leg k d aim l next) ≡ Done v → Q v ⊎ ((p : Held) × (v ≡ Mapped p) × (next ≡ Pinned p) × (aim ≡ Mapping))
+walk-plain Q k d aim l next v plain e = by (walk-done k d aim l next v e)
+  where
+    by : ((denial : Denial) × (v ≡ Refused denial)) ⊎ ((p : Held) × (v ≡ Mapped p) × (next ≡ Pinned p) × (aim ≡ Mapping)) → Q v ⊎ ((p : Held) × (v ≡ Mapped p) × (next ≡ Pinned p) × (aim ≡ Mapping))
+    by (inl x) = inl (subst Q (sym x.1) (plain.1 x.0))
+    by (inr x) = inr x
+
+pub given-value : (s : Setting) (h : History) (xs : List State) (d : DomId) (r : Asked) (shown : List Seen) (so_far : StepsSoFar) (phase : Phase) (step : Step) (value : Value) → IsHere s h xs d r shown so_far phase step
+    → Next s h d phase step (Given value) → GivesValue s h d r (Some step) (answer_with value)
+given-value s h xs d r shown so_far phase step value i next =
+    plain-end (λ v. v ≡ Given value → GivesValue s h d r (Some step) (answer_with value)) s h d r so_far phase step (Given value)
+    (λ f. cc, λ denial f. cc) i.place i.acts next
+    (λ dom question is f.
+    let e : Makes (LookHeader dom) ≡ Makes step = sym (ap (action_at d) is) ∙ i.acts in
+    let same : LookHeader dom ≡ step = makes-same _ _ e in
+    let n : Next s h d (Asking dom question) (LookHeader dom) (Given value) = subst (λ (z : Step). Next s h d (Asking dom question) z (Given value)) (sym same) (subst (λ (p : Phase). Next s h d p step (Given value)) is next) in
+    let t : told question (header_word (table_at s h dom)) ≡ Given value = held-not [] (told question (header_word (table_at s h dom))) (Given value) n in
+    subst (λ (z : Step). GivesValue s h d r (Some z) (answer_with value)) same (told-value s h xs d r dom question value i.st (subst (PhaseStands s h d r so_far) is i.place) t))
+    (λ last verdict is f.
+    let e : Makes last ≡ Makes step = sym (ap (action_at d) is) ∙ i.acts in
+    let same : last ≡ step = makes-same _ _ e in
+    let a : HasShown (known_at s h d) (path (known_at s h d) d r) d r shown (Last last verdict) = subst (HasShown (known_at s h d) (path (known_at s h d) d r) d r shown) is i.at.has_shown in
+    let n : Next s h d (Last last verdict) last (Given value) = subst (λ (z : Step). Next s h d (Last last verdict) z (Given value)) (sym same) (subst (λ (p : Phase). Next s h d p step (Given value)) is next) in
+    subst (λ (z : Step). GivesValue s h d r (Some z) (answer_with value)) same (given-last s h d r last verdict value a.0 (subst (PhaseStands s h d r so_far) is i.place) (last-next s h d last verdict (Given value) a.0 n)))
+    (λ aim l at is f. absurd (walked aim l (leg_after l at (seen_by s h d step)) (subst (λ (p : Phase). Next s h d p step (Given value)) is next)))
+    refl
+  where
+    walked : (aim : Aim) (l : Leg) (next : LegNext) → action_at d (after_leg (known_at s h d) d aim l next) ≡ Done (Given value) → ⊥
+    walked aim l next e = by (walk-done (known_at s h d) d aim l next (Given value) e)
+      where
+        by : ((denial : Denial) × (Given value ≡ Refused denial)) ⊎ ((p : Held) × (Given value ≡ Mapped p) × (next ≡ Pinned p) × (aim ≡ Mapping)) → ⊥
+        by (inl x) = let f : Given value ≡ Refused x.0 = x.1 in cc
+        by (inr x) = let f : Given value ≡ Mapped x.0 = x.1 in cc
+
+-- a map is over with the pin that it took
+
+pub record MapEnds (s : Setting) (h : History) (d : DomId) (r : Asked) (phase : Phase) (step : Step) (m : Held) : Type 0 where
+  pub is : step ≡ PinStep m
+  pub taken : word_at s h m.dom.0 m.gref.0 ≡ m.word
+  pub dom : DomId
+  pub gref : GrantRef
+  pub flags : ℕ
+  pub of_map : r ≡ Map dom gref flags
+  pub none : held_in phase ≡ []
+
+pinned-leg : (s : Setting) (h : History) (d : DomId) (l : Leg) (at : LegPhase) (m : Held) → leg_after l at (seen_by s h d (leg_step l at)) ≡ Pinned m → (leg_step l at ≡ PinStep m) × (word_at s h m.dom.0 m.gref.0 ≡ m.word)
+pinned-leg s h d l AtHeader m e = absurd (Rattle.gt_core.proofs.Judging.not-pinned s h d l AtHeader tt m e)
+pinned-leg s h d l (Look more) m e = absurd (Rattle.gt_core.proofs.Judging.not-pinned s h d l (Look more) tt m e)
+pinned-leg s h d l (Body more word) m e = absurd (Rattle.gt_core.proofs.Judging.not-pinned s h d l (Body more word) tt m e)
+pinned-leg s h d l (Second more word body) m e = absurd (Rattle.gt_core.proofs.Judging.not-pinned s h d l (Second more word body) tt m e)
+pinned-leg s h d l (Relook more word rule) m e = absurd (Rattle.gt_core.proofs.Judging.not-pinned s h d l (Relook more word rule) tt m e)
+pinned-leg s h d l (Pinning more word body second) m e = by (word_at s h l.dom.0 l.gref.0 == word) refl
+  where
+    q : Held
+    q = held_of l word body second
+
+    by : (b : Bool) → (word_at s h l.dom.0 l.gref.0 == word) ≡ b → (PinStep q ≡ PinStep m) × (word_at s h m.dom.0 m.gref.0 ≡ m.word)
+    by true is =
+        let f : Pinned q ≡ Pinned m = sym (ap (λ (b : Bool). leg_after l (Pinning more word body second) (cond b Taken (Missed (word_at s h l.dom.0 l.gref.0)))) is) ∙ e in
+        let same : q ≡ m = cc in
+        (ap PinStep same, subst (λ (z : Held). word_at s h z.dom.0 z.gref.0 ≡ z.word) same (eqb-true (word_at s h l.dom.0 l.gref.0) word is))
+    by false is = absurd (Rattle.gt_core.proofs.Judging.not-pinned s h d l (Pinning more word body second) is m e)
+
+pub mapped-ends : (s : Setting) (h : History) (xs : List State) (d : DomId) (r : Asked) (shown : List Seen) (so_far : StepsSoFar) (phase : Phase) (step : Step) (m : Held) → IsHere s h xs d r shown so_far phase step
+    → Next s h d phase step (Mapped m) → MapEnds s h d r phase step m
+mapped-ends s h xs d r shown so_far phase step m i next =
+    plain-end (λ v. v ≡ Mapped m → MapEnds s h d r phase step m) s h d r so_far phase step (Mapped m)
+    (λ f. cc, λ denial f. cc) i.place i.acts next
+    (λ dom question is f. absurd (asked dom question is))
+    (λ last verdict is f. absurd (ended last verdict is))
+    (λ aim l at is f. walked aim l at is)
+    refl
+  where
+    asked : (dom : DomId) (question : Question) → phase ≡ Asking dom question → ⊥
+    asked dom question is =
+        let same : LookHeader dom ≡ step = makes-same _ _ (sym (ap (action_at d) is) ∙ i.acts) in
+        by question (held-not [] (told question (header_word (table_at s h dom))) (Mapped m) (subst (λ (z : Step). Next s h d (Asking dom question) z (Mapped m)) (sym same) (subst (λ (p : Phase). Next s h d p step (Mapped m)) is next)))
+      where
+        by : (q : Question) → told q (header_word (table_at s h dom)) ≡ Mapped m → ⊥
+        by AsksSize e = cc
+        by AsksVersion e = cc
+
+    ended : (last : Step) (verdict : Verdict) → phase ≡ Last last verdict → ⊥
+    ended last verdict is =
+        let same : last ≡ step = makes-same _ _ (sym (ap (action_at d) is) ∙ i.acts) in
+        let a : HasShown (known_at s h d) (path (known_at s h d) d r) d r shown (Last last verdict) = subst (HasShown (known_at s h d) (path (known_at s h d) d r) d r shown) is i.at.has_shown in
+        by last verdict a.0 (subst (PhaseStands s h d r so_far) is i.place) (last-next s h d last verdict (Mapped m) a.0 (subst (λ (z : Step). Next s h d (Last last verdict) z (Mapped m)) (sym same) (subst (λ (p : Phase). Next s h d p step (Mapped m)) is next)))
+      where
+        by : (z : Step) (v : Verdict) → IsQuiet z → EndsAfter r z v → v ≡ Mapped m → ⊥
+        by (StoreHeader version frames) v q (inl b) g = let f : Granted ≡ Mapped m = sym b.1 ∙ g in cc
+        by (StoreHeader version frames) v q (inr b) g = let f : Given (FramesTold frames) ≡ Mapped m = sym b.1 ∙ g in cc
+        by (Unpin p holder) v q b g = let f : Granted ≡ Mapped m = sym b ∙ g in cc
+        by (ReadBytes dom frame off len) v q b g = let f : Granted ≡ Mapped m = sym b ∙ g in cc
+        by (WriteBytes dom frame off len) v q b g = let f : Granted ≡ Mapped m = sym b ∙ g in cc
+        by (StoreBody gref half word) v q b g = let f : Granted ≡ Mapped m = sym b ∙ g in cc
+        by (LookHeader dom) v q b g = q
+        by (LookControl dom gref) v q b g = q
+        by (LookBody dom gref half) v q b g = q
+        by (PinStep p) v q b g = q
+        by (Exchange gref looked change) v q b g = q
+        by (CopyBytes from to len) v q b g = q
+
+    of_map : (aim : Aim) (l : Leg) → IsFor (known_at s h d) d r aim l → aim ≡ Mapping → (dom : DomId) × (gref : GrantRef) × (flags : ℕ) × (r ≡ Map dom gref flags)
+    of_map Mapping l a is = (a.dom, a.gref, a.flags, a.of_map)
+    of_map (Source c via) l a is = cc
+    of_map (Dest c source via) l a is = cc
+
+    walked : (aim : Aim) (l : Leg) (at : LegPhase) → phase ≡ Walking aim l at → MapEnds s h d r phase step m
+    walked aim l at is =
+        let same : leg_step l at ≡ step = makes-same _ _ (sym (ap (action_at d) is) ∙ i.acts) in
+        let a : HasShown (known_at s h d) (path (known_at s h d) d r) d r shown (Walking aim l at) = subst (HasShown (known_at s h d) (path (known_at s h d) d r) d r shown) is i.at.has_shown in
+        by (leg_after l at (seen_by s h d (leg_step l at))) refl (walk-done (known_at s h d) d aim l (leg_after l at (seen_by s h d (leg_step l at))) (Mapped m)
+        (subst (λ (z : Step). Next s h d (Walking aim l at) z (Mapped m)) (sym same) (subst (λ (p : Phase). Next s h d p step (Mapped m)) is next))) same a
+      where
+        by : (n : LegNext) → leg_after l at (seen_by s h d (leg_step l at)) ≡ n → ((denial : Denial) × (Mapped m ≡ Refused denial)) ⊎ ((p : Held) × (Mapped m ≡ Mapped p) × (n ≡ Pinned p) × (aim ≡ Mapping)) → leg_step l at ≡ step
+            → HasShown (known_at s h d) (path (known_at s h d) d r) d r shown (Walking aim l at) → MapEnds s h d r phase step m
+        by n e (inl x) same a = absurd (let f : Mapped m ≡ Refused x.0 = x.1 in cc)
+        by n e (inr x) same a =
+            let f : Mapped m ≡ Mapped x.0 = x.1 in
+            let p : x.0 ≡ m = cc in
+            let g = pinned-leg s h d l at m (e ∙ x.2 ∙ ap Pinned p) in
+            let map = of_map aim l a.1 x.3 in
+            record {
+              is = sym same ∙ g.0;
+              taken = g.1;
+              dom = map.0;
+              gref = map.1;
+              flags = map.2;
+              of_map = map.3;
+              none = ap held_in is ∙ ap (λ (z : Aim). last_first (pins_so_far z)) x.3;
+            }
