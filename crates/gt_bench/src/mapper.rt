@@ -6,9 +6,9 @@ ghost use Rattle.gt_words.specs.Rule.{position_in};
 ghost use Rattle.gt_words.specs.Conditions.{IsSeatOf, IsSameSeat, HasLooked, Holds, KeepsPins};
 ghost use Rattle.gt_bench.specs.Mapping.{CanMap, IsEntryOf, MayMap, KeepsPinsBeyond};
 
-use gt_entry::{Control, Entry, Header, Kind};
+use gt_entry::{Control, Entry, Half, Header, Kind};
 use gt_types::{Dir, DomId, GrantRef, MAX_PINS, Range, TABLE_ENTRIES, Use};
-use gt_words::{Half, Pin, Seat, Words};
+use gt_words::{Pin, Seat, Words};
 
 /// An entry to be mapped, and the domain that it is granted to: the mapper's own, or one whose transitive entry to it
 /// the mapper keeps pinned.

@@ -4,9 +4,9 @@ ghost use Rattle.gt_entry.specs.Spelling.{IsSpelled};
 ghost use Rattle.gt_words.specs.Views.{last_of, own_body};
 ghost use Rattle.gt_words.specs.Conditions.{IsSeatOf, IsSameSeat};
 
-use gt_entry::{Control, Entry};
+use gt_entry::{Control, Entry, Half};
 use gt_types::{DomId, GrantRef, LAST_GENERATION, TABLE_ENTRIES};
-use gt_words::{Half, Seat, Words};
+use gt_words::{Seat, Words};
 
 /// What an owner keeps of one of its entries.
 #[derive(Clone, Copy)]

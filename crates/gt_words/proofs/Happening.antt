@@ -16,7 +16,7 @@ use Rattle.gt_words.specs.Steps.{on_entry}
 use Rattle.gt_words.specs.Views.{LivePin, last_record, pins, steps_on, steps_on_header, stored_body, without_pin}
 use Rattle.gt_words.specs.declared.view.EntryStep.{EntryStep}
 use Rattle.gt_words.specs.declared.view.EntryStep.TheVariants.{ChangeMissed, Changed, Looked, PinMissed, Pinned, ReadBody, StoredBody, Unpinned}
-use Rattle.gt_words.specs.declared.view.Half.TheVariants.{First, Second}
+use Rattle.gt_entry.specs.declared.change.Half.TheVariants.{First, Second}
 use Rattle.gt_words.specs.declared.view.View.{View}
 
 module _ (g t : ℕ) (hs : List (List EntryStep)) (i : ℕ) (h : List EntryStep) (at : get_elem? hs i ≡ some h) where
@@ -45,8 +45,8 @@ module _ (g t : ℕ) (hs : List (List EntryStep)) (i : ℕ) (h : List EntryStep)
   happens_here : (m : EntryStep) → IsByOwner i t m → entry_by g t (set hs i (m ∷ h)) ≡ entry_after i m (entry_by g t hs)
   happens_here (Looked n) may = plain (Looked n) refl refl refl (map pins hs) (live_same (Looked n) refl)
   happens_here (ReadBody p n) may = plain (ReadBody p n) refl refl refl (map pins hs) (live_same (ReadBody p n) refl)
-  happens_here (PinMissed d e n) may = plain (PinMissed d e n) refl refl refl (map pins hs) (live_same (PinMissed d e n) refl)
-  happens_here (ChangeMissed c e n) may = plain (ChangeMissed c e n) refl refl refl (map pins hs) (live_same (ChangeMissed c e n) refl)
+  happens_here (PinMissed d e f n) may = plain (PinMissed d e f n) refl refl refl (map pins hs) (live_same (PinMissed d e f n) refl)
+  happens_here (ChangeMissed c e f n) may = plain (ChangeMissed c e f n) refl refl refl (map pins hs) (live_same (ChangeMissed c e f n) refl)
   happens_here (Pinned d e y) may = plain (Pinned d e y) refl refl refl (set (map pins hs) i ((d, y) ∷ get_or (map pins hs) i [])) (live_here (Pinned d e y) ∙ ap (λ (l : List LivePin). set (map pins hs) i ((d, y) ∷ l)) (sym live_is))
   happens_here (Unpinned d n) may = plain (Unpinned d n) refl refl refl (set (map pins hs) i (without_pin d n (get_or (map pins hs) i []))) (live_here (Unpinned d n) ∙ ap (λ (l : List LivePin). set (map pins hs) i (without_pin d n l)) (sym live_is))
   happens_here (StoredBody First n) may = owned (StoredBody First n) may refl ∙ (λ j. record { current = last_record g (mine_is may j); first = n; second = stored_body Second (mine_is may j); live = map pins hs })

@@ -1,4 +1,4 @@
--- Steps on a header word keep the rule, and take the shown state to the one that their event gives.
+-- StepsOnControl on a header word keep the rule, and take the shown state to the one that their event gives.
 use Rattle.std.proofs.Common.{◌≡◌, ◌≢◌, ◌⊎◌, inl, inr, ⊎_elim, ℕ, ◌<◌, Bool, true, false, cond, ◌==◌, List, [], ◌∷◌, map, get_or, set, sym, refl, ap, ◌∙◌, subst, arith, length-set, get_or-set_other, get_or-set_same, eq-eqb, ne_eqb, Option, Some, None, IfSome}
 use mathlib.Core.Option.{some, none}
 use mathlib.Core.Logic.{dite}
@@ -9,7 +9,7 @@ use Rattle.atomic_table.specs.Table.{State, Me, step, stepped, keeps, Allows}
 use Rattle.atomic_table.proofs.Lists.{at_set, set_again, at_map}
 use Rattle.gt_words.proofs.Lists.{whose_at, whose_here}
 use Rattle.gt_words.proofs.Owed.{stored_owes}
-use Rattle.gt_words.specs.Conditions.{AddsToHeader, HeaderSteps, StoresHeader}
+use Rattle.gt_words.specs.Conditions.{AddsToHeader, StepsOnHeader, StoresHeader}
 use Rattle.gt_words.specs.Events.{Happens, HeaderByOwner, entry_by, event_on_header, header_after, shown_header}
 use Rattle.gt_words.specs.Rule.{IsHeader, Layout, SawHeaders, Shows, ShowsEntry, header_now, header_place, headers_of, place}
 use Rattle.gt_words.specs.Steps.{looking_at_header, on_header, storing_header, tells, tells_stored}
@@ -167,11 +167,11 @@ adds_to_header t m v w e = record {
 }
 
 -- the owner stored its header
-pub stores_header : (k : Layout) (at value y found : ℕ) (v w : View) → v.position ≡ at → value ≡ y → HeaderSteps k at (header.Stored value) found value v w → StoresHeader k y v w
+pub stores_header : (k : Layout) (at value y found : ℕ) (v w : View) → v.position ≡ at → value ≡ y → StepsOnHeader k at (header.Stored value) found value v w → StoresHeader k y v w
 stores_header k at value y found v w own is z = record {
   found = found;
   pins = λ t r. ap pins (z.adds.entries t r);
-  steps = subst (λ (u : ℕ × ℕ). HeaderSteps k u.0 (header.Stored u.1) found u.1 v w) (λ i. (sym own i, is i)) z;
+  steps = subst (λ (u : ℕ × ℕ). StepsOnHeader k u.0 (header.Stored u.1) found u.1 v w) (λ i. (sym own i, is i)) z;
   header = ap own_header z.adds.view ∙ (ap (stored_header (get_or v.headers v.position 0)) (subst (λ (u : ℕ). steps_on_header v.position (with_step (on_header u (header.Stored value)) v) ≡ header.Stored value ∷ steps_on_header v.position v) own (header_here v.position (header.Stored value) v)) ∙ is);
 }
 

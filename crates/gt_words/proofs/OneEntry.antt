@@ -16,13 +16,13 @@ use Rattle.gt_words.proofs.Records.{body_counts, changes_shown, legal_record, lo
 use Rattle.gt_words.specs.Controls.{IsValid, pins_in}
 use Rattle.gt_words.specs.Rule.{IsLawful, IsRecord, MayFollow, SawRecord, ShowsEntry, ShowsRecord, owner_steps, total_pins}
 use Rattle.gt_words.specs.Views.{HasBody, IsIn, LivePin, Seen, earlier_records, last_record, pin_count, pins, record_seen, seen, stored_body, weight}
-use Rattle.gt_words.specs.declared.view.Change.{Change}
+use Rattle.gt_entry.specs.declared.change.Change.{Change}
 use Rattle.gt_words.specs.declared.view.EntryStep.{EntryStep}
 use Rattle.gt_words.specs.declared.view.EntryStep.TheVariants.{ChangeMissed, Changed, Looked, PinMissed, Pinned, ReadBody, StoredBody, Unpinned}
-use Rattle.gt_words.specs.declared.view.Half.{Half}
-use Rattle.gt_words.specs.declared.view.Half.TheVariants.{First, Second}
-use Rattle.gt_words.specs.declared.view.Record.{Record}
-use Rattle.gt_words.specs.declared.view.Change.TheVariants as change
+use Rattle.gt_entry.specs.declared.change.Half.{Half}
+use Rattle.gt_entry.specs.declared.change.Half.TheVariants.{First, Second}
+use Rattle.gt_words.specs.declared.view.EntryRecord.{EntryRecord}
+use Rattle.gt_entry.specs.declared.change.Change.TheVariants as change
 
 pub count_in : (d : Dir) (p : LivePin) (ps : List LivePin) → IsIn p ps → p.0 ≡ d → 1 ≤ pin_count d ps
 count_in d p [] h e = absurd h
@@ -49,17 +49,17 @@ module _ (g t : ℕ) (hs : List (List EntryStep)) (i : ℕ) (h : List EntryStep)
       (λ n. ap f (get_or-set_other hs i t (m ∷ h) [] n))
 
   module _ (word a b : ℕ) (k : ShowsEntry g t word a b hs) where
-    abbrev x : Record
+    abbrev x : EntryRecord
     x = last_record g (owner_steps t hs)
 
-    abbrev xs : List Record
+    abbrev xs : List EntryRecord
     xs = earlier_records g (owner_steps t hs)
 
     -- a step that is none of the owner's changes
     plain : (word' : ℕ) (m : EntryStep) → last_record g (m ∷ h) ≡ last_record g h → earlier_records g (m ∷ h) ≡ earlier_records g h → stored_body First (m ∷ h) ≡ stored_body First h → stored_body Second (m ∷ h) ≡ stored_body Second h
         → ShowsRecord x xs word' a b (set hs i (m ∷ h)) → ShowsEntry g t word' a b (set hs i (m ∷ h))
     plain word' m p q r s z = record {
-      record_shown = subst (λ (u : Record × List Record). ShowsRecord u.0 u.1 word' a b (set hs i (m ∷ h))) (λ j. (sym (same_owner (last_record g) m p) j, sym (same_owner (earlier_records g) m q) j)) z;
+      record_shown = subst (λ (u : EntryRecord × List EntryRecord). ShowsRecord u.0 u.1 word' a b (set hs i (m ∷ h))) (λ j. (sym (same_owner (last_record g) m p) j, sym (same_owner (earlier_records g) m q) j)) z;
       first = k.first ∙ sym (same_owner (stored_body First) m r);
       second = k.second ∙ sym (same_owner (stored_body Second) m s);
     }
@@ -67,11 +67,11 @@ module _ (g t : ℕ) (hs : List (List EntryStep)) (i : ℕ) (h : List EntryStep)
     pub entry_looks : ShowsEntry g t word a b (set hs i (Looked word ∷ h))
     entry_looks = plain word (Looked word) refl refl refl refl (sees_shown x xs a b hs i h (Looked word) word k.record_shown at refl (looks_at x xs (total_pins Read hs) (total_pins Write hs) word k.record_shown.in_range k.record_shown.spelled) (word_counts x xs word a b hs k.record_shown))
 
-    pub entry_misses_pin : (d : Dir) (expected : ℕ) → ShowsEntry g t word a b (set hs i (PinMissed d expected word ∷ h))
-    entry_misses_pin d expected = plain word (PinMissed d expected word) refl refl refl refl (sees_shown x xs a b hs i h (PinMissed d expected word) word k.record_shown at refl (looks_at x xs (total_pins Read hs) (total_pins Write hs) word k.record_shown.in_range k.record_shown.spelled) (word_counts x xs word a b hs k.record_shown))
+    pub entry_misses_pin : (d : Dir) (expected desired : ℕ) → ShowsEntry g t word a b (set hs i (PinMissed d expected desired word ∷ h))
+    entry_misses_pin d expected desired = plain word (PinMissed d expected desired word) refl refl refl refl (sees_shown x xs a b hs i h (PinMissed d expected desired word) word k.record_shown at refl (looks_at x xs (total_pins Read hs) (total_pins Write hs) word k.record_shown.in_range k.record_shown.spelled) (word_counts x xs word a b hs k.record_shown))
 
-    pub entry_misses_change : (c : Change) (expected : ℕ) → ShowsEntry g t word a b (set hs i (ChangeMissed c expected word ∷ h))
-    entry_misses_change c expected = plain word (ChangeMissed c expected word) refl refl refl refl (sees_shown x xs a b hs i h (ChangeMissed c expected word) word k.record_shown at refl (looks_at x xs (total_pins Read hs) (total_pins Write hs) word k.record_shown.in_range k.record_shown.spelled) (word_counts x xs word a b hs k.record_shown))
+    pub entry_misses_change : (c : Change) (expected desired : ℕ) → ShowsEntry g t word a b (set hs i (ChangeMissed c expected desired word ∷ h))
+    entry_misses_change c expected desired = plain word (ChangeMissed c expected desired word) refl refl refl refl (sees_shown x xs a b hs i h (ChangeMissed c expected desired word) word k.record_shown at refl (looks_at x xs (total_pins Read hs) (total_pins Write hs) word k.record_shown.in_range k.record_shown.spelled) (word_counts x xs word a b hs k.record_shown))
 
     pub entry_saw : (p : Half) (v : ℕ) → (p ≡ First → v ≡ a) → (p ≡ Second → v ≡ b) → ShowsEntry g t word a b (set hs i (ReadBody p v ∷ h))
     entry_saw p v e f = plain word (ReadBody p v) refl refl refl refl (sees_shown x xs a b hs i h (ReadBody p v) word k.record_shown at refl (saw_known x xs a b p v (seen h) k.record_shown.body e f (k.record_shown.saw i h at)) (body_counts hs p v (seen h) (k.record_shown.counted i h at)))
@@ -82,7 +82,7 @@ module _ (g t : ℕ) (hs : List (List EntryStep)) (i : ℕ) (h : List EntryStep)
         let r : d ≡ Read → total_pins Read hs < 4095 = λ q. let f = subst (λ (c : Dir). pins_in c word < 4095) q in_range in let u = z.2 in omega arith in
         let w : d ≡ Write → total_pins Write hs < 4095 = λ q. let f = subst (λ (c : Dir). pins_in c word < 4095) q in_range in let u = z.3 in omega arith in
         plain (word + unit_of d) (Pinned d expected (record_seen s)) refl refl refl refl
-        (subst (λ (y : Record). ShowsRecord x xs (word + unit_of d) a b (set hs i (Pinned d expected y ∷ h))) (sym z.0) (pins_shown x xs a b hs i h word expected d k.record_shown at z.1 r w))
+        (subst (λ (y : EntryRecord). ShowsRecord x xs (word + unit_of d) a b (set hs i (Pinned d expected y ∷ h))) (sym z.0) (pins_shown x xs a b hs i h word expected d k.record_shown at z.1 r w))
 
     pub entry_unpins : (d : Dir) (p : LivePin) → IsIn p (pins h) → p.0 ≡ d → ShowsEntry g t (word - unit_of d) a b (set hs i (Unpinned d p.1.generation ∷ h))
     entry_unpins d p e q = plain (word - unit_of d) (Unpinned d p.1.generation) refl refl refl refl (unpins_shown x xs a b hs i h word d p k.record_shown at e q)
@@ -90,7 +90,7 @@ module _ (g t : ℕ) (hs : List (List EntryStep)) (i : ℕ) (h : List EntryStep)
 -- the owner's own steps
 
 -- a word equal to the idle word of its record has no pins
-pub idle_held : (x : Record) (xs : List Record) (word r w : ℕ) → IsLawful x xs → (r < 4096) × (w < 4096) → word ≡ word_of x.entry x.generation r w → word ≡ idle_word_of x.entry x.generation → (r ≡ 0) × (w ≡ 0)
+pub idle_held : (x : EntryRecord) (xs : List EntryRecord) (word r w : ℕ) → IsLawful x xs → (r < 4096) × (w < 4096) → word ≡ word_of x.entry x.generation r w → word ≡ idle_word_of x.entry x.generation → (r ≡ 0) × (w ≡ 0)
 idle_held x xs word r w l in_range is idle = let e : idle_word_of x.entry x.generation + 16 * r + 65536 * w ≡ idle_word_of x.entry x.generation = sym is ∙ idle in (omega arith, omega arith)
 
 module _ (g t : ℕ) (hs : List (List EntryStep)) (h : List EntryStep) (at : get_elem? hs t ≡ some h) (word a b : ℕ) (k : ShowsEntry g t word a b hs) where
@@ -114,7 +114,7 @@ module _ (g t : ℕ) (hs : List (List EntryStep)) (h : List EntryStep) (at : get
     second = ap (stored_body Second) here;
   }
 
-  pub entry_changes : (word' expected stored : ℕ) (c : Change) (y : Record) → IsRecord y → MayFollow y (last_record g h) → IsSpelled y.entry a b → word' ≡ word_of y.entry y.generation (total_pins Read hs) (total_pins Write hs)
+  pub entry_changes : (word' expected stored : ℕ) (c : Change) (y : EntryRecord) → IsRecord y → MayFollow y (last_record g h) → IsSpelled y.entry a b → word' ≡ word_of y.entry y.generation (total_pins Read hs) (total_pins Write hs)
       → (y.entry ≡ Invalid → (total_pins Read hs ≡ 0) × (total_pins Write hs ≡ 0)) → ShowsEntry g t word' a b (set hs t (Changed c expected stored y ∷ h))
   entry_changes word' expected stored c y ok may body is unpinned = let m : EntryStep = Changed c expected stored y in let here : (m ∷ h) ≡ owner_steps t (set hs t (m ∷ h)) = sym (whose_here hs t h (m ∷ h) at) in record {
     record_shown = subst (λ (z : List EntryStep). ShowsRecord (last_record g z) (earlier_records g z) word' a b (set hs t (m ∷ h))) here (changes_shown (last_record g h) (earlier_records g h) a b hs t h word word' expected stored c y mine at ok may body is unpinned);
@@ -125,16 +125,16 @@ module _ (g t : ℕ) (hs : List (List EntryStep)) (h : List EntryStep) (at : get
   -- the entry becomes invalid, where the word is its idle word
   pub entry_revokes : (expected stored : ℕ) → word ≡ idle_word_of (last_record g h).entry (last_record g h).generation
       → ShowsEntry g t (idle_word_of Invalid (last_record g h).generation) a b (set hs t (Changed change.Revoke expected stored (record { generation = (last_record g h).generation; entry = Invalid }) ∷ h))
-  entry_revokes expected stored idle = let x : Record = last_record g h in let z = idle_held x (earlier_records g h) word (total_pins Read hs) (total_pins Write hs) mine.lawful mine.in_range mine.spelled idle in
+  entry_revokes expected stored idle = let x : EntryRecord = last_record g h in let z = idle_held x (earlier_records g h) word (total_pins Read hs) (total_pins Write hs) mine.lawful mine.in_range mine.spelled idle in
       let z0 = z.0 in let z1 = z.1 in let rec = legal_record x (earlier_records g h) mine.lawful in
       entry_changes (idle_word_of Invalid x.generation) expected stored change.Revoke (record { generation = x.generation; entry = Invalid }) (tt, rec.1) (inl (refl, refl)) tt (omega arith) (λ _. z)
 
   -- an entry is published, where the word is the invalid word with no pins
   pub entry_grants : (expected stored : ℕ) (e : Entry) → word ≡ idle_word_of Invalid (last_record g h).generation → (last_record g h).entry ≡ Invalid → IsEntry e → e ≢ Invalid → (last_record g h).generation < 1048575 → IsSpelled e (stored_body First h) (stored_body Second h)
-      → ShowsEntry g t (idle_word_of e ((last_record g h).generation + 1)) a b (set hs t (Changed change.Publish expected stored (record { generation = (last_record g h).generation + 1; entry = e }) ∷ h))
-  entry_grants expected stored e idle none ok some_kind room body = let x : Record = last_record g h in
+      → ShowsEntry g t (idle_word_of e ((last_record g h).generation + 1)) a b (set hs t (Changed (change.Publish e) expected stored (record { generation = (last_record g h).generation + 1; entry = e }) ∷ h))
+  entry_grants expected stored e idle none ok some_kind room body = let x : EntryRecord = last_record g h in
       let z = idle_held x (earlier_records g h) word (total_pins Read hs) (total_pins Write hs) mine.lawful mine.in_range mine.spelled (idle ∙ ap (λ (y : Entry). idle_word_of y x.generation) (sym none)) in let z0 = z.0 in let z1 = z.1 in
-      entry_changes (idle_word_of e (x.generation + 1)) expected stored change.Publish (record { generation = x.generation + 1; entry = e }) (ok, omega arith) (inr (refl, some_kind, inl none))
+      entry_changes (idle_word_of e (x.generation + 1)) expected stored (change.Publish e) (record { generation = x.generation + 1; entry = e }) (ok, omega arith) (inr (refl, some_kind, inl none))
       (subst (λ (u : ℕ × ℕ). IsSpelled e u.0 u.1) (λ j. (sym (k.first ∙ ap (stored_body First) owner) j, sym (k.second ∙ ap (stored_body Second) owner) j)) body) (omega arith) (λ n. absurd (some_kind n))
 
 -- the low bits of an entry that is turned
@@ -186,6 +186,6 @@ module _ (g t : ℕ) (hs : List (List EntryStep)) (h : List EntryStep) (at : get
   pub entry_turns : (o : Bool) (c : Change) (word' expected stored : ℕ) → (last_record g h).entry ≢ Invalid → is_read_only (last_record g h).entry ≡ not o → (last_record g h).generation < 1048575
       → word' ≡ word_of (with_ro o (last_record g h).entry) ((last_record g h).generation + 1) (total_pins Read hs) (total_pins Write hs)
       → ShowsEntry g t word' a b (set hs t (Changed c expected stored (record { generation = (last_record g h).generation + 1; entry = with_ro o (last_record g h).entry }) ∷ h))
-  entry_turns o c word' expected stored some_kind now room is = let x : Record = last_record g h in let m = mine g t hs h at word a b k in let rec = legal_record x (earlier_records g h) m.lawful in
+  entry_turns o c word' expected stored some_kind now room is = let x : EntryRecord = last_record g h in let m = mine g t hs h at word a b k in let rec = legal_record x (earlier_records g h) m.lawful in
       entry_changes g t hs h at word a b k word' expected stored c (record { generation = x.generation + 1; entry = with_ro o x.entry }) (turned_entry o x.entry rec.0, omega arith) (inr (refl, turned_some o x.entry some_kind, inr (ap (λ (u : Bool). with_ro u x.entry) (turned_other o (is_read_only x.entry) now))))
       (turned_spells o x.entry a b m.body) is (λ n. absurd (turned_some o x.entry some_kind n))

@@ -17,7 +17,7 @@ use Rattle.gt_words.specs.Places.{dealer_after, dealt_to, new_view}
 use Rattle.gt_words.specs.Rule.{CountsTaken, IsHeader, Layout, SawHeaders, SawRecord, Shows, ShowsEntry, ShowsRecord, header_now, header_number, header_place, headers_of, owner_steps, place, total_pins, total_taken}
 use Rattle.gt_words.specs.Views.{IsIn, Seen, earlier_records, last_record, own, pin_count, pins, seen, seen_header, steps_on, steps_on_header, stored_body, stored_header, stored_headers, taken_count}
 use Rattle.gt_words.specs.declared.view.EntryStep.{EntryStep}
-use Rattle.gt_words.specs.declared.view.Half.TheVariants.{First, Second}
+use Rattle.gt_entry.specs.declared.change.Half.TheVariants.{First, Second}
 use Rattle.gt_words.specs.declared.view.HeaderStep.{HeaderStep}
 use Rattle.gt_words.specs.declared.view.View.{View}
 

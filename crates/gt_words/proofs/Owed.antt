@@ -22,17 +22,17 @@ use Rattle.gt_words.specs.Conditions.{HasLooked, Holds, IsIdleOf}
 use Rattle.gt_words.specs.Controls.{IsValid, demoted_word, generation_of, invalid_word, pins_in, promoted_word}
 use Rattle.gt_words.specs.Events.{Happens, IsByOwner}
 use Rattle.gt_words.specs.Rule.{IsRecord, Layout, Shows, ShowsEntry, place, total_pins}
-use Rattle.gt_words.specs.Steps.{StepKind, entry_kind, exchanging, half_index, half_of, looking, missed, on_entry, reading, storing, taken, tells, tells_stored, turned, unpinning}
+use Rattle.gt_words.specs.Steps.{StepKind, changed, entry_kind, exchanging, half_index, half_of, looking, missed, on_entry, reading, storing, taken, tells, tells_stored, unpinning}
 use Rattle.gt_words.specs.Views.{earlier_records, invalid_at, last_of, last_record, last_seen, steps_on, stored_body}
-use Rattle.gt_words.specs.declared.view.Change.{Change}
+use Rattle.gt_entry.specs.declared.change.Change.{Change}
 use Rattle.gt_words.specs.declared.view.EntryStep.{EntryStep}
-use Rattle.gt_words.specs.declared.view.EntryStep.TheVariants.{ChangeMissed, Changed, Looked, ReadBody, StoredBody, Unpinned}
-use Rattle.gt_words.specs.declared.view.Half.{Half}
-use Rattle.gt_words.specs.declared.view.Half.TheVariants.{First, Second}
+use Rattle.gt_words.specs.declared.view.EntryStep.TheVariants.{Changed, Looked, ReadBody, StoredBody, Unpinned}
+use Rattle.gt_entry.specs.declared.change.Half.{Half}
+use Rattle.gt_entry.specs.declared.change.Half.TheVariants.{First, Second}
 use Rattle.gt_words.specs.declared.view.Purpose.{Purpose}
-use Rattle.gt_words.specs.declared.view.Record.{Record}
+use Rattle.gt_words.specs.declared.view.EntryRecord.{EntryRecord}
 use Rattle.gt_words.specs.declared.view.View.{View}
-use Rattle.gt_words.specs.declared.view.Change.TheVariants as change
+use Rattle.gt_entry.specs.declared.change.Change.TheVariants as change
 use Rattle.gt_words.specs.declared.view.Purpose.TheVariants as purpose
 use Rattle.gt_types.specs.declared.limits.TheConstants.{TABLE_ENTRIES}
 
@@ -108,6 +108,14 @@ module _ {S : Type 0} (k : Layout) (t r : ℕ) (m : ℕ → EntryStep) (leaves :
       subst (λ (u : ℕ × ℕ × ℕ). After u.0 u.1 u.2 hs b) (λ i. (sym (there s 0 2 (f b) (λ e. omega arith)) i, sym (there s 1 2 (f b) (λ e. omega arith)) i, sym (here s 2 (f b) shown (omega arith) ∙ ok b) i))
       (step w a b hs (before s shown at)))
 
+-- the record revoked
+revoked : (x : EntryRecord) → changed change.Revoke x ≡ invalid_at x.generation
+revoked x = let e : x.generation + 0 ≡ x.generation = omega arith in ap invalid_at e
+
+-- the record with the other readonly, at the next generation
+abbrev turned : Bool → EntryRecord → EntryRecord
+turned o x = record { generation = x.generation + 1; entry = with_ro o x.entry }
+
 by_cases : (n old : ℕ) (F : Bool → Type 0) → (n ≡ old → F true) → (n ≢ old → F false) → F (n == old)
 by_cases n old F hit miss = dite (ℕ_discrete n old) (λ e. subst F (sym (eq-eqb n old e)) (hit e)) (λ ne. subst F (sym (ne_eqb n old ne)) (miss ne))
 
@@ -115,7 +123,7 @@ pub stored_owes : {S : Type 0} {k : Layout} {slots id : ℕ} {me : Me S View} (d
 stored_owes d i f st owed s shown len at fits = let z = owed s shown len at fits in (z.0, z.1, z.2, z.3, (get_or s.words i 0, z.4))
 
 -- the generation in the control word of a record in range
-pub spelled_generation : (x : Record) (word reads writes : ℕ) → IsRecord x → (reads < 4096) × (writes < 4096) → word ≡ word_of x.entry x.generation reads writes → word / 17592186044416 ≡ x.generation
+pub spelled_generation : (x : EntryRecord) (word reads writes : ℕ) → IsRecord x → (reads < 4096) × (writes < 4096) → word ≡ word_of x.entry x.generation reads writes → word / 17592186044416 ≡ x.generation
 spelled_generation x word reads writes ok in_range is = ap generation_of is ∙ (spelled_parts x.entry x.generation reads writes ok.0 in_range).generation
 
 module _ {S : Type 0} (k : Layout) (slots id : ℕ) (me : Me S View) (t r : ℕ) (tn : t < k.domains) (rn : r < TABLE_ENTRIES) where
@@ -138,10 +146,10 @@ module _ {S : Type 0} (k : Layout) (slots id : ℕ) (me : Me S View) (t r : ℕ)
   -- an exchange, taken where the word is the one expected
   exchange_owes : (p : Purpose) (old new : ℕ)
       → ((w a b : ℕ) (hs : List (List EntryStep)) → Before k t r (λ n. Looked n) (λ n. n) slots id me (λ n. n) (step slots (place t r 0) old new none) tn rn w a b hs → w ≡ old → ShowsEntry k.first t new a b (set hs id (taken t r me.0 p old new ∷ steps_on t r me.0)) × IsByOwner id t (taken t r me.0 p old new))
-      → ((w a b : ℕ) (hs : List (List EntryStep)) → Before k t r (λ n. Looked n) (λ n. n) slots id me (λ n. n) (step slots (place t r 0) old new none) tn rn w a b hs → w ≢ old → ShowsEntry k.first t w a b (set hs id (missed p old w ∷ steps_on t r me.0)) × IsByOwner id t (missed p old w))
+      → ((w a b : ℕ) (hs : List (List EntryStep)) → Before k t r (λ n. Looked n) (λ n. n) slots id me (λ n. n) (step slots (place t r 0) old new none) tn rn w a b hs → w ≢ old → ShowsEntry k.first t w a b (set hs id (missed p old new w ∷ steps_on t r me.0)) × IsByOwner id t (missed p old new w))
       → Allows (Shows k) slots id me (place t r 0) (λ n. either (n == old) new n) (tells (exchanging k t r me.0 p old new) (step slots (place t r 0) old new none) me)
-  exchange_owes p old new hit miss = control_owes k t r (λ n. cond (n == old) (taken t r me.0 p old new) (missed p old n)) (λ n. either (n == old) new n) slots id me (λ n. either (n == old) new n) (step slots (place t r 0) old new none) tn rn refl (λ n. refl)
-      (λ w a b hs z fits. by_cases w old (λ (q : Bool). let m : EntryStep = cond q (taken t r me.0 p old new) (missed p old w) in ShowsEntry k.first t (either q new w) a b (set hs id (m ∷ steps_on t r me.0)) × IsByOwner id t m)
+  exchange_owes p old new hit miss = control_owes k t r (λ n. cond (n == old) (taken t r me.0 p old new) (missed p old new n)) (λ n. either (n == old) new n) slots id me (λ n. either (n == old) new n) (step slots (place t r 0) old new none) tn rn refl (λ n. refl)
+      (λ w a b hs z fits. by_cases w old (λ (q : Bool). let m : EntryStep = cond q (taken t r me.0 p old new) (missed p old new w) in ShowsEntry k.first t (either q new w) a b (set hs id (m ∷ steps_on t r me.0)) × IsByOwner id t m)
       (hit w a b hs z) (miss w a b hs z))
 
   pub pin_owes : (d : Dir) (old new : ℕ) → new ≡ old + unit_of d → HasLooked t r me.0 old → IsValid old → pins_in d old < 4095
@@ -152,7 +160,7 @@ module _ {S : Type 0} (k : Layout) (slots id : ℕ) (me : Me S View) (t r : ℕ)
             (entry_pins k.first t hs id (steps_on t r me.0) z.1 w a b z.0 d old (last_seen t r me.0) looked.0 (looked.1 ∙ sym e) (subst IsValid (sym e) valid) looked.2 (subst (λ (u : ℕ). pins_in d u < 4095) (sym e) room)),
         tt,
       ))
-      (λ w a b hs z n. (entry_misses_pin k.first t hs id (steps_on t r me.0) z.1 w a b z.0 d old, tt))
+      (λ w a b hs z n. (entry_misses_pin k.first t hs id (steps_on t r me.0) z.1 w a b z.0 d old new, tt))
 
   lowered : (d : Dir) (w : ℕ) → unit_of d ≤ w → w < 18446744073709551616 → w - unit_of d ≡ (w + (2 ^ 64 - unit_of d)) % 2 ^ 64
   lowered Read w a b = omega arith
@@ -182,11 +190,11 @@ module _ {S : Type 0} (k : Layout) (slots id : ℕ) (me : Me S View) (t r : ℕ)
 
     store_first_owes : (v : ℕ) → (last_of r me.0).entry ≡ Invalid → Allows (Shows k) slots id me (place t r 1) (λ _. v) (λ _. tells_stored (storing k t r First v) (step slots (place t r 1) v 0 none) me)
     store_first_owes v none_yet = stored_owes (storing k t r First v) (place t r 1) (λ _. v) (step slots (place t r 1) v 0 none) (first_owes k t r (λ n. StoredBody First v) (λ n. v) slots id me (λ _. v) (step slots (place t r 1) v 0 none) tn rn refl (λ n. refl)
-        (λ w a b hs z. (to_seat w v b hs (StoredBody First v) z.2 (entry_stores_first k.first t hs (steps_on t r me.0) (at_home hs z.1 z.2) w a b z.0 v (ap (λ (x : Record). x.entry) (sym (last_is z.3)) ∙ none_yet)), sym z.2 ∙ own)))
+        (λ w a b hs z. (to_seat w v b hs (StoredBody First v) z.2 (entry_stores_first k.first t hs (steps_on t r me.0) (at_home hs z.1 z.2) w a b z.0 v (ap (λ (x : EntryRecord). x.entry) (sym (last_is z.3)) ∙ none_yet)), sym z.2 ∙ own)))
 
     store_second_owes : (v : ℕ) → (last_of r me.0).entry ≡ Invalid → Allows (Shows k) slots id me (place t r 2) (λ _. v) (λ _. tells_stored (storing k t r Second v) (step slots (place t r 2) v 0 none) me)
     store_second_owes v none_yet = stored_owes (storing k t r Second v) (place t r 2) (λ _. v) (step slots (place t r 2) v 0 none) (second_owes k t r (λ n. StoredBody Second v) (λ n. v) slots id me (λ _. v) (step slots (place t r 2) v 0 none) tn rn refl (λ n. refl)
-        (λ w a b hs z. (to_seat w a v hs (StoredBody Second v) z.2 (entry_stores_second k.first t hs (steps_on t r me.0) (at_home hs z.1 z.2) w a b z.0 v (ap (λ (x : Record). x.entry) (sym (last_is z.3)) ∙ none_yet)), sym z.2 ∙ own)))
+        (λ w a b hs z. (to_seat w a v hs (StoredBody Second v) z.2 (entry_stores_second k.first t hs (steps_on t r me.0) (at_home hs z.1 z.2) w a b z.0 v (ap (λ (x : EntryRecord). x.entry) (sym (last_is z.3)) ∙ none_yet)), sym z.2 ∙ own)))
 
     pub store_owes : (h : Half) (i v : ℕ) → i ≡ half_index h → (last_of r me.0).entry ≡ Invalid → Allows (Shows k) slots id me (place t r i) (λ _. v) (λ _. tells_stored (storing k t r (half_of i) v) (step slots (place t r i) v 0 none) me)
     store_owes h i v e none_yet = subst (λ (u : ℕ). Allows (Shows k) slots id me (place t r u) (λ _. v) (λ _. tells_stored (storing k t r (half_of u) v) (step slots (place t r u) v 0 none) me)) (sym e) (at_half h)
@@ -196,58 +204,58 @@ module _ {S : Type 0} (k : Layout) (slots id : ℕ) (me : Me S View) (t r : ℕ)
         at_half Second = store_second_owes v none_yet
 
     -- an exchange by the owner
-    change_owes : (m : Purpose) (c : Change) (y : Record) (old new : ℕ) → taken t r me.0 m old new ≡ Changed c old new y → ((n : ℕ) → missed m old n ≡ ChangeMissed c old n)
-        → ((w a b : ℕ) (hs : List (List EntryStep)) → ShowsEntry k.first t w a b hs → get_elem? hs t ≡ some (steps_on t r me.0) → me.0.first ≡ k.first → w ≡ old → ShowsEntry k.first t new a b (set hs t (Changed c old new y ∷ steps_on t r me.0)))
-        → Allows (Shows k) slots id me (place t r 0) (λ n. either (n == old) new n) (tells (exchanging k t r me.0 m old new) (step slots (place t r 0) old new none) me)
-    change_owes m c y old new is_taken is_missed hit = exchange_owes m old new
-        (λ w a b hs z e. subst (λ (u : EntryStep). ShowsEntry k.first t new a b (set hs id (u ∷ steps_on t r me.0)) × IsByOwner id t u) (sym is_taken) (to_seat new a b hs (Changed c old new y) z.2 (hit w a b hs z.0 (at_home hs z.1 z.2) z.3 e), sym z.2 ∙ own))
-        (λ w a b hs z n. subst (λ (u : EntryStep). ShowsEntry k.first t w a b (set hs id (u ∷ steps_on t r me.0)) × IsByOwner id t u) (sym (is_missed w)) (entry_misses_change k.first t hs id (steps_on t r me.0) z.1 w a b z.0 c old, tt))
+    change_owes : (c : Change) (old new : ℕ)
+        → ((w a b : ℕ) (hs : List (List EntryStep)) → ShowsEntry k.first t w a b hs → get_elem? hs t ≡ some (steps_on t r me.0) → me.0.first ≡ k.first → w ≡ old → ShowsEntry k.first t new a b (set hs t (Changed c old new (changed c (last_of r me.0)) ∷ steps_on t r me.0)))
+        → Allows (Shows k) slots id me (place t r 0) (λ n. either (n == old) new n) (tells (exchanging k t r me.0 (purpose.Change c) old new) (step slots (place t r 0) old new none) me)
+    change_owes c old new hit = exchange_owes (purpose.Change c) old new
+        (λ w a b hs z e. (to_seat new a b hs (Changed c old new (changed c (last_of r me.0))) z.2 (hit w a b hs z.0 (at_home hs z.1 z.2) z.3 e), sym z.2 ∙ own))
+        (λ w a b hs z n. (entry_misses_change k.first t hs id (steps_on t r me.0) z.1 w a b z.0 c old new, tt))
 
     pub revoke_owes : (old new : ℕ) → IsIdleOf (last_of r me.0) old → new ≡ invalid_word old
         → Allows (Shows k) slots id me (place t r 0) (λ n. either (n == old) new n)
-        (tells (exchanging k t r me.0 purpose.Revoke old new) (step slots (place t r 0) old new none) me)
-    revoke_owes old new idle is = change_owes purpose.Revoke change.Revoke (invalid_at (last_of r me.0).generation) old new refl (λ _. refl) (λ w a b hs z at f e.
-        let h : List EntryStep = steps_on t r me.0 in let y : Record = last_record k.first h in let l = last_is f in let m = mine k.first t hs h at w a b z in
+        (tells (exchanging k t r me.0 (purpose.Change change.Revoke) old new) (step slots (place t r 0) old new none) me)
+    revoke_owes old new idle is = change_owes change.Revoke old new (λ w a b hs z at f e.
+        let h : List EntryStep = steps_on t r me.0 in let y : EntryRecord = last_record k.first h in let l = last_is f in let m = mine k.first t hs h at w a b z in
         let g : old / 17592186044416 ≡ y.generation = ap generation_of (sym e) ∙ spelled_generation y w (total_pins Read hs) (total_pins Write hs) (legal_record y (earlier_records k.first h) m.lawful) m.in_range m.spelled in
         let i : new ≡ idle_word_of Invalid y.generation = omega arith in
-        subst (λ (u : ℕ). ShowsEntry k.first t u a b (set hs t (Changed change.Revoke old new (invalid_at (last_of r me.0).generation) ∷ h))) (sym i)
-        (subst (λ (u : Record). ShowsEntry k.first t (idle_word_of Invalid y.generation) a b (set hs t (Changed change.Revoke old new (invalid_at u.generation) ∷ h))) (sym l)
-        (entry_revokes k.first t hs h at w a b z old new (e ∙ (idle ∙ ap (λ (u : Record). idle_word_of u.entry u.generation) l)))))
+        subst (λ (u : ℕ × EntryRecord). ShowsEntry k.first t u.0 a b (set hs t (Changed change.Revoke old new u.1 ∷ h))) (λ j. (sym i j, sym (revoked (last_of r me.0)) j))
+        (subst (λ (u : EntryRecord). ShowsEntry k.first t (idle_word_of Invalid y.generation) a b (set hs t (Changed change.Revoke old new (invalid_at u.generation) ∷ h))) (sym l)
+        (entry_revokes k.first t hs h at w a b z old new (e ∙ (idle ∙ ap (λ (u : EntryRecord). idle_word_of u.entry u.generation) l)))))
 
     pub grant_owes : (e : Entry) (old new : ℕ) → IsIdleOf (last_of r me.0) old → new ≡ idle_word_of e ((last_of r me.0).generation + 1) → (last_of r me.0).entry ≡ Invalid → IsEntry e → e ≢ Invalid
         → (last_of r me.0).generation < 1048575 → IsSpelled e (stored_body First (steps_on t r me.0)) (stored_body Second (steps_on t r me.0))
         → Allows (Shows k) slots id me (place t r 0) (λ n. either (n == old) new n)
-        (tells (exchanging k t r me.0 (purpose.Publish e) old new) (step slots (place t r 0) old new none) me)
-    grant_owes e old new idle is none_yet ok some_kind room body = let x : Record = last_of r me.0 in
-        change_owes (purpose.Publish e) change.Publish (record { generation = x.generation + 1; entry = e }) old new refl (λ _. refl) (λ w a b hs z at f q.
-        let l = last_is f in subst (λ (u : ℕ). ShowsEntry k.first t u a b (set hs t (Changed change.Publish old new (record { generation = x.generation + 1; entry = e }) ∷ steps_on t r me.0))) (sym is)
-        (subst (λ (y : Record). ShowsEntry k.first t (idle_word_of e (y.generation + 1)) a b (set hs t (Changed change.Publish old new (record { generation = y.generation + 1; entry = e }) ∷ steps_on t r me.0))) (sym l)
-        (entry_grants k.first t hs (steps_on t r me.0) at w a b z old new e (q ∙ (idle ∙ ((λ i. idle_word_of (none_yet i) x.generation) ∙ ap (λ (y : Record). idle_word_of Invalid y.generation) l))) (ap (λ (y : Record). y.entry) (sym l) ∙ none_yet) ok some_kind
-        (subst (λ (y : Record). y.generation < 1048575) l room) body)))
+        (tells (exchanging k t r me.0 (purpose.Change (change.Publish e)) old new) (step slots (place t r 0) old new none) me)
+    grant_owes e old new idle is none_yet ok some_kind room body = let x : EntryRecord = last_of r me.0 in
+        change_owes (change.Publish e) old new (λ w a b hs z at f q.
+        let l = last_is f in subst (λ (u : ℕ). ShowsEntry k.first t u a b (set hs t (Changed (change.Publish e) old new (record { generation = x.generation + 1; entry = e }) ∷ steps_on t r me.0))) (sym is)
+        (subst (λ (y : EntryRecord). ShowsEntry k.first t (idle_word_of e (y.generation + 1)) a b (set hs t (Changed (change.Publish e) old new (record { generation = y.generation + 1; entry = e }) ∷ steps_on t r me.0))) (sym l)
+        (entry_grants k.first t hs (steps_on t r me.0) at w a b z old new e (q ∙ (idle ∙ ((λ i. idle_word_of (none_yet i) x.generation) ∙ ap (λ (y : EntryRecord). idle_word_of Invalid y.generation) l))) (ap (λ (y : EntryRecord). y.entry) (sym l) ∙ none_yet) ok some_kind
+        (subst (λ (y : EntryRecord). y.generation < 1048575) l room) body)))
 
     -- the word after a turn, with its pins
-    turned_is : (o : Bool) (x : Record) (reads writes w new : ℕ) → x.entry ≢ Invalid → is_read_only x.entry ≡ not o → w ≡ word_of x.entry x.generation reads writes → new + flag (not o) ≡ w + flag o + 17592186044416
+    turned_is : (o : Bool) (x : EntryRecord) (reads writes w new : ℕ) → x.entry ≢ Invalid → is_read_only x.entry ≡ not o → w ≡ word_of x.entry x.generation reads writes → new + flag (not o) ≡ w + flag o + 17592186044416
         → new ≡ word_of (with_ro o x.entry) (x.generation + 1) reads writes
     turned_is o x reads writes w new n now is e = let l = turned_low o x.entry n now in let d = turned_domain o x.entry in
         let L : ℕ = low_bits (with_ro o x.entry) in let D : ℕ = named_domain (with_ro o x.entry) in let L0 : ℕ = low_bits x.entry in let D0 : ℕ = named_domain x.entry in
         let l' : L + flag (not o) ≡ L0 + flag o = l in let d' : D ≡ D0 = d in omega arith
 
-    turn_owes : (o : Bool) (m : Purpose) (c : Change) (old new : ℕ) → taken t r me.0 m old new ≡ Changed c old new (turned o (last_of r me.0)) → ((n : ℕ) → missed m old n ≡ ChangeMissed c old n) → (last_of r me.0).entry ≢ Invalid → generation_of old < 1048575 → is_read_only (last_of r me.0).entry ≡ not o
+    turn_owes : (o : Bool) (c : Change) (old new : ℕ) → ((x : EntryRecord) → changed c x ≡ turned o x) → (last_of r me.0).entry ≢ Invalid → generation_of old < 1048575 → is_read_only (last_of r me.0).entry ≡ not o
         → new + flag (not o) ≡ old + flag o + 17592186044416
         → Allows (Shows k) slots id me (place t r 0) (λ n. either (n == old) new n)
-        (tells (exchanging k t r me.0 m old new) (step slots (place t r 0) old new none) me)
-    turn_owes o m c old new is_taken is_missed some_kind room now is = let x : Record = last_of r me.0 in
-        change_owes m c (turned o x) old new is_taken is_missed (λ w a b hs z at f q. let l = last_is f in let h : List EntryStep = steps_on t r me.0 in let y : Record = last_record k.first h in let s = mine k.first t hs h at w a b z in
+        (tells (exchanging k t r me.0 (purpose.Change c) old new) (step slots (place t r 0) old new none) me)
+    turn_owes o c old new turns_it some_kind room now is = let x : EntryRecord = last_of r me.0 in
+        change_owes c old new (λ w a b hs z at f q. let l = last_is f in let h : List EntryStep = steps_on t r me.0 in let y : EntryRecord = last_record k.first h in let s = mine k.first t hs h at w a b z in
         let g : old / 17592186044416 ≡ y.generation = ap generation_of (sym q) ∙ spelled_generation y w (total_pins Read hs) (total_pins Write hs) (legal_record y (earlier_records k.first h) s.lawful) s.in_range s.spelled in
-        let turns : is_read_only y.entry ≡ not o = ap (λ (u : Record). is_read_only u.entry) (sym l) ∙ now in let kind : y.entry ≢ Invalid = subst (λ (u : Record). u.entry ≢ Invalid) l some_kind in
-        subst (λ (u : Record). ShowsEntry k.first t new a b (set hs t (Changed c old new (turned o u) ∷ h))) (sym l)
+        let turns : is_read_only y.entry ≡ not o = ap (λ (u : EntryRecord). is_read_only u.entry) (sym l) ∙ now in let kind : y.entry ≢ Invalid = subst (λ (u : EntryRecord). u.entry ≢ Invalid) l some_kind in
+        subst (λ (u : EntryRecord). ShowsEntry k.first t new a b (set hs t (Changed c old new u ∷ h))) (sym (turns_it x ∙ ap (turned o) l))
         (entry_turns k.first t hs h at w a b z o c new old new kind turns (omega arith)
         (turned_is o y (total_pins Read hs) (total_pins Write hs) w new kind turns s.spelled (is ∙ ap (λ (u : ℕ). u + flag o + 17592186044416) (sym q)))))
 
     pub demote_owes : (old new : ℕ) → (last_of r me.0).entry ≢ Invalid → generation_of old < 1048575 → is_read_only (last_of r me.0).entry ≡ false → new ≡ demoted_word old
-        → Allows (Shows k) slots id me (place t r 0) (λ n. either (n == old) new n) (tells (exchanging k t r me.0 purpose.Demote old new) (step slots (place t r 0) old new none) me)
-    demote_owes old new some_kind room now is = turn_owes true purpose.Demote change.Demote old new refl (λ _. refl) some_kind room now (omega arith)
+        → Allows (Shows k) slots id me (place t r 0) (λ n. either (n == old) new n) (tells (exchanging k t r me.0 (purpose.Change change.Demote) old new) (step slots (place t r 0) old new none) me)
+    demote_owes old new some_kind room now is = turn_owes true change.Demote old new (λ _. refl) some_kind room now (omega arith)
 
     pub promote_owes : (old new : ℕ) → (last_of r me.0).entry ≢ Invalid → generation_of old < 1048575 → is_read_only (last_of r me.0).entry ≡ true → new ≡ promoted_word old
-        → Allows (Shows k) slots id me (place t r 0) (λ n. either (n == old) new n) (tells (exchanging k t r me.0 purpose.Promote old new) (step slots (place t r 0) old new none) me)
-    promote_owes old new some_kind room now is = turn_owes false purpose.Promote change.Promote old new refl (λ _. refl) some_kind room now (omega arith)
+        → Allows (Shows k) slots id me (place t r 0) (λ n. either (n == old) new n) (tells (exchanging k t r me.0 (purpose.Change change.Promote) old new) (step slots (place t r 0) old new none) me)
+    promote_owes old new some_kind room now is = turn_owes false change.Promote old new (λ _. refl) some_kind room now (omega arith)

@@ -16,12 +16,12 @@ use Rattle.gt_types.specs.declared.Dir.TheVariants.{Read, Write}
 use Rattle.gt_words.specs.Controls.{IsValid, generation_of, pins_in}
 use Rattle.gt_words.specs.Rule.{Agrees, CountsTaken, IsLawful, IsNextEntry, IsRecord, IsRevocation, IsSeenOf, MayFollow, SawRecord, ShowsRecord, total_pins, total_taken}
 use Rattle.gt_words.specs.Views.{HasBody, IsIn, LivePin, Seen, is_same_dir, pin_count, pins, record_seen, seen, taken_count, value_or_zero, weight, with_body, without_pin}
-use Rattle.gt_words.specs.declared.view.Change.{Change}
+use Rattle.gt_entry.specs.declared.change.Change.{Change}
 use Rattle.gt_words.specs.declared.view.EntryStep.{EntryStep}
 use Rattle.gt_words.specs.declared.view.EntryStep.TheVariants.{ChangeMissed, Changed, Looked, PinMissed, Pinned, ReadBody, StoredBody, Unpinned}
-use Rattle.gt_words.specs.declared.view.Half.{Half}
-use Rattle.gt_words.specs.declared.view.Half.TheVariants.{First, Second}
-use Rattle.gt_words.specs.declared.view.Record.{Record}
+use Rattle.gt_entry.specs.declared.change.Half.{Half}
+use Rattle.gt_entry.specs.declared.change.Half.TheVariants.{First, Second}
+use Rattle.gt_words.specs.declared.view.EntryRecord.{EntryRecord}
 use Rattle.gt_entry.specs.declared.control.Kind.TheVariants as kind
 
 pub total_pins-set : (d : Dir) (hs : List (List EntryStep)) (i : ℕ) (h h' : List EntryStep) → get_elem? hs i ≡ some h → total_pins d (set hs i h') + pin_count d (pins h) ≡ total_pins d hs + pin_count d (pins h')
@@ -74,10 +74,10 @@ held_taken d (Pinned c e x ∷ ms) = let l = held_taken d ms in omega arith
 held_taken d (Unpinned c g ∷ ms) = let l = held_taken d ms in let f = pin_count-fewer d c g (pins ms) in omega arith
 held_taken d (Looked n ∷ ms) = held_taken d ms
 held_taken d (ReadBody p n ∷ ms) = held_taken d ms
-held_taken d (PinMissed c e n ∷ ms) = held_taken d ms
+held_taken d (PinMissed c e f n ∷ ms) = held_taken d ms
 held_taken d (StoredBody p n ∷ ms) = held_taken d ms
 held_taken d (Changed c e n x ∷ ms) = held_taken d ms
-held_taken d (ChangeMissed c e n ∷ ms) = held_taken d ms
+held_taken d (ChangeMissed c e f n ∷ ms) = held_taken d ms
 
 total_taken-most : (d : Dir) (hs : List (List EntryStep)) → total_pins d hs ≤ total_taken d hs
 total_taken-most d [] = omega arith
@@ -88,10 +88,10 @@ taken_count-more d (Pinned c e x) h = omega arith
 taken_count-more d (Unpinned c g) h = omega arith
 taken_count-more d (Looked n) h = omega arith
 taken_count-more d (ReadBody p n) h = omega arith
-taken_count-more d (PinMissed c e n) h = omega arith
+taken_count-more d (PinMissed c e f n) h = omega arith
 taken_count-more d (StoredBody p n) h = omega arith
 taken_count-more d (Changed c e n x) h = omega arith
-taken_count-more d (ChangeMissed c e n) h = omega arith
+taken_count-more d (ChangeMissed c e f n) h = omega arith
 
 total_taken-set : (d : Dir) (hs : List (List EntryStep)) (i : ℕ) (h : List EntryStep) (m : EntryStep) → get_elem? hs i ≡ some h → total_taken d hs ≤ total_taken d (set hs i (m ∷ h))
 total_taken-set d [] i h m e = absurd (some-ne-none h (sym e))
@@ -100,15 +100,15 @@ total_taken-set d (x ∷ xs) (suc i) h m e = let r = total_taken-set d xs i h m 
 
 -- the list of records
 
-pub bounded : (x : Record) (xs : List Record) (y : Record) → IsLawful x xs → IsIn y (x ∷ xs) → y.generation ≤ x.generation
-bounded x [] y l (inl e) = let g : y.generation ≡ x.generation = ap (λ (z : Record). z.generation) e in omega arith
+pub bounded : (x : EntryRecord) (xs : List EntryRecord) (y : EntryRecord) → IsLawful x xs → IsIn y (x ∷ xs) → y.generation ≤ x.generation
+bounded x [] y l (inl e) = let g : y.generation ≡ x.generation = ap (λ (z : EntryRecord). z.generation) e in omega arith
 bounded x [] y l (inr h) = absurd h
-bounded x (z ∷ zs) y l (inl e) = let g : y.generation ≡ x.generation = ap (λ (w : Record). w.generation) e in omega arith
+bounded x (z ∷ zs) y l (inl e) = let g : y.generation ≡ x.generation = ap (λ (w : EntryRecord). w.generation) e in omega arith
 bounded x (z ∷ zs) y l (inr h) = let r = bounded z zs y l.2 h in ⊎_elim (λ (t : IsRevocation x z). let e = t.1 in omega arith)
     (λ (t : IsNextEntry x z). let e = t.0 in omega arith) l.1
 
 -- where the last record is an entry, no other has its generation
-pub alone : (x : Record) (xs : List Record) (y : Record) → IsLawful x xs → x.entry ≢ Invalid → IsIn y (x ∷ xs) → y.generation ≡ x.generation → y ≡ x
+pub alone : (x : EntryRecord) (xs : List EntryRecord) (y : EntryRecord) → IsLawful x xs → x.entry ≢ Invalid → IsIn y (x ∷ xs) → y.generation ≡ x.generation → y ≡ x
 alone x [] y l n (inl e) g = e
 alone x [] y l n (inr h) g = absurd h
 alone x (z ∷ zs) y l n (inl e) g = e
@@ -116,15 +116,15 @@ alone x (z ∷ zs) y l n (inr h) g = let r = bounded z zs y l.2 h in absurd (⊎
     (λ (t : IsNextEntry x z). let e = t.0 in omega arith) l.1)
 
 -- a record that comes after a list is none of it, if it is an entry
-pub fresh : (x : Record) (xs : List Record) (w y : Record) → IsLawful x xs → MayFollow w x → IsIn y (x ∷ xs) → w ≡ y → w.entry ≡ Invalid
+pub fresh : (x : EntryRecord) (xs : List EntryRecord) (w y : EntryRecord) → IsLawful x xs → MayFollow w x → IsIn y (x ∷ xs) → w ≡ y → w.entry ≡ Invalid
 fresh x xs w y l f h e = let r = bounded x xs y l h in ⊎_elim (λ (t : IsRevocation w x). t.0)
-    (λ (t : IsNextEntry w x). let a = t.0 in let g : w.generation ≡ y.generation = ap (λ (z : Record). z.generation) e in absurd (omega arith)) f
+    (λ (t : IsNextEntry w x). let a = t.0 in let g : w.generation ≡ y.generation = ap (λ (z : EntryRecord). z.generation) e in absurd (omega arith)) f
 
-pub legal_record : (x : Record) (xs : List Record) → IsLawful x xs → IsRecord x
+pub legal_record : (x : EntryRecord) (xs : List EntryRecord) → IsLawful x xs → IsRecord x
 legal_record x [] l = l.0
 legal_record x (z ∷ zs) l = l.0
 
-pub listed_record : (x : Record) (xs : List Record) (y : Record) → IsLawful x xs → IsIn y (x ∷ xs) → IsRecord y
+pub listed_record : (x : EntryRecord) (xs : List EntryRecord) (y : EntryRecord) → IsLawful x xs → IsIn y (x ∷ xs) → IsRecord y
 listed_record x xs y l (inl e) = subst IsRecord (sym e) (legal_record x xs l)
 listed_record x [] y l (inr h) = absurd h
 listed_record x (z ∷ zs) y l (inr h) = listed_record z zs y l.2 h
@@ -167,7 +167,7 @@ spelled_control e g r w ok in_range small = ap control_of (sym (entry-word e g r
 
 -- one step of the seat i, whose moves on the entry were h
 
-module _ (x : Record) (xs : List Record) (a b : ℕ) (hs : List (List EntryStep)) (i : ℕ) (h : List EntryStep) (m : EntryStep) where
+module _ (x : EntryRecord) (xs : List EntryRecord) (a b : ℕ) (hs : List (List EntryStep)) (i : ℕ) (h : List EntryStep) (m : EntryStep) where
   all_known : (f : SawRecord x xs (seen (m ∷ h))) → ((j : ℕ) (y : List EntryStep) → get_elem? hs j ≡ some y → SawRecord x xs (seen y)) → (j : ℕ) (y : List EntryStep) → get_elem? (set hs i (m ∷ h)) j ≡ some y → SawRecord x xs (seen y)
   all_known f saw j y e = ⊎_elim (λ (t : (j ≡ i) × ((m ∷ h) ≡ y)). subst (λ (z : List EntryStep). SawRecord x xs (seen z)) t.1 f) (λ (t : (j ≢ i) × (get_elem? hs j ≡ some y)). saw j y t.1) (at_set hs i j (m ∷ h) y e)
 
@@ -200,7 +200,7 @@ module _ (x : Record) (xs : List Record) (a b : ℕ) (hs : List (List EntryStep)
   }
 
 -- the word of the last record is a look at it
-pub looks_at : (x : Record) (xs : List Record) (r w : ℕ) (word : ℕ) → (r < 4096) × (w < 4096) → word ≡ word_of x.entry x.generation r w → SawRecord x xs (Some (record { word = word; first = None; second = None }))
+pub looks_at : (x : EntryRecord) (xs : List EntryRecord) (r w : ℕ) (word : ℕ) → (r < 4096) × (w < 4096) → word ≡ word_of x.entry x.generation r w → SawRecord x xs (Some (record { word = word; first = None; second = None }))
 looks_at x xs r w word f e = record { at = x; reads = r; writes = w; listed = inl refl; in_range = f; spelled = e; agrees = λ _. blank x.entry }
   where
     blank : (e : Entry) → Agrees e None None
@@ -210,7 +210,7 @@ looks_at x xs r w word f e = record { at = x; reads = r; writes = w; listed = in
     blank (Via d o t r) = tt
 
 -- the word of the last record counts the pins of all views, and each of them was taken
-pub word_counts : (x : Record) (xs : List Record) (word a b : ℕ) (hs : List (List EntryStep)) → ShowsRecord x xs word a b hs → (d : Dir) → pins_in d word ≤ total_taken d hs
+pub word_counts : (x : EntryRecord) (xs : List EntryRecord) (word a b : ℕ) (hs : List (List EntryStep)) → ShowsRecord x xs word a b hs → (d : Dir) → pins_in d word ≤ total_taken d hs
 word_counts x xs word a b hs k Read = let p = spelled_parts x.entry x.generation (total_pins Read hs) (total_pins Write hs) (legal_record x xs k.lawful).0 k.in_range in
     let e : pins_in Read word ≡ total_pins Read hs = ap (pins_in Read) k.spelled ∙ p.reads in let l = total_taken-most Read hs in omega arith
 word_counts x xs word a b hs k Write = let p = spelled_parts x.entry x.generation (total_pins Read hs) (total_pins Write hs) (legal_record x xs k.lawful).0 k.in_range in
@@ -235,7 +235,7 @@ saw_second (Sub d o f y n) a b p q s g = (g.0, s.1)
 saw_second (Via d o t r) a b p q s g = g
 
 -- a look at a body word
-pub saw_known : (x : Record) (xs : List Record) (a b : ℕ) (k : Half) (v : ℕ) (s : Option Seen) → IsSpelled x.entry a b → (k ≡ First → v ≡ a) → (k ≡ Second → v ≡ b) → SawRecord x xs s → SawRecord x xs (with_body k v s)
+pub saw_known : (x : EntryRecord) (xs : List EntryRecord) (a b : ℕ) (k : Half) (v : ℕ) (s : Option Seen) → IsSpelled x.entry a b → (k ≡ First → v ≡ a) → (k ≡ Second → v ≡ b) → SawRecord x xs s → SawRecord x xs (with_body k v s)
 saw_known x xs a b k v None body f g n = tt
 saw_known x xs a b First v (Some s) body f g n = record {
   at = n.at;
@@ -244,7 +244,7 @@ saw_known x xs a b First v (Some s) body f g n = record {
   listed = n.listed;
   in_range = n.in_range;
   spelled = n.spelled;
-  agrees = λ e. subst (λ (y : ℕ). Agrees n.at.entry (Some y) s.second) (sym (f refl)) (saw_first n.at.entry a b s.first s.second (subst (λ (y : Record). IsSpelled y.entry a b) e body) (n.agrees e));
+  agrees = λ e. subst (λ (y : ℕ). Agrees n.at.entry (Some y) s.second) (sym (f refl)) (saw_first n.at.entry a b s.first s.second (subst (λ (y : EntryRecord). IsSpelled y.entry a b) e body) (n.agrees e));
 }
 saw_known x xs a b Second v (Some s) body f g n = record {
   at = n.at;
@@ -253,7 +253,7 @@ saw_known x xs a b Second v (Some s) body f g n = record {
   listed = n.listed;
   in_range = n.in_range;
   spelled = n.spelled;
-  agrees = λ e. subst (λ (y : ℕ). Agrees n.at.entry s.first (Some y)) (sym (g refl)) (saw_second n.at.entry a b s.first s.second (subst (λ (y : Record). IsSpelled y.entry a b) e body) (n.agrees e));
+  agrees = λ e. subst (λ (y : ℕ). Agrees n.at.entry s.first (Some y)) (sym (g refl)) (saw_second n.at.entry a b s.first s.second (subst (λ (y : EntryRecord). IsSpelled y.entry a b) e body) (n.agrees e));
 }
 
 -- the word with one pin more of the kind d
@@ -265,7 +265,7 @@ few_more : (d : Dir) (r w r' w' : ℕ) → r' ≡ r + weight Read d → w' ≡ w
 few_more Read r w r' w' p q f a b = let h = a refl in let g = f.1 in (omega arith, omega arith)
 few_more Write r w r' w' p q f a b = let h = b refl in let g = f.0 in (omega arith, omega arith)
 
-module _ (x : Record) (xs : List Record) (a b : ℕ) (hs : List (List EntryStep)) (i : ℕ) (h : List EntryStep) where
+module _ (x : EntryRecord) (xs : List EntryRecord) (a b : ℕ) (hs : List (List EntryStep)) (i : ℕ) (h : List EntryStep) where
   pub pins_shown : (word expected : ℕ) (d : Dir) → ShowsRecord x xs word a b hs → get_elem? hs i ≡ some h → x.entry ≢ Invalid → (d ≡ Read → total_pins Read hs < 4095) → (d ≡ Write → total_pins Write hs < 4095)
       → ShowsRecord x xs (word + unit_of d) a b (set hs i (Pinned d expected x ∷ h))
   pins_shown word expected d k e n fr fw = let hs' : List (List EntryStep) = set hs i (Pinned d expected x ∷ h) in
@@ -311,7 +311,7 @@ module _ (x : Record) (xs : List Record) (a b : ℕ) (hs : List (List EntryStep)
   }
 
   -- the owner exchanges the control word
-  pub changes_shown : (word word' expected stored : ℕ) (c : Change) (y : Record) → ShowsRecord x xs word a b hs → get_elem? hs i ≡ some h → IsRecord y → MayFollow y x → IsSpelled y.entry a b
+  pub changes_shown : (word word' expected stored : ℕ) (c : Change) (y : EntryRecord) → ShowsRecord x xs word a b hs → get_elem? hs i ≡ some h → IsRecord y → MayFollow y x → IsSpelled y.entry a b
       → word' ≡ word_of y.entry y.generation (total_pins Read hs) (total_pins Write hs) → (y.entry ≡ Invalid → (total_pins Read hs ≡ 0) × (total_pins Write hs ≡ 0))
       → ShowsRecord y (x ∷ xs) word' a b (set hs i (Changed c expected stored y ∷ h))
   changes_shown word word' expected stored c y k e ok may body is unpinned = let m : EntryStep = Changed c expected stored y in let s = sees_shown x xs a b hs i h m word k e refl (k.saw i h e) (k.counted i h e) in
@@ -335,7 +335,7 @@ module _ (x : Record) (xs : List Record) (a b : ℕ) (hs : List (List EntryStep)
         listed = inr n.listed;
         in_range = n.in_range;
         spelled = n.spelled;
-        agrees = λ q. let inv = fresh x xs y n.at k.lawful may n.listed q in subst (λ (z : Entry). Agrees z s.first s.second) (sym (ap (λ (z : Record). z.entry) (sym q) ∙ inv)) tt;
+        agrees = λ q. let inv = fresh x xs y n.at k.lawful may n.listed q in subst (λ (z : Entry). Agrees z s.first s.second) (sym (ap (λ (z : EntryRecord). z.entry) (sym q) ∙ inv)) tt;
       }
 
 -- what was seen is the last record, where the word is still the one seen
@@ -355,7 +355,7 @@ read_body (Sub d o f y k) (Some x) None g r w a s t = absurd (none_some (t refl)
 read_body (Via d o u k) None q g r w a s t = absurd (none_some s)
 
 -- what the seat saw of the entry is its last record, where the word is still the one seen
-pub seen_is_last : (x : Record) (xs : List Record) (s : Seen) (word r w : ℕ) → IsLawful x xs → IsSeenOf x xs s → (r < 4096) × (w < 4096) → word ≡ word_of x.entry x.generation r w → s.word ≡ word → IsValid word → HasBody s
+pub seen_is_last : (x : EntryRecord) (xs : List EntryRecord) (s : Seen) (word r w : ℕ) → IsLawful x xs → IsSeenOf x xs s → (r < 4096) × (w < 4096) → word ≡ word_of x.entry x.generation r w → s.word ≡ word → IsValid word → HasBody s
     → (record_seen s ≡ x) × (x.entry ≢ Invalid) × (pins_in Read word ≡ r) × (pins_in Write word ≡ w)
 seen_is_last x xs s word r w lawful k in_range is same valid body =
     let rec = legal_record x xs lawful in let old = listed_record x xs k.at lawful k.listed in
@@ -365,7 +365,7 @@ seen_is_last x xs s word r w lawful k in_range is same valid body =
     let same_word : word_of k.at.entry k.at.generation k.reads k.writes ≡ word_of x.entry x.generation r w = sym k.spelled ∙ e in
     let d = digits (low_bits k.at.entry) (named_domain k.at.entry) k.at.generation k.reads k.writes (low_bits x.entry) (named_domain x.entry) x.generation r w
     (low_small k.at.entry) (low_small x.entry) k.in_range.0 in_range.0 k.in_range.1 in_range.1 (domain_small k.at.entry old.0) (domain_small x.entry rec.0) same_word in
-    let here : k.at ≡ x = alone x xs k.at lawful n k.listed d.generation in let agrees : Agrees x.entry s.first s.second = subst (λ (y : Record). Agrees y.entry s.first s.second) here (k.agrees (sym here)) in
+    let here : k.at ≡ x = alone x xs k.at lawful n k.listed d.generation in let agrees : Agrees x.entry s.first s.second = subst (λ (y : EntryRecord). Agrees y.entry s.first s.second) here (k.agrees (sym here)) in
     let spelled = read_body x.entry s.first s.second x.generation r w agrees body.0 (λ h. body.1 (ap (λ (u : Control). u.kind) c ∙ h)) in
     let read : entry_of (control_of s.word) (value_or_zero s.first) (value_or_zero s.second) ≡ x.entry = ap (λ (u : Control). entry_of u (value_or_zero s.first) (value_or_zero s.second)) c
     ∙ entry-read x.entry x.generation r w (value_or_zero s.first) (value_or_zero s.second) rec.0 spelled in

@@ -16,20 +16,20 @@ use Rattle.gt_words.proofs.Lifts.{steps_on-added, steps_on-added-else}
 use Rattle.gt_words.proofs.OneEntry.{count_in, held_at, idle_held, mine}
 use Rattle.gt_words.proofs.Owed.{spelled_generation}
 use Rattle.gt_words.proofs.Records.{bounded, legal_record, listed_record, seen_is_last, spelled_parts}
-use Rattle.gt_words.specs.Conditions.{AddsToEntry, BodySteps, Changes, CountsPins, Demotes, HasLooked, HasNoPins, HasNoWritePins, Holds, IsBusyOf, IsIdleOf, IsNotEarlier, IsWordOf, KeepsPins, MayPin, MissesChange, MissesPin, Pins, Revokes, Steps, StoresBody, Unpins}
-use Rattle.gt_words.specs.Controls.{IsTurnable, IsValid, demoted_word, generation_of, invalid_word, pins_in}
+use Rattle.gt_words.specs.Conditions.{AddsToEntry, StepsOnBody, Changes, CountsPins, Demotes, HasLooked, HasNoPins, HasNoWritePins, Holds, IsBusyOf, IsIdleOf, IsNotEarlier, IsWordOf, KeepsPins, MayPin, MissesChange, MissesPin, Pins, Revokes, StepsOnControl, StoresBody, Unpins}
+use Rattle.gt_words.specs.Controls.{IsTurnable, IsValid, generation_of, pins_in}
 use Rattle.gt_words.specs.Rule.{IsRecord, Layout, SawRecord, ShowsEntry, ShowsRecord, owner_steps, place, total_pins}
-use Rattle.gt_words.specs.Steps.{TakesStep, exchanging, half_index, half_of, missed, on_entry, taken, turned}
-use Rattle.gt_words.specs.Views.{IsIn, LivePin, Seen, earlier_records, invalid_at, is_half, last_of, last_record, last_seen, own, own_list, pin_count, pins, record_seen, seen, steps_on, steps_on_header, stored_body, with_step}
-use Rattle.gt_words.specs.declared.view.Change.{Change}
+use Rattle.gt_words.specs.Steps.{TakesStep, changed, changed_word, exchanging, half_index, half_of, missed, on_entry, taken}
+use Rattle.gt_words.specs.Views.{IsIn, LivePin, Seen, earlier_records, is_half, last_of, last_record, last_seen, own, own_list, pin_count, pins, record_seen, seen, steps_on, steps_on_header, stored_body, with_step}
+use Rattle.gt_entry.specs.declared.change.Change.{Change}
 use Rattle.gt_words.specs.declared.view.EntryStep.{EntryStep}
 use Rattle.gt_words.specs.declared.view.EntryStep.TheVariants.{ChangeMissed, Changed, PinMissed, Pinned, ReadBody, StoredBody, Unpinned}
-use Rattle.gt_words.specs.declared.view.Half.{Half}
-use Rattle.gt_words.specs.declared.view.Half.TheVariants.{First, Second}
+use Rattle.gt_entry.specs.declared.change.Half.{Half}
+use Rattle.gt_entry.specs.declared.change.Half.TheVariants.{First, Second}
 use Rattle.gt_words.specs.declared.view.Purpose.{Purpose}
-use Rattle.gt_words.specs.declared.view.Record.{Record}
+use Rattle.gt_words.specs.declared.view.EntryRecord.{EntryRecord}
 use Rattle.gt_words.specs.declared.view.View.{View}
-use Rattle.gt_words.specs.declared.view.Change.TheVariants as change
+use Rattle.gt_entry.specs.declared.change.Change.TheVariants.{Demote, Revoke}
 use Rattle.gt_types.specs.declared.limits.TheConstants.{TABLE_ENTRIES}
 
 -- one more step on an entry
@@ -50,23 +50,23 @@ keeps_pins t r m v w z same t' r' = dite (ℕ_discrete t t')
 -- an exchange that found the word expected was taken
 pub exchange_taken : (k : Layout) (t r : ℕ) (v : View) (p : Purpose) (old new found : ℕ) (w : View) → found ≡ old
     → w ≡ with_step ((exchanging k t r v p old new).step found) v → TakesStep (Unit {0}) k v ((exchanging k t r v p old new).step found) (place t r 0) found ((exchanging k t r v p old new).leaves found)
-    → Steps k t r (taken t r v p old new) old new v w
+    → StepsOnControl k t r (taken t r v p old new) old new v w
 exchange_taken k t r v p old new found w e view step = let b : (found == old) ≡ true = eq-eqb found old e in record {
-  adds = adds_to_entry t r (taken t r v p old new) v w (view ∙ ap (λ (q : Bool). with_step (on_entry t r (cond q (taken t r v p old new) (missed p old found))) v) b);
+  adds = adds_to_entry t r (taken t r v p old new) v w (view ∙ ap (λ (q : Bool). with_step (on_entry t r (cond q (taken t r v p old new) (missed p old new found))) v) b);
   step = subst (λ (n : ℕ). TakesStep (Unit {0}) k v (on_entry t r (taken t r v p old new)) (place t r 0) n new) e
-      (subst (λ (q : Bool). TakesStep (Unit {0}) k v (on_entry t r (cond q (taken t r v p old new) (missed p old found))) (place t r 0) found (either q new found)) b step);
+      (subst (λ (q : Bool). TakesStep (Unit {0}) k v (on_entry t r (cond q (taken t r v p old new) (missed p old new found))) (place t r 0) found (either q new found)) b step);
 }
 
 -- an exchange that found another was missed
 pub exchange_missed : (k : Layout) (t r : ℕ) (v : View) (p : Purpose) (old new found : ℕ) (w : View) → found ≢ old
     → w ≡ with_step ((exchanging k t r v p old new).step found) v → TakesStep (Unit {0}) k v ((exchanging k t r v p old new).step found) (place t r 0) found ((exchanging k t r v p old new).leaves found)
-    → Steps k t r (missed p old found) found found v w
+    → StepsOnControl k t r (missed p old new found) found found v w
 exchange_missed k t r v p old new found w n view step = let b : (found == old) ≡ false = ne_eqb found old n in record {
-  adds = adds_to_entry t r (missed p old found) v w (view ∙ ap (λ (q : Bool). with_step (on_entry t r (cond q (taken t r v p old new) (missed p old found))) v) b);
-  step = subst (λ (q : Bool). TakesStep (Unit {0}) k v (on_entry t r (cond q (taken t r v p old new) (missed p old found))) (place t r 0) found (either q new found)) b step;
+  adds = adds_to_entry t r (missed p old new found) v w (view ∙ ap (λ (q : Bool). with_step (on_entry t r (cond q (taken t r v p old new) (missed p old new found))) v) b);
+  step = subst (λ (q : Bool). TakesStep (Unit {0}) k v (on_entry t r (cond q (taken t r v p old new) (missed p old new found))) (place t r 0) found (either q new found)) b step;
 }
 
-module _ (k : Layout) (t r : ℕ) (m : EntryStep) (found left : ℕ) (v w : View) (tn : t < k.domains) (rn : r < TABLE_ENTRIES) (z : Steps k t r m found left v w) where
+module _ (k : Layout) (t r : ℕ) (m : EntryStep) (found left : ℕ) (v w : View) (tn : t < k.domains) (rn : r < TABLE_ENTRIES) (z : StepsOnControl k t r m found left v w) where
   -- the steps of each seat on the entry before it
   abbrev all : List (List EntryStep)
   all = map (steps_on t r) z.step.before.views
@@ -90,7 +90,7 @@ module _ (k : Layout) (t r : ℕ) (m : EntryStep) (found left : ℕ) (v w : View
     where
       go : (s : Option Seen) → SawRecord (last_record k.first (owner_steps t all)) (earlier_records k.first (owner_steps t all)) s → IfSome s (λ s. generation_of s.word ≤ generation_of found)
       go None q = tt
-      go (Some s) q = let f = shown_there.record_shown in let x : Record = last_record k.first (owner_steps t all) in let xs : List Record = earlier_records k.first (owner_steps t all) in
+      go (Some s) q = let f = shown_there.record_shown in let x : EntryRecord = last_record k.first (owner_steps t all) in let xs : List EntryRecord = earlier_records k.first (owner_steps t all) in
           let b = bounded x xs q.at f.lawful q.listed in
           let e : generation_of s.word ≡ q.at.generation = spelled_generation q.at s.word q.reads q.writes (listed_record x xs q.at f.lawful q.listed) q.in_range q.spelled in
           let g : generation_of found ≡ x.generation = spelled_generation x found (total_pins Read all) (total_pins Write all) (legal_record x xs f.lawful) f.in_range f.spelled in omega arith
@@ -112,12 +112,12 @@ module _ (k : Layout) (t r : ℕ) (m : EntryStep) (found left : ℕ) (v w : View
 
     -- another word than the idle one has pins
     pub busy : (word : ℕ) → IsIdleOf (last_of r v) word → found ≢ word → IsBusyOf (last_of r v) found
-    busy word idle n = let x : Record = last_of r v in let reads : ℕ = total_pins Read all in let writes : ℕ = total_pins Write all in
+    busy word idle n = let x : EntryRecord = last_of r v in let reads : ℕ = total_pins Read all in let writes : ℕ = total_pins Write all in
         (reads, writes, owners_entry.in_range.0, owners_entry.in_range.1, spelled_word, dite (ℕ_discrete reads 0) (λ a. dite (ℕ_discrete writes 0) (λ b. absurd (n (let s = spelled_word in omega arith))) (λ b. inr b)) (λ a. inl a))
 
     -- while an invalid entry has no pins, its word is the idle one
     pub still_idle : (word : ℕ) → IsIdleOf (last_of r v) word → (last_of r v).entry ≡ Invalid → found ≡ word
-    still_idle word idle none_yet = let q = owners_entry.unpinned none_yet in let x : Record = last_of r v in let a = q.0 in let b = q.1 in
+    still_idle word idle none_yet = let q = owners_entry.unpinned none_yet in let x : EntryRecord = last_of r v in let a = q.0 in let b = q.1 in
         spelled_word ∙ ((λ i. word_of x.entry x.generation (a i) (b i)) ∙ (let e : word_of x.entry x.generation 0 0 ≡ idle_word_of x.entry x.generation = omega arith in e ∙ sym idle))
 
     no_pins : (ps : List LivePin) → pin_count Read ps ≡ 0 → pin_count Write ps ≡ 0 → ps ≡ []
@@ -133,7 +133,7 @@ module _ (k : Layout) (t r : ℕ) (m : EntryStep) (found left : ℕ) (v w : View
 
     -- a word without write pins was found in a state without them
     pub write_unpinned : pins_in Write found ≡ 0 → HasNoWritePins t r z.step.before
-    write_unpinned none_there i u at = let h = at_map (steps_on t r) z.step.before.views i u at in let b = held_at Write all i (steps_on t r u) h in let x : Record = last_of r v in
+    write_unpinned none_there i u at = let h = at_map (steps_on t r) z.step.before.views i u at in let b = held_at Write all i (steps_on t r u) h in let x : EntryRecord = last_of r v in
         let rec = legal_record x (earlier_records v.first (steps_on v.position r v)) owners_entry.lawful in
         let e : pins_in Write found ≡ total_pins Write all = ap (pins_in Write) spelled_word ∙ (spelled_parts x.entry x.generation (total_pins Read all) (total_pins Write all) rec.0 owners_entry.in_range).writes in
         omega arith
@@ -151,48 +151,54 @@ pub keeps_last : (t r : ℕ) (m : EntryStep) (v w : View) → v.position ≡ t �
 keeps_last t r m v w own_is z same = ap (last_of r) z.view ∙ (ap (last_record v.first) (own_steps t r m v own_is) ∙ same)
 
 module _ (k : Layout) (r : ℕ) (c : Change) (word : ℕ) (v w : View) (vn : v.position < k.domains) (rn : r < TABLE_ENTRIES) where
+  abbrev stored : ℕ
+  stored = changed_word c (last_of r v) word
+
+  abbrev after : EntryRecord
+  after = changed c (last_of r v)
+
   -- the owner's exchange was taken
-  pub changes : (new : ℕ) (y : Record) → Steps k v.position r (Changed c word new y) word new v w → Changes k r c word new y v w
-  changes new y z = record {
+  pub changes : StepsOnControl k v.position r (Changed c word stored after) word stored v w → Changes k r c word v w
+  changes z = record {
     steps = z;
-    pins = keeps_pins v.position r (Changed c word new y) v w z.adds refl;
-    last = ap (last_of r) z.adds.view ∙ ap (last_record v.first) (own_steps v.position r (Changed c word new y) v refl);
+    pins = keeps_pins v.position r (Changed c word stored after) v w z.adds refl;
+    last = ap (last_of r) z.adds.view ∙ ap (last_record v.first) (own_steps v.position r (Changed c word stored after) v refl);
   }
 
   -- the owner's exchange was missed
-  pub misses_change : (found : ℕ) → found ≢ word → Steps k v.position r (ChangeMissed c word found) found found v w → MissesChange k r c word found v w
-  misses_change found n z = record {
+  pub misses_change : (found : ℕ) → found ≢ word → StepsOnControl k v.position r (ChangeMissed c word stored found) found found v w → MissesChange k r c word found v w
+  misses_change found n z = let m : EntryStep = ChangeMissed c word stored found in record {
     another = n;
-    same_record = own_word k v.position r (ChangeMissed c word found) found found v w vn rn z refl;
+    same_record = own_word k v.position r m found found v w vn rn z refl;
     steps = z;
-    pins = keeps_pins v.position r (ChangeMissed c word found) v w z.adds refl;
-    unchanged = ap (own_list r) z.adds.view ∙ ap (own v.first) (own_steps v.position r (ChangeMissed c word found) v refl);
-    not_earlier = not_earlier k v.position r (ChangeMissed c word found) found found v w vn rn z;
+    pins = keeps_pins v.position r m v w z.adds refl;
+    unchanged = ap (own_list r) z.adds.view ∙ ap (own v.first) (own_steps v.position r m v refl);
+    not_earlier = not_earlier k v.position r m found found v w vn rn z;
   }
 
 module _ (k : Layout) (t r : ℕ) (d : Dir) (word : ℕ) (v w : View) (tn : t < k.domains) (rn : r < TABLE_ENTRIES) (looked : HasLooked t r v word) where
   -- a pin was taken
-  pub pins_entry : IsValid word → MayPin k t r v d (record_seen (last_seen t r v)) → Steps k t r (Pinned d word (record_seen (last_seen t r v))) word (word + unit_of d) v w → Pins k t r d word v w
+  pub pins_entry : IsValid word → MayPin k t r v d (record_seen (last_seen t r v)) → StepsOnControl k t r (Pinned d word (record_seen (last_seen t r v))) word (word + unit_of d) v w → Pins k t r d word v w
   pins_entry valid may z = let m : EntryStep = Pinned d word (record_seen (last_seen t r v)) in let all : List (List EntryStep) = map (steps_on t r) z.step.before.views in let f = (shown_there k t r m word (word + unit_of d) v w tn rn z).record_shown in
-      let x : Record = last_record k.first (owner_steps t all) in let xs : List Record = earlier_records k.first (owner_steps t all) in record {
+      let x : EntryRecord = last_record k.first (owner_steps t all) in let xs : List EntryRecord = earlier_records k.first (owner_steps t all) in record {
         steps = z;
         current = sym (seen_is_last x xs (last_seen t r v) word (total_pins Read all) (total_pins Write all) f.lawful (subst (SawRecord x xs) looked.0 (f.saw v.position (steps_on t r v) (seat_there k t r m word (word + unit_of d) v w tn rn z))) f.in_range f.spelled looked.1 valid looked.2).0;
         permitted = may;
         held = subst (HasPin d (generation_of word)) (sym (ap (steps_on t r) z.adds.view ∙ steps_on-added t r m v)) ((d, record_seen (last_seen t r v)), inl refl, refl, ap generation_of looked.1);
       }
 
-  pub misses_pin : (found : ℕ) → found ≢ word → Steps k t r (PinMissed d word found) found found v w → MissesPin k t r d word found v w
-  misses_pin found n z = record { another = n; steps = z; pins = keeps_pins t r (PinMissed d word found) v w z.adds refl; not_earlier = not_earlier k t r (PinMissed d word found) found found v w tn rn z }
+  pub misses_pin : (found : ℕ) → found ≢ word → StepsOnControl k t r (PinMissed d word (word + unit_of d) found) found found v w → MissesPin k t r d word found v w
+  misses_pin found n z = record { another = n; steps = z; pins = keeps_pins t r (PinMissed d word (word + unit_of d) found) v w z.adds refl; not_earlier = not_earlier k t r (PinMissed d word (word + unit_of d) found) found found v w tn rn z }
 
 -- the counts of a control word are the sums of the views' pins
-pins_in-spelled : (d : Dir) (x : Record) (word reads writes : ℕ) → IsRecord x → (reads < 4096) × (writes < 4096) → word ≡ word_of x.entry x.generation reads writes → (hs : List (List EntryStep)) → reads ≡ total_pins Read hs → writes ≡ total_pins Write hs → pins_in d word ≡ total_pins d hs
+pins_in-spelled : (d : Dir) (x : EntryRecord) (word reads writes : ℕ) → IsRecord x → (reads < 4096) × (writes < 4096) → word ≡ word_of x.entry x.generation reads writes → (hs : List (List EntryStep)) → reads ≡ total_pins Read hs → writes ≡ total_pins Write hs → pins_in d word ≡ total_pins d hs
 pins_in-spelled Read x word reads writes ok in_range is hs a b = ap (pins_in Read) is ∙ ((spelled_parts x.entry x.generation reads writes ok.0 in_range).reads ∙ a)
 pins_in-spelled Write x word reads writes ok in_range is hs a b = ap (pins_in Write) is ∙ ((spelled_parts x.entry x.generation reads writes ok.0 in_range).writes ∙ b)
 
 -- while a view has a pin of an entry, its control word counts it
 pub counts_pins : (k : Layout) (t r : ℕ) (d : Dir) → t < k.domains → r < TABLE_ENTRIES → CountsPins k t r d
 counts_pins k t r d tn rn s i v shown at = let hs : List (List EntryStep) = map (steps_on t r) s.views in let f = (shown.entries t r tn rn).record_shown in
-    let x : Record = last_record k.first (owner_steps t hs) in let xs : List Record = earlier_records k.first (owner_steps t hs) in
+    let x : EntryRecord = last_record k.first (owner_steps t hs) in let xs : List EntryRecord = earlier_records k.first (owner_steps t hs) in
     let e = pins_in-spelled d x (get_or s.words (place t r 0) 0) (total_pins Read hs) (total_pins Write hs) (legal_record x xs f.lawful) f.in_range f.spelled hs refl refl in
     let l = held_at d hs i (steps_on t r v) (at_map (steps_on t r) s.views i v at) in omega arith
 
@@ -216,26 +222,26 @@ module _ (k : Layout) (t r : ℕ) (word : ℕ) (v : View) (w : View) (tn : t < k
   vn = subst (λ (u : ℕ). u < k.domains) (sym own_is) tn
 
   -- an owner's exchange was taken
-  pub takes_change : (c : Change) (new : ℕ) (y : Record) → Steps k t r (Changed c word new y) word new v w → Changes k r c word new y v w
-  takes_change c new y z = changes k r c word v w vn rn new y (subst (λ (u : ℕ). Steps k u r (Changed c word new y) word new v w) (sym own_is) z)
+  pub takes_change : (c : Change) (new : ℕ) → new ≡ changed_word c (last_of r v) word → StepsOnControl k t r (Changed c word new (changed c (last_of r v))) word new v w → Changes k r c word v w
+  takes_change c new is z = changes k r c word v w vn rn (subst (λ (u : ℕ × ℕ). StepsOnControl k u.0 r (Changed c word u.1 (changed c (last_of r v))) word u.1 v w) (λ i. (sym own_is i, is i)) z)
 
   -- an owner's exchange was missed
-  pub finds_another : (c : Change) (found : ℕ) → found ≢ word → Steps k t r (ChangeMissed c word found) found found v w → MissesChange k r c word found v w
-  finds_another c found n z = misses_change k r c word v w vn rn found n (subst (λ (u : ℕ). Steps k u r (ChangeMissed c word found) found found v w) (sym own_is) z)
+  pub finds_another : (c : Change) (new found : ℕ) → new ≡ changed_word c (last_of r v) word → found ≢ word → StepsOnControl k t r (ChangeMissed c word new found) found found v w → MissesChange k r c word found v w
+  finds_another c new found is n z = misses_change k r c word v w vn rn found n (subst (λ (u : ℕ × ℕ). StepsOnControl k u.0 r (ChangeMissed c word u.1 found) found found v w) (λ i. (sym own_is i, is i)) z)
 
-  pub finds_pins : (c : Change) (found : ℕ) → IsIdleOf (last_of r v) word → found ≢ word → Steps k t r (ChangeMissed c word found) found found v w → MissesChange k r c word found v w × IsBusyOf (last_of r v) found
-  finds_pins c found idle n z = (finds_another c found n z, busy k t r (ChangeMissed c word found) found found v w tn rn z own_is word idle n)
+  pub finds_pins : (c : Change) (new found : ℕ) → new ≡ changed_word c (last_of r v) word → IsIdleOf (last_of r v) word → found ≢ word → StepsOnControl k t r (ChangeMissed c word new found) found found v w → MissesChange k r c word found v w × IsBusyOf (last_of r v) found
+  finds_pins c new found is idle n z = (finds_another c new found is n z, busy k t r (ChangeMissed c word new found) found found v w tn rn z own_is word idle n)
 
-  pub revokes : IsIdleOf (last_of r v) word → Steps k t r (Changed change.Revoke word (invalid_word word) (invalid_at (last_of r v).generation)) word (invalid_word word) v w → Revokes k r word v w
-  revokes idle z = let m : EntryStep = Changed change.Revoke word (invalid_word word) (invalid_at (last_of r v).generation) in let s = takes_change change.Revoke (invalid_word word) (invalid_at (last_of r v).generation) z in
-      record { changes = s; no_pins = idle_unpinned k v.position r m word (invalid_word word) v w vn rn s.steps refl idle }
+  pub revokes : (new : ℕ) → new ≡ changed_word Revoke (last_of r v) word → IsIdleOf (last_of r v) word → StepsOnControl k t r (Changed Revoke word new (changed Revoke (last_of r v))) word new v w → Revokes k r word v w
+  revokes new is idle z = let s = takes_change Revoke new is z in
+      record { changes = s; no_pins = idle_unpinned k v.position r (Changed Revoke word (changed_word Revoke (last_of r v) word) (changed Revoke (last_of r v))) word (changed_word Revoke (last_of r v) word) v w vn rn s.steps refl idle }
 
-  pub demotes : pins_in Write word ≡ 0 → Steps k t r (Changed change.Demote word (demoted_word word) (turned true (last_of r v))) word (demoted_word word) v w → Demotes k r word v w
-  demotes none_there z = let m : EntryStep = Changed change.Demote word (demoted_word word) (turned true (last_of r v)) in let s = takes_change change.Demote (demoted_word word) (turned true (last_of r v)) z in
-      record { changes = s; no_write_pins = write_unpinned k v.position r m word (demoted_word word) v w vn rn s.steps refl none_there }
+  pub demotes : (new : ℕ) → new ≡ changed_word Demote (last_of r v) word → pins_in Write word ≡ 0 → StepsOnControl k t r (Changed Demote word new (changed Demote (last_of r v))) word new v w → Demotes k r word v w
+  demotes new is none_there z = let s = takes_change Demote new is z in
+      record { changes = s; no_write_pins = write_unpinned k v.position r (Changed Demote word (changed_word Demote (last_of r v) word) (changed Demote (last_of r v))) word (changed_word Demote (last_of r v) word) v w vn rn s.steps refl none_there }
 
 -- the word of a record that has the other readonly
-pub turnable : (o : Bool) (x : Record) (word : ℕ) → IsWordOf x word → x.entry ≢ Invalid → is_read_only x.entry ≡ not o → IsTurnable o word
+pub turnable : (o : Bool) (x : EntryRecord) (word : ℕ) → IsWordOf x word → x.entry ≢ Invalid → is_read_only x.entry ≡ not o → IsTurnable o word
 turnable o x word h some_kind now = let is = h.4 in (x.entry, 16777216 * named_domain x.entry + 1099511627776 * x.generation + h.0 + 4096 * h.1, some_kind, now, omega arith)
 
 half_is : (h : Half) → half_of (half_index h) ≡ h
@@ -244,7 +250,7 @@ half_is Second = refl
 
 -- a body word was read
 pub reads_body : (k : Layout) (t r i : ℕ) (h : Half) (n : ℕ) (v w : View) → i ≡ half_index h → w ≡ with_step (on_entry t r (ReadBody (half_of i) n)) v
-    → TakesStep (Unit {0}) k v (on_entry t r (ReadBody (half_of i) n)) (place t r i) n n → BodySteps k t r h (ReadBody h n) n n v w
+    → TakesStep (Unit {0}) k v (on_entry t r (ReadBody (half_of i) n)) (place t r i) n n → StepsOnBody k t r h (ReadBody h n) n n v w
 reads_body k t r i h n v w e view step = let f : half_of i ≡ h = ap half_of e ∙ half_is h in record {
   adds = adds_to_entry t r (ReadBody h n) v w (view ∙ ap (λ (u : Half). with_step (on_entry t r (ReadBody u n)) v) f);
   step = subst (λ (u : ℕ × Half). TakesStep (Unit {0}) k v (on_entry t r (ReadBody u.1 n)) (place t r u.0) n n) (λ j. (e j, f j)) step;

@@ -1,5 +1,5 @@
 -- What calls ask of their caller, and what their answers say.
-use Rattle.std.specs.Prelude.{◌≡◌, ◌≢◌, ◌⊎◌, ℕ, ◌+◌, ◌-◌, ◌*◌, ◌<◌, ◌≤◌, [], ◌∷◌, length, Some, IfSome, cond, ◌==◌, ◌/◌, ◌%◌, slice_index, true}
+use Rattle.std.specs.Prelude.{◌≡◌, ◌≢◌, ◌⊎◌, ℕ, ◌+◌, ◌-◌, ◌*◌, ◌<◌, ◌≤◌, [], ◌∷◌, length, Some, IfSome, cond, ◌==◌, ◌/◌, ◌%◌, slice_index}
 use mathlib.Core.Option.{some}
 use lib.ListN.{get_elem?}
 use Rattle.atomic_table.specs.Table.{State}
@@ -14,21 +14,21 @@ use Rattle.gt_types.specs.declared.DomId.{DomId}
 use Rattle.gt_types.specs.declared.config.Config.{Config}
 use Rattle.gt_types.specs.declared.config.StartFault.{StartFault}
 use Rattle.gt_types.specs.declared.limits.TheConstants.{MAX_TABLE_FRAMES}
-use Rattle.gt_words.specs.Controls.{ForwardsPin, LeadsTo, PermitsPin, demoted_word, generation_of, invalid_word, pins_in}
+use Rattle.gt_words.specs.Controls.{ForwardsPin, LeadsTo, PermitsPin, generation_of, pins_in}
 use Rattle.gt_words.specs.Events.{shown_entry}
 use Rattle.gt_words.specs.Rule.{Layout, Shows, header_place, id_at, place}
-use Rattle.gt_words.specs.Steps.{TakesStep, half_index, on_entry, on_header, turned}
-use Rattle.gt_words.specs.Views.{HasBody, IsIn, LivePin, invalid_at, last_of, last_seen, own_body, own_header, own_list, pin_count, pins, record_seen, seen, steps_on, steps_on_header, with_step}
+use Rattle.gt_words.specs.Steps.{TakesStep, changed, changed_word, half_index, on_entry, on_header}
+use Rattle.gt_words.specs.Views.{HasBody, IsIn, LivePin, last_of, last_seen, own_body, own_header, own_list, pin_count, pins, record_seen, seen, steps_on, steps_on_header, with_step}
 use Rattle.gt_words.specs.declared.board.TheConstants.{DOMAIN_WORDS, ENTRY_WORDS}
-use Rattle.gt_words.specs.declared.view.Change.{Change}
+use Rattle.gt_entry.specs.declared.change.Change.{Change}
 use Rattle.gt_words.specs.declared.view.EntryStep.{EntryStep}
 use Rattle.gt_words.specs.declared.view.EntryStep.TheVariants.{ChangeMissed, Changed, PinMissed, Pinned, StoredBody, Unpinned}
-use Rattle.gt_words.specs.declared.view.Half.{Half}
+use Rattle.gt_entry.specs.declared.change.Half.{Half}
 use Rattle.gt_words.specs.declared.view.HeaderStep.{HeaderStep}
-use Rattle.gt_words.specs.declared.view.Record.{Record}
+use Rattle.gt_words.specs.declared.view.EntryRecord.{EntryRecord}
 use Rattle.gt_words.specs.declared.view.View.{View}
 use Rattle.gt_types.specs.declared.config.StartFault.TheVariants as fault
-use Rattle.gt_words.specs.declared.view.Change.TheVariants as change
+use Rattle.gt_entry.specs.declared.change.Change.TheVariants.{Demote, Revoke}
 use Rattle.gt_words.specs.declared.view.HeaderStep.TheVariants as header
 
 -- what clauses see of the words: which table of words it is, and the run that it serves (own)
@@ -69,15 +69,15 @@ abbrev pub IsWide : ℕ → Layout → Type 0
 IsWide words k = (words ≡ k.domains * DOMAIN_WORDS) × (k.domains ≤ 64)
 
 -- the word has the owner's part and the generation of this record, and some pins (own)
-abbrev pub IsWordOf : Record → ℕ → Type 0
+abbrev pub IsWordOf : EntryRecord → ℕ → Type 0
 IsWordOf x word = (reads : ℕ) × (writes : ℕ) × (reads < 4096) × (writes < 4096) × (word ≡ word_of x.entry x.generation reads writes)
 
 -- the word has the owner's part and the generation of this record, and no pins (own)
-abbrev pub IsIdleOf : Record → ℕ → Type 0
+abbrev pub IsIdleOf : EntryRecord → ℕ → Type 0
 IsIdleOf x word = word ≡ idle_word_of x.entry x.generation
 
 -- the word has the owner's part and the generation of this record, and a pin at least (own)
-abbrev pub IsBusyOf : Record → ℕ → Type 0
+abbrev pub IsBusyOf : EntryRecord → ℕ → Type 0
 IsBusyOf x word = (reads : ℕ) × (writes : ℕ) × (reads < 4096) × (writes < 4096) × (word ≡ word_of x.entry x.generation reads writes) × ((reads ≢ 0) ⊎ (writes ≢ 0))
 
 -- the seat's last look at the entry r of the domain t found this word, and it read the body words since (own)
@@ -89,7 +89,7 @@ abbrev pub Holds : ℕ → ℕ → Dir → ℕ → View → Type 0
 Holds t r d g v = (p : LivePin) × IsIn p (pins (steps_on t r v)) × (p.0 ≡ d) × (p.1.generation ≡ g)
 
 -- the view has a pin of that kind of a Via to the entry r of the domain t, which forwarded the seat's domain, and the record x permits the owner of that Via (own, after grant_table.h, transitive)
-pub record PermitsOwnerOfVia (k : Layout) (t r : ℕ) (v : View) (d : Dir) (x : Record) : Type 0 where
+pub record PermitsOwnerOfVia (k : Layout) (t r : ℕ) (v : View) (d : Dir) (x : EntryRecord) : Type 0 where
   pub owner : ℕ
   pub reference : ℕ
   pub via : LivePin
@@ -100,7 +100,7 @@ pub record PermitsOwnerOfVia (k : Layout) (t r : ℕ) (v : View) (d : Dir) (x : 
   pub permits : PermitsPin x.entry (id_at k.ids owner) d
 
 -- the entry r of the domain t, as the record x has it, permits or forwards the seat's domain for that kind, or permits the owner of a Via to it that the view has pinned for that kind (own)
-abbrev pub MayPin : Layout → ℕ → ℕ → View → Dir → Record → Type 0
+abbrev pub MayPin : Layout → ℕ → ℕ → View → Dir → EntryRecord → Type 0
 MayPin k t r v d x = PermitsPin x.entry (id_at k.ids v.position) d ⊎ (ForwardsPin x.entry (id_at k.ids v.position) d ⊎ PermitsOwnerOfVia k t r v d x)
 
 -- no view has a pin of the entry r of the domain t (own)
@@ -138,24 +138,24 @@ pub record AddsToHeader (t : ℕ) (m : HeaderStep) (v w : View) : Type 0 where
   pub entries : (t' r' : ℕ) → steps_on t' r' w ≡ steps_on t' r' v
 
 -- the step m was taken on the control word of the entry r of the domain t, where it found and left these numbers (own)
-pub record Steps (k : Layout) (t r : ℕ) (m : EntryStep) (found left : ℕ) (v w : View) : Type 0 where
+pub record StepsOnControl (k : Layout) (t r : ℕ) (m : EntryStep) (found left : ℕ) (v w : View) : Type 0 where
   pub adds : AddsToEntry t r m v w
   pub step : TakesStep (Unit {0}) k v (on_entry t r m) (place t r 0) found left
 
 -- the step m was taken on the body word h of the entry r of the domain t, where it found and left these numbers (own)
-pub record BodySteps (k : Layout) (t r : ℕ) (h : Half) (m : EntryStep) (found left : ℕ) (v w : View) : Type 0 where
+pub record StepsOnBody (k : Layout) (t r : ℕ) (h : Half) (m : EntryStep) (found left : ℕ) (v w : View) : Type 0 where
   pub adds : AddsToEntry t r m v w
   pub step : TakesStep (Unit {0}) k v (on_entry t r m) (place t r (half_index h)) found left
 
 -- the step m was taken on the header word of the domain t, where it found and left these numbers (own)
-pub record HeaderSteps (k : Layout) (t : ℕ) (m : HeaderStep) (found left : ℕ) (v w : View) : Type 0 where
+pub record StepsOnHeader (k : Layout) (t : ℕ) (m : HeaderStep) (found left : ℕ) (v w : View) : Type 0 where
   pub adds : AddsToHeader t m v w
   pub step : TakesStep (Unit {0}) k v (on_header t m) (header_place t) found left
 
 -- the owner stored this value in the body word h of its entry r, by one step (own)
 pub record StoresBody (k : Layout) (r : ℕ) (h : Half) (value : ℕ) (v w : View) : Type 0 where
   pub found : ℕ
-  pub steps : BodySteps k v.position r h (StoredBody h value) found value v w
+  pub steps : StepsOnBody k v.position r h (StoredBody h value) found value v w
   pub stored : own_body r h w ≡ value
   pub unchanged : own_list r w ≡ own_list r v
   pub pins : KeepsPins v w
@@ -163,7 +163,7 @@ pub record StoresBody (k : Layout) (r : ℕ) (h : Half) (value : ℕ) (v w : Vie
 -- the owner stored this value as its header, by one step (own)
 pub record StoresHeader (k : Layout) (value : ℕ) (v w : View) : Type 0 where
   pub found : ℕ
-  pub steps : HeaderSteps k v.position (header.Stored value) found value v w
+  pub steps : StepsOnHeader k v.position (header.Stored value) found value v w
   pub header : own_header w ≡ value
   pub pins : KeepsPins v w
 
@@ -171,11 +171,11 @@ pub record StoresHeader (k : Layout) (value : ℕ) (v w : View) : Type 0 where
 pub record Unpins (k : Layout) (t r : ℕ) (d : Dir) (g : ℕ) (v w : View) : Type 0 where
   pub found : ℕ
   pub counted : 0 < pins_in d found
-  pub steps : Steps k t r (Unpinned d g) found (found - unit_of d) v w
+  pub steps : StepsOnControl k t r (Unpinned d g) found (found - unit_of d) v w
 
 -- a pin was taken by one step: of the entry as it was last seen, which was then the last record of its owner's list, and which the seat may pin (own)
 pub record Pins (k : Layout) (t r : ℕ) (d : Dir) (word : ℕ) (v w : View) : Type 0 where
-  pub steps : Steps k t r (Pinned d word (record_seen (last_seen t r v))) word (word + unit_of d) v w
+  pub steps : StepsOnControl k t r (Pinned d word (record_seen (last_seen t r v))) word (word + unit_of d) v w
   pub current : (shown_entry k t r steps.step.before).current ≡ record_seen (last_seen t r v)
   pub permitted : MayPin k t r v d (record_seen (last_seen t r v))
   pub held : Holds t r d (generation_of word) w
@@ -183,33 +183,33 @@ pub record Pins (k : Layout) (t r : ℕ) (d : Dir) (word : ℕ) (v w : View) : T
 -- a pin was missed: the word found is another, and the seat has the pins that it had (own)
 pub record MissesPin (k : Layout) (t r : ℕ) (d : Dir) (word found : ℕ) (v w : View) : Type 0 where
   pub another : found ≢ word
-  pub steps : Steps k t r (PinMissed d word found) found found v w
+  pub steps : StepsOnControl k t r (PinMissed d word (word + unit_of d) found) found found v w
   pub not_earlier : IsNotEarlier t r v found
   pub pins : KeepsPins v w
 
--- the owner's exchange was taken, and its last record of the entry r is y now (own)
-pub record Changes (k : Layout) (r : ℕ) (c : Change) (word new : ℕ) (y : Record) (v w : View) : Type 0 where
-  pub steps : Steps k v.position r (Changed c word new y) word new v w
-  pub last : last_of r w ≡ y
+-- the owner's exchange was taken, and its last record of the entry r is what the change makes of the one before (own)
+pub record Changes (k : Layout) (r : ℕ) (c : Change) (word : ℕ) (v w : View) : Type 0 where
+  pub steps : StepsOnControl k v.position r (Changed c word (changed_word c (last_of r v) word) (changed c (last_of r v))) word (changed_word c (last_of r v) word) v w
+  pub last : last_of r w ≡ changed c (last_of r v)
   pub pins : KeepsPins v w
 
 -- the owner's exchange was missed: the word found is another of the same record, and the owner's list is as it was (own)
 pub record MissesChange (k : Layout) (r : ℕ) (c : Change) (word found : ℕ) (v w : View) : Type 0 where
   pub another : found ≢ word
   pub same_record : IsWordOf (last_of r v) found
-  pub steps : Steps k v.position r (ChangeMissed c word found) found found v w
+  pub steps : StepsOnControl k v.position r (ChangeMissed c word (changed_word c (last_of r v) word) found) found found v w
   pub unchanged : own_list r w ≡ own_list r v
   pub not_earlier : IsNotEarlier v.position r v found
   pub pins : KeepsPins v w
 
 -- the entry was made invalid by one exchange, in a state in which no view had a pin of it (own)
 pub record Revokes (k : Layout) (r : ℕ) (word : ℕ) (v w : View) : Type 0 where
-  pub changes : Changes k r change.Revoke word (invalid_word word) (invalid_at (last_of r v).generation) v w
+  pub changes : Changes k r Revoke word v w
   pub no_pins : HasNoPins v.position r changes.steps.step.before
 
 -- the entry was made read-only by one exchange, in a state in which no view had a write pin of it (own)
 pub record Demotes (k : Layout) (r : ℕ) (word : ℕ) (v w : View) : Type 0 where
-  pub changes : Changes k r change.Demote word (demoted_word word) (turned true (last_of r v)) v w
+  pub changes : Changes k r Demote word v w
   pub no_write_pins : HasNoWritePins v.position r changes.steps.step.before
 
 -- why words are not made: the first fault of the configuration, or no memory where it has none (own)

@@ -1,21 +1,21 @@
 -- The state of the core that words and views show, and what each event of the core makes of it.
 use Rattle.std.specs.Prelude.{◌≡◌, ℕ, cond, ◌==◌, ◌&&◌, List, [], ◌∷◌, map, slice_index_or, slice_set}
 use Rattle.atomic_table.specs.Table.{State}
-use Rattle.gt_words.specs.declared.view.Half.TheVariants.{First, Second}
-use Rattle.gt_words.specs.declared.view.Record.{Record}
+use Rattle.gt_entry.specs.declared.change.Half.TheVariants.{First, Second}
+use Rattle.gt_words.specs.declared.view.EntryRecord.{EntryRecord}
 use Rattle.gt_words.specs.declared.view.EntryStep.{EntryStep}
 use Rattle.gt_words.specs.declared.view.EntryStep.TheVariants.{Looked, ReadBody, Pinned, PinMissed, Unpinned, StoredBody, Changed, ChangeMissed}
 use Rattle.gt_words.specs.declared.view.HeaderStep.{HeaderStep}
 use Rattle.gt_words.specs.declared.view.HeaderStep.TheVariants as header
-use Rattle.gt_words.specs.declared.view.Step.{Step}
-use Rattle.gt_words.specs.declared.view.Step.TheVariants.{Entry, Header}
+use Rattle.gt_words.specs.declared.view.SeatStep.{SeatStep}
+use Rattle.gt_words.specs.declared.view.SeatStep.TheVariants.{Entry, Header}
 use Rattle.gt_words.specs.declared.view.View.{View}
 use Rattle.gt_words.specs.Views.{LivePin, pins, without_pin, last_record, stored_body, steps_on, steps_on_header}
 use Rattle.gt_words.specs.Rule.{Layout, owner_steps, header_now}
 
 -- an entry of the core: entry and generation, the body words, and the live pins of each domain (own)
 pub record EntryState : Type 0 where
-  pub current : Record
+  pub current : EntryRecord
   pub first : ℕ
   pub second : ℕ
   pub live : List (List LivePin)
@@ -40,8 +40,8 @@ live_of i x = slice_index_or x.live i []
 abbrev pub entry_after : ℕ → EntryStep → EntryState → EntryState
 entry_after i (Looked n) x = x
 entry_after i (ReadBody h n) x = x
-entry_after i (PinMissed d e n) x = x
-entry_after i (ChangeMissed c e n) x = x
+entry_after i (PinMissed d e f n) x = x
+entry_after i (ChangeMissed c e f n) x = x
 entry_after i (Pinned d e y) x = record x { live = slice_set x.live i ((d, y) ∷ live_of i x) }
 entry_after i (Unpinned d g) x = record x { live = slice_set x.live i (without_pin d g (live_of i x)) }
 entry_after i (StoredBody First n) x = record x { first = n }
@@ -54,17 +54,17 @@ header_after (header.Looked n) w = w
 header_after (header.Stored n) w = n
 
 -- what a step of the domain i makes of the entry r of the domain t: none but a step on it changes it (own)
-abbrev pub event_on_entry : ℕ → Step → ℕ → ℕ → EntryState → EntryState
+abbrev pub event_on_entry : ℕ → SeatStep → ℕ → ℕ → EntryState → EntryState
 event_on_entry i (Entry d q m) t r x = cond ((d == t) && (q == r)) (entry_after i m x) x
 event_on_entry i (Header d m) t r x = x
 
 -- what a step makes of the header of the domain t: none but a step on it changes it (own)
-abbrev pub event_on_header : Step → ℕ → ℕ → ℕ
+abbrev pub event_on_header : SeatStep → ℕ → ℕ → ℕ
 event_on_header (Header d m) t w = cond (d == t) (header_after m w) w
 event_on_header (Entry d q m) t w = w
 
 -- the step x of the domain i takes the state shown before to the one that the event of the core gives (own)
-pub record Happens {S : Type 0} (k : Layout) (i : ℕ) (x : Step) (before after : State S View) : Type 0 where
+pub record Happens {S : Type 0} (k : Layout) (i : ℕ) (x : SeatStep) (before after : State S View) : Type 0 where
   pub entries : (t r : ℕ) → shown_entry k t r after ≡ event_on_entry i x t r (shown_entry k t r before)
   pub headers : (t : ℕ) → shown_header k t after ≡ event_on_header x t (shown_header k t before)
 

@@ -16,9 +16,9 @@ use Rattle.gt_words.specs.declared.board.TheConstants.{DOMAIN_WORDS, ENTRY_WORDS
 use Rattle.gt_words.specs.Controls.{pins_in}
 use Rattle.gt_words.specs.Views.{IsIn, LivePin, Seen, earlier_records, last_record, pin_count, pins, seen, seen_header, steps_on, steps_on_header, stored_body, stored_header, stored_headers, taken_count}
 use Rattle.gt_words.specs.declared.view.EntryStep.{EntryStep}
-use Rattle.gt_words.specs.declared.view.Half.TheVariants.{First, Second}
+use Rattle.gt_entry.specs.declared.change.Half.TheVariants.{First, Second}
 use Rattle.gt_words.specs.declared.view.HeaderStep.{HeaderStep}
-use Rattle.gt_words.specs.declared.view.Record.{Record}
+use Rattle.gt_words.specs.declared.view.EntryRecord.{EntryRecord}
 use Rattle.gt_words.specs.declared.view.View.{View}
 
 -- the run as the words need it: the domains in order, their number, the first generation of all entries, and the first header of each domain (own)
@@ -61,23 +61,23 @@ abbrev pub header_place : ℕ → ℕ
 header_place t = t * DOMAIN_WORDS
 
 -- each part of the record is in its range (own)
-abbrev pub IsRecord : Record → Type 0
+abbrev pub IsRecord : EntryRecord → Type 0
 IsRecord x = IsEntry x.entry × (x.generation < 1048576)
 
 -- x is the record y revoked: invalid, of the same generation (own)
-abbrev pub IsRevocation : Record → Record → Type 0
+abbrev pub IsRevocation : EntryRecord → EntryRecord → Type 0
 IsRevocation x y = (x.entry ≡ Invalid) × (x.generation ≡ y.generation)
 
 -- x is an entry of the next generation: a publication after an invalid record, or the record before with the other readonly (own)
-abbrev pub IsNextEntry : Record → Record → Type 0
+abbrev pub IsNextEntry : EntryRecord → EntryRecord → Type 0
 IsNextEntry x y = (x.generation ≡ y.generation + 1) × (x.entry ≢ Invalid) × ((y.entry ≡ Invalid) ⊎ (x.entry ≡ with_ro (not (is_read_only y.entry)) y.entry))
 
 -- the record x may come next after y (own)
-abbrev pub MayFollow : Record → Record → Type 0
+abbrev pub MayFollow : EntryRecord → EntryRecord → Type 0
 MayFollow x y = IsRevocation x y ⊎ IsNextEntry x y
 
 -- the owner's list, x the last record and behind it the earlier ones: the first is invalid, and each other may come next after the one before it (own)
-abbrev pub IsLawful : Record → List Record → Type 0
+abbrev pub IsLawful : EntryRecord → List EntryRecord → Type 0
 IsLawful x [] = IsRecord x × (x.entry ≡ Invalid)
 IsLawful x (y ∷ ys) = IsRecord x × MayFollow x y × IsLawful y ys
 
@@ -103,8 +103,8 @@ Agrees (Sub d o f y n) a b = IfSome a (λ x. x ≡ f) × IfSome b (λ x. x ≡ y
 Agrees (Via d o t r) a b = IfSome a (λ x. x ≡ t.0 + r.0 * 65536)
 
 -- the word seen spells a record of the owner's list x ∷ xs, and so do the body values read since, if that record is still the last one (own)
-pub record IsSeenOf (x : Record) (xs : List Record) (s : Seen) : Type 0 where
-  pub at : Record
+pub record IsSeenOf (x : EntryRecord) (xs : List EntryRecord) (s : Seen) : Type 0 where
+  pub at : EntryRecord
   pub reads : ℕ
   pub writes : ℕ
   pub listed : IsIn at (x ∷ xs)
@@ -113,12 +113,12 @@ pub record IsSeenOf (x : Record) (xs : List Record) (s : Seen) : Type 0 where
   pub agrees : x ≡ at → Agrees at.entry s.first s.second
 
 -- what a seat saw last, if anything, is of the owner's list x ∷ xs (own)
-abbrev pub SawRecord : Record → List Record → Option Seen → Type 0
+abbrev pub SawRecord : EntryRecord → List EntryRecord → Option Seen → Type 0
 SawRecord x xs None = Unit {0}
 SawRecord x xs (Some s) = IsSeenOf x xs s
 
 -- the words of one entry and the steps of each seat on it show the last record x, after the records xs (own)
-pub record ShowsRecord (x : Record) (xs : List Record) (word a b : ℕ) (hs : List (List EntryStep)) : Type 0 where
+pub record ShowsRecord (x : EntryRecord) (xs : List EntryRecord) (word a b : ℕ) (hs : List (List EntryStep)) : Type 0 where
   -- owner part and generation of the control word spell the last record, and its counts are the sums of the views' pins
   pub spelled : word ≡ word_of x.entry x.generation (total_pins Read hs) (total_pins Write hs)
   pub in_range : (total_pins Read hs < 4096) × (total_pins Write hs < 4096)

@@ -1,32 +1,34 @@
 -- One atomic step: what it adds to its seat's view, and the state that it was taken in.
-use Rattle.std.specs.Prelude.{◌≡◌, ℕ, ◌+◌, ◌-◌, ◌%◌, ◌^◌, Bool, true, false, cond, ◌==◌, [], slice_index}
+use Rattle.std.specs.Prelude.{◌≡◌, ℕ, ◌+◌, ◌-◌, ◌%◌, ◌^◌, cond, ◌==◌, [], slice_index}
 use mathlib.Core.Option.{some}
 use lib.ListN.{get_elem?}
 use prog.Atomic.{either}
 use Rattle.atomic_table.specs.Table.{State, Me, Step as TableStep, stepped, keeps}
-use Rattle.gt_entry.specs.Entries.{with_ro}
+use Rattle.gt_entry.specs.Changes.{changed_entry, raise_of}
+use Rattle.gt_entry.specs.Spelling.{idle_word_of}
 use Rattle.gt_entry.specs.Words.{unit_of}
-use Rattle.gt_entry.specs.declared.entry.Entry.{Entry}
+use Rattle.gt_entry.specs.declared.change.Change.{Change}
 use Rattle.gt_types.specs.declared.Dir.{Dir}
+use Rattle.gt_words.specs.Controls.{demoted_word, invalid_word, promoted_word}
 use Rattle.gt_words.specs.Events.{Happens}
 use Rattle.gt_words.specs.Rule.{Layout, Shows}
-use Rattle.gt_words.specs.Views.{invalid_at, last_of, last_seen, record_seen, with_step}
+use Rattle.gt_words.specs.Views.{last_of, last_seen, record_seen, with_step}
 use Rattle.gt_words.specs.declared.view.EntryStep.{EntryStep}
 use Rattle.gt_words.specs.declared.view.EntryStep.TheVariants.{ChangeMissed, Changed, Looked, PinMissed, Pinned, ReadBody, StoredBody, Unpinned}
-use Rattle.gt_words.specs.declared.view.Half.{Half}
-use Rattle.gt_words.specs.declared.view.Half.TheVariants.{First, Second}
+use Rattle.gt_entry.specs.declared.change.Half.{Half}
+use Rattle.gt_entry.specs.declared.change.Half.TheVariants.{First, Second}
 use Rattle.gt_words.specs.declared.view.HeaderStep.{HeaderStep}
 use Rattle.gt_words.specs.declared.view.Purpose.{Purpose}
-use Rattle.gt_words.specs.declared.view.Record.{Record}
-use Rattle.gt_words.specs.declared.view.Step.{Step}
+use Rattle.gt_words.specs.declared.view.EntryRecord.{EntryRecord}
+use Rattle.gt_words.specs.declared.view.SeatStep.{SeatStep}
 use Rattle.gt_words.specs.declared.view.View.{View}
-use Rattle.gt_words.specs.declared.view.Change.TheVariants as change
+use Rattle.gt_entry.specs.declared.change.Change.TheVariants as change
 use Rattle.gt_words.specs.declared.view.Purpose.TheVariants as purpose
 use Rattle.gt_words.specs.declared.view.HeaderStep.TheVariants as header
-use Rattle.gt_words.specs.declared.view.Step.TheVariants as step_of
+use Rattle.gt_words.specs.declared.view.SeatStep.TheVariants as step_of
 
 -- the seat with the view v takes the step x on this word, where it finds and leaves these numbers: words and views show a state before it and after it, and it takes the one to what the core's event makes of it (own)
-pub record TakesStep (S : Type 0) (k : Layout) (v : View) (x : Step) (word found left : ℕ) : Type 0 where
+pub record TakesStep (S : Type 0) (k : Layout) (v : View) (x : SeatStep) (word found left : ℕ) : Type 0 where
   pub before : State S View
   pub shown : Shows k before
   pub mine : get_elem? before.views v.position ≡ some v
@@ -35,17 +37,17 @@ pub record TakesStep (S : Type 0) (k : Layout) (v : View) (x : Step) (word found
   pub happens : Happens k v.position x before (stepped before word left v.position [] (with_step x v) keeps)
 
 -- a step on the entry r of the domain t (own)
-abbrev pub on_entry : ℕ → ℕ → EntryStep → Step
+abbrev pub on_entry : ℕ → ℕ → EntryStep → SeatStep
 on_entry t r m = step_of.Entry t r m
 
 -- a step on the header of the domain t (own)
-abbrev pub on_header : ℕ → HeaderStep → Step
+abbrev pub on_header : ℕ → HeaderStep → SeatStep
 on_header t m = step_of.Header t m
 
 -- a kind of step: the step by the number found, and the number that it leaves (own)
 pub record StepKind : Type 0 where
   pub layout : Layout
-  pub step : ℕ → Step
+  pub step : ℕ → SeatStep
   pub leaves : ℕ → ℕ
 
 -- what a step of this kind tells its caller: its view gained the step, which was taken on words and views that show a state (own)
@@ -86,33 +88,30 @@ looking_at_header k t = record { layout = k; step = λ n. on_header t (header.Lo
 abbrev pub storing_header : Layout → ℕ → ℕ → StepKind
 storing_header k t w = record { layout = k; step = λ n. on_header t (header.Stored w); leaves = λ n. w }
 
--- the record after a publication: this entry, at the next generation (own)
-abbrev pub published : Entry → Record → Record
-published e x = record { generation = x.generation + 1; entry = e }
+-- the record after an owner's change (own)
+abbrev pub changed : Change → EntryRecord → EntryRecord
+changed c x = record { generation = x.generation + raise_of c; entry = changed_entry c x.entry }
 
--- the record after a demotion or promotion: the same entry with this readonly, at the next generation (own)
-abbrev pub turned : Bool → Record → Record
-turned o x = record { generation = x.generation + 1; entry = with_ro o x.entry }
+-- the word that an owner's exchange stores in place of this one, where the last record is x: the idle word of the entry published, at the next generation; the invalid one of the same generation; or the same with the other readonly, at the next generation (own)
+abbrev pub changed_word : Change → EntryRecord → ℕ → ℕ
+changed_word (change.Publish e) x word = idle_word_of e (x.generation + 1)
+changed_word change.Revoke x word = invalid_word word
+changed_word change.Demote x word = demoted_word word
+changed_word change.Promote x word = promoted_word word
 
 -- the step of an exchange that is taken (own)
 abbrev pub taken : ℕ → ℕ → View → Purpose → ℕ → ℕ → EntryStep
 taken t r v (purpose.Pin d) old new = Pinned d old (record_seen (last_seen t r v))
-taken t r v (purpose.Publish e) old new = Changed change.Publish old new (published e (last_of r v))
-taken t r v purpose.Revoke old new = Changed change.Revoke old new (invalid_at (last_of r v).generation)
-taken t r v purpose.Demote old new = Changed change.Demote old new (turned true (last_of r v))
-taken t r v purpose.Promote old new = Changed change.Promote old new (turned false (last_of r v))
+taken t r v (purpose.Change c) old new = Changed c old new (changed c (last_of r v))
 
 -- the step of an exchange that is missed (own)
-abbrev pub missed : Purpose → ℕ → ℕ → EntryStep
-missed (purpose.Pin d) old n = PinMissed d old n
-missed (purpose.Publish e) old n = ChangeMissed change.Publish old n
-missed purpose.Revoke old n = ChangeMissed change.Revoke old n
-missed purpose.Demote old n = ChangeMissed change.Demote old n
-missed purpose.Promote old n = ChangeMissed change.Promote old n
+abbrev pub missed : Purpose → ℕ → ℕ → ℕ → EntryStep
+missed (purpose.Pin d) old new n = PinMissed d old new n
+missed (purpose.Change c) old new n = ChangeMissed c old new n
 
 -- an exchange of a control word: taken, and the word is the new one, exactly where the one expected is found (C11 atomics: atomic_compare_exchange_strong)
 abbrev pub exchanging : Layout → ℕ → ℕ → View → Purpose → ℕ → ℕ → StepKind
-exchanging k t r v p old new = entry_kind k t r (λ n. cond (n == old) (taken t r v p old new) (missed p old n)) (λ n. either (n == old) new n)
+exchanging k t r v p old new = entry_kind k t r (λ n. cond (n == old) (taken t r v p old new) (missed p old new n)) (λ n. either (n == old) new n)
 
 -- the index of a body word among the words of an entry (own)
 abbrev pub half_index : Half → ℕ

@@ -3,15 +3,15 @@ use Rattle.std.specs.Prelude.{◌≡◌, ◌⊎◌, ℕ, ◌+◌, Bool, true, fa
 use Rattle.gt_types.specs.declared.Dir.{Dir}
 use Rattle.gt_types.specs.declared.Dir.TheVariants.{Read, Write}
 use Rattle.gt_entry.specs.declared.entry.Entry.TheVariants as entries
-use Rattle.gt_words.specs.declared.view.Half.{Half}
-use Rattle.gt_words.specs.declared.view.Half.TheVariants.{First, Second}
-use Rattle.gt_words.specs.declared.view.Record.{Record}
+use Rattle.gt_entry.specs.declared.change.Half.{Half}
+use Rattle.gt_entry.specs.declared.change.Half.TheVariants.{First, Second}
+use Rattle.gt_words.specs.declared.view.EntryRecord.{EntryRecord}
 use Rattle.gt_words.specs.declared.view.EntryStep.{EntryStep}
 use Rattle.gt_words.specs.declared.view.EntryStep.TheVariants.{Looked, ReadBody, Pinned, PinMissed, Unpinned, StoredBody, Changed, ChangeMissed}
 use Rattle.gt_words.specs.declared.view.HeaderStep.{HeaderStep}
 use Rattle.gt_words.specs.declared.view.HeaderStep.TheVariants as header
-use Rattle.gt_words.specs.declared.view.Step.{Step}
-use Rattle.gt_words.specs.declared.view.Step.TheVariants.{Entry, Header}
+use Rattle.gt_words.specs.declared.view.SeatStep.{SeatStep}
+use Rattle.gt_words.specs.declared.view.SeatStep.TheVariants.{Entry, Header}
 use Rattle.gt_words.specs.declared.view.View.{View}
 use Rattle.gt_entry.specs.declared.control.Kind.TheVariants.{Sub as KindSub}
 use Rattle.gt_entry.specs.Spelling.{entry_of}
@@ -24,7 +24,7 @@ IsIn a [] = ⊥
 IsIn a (x ∷ xs) = (a ≡ x) ⊎ IsIn a xs
 
 -- out of a list of steps, those on the entry r of the domain t (own)
-abbrev pub entry_steps : ℕ → ℕ → List Step → List EntryStep
+abbrev pub entry_steps : ℕ → ℕ → List SeatStep → List EntryStep
 entry_steps t r [] = []
 entry_steps t r (Entry d q m ∷ xs) = cond ((d == t) && (q == r)) (m ∷ entry_steps t r xs) (entry_steps t r xs)
 entry_steps t r (Header d m ∷ xs) = entry_steps t r xs
@@ -34,7 +34,7 @@ abbrev pub steps_on : ℕ → ℕ → View → List EntryStep
 steps_on t r v = entry_steps t r v.steps
 
 -- out of a list of steps, those on the header of the domain t (own)
-abbrev pub header_steps : ℕ → List Step → List HeaderStep
+abbrev pub header_steps : ℕ → List SeatStep → List HeaderStep
 header_steps t [] = []
 header_steps t (Header d m ∷ xs) = cond (d == t) (m ∷ header_steps t xs) (header_steps t xs)
 header_steps t (Entry d q m ∷ xs) = header_steps t xs
@@ -44,12 +44,12 @@ abbrev pub steps_on_header : ℕ → View → List HeaderStep
 steps_on_header t v = header_steps t v.steps
 
 -- the view after one more step (own)
-abbrev pub with_step : Step → View → View
+abbrev pub with_step : SeatStep → View → View
 with_step x v = record v { steps = x ∷ v.steps }
 
 -- a live pin of an entry: its kind, and the generation and entry that it was taken from (own)
 abbrev pub LivePin : Type 0
-LivePin = Dir × Record
+LivePin = Dir × EntryRecord
 
 -- both are read, or both are write (own)
 abbrev pub is_same_dir : Dir → Dir → Bool
@@ -87,23 +87,23 @@ taken_count d (Pinned c _ x ∷ ms) = weight d c + taken_count d ms
 taken_count d (_ ∷ ms) = taken_count d ms
 
 -- an invalid entry at this generation, as each entry begins (own)
-abbrev pub invalid_at : ℕ → Record
+abbrev pub invalid_at : ℕ → EntryRecord
 invalid_at g = record { generation = g; entry = entries.Invalid }
 
 -- the last record of the owner's list, which begins invalid at the generation g (own)
-abbrev pub last_record : ℕ → List EntryStep → Record
+abbrev pub last_record : ℕ → List EntryStep → EntryRecord
 last_record g [] = invalid_at g
 last_record g (Changed _ _ _ x ∷ ms) = x
 last_record g (_ ∷ ms) = last_record g ms
 
 -- the records before the last one (own)
-abbrev pub earlier_records : ℕ → List EntryStep → List Record
+abbrev pub earlier_records : ℕ → List EntryStep → List EntryRecord
 earlier_records g [] = []
 earlier_records g (Changed _ _ _ x ∷ ms) = last_record g ms ∷ earlier_records g ms
 earlier_records g (_ ∷ ms) = earlier_records g ms
 
 -- the owner's list of records, the last one first (own)
-abbrev pub own : ℕ → List EntryStep → List Record
+abbrev pub own : ℕ → List EntryStep → List EntryRecord
 own g ms = last_record g ms ∷ earlier_records g ms
 
 -- both are the first body word, or both the second (own)
@@ -156,8 +156,8 @@ with_body Second v (Some s) = Some (record s { second = Some v })
 abbrev pub seen : List EntryStep → Option Seen
 seen [] = None
 seen (Looked w ∷ ms) = seen_word w
-seen (PinMissed _ _ w ∷ ms) = seen_word w
-seen (ChangeMissed _ _ w ∷ ms) = seen_word w
+seen (PinMissed _ _ _ w ∷ ms) = seen_word w
+seen (ChangeMissed _ _ _ w ∷ ms) = seen_word w
 seen (ReadBody h v ∷ ms) = with_body h v (seen ms)
 seen (_ ∷ ms) = seen ms
 
@@ -167,7 +167,7 @@ value_or_zero None = 0
 value_or_zero (Some x) = x
 
 -- the record that was seen: the generation and entry that the words spell (own)
-abbrev pub record_seen : Seen → Record
+abbrev pub record_seen : Seen → EntryRecord
 record_seen s = record { generation = generation_of s.word; entry = entry_of (control_of s.word) (value_or_zero s.first) (value_or_zero s.second) }
 
 -- the body words were read since the look, both for a sub-page (own)
@@ -184,11 +184,11 @@ abbrev pub last_seen : ℕ → ℕ → View → Seen
 last_seen t r v = seen_or_none (seen (steps_on t r v))
 
 -- the owner's last record of its own entry r (own)
-abbrev pub last_of : ℕ → View → Record
+abbrev pub last_of : ℕ → View → EntryRecord
 last_of r v = last_record v.first (steps_on v.position r v)
 
 -- the owner's list of records of its own entry r (own)
-abbrev pub own_list : ℕ → View → List Record
+abbrev pub own_list : ℕ → View → List EntryRecord
 own_list r v = own v.first (steps_on v.position r v)
 
 -- the header of the seat's own domain: the last one that it stored, or the one that it began with (own)

@@ -5,16 +5,16 @@ ghost use prog.Atomic.{either};
 ghost use Rattle.atomic_table.specs.Table.{step, Allows};
 ghost use Rattle.gt_entry.specs.Entries.{IsEntry, is_read_only};
 ghost use Rattle.gt_entry.specs.Spelling.{IsSpelled, idle_word_of};
-ghost use Rattle.gt_words.specs.Controls.{IsValid, IsTurnable, pins_in, generation_of, turned_word, promoted_word};
+ghost use Rattle.gt_words.specs.Controls.{IsValid, IsTurnable, pins_in, generation_of, turned_word};
 ghost use Rattle.gt_words.specs.Views.{stored_body, steps_on, last_of, last_seen, record_seen};
 ghost use Rattle.gt_words.specs.Rule.{Shows, layout_of, place, header_place, IsHeader};
-ghost use Rattle.gt_words.specs.Steps.{StepKind, tells, tells_stored, looking, published, turned, half_index};
-ghost use Rattle.gt_words.specs.Conditions.{CountsPins, IsWide, IsIdleOf, IsWordOf, IsBusyOf, HasLooked, Holds, MayPin, IsNotEarlier, Steps, BodySteps, HeaderSteps, StoresBody, StoresHeader, KeepsPins, Unpins, Pins, MissesPin, Changes, MissesChange, Revokes, Demotes};
+ghost use Rattle.gt_words.specs.Steps.{StepKind, tells, tells_stored, looking, half_index};
+ghost use Rattle.gt_words.specs.Conditions.{CountsPins, IsWide, IsIdleOf, IsWordOf, IsBusyOf, HasLooked, Holds, MayPin, IsNotEarlier, StepsOnControl, StepsOnBody, StepsOnHeader, StoresBody, StoresHeader, KeepsPins, Unpins, Pins, MissesPin, Changes, MissesChange, Revokes, Demotes};
 ghost use Rattle.gt_words.specs.Places.{new_view, IsSamePlace};
 
-use crate::view::{Change, EntryStep, Half, HeaderStep, Purpose, View};
+use crate::view::{EntryStep, HeaderStep, Purpose, View};
 use atomic_table::{Play, Seat, Shared, Table, TableRule};
-use gt_entry::{Control, Entry, pin_unit};
+use gt_entry::{Change, Control, Entry, Half, pin_unit};
 use gt_types::{Config, Dir, LAST_GENERATION, MAX_PINS, TABLE_ENTRIES};
 use std::alloc::Global;
 use std::marker::{Brand, PhantomData};
@@ -67,7 +67,7 @@ impl<J: OfKind> Play<(), View> for TellsStore<J> {
 /// A seat of the table, which holds no slot.
 pub type Place = Seat<(), View>;
 
-type Board = Shared<(), View, Config, Entries>;
+type Cells = Shared<(), View, Config, Entries>;
 
 /// The words of all entries and headers.
 #[derive(Drop)]
@@ -77,28 +77,28 @@ pub struct WordTable {
 }
 
 // One load of a word of an entry.
-fn load_word<J: OfKind>(board: &Board, seat: &mut Place, at: usize, gref: usize, word: usize) -> u64
-    requires fits { (seat.old.table_id ≡ board.now.table_id) × IsWide board.now.table_id.words (layout_of board.now.key) × (at < length board.now.key.domains.items) × (gref < TABLE_ENTRIES) × (word < 3) }
-    requires allowed { Allows (Shows (layout_of board.now.key)) board.now.table_id.slots seat.old.id seat.old.me (place at gref word) (λ n. n) (tells J.kind (step board.now.table_id.slots (place at gref word) 0 0 none) seat.old.me) }
-    ensures { (seat.new.table_id ≡ seat.old.table_id) × (seat.new.id ≡ seat.old.id) × tells J.kind (step board.now.table_id.slots (place at gref word) 0 0 none) seat.old.me result seat.new.me }
+fn load_word<J: OfKind>(cells: &Cells, seat: &mut Place, at: usize, gref: usize, word: usize) -> u64
+    requires fits { (seat.old.table_id ≡ cells.now.table_id) × IsWide cells.now.table_id.words (layout_of cells.now.key) × (at < length cells.now.key.domains.items) × (gref < TABLE_ENTRIES) × (word < 3) }
+    requires allowed { Allows (Shows (layout_of cells.now.key)) cells.now.table_id.slots seat.old.id seat.old.me (place at gref word) (λ n. n) (tells J.kind (step cells.now.table_id.slots (place at gref word) 0 0 none) seat.old.me) }
+    ensures { (seat.new.table_id ≡ seat.old.table_id) × (seat.new.id ≡ seat.old.id) × tells J.kind (step cells.now.table_id.slots (place at gref word) 0 0 none) seat.old.me result seat.new.me }
 {
-    board.load::<Tells<J>>(seat, (at * DOMAIN_ROWS + (gref + 1)) * ENTRY_WORDS + word)
+    cells.load::<Tells<J>>(seat, (at * DOMAIN_ROWS + (gref + 1)) * ENTRY_WORDS + word)
 }
 
 // One store of a word of an entry.
 fn store_word<J: OfKind>(
-    board: &Board,
+    cells: &Cells,
     seat: &mut Place,
     at: usize,
     gref: usize,
     word: usize,
     new: u64,
 )
-    requires fits { (seat.old.table_id ≡ board.now.table_id) × IsWide board.now.table_id.words (layout_of board.now.key) × (at < length board.now.key.domains.items) × (gref < TABLE_ENTRIES) × (word < 3) }
-    requires allowed { Allows (Shows (layout_of board.now.key)) board.now.table_id.slots seat.old.id seat.old.me (place at gref word) (λ _. new) (λ _. tells_stored J.kind (step board.now.table_id.slots (place at gref word) new 0 none) seat.old.me) }
-    ensures { (seat.new.table_id ≡ seat.old.table_id) × (seat.new.id ≡ seat.old.id) × tells_stored J.kind (step board.now.table_id.slots (place at gref word) new 0 none) seat.old.me seat.new.me }
+    requires fits { (seat.old.table_id ≡ cells.now.table_id) × IsWide cells.now.table_id.words (layout_of cells.now.key) × (at < length cells.now.key.domains.items) × (gref < TABLE_ENTRIES) × (word < 3) }
+    requires allowed { Allows (Shows (layout_of cells.now.key)) cells.now.table_id.slots seat.old.id seat.old.me (place at gref word) (λ _. new) (λ _. tells_stored J.kind (step cells.now.table_id.slots (place at gref word) new 0 none) seat.old.me) }
+    ensures { (seat.new.table_id ≡ seat.old.table_id) × (seat.new.id ≡ seat.old.id) × tells_stored J.kind (step cells.now.table_id.slots (place at gref word) new 0 none) seat.old.me seat.new.me }
 {
-    board.store::<TellsStore<J>>(
+    cells.store::<TellsStore<J>>(
         seat,
         (at * DOMAIN_ROWS + (gref + 1)) * ENTRY_WORDS + word,
         new,
@@ -107,7 +107,7 @@ fn store_word<J: OfKind>(
 
 // One exchange of the control word of an entry. Only the proof reads `purpose`.
 fn exchange_word<J: OfKind>(
-    board: &Board,
+    cells: &Cells,
     seat: &mut Place,
     at: usize,
     gref: usize,
@@ -115,12 +115,12 @@ fn exchange_word<J: OfKind>(
     new: u64,
     purpose: Purpose,
 ) -> u64
-    requires fits { (seat.old.table_id ≡ board.now.table_id) × IsWide board.now.table_id.words (layout_of board.now.key) × (at < length board.now.key.domains.items) × (gref < TABLE_ENTRIES) }
-    requires allowed { Allows (Shows (layout_of board.now.key)) board.now.table_id.slots seat.old.id seat.old.me (place at gref 0) (λ n. either (n == old) new n) (tells J.kind (step board.now.table_id.slots (place at gref 0) old new none) seat.old.me) }
-    ensures { (seat.new.table_id ≡ seat.old.table_id) × (seat.new.id ≡ seat.old.id) × tells J.kind (step board.now.table_id.slots (place at gref 0) old new none) seat.old.me result seat.new.me }
+    requires fits { (seat.old.table_id ≡ cells.now.table_id) × IsWide cells.now.table_id.words (layout_of cells.now.key) × (at < length cells.now.key.domains.items) × (gref < TABLE_ENTRIES) }
+    requires allowed { Allows (Shows (layout_of cells.now.key)) cells.now.table_id.slots seat.old.id seat.old.me (place at gref 0) (λ n. either (n == old) new n) (tells J.kind (step cells.now.table_id.slots (place at gref 0) old new none) seat.old.me) }
+    ensures { (seat.new.table_id ≡ seat.old.table_id) × (seat.new.id ≡ seat.old.id) × tells J.kind (step cells.now.table_id.slots (place at gref 0) old new none) seat.old.me result seat.new.me }
 {
     let _ = purpose;
-    board.compare_exchange::<Tells<J>>(
+    cells.compare_exchange::<Tells<J>>(
         seat,
         (at * DOMAIN_ROWS + (gref + 1)) * ENTRY_WORDS,
         old,
@@ -130,7 +130,7 @@ fn exchange_word<J: OfKind>(
 
 // One subtraction from the control word of an entry. Only the proof reads `dir` and `generation`.
 fn subtract_from_word<J: OfKind>(
-    board: &Board,
+    cells: &Cells,
     seat: &mut Place,
     at: usize,
     gref: usize,
@@ -138,31 +138,31 @@ fn subtract_from_word<J: OfKind>(
     dir: Dir,
     generation: u64,
 ) -> u64
-    requires fits { (seat.old.table_id ≡ board.now.table_id) × IsWide board.now.table_id.words (layout_of board.now.key) × (at < length board.now.key.domains.items) × (gref < TABLE_ENTRIES) }
-    requires allowed { Allows (Shows (layout_of board.now.key)) board.now.table_id.slots seat.old.id seat.old.me (place at gref 0) (λ n. (n + (2 ^ 64 - one)) % 2 ^ 64) (tells J.kind (step board.now.table_id.slots (place at gref 0) one 0 none) seat.old.me) }
-    ensures { (seat.new.table_id ≡ seat.old.table_id) × (seat.new.id ≡ seat.old.id) × tells J.kind (step board.now.table_id.slots (place at gref 0) one 0 none) seat.old.me result seat.new.me }
+    requires fits { (seat.old.table_id ≡ cells.now.table_id) × IsWide cells.now.table_id.words (layout_of cells.now.key) × (at < length cells.now.key.domains.items) × (gref < TABLE_ENTRIES) }
+    requires allowed { Allows (Shows (layout_of cells.now.key)) cells.now.table_id.slots seat.old.id seat.old.me (place at gref 0) (λ n. (n + (2 ^ 64 - one)) % 2 ^ 64) (tells J.kind (step cells.now.table_id.slots (place at gref 0) one 0 none) seat.old.me) }
+    ensures { (seat.new.table_id ≡ seat.old.table_id) × (seat.new.id ≡ seat.old.id) × tells J.kind (step cells.now.table_id.slots (place at gref 0) one 0 none) seat.old.me result seat.new.me }
 {
     let _ = dir;
     let _ = generation;
-    board.fetch_sub::<Tells<J>>(seat, (at * DOMAIN_ROWS + (gref + 1)) * ENTRY_WORDS, one)
+    cells.fetch_sub::<Tells<J>>(seat, (at * DOMAIN_ROWS + (gref + 1)) * ENTRY_WORDS, one)
 }
 
 // One load of a header word.
-fn load_header_word<J: OfKind>(board: &Board, seat: &mut Place, at: usize) -> u64
-    requires fits { (seat.old.table_id ≡ board.now.table_id) × IsWide board.now.table_id.words (layout_of board.now.key) × (at < length board.now.key.domains.items) }
-    requires allowed { Allows (Shows (layout_of board.now.key)) board.now.table_id.slots seat.old.id seat.old.me (header_place at) (λ n. n) (tells J.kind (step board.now.table_id.slots (header_place at) 0 0 none) seat.old.me) }
-    ensures { (seat.new.table_id ≡ seat.old.table_id) × (seat.new.id ≡ seat.old.id) × tells J.kind (step board.now.table_id.slots (header_place at) 0 0 none) seat.old.me result seat.new.me }
+fn load_header_word<J: OfKind>(cells: &Cells, seat: &mut Place, at: usize) -> u64
+    requires fits { (seat.old.table_id ≡ cells.now.table_id) × IsWide cells.now.table_id.words (layout_of cells.now.key) × (at < length cells.now.key.domains.items) }
+    requires allowed { Allows (Shows (layout_of cells.now.key)) cells.now.table_id.slots seat.old.id seat.old.me (header_place at) (λ n. n) (tells J.kind (step cells.now.table_id.slots (header_place at) 0 0 none) seat.old.me) }
+    ensures { (seat.new.table_id ≡ seat.old.table_id) × (seat.new.id ≡ seat.old.id) × tells J.kind (step cells.now.table_id.slots (header_place at) 0 0 none) seat.old.me result seat.new.me }
 {
-    board.load::<Tells<J>>(seat, at * DOMAIN_WORDS)
+    cells.load::<Tells<J>>(seat, at * DOMAIN_WORDS)
 }
 
 // One store of a header word.
-fn store_header_word<J: OfKind>(board: &Board, seat: &mut Place, at: usize, new: u64)
-    requires fits { (seat.old.table_id ≡ board.now.table_id) × IsWide board.now.table_id.words (layout_of board.now.key) × (at < length board.now.key.domains.items) }
-    requires allowed { Allows (Shows (layout_of board.now.key)) board.now.table_id.slots seat.old.id seat.old.me (header_place at) (λ _. new) (λ _. tells_stored J.kind (step board.now.table_id.slots (header_place at) new 0 none) seat.old.me) }
-    ensures { (seat.new.table_id ≡ seat.old.table_id) × (seat.new.id ≡ seat.old.id) × tells_stored J.kind (step board.now.table_id.slots (header_place at) new 0 none) seat.old.me seat.new.me }
+fn store_header_word<J: OfKind>(cells: &Cells, seat: &mut Place, at: usize, new: u64)
+    requires fits { (seat.old.table_id ≡ cells.now.table_id) × IsWide cells.now.table_id.words (layout_of cells.now.key) × (at < length cells.now.key.domains.items) }
+    requires allowed { Allows (Shows (layout_of cells.now.key)) cells.now.table_id.slots seat.old.id seat.old.me (header_place at) (λ _. new) (λ _. tells_stored J.kind (step cells.now.table_id.slots (header_place at) new 0 none) seat.old.me) }
+    ensures { (seat.new.table_id ≡ seat.old.table_id) × (seat.new.id ≡ seat.old.id) × tells_stored J.kind (step cells.now.table_id.slots (header_place at) new 0 none) seat.old.me seat.new.me }
 {
-    board.store::<TellsStore<J>>(seat, at * DOMAIN_WORDS, new)
+    cells.store::<TellsStore<J>>(seat, at * DOMAIN_WORDS, new)
 }
 
 // Where a body word stands among the words of its entry.
@@ -183,7 +183,7 @@ impl WordTable {
         requires domain { at < length self.now.table.shared.key.domains.items }
         ensures header { IsHeader result }
         ensures seat { IsSamePlace seat.old seat.new }
-        ensures step { HeaderSteps (layout_of self.now.table.shared.key) at (HeaderStep.Looked result) result result seat.old.me.0 seat.new.me.0 }
+        ensures step { StepsOnHeader (layout_of self.now.table.shared.key) at (HeaderStep.Looked result) result result seat.old.me.0 seat.new.me.0 }
         ensures pins { KeepsPins seat.old.me.0 seat.new.me.0 }
     {
         load_header_word::<Brand>(&self.table.shared, seat, at)
@@ -205,7 +205,7 @@ impl WordTable {
         requires mine { seat.old.table_id ≡ self.now.table.shared.table_id }
         requires entry { (at < length self.now.table.shared.key.domains.items) × (gref < TABLE_ENTRIES) }
         ensures seat { IsSamePlace seat.old seat.new }
-        ensures step { Steps (layout_of self.now.table.shared.key) at gref (EntryStep.Looked result) result result seat.old.me.0 seat.new.me.0 }
+        ensures step { StepsOnControl (layout_of self.now.table.shared.key) at gref (EntryStep.Looked result) result result seat.old.me.0 seat.new.me.0 }
         ensures not_earlier { IsNotEarlier at gref seat.old.me.0 result }
         ensures own { seat.old.me.0.position ≡ at → IsWordOf (last_of gref seat.new.me.0) result }
         ensures pins { KeepsPins seat.old.me.0 seat.new.me.0 }
@@ -218,7 +218,7 @@ impl WordTable {
         requires mine { seat.old.table_id ≡ self.now.table.shared.table_id }
         requires entry { (at < length self.now.table.shared.key.domains.items) × (gref < TABLE_ENTRIES) }
         ensures seat { IsSamePlace seat.old seat.new }
-        ensures step { BodySteps (layout_of self.now.table.shared.key) at gref half (EntryStep.ReadBody half result) result result seat.old.me.0 seat.new.me.0 }
+        ensures step { StepsOnBody (layout_of self.now.table.shared.key) at gref half (EntryStep.ReadBody half result) result result seat.old.me.0 seat.new.me.0 }
         ensures pins { KeepsPins seat.old.me.0 seat.new.me.0 }
     {
         load_word::<Brand>(&self.table.shared, seat, at, gref, index_of(half))
@@ -303,12 +303,12 @@ impl WordTable {
         requires given { IsEntry entry × (entry ≢ Entry.Invalid) × IsSpelled entry (stored_body Half.First (steps_on at gref seat.old.me.0)) (stored_body Half.Second (steps_on at gref seat.old.me.0)) }
         ensures seat { IsSamePlace seat.old seat.new }
         ensures step { MatchResult result
-            (λ _. Changes (layout_of self.now.table.shared.key) gref Change.Publish word (idle_word_of entry ((last_of gref seat.old.me.0).generation + 1)) (published entry (last_of gref seat.old.me.0)) seat.old.me.0 seat.new.me.0)
-            (λ n. MissesChange (layout_of self.now.table.shared.key) gref Change.Publish word n seat.old.me.0 seat.new.me.0 × IsBusyOf (last_of gref seat.old.me.0) n) }
+            (λ _. Changes (layout_of self.now.table.shared.key) gref (Change.Publish entry) word seat.old.me.0 seat.new.me.0)
+            (λ n. MissesChange (layout_of self.now.table.shared.key) gref (Change.Publish entry) word n seat.old.me.0 seat.new.me.0 × IsBusyOf (last_of gref seat.old.me.0) n) }
         ensures taken { IsOk result }
     {
         let new = idle_word(entry, Control::unpack(word).generation + 1);
-        let purpose = Purpose::Publish(entry);
+        let purpose = Purpose::Change(Change::Publish(entry));
         let found = exchange_word::<Brand>(&self.table.shared, seat, at, gref, word, new, purpose);
         if found == word { Ok(()) } else { Err(found) }
     }
@@ -330,7 +330,7 @@ impl WordTable {
             (λ n. MissesChange (layout_of self.now.table.shared.key) gref Change.Revoke word n seat.old.me.0 seat.new.me.0 × IsBusyOf (last_of gref seat.old.me.0) n) }
     {
         let new = idle_word(Entry::Invalid, Control::unpack(word).generation);
-        let purpose = Purpose::Revoke;
+        let purpose = Purpose::Change(Change::Revoke);
         let found = exchange_word::<Brand>(&self.table.shared, seat, at, gref, word, new, purpose);
         if found == word { Ok(()) } else { Err(found) }
     }
@@ -352,8 +352,8 @@ impl WordTable {
             (λ _. Demotes (layout_of self.now.table.shared.key) gref word seat.old.me.0 seat.new.me.0)
             (λ n. MissesChange (layout_of self.now.table.shared.key) gref Change.Demote word n seat.old.me.0 seat.new.me.0) }
     {
-        let new = turned(word, true);
-        let purpose = Purpose::Demote;
+        let new = turned_over(word, true);
+        let purpose = Purpose::Change(Change::Demote);
         let found = exchange_word::<Brand>(&self.table.shared, seat, at, gref, word, new, purpose);
         if found == word { Ok(()) } else { Err(found) }
     }
@@ -372,11 +372,11 @@ impl WordTable {
         requires readonly { ((last_of gref seat.old.me.0).entry ≢ Entry.Invalid) × (is_read_only (last_of gref seat.old.me.0).entry ≡ true) }
         ensures seat { IsSamePlace seat.old seat.new }
         ensures step { MatchResult result
-            (λ _. Changes (layout_of self.now.table.shared.key) gref Change.Promote word (promoted_word word) (turned false (last_of gref seat.old.me.0)) seat.old.me.0 seat.new.me.0)
+            (λ _. Changes (layout_of self.now.table.shared.key) gref Change.Promote word seat.old.me.0 seat.new.me.0)
             (λ n. MissesChange (layout_of self.now.table.shared.key) gref Change.Promote word n seat.old.me.0 seat.new.me.0) }
     {
-        let new = turned(word, false);
-        let purpose = Purpose::Promote;
+        let new = turned_over(word, false);
+        let purpose = Purpose::Change(Change::Promote);
         let found = exchange_word::<Brand>(&self.table.shared, seat, at, gref, word, new, purpose);
         if found == word { Ok(()) } else { Err(found) }
     }
@@ -391,7 +391,7 @@ pub(crate) fn idle_word(entry: Entry, generation: u32) -> u64
 }
 
 // The same word read-only or writable, at the next generation.
-fn turned(word: u64, readonly: bool) -> u64
+fn turned_over(word: u64, readonly: bool) -> u64
     requires { (generation_of word < LAST_GENERATION) × IsTurnable readonly word }
     ensures { result ≡ turned_word readonly word }
 {

@@ -15,5 +15,5 @@ mod tests;
 mod view;
 mod words;
 
-pub use view::{Change, EntryStep, Half, HeaderStep, Purpose, Record, Step, View};
+pub use view::{EntryRecord, EntryStep, HeaderStep, Purpose, SeatStep, View};
 pub use words::{Pin, Seat, Words};

@@ -5,8 +5,8 @@ ghost use Rattle.gt_words.specs.Views.{last_of, last_seen, record_seen};
 ghost use Rattle.gt_words.specs.Rule.{layout_of, position_in};
 ghost use Rattle.gt_words.specs.Conditions.{IsSeatOf, IsSameSeat, HasLooked, Holds};
 
-use crate::{Half, Pin, Seat, Words};
-use gt_entry::{Control, Entry, Kind};
+use crate::{Pin, Seat, Words};
+use gt_entry::{Control, Entry, Half, Kind};
 use gt_types::{
     Config, Dir, DomId, DomainConfig, GrantRef, LAST_GENERATION, MAX_PINS, Range, StartFault,
     TABLE_ENTRIES, TypeId, Use,

@@ -1,29 +1,13 @@
 //! What a seat knows, as plain data for contracts. No value of it is made when the program runs.
-use gt_entry::Entry;
+use gt_entry::{Change, Entry, Half};
 use gt_types::{Dir, DomId};
 use std::collections::LinkedList;
 
-/// One of the two body words of an entry.
-#[derive(Clone, Copy, Debug, PartialEq, Eq)]
-pub enum Half {
-    First,
-    Second,
-}
-
 /// What an entry was from one change by its owner to the next.
 #[derive(Clone, Copy)]
-pub struct Record {
+pub struct EntryRecord {
     pub generation: u64,
     pub entry: Entry,
-}
-
-/// What the owner's exchange of a control word made of the entry.
-#[derive(Clone, Copy)]
-pub enum Change {
-    Publish,
-    Revoke,
-    Demote,
-    Promote,
 }
 
 /// One step on the words of an entry.
@@ -37,12 +21,13 @@ pub enum EntryStep {
     Pinned {
         dir: Dir,
         expected: u64,
-        record: Record,
+        record: EntryRecord,
     },
-    /// A pin was missed: the word found is another than the one expected.
+    /// A pin was missed: the word found is another than the one expected, and the one desired was not stored.
     PinMissed {
         dir: Dir,
         expected: u64,
+        desired: u64,
         found: u64,
     },
     /// A pin of this kind and generation was given back.
@@ -57,12 +42,13 @@ pub enum EntryStep {
         change: Change,
         expected: u64,
         stored: u64,
-        record: Record,
+        record: EntryRecord,
     },
-    /// The owner's exchange was missed: the word found is another than the one expected.
+    /// The owner's exchange was missed: the word found is another than the one expected, and the one desired was not stored.
     ChangeMissed {
         change: Change,
         expected: u64,
+        desired: u64,
         found: u64,
     },
 }
@@ -78,7 +64,7 @@ pub enum HeaderStep {
 
 /// A step, with the position of the domain among those of the run, and the reference where it is on an entry.
 #[derive(Clone, Copy)]
-pub enum Step {
+pub enum SeatStep {
     Entry(u64, u64, EntryStep),
     Header(u64, HeaderStep),
 }
@@ -87,10 +73,7 @@ pub enum Step {
 #[derive(Clone, Copy)]
 pub enum Purpose {
     Pin(Dir),
-    Publish(Entry),
-    Revoke,
-    Demote,
-    Promote,
+    Change(Change),
 }
 
 /// What a seat knows: which domain's it is, by its position among those of the run, and its own steps, the last first.
@@ -104,5 +87,5 @@ pub struct View {
     pub ids: LinkedList<DomId>,
     /// The number of seats that this one has dealt, its own among them.
     pub dealt: u64,
-    pub steps: LinkedList<Step>,
+    pub steps: LinkedList<SeatStep>,
 }

@@ -4,17 +4,16 @@ ghost use Rattle.gt_types.specs.Config.{IsWithinLimits};
 ghost use Rattle.gt_entry.specs.Words.{header_word};
 ghost use Rattle.gt_entry.specs.Entries.{IsEntry, is_read_only};
 ghost use Rattle.gt_entry.specs.Spelling.{IsSpelled, idle_word_of};
-ghost use Rattle.gt_words.specs.Controls.{IsValid, pins_in, generation_of, promoted_word};
+ghost use Rattle.gt_words.specs.Controls.{IsValid, pins_in, generation_of};
 ghost use Rattle.gt_words.specs.Views.{own_header, own_body, last_of, last_seen, record_seen};
 ghost use Rattle.gt_words.specs.Rule.{layout_of, position_in, IsHeader, version_set, frames_set};
-ghost use Rattle.gt_words.specs.Steps.{published, turned};
-ghost use Rattle.gt_words.specs.Conditions.{IsKeptHeader, Board, SeatOf, IsSeatOf, IsSameSeat, IsNewSeat, IsStartFault, IsIdleOf, IsWordOf, IsBusyOf, HasLooked, Holds, MayPin, CountsPins, IsNotEarlier, Steps, BodySteps, HeaderSteps, StoresBody, StoresHeader, KeepsPins, Unpins, Pins, MissesPin, Changes, MissesChange, Revokes, Demotes};
+ghost use Rattle.gt_words.specs.Conditions.{IsKeptHeader, Board, SeatOf, IsSeatOf, IsSameSeat, IsNewSeat, IsStartFault, IsIdleOf, IsWordOf, IsBusyOf, HasLooked, Holds, MayPin, CountsPins, IsNotEarlier, StepsOnControl, StepsOnBody, StepsOnHeader, StoresBody, StoresHeader, KeepsPins, Unpins, Pins, MissesPin, Changes, MissesChange, Revokes, Demotes};
 
 use crate::board::{Place, WordTable};
 use crate::start::{deal_seats, domain_ids, first_words};
-use crate::view::{Change, EntryStep, Half, HeaderStep};
+use crate::view::{EntryStep, HeaderStep};
 use atomic_table::Table;
-use gt_entry::{Control, Entry, Header};
+use gt_entry::{Change, Control, Entry, Half, Header};
 use gt_types::{
     Config, Dir, DomId, GrantRef, LAST_GENERATION, MAX_PINS, MAX_TABLE_FRAMES, StartFault,
     TABLE_ENTRIES,
@@ -164,7 +163,7 @@ impl Words {
         requires domain { position_in self.now.layout.ids dom < length self.now.layout.ids }
         ensures header { IsHeader result }
         ensures seat { IsSameSeat seat.old seat.new }
-        ensures step { HeaderSteps self.now.layout (position_in self.now.layout.ids dom) (HeaderStep.Looked result) result result seat.old.view seat.new.view }
+        ensures step { StepsOnHeader self.now.layout (position_in self.now.layout.ids dom) (HeaderStep.Looked result) result result seat.old.view seat.new.view }
         ensures pins { KeepsPins seat.old.view seat.new.view }
     {
         let at = self.position(seat, dom);
@@ -202,7 +201,7 @@ impl Words {
         requires seat { IsSeatOf self.now seat.old }
         requires entry { (position_in self.now.layout.ids dom < length self.now.layout.ids) × (gref.0 < TABLE_ENTRIES) }
         ensures seat { IsSameSeat seat.old seat.new }
-        ensures step { Steps self.now.layout (position_in self.now.layout.ids dom) gref.0 (EntryStep.Looked result) result result seat.old.view seat.new.view }
+        ensures step { StepsOnControl self.now.layout (position_in self.now.layout.ids dom) gref.0 (EntryStep.Looked result) result result seat.old.view seat.new.view }
         ensures not_earlier { IsNotEarlier (position_in self.now.layout.ids dom) gref.0 seat.old.view result }
         ensures own { dom ≡ seat.old.dom → IsWordOf (last_of gref.0 seat.new.view) result }
         ensures pins { KeepsPins seat.old.view seat.new.view }
@@ -217,7 +216,7 @@ impl Words {
         requires seat { IsSeatOf self.now seat.old }
         requires entry { (position_in self.now.layout.ids dom < length self.now.layout.ids) × (gref.0 < TABLE_ENTRIES) }
         ensures seat { IsSameSeat seat.old seat.new }
-        ensures step { BodySteps self.now.layout (position_in self.now.layout.ids dom) gref.0 half (EntryStep.ReadBody half result) result result seat.old.view seat.new.view }
+        ensures step { StepsOnBody self.now.layout (position_in self.now.layout.ids dom) gref.0 half (EntryStep.ReadBody half result) result result seat.old.view seat.new.view }
         ensures pins { KeepsPins seat.old.view seat.new.view }
     {
         let at = self.position(seat, dom);
@@ -303,8 +302,8 @@ impl Words {
         requires given { IsEntry entry × (entry ≢ Entry.Invalid) × IsSpelled entry (own_body gref.0 Half.First seat.old.view) (own_body gref.0 Half.Second seat.old.view) }
         ensures seat { IsSameSeat seat.old seat.new }
         ensures step { MatchResult result
-            (λ _. Changes self.now.layout gref.0 Change.Publish word (idle_word_of entry ((last_of gref.0 seat.old.view).generation + 1)) (published entry (last_of gref.0 seat.old.view)) seat.old.view seat.new.view)
-            (λ n. MissesChange self.now.layout gref.0 Change.Publish word n seat.old.view seat.new.view × IsBusyOf (last_of gref.0 seat.old.view) n) }
+            (λ _. Changes self.now.layout gref.0 (Change.Publish entry) word seat.old.view seat.new.view)
+            (λ n. MissesChange self.now.layout gref.0 (Change.Publish entry) word n seat.old.view seat.new.view × IsBusyOf (last_of gref.0 seat.old.view) n) }
         ensures taken { IsOk result }
     {
         let at = seat.position;
@@ -360,7 +359,7 @@ impl Words {
         requires readonly { ((last_of gref.0 seat.old.view).entry ≢ Entry.Invalid) × (is_read_only (last_of gref.0 seat.old.view).entry ≡ true) }
         ensures seat { IsSameSeat seat.old seat.new }
         ensures step { MatchResult result
-            (λ _. Changes self.now.layout gref.0 Change.Promote word (promoted_word word) (turned false (last_of gref.0 seat.old.view)) seat.old.view seat.new.view)
+            (λ _. Changes self.now.layout gref.0 Change.Promote word seat.old.view seat.new.view)
             (λ n. MissesChange self.now.layout gref.0 Change.Promote word n seat.old.view seat.new.view) }
     {
         let at = seat.position;

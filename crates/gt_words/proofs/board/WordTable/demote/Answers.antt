@@ -1,28 +1,24 @@
-use Rattle.std.proofs.Common.{ℕ, subst, true}
+use Rattle.std.proofs.Common.{ℕ, true}
 use Rattle.gt_words.proofs.board.WordTable.demote.Goals as goal
 use Rattle.gt_words.proofs.Owed.{demote_owes}
 use Rattle.gt_words.proofs.Told.{demotes, exchange_missed, exchange_taken, finds_another, turnable}
-use Rattle.gt_words.specs.Conditions.{Steps}
 use Rattle.gt_words.specs.Rule.{layout_of}
-use Rattle.gt_words.specs.Steps.{turned}
 use Rattle.gt_words.specs.Views.{last_of}
-use Rattle.gt_words.specs.declared.view.EntryStep.TheVariants.{Changed}
-use Rattle.gt_words.specs.declared.view.Change.TheVariants as change
+use Rattle.gt_entry.specs.declared.change.Change.TheVariants as change
 use Rattle.gt_words.specs.declared.view.Purpose.TheVariants as purpose
 
-pub turned-new-requires : goal.turned-new-requires
-turned-new-requires c = (c.requires.word.2, turnable true (last_of c.args.gref c.args.seat.now.me.0) c.args.word c.requires.word.0 c.requires.writable.0 c.requires.writable.1)
+pub turned_over-new-requires : goal.turned_over-new-requires
+turned_over-new-requires c = (c.requires.word.2, turnable true (last_of c.args.gref c.args.seat.now.me.0) c.args.word c.requires.word.0 c.requires.writable.0 c.requires.writable.1)
 
 pub exchange_word-found-requires-clause-allowed : goal.exchange_word-found-requires-clause-allowed
-exchange_word-found-requires-clause-allowed c = let b = c.args.self.now.table.shared in demote_owes (layout_of b.key) b.table_id.slots c.args.seat.now.id c.args.seat.now.me c.args.at c.args.gref c.requires.entry.0 c.requires.entry.1 c.requires.mine.1 c.args.word _ c.requires.writable.0 c.requires.word.2 c.requires.writable.1 c.turned-new.ensures
+exchange_word-found-requires-clause-allowed c = let b = c.args.self.now.table.shared in demote_owes (layout_of b.key) b.table_id.slots c.args.seat.now.id c.args.seat.now.me c.args.at c.args.gref c.requires.entry.0 c.requires.entry.1 c.requires.mine.1 c.args.word _ c.requires.writable.0 c.requires.word.2 c.requires.writable.1 c.turned_over-new.ensures
 
 pub returns-then-found-word-clause-step : goal.returns-then-found-word-clause-step
 returns-then-found-word-clause-step c = let k = layout_of c.args.self.now.table.shared.key in let v = c.args.seat.now.me.0 in let w = c.exchange_word-found.new.seat.me.0 in let n : ℕ = c.exchange_word-found.result in let e = c.exchange_word-found.ensures.2 in
-    let z = exchange_taken k c.args.at c.args.gref v purpose.Demote c.args.word c.turned-new.result n w c.if-found-word.true e.1 e.2 in
-    let y = turned true (last_of c.args.gref v) in let f = subst (λ (u : ℕ). Steps k c.args.at c.args.gref (Changed change.Demote c.args.word u y) c.args.word u v w) c.turned-new.ensures z in
-    demotes k c.args.at c.args.gref c.args.word v w c.requires.entry.0 c.requires.entry.1 c.requires.mine.1 c.requires.word.1 f
+    let z = exchange_taken k c.args.at c.args.gref v (purpose.Change change.Demote) c.args.word c.turned_over-new.result n w c.if-found-word.true e.1 e.2 in
+    demotes k c.args.at c.args.gref c.args.word v w c.requires.entry.0 c.requires.entry.1 c.requires.mine.1 c.turned_over-new.result c.turned_over-new.ensures c.requires.word.1 z
 
 pub returns-else-found-word-clause-step : goal.returns-else-found-word-clause-step
 returns-else-found-word-clause-step c = let k = layout_of c.args.self.now.table.shared.key in let v = c.args.seat.now.me.0 in let w = c.exchange_word-found.new.seat.me.0 in let n : ℕ = c.exchange_word-found.result in let e = c.exchange_word-found.ensures.2 in
-    let z = exchange_missed k c.args.at c.args.gref v purpose.Demote c.args.word c.turned-new.result n w c.if-found-word.false e.1 e.2 in
-    finds_another k c.args.at c.args.gref c.args.word v w c.requires.entry.0 c.requires.entry.1 c.requires.mine.1 change.Demote n c.if-found-word.false z
+    let z = exchange_missed k c.args.at c.args.gref v (purpose.Change change.Demote) c.args.word c.turned_over-new.result n w c.if-found-word.false e.1 e.2 in
+    finds_another k c.args.at c.args.gref c.args.word v w c.requires.entry.0 c.requires.entry.1 c.requires.mine.1 change.Demote c.turned_over-new.result n c.turned_over-new.ensures c.if-found-word.false z
