@@ -54,6 +54,14 @@ impl Seat {
     {
         self.dom
     }
+
+    /// The header of its domain's table, as the seat stored it last or began with it.
+    pub fn header(&self) -> Header
+        ensures word { own_header self.now.view ≡ header_word result }
+        ensures kept { IsKeptHeader result }
+    {
+        self.header
+    }
 }
 
 /// The words of all entries and headers of a run.
@@ -192,6 +200,18 @@ impl Words {
     {
         let at = seat.position;
         let header = with_frames(seat.header, frames);
+        self.words.store_header(&mut seat.place, at, header.pack());
+        seat.header = header;
+    }
+
+    /// The owner stores this header.
+    pub fn store_header(&self, seat: &mut Seat, header: Header)
+        requires seat { IsSeatOf self.now seat.old }
+        requires header { IsKeptHeader header }
+        ensures seat { IsSameSeat seat.old seat.new }
+        ensures step { StoresHeader self.now.layout (header_word header) seat.old.view seat.new.view }
+    {
+        let at = seat.position;
         self.words.store_header(&mut seat.place, at, header.pack());
         seat.header = header;
     }

@@ -1,0 +1,93 @@
+-- What a domain keeps, how that agrees with what its seat did, and how its calls are answered.
+use Rattle.std.specs.Prelude.{◌≡◌, ◌⊎◌, ℕ, ◌<◌, Bool, length, List, [], Option, Some, None, Result, Ok, Err}
+use Rattle.gt_types.specs.declared.DomId.{DomId}
+use Rattle.gt_types.specs.declared.TypeId.{TypeId}
+use Rattle.gt_types.specs.declared.Size.{Size}
+use Rattle.gt_types.specs.declared.perms.Perms.{Perms}
+use Rattle.gt_types.specs.declared.config.Config.{Config}
+use Rattle.gt_types.specs.declared.denial.Denial.{Denial}
+use Rattle.gt_types.specs.declared.denial.Rule.TheVariants.{N26}
+use Rattle.gt_types.specs.declared.denial.Facts.TheVariants.{None as NoFacts}
+use Rattle.gt_types.specs.declared.limits.TheConstants.{TABLE_ENTRIES}
+use Rattle.gt_types.specs.Denial.{denial_of}
+use Rattle.gt_entry.specs.Words.{header_of}
+use Rattle.gt_words.specs.Conditions.{Board, IsSeatOf, KeepsPins}
+use Rattle.gt_words.specs.Views.{last_of, own_header, pins, steps_on}
+use Rattle.gt_words.specs.declared.view.View.{View}
+use Rattle.gt_handles.specs.Handles.{Kept, value_of}
+use Rattle.gt_handles.specs.declared.handles.Handle.{Handle}
+use Rattle.gt_calls.specs.declared.action.Verdict.{Verdict}
+use Rattle.gt_calls.specs.declared.action.Verdict.TheVariants.{Granted, Given, Mapped, Refused}
+use Rattle.gt_calls.specs.declared.action.Value.TheVariants.{Frames, Size as SizeTold, Version}
+use Rattle.gt_calls.specs.declared.held.Held.{Held}
+use Rattle.gt_calls.specs.declared.request.Request.{Request}
+use Rattle.gt_calls.specs.Asking.{begun_of}
+use Rattle.gt_calls.specs.Path.{path_of}
+use Rattle.gt_calls.specs.Rules.{CallerKnowledge, knowledge_of, entry_in, generation_in}
+use Rattle.gt_live.specs.declared.domain.Domain.{Domain}
+use Rattle.gt_live.specs.declared.monitor.Monitor.{Monitor}
+use Rattle.gt_live.specs.Mappings.{Adds, HasSoundPins, IsMappingOf, KeepsMappings, PinsAreOf, Releases, values}
+use Rattle.gt_live.specs.Walks.{Called}
+
+-- whose type may do what to whose (XSM FLASK)
+abbrev pub Rights : Type 0
+Rights = TypeId → TypeId → Perms → Bool
+
+-- what a domain knows by itself (own)
+abbrev pub knowledge : Config → Rights → Domain → CallerKnowledge
+knowledge c may d = knowledge_of c.domains.items c.first_gen may d.own.items (header_of (own_header d.seat.view)) d.mappings
+
+-- the domain is of the run of these words and knows its own entries, and its seat has just the pins of its mappings (own)
+pub record IsDomainOf (b : Board) (c : Config) (may : Rights) (d : Domain) : Type 0 where
+  pub seat : IsSeatOf b d.seat
+  pub rows : (r : ℕ) → r < TABLE_ENTRIES → last_of r d.seat.view ≡ record { generation = generation_in c.first_gen d.own.items r; entry = entry_in d.own.items r }
+  pub generations : (r : ℕ) → r < TABLE_ENTRIES → generation_in c.first_gen d.own.items r < 1048576
+  pub all_rows : length d.own.items ≡ TABLE_ENTRIES
+  pub mapped : (h : Handle) (m : Held) → value_of d.mappings h ≡ Some m → IsMappingOf b.layout c.domains.items may d.seat.dom d.seat.view m
+  pub pins : PinsAreOf b.layout d.seat.view d.mappings
+  pub sound : (t r : ℕ) → t < length b.layout.ids → r < TABLE_ENTRIES → HasSoundPins t r d.seat.view
+
+-- the domain came with this monitor (own)
+abbrev pub IsOf : {P : Type 0} → (P → Rights) → Monitor P → Domain → Type 0
+IsOf may m d = IsDomainOf m.words m.config (may m.rights) d
+
+-- what the domain knows by itself, and what the monitor allows (own)
+abbrev pub known : {P : Type 0} → (P → Rights) → Monitor P → Domain → CallerKnowledge
+known may m d = knowledge m.config (may m.rights) d
+
+-- a call of the domain d asked this and was answered so, after which the domain is e: its steps are those of the call's path, each as the words tell it, and the answer is the path's (own)
+abbrev pub Answered : {P : Type 0} → (P → Rights) → Monitor P → Domain → Request → Verdict → Domain → Type 0
+Answered may m d request verdict e = Called m.words.layout (path_of (known may m d) d.seat.dom request) verdict d.seat.view e.seat.view
+
+-- the domain has the mappings and pins that it had (own)
+pub record KeepsPinned (d e : Domain) : Type 0 where
+  pub mappings : KeepsMappings d.mappings e.mappings
+  pub pins : KeepsPins d.seat.view e.seat.view
+
+-- the answer that a verdict gives to a call without a value (own)
+abbrev pub verdict_of : Result (Unit {0}) Denial → Verdict
+verdict_of (Ok done) = Granted
+verdict_of (Err denial) = Refused denial
+
+-- the same of a call that tells a version (grant_table.h)
+abbrev pub verdict_of_version : Result ℕ Denial → Verdict
+verdict_of_version (Ok version) = Given (Version version)
+verdict_of_version (Err denial) = Refused denial
+
+-- of a call that tells a table's size (grant_table.h)
+abbrev pub verdict_of_size : Result Size Denial → Verdict
+verdict_of_size (Ok size) = Given (SizeTold size)
+verdict_of_size (Err denial) = Refused denial
+
+-- and of one that tells how many frames a table then has (grant_table.h)
+abbrev pub verdict_of_frames : Result ℕ Denial → Verdict
+verdict_of_frames (Ok frames) = Given (Frames frames)
+verdict_of_frames (Err denial) = Refused denial
+
+-- A map is answered so: by its path, which ends with the mapping that is kept under the handle answered; or, where no rule stood at its beginning and no memory was there, by N26 after no step (own)
+abbrev pub MapAnswered : {P : Type 0} → (P → Rights) → Monitor P → Domain → Request → Result Handle Denial → Domain → Type 0
+MapAnswered may m d request (Ok handle) e = (p : Held) × Answered may m d request (Mapped p) e × Adds d.mappings e.mappings handle p
+MapAnswered may m d request (Err denial) e =
+    (Answered may m d request (Refused denial) e
+    ⊎ ((denial ≡ denial_of N26 NoFacts) × (begun_of (known may m d) d.seat.dom request ≡ None) × (e.seat.view ≡ d.seat.view)))
+    × KeepsPinned d e

@@ -1,0 +1,36 @@
+-- How calls without waiting are answered.
+use Rattle.gt_calls.specs.declared.request.Asked.{Asked}
+use Rattle.gt_calls.specs.declared.request.Asked.TheVariants as asks
+use Rattle.gt_calls.specs.declared.action.Value.{Value}
+use Rattle.gt_calls.specs.declared.action.Value.TheVariants as values
+use Rattle.gt_calls.specs.declared.action.Verdict.{Verdict}
+use Rattle.gt_calls.specs.declared.action.Verdict.TheVariants.{Granted, Given, Mapped, Refused}
+
+-- the request is one whose steps are all on the words (own)
+abbrev pub WaitsForNobody : Asked → Type 0
+WaitsForNobody (asks.Load handle off len) = ⊥
+WaitsForNobody (asks.Store handle off len) = ⊥
+WaitsForNobody (asks.Peek frame off len) = ⊥
+WaitsForNobody (asks.Poke frame off len) = ⊥
+WaitsForNobody (asks.Copy c) = ⊥
+WaitsForNobody request = Unit {0}
+
+-- the answer is one of this request: a refusal, a mapping to a map, a value to a call that asks it, and else Ok (own)
+abbrev pub IsAnswerTo : Asked → Verdict → Type 0
+IsAnswerTo request (Refused denial) = Unit {0}
+IsAnswerTo (asks.Map dom gref flags) (Mapped p) = Unit {0}
+IsAnswerTo (asks.SetupTable frames) (Given (values.Frames n)) = Unit {0}
+IsAnswerTo (asks.QuerySize dom) (Given (values.Size size)) = Unit {0}
+IsAnswerTo (asks.GetVersion dom) (Given (values.Version version)) = Unit {0}
+IsAnswerTo (asks.Grant gref entry) Granted = Unit {0}
+IsAnswerTo (asks.Revoke gref) Granted = Unit {0}
+IsAnswerTo (asks.Demote gref) Granted = Unit {0}
+IsAnswerTo (asks.Promote gref) Granted = Unit {0}
+IsAnswerTo (asks.Unmap handle) Granted = Unit {0}
+IsAnswerTo (asks.SetVersion version) Granted = Unit {0}
+IsAnswerTo request verdict = ⊥
+
+-- the request is a map (own)
+abbrev pub IsMap : Asked → Type 0
+IsMap (asks.Map dom gref flags) = Unit {0}
+IsMap request = ⊥
