@@ -53,7 +53,7 @@ use Rattle.gt_entry.specs.Entries.{frame_of, is_invalid}
 use Rattle.gt_entry.specs.declared.change.Half.{Half}
 use Rattle.gt_live.specs.Driving.{CanMake, ChangesBy, IsSame, Knows, Leaves, MapsBy, UnpinsBy}
 use Rattle.gt_live.specs.Effects.{effect_of}
-use Rattle.gt_live.specs.Ending.{IsMap, WaitsForNobody}
+use Rattle.gt_live.specs.Ending.{IsHeaderChange, IsMap, IsOwnChange, WaitsForNobody}
 use Rattle.gt_live.specs.Mappings.{HasPin, HasSoundPins, IsOfRun, record_of}
 use Rattle.gt_live.specs.Walks.{IsWalk, Made, after, shown}
 use Rattle.gt_live.proofs.Making.{look-same, same-self, same-then}
@@ -323,11 +323,12 @@ module _ (c : CallerKnowledge) (k : Layout) (caller : DomId) (v : View) (knows :
         serial = may.1;
       }
 
-  left-changed : (q : GrantRef) (change : Change) (w w' : View) → q.0 < 2048 → c.generation q.0 + raise_of change < 1048576 → IsSame v w → (looked : ℕ) → Changes k q.0 change looked w w' → ChangesBy c k q.0 change v w'
-  left-changed q change w w' lt few same looked m =
+  left-changed : (q : GrantRef) (change : Change) (w w' : View) → q.0 < 2048 → c.generation q.0 + raise_of change < 1048576 → IsSame v w → (looked : ℕ) → Changes k q.0 change looked w w' → (request : Asked) → IsOwnChange request → ChangesBy c k request q.0 change v w'
+  left-changed q change w w' lt few same looked m request is =
       let here = row w same q.0 lt in
       let up : min (c.generation q.0 + raise_of change) 1048575 ≡ c.generation q.0 + raise_of change = omega arith in
       record {
+        asked = is;
         before = w;
         same = same;
         inside = lt;
@@ -338,15 +339,19 @@ module _ (c : CallerKnowledge) (k : Layout) (caller : DomId) (v : View) (knows :
       }
 
   -- what the owner's exchange was asked of
-  own-change : (request : Asked) (held : HeldPins) (shown_so : List Seen) (q : GrantRef) (looked : ℕ) (change : Change) → Rests c caller request held shown_so (Makes (Exchange q looked change)) → (q.0 < 2048) × (c.generation q.0 + raise_of change < 1048576)
+  own-change : (request : Asked) (held : HeldPins) (shown_so : List Seen) (q : GrantRef) (looked : ℕ) (change : Change) → Rests c caller request held shown_so (Makes (Exchange q looked change)) → (q.0 < 2048) × (c.generation q.0 + raise_of change < 1048576) × IsOwnChange request
   own-change request held shown_so q looked (Publish e) r =
-      let o = grant-opens request q e r.0 r.1.0 in let lt = in-own q.0 o.in_table in let few = knows.generations q.0 lt in let worn = o.not_worn in (lt, omega (arith, few, worn))
+      let o = grant-opens request q e r.0 r.1.0 in let lt = in-own q.0 o.in_table in let few = knows.generations q.0 lt in let worn = o.not_worn in (lt, omega (arith, few, worn), subst (λ (x : Asked). IsOwnChange x) (sym r.1.0) tt)
   own-change request held shown_so q looked ToInvalid r =
-      let o = opens c caller (asks.Revoke q) (subst (λ (x : Asked). begun c caller x ≡ None) r.1.0 r.0) in let lt = in-own q.0 o.in_table in let few = knows.generations q.0 lt in (lt, omega (arith, few))
+      let o = opens c caller (asks.Revoke q) (subst (λ (x : Asked). begun c caller x ≡ None) r.1.0 r.0) in let lt = in-own q.0 o.in_table in let few = knows.generations q.0 lt in (lt, omega (arith, few), subst (λ (x : Asked). IsOwnChange x) (sym r.1.0) tt)
   own-change request held shown_so q looked ToReadOnly r =
-      let o = opens c caller (asks.Demote q) (subst (λ (x : Asked). begun c caller x ≡ None) r.1.0 r.0) in let lt = in-own q.0 o.in_table in let few = knows.generations q.0 lt in let worn = o.not_worn in (lt, omega (arith, few, worn))
+      let o = opens c caller (asks.Demote q) (subst (λ (x : Asked). begun c caller x ≡ None) r.1.0 r.0) in let lt = in-own q.0 o.in_table in let few = knows.generations q.0 lt in let worn = o.not_worn in (lt, omega (arith, few, worn), subst (λ (x : Asked). IsOwnChange x) (sym r.1.0) tt)
   own-change request held shown_so q looked ToWritable r =
-      let o = opens c caller (asks.Promote q) (subst (λ (x : Asked). begun c caller x ≡ None) r.1.0 r.0) in let lt = in-own q.0 o.in_table in let few = knows.generations q.0 lt in let worn = o.not_worn in (lt, omega (arith, few, worn))
+      let o = opens c caller (asks.Promote q) (subst (λ (x : Asked). begun c caller x ≡ None) r.1.0 r.0) in let lt = in-own q.0 o.in_table in let few = knows.generations q.0 lt in let worn = o.not_worn in (lt, omega (arith, few, worn), subst (λ (x : Asked). IsOwnChange x) (sym r.1.0) tt)
+
+  header-asked : (request : Asked) (version frames : ℕ) → ((request ≡ asks.SetVersion version) × (frames ≡ c.header.frames)) ⊎ ((request ≡ asks.SetupTable frames) × (version ≡ c.header.version)) → IsHeaderChange request
+  header-asked request version frames (inl r) = subst (λ (x : Asked). IsHeaderChange x) (sym r.0) tt
+  header-asked request version frames (inr r) = subst (λ (x : Asked). IsHeaderChange x) (sym r.0) tt
 
   -- a call left its seat by what its last step did
   pub leaves : (request : Asked) (held : HeldPins) (steps : List SeatStep) (s : Step) (x : Seen) (w' : View) → WaitsForNobody request → IsWalk k (path c caller request) v steps → IsSame v (after steps v) → last_first held ≡ []
@@ -355,15 +360,15 @@ module _ (c : CallerKnowledge) (k : Layout) (caller : DomId) (v : View) (knows :
   leaves request held steps (LookControl d q) (Word n) w' waits walk same free r m = same-then v (after steps v) w' same (look-same k (LookControl d q) (Word n) (after steps v) w' m tt)
   leaves request held steps (LookBody d q half) (Word n) w' waits walk same free r m = same-then v (after steps v) w' same (look-same k (LookBody d q half) (Word n) (after steps v) w' m tt)
   leaves request held steps (StoreBody q half n) Nothing w' waits walk same free r m = same-then v (after steps v) w' same (look-same k (StoreBody q half n) Nothing (after steps v) w' m tt)
-  leaves request held steps (StoreHeader version frames) Nothing w' waits walk same free r m = same-then v (after steps v) w' same (look-same k (StoreHeader version frames) Nothing (after steps v) w' m tt)
+  leaves request held steps (StoreHeader version frames) Nothing w' waits walk same free r m = (same-then v (after steps v) w' same (look-same k (StoreHeader version frames) Nothing (after steps v) w' m tt), header-asked request version frames r.1)
   leaves request held steps (Pin p) Taken w' waits walk same free r m = left-pinned request held steps p w' waits walk same r m
   leaves request held steps (Pin p) (Missed n) w' waits walk same free r m = same-then v (after steps v) w' same (look-same k (Pin p) (Missed n) (after steps v) w' m tt)
   leaves request held steps (Unpin p (ByHandle handle)) Nothing w' waits walk same free r m = record { asked = r.1.0; mapping = p; found = r.1.1; before = after steps v; same = same; unpins = m }
   leaves request held steps (Unpin p (ByLeg place)) x w' waits walk same free r m = let some = r.1.held in absurd (cc)
-  leaves request held steps (Exchange q looked (Publish e)) Taken w' waits walk same free r m = let o = own-change request held (shown steps) q looked (Publish e) r in left-changed q (Publish e) (after steps v) w' o.0 o.1 same looked m
-  leaves request held steps (Exchange q looked ToInvalid) Taken w' waits walk same free r m = let o = own-change request held (shown steps) q looked ToInvalid r in left-changed q ToInvalid (after steps v) w' o.0 o.1 same looked m.changes
-  leaves request held steps (Exchange q looked ToReadOnly) Taken w' waits walk same free r m = let o = own-change request held (shown steps) q looked ToReadOnly r in left-changed q ToReadOnly (after steps v) w' o.0 o.1 same looked m.changes
-  leaves request held steps (Exchange q looked ToWritable) Taken w' waits walk same free r m = let o = own-change request held (shown steps) q looked ToWritable r in left-changed q ToWritable (after steps v) w' o.0 o.1 same looked m
+  leaves request held steps (Exchange q looked (Publish e)) Taken w' waits walk same free r m = let o = own-change request held (shown steps) q looked (Publish e) r in left-changed q (Publish e) (after steps v) w' o.0 o.1 same looked m request o.2
+  leaves request held steps (Exchange q looked ToInvalid) Taken w' waits walk same free r m = let o = own-change request held (shown steps) q looked ToInvalid r in left-changed q ToInvalid (after steps v) w' o.0 o.1 same looked m.changes request o.2
+  leaves request held steps (Exchange q looked ToReadOnly) Taken w' waits walk same free r m = let o = own-change request held (shown steps) q looked ToReadOnly r in left-changed q ToReadOnly (after steps v) w' o.0 o.1 same looked m.changes request o.2
+  leaves request held steps (Exchange q looked ToWritable) Taken w' waits walk same free r m = let o = own-change request held (shown steps) q looked ToWritable r in left-changed q ToWritable (after steps v) w' o.0 o.1 same looked m request o.2
   leaves request held steps (Exchange q looked ToInvalid) (Missed n) w' waits walk same free r m = same-then v (after steps v) w' same (look-same k (Exchange q looked ToInvalid) (Missed n) (after steps v) w' m tt)
   leaves request held steps (Exchange q looked ToReadOnly) (Missed n) w' waits walk same free r m = same-then v (after steps v) w' same (look-same k (Exchange q looked ToReadOnly) (Missed n) (after steps v) w' m tt)
   leaves request held steps (Exchange q looked ToWritable) (Missed n) w' waits walk same free r m = same-then v (after steps v) w' same (look-same k (Exchange q looked ToWritable) (Missed n) (after steps v) w' m tt)

@@ -5,3 +5,10 @@ pub mod Sound
 pub mod Rules
 pub mod Can
 pub mod Advancing
+pub mod Counting
+pub mod Inserting
+pub mod RowsKept
+pub mod Kept
+pub mod Knowing
+pub mod Once
+pub mod NewDomain

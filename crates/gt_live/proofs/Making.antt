@@ -81,19 +81,20 @@ quiet-same t r m v w q e = subst (λ (u : View). IsSame v u) (sym e) (record {
   pins = λ t' r'. kept-pins m (entry_steps t' r' v.steps) (q.pins (entry_steps t' r' v.steps)) ((t == t') && (r == r'));
   records = λ r'. kept-record v.first m (entry_steps v.position r' v.steps) (q.record_kept v.first (entry_steps v.position r' v.steps)) ((t == v.position) && (r == r'));
   position = refl;
+  ids = refl;
 })
 
 looked-quiet : (n : ℕ) → IsQuiet (Looked n)
 looked-quiet n = record { pins = λ ms. refl; record_kept = λ g ms. refl }
 
 header-same : (t : ℕ) (m : HeaderStep) (v w : View) → w ≡ with_step (on_header t m) v → IsSame v w
-header-same t m v w e = subst (λ (u : View). IsSame v u) (sym e) (record { pins = λ t' r'. refl; records = λ r'. refl; position = refl })
+header-same t m v w e = subst (λ (u : View). IsSame v u) (sym e) (record { pins = λ t' r'. refl; records = λ r'. refl; position = refl; ids = refl })
 
 pub same-self : (v : View) → IsSame v v
-same-self v = record { pins = λ t r. refl; records = λ r. refl; position = refl }
+same-self v = record { pins = λ t r. refl; records = λ r. refl; position = refl; ids = refl }
 
 pub same-then : (u v w : View) → IsSame u v → IsSame v w → IsSame u w
-same-then u v w a b = record { pins = λ t r. b.pins t r ∙ a.pins t r; records = λ r. b.records r ∙ a.records r; position = b.position ∙ a.position }
+same-then u v w a b = record { pins = λ t r. b.pins t r ∙ a.pins t r; records = λ r. b.records r ∙ a.records r; position = b.position ∙ a.position; ids = b.ids ∙ a.ids }
 
 -- a step that only looks, stores a body word or a header, or misses
 abbrev pub IsLook : Step → Seen → Type 0

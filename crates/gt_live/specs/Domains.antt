@@ -1,5 +1,5 @@
 -- What a domain keeps, how that agrees with what its seat did, and how its calls are answered.
-use Rattle.std.specs.Prelude.{◌≡◌, ◌⊎◌, ℕ, ◌<◌, Bool, length, List, [], Option, Some, None, Result, Ok, Err}
+use Rattle.std.specs.Prelude.{◌≡◌, ◌⊎◌, ℕ, ◌<◌, ◌≤◌, Bool, length, List, [], ◌∷◌, Option, Some, None, Result, Ok, Err}
 use Rattle.gt_types.specs.declared.DomId.{DomId}
 use Rattle.gt_types.specs.declared.TypeId.{TypeId}
 use Rattle.gt_types.specs.declared.Size.{Size}
@@ -11,7 +11,9 @@ use Rattle.gt_types.specs.declared.denial.Facts.TheVariants.{None as NoFacts}
 use Rattle.gt_types.specs.declared.limits.TheConstants.{TABLE_ENTRIES}
 use Rattle.gt_types.specs.Denial.{denial_of}
 use Rattle.gt_entry.specs.Words.{header_of}
-use Rattle.gt_words.specs.Conditions.{Board, IsSeatOf, KeepsPins}
+use Rattle.gt_words.specs.Conditions.{Board, IsSameSeat, IsSeatOf, KeepsPins, Unpins}
+use Rattle.gt_words.specs.Controls.{generation_of}
+use Rattle.gt_words.specs.Rule.{Layout, position_in}
 use Rattle.gt_words.specs.Views.{last_of, own_header, pins, steps_on}
 use Rattle.gt_words.specs.declared.view.View.{View}
 use Rattle.gt_handles.specs.Handles.{Kept, value_of}
@@ -22,11 +24,17 @@ use Rattle.gt_calls.specs.declared.action.Value.TheVariants.{Frames, Size as Siz
 use Rattle.gt_calls.specs.declared.held.Held.{Held}
 use Rattle.gt_calls.specs.declared.request.Request.{Request}
 use Rattle.gt_calls.specs.Asking.{begun_of}
-use Rattle.gt_calls.specs.Path.{path_of}
+use Rattle.gt_calls.specs.Path.{path, path_of}
+use Rattle.gt_calls.specs.Standing.{IsFresh}
+use Rattle.gt_calls.specs.Following.{MakesStep}
+use Rattle.gt_calls.specs.declared.call.Call.{Call}
+use Rattle.gt_calls.specs.declared.request.Asked.{Asked}
+use Rattle.gt_calls.specs.declared.request.Asked.TheVariants as asks
 use Rattle.gt_calls.specs.Rules.{CallerKnowledge, knowledge_of, entry_in, generation_in}
 use Rattle.gt_live.specs.declared.domain.Domain.{Domain}
+use Rattle.gt_live.specs.declared.domain.Left.{Left}
 use Rattle.gt_live.specs.declared.monitor.Monitor.{Monitor}
-use Rattle.gt_live.specs.Mappings.{Adds, HasSoundPins, IsMappingOf, KeepsMappings, PinsAreOf, Releases, values}
+use Rattle.gt_live.specs.Mappings.{Adds, HasSoundPins, IsMappingOf, KeepsMappings, PinsAreOf, Removes}
 use Rattle.gt_live.specs.Walks.{Called}
 
 -- whose type may do what to whose (XSM FLASK)
@@ -91,3 +99,72 @@ MapAnswered may m d request (Err denial) e =
     (Answered may m d request (Refused denial) e
     ⊎ ((denial ≡ denial_of N26 NoFacts) × (begun_of (known may m d) d.seat.dom request ≡ None) × (e.seat.view ≡ d.seat.view)))
     × KeepsPinned d e
+
+-- a call is open, has made no step, and begins with one (own)
+pub record IsOpened (c : CallerKnowledge) (caller : DomId) (call : Call) : Type 0 where
+  pub of_caller : call.caller ≡ caller
+  pub fresh : IsFresh c call
+  pub steps : MakesStep (path c caller call.request [])
+
+-- the seat has gone on, and nothing else has changed yet (own)
+pub record IsUnsettled (d e : Domain) : Type 0 where
+  pub seat : IsSameSeat d.seat e.seat
+  pub own : e.own ≡ d.own
+  pub mappings : e.mappings ≡ d.mappings
+
+-- there is room for the mapping that a map makes (own)
+abbrev pub HasRoomFor : Asked → Kept Held → Type 0
+HasRoomFor (asks.Map dom gref flags) kept = 1 ≤ kept.room
+HasRoomFor request kept = Unit {0}
+
+-- what a call that was answered so made of the mappings: a map added one, an unmap took its own, and all else left mappings and pins as they were (own)
+abbrev pub Settles : Asked → Verdict → Option Handle → Domain → Domain → Type 0
+Settles (asks.Map dom gref flags) (Mapped p) (Some handle) d e = Adds d.mappings e.mappings handle p
+Settles (asks.Map dom gref flags) (Mapped p) None d e = ⊥
+Settles (asks.Unmap handle) Granted other d e = Removes d.mappings e.mappings handle
+Settles request verdict handle d e = KeepsPinned d e
+
+-- Ok, or the refusal (own)
+abbrev pub done_by : Verdict → Result (Unit {0}) Denial
+done_by (Refused denial) = Err denial
+done_by verdict = Ok tt
+
+-- the version that is told, 0 where none is (own)
+abbrev pub version_told : Verdict → Result ℕ Denial
+version_told (Refused denial) = Err denial
+version_told (Given (Version version)) = Ok version
+version_told verdict = Ok 0
+
+-- the size that is told, none where none is (own)
+abbrev pub size_told : Verdict → Result Size Denial
+size_told (Refused denial) = Err denial
+size_told (Given (SizeTold size)) = Ok size
+size_told verdict = Ok (record { frames = 0; max = 0 })
+
+-- the number of frames that is told, 0 where none is (own)
+abbrev pub frames_told : Verdict → Result ℕ Denial
+frames_told (Refused denial) = Err denial
+frames_told (Given (Frames frames)) = Ok frames
+frames_told verdict = Ok 0
+
+-- the pins of the mappings under these handles were given back, one after another, the last handle first, and nothing else was done (own)
+abbrev pub Released : Layout → List Handle → Kept Held → View → Kept Held → View → Type 0
+Released k [] old v new w = (new ≡ old) × (w ≡ v)
+Released k (h ∷ hs) old v new w =
+    (m : Held) × (mid : Kept Held) × (u : View) × Released k hs old v mid u × (value_of mid h ≡ Some m) × Removes mid new h
+    × Unpins k (position_in k.ids m.dom) m.gref.0 m.dir (generation_of m.word) u w
+
+-- A domain has left: the pin of each of its mappings was given back, one after another and nothing else, and its seat has none (own)
+pub record HasLeft (k : Layout) (d : Domain) (l : Left) : Type 0 where
+  pub handles : List Handle
+  pub rest : Kept Held
+  pub released : Released k handles d.mappings d.seat.view rest l.seat.view
+  pub all_given : (h : Handle) → value_of rest h ≡ None
+  pub seat : IsSameSeat d.seat l.seat
+  pub no_pins : (t r : ℕ) → pins (steps_on t r l.seat.view) ≡ []
+
+-- the handle that a map is answered with, or its refusal (own)
+abbrev pub mapped_by : Verdict → Option Handle → Result Handle Denial
+mapped_by (Refused denial) handle = Err denial
+mapped_by verdict (Some handle) = Ok handle
+mapped_by verdict None = Err (denial_of N26 NoFacts)

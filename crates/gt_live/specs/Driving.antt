@@ -42,7 +42,7 @@ use Rattle.gt_live.specs.declared.driving.Effect.{Effect}
 use Rattle.gt_live.specs.declared.driving.Effect.TheVariants.{Nothing, Pinned, Unpinned, Changed, Stored}
 use Rattle.gt_live.specs.Walks.{IsWalk, after, shown}
 use Rattle.gt_live.specs.Effects.{Answers}
-use Rattle.gt_live.specs.Ending.{IsMap}
+use Rattle.gt_live.specs.Ending.{IsHeaderChange, IsMap, IsOwnChange}
 use Rattle.gt_live.specs.Mappings.{IsOfRun, HasPin, HasSoundPins, IsMappingOf, record_of}
 
 -- the seat may make this step of a call (own)
@@ -74,6 +74,7 @@ pub record IsSame (v w : View) : Type 0 where
   pub pins : KeepsPins v w
   pub records : (r : ℕ) → last_of r w ≡ last_of r v
   pub position : w.position ≡ v.position
+  pub ids : w.ids ≡ v.ids
 
 -- a caller knows its own entries, header and pins (own)
 pub record Knows (c : CallerKnowledge) (k : Layout) (caller : DomId) (v : View) : Type 0 where
@@ -99,7 +100,8 @@ pub record MapsBy (c : CallerKnowledge) (k : Layout) (caller : DomId) (request :
   pub serial : c.maps_answered + 1 < 2 ^ 64
 
 -- the owner's change of its entry q was made, after looks alone (own)
-pub record ChangesBy (c : CallerKnowledge) (k : Layout) (q : ℕ) (change : Change) (v w : View) : Type 0 where
+pub record ChangesBy (c : CallerKnowledge) (k : Layout) (request : Asked) (q : ℕ) (change : Change) (v w : View) : Type 0 where
+  pub asked : IsOwnChange request
   pub before : View
   pub same : IsSame v before
   pub inside : q < TABLE_ENTRIES
@@ -122,8 +124,8 @@ abbrev pub Leaves : CallerKnowledge → Layout → DomId → Asked → View → 
 Leaves c k caller request v w Nothing = IsSame v w
 Leaves c k caller request v w (Pinned p) = MapsBy c k caller request p v w
 Leaves c k caller request v w (Unpinned handle) = UnpinsBy c k request handle v w
-Leaves c k caller request v w (Changed gref change) = ChangesBy c k gref.0 change v w
-Leaves c k caller request v w Stored = IsSame v w
+Leaves c k caller request v w (Changed gref change) = ChangesBy c k request gref.0 change v w
+Leaves c k caller request v w Stored = IsSame v w × IsHeaderChange request
 
 -- a call that goes on has only looked, and one that ends left the seat by what it did (own)
 abbrev pub StandsSo : CallerKnowledge → Layout → DomId → Asked → View → View → Effect → Action → Type 0

@@ -34,3 +34,26 @@ IsAnswerTo request verdict = ⊥
 abbrev pub IsMap : Asked → Type 0
 IsMap (asks.Map dom gref flags) = Unit {0}
 IsMap request = ⊥
+
+-- the request changes an entry of the caller's own (own)
+abbrev pub IsOwnChange : Asked → Type 0
+IsOwnChange (asks.Grant gref entry) = Unit {0}
+IsOwnChange (asks.Revoke gref) = Unit {0}
+IsOwnChange (asks.Demote gref) = Unit {0}
+IsOwnChange (asks.Promote gref) = Unit {0}
+IsOwnChange request = ⊥
+
+-- the request changes the caller's header (own)
+abbrev pub IsHeaderChange : Asked → Type 0
+IsHeaderChange (asks.SetVersion version) = Unit {0}
+IsHeaderChange (asks.SetupTable frames) = Unit {0}
+IsHeaderChange request = ⊥
+
+-- the request may be answered so at its beginning: a refusal, or Ok where nothing is left to do (own)
+abbrev pub IsAtOnce : Asked → Verdict → Type 0
+IsAtOnce request (Refused denial) = Unit {0}
+IsAtOnce (asks.Demote gref) Granted = Unit {0}
+IsAtOnce (asks.Promote gref) Granted = Unit {0}
+IsAtOnce (asks.SetVersion version) Granted = Unit {0}
+IsAtOnce (asks.SetupTable frames) (Given (values.Frames n)) = Unit {0}
+IsAtOnce request verdict = ⊥

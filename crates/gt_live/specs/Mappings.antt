@@ -8,7 +8,6 @@ use Rattle.gt_types.specs.declared.limits.TheConstants.{TABLE_ENTRIES}
 use Rattle.gt_entry.specs.declared.entry.Entry.TheVariants.{Invalid}
 use Rattle.gt_entry.specs.Permits.{permits}
 use Rattle.gt_words.specs.Controls.{generation_of}
-use Rattle.gt_words.specs.Conditions.{Unpins}
 use Rattle.gt_words.specs.Rule.{Layout, position_in}
 use Rattle.gt_words.specs.Views.{IsIn, LivePin, is_same_dir, pins, steps_on}
 use Rattle.gt_words.specs.declared.view.EntryRecord.{EntryRecord}
@@ -84,15 +83,3 @@ pub record Removes (old new : Kept Held) (h : Handle) : Type 0 where
   pub given : new.given ≡ old.given
   pub updates : Updates old new h None
   pub spent : KeepsSpent old new
-
--- the mappings, in the order of their keys (own)
-abbrev pub values : List (Option (Slot Held)) → List Held
-values [] = []
-values (None ∷ xs) = values xs
-values (Some s ∷ xs) = s.value ∷ values xs
-
--- the pin of each of these mappings was given back, one after another, and nothing else was done (own)
-abbrev pub Releases : Layout → List Held → View → View → Type 0
-Releases k [] v w = w ≡ v
-Releases k (m ∷ ms) v w =
-    (u : View) × Unpins k (position_in k.ids m.dom) m.gref.0 m.dir (generation_of m.word) v u × Releases k ms u w

@@ -4,7 +4,7 @@
 mod domain;
 mod driving;
 mod monitor;
-// mod start;
+mod start;
 
 pub use domain::Domain;
 pub use monitor::Monitor;
