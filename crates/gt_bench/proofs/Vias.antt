@@ -1,34 +1,21 @@
 -- A transitive entry that is kept pinned.
-use Rattle.std.proofs.Common.{◌≡◌, ◌≢◌, ℕ, ◌<◌, true, ◌==◌, List, length, Option, Some, None, refl, sym, ap, ◌∙◌, subst, arith, inl}
-use Rattle.std.specs.Prelude.{position, unwrap_or}
-use Rattle.std.proofs.lemmas.Bool.Decides.{nat_tests}
-use Rattle.std.proofs.lemmas.List.Quantifiers.{position-Some}
+use Rattle.std.proofs.Common.{◌≡◌, ◌≢◌, ℕ, ◌<◌, true, List, length, refl, sym, ap, ◌∙◌, subst, inl}
 use Rattle.gt_entry.specs.Permits.{forwards}
 use Rattle.gt_entry.specs.declared.entry.Entry.{Entry}
 use Rattle.gt_types.specs.declared.Dir.TheVariants.{Read}
 use Rattle.gt_types.specs.declared.DomId.{DomId}
-use Rattle.gt_words.specs.Conditions.{Board, IsSameSeat, IsSeatOf, Pins, SeatOf}
+use Rattle.gt_words.specs.Conditions.{Board, HasDomain, IsSameSeat, IsSeatOf, Pins, SeatOf}
 use Rattle.gt_words.specs.Controls.{LeadsTo}
+use Rattle.gt_words.specs.Laws.{domain_at}
 use Rattle.gt_words.specs.Rule.{Layout, id_at, position_in}
 use Rattle.gt_words.specs.Views.{IsIn, last_seen, pins, record_seen}
 use Rattle.gt_words.specs.declared.view.EntryStep.{EntryStep}
 use Rattle.gt_words.specs.declared.view.View.{View}
 use Rattle.gt_bench.specs.Mapping.{KeepsVia}
 
-found_at : (xs : List DomId) (d : DomId) (o : Option ℕ) → position (λ (x : DomId). x.0 == d.0) xs ≡ o → unwrap_or o (length xs) < length xs → (id_at xs (unwrap_or o (length xs))).0 ≡ d.0
-found_at xs d None is inside = absurd (omega arith)
-found_at xs d (Some i) is inside = let passes = (position-Some (λ (x : DomId). x.0 == d.0) xs i (record { 0 = 0 }) is).1 in grind (arith, nat_tests)
-
-abbrev numbered : ℕ → DomId
-numbered n = record { 0 = n }
-
--- where a domain is found, it stands
-pub at_position : (xs : List DomId) (d : DomId) → position_in xs d < length xs → id_at xs (position_in xs d) ≡ d
-at_position xs d inside = ap numbered (found_at xs d (position (λ (x : DomId). x.0 == d.0) xs) refl inside)
-
 -- domains with other numbers are found elsewhere
-pub found_apart : (xs : List DomId) (d e : DomId) → position_in xs d < length xs → position_in xs e < length xs → e.0 ≢ d.0 → position_in xs d ≢ position_in xs e
-found_apart xs d e d_inside e_inside apart same = apart (ap (λ (x : DomId). x.0) (sym (at_position xs e e_inside) ∙ (ap (λ (i : ℕ). id_at xs i) (sym same) ∙ at_position xs d d_inside)))
+pub found_apart : (k : Layout) (d e : DomId) → HasDomain k d → HasDomain k e → e.0 ≢ d.0 → position_in k.ids d ≢ position_in k.ids e
+found_apart k d e d_inside e_inside apart same = apart (ap (λ (x : DomId). x.0) (sym (domain_at k e e_inside) ∙ (ap (λ (i : ℕ). id_at k.ids i) (sym same) ∙ domain_at k d d_inside)))
 
 -- the same seat is of the same words
 pub still_seat : (b : Board) (s s' : SeatOf) → IsSeatOf b s → IsSameSeat s s' → IsSeatOf b s'

@@ -1,24 +1,14 @@
 -- What a mapper needs of the entry that it maps.
-use Rattle.std.specs.Prelude.{◌≡◌, ◌≢◌, ◌⊎◌, ℕ, ◌<◌, ◌≤◌, length}
+use Rattle.std.specs.Prelude.{◌≡◌, ◌≢◌, ◌⊎◌, ℕ, ◌≤◌}
 use Rattle.gt_entry.specs.declared.entry.Entry.TheVariants.{Invalid}
 use Rattle.gt_types.specs.declared.Dir.TheVariants.{Read}
 use Rattle.gt_types.specs.declared.DomId.{DomId}
-use Rattle.gt_types.specs.declared.GrantRef.{GrantRef}
-use Rattle.gt_types.specs.declared.limits.TheConstants.{TABLE_ENTRIES}
-use Rattle.gt_words.specs.Conditions.{Board, IsSeatOf, SeatOf}
+use Rattle.gt_words.specs.Conditions.{Board, IsEntryOf, IsSeatOf, SeatOf}
 use Rattle.gt_words.specs.Controls.{ForwardsPin, LeadsTo}
 use Rattle.gt_words.specs.Rule.{Layout, id_at, position_in}
 use Rattle.gt_words.specs.Views.{IsIn, LivePin, last_of, pins, steps_on}
 use Rattle.gt_words.specs.declared.view.View.{View}
 use Rattle.gt_bench.specs.declared.mapper.Target.{Target}
-
--- the domain is one of the run (own)
-abbrev pub HasDomain : Layout → DomId → Type 0
-HasDomain k d = position_in k.ids d < length k.ids
-
--- the reference is in the table of a domain of the run (own)
-abbrev pub IsEntryOf : Board → DomId → GrantRef → Type 0
-IsEntryOf b d q = HasDomain b.layout d × (q.0 < TABLE_ENTRIES)
 
 -- the seat has published no entry from the reference n on (own)
 abbrev pub IsUnusedFrom : ℕ → View → Type 0

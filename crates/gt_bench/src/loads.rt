@@ -2,8 +2,8 @@
 ghost use Rattle.std.specs.Prelude.{◌≡◌, ◌≢◌, ◌+◌, ◌<◌, All, IfOk, IfSome};
 ghost use Rattle.gt_words.specs.Rule.{layout_of};
 ghost use Rattle.gt_words.specs.Views.{last_of};
-ghost use Rattle.gt_words.specs.Conditions.{IsSeatOf, IsSameSeat};
-ghost use Rattle.gt_bench.specs.Mapping.{CanMap, HasDomain, IsUnusedFrom};
+ghost use Rattle.gt_words.specs.Conditions.{HasDomain, IsSameSeat, IsSeatOf};
+ghost use Rattle.gt_bench.specs.Mapping.{CanMap, IsUnusedFrom};
 
 use crate::mapper::{Mapper, Target, map_and_unmap, through_via};
 use crate::owner::{Row, page, publish, revoke_and_grant};

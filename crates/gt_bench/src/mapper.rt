@@ -3,8 +3,8 @@ ghost use Rattle.std.specs.Prelude.{◌≡◌, ◌≢◌, IfSome};
 ghost use Rattle.gt_words.specs.Controls.{IsValid, generation_of};
 ghost use Rattle.gt_words.specs.Views.{last_seen, record_seen};
 ghost use Rattle.gt_words.specs.Rule.{position_in};
-ghost use Rattle.gt_words.specs.Conditions.{IsSeatOf, IsSameSeat, HasLooked, Holds, KeepsPins};
-ghost use Rattle.gt_bench.specs.Mapping.{CanMap, IsEntryOf, MayMap, KeepsPinsBeyond};
+ghost use Rattle.gt_words.specs.Conditions.{HasLooked, Holds, IsEntryOf, IsSameSeat, IsSeatOf, KeepsPins};
+ghost use Rattle.gt_bench.specs.Mapping.{CanMap, MayMap, KeepsPinsBeyond};
 
 use gt_entry::{Control, Entry, Half, Header, Kind};
 use gt_types::{Dir, DomId, GrantRef, MAX_PINS, Range, TABLE_ENTRIES, Use};

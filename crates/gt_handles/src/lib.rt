@@ -12,6 +12,7 @@
 #![tactic(auto)]
 
 mod handles;
+mod laws;
 #[cfg(test)]
 mod tests;
 

@@ -1,5 +1,5 @@
 -- StepsOnControl on a header word keep the rule, and take the shown state to the one that their event gives.
-use Rattle.std.proofs.Common.{◌≡◌, ◌≢◌, ◌⊎◌, inl, inr, ⊎_elim, ℕ, ◌<◌, Bool, true, false, cond, ◌==◌, List, [], ◌∷◌, map, get_or, set, sym, refl, ap, ◌∙◌, subst, arith, length-set, get_or-set_other, get_or-set_same, eq-eqb, ne_eqb, Option, Some, None, IfSome}
+use Rattle.std.proofs.Common.{◌≡◌, ◌≢◌, ◌⊎◌, inl, inr, ⊎_elim, ℕ, ◌*◌, ◌<◌, ◌≤◌, Bool, true, false, cond, ◌==◌, List, [], ◌∷◌, map, get_or, set, sym, refl, ap, ◌∙◌, subst, arith, length-set, get_or-set_other, get_or-set_same, eq-eqb, ne_eqb, Option, Some, None, IfSome, if◌then◌else◌}
 use mathlib.Core.Option.{some, none}
 use mathlib.Core.Logic.{dite}
 use native.Mathlib.Decide.{ℕ_discrete}
@@ -8,12 +8,17 @@ use lib.Seq.{map-set}
 use Rattle.atomic_table.specs.Table.{State, Me, step, stepped, keeps, Allows}
 use Rattle.atomic_table.proofs.Lists.{at_set, set_again, at_map}
 use Rattle.gt_words.proofs.Lists.{whose_at, whose_here}
+use Rattle.gt_words.proofs.Kept.{header_keeps, header_keeps_pins, header_keeps_rows, header_sees}
 use Rattle.gt_words.proofs.Owed.{stored_owes}
-use Rattle.gt_words.specs.Conditions.{AddsToHeader, StepsOnHeader, StoresHeader}
+use Rattle.gt_entry.specs.Laws.{header-round}
+use Rattle.gt_entry.specs.Words.{header_of, header_word, size_of}
+use Rattle.gt_entry.specs.declared.header.Header.{Header}
+use Rattle.gt_types.specs.declared.limits.TheConstants.{ENTRIES_V1, ENTRIES_V2, TABLE_ENTRIES}
+use Rattle.gt_words.specs.Conditions.{AddsToHeader, LooksAtHeader, StepsOnHeader, StoresHeader}
 use Rattle.gt_words.specs.Events.{Happens, HeaderByOwner, entry_by, event_on_header, header_after, shown_header}
-use Rattle.gt_words.specs.Rule.{IsHeader, Layout, SawHeaders, Shows, ShowsEntry, header_now, header_place, headers_of, place}
-use Rattle.gt_words.specs.Steps.{looking_at_header, on_header, storing_header, tells, tells_stored}
-use Rattle.gt_words.specs.Views.{IsIn, own, own_header, pins, seen_header, steps_on, steps_on_header, stored_header, stored_headers, with_step}
+use Rattle.gt_words.specs.Rule.{IsHeader, IsKeptHeader, Layout, SawHeaders, Shows, ShowsEntry, header_now, header_place, headers_of, place}
+use Rattle.gt_words.specs.Steps.{TakesStep, looking_at_header, on_header, storing_header, tells, tells_stored}
+use Rattle.gt_words.specs.Views.{IsIn, own, own_header, seen_header, steps_on, steps_on_header, stored_header, stored_headers, with_step}
 use Rattle.gt_words.specs.declared.view.EntryStep.{EntryStep}
 use Rattle.gt_words.specs.declared.view.HeaderStep.{HeaderStep}
 use Rattle.gt_words.specs.declared.view.View.{View}
@@ -166,16 +171,42 @@ adds_to_header t m v w e = record {
   entries = λ u r. ap (steps_on u r) e;
 }
 
--- the owner stored its header
-pub stores_header : (k : Layout) (at value y found : ℕ) (v w : View) → v.position ≡ at → value ≡ y → StepsOnHeader k at (header.Stored value) found value v w → StoresHeader k y v w
-stores_header k at value y found v w own is z = record {
-  found = found;
-  pins = λ t r. ap pins (z.adds.entries t r);
-  steps = subst (λ (u : ℕ × ℕ). StepsOnHeader k u.0 (header.Stored u.1) found u.1 v w) (λ i. (sym own i, is i)) z;
-  header = ap own_header z.adds.view ∙ (ap (stored_header (get_or v.headers v.position 0)) (subst (λ (u : ℕ). steps_on_header v.position (with_step (on_header u (header.Stored value)) v) ≡ header.Stored value ∷ steps_on_header v.position v) own (header_here v.position (header.Stored value) v)) ∙ is);
-}
-
 -- a version has room in its two bits
 pub small_version : (n : ℕ) → (n ≡ 1) ⊎ (n ≡ 2) → n < 4
 small_version n (inl e) = omega arith
 small_version n (inr e) = omega arith
+
+-- a header within the limits is read from its word
+pub kept_read : (h : Header) → IsKeptHeader h → header_of (header_word h) ≡ h
+kept_read h k = let few = k.few in header-round h (small_version h.version k.version) (omega arith)
+
+-- its table has no more entries than there is room for
+table_fits : (h : Header) → IsKeptHeader h → size_of h ≤ TABLE_ENTRIES
+table_fits h k = by (h.version == 2)
+  where
+    by : (b : Bool) → h.frames * (if b then ENTRIES_V2 else ENTRIES_V1) ≤ TABLE_ENTRIES
+    by true = let few = k.few in omega arith
+    by false = let few = k.few in omega arith
+
+-- a look at a header
+pub looks_at_header : (k : Layout) (t n : ℕ) (v w : View) → t < k.domains → w ≡ with_step (on_header t (header.Looked n)) v → TakesStep (Unit {0}) k v (on_header t (header.Looked n)) (header_place t) n n → LooksAtHeader k t n v w
+looks_at_header k t n v w tn view step = let a = adds_to_header t (header.Looked n) v w view in
+    let is : IsHeader n = subst IsHeader step.found_is (step.shown.headers t tn).1 in
+    let read : header_of n ≡ is.0 = ap header_of is.2 ∙ kept_read is.0 is.1 in record {
+      steps = record { adds = a; step = step };
+      word = is.2 ∙ ap header_word (sym read);
+      header = subst IsKeptHeader (sym read) is.1;
+      size = subst (λ (h : Header). size_of h ≤ TABLE_ENTRIES) (sym read) (table_fits is.0 is.1);
+      keeps = header_keeps t n v w a;
+    }
+
+-- the owner stored its header
+pub stores_header : (k : Layout) (at value : ℕ) (h : Header) (found : ℕ) (v w : View) → v.position ≡ at → value ≡ header_word h → StepsOnHeader k at (header.Stored value) found value v w → StoresHeader k h v w
+stores_header k at value h found v w own is z = record {
+  found = found;
+  steps = subst (λ (u : ℕ × ℕ). StepsOnHeader k u.0 (header.Stored u.1) found u.1 v w) (λ i. (sym own i, is i)) z;
+  header = ap own_header z.adds.view ∙ (ap (stored_header (get_or v.headers v.position 0)) (subst (λ (u : ℕ). steps_on_header v.position (with_step (on_header u (header.Stored value)) v) ≡ header.Stored value ∷ steps_on_header v.position v) own (header_here v.position (header.Stored value) v)) ∙ is);
+  rows = header_keeps_rows at (header.Stored value) v w z.adds;
+  pins = header_keeps_pins at (header.Stored value) v w z.adds;
+  seen = header_sees at (header.Stored value) v w z.adds;
+}

@@ -3,6 +3,7 @@ pub mod Records
 pub mod OneEntry
 pub mod Lifts
 pub mod Happening
+pub mod Kept
 pub mod Owed
 pub mod Headers
 pub mod Told

@@ -1,4 +1,5 @@
 -- A step on one entry keeps the rule of the table, where it keeps the rule of that entry.
+use Rattle.gt_words.specs.declared.board.TheConstants.{DOMAIN_WORDS}
 use Rattle.std.proofs.Common.{◌≡◌, ◌≢◌, ⊎_elim, ℕ, ◌*◌, ◌<◌, Bool, true, false, cond, ◌==◌, ◌&&◌, List, [], ◌∷◌, map, get_or, set, sym, refl, ap, ◌∙◌, subst, arith, length-set, get_or-set_other, eq-eqb, ne_eqb}
 use mathlib.Core.Option.{some}
 use mathlib.Core.Logic.{dite}
@@ -21,7 +22,7 @@ added t r m v = with_step (on_entry t r m) v
 pub apart : (t r j t' r' j' : ℕ) → r < TABLE_ENTRIES → r' < TABLE_ENTRIES → j < 3 → j' < 3 → place t r j ≡ place t' r' j' → (t ≡ t') × (r ≡ r')
 apart t r j t' r' j' a b c d e = (omega arith, omega arith)
 
-pub inside : (n t r j : ℕ) → t < n → r < TABLE_ENTRIES → j < 3 → place t r j < n * 16392
+pub inside : (n t r j : ℕ) → t < n → r < TABLE_ENTRIES → j < 3 → place t r j < n * DOMAIN_WORDS
 inside n t r j a b c = omega arith
 
 pub steps_on-added : (t r : ℕ) (m : EntryStep) (v : View) → steps_on t r (added t r m v) ≡ m ∷ steps_on t r v

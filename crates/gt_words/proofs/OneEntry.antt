@@ -1,4 +1,5 @@
 -- What each kind of step does to an entry, with the owner's moves among those of all seats.
+use Rattle.gt_types.specs.declared.limits.TheConstants.{MAX_PINS, LAST_GENERATION}
 use Rattle.std.proofs.Common.{◌≡◌, ◌≢◌, inl, inr, ℕ, zero, suc, ◌+◌, ◌-◌, ◌*◌, ◌<◌, ◌≤◌, Bool, true, false, not, List, [], ◌∷◌, set, sym, refl, ap, ◌∙◌, subst, arith, Some, get_or-set_other}
 use mathlib.Core.Option.{some, some-injective, some-ne-none}
 use mathlib.Core.Logic.{dite}
@@ -76,13 +77,13 @@ module _ (g t : ℕ) (hs : List (List EntryStep)) (i : ℕ) (h : List EntryStep)
     pub entry_saw : (p : Half) (v : ℕ) → (p ≡ First → v ≡ a) → (p ≡ Second → v ≡ b) → ShowsEntry g t word a b (set hs i (ReadBody p v ∷ h))
     entry_saw p v e f = plain word (ReadBody p v) refl refl refl refl (sees_shown x xs a b hs i h (ReadBody p v) word k.record_shown at refl (saw_known x xs a b p v (seen h) k.record_shown.body e f (k.record_shown.saw i h at)) (body_counts hs p v (seen h) (k.record_shown.counted i h at)))
 
-    pub entry_pins : (d : Dir) (expected : ℕ) (s : Seen) → seen h ≡ Some s → s.word ≡ word → IsValid word → HasBody s → pins_in d word < 4095 → ShowsEntry g t (word + unit_of d) a b (set hs i (Pinned d expected (record_seen s) ∷ h))
-    entry_pins d expected s e same some_kind body in_range =
+    pub entry_pins : (d : Dir) (expected : ℕ) (s : Seen) → seen h ≡ Some s → s.word ≡ word → IsValid word → HasBody s → (d ≡ Write → is_read_only (record_seen s).entry ≡ false) → pins_in d word < MAX_PINS → ShowsEntry g t (word + unit_of d) a b (set hs i (Pinned d expected (record_seen s) ∷ h))
+    entry_pins d expected s e same some_kind body writable in_range =
         let z = seen_is_last x xs s word (total_pins Read hs) (total_pins Write hs) k.record_shown.lawful (subst (SawRecord x xs) e (k.record_shown.saw i h at)) k.record_shown.in_range k.record_shown.spelled same some_kind body in
-        let r : d ≡ Read → total_pins Read hs < 4095 = λ q. let f = subst (λ (c : Dir). pins_in c word < 4095) q in_range in let u = z.2 in omega arith in
-        let w : d ≡ Write → total_pins Write hs < 4095 = λ q. let f = subst (λ (c : Dir). pins_in c word < 4095) q in_range in let u = z.3 in omega arith in
+        let r : d ≡ Read → total_pins Read hs < MAX_PINS = λ q. let f = subst (λ (c : Dir). pins_in c word < MAX_PINS) q in_range in let u = z.2 in omega arith in
+        let w : d ≡ Write → total_pins Write hs < MAX_PINS = λ q. let f = subst (λ (c : Dir). pins_in c word < MAX_PINS) q in_range in let u = z.3 in omega arith in
         plain (word + unit_of d) (Pinned d expected (record_seen s)) refl refl refl refl
-        (subst (λ (y : EntryRecord). ShowsRecord x xs (word + unit_of d) a b (set hs i (Pinned d expected y ∷ h))) (sym z.0) (pins_shown x xs a b hs i h word expected d k.record_shown at z.1 r w))
+        (subst (λ (y : EntryRecord). ShowsRecord x xs (word + unit_of d) a b (set hs i (Pinned d expected y ∷ h))) (sym z.0) (pins_shown x xs a b hs i h word expected d k.record_shown at z.1 (λ q. ap (λ (u : EntryRecord). is_read_only u.entry) (sym z.0) ∙ writable q) r w))
 
     pub entry_unpins : (d : Dir) (p : LivePin) → IsIn p (pins h) → p.0 ≡ d → ShowsEntry g t (word - unit_of d) a b (set hs i (Unpinned d p.1.generation ∷ h))
     entry_unpins d p e q = plain (word - unit_of d) (Unpinned d p.1.generation) refl refl refl refl (unpins_shown x xs a b hs i h word d p k.record_shown at e q)
@@ -115,9 +116,9 @@ module _ (g t : ℕ) (hs : List (List EntryStep)) (h : List EntryStep) (at : get
   }
 
   pub entry_changes : (word' expected stored : ℕ) (c : Change) (y : EntryRecord) → IsRecord y → MayFollow y (last_record g h) → IsSpelled y.entry a b → word' ≡ word_of y.entry y.generation (total_pins Read hs) (total_pins Write hs)
-      → (y.entry ≡ Invalid → (total_pins Read hs ≡ 0) × (total_pins Write hs ≡ 0)) → ShowsEntry g t word' a b (set hs t (Changed c expected stored y ∷ h))
-  entry_changes word' expected stored c y ok may body is unpinned = let m : EntryStep = Changed c expected stored y in let here : (m ∷ h) ≡ owner_steps t (set hs t (m ∷ h)) = sym (whose_here hs t h (m ∷ h) at) in record {
-    record_shown = subst (λ (z : List EntryStep). ShowsRecord (last_record g z) (earlier_records g z) word' a b (set hs t (m ∷ h))) here (changes_shown (last_record g h) (earlier_records g h) a b hs t h word word' expected stored c y mine at ok may body is unpinned);
+      → (y.entry ≡ Invalid → (total_pins Read hs ≡ 0) × (total_pins Write hs ≡ 0)) → (is_read_only y.entry ≡ true → total_pins Write hs ≡ 0) → ShowsEntry g t word' a b (set hs t (Changed c expected stored y ∷ h))
+  entry_changes word' expected stored c y ok may body is unpinned unwritten = let m : EntryStep = Changed c expected stored y in let here : (m ∷ h) ≡ owner_steps t (set hs t (m ∷ h)) = sym (whose_here hs t h (m ∷ h) at) in record {
+    record_shown = subst (λ (z : List EntryStep). ShowsRecord (last_record g z) (earlier_records g z) word' a b (set hs t (m ∷ h))) here (changes_shown (last_record g h) (earlier_records g h) a b hs t h word word' expected stored c y mine at ok may body is unpinned unwritten);
     first = k.first ∙ (ap (stored_body First) owner ∙ ap (stored_body First) here);
     second = k.second ∙ (ap (stored_body Second) owner ∙ ap (stored_body Second) here);
   }
@@ -127,15 +128,15 @@ module _ (g t : ℕ) (hs : List (List EntryStep)) (h : List EntryStep) (at : get
       → ShowsEntry g t (idle_word_of Invalid (last_record g h).generation) a b (set hs t (Changed change.Revoke expected stored (record { generation = (last_record g h).generation; entry = Invalid }) ∷ h))
   entry_revokes expected stored idle = let x : EntryRecord = last_record g h in let z = idle_held x (earlier_records g h) word (total_pins Read hs) (total_pins Write hs) mine.lawful mine.in_range mine.spelled idle in
       let z0 = z.0 in let z1 = z.1 in let rec = legal_record x (earlier_records g h) mine.lawful in
-      entry_changes (idle_word_of Invalid x.generation) expected stored change.Revoke (record { generation = x.generation; entry = Invalid }) (tt, rec.1) (inl (refl, refl)) tt (omega arith) (λ _. z)
+      entry_changes (idle_word_of Invalid x.generation) expected stored change.Revoke (record { generation = x.generation; entry = Invalid }) (tt, rec.1) (inl (refl, refl)) tt (omega arith) (λ _. z) (λ _. z1)
 
   -- an entry is published, where the word is the invalid word with no pins
-  pub entry_grants : (expected stored : ℕ) (e : Entry) → word ≡ idle_word_of Invalid (last_record g h).generation → (last_record g h).entry ≡ Invalid → IsEntry e → e ≢ Invalid → (last_record g h).generation < 1048575 → IsSpelled e (stored_body First h) (stored_body Second h)
+  pub entry_grants : (expected stored : ℕ) (e : Entry) → word ≡ idle_word_of Invalid (last_record g h).generation → (last_record g h).entry ≡ Invalid → IsEntry e → e ≢ Invalid → (last_record g h).generation < LAST_GENERATION → IsSpelled e (stored_body First h) (stored_body Second h)
       → ShowsEntry g t (idle_word_of e ((last_record g h).generation + 1)) a b (set hs t (Changed (change.Publish e) expected stored (record { generation = (last_record g h).generation + 1; entry = e }) ∷ h))
   entry_grants expected stored e idle none ok some_kind room body = let x : EntryRecord = last_record g h in
       let z = idle_held x (earlier_records g h) word (total_pins Read hs) (total_pins Write hs) mine.lawful mine.in_range mine.spelled (idle ∙ ap (λ (y : Entry). idle_word_of y x.generation) (sym none)) in let z0 = z.0 in let z1 = z.1 in
       entry_changes (idle_word_of e (x.generation + 1)) expected stored (change.Publish e) (record { generation = x.generation + 1; entry = e }) (ok, omega arith) (inr (refl, some_kind, inl none))
-      (subst (λ (u : ℕ × ℕ). IsSpelled e u.0 u.1) (λ j. (sym (k.first ∙ ap (stored_body First) owner) j, sym (k.second ∙ ap (stored_body Second) owner) j)) body) (omega arith) (λ n. absurd (some_kind n))
+      (subst (λ (u : ℕ × ℕ). IsSpelled e u.0 u.1) (λ j. (sym (k.first ∙ ap (stored_body First) owner) j, sym (k.second ∙ ap (stored_body Second) owner) j)) body) (omega arith) (λ n. absurd (some_kind n)) (λ _. z1)
 
 -- the low bits of an entry that is turned
 pub turned_low : (o : Bool) (e : Entry) → e ≢ Invalid → is_read_only e ≡ not o → low_bits (with_ro o e) + flag (not o) ≡ low_bits e + flag o
@@ -177,15 +178,21 @@ turned_some o (Page d p f) n h = cc
 turned_some o (Sub d p f y k) n h = cc
 turned_some o (Via d p t r) n h = cc
 
+turned_ro : (o : Bool) (e : Entry) → e ≢ Invalid → is_read_only (with_ro o e) ≡ o
+turned_ro o Invalid n = absurd (n refl)
+turned_ro o (Page d p f) n = refl
+turned_ro o (Sub d p f y k) n = refl
+turned_ro o (Via d p t r) n = refl
+
 turned_other : (o b : Bool) → b ≡ not o → o ≡ not b
 turned_other true b h = sym (ap not h)
 turned_other false b h = sym (ap not h)
 
 module _ (g t : ℕ) (hs : List (List EntryStep)) (h : List EntryStep) (at : get_elem? hs t ≡ some h) (word a b : ℕ) (k : ShowsEntry g t word a b hs) where
   -- the entry becomes read-only or writable, with its pins
-  pub entry_turns : (o : Bool) (c : Change) (word' expected stored : ℕ) → (last_record g h).entry ≢ Invalid → is_read_only (last_record g h).entry ≡ not o → (last_record g h).generation < 1048575
+  pub entry_turns : (o : Bool) (c : Change) (word' expected stored : ℕ) → (last_record g h).entry ≢ Invalid → is_read_only (last_record g h).entry ≡ not o → (last_record g h).generation < LAST_GENERATION → (o ≡ true → total_pins Write hs ≡ 0)
       → word' ≡ word_of (with_ro o (last_record g h).entry) ((last_record g h).generation + 1) (total_pins Read hs) (total_pins Write hs)
       → ShowsEntry g t word' a b (set hs t (Changed c expected stored (record { generation = (last_record g h).generation + 1; entry = with_ro o (last_record g h).entry }) ∷ h))
-  entry_turns o c word' expected stored some_kind now room is = let x : EntryRecord = last_record g h in let m = mine g t hs h at word a b k in let rec = legal_record x (earlier_records g h) m.lawful in
+  entry_turns o c word' expected stored some_kind now room unwritten is = let x : EntryRecord = last_record g h in let m = mine g t hs h at word a b k in let rec = legal_record x (earlier_records g h) m.lawful in
       entry_changes g t hs h at word a b k word' expected stored c (record { generation = x.generation + 1; entry = with_ro o x.entry }) (turned_entry o x.entry rec.0, omega arith) (inr (refl, turned_some o x.entry some_kind, inr (ap (λ (u : Bool). with_ro u x.entry) (turned_other o (is_read_only x.entry) now))))
-      (turned_spells o x.entry a b m.body) is (λ n. absurd (turned_some o x.entry some_kind n))
+      (turned_spells o x.entry a b m.body) is (λ n. absurd (turned_some o x.entry some_kind n)) (λ q. unwritten (sym (turned_ro o x.entry some_kind) ∙ q))

@@ -1,4 +1,5 @@
 -- The rule at the start, and when a seat is dealt.
+use Rattle.gt_words.specs.declared.board.TheConstants.{DOMAIN_WORDS, ENTRY_WORDS}
 use Rattle.std.proofs.Common.{◌≡◌, ◌≢◌, ◌⊎◌, inl, inr, ⊎_elim, ℕ, zero, suc, ◌+◌, ◌*◌, ◌/◌, ◌%◌, ◌<◌, ◌≤◌, Bool, false, cond, ◌==◌, List, [], ◌∷◌, ◌++◌, map, length, get_or, set, sym, refl, ap, ◌∙◌, subst, arith, length-append, eq-eqb, ne_eqb, All, IfSome, Option, Some, None}
 use mathlib.Core.Option.{some, some-injective, some-ne-none}
 use mathlib.Core.List.{map-append}
@@ -8,13 +9,14 @@ use Rattle.atomic_table.specs.Table.{opening, Splits}
 use Rattle.atomic_table.proofs.Lists.{at_set, at_snoc, set_again, at_map}
 use Rattle.std.proofs.Common.{length-set}
 use Rattle.gt_entry.specs.Spelling.{word_of}
+use Rattle.gt_entry.specs.Words.{header_word}
 use Rattle.gt_types.specs.declared.Dir.{Dir}
 use Rattle.gt_types.specs.declared.Dir.TheVariants.{Read, Write}
 use Rattle.gt_types.specs.declared.config.DomainConfig.{DomainConfig}
 use Rattle.gt_types.specs.declared.limits.TheConstants.{LAST_VERSION, MAX_TABLE_FRAMES, TABLE_ENTRIES}
 use Rattle.gt_words.specs.Conditions.{initial}
 use Rattle.gt_words.specs.Places.{dealer_after, dealt_to, new_view}
-use Rattle.gt_words.specs.Rule.{CountsTaken, IsHeader, Layout, SawHeaders, SawRecord, Shows, ShowsEntry, ShowsRecord, header_now, header_number, header_place, headers_of, owner_steps, place, total_pins, total_taken}
+use Rattle.gt_words.specs.Rule.{CountsTaken, IsHeader, Layout, SawHeaders, SawRecord, Shows, ShowsEntry, ShowsRecord, first_header, header_now, header_place, headers_of, owner_steps, place, total_pins, total_taken}
 use Rattle.gt_words.specs.Views.{IsIn, Seen, earlier_records, last_record, own, pin_count, pins, seen, seen_header, steps_on, steps_on_header, stored_body, stored_header, stored_headers, taken_count}
 use Rattle.gt_words.specs.declared.view.EntryStep.{EntryStep}
 use Rattle.gt_entry.specs.declared.change.Half.TheVariants.{First, Second}
@@ -37,26 +39,27 @@ entry_opens g t small word a b w p q = subst (λ (ms : List EntryStep). ShowsRec
   body = tt;
   lawful = ((tt, small), refl);
   unpinned = λ _. (refl, refl);
+  unwritten = λ _. refl;
   pinned = λ i h at z y. absurd (subst (λ (ms : List EntryStep). IsIn z (pins ms)) (alone_at i h at) y);
   saw = λ i h at. subst (λ (ms : List EntryStep). SawRecord (last_record g []) [] (seen ms)) (sym (alone_at i h at)) tt;
   counted = λ i h at. subst (λ (ms : List EntryStep). CountsTaken ([] ∷ []) (seen ms)) (sym (alone_at i h at)) tt;
 } p q
 
 initial_here : (k : Layout) (t r j : ℕ) → r < TABLE_ENTRIES → j < 3 → initial k (place t r j) ≡ cond (j == 0) (17592186044416 * k.first) 0
-initial_here k t r j rn jn = let p : place t r j % 16392 ≡ 8 * r + (8 + j) = omega arith in let q : (place t r j % 16392 == 0) ≡ false = ne_eqb _ 0 (λ e. omega arith) in
-    ap (λ (c : Bool). cond c (get_or k.headers (place t r j / 16392) 0) (cond (place t r j % 16392 % 8 == 0) (17592186044416 * k.first) 0)) q ∙ ap (λ (c : Bool). cond c (17592186044416 * k.first) 0) (turn j jn (place t r j % 16392) p)
+initial_here k t r j rn jn = let p : place t r j % DOMAIN_WORDS ≡ ENTRY_WORDS * r + (ENTRY_WORDS + j) = omega arith in let q : (place t r j % DOMAIN_WORDS == 0) ≡ false = ne_eqb _ 0 (λ e. omega arith) in
+    ap (λ (c : Bool). cond c (get_or k.headers (place t r j / DOMAIN_WORDS) 0) (cond (place t r j % DOMAIN_WORDS % ENTRY_WORDS == 0) (17592186044416 * k.first) 0)) q ∙ ap (λ (c : Bool). cond c (17592186044416 * k.first) 0) (turn j jn (place t r j % DOMAIN_WORDS) p)
   where
-    turn : (j : ℕ) → j < 3 → (n : ℕ) → n ≡ 8 * r + (8 + j) → (n % 8 == 0) ≡ (j == 0)
-    turn zero h n e = eq-eqb (n % 8) 0 (omega arith)
-    turn (suc zero) h n e = ne_eqb (n % 8) 0 (λ f. omega arith)
-    turn (suc (suc zero)) h n e = ne_eqb (n % 8) 0 (λ f. omega arith)
+    turn : (j : ℕ) → j < 3 → (n : ℕ) → n ≡ ENTRY_WORDS * r + (ENTRY_WORDS + j) → (n % ENTRY_WORDS == 0) ≡ (j == 0)
+    turn zero h n e = eq-eqb (n % ENTRY_WORDS) 0 (omega arith)
+    turn (suc zero) h n e = ne_eqb (n % ENTRY_WORDS) 0 (λ f. omega arith)
+    turn (suc (suc zero)) h n e = ne_eqb (n % ENTRY_WORDS) 0 (λ f. omega arith)
     turn (suc (suc (suc m))) h n e = absurd (omega arith)
 
 initial_header : (k : Layout) (t : ℕ) → initial k (header_place t) ≡ get_or k.headers t 0
-initial_header k t = let p : header_place t % 16392 ≡ 0 = omega arith in let q : header_place t / 16392 ≡ t = omega arith in
-    ap (λ (c : Bool). cond c (get_or k.headers (header_place t / 16392) 0) (cond (header_place t % 16392 % 8 == 0) (17592186044416 * k.first) 0)) (eq-eqb _ 0 p) ∙ ap (λ (i : ℕ). get_or k.headers i 0) q
+initial_header k t = let p : header_place t % DOMAIN_WORDS ≡ 0 = omega arith in let q : header_place t / DOMAIN_WORDS ≡ t = omega arith in
+    ap (λ (c : Bool). cond c (get_or k.headers (header_place t / DOMAIN_WORDS) 0) (cond (header_place t % DOMAIN_WORDS % ENTRY_WORDS == 0) (17592186044416 * k.first) 0)) (eq-eqb _ 0 p) ∙ ap (λ (i : ℕ). get_or k.headers i 0) q
 
-pub opens : {S : Type 0} (k : Layout) (ws : List ℕ) → length ws ≡ k.domains * 16392 → 0 < k.domains → k.first < 1048576 → ((t : ℕ) → t < k.domains → IsHeader (get_or k.headers t 0)) → ((i : ℕ) → i < k.domains * 16392 → get_or ws i 0 ≡ initial k i)
+pub opens : {S : Type 0} (k : Layout) (ws : List ℕ) → length ws ≡ k.domains * DOMAIN_WORDS → 0 < k.domains → k.first < 1048576 → ((t : ℕ) → t < k.domains → IsHeader (get_or k.headers t 0)) → ((i : ℕ) → i < k.domains * DOMAIN_WORDS → get_or ws i 0 ≡ initial k i)
     → Shows {S = S} k (opening ws [] (new_view k.first k.headers k.ids 0))
 opens k ws wide some_domain small headers is = record {
   wide = wide;
@@ -105,6 +108,7 @@ entry_more g t word a b hs k = let same = nothing_more hs t in
       body = k.record_shown.body;
       lawful = k.record_shown.lawful;
       unpinned = λ n. (held_more Read hs ∙ (k.record_shown.unpinned n).0, held_more Write hs ∙ (k.record_shown.unpinned n).1);
+      unwritten = λ n. held_more Write hs ∙ k.record_shown.unwritten n;
       pinned = λ i h at p y. ⊎_elim (λ (e : get_elem? hs i ≡ some h). k.record_shown.pinned i h e p y) (λ (e : [] ≡ h). absurd (subst (λ (ms : List EntryStep). IsIn p (pins ms)) (sym e) y)) (at_snoc hs [] h i at);
       saw = λ i h at. ⊎_elim (λ (e : get_elem? hs i ≡ some h). k.record_shown.saw i h e) (λ (e : [] ≡ h). subst (λ (ms : List EntryStep). SawRecord (last_record g (owner_steps t hs)) (earlier_records g (owner_steps t hs)) (seen ms)) e tt) (at_snoc hs [] h i at);
       counted = λ i h at. counted_more hs (seen h) (⊎_elim (λ (e : get_elem? hs i ≡ some h). k.record_shown.counted i h e) (λ (e : [] ≡ h). subst (λ (ms : List EntryStep). CountsTaken hs (seen ms)) e tt) (at_snoc hs [] h i at));
@@ -147,9 +151,9 @@ deals k id v own room s shown at = let is = shown.seats id v at in let zero_is :
 
 -- the first headers are headers
 pub headers_ok : (ds : List DomainConfig) → All (λ d. (1 ≤ d.table_frames) × (d.table_frames ≤ MAX_TABLE_FRAMES)) ds → All (λ d. (1 ≤ d.version) × (d.version ≤ LAST_VERSION)) ds → (t : ℕ) → t < length ds
-    → IsHeader (get_or (map (λ d. header_number d.version d.table_frames) ds) t 0)
+    → IsHeader (get_or (map (λ d. header_word (first_header d)) ds) t 0)
 headers_ok [] f h t l = absurd (omega arith)
-headers_ok (d ∷ ds) f h zero l = let x = h 0 d (omega arith) in let y = f 0 d (omega arith) in let a = x.0 in let b = x.1 in (d.version, d.table_frames, version d.version a (omega arith), y.0, y.1, refl)
+headers_ok (d ∷ ds) f h zero l = let x = h 0 d (omega arith) in let y = f 0 d (omega arith) in let a = x.0 in let b = x.1 in (first_header d, record { version = version d.version a (omega arith); some = y.0; few = y.1 }, refl)
   where
     version : (n : ℕ) → 0 < n → n ≤ 2 → (n ≡ 1) ⊎ (n ≡ 2)
     version zero a b = absurd (omega arith)

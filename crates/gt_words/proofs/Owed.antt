@@ -1,5 +1,5 @@
 -- What each call owes the table before its step.
-use Rattle.std.proofs.Common.{◌≡◌, ◌≢◌, ℕ, ◌+◌, ◌-◌, ◌/◌, ◌%◌, ◌^◌, ◌<◌, ◌≤◌, Bool, true, false, not, cond, ◌==◌, List, [], ◌∷◌, map, get_or, set, sym, refl, ap, ◌∙◌, subst, arith, eq-eqb, ne_eqb, get_or-set_other, get_or-set_same}
+use Rattle.std.proofs.Common.{inl, inr, ◌&&◌, nat_le, ◌≡◌, ◌≢◌, ℕ, ◌+◌, ◌-◌, ◌/◌, ◌%◌, ◌^◌, ◌<◌, ◌≤◌, Bool, true, false, not, cond, ◌==◌, List, [], ◌∷◌, map, get_or, set, sym, refl, ap, ◌∙◌, subst, arith, eq-eqb, ne_eqb, get_or-set_other, get_or-set_same}
 use mathlib.Core.Option.{some, none}
 use mathlib.Core.Logic.{dite}
 use native.Mathlib.Decide.{ℕ_discrete}
@@ -11,19 +11,23 @@ use Rattle.gt_entry.specs.Entries.{IsEntry, is_read_only, with_ro}
 use Rattle.gt_entry.specs.Spelling.{IsSpelled, idle_word_of, low_bits, named_domain, word_of}
 use Rattle.gt_entry.specs.Words.{flag, unit_of}
 use Rattle.gt_entry.specs.declared.entry.Entry.{Entry}
-use Rattle.gt_entry.specs.declared.entry.Entry.TheVariants.{Invalid}
+use Rattle.gt_entry.specs.declared.entry.Entry.TheVariants.{Invalid, Page, Sub, Via}
 use Rattle.gt_types.specs.declared.Dir.{Dir}
 use Rattle.gt_types.specs.declared.Dir.TheVariants.{Read, Write}
 use Rattle.gt_words.proofs.Happening.{entry_happens}
+use Rattle.gt_words.proofs.Kept.{there_is}
 use Rattle.gt_words.proofs.Lifts.{added, inside, shows_step}
 use Rattle.gt_words.proofs.OneEntry.{entry_grants, entry_looks, entry_misses_change, entry_misses_pin, entry_pins, entry_revokes, entry_saw, entry_stores_first, entry_stores_second, entry_turns, entry_unpins, mine, pin_counted, turned_domain, turned_low}
 use Rattle.gt_words.proofs.Records.{legal_record, spelled_parts}
-use Rattle.gt_words.specs.Conditions.{HasLooked, Holds, IsIdleOf}
-use Rattle.gt_words.specs.Controls.{IsValid, demoted_word, generation_of, invalid_word, pins_in, promoted_word}
+use Rattle.gt_words.specs.Conditions.{HasLooked, Holds, IsIdleOf, MayPin}
+use Rattle.gt_entry.specs.Permits.{is_copying}
+use Rattle.gt_types.specs.declared.DomId.{DomId}
+use Rattle.std.proofs.lemmas.Bool.{and_parts}
+use Rattle.gt_words.specs.Controls.{ForwardsPin, IsValid, PermitsPin, demoted_word, generation_of, invalid_word, pins_in, promoted_word}
 use Rattle.gt_words.specs.Events.{Happens, IsByOwner}
-use Rattle.gt_words.specs.Rule.{IsRecord, Layout, Shows, ShowsEntry, place, total_pins}
+use Rattle.gt_words.specs.Rule.{id_at, IsRecord, Layout, Shows, ShowsEntry, place, total_pins}
 use Rattle.gt_words.specs.Steps.{StepKind, changed, entry_kind, exchanging, half_index, half_of, looking, missed, on_entry, reading, storing, taken, tells, tells_stored, unpinning}
-use Rattle.gt_words.specs.Views.{earlier_records, invalid_at, last_of, last_record, last_seen, steps_on, stored_body}
+use Rattle.gt_words.specs.Views.{earlier_records, invalid_at, last_of, last_record, last_seen, pins, record_seen, steps_on, stored_body}
 use Rattle.gt_entry.specs.declared.change.Change.{Change}
 use Rattle.gt_words.specs.declared.view.EntryStep.{EntryStep}
 use Rattle.gt_words.specs.declared.view.EntryStep.TheVariants.{Changed, Looked, ReadBody, StoredBody, Unpinned}
@@ -34,7 +38,7 @@ use Rattle.gt_words.specs.declared.view.EntryRecord.{EntryRecord}
 use Rattle.gt_words.specs.declared.view.View.{View}
 use Rattle.gt_entry.specs.declared.change.Change.TheVariants as change
 use Rattle.gt_words.specs.declared.view.Purpose.TheVariants as purpose
-use Rattle.gt_types.specs.declared.limits.TheConstants.{TABLE_ENTRIES}
+use Rattle.gt_types.specs.declared.limits.TheConstants.{LAST_GENERATION, MAX_PINS, TABLE_ENTRIES}
 
 -- what a step owes, by the word that it is on: what was found there, and the rule of the entry after it
 
@@ -116,6 +120,30 @@ revoked x = let e : x.generation + 0 ≡ x.generation = omega arith in ap invali
 abbrev turned : Bool → EntryRecord → EntryRecord
 turned o x = record { generation = x.generation + 1; entry = with_ro o x.entry }
 
+direction_write : (b c : Bool) → (b && not c) ≡ true → c ≡ false
+direction_write true false e = refl
+direction_write true true e = cc
+direction_write false c e = cc
+
+-- an entry that permits writing is not read-only
+permits_write : (e : Entry) (d : DomId) → PermitsPin e d Write → is_read_only e ≡ false
+permits_write Invalid d p = let is = p.3 in cc
+permits_write (Page u o f) d p = direction_write (u.0 == d.0) o p.3
+permits_write (Sub u o f a n) d p = let dir : Bool = (u.0 == d.0) && not o in let low : Bool = dir && is_copying p.0 && nat_le a p.1 in
+    direction_write (u.0 == d.0) o (and_parts dir (is_copying p.0) (and_parts (dir && is_copying p.0) (nat_le a p.1) (and_parts low (nat_le (p.1 + p.2) (a + n)) p.3).0).0).0
+permits_write (Via u o q r) d p = let is = p.3 in cc
+
+forwards_write : (e : Entry) (d : DomId) → ForwardsPin e d Write → is_read_only e ≡ false
+forwards_write Invalid d p = cc
+forwards_write (Page u o f) d p = cc
+forwards_write (Sub u o f a n) d p = cc
+forwards_write (Via u o q r) d p = direction_write (u.0 == d.0) o p
+
+may_write : (k : Layout) (t r : ℕ) (v : View) (x : EntryRecord) → MayPin k t r v Write x → is_read_only x.entry ≡ false
+may_write k t r v x (inl p) = permits_write x.entry (id_at k.ids v.position) p
+may_write k t r v x (inr (inl f)) = forwards_write x.entry (id_at k.ids v.position) f
+may_write k t r v x (inr (inr o)) = permits_write x.entry (id_at k.ids o.owner) o.permits
+
 by_cases : (n old : ℕ) (F : Bool → Type 0) → (n ≡ old → F true) → (n ≢ old → F false) → F (n == old)
 by_cases n old F hit miss = dite (ℕ_discrete n old) (λ e. subst F (sym (eq-eqb n old e)) (hit e)) (λ ne. subst F (sym (ne_eqb n old ne)) (miss ne))
 
@@ -152,12 +180,12 @@ module _ {S : Type 0} (k : Layout) (slots id : ℕ) (me : Me S View) (t r : ℕ)
       (λ w a b hs z fits. by_cases w old (λ (q : Bool). let m : EntryStep = cond q (taken t r me.0 p old new) (missed p old new w) in ShowsEntry k.first t (either q new w) a b (set hs id (m ∷ steps_on t r me.0)) × IsByOwner id t m)
       (hit w a b hs z) (miss w a b hs z))
 
-  pub pin_owes : (d : Dir) (old new : ℕ) → new ≡ old + unit_of d → HasLooked t r me.0 old → IsValid old → pins_in d old < 4095
+  pub pin_owes : (d : Dir) (old new : ℕ) → new ≡ old + unit_of d → HasLooked t r me.0 old → IsValid old → MayPin k t r me.0 d (record_seen (last_seen t r me.0)) → pins_in d old < MAX_PINS
       → Allows (Shows k) slots id me (place t r 0) (λ n. either (n == old) new n) (tells (exchanging k t r me.0 (purpose.Pin d) old new) (step slots (place t r 0) old new none) me)
-  pin_owes d old new one looked valid room = exchange_owes (purpose.Pin d) old new
+  pin_owes d old new one looked valid may room = exchange_owes (purpose.Pin d) old new
       (λ w a b hs z e. (
         subst (λ (u : ℕ). ShowsEntry k.first t u a b (set hs id (taken t r me.0 (purpose.Pin d) old new ∷ steps_on t r me.0))) (ap (λ (u : ℕ). u + unit_of d) e ∙ sym one)
-            (entry_pins k.first t hs id (steps_on t r me.0) z.1 w a b z.0 d old (last_seen t r me.0) looked.0 (looked.1 ∙ sym e) (subst IsValid (sym e) valid) looked.2 (subst (λ (u : ℕ). pins_in d u < 4095) (sym e) room)),
+            (entry_pins k.first t hs id (steps_on t r me.0) z.1 w a b z.0 d old (last_seen t r me.0) looked.0 (looked.1 ∙ sym e) (subst IsValid (sym e) valid) looked.2 (λ q. may_write k t r me.0 (record_seen (last_seen t r me.0)) (subst (λ (u : Dir). MayPin k t r me.0 u (record_seen (last_seen t r me.0))) q may)) (subst (λ (u : ℕ). pins_in d u < MAX_PINS) (sym e) room)),
         tt,
       ))
       (λ w a b hs z n. (entry_misses_pin k.first t hs id (steps_on t r me.0) z.1 w a b z.0 d old new, tt))
@@ -169,10 +197,10 @@ module _ {S : Type 0} (k : Layout) (slots id : ℕ) (me : Me S View) (t r : ℕ)
   pub unpin_owes : (d : Dir) (g one : ℕ) → one ≡ unit_of d → Holds t r d g me.0
       → Allows (Shows k) slots id me (place t r 0) (λ n. (n + (2 ^ 64 - one)) % 2 ^ 64) (tells (unpinning k t r d g) (step slots (place t r 0) one 0 none) me)
   unpin_owes d g one is holds = control_owes k t r (λ n. Unpinned d g) (λ n. (n + (2 ^ 64 - unit_of d)) % 2 ^ 64) slots id me (λ n. (n + (2 ^ 64 - one)) % 2 ^ 64) (step slots (place t r 0) one 0 none) tn rn refl (λ n. ap (λ (u : ℕ). (n + (2 ^ 64 - u)) % 2 ^ 64) is)
-      (λ w a b hs z fits. let p = holds.0 in (
+      (λ w a b hs z fits. let p = there_is d g (pins (steps_on t r me.0)) holds in (
         subst (λ (u : ℕ × ℕ). ShowsEntry k.first t u.0 a b (set hs id (Unpinned d u.1 ∷ steps_on t r me.0)))
-            (λ i. (lowered d w (pin_counted k.first t hs id (steps_on t r me.0) z.1 w a b z.0 d p holds.1 holds.2) fits i, holds.3 i))
-            (entry_unpins k.first t hs id (steps_on t r me.0) z.1 w a b z.0 d p holds.1 holds.2),
+            (λ i. (lowered d w (pin_counted k.first t hs id (steps_on t r me.0) z.1 w a b z.0 d p.0 p.1 p.2) fits i, p.3 i))
+            (entry_unpins k.first t hs id (steps_on t r me.0) z.1 w a b z.0 d p.0 p.1 p.2),
         tt,
       ))
 
@@ -223,7 +251,7 @@ module _ {S : Type 0} (k : Layout) (slots id : ℕ) (me : Me S View) (t r : ℕ)
         (entry_revokes k.first t hs h at w a b z old new (e ∙ (idle ∙ ap (λ (u : EntryRecord). idle_word_of u.entry u.generation) l)))))
 
     pub grant_owes : (e : Entry) (old new : ℕ) → IsIdleOf (last_of r me.0) old → new ≡ idle_word_of e ((last_of r me.0).generation + 1) → (last_of r me.0).entry ≡ Invalid → IsEntry e → e ≢ Invalid
-        → (last_of r me.0).generation < 1048575 → IsSpelled e (stored_body First (steps_on t r me.0)) (stored_body Second (steps_on t r me.0))
+        → (last_of r me.0).generation < LAST_GENERATION → IsSpelled e (stored_body First (steps_on t r me.0)) (stored_body Second (steps_on t r me.0))
         → Allows (Shows k) slots id me (place t r 0) (λ n. either (n == old) new n)
         (tells (exchanging k t r me.0 (purpose.Change (change.Publish e)) old new) (step slots (place t r 0) old new none) me)
     grant_owes e old new idle is none_yet ok some_kind room body = let x : EntryRecord = last_of r me.0 in
@@ -231,7 +259,7 @@ module _ {S : Type 0} (k : Layout) (slots id : ℕ) (me : Me S View) (t r : ℕ)
         let l = last_is f in subst (λ (u : ℕ). ShowsEntry k.first t u a b (set hs t (Changed (change.Publish e) old new (record { generation = x.generation + 1; entry = e }) ∷ steps_on t r me.0))) (sym is)
         (subst (λ (y : EntryRecord). ShowsEntry k.first t (idle_word_of e (y.generation + 1)) a b (set hs t (Changed (change.Publish e) old new (record { generation = y.generation + 1; entry = e }) ∷ steps_on t r me.0))) (sym l)
         (entry_grants k.first t hs (steps_on t r me.0) at w a b z old new e (q ∙ (idle ∙ ((λ i. idle_word_of (none_yet i) x.generation) ∙ ap (λ (y : EntryRecord). idle_word_of Invalid y.generation) l))) (ap (λ (y : EntryRecord). y.entry) (sym l) ∙ none_yet) ok some_kind
-        (subst (λ (y : EntryRecord). y.generation < 1048575) l room) body)))
+        (subst (λ (y : EntryRecord). y.generation < LAST_GENERATION) l room) body)))
 
     -- the word after a turn, with its pins
     turned_is : (o : Bool) (x : EntryRecord) (reads writes w new : ℕ) → x.entry ≢ Invalid → is_read_only x.entry ≡ not o → w ≡ word_of x.entry x.generation reads writes → new + flag (not o) ≡ w + flag o + 17592186044416
@@ -240,22 +268,23 @@ module _ {S : Type 0} (k : Layout) (slots id : ℕ) (me : Me S View) (t r : ℕ)
         let L : ℕ = low_bits (with_ro o x.entry) in let D : ℕ = named_domain (with_ro o x.entry) in let L0 : ℕ = low_bits x.entry in let D0 : ℕ = named_domain x.entry in
         let l' : L + flag (not o) ≡ L0 + flag o = l in let d' : D ≡ D0 = d in omega arith
 
-    turn_owes : (o : Bool) (c : Change) (old new : ℕ) → ((x : EntryRecord) → changed c x ≡ turned o x) → (last_of r me.0).entry ≢ Invalid → generation_of old < 1048575 → is_read_only (last_of r me.0).entry ≡ not o
+    turn_owes : (o : Bool) (c : Change) (old new : ℕ) → ((x : EntryRecord) → changed c x ≡ turned o x) → (last_of r me.0).entry ≢ Invalid → generation_of old < LAST_GENERATION → is_read_only (last_of r me.0).entry ≡ not o → (o ≡ true → pins_in Write old ≡ 0)
         → new + flag (not o) ≡ old + flag o + 17592186044416
         → Allows (Shows k) slots id me (place t r 0) (λ n. either (n == old) new n)
         (tells (exchanging k t r me.0 (purpose.Change c) old new) (step slots (place t r 0) old new none) me)
-    turn_owes o c old new turns_it some_kind room now is = let x : EntryRecord = last_of r me.0 in
+    turn_owes o c old new turns_it some_kind room now unwritten is = let x : EntryRecord = last_of r me.0 in
         change_owes c old new (λ w a b hs z at f q. let l = last_is f in let h : List EntryStep = steps_on t r me.0 in let y : EntryRecord = last_record k.first h in let s = mine k.first t hs h at w a b z in
         let g : old / 17592186044416 ≡ y.generation = ap generation_of (sym q) ∙ spelled_generation y w (total_pins Read hs) (total_pins Write hs) (legal_record y (earlier_records k.first h) s.lawful) s.in_range s.spelled in
+        let writes : total_pins Write hs ≡ pins_in Write w = sym (ap (pins_in Write) s.spelled ∙ (spelled_parts y.entry y.generation (total_pins Read hs) (total_pins Write hs) (legal_record y (earlier_records k.first h) s.lawful).0 s.in_range).writes) in
         let turns : is_read_only y.entry ≡ not o = ap (λ (u : EntryRecord). is_read_only u.entry) (sym l) ∙ now in let kind : y.entry ≢ Invalid = subst (λ (u : EntryRecord). u.entry ≢ Invalid) l some_kind in
         subst (λ (u : EntryRecord). ShowsEntry k.first t new a b (set hs t (Changed c old new u ∷ h))) (sym (turns_it x ∙ ap (turned o) l))
-        (entry_turns k.first t hs h at w a b z o c new old new kind turns (omega arith)
+        (entry_turns k.first t hs h at w a b z o c new old new kind turns (omega arith) (λ n. writes ∙ (ap (pins_in Write) q ∙ unwritten n))
         (turned_is o y (total_pins Read hs) (total_pins Write hs) w new kind turns s.spelled (is ∙ ap (λ (u : ℕ). u + flag o + 17592186044416) (sym q)))))
 
-    pub demote_owes : (old new : ℕ) → (last_of r me.0).entry ≢ Invalid → generation_of old < 1048575 → is_read_only (last_of r me.0).entry ≡ false → new ≡ demoted_word old
+    pub demote_owes : (old new : ℕ) → (last_of r me.0).entry ≢ Invalid → generation_of old < LAST_GENERATION → is_read_only (last_of r me.0).entry ≡ false → pins_in Write old ≡ 0 → new ≡ demoted_word old
         → Allows (Shows k) slots id me (place t r 0) (λ n. either (n == old) new n) (tells (exchanging k t r me.0 (purpose.Change change.Demote) old new) (step slots (place t r 0) old new none) me)
-    demote_owes old new some_kind room now is = turn_owes true change.Demote old new (λ _. refl) some_kind room now (omega arith)
+    demote_owes old new some_kind room now unwritten is = turn_owes true change.Demote old new (λ _. refl) some_kind room now (λ _. unwritten) (omega arith)
 
-    pub promote_owes : (old new : ℕ) → (last_of r me.0).entry ≢ Invalid → generation_of old < 1048575 → is_read_only (last_of r me.0).entry ≡ true → new ≡ promoted_word old
+    pub promote_owes : (old new : ℕ) → (last_of r me.0).entry ≢ Invalid → generation_of old < LAST_GENERATION → is_read_only (last_of r me.0).entry ≡ true → new ≡ promoted_word old
         → Allows (Shows k) slots id me (place t r 0) (λ n. either (n == old) new n) (tells (exchanging k t r me.0 (purpose.Change change.Promote) old new) (step slots (place t r 0) old new none) me)
-    promote_owes old new some_kind room now is = turn_owes false change.Promote old new (λ _. refl) some_kind room now (omega arith)
+    promote_owes old new some_kind room now is = turn_owes false change.Promote old new (λ _. refl) some_kind room now (λ n. cc) (omega arith)

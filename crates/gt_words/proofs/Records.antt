@@ -1,10 +1,11 @@
 -- What each kind of step does to the words of one entry keeps the rule of that entry.
+use Rattle.gt_types.specs.declared.limits.TheConstants.{MAX_PINS}
 use Rattle.std.proofs.Common.{◌≡◌, ◌≢◌, ◌⊎◌, inl, inr, ⊎_elim, ℕ, zero, suc, ◌+◌, ◌-◌, ◌<◌, ◌≤◌, Bool, true, false, cond, ◌==◌, ◌&&◌, List, [], ◌∷◌, set, sym, refl, ap, ◌∙◌, subst, arith, Option, Some, None, IsSome}
 use Rattle.std.proofs.lemmas.Grind.{common_steps}
 use mathlib.Core.Option.{some, some-injective, some-ne-none}
 use lib.ListN.{get_elem?}
 use Rattle.atomic_table.proofs.Lists.{at_set}
-use Rattle.gt_entry.specs.Entries.{IsEntry}
+use Rattle.gt_entry.specs.Entries.{IsEntry, is_read_only}
 use Rattle.gt_entry.specs.Laws.{PartsOf, control-round, digits, entry-read, entry-word, parts}
 use Rattle.gt_entry.specs.Spelling.{IsSpelled, control_with, entry_of, low_bits, named_domain, word_of}
 use Rattle.gt_entry.specs.Words.{IsInRange, control_of, unit_of}
@@ -14,6 +15,7 @@ use Rattle.gt_entry.specs.declared.entry.Entry.TheVariants.{Invalid, Page, Sub, 
 use Rattle.gt_types.specs.declared.Dir.{Dir}
 use Rattle.gt_types.specs.declared.Dir.TheVariants.{Read, Write}
 use Rattle.gt_words.specs.Controls.{IsValid, generation_of, pins_in}
+use Rattle.gt_words.specs.Laws.{alone, bounded}
 use Rattle.gt_words.specs.Rule.{Agrees, CountsTaken, IsLawful, IsNextEntry, IsRecord, IsRevocation, IsSeenOf, MayFollow, SawRecord, ShowsRecord, total_pins, total_taken}
 use Rattle.gt_words.specs.Views.{HasBody, IsIn, LivePin, Seen, is_same_dir, pin_count, pins, record_seen, seen, taken_count, value_or_zero, weight, with_body, without_pin}
 use Rattle.gt_entry.specs.declared.change.Change.{Change}
@@ -100,21 +102,6 @@ total_taken-set d (x ∷ xs) (suc i) h m e = let r = total_taken-set d xs i h m 
 
 -- the list of records
 
-pub bounded : (x : EntryRecord) (xs : List EntryRecord) (y : EntryRecord) → IsLawful x xs → IsIn y (x ∷ xs) → y.generation ≤ x.generation
-bounded x [] y l (inl e) = let g : y.generation ≡ x.generation = ap (λ (z : EntryRecord). z.generation) e in omega arith
-bounded x [] y l (inr h) = absurd h
-bounded x (z ∷ zs) y l (inl e) = let g : y.generation ≡ x.generation = ap (λ (w : EntryRecord). w.generation) e in omega arith
-bounded x (z ∷ zs) y l (inr h) = let r = bounded z zs y l.2 h in ⊎_elim (λ (t : IsRevocation x z). let e = t.1 in omega arith)
-    (λ (t : IsNextEntry x z). let e = t.0 in omega arith) l.1
-
--- where the last record is an entry, no other has its generation
-pub alone : (x : EntryRecord) (xs : List EntryRecord) (y : EntryRecord) → IsLawful x xs → x.entry ≢ Invalid → IsIn y (x ∷ xs) → y.generation ≡ x.generation → y ≡ x
-alone x [] y l n (inl e) g = e
-alone x [] y l n (inr h) g = absurd h
-alone x (z ∷ zs) y l n (inl e) g = e
-alone x (z ∷ zs) y l n (inr h) g = let r = bounded z zs y l.2 h in absurd (⊎_elim (λ (t : IsRevocation x z). n t.0)
-    (λ (t : IsNextEntry x z). let e = t.0 in omega arith) l.1)
-
 -- a record that comes after a list is none of it, if it is an entry
 pub fresh : (x : EntryRecord) (xs : List EntryRecord) (w y : EntryRecord) → IsLawful x xs → MayFollow w x → IsIn y (x ∷ xs) → w ≡ y → w.entry ≡ Invalid
 fresh x xs w y l f h e = let r = bounded x xs y l h in ⊎_elim (λ (t : IsRevocation w x). t.0)
@@ -171,9 +158,9 @@ module _ (x : EntryRecord) (xs : List EntryRecord) (a b : ℕ) (hs : List (List 
   all_known : (f : SawRecord x xs (seen (m ∷ h))) → ((j : ℕ) (y : List EntryStep) → get_elem? hs j ≡ some y → SawRecord x xs (seen y)) → (j : ℕ) (y : List EntryStep) → get_elem? (set hs i (m ∷ h)) j ≡ some y → SawRecord x xs (seen y)
   all_known f saw j y e = ⊎_elim (λ (t : (j ≡ i) × ((m ∷ h) ≡ y)). subst (λ (z : List EntryStep). SawRecord x xs (seen z)) t.1 f) (λ (t : (j ≢ i) × (get_elem? hs j ≡ some y)). saw j y t.1) (at_set hs i j (m ∷ h) y e)
 
-  all_pinned : ((p : LivePin) → IsIn p (pins (m ∷ h)) → IsIn p.1 (x ∷ xs)) → ((j : ℕ) (y : List EntryStep) → get_elem? hs j ≡ some y → (p : LivePin) → IsIn p (pins y) → IsIn p.1 (x ∷ xs))
-      → (j : ℕ) (y : List EntryStep) → get_elem? (set hs i (m ∷ h)) j ≡ some y → (p : LivePin) → IsIn p (pins y) → IsIn p.1 (x ∷ xs)
-  all_pinned f pinned j y e = ⊎_elim (λ (t : (j ≡ i) × ((m ∷ h) ≡ y)). subst (λ (z : List EntryStep). (p : LivePin) → IsIn p (pins z) → IsIn p.1 (x ∷ xs)) t.1 f)
+  all_pinned : ((p : LivePin) → IsIn p (pins (m ∷ h)) → IsIn p.1 (x ∷ xs) × (p.1.entry ≢ Invalid)) → ((j : ℕ) (y : List EntryStep) → get_elem? hs j ≡ some y → (p : LivePin) → IsIn p (pins y) → IsIn p.1 (x ∷ xs) × (p.1.entry ≢ Invalid))
+      → (j : ℕ) (y : List EntryStep) → get_elem? (set hs i (m ∷ h)) j ≡ some y → (p : LivePin) → IsIn p (pins y) → IsIn p.1 (x ∷ xs) × (p.1.entry ≢ Invalid)
+  all_pinned f pinned j y e = ⊎_elim (λ (t : (j ≡ i) × ((m ∷ h) ≡ y)). subst (λ (z : List EntryStep). (p : LivePin) → IsIn p (pins z) → IsIn p.1 (x ∷ xs) × (p.1.entry ≢ Invalid)) t.1 f)
       (λ (t : (j ≢ i) × (get_elem? hs j ≡ some y)). pinned j y t.1) (at_set hs i j (m ∷ h) y e)
 
   still_counted : get_elem? hs i ≡ some h → (s : Option Seen) → CountsTaken hs s → CountsTaken (set hs i (m ∷ h)) s
@@ -194,6 +181,7 @@ module _ (x : EntryRecord) (xs : List EntryRecord) (a b : ℕ) (hs : List (List 
     body = k.body;
     lawful = k.lawful;
     unpinned = λ n. (r ∙ (k.unpinned n).0, w ∙ (k.unpinned n).1);
+    unwritten = λ n. w ∙ k.unwritten n;
     pinned = all_pinned (λ q t. k.pinned i h e q (subst (IsIn q) p t)) k.pinned;
     saw = all_known f k.saw;
     counted = all_counted e c k.counted;
@@ -261,14 +249,19 @@ more : (d : Dir) (e : Entry) (g r w r' w' : ℕ) → r' ≡ r + weight Read d �
 more Read e g r w r' w' p q = omega arith
 more Write e g r w r' w' p q = omega arith
 
-few_more : (d : Dir) (r w r' w' : ℕ) → r' ≡ r + weight Read d → w' ≡ w + weight Write d → (r < 4096) × (w < 4096) → (d ≡ Read → r < 4095) → (d ≡ Write → w < 4095) → (r' < 4096) × (w' < 4096)
+-- a pin of a read-only record is a read pin
+read_pin : (d : Dir) (x : EntryRecord) → (d ≡ Write → is_read_only x.entry ≡ false) → (old new : ℕ) → new ≡ old + weight Write d → is_read_only x.entry ≡ true → old ≡ 0 → new ≡ 0
+read_pin Read x writable old new e ro none_yet = omega arith
+read_pin Write x writable old new e ro none_yet = let f = writable refl in absurd (cc)
+
+few_more : (d : Dir) (r w r' w' : ℕ) → r' ≡ r + weight Read d → w' ≡ w + weight Write d → (r < 4096) × (w < 4096) → (d ≡ Read → r < MAX_PINS) → (d ≡ Write → w < MAX_PINS) → (r' < 4096) × (w' < 4096)
 few_more Read r w r' w' p q f a b = let h = a refl in let g = f.1 in (omega arith, omega arith)
 few_more Write r w r' w' p q f a b = let h = b refl in let g = f.0 in (omega arith, omega arith)
 
 module _ (x : EntryRecord) (xs : List EntryRecord) (a b : ℕ) (hs : List (List EntryStep)) (i : ℕ) (h : List EntryStep) where
-  pub pins_shown : (word expected : ℕ) (d : Dir) → ShowsRecord x xs word a b hs → get_elem? hs i ≡ some h → x.entry ≢ Invalid → (d ≡ Read → total_pins Read hs < 4095) → (d ≡ Write → total_pins Write hs < 4095)
+  pub pins_shown : (word expected : ℕ) (d : Dir) → ShowsRecord x xs word a b hs → get_elem? hs i ≡ some h → x.entry ≢ Invalid → (d ≡ Write → is_read_only x.entry ≡ false) → (d ≡ Read → total_pins Read hs < MAX_PINS) → (d ≡ Write → total_pins Write hs < MAX_PINS)
       → ShowsRecord x xs (word + unit_of d) a b (set hs i (Pinned d expected x ∷ h))
-  pins_shown word expected d k e n fr fw = let hs' : List (List EntryStep) = set hs i (Pinned d expected x ∷ h) in
+  pins_shown word expected d k e n writable fr fw = let hs' : List (List EntryStep) = set hs i (Pinned d expected x ∷ h) in
       let r : total_pins Read hs' ≡ total_pins Read hs + weight Read d = let t = total_pins-set Read hs i h (Pinned d expected x ∷ h) e in omega arith in
       let w : total_pins Write hs' ≡ total_pins Write hs + weight Write d = let t = total_pins-set Write hs i h (Pinned d expected x ∷ h) e in omega arith in record {
         spelled = ap (λ (z : ℕ). z + unit_of d) k.spelled ∙ more d x.entry x.generation (total_pins Read hs) (total_pins Write hs) (total_pins Read hs') (total_pins Write hs') r w;
@@ -276,7 +269,8 @@ module _ (x : EntryRecord) (xs : List EntryRecord) (a b : ℕ) (hs : List (List 
         body = k.body;
         lawful = k.lawful;
         unpinned = λ z. absurd (n z);
-        pinned = all_pinned x xs a b hs i h (Pinned d expected x) (λ p t. ⊎_elim (λ (s : p ≡ (d, x)). inl (ap (λ (z : LivePin). z.1) s)) (λ (s : IsIn p (pins h)). k.pinned i h e p s) t) k.pinned;
+        unwritten = λ z. read_pin d x writable (total_pins Write hs) (total_pins Write hs') w z (k.unwritten z);
+        pinned = all_pinned x xs a b hs i h (Pinned d expected x) (λ p t. ⊎_elim (λ (s : p ≡ (d, x)). let one = ap (λ (z : LivePin). z.1) s in (inl one, subst (λ (u : EntryRecord). u.entry ≢ Invalid) (sym one) n)) (λ (s : IsIn p (pins h)). k.pinned i h e p s) t) k.pinned;
         saw = all_known x xs a b hs i h (Pinned d expected x) (k.saw i h e) k.saw;
         counted = all_counted x xs a b hs i h (Pinned d expected x) e (k.counted i h e) k.counted;
       }
@@ -292,6 +286,7 @@ module _ (x : EntryRecord) (xs : List EntryRecord) (a b : ℕ) (hs : List (List 
         body = k.body;
         lawful = k.lawful;
         unpinned = λ z. let q = k.unpinned z in let q0 = q.0 in let q1 = q.1 in (omega arith, omega arith);
+        unwritten = λ z. let q = k.unwritten z in omega arith;
         pinned = all_pinned x xs a b hs i h m (λ q t. k.pinned i h e q (IsIn-without_pin d g q (pins h) t)) k.pinned;
         saw = all_known x xs a b hs i h m (k.saw i h e) k.saw;
         counted = all_counted x xs a b hs i h m e (k.counted i h e) k.counted;
@@ -305,6 +300,7 @@ module _ (x : EntryRecord) (xs : List EntryRecord) (a b : ℕ) (hs : List (List 
     body = subst (λ (y : Entry). IsSpelled y a' b') (sym n) tt;
     lawful = s.lawful;
     unpinned = s.unpinned;
+    unwritten = s.unwritten;
     pinned = s.pinned;
     saw = s.saw;
     counted = s.counted;
@@ -312,16 +308,17 @@ module _ (x : EntryRecord) (xs : List EntryRecord) (a b : ℕ) (hs : List (List 
 
   -- the owner exchanges the control word
   pub changes_shown : (word word' expected stored : ℕ) (c : Change) (y : EntryRecord) → ShowsRecord x xs word a b hs → get_elem? hs i ≡ some h → IsRecord y → MayFollow y x → IsSpelled y.entry a b
-      → word' ≡ word_of y.entry y.generation (total_pins Read hs) (total_pins Write hs) → (y.entry ≡ Invalid → (total_pins Read hs ≡ 0) × (total_pins Write hs ≡ 0))
+      → word' ≡ word_of y.entry y.generation (total_pins Read hs) (total_pins Write hs) → (y.entry ≡ Invalid → (total_pins Read hs ≡ 0) × (total_pins Write hs ≡ 0)) → (is_read_only y.entry ≡ true → total_pins Write hs ≡ 0)
       → ShowsRecord y (x ∷ xs) word' a b (set hs i (Changed c expected stored y ∷ h))
-  changes_shown word word' expected stored c y k e ok may body is unpinned = let m : EntryStep = Changed c expected stored y in let s = sees_shown x xs a b hs i h m word k e refl (k.saw i h e) (k.counted i h e) in
+  changes_shown word word' expected stored c y k e ok may body is unpinned unwritten = let m : EntryStep = Changed c expected stored y in let s = sees_shown x xs a b hs i h m word k e refl (k.saw i h e) (k.counted i h e) in
       let r = same_held x xs a b hs i h m Read e refl in let w = same_held x xs a b hs i h m Write e refl in record {
         spelled = is ∙ ap (λ (z : ℕ × ℕ). word_of y.entry y.generation z.0 z.1) (λ j. (sym r j, sym w j));
         in_range = s.in_range;
         body = body;
         lawful = (ok, may, k.lawful);
         unpinned = λ n. (r ∙ (unpinned n).0, w ∙ (unpinned n).1);
-        pinned = λ j z at p t. inr (s.pinned j z at p t);
+        unwritten = λ n. w ∙ unwritten n;
+        pinned = λ j z at p t. let old = s.pinned j z at p t in (inr old.0, old.1);
         saw = λ j z at. on (seen z) (s.saw j z at);
         counted = s.counted;
       }

@@ -1,5 +1,5 @@
 -- What follows from the state that a step was taken in.
-use Rattle.std.proofs.Common.{◌≡◌, ◌≢◌, inl, inr, ℕ, ◌+◌, ◌-◌, ◌*◌, ◌%◌, ◌^◌, ◌<◌, ◌≤◌, Bool, true, false, not, cond, ◌==◌, List, [], ◌∷◌, map, get_or, sym, refl, ap, ◌∙◌, subst, arith, Option, Some, None, IfSome, eq-eqb, ne_eqb}
+use Rattle.std.proofs.Common.{◌≡◌, ◌≢◌, inl, inr, ℕ, ◌+◌, ◌-◌, ◌*◌, ◌%◌, ◌^◌, ◌<◌, ◌≤◌, Bool, true, false, not, cond, ◌==◌, List, [], ◌∷◌, map, get_or, sym, refl, ap, ◌∙◌, subst, arith, Option, Some, None, eq-eqb, ne_eqb}
 use mathlib.Core.Option.{some}
 use mathlib.Core.Logic.{dite}
 use native.Mathlib.Decide.{ℕ_discrete}
@@ -7,23 +7,28 @@ use prog.Atomic.{either}
 use lib.ListN.{get_elem?}
 use Rattle.atomic_table.proofs.Lists.{at_map}
 use Rattle.gt_entry.specs.Entries.{is_read_only}
-use Rattle.gt_entry.specs.Spelling.{idle_word_of, named_domain, word_of}
-use Rattle.gt_entry.specs.Words.{unit_of}
-use Rattle.gt_entry.specs.declared.entry.Entry.TheVariants.{Invalid}
+use Rattle.gt_entry.specs.Spelling.{control_with, idle_word_of, named_domain, word_of}
+use Rattle.gt_entry.specs.Words.{control_of, unit_of}
+use Rattle.gt_entry.specs.declared.control.Control.{Control}
+use Rattle.gt_entry.specs.declared.entry.Entry.{Entry}
+use Rattle.gt_entry.specs.declared.entry.Entry.TheVariants.{Invalid, Page, Sub, Via}
 use Rattle.gt_types.specs.declared.Dir.{Dir}
 use Rattle.gt_types.specs.declared.Dir.TheVariants.{Read, Write}
+use Rattle.gt_words.proofs.Kept.{AreAlike, body_generation, given_less, given_records, keeps, keeps_header, keeps_others, keeps_pins, keeps_rows, sees_no_earlier, some_more, taken_more, taken_records, there_is}
 use Rattle.gt_words.proofs.Lifts.{steps_on-added, steps_on-added-else}
 use Rattle.gt_words.proofs.OneEntry.{count_in, held_at, idle_held, mine}
 use Rattle.gt_words.proofs.Owed.{spelled_generation}
-use Rattle.gt_words.proofs.Records.{bounded, legal_record, listed_record, seen_is_last, spelled_parts}
-use Rattle.gt_words.specs.Conditions.{AddsToEntry, StepsOnBody, Changes, CountsPins, Demotes, HasLooked, HasNoPins, HasNoWritePins, Holds, IsBusyOf, IsIdleOf, IsNotEarlier, IsWordOf, KeepsPins, MayPin, MissesChange, MissesPin, Pins, Revokes, StepsOnControl, StoresBody, Unpins}
+use Rattle.gt_words.specs.Keeping.{HoldsOneMore, generation_in}
+use Rattle.gt_words.specs.Laws.{bounded, one_record}
+use Rattle.gt_words.proofs.Records.{legal_record, listed_record, seen_is_last, spelled_control, spelled_parts}
+use Rattle.gt_words.specs.Conditions.{AddsToEntry, Changes, CountsPins, Demotes, HasLooked, HasNoPins, HasNoWritePins, Holds, IsBusyOf, IsIdleOf, IsNotEarlier, IsWordOf, LooksAtBody, LooksAtControl, MayPin, MissesBusy, MissesChange, MissesPin, Pins, Revokes, StepsOnControl, StoresBody, Unpins}
 use Rattle.gt_words.specs.Controls.{IsTurnable, IsValid, generation_of, pins_in}
 use Rattle.gt_words.specs.Rule.{IsRecord, Layout, SawRecord, ShowsEntry, ShowsRecord, owner_steps, place, total_pins}
 use Rattle.gt_words.specs.Steps.{TakesStep, changed, changed_word, exchanging, half_index, half_of, missed, on_entry, taken}
-use Rattle.gt_words.specs.Views.{IsIn, LivePin, Seen, earlier_records, is_half, last_of, last_record, last_seen, own, own_list, pin_count, pins, record_seen, seen, steps_on, steps_on_header, stored_body, with_step}
+use Rattle.gt_words.specs.Views.{IsIn, LivePin, Seen, earlier_records, is_half, last_of, last_record, last_seen, own, own_body, pin_count, pins, record_seen, seen, steps_on, steps_on_header, stored_body, with_step}
 use Rattle.gt_entry.specs.declared.change.Change.{Change}
 use Rattle.gt_words.specs.declared.view.EntryStep.{EntryStep}
-use Rattle.gt_words.specs.declared.view.EntryStep.TheVariants.{ChangeMissed, Changed, PinMissed, Pinned, ReadBody, StoredBody, Unpinned}
+use Rattle.gt_words.specs.declared.view.EntryStep.TheVariants.{ChangeMissed, Changed, Looked, PinMissed, Pinned, ReadBody, StoredBody, Unpinned}
 use Rattle.gt_entry.specs.declared.change.Half.{Half}
 use Rattle.gt_entry.specs.declared.change.Half.TheVariants.{First, Second}
 use Rattle.gt_words.specs.declared.view.Purpose.{Purpose}
@@ -40,12 +45,6 @@ adds_to_entry t r m v w e = record {
   others = λ t' r' n. ap (steps_on t' r') e ∙ steps_on-added-else t r m v t' r' n;
   headers = λ t'. ap (steps_on_header t') e;
 }
-
--- a step that takes no pin and gives none back
-pub keeps_pins : (t r : ℕ) (m : EntryStep) (v w : View) → AddsToEntry t r m v w → pins (m ∷ steps_on t r v) ≡ pins (steps_on t r v) → KeepsPins v w
-keeps_pins t r m v w z same t' r' = dite (ℕ_discrete t t')
-    (λ e. dite (ℕ_discrete r r') (λ f. subst (λ (u : ℕ × ℕ). pins (steps_on u.0 u.1 w) ≡ pins (steps_on u.0 u.1 v)) (λ i. (e i, f i)) (ap pins z.here ∙ same)) (λ n. ap pins (z.others t' r' (λ _ f. n f))))
-    (λ n. ap pins (z.others t' r' (λ e _. n e)))
 
 -- an exchange that found the word expected was taken
 pub exchange_taken : (k : Layout) (t r : ℕ) (v : View) (p : Purpose) (old new found : ℕ) (w : View) → found ≡ old
@@ -88,12 +87,17 @@ module _ (k : Layout) (t r : ℕ) (m : EntryStep) (found left : ℕ) (v w : View
   pub not_earlier : IsNotEarlier t r v found
   not_earlier = go (seen (steps_on t r v)) (shown_there.record_shown.saw v.position (steps_on t r v) seat_there)
     where
-      go : (s : Option Seen) → SawRecord (last_record k.first (owner_steps t all)) (earlier_records k.first (owner_steps t all)) s → IfSome s (λ s. generation_of s.word ≤ generation_of found)
-      go None q = tt
+      go : (s : Option Seen) → SawRecord (last_record k.first (owner_steps t all)) (earlier_records k.first (owner_steps t all)) s → generation_in s ≤ generation_of found
+      go None q = omega arith
       go (Some s) q = let f = shown_there.record_shown in let x : EntryRecord = last_record k.first (owner_steps t all) in let xs : List EntryRecord = earlier_records k.first (owner_steps t all) in
           let b = bounded x xs q.at f.lawful q.listed in
           let e : generation_of s.word ≡ q.at.generation = spelled_generation q.at s.word q.reads q.writes (listed_record x xs q.at f.lawful q.listed) q.in_range q.spelled in
           let g : generation_of found ≡ x.generation = spelled_generation x found (total_pins Read all) (total_pins Write all) (legal_record x xs f.lawful) f.in_range f.spelled in omega arith
+
+  -- the view's pins of one generation have one record
+  pub alike : AreAlike (pins (steps_on t r v))
+  alike p q a b g = let f = shown_there.record_shown in let pin = f.pinned v.position (steps_on t r v) seat_there p a in let other = f.pinned v.position (steps_on t r v) seat_there q b in
+      one_record (last_record k.first (owner_steps t all)) (earlier_records k.first (owner_steps t all)) p.1 q.1 f.lawful pin.0 other.0 pin.1 other.1 g
 
   module _ (own_is : v.position ≡ t) where
     -- the entry is shown by the owner's last record
@@ -108,12 +112,21 @@ module _ (k : Layout) (t r : ℕ) (m : EntryStep) (found left : ℕ) (v w : View
 
     -- the word found is one of the record
     pub own_word : IsWordOf (last_of r v) found
-    own_word = (total_pins Read all, total_pins Write all, owners_entry.in_range.0, owners_entry.in_range.1, spelled_word)
+    own_word = let x : EntryRecord = last_of r v in let rec = legal_record x (earlier_records v.first (steps_on v.position r v)) owners_entry.lawful in record {
+      reads = total_pins Read all;
+      writes = total_pins Write all;
+      few = owners_entry.in_range;
+      spelled = spelled_word;
+      control = ap control_of spelled_word ∙ spelled_control x.entry x.generation (total_pins Read all) (total_pins Write all) rec.0 owners_entry.in_range rec.1;
+    }
 
     -- another word than the idle one has pins
     pub busy : (word : ℕ) → IsIdleOf (last_of r v) word → found ≢ word → IsBusyOf (last_of r v) found
-    busy word idle n = let x : EntryRecord = last_of r v in let reads : ℕ = total_pins Read all in let writes : ℕ = total_pins Write all in
-        (reads, writes, owners_entry.in_range.0, owners_entry.in_range.1, spelled_word, dite (ℕ_discrete reads 0) (λ a. dite (ℕ_discrete writes 0) (λ b. absurd (n (let s = spelled_word in omega arith))) (λ b. inr b)) (λ a. inl a))
+    busy word idle n = let x : EntryRecord = last_of r v in let rec = legal_record x (earlier_records v.first (steps_on v.position r v)) owners_entry.lawful in let reads : ℕ = total_pins Read all in let writes : ℕ = total_pins Write all in
+        let p = spelled_parts x.entry x.generation reads writes rec.0 owners_entry.in_range in let a : pins_in Read found ≡ reads = ap (pins_in Read) spelled_word ∙ p.reads in let b : pins_in Write found ≡ writes = ap (pins_in Write) spelled_word ∙ p.writes in record {
+          word_is = own_word;
+          pinned = dite (ℕ_discrete reads 0) (λ e. dite (ℕ_discrete writes 0) (λ f. absurd (n (let s = spelled_word in omega arith))) (λ f. inr (λ g. f (sym b ∙ g)))) (λ e. inl (λ g. e (sym a ∙ g)));
+        }
 
     -- while an invalid entry has no pins, its word is the idle one
     pub still_idle : (word : ℕ) → IsIdleOf (last_of r v) word → (last_of r v).entry ≡ Invalid → found ≡ word
@@ -138,10 +151,6 @@ module _ (k : Layout) (t r : ℕ) (m : EntryStep) (found left : ℕ) (v w : View
         let e : pins_in Write found ≡ total_pins Write all = ap (pins_in Write) spelled_word ∙ (spelled_parts x.entry x.generation (total_pins Read all) (total_pins Write all) rec.0 owners_entry.in_range).writes in
         omega arith
 
--- the list has a pin of that kind and generation
-abbrev HasPin : Dir → ℕ → List EntryStep → Type 0
-HasPin d g ms = (p : LivePin) × IsIn p (pins ms) × (p.0 ≡ d) × (p.1.generation ≡ g)
-
 -- the view of the owner after a step on its own entry
 own_steps : (t r : ℕ) (m : EntryStep) (v : View) → v.position ≡ t → steps_on v.position r (with_step (on_entry t r m) v) ≡ m ∷ steps_on v.position r v
 own_steps t r m v own_is = subst (λ (u : ℕ). steps_on u r (with_step (on_entry t r m) v) ≡ m ∷ steps_on u r v) (sym own_is) (steps_on-added t r m v)
@@ -159,36 +168,60 @@ module _ (k : Layout) (r : ℕ) (c : Change) (word : ℕ) (v w : View) (vn : v.p
 
   -- the owner's exchange was taken
   pub changes : StepsOnControl k v.position r (Changed c word stored after) word stored v w → Changes k r c word v w
-  changes z = record {
+  changes z = let m : EntryStep = Changed c word stored after in record {
     steps = z;
-    pins = keeps_pins v.position r (Changed c word stored after) v w z.adds refl;
-    last = ap (last_of r) z.adds.view ∙ ap (last_record v.first) (own_steps v.position r (Changed c word stored after) v refl);
+    last = ap (last_of r) z.adds.view ∙ ap (last_record v.first) (own_steps v.position r m v refl);
+    bodies = λ h. ap (own_body r h) z.adds.view ∙ ap (stored_body h) (own_steps v.position r m v refl);
+    rows = keeps_others r m v w z.adds;
+    header = keeps_header v.position r m v w z.adds;
+    pins = keeps_pins v.position r m v w z.adds refl;
+    seen = sees_no_earlier v.position r m v w z.adds (omega arith);
   }
 
   -- the owner's exchange was missed
   pub misses_change : (found : ℕ) → found ≢ word → StepsOnControl k v.position r (ChangeMissed c word stored found) found found v w → MissesChange k r c word found v w
-  misses_change found n z = let m : EntryStep = ChangeMissed c word stored found in record {
+  misses_change found n z = let m : EntryStep = ChangeMissed c word stored found in let later = not_earlier k v.position r m found found v w vn rn z in record {
     another = n;
     same_record = own_word k v.position r m found found v w vn rn z refl;
     steps = z;
-    pins = keeps_pins v.position r m v w z.adds refl;
-    unchanged = ap (own_list r) z.adds.view ∙ ap (own v.first) (own_steps v.position r m v refl);
-    not_earlier = not_earlier k v.position r m found found v w vn rn z;
+    not_earlier = later;
+    keeps = keeps v.position r m v w z.adds (record { lists = λ g ms. refl; last = λ g ms. refl; bodies = λ h ms. refl }) refl later;
   }
+
+-- a look at a control word
+pub looks : (k : Layout) (t r n : ℕ) (v w : View) → t < k.domains → r < TABLE_ENTRIES → w ≡ with_step (on_entry t r (Looked n)) v → TakesStep (Unit {0}) k v (on_entry t r (Looked n)) (place t r 0) n n → LooksAtControl k t r n v w
+looks k t r n v w tn rn view step = let z : StepsOnControl k t r (Looked n) n n v w = record { adds = adds_to_entry t r (Looked n) v w view; step = step } in let later = not_earlier k t r (Looked n) n n v w tn rn z in record {
+  steps = z;
+  not_earlier = later;
+  keeps = keeps t r (Looked n) v w z.adds (record { lists = λ g ms. refl; last = λ g ms. refl; bodies = λ h ms. refl }) refl later;
+}
+
+-- the word of a look at an own entry is one of its last record
+pub looks_at_own : (k : Layout) (t r n : ℕ) (v w : View) → t < k.domains → r < TABLE_ENTRIES → LooksAtControl k t r n v w → v.position ≡ t → IsWordOf (last_of r w) n
+looks_at_own k t r n v w tn rn z own_is = subst (λ (x : EntryRecord). IsWordOf x n) (sym (z.keeps.rows.last r)) (own_word k t r (Looked n) n n v w tn rn z.steps own_is)
 
 module _ (k : Layout) (t r : ℕ) (d : Dir) (word : ℕ) (v w : View) (tn : t < k.domains) (rn : r < TABLE_ENTRIES) (looked : HasLooked t r v word) where
   -- a pin was taken
   pub pins_entry : IsValid word → MayPin k t r v d (record_seen (last_seen t r v)) → StepsOnControl k t r (Pinned d word (record_seen (last_seen t r v))) word (word + unit_of d) v w → Pins k t r d word v w
-  pins_entry valid may z = let m : EntryStep = Pinned d word (record_seen (last_seen t r v)) in let all : List (List EntryStep) = map (steps_on t r) z.step.before.views in let f = (shown_there k t r m word (word + unit_of d) v w tn rn z).record_shown in
-      let x : EntryRecord = last_record k.first (owner_steps t all) in let xs : List EntryRecord = earlier_records k.first (owner_steps t all) in record {
+  pins_entry valid may z = let y : EntryRecord = record_seen (last_seen t r v) in let m : EntryStep = Pinned d word y in let all : List (List EntryStep) = map (steps_on t r) z.step.before.views in let f = (shown_there k t r m word (word + unit_of d) v w tn rn z).record_shown in
+      let x : EntryRecord = last_record k.first (owner_steps t all) in let xs : List EntryRecord = earlier_records k.first (owner_steps t all) in
+      let pin : IsIn (d, y) (pins (steps_on t r w)) = subst (λ (ms : List EntryStep). IsIn (d, y) (pins ms)) (sym z.adds.here) (inl refl) in
+      let more : HoldsOneMore t r d (generation_of word) v w = subst (λ (g : ℕ). HoldsOneMore t r d g v w) (ap generation_of looked.1) (taken_more t r d word y v w z.adds) in record {
         steps = z;
         current = sym (seen_is_last x xs (last_seen t r v) word (total_pins Read all) (total_pins Write all) f.lawful (subst (SawRecord x xs) looked.0 (f.saw v.position (steps_on t r v) (seat_there k t r m word (word + unit_of d) v w tn rn z))) f.in_range f.spelled looked.1 valid looked.2).0;
         permitted = may;
-        held = subst (HasPin d (generation_of word)) (sym (ap (steps_on t r) z.adds.view ∙ steps_on-added t r m v)) ((d, record_seen (last_seen t r v)), inl refl, refl, ap generation_of looked.1);
+        held = some_more t r d (generation_of word) v w more;
+        pin = pin;
+        one_more = more;
+        records = taken_records t r d word y v w z.adds;
+        rows = keeps_rows t r m v w z.adds (record { lists = λ g ms. refl; last = λ g ms. refl; bodies = λ h ms. refl });
+        header = keeps_header t r m v w z.adds;
+        seen = sees_no_earlier t r m v w z.adds (omega arith);
       }
 
   pub misses_pin : (found : ℕ) → found ≢ word → StepsOnControl k t r (PinMissed d word (word + unit_of d) found) found found v w → MissesPin k t r d word found v w
-  misses_pin found n z = record { another = n; steps = z; pins = keeps_pins t r (PinMissed d word (word + unit_of d) found) v w z.adds refl; not_earlier = not_earlier k t r (PinMissed d word (word + unit_of d) found) found found v w tn rn z }
+  misses_pin found n z = let m : EntryStep = PinMissed d word (word + unit_of d) found in let later = not_earlier k t r m found found v w tn rn z in
+      record { another = n; steps = z; not_earlier = later; keeps = keeps t r m v w z.adds (record { lists = λ g ms. refl; last = λ g ms. refl; bodies = λ h ms. refl }) refl later }
 
 -- the counts of a control word are the sums of the views' pins
 pins_in-spelled : (d : Dir) (x : EntryRecord) (word reads writes : ℕ) → IsRecord x → (reads < 4096) × (writes < 4096) → word ≡ word_of x.entry x.generation reads writes → (hs : List (List EntryStep)) → reads ≡ total_pins Read hs → writes ≡ total_pins Write hs → pins_in d word ≡ total_pins d hs
@@ -209,12 +242,19 @@ lowered Write w a b = omega arith
 -- a pin was given back
 pub unpins : (k : Layout) (t r : ℕ) (d : Dir) (g : ℕ) (v : View) (found : ℕ) (w : View) → t < k.domains → r < TABLE_ENTRIES → Holds t r d g v → found < 18446744073709551616
     → w ≡ with_step (on_entry t r (Unpinned d g)) v → TakesStep (Unit {0}) k v (on_entry t r (Unpinned d g)) (place t r 0) found ((found + (2 ^ 64 - unit_of d)) % 2 ^ 64) → Unpins k t r d g v w
-unpins k t r d g v found w tn rn holds fits view step = let p = holds.0 in let c = count_in d p (pins (steps_on t r v)) holds.1 holds.2 in
+unpins k t r d g v found w tn rn holds fits view step = let p = there_is d g (pins (steps_on t r v)) holds in let c = count_in d p.0 (pins (steps_on t r v)) p.1 p.2 in
     let l = counts_pins k t r d tn rn step.before v.position v step.shown step.mine in let e : get_or step.before.words (place t r 0) 0 ≡ found = step.found_is in
-    let l' : pin_count d (pins (steps_on t r v)) ≤ pins_in d found = subst (λ (n : ℕ). pin_count d (pins (steps_on t r v)) ≤ pins_in d n) e l in let some_pin : 0 < pins_in d found = omega arith in record {
+    let l' : pin_count d (pins (steps_on t r v)) ≤ pins_in d found = subst (λ (n : ℕ). pin_count d (pins (steps_on t r v)) ≤ pins_in d n) e l in let some_pin : 0 < pins_in d found = omega arith in
+    let m : EntryStep = Unpinned d g in let a = adds_to_entry t r m v w view in
+    let z : StepsOnControl k t r m found (found - unit_of d) v w = record { adds = a; step = subst (λ (n : ℕ). TakesStep (Unit {0}) k v (on_entry t r m) (place t r 0) found n) (lowered d found some_pin fits) step } in record {
       found = found;
       counted = some_pin;
-      steps = record { adds = adds_to_entry t r (Unpinned d g) v w view; step = subst (λ (n : ℕ). TakesStep (Unit {0}) k v (on_entry t r (Unpinned d g)) (place t r 0) found n) (lowered d found some_pin fits) step };
+      steps = z;
+      one_less = given_less t r d g v w holds a;
+      records = given_records t r d g v w (alike k t r m found (found - unit_of d) v w tn rn z) a;
+      rows = keeps_rows t r m v w a (record { lists = λ g ms. refl; last = λ g ms. refl; bodies = λ h ms. refl });
+      header = keeps_header t r m v w a;
+      seen = sees_no_earlier t r m v w a (omega arith);
     }
 
 module _ (k : Layout) (t r : ℕ) (word : ℕ) (v : View) (w : View) (tn : t < k.domains) (rn : r < TABLE_ENTRIES) (own_is : v.position ≡ t) where
@@ -229,8 +269,8 @@ module _ (k : Layout) (t r : ℕ) (word : ℕ) (v : View) (w : View) (tn : t < k
   pub finds_another : (c : Change) (new found : ℕ) → new ≡ changed_word c (last_of r v) word → found ≢ word → StepsOnControl k t r (ChangeMissed c word new found) found found v w → MissesChange k r c word found v w
   finds_another c new found is n z = misses_change k r c word v w vn rn found n (subst (λ (u : ℕ × ℕ). StepsOnControl k u.0 r (ChangeMissed c word u.1 found) found found v w) (λ i. (sym own_is i, is i)) z)
 
-  pub finds_pins : (c : Change) (new found : ℕ) → new ≡ changed_word c (last_of r v) word → IsIdleOf (last_of r v) word → found ≢ word → StepsOnControl k t r (ChangeMissed c word new found) found found v w → MissesChange k r c word found v w × IsBusyOf (last_of r v) found
-  finds_pins c new found is idle n z = (finds_another c new found is n z, busy k t r (ChangeMissed c word new found) found found v w tn rn z own_is word idle n)
+  pub finds_pins : (c : Change) (new found : ℕ) → new ≡ changed_word c (last_of r v) word → IsIdleOf (last_of r v) word → found ≢ word → StepsOnControl k t r (ChangeMissed c word new found) found found v w → MissesBusy k r c word found v w
+  finds_pins c new found is idle n z = record { missed = finds_another c new found is n z; busy = busy k t r (ChangeMissed c word new found) found found v w tn rn z own_is word idle n }
 
   pub revokes : (new : ℕ) → new ≡ changed_word Revoke (last_of r v) word → IsIdleOf (last_of r v) word → StepsOnControl k t r (Changed Revoke word new (changed Revoke (last_of r v))) word new v w → Revokes k r word v w
   revokes new is idle z = let s = takes_change Revoke new is z in
@@ -242,7 +282,17 @@ module _ (k : Layout) (t r : ℕ) (word : ℕ) (v : View) (w : View) (tn : t < k
 
 -- the word of a record that has the other readonly
 pub turnable : (o : Bool) (x : EntryRecord) (word : ℕ) → IsWordOf x word → x.entry ≢ Invalid → is_read_only x.entry ≡ not o → IsTurnable o word
-turnable o x word h some_kind now = let is = h.4 in (x.entry, 16777216 * named_domain x.entry + 1099511627776 * x.generation + h.0 + 4096 * h.1, some_kind, now, omega arith)
+turnable o x word h some_kind now = let is = h.spelled in (x.entry, 16777216 * named_domain x.entry + 1099511627776 * x.generation + h.reads + 4096 * h.writes, some_kind, now, omega arith)
+
+-- its generation
+pub word_generation : (x : EntryRecord) (word : ℕ) → IsWordOf x word → generation_of word ≡ x.generation
+word_generation x word h = ap (λ (c : Control). c.generation) h.control ∙ of_entry x.entry
+  where
+    of_entry : (e : Entry) → (control_with e x.generation h.reads h.writes).generation ≡ x.generation
+    of_entry Invalid = refl
+    of_entry (Page d o f) = refl
+    of_entry (Sub d o f a n) = refl
+    of_entry (Via d o t r) = refl
 
 half_is : (h : Half) → half_of (half_index h) ≡ h
 half_is First = refl
@@ -250,11 +300,12 @@ half_is Second = refl
 
 -- a body word was read
 pub reads_body : (k : Layout) (t r i : ℕ) (h : Half) (n : ℕ) (v w : View) → i ≡ half_index h → w ≡ with_step (on_entry t r (ReadBody (half_of i) n)) v
-    → TakesStep (Unit {0}) k v (on_entry t r (ReadBody (half_of i) n)) (place t r i) n n → StepsOnBody k t r h (ReadBody h n) n n v w
-reads_body k t r i h n v w e view step = let f : half_of i ≡ h = ap half_of e ∙ half_is h in record {
-  adds = adds_to_entry t r (ReadBody h n) v w (view ∙ ap (λ (u : Half). with_step (on_entry t r (ReadBody u n)) v) f);
-  step = subst (λ (u : ℕ × Half). TakesStep (Unit {0}) k v (on_entry t r (ReadBody u.1 n)) (place t r u.0) n n) (λ j. (e j, f j)) step;
-}
+    → TakesStep (Unit {0}) k v (on_entry t r (ReadBody (half_of i) n)) (place t r i) n n → LooksAtBody k t r h n v w
+reads_body k t r i h n v w e view step = let f : half_of i ≡ h = ap half_of e ∙ half_is h in let a = adds_to_entry t r (ReadBody h n) v w (view ∙ ap (λ (u : Half). with_step (on_entry t r (ReadBody u n)) v) f) in
+    let same = body_generation h n (seen (steps_on t r v)) in record {
+      steps = record { adds = a; step = subst (λ (u : ℕ × Half). TakesStep (Unit {0}) k v (on_entry t r (ReadBody u.1 n)) (place t r u.0) n n) (λ j. (e j, f j)) step };
+      keeps = keeps t r (ReadBody h n) v w a (record { lists = λ g ms. refl; last = λ g ms. refl; bodies = λ i ms. refl }) refl (omega (arith, same));
+    }
 
 -- the owner stored a body word
 pub stores_body : (k : Layout) (t r i : ℕ) (h : Half) (value found : ℕ) (v w : View) → v.position ≡ t → i ≡ half_index h → w ≡ with_step (on_entry t r (StoredBody (half_of i) value)) v
@@ -265,10 +316,21 @@ stores_body k t r i h value found v w own_is e view step = let m : EntryStep = S
       found = found;
       steps = record { adds = a; step = subst (λ (u : ℕ × ℕ × Half). TakesStep (Unit {0}) k v (on_entry u.0 r (StoredBody u.2 value)) (place u.0 r u.1) found value) (λ j. (sym own_is j, e j, f j)) step };
       stored = ap (stored_body h) here ∙ same h;
+      other_half = λ i n. ap (stored_body i) here ∙ ap (λ (b : Bool). cond b value (stored_body i (steps_on v.position r v))) (not_same i h n);
       unchanged = ap (λ (u : View). own u.first (steps_on w.position r w)) view ∙ ap (own v.first) here;
+      last = ap (λ (u : View). last_record u.first (steps_on w.position r w)) view ∙ ap (last_record v.first) here;
+      rows = keeps_others r m v w a;
+      header = keeps_header v.position r m v w a;
       pins = keeps_pins v.position r m v w a refl;
+      seen = sees_no_earlier v.position r m v w a (omega arith);
     }
   where
+    not_same : (i h : Half) → h ≢ i → is_half i h ≡ false
+    not_same First First n = absurd (n refl)
+    not_same First Second n = refl
+    not_same Second First n = refl
+    not_same Second Second n = absurd (n refl)
+
     same : (h : Half) → cond (is_half h h) value (stored_body h (steps_on v.position r v)) ≡ value
     same First = refl
     same Second = refl

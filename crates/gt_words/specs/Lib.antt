@@ -3,5 +3,7 @@ pub mod Views
 pub mod Rule
 pub mod Events
 pub mod Steps
+pub mod Keeping
 pub mod Conditions
 pub mod Places
+pub mod Laws

@@ -1,16 +1,19 @@
 -- The rule of the table: between any two steps words and views show a state of the core.
-use Rattle.std.specs.Prelude.{◌≡◌, ◌≢◌, ◌⊎◌, ℕ, ◌+◌, ◌*◌, ◌/◌, ◌%◌, ◌<◌, ◌≤◌, not, ◌==◌, List, [], ◌∷◌, map, length, slice_index, slice_index_or, Option, Some, None, IfSome, position, unwrap_or}
+use Rattle.std.specs.Prelude.{◌≡◌, ◌≢◌, ◌⊎◌, ℕ, ◌+◌, ◌*◌, ◌<◌, ◌≤◌, true, not, ◌==◌, List, [], ◌∷◌, map, length, slice_index, slice_index_or, Option, Some, None, IfSome, position, unwrap_or}
 use mathlib.Core.Option.{some}
 use lib.ListN.{get_elem?}
 use Rattle.atomic_table.specs.Table.{State}
 use Rattle.gt_entry.specs.Entries.{IsEntry, is_read_only, with_ro}
 use Rattle.gt_entry.specs.Spelling.{IsSpelled, word_of}
+use Rattle.gt_entry.specs.Words.{header_word}
+use Rattle.gt_entry.specs.declared.header.Header.{Header}
 use Rattle.gt_entry.specs.declared.entry.Entry.{Entry}
 use Rattle.gt_entry.specs.declared.entry.Entry.TheVariants.{Invalid, Page, Sub, Via}
 use Rattle.gt_types.specs.declared.Dir.{Dir}
 use Rattle.gt_types.specs.declared.Dir.TheVariants.{Read, Write}
 use Rattle.gt_types.specs.declared.DomId.{DomId}
 use Rattle.gt_types.specs.declared.config.Config.{Config}
+use Rattle.gt_types.specs.declared.config.DomainConfig.{DomainConfig}
 use Rattle.gt_types.specs.declared.limits.TheConstants.{MAX_TABLE_FRAMES, TABLE_ENTRIES}
 use Rattle.gt_words.specs.declared.board.TheConstants.{DOMAIN_WORDS, ENTRY_WORDS}
 use Rattle.gt_words.specs.Controls.{pins_in}
@@ -28,21 +31,13 @@ pub record Layout : Type 0 where
   pub first : ℕ
   pub headers : List ℕ
 
--- version in the low two bits, table frames above (own)
-abbrev pub header_number : ℕ → ℕ → ℕ
-header_number version frames = version + frames * 4
-
--- the same header with another version (own)
-abbrev pub version_set : ℕ → ℕ → ℕ
-version_set version w = header_number version (w / 4)
-
--- the same header with another number of table frames (own)
-abbrev pub frames_set : ℕ → ℕ → ℕ
-frames_set frames w = header_number (w % 4) frames
+-- the header of a domain at the start (own)
+abbrev pub first_header : DomainConfig → Header
+first_header d = record { version = d.version; frames = d.table_frames }
 
 -- the run of a configuration (own)
 abbrev pub layout_of : Config → Layout
-layout_of c = record { ids = map (λ d. d.id) c.domains.items; domains = length c.domains.items; first = c.first_gen; headers = map (λ d. header_number d.version d.table_frames) c.domains.items }
+layout_of c = record { ids = map (λ d. d.id) c.domains.items; domains = length c.domains.items; first = c.first_gen; headers = map (λ d. header_word (first_header d)) c.domains.items }
 
 -- the position of a domain among those of the run, or their number where it is none of them (own)
 abbrev pub position_in : List DomId → DomId → ℕ
@@ -126,8 +121,10 @@ pub record ShowsRecord (x : EntryRecord) (xs : List EntryRecord) (word a b : ℕ
   pub lawful : IsLawful x xs
   -- an invalid last record has no pins in any view
   pub unpinned : x.entry ≡ Invalid → (total_pins Read hs ≡ 0) × (total_pins Write hs ≡ 0)
-  -- each pin is of a record of the owner's list
-  pub pinned : (i : ℕ) (h : List EntryStep) → get_elem? hs i ≡ some h → (p : LivePin) → IsIn p (pins h) → IsIn p.1 (x ∷ xs)
+  -- a read-only last record has no write pins in any view
+  pub unwritten : is_read_only x.entry ≡ true → total_pins Write hs ≡ 0
+  -- each pin is of a record of the owner's list, which is an entry
+  pub pinned : (i : ℕ) (h : List EntryStep) → get_elem? hs i ≡ some h → (p : LivePin) → IsIn p (pins h) → IsIn p.1 (x ∷ xs) × (p.1.entry ≢ Invalid)
   pub saw : (i : ℕ) (h : List EntryStep) → get_elem? hs i ≡ some h → SawRecord x xs (seen h)
   pub counted : (i : ℕ) (h : List EntryStep) → get_elem? hs i ≡ some h → CountsTaken hs (seen h)
 
@@ -141,9 +138,15 @@ pub record ShowsEntry (g t word a b : ℕ) (hs : List (List EntryStep)) : Type 0
   pub first : a ≡ stored_body First (owner_steps t hs)
   pub second : b ≡ stored_body Second (owner_steps t hs)
 
--- version 1 or 2, and a number of table frames within the limit (versions: grant_table.h; the limit: own)
+-- the header has version 1 or 2, and a number of table frames within the limit (versions: grant_table.h; the limit: own)
+pub record IsKeptHeader (h : Header) : Type 0 where
+  pub version : (h.version ≡ 1) ⊎ (h.version ≡ 2)
+  pub some : 0 < h.frames
+  pub few : h.frames ≤ MAX_TABLE_FRAMES
+
+-- the word is that of such a header (own)
 abbrev pub IsHeader : ℕ → Type 0
-IsHeader w = (version : ℕ) × (frames : ℕ) × ((version ≡ 1) ⊎ (version ≡ 2)) × (0 < frames) × (frames ≤ MAX_TABLE_FRAMES) × (w ≡ header_number version frames)
+IsHeader w = (h : Header) × IsKeptHeader h × (w ≡ header_word h)
 
 -- the header of the domain t, by the steps of each seat on it (own)
 abbrev pub header_now : Layout → ℕ → List (List HeaderStep) → ℕ

@@ -1,5 +1,5 @@
 -- What follows from the steps of one seat. Lists begin with what came last.
-use Rattle.std.specs.Prelude.{◌≡◌, ◌⊎◌, ℕ, ◌+◌, Bool, true, false, cond, IsSome, ◌==◌, ◌&&◌, List, [], ◌∷◌, Option, Some, None, slice_index}
+use Rattle.std.specs.Prelude.{◌≡◌, ◌⊎◌, ℕ, ◌+◌, Bool, true, false, cond, IsSome, ◌==◌, ◌&&◌, List, [], ◌∷◌, Option, Some, None, slice_index, count_by}
 use Rattle.gt_types.specs.declared.Dir.{Dir}
 use Rattle.gt_types.specs.declared.Dir.TheVariants.{Read, Write}
 use Rattle.gt_entry.specs.declared.entry.Entry.TheVariants as entries
@@ -15,7 +15,8 @@ use Rattle.gt_words.specs.declared.view.SeatStep.TheVariants.{Entry, Header}
 use Rattle.gt_words.specs.declared.view.View.{View}
 use Rattle.gt_entry.specs.declared.control.Kind.TheVariants.{Sub as KindSub}
 use Rattle.gt_entry.specs.Spelling.{entry_of}
-use Rattle.gt_entry.specs.Words.{control_of, kind_of}
+use Rattle.gt_entry.specs.Words.{control_of, header_of, kind_of}
+use Rattle.gt_entry.specs.declared.header.Header.{Header as TableHeader}
 use Rattle.gt_words.specs.Controls.{generation_of}
 
 -- a is in the list (own)
@@ -57,10 +58,18 @@ is_same_dir Read Read = true
 is_same_dir Write Write = true
 is_same_dir _ _ = false
 
+-- the pin is of that kind and generation (own)
+abbrev pub is_pin : Dir → ℕ → LivePin → Bool
+is_pin d g p = is_same_dir d p.0 && (g == p.1.generation)
+
 -- the list without its first pin of that kind and generation (own)
 abbrev pub without_pin : Dir → ℕ → List LivePin → List LivePin
 without_pin d g [] = []
-without_pin d g (p ∷ ps) = cond (is_same_dir d p.0 && (g == p.1.generation)) ps (p ∷ without_pin d g ps)
+without_pin d g (p ∷ ps) = cond (is_pin d g p) ps (p ∷ without_pin d g ps)
+
+-- the number of pins of that kind and generation (own)
+abbrev pub pins_like : Dir → ℕ → List LivePin → ℕ
+pins_like d g ps = count_by (is_pin d g) ps
 
 -- the pins that a seat has of an entry: those taken and not given back (own)
 abbrev pub pins : List EntryStep → List LivePin
@@ -194,6 +203,10 @@ own_list r v = own v.first (steps_on v.position r v)
 -- the header of the seat's own domain: the last one that it stored, or the one that it began with (own)
 abbrev pub own_header : View → ℕ
 own_header v = stored_header (slice_index v.headers v.position) (steps_on_header v.position v)
+
+-- the same as a header (own)
+abbrev pub own_table : View → TableHeader
+own_table v = header_of (own_header v)
 
 -- the body word that the seat stored last of its own entry r (own)
 abbrev pub own_body : ℕ → Half → View → ℕ

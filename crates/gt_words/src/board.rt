@@ -3,19 +3,19 @@ ghost use Rattle.std.specs.Prelude.{◌≡◌, ◌≢◌, ℕ, ◌+◌, ◌-◌,
 ghost use mathlib.Core.Option.{none};
 ghost use prog.Atomic.{either};
 ghost use Rattle.atomic_table.specs.Table.{step, Allows};
-ghost use Rattle.gt_entry.specs.Entries.{IsEntry, is_read_only};
-ghost use Rattle.gt_entry.specs.Spelling.{IsSpelled, idle_word_of};
-ghost use Rattle.gt_words.specs.Controls.{IsValid, IsTurnable, pins_in, generation_of, turned_word};
-ghost use Rattle.gt_words.specs.Views.{stored_body, steps_on, last_of, last_seen, record_seen};
-ghost use Rattle.gt_words.specs.Rule.{Shows, layout_of, place, header_place, IsHeader};
+ghost use Rattle.gt_entry.specs.Entries.{IsEntry};
+ghost use Rattle.gt_entry.specs.Spelling.{idle_word_of};
+ghost use Rattle.gt_words.specs.Controls.{IsTurnable, generation_of, turned_word};
+ghost use Rattle.gt_words.specs.Views.{last_of};
+ghost use Rattle.gt_words.specs.Rule.{Shows, layout_of, place, header_place, IsKeptHeader};
 ghost use Rattle.gt_words.specs.Steps.{StepKind, tells, tells_stored, looking, half_index};
-ghost use Rattle.gt_words.specs.Conditions.{CountsPins, IsWide, IsIdleOf, IsWordOf, IsBusyOf, HasLooked, Holds, MayPin, IsNotEarlier, StepsOnControl, StepsOnBody, StepsOnHeader, StoresBody, StoresHeader, KeepsPins, Unpins, Pins, MissesPin, Changes, MissesChange, Revokes, Demotes};
+ghost use Rattle.gt_words.specs.Conditions.{CanDemote, CanPin, CanPublish, CanRevoke, CanTurn, Changes, CountsPins, Demotes, Holds, IsWide, IsWordOf, LooksAtBody, LooksAtControl, LooksAtHeader, MissesBusy, MissesChange, MissesPin, Pins, Revokes, StoresBody, StoresHeader, Unpins};
 ghost use Rattle.gt_words.specs.Places.{new_view, IsSamePlace};
 
-use crate::view::{EntryStep, HeaderStep, Purpose, View};
+use crate::view::{Purpose, View};
 use atomic_table::{Play, Seat, Shared, Table, TableRule};
-use gt_entry::{Change, Control, Entry, Half, pin_unit};
-use gt_types::{Config, Dir, LAST_GENERATION, MAX_PINS, TABLE_ENTRIES};
+use gt_entry::{Change, Control, Entry, Half, Header, pin_unit};
+use gt_types::{Config, Dir, LAST_GENERATION, TABLE_ENTRIES};
 use std::alloc::Global;
 use std::marker::{Brand, PhantomData};
 
@@ -181,23 +181,21 @@ impl WordTable {
     pub(crate) fn load_header(&self, seat: &mut Place, at: usize) -> u64
         requires mine { seat.old.table_id ≡ self.now.table.shared.table_id }
         requires domain { at < length self.now.table.shared.key.domains.items }
-        ensures header { IsHeader result }
         ensures seat { IsSamePlace seat.old seat.new }
-        ensures step { StepsOnHeader (layout_of self.now.table.shared.key) at (HeaderStep.Looked result) result result seat.old.me.0 seat.new.me.0 }
-        ensures pins { KeepsPins seat.old.me.0 seat.new.me.0 }
+        ensures look { LooksAtHeader (layout_of self.now.table.shared.key) at result seat.old.me.0 seat.new.me.0 }
     {
         load_header_word::<Brand>(&self.table.shared, seat, at)
     }
 
     /// The owner stores its header.
-    pub(crate) fn store_header(&self, seat: &mut Place, at: usize, header: u64)
+    pub(crate) fn store_header(&self, seat: &mut Place, at: usize, header: Header)
         requires mine { (seat.old.table_id ≡ self.now.table.shared.table_id) × (seat.old.me.0.position ≡ at) }
         requires domain { at < length self.now.table.shared.key.domains.items }
-        requires header { IsHeader header }
+        requires header { IsKeptHeader header }
         ensures seat { IsSamePlace seat.old seat.new }
         ensures step { StoresHeader (layout_of self.now.table.shared.key) header seat.old.me.0 seat.new.me.0 }
     {
-        store_header_word::<Brand>(&self.table.shared, seat, at, header)
+        store_header_word::<Brand>(&self.table.shared, seat, at, header.pack())
     }
 
     /// A look at the control word of an entry.
@@ -205,10 +203,8 @@ impl WordTable {
         requires mine { seat.old.table_id ≡ self.now.table.shared.table_id }
         requires entry { (at < length self.now.table.shared.key.domains.items) × (gref < TABLE_ENTRIES) }
         ensures seat { IsSamePlace seat.old seat.new }
-        ensures step { StepsOnControl (layout_of self.now.table.shared.key) at gref (EntryStep.Looked result) result result seat.old.me.0 seat.new.me.0 }
-        ensures not_earlier { IsNotEarlier at gref seat.old.me.0 result }
+        ensures look { LooksAtControl (layout_of self.now.table.shared.key) at gref result seat.old.me.0 seat.new.me.0 }
         ensures own { seat.old.me.0.position ≡ at → IsWordOf (last_of gref seat.new.me.0) result }
-        ensures pins { KeepsPins seat.old.me.0 seat.new.me.0 }
     {
         load_word::<Brand>(&self.table.shared, seat, at, gref, 0)
     }
@@ -218,8 +214,7 @@ impl WordTable {
         requires mine { seat.old.table_id ≡ self.now.table.shared.table_id }
         requires entry { (at < length self.now.table.shared.key.domains.items) × (gref < TABLE_ENTRIES) }
         ensures seat { IsSamePlace seat.old seat.new }
-        ensures step { StepsOnBody (layout_of self.now.table.shared.key) at gref half (EntryStep.ReadBody half result) result result seat.old.me.0 seat.new.me.0 }
-        ensures pins { KeepsPins seat.old.me.0 seat.new.me.0 }
+        ensures look { LooksAtBody (layout_of self.now.table.shared.key) at gref half result seat.old.me.0 seat.new.me.0 }
     {
         load_word::<Brand>(&self.table.shared, seat, at, gref, index_of(half))
     }
@@ -235,9 +230,7 @@ impl WordTable {
     ) -> Result<(), u64>
         requires mine { seat.old.table_id ≡ self.now.table.shared.table_id }
         requires entry { (at < length self.now.table.shared.key.domains.items) × (gref < TABLE_ENTRIES) }
-        requires looked { HasLooked at gref seat.old.me.0 looked × IsValid looked }
-        requires room { pins_in dir looked < MAX_PINS }
-        requires permitted { MayPin (layout_of self.now.table.shared.key) at gref seat.old.me.0 dir (record_seen (last_seen at gref seat.old.me.0)) }
+        requires can { CanPin (layout_of self.now.table.shared.key) at gref dir looked seat.old.me.0 }
         ensures seat { IsSamePlace seat.old seat.new }
         ensures step { MatchResult result
             (λ _. Pins (layout_of self.now.table.shared.key) at gref dir looked seat.old.me.0 seat.new.me.0)
@@ -299,12 +292,12 @@ impl WordTable {
     ) -> Result<(), u64>
         requires mine { (seat.old.table_id ≡ self.now.table.shared.table_id) × (seat.old.me.0.position ≡ at) }
         requires entry { (at < length self.now.table.shared.key.domains.items) × (gref < TABLE_ENTRIES) }
-        requires invalid { IsIdleOf (last_of gref seat.old.me.0) word × ((last_of gref seat.old.me.0).entry ≡ Entry.Invalid) × ((last_of gref seat.old.me.0).generation < LAST_GENERATION) }
-        requires given { IsEntry entry × (entry ≢ Entry.Invalid) × IsSpelled entry (stored_body Half.First (steps_on at gref seat.old.me.0)) (stored_body Half.Second (steps_on at gref seat.old.me.0)) }
+        requires given { IsEntry entry }
+        requires can { CanPublish entry gref word seat.old.me.0 }
         ensures seat { IsSamePlace seat.old seat.new }
         ensures step { MatchResult result
             (λ _. Changes (layout_of self.now.table.shared.key) gref (Change.Publish entry) word seat.old.me.0 seat.new.me.0)
-            (λ n. MissesChange (layout_of self.now.table.shared.key) gref (Change.Publish entry) word n seat.old.me.0 seat.new.me.0 × IsBusyOf (last_of gref seat.old.me.0) n) }
+            (λ n. MissesBusy (layout_of self.now.table.shared.key) gref (Change.Publish entry) word n seat.old.me.0 seat.new.me.0) }
         ensures taken { IsOk result }
     {
         let new = idle_word(entry, Control::unpack(word).generation + 1);
@@ -323,11 +316,11 @@ impl WordTable {
     ) -> Result<(), u64>
         requires mine { (seat.old.table_id ≡ self.now.table.shared.table_id) × (seat.old.me.0.position ≡ at) }
         requires entry { (at < length self.now.table.shared.key.domains.items) × (gref < TABLE_ENTRIES) }
-        requires idle { IsIdleOf (last_of gref seat.old.me.0) word × ((last_of gref seat.old.me.0).entry ≢ Entry.Invalid) }
+        requires can { CanRevoke gref word seat.old.me.0 }
         ensures seat { IsSamePlace seat.old seat.new }
         ensures step { MatchResult result
             (λ _. Revokes (layout_of self.now.table.shared.key) gref word seat.old.me.0 seat.new.me.0)
-            (λ n. MissesChange (layout_of self.now.table.shared.key) gref Change.Revoke word n seat.old.me.0 seat.new.me.0 × IsBusyOf (last_of gref seat.old.me.0) n) }
+            (λ n. MissesBusy (layout_of self.now.table.shared.key) gref Change.Revoke word n seat.old.me.0 seat.new.me.0) }
     {
         let new = idle_word(Entry::Invalid, Control::unpack(word).generation);
         let purpose = Purpose::Change(Change::Revoke);
@@ -345,8 +338,7 @@ impl WordTable {
     ) -> Result<(), u64>
         requires mine { (seat.old.table_id ≡ self.now.table.shared.table_id) × (seat.old.me.0.position ≡ at) }
         requires entry { (at < length self.now.table.shared.key.domains.items) × (gref < TABLE_ENTRIES) }
-        requires word { IsWordOf (last_of gref seat.old.me.0) word × (pins_in Dir.Write word ≡ 0) × (generation_of word < LAST_GENERATION) }
-        requires writable { ((last_of gref seat.old.me.0).entry ≢ Entry.Invalid) × (is_read_only (last_of gref seat.old.me.0).entry ≡ false) }
+        requires can { CanDemote gref word seat.old.me.0 }
         ensures seat { IsSamePlace seat.old seat.new }
         ensures step { MatchResult result
             (λ _. Demotes (layout_of self.now.table.shared.key) gref word seat.old.me.0 seat.new.me.0)
@@ -368,8 +360,7 @@ impl WordTable {
     ) -> Result<(), u64>
         requires mine { (seat.old.table_id ≡ self.now.table.shared.table_id) × (seat.old.me.0.position ≡ at) }
         requires entry { (at < length self.now.table.shared.key.domains.items) × (gref < TABLE_ENTRIES) }
-        requires word { IsWordOf (last_of gref seat.old.me.0) word × (generation_of word < LAST_GENERATION) }
-        requires readonly { ((last_of gref seat.old.me.0).entry ≢ Entry.Invalid) × (is_read_only (last_of gref seat.old.me.0).entry ≡ true) }
+        requires can { CanTurn true gref word seat.old.me.0 }
         ensures seat { IsSamePlace seat.old seat.new }
         ensures step { MatchResult result
             (λ _. Changes (layout_of self.now.table.shared.key) gref Change.Promote word seat.old.me.0 seat.new.me.0)

@@ -9,11 +9,16 @@
 #![tactic(auto)]
 
 mod board;
+mod laws;
 mod start;
 #[cfg(test)]
 mod tests;
 mod view;
 mod words;
 
+pub use laws::{
+    every_domain_has_its_position, every_domain_is_of_the_run, every_pin_is_of_an_entry,
+    every_seat_has_its_position, pins_of_one_generation_have_one_record,
+};
 pub use view::{EntryRecord, EntryStep, HeaderStep, Purpose, SeatStep, View};
 pub use words::{Pin, Seat, Words};

@@ -1,7 +1,7 @@
 //! The words at the start, and a seat for each domain.
 ghost use Rattle.std.specs.Prelude.{◌≡◌, ℕ, ◌*◌, ◌<◌, ◌≤◌, length, slice_index, slice_get, Some, IfOk, HoldsAt};
 ghost use Rattle.gt_types.specs.Config.{IsWithinLimits};
-ghost use Rattle.gt_words.specs.Rule.{Layout, layout_of, header_number};
+ghost use Rattle.gt_words.specs.Rule.{layout_of, first_header};
 ghost use Rattle.gt_words.specs.Conditions.{Board, IsNewSeat, initial};
 ghost use Rattle.gt_words.specs.Places.{IsNewPlace, dealer_after, dealt_to};
 
@@ -36,7 +36,7 @@ pub(crate) fn domain_ids(alloc: Global, config: &Config) -> Result<Vec<DomId>, A
 // The header of a domain at the start.
 fn first_header(domain: DomainConfig) -> Header
     requires { (domain.version < 4) × (domain.table_frames < 256) }
-    ensures { (result.version ≡ domain.version) × (result.frames ≡ domain.table_frames) }
+    ensures { result ≡ first_header domain }
 {
     Header {
         version: domain.version as u8,

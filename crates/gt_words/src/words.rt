@@ -1,23 +1,18 @@
 //! The words and the seats with nothing in sight but what contracts name.
-ghost use Rattle.std.specs.Prelude.{◌≡◌, ◌≢◌, ◌⊎◌, ◌+◌, ◌<◌, ◌≤◌, [], length, MatchResult, IfOk, IfErr, OnOk, IsOk, HoldsAt, ℕ, position, ◌==◌, true, false};
+ghost use Rattle.std.specs.Prelude.{◌≡◌, ◌⊎◌, ◌<◌, ◌≤◌, [], length, MatchResult, IfOk, IfErr, OnOk, IsOk, HoldsAt, ℕ, position, ◌==◌, true};
 ghost use Rattle.gt_types.specs.Config.{IsWithinLimits};
 ghost use Rattle.gt_entry.specs.Words.{header_word};
-ghost use Rattle.gt_entry.specs.Entries.{IsEntry, is_read_only};
-ghost use Rattle.gt_entry.specs.Spelling.{IsSpelled, idle_word_of};
-ghost use Rattle.gt_words.specs.Controls.{IsValid, pins_in, generation_of};
-ghost use Rattle.gt_words.specs.Views.{own_header, own_body, last_of, last_seen, record_seen};
-ghost use Rattle.gt_words.specs.Rule.{layout_of, position_in, IsHeader, version_set, frames_set};
-ghost use Rattle.gt_words.specs.Conditions.{IsKeptHeader, Board, SeatOf, IsSeatOf, IsSameSeat, IsNewSeat, IsStartFault, IsIdleOf, IsWordOf, IsBusyOf, HasLooked, Holds, MayPin, CountsPins, IsNotEarlier, StepsOnControl, StepsOnBody, StepsOnHeader, StoresBody, StoresHeader, KeepsPins, Unpins, Pins, MissesPin, Changes, MissesChange, Revokes, Demotes};
+ghost use Rattle.gt_entry.specs.Entries.{IsEntry};
+ghost use Rattle.gt_words.specs.Controls.{generation_of};
+ghost use Rattle.gt_words.specs.Views.{own_header, own_table, last_of};
+ghost use Rattle.gt_words.specs.Rule.{layout_of, position_in, IsKeptHeader};
+ghost use Rattle.gt_words.specs.Conditions.{Board, SeatOf, IsSeatOf, IsSameSeat, IsNewSeat, IsStartFault, HasDomain, IsEntryOf, position_at, with_version, with_frames, IsWordOf, Holds, CanPin, CanPublish, CanRevoke, CanDemote, CanTurn, CountsPins, LooksAtHeader, LooksAtControl, LooksAtBody, StoresBody, StoresHeader, UnpinsPin, Pins, MissesPin, Changes, MissesChange, MissesBusy, Revokes, Demotes};
 
 use crate::board::{Place, WordTable};
 use crate::start::{deal_seats, domain_ids, first_words};
-use crate::view::{EntryStep, HeaderStep};
 use atomic_table::Table;
 use gt_entry::{Change, Control, Entry, Half, Header};
-use gt_types::{
-    Config, Dir, DomId, GrantRef, LAST_GENERATION, MAX_PINS, MAX_TABLE_FRAMES, StartFault,
-    TABLE_ENTRIES,
-};
+use gt_types::{Config, Dir, DomId, GrantRef, MAX_TABLE_FRAMES, StartFault, TABLE_ENTRIES};
 use std::alloc::{AllocError, Global};
 use std::marker::Model;
 
@@ -55,8 +50,9 @@ impl Seat {
         self.dom
     }
 
-    /// The header of its domain's table, as the seat stored it last or began with it.
+    /// Its domain's header: the one that it stored last, or the one that it began with.
     pub fn header(&self) -> Header
+        ensures value { result ≡ own_table self.now.view }
         ensures word { own_header self.now.view ≡ header_word result }
         ensures kept { IsKeptHeader result }
     {
@@ -107,28 +103,6 @@ fn position_of(ids: &[DomId], dom: DomId) -> usize
     }
 }
 
-// The same header with another version.
-fn with_version(header: Header, version: u32) -> Header
-    requires { version < 4 }
-    ensures { (result.version ≡ version) × (result.frames ≡ header.frames) }
-{
-    Header {
-        version: version as u8,
-        ..header
-    }
-}
-
-// The same header with another number of table frames.
-fn with_frames(header: Header, frames: u32) -> Header
-    requires { frames < 256 }
-    ensures { (result.version ≡ header.version) × (result.frames ≡ frames) }
-{
-    Header {
-        frames: frames as u8,
-        ..header
-    }
-}
-
 impl Words {
     /// The words of a run, all entries invalid at the first generation, and a seat for each domain, in order.
     ///
@@ -154,7 +128,7 @@ impl Words {
     #[inline(always)]
     fn position(&self, seat: &mut Seat, dom: DomId) -> usize
         requires { IsSeatOf self.now seat.old }
-        ensures position { result ≡ position_in self.now.layout.ids dom }
+        ensures position { result ≡ position_at self.now dom }
         ensures seat { seat.new ≡ seat.old }
     {
         if seat.found.dom.0 == dom.0 {
@@ -168,14 +142,26 @@ impl Words {
     /// A look at the header word of a domain: its table's version and number of frames.
     pub fn load_header(&self, seat: &mut Seat, dom: DomId) -> u64
         requires seat { IsSeatOf self.now seat.old }
-        requires domain { position_in self.now.layout.ids dom < length self.now.layout.ids }
-        ensures header { IsHeader result }
+        requires domain { HasDomain self.now.layout dom }
         ensures seat { IsSameSeat seat.old seat.new }
-        ensures step { StepsOnHeader self.now.layout (position_in self.now.layout.ids dom) (HeaderStep.Looked result) result result seat.old.view seat.new.view }
-        ensures pins { KeepsPins seat.old.view seat.new.view }
+        ensures fits { IsSeatOf self.now seat.new }
+        ensures look { LooksAtHeader self.now.layout (position_at self.now dom) result seat.old.view seat.new.view }
     {
         let at = self.position(seat, dom);
         self.words.load_header(&mut seat.place, at)
+    }
+
+    /// The owner stores its header.
+    pub fn store_header(&self, seat: &mut Seat, header: Header)
+        requires seat { IsSeatOf self.now seat.old }
+        requires header { IsKeptHeader header }
+        ensures seat { IsSameSeat seat.old seat.new }
+        ensures fits { IsSeatOf self.now seat.new }
+        ensures step { StoresHeader self.now.layout header seat.old.view seat.new.view }
+    {
+        let at = seat.position;
+        self.words.store_header(&mut seat.place, at, header);
+        seat.header = header;
     }
 
     /// The owner stores the version of its table, which is 1 or 2, in its header.
@@ -183,12 +169,14 @@ impl Words {
         requires seat { IsSeatOf self.now seat.old }
         requires version { (version ≡ 1) ⊎ (version ≡ 2) }
         ensures seat { IsSameSeat seat.old seat.new }
-        ensures step { StoresHeader self.now.layout (version_set version (own_header seat.old.view)) seat.old.view seat.new.view }
+        ensures fits { IsSeatOf self.now seat.new }
+        ensures step { StoresHeader self.now.layout (with_version version (own_table seat.old.view)) seat.old.view seat.new.view }
     {
-        let at = seat.position;
-        let header = with_version(seat.header, version);
-        self.words.store_header(&mut seat.place, at, header.pack());
-        seat.header = header;
+        let header = Header {
+            version: version as u8,
+            ..seat.header
+        };
+        self.store_header(seat, header);
     }
 
     /// The owner stores the number of frames of its table in its header.
@@ -196,35 +184,24 @@ impl Words {
         requires seat { IsSeatOf self.now seat.old }
         requires frames { (0 < frames) × (frames ≤ MAX_TABLE_FRAMES) }
         ensures seat { IsSameSeat seat.old seat.new }
-        ensures step { StoresHeader self.now.layout (frames_set frames (own_header seat.old.view)) seat.old.view seat.new.view }
+        ensures fits { IsSeatOf self.now seat.new }
+        ensures step { StoresHeader self.now.layout (with_frames frames (own_table seat.old.view)) seat.old.view seat.new.view }
     {
-        let at = seat.position;
-        let header = with_frames(seat.header, frames);
-        self.words.store_header(&mut seat.place, at, header.pack());
-        seat.header = header;
-    }
-
-    /// The owner stores this header.
-    pub fn store_header(&self, seat: &mut Seat, header: Header)
-        requires seat { IsSeatOf self.now seat.old }
-        requires header { IsKeptHeader header }
-        ensures seat { IsSameSeat seat.old seat.new }
-        ensures step { StoresHeader self.now.layout (header_word header) seat.old.view seat.new.view }
-    {
-        let at = seat.position;
-        self.words.store_header(&mut seat.place, at, header.pack());
-        seat.header = header;
+        let header = Header {
+            frames: frames as u8,
+            ..seat.header
+        };
+        self.store_header(seat, header);
     }
 
     /// A look at the control word of an entry.
     pub fn load_control(&self, seat: &mut Seat, dom: DomId, gref: GrantRef) -> u64
         requires seat { IsSeatOf self.now seat.old }
-        requires entry { (position_in self.now.layout.ids dom < length self.now.layout.ids) × (gref.0 < TABLE_ENTRIES) }
+        requires entry { IsEntryOf self.now dom gref }
         ensures seat { IsSameSeat seat.old seat.new }
-        ensures step { StepsOnControl self.now.layout (position_in self.now.layout.ids dom) gref.0 (EntryStep.Looked result) result result seat.old.view seat.new.view }
-        ensures not_earlier { IsNotEarlier (position_in self.now.layout.ids dom) gref.0 seat.old.view result }
+        ensures fits { IsSeatOf self.now seat.new }
+        ensures look { LooksAtControl self.now.layout (position_at self.now dom) gref.0 result seat.old.view seat.new.view }
         ensures own { dom ≡ seat.old.dom → IsWordOf (last_of gref.0 seat.new.view) result }
-        ensures pins { KeepsPins seat.old.view seat.new.view }
     {
         let at = self.position(seat, dom);
         self.words
@@ -234,10 +211,10 @@ impl Words {
     /// A look at a body word of an entry.
     pub fn load_body(&self, seat: &mut Seat, dom: DomId, gref: GrantRef, half: Half) -> u64
         requires seat { IsSeatOf self.now seat.old }
-        requires entry { (position_in self.now.layout.ids dom < length self.now.layout.ids) × (gref.0 < TABLE_ENTRIES) }
+        requires entry { IsEntryOf self.now dom gref }
         ensures seat { IsSameSeat seat.old seat.new }
-        ensures step { StepsOnBody self.now.layout (position_in self.now.layout.ids dom) gref.0 half (EntryStep.ReadBody half result) result result seat.old.view seat.new.view }
-        ensures pins { KeepsPins seat.old.view seat.new.view }
+        ensures fits { IsSeatOf self.now seat.new }
+        ensures look { LooksAtBody self.now.layout (position_at self.now dom) gref.0 half result seat.old.view seat.new.view }
     {
         let at = self.position(seat, dom);
         self.words
@@ -257,16 +234,15 @@ impl Words {
         dir: Dir,
     ) -> Result<Pin, u64>
         requires seat { IsSeatOf self.now seat.old }
-        requires entry { (position_in self.now.layout.ids dom < length self.now.layout.ids) × (gref.0 < TABLE_ENTRIES) }
-        requires looked { HasLooked (position_in self.now.layout.ids dom) gref.0 seat.old.view looked × IsValid looked }
-        requires room { pins_in dir looked < MAX_PINS }
-        requires permitted { MayPin self.now.layout (position_in self.now.layout.ids dom) gref.0 seat.old.view dir (record_seen (last_seen (position_in self.now.layout.ids dom) gref.0 seat.old.view)) }
+        requires entry { IsEntryOf self.now dom gref }
+        requires can { CanPin self.now.layout (position_at self.now dom) gref.0 dir looked seat.old.view }
         ensures seat { IsSameSeat seat.old seat.new }
+        ensures fits { IsSeatOf self.now seat.new }
         ensures pin { IfOk result (λ p. p ≡ record { dom = dom; gref = gref; word = looked; dir = dir }) }
         ensures step { MatchResult result
-            (λ _. Pins self.now.layout (position_in self.now.layout.ids dom) gref.0 dir looked seat.old.view seat.new.view)
-            (λ n. MissesPin self.now.layout (position_in self.now.layout.ids dom) gref.0 dir looked n seat.old.view seat.new.view) }
-        ensures counted { CountsPins self.now.layout (position_in self.now.layout.ids dom) gref.0 dir }
+            (λ _. Pins self.now.layout (position_at self.now dom) gref.0 dir looked seat.old.view seat.new.view)
+            (λ n. MissesPin self.now.layout (position_at self.now dom) gref.0 dir looked n seat.old.view seat.new.view) }
+        ensures counted { CountsPins self.now.layout (position_at self.now dom) gref.0 dir }
     {
         let at = self.position(seat, dom);
         self.words
@@ -282,10 +258,11 @@ impl Words {
     /// Gives a pin of the seat back, by one subtraction.
     pub fn unpin(&self, seat: &mut Seat, pin: Pin)
         requires seat { IsSeatOf self.now seat.old }
-        requires entry { (position_in self.now.layout.ids pin.dom < length self.now.layout.ids) × (pin.gref.0 < TABLE_ENTRIES) }
-        requires held { Holds (position_in self.now.layout.ids pin.dom) pin.gref.0 pin.dir (generation_of pin.word) seat.old.view }
+        requires entry { IsEntryOf self.now pin.dom pin.gref }
+        requires held { Holds (position_at self.now pin.dom) pin.gref.0 pin.dir (generation_of pin.word) seat.old.view }
         ensures seat { IsSameSeat seat.old seat.new }
-        ensures step { Unpins self.now.layout (position_in self.now.layout.ids pin.dom) pin.gref.0 pin.dir (generation_of pin.word) seat.old.view seat.new.view }
+        ensures fits { IsSeatOf self.now seat.new }
+        ensures step { UnpinsPin self.now pin seat.old.view seat.new.view }
     {
         let at = self.position(seat, pin.dom);
         let generation = u64::from(Control::unpack(pin.word).generation);
@@ -304,6 +281,7 @@ impl Words {
         requires entry { gref.0 < TABLE_ENTRIES }
         requires invalid { (last_of gref.0 seat.old.view).entry ≡ Entry.Invalid }
         ensures seat { IsSameSeat seat.old seat.new }
+        ensures fits { IsSeatOf self.now seat.new }
         ensures step { StoresBody self.now.layout gref.0 half value seat.old.view seat.new.view }
     {
         let at = seat.position;
@@ -317,13 +295,13 @@ impl Words {
     /// The word found, where it is another than the one handed in: it has pins. That can't be while an invalid entry has none.
     pub fn grant(&self, seat: &mut Seat, gref: GrantRef, word: u64, entry: Entry) -> Result<(), u64>
         requires seat { IsSeatOf self.now seat.old }
-        requires entry { gref.0 < TABLE_ENTRIES }
-        requires invalid { IsIdleOf (last_of gref.0 seat.old.view) word × ((last_of gref.0 seat.old.view).entry ≡ Entry.Invalid) × ((last_of gref.0 seat.old.view).generation < LAST_GENERATION) }
-        requires given { IsEntry entry × (entry ≢ Entry.Invalid) × IsSpelled entry (own_body gref.0 Half.First seat.old.view) (own_body gref.0 Half.Second seat.old.view) }
+        requires entry { (gref.0 < TABLE_ENTRIES) × IsEntry entry }
+        requires can { CanPublish entry gref.0 word seat.old.view }
         ensures seat { IsSameSeat seat.old seat.new }
+        ensures fits { IsSeatOf self.now seat.new }
         ensures step { MatchResult result
             (λ _. Changes self.now.layout gref.0 (Change.Publish entry) word seat.old.view seat.new.view)
-            (λ n. MissesChange self.now.layout gref.0 (Change.Publish entry) word n seat.old.view seat.new.view × IsBusyOf (last_of gref.0 seat.old.view) n) }
+            (λ n. MissesBusy self.now.layout gref.0 (Change.Publish entry) word n seat.old.view seat.new.view) }
         ensures taken { IsOk result }
     {
         let at = seat.position;
@@ -338,11 +316,12 @@ impl Words {
     pub fn revoke(&self, seat: &mut Seat, gref: GrantRef, word: u64) -> Result<(), u64>
         requires seat { IsSeatOf self.now seat.old }
         requires entry { gref.0 < TABLE_ENTRIES }
-        requires idle { IsIdleOf (last_of gref.0 seat.old.view) word × ((last_of gref.0 seat.old.view).entry ≢ Entry.Invalid) }
+        requires can { CanRevoke gref.0 word seat.old.view }
         ensures seat { IsSameSeat seat.old seat.new }
+        ensures fits { IsSeatOf self.now seat.new }
         ensures step { MatchResult result
             (λ _. Revokes self.now.layout gref.0 word seat.old.view seat.new.view)
-            (λ n. MissesChange self.now.layout gref.0 Change.Revoke word n seat.old.view seat.new.view × IsBusyOf (last_of gref.0 seat.old.view) n) }
+            (λ n. MissesBusy self.now.layout gref.0 Change.Revoke word n seat.old.view seat.new.view) }
     {
         let at = seat.position;
         self.words
@@ -356,9 +335,9 @@ impl Words {
     pub fn demote(&self, seat: &mut Seat, gref: GrantRef, word: u64) -> Result<(), u64>
         requires seat { IsSeatOf self.now seat.old }
         requires entry { gref.0 < TABLE_ENTRIES }
-        requires word { IsWordOf (last_of gref.0 seat.old.view) word × (pins_in Dir.Write word ≡ 0) × (generation_of word < LAST_GENERATION) }
-        requires writable { ((last_of gref.0 seat.old.view).entry ≢ Entry.Invalid) × (is_read_only (last_of gref.0 seat.old.view).entry ≡ false) }
+        requires can { CanDemote gref.0 word seat.old.view }
         ensures seat { IsSameSeat seat.old seat.new }
+        ensures fits { IsSeatOf self.now seat.new }
         ensures step { MatchResult result
             (λ _. Demotes self.now.layout gref.0 word seat.old.view seat.new.view)
             (λ n. MissesChange self.now.layout gref.0 Change.Demote word n seat.old.view seat.new.view) }
@@ -375,9 +354,9 @@ impl Words {
     pub fn promote(&self, seat: &mut Seat, gref: GrantRef, word: u64) -> Result<(), u64>
         requires seat { IsSeatOf self.now seat.old }
         requires entry { gref.0 < TABLE_ENTRIES }
-        requires word { IsWordOf (last_of gref.0 seat.old.view) word × (generation_of word < LAST_GENERATION) }
-        requires readonly { ((last_of gref.0 seat.old.view).entry ≢ Entry.Invalid) × (is_read_only (last_of gref.0 seat.old.view).entry ≡ true) }
+        requires can { CanTurn true gref.0 word seat.old.view }
         ensures seat { IsSameSeat seat.old seat.new }
+        ensures fits { IsSeatOf self.now seat.new }
         ensures step { MatchResult result
             (λ _. Changes self.now.layout gref.0 Change.Promote word seat.old.view seat.new.view)
             (λ n. MissesChange self.now.layout gref.0 Change.Promote word n seat.old.view seat.new.view) }

@@ -1,4 +1,5 @@
 use Rattle.std.proofs.Common.{ℕ, ◌*◌, ◌<◌, ◌≤◌, length, ap, ◌∙◌, sym, subst, get_or, arith}
+use Rattle.gt_types.specs.declared.limits.TheConstants.{MAX_DOMAINS}
 use Rattle.gt_types.specs.Config.{IsWithinLimits}
 use Rattle.gt_types.specs.declared.config.Config.{Config}
 use Rattle.atomic_table.specs.Table.{Me}
@@ -18,7 +19,7 @@ pub invariant_of-words : goal.invariant_of-words
 invariant_of-words c = let made = c.in_ok-table.ensures in record {
   wide = (
     made.0 ∙ (ap length c.deref.ensures.value ∙ (c.in_ok-start.ensures.0 ∙ ap (λ (q : Config). length q.domains.items * DOMAIN_WORDS) (sym made.5))),
-    subst (λ (q : Config). length q.domains.items ≤ 64) (sym made.5) (let few = c.requires.few in omega arith),
+    subst (λ (q : Config). length q.domains.items ≤ MAX_DOMAINS) (sym made.5) (let few = c.requires.few in omega arith),
   );
 }
 

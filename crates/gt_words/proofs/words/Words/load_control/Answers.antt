@@ -1,6 +1,6 @@
 use Rattle.std.proofs.Common.{ap, ◌∙◌, sym}
 use Rattle.gt_words.proofs.words.Words.load_control.Goals as goal
-use Rattle.gt_words.proofs.Lists.{own_position}
+use Rattle.gt_words.specs.Laws.{own_position}
 use Rattle.gt_words.specs.Conditions.{Board, SeatOf}
 
 pub returns-clause-own : goal.returns-clause-own

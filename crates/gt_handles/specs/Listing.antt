@@ -1,0 +1,75 @@
+-- The values of a map as a list, each with its handle.
+use Rattle.std.specs.Prelude.{◌≡◌, ◌+◌, ◌++◌, ◌≤◌, ℕ, Bool, false, List, [], ◌∷◌, length, Option, Some, None, if◌then◌else◌, cond, count_by}
+use Rattle.gt_handles.specs.Handles.{Kept, Updates, count_of, same_handle, value_of}
+use Rattle.gt_handles.specs.declared.handles.Handle.{Handle}
+use Rattle.gt_handles.specs.declared.handles.Slot.{Slot}
+
+module _ {T : Type 0} where
+  -- the value that a list has first under a handle (own)
+  abbrev pub listed : List (Handle × T) → Handle → Option T
+  listed [] handle = None
+  listed (m ∷ ms) handle = if same_handle m.0 handle then Some m.1 else listed ms handle
+
+  -- the list without the first value under this handle (own)
+  abbrev pub unlisted : Handle → List (Handle × T) → List (Handle × T)
+  unlisted handle [] = []
+  unlisted handle (m ∷ ms) = if same_handle m.0 handle then ms else m ∷ unlisted handle ms
+
+  -- no two values of the list are under one handle (own)
+  abbrev pub AreApart : List (Handle × T) → Type 0
+  AreApart [] = Unit {0}
+  AreApart (m ∷ ms) = (listed ms m.0 ≡ None) × AreApart ms
+
+  -- the handles have just the values of this list, after so many serials were given (own)
+  pub record HasJust (kept : Kept T) (ms : List (Handle × T)) (given : ℕ) : Type 0 where
+    pub named : value_of kept ≡ listed ms
+    pub count : count_of kept ≡ length ms
+    pub given_is : kept.given ≡ given
+    pub apart : AreApart ms
+
+  -- the slot has a value that passes the test (own)
+  abbrev pub has_passing : (T → Bool) → Option (Slot T) → Bool
+  has_passing passes None = false
+  has_passing passes (Some slot) = passes slot.value
+
+  -- how many values pass the test (own)
+  abbrev pub count_passing : (T → Bool) → Kept T → ℕ
+  count_passing passes kept = count_by (has_passing passes) kept.slots
+
+  -- the new map has one value more, under this handle, which had none (own)
+  pub record IsInserted (old new : Kept T) (h : Handle) (x : T) : Type 0 where
+    pub fresh : value_of old h ≡ None
+    pub updates : Updates old new h (Some x)
+    pub count : count_of new ≡ count_of old + 1
+    pub given : new.given ≡ old.given + 1
+
+  -- the new map lacks the value that was under this handle (own)
+  pub record IsTaken (old new : Kept T) (h : Handle) (x : T) : Type 0 where
+    pub value : value_of old h ≡ Some x
+    pub updates : Updates old new h None
+    pub count : count_of new + 1 ≡ count_of old
+    pub given : new.given ≡ old.given
+
+-- a new map has the values of no list (own)
+abbrev pub NothingIsListed : Type 0 → Type 0
+NothingIsListed T = HasJust {T = T} (record { slots = []; given = 0; room = 0 }) [] 0
+
+-- a value inserted is one more of the list (own)
+abbrev pub InsertedIsListed : Type 0 → Type 0
+InsertedIsListed T = (old new : Kept T) (h : Handle) (x : T) (xs : List (Handle × T)) (n : ℕ) → IsInserted old new h x → HasJust old xs n → HasJust new (xs ++ (h, x) ∷ []) (n + 1)
+
+-- a value taken out is one less of the list (own)
+abbrev pub TakenIsUnlisted : Type 0 → Type 0
+TakenIsUnlisted T = (old new : Kept T) (h : Handle) (x : T) (xs : List (Handle × T)) (n : ℕ) → IsTaken old new h x → HasJust old xs n → HasJust new (unlisted h xs) n
+
+-- of the values that pass a test there is one more where one that passes is inserted, and as many else (own)
+abbrev pub InsertedIsCounted : Type 0 → Type 0
+InsertedIsCounted T = (passes : T → Bool) (old new : Kept T) (h : Handle) (x : T) → IsInserted old new h x → count_passing passes new ≡ count_passing passes old + cond (passes x) 1 0
+
+-- of the values that pass a test there is one less where one that passes is taken out, and as many else (own)
+abbrev pub TakenIsCounted : Type 0 → Type 0
+TakenIsCounted T = (passes : T → Bool) (old new : Kept T) (h : Handle) (x : T) → IsTaken old new h x → count_passing passes new + cond (passes x) 1 0 ≡ count_passing passes old
+
+-- no more values pass a test than there are (own)
+abbrev pub NoMorePass : Type 0 → Type 0
+NoMorePass T = (passes : T → Bool) (kept : Kept T) → count_passing passes kept ≤ count_of kept

@@ -1,0 +1,27 @@
+//! What follows from the definitions, for callers.
+ghost use Rattle.gt_words.specs.Laws.{DomainsAreOfRun, DomainsStandThere, PinsAreOfEntries, PinsHaveOneRecord, SeatsStandThere};
+
+/// A law: a domain is one of the run exactly where the configuration has it.
+pub fn every_domain_is_of_the_run()
+    ensures { DomainsAreOfRun }
+{}
+
+/// A law: a domain of the run stands at its position.
+pub fn every_domain_has_its_position()
+    ensures { DomainsStandThere }
+{}
+
+/// A law: a seat stands at the position of its domain.
+pub fn every_seat_has_its_position()
+    ensures { SeatsStandThere }
+{}
+
+/// A law: in each state that words and views show, pins of one entry and generation have one record.
+pub fn pins_of_one_generation_have_one_record()
+    ensures { PinsHaveOneRecord }
+{}
+
+/// A law: in each state that words and views show, each pin is of an entry.
+pub fn every_pin_is_of_an_entry()
+    ensures { PinsAreOfEntries }
+{}
