@@ -1,0 +1,126 @@
+-- A call before its first step: what is so of each, by what it asks.
+use Rattle.std.proofs.Common.{◌≡◌, ◌≤◌, ◌*◌, ℕ, refl, Bool, true, false, [], Option, Some, None, cond, sym, ap, ◌∙◌, subst, inl, inr, arith}
+use Rattle.gt_types.specs.declared.DomId.{DomId}
+use Rattle.gt_types.specs.declared.Dir.TheVariants.{Read, Write}
+use Rattle.gt_types.specs.declared.limits.TheConstants.{MAX_TRIES}
+use Rattle.gt_entry.specs.Entries.{frame_of}
+use Rattle.gt_calls.specs.declared.request.Asked.{Asked}
+use Rattle.gt_calls.specs.declared.request.Asked.TheVariants.{Grant, Revoke, Demote, Promote, Map, Unmap, Load, SetVersion, SetupTable, QuerySize, GetVersion, Store, Peek, Poke, Copy}
+use Rattle.gt_calls.specs.declared.request.CopyArgs.{CopyArgs}
+use Rattle.gt_calls.specs.declared.request.Holder.TheVariants.{Mapping as ByHandle}
+use Rattle.gt_calls.specs.declared.held.Held.{Held}
+use Rattle.gt_calls.specs.declared.held.Route.TheVariants.{Own}
+use Rattle.gt_calls.specs.declared.copying.Aim.TheVariants.{Source, Dest}
+use Rattle.gt_calls.specs.declared.action.Verdict.{Verdict}
+use Rattle.gt_calls.specs.declared.action.Verdict.TheVariants.{Granted, Given}
+use Rattle.gt_calls.specs.declared.action.Value.TheVariants.{Frames}
+use Rattle.gt_calls.specs.declared.action.Step.{Step}
+use Rattle.gt_calls.specs.declared.action.Step.TheVariants.{Unpin, StoreHeader, Read as ReadBytes, Write as WriteBytes}
+use Rattle.gt_calls.specs.declared.call.Phase.{Phase}
+use Rattle.gt_calls.specs.declared.call.Phase.TheVariants.{Storing, StoringSecond, Exchanging, Looking, Changing, Walking, Accessing, Asking, Last, Ending}
+use Rattle.gt_calls.specs.declared.leg.LegPhase.TheVariants.{Header}
+use Rattle.gt_calls.specs.Rules.{CallerKnowledge, begun, is_source_granted, is_dest_granted}
+use Rattle.gt_calls.specs.Opening.{opens}
+use Rattle.gt_calls.specs.Path.{Continuation, path, after_beginning, steps_of, makes, ended, by_mapping, end_leg, leg_steps, most_steps}
+use Rattle.gt_calls.specs.Resting.{RestsOnRequest}
+use Rattle.gt_calls.specs.Machine.{remains, first_phase, mapped_phase, at_source, at_dest, action_at}
+use Rattle.gt_calls.specs.Standing.{IsQuiet, HasShown, held_in}
+use Rattle.gt_calls.specs.Counting.{steps_left}
+use Rattle.gt_calls.specs.Following.{MakesStep}
+use Rattle.gt_calls.proofs.Walks.{at-source}
+use Rattle.gt_calls.proofs.Calls.{wants-action}
+use Rattle.gt_calls.proofs.Shown.{shown-source}
+use Rattle.gt_calls.proofs.Holds.{held-source}
+use Rattle.gt_calls.proofs.Counts.{at-source-left}
+
+-- a step is to be made here, whatever is held
+abbrev pub IsMoving : Phase → Type 0
+IsMoving (Ending pins verdict) = ⊥
+IsMoving phase = Unit {0}
+
+-- a call that stands here has this to come, has shown nothing yet and holds nothing, and makes a step, with so many to come at the most
+pub record Begins (k : CallerKnowledge) (grammar : Continuation) (caller : DomId) (request : Asked) (steps : Continuation) (phase : Phase) (most : ℕ) : Type 0 where
+  pub same : remains k caller phase ≡ steps
+  pub shown : HasShown k grammar caller request [] phase
+  pub none_held : held_in phase ≡ []
+  pub bounded : steps_left phase ≤ most
+  pub moves : IsMoving phase
+
+exactly : (n : ℕ) → n ≤ n
+exactly n = omega arith
+
+-- a call of one step
+once : (k : CallerKnowledge) (grammar : Continuation) (caller : DomId) (request : Asked) (step : Step) (verdict : Verdict) → IsQuiet step → RestsOnRequest k caller request step
+    → Begins k grammar caller request (makes step (ended verdict)) (Last step verdict) 1
+once k grammar caller request step verdict quiet rests = record { same = refl; shown = (quiet, rests); none_held = refl; bounded = exactly 1; moves = tt }
+
+-- the same through a mapping
+mapped : (k : CallerKnowledge) (grammar : Continuation) (caller : DomId) (request : Asked) (step : Held → Step) (o : Option Held) (m : Held) → o ≡ Some m → IsQuiet (step m) → RestsOnRequest k caller request (step m)
+    → Begins k grammar caller request (by_mapping o step) (mapped_phase o step) 1
+mapped k grammar caller request step o m found quiet rests =
+    subst (λ (x : Option Held). Begins k grammar caller request (by_mapping x step) (mapped_phase x step) 1) (sym found) (once k grammar caller request (step m) Granted quiet rests)
+
+moves-either : (b : Bool) (x y : Phase) → IsMoving x → IsMoving y → IsMoving (cond b x y)
+moves-either true x y hx hy = hx
+moves-either false x y hx hy = hy
+
+copy-moves : (k : CallerKnowledge) (caller : DomId) (c : CopyArgs) → IsMoving (at_source k caller c)
+copy-moves k caller c =
+    moves-either (is_source_granted c) (Walking (Source c None) (end_leg k caller c.source Read c.len) Header) (at_dest k caller c Own) tt
+    (moves-either (is_dest_granted c) (Walking (Dest c Own None) (end_leg k caller c.dest Write c.len) Header) (Accessing c Own Own) tt tt)
+
+-- each call that no rule answers at its beginning
+pub begins : (k : CallerKnowledge) (grammar : Continuation) (caller : DomId) (r : Asked) → begun k caller r ≡ None → Begins k grammar caller r (steps_of k caller r) (first_phase k caller r) (most_steps r)
+begins k grammar caller (Grant gref entry) none = record { same = refl; shown = (refl, refl); none_held = refl; bounded = exactly 3; moves = tt }
+begins k grammar caller (Revoke gref) none = record { same = refl; shown = (refl, refl); none_held = refl; bounded = exactly 1; moves = tt }
+begins k grammar caller (Demote gref) none = record { same = refl; shown = refl; none_held = refl; bounded = exactly (2 * MAX_TRIES); moves = tt }
+begins k grammar caller (Promote gref) none = record { same = refl; shown = refl; none_held = refl; bounded = exactly (2 * MAX_TRIES); moves = tt }
+begins k grammar caller (Map dom gref flags) none =
+    record { same = refl; shown = (tt, record { dom = dom; gref = gref; flags = flags; of_map = refl; leg_is = refl }); none_held = refl; bounded = exactly leg_steps; moves = tt }
+begins k grammar caller (Unmap handle) none =
+    let o = opens k caller (Unmap handle) none in
+    mapped k grammar caller (Unmap handle) (λ m. Unpin m (ByHandle handle)) (k.mapping handle) o.mapping o.found tt (refl, o.found)
+begins k grammar caller (Load handle off len) none =
+    let o = opens k caller (Load handle off len) none in
+    mapped k grammar caller (Load handle off len) (λ m. ReadBytes m.dom (frame_of m.entry) off len) (k.mapping handle) o.mapping o.found tt
+    (inl (handle, refl, record { mapping = o.mapping; found = o.found; of_dom = refl; of_frame = refl }))
+begins k grammar caller (Store handle off len) none =
+    let o = opens k caller (Store handle off len) none in
+    mapped k grammar caller (Store handle off len) (λ m. WriteBytes m.dom (frame_of m.entry) off len) (k.mapping handle) o.mapping o.found tt
+    (inl (handle, refl, record { mapping = o.mapping; found = o.found; of_dom = refl; of_frame = refl }))
+begins k grammar caller (Peek frame off len) none = once k grammar caller (Peek frame off len) (ReadBytes caller frame off len) Granted tt (inr (refl, refl))
+begins k grammar caller (Poke frame off len) none = once k grammar caller (Poke frame off len) (WriteBytes caller frame off len) Granted tt (inr (refl, refl))
+begins k grammar caller (Copy c) none =
+    record {
+      same = at-source k caller c;
+      shown = shown-source k grammar caller (Copy c) [] none c refl;
+      none_held = held-source k caller c;
+      bounded = let h = at-source-left k caller c in let g : steps_left (at_source k caller c) ≤ most_steps (Copy c) = omega arith in g;
+      moves = copy-moves k caller c;
+    }
+begins k grammar caller (SetVersion version) none =
+    once k grammar caller (SetVersion version) (StoreHeader version k.header.frames) Granted tt (inl (refl, refl))
+begins k grammar caller (SetupTable frames) none =
+    once k grammar caller (SetupTable frames) (StoreHeader k.header.version frames) (Given (Frames frames)) tt (inr (refl, refl))
+begins k grammar caller (QuerySize dom) none = record { same = refl; shown = (opens k caller (QuerySize dom) none).of_run; none_held = refl; bounded = exactly 1; moves = tt }
+begins k grammar caller (GetVersion dom) none = record { same = refl; shown = (opens k caller (GetVersion dom) none).of_run; none_held = refl; bounded = exactly 1; moves = tt }
+
+-- a call makes a step where it doesn't give its pins back
+moving-step : (caller : DomId) (phase : Phase) → IsMoving phase → MakesStep (Some (action_at caller phase))
+moving-step caller (Storing gref entry) m = tt
+moving-step caller (StoringSecond gref entry) m = tt
+moving-step caller (Exchanging gref looked change) m = tt
+moving-step caller (Looking gref change more) m = tt
+moving-step caller (Changing gref change more looked) m = tt
+moving-step caller (Walking aim l at) m = tt
+moving-step caller (Accessing c source dest) m = tt
+moving-step caller (Asking dom question) m = tt
+moving-step caller (Last step verdict) m = tt
+moving-step caller (Ending pins verdict) m = absurd m
+
+pub makes-step : (k : CallerKnowledge) (caller : DomId) (r : Asked) → begun k caller r ≡ None → MakesStep (path k caller r [])
+makes-step k caller r none =
+    let b = begins k (path k caller r) caller r none in
+    let steps : steps_of k caller r [] ≡ Some (action_at caller (first_phase k caller r)) =
+    sym (ap (λ (t : Continuation). t []) b.same) ∙ wants-action k caller (first_phase k caller r) in
+    subst MakesStep (sym (ap (λ (o : Option Verdict). after_beginning o (steps_of k caller r) []) none ∙ steps)) (moving-step caller (first_phase k caller r) b.moves)
