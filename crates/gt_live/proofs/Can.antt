@@ -1,5 +1,5 @@
 -- What the next action of a call rests on lets its seat make it, and what it then did.
-use Rattle.std.proofs.Common.{◌≡◌, ◌≢◌, ◌⊎◌, ℕ, ◌+◌, ◌*◌, ◌/◌, ◌%◌, ◌<◌, ◌≤◌, ◌==◌, not, Bool, true, false, cond, refl, sym, ap, ◌∙◌, subst, List, [], ◌∷◌, ◌++◌, length, zero, suc, Option, Some, None, inl, inr, arith, nat_lt, nat_le, min}
+use Rattle.std.proofs.Common.{◌≡◌, ◌≢◌, ◌⊎◌, ℕ, ◌+◌, ◌*◌, ◌/◌, ◌%◌, ◌<◌, ◌≤◌, ◌==◌, ◌&&◌, not, Bool, true, false, cond, refl, sym, ap, ◌∙◌, subst, List, [], ◌∷◌, ◌++◌, length, zero, suc, Option, Some, None, inl, inr, arith, nat_lt, nat_le, min}
 use Rattle.std.specs.Prelude.{is_none, unwrap_or, slice_index_or, ◌^◌}
 use Rattle.std.specs.List.{position, position_or_len}
 use Rattle.std.proofs.lemmas.Bool.{eq-eqb, lt-ltb, ltb-false, not-false}
@@ -17,11 +17,10 @@ use Rattle.gt_entry.specs.Entries.{is_read_only}
 use Rattle.gt_entry.specs.Permits.{permits}
 use Rattle.gt_entry.specs.Spelling.{IsSpelled, idle_word_of, first_body, second_body, entry_of}
 use Rattle.gt_entry.specs.Words.{control_of, kind_of, size_of}
-use Rattle.gt_words.specs.Conditions.{Changes, Holds, IsIdleOf, IsWordOf, Pins}
-use Rattle.gt_words.specs.Steps.{changed}
+use Rattle.gt_words.specs.Conditions.{CanTurn, Changes, HasDomain, Holds, IsIdleOf, IsWordOf, Pins}
 use Rattle.gt_words.specs.Controls.{generation_of, pins_in}
-use Rattle.gt_words.specs.Rule.{Layout, id_at, position_in}
-use Rattle.gt_words.specs.Views.{HasBody, IsIn, LivePin, Seen as Looks, last_of, last_seen, own_body, pins, record_seen, seen, seen_or_none, steps_on, stored_body}
+use Rattle.gt_words.specs.Rule.{IsKeptHeader, Layout, id_at, position_in}
+use Rattle.gt_words.specs.Views.{HasBody, is_pin, pins_like, IsIn, LivePin, Seen as Looks, last_of, last_seen, own_body, pins, record_seen, seen, seen_or_none, steps_on, stored_body}
 use Rattle.gt_words.specs.declared.view.EntryStep.{EntryStep}
 use Rattle.gt_entry.specs.declared.change.Half.TheVariants.{First as FirstHalf, Second as SecondHalf}
 use Rattle.gt_words.specs.declared.view.EntryRecord.{EntryRecord}
@@ -47,18 +46,18 @@ use Rattle.gt_calls.specs.Changes.{changed_entry, raise_of}
 use Rattle.gt_calls.specs.Holding.{last_first}
 use Rattle.gt_calls.specs.Path.{Continuation, held_of, idle_word, is_stopped, map_leg, path}
 use Rattle.gt_calls.specs.Resting.{HasSeenTable, HasStored, IsFor, IsMapped, IsOfMap, IsOfRun as IsNamed, LookedLast, Rests, RestsOnGrant, RestsOnLast, RestsOnTry, RestsStep}
-use Rattle.gt_calls.specs.Opening.{IsAllowed, OpensGrant, opens}
+use Rattle.gt_calls.specs.Opening.{IsAllowed, OpensGrant, OpensTurn, opens}
 use Rattle.gt_calls.specs.Rules.{CallerKnowledge, begun, frames_of, is_already, is_kind, label_of, map_dir, map_perms, triples}
 use Rattle.gt_entry.specs.Entries.{frame_of, is_invalid}
 use Rattle.gt_entry.specs.declared.change.Half.{Half}
 use Rattle.gt_live.specs.Driving.{CanMake, ChangesBy, IsSame, Knows, Leaves, MapsBy, UnpinsBy}
 use Rattle.gt_live.specs.Effects.{effect_of}
 use Rattle.gt_live.specs.Ending.{IsHeaderChange, IsMap, IsOwnChange, WaitsForNobody}
-use Rattle.gt_live.specs.Mappings.{HasPin, HasSoundPins, IsOfRun, record_of}
+use Rattle.gt_live.specs.Mappings.{HasPin, record_of}
 use Rattle.gt_live.specs.Walks.{IsWalk, Made, after, shown}
 use Rattle.gt_live.proofs.Making.{look-same, same-self, same-then}
 use Rattle.gt_live.proofs.Rules.{idle-is, is-there, lets-page, page-seen, page-spelled, room-for}
-use Rattle.gt_live.proofs.Sound.{sound-fewer, sound-pinned}
+use Rattle.gt_live.proofs.Counting.{count-cons, dir-self}
 use Rattle.gt_live.proofs.Walking.{few-entries, in-seen-table, made-last, read-page}
 
 -- a domain at a place of the run is found there or before
@@ -82,8 +81,8 @@ unwrapped n at lt = by (nat_lt at n) (lt-ltb at n lt)
     by true e = lt
     by false e = cc
 
-own-of-run : (k : Layout) (v : View) (caller d : DomId) → id_at k.ids v.position ≡ caller → v.position < length k.ids → d ≡ caller → IsOfRun k d
-own-of-run k v caller d named inside same = subst (λ (x : DomId). IsOfRun k x) (named ∙ sym same) (unwrapped _ _ (found-by k.ids v.position inside))
+own-of-run : (k : Layout) (v : View) (caller d : DomId) → id_at k.ids v.position ≡ caller → v.position < length k.ids → d ≡ caller → HasDomain k d
+own-of-run k v caller d named inside same = subst (λ (x : DomId). HasDomain k x) (named ∙ sym same) (unwrapped _ _ (found-by k.ids v.position inside))
 
 which-invalid : (e : Entry) → is_invalid e ≡ true → e ≡ Invalid
 which-invalid Invalid e = refl
@@ -94,8 +93,14 @@ which-invalid (Via d ro dom2 gref) e = cc
 valid-entry : (e : Entry) → is_invalid e ≡ false → e ≢ Invalid
 valid-entry e f is = let yes = ap is_invalid is in cc
 
-not-permitted : (e : Entry) (d : DomId) (dir : Dir) → e ≡ Invalid → permits e d dir ForMap 0 0 ≡ true → ⊥
-not-permitted e d dir is may = let none = ap (λ (x : Entry). permits x d dir ForMap 0 0) is in cc
+-- a pin that there is counts
+in-counted : (d : Dir) (x : EntryRecord) (ps : List LivePin) → IsIn (d, x) ps → 0 < pins_like d x.generation ps
+in-counted d x [] there = absurd there
+in-counted d x (p ∷ ps) (inl e) =
+    let one = count-cons (is_pin d x.generation) p ps in
+    let here : is_pin d x.generation p ≡ true = ap (λ (q : LivePin). is_pin d x.generation q) (sym e) ∙ (ap (λ (b : Bool). b && (x.generation == x.generation)) (dir-self d) ∙ eq-eqb x.generation x.generation refl) in
+    let w : ◌≡◌ {A = ℕ} (cond (is_pin d x.generation p) 1 0) 1 = ap {B = ℕ} (λ (b : Bool). cond b 1 0) here in omega (arith, one, w)
+in-counted d x (p ∷ ps) (inr there) = let more = in-counted d x ps there in let one = count-cons (is_pin d x.generation) p ps in omega (arith, more, one)
 
 -- the facts of a pin that a map tries
 pub record Tried (c : CallerKnowledge) (k : Layout) (caller : DomId) (request : Asked) (p : Held) (w : View) : Type 0 where
@@ -105,7 +110,7 @@ pub record Tried (c : CallerKnowledge) (k : Layout) (caller : DomId) (request : 
   pub asked : request ≡ asks.Map dom gref flags
   pub owner : p.dom ≡ resolved caller dom
   pub dir : p.dir ≡ map_dir flags
-  pub run : IsOfRun k p.dom
+  pub run : HasDomain k p.dom
   pub inside : p.gref.0 < 2048
   pub saw : seen (steps_on (position_in k.ids p.dom) p.gref.0 w) ≡ Some (last_seen (position_in k.ids p.dom) p.gref.0 w)
   pub word : (last_seen (position_in k.ids p.dom) p.gref.0 w).word ≡ p.word
@@ -117,7 +122,7 @@ pub record Tried (c : CallerKnowledge) (k : Layout) (caller : DomId) (request : 
   pub in_frames : nat_le (frames_of c.domains p.dom) (frame_of p.entry) ≡ false
 
 module _ (c : CallerKnowledge) (k : Layout) (caller : DomId) (v : View) (knows : Knows c k caller v) where
-  named-run : (d : DomId) → IsNamed c d → IsOfRun k d
+  named-run : (d : DomId) → IsNamed c d → HasDomain k d
   named-run d is = let there = is-there (domain_of c.domains d) is in knows.run d there.0 there.1
 
   in-own : (q : ℕ) → q < size_of c.header → q < 2048
@@ -169,7 +174,9 @@ module _ (c : CallerKnowledge) (k : Layout) (caller : DomId) (v : View) (knows :
 
   -- the pin that a mapping has is held still
   still-held : (w : View) (p : Held) → IsSame v w → HasPin k v p → Holds (position_in k.ids p.dom) p.gref.0 p.dir (generation_of p.word) w
-  still-held w p same pin = ((p.dir, record_of p), subst (λ (ps : List LivePin). IsIn (p.dir, record_of p) ps) (sym (same.pins (position_in k.ids p.dom) p.gref.0)) pin.held, refl, refl)
+  still-held w p same pin =
+      let t = position_in k.ids p.dom in let r = p.gref.0 in
+      in-counted p.dir (record_of p) (pins (steps_on t r w)) (subst (λ (ps : List LivePin). IsIn (p.dir, record_of p) ps) (sym (same.pins t r)) pin.there)
 
   grant-opens : (request : Asked) (q : GrantRef) (e : Entry) → begun c caller request ≡ None → request ≡ asks.Grant q e → OpensGrant c q e
   grant-opens request q e none is = opens c caller (asks.Grant q e) (subst (λ (x : Asked). begun c caller x ≡ None) is none)
@@ -208,49 +215,62 @@ module _ (c : CallerKnowledge) (k : Layout) (caller : DomId) (v : View) (knows :
       let w = after steps v in
       let o = grant-opens request q e none r.0 in let lt = in-own q.0 o.in_table in let here = row w same q.0 lt in
       let few = knows.generations q.0 lt in let worn = o.not_worn in
-      (lt, r.1 ∙ once w same q lt, ap (λ (x : EntryRecord). x.entry) here ∙ which-invalid (c.entry q.0) o.free,
-      subst (λ (x : EntryRecord). x.generation < 1048575) (sym here) (omega (arith, few, worn)), valid-entry e o.valid, stored steps way q e (valid-entry e o.valid) walk r.2)
+      (lt, record {
+        idle = r.1 ∙ once w same q lt;
+        none_yet = ap (λ (x : EntryRecord). x.entry) here ∙ which-invalid (c.entry q.0) o.free;
+        room = subst (λ (x : EntryRecord). x.generation < 1048575) (sym here) (omega (arith, few, worn));
+        some = valid-entry e o.valid;
+        spelled = stored steps way q e (valid-entry e o.valid) walk r.2;
+      })
+
+  -- an entry of the caller's own that is valid
+  own-valid : (w : View) (q : GrantRef) → IsSame v w → q.0 < 2048 → is_invalid (c.entry q.0) ≡ false → (last_of q.0 w).entry ≢ Invalid
+  own-valid w q same lt valid gone = valid-entry (c.entry q.0) valid (ap (λ (x : EntryRecord). x.entry) (sym (row w same q.0 lt)) ∙ gone)
 
   can-revoke : (request : Asked) (w : View) (q : GrantRef) (looked : ℕ) → IsSame v w → begun c caller request ≡ None → (request ≡ asks.Revoke q) × (looked ≡ idle_word c q) → CanMake k w (Exchange q looked ToInvalid)
   can-revoke request w q looked same none r =
       let o = opens c caller (asks.Revoke q) (subst (λ (x : Asked). begun c caller x ≡ None) r.0 none) in let lt = in-own q.0 o.in_table in
-      (lt, r.1 ∙ once w same q lt, λ gone. valid-entry (c.entry q.0) o.valid (ap (λ (x : EntryRecord). x.entry) (sym (row w same q.0 lt)) ∙ gone))
+      (lt, record { idle = r.1 ∙ once w same q lt; some = own-valid w q same lt o.valid })
 
   -- the word of the caller's own entry that it looked at last
-  own-look : (steps : List SeatStep) (way : Continuation) (q : GrantRef) (word : ℕ) → IsWalk k way v steps → LookedLast way caller q word [] (shown steps)
-      → IsWordOf (last_of q.0 (after steps v)) word × (generation_of word ≡ (last_of q.0 (after steps v)).generation)
-  own-look steps way q word walk r = (made-last k way v steps r.before (Word word) (LookControl caller q) walk r.shown_is r.looked).made.2 (sym knows.named)
+  own-look : (steps : List SeatStep) (way : Continuation) (q : GrantRef) (word : ℕ) → IsWalk k way v steps → LookedLast way caller q word [] (shown steps) → IsWordOf (last_of q.0 (after steps v)) word
+  own-look steps way q word walk r = (made-last k way v steps r.before (Word word) (LookControl caller q) walk r.shown_is r.looked).made.1 (sym knows.named)
+
+  can-turn : (ro : Bool) (change : Change) (steps : List SeatStep) (way : Continuation) (q : GrantRef) (looked : ℕ) → IsWalk k way v steps → IsSame v (after steps v) → OpensTurn c change q → is_read_only (c.entry q.0) ≡ ro
+      → LookedLast way caller q looked [] (shown steps) → (q.0 < 2048) × CanTurn ro q.0 looked (after steps v)
+  can-turn ro change steps way q looked walk same o now r =
+      let w = after steps v in let lt = in-own q.0 o.in_table in let here = row w same q.0 lt in
+      let few = knows.generations q.0 lt in let worn = o.not_worn in
+      (lt, record {
+        word_is = own-look steps way q looked walk r;
+        some = own-valid w q same lt o.valid;
+        now = ap (λ (x : EntryRecord). is_read_only x.entry) here ∙ now;
+        room = subst (λ (x : EntryRecord). x.generation < 1048575) (sym here) (omega (arith, few, worn));
+      })
 
   can-demote : (request : Asked) (steps : List SeatStep) (way : Continuation) (q : GrantRef) (looked : ℕ) → IsWalk k way v steps → IsSame v (after steps v) → begun c caller request ≡ None
       → (request ≡ asks.Demote q) × LookedLast way caller q looked [] (shown steps) × (is_stopped ToReadOnly (control_of looked) ≡ false) → CanMake k (after steps v) (Exchange q looked ToReadOnly)
   can-demote request steps way q looked walk same none r =
-      let w = after steps v in
-      let o = opens c caller (asks.Demote q) (subst (λ (x : Asked). begun c caller x ≡ None) r.0 none) in let lt = in-own q.0 o.in_table in let here = row w same q.0 lt in
-      let look = own-look steps way q looked walk r.1 in let few = knows.generations q.0 lt in let worn = o.not_worn in
-      let gen : generation_of looked ≡ c.generation q.0 = look.1 ∙ ap (λ (x : EntryRecord). x.generation) here in
+      let o = opens c caller (asks.Demote q) (subst (λ (x : Asked). begun c caller x ≡ None) r.0 none) in
+      let turn = can-turn false ToReadOnly steps way q looked walk same o o.not_already r.1 in
       let none_left = ltb-false 0 (pins_in Write looked) r.2 in
-      let ent = ap (λ (x : EntryRecord). x.entry) here in
-      (lt, look.0, omega arith, omega (arith, gen, few, worn), (λ gone. valid-entry (c.entry q.0) o.valid (sym ent ∙ gone)), ap is_read_only ent ∙ o.not_already)
+      (turn.0, (turn.1, omega (arith, none_left)))
 
   can-promote : (request : Asked) (steps : List SeatStep) (way : Continuation) (q : GrantRef) (looked : ℕ) → IsWalk k way v steps → IsSame v (after steps v) → begun c caller request ≡ None
       → (request ≡ asks.Promote q) × LookedLast way caller q looked [] (shown steps) × (is_stopped ToWritable (control_of looked) ≡ false) → CanMake k (after steps v) (Exchange q looked ToWritable)
   can-promote request steps way q looked walk same none r =
-      let w = after steps v in
-      let o = opens c caller (asks.Promote q) (subst (λ (x : Asked). begun c caller x ≡ None) r.0 none) in let lt = in-own q.0 o.in_table in let here = row w same q.0 lt in
-      let look = own-look steps way q looked walk r.1 in let few = knows.generations q.0 lt in let worn = o.not_worn in
-      let gen : generation_of looked ≡ c.generation q.0 = look.1 ∙ ap (λ (x : EntryRecord). x.generation) here in
-      let ent = ap (λ (x : EntryRecord). x.entry) here in
-      (lt, look.0, omega (arith, gen, few, worn), (λ gone. valid-entry (c.entry q.0) o.valid (sym ent ∙ gone)), ap is_read_only ent ∙ not-false _ o.not_already)
+      let o = opens c caller (asks.Promote q) (subst (λ (x : Asked). begun c caller x ≡ None) r.0 none) in
+      can-turn true ToWritable steps way q looked walk same o (not-false _ o.not_already) r.1
 
   can-header : (request : Asked) (version frames : ℕ) → begun c caller request ≡ None → ((request ≡ asks.SetVersion version) × (frames ≡ c.header.frames)) ⊎ ((request ≡ asks.SetupTable frames) × (version ≡ c.header.version))
-      → ((version ≡ 1) ⊎ (version ≡ 2)) × (0 < frames) × (frames ≤ 4)
+      → IsKeptHeader (record { version = version; frames = frames })
   can-header request version frames none (inl r) =
       let o = opens c caller (asks.SetVersion version) (subst (λ (x : Asked). begun c caller x ≡ None) r.0 none) in
-      let same = r.1 in let some = knows.header.some in let few = knows.header.few in (o.version_known, omega arith, omega arith)
+      let same = r.1 in let some = knows.header.some in let few = knows.header.few in record { version = o.version_known; some = omega (arith, same, some); few = omega (arith, same, few) }
   can-header request version frames none (inr r) =
       let o = opens c caller (asks.SetupTable frames) (subst (λ (x : Asked). begun c caller x ≡ None) r.0 none) in
       let larger = o.larger in let within = o.within in
-      (subst (λ (n : ℕ). (n ≡ 1) ⊎ (n ≡ 2)) (sym r.1) knows.header.version, omega arith, omega arith)
+      record { version = subst (λ (n : ℕ). (n ≡ 1) ⊎ (n ≡ 2)) (sym r.1) knows.header.version; some = omega (arith, larger); few = omega (arith, within) }
 
   -- the step that comes next can be made
   pub can-make : (request : Asked) (held : HeldPins) (steps : List SeatStep) (s : Step) → WaitsForNobody request → IsWalk k (path c caller request) v steps → IsSame v (after steps v) → last_first held ≡ []
@@ -258,14 +278,18 @@ module _ (c : CallerKnowledge) (k : Layout) (caller : DomId) (v : View) (knows :
   can-make request held steps (LookHeader d) waits walk same free r = named-run d r.1
   can-make request held steps (LookControl d q) waits walk same free r = by r.1
     where
-      by : (IsNamed c d × HasSeenTable (path c caller request) d q (shown steps)) ⊎ ((d ≡ caller) × (q.0 < size_of c.header)) → IsOfRun k d × (q.0 < 2048)
+      by : (IsNamed c d × HasSeenTable (path c caller request) d q (shown steps)) ⊎ ((d ≡ caller) × (q.0 < size_of c.header)) → HasDomain k d × (q.0 < 2048)
       by (inl x) = (named-run d x.0, in-seen-table k (path c caller request) v steps d q walk x.1)
       by (inr x) = (own-of-run k v caller d knows.named knows.inside x.0, in-own q.0 x.1)
   can-make request held steps (LookBody d q half) waits walk same free r = (named-run d r.1.0, in-seen-table k (path c caller request) v steps d q walk r.1.1)
   can-make request held steps (Pin p) waits walk same free r =
       let t = tried request held steps (path c caller request) p waits walk r.1 in
-      (t.run, t.inside, (t.saw, t.word, t.body), (λ gone. let k1 = t.page in absurd (cc)), t.few,
-      inl (ForMap, 0, 0, ap (λ (x : EntryRecord). permits x.entry (id_at k.ids v.position) p.dir ForMap 0 0) t.spelled ∙ (ap (λ (d : DomId). permits p.entry d p.dir ForMap 0 0) knows.named ∙ t.permitted)))
+      (t.run, t.inside, record {
+        looked = (t.saw, t.word, t.body);
+        valid = λ gone. let k1 = t.page in absurd (cc);
+        room = t.few;
+        permitted = inl (ForMap, 0, 0, ap (λ (x : EntryRecord). permits x.entry (id_at k.ids v.position) p.dir ForMap 0 0) t.spelled ∙ (ap (λ (d : DomId). permits p.entry d p.dir ForMap 0 0) knows.named ∙ t.permitted));
+      })
   can-make request held steps (Unpin p (ByHandle handle)) waits walk same free r =
       let pin = knows.mapped handle p r.1.1 in (pin.run, pin.inside, still-held (after steps v) p same pin)
   can-make request held steps (Unpin p (ByLeg place)) waits walk same free r = let some = r.1.held in absurd (cc)
@@ -302,9 +326,6 @@ module _ (c : CallerKnowledge) (k : Layout) (caller : DomId) (v : View) (knows :
       let w = after steps v in let at = position_in k.ids p.dom in
       let t = tried request held steps (path c caller request) p waits walk r.1 in
       let may = map-allowed request p w r.0 t in
-      let here : pins (steps_on at p.gref.0 w') ≡ (p.dir, record_seen (last_seen at p.gref.0 w)) ∷ pins (steps_on at p.gref.0 w) = ap pins m.steps.adds.here in
-      let in_range : at < k.domains = subst (λ (n : ℕ). at < n) knows.wide t.run in
-      let ent : (record_seen (last_seen at p.gref.0 w)).entry ≡ p.entry = ap (λ (x : EntryRecord). x.entry) t.spelled in
       record {
         asked = subst (λ (x : Asked). IsMap x) (sym t.asked) tt;
         before = w;
@@ -312,31 +333,16 @@ module _ (c : CallerKnowledge) (k : Layout) (caller : DomId) (v : View) (knows :
         pins = m;
         entry_is = t.spelled;
         mapping = record {
-          pin = record { run = t.run; inside = t.inside; held = subst (λ (ps : List LivePin). IsIn (p.dir, record_of p) ps) (sym here) (inl (ap (λ (x : EntryRecord). (p.dir, x)) (sym t.spelled))) };
+          pin = record { run = t.run; inside = t.inside; there = subst (λ (x : EntryRecord). IsIn (p.dir, x) (pins (steps_on at p.gref.0 w'))) t.spelled m.pin };
           permitted = t.permitted;
           in_frames = t.in_frames;
           allowed = may.0;
         };
-        sound = sound-pinned k at p.gref.0 w w' p.dir p.word in_range t.inside
-            (sound-fewer at p.gref.0 v w (knows.sound at p.gref.0 t.run t.inside) (λ q there. subst (λ (ps : List LivePin). IsIn q ps) (same.pins at p.gref.0) there)) m
-            (λ gone. not-permitted p.entry caller p.dir (sym ent ∙ gone) t.permitted);
         serial = may.1;
       }
 
   left-changed : (q : GrantRef) (change : Change) (w w' : View) → q.0 < 2048 → c.generation q.0 + raise_of change < 1048576 → IsSame v w → (looked : ℕ) → Changes k q.0 change looked w w' → (request : Asked) → IsOwnChange request → ChangesBy c k request q.0 change v w'
-  left-changed q change w w' lt few same looked m request is =
-      let here = row w same q.0 lt in
-      let up : min (c.generation q.0 + raise_of change) 1048575 ≡ c.generation q.0 + raise_of change = omega arith in
-      record {
-        asked = is;
-        before = w;
-        same = same;
-        inside = lt;
-        step = _;
-        adds = m.steps.adds;
-        pins = m.pins;
-        last = m.last ∙ (ap (λ (x : EntryRecord). changed change x) here ∙ ap (λ (n : ℕ). record { generation = n; entry = changed_entry change (c.entry q.0) }) (sym up));
-      }
+  left-changed q change w w' lt few same looked m request is = record { asked = is; before = w; same = same; inside = lt; word = looked; changes = m; fresh = few }
 
   -- what the owner's exchange was asked of
   own-change : (request : Asked) (held : HeldPins) (shown_so : List Seen) (q : GrantRef) (looked : ℕ) (change : Change) → Rests c caller request held shown_so (Makes (Exchange q looked change)) → (q.0 < 2048) × (c.generation q.0 + raise_of change < 1048576) × IsOwnChange request

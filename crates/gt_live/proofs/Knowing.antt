@@ -1,6 +1,6 @@
 -- What a domain knows by itself at a call's beginning, and calls that are answered there.
 use Rattle.std.proofs.Common.{◌≡◌, ◌≢◌, ◌⊎◌, ℕ, ◌+◌, ◌*◌, ◌/◌, ◌%◌, ◌<◌, ◌≤◌, Bool, true, false, cond, refl, sym, ap, ◌∙◌, subst, List, [], ◌∷◌, length, map, suc, Option, Some, None, inl, inr, arith}
-use Rattle.std.specs.Prelude.{Result, Ok, Err}
+use Rattle.std.specs.Prelude.{Result, Ok, Err, is_some}
 use Rattle.gt_types.specs.declared.DomId.{DomId}
 use Rattle.gt_types.specs.declared.TypeId.{TypeId}
 use Rattle.gt_types.specs.declared.perms.Perms.{Perms}
@@ -8,13 +8,15 @@ use Rattle.gt_types.specs.declared.config.Config.{Config}
 use Rattle.gt_types.specs.declared.config.DomainConfig.{DomainConfig}
 use Rattle.gt_types.specs.declared.denial.Denial.{Denial}
 use Rattle.gt_entry.specs.declared.header.Header.{Header}
-use Rattle.gt_entry.specs.Words.{header_of, header_word}
-use Rattle.gt_words.specs.Conditions.{Board, IsKeptHeader}
-use Rattle.gt_words.specs.Rule.{Layout, layout_of}
-use Rattle.gt_words.specs.Views.{own_header}
+use Rattle.gt_types.specs.Config.{IsWithinLimits}
+use Rattle.gt_words.specs.Conditions.{Board, HasDomain}
+use Rattle.gt_words.specs.Laws.{domain_of_run, seat_at}
+use Rattle.gt_words.specs.Rule.{IsKeptHeader, Layout, layout_of}
+use Rattle.gt_words.specs.Views.{own_table}
 use Rattle.gt_words.specs.declared.view.View.{View}
 use Rattle.gt_handles.specs.declared.handles.Handle.{Handle}
-use Rattle.gt_handles.specs.Handles.{Kept, KeepsSpent, Updates, value_of}
+use Rattle.gt_handles.specs.Handles.{Kept, KeepsSpent}
+use Rattle.gt_handles.specs.Listing.{IsInserted}
 use Rattle.gt_words.specs.Conditions.{KeepsPins, SeatOf}
 use Rattle.gt_types.specs.declared.GrantRef.{GrantRef}
 use Rattle.gt_calls.specs.declared.request.Request.{Request}
@@ -32,44 +34,30 @@ use Rattle.gt_live.specs.declared.domain.Domain.{Domain}
 use Rattle.gt_live.specs.Domains.{Answered, HasRoomFor, IsDomainOf, KeepsPinned, MapAnswered, mapped_by, Rights, Settles, done_by, frames_told, knowledge, size_told, verdict_of, verdict_of_frames, verdict_of_size, verdict_of_version, version_told}
 use Rattle.gt_live.specs.Driving.{IsSame, Knows}
 use Rattle.gt_live.specs.Effects.{Answers}
-use Rattle.gt_live.specs.Ending.{IsAnswerTo, IsAtOnce, IsHeaderChange, IsMap, IsOwnChange}
-use Rattle.gt_live.specs.Mappings.{Adds, IsOfRun, Removes}
+use Rattle.gt_live.specs.Walks.{CarriesFound, TellsSteps}
+use Rattle.gt_types.specs.declared.denial.Facts.{Facts}
+use Rattle.gt_types.specs.declared.denial.Facts.TheVariants as facts
+use Rattle.gt_live.specs.Ending.{IsAnswerTo, IsAtOnce, IsWordless, IsHeaderChange, IsMap, IsOwnChange}
+use Rattle.gt_live.specs.Mappings.{Adds, Removes}
 use Rattle.gt_live.specs.declared.driving.Effect.TheVariants.{Nothing, Pinned, Unpinned, Changed, Stored}
-use Rattle.gt_live.proofs.Counting.{of-run}
-
--- a header that is kept is what its word holds
-pub header-back : (h : Header) (w : ℕ) → IsKeptHeader h → w ≡ header_word h → h ≡ header_of w
-header-back h w kept e =
-    let version : h.version ≡ w % 4 = (let few = kept.version in elim few [ inl one ↦ omega (arith, one, e) | inr two ↦ omega (arith, two, e) ]) in
-    let low : h.version < 4 = elim kept.version [ inl one ↦ omega (arith, one) | inr two ↦ omega (arith, two) ] in
-    let frames : h.frames ≡ w / 4 % 256 = (let few = kept.few in omega (arith, few, e, low)) in
-    ap (λ (n : ℕ). record { version = n; frames = h.frames }) version ∙ ap (λ (n : ℕ). record { version = w % 4; frames = n }) frames
 
 -- what is known by lent parts is what is known
-pub same-knowledge : (c : Config) (may : Rights) (d : Domain) (own : List Own) (h : Header) → own ≡ d.own.items → h ≡ header_of (own_header d.seat.view)
+pub same-knowledge : (c : Config) (may : Rights) (d : Domain) (own : List Own) (h : Header) → own ≡ d.own.items → h ≡ own_table d.seat.view
     → knowledge_of c.domains.items c.first_gen may own h d.mappings ≡ knowledge c may d
 same-knowledge c may d own h e f =
     ap (λ (os : List Own). knowledge_of c.domains.items c.first_gen may os h d.mappings) e ∙ ap (λ (x : Header). knowledge_of c.domains.items c.first_gen may d.own.items x d.mappings) f
 
-mapped-length : (ds : List DomainConfig) → length (map (λ (z : DomainConfig). z.id) ds) ≡ length ds
-mapped-length [] = refl
-mapped-length (d ∷ ds) = ap (λ (n : ℕ). suc n) (mapped-length ds)
-
-wide-run : (c : Config) (k : Layout) → k ≡ layout_of c → length k.ids ≡ k.domains
-wide-run c k run = subst (λ (x : Layout). length x.ids ≡ x.domains) (sym run) (mapped-length c.domains.items)
-
 -- a domain knows its own
-pub knows-own : (b : Board) (c : Config) (may : Rights) (d : Domain) → b.layout ≡ layout_of c → IsDomainOf b c may d → IsKeptHeader (header_of (own_header d.seat.view)) → Knows (knowledge c may d) b.layout d.seat.dom d.seat.view
-knows-own b c may d run is kept = record {
+pub knows-own : (b : Board) (c : Config) (may : Rights) (d : Domain) → IsWithinLimits c → b.layout ≡ layout_of c → IsDomainOf b c may d → IsKeptHeader (own_table d.seat.view) → Knows (knowledge c may d) b.layout d.seat.dom d.seat.view
+knows-own b c may d limits run is kept = record {
   named = is.seat.named;
   inside = is.seat.inside;
-  wide = wide-run c b.layout run;
-  run = λ dm x e. subst (λ (k : Layout). IsOfRun k dm) (sym run) (of-run c.domains.items dm x e);
+  stands = seat_at c b d.seat limits run is.seat;
+  run = λ dm x e. subst (λ (k : Layout). HasDomain k dm) (sym run) ((domain_of_run c dm).0 (ap is_some e));
   header = kept;
   rows = is.rows;
   generations = is.generations;
   mapped = λ h m e. (is.mapped h m e).pin;
-  sound = is.sound;
 }
 
 -- the effects of a call, and what it made of the mappings
@@ -81,7 +69,7 @@ settle-mapped (asks.Map dom gref flags) (Given value) p h d e is no_answer adds 
 settle-mapped (asks.Map dom gref flags) (Refused denial) p h d e is no_answer adds = absurd no_answer
 settle-mapped _ verdict p h d e is same adds = absurd is
 
-pub settle-unmapped : (verdict : Verdict) (h : Handle) (other : Option Handle) (d e : Domain) → Answers (Unpinned h) verdict → Removes d.mappings e.mappings h → Settles (asks.Unmap h) verdict other d e
+pub settle-unmapped : (verdict : Verdict) (h : Handle) (other : Option Handle) (d e : Domain) → Answers (Unpinned h) verdict → (p : Held) × Removes d.mappings e.mappings h p → Settles (asks.Unmap h) verdict other d e
 settle-unmapped Granted h other d e a gone = gone
 settle-unmapped (Given value) h other d e a gone = absurd a
 settle-unmapped (Mapped p) h other d e a gone = absurd a
@@ -145,6 +133,20 @@ settle-once (asks.Promote gref) Granted d e is kept = kept
 settle-once (asks.SetVersion version) Granted d e is kept = kept
 settle-once (asks.SetupTable frames) (Given value) d e is kept = kept
 settle-once _ _ d e is kept = absurd is
+
+-- an answer at once carries no word
+wordless : (k : Layout) (v : View) (f : Facts) → IsWordless f → CarriesFound k v [] f
+wordless k v (facts.Entry dom gref word) no_word = absurd no_word
+wordless k v (facts.Header dom word) no_word = absurd no_word
+wordless k v facts.None no_word = tt
+wordless k v (facts.Policy source target perm) no_word = tt
+wordless k v (facts.Field field) no_word = tt
+
+pub once-tells : (k : Layout) (v : View) (request : Asked) (verdict : Verdict) → IsAtOnce request verdict → TellsSteps k v [] verdict
+once-tells k v request (Refused denial) is = wordless k v denial.facts is
+once-tells k v request Granted is = tt
+once-tells k v request (Given value) is = tt
+once-tells k v request (Mapped p) is = tt
 
 -- the answers that verdicts give
 
@@ -242,6 +244,10 @@ settle-plain (asks.GetVersion dom) verdict h d e other s = s
 
 -- a map's answer
 
+roomier-inserted : (old' old new : Kept Held) (h : Handle) (p : Held) → old' ≡ record old { room = old'.room } → IsInserted old' new h p → IsInserted old new h p
+roomier-inserted old' old new h p room i =
+    let j = subst (λ (z : Kept Held). IsInserted z new h p) room i in record { fresh = j.fresh; updates = j.updates; count = j.count; given = j.given }
+
 pub map-once : {P : Type 0} (may : P → Rights) (m : Monitor P) (d : Domain) (request : Request) (r : Asked) (verdict : Verdict) (result : Result Handle Denial) → IsAtOnce r verdict → IsMap r → Answered may m d request verdict d → result ≡ mapped_by verdict None
     → MapAnswered may m d request result d
 map-once may m d request (asks.Map dom gref flags) (Refused denial) result once is said e =
@@ -260,7 +266,7 @@ map-settled may m d d' e request dom gref flags (Refused denial) h result room s
     })
 map-settled may m d d' e request dom gref flags (Mapped p) (Some h) result room seat said a s r =
     subst (λ (x : Result Handle Denial). MapAnswered may m d request x e) (sym r)
-    (p, said, record { serial = s.serial ∙ ap (λ (z : Kept Held). z.given) room; given = s.given ∙ ap (λ (z : Kept Held). z.given + 1) room; fresh = subst (λ (z : Kept Held). value_of z h ≡ None) room s.fresh; updates = subst (λ (z : Kept Held). Updates z e.mappings h (Some p)) room s.updates; spent = λ other was. subst (λ (z : Kept Held). KeepsSpent z e.mappings) room s.spent other (record { given = was.given; gone = was.gone }) })
+    (p, said, record { serial = s.serial ∙ ap (λ (z : Kept Held). z.given) room; inserted = roomier-inserted d'.mappings d.mappings e.mappings h p room s.inserted; spent = λ other was. subst (λ (z : Kept Held). KeepsSpent z e.mappings) room s.spent other (record { given = was.given; gone = was.gone }) })
 map-settled may m d d' e request dom gref flags (Mapped p) None result room seat said a s r = absurd s
 map-settled may m d d' e request dom gref flags Granted h result room seat said a s r = absurd a
 map-settled may m d d' e request dom gref flags (Given value) h result room seat said a s r = absurd a

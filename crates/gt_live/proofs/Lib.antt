@@ -1,12 +1,10 @@
 pub mod Making
 pub mod Ends
 pub mod Walking
-pub mod Sound
 pub mod Rules
+pub mod Counting
 pub mod Can
 pub mod Advancing
-pub mod Counting
-pub mod Inserting
 pub mod RowsKept
 pub mod Kept
 pub mod Knowing

@@ -1,13 +1,10 @@
 -- What a step of a call adds to its seat's view.
-use Rattle.std.proofs.Common.{◌≡◌, ◌≢◌, ℕ, ◌+◌, ◌<◌, ◌==◌, ◌&&◌, Bool, true, false, cond, refl, sym, ap, ◌∙◌, subst, List, [], ◌∷◌, ◌++◌, Option, Some, None, length}
-use Rattle.gt_words.specs.Conditions.{AddsToEntry, KeepsPins, SeatOf, Board, IsSeatOf, IsSameSeat}
-use Rattle.gt_words.specs.Rule.{Layout, id_at, position_in}
-use Rattle.gt_words.specs.Steps.{on_entry, on_header}
-use Rattle.gt_words.specs.Views.{steps_on, entry_steps, pins, last_record, last_of, with_step}
-use Rattle.gt_words.specs.declared.view.EntryStep.{EntryStep}
-use Rattle.gt_words.specs.declared.view.EntryStep.TheVariants.{Looked, ReadBody, Pinned, PinMissed, Unpinned, StoredBody, Changed, ChangeMissed}
-use Rattle.gt_words.specs.declared.view.HeaderStep.{HeaderStep}
-use Rattle.gt_words.specs.declared.view.HeaderStep.TheVariants as header
+use Rattle.std.proofs.Common.{◌≡◌, ◌≢◌, ℕ, ◌+◌, ◌<◌, ◌==◌, ◌&&◌, Bool, true, false, cond, refl, sym, ap, ◌∙◌, subst, List, [], ◌∷◌, ◌++◌, Option, Some, None, length, inl, inr, arith, ◌≤◌}
+use Rattle.std.proofs.lemmas.Bool.{cases_eq}
+use Rattle.gt_entry.specs.declared.change.Half.{Half}
+use Rattle.gt_words.specs.Conditions.{Board, IsSameSeat, IsSeatOf, Keeps, SeatOf, StoresBody}
+use Rattle.gt_words.specs.Rule.{Layout, id_at}
+use Rattle.gt_words.specs.Views.{last_of, with_step}
 use Rattle.gt_words.specs.declared.view.SeatStep.{SeatStep}
 use Rattle.gt_words.specs.declared.view.View.{View}
 use Rattle.gt_entry.specs.declared.change.Change.TheVariants.{Publish, Revoke, Demote, Promote}
@@ -25,10 +22,10 @@ pub record Gains (seen : Seen) (v w : View) : Type 0 where
   pub view : w ≡ with_step step v
   pub shows : shown_by step ≡ seen
 
-pub made-gains : (k : Layout) (s : Step) (seen : Seen) (v w : View) → Made k s seen v w → Gains seen v w
-made-gains k (LookHeader d) (Word n) v w m = record { step = on_header (position_in k.ids d) (header.Looked n); view = m.0.adds.view; shows = refl }
-made-gains k (LookControl d q) (Word n) v w m = record { step = on_entry (position_in k.ids d) q.0 (Looked n); view = m.0.adds.view; shows = refl }
-made-gains k (LookBody d q half) (Word n) v w m = record { step = on_entry (position_in k.ids d) q.0 (ReadBody half n); view = m.adds.view; shows = refl }
+unfoldable pub made-gains : (k : Layout) (s : Step) (seen : Seen) (v w : View) → Made k s seen v w → Gains seen v w
+made-gains k (LookHeader d) (Word n) v w m = record { step = _; view = m.steps.adds.view; shows = refl }
+made-gains k (LookControl d q) (Word n) v w m = record { step = _; view = m.0.steps.adds.view; shows = refl }
+made-gains k (LookBody d q half) (Word n) v w m = record { step = _; view = m.steps.adds.view; shows = refl }
 made-gains k (Pin p) Taken v w m = record { step = _; view = m.steps.adds.view; shows = refl }
 made-gains k (Pin p) (Missed n) v w m = record { step = _; view = m.steps.adds.view; shows = refl }
 made-gains k (Unpin p holder) Nothing v w m = record { step = _; view = m.steps.adds.view; shows = refl }
@@ -36,7 +33,7 @@ made-gains k (StoreBody q half n) Nothing v w m = record { step = _; view = m.st
 made-gains k (StoreHeader version frames) Nothing v w m = record { step = _; view = m.steps.adds.view; shows = refl }
 made-gains k (Exchange q looked (Publish e)) Taken v w m = record { step = _; view = m.steps.adds.view; shows = refl }
 made-gains k (Exchange q looked Revoke) Taken v w m = record { step = _; view = m.changes.steps.adds.view; shows = refl }
-made-gains k (Exchange q looked Revoke) (Missed n) v w m = record { step = _; view = m.0.steps.adds.view; shows = refl }
+made-gains k (Exchange q looked Revoke) (Missed n) v w m = record { step = _; view = m.missed.steps.adds.view; shows = refl }
 made-gains k (Exchange q looked Demote) Taken v w m = record { step = _; view = m.changes.steps.adds.view; shows = refl }
 made-gains k (Exchange q looked Demote) (Missed n) v w m = record { step = _; view = m.steps.adds.view; shows = refl }
 made-gains k (Exchange q looked Promote) Taken v w m = record { step = _; view = m.steps.adds.view; shows = refl }
@@ -55,46 +52,38 @@ made-fits k (StoreBody q half n) Nothing v w m = refl
 made-fits k (StoreHeader version frames) Nothing v w m = refl
 made-fits k (Exchange q looked (Publish e)) Taken v w m = refl
 made-fits k (Exchange q looked Revoke) Taken v w m = tt
-made-fits k (Exchange q looked Revoke) (Missed n) v w m = m.0.another
+made-fits k (Exchange q looked Revoke) (Missed n) v w m = m.missed.another
 made-fits k (Exchange q looked Demote) Taken v w m = tt
 made-fits k (Exchange q looked Demote) (Missed n) v w m = m.another
 made-fits k (Exchange q looked Promote) Taken v w m = tt
 made-fits k (Exchange q looked Promote) (Missed n) v w m = m.another
 made-fits k _ _ v w m = absurd m
 
--- a step that takes no pin, gives none up and changes no record
-pub record IsQuiet (m : EntryStep) : Type 0 where
-  pub pins : (ms : List EntryStep) → pins (m ∷ ms) ≡ pins ms
-  pub record_kept : (g : ℕ) (ms : List EntryStep) → last_record g (m ∷ ms) ≡ last_record g ms
-
-kept-pins : (m : EntryStep) (ms : List EntryStep) → pins (m ∷ ms) ≡ pins ms → (b : Bool) → pins (cond b (m ∷ ms) ms) ≡ pins ms
-kept-pins m ms e true = e
-kept-pins m ms e false = refl
-
-kept-record : (g : ℕ) (m : EntryStep) (ms : List EntryStep) → last_record g (m ∷ ms) ≡ last_record g ms → (b : Bool) → last_record g (cond b (m ∷ ms) ms) ≡ last_record g ms
-kept-record g m ms e true = e
-kept-record g m ms e false = refl
-
--- a quiet step on an entry keeps pins and records
-pub quiet-same : (t r : ℕ) (m : EntryStep) (v w : View) → IsQuiet m → w ≡ with_step (on_entry t r m) v → IsSame v w
-quiet-same t r m v w q e = subst (λ (u : View). IsSame v u) (sym e) (record {
-  pins = λ t' r'. kept-pins m (entry_steps t' r' v.steps) (q.pins (entry_steps t' r' v.steps)) ((t == t') && (r == r'));
-  records = λ r'. kept-record v.first m (entry_steps v.position r' v.steps) (q.record_kept v.first (entry_steps v.position r' v.steps)) ((t == v.position) && (r == r'));
-  position = refl;
-  ids = refl;
-})
-
-looked-quiet : (n : ℕ) → IsQuiet (Looked n)
-looked-quiet n = record { pins = λ ms. refl; record_kept = λ g ms. refl }
-
-header-same : (t : ℕ) (m : HeaderStep) (v w : View) → w ≡ with_step (on_header t m) v → IsSame v w
-header-same t m v w e = subst (λ (u : View). IsSame v u) (sym e) (record { pins = λ t' r'. refl; records = λ r'. refl; position = refl; ids = refl })
+-- the seat keeps what it knew
+kept-same : (v w : View) (s : SeatStep) → w ≡ with_step s v → Keeps v w → IsSame v w
+kept-same v w s e keeps = record { pins = keeps.pins; records = keeps.rows.last; seen = keeps.seen; position = ap (λ (u : View). u.position) e; ids = ap (λ (u : View). u.ids) e }
 
 pub same-self : (v : View) → IsSame v v
-same-self v = record { pins = λ t r. refl; records = λ r. refl; position = refl; ids = refl }
+same-self v = record { pins = λ t r. refl; records = λ r. refl; seen = λ t r. omega arith; position = refl; ids = refl }
 
 pub same-then : (u v w : View) → IsSame u v → IsSame v w → IsSame u w
-same-then u v w a b = record { pins = λ t r. b.pins t r ∙ a.pins t r; records = λ r. b.records r ∙ a.records r; position = b.position ∙ a.position; ids = b.ids ∙ a.ids }
+same-then u v w a b = record {
+  pins = λ t r. b.pins t r ∙ a.pins t r;
+  records = λ r. b.records r ∙ a.records r;
+  seen = λ t r. let one = a.seen t r in let two = b.seen t r in omega (arith, one, two);
+  position = b.position ∙ a.position;
+  ids = b.ids ∙ a.ids;
+}
+
+-- a body word that the owner stored leaves all but that word
+stored-same : (k : Layout) (q n : ℕ) (h : Half) (v w : View) → StoresBody k q h n v w → IsSame v w
+stored-same k q n h v w m = record {
+  pins = m.pins;
+  records = λ r. elim (cases_eq q r) [ inl e ↦ subst (λ (x : ℕ). last_of x w ≡ last_of x v) e m.last | inr ne ↦ m.rows.last r ne ];
+  seen = m.seen;
+  position = ap (λ (u : View). u.position) m.steps.adds.view;
+  ids = ap (λ (u : View). u.ids) m.steps.adds.view;
+}
 
 -- a step that only looks, stores a body word or a header, or misses
 abbrev pub IsLook : Step → Seen → Type 0
@@ -105,21 +94,27 @@ IsLook s seen = Unit {0}
 
 -- such a step keeps pins and records
 pub look-same : (k : Layout) (s : Step) (seen : Seen) (v w : View) → Made k s seen v w → IsLook s seen → IsSame v w
-look-same k (LookHeader d) (Word n) v w m l = header-same _ (header.Looked n) v w m.0.adds.view
-look-same k (LookControl d q) (Word n) v w m l = quiet-same _ _ (Looked n) v w (looked-quiet n) m.0.adds.view
-look-same k (LookBody d q half) (Word n) v w m l = quiet-same _ _ (ReadBody half n) v w (record { pins = λ ms. refl; record_kept = λ g ms. refl }) m.adds.view
+look-same k (LookHeader d) (Word n) v w m l = kept-same v w _ m.steps.adds.view m.keeps
+look-same k (LookControl d q) (Word n) v w m l = kept-same v w _ m.0.steps.adds.view m.0.keeps
+look-same k (LookBody d q half) (Word n) v w m l = kept-same v w _ m.steps.adds.view m.keeps
 look-same k (Pin p) Taken v w m l = absurd l
-look-same k (Pin p) (Missed n) v w m l = quiet-same _ _ _ v w (record { pins = λ ms. refl; record_kept = λ g ms. refl }) m.steps.adds.view
+look-same k (Pin p) (Missed n) v w m l = kept-same v w _ m.steps.adds.view m.keeps
 look-same k (Unpin p holder) Nothing v w m l = absurd l
-look-same k (StoreBody q half n) Nothing v w m l = quiet-same _ _ (StoredBody half n) v w (record { pins = λ ms. refl; record_kept = λ g ms. refl }) m.steps.adds.view
-look-same k (StoreHeader version frames) Nothing v w m l = header-same _ _ v w m.steps.adds.view
+look-same k (StoreBody q half n) Nothing v w m l = stored-same k q.0 n half v w m
+look-same k (StoreHeader version frames) Nothing v w m l = record {
+  pins = m.pins;
+  records = m.rows.last;
+  seen = m.seen;
+  position = ap (λ (u : View). u.position) m.steps.adds.view;
+  ids = ap (λ (u : View). u.ids) m.steps.adds.view;
+}
 look-same k (Exchange q looked (Publish e)) Taken v w m l = absurd l
 look-same k (Exchange q looked Revoke) Taken v w m l = absurd l
-look-same k (Exchange q looked Revoke) (Missed n) v w m l = quiet-same _ _ _ v w (record { pins = λ ms. refl; record_kept = λ g ms. refl }) m.0.steps.adds.view
+look-same k (Exchange q looked Revoke) (Missed n) v w m l = kept-same v w _ m.missed.steps.adds.view m.missed.keeps
 look-same k (Exchange q looked Demote) Taken v w m l = absurd l
-look-same k (Exchange q looked Demote) (Missed n) v w m l = quiet-same _ _ _ v w (record { pins = λ ms. refl; record_kept = λ g ms. refl }) m.steps.adds.view
+look-same k (Exchange q looked Demote) (Missed n) v w m l = kept-same v w _ m.steps.adds.view m.keeps
 look-same k (Exchange q looked Promote) Taken v w m l = absurd l
-look-same k (Exchange q looked Promote) (Missed n) v w m l = quiet-same _ _ _ v w (record { pins = λ ms. refl; record_kept = λ g ms. refl }) m.steps.adds.view
+look-same k (Exchange q looked Promote) (Missed n) v w m l = kept-same v w _ m.steps.adds.view m.keeps
 look-same k _ _ v w m l = absurd m
 
 -- the same seat is of the same words

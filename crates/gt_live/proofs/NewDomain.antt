@@ -7,16 +7,17 @@ use Rattle.gt_types.specs.declared.config.Config.{Config}
 use Rattle.gt_entry.specs.declared.entry.Entry.TheVariants.{Invalid}
 use Rattle.gt_words.specs.Conditions.{Board, IsNewSeat}
 use Rattle.gt_words.specs.Rule.{Layout, layout_of}
-use Rattle.gt_words.specs.Views.{IsIn, LivePin, entry_steps, invalid_at, last_record, pins}
+use Rattle.gt_words.specs.Views.{LivePin, pins_like, entry_steps, invalid_at, last_record, pins}
 use Rattle.gt_words.specs.declared.view.SeatStep.{SeatStep}
 use Rattle.gt_handles.specs.Handles.{Kept, under, value_of}
+use Rattle.gt_handles.specs.Listing.{has_passing}
 use Rattle.gt_handles.specs.declared.handles.Handle.{Handle}
 use Rattle.gt_handles.specs.declared.handles.Slot.{Slot}
 use Rattle.gt_calls.specs.declared.held.Held.{Held}
 use Rattle.gt_calls.specs.declared.known.Own.{Own}
 use Rattle.gt_calls.specs.Rules.{row_entry, row_generation}
 use Rattle.gt_live.specs.Domains.{Rights}
-use Rattle.gt_live.specs.Mappings.{HasSoundPins, has_pin, is_pin}
+use Rattle.gt_live.specs.Mappings.{is_mapping_of}
 use Rattle.gt_live.specs.Starting.{first_rows, IsNewDomain}
 use Rattle.gt_live.specs.declared.domain.Domain.{Domain}
 
@@ -59,11 +60,7 @@ new-domain b c may i d limits run new own mappings =
         generations = λ r lt2. let there = ap (λ (o : Option Own). row_generation c.first_gen o) (ap (λ (xs : List Own). slice_get xs r) own ∙ row-at c.first_gen r lt2) in omega (arith, there, few);
         all_rows = ap (λ (xs : List Own). length xs) own ∙ rows-length c.first_gen;
         mapped = λ h m e. absurd (nothing-there d.mappings h m slots e);
-        pins = λ t r a g. ap (λ (ps : List LivePin). count_by (is_pin a g) ps) (none t r) ∙ sym (ap (λ xs. count_by (has_pin b.layout t r a g) xs) slots);
-        sound = λ t r lt lt2. record {
-          valid = λ p there. absurd (subst (λ (ps : List LivePin). IsIn p ps) (none t r) there);
-          alike = λ p q there other same. absurd (subst (λ (ps : List LivePin). IsIn p ps) (none t r) there);
-        };
+        pins = λ t r a g. ap (λ (ps : List LivePin). pins_like a g ps) (none t r) ∙ sym (ap (λ xs. count_by (has_passing (is_mapping_of b.layout t r a g)) xs) slots);
       };
       seat = new;
       mappings = mappings;

@@ -4,7 +4,7 @@ use Rattle.gt_types.specs.declared.DomId.{DomId}
 use Rattle.gt_types.specs.declared.GrantRef.{GrantRef}
 use Rattle.gt_entry.specs.declared.control.Kind.TheVariants.{Sub as KindSub}
 use Rattle.gt_entry.specs.Words.{control_of, header_of, size_of}
-use Rattle.gt_words.specs.Rule.{IsHeader, Layout, position_in}
+use Rattle.gt_words.specs.Rule.{Layout, position_in}
 use Rattle.gt_words.specs.Views.{Seen as Looks, seen, steps_on, with_body}
 use Rattle.gt_entry.specs.declared.change.Half.TheVariants.{First}
 use Rattle.gt_words.specs.declared.view.SeatStep.{SeatStep}
@@ -54,11 +54,11 @@ made-last k way v (y ∷ rest) before x s walk e f =
     subst (λ (o : Option Action). MakesStep k o (shown_by y) (after rest v) (after (y ∷ rest) v)) (ap way i.0 ∙ f) walk.0 in
     record { rest = rest; walked = walk.1; shown_is = i.0; made = subst (λ (z : Seen). Made k s z (after rest v) (after (y ∷ rest) v)) i.1 m }
 
--- a header that was shown is one
-pub shown-header : (k : Layout) (way : Continuation) (v : View) (steps : List SeatStep) (before : List Seen) (word : ℕ) (later : List Seen) (dom : DomId) → IsWalk k way v steps → shown steps ≡ before ++ Word word ∷ later
-    → way before ≡ Some (Makes (LookHeader dom)) → IsHeader word
+-- a header that was shown has no larger table than there is room for
+shown-header : (k : Layout) (way : Continuation) (v : View) (steps : List SeatStep) (before : List Seen) (word : ℕ) (later : List Seen) (dom : DomId) → IsWalk k way v steps → shown steps ≡ before ++ Word word ∷ later
+    → way before ≡ Some (Makes (LookHeader dom)) → size_of (header_of word) ≤ 2048
 shown-header k way v [] before word later dom walk e f = absurd (never before (Word word) later e)
-shown-header k way v (y ∷ rest) before word [] dom walk e f = (made-last k way v (y ∷ rest) before (Word word) (LookHeader dom) walk e f).made.1
+shown-header k way v (y ∷ rest) before word [] dom walk e f = (made-last k way v (y ∷ rest) before (Word word) (LookHeader dom) walk e f).made.size
 shown-header k way v (y ∷ rest) before word (a ∷ bs) dom walk e f =
     let u = unsnoc a bs in
     let split : before ++ Word word ∷ (a ∷ bs) ≡ (before ++ Word word ∷ u.0) ++ u.1 ∷ [] =
@@ -70,15 +70,10 @@ pub few-entries : (b : Bool) (f : ℕ) → f ≤ 4 → f * cond b 256 512 ≤ 20
 few-entries true f h = omega arith
 few-entries false f h = omega arith
 
-in-table : (n q : ℕ) → IsHeader n → q < size_of (header_of n) → q < 2048
-in-table n q (version, frames, ver, some, few, e) lt =
-    let low : version < 4 = elim ver [ inl a ↦ omega arith | inr a ↦ omega arith ] in
-    let small : n / 4 % 256 ≤ 4 = omega arith in
-    let fe = few-entries (n % 4 == 2) (n / 4 % 256) small in omega (arith, fe)
-
--- a reference in a table seen is in the table
+-- a reference in a table seen is one that there is room for
 pub in-seen-table : (k : Layout) (way : Continuation) (v : View) (steps : List SeatStep) (dom : DomId) (gref : GrantRef) → IsWalk k way v steps → HasSeenTable way dom gref (shown steps) → gref.0 < 2048
-in-seen-table k way v steps dom gref walk t = in-table t.word gref.0 (shown-header k way v steps t.before t.word t.after dom walk t.shown_is t.looked) t.inside
+in-seen-table k way v steps dom gref walk t =
+    let size = shown-header k way v steps t.before t.word t.after dom walk t.shown_is t.looked in let lt = t.inside in omega (arith, size, lt)
 
 -- the words of an entry that was read, and is no sub-page, are those that the seat saw last of it
 pub read-page : (k : Layout) (way : Continuation) (v : View) (steps : List SeatStep) (dom : DomId) (gref : GrantRef) (word body second : ℕ) → IsWalk k way v steps → HasRead way dom gref word body second (shown steps)
@@ -89,4 +84,4 @@ read-page k way v steps dom gref word body second walk r page =
     r.shown_is ∙ (ap (λ (b : Bool). r.before ++ Word word ∷ Word body ∷ cond b (Word second ∷ []) []) page ∙ sym (append_assoc r.before (Word word ∷ []) (Word body ∷ []))) in
     let two = made-last k way v steps (r.before ++ Word word ∷ []) (Word body) (LookBody dom gref First) walk split r.first_read in
     let one = made-last k way v two.rest r.before (Word word) (LookControl dom gref) two.walked two.shown_is r.looked in
-    ap seen two.made.adds.here ∙ ap (λ (o : Option Looks). with_body First body o) (ap seen one.made.0.adds.here)
+    ap seen two.made.steps.adds.here ∙ ap (λ (o : Option Looks). with_body First body o) (ap seen one.made.0.steps.adds.here)

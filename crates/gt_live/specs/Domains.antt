@@ -10,11 +10,10 @@ use Rattle.gt_types.specs.declared.denial.Rule.TheVariants.{N26}
 use Rattle.gt_types.specs.declared.denial.Facts.TheVariants.{None as NoFacts}
 use Rattle.gt_types.specs.declared.limits.TheConstants.{TABLE_ENTRIES}
 use Rattle.gt_types.specs.Denial.{denial_of}
-use Rattle.gt_entry.specs.Words.{header_of}
 use Rattle.gt_words.specs.Conditions.{Board, IsSameSeat, IsSeatOf, KeepsPins, Unpins}
 use Rattle.gt_words.specs.Controls.{generation_of}
 use Rattle.gt_words.specs.Rule.{Layout, position_in}
-use Rattle.gt_words.specs.Views.{last_of, own_header, pins, steps_on}
+use Rattle.gt_words.specs.Views.{last_of, own_table, pins, steps_on}
 use Rattle.gt_words.specs.declared.view.View.{View}
 use Rattle.gt_handles.specs.Handles.{Kept, value_of}
 use Rattle.gt_handles.specs.declared.handles.Handle.{Handle}
@@ -34,7 +33,7 @@ use Rattle.gt_calls.specs.Rules.{CallerKnowledge, knowledge_of, entry_in, genera
 use Rattle.gt_live.specs.declared.domain.Domain.{Domain}
 use Rattle.gt_live.specs.declared.domain.Left.{Left}
 use Rattle.gt_live.specs.declared.monitor.Monitor.{Monitor}
-use Rattle.gt_live.specs.Mappings.{Adds, HasSoundPins, IsMappingOf, KeepsMappings, PinsAreOf, Removes}
+use Rattle.gt_live.specs.Mappings.{Adds, IsMappingOf, KeepsMappings, PinsAreOf, Removes}
 use Rattle.gt_live.specs.Walks.{Called}
 
 -- whose type may do what to whose (XSM FLASK)
@@ -43,7 +42,7 @@ Rights = TypeId → TypeId → Perms → Bool
 
 -- what a domain knows by itself (own)
 abbrev pub knowledge : Config → Rights → Domain → CallerKnowledge
-knowledge c may d = knowledge_of c.domains.items c.first_gen may d.own.items (header_of (own_header d.seat.view)) d.mappings
+knowledge c may d = knowledge_of c.domains.items c.first_gen may d.own.items (own_table d.seat.view) d.mappings
 
 -- the domain is of the run of these words and knows its own entries, and its seat has just the pins of its mappings (own)
 pub record IsDomainOf (b : Board) (c : Config) (may : Rights) (d : Domain) : Type 0 where
@@ -53,7 +52,6 @@ pub record IsDomainOf (b : Board) (c : Config) (may : Rights) (d : Domain) : Typ
   pub all_rows : length d.own.items ≡ TABLE_ENTRIES
   pub mapped : (h : Handle) (m : Held) → value_of d.mappings h ≡ Some m → IsMappingOf b.layout c.domains.items may d.seat.dom d.seat.view m
   pub pins : PinsAreOf b.layout d.seat.view d.mappings
-  pub sound : (t r : ℕ) → t < length b.layout.ids → r < TABLE_ENTRIES → HasSoundPins t r d.seat.view
 
 -- the domain came with this monitor (own)
 abbrev pub IsOf : {P : Type 0} → (P → Rights) → Monitor P → Domain → Type 0
@@ -121,7 +119,7 @@ HasRoomFor request kept = Unit {0}
 abbrev pub Settles : Asked → Verdict → Option Handle → Domain → Domain → Type 0
 Settles (asks.Map dom gref flags) (Mapped p) (Some handle) d e = Adds d.mappings e.mappings handle p
 Settles (asks.Map dom gref flags) (Mapped p) None d e = ⊥
-Settles (asks.Unmap handle) Granted other d e = Removes d.mappings e.mappings handle
+Settles (asks.Unmap handle) Granted other d e = (p : Held) × Removes d.mappings e.mappings handle p
 Settles request verdict handle d e = KeepsPinned d e
 
 -- Ok, or the refusal (own)
@@ -151,7 +149,7 @@ frames_told verdict = Ok 0
 abbrev pub Released : Layout → List Handle → Kept Held → View → Kept Held → View → Type 0
 Released k [] old v new w = (new ≡ old) × (w ≡ v)
 Released k (h ∷ hs) old v new w =
-    (m : Held) × (mid : Kept Held) × (u : View) × Released k hs old v mid u × (value_of mid h ≡ Some m) × Removes mid new h
+    (m : Held) × (mid : Kept Held) × (u : View) × Released k hs old v mid u × Removes mid new h m
     × Unpins k (position_in k.ids m.dom) m.gref.0 m.dir (generation_of m.word) u w
 
 -- A domain has left: the pin of each of its mappings was given back, one after another and nothing else, and its seat has none (own)

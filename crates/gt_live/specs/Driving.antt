@@ -14,15 +14,15 @@ use Rattle.gt_words.specs.declared.view.EntryStep.{EntryStep}
 use Rattle.gt_words.specs.declared.view.EntryRecord.{EntryRecord}
 use Rattle.gt_words.specs.declared.view.View.{View}
 use Rattle.gt_words.specs.Controls.{IsValid, generation_of, pins_in}
-use Rattle.gt_words.specs.Conditions.{AddsToEntry, HasLooked, Holds, IsKeptHeader, IsIdleOf, IsWordOf, KeepsPins, MayPin, Pins, Unpins}
-use Rattle.gt_words.specs.Rule.{Layout, id_at, position_in}
+use Rattle.gt_words.specs.Conditions.{CanChange, CanPin, Changes, HasDomain, Holds, KeepsPins, Pins, SeesNoEarlier, Unpins}
+use Rattle.gt_words.specs.Rule.{IsKeptHeader, Layout, id_at, position_in}
 use Rattle.gt_words.specs.Views.{own_body, last_seen, record_seen, last_of}
 use Rattle.gt_words.specs.declared.view.SeatStep.{SeatStep}
 use Rattle.gt_calls.specs.declared.action.Action.{Action}
 use Rattle.gt_calls.specs.declared.action.Action.TheVariants.{Step as Makes, Done}
 use Rattle.gt_entry.specs.declared.change.Change.{Change}
 use Rattle.gt_entry.specs.declared.change.Change.TheVariants.{Publish, Revoke as ToInvalid, Demote as ToReadOnly, Promote as ToWritable}
-use Rattle.gt_calls.specs.declared.action.Step.{Step as CallStep}
+use Rattle.gt_calls.specs.declared.action.Step.{Step}
 use Rattle.gt_calls.specs.declared.action.Step.TheVariants.{LookHeader, LookControl, LookBody, Pin, Unpin, StoreBody, StoreHeader, Exchange}
 use Rattle.gt_calls.specs.declared.action.Verdict.{Verdict}
 use Rattle.gt_calls.specs.declared.action.Verdict.TheVariants as verdicts
@@ -40,39 +40,29 @@ use Rattle.gt_calls.specs.Rules.{CallerKnowledge, begun}
 use Rattle.gt_calls.specs.Standing.{IsAt, held_by_call, pins_by_call}
 use Rattle.gt_live.specs.declared.driving.Effect.{Effect}
 use Rattle.gt_live.specs.declared.driving.Effect.TheVariants.{Nothing, Pinned, Unpinned, Changed, Stored}
-use Rattle.gt_live.specs.Walks.{IsWalk, after, shown}
+use Rattle.gt_live.specs.Walks.{IsWalk, TellsSteps, after, shown}
 use Rattle.gt_live.specs.Effects.{Answers}
 use Rattle.gt_live.specs.Ending.{IsHeaderChange, IsMap, IsOwnChange}
-use Rattle.gt_live.specs.Mappings.{IsOfRun, HasPin, HasSoundPins, IsMappingOf, record_of}
+use Rattle.gt_live.specs.Mappings.{HasPin, IsMappingOf, record_of}
 
 -- the seat may make this step of a call (own)
-abbrev pub CanMake : Layout → View → CallStep → Type 0
-CanMake k v (LookHeader d) = IsOfRun k d
-CanMake k v (LookControl d q) = IsOfRun k d × (q.0 < TABLE_ENTRIES)
-CanMake k v (LookBody d q half) = IsOfRun k d × (q.0 < TABLE_ENTRIES)
-CanMake k v (Pin p) =
-    IsOfRun k p.dom × (p.gref.0 < TABLE_ENTRIES) × HasLooked (position_in k.ids p.dom) p.gref.0 v p.word × IsValid p.word × (pins_in p.dir p.word < MAX_PINS)
-    × MayPin k (position_in k.ids p.dom) p.gref.0 v p.dir (record_seen (last_seen (position_in k.ids p.dom) p.gref.0 v))
+abbrev pub CanMake : Layout → View → Step → Type 0
+CanMake k v (LookHeader d) = HasDomain k d
+CanMake k v (LookControl d q) = HasDomain k d × (q.0 < TABLE_ENTRIES)
+CanMake k v (LookBody d q half) = HasDomain k d × (q.0 < TABLE_ENTRIES)
+CanMake k v (Pin p) = HasDomain k p.dom × (p.gref.0 < TABLE_ENTRIES) × CanPin k (position_in k.ids p.dom) p.gref.0 p.dir p.word v
 CanMake k v (Unpin p (ByHandle handle)) =
-    IsOfRun k p.dom × (p.gref.0 < TABLE_ENTRIES) × Holds (position_in k.ids p.dom) p.gref.0 p.dir (generation_of p.word) v
+    HasDomain k p.dom × (p.gref.0 < TABLE_ENTRIES) × Holds (position_in k.ids p.dom) p.gref.0 p.dir (generation_of p.word) v
 CanMake k v (StoreBody q half n) = (q.0 < TABLE_ENTRIES) × ((last_of q.0 v).entry ≡ Invalid)
-CanMake k v (StoreHeader version frames) = ((version ≡ 1) ⊎ (version ≡ 2)) × (0 < frames) × (frames ≤ MAX_TABLE_FRAMES)
-CanMake k v (Exchange q looked (Publish e)) =
-    (q.0 < TABLE_ENTRIES) × IsIdleOf (last_of q.0 v) looked × ((last_of q.0 v).entry ≡ Invalid) × ((last_of q.0 v).generation < LAST_GENERATION)
-    × (e ≢ Invalid) × IsSpelled e (own_body q.0 FirstHalf v) (own_body q.0 SecondHalf v)
-CanMake k v (Exchange q looked ToInvalid) = (q.0 < TABLE_ENTRIES) × IsIdleOf (last_of q.0 v) looked × ((last_of q.0 v).entry ≢ Invalid)
-CanMake k v (Exchange q looked ToReadOnly) =
-    (q.0 < TABLE_ENTRIES) × IsWordOf (last_of q.0 v) looked × (pins_in Write looked ≡ 0) × (generation_of looked < LAST_GENERATION)
-    × ((last_of q.0 v).entry ≢ Invalid) × (is_read_only (last_of q.0 v).entry ≡ false)
-CanMake k v (Exchange q looked ToWritable) =
-    (q.0 < TABLE_ENTRIES) × IsWordOf (last_of q.0 v) looked × (generation_of looked < LAST_GENERATION)
-    × ((last_of q.0 v).entry ≢ Invalid) × (is_read_only (last_of q.0 v).entry ≡ true)
+CanMake k v (StoreHeader version frames) = IsKeptHeader (record { version = version; frames = frames })
+CanMake k v (Exchange q looked change) = (q.0 < TABLE_ENTRIES) × CanChange change q.0 looked v
 CanMake k v step = ⊥
 
 -- the seat has the pins and records that it had (own)
 pub record IsSame (v w : View) : Type 0 where
   pub pins : KeepsPins v w
   pub records : (r : ℕ) → last_of r w ≡ last_of r v
+  pub seen : SeesNoEarlier v w
   pub position : w.position ≡ v.position
   pub ids : w.ids ≡ v.ids
 
@@ -80,13 +70,12 @@ pub record IsSame (v w : View) : Type 0 where
 pub record Knows (c : CallerKnowledge) (k : Layout) (caller : DomId) (v : View) : Type 0 where
   pub named : id_at k.ids v.position ≡ caller
   pub inside : v.position < length k.ids
-  pub wide : length k.ids ≡ k.domains
-  pub run : (d : DomId) (x : DomainConfig) → domain_of c.domains d ≡ Some x → IsOfRun k d
+  pub stands : v.position ≡ position_in k.ids caller
+  pub run : (d : DomId) (x : DomainConfig) → domain_of c.domains d ≡ Some x → HasDomain k d
   pub header : IsKeptHeader c.header
   pub rows : (r : ℕ) → r < TABLE_ENTRIES → last_of r v ≡ record { generation = c.generation r; entry = c.entry r }
   pub generations : (r : ℕ) → r < TABLE_ENTRIES → c.generation r < 1048576
   pub mapped : (h : Handle) (m : Held) → c.mapping h ≡ Some m → HasPin k v m
-  pub sound : (t r : ℕ) → t < length k.ids → r < TABLE_ENTRIES → HasSoundPins t r v
 
 -- a map took this pin, after looks alone: of the entry and in the direction that it was asked, which its caller may (own)
 pub record MapsBy (c : CallerKnowledge) (k : Layout) (caller : DomId) (request : Asked) (p : Held) (v w : View) : Type 0 where
@@ -96,7 +85,6 @@ pub record MapsBy (c : CallerKnowledge) (k : Layout) (caller : DomId) (request :
   pub pins : Pins k (position_in k.ids p.dom) p.gref.0 p.dir p.word before w
   pub entry_is : record_seen (last_seen (position_in k.ids p.dom) p.gref.0 before) ≡ record_of p
   pub mapping : IsMappingOf k c.domains c.may caller w p
-  pub sound : HasSoundPins (position_in k.ids p.dom) p.gref.0 w
   pub serial : c.maps_answered + 1 < 2 ^ 64
 
 -- the owner's change of its entry q was made, after looks alone (own)
@@ -105,10 +93,9 @@ pub record ChangesBy (c : CallerKnowledge) (k : Layout) (request : Asked) (q : �
   pub before : View
   pub same : IsSame v before
   pub inside : q < TABLE_ENTRIES
-  pub step : EntryStep
-  pub adds : AddsToEntry before.position q step before w
-  pub pins : KeepsPins before w
-  pub last : last_of q w ≡ record { generation = min (c.generation q + raise_of change) 1048575; entry = changed_entry change (c.entry q) }
+  pub word : ℕ
+  pub changes : Changes k q change word before w
+  pub fresh : c.generation q + raise_of change < 1048576
 
 -- the pin of the mapping under this handle was given back, as it was asked (own)
 pub record UnpinsBy (c : CallerKnowledge) (k : Layout) (request : Asked) (handle : Handle) (v w : View) : Type 0 where
@@ -132,6 +119,11 @@ abbrev pub StandsSo : CallerKnowledge → Layout → DomId → Asked → View �
 StandsSo c k caller request v w effect (Makes step) = IsSame v w
 StandsSo c k caller request v w effect (Done verdict) = Leaves c k caller request v w effect × Answers effect verdict
 
+-- an answer that comes next carries a word of these steps (own)
+abbrev pub ActionTells : Layout → View → List SeatStep → Action → Type 0
+ActionTells k v steps (Makes step) = Unit {0}
+ActionTells k v steps (Done verdict) = TellsSteps k v steps verdict
+
 -- a call under way: it added steps to its seat's view, which are those of its path, and the action is what comes next (own)
 pub record Going (c : CallerKnowledge) (k : Layout) (effect : Effect) (v w : View) (call : Call) (action : Action) : Type 0 where
   pub steps : List SeatStep
@@ -143,3 +135,4 @@ pub record Going (c : CallerKnowledge) (k : Layout) (effect : Effect) (v w : Vie
   pub held : held_by_call call ≡ []
   pub unanswered : begun c call.caller call.request ≡ None
   pub stands : StandsSo c k call.caller call.request v w effect action
+  pub carried : ActionTells k v steps action

@@ -1,4 +1,6 @@
 -- How calls without waiting are answered.
+use Rattle.gt_types.specs.declared.denial.Facts.{Facts}
+use Rattle.gt_types.specs.declared.denial.Facts.TheVariants as facts
 use Rattle.gt_calls.specs.declared.request.Asked.{Asked}
 use Rattle.gt_calls.specs.declared.request.Asked.TheVariants as asks
 use Rattle.gt_calls.specs.declared.action.Value.{Value}
@@ -49,9 +51,15 @@ IsHeaderChange (asks.SetVersion version) = Unit {0}
 IsHeaderChange (asks.SetupTable frames) = Unit {0}
 IsHeaderChange request = ⊥
 
--- the request may be answered so at its beginning: a refusal, or Ok where nothing is left to do (own)
+-- the facts of a refusal carry no word (own)
+abbrev pub IsWordless : Facts → Type 0
+IsWordless (facts.Entry dom gref word) = ⊥
+IsWordless (facts.Header dom word) = ⊥
+IsWordless other = Unit {0}
+
+-- the request may be answered so at its beginning: a refusal without a word, or Ok where nothing is left to do (own)
 abbrev pub IsAtOnce : Asked → Verdict → Type 0
-IsAtOnce request (Refused denial) = Unit {0}
+IsAtOnce request (Refused denial) = IsWordless denial.facts
 IsAtOnce (asks.Demote gref) Granted = Unit {0}
 IsAtOnce (asks.Promote gref) Granted = Unit {0}
 IsAtOnce (asks.SetVersion version) Granted = Unit {0}

@@ -1,9 +1,15 @@
 -- What a call adds to the steps of its seat: the actions of its path, one after another.
 use Rattle.std.specs.Prelude.{◌≡◌, ℕ, ◌+◌, Bool, true, false, List, [], ◌∷◌, ◌++◌, Option, Some, None}
 use Rattle.gt_words.specs.Controls.{generation_of}
-use Rattle.gt_words.specs.Conditions.{StepsOnHeader, StepsOnControl, StepsOnBody, IsNotEarlier, IsWordOf, Pins, MissesPin, Unpins, StoresBody, StoresHeader, Changes, MissesChange, IsBusyOf, Revokes, Demotes}
-use Rattle.gt_words.specs.Rule.{Layout, IsHeader, header_number, id_at, position_in}
-use Rattle.gt_words.specs.Views.{last_of}
+use Rattle.gt_words.specs.Conditions.{IsNotEarlier, LooksAtHeader, LooksAtControl, LooksAtBody, IsWordOf, Pins, MissesPin, Unpins, StoresBody, StoresHeader, Changes, MissesChange, MissesBusy, Revokes, Demotes}
+use Rattle.gt_words.specs.Rule.{Layout, id_at, position_in}
+use Rattle.gt_words.specs.Steps.{on_entry, on_header}
+use Rattle.gt_words.specs.Views.{IsIn, last_of}
+use Rattle.gt_words.specs.declared.view.EntryStep.{EntryStep}
+use Rattle.gt_types.specs.declared.DomId.{DomId}
+use Rattle.gt_types.specs.declared.GrantRef.{GrantRef}
+use Rattle.gt_types.specs.declared.denial.Facts.{Facts}
+use Rattle.gt_types.specs.declared.denial.Facts.TheVariants as facts
 use Rattle.gt_words.specs.declared.view.EntryStep.TheVariants.{Looked, ReadBody, Pinned, PinMissed, Unpinned, StoredBody, Changed, ChangeMissed}
 use Rattle.gt_words.specs.declared.view.HeaderStep.TheVariants as header
 use Rattle.gt_words.specs.declared.view.SeatStep.{SeatStep}
@@ -17,6 +23,7 @@ use Rattle.gt_calls.specs.declared.action.Seen.TheVariants.{Nothing, Word, Taken
 use Rattle.gt_calls.specs.declared.action.Step.{Step}
 use Rattle.gt_calls.specs.declared.action.Step.TheVariants.{LookHeader, LookControl, LookBody, Pin, Unpin, StoreBody, StoreHeader, Exchange}
 use Rattle.gt_calls.specs.declared.action.Verdict.{Verdict}
+use Rattle.gt_calls.specs.declared.action.Verdict.TheVariants.{Refused}
 use Rattle.gt_calls.specs.Path.{Continuation}
 
 -- what a step of a seat shows to its call (own)
@@ -43,19 +50,18 @@ after xs v = record v { steps = xs ++ v.steps }
 
 -- The step of a call was made on the words, by a seat whose view it took from v to w, and showed this: what each of the words' own calls tells of it (own)
 abbrev pub Made : Layout → Step → Seen → View → View → Type 0
-Made k (LookHeader d) (Word n) v w = StepsOnHeader k (position_in k.ids d) (header.Looked n) n n v w × IsHeader n
+Made k (LookHeader d) (Word n) v w = LooksAtHeader k (position_in k.ids d) n v w
 Made k (LookControl d q) (Word n) v w =
-    StepsOnControl k (position_in k.ids d) q.0 (Looked n) n n v w × IsNotEarlier (position_in k.ids d) q.0 v n
-    × (d ≡ id_at k.ids v.position → IsWordOf (last_of q.0 w) n × (generation_of n ≡ (last_of q.0 w).generation))
-Made k (LookBody d q half) (Word n) v w = StepsOnBody k (position_in k.ids d) q.0 half (ReadBody half n) n n v w
+    LooksAtControl k (position_in k.ids d) q.0 n v w × (d ≡ id_at k.ids v.position → IsWordOf (last_of q.0 w) n)
+Made k (LookBody d q half) (Word n) v w = LooksAtBody k (position_in k.ids d) q.0 half n v w
 Made k (Pin p) Taken v w = Pins k (position_in k.ids p.dom) p.gref.0 p.dir p.word v w
 Made k (Pin p) (Missed n) v w = MissesPin k (position_in k.ids p.dom) p.gref.0 p.dir p.word n v w
 Made k (Unpin p holder) Nothing v w = Unpins k (position_in k.ids p.dom) p.gref.0 p.dir (generation_of p.word) v w
 Made k (StoreBody q half n) Nothing v w = StoresBody k q.0 half n v w
-Made k (StoreHeader version frames) Nothing v w = StoresHeader k (header_number version frames) v w
+Made k (StoreHeader version frames) Nothing v w = StoresHeader k (record { version = version; frames = frames }) v w
 Made k (Exchange q looked (Publish e)) Taken v w = Changes k q.0 (Publish e) looked v w
 Made k (Exchange q looked Revoke) Taken v w = Revokes k q.0 looked v w
-Made k (Exchange q looked Revoke) (Missed n) v w = MissesChange k q.0 Revoke looked n v w × IsBusyOf (last_of q.0 v) n
+Made k (Exchange q looked Revoke) (Missed n) v w = MissesBusy k q.0 Revoke looked n v w
 Made k (Exchange q looked Demote) Taken v w = Demotes k q.0 looked v w
 Made k (Exchange q looked Demote) (Missed n) v w = MissesChange k q.0 Demote looked n v w
 Made k (Exchange q looked Promote) Taken v w = Changes k q.0 Promote looked v w
@@ -72,9 +78,35 @@ abbrev pub IsWalk : Layout → Continuation → View → List SeatStep → Type 
 IsWalk k way v [] = Unit {0}
 IsWalk k way v (x ∷ xs) = MakesStep k (way (shown xs)) (shown_by x) (after xs v) (after (x ∷ xs) v) × IsWalk k way v xs
 
--- a call took its seat's view from v to w: it added steps, which are those of its way, one after another, and after what they showed the way ends with this answer (own)
+-- what a step on an entry found in the control word (own)
+abbrev pub found_by : EntryStep → Option ℕ
+found_by (Looked n) = Some n
+found_by (PinMissed d e y n) = Some n
+found_by (ChangeMissed c e y n) = Some n
+found_by m = None
+
+-- one of these steps found this word in this entry, and it is no earlier than what the view v had seen of it (own)
+pub record FindsWord (k : Layout) (v : View) (steps : List SeatStep) (dom : DomId) (gref : GrantRef) (word : ℕ) : Type 0 where
+  pub step : EntryStep
+  pub taken : IsIn (on_entry (position_in k.ids dom) gref.0 step) steps
+  pub found : found_by step ≡ Some word
+  pub not_earlier : IsNotEarlier (position_in k.ids dom) gref.0 v word
+
+-- the word that a refusal carries, if it carries one, is of one of these steps (own)
+abbrev pub CarriesFound : Layout → View → List SeatStep → Facts → Type 0
+CarriesFound k v steps (facts.Entry dom gref word) = FindsWord k v steps dom gref word
+CarriesFound k v steps (facts.Header dom word) = IsIn (on_header (position_in k.ids dom) (header.Looked word)) steps
+CarriesFound k v steps other = Unit {0}
+
+-- the same of an answer (own)
+abbrev pub TellsSteps : Layout → View → List SeatStep → Verdict → Type 0
+TellsSteps k v steps (Refused denial) = CarriesFound k v steps denial.facts
+TellsSteps k v steps verdict = Unit {0}
+
+-- A call took its seat's view from v to w: it added steps, which are those of its way, one after another, and after what they showed the way ends with this answer; a word that the answer carries is one that they found (own)
 pub record Called (k : Layout) (way : Continuation) (verdict : Verdict) (v w : View) : Type 0 where
   pub steps : List SeatStep
   pub view : w ≡ after steps v
   pub walked : IsWalk k way v steps
   pub answered : way (shown steps) ≡ Some (Done verdict)
+  pub carried : TellsSteps k v steps verdict

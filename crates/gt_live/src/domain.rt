@@ -106,6 +106,7 @@ impl Domain {
     ghost use Rattle.std.specs.Prelude.{◌≡◌, ◌≤◌, ℕ, List, [], OnOk, OnErr, IfOk, IfErr, None, Some};
     ghost use Rattle.gt_live.specs.Domains.{Answered, HasLeft, HasRoomFor, IsOf, IsOpened, IsUnsettled, KeepsPinned, MapAnswered, Released, Settles, known, verdict_of, verdict_of_frames, verdict_of_size, verdict_of_version};
     ghost use Rattle.gt_live.specs.Mappings.{Removes};
+    ghost use Rattle.gt_calls.specs.declared.held.Held.{Held};
     ghost use Rattle.gt_handles.specs.Handles.{IsEmpty};
     ghost use Rattle.gt_words.specs.Conditions.{KeepsPins};
 
@@ -375,7 +376,7 @@ impl Domain {
         ensures mine { IsOf P.may monitor.now self.new }
         ensures seat { IsSameSeat self.old.seat self.new.seat }
         ensures answered { Answered P.may monitor.now self.old (Request.Unmap handle) (verdict_of result) self.new }
-        ensures removed { OnOk result (Removes self.old.mappings self.new.mappings handle) }
+        ensures removed { OnOk result ((p : Held) × Removes self.old.mappings self.new.mappings handle p) }
         ensures refused { OnErr result (KeepsPinned self.old self.new) }
     {
         done(self.call(monitor, Request::Unmap { handle }))

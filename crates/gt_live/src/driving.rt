@@ -4,7 +4,7 @@ ghost use Rattle.gt_calls.specs.Rules.{knows};
 ghost use Rattle.gt_calls.specs.Path.{path};
 ghost use Rattle.gt_calls.specs.Following.{MakesStep};
 ghost use Rattle.gt_calls.specs.Standing.{IsFresh};
-ghost use Rattle.gt_words.specs.Conditions.{IsSeatOf, IsSameSeat, IsKeptHeader};
+ghost use Rattle.gt_words.specs.Conditions.{IsSeatOf, IsSameSeat};
 ghost use Rattle.gt_live.specs.Walks.{Made, Called};
 ghost use Rattle.gt_live.specs.Effects.{Answers, effect_of};
 ghost use Rattle.gt_live.specs.Ending.{IsAnswerTo, WaitsForNobody};

@@ -6,7 +6,7 @@ use Rattle.gt_calls.specs.Path.{Continuation, path, path_of}
 use Rattle.gt_live.specs.Domains.{HasRoomFor, KeepsPinned, Settles, knowledge}
 use Rattle.gt_live.specs.Ending.{IsAnswerTo, IsMap, WaitsForNobody}
 use Rattle.gt_live.specs.Walks.{Called}
-use Rattle.gt_live.proofs.Knowing.{at-once-answer, no-room-asked, settle-once, settle-plain}
+use Rattle.gt_live.proofs.Knowing.{at-once-answer, no-room-asked, once-tells, settle-once, settle-plain}
 use Rattle.gt_live.proofs.Making.{same_seat-self}
 use Rattle.gt_live.proofs.Once.{answered-once}
 use Rattle.gt_live.proofs.domain.Domain.call.Goals as goal
@@ -18,7 +18,7 @@ returns-in-Done g c =
     record {
       mine = c.requires.mine;
       seat = same_seat-self d.seat;
-      answered = record { steps = []; view = refl; walked = tt; answered = s.1 };
+      answered = record { steps = []; view = refl; walked = tt; answered = s.1; carried = once-tells m.words.layout d.seat.view (asked c.args.request) c.in-Done.verdict once };
       answer = at-once-answer (asked c.args.request) c.in-Done.verdict once;
       settled = settle-once (asked c.args.request) c.in-Done.verdict d d once (record { mappings = record { slots = refl; given = refl }; pins = λ t r. refl });
     }

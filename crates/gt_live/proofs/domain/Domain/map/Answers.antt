@@ -16,7 +16,7 @@ use Rattle.gt_live.specs.Ending.{IsAnswerTo, WaitsForNobody}
 use Rattle.gt_live.specs.Mappings.{KeepsMappings}
 use Rattle.gt_live.specs.Walks.{Called}
 use Rattle.gt_live.proofs.Kept.{looked}
-use Rattle.gt_live.proofs.Knowing.{map-once, map-settled}
+use Rattle.gt_live.proofs.Knowing.{map-once, map-settled, once-tells}
 use Rattle.gt_live.proofs.Making.{same-self, same_seat-self}
 use Rattle.gt_live.proofs.Once.{answered-once}
 use Rattle.gt_live.proofs.domain.Domain.map.Goals as goal
@@ -33,7 +33,7 @@ returns-in-Done g c =
     record {
       mine = c.requires.mine;
       seat = same_seat-self d.seat;
-      answered = map-once g.P.Allows.may m d request (asks.Map c.args.dom c.args.gref c.args.flags) c.in-Done.verdict c.mapped.result once tt (record { steps = []; view = refl; walked = tt; answered = s.1 }) c.mapped.ensures;
+      answered = map-once g.P.Allows.may m d request (asks.Map c.args.dom c.args.gref c.args.flags) c.in-Done.verdict c.mapped.result once tt (record { steps = []; view = refl; walked = tt; answered = s.1; carried = once-tells m.words.layout d.seat.view (asks.Map c.args.dom c.args.gref c.args.flags) c.in-Done.verdict once }) c.mapped.ensures;
     }
 
 pub returns-then-is_err-clause-mine : goal.returns-then-is_err-clause-mine
