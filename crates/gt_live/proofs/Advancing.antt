@@ -158,7 +158,7 @@ begins-tells k v (Some (Makes s)) action b e = let same : Makes s ≡ action = c
 pub advance : (c : CallerKnowledge) (k : Layout) (effect : Effect) (v w w' : View) (call call' : Call) (action : Action) (s : Step) (x : Seen) → Knows c k call.caller v → WaitsForNobody call.request → Going c k effect v w call (Makes s) → Made k s x w w'
     → call'.caller ≡ call.caller → call'.request ≡ call.request → Goes c call x call' action → Going c k (effect_of s x) v w' call' action × (steps_to_come call' < steps_to_come call)
 advance c k effect v w w' call call' action s x knows waits g m callers requests goes =
-        let t = call.caller in let r = call.request in
+    let t = call.caller in let r = call.request in
     let fits : FitsNext (path c t r (shown g.steps)) x = subst (λ (o : Option Action). FitsNext o x) (sym g.goes) (made-fits k s x w w' m) in
     let on = goes.later (shown g.steps) g.at fits in
     let here : IsSame v (after g.steps v) = subst (λ (u : View). IsSame v u) g.view g.stands in

@@ -259,11 +259,13 @@ pub map-settled : {P : Type 0} (may : P → Rights) (m : Monitor P) (d d' e : Do
     → d'.mappings ≡ record d.mappings { room = d'.mappings.room } → d'.seat ≡ d.seat → Answered may m d request verdict e → IsAnswerTo (asks.Map dom gref flags) verdict → Settles (asks.Map dom gref flags) verdict h d' e → result ≡ mapped_by verdict h
     → MapAnswered may m d request result e
 map-settled may m d d' e request dom gref flags (Refused denial) h result room seat said a s r =
-    subst (λ (x : Result Handle Denial). MapAnswered may m d request x e) (sym r)
-    (inl said, record {
-      mappings = record { slots = s.mappings.slots ∙ ap (λ (z : Kept Held). z.slots) room; given = s.mappings.given ∙ ap (λ (z : Kept Held). z.given) room };
-      pins = subst (λ (z : SeatOf). KeepsPins z.view e.seat.view) seat s.pins;
-    })
+    subst (λ (x : Result Handle Denial). MapAnswered may m d request x e) (sym r) (
+      inl said,
+      record {
+        mappings = record { slots = s.mappings.slots ∙ ap (λ (z : Kept Held). z.slots) room; given = s.mappings.given ∙ ap (λ (z : Kept Held). z.given) room };
+        pins = subst (λ (z : SeatOf). KeepsPins z.view e.seat.view) seat s.pins;
+      },
+    )
 map-settled may m d d' e request dom gref flags (Mapped p) (Some h) result room seat said a s r =
     subst (λ (x : Result Handle Denial). MapAnswered may m d request x e) (sym r)
     (p, said, record { serial = s.serial ∙ ap (λ (z : Kept Held). z.given) room; inserted = roomier-inserted d'.mappings d.mappings e.mappings h p room s.inserted; spent = λ other was. subst (λ (z : Kept Held). KeepsSpent z e.mappings) room s.spent other (record { given = was.given; gone = was.gone }) })
