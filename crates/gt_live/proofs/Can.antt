@@ -1,12 +1,12 @@
 -- What the next action of a call rests on lets its seat make it, and what it then did.
-use Rattle.std.proofs.Common.{◌≡◌, ◌≢◌, ◌⊎◌, ℕ, ◌+◌, ◌*◌, ◌/◌, ◌%◌, ◌<◌, ◌≤◌, ◌==◌, ◌&&◌, not, Bool, true, false, cond, refl, sym, ap, ◌∙◌, subst, List, [], ◌∷◌, ◌++◌, length, zero, suc, Option, Some, None, inl, inr, arith, nat_lt, nat_le, min}
-use Rattle.std.specs.Prelude.{is_none, unwrap_or, slice_index_or, ◌^◌}
-use Rattle.std.specs.List.{position, position_or_len}
+use Rattle.std.proofs.Common.{◌≡◌, ◌≢◌, ◌⊎◌, ℕ, ◌+◌, ◌<◌, ◌==◌, ◌&&◌, not, Bool, true, false, cond, refl, sym, ap, ◌∙◌, subst, List, [], ◌∷◌, length, zero, suc, Some, None, inl, inr, arith, nat_lt, nat_le}
+use Rattle.std.specs.Prelude.{unwrap_or, ◌^◌}
+use Rattle.std.specs.List.{position_or_len}
 use Rattle.std.proofs.lemmas.Bool.{eq-eqb, lt-ltb, ltb-false, not-false}
 use Rattle.gt_types.specs.declared.DomId.{DomId}
 use Rattle.gt_types.specs.declared.GrantRef.{GrantRef}
 use Rattle.gt_types.specs.declared.Dir.{Dir}
-use Rattle.gt_types.specs.declared.Dir.TheVariants.{Read, Write}
+use Rattle.gt_types.specs.declared.Dir.TheVariants.{Write}
 use Rattle.gt_types.specs.declared.Use.TheVariants.{Map as ForMap}
 use Rattle.gt_types.specs.Names.{domain_of, resolved}
 use Rattle.gt_entry.specs.declared.entry.Entry.{Entry}
@@ -15,7 +15,7 @@ use Rattle.gt_entry.specs.declared.control.Kind.{Kind}
 use Rattle.gt_entry.specs.declared.control.Kind.TheVariants.{Page as KindPage, Sub as KindSub}
 use Rattle.gt_entry.specs.Entries.{is_read_only}
 use Rattle.gt_entry.specs.Permits.{permits}
-use Rattle.gt_entry.specs.Spelling.{IsSpelled, idle_word_of, first_body, second_body, entry_of}
+use Rattle.gt_entry.specs.Spelling.{IsSpelled, idle_word_of, first_body, second_body}
 use Rattle.gt_entry.specs.Words.{control_of, kind_of, size_of}
 use Rattle.gt_words.specs.Conditions.{CanTurn, Changes, HasDomain, Holds, IsIdleOf, IsWordOf, Pins}
 use Rattle.gt_words.specs.Controls.{generation_of, pins_in}
@@ -42,20 +42,20 @@ use Rattle.gt_calls.specs.declared.held.Held.{Held}
 use Rattle.gt_calls.specs.declared.held.Pins.{Pins as HeldPins}
 use Rattle.gt_calls.specs.declared.leg.Leg.{Leg}
 use Rattle.gt_calls.specs.declared.request.Holder.TheVariants.{Mapping as ByHandle, Leg as ByLeg}
-use Rattle.gt_calls.specs.Changes.{changed_entry, raise_of}
+use Rattle.gt_calls.specs.Changes.{raise_of}
 use Rattle.gt_calls.specs.Holding.{last_first}
-use Rattle.gt_calls.specs.Path.{Continuation, held_of, idle_word, is_stopped, map_leg, path}
-use Rattle.gt_calls.specs.Resting.{HasSeenTable, HasStored, IsFor, IsMapped, IsOfMap, IsOfRun as IsNamed, LookedLast, Rests, RestsOnGrant, RestsOnLast, RestsOnTry, RestsStep}
+use Rattle.gt_calls.specs.Path.{Continuation, idle_word, is_stopped, path}
+use Rattle.gt_calls.specs.Resting.{HasSeenTable, HasStored, IsFor, IsMapped, IsOfMap, IsOfRun as IsNamed, LookedLast, Rests, RestsOnGrant, RestsOnTry}
 use Rattle.gt_calls.specs.Opening.{IsAllowed, OpensGrant, OpensTurn, opens}
-use Rattle.gt_calls.specs.Rules.{CallerKnowledge, begun, frames_of, is_already, is_kind, label_of, map_dir, map_perms, triples}
+use Rattle.gt_calls.specs.Rules.{CallerKnowledge, begun, frames_of, is_kind, label_of, map_dir, map_perms, triples}
 use Rattle.gt_entry.specs.Entries.{frame_of, is_invalid}
 use Rattle.gt_entry.specs.declared.change.Half.{Half}
-use Rattle.gt_live.specs.Driving.{CanMake, ChangesBy, IsSame, Knows, Leaves, MapsBy, UnpinsBy}
+use Rattle.gt_live.specs.Driving.{CanMake, ChangesBy, IsSame, Knows, Leaves, MapsBy}
 use Rattle.gt_live.specs.Effects.{effect_of}
 use Rattle.gt_live.specs.Ending.{IsHeaderChange, IsMap, IsOwnChange, WaitsForNobody}
 use Rattle.gt_live.specs.Mappings.{HasPin, record_of}
 use Rattle.gt_live.specs.Walks.{IsWalk, Made, after, shown}
-use Rattle.gt_live.proofs.Making.{look-same, same-self, same-then}
+use Rattle.gt_live.proofs.Making.{look-same, same-then}
 use Rattle.gt_live.proofs.Rules.{idle-is, is-there, lets-page, page-seen, page-spelled, room-for}
 use Rattle.gt_live.proofs.Counting.{count-cons, dir-self}
 use Rattle.gt_live.proofs.Walking.{few-entries, in-seen-table, made-last, read-page}

@@ -1,20 +1,15 @@
 -- What a call keeps of its domain.
-use Rattle.std.proofs.Common.{◌≡◌, ◌≢◌, ◌⊎◌, ℕ, ◌+◌, ◌<◌, ◌≤◌, ◌==◌, ◌&&◌, Bool, true, false, cond, refl, sym, ap, ◌∙◌, subst, List, [], ◌∷◌, length, get_or, Option, Some, None, inl, inr, arith, min, nat_le}
+use Rattle.std.proofs.Common.{◌≡◌, ℕ, ◌+◌, ◌<◌, ◌==◌, ◌&&◌, Bool, true, false, cond, refl, sym, ap, ◌∙◌, subst, List, [], ◌∷◌, length, get_or, Option, Some, None, inl, inr, arith, min}
 use Rattle.std.specs.List.{count_by}
-use Rattle.std.specs.Prelude.{is_some, slice_get, slice_index_or}
-use Rattle.std.proofs.lemmas.Bool.{eqb-false, eqb-true, eq-eqb, ne_eqb, and_parts, cases_eq, cases_lt}
+use Rattle.std.specs.Prelude.{slice_index_or}
+use Rattle.std.proofs.lemmas.Bool.{eq-eqb, cases_eq, cases_lt}
 use lib.ListN.{get_or-eq_default}
 use Rattle.gt_types.specs.declared.DomId.{DomId}
-use Rattle.gt_types.specs.declared.TypeId.{TypeId}
 use Rattle.gt_types.specs.declared.Dir.{Dir}
-use Rattle.gt_types.specs.declared.Use.TheVariants.{Map as ForMap}
-use Rattle.gt_types.specs.declared.perms.Perms.{Perms}
 use Rattle.gt_types.specs.declared.config.Config.{Config}
 use Rattle.gt_types.specs.declared.config.DomainConfig.{DomainConfig}
 use Rattle.gt_entry.specs.declared.change.Change.{Change}
-use Rattle.gt_entry.specs.declared.entry.Entry.{Entry}
 use Rattle.gt_entry.specs.Changes.{changed_entry, raise_of}
-use Rattle.gt_entry.specs.Permits.{permits}
 use Rattle.gt_words.specs.Controls.{generation_of}
 use Rattle.gt_words.specs.Conditions.{Board, IsSameSeat, IsSeatOf, SeatOf, Unpins}
 use Rattle.gt_words.specs.Keeping.{Holds, KeepsPins, held}
@@ -31,9 +26,7 @@ use Rattle.gt_handles.specs.Listing.{IsInserted, IsTaken, has_passing}
 use Rattle.gt_calls.specs.declared.held.Held.{Held}
 use Rattle.gt_calls.specs.declared.known.Own.{Own}
 use Rattle.gt_calls.specs.declared.request.Asked.{Asked}
-use Rattle.gt_calls.specs.Changes.{own_after}
-use Rattle.gt_calls.specs.Opening.{IsAllowed}
-use Rattle.gt_calls.specs.Rules.{entry_in, generation_in, label_of, map_perms, row_entry, row_generation, triples}
+use Rattle.gt_calls.specs.Rules.{entry_in, generation_in, row_entry, row_generation}
 use Rattle.gt_live.specs.declared.domain.Domain.{Domain}
 use Rattle.gt_live.specs.Domains.{IsDomainOf, Rights, knowledge}
 use Rattle.gt_live.specs.Driving.{ChangesBy, IsSame, MapsBy}

@@ -1,11 +1,8 @@
 -- What a domain knows by itself at a call's beginning, and calls that are answered there.
-use Rattle.std.proofs.Common.{◌≡◌, ◌≢◌, ◌⊎◌, ℕ, ◌+◌, ◌*◌, ◌/◌, ◌%◌, ◌<◌, ◌≤◌, Bool, true, false, cond, refl, sym, ap, ◌∙◌, subst, List, [], ◌∷◌, length, map, suc, Option, Some, None, inl, inr, arith}
-use Rattle.std.specs.Prelude.{Result, Ok, Err, is_some}
+use Rattle.std.proofs.Common.{◌≡◌, ℕ, ◌≤◌, refl, sym, ap, ◌∙◌, subst, List, [], Option, Some, None, inl}
+use Rattle.std.specs.Prelude.{Result, is_some}
 use Rattle.gt_types.specs.declared.DomId.{DomId}
-use Rattle.gt_types.specs.declared.TypeId.{TypeId}
-use Rattle.gt_types.specs.declared.perms.Perms.{Perms}
 use Rattle.gt_types.specs.declared.config.Config.{Config}
-use Rattle.gt_types.specs.declared.config.DomainConfig.{DomainConfig}
 use Rattle.gt_types.specs.declared.denial.Denial.{Denial}
 use Rattle.gt_entry.specs.declared.header.Header.{Header}
 use Rattle.gt_types.specs.Config.{IsWithinLimits}
@@ -29,17 +26,17 @@ use Rattle.gt_calls.specs.declared.held.Held.{Held}
 use Rattle.gt_calls.specs.declared.known.Own.{Own}
 use Rattle.gt_calls.specs.declared.request.Asked.{Asked}
 use Rattle.gt_calls.specs.declared.request.Asked.TheVariants as asks
-use Rattle.gt_calls.specs.Rules.{CallerKnowledge, knowledge_of}
+use Rattle.gt_calls.specs.Rules.{knowledge_of}
 use Rattle.gt_live.specs.declared.domain.Domain.{Domain}
 use Rattle.gt_live.specs.Domains.{Answered, HasRoomFor, IsDomainOf, KeepsPinned, MapAnswered, mapped_by, Rights, Settles, done_by, frames_told, knowledge, size_told, verdict_of, verdict_of_frames, verdict_of_size, verdict_of_version, version_told}
-use Rattle.gt_live.specs.Driving.{IsSame, Knows}
+use Rattle.gt_live.specs.Driving.{Knows}
 use Rattle.gt_live.specs.Effects.{Answers}
 use Rattle.gt_live.specs.Walks.{CarriesFound, TellsSteps}
 use Rattle.gt_types.specs.declared.denial.Facts.{Facts}
 use Rattle.gt_types.specs.declared.denial.Facts.TheVariants as facts
 use Rattle.gt_live.specs.Ending.{IsAnswerTo, IsAtOnce, IsWordless, IsHeaderChange, IsMap, IsOwnChange}
 use Rattle.gt_live.specs.Mappings.{Adds, Removes}
-use Rattle.gt_live.specs.declared.driving.Effect.TheVariants.{Nothing, Pinned, Unpinned, Changed, Stored}
+use Rattle.gt_live.specs.declared.driving.Effect.TheVariants.{Nothing, Pinned, Unpinned}
 
 -- what is known by lent parts is what is known
 pub same-knowledge : (c : Config) (may : Rights) (d : Domain) (own : List Own) (h : Header) → own ≡ d.own.items → h ≡ own_table d.seat.view

@@ -1,10 +1,9 @@
-use Rattle.std.proofs.Common.{◌≡◌, ◌∙◌, sym, ap, subst, refl, [], ◌∷◌, Some, None, Option}
-use Rattle.gt_calls.specs.declared.action.Verdict.{Verdict}
+use Rattle.std.proofs.Common.{sym, subst, refl, []}
 use Rattle.gt_calls.specs.declared.request.Asked.{Asked}
 use Rattle.gt_calls.specs.Asking.{asked}
-use Rattle.gt_calls.specs.Path.{Continuation, path, path_of}
-use Rattle.gt_live.specs.Domains.{HasRoomFor, KeepsPinned, Settles, knowledge}
-use Rattle.gt_live.specs.Ending.{IsAnswerTo, IsMap, WaitsForNobody}
+use Rattle.gt_calls.specs.Path.{Continuation}
+use Rattle.gt_live.specs.Domains.{HasRoomFor, Settles, knowledge}
+use Rattle.gt_live.specs.Ending.{IsAnswerTo, WaitsForNobody}
 use Rattle.gt_live.specs.Walks.{Called}
 use Rattle.gt_live.proofs.Knowing.{at-once-answer, no-room-asked, once-tells, settle-once, settle-plain}
 use Rattle.gt_live.proofs.Making.{same_seat-self}

@@ -1,4 +1,4 @@
-use Rattle.std.proofs.Common.{◌≡◌, ◌∙◌, ◌+◌, ◌≤◌, ℕ, sym, ap, subst, refl, [], ◌∷◌, Some, None, Option, inl, inr}
+use Rattle.std.proofs.Common.{◌≡◌, ◌∙◌, ◌≤◌, sym, ap, subst, refl, [], inr}
 use Rattle.std.specs.Prelude.{Result, Ok, Err, OnOk, false}
 use Rattle.std.specs.Result.{is_err}
 use Rattle.gt_handles.specs.Handles.{Kept}
@@ -11,9 +11,8 @@ use Rattle.gt_calls.specs.Path.{Continuation, path}
 use Rattle.gt_calls.specs.Rules.{CallerKnowledge}
 use Rattle.gt_calls.specs.Standing.{IsFresh}
 use Rattle.gt_live.specs.declared.domain.Domain.{Domain}
-use Rattle.gt_live.specs.Domains.{HasRoomFor, IsDomainOf, KeepsPinned, MapAnswered, Settles, knowledge, mapped_by}
+use Rattle.gt_live.specs.Domains.{HasRoomFor, Settles, knowledge}
 use Rattle.gt_live.specs.Ending.{IsAnswerTo, WaitsForNobody}
-use Rattle.gt_live.specs.Mappings.{KeepsMappings}
 use Rattle.gt_live.specs.Walks.{Called}
 use Rattle.gt_live.proofs.Kept.{looked}
 use Rattle.gt_live.proofs.Knowing.{map-once, map-settled, once-tells}

@@ -1,4 +1,4 @@
-use Rattle.std.proofs.Common.{◌≡◌, ◌∙◌, ◌+◌, ◌<◌, ℕ, sym, ap, subst, refl, [], ◌∷◌, Some, None, arith}
+use Rattle.std.proofs.Common.{refl, [], ◌∷◌}
 use Rattle.gt_live.specs.declared.domain.Domain.{Domain}
 use Rattle.gt_live.proofs.Kept.{some-pins, unmapped}
 use Rattle.gt_live.proofs.Making.{same_seat-self, same_seat-then, still_seat}

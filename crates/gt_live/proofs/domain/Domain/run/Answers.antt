@@ -1,21 +1,20 @@
-use Rattle.std.proofs.Common.{◌≡◌, ◌∙◌, ◌+◌, ◌<◌, ◌≤◌, ℕ, sym, ap, subst, List, refl, Some, None, Option, arith}
+use Rattle.std.proofs.Common.{◌≡◌, ◌∙◌, ◌+◌, ◌<◌, ◌≤◌, sym, ap, subst, List, refl, Some, None, Option}
 use Rattle.std.specs.Prelude.{◌^◌, OnSome}
 use Rattle.std.specs.Vec.{with_items}
 use Rattle.std.proofs.lemmas.List.{with_items_is}
-use Rattle.gt_words.specs.Views.{pins, steps_on}
 use Rattle.gt_handles.specs.declared.handles.Handle.{Handle}
-use Rattle.gt_handles.specs.Handles.{Kept, KeepsSpent, Updates, count_of, value_of}
+use Rattle.gt_handles.specs.Handles.{Kept, Updates, count_of, value_of}
 use Rattle.gt_handles.specs.Listing.{IsInserted, IsTaken}
 use Rattle.gt_calls.specs.declared.held.Held.{Held}
 use Rattle.gt_calls.specs.declared.known.Own.{Own}
 use Rattle.gt_calls.specs.declared.request.Asked.{Asked}
 use Rattle.gt_live.specs.declared.domain.Domain.{Domain}
 use Rattle.gt_live.specs.declared.driving.Effect.{Effect}
-use Rattle.gt_live.specs.declared.driving.Effect.TheVariants.{Nothing, Pinned, Unpinned, Changed, Stored}
-use Rattle.gt_live.specs.Domains.{HasRoomFor, KeepsPinned, Settles, knowledge}
+use Rattle.gt_live.specs.declared.driving.Effect.TheVariants.{Nothing, Pinned, Unpinned}
+use Rattle.gt_live.specs.Domains.{KeepsPinned, Settles, knowledge}
 use Rattle.gt_live.specs.Driving.{ChangesBy, IsSame, Leaves, MapsBy, UnpinsBy}
 use Rattle.gt_live.specs.Effects.{Answers}
-use Rattle.gt_live.specs.Mappings.{Adds, KeepsMappings, Removes}
+use Rattle.gt_live.specs.Mappings.{Adds, Removes}
 use Rattle.gt_live.specs.Rows.{row_changed}
 use Rattle.gt_live.proofs.Kept.{changed, looked, looked-seat, mapped, unmapped}
 use Rattle.gt_live.proofs.Knowing.{settle-changed, settle-looked, settle-mapped, settle-stored, settle-unmapped, room-of}
