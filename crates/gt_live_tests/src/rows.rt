@@ -3,6 +3,8 @@
 use crate::script::{Asks, Line, Said, line, map_often, rights, run, start};
 use gt_entry::Entry;
 use gt_types::{Denial, DomId, Facts, GrantRef, Rule};
+use std::alloc::Global;
+use std::process::Abort;
 
 // The page with this frame, for the second domain.
 fn page(ro: bool, frame: u64) -> Entry {
@@ -42,8 +44,7 @@ fn by_header(word: u64) -> Said {
 }
 
 // Whether each line is answered as it says, over three domains whose tables have this version.
-fn agreed(rt: &HostRuntime, version: u32, lines: &[Line]) -> bool {
-    let alloc = rt.alloc();
+fn agreed(rt: &impl Abort, alloc: Global, version: u32, lines: &[Line]) -> bool {
     let (monitor, mut one, mut two, mut three, four) = start(rt, alloc, rights(rt, alloc), version);
     let agreed = run(&monitor, &mut one, &mut two, &mut three, lines);
     let _ = one.finish(&monitor);
@@ -65,7 +66,7 @@ fn a_read_pin_is_counted(rt: HostRuntime) {
         line(1, Asks::Revoke(0), Said::Done),
         line(1, Asks::Revoke(0), plain(Rule::N10)),
     ];
-    assert!(rt; agreed(&rt, 1, &lines));
+    assert!(rt; agreed(&rt, rt.alloc(), 1, &lines));
 }
 
 #[test]
@@ -83,7 +84,7 @@ fn the_domain_named_comes_before_readonly(rt: HostRuntime) {
             by_word(Rule::N13, 0, 0x1000_2000_0005),
         ),
     ];
-    assert!(rt; agreed(&rt, 1, &lines));
+    assert!(rt; agreed(&rt, rt.alloc(), 1, &lines));
 }
 
 #[test]
@@ -115,7 +116,7 @@ fn a_part_or_a_via_is_not_mapped(rt: HostRuntime) {
             by_word(Rule::N12, 1, 0x1000_2000_0003),
         ),
     ];
-    assert!(rt; agreed(&rt, 2, &lines));
+    assert!(rt; agreed(&rt, rt.alloc(), 2, &lines));
 }
 
 #[test]
@@ -130,7 +131,7 @@ fn frames_and_references_have_ends(rt: HostRuntime) {
         line(2, Asks::Map(1, 512, 6), by_header(5)),
         line(2, Asks::Map(1, 511, 6), by_word(Rule::N10, 511, 0)),
     ];
-    assert!(rt; agreed(&rt, 1, &lines));
+    assert!(rt; agreed(&rt, rt.alloc(), 1, &lines));
 }
 
 #[test]
@@ -149,7 +150,7 @@ fn a_demotion_leaves_a_read_pin(rt: HostRuntime) {
         line(1, Asks::Promote(0), Said::Done),
         line(1, Asks::Revoke(0), by_word(Rule::N19, 0, 0x3000_2000_0011)),
     ];
-    assert!(rt; agreed(&rt, 1, &lines));
+    assert!(rt; agreed(&rt, rt.alloc(), 1, &lines));
 }
 
 #[test]
@@ -177,7 +178,7 @@ fn a_table_grows_and_changes_its_version(rt: HostRuntime) {
         line(1, Asks::SetupTable(5), plain(Rule::N23)),
         line(1, Asks::SetVersion(3), plain(Rule::N2)),
     ];
-    assert!(rt; agreed(&rt, 1, &lines));
+    assert!(rt; agreed(&rt, rt.alloc(), 1, &lines));
 }
 
 // Two maps hold a revocation back until their domain has left.
