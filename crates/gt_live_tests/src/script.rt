@@ -50,16 +50,16 @@ pub fn line(by: u32, asks: Asks, said: Said) -> Line {
     Line { by, asks, said }
 }
 
-fn done(result: Result<(), Denial>) -> Said {
-    match result {
+fn done(answer: Result<(), Denial>) -> Said {
+    match answer {
         Ok(()) => Said::Done,
         Err(denial) => Said::Denied(denial),
     }
 }
 
 // A map, whose handle is the last one then.
-fn mapped(result: Result<Handle, Denial>, last: &mut Option<Handle>) -> Said {
-    match result {
+fn mapped(answer: Result<Handle, Denial>, last: &mut Option<Handle>) -> Said {
+    match answer {
         Ok(handle) => {
             *last = Some(handle);
             Said::Done
@@ -68,16 +68,16 @@ fn mapped(result: Result<Handle, Denial>, last: &mut Option<Handle>) -> Said {
     }
 }
 
-fn numbered(result: Result<u32, Denial>, is_version: bool) -> Said {
-    match result {
+fn numbered(answer: Result<u32, Denial>, is_version: bool) -> Said {
+    match answer {
         Ok(number) if is_version => Said::Version(number),
         Ok(number) => Said::Frames(number),
         Err(denial) => Said::Denied(denial),
     }
 }
 
-fn sized(result: Result<Size, Denial>) -> Said {
-    match result {
+fn sized(answer: Result<Size, Denial>) -> Said {
+    match answer {
         Ok(size) => Said::Size(size.frames, size.max),
         Err(denial) => Said::Denied(denial),
     }
