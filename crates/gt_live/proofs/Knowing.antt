@@ -251,7 +251,7 @@ roomier-inserted old' old new h p room i =
 pub map-once : {P : Type 0} (may : P → Rights) (m : Monitor P) (d : Domain) (request : Request) (r : Asked) (verdict : Verdict) (result : Result Handle Denial) → IsAtOnce r verdict → IsMap r → Answered may m d request verdict d → result ≡ mapped_by verdict None
     → MapAnswered may m d request result d
 map-once may m d request (asks.Map dom gref flags) (Refused denial) result once is said e =
-    subst (λ (x : Result Handle Denial). MapAnswered may m d request x d) (sym e) (inl said, record { mappings = record { slots = refl; given = refl }; pins = λ t q. refl })
+    subst (λ (x : Result Handle Denial). MapAnswered may m d request x d) (sym e) (inl said, (record { slots = refl; given = refl }, λ t q. refl))
 map-once may m d request (asks.Map dom gref flags) _ result once is said e = absurd once
 map-once may m d request _ verdict result once is said e = absurd is
 
@@ -260,10 +260,7 @@ pub map-settled : {P : Type 0} (may : P → Rights) (m : Monitor P) (d d' e : Do
     → MapAnswered may m d request result e
 map-settled may m d d' e request dom gref flags (Refused denial) h result room seat said a s r =
     subst (λ (x : Result Handle Denial). MapAnswered may m d request x e) (sym r)
-    (inl said, record {
-      mappings = record { slots = s.mappings.slots ∙ ap (λ (z : Kept Held). z.slots) room; given = s.mappings.given ∙ ap (λ (z : Kept Held). z.given) room };
-      pins = subst (λ (z : SeatOf). KeepsPins z.view e.seat.view) seat s.pins;
-    })
+    (inl said, (record { slots = s.0.slots ∙ ap (λ (z : Kept Held). z.slots) room; given = s.0.given ∙ ap (λ (z : Kept Held). z.given) room }, subst (λ (z : SeatOf). KeepsPins z.view e.seat.view) seat s.1))
 map-settled may m d d' e request dom gref flags (Mapped p) (Some h) result room seat said a s r =
     subst (λ (x : Result Handle Denial). MapAnswered may m d request x e) (sym r)
     (p, said, record { serial = s.serial ∙ ap (λ (z : Kept Held). z.given) room; inserted = roomier-inserted d'.mappings d.mappings e.mappings h p room s.inserted; spent = λ other was. subst (λ (z : Kept Held). KeepsSpent z e.mappings) room s.spent other (record { given = was.given; gone = was.gone }) })
