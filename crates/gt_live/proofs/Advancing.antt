@@ -1,5 +1,5 @@
 -- A call that goes on.
-use Rattle.std.proofs.Common.{◌≡◌, ◌⊎◌, ℕ, ◌+◌, ◌<◌, refl, sym, ap, ◌∙◌, subst, List, [], ◌∷◌, ◌++◌, Option, Some, None, inl, inr, arith}
+use Rattle.std.proofs.Common.{◌≡◌, ℕ, ◌+◌, ◌<◌, refl, sym, ap, ◌∙◌, subst, List, [], ◌∷◌, ◌++◌, Option, Some, None, inl, inr, arith}
 use Rattle.gt_types.specs.declared.DomId.{DomId}
 use Rattle.gt_types.specs.declared.GrantRef.{GrantRef}
 use Rattle.gt_types.specs.declared.denial.Facts.{Facts}
@@ -32,7 +32,7 @@ use Rattle.gt_calls.specs.Counting.{steps_to_come}
 use Rattle.gt_calls.specs.Following.{FitsNext, Goes, HoldsAfter, MakesStep as BeginsSo}
 use Rattle.gt_calls.specs.Path.{path}
 use Rattle.gt_calls.specs.Resting.{Rests}
-use Rattle.gt_calls.specs.Rules.{CallerKnowledge, begun}
+use Rattle.gt_calls.specs.Rules.{CallerKnowledge}
 use Rattle.gt_calls.specs.Standing.{IsAt, IsFresh, held_by_call, pins_by_call}
 use Rattle.gt_live.specs.declared.driving.Effect.{Effect}
 use Rattle.gt_live.specs.declared.driving.Effect.TheVariants.{Nothing}
@@ -158,7 +158,7 @@ begins-tells k v (Some (Makes s)) action b e = let same : Makes s ≡ action = c
 pub advance : (c : CallerKnowledge) (k : Layout) (effect : Effect) (v w w' : View) (call call' : Call) (action : Action) (s : Step) (x : Seen) → Knows c k call.caller v → WaitsForNobody call.request → Going c k effect v w call (Makes s) → Made k s x w w'
     → call'.caller ≡ call.caller → call'.request ≡ call.request → Goes c call x call' action → Going c k (effect_of s x) v w' call' action × (steps_to_come call' < steps_to_come call)
 advance c k effect v w w' call call' action s x knows waits g m callers requests goes =
-        let t = call.caller in let r = call.request in
+    let t = call.caller in let r = call.request in
     let fits : FitsNext (path c t r (shown g.steps)) x = subst (λ (o : Option Action). FitsNext o x) (sym g.goes) (made-fits k s x w w' m) in
     let on = goes.later (shown g.steps) g.at fits in
     let here : IsSame v (after g.steps v) = subst (λ (u : View). IsSame v u) g.view g.stands in

@@ -1,12 +1,12 @@
 -- What the next action of a call rests on lets its seat make it, and what it then did.
-use Rattle.std.proofs.Common.{◌≡◌, ◌≢◌, ◌⊎◌, ℕ, ◌+◌, ◌*◌, ◌/◌, ◌%◌, ◌<◌, ◌≤◌, ◌==◌, ◌&&◌, not, Bool, true, false, cond, refl, sym, ap, ◌∙◌, subst, List, [], ◌∷◌, ◌++◌, length, zero, suc, Option, Some, None, inl, inr, arith, nat_lt, nat_le, min}
-use Rattle.std.specs.Prelude.{is_none, unwrap_or, slice_index_or, ◌^◌}
-use Rattle.std.specs.List.{position, position_or_len}
+use Rattle.std.proofs.Common.{◌≡◌, ◌≢◌, ◌⊎◌, ℕ, ◌+◌, ◌<◌, ◌==◌, ◌&&◌, not, Bool, true, false, cond, refl, sym, ap, ◌∙◌, subst, List, [], ◌∷◌, length, zero, suc, Some, None, inl, inr, arith, nat_lt, nat_le}
+use Rattle.std.specs.Prelude.{unwrap_or, ◌^◌}
+use Rattle.std.specs.List.{position_or_len}
 use Rattle.std.proofs.lemmas.Bool.{eq-eqb, lt-ltb, ltb-false, not-false}
 use Rattle.gt_types.specs.declared.DomId.{DomId}
 use Rattle.gt_types.specs.declared.GrantRef.{GrantRef}
 use Rattle.gt_types.specs.declared.Dir.{Dir}
-use Rattle.gt_types.specs.declared.Dir.TheVariants.{Read, Write}
+use Rattle.gt_types.specs.declared.Dir.TheVariants.{Write}
 use Rattle.gt_types.specs.declared.Use.TheVariants.{Map as ForMap}
 use Rattle.gt_types.specs.Names.{domain_of, resolved}
 use Rattle.gt_entry.specs.declared.entry.Entry.{Entry}
@@ -15,7 +15,7 @@ use Rattle.gt_entry.specs.declared.control.Kind.{Kind}
 use Rattle.gt_entry.specs.declared.control.Kind.TheVariants.{Page as KindPage, Sub as KindSub}
 use Rattle.gt_entry.specs.Entries.{is_read_only}
 use Rattle.gt_entry.specs.Permits.{permits}
-use Rattle.gt_entry.specs.Spelling.{IsSpelled, idle_word_of, first_body, second_body, entry_of}
+use Rattle.gt_entry.specs.Spelling.{IsSpelled, idle_word_of, first_body, second_body}
 use Rattle.gt_entry.specs.Words.{control_of, kind_of, size_of}
 use Rattle.gt_words.specs.Conditions.{CanTurn, Changes, HasDomain, Holds, IsIdleOf, IsWordOf, Pins}
 use Rattle.gt_words.specs.Controls.{generation_of, pins_in}
@@ -42,20 +42,20 @@ use Rattle.gt_calls.specs.declared.held.Held.{Held}
 use Rattle.gt_calls.specs.declared.held.Pins.{Pins as HeldPins}
 use Rattle.gt_calls.specs.declared.leg.Leg.{Leg}
 use Rattle.gt_calls.specs.declared.request.Holder.TheVariants.{Mapping as ByHandle, Leg as ByLeg}
-use Rattle.gt_calls.specs.Changes.{changed_entry, raise_of}
+use Rattle.gt_calls.specs.Changes.{raise_of}
 use Rattle.gt_calls.specs.Holding.{last_first}
-use Rattle.gt_calls.specs.Path.{Continuation, held_of, idle_word, is_stopped, map_leg, path}
-use Rattle.gt_calls.specs.Resting.{HasSeenTable, HasStored, IsFor, IsMapped, IsOfMap, IsOfRun as IsNamed, LookedLast, Rests, RestsOnGrant, RestsOnLast, RestsOnTry, RestsStep}
+use Rattle.gt_calls.specs.Path.{Continuation, idle_word, is_stopped, path}
+use Rattle.gt_calls.specs.Resting.{HasSeenTable, HasStored, IsFor, IsMapped, IsOfMap, IsOfRun as IsNamed, LookedLast, Rests, RestsOnGrant, RestsOnTry}
 use Rattle.gt_calls.specs.Opening.{IsAllowed, OpensGrant, OpensTurn, opens}
-use Rattle.gt_calls.specs.Rules.{CallerKnowledge, begun, frames_of, is_already, is_kind, label_of, map_dir, map_perms, triples}
+use Rattle.gt_calls.specs.Rules.{CallerKnowledge, begun, frames_of, is_kind, label_of, map_dir, map_perms, triples}
 use Rattle.gt_entry.specs.Entries.{frame_of, is_invalid}
 use Rattle.gt_entry.specs.declared.change.Half.{Half}
-use Rattle.gt_live.specs.Driving.{CanMake, ChangesBy, IsSame, Knows, Leaves, MapsBy, UnpinsBy}
+use Rattle.gt_live.specs.Driving.{CanMake, ChangesBy, IsSame, Knows, Leaves, MapsBy}
 use Rattle.gt_live.specs.Effects.{effect_of}
 use Rattle.gt_live.specs.Ending.{IsHeaderChange, IsMap, IsOwnChange, WaitsForNobody}
 use Rattle.gt_live.specs.Mappings.{HasPin, record_of}
 use Rattle.gt_live.specs.Walks.{IsWalk, Made, after, shown}
-use Rattle.gt_live.proofs.Making.{look-same, same-self, same-then}
+use Rattle.gt_live.proofs.Making.{look-same, same-then}
 use Rattle.gt_live.proofs.Rules.{idle-is, is-there, lets-page, page-seen, page-spelled, room-for}
 use Rattle.gt_live.proofs.Counting.{count-cons, dir-self}
 use Rattle.gt_live.proofs.Walking.{few-entries, in-seen-table, made-last, read-page}
@@ -214,14 +214,16 @@ module _ (c : CallerKnowledge) (k : Layout) (caller : DomId) (v : View) (knows :
   can-publish request steps way q looked e walk same none r =
       let w = after steps v in
       let o = grant-opens request q e none r.0 in let lt = in-own q.0 o.in_table in let here = row w same q.0 lt in
-      let few = knows.generations q.0 lt in let worn = o.not_worn in
-      (lt, record {
-        idle = r.1 ∙ once w same q lt;
-        none_yet = ap (λ (x : EntryRecord). x.entry) here ∙ which-invalid (c.entry q.0) o.free;
-        room = subst (λ (x : EntryRecord). x.generation < 1048575) (sym here) (omega (arith, few, worn));
-        some = valid-entry e o.valid;
-        spelled = stored steps way q e (valid-entry e o.valid) walk r.2;
-      })
+      let few = knows.generations q.0 lt in let worn = o.not_worn in (
+        lt,
+        record {
+          idle = r.1 ∙ once w same q lt;
+          none_yet = ap (λ (x : EntryRecord). x.entry) here ∙ which-invalid (c.entry q.0) o.free;
+          room = subst (λ (x : EntryRecord). x.generation < 1048575) (sym here) (omega (arith, few, worn));
+          some = valid-entry e o.valid;
+          spelled = stored steps way q e (valid-entry e o.valid) walk r.2;
+        },
+      )
 
   -- an entry of the caller's own that is valid
   own-valid : (w : View) (q : GrantRef) → IsSame v w → q.0 < 2048 → is_invalid (c.entry q.0) ≡ false → (last_of q.0 w).entry ≢ Invalid
@@ -240,13 +242,15 @@ module _ (c : CallerKnowledge) (k : Layout) (caller : DomId) (v : View) (knows :
       → LookedLast way caller q looked [] (shown steps) → (q.0 < 2048) × CanTurn ro q.0 looked (after steps v)
   can-turn ro change steps way q looked walk same o now r =
       let w = after steps v in let lt = in-own q.0 o.in_table in let here = row w same q.0 lt in
-      let few = knows.generations q.0 lt in let worn = o.not_worn in
-      (lt, record {
-        word_is = own-look steps way q looked walk r;
-        some = own-valid w q same lt o.valid;
-        now = ap (λ (x : EntryRecord). is_read_only x.entry) here ∙ now;
-        room = subst (λ (x : EntryRecord). x.generation < 1048575) (sym here) (omega (arith, few, worn));
-      })
+      let few = knows.generations q.0 lt in let worn = o.not_worn in (
+        lt,
+        record {
+          word_is = own-look steps way q looked walk r;
+          some = own-valid w q same lt o.valid;
+          now = ap (λ (x : EntryRecord). is_read_only x.entry) here ∙ now;
+          room = subst (λ (x : EntryRecord). x.generation < 1048575) (sym here) (omega (arith, few, worn));
+        },
+      )
 
   can-demote : (request : Asked) (steps : List SeatStep) (way : Continuation) (q : GrantRef) (looked : ℕ) → IsWalk k way v steps → IsSame v (after steps v) → begun c caller request ≡ None
       → (request ≡ asks.Demote q) × LookedLast way caller q looked [] (shown steps) × (is_stopped ToReadOnly (control_of looked) ≡ false) → CanMake k (after steps v) (Exchange q looked ToReadOnly)
@@ -283,13 +287,16 @@ module _ (c : CallerKnowledge) (k : Layout) (caller : DomId) (v : View) (knows :
       by (inr x) = (own-of-run k v caller d knows.named knows.inside x.0, in-own q.0 x.1)
   can-make request held steps (LookBody d q half) waits walk same free r = (named-run d r.1.0, in-seen-table k (path c caller request) v steps d q walk r.1.1)
   can-make request held steps (Pin p) waits walk same free r =
-      let t = tried request held steps (path c caller request) p waits walk r.1 in
-      (t.run, t.inside, record {
-        looked = (t.saw, t.word, t.body);
-        valid = λ gone. let k1 = t.page in absurd (cc);
-        room = t.few;
-        permitted = inl (ForMap, 0, 0, ap (λ (x : EntryRecord). permits x.entry (id_at k.ids v.position) p.dir ForMap 0 0) t.spelled ∙ (ap (λ (d : DomId). permits p.entry d p.dir ForMap 0 0) knows.named ∙ t.permitted));
-      })
+      let t = tried request held steps (path c caller request) p waits walk r.1 in (
+        t.run,
+        t.inside,
+        record {
+          looked = (t.saw, t.word, t.body);
+          valid = λ gone. let k1 = t.page in absurd (cc);
+          room = t.few;
+          permitted = inl (ForMap, 0, 0, ap (λ (x : EntryRecord). permits x.entry (id_at k.ids v.position) p.dir ForMap 0 0) t.spelled ∙ (ap (λ (d : DomId). permits p.entry d p.dir ForMap 0 0) knows.named ∙ t.permitted));
+        },
+      )
   can-make request held steps (Unpin p (ByHandle handle)) waits walk same free r =
       let pin = knows.mapped handle p r.1.1 in (pin.run, pin.inside, still-held (after steps v) p same pin)
   can-make request held steps (Unpin p (ByLeg place)) waits walk same free r = let some = r.1.held in absurd (cc)
@@ -316,9 +323,11 @@ module _ (c : CallerKnowledge) (k : Layout) (caller : DomId) (v : View) (knows :
   map-allowed : (request : Asked) (p : Held) (w : View) → begun c caller request ≡ None → Tried c k caller request p w → IsAllowed c.may (triples (label_of c.domains caller) (label_of c.domains p.dom) (map_perms p.dir)) × (c.maps_answered + 1 < 2 ^ 64)
   map-allowed request p w none t =
       let o = opens c caller (asks.Map t.dom t.gref t.flags) (subst (λ (x : Asked). begun c caller x ≡ None) t.asked none) in
-      let left = o.serials_left in
-      (subst (λ (d : Dir). IsAllowed c.may (triples (label_of c.domains caller) (label_of c.domains p.dom) (map_perms d))) (sym t.dir)
-      (subst (λ (d : DomId). IsAllowed c.may (triples (label_of c.domains caller) (label_of c.domains d) (map_perms (map_dir t.flags)))) (sym t.owner) o.allowed), omega (arith, left))
+      let left = o.serials_left in (
+        subst (λ (d : Dir). IsAllowed c.may (triples (label_of c.domains caller) (label_of c.domains p.dom) (map_perms d))) (sym t.dir)
+            (subst (λ (d : DomId). IsAllowed c.may (triples (label_of c.domains caller) (label_of c.domains d) (map_perms (map_dir t.flags)))) (sym t.owner) o.allowed),
+        omega (arith, left),
+      )
 
   pub left-pinned : (request : Asked) (held : HeldPins) (steps : List SeatStep) (p : Held) (w' : View) → WaitsForNobody request → IsWalk k (path c caller request) v steps → IsSame v (after steps v)
       → Rests c caller request held (shown steps) (Makes (Pin p)) → Pins k (position_in k.ids p.dom) p.gref.0 p.dir p.word (after steps v) w' → MapsBy c k caller request p v w'

@@ -1,10 +1,7 @@
 -- Pins and mappings counted.
-use Rattle.std.proofs.Common.{◌≡◌, ◌≢◌, ◌⊎◌, ℕ, ◌+◌, ◌<◌, ◌≤◌, ◌==◌, ◌&&◌, Bool, true, false, cond, not, map, nat_lt, refl, sym, ap, ◌∙◌, subst, List, [], ◌∷◌, length, get_or, zero, suc, Option, Some, None, inl, inr, arith}
-use Rattle.std.proofs.Math.ListN.{set}
-use Rattle.std.specs.List.{count_by, sum_by, position, position_or_len}
-use Rattle.std.specs.Prelude.{unwrap_or}
-use Rattle.std.proofs.lemmas.Bool.{eqb-false, eqb-true, eq-eqb, and_parts, lt-ltb}
-use Rattle.std.proofs.lemmas.List.Sums.{sum_by-set, sum_by-cons, get_or-le-sum_by}
+use Rattle.std.proofs.Common.{◌≡◌, ℕ, ◌+◌, ◌<◌, Bool, true, cond, refl, ap, List, ◌∷◌, length, get_or, arith}
+use Rattle.std.specs.List.{count_by}
+use Rattle.std.proofs.lemmas.List.Sums.{sum_by-cons, get_or-le-sum_by}
 use Rattle.gt_types.specs.declared.Dir.{Dir}
 use Rattle.gt_types.specs.declared.Dir.TheVariants.{Read, Write}
 use Rattle.gt_words.specs.Views.{is_same_dir}

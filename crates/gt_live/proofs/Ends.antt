@@ -1,21 +1,17 @@
 -- What follows the steps of a call that waits for nobody, by the grammar of its path.
-use Rattle.std.proofs.Common.{◌≡◌, ◌≢◌, ℕ, ◌==◌, nat_lt, Bool, true, false, cond, refl, sym, ap, ◌∙◌, subst, List, [], ◌∷◌, ◌++◌, Option, Some, None, zero, suc}
+use Rattle.std.proofs.Common.{◌≡◌, ℕ, ◌==◌, nat_lt, Bool, true, false, cond, refl, sym, subst, List, [], ◌∷◌, ◌++◌, Option, Some, None, zero, suc}
 use Rattle.std.proofs.lemmas.Bool.{eqb-true}
-use Rattle.std.specs.Prelude.{is_none, nat_le, not, ◌||◌, ◌-◌, ◌^◌}
 use Rattle.gt_types.specs.declared.DomId.{DomId}
 use Rattle.gt_types.specs.declared.GrantRef.{GrantRef}
-use Rattle.gt_types.specs.declared.TypeId.{TypeId}
-use Rattle.gt_types.specs.declared.perms.Perms.{Perms}
 use Rattle.gt_types.specs.declared.denial.Denial.{Denial}
 use Rattle.gt_types.specs.declared.denial.Rule.{Rule}
-use Rattle.gt_types.specs.declared.denial.Rule.TheVariants.{N1, N2, N5, N6, N8, N9, N10, N18, N19, N20, N21, N22, N23, N24, N25}
-use Rattle.gt_types.specs.declared.denial.Facts.TheVariants.{None as NoFacts, Header as HeaderFacts, Policy}
+use Rattle.gt_types.specs.declared.denial.Rule.TheVariants.{N6, N9, N18, N19}
+use Rattle.gt_types.specs.declared.denial.Facts.TheVariants.{None as NoFacts, Header as HeaderFacts}
 use Rattle.gt_types.specs.Denial.{denial_of}
-use Rattle.gt_types.specs.Names.{domain_of, resolved, unmap, query, setup}
+use Rattle.gt_types.specs.Names.{resolved}
 use Rattle.gt_entry.specs.declared.entry.Entry.{Entry}
 use Rattle.gt_entry.specs.declared.entry.Entry.TheVariants.{Invalid, Page, Sub, Via}
 use Rattle.gt_entry.specs.declared.control.Kind.TheVariants.{Sub as KindSub}
-use Rattle.gt_entry.specs.declared.header.Header.{Header}
 use Rattle.gt_entry.specs.Words.{control_of, header_of, size_of}
 use Rattle.gt_calls.specs.declared.action.Action.{Action}
 use Rattle.gt_calls.specs.declared.action.Action.TheVariants.{Step as Makes, Done}
@@ -29,18 +25,16 @@ use Rattle.gt_calls.specs.declared.action.Step.{Step}
 use Rattle.gt_calls.specs.declared.action.Step.TheVariants.{LookHeader, LookControl, LookBody, Pin, Unpin, StoreBody, StoreHeader, Exchange}
 use Rattle.gt_calls.specs.declared.action.Verdict.{Verdict}
 use Rattle.gt_calls.specs.declared.action.Verdict.TheVariants.{Granted, Given, Mapped, Refused}
-use Rattle.gt_calls.specs.declared.action.Value.{Value as Told}
 use Rattle.gt_calls.specs.declared.action.Value.TheVariants.{Frames}
 use Rattle.gt_calls.specs.declared.request.Asked.{Asked}
 use Rattle.gt_calls.specs.declared.request.Asked.TheVariants as asks
-use Rattle.gt_calls.specs.declared.call.Question.{Question}
 use Rattle.gt_calls.specs.declared.call.Question.TheVariants.{Size, Version}
 use Rattle.gt_calls.specs.declared.held.Held.{Held}
 use Rattle.gt_handles.specs.declared.handles.Handle.{Handle}
 use Rattle.gt_calls.specs.declared.leg.Leg.{Leg}
 use Rattle.gt_calls.specs.declared.request.Holder.TheVariants.{Mapping as ByHandle}
 use Rattle.gt_calls.specs.Rules.{CallerKnowledge, begun, first_look, is_kind, first_body, second_body}
-use Rattle.gt_calls.specs.Path.{Continuation, AfterRefusal, AfterPin, after_beginning, after_first, at_first_look, by_mapping, busy, ended, entry_refusal, exchanges, exchanges_once, grants, held_of, idle_word, is_stopped, last_step, leg, looks, looks_again, makes, map_leg, nowhere, path, pins, publishes, reads_body, reads_second, refused_at, refused_holding, rule_of_try, steps_of, stores_second, told, tries, try_pin, turn, turns}
+use Rattle.gt_calls.specs.Path.{Continuation, AfterRefusal, AfterPin, after_beginning, at_first_look, by_mapping, busy, ended, entry_refusal, exchanges, exchanges_once, grants, held_of, idle_word, is_stopped, last_step, leg, looks, looks_again, makes, map_leg, nowhere, path, pins, publishes, reads_body, reads_second, refused_at, refused_holding, rule_of_try, steps_of, stores_second, told, tries, try_pin, turn, turns}
 use Rattle.gt_live.specs.declared.driving.Effect.{Effect}
 use Rattle.gt_live.specs.declared.driving.Effect.TheVariants as effects
 use Rattle.gt_live.specs.Effects.{Answers, EndsSo, IsFound, IsFoundAt, effect_of}

@@ -1,20 +1,15 @@
 -- What a call keeps of its domain.
-use Rattle.std.proofs.Common.{◌≡◌, ◌≢◌, ◌⊎◌, ℕ, ◌+◌, ◌<◌, ◌≤◌, ◌==◌, ◌&&◌, Bool, true, false, cond, refl, sym, ap, ◌∙◌, subst, List, [], ◌∷◌, length, get_or, Option, Some, None, inl, inr, arith, min, nat_le}
+use Rattle.std.proofs.Common.{◌≡◌, ℕ, ◌+◌, ◌<◌, ◌==◌, ◌&&◌, Bool, true, false, cond, refl, sym, ap, ◌∙◌, subst, List, [], ◌∷◌, length, get_or, Option, Some, None, inl, inr, arith, min}
 use Rattle.std.specs.List.{count_by}
-use Rattle.std.specs.Prelude.{is_some, slice_get, slice_index_or}
-use Rattle.std.proofs.lemmas.Bool.{eqb-false, eqb-true, eq-eqb, ne_eqb, and_parts, cases_eq, cases_lt}
+use Rattle.std.specs.Prelude.{slice_index_or}
+use Rattle.std.proofs.lemmas.Bool.{eq-eqb, cases_eq, cases_lt}
 use lib.ListN.{get_or-eq_default}
 use Rattle.gt_types.specs.declared.DomId.{DomId}
-use Rattle.gt_types.specs.declared.TypeId.{TypeId}
 use Rattle.gt_types.specs.declared.Dir.{Dir}
-use Rattle.gt_types.specs.declared.Use.TheVariants.{Map as ForMap}
-use Rattle.gt_types.specs.declared.perms.Perms.{Perms}
 use Rattle.gt_types.specs.declared.config.Config.{Config}
 use Rattle.gt_types.specs.declared.config.DomainConfig.{DomainConfig}
 use Rattle.gt_entry.specs.declared.change.Change.{Change}
-use Rattle.gt_entry.specs.declared.entry.Entry.{Entry}
 use Rattle.gt_entry.specs.Changes.{changed_entry, raise_of}
-use Rattle.gt_entry.specs.Permits.{permits}
 use Rattle.gt_words.specs.Controls.{generation_of}
 use Rattle.gt_words.specs.Conditions.{Board, IsSameSeat, IsSeatOf, SeatOf, Unpins}
 use Rattle.gt_words.specs.Keeping.{Holds, KeepsPins, held}
@@ -31,9 +26,7 @@ use Rattle.gt_handles.specs.Listing.{IsInserted, IsTaken, has_passing}
 use Rattle.gt_calls.specs.declared.held.Held.{Held}
 use Rattle.gt_calls.specs.declared.known.Own.{Own}
 use Rattle.gt_calls.specs.declared.request.Asked.{Asked}
-use Rattle.gt_calls.specs.Changes.{own_after}
-use Rattle.gt_calls.specs.Opening.{IsAllowed}
-use Rattle.gt_calls.specs.Rules.{entry_in, generation_in, label_of, map_perms, row_entry, row_generation, triples}
+use Rattle.gt_calls.specs.Rules.{entry_in, generation_in, row_entry, row_generation}
 use Rattle.gt_live.specs.declared.domain.Domain.{Domain}
 use Rattle.gt_live.specs.Domains.{IsDomainOf, Rights, knowledge}
 use Rattle.gt_live.specs.Driving.{ChangesBy, IsSame, MapsBy}
@@ -132,26 +125,28 @@ changed b c may d e request q ch is seat slots own x =
     let same : KeepsPins d.seat.view w = λ t r. x.changes.pins t r ∙ x.same.pins t r in
     let row : (r : ℕ) → r < 2048 → (last_of r w ≡ record { generation = generation_in c.first_gen os r; entry = entry_in os r }) × (generation_in c.first_gen os r < 1048576) =
     λ r lt. elim (cases_eq q r) [
-      inl e1 ↦
-        let all = is.all_rows in let low = x.inside in let fresh = x.fresh in
-        let o = row-there d.own.items q (omega (arith, all, low)) in
-        let new = row-here d.own.items q o.0 ch o.1 in
-        let was : last_of q u ≡ record { generation = generation_in c.first_gen d.own.items q; entry = entry_in d.own.items q } = x.same.records q ∙ is.rows q low in
-        let same_gen : generation_in c.first_gen d.own.items q ≡ o.0.generation = ap (λ (y : Option Own). row_generation c.first_gen y) o.1 in
-        let same_entry : entry_in d.own.items q ≡ o.0.entry = ap row_entry o.1 in
-        let now : generation_in c.first_gen os q ≡ min (o.0.generation + raise_of ch) 1048575 = ap (λ (y : Option Own). row_generation c.first_gen y) new in
-        let up : generation_in c.first_gen d.own.items q + raise_of ch ≡ generation_in c.first_gen os q = omega (arith, same_gen, now, fresh) in
-        let ent : entry_in os q ≡ changed_entry ch (entry_in d.own.items q) = ap row_entry new ∙ ap (λ z. changed_entry ch z) (sym same_entry) in
-        let here : last_of q w ≡ record { generation = generation_in c.first_gen os q; entry = entry_in os q } =
-        x.changes.last ∙ (ap (λ (y : EntryRecord). becomes ch y) was
-        ∙ (ap (λ n. record { generation = n; entry = changed_entry ch (entry_in d.own.items q) }) up ∙ ap (λ z. record { generation = generation_in c.first_gen os q; entry = z }) (sym ent))) in
-        subst (λ (n : ℕ). (last_of n w ≡ record { generation = generation_in c.first_gen os n; entry = entry_in os n }) × (generation_in c.first_gen os n < 1048576)) e1 (here, omega (arith, now))
+      | inl e1 ↦
+          let all = is.all_rows in let low = x.inside in let fresh = x.fresh in
+          let o = row-there d.own.items q (omega (arith, all, low)) in
+          let new = row-here d.own.items q o.0 ch o.1 in
+          let was : last_of q u ≡ record { generation = generation_in c.first_gen d.own.items q; entry = entry_in d.own.items q } = x.same.records q ∙ is.rows q low in
+          let same_gen : generation_in c.first_gen d.own.items q ≡ o.0.generation = ap (λ (y : Option Own). row_generation c.first_gen y) o.1 in
+          let same_entry : entry_in d.own.items q ≡ o.0.entry = ap row_entry o.1 in
+          let now : generation_in c.first_gen os q ≡ min (o.0.generation + raise_of ch) 1048575 = ap (λ (y : Option Own). row_generation c.first_gen y) new in
+          let up : generation_in c.first_gen d.own.items q + raise_of ch ≡ generation_in c.first_gen os q = omega (arith, same_gen, now, fresh) in
+          let ent : entry_in os q ≡ changed_entry ch (entry_in d.own.items q) = ap row_entry new ∙ ap (λ z. changed_entry ch z) (sym same_entry) in
+          let here : last_of q w ≡ record { generation = generation_in c.first_gen os q; entry = entry_in os q } =
+          x.changes.last ∙ (ap (λ (y : EntryRecord). becomes ch y) was
+          ∙ (ap (λ n. record { generation = n; entry = changed_entry ch (entry_in d.own.items q) }) up ∙ ap (λ z. record { generation = generation_in c.first_gen os q; entry = z }) (sym ent))) in
+          subst (λ (n : ℕ). (last_of n w ≡ record { generation = generation_in c.first_gen os n; entry = entry_in os n }) × (generation_in c.first_gen os n < 1048576)) e1 (here, omega (arith, now))
       | inr ne ↦
-        let other = row-other d.own.items q r ch ne in
-        let gen : generation_in c.first_gen os r ≡ generation_in c.first_gen d.own.items r = ap (λ (y : Option Own). row_generation c.first_gen y) other in
-        let ent : entry_in os r ≡ entry_in d.own.items r = ap row_entry other in
-        (x.changes.rows.last r ne ∙ (x.same.records r ∙ (is.rows r lt
-        ∙ (ap (λ n. record { generation = n; entry = entry_in d.own.items r }) (sym gen) ∙ ap (λ z. record { generation = generation_in c.first_gen os r; entry = z }) (sym ent)))), (let few = is.generations r lt in omega (arith, few, gen)))
+          let other = row-other d.own.items q r ch ne in
+          let gen : generation_in c.first_gen os r ≡ generation_in c.first_gen d.own.items r = ap (λ (y : Option Own). row_generation c.first_gen y) other in
+          let ent : entry_in os r ≡ entry_in d.own.items r = ap row_entry other in (
+            x.changes.rows.last r ne ∙ (x.same.records r ∙ (is.rows r lt
+                ∙ (ap (λ n. record { generation = n; entry = entry_in d.own.items r }) (sym gen) ∙ ap (λ z. record { generation = generation_in c.first_gen os r; entry = z }) (sym ent)))),
+            (let few = is.generations r lt in omega (arith, few, gen)),
+          )
     ] in
     record {
       seat = still_seat b d.seat e.seat is.seat seat;
@@ -176,7 +171,7 @@ pub unmapped : (b : Board) (c : Config) (may : Rights) (d e : Domain) (h : Handl
 unmapped b c may d e h m is seat dom own out u =
     let k = b.layout in let v = d.seat.view in let w = e.seat.view in
     let all : PinsAreOf k w e.mappings = λ t r a g.
-        let one = u.one_less t r a g in let counts = taken-counted (is_mapping_of k t r a g) d.mappings e.mappings h m out in let was = is.pins t r a g in omega (arith, one, counts, was) in
+    let one = u.one_less t r a g in let counts = taken-counted (is_mapping_of k t r a g) d.mappings e.mappings h m out in let was = is.pins t r a g in omega (arith, one, counts, was) in
     record {
       seat = seat;
       rows = λ r lt. u.rows.last r ∙ (is.rows r lt ∙ same-rows c d.own.items e.own.items r own);
@@ -194,8 +189,8 @@ pub mapped : (b : Board) (c : Config) (may : Rights) (d e : Domain) (h : Handle)
 mapped b c may d e h request m is seat own x ins =
     let k = b.layout in let v = d.seat.view in let w = e.seat.view in
     let all : PinsAreOf k w e.mappings = λ t r a g.
-        let one = x.pins.one_more t r a g in let counts = inserted-counted (is_mapping_of k t r a g) d.mappings e.mappings h m ins in let was = is.pins t r a g in
-        let before : held t r a g x.before ≡ held t r a g v = ap (λ (ps : List LivePin). pins_like a g ps) (x.same.pins t r) in omega (arith, one, counts, was, before) in
+    let one = x.pins.one_more t r a g in let counts = inserted-counted (is_mapping_of k t r a g) d.mappings e.mappings h m ins in let was = is.pins t r a g in
+    let before : held t r a g x.before ≡ held t r a g v = ap (λ (ps : List LivePin). pins_like a g ps) (x.same.pins t r) in omega (arith, one, counts, was, before) in
     record {
       seat = still_seat b d.seat e.seat is.seat seat;
       rows = λ r lt. x.pins.rows.last r ∙ (x.same.records r ∙ (is.rows r lt ∙ same-rows c d.own.items e.own.items r own));

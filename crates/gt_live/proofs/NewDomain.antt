@@ -1,5 +1,5 @@
 -- A domain at the start of a run.
-use Rattle.std.proofs.Common.{◌≡◌, ℕ, ◌+◌, ◌<◌, ◌≤◌, refl, sym, ap, ◌∙◌, subst, List, [], ◌∷◌, length, get_or, zero, suc, Option, Some, None, arith}
+use Rattle.std.proofs.Common.{◌≡◌, ℕ, ◌<◌, refl, sym, ap, ◌∙◌, List, [], length, get_or, zero, suc, Option, Some, None, arith}
 use Rattle.std.specs.List.{count_by}
 use Rattle.std.specs.Prelude.{replicate, slice_get}
 use Rattle.gt_types.specs.Config.{IsWithinLimits}

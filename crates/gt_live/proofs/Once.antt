@@ -1,5 +1,5 @@
 -- How calls are answered at their beginning.
-use Rattle.std.proofs.Common.{◌≡◌, ℕ, Bool, true, false, cond, refl, sym, ap, ◌∙◌, subst, List, [], ◌∷◌, Option, Some, None, nat_le, nat_lt, not, ◌==◌}
+use Rattle.std.proofs.Common.{◌≡◌, ℕ, Bool, true, false, cond, subst, List, [], ◌∷◌, Option, Some, None, nat_le, nat_lt, not, ◌==◌}
 use Rattle.std.specs.Prelude.{is_none, ◌||◌}
 use Rattle.gt_types.specs.declared.DomId.{DomId}
 use Rattle.gt_types.specs.declared.GrantRef.{GrantRef}
@@ -17,7 +17,7 @@ use Rattle.gt_entry.specs.declared.change.Change.TheVariants.{Demote as ToReadOn
 use Rattle.gt_entry.specs.Words.{size_of}
 use Rattle.gt_calls.specs.declared.action.Value.TheVariants.{Frames}
 use Rattle.gt_calls.specs.declared.action.Verdict.{Verdict}
-use Rattle.gt_calls.specs.declared.action.Verdict.TheVariants.{Granted, Given, Refused}
+use Rattle.gt_calls.specs.declared.action.Verdict.TheVariants.{Granted, Refused}
 use Rattle.gt_calls.specs.declared.held.Held.{Held}
 use Rattle.gt_calls.specs.declared.request.Asked.{Asked}
 use Rattle.gt_calls.specs.declared.request.Asked.TheVariants as asks
@@ -26,7 +26,7 @@ use Rattle.gt_calls.specs.declared.request.Request.TheVariants as requests
 use Rattle.gt_calls.specs.Asking.{asked, begun_of, field_refused}
 use Rattle.gt_entry.specs.Bytes.{first_refused}
 use Rattle.gt_types.specs.declared.denial.Field.{Field}
-use Rattle.gt_calls.specs.Rules.{CallerKnowledge, begun, cannot_stand, change_begun, query_begun, denied, first, given_when, granted_when, has_valid, is_already, is_invalid, is_version, map_dir, refused_when, rights_to_map, rights_to_query, rights_to_setup, rights_to_unmap, unmap_denied}
+use Rattle.gt_calls.specs.Rules.{CallerKnowledge, cannot_stand, change_begun, query_begun, denied, first, given_when, granted_when, has_valid, is_already, is_invalid, is_version, map_dir, refused_when, rights_to_map, rights_to_query, rights_to_setup, rights_to_unmap, unmap_denied}
 use Rattle.gt_live.specs.Ending.{IsAtOnce, WaitsForNobody}
 
 module _ (r : Asked) where

@@ -1,14 +1,14 @@
 -- What holds where no rule stands on a try of a map.
-use Rattle.std.proofs.Common.{◌≡◌, ◌≢◌, ◌⊎◌, ℕ, ◌+◌, ◌*◌, ◌/◌, ◌%◌, ◌<◌, ◌≤◌, ◌==◌, ◌&&◌, not, Bool, true, false, cond, refl, sym, ap, ◌∙◌, subst, List, [], ◌∷◌, Option, Some, None, inl, inr, arith, nat_lt, nat_le}
+use Rattle.std.proofs.Common.{◌≡◌, ℕ, ◌/◌, ◌%◌, ◌<◌, ◌==◌, not, Bool, true, false, refl, sym, ap, ◌∙◌, subst, List, ◌∷◌, Option, Some, None, arith, nat_le}
 use Rattle.std.specs.Prelude.{is_none, ◌||◌}
-use Rattle.std.proofs.lemmas.Bool.{eqb-false, not-true, not-false}
+use Rattle.std.proofs.lemmas.Bool.{eqb-false, not-false}
 use Rattle.gt_types.specs.declared.DomId.{DomId}
 use Rattle.gt_types.specs.declared.Dir.{Dir}
 use Rattle.gt_types.specs.declared.Dir.TheVariants.{Read, Write}
 use Rattle.gt_types.specs.declared.Use.{Use}
 use Rattle.gt_types.specs.declared.Use.TheVariants.{Map as ForMap}
 use Rattle.gt_types.specs.declared.denial.Rule.{Rule}
-use Rattle.gt_types.specs.declared.denial.Rule.TheVariants.{N10, N11, N12, N13, N14, N15, N16, N17}
+use Rattle.gt_types.specs.declared.denial.Rule.TheVariants.{N10, N11, N12, N14, N16, N17}
 use Rattle.gt_entry.specs.declared.entry.Entry.{Entry}
 use Rattle.gt_entry.specs.declared.entry.Entry.TheVariants.{Invalid, Page, Sub, Via}
 use Rattle.gt_entry.specs.declared.control.Kind.{Kind}

@@ -1,5 +1,5 @@
 -- What the steps of a call showed, found again among the steps of its seat.
-use Rattle.std.proofs.Common.{◌≡◌, ℕ, ◌+◌, ◌*◌, ◌/◌, ◌%◌, ◌<◌, ◌≤◌, ◌==◌, Bool, true, false, cond, refl, sym, ap, ◌∙◌, subst, List, [], ◌∷◌, ◌++◌, Option, Some, None, inl, inr, arith, append_assoc}
+use Rattle.std.proofs.Common.{◌≡◌, ℕ, ◌*◌, ◌<◌, ◌≤◌, Bool, true, false, cond, refl, sym, ap, ◌∙◌, subst, List, [], ◌∷◌, ◌++◌, Option, Some, None, arith, append_assoc}
 use Rattle.gt_types.specs.declared.DomId.{DomId}
 use Rattle.gt_types.specs.declared.GrantRef.{GrantRef}
 use Rattle.gt_entry.specs.declared.control.Kind.TheVariants.{Sub as KindSub}
@@ -16,7 +16,7 @@ use Rattle.gt_calls.specs.declared.action.Seen.TheVariants.{Word}
 use Rattle.gt_calls.specs.declared.action.Step.{Step}
 use Rattle.gt_calls.specs.declared.action.Step.TheVariants.{LookHeader, LookControl, LookBody}
 use Rattle.gt_calls.specs.Path.{Continuation}
-use Rattle.gt_calls.specs.Resting.{HasRead, HasSeenTable, body_shown}
+use Rattle.gt_calls.specs.Resting.{HasRead, HasSeenTable}
 use Rattle.gt_calls.specs.Rules.{is_kind}
 use Rattle.gt_live.specs.Walks.{IsWalk, Made, MakesStep, after, shown, shown_by}
 

@@ -1,5 +1,5 @@
 -- What a call adds to the steps of its seat: the actions of its path, one after another.
-use Rattle.std.specs.Prelude.{◌≡◌, ℕ, ◌+◌, Bool, true, false, List, [], ◌∷◌, ◌++◌, Option, Some, None}
+use Rattle.std.specs.Prelude.{◌≡◌, ℕ, List, [], ◌∷◌, ◌++◌, Option, Some, None}
 use Rattle.gt_words.specs.Controls.{generation_of}
 use Rattle.gt_words.specs.Conditions.{IsNotEarlier, LooksAtHeader, LooksAtControl, LooksAtBody, IsWordOf, Pins, MissesPin, Unpins, StoresBody, StoresHeader, Changes, MissesChange, MissesBusy, Revokes, Demotes}
 use Rattle.gt_words.specs.Rule.{Layout, id_at, position_in}

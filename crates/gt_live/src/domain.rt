@@ -305,7 +305,12 @@ impl Domain {
     ///
     /// # Errors
     /// N9, N20, N21 or N22, and nothing changes.
-    pub fn grant<P: Allows>(&mut self, monitor: &Monitor<P>, gref: GrantRef, entry: &Entry) -> Result<(), Denial>
+    pub fn grant<P: Allows>(
+        &mut self,
+        monitor: &Monitor<P>,
+        gref: GrantRef,
+        entry: &Entry,
+    ) -> Result<(), Denial>
         requires mine { IsOf P.may monitor.now self.old }
         ensures mine { IsOf P.may monitor.now self.new }
         ensures seat { IsSameSeat self.old.seat self.new.seat }
@@ -321,7 +326,12 @@ impl Domain {
     ///
     /// # Errors
     /// N9, N20, N22, or N25 with the field refused, and nothing changes.
-    pub fn grant_bytes<P: Allows>(&mut self, monitor: &Monitor<P>, gref: GrantRef, bytes: &[u8]) -> Result<(), Denial>
+    pub fn grant_bytes<P: Allows>(
+        &mut self,
+        monitor: &Monitor<P>,
+        gref: GrantRef,
+        bytes: &[u8],
+    ) -> Result<(), Denial>
         requires mine { IsOf P.may monitor.now self.old }
         ensures mine { IsOf P.may monitor.now self.new }
         ensures seat { IsSameSeat self.old.seat self.new.seat }
@@ -381,7 +391,11 @@ impl Domain {
     ///
     /// # Errors
     /// N2 or N24, and nothing changes.
-    pub fn set_version<P: Allows>(&mut self, monitor: &Monitor<P>, version: u32) -> Result<(), Denial>
+    pub fn set_version<P: Allows>(
+        &mut self,
+        monitor: &Monitor<P>,
+        version: u32,
+    ) -> Result<(), Denial>
         requires mine { IsOf P.may monitor.now self.old }
         ensures mine { IsOf P.may monitor.now self.new }
         ensures seat { IsSameSeat self.old.seat self.new.seat }
@@ -397,7 +411,11 @@ impl Domain {
     ///
     /// # Errors
     /// N5 or N23, and nothing changes.
-    pub fn setup_table<P: Allows>(&mut self, monitor: &Monitor<P>, frames: u32) -> Result<u32, Denial>
+    pub fn setup_table<P: Allows>(
+        &mut self,
+        monitor: &Monitor<P>,
+        frames: u32,
+    ) -> Result<u32, Denial>
         requires mine { IsOf P.may monitor.now self.old }
         ensures mine { IsOf P.may monitor.now self.new }
         ensures seat { IsSameSeat self.old.seat self.new.seat }
@@ -413,7 +431,11 @@ impl Domain {
     ///
     /// # Errors
     /// N1 or N5.
-    pub fn query_size<P: Allows>(&mut self, monitor: &Monitor<P>, dom: DomId) -> Result<Size, Denial>
+    pub fn query_size<P: Allows>(
+        &mut self,
+        monitor: &Monitor<P>,
+        dom: DomId,
+    ) -> Result<Size, Denial>
         requires mine { IsOf P.may monitor.now self.old }
         ensures mine { IsOf P.may monitor.now self.new }
         ensures seat { IsSameSeat self.old.seat self.new.seat }
@@ -429,7 +451,11 @@ impl Domain {
     ///
     /// # Errors
     /// N1 or N5.
-    pub fn get_version<P: Allows>(&mut self, monitor: &Monitor<P>, dom: DomId) -> Result<u32, Denial>
+    pub fn get_version<P: Allows>(
+        &mut self,
+        monitor: &Monitor<P>,
+        dom: DomId,
+    ) -> Result<u32, Denial>
         requires mine { IsOf P.may monitor.now self.old }
         ensures mine { IsOf P.may monitor.now self.new }
         ensures seat { IsSameSeat self.old.seat self.new.seat }
@@ -465,7 +491,13 @@ impl Domain {
     /// # Errors
     /// The first rule that stands, or N26 where none does at the beginning and memory is refused; mappings
     /// and pins are as they were.
-    pub fn map<P: Allows>(&mut self, monitor: &Monitor<P>, dom: DomId, gref: GrantRef, flags: u32) -> Result<Handle, Denial>
+    pub fn map<P: Allows>(
+        &mut self,
+        monitor: &Monitor<P>,
+        dom: DomId,
+        gref: GrantRef,
+        flags: u32,
+    ) -> Result<Handle, Denial>
         requires mine { IsOf P.may monitor.now self.old }
         ensures mine { IsOf P.may monitor.now self.new }
         ensures seat { IsSameSeat self.old.seat self.new.seat }

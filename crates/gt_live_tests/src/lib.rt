@@ -8,3 +8,5 @@
 mod rows;
 #[cfg(test)]
 mod script;
+#[cfg(test)]
+mod storm;

@@ -44,11 +44,12 @@ fn by_header(word: u64) -> Said {
 // Whether each line is answered as it says, over three domains whose tables have this version.
 fn agreed(rt: &HostRuntime, version: u32, lines: &[Line]) -> bool {
     let alloc = rt.alloc();
-    let (monitor, mut one, mut two, mut three) = start(rt, alloc, rights(rt, alloc), version);
+    let (monitor, mut one, mut two, mut three, four) = start(rt, alloc, rights(rt, alloc), version);
     let agreed = run(&monitor, &mut one, &mut two, &mut three, lines);
     let _ = one.finish(&monitor);
     let _ = two.finish(&monitor);
     let _ = three.finish(&monitor);
+    let _ = four.finish(&monitor);
     agreed
 }
 
@@ -71,8 +72,16 @@ fn a_read_pin_is_counted(rt: HostRuntime) {
 fn the_domain_named_comes_before_readonly(rt: HostRuntime) {
     let lines = [
         line(1, Asks::Grant(0, page(true, 5)), Said::Done),
-        line(3, Asks::Map(1, 0, 2), by_word(Rule::N11, 0, 0x1000_2000_0005)),
-        line(2, Asks::Map(1, 0, 2), by_word(Rule::N13, 0, 0x1000_2000_0005)),
+        line(
+            3,
+            Asks::Map(1, 0, 2),
+            by_word(Rule::N11, 0, 0x1000_2000_0005),
+        ),
+        line(
+            2,
+            Asks::Map(1, 0, 2),
+            by_word(Rule::N13, 0, 0x1000_2000_0005),
+        ),
     ];
     assert!(rt; agreed(&rt, 1, &lines));
 }
@@ -95,8 +104,16 @@ fn a_part_or_a_via_is_not_mapped(rt: HostRuntime) {
     let lines = [
         line(1, Asks::Grant(0, part), Said::Done),
         line(1, Asks::Grant(1, via), Said::Done),
-        line(2, Asks::Map(1, 0, 6), by_word(Rule::N12, 0, 0x1000_2000_0009)),
-        line(2, Asks::Map(1, 1, 6), by_word(Rule::N12, 1, 0x1000_2000_0003)),
+        line(
+            2,
+            Asks::Map(1, 0, 6),
+            by_word(Rule::N12, 0, 0x1000_2000_0009),
+        ),
+        line(
+            2,
+            Asks::Map(1, 1, 6),
+            by_word(Rule::N12, 1, 0x1000_2000_0003),
+        ),
     ];
     assert!(rt; agreed(&rt, 2, &lines));
 }
@@ -105,7 +122,11 @@ fn a_part_or_a_via_is_not_mapped(rt: HostRuntime) {
 fn frames_and_references_have_ends(rt: HostRuntime) {
     let lines = [
         line(1, Asks::Grant(0, page(false, 8)), Said::Done),
-        line(2, Asks::Map(1, 0, 6), by_word(Rule::N16, 0, 0x1000_2000_0001)),
+        line(
+            2,
+            Asks::Map(1, 0, 6),
+            by_word(Rule::N16, 0, 0x1000_2000_0001),
+        ),
         line(2, Asks::Map(1, 512, 6), by_header(5)),
         line(2, Asks::Map(1, 511, 6), by_word(Rule::N10, 511, 0)),
     ];
@@ -119,7 +140,11 @@ fn a_demotion_leaves_a_read_pin(rt: HostRuntime) {
         line(2, Asks::Map(1, 0, 6), Said::Done),
         line(1, Asks::Demote(0), Said::Done),
         line(1, Asks::Demote(0), Said::Done),
-        line(2, Asks::Map(1, 0, 2), by_word(Rule::N13, 0, 0x2000_2000_0015)),
+        line(
+            2,
+            Asks::Map(1, 0, 2),
+            by_word(Rule::N13, 0, 0x2000_2000_0015),
+        ),
         line(1, Asks::Revoke(0), by_word(Rule::N19, 0, 0x2000_2000_0015)),
         line(1, Asks::Promote(0), Said::Done),
         line(1, Asks::Revoke(0), by_word(Rule::N19, 0, 0x3000_2000_0011)),
@@ -159,7 +184,7 @@ fn a_table_grows_and_changes_its_version(rt: HostRuntime) {
 #[test]
 fn a_domain_that_leaves_gives_its_pins_back(rt: HostRuntime) {
     let alloc = rt.alloc();
-    let (monitor, mut one, mut two, mut three) = start(&rt, alloc, rights(&rt, alloc), 1);
+    let (monitor, mut one, mut two, mut three, four) = start(&rt, alloc, rights(&rt, alloc), 1);
     let before = [
         line(1, Asks::Grant(0, page(false, 5)), Said::Done),
         line(2, Asks::Map(1, 0, 6), Said::Done),
@@ -171,6 +196,7 @@ fn a_domain_that_leaves_gives_its_pins_back(rt: HostRuntime) {
     let revoked = one.revoke(&monitor, GrantRef(0)).is_ok();
     let _ = one.finish(&monitor);
     let _ = three.finish(&monitor);
+    let _ = four.finish(&monitor);
     assert!(rt; revoked && held);
 }
 
@@ -178,11 +204,15 @@ fn a_domain_that_leaves_gives_its_pins_back(rt: HostRuntime) {
 #[test]
 fn a_word_has_room_for_4095_pins(rt: HostRuntime) {
     let alloc = rt.alloc();
-    let (monitor, mut one, mut two, mut three) = start(&rt, alloc, rights(&rt, alloc), 1);
+    let (monitor, mut one, mut two, mut three, four) = start(&rt, alloc, rights(&rt, alloc), 1);
     let granted = one.grant(&monitor, GrantRef(0), &page(false, 5)).is_ok();
     let made = map_often(&monitor, &mut two, 4095);
     let after = [
-        line(2, Asks::Map(1, 0, 6), by_word(Rule::N17, 0, 0x1000_2000_fff1)),
+        line(
+            2,
+            Asks::Map(1, 0, 6),
+            by_word(Rule::N17, 0, 0x1000_2000_fff1),
+        ),
         line(2, Asks::Map(1, 0, 2), Said::Done),
         line(1, Asks::Demote(0), by_word(Rule::N19, 0, 0x1000_2001_fff1)),
     ];
@@ -191,5 +221,6 @@ fn a_word_has_room_for_4095_pins(rt: HostRuntime) {
     let revoked = one.revoke(&monitor, GrantRef(0)).is_ok();
     let _ = one.finish(&monitor);
     let _ = three.finish(&monitor);
+    let _ = four.finish(&monitor);
     assert!(rt; granted && made && held && revoked);
 }

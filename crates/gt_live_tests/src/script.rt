@@ -1,4 +1,4 @@
-//! Three domains, and what they are asked, line by line.
+//! Domains, and what they are asked, line by line.
 ghost use Rattle.gt_live.specs.Domains.{IsOf};
 ghost use Rattle.std.specs.Prelude.{◌≡◌, length};
 
@@ -165,18 +165,24 @@ fn domain(number: u16, version: u32) -> DomainConfig {
     }
 }
 
-/// Three domains of the types 0 to 2, whose tables have one frame and this version.
+/// Four domains of the types 0 to 3, whose tables have one frame and this version.
 pub fn start<P: Allows + Drop>(
     rt: &impl Abort,
     alloc: Global,
     rights: P,
     version: u32,
-) -> (Monitor<P>, Domain, Domain, Domain)
+) -> (Monitor<P>, Domain, Domain, Domain, Domain)
     ensures one { IsOf P.may result.0 result.1 }
     ensures two { IsOf P.may result.0 result.2 }
     ensures three { IsOf P.may result.0 result.3 }
+    ensures four { IsOf P.may result.0 result.4 }
 {
-    let named = [domain(1, version), domain(2, version), domain(3, version)];
+    let named = [
+        domain(1, version),
+        domain(2, version),
+        domain(3, version),
+        domain(4, version),
+    ];
     let config = Config {
         domains: named.to_vec(alloc).expect(rt, "memory"),
         first_gen: 0,
@@ -184,6 +190,9 @@ pub fn start<P: Allows + Drop>(
     let (monitor, mut domains) = match Monitor::new(alloc, config, rights) {
         Ok(made) => made,
         Err(_) => panic!(rt; "start"),
+    };
+    let Some(four) = domains.pop() else {
+        panic!(rt; "no fourth domain");
     };
     let Some(three) = domains.pop() else {
         panic!(rt; "no third domain");
@@ -195,10 +204,10 @@ pub fn start<P: Allows + Drop>(
         panic!(rt; "no first domain");
     };
     domains.destroy_empty();
-    (monitor, one, two, three)
+    (monitor, one, two, three, four)
 }
 
-/// What three types may do to each other.
+/// What four types may do to each other.
 pub fn rights(rt: &impl Abort, alloc: Global) -> Triples {
     let perms = [
         Perms::MAP_READ,
@@ -209,8 +218,8 @@ pub fn rights(rt: &impl Abort, alloc: Global) -> Triples {
         Perms::SETUP,
     ];
     let mut allowed = Vec::new(alloc);
-    for source in 0..3 {
-        for target in 0..3 {
+    for source in 0..4 {
+        for target in 0..4 {
             for perm in perms {
                 let triple = Triple {
                     source: TypeId(source),

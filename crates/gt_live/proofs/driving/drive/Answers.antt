@@ -1,11 +1,10 @@
-use Rattle.std.proofs.Common.{◌≡◌, refl, sym, ap, ◌∙◌, subst}
+use Rattle.std.proofs.Common.{sym, ◌∙◌, subst}
 use Rattle.gt_types.specs.declared.DomId.{DomId}
-use Rattle.gt_calls.specs.Rules.{CallerKnowledge, knows}
+use Rattle.gt_calls.specs.Rules.{knows}
 use Rattle.gt_calls.specs.declared.action.Action.{Action}
 use Rattle.gt_calls.specs.declared.request.Asked.{Asked}
 use Rattle.gt_live.specs.declared.driving.Effect.{Effect}
 use Rattle.gt_live.specs.Driving.{Going, Knows}
-use Rattle.gt_live.specs.Effects.{effect_of}
 use Rattle.gt_live.specs.Ending.{WaitsForNobody}
 use Rattle.gt_live.proofs.Making.{still_seat, same_seat-then, same_seat-self}
 use Rattle.gt_live.proofs.Advancing.{advance, begins, ends, makes-next}
