@@ -13,9 +13,9 @@ ghost use Rattle.gt_live.specs.Effects.{Answers};
 
 use crate::driving::{Effect, Finished, drive};
 use crate::monitor::Monitor;
+use gt_audit::{Hypercall, Record, Reply, Trail};
 use gt_calls::{Call, Handle, Handles, Held, Known, Own, Request, Start, Value, Verdict};
 use gt_entry::{Change, Entry};
-use gt_audit::{Hypercall, Record, Reply, Trail};
 use gt_types::{Allows, Denial, DomId, Facts, GrantRef, Rule, Size};
 use gt_words::{Pin, Seat};
 
@@ -284,7 +284,12 @@ impl Domain {
     }
 
     // Makes a call that takes no memory, and keeps its record.
-    fn told_call<P: Allows>(&mut self, monitor: &Monitor<P>, request: Request<'_>, call: Hypercall) -> Verdict
+    fn told_call<P: Allows>(
+        &mut self,
+        monitor: &Monitor<P>,
+        request: Request<'_>,
+        call: Hypercall,
+    ) -> Verdict
         requires mine { IsOf P.may monitor.now self.old }
         requires waits { WaitsForNobody (asked request) × (IsMap (asked request) → ⊥) }
         ensures mine { IsOf P.may monitor.now self.new }
@@ -468,7 +473,13 @@ impl Domain {
     }
 
     // Maps an entry, and tells nobody.
-    fn make_mapping<P: Allows>(&mut self, monitor: &Monitor<P>, dom: DomId, gref: GrantRef, flags: u32) -> Result<Handle, Denial>
+    fn make_mapping<P: Allows>(
+        &mut self,
+        monitor: &Monitor<P>,
+        dom: DomId,
+        gref: GrantRef,
+        flags: u32,
+    ) -> Result<Handle, Denial>
         requires mine { IsOf P.may monitor.now self.old }
         ensures mine { IsOf P.may monitor.now self.new }
         ensures seat { IsSameSeat self.old.seat self.new.seat }

@@ -7,8 +7,8 @@ ghost use Rattle.gt_live.specs.Starting.{first_rows, IsNewDomain};
 
 use crate::domain::Domain;
 use crate::monitor::Monitor;
-use gt_calls::{ENTRIES, Handles, Own};
 use gt_audit::Trail;
+use gt_calls::{ENTRIES, Handles, Own};
 use gt_types::{Allows, Config, StartFault};
 use gt_words::{Seat, Words};
 use std::alloc::{AllocError, Global};

@@ -4,7 +4,14 @@ use Rattle.gt_audit.specs.Telling.{Tells, Telling}
 use Rattle.gt_audit.specs.declared.record.Record.{Record}
 use Rattle.gt_audit.specs.declared.record.Hypercall.TheVariants as hypercalls
 use Rattle.gt_audit.specs.declared.record.Reply.{Reply}
-use Rattle.gt_live.specs.Domains.{mapping_reply}
+use Rattle.std.specs.Prelude.{Result, Ok, Err}
+use Rattle.gt_types.specs.declared.denial.Denial.{Denial}
+use Rattle.gt_handles.specs.declared.handles.Handle.{Handle}
+use Rattle.gt_calls.specs.declared.request.Request.{Request}
+use Rattle.gt_calls.specs.declared.request.Request.TheVariants as requests
+use Rattle.gt_live.specs.declared.domain.Domain.{Domain}
+use Rattle.gt_live.specs.declared.monitor.Monitor.{Monitor}
+use Rattle.gt_live.specs.Domains.{MapAnswered, Rights, mapping_reply}
 use Rattle.gt_live.proofs.Kept.{retold}
 use Rattle.gt_live.proofs.domain.Domain.map.Goals as goal
 
@@ -22,3 +29,11 @@ returns-clause-told g c =
     ap (λ (x : DomId). record { dom = x; call = call; reply = c.mapping_reply-reply.result }) (c.dom-dom.ensures ∙ e.seat.dom)
     ∙ ap (λ (x : Reply). record { dom = d.seat.dom; call = call; reply = x }) c.mapping_reply-reply.ensures in
     subst (λ (t : Telling). Tells t wanted new) e.silent (subst (λ (r : Record). Tells c.make_mapping-result.new.self.trail r new) same c.push.ensures)
+
+map-retold : {P : Type 0} (may : P → Rights) (m : Monitor P) (d f : Domain) (request : Request) (result : Result Handle Denial) (t : Telling) → MapAnswered may m d request result f → MapAnswered may m d request result (record f { trail = t })
+map-retold may m d f request (Ok handle) t x = x
+map-retold may m d f request (Err denial) t x = x
+
+pub returns-clause-answered : goal.returns-clause-answered
+returns-clause-answered g c =
+    map-retold g.P.Allows.may c.args.monitor.now c.args.self.now c.make_mapping-result.new.self (requests.Map c.args.dom c.args.gref c.args.flags) c.make_mapping-result.result c.push.new.self c.make_mapping-result.ensures.answered
