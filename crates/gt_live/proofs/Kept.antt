@@ -216,3 +216,11 @@ no-pin (p ∷ ps) h =
 -- a domain without mappings has no pins
 pub without-pins : (b : Board) (c : Config) (may : Rights) (d : Domain) → IsDomainOf b c may d → count_of d.mappings ≡ 0 → (t r : ℕ) → pins (steps_on t r d.seat.view) ≡ []
 without-pins b c may d is none t r = no-pin _ (λ a g. let was = is.pins t r a g in let few = counted-most (is_mapping_of b.layout t r a g) d.mappings in omega (arith, was, few, none))
+
+-- whatever records a domain keeps
+pub retold : (b : Board) (c : Config) (may : Rights) (d e : Domain) → IsDomainOf b c may d → e.seat ≡ d.seat → e.own ≡ d.own → e.mappings ≡ d.mappings → IsDomainOf b c may e
+retold b c may d e is seat own mappings =
+    let here : IsDomainOf b c may (record e { seat = d.seat; own = d.own; mappings = d.mappings }) =
+    record { seat = is.seat; rows = is.rows; generations = is.generations; all_rows = is.all_rows; mapped = is.mapped; pins = is.pins } in
+    subst (λ (x : Domain). IsDomainOf b c may x)
+    (ap (λ s. record e { seat = s; own = d.own; mappings = d.mappings }) (sym seat) ∙ (ap (λ o. record e { own = o; mappings = d.mappings }) (sym own) ∙ ap (λ m. record e { mappings = m }) (sym mappings))) here

@@ -1,8 +1,11 @@
 -- What a domain knows by itself at a call's beginning, and calls that are answered there.
-use Rattle.std.proofs.Common.{◌≡◌, ℕ, ◌≤◌, refl, sym, ap, ◌∙◌, subst, List, [], Option, Some, None, inl}
-use Rattle.std.specs.Prelude.{Result, is_some}
+use Rattle.std.proofs.Common.{◌≡◌, ◌≢◌, ◌⊎◌, ℕ, ◌+◌, ◌*◌, ◌/◌, ◌%◌, ◌<◌, ◌≤◌, Bool, true, false, cond, refl, sym, ap, ◌∙◌, subst, List, [], ◌∷◌, length, map, suc, Option, Some, None, inl, inr, arith}
+use Rattle.std.specs.Prelude.{Result, Ok, Err, is_some}
 use Rattle.gt_types.specs.declared.DomId.{DomId}
+use Rattle.gt_types.specs.declared.TypeId.{TypeId}
+use Rattle.gt_types.specs.declared.perms.Perms.{Perms}
 use Rattle.gt_types.specs.declared.config.Config.{Config}
+use Rattle.gt_types.specs.declared.config.DomainConfig.{DomainConfig}
 use Rattle.gt_types.specs.declared.denial.Denial.{Denial}
 use Rattle.gt_entry.specs.declared.header.Header.{Header}
 use Rattle.gt_types.specs.Config.{IsWithinLimits}
@@ -26,17 +29,17 @@ use Rattle.gt_calls.specs.declared.held.Held.{Held}
 use Rattle.gt_calls.specs.declared.known.Own.{Own}
 use Rattle.gt_calls.specs.declared.request.Asked.{Asked}
 use Rattle.gt_calls.specs.declared.request.Asked.TheVariants as asks
-use Rattle.gt_calls.specs.Rules.{knowledge_of}
+use Rattle.gt_calls.specs.Rules.{CallerKnowledge, knowledge_of}
 use Rattle.gt_live.specs.declared.domain.Domain.{Domain}
 use Rattle.gt_live.specs.Domains.{Answered, HasRoomFor, IsDomainOf, KeepsPinned, MapAnswered, mapped_by, Rights, Settles, done_by, frames_told, knowledge, size_told, verdict_of, verdict_of_frames, verdict_of_size, verdict_of_version, version_told}
-use Rattle.gt_live.specs.Driving.{Knows}
+use Rattle.gt_live.specs.Driving.{IsSame, Knows}
 use Rattle.gt_live.specs.Effects.{Answers}
 use Rattle.gt_live.specs.Walks.{CarriesFound, TellsSteps}
 use Rattle.gt_types.specs.declared.denial.Facts.{Facts}
 use Rattle.gt_types.specs.declared.denial.Facts.TheVariants as facts
 use Rattle.gt_live.specs.Ending.{IsAnswerTo, IsAtOnce, IsWordless, IsHeaderChange, IsMap, IsOwnChange}
 use Rattle.gt_live.specs.Mappings.{Adds, Removes}
-use Rattle.gt_live.specs.declared.driving.Effect.TheVariants.{Nothing, Pinned, Unpinned}
+use Rattle.gt_live.specs.declared.driving.Effect.TheVariants.{Nothing, Pinned, Unpinned, Changed, Stored}
 
 -- what is known by lent parts is what is known
 pub same-knowledge : (c : Config) (may : Rights) (d : Domain) (own : List Own) (h : Header) → own ≡ d.own.items → h ≡ own_table d.seat.view
@@ -248,7 +251,7 @@ roomier-inserted old' old new h p room i =
 pub map-once : {P : Type 0} (may : P → Rights) (m : Monitor P) (d : Domain) (request : Request) (r : Asked) (verdict : Verdict) (result : Result Handle Denial) → IsAtOnce r verdict → IsMap r → Answered may m d request verdict d → result ≡ mapped_by verdict None
     → MapAnswered may m d request result d
 map-once may m d request (asks.Map dom gref flags) (Refused denial) result once is said e =
-    subst (λ (x : Result Handle Denial). MapAnswered may m d request x d) (sym e) (inl said, record { mappings = record { slots = refl; given = refl }; pins = λ t q. refl })
+    subst (λ (x : Result Handle Denial). MapAnswered may m d request x d) (sym e) (inl said, (record { slots = refl; given = refl }, λ t q. refl))
 map-once may m d request (asks.Map dom gref flags) _ result once is said e = absurd once
 map-once may m d request _ verdict result once is said e = absurd is
 
@@ -256,13 +259,8 @@ pub map-settled : {P : Type 0} (may : P → Rights) (m : Monitor P) (d d' e : Do
     → d'.mappings ≡ record d.mappings { room = d'.mappings.room } → d'.seat ≡ d.seat → Answered may m d request verdict e → IsAnswerTo (asks.Map dom gref flags) verdict → Settles (asks.Map dom gref flags) verdict h d' e → result ≡ mapped_by verdict h
     → MapAnswered may m d request result e
 map-settled may m d d' e request dom gref flags (Refused denial) h result room seat said a s r =
-    subst (λ (x : Result Handle Denial). MapAnswered may m d request x e) (sym r) (
-      inl said,
-      record {
-        mappings = record { slots = s.mappings.slots ∙ ap (λ (z : Kept Held). z.slots) room; given = s.mappings.given ∙ ap (λ (z : Kept Held). z.given) room };
-        pins = subst (λ (z : SeatOf). KeepsPins z.view e.seat.view) seat s.pins;
-      },
-    )
+    subst (λ (x : Result Handle Denial). MapAnswered may m d request x e) (sym r)
+    (inl said, (record { slots = s.0.slots ∙ ap (λ (z : Kept Held). z.slots) room; given = s.0.given ∙ ap (λ (z : Kept Held). z.given) room }, subst (λ (z : SeatOf). KeepsPins z.view e.seat.view) seat s.1))
 map-settled may m d d' e request dom gref flags (Mapped p) (Some h) result room seat said a s r =
     subst (λ (x : Result Handle Denial). MapAnswered may m d request x e) (sym r)
     (p, said, record { serial = s.serial ∙ ap (λ (z : Kept Held). z.given) room; inserted = roomier-inserted d'.mappings d.mappings e.mappings h p room s.inserted; spent = λ other was. subst (λ (z : Kept Held). KeepsSpent z e.mappings) room s.spent other (record { given = was.given; gone = was.gone }) })

@@ -13,6 +13,7 @@ use Rattle.gt_handles.specs.Handles.{Kept, under, value_of}
 use Rattle.gt_handles.specs.Listing.{has_passing}
 use Rattle.gt_handles.specs.declared.handles.Handle.{Handle}
 use Rattle.gt_handles.specs.declared.handles.Slot.{Slot}
+use Rattle.gt_audit.specs.Telling.{silent}
 use Rattle.gt_calls.specs.declared.held.Held.{Held}
 use Rattle.gt_calls.specs.declared.known.Own.{Own}
 use Rattle.gt_calls.specs.Rules.{row_entry, row_generation}
@@ -41,8 +42,8 @@ rows-length first = same-length 2048 (record { entry = Invalid; generation = fir
 nothing-there : (s : Kept Held) (h : Handle) (m : Held) → s.slots ≡ [] → value_of s h ≡ Some m → ⊥
 nothing-there s h m e there = let none : value_of s h ≡ None = ap (λ (xs : List (Option (Slot Held))). under h.serial (get_or xs h.key None)) e in cc
 
-pub new-domain : (b : Board) (c : Config) (may : Rights) (i : ℕ) (d : Domain) → IsWithinLimits c → b.layout ≡ layout_of c → IsNewSeat b i d.seat → d.own.items ≡ first_rows c.first_gen → d.mappings ≡ record { slots = []; given = 0; room = 0 } → IsNewDomain b c may i d
-new-domain b c may i d limits run new own mappings =
+pub new-domain : (b : Board) (c : Config) (may : Rights) (i : ℕ) (d : Domain) → IsWithinLimits c → b.layout ≡ layout_of c → IsNewSeat b i d.seat → d.own.items ≡ first_rows c.first_gen → d.mappings ≡ record { slots = []; given = 0; room = 0 } → d.trail ≡ silent → IsNewDomain b c may i d
+new-domain b c may i d limits run new own mappings trail =
     let v = d.seat.view in
     let first : v.first ≡ c.first_gen = new.first ∙ ap (λ (k : Layout). k.first) run in
     let few = limits.generation in
@@ -64,4 +65,5 @@ new-domain b c may i d limits run new own mappings =
       };
       seat = new;
       mappings = mappings;
+      trail = trail;
     }

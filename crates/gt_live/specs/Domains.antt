@@ -2,7 +2,12 @@
 use Rattle.std.specs.Prelude.{◌≡◌, ◌⊎◌, ℕ, ◌<◌, ◌≤◌, Bool, length, List, [], ◌∷◌, Option, Some, None, Result, Ok, Err}
 use Rattle.gt_types.specs.declared.DomId.{DomId}
 use Rattle.gt_types.specs.declared.TypeId.{TypeId}
+use Rattle.gt_types.specs.declared.GrantRef.{GrantRef}
 use Rattle.gt_types.specs.declared.Size.{Size}
+use Rattle.gt_audit.specs.declared.record.Hypercall.{Hypercall}
+use Rattle.gt_audit.specs.declared.record.Record.{Record}
+use Rattle.gt_audit.specs.declared.record.Reply.{Reply}
+use Rattle.gt_audit.specs.declared.record.Reply.TheVariants as replies
 use Rattle.gt_types.specs.declared.perms.Perms.{Perms}
 use Rattle.gt_types.specs.declared.config.Config.{Config}
 use Rattle.gt_types.specs.declared.denial.Denial.{Denial}
@@ -66,9 +71,8 @@ abbrev pub Answered : {P : Type 0} → (P → Rights) → Monitor P → Domain �
 Answered may m d request verdict e = Called m.words.layout (path_of (known may m d) d.seat.dom request) verdict d.seat.view e.seat.view
 
 -- the domain has the mappings and pins that it had (own)
-pub record KeepsPinned (d e : Domain) : Type 0 where
-  pub mappings : KeepsMappings d.mappings e.mappings
-  pub pins : KeepsPins d.seat.view e.seat.view
+abbrev pub KeepsPinned : Domain → Domain → Type 0
+KeepsPinned d e = KeepsMappings d.mappings e.mappings × KeepsPins d.seat.view e.seat.view
 
 -- the answer that a verdict gives to a call without a value (own)
 abbrev pub verdict_of : Result (Unit {0}) Denial → Verdict
@@ -109,6 +113,7 @@ pub record IsUnsettled (d e : Domain) : Type 0 where
   pub seat : IsSameSeat d.seat e.seat
   pub own : e.own ≡ d.own
   pub mappings : e.mappings ≡ d.mappings
+  pub trail : e.trail ≡ d.trail
 
 -- there is room for the mapping that a map makes (own)
 abbrev pub HasRoomFor : Asked → Kept Held → Type 0
@@ -159,6 +164,7 @@ pub record HasLeft (k : Layout) (d : Domain) (l : Left) : Type 0 where
   pub released : Released k handles d.mappings d.seat.view rest l.seat.view
   pub all_given : (h : Handle) → value_of rest h ≡ None
   pub seat : IsSameSeat d.seat l.seat
+  pub records : l.trail ≡ d.trail
   pub no_pins : (t r : ℕ) → pins (steps_on t r l.seat.view) ≡ []
 
 -- the handle that a map is answered with, or its refusal (own)
@@ -166,3 +172,30 @@ abbrev pub mapped_by : Verdict → Option Handle → Result Handle Denial
 mapped_by (Refused denial) handle = Err denial
 mapped_by verdict (Some handle) = Ok handle
 mapped_by verdict None = Err (denial_of N26 NoFacts)
+
+-- what a record tells of an answer (own)
+abbrev pub reply_of : Verdict → Reply
+reply_of Granted = replies.Done
+reply_of (Mapped p) = replies.Done
+reply_of (Given (Frames frames)) = replies.Frames frames
+reply_of (Given (SizeTold size)) = replies.Size size
+reply_of (Given (Version version)) = replies.Version version
+reply_of (Refused denial) = replies.Denied denial
+
+-- what a record tells of a map's answer (own)
+abbrev pub mapping_reply : Result Handle Denial → Reply
+mapping_reply (Ok handle) = replies.Done
+mapping_reply (Err denial) = replies.Denied denial
+
+-- the record of a call of this domain, which was answered so (own)
+abbrev pub told_of : Domain → Hypercall → Verdict → Record
+told_of d call verdict = record { dom = d.seat.dom; call = call; reply = reply_of verdict }
+
+-- the entry that a pin is of (own)
+abbrev pub subject_in : Option Held → Option (DomId × GrantRef)
+subject_in None = None
+subject_in (Some p) = Some (p.dom, p.gref)
+
+-- the entry that the mapping under this handle is of, if it has one (own)
+abbrev pub subject_of : Domain → Handle → Option (DomId × GrantRef)
+subject_of d handle = subject_in (value_of d.mappings handle)

@@ -6,13 +6,14 @@ ghost use Rattle.gt_calls.specs.Path.{path};
 ghost use Rattle.gt_words.specs.Conditions.{IsSameSeat};
 ghost use Rattle.gt_live.specs.Rows.{row_changed};
 ghost use Rattle.gt_live.specs.Ending.{IsAnswerTo, IsMap, WaitsForNobody};
-ghost use Rattle.gt_live.specs.Domains.{Answered, IsOf, done_by, known, mapped_by, version_told, size_told, frames_told};
+ghost use Rattle.gt_live.specs.Domains.{Answered, IsOf, done_by, known, mapped_by, mapping_reply, reply_of, version_told, size_told, frames_told};
 ghost use Rattle.gt_live.specs.Walks.{Called};
 ghost use Rattle.gt_live.specs.Driving.{Leaves};
 ghost use Rattle.gt_live.specs.Effects.{Answers};
 
 use crate::driving::{Effect, Finished, drive};
 use crate::monitor::Monitor;
+use gt_audit::{Hypercall, Record, Reply, Trail};
 use gt_calls::{Call, Handle, Handles, Held, Known, Own, Request, Start, Value, Verdict};
 use gt_entry::{Change, Entry};
 use gt_types::{Allows, Denial, DomId, Facts, GrantRef, Rule, Size};
@@ -23,12 +24,32 @@ pub struct Domain {
     seat: Seat,
     own: Vec<Own>,
     mappings: Handles<Held>,
+    trail: Trail,
 }
 
-/// What a domain leaves behind.
+/// What a domain leaves behind: its records, and its seat, which is spent.
 #[derive(Drop)]
 pub struct Left {
+    trail: Trail,
     seat: Seat,
+}
+
+impl Left {
+    ghost use Rattle.std.specs.Prelude.{◌≡◌};
+
+    /// The records of its calls, in order.
+    pub fn records(&self) -> &[Record]
+        ensures { result.now ≡ self.now.trail.records }
+    {
+        self.trail.records()
+    }
+
+    /// How many records were lost, since memory was refused.
+    pub fn lost(&self) -> u64
+        ensures { result ≡ self.now.trail.lost }
+    {
+        self.trail.lost()
+    }
 }
 
 /// How a call is answered, and the handle that a map is given.
@@ -102,23 +123,55 @@ fn mapped(verdict: Verdict, handle: Option<Handle>) -> Result<Handle, Denial>
     }
 }
 
+// What a record tells of an answer.
+fn reply_of(verdict: Verdict) -> Reply
+    ensures { result ≡ reply_of verdict }
+{
+    match verdict {
+        Verdict::Granted | Verdict::Mapped(_) => Reply::Done,
+        Verdict::Given(Value::Frames(frames)) => Reply::Frames(frames),
+        Verdict::Given(Value::Size(size)) => Reply::Size(size),
+        Verdict::Given(Value::Version(version)) => Reply::Version(version),
+        Verdict::Refused(denial) => Reply::Denied(denial),
+    }
+}
+
+// What a record tells of a map's answer.
+fn mapping_reply(answer: Result<Handle, Denial>) -> Reply
+    ensures { result ≡ mapping_reply answer }
+{
+    match answer {
+        Ok(_) => Reply::Done,
+        Err(denial) => Reply::Denied(denial),
+    }
+}
+
 impl Domain {
     ghost use Rattle.std.specs.Prelude.{◌≡◌, ◌≤◌, ℕ, List, [], OnOk, OnErr, IfOk, IfErr, None, Some};
-    ghost use Rattle.gt_live.specs.Domains.{Answered, HasLeft, HasRoomFor, IsOf, IsOpened, IsUnsettled, KeepsPinned, MapAnswered, Released, Settles, known, verdict_of, verdict_of_frames, verdict_of_size, verdict_of_version};
+    ghost use Rattle.gt_audit.specs.Telling.{Tells};
+    ghost use Rattle.gt_live.specs.Domains.{mapping_reply, subject_of, told_of, Answered, HasLeft, HasRoomFor, IsOf, IsOpened, IsUnsettled, KeepsPinned, MapAnswered, Released, Settles, known, verdict_of, verdict_of_frames, verdict_of_size, verdict_of_version};
     ghost use Rattle.gt_live.specs.Mappings.{Removes};
     ghost use Rattle.gt_calls.specs.declared.held.Held.{Held};
     ghost use Rattle.gt_handles.specs.Handles.{IsEmpty};
     ghost use Rattle.gt_words.specs.Conditions.{KeepsPins};
 
     /// The domain with this seat, which has done nothing.
-    pub(crate) fn new(seat: Seat, own: Vec<Own>, mappings: Handles<Held>) -> Domain
-        ensures { result ≡ record { seat = seat; own = own; mappings = mappings } }
+    pub(crate) fn new(seat: Seat, own: Vec<Own>, mappings: Handles<Held>, trail: Trail) -> Domain
+        ensures { result ≡ record { seat = seat; own = own; mappings = mappings; trail = trail } }
     {
         Domain {
             seat,
             own,
             mappings,
+            trail,
         }
+    }
+
+    /// The records of its calls so far, in order.
+    pub fn trail(&self) -> &Trail
+        ensures { result.now ≡ self.now.trail }
+    {
+        &self.trail
     }
 
     // Judges a call at its beginning.
@@ -166,6 +219,7 @@ impl Domain {
         ensures called { Called monitor.now.words.layout (path (known P.may monitor.now self.old) self.old.seat.dom call.request) result.verdict self.old.seat.view self.new.seat.view }
         ensures answer { IsAnswerTo call.request result.verdict }
         ensures settled { Settles call.request result.verdict result.handle self.old self.new }
+        ensures silent { self.new.trail ≡ self.old.trail }
     {
         let finished = self.drive(monitor, call);
         let verdict = finished.verdict;
@@ -211,11 +265,45 @@ impl Domain {
         ensures answered { Answered P.may monitor.now self.old request.entry result self.new }
         ensures answer { IsAnswerTo (asked request.entry) result }
         ensures settled { Settles (asked request.entry) result None self.old self.new }
+        ensures silent { self.new.trail ≡ self.old.trail }
     {
         match self.begin(monitor, request) {
             Start::Done(verdict) => verdict,
             Start::Open(call) => self.run(monitor, call).verdict,
         }
+    }
+
+    // The entry that the mapping under a handle is of.
+    fn subject(&self, handle: Handle) -> Option<(DomId, GrantRef)>
+        ensures { result ≡ subject_of self.now handle }
+    {
+        match self.mappings.get(handle).copied() {
+            Some(held) => Some((held.dom, held.gref)),
+            None => None,
+        }
+    }
+
+    // Makes a call that takes no memory, and keeps its record.
+    fn told_call<P: Allows>(
+        &mut self,
+        monitor: &Monitor<P>,
+        request: Request<'_>,
+        call: Hypercall,
+    ) -> Verdict
+        requires mine { IsOf P.may monitor.now self.old }
+        requires waits { WaitsForNobody (asked request) × (IsMap (asked request) → ⊥) }
+        ensures mine { IsOf P.may monitor.now self.new }
+        ensures seat { IsSameSeat self.old.seat self.new.seat }
+        ensures answered { Answered P.may monitor.now self.old request.entry result self.new }
+        ensures answer { IsAnswerTo (asked request.entry) result }
+        ensures settled { Settles (asked request.entry) result None self.old self.new }
+        ensures told { Tells self.old.trail (told_of self.old call result) self.new.trail }
+    {
+        let verdict = self.call(monitor, request);
+        let dom = self.seat.dom();
+        let reply = reply_of(verdict);
+        self.trail.push(Record { dom, call, reply });
+        verdict
     }
 
     /// Publishes an entry in place of an invalid one.
@@ -233,6 +321,7 @@ impl Domain {
         ensures seat { IsSameSeat self.old.seat self.new.seat }
         ensures answered { Answered P.may monitor.now self.old (Request.Grant gref entry.now) (verdict_of result) self.new }
         ensures kept { KeepsPinned self.old self.new }
+        ensures silent { self.new.trail ≡ self.old.trail }
     {
         let entry = *entry;
         done(self.call(monitor, Request::Grant { gref, entry }))
@@ -253,6 +342,7 @@ impl Domain {
         ensures seat { IsSameSeat self.old.seat self.new.seat }
         ensures answered { Answered P.may monitor.now self.old (Request.GrantBytes gref bytes.entry) (verdict_of result) self.new }
         ensures kept { KeepsPinned self.old self.new }
+        ensures silent { self.new.trail ≡ self.old.trail }
     {
         done(self.call(monitor, Request::GrantBytes { gref, bytes }))
     }
@@ -267,6 +357,7 @@ impl Domain {
         ensures seat { IsSameSeat self.old.seat self.new.seat }
         ensures answered { Answered P.may monitor.now self.old (Request.Revoke gref) (verdict_of result) self.new }
         ensures kept { KeepsPinned self.old self.new }
+        ensures silent { self.new.trail ≡ self.old.trail }
     {
         done(self.call(monitor, Request::Revoke { gref }))
     }
@@ -281,6 +372,7 @@ impl Domain {
         ensures seat { IsSameSeat self.old.seat self.new.seat }
         ensures answered { Answered P.may monitor.now self.old (Request.Demote gref) (verdict_of result) self.new }
         ensures kept { KeepsPinned self.old self.new }
+        ensures silent { self.new.trail ≡ self.old.trail }
     {
         done(self.call(monitor, Request::Demote { gref }))
     }
@@ -295,6 +387,7 @@ impl Domain {
         ensures seat { IsSameSeat self.old.seat self.new.seat }
         ensures answered { Answered P.may monitor.now self.old (Request.Promote gref) (verdict_of result) self.new }
         ensures kept { KeepsPinned self.old self.new }
+        ensures silent { self.new.trail ≡ self.old.trail }
     {
         done(self.call(monitor, Request::Promote { gref }))
     }
@@ -313,8 +406,10 @@ impl Domain {
         ensures seat { IsSameSeat self.old.seat self.new.seat }
         ensures answered { Answered P.may monitor.now self.old (Request.SetVersion version) (verdict_of result) self.new }
         ensures kept { KeepsPinned self.old self.new }
+        ensures told { Tells self.old.trail (told_of self.old (Hypercall.SetVersion version) (verdict_of result)) self.new.trail }
     {
-        done(self.call(monitor, Request::SetVersion { version }))
+        let call = Hypercall::SetVersion { version };
+        done(self.told_call(monitor, Request::SetVersion { version }, call))
     }
 
     /// Gives its table so many frames, where it has fewer, and answers how many it then has.
@@ -331,8 +426,10 @@ impl Domain {
         ensures seat { IsSameSeat self.old.seat self.new.seat }
         ensures answered { Answered P.may monitor.now self.old (Request.SetupTable frames) (verdict_of_frames result) self.new }
         ensures kept { KeepsPinned self.old self.new }
+        ensures told { Tells self.old.trail (told_of self.old (Hypercall.SetupTable frames) (verdict_of_frames result)) self.new.trail }
     {
-        frames_told(self.call(monitor, Request::SetupTable { frames }))
+        let call = Hypercall::SetupTable { frames };
+        frames_told(self.told_call(monitor, Request::SetupTable { frames }, call))
     }
 
     /// How many frames the table of a domain has, and how many it may have.
@@ -349,8 +446,10 @@ impl Domain {
         ensures seat { IsSameSeat self.old.seat self.new.seat }
         ensures answered { Answered P.may monitor.now self.old (Request.QuerySize dom) (verdict_of_size result) self.new }
         ensures kept { KeepsPinned self.old self.new }
+        ensures told { Tells self.old.trail (told_of self.old (Hypercall.QuerySize dom) (verdict_of_size result)) self.new.trail }
     {
-        size_told(self.call(monitor, Request::QuerySize { dom }))
+        let call = Hypercall::QuerySize { dom };
+        size_told(self.told_call(monitor, Request::QuerySize { dom }, call))
     }
 
     /// The version of the table of a domain.
@@ -367,8 +466,35 @@ impl Domain {
         ensures seat { IsSameSeat self.old.seat self.new.seat }
         ensures answered { Answered P.may monitor.now self.old (Request.GetVersion dom) (verdict_of_version result) self.new }
         ensures kept { KeepsPinned self.old self.new }
+        ensures told { Tells self.old.trail (told_of self.old (Hypercall.GetVersion dom) (verdict_of_version result)) self.new.trail }
     {
-        version_told(self.call(monitor, Request::GetVersion { dom }))
+        let call = Hypercall::GetVersion { dom };
+        version_told(self.told_call(monitor, Request::GetVersion { dom }, call))
+    }
+
+    // Maps an entry, and tells nobody.
+    fn make_mapping<P: Allows>(
+        &mut self,
+        monitor: &Monitor<P>,
+        dom: DomId,
+        gref: GrantRef,
+        flags: u32,
+    ) -> Result<Handle, Denial>
+        requires mine { IsOf P.may monitor.now self.old }
+        ensures mine { IsOf P.may monitor.now self.new }
+        ensures seat { IsSameSeat self.old.seat self.new.seat }
+        ensures answered { MapAnswered P.may monitor.now self.old (Request.Map dom gref flags) result self.new }
+        ensures silent { self.new.trail ≡ self.old.trail }
+    {
+        let call = match self.begin(monitor, Request::Map { dom, gref, flags }) {
+            Start::Done(verdict) => return mapped(verdict, None),
+            Start::Open(call) => call,
+        };
+        if self.mappings.reserve().is_err() {
+            return Err(Denial::new(Rule::N26, Facts::None));
+        }
+        let answer = self.run(monitor, call);
+        mapped(answer.verdict, answer.handle)
     }
 
     /// Maps an entry of a domain, for reading and writing (flags 2) or for reading (flags 6).
@@ -387,16 +513,14 @@ impl Domain {
         ensures mine { IsOf P.may monitor.now self.new }
         ensures seat { IsSameSeat self.old.seat self.new.seat }
         ensures answered { MapAnswered P.may monitor.now self.old (Request.Map dom gref flags) result self.new }
+        ensures told { Tells self.old.trail (record { dom = self.old.seat.dom; call = Hypercall.Map dom gref flags; reply = mapping_reply result }) self.new.trail }
     {
-        let call = match self.begin(monitor, Request::Map { dom, gref, flags }) {
-            Start::Done(verdict) => return mapped(verdict, None),
-            Start::Open(call) => call,
-        };
-        if self.mappings.reserve().is_err() {
-            return Err(Denial::new(Rule::N26, Facts::None));
-        }
-        let answer = self.run(monitor, call);
-        mapped(answer.verdict, answer.handle)
+        let result = self.make_mapping(monitor, dom, gref, flags);
+        let call = Hypercall::Map { dom, gref, flags };
+        let dom = self.seat.dom();
+        let reply = mapping_reply(result);
+        self.trail.push(Record { dom, call, reply });
+        result
     }
 
     /// Gives a mapping up, and its pin back.
@@ -410,8 +534,11 @@ impl Domain {
         ensures answered { Answered P.may monitor.now self.old (Request.Unmap handle) (verdict_of result) self.new }
         ensures removed { OnOk result ((p : Held) × Removes self.old.mappings self.new.mappings handle p) }
         ensures refused { OnErr result (KeepsPinned self.old self.new) }
+        ensures told { Tells self.old.trail (told_of self.old (Hypercall.Unmap (subject_of self.old handle)) (verdict_of result)) self.new.trail }
     {
-        done(self.call(monitor, Request::Unmap { handle }))
+        let subject = self.subject(handle);
+        let call = Hypercall::Unmap { subject };
+        done(self.told_call(monitor, Request::Unmap { handle }, call))
     }
 
     // Gives each mapping's pin back.
@@ -421,6 +548,7 @@ impl Domain {
         ensures seat { IsSameSeat self.old.seat self.new.seat }
         ensures released { (handles : List Handle) × Released monitor.now.words.layout handles self.old.mappings self.old.seat.view self.new.mappings self.new.seat.view }
         ensures all_given { IsEmpty self.new.mappings }
+        ensures silent { self.new.trail ≡ self.old.trail }
     {
         'mappings: while let Some((_, held)) = self.mappings.pop() {
             let pin = Pin {
@@ -443,7 +571,8 @@ impl Domain {
             seat,
             own: _,
             mappings: _,
+            trail,
         } = self;
-        Left { seat }
+        Left { trail, seat }
     }
 }

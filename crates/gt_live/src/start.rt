@@ -7,6 +7,7 @@ ghost use Rattle.gt_live.specs.Starting.{first_rows, IsNewDomain};
 
 use crate::domain::Domain;
 use crate::monitor::Monitor;
+use gt_audit::Trail;
 use gt_calls::{ENTRIES, Handles, Own};
 use gt_types::{Allows, Config, StartFault};
 use gt_words::{Seat, Words};
@@ -54,7 +55,9 @@ fn make_domains<P: Allows>(
     'domains: for at in 0..count {
         let seat = seats.remove(0);
         if let Some(own) = rows.pop() {
-            domains.push_reserved(Domain::new(seat, own, Handles::new(alloc)));
+            let mappings = Handles::new(alloc);
+            let trail = Trail::new(alloc);
+            domains.push_reserved(Domain::new(seat, own, mappings, trail));
         }
     }
     Ok(domains)

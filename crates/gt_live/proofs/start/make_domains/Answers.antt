@@ -1,9 +1,11 @@
-use Rattle.std.proofs.Common.{◌≡◌, ◌∙◌, ◌+◌, ◌<◌, ℕ, sym, ap, subst, refl, List, [], ◌∷◌, ◌++◌, length, get_or, Some, arith, inl, inr, length-append, length-drop, Option, None, true}
+use Rattle.std.proofs.Common.{◌≡◌, ◌∙◌, ◌+◌, ◌<◌, ◌≤◌, ℕ, sym, ap, subst, refl, List, [], ◌∷◌, ◌++◌, length, get_or, Some, arith, inl, inr, length-append, length-drop, drop, Option, None, true, false}
 use Rattle.std.specs.Prelude.{is_some, vec_capacity}
 use lib.ListN.{get_or-append}
 use Rattle.std.proofs.lemmas.Bool.{cases_eq}
+use Rattle.std.proofs.lemmas.List.Edits.{get_or-remove_above, length-remove}
 use Rattle.std.proofs.lemmas.List.Elements.{All-pop}
 use Rattle.gt_words.specs.Conditions.{IsNewSeat, SeatOf}
+use Rattle.gt_calls.specs.declared.known.Own.{Own}
 use Rattle.gt_live.specs.Starting.{first_rows, IsNewDomain}
 use Rattle.gt_live.specs.declared.domain.Domain.{Domain}
 use Rattle.gt_live.proofs.NewDomain.{new-domain}
@@ -23,7 +25,7 @@ domains-preserved g c = elim c.match-pop.branch [
   | in-Some w ↦
       let b = c.args.monitor.now.words in let cf = c.args.monitor.now.config in let may = g.P.Allows.may c.args.monitor.now.rights in let inv = c.domains.invariant in let test = c.domains-test.true in let at = c.domains.at in
       let p = w.push_reserved.ensures in let q = w.in-Some.ensures in let r = c.remove-seat.ensures in
-      let d0 : Domain = w.new-in-Some.result in
+      let d0 : Domain = w.new.result in
       let seats = c.domains.seats.items in let made = c.domains.domains.items in
       let s1 : length c.remove-seat.new.self.items + 1 ≡ length seats = (let e = ap {B = ℕ} (λ (xs : List SeatOf). length xs) r.items in let l = length-drop 1 seats in let i1 = inv.seats in omega (arith, e, l, i1, test)) in
       let s2 : length c.pop.new.self.items + 1 ≡ length c.domains.rows.items = (let e = ap {B = ℕ} (λ xs. length xs) q.items in let l = length-append c.pop.new.self.items (w.in-Some.own ∷ []) in omega (arith, e, l)) in
@@ -34,7 +36,7 @@ domains-preserved g c = elim c.match-pop.branch [
       let i0 = inv.seats in let z0 : at + 0 ≡ at = omega arith in
       let seat : IsNewSeat b at c.remove-seat.result = subst (λ (x : SeatOf). IsNewSeat b at x) (sym r.value)
       (subst (λ (n : ℕ). IsNewSeat b n (get_or seats 0 c.remove-seat.result)) z0 (inv.new_seats 0 (omega (arith, i0, test)) c.remove-seat.result)) in
-      let new : IsNewDomain b cf may at d0 = new-domain b cf may at d0 c.requires.config c.args.monitor.now.same_run (subst (λ (x : Domain). IsNewSeat b at x.seat) (sym w.new-in-Some.ensures) seat) (ap (λ (x : Domain). x.own.items) w.new-in-Some.ensures ∙ popped.1) (ap (λ (x : Domain). x.mappings) w.new-in-Some.ensures ∙ w.new.ensures) in
+      let new : IsNewDomain b cf may at d0 = new-domain b cf may at d0 c.requires.config c.args.monitor.now.same_run (subst (λ (x : Domain). IsNewSeat b at x.seat) (sym w.new.ensures) seat) (ap (λ (x : Domain). x.own.items) w.new.ensures ∙ popped.1) (ap (λ (x : Domain). x.mappings) w.new.ensures ∙ w.new-mappings.ensures) (ap (λ (x : Domain). x.trail) w.new.ensures ∙ w.new-trail.ensures) in
       record {
         seats = (let i1 = inv.seats in omega (arith, s1, i1));
         rows = (let i1 = inv.rows in omega (arith, s2, i1));

@@ -1,9 +1,10 @@
-use Rattle.std.proofs.Common.{sym, subst, refl, []}
+use Rattle.std.proofs.Common.{◌≡◌, ◌∙◌, sym, ap, subst, refl, [], ◌∷◌, Some, None, Option}
+use Rattle.gt_calls.specs.declared.action.Verdict.{Verdict}
 use Rattle.gt_calls.specs.declared.request.Asked.{Asked}
 use Rattle.gt_calls.specs.Asking.{asked}
-use Rattle.gt_calls.specs.Path.{Continuation}
-use Rattle.gt_live.specs.Domains.{HasRoomFor, Settles, knowledge}
-use Rattle.gt_live.specs.Ending.{IsAnswerTo, WaitsForNobody}
+use Rattle.gt_calls.specs.Path.{Continuation, path, path_of}
+use Rattle.gt_live.specs.Domains.{HasRoomFor, KeepsPinned, Settles, knowledge}
+use Rattle.gt_live.specs.Ending.{IsAnswerTo, IsMap, WaitsForNobody}
 use Rattle.gt_live.specs.Walks.{Called}
 use Rattle.gt_live.proofs.Knowing.{at-once-answer, no-room-asked, once-tells, settle-once, settle-plain}
 use Rattle.gt_live.proofs.Making.{same_seat-self}
@@ -19,7 +20,8 @@ returns-in-Done g c =
       seat = same_seat-self d.seat;
       answered = record { steps = []; view = refl; walked = tt; answered = s.1; carried = once-tells m.words.layout d.seat.view (asked c.args.request) c.in-Done.verdict once };
       answer = at-once-answer (asked c.args.request) c.in-Done.verdict once;
-      settled = settle-once (asked c.args.request) c.in-Done.verdict d d once (record { mappings = record { slots = refl; given = refl }; pins = λ t r. refl });
+      silent = refl;
+      settled = settle-once (asked c.args.request) c.in-Done.verdict d d once (record { slots = refl; given = refl }, λ t r. refl);
     }
 
 pub run-requires-clause-opened : goal.run-requires-clause-opened
@@ -42,5 +44,6 @@ returns-in-Open g c =
       seat = e.seat;
       answered = subst (λ (way : Continuation). Called m.words.layout way v d.seat.view f.seat.view) (sym s.5) e.called;
       answer = subst (λ (r : Asked). IsAnswerTo r v) s.3 e.answer;
+      silent = e.silent;
       settled = settle-plain (asked c.args.request) v c.run.result.handle d f c.requires.waits.1 (subst (λ (r : Asked). Settles r v c.run.result.handle d f) s.3 e.settled);
     }

@@ -11,6 +11,7 @@ returns g c =
         released = e.released.1;
         all_given = e.all_given.none;
         seat = e.seat;
+        records = e.silent;
         no_pins = without-pins m.words m.config (g.P.Allows.may m.rights) f e.mine e.all_given.count;
       };
     }

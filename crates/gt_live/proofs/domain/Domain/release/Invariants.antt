@@ -1,4 +1,4 @@
-use Rattle.std.proofs.Common.{List}
+use Rattle.std.proofs.Common.{◌≡◌, ◌+◌, ℕ, List}
 use Rattle.gt_handles.specs.declared.handles.Handle.{Handle}
 use Rattle.gt_handles.specs.Handles.{count_of}
 use Rattle.gt_words.specs.Conditions.{IsSameSeat}
@@ -9,6 +9,7 @@ abbrev pub invariant-mappings : goal.invariant-mappings
 invariant-mappings g l = record {
   mine : IsOf g.P.Allows.may l.monitor l.self;
   seat : IsSameSeat l.fn.self.seat l.self.seat;
+  silent : l.self.trail ≡ l.fn.self.trail;
   released : (handles : List Handle) × Released l.monitor.words.layout handles l.fn.self.mappings l.fn.self.seat.view l.self.mappings l.self.seat.view;
 }
 

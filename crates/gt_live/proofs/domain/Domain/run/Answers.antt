@@ -1,20 +1,21 @@
-use Rattle.std.proofs.Common.{◌≡◌, ◌∙◌, ◌+◌, ◌<◌, ◌≤◌, sym, ap, subst, List, refl, Some, None, Option}
+use Rattle.std.proofs.Common.{◌≡◌, ◌∙◌, ◌+◌, ◌<◌, ◌≤◌, ℕ, sym, ap, subst, List, refl, Some, None, Option, arith}
 use Rattle.std.specs.Prelude.{◌^◌, OnSome}
 use Rattle.std.specs.Vec.{with_items}
 use Rattle.std.proofs.lemmas.List.{with_items_is}
+use Rattle.gt_words.specs.Views.{pins, steps_on}
 use Rattle.gt_handles.specs.declared.handles.Handle.{Handle}
-use Rattle.gt_handles.specs.Handles.{Kept, Updates, count_of, value_of}
+use Rattle.gt_handles.specs.Handles.{Kept, KeepsSpent, Updates, count_of, value_of}
 use Rattle.gt_handles.specs.Listing.{IsInserted, IsTaken}
 use Rattle.gt_calls.specs.declared.held.Held.{Held}
 use Rattle.gt_calls.specs.declared.known.Own.{Own}
 use Rattle.gt_calls.specs.declared.request.Asked.{Asked}
 use Rattle.gt_live.specs.declared.domain.Domain.{Domain}
 use Rattle.gt_live.specs.declared.driving.Effect.{Effect}
-use Rattle.gt_live.specs.declared.driving.Effect.TheVariants.{Nothing, Pinned, Unpinned}
-use Rattle.gt_live.specs.Domains.{KeepsPinned, Settles, knowledge}
+use Rattle.gt_live.specs.declared.driving.Effect.TheVariants.{Nothing, Pinned, Unpinned, Changed, Stored}
+use Rattle.gt_live.specs.Domains.{HasRoomFor, KeepsPinned, Settles, knowledge}
 use Rattle.gt_live.specs.Driving.{ChangesBy, IsSame, Leaves, MapsBy, UnpinsBy}
 use Rattle.gt_live.specs.Effects.{Answers}
-use Rattle.gt_live.specs.Mappings.{Adds, Removes}
+use Rattle.gt_live.specs.Mappings.{Adds, KeepsMappings, Removes}
 use Rattle.gt_live.specs.Rows.{row_changed}
 use Rattle.gt_live.proofs.Kept.{changed, looked, looked-seat, mapped, unmapped}
 use Rattle.gt_live.proofs.Knowing.{settle-changed, settle-looked, settle-mapped, settle-stored, settle-unmapped, room-of}
@@ -62,7 +63,7 @@ returns-in-Unpinned-clause-mine g c =
     let m = c.args.monitor.now in let d = c.args.self.now in let may = g.P.Allows.may m.rights in let k = m.words.layout in
     let f = c.drive-finished.new.self in let e = c.drive-finished.ensures in let h = c.in-Unpinned.handle in
     let left : UnpinsBy (knowledge m.config may d) k c.args.call.request h d.seat.view f.seat.view = subst (λ (x : Effect). Leaves (knowledge m.config may d) k d.seat.dom c.args.call.request d.seat.view f.seat.view x) c.in-Unpinned.is e.leaves in
-    let mid : Domain = record { seat = record d.seat { view = left.before }; own = d.own; mappings = d.mappings } in
+    let mid : Domain = record d { seat = record d.seat { view = left.before } } in
     let there = looked m.words m.config may d mid c.requires.mine (looked-seat m.words d.seat left.before c.requires.mine.seat left.same) refl refl refl left.same in
     unmapped m.words m.config may mid (record f { mappings = c.take.new.self }) h left.mapping there (still_seat m.words d.seat f.seat c.requires.mine.seat e.kept.seat) e.kept.seat.dom
     (ap (λ v. v.items) e.kept.own) (subst (λ (z : Kept Held). IsTaken z c.take.new.self h left.mapping) e.kept.mappings (taken-out f.mappings c.take.new.self h left.mapping c.take.result (ap (λ (z : Kept Held). value_of z h) e.kept.mappings ∙ left.found) c.take.ensures.value c.take.ensures.updates c.take.ensures.count c.take.ensures.given)) left.unpins
@@ -91,10 +92,7 @@ returns-in-Changed-clause-settled g c =
     let f = c.drive-finished.new.self in let e = c.drive-finished.ensures in let q = c.in-Changed.gref.0 in let ch = c.in-Changed.change in
     let left : ChangesBy (knowledge m.config may d) k c.args.call.request q ch d.seat.view f.seat.view = subst (λ (x : Effect). Leaves (knowledge m.config may d) k d.seat.dom c.args.call.request d.seat.view f.seat.view x) c.in-Changed.is e.leaves in
     let new : Domain = record f { own = with_items f.own c.change_row.new.own } in
-    let kept : KeepsPinned d new = record {
-      mappings = record { slots = ap (λ (z : Kept Held). z.slots) e.kept.mappings; given = ap (λ (z : Kept Held). z.given) e.kept.mappings };
-      pins = λ t r. left.changes.pins t r ∙ left.same.pins t r;
-    } in
+    let kept : KeepsPinned d new = (record { slots = ap (λ (z : Kept Held). z.slots) e.kept.mappings; given = ap (λ (z : Kept Held). z.given) e.kept.mappings }, λ t r. left.changes.pins t r ∙ left.same.pins t r) in
     settle-changed c.args.call.request c.drive-finished.result.verdict d new left.asked kept
 
 pub returns-in-Nothing-clause-mine : goal.returns-in-Nothing-clause-mine
@@ -111,7 +109,7 @@ returns-in-Nothing-clause-settled g c =
     let left : IsSame d.seat.view f.seat.view = subst (λ (x : Effect). Leaves (knowledge m.config may d) k d.seat.dom c.args.call.request d.seat.view f.seat.view x) c.in-Nothing.is e.leaves in
     let answers : Answers Nothing c.drive-finished.result.verdict = subst (λ (x : Effect). Answers x c.drive-finished.result.verdict) c.in-Nothing.is e.answers.0 in
     settle-looked c.args.call.request c.drive-finished.result.verdict d f answers e.answers.1
-    (record { mappings = record { slots = ap (λ (z : Kept Held). z.slots) e.kept.mappings; given = ap (λ (z : Kept Held). z.given) e.kept.mappings }; pins = left.pins })
+    (record { slots = ap (λ (z : Kept Held). z.slots) e.kept.mappings; given = ap (λ (z : Kept Held). z.given) e.kept.mappings }, left.pins)
 
 pub returns-in-Stored-clause-mine : goal.returns-in-Stored-clause-mine
 returns-in-Stored-clause-mine g c =
@@ -126,4 +124,4 @@ returns-in-Stored-clause-settled g c =
     let f = c.drive-finished.new.self in let e = c.drive-finished.ensures in
     let left = subst (λ (x : Effect). Leaves (knowledge m.config may d) k d.seat.dom c.args.call.request d.seat.view f.seat.view x) c.in-Stored.is e.leaves in
     settle-stored c.args.call.request c.drive-finished.result.verdict d f left.1
-    (record { mappings = record { slots = ap (λ (z : Kept Held). z.slots) e.kept.mappings; given = ap (λ (z : Kept Held). z.given) e.kept.mappings }; pins = left.0.pins })
+    (record { slots = ap (λ (z : Kept Held). z.slots) e.kept.mappings; given = ap (λ (z : Kept Held). z.given) e.kept.mappings }, left.0.pins)

@@ -1,0 +1,67 @@
+-- The lines that tell records.
+use Rattle.std.specs.Prelude.{ℕ, Bool, List, [], ◌++◌, ◌==◌, if◌then◌else◌, Some, None, codes, decimal, bit_and}
+use Rattle.gt_types.specs.declared.DomId.{DomId}
+use Rattle.gt_types.specs.declared.GrantRef.{GrantRef}
+use Rattle.gt_types.specs.declared.TypeId.{TypeId}
+use Rattle.gt_types.specs.Names.{resolved}
+use Rattle.gt_texts.specs.Printing.{denial_text, frames_text, size_text, version_text}
+use Rattle.gt_audit.specs.declared.record.CopyEnd.{CopyEnd}
+use Rattle.gt_audit.specs.declared.record.Hypercall.{Hypercall}
+use Rattle.gt_audit.specs.declared.record.Hypercall.TheVariants.{Map, Unmap, Copy, QuerySize, GetVersion, SetVersion, SetupTable}
+use Rattle.gt_audit.specs.declared.record.Reply.{Reply}
+use Rattle.gt_audit.specs.declared.record.Reply.TheVariants.{Done, Frames, Size, Version, Denied}
+use Rattle.gt_audit.specs.declared.record.Record.{Record}
+
+-- the domain that a call names, by its number: DOMID_SELF is the caller (grant_table.h)
+abbrev pub domain_text : DomId → DomId → List ℕ
+domain_text caller dom = decimal (resolved caller dom).0
+
+-- ` DOM REF` (own)
+abbrev pub entry_text : DomId → DomId → GrantRef → List ℕ
+entry_text caller dom gref = codes " " ++ domain_text caller dom ++ codes " " ++ decimal gref.0
+
+-- what an end of a copy is given by: a grant reference or a frame (own)
+abbrev pub kind_text : Bool → List ℕ
+kind_text is_reference = if is_reference then codes "gref" else codes "frame"
+
+-- ` KIND DOM PTR OFF` (own)
+abbrev pub end_text : DomId → Bool → CopyEnd → List ℕ
+end_text caller is_reference end =
+    codes " " ++ kind_text is_reference ++ codes " " ++ domain_text caller end.dom ++ codes " " ++ decimal end.ptr ++ codes " " ++ decimal end.off
+
+-- `copy`, its ends, source first, its length and its flags: bit 0 is the source's kind, bit 1 the destination's (GNTCOPY of grant_table.h)
+abbrev pub copy_text : DomId → CopyEnd → CopyEnd → ℕ → ℕ → List ℕ
+copy_text caller source dest len flags =
+    codes "copy" ++ end_text caller (bit_and flags 1 == 1) source ++ end_text caller (bit_and flags 2 == 2) dest
+    ++ codes " " ++ decimal len ++ codes " " ++ decimal flags
+
+-- what was asked (own)
+abbrev pub hypercall_text : DomId → Hypercall → List ℕ
+hypercall_text caller (Map dom gref flags) = codes "map" ++ entry_text caller dom gref ++ codes " " ++ decimal flags
+hypercall_text caller (Unmap None) = codes "unmap - -"
+hypercall_text caller (Unmap (Some subject)) = codes "unmap" ++ entry_text caller subject.0 subject.1
+hypercall_text caller (Copy source dest len flags) = copy_text caller source dest len flags
+hypercall_text caller (QuerySize dom) = codes "size" ++ codes " " ++ domain_text caller dom
+hypercall_text caller (GetVersion dom) = codes "getversion" ++ codes " " ++ domain_text caller dom
+hypercall_text caller (SetVersion version) = codes "version" ++ codes " " ++ decimal version
+hypercall_text caller (SetupTable frames) = codes "setup" ++ codes " " ++ decimal frames
+
+-- `audit ID CALL : ` (own)
+abbrev pub asked_text : DomId → Hypercall → List ℕ
+asked_text caller call = codes "audit " ++ decimal caller.0 ++ codes " " ++ hypercall_text caller call ++ codes " : "
+
+-- what was answered; `called` is what types are called (own)
+abbrev pub reply_text : (TypeId → List ℕ) → Reply → List ℕ
+reply_text called Done = codes "ok"
+reply_text called (Frames frames) = frames_text frames
+reply_text called (Size size) = size_text size
+reply_text called (Version version) = version_text version
+reply_text called (Denied d) = denial_text called d
+
+-- `audit ID CALL : ANSWER` (own)
+abbrev pub line_text : (TypeId → List ℕ) → Record → List ℕ
+line_text called r = asked_text r.dom r.call ++ reply_text called r.reply ++ codes "\n"
+
+-- `lost K`, where some record was lost (own)
+abbrev pub lost_text : ℕ → List ℕ
+lost_text lost = if lost == 0 then [] else codes "lost " ++ decimal lost ++ codes "\n"

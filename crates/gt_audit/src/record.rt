@@ -1,0 +1,69 @@
+//! What is recorded of a hypercall.
+use gt_types::{Denial, DomId, GrantRef, Size};
+
+/// One end of a copy as it was asked: a grant reference of the domain, or the number of a frame.
+#[derive(Clone, Copy, Debug, PartialEq, Eq)]
+pub struct CopyEnd {
+    pub ptr: u64,
+    pub dom: DomId,
+    pub off: u16,
+}
+
+/// What a domain asked. A domain named as [`DOMID_SELF`](gt_types::DOMID_SELF) is the caller.
+#[derive(Clone, Copy, Debug, PartialEq, Eq)]
+pub enum Hypercall {
+    /// The flags are GNTMAP bits of the public header `grant_table.h`.
+    Map {
+        dom: DomId,
+        gref: GrantRef,
+        flags: u32,
+    },
+    /// The domain and the reference whose entry was mapped; None where the handle names no mapping.
+    Unmap {
+        subject: Option<(DomId, GrantRef)>,
+    },
+    /// Bit 0 of the flags says that the source is a grant reference, bit 1 the same of the destination
+    /// (GNTCOPY of the public header).
+    Copy {
+        source: CopyEnd,
+        dest: CopyEnd,
+        len: u16,
+        flags: u16,
+    },
+    QuerySize {
+        dom: DomId,
+    },
+    GetVersion {
+        dom: DomId,
+    },
+    SetVersion {
+        version: u32,
+    },
+    SetupTable {
+        frames: u32,
+    },
+}
+
+/// What was answered, as far as a line tells it.
+#[derive(Clone, Copy, Debug, PartialEq, Eq)]
+pub enum Reply {
+    /// Ok without a value that a line tells; a map's handle is none.
+    Done,
+    /// The frames that a table has.
+    Frames(u32),
+    /// The size of a table.
+    Size(Size),
+    /// The version of a table.
+    Version(u32),
+    /// Refused.
+    Denied(Denial),
+}
+
+/// The record of one answered hypercall.
+#[derive(Clone, Copy, Debug, PartialEq, Eq)]
+pub struct Record {
+    /// The domain that called.
+    pub dom: DomId,
+    pub call: Hypercall,
+    pub reply: Reply,
+}

@@ -1,0 +1,82 @@
+//! Records that domains share while they run.
+use crate::record::Record;
+use boxcar::Vec;
+use gt_types::DomId;
+use std::alloc::{AllocError, Global};
+use std::sync::Wait;
+
+// A record as it stands in the log.
+#[derive(Drop)]
+struct Entry {
+    dom: DomId,
+    number: u64,
+    told: Record,
+}
+
+/// Records of domains, each with its number among its domain's. Threads push and read it side by side.
+#[derive(Drop)]
+pub struct SharedLog {
+    entries: Vec<Entry>,
+}
+
+/// What shows that a record stands in a log.
+#[derive(Drop)]
+pub struct Pushed {
+    token: boxcar::Pushed<Entry>,
+}
+
+impl SharedLog {
+    ghost use Rattle.std.specs.Prelude.{◌≡◌, IfOk, IfErr, IfSome};
+    ghost use Rattle.gt_audit.specs.Log.{IsIn, IsFor, record_of};
+    ghost use Rattle.gt_audit.specs.declared.shared.Pushed.{Pushed};
+
+    /// An empty log.
+    pub fn new(alloc: Global) -> Result<SharedLog, AllocError> {
+        Ok(SharedLog {
+            entries: Vec::new(alloc)?,
+        })
+    }
+
+    /// Adds a record of this domain under this number. Where memory is refused it comes back. It may wait
+    /// while another thread makes room.
+    pub fn push(
+        &self,
+        rt: &impl Wait,
+        dom: DomId,
+        number: u64,
+        told: Record,
+    ) -> Result<Pushed, Record>
+        ensures token { IfOk result (λ p. IsIn self.now p × IsFor p dom number told) }
+        ensures back { IfErr result (λ r. r ≡ told) }
+    {
+        match self.entries.push_shown(rt, Entry { dom, number, told }) {
+            Ok(token) => Ok(Pushed { token }),
+            Err(entry) => Err(entry.told),
+        }
+    }
+
+    /// The record that was pushed.
+    pub fn get(&self, pushed: &Pushed) -> &Record
+        requires { IsIn self.now pushed.now }
+        ensures { result.now ≡ record_of pushed.now }
+    {
+        &self.entries.value(&pushed.token).told
+    }
+
+    /// A record of this domain under this number, if one is there by now: it walks over all records, the
+    /// first pushed first.
+    pub fn find(&self, dom: DomId, number: u64) -> Option<&Record>
+        ensures { IfSome result (λ r. (p : Pushed) × IsIn self.now p × IsFor p dom number r.now) }
+    {
+        let entries = self.entries.iter();
+        'entries: for (index, _) in entries {
+            if let Some(token) = self.entries.witness(index) {
+                let entry = self.entries.value(&token);
+                if entry.dom == dom && entry.number == number {
+                    return Some(&entry.told);
+                }
+            }
+        }
+        None
+    }
+}

@@ -1,0 +1,78 @@
+//! What one domain told to a shared log.
+use crate::record::Record;
+use crate::shared::{Pushed, SharedLog};
+use gt_types::DomId;
+use std::alloc::{AllocError, Global};
+use std::marker::Model;
+use std::sync::Wait;
+
+/// What one domain told to a log: its records, each under its number, in order, and how many were lost.
+#[derive(Drop)]
+pub struct Told<'l> {
+    log: &'l SharedLog,
+    dom: DomId,
+    tokens: Vec<Pushed>,
+    lost: u64,
+}
+
+impl<'l> Model for Told<'l> {
+    ghost use Rattle.std.specs.Prelude.{map, All};
+    ghost use Rattle.gt_audit.specs.Log.{IsOf, numbered_of};
+    ghost use Rattle.gt_audit.specs.Telling.{Account};
+
+    ghost Value = { Account };
+
+    ghost view = { λ t. record { dom = t.dom; told = map numbered_of t.tokens.items; lost = t.lost } };
+
+    ghost invariant = { λ t. All (IsOf t.log.now t.dom) t.tokens.items };
+}
+
+impl<'l> Told<'l> {
+    ghost use Rattle.std.specs.Prelude.{◌≡◌, IfOk, map};
+    ghost use Rattle.gt_audit.specs.Telling.{nothing_told, TellsUnder};
+
+    /// Nothing was told yet.
+    pub fn new(alloc: Global, log: &'l SharedLog, dom: DomId) -> Self
+        ensures { result ≡ nothing_told dom }
+    {
+        Told {
+            log,
+            dom,
+            tokens: Vec::new(alloc),
+            lost: 0,
+        }
+    }
+
+    /// Tells a record under this number. Where memory is refused, here or by the log, it is lost; the count
+    /// of those stops at [`u64::MAX`].
+    pub fn tell(&mut self, rt: &impl Wait, number: u64, told: Record)
+        ensures { TellsUnder self.old number told self.new }
+    {
+        if self.tokens.reserve(1).is_err() {
+            self.lost = self.lost.saturating_add(1);
+            return;
+        }
+        match self.log.push(rt, self.dom, number, told) {
+            Ok(token) => self.tokens.push_reserved(token),
+            Err(_) => self.lost = self.lost.saturating_add(1),
+        }
+    }
+
+    /// How many were lost.
+    pub fn lost(&self) -> u64
+        ensures { result ≡ self.now.lost }
+    {
+        self.lost
+    }
+
+    /// The records told, as the log has them, in order.
+    pub fn records(&self, alloc: Global) -> Result<Vec<Record>, AllocError>
+        ensures { IfOk result (λ v. v.items ≡ map (λ e. e.1) self.now.told) }
+    {
+        let mut records = Vec::new(alloc);
+        'tokens: for token in &self.tokens {
+            records.push(*self.log.get(token))?;
+        }
+        Ok(records)
+    }
+}
