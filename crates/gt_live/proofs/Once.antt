@@ -1,0 +1,123 @@
+-- How calls are answered at their beginning.
+use Rattle.std.proofs.Common.{◌≡◌, ℕ, Bool, true, false, cond, subst, List, [], ◌∷◌, Option, Some, None, nat_le, nat_lt, not, ◌==◌}
+use Rattle.std.specs.Prelude.{is_none, ◌||◌}
+use Rattle.gt_types.specs.declared.DomId.{DomId}
+use Rattle.gt_types.specs.declared.GrantRef.{GrantRef}
+use Rattle.gt_types.specs.declared.TypeId.{TypeId}
+use Rattle.gt_types.specs.declared.rights.Triple.{Triple}
+use Rattle.gt_types.specs.declared.perms.Perms.{Perms}
+use Rattle.gt_types.specs.declared.denial.Rule.{Rule}
+use Rattle.gt_types.specs.declared.denial.Rule.TheVariants.{N1, N2, N5, N6, N8, N9, N10, N20, N21, N22, N23, N24}
+use Rattle.gt_types.specs.declared.denial.Facts.TheVariants.{Policy}
+use Rattle.gt_types.specs.declared.limits.TheConstants.{LAST_GENERATION, MAX_MAPPINGS, MAX_TABLE_FRAMES}
+use Rattle.gt_types.specs.Denial.{denial_of}
+use Rattle.gt_types.specs.Names.{domain_of, resolved}
+use Rattle.gt_entry.specs.declared.change.Change.{Change}
+use Rattle.gt_entry.specs.declared.change.Change.TheVariants.{Demote as ToReadOnly, Promote as ToWritable}
+use Rattle.gt_entry.specs.Words.{size_of}
+use Rattle.gt_calls.specs.declared.action.Value.TheVariants.{Frames}
+use Rattle.gt_calls.specs.declared.action.Verdict.{Verdict}
+use Rattle.gt_calls.specs.declared.action.Verdict.TheVariants.{Granted, Refused}
+use Rattle.gt_calls.specs.declared.held.Held.{Held}
+use Rattle.gt_calls.specs.declared.request.Asked.{Asked}
+use Rattle.gt_calls.specs.declared.request.Asked.TheVariants as asks
+use Rattle.gt_calls.specs.declared.request.Request.{Request}
+use Rattle.gt_calls.specs.declared.request.Request.TheVariants as requests
+use Rattle.gt_calls.specs.Asking.{asked, begun_of, field_refused}
+use Rattle.gt_entry.specs.Bytes.{first_refused}
+use Rattle.gt_types.specs.declared.denial.Field.{Field}
+use Rattle.gt_calls.specs.Rules.{CallerKnowledge, cannot_stand, change_begun, query_begun, denied, first, given_when, granted_when, has_valid, is_already, is_invalid, is_version, map_dir, refused_when, rights_to_map, rights_to_query, rights_to_setup, rights_to_unmap, unmap_denied}
+use Rattle.gt_live.specs.Ending.{IsAtOnce, WaitsForNobody}
+
+module _ (r : Asked) where
+  -- not answered, or answered as this request may be at once
+  abbrev pub MayBe : Option Verdict → Type 0
+  MayBe None = Unit {0}
+  MayBe (Some verdict) = IsAtOnce r verdict
+
+  first-may : (o : Option Verdict) (xs : List (Option Verdict)) → MayBe o → MayBe (first xs) → MayBe (first (o ∷ xs))
+  first-may None xs a b = b
+  first-may (Some verdict) xs a b = a
+
+  refused-may : (b : Bool) (n : Rule) → MayBe (refused_when b n)
+  refused-may true n = tt
+  refused-may false n = tt
+
+  denied-may : (may : TypeId → TypeId → Perms → Bool) (ts : List Triple) → MayBe (denied may ts)
+  denied-may may [] = tt
+  denied-may may (t ∷ ts) = by (denied may ts) (denied-may may ts) (may t.source t.target t.perm)
+    where
+      by : (rest : Option Verdict) → MayBe rest → (b : Bool) → MayBe (cond b rest (Some (Refused (denial_of N5 (Policy t.source t.target t.perm)))))
+      by rest h true = h
+      by rest h false = tt
+
+  -- each of a list may be so
+  abbrev pub EachMay : List (Option Verdict) → Type 0
+  EachMay [] = Unit {0}
+  EachMay (o ∷ xs) = MayBe o × EachMay xs
+
+  first-of : (xs : List (Option Verdict)) → EachMay xs → MayBe (first xs)
+  first-of [] all = tt
+  first-of (o ∷ xs) all = first-may o xs all.0 (first-of xs all.1)
+
+module _ (k : CallerKnowledge) (caller : DomId) where
+  granted-may : (r : Asked) → IsAtOnce r Granted → (b : Bool) → MayBe r (granted_when b)
+  granted-may r ok true = ok
+  granted-may r ok false = tt
+
+  given-may : (frames n : ℕ) (b : Bool) → MayBe (asks.SetupTable frames) (given_when b (Frames n))
+  given-may frames n true = tt
+  given-may frames n false = tt
+
+  once-turn : (r : Asked) (change : Change) (q : GrantRef) → IsAtOnce r Granted → MayBe r (change_begun change k.header (k.entry q.0) (k.generation q.0) q.0)
+  once-turn r change q ok =
+      let a = nat_le (size_of k.header) q.0 in let b = is_invalid (k.entry q.0) in let d = is_already change (k.entry q.0) in let f = k.generation q.0 == LAST_GENERATION in
+      first-of r (refused_when a N9 ∷ refused_when b N10 ∷ granted_when d ∷ refused_when f N22 ∷ []) (refused-may r a N9, (refused-may r b N10, (granted-may r ok d, (refused-may r f N22, tt))))
+
+  once-query : (r : Asked) (dom : DomId) → MayBe r (query_begun k caller dom)
+  once-query r dom =
+      let a = is_none (domain_of k.domains (resolved caller dom)) in let ts = rights_to_query k caller (resolved caller dom) in
+      first-of r (refused_when a N1 ∷ denied k.may ts ∷ []) (refused-may r a N1, (denied-may r k.may ts, tt))
+
+  once-unmap : (r : Asked) (o : Option Held) → MayBe r (unmap_denied k caller o)
+  once-unmap r None = tt
+  once-unmap r (Some m) = denied-may r k.may (rights_to_unmap k caller m.dom)
+
+  once-field : (r : Asked) (o : Option Field) → MayBe r (field_refused o)
+  once-field r None = tt
+  once-field r (Some f) = tt
+
+  once : (request : Request) → WaitsForNobody (asked request) → MayBe (asked request) (begun_of k caller request)
+  once (requests.Grant gref entry) w =
+      let r = asks.Grant gref entry in
+      let a = nat_le (size_of k.header) gref.0 in let b = not (is_invalid (k.entry gref.0)) in let d = cannot_stand entry k.header.version in let f = k.generation gref.0 == LAST_GENERATION in
+      first-of r (refused_when a N9 ∷ refused_when b N20 ∷ refused_when d N21 ∷ refused_when f N22 ∷ []) (refused-may r a N9, (refused-may r b N20, (refused-may r d N21, (refused-may r f N22, tt))))
+  once (requests.GrantBytes gref bytes) w =
+      let r = asked (requests.GrantBytes gref bytes) in
+      let a = nat_le (size_of k.header) gref.0 in let b = not (is_invalid (k.entry gref.0)) in let f = k.generation gref.0 == LAST_GENERATION in let o = first_refused k.header.version bytes.now in
+      first-of r (refused_when a N9 ∷ refused_when b N20 ∷ refused_when f N22 ∷ field_refused o ∷ []) (refused-may r a N9, (refused-may r b N20, (refused-may r f N22, (once-field r o, tt))))
+  once (requests.Revoke gref) w =
+      let r = asks.Revoke gref in let a = nat_le (size_of k.header) gref.0 in let b = is_invalid (k.entry gref.0) in
+      first-of r (refused_when a N9 ∷ refused_when b N10 ∷ []) (refused-may r a N9, (refused-may r b N10, tt))
+  once (requests.Demote gref) w = once-turn (asks.Demote gref) ToReadOnly gref tt
+  once (requests.Promote gref) w = once-turn (asks.Promote gref) ToWritable gref tt
+  once (requests.Map dom gref flags) w =
+      let r = asks.Map dom gref flags in let ts = rights_to_map k caller (resolved caller dom) (map_dir flags) in
+      let a = is_none (domain_of k.domains (resolved caller dom)) in let b = not ((flags == 2) || (flags == 6)) in let f = nat_le MAX_MAPPINGS k.in_use || nat_le 18446744073709551615 k.maps_answered in
+      first-of r (refused_when a N1 ∷ refused_when b N2 ∷ denied k.may ts ∷ refused_when f N8 ∷ []) (refused-may r a N1, (refused-may r b N2, (denied-may r k.may ts, (refused-may r f N8, tt))))
+  once (requests.Unmap handle) w =
+      let r = asks.Unmap handle in let a = is_none (k.mapping handle) in let o = unmap_denied k caller (k.mapping handle) in
+      first-of r (refused_when a N6 ∷ o ∷ []) (refused-may r a N6, (once-unmap r (k.mapping handle), tt))
+  once (requests.SetVersion version) w =
+      let r = asks.SetVersion version in let a = not (is_version version) in let b = version == k.header.version in let f = has_valid k.entry (size_of k.header) in
+      first-of r (refused_when a N2 ∷ granted_when b ∷ refused_when f N24 ∷ []) (refused-may r a N2, (granted-may r tt b, (refused-may r f N24, tt)))
+  once (requests.SetupTable frames) w =
+      let r = asks.SetupTable frames in let ts = rights_to_setup k caller in let b = nat_le frames k.header.frames in let f = nat_lt MAX_TABLE_FRAMES frames in
+      first-of r (denied k.may ts ∷ given_when b (Frames k.header.frames) ∷ refused_when f N23 ∷ []) (denied-may r k.may ts, (given-may frames k.header.frames b, (refused-may r f N23, tt)))
+  once (requests.QuerySize dom) w = once-query (asks.QuerySize dom) dom
+  once (requests.GetVersion dom) w = once-query (asks.GetVersion dom) dom
+  once _ w = absurd w
+
+  -- an answer at the beginning is one that may be at once
+  pub answered-once : (request : Request) (verdict : Verdict) → WaitsForNobody (asked request) → begun_of k caller request ≡ Some verdict → IsAtOnce (asked request) verdict
+  answered-once request verdict w e = subst (λ (o : Option Verdict). MayBe (asked request) o) e (once request w)

@@ -1,0 +1,17 @@
+use Rattle.gt_live.proofs.Kept.{without-pins}
+use Rattle.gt_live.proofs.domain.Domain.finish.Goals as goal
+
+pub returns : goal.returns
+returns g c =
+    let m = c.args.monitor.now in let e = c.release.ensures in let f = c.release.new.self in
+    record {
+      left = record {
+        handles = e.released.0;
+        rest = f.mappings;
+        released = e.released.1;
+        all_given = e.all_given.none;
+        seat = e.seat;
+        records = e.silent;
+        no_pins = without-pins m.words m.config (g.P.Allows.may m.rights) f e.mine e.all_given.count;
+      };
+    }

@@ -1,0 +1,26 @@
+use Rattle.std.proofs.Common.{◌≡◌, ◌∙◌, ◌+◌, ◌<◌, ℕ, sym, ap, subst, refl, [], ◌∷◌, Some, None, arith}
+use Rattle.gt_live.specs.declared.domain.Domain.{Domain}
+use Rattle.gt_live.proofs.Kept.{some-pins, unmapped}
+use Rattle.gt_live.proofs.Making.{same_seat-self, same_seat-then, still_seat}
+use Rattle.gt_live.proofs.domain.Domain.release.Goals as goal
+
+pub mappings-init : goal.mappings-init
+mappings-init g c = record { mine = c.requires.mine; seat = same_seat-self c.args.self.now.seat; silent = refl; released = ([], (refl, refl)) }
+
+pub unpin-requires-clause-entry : goal.unpin-requires-clause-entry
+unpin-requires-clause-entry g c = let pin = (c.mappings.invariant.mine.mapped c.in-Some.field-0-0 c.in-Some.held c.in-Some.ensures.value).pin in (pin.run, pin.inside)
+
+pub unpin-requires-clause-held : goal.unpin-requires-clause-held
+unpin-requires-clause-held g c =
+    let inv = c.mappings.invariant in some-pins c.args.monitor.now.words.layout c.mappings.self.seat.view c.mappings.self.mappings inv.mine.pins c.in-Some.field-0-0 c.in-Some.held c.in-Some.ensures.value
+
+pub mappings-preserved : goal.mappings-preserved
+mappings-preserved g c =
+    let m = c.args.monitor.now in let may = g.P.Allows.may m.rights in let inv = c.mappings.invariant in let d = c.mappings.self in let x = c.in-Some.held in let h = c.in-Some.field-0-0 in let e = c.in-Some.ensures in
+    let new : Domain = record d { seat = c.unpin.new.seat; mappings = c.pop.new.self } in
+    record {
+      mine = unmapped m.words m.config may d new h x inv.mine (still_seat m.words d.seat c.unpin.new.seat inv.mine.seat c.unpin.ensures.seat) c.unpin.ensures.seat.dom refl (record { value = e.value; updates = e.updates; count = e.count; given = e.given }) c.unpin.ensures.step;
+      seat = same_seat-then c.args.self.now.seat d.seat c.unpin.new.seat inv.seat c.unpin.ensures.seat;
+      silent = inv.silent;
+      released = (h ∷ inv.released.0, (x, d.mappings, d.seat.view, inv.released.1, record { taken = record { value = e.value; updates = e.updates; count = e.count; given = e.given }; spent = e.still_spent }, c.unpin.ensures.step));
+    }

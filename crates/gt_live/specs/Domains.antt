@@ -1,0 +1,201 @@
+-- What a domain keeps, how that agrees with what its seat did, and how its calls are answered.
+use Rattle.std.specs.Prelude.{◌≡◌, ◌⊎◌, ℕ, ◌<◌, ◌≤◌, Bool, length, List, [], ◌∷◌, Option, Some, None, Result, Ok, Err}
+use Rattle.gt_types.specs.declared.DomId.{DomId}
+use Rattle.gt_types.specs.declared.TypeId.{TypeId}
+use Rattle.gt_types.specs.declared.GrantRef.{GrantRef}
+use Rattle.gt_types.specs.declared.Size.{Size}
+use Rattle.gt_audit.specs.declared.record.Hypercall.{Hypercall}
+use Rattle.gt_audit.specs.declared.record.Record.{Record}
+use Rattle.gt_audit.specs.declared.record.Reply.{Reply}
+use Rattle.gt_audit.specs.declared.record.Reply.TheVariants as replies
+use Rattle.gt_types.specs.declared.perms.Perms.{Perms}
+use Rattle.gt_types.specs.declared.config.Config.{Config}
+use Rattle.gt_types.specs.declared.denial.Denial.{Denial}
+use Rattle.gt_types.specs.declared.denial.Rule.TheVariants.{N26}
+use Rattle.gt_types.specs.declared.denial.Facts.TheVariants.{None as NoFacts}
+use Rattle.gt_types.specs.declared.limits.TheConstants.{TABLE_ENTRIES}
+use Rattle.gt_types.specs.Denial.{denial_of}
+use Rattle.gt_words.specs.Conditions.{Board, IsSameSeat, IsSeatOf, KeepsPins, Unpins}
+use Rattle.gt_words.specs.Controls.{generation_of}
+use Rattle.gt_words.specs.Rule.{Layout, position_in}
+use Rattle.gt_words.specs.Views.{last_of, own_table, pins, steps_on}
+use Rattle.gt_words.specs.declared.view.View.{View}
+use Rattle.gt_handles.specs.Handles.{Kept, value_of}
+use Rattle.gt_handles.specs.declared.handles.Handle.{Handle}
+use Rattle.gt_calls.specs.declared.action.Verdict.{Verdict}
+use Rattle.gt_calls.specs.declared.action.Verdict.TheVariants.{Granted, Given, Mapped, Refused}
+use Rattle.gt_calls.specs.declared.action.Value.TheVariants.{Frames, Size as SizeTold, Version}
+use Rattle.gt_calls.specs.declared.held.Held.{Held}
+use Rattle.gt_calls.specs.declared.request.Request.{Request}
+use Rattle.gt_calls.specs.Asking.{begun_of}
+use Rattle.gt_calls.specs.Path.{path, path_of}
+use Rattle.gt_calls.specs.Standing.{IsFresh}
+use Rattle.gt_calls.specs.Following.{MakesStep}
+use Rattle.gt_calls.specs.declared.call.Call.{Call}
+use Rattle.gt_calls.specs.declared.request.Asked.{Asked}
+use Rattle.gt_calls.specs.declared.request.Asked.TheVariants as asks
+use Rattle.gt_calls.specs.Rules.{CallerKnowledge, knowledge_of, entry_in, generation_in}
+use Rattle.gt_live.specs.declared.domain.Domain.{Domain}
+use Rattle.gt_live.specs.declared.domain.Left.{Left}
+use Rattle.gt_live.specs.declared.monitor.Monitor.{Monitor}
+use Rattle.gt_live.specs.Mappings.{Adds, IsMappingOf, KeepsMappings, PinsAreOf, Removes}
+use Rattle.gt_live.specs.Walks.{Called}
+
+-- whose type may do what to whose (XSM FLASK)
+abbrev pub Rights : Type 0
+Rights = TypeId → TypeId → Perms → Bool
+
+-- what a domain knows by itself (own)
+abbrev pub knowledge : Config → Rights → Domain → CallerKnowledge
+knowledge c may d = knowledge_of c.domains.items c.first_gen may d.own.items (own_table d.seat.view) d.mappings
+
+-- the domain is of the run of these words and knows its own entries, and its seat has just the pins of its mappings (own)
+pub record IsDomainOf (b : Board) (c : Config) (may : Rights) (d : Domain) : Type 0 where
+  pub seat : IsSeatOf b d.seat
+  pub rows : (r : ℕ) → r < TABLE_ENTRIES → last_of r d.seat.view ≡ record { generation = generation_in c.first_gen d.own.items r; entry = entry_in d.own.items r }
+  pub generations : (r : ℕ) → r < TABLE_ENTRIES → generation_in c.first_gen d.own.items r < 1048576
+  pub all_rows : length d.own.items ≡ TABLE_ENTRIES
+  pub mapped : (h : Handle) (m : Held) → value_of d.mappings h ≡ Some m → IsMappingOf b.layout c.domains.items may d.seat.dom d.seat.view m
+  pub pins : PinsAreOf b.layout d.seat.view d.mappings
+
+-- the domain came with this monitor (own)
+abbrev pub IsOf : {P : Type 0} → (P → Rights) → Monitor P → Domain → Type 0
+IsOf may m d = IsDomainOf m.words m.config (may m.rights) d
+
+-- what the domain knows by itself, and what the monitor allows (own)
+abbrev pub known : {P : Type 0} → (P → Rights) → Monitor P → Domain → CallerKnowledge
+known may m d = knowledge m.config (may m.rights) d
+
+-- a call of the domain d asked this and was answered so, after which the domain is e: its steps are those of the call's path, each as the words tell it, and the answer is the path's (own)
+abbrev pub Answered : {P : Type 0} → (P → Rights) → Monitor P → Domain → Request → Verdict → Domain → Type 0
+Answered may m d request verdict e = Called m.words.layout (path_of (known may m d) d.seat.dom request) verdict d.seat.view e.seat.view
+
+-- the domain has the mappings and pins that it had (own)
+abbrev pub KeepsPinned : Domain → Domain → Type 0
+KeepsPinned d e = KeepsMappings d.mappings e.mappings × KeepsPins d.seat.view e.seat.view
+
+-- the answer that a verdict gives to a call without a value (own)
+abbrev pub verdict_of : Result (Unit {0}) Denial → Verdict
+verdict_of (Ok done) = Granted
+verdict_of (Err denial) = Refused denial
+
+-- the same of a call that tells a version (grant_table.h)
+abbrev pub verdict_of_version : Result ℕ Denial → Verdict
+verdict_of_version (Ok version) = Given (Version version)
+verdict_of_version (Err denial) = Refused denial
+
+-- of a call that tells a table's size (grant_table.h)
+abbrev pub verdict_of_size : Result Size Denial → Verdict
+verdict_of_size (Ok size) = Given (SizeTold size)
+verdict_of_size (Err denial) = Refused denial
+
+-- and of one that tells how many frames a table then has (grant_table.h)
+abbrev pub verdict_of_frames : Result ℕ Denial → Verdict
+verdict_of_frames (Ok frames) = Given (Frames frames)
+verdict_of_frames (Err denial) = Refused denial
+
+-- A map is answered so: by its path, which ends with the mapping that is kept under the handle answered; or, where no rule stood at its beginning and no memory was there, by N26 after no step (own)
+abbrev pub MapAnswered : {P : Type 0} → (P → Rights) → Monitor P → Domain → Request → Result Handle Denial → Domain → Type 0
+MapAnswered may m d request (Ok handle) e = (p : Held) × Answered may m d request (Mapped p) e × Adds d.mappings e.mappings handle p
+MapAnswered may m d request (Err denial) e =
+    (Answered may m d request (Refused denial) e
+    ⊎ ((denial ≡ denial_of N26 NoFacts) × (begun_of (known may m d) d.seat.dom request ≡ None) × (e.seat.view ≡ d.seat.view)))
+    × KeepsPinned d e
+
+-- a call is open, has made no step, and begins with one (own)
+pub record IsOpened (c : CallerKnowledge) (caller : DomId) (call : Call) : Type 0 where
+  pub of_caller : call.caller ≡ caller
+  pub fresh : IsFresh c call
+  pub steps : MakesStep (path c caller call.request [])
+
+-- the seat has gone on, and nothing else has changed yet (own)
+pub record IsUnsettled (d e : Domain) : Type 0 where
+  pub seat : IsSameSeat d.seat e.seat
+  pub own : e.own ≡ d.own
+  pub mappings : e.mappings ≡ d.mappings
+  pub trail : e.trail ≡ d.trail
+
+-- there is room for the mapping that a map makes (own)
+abbrev pub HasRoomFor : Asked → Kept Held → Type 0
+HasRoomFor (asks.Map dom gref flags) kept = 1 ≤ kept.room
+HasRoomFor request kept = Unit {0}
+
+-- what a call that was answered so made of the mappings: a map added one, an unmap took its own, and all else left mappings and pins as they were (own)
+abbrev pub Settles : Asked → Verdict → Option Handle → Domain → Domain → Type 0
+Settles (asks.Map dom gref flags) (Mapped p) (Some handle) d e = Adds d.mappings e.mappings handle p
+Settles (asks.Map dom gref flags) (Mapped p) None d e = ⊥
+Settles (asks.Unmap handle) Granted other d e = (p : Held) × Removes d.mappings e.mappings handle p
+Settles request verdict handle d e = KeepsPinned d e
+
+-- Ok, or the refusal (own)
+abbrev pub done_by : Verdict → Result (Unit {0}) Denial
+done_by (Refused denial) = Err denial
+done_by verdict = Ok tt
+
+-- the version that is told, 0 where none is (own)
+abbrev pub version_told : Verdict → Result ℕ Denial
+version_told (Refused denial) = Err denial
+version_told (Given (Version version)) = Ok version
+version_told verdict = Ok 0
+
+-- the size that is told, none where none is (own)
+abbrev pub size_told : Verdict → Result Size Denial
+size_told (Refused denial) = Err denial
+size_told (Given (SizeTold size)) = Ok size
+size_told verdict = Ok (record { frames = 0; max = 0 })
+
+-- the number of frames that is told, 0 where none is (own)
+abbrev pub frames_told : Verdict → Result ℕ Denial
+frames_told (Refused denial) = Err denial
+frames_told (Given (Frames frames)) = Ok frames
+frames_told verdict = Ok 0
+
+-- the pins of the mappings under these handles were given back, one after another, the last handle first, and nothing else was done (own)
+abbrev pub Released : Layout → List Handle → Kept Held → View → Kept Held → View → Type 0
+Released k [] old v new w = (new ≡ old) × (w ≡ v)
+Released k (h ∷ hs) old v new w =
+    (m : Held) × (mid : Kept Held) × (u : View) × Released k hs old v mid u × Removes mid new h m
+    × Unpins k (position_in k.ids m.dom) m.gref.0 m.dir (generation_of m.word) u w
+
+-- A domain has left: the pin of each of its mappings was given back, one after another and nothing else, and its seat has none (own)
+pub record HasLeft (k : Layout) (d : Domain) (l : Left) : Type 0 where
+  pub handles : List Handle
+  pub rest : Kept Held
+  pub released : Released k handles d.mappings d.seat.view rest l.seat.view
+  pub all_given : (h : Handle) → value_of rest h ≡ None
+  pub seat : IsSameSeat d.seat l.seat
+  pub records : l.trail ≡ d.trail
+  pub no_pins : (t r : ℕ) → pins (steps_on t r l.seat.view) ≡ []
+
+-- the handle that a map is answered with, or its refusal (own)
+abbrev pub mapped_by : Verdict → Option Handle → Result Handle Denial
+mapped_by (Refused denial) handle = Err denial
+mapped_by verdict (Some handle) = Ok handle
+mapped_by verdict None = Err (denial_of N26 NoFacts)
+
+-- what a record tells of an answer (own)
+abbrev pub reply_of : Verdict → Reply
+reply_of Granted = replies.Done
+reply_of (Mapped p) = replies.Done
+reply_of (Given (Frames frames)) = replies.Frames frames
+reply_of (Given (SizeTold size)) = replies.Size size
+reply_of (Given (Version version)) = replies.Version version
+reply_of (Refused denial) = replies.Denied denial
+
+-- what a record tells of a map's answer (own)
+abbrev pub mapping_reply : Result Handle Denial → Reply
+mapping_reply (Ok handle) = replies.Done
+mapping_reply (Err denial) = replies.Denied denial
+
+-- the record of a call of this domain, which was answered so (own)
+abbrev pub told_of : Domain → Hypercall → Verdict → Record
+told_of d call verdict = record { dom = d.seat.dom; call = call; reply = reply_of verdict }
+
+-- the entry that a pin is of (own)
+abbrev pub subject_in : Option Held → Option (DomId × GrantRef)
+subject_in None = None
+subject_in (Some p) = Some (p.dom, p.gref)
+
+-- the entry that the mapping under this handle is of, if it has one (own)
+abbrev pub subject_of : Domain → Handle → Option (DomId × GrantRef)
+subject_of d handle = subject_in (value_of d.mappings handle)

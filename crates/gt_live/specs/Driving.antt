@@ -1,0 +1,128 @@
+-- What a call needs of its seat where it stands, and how it leaves it: the code's own representation, which stands here since contracts cite it.
+use Rattle.std.specs.Prelude.{◌≡◌, ℕ, ◌+◌, ◌^◌, ◌<◌, List, [], length, Some, None}
+use Rattle.gt_types.specs.declared.DomId.{DomId}
+use Rattle.gt_types.specs.declared.config.DomainConfig.{DomainConfig}
+use Rattle.gt_types.specs.declared.limits.TheConstants.{TABLE_ENTRIES}
+use Rattle.gt_types.specs.Names.{domain_of}
+use Rattle.gt_entry.specs.declared.entry.Entry.TheVariants.{Invalid}
+use Rattle.gt_words.specs.declared.view.View.{View}
+use Rattle.gt_words.specs.Controls.{generation_of}
+use Rattle.gt_words.specs.Conditions.{CanChange, CanPin, Changes, HasDomain, Holds, KeepsPins, Pins, SeesNoEarlier, Unpins}
+use Rattle.gt_words.specs.Rule.{IsKeptHeader, Layout, id_at, position_in}
+use Rattle.gt_words.specs.Views.{last_seen, record_seen, last_of}
+use Rattle.gt_words.specs.declared.view.SeatStep.{SeatStep}
+use Rattle.gt_calls.specs.declared.action.Action.{Action}
+use Rattle.gt_calls.specs.declared.action.Action.TheVariants.{Step as Makes, Done}
+use Rattle.gt_entry.specs.declared.change.Change.{Change}
+use Rattle.gt_calls.specs.declared.action.Step.{Step}
+use Rattle.gt_calls.specs.declared.action.Step.TheVariants.{LookHeader, LookControl, LookBody, Pin, Unpin, StoreBody, StoreHeader, Exchange}
+use Rattle.gt_calls.specs.declared.request.Asked.{Asked}
+use Rattle.gt_calls.specs.declared.request.Asked.TheVariants as asks
+use Rattle.gt_calls.specs.declared.call.Call.{Call}
+use Rattle.gt_calls.specs.declared.held.Held.{Held}
+use Rattle.gt_calls.specs.declared.request.Holder.TheVariants.{Mapping as ByHandle}
+use Rattle.gt_handles.specs.declared.handles.Handle.{Handle}
+use Rattle.gt_calls.specs.Changes.{raise_of}
+use Rattle.gt_calls.specs.Following.{GoesOn}
+use Rattle.gt_calls.specs.Path.{path}
+use Rattle.gt_calls.specs.Resting.{Rests}
+use Rattle.gt_calls.specs.Rules.{CallerKnowledge, begun}
+use Rattle.gt_calls.specs.Standing.{IsAt, held_by_call, pins_by_call}
+use Rattle.gt_live.specs.declared.driving.Effect.{Effect}
+use Rattle.gt_live.specs.declared.driving.Effect.TheVariants.{Nothing, Pinned, Unpinned, Changed, Stored}
+use Rattle.gt_live.specs.Walks.{IsWalk, TellsSteps, after, shown}
+use Rattle.gt_live.specs.Effects.{Answers}
+use Rattle.gt_live.specs.Ending.{IsHeaderChange, IsMap, IsOwnChange}
+use Rattle.gt_live.specs.Mappings.{HasPin, IsMappingOf, record_of}
+
+-- the seat may make this step of a call (own)
+abbrev pub CanMake : Layout → View → Step → Type 0
+CanMake k v (LookHeader d) = HasDomain k d
+CanMake k v (LookControl d q) = HasDomain k d × (q.0 < TABLE_ENTRIES)
+CanMake k v (LookBody d q half) = HasDomain k d × (q.0 < TABLE_ENTRIES)
+CanMake k v (Pin p) = HasDomain k p.dom × (p.gref.0 < TABLE_ENTRIES) × CanPin k (position_in k.ids p.dom) p.gref.0 p.dir p.word v
+CanMake k v (Unpin p (ByHandle handle)) =
+    HasDomain k p.dom × (p.gref.0 < TABLE_ENTRIES) × Holds (position_in k.ids p.dom) p.gref.0 p.dir (generation_of p.word) v
+CanMake k v (StoreBody q half n) = (q.0 < TABLE_ENTRIES) × ((last_of q.0 v).entry ≡ Invalid)
+CanMake k v (StoreHeader version frames) = IsKeptHeader (record { version = version; frames = frames })
+CanMake k v (Exchange q looked change) = (q.0 < TABLE_ENTRIES) × CanChange change q.0 looked v
+CanMake k v step = ⊥
+
+-- the seat has the pins and records that it had (own)
+pub record IsSame (v w : View) : Type 0 where
+  pub pins : KeepsPins v w
+  pub records : (r : ℕ) → last_of r w ≡ last_of r v
+  pub seen : SeesNoEarlier v w
+  pub position : w.position ≡ v.position
+  pub ids : w.ids ≡ v.ids
+
+-- a caller knows its own entries, header and pins (own)
+pub record Knows (c : CallerKnowledge) (k : Layout) (caller : DomId) (v : View) : Type 0 where
+  pub named : id_at k.ids v.position ≡ caller
+  pub inside : v.position < length k.ids
+  pub stands : v.position ≡ position_in k.ids caller
+  pub run : (d : DomId) (x : DomainConfig) → domain_of c.domains d ≡ Some x → HasDomain k d
+  pub header : IsKeptHeader c.header
+  pub rows : (r : ℕ) → r < TABLE_ENTRIES → last_of r v ≡ record { generation = c.generation r; entry = c.entry r }
+  pub generations : (r : ℕ) → r < TABLE_ENTRIES → c.generation r < 1048576
+  pub mapped : (h : Handle) (m : Held) → c.mapping h ≡ Some m → HasPin k v m
+
+-- a map took this pin, after looks alone: of the entry and in the direction that it was asked, which its caller may (own)
+pub record MapsBy (c : CallerKnowledge) (k : Layout) (caller : DomId) (request : Asked) (p : Held) (v w : View) : Type 0 where
+  pub asked : IsMap request
+  pub before : View
+  pub same : IsSame v before
+  pub pins : Pins k (position_in k.ids p.dom) p.gref.0 p.dir p.word before w
+  pub entry_is : record_seen (last_seen (position_in k.ids p.dom) p.gref.0 before) ≡ record_of p
+  pub mapping : IsMappingOf k c.domains c.may caller w p
+  pub serial : c.maps_answered + 1 < 2 ^ 64
+
+-- the owner's change of its entry q was made, after looks alone (own)
+pub record ChangesBy (c : CallerKnowledge) (k : Layout) (request : Asked) (q : ℕ) (change : Change) (v w : View) : Type 0 where
+  pub asked : IsOwnChange request
+  pub before : View
+  pub same : IsSame v before
+  pub inside : q < TABLE_ENTRIES
+  pub word : ℕ
+  pub changes : Changes k q change word before w
+  pub fresh : c.generation q + raise_of change < 1048576
+
+-- the pin of the mapping under this handle was given back, as it was asked (own)
+pub record UnpinsBy (c : CallerKnowledge) (k : Layout) (request : Asked) (handle : Handle) (v w : View) : Type 0 where
+  pub asked : request ≡ asks.Unmap handle
+  pub mapping : Held
+  pub found : c.mapping handle ≡ Some mapping
+  pub before : View
+  pub same : IsSame v before
+  pub unpins : Unpins k (position_in k.ids mapping.dom) mapping.gref.0 mapping.dir (generation_of mapping.word) before w
+
+-- how a call left the seat, by what it did (own)
+abbrev pub Leaves : CallerKnowledge → Layout → DomId → Asked → View → View → Effect → Type 0
+Leaves c k caller request v w Nothing = IsSame v w
+Leaves c k caller request v w (Pinned p) = MapsBy c k caller request p v w
+Leaves c k caller request v w (Unpinned handle) = UnpinsBy c k request handle v w
+Leaves c k caller request v w (Changed gref change) = ChangesBy c k request gref.0 change v w
+Leaves c k caller request v w Stored = IsSame v w × IsHeaderChange request
+
+-- a call that goes on has only looked, and one that ends left the seat by what it did (own)
+abbrev pub StandsSo : CallerKnowledge → Layout → DomId → Asked → View → View → Effect → Action → Type 0
+StandsSo c k caller request v w effect (Makes step) = IsSame v w
+StandsSo c k caller request v w effect (Done verdict) = Leaves c k caller request v w effect × Answers effect verdict
+
+-- an answer that comes next carries a word of these steps (own)
+abbrev pub ActionTells : Layout → View → List SeatStep → Action → Type 0
+ActionTells k v steps (Makes step) = Unit {0}
+ActionTells k v steps (Done verdict) = TellsSteps k v steps verdict
+
+-- a call under way: it added steps to its seat's view, which are those of its path, and the action is what comes next (own)
+pub record Going (c : CallerKnowledge) (k : Layout) (effect : Effect) (v w : View) (call : Call) (action : Action) : Type 0 where
+  pub steps : List SeatStep
+  pub view : w ≡ after steps v
+  pub walked : IsWalk k (path c call.caller call.request) v steps
+  pub at : IsAt c call (shown steps)
+  pub goes : GoesOn c call.caller call.request (shown steps) action
+  pub rests : Rests c call.caller call.request (pins_by_call call) (shown steps) action
+  pub held : held_by_call call ≡ []
+  pub unanswered : begun c call.caller call.request ≡ None
+  pub stands : StandsSo c k call.caller call.request v w effect action
+  pub carried : ActionTells k v steps action

@@ -1,0 +1,66 @@
+-- How calls without waiting are answered.
+use Rattle.gt_types.specs.declared.denial.Facts.{Facts}
+use Rattle.gt_types.specs.declared.denial.Facts.TheVariants as facts
+use Rattle.gt_calls.specs.declared.request.Asked.{Asked}
+use Rattle.gt_calls.specs.declared.request.Asked.TheVariants as asks
+use Rattle.gt_calls.specs.declared.action.Value.TheVariants as values
+use Rattle.gt_calls.specs.declared.action.Verdict.{Verdict}
+use Rattle.gt_calls.specs.declared.action.Verdict.TheVariants.{Granted, Given, Mapped, Refused}
+
+-- the request is one whose steps are all on the words (own)
+abbrev pub WaitsForNobody : Asked → Type 0
+WaitsForNobody (asks.Load handle off len) = ⊥
+WaitsForNobody (asks.Store handle off len) = ⊥
+WaitsForNobody (asks.Peek frame off len) = ⊥
+WaitsForNobody (asks.Poke frame off len) = ⊥
+WaitsForNobody (asks.Copy c) = ⊥
+WaitsForNobody request = Unit {0}
+
+-- the answer is one of this request: a refusal, a mapping to a map, a value to a call that asks it, and else Ok (own)
+abbrev pub IsAnswerTo : Asked → Verdict → Type 0
+IsAnswerTo request (Refused denial) = Unit {0}
+IsAnswerTo (asks.Map dom gref flags) (Mapped p) = Unit {0}
+IsAnswerTo (asks.SetupTable frames) (Given (values.Frames n)) = Unit {0}
+IsAnswerTo (asks.QuerySize dom) (Given (values.Size size)) = Unit {0}
+IsAnswerTo (asks.GetVersion dom) (Given (values.Version version)) = Unit {0}
+IsAnswerTo (asks.Grant gref entry) Granted = Unit {0}
+IsAnswerTo (asks.Revoke gref) Granted = Unit {0}
+IsAnswerTo (asks.Demote gref) Granted = Unit {0}
+IsAnswerTo (asks.Promote gref) Granted = Unit {0}
+IsAnswerTo (asks.Unmap handle) Granted = Unit {0}
+IsAnswerTo (asks.SetVersion version) Granted = Unit {0}
+IsAnswerTo request verdict = ⊥
+
+-- the request is a map (own)
+abbrev pub IsMap : Asked → Type 0
+IsMap (asks.Map dom gref flags) = Unit {0}
+IsMap request = ⊥
+
+-- the request changes an entry of the caller's own (own)
+abbrev pub IsOwnChange : Asked → Type 0
+IsOwnChange (asks.Grant gref entry) = Unit {0}
+IsOwnChange (asks.Revoke gref) = Unit {0}
+IsOwnChange (asks.Demote gref) = Unit {0}
+IsOwnChange (asks.Promote gref) = Unit {0}
+IsOwnChange request = ⊥
+
+-- the request changes the caller's header (own)
+abbrev pub IsHeaderChange : Asked → Type 0
+IsHeaderChange (asks.SetVersion version) = Unit {0}
+IsHeaderChange (asks.SetupTable frames) = Unit {0}
+IsHeaderChange request = ⊥
+
+-- the facts of a refusal carry no word (own)
+abbrev pub IsWordless : Facts → Type 0
+IsWordless (facts.Entry dom gref word) = ⊥
+IsWordless (facts.Header dom word) = ⊥
+IsWordless other = Unit {0}
+
+-- the request may be answered so at its beginning: a refusal without a word, or Ok where nothing is left to do (own)
+abbrev pub IsAtOnce : Asked → Verdict → Type 0
+IsAtOnce request (Refused denial) = IsWordless denial.facts
+IsAtOnce (asks.Demote gref) Granted = Unit {0}
+IsAtOnce (asks.Promote gref) Granted = Unit {0}
+IsAtOnce (asks.SetVersion version) Granted = Unit {0}
+IsAtOnce (asks.SetupTable frames) (Given (values.Frames n)) = Unit {0}
+IsAtOnce request verdict = ⊥

@@ -1,0 +1,65 @@
+-- The mappings of a domain, and the pins of its seat.
+use Rattle.std.specs.Prelude.{◌≡◌, ℕ, ◌<◌, ◌==◌, ◌&&◌, Bool, true, false, nat_le, List}
+use Rattle.gt_types.specs.declared.DomId.{DomId}
+use Rattle.gt_types.specs.declared.Dir.{Dir}
+use Rattle.gt_types.specs.declared.Use.TheVariants.{Map as ForMap}
+use Rattle.gt_types.specs.declared.perms.Perms.{Perms}
+use Rattle.gt_types.specs.declared.limits.TheConstants.{TABLE_ENTRIES}
+use Rattle.gt_entry.specs.Permits.{permits}
+use Rattle.gt_words.specs.Controls.{generation_of}
+use Rattle.gt_words.specs.Rule.{Layout, position_in}
+use Rattle.gt_words.specs.Conditions.{HasDomain}
+use Rattle.gt_words.specs.Keeping.{held}
+use Rattle.gt_words.specs.Views.{IsIn, is_same_dir, pins, steps_on}
+use Rattle.gt_words.specs.declared.view.EntryRecord.{EntryRecord}
+use Rattle.gt_words.specs.declared.view.View.{View}
+use Rattle.gt_handles.specs.Handles.{Kept, KeepsSpent}
+use Rattle.gt_handles.specs.Listing.{IsInserted, IsTaken, count_passing}
+use Rattle.gt_handles.specs.declared.handles.Handle.{Handle}
+use Rattle.gt_calls.specs.declared.held.Held.{Held}
+use Rattle.gt_entry.specs.Entries.{frame_of}
+use Rattle.gt_calls.specs.Opening.{IsAllowed}
+use Rattle.gt_calls.specs.Rules.{frames_of, label_of, map_perms, triples}
+use Rattle.gt_types.specs.declared.TypeId.{TypeId}
+use Rattle.gt_types.specs.declared.config.DomainConfig.{DomainConfig}
+
+-- what the owner's record was when the pin was taken (own)
+abbrev pub record_of : Held → EntryRecord
+record_of p = record { generation = generation_of p.word; entry = p.entry }
+
+-- the view has this pin, of the entry that it was taken from (own)
+pub record HasPin (k : Layout) (v : View) (p : Held) : Type 0 where
+  pub run : HasDomain k p.dom
+  pub inside : p.gref.0 < TABLE_ENTRIES
+  pub there : IsIn (p.dir, record_of p) (pins (steps_on (position_in k.ids p.dom) p.gref.0 v))
+
+-- a mapping: its pin is held, of an entry that permits the caller, of a frame of its owner's, and what its map asked is allowed (own)
+pub record IsMappingOf (k : Layout) (domains : List DomainConfig) (may : TypeId → TypeId → Perms → Bool) (caller : DomId) (v : View) (p : Held) : Type 0 where
+  pub pin : HasPin k v p
+  pub permitted : permits p.entry caller p.dir ForMap 0 0 ≡ true
+  pub in_frames : nat_le (frames_of domains p.dom) (frame_of p.entry) ≡ false
+  pub allowed : IsAllowed may (triples (label_of domains caller) (label_of domains p.dom) (map_perms p.dir))
+
+-- the mapping has a pin of this kind and generation of the entry r of the domain t (own)
+abbrev pub is_mapping_of : Layout → ℕ → ℕ → Dir → ℕ → Held → Bool
+is_mapping_of k t r d g m = (position_in k.ids m.dom == t) && ((m.gref.0 == r) && (is_same_dir d m.dir && (g == generation_of m.word)))
+
+-- the pins of the view are just those of the mappings: of each kind and generation as many, on each entry (own)
+abbrev pub PinsAreOf : Layout → View → Kept Held → Type 0
+PinsAreOf k v kept = (t r : ℕ) (d : Dir) (g : ℕ) → held t r d g v ≡ count_passing (is_mapping_of k t r d g) kept
+
+-- the mappings under their handles, and the serials given, are as they were (own)
+pub record KeepsMappings (old new : Kept Held) : Type 0 where
+  pub slots : new.slots ≡ old.slots
+  pub given : new.given ≡ old.given
+
+-- this mapping is kept under a new handle, and all else is as it was (own)
+pub record Adds (old new : Kept Held) (h : Handle) (p : Held) : Type 0 where
+  pub serial : h.serial ≡ old.given
+  pub inserted : IsInserted old new h p
+  pub spent : KeepsSpent old new
+
+-- the mapping under this handle is gone, and all else is as it was (own)
+pub record Removes (old new : Kept Held) (h : Handle) (p : Held) : Type 0 where
+  pub taken : IsTaken old new h p
+  pub spent : KeepsSpent old new

@@ -1,0 +1,112 @@
+-- What a call adds to the steps of its seat: the actions of its path, one after another.
+use Rattle.std.specs.Prelude.{◌≡◌, ℕ, List, [], ◌∷◌, ◌++◌, Option, Some, None}
+use Rattle.gt_words.specs.Controls.{generation_of}
+use Rattle.gt_words.specs.Conditions.{IsNotEarlier, LooksAtHeader, LooksAtControl, LooksAtBody, IsWordOf, Pins, MissesPin, Unpins, StoresBody, StoresHeader, Changes, MissesChange, MissesBusy, Revokes, Demotes}
+use Rattle.gt_words.specs.Rule.{Layout, id_at, position_in}
+use Rattle.gt_words.specs.Steps.{on_entry, on_header}
+use Rattle.gt_words.specs.Views.{IsIn, last_of}
+use Rattle.gt_words.specs.declared.view.EntryStep.{EntryStep}
+use Rattle.gt_types.specs.declared.DomId.{DomId}
+use Rattle.gt_types.specs.declared.GrantRef.{GrantRef}
+use Rattle.gt_types.specs.declared.denial.Facts.{Facts}
+use Rattle.gt_types.specs.declared.denial.Facts.TheVariants as facts
+use Rattle.gt_words.specs.declared.view.EntryStep.TheVariants.{Looked, ReadBody, Pinned, PinMissed, Unpinned, StoredBody, Changed, ChangeMissed}
+use Rattle.gt_words.specs.declared.view.HeaderStep.TheVariants as header
+use Rattle.gt_words.specs.declared.view.SeatStep.{SeatStep}
+use Rattle.gt_words.specs.declared.view.SeatStep.TheVariants.{Entry, Header}
+use Rattle.gt_words.specs.declared.view.View.{View}
+use Rattle.gt_calls.specs.declared.action.Action.{Action}
+use Rattle.gt_calls.specs.declared.action.Action.TheVariants.{Step as Makes, Done}
+use Rattle.gt_entry.specs.declared.change.Change.TheVariants.{Publish, Revoke, Demote, Promote}
+use Rattle.gt_calls.specs.declared.action.Seen.{Seen}
+use Rattle.gt_calls.specs.declared.action.Seen.TheVariants.{Nothing, Word, Taken, Missed}
+use Rattle.gt_calls.specs.declared.action.Step.{Step}
+use Rattle.gt_calls.specs.declared.action.Step.TheVariants.{LookHeader, LookControl, LookBody, Pin, Unpin, StoreBody, StoreHeader, Exchange}
+use Rattle.gt_calls.specs.declared.action.Verdict.{Verdict}
+use Rattle.gt_calls.specs.declared.action.Verdict.TheVariants.{Refused}
+use Rattle.gt_calls.specs.Path.{Continuation}
+
+-- what a step of a seat shows to its call (own)
+abbrev pub shown_by : SeatStep → Seen
+shown_by (Entry t r (Looked n)) = Word n
+shown_by (Entry t r (ReadBody h n)) = Word n
+shown_by (Entry t r (Pinned d e y)) = Taken
+shown_by (Entry t r (PinMissed d e y n)) = Missed n
+shown_by (Entry t r (Unpinned d g)) = Nothing
+shown_by (Entry t r (StoredBody h n)) = Nothing
+shown_by (Entry t r (Changed c e n y)) = Taken
+shown_by (Entry t r (ChangeMissed c e y n)) = Missed n
+shown_by (Header t (header.Looked n)) = Word n
+shown_by (Header t (header.Stored n)) = Nothing
+
+-- what steps show, the first first; the steps stand with the last first (own)
+abbrev pub shown : List SeatStep → List Seen
+shown [] = []
+shown (x ∷ xs) = shown xs ++ shown_by x ∷ []
+
+-- the view after these steps more, the last first (own)
+abbrev pub after : List SeatStep → View → View
+after xs v = record v { steps = xs ++ v.steps }
+
+-- The step of a call was made on the words, by a seat whose view it took from v to w, and showed this: what each of the words' own calls tells of it (own)
+abbrev pub Made : Layout → Step → Seen → View → View → Type 0
+Made k (LookHeader d) (Word n) v w = LooksAtHeader k (position_in k.ids d) n v w
+Made k (LookControl d q) (Word n) v w =
+    LooksAtControl k (position_in k.ids d) q.0 n v w × (d ≡ id_at k.ids v.position → IsWordOf (last_of q.0 w) n)
+Made k (LookBody d q half) (Word n) v w = LooksAtBody k (position_in k.ids d) q.0 half n v w
+Made k (Pin p) Taken v w = Pins k (position_in k.ids p.dom) p.gref.0 p.dir p.word v w
+Made k (Pin p) (Missed n) v w = MissesPin k (position_in k.ids p.dom) p.gref.0 p.dir p.word n v w
+Made k (Unpin p holder) Nothing v w = Unpins k (position_in k.ids p.dom) p.gref.0 p.dir (generation_of p.word) v w
+Made k (StoreBody q half n) Nothing v w = StoresBody k q.0 half n v w
+Made k (StoreHeader version frames) Nothing v w = StoresHeader k (record { version = version; frames = frames }) v w
+Made k (Exchange q looked (Publish e)) Taken v w = Changes k q.0 (Publish e) looked v w
+Made k (Exchange q looked Revoke) Taken v w = Revokes k q.0 looked v w
+Made k (Exchange q looked Revoke) (Missed n) v w = MissesBusy k q.0 Revoke looked n v w
+Made k (Exchange q looked Demote) Taken v w = Demotes k q.0 looked v w
+Made k (Exchange q looked Demote) (Missed n) v w = MissesChange k q.0 Demote looked n v w
+Made k (Exchange q looked Promote) Taken v w = Changes k q.0 Promote looked v w
+Made k (Exchange q looked Promote) (Missed n) v w = MissesChange k q.0 Promote looked n v w
+Made k _ _ v w = ⊥
+
+-- the action is a step, which was made and showed this (own)
+abbrev pub MakesStep : Layout → Option Action → Seen → View → View → Type 0
+MakesStep k (Some (Makes s)) seen v w = Made k s seen v w
+MakesStep k _ seen v w = ⊥
+
+-- each of these steps from the view v on, the last first, is what comes next on this way after what the steps before it showed (own)
+abbrev pub IsWalk : Layout → Continuation → View → List SeatStep → Type 0
+IsWalk k way v [] = Unit {0}
+IsWalk k way v (x ∷ xs) = MakesStep k (way (shown xs)) (shown_by x) (after xs v) (after (x ∷ xs) v) × IsWalk k way v xs
+
+-- what a step on an entry found in the control word (own)
+abbrev pub found_by : EntryStep → Option ℕ
+found_by (Looked n) = Some n
+found_by (PinMissed d e y n) = Some n
+found_by (ChangeMissed c e y n) = Some n
+found_by m = None
+
+-- one of these steps found this word in this entry, and it is no earlier than what the view v had seen of it (own)
+pub record FindsWord (k : Layout) (v : View) (steps : List SeatStep) (dom : DomId) (gref : GrantRef) (word : ℕ) : Type 0 where
+  pub step : EntryStep
+  pub taken : IsIn (on_entry (position_in k.ids dom) gref.0 step) steps
+  pub found : found_by step ≡ Some word
+  pub not_earlier : IsNotEarlier (position_in k.ids dom) gref.0 v word
+
+-- the word that a refusal carries, if it carries one, is of one of these steps (own)
+abbrev pub CarriesFound : Layout → View → List SeatStep → Facts → Type 0
+CarriesFound k v steps (facts.Entry dom gref word) = FindsWord k v steps dom gref word
+CarriesFound k v steps (facts.Header dom word) = IsIn (on_header (position_in k.ids dom) (header.Looked word)) steps
+CarriesFound k v steps other = Unit {0}
+
+-- the same of an answer (own)
+abbrev pub TellsSteps : Layout → View → List SeatStep → Verdict → Type 0
+TellsSteps k v steps (Refused denial) = CarriesFound k v steps denial.facts
+TellsSteps k v steps verdict = Unit {0}
+
+-- A call took its seat's view from v to w: it added steps, which are those of its way, one after another, and after what they showed the way ends with this answer; a word that the answer carries is one that they found (own)
+pub record Called (k : Layout) (way : Continuation) (verdict : Verdict) (v w : View) : Type 0 where
+  pub steps : List SeatStep
+  pub view : w ≡ after steps v
+  pub walked : IsWalk k way v steps
+  pub answered : way (shown steps) ≡ Some (Done verdict)
+  pub carried : TellsSteps k v steps verdict

@@ -1,0 +1,161 @@
+//! A call driven along its path, each of its steps made on the words.
+ghost use Rattle.std.specs.Prelude.{◌≡◌, ◌<◌, None, [], ◌∷◌};
+ghost use Rattle.gt_calls.specs.Rules.{knows};
+ghost use Rattle.gt_calls.specs.Path.{path};
+ghost use Rattle.gt_calls.specs.Following.{MakesStep};
+ghost use Rattle.gt_calls.specs.Standing.{IsFresh};
+ghost use Rattle.gt_words.specs.Conditions.{IsSeatOf, IsSameSeat};
+ghost use Rattle.gt_live.specs.Walks.{Made, Called};
+ghost use Rattle.gt_live.specs.Effects.{Answers, effect_of};
+ghost use Rattle.gt_live.specs.Ending.{IsAnswerTo, WaitsForNobody};
+ghost use Rattle.gt_live.specs.Driving.{CanMake, Knows, Leaves};
+
+use gt_calls::{Action, Call, Held, Holder, Known, Seen, Step, Verdict};
+use gt_entry::{Change, Header};
+use gt_handles::Handle;
+use gt_types::{Allows, GrantRef};
+use gt_words::{Pin, Seat, Words};
+
+/// What the last step of a call did, beyond looking.
+#[derive(Clone, Copy)]
+pub enum Effect {
+    Nothing,
+    /// It took this pin.
+    Pinned(Held),
+    /// It gave back the pin of the mapping under this handle.
+    Unpinned(Handle),
+    /// It changed this entry of the caller's own.
+    Changed(GrantRef, Change),
+    /// It stored the caller's header.
+    Stored,
+}
+
+/// How a call ended.
+#[derive(Clone, Copy)]
+pub struct Finished {
+    pub verdict: Verdict,
+    pub effect: Effect,
+}
+
+// The header with these numbers.
+fn header_with(version: u32, frames: u32) -> Header
+    requires { (version < 256) × (frames < 256) }
+    ensures { (result.version ≡ version) × (result.frames ≡ frames) }
+{
+    Header {
+        version: version as u8,
+        frames: frames as u8,
+    }
+}
+
+// Makes a step of a call on the words.
+fn perform(words: &Words, seat: &mut Seat, step: Step) -> Seen
+    requires seat { IsSeatOf words.now seat.old }
+    requires can { CanMake words.now.layout seat.old.view step }
+    ensures seat { IsSameSeat seat.old seat.new }
+    ensures made { Made words.now.layout step result seat.old.view seat.new.view }
+{
+    match step {
+        Step::LookHeader { dom } => Seen::Word(words.load_header(seat, dom)),
+        Step::LookControl { dom, gref } => Seen::Word(words.load_control(seat, dom, gref)),
+        Step::LookBody { dom, gref, half } => Seen::Word(words.load_body(seat, dom, gref, half)),
+        Step::Pin { held } => match words.pin(seat, held.dom, held.gref, held.word, held.dir) {
+            Ok(_) => Seen::Taken,
+            Err(found) => Seen::Missed(found),
+        },
+        Step::Unpin { held, .. } => {
+            let pin = Pin {
+                dom: held.dom,
+                gref: held.gref,
+                word: held.word,
+                dir: held.dir,
+            };
+            words.unpin(seat, pin);
+            Seen::Nothing
+        }
+        Step::StoreBody { gref, half, word } => {
+            words.store_body(seat, gref, half, word);
+            Seen::Nothing
+        }
+        Step::StoreHeader { version, frames } => {
+            words.store_header(seat, header_with(version, frames));
+            Seen::Nothing
+        }
+        Step::Exchange {
+            gref,
+            looked,
+            change,
+        } => exchange(words, seat, gref, looked, change),
+        Step::Read { .. } | Step::Write { .. } | Step::Copy { .. } => Seen::Nothing,
+    }
+}
+
+// Makes an owner's exchange.
+fn exchange(words: &Words, seat: &mut Seat, gref: GrantRef, looked: u64, change: Change) -> Seen
+    requires seat { IsSeatOf words.now seat.old }
+    requires can { CanMake words.now.layout seat.old.view (Step.Exchange gref looked change) }
+    ensures seat { IsSameSeat seat.old seat.new }
+    ensures made { Made words.now.layout (Step.Exchange gref looked change) result seat.old.view seat.new.view }
+{
+    let result = match change {
+        Change::Publish(entry) => words.grant(seat, gref, looked, entry),
+        Change::Revoke => words.revoke(seat, gref, looked),
+        Change::Demote => words.demote(seat, gref, looked),
+        Change::Promote => words.promote(seat, gref, looked),
+    };
+    match result {
+        Ok(()) => Seen::Taken,
+        Err(found) => Seen::Missed(found),
+    }
+}
+
+// What a step that saw this did.
+fn effect_of(step: Step, seen: Seen) -> Effect
+    ensures { result ≡ effect_of step seen }
+{
+    match (step, seen) {
+        (Step::Pin { held }, Seen::Taken) => Effect::Pinned(held),
+        (
+            Step::Unpin {
+                holder: Holder::Mapping(handle),
+                ..
+            },
+            _,
+        ) => Effect::Unpinned(handle),
+        (Step::Exchange { gref, change, .. }, Seen::Taken) => Effect::Changed(gref, change),
+        (Step::StoreHeader { .. }, _) => Effect::Stored,
+        _ => Effect::Nothing,
+    }
+}
+
+// Drives a call from its beginning to its end.
+pub(crate) fn drive<P: Allows>(
+    words: &Words,
+    known: &Known<'_, P>,
+    seat: &mut Seat,
+    begun: Call,
+) -> Finished
+    requires seat { IsSeatOf words.now seat.old }
+    requires fresh { IsFresh (knows P.may known.now) begun }
+    requires steps { MakesStep (path (knows P.may known.now) begun.caller begun.request []) }
+    requires knows { Knows (knows P.may known.now) words.now.layout begun.caller seat.old.view }
+    requires waits { WaitsForNobody begun.request }
+    ensures seat { IsSameSeat seat.old seat.new }
+    ensures called { Called words.now.layout (path (knows P.may known.now) begun.caller begun.request) result.verdict seat.old.view seat.new.view }
+    ensures leaves { Leaves (knows P.may known.now) words.now.layout begun.caller begun.request seat.old.view seat.new.view result.effect }
+    ensures answers { Answers result.effect result.verdict × IsAnswerTo begun.request result.verdict }
+{
+    let mut call = begun;
+    let mut effect = Effect::Nothing;
+    let mut action = call.next(known, Seen::Nothing);
+    'steps: loop {
+        match action {
+            Action::Done(verdict) => return Finished { verdict, effect },
+            Action::Step(step) => {
+                let seen = perform(words, seat, step);
+                effect = effect_of(step, seen);
+                action = call.next(known, seen);
+            }
+        }
+    }
+}

@@ -1,0 +1,99 @@
+//! How a run starts.
+ghost use Rattle.std.specs.Prelude.{◌≡◌, ◌+◌, ◌<◌, ◌≤◌, ℕ, length, replicate, All, HoldsAt, IfOk, IfErr, OnOk};
+ghost use Rattle.gt_types.specs.Config.{IsWithinLimits};
+ghost use Rattle.gt_words.specs.Rule.{layout_of};
+ghost use Rattle.gt_words.specs.Conditions.{IsNewSeat, IsStartFault};
+ghost use Rattle.gt_live.specs.Starting.{first_rows, IsNewDomain};
+
+use crate::domain::Domain;
+use crate::monitor::Monitor;
+use gt_audit::Trail;
+use gt_calls::{ENTRIES, Handles, Own};
+use gt_types::{Allows, Config, StartFault};
+use gt_words::{Seat, Words};
+use std::alloc::{AllocError, Global};
+
+// The rows of a domain at the start.
+#[tactic(auto, unfolding(crate::specs::Starting::first_rows))]
+fn first_rows(alloc: Global, first_gen: u32) -> Result<Vec<Own>, AllocError>
+    requires { first_gen < 1048576 }
+    ensures { IfOk result (λ v. v.items ≡ first_rows first_gen) }
+{
+    let mut rows = Vec::new(alloc);
+    rows.resize(ENTRIES, Own::new(first_gen))?;
+    Ok(rows)
+}
+
+// Rows for so many domains.
+fn all_rows(alloc: Global, first_gen: u32, count: usize) -> Result<Vec<Vec<Own>>, AllocError>
+    requires { first_gen < 1048576 }
+    ensures count { IfOk result (λ v. length v.items ≡ count) }
+    ensures rows { IfOk result (λ v. All (λ w. w.items ≡ first_rows first_gen) v.items) }
+{
+    let mut all = Vec::new(alloc);
+    'rows: for _at in 0..count {
+        all.push(first_rows(alloc, first_gen)?)?;
+    }
+    Ok(all)
+}
+
+// A domain for each seat, in order.
+fn make_domains<P: Allows>(
+    alloc: Global,
+    monitor: &Monitor<P>,
+    mut seats: Vec<Seat>,
+) -> Result<Vec<Domain>, AllocError>
+    requires config { IsWithinLimits monitor.now.config }
+    requires count { length seats.items ≡ length monitor.now.config.domains.items }
+    requires seats { (i : ℕ) → i < length monitor.now.config.domains.items → HoldsAt (λ s. IsNewSeat monitor.now.words i s) seats.items i }
+    ensures count { IfOk result (λ v. length v.items ≡ length monitor.now.config.domains.items) }
+    ensures domains { IfOk result (λ v. (i : ℕ) → i < length monitor.now.config.domains.items → HoldsAt (λ d. IsNewDomain monitor.now.words monitor.now.config (P.may monitor.now.rights) i d) v.items i) }
+{
+    let count = monitor.config.domains.len();
+    let mut rows = all_rows(alloc, monitor.config.first_gen, count)?;
+    let mut domains = Vec::with_capacity(alloc, count)?;
+    'domains: for at in 0..count {
+        let seat = seats.remove(0);
+        if let Some(own) = rows.pop() {
+            let mappings = Handles::new(alloc);
+            let trail = Trail::new(alloc);
+            domains.push_reserved(Domain::new(seat, own, mappings, trail));
+        }
+    }
+    Ok(domains)
+}
+
+impl<P: Allows + Drop> Monitor<P> {
+    ghost use Rattle.gt_live.specs.Domains.{IsOf};
+
+    /// The monitor of a run, and its domains in order.
+    ///
+    /// # Errors
+    /// The first fault of the configuration, or `Memory` where it has none and memory is refused.
+    pub fn new(
+        alloc: Global,
+        config: Config,
+        rights: P,
+    ) -> Result<(Monitor<P>, Vec<Domain>), StartFault>
+        ensures ok { OnOk result (IsWithinLimits config) }
+        ensures run { IfOk result (λ r. (r.0.config ≡ config) × (r.0.rights ≡ rights)) }
+        ensures count { IfOk result (λ r. length r.1.items ≡ length config.domains.items) }
+        ensures domains { IfOk result (λ r. (i : ℕ) → i < length config.domains.items → HoldsAt (λ d. IsNewDomain r.0.words config (P.may rights) i d) r.1.items i) }
+        ensures mine { IfOk result (λ r. All (λ d. IsOf P.may r.0 d) r.1.items) }
+        ensures err { IfErr result (IsStartFault config) }
+    {
+        let (words, seats) = match Words::new(alloc, &config) {
+            Ok(made) => made,
+            Err(fault) => return Err(fault),
+        };
+        let monitor = Monitor {
+            config,
+            rights,
+            words,
+        };
+        match make_domains(alloc, &monitor, seats) {
+            Ok(domains) => Ok((monitor, domains)),
+            Err(AllocError) => Err(StartFault::Memory),
+        }
+    }
+}
