@@ -7,7 +7,7 @@ use Rattle.gt_types.specs.declared.DomId.{DomId}
 use Rattle.gt_frames.specs.declared.writ.Writ.{Writ}
 use Rattle.gt_frames.specs.declared.writ.Record.{Record}
 use Rattle.gt_frames.specs.Bytes.{overlay, zeros, replay, written, IsLaidOver}
-use Rattle.gt_frames.specs.Frames.{FrameState, patches, recorded, contents, bytes_at, covers, is_rightful, all_rightful, IsKept, IsSound, with_write, IsWrite}
+use Rattle.gt_frames.specs.Frames.{FrameState, patches, contents, bytes_at, covers, is_rightful, all_rightful, IsKept, IsSound, with_write, IsWrite}
 use Rattle.gt_frames.proofs.Overlay.{length-overlay, laid_over}
 
 pub replay-append : (xs : List ℕ) (rs : List Record) (r : Record) → replay xs (patches (rs ++ r ∷ [])) ≡ overlay (replay xs (patches rs)) r.off r.bytes

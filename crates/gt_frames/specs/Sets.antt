@@ -1,7 +1,6 @@
 -- The frames of a run.
 use Rattle.std.specs.Prelude.{◌≡◌, ℕ, ◌+◌, Bool, false, ◌&&◌, nat_le, List, [], map, length, replicate, set, slice_get, unwrap_or, is_some, Option, Some, None}
 use Rattle.std.specs.List.{range_with_len}
-use Rattle.gt_types.specs.declared.DomId.{DomId}
 use Rattle.gt_types.specs.declared.limits.TheConstants.{FRAME_SIZE}
 use Rattle.gt_frames.specs.declared.places.FrameCount.{FrameCount}
 use Rattle.gt_frames.specs.declared.places.FrameName.{FrameName}

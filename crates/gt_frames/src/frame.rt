@@ -1,5 +1,6 @@
 ghost use Rattle.std.specs.Prelude.{◌≡◌, ◌+◌, ◌≤◌, ◌++◌, [], ◌∷◌, length, vec_len, IsTrue, IfOk, OnOk, OnErr};
 ghost use Rattle.gt_frames.specs.Bytes.{overlay};
+ghost use Rattle.gt_frames.specs.Frames.{recorded};
 
 use crate::receipts::CopyEnd;
 use crate::{Bytes, Copied, Read, Record, Writ, Written};
@@ -37,7 +38,7 @@ fn store(
     bytes: Vec<u8>,
 ) -> Result<(), Memory>
     requires { off + vec_len bytes ≤ vec_len contents.old }
-    ensures journal { OnOk result (journal.new.items ≡ journal.old.items ++ record { writ = writ.now; off = off; bytes = bytes.items } ∷ []) }
+    ensures journal { OnOk result (journal.new.items ≡ recorded journal.old.items writ.now off bytes.items) }
     ensures contents { OnOk result (contents.new.items ≡ overlay contents.old.items off bytes.items) }
     ensures journal_kept { OnErr result (journal.new.items ≡ journal.old.items) }
     ensures contents_kept { OnErr result (contents.new.items ≡ contents.old.items) }

@@ -34,7 +34,8 @@ fn with_domain(
     owner: DomId,
     count: u32,
 ) -> Result<Vec<Frame>, Memory>
-    ensures { IfOk result (λ all. all.items ≡ frames.items ++ zero_frames (record { owner = owner; frames = count })) }
+    ensures { IfOk result (λ all.
+        all.items ≡ frames.items ++ zero_frames (record { owner = owner; frames = count })) }
 {
     let mut all = frames;
     'frames: for number in 0..count {
@@ -57,9 +58,11 @@ fn copy_among(
     requires dest_there { dest < length frames.old }
     requires source { from_off + len ≤ FRAME_SIZE }
     requires dest { to_off + len ≤ FRAME_SIZE }
-    requires right { (to : FrameState) → slice_get frames.old dest ≡ Some to → IsTrue (covers writ.now to.owner to.number to_off len) }
+    requires right { (to : FrameState) → slice_get frames.old dest ≡ Some to
+        → IsTrue (covers writ.now to.owner to.number to_off len) }
     ensures written { OnOk result (CopiesAmong frames.old frames.new source dest writ.now from_off to_off len) }
-    ensures receipt { IfOk result (λ r. (from to : FrameState) → slice_get frames.old source ≡ Some from → slice_get frames.old dest ≡ Some to
+    ensures receipt { IfOk result (λ r. (from to : FrameState)
+        → slice_get frames.old source ≡ Some from → slice_get frames.old dest ≡ Some to
         → r ≡ copying_of from from_off to to_off len writ.now.writer) }
     ensures refused { OnErr result (frames.new ≡ frames.old) }
 {
@@ -165,9 +168,11 @@ impl Frames {
     pub fn copy(&mut self, writ: &Writ, from: Spot, to: Spot, len: u16) -> Result<Copied, Memory>
         requires source { IsTrue (has_range self.old from.frame from.off len) }
         requires dest { IsTrue (admits self.old to.frame writ.now to.off len) }
-        ensures written { OnOk result (WritesTo self.old self.new to.frame writ.now to.off (bytes_at (frame_at self.old from.frame) from.off len)) }
+        ensures written { OnOk result (WritesTo self.old self.new to.frame writ.now to.off
+            (bytes_at (frame_at self.old from.frame) from.off len)) }
         ensures kept { AreKept self.new }
-        ensures receipt { IfOk result (λ r. r ≡ copying_of (frame_at self.old from.frame) from.off (frame_at self.old to.frame) to.off len writ.now.writer) }
+        ensures receipt { IfOk result (λ r.
+            r ≡ copying_of (frame_at self.old from.frame) from.off (frame_at self.old to.frame) to.off len writ.now.writer) }
         ensures refused { OnErr result (self.new ≡ self.old) }
     {
         let source = self.place(from.frame).unwrap();

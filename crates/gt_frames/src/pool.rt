@@ -196,10 +196,13 @@ impl<'p> Ends<'p> {
         requires source { from_off + len ≤ FRAME_SIZE }
         requires dest { to_off + len ≤ FRAME_SIZE }
         requires right { IsTrue (covers writ.now (dest_of self.old).owner (dest_of self.old).number to_off len) }
-        ensures written { OnOk result (IsWrite (dest_of self.old) (dest_of self.new) writ.now to_off (bytes_at (source_of self.old) from_off len)) }
+        ensures written { OnOk result (IsWrite (dest_of self.old) (dest_of self.new) writ.now to_off
+            (bytes_at (source_of self.old) from_off len)) }
         ensures kept { IsKept (dest_of self.new) }
-        ensures receipt { IfOk result (λ r. r ≡ copying_of (source_of self.old) from_off (dest_of self.old) to_off len writ.now.writer) }
-        ensures refused { OnErr result ((dest_of self.new ≡ dest_of self.old) × (source_of self.new ≡ source_of self.old)) }
+        ensures receipt { IfOk result (λ r.
+            r ≡ copying_of (source_of self.old) from_off (dest_of self.old) to_off len writ.now.writer) }
+        ensures refused { OnErr result
+            ((dest_of self.new ≡ dest_of self.old) × (source_of self.new ≡ source_of self.old)) }
     {
         match &self.source {
             None => self.dest.copy_within(writ, from_off, to_off, len),

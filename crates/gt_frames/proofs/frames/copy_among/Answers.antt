@@ -1,5 +1,5 @@
-use Rattle.std.proofs.Common.{rules, ◌≡◌, ◌<◌, ◌∙◌, sym, length, List, slice_get, Some, arith}
-use Rattle.std.proofs.lemmas.Result.{on_ok_weaker, IfOk-weaker, MatchResult-from_both}
+use Rattle.std.proofs.Common.{rules, ◌≡◌, ◌<◌, ◌∙◌, length, slice_get, Some, arith}
+use Rattle.std.proofs.lemmas.Result.{on_ok_weaker, IfOk-weaker}
 use Rattle.gt_frames.specs.Frames.{FrameState}
 use Rattle.gt_frames.proofs.Laying.{copied_among, receipt_among, at_front, at_back, set_front_is, set_back_is}
 use Rattle.gt_frames.proofs.frames.copy_among.Goals as goal

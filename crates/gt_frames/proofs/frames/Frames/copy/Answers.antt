@@ -1,4 +1,4 @@
-use Rattle.std.proofs.Common.{◌≡◌, ◌∙◌, ℕ, ap, sym, subst, length, List, IsTrue, slice_get, Some, OnOk}
+use Rattle.std.proofs.Common.{◌≡◌, ◌∙◌, ap, sym, subst, List, IsTrue, slice_get, Some}
 use Rattle.std.specs.Vec.{with_items}
 use Rattle.std.proofs.lemmas.Bool.{and_parts}
 use Rattle.std.proofs.lemmas.List.{with_items_is}
@@ -6,7 +6,7 @@ use Rattle.std.proofs.lemmas.Result.{on_ok_weaker, IfOk-weaker}
 use Rattle.gt_frames.specs.Frames.{FrameState, covers, bytes_at}
 use Rattle.gt_frames.specs.Places.{pool_number}
 use Rattle.gt_frames.specs.Receipts.{copying_of}
-use Rattle.gt_frames.specs.Sets.{FrameSet, place_in, frame_at, has_range, AreLaidOut, WritesTo, CopiesAmong}
+use Rattle.gt_frames.specs.Sets.{FrameSet, place_in, frame_at, has_range, AreLaidOut, WritesTo}
 use Rattle.gt_frames.proofs.Laying.{seen, found, laid_still, one_copied, told_of, same_len, kept_all}
 use Rattle.gt_frames.proofs.frames.Frames.copy.Goals as goal
 

@@ -1,10 +1,8 @@
 use Rattle.std.proofs.Common.{arith, ◌≡◌, ◌∙◌, ap, sym, subst, map, List}
 use Rattle.std.specs.List.{flat_map}
 use Rattle.std.proofs.lemmas.List.{take_all}
-use Rattle.gt_types.specs.declared.config.DomainConfig.{DomainConfig}
 use Rattle.gt_frames.specs.declared.places.FrameCount.{FrameCount}
 use Rattle.gt_frames.specs.Frames.{FrameState}
-use Rattle.gt_frames.specs.Places.{frame_counts}
 use Rattle.gt_frames.specs.Sets.{all_zeros, zero_frames, journal_of, AreLaidOut}
 use Rattle.gt_frames.proofs.Laying.{laid_new, journals_new, kept_all}
 use Rattle.gt_frames.proofs.frames.Frames.new.Goals as goal

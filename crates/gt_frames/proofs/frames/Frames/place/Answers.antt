@@ -1,6 +1,5 @@
-use Rattle.std.proofs.Common.{◌≡◌, ◌<◌, ◌∙◌, ap, sym, subst, length, IfSome, Option, Some, None, refl, ℕ, arith}
+use Rattle.std.proofs.Common.{◌≡◌, ◌<◌, ◌∙◌, ap, sym, length, IfSome, Option, Some, None, refl, ℕ, arith}
 use Rattle.std.proofs.lemmas.List.{length-map}
-use Rattle.gt_frames.specs.declared.places.FrameName.{FrameName}
 use Rattle.gt_frames.specs.Places.{pool_number}
 use Rattle.gt_frames.specs.Sets.{FrameSet, journal_of}
 use Rattle.gt_frames.proofs.Laying.{below}

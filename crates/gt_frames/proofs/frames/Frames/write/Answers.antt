@@ -1,10 +1,10 @@
-use Rattle.std.proofs.Common.{◌≡◌, ◌∙◌, ap, sym, subst, set, length, IsTrue, Some, OnOk}
+use Rattle.std.proofs.Common.{◌≡◌, ◌∙◌, ap, sym, subst, set, length, IsTrue, Some}
 use Rattle.std.proofs.lemmas.Bool.{and_parts}
 use Rattle.std.proofs.lemmas.Result.{on_ok_weaker, IfOk-weaker}
 use Rattle.gt_frames.specs.Frames.{FrameState, covers}
 use Rattle.gt_frames.specs.Places.{pool_number}
 use Rattle.gt_frames.specs.Receipts.{writing_of}
-use Rattle.gt_frames.specs.Sets.{FrameSet, place_in, frame_at, has_range, AreLaidOut, WritesTo}
+use Rattle.gt_frames.specs.Sets.{FrameSet, place_in, frame_at, has_range, WritesTo}
 use Rattle.gt_frames.proofs.Laying.{seen, still_laid, one_written, found_read, kept_all}
 use Rattle.gt_frames.proofs.frames.Frames.write.Goals as goal
 

@@ -1,4 +1,4 @@
-use Rattle.std.proofs.Common.{◌≡◌, ◌+◌, take, drop, length}
+use Rattle.std.proofs.Common.{◌≡◌, ◌+◌, drop, length}
 use Rattle.gt_frames.specs.Places.{frames_of}
 use Rattle.gt_frames.proofs.pool.Pool.new.Given as goal
 
