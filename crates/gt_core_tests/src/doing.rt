@@ -1,6 +1,7 @@
 //! What is done to a machine in a test, and what comes of it, in words.
 use gt_core::{
-    Answer, Begun, Core, Element, Event, Handle, Happened, Item, Request, Seen, Shown, Step, Ticked,
+    Answer, Begun, Core, Element, Event, Handle, Happened, Item, Place, Request, Seen, Shown, Step,
+    Ticked,
 };
 use gt_entry::{Control, status_word};
 use gt_types::{
@@ -83,6 +84,23 @@ pub fn start(alloc: Global, version: u32, first_gen: u32) -> Result<Core<Triples
     )
 }
 
+/// A machine of the three domains, in which besides bytes may be copied from the first domain of each pair to the second.
+pub fn start_to_copy(
+    alloc: Global,
+    version: u32,
+    pairs: &[(DomId, DomId)],
+) -> Result<Core<Triples>, StartFault> {
+    let mut rights = rights(alloc)?;
+    for (source, target) in pairs {
+        rights.allowed.push(Triple {
+            source: TypeId(source.0),
+            target: TypeId(target.0),
+            perm: Perms::COPY,
+        })?;
+    }
+    Core::new(alloc, three_domains(alloc, version, 0)?, rights)
+}
+
 /// What is done to a machine.
 #[derive(Clone, Copy)]
 pub enum Doing<'a> {
@@ -90,6 +108,8 @@ pub enum Doing<'a> {
     Do(DomId, Request<'a>),
     /// A whole call: its steps with what each saw, and its answer.
     Steps(DomId, Request<'a>),
+    /// A whole call: its steps as letters with what each saw, and its answer.
+    Path(DomId, Request<'a>),
     /// The beginning of a call alone.
     Begin(DomId, Request<'a>),
     /// So many ticks of the domain, or fewer where its call ends: the answer, if it ended.
@@ -103,7 +123,7 @@ fn word_said(alloc: Global, word: u64) -> Result<String, AllocError> {
 }
 
 /// An answer: `ok` with its values, or the rule that stood and what it rests on: the word that was seen, in
-/// hexadecimal digits, or the field.
+/// hexadecimal digits, the field, or the two types and the permission.
 pub fn answer_said(alloc: Global, answer: &Answer) -> Result<String, AllocError> {
     match answer {
         Answer::Done => String::from_str(alloc, "ok"),
@@ -116,6 +136,11 @@ pub fn answer_said(alloc: Global, answer: &Answer) -> Result<String, AllocError>
             let facts = match denial.facts {
                 Facts::Field(field) => format!(in alloc; " {field}")?,
                 Facts::Header { word, .. } | Facts::Entry { word, .. } => word_said(alloc, word)?,
+                Facts::Policy {
+                    source,
+                    target,
+                    perm,
+                } => format!(in alloc; " source={} target={} {perm:?}", source.0, target.0)?,
                 _ => String::new(alloc),
             };
             format!(in alloc; "{}{facts}", denial.rule)
@@ -127,7 +152,7 @@ pub fn answer_said(alloc: Global, answer: &Answer) -> Result<String, AllocError>
 fn seen_said(alloc: Global, seen: Seen) -> Result<String, AllocError> {
     match seen {
         Seen::Nothing => String::from_str(alloc, " -"),
-        Seen::Value(word) => word_said(alloc, word),
+        Seen::Word(word) => word_said(alloc, word),
         Seen::Taken => String::from_str(alloc, " taken"),
         Seen::Missed(word) => format!(in alloc; " missed {word:x}"),
     }
@@ -179,13 +204,20 @@ fn call_said(
 }
 
 // The steps of the open call, a line each, and its answer.
-fn steps_said(alloc: Global, core: &mut Core<Triples>, dom: DomId) -> Result<String, Fail> {
+fn steps_said(
+    alloc: Global,
+    core: &mut Core<Triples>,
+    dom: DomId,
+    as_letters: bool,
+) -> Result<String, Fail> {
     let mut out = String::new(alloc);
     for _ in 0..MOST_STEPS {
         match core.tick(dom)? {
-            Ticked::Step(step, seen) => out.push_str(step_said(alloc, step, seen)?.as_str())?,
+            Ticked::Step(step, seen) => {
+                out.push_str(step_said(alloc, step, seen, as_letters)?.as_str())?;
+            }
             Ticked::Done(step, seen, answer) => {
-                out.push_str(step_said(alloc, step, seen)?.as_str())?;
+                out.push_str(step_said(alloc, step, seen, as_letters)?.as_str())?;
                 out.push_str(answer_said(alloc, &answer)?.as_str())?;
                 return Ok(out);
             }
@@ -195,9 +227,47 @@ fn steps_said(alloc: Global, core: &mut Core<Triples>, dom: DomId) -> Result<Str
     Ok(out)
 }
 
-fn step_said(alloc: Global, step: Step, seen: Seen) -> Result<String, AllocError> {
+fn step_said(
+    alloc: Global,
+    step: Step,
+    seen: Seen,
+    as_letters: bool,
+) -> Result<String, AllocError> {
     let seen = seen_said(alloc, seen)?;
-    format!(in alloc; "{step:?}{seen}\n")
+    if as_letters {
+        let letter = letter_said(alloc, step)?;
+        format!(in alloc; "{letter}{seen}\n")
+    } else {
+        format!(in alloc; "{step:?}{seen}\n")
+    }
+}
+
+// A step of a copy by its letter: a look at a header (H), a control word (C) or a body word (B), a pin (P), an unpin (U)
+// and the access (A), each with the numbers of its domain and entry or frame.
+fn letter_said(alloc: Global, step: Step) -> Result<String, AllocError> {
+    match step {
+        Step::LookHeader { dom } => format!(in alloc; "H {}", dom.0),
+        Step::LookControl { dom, gref } => format!(in alloc; "C {} {}", dom.0, gref.0),
+        Step::LookBody { dom, gref, half } => {
+            format!(in alloc; "B {} {} {half:?}", dom.0, gref.0)
+        }
+        Step::Pin { held } => {
+            format!(in alloc; "P {} {} {:?}", held.dom.0, held.gref.0, held.dir)
+        }
+        Step::Unpin { held, .. } => {
+            format!(in alloc; "U {} {} {:?}", held.dom.0, held.gref.0, held.dir)
+        }
+        Step::Copy { from, to, len } => {
+            let from = place_said(alloc, from)?;
+            let to = place_said(alloc, to)?;
+            format!(in alloc; "A {from} to {to} len {len}")
+        }
+        _ => format!(in alloc; "{step:?}"),
+    }
+}
+
+fn place_said(alloc: Global, place: Place) -> Result<String, AllocError> {
+    format!(in alloc; "{} {} {}", place.owner.0, place.frame, place.off)
 }
 
 /// What comes of it.
@@ -208,7 +278,11 @@ pub fn said(alloc: Global, core: &mut Core<Triples>, doing: Doing<'_>) -> Result
             call_said(alloc, core, dom, begun, MOST_STEPS)
         }
         Doing::Steps(dom, request) => match core.begin(dom, request)? {
-            Begun::Open => steps_said(alloc, core, dom),
+            Begun::Open => steps_said(alloc, core, dom, false),
+            begun => call_said(alloc, core, dom, begun, 0),
+        },
+        Doing::Path(dom, request) => match core.begin(dom, request)? {
+            Begun::Open => steps_said(alloc, core, dom, true),
             begun => call_said(alloc, core, dom, begun, 0),
         },
         Doing::Begin(dom, request) => {

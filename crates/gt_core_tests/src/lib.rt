@@ -5,6 +5,8 @@
 #![tactic(auto)]
 
 #[cfg(test)]
+mod copies;
+#[cfg(test)]
 mod doing;
 #[cfg(test)]
 mod memory;

@@ -18,7 +18,7 @@ pub const GRANT: Request = Request::Grant {
     },
 };
 
-const GRANT_RO: Request = Request::Grant {
+pub const GRANT_RO: Request = Request::Grant {
     gref: GrantRef(0),
     entry: Entry::Page {
         dom: PEER,
@@ -951,7 +951,7 @@ const STEPS_OF_GRANTS: [(Doing, &str); 3] = [
                 },
             },
         ),
-        "StoreBody { gref: GrantRef(0), second: false, word: 5 } -\nStoreBody { gref: GrantRef(0), second: true, word: 3276900 } -\nExchange { gref: GrantRef(0), looked: 0, change: Publish(Sub { dom: DomId(2), ro: false, frame: 5, off: 100, len: 50 }) } taken\nok",
+        "StoreBody { gref: GrantRef(0), half: First, word: 5 } -\nStoreBody { gref: GrantRef(0), half: Second, word: 3276900 } -\nExchange { gref: GrantRef(0), looked: 0, change: Publish(Sub { dom: DomId(2), ro: false, frame: 5, off: 100, len: 50 }) } taken\nok",
     ),
     (
         Steps(
@@ -966,7 +966,7 @@ const STEPS_OF_GRANTS: [(Doing, &str); 3] = [
                 },
             },
         ),
-        "StoreBody { gref: GrantRef(1), second: false, word: 458755 } -\nExchange { gref: GrantRef(1), looked: 0, change: Publish(Via { dom: DomId(2), ro: false, dom2: DomId(3), gref: GrantRef(7) }) } taken\nok",
+        "StoreBody { gref: GrantRef(1), half: First, word: 458755 } -\nExchange { gref: GrantRef(1), looked: 0, change: Publish(Via { dom: DomId(2), ro: false, dom2: DomId(3), gref: GrantRef(7) }) } taken\nok",
     ),
     (
         Steps(
@@ -976,7 +976,7 @@ const STEPS_OF_GRANTS: [(Doing, &str); 3] = [
                 bytes: &[1, 1, 2, 0, 100, 0, 50, 0, 5, 0, 0, 0, 0, 0, 0, 0],
             },
         ),
-        "StoreBody { gref: GrantRef(2), second: false, word: 5 } -\nStoreBody { gref: GrantRef(2), second: true, word: 3276900 } -\nExchange { gref: GrantRef(2), looked: 0, change: Publish(Sub { dom: DomId(2), ro: false, frame: 5, off: 100, len: 50 }) } taken\nok",
+        "StoreBody { gref: GrantRef(2), half: First, word: 5 } -\nStoreBody { gref: GrantRef(2), half: Second, word: 3276900 } -\nExchange { gref: GrantRef(2), looked: 0, change: Publish(Sub { dom: DomId(2), ro: false, frame: 5, off: 100, len: 50 }) } taken\nok",
     ),
 ];
 
@@ -1008,8 +1008,8 @@ const RUNS: [(u32, u32, &[(Doing, &str)]); 24] = [
     (2, 0, &STEPS_OF_GRANTS),
 ];
 
-// A run: what comes of each that is done is what stands beside it.
-fn goes(
+/// A run: what comes of each that is done is what stands beside it.
+pub fn goes(
     rt: &impl Abort,
     core: &mut Core<Triples>,
     alloc: Global,

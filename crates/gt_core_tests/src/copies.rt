@@ -1,0 +1,849 @@
+//! Copies: by pages, by parts of pages and through transitive entries, with the steps of their paths.
+use crate::doing::Doing::{self, Begin, Do, Path, Tick};
+use crate::doing::{OTHER, OWNER, PEER, start_to_copy};
+use crate::runs::{GRANT, GRANT_RO, REVOKE, goes};
+use gt_core::{CopyArgs, End, Request};
+use gt_entry::Entry;
+use gt_types::{DomId, GrantRef};
+use std::test::Fail;
+
+// The caller's own domain, in a request.
+const SELF: DomId = DomId(0x7FF0);
+
+// Which ends of a copy are named by a grant reference.
+const NONE: u16 = 0;
+
+const SOURCE: u16 = 1;
+
+const DEST: u16 = 2;
+
+const BOTH: u16 = 3;
+
+// The ends of most copies: the owner's entry 0, the peer's entry 0, and frames of the caller's own.
+const OWNER_0: End = End {
+    ptr: 0,
+    domid: OWNER,
+    offset: 0,
+};
+
+const PEER_0: End = End {
+    ptr: 0,
+    domid: PEER,
+    offset: 0,
+};
+
+const FRAME_0: End = End {
+    ptr: 0,
+    domid: SELF,
+    offset: 0,
+};
+
+const FRAME_3: End = End {
+    ptr: 3,
+    domid: SELF,
+    offset: 0,
+};
+
+// A page is copied to its last byte, and not past it; a copy of no bytes at its end is one.
+const PAGE: [(Doing, &str); 7] = [
+    (Do(OWNER, GRANT), "ok"),
+    (
+        Do(
+            OWNER,
+            Request::Poke {
+                frame: 5,
+                off: 4094,
+                bytes: &[0xab, 0xcd],
+            },
+        ),
+        "ok",
+    ),
+    (
+        Do(
+            PEER,
+            Request::Copy(CopyArgs {
+                source: OWNER_0,
+                dest: FRAME_3,
+                len: 4096,
+                flags: SOURCE,
+            }),
+        ),
+        "ok",
+    ),
+    (
+        Do(
+            PEER,
+            Request::Peek {
+                frame: 3,
+                off: 4093,
+                len: 3,
+            },
+        ),
+        "ok [0, 171, 205]",
+    ),
+    (
+        Do(
+            PEER,
+            Request::Copy(CopyArgs {
+                source: End {
+                    ptr: 0,
+                    domid: OWNER,
+                    offset: 1,
+                },
+                dest: FRAME_3,
+                len: 4096,
+                flags: SOURCE,
+            }),
+        ),
+        "N3",
+    ),
+    (
+        Do(
+            PEER,
+            Request::Copy(CopyArgs {
+                source: End {
+                    ptr: 0,
+                    domid: OWNER,
+                    offset: 4096,
+                },
+                dest: End {
+                    ptr: 3,
+                    domid: SELF,
+                    offset: 4096,
+                },
+                len: 0,
+                flags: SOURCE,
+            }),
+        ),
+        "ok",
+    ),
+    (Do(OWNER, REVOKE), "ok"),
+];
+
+// Part of a page is copied inside its bytes alone.
+const SUB_PAGE: [(Doing, &str); 6] = [
+    (
+        Do(
+            OWNER,
+            Request::Grant {
+                gref: GrantRef(0),
+                entry: Entry::Sub {
+                    dom: PEER,
+                    ro: false,
+                    frame: 5,
+                    off: 100,
+                    len: 50,
+                },
+            },
+        ),
+        "ok",
+    ),
+    (
+        Path(
+            PEER,
+            Request::Copy(CopyArgs {
+                source: End {
+                    ptr: 0,
+                    domid: OWNER,
+                    offset: 100,
+                },
+                dest: FRAME_3,
+                len: 50,
+                flags: SOURCE,
+            }),
+        ),
+        "H 1 6\n\
+C 1 0 100020000009\n\
+B 1 0 First 5\n\
+B 1 0 Second 320064\n\
+P 1 0 Read taken\n\
+A 1 5 100 to 2 3 0 len 50 -\n\
+U 1 0 Read -\n\
+ok",
+    ),
+    (
+        Do(
+            PEER,
+            Request::Copy(CopyArgs {
+                source: End {
+                    ptr: 0,
+                    domid: OWNER,
+                    offset: 149,
+                },
+                dest: FRAME_3,
+                len: 2,
+                flags: SOURCE,
+            }),
+        ),
+        "N14 100020000009",
+    ),
+    (
+        Do(
+            PEER,
+            Request::Copy(CopyArgs {
+                source: End {
+                    ptr: 0,
+                    domid: OWNER,
+                    offset: 150,
+                },
+                dest: FRAME_3,
+                len: 0,
+                flags: SOURCE,
+            }),
+        ),
+        "ok",
+    ),
+    (
+        Do(
+            PEER,
+            Request::Copy(CopyArgs {
+                source: End {
+                    ptr: 0,
+                    domid: OWNER,
+                    offset: 151,
+                },
+                dest: FRAME_3,
+                len: 0,
+                flags: SOURCE,
+            }),
+        ),
+        "N14 100020000009",
+    ),
+    (
+        Do(
+            PEER,
+            Request::Copy(CopyArgs {
+                source: End {
+                    ptr: 0,
+                    domid: OWNER,
+                    offset: 99,
+                },
+                dest: FRAME_3,
+                len: 0,
+                flags: SOURCE,
+            }),
+        ),
+        "N14 100020000009",
+    ),
+];
+
+// The destination is read-only: the pin of the source is given back.
+const READ_ONLY_DEST: [(Doing, &str); 4] = [
+    (Do(OWNER, GRANT_RO), "ok"),
+    (
+        Do(
+            OWNER,
+            Request::Grant {
+                gref: GrantRef(1),
+                entry: Entry::Page {
+                    dom: PEER,
+                    ro: true,
+                    frame: 6,
+                },
+            },
+        ),
+        "ok",
+    ),
+    (
+        Path(
+            PEER,
+            Request::Copy(CopyArgs {
+                source: OWNER_0,
+                dest: End {
+                    ptr: 1,
+                    domid: OWNER,
+                    offset: 0,
+                },
+                len: 4,
+                flags: BOTH,
+            }),
+        ),
+        "H 1 5\n\
+C 1 0 100020000005\n\
+B 1 0 First 5\n\
+P 1 0 Read taken\n\
+H 1 5\n\
+C 1 1 100020000005\n\
+U 1 0 Read -\n\
+N13 100020000005",
+    ),
+    (Do(OWNER, REVOKE), "ok"),
+];
+
+// An unknown domain comes before unknown flags.
+const FLAGS: [(Doing, &str); 2] = [
+    (
+        Do(
+            PEER,
+            Request::Copy(CopyArgs {
+                source: OWNER_0,
+                dest: FRAME_3,
+                len: 1,
+                flags: 4,
+            }),
+        ),
+        "N2",
+    ),
+    (
+        Do(
+            PEER,
+            Request::Copy(CopyArgs {
+                source: End {
+                    ptr: 0,
+                    domid: DomId(9),
+                    offset: 0,
+                },
+                dest: FRAME_3,
+                len: 1,
+                flags: 4,
+            }),
+        ),
+        "N1",
+    ),
+];
+
+// A frame of another domain is named by its number.
+const FOREIGN_FRAME: [(Doing, &str); 1] = [(
+    Do(
+        PEER,
+        Request::Copy(CopyArgs {
+            source: End {
+                ptr: 5,
+                domid: OWNER,
+                offset: 0,
+            },
+            dest: FRAME_3,
+            len: 1,
+            flags: NONE,
+        }),
+    ),
+    "N4",
+)];
+
+// The bytes of a copy over itself are those before it.
+const OVERLAP: [(Doing, &str); 3] = [
+    (
+        Do(
+            OWNER,
+            Request::Poke {
+                frame: 0,
+                off: 0,
+                bytes: &[1, 2, 3, 4],
+            },
+        ),
+        "ok",
+    ),
+    (
+        Do(
+            OWNER,
+            Request::Copy(CopyArgs {
+                source: FRAME_0,
+                dest: End {
+                    ptr: 0,
+                    domid: SELF,
+                    offset: 1,
+                },
+                len: 4,
+                flags: NONE,
+            }),
+        ),
+        "ok",
+    ),
+    (
+        Do(
+            OWNER,
+            Request::Peek {
+                frame: 0,
+                off: 0,
+                len: 6,
+            },
+        ),
+        "ok [1, 1, 2, 3, 4, 0]",
+    ),
+];
+
+// A transitive entry is pinned until its copy has given its pins back.
+const REVOKED_BEHIND_A_COPY: [(Doing, &str); 12] = [
+    (
+        Do(
+            OWNER,
+            Request::Grant {
+                gref: GrantRef(4),
+                entry: Entry::Page {
+                    dom: PEER,
+                    ro: false,
+                    frame: 6,
+                },
+            },
+        ),
+        "ok",
+    ),
+    (
+        Do(
+            OWNER,
+            Request::Poke {
+                frame: 6,
+                off: 0,
+                bytes: &[0x5a],
+            },
+        ),
+        "ok",
+    ),
+    (
+        Do(
+            PEER,
+            Request::Grant {
+                gref: GrantRef(0),
+                entry: Entry::Via {
+                    dom: OTHER,
+                    ro: true,
+                    dom2: OWNER,
+                    gref: GrantRef(4),
+                },
+            },
+        ),
+        "ok",
+    ),
+    (
+        Begin(
+            OTHER,
+            Request::Copy(CopyArgs {
+                source: PEER_0,
+                dest: FRAME_0,
+                len: 1,
+                flags: SOURCE,
+            }),
+        ),
+        "open",
+    ),
+    (Tick(OTHER, 4), "open"),
+    (Do(PEER, REVOKE), "N19 100030000017"),
+    (Tick(OTHER, 5), "open"),
+    (Do(PEER, REVOKE), "N19 100030000017"),
+    (Tick(OTHER, 2), "ok"),
+    (
+        Do(
+            OTHER,
+            Request::Peek {
+                frame: 0,
+                off: 0,
+                len: 1,
+            },
+        ),
+        "ok [90]",
+    ),
+    (Do(PEER, REVOKE), "ok"),
+    (
+        Do(
+            OTHER,
+            Request::Copy(CopyArgs {
+                source: PEER_0,
+                dest: FRAME_0,
+                len: 1,
+                flags: SOURCE,
+            }),
+        ),
+        "N10 100000000000",
+    ),
+];
+
+// A transitive entry is revoked between the look and the pin of a copy.
+const REVOKED_BEFORE_THE_PIN: [(Doing, &str); 9] = [
+    (
+        Do(
+            OWNER,
+            Request::Grant {
+                gref: GrantRef(4),
+                entry: Entry::Page {
+                    dom: PEER,
+                    ro: false,
+                    frame: 6,
+                },
+            },
+        ),
+        "ok",
+    ),
+    (
+        Do(
+            OWNER,
+            Request::Poke {
+                frame: 6,
+                off: 0,
+                bytes: &[0x5a],
+            },
+        ),
+        "ok",
+    ),
+    (
+        Do(
+            PEER,
+            Request::Grant {
+                gref: GrantRef(0),
+                entry: Entry::Via {
+                    dom: OTHER,
+                    ro: true,
+                    dom2: OWNER,
+                    gref: GrantRef(4),
+                },
+            },
+        ),
+        "ok",
+    ),
+    (
+        Begin(
+            OTHER,
+            Request::Copy(CopyArgs {
+                source: PEER_0,
+                dest: FRAME_0,
+                len: 1,
+                flags: SOURCE,
+            }),
+        ),
+        "open",
+    ),
+    (Tick(OTHER, 2), "open"),
+    (Do(PEER, REVOKE), "ok"),
+    (Tick(OTHER, 2), "open"),
+    (Tick(OTHER, 1), "N10 100000000000"),
+    (
+        Do(
+            OTHER,
+            Request::Peek {
+                frame: 0,
+                off: 0,
+                len: 1,
+            },
+        ),
+        "ok [0]",
+    ),
+];
+
+// A transitive entry leads to another one.
+const VIA_TO_A_VIA: [(Doing, &str); 5] = [
+    (
+        Do(
+            OWNER,
+            Request::Grant {
+                gref: GrantRef(4),
+                entry: Entry::Via {
+                    dom: PEER,
+                    ro: false,
+                    dom2: OTHER,
+                    gref: GrantRef(0),
+                },
+            },
+        ),
+        "ok",
+    ),
+    (
+        Do(
+            PEER,
+            Request::Grant {
+                gref: GrantRef(0),
+                entry: Entry::Via {
+                    dom: OTHER,
+                    ro: false,
+                    dom2: OWNER,
+                    gref: GrantRef(4),
+                },
+            },
+        ),
+        "ok",
+    ),
+    (
+        Path(
+            OTHER,
+            Request::Copy(CopyArgs {
+                source: PEER_0,
+                dest: FRAME_0,
+                len: 1,
+                flags: SOURCE,
+            }),
+        ),
+        "H 2 6\n\
+C 2 0 100030000003\n\
+B 2 0 First 40001\n\
+P 2 0 Read taken\n\
+H 1 6\n\
+C 1 4 100020000003\n\
+U 2 0 Read -\n\
+N15 100020000003",
+    ),
+    (Do(PEER, REVOKE), "ok"),
+    (Do(OWNER, Request::Revoke { gref: GrantRef(4) }), "ok"),
+];
+
+// The owner behind a transitive entry may not be copied from.
+const OWNERS_MAY_NOT: [(Doing, &str); 4] = [
+    (
+        Do(
+            OWNER,
+            Request::Grant {
+                gref: GrantRef(4),
+                entry: Entry::Page {
+                    dom: PEER,
+                    ro: true,
+                    frame: 6,
+                },
+            },
+        ),
+        "ok",
+    ),
+    (
+        Do(
+            PEER,
+            Request::Grant {
+                gref: GrantRef(0),
+                entry: Entry::Via {
+                    dom: OTHER,
+                    ro: true,
+                    dom2: OWNER,
+                    gref: GrantRef(4),
+                },
+            },
+        ),
+        "ok",
+    ),
+    (
+        Do(
+            OTHER,
+            Request::Copy(CopyArgs {
+                source: PEER_0,
+                dest: FRAME_0,
+                len: 1,
+                flags: SOURCE,
+            }),
+        ),
+        "N5 source=1 target=3 Perms(32)",
+    ),
+    (Do(PEER, REVOKE), "ok"),
+];
+
+// It may.
+const OWNERS_MAY: [(Doing, &str); 4] = [
+    (
+        Do(
+            OWNER,
+            Request::Grant {
+                gref: GrantRef(4),
+                entry: Entry::Page {
+                    dom: PEER,
+                    ro: true,
+                    frame: 6,
+                },
+            },
+        ),
+        "ok",
+    ),
+    (
+        Do(
+            PEER,
+            Request::Grant {
+                gref: GrantRef(0),
+                entry: Entry::Via {
+                    dom: OTHER,
+                    ro: true,
+                    dom2: OWNER,
+                    gref: GrantRef(4),
+                },
+            },
+        ),
+        "ok",
+    ),
+    (
+        Path(
+            OTHER,
+            Request::Copy(CopyArgs {
+                source: PEER_0,
+                dest: FRAME_0,
+                len: 1,
+                flags: SOURCE,
+            }),
+        ),
+        "H 2 6\n\
+C 2 0 100030000007\n\
+B 2 0 First 40001\n\
+P 2 0 Read taken\n\
+H 1 6\n\
+C 1 4 100020000005\n\
+B 1 4 First 6\n\
+P 1 4 Read taken\n\
+A 1 6 0 to 3 0 0 len 1 -\n\
+U 1 4 Read -\n\
+U 2 0 Read -\n\
+ok",
+    ),
+    (Do(PEER, REVOKE), "ok"),
+];
+
+// The owner behind a transitive entry may not be copied to.
+const OWNERS_MAY_NOT_TO: [(Doing, &str); 3] = [
+    (
+        Do(
+            OWNER,
+            Request::Grant {
+                gref: GrantRef(4),
+                entry: Entry::Page {
+                    dom: PEER,
+                    ro: false,
+                    frame: 6,
+                },
+            },
+        ),
+        "ok",
+    ),
+    (
+        Do(
+            PEER,
+            Request::Grant {
+                gref: GrantRef(0),
+                entry: Entry::Via {
+                    dom: OTHER,
+                    ro: false,
+                    dom2: OWNER,
+                    gref: GrantRef(4),
+                },
+            },
+        ),
+        "ok",
+    ),
+    (
+        Do(
+            OTHER,
+            Request::Copy(CopyArgs {
+                source: FRAME_0,
+                dest: PEER_0,
+                len: 1,
+                flags: DEST,
+            }),
+        ),
+        "N5 source=3 target=1 Perms(32)",
+    ),
+];
+
+// A transitive entry leads to a domain that there is not.
+const VIA_TO_NO_DOMAIN: [(Doing, &str); 3] = [
+    (
+        Do(
+            PEER,
+            Request::Grant {
+                gref: GrantRef(1),
+                entry: Entry::Via {
+                    dom: OTHER,
+                    ro: true,
+                    dom2: DomId(9),
+                    gref: GrantRef(0),
+                },
+            },
+        ),
+        "ok",
+    ),
+    (
+        Path(
+            OTHER,
+            Request::Copy(CopyArgs {
+                source: End {
+                    ptr: 1,
+                    domid: PEER,
+                    offset: 0,
+                },
+                dest: FRAME_0,
+                len: 1,
+                flags: SOURCE,
+            }),
+        ),
+        "H 2 6\n\
+C 2 1 100030000007\n\
+B 2 1 First 9\n\
+P 2 1 Read taken\n\
+U 2 1 Read -\n\
+N1",
+    ),
+    (Do(PEER, Request::Revoke { gref: GrantRef(1) }), "ok"),
+];
+
+// Behind a transitive entry the page must be for the owner of that entry.
+const VIA_TO_ANOTHERS_PAGE: [(Doing, &str); 3] = [
+    (
+        Do(
+            OWNER,
+            Request::Grant {
+                gref: GrantRef(4),
+                entry: Entry::Page {
+                    dom: OTHER,
+                    ro: true,
+                    frame: 6,
+                },
+            },
+        ),
+        "ok",
+    ),
+    (
+        Do(
+            PEER,
+            Request::Grant {
+                gref: GrantRef(0),
+                entry: Entry::Via {
+                    dom: OTHER,
+                    ro: true,
+                    dom2: OWNER,
+                    gref: GrantRef(4),
+                },
+            },
+        ),
+        "ok",
+    ),
+    (
+        Do(
+            OTHER,
+            Request::Copy(CopyArgs {
+                source: PEER_0,
+                dest: FRAME_0,
+                len: 1,
+                flags: SOURCE,
+            }),
+        ),
+        "N11 100030000005",
+    ),
+];
+
+// Each domain may be copied from to each.
+const ALL: [(DomId, DomId); 9] = [
+    (OWNER, OWNER),
+    (OWNER, PEER),
+    (OWNER, OTHER),
+    (PEER, OWNER),
+    (PEER, PEER),
+    (PEER, OTHER),
+    (OTHER, OWNER),
+    (OTHER, PEER),
+    (OTHER, OTHER),
+];
+
+// Each run with the version of the tables and the pairs of domains that may be copied from and to.
+const COPIES: [(u32, &[(DomId, DomId)], &[(Doing, &str)]); 14] = [
+    (1, &ALL, &PAGE),
+    (2, &ALL, &SUB_PAGE),
+    (1, &ALL, &READ_ONLY_DEST),
+    (1, &ALL, &FLAGS),
+    (1, &ALL, &FOREIGN_FRAME),
+    (1, &ALL, &OVERLAP),
+    (2, &ALL, &REVOKED_BEHIND_A_COPY),
+    (2, &ALL, &REVOKED_BEFORE_THE_PIN),
+    (2, &ALL, &VIA_TO_A_VIA),
+    (2, &[(PEER, OTHER)], &OWNERS_MAY_NOT),
+    (2, &[(PEER, OTHER), (OWNER, OTHER)], &OWNERS_MAY),
+    (2, &[(OTHER, PEER)], &OWNERS_MAY_NOT_TO),
+    (2, &ALL, &VIA_TO_NO_DOMAIN),
+    (2, &ALL, &VIA_TO_ANOTHERS_PAGE),
+];
+
+#[test]
+fn copies_go_as_they_must(rt: HostRuntime) -> Result<(), Fail> {
+    let alloc = rt.alloc();
+    for (version, pairs, rows) in COPIES {
+        let mut core = start_to_copy(alloc, version, pairs)?;
+        goes(&rt, &mut core, alloc, rows)?;
+    }
+    Ok(())
+}
