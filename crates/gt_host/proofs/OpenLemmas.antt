@@ -8,8 +8,8 @@ use Rattle.gt_core.specs.Legal.{MayDo, StepsRight, StepsRightIn, grown, LegalAft
 use Rattle.gt_core.specs.Standing.{CoreStands, begun_element}
 use Rattle.gt_core.specs.States.{State}
 use Rattle.gt_calls.specs.declared.request.Request.{Request}
-use Rattle.gt_calls.specs.declared.asked.Asked.{Asked}
-use Rattle.gt_calls.specs.declared.asked.Asked.TheVariants as asks
+use Rattle.gt_calls.specs.declared.request.Asked.{Asked}
+use Rattle.gt_calls.specs.declared.request.Asked.TheVariants as asks
 use Rattle.gt_calls.specs.Asking.{asked, given_by}
 use Rattle.gt_calls.specs.declared.action.Seen.{Seen}
 use Rattle.gt_calls.specs.declared.action.Step.{Step}
@@ -123,6 +123,7 @@ few_steps (asks.Load handle off len) = omega arith
 few_steps (asks.Store handle off len) = omega arith
 few_steps (asks.Peek frame off len) = omega arith
 few_steps (asks.Poke frame off len) = omega arith
+few_steps (asks.Copy c) = omega arith
 few_steps (asks.SetVersion version) = omega arith
 few_steps (asks.SetupTable frames) = omega arith
 few_steps (asks.QuerySize dom) = omega arith
