@@ -1,8 +1,8 @@
 -- What an access to bytes rests on: it is inside a frame, and justified.
-use Rattle.std.proofs.Common.{◌≡◌, ◌≢◌, ◌≤◌, ◌<◌, ◌+◌, ◌⊎◌, inl, inr, ℕ, suc, refl, Bool, true, false, List, [], ◌∷◌, ◌++◌, length, Option, Some, None, cond, sym, ap, ◌∙◌, arith, subst, reverse}
-use Rattle.std.proofs.lemmas.Bool.{eqb-true, eq-eqb, and_parts, and_from, leb-false, false≢true, true≢false}
+use Rattle.std.proofs.Common.{◌≡◌, ◌≢◌, ◌≤◌, ◌<◌, ◌+◌, ◌⊎◌, inl, inr, ℕ, suc, refl, Bool, true, false, List, [], ◌∷◌, ◌++◌, Option, Some, None, cond, sym, ap, ◌∙◌, arith, subst, reverse}
+use Rattle.std.proofs.lemmas.Bool.{eqb-true, and_parts, and_from, leb-false, false≢true}
 use Rattle.std.proofs.lemmas.Option.{none-some, same_Some}
-use Rattle.std.specs.Prelude.{◌==◌, ◌&&◌, nat_lt, nat_le, not, is_none, All, Any, map}
+use Rattle.std.specs.Prelude.{◌==◌, ◌&&◌, nat_le, is_none, All, Any}
 use Rattle.std.proofs.lemmas.Grind.{reverse_onto}
 use Rattle.gt_types.specs.Names.{domain_of, resolved}
 use Rattle.gt_types.specs.Denial.{denial_of}
@@ -26,25 +26,22 @@ use Rattle.gt_calls.specs.declared.held.Route.{Route}
 use Rattle.gt_calls.specs.declared.held.Route.TheVariants.{Own, Direct, Through}
 use Rattle.gt_calls.specs.declared.held.Pins.{Pins}
 use Rattle.gt_calls.specs.declared.request.End.{End}
-use Rattle.gt_calls.specs.declared.request.CopyArgs.{CopyArgs}
 use Rattle.gt_calls.specs.declared.request.Asked.{Asked}
 use Rattle.gt_calls.specs.declared.request.Asked.TheVariants.{Load, Store, Peek, Poke, Copy}
 use Rattle.gt_calls.specs.declared.request.Holder.{Holder}
 use Rattle.gt_calls.specs.declared.request.Holder.TheVariants.{Mapping as ByMapping, Leg as ByLeg}
 use Rattle.gt_calls.specs.declared.action.Place.{Place}
 use Rattle.gt_calls.specs.declared.action.Verdict.TheVariants.{Refused}
-use Rattle.gt_calls.specs.declared.action.Step.{Step}
-use Rattle.gt_calls.specs.declared.action.Step.TheVariants.{Read as ReadBytes, Write as WriteBytes, Copy as CopyBytes}
+use Rattle.gt_calls.specs.declared.action.Step.TheVariants.{Read as ReadBytes, Write as WriteBytes}
 use Rattle.gt_calls.specs.Holding.{last_first}
 use Rattle.gt_calls.specs.Rules.{CallerKnowledge, begun, frames_of, via_judged, denied, copy_denied, rights_to_copy, refused_when, first, is_source_granted, is_dest_granted}
 use Rattle.gt_calls.specs.Path.{place_of, source_pair, dest_pair}
-use Rattle.gt_calls.specs.Opening.{opens, IsAllowed, holds-first}
-use Rattle.gt_calls.specs.Resting.{RestsOnRequest, RestsOnWays, IsMapped, IsReached, IsPermitted, IsForwarded, LeadsTo}
+use Rattle.gt_calls.specs.Opening.{opens, IsAllowed}
+use Rattle.gt_calls.specs.Resting.{RestsOnRequest, RestsOnWays, IsMapped, IsReached, IsPermitted, LeadsTo}
 use Rattle.gt_core.specs.States.{State}
 use Rattle.gt_core.specs.History.{History, Setting, Pin, live, known_at, legs_at, mappings_at, mapping_of, gather, by_mapping, by_leg, same_handle}
-use Rattle.gt_core.specs.Legal.{Reaches, Forwards, ReachesThrough, MayUse, MayCopy, MayUseMapping, MayAccess, MayAsk, IsInFrame, EndIsJustified, CopyIsJustified, Justified}
+use Rattle.gt_core.specs.Legal.{Reaches, Forwards, MayUse, MayCopy, MayUseMapping, MayAccess, MayAsk, IsInFrame, EndIsJustified, CopyIsJustified, Justified}
 use Rattle.gt_core.specs.Standing.{IsLawful, IsLawfullyHeld, CoreStands, numbered}
-use Rattle.gt_core.proofs.Unpinning.{one_of}
 
 -- pins among those that a domain's give
 

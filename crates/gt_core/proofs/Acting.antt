@@ -1,8 +1,7 @@
 -- What each step of an open call rests on, by the history.
-use Rattle.std.proofs.Common.{◌≡◌, ◌≢◌, ◌<◌, ◌≤◌, ◌+◌, ◌⊎◌, inl, inr, ℕ, refl, Bool, true, false, List, [], ◌∷◌, ◌++◌, length, Option, Some, None, cond, sym, ap, ◌∙◌, subst, reverse, arith}
-use Rattle.std.proofs.lemmas.Bool.{eqb-true, eq-eqb, eqb-false, leb-false, ltb-false, true≢false, false≢true}
-use Rattle.std.proofs.lemmas.Option.{none-some, same_Some}
-use Rattle.std.specs.Prelude.{◌==◌, nat_lt, nat_le}
+use Rattle.std.proofs.Common.{◌≡◌, ◌≢◌, ◌<◌, ◌≤◌, ◌+◌, ◌⊎◌, inl, inr, ℕ, refl, Bool, true, false, List, [], ◌∷◌, Option, None, sym, ap, ◌∙◌, subst, reverse, arith}
+use Rattle.std.proofs.lemmas.Bool.{eqb-true, eqb-false, leb-false, ltb-false, false≢true}
+use Rattle.std.specs.Prelude.{◌==◌, nat_lt}
 use Rattle.gt_types.specs.Names.{domain_of, resolved}
 use Rattle.gt_types.specs.declared.DomId.{DomId}
 use Rattle.gt_types.specs.declared.GrantRef.{GrantRef}
@@ -14,7 +13,6 @@ use Rattle.gt_types.specs.declared.denial.Rule.{Rule}
 use Rattle.gt_types.specs.declared.denial.Rule.TheVariants.{N14, N16, N17}
 use Rattle.gt_entry.specs.declared.entry.Entry.{Entry}
 use Rattle.gt_entry.specs.declared.entry.Entry.TheVariants.{Invalid, Page, Sub, Via}
-use Rattle.gt_entry.specs.declared.control.Control.{Control}
 use Rattle.gt_entry.specs.declared.change.Change.{Change}
 use Rattle.gt_entry.specs.declared.change.Change.TheVariants.{Publish, Revoke as ToInvalid, Demote as ToReadOnly, Promote as ToWritable}
 use Rattle.gt_entry.specs.declared.change.Half.{Half}
@@ -25,12 +23,8 @@ use Rattle.gt_entry.specs.Words.{control_of}
 use Rattle.gt_calls.specs.declared.held.Held.{Held}
 use Rattle.gt_calls.specs.declared.request.Asked.{Asked}
 use Rattle.gt_calls.specs.declared.request.Asked.TheVariants.{Grant, Map, Copy, SetVersion, SetupTable}
-use Rattle.gt_calls.specs.declared.request.Holder.TheVariants.{Mapping as ByMapping, Leg as ByLeg}
 use Rattle.gt_calls.specs.declared.action.Seen.{Seen}
-use Rattle.gt_calls.specs.declared.action.Seen.TheVariants.{Taken, Missed}
-use Rattle.gt_calls.specs.declared.action.Step.{Step}
-use Rattle.gt_calls.specs.declared.action.Step.TheVariants.{LookHeader, LookControl, LookBody, Pin as PinStep, Unpin, StoreBody, StoreHeader, Exchange}
-use Rattle.gt_calls.specs.declared.action.Action.{Action}
+use Rattle.gt_calls.specs.declared.action.Step.TheVariants.{Pin as PinStep, StoreHeader, Exchange}
 use Rattle.gt_calls.specs.declared.action.Action.TheVariants.{Step as Makes}
 use Rattle.gt_calls.specs.declared.copying.Aim.{Aim}
 use Rattle.gt_calls.specs.declared.copying.Aim.TheVariants.{Mapping, Source, Dest}
@@ -41,18 +35,18 @@ use Rattle.gt_calls.specs.declared.leg.LegPhase.{LegPhase}
 use Rattle.gt_calls.specs.declared.leg.LegPhase.TheVariants.{Header as AtHeader, Look, Body, Second, Pinning, Relook}
 use Rattle.gt_calls.specs.Holding.{last_first}
 use Rattle.gt_calls.specs.Rules.{CallerKnowledge, begun, stands, first, first_look, before_pin, pins_of, is_outside, is_past_owner, frames_of, rights_to_map}
-use Rattle.gt_calls.specs.Path.{path, held_of, is_stopped, idle_word, map_leg, Continuation}
-use Rattle.gt_calls.specs.Opening.{opens, IsAllowed}
-use Rattle.gt_calls.specs.Resting.{RestsStep, RestsOnTry, RestsOnWord, RestsOnRequest, RestsOnGrant, IsFor, IsOfMap, Lets}
+use Rattle.gt_calls.specs.Path.{path, held_of, map_leg, Continuation}
+use Rattle.gt_calls.specs.Opening.{opens}
+use Rattle.gt_calls.specs.Resting.{RestsOnTry, RestsOnRequest, RestsOnGrant, IsFor, Lets}
 use Rattle.gt_calls.specs.Machine.{action_at, leg_step, next_to_give}
 use Rattle.gt_calls.specs.Standing.{HasShown, IsQuiet, IsTurn}
 use Rattle.gt_core.specs.States.{State}
-use Rattle.gt_core.specs.History.{History, Setting, Pin, live, entry_at, generation_at, body_at, reads_at, writes_at, control_at, word_at, table_at, known_at, legs_at, mappings_at, mapping_of, raise_of, holder_after}
-use Rattle.gt_core.specs.Legal.{IsSafeChange, IsSpelled, MayUse, NoneStands, LegNow, leg_at, rule_before_pin, StepsSoFar}
-use Rattle.gt_core.specs.Standing.{CoreStands, FitsAsked, FitsTable, PhaseStands, LegStands, IsLawfullyHeld, numbered}
+use Rattle.gt_core.specs.History.{History, Setting, entry_at, generation_at, body_at, reads_at, writes_at, control_at, word_at, known_at, legs_at, raise_of}
+use Rattle.gt_core.specs.Legal.{IsSafeChange, IsSpelled, MayUse, NoneStands, leg_at, rule_before_pin, StepsSoFar}
+use Rattle.gt_core.specs.Standing.{CoreStands, FitsAsked, FitsTable, PhaseStands, numbered}
 use Rattle.gt_core.proofs.Fitting.{word-shows}
-use Rattle.gt_core.proofs.Legs.{IsAsTried, as-tried, still-judged, IsLegOf, control-generation, control-reads, control-writes}
-use Rattle.gt_core.proofs.Aims.{pair_of, leg-here}
+use Rattle.gt_core.proofs.Legs.{IsAsTried, as-tried, still-judged, control-generation, control-reads, control-writes}
+use Rattle.gt_core.proofs.Aims.{leg-here}
 use Rattle.gt_core.proofs.Phases.{IsHere, makes-same, words-of, word-below, grant-invalid, idle-no-pins, of-run}
 use Rattle.gt_core.proofs.Judging.{writes-shown}
 use Rattle.gt_core.proofs.Exchanging.{FitsChange}

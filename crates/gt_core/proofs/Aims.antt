@@ -1,8 +1,7 @@
 -- The leg that an open call walks is the one that its pins tell.
-use Rattle.std.proofs.Common.{◌≡◌, ◌+◌, ℕ, refl, Bool, true, false, List, [], ◌∷◌, ◌++◌, map, reverse, Option, Some, None, cond, sym, ap, ◌∙◌, subst}
-use Rattle.std.proofs.lemmas.Bool.{true≢false, false≢true}
+use Rattle.std.proofs.Common.{◌≡◌, ◌+◌, ℕ, refl, Bool, true, List, [], ◌∷◌, ◌++◌, map, reverse, Option, Some, None, cond, sym, ap, ◌∙◌}
+use Rattle.std.proofs.lemmas.Bool.{false≢true}
 use Rattle.gt_types.specs.declared.DomId.{DomId}
-use Rattle.gt_types.specs.declared.GrantRef.{GrantRef}
 use Rattle.gt_types.specs.declared.Dir.{Dir}
 use Rattle.gt_types.specs.declared.Dir.TheVariants.{Read, Write}
 use Rattle.gt_types.specs.declared.Use.TheVariants.{Copy as ForCopy}
@@ -10,7 +9,6 @@ use Rattle.gt_entry.specs.declared.entry.Entry.{Entry}
 use Rattle.gt_entry.specs.declared.entry.Entry.TheVariants.{Invalid, Page, Sub, Via}
 use Rattle.gt_entry.specs.Permits.{permits}
 use Rattle.gt_calls.specs.declared.request.Asked.{Asked}
-use Rattle.gt_calls.specs.declared.request.Asked.TheVariants.{Map, Copy}
 use Rattle.gt_calls.specs.declared.request.CopyArgs.{CopyArgs}
 use Rattle.gt_calls.specs.declared.held.Held.{Held}
 use Rattle.gt_calls.specs.declared.held.Route.{Route}
@@ -20,10 +18,10 @@ use Rattle.gt_calls.specs.declared.copying.Aim.TheVariants.{Mapping, Source, Des
 use Rattle.gt_calls.specs.declared.leg.Leg.{Leg}
 use Rattle.gt_calls.specs.Holding.{last_first, pins_so_far, begun_route, held_by}
 use Rattle.gt_calls.specs.Rules.{CallerKnowledge, is_source_granted, is_dest_granted}
-use Rattle.gt_calls.specs.Path.{map_leg, end_leg, second_leg, source_pair, dest_pair}
-use Rattle.gt_calls.specs.Resting.{IsFor, IsToward, IsReached, IsOnFrom, LeadsTo, IsPermitted}
+use Rattle.gt_calls.specs.Path.{source_pair, dest_pair}
+use Rattle.gt_calls.specs.Resting.{IsFor, IsToward, IsReached, IsOnFrom, LeadsTo}
 use Rattle.gt_core.specs.History.{History, Setting, known_at, legs_at}
-use Rattle.gt_core.specs.Legal.{LegNow, leg_at, leg_now, copy_now, toward_source, from_source, after_source, toward_dest, source_now, dest_now, second_now}
+use Rattle.gt_core.specs.Legal.{LegNow, leg_now, copy_now, toward_source, from_source, after_source, source_now, dest_now, second_now}
 use Rattle.gt_core.specs.Standing.{numbered}
 use Rattle.gt_core.proofs.Legs.{IsLegOf}
 

@@ -1,7 +1,7 @@
 -- A beginning keeps what a core stands for.
-use Rattle.std.proofs.Common.{arith, ◌≤◌, ◌≡◌, ◌≢◌, ◌<◌, ◌+◌, ◌⊎◌, inl, inr, ℕ, refl, Bool, true, false, List, [], ◌∷◌, ◌++◌, length, Option, Some, None, cond, sym, ap, ◌∙◌, subst, get_or, set, reverse}
+use Rattle.std.proofs.Common.{arith, ◌≤◌, ◌≡◌, ◌≢◌, ◌<◌, ◌+◌, inl, inr, ℕ, refl, Bool, true, false, List, [], ◌∷◌, length, Option, Some, None, cond, sym, ap, ◌∙◌, subst, get_or, set, reverse}
 use Rattle.std.proofs.lemmas.Bool.{eqb-true, true≢false}
-use Rattle.std.proofs.lemmas.Option.{none-some, slice_get_read, same_Some}
+use Rattle.std.proofs.lemmas.Option.{slice_get_read, same_Some}
 use Rattle.std.proofs.lemmas.List.Quantifiers.{position-Some}
 use Rattle.std.specs.Prelude.{All, nat_lt, nat_le, ◌==◌, ◌||◌, ◌^◌, not, is_none, is_some, position, slice_get}
 use Rattle.gt_types.specs.Names.{domain_of, resolved}
@@ -12,7 +12,6 @@ use Rattle.gt_types.specs.declared.Dir.TheVariants.{Read, Write}
 use Rattle.gt_types.specs.declared.perms.Perms.{Perms}
 use Rattle.gt_types.specs.declared.rights.Triple.{Triple}
 use Rattle.gt_types.specs.declared.limits.TheConstants.{FRAME_SIZE, LAST_GENERATION, MAX_MAPPINGS, MAX_TABLE_FRAMES}
-use Rattle.gt_types.specs.declared.denial.Denial.{Denial}
 use Rattle.gt_types.specs.declared.denial.Field.{Field}
 use Rattle.gt_types.specs.declared.denial.Rule.{Rule}
 use Rattle.gt_types.specs.declared.denial.Rule.TheVariants.{N1, N2, N3, N4, N5, N6, N7, N8, N9, N10, N16, N20, N21, N22, N23, N24}
@@ -22,7 +21,6 @@ use Rattle.gt_entry.specs.declared.header.Header.{Header}
 use Rattle.gt_entry.specs.declared.change.Change.{Change}
 use Rattle.gt_entry.specs.declared.change.Change.TheVariants.{Demote as ToReadOnly, Promote as ToWritable}
 use Rattle.gt_entry.specs.Bytes.{first_refused}
-use Rattle.gt_handles.specs.declared.handles.Handle.{Handle}
 use Rattle.gt_calls.specs.declared.held.Held.{Held}
 use Rattle.gt_calls.specs.declared.held.Route.TheVariants.{Own}
 use Rattle.gt_calls.specs.declared.request.Request.{Request}
@@ -34,7 +32,7 @@ use Rattle.gt_calls.specs.declared.action.Seen.{Seen}
 use Rattle.gt_calls.specs.declared.action.Verdict.{Verdict}
 use Rattle.gt_calls.specs.declared.action.Verdict.TheVariants.{Granted, Given, Refused, Mapped as KeptPin}
 use Rattle.gt_calls.specs.declared.action.Value.TheVariants.{Frames as FramesTold, Size as SizeTold, Version as VersionTold}
-use Rattle.gt_calls.specs.declared.action.Action.TheVariants.{Step as Makes}
+use Rattle.gt_calls.specs.declared.action.Action.TheVariants.{Step as Makes, Done}
 use Rattle.gt_calls.specs.declared.judging.TheConstants.{END_OF_SERIALS}
 use Rattle.gt_calls.specs.declared.call.Call.{Call}
 use Rattle.gt_calls.specs.declared.call.Phase.{Phase}
@@ -42,12 +40,17 @@ use Rattle.gt_calls.specs.declared.call.Phase.TheVariants.{Storing, StoringSecon
 use Rattle.gt_calls.specs.declared.copying.Aim.TheVariants.{Source, Dest}
 use Rattle.gt_calls.specs.declared.leg.LegPhase.TheVariants.{Header as AtHeader}
 use Rattle.gt_calls.specs.Asking.{asked, field_refused, begun_of, bytes_begun, IsSaid, given_by}
-use Rattle.gt_calls.specs.Rules.{CallerKnowledge, first, refused_when, granted_when, given_when, denied, unmap_denied, rights_to_map, rights_to_unmap, rights_to_copy, rights_to_setup, rights_to_query, map_dir, is_already, change_begun, version_begun, setup_begun, query_begun, own_access_begun, is_version, has_valid, cannot_stand, is_for_reading, is_invalid, size_of, begun, knowledge_of, frames_of, ends_named, ends_ranged, ends_owned, ends_framed, copy_denied, is_foreign, is_past_frames, is_source_granted, is_dest_granted}
+use Rattle.gt_calls.specs.Rules.{CallerKnowledge, first, refused_when, granted_when, given_when, denied, unmap_denied, rights_to_map, rights_to_unmap, rights_to_copy, rights_to_setup, rights_to_query, map_dir, is_already, change_begun, version_begun, setup_begun, query_begun, own_access_begun, is_version, has_valid, cannot_stand, is_for_reading, is_invalid, size_of, begun, knowledge_of, frames_of, ends_named, ends_ranged, ends_owned, ends_framed, is_foreign, is_past_frames, is_source_granted, is_dest_granted}
 use Rattle.gt_calls.specs.Opening.{opens}
 use Rattle.gt_calls.specs.Path.{end_leg}
-use Rattle.gt_calls.specs.Machine.{first_phase, action_at, at_source, at_dest, unmap_phase, load_phase, store_phase}
-use Rattle.gt_calls.specs.Standing.{StandsAt, IsAt, held_in, pins_at, pins_by_call}
-use Rattle.gt_calls.specs.Following.{GoesOn}
+use Rattle.gt_calls.specs.Machine.{first_phase, action_at, at_dest, unmap_phase, load_phase, store_phase}
+use Rattle.gt_calls.specs.Standing.{IsFresh, StandsAt, IsAt, held_in, pins_at, pins_by_call}
+use Rattle.gt_calls.specs.Following.{GoesOn, Goes, Starts, MakesStep}
+use Rattle.gt_calls.specs.Path.{path}
+use Rattle.gt_calls.specs.declared.call.Start.TheVariants.{Open as StartOpen}
+use Rattle.gt_calls.specs.declared.action.Seen.TheVariants.{Nothing}
+use Rattle.gt_calls.specs.declared.action.Step.{Step}
+use Rattle.gt_calls.specs.declared.action.Action.{Action}
 use Rattle.gt_calls.specs.Resting.{Rests}
 use Rattle.gt_calls.specs.declared.held.Pins.{Pins}
 use Rattle.gt_calls.specs.Counting.{most_steps as most_of, steps_left, steps_to_come}
@@ -59,10 +62,10 @@ use Rattle.gt_core.specs.declared.slot.Open.{Open}
 use Rattle.gt_core.specs.declared.core_state.Opening.TheVariants.{Open as OpeningOpen}
 use Rattle.gt_core.specs.States.{State, state_of, asks_memory, kept_by}
 use Rattle.gt_core.specs.Effects.{with_call}
-use Rattle.gt_core.specs.History.{History, Setting, table_at, known_at, Underway, open_call, values, legs_at, one_if_mapped}
+use Rattle.gt_core.specs.History.{History, Setting, table_at, known_at, Underway, open_call, legs_at, one_if_mapped}
 use Rattle.gt_core.specs.Legal.{LeavesAll, stood, AnsweredBy, GivesValue, refusal_in, refusal_of, MayDo, IsRight}
 use Rattle.gt_core.specs.Standing.{IsMapping, IsClean, phase_refusal, WantsMemory, IsOpened, FitsAsked, PhaseStands, OpenAgrees, CallAgrees, FitsGiven, GivenAgrees, Agrees, StateAgrees, CoreStands, answer_of, Opens, numbered}
-use Rattle.gt_core.proofs.Quiet.{KeepsKnown, WritesNone, kept-known, kept-legs}
+use Rattle.gt_core.proofs.Quiet.{KeepsKnown, kept-known, kept-legs}
 use Rattle.gt_core.proofs.Places.{has_id, found, not-found, state_of-set}
 use Rattle.gt_core.proofs.Phases.{of-run}
 use Rattle.gt_core.proofs.Placing.{dest-placed}
@@ -158,7 +161,6 @@ first-place s h d (SetVersion version) e = inl (refl, refl)
 first-place s h d (SetupTable frames) e = inr (refl, refl)
 first-place s h d (QuerySize dom) e = (dom, refl, refl)
 first-place s h d (GetVersion dom) e = (dom, refl, refl)
-
 
 -- a call that opens has no rule against it where it then stands
 first-plain : (k : CallerKnowledge) (d : DomId) (r : Asked) → begun k d r ≡ None → phase_refusal (first_phase k d r) ≡ None
@@ -562,3 +564,35 @@ serial-left k d request r same none m = by r (subst (λ (z : Asked). begun k d z
     by : (z : Asked) → begun k d z ≡ None → IsMapping (Some z) → k.maps_answered + 1 < 2 ^ 64
     by (Map dom gref flags) e a = let lt : k.maps_answered < END_OF_SERIALS = (opens k d (Map dom gref flags) e).serials_left in omega arith
     by z e a = absurd a
+
+-- a call that starts, and makes its first step, is opened
+pub opened : (k : CallerKnowledge) (dom : DomId) (request : Request) (first new : Call) (action : Action) (step : Step) → Starts k dom request (StartOpen first) → Goes k first Nothing new action → action ≡ Makes step → new.caller ≡ first.caller → new.request ≡ first.request
+    → IsOpened k dom request (record { call = new; step = step })
+opened k dom request first new action step (none, said, caller, asks, fresh, path_is, makes) goes is by asked_as =
+    let start : Call = record { caller = dom; request = asked request; phase = None } in
+    let same : first ≡ start =
+    ap (λ (z : DomId). record { caller = z; request = first.request; phase = first.phase }) caller
+    ∙ ap (λ (z : Asked). record { caller = dom; request = z; phase = first.phase }) asks
+    ∙ ap (λ (z : Option Phase). record { caller = dom; request = asked request; phase = z }) fresh.unmoved in
+    let g : Goes k start Nothing new (Makes step) = subst (λ (a : Action). Goes k start Nothing new a) is (subst (λ (z : Call). Goes k z Nothing new action) same goes) in
+    let new_fresh : IsFresh k start = subst (IsFresh k) same fresh in
+    let f = g.first new_fresh in
+    record {
+      unanswered = none;
+      said = said;
+      caller = by ∙ caller;
+      asks = asked_as ∙ asks;
+      none = new_fresh.unanswered;
+      phase = g.moves;
+      at = f.0.at;
+      acts = sym g.acts;
+      follows = f.0.follows;
+      rests = f.0.rests;
+      few = f.2;
+    }
+
+-- it makes a step
+pub not-done : (k : CallerKnowledge) (dom : DomId) (request : Request) (first new : Call) (action : Action) (v : Verdict) → Starts k dom request (StartOpen first) → Goes k first Nothing new action → action ≡ Done v → ⊥
+not-done k dom request first new action v (none, said, caller, asks, fresh, path_is, makes) goes is =
+    let f : path k first.caller first.request [] ≡ Some (Done v) = (goes.first fresh).0.follows ∙ ap (λ (a : Action). Some a) is in
+    subst MakesStep (ap (λ (z : DomId). path k z first.request []) (sym caller) ∙ f) makes

@@ -1,9 +1,9 @@
 -- An exchange that was taken keeps what a core stands for.
-use Rattle.std.proofs.Common.{◌≡◌, ◌≢◌, ◌<◌, ◌≤◌, ◌+◌, ℕ, refl, Bool, true, false, List, [], ◌∷◌, length, Option, Some, None, cond, sym, ap, ◌∙◌, arith, subst, get_or}
-use Rattle.std.proofs.lemmas.Bool.{eqb-true, eq-eqb}
+use Rattle.std.proofs.Common.{◌≡◌, ◌≢◌, ◌<◌, ◌≤◌, ◌+◌, ℕ, refl, Bool, true, false, List, ◌∷◌, length, Option, Some, None, cond, sym, ap, ◌∙◌, arith, subst, get_or}
+use Rattle.std.proofs.lemmas.Bool.{eqb-true}
 use Rattle.std.proofs.lemmas.Option.{none-some, slice_get-get_or}
 use Rattle.std.specs.Option.{option_map}
-use Rattle.std.specs.Prelude.{◌==◌, All, count_by, slice_get, ◌^◌}
+use Rattle.std.specs.Prelude.{◌==◌, All, count_by, slice_get}
 use mathlib.Core.Path.{fun_ext}
 use Rattle.gt_types.specs.declared.DomId.{DomId}
 use Rattle.gt_types.specs.declared.GrantRef.{GrantRef}
@@ -30,7 +30,7 @@ use Rattle.gt_core.specs.States.{State, state_of, changed_in}
 use Rattle.gt_core.specs.Effects.{with_own, own_after}
 use Rattle.gt_core.specs.History.{History, Setting, Pin, live, entry_at, raises_at, raise_of, changed_entry, generation_at, body_at, reads_at, writes_at, control_at, maps_answered_at, open_call, is_pin_on, change_of, entry_after, with_ro, raise_after, or_else, one_if_mapped}
 use Rattle.gt_core.specs.Legal.{IsSafeChange, IsSpelled}
-use Rattle.gt_core.specs.Standing.{IsLawful, FitsTable, FitsWord, SlotAgrees, Agrees, CoreStands, CallAgrees, GivenAgrees}
+use Rattle.gt_core.specs.Standing.{IsLawful, FitsTable, FitsWord, Agrees, CoreStands, CallAgrees, GivenAgrees}
 use Rattle.gt_core.proofs.Rows.{get-changed, length-changed}
 use Rattle.gt_core.proofs.Quiet.{kept-table}
 use Rattle.gt_core.proofs.Mappings.{mappings-same}

@@ -1,5 +1,5 @@
 -- What stays of a core's agreement with a history after one item more.
-use Rattle.std.proofs.Common.{◌≡◌, ◌≢◌, ◌<◌, ◌+◌, ℕ, refl, Bool, true, false, List, [], ◌∷◌, length, Option, Some, None, cond, sym, ap, ◌∙◌, arith, subst, reverse}
+use Rattle.std.proofs.Common.{◌≡◌, ◌≢◌, ◌<◌, ◌+◌, ℕ, refl, Bool, true, false, List, ◌∷◌, length, Option, Some, None, cond, sym, ap, ◌∙◌, arith, subst, reverse}
 use Rattle.std.proofs.lemmas.Bool.{eqb-true, eq-eqb, and_left, and_right}
 use Rattle.std.proofs.lemmas.Option.{none-some}
 use Rattle.std.specs.Prelude.{◌==◌, ◌&&◌, All, count_by, slice_get}
@@ -19,7 +19,6 @@ use Rattle.gt_entry.specs.Entries.{IsEntry}
 use Rattle.gt_handles.specs.declared.handles.Handle.{Handle}
 use Rattle.gt_handles.specs.Handles.{Kept, value_of, count_of}
 use Rattle.gt_calls.specs.declared.held.Held.{Held}
-use Rattle.gt_calls.specs.declared.request.Holder.TheVariants.{Mapping as ByMapping}
 use Rattle.gt_calls.specs.Rules.{CallerKnowledge, control_with, frames_of, knowledge_of, generation_in}
 use Rattle.gt_calls.specs.Standing.{StandsAt, pins_at}
 use Rattle.gt_calls.specs.Following.{GoesOn}
@@ -36,12 +35,12 @@ use Rattle.gt_core.specs.Rows.{changed_at}
 use Rattle.gt_core.specs.States.{State, state_of, changed_in}
 use Rattle.gt_core.specs.History.{History, Setting, Pin, live, entry_at, raises_at, generation_at, body_at, table_at, reads_at, writes_at, control_at, contents_at, known_at, mappings_at, mapping_of, maps_answered_at, legs_at, is_pin_on, open_call, underway_after, Underway, values, change_of, change_at, entry_after, raise_after, or_else, stored_at, header_stored}
 use Rattle.gt_core.specs.Legal.{IsSpelled, stood, stood_with, first_of_item}
-use Rattle.gt_core.specs.Standing.{FitsGiven, IsLawful, FitsTable, FitsWord, SlotAgrees, MappingsAgree, Agrees, StateAgrees, CoreStands, CallAgrees, OpenAgrees, GivenAgrees}
+use Rattle.gt_core.specs.Standing.{IsLawful, FitsTable, FitsWord, SlotAgrees, MappingsAgree, Agrees, StateAgrees, CoreStands, CallAgrees, OpenAgrees, GivenAgrees}
 use Rattle.gt_core.proofs.Rows.{get-changed, length-changed, state-changed}
 use Rattle.gt_core.proofs.Mappings.{mappings-same}
 use Rattle.gt_core.proofs.Quiet.{KeepsKnown, WritesNone, kept-contents, kept-table, kept-live, kept-maps_answered}
 use Rattle.gt_core.proofs.Others.{other-entry, other-body, other-maps, other-mappings, other-legs, other-generations, other-table, other-known}
-use Rattle.gt_core.proofs.Placing.{BodyStays, place-stays}
+use Rattle.gt_core.proofs.Placing.{place-stays}
 
 -- what a domain itself knows is what the core keeps of it
 pub known-same : (s : Setting) (h : History) (d : State) → Agrees s h d

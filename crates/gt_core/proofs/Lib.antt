@@ -27,3 +27,7 @@ pub mod Outcomes
 pub mod Values
 pub mod Ticking
 pub mod Stepping
+pub mod Starting
+pub mod Showing
+pub mod Playing
+pub mod Applying

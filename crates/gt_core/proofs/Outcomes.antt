@@ -1,42 +1,27 @@
 -- Where a step leads a call: what it ends with, what it has left, and what its answer is.
-use Rattle.std.proofs.Common.{◌≡◌, ◌≢◌, ◌<◌, ◌≤◌, ◌+◌, ◌⊎◌, inl, inr, ℕ, zero, suc, refl, Bool, true, false, List, [], ◌∷◌, ◌++◌, length, Option, Some, None, cond, sym, ap, ◌∙◌, subst, reverse, arith}
-use Rattle.std.proofs.lemmas.Bool.{eqb-true, eq-eqb, true≢false, false≢true}
+use Rattle.std.proofs.Common.{◌≡◌, ◌⊎◌, inl, inr, ℕ, refl, Bool, true, false, List, [], ◌∷◌, ◌++◌, length, Option, Some, None, cond, sym, ap, ◌∙◌, subst}
 use Rattle.std.proofs.lemmas.List.Elements.{All-push}
-use Rattle.std.proofs.lemmas.Option.{none-some, same_Some}
-use Rattle.std.specs.Prelude.{◌==◌, nat_lt, All}
+use Rattle.std.specs.Prelude.{◌==◌, All}
 use Rattle.gt_types.specs.declared.DomId.{DomId}
 use Rattle.gt_types.specs.declared.GrantRef.{GrantRef}
 use Rattle.gt_types.specs.declared.denial.Denial.{Denial}
-use Rattle.gt_types.specs.declared.denial.Rule.{Rule}
-use Rattle.gt_types.specs.declared.denial.Rule.TheVariants.{N18, N19}
 use Rattle.gt_entry.specs.declared.entry.Entry.{Entry}
 use Rattle.gt_entry.specs.declared.entry.Entry.TheVariants.{Invalid, Page, Sub, Via}
-use Rattle.gt_entry.specs.declared.header.Header.{Header}
 use Rattle.gt_entry.specs.declared.change.Change.{Change}
-use Rattle.gt_entry.specs.declared.change.Change.TheVariants.{Publish, Revoke as ToInvalid, Demote as ToReadOnly, Promote as ToWritable}
-use Rattle.gt_entry.specs.Words.{control_of, header_of, header_word}
 use Rattle.gt_calls.specs.declared.held.Held.{Held}
-use Rattle.gt_calls.specs.declared.held.Route.{Route}
 use Rattle.gt_calls.specs.declared.held.Route.TheVariants.{Own, Direct, Through}
 use Rattle.gt_calls.specs.declared.held.Pins.{Pins}
-use Rattle.gt_calls.specs.declared.request.CopyArgs.{CopyArgs}
 use Rattle.gt_calls.specs.declared.request.Asked.{Asked}
-use Rattle.gt_calls.specs.declared.request.Asked.TheVariants.{Grant, Revoke, Demote, Promote, Map, Unmap, Load, Store, Peek, Poke, Copy, SetVersion, SetupTable, QuerySize, GetVersion}
 use Rattle.gt_calls.specs.declared.request.Holder.TheVariants.{Mapping as ByMapping, Leg as ByLeg}
 use Rattle.gt_calls.specs.declared.action.Seen.{Seen}
-use Rattle.gt_calls.specs.declared.action.Seen.TheVariants.{Nothing, Word, Taken, Missed}
+use Rattle.gt_calls.specs.declared.action.Seen.TheVariants.{Nothing, Taken, Missed}
 use Rattle.gt_calls.specs.declared.action.Verdict.{Verdict}
-use Rattle.gt_calls.specs.declared.action.Verdict.TheVariants.{Granted, Given, Mapped, Refused}
-use Rattle.gt_calls.specs.declared.action.Value.{Value}
-use Rattle.gt_calls.specs.declared.action.Value.TheVariants.{Frames as FramesTold, Size as SizeTold, Version as VersionTold}
+use Rattle.gt_calls.specs.declared.action.Verdict.TheVariants.{Granted, Mapped, Refused}
 use Rattle.gt_calls.specs.declared.action.Step.{Step}
 use Rattle.gt_calls.specs.declared.action.Step.TheVariants.{LookHeader, LookControl, LookBody, Pin as PinStep, Unpin, StoreBody, StoreHeader, Exchange, Read as ReadBytes, Write as WriteBytes, Copy as CopyBytes}
-use Rattle.gt_calls.specs.declared.action.Action.{Action}
 use Rattle.gt_calls.specs.declared.action.Action.TheVariants.{Step as Makes, Done}
 use Rattle.gt_calls.specs.declared.copying.Aim.{Aim}
 use Rattle.gt_calls.specs.declared.copying.Aim.TheVariants.{Mapping, Source, Dest}
-use Rattle.gt_calls.specs.declared.call.Question.{Question}
-use Rattle.gt_calls.specs.declared.call.Question.TheVariants.{Size as AsksSize, Version as AsksVersion}
 use Rattle.gt_calls.specs.declared.call.Phase.{Phase}
 use Rattle.gt_calls.specs.declared.call.Phase.TheVariants.{Storing, StoringSecond, Exchanging, Looking, Changing, Walking, Accessing, Asking, Last, Ending}
 use Rattle.gt_calls.specs.declared.leg.Leg.{Leg}
@@ -44,21 +29,15 @@ use Rattle.gt_calls.specs.declared.leg.LegPhase.{LegPhase}
 use Rattle.gt_calls.specs.declared.leg.LegPhase.TheVariants.{Header as AtHeader, Look, Body, Second, Pinning, Relook}
 use Rattle.gt_calls.specs.declared.leg.LegNext.{LegNext}
 use Rattle.gt_calls.specs.declared.leg.LegNext.TheVariants.{Going, Refused as LegRefused, Pinned}
-use Rattle.gt_calls.specs.Holding.{last_first, pins_so_far, no_pins, without_last}
-use Rattle.gt_calls.specs.Rules.{CallerKnowledge, via_judged, is_dest_granted, is_kind}
-use Rattle.gt_calls.specs.Path.{path, held_of, is_stopped, source_pair, dest_pair, second_leg, end_leg, Continuation}
-use Rattle.gt_calls.specs.Resting.{IsFor, RestsOnWord, RestsOnRequest}
-use Rattle.gt_calls.specs.Machine.{phase_after, action_at, after_leg, leg_after, leg_step, after_pin_of, after_source_pin, after_dest_pin, at_dest, where_via, after_store, publishing, after_own_look, after_own_miss, refused_as, ended_as, next_to_give}
-use Rattle.gt_calls.specs.Standing.{HasShown, IsQuiet, IsTurn, held_in}
-use Rattle.gt_core.specs.declared.trace.Answer.{Answer}
-use Rattle.gt_core.specs.declared.trace.Answer.TheVariants.{Done as AnswerDone, Frames, Size, Version}
-use Rattle.gt_core.specs.States.{State}
-use Rattle.gt_core.specs.History.{History, Setting, word_at, table_at, known_at, seen_by, legs_at, contents_at}
-use Rattle.gt_core.specs.Legal.{StepsSoFar, LeavesAll, GivesValue, refusal_in, refusal_of}
-use Rattle.gt_core.specs.Standing.{CoreStands, PhaseStands, EndsAfter, EndsCopy, Asks, IsClean, phase_refusal, answer_with, numbered}
-use Rattle.gt_core.proofs.Fitting.{table-fits}
-use Rattle.gt_core.proofs.Phases.{IsHere, makes-same}
-use Rattle.gt_core.proofs.Placing.{IsStore}
+use Rattle.gt_calls.specs.Holding.{last_first, pins_so_far, no_pins}
+use Rattle.gt_calls.specs.Rules.{CallerKnowledge, via_judged, is_dest_granted}
+use Rattle.gt_calls.specs.Path.{source_pair, dest_pair, second_leg, end_leg, Continuation}
+use Rattle.gt_calls.specs.Machine.{phase_after, action_at, after_leg, leg_step, after_source_pin, after_dest_pin, where_via, next_to_give}
+use Rattle.gt_calls.specs.Standing.{HasShown, IsQuiet}
+use Rattle.gt_core.specs.History.{History, Setting, word_at, known_at, seen_by}
+use Rattle.gt_core.specs.Legal.{StepsSoFar, LeavesAll, refusal_in}
+use Rattle.gt_core.specs.Standing.{PhaseStands, EndsAfter, IsClean, phase_refusal}
+use Rattle.gt_core.proofs.Phases.{makes-same}
 
 -- the next phase
 abbrev pub next_of : Setting → History → DomId → Phase → Step → Phase

@@ -1,45 +1,30 @@
 -- Each step of an open call: it is on words that there are, its refusal is the first rule that stands, and where the call stands after it.
-use Rattle.std.proofs.Common.{◌≡◌, ◌≢◌, ◌<◌, ◌≤◌, ◌+◌, ◌-◌, ◌⊎◌, inl, inr, ℕ, zero, suc, refl, Bool, true, false, List, [], ◌∷◌, Option, Some, None, cond, sym, ap, ◌∙◌, subst, ltb, reverse, arith}
-use Rattle.std.specs.Prelude.{nat_lt, nat_le, ◌==◌, ◌&&◌, ◌||◌, not, is_none}
-use Rattle.std.proofs.lemmas.Bool.{lt-ltb, eqb-true, eq-eqb, true≢false, false≢true}
-use Rattle.std.proofs.lemmas.Option.{none-some, same_Some}
+use Rattle.std.proofs.Common.{◌≡◌, ◌≢◌, ◌<◌, ◌≤◌, ◌+◌, ℕ, refl, Bool, true, false, List, [], ◌∷◌, Option, Some, None, cond, sym, ap, ◌∙◌, subst, reverse, arith}
+use Rattle.std.specs.Prelude.{◌==◌, is_none}
+use Rattle.std.proofs.lemmas.Bool.{eq-eqb, true≢false, false≢true}
+use Rattle.std.proofs.lemmas.Option.{none-some}
 use Rattle.gt_types.specs.Names.{domain_of, resolved}
 use Rattle.gt_types.specs.declared.DomId.{DomId}
 use Rattle.gt_types.specs.declared.GrantRef.{GrantRef}
-use Rattle.gt_types.specs.declared.Use.TheVariants.{Copy as ForCopy}
 use Rattle.gt_types.specs.declared.config.DomainConfig.{DomainConfig}
-use Rattle.gt_types.specs.declared.denial.Rule.{Rule}
-use Rattle.gt_types.specs.declared.denial.Rule.TheVariants.{N10, N11, N12, N13, N15, N18, N19}
-use Rattle.gt_types.specs.declared.denial.Denial.{Denial}
-use Rattle.gt_types.specs.declared.limits.TheConstants.{MAX_TRIES, TABLE_ENTRIES}
+use Rattle.gt_types.specs.declared.limits.TheConstants.{TABLE_ENTRIES}
 use Rattle.gt_entry.specs.declared.entry.Entry.{Entry}
 use Rattle.gt_entry.specs.declared.entry.Entry.TheVariants.{Invalid, Page, Sub, Via}
-use Rattle.gt_entry.specs.declared.control.Control.{Control}
-use Rattle.gt_entry.specs.declared.control.Kind.TheVariants.{Invalid as KindInvalid, Page as KindPage, Via as KindVia}
 use Rattle.gt_entry.specs.declared.change.Change.{Change}
 use Rattle.gt_entry.specs.declared.change.Change.TheVariants.{Publish, Revoke as ToInvalid, Demote as ToReadOnly, Promote as ToWritable}
 use Rattle.gt_entry.specs.Entries.{is_invalid}
-use Rattle.gt_entry.specs.Permits.{is_copying, allows_direction}
-use Rattle.gt_entry.specs.Words.{control_word, control_of}
+use Rattle.gt_entry.specs.Words.{control_word}
 use Rattle.gt_entry.specs.Spelling.{control_with}
-use Rattle.gt_calls.specs.declared.leg.TheConstants.{MORE_TRIES}
 use Rattle.gt_calls.specs.declared.held.Held.{Held}
-use Rattle.gt_calls.specs.declared.held.Route.{Route}
-use Rattle.gt_calls.specs.declared.held.Route.TheVariants.{Direct, Through}
 use Rattle.gt_calls.specs.declared.request.Asked.{Asked}
-use Rattle.gt_calls.specs.declared.request.Asked.TheVariants.{Grant, Revoke, Demote, Promote, Map, QuerySize, GetVersion, Copy}
-use Rattle.gt_calls.specs.declared.request.CopyArgs.{CopyArgs}
-use Rattle.gt_calls.specs.declared.request.Holder.TheVariants.{Mapping as ByMapping, Leg as ByLeg}
+use Rattle.gt_calls.specs.declared.request.Asked.TheVariants.{Grant, Revoke, Demote, Promote, QuerySize, GetVersion}
 use Rattle.gt_calls.specs.declared.action.Verdict.{Verdict}
-use Rattle.gt_calls.specs.declared.action.Verdict.TheVariants.{Granted, Given, Mapped, Refused}
 use Rattle.gt_calls.specs.declared.action.Step.{Step}
 use Rattle.gt_calls.specs.declared.action.Step.TheVariants.{LookHeader, LookControl, LookBody, Pin as PinStep, Unpin, StoreBody, StoreHeader, Exchange, Read as ReadBytes, Write as WriteBytes, Copy as CopyBytes}
 use Rattle.gt_calls.specs.declared.action.Seen.{Seen}
-use Rattle.gt_calls.specs.declared.action.Seen.TheVariants.{Nothing, Word, Taken, Missed}
+use Rattle.gt_calls.specs.declared.action.Seen.TheVariants.{Taken, Missed}
 use Rattle.gt_calls.specs.declared.action.Action.{Action}
 use Rattle.gt_calls.specs.declared.action.Action.TheVariants.{Step as Makes, Done}
-use Rattle.gt_calls.specs.declared.copying.Aim.{Aim}
-use Rattle.gt_calls.specs.declared.copying.Aim.TheVariants.{Mapping, Source, Dest}
 use Rattle.gt_calls.specs.declared.call.Question.{Question}
 use Rattle.gt_calls.specs.declared.call.Question.TheVariants.{Size as AsksSize, Version as AsksVersion}
 use Rattle.gt_calls.specs.declared.call.Phase.{Phase}
@@ -47,24 +32,20 @@ use Rattle.gt_calls.specs.declared.call.Phase.TheVariants.{Storing, StoringSecon
 use Rattle.gt_calls.specs.declared.leg.Leg.{Leg}
 use Rattle.gt_calls.specs.declared.leg.LegPhase.{LegPhase}
 use Rattle.gt_calls.specs.declared.leg.LegPhase.TheVariants.{Header as AtHeader, Look, Body, Second, Pinning, Relook}
-use Rattle.gt_calls.specs.declared.leg.LegNext.{LegNext}
-use Rattle.gt_calls.specs.declared.leg.LegNext.TheVariants.{Going, Refused as LegRefused, Pinned}
-use Rattle.gt_calls.specs.Holding.{last_first, pins_so_far}
-use Rattle.gt_calls.specs.Rules.{CallerKnowledge, IsOfRun, begun, first, stands, first_look, is_kind, size_of, via_judged, is_dest_granted, is_source_granted}
-use Rattle.gt_calls.specs.Opening.{Opens, opens}
-use Rattle.gt_calls.specs.Path.{Continuation, FitsStep, IsExchanged, IsChanged, path, entry_refusal, refused_at, idle_word, is_stopped, told, held_of, rule_of_try, source_pair, dest_pair, end_leg, map_leg, second_leg}
+use Rattle.gt_calls.specs.Holding.{last_first}
+use Rattle.gt_calls.specs.Rules.{begun, size_of}
+use Rattle.gt_calls.specs.Opening.{opens}
+use Rattle.gt_calls.specs.Path.{Continuation, FitsStep, IsExchanged, IsChanged, path, idle_word}
 use Rattle.gt_calls.specs.Resting.{IsFor, IsToward, IsOnFrom, RestsOnWord, RestsOnRequest}
-use Rattle.gt_calls.specs.Machine.{phase_after, action_at, after_leg, leg_after, leg_step, after_miss, after_pin_of, after_source_pin, after_dest_pin, at_dest, where_via, after_store, publishing, after_own_look, after_own_miss, refused_as, next_to_give}
+use Rattle.gt_calls.specs.Machine.{action_at, leg_step, next_to_give}
 use Rattle.gt_calls.specs.Standing.{IsTurn, IsQuiet, HasShown, StandsAt}
 use Rattle.gt_core.specs.States.{State, state_of}
-use Rattle.gt_core.specs.History.{History, Setting, word_at, control_at, table_at, entry_at, generation_at, body_at, reads_at, writes_at, known_at, seen_by, legs_at}
-use Rattle.gt_core.specs.Legal.{StepsSoFar, LegNow, leg_at, leg_now, misses, looked_at, is_in_body, is_demote, at_entry, rule_at_exchange, rule_at_header, rule_at_via, rule_at_pin, first_at, refusal_in, or_then}
+use Rattle.gt_core.specs.History.{History, Setting, word_at, table_at, entry_at, generation_at, reads_at, writes_at, known_at, seen_by, legs_at}
+use Rattle.gt_core.specs.Legal.{StepsSoFar}
 use Rattle.gt_core.specs.Standing.{CoreStands, StateAgrees, PhaseStands, LegStands, Asks, EndsAfter, phase_refusal, numbered}
 use Rattle.gt_core.proofs.Fitting.{word-shows, table-fits}
 use Rattle.gt_core.proofs.Seeing.{IsWithin}
-use Rattle.gt_core.proofs.Tries.{misses-look, misses-exchange, misses-exchanged, looked-here, few, miss-late}
-use Rattle.gt_core.proofs.Legs.{Words, IsAsTried, as-tried, still-judged, TakesNone, leg-judged, leg-place, NextStands, refusal_next, IsLegOf, control-writes}
-use Rattle.gt_core.proofs.Aims.{pair_of, leg-here}
+use Rattle.gt_core.proofs.Legs.{Words}
 
 -- where a call stands before its next step, in a core that stands for the history
 pub record IsHere (s : Setting) (h : History) (xs : List State) (d : DomId) (r : Asked) (shown : List Seen) (so_far : StepsSoFar) (phase : Phase) (step : Step) : Type 0 where

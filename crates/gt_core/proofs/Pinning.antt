@@ -1,5 +1,5 @@
 -- A pin that was taken keeps what a core stands for.
-use Rattle.std.proofs.Common.{◌≡◌, ◌≢◌, ◌<◌, ◌+◌, ℕ, refl, Bool, true, false, List, [], ◌∷◌, ◌++◌, length, Option, Some, None, cond, sym, ap, ◌∙◌, arith, subst}
+use Rattle.std.proofs.Common.{◌≡◌, ◌≢◌, ◌<◌, ◌+◌, ℕ, refl, Bool, true, false, List, [], ◌∷◌, ◌++◌, length, Option, Some, cond, sym, ap, ◌∙◌, arith, subst}
 use Rattle.std.specs.Prelude.{◌==◌, ◌&&◌, All, count_by, min}
 use Rattle.std.proofs.lemmas.Bool.{eqb-true, eq-eqb, and_parts, and_from, false≢true, true≢false}
 use Rattle.std.proofs.lemmas.List.Sums.{sum_by_push}
@@ -15,7 +15,7 @@ use Rattle.gt_handles.specs.Handles.{Kept}
 use Rattle.gt_handles.specs.declared.handles.Handle.{Handle}
 use Rattle.gt_calls.specs.declared.held.Held.{Held}
 use Rattle.gt_calls.specs.declared.request.Holder.{Holder}
-use Rattle.gt_calls.specs.declared.request.Holder.TheVariants.{Mapping as ByMapping, Leg as ByLeg}
+use Rattle.gt_calls.specs.declared.request.Holder.TheVariants.{Leg as ByLeg}
 use Rattle.gt_calls.specs.declared.action.Step.TheVariants.{Pin as PinStep}
 use Rattle.gt_calls.specs.declared.action.Seen.TheVariants.{Taken}
 use Rattle.gt_core.specs.declared.slot.Slot.{Slot}
@@ -31,7 +31,7 @@ use Rattle.gt_core.specs.History.{History, Setting, Pin, live, entry_at, body_at
 use Rattle.gt_core.specs.Standing.{IsLawful, SlotAgrees, Agrees, CoreStands, CallAgrees, GivenAgrees, MappingsAgree}
 use Rattle.gt_core.proofs.Mappings.{mappings-added, mappings-same}
 use Rattle.gt_core.proofs.Others.{gather-append}
-use Rattle.gt_core.proofs.Keeping.{stepped, SlotsAgree, KeepsEntries, same-entry, same-body, actor-agrees, other-agrees, slots-agree, length-slots, counts-fit, becomes-changed, each-stands, keeps-stands, frames-stay, filled-stays, same-number}
+use Rattle.gt_core.proofs.Keeping.{stepped, SlotsAgree, KeepsEntries, same-body, actor-agrees, other-agrees, slots-agree, length-slots, counts-fit, becomes-changed, each-stands, keeps-stands, frames-stay, filled-stays, same-number}
 
 abbrev pub pins_at : History → ℕ → ℕ → Dir → ℕ
 pins_at h t r Read = reads_at h t r

@@ -3,21 +3,19 @@ use Rattle.std.proofs.lemmas.List.{take_more, map-append}
 use Rattle.std.proofs.Common.{◌≡◌, ◌<◌, ◌+◌, ◌++◌, ◌%◌, map, get_or, ℕ, List, [], ◌∷◌, length, take, Some, None, refl, sym, ap, ◌∙◌, set, replicate, min}
 use Rattle.gt_handles.specs.Handles.{Kept}
 use Rattle.gt_types.specs.declared.DomId.{DomId}
-use Rattle.gt_types.specs.declared.GrantRef.{GrantRef}
-use Rattle.gt_types.specs.declared.Dir.{Dir}
 use Rattle.gt_types.specs.declared.config.DomainConfig.{DomainConfig}
 use Rattle.gt_entry.specs.declared.entry.Entry.TheVariants.{Invalid}
 use Rattle.gt_entry.specs.declared.header.Header.{Header}
 use Rattle.gt_calls.specs.declared.known.TheConstants.{ENTRIES, FRAME_LEN}
+use Rattle.gt_types.specs.declared.limits.TheConstants.{LAST_GENERATION}
 use Rattle.gt_calls.specs.declared.known.Own.{Own}
 use Rattle.gt_calls.specs.declared.held.Held.{Held}
 use Rattle.gt_core.specs.declared.slot.Slot.{Slot}
 use Rattle.gt_core.specs.declared.slot.Open.{Open}
 use Rattle.gt_calls.specs.declared.request.Asked.{Asked}
-use Rattle.gt_calls.specs.declared.request.Asked.TheVariants.{Grant, Revoke, Demote, Promote, Map, Unmap, Load, SetVersion, SetupTable, QuerySize, GetVersion, Store, Peek, Poke, Copy}
+use Rattle.gt_calls.specs.declared.request.Asked.TheVariants.{Load, Peek}
 use Rattle.gt_calls.specs.declared.action.Step.{Step}
 use Rattle.gt_calls.specs.declared.action.Step.TheVariants.{LookHeader, LookControl, LookBody, Pin as PinStep, Unpin, StoreBody, StoreHeader, Exchange, Read as ReadBytes, Write as WriteBytes, Copy as CopyBytes}
-use Rattle.gt_calls.specs.declared.action.Seen.{Seen}
 use Rattle.gt_core.specs.States.{State, first_state, IsLoading}
 use Rattle.gt_core.specs.Effects.{with_underway}
 use Rattle.gt_core.specs.declared.trace.Answer.TheVariants.{Done as AnswerDone}
@@ -51,3 +49,20 @@ pub rest-more : (first_gen : ℕ) (items : List DomainConfig) (i : ℕ) (d : Dom
 rest-more first_gen items i d old new x within so_far made pushed =
     pushed ∙ ap (λ (l : List State). l ++ x ∷ []) so_far ∙ ap (λ (y : State). map (first_state first_gen) (take i items) ++ y ∷ []) made
     ∙ sym (map-append (first_state first_gen) (take i items) (get_or items i d ∷ [])) ∙ ap (λ (l : List DomainConfig). map (first_state first_gen) l) (sym (take_more items i d within))
+
+-- a call that neither reads nor writes bytes is over
+pub settled-plain : (xs new : List State) (at : ℕ) (d : State) (o : Open) (step : Step)
+    → ((dom : DomId) (frame off len : ℕ) → step ≡ ReadBytes dom frame off len → ⊥)
+    → ((dom : DomId) (frame off len : ℕ) → step ≡ WriteBytes dom frame off len → ⊥)
+    → new ≡ set xs at (with_underway None d) → Settled xs at d o step AnswerDone new
+settled-plain xs new at d o (LookHeader dom) r w e = (refl, e)
+settled-plain xs new at d o (LookControl dom gref) r w e = (refl, e)
+settled-plain xs new at d o (LookBody dom gref half) r w e = (refl, e)
+settled-plain xs new at d o (PinStep p) r w e = (refl, e)
+settled-plain xs new at d o (Unpin p holder) r w e = (refl, e)
+settled-plain xs new at d o (StoreBody gref half word) r w e = (refl, e)
+settled-plain xs new at d o (StoreHeader version frames) r w e = (refl, e)
+settled-plain xs new at d o (Exchange gref looked change) r w e = (refl, e)
+settled-plain xs new at d o (CopyBytes from to len) r w e = (refl, e)
+settled-plain xs new at d o (ReadBytes dom frame off len) r w e = absurd (r dom frame off len refl)
+settled-plain xs new at d o (WriteBytes dom frame off len) r w e = absurd (w dom frame off len refl)

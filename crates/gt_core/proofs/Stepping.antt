@@ -1,31 +1,25 @@
 -- What the core does for a step of an open call: it is right, and the core stands for it.
-use Rattle.std.proofs.Common.{◌≡◌, ◌≢◌, ◌<◌, ◌≤◌, ◌+◌, ◌⊎◌, inl, inr, ℕ, suc, refl, Bool, true, false, List, [], ◌∷◌, ◌++◌, length, Option, Some, None, cond, sym, ap, ◌∙◌, subst, reverse, arith}
-use Rattle.std.proofs.lemmas.Bool.{eqb-true, eq-eqb, true≢false, false≢true}
-use Rattle.std.proofs.lemmas.List.{append-nil, map-append, reverse-append, append_assoc, length-append, length-reverse, length-take-le, length-take, length-drop}
+use Rattle.std.proofs.Common.{◌≡◌, ◌≢◌, ◌<◌, ◌≤◌, ◌+◌, inl, inr, ℕ, refl, Bool, true, false, List, [], ◌∷◌, ◌++◌, length, Option, Some, None, cond, sym, ap, ◌∙◌, subst, reverse, arith}
+use Rattle.std.proofs.lemmas.Bool.{eqb-true, eq-eqb}
+use Rattle.std.proofs.lemmas.List.{length-reverse, length-take-le, length-take, length-drop}
 use Rattle.std.proofs.lemmas.Grind.{reverse_onto}
-use Rattle.std.proofs.lemmas.Option.{none-some, same_Some}
-use Rattle.std.specs.Prelude.{◌==◌, nat_lt, All, map, take, drop, min, slice_get}
+use Rattle.std.proofs.lemmas.Option.{same_Some}
+use Rattle.std.specs.Prelude.{◌==◌, take, drop, slice_get}
 use Rattle.gt_types.specs.declared.DomId.{DomId}
 use Rattle.gt_types.specs.declared.GrantRef.{GrantRef}
-use Rattle.gt_types.specs.declared.Use.TheVariants.{Map as ForMap}
-use Rattle.gt_types.specs.declared.limits.TheConstants.{MAX_PINS, FRAME_SIZE}
+use Rattle.gt_types.specs.declared.limits.TheConstants.{FRAME_SIZE}
 use Rattle.gt_types.specs.declared.denial.Denial.{Denial}
 use Rattle.gt_entry.specs.declared.entry.Entry.{Entry}
 use Rattle.gt_entry.specs.declared.entry.Entry.TheVariants.{Invalid, Page, Sub, Via}
-use Rattle.gt_entry.specs.declared.header.Header.{Header}
-use Rattle.gt_entry.specs.declared.change.Change.{Change}
 use Rattle.gt_entry.specs.declared.change.Half.{Half}
-use Rattle.gt_entry.specs.declared.change.Half.TheVariants.{First as FirstHalf, Second as SecondHalf}
 use Rattle.gt_handles.specs.declared.handles.Handle.{Handle}
 use Rattle.gt_calls.specs.declared.held.Held.{Held}
-use Rattle.gt_calls.specs.declared.held.Pins.{Pins}
 use Rattle.gt_calls.specs.declared.action.Place.{Place}
 use Rattle.gt_calls.specs.declared.request.Asked.{Asked}
-use Rattle.gt_calls.specs.declared.request.Asked.TheVariants.{Grant, Revoke, Demote, Promote, Map, Unmap, Load, Store, Peek, Poke, Copy, SetVersion, SetupTable, QuerySize, GetVersion}
-use Rattle.gt_calls.specs.declared.request.Holder.{Holder}
+use Rattle.gt_calls.specs.declared.request.Asked.TheVariants.{Store, Poke, Copy}
 use Rattle.gt_calls.specs.declared.request.Holder.TheVariants.{Mapping as ByMapping, Leg as ByLeg}
 use Rattle.gt_calls.specs.declared.action.Seen.{Seen}
-use Rattle.gt_calls.specs.declared.action.Seen.TheVariants.{Nothing, Word, Taken, Missed}
+use Rattle.gt_calls.specs.declared.action.Seen.TheVariants.{Nothing, Taken, Missed}
 use Rattle.gt_calls.specs.declared.action.Verdict.{Verdict}
 use Rattle.gt_calls.specs.declared.action.Verdict.TheVariants.{Granted, Given, Mapped as KeptPin, Refused}
 use Rattle.gt_calls.specs.declared.action.Step.{Step}
@@ -37,40 +31,31 @@ use Rattle.gt_calls.specs.declared.call.Phase.{Phase}
 use Rattle.gt_calls.specs.declared.call.Phase.TheVariants.{Storing, StoringSecond, Exchanging, Looking, Changing, Walking, Accessing, Asking, Last, Ending}
 use Rattle.gt_calls.specs.Holding.{last_first, no_pins}
 use Rattle.gt_calls.specs.Rules.{CallerKnowledge, knowledge_of}
-use Rattle.gt_calls.specs.Path.{path, FitsStep}
+use Rattle.gt_calls.specs.Path.{path}
 use Rattle.gt_calls.specs.Resting.{Rests, RestsStep}
 use Rattle.gt_calls.specs.Machine.{phase_after, action_at, next_to_give, after_store}
-use Rattle.gt_calls.specs.Standing.{StandsAt, IsAt, HasShown, pins_at, held_in}
-use Rattle.gt_calls.specs.Following.{Goes, GoesOn, FitsNext, FitsAction, HoldsAfter, HoldsNext}
-use Rattle.gt_calls.specs.Counting.{most_steps as most_of, steps_left, IsCounted}
+use Rattle.gt_calls.specs.Standing.{HasShown, pins_at, held_in}
+use Rattle.gt_calls.specs.Following.{Goes}
 use Rattle.gt_core.specs.declared.slot.Open.{Open}
 use Rattle.gt_core.specs.declared.trace.Item.{Item}
 use Rattle.gt_core.specs.declared.trace.Answer.{Answer}
 use Rattle.gt_core.specs.declared.trace.Answer.TheVariants.{Denied, Done as AnswerDone, Mapped}
-use Rattle.gt_core.specs.declared.trace.Happened.TheVariants.{Stepped}
 use Rattle.gt_core.specs.States.{State, state_of, changed_in}
 use Rattle.gt_core.specs.Sight.{sees}
 use Rattle.gt_core.specs.History.{History, Setting, Pin, live, entry_at, generation_at, word_at, table_at, known_at, legs_at, mappings_at, mapping_of, maps_answered_at, seen_by, Underway, values, open_call, underway_after, holder_after, one_if_mapped}
 use Rattle.gt_core.specs.Legal.{StepsSoFar, StepsRight, Justified, IsSafe, PinIsSound, AnsweredBy, GivesValue, LeavesAll, IsSpelled, gives_back, verdict_in, refusal_in, refusal_of, refusal_if, or_then, first_of_item, first_in_call, stood, most_steps}
 use Rattle.gt_core.specs.Standing.{CoreStands, Agrees, CallAgrees, OpenAgrees, GivenAgrees, FitsGiven, PhaseStands, IsClean, phase_refusal, numbered}
-use Rattle.gt_core.proofs.Quiet.{KeepsKnown, WritesNone, kept-known, kept-legs}
-use Rattle.gt_core.proofs.Others.{other-body}
-use Rattle.gt_core.proofs.Seeing.{sees-agree}
-use Rattle.gt_core.proofs.Phases.{IsHere, makes-same, step-within, step-publishes, seen-fits}
-use Rattle.gt_core.proofs.Judging.{judged}
-use Rattle.gt_core.proofs.Placing.{IsStore, placed, place-stays, BodyStays}
+use Rattle.gt_core.proofs.Quiet.{KeepsKnown, WritesNone}
+use Rattle.gt_core.proofs.Phases.{IsHere, makes-same}
+use Rattle.gt_core.proofs.Placing.{IsStore}
 use Rattle.gt_core.proofs.Keeping.{stepped, KeepsEntries, same-entry, same-generations, known-same, open_call-own, stood-own, same-number}
-use Rattle.gt_core.proofs.Storing.{stores, store-keeps, half-stored, first-stays}
-use Rattle.gt_core.proofs.Pinning.{pins, leg-grows, leg-maps, map-legs, answered-stays}
+use Rattle.gt_core.proofs.Pinning.{pins, map-legs}
 use Rattle.gt_core.proofs.Unpinning.{unpins, leg-left, leg-mappings, mapping-legs}
-use Rattle.gt_core.proofs.Beginning.{is-at, to-come, pins-there}
 use Rattle.gt_core.proofs.Acting.{can-change, can-pin, store-invalid}
-use Rattle.gt_core.proofs.Exchanging.{exchanged-live}
-use Rattle.gt_core.proofs.Accessing.{read-justified, write-justified, copy-justified}
-use Rattle.gt_core.proofs.Outcomes.{next_of, IsSingle, single-ends, taken-ends, clean-next, ends-so, is-last}
+use Rattle.gt_core.proofs.Accessing.{read-justified, copy-justified}
+use Rattle.gt_core.proofs.Outcomes.{next_of, IsSingle, single-ends, ends-so}
 use Rattle.std.specs.Prelude.{position}
 use Rattle.std.proofs.Common.{get_or, set}
-use Rattle.std.proofs.lemmas.Bool.{ltb-true}
 use Rattle.std.proofs.lemmas.List.Quantifiers.{position-Some}
 use Rattle.gt_types.specs.Names.{domain_of}
 use Rattle.gt_calls.specs.Rules.{frames_of, frames_in}
@@ -460,17 +445,18 @@ granted-core s h xs zs at x o c new answer bytes t plain written copied settled 
         let room = given-fits (known_at s h d) d c.request dom frame off len c.given i.rests.1 given.1 in
         let k = stepped d (WriteBytes dom frame off len) Nothing (Some AnswerDone) in
         let legs : legs_at (k ∷ h) d.0 ≡ [] = subst (λ (z : Step). legs_at (stepped d z (seen_by s h d z) (Some AnswerDone) ∷ h) d.0 ≡ []) is (none-held s h xs x o c new Granted AnswerDone t refl (λ n. refl) (λ m e. cc)) in
-        subst (λ (a : Answer). Ticked s h d o.step (seen_by s h d o.step) (Some a) (applied d o.step (seen_by s h d o.step) bytes zs)) (sym done)
-        (right-in s h d o.step (seen_by s h d o.step) (Some AnswerDone) c t.call
-        (ends-right s h xs x o c new Granted AnswerDone t refl (none-held s h xs x o c new Granted AnswerDone t refl (λ n. refl) (λ m e. cc))
-        (granted-value s h xs d c.request (values c) (reverse c.steps) t.stands.phase o.step (here-of s h xs x o c t.st t.here t.stands) (λ t' frame' off' len' e. let f : WriteBytes dom frame off len ≡ ReadBytes t' frame' off' len' = sym is ∙ e in cc) (sym t.acts))),
-        subst (λ (z : Step). CoreStands s (stepped d z (seen_by s h d z) (Some AnswerDone) ∷ h) (applied d z (seen_by s h d z) bytes zs)) (sym is)
-        (subst (λ (l : List State). CoreStands s (k ∷ h) l) (sym left)
-        (subst (λ (l : List ℕ). CoreStands s (k ∷ h) (changed_in dom.0 (with_bytes frame off l) (set xs at (without_given x)))) (sym given.0)
-        (write-stands s h xs (set xs at (without_given x)) x k (record { owner = dom; frame = frame; off = off }) c.given [] None (record { changes = λ r. refl; stores = λ r which. refl; header = refl })
-        (record { changes = λ r. refl; pins = λ before ps. refl; unpins = λ pins. refl; maps = refl }) refl t.st t.here t.agrees written
-        (ap (λ (u : Option Underway). Some (record { at = record { owner = dom; frame = frame; off = off }; bytes = given_in u })) t.call) room (call-over s h d (WriteBytes dom frame off len) Nothing AnswerDone legs)
-        (Rattle.gt_core.proofs.Keeping.given-none (k ∷ h) d.0 [] (open_call-own k h))))))
+        subst (λ (a : Answer). Ticked s h d o.step (seen_by s h d o.step) (Some a) (applied d o.step (seen_by s h d o.step) bytes zs)) (sym done) (
+          right-in s h d o.step (seen_by s h d o.step) (Some AnswerDone) c t.call
+              (ends-right s h xs x o c new Granted AnswerDone t refl (none-held s h xs x o c new Granted AnswerDone t refl (λ n. refl) (λ m e. cc))
+              (granted-value s h xs d c.request (values c) (reverse c.steps) t.stands.phase o.step (here-of s h xs x o c t.st t.here t.stands) (λ t' frame' off' len' e. let f : WriteBytes dom frame off len ≡ ReadBytes t' frame' off' len' = sym is ∙ e in cc) (sym t.acts))),
+          subst (λ (z : Step). CoreStands s (stepped d z (seen_by s h d z) (Some AnswerDone) ∷ h) (applied d z (seen_by s h d z) bytes zs)) (sym is)
+              (subst (λ (l : List State). CoreStands s (k ∷ h) l) (sym left)
+              (subst (λ (l : List ℕ). CoreStands s (k ∷ h) (changed_in dom.0 (with_bytes frame off l) (set xs at (without_given x)))) (sym given.0)
+              (write-stands s h xs (set xs at (without_given x)) x k (record { owner = dom; frame = frame; off = off }) c.given [] None (record { changes = λ r. refl; stores = λ r which. refl; header = refl })
+              (record { changes = λ r. refl; pins = λ before ps. refl; unpins = λ pins. refl; maps = refl }) refl t.st t.here t.agrees written
+              (ap (λ (u : Option Underway). Some (record { at = record { owner = dom; frame = frame; off = off }; bytes = given_in u })) t.call) room (call-over s h d (WriteBytes dom frame off len) Nothing AnswerDone legs)
+              (Rattle.gt_core.proofs.Keeping.given-none (k ∷ h) d.0 [] (open_call-own k h))))),
+        )
     by (LookHeader dom) is a = subst Goal (sym is) (over (LookHeader dom) is a (λ t frame off len e. cc) (λ t frame off len e. cc))
     by (LookControl dom gref) is a = subst Goal (sym is) (over (LookControl dom gref) is a (λ t frame off len e. cc) (λ t frame off len e. cc))
     by (LookBody dom gref half) is a = subst Goal (sym is) (over (LookBody dom gref half) is a (λ t frame off len e. cc) (λ t frame off len e. cc))
@@ -570,3 +556,24 @@ map-asked s h xs dom at x o seen new held b =
     let t = n.ticks in
     let m = mapped-ends s h xs x.id n.c.request (values n.c) (reverse n.c.steps) t.stands.phase o.step held (here-of s h xs x o n.c t.st t.here t.stands) (sym t.acts) in
     subst (λ (z : Option Open). Rattle.gt_core.specs.States.IsMapping (Rattle.gt_core.specs.States.asked_in z)) (sym b.under) (subst (λ (q : Asked). Rattle.gt_core.specs.States.IsMapping (Some q)) (sym (t.stands.asks ∙ m.of_map)) tt)
+
+copying : (step : Step) → Rattle.gt_core.specs.Effects.IsCopy step → Rattle.gt_core.specs.Standing.IsCopying (Some (Makes step))
+copying (CopyBytes from to len) a = tt
+copying (LookHeader dom) a = absurd a
+copying (LookControl dom gref) a = absurd a
+copying (LookBody dom gref half) a = absurd a
+copying (PinStep p) a = absurd a
+copying (Unpin p holder) a = absurd a
+copying (StoreBody gref half word) a = absurd a
+copying (StoreHeader version frames) a = absurd a
+copying (Exchange gref looked change) a = absurd a
+copying (ReadBytes dom frame off len) a = absurd a
+copying (WriteBytes dom frame off len) a = absurd a
+
+-- a tick for which memory is wanted
+pub tick-wants : (s : Setting) (h : History) (xs : List State) (dom : DomId) (at : ℕ) (x : State) (o : Open) → position (has_id dom.0) xs ≡ Some at → x ≡ get_or xs at x → x.underway ≡ Some o → CoreStands s h xs → Rattle.gt_core.specs.Effects.IsCopy o.step
+    → Rattle.gt_core.specs.Standing.WantsMemoryNow s h dom
+tick-wants s h xs dom at x o place here under st copy =
+    let a = agrees-found s h xs dom at x place here st in
+    let u = call-here s h x.id x.underway (open_call h x.id.0) o under a.2.call in
+    subst (Rattle.gt_core.specs.Standing.WantsMemoryNow s h) a.1 (u.0, u.1, subst Rattle.gt_core.specs.Standing.IsCopying (sym u.2.follows) (copying o.step copy))

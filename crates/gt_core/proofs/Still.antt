@@ -1,11 +1,9 @@
 -- What a call saw of an entry stays true while the entry's generation stays.
-use Rattle.std.proofs.Common.{◌≡◌, ◌≢◌, ◌≤◌, ◌+◌, ℕ, refl, Bool, true, false, ◌∷◌, Option, Some, None, arith}
-use Rattle.gt_types.specs.declared.DomId.{DomId}
+use Rattle.std.proofs.Common.{◌≡◌, ◌≢◌, ◌≤◌, ◌+◌, ℕ, refl, ◌∷◌, Option, Some, None, arith}
 use Rattle.gt_entry.specs.declared.entry.Entry.{Entry}
 use Rattle.gt_entry.specs.declared.entry.Entry.TheVariants.{Invalid}
 use Rattle.gt_entry.specs.declared.change.Change.{Change}
 use Rattle.gt_entry.specs.declared.change.Change.TheVariants.{Publish, Revoke, Demote, Promote}
-use Rattle.gt_entry.specs.declared.change.Half.{Half}
 use Rattle.gt_entry.specs.Words.{control_of}
 use Rattle.gt_calls.specs.declared.leg.Leg.{Leg}
 use Rattle.gt_calls.specs.declared.leg.LegPhase.{LegPhase}

@@ -1,5 +1,5 @@
 -- A body word stored on an invalid entry keeps what a core stands for.
-use Rattle.std.proofs.Common.{◌≡◌, ◌≢◌, ◌+◌, ℕ, refl, Bool, true, false, List, [], ◌∷◌, Option, Some, None, cond, sym, ap, ◌∙◌, subst}
+use Rattle.std.proofs.Common.{◌≡◌, ◌≢◌, ◌+◌, ℕ, refl, Bool, true, false, List, ◌∷◌, Option, Some, None, cond, sym, ap, ◌∙◌, subst}
 use Rattle.std.proofs.lemmas.Bool.{eqb-true, eq-eqb}
 use Rattle.std.proofs.lemmas.Option.{none-some, same_Some}
 use Rattle.std.specs.Prelude.{◌==◌, ◌&&◌, All, count_by, slice_get}
@@ -24,13 +24,13 @@ use Rattle.gt_core.specs.declared.trace.Happened.TheVariants.{Stepped}
 use Rattle.gt_core.specs.Rows.{changed_at}
 use Rattle.gt_core.specs.States.{State, state_of, changed_in}
 use Rattle.gt_core.specs.Effects.{with_slot, slot_after}
-use Rattle.gt_core.specs.History.{History, Setting, Pin, live, entry_at, generation_at, body_at, reads_at, writes_at, control_at, same_half, or_else, stored_at, is_pin_on, open_call}
+use Rattle.gt_core.specs.History.{History, Setting, Pin, entry_at, generation_at, body_at, reads_at, writes_at, control_at, same_half, or_else, stored_at, is_pin_on, open_call}
 use Rattle.gt_core.specs.Legal.{IsSpelled}
 use Rattle.gt_core.specs.Standing.{IsLawful, FitsTable, FitsWord, SlotAgrees, Agrees, CoreStands, CallAgrees, GivenAgrees}
 use Rattle.gt_core.proofs.Rows.{get-changed, length-changed}
 use Rattle.gt_core.proofs.Quiet.{KeepsKnown, kept-entry, kept-raises, kept-live, kept-table, kept-generations}
 use Rattle.gt_core.proofs.Others.{other-body}
-use Rattle.gt_core.proofs.Keeping.{stepped, SlotsAgree, Becomes, becomes-changed, each-stands, other-agrees, frames-stay, filled-stays, mappings-stay, same-number}
+use Rattle.gt_core.proofs.Keeping.{stepped, SlotsAgree, becomes-changed, each-stands, other-agrees, frames-stay, filled-stays, mappings-stay, same-number}
 
 -- the item of a store
 abbrev pub stores : DomId → GrantRef → Half → ℕ → Item

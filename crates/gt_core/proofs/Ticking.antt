@@ -1,14 +1,12 @@
 -- A step of an open call is right, and the core stands for it.
 use Rattle.std.proofs.Common.{◌≡◌, ◌≢◌, ◌<◌, ◌≤◌, ◌+◌, ◌⊎◌, inl, inr, ℕ, suc, refl, Bool, true, false, List, [], ◌∷◌, ◌++◌, length, Option, Some, None, cond, sym, ap, ◌∙◌, subst, reverse, arith}
-use Rattle.std.proofs.lemmas.Bool.{eqb-true, eq-eqb, true≢false, false≢true}
-use Rattle.std.proofs.lemmas.List.{append-nil, map-append, reverse-append, append_assoc, length-append, length-reverse, length-take-le}
+use Rattle.std.proofs.lemmas.Bool.{eqb-true}
+use Rattle.std.proofs.lemmas.List.{map-append, reverse-append, length-append, length-reverse}
 use Rattle.std.proofs.lemmas.Grind.{reverse_onto}
 use Rattle.std.proofs.lemmas.Option.{none-some, same_Some}
-use Rattle.std.specs.Prelude.{◌==◌, nat_lt, All, map, take, drop, min, slice_get}
+use Rattle.std.specs.Prelude.{◌==◌, All}
 use Rattle.gt_types.specs.declared.DomId.{DomId}
 use Rattle.gt_types.specs.declared.GrantRef.{GrantRef}
-use Rattle.gt_types.specs.declared.Use.TheVariants.{Map as ForMap}
-use Rattle.gt_types.specs.declared.limits.TheConstants.{MAX_PINS, FRAME_SIZE}
 use Rattle.gt_types.specs.declared.denial.Denial.{Denial}
 use Rattle.gt_entry.specs.declared.entry.Entry.{Entry}
 use Rattle.gt_entry.specs.declared.entry.Entry.TheVariants.{Invalid, Page, Sub, Via}
@@ -19,15 +17,13 @@ use Rattle.gt_entry.specs.declared.change.Half.TheVariants.{First as FirstHalf, 
 use Rattle.gt_handles.specs.declared.handles.Handle.{Handle}
 use Rattle.gt_calls.specs.declared.held.Held.{Held}
 use Rattle.gt_calls.specs.declared.held.Pins.{Pins}
-use Rattle.gt_calls.specs.declared.action.Place.{Place}
 use Rattle.gt_calls.specs.declared.request.Asked.{Asked}
 use Rattle.gt_calls.specs.declared.request.Asked.TheVariants.{Grant, Revoke, Demote, Promote, Map, Unmap, Load, Store, Peek, Poke, Copy, SetVersion, SetupTable, QuerySize, GetVersion}
-use Rattle.gt_calls.specs.declared.request.Holder.{Holder}
 use Rattle.gt_calls.specs.declared.request.Holder.TheVariants.{Mapping as ByMapping, Leg as ByLeg}
 use Rattle.gt_calls.specs.declared.action.Seen.{Seen}
 use Rattle.gt_calls.specs.declared.action.Seen.TheVariants.{Nothing, Word, Taken, Missed}
 use Rattle.gt_calls.specs.declared.action.Verdict.{Verdict}
-use Rattle.gt_calls.specs.declared.action.Verdict.TheVariants.{Granted, Given, Mapped as KeptPin, Refused}
+use Rattle.gt_calls.specs.declared.action.Verdict.TheVariants.{Granted, Mapped as KeptPin}
 use Rattle.gt_calls.specs.declared.action.Step.{Step}
 use Rattle.gt_calls.specs.declared.action.Step.TheVariants.{LookHeader, LookControl, LookBody, Pin as PinStep, Unpin, StoreBody, StoreHeader, Exchange, Read as ReadBytes, Write as WriteBytes, Copy as CopyBytes}
 use Rattle.gt_calls.specs.declared.action.Action.{Action}
@@ -40,34 +36,32 @@ use Rattle.gt_calls.specs.Rules.{CallerKnowledge, knowledge_of}
 use Rattle.gt_calls.specs.Path.{path, FitsStep}
 use Rattle.gt_calls.specs.Resting.{Rests, RestsStep}
 use Rattle.gt_calls.specs.Machine.{phase_after, action_at, next_to_give, after_store}
-use Rattle.gt_calls.specs.Standing.{StandsAt, IsAt, HasShown, pins_at, held_in}
-use Rattle.gt_calls.specs.Following.{Goes, GoesOn, FitsNext, FitsAction, HoldsAfter, HoldsNext}
+use Rattle.gt_calls.specs.Standing.{StandsAt, HasShown, pins_at, held_in}
+use Rattle.gt_calls.specs.Following.{Goes, GoesOn, FitsNext, HoldsAfter}
 use Rattle.gt_calls.specs.Counting.{most_steps as most_of, steps_left, IsCounted}
 use Rattle.gt_core.specs.declared.slot.Open.{Open}
 use Rattle.gt_core.specs.declared.trace.Item.{Item}
 use Rattle.gt_core.specs.declared.trace.Answer.{Answer}
-use Rattle.gt_core.specs.declared.trace.Answer.TheVariants.{Denied, Done as AnswerDone, Mapped}
 use Rattle.gt_core.specs.declared.trace.Happened.TheVariants.{Stepped}
-use Rattle.gt_core.specs.States.{State, state_of, changed_in}
+use Rattle.gt_core.specs.States.{State, state_of}
 use Rattle.gt_core.specs.Sight.{sees}
 use Rattle.gt_core.specs.History.{History, Setting, Pin, live, entry_at, generation_at, word_at, table_at, known_at, legs_at, mappings_at, mapping_of, maps_answered_at, seen_by, Underway, values, open_call, underway_after, holder_after, one_if_mapped}
 use Rattle.gt_core.specs.Legal.{StepsSoFar, StepsRight, Justified, IsSafe, PinIsSound, AnsweredBy, GivesValue, LeavesAll, IsSpelled, gives_back, verdict_in, refusal_in, refusal_of, refusal_if, or_then, first_of_item, first_in_call, stood, most_steps}
-use Rattle.gt_core.specs.Standing.{CoreStands, Agrees, CallAgrees, OpenAgrees, GivenAgrees, FitsGiven, PhaseStands, IsClean, phase_refusal, numbered}
+use Rattle.gt_core.specs.Standing.{CoreStands, Agrees, OpenAgrees, GivenAgrees, FitsGiven, PhaseStands, IsClean, phase_refusal, numbered}
 use Rattle.gt_core.proofs.Quiet.{KeepsKnown, WritesNone, kept-known, kept-legs}
-use Rattle.gt_core.proofs.Others.{other-body}
 use Rattle.gt_core.proofs.Seeing.{sees-agree}
 use Rattle.gt_core.proofs.Phases.{IsHere, makes-same, step-within, step-publishes, seen-fits}
 use Rattle.gt_core.proofs.Judging.{judged}
 use Rattle.gt_core.proofs.Placing.{IsStore, placed, place-stays, BodyStays}
 use Rattle.gt_core.proofs.Keeping.{stepped, KeepsEntries, same-entry, same-generations, known-same, open_call-own, stood-own, same-number}
-use Rattle.gt_core.proofs.Storing.{stores, store-keeps, half-stored, first-stays}
-use Rattle.gt_core.proofs.Pinning.{pins, leg-grows, leg-maps, map-legs, answered-stays}
+use Rattle.gt_core.proofs.Storing.{stores, half-stored, first-stays}
+use Rattle.gt_core.proofs.Pinning.{pins, leg-grows, leg-maps, answered-stays}
 use Rattle.gt_core.proofs.Unpinning.{unpins, leg-left, leg-mappings, mapping-legs}
 use Rattle.gt_core.proofs.Beginning.{is-at, to-come, pins-there}
 use Rattle.gt_core.proofs.Acting.{can-change, can-pin, store-invalid}
 use Rattle.gt_core.proofs.Exchanging.{exchanged-live}
 use Rattle.gt_core.proofs.Accessing.{read-justified, write-justified, copy-justified}
-use Rattle.gt_core.proofs.Outcomes.{next_of, IsSingle, single-ends, taken-ends, clean-next, ends-so, is-last}
+use Rattle.gt_core.proofs.Outcomes.{next_of, IsSingle, single-ends, taken-ends, clean-next, ends-so}
 
 -- what is known of a step of an open call, which saw what the history left
 pub record Ticks (s : Setting) (h : History) (xs : List State) (x : State) (o : Open) (c : Underway) (new : Call) (action : Action) : Type 0 where

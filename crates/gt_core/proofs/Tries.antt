@@ -1,12 +1,11 @@
 -- The tries of a leg, or of an owner's turns, by the steps so far.
-use Rattle.std.proofs.Common.{◌≡◌, ◌<◌, ◌≤◌, ◌+◌, ◌-◌, ℕ, zero, suc, refl, Bool, true, false, List, [], ◌∷◌, Option, Some, None, cond, sym, ap, ◌∙◌, ltb, arith}
+use Rattle.std.proofs.Common.{◌≡◌, ◌+◌, ℕ, zero, suc, refl, Bool, true, false, [], ◌∷◌, Option, Some, None, cond, sym, ap, ◌∙◌, ltb, arith}
 use Rattle.std.specs.Prelude.{nat_lt, nat_le, ◌==◌, ◌&&◌, not}
-use Rattle.std.proofs.lemmas.Bool.{lt-ltb, lt-leb, eqb-true}
+use Rattle.std.proofs.lemmas.Bool.{lt-ltb, lt-leb}
 use Rattle.gt_types.specs.declared.DomId.{DomId}
 use Rattle.gt_types.specs.declared.GrantRef.{GrantRef}
 use Rattle.gt_types.specs.declared.denial.Rule.{Rule}
-use Rattle.gt_types.specs.declared.denial.Rule.TheVariants.{N18, N19}
-use Rattle.gt_types.specs.declared.denial.Denial.{Denial}
+use Rattle.gt_types.specs.declared.denial.Rule.TheVariants.{N18}
 use Rattle.gt_types.specs.declared.limits.TheConstants.{MAX_TRIES}
 use Rattle.gt_entry.specs.declared.change.Change.{Change}
 use Rattle.gt_entry.specs.declared.change.Half.{Half}

@@ -1,5 +1,5 @@
 -- What a step does to the states of the domains: the code's own representation, which stands here since private contracts cite it.
-use Rattle.std.specs.Prelude.{ℕ, true, false, List, [], Option, Some, None, if◌then◌else◌, nat_le, ◌+◌, ◌-◌, ◌%◌, length, min, take, drop, slice_get, is_some, ◌≡◌, slice_set}
+use Rattle.std.specs.Prelude.{ℕ, List, [], Option, Some, None, if◌then◌else◌, nat_le, ◌+◌, ◌-◌, ◌%◌, length, min, take, drop, slice_get, is_some, ◌≡◌, slice_set}
 use Rattle.gt_frames.specs.Bytes.{overlay}
 use Rattle.gt_types.specs.declared.DomId.{DomId}
 use Rattle.gt_types.specs.declared.limits.TheConstants.{MAX_PINS}

@@ -1,5 +1,5 @@
 -- When a core stands for a history. The upper half, up to `Settles`, tells the code's own representation and stands here since private contracts cite it.
-use Rattle.std.specs.Prelude.{◌≡◌, ◌≢◌, ◌<◌, ◌≤◌, ◌+◌, ◌⊎◌, reverse, ℕ, Bool, true, false, List, [], ◌∷◌, ◌++◌, Option, Some, None, slice_get, length, All, Result, IfOk, IsOk}
+use Rattle.std.specs.Prelude.{◌≡◌, ◌≢◌, ◌<◌, ◌≤◌, ◌+◌, ◌⊎◌, reverse, ℕ, Bool, true, false, List, [], ◌∷◌, Option, Some, None, slice_get, length, All}
 use Rattle.gt_types.specs.Names.{domain_of}
 use Rattle.gt_types.specs.declared.DomId.{DomId}
 use Rattle.gt_types.specs.declared.TypeId.{TypeId}
@@ -29,15 +29,14 @@ use Rattle.gt_entry.specs.declared.header.Header.{Header}
 use Rattle.gt_calls.specs.declared.action.Action.{Action}
 use Rattle.gt_calls.specs.declared.action.Action.TheVariants.{Step as Makes}
 use Rattle.gt_core.specs.declared.trace.Answer.{Answer}
-use Rattle.gt_core.specs.declared.trace.Answer.TheVariants.{Denied, Done as AnswerDone, Mapped, Bytes as BytesAnswer, Frames as FramesAnswer, Size as SizeAnswer, Version as VersionAnswer}
+use Rattle.gt_core.specs.declared.trace.Answer.TheVariants.{Denied, Done as AnswerDone, Bytes as BytesAnswer, Frames as FramesAnswer, Size as SizeAnswer, Version as VersionAnswer}
 use Rattle.gt_core.specs.declared.trace.Bytes.{Bytes}
 use Rattle.gt_handles.specs.declared.handles.Handle.{Handle}
 use Rattle.gt_calls.specs.declared.action.Step.{Step}
-use Rattle.gt_calls.specs.declared.action.Step.TheVariants.{Unpin, StoreHeader, Read as ReadBytes, Write as WriteBytes, Copy as CopyBytes}
-use Rattle.gt_core.specs.Effects.{with_mapping, with_underway, bytes_in, without_given, with_bytes, Adds}
+use Rattle.gt_calls.specs.declared.action.Step.TheVariants.{StoreHeader, Read as ReadBytes, Write as WriteBytes, Copy as CopyBytes}
+use Rattle.gt_core.specs.Effects.{with_underway, bytes_in, without_given, with_bytes}
 use Rattle.gt_handles.specs.Handles.{Kept, value_of as mapping_under, count_of}
 use Rattle.gt_calls.specs.declared.held.Held.{Held}
-use Rattle.gt_types.specs.declared.Memory.{Memory}
 use Rattle.std.proofs.Math.ListN.{set}
 use Rattle.gt_core.specs.declared.trace.Happened.TheVariants.{Began, Stepped}
 use Rattle.gt_core.specs.declared.trace.Element.{Element}
@@ -69,7 +68,6 @@ use Rattle.gt_entry.specs.Words.{IsInRange, control_of}
 use Rattle.gt_entry.specs.Entries.{IsEntry}
 use Rattle.gt_entry.specs.Permits.{permits}
 use Rattle.gt_calls.specs.declared.request.Asked.TheVariants.{Load, Store, Peek, Poke, Copy, SetVersion, SetupTable, QuerySize, GetVersion}
-use Rattle.gt_calls.specs.declared.held.Pins.{Pins}
 use Rattle.gt_calls.specs.Holding.{last_first}
 use Rattle.gt_types.specs.Names.{resolved}
 use Rattle.gt_calls.specs.declared.call.Question.{Question}
@@ -156,13 +154,14 @@ IsStartFaultOf config NoMemory = IsWithinLimits config
 abbrev pub WantsMemory : Setting → History → DomId → Request → Type 0
 WantsMemory s h d request = (asks_memory (asked request) ≡ true) × (domain_of s.domains d ≢ None) × (open_call h d.0 ≡ None) × (begun_of (known_at s h d) d request ≡ None)
 
+-- the action is a copy's access (own)
+abbrev pub IsCopying : Option Action → Type 0
+IsCopying (Some (Makes (CopyBytes from to len))) = Unit {0}
+IsCopying action = ⊥
+
 -- memory can be wanted where the domain's open call is about to copy (own)
 abbrev pub WantsMemoryNow : Setting → History → DomId → Type 0
 WantsMemoryNow s h d = (c : Underway) × (open_call h d.0 ≡ Some c) × IsCopying (path (known_at s h d) d c.request (values c))
-  where
-    IsCopying : Option Action → Type 0
-    IsCopying (Some (Makes (CopyBytes from to len))) = Unit {0}
-    IsCopying action = ⊥
 
 -- what a call has seen
 

@@ -14,7 +14,6 @@
 
 mod core_state;
 mod effects;
-mod scratch;
 mod sight;
 mod slot;
 mod state;

@@ -1,0 +1,82 @@
+-- What the core shows of an entry is what the history left.
+use Rattle.std.proofs.Common.{◌≡◌, ◌<◌, ◌≤◌, ℕ, zero, suc, refl, Bool, true, false, List, [], ◌∷◌, length, Option, Some, None, cond, sym, ap, ◌∙◌, arith, subst, get_or}
+use Rattle.std.proofs.lemmas.Bool.{lt-ltb, ltb-true}
+use Rattle.std.specs.Prelude.{nat_lt, ◌&&◌, is_some, slice_get, position}
+use Rattle.gt_types.specs.Names.{domain_of}
+use Rattle.gt_types.specs.declared.DomId.{DomId}
+use Rattle.gt_types.specs.declared.limits.TheConstants.{TABLE_ENTRIES}
+use Rattle.gt_types.specs.declared.config.DomainConfig.{DomainConfig}
+use Rattle.gt_entry.specs.declared.entry.Entry.{Entry}
+use Rattle.gt_entry.specs.declared.header.Header.{Header}
+use Rattle.gt_calls.specs.declared.known.Own.{Own}
+use Rattle.gt_core.specs.declared.slot.Slot.{Slot}
+use Rattle.gt_calls.specs.Rules.{size_of, row_entry, row_generation}
+use Rattle.gt_core.specs.States.{State}
+use Rattle.gt_core.specs.History.{History, Setting, entry_at, generation_at, reads_at, writes_at, table_at}
+use Rattle.gt_core.specs.Shown.{shown_in, shown_at}
+use Rattle.gt_core.specs.Standing.{Agrees, CoreStands}
+use Rattle.gt_core.proofs.Fitting.{table-fits}
+use Rattle.gt_core.proofs.Places.{has_id}
+use Rattle.gt_core.proofs.Beginning.{begin-nowhere, agrees-found}
+
+-- no domain has the number
+pub shown-nowhere : (s : Setting) (h : History) (xs : List State) (dom : DomId) (r : ℕ) → position (has_id dom.0) xs ≡ None → CoreStands s h xs → None ≡ shown_at s h dom r
+shown-nowhere s h xs dom r p st =
+    sym (ap (λ (o : Option DomainConfig). cond (is_some o && nat_lt r (size_of (table_at s h dom)))
+    (Some (record { entry = entry_at h dom.0 r; generation = generation_at s h dom.0 r; reads = reads_at h dom.0 r; writes = writes_at h dom.0 r })) None) (begin-nowhere s h xs dom p st))
+
+some-domain : (o : Option DomainConfig) → (o ≡ None → ⊥) → is_some o ≡ true
+some-domain None n = absurd (n refl)
+some-domain (Some d) n = refl
+
+shown-in-range : (s : Setting) (h : History) (dom : DomId) (r : ℕ) (b : Bool) → (domain_of s.domains dom ≡ None → ⊥) → nat_lt r (size_of (table_at s h dom)) ≡ b
+    → shown_at s h dom r ≡ cond b (Some (record { entry = entry_at h dom.0 r; generation = generation_at s h dom.0 r; reads = reads_at h dom.0 r; writes = writes_at h dom.0 r })) None
+shown-in-range s h dom r b some e =
+    ap (λ (c : Bool). cond (c && nat_lt r (size_of (table_at s h dom))) (Some (record { entry = entry_at h dom.0 r; generation = generation_at s h dom.0 r; reads = reads_at h dom.0 r; writes = writes_at h dom.0 r })) None)
+    (some-domain (domain_of s.domains dom) some)
+    ∙ ap (λ (c : Bool). cond c (Some (record { entry = entry_at h dom.0 r; generation = generation_at s h dom.0 r; reads = reads_at h dom.0 r; writes = writes_at h dom.0 r })) None) e
+
+not-below : (r n : ℕ) → n ≤ r → nat_lt r n ≡ false
+not-below r n le = by (nat_lt r n) refl
+  where
+    by : (b : Bool) → nat_lt r n ≡ b → nat_lt r n ≡ false
+    by true e = absurd (let lt = ltb-true r n e in omega arith)
+    by false e = e
+
+-- the reference is past the table
+pub shown-past : (s : Setting) (h : History) (xs : List State) (dom : DomId) (r at : ℕ) (x : State) → position (has_id dom.0) xs ≡ Some at → x ≡ get_or xs at x → size_of x.header ≤ r → CoreStands s h xs → None ≡ shown_at s h dom r
+shown-past s h xs dom r at x p here past st =
+    let a = agrees-found s h xs dom at x p here st in
+    let size : size_of (table_at s h dom) ≤ r = subst (λ (d : DomId). size_of (table_at s h d) ≤ r) a.1 (subst (λ (z : Header). size_of z ≤ r) a.2.header past) in
+    sym (shown-in-range s h dom r false a.0 (not-below r (size_of (table_at s h dom)) size))
+
+some-at : {A : Type 0} (xs : List A) (r : ℕ) → r < length xs → (x : A) × (slice_get xs r ≡ Some x)
+some-at [] r within = absurd (omega arith)
+some-at (x ∷ xs) zero within = (x, refl)
+some-at (x ∷ xs) (suc r) within = some-at xs r (omega arith)
+
+rows-show : (s : Setting) (h : History) (x : State) (r : ℕ) → Agrees s h x → r < TABLE_ENTRIES
+    → shown_in (slice_get x.own r) (slice_get x.slots r) ≡ Some (record { entry = entry_at h x.id.0 r; generation = generation_at s h x.id.0 r; reads = reads_at h x.id.0 r; writes = writes_at h x.id.0 r })
+rows-show s h x r a within =
+    let own = some-at x.own r (let n : length x.own ≡ TABLE_ENTRIES = a.rows in omega arith) in
+    let slot = some-at x.slots r (let n : length x.slots ≡ TABLE_ENTRIES = a.room in omega arith) in
+    let b = a.slots r slot.0 slot.1 in
+    let entry : own.0.entry ≡ entry_at h x.id.0 r = sym (ap row_entry own.1) ∙ ap (λ (f : ℕ → Entry). f r) a.entries in
+    let generation : own.0.generation ≡ generation_at s h x.id.0 r =
+    sym (ap (row_generation s.first_generation) own.1) ∙ ap (λ (f : ℕ → ℕ). f r) a.generations in
+    ap (λ (o : Option Own). shown_in o (slice_get x.slots r)) own.1 ∙ ap (λ (o : Option Slot). shown_in (Some own.0) o) slot.1
+    ∙ ap (λ (e : Entry). Some (record { entry = e; generation = own.0.generation; reads = slot.0.reads; writes = slot.0.writes })) entry
+    ∙ ap (λ (n : ℕ). Some (record { entry = entry_at h x.id.0 r; generation = n; reads = slot.0.reads; writes = slot.0.writes })) generation
+    ∙ ap (λ (n : ℕ). Some (record { entry = entry_at h x.id.0 r; generation = generation_at s h x.id.0 r; reads = n; writes = slot.0.writes })) b.reads
+    ∙ ap (λ (n : ℕ). Some (record { entry = entry_at h x.id.0 r; generation = generation_at s h x.id.0 r; reads = reads_at h x.id.0 r; writes = n })) b.writes
+
+-- an entry of the table
+pub shown-there : (s : Setting) (h : History) (xs : List State) (dom : DomId) (r at : ℕ) (x : State) → position (has_id dom.0) xs ≡ Some at → x ≡ get_or xs at x → r < size_of x.header → CoreStands s h xs
+    → shown_in (slice_get x.own r) (slice_get x.slots r) ≡ shown_at s h dom r
+shown-there s h xs dom r at x p here within st =
+    let a = agrees-found s h xs dom at x p here st in
+    let size : r < size_of (table_at s h dom) = subst (λ (d : DomId). r < size_of (table_at s h d)) a.1 (subst (λ (z : Header). r < size_of z) a.2.header within) in
+    let most : size_of (table_at s h dom) ≤ TABLE_ENTRIES = (table-fits _ (st.tables dom)).0 in
+    rows-show s h x r a.2 (omega arith)
+    ∙ ap (λ (d : DomId). Some (record { entry = entry_at h d.0 r; generation = generation_at s h d.0 r; reads = reads_at h d.0 r; writes = writes_at h d.0 r })) a.1
+    ∙ sym (shown-in-range s h dom r true a.0 (lt-ltb r (size_of (table_at s h dom)) size))
