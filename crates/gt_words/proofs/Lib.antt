@@ -1,5 +1,6 @@
 pub mod Lists
 pub mod Records
+pub mod GoneOn
 pub mod OneEntry
 pub mod Lifts
 pub mod Happening

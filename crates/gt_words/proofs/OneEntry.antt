@@ -1,6 +1,6 @@
 -- What each kind of step does to an entry, with the owner's moves among those of all seats.
 use Rattle.gt_types.specs.declared.limits.TheConstants.{MAX_PINS, LAST_GENERATION}
-use Rattle.std.proofs.Common.{◌≡◌, ◌≢◌, inl, inr, ℕ, zero, suc, ◌+◌, ◌-◌, ◌*◌, ◌<◌, ◌≤◌, Bool, true, false, not, List, [], ◌∷◌, set, sym, refl, ap, ◌∙◌, subst, arith, Some, get_or-set_other}
+use Rattle.std.proofs.Common.{◌≡◌, ◌≢◌, ◌⊎◌, inl, inr, ℕ, zero, suc, ◌+◌, ◌-◌, ◌*◌, ◌<◌, ◌≤◌, Bool, true, false, not, List, [], ◌∷◌, set, sym, refl, ap, ◌∙◌, subst, arith, Some, get_or-set_other}
 use mathlib.Core.Option.{some, some-injective, some-ne-none}
 use mathlib.Core.Logic.{dite}
 use native.Mathlib.Decide.{ℕ_discrete}
@@ -12,11 +12,12 @@ use Rattle.gt_entry.specs.declared.entry.Entry.{Entry}
 use Rattle.gt_entry.specs.declared.entry.Entry.TheVariants.{Invalid, Page, Sub, Via}
 use Rattle.gt_types.specs.declared.Dir.{Dir}
 use Rattle.gt_types.specs.declared.Dir.TheVariants.{Read, Write}
+use Rattle.gt_words.proofs.GoneOn.{goes_on, goes_on_here, still_gone, until_fewer, until_later}
 use Rattle.gt_words.proofs.Lists.{whose_at, whose_here}
 use Rattle.gt_words.proofs.Records.{body_counts, changes_shown, legal_record, looks_at, pins_shown, saw_known, seen_is_last, sees_shown, stores_shown, unpins_shown, word_counts}
-use Rattle.gt_words.specs.Controls.{IsValid, pins_in}
-use Rattle.gt_words.specs.Rule.{IsLawful, IsRecord, MayFollow, SawRecord, ShowsEntry, ShowsRecord, owner_steps, total_pins}
-use Rattle.gt_words.specs.Views.{HasBody, IsIn, LivePin, Seen, earlier_records, last_record, pin_count, pins, record_seen, seen, stored_body, weight}
+use Rattle.gt_words.specs.Controls.{IsValid, generation_of, pins_in}
+use Rattle.gt_words.specs.Rule.{HasGoneOn, IsLawful, IsRecord, MayFollow, SawRecord, ShowsEntry, ShowsRecord, owner_steps, total_pins}
+use Rattle.gt_words.specs.Views.{HasBody, IsIn, LivePin, Seen, earlier_records, exchanged, last_record, pin_count, pins, pins_until, record_seen, seen, stored_body, weight}
 use Rattle.gt_entry.specs.declared.change.Change.{Change}
 use Rattle.gt_words.specs.declared.view.EntryStep.{EntryStep}
 use Rattle.gt_words.specs.declared.view.EntryStep.TheVariants.{ChangeMissed, Changed, Looked, PinMissed, Pinned, ReadBody, StoredBody, Unpinned}
@@ -57,36 +58,44 @@ module _ (g t : ℕ) (hs : List (List EntryStep)) (i : ℕ) (h : List EntryStep)
     xs = earlier_records g (owner_steps t hs)
 
     -- a step that is none of the owner's changes
-    plain : (word' : ℕ) (m : EntryStep) → last_record g (m ∷ h) ≡ last_record g h → earlier_records g (m ∷ h) ≡ earlier_records g h → stored_body First (m ∷ h) ≡ stored_body First h → stored_body Second (m ∷ h) ≡ stored_body Second h
+    plain : (word' : ℕ) (m : EntryStep) → last_record g (m ∷ h) ≡ last_record g h → earlier_records g (m ∷ h) ≡ earlier_records g h → stored_body First (m ∷ h) ≡ stored_body First h → stored_body Second (m ∷ h) ≡ stored_body Second h → exchanged (m ∷ h) ≡ exchanged h
+        → ((e : ℕ) (d : Dir) → HasGoneOn x hs e → pins_until d (generation_of e) (pins (m ∷ h)) ≤ pins_until d (generation_of e) (pins h))
         → ShowsRecord x xs word' a b (set hs i (m ∷ h)) → ShowsEntry g t word' a b (set hs i (m ∷ h))
-    plain word' m p q r s z = record {
+    plain word' m p q r s u fewer z = record {
       record_shown = subst (λ (u : EntryRecord × List EntryRecord). ShowsRecord u.0 u.1 word' a b (set hs i (m ∷ h))) (λ j. (sym (same_owner (last_record g) m p) j, sym (same_owner (earlier_records g) m q) j)) z;
       first = k.first ∙ sym (same_owner (stored_body First) m r);
       second = k.second ∙ sym (same_owner (stored_body Second) m s);
+      gone_on = λ e is. let gone = k.gone_on e (subst (IsIn e) (same_owner exchanged m u) is) in
+          subst (λ (y : EntryRecord). HasGoneOn y (set hs i (m ∷ h)) e) (sym (same_owner (last_record g) m p)) (still_gone hs i h m at x e gone (λ d. fewer e d gone));
     }
 
+    -- no pin is taken
+    none_taken : (e : ℕ) (d : Dir) → HasGoneOn x hs e → pins_until d (generation_of e) (pins h) ≤ pins_until d (generation_of e) (pins h)
+    none_taken e d gone = omega arith
+
     pub entry_looks : ShowsEntry g t word a b (set hs i (Looked word ∷ h))
-    entry_looks = plain word (Looked word) refl refl refl refl (sees_shown x xs a b hs i h (Looked word) word k.record_shown at refl (looks_at x xs (total_pins Read hs) (total_pins Write hs) word k.record_shown.in_range k.record_shown.spelled) (word_counts x xs word a b hs k.record_shown))
+    entry_looks = plain word (Looked word) refl refl refl refl refl none_taken (sees_shown x xs a b hs i h (Looked word) word k.record_shown at refl (looks_at x xs (total_pins Read hs) (total_pins Write hs) word k.record_shown.in_range k.record_shown.spelled) (word_counts x xs word a b hs k.record_shown))
 
     pub entry_misses_pin : (d : Dir) (expected desired : ℕ) → ShowsEntry g t word a b (set hs i (PinMissed d expected desired word ∷ h))
-    entry_misses_pin d expected desired = plain word (PinMissed d expected desired word) refl refl refl refl (sees_shown x xs a b hs i h (PinMissed d expected desired word) word k.record_shown at refl (looks_at x xs (total_pins Read hs) (total_pins Write hs) word k.record_shown.in_range k.record_shown.spelled) (word_counts x xs word a b hs k.record_shown))
+    entry_misses_pin d expected desired = plain word (PinMissed d expected desired word) refl refl refl refl refl none_taken (sees_shown x xs a b hs i h (PinMissed d expected desired word) word k.record_shown at refl (looks_at x xs (total_pins Read hs) (total_pins Write hs) word k.record_shown.in_range k.record_shown.spelled) (word_counts x xs word a b hs k.record_shown))
 
     pub entry_misses_change : (c : Change) (expected desired : ℕ) → ShowsEntry g t word a b (set hs i (ChangeMissed c expected desired word ∷ h))
-    entry_misses_change c expected desired = plain word (ChangeMissed c expected desired word) refl refl refl refl (sees_shown x xs a b hs i h (ChangeMissed c expected desired word) word k.record_shown at refl (looks_at x xs (total_pins Read hs) (total_pins Write hs) word k.record_shown.in_range k.record_shown.spelled) (word_counts x xs word a b hs k.record_shown))
+    entry_misses_change c expected desired = plain word (ChangeMissed c expected desired word) refl refl refl refl refl none_taken (sees_shown x xs a b hs i h (ChangeMissed c expected desired word) word k.record_shown at refl (looks_at x xs (total_pins Read hs) (total_pins Write hs) word k.record_shown.in_range k.record_shown.spelled) (word_counts x xs word a b hs k.record_shown))
 
     pub entry_saw : (p : Half) (v : ℕ) → (p ≡ First → v ≡ a) → (p ≡ Second → v ≡ b) → ShowsEntry g t word a b (set hs i (ReadBody p v ∷ h))
-    entry_saw p v e f = plain word (ReadBody p v) refl refl refl refl (sees_shown x xs a b hs i h (ReadBody p v) word k.record_shown at refl (saw_known x xs a b p v (seen h) k.record_shown.body e f (k.record_shown.saw i h at)) (body_counts hs p v (seen h) (k.record_shown.counted i h at)))
+    entry_saw p v e f = plain word (ReadBody p v) refl refl refl refl refl none_taken (sees_shown x xs a b hs i h (ReadBody p v) word k.record_shown at refl (saw_known x xs a b p v (seen h) k.record_shown.body e f (k.record_shown.saw i h at)) (body_counts hs p v (seen h) (k.record_shown.counted i h at)))
 
     pub entry_pins : (d : Dir) (expected : ℕ) (s : Seen) → seen h ≡ Some s → s.word ≡ word → IsValid word → HasBody s → (d ≡ Write → is_read_only (record_seen s).entry ≡ false) → pins_in d word < MAX_PINS → ShowsEntry g t (word + unit_of d) a b (set hs i (Pinned d expected (record_seen s) ∷ h))
     entry_pins d expected s e same some_kind body writable in_range =
         let z = seen_is_last x xs s word (total_pins Read hs) (total_pins Write hs) k.record_shown.lawful (subst (SawRecord x xs) e (k.record_shown.saw i h at)) k.record_shown.in_range k.record_shown.spelled same some_kind body in
         let r : d ≡ Read → total_pins Read hs < MAX_PINS = λ q. let f = subst (λ (c : Dir). pins_in c word < MAX_PINS) q in_range in let u = z.2 in omega arith in
         let w : d ≡ Write → total_pins Write hs < MAX_PINS = λ q. let f = subst (λ (c : Dir). pins_in c word < MAX_PINS) q in_range in let u = z.3 in omega arith in
-        plain (word + unit_of d) (Pinned d expected (record_seen s)) refl refl refl refl
+        plain (word + unit_of d) (Pinned d expected (record_seen s)) refl refl refl refl refl
+        (λ e c gone. until_later c d (generation_of e) (record_seen s) (pins h) (let l = gone.earlier z.1 in let same_record = ap (λ (u : EntryRecord). u.generation) z.0 in omega arith))
         (subst (λ (y : EntryRecord). ShowsRecord x xs (word + unit_of d) a b (set hs i (Pinned d expected y ∷ h))) (sym z.0) (pins_shown x xs a b hs i h word expected d k.record_shown at z.1 (λ q. ap (λ (u : EntryRecord). is_read_only u.entry) (sym z.0) ∙ writable q) r w))
 
     pub entry_unpins : (d : Dir) (p : LivePin) → IsIn p (pins h) → p.0 ≡ d → ShowsEntry g t (word - unit_of d) a b (set hs i (Unpinned d p.1.generation ∷ h))
-    entry_unpins d p e q = plain (word - unit_of d) (Unpinned d p.1.generation) refl refl refl refl (unpins_shown x xs a b hs i h word d p k.record_shown at e q)
+    entry_unpins d p e q = plain (word - unit_of d) (Unpinned d p.1.generation) refl refl refl refl refl (λ u c gone. until_fewer c d (generation_of u) p.1.generation (pins h)) (unpins_shown x xs a b hs i h word d p k.record_shown at e q)
 
 -- the owner's own steps
 
@@ -101,11 +110,15 @@ module _ (g t : ℕ) (hs : List (List EntryStep)) (h : List EntryStep) (at : get
   pub mine : ShowsRecord (last_record g h) (earlier_records g h) word a b hs
   mine = subst (λ (z : List EntryStep). ShowsRecord (last_record g z) (earlier_records g z) word a b hs) owner k.record_shown
 
+  gone : (e : ℕ) → IsIn e (exchanged h) → HasGoneOn (last_record g h) hs e
+  gone = subst (λ (z : List EntryStep). (e : ℕ) → IsIn e (exchanged z) → HasGoneOn (last_record g z) hs e) owner k.gone_on
+
   pub entry_stores_first : (v : ℕ) → (last_record g h).entry ≡ Invalid → ShowsEntry g t word v b (set hs t (StoredBody First v ∷ h))
   entry_stores_first v n = let m : EntryStep = StoredBody First v in let here : (m ∷ h) ≡ owner_steps t (set hs t (m ∷ h)) = sym (whose_here hs t h (m ∷ h) at) in record {
     record_shown = subst (λ (z : List EntryStep). ShowsRecord (last_record g z) (earlier_records g z) word v b (set hs t (m ∷ h))) here (stores_shown (last_record g h) (earlier_records g h) a b hs t h word First v v b mine at n);
     first = ap (stored_body First) here;
     second = k.second ∙ (ap (stored_body Second) owner ∙ ap (stored_body Second) here);
+    gone_on = subst (λ (z : List EntryStep). (e : ℕ) → IsIn e (exchanged z) → HasGoneOn (last_record g z) (set hs t (m ∷ h)) e) here (λ e is. still_gone hs t h m at (last_record g h) e (gone e is) (λ d. omega arith));
   }
 
   pub entry_stores_second : (v : ℕ) → (last_record g h).entry ≡ Invalid → ShowsEntry g t word a v (set hs t (StoredBody Second v ∷ h))
@@ -113,30 +126,36 @@ module _ (g t : ℕ) (hs : List (List EntryStep)) (h : List EntryStep) (at : get
     record_shown = subst (λ (z : List EntryStep). ShowsRecord (last_record g z) (earlier_records g z) word a v (set hs t (m ∷ h))) here (stores_shown (last_record g h) (earlier_records g h) a b hs t h word Second v a v mine at n);
     first = k.first ∙ (ap (stored_body First) owner ∙ ap (stored_body First) here);
     second = ap (stored_body Second) here;
+    gone_on = subst (λ (z : List EntryStep). (e : ℕ) → IsIn e (exchanged z) → HasGoneOn (last_record g z) (set hs t (m ∷ h)) e) here (λ e is. still_gone hs t h m at (last_record g h) e (gone e is) (λ d. omega arith));
   }
 
   pub entry_changes : (word' expected stored : ℕ) (c : Change) (y : EntryRecord) → IsRecord y → MayFollow y (last_record g h) → IsSpelled y.entry a b → word' ≡ word_of y.entry y.generation (total_pins Read hs) (total_pins Write hs)
-      → (y.entry ≡ Invalid → (total_pins Read hs ≡ 0) × (total_pins Write hs ≡ 0)) → (is_read_only y.entry ≡ true → total_pins Write hs ≡ 0) → ShowsEntry g t word' a b (set hs t (Changed c expected stored y ∷ h))
-  entry_changes word' expected stored c y ok may body is unpinned unwritten = let m : EntryStep = Changed c expected stored y in let here : (m ∷ h) ≡ owner_steps t (set hs t (m ∷ h)) = sym (whose_here hs t h (m ∷ h) at) in record {
+      → (y.entry ≡ Invalid → (total_pins Read hs ≡ 0) × (total_pins Write hs ≡ 0)) → (is_read_only y.entry ≡ true → total_pins Write hs ≡ 0) → word ≡ expected → ShowsEntry g t word' a b (set hs t (Changed c expected stored y ∷ h))
+  entry_changes word' expected stored c y ok may body is unpinned unwritten from = let m : EntryStep = Changed c expected stored y in let here : (m ∷ h) ≡ owner_steps t (set hs t (m ∷ h)) = sym (whose_here hs t h (m ∷ h) at) in record {
     record_shown = subst (λ (z : List EntryStep). ShowsRecord (last_record g z) (earlier_records g z) word' a b (set hs t (m ∷ h))) here (changes_shown (last_record g h) (earlier_records g h) a b hs t h word word' expected stored c y mine at ok may body is unpinned unwritten);
     first = k.first ∙ (ap (stored_body First) owner ∙ ap (stored_body First) here);
     second = k.second ∙ (ap (stored_body Second) owner ∙ ap (stored_body Second) here);
+    gone_on = subst (λ (z : List EntryStep). (e : ℕ) → IsIn e (exchanged z) → HasGoneOn (last_record g z) (set hs t (m ∷ h)) e) here (λ e is. still_gone hs t h m at y e (each e is) (λ d. omega arith));
   }
+    where
+      each : (e : ℕ) → (e ≡ expected) ⊎ IsIn e (exchanged h) → HasGoneOn y hs e
+      each e (inl same) = subst (HasGoneOn y hs) (from ∙ sym same) (goes_on_here (last_record g h) (earlier_records g h) y word a b hs may mine)
+      each e (inr past) = goes_on (last_record g h) y hs e may (gone e past)
 
   -- the entry becomes invalid, where the word is its idle word
-  pub entry_revokes : (expected stored : ℕ) → word ≡ idle_word_of (last_record g h).entry (last_record g h).generation
+  pub entry_revokes : (expected stored : ℕ) → word ≡ expected → word ≡ idle_word_of (last_record g h).entry (last_record g h).generation
       → ShowsEntry g t (idle_word_of Invalid (last_record g h).generation) a b (set hs t (Changed change.Revoke expected stored (record { generation = (last_record g h).generation; entry = Invalid }) ∷ h))
-  entry_revokes expected stored idle = let x : EntryRecord = last_record g h in let z = idle_held x (earlier_records g h) word (total_pins Read hs) (total_pins Write hs) mine.lawful mine.in_range mine.spelled idle in
+  entry_revokes expected stored from idle = let x : EntryRecord = last_record g h in let z = idle_held x (earlier_records g h) word (total_pins Read hs) (total_pins Write hs) mine.lawful mine.in_range mine.spelled idle in
       let z0 = z.0 in let z1 = z.1 in let rec = legal_record x (earlier_records g h) mine.lawful in
-      entry_changes (idle_word_of Invalid x.generation) expected stored change.Revoke (record { generation = x.generation; entry = Invalid }) (tt, rec.1) (inl (refl, refl)) tt (omega arith) (λ _. z) (λ _. z1)
+      entry_changes (idle_word_of Invalid x.generation) expected stored change.Revoke (record { generation = x.generation; entry = Invalid }) (tt, rec.1) (inl (refl, refl)) tt (omega arith) (λ _. z) (λ _. z1) from
 
   -- an entry is published, where the word is the invalid word with no pins
-  pub entry_grants : (expected stored : ℕ) (e : Entry) → word ≡ idle_word_of Invalid (last_record g h).generation → (last_record g h).entry ≡ Invalid → IsEntry e → e ≢ Invalid → (last_record g h).generation < LAST_GENERATION → IsSpelled e (stored_body First h) (stored_body Second h)
+  pub entry_grants : (expected stored : ℕ) (e : Entry) → word ≡ expected → word ≡ idle_word_of Invalid (last_record g h).generation → (last_record g h).entry ≡ Invalid → IsEntry e → e ≢ Invalid → (last_record g h).generation < LAST_GENERATION → IsSpelled e (stored_body First h) (stored_body Second h)
       → ShowsEntry g t (idle_word_of e ((last_record g h).generation + 1)) a b (set hs t (Changed (change.Publish e) expected stored (record { generation = (last_record g h).generation + 1; entry = e }) ∷ h))
-  entry_grants expected stored e idle none ok some_kind room body = let x : EntryRecord = last_record g h in
+  entry_grants expected stored e from idle none ok some_kind room body = let x : EntryRecord = last_record g h in
       let z = idle_held x (earlier_records g h) word (total_pins Read hs) (total_pins Write hs) mine.lawful mine.in_range mine.spelled (idle ∙ ap (λ (y : Entry). idle_word_of y x.generation) (sym none)) in let z0 = z.0 in let z1 = z.1 in
       entry_changes (idle_word_of e (x.generation + 1)) expected stored (change.Publish e) (record { generation = x.generation + 1; entry = e }) (ok, omega arith) (inr (refl, some_kind, inl none))
-      (subst (λ (u : ℕ × ℕ). IsSpelled e u.0 u.1) (λ j. (sym (k.first ∙ ap (stored_body First) owner) j, sym (k.second ∙ ap (stored_body Second) owner) j)) body) (omega arith) (λ n. absurd (some_kind n)) (λ _. z1)
+      (subst (λ (u : ℕ × ℕ). IsSpelled e u.0 u.1) (λ j. (sym (k.first ∙ ap (stored_body First) owner) j, sym (k.second ∙ ap (stored_body Second) owner) j)) body) (omega arith) (λ n. absurd (some_kind n)) (λ _. z1) from
 
 -- the low bits of an entry that is turned
 pub turned_low : (o : Bool) (e : Entry) → e ≢ Invalid → is_read_only e ≡ not o → low_bits (with_ro o e) + flag (not o) ≡ low_bits e + flag o
@@ -190,9 +209,9 @@ turned_other false b h = sym (ap not h)
 
 module _ (g t : ℕ) (hs : List (List EntryStep)) (h : List EntryStep) (at : get_elem? hs t ≡ some h) (word a b : ℕ) (k : ShowsEntry g t word a b hs) where
   -- the entry becomes read-only or writable, with its pins
-  pub entry_turns : (o : Bool) (c : Change) (word' expected stored : ℕ) → (last_record g h).entry ≢ Invalid → is_read_only (last_record g h).entry ≡ not o → (last_record g h).generation < LAST_GENERATION → (o ≡ true → total_pins Write hs ≡ 0)
+  pub entry_turns : (o : Bool) (c : Change) (word' expected stored : ℕ) → word ≡ expected → (last_record g h).entry ≢ Invalid → is_read_only (last_record g h).entry ≡ not o → (last_record g h).generation < LAST_GENERATION → (o ≡ true → total_pins Write hs ≡ 0)
       → word' ≡ word_of (with_ro o (last_record g h).entry) ((last_record g h).generation + 1) (total_pins Read hs) (total_pins Write hs)
       → ShowsEntry g t word' a b (set hs t (Changed c expected stored (record { generation = (last_record g h).generation + 1; entry = with_ro o (last_record g h).entry }) ∷ h))
-  entry_turns o c word' expected stored some_kind now room unwritten is = let x : EntryRecord = last_record g h in let m = mine g t hs h at word a b k in let rec = legal_record x (earlier_records g h) m.lawful in
+  entry_turns o c word' expected stored from some_kind now room unwritten is = let x : EntryRecord = last_record g h in let m = mine g t hs h at word a b k in let rec = legal_record x (earlier_records g h) m.lawful in
       entry_changes g t hs h at word a b k word' expected stored c (record { generation = x.generation + 1; entry = with_ro o x.entry }) (turned_entry o x.entry rec.0, omega arith) (inr (refl, turned_some o x.entry some_kind, inr (ap (λ (u : Bool). with_ro u x.entry) (turned_other o (is_read_only x.entry) now))))
-      (turned_spells o x.entry a b m.body) is (λ n. absurd (turned_some o x.entry some_kind n)) (λ q. unwritten (sym (turned_ro o x.entry some_kind) ∙ q))
+      (turned_spells o x.entry a b m.body) is (λ n. absurd (turned_some o x.entry some_kind n)) (λ q. unwritten (sym (turned_ro o x.entry some_kind) ∙ q)) from

@@ -15,12 +15,14 @@ use Rattle.gt_types.specs.declared.Dir.TheVariants.{Read, Write}
 use Rattle.gt_types.specs.declared.config.DomainConfig.{DomainConfig}
 use Rattle.gt_types.specs.declared.limits.TheConstants.{LAST_VERSION, MAX_TABLE_FRAMES, TABLE_ENTRIES}
 use Rattle.gt_words.specs.Conditions.{initial}
+use Rattle.gt_words.specs.Controls.{generation_of}
 use Rattle.gt_words.specs.Places.{dealer_after, dealt_to, new_view}
-use Rattle.gt_words.specs.Rule.{CountsTaken, IsHeader, Layout, SawHeaders, SawRecord, Shows, ShowsEntry, ShowsRecord, first_header, header_now, header_place, headers_of, owner_steps, place, total_pins, total_taken}
-use Rattle.gt_words.specs.Views.{IsIn, Seen, earlier_records, last_record, own, pin_count, pins, seen, seen_header, steps_on, steps_on_header, stored_body, stored_header, stored_headers, taken_count}
+use Rattle.gt_words.specs.Rule.{CountsTaken, HasGoneOn, IsHeader, Layout, SawHeaders, SawRecord, Shows, ShowsEntry, ShowsRecord, first_header, header_now, header_place, headers_of, owner_steps, place, total_pins, total_taken, total_until}
+use Rattle.gt_words.specs.Views.{IsIn, Seen, earlier_records, exchanged, last_record, own, pin_count, pins, pins_until, seen, seen_header, steps_on, steps_on_header, stored_body, stored_header, stored_headers, taken_count}
 use Rattle.gt_words.specs.declared.view.EntryStep.{EntryStep}
 use Rattle.gt_entry.specs.declared.change.Half.TheVariants.{First, Second}
 use Rattle.gt_words.specs.declared.view.HeaderStep.{HeaderStep}
+use Rattle.gt_words.specs.declared.view.EntryRecord.{EntryRecord}
 use Rattle.gt_words.specs.declared.view.View.{View}
 
 nothing_at : {A : Type 0} (t : ℕ) → get_or {A = List A} ([] ∷ []) t [] ≡ []
@@ -33,7 +35,7 @@ alone_at (suc i) h e = absurd (some-ne-none h (sym e))
 
 -- an entry at the start
 entry_opens : (g t : ℕ) → g < 1048576 → (word a b : ℕ) → word ≡ 17592186044416 * g → a ≡ 0 → b ≡ 0 → ShowsEntry g t word a b ([] ∷ [])
-entry_opens g t small word a b w p q = subst (λ (ms : List EntryStep). ShowsRecord (last_record g ms) (earlier_records g ms) word a b ([] ∷ []) → a ≡ stored_body First ms → b ≡ stored_body Second ms → ShowsEntry g t word a b ([] ∷ [])) (nothing_at t) (λ k f s. record { record_shown = k; first = f; second = s }) record {
+entry_opens g t small word a b w p q = subst (λ (ms : List EntryStep). ShowsRecord (last_record g ms) (earlier_records g ms) word a b ([] ∷ []) → a ≡ stored_body First ms → b ≡ stored_body Second ms → ((e : ℕ) → IsIn e (exchanged ms) → HasGoneOn (last_record g ms) ([] ∷ []) e) → ShowsEntry g t word a b ([] ∷ [])) (nothing_at t) (λ k f s u. record { record_shown = k; first = f; second = s; gone_on = u }) record {
   spelled = omega arith;
   in_range = (omega arith, omega arith);
   body = tt;
@@ -43,7 +45,7 @@ entry_opens g t small word a b w p q = subst (λ (ms : List EntryStep). ShowsRec
   pinned = λ i h at z y. absurd (subst (λ (ms : List EntryStep). IsIn z (pins ms)) (alone_at i h at) y);
   saw = λ i h at. subst (λ (ms : List EntryStep). SawRecord (last_record g []) [] (seen ms)) (sym (alone_at i h at)) tt;
   counted = λ i h at. subst (λ (ms : List EntryStep). CountsTaken ([] ∷ []) (seen ms)) (sym (alone_at i h at)) tt;
-} p q
+} p q (λ e is. absurd is)
 
 initial_here : (k : Layout) (t r j : ℕ) → r < TABLE_ENTRIES → j < 3 → initial k (place t r j) ≡ cond (j == 0) (17592186044416 * k.first) 0
 initial_here k t r j rn jn = let p : place t r j % DOMAIN_WORDS ≡ ENTRY_WORDS * r + (ENTRY_WORDS + j) = omega arith in let q : (place t r j % DOMAIN_WORDS == 0) ≡ false = ne_eqb _ 0 (λ e. omega arith) in
@@ -99,9 +101,21 @@ counted_more : (hs : List (List EntryStep)) (s : Option Seen) → CountsTaken hs
 counted_more hs None k = tt
 counted_more hs (Some s) k = λ d. let l = k d in let e = taken_more d hs in omega arith
 
+until_more : (d : Dir) (g : ℕ) (hs : List (List EntryStep)) → total_until d g (hs ++ [] ∷ []) ≡ total_until d g hs
+until_more d g [] = refl
+until_more d g (h ∷ hs) = ap (λ (n : ℕ). pins_until d g (pins h) + n) (until_more d g hs)
+
+gone_more : (x : EntryRecord) (hs : List (List EntryStep)) (e : ℕ) → HasGoneOn x hs e → HasGoneOn x (hs ++ [] ∷ []) e
+gone_more x hs e k = record {
+  not_later = k.not_later;
+  earlier = k.earlier;
+  left = λ d. let l = k.left d in let s = until_more d (generation_of e) hs in omega arith;
+  taken = λ d. let l = k.taken d in let s = taken_more d hs in omega arith;
+}
+
 entry_more : (g t word a b : ℕ) (hs : List (List EntryStep)) → ShowsEntry g t word a b hs → ShowsEntry g t word a b (hs ++ [] ∷ [])
 entry_more g t word a b hs k = let same = nothing_more hs t in
-    subst (λ (ms : List EntryStep). ShowsRecord (last_record g ms) (earlier_records g ms) word a b (hs ++ [] ∷ []) → a ≡ stored_body First ms → b ≡ stored_body Second ms → ShowsEntry g t word a b (hs ++ [] ∷ [])) same (λ x f s. record { record_shown = x; first = f; second = s })
+    subst (λ (ms : List EntryStep). ShowsRecord (last_record g ms) (earlier_records g ms) word a b (hs ++ [] ∷ []) → a ≡ stored_body First ms → b ≡ stored_body Second ms → ((e : ℕ) → IsIn e (exchanged ms) → HasGoneOn (last_record g ms) (hs ++ [] ∷ []) e) → ShowsEntry g t word a b (hs ++ [] ∷ [])) same (λ x f s u. record { record_shown = x; first = f; second = s; gone_on = u })
     record {
       spelled = k.record_shown.spelled ∙ sym (λ i. word_of (last_record g (owner_steps t hs)).entry (last_record g (owner_steps t hs)).generation (held_more Read hs i) (held_more Write hs i));
       in_range = (let r = held_more Read hs in let f = k.record_shown.in_range.0 in omega arith, let w = held_more Write hs in let f = k.record_shown.in_range.1 in omega arith);
@@ -112,7 +126,7 @@ entry_more g t word a b hs k = let same = nothing_more hs t in
       pinned = λ i h at p y. ⊎_elim (λ (e : get_elem? hs i ≡ some h). k.record_shown.pinned i h e p y) (λ (e : [] ≡ h). absurd (subst (λ (ms : List EntryStep). IsIn p (pins ms)) (sym e) y)) (at_snoc hs [] h i at);
       saw = λ i h at. ⊎_elim (λ (e : get_elem? hs i ≡ some h). k.record_shown.saw i h e) (λ (e : [] ≡ h). subst (λ (ms : List EntryStep). SawRecord (last_record g (owner_steps t hs)) (earlier_records g (owner_steps t hs)) (seen ms)) e tt) (at_snoc hs [] h i at);
       counted = λ i h at. counted_more hs (seen h) (⊎_elim (λ (e : get_elem? hs i ≡ some h). k.record_shown.counted i h e) (λ (e : [] ≡ h). subst (λ (ms : List EntryStep). CountsTaken hs (seen ms)) e tt) (at_snoc hs [] h i at));
-    } k.first k.second
+    } k.first k.second (λ e is. gone_more (last_record g (owner_steps t hs)) hs e (k.gone_on e is))
 
 new_index : {A : Type 0} (l : List A) (a b : A) (j : ℕ) → get_elem? (l ++ a ∷ []) j ≡ some b → (get_elem? l j ≡ some b) ⊎ ((a ≡ b) × (j ≡ length l))
 new_index [] a b zero e = inr (some-injective a b e, refl)

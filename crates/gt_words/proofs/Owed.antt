@@ -248,7 +248,7 @@ module _ {S : Type 0} (k : Layout) (slots id : ℕ) (me : Me S View) (t r : ℕ)
         let i : new ≡ idle_word_of Invalid y.generation = omega arith in
         subst (λ (u : ℕ × EntryRecord). ShowsEntry k.first t u.0 a b (set hs t (Changed change.Revoke old new u.1 ∷ h))) (λ j. (sym i j, sym (revoked (last_of r me.0)) j))
         (subst (λ (u : EntryRecord). ShowsEntry k.first t (idle_word_of Invalid y.generation) a b (set hs t (Changed change.Revoke old new (invalid_at u.generation) ∷ h))) (sym l)
-        (entry_revokes k.first t hs h at w a b z old new (e ∙ (idle ∙ ap (λ (u : EntryRecord). idle_word_of u.entry u.generation) l)))))
+        (entry_revokes k.first t hs h at w a b z old new e (e ∙ (idle ∙ ap (λ (u : EntryRecord). idle_word_of u.entry u.generation) l)))))
 
     pub grant_owes : (e : Entry) (old new : ℕ) → IsIdleOf (last_of r me.0) old → new ≡ idle_word_of e ((last_of r me.0).generation + 1) → (last_of r me.0).entry ≡ Invalid → IsEntry e → e ≢ Invalid
         → (last_of r me.0).generation < LAST_GENERATION → IsSpelled e (stored_body First (steps_on t r me.0)) (stored_body Second (steps_on t r me.0))
@@ -258,7 +258,7 @@ module _ {S : Type 0} (k : Layout) (slots id : ℕ) (me : Me S View) (t r : ℕ)
         change_owes (change.Publish e) old new (λ w a b hs z at f q.
         let l = last_is f in subst (λ (u : ℕ). ShowsEntry k.first t u a b (set hs t (Changed (change.Publish e) old new (record { generation = x.generation + 1; entry = e }) ∷ steps_on t r me.0))) (sym is)
         (subst (λ (y : EntryRecord). ShowsEntry k.first t (idle_word_of e (y.generation + 1)) a b (set hs t (Changed (change.Publish e) old new (record { generation = y.generation + 1; entry = e }) ∷ steps_on t r me.0))) (sym l)
-        (entry_grants k.first t hs (steps_on t r me.0) at w a b z old new e (q ∙ (idle ∙ ((λ i. idle_word_of (none_yet i) x.generation) ∙ ap (λ (y : EntryRecord). idle_word_of Invalid y.generation) l))) (ap (λ (y : EntryRecord). y.entry) (sym l) ∙ none_yet) ok some_kind
+        (entry_grants k.first t hs (steps_on t r me.0) at w a b z old new e q (q ∙ (idle ∙ ((λ i. idle_word_of (none_yet i) x.generation) ∙ ap (λ (y : EntryRecord). idle_word_of Invalid y.generation) l))) (ap (λ (y : EntryRecord). y.entry) (sym l) ∙ none_yet) ok some_kind
         (subst (λ (y : EntryRecord). y.generation < LAST_GENERATION) l room) body)))
 
     -- the word after a turn, with its pins
@@ -278,7 +278,7 @@ module _ {S : Type 0} (k : Layout) (slots id : ℕ) (me : Me S View) (t r : ℕ)
         let writes : total_pins Write hs ≡ pins_in Write w = sym (ap (pins_in Write) s.spelled ∙ (spelled_parts y.entry y.generation (total_pins Read hs) (total_pins Write hs) (legal_record y (earlier_records k.first h) s.lawful).0 s.in_range).writes) in
         let turns : is_read_only y.entry ≡ not o = ap (λ (u : EntryRecord). is_read_only u.entry) (sym l) ∙ now in let kind : y.entry ≢ Invalid = subst (λ (u : EntryRecord). u.entry ≢ Invalid) l some_kind in
         subst (λ (u : EntryRecord). ShowsEntry k.first t new a b (set hs t (Changed c old new u ∷ h))) (sym (turns_it x ∙ ap (turned o) l))
-        (entry_turns k.first t hs h at w a b z o c new old new kind turns (omega arith) (λ n. writes ∙ (ap (pins_in Write) q ∙ unwritten n))
+        (entry_turns k.first t hs h at w a b z o c new old new q kind turns (omega arith) (λ n. writes ∙ (ap (pins_in Write) q ∙ unwritten n))
         (turned_is o y (total_pins Read hs) (total_pins Write hs) w new kind turns s.spelled (is ∙ ap (λ (u : ℕ). u + flag o + 17592186044416) (sym q)))))
 
     pub demote_owes : (old new : ℕ) → (last_of r me.0).entry ≢ Invalid → generation_of old < LAST_GENERATION → is_read_only (last_of r me.0).entry ≡ false → pins_in Write old ≡ 0 → new ≡ demoted_word old

@@ -81,7 +81,7 @@ held_taken d (StoredBody p n ∷ ms) = held_taken d ms
 held_taken d (Changed c e n x ∷ ms) = held_taken d ms
 held_taken d (ChangeMissed c e f n ∷ ms) = held_taken d ms
 
-total_taken-most : (d : Dir) (hs : List (List EntryStep)) → total_pins d hs ≤ total_taken d hs
+pub total_taken-most : (d : Dir) (hs : List (List EntryStep)) → total_pins d hs ≤ total_taken d hs
 total_taken-most d [] = omega arith
 total_taken-most d (h ∷ hs) = let l = total_taken-most d hs in let f = held_taken d h in omega arith
 
@@ -95,7 +95,7 @@ taken_count-more d (StoredBody p n) h = omega arith
 taken_count-more d (Changed c e n x) h = omega arith
 taken_count-more d (ChangeMissed c e f n) h = omega arith
 
-total_taken-set : (d : Dir) (hs : List (List EntryStep)) (i : ℕ) (h : List EntryStep) (m : EntryStep) → get_elem? hs i ≡ some h → total_taken d hs ≤ total_taken d (set hs i (m ∷ h))
+pub total_taken-set : (d : Dir) (hs : List (List EntryStep)) (i : ℕ) (h : List EntryStep) (m : EntryStep) → get_elem? hs i ≡ some h → total_taken d hs ≤ total_taken d (set hs i (m ∷ h))
 total_taken-set d [] i h m e = absurd (some-ne-none h (sym e))
 total_taken-set d (x ∷ xs) zero h m e = let p : taken_count d x ≡ taken_count d h = ap (taken_count d) (some-injective x h e) in let l = taken_count-more d m h in omega arith
 total_taken-set d (x ∷ xs) (suc i) h m e = let r = total_taken-set d xs i h m e in omega arith

@@ -16,8 +16,8 @@ use Rattle.gt_types.specs.declared.config.Config.{Config}
 use Rattle.gt_types.specs.declared.config.DomainConfig.{DomainConfig}
 use Rattle.gt_types.specs.declared.limits.TheConstants.{MAX_TABLE_FRAMES, TABLE_ENTRIES}
 use Rattle.gt_words.specs.declared.board.TheConstants.{DOMAIN_WORDS, ENTRY_WORDS}
-use Rattle.gt_words.specs.Controls.{pins_in}
-use Rattle.gt_words.specs.Views.{IsIn, LivePin, Seen, earlier_records, last_record, pin_count, pins, seen, seen_header, steps_on, steps_on_header, stored_body, stored_header, stored_headers, taken_count}
+use Rattle.gt_words.specs.Controls.{generation_of, pins_in}
+use Rattle.gt_words.specs.Views.{IsIn, LivePin, Seen, earlier_records, exchanged, last_record, pin_count, pins, pins_until, seen, seen_header, steps_on, steps_on_header, stored_body, stored_header, stored_headers, taken_count}
 use Rattle.gt_words.specs.declared.view.EntryStep.{EntryStep}
 use Rattle.gt_entry.specs.declared.change.Half.TheVariants.{First, Second}
 use Rattle.gt_words.specs.declared.view.HeaderStep.{HeaderStep}
@@ -81,6 +81,11 @@ abbrev pub total_pins : Dir → List (List EntryStep) → ℕ
 total_pins d [] = 0
 total_pins d (h ∷ hs) = pin_count d (pins h) + total_pins d hs
 
+-- the pins of a kind on an entry that are of the generation g or of an earlier one, added up seat by seat (own)
+abbrev pub total_until : Dir → ℕ → List (List EntryStep) → ℕ
+total_until d g [] = 0
+total_until d g (h ∷ hs) = pins_until d g (pins h) + total_until d g hs
+
 -- the pins of a kind that were ever taken of an entry, added up seat by seat (own)
 abbrev pub total_taken : Dir → List (List EntryStep) → ℕ
 total_taken d [] = 0
@@ -128,6 +133,13 @@ pub record ShowsRecord (x : EntryRecord) (xs : List EntryRecord) (word a b : ℕ
   pub saw : (i : ℕ) (h : List EntryStep) → get_elem? hs i ≡ some h → SawRecord x xs (seen h)
   pub counted : (i : ℕ) (h : List EntryStep) → get_elem? hs i ≡ some h → CountsTaken hs (seen h)
 
+-- the owner's list has gone on from the word e to the last record x: no pin is taken any more of the record of that word or of an earlier one, so of those no more are left than it counts (own)
+pub record HasGoneOn (x : EntryRecord) (hs : List (List EntryStep)) (e : ℕ) : Type 0 where
+  pub not_later : generation_of e ≤ x.generation
+  pub earlier : x.entry ≢ Invalid → generation_of e < x.generation
+  pub left : (d : Dir) → total_until d (generation_of e) hs ≤ pins_in d e
+  pub taken : (d : Dir) → pins_in d e ≤ total_taken d hs
+
 -- the owner's steps on the entry, out of those of each seat (own)
 abbrev pub owner_steps : ℕ → List (List EntryStep) → List EntryStep
 owner_steps t hs = slice_index_or hs t []
@@ -137,6 +149,8 @@ pub record ShowsEntry (g t word a b : ℕ) (hs : List (List EntryStep)) : Type 0
   pub record_shown : ShowsRecord (last_record g (owner_steps t hs)) (earlier_records g (owner_steps t hs)) word a b hs
   pub first : a ≡ stored_body First (owner_steps t hs)
   pub second : b ≡ stored_body Second (owner_steps t hs)
+  -- each word that the owner exchanged from counts the pins that are left of its record and of earlier ones
+  pub gone_on : (e : ℕ) → IsIn e (exchanged (owner_steps t hs)) → HasGoneOn (last_record g (owner_steps t hs)) hs e
 
 -- the header has version 1 or 2, and a number of table frames within the limit (versions: grant_table.h; the limit: own)
 pub record IsKeptHeader (h : Header) : Type 0 where

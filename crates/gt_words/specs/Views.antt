@@ -1,5 +1,5 @@
 -- What follows from the steps of one seat. Lists begin with what came last.
-use Rattle.std.specs.Prelude.{◌≡◌, ◌⊎◌, ℕ, ◌+◌, Bool, true, false, cond, IsSome, ◌==◌, ◌&&◌, List, [], ◌∷◌, Option, Some, None, slice_index, count_by}
+use Rattle.std.specs.Prelude.{◌≡◌, ◌⊎◌, ℕ, ◌+◌, Bool, true, false, cond, IsSome, ◌==◌, ◌&&◌, List, [], ◌∷◌, Option, Some, None, slice_index, count_by, nat_le}
 use Rattle.gt_types.specs.declared.Dir.{Dir}
 use Rattle.gt_types.specs.declared.Dir.TheVariants.{Read, Write}
 use Rattle.gt_entry.specs.declared.entry.Entry.TheVariants as entries
@@ -89,6 +89,11 @@ abbrev pub pin_count : Dir → List LivePin → ℕ
 pin_count d [] = 0
 pin_count d (p ∷ ps) = weight d p.0 + pin_count d ps
 
+-- the number of pins of this kind that are of the generation g or of an earlier one (own)
+abbrev pub pins_until : Dir → ℕ → List LivePin → ℕ
+pins_until d g [] = 0
+pins_until d g (p ∷ ps) = cond (nat_le p.1.generation g) (weight d p.0) 0 + pins_until d g ps
+
 -- the number of pins of this kind that a seat ever took of an entry, given back or not (own)
 abbrev pub taken_count : Dir → List EntryStep → ℕ
 taken_count d [] = 0
@@ -114,6 +119,12 @@ earlier_records g (_ ∷ ms) = earlier_records g ms
 -- the owner's list of records, the last one first (own)
 abbrev pub own : ℕ → List EntryStep → List EntryRecord
 own g ms = last_record g ms ∷ earlier_records g ms
+
+-- the words from which the owner exchanged the control word of its entry, the last one first (own)
+abbrev pub exchanged : List EntryStep → List ℕ
+exchanged [] = []
+exchanged (Changed _ e _ _ ∷ ms) = e ∷ exchanged ms
+exchanged (_ ∷ ms) = exchanged ms
 
 -- both are the first body word, or both the second (own)
 abbrev pub is_half : Half → Half → Bool
