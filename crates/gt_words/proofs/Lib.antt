@@ -10,3 +10,4 @@ pub mod Headers
 pub mod Told
 pub mod Opens
 pub mod Dealt
+pub mod Past

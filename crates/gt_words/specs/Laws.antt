@@ -7,7 +7,7 @@ use Rattle.std.proofs.lemmas.Bool.Decides.{nat_tests}
 use Rattle.std.proofs.lemmas.List.Quantifiers.{position-Some}
 use mathlib.Core.Option.{some}
 use lib.ListN.{get_elem?}
-use Rattle.atomic_table.specs.Table.{State}
+use Rattle.atomic_table.specs.Table.{State, keeps, stepped}
 use Rattle.atomic_table.proofs.Lists.{at_map}
 use Rattle.gt_entry.specs.declared.entry.Entry.TheVariants.{Invalid}
 use Rattle.gt_types.specs.Config.{IsWithinLimits}
@@ -17,9 +17,13 @@ use Rattle.gt_types.specs.declared.config.Config.{Config}
 use Rattle.gt_types.specs.declared.config.DomainConfig.{DomainConfig}
 use Rattle.gt_types.specs.declared.limits.TheConstants.{TABLE_ENTRIES}
 use Rattle.gt_words.specs.Conditions.{Board, HasDomain, IsSeatOf, SeatOf, position_at}
-use Rattle.gt_words.specs.Rule.{IsLawful, IsNextEntry, IsRevocation, Layout, Shows, id_at, layout_of, position_in}
-use Rattle.gt_words.specs.Views.{IsIn, LivePin, pins, steps_on}
+use Rattle.gt_words.specs.Controls.{generation_of, pins_in}
+use Rattle.gt_words.specs.Rule.{IsLawful, IsNextEntry, IsRevocation, Layout, Shows, id_at, layout_of, owner_steps, position_in, total_until}
+use Rattle.gt_words.specs.Steps.{on_entry}
+use Rattle.gt_words.specs.Views.{IsIn, LivePin, exchanged, pins, steps_on, with_step}
+use Rattle.gt_types.specs.declared.Dir.{Dir}
 use Rattle.gt_words.specs.declared.view.EntryRecord.{EntryRecord}
+use Rattle.gt_words.specs.declared.view.EntryStep.TheVariants.{Pinned}
 use Rattle.gt_words.specs.declared.view.View.{View}
 
 -- a domain is one of the run exactly where the configuration has it (own)
@@ -42,6 +46,17 @@ PinsHaveOneRecord = (k : Layout) (s : State (Unit {0}) View) (i j : ℕ) (v w : 
 -- in each state that words and views show, each pin is of an entry, and not of an invalid record (own)
 abbrev pub PinsAreOfEntries : Type 0
 PinsAreOfEntries = (k : Layout) (s : State (Unit {0}) View) (i : ℕ) (v : View) (t r : ℕ) (p : LivePin) → Shows k s → get_elem? s.views i ≡ some v → t < k.domains → r < TABLE_ENTRIES → IsIn p (pins (steps_on t r v)) → p.1.entry ≢ Invalid
+
+-- in each state that words and views show, a pin that is left of a record is counted by each word of that record or of a later one that the owner exchanged from: so none is left of a record that was revoked (own)
+abbrev pub PinsLeftAreCounted : Type 0
+PinsLeftAreCounted = (k : Layout) (s : State (Unit {0}) View) (i : ℕ) (v : View) (t r e : ℕ) (p : LivePin) → Shows k s → get_elem? s.views i ≡ some v → t < k.domains → r < TABLE_ENTRIES
+    → IsIn p (pins (steps_on t r v)) → IsIn e (exchanged (owner_steps t (map (steps_on t r) s.views))) → p.1.generation ≤ generation_of e → 0 < pins_in p.0 e
+
+-- where the owner exchanged from the word e, and no pin of its record or of an earlier one was given back since, no step that takes such a pin leads to a state that words and views show (own)
+abbrev pub PastPinsAreRefused : Type 0
+PastPinsAreRefused = (k : Layout) (s : State (Unit {0}) View) (i : ℕ) (v : View) (t r e at expected left : ℕ) (d : Dir) (y : EntryRecord) → get_elem? s.views i ≡ some v → t < k.domains → r < TABLE_ENTRIES
+    → IsIn e (exchanged (owner_steps t (map (steps_on t r) s.views))) → y.generation ≤ generation_of e → total_until d (generation_of e) (map (steps_on t r) s.views) ≡ pins_in d e
+    → ¬ Shows k (stepped s at left i [] (with_step (on_entry t r (Pinned d expected y)) v) keeps)
 
 -- the list of records
 

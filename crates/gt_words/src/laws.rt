@@ -1,5 +1,5 @@
 //! What follows from the definitions, for callers.
-ghost use Rattle.gt_words.specs.Laws.{DomainsAreOfRun, DomainsStandThere, PinsAreOfEntries, PinsHaveOneRecord, SeatsStandThere};
+ghost use Rattle.gt_words.specs.Laws.{DomainsAreOfRun, DomainsStandThere, PastPinsAreRefused, PinsAreOfEntries, PinsHaveOneRecord, PinsLeftAreCounted, SeatsStandThere};
 
 /// A law: a domain is one of the run exactly where the configuration has it.
 pub fn every_domain_is_of_the_run()
@@ -24,4 +24,16 @@ pub fn pins_of_one_generation_have_one_record()
 /// A law: in each state that words and views show, each pin is of an entry.
 pub fn every_pin_is_of_an_entry()
     ensures { PinsAreOfEntries }
+{}
+
+/// A law: a pin that is left of a record is counted by each word of that record or of a later one that the owner
+/// exchanged from. So no view has a pin of a record that was revoked.
+pub fn every_pin_left_is_counted()
+    ensures { PinsLeftAreCounted }
+{}
+
+/// A law: no pin is taken of a record that the owner's list has gone on from. A step that took one would lead to no state
+/// that words and views show, where no pin of that record or of an earlier one was given back since.
+pub fn no_pin_is_taken_of_a_past_record()
+    ensures { PastPinsAreRefused }
 {}

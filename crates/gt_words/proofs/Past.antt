@@ -1,0 +1,59 @@
+-- What the rule says of pins of records that the owner's list has gone on from.
+use Rattle.std.proofs.Common.{◌≡◌, inl, inr, ℕ, zero, suc, ◌+◌, ◌<◌, ◌≤◌, Bool, true, false, cond, nat_le, List, [], ◌∷◌, map, set, sym, refl, ap, subst, arith}
+use Rattle.std.proofs.lemmas.Bool.Decides.{nat_tests}
+use mathlib.Core.Option.{some, some-injective, some-ne-none}
+use lib.ListN.{get_elem?}
+use Rattle.atomic_table.proofs.Lists.{at_map}
+use Rattle.gt_types.specs.declared.Dir.{Dir}
+use Rattle.gt_types.specs.declared.Dir.TheVariants.{Read, Write}
+use Rattle.gt_words.proofs.Lifts.{map_here}
+use Rattle.gt_words.proofs.OneEntry.{same_owner}
+use Rattle.gt_words.specs.Controls.{generation_of, pins_in}
+use Rattle.gt_words.specs.Laws.{PastPinsAreRefused, PinsLeftAreCounted}
+use Rattle.gt_words.specs.Rule.{owner_steps, total_until}
+use Rattle.gt_words.specs.Views.{IsIn, LivePin, exchanged, pins, pins_until, steps_on, weight}
+use Rattle.gt_words.specs.declared.view.EntryRecord.{EntryRecord}
+use Rattle.gt_words.specs.declared.view.EntryStep.{EntryStep}
+use Rattle.gt_words.specs.declared.view.EntryStep.TheVariants.{Pinned}
+
+weight_same : (d : Dir) → weight d d ≡ 1
+weight_same Read = refl
+weight_same Write = refl
+
+-- a pin of such a record is one more of them
+until_here : (d : Dir) (g : ℕ) (y : EntryRecord) (ps : List LivePin) → y.generation ≤ g → pins_until d g ((d, y) ∷ ps) ≡ suc (pins_until d g ps)
+until_here d g y ps old = by (nat_le y.generation g) (let is : nat_le y.generation g ≡ true = grind (arith, nat_tests) in is) (weight_same d)
+  where
+    by : (b : Bool) → b ≡ true → weight d d ≡ 1 → cond b (weight d d) 0 + pins_until d g ps ≡ suc (pins_until d g ps)
+    by true e w = omega arith
+    by false e w = cc
+
+until_in : (g : ℕ) (p : LivePin) (ps : List LivePin) → IsIn p ps → p.1.generation ≤ g → 1 ≤ pins_until p.0 g ps
+until_in g p [] is old = absurd is
+until_in g p (q ∷ qs) (inl same) old = let e = until_here p.0 g p.1 qs old in subst (λ (z : LivePin). 1 ≤ pins_until p.0 g (z ∷ qs)) same (omega arith)
+until_in g p (q ∷ qs) (inr is) old = let l = until_in g p qs is old in omega arith
+
+until_at : (d : Dir) (g : ℕ) (hs : List (List EntryStep)) (i : ℕ) (h : List EntryStep) → get_elem? hs i ≡ some h → pins_until d g (pins h) ≤ total_until d g hs
+until_at d g [] i h e = absurd (some-ne-none h (sym e))
+until_at d g (x ∷ xs) zero h e = let p : pins_until d g (pins x) ≡ pins_until d g (pins h) = ap (λ (z : List EntryStep). pins_until d g (pins z)) (some-injective x h e) in omega arith
+until_at d g (x ∷ xs) (suc i) h e = let l = until_at d g xs i h e in omega arith
+
+until_more : (d : Dir) (g : ℕ) (hs : List (List EntryStep)) (i : ℕ) (h : List EntryStep) (m : EntryStep) → get_elem? hs i ≡ some h → pins_until d g (pins (m ∷ h)) ≡ suc (pins_until d g (pins h)) → total_until d g (set hs i (m ∷ h)) ≡ suc (total_until d g hs)
+until_more d g [] i h m at e = absurd (some-ne-none h (sym at))
+until_more d g (x ∷ xs) zero h m at e = let p : pins_until d g (pins x) ≡ pins_until d g (pins h) = ap (λ (z : List EntryStep). pins_until d g (pins z)) (some-injective x h at) in omega arith
+until_more d g (x ∷ xs) (suc i) h m at e = let r = until_more d g xs i h m at e in omega arith
+
+-- a pin that is left of a record is counted by each word that the owner exchanged from
+pub pins_left : PinsLeftAreCounted
+pins_left k s i v t r e p shown at tn rn held past old = let hs : List (List EntryStep) = map (steps_on t r) s.views in let l = ((shown.entries t r tn rn).gone_on e past).left p.0 in
+    let a = until_at p.0 (generation_of e) hs i (steps_on t r v) (at_map (steps_on t r) s.views i v at) in let b = until_in (generation_of e) p (pins (steps_on t r v)) held old in omega arith
+
+-- no pin is taken of a record that the owner's list has gone on from
+pub past_pins : PastPinsAreRefused
+past_pins k s i v t r e at expected left d y here tn rn past old tight after = let hs : List (List EntryStep) = map (steps_on t r) s.views in let h : List EntryStep = steps_on t r v in let m : EntryStep = Pinned d expected y in
+    let h_at : get_elem? hs i ≡ some h = at_map (steps_on t r) s.views i v here in
+    let same = map_here s i v t r m here in let shown = after.entries t r tn rn in
+    let there : IsIn e (exchanged (owner_steps t (set hs i (m ∷ h)))) = subst (IsIn e) (sym (same_owner k.first t hs i h h_at exchanged m refl)) past in
+    let gone = shown.gone_on e (subst (λ (l : List (List EntryStep)). IsIn e (exchanged (owner_steps t l))) (sym same) there) in
+    let l : total_until d (generation_of e) (set hs i (m ∷ h)) ≤ pins_in d e = subst (λ (u : List (List EntryStep)). total_until d (generation_of e) u ≤ pins_in d e) same (gone.left d) in
+    let more = until_more d (generation_of e) hs i h m h_at (until_here d (generation_of e) y (pins h) old) in omega arith
