@@ -180,6 +180,9 @@ fn refuses_other_lengths(rt: HostRuntime) {
         (1, [1, 0, 2, 0, 5, 0, 0].as_slice()),
         (1, [0; 16].as_slice()),
         (2, [1, 0, 2, 0, 5, 0, 0, 0].as_slice()),
+        (0, [1, 0, 2, 0, 5, 0, 0, 0].as_slice()),
+        (3, [1, 0, 2, 0, 5, 0, 0, 0].as_slice()),
+        (3, [1, 0, 2, 0, 5, 0, 0, 0, 7, 0, 0, 0, 0, 0, 0, 0].as_slice()),
     ] {
         assert_eq!(rt; decode(version, bytes), Err(Field::Length));
     }

@@ -304,7 +304,3 @@ v2-via-ok bytes flags dom dom2 gref ro are f none via d r e g =
     let same : Via (record { 0 = field bytes 2 2 }) (is_set (flags_of bytes) 4) (record { 0 = field bytes 4 2 }) (record { 0 = field bytes 8 4 }) ≡ Via (record { 0 = dom }) ro (record { 0 = dom2 }) (record { 0 = gref }) =
     λ i. Via (record { 0 = sym d i }) (sym ro_is i) (record { 0 = sym e i }) (record { 0 = sym g i }) in
     subst (SpellsV2 bytes) same (v2-via bytes are (ap (refused_flag 2) (sym f) ∙ none) (ap (λ (x : ℕ). x % 4) (sym f) ∙ via))
-
--- in a table of another version than 2 the bytes are of version 1
-pub spells-v1 : (version : ℕ) (bytes : List ℕ) (e : Entry) → version ≢ 2 → Spells version bytes e → SpellsV1 bytes e
-spells-v1 version bytes e n s = subst (λ (b : Bool). MatchBool b (SpellsV2 bytes e) (SpellsV1 bytes e)) (ne_eqb version 2 n) s

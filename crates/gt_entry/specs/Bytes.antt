@@ -55,21 +55,25 @@ pub record SpellsV2 (bytes : List ℕ) (entry : Entry) : Type 0 where
   pub size : AreBytes 16 bytes
   pub layout : IsLaidOutV2 bytes entry
 
--- the bytes spell the entry in a table of this version (grant_table.h)
+-- the bytes spell the entry in a table of this version: 1 or 2, in no other are there entries (grant_table.h)
 abbrev pub Spells : ℕ → List ℕ → Entry → Type 0
-Spells version bytes entry = MatchBool (version == 2) (SpellsV2 bytes entry) (SpellsV1 bytes entry)
+Spells version bytes entry = MatchBool (version == 2) (SpellsV2 bytes entry) ((version ≡ 1) × SpellsV1 bytes entry)
 
 -- a bit of the flags, by its value, is set (own)
 abbrev pub is_set : ℕ → ℕ → Bool
 is_set flags bit = flags / bit % 2 == 1
 
+-- a table is of version 1 or 2 (grant_table.h)
+abbrev pub is_table_version : ℕ → Bool
+is_table_version version = (version == 1) || (version == 2)
+
 -- how many bytes an entry has in a table of this version (grant_table.h)
 abbrev pub entry_size : ℕ → ℕ
 entry_size version = if version == 2 then 16 else 8
 
--- the field is refused of so many bytes with these flags in a table of this version: a length that is not the version's; a type that is no page or, in version 2, no transitive entry; a bit of the hypervisor's or of the cache's; the sub-page bit in version 1 or of a transitive entry; a bit that is not defined (own)
+-- the field is refused of so many bytes with these flags in a table of this version: a length that is not the version's, as is any in a version that no table has; a type that is no page or, in version 2, no transitive entry; a bit of the hypervisor's or of the cache's; the sub-page bit in version 1 or of a transitive entry; a bit that is not defined (own)
 abbrev pub is_refused : ℕ → ℕ → ℕ → Field → Bool
-is_refused version size flags Length = not (size == entry_size version)
+is_refused version size flags Length = not (is_table_version version && (size == entry_size version))
 is_refused version size flags Kind = (flags % 4 == 0) || (flags % 4 == 2) || ((flags % 4 == 3) && not (version == 2))
 is_refused version size flags Reading = is_set flags 8
 is_refused version size flags Writing = is_set flags 16

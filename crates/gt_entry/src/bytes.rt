@@ -123,22 +123,23 @@ pub fn decode_v2(bytes: &[u8; 16]) -> Result<Entry, Field>
 }
 
 /// The entry that these bytes spell in a table of this version, or the first field that is
-/// refused, the length before all others.
+/// refused, the length before all others. A version other than 1 and 2 has no entries, so there no
+/// length is right.
 pub fn decode(version: u8, bytes: &[u8]) -> Result<Entry, Field>
     ensures ok { IfOk result (Spells version bytes.now) }
     ensures taken { (entry : Entry) → Spells version bytes.now entry → result ≡ Ok entry }
     ensures field { MatchResult result (λ _. first_refused version bytes.now ≡ None) (λ field. first_refused version bytes.now ≡ Some field) }
 {
-    if version == 2 {
-        match bytes.as_array() {
-            Some(bytes) => decode_v2(bytes),
-            None => Err(Field::Length),
-        }
-    } else {
-        match bytes.as_array() {
+    match version {
+        1 => match bytes.as_array() {
             Some(bytes) => decode_v1(bytes),
             None => Err(Field::Length),
-        }
+        },
+        2 => match bytes.as_array() {
+            Some(bytes) => decode_v2(bytes),
+            None => Err(Field::Length),
+        },
+        _ => Err(Field::Length),
     }
 }
 
