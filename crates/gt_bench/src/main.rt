@@ -1,9 +1,10 @@
 //! Loads on the words of grant entries, in threads, that are timed from outside.
 //!
-//! `gt_bench LOAD THREADS ROUNDS` runs a load and prints the rounds that its threads have done, never a time. A round is
-//! a map and an unmap that were taken, or a revocation and a grant. LOAD is `apart`, `adjacent` (each thread maps an
-//! entry of its own, with entries between them or side by side), `one` (all map the same entry, by a transitive entry
-//! each) or `grants` (the first thread is the owner, who revokes and grants the one entry again, and the others map it).
+//! `gt_bench LOAD THREADS ROUNDS` runs a load and prints the rounds that its threads have done, never a
+//! time. A round is a map and an unmap that were taken, or a revocation and a grant. LOAD is `apart`,
+//! `adjacent` (each thread maps an entry of its own, with entries between them or side by side), `one`
+//! (all map the same entry, by a transitive entry each) or `grants` (the first thread is the owner, who
+//! revokes and grants the one entry again, and the others map it).
 //!
 //! It promises nothing beyond the calls that it makes, and stands on `gt_words`. The script `bench/words.sh` runs and
 //! times it beside two programs in C.

@@ -40,7 +40,8 @@ fn look(words: &Words, seat: &mut Seat, dom: DomId, gref: GrantRef) -> Sight
     requires entry { IsEntryOf words.now dom gref }
     ensures seat { IsSameSeat seat.old seat.new }
     ensures looked { HasLooked (position_in words.now.layout.ids dom) gref.0 seat.new.view result.word }
-    ensures entry { (record_seen (last_seen (position_in words.now.layout.ids dom) gref.0 seat.new.view)).entry ≡ result.entry }
+    ensures entry { (record_seen (last_seen (position_in words.now.layout.ids dom) gref.0 seat.new.view)).entry
+        ≡ result.entry }
     ensures pins { KeepsPins seat.old.view seat.new.view }
 {
     let word = words.load_control(seat, dom, gref);
@@ -61,8 +62,10 @@ fn look_at_page(words: &Words, seat: &mut Seat, dom: DomId, gref: GrantRef) -> O
     requires seat { IsSeatOf words.now seat.old }
     requires entry { IsEntryOf words.now dom gref }
     ensures seat { IsSameSeat seat.old seat.new }
-    ensures looked { IfSome result (λ s. HasLooked (position_in words.now.layout.ids dom) gref.0 seat.new.view s.word × IsValid s.word) }
-    ensures entry { IfSome result (λ s. (record_seen (last_seen (position_in words.now.layout.ids dom) gref.0 seat.new.view)).entry ≡ s.entry) }
+    ensures looked { IfSome result
+        (λ s. HasLooked (position_in words.now.layout.ids dom) gref.0 seat.new.view s.word × IsValid s.word) }
+    ensures entry { IfSome result (λ s.
+        (record_seen (last_seen (position_in words.now.layout.ids dom) gref.0 seat.new.view)).entry ≡ s.entry) }
     ensures pins { KeepsPins seat.old.view seat.new.view }
 {
     let word = words.load_control(seat, dom, gref);
@@ -81,7 +84,10 @@ fn map(words: &Words, seat: &mut Seat, target: Target) -> Option<Pin>
     requires entry { IsEntryOf words.now target.granter target.gref }
     requires may { MayMap words.now target seat.old.view }
     ensures seat { IsSameSeat seat.old seat.new }
-    ensures pin { IfSome result (λ p. (p ≡ record { dom = target.granter; gref = target.gref; word = p.word; dir = Dir.Read }) × Holds (position_in words.now.layout.ids target.granter) target.gref.0 Dir.Read (generation_of p.word) seat.new.view) }
+    ensures pin { IfSome result (λ p.
+        (p ≡ record { dom = target.granter; gref = target.gref; word = p.word; dir = Dir.Read })
+        × Holds (position_in words.now.layout.ids target.granter) target.gref.0 Dir.Read (generation_of p.word)
+        seat.new.view) }
     ensures others { KeepsPinsBeyond (position_in words.now.layout.ids target.granter) seat.old.view seat.new.view }
 {
     let header = Header::unpack(words.load_header(seat, target.granter));

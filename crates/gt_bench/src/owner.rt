@@ -22,7 +22,8 @@ fn store_body(words: &Words, seat: &mut Seat, gref: GrantRef, entry: Entry)
     requires reference { gref.0 < TABLE_ENTRIES }
     requires invalid { (last_of gref.0 seat.old.view).entry ≡ Entry.Invalid }
     ensures seat { IsSameSeat seat.old seat.new }
-    ensures spelled { IsSpelled entry (own_body gref.0 Half.First seat.new.view) (own_body gref.0 Half.Second seat.new.view) }
+    ensures spelled { IsSpelled entry (own_body gref.0 Half.First seat.new.view)
+        (own_body gref.0 Half.Second seat.new.view) }
     ensures row { last_of gref.0 seat.new.view ≡ last_of gref.0 seat.old.view }
     ensures others { (r : ℕ) → gref.0 ≢ r → last_of r seat.new.view ≡ last_of r seat.old.view }
 {

@@ -75,7 +75,8 @@ fn refused_field(version: u8, flags: u16) -> Option<Field>
 pub fn decode_v1(bytes: &[u8; 8]) -> Result<Entry, Field>
     ensures ok { IfOk result (SpellsV1 bytes.now) }
     ensures taken { (entry : Entry) → SpellsV1 bytes.now entry → result ≡ Ok entry }
-    ensures field { MatchResult result (λ _. first_refused 1 bytes.now ≡ None) (λ field. first_refused 1 bytes.now ≡ Some field) }
+    ensures field { MatchResult result (λ _. first_refused 1 bytes.now ≡ None)
+        (λ field. first_refused 1 bytes.now ≡ Some field) }
 {
     let flags = read_u16(bytes, 0);
     if let Some(field) = refused_field(1, flags) {
@@ -93,7 +94,8 @@ pub fn decode_v1(bytes: &[u8; 8]) -> Result<Entry, Field>
 pub fn decode_v2(bytes: &[u8; 16]) -> Result<Entry, Field>
     ensures ok { IfOk result (SpellsV2 bytes.now) }
     ensures taken { (entry : Entry) → SpellsV2 bytes.now entry → result ≡ Ok entry }
-    ensures field { MatchResult result (λ _. first_refused 2 bytes.now ≡ None) (λ field. first_refused 2 bytes.now ≡ Some field) }
+    ensures field { MatchResult result (λ _. first_refused 2 bytes.now ≡ None)
+        (λ field. first_refused 2 bytes.now ≡ Some field) }
 {
     let flags = read_u16(bytes, 0);
     if let Some(field) = refused_field(2, flags) {
@@ -128,7 +130,8 @@ pub fn decode_v2(bytes: &[u8; 16]) -> Result<Entry, Field>
 pub fn decode(version: u8, bytes: &[u8]) -> Result<Entry, Field>
     ensures ok { IfOk result (Spells version bytes.now) }
     ensures taken { (entry : Entry) → Spells version bytes.now entry → result ≡ Ok entry }
-    ensures field { MatchResult result (λ _. first_refused version bytes.now ≡ None) (λ field. first_refused version bytes.now ≡ Some field) }
+    ensures field { MatchResult result (λ _. first_refused version bytes.now ≡ None)
+        (λ field. first_refused version bytes.now ≡ Some field) }
 {
     match version {
         1 => match bytes.as_array() {

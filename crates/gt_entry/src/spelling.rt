@@ -74,7 +74,9 @@ pub fn every_header_is_in_its_word()
 
 /// A law: two control words are equal only part by part.
 pub fn every_word_has_its_own_parts()
-    ensures { (l d g r w l' d' g' r' w' : ℕ) → l < 16 → l' < 16 → r < 4096 → r' < 4096 → w < 4096 → w' < 4096 → d < 65536 → d' < 65536 → word_with l d g r w ≡ word_with l' d' g' r' w' → SamePartsOf l d g r w l' d' g' r' w' }
+    ensures { (l d g r w l' d' g' r' w' : ℕ) → l < 16 → l' < 16 → r < 4096 → r' < 4096 → w < 4096 → w' < 4096
+        → d < 65536 → d' < 65536 → word_with l d g r w ≡ word_with l' d' g' r' w'
+        → SamePartsOf l d g r w l' d' g' r' w' }
 {}
 
 /// A law: the parts of a control word are read from it by division.
@@ -84,12 +86,14 @@ pub fn every_part_is_in_its_word()
 
 /// A law: the word of an entry's control is one sum of the entry's parts.
 pub fn every_entry_has_its_word()
-    ensures { (e : Entry) (generation reads writes : ℕ) → control_word (control_with e generation reads writes) ≡ word_of e generation reads writes }
+    ensures { (e : Entry) (generation reads writes : ℕ)
+        → control_word (control_with e generation reads writes) ≡ word_of e generation reads writes }
 {}
 
 /// A law: an entry is read back from its words. Its own body words spell it, and any words that
 /// spell it give it back.
 pub fn every_entry_is_in_its_words()
     ensures own { (e : Entry) → IsSpelled e (first_body e) (second_body e) }
-    ensures read { (e : Entry) (generation reads writes first second : ℕ) → IsEntry e → IsSpelled e first second → entry_of (control_with e generation reads writes) first second ≡ e }
+    ensures read { (e : Entry) (generation reads writes first second : ℕ) → IsEntry e → IsSpelled e first second
+        → entry_of (control_with e generation reads writes) first second ≡ e }
 {}

@@ -2,7 +2,8 @@
 ghost use Rattle.std.specs.Prelude.{◌≡◌, ℕ, IfOk};
 ghost use Rattle.std.specs.List.{list_any};
 ghost use Rattle.gt_types.specs.declared.perms.Perms.{Perms};
-ghost use Rattle.gt_policy.specs.Allowing.{was_given, stands_for, is_with, is_without, holds_type, says_itself, is_granted_by, grants, some_grants};
+ghost use Rattle.gt_policy.specs.Allowing.{was_given, stands_for, is_with, is_without, holds_type, says_itself};
+ghost use Rattle.gt_policy.specs.Allowing.{is_granted_by, grants, some_grants};
 ghost use Rattle.gt_policy.specs.Members.{has};
 ghost use Rattle.gt_policy.specs.Rows.{is_reached};
 ghost use Rattle.gt_policy.specs.TypeSets.{holds};

@@ -1,5 +1,6 @@
 //! The table of the words, and its steps by the positions of the domains.
-ghost use Rattle.std.specs.Prelude.{◌≡◌, ◌≢◌, ℕ, ◌+◌, ◌-◌, ◌*◌, ◌/◌, ◌%◌, ◌^◌, ◌<◌, ◌≤◌, ◌==◌, [], length, slice_index, true, false, IfOk, IsOk, MatchResult, HoldsAt};
+ghost use Rattle.std.specs.Prelude.{◌≡◌, ◌≢◌, ℕ, ◌+◌, ◌-◌, ◌*◌, ◌/◌, ◌%◌, ◌^◌, ◌<◌, ◌≤◌, ◌==◌, [], length};
+ghost use Rattle.std.specs.Prelude.{slice_index, true, false, IfOk, IsOk, MatchResult, HoldsAt};
 ghost use mathlib.Core.Option.{none};
 ghost use prog.Atomic.{either};
 ghost use Rattle.atomic_table.specs.Table.{step, Allows};
@@ -9,7 +10,10 @@ ghost use Rattle.gt_words.specs.Controls.{IsTurnable, generation_of, turned_word
 ghost use Rattle.gt_words.specs.Views.{last_of};
 ghost use Rattle.gt_words.specs.Rule.{Shows, layout_of, place, header_place, IsKeptHeader};
 ghost use Rattle.gt_words.specs.Steps.{StepKind, tells, tells_stored, looking, half_index};
-ghost use Rattle.gt_words.specs.Conditions.{CanDemote, CanPin, CanPublish, CanRevoke, CanTurn, Changes, CountsPins, Demotes, Holds, IsWide, IsWordOf, LooksAtBody, LooksAtControl, LooksAtHeader, MissesBusy, MissesChange, MissesPin, Pins, Revokes, StoresBody, StoresHeader, Unpins};
+ghost use Rattle.gt_words.specs.Conditions.{CanDemote, CanPin, CanPublish, CanRevoke, CanTurn, Changes, CountsPins};
+ghost use Rattle.gt_words.specs.Conditions.{Demotes, Holds, IsWide, IsWordOf, LooksAtBody, LooksAtControl};
+ghost use Rattle.gt_words.specs.Conditions.{LooksAtHeader, MissesBusy, MissesChange, MissesPin, Pins, Revokes};
+ghost use Rattle.gt_words.specs.Conditions.{StoresBody, StoresHeader, Unpins};
 ghost use Rattle.gt_words.specs.Places.{new_view, IsSamePlace};
 
 use crate::view::{Purpose, View};
@@ -22,8 +26,8 @@ use std::marker::{Brand, PhantomData};
 /// The words from one entry to the next, of which three are used: so neighbours share no cache line.
 pub(crate) const ENTRY_WORDS: usize = 8;
 
-// The rows of `ENTRY_WORDS` words that a domain has: one for its header, and one for each entry. A step adds up rows and
-// multiplies once, so that a loop on one entry keeps one number for its place.
+// The rows of `ENTRY_WORDS` words that a domain has: one for its header, and one for each entry. A step
+// adds up rows and multiplies once, so that a loop on one entry keeps one number for its place.
 const DOMAIN_ROWS: usize = TABLE_ENTRIES as usize + 1;
 
 /// The words of a domain.
@@ -78,9 +82,14 @@ pub struct WordTable {
 
 // One load of a word of an entry.
 fn load_word<J: OfKind>(cells: &Cells, seat: &mut Place, at: usize, gref: usize, word: usize) -> u64
-    requires fits { (seat.old.table_id ≡ cells.now.table_id) × IsWide cells.now.table_id.words (layout_of cells.now.key) × (at < length cells.now.key.domains.items) × (gref < TABLE_ENTRIES) × (word < 3) }
-    requires allowed { Allows (Shows (layout_of cells.now.key)) cells.now.table_id.slots seat.old.id seat.old.me (place at gref word) (λ n. n) (tells J.kind (step cells.now.table_id.slots (place at gref word) 0 0 none) seat.old.me) }
-    ensures { (seat.new.table_id ≡ seat.old.table_id) × (seat.new.id ≡ seat.old.id) × tells J.kind (step cells.now.table_id.slots (place at gref word) 0 0 none) seat.old.me result seat.new.me }
+    requires fits { (seat.old.table_id ≡ cells.now.table_id)
+        × IsWide cells.now.table_id.words (layout_of cells.now.key) × (at < length cells.now.key.domains.items)
+        × (gref < TABLE_ENTRIES) × (word < 3) }
+    requires allowed { Allows (Shows (layout_of cells.now.key)) cells.now.table_id.slots seat.old.id seat.old.me
+        (place at gref word) (λ n. n)
+        (tells J.kind (step cells.now.table_id.slots (place at gref word) 0 0 none) seat.old.me) }
+    ensures { (seat.new.table_id ≡ seat.old.table_id) × (seat.new.id ≡ seat.old.id)
+        × tells J.kind (step cells.now.table_id.slots (place at gref word) 0 0 none) seat.old.me result seat.new.me }
 {
     cells.load::<Tells<J>>(seat, (at * DOMAIN_ROWS + (gref + 1)) * ENTRY_WORDS + word)
 }
@@ -94,9 +103,14 @@ fn store_word<J: OfKind>(
     word: usize,
     new: u64,
 )
-    requires fits { (seat.old.table_id ≡ cells.now.table_id) × IsWide cells.now.table_id.words (layout_of cells.now.key) × (at < length cells.now.key.domains.items) × (gref < TABLE_ENTRIES) × (word < 3) }
-    requires allowed { Allows (Shows (layout_of cells.now.key)) cells.now.table_id.slots seat.old.id seat.old.me (place at gref word) (λ _. new) (λ _. tells_stored J.kind (step cells.now.table_id.slots (place at gref word) new 0 none) seat.old.me) }
-    ensures { (seat.new.table_id ≡ seat.old.table_id) × (seat.new.id ≡ seat.old.id) × tells_stored J.kind (step cells.now.table_id.slots (place at gref word) new 0 none) seat.old.me seat.new.me }
+    requires fits { (seat.old.table_id ≡ cells.now.table_id)
+        × IsWide cells.now.table_id.words (layout_of cells.now.key) × (at < length cells.now.key.domains.items)
+        × (gref < TABLE_ENTRIES) × (word < 3) }
+    requires allowed { Allows (Shows (layout_of cells.now.key)) cells.now.table_id.slots seat.old.id seat.old.me
+        (place at gref word) (λ _. new)
+        (λ _. tells_stored J.kind (step cells.now.table_id.slots (place at gref word) new 0 none) seat.old.me) }
+    ensures { (seat.new.table_id ≡ seat.old.table_id) × (seat.new.id ≡ seat.old.id)
+        × tells_stored J.kind (step cells.now.table_id.slots (place at gref word) new 0 none) seat.old.me seat.new.me }
 {
     cells.store::<TellsStore<J>>(
         seat,
@@ -115,9 +129,14 @@ fn exchange_word<J: OfKind>(
     new: u64,
     purpose: Purpose,
 ) -> u64
-    requires fits { (seat.old.table_id ≡ cells.now.table_id) × IsWide cells.now.table_id.words (layout_of cells.now.key) × (at < length cells.now.key.domains.items) × (gref < TABLE_ENTRIES) }
-    requires allowed { Allows (Shows (layout_of cells.now.key)) cells.now.table_id.slots seat.old.id seat.old.me (place at gref 0) (λ n. either (n == old) new n) (tells J.kind (step cells.now.table_id.slots (place at gref 0) old new none) seat.old.me) }
-    ensures { (seat.new.table_id ≡ seat.old.table_id) × (seat.new.id ≡ seat.old.id) × tells J.kind (step cells.now.table_id.slots (place at gref 0) old new none) seat.old.me result seat.new.me }
+    requires fits { (seat.old.table_id ≡ cells.now.table_id)
+        × IsWide cells.now.table_id.words (layout_of cells.now.key) × (at < length cells.now.key.domains.items)
+        × (gref < TABLE_ENTRIES) }
+    requires allowed { Allows (Shows (layout_of cells.now.key)) cells.now.table_id.slots seat.old.id seat.old.me
+        (place at gref 0) (λ n. either (n == old) new n)
+        (tells J.kind (step cells.now.table_id.slots (place at gref 0) old new none) seat.old.me) }
+    ensures { (seat.new.table_id ≡ seat.old.table_id) × (seat.new.id ≡ seat.old.id)
+        × tells J.kind (step cells.now.table_id.slots (place at gref 0) old new none) seat.old.me result seat.new.me }
 {
     let _ = purpose;
     cells.compare_exchange::<Tells<J>>(
@@ -138,9 +157,14 @@ fn subtract_from_word<J: OfKind>(
     dir: Dir,
     generation: u64,
 ) -> u64
-    requires fits { (seat.old.table_id ≡ cells.now.table_id) × IsWide cells.now.table_id.words (layout_of cells.now.key) × (at < length cells.now.key.domains.items) × (gref < TABLE_ENTRIES) }
-    requires allowed { Allows (Shows (layout_of cells.now.key)) cells.now.table_id.slots seat.old.id seat.old.me (place at gref 0) (λ n. (n + (2 ^ 64 - one)) % 2 ^ 64) (tells J.kind (step cells.now.table_id.slots (place at gref 0) one 0 none) seat.old.me) }
-    ensures { (seat.new.table_id ≡ seat.old.table_id) × (seat.new.id ≡ seat.old.id) × tells J.kind (step cells.now.table_id.slots (place at gref 0) one 0 none) seat.old.me result seat.new.me }
+    requires fits { (seat.old.table_id ≡ cells.now.table_id)
+        × IsWide cells.now.table_id.words (layout_of cells.now.key) × (at < length cells.now.key.domains.items)
+        × (gref < TABLE_ENTRIES) }
+    requires allowed { Allows (Shows (layout_of cells.now.key)) cells.now.table_id.slots seat.old.id seat.old.me
+        (place at gref 0) (λ n. (n + (2 ^ 64 - one)) % 2 ^ 64)
+        (tells J.kind (step cells.now.table_id.slots (place at gref 0) one 0 none) seat.old.me) }
+    ensures { (seat.new.table_id ≡ seat.old.table_id) × (seat.new.id ≡ seat.old.id)
+        × tells J.kind (step cells.now.table_id.slots (place at gref 0) one 0 none) seat.old.me result seat.new.me }
 {
     let _ = dir;
     let _ = generation;
@@ -149,18 +173,26 @@ fn subtract_from_word<J: OfKind>(
 
 // One load of a header word.
 fn load_header_word<J: OfKind>(cells: &Cells, seat: &mut Place, at: usize) -> u64
-    requires fits { (seat.old.table_id ≡ cells.now.table_id) × IsWide cells.now.table_id.words (layout_of cells.now.key) × (at < length cells.now.key.domains.items) }
-    requires allowed { Allows (Shows (layout_of cells.now.key)) cells.now.table_id.slots seat.old.id seat.old.me (header_place at) (λ n. n) (tells J.kind (step cells.now.table_id.slots (header_place at) 0 0 none) seat.old.me) }
-    ensures { (seat.new.table_id ≡ seat.old.table_id) × (seat.new.id ≡ seat.old.id) × tells J.kind (step cells.now.table_id.slots (header_place at) 0 0 none) seat.old.me result seat.new.me }
+    requires fits { (seat.old.table_id ≡ cells.now.table_id)
+        × IsWide cells.now.table_id.words (layout_of cells.now.key) × (at < length cells.now.key.domains.items) }
+    requires allowed { Allows (Shows (layout_of cells.now.key)) cells.now.table_id.slots seat.old.id seat.old.me
+        (header_place at) (λ n. n)
+        (tells J.kind (step cells.now.table_id.slots (header_place at) 0 0 none) seat.old.me) }
+    ensures { (seat.new.table_id ≡ seat.old.table_id) × (seat.new.id ≡ seat.old.id)
+        × tells J.kind (step cells.now.table_id.slots (header_place at) 0 0 none) seat.old.me result seat.new.me }
 {
     cells.load::<Tells<J>>(seat, at * DOMAIN_WORDS)
 }
 
 // One store of a header word.
 fn store_header_word<J: OfKind>(cells: &Cells, seat: &mut Place, at: usize, new: u64)
-    requires fits { (seat.old.table_id ≡ cells.now.table_id) × IsWide cells.now.table_id.words (layout_of cells.now.key) × (at < length cells.now.key.domains.items) }
-    requires allowed { Allows (Shows (layout_of cells.now.key)) cells.now.table_id.slots seat.old.id seat.old.me (header_place at) (λ _. new) (λ _. tells_stored J.kind (step cells.now.table_id.slots (header_place at) new 0 none) seat.old.me) }
-    ensures { (seat.new.table_id ≡ seat.old.table_id) × (seat.new.id ≡ seat.old.id) × tells_stored J.kind (step cells.now.table_id.slots (header_place at) new 0 none) seat.old.me seat.new.me }
+    requires fits { (seat.old.table_id ≡ cells.now.table_id)
+        × IsWide cells.now.table_id.words (layout_of cells.now.key) × (at < length cells.now.key.domains.items) }
+    requires allowed { Allows (Shows (layout_of cells.now.key)) cells.now.table_id.slots seat.old.id seat.old.me
+        (header_place at) (λ _. new)
+        (λ _. tells_stored J.kind (step cells.now.table_id.slots (header_place at) new 0 none) seat.old.me) }
+    ensures { (seat.new.table_id ≡ seat.old.table_id) × (seat.new.id ≡ seat.old.id)
+        × tells_stored J.kind (step cells.now.table_id.slots (header_place at) new 0 none) seat.old.me seat.new.me }
 {
     cells.store::<TellsStore<J>>(seat, at * DOMAIN_WORDS, new)
 }
@@ -214,7 +246,8 @@ impl WordTable {
         requires mine { seat.old.table_id ≡ self.now.table.shared.table_id }
         requires entry { (at < length self.now.table.shared.key.domains.items) × (gref < TABLE_ENTRIES) }
         ensures seat { IsSamePlace seat.old seat.new }
-        ensures look { LooksAtBody (layout_of self.now.table.shared.key) at gref half result seat.old.me.0 seat.new.me.0 }
+        ensures look { LooksAtBody (layout_of self.now.table.shared.key) at gref half result
+            seat.old.me.0 seat.new.me.0 }
     {
         load_word::<Brand>(&self.table.shared, seat, at, gref, index_of(half))
     }
@@ -281,7 +314,8 @@ impl WordTable {
         store_word::<Brand>(&self.table.shared, seat, at, gref, index_of(half), value);
     }
 
-    /// The owner publishes an entry whose body it has stored. Answers the word found where it is another than the one handed in.
+    /// The owner publishes an entry whose body it has stored. Answers the word found where it is
+    /// another than the one handed in.
     pub(crate) fn grant(
         &self,
         seat: &mut Place,
@@ -296,8 +330,10 @@ impl WordTable {
         requires can { CanPublish entry gref word seat.old.me.0 }
         ensures seat { IsSamePlace seat.old seat.new }
         ensures step { MatchResult result
-            (λ _. Changes (layout_of self.now.table.shared.key) gref (Change.Publish entry) word seat.old.me.0 seat.new.me.0)
-            (λ n. MissesBusy (layout_of self.now.table.shared.key) gref (Change.Publish entry) word n seat.old.me.0 seat.new.me.0) }
+            (λ _. Changes (layout_of self.now.table.shared.key) gref (Change.Publish entry) word
+            seat.old.me.0 seat.new.me.0)
+            (λ n. MissesBusy (layout_of self.now.table.shared.key) gref (Change.Publish entry) word n
+            seat.old.me.0 seat.new.me.0) }
         ensures taken { IsOk result }
     {
         let new = idle_word(entry, Control::unpack(word).generation + 1);
@@ -320,7 +356,8 @@ impl WordTable {
         ensures seat { IsSamePlace seat.old seat.new }
         ensures step { MatchResult result
             (λ _. Revokes (layout_of self.now.table.shared.key) gref word seat.old.me.0 seat.new.me.0)
-            (λ n. MissesBusy (layout_of self.now.table.shared.key) gref Change.Revoke word n seat.old.me.0 seat.new.me.0) }
+            (λ n. MissesBusy (layout_of self.now.table.shared.key) gref Change.Revoke word n
+            seat.old.me.0 seat.new.me.0) }
     {
         let new = idle_word(Entry::Invalid, Control::unpack(word).generation);
         let purpose = Purpose::Change(Change::Revoke);
@@ -342,7 +379,8 @@ impl WordTable {
         ensures seat { IsSamePlace seat.old seat.new }
         ensures step { MatchResult result
             (λ _. Demotes (layout_of self.now.table.shared.key) gref word seat.old.me.0 seat.new.me.0)
-            (λ n. MissesChange (layout_of self.now.table.shared.key) gref Change.Demote word n seat.old.me.0 seat.new.me.0) }
+            (λ n. MissesChange (layout_of self.now.table.shared.key) gref Change.Demote word n
+            seat.old.me.0 seat.new.me.0) }
     {
         let new = turned_over(word, true);
         let purpose = Purpose::Change(Change::Demote);
@@ -364,7 +402,8 @@ impl WordTable {
         ensures seat { IsSamePlace seat.old seat.new }
         ensures step { MatchResult result
             (λ _. Changes (layout_of self.now.table.shared.key) gref Change.Promote word seat.old.me.0 seat.new.me.0)
-            (λ n. MissesChange (layout_of self.now.table.shared.key) gref Change.Promote word n seat.old.me.0 seat.new.me.0) }
+            (λ n. MissesChange (layout_of self.now.table.shared.key) gref Change.Promote word n
+            seat.old.me.0 seat.new.me.0) }
     {
         let new = turned_over(word, false);
         let purpose = Purpose::Change(Change::Promote);

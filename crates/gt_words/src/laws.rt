@@ -1,5 +1,6 @@
 //! What follows from the definitions, for callers.
-ghost use Rattle.gt_words.specs.Laws.{DomainsAreOfRun, DomainsStandThere, PastPinsAreRefused, PinsAreOfEntries, PinsHaveOneRecord, PinsLeftAreCounted, SeatsStandThere};
+ghost use Rattle.gt_words.specs.Laws.{DomainsAreOfRun, DomainsStandThere, PastPinsAreRefused, PinsAreOfEntries};
+ghost use Rattle.gt_words.specs.Laws.{PinsHaveOneRecord, PinsLeftAreCounted, SeatsStandThere};
 
 /// A law: a domain is one of the run exactly where the configuration has it.
 pub fn every_domain_is_of_the_run()
@@ -32,8 +33,9 @@ pub fn every_pin_left_is_counted()
     ensures { PinsLeftAreCounted }
 {}
 
-/// A law: no pin is taken of a record that the owner's list has gone on from. A step that took one would lead to no state
-/// that words and views show, where no pin of that record or of an earlier one was given back since.
+/// A law: no pin is taken of a record that the owner's list has gone on from. A step that took one
+/// would lead to no state that words and views show, where no pin of that record or of an earlier one
+/// was given back since.
 pub fn no_pin_is_taken_of_a_past_record()
     ensures { PastPinsAreRefused }
 {}

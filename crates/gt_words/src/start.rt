@@ -47,7 +47,9 @@ fn first_header(domain: DomainConfig) -> Header
 /// The words at the start: each header as it is configured, each entry invalid at the first generation.
 pub(crate) fn first_words(alloc: Global, config: &Config) -> Result<Vec<u64>, AllocError>
     requires { IsWithinLimits config.now }
-    ensures { IfOk result (λ v. (length v.items ≡ length config.now.domains.items * DOMAIN_WORDS) × ((i : ℕ) → i < length config.now.domains.items * DOMAIN_WORDS → slice_index v.items i ≡ initial (layout_of config.now) i)) }
+    ensures { IfOk result (λ v. (length v.items ≡ length config.now.domains.items * DOMAIN_WORDS)
+        × ((i : ℕ) → i < length config.now.domains.items * DOMAIN_WORDS
+        → slice_index v.items i ≡ initial (layout_of config.now) i)) }
 {
     let count = config.domains.len() * DOMAIN_WORDS;
     let invalid = idle_word(Entry::Invalid, config.first_gen);
@@ -92,9 +94,12 @@ pub(crate) fn deal_seats(
     mut first: Place,
 ) -> Result<Vec<Seat>, AllocError>
     requires config { IsWithinLimits config.now × (words.now.table.shared.key ≡ config.now) }
-    requires first { IsNewPlace words.now.table.shared.table_id (layout_of config.now) 0 first × (first.me.0.dealt ≡ 1) }
+    requires first { IsNewPlace words.now.table.shared.table_id (layout_of config.now) 0 first
+        × (first.me.0.dealt ≡ 1) }
     ensures count { IfOk result (λ v. length v.items ≡ length config.now.domains.items) }
-    ensures seats { IfOk result (λ v. (i : ℕ) → i < length config.now.domains.items → HoldsAt (λ s. IsNewSeat (record { table = words.now.table.shared.table_id; layout = layout_of config.now }) i s) v.items i) }
+    ensures seats { IfOk result (λ v. (i : ℕ) → i < length config.now.domains.items
+        → HoldsAt (λ s. IsNewSeat
+        (record { table = words.now.table.shared.table_id; layout = layout_of config.now }) i s) v.items i) }
 {
     let count = config.domains.len();
     let mut seats = Vec::with_capacity(alloc, count)?;

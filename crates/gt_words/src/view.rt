@@ -44,7 +44,8 @@ pub enum EntryStep {
         stored: u64,
         record: EntryRecord,
     },
-    /// The owner's exchange was missed: the word found is another than the one expected, and the one desired was not stored.
+    /// The owner's exchange was missed: the word found is another than the one expected, and the
+    /// one desired was not stored.
     ChangeMissed {
         change: Change,
         expected: u64,

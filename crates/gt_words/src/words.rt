@@ -1,12 +1,18 @@
 //! The words and the seats with nothing in sight but what contracts name.
-ghost use Rattle.std.specs.Prelude.{◌≡◌, ◌⊎◌, ◌<◌, ◌≤◌, [], length, MatchResult, IfOk, IfErr, OnOk, IsOk, HoldsAt, ℕ, position, ◌==◌, true};
+ghost use Rattle.std.specs.Prelude.{◌≡◌, ◌⊎◌, ◌<◌, ◌≤◌, [], length, MatchResult, IfOk, IfErr, OnOk, IsOk, HoldsAt, ℕ};
+ghost use Rattle.std.specs.Prelude.{position, ◌==◌, true};
 ghost use Rattle.gt_types.specs.Config.{IsWithinLimits};
 ghost use Rattle.gt_entry.specs.Words.{header_word};
 ghost use Rattle.gt_entry.specs.Entries.{IsEntry};
 ghost use Rattle.gt_words.specs.Controls.{generation_of};
 ghost use Rattle.gt_words.specs.Views.{own_header, own_table, last_of};
 ghost use Rattle.gt_words.specs.Rule.{layout_of, position_in, IsKeptHeader};
-ghost use Rattle.gt_words.specs.Conditions.{Board, SeatOf, IsSeatOf, IsSameSeat, IsNewSeat, IsStartFault, HasDomain, IsEntryOf, position_at, with_version, with_frames, IsWordOf, Holds, CanPin, CanPublish, CanRevoke, CanDemote, CanTurn, CountsPins, LooksAtHeader, LooksAtControl, LooksAtBody, StoresBody, StoresHeader, UnpinsPin, Pins, MissesPin, Changes, MissesChange, MissesBusy, Revokes, Demotes};
+ghost use Rattle.gt_words.specs.Conditions.{Board, SeatOf, IsSeatOf, IsSameSeat, IsNewSeat, IsStartFault, HasDomain};
+ghost use Rattle.gt_words.specs.Conditions.{IsEntryOf, position_at, with_version, with_frames, IsWordOf, Holds};
+ghost use Rattle.gt_words.specs.Conditions.{CanPin, CanPublish, CanRevoke, CanDemote, CanTurn, CountsPins};
+ghost use Rattle.gt_words.specs.Conditions.{LooksAtHeader, LooksAtControl, LooksAtBody, StoresBody, StoresHeader};
+ghost use Rattle.gt_words.specs.Conditions.{UnpinsPin, Pins, MissesPin, Changes, MissesChange, MissesBusy, Revokes};
+ghost use Rattle.gt_words.specs.Conditions.{Demotes};
 
 use crate::board::{Place, WordTable};
 use crate::start::{deal_seats, domain_ids, first_words};
@@ -39,7 +45,9 @@ impl Model for Seat {
 
     ghost view = { λ s. record { table = s.place.table_id; dom = s.dom; view = s.place.me.0 } };
 
-    ghost invariant = { λ s. (s.place.me.1 ≡ []) × (s.place.me.0.position ≡ s.position) × (own_header s.place.me.0 ≡ header_word s.header) × IsKeptHeader s.header × (s.found.position ≡ position_in s.place.me.0.ids s.found.dom) };
+    ghost invariant = { λ s. (s.place.me.1 ≡ []) × (s.place.me.0.position ≡ s.position)
+        × (own_header s.place.me.0 ≡ header_word s.header) × IsKeptHeader s.header
+        × (s.found.position ≡ position_in s.place.me.0.ids s.found.dom) };
 }
 
 impl Seat {
@@ -72,7 +80,8 @@ impl Model for Words {
 
     ghost view = { λ w. record { table = w.words.table.shared.table_id; layout = layout_of w.words.table.shared.key } };
 
-    ghost invariant = { λ w. (w.ids.items ≡ (layout_of w.words.table.shared.key).ids) × IsWithinLimits w.words.table.shared.key };
+    ghost invariant = { λ w. (w.ids.items ≡ (layout_of w.words.table.shared.key).ids)
+        × IsWithinLimits w.words.table.shared.key };
 }
 
 /// A pin that a seat holds: of which entry, the control word that was looked at, and its kind.
@@ -112,7 +121,8 @@ impl Words {
         ensures ok { OnOk result (IsWithinLimits config.now) }
         ensures words { IfOk result (λ r. r.0.layout ≡ layout_of config.now) }
         ensures count { IfOk result (λ r. length r.1.items ≡ length config.now.domains.items) }
-        ensures seats { IfOk result (λ r. (i : ℕ) → i < length config.now.domains.items → HoldsAt (λ s. IsNewSeat r.0 i s) r.1.items i) }
+        ensures seats { IfOk result (λ r. (i : ℕ) → i < length config.now.domains.items
+            → HoldsAt (λ s. IsNewSeat r.0 i s) r.1.items i) }
         ensures err { IfErr result (IsStartFault config.now) }
     {
         if let Err(fault) = config.check() {
@@ -170,7 +180,8 @@ impl Words {
         requires version { (version ≡ 1) ⊎ (version ≡ 2) }
         ensures seat { IsSameSeat seat.old seat.new }
         ensures fits { IsSeatOf self.now seat.new }
-        ensures step { StoresHeader self.now.layout (with_version version (own_table seat.old.view)) seat.old.view seat.new.view }
+        ensures step { StoresHeader self.now.layout (with_version version (own_table seat.old.view))
+            seat.old.view seat.new.view }
     {
         let header = Header {
             version: version as u8,
@@ -185,7 +196,8 @@ impl Words {
         requires frames { (0 < frames) × (frames ≤ MAX_TABLE_FRAMES) }
         ensures seat { IsSameSeat seat.old seat.new }
         ensures fits { IsSeatOf self.now seat.new }
-        ensures step { StoresHeader self.now.layout (with_frames frames (own_table seat.old.view)) seat.old.view seat.new.view }
+        ensures step { StoresHeader self.now.layout (with_frames frames (own_table seat.old.view))
+            seat.old.view seat.new.view }
     {
         let header = Header {
             frames: frames as u8,
@@ -200,7 +212,8 @@ impl Words {
         requires entry { IsEntryOf self.now dom gref }
         ensures seat { IsSameSeat seat.old seat.new }
         ensures fits { IsSeatOf self.now seat.new }
-        ensures look { LooksAtControl self.now.layout (position_at self.now dom) gref.0 result seat.old.view seat.new.view }
+        ensures look { LooksAtControl self.now.layout (position_at self.now dom) gref.0 result
+            seat.old.view seat.new.view }
         ensures own { dom ≡ seat.old.dom → IsWordOf (last_of gref.0 seat.new.view) result }
     {
         let at = self.position(seat, dom);
@@ -214,7 +227,8 @@ impl Words {
         requires entry { IsEntryOf self.now dom gref }
         ensures seat { IsSameSeat seat.old seat.new }
         ensures fits { IsSeatOf self.now seat.new }
-        ensures look { LooksAtBody self.now.layout (position_at self.now dom) gref.0 half result seat.old.view seat.new.view }
+        ensures look { LooksAtBody self.now.layout (position_at self.now dom) gref.0 half result
+            seat.old.view seat.new.view }
     {
         let at = self.position(seat, dom);
         self.words
@@ -241,7 +255,8 @@ impl Words {
         ensures pin { IfOk result (λ p. p ≡ record { dom = dom; gref = gref; word = looked; dir = dir }) }
         ensures step { MatchResult result
             (λ _. Pins self.now.layout (position_at self.now dom) gref.0 dir looked seat.old.view seat.new.view)
-            (λ n. MissesPin self.now.layout (position_at self.now dom) gref.0 dir looked n seat.old.view seat.new.view) }
+            (λ n. MissesPin self.now.layout (position_at self.now dom) gref.0 dir looked n
+            seat.old.view seat.new.view) }
         ensures counted { CountsPins self.now.layout (position_at self.now dom) gref.0 dir }
     {
         let at = self.position(seat, dom);
@@ -292,7 +307,8 @@ impl Words {
     /// The owner publishes an entry whose body words it has stored, at the next generation.
     ///
     /// # Errors
-    /// The word found, where it is another than the one handed in: it has pins. That can't be while an invalid entry has none.
+    /// The word found, where it is another than the one handed in: it has pins. That can't be while
+    /// an invalid entry has none.
     pub fn grant(&self, seat: &mut Seat, gref: GrantRef, word: u64, entry: Entry) -> Result<(), u64>
         requires seat { IsSeatOf self.now seat.old }
         requires entry { (gref.0 < TABLE_ENTRIES) × IsEntry entry }
@@ -328,7 +344,8 @@ impl Words {
             .revoke(&mut seat.place, at, gref.0 as usize, word)
     }
 
-    /// The owner makes its writable entry read-only at the next generation, by one exchange from a word without write pins.
+    /// The owner makes its writable entry read-only at the next generation, by one exchange from a
+    /// word without write pins.
     ///
     /// # Errors
     /// The word found, where it is another than the one handed in.
@@ -372,7 +389,8 @@ fn make_words(alloc: Global, config: &Config) -> Result<(Words, Vec<Seat>), Allo
     requires { IsWithinLimits config.now }
     ensures words { IfOk result (λ r. r.0.layout ≡ layout_of config.now) }
     ensures count { IfOk result (λ r. length r.1.items ≡ length config.now.domains.items) }
-    ensures seats { IfOk result (λ r. (i : ℕ) → i < length config.now.domains.items → HoldsAt (λ s. IsNewSeat r.0 i s) r.1.items i) }
+    ensures seats { IfOk result (λ r. (i : ℕ) → i < length config.now.domains.items
+        → HoldsAt (λ s. IsNewSeat r.0 i s) r.1.items i) }
 {
     let start = first_words(alloc, config)?;
     let ids = domain_ids(alloc, config)?;
