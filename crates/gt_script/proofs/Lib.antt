@@ -5,3 +5,4 @@ pub mod ScriptLemmas
 pub mod TypeLemmas
 pub mod WearLemmas
 pub mod OneLemmas
+pub mod StandingLemmas

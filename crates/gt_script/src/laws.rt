@@ -1,7 +1,10 @@
 //! Laws of what bytes tell.
-ghost use Rattle.std.specs.Prelude.{◌≡◌, ℕ, List, Result};
+ghost use Rattle.std.specs.Prelude.{◌≡◌, ℕ, List, Result, Err};
 ghost use Rattle.gt_script.specs.Contents.{Contents};
-ghost use Rattle.gt_script.specs.Script.{Tells, Wrong};
+ghost use Rattle.gt_script.specs.Laws.{IsFaultOf, IsFaultOfBlock};
+ghost use Rattle.gt_script.specs.Script.{Tells, Wrong, in_policy, in_script};
+ghost use Rattle.gt_script.specs.declared.faults.Fault.{Fault};
+ghost use Rattle.gt_policy.specs.declared.fault.Fault as policy;
 
 use gt_policy::one_meaning;
 
@@ -13,3 +16,10 @@ pub fn every_text_tells_one_thing()
 {
     one_meaning();
 }
+
+/// A law: a fault that stands first, of the bytes or of their policy block, is the one that they tell. So
+/// where one stands no other does.
+pub fn every_fault_that_stands_is_told()
+    ensures script { (bytes : List ℕ) (f : Fault) → IsFaultOf bytes f → Tells bytes (Err (in_script f)) }
+    ensures block { (bytes : List ℕ) (g : policy.Fault) → IsFaultOfBlock bytes g → Tells bytes (Err (in_policy g)) }
+{}

@@ -17,5 +17,5 @@ mod types;
 
 pub use faults::{BlockFault, Fault, FaultKind, ScriptError};
 pub use gt_lines::{AccessCall, Action, Call, Grant, TableCall, Text, hex_bytes};
-pub use laws::every_text_tells_one_thing;
+pub use laws::{every_fault_that_stands_is_told, every_text_tells_one_thing};
 pub use script::{Script, Step, parse};
