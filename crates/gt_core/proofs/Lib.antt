@@ -31,3 +31,9 @@ pub mod Starting
 pub mod Showing
 pub mod Playing
 pub mod Applying
+pub mod Bare
+pub mod Makers
+pub mod Given
+pub mod Pins
+pub mod Doing
+pub mod Together

@@ -1,0 +1,286 @@
+-- The handles that domains were answered: each serial once, and each mapping under one of them.
+use Rattle.std.proofs.Common.{◌≡◌, ◌≤◌, ◌<◌, ◌+◌, inl, inr, ℕ, refl, Bool, true, false, List, [], ◌∷◌, ◌++◌, Option, Some, None, cond, sym, ap, ◌∙◌, subst, arith}
+use Rattle.std.specs.Prelude.{◌==◌, ◌&&◌}
+use Rattle.std.proofs.lemmas.Bool.{eqb-true, eq-eqb}
+use Rattle.std.proofs.lemmas.Option.{none-some}
+use Rattle.gt_types.specs.declared.DomId.{DomId}
+use Rattle.gt_types.specs.declared.denial.Denial.{Denial}
+use Rattle.gt_handles.specs.declared.handles.Handle.{Handle}
+use Rattle.gt_calls.specs.declared.judging.TheConstants.{END_OF_SERIALS}
+use Rattle.gt_calls.specs.declared.request.Asked.{Asked}
+use Rattle.gt_calls.specs.declared.request.Asked.TheVariants as requests
+use Rattle.gt_calls.specs.declared.request.Holder.{Holder}
+use Rattle.gt_calls.specs.declared.request.Holder.TheVariants.{Mapping as ByMapping, Leg as ByLeg}
+use Rattle.gt_calls.specs.declared.held.Held.{Held}
+use Rattle.gt_calls.specs.declared.action.Seen.{Seen}
+use Rattle.gt_calls.specs.declared.action.Seen.TheVariants.{Taken}
+use Rattle.gt_calls.specs.declared.action.Step.{Step}
+use Rattle.gt_calls.specs.declared.action.Step.TheVariants.{LookHeader, Pin as PinStep, Unpin, StoreHeader}
+use Rattle.gt_calls.specs.declared.action.Action.TheVariants.{Step as Makes}
+use Rattle.gt_calls.specs.declared.action.Verdict.{Verdict}
+use Rattle.gt_calls.specs.Asking.{asked, begun_of}
+use Rattle.gt_calls.specs.Opening.{opens}
+use Rattle.gt_calls.specs.Rules.{CallerKnowledge, begun}
+use Rattle.gt_calls.specs.Path.{Continuation, path, after_beginning, steps_of}
+use Rattle.gt_core.specs.States.{IsMapping}
+use Rattle.gt_core.specs.declared.trace.Answer.{Answer}
+use Rattle.gt_core.specs.declared.trace.Answer.TheVariants as answers
+use Rattle.gt_core.specs.declared.trace.Happened.{Happened}
+use Rattle.gt_core.specs.declared.trace.Happened.TheVariants.{Began, Stepped}
+use Rattle.gt_core.specs.declared.trace.Item.{Item}
+use Rattle.gt_core.specs.History.{History, Setting, Underway, Pin, live, without, is_holder, same_handle, pinned_by, unpinned_by, open_call, underway_after, underway_with, maps_answered_at, one_if_mapped, known_at, values}
+use Rattle.gt_core.specs.Legal.{IsRight, StepsRightIn, AnsweredBy, GivesValue, gives_back, verdict_in, stood}
+use Rattle.gt_core.specs.Alike.{bare_handle, IsGiven, IsKnown, AsksKnown, HappensKnown, IsRun}
+use Rattle.gt_core.proofs.Makers.{only-path, done-makes}
+
+-- a map that is answered
+
+not-at-once : (s : Setting) (h : History) (d : DomId) (r : Asked) (handle : Handle) → GivesValue s h d r None (answers.Mapped handle) → ⊥
+not-at-once s h d (requests.Map dom gref flags) handle v = v
+not-at-once s h d (requests.Load a off len) handle v = v
+not-at-once s h d (requests.Peek f off len) handle v = v
+not-at-once s h d (requests.SetupTable frames) handle v = cc
+not-at-once s h d (requests.QuerySize dom) handle v = v
+not-at-once s h d (requests.GetVersion dom) handle v = v
+not-at-once s h d r handle v = cc
+
+-- only a map's pin is answered a mapping, under the next serial of its domain
+pub record IsNext (before : History) (d : DomId) (r : Asked) (handle : Handle) : Type 0 where
+  pub is_map : IsMapping (Some r)
+  pub serial : handle.serial ≡ maps_answered_at before d.0
+
+given-next : (s : Setting) (h : History) (d : DomId) (r : Asked) (step : Step) (handle : Handle) → GivesValue s h d r (Some step) (answers.Mapped handle) → IsNext h d r handle
+given-next s h d (requests.Map dom gref flags) (PinStep p) handle v = record { is_map = tt; serial = v }
+given-next s h d (requests.Map dom gref flags) step handle v = absurd v
+given-next s h d (requests.Load a off len) step handle v = absurd (no-load s h d (requests.Load a off len) step handle v)
+  where
+    no-load : (s : Setting) (h : History) (d : DomId) (r : Asked) (step : Step) (handle : Handle) → GivesValue s h d (requests.Load a off len) (Some step) (answers.Mapped handle) → ⊥
+    no-load s h d r step handle v = v
+given-next s h d (requests.Peek f off len) step handle v = absurd v
+given-next s h d (requests.SetupTable frames) (StoreHeader version stored) handle v = absurd (cc)
+given-next s h d (requests.SetupTable frames) step handle v = absurd v
+given-next s h d (requests.QuerySize dom) (LookHeader t) handle v = absurd (cc)
+given-next s h d (requests.QuerySize dom) step handle v = absurd v
+given-next s h d (requests.GetVersion dom) (LookHeader t) handle v = absurd (cc)
+given-next s h d (requests.GetVersion dom) step handle v = absurd v
+given-next s h d r step handle v = absurd (cc)
+
+answered-late : (s : Setting) (h : History) (d : DomId) (r : Asked) (v : Option Verdict) (against : Option Denial) (handle : Handle)
+    → AnsweredBy s h d r None false v (Some (answers.Mapped handle)) against → ⊥
+answered-late s h d r None against handle a = a
+answered-late s h d r (Some v) against handle a = not-at-once s h d r handle a.2
+
+answered-next : (s : Setting) (h : History) (d : DomId) (r : Asked) (step : Step) (giving : Bool) (v : Option Verdict) (against : Option Denial) (handle : Handle)
+    → AnsweredBy s h d r (Some step) giving v (Some (answers.Mapped handle)) against → IsNext h d r handle
+answered-next s h d r step giving None against handle a = absurd a
+answered-next s h d r step giving (Some v) against handle a = given-next s h d r step handle a.2
+
+none-begun : (v : Option Verdict) (c : Continuation) (vs : List Seen) (step : Step) → after_beginning v c vs ≡ Some (Makes step) → v ≡ None
+none-begun None c vs step e = refl
+none-begun (Some v) c [] step e = absurd (done-makes v step e)
+none-begun (Some v) c (x ∷ vs) step e = absurd (none-some _ e)
+
+pub begun-none : (k : CallerKnowledge) (d : DomId) (r : Asked) (vs : List Seen) (step : Step) → path k d r vs ≡ Some (Makes step) → begun k d r ≡ None
+begun-none k d r vs step e = none-begun (begun k d r) (steps_of k d r) vs step e
+
+few-answered : (k : CallerKnowledge) (d : DomId) (r : Asked) → begun k d r ≡ None → IsMapping (Some r) → k.maps_answered < END_OF_SERIALS
+few-answered k d (requests.Map dom gref flags) e m = (opens k d (requests.Map dom gref flags) e).serials_left
+few-answered k d r e m = absurd m
+
+-- a handle has the next serial of its domain, which is none past the last
+abbrev pub IsFresh : History → DomId → Handle → Type 0
+IsFresh h d handle = (handle.serial ≡ maps_answered_at h d.0) × (handle.serial < END_OF_SERIALS)
+
+fresh-step : (s : Setting) (h : History) (i : Item) (step : Step) (seen : Seen) (handle : Handle) (c : Option Underway) → StepsRightIn s h i step seen c → i.answer ≡ Some (answers.Mapped handle) → IsFresh h i.actor handle
+fresh-step s h i step seen handle None right e = absurd right
+fresh-step s h i step seen handle (Some c) right e =
+    let o = path (known_at s h i.actor) i.actor c.request (values c ++ seen ∷ []) in
+    let next = answered-next s h i.actor c.request step (gives_back o) (verdict_in o) (stood s (i ∷ h) i.actor.0) handle
+    (subst (λ (a : Option Answer). AnsweredBy s h i.actor c.request (Some step) (gives_back o) (verdict_in o) a (stood s (i ∷ h) i.actor.0)) e right.answered) in
+    let few : maps_answered_at h i.actor.0 < END_OF_SERIALS = few-answered (known_at s h i.actor) i.actor c.request (begun-none (known_at s h i.actor) i.actor c.request (values c) step right.continues) next.is_map in
+    let same : handle.serial ≡ maps_answered_at h i.actor.0 = next.serial in
+    (same, omega arith)
+
+fresh : (s : Setting) (h : History) (i : Item) (handle : Handle) → IsRight s h i → i.answer ≡ Some (answers.Mapped handle) → IsFresh h i.actor handle
+fresh s h i handle = by i.happened
+  where
+    by : (x : Happened) → IsRight s h (record i { happened = x }) → i.answer ≡ Some (answers.Mapped handle) → IsFresh h i.actor handle
+    by (Began request) right e =
+        let against = stood s (record i { happened = Began request } ∷ h) i.actor.0 in
+        absurd (answered-late s h i.actor (asked request) (begun_of (known_at s h i.actor) i.actor request) against handle
+        (subst (λ (a : Option Answer). AnsweredBy s h i.actor (asked request) None false (begun_of (known_at s h i.actor) i.actor request) a against) e right.1))
+    by (Stepped step seen) right e = fresh-step s h (record i { happened = Stepped step seen }) step seen handle (open_call h i.actor.0) right e
+
+-- serials
+
+maps-grow : (i : Item) (h : History) (d : ℕ) → maps_answered_at h d ≤ maps_answered_at (i ∷ h) d
+unfolding maps_answered_at
+maps-grow i h d = let n : ℕ = cond (i.actor.0 == d) (one_if_mapped i.answer) 0 in let e : maps_answered_at (i ∷ h) d ≡ n + maps_answered_at h d = refl in omega arith
+
+maps-one : (i : Item) (h : History) (d : ℕ) (handle : Handle) → i.actor.0 ≡ d → i.answer ≡ Some (answers.Mapped handle) → maps_answered_at (i ∷ h) d ≡ 1 + maps_answered_at h d
+unfolding maps_answered_at
+maps-one i h d handle own e =
+    ap (λ (b : Bool). cond b (one_if_mapped i.answer) 0 + maps_answered_at h d) (eq-eqb i.actor.0 d own)
+    ∙ ap (λ (a : Option Answer). one_if_mapped a + maps_answered_at h d) e
+
+-- a handle that was answered has a serial below the number of its domain's maps, and below the last
+record IsBelow (h : History) (d : ℕ) (handle : Handle) : Type 0 where
+  pub count : handle.serial < maps_answered_at h d
+  pub end : handle.serial < END_OF_SERIALS
+
+given-below : (s : Setting) (h : History) (d : ℕ) (handle : Handle) → IsRun s h → IsGiven h d handle → IsBelow h d handle
+unfolding IsRun IsGiven
+given-below s [] d handle run g = absurd g
+given-below s (i ∷ h) d handle run (inl g) =
+    let f = fresh s h i handle run.0 g.1 in
+    let one : maps_answered_at (i ∷ h) d ≡ 1 + maps_answered_at h d = maps-one i h d handle g.0 g.1 in
+    let same : handle.serial ≡ maps_answered_at h d = f.0 ∙ ap (maps_answered_at h) g.0 in
+    record { count = omega arith; end = f.1 }
+given-below s (i ∷ h) d handle run (inr g) =
+    let b = given-below s h d handle run.2 g in
+    let lt : handle.serial < maps_answered_at h d = b.count in
+    let le : maps_answered_at h d ≤ maps_answered_at (i ∷ h) d = maps-grow i h d in
+    record { count = omega arith; end = b.end }
+
+mapped-same : (a b : Handle) (o : Option Answer) → o ≡ Some (answers.Mapped a) → o ≡ Some (answers.Mapped b) → a ≡ b
+mapped-same a b o e f = cc
+
+-- a serial is answered once
+given-once : (s : Setting) (h : History) (d : ℕ) (a b : Handle) → IsRun s h → IsGiven h d a → IsGiven h d b → a.serial ≡ b.serial → a ≡ b
+unfolding IsRun IsGiven
+given-once s [] d a b run f g e = absurd f
+given-once s (i ∷ h) d a b run (inl f) (inl g) e = mapped-same a b i.answer f.1 g.1
+given-once s (i ∷ h) d a b run (inl f) (inr g) e =
+    let same : a.serial ≡ maps_answered_at h d = (fresh s h i a run.0 f.1).0 ∙ ap (maps_answered_at h) f.0 in
+    let lt : b.serial < maps_answered_at h d = (given-below s h d b run.2 g).count in
+    absurd (omega arith)
+given-once s (i ∷ h) d a b run (inr f) (inl g) e =
+    let same : b.serial ≡ maps_answered_at h d = (fresh s h i b run.0 g.1).0 ∙ ap (maps_answered_at h) g.0 in
+    let lt : a.serial < maps_answered_at h d = (given-below s h d a run.2 f).count in
+    absurd (omega arith)
+given-once s (i ∷ h) d a b run (inr f) (inr g) e = given-once s h d a b run.2 f g e
+
+-- a handle that is known is told from the ones answered by its serial
+known-serial : (s : Setting) (h : History) (d : ℕ) (a b : Handle) → IsRun s h → IsGiven h d b → IsKnown h d a → b.serial ≡ a.serial → b ≡ a
+known-serial s h d a b run g (inl k) e = given-once s h d b a run g k e
+known-serial s h d a b run g (inr k) e =
+    let lt : b.serial < END_OF_SERIALS = (given-below s h d b run g).end in
+    absurd (omega arith)
+
+pub known-tells : (s : Setting) (h : History) (d : ℕ) (a b : Handle) → IsRun s h → IsGiven h d b → IsKnown h d a → same_handle (bare_handle b) (bare_handle a) ≡ same_handle b a
+known-tells s h d a b run g k = by (b.serial == a.serial) refl
+  where
+    by : (x : Bool) → (b.serial == a.serial) ≡ x → (x && (0 == 0)) ≡ (x && (b.key == a.key))
+    by true e = sym (eq-eqb b.key a.key (ap (λ (z : Handle). z.key) (known-serial s h d a b run g k (eqb-true b.serial a.serial e))))
+    by false e = refl
+
+-- pins
+
+abbrev pub HeldGiven : History → ℕ → Holder → Type 0
+HeldGiven h d (ByMapping handle) = IsGiven h d handle
+HeldGiven h d (ByLeg number) = Unit {0}
+
+-- each mapping is under a handle that its domain was answered
+abbrev pub PinsGiven : History → List Pin → Type 0
+PinsGiven h [] = Unit {0}
+PinsGiven h (p ∷ ps) = HeldGiven h p.actor p.holder × PinsGiven h ps
+
+held-later : (i : Item) (h : History) (d : ℕ) (holder : Holder) → HeldGiven h d holder → HeldGiven (i ∷ h) d holder
+unfolding IsGiven
+held-later i h d (ByMapping handle) g = inr g
+held-later i h d (ByLeg number) g = tt
+
+pins-later : (i : Item) (h : History) (ps : List Pin) → PinsGiven h ps → PinsGiven (i ∷ h) ps
+pins-later i h [] g = tt
+pins-later i h (p ∷ ps) g = (held-later i h p.actor p.holder g.0, pins-later i h ps g.1)
+
+pins-append : (h : History) (ps qs : List Pin) → PinsGiven h ps → PinsGiven h qs → PinsGiven h (ps ++ qs)
+pins-append h [] qs f g = g
+pins-append h (p ∷ ps) qs f g = (f.0, pins-append h ps qs f.1 g)
+
+pins-without : (h : History) (d : ℕ) (holder : Holder) (ps : List Pin) → PinsGiven h ps → PinsGiven h (without d holder ps)
+unfolding without
+pins-without h d holder [] g = tt
+pins-without h d holder (p ∷ ps) g = by ((p.actor == d) && is_holder p.holder holder) (pins-without h d holder ps g.1)
+  where
+    by : (b : Bool) → PinsGiven h (without d holder ps) → PinsGiven h (cond b ps (p ∷ without d holder ps))
+    by true rest = g.1
+    by false rest = (g.0, rest)
+
+unpinned-given : (h : History) (d : DomId) (x : Happened) (ps : List Pin) → PinsGiven h ps → PinsGiven h (unpinned_by d x ps)
+unpinned-given h d (Stepped (Unpin p holder) seen) ps g = pins-without h d.0 holder ps g
+unpinned-given h d x ps g = g
+
+pinned-given : (i : Item) (h : History) (ps : List Pin) → PinsGiven (i ∷ h) (pinned_by i.actor i.happened i.answer h ps)
+unfolding IsGiven
+pinned-given i h ps = by i.happened i.answer refl
+  where
+    by : (x : Happened) (a : Option Answer) → i.answer ≡ a → PinsGiven (i ∷ h) (pinned_by i.actor x a h ps)
+    by (Stepped (PinStep p) Taken) (Some (answers.Mapped handle)) e = (inl (refl, e), tt)
+    by (Stepped (PinStep p) Taken) a e = (tt, tt)
+    by x a e = tt
+
+pub pins-given : (h : History) → PinsGiven h (live h)
+unfolding live
+pins-given [] = tt
+pins-given (i ∷ h) =
+    pins-append (i ∷ h) (unpinned_by i.actor i.happened (live h)) (pinned_by i.actor i.happened i.answer h (live h))
+    (pins-later i h (unpinned_by i.actor i.happened (live h)) (unpinned-given h i.actor i.happened (live h) (pins-given h)))
+    (pinned-given i h (live h))
+
+-- what open calls ask
+
+known-later : (i : Item) (h : History) (d : ℕ) (handle : Handle) → IsKnown h d handle → IsKnown (i ∷ h) d handle
+unfolding IsGiven
+known-later i h d handle (inl g) = inl (inr g)
+known-later i h d handle (inr g) = inr g
+
+asks-later : (i : Item) (h : History) (d : ℕ) (r : Asked) → AsksKnown h d r → AsksKnown (i ∷ h) d r
+asks-later i h d (requests.Unmap handle) k = known-later i h d handle k
+asks-later i h d (requests.Load handle off len) k = known-later i h d handle k
+asks-later i h d (requests.Store handle off len) k = known-later i h d handle k
+asks-later i h d r k = tt
+
+abbrev pub CallKnown : History → ℕ → Option Underway → Type 0
+CallKnown h d None = Unit {0}
+CallKnown h d (Some c) = AsksKnown h d c.request
+
+call-later : (i : Item) (h : History) (d : ℕ) (c : Option Underway) → CallKnown h d c → CallKnown (i ∷ h) d c
+call-later i h d None k = tt
+call-later i h d (Some c) k = asks-later i h d c.request k
+
+with-known : (i : Item) (h : History) (c : Option Underway) → HappensKnown h i → CallKnown h i.actor.0 c → CallKnown (i ∷ h) i.actor.0 (underway_with i.happened c)
+with-known i h c = by i.happened c
+  where
+    by : (x : Happened) (c : Option Underway) → HappensKnown h (record i { happened = x }) → CallKnown h i.actor.0 c → CallKnown (i ∷ h) i.actor.0 (underway_with x c)
+    by (Began request) c asks k = asks-later i h i.actor.0 (asked request) asks
+    by (Stepped step seen) None asks k = tt
+    by (Stepped step seen) (Some c) asks k = asks-later i h i.actor.0 c.request k
+
+after-known : (i : Item) (h : History) (c : Option Underway) → HappensKnown h i → CallKnown h i.actor.0 c → CallKnown (i ∷ h) i.actor.0 (underway_after i c)
+after-known i h c asks k = by i.answer
+  where
+    by : (a : Option Answer) → CallKnown (i ∷ h) i.actor.0 (underway_after (record i { answer = a }) c)
+    by None = with-known i h c asks k
+    by (Some answer) = tt
+
+pub open-known : (s : Setting) (h : History) (d : ℕ) → IsRun s h → CallKnown h d (open_call h d)
+unfolding IsRun open_call
+open-known s [] d run = tt
+open-known s (i ∷ h) d run = by (i.actor.0 == d) refl (open-known s h d run.2)
+  where
+    by : (b : Bool) → (i.actor.0 == d) ≡ b → CallKnown h d (open_call h d) → CallKnown (i ∷ h) d (cond b (underway_after i (open_call h d)) (open_call h d))
+    by true e k =
+        subst (λ (n : ℕ). CallKnown (i ∷ h) n (underway_after i (open_call h n))) (eqb-true i.actor.0 d e)
+        (after-known i h (open_call h i.actor.0) run.1 (subst (λ (n : ℕ). CallKnown h n (open_call h n)) (sym (eqb-true i.actor.0 d e)) k))
+    by false e k = call-later i h d (open_call h d) k
+
+unpin-in : (s : Setting) (h : History) (i : Item) (p : Held) (handle : Handle) (seen : Seen) (c : Option Underway) → StepsRightIn s h i (Unpin p (ByMapping handle)) seen c → CallKnown h i.actor.0 c → IsKnown h i.actor.0 handle
+unpin-in s h i p handle seen None right k = absurd right
+unpin-in s h i p handle seen (Some c) right k =
+    subst (AsksKnown h i.actor.0) (only-path (known_at s h i.actor) i.actor c.request (values c) (Unpin p (ByMapping handle)) right.continues) k
+
+-- a mapping that is given up is one under a known handle
+pub unpin-known : (s : Setting) (h : History) (i : Item) (p : Held) (handle : Handle) (seen : Seen) → i.happened ≡ Stepped (Unpin p (ByMapping handle)) seen → IsRight s h i → IsRun s h → IsKnown h i.actor.0 handle
+unpin-known s h i p handle seen e right run =
+    unpin-in s h (record i { happened = Stepped (Unpin p (ByMapping handle)) seen }) p handle seen (open_call h i.actor.0) (subst (λ (x : Happened). IsRight s h (record i { happened = x })) e right) (open-known s h i.actor.0 run)

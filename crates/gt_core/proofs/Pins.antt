@@ -1,0 +1,214 @@
+-- The live pins and the mappings are the same without keys, where each handle that is named is told by its serial.
+use Rattle.std.proofs.Common.{◌≡◌, ◌+◌, ℕ, suc, refl, Bool, true, false, List, [], ◌∷◌, ◌++◌, length, Option, Some, None, cond, sym, ap, ◌∙◌, subst}
+use Rattle.std.specs.Prelude.{◌==◌, ◌&&◌, count_by}
+use Rattle.std.specs.Option.{option_map}
+use Rattle.std.proofs.lemmas.Bool.{eqb-true}
+use Rattle.std.proofs.lemmas.List.Sums.{sum_by-cons}
+use mathlib.Core.Path.{fun_ext}
+use Rattle.gt_types.specs.declared.DomId.{DomId}
+use Rattle.gt_types.specs.declared.Dir.{Dir}
+use Rattle.gt_types.specs.declared.Dir.TheVariants.{Read, Write}
+use Rattle.gt_entry.specs.declared.entry.Entry.{Entry}
+use Rattle.gt_entry.specs.declared.header.Header.{Header}
+use Rattle.gt_entry.specs.Words.{control_word}
+use Rattle.gt_handles.specs.declared.handles.Handle.{Handle}
+use Rattle.gt_calls.specs.Rules.{CallerKnowledge, control_with}
+use Rattle.gt_calls.specs.declared.request.Holder.{Holder}
+use Rattle.gt_calls.specs.declared.request.Holder.TheVariants.{Mapping as ByMapping, Leg as ByLeg}
+use Rattle.gt_calls.specs.declared.held.Held.{Held}
+use Rattle.gt_calls.specs.declared.action.Seen.{Seen}
+use Rattle.gt_calls.specs.declared.action.Seen.TheVariants.{Taken}
+use Rattle.gt_calls.specs.declared.action.Step.TheVariants.{Pin as PinStep, Unpin}
+use Rattle.gt_core.specs.declared.trace.Answer.{Answer}
+use Rattle.gt_core.specs.declared.trace.Answer.TheVariants.{Mapped, Bytes}
+use Rattle.gt_core.specs.declared.trace.Happened.{Happened}
+use Rattle.gt_core.specs.declared.trace.Happened.TheVariants.{Stepped}
+use Rattle.gt_core.specs.History.{History, Setting, Pin, live, without, is_holder, same_handle, holder_after, gather, by_leg, by_mapping, pinned_by, unpinned_by, is_pin_on, reads_at, writes_at, mappings_at, mapping_of, entry_at, generation_at, table_at, word_at, maps_answered_at, known_at}
+use Rattle.gt_core.specs.Alike.{bare_handle, bare_happened, told, IsGiven, IsKnown, IsRun}
+use Rattle.gt_core.proofs.Bare.{answer_from, bare, entry-bare, raises-bare, table-bare, maps-bare}
+use Rattle.gt_core.proofs.Given.{HeldGiven, PinsGiven, pins-given, known-tells, unpin-known}
+
+abbrev pub bare_holder : Holder → Holder
+bare_holder (ByMapping handle) = ByMapping (bare_handle handle)
+bare_holder (ByLeg number) = ByLeg number
+
+abbrev pub bare_pin : Pin → Pin
+bare_pin p = record { actor = p.actor; holder = bare_holder p.holder; held = p.held }
+
+abbrev pub bare_pins : List Pin → List Pin
+bare_pins [] = []
+bare_pins (p ∷ ps) = bare_pin p ∷ bare_pins ps
+
+pins-more : (ps qs : List Pin) → bare_pins ps ++ bare_pins qs ≡ bare_pins (ps ++ qs)
+pins-more [] qs = refl
+pins-more (p ∷ ps) qs = ap (λ (l : List Pin). bare_pin p ∷ l) (pins-more ps qs)
+
+-- pins that are given back
+
+-- of the domain's pins the holder is told without keys
+abbrev Tells : ℕ → Holder → List Pin → Type 0
+Tells d holder [] = Unit {0}
+Tells d holder (p ∷ ps) = (p.actor ≡ d → is_holder (bare_holder p.holder) (bare_holder holder) ≡ is_holder p.holder holder) × Tells d holder ps
+
+without-bare : (d : ℕ) (holder : Holder) (ps : List Pin) → Tells d holder ps → without d (bare_holder holder) (bare_pins ps) ≡ bare_pins (without d holder ps)
+unfolding without
+without-bare d holder [] t = refl
+without-bare d holder (p ∷ ps) t = by (p.actor == d) refl (without-bare d holder ps t.1)
+  where
+    at : (b : Bool) → without d (bare_holder holder) (bare_pins ps) ≡ bare_pins (without d holder ps)
+        → cond b (bare_pins ps) (bare_pin p ∷ without d (bare_holder holder) (bare_pins ps)) ≡ bare_pins (cond b ps (p ∷ without d holder ps))
+    at true rest = refl
+    at false rest = ap (λ (l : List Pin). bare_pin p ∷ l) rest
+
+    by : (b : Bool) → (p.actor == d) ≡ b → without d (bare_holder holder) (bare_pins ps) ≡ bare_pins (without d holder ps)
+        → cond (b && is_holder (bare_holder p.holder) (bare_holder holder)) (bare_pins ps) (bare_pin p ∷ without d (bare_holder holder) (bare_pins ps)) ≡ bare_pins (cond (b && is_holder p.holder holder) ps (p ∷ without d holder ps))
+    by true e rest =
+        ap (λ (b : Bool). cond b (bare_pins ps) (bare_pin p ∷ without d (bare_holder holder) (bare_pins ps))) (t.0 (eqb-true p.actor d e))
+        ∙ at (is_holder p.holder holder) rest
+    by false e rest = at false rest
+
+leg-tells : (d n : ℕ) (ps : List Pin) → Tells d (ByLeg n) ps
+leg-tells d n [] = tt
+leg-tells d n (p ∷ ps) = (λ own. by p.holder, leg-tells d n ps)
+  where
+    by : (x : Holder) → is_holder (bare_holder x) (ByLeg n) ≡ is_holder x (ByLeg n)
+    by (ByMapping b) = refl
+    by (ByLeg m) = refl
+
+mapping-tells : (s : Setting) (h : History) (d : ℕ) (a : Handle) (ps : List Pin) → IsRun s h → IsKnown h d a → PinsGiven h ps → Tells d (ByMapping a) ps
+mapping-tells s h d a [] run k g = tt
+mapping-tells s h d a (p ∷ ps) run k g = (λ own. by p.holder (subst (λ (n : ℕ). HeldGiven h n p.holder) own g.0), mapping-tells s h d a ps run k g.1)
+  where
+    by : (x : Holder) → HeldGiven h d x → is_holder (bare_holder x) (ByMapping (bare_handle a)) ≡ is_holder x (ByMapping a)
+    by (ByMapping b) given = known-tells s h d a b run given k
+    by (ByLeg m) given = refl
+
+unpinned-bare : (s : Setting) (h : History) (d : DomId) (x : Happened) (ps : List Pin) → IsRun s h → ((p : Held) (a : Handle) (seen : Seen) → x ≡ Stepped (Unpin p (ByMapping a)) seen → IsKnown h d.0 a) → PinsGiven h ps
+    → unpinned_by d (bare_happened x) (bare_pins ps) ≡ bare_pins (unpinned_by d x ps)
+unpinned-bare s h d (Stepped (Unpin p (ByMapping a)) seen) ps run k g = without-bare d.0 (ByMapping a) ps (mapping-tells s h d.0 a ps run (k p a seen refl) g)
+unpinned-bare s h d (Stepped (Unpin p (ByLeg n)) seen) ps run k g = without-bare d.0 (ByLeg n) ps (leg-tells d.0 n ps)
+unpinned-bare s h d x ps run k g = refl
+
+-- pins that are taken
+
+legs-bare : (d : ℕ) (ps : List Pin) → gather by_leg d (bare_pins ps) ≡ gather by_leg d ps
+unfolding gather
+legs-bare d [] = refl
+legs-bare d (p ∷ ps) =
+    ap (λ (l : List (ℕ × Held)). cond (p.actor == d) l [] ++ gather by_leg d (bare_pins ps)) (by p.holder)
+    ∙ ap (λ (l : List (ℕ × Held)). cond (p.actor == d) (by_leg p.holder p.held) [] ++ l) (legs-bare d ps)
+  where
+    by : (x : Holder) → by_leg (bare_holder x) p.held ≡ by_leg x p.held
+    by (ByMapping b) = refl
+    by (ByLeg m) = refl
+
+holder-bare : (a : Option Answer) (n : ℕ) → holder_after (option_map answer_from (option_map told a)) n ≡ bare_holder (holder_after a n)
+holder-bare None n = refl
+holder-bare (Some (Mapped handle)) n = refl
+holder-bare (Some (Bytes b)) n = refl
+holder-bare (Some answer) n = refl
+
+pinned-bare : (d : DomId) (x : Happened) (a : Option Answer) (h : History) (ps : List Pin)
+    → pinned_by d (bare_happened x) (option_map answer_from (option_map told a)) (bare h) (bare_pins ps) ≡ bare_pins (pinned_by d x a h ps)
+pinned-bare d (Stepped (PinStep p) Taken) a h ps =
+    ap (λ (l : List (ℕ × Held)). record { actor = d.0; holder = holder_after (option_map answer_from (option_map told a)) (length l); held = record p { entry = entry_at (bare h) p.dom.0 p.gref.0 } } ∷ []) (legs-bare d.0 ps)
+    ∙ ap (λ (x : Holder). record { actor = d.0; holder = x; held = record p { entry = entry_at (bare h) p.dom.0 p.gref.0 } } ∷ []) (holder-bare a (length (gather by_leg d.0 ps)))
+    ∙ ap (λ (e : Entry). record { actor = d.0; holder = bare_holder (holder_after a (length (gather by_leg d.0 ps))); held = record p { entry = e } } ∷ []) (entry-bare h p.dom.0 p.gref.0)
+pinned-bare d (Stepped (Unpin p (ByMapping b)) seen) a h ps = refl
+pinned-bare d x a h ps = refl
+
+-- the live pins
+
+pub live-bare : (s : Setting) (h : History) → IsRun s h → live (bare h) ≡ bare_pins (live h)
+unfolding live bare IsRun
+live-bare s [] run = refl
+live-bare s (i ∷ h) run =
+    let a = option_map answer_from (option_map told i.answer) in
+    ap (λ (ps : List Pin). unpinned_by i.actor (bare_happened i.happened) ps ++ pinned_by i.actor (bare_happened i.happened) a (bare h) ps) (live-bare s h run.2)
+    ∙ ap (λ (ps : List Pin). ps ++ pinned_by i.actor (bare_happened i.happened) a (bare h) (bare_pins (live h)))
+    (unpinned-bare s h i.actor i.happened (live h) run.2 (λ p b seen e. unpin-known s h i p b seen e run.0 run.2) (pins-given h))
+    ∙ ap (λ (ps : List Pin). bare_pins (unpinned_by i.actor i.happened (live h)) ++ ps) (pinned-bare i.actor i.happened i.answer h (live h))
+    ∙ pins-more (unpinned_by i.actor i.happened (live h)) (pinned_by i.actor i.happened i.answer h (live h))
+
+-- how many pins
+
+count-bare : (t r : ℕ) (dir : Dir) (ps : List Pin) → count_by (is_pin_on t r dir) (bare_pins ps) ≡ count_by (is_pin_on t r dir) ps
+count-bare t r dir [] = refl
+count-bare t r dir (p ∷ ps) =
+    sum_by-cons (λ (q : Pin). cond (is_pin_on t r dir q) 1 0) (bare_pin p) (bare_pins ps)
+    ∙ ap (λ (n : ℕ). cond (is_pin_on t r dir p) 1 0 + n) (count-bare t r dir ps)
+    ∙ sym (sum_by-cons (λ (q : Pin). cond (is_pin_on t r dir q) 1 0) p ps)
+
+reads-bare : (s : Setting) (h : History) (t r : ℕ) → IsRun s h → reads_at (bare h) t r ≡ reads_at h t r
+reads-bare s h t r run = ap (λ (ps : List Pin). count_by (is_pin_on t r Read) ps) (live-bare s h run) ∙ count-bare t r Read (live h)
+
+writes-bare : (s : Setting) (h : History) (t r : ℕ) → IsRun s h → writes_at (bare h) t r ≡ writes_at h t r
+writes-bare s h t r run = ap (λ (ps : List Pin). count_by (is_pin_on t r Write) ps) (live-bare s h run) ∙ count-bare t r Write (live h)
+
+pub word-bare : (s : Setting) (h : History) (t r : ℕ) → IsRun s h → word_at s (bare h) t r ≡ word_at s h t r
+word-bare s h t r run =
+    ap (λ (e : Entry). control_word (control_with e (generation_at s (bare h) t r) (reads_at (bare h) t r) (writes_at (bare h) t r))) (entry-bare h t r)
+    ∙ ap (λ (n : ℕ). control_word (control_with (entry_at h t r) (s.first_generation + n) (reads_at (bare h) t r) (writes_at (bare h) t r))) (raises-bare h t r)
+    ∙ ap (λ (n : ℕ). control_word (control_with (entry_at h t r) (generation_at s h t r) n (writes_at (bare h) t r))) (reads-bare s h t r run)
+    ∙ ap (λ (n : ℕ). control_word (control_with (entry_at h t r) (generation_at s h t r) (reads_at h t r) n)) (writes-bare s h t r run)
+
+-- mappings
+
+abbrev pub bare_mappings : List (Handle × Held) → List (Handle × Held)
+bare_mappings [] = []
+bare_mappings (m ∷ ms) = (bare_handle m.0, m.1) ∷ bare_mappings ms
+
+gather-bare : (d : ℕ) (ps : List Pin) → gather by_mapping d (bare_pins ps) ≡ bare_mappings (gather by_mapping d ps)
+unfolding gather
+gather-bare d [] = refl
+gather-bare d (p ∷ ps) = by (p.actor == d) p.holder (gather-bare d ps)
+  where
+    by : (b : Bool) (x : Holder) → gather by_mapping d (bare_pins ps) ≡ bare_mappings (gather by_mapping d ps)
+        → cond b (by_mapping (bare_holder x) p.held) [] ++ gather by_mapping d (bare_pins ps) ≡ bare_mappings (cond b (by_mapping x p.held) [] ++ gather by_mapping d ps)
+    by true (ByMapping a) rest = ap (λ (l : List (Handle × Held)). (bare_handle a, p.held) ∷ l) rest
+    by true (ByLeg n) rest = rest
+    by false x rest = rest
+
+pub mappings-bare : (s : Setting) (h : History) (d : ℕ) → IsRun s h → mappings_at (bare h) d ≡ bare_mappings (mappings_at h d)
+mappings-bare s h d run = ap (λ (ps : List Pin). gather by_mapping d ps) (live-bare s h run) ∙ gather-bare d (live h)
+
+length-bare : (ms : List (Handle × Held)) → length (bare_mappings ms) ≡ length ms
+length-bare [] = refl
+length-bare (m ∷ ms) = ap (λ (n : ℕ). suc n) (length-bare ms)
+
+abbrev AreGiven : History → ℕ → List (Handle × Held) → Type 0
+AreGiven h d [] = Unit {0}
+AreGiven h d (m ∷ ms) = IsGiven h d m.0 × AreGiven h d ms
+
+gather-given : (h : History) (d : ℕ) (ps : List Pin) → PinsGiven h ps → AreGiven h d (gather by_mapping d ps)
+unfolding gather
+gather-given h d [] g = tt
+gather-given h d (p ∷ ps) g = by (p.actor == d) refl p.holder g.0 (gather-given h d ps g.1)
+  where
+    by : (b : Bool) → (p.actor == d) ≡ b → (x : Holder) → HeldGiven h p.actor x → AreGiven h d (gather by_mapping d ps) → AreGiven h d (cond b (by_mapping x p.held) [] ++ gather by_mapping d ps)
+    by true e (ByMapping a) given rest = (subst (λ (n : ℕ). IsGiven h n a) (eqb-true p.actor d e) given, rest)
+    by true e (ByLeg n) given rest = rest
+    by false e x given rest = rest
+
+found-bare : (s : Setting) (h : History) (d : ℕ) (a : Handle) (ms : List (Handle × Held)) → IsRun s h → IsKnown h d a → AreGiven h d ms → mapping_of (bare_mappings ms) (bare_handle a) ≡ mapping_of ms a
+found-bare s h d a [] run k g = refl
+found-bare s h d a (m ∷ ms) run k g =
+    ap (λ (b : Bool). cond b (Some m.1) (mapping_of (bare_mappings ms) (bare_handle a))) (known-tells s h d a m.0 run g.0 k)
+    ∙ ap (λ (o : Option Held). cond (same_handle m.0 a) (Some m.1) o) (found-bare s h d a ms run k g.1)
+
+-- a known handle finds the same mapping without its key
+pub mapping-bare : (s : Setting) (h : History) (d : ℕ) (a : Handle) → IsRun s h → IsKnown h d a → mapping_of (mappings_at (bare h) d) (bare_handle a) ≡ mapping_of (mappings_at h d) a
+mapping-bare s h d a run k =
+    ap (λ (ms : List (Handle × Held)). mapping_of ms (bare_handle a)) (mappings-bare s h d run)
+    ∙ found-bare s h d a (mappings_at h d) run k (gather-given h d (live h) (pins-given h))
+
+-- what a domain knows by itself is the same, but for the keys of its mappings
+pub known-bare : (s : Setting) (h : History) (d : DomId) → IsRun s h → known_at s (bare h) d ≡ record (known_at s h d) { mapping = mapping_of (mappings_at (bare h) d.0) }
+known-bare s h d run =
+    let found = mapping_of (mappings_at (bare h) d.0) in
+    let kept : (ℕ → Entry) → (ℕ → ℕ) → Header → ℕ → ℕ → CallerKnowledge = λ e g x n m. record { domains = s.domains; may = s.may; entry = e; generation = g; header = x; mapping = found; in_use = n; maps_answered = m } in
+    ap (λ (e : ℕ → Entry). kept e (λ r. generation_at s (bare h) d.0 r) (table_at s (bare h) d) (length (mappings_at (bare h) d.0)) (maps_answered_at (bare h) d.0)) (fun_ext (λ r. entry-bare h d.0 r))
+    ∙ ap (λ (g : ℕ → ℕ). kept (λ r. entry_at h d.0 r) g (table_at s (bare h) d) (length (mappings_at (bare h) d.0)) (maps_answered_at (bare h) d.0)) (fun_ext (λ r. ap (λ (n : ℕ). s.first_generation + n) (raises-bare h d.0 r)))
+    ∙ ap (λ (x : Header). kept (λ r. entry_at h d.0 r) (λ r. generation_at s h d.0 r) x (length (mappings_at (bare h) d.0)) (maps_answered_at (bare h) d.0)) (table-bare s h d)
+    ∙ ap (λ (n : ℕ). kept (λ r. entry_at h d.0 r) (λ r. generation_at s h d.0 r) (table_at s h d) n (maps_answered_at (bare h) d.0)) (ap length (mappings-bare s h d.0 run) ∙ length-bare (mappings_at h d.0))
+    ∙ ap (λ (n : ℕ). kept (λ r. entry_at h d.0 r) (λ r. generation_at s h d.0 r) (table_at s h d) (length (mappings_at h d.0)) n) (maps-bare h d.0)

@@ -1,0 +1,136 @@
+-- When two runs are the same but for the keys of handles, which a run may choose.
+use Rattle.std.specs.Prelude.{◌≡◌, ◌≤◌, ◌⊎◌, ℕ, List, [], ◌∷◌, Option, Some}
+use Rattle.std.specs.Option.{option_map}
+use Rattle.std.specs.Borrow.{Bor}
+use Rattle.std.proofs.Common.{inl, inr}
+use Rattle.gt_types.specs.declared.DomId.{DomId}
+use Rattle.gt_handles.specs.declared.handles.Handle.{Handle}
+use Rattle.gt_calls.specs.declared.judging.TheConstants.{END_OF_SERIALS}
+use Rattle.gt_calls.specs.declared.request.Request.{Request}
+use Rattle.gt_calls.specs.declared.request.Request.TheVariants as requests
+use Rattle.gt_calls.specs.declared.request.Asked.{Asked}
+use Rattle.gt_calls.specs.declared.request.Asked.TheVariants.{Unmap, Load, Store}
+use Rattle.gt_calls.specs.declared.request.Holder.TheVariants.{Mapping as ByMapping}
+use Rattle.gt_calls.specs.declared.action.Step.{Step}
+use Rattle.gt_calls.specs.declared.action.Step.TheVariants.{Unpin}
+use Rattle.gt_calls.specs.Asking.{asked}
+use Rattle.gt_core.specs.declared.trace.Answer.{Answer}
+use Rattle.gt_core.specs.declared.trace.Answer.TheVariants.{Mapped, Bytes}
+use Rattle.gt_core.specs.declared.trace.Event.{Event}
+use Rattle.gt_core.specs.declared.trace.Event.TheVariants.{Begin, Tick}
+use Rattle.gt_core.specs.declared.trace.Happened.{Happened}
+use Rattle.gt_core.specs.declared.trace.Happened.TheVariants.{Began, Stepped}
+use Rattle.gt_core.specs.declared.trace.Item.{Item}
+use Rattle.gt_core.specs.declared.trace.Element.{Element}
+use Rattle.gt_core.specs.declared.trace.Element.TheVariants.{Item as Did}
+use Rattle.gt_core.specs.History.{History, Setting}
+use Rattle.gt_core.specs.Legal.{IsRight}
+
+-- the same but for keys
+
+-- a handle without its key (own)
+abbrev pub bare_handle : Handle → Handle
+bare_handle handle = record { serial = handle.serial; key = 0 }
+
+-- bytes lent, wherever they stand (own)
+abbrev pub bare_bytes : Bor (List ℕ) → Bor (List ℕ)
+bare_bytes bytes = record { ref_ptr = (0, 0); now = bytes.now }
+
+-- a request without the key of its handle (own)
+abbrev pub bare_request : Request → Request
+bare_request (requests.GrantBytes gref bytes) = requests.GrantBytes gref (bare_bytes bytes)
+bare_request (requests.Unmap handle) = requests.Unmap (bare_handle handle)
+bare_request (requests.Load handle off len) = requests.Load (bare_handle handle) off len
+bare_request (requests.Store handle off bytes) = requests.Store (bare_handle handle) off (bare_bytes bytes)
+bare_request (requests.Poke frame off bytes) = requests.Poke frame off (bare_bytes bytes)
+bare_request request = request
+
+-- an event without the key of its request's handle (own)
+abbrev pub bare_event : Event → Event
+bare_event (Begin d request) = Begin d (bare_request request)
+bare_event (Tick d) = Tick d
+
+-- a step without the key of the handle whose mapping it gives up (own)
+abbrev pub bare_step : Step → Step
+bare_step (Unpin p (ByMapping handle)) = Unpin p (ByMapping (bare_handle handle))
+bare_step step = step
+
+-- what happened, without a key (own)
+abbrev pub bare_happened : Happened → Happened
+bare_happened (Began request) = Began (bare_request request)
+bare_happened (Stepped step seen) = Stepped (bare_step step) seen
+
+-- what an answer tells: its bytes, or the answer itself, without a key (own)
+abbrev pub told : Answer → Answer ⊎ List ℕ
+told (Mapped handle) = inl (Mapped (bare_handle handle))
+told (Bytes b) = inr b.bytes.items
+told answer = inl answer
+
+-- what an item tells but for keys: its domain, what happened, and what its answer tells (own)
+pub record ToldItem : Type 0 where
+  pub actor : DomId
+  pub happened : Happened
+  pub answer : Option (Answer ⊎ List ℕ)
+
+abbrev pub told_item : Item → ToldItem
+told_item i = record { actor = i.actor; happened = bare_happened i.happened; answer = option_map told i.answer }
+
+-- what the items tell, each (own)
+unfoldable pub told_items : History → List ToldItem
+told_items [] = []
+told_items (i ∷ before) = told_item i ∷ told_items before
+
+-- the histories are the same but for keys, item by item (own)
+abbrev pub SameHistory : History → History → Type 0
+SameHistory one other = told_items one ≡ told_items other
+
+-- the events are the same but for keys (own)
+abbrev pub SameEvent : Event → Event → Type 0
+SameEvent one other = bare_event one ≡ bare_event other
+
+-- the elements are the same but for keys (own)
+abbrev pub SameElement : Element → Element → Type 0
+SameElement (Did i) (Did j) = told_item i ≡ told_item j
+SameElement one other = one ≡ other
+
+-- handles that were answered
+
+-- a map of the domain was answered this handle (own)
+unfoldable pub IsGiven : History → ℕ → Handle → Type 0
+IsGiven [] d handle = ⊥
+IsGiven (i ∷ before) d handle = ((i.actor.0 ≡ d) × (i.answer ≡ Some (Mapped handle))) ⊎ IsGiven before d handle
+
+-- the handle is one that the domain was answered, or its serial is one that no map is answered (own)
+abbrev pub IsKnown : History → ℕ → Handle → Type 0
+IsKnown h d handle = IsGiven h d handle ⊎ (END_OF_SERIALS ≤ handle.serial)
+
+-- a handle that is asked for is known (own)
+abbrev pub AsksKnown : History → ℕ → Asked → Type 0
+AsksKnown h d (Unmap handle) = IsKnown h d handle
+AsksKnown h d (Load handle off len) = IsKnown h d handle
+AsksKnown h d (Store handle off len) = IsKnown h d handle
+AsksKnown h d request = Unit {0}
+
+-- an event asks for no handle but one that is known to its domain (own)
+abbrev pub IsOfKnown : History → Event → Type 0
+IsOfKnown h (Begin d request) = AsksKnown h d.0 (asked request)
+IsOfKnown h (Tick d) = Unit {0}
+
+-- an item asks so (own)
+abbrev pub HappensKnown : History → Item → Type 0
+HappensKnown h i = IsOfHappened i.happened
+  where
+    IsOfHappened : Happened → Type 0
+    IsOfHappened (Began request) = AsksKnown h i.actor.0 (asked request)
+    IsOfHappened (Stepped step seen) = Unit {0}
+
+-- the items came about one after the other by what may happen, and their requests ask for known handles alone (own)
+unfoldable pub IsRun : Setting → History → Type 0
+IsRun s [] = Unit {0}
+IsRun s (i ∷ before) = IsRight s before i × HappensKnown before i × IsRun s before
+
+-- two runs have come to the same but for keys (own)
+pub record AreAlike (s : Setting) (one other : History) : Type 0 where
+  pub first : IsRun s one
+  pub second : IsRun s other
+  pub same : SameHistory one other
