@@ -31,3 +31,4 @@ pub mod Starting
 pub mod Showing
 pub mod Playing
 pub mod Applying
+pub mod Subjects

@@ -6,3 +6,4 @@ pub mod Standing
 pub mod Sight
 pub mod Effects
 pub mod Shown
+pub mod Subject

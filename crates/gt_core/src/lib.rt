@@ -17,6 +17,7 @@ mod effects;
 mod sight;
 mod slot;
 mod state;
+mod subject;
 mod trace;
 
 pub use core_state::{Begun, Core, Shown, Ticked, play};
