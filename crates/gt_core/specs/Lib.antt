@@ -1,9 +1,10 @@
-pub mod Rows
-pub mod States
+pub mod Alike
+pub mod Effects
 pub mod History
 pub mod Legal
-pub mod Standing
-pub mod Sight
-pub mod Effects
+pub mod Rows
 pub mod Shown
-pub mod Alike
+pub mod Sight
+pub mod Standing
+pub mod States
+pub mod Subject

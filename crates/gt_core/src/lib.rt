@@ -18,6 +18,7 @@ mod laws;
 mod sight;
 mod slot;
 mod state;
+mod subject;
 mod trace;
 
 pub use core_state::{Begun, Core, Shown, Ticked, play};
