@@ -3,7 +3,6 @@ use Rattle.std.proofs.Common.{◌≡◌, inl, inr, ℕ, zero, suc, ◌+◌, ◌<
 use Rattle.std.proofs.lemmas.Bool.Decides.{nat_tests}
 use mathlib.Core.Option.{some, some-injective, some-ne-none}
 use lib.ListN.{get_elem?}
-use Rattle.atomic_table.specs.Table.{State}
 use Rattle.atomic_table.proofs.Lists.{at_map}
 use Rattle.gt_types.specs.declared.Dir.{Dir}
 use Rattle.gt_types.specs.declared.Dir.TheVariants.{Read, Write}
@@ -12,7 +11,7 @@ use Rattle.gt_words.proofs.Lifts.{map_here}
 use Rattle.gt_words.proofs.OneEntry.{same_owner}
 use Rattle.gt_words.specs.Controls.{generation_of, pins_in}
 use Rattle.gt_words.specs.Laws.{PastPinsAreRefused, PinsLeftAreCounted, WordsFollowViews}
-use Rattle.gt_words.specs.Rule.{Layout, Shows, ShowsEntry, header_now, header_place, owner_steps, place, total_until}
+use Rattle.gt_words.specs.Rule.{ShowsEntry, header_now, owner_steps, place, total_until}
 use Rattle.gt_words.specs.Views.{IsIn, LivePin, exchanged, pins, pins_until, steps_on, steps_on_header, weight}
 use Rattle.gt_words.specs.declared.view.EntryRecord.{EntryRecord}
 use Rattle.gt_words.specs.declared.view.EntryStep.{EntryStep}
