@@ -1,5 +1,5 @@
 -- What is read from the bytes of an entry.
-use Rattle.std.proofs.Common.{◌≡◌, ◌≢◌, ℕ, ◌+◌, ◌/◌, ◌%◌, ◌<◌, ◌≤◌, Bool, true, false, ◌&&◌, ◌||◌, ◌==◌, nat_lt, List, [], ◌∷◌, length, find, Option, Some, None, get_or, refl, sym, ap, ◌∙◌, subst, cond, MatchBool, ne_eqb, arith}
+use Rattle.std.proofs.Common.{◌≡◌, ◌≢◌, ℕ, ◌+◌, ◌/◌, ◌%◌, ◌<◌, ◌≤◌, Bool, true, false, ◌&&◌, ◌||◌, ◌==◌, nat_lt, List, [], ◌∷◌, length, find, Option, Some, None, get_or, refl, sym, ap, ◌∙◌, subst, cond, arith}
 use Rattle.std.proofs.lemmas.Bool.Decides.{nat_tests}
 use Rattle.std.proofs.lemmas.List.{get_or_default}
 use Rattle.std.proofs.lemmas.Option.{none-some}
@@ -8,7 +8,7 @@ use Rattle.gt_types.specs.declared.denial.Field.TheVariants.{Length, Kind, Readi
 use Rattle.gt_entry.specs.declared.entry.Entry.{Entry}
 use Rattle.gt_entry.specs.declared.entry.Entry.TheVariants.{Invalid, Page, Sub, Via}
 use Rattle.gt_entry.specs.Words.{flag}
-use Rattle.gt_entry.specs.Bytes.{field, flags_of, AreBytes, Spells, SpellsV1, SpellsV2, is_set, is_refused, flag_fields, refused_flag, first_refused}
+use Rattle.gt_entry.specs.Bytes.{field, flags_of, AreBytes, SpellsV1, SpellsV2, is_set, is_refused, flag_fields, refused_flag, first_refused}
 
 -- none of the fields is refused
 record NoneRefused (version size flags : ℕ) : Type 0 where

@@ -1,8 +1,8 @@
 -- A fault that stands is the one that the bytes tell.
-use Rattle.std.proofs.Common.{◌≡◌, ◌≢◌, ◌⊎◌, IsSome, inl, inr, ℕ, zero, suc, ◌+◌, ◌<◌, ◌≤◌, ◌&&◌, Bool, true, false, cond, List, [], ◌∷◌, ◌++◌, length, take, drop, Option, None, Some, Result, Ok, Err, refl, sym, ap, ◌∙◌, subst, arith, All, codes}
+use Rattle.std.proofs.Common.{◌≡◌, ◌≢◌, ◌⊎◌, IsSome, inl, inr, ℕ, zero, suc, ◌+◌, ◌≤◌, ◌&&◌, Bool, true, false, cond, List, [], ◌∷◌, ◌++◌, length, take, drop, Option, None, Some, Result, Ok, Err, refl, sym, ap, ◌∙◌, subst, arith, All, codes}
 use Rattle.std.specs.List.{slice_get}
 use Rattle.std.specs.Option.{is_none, option_map}
-use Rattle.std.specs.Str.{IsUtf8, bytes_eq}
+use Rattle.std.specs.Str.{bytes_eq}
 use Rattle.std.specs.Str.Lines.{lines as lines_in}
 use Rattle.std.proofs.lemmas.Bool.Decides.{nat_tests}
 use Rattle.std.proofs.lemmas.List.Elements.{All-head, All-tail}
@@ -15,8 +15,8 @@ use Rattle.gt_policy.specs.declared.fault.Fault as policy
 use Rattle.gt_lines.specs.Words.{words}
 use Rattle.gt_script.specs.Blocks.{is_just, opening, closing, Means, IsFaulty}
 use Rattle.gt_script.specs.Contents.{Contents, empty, with_policy}
-use Rattle.gt_script.specs.Script.{is_empty, has_no_rights, with_words, with_lines, completed, completed_if_ok, whole, in_result, in_script, in_policy, ClosedSays, BlockSays, LinesSay, Tells, Wrong}
-use Rattle.gt_script.specs.Laws.{HasBlock, lines_before, IsOpen, HasNone, IsFaultOfLine, IsFaultOfEnd, IsFirstFault, IsFaultBehind, IsFaultOfLines, IsFaultOf, IsFaultOfBlock}
+use Rattle.gt_script.specs.Script.{is_empty, has_no_rights, with_words, with_lines, completed, completed_if_ok, whole, in_result, in_script, in_policy, BlockSays, LinesSay, Tells, Wrong}
+use Rattle.gt_script.specs.Laws.{HasBlock, lines_before, IsFirstFault, IsFaultOfLines, IsFaultOf, IsFaultOfBlock}
 use Rattle.gt_script.specs.declared.faults.FaultKind.{FaultKind}
 use Rattle.gt_script.specs.declared.faults.FaultKind.TheVariants.{Syntax, Config}
 use Rattle.gt_script.specs.declared.faults.Fault.{Fault}

@@ -1,20 +1,22 @@
--- What the rule says of pins of records that the owner's list has gone on from.
-use Rattle.std.proofs.Common.{◌≡◌, inl, inr, ℕ, zero, suc, ◌+◌, ◌<◌, ◌≤◌, Bool, true, false, cond, nat_le, List, [], ◌∷◌, map, set, sym, refl, ap, subst, arith}
+-- What the rule says of words by views, and of pins of records that the owner's list has gone on from.
+use Rattle.std.proofs.Common.{◌≡◌, inl, inr, ℕ, zero, suc, ◌+◌, ◌<◌, ◌≤◌, Bool, true, false, cond, nat_le, List, [], ◌∷◌, map, get_or, set, sym, refl, ap, ◌∙◌, subst, arith}
 use Rattle.std.proofs.lemmas.Bool.Decides.{nat_tests}
 use mathlib.Core.Option.{some, some-injective, some-ne-none}
 use lib.ListN.{get_elem?}
 use Rattle.atomic_table.proofs.Lists.{at_map}
 use Rattle.gt_types.specs.declared.Dir.{Dir}
 use Rattle.gt_types.specs.declared.Dir.TheVariants.{Read, Write}
+use Rattle.gt_types.specs.declared.limits.TheConstants.{TABLE_ENTRIES}
 use Rattle.gt_words.proofs.Lifts.{map_here}
 use Rattle.gt_words.proofs.OneEntry.{same_owner}
 use Rattle.gt_words.specs.Controls.{generation_of, pins_in}
-use Rattle.gt_words.specs.Laws.{PastPinsAreRefused, PinsLeftAreCounted}
-use Rattle.gt_words.specs.Rule.{owner_steps, total_until}
-use Rattle.gt_words.specs.Views.{IsIn, LivePin, exchanged, pins, pins_until, steps_on, weight}
+use Rattle.gt_words.specs.Laws.{PastPinsAreRefused, PinsLeftAreCounted, WordsFollowViews}
+use Rattle.gt_words.specs.Rule.{ShowsEntry, header_now, owner_steps, place, total_until}
+use Rattle.gt_words.specs.Views.{IsIn, LivePin, exchanged, pins, pins_until, steps_on, steps_on_header, weight}
 use Rattle.gt_words.specs.declared.view.EntryRecord.{EntryRecord}
 use Rattle.gt_words.specs.declared.view.EntryStep.{EntryStep}
 use Rattle.gt_words.specs.declared.view.EntryStep.TheVariants.{Pinned}
+use Rattle.gt_words.specs.declared.view.View.{View}
 
 weight_same : (d : Dir) → weight d d ≡ 1
 weight_same Read = refl
@@ -57,3 +59,22 @@ past_pins k s i v t r e at expected left d y here tn rn past old tight after = l
     let gone = shown.gone_on e (subst (λ (l : List (List EntryStep)). IsIn e (exchanged (owner_steps t l))) (sym same) there) in
     let l : total_until d (generation_of e) (set hs i (m ∷ h)) ≤ pins_in d e = subst (λ (u : List (List EntryStep)). total_until d (generation_of e) u ≤ pins_in d e) same (gone.left d) in
     let more = until_more d (generation_of e) hs i h m h_at (until_here d (generation_of e) y (pins h) old) in omega arith
+
+-- the words of an entry are those that its steps say
+one_entry : (g t word a b word' a' b' : ℕ) (hs : List (List EntryStep)) → ShowsEntry g t word a b hs → ShowsEntry g t word' a' b' hs → (word ≡ word') × (a ≡ a') × (b ≡ b')
+one_entry g t word a b word' a' b' hs k l = (k.record_shown.spelled ∙ sym l.record_shown.spelled, k.first ∙ sym l.first, k.second ∙ sym l.second)
+
+-- the words are those that the views say
+pub words_follow : WordsFollowViews
+words_follow k s z shown also same = (λ t r j tn rn jn. at j jn t r (entry t r tn rn), λ t tn. (shown.headers t tn).0 ∙ ap (λ (vs : List View). header_now k t (map (steps_on_header t) vs)) same ∙ sym (also.headers t tn).0)
+  where
+    entry : (t r : ℕ) → t < k.domains → r < TABLE_ENTRIES → (get_or s.words (place t r 0) 0 ≡ get_or z.words (place t r 0) 0) × (get_or s.words (place t r 1) 0 ≡ get_or z.words (place t r 1) 0) × (get_or s.words (place t r 2) 0 ≡ get_or z.words (place t r 2) 0)
+    entry t r tn rn = one_entry k.first t _ _ _ _ _ _ (map (steps_on t r) s.views) (shown.entries t r tn rn)
+        (subst (λ (vs : List View). ShowsEntry k.first t (get_or z.words (place t r 0) 0) (get_or z.words (place t r 1) 0) (get_or z.words (place t r 2) 0) (map (steps_on t r) vs)) (sym same) (also.entries t r tn rn))
+
+    at : (j : ℕ) → j < 3 → (t r : ℕ) → (get_or s.words (place t r 0) 0 ≡ get_or z.words (place t r 0) 0) × (get_or s.words (place t r 1) 0 ≡ get_or z.words (place t r 1) 0) × (get_or s.words (place t r 2) 0 ≡ get_or z.words (place t r 2) 0)
+        → get_or s.words (place t r j) 0 ≡ get_or z.words (place t r j) 0
+    at zero jn t r e = e.0
+    at (suc zero) jn t r e = e.1
+    at (suc (suc zero)) jn t r e = e.2
+    at (suc (suc (suc j))) jn t r e = absurd (omega arith)

@@ -1,5 +1,5 @@
 -- What follows from the definitions, for callers.
-use Rattle.std.specs.Prelude.{◌≡◌, ◌≢◌, ℕ, ◌+◌, ◌<◌, ◌≤◌, AllPairs, ◌==◌, not, cond, Bool, true, false, List, [], ◌∷◌, map, length, zero, suc, Option, Some, None, position, unwrap_or, nat_lt, IsSome}
+use Rattle.std.specs.Prelude.{◌≡◌, ◌≢◌, ℕ, ◌+◌, ◌<◌, ◌≤◌, AllPairs, ◌==◌, not, cond, Bool, true, false, List, [], ◌∷◌, map, length, zero, suc, Option, Some, None, position, unwrap_or, nat_lt, IsSome, slice_index}
 use Rattle.std.proofs.Common.{arith, inl, inr, ⊎_elim, get_or, eq-eqb, ne_eqb, refl, sym, ap, ◌∙◌, subst}
 use Rattle.std.specs.List.{position_or_len}
 use Rattle.std.proofs.lemmas.Bool.{lt-ltb}
@@ -18,7 +18,7 @@ use Rattle.gt_types.specs.declared.config.DomainConfig.{DomainConfig}
 use Rattle.gt_types.specs.declared.limits.TheConstants.{TABLE_ENTRIES}
 use Rattle.gt_words.specs.Conditions.{Board, HasDomain, IsSeatOf, SeatOf, position_at}
 use Rattle.gt_words.specs.Controls.{generation_of, pins_in}
-use Rattle.gt_words.specs.Rule.{IsLawful, IsNextEntry, IsRevocation, Layout, Shows, id_at, layout_of, owner_steps, position_in, total_until}
+use Rattle.gt_words.specs.Rule.{IsLawful, IsNextEntry, IsRevocation, Layout, Shows, header_place, id_at, layout_of, owner_steps, place, position_in, total_until}
 use Rattle.gt_words.specs.Steps.{on_entry}
 use Rattle.gt_words.specs.Views.{IsIn, LivePin, exchanged, pins, steps_on, with_step}
 use Rattle.gt_types.specs.declared.Dir.{Dir}
@@ -57,6 +57,12 @@ abbrev pub PastPinsAreRefused : Type 0
 PastPinsAreRefused = (k : Layout) (s : State (Unit {0}) View) (i : ℕ) (v : View) (t r e at expected left : ℕ) (d : Dir) (y : EntryRecord) → get_elem? s.views i ≡ some v → t < k.domains → r < TABLE_ENTRIES
     → IsIn e (exchanged (owner_steps t (map (steps_on t r) s.views))) → y.generation ≤ generation_of e → total_until d (generation_of e) (map (steps_on t r) s.views) ≡ pins_in d e
     → ¬ Shows k (stepped s at left i [] (with_step (on_entry t r (Pinned d expected y)) v) keeps)
+
+-- two states that words and views show, with the same views, have the same words: so no step leaves another word than what it adds to its view says (own)
+abbrev pub WordsFollowViews : Type 0
+WordsFollowViews = (k : Layout) (s z : State (Unit {0}) View) → Shows k s → Shows k z → s.views ≡ z.views
+    → ((t r j : ℕ) → t < k.domains → r < TABLE_ENTRIES → j < 3 → slice_index s.words (place t r j) ≡ slice_index z.words (place t r j))
+    × ((t : ℕ) → t < k.domains → slice_index s.words (header_place t) ≡ slice_index z.words (header_place t))
 
 -- the list of records
 

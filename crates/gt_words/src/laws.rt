@@ -1,6 +1,7 @@
 //! What follows from the definitions, for callers.
 ghost use Rattle.gt_words.specs.Laws.{DomainsAreOfRun, DomainsStandThere, PastPinsAreRefused, PinsAreOfEntries};
 ghost use Rattle.gt_words.specs.Laws.{PinsHaveOneRecord, PinsLeftAreCounted, SeatsStandThere};
+ghost use Rattle.gt_words.specs.Laws.{WordsFollowViews};
 
 /// A law: a domain is one of the run exactly where the configuration has it.
 pub fn every_domain_is_of_the_run()
@@ -38,4 +39,10 @@ pub fn every_pin_left_is_counted()
 /// was given back since.
 pub fn no_pin_is_taken_of_a_past_record()
     ensures { PastPinsAreRefused }
+{}
+
+/// A law: what words and views show has one word for each entry and header, by the views alone. So no step
+/// leaves another word than what it adds to its view says.
+pub fn every_word_follows_from_the_views()
+    ensures { WordsFollowViews }
 {}

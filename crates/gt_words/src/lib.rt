@@ -17,8 +17,8 @@ mod words;
 
 pub use laws::{
     every_domain_has_its_position, every_domain_is_of_the_run, every_pin_is_of_an_entry,
-    every_pin_left_is_counted, every_seat_has_its_position, no_pin_is_taken_of_a_past_record,
-    pins_of_one_generation_have_one_record,
+    every_pin_left_is_counted, every_seat_has_its_position, every_word_follows_from_the_views,
+    no_pin_is_taken_of_a_past_record, pins_of_one_generation_have_one_record,
 };
 pub use view::{EntryRecord, EntryStep, HeaderStep, Purpose, SeatStep, View};
 pub use words::{Pin, Seat, Words};
