@@ -1,8 +1,8 @@
 #!/usr/bin/env bash
 # Times the loads of `live_bench`, whole calls on a running monitor, beside the bare words (`gt_bench`) and beside a
 # program in C that keeps its entries as Xen keeps them, under a lock for the table and one for each entry. Prints millions
-# of operations a second (a map or an unmap is one), how much longer a round of whole calls takes than one of bare words,
-# and the ratios of `live_bench` to the programs in C: the table's lock with its readers in one word, and spread over a
+# of operations a second (a map or an unmap is one), how many times longer a round of whole calls takes than one of bare
+# words, and the ratios of `live_bench` to the programs in C: the table's lock with its readers in one word, and spread over a
 # word for each thread. Below the table stand the instructions of a round on one thread, as valgrind counts them.
 #
 # `bench/live.sh [RUNS]` makes so many runs of each program by turns (11), and takes from their time that of no rounds.
@@ -24,6 +24,14 @@ done
 
 programs=(live_bench gt_bench counted spread)
 
+# How often each thread of a program does what it does, in a run that is long enough to be timed.
+rounds_of() {
+  case "$1" in
+    live_bench) echo 200000 ;;
+    *) echo 3000000 ;;
+  esac
+}
+
 # The nanoseconds of one run.
 nanoseconds() {
   local from to
@@ -33,29 +41,28 @@ nanoseconds() {
   echo "$((to - from))"
 }
 
-# The least times of the programs, in their order.
+# The least nanoseconds of a round of each program, times the threads, in the order of the programs.
 least_times() {
-  local program
+  local program rounds
   for _ in $(seq "$runs"); do
     for program in "${programs[@]}"; do
-      echo "$program $(nanoseconds "$program" "$1" "$2" "$3")"
+      rounds="$(rounds_of "$program")"
+      echo "$program $(nanoseconds "$program" "$1" "$2" 0) $(nanoseconds "$program" "$1" "$2" "$rounds") $rounds"
     done
   done | awk -v names="${programs[*]}" '
-    !($1 in least) || $2 < least[$1] { least[$1] = $2 }
-    END { count = split(names, name); for (i = 1; i <= count; i++) printf "%s ", least[name[i]] }'
+    !($1 in none) || $2 < none[$1] { none[$1] = $2 }
+    !($1 in some) || $3 < some[$1] { some[$1] = $3 }
+    { rounds[$1] = $4 }
+    END {
+      count = split(names, name)
+      for (i = 1; i <= count; i++) printf "%.3f ", (some[name[i]] - none[name[i]]) / rounds[name[i]]
+    }'
 }
 
 # One line of the table.
 compare() {
-  local none some program
-  none="$(least_times "$1" "$2" 0)"
-  some="$(least_times "$1" "$2" "$3")"
-  for program in "${programs[@]:1}"; do
-    cmp "$work/live_bench.out" "$work/$program.out"
-  done
-  awk -v load="$1" -v threads="$2" -v rounds="$3" -v none="$none" -v some="$some" 'BEGIN {
-    split(none, without); split(some, with)
-    for (i = 1; i <= 4; i++) speed[i] = 2000 * rounds * threads / (with[i] - without[i])
+  least_times "$1" "$2" | awk -v load="$1" -v threads="$2" '{
+    for (i = 1; i <= 4; i++) speed[i] = 2000 * threads / $i
     printf "%-9s %7d %8.1f %8.1f %8.1f %8.1f %8.2f %9.2f %8.2f\n", load, threads, speed[1], speed[2], speed[3], speed[4],
       speed[2] / speed[1], speed[1] / speed[3], speed[1] / speed[4]
   }'
@@ -79,7 +86,7 @@ if [ "$runs" -gt 0 ]; then
   printf '%-9s %7s %8s %8s %8s %8s %8s %9s %8s\n' load threads calls words counted spread words/ /counted /spread
   for load in apart adjacent; do
     for threads in 1 2 3 4; do
-      compare "$load" "$threads" 300000
+      compare "$load" "$threads"
     done
   done
 fi
