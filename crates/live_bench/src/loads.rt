@@ -1,0 +1,226 @@
+//! The loads, and the run that they are of.
+use crate::running::{Running, all_running};
+use anyhow::{Result, bail};
+use gt_allow::AllowTable;
+use gt_entry::Entry;
+use gt_live::Monitor;
+use gt_policy::Policy;
+use gt_types::{
+    Allows, Config, DomId, DomainConfig, GrantRef, LAST_GENERATION, MAX_TABLE_FRAMES, TypeId,
+};
+use std::alloc::{AllocError, Global};
+use std::thread::{self, Threads};
+
+/// What the threads do.
+#[derive(Clone, Copy, PartialEq, Eq)]
+pub enum Load {
+    /// Each maps an entry of its own, far from the others'.
+    Apart,
+    /// Each maps an entry of its own, beside the others'.
+    Adjacent,
+    /// The first is the owner of all entries, who revokes and grants them by turns; the others map one each.
+    Grants,
+}
+
+/// The most threads of a load.
+const MOST: usize = 4;
+
+/// The domain that grants.
+const OWNER: DomId = DomId(1);
+
+/// The domains that map are this one and those after it.
+const FIRST_MAPPER: u16 = 3;
+
+/// The entry of the first mapper.
+const FIRST: u32 = 64;
+
+/// How far the entries of threads lie apart.
+const APART: u32 = 64;
+
+/// How far they lie apart where they are neighbours.
+const ADJACENT: u32 = 1;
+
+/// Each type may map the pages of each and unmap them.
+const POLICY: &str = "type a_t; allow a_t a_t:grant { map_read unmap };";
+
+/// What a domain does, with the entries that it maps or grants.
+#[derive(Clone, Copy)]
+enum Part {
+    Maps(GrantRef),
+    /// So many entries from the first on, this far apart.
+    Grants { count: u32, stride: u32 },
+}
+
+#[derive(Drop)]
+struct Worker<'m, P: Allows> {
+    domain: Running<'m, P>,
+    part: Part,
+}
+
+fn domain(id: u16) -> DomainConfig {
+    DomainConfig {
+        id: DomId(id),
+        label: TypeId(0),
+        frames: 8,
+        table_frames: MAX_TABLE_FRAMES,
+        version: 1,
+    }
+}
+
+// The owner, one that does nothing, and a domain for each thread.
+fn six_domains(alloc: Global) -> Result<Config, AllocError> {
+    let domains = vec![in alloc;
+        domain(1),
+        domain(2),
+        domain(3),
+        domain(4),
+        domain(5),
+        domain(6),
+    ]?;
+    Ok(Config {
+        domains,
+        first_gen: 0,
+    })
+}
+
+// The entry at this place of a load, and the domain that maps it.
+fn target(place: u32, stride: u32) -> (GrantRef, DomId) {
+    let place = place % MOST as u32;
+    let gref = GrantRef(FIRST + place * (stride % 256));
+    (gref, DomId(FIRST_MAPPER + place as u16))
+}
+
+// A writable page for the domain.
+fn page(dom: DomId) -> Entry {
+    Entry::Page {
+        dom,
+        ro: false,
+        frame: 5,
+    }
+}
+
+// Grants the first entries of a load, each to its mapper.
+fn grant_each<P: Allows>(owner: &mut Running<'_, P>, count: u32, stride: u32) -> bool {
+    let mut all = true;
+    'entries: for place in 0..count {
+        let (gref, dom) = target(place, stride);
+        all = owner.grant(gref, &page(dom)) && all;
+    }
+    all
+}
+
+// Revokes the entries and grants them again by turns, so often, each time with as many tries as it takes. Answers how
+// often: less where entries are worn.
+fn revoke_and_grant<P: Allows>(
+    owner: &mut Running<'_, P>,
+    count: u32,
+    stride: u32,
+    rounds: u32,
+) -> u32 {
+    let mut done = 0;
+    'rounds: for turn in 0..u64::MAX {
+        if done >= rounds || done >= LAST_GENERATION - 1 {
+            break;
+        }
+        let place = if count == 0 {
+            0
+        } else {
+            (turn % u64::from(count)) as u32
+        };
+        let (gref, dom) = target(place, stride);
+        if owner.revoke(gref) && owner.grant(gref, &page(dom)) {
+            done += 1;
+        }
+    }
+    done
+}
+
+// Maps an entry and unmaps it, so often, each time with as many tries as it takes.
+fn map_and_unmap<P: Allows>(domain: &mut Running<'_, P>, gref: GrantRef, rounds: u32) -> u32 {
+    let mut done = 0;
+    'rounds: for _ in 0..u64::MAX {
+        if done >= rounds {
+            break;
+        }
+        if domain.map_once(OWNER, gref) {
+            done += 1;
+        }
+    }
+    done
+}
+
+fn work<P: Allows>(worker: Worker<'_, P>, rounds: u32) -> u32 {
+    let Worker { mut domain, part } = worker;
+    match part {
+        Part::Maps(gref) => map_and_unmap(&mut domain, gref, rounds),
+        Part::Grants { count, stride } => revoke_and_grant(&mut domain, count, stride, rounds),
+    }
+}
+
+// The workers of a load, whose entries are granted.
+fn workers<'m, P: Allows>(
+    alloc: Global,
+    domains: Vec<Running<'m, P>>,
+    load: Load,
+    threads: u32,
+) -> Result<Vec<Worker<'m, P>>> {
+    let mut domains = domains;
+    if domains.len() != 2 + MOST {
+        bail!("not six domains");
+    }
+    let mut owner = domains.remove(0);
+    let stride = if load == Load::Apart { APART } else { ADJACENT };
+    let grants = load == Load::Grants;
+    let count = if grants {
+        threads.saturating_sub(1)
+    } else {
+        threads
+    };
+    if !grant_each(&mut owner, count.max(1), stride) {
+        bail!("an entry can't be granted");
+    }
+    let mut workers = Vec::new(alloc);
+    if grants {
+        let part = Part::Grants {
+            count: count.max(1),
+            stride,
+        };
+        workers.push(Worker {
+            domain: owner,
+            part,
+        })?;
+    }
+    'mappers: for place in 0..count {
+        let (gref, _) = target(place, stride);
+        if domains.len() > 1 {
+            let part = Part::Maps(gref);
+            workers.push(Worker {
+                domain: domains.remove(1),
+                part,
+            })?;
+        }
+    }
+    Ok(workers)
+}
+
+/// Runs a load in so many threads, each of which does so many rounds. Answers how many were done in all.
+pub(crate) fn run<R: Threads + Sync>(
+    rt: &R,
+    alloc: Global,
+    load: Load,
+    threads: usize,
+    rounds: u32,
+) -> Result<u64> {
+    if threads == 0 || threads > MOST {
+        bail!("threads: 1 to {MOST}");
+    }
+    let rights = AllowTable::compile(alloc, &Policy::parse(alloc, POLICY)?)?;
+    let (monitor, domains) = Monitor::new(alloc, six_domains(alloc)?, rights)?;
+    let domains = all_running(alloc, &monitor, domains)?;
+    let workers = workers(alloc, domains, load, threads as u32)?;
+    let done = thread::map_vec(rt, workers, &|worker| work(worker, rounds))?;
+    Ok(
+        done.iter()
+            .fold(0, |all, &more| all.saturating_add(u64::from(more))),
+    )
+}

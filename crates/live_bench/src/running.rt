@@ -1,0 +1,97 @@
+//! Domains beside the monitor that they came with.
+ghost use Rattle.std.specs.Prelude.{All};
+ghost use Rattle.gt_live.specs.Domains.{IsOf};
+
+use gt_entry::Entry;
+use gt_live::{Domain, Monitor};
+use gt_types::{Allows, DomId, GrantRef, Memory};
+use std::alloc::Global;
+use std::marker::Model;
+
+/// A domain beside its monitor, which leaves the run when it is let go. So a thread can take it.
+pub struct Running<'m, P: Allows> {
+    monitor: &'m Monitor<P>,
+    domain: Domain,
+}
+
+impl<'m, P: Allows> Model for Running<'m, P> {
+    ghost use Rattle.gt_types.specs.declared.DomId.{DomId};
+    ghost use Rattle.gt_live.specs.Domains.{IsOf};
+
+    ghost Value = { DomId };
+
+    ghost view = { λ r. r.domain.seat.dom };
+
+    ghost invariant = { λ r. IsOf P.may r.monitor.now r.domain };
+}
+
+impl<'m, P: Allows> Drop for Running<'m, P> {
+    fn drop(self) {
+        let Running { monitor, domain } = self;
+        let _ = domain.finish(monitor);
+    }
+}
+
+impl<'m, P: Allows> Running<'m, P> {
+    ghost use Rattle.gt_live.specs.Domains.{IsOf};
+
+    /// The domain beside its monitor.
+    pub fn new(monitor: &'m Monitor<P>, domain: Domain) -> Self
+        requires { IsOf P.may monitor.now domain }
+    {
+        Running { monitor, domain }
+    }
+
+    /// Publishes an entry, and answers whether it did.
+    pub fn grant(&mut self, gref: GrantRef, entry: &Entry) -> bool {
+        self.domain.grant(self.monitor, gref, entry).is_ok()
+    }
+
+    /// Revokes an entry, and answers whether it did.
+    pub fn revoke(&mut self, gref: GrantRef) -> bool {
+        self.domain.revoke(self.monitor, gref).is_ok()
+    }
+
+    /// Tries to map an entry for reading, and unmaps it again. Answers whether it did both.
+    pub fn map_once(&mut self, dom: DomId, gref: GrantRef) -> bool {
+        match self.domain.map(self.monitor, dom, gref, READ_ONLY) {
+            Ok(handle) => self.domain.unmap(self.monitor, handle).is_ok(),
+            Err(_) => false,
+        }
+    }
+}
+
+// The flags of a map for reading.
+const READ_ONLY: u32 = 6;
+
+// Lets domains leave that do nothing.
+fn finish_all<P: Allows>(monitor: &Monitor<P>, domains: Vec<Domain>)
+    requires { All (λ d. IsOf P.may monitor.now d) domains.items }
+{
+    let mut rest = domains.into_iter();
+    'rest: while let Some(domain) = rest.next() {
+        let _ = domain.finish(monitor);
+    }
+    rest.destroy_empty();
+}
+
+/// Each domain beside its monitor.
+pub fn all_running<'m, P: Allows>(
+    alloc: Global,
+    monitor: &'m Monitor<P>,
+    domains: Vec<Domain>,
+) -> Result<Vec<Running<'m, P>>, Memory>
+    requires { All (λ d. IsOf P.may monitor.now d) domains.items }
+{
+    let Ok(room) = Vec::with_capacity(alloc, domains.len()) else {
+        finish_all(monitor, domains);
+        return Err(Memory);
+    };
+    let mut all: Vec<Running<'m, P>> = room;
+    let mut rest = domains.into_iter();
+    'rest: while let Some(domain) = rest.next() {
+        all.push_reserved(Running::new(monitor, domain));
+    }
+    rest.destroy_empty();
+    Ok(all)
+}
