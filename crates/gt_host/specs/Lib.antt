@@ -1,4 +1,5 @@
 pub mod Auditing
+pub mod Copying
 pub mod Faults
 pub mod Labels
 pub mod Naming

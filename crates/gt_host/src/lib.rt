@@ -17,6 +17,7 @@
 
 mod answers;
 mod audit;
+mod copying;
 mod fault;
 mod kept;
 mod labels;
