@@ -1,3 +1,5 @@
+pub mod AuditLemmas
+pub mod EventLemmas
 pub mod LabelLemmas
 pub mod LineLemmas
 pub mod OpenLemmas

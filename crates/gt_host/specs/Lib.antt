@@ -1,3 +1,4 @@
+pub mod Auditing
 pub mod Copying
 pub mod Faults
 pub mod Labels
@@ -5,6 +6,7 @@ pub mod Naming
 pub mod OpenCalls
 pub mod Playing
 pub mod Printing
+pub mod Recording
 pub mod Rights
 pub mod Runs
 pub mod Showing

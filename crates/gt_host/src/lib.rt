@@ -16,6 +16,7 @@
 #![tactic(auto)]
 
 mod answers;
+mod audit;
 mod copying;
 mod fault;
 mod kept;
