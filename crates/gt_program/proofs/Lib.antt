@@ -1,2 +1,5 @@
+pub mod Audited
+pub mod Bare
 pub mod Line
 pub mod Obeyed
+pub mod Words

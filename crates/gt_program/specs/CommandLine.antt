@@ -1,41 +1,64 @@
 -- The command line, and what its words ask for.
-use Rattle.std.specs.Prelude.{◌≡◌, ◌==◌, ◌&&◌, true, not, ℕ, List, [], ◌∷◌, Option, Some, None, Result, MatchResult, codes, option_map, if◌then◌else◌, is_some, slice_get}
+use Rattle.std.specs.Prelude.{◌≡◌, ◌==◌, ◌&&◌, Bool, true, false, not, ℕ, List, [], ◌∷◌, Option, Some, None, Result, MatchResult, codes, option_map, if◌then◌else◌, is_some, slice_get}
 use Rattle.std.specs.Str.{bytes_eq, chars}
+use Rattle.std.specs.Option.{option_map_or}
 use Rattle.clap.specs.Lexer.{long_of, short_of}
 use Rattle.clap.specs.Kinds.{HasKind, Kinds}
 use Rattle.clap.specs.Words.{App, Row, Rule, Text, new_app, new_rule, with_rule, with_subcommand, first_of, rows_of, found_of}
+use Rattle.clap.specs.declared.builder.action.ArgAction.TheVariants.{SetTrue}
 use Rattle.clap.specs.Simple.{on_top}
 use Rattle.clap.specs.declared.error.Error.{Error}
-use Rattle.clap.specs.declared.error.kind.ErrorKind.TheVariants.{DisplayHelp, InvalidSubcommand, MissingSubcommand, TooManyValues, UnknownArgument}
+use Rattle.clap.specs.declared.error.kind.ErrorKind.TheVariants.{ArgumentConflict, DisplayHelp, DisplayVersion, InvalidSubcommand, MissingSubcommand, TooManyValues, UnknownArgument}
 use Rattle.clap.specs.declared.parser.matches.ArgMatches.{ArgMatches}
 use Rattle.gt_program.specs.declared.plan.Invocation.{Invocation}
 use Rattle.gt_program.specs.declared.plan.Mode.{Mode}
-use Rattle.gt_program.specs.declared.plan.Mode.TheVariants.{Play, Policy}
+use Rattle.gt_program.specs.declared.plan.Mode.TheVariants.{Play, Policy, Rules}
 
 -- [FILE] (own)
 abbrev pub file_rule : Rule
 file_rule = record (new_rule (codes "file")) { value_names = 1 }
 
+-- [--audit] (own)
+abbrev pub audit_rule : Rule
+audit_rule = record (new_rule (codes "audit")) { long = Some (codes "audit"); action = Some SetTrue }
+
 -- the names of the commands (own)
 abbrev pub command_name : Mode → Text
 command_name Play = codes "play"
 command_name Policy = codes "policy"
+command_name Rules = codes "rules"
+
+-- the command takes the flag `--audit` (own)
+abbrev pub takes_audit : Mode → Bool
+takes_audit Play = true
+takes_audit Policy = false
+takes_audit Rules = false
 
 -- COMMAND [FILE] (own)
 abbrev pub command_app : Text → App
 command_app name = with_rule (new_app name) file_rule
 
--- gthost with no command (own)
-abbrev pub bare_app : App
-bare_app = on_top (λ s. record s { subcommand_required = true; disable_help_subcommand = true }) (new_app (codes "gthost"))
+-- COMMAND [FILE] [--audit] (own)
+abbrev pub audited_app : Text → App
+audited_app name = with_rule (command_app name) audit_rule
 
--- gthost COMMAND, of two commands; there is no command `help` (own)
+-- gthost with no command, and with a version (own)
+abbrev pub bare_app : App
+bare_app = on_top (λ s. record s { has_version = true; subcommand_required = true; disable_help_subcommand = true })
+    (new_app (codes "gthost"))
+
+-- gthost COMMAND, of three commands; there is no command `help` (own)
 abbrev pub gthost_app : App
-gthost_app = with_subcommand (with_subcommand bare_app (command_app (codes "play")).top) (command_app (codes "policy")).top
+gthost_app = with_subcommand (with_subcommand (with_subcommand bare_app (audited_app (codes "play")).top)
+    (command_app (codes "policy")).top) (command_app (codes "rules")).top
+
+-- the flag is set by these rows (own)
+abbrev pub is_set : Text → List Row → Bool
+is_set id rows = option_map_or (λ text. bytes_eq text (codes "true")) (first_of id rows) false
 
 -- the plan has the values of these rows (own)
 abbrev pub Reads : Invocation → List Row → Type 0
-Reads p rows = option_map (λ f. f.now) p.file ≡ first_of (codes "file") rows
+Reads p rows = (option_map (λ f. f.now) p.file ≡ first_of (codes "file") rows) × (p.audit ≡ is_set (codes "audit") rows)
 
 -- the plan is to do this, with what was matched (own)
 abbrev pub IsRead : Mode → Invocation → ArgMatches → Type 0
@@ -48,20 +71,25 @@ IsPlanOf p (Some (name, rows)) = (name ≡ command_name p.mode) × Reads p rows
 
 -- what a word is
 
--- the mark `--`, behind which no word is a flag; a flag that asks for help; another flag; or a plain word (own)
+-- the mark `--`, behind which no word is a flag; a flag that asks for help, or for the version; `--audit`; another flag; or a plain word (own)
 pub data Word : Type 0 where
   mark : Word
   help : Word
+  version : Word
+  audit : Word
   flag : Word
   plain : Word
 
--- `--help` asks for help, and `--help=VALUE` doesn't (own)
+-- `--help`, `--version` and `--audit`, where no value is attached (own)
 abbrev pub long_flag : Text → Option Text → Word
-long_flag name value = if bytes_eq (codes "help") name && not (is_some value) then help else flag
+long_flag name value = if is_some value then flag
+    else (if bytes_eq (codes "help") name then help
+    else (if bytes_eq (codes "version") name then version
+    else (if bytes_eq (codes "audit") name then audit else flag)))
 
--- short flags ask for help where the first is `h` (own)
+-- short flags ask for help where the first is `h`, for the version where it is `V` (own)
 abbrev pub short_flag : Option ℕ → Word
-short_flag (Some letter) = if 104 == letter then help else flag
+short_flag (Some letter) = if 104 == letter then help else (if 86 == letter then version else flag)
 short_flag None = plain
 
 -- a word, by the long flag or the short flags that the parser takes it for (own)
@@ -76,56 +104,72 @@ word_of word = if bytes_eq word (codes "--") then mark else word_with (long_of w
 
 -- what the words ask for
 
--- to do this with the text in the FILE, or on standard input; help; or nothing that the program does (own)
+-- to do this, audited or not, with the text in the FILE, or on standard input; help; the version; or nothing that the program does (own)
 pub data Request : Type 0 where
-  to_do : Mode → Option Text → Request
+  to_do : Mode → Bool → Option Text → Request
   for_help : Request
+  for_version : Request
   nothing : Request
 
 -- behind the mark each word is a FILE, of which there is one at most (own)
-abbrev pub asked_behind_mark : Mode → Option Text → List Text → Request
-asked_behind_mark mode file [] = to_do mode file
-asked_behind_mark mode None (word ∷ rest) = asked_behind_mark mode (Some word) rest
-asked_behind_mark mode (Some file) (word ∷ rest) = nothing
+abbrev pub asked_behind_mark : Mode → Bool → Option Text → List Text → Request
+asked_behind_mark mode audited file [] = to_do mode audited file
+asked_behind_mark mode audited None (word ∷ rest) = asked_behind_mark mode audited (Some word) rest
+asked_behind_mark mode audited (Some file) (word ∷ rest) = nothing
 
--- what a word behind a command asks for: `later` is what the words behind it ask for where it is the FILE (own)
-abbrev pub asked_by : Mode → Word → Option Text → List Text → Request → Request
-asked_by mode mark file rest later = asked_behind_mark mode file rest
-asked_by mode help file rest later = for_help
-asked_by mode flag file rest later = nothing
-asked_by mode plain None rest later = later
-asked_by mode plain (Some file) rest later = nothing
+-- `--audit` is given to a command that takes it, once: `later` is what the words behind it ask for (own)
+abbrev pub asked_by_audit : Mode → Bool → Request → Request
+asked_by_audit mode audited later = if takes_audit mode && not audited then later else nothing
 
--- behind a command, with the FILE so far (own)
-abbrev pub asked_of : Mode → Option Text → List Text → Request
-asked_of mode file [] = to_do mode file
-asked_of mode file (word ∷ rest) = asked_by mode (word_of word) file rest (asked_of mode (Some word) rest)
+-- what a word behind a command asks for: `filed` is what the words behind it ask for where it is the FILE, and `noted` where it is `--audit` (own)
+abbrev pub asked_by : Mode → Word → Bool → Option Text → List Text → Request → Request → Request
+asked_by mode mark audited file rest filed noted = asked_behind_mark mode audited file rest
+asked_by mode help audited file rest filed noted = for_help
+asked_by mode version audited file rest filed noted = nothing
+asked_by mode audit audited file rest filed noted = asked_by_audit mode audited noted
+asked_by mode flag audited file rest filed noted = nothing
+asked_by mode plain audited None rest filed noted = filed
+asked_by mode plain audited (Some file) rest filed noted = nothing
+
+-- behind a command, with `--audit` and the FILE so far (own)
+abbrev pub asked_of : Mode → Bool → Option Text → List Text → Request
+asked_of mode audited file [] = to_do mode audited file
+asked_of mode audited file (word ∷ rest) = asked_by mode (word_of word) audited file rest
+    (asked_of mode audited (Some word) rest) (asked_of mode true file rest)
 
 -- what a first word that is no command asks for (own)
 abbrev pub asked_of_none : Word → Request
 asked_of_none help = for_help
+asked_of_none version = for_version
 asked_of_none _ = nothing
 
--- the words behind the program's name: a command and what is behind it, or a flag that asks for help (own)
+-- the words behind the program's name: a command and what is behind it, or a flag that asks for help or for the version (own)
 abbrev pub asked : List Text → Request
 asked [] = nothing
-asked (word ∷ rest) = if bytes_eq (codes "play") word then asked_of Play None rest
-    else (if bytes_eq (codes "policy") word then asked_of Policy None rest else asked_of_none (word_of word))
+asked (word ∷ rest) = if bytes_eq (codes "play") word then asked_of Play false None rest
+    else (if bytes_eq (codes "policy") word then asked_of Policy false None rest
+    else (if bytes_eq (codes "rules") word then asked_of Rules false None rest else asked_of_none (word_of word)))
 
 -- what is answered
 
 -- the kinds of error that answer it, beside want of memory (own)
 abbrev pub refusals : Request → Kinds
-refusals (to_do mode file) = []
+refusals (to_do mode audited file) = []
 refusals for_help = DisplayHelp ∷ []
-refusals nothing = UnknownArgument ∷ InvalidSubcommand ∷ MissingSubcommand ∷ TooManyValues ∷ []
+refusals for_version = DisplayVersion ∷ []
+refusals nothing = UnknownArgument ∷ InvalidSubcommand ∷ MissingSubcommand ∷ TooManyValues ∷ ArgumentConflict ∷ []
 
 -- the plan is what was asked for (own)
 abbrev pub IsPlanFor : Request → Invocation → Type 0
-IsPlanFor (to_do mode file) p = (p.mode ≡ mode) × (option_map (λ f. f.now) p.file ≡ file)
+IsPlanFor (to_do mode audited file) p = (p.mode ≡ mode) × (option_map (λ f. f.now) p.file ≡ file) × (p.audit ≡ audited)
 IsPlanFor for_help p = ⊥
+IsPlanFor for_version p = ⊥
 IsPlanFor nothing p = ⊥
 
 -- the plan, or an error that fits what was asked for; a plan is refused for want of memory alone (own)
 abbrev pub IsAnswerTo : Request → Result Invocation Error → Type 0
 IsAnswerTo request r = MatchResult r (IsPlanFor request) (HasKind (refusals request))
+
+-- what a plan asks for (own)
+abbrev pub asked_by_plan : Invocation → Request
+asked_by_plan p = to_do p.mode p.audit (option_map (λ f. f.now) p.file)

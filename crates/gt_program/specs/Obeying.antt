@@ -9,11 +9,12 @@ use Rattle.gt_host.specs.Faults.{play_fault_text}
 use Rattle.gt_host.specs.Playing.{Played}
 use Rattle.gt_listing.specs.Faults.{listing_fault_text}
 use Rattle.gt_listing.specs.Writing.{Listed}
-use Rattle.gt_program.specs.CommandLine.{Request, to_do, for_help, nothing}
+use Rattle.gt_program.specs.CommandLine.{Request, to_do, for_help, for_version, nothing}
 use Rattle.gt_program.specs.declared.failure.Failure.{Failure}
 use Rattle.gt_program.specs.declared.failure.Failure.TheVariants as failures
-use Rattle.gt_program.specs.declared.plan.Mode.{Mode}
-use Rattle.gt_program.specs.declared.plan.Mode.TheVariants.{Play, Policy}
+use Rattle.gt_program.specs.declared.plan.Mode.TheVariants as modes
+use Rattle.gt_program.specs.declared.obeying.Work.{Work}
+use Rattle.gt_program.specs.declared.obeying.Work.TheVariants.{Play, List as ListPolicy}
 
 -- the line for a failure (own)
 abbrev pub failure_text : Failure → List ℕ
@@ -29,19 +30,19 @@ status_of (Ok done) = 0
 status_of (Err failure) = 1
 
 -- what a command wrote that ended so, where these are the bytes of its text (own)
-abbrev pub Performs : Mode → List ℕ → Option (List ℕ) → Option (List ℕ) → Result (Unit {0}) Failure → Type 0
-Performs Play input old new (Ok done) = Played (Tells input) false old new (Ok done)
-Performs Play input old new (Err (failures.Play fault)) = Played (Tells input) false old new (Err fault)
-Performs Play input old new (Err (failures.List fault)) = ⊥
-Performs Play input old new (Err (failures.File fault)) = ⊥
-Performs Play input old new (Err (failures.Help fault)) = ⊥
-Performs Play input old new (Err failures.Memory) = ⊥
-Performs Policy input old new (Ok done) = Listed input old new (Ok done)
-Performs Policy input old new (Err (failures.List fault)) = Listed input old new (Err fault)
-Performs Policy input old new (Err (failures.Play fault)) = ⊥
-Performs Policy input old new (Err (failures.File fault)) = ⊥
-Performs Policy input old new (Err (failures.Help fault)) = ⊥
-Performs Policy input old new (Err failures.Memory) = ⊥
+abbrev pub Performs : Work → List ℕ → Option (List ℕ) → Option (List ℕ) → Result (Unit {0}) Failure → Type 0
+Performs (Play audited) input old new (Ok done) = Played (Tells input) audited old new (Ok done)
+Performs (Play audited) input old new (Err (failures.Play fault)) = Played (Tells input) audited old new (Err fault)
+Performs (Play audited) input old new (Err (failures.List fault)) = ⊥
+Performs (Play audited) input old new (Err (failures.File fault)) = ⊥
+Performs (Play audited) input old new (Err (failures.Help fault)) = ⊥
+Performs (Play audited) input old new (Err failures.Memory) = ⊥
+Performs ListPolicy input old new (Ok done) = Listed input old new (Ok done)
+Performs ListPolicy input old new (Err (failures.List fault)) = Listed input old new (Err fault)
+Performs ListPolicy input old new (Err (failures.Play fault)) = ⊥
+Performs ListPolicy input old new (Err (failures.File fault)) = ⊥
+Performs ListPolicy input old new (Err (failures.Help fault)) = ⊥
+Performs ListPolicy input old new (Err failures.Memory) = ⊥
 
 -- a file that was not opened: nothing was written (own)
 abbrev pub IsUnopened : Option (List ℕ) → Option (List ℕ) → Result (Unit {0}) Failure → Type 0
@@ -53,24 +54,33 @@ IsUnopened old new (Err (failures.Help fault)) = ⊥
 IsUnopened old new (Err failures.Memory) = ⊥
 
 -- the command did its work on these bytes, or could not open the file (own)
-abbrev pub Runs : Mode → List ℕ → Option (List ℕ) → Option (List ℕ) → Result (Unit {0}) Failure → Type 0
-Runs mode input old new r = Performs mode input old new r ⊎ IsUnopened old new r
+abbrev pub Runs : Work → List ℕ → Option (List ℕ) → Option (List ℕ) → Result (Unit {0}) Failure → Type 0
+Runs work input old new r = Performs work input old new r ⊎ IsUnopened old new r
 
 -- the bytes that are known of the file that is named, or of the standard input where none is (own)
 abbrev pub known_text : (List ℕ → Option (List ℕ)) → Option (List ℕ) → Option (List ℕ) → Option (List ℕ)
 known_text file input None = input
 known_text file input (Some name) = file name
 
--- the exit status of a command line that is not obeyed: 1 for want of memory, 0 or 1 for help, as it was written or not, and else 2 (own)
+-- the exit status of a command line that is not obeyed: 1 for want of memory, 0 or 1 for help and the version, as they were written or not, and else 2 (own)
 pub record FitsKind (kind : ErrorKind) (status : ℕ) : Type 0 where
   pub memory : kind ≡ OutOfMemory → status ≡ 1
   pub help : kind ≡ DisplayHelp → status ≤ 1
+  pub version : kind ≡ DisplayVersion → status ≤ 1
   pub wrong : (kind ≡ OutOfMemory → ⊥) → (kind ≡ DisplayHelp → ⊥) → (kind ≡ DisplayVersion → ⊥) → status ≡ 2
 
--- The exit status fits what was asked for, and what was written does: work that was done, help, or nothing for words that
--- ask for nothing, whose status is 2. Want of memory is 1 for all of them. (own)
+-- the exit status fits what the work did on the text that is named, where its bytes are known; for want of memory it is 1 (own)
+abbrev pub Works : Work → Option (List ℕ) → Option (List ℕ) → Option (List ℕ) → ℕ → Type 0
+Works work known old new status =
+    IfSome known (λ bytes. (r : Result (Unit {0}) Failure) × (status ≡ status_of r) × (Runs work bytes old new r ⊎ (r ≡ Err failures.Memory)))
+
+-- The exit status fits what was asked for, and what was written does: work that was done, the rules, where the status is 2
+-- for the name of none, help, the version, or nothing for words that ask for nothing, whose status is 2. Want of memory is
+-- 1 for all of them. (own)
 abbrev pub Obeys : Request → (List ℕ → Option (List ℕ)) → Option (List ℕ) → Option (List ℕ) → Option (List ℕ) → ℕ → Type 0
-Obeys (to_do mode name) file input old new status =
-    IfSome (known_text file input name) (λ bytes. (r : Result (Unit {0}) Failure) × (status ≡ status_of r) × (Runs mode bytes old new r ⊎ (r ≡ Err failures.Memory)))
+Obeys (to_do modes.Play audited name) file input old new status = Works (Play audited) (known_text file input name) old new status
+Obeys (to_do modes.Policy audited name) file input old new status = Works ListPolicy (known_text file input name) old new status
+Obeys (to_do modes.Rules audited name) file input old new status = status ≤ 2
 Obeys for_help file input old new status = status ≤ 1
+Obeys for_version file input old new status = status ≤ 1
 Obeys nothing file input old new status = (status ≡ 2) ⊎ (status ≡ 1)

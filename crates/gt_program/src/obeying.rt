@@ -3,11 +3,12 @@ ghost use Rattle.std.specs.Prelude.{◌≡◌, ◌≤◌, ℕ, List, IfSome, OnO
 ghost use Rattle.std.specs.Option.{option_map};
 ghost use Rattle.clap.specs.Words.{kind_of};
 ghost use Rattle.gt_streams.specs.Streams.{OfInput};
-ghost use Rattle.gt_program.specs.CommandLine.{asked};
+ghost use Rattle.gt_program.specs.CommandLine.{asked, asked_by_plan};
 ghost use Rattle.gt_program.specs.Obeying.{status_of, known_text, FitsKind, Obeys, Performs, Runs};
 
 use crate::failure::{Failure, exit_status};
 use crate::plan::{Invocation, Mode, plan};
+use crate::rules::tell_rules;
 use crate::texts::Texts;
 use clap::Error;
 use clap::error::ErrorKind;
@@ -16,18 +17,27 @@ use gt_streams::WriteFault;
 use std::alloc::Global;
 use std::io::{Read, Write};
 
+/// What is done with a text.
+#[derive(Clone, Copy)]
+pub enum Work {
+    /// The script is run on the core, with its audit lines or without.
+    Play { audit: bool },
+    /// What the policy allows is listed.
+    List,
+}
+
 // Plays the script of a reader, or lists its policy.
 fn perform<R: Read, W: Write>(
     alloc: Global,
-    mode: Mode,
+    work: Work,
     reader: &mut R,
     out: &mut W,
 ) -> Result<(), Failure>
-    ensures { OfInput (R.remaining reader.old) (λ input. Performs mode input (W.contents out.old) (W.contents out.new) result) }
+    ensures { OfInput (R.remaining reader.old) (λ input. Performs work input (W.contents out.old) (W.contents out.new) result) }
 {
-    match mode {
-        Mode::Play => gt_host::play(alloc, reader, out, false).map_err(Failure::Play),
-        Mode::Policy => policy(alloc, reader, out).map_err(Failure::List),
+    match work {
+        Work::Play { audit } => gt_host::play(alloc, reader, out, audit).map_err(Failure::Play),
+        Work::List => policy(alloc, reader, out).map_err(Failure::List),
     }
 }
 
@@ -35,17 +45,18 @@ fn perform<R: Read, W: Write>(
 fn perform_on<T: Texts, W: Write>(
     alloc: Global,
     texts: &T,
-    invocation: &Invocation,
+    work: Work,
+    name: Option<&str>,
     out: &mut W,
 ) -> Result<(), Failure>
-    ensures { IfSome (known_text (T.file texts.now) (T.input texts.now) (option_map (λ f. f.now) invocation.now.file))
-        (λ input. Runs invocation.now.mode input (W.contents out.old) (W.contents out.new) result) }
+    ensures { IfSome (known_text (T.file texts.now) (T.input texts.now) (option_map (λ f. f.now) name.entry))
+        (λ input. Runs work input (W.contents out.old) (W.contents out.new) result) }
 {
-    let Some(name) = invocation.file else {
-        return perform(alloc, invocation.mode, &mut texts.input(), out);
+    let Some(name) = name else {
+        return perform(alloc, work, &mut texts.input(), out);
     };
     match texts.open(name) {
-        Ok(mut file) => perform(alloc, invocation.mode, &mut file, out),
+        Ok(mut file) => perform(alloc, work, &mut file, out),
         Err(fault) => Err(Failure::File(fault)),
     }
 }
@@ -61,7 +72,7 @@ pub(crate) fn report<E: Eprint>(err: &E, outcome: Result<(), Failure>) -> u8
     status
 }
 
-// Writes the help that was asked for.
+// Writes the help or the version that was asked for.
 fn show_help<W: Write, E: Eprint>(out: &mut W, err: &E, help: &Error) -> u8
     ensures { result ≤ 1 }
 {
@@ -71,7 +82,7 @@ fn show_help<W: Write, E: Eprint>(out: &mut W, err: &E, help: &Error) -> u8
     }
 }
 
-// Tells why a command line is not obeyed, or writes the help that it asks for.
+// Tells why a command line is not obeyed, or writes the help or the version that it asks for.
 fn refuse<W: Write, E: Eprint>(out: &mut W, err: &E, error: &Error) -> u8
     ensures { FitsKind (kind_of error.now) result }
 {
@@ -85,10 +96,29 @@ fn refuse<W: Write, E: Eprint>(out: &mut W, err: &E, error: &Error) -> u8
     2
 }
 
+// Does what the plan says.
+fn follow<T: Texts, W: Write, E: Eprint>(
+    alloc: Global,
+    texts: &T,
+    invocation: &Invocation,
+    out: &mut W,
+    err: &E,
+) -> u8
+    ensures { Obeys (asked_by_plan invocation.now) (T.file texts.now) (T.input texts.now) (W.contents out.old) (W.contents out.new) result }
+{
+    let audit = invocation.audit;
+    let work = match invocation.mode {
+        Mode::Play => Work::Play { audit },
+        Mode::Policy => Work::List,
+        Mode::Rules => return tell_rules(out, err, invocation.file),
+    };
+    report(err, perform_on(alloc, texts, work, invocation.file, out))
+}
+
 /// Does what the words of a command line ask for, the program's name first, and answers the exit
-/// status. Texts and help go to `out`; a fault goes to `err`, in one line.
+/// status. Texts, rules, help and version go to `out`; a fault goes to `err`, in one line.
 ///
-/// The status is 0 for success, 1 for a fault of script, policy, file or memory or for help that was not
+/// The status is 0 for success, 1 for a fault of script, policy, file or memory or for a text that was not
 /// written, and 2 where the words ask for nothing that the program does.
 pub fn obey<T: Texts, W: Write, E: Eprint>(
     alloc: Global,
@@ -100,7 +130,7 @@ pub fn obey<T: Texts, W: Write, E: Eprint>(
     ensures { Obeys (asked (drop 1 (map string_bytes words.now))) (T.file texts.now) (T.input texts.now) (W.contents out.old) (W.contents out.new) result }
 {
     match plan(alloc, words) {
-        Ok(invocation) => report(err, perform_on(alloc, texts, &invocation, out)),
+        Ok(invocation) => follow(alloc, texts, &invocation, out, err),
         Err(error) => refuse(out, err, &error),
     }
 }

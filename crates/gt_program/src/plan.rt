@@ -1,10 +1,10 @@
 //! The command line.
 ghost use Rattle.std.specs.Prelude.{◌≡◌, IfOk, false, map, drop, string_bytes, codes};
-ghost use Rattle.clap.specs.Words.{subcommand_of, app_of};
+ghost use Rattle.clap.specs.Words.{subcommand_of, app_of, rows_of, found_of};
 ghost use Rattle.clap.specs.declared.builder.command.Command.TheViews.{out-Command as fields_of};
-ghost use Rattle.gt_program.specs.CommandLine.{command_app, gthost_app, asked, IsAnswerTo, IsPlanOf, IsRead};
+ghost use Rattle.gt_program.specs.CommandLine.{audited_app, bare_app, command_app, gthost_app, asked, is_set, IsAnswerTo, IsPlanOf, IsRead};
 
-use clap::{Arg, ArgMatches, Command, Error};
+use clap::{Arg, ArgAction, ArgMatches, Command, Error};
 use std::alloc::{AllocError, Global};
 
 /// What the program is to do.
@@ -14,25 +14,47 @@ pub enum Mode {
     Play,
     /// List what a policy allows.
     Policy,
+    /// Tell the rules by which calls are refused.
+    Rules,
 }
 
 /// What a command line asks for.
 #[derive(Debug, Drop)]
 pub struct Invocation<'a> {
     pub mode: Mode,
-    /// The file with the script or the policy; standard input where there is none.
+    /// The audit lines are wanted too.
+    pub audit: bool,
+    /// The file with the script or the policy, and the standard input where there is none; or the rule, and all
+    /// rules where there is none.
     pub file: Option<&'a str>,
 }
 
+const VERSION: &str = "1.0.0
+for rattle-kit-13b logic dac8208d650f15bf
+A run has 1 to 16 domains, each with 1 to 64 frames of 4096 bytes and a table of 1 to 4 frames.
+A policy has at most 1048576 bytes, 256 types, 256 attributes and 65536 allow statements; a script has at most 1048576 bytes.";
+
+const MORE: &str =
+    "A script says what the policy allows, which domains there are and what they call.
+An answer such as `N19 -1` names the rule that refused the call, and its status: see `gthost rules`.
+The exit status is 0 for success, 1 for a fault of script, policy, file or memory, and 2 for a wrong command line.
+Try: gthost play examples/first.gt
+and: gthost policy examples/split_driver.te";
+
 fn play_command<'a>(alloc: Global) -> Result<Command<'a>, AllocError>
-    ensures { IfOk result (λ c. (app_of c ≡ command_app (codes "play")) × ((fields_of c).has_globals ≡ false)) }
+    ensures { IfOk result (λ c. (app_of c ≡ audited_app (codes "play")) × ((fields_of c).has_globals ≡ false)) }
 {
     let file = Arg::new(alloc, "file")
         .value_name("FILE")
         .help("The script; standard input where it is left out");
+    let audit = Arg::new(alloc, "audit")
+        .long("audit")
+        .action(ArgAction::SetTrue)
+        .help("Prints a line for each hypercall too, behind all others");
     Command::new(alloc, "play")
         .about("Runs a script line by line, and prints a line for each answer")
-        .arg(file)
+        .arg(file)?
+        .arg(audit)
 }
 
 fn policy_command<'a>(alloc: Global) -> Result<Command<'a>, AllocError>
@@ -48,20 +70,51 @@ fn policy_command<'a>(alloc: Global) -> Result<Command<'a>, AllocError>
         .arg(file)
 }
 
+fn rules_command<'a>(alloc: Global) -> Result<Command<'a>, AllocError>
+    ensures { IfOk result (λ c. (app_of c ≡ command_app (codes "rules")) × ((fields_of c).has_globals ≡ false)) }
+{
+    let rule = Arg::new(alloc, "file")
+        .value_name("RULE")
+        .help("One rule, as N19; all of them where it is left out");
+    Command::new(alloc, "rules")
+        .about(
+            "Lists the rules by which calls are refused: its status, why, and what the caller may do",
+        )
+        .arg(rule)
+}
+
+// The program without its commands.
+fn bare_command<'a>(alloc: Global) -> Command<'a>
+    ensures { (app_of result ≡ bare_app) × ((fields_of result).has_globals ≡ false) }
+{
+    Command::new(alloc, "gthost")
+        .about("Page sharing between domains by grant tables, decided by a policy and proved")
+        .version(VERSION)
+        .after_help(MORE)
+        .subcommand_required(true)
+        .disable_help_subcommand(true)
+}
+
 fn gthost_command<'a>(alloc: Global) -> Result<Command<'a>, AllocError>
     ensures { IfOk result (λ c. app_of c ≡ gthost_app) }
 {
     let play = play_command(alloc)?;
     let policy = policy_command(alloc)?;
-    Command::new(alloc, "gthost")
-        .about("Page sharing between domains by grant tables, decided by a policy and proved")
-        .after_help(
-            "A script says what the policy allows, which domains there are and what they call.\nTry: gthost play examples/first.gt\nand: gthost policy examples/split_driver.te",
-        )
-        .subcommand_required(true)
-        .disable_help_subcommand(true)
+    let rules = rules_command(alloc)?;
+    bare_command(alloc)
         .subcommand(play)?
-        .subcommand(policy)
+        .subcommand(policy)?
+        .subcommand(rules)
+}
+
+// Whether a flag was given.
+fn is_set(matches: &ArgMatches<'_>, id: &str) -> bool
+    ensures { result ≡ is_set id.now (rows_of (found_of matches.now)) }
+{
+    match matches.get_str(id) {
+        Some(text) => text == "true",
+        None => false,
+    }
 }
 
 fn plan_of<'a>(mode: Mode, matches: &ArgMatches<'a>) -> Invocation<'a>
@@ -69,11 +122,12 @@ fn plan_of<'a>(mode: Mode, matches: &ArgMatches<'a>) -> Invocation<'a>
 {
     Invocation {
         mode,
+        audit: is_set(matches, "audit"),
         file: matches.get_str("file"),
     }
 }
 
-/// What the words of a command line, the program's name first, ask for: a command and its FILE.
+/// What the words of a command line, the program's name first, ask for: a command, its FILE, and whether it is audited.
 /// A line that asks for a command is refused for want of memory alone. Any other error prints as
 /// the help that was asked for, or as the text for standard error.
 pub fn plan<'a>(alloc: Global, words: &'a [String]) -> Result<Invocation<'a>, Error>
@@ -85,8 +139,11 @@ pub fn plan<'a>(alloc: Global, words: &'a [String]) -> Result<Invocation<'a>, Er
     if let Some(matches) = matches.subcommand_matches("play") {
         return Ok(plan_of(Mode::Play, matches));
     }
-    match matches.subcommand_matches("policy") {
-        Some(matches) => Ok(plan_of(Mode::Policy, matches)),
+    if let Some(matches) = matches.subcommand_matches("policy") {
+        return Ok(plan_of(Mode::Policy, matches));
+    }
+    match matches.subcommand_matches("rules") {
+        Some(matches) => Ok(plan_of(Mode::Rules, matches)),
         None => unreachable!(),
     }
 }

@@ -1,12 +1,13 @@
-use Rattle.std.proofs.Common.{◌≡◌, ◌∙◌, rules, ap, subst, sym, map, drop, List, [], Option, Some, None, IsSome, codes, true≢false}
+use Rattle.std.proofs.Common.{◌≡◌, ◌∙◌, rules, ap, subst, sym, map, drop, List, [], Option, Some, None, IsSome, codes, true, true≢false}
 use Rattle.std.specs.Prelude.{string_bytes}
 use Rattle.clap.specs.Kinds.{HasKind, Kinds}
 use Rattle.clap.specs.Faults.{fault_of, is_simple_and_free}
 use Rattle.clap.specs.Words.{Text, App, app_of, is_simple, subcommand_of, subcommand_rows_of, subcommand_name_of}
 use Rattle.clap.proofs.FaultLemmas.{failed_up}
 use Rattle.gt_program.specs.CommandLine.{gthost_app, command_name, asked, Request, refusals, IsPlanFor, IsPlanOf}
+use Rattle.gt_program.specs.declared.plan.Invocation.{Invocation}
 use Rattle.gt_program.specs.declared.plan.Mode.{Mode}
-use Rattle.gt_program.specs.declared.plan.Mode.TheVariants.{Play, Policy}
+use Rattle.gt_program.specs.declared.plan.Mode.TheVariants.{Play, Policy, Rules}
 use Rattle.clap.specs.declared.error.Error.{Error}
 use Rattle.gt_program.proofs.Line.{gthost_is_simple, words_say, refusal, planned, entered_command}
 use Rattle.gt_program.proofs.plan.plan.Goals as goal
@@ -26,33 +27,38 @@ returns-in_err-matches-clause-answers c =
     failed_up c.from_residual-in_err-matches.result error (IsPlanFor request) (refusals request) c.from_residual-in_err-matches.ensures.1
     (refusal request kinds (subcommand_of gthost_app words) error (words_say words) has)
 
+planned_by : (words : List Text) (p : Invocation) → fault_of gthost_app words ≡ [] → IsPlanOf p (subcommand_of gthost_app words) → IsPlanFor (asked (drop 1 words)) p
+planned_by words p passes plan = planned (asked (drop 1 words)) (fault_of gthost_app words) (subcommand_of gthost_app words) p (words_say words) passes plan
+
+passes_by : (app : App) (words : List Text) → app ≡ gthost_app → (is_simple_and_free app ≡ true → fault_of app words ≡ []) → fault_of gthost_app words ≡ []
+passes_by app words is passes = ap (λ (a : App). fault_of a words) (sym is) ∙ passes (ap is_simple_and_free is ∙ gthost_is_simple)
+
 pub returns-in-Some-clause-answers : goal.returns-in-Some-clause-answers
 returns-in-Some-clause-answers c =
-    let words : List Text = map string_bytes c.args.words.now in
-    let app : app_of c.in_ok-command.command ≡ gthost_app = c.in_ok-command.ensures in
-    let passes : fault_of gthost_app words ≡ [] = ap (λ (a : App). fault_of a words) (sym app) ∙ c.in_ok-matches.ensures.kinds (ap is_simple_and_free app ∙ gthost_is_simple) in
-    let plan : IsPlanOf c.plan_of.result (subcommand_of gthost_app words) = search rules in
-    planned (asked (drop 1 words)) (fault_of gthost_app words) (subcommand_of gthost_app words) c.plan_of.result (words_say words) passes plan
+    planned_by (map string_bytes c.args.words.now) c.plan_of.result (passes_by _ _ c.in_ok-command.ensures c.in_ok-matches.ensures.kinds) (search rules)
+
+pub returns-in-Some-subcommand_matches-clause-answers : goal.returns-in-Some-subcommand_matches-clause-answers
+returns-in-Some-subcommand_matches-clause-answers c =
+    planned_by (map string_bytes c.args.words.now) c.plan_of-in-Some-subcommand_matches.result (passes_by _ _ c.in_ok-command.ensures c.in_ok-matches.ensures.kinds) (search rules)
 
 pub returns-clause-answers : goal.returns-clause-answers
 returns-clause-answers c =
-    let words : List Text = map string_bytes c.args.words.now in
-    let app : app_of c.in_ok-command.command ≡ gthost_app = c.in_ok-command.ensures in
-    let passes : fault_of gthost_app words ≡ [] = ap (λ (a : App). fault_of a words) (sym app) ∙ c.in_ok-matches.ensures.kinds (ap is_simple_and_free app ∙ gthost_is_simple) in
-    let plan : IsPlanOf c.plan_of-in-Some-subcommand_matches.result (subcommand_of gthost_app words) = search rules in
-    planned (asked (drop 1 words)) (fault_of gthost_app words) (subcommand_of gthost_app words) c.plan_of-in-Some-subcommand_matches.result (words_say words) passes plan
+    planned_by (map string_bytes c.args.words.now) c.plan_of-in-Some-subcommand_matches-2.result (passes_by _ _ c.in_ok-command.ensures c.in_ok-matches.ensures.kinds) (search rules)
 
--- a command that was entered is one of the two
-neither : {T : Type 0} (play policy : Option T) (name : Option Text) (mode : Mode) → (name ≡ Some (codes "play") → IsSome play) → (name ≡ Some (codes "policy") → IsSome policy) → play ≡ None → policy ≡ None → name ≡ Some (command_name mode) → ⊥
-neither play policy name Play found also first second is = never_both play (found is) first
-neither play policy name Policy found also first second is = never_both policy (also is) second
+-- a command that was entered is one of the three
+none_of : {T : Type 0} (play policy rules_found : Option T) (name : Option Text) (mode : Mode) → (name ≡ Some (codes "play") → IsSome play) → (name ≡ Some (codes "policy") → IsSome policy) → (name ≡ Some (codes "rules") → IsSome rules_found)
+    → play ≡ None → policy ≡ None → rules_found ≡ None → name ≡ Some (command_name mode) → ⊥
+none_of play policy rules_found name Play found also too first second third is = never_both play (found is) first
+none_of play policy rules_found name Policy found also too first second third is = never_both policy (also is) second
+none_of play policy rules_found name Rules found also too first second third is = never_both rules_found (too is) third
 
 pub unreachable-requires : goal.unreachable-requires
 unreachable-requires c =
     let words : List Text = map string_bytes c.args.words.now in
     let app : app_of c.in_ok-command.command ≡ gthost_app = c.in_ok-command.ensures in
-    let passes : fault_of gthost_app words ≡ [] = ap (λ (a : App). fault_of a words) (sym app) ∙ c.in_ok-matches.ensures.kinds (ap is_simple_and_free app ∙ gthost_is_simple) in
+    let passes : fault_of gthost_app words ≡ [] = passes_by _ _ app c.in_ok-matches.ensures.kinds in
     let rows : subcommand_rows_of c.in_ok-matches.matches ≡ subcommand_of gthost_app words =
     (c.in_ok-matches.ensures.matches (ap is_simple app)).1 ∙ ap (λ (a : App). subcommand_of a words) app in
     let entered = entered_command c.in_ok-matches.matches (asked (drop 1 words)) (fault_of gthost_app words) (subcommand_of gthost_app words) (words_say words) passes rows in
-    neither c.subcommand_matches.result c.subcommand_matches-2.result (subcommand_name_of c.in_ok-matches.matches) entered.0 c.subcommand_matches.ensures.found.1 c.subcommand_matches-2.ensures.found.1 c.in_default.is c.in-None.is entered.1
+    none_of c.subcommand_matches.result c.subcommand_matches-2.result c.subcommand_matches-3.result (subcommand_name_of c.in_ok-matches.matches) entered.0
+    c.subcommand_matches.ensures.found.1 c.subcommand_matches-2.ensures.found.1 c.subcommand_matches-3.ensures.found.1 c.in_default.is c.in_default-subcommand_matches.is c.in-None.is entered.1

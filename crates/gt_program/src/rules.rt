@@ -1,0 +1,166 @@
+//! The rules by which calls are refused, a line each.
+ghost use Rattle.std.specs.Prelude.{◌≤◌};
+
+use crate::failure::Failure;
+use crate::obeying::report;
+use gt_streams::WriteFault;
+use gt_types::{Rule, Status};
+use std::io::{self, Write};
+
+/// All rules, in the order of their numbers.
+const RULES: [Rule; 26] = [
+    Rule::N1,
+    Rule::N2,
+    Rule::N3,
+    Rule::N4,
+    Rule::N5,
+    Rule::N6,
+    Rule::N7,
+    Rule::N8,
+    Rule::N9,
+    Rule::N10,
+    Rule::N11,
+    Rule::N12,
+    Rule::N13,
+    Rule::N14,
+    Rule::N15,
+    Rule::N16,
+    Rule::N17,
+    Rule::N18,
+    Rule::N19,
+    Rule::N20,
+    Rule::N21,
+    Rule::N22,
+    Rule::N23,
+    Rule::N24,
+    Rule::N25,
+    Rule::N26,
+];
+
+// The header's name of a status.
+fn header_name(status: Status) -> &'static str {
+    match status {
+        Status::GeneralError => "GNTST_general_error",
+        Status::BadDomain => "GNTST_bad_domain",
+        Status::BadGntref => "GNTST_bad_gntref",
+        Status::BadHandle => "GNTST_bad_handle",
+        Status::PermissionDenied => "GNTST_permission_denied",
+        Status::BadPage => "GNTST_bad_page",
+        Status::BadCopyArg => "GNTST_bad_copy_arg",
+        Status::Eagain => "GNTST_eagain",
+    }
+}
+
+// Why the rule refuses a call.
+fn reason(rule: Rule) -> &'static str {
+    match rule {
+        Rule::N1 =>
+            "a domain named, or the one that a transitive entry leads to, is not of the run",
+        Rule::N2 => "the flags of the map or copy, or the version, are not among those taken",
+        Rule::N3 => "offset plus length is above 4096",
+        Rule::N4 => "the copy names a frame of another domain by its number",
+        Rule::N5 => "the policy has no allow rule for these types and this permission",
+        Rule::N6 => "the handle is that of no mapping of the caller",
+        Rule::N7 => "the store goes through a read-only mapping",
+        Rule::N8 => "the caller has 8192 mappings, or has had all serials of handles",
+        Rule::N9 => "the reference is past the table",
+        Rule::N10 => "the entry is invalid",
+        Rule::N11 => "the entry names another domain",
+        Rule::N12 => "the map is of a sub-page or transitive entry",
+        Rule::N13 => "the entry is read-only, and the call writes",
+        Rule::N14 => "the range is not inside the sub-page",
+        Rule::N15 => "a transitive entry leads to another one",
+        Rule::N16 => "the frame number is not one of its owner's frames",
+        Rule::N17 => "4095 pins of that kind are live on the entry",
+        Rule::N18 => "four tries met another change of the entry each",
+        Rule::N19 => "the entry has live pins, for a demotion live write pins",
+        Rule::N20 => "the entry is not invalid",
+        Rule::N21 => "the entry given is invalid, or needs a table of version 2",
+        Rule::N22 => "the entry has had its last generation",
+        Rule::N23 => "more than 4 table frames are asked",
+        Rule::N24 => "some entry of the table is not invalid",
+        Rule::N25 => "the bytes spell no entry in a table of this version",
+        Rule::N26 => "memory was refused",
+    }
+}
+
+// What the caller may do.
+fn remedy(rule: Rule) -> &'static str {
+    match rule {
+        Rule::N1 => "name a domain of the run",
+        Rule::N2 => "use flags 2 or 6 for a map, 0 to 3 for a copy, version 1 or 2",
+        Rule::N3 => "ask for a range inside the page",
+        Rule::N4 => "name an own frame, or a grant of that domain",
+        Rule::N5 => "ask for a rule in the policy",
+        Rule::N6 => "map first",
+        Rule::N7 => "map the entry for writing",
+        Rule::N8 => "unmap some",
+        Rule::N9 => "ask the owner to set up more table frames",
+        Rule::N10 => "wait for the owner's grant",
+        Rule::N11 => "ask the owner for a grant of its own",
+        Rule::N12 => "copy instead",
+        Rule::N13 => "only read, or ask the owner to promote the entry",
+        Rule::N14 => "ask for a range inside the sub-page",
+        Rule::N15 => "ask the middle domain for a grant of its own page",
+        Rule::N16 => "name a frame that the owner has",
+        Rule::N17 => "try again once others unmapped",
+        Rule::N18 => "try again",
+        Rule::N19 => "try again once the other domains unmapped",
+        Rule::N20 => "revoke it first, or use another reference",
+        Rule::N21 => "set version 2, or grant a whole page",
+        Rule::N22 => "use another reference",
+        Rule::N23 => "ask for at most 4",
+        Rule::N24 => "revoke all entries first",
+        Rule::N25 => "mend the field named",
+        Rule::N26 => "try again once memory is there",
+    }
+}
+
+// Writes the line of a rule.
+fn write_rule<W: Write>(out: &mut W, rule: Rule) -> io::Result<()> {
+    let status = rule.status();
+    writeln!(
+        out,
+        "{rule} {} {}: {}; {}",
+        status.number(),
+        header_name(status),
+        reason(rule),
+        remedy(rule)
+    )
+}
+
+// Whether the text is the rule's name.
+fn is_named(rule: Rule, name: &str) -> bool {
+    match name.strip_prefix("N") {
+        Some(number) => number.parse::<u8>() == Ok(rule.number()),
+        None => false,
+    }
+}
+
+// Writes the rule of this name, or all rules where there is no name, and answers whether there is any.
+fn write_rules<W: Write>(out: &mut W, name: Option<&str>) -> io::Result<bool> {
+    let mut is_any = false;
+    for rule in RULES {
+        if name.is_none_or(|name| is_named(rule, name)) {
+            write_rule(out, rule)?;
+            is_any = true;
+        }
+    }
+    out.flush()?;
+    Ok(is_any)
+}
+
+/// Writes the line of the rule of this name, or of each rule where there is no name, and answers the exit status: 0; 1
+/// where they could not be written; 2 where no rule has that name.
+pub(crate) fn tell_rules<W: Write, E: Eprint>(out: &mut W, err: &E, name: Option<&str>) -> u8
+    ensures { result ≤ 2 }
+{
+    match write_rules(out, name) {
+        Ok(false) => {
+            let _ = err.eprintln("error: no rule has this name; they are N1 to N26");
+            2
+        }
+        Ok(true) => 0,
+        Err(_) => report(err, Err(Failure::Help(WriteFault))),
+    }
+}
