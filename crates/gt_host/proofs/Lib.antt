@@ -5,3 +5,6 @@ pub mod PlayLemmas
 pub mod PlayedLemmas
 pub mod RunLemmas
 pub mod StartLemmas
+pub mod AlikeLemmas
+pub mod TickLemmas
+pub mod OneText

@@ -19,6 +19,7 @@ mod answers;
 mod fault;
 mod kept;
 mod labels;
+mod laws;
 mod open_calls;
 mod outcome;
 mod playing;
@@ -27,4 +28,5 @@ mod run;
 mod showing;
 
 pub use fault::PlayFault;
+pub use laws::every_script_prints_one_text;
 pub use playing::play;
