@@ -37,3 +37,4 @@ pub mod Given
 pub mod Pins
 pub mod Doing
 pub mod Together
+pub mod Subjects

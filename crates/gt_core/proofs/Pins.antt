@@ -26,6 +26,7 @@ use Rattle.gt_core.specs.declared.trace.Happened.TheVariants.{Stepped}
 use Rattle.gt_core.specs.History.{History, Setting, Pin, live, without, is_holder, same_handle, holder_after, gather, by_leg, by_mapping, pinned_by, unpinned_by, is_pin_on, reads_at, writes_at, mappings_at, mapping_of, entry_at, generation_at, table_at, word_at, maps_answered_at, known_at}
 use Rattle.gt_types.specs.Names.{domain_of}
 use Rattle.gt_core.specs.Shown.{shown_at}
+use Rattle.gt_core.specs.Subject.{subject_at, place_of}
 use Rattle.gt_core.specs.declared.core_state.Shown.{Shown}
 use Rattle.gt_core.specs.Alike.{bare_handle, bare_happened, told, IsGiven, IsKnown, IsRun, AreAlike}
 use Rattle.gt_core.proofs.Bare.{bare-same, answer_from, bare, entry-bare, raises-bare, table-bare, maps-bare}
@@ -230,3 +231,14 @@ shown-bare s h dom r run =
 pub shown-alike : (s : Setting) (g h : History) (dom : DomId) (r : ℕ) → AreAlike s g h → shown_at s g dom r ≡ shown_at s h dom r
 shown-alike s g h dom r alike =
     sym (shown-bare s g dom r alike.first) ∙ ap (λ (l : History). shown_at s l dom r) (bare-same g h alike.same) ∙ shown-bare s h dom r alike.second
+
+-- the entry of which a known handle is a mapping
+subject-bare : (s : Setting) (h : History) (dom : DomId) (a : Handle) → IsRun s h → IsKnown h dom.0 a → subject_at s (bare h) dom (bare_handle a) ≡ subject_at s h dom a
+subject-bare s h dom a run k =
+    ap (λ (o : Option Held). cond (is_some (domain_of s.domains dom)) (option_map place_of o) None) (mapping-bare s h dom.0 a run k)
+
+pub subject-alike : (s : Setting) (g h : History) (dom : DomId) (a b : Handle) → AreAlike s g h → bare_handle a ≡ bare_handle b → IsKnown g dom.0 a → IsKnown h dom.0 b → subject_at s g dom a ≡ subject_at s h dom b
+subject-alike s g h dom a b alike same j k =
+    sym (subject-bare s g dom a alike.first j)
+    ∙ ap (λ (l : History). subject_at s l dom (bare_handle a)) (bare-same g h alike.same) ∙ ap (λ (x : Handle). subject_at s (bare h) dom x) same
+    ∙ subject-bare s h dom b alike.second k

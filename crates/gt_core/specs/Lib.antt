@@ -7,3 +7,4 @@ pub mod Sight
 pub mod Effects
 pub mod Shown
 pub mod Alike
+pub mod Subject

@@ -28,7 +28,7 @@ pub struct Core<P> {
     alloc: Global,
     config: Config,
     rights: P,
-    domains: Vec<DomainState>,
+    pub(crate) domains: Vec<DomainState>,
 }
 
 /// What `begin` did.

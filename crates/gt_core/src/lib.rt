@@ -18,6 +18,7 @@ mod laws;
 mod sight;
 mod slot;
 mod state;
+mod subject;
 mod trace;
 
 pub use core_state::{Begun, Core, Shown, Ticked, play};
@@ -26,5 +27,6 @@ pub use gt_calls::{
 };
 pub use laws::{
     every_alike_event_does_one_thing, every_alike_run_shows_one_thing, every_event_does_one_thing,
+    every_known_handle_has_one_subject,
 };
 pub use trace::{Answer, Bytes, Element, Event, Happened, Item, Trace};

@@ -89,6 +89,7 @@ access-same f g a b (accesses.Load label off len) same e = ap (λ (x : Handle). 
 access-same f g a b (accesses.Store label off hex) same e =
     ap (λ (x : Handle). requests.Store x off (bare_bytes a)) (same label) ∙ ap (λ (l : Bor (List ℕ)). requests.Store (bare_handle (g label)) off l) (bytes-same a b e)
 access-same f g a b (accesses.Peek frame off len) same e = refl
+access-same f g a b (accesses.Copy source dest len) same e = refl
 access-same f g a b (accesses.Poke frame off hex) same e = ap (λ (l : Bor (List ℕ)). requests.Poke frame off l) (bytes-same a b e)
 
 request-same : (one other : List Named) (dom : DomId) (a b : Bor (List ℕ)) (call : Call) → bare_names one ≡ bare_names other → a.now ≡ b.now → bare_request (request_of one dom a call) ≡ bare_request (request_of other dom b call)
@@ -112,6 +113,7 @@ access-known h d f a (accesses.Load label off len) k = k label
 access-known h d f a (accesses.Store label off hex) k = k label
 access-known h d f a (accesses.Peek frame off len) k = tt
 access-known h d f a (accesses.Poke frame off hex) k = tt
+access-known h d f a (accesses.Copy source dest len) k = tt
 
 request-known : (h : History) (named : List Named) (dom : DomId) (a : Bor (List ℕ)) (call : Call) → NamesGiven h named → AsksKnown h dom.0 (asked (request_of named dom a call))
 request-known h named dom a (calls.Table call) g = table-known h dom.0 a call

@@ -1,3 +1,5 @@
+pub mod AuditLemmas
+pub mod EventLemmas
 pub mod LabelLemmas
 pub mod LineLemmas
 pub mod OpenLemmas
@@ -8,3 +10,4 @@ pub mod StartLemmas
 pub mod AlikeLemmas
 pub mod TickLemmas
 pub mod OneText
+pub mod RecordLemmas

@@ -1,15 +1,14 @@
 -- What the lines of a script lead to.
-use Rattle.std.proofs.Common.{◌≡◌, ◌≢◌, ◌⊎◌, ℕ, zero, suc, Bool, true, false, cond, List, [], ◌∷◌, ◌++◌, length, replicate, Option, None, Some, refl, ap, sym, subst, ◌∙◌, inl, inr}
+use Rattle.std.proofs.Common.{◌≡◌, ◌≢◌, ◌⊎◌, ℕ, Bool, true, false, cond, List, [], ◌∷◌, ◌++◌, length, replicate, Option, None, Some, refl, ap, sym, subst, ◌∙◌, inl, inr}
 use Rattle.std.proofs.lemmas.List.{append-nil}
-use Rattle.std.proofs.lemmas.Bool.{eqb-true, eq-eqb, ne_eqb, false≢true}
+use Rattle.std.proofs.lemmas.Bool.{eq-eqb, ne_eqb}
 use Rattle.std.specs.Prelude.{◌==◌, is_some}
 use Rattle.gt_types.specs.Names.{domain_of}
-use Rattle.gt_types.specs.declared.DomId.{DomId}
 use Rattle.gt_types.specs.declared.GrantRef.{GrantRef}
 use Rattle.gt_lines.specs.declared.calls.Call.{Call}
 use Rattle.gt_script.specs.declared.script.Step.{Step}
-use Rattle.gt_core.specs.History.{History, Setting, Underway, open_call, underway_after}
-use Rattle.gt_core.specs.Legal.{MayDo, IsRight, grown, LegalAfter, history_after, actor_of}
+use Rattle.gt_core.specs.History.{History, Setting, open_call}
+use Rattle.gt_core.specs.Legal.{MayDo, grown, LegalAfter, history_after}
 use Rattle.gt_core.specs.Shown.{shown_at}
 use Rattle.gt_core.specs.Standing.{CoreStands, begun_element}
 use Rattle.gt_core.specs.States.{State}
@@ -22,83 +21,29 @@ use Rattle.gt_core.specs.declared.trace.Answer.{Answer}
 use Rattle.gt_core.specs.declared.trace.Event.{Event}
 use Rattle.gt_core.specs.declared.trace.Event.TheVariants.{Begin, Tick}
 use Rattle.gt_core.specs.declared.trace.Element.{Element}
-use Rattle.gt_core.specs.declared.trace.Element.TheVariants.{Busy, Idle, NoDomain, Item as Did}
-use Rattle.gt_core.specs.declared.trace.Happened.{Happened}
+use Rattle.gt_core.specs.declared.trace.Element.TheVariants.{Busy, Item as Did}
 use Rattle.gt_core.specs.declared.trace.Happened.TheVariants.{Began}
 use Rattle.gt_core.specs.declared.trace.Item.{Item}
+use Rattle.gt_host.specs.declared.audit.Audit.{Audit}
 use Rattle.gt_host.specs.declared.kept.Kept.{Kept}
 use Rattle.gt_host.specs.declared.labels.Labels.{Labels}
 use Rattle.gt_host.specs.declared.open_calls.OpenCalls.{OpenCalls}
 use Rattle.gt_host.specs.declared.outcome.Outcome.{Outcome}
 use Rattle.gt_host.specs.declared.outcome.Outcome.TheVariants.{Answered, Busy as IsBusy}
+use Rattle.gt_audit.specs.declared.record.Hypercall.{Hypercall}
 use Rattle.gt_host.specs.Naming.{AreNamed}
-use Rattle.gt_host.specs.OpenCalls.{call_in}
+use Rattle.gt_host.specs.OpenCalls.{call_in, told_in}
 use Rattle.gt_host.specs.Printing.{answer_line, busy_line, idle_line}
-use Rattle.gt_host.specs.Runs.{Progress, Named, answer_in, DoLine, BeginLine, TickLine, ShowLine, history_of, with_events, with_line, after_call, after_ticks, after_beginning, named_after, Asks, call_events}
+use Rattle.gt_host.specs.Runs.{Progress, Named, DoLine, BeginLine, TickLine, ShowLine, history_of, with_events, with_line, after_call, after_ticks, after_beginning, named_after, Asks, call_events}
+use Rattle.gt_host.specs.Recording.{IsAbout}
 use Rattle.gt_host.specs.Showing.{show_line}
 use Rattle.gt_host.specs.Ticking.{Happens, Calls, TicksTo, IsKept, HasCome, IsAppended}
-use Rattle.gt_host.proofs.OpenLemmas.{own_call, other_call, HasOpen, ticks_stay}
+use Rattle.gt_host.proofs.AuditLemmas.{AddsRecord, AreTold, Records, audited_begun, audited_busy, audited_call, audited_more, audited_ticks, audited_wait}
+use Rattle.gt_host.proofs.EventLemmas.{AreOf, answered_leaves, begins_fresh, event_closes, event_other, events_close, events_other, same_or_apart, ticks_of}
+use Rattle.gt_host.proofs.OpenLemmas.{own_call, HasOpen, ticks_stay}
 use Rattle.gt_host.proofs.RunLemmas.{LegalAfter-append, history_after-append, happens_one}
 
--- events of one domain
-
--- the events are of this domain
-abbrev AreOf : DomId → List Event → Type 0
-AreOf d [] = Unit {0}
-AreOf d (e ∷ es) = (actor_of e ≡ d) × AreOf d es
-
-ticks_of : (d : DomId) (n : ℕ) → AreOf d (replicate n (Tick d))
-ticks_of d zero = tt
-ticks_of d (suc n) = (refl, ticks_of d n)
-
--- an item is of the domain of its event
-item_of : (s : Setting) (h : History) (e : Event) (i : Item) (d : DomId) → actor_of e ≡ d → MayDo s h e (Did i) → i.actor ≡ d
-item_of s h (Begin t request) i d own may = may.1.0 ∙ own
-item_of s h (Tick t) i d own may = may.1.0 ∙ own
-
-event_other : (s : Setting) (h : History) (e : Event) (x : Element) (d : DomId) (n : ℕ) → actor_of e ≡ d → MayDo s h e x → (d.0 ≡ n → ⊥) → open_call (grown h x) n ≡ open_call h n
-event_other s h e Busy d n own may apart = refl
-event_other s h e Idle d n own may apart = refl
-event_other s h e NoDomain d n own may apart = refl
-event_other s h e (Did i) d n own may apart = other_call i h n (λ same. apart (sym (ap (λ (t : DomId). t.0) (item_of s h e i d own may)) ∙ same))
-
--- another domain's call stays as it is
-events_other : (s : Setting) (h : History) (es : List Event) (xs : List Element) (d : DomId) (n : ℕ) → AreOf d es → LegalAfter s h es xs → (d.0 ≡ n → ⊥) → open_call (history_after h xs) n ≡ open_call h n
-events_other s h [] [] d n own legal apart = refl
-events_other s h [] (x ∷ xs) d n own legal apart = absurd legal
-events_other s h (e ∷ es) [] d n own legal apart = absurd legal
-events_other s h (e ∷ es) (x ∷ xs) d n own legal apart = events_other s (grown h x) es xs d n own.1 legal.1 apart ∙ event_other s h e x d n own.0 legal.0 apart
-
-closes : (i : Item) (c : Option Underway) (a : Answer) → i.answer ≡ Some a → underway_after i c ≡ None
-closes i c a e = subst (λ (o : Option Answer). underway_after (record { actor = i.actor; happened = i.happened; answer = o }) c ≡ None) (sym e) refl
-
-event_closes : (s : Setting) (h : History) (e : Event) (x : Element) (d : DomId) (a : Answer) → actor_of e ≡ d → MayDo s h e x → answer_in x ≡ Some a → open_call (grown h x) d.0 ≡ None
-event_closes s h e Busy d a own may answers = cc
-event_closes s h e Idle d a own may answers = cc
-event_closes s h e NoDomain d a own may answers = cc
-event_closes s h e (Did i) d a own may answers = own_call i h d.0 (ap (λ (t : DomId). t.0) (item_of s h e i d own may)) ∙ closes i (open_call h d.0) a answers
-
--- the answer ends the domain's call
-events_close : (s : Setting) (h : History) (es : List Event) (xs : List Element) (x : Element) (d : DomId) (a : Answer) → AreOf d es → LegalAfter s h es (xs ++ x ∷ []) → answer_in x ≡ Some a → open_call (history_after h (xs ++ x ∷ [])) d.0 ≡ None
-events_close s h [] [] x d a own legal answers = absurd legal
-events_close s h [] (y ∷ xs) x d a own legal answers = absurd legal
-events_close s h (e ∷ es) [] x d a own legal answers = event_closes s h e x d a own.0 legal.0 answers
-events_close s h (e ∷ es) (y ∷ xs) x d a own legal answers = events_close s (grown h y) es xs x d a own.1 legal.1 answers
-
--- a call begins where its domain has none open
-begins_fresh : (s : Setting) (h : History) (d : DomId) (request : Request) (i : Item) → MayDo s h (Begin d request) (Did i) → open_call h d.0 ≡ None
-begins_fresh s h d request i may =
-    let right : IsRight s h (record { actor = i.actor; happened = Began request; answer = i.answer }) = subst (λ (did : Happened). IsRight s h (record { actor = i.actor; happened = did; answer = i.answer })) may.1.1 may.2 in
-    subst (λ (t : DomId). open_call h t.0 ≡ None) may.1.0 right.0
-
 -- which domains have a call open
-
-same_or_apart : (d n : ℕ) → (d ≡ n) ⊎ (d ≡ n → ⊥)
-same_or_apart d n = by (d == n) refl
-  where
-    by : (b : Bool) → (d == n) ≡ b → (d ≡ n) ⊎ (d ≡ n → ⊥)
-    by true e = inl (eqb-true d n e)
-    by false e = inr (λ same. false≢true (sym e ∙ eq-eqb d n same))
 
 -- only one domain's call changed
 knows_next : (old new : ℕ → Option Step) (h g : History) (d : ℕ) → ((n : ℕ) → is_some (old n) ≡ is_some (open_call h n)) → ((n : ℕ) → (d ≡ n → ⊥) → new n ≡ old n) → ((n : ℕ) → (d ≡ n → ⊥) → open_call g n ≡ open_call h n)
@@ -123,48 +68,40 @@ some_known None e = cc
 some_known (Some x) e = (x, refl)
 
 -- more has happened
-came : (s : Setting) (p : Progress) (events : List Event) (trace : List Element) (named : List Named) (calls : ℕ → Option Step) (text : List ℕ) (old new : List State) (kept next : Kept) → HasCome s p old kept → Happens s (history_of p) events trace new
+came : (s : Setting) (audit : Bool) (p : Progress) (events : List Event) (trace : List Element) (named : List Named) (calls : ℕ → Option Step) (text : List ℕ) (old new : List State) (kept next : Kept) → HasCome s audit p old kept → Happens s (history_of p) events trace new
     → IsKept next (record { events = p.events ++ events; trace = p.trace ++ trace; named = named; open_steps = calls; text = text })
     → ((n : ℕ) → is_some (calls n) ≡ is_some (open_call (history_after (history_of p) trace) n))
-    → HasCome s (record { events = p.events ++ events; trace = p.trace ++ trace; named = named; open_steps = calls; text = text }) new next
-came s p events trace named calls text old new kept next come happens keeps knows =
+    → next.audit.is_on ≡ kept.audit.is_on
+    → (kept.audit.is_on ≡ true → AreTold s (history_of p) (told_in kept.calls) → Records s (history_of p) trace kept.audit.records.items next.audit.records.items (told_in next.calls))
+    → HasCome s audit (record { events = p.events ++ events; trace = p.trace ++ trace; named = named; open_steps = calls; text = text }) new next
+came s audit p events trace named calls text old new kept next come happens keeps knows same recorded =
     let joined : history_after [] (p.trace ++ trace) ≡ history_after (history_of p) trace = history_after-append [] p.trace trace in
     record {
       legal = LegalAfter-append s [] p.events p.trace events trace come.legal happens.legal;
       stands = subst (λ (h : History). CoreStands s h new) (sym joined) happens.stands;
       keeps = keeps;
       knows = λ n. knows n ∙ ap (λ (h : History). is_some (open_call h n)) (sym joined);
+      audited = audited_more s audit p.trace trace kept next come.audited same recorded;
     }
 
 -- nothing has happened but a line more
-lined : (s : Setting) (p : Progress) (line : List ℕ) (domains : List State) (kept : Kept) → HasCome s p domains kept → HasCome s (with_line p line) domains kept
-lined s p line domains kept come = record {
+lined : (s : Setting) (audit : Bool) (p : Progress) (line : List ℕ) (domains : List State) (kept : Kept) → HasCome s audit p domains kept → HasCome s audit (with_line p line) domains kept
+lined s audit p line domains kept come = record {
   legal = come.legal;
   stands = come.stands;
   keeps = record { names = come.keeps.names; calls = come.keeps.calls };
   knows = come.knows;
+  audited = come.audited;
 }
 
 -- `do ID CALL`
 
--- a call that was answered left each domain's open call as it was
-answered_leaves : (s : Setting) (h : History) (d : DomId) (request : Request) (count : ℕ) (i : Item) (xs before : List Element) (last : Element) (a : Answer) → Did i ∷ xs ≡ before ++ last ∷ [] → answer_in last ≡ Some a
-    → LegalAfter s h (call_events d request count) (Did i ∷ xs) → (n : ℕ) → open_call (history_after h (Did i ∷ xs)) n ≡ open_call h n
-answered_leaves s h d request count i xs before last a order answers legal n =
-    let own : AreOf d (call_events d request count) = (refl, ticks_of d count) in
-    let ended : open_call (history_after h (before ++ last ∷ [])) d.0 ≡ None =
-    events_close s h (call_events d request count) before last d a own (subst (λ (l : List Element). LegalAfter s h (call_events d request count) l) order legal) answers in
-    let now : open_call (history_after h (Did i ∷ xs)) d.0 ≡ None = subst (λ (l : List Element). open_call (history_after h l) d.0 ≡ None) (sym order) ended in
-    elim (same_or_apart d.0 n) [
-      | inl same ↦ subst (λ (m : ℕ). open_call (history_after h (Did i ∷ xs)) m ≡ open_call h m) same (now ∙ sym (begins_fresh s h d request i legal.0))
-      | inr apart ↦ events_other s h (call_events d request count) (Did i ∷ xs) d n own legal apart
-    ]
-
-pub do_answered : (s : Setting) (types : List (List ℕ)) (st : Step) (call : Call) (p : Progress) (old new : List State) (kept next : Kept) (before after : List ℕ) (request : Request) (said : Outcome) (a : Answer)
-    → Asks p.named st.dom call request → said ≡ Answered a → HasCome s p old kept → Calls s (history_of p) st.dom request new said
+pub do_answered : (s : Setting) (audit : Bool) (types : List (List ℕ)) (st : Step) (call : Call) (p : Progress) (old new : List State) (kept next : Kept) (before after : List ℕ) (request : Request) (said : Outcome) (a : Answer) (told : Option Hypercall)
+    → Asks p.named st.dom call request → said ≡ Answered a → HasCome s audit p old kept → Calls s (history_of p) st.dom request new said
+    → (kept.audit.is_on ≡ true → IsAbout s old st.dom request told) → AddsRecord kept next st.dom told a
     → AreNamed next.labels (named_after p.named st.dom st a) → next.calls ≡ kept.calls → after ≡ before ++ answer_line types st.line st.dom a
-    → (q : Progress) × DoLine types st call p q × HasCome s q new next × IsAppended p.text q.text before after
-do_answered s types st call p old new kept next before after request said a asks is come made names same line =
+    → (q : Progress) × DoLine types st call p q × HasCome s audit q new next × IsAppended p.text q.text before after
+do_answered s audit types st call p old new kept next before after request said a told asks is come made about adds names same line =
     let made_so = subst (λ (o : Outcome). Calls s (history_of p) st.dom request new o) is made in
     let events : List Event = call_events st.dom request made_so.ticks in
     let ends = made_so.comes.3 in
@@ -175,98 +112,114 @@ do_answered s types st call p old new kept next before after request said a asks
     (answered_leaves s (history_of p) st.dom request made_so.ticks made_so.comes.0 made_so.comes.1 ends.before ends.last a (sym first ∙ ends.order) ends.answers legal n) in (
       after_call types (with_events p events made_so.trace) st (Answered a),
       (request, asks, made_so.ticks, made_so.trace, Answered a, made_so.length_of, made_so.comes, refl),
-      came s p events made_so.trace (named_after p.named st.dom st a) p.open_steps (p.text ++ answer_line types st.line st.dom a) old new kept next come made_so.happens
+      came s audit p events made_so.trace (named_after p.named st.dom st a) p.open_steps (p.text ++ answer_line types st.line st.dom a) old new kept next come made_so.happens
           (record { names = names; calls = λ n. ap (λ (c : OpenCalls). call_in c n) same ∙ come.keeps.calls n })
-          (λ n. come.knows n ∙ ap is_some (sym (left n))),
+          (λ n. come.knows n ∙ ap is_some (sym (left n))) adds.is_on
+          (λ on known. subst (λ (l : List Element). Records s (history_of p) l kept.audit.records.items next.audit.records.items (told_in next.calls)) (sym first)
+          (audited_call s (history_of p) st.dom request made_so.ticks made_so.comes.0 made_so.comes.1 ends.before ends.last a kept.audit.records.items next.audit.records.items (told_in next.calls) told
+          (sym first ∙ ends.order) ends.quiet ends.answers legal (about on (history_of p) come.stands) adds.records (subst (λ (c : OpenCalls). AreTold s (history_of p) (told_in c)) (sym same) known))),
       (answer_line types st.line st.dom a, refl, line),
     )
 
-pub do_busy : (s : Setting) (types : List (List ℕ)) (st : Step) (call : Call) (p : Progress) (old new : List State) (kept : Kept) (before after : List ℕ) (request : Request) (said : Outcome)
-    → Asks p.named st.dom call request → said ≡ IsBusy → HasCome s p old kept → Calls s (history_of p) st.dom request new said → after ≡ before ++ busy_line st.line st.dom
-    → (q : Progress) × DoLine types st call p q × HasCome s q new kept × IsAppended p.text q.text before after
-do_busy s types st call p old new kept before after request said asks is come made line =
+pub do_busy : (s : Setting) (audit : Bool) (types : List (List ℕ)) (st : Step) (call : Call) (p : Progress) (old new : List State) (kept : Kept) (before after : List ℕ) (request : Request) (said : Outcome)
+    → Asks p.named st.dom call request → said ≡ IsBusy → HasCome s audit p old kept → Calls s (history_of p) st.dom request new said → after ≡ before ++ busy_line st.line st.dom
+    → (q : Progress) × DoLine types st call p q × HasCome s audit q new kept × IsAppended p.text q.text before after
+do_busy s audit types st call p old new kept before after request said asks is come made line =
     let made_so = subst (λ (o : Outcome). Calls s (history_of p) st.dom request new o) is made in
     let events : List Event = call_events st.dom request made_so.ticks in (
       after_call types (with_events p events made_so.trace) st IsBusy,
       (request, asks, made_so.ticks, made_so.trace, IsBusy, made_so.length_of, made_so.comes, refl),
-      came s p events made_so.trace p.named p.open_steps (p.text ++ busy_line st.line st.dom) old new kept kept come made_so.happens
+      came s audit p events made_so.trace p.named p.open_steps (p.text ++ busy_line st.line st.dom) old new kept kept come made_so.happens
           (record { names = come.keeps.names; calls = come.keeps.calls })
-          (λ n. come.knows n ∙ ap (λ (l : List Element). is_some (open_call (history_after (history_of p) l) n)) (sym made_so.comes)),
+          (λ n. come.knows n ∙ ap (λ (l : List Element). is_some (open_call (history_after (history_of p) l) n)) (sym made_so.comes)) refl
+          (λ on known. audited_busy s (history_of p) made_so.trace kept.audit.records.items (told_in kept.calls) made_so.comes known),
       (busy_line st.line st.dom, refl, line),
     )
 
 -- `begin ID CALL`
 
 -- one event of the domain
-begun_once : (s : Setting) (types : List (List ℕ)) (st : Step) (call : Call) (p : Progress) (request : Request) (x : Element) (named : List Named) (calls : ℕ → Option Step) (text : List ℕ) (old new : List State) (kept next : Kept) (before after : List ℕ)
-    → Asks p.named st.dom call request → HasCome s p old kept → MayDo s (history_of p) (Begin st.dom request) x × CoreStands s (grown (history_of p) x) new
+begun_once : (s : Setting) (audit : Bool) (types : List (List ℕ)) (st : Step) (call : Call) (p : Progress) (request : Request) (x : Element) (named : List Named) (calls : ℕ → Option Step) (text : List ℕ) (old new : List State) (kept next : Kept) (before after : List ℕ)
+    → Asks p.named st.dom call request → HasCome s audit p old kept → MayDo s (history_of p) (Begin st.dom request) x × CoreStands s (grown (history_of p) x) new
     → after_beginning types (with_events p (Begin st.dom request ∷ []) (x ∷ [])) st x
     ≡ record { events = p.events ++ Begin st.dom request ∷ []; trace = p.trace ++ x ∷ []; named = named; open_steps = calls; text = p.text ++ text }
     → AreNamed next.labels named → ((n : ℕ) → call_in next.calls n ≡ calls n) → ((n : ℕ) → (st.dom.0 ≡ n → ⊥) → calls n ≡ p.open_steps n) → is_some (calls st.dom.0) ≡ is_some (open_call (grown (history_of p) x) st.dom.0)
-    → after ≡ before ++ text → (q : Progress) × BeginLine types st call p q × HasCome s q new next × IsAppended p.text q.text before after
-begun_once s types st call p request x named calls text old new kept next before after asks come told is names known others here line =
+    → next.audit.is_on ≡ kept.audit.is_on
+    → (kept.audit.is_on ≡ true → AreTold s (history_of p) (told_in kept.calls) → Records s (history_of p) (x ∷ []) kept.audit.records.items next.audit.records.items (told_in next.calls))
+    → after ≡ before ++ text → (q : Progress) × BeginLine types st call p q × HasCome s audit q new next × IsAppended p.text q.text before after
+begun_once s audit types st call p request x named calls text old new kept next before after asks come told is names known others here on_same recorded line =
     let happens = happens_one s (history_of p) (Begin st.dom request) x new told in (
       record { events = p.events ++ Begin st.dom request ∷ []; trace = p.trace ++ x ∷ []; named = named; open_steps = calls; text = p.text ++ text },
       (request, asks, x, sym is),
-      came s p (Begin st.dom request ∷ []) (x ∷ []) named calls (p.text ++ text) old new kept next come happens (record { names = names; calls = known })
+      came s audit p (Begin st.dom request ∷ []) (x ∷ []) named calls (p.text ++ text) old new kept next come happens (record { names = names; calls = known })
           (knows_next p.open_steps calls (history_of p) (grown (history_of p) x) st.dom.0 come.knows others
-          (λ n apart. event_other s (history_of p) (Begin st.dom request) x st.dom n refl told.0 apart) here),
+          (λ n apart. event_other s (history_of p) (Begin st.dom request) x st.dom n refl told.0 apart) here) on_same recorded,
       (text, refl, line),
     )
 
-pub begin_answered : (s : Setting) (types : List (List ℕ)) (st : Step) (call : Call) (p : Progress) (old new : List State) (kept next : Kept) (before after : List ℕ) (request : Request) (said : Begun) (a : Answer)
-    → Asks p.named st.dom call request → said ≡ begun.Done a → HasCome s p old kept → MayDo s (history_of p) (Begin st.dom request) (begun_element st.dom request said) × CoreStands s (grown (history_of p) (begun_element st.dom request said)) new
+pub begin_answered : (s : Setting) (audit : Bool) (types : List (List ℕ)) (st : Step) (call : Call) (p : Progress) (old new : List State) (kept next : Kept) (before after : List ℕ) (request : Request) (said : Begun) (a : Answer) (hyper : Option Hypercall)
+    → Asks p.named st.dom call request → said ≡ begun.Done a → HasCome s audit p old kept → (kept.audit.is_on ≡ true → IsAbout s old st.dom request hyper) → AddsRecord kept next st.dom hyper a → MayDo s (history_of p) (Begin st.dom request) (begun_element st.dom request said) × CoreStands s (grown (history_of p) (begun_element st.dom request said)) new
     → AreNamed next.labels (named_after p.named st.dom st a) → next.calls ≡ kept.calls → after ≡ before ++ answer_line types st.line st.dom a
-    → (q : Progress) × BeginLine types st call p q × HasCome s q new next × IsAppended p.text q.text before after
-begin_answered s types st call p old new kept next before after request said a asks is come told names same line =
+    → (q : Progress) × BeginLine types st call p q × HasCome s audit q new next × IsAppended p.text q.text before after
+begin_answered s audit types st call p old new kept next before after request said a hyper asks is come about adds told names same line =
     let i : Item = record { actor = st.dom; happened = Began request; answer = Some a } in
     let told_so = subst (λ (b : Begun). MayDo s (history_of p) (Begin st.dom request) (begun_element st.dom request b) × CoreStands s (grown (history_of p) (begun_element st.dom request b)) new) is told in
     let was : open_call (history_of p) st.dom.0 ≡ None = begins_fresh s (history_of p) st.dom request i told_so.0 in
     let now : open_call (i ∷ history_of p) st.dom.0 ≡ None = event_closes s (history_of p) (Begin st.dom request) (Did i) st.dom a refl told_so.0 refl in
-    begun_once s types st call p request (Did i) (named_after p.named st.dom st a) p.open_steps (answer_line types st.line st.dom a) old new kept next before after asks come told_so refl names
-    (λ n. ap (λ (c : OpenCalls). call_in c n) same ∙ come.keeps.calls n) (λ n apart. refl) (come.knows st.dom.0 ∙ ap is_some (was ∙ sym now)) line
+    begun_once s audit types st call p request (Did i) (named_after p.named st.dom st a) p.open_steps (answer_line types st.line st.dom a) old new kept next before after asks come told_so refl names
+    (λ n. ap (λ (c : OpenCalls). call_in c n) same ∙ come.keeps.calls n) (λ n apart. refl) (come.knows st.dom.0 ∙ ap is_some (was ∙ sym now)) adds.is_on
+    (λ on known. audited_call s (history_of p) st.dom request 0 i [] [] (Did i) a kept.audit.records.items next.audit.records.items (told_in next.calls) hyper refl tt refl (told_so.0, tt)
+    (about on (history_of p) come.stands) adds.records (subst (λ (c : OpenCalls). AreTold s (history_of p) (told_in c)) (sym same) known))
+    line
 
-pub begin_busy : (s : Setting) (types : List (List ℕ)) (st : Step) (call : Call) (p : Progress) (old new : List State) (kept : Kept) (before after : List ℕ) (request : Request) (said : Begun)
-    → Asks p.named st.dom call request → said ≡ begun.Busy → HasCome s p old kept → MayDo s (history_of p) (Begin st.dom request) (begun_element st.dom request said) × CoreStands s (grown (history_of p) (begun_element st.dom request said)) new
-    → after ≡ before ++ busy_line st.line st.dom → (q : Progress) × BeginLine types st call p q × HasCome s q new kept × IsAppended p.text q.text before after
-begin_busy s types st call p old new kept before after request said asks is come told line =
+pub begin_busy : (s : Setting) (audit : Bool) (types : List (List ℕ)) (st : Step) (call : Call) (p : Progress) (old new : List State) (kept : Kept) (before after : List ℕ) (request : Request) (said : Begun)
+    → Asks p.named st.dom call request → said ≡ begun.Busy → HasCome s audit p old kept → MayDo s (history_of p) (Begin st.dom request) (begun_element st.dom request said) × CoreStands s (grown (history_of p) (begun_element st.dom request said)) new
+    → after ≡ before ++ busy_line st.line st.dom → (q : Progress) × BeginLine types st call p q × HasCome s audit q new kept × IsAppended p.text q.text before after
+begin_busy s audit types st call p old new kept before after request said asks is come told line =
     let told_so = subst (λ (b : Begun). MayDo s (history_of p) (Begin st.dom request) (begun_element st.dom request b) × CoreStands s (grown (history_of p) (begun_element st.dom request b)) new) is told in
-    begun_once s types st call p request Busy p.named p.open_steps (busy_line st.line st.dom) old new kept kept before after asks come told_so refl come.keeps.names come.keeps.calls (λ n apart. refl) (come.knows st.dom.0) line
+    begun_once s audit types st call p request Busy p.named p.open_steps (busy_line st.line st.dom) old new kept kept before after asks come told_so refl come.keeps.names come.keeps.calls (λ n apart. refl) (come.knows st.dom.0) refl
+    (λ on known. audited_busy s (history_of p) (Busy ∷ []) kept.audit.records.items (told_in kept.calls) refl known) line
 
-begun_open : (s : Setting) (types : List (List ℕ)) (st : Step) (call : Call) (p : Progress) (old new : List State) (kept next : Kept) (before after : List ℕ) (request : Request)
-    → Asks p.named st.dom call request → HasCome s p old kept → MayDo s (history_of p) (Begin st.dom request) (Did (record { actor = st.dom; happened = Began request; answer = None }))
+begun_open : (s : Setting) (audit : Bool) (types : List (List ℕ)) (st : Step) (call : Call) (p : Progress) (old new : List State) (kept next : Kept) (before after : List ℕ) (request : Request) (hyper : Option Hypercall)
+    → Asks p.named st.dom call request → HasCome s audit p old kept → (kept.audit.is_on ≡ true → IsAbout s old st.dom request hyper) → next.audit ≡ kept.audit → ((n : ℕ) → told_in next.calls n ≡ cond (n == st.dom.0) hyper (told_in kept.calls n))
+    → MayDo s (history_of p) (Begin st.dom request) (Did (record { actor = st.dom; happened = Began request; answer = None }))
     × CoreStands s (record { actor = st.dom; happened = Began request; answer = None } ∷ history_of p) new
     → next.labels ≡ kept.labels → ((n : ℕ) → call_in next.calls n ≡ cond (n == st.dom.0) (Some st) (call_in kept.calls n)) → after ≡ before
-    → (q : Progress) × BeginLine types st call p q × HasCome s q new next × IsAppended p.text q.text before after
-begun_open s types st call p old new kept next before after request asks come told same known line =
+    → (q : Progress) × BeginLine types st call p q × HasCome s audit q new next × IsAppended p.text q.text before after
+begun_open s audit types st call p old new kept next before after request hyper asks come about was_so picked told same known line =
     let i : Item = record { actor = st.dom; happened = Began request; answer = None } in
     let calls : ℕ → Option Step = λ n. cond (n == st.dom.0) (Some st) (p.open_steps n) in
     let now : open_call (i ∷ history_of p) st.dom.0 ≡ Some (record { request = asked request; given = given_by request; steps = [] }) = own_call i (history_of p) st.dom.0 refl in
-    begun_once s types st call p request (Did i) p.named calls [] old new kept next before after asks come told
+    begun_once s audit types st call p request (Did i) p.named calls [] old new kept next before after asks come told
     (ap (λ (text : List ℕ). record { events = p.events ++ Begin st.dom request ∷ []; trace = p.trace ++ Did i ∷ []; named = p.named; open_steps = calls; text = text }) (sym (append-nil p.text)))
     (subst (λ (l : Labels). AreNamed l p.named) (sym same) come.keeps.names)
     (λ n. known n ∙ ap (λ (o : Option Step). cond (n == st.dom.0) (Some st) o) (come.keeps.calls n))
-    (pick_other p.open_steps (Some st) st.dom.0) (ap is_some (pick_own p.open_steps (Some st) st.dom.0) ∙ sym (ap is_some now)) (line ∙ sym (append-nil before))
+    (pick_other p.open_steps (Some st) st.dom.0) (ap is_some (pick_own p.open_steps (Some st) st.dom.0) ∙ sym (ap is_some now)) (ap (λ (a : Audit). a.is_on) was_so)
+    (λ on knew. subst (λ (a : Audit). Records s (history_of p) (Did i ∷ []) kept.audit.records.items a.records.items (told_in next.calls)) (sym was_so)
+    (audited_begun s (history_of p) st.dom request kept.audit.records.items (told_in kept.calls) (told_in next.calls) hyper told.0 (about on (history_of p) come.stands) picked knew))
+    (line ∙ sym (append-nil before))
 
-pub begin_open : (s : Setting) (types : List (List ℕ)) (st : Step) (call : Call) (p : Progress) (old new : List State) (kept next : Kept) (before after : List ℕ) (request : Request) (said : Begun)
-    → Asks p.named st.dom call request → domain_of s.domains st.dom ≢ None → (said ≡ begun.Open) ⊎ (said ≡ begun.NoDomain) → HasCome s p old kept
+pub begin_open : (s : Setting) (audit : Bool) (types : List (List ℕ)) (st : Step) (call : Call) (p : Progress) (old new : List State) (kept next : Kept) (before after : List ℕ) (request : Request) (said : Begun) (hyper : Option Hypercall)
+    → Asks p.named st.dom call request → domain_of s.domains st.dom ≢ None → (said ≡ begun.Open) ⊎ (said ≡ begun.NoDomain) → HasCome s audit p old kept
+    → (kept.audit.is_on ≡ true → IsAbout s old st.dom request hyper) → next.audit ≡ kept.audit → ((n : ℕ) → told_in next.calls n ≡ cond (n == st.dom.0) hyper (told_in kept.calls n))
     → MayDo s (history_of p) (Begin st.dom request) (begun_element st.dom request said) × CoreStands s (grown (history_of p) (begun_element st.dom request said)) new
     → next.labels ≡ kept.labels → ((n : ℕ) → call_in next.calls n ≡ cond (n == st.dom.0) (Some st) (call_in kept.calls n)) → after ≡ before
-    → (q : Progress) × BeginLine types st call p q × HasCome s q new next × IsAppended p.text q.text before after
-begin_open s types st call p old new kept next before after request said asks configured (inl is) come told same known line =
-    begun_open s types st call p old new kept next before after request asks come
+    → (q : Progress) × BeginLine types st call p q × HasCome s audit q new next × IsAppended p.text q.text before after
+begin_open s audit types st call p old new kept next before after request said hyper asks configured (inl is) come about was_so picked told same known line =
+    begun_open s audit types st call p old new kept next before after request hyper asks come about was_so picked
     (subst (λ (b : Begun). MayDo s (history_of p) (Begin st.dom request) (begun_element st.dom request b) × CoreStands s (grown (history_of p) (begun_element st.dom request b)) new) is told)
     same known line
-begin_open s types st call p old new kept next before after request said asks configured (inr is) come told same known line =
+begin_open s audit types st call p old new kept next before after request said hyper asks configured (inr is) come about was_so picked told same known line =
     absurd (configured (subst (λ (b : Begun). MayDo s (history_of p) (Begin st.dom request) (begun_element st.dom request b)) is told.0))
 
 -- `tick ID N`
 
-pub ticks_answered : (s : Setting) (types : List (List ℕ)) (st : Step) (most : ℕ) (begun : Step) (p : Progress) (old new : List State) (kept next : Kept) (before after : List ℕ) (said : Option Answer) (a : Answer)
-    → call_in kept.calls st.dom.0 ≡ Some begun → said ≡ Some a → HasCome s p old kept → TicksTo s (history_of p) st.dom most new said
+pub ticks_answered : (s : Setting) (audit : Bool) (types : List (List ℕ)) (st : Step) (most : ℕ) (begun : Step) (p : Progress) (old new : List State) (kept next : Kept) (before after : List ℕ) (said : Option Answer) (a : Answer) (hyper : Option Hypercall)
+    → hyper ≡ told_in kept.calls st.dom.0 → AddsRecord kept next st.dom hyper a → ((n : ℕ) → told_in next.calls n ≡ cond (n == st.dom.0) None (told_in kept.calls n))
+    → call_in kept.calls st.dom.0 ≡ Some begun → said ≡ Some a → HasCome s audit p old kept → TicksTo s (history_of p) st.dom most new said
     → AreNamed next.labels (named_after p.named st.dom begun a) → ((n : ℕ) → call_in next.calls n ≡ cond (n == st.dom.0) None (call_in kept.calls n)) → after ≡ before ++ answer_line types begun.line st.dom a
-    → (q : Progress) × TickLine types st most (p.open_steps st.dom.0) p q × HasCome s q new next × IsAppended p.text q.text before after
-ticks_answered s types st most begun p old new kept next before after said a begins is come ticks names known line =
+    → (q : Progress) × TickLine types st most (p.open_steps st.dom.0) p q × HasCome s audit q new next × IsAppended p.text q.text before after
+ticks_answered s audit types st most begun p old new kept next before after said a hyper about adds picked begins is come ticks names known line =
     let made = subst (λ (o : Option Answer). TicksTo s (history_of p) st.dom most new o) is ticks in
     let events : List Event = replicate made.ticks (Tick st.dom) in
     let own : AreOf st.dom events = ticks_of st.dom made.ticks in
@@ -278,17 +231,19 @@ ticks_answered s types st most begun p old new kept next before after said a beg
     let now : open_call (history_after (history_of p) made.trace) st.dom.0 ≡ None = subst (λ (l : List Element). open_call (history_after (history_of p) l) st.dom.0 ≡ None) (sym ends.order) ended in (
       q,
       subst (λ (o : Option Step). TickLine types st most o p q) (sym begins ∙ come.keeps.calls st.dom.0) (made.ticks, made.trace, Some a, made.length_of, made.comes, refl),
-      came s p events made.trace (named_after p.named st.dom begun a) calls (p.text ++ answer_line types begun.line st.dom a) old new kept next come made.happens
+      came s audit p events made.trace (named_after p.named st.dom begun a) calls (p.text ++ answer_line types begun.line st.dom a) old new kept next come made.happens
           (record { names = names; calls = λ n. known n ∙ ap (λ (o : Option Step). cond (n == st.dom.0) None o) (come.keeps.calls n) })
           (knows_next p.open_steps calls (history_of p) (history_after (history_of p) made.trace) st.dom.0 come.knows (pick_other p.open_steps None st.dom.0)
-          (λ n apart. events_other s (history_of p) events made.trace st.dom n own made.happens.legal apart) (ap is_some (pick_own p.open_steps None st.dom.0) ∙ sym (ap is_some now))),
+          (λ n apart. events_other s (history_of p) events made.trace st.dom n own made.happens.legal apart) (ap is_some (pick_own p.open_steps None st.dom.0) ∙ sym (ap is_some now))) adds.is_on
+          (λ on knew. audited_ticks s (history_of p) st.dom made.ticks made.trace ends.before ends.last a kept.audit.records.items next.audit.records.items (told_in kept.calls) (told_in next.calls) hyper
+          ends.order ends.quiet ends.answers made.happens.legal about adds.records picked knew),
       (answer_line types begun.line st.dom a, refl, line),
     )
 
-pub ticks_open : (s : Setting) (types : List (List ℕ)) (st : Step) (most : ℕ) (begun : Step) (p : Progress) (old new : List State) (kept : Kept) (before after : List ℕ) (said : Option Answer)
-    → domain_of s.domains st.dom ≢ None → call_in kept.calls st.dom.0 ≡ Some begun → said ≡ None → HasCome s p old kept → TicksTo s (history_of p) st.dom most new said → after ≡ before
-    → (q : Progress) × TickLine types st most (p.open_steps st.dom.0) p q × HasCome s q new kept × IsAppended p.text q.text before after
-ticks_open s types st most begun p old new kept before after said configured begins is come ticks line =
+pub ticks_open : (s : Setting) (audit : Bool) (types : List (List ℕ)) (st : Step) (most : ℕ) (begun : Step) (p : Progress) (old new : List State) (kept : Kept) (before after : List ℕ) (said : Option Answer)
+    → domain_of s.domains st.dom ≢ None → call_in kept.calls st.dom.0 ≡ Some begun → said ≡ None → HasCome s audit p old kept → TicksTo s (history_of p) st.dom most new said → after ≡ before
+    → (q : Progress) × TickLine types st most (p.open_steps st.dom.0) p q × HasCome s audit q new kept × IsAppended p.text q.text before after
+ticks_open s audit types st most begun p old new kept before after said configured begins is come ticks line =
     let made = subst (λ (o : Option Answer). TicksTo s (history_of p) st.dom most new o) is ticks in
     let events : List Event = replicate made.ticks (Tick st.dom) in
     let own : AreOf st.dom events = ticks_of st.dom made.ticks in
@@ -299,34 +254,35 @@ ticks_open s types st most begun p old new kept before after said configured beg
     let stays = ticks_stay s (history_of p) st.dom made.ticks made.trace was.0.request (length was.0.steps) configured open_now made.comes.0 made.happens.legal in (
       q,
       subst (λ (o : Option Step). TickLine types st most o p q) (sym has) (made.ticks, made.trace, None, made.length_of, made.comes, refl),
-      came s p events made.trace p.named p.open_steps p.text old new kept kept come made.happens (record { names = come.keeps.names; calls = come.keeps.calls })
+      came s audit p events made.trace p.named p.open_steps p.text old new kept kept come made.happens (record { names = come.keeps.names; calls = come.keeps.calls })
           (knows_next p.open_steps p.open_steps (history_of p) (history_after (history_of p) made.trace) st.dom.0 come.knows (λ n apart. refl)
-          (λ n apart. events_other s (history_of p) events made.trace st.dom n own made.happens.legal apart) (ap is_some has ∙ sym (ap is_some stays.0.is))),
+          (λ n apart. events_other s (history_of p) events made.trace st.dom n own made.happens.legal apart) (ap is_some has ∙ sym (ap is_some stays.0.is))) refl
+          (λ on knew. audited_wait s (history_of p) st.dom made.ticks made.trace kept.audit.records.items (told_in kept.calls) made.comes.0 made.happens.legal knew),
       ([], sym (append-nil p.text), line ∙ sym (append-nil before)),
     )
 
-pub ticks_idle : (s : Setting) (types : List (List ℕ)) (st : Step) (most : ℕ) (p : Progress) (domains : List State) (kept : Kept) (before after : List ℕ)
-    → call_in kept.calls st.dom.0 ≡ None → HasCome s p domains kept → after ≡ before ++ idle_line st.line st.dom
-    → (q : Progress) × TickLine types st most (p.open_steps st.dom.0) p q × HasCome s q domains kept × IsAppended p.text q.text before after
-ticks_idle s types st most p domains kept before after none come line =
+pub ticks_idle : (s : Setting) (audit : Bool) (types : List (List ℕ)) (st : Step) (most : ℕ) (p : Progress) (domains : List State) (kept : Kept) (before after : List ℕ)
+    → call_in kept.calls st.dom.0 ≡ None → HasCome s audit p domains kept → after ≡ before ++ idle_line st.line st.dom
+    → (q : Progress) × TickLine types st most (p.open_steps st.dom.0) p q × HasCome s audit q domains kept × IsAppended p.text q.text before after
+ticks_idle s audit types st most p domains kept before after none come line =
     let q : Progress = with_line p (idle_line st.line st.dom) in
     let has : p.open_steps st.dom.0 ≡ None = sym (come.keeps.calls st.dom.0) ∙ none in
     let free : open_call (history_of p) st.dom.0 ≡ None = none_known (open_call (history_of p) st.dom.0) (sym (come.knows st.dom.0) ∙ ap is_some has) in (
       q,
       subst (λ (o : Option Step). TickLine types st most o p q) (sym has) (free, refl),
-      lined s p (idle_line st.line st.dom) domains kept come,
+      lined s audit p (idle_line st.line st.dom) domains kept come,
       (idle_line st.line st.dom, refl, line),
     )
 
 -- `show ID REF`
 
-pub shows : (s : Setting) (st : Step) (gref : GrantRef) (p : Progress) (domains : List State) (kept : Kept) (before after : List ℕ) (shown : Option Shown)
-    → HasCome s p domains kept → ((h : History) → CoreStands s h domains → shown ≡ shown_at s h st.dom gref.0) → after ≡ before ++ show_line st.line st.dom gref shown
-    → (q : Progress) × ShowLine s st gref p q × HasCome s q domains kept × IsAppended p.text q.text before after
-shows s st gref p domains kept before after shown come told line =
+pub shows : (s : Setting) (audit : Bool) (st : Step) (gref : GrantRef) (p : Progress) (domains : List State) (kept : Kept) (before after : List ℕ) (shown : Option Shown)
+    → HasCome s audit p domains kept → ((h : History) → CoreStands s h domains → shown ≡ shown_at s h st.dom gref.0) → after ≡ before ++ show_line st.line st.dom gref shown
+    → (q : Progress) × ShowLine s st gref p q × HasCome s audit q domains kept × IsAppended p.text q.text before after
+shows s audit st gref p domains kept before after shown come told line =
     let text : List ℕ = show_line st.line st.dom gref (shown_at s (history_of p) st.dom gref.0) in (
       with_line p text,
       refl,
-      lined s p text domains kept come,
+      lined s audit p text domains kept come,
       (text, refl, line ∙ ap (λ (o : Option Shown). before ++ show_line st.line st.dom gref o) (told (history_of p) come.stands)),
     )

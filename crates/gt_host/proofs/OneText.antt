@@ -1,5 +1,5 @@
 -- Two legal runs of a script print one text.
-use Rattle.std.proofs.Common.{◌≡◌, ◌≤◌, ◌+◌, inl, inr, ℕ, zero, suc, List, [], ◌∷◌, ◌++◌, length, replicate, take, drop, Option, None, Some, Result, Ok, refl, cond, ap, sym, subst, ◌∙◌, append_assoc, length-append, arith}
+use Rattle.std.proofs.Common.{◌≡◌, ◌≤◌, ◌+◌, inl, inr, ℕ, zero, suc, Bool, List, [], ◌∷◌, ◌++◌, length, replicate, take, drop, Option, None, Some, Result, Ok, refl, cond, ap, sym, subst, ◌∙◌, append_assoc, length-append, arith}
 use Rattle.std.specs.Prelude.{◌==◌, codes}
 use Rattle.std.specs.Option.{option_map}
 use Rattle.std.proofs.lemmas.Option.{none-some, same_Some}
@@ -30,8 +30,10 @@ use Rattle.gt_host.specs.declared.outcome.Outcome.{Outcome}
 use Rattle.gt_host.specs.declared.outcome.Outcome.TheVariants.{Answered, Busy}
 use Rattle.gt_host.specs.Printing.{answer_text, answer_line, call_text, busy_line, idle_line}
 use Rattle.gt_host.specs.Showing.{show_line}
-use Rattle.gt_host.specs.Playing.{IsLegalRunOf, setting_of_script, whole_text, BeginsRun, BeginsEvery, Played}
+use Rattle.gt_host.specs.Playing.{IsLegalRunOf, setting_of_script, whole_text, audited_text, BeginsRun, BeginsEvery, Played}
 use Rattle.gt_host.specs.Runs.{Progress, AnswerNothing, EndsWith, ComesTo, TicksComeTo, answer_in, call_events, at_start, history_of, with_events, with_line, with_call, answered, after_call, after_item, after_beginning, after_ticks, DoLine, BeginLine, TickLine, ShowLine, RunsLine, LeadsTo, open_lines}
+use Rattle.gt_host.specs.Auditing.{audit_text}
+use Rattle.gt_host.proofs.RecordLemmas.{HasOneSubject, audit-same}
 use Rattle.gt_host.proofs.RunLemmas.{history_after-append}
 use Rattle.gt_host.proofs.AlikeLemmas.{bare_names, NamesGiven, AnswerGiven, asks-same, asks-known, text-same, named-same, named-given, names-after, answers-same, done-given}
 use Rattle.gt_host.proofs.TickLemmas.{StaysAlike, swapped, answers-alike, call-given, ticks-alike, ticks-apart, ticks-answered}
@@ -390,6 +392,14 @@ one-text law shows c p q x y =
     let w = runs-together law shows c c.steps p q x y in
     ap (λ (l : List ℕ). l ++ open_lines c.domains p.open_steps) w.text ∙ ap (λ (f : ℕ → Option Step). q.text ++ open_lines c.domains f) w.opens
 
+-- with their audit too
+pub audited-same : StaysAlike → ShowsAlike → HasOneSubject → (c : Contents) (audit : Bool) (p q : Progress) → IsLegalRunOf c c.steps p → IsLegalRunOf c c.steps q → audited_text c audit p ≡ audited_text c audit q
+audited-same law shows tells c audit p q x y =
+    let t = setting_of_script c in
+    let w = runs-together law shows c c.steps p q x y in
+    ap (λ (l : List ℕ). l ++ audit_text audit t (type_names c) p.trace) (one-text law shows c p q x y)
+    ∙ ap (λ (l : List ℕ). whole_text c q ++ l) (audit-same tells audit t (type_names c) p.trace q.trace w.alike)
+
 -- beginnings
 
 -- a run goes on from the point to which its first steps led
@@ -460,12 +470,12 @@ front-text law shows c n p q x y =
     subst (λ (l : List ℕ). Grows l (whole_text c q)) (sym w.text)
     (grows-both g.mid.text q.text (whole_text c q) (leads-grow t types (drop n c.steps) g.mid q g.back) (open_lines c.domains q.open_steps, refl))
 
-pub begins-every : StaysAlike → ShowsAlike → (c : Contents) (old new : Option (List ℕ)) → BeginsRun c old new → BeginsEvery c old new
-begins-every law shows c old new (inl (n, p, run, some)) q whole =
-    let g = front-text law shows c n p q run whole in
+pub begins-every : StaysAlike → ShowsAlike → HasOneSubject → (c : Contents) (audit : Bool) (old new : Option (List ℕ)) → BeginsRun c audit old new → BeginsEvery c audit old new
+begins-every law shows tells c audit old new (inl (n, p, run, some)) q whole =
+    let g = grows-both p.text (whole_text c q) (audited_text c audit q) (front-text law shows c n p q run whole) (audit_text audit (setting_of_script c) (type_names c) q.trace, refl) in
     subst (λ (l : List ℕ). AppendsBeginning old new l) (sym g.1) (begins_longer old new p.text g.0 some)
-begins-every law shows c old new (inr (p, run, all)) q whole =
-    subst (λ (l : List ℕ). AppendsBeginning old new l) (one-text law shows c p q run whole) all
+begins-every law shows tells c audit old new (inr (p, run, all)) q whole =
+    subst (λ (l : List ℕ). AppendsBeginning old new l) (audited-same law shows tells c audit p q run whole) all
 
 -- bytes that are played twice to the end
 
@@ -475,9 +485,9 @@ TellsOnce = (bytes : List ℕ) (one other : Result Contents Wrong) → Tells byt
 same-contents : (c e : Contents) → ◌≡◌ {A = Result Contents Wrong} (Ok c) (Ok e) → c ≡ e
 same-contents c e is = cc
 
-pub played-once : StaysAlike → ShowsAlike → TellsOnce → (input old one other : List ℕ) → Played (Tells input) (Some old) (Some one) (Ok tt) → Played (Tells input) (Some old) (Some other) (Ok tt) → one ≡ other
-played-once law shows once input old one other (c, said, (p, run, went)) (e, says, (q, way, gone)) =
+pub played-once : StaysAlike → ShowsAlike → HasOneSubject → TellsOnce → (input : List ℕ) (audit : Bool) (old one other : List ℕ) → Played (Tells input) audit (Some old) (Some one) (Ok tt) → Played (Tells input) audit (Some old) (Some other) (Ok tt) → one ≡ other
+played-once law shows tells once input audit old one other (c, said, (p, run, went)) (e, says, (q, way, gone)) =
     let same = same-contents e c (once input (Ok e) (Ok c) says said) in
     let way_of = subst (λ (z : Contents). IsLegalRunOf z z.steps q) same way in
-    let gone_of = subst (λ (z : Contents). other ≡ old ++ whole_text z q) same gone in
-    went ∙ ap (λ (l : List ℕ). old ++ l) (one-text law shows c p q run way_of) ∙ sym gone_of
+    let gone_of = subst (λ (z : Contents). other ≡ old ++ audited_text z audit q) same gone in
+    went ∙ ap (λ (l : List ℕ). old ++ l) (audited-same law shows tells c audit p q run way_of) ∙ sym gone_of

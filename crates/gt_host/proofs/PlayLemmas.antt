@@ -1,4 +1,4 @@
-use Rattle.std.proofs.Common.{◌≡◌, ℕ, Bool, ◌+◌, ◌<◌, List, [], ◌∷◌, ◌++◌, length, take, get_or, Option, None, Some, Result, Ok, Err, OnErr, refl, ap, sym, subst, ◌∙◌, append_assoc, add-one, inl, inr, arith}
+use Rattle.std.proofs.Common.{◌≡◌, ℕ, Bool, true, false, ◌+◌, ◌<◌, List, [], ◌∷◌, ◌++◌, length, take, get_or, Option, None, Some, Result, Ok, Err, OnErr, refl, ap, sym, subst, ◌∙◌, append_assoc, add-one, inl, inr, arith}
 use Rattle.std.proofs.Math.Seq.{take-suc, take-length}
 use Rattle.std.proofs.lemmas.List.{append-nil}
 use Rattle.std.proofs.lemmas.List.Elements.{All-get_or}
@@ -18,7 +18,10 @@ use Rattle.gt_host.specs.declared.kept.Kept.{Kept}
 use Rattle.gt_host.specs.declared.rights.Rights.{Rights}
 use Rattle.gt_host.specs.Rights.{may_by}
 use Rattle.gt_host.specs.OpenCalls.{call_in}
-use Rattle.gt_host.specs.Playing.{StartsFor, BeginsRun, WritesRun, IsLegalRunOf, setting_of_script, whole_text}
+use Rattle.gt_host.specs.Auditing.{asked_lines, audit_text, before_call, record_lines}
+use Rattle.gt_host.specs.Playing.{StartsFor, BeginsRun, WritesRun, IsLegalRunOf, setting_of_script, whole_text, audited_text}
+use Rattle.gt_host.specs.Recording.{IsAudited, RecordsNothing}
+use Rattle.gt_core.specs.declared.trace.Element.{Element}
 use Rattle.gt_host.specs.Runs.{Progress, LeadsTo, IsRunOf, RunsLine, at_start, history_of, open_text, open_lines}
 use Rattle.gt_streams.specs.Laws.{appends_both, appends_nothing, begins_after}
 use Rattle.gt_streams.specs.Streams.{AppendsBeginning, Sends}
@@ -26,10 +29,10 @@ use Rattle.gt_host.specs.Ticking.{IsReady, IsKept, HasCome, Leads}
 use Rattle.gt_host.proofs.StartLemmas.{taken_known}
 
 -- how far a run has come: it stands where these steps led, and of its text some went out and the rest waits
-pub record IsUnderway (c : Contents) (steps : List Step) (domains : List State) (kept : Kept) (waiting : List ℕ) (old now : Option (List ℕ)) : Type 0 where
+pub record IsUnderway (c : Contents) (audit : Bool) (steps : List Step) (domains : List State) (kept : Kept) (waiting : List ℕ) (old now : Option (List ℕ)) : Type 0 where
   pub progress : Progress
   pub run : IsRunOf (setting_of_script c) (type_names c) steps progress
-  pub come : HasCome (setting_of_script c) progress domains kept
+  pub come : HasCome (setting_of_script c) audit progress domains kept
   pub sent : List ℕ
   pub parts : progress.text ≡ sent ++ waiting
   pub went : Appends old now sent
@@ -46,9 +49,10 @@ same_setting_of_script c core starts =
     ∙ ap (λ (may : TypeId → TypeId → Perms → Bool). record { domains = c.domains; first_generation = first_gen c; may = may }) starts.rights
 
 -- nothing has happened yet
-pub starts_underway : (c : Contents) (core : Core Rights) (kept : Kept) (waiting : List ℕ) (old : Option (List ℕ)) → StartsFor c core → IsKept kept at_start → waiting ≡ [] → IsUnderway c [] core.domains.items kept waiting old old
-unfolding open_call
-starts_underway c core kept waiting old starts keeps none = record {
+pub starts_underway : (c : Contents) (audit : Bool) (core : Core Rights) (kept : Kept) (waiting : List ℕ) (old : Option (List ℕ)) → StartsFor c core → IsKept kept at_start → kept.audit.is_on ≡ audit → RecordsNothing kept → waiting ≡ []
+    → IsUnderway c audit [] core.domains.items kept waiting old old
+unfolding open_call before_call
+starts_underway c audit core kept waiting old starts keeps on nothing none = record {
   progress = at_start;
   run = refl;
   come = record {
@@ -56,6 +60,7 @@ starts_underway c core kept waiting old starts keeps none = record {
     stands = subst (λ (s : Setting). CoreStands s [] core.domains.items) (same_setting_of_script c core starts) starts.stands;
     keeps = keeps;
     knows = λ dom. refl;
+    audited = record { is_on = on; recorded = λ asked_for. record { records = nothing.records; calls = λ d. nothing.calls d } };
   };
   sent = [];
   parts = sym none;
@@ -74,14 +79,14 @@ Keeps-begins (Some x) None xs h = absurd h
 Keeps-begins (Some x) (Some y) xs h = (0, omega arith, h ∙ sym (append-nil x))
 
 -- nothing was done, and nothing went out
-pub not_begun : (c : Contents) (old new : Option (List ℕ)) → Keeps old new → BeginsRun c old new
+pub not_begun : (c : Contents) (audit : Bool) (old new : Option (List ℕ)) → Keeps old new → BeginsRun c audit old new
 unfolding open_call
-not_begun c old new kept = inl (0, at_start, (refl, tt, λ dom. refl), Keeps-begins old new [] kept)
+not_begun c audit old new kept = inl (0, at_start, (refl, tt, λ dom. refl), Keeps-begins old new [] kept)
 
 -- a run that has come some way has written a beginning, and goes on to do so
-pub begins : (c : Contents) (steps : List Step) (n : ℕ) (domains : List State) (kept : Kept) (waiting : List ℕ) (old mid new : Option (List ℕ))
-    → steps ≡ c.steps → IsUnderway c (take n steps) domains kept waiting old mid → AppendsBeginning mid new waiting → BeginsRun c old new
-begins c steps n domains kept waiting old mid new all u h =
+pub begins : (c : Contents) (audit : Bool) (steps : List Step) (n : ℕ) (domains : List State) (kept : Kept) (waiting : List ℕ) (old mid new : Option (List ℕ))
+    → steps ≡ c.steps → IsUnderway c audit (take n steps) domains kept waiting old mid → AppendsBeginning mid new waiting → BeginsRun c audit old new
+begins c audit steps n domains kept waiting old mid new all u h =
     inl (
       n,
       u.progress,
@@ -90,23 +95,23 @@ begins c steps n domains kept waiting old mid new all u h =
     )
 
 -- it has written a beginning already
-pub has_begun : (c : Contents) (steps : List Step) (n : ℕ) (domains : List State) (kept : Kept) (waiting : List ℕ) (old mid : Option (List ℕ))
-    → steps ≡ c.steps → IsUnderway c (take n steps) domains kept waiting old mid → BeginsRun c old mid
-has_begun c steps n domains kept waiting old mid all u =
-    begins c steps n domains kept waiting old mid mid all u (0, omega arith, appends_nothing mid)
+pub has_begun : (c : Contents) (audit : Bool) (steps : List Step) (n : ℕ) (domains : List State) (kept : Kept) (waiting : List ℕ) (old mid : Option (List ℕ))
+    → steps ≡ c.steps → IsUnderway c audit (take n steps) domains kept waiting old mid → BeginsRun c audit old mid
+has_begun c audit steps n domains kept waiting old mid all u =
+    begins c audit steps n domains kept waiting old mid mid all u (0, omega arith, appends_nothing mid)
 
 pub OnErr-all : {T E : Type 0} (r : Result T E) (P : Type 0) → P → OnErr r P
 OnErr-all (Ok x) P h = tt
 OnErr-all (Err e) P h = h
 
 -- a step more, of whose line some goes out
-pub goes_on : (c : Contents) (t : Setting) (known : List (List ℕ)) (steps : List Step) (i : ℕ) (s : Step) (domains next : List State) (kept later : Kept) (w more rest : List ℕ) (old mid now : Option (List ℕ))
-    → t ≡ setting_of_script c → IsUnderway c (take i steps) domains kept w old mid → i < length steps → s ≡ get_or steps i s → known ≡ (type_names c)
-    → Leads t (λ p q. RunsLine t known s s.action p q) domains next kept later w more → Sends mid now more rest → IsUnderway c (take (i + 1) steps) next later rest old now
-goes_on c t known steps i s domains next kept later w more rest old mid now setting u within is same leads (sent, split, went) =
+pub goes_on : (c : Contents) (audit : Bool) (t : Setting) (known : List (List ℕ)) (steps : List Step) (i : ℕ) (s : Step) (domains next : List State) (kept later : Kept) (w more rest : List ℕ) (old mid now : Option (List ℕ))
+    → t ≡ setting_of_script c → IsUnderway c audit (take i steps) domains kept w old mid → i < length steps → s ≡ get_or steps i s → known ≡ (type_names c)
+    → Leads t (λ p q. RunsLine t known s s.action p q) domains next kept later w more → Sends mid now more rest → IsUnderway c audit (take (i + 1) steps) next later rest old now
+goes_on c audit t known steps i s domains next kept later w more rest old mid now setting u within is same leads (sent, split, went) =
     let told = subst (λ (l : List (List ℕ)). Leads t (λ p q. RunsLine t l s s.action p q) domains next kept later w more) same leads in
     let here = subst (λ (x : Setting). Leads x (λ p q. RunsLine x (type_names c) s s.action p q) domains next kept later w more) setting told in
-    let step = here u.progress u.come in
+    let step = here u.progress audit u.come in
     let first : take (i + 1) steps ≡ take i steps ++ s ∷ [] = rw add-one (take-suc steps i s within ∙ ap (λ (x : Step). take i steps ++ x ∷ []) (sym is)) in
     record {
       progress = step.0;
@@ -118,17 +123,17 @@ goes_on c t known steps i s domains next kept later w more rest old mid now sett
     }
 
 -- a step more, whose line waits with the others, of which a beginning goes out
-pub begins_step : (c : Contents) (t : Setting) (known : List (List ℕ)) (steps : List Step) (i : ℕ) (s : Step) (domains next : List State) (kept later : Kept) (w more : List ℕ) (old mid new : Option (List ℕ))
-    → t ≡ setting_of_script c → steps ≡ c.steps → IsUnderway c (take i steps) domains kept w old mid → i < length steps → s ≡ get_or steps i s → known ≡ (type_names c)
-    → Leads t (λ p q. RunsLine t known s s.action p q) domains next kept later w more → AppendsBeginning mid new more → BeginsRun c old new
-begins_step c t known steps i s domains next kept later w more old mid new setting all u within is same leads h =
-    begins c steps (i + 1) next later more old mid new all
-    (goes_on c t known steps i s domains next kept later w more more old mid mid setting u within is same leads ([], refl, appends_nothing mid)) h
+pub begins_step : (c : Contents) (audit : Bool) (t : Setting) (known : List (List ℕ)) (steps : List Step) (i : ℕ) (s : Step) (domains next : List State) (kept later : Kept) (w more : List ℕ) (old mid new : Option (List ℕ))
+    → t ≡ setting_of_script c → steps ≡ c.steps → IsUnderway c audit (take i steps) domains kept w old mid → i < length steps → s ≡ get_or steps i s → known ≡ (type_names c)
+    → Leads t (λ p q. RunsLine t known s s.action p q) domains next kept later w more → AppendsBeginning mid new more → BeginsRun c audit old new
+begins_step c audit t known steps i s domains next kept later w more old mid new setting all u within is same leads h =
+    begins c audit steps (i + 1) next later more old mid new all
+    (goes_on c audit t known steps i s domains next kept later w more more old mid mid setting u within is same leads ([], refl, appends_nothing mid)) h
 
 -- the next step finds a core that stands for what was done, and is one of a domain of the run
-pub ready : (c : Contents) (t : Setting) (steps : List Step) (i : ℕ) (s : Step) (domains : List State) (kept : Kept) (w : List ℕ) (old mid : Option (List ℕ))
-    → t ≡ setting_of_script c → steps ≡ c.steps → All (λ (x : Step). IsTrue (is_taken c.domains x.dom)) c.steps → IsUnderway c (take i steps) domains kept w old mid → i < length steps → s ≡ get_or steps i s → IsReady t s.dom domains
-ready c t steps i s domains kept w old mid setting all configured u within is =
+pub ready : (c : Contents) (audit : Bool) (t : Setting) (steps : List Step) (i : ℕ) (s : Step) (domains : List State) (kept : Kept) (w : List ℕ) (old mid : Option (List ℕ))
+    → t ≡ setting_of_script c → steps ≡ c.steps → All (λ (x : Step). IsTrue (is_taken c.domains x.dom)) c.steps → IsUnderway c audit (take i steps) domains kept w old mid → i < length steps → s ≡ get_or steps i s → IsReady t s.dom domains
+ready c audit t steps i s domains kept w old mid setting all configured u within is =
     let every : All (λ (x : Step). IsTrue (is_taken c.domains x.dom)) steps = subst (λ (l : List Step). All (λ (x : Step). IsTrue (is_taken c.domains x.dom)) l) (sym all) configured in
     let taken : IsTrue (is_taken c.domains s.dom) = subst (λ (x : Step). IsTrue (is_taken c.domains x.dom)) (sym is) (All-get_or (λ (x : Step). IsTrue (is_taken c.domains x.dom)) steps i s within every) in
     subst (λ (q : Setting). IsReady q s.dom domains) (sym setting) (record {
@@ -143,37 +148,51 @@ open_lines-same : (ds : List DomainConfig) (calls known : ℕ → Option Step) �
 open_lines-same [] calls known same = refl
 open_lines-same (d ∷ ds) calls known same = ap (λ (o : Option Step). open_text d.id o ++ open_lines ds calls) (same d.id.0) ∙ ap (λ (l : List ℕ). open_text d.id (known d.id.0) ++ l) (open_lines-same ds calls known same)
 
--- the lines of the open calls wait with the others
-last_lines : (c : Contents) (domains : List State) (kept : Kept) (ds : List DomainConfig) (steps : List Step) (waiting more : List ℕ) (old mid : Option (List ℕ)) → ds ≡ c.domains → more ≡ waiting ++ open_lines ds (call_in kept.calls)
-    → (u : IsUnderway c steps domains kept waiting old mid) → u.sent ++ more ≡ whole_text c u.progress
-last_lines c domains kept ds steps waiting more old mid all appended u =
+-- the lines of the records are those of the trace
+audit_lines : (s : Setting) (audit : Bool) (trace : List Element) (kept : Kept) (names : List (List ℕ)) → IsAudited s audit trace kept → asked_lines kept.audit.is_on names kept.audit.records.items ≡ audit_text audit s names trace
+audit_lines s false trace kept names is = ap (λ (b : Bool). asked_lines b names kept.audit.records.items) is.is_on
+audit_lines s true trace kept names is = ap (λ (b : Bool). asked_lines b names kept.audit.records.items) is.is_on ∙ ap (record_lines names) (is.recorded refl).records
+
+-- the lines of the open calls, and then those of the records, wait with the others
+last_lines : (c : Contents) (audit : Bool) (domains : List State) (kept : Kept) (ds : List DomainConfig) (names : List (List ℕ)) (steps : List Step) (waiting more last : List ℕ) (old mid : Option (List ℕ)) → ds ≡ c.domains → names ≡ type_names c
+    → more ≡ waiting ++ open_lines ds (call_in kept.calls) → last ≡ more ++ asked_lines kept.audit.is_on names kept.audit.records.items
+    → (u : IsUnderway c audit steps domains kept waiting old mid) → u.sent ++ last ≡ audited_text c audit u.progress
+last_lines c audit domains kept ds names steps waiting more last old mid all called appended added u =
+    let lines : List ℕ = audit_text audit (setting_of_script c) (type_names c) u.progress.trace in
+    let whole : u.sent ++ more ≡ whole_text c u.progress =
     ap (λ (l : List ℕ). u.sent ++ l) (appended ∙ ap (λ (l : List DomainConfig). waiting ++ open_lines l (call_in kept.calls)) all ∙ ap (λ (l : List ℕ). waiting ++ l) (open_lines-same c.domains (call_in kept.calls) u.progress.open_steps u.come.keeps.calls))
-    ∙ sym (append_assoc u.sent waiting (open_lines c.domains u.progress.open_steps)) ∙ ap (λ (l : List ℕ). l ++ open_lines c.domains u.progress.open_steps) (sym u.parts)
+    ∙ sym (append_assoc u.sent waiting (open_lines c.domains u.progress.open_steps)) ∙ ap (λ (l : List ℕ). l ++ open_lines c.domains u.progress.open_steps) (sym u.parts) in
+    let told : last ≡ more ++ lines =
+    added ∙ ap (λ (l : List (List ℕ)). more ++ asked_lines kept.audit.is_on l kept.audit.records.items) called
+    ∙ ap (λ (l : List ℕ). more ++ l) (audit_lines (setting_of_script c) audit u.progress.trace kept (type_names c) u.come.audited) in
+    ap (λ (l : List ℕ). u.sent ++ l) told ∙ sym (append_assoc u.sent more lines) ∙ ap (λ (l : List ℕ). l ++ lines) whole
 
 -- all steps were made: the run stands where they lead
-is_run : (c : Contents) (steps : List Step) (n : ℕ) (domains : List State) (kept : Kept) (waiting : List ℕ) (old mid : Option (List ℕ))
-    → steps ≡ c.steps → n ≡ length steps → (u : IsUnderway c (take n steps) domains kept waiting old mid) → IsLegalRunOf c c.steps u.progress
-is_run c steps n domains kept waiting old mid all made u =
+is_run : (c : Contents) (audit : Bool) (steps : List Step) (n : ℕ) (domains : List State) (kept : Kept) (waiting : List ℕ) (old mid : Option (List ℕ))
+    → steps ≡ c.steps → n ≡ length steps → (u : IsUnderway c audit (take n steps) domains kept waiting old mid) → IsLegalRunOf c c.steps u.progress
+is_run c audit steps n domains kept waiting old mid all made u =
     let whole : take n steps ≡ c.steps = ap (λ (k : ℕ). take k steps) made ∙ take-length steps ∙ all in
     (subst (λ (l : List Step). IsRunOf (setting_of_script c) (type_names c) l u.progress) whole u.run, u.come.legal, u.come.knows)
 
 -- the last lines went out
-pub ends : (c : Contents) (steps : List Step) (n : ℕ) (domains : List State) (kept : Kept) (ds : List DomainConfig) (waiting more : List ℕ) (old mid new : Option (List ℕ))
-    → steps ≡ c.steps → n ≡ length steps → ds ≡ c.domains → more ≡ waiting ++ open_lines ds (call_in kept.calls) → IsUnderway c (take n steps) domains kept waiting old mid → Appends mid new more → WritesRun c old new
-ends c steps n domains kept ds waiting more old mid new all made configured appended u went = (
+pub ends : (c : Contents) (audit : Bool) (steps : List Step) (n : ℕ) (domains : List State) (kept : Kept) (ds : List DomainConfig) (names : List (List ℕ)) (waiting more last : List ℕ) (old mid new : Option (List ℕ))
+    → steps ≡ c.steps → n ≡ length steps → ds ≡ c.domains → names ≡ type_names c → more ≡ waiting ++ open_lines ds (call_in kept.calls) → last ≡ more ++ asked_lines kept.audit.is_on names kept.audit.records.items
+    → IsUnderway c audit (take n steps) domains kept waiting old mid → Appends mid new last → WritesRun c audit old new
+ends c audit steps n domains kept ds names waiting more last old mid new all made configured called appended added u went = (
   u.progress,
-  is_run c steps n domains kept waiting old mid all made u,
-  subst (λ (l : List ℕ). Appends old new l) (last_lines c domains kept ds (take n steps) waiting more old mid configured appended u) (appends_both old mid new u.sent more u.went went),
+  is_run c audit steps n domains kept waiting old mid all made u,
+  subst (λ (l : List ℕ). Appends old new l) (last_lines c audit domains kept ds names (take n steps) waiting more last old mid configured called appended added u) (appends_both old mid new u.sent last u.went went),
 )
 
 -- of the last lines a beginning went out
-pub begins_end : (c : Contents) (steps : List Step) (n : ℕ) (domains : List State) (kept : Kept) (ds : List DomainConfig) (waiting more : List ℕ) (old mid new : Option (List ℕ))
-    → steps ≡ c.steps → n ≡ length steps → ds ≡ c.domains → more ≡ waiting ++ open_lines ds (call_in kept.calls) → IsUnderway c (take n steps) domains kept waiting old mid → AppendsBeginning mid new more → BeginsRun c old new
-begins_end c steps n domains kept ds waiting more old mid new all made configured appended u went =
+pub begins_end : (c : Contents) (audit : Bool) (steps : List Step) (n : ℕ) (domains : List State) (kept : Kept) (ds : List DomainConfig) (names : List (List ℕ)) (waiting more last : List ℕ) (old mid new : Option (List ℕ))
+    → steps ≡ c.steps → n ≡ length steps → ds ≡ c.domains → names ≡ type_names c → more ≡ waiting ++ open_lines ds (call_in kept.calls) → last ≡ more ++ asked_lines kept.audit.is_on names kept.audit.records.items
+    → IsUnderway c audit (take n steps) domains kept waiting old mid → AppendsBeginning mid new last → BeginsRun c audit old new
+begins_end c audit steps n domains kept ds names waiting more last old mid new all made configured called appended added u went =
     inr (
       u.progress,
-      is_run c steps n domains kept waiting old mid all made u,
-      subst (λ (l : List ℕ). AppendsBeginning old new l) (last_lines c domains kept ds (take n steps) waiting more old mid configured appended u) (begins_after old mid new u.sent more u.went went),
+      is_run c audit steps n domains kept waiting old mid all made u,
+      subst (λ (l : List ℕ). AppendsBeginning old new l) (last_lines c audit domains kept ds names (take n steps) waiting more last old mid configured called appended added u) (begins_after old mid new u.sent last u.went went),
     )
 
 -- the lines of the open calls, one after the other

@@ -1,5 +1,5 @@
 -- From what was read to what was played.
-use Rattle.std.proofs.Common.{◌≡◌, ℕ, List, Option, Result, Ok, Err, OnOk, OnErr, sym, subst, inl, inr}
+use Rattle.std.proofs.Common.{◌≡◌, ℕ, Bool, List, Option, Result, Ok, Err, OnOk, OnErr, sym, subst, inl, inr}
 use Rattle.std.specs.Io.KnownBytes.{Keeps}
 use Rattle.gt_script.specs.Contents.{Contents}
 use Rattle.gt_script.specs.Outcomes.{Answers}
@@ -17,31 +17,32 @@ use Rattle.gt_streams.specs.Laws.{keeps_same, of_any_input}
 use Rattle.gt_streams.specs.Streams.{OfInput}
 
 -- there is no script, and nothing went out
-no_script : (Told : Result Contents Wrong → Type 0) (error : ScriptError) (old new : Option (List ℕ)) → Answers (Err error) Told → Keeps old new → Played Told old new (Err (fault_of error))
-no_script Told errors.Memory old new told kept = inl kept
-no_script Told (errors.Fault f) old new told kept = (told, kept)
-no_script Told (errors.Policy f) old new (g, shown, told) kept = (g, shown, told, kept)
+no_script : (Told : Result Contents Wrong → Type 0) (audit : Bool) (error : ScriptError) (old new : Option (List ℕ)) → Answers (Err error) Told → Keeps old new → Played Told audit old new (Err (fault_of error))
+no_script Told audit errors.Memory old new told kept = inl kept
+no_script Told audit (errors.Fault f) old new told kept = (told, kept)
+no_script Told audit (errors.Policy f) old new (g, shown, told) kept = (g, shown, told, kept)
 
-pub played_nothing : (Told : Result Contents Wrong → Type 0) (error : ScriptError) (fault : PlayFault) (old new : Option (List ℕ))
-    → Answers (Err error) Told → Keeps old new → fault ≡ fault_of error → Played Told old new (Err fault)
-played_nothing Told error fault old new told kept is = subst (λ (f : PlayFault). Played Told old new (Err f)) (sym is) (no_script Told error old new told kept)
+pub played_nothing : (Told : Result Contents Wrong → Type 0) (audit : Bool) (error : ScriptError) (fault : PlayFault) (old new : Option (List ℕ))
+    → Answers (Err error) Told → Keeps old new → fault ≡ fault_of error → Played Told audit old new (Err fault)
+played_nothing Told audit error fault old new told kept is = subst (λ (f : PlayFault). Played Told audit old new (Err f)) (sym is) (no_script Told audit error old new told kept)
 
 -- a script was run
-run-told : (Told : Result Contents Wrong → Type 0) (c : Contents) (r : Result (Unit {0}) Fault) (old new : Option (List ℕ)) → Told (Ok c) → OnOk r (WritesRun c old new) → OnErr r (BeginsRun c old new)
-    → (BeginsRun c old new → BeginsEvery c old new) → Played Told old new (ended r)
-run-told Told c (Ok done) old new told whole begun every = (c, told, whole)
-run-told Told c (Err runs.Memory) old new told whole begun every = inr (c, told, begun, every begun)
-run-told Told c (Err runs.Write) old new told whole begun every = (c, told, begun, every begun)
+run-told : (Told : Result Contents Wrong → Type 0) (audit : Bool) (c : Contents) (r : Result (Unit {0}) Fault) (old new : Option (List ℕ)) → Told (Ok c) → OnOk r (WritesRun c audit old new) → OnErr r (BeginsRun c audit old new)
+    → (BeginsRun c audit old new → BeginsEvery c audit old new) → Played Told audit old new (ended r)
+run-told Told audit c (Ok done) old new told whole begun every = (c, told, whole)
+run-told Told audit c (Err runs.Memory) old new told whole begun every = inr (c, told, begun, every begun)
+run-told Told audit c (Err runs.Write) old new told whole begun every = (c, told, begun, every begun)
 
-pub played_run : (Told : Result Contents Wrong → Type 0) (c : Contents) (r : Result (Unit {0}) Fault) (t : Result (Unit {0}) PlayFault) (old new : Option (List ℕ)) → Told (Ok c)
-    → OnOk r (WritesRun c old new) → OnErr r (BeginsRun c old new) → (BeginsRun c old new → BeginsEvery c old new) → t ≡ ended r → Played Told old new t
-played_run Told c r t old new told whole begun every is = subst (λ (q : Result (Unit {0}) PlayFault). Played Told old new q) (sym is) (run-told Told c r old new told whole begun every)
+pub played_run : (Told : Result Contents Wrong → Type 0) (audit : Bool) (c : Contents) (r : Result (Unit {0}) Fault) (t : Result (Unit {0}) PlayFault) (old new : Option (List ℕ)) → Told (Ok c)
+    → OnOk r (WritesRun c audit old new) → OnErr r (BeginsRun c audit old new) → (BeginsRun c audit old new → BeginsEvery c audit old new) → t ≡ ended r → Played Told audit old new t
+played_run Told audit c r t old new told whole begun every is =
+    subst (λ (q : Result (Unit {0}) PlayFault). Played Told audit old new q) (sym is) (run-told Told audit c r old new told whole begun every)
 
 -- nothing could be read
-unread : (Told : Result Contents Wrong → Type 0) (old : Option (List ℕ)) (error : ReadFault) → Played Told old old (Err (read_fault error))
-unread Told old reads.Memory = inl (keeps_same old)
-unread Told old reads.Read = keeps_same old
+unread : (Told : Result Contents Wrong → Type 0) (audit : Bool) (old : Option (List ℕ)) (error : ReadFault) → Played Told audit old old (Err (read_fault error))
+unread Told audit old reads.Memory = inl (keeps_same old)
+unread Told audit old reads.Read = keeps_same old
 
-pub played_unread : (known old : Option (List ℕ)) (error : ReadFault) (fault : PlayFault) → fault ≡ read_fault error → OfInput known (λ input. Played (Tells input) old old (Err fault))
-played_unread known old error fault is =
-    of_any_input known (λ (input : List ℕ). Played (Tells input) old old (Err fault)) (λ (input : List ℕ). subst (λ (f : PlayFault). Played (Tells input) old old (Err f)) (sym is) (unread (Tells input) old error))
+pub played_unread : (audit : Bool) (known old : Option (List ℕ)) (error : ReadFault) (fault : PlayFault) → fault ≡ read_fault error → OfInput known (λ input. Played (Tells input) audit old old (Err fault))
+played_unread audit known old error fault is =
+    of_any_input known (λ (input : List ℕ). Played (Tells input) audit old old (Err fault)) (λ (input : List ℕ). subst (λ (f : PlayFault). Played (Tells input) audit old old (Err f)) (sym is) (unread (Tells input) audit old error))

@@ -1,9 +1,12 @@
+pub mod Auditing
+pub mod Copying
 pub mod Faults
 pub mod Labels
 pub mod Naming
 pub mod OpenCalls
 pub mod Playing
 pub mod Printing
+pub mod Recording
 pub mod Rights
 pub mod Runs
 pub mod Showing

@@ -1,5 +1,5 @@
 -- What is written for what is read.
-use Rattle.std.specs.Prelude.{◌≡◌, ◌⊎◌, ◌++◌, ℕ, ◌≤◌, List, [], length, take, Option, Some, Result, Ok, Err, All, IsTrue}
+use Rattle.std.specs.Prelude.{◌≡◌, ◌⊎◌, ◌++◌, ℕ, ◌≤◌, Bool, List, [], length, take, Option, Some, Result, Ok, Err, All, IsTrue}
 use Rattle.std.specs.Io.KnownBytes.{Appends, Keeps}
 use Rattle.gt_types.specs.Config.{AreFaultless, is_taken}
 use Rattle.gt_types.specs.declared.limits.TheConstants.{LAST_GENERATION}
@@ -15,6 +15,7 @@ use Rattle.gt_core.specs.declared.core_state.Core.{Core}
 use Rattle.gt_host.specs.declared.fault.PlayFault.{PlayFault}
 use Rattle.gt_host.specs.declared.fault.PlayFault.TheVariants.{Memory, Read, Write, Script, Policy}
 use Rattle.gt_host.specs.declared.rights.Rights.{Rights}
+use Rattle.gt_host.specs.Auditing.{audit_text}
 use Rattle.gt_host.specs.Rights.{may_by, may_in}
 use Rattle.gt_host.specs.Runs.{Progress, IsRunOf, KnowsOpen, open_lines}
 use Rattle.gt_streams.specs.Streams.{AppendsBeginning}
@@ -43,36 +44,40 @@ IsLegalRunOf c steps p = IsRunOf (setting_of_script c) (type_names c) steps p ×
 abbrev pub whole_text : Contents → Progress → List ℕ
 whole_text c p = p.text ++ open_lines c.domains p.open_steps
 
--- the text of the script's run went out (own)
-abbrev pub WritesRun : Contents → Option (List ℕ) → Option (List ℕ) → Type 0
-WritesRun c old new = (p : Progress) × IsLegalRunOf c c.steps p × Appends old new (whole_text c p)
+-- that text, and where the audit is asked for the records of what the run did (own)
+abbrev pub audited_text : Contents → Bool → Progress → List ℕ
+audited_text c audit p = whole_text c p ++ audit_text audit (setting_of_script c) (type_names c) p.trace
+
+-- the text of the script's run went out, with its audit where that is asked for (own)
+abbrev pub WritesRun : Contents → Bool → Option (List ℕ) → Option (List ℕ) → Type 0
+WritesRun c audit old new = (p : Progress) × IsLegalRunOf c c.steps p × Appends old new (audited_text c audit p)
 
 -- a beginning of the text went out, of a run that came some way (own)
 abbrev pub BeginsSome : Contents → Option (List ℕ) → Option (List ℕ) → Type 0
 BeginsSome c old new = (steps : ℕ) × (p : Progress) × IsLegalRunOf c (take steps c.steps) p × AppendsBeginning old new p.text
 
 -- a beginning of the text went out, of a run that came to the end (own)
-abbrev pub BeginsWhole : Contents → Option (List ℕ) → Option (List ℕ) → Type 0
-BeginsWhole c old new = (p : Progress) × IsLegalRunOf c c.steps p × AppendsBeginning old new (whole_text c p)
+abbrev pub BeginsWhole : Contents → Bool → Option (List ℕ) → Option (List ℕ) → Type 0
+BeginsWhole c audit old new = (p : Progress) × IsLegalRunOf c c.steps p × AppendsBeginning old new (audited_text c audit p)
 
 -- a beginning of the text went out (own)
-abbrev pub BeginsRun : Contents → Option (List ℕ) → Option (List ℕ) → Type 0
-BeginsRun c old new = BeginsSome c old new ⊎ BeginsWhole c old new
+abbrev pub BeginsRun : Contents → Bool → Option (List ℕ) → Option (List ℕ) → Type 0
+BeginsRun c audit old new = BeginsSome c old new ⊎ BeginsWhole c audit old new
 
 -- what went out is a beginning of the text of each run that comes to the end (own)
-abbrev pub BeginsEvery : Contents → Option (List ℕ) → Option (List ℕ) → Type 0
-BeginsEvery c old new = (p : Progress) → IsLegalRunOf c c.steps p → AppendsBeginning old new (whole_text c p)
+abbrev pub BeginsEvery : Contents → Bool → Option (List ℕ) → Option (List ℕ) → Type 0
+BeginsEvery c audit old new = (p : Progress) → IsLegalRunOf c c.steps p → AppendsBeginning old new (audited_text c audit p)
 
 -- what the bytes say is a script, and a beginning of its text went out: of a run of it, and of each one that comes to the end (own)
-abbrev pub Begins : (Result Contents Wrong → Type 0) → Option (List ℕ) → Option (List ℕ) → Type 0
-Begins Told old new = (c : Contents) × Told (Ok c) × BeginsRun c old new × BeginsEvery c old new
+abbrev pub Begins : (Result Contents Wrong → Type 0) → Bool → Option (List ℕ) → Option (List ℕ) → Type 0
+Begins Told audit old new = (c : Contents) × Told (Ok c) × BeginsRun c audit old new × BeginsEvery c audit old new
 
--- what `play` wrote, where it answers so for bytes of which this is told: at Ok the text of the run, whole;
+-- what `play` wrote, where it answers so for bytes of which this is told: at Ok the text of the run, whole, and its audit where that is asked for;
 -- at a fault of the script nothing, and the fault is the script's first; after a failed write a beginning, and so for want of memory, unless nothing (own)
-abbrev pub Played : (Result Contents Wrong → Type 0) → Option (List ℕ) → Option (List ℕ) → Result (Unit {0}) PlayFault → Type 0
-Played Told old new (Ok done) = (c : Contents) × Told (Ok c) × WritesRun c old new
-Played Told old new (Err (Script fault)) = Told (Err (in_script fault)) × Keeps old new
-Played Told old new (Err (Policy fault)) = (g : policy.Fault) × (block_fault_shown fault ≡ Some g) × Told (Err (in_policy g)) × Keeps old new
-Played Told old new (Err Memory) = Keeps old new ⊎ Begins Told old new
-Played Told old new (Err Write) = Begins Told old new
-Played Told old new (Err Read) = Keeps old new
+abbrev pub Played : (Result Contents Wrong → Type 0) → Bool → Option (List ℕ) → Option (List ℕ) → Result (Unit {0}) PlayFault → Type 0
+Played Told audit old new (Ok done) = (c : Contents) × Told (Ok c) × WritesRun c audit old new
+Played Told audit old new (Err (Script fault)) = Told (Err (in_script fault)) × Keeps old new
+Played Told audit old new (Err (Policy fault)) = (g : policy.Fault) × (block_fault_shown fault ≡ Some g) × Told (Err (in_policy g)) × Keeps old new
+Played Told audit old new (Err Memory) = Keeps old new ⊎ Begins Told audit old new
+Played Told audit old new (Err Write) = Begins Told audit old new
+Played Told audit old new (Err Read) = Keeps old new

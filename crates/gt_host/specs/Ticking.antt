@@ -1,5 +1,5 @@
 -- What the parts of a run do, after the items of a history.
-use Rattle.std.specs.Prelude.{◌≡◌, ◌≢◌, ℕ, ◌+◌, List, ◌++◌, length, replicate, Option, None}
+use Rattle.std.specs.Prelude.{◌≡◌, ◌≢◌, ℕ, ◌+◌, Bool, List, ◌++◌, length, replicate, Option, None}
 use Rattle.gt_types.specs.Names.{domain_of}
 use Rattle.gt_types.specs.declared.DomId.{DomId}
 use Rattle.gt_core.specs.History.{History, Setting}
@@ -15,6 +15,7 @@ use Rattle.gt_host.specs.declared.kept.Kept.{Kept}
 use Rattle.gt_host.specs.declared.outcome.Outcome.{Outcome}
 use Rattle.gt_host.specs.Naming.{AreNamed}
 use Rattle.gt_host.specs.OpenCalls.{call_in}
+use Rattle.gt_host.specs.Recording.{IsAudited}
 use Rattle.gt_host.specs.Runs.{Progress, ComesTo, TicksComeTo, KnowsOpen, call_events, history_of}
 
 -- the events did what they may after the history, and the core stands for what they leave (own)
@@ -49,12 +50,13 @@ pub record IsKept (kept : Kept) (p : Progress) : Type 0 where
   pub names : AreNamed kept.labels p.named
   pub calls : (dom : ℕ) → call_in kept.calls dom ≡ p.open_steps dom
 
--- the run has come to this point: what it did is legal, and the core and what is kept stand for it (own)
-pub record HasCome (s : Setting) (p : Progress) (domains : List State) (kept : Kept) : Type 0 where
+-- the run has come to this point: what it did is legal, and the core and what is kept stand for it; it is recorded, where that is asked for (own)
+pub record HasCome (s : Setting) (audit : Bool) (p : Progress) (domains : List State) (kept : Kept) : Type 0 where
   pub legal : Legal s p.events p.trace
   pub stands : CoreStands s (history_of p) domains
   pub keeps : IsKept kept p
   pub knows : KnowsOpen p
+  pub audited : IsAudited s audit p.trace kept
 
 -- text was appended, in the run as in the code (own)
 abbrev pub IsAppended : List ℕ → List ℕ → List ℕ → List ℕ → Type 0
@@ -63,5 +65,5 @@ IsAppended was is before after = (text : List ℕ) × (is ≡ was ++ text) × (a
 -- from each point that the run may have come to, this leads to a next one (own)
 abbrev pub Leads : Setting → (Progress → Progress → Type 0) → List State → List State → Kept → Kept → List ℕ → List ℕ → Type 0
 Leads s ToNext old_domains new_domains old_kept new_kept before after =
-    (p : Progress) → HasCome s p old_domains old_kept
-    → (q : Progress) × ToNext p q × HasCome s q new_domains new_kept × IsAppended p.text q.text before after
+    (p : Progress) (audit : Bool) → HasCome s audit p old_domains old_kept
+    → (q : Progress) × ToNext p q × HasCome s audit q new_domains new_kept × IsAppended p.text q.text before after

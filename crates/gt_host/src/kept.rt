@@ -1,26 +1,33 @@
 //! What a run keeps beside the core.
+use crate::audit::Audit;
 use crate::labels::Labels;
 use crate::open_calls::OpenCalls;
 use std::alloc::Global;
 
-/// What a run keeps beside the core: what labels name, and the calls that are open.
+/// What a run keeps beside the core: what labels name, the calls that are open, and its records.
 #[derive(Drop)]
 pub struct Kept<'b, 'a> {
     pub labels: Labels<'a>,
     pub calls: OpenCalls<'b, 'a>,
+    pub audit: Audit,
 }
 
 impl<'b, 'a> Kept<'b, 'a> {
+    ghost use Rattle.std.specs.Prelude.{◌≡◌};
+    ghost use Rattle.gt_host.specs.Recording.{RecordsNothing};
     ghost use Rattle.gt_host.specs.Runs.{at_start};
     ghost use Rattle.gt_host.specs.Ticking.{IsKept};
 
-    /// What is kept before the first line: nothing.
-    pub fn new(alloc: Global) -> Kept<'b, 'a>
-        ensures { IsKept result at_start }
+    /// What is kept before the first line: nothing. Records are asked for, or not.
+    pub fn new(alloc: Global, audit: bool) -> Kept<'b, 'a>
+        ensures kept { IsKept result at_start }
+        ensures on { result.audit.is_on ≡ audit }
+        ensures records { RecordsNothing result }
     {
         Kept {
             labels: Labels::new(alloc),
             calls: OpenCalls::new(alloc),
+            audit: Audit::new(alloc, audit),
         }
     }
 }

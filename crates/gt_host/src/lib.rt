@@ -16,6 +16,8 @@
 #![tactic(auto)]
 
 mod answers;
+mod audit;
+mod copying;
 mod fault;
 mod kept;
 mod labels;

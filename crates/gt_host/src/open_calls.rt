@@ -1,47 +1,66 @@
 //! The calls that have no answer yet.
+use gt_audit::Hypercall;
 use gt_script::Step;
 use gt_types::DomId;
 use std::alloc::{AllocError, Global};
 use std::collections::BTreeMap;
 
-/// The calls that domains have open, each as the step of the script that began it.
+/// A call that has no answer yet: the step of the script that began it, and what an audit tells it as.
+#[derive(Clone, Copy)]
+pub struct Opened<'b, 'a> {
+    pub step: &'b Step<'a>,
+    pub told: Option<Hypercall>,
+}
+
+/// The calls that domains have open.
 #[derive(Drop)]
 pub struct OpenCalls<'b, 'a> {
-    begun: BTreeMap<u16, &'b Step<'a>>,
+    begun: BTreeMap<u16, Opened<'b, 'a>>,
 }
 
 impl<'b, 'a> OpenCalls<'b, 'a> {
-    ghost use Rattle.std.specs.Prelude.{◌≡◌, ◌==◌, ℕ, OnOk, None, Some, if◌then◌else◌};
+    ghost use Rattle.std.specs.Prelude.{◌≡◌, ◌==◌, ℕ, OnOk, None, Some, if◌then◌else◌, option_and_then};
     ghost use Rattle.std.specs.Option.{option_map};
-    ghost use Rattle.gt_host.specs.OpenCalls.{call_in};
+    ghost use Rattle.gt_host.specs.OpenCalls.{call_in, told_in};
 
     /// No domain has a call open.
     pub fn new(alloc: Global) -> OpenCalls<'b, 'a>
-        ensures { (d : ℕ) → call_in result d ≡ None }
+        ensures calls { (d : ℕ) → call_in result d ≡ None }
+        ensures told { (d : ℕ) → told_in result d ≡ None }
     {
         OpenCalls {
             begun: BTreeMap::new(alloc),
         }
     }
 
-    /// The step whose call the domain has open.
-    pub fn of(&self, dom: DomId) -> Option<&'b Step<'a>>
-        ensures { option_map (λ s. s.now) result ≡ call_in self.now dom.0 }
+    /// The call that the domain has open.
+    pub fn of(&self, dom: DomId) -> Option<Opened<'b, 'a>>
+        ensures call { option_map (λ o. o.step.now) result ≡ call_in self.now dom.0 }
+        ensures told { option_and_then (λ o. o.told) result ≡ told_in self.now dom.0 }
     {
         self.begun.get(&dom.0).copied()
     }
 
-    /// The domain has the call of this step open from now on.
-    pub fn begin(&mut self, dom: DomId, step: &'b Step<'a>) -> Result<(), AllocError>
-        ensures { OnOk result ((d : ℕ) → call_in self.new d ≡ (if d == dom.0 then Some step.entry.now else call_in self.old d)) }
+    /// The domain has the call of this step open from now on, told so.
+    pub fn begin(
+        &mut self,
+        dom: DomId,
+        step: &'b Step<'a>,
+        told: Option<Hypercall>,
+    ) -> Result<(), AllocError>
+        ensures calls { OnOk result ((d : ℕ) →
+            call_in self.new d ≡ (if d == dom.0 then Some step.entry.now else call_in self.old d)) }
+        ensures told { OnOk result ((d : ℕ) →
+            told_in self.new d ≡ (if d == dom.0 then told else told_in self.old d)) }
     {
-        self.begun.insert(dom.0, step)?;
+        self.begun.insert(dom.0, Opened { step, told })?;
         Ok(())
     }
 
     /// The domain has no call open from now on.
     pub fn end(&mut self, dom: DomId)
-        ensures { (d : ℕ) → call_in self.new d ≡ (if d == dom.0 then None else call_in self.old d) }
+        ensures calls { (d : ℕ) → call_in self.new d ≡ (if d == dom.0 then None else call_in self.old d) }
+        ensures told { (d : ℕ) → told_in self.new d ≡ (if d == dom.0 then None else told_in self.old d) }
     {
         self.begun.remove(&dom.0);
     }

@@ -14,11 +14,11 @@ use crate::answers::push_open_line;
 use crate::fault::{Fault, PlayFault};
 use crate::kept::Kept;
 use crate::laws::every_beginning_is_of_the_text;
-use crate::open_calls::OpenCalls;
+use crate::open_calls::{OpenCalls, Opened};
 use crate::rights::Rights;
 use crate::run::run_step;
 use gt_core::Core;
-use gt_script::{Script, Step, parse};
+use gt_script::{Script, parse};
 use gt_streams::{finish, read_text, send};
 use gt_types::{Config, DomId, DomainConfig, StartFault};
 use std::alloc::{AllocError, Global};
@@ -43,11 +43,11 @@ fn start<'s, 'a>(alloc: Global, script: &'s Script<'a>) -> Result<Core<Rights>, 
 }
 
 // The line of a domain's call that has no answer, if it has one.
-fn push_if_open(out: &mut Vec<u8>, dom: DomId, begun: Option<&Step>) -> Result<(), AllocError>
-    ensures { OnOk result (out.new.items ≡ out.old.items ++ open_text dom (option_map (λ s. s.now) begun.entry)) }
+fn push_if_open(out: &mut Vec<u8>, dom: DomId, begun: Option<Opened>) -> Result<(), AllocError>
+    ensures { OnOk result (out.new.items ≡ out.old.items ++ open_text dom (option_map (λ o. o.step.now) begun.entry)) }
 {
     match begun {
-        Some(step) => push_open_line(out, step.line, dom),
+        Some(begun) => push_open_line(out, begun.step.line, dom),
         None => Ok(()),
     }
 }
@@ -72,15 +72,16 @@ fn write_lines<'s, 'a, W: Write>(
     core: &mut Core<Rights>,
     script: &'s Script<'a>,
     writer: &mut W,
+    audit: bool,
 ) -> Result<(), Fault>
     requires can { CanStart (told script.now) }
     requires starts { StartsFor (told script.now) core.old }
-    ensures whole { OnOk result (WritesRun (told script.now) (W.contents writer.old) (W.contents writer.new)) }
-    ensures beginning { OnErr result (BeginsRun (told script.now) (W.contents writer.old) (W.contents writer.new)) }
+    ensures whole { OnOk result (WritesRun (told script.now) audit (W.contents writer.old) (W.contents writer.new)) }
+    ensures beginning { OnErr result (BeginsRun (told script.now) audit (W.contents writer.old) (W.contents writer.new)) }
     ensures errors { IfErr result (λ e. (e ≡ faults.Memory) ⊎ (e ≡ faults.Write)) }
 {
     let types = script.type_names(alloc)?;
-    let mut kept = Kept::new(alloc);
+    let mut kept = Kept::new(alloc, audit);
     let mut waiting = Vec::new(alloc);
     let steps = script.steps();
     'steps: for step in steps {
@@ -88,29 +89,40 @@ fn write_lines<'s, 'a, W: Write>(
         send(writer, &mut waiting)?;
     }
     push_open_lines(&mut waiting, script.domains(), &kept.calls)?;
+    kept.audit.push_lines(&mut waiting, types.as_slice())?;
     finish(writer, waiting.as_slice())?;
     Ok(())
 }
 
 // Runs the script, and writes its lines.
-fn write_run<W: Write>(alloc: Global, script: &Script, writer: &mut W) -> Result<(), Fault>
+fn write_run<W: Write>(
+    alloc: Global,
+    script: &Script,
+    writer: &mut W,
+    audit: bool,
+) -> Result<(), Fault>
     requires { CanStart (told script.now) }
-    ensures whole { OnOk result (WritesRun (told script.now) (W.contents writer.old) (W.contents writer.new)) }
-    ensures beginning { OnErr result (BeginsRun (told script.now) (W.contents writer.old) (W.contents writer.new)) }
+    ensures whole { OnOk result (WritesRun (told script.now) audit (W.contents writer.old) (W.contents writer.new)) }
+    ensures beginning { OnErr result (BeginsRun (told script.now) audit (W.contents writer.old) (W.contents writer.new)) }
     ensures errors { IfErr result (λ e. (e ≡ faults.Memory) ⊎ (e ≡ faults.Write)) }
 {
     let mut core = start(alloc, script)?;
-    write_lines(alloc, &mut core, script, writer)
+    write_lines(alloc, &mut core, script, writer, audit)
 }
 
 // Plays the script that bytes say, of which those up to the limit were read.
-fn play_bytes<W: Write>(alloc: Global, input: &[u8], writer: &mut W) -> Result<(), PlayFault>
+fn play_bytes<W: Write>(
+    alloc: Global,
+    input: &[u8],
+    writer: &mut W,
+    audit: bool,
+) -> Result<(), PlayFault>
     ensures { (all : List ℕ) → input.now ≡ take 1048577 all →
-        Played (Tells all) (W.contents writer.old) (W.contents writer.new) result }
+        Played (Tells all) audit (W.contents writer.old) (W.contents writer.new) result }
 {
     every_beginning_is_of_the_text();
     match parse(alloc, input) {
-        Ok(script) => PlayFault::told(write_run(alloc, &script, writer)),
+        Ok(script) => PlayFault::told(write_run(alloc, &script, writer, audit)),
         Err(error) => Err(PlayFault::from(error)),
     }
 }
@@ -119,8 +131,10 @@ fn play_bytes<W: Write>(alloc: Global, input: &[u8], writer: &mut W) -> Result<(
 /// writes a line for each answer, for what a line shows, and at the end for each call that is open.
 ///
 /// Of the reader at most 1,048,577 bytes are read. A script with a fault writes nothing. After a
-/// failed write, or for want of memory, a beginning of the text was written. `audit` asks for the
-/// audit lines; there are none yet, and it has no effect.
+/// failed write, or for want of memory, a beginning of the text was written.
+///
+/// With `audit` a line for each answer of an audited call follows, in the order of the answers; no other
+/// line changes. Audited are map, unmap, copy, and those that set or tell a table's version or frames.
 pub fn play<R: Read, W: Write>(
     alloc: Global,
     reader: &mut R,
@@ -128,12 +142,11 @@ pub fn play<R: Read, W: Write>(
     audit: bool,
 ) -> Result<(), PlayFault>
     ensures text { OfInput (R.remaining reader.old) (λ input.
-        Played (Tells input) (W.contents writer.old) (W.contents writer.new) result) }
+        Played (Tells input) audit (W.contents writer.old) (W.contents writer.new) result) }
     ensures read { ConsumesAtMost READ_LIMIT (R.remaining reader.old) (R.remaining reader.new) }
 {
-    let _ = audit;
     match read_text(alloc, reader) {
-        Ok(input) => play_bytes(alloc, input.as_slice(), writer),
+        Ok(input) => play_bytes(alloc, input.as_slice(), writer, audit),
         Err(error) => Err(PlayFault::from(error)),
     }
 }

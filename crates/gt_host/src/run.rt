@@ -12,6 +12,7 @@ ghost use Rattle.gt_host.specs.Ticking.{IsReady, Calls, TicksTo, Leads};
 ghost use Rattle.gt_host.specs.declared.fault.Fault.TheVariants as faults;
 
 use crate::answers::{push_answer_line, push_busy_line, push_idle_line};
+use crate::copying::copy_asked;
 use crate::fault::Fault;
 use crate::kept::Kept;
 use crate::labels::Labels;
@@ -88,7 +89,10 @@ fn access_text<'b, 'a>(call: &'b AccessCall<'a>) -> Option<&'b Text<'a>>
 {
     match call {
         AccessCall::Store { hex, .. } | AccessCall::Poke { hex, .. } => Some(hex),
-        AccessCall::Unmap { .. } | AccessCall::Load { .. } | AccessCall::Peek { .. } => None,
+        AccessCall::Unmap { .. }
+        | AccessCall::Load { .. }
+        | AccessCall::Peek { .. }
+        | AccessCall::Copy { .. } => None,
     }
 }
 
@@ -168,6 +172,7 @@ fn access_request<'a, 'c>(
             off: *off,
             bytes,
         },
+        AccessCall::Copy { source, dest, len } => Request::Copy(copy_asked(*source, *dest, *len)),
     }
 }
 
@@ -309,16 +314,12 @@ fn run_do<'b, 'a, P: Allows>(
     ensures errors { IfErr result (λ e. e ≡ faults.Memory) }
 {
     let request = request_of(&kept.labels, step.dom, bytes, call);
+    let told = kept.audit.about(core, step.dom, request);
     match run_call(core, step.dom, request)? {
-        Outcome::Answered(answer) => settle(
-            alloc,
-            &mut kept.labels,
-            types,
-            step.dom,
-            step,
-            &answer,
-            out,
-        )?,
+        Outcome::Answered(answer) => {
+            kept.audit.record(step.dom, told, &answer)?;
+            settle(alloc, &mut kept.labels, types, step.dom, step, &answer, out)?;
+        }
         Outcome::Busy => push_busy_line(out, step.line, step.dom)?,
     }
     Ok(())
@@ -344,18 +345,14 @@ fn run_begin<'b, 'a, P: Allows>(
     ensures errors { IfErr result (λ e. e ≡ faults.Memory) }
 {
     let request = request_of(&kept.labels, step.dom, bytes, call);
+    let told = kept.audit.about(core, step.dom, request);
     match core.begin(step.dom, request)? {
-        Begun::Done(answer) => settle(
-            alloc,
-            &mut kept.labels,
-            types,
-            step.dom,
-            step,
-            &answer,
-            out,
-        )?,
+        Begun::Done(answer) => {
+            kept.audit.record(step.dom, told, &answer)?;
+            settle(alloc, &mut kept.labels, types, step.dom, step, &answer, out)?;
+        }
         Begun::Busy => push_busy_line(out, step.line, step.dom)?,
-        Begun::Open | Begun::NoDomain => kept.calls.begin(step.dom, step)?,
+        Begun::Open | Begun::NoDomain => kept.calls.begin(step.dom, step, told)?,
     }
     Ok(())
 }
@@ -383,12 +380,13 @@ fn run_ticks<'b, 'a, P: Allows>(
     };
     if let Some(answer) = tick_up_to(core, step.dom, most)? {
         kept.calls.end(step.dom);
+        kept.audit.record(step.dom, begun.told, &answer)?;
         settle(
             alloc,
             &mut kept.labels,
             types,
             step.dom,
-            begun,
+            begun.step,
             &answer,
             out,
         )?;

@@ -1,5 +1,5 @@
 -- What a command line comes to: what is written, and the exit status.
-use Rattle.std.specs.Prelude.{◌≡◌, ◌⊎◌, ℕ, ◌≤◌, ◌++◌, List, Option, Some, None, Result, Ok, Err, IfSome, codes}
+use Rattle.std.specs.Prelude.{◌≡◌, ◌⊎◌, ℕ, ◌≤◌, ◌++◌, false, List, Option, Some, None, Result, Ok, Err, IfSome, codes}
 use Rattle.std.specs.Io.KnownBytes.{Keeps}
 use Rattle.clap.specs.declared.error.kind.ErrorKind.{ErrorKind}
 use Rattle.clap.specs.declared.error.kind.ErrorKind.TheVariants.{DisplayHelp, DisplayVersion, OutOfMemory}
@@ -30,8 +30,8 @@ status_of (Err failure) = 1
 
 -- what a command wrote that ended so, where these are the bytes of its text (own)
 abbrev pub Performs : Mode → List ℕ → Option (List ℕ) → Option (List ℕ) → Result (Unit {0}) Failure → Type 0
-Performs Play input old new (Ok done) = Played (Tells input) old new (Ok done)
-Performs Play input old new (Err (failures.Play fault)) = Played (Tells input) old new (Err fault)
+Performs Play input old new (Ok done) = Played (Tells input) false old new (Ok done)
+Performs Play input old new (Err (failures.Play fault)) = Played (Tells input) false old new (Err fault)
 Performs Play input old new (Err (failures.List fault)) = ⊥
 Performs Play input old new (Err (failures.File fault)) = ⊥
 Performs Play input old new (Err (failures.Help fault)) = ⊥

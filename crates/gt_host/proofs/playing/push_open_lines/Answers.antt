@@ -9,7 +9,7 @@ domains-init c = no_line c.args.out.now.items
 pub domains-preserved : goal.domains-preserved
 domains-preserved c =
     let within : c.domains.domain-index < length c.args.domains.now = omega arith in
-    line_more c.args.domains.now c.domains.domain-index _ (call_in c.args.calls.now) _ c.args.out.now.items c.domains.out.items c.push_if_open.new.out.items within c.domains.invariant c.of.ensures c.in_ok-push_if_open.ensures
+    line_more c.args.domains.now c.domains.domain-index _ (call_in c.args.calls.now) _ c.args.out.now.items c.domains.out.items c.push_if_open.new.out.items within c.domains.invariant c.of.ensures.call c.in_ok-push_if_open.ensures
 
 pub returns : goal.returns
 returns c =

@@ -4,4 +4,4 @@ use Rattle.gt_host.proofs.PlayLemmas.{OnErr-all, not_begun}
 use Rattle.gt_host.proofs.playing.write_run.Goals as goal
 
 pub returns-in_err-core-clause-beginning : goal.returns-in_err-core-clause-beginning
-returns-in_err-core-clause-beginning g c = OnErr-all _ _ (not_begun (told c.args.script.now) _ _ (keeps_same _))
+returns-in_err-core-clause-beginning g c = OnErr-all _ _ (not_begun (told c.args.script.now) c.args.audit _ _ (keeps_same _))

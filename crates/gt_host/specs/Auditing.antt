@@ -1,0 +1,129 @@
+-- The audit of a run, as its trace has it.
+use Rattle.std.specs.Prelude.{◌==◌, ◌++◌, ℕ, Bool, true, false, List, [], ◌∷◌, Option, None, Some, if◌then◌else◌, option_to_list}
+use Rattle.gt_types.specs.declared.DomId.{DomId}
+use Rattle.gt_types.specs.declared.GrantRef.{GrantRef}
+use Rattle.gt_handles.specs.declared.handles.Handle.{Handle}
+use Rattle.gt_calls.specs.Asking.{asked}
+use Rattle.gt_calls.specs.declared.request.Asked.{Asked}
+use Rattle.gt_calls.specs.declared.request.Asked.TheVariants as asks
+use Rattle.gt_calls.specs.declared.request.End.{End}
+use Rattle.gt_texts.specs.Printing.{type_text}
+use Rattle.gt_audit.specs.Lines.{line_text}
+use Rattle.gt_audit.specs.declared.record.CopyEnd.{CopyEnd}
+use Rattle.gt_audit.specs.declared.record.Hypercall.{Hypercall}
+use Rattle.gt_audit.specs.declared.record.Hypercall.TheVariants as calls
+use Rattle.gt_audit.specs.declared.record.Record.{Record}
+use Rattle.gt_audit.specs.declared.record.Reply.{Reply}
+use Rattle.gt_audit.specs.declared.record.Reply.TheVariants as replies
+use Rattle.gt_core.specs.History.{History, Setting, Underway, open_call}
+use Rattle.gt_core.specs.Legal.{grown}
+use Rattle.gt_core.specs.Subject.{subject_at}
+use Rattle.gt_core.specs.declared.trace.Answer.{Answer}
+use Rattle.gt_core.specs.declared.trace.Answer.TheVariants as answers
+use Rattle.gt_core.specs.declared.trace.Element.{Element}
+use Rattle.gt_core.specs.declared.trace.Element.TheVariants as elements
+use Rattle.gt_core.specs.declared.trace.Happened.{Happened}
+use Rattle.gt_core.specs.declared.trace.Happened.TheVariants.{Began, Stepped}
+use Rattle.gt_core.specs.declared.trace.Item.{Item}
+
+-- what a call is told as
+
+-- an end of a copy (own)
+abbrev pub end_told : End → CopyEnd
+end_told e = record { ptr = e.ptr; dom = e.domid; off = e.offset }
+
+-- what a call is told as, where calls of its kind are audited: an unmap by the entry that its handle names (own)
+abbrev pub call_told : (Handle → Option (DomId × GrantRef)) → Asked → Option Hypercall
+call_told subject (asks.Map dom gref flags) = Some (calls.Map dom gref flags)
+call_told subject (asks.Unmap handle) = Some (calls.Unmap (subject handle))
+call_told subject (asks.Copy c) = Some (calls.Copy (end_told c.source) (end_told c.dest) c.len c.flags)
+call_told subject (asks.QuerySize dom) = Some (calls.QuerySize dom)
+call_told subject (asks.GetVersion dom) = Some (calls.GetVersion dom)
+call_told subject (asks.SetVersion version) = Some (calls.SetVersion version)
+call_told subject (asks.SetupTable frames) = Some (calls.SetupTable frames)
+call_told subject (asks.Grant gref entry) = None
+call_told subject (asks.Revoke gref) = None
+call_told subject (asks.Demote gref) = None
+call_told subject (asks.Promote gref) = None
+call_told subject (asks.Load handle off len) = None
+call_told subject (asks.Store handle off len) = None
+call_told subject (asks.Peek frame off len) = None
+call_told subject (asks.Poke frame off len) = None
+
+-- what is told of an answer: a map's handle is not (own)
+abbrev pub reply_told : Answer → Reply
+reply_told (answers.Denied denial) = replies.Denied denial
+reply_told answers.Done = replies.Done
+reply_told (answers.Mapped handle) = replies.Done
+reply_told (answers.Bytes bytes) = replies.Done
+reply_told (answers.Frames frames) = replies.Frames frames
+reply_told (answers.Size size) = replies.Size size
+reply_told (answers.Version version) = replies.Version version
+
+-- the record of a call of this domain that is told so, with its answer: none of a call that is not audited (own)
+abbrev pub record_told : DomId → Option Hypercall → Answer → Option Record
+record_told dom None answer = None
+record_told dom (Some call) answer = Some (record { dom = dom; call = call; reply = reply_told answer })
+
+-- the record of an answer, where there is one (own)
+abbrev pub record_with : DomId → Option Hypercall → Option Answer → Option Record
+record_with dom told None = None
+record_with dom told (Some answer) = record_told dom told answer
+
+-- what a trace is told as
+
+-- the items before a call began, where it began with this item or earlier (own)
+abbrev pub before_begun : Happened → History → History → History
+before_begun (Began request) before earlier = before
+before_begun (Stepped step seen) before earlier = earlier
+
+-- the items before the domain's last call began (own)
+unfoldable pub before_call : History → ℕ → History
+before_call [] d = []
+before_call (i ∷ before) d = if i.actor.0 == d then before_begun i.happened before (before_call before d) else before_call before d
+
+-- what a call under way is told as, that began after these items (own)
+abbrev pub underway_told : Setting → DomId → History → Option Underway → Option Hypercall
+underway_told s d begun None = None
+underway_told s d begun (Some c) = call_told (subject_at s begun d) c.request
+
+-- what the call is told as that the domain has open: an unmap by the entry that its handle named when it began (own)
+abbrev pub open_told : Setting → History → DomId → Option Hypercall
+open_told s h d = underway_told s d (before_call h d.0) (open_call h d.0)
+
+-- what the call of an item is told as, where the item came after these (own)
+abbrev pub item_told : Setting → History → DomId → Happened → Option Hypercall
+item_told s h d (Began request) = call_told (subject_at s h d) (asked request)
+item_told s h d (Stepped step seen) = open_told s h d
+
+-- the record of an item that came after these, if it carries the answer of an audited call (own)
+abbrev pub record_of : Setting → History → Item → Option Record
+record_of s h i = record_with i.actor (item_told s h i.actor i.happened) i.answer
+
+-- the record of an element of a trace (own)
+abbrev pub record_in : Setting → History → Element → Option Record
+record_in s h (elements.Item i) = record_of s h i
+record_in s h elements.Busy = None
+record_in s h elements.Idle = None
+record_in s h elements.NoDomain = None
+
+-- the records of a trace that went on from these items, in the order of the answers (own)
+abbrev pub records_of : Setting → History → List Element → List Record
+records_of s h [] = []
+records_of s h (x ∷ xs) = option_to_list (record_in s h x) ++ records_of s (grown h x) xs
+
+-- the text
+
+-- the lines of these records (own)
+abbrev pub record_lines : List (List ℕ) → List Record → List ℕ
+record_lines names [] = []
+record_lines names (r ∷ rs) = line_text (type_text (λ name. name) names) r ++ record_lines names rs
+
+-- the lines of these records, where they are asked for (own)
+abbrev pub asked_lines : Bool → List (List ℕ) → List Record → List ℕ
+asked_lines false names rs = []
+asked_lines true names rs = record_lines names rs
+
+-- the audit text of a trace, where it is asked for (own)
+abbrev pub audit_text : Bool → Setting → List (List ℕ) → List Element → List ℕ
+audit_text audit s names trace = asked_lines audit names (records_of s [] trace)

@@ -1,0 +1,34 @@
+-- What a run keeps for its audit.
+use Rattle.std.specs.Prelude.{◌≡◌, ℕ, Bool, true, List, [], Option, None}
+use Rattle.gt_types.specs.declared.DomId.{DomId}
+use Rattle.gt_calls.specs.Asking.{asked}
+use Rattle.gt_calls.specs.declared.request.Request.{Request}
+use Rattle.gt_audit.specs.declared.record.Hypercall.{Hypercall}
+use Rattle.gt_core.specs.History.{History, Setting}
+use Rattle.gt_core.specs.Legal.{history_after}
+use Rattle.gt_core.specs.Standing.{CoreStands}
+use Rattle.gt_core.specs.States.{State}
+use Rattle.gt_core.specs.Subject.{subject_at}
+use Rattle.gt_core.specs.declared.trace.Element.{Element}
+use Rattle.gt_host.specs.declared.kept.Kept.{Kept}
+use Rattle.gt_host.specs.OpenCalls.{told_in}
+use Rattle.gt_host.specs.Auditing.{call_told, open_told, records_of}
+
+-- the domain's request is told so, after the items for which the core stands (own)
+abbrev pub IsAbout : Setting → List State → DomId → Request → Option Hypercall → Type 0
+IsAbout s domains dom request told = (h : History) → CoreStands s h domains → told ≡ call_told (subject_at s h dom) (asked request)
+
+-- nothing is recorded, and no open call is told (own)
+pub record RecordsNothing (kept : Kept) : Type 0 where
+  pub records : kept.audit.records.items ≡ []
+  pub calls : (d : ℕ) → told_in kept.calls d ≡ None
+
+-- the records are those of the trace, and the open calls are told as it has them (own)
+pub record IsRecorded (s : Setting) (trace : List Element) (kept : Kept) : Type 0 where
+  pub records : kept.audit.records.items ≡ records_of s [] trace
+  pub calls : (d : ℕ) → told_in kept.calls d ≡ open_told s (history_after [] trace) (record { 0 = d })
+
+-- a trace is recorded, where that is asked for (own)
+pub record IsAudited (s : Setting) (audit : Bool) (trace : List Element) (kept : Kept) : Type 0 where
+  pub is_on : kept.audit.is_on ≡ audit
+  pub recorded : audit ≡ true → IsRecorded s trace kept

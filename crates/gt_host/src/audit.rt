@@ -1,0 +1,144 @@
+//! The audit of a run: a record of each answer of an audited call.
+ghost use Rattle.std.specs.Prelude.{◌≡◌, ◌++◌, [], true, OnOk, option_to_list};
+ghost use Rattle.gt_core.specs.Standing.{setting_of};
+ghost use Rattle.gt_host.specs.Auditing.{end_told, reply_told, record_told, record_lines, asked_lines};
+ghost use Rattle.gt_host.specs.Recording.{IsAbout};
+
+use gt_audit::{CopyEnd, Hypercall, Record, Reply, push_line};
+use gt_core::{Answer, Core, End, Request};
+use gt_lines::Text;
+use gt_types::{Allows, DomId};
+use std::alloc::{AllocError, Global};
+
+/// The records of a run, where they are asked for: one for each answer of an audited call, in the order of
+/// the answers.
+#[derive(Drop)]
+pub struct Audit {
+    is_on: bool,
+    records: Vec<Record>,
+}
+
+fn end_told(end: End) -> CopyEnd
+    ensures { result ≡ end_told end }
+{
+    CopyEnd {
+        ptr: end.ptr,
+        dom: end.domid,
+        off: end.offset,
+    }
+}
+
+// What a call is told as that the domain is about to make; None where such calls are not audited. An unmap is
+// told by the entry that is mapped now: once it has its answer, its handle may name none.
+fn call_told<P: Allows>(core: &Core<P>, dom: DomId, request: Request<'_>) -> Option<Hypercall>
+    ensures { IsAbout (setting_of core.now.config (P.may core.now.rights)) core.now.domains.items
+        dom request.entry result }
+{
+    match request {
+        Request::Map { dom, gref, flags } => Some(Hypercall::Map { dom, gref, flags }),
+        Request::Unmap { handle } => Some(Hypercall::Unmap {
+            subject: core.subject(dom, handle),
+        }),
+        Request::Copy(copy) => Some(Hypercall::Copy {
+            source: end_told(copy.source),
+            dest: end_told(copy.dest),
+            len: copy.len,
+            flags: copy.flags,
+        }),
+        Request::QuerySize { dom } => Some(Hypercall::QuerySize { dom }),
+        Request::GetVersion { dom } => Some(Hypercall::GetVersion { dom }),
+        Request::SetVersion { version } => Some(Hypercall::SetVersion { version }),
+        Request::SetupTable { frames } => Some(Hypercall::SetupTable { frames }),
+        Request::Grant { .. }
+        | Request::GrantBytes { .. }
+        | Request::Revoke { .. }
+        | Request::Demote { .. }
+        | Request::Promote { .. }
+        | Request::Load { .. }
+        | Request::Store { .. }
+        | Request::Peek { .. }
+        | Request::Poke { .. } => None,
+    }
+}
+
+fn reply_told(answer: &Answer) -> Reply
+    ensures { result ≡ reply_told answer.now }
+{
+    match answer {
+        Answer::Denied(denial) => Reply::Denied(*denial),
+        Answer::Done | Answer::Mapped(_) | Answer::Bytes(_) => Reply::Done,
+        Answer::Frames(frames) => Reply::Frames(*frames),
+        Answer::Size(size) => Reply::Size(*size),
+        Answer::Version(version) => Reply::Version(*version),
+    }
+}
+
+// Appends the lines of records.
+fn push_records(out: &mut Vec<u8>, records: &[Record], names: &[Text]) -> Result<(), AllocError>
+    ensures { OnOk result (out.new.items ≡ out.old.items ++ record_lines names.now records.now) }
+{
+    'records: for told in records {
+        push_line(out, told, names)?;
+    }
+    Ok(())
+}
+
+impl Audit {
+    /// No records yet, and none to come where they are not asked for.
+    pub fn new(alloc: Global, is_on: bool) -> Audit
+        ensures on { result.is_on ≡ is_on }
+        ensures records { result.records.items ≡ [] }
+    {
+        Audit {
+            is_on,
+            records: Vec::new(alloc),
+        }
+    }
+
+    /// What the call is told as that the domain is about to make: None where such calls are not audited, or
+    /// no records are asked for.
+    pub fn about<P: Allows>(
+        &self,
+        core: &Core<P>,
+        dom: DomId,
+        request: Request<'_>,
+    ) -> Option<Hypercall>
+        ensures { self.now.is_on ≡ true →
+            IsAbout (setting_of core.now.config (P.may core.now.rights)) core.now.domains.items dom request.entry result }
+    {
+        if self.is_on {
+            call_told(core, dom, request)
+        } else {
+            None
+        }
+    }
+
+    /// Records the answer of the domain's call that is told so; nothing where it is told as None.
+    pub fn record(
+        &mut self,
+        dom: DomId,
+        told: Option<Hypercall>,
+        answer: &Answer,
+    ) -> Result<(), AllocError>
+        ensures records { OnOk result
+            (self.new.records.items ≡ self.old.records.items ++ option_to_list (record_told dom told answer.now)) }
+        ensures on { self.new.is_on ≡ self.old.is_on }
+    {
+        if let Some(call) = told {
+            let reply = reply_told(answer);
+            self.records.push(Record { dom, call, reply })?;
+        }
+        Ok(())
+    }
+
+    /// Appends the lines of the records, where they are asked for. After an Err a part of them may stand.
+    pub fn push_lines(&self, out: &mut Vec<u8>, names: &[Text]) -> Result<(), AllocError>
+        ensures { OnOk result
+            (out.new.items ≡ out.old.items ++ asked_lines self.now.is_on names.now self.now.records.items) }
+    {
+        if self.is_on {
+            return push_records(out, self.records.as_slice(), names);
+        }
+        Ok(())
+    }
+}
