@@ -1,6 +1,6 @@
 -- The live pins and the mappings are the same without keys, where each handle that is named is told by its serial.
 use Rattle.std.proofs.Common.{◌≡◌, ◌+◌, ℕ, suc, refl, Bool, true, false, List, [], ◌∷◌, ◌++◌, length, Option, Some, None, cond, sym, ap, ◌∙◌, subst}
-use Rattle.std.specs.Prelude.{◌==◌, ◌&&◌, count_by}
+use Rattle.std.specs.Prelude.{◌==◌, ◌&&◌, count_by, is_some, nat_lt}
 use Rattle.std.specs.Option.{option_map}
 use Rattle.std.proofs.lemmas.Bool.{eqb-true}
 use Rattle.std.proofs.lemmas.List.Sums.{sum_by-cons}
@@ -12,7 +12,7 @@ use Rattle.gt_entry.specs.declared.entry.Entry.{Entry}
 use Rattle.gt_entry.specs.declared.header.Header.{Header}
 use Rattle.gt_entry.specs.Words.{control_word}
 use Rattle.gt_handles.specs.declared.handles.Handle.{Handle}
-use Rattle.gt_calls.specs.Rules.{CallerKnowledge, control_with}
+use Rattle.gt_calls.specs.Rules.{CallerKnowledge, control_with, size_of}
 use Rattle.gt_calls.specs.declared.request.Holder.{Holder}
 use Rattle.gt_calls.specs.declared.request.Holder.TheVariants.{Mapping as ByMapping, Leg as ByLeg}
 use Rattle.gt_calls.specs.declared.held.Held.{Held}
@@ -24,8 +24,12 @@ use Rattle.gt_core.specs.declared.trace.Answer.TheVariants.{Mapped, Bytes}
 use Rattle.gt_core.specs.declared.trace.Happened.{Happened}
 use Rattle.gt_core.specs.declared.trace.Happened.TheVariants.{Stepped}
 use Rattle.gt_core.specs.History.{History, Setting, Pin, live, without, is_holder, same_handle, holder_after, gather, by_leg, by_mapping, pinned_by, unpinned_by, is_pin_on, reads_at, writes_at, mappings_at, mapping_of, entry_at, generation_at, table_at, word_at, maps_answered_at, known_at}
-use Rattle.gt_core.specs.Alike.{bare_handle, bare_happened, told, IsGiven, IsKnown, IsRun}
-use Rattle.gt_core.proofs.Bare.{answer_from, bare, entry-bare, raises-bare, table-bare, maps-bare}
+use Rattle.gt_types.specs.Names.{domain_of}
+use Rattle.gt_core.specs.Shown.{shown_at}
+use Rattle.gt_core.specs.Subject.{subject_at, place_of}
+use Rattle.gt_core.specs.declared.core_state.Shown.{Shown}
+use Rattle.gt_core.specs.Alike.{bare_handle, bare_happened, told, IsGiven, IsKnown, IsRun, AreAlike}
+use Rattle.gt_core.proofs.Bare.{bare-same, answer_from, bare, entry-bare, raises-bare, table-bare, maps-bare}
 use Rattle.gt_core.proofs.Given.{HeldGiven, PinsGiven, pins-given, known-tells, unpin-known}
 
 abbrev pub bare_holder : Holder → Holder
@@ -212,3 +216,29 @@ known-bare s h d run =
     ∙ ap (λ (x : Header). kept (λ r. entry_at h d.0 r) (λ r. generation_at s h d.0 r) x (length (mappings_at (bare h) d.0)) (maps_answered_at (bare h) d.0)) (table-bare s h d)
     ∙ ap (λ (n : ℕ). kept (λ r. entry_at h d.0 r) (λ r. generation_at s h d.0 r) (table_at s h d) n (maps_answered_at (bare h) d.0)) (ap length (mappings-bare s h d.0 run) ∙ length-bare (mappings_at h d.0))
     ∙ ap (λ (n : ℕ). kept (λ r. entry_at h d.0 r) (λ r. generation_at s h d.0 r) (table_at s h d) (length (mappings_at h d.0)) n) (maps-bare h d.0)
+
+-- what an entry shows is the same
+shown-bare : (s : Setting) (h : History) (dom : DomId) (r : ℕ) → IsRun s h → shown_at s (bare h) dom r ≡ shown_at s h dom r
+shown-bare s h dom r run =
+    let shows : Header → Entry → ℕ → ℕ → ℕ → Option Shown = λ x e g n m.
+    cond (is_some (domain_of s.domains dom) && nat_lt r (size_of x)) (Some (record { entry = e; generation = g; reads = n; writes = m })) None in
+    ap (λ (x : Header). shows x (entry_at (bare h) dom.0 r) (generation_at s (bare h) dom.0 r) (reads_at (bare h) dom.0 r) (writes_at (bare h) dom.0 r)) (table-bare s h dom)
+    ∙ ap (λ (e : Entry). shows (table_at s h dom) e (generation_at s (bare h) dom.0 r) (reads_at (bare h) dom.0 r) (writes_at (bare h) dom.0 r)) (entry-bare h dom.0 r)
+    ∙ ap (λ (n : ℕ). shows (table_at s h dom) (entry_at h dom.0 r) (s.first_generation + n) (reads_at (bare h) dom.0 r) (writes_at (bare h) dom.0 r)) (raises-bare h dom.0 r)
+    ∙ ap (λ (n : ℕ). shows (table_at s h dom) (entry_at h dom.0 r) (generation_at s h dom.0 r) n (writes_at (bare h) dom.0 r)) (reads-bare s h dom.0 r run)
+    ∙ ap (λ (n : ℕ). shows (table_at s h dom) (entry_at h dom.0 r) (generation_at s h dom.0 r) (reads_at h dom.0 r) n) (writes-bare s h dom.0 r run)
+
+pub shown-alike : (s : Setting) (g h : History) (dom : DomId) (r : ℕ) → AreAlike s g h → shown_at s g dom r ≡ shown_at s h dom r
+shown-alike s g h dom r alike =
+    sym (shown-bare s g dom r alike.first) ∙ ap (λ (l : History). shown_at s l dom r) (bare-same g h alike.same) ∙ shown-bare s h dom r alike.second
+
+-- the entry of which a known handle is a mapping
+subject-bare : (s : Setting) (h : History) (dom : DomId) (a : Handle) → IsRun s h → IsKnown h dom.0 a → subject_at s (bare h) dom (bare_handle a) ≡ subject_at s h dom a
+subject-bare s h dom a run k =
+    ap (λ (o : Option Held). cond (is_some (domain_of s.domains dom)) (option_map place_of o) None) (mapping-bare s h dom.0 a run k)
+
+pub subject-alike : (s : Setting) (g h : History) (dom : DomId) (a b : Handle) → AreAlike s g h → bare_handle a ≡ bare_handle b → IsKnown g dom.0 a → IsKnown h dom.0 b → subject_at s g dom a ≡ subject_at s h dom b
+subject-alike s g h dom a b alike same j k =
+    sym (subject-bare s g dom a alike.first j)
+    ∙ ap (λ (l : History). subject_at s l dom (bare_handle a)) (bare-same g h alike.same) ∙ ap (λ (x : Handle). subject_at s (bare h) dom x) same
+    ∙ subject-bare s h dom b alike.second k

@@ -1,8 +1,13 @@
 //! What the definitions of this crate come to. Each law is a function that does nothing, whose
 //! contract is the law.
-ghost use Rattle.gt_core.specs.Alike.{AreAlike, IsOfKnown, SameElement, SameEvent};
+ghost use Rattle.gt_core.specs.Alike.{bare_handle, IsKnown, AreAlike, IsOfKnown, SameElement, SameEvent};
+ghost use Rattle.std.specs.Prelude.{◌≡◌, ℕ};
+ghost use Rattle.gt_types.specs.declared.DomId.{DomId};
 ghost use Rattle.gt_core.specs.History.{History, Setting};
 ghost use Rattle.gt_core.specs.Legal.{MayDo, grown};
+ghost use Rattle.gt_core.specs.Shown.{shown_at};
+ghost use Rattle.gt_core.specs.Subject.{subject_at};
+ghost use Rattle.gt_handles.specs.declared.handles.Handle.{Handle};
 ghost use Rattle.gt_core.specs.declared.trace.Event.{Event};
 ghost use Rattle.gt_core.specs.declared.trace.Element.{Element};
 
@@ -19,4 +24,18 @@ pub fn every_alike_event_does_one_thing()
         AreAlike s g h → SameEvent e f → IsOfKnown g e → IsOfKnown h f →
         MayDo s g e one → MayDo s h f other →
         SameElement one other × AreAlike s (grown g one) (grown h other) }
+{}
+
+/// Where two runs have come to the same but for keys, an entry shows the same.
+pub fn every_alike_run_shows_one_thing()
+    ensures { (s : Setting) (g h : History) (dom : DomId) (r : ℕ) →
+        AreAlike s g h → shown_at s g dom r ≡ shown_at s h dom r }
+{}
+
+/// Where two runs have come to the same but for keys, handles that are the same but for keys, and that
+/// their domain was answered, are of mappings of the same entry.
+pub fn every_known_handle_has_one_subject()
+    ensures { (s : Setting) (g h : History) (dom : DomId) (a b : Handle) →
+        AreAlike s g h → bare_handle a ≡ bare_handle b → IsKnown g dom.0 a → IsKnown h dom.0 b →
+        subject_at s g dom a ≡ subject_at s h dom b }
 {}

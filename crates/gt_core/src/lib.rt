@@ -25,5 +25,8 @@ pub use core_state::{Begun, Core, Shown, Ticked, play};
 pub use gt_calls::{
     Asked, Change, CopyArgs, End, Handle, Held, Holder, Place, Request, Seen, Step,
 };
-pub use laws::{every_alike_event_does_one_thing, every_event_does_one_thing};
+pub use laws::{
+    every_alike_event_does_one_thing, every_alike_run_shows_one_thing, every_event_does_one_thing,
+    every_known_handle_has_one_subject,
+};
 pub use trace::{Answer, Bytes, Element, Event, Happened, Item, Trace};

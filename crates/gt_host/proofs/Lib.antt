@@ -7,3 +7,7 @@ pub mod PlayLemmas
 pub mod PlayedLemmas
 pub mod RunLemmas
 pub mod StartLemmas
+pub mod AlikeLemmas
+pub mod TickLemmas
+pub mod OneText
+pub mod RecordLemmas

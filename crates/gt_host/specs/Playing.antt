@@ -64,9 +64,13 @@ BeginsWhole c audit old new = (p : Progress) × IsLegalRunOf c c.steps p × Appe
 abbrev pub BeginsRun : Contents → Bool → Option (List ℕ) → Option (List ℕ) → Type 0
 BeginsRun c audit old new = BeginsSome c old new ⊎ BeginsWhole c audit old new
 
--- what the bytes say is a script, and a beginning of its text went out (own)
+-- what went out is a beginning of the text of each run that comes to the end (own)
+abbrev pub BeginsEvery : Contents → Bool → Option (List ℕ) → Option (List ℕ) → Type 0
+BeginsEvery c audit old new = (p : Progress) → IsLegalRunOf c c.steps p → AppendsBeginning old new (audited_text c audit p)
+
+-- what the bytes say is a script, and a beginning of its text went out: of a run of it, and of each one that comes to the end (own)
 abbrev pub Begins : (Result Contents Wrong → Type 0) → Bool → Option (List ℕ) → Option (List ℕ) → Type 0
-Begins Told audit old new = (c : Contents) × Told (Ok c) × BeginsRun c audit old new
+Begins Told audit old new = (c : Contents) × Told (Ok c) × BeginsRun c audit old new × BeginsEvery c audit old new
 
 -- what `play` wrote, where it answers so for bytes of which this is told: at Ok the text of the run, whole, and its audit where that is asked for;
 -- at a fault of the script nothing, and the fault is the script's first; after a failed write a beginning, and so for want of memory, unless nothing (own)

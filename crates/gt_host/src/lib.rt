@@ -21,6 +21,7 @@ mod copying;
 mod fault;
 mod kept;
 mod labels;
+mod laws;
 mod open_calls;
 mod outcome;
 mod playing;
@@ -29,4 +30,5 @@ mod run;
 mod showing;
 
 pub use fault::PlayFault;
+pub use laws::{every_beginning_is_of_the_text, every_script_prints_one_text};
 pub use playing::play;
