@@ -19,7 +19,7 @@ pub mod Exchanging
 pub mod Headers
 pub mod Pinning
 pub mod Unpinning
-pub mod Writing
+pub mod Framing
 pub mod Beginning
 pub mod Acting
 pub mod Accessing

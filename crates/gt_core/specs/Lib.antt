@@ -4,5 +4,6 @@ pub mod History
 pub mod Legal
 pub mod Standing
 pub mod Sight
+pub mod Accesses
 pub mod Effects
 pub mod Shown

@@ -12,7 +12,7 @@ use Rattle.gt_core.specs.History.{History, Setting, Underway, open_call, underwa
 use Rattle.gt_core.specs.Legal.{MayDo, IsRight, grown, LegalAfter, history_after, actor_of}
 use Rattle.gt_core.specs.Shown.{shown_at}
 use Rattle.gt_core.specs.Standing.{CoreStands, begun_element}
-use Rattle.gt_core.specs.States.{State}
+use Rattle.gt_core.specs.States.{CoreState}
 use Rattle.gt_core.specs.declared.core_state.Begun.{Begun}
 use Rattle.gt_core.specs.declared.core_state.Begun.TheVariants as begun
 use Rattle.gt_core.specs.declared.core_state.Shown.{Shown}
@@ -123,7 +123,7 @@ some_known None e = cc
 some_known (Some x) e = (x, refl)
 
 -- more has happened
-came : (s : Setting) (p : Progress) (events : List Event) (trace : List Element) (named : List Named) (calls : ℕ → Option Step) (text : List ℕ) (old new : List State) (kept next : Kept) → HasCome s p old kept → Happens s (history_of p) events trace new
+came : (s : Setting) (p : Progress) (events : List Event) (trace : List Element) (named : List Named) (calls : ℕ → Option Step) (text : List ℕ) (old new : CoreState) (kept next : Kept) → HasCome s p old kept → Happens s (history_of p) events trace new
     → IsKept next (record { events = p.events ++ events; trace = p.trace ++ trace; named = named; open_steps = calls; text = text })
     → ((n : ℕ) → is_some (calls n) ≡ is_some (open_call (history_after (history_of p) trace) n))
     → HasCome s (record { events = p.events ++ events; trace = p.trace ++ trace; named = named; open_steps = calls; text = text }) new next
@@ -137,7 +137,7 @@ came s p events trace named calls text old new kept next come happens keeps know
     }
 
 -- nothing has happened but a line more
-lined : (s : Setting) (p : Progress) (line : List ℕ) (domains : List State) (kept : Kept) → HasCome s p domains kept → HasCome s (with_line p line) domains kept
+lined : (s : Setting) (p : Progress) (line : List ℕ) (domains : CoreState) (kept : Kept) → HasCome s p domains kept → HasCome s (with_line p line) domains kept
 lined s p line domains kept come = record {
   legal = come.legal;
   stands = come.stands;
@@ -160,7 +160,7 @@ answered_leaves s h d request count i xs before last a order answers legal n =
       | inr apart ↦ events_other s h (call_events d request count) (Did i ∷ xs) d n own legal apart
     ]
 
-pub do_answered : (s : Setting) (types : List (List ℕ)) (st : Step) (call : Call) (p : Progress) (old new : List State) (kept next : Kept) (before after : List ℕ) (request : Request) (said : Outcome) (a : Answer)
+pub do_answered : (s : Setting) (types : List (List ℕ)) (st : Step) (call : Call) (p : Progress) (old new : CoreState) (kept next : Kept) (before after : List ℕ) (request : Request) (said : Outcome) (a : Answer)
     → Asks p.named st.dom call request → said ≡ Answered a → HasCome s p old kept → Calls s (history_of p) st.dom request new said
     → AreNamed next.labels (named_after p.named st.dom st a) → next.calls ≡ kept.calls → after ≡ before ++ answer_line types st.line st.dom a
     → (q : Progress) × DoLine types st call p q × HasCome s q new next × IsAppended p.text q.text before after
@@ -181,7 +181,7 @@ do_answered s types st call p old new kept next before after request said a asks
       (answer_line types st.line st.dom a, refl, line),
     )
 
-pub do_busy : (s : Setting) (types : List (List ℕ)) (st : Step) (call : Call) (p : Progress) (old new : List State) (kept : Kept) (before after : List ℕ) (request : Request) (said : Outcome)
+pub do_busy : (s : Setting) (types : List (List ℕ)) (st : Step) (call : Call) (p : Progress) (old new : CoreState) (kept : Kept) (before after : List ℕ) (request : Request) (said : Outcome)
     → Asks p.named st.dom call request → said ≡ IsBusy → HasCome s p old kept → Calls s (history_of p) st.dom request new said → after ≡ before ++ busy_line st.line st.dom
     → (q : Progress) × DoLine types st call p q × HasCome s q new kept × IsAppended p.text q.text before after
 do_busy s types st call p old new kept before after request said asks is come made line =
@@ -198,7 +198,7 @@ do_busy s types st call p old new kept before after request said asks is come ma
 -- `begin ID CALL`
 
 -- one event of the domain
-begun_once : (s : Setting) (types : List (List ℕ)) (st : Step) (call : Call) (p : Progress) (request : Request) (x : Element) (named : List Named) (calls : ℕ → Option Step) (text : List ℕ) (old new : List State) (kept next : Kept) (before after : List ℕ)
+begun_once : (s : Setting) (types : List (List ℕ)) (st : Step) (call : Call) (p : Progress) (request : Request) (x : Element) (named : List Named) (calls : ℕ → Option Step) (text : List ℕ) (old new : CoreState) (kept next : Kept) (before after : List ℕ)
     → Asks p.named st.dom call request → HasCome s p old kept → MayDo s (history_of p) (Begin st.dom request) x × CoreStands s (grown (history_of p) x) new
     → after_beginning types (with_events p (Begin st.dom request ∷ []) (x ∷ [])) st x
     ≡ record { events = p.events ++ Begin st.dom request ∷ []; trace = p.trace ++ x ∷ []; named = named; open_steps = calls; text = p.text ++ text }
@@ -214,7 +214,7 @@ begun_once s types st call p request x named calls text old new kept next before
       (text, refl, line),
     )
 
-pub begin_answered : (s : Setting) (types : List (List ℕ)) (st : Step) (call : Call) (p : Progress) (old new : List State) (kept next : Kept) (before after : List ℕ) (request : Request) (said : Begun) (a : Answer)
+pub begin_answered : (s : Setting) (types : List (List ℕ)) (st : Step) (call : Call) (p : Progress) (old new : CoreState) (kept next : Kept) (before after : List ℕ) (request : Request) (said : Begun) (a : Answer)
     → Asks p.named st.dom call request → said ≡ begun.Done a → HasCome s p old kept → MayDo s (history_of p) (Begin st.dom request) (begun_element st.dom request said) × CoreStands s (grown (history_of p) (begun_element st.dom request said)) new
     → AreNamed next.labels (named_after p.named st.dom st a) → next.calls ≡ kept.calls → after ≡ before ++ answer_line types st.line st.dom a
     → (q : Progress) × BeginLine types st call p q × HasCome s q new next × IsAppended p.text q.text before after
@@ -226,14 +226,14 @@ begin_answered s types st call p old new kept next before after request said a a
     begun_once s types st call p request (Did i) (named_after p.named st.dom st a) p.open_steps (answer_line types st.line st.dom a) old new kept next before after asks come told_so refl names
     (λ n. ap (λ (c : OpenCalls). call_in c n) same ∙ come.keeps.calls n) (λ n apart. refl) (come.knows st.dom.0 ∙ ap is_some (was ∙ sym now)) line
 
-pub begin_busy : (s : Setting) (types : List (List ℕ)) (st : Step) (call : Call) (p : Progress) (old new : List State) (kept : Kept) (before after : List ℕ) (request : Request) (said : Begun)
+pub begin_busy : (s : Setting) (types : List (List ℕ)) (st : Step) (call : Call) (p : Progress) (old new : CoreState) (kept : Kept) (before after : List ℕ) (request : Request) (said : Begun)
     → Asks p.named st.dom call request → said ≡ begun.Busy → HasCome s p old kept → MayDo s (history_of p) (Begin st.dom request) (begun_element st.dom request said) × CoreStands s (grown (history_of p) (begun_element st.dom request said)) new
     → after ≡ before ++ busy_line st.line st.dom → (q : Progress) × BeginLine types st call p q × HasCome s q new kept × IsAppended p.text q.text before after
 begin_busy s types st call p old new kept before after request said asks is come told line =
     let told_so = subst (λ (b : Begun). MayDo s (history_of p) (Begin st.dom request) (begun_element st.dom request b) × CoreStands s (grown (history_of p) (begun_element st.dom request b)) new) is told in
     begun_once s types st call p request Busy p.named p.open_steps (busy_line st.line st.dom) old new kept kept before after asks come told_so refl come.keeps.names come.keeps.calls (λ n apart. refl) (come.knows st.dom.0) line
 
-begun_open : (s : Setting) (types : List (List ℕ)) (st : Step) (call : Call) (p : Progress) (old new : List State) (kept next : Kept) (before after : List ℕ) (request : Request)
+begun_open : (s : Setting) (types : List (List ℕ)) (st : Step) (call : Call) (p : Progress) (old new : CoreState) (kept next : Kept) (before after : List ℕ) (request : Request)
     → Asks p.named st.dom call request → HasCome s p old kept → MayDo s (history_of p) (Begin st.dom request) (Did (record { actor = st.dom; happened = Began request; answer = None }))
     × CoreStands s (record { actor = st.dom; happened = Began request; answer = None } ∷ history_of p) new
     → next.labels ≡ kept.labels → ((n : ℕ) → call_in next.calls n ≡ cond (n == st.dom.0) (Some st) (call_in kept.calls n)) → after ≡ before
@@ -248,7 +248,7 @@ begun_open s types st call p old new kept next before after request asks come to
     (λ n. known n ∙ ap (λ (o : Option Step). cond (n == st.dom.0) (Some st) o) (come.keeps.calls n))
     (pick_other p.open_steps (Some st) st.dom.0) (ap is_some (pick_own p.open_steps (Some st) st.dom.0) ∙ sym (ap is_some now)) (line ∙ sym (append-nil before))
 
-pub begin_open : (s : Setting) (types : List (List ℕ)) (st : Step) (call : Call) (p : Progress) (old new : List State) (kept next : Kept) (before after : List ℕ) (request : Request) (said : Begun)
+pub begin_open : (s : Setting) (types : List (List ℕ)) (st : Step) (call : Call) (p : Progress) (old new : CoreState) (kept next : Kept) (before after : List ℕ) (request : Request) (said : Begun)
     → Asks p.named st.dom call request → domain_of s.domains st.dom ≢ None → (said ≡ begun.Open) ⊎ (said ≡ begun.NoDomain) → HasCome s p old kept
     → MayDo s (history_of p) (Begin st.dom request) (begun_element st.dom request said) × CoreStands s (grown (history_of p) (begun_element st.dom request said)) new
     → next.labels ≡ kept.labels → ((n : ℕ) → call_in next.calls n ≡ cond (n == st.dom.0) (Some st) (call_in kept.calls n)) → after ≡ before
@@ -262,7 +262,7 @@ begin_open s types st call p old new kept next before after request said asks co
 
 -- `tick ID N`
 
-pub ticks_answered : (s : Setting) (types : List (List ℕ)) (st : Step) (most : ℕ) (begun : Step) (p : Progress) (old new : List State) (kept next : Kept) (before after : List ℕ) (said : Option Answer) (a : Answer)
+pub ticks_answered : (s : Setting) (types : List (List ℕ)) (st : Step) (most : ℕ) (begun : Step) (p : Progress) (old new : CoreState) (kept next : Kept) (before after : List ℕ) (said : Option Answer) (a : Answer)
     → call_in kept.calls st.dom.0 ≡ Some begun → said ≡ Some a → HasCome s p old kept → TicksTo s (history_of p) st.dom most new said
     → AreNamed next.labels (named_after p.named st.dom begun a) → ((n : ℕ) → call_in next.calls n ≡ cond (n == st.dom.0) None (call_in kept.calls n)) → after ≡ before ++ answer_line types begun.line st.dom a
     → (q : Progress) × TickLine types st most (p.open_steps st.dom.0) p q × HasCome s q new next × IsAppended p.text q.text before after
@@ -285,7 +285,7 @@ ticks_answered s types st most begun p old new kept next before after said a beg
       (answer_line types begun.line st.dom a, refl, line),
     )
 
-pub ticks_open : (s : Setting) (types : List (List ℕ)) (st : Step) (most : ℕ) (begun : Step) (p : Progress) (old new : List State) (kept : Kept) (before after : List ℕ) (said : Option Answer)
+pub ticks_open : (s : Setting) (types : List (List ℕ)) (st : Step) (most : ℕ) (begun : Step) (p : Progress) (old new : CoreState) (kept : Kept) (before after : List ℕ) (said : Option Answer)
     → domain_of s.domains st.dom ≢ None → call_in kept.calls st.dom.0 ≡ Some begun → said ≡ None → HasCome s p old kept → TicksTo s (history_of p) st.dom most new said → after ≡ before
     → (q : Progress) × TickLine types st most (p.open_steps st.dom.0) p q × HasCome s q new kept × IsAppended p.text q.text before after
 ticks_open s types st most begun p old new kept before after said configured begins is come ticks line =
@@ -305,7 +305,7 @@ ticks_open s types st most begun p old new kept before after said configured beg
       ([], sym (append-nil p.text), line ∙ sym (append-nil before)),
     )
 
-pub ticks_idle : (s : Setting) (types : List (List ℕ)) (st : Step) (most : ℕ) (p : Progress) (domains : List State) (kept : Kept) (before after : List ℕ)
+pub ticks_idle : (s : Setting) (types : List (List ℕ)) (st : Step) (most : ℕ) (p : Progress) (domains : CoreState) (kept : Kept) (before after : List ℕ)
     → call_in kept.calls st.dom.0 ≡ None → HasCome s p domains kept → after ≡ before ++ idle_line st.line st.dom
     → (q : Progress) × TickLine types st most (p.open_steps st.dom.0) p q × HasCome s q domains kept × IsAppended p.text q.text before after
 ticks_idle s types st most p domains kept before after none come line =
@@ -320,7 +320,7 @@ ticks_idle s types st most p domains kept before after none come line =
 
 -- `show ID REF`
 
-pub shows : (s : Setting) (st : Step) (gref : GrantRef) (p : Progress) (domains : List State) (kept : Kept) (before after : List ℕ) (shown : Option Shown)
+pub shows : (s : Setting) (st : Step) (gref : GrantRef) (p : Progress) (domains : CoreState) (kept : Kept) (before after : List ℕ) (shown : Option Shown)
     → HasCome s p domains kept → ((h : History) → CoreStands s h domains → shown ≡ shown_at s h st.dom gref.0) → after ≡ before ++ show_line st.line st.dom gref shown
     → (q : Progress) × ShowLine s st gref p q × HasCome s q domains kept × IsAppended p.text q.text before after
 shows s st gref p domains kept before after shown come told line =
