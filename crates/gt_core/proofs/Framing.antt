@@ -128,9 +128,9 @@ way-covers k d granted end len pair (Through via p) a =
 admitted-by : (fs : FrameSet) (x : State) (call : Call) (name : FrameName) (off len : ℕ) (route : Route) → has_frame fs name ≡ true → off + len ≤ FRAME_SIZE → route_of x.mappings call ≡ route
     → suffices (ground_of route) call.caller name.owner name.number off len ≡ true → (w : Writ) → IsWritOf x call w → IsTrue (admits fs name w off len)
 admitted-by fs x call name off len route there within is right w of_call =
-    let by : w.ground ≡ ground_of route = of_call.1 ∙ ap ground_of is in
+    let by : w.basis ≡ ground_of route = of_call.1 ∙ ap ground_of is in
     and_from _ _ (and_from _ _ there (le-leb (off + len) FRAME_SIZE within))
-    (ap (λ (d : DomId). suffices w.ground d name.owner name.number off len) of_call.0 ∙ ap (λ (g : Ground). suffices g call.caller name.owner name.number off len) by ∙ right)
+    (ap (λ (d : DomId). suffices w.basis d name.owner name.number off len) of_call.0 ∙ ap (λ (g : Ground). suffices g call.caller name.owner name.number off len) by ∙ right)
 
 -- a store through a mapping writes by the mapping's entry
 store-admitted : (s : Setting) (h : History) (xs : List State) (fs : FrameSet) (x : State) (phase : Option Phase) (handle : Handle) (dom : DomId) (frame off len : ℕ) → DomainsStand s h xs → FramesStand s h fs → Agrees s h x

@@ -46,7 +46,7 @@ route_of mappings call = by call.request
 
 -- the writ is that of a domain's call: the caller writes, by the route of the call (own)
 abbrev pub IsWritOf : State → Call → Writ → Type 0
-IsWritOf d call w = (w.writer ≡ call.caller) × (w.ground ≡ ground_of (route_of d.mappings call))
+IsWritOf d call w = (w.writer ≡ call.caller) × (w.basis ≡ ground_of (route_of d.mappings call))
 
 -- the step writes bytes (own)
 abbrev pub IsWriting : Step → Type 0

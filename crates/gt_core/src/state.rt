@@ -200,7 +200,7 @@ impl DomainState {
     {
         Writ {
             writer: call.caller,
-            ground: ground_of(self.route(call)),
+            basis: ground_of(self.route(call)),
         }
     }
 
