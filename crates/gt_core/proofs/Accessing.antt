@@ -41,7 +41,7 @@ use Rattle.gt_calls.specs.Resting.{RestsOnRequest, RestsOnWays, IsMapped, IsReac
 use Rattle.gt_core.specs.States.{State}
 use Rattle.gt_core.specs.History.{History, Setting, Pin, live, known_at, legs_at, mappings_at, mapping_of, gather, by_mapping, by_leg, same_handle}
 use Rattle.gt_core.specs.Legal.{Reaches, Forwards, MayUse, MayCopy, MayUseMapping, MayAccess, MayAsk, IsInFrame, EndIsJustified, CopyIsJustified, Justified}
-use Rattle.gt_core.specs.Standing.{IsLawful, IsLawfullyHeld, CoreStands, numbered}
+use Rattle.gt_core.specs.Standing.{IsLawful, IsLawfullyHeld, DomainsStand, numbered}
 
 -- pins among those that a domain's give
 
@@ -104,7 +104,7 @@ found-in (x ∷ ms) handle m e = by (same_handle x.0 handle) (found-in ms handle
     by false rest f = inr (rest f)
 
 -- a pin that lets its mapping be used lets the domain access any range in that way
-permits-as : (e : Entry) (d : DomId) (held dir : Dir) (off len : ℕ) → ((dir ≡ Write) → held ≡ Write) → permits e d held ForMap 0 0 ≡ true → permits e d dir ForMap off len ≡ true
+pub permits-as : (e : Entry) (d : DomId) (held dir : Dir) (off len : ℕ) → ((dir ≡ Write) → held ≡ Write) → permits e d held ForMap 0 0 ≡ true → permits e d dir ForMap off len ≡ true
 permits-as Invalid d held dir off len w a = a
 permits-as (Page dom ro frame) d held dir off len w a =
     let parts = and_parts (dom.0 == d.0) (allows_direction ro held) a in
@@ -144,7 +144,7 @@ rightful s d m p law a =
     record { own = a.0; is = a.1; permitted = u.0; may = u.1; framed = u.2; named = u.3 }
 
 -- the pin of a mapping is live
-pub mapping-pin : (s : Setting) (h : History) (xs : List State) (d : DomId) (handle : Handle) (m : Held) → CoreStands s h xs → mapping_of (mappings_at h d.0) handle ≡ Some m → Any (IsRightful s d m) (live h)
+pub mapping-pin : (s : Setting) (h : History) (xs : List State) (d : DomId) (handle : Handle) (m : Held) → DomainsStand s h xs → mapping_of (mappings_at h d.0) handle ≡ Some m → Any (IsRightful s d m) (live h)
 mapping-pin s h xs d handle m st found =
     any-all (IsLawful s) (IsBy by_mapping d.0 m) (IsRightful s d m) (live h) st.lawful (λ p law a. rightful s d m p law a)
     (gathered-any by_mapping d.0 m (live h) mapping-gives (found-in (mappings_at h d.0) handle m found))
@@ -165,7 +165,7 @@ pub record Accesses (s : Setting) (h : History) (d : DomId) (dir : Dir) (at : Pl
   pub inside : IsInFrame s at len
   pub by_right : MayAccess h d dir at len
 
-mapping-accesses : (s : Setting) (h : History) (xs : List State) (d : DomId) (dir : Dir) (handle : Handle) (dom : DomId) (frame off len : ℕ) → CoreStands s h xs
+mapping-accesses : (s : Setting) (h : History) (xs : List State) (d : DomId) (dir : Dir) (handle : Handle) (dom : DomId) (frame off len : ℕ) → DomainsStand s h xs
     → (a : IsMapped (known_at s h d) handle dom frame) → ((dir ≡ Write) → a.mapping.dir ≡ Write) → off + len ≤ FRAME_SIZE
     → Accesses s h d dir (record { owner = dom; frame = frame; off = off }) len × MayUseMapping s d (mapping_of (mappings_at h d.0) handle)
 mapping-accesses s h xs d dir handle dom frame off len st a writes inside =
@@ -178,16 +178,16 @@ mapping-accesses s h xs d dir handle dom frame off len st a writes inside =
       subst (MayUseMapping s d) (sym a.found) one.may,
     )
 
-none-of : (k : CallerKnowledge) (d : DomId) (r q : Asked) → r ≡ q → begun k d r ≡ None → begun k d q ≡ None
+pub none-of : (k : CallerKnowledge) (d : DomId) (r q : Asked) → r ≡ q → begun k d r ≡ None → begun k d q ≡ None
 none-of k d r q is none = subst (λ (z : Asked). begun k d z ≡ None) is none
 
 not-write : (P : Type 0) → Read ≡ Write → P
 not-write P e = cc
 
-same-held : (k : CallerKnowledge) (handle : Handle) (a b : Held) → k.mapping handle ≡ Some a → k.mapping handle ≡ Some b → a ≡ b
+pub same-held : (k : CallerKnowledge) (handle : Handle) (a b : Held) → k.mapping handle ≡ Some a → k.mapping handle ≡ Some b → a ≡ b
 same-held k handle a b e f = same_Some a b (sym e ∙ f)
 
-pub read-justified : (s : Setting) (h : History) (xs : List State) (d : DomId) (r : Asked) (dom : DomId) (frame off len : ℕ) → CoreStands s h xs → begun (known_at s h d) d r ≡ None
+pub read-justified : (s : Setting) (h : History) (xs : List State) (d : DomId) (r : Asked) (dom : DomId) (frame off len : ℕ) → DomainsStand s h xs → begun (known_at s h d) d r ≡ None
     → RestsOnRequest (known_at s h d) d r (ReadBytes dom frame off len) → Justified s h d r (ReadBytes dom frame off len)
 read-justified s h xs d r dom frame off len st none (inl (handle, is, mapped)) =
     let o = opens (known_at s h d) d (Load handle off len) (none-of (known_at s h d) d r (Load handle off len) is none) in
@@ -197,7 +197,7 @@ read-justified s h xs d r dom frame off len st none (inr (is, own)) =
     let o = opens (known_at s h d) d (Peek frame off len) (none-of (known_at s h d) d r (Peek frame off len) is none) in
     (subst (λ (z : DomId). IsInFrame s (record { owner = z; frame = frame; off = off }) len) (sym own) (o.framed, o.range), inl (ap (λ (z : DomId). z.0) own), subst (MayAsk s h d) (sym is) tt)
 
-pub write-justified : (s : Setting) (h : History) (xs : List State) (d : DomId) (r : Asked) (dom : DomId) (frame off len : ℕ) → CoreStands s h xs → begun (known_at s h d) d r ≡ None
+pub write-justified : (s : Setting) (h : History) (xs : List State) (d : DomId) (r : Asked) (dom : DomId) (frame off len : ℕ) → DomainsStand s h xs → begun (known_at s h d) d r ≡ None
     → RestsOnRequest (known_at s h d) d r (WriteBytes dom frame off len) → Justified s h d r (WriteBytes dom frame off len)
 write-justified s h xs d r dom frame off len st none (inl (handle, is, mapped)) =
     let o = opens (known_at s h d) d (Store handle off len) (none-of (known_at s h d) d r (Store handle off len) is none) in

@@ -43,7 +43,7 @@ use Rattle.gt_calls.specs.Standing.{HasShown, IsQuiet, IsTurn}
 use Rattle.gt_core.specs.States.{State}
 use Rattle.gt_core.specs.History.{History, Setting, entry_at, generation_at, body_at, reads_at, writes_at, control_at, word_at, known_at, legs_at, raise_of}
 use Rattle.gt_core.specs.Legal.{IsSafeChange, IsSpelled, MayUse, NoneStands, leg_at, rule_before_pin, StepsSoFar}
-use Rattle.gt_core.specs.Standing.{CoreStands, FitsAsked, FitsTable, PhaseStands, numbered}
+use Rattle.gt_core.specs.Standing.{DomainsStand, FitsAsked, FitsTable, PhaseStands, numbered}
 use Rattle.gt_core.proofs.Fitting.{word-shows}
 use Rattle.gt_core.proofs.Legs.{IsAsTried, as-tried, still-judged, control-generation, control-reads, control-writes}
 use Rattle.gt_core.proofs.Aims.{leg-here}
@@ -99,7 +99,7 @@ publish-spelled s h d r way shown so_far (Ending pins verdict) gref looked entry
     by (p ∷ ps) e = cc
 
 -- a generation has room in its word
-generation-fits : (s : Setting) (h : History) (xs : List State) (t r : ℕ) → CoreStands s h xs → r < TABLE_ENTRIES → generation_at s h t r ≤ LAST_GENERATION
+generation-fits : (s : Setting) (h : History) (xs : List State) (t r : ℕ) → DomainsStand s h xs → r < TABLE_ENTRIES → generation_at s h t r ≤ LAST_GENERATION
 generation-fits s h xs t r st within =
     let f = (st.words t r within).in_range.generation in
     let e = control-generation (entry_at h t r) (generation_at s h t r) (reads_at h t r) (writes_at h t r) in
@@ -167,7 +167,7 @@ store-invalid s h d r gref FirstHalf word none a = grant-invalid s h d gref a.0 
 store-invalid s h d r gref SecondHalf word none a = grant-invalid s h d gref a.0 (none-of (known_at s h d) d r (Grant gref a.0) a.1 none)
 
 -- a header that is stored is within the limits
-pub header-fits : (s : Setting) (h : History) (xs : List State) (d : DomId) (r : Asked) (version frames : ℕ) → CoreStands s h xs → begun (known_at s h d) d r ≡ None → RestsOnRequest (known_at s h d) d r (StoreHeader version frames)
+pub header-fits : (s : Setting) (h : History) (xs : List State) (d : DomId) (r : Asked) (version frames : ℕ) → DomainsStand s h xs → begun (known_at s h d) d r ≡ None → RestsOnRequest (known_at s h d) d r (StoreHeader version frames)
     → FitsTable (record { version = version; frames = frames })
 header-fits s h xs d r version frames st none (inl a) =
     record { version = by (opens (known_at s h d) d (SetVersion version) (none-of (known_at s h d) d r (SetVersion version) a.0 none)).version_known; frames = subst (λ (n : ℕ). n ≤ MAX_TABLE_FRAMES) (sym a.1) (st.tables d).frames }
@@ -216,7 +216,7 @@ below-most n lt apart = by (n == MAX_PINS) refl
     by true e = absurd (apart (eqb-true n MAX_PINS e))
     by false e = let f : n ≢ MAX_PINS = eqb-false n MAX_PINS e in omega arith
 
-taken-pin : (s : Setting) (h : History) (xs : List State) (d : DomId) (r : Asked) (so_far : StepsSoFar) (aim : Aim) (l : Leg) (more word body second : ℕ) → CoreStands s h xs → IsFor (known_at s h d) d r aim l
+taken-pin : (s : Setting) (h : History) (xs : List State) (d : DomId) (r : Asked) (so_far : StepsSoFar) (aim : Aim) (l : Leg) (more word body second : ℕ) → DomainsStand s h xs → IsFor (known_at s h d) d r aim l
     → legs_at h d.0 ≡ numbered 0 (reverse (last_first (Rattle.gt_calls.specs.Holding.pins_so_far aim))) → PhaseStands s h d r so_far (Walking aim l (Pinning more word body second)) → word_at s h l.dom.0 l.gref.0 ≡ word
     → CanPin s h d r (held_of l word body second)
 taken-pin s h xs d r so_far aim l more word body second st is held place same =

@@ -22,7 +22,8 @@ use Rattle.gt_core.specs.declared.trace.Answer.TheVariants.{Done, Mapped, Bytes}
 use Rattle.gt_core.specs.declared.trace.Happened.{Happened}
 use Rattle.gt_core.specs.declared.trace.Happened.TheVariants.{Began, Stepped}
 use Rattle.gt_core.specs.declared.trace.Item.{Item}
-use Rattle.gt_core.specs.History.{History, Setting, Underway, Writing, entry_at, entry_after, change_at, change_of, raises_at, raise_after, body_at, or_else, stored_at, table_at, header_or, header_stored, open_call, underway_with, underway_after, maps_answered_at, one_if_mapped, contents_at, contents_after, written_by, given_in, values}
+use Rattle.gt_frames.specs.Bytes.{Patch, written}
+use Rattle.gt_core.specs.History.{History, Setting, Underway, Writing, entry_at, entry_after, change_at, change_of, raises_at, raise_after, body_at, or_else, stored_at, table_at, header_or, header_stored, open_call, underway_with, underway_after, maps_answered_at, one_if_mapped, contents_at, patches_by, patches_at, written_by, given_in, values}
 use Rattle.gt_core.specs.Alike.{bare_handle, bare_request, bare_step, bare_happened, told, told_item, told_items, ToldItem, SameHistory}
 
 -- an answer that tells this, where bytes are no matter
@@ -175,12 +176,15 @@ given-in-bare : (c : Option Underway) → given_in (option_map bare_call c) ≡ 
 given-in-bare None = refl
 given-in-bare (Some c) = refl
 
+patches-bare : (h : History) (t f : ℕ) → patches_at (bare h) t f ≡ patches_at h t f
+unfolding patches_at bare
+patches-bare [] t f = refl
+patches-bare (i ∷ h) t f =
+    ap (λ (w : Option Writing). patches_at (bare h) t f ++ patches_by w t f)
+    (written-bare i.happened (given_in (open_call (bare h) i.actor.0)) (λ u g. written (patches_at (bare h) u g))
+    ∙ ap (λ (bytes : List ℕ). written_by i.happened bytes (λ u g. written (patches_at (bare h) u g))) (ap given_in (open-bare h i.actor.0) ∙ given-in-bare (open_call h i.actor.0))
+    ∙ ap (λ (k : ℕ → ℕ → List ℕ). written_by i.happened (given_in (open_call h i.actor.0)) k) (fun_ext (λ u. fun_ext (λ g. ap written (patches-bare h u g)))))
+    ∙ ap (λ (ps : List Patch). ps ++ patches_by (written_by i.happened (given_in (open_call h i.actor.0)) (λ u g. written (patches_at h u g))) t f) (patches-bare h t f)
+
 pub contents-bare : (h : History) (t f : ℕ) → contents_at (bare h) t f ≡ contents_at h t f
-unfolding contents_at bare
-contents-bare [] t f = refl
-contents-bare (i ∷ h) t f =
-    ap (λ (w : Option Writing). contents_after w t f (contents_at (bare h) t f))
-    (written-bare i.happened (given_in (open_call (bare h) i.actor.0)) (λ u g. contents_at (bare h) u g)
-    ∙ ap (λ (bytes : List ℕ). written_by i.happened bytes (λ u g. contents_at (bare h) u g)) (ap given_in (open-bare h i.actor.0) ∙ given-in-bare (open_call h i.actor.0))
-    ∙ ap (λ (k : ℕ → ℕ → List ℕ). written_by i.happened (given_in (open_call h i.actor.0)) k) (fun_ext (λ u. fun_ext (λ g. contents-bare h u g))))
-    ∙ ap (λ (old : List ℕ). contents_after (written_by i.happened (given_in (open_call h i.actor.0)) (λ u g. contents_at h u g)) t f old) (contents-bare h t f)
+contents-bare h t f = ap written (patches-bare h t f)

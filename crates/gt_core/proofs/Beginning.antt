@@ -59,12 +59,12 @@ use Rattle.gt_core.specs.declared.trace.Happened.TheVariants.{Began}
 use Rattle.gt_core.specs.declared.trace.Answer.{Answer}
 use Rattle.gt_core.specs.declared.trace.Answer.TheVariants.{Frames, Done as AnswerDone}
 use Rattle.gt_core.specs.declared.slot.Open.{Open}
-use Rattle.gt_core.specs.declared.core_state.Opening.TheVariants.{Open as OpeningOpen}
+use Rattle.gt_core.specs.declared.machine.Opening.TheVariants.{Open as OpeningOpen}
 use Rattle.gt_core.specs.States.{State, state_of, asks_memory, kept_by}
 use Rattle.gt_core.specs.Effects.{with_call}
 use Rattle.gt_core.specs.History.{History, Setting, table_at, known_at, Underway, open_call, legs_at, one_if_mapped}
 use Rattle.gt_core.specs.Legal.{LeavesAll, stood, AnsweredBy, GivesValue, refusal_in, refusal_of, MayDo, IsRight}
-use Rattle.gt_core.specs.Standing.{IsMapping, IsClean, phase_refusal, WantsMemory, IsOpened, FitsAsked, PhaseStands, OpenAgrees, CallAgrees, FitsGiven, GivenAgrees, Agrees, StateAgrees, CoreStands, answer_of, Opens, numbered}
+use Rattle.gt_core.specs.Standing.{IsMapping, IsClean, phase_refusal, WantsMemory, IsOpened, FitsAsked, PhaseStands, OpenAgrees, CallAgrees, FitsGiven, GivenAgrees, Agrees, StateAgrees, DomainsStand, answer_of, Opens, numbered}
 use Rattle.gt_core.proofs.Quiet.{KeepsKnown, kept-known, kept-legs}
 use Rattle.gt_core.proofs.Places.{has_id, found, not-found, state_of-set}
 use Rattle.gt_core.proofs.Phases.{of-run}
@@ -465,16 +465,16 @@ begin-done s h d request v a closed op =
 
 -- the four ways that the core begins
 
-pub begin-nowhere : (s : Setting) (h : History) (domains : List State) (dom : DomId) → position (has_id dom.0) domains ≡ None → CoreStands s h domains → domain_of s.domains dom ≡ None
+pub begin-nowhere : (s : Setting) (h : History) (domains : List State) (dom : DomId) → position (has_id dom.0) domains ≡ None → DomainsStand s h domains → domain_of s.domains dom ≡ None
 begin-nowhere s h domains dom p st = subst (λ (o : Option State). StateAgrees s h dom o) (not-found domains dom.0 p) (st.each dom)
 
 pub agrees-found : (s : Setting) (h : History) (domains : List State) (dom : DomId) (at : ℕ) (x : State) → position (has_id dom.0) domains ≡ Some at → x ≡ get_or domains at x
-    → CoreStands s h domains → (domain_of s.domains dom ≢ None) × (x.id ≡ dom) × Agrees s h x
+    → DomainsStand s h domains → (domain_of s.domains dom ≢ None) × (x.id ≡ dom) × Agrees s h x
 agrees-found s h domains dom at x p here st =
     subst (λ (o : Option State). StateAgrees s h dom o) (found domains dom.0 at x p ∙ ap (λ (y : State). Some y) (sym here)) (st.each dom)
 
 pub begin-busy : (s : Setting) (h : History) (domains : List State) (dom : DomId) (at : ℕ) (x : State) → position (has_id dom.0) domains ≡ Some at → x ≡ get_or domains at x
-    → is_some x.underway ≡ true → CoreStands s h domains → (domain_of s.domains dom ≢ None) × (open_call h dom.0 ≢ None)
+    → is_some x.underway ≡ true → DomainsStand s h domains → (domain_of s.domains dom ≢ None) × (open_call h dom.0 ≢ None)
 begin-busy s h domains dom at x p here busy st =
     let a = agrees-found s h domains dom at x p here st in
     (a.0, subst (λ (d : DomId). open_call h d.0 ≢ None) a.1 (call-some s h x.id x.underway (open_call h x.id.0) busy a.2.call))
@@ -493,36 +493,36 @@ same-state domains x q e = by (x.id.0 == q) refl
 
 begin-answered : (s : Setting) (h : History) (domains : List State) (dom : DomId) (at : ℕ) (x : State) (request : Request) (v : Verdict)
     → position (has_id dom.0) domains ≡ Some at → x ≡ get_or domains at x → is_some x.underway ≡ false
-    → begun_of (knowledge_of s.domains s.first_generation s.may x.own x.header x.mappings) dom request ≡ Some v → CoreStands s h domains
-    → (domain_of s.domains dom ≢ None) × IsRight s h (began dom request (Some (answer_of v))) × CoreStands s (began dom request (Some (answer_of v)) ∷ h) domains
+    → begun_of (knowledge_of s.domains s.first_generation s.may x.own x.header x.mappings) dom request ≡ Some v → DomainsStand s h domains
+    → (domain_of s.domains dom ≢ None) × IsRight s h (began dom request (Some (answer_of v))) × DomainsStand s (began dom request (Some (answer_of v)) ∷ h) domains
 begin-answered s h domains dom at x request v p here idle op st =
     let a = agrees-found s h domains dom at x p here st in
     let f = found domains dom.0 at x p ∙ ap (λ (y : State). Some y) (sym here) in
     let both = subst (λ (d : DomId). begun_of (knowledge_of s.domains s.first_generation s.may x.own x.header x.mappings) d request ≡ Some v → state_of domains d.0 ≡ Some x
-    → IsRight s h (began d request (Some (answer_of v))) × CoreStands s (began d request (Some (answer_of v)) ∷ h) domains) a.1
+    → IsRight s h (began d request (Some (answer_of v))) × DomainsStand s (began d request (Some (answer_of v)) ∷ h) domains) a.1
     (λ op g. let b = begin-done s h x request v a.2 (closed-from x.underway idle) op in (
       b.0,
       quiet-stands s (began x.id request (Some (answer_of v))) h domains domains x x.underway x.given (began-entries x.id request (Some (answer_of v))) (began-keeps x.id request (Some (answer_of v)) (plain-unmapped v))
-          (λ given contents. refl) refl st g a.2 (λ q. same-state domains x q g) b.1 b.2,
+          refl st g a.2 (λ q. same-state domains x q g) b.1 b.2,
     ))
     op f in
     (a.0, both.0, both.1)
 
 pub begin-opened : (s : Setting) (h : History) (domains : List State) (dom : DomId) (at : ℕ) (x : State) (request : Request) (o : Open)
     → FitsAsked o.call.request → position (has_id dom.0) domains ≡ Some at → x ≡ get_or domains at x → is_some x.underway ≡ false
-    → Opens (knowledge_of s.domains s.first_generation s.may x.own x.header x.mappings) dom request (OpeningOpen o) → CoreStands s h domains
-    → (domain_of s.domains dom ≢ None) × IsRight s h (began dom request None) × CoreStands s (began dom request None ∷ h) (set domains at (with_call o (kept_by o.call.request (given_by request)) x))
+    → Opens (knowledge_of s.domains s.first_generation s.may x.own x.header x.mappings) dom request (OpeningOpen o) → DomainsStand s h domains
+    → (domain_of s.domains dom ≢ None) × IsRight s h (began dom request None) × DomainsStand s (began dom request None ∷ h) (set domains at (with_call o (kept_by o.call.request (given_by request)) x))
 begin-opened s h domains dom at x request o fits p here idle op st =
     let a = agrees-found s h domains dom at x p here st in
     let f = found domains dom.0 at x p ∙ ap (λ (y : State). Some y) (sym here) in
     let places = position-Some (has_id dom.0) domains at x p in
     let both = subst (λ (d : DomId). Opens (knowledge_of s.domains s.first_generation s.may x.own x.header x.mappings) d request (OpeningOpen o) → state_of domains d.0 ≡ Some x
     → ((k : ℕ) → k < at → has_id d.0 (get_or domains k x) ≡ false)
-    → IsRight s h (began d request None) × CoreStands s (began d request None ∷ h) (set domains at (with_call o (kept_by o.call.request (given_by request)) x))) a.1
+    → IsRight s h (began d request None) × DomainsStand s (began d request None ∷ h) (set domains at (with_call o (kept_by o.call.request (given_by request)) x))) a.1
     (λ op g apart. let b = begin-opens s h x request o fits a.2 (closed-from x.underway idle) op in (
       b.0,
       quiet-stands s (began x.id request None) h domains (set domains at (with_call o (kept_by o.call.request (given_by request)) x)) x (Some o) (kept_by o.call.request (given_by request)) (began-entries x.id request None) (began-keeps x.id request None refl)
-          (λ given contents. refl) refl st g a.2 (λ q. state_of-set domains at x (with_call o (kept_by o.call.request (given_by request)) x) q places.0 (sym here) refl apart) b.1 b.2,
+          refl st g a.2 (λ q. state_of-set domains at x (with_call o (kept_by o.call.request (given_by request)) x) q places.0 (sym here) refl apart) b.1 b.2,
     ))
     op f (λ k below. places.2 k below) in
     (a.0, both.0, both.1)
@@ -532,15 +532,15 @@ place-at domains d at x p here = slice_get_read domains (length domains) at x re
 
 pub begin-answers : (s : Setting) (h : History) (domains : List State) (dom : DomId) (at : ℕ) (x : State) (request : Request) (v : Verdict) (y : Answer) → y ≡ answer_of v
     → position (has_id dom.0) domains ≡ Some at → x ≡ get_or domains at x → is_some x.underway ≡ false
-    → begun_of (knowledge_of s.domains s.first_generation s.may x.own x.header x.mappings) dom request ≡ Some v → CoreStands s h domains
-    → (domain_of s.domains dom ≢ None) × IsRight s h (began dom request (Some y)) × CoreStands s (began dom request (Some y) ∷ h) domains
+    → begun_of (knowledge_of s.domains s.first_generation s.may x.own x.header x.mappings) dom request ≡ Some v → DomainsStand s h domains
+    → (domain_of s.domains dom ≢ None) × IsRight s h (began dom request (Some y)) × DomainsStand s (began dom request (Some y) ∷ h) domains
 begin-answers s h domains dom at x request v y e p here idle op st =
-    subst (λ (z : Answer). (domain_of s.domains dom ≢ None) × IsRight s h (began dom request (Some z)) × CoreStands s (began dom request (Some z) ∷ h) domains) (sym e)
+    subst (λ (z : Answer). (domain_of s.domains dom ≢ None) × IsRight s h (began dom request (Some z)) × DomainsStand s (began dom request (Some z) ∷ h) domains) (sym e)
     (begin-answered s h domains dom at x request v p here idle op st)
 
 -- a tick without a call
 pub tick-idle : (s : Setting) (h : History) (domains : List State) (dom : DomId) (at : ℕ) (x : State) → position (has_id dom.0) domains ≡ Some at → x ≡ get_or domains at x
-    → x.underway ≡ None → CoreStands s h domains → (domain_of s.domains dom ≢ None) × (open_call h dom.0 ≡ None)
+    → x.underway ≡ None → DomainsStand s h domains → (domain_of s.domains dom ≢ None) × (open_call h dom.0 ≡ None)
 tick-idle s h domains dom at x p here closed st =
     let a = agrees-found s h domains dom at x p here st in
     (a.0, subst (λ (d : DomId). open_call h d.0 ≡ None) a.1 (call-none s h x.id x.underway (open_call h x.id.0) closed a.2.call).0)
@@ -548,7 +548,7 @@ tick-idle s h domains dom at x p here closed st =
 -- a beginning for which memory is wanted
 pub begin-wants : (s : Setting) (h : History) (domains : List State) (dom : DomId) (at : ℕ) (x : State) (request : Request) (o : Open)
     → asks_memory o.call.request ≡ true → position (has_id dom.0) domains ≡ Some at → x ≡ get_or domains at x → is_some x.underway ≡ false
-    → Opens (knowledge_of s.domains s.first_generation s.may x.own x.header x.mappings) dom request (OpeningOpen o) → CoreStands s h domains → WantsMemory s h dom request
+    → Opens (knowledge_of s.domains s.first_generation s.may x.own x.header x.mappings) dom request (OpeningOpen o) → DomainsStand s h domains → WantsMemory s h dom request
 begin-wants s h domains dom at x request o asks p here idle op st =
     let a = agrees-found s h domains dom at x p here st in (
       ap asks_memory (sym op.asks) ∙ asks,

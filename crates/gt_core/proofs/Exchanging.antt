@@ -30,12 +30,12 @@ use Rattle.gt_core.specs.States.{State, state_of, changed_in}
 use Rattle.gt_core.specs.Effects.{with_own, own_after}
 use Rattle.gt_core.specs.History.{History, Setting, Pin, live, entry_at, raises_at, raise_of, changed_entry, generation_at, body_at, reads_at, writes_at, control_at, maps_answered_at, open_call, is_pin_on, change_of, entry_after, with_ro, raise_after, or_else, one_if_mapped}
 use Rattle.gt_core.specs.Legal.{IsSafeChange, IsSpelled}
-use Rattle.gt_core.specs.Standing.{IsLawful, FitsTable, FitsWord, Agrees, CoreStands, CallAgrees, GivenAgrees}
+use Rattle.gt_core.specs.Standing.{IsLawful, FitsTable, FitsWord, Agrees, DomainsStand, CallAgrees, GivenAgrees}
 use Rattle.gt_core.proofs.Rows.{get-changed, length-changed}
 use Rattle.gt_core.proofs.Quiet.{kept-table}
 use Rattle.gt_core.proofs.Mappings.{mappings-same}
 use Rattle.std.proofs.lemmas.List.{append-nil}
-use Rattle.gt_core.proofs.Keeping.{stepped, SlotsAgree, becomes-changed, each-stands, other-agrees, frames-stay, filled-stays, same-number, counts-fit}
+use Rattle.gt_core.proofs.Keeping.{stepped, SlotsAgree, becomes-changed, each-stands, other-agrees, same-number, counts-fit}
 
 -- each number of the entry that is published fits its type
 abbrev pub FitsChange : Change → Type 0
@@ -148,7 +148,6 @@ exchange-agrees s h x gref looked change answer o within room m a call given =
       room = a.room;
       slots = exchanged-slots h x.id gref looked change answer x.id.0 x.slots a.slots;
       mappings = mappings-same x.mappings _ _ _ _ (ap (λ (ps : List Pin). Rattle.gt_core.specs.History.gather Rattle.gt_core.specs.History.by_mapping x.id.0 ps) (sym (exchanged-live h x.id gref looked change answer))) (sym (exchanged-maps h x.id gref looked change answer x.id.0 m)) a.mappings;
-      frames = frames-stay s i h x.id x.frames (λ given contents. refl) a.frames;
       call = call;
       given = given;
     }
@@ -196,7 +195,7 @@ exchanged-control s h d gref looked change answer t r =
 kept-fits : (e : Entry) (first raises r w : ℕ) → FitsWord (control_with e (first + raises) r w) → FitsWord (control_with e (first + (raises + 0)) r w)
 kept-fits e first raises r w a = let z : raises ≡ raises + 0 = omega arith in subst (λ (n : ℕ). FitsWord (control_with e (first + n) r w)) z a
 
-exchange-words : (s : Setting) (h : History) (xs : List State) (d : DomId) (gref : GrantRef) (looked : ℕ) (change : Change) (answer : Option Answer) (t r : ℕ) → CoreStands s h xs → gref.0 < TABLE_ENTRIES → FitsChange change
+exchange-words : (s : Setting) (h : History) (xs : List State) (d : DomId) (gref : GrantRef) (looked : ℕ) (change : Change) (answer : Option Answer) (t r : ℕ) → DomainsStand s h xs → gref.0 < TABLE_ENTRIES → FitsChange change
     → generation_at s h d.0 gref.0 + raise_of change ≤ LAST_GENERATION → r < TABLE_ENTRIES → FitsWord (control_at s (exchanged d gref looked change answer ∷ h) t r)
 exchange-words s h xs d gref looked change answer t r st within fits room below =
     subst FitsWord (sym (exchanged-control s h d gref looked change answer t r))
@@ -205,7 +204,7 @@ exchange-words s h xs d gref looked change answer t r st within fits room below 
     (word-fits (changed_entry change (entry_at h d.0 gref.0)) _ (reads_at h d.0 gref.0) (writes_at h d.0 gref.0) (changed-fits change (entry_at h d.0 gref.0) (st.entries d.0 gref.0) fits)
     (counts-fit s h d.0 gref.0 (st.words d.0 gref.0 within)) (omega arith)))
 
-exchange-entries : (s : Setting) (h : History) (xs : List State) (d : DomId) (gref : GrantRef) (looked : ℕ) (change : Change) (answer : Option Answer) (t r : ℕ) → CoreStands s h xs → FitsChange change
+exchange-entries : (s : Setting) (h : History) (xs : List State) (d : DomId) (gref : GrantRef) (looked : ℕ) (change : Change) (answer : Option Answer) (t r : ℕ) → DomainsStand s h xs → FitsChange change
     → IsEntry (entry_at (exchanged d gref looked change answer ∷ h) t r)
 exchange-entries s h xs d gref looked change answer t r st fits =
     subst IsEntry (sym (exchanged-entry h (exchanged d gref looked change answer) t r))
@@ -225,7 +224,7 @@ changed-free h t r ToInvalid free safe e = safe
 changed-free h t r ToReadOnly free safe e = free (ro-invalid true (entry_at h t r) e)
 changed-free h t r ToWritable free safe e = free (ro-invalid false (entry_at h t r) e)
 
-exchange-free : (s : Setting) (h : History) (xs : List State) (d : DomId) (gref : GrantRef) (looked : ℕ) (change : Change) (answer : Option Answer) (t r : ℕ) → CoreStands s h xs → IsSafeChange h d.0 gref.0 change
+exchange-free : (s : Setting) (h : History) (xs : List State) (d : DomId) (gref : GrantRef) (looked : ℕ) (change : Change) (answer : Option Answer) (t r : ℕ) → DomainsStand s h xs → IsSafeChange h d.0 gref.0 change
     → entry_at (exchanged d gref looked change answer ∷ h) t r ≡ Invalid → (reads_at (exchanged d gref looked change answer ∷ h) t r ≡ 0) × (writes_at (exchanged d gref looked change answer ∷ h) t r ≡ 0)
 exchange-free s h xs d gref looked change answer t r st safe e =
     let was = hit-cases (λ (q p : ℕ) (c : Option Change). entry_after c (entry_at h q p) ≡ Invalid → (reads_at h q p ≡ 0) × (writes_at h q p ≡ 0)) d.0 t gref.0 r change
@@ -250,7 +249,7 @@ changed-spelled h t r ToReadOnly spelled safe valid =
 changed-spelled h t r ToWritable spelled safe valid =
     ro-spelled false (entry_at h t r) (body_at h t r FirstHalf) (body_at h t r SecondHalf) (spelled (λ e. valid (ap (with_ro false) e)))
 
-exchange-spelled : (s : Setting) (h : History) (xs : List State) (d : DomId) (gref : GrantRef) (looked : ℕ) (change : Change) (answer : Option Answer) (t r : ℕ) → CoreStands s h xs → IsSafeChange h d.0 gref.0 change
+exchange-spelled : (s : Setting) (h : History) (xs : List State) (d : DomId) (gref : GrantRef) (looked : ℕ) (change : Change) (answer : Option Answer) (t r : ℕ) → DomainsStand s h xs → IsSafeChange h d.0 gref.0 change
     → Spelled (entry_at (exchanged d gref looked change answer ∷ h) t r) (body_at (exchanged d gref looked change answer ∷ h) t r FirstHalf) (body_at (exchanged d gref looked change answer ∷ h) t r SecondHalf)
 exchange-spelled s h xs d gref looked change answer t r st safe =
     let i = exchanged d gref looked change answer in
@@ -261,11 +260,11 @@ exchange-spelled s h xs d gref looked change answer t r st safe =
     (st.spelled t r) (changed-spelled h d.0 gref.0 change (st.spelled d.0 gref.0) safe))))
 
 -- an owner's change that is safe, and has room, keeps what the core stands for
-pub exchange-stands : (s : Setting) (h : History) (xs ys : List State) (x : State) (gref : GrantRef) (looked : ℕ) (change : Change) (answer : Option Answer) (o : Option Open) → CoreStands s h xs
+pub exchange-stands : (s : Setting) (h : History) (xs ys : List State) (x : State) (gref : GrantRef) (looked : ℕ) (change : Change) (answer : Option Answer) (o : Option Open) → DomainsStand s h xs
     → state_of xs x.id.0 ≡ Some x → Agrees s h x → ((q : ℕ) → state_of ys q ≡ cond (x.id.0 == q) (Some (record x { underway = o })) (state_of xs q))
     → gref.0 < TABLE_ENTRIES → IsSafeChange h x.id.0 gref.0 change → FitsChange change → generation_at s h x.id.0 gref.0 + raise_of change ≤ LAST_GENERATION → one_if_mapped answer ≡ 0
     → CallAgrees s (exchanged x.id gref looked change answer ∷ h) x.id o (open_call (exchanged x.id gref looked change answer ∷ h) x.id.0) → GivenAgrees (exchanged x.id gref looked change answer ∷ h) x.id.0 x.given
-    → CoreStands s (exchanged x.id gref looked change answer ∷ h) (changed_in x.id.0 (with_own gref.0 change) ys)
+    → DomainsStand s (exchanged x.id gref looked change answer ∷ h) (changed_in x.id.0 (with_own gref.0 change) ys)
 exchange-stands s h xs ys x gref looked change answer o st here a becomes within safe fits room m call given =
     let i = exchanged x.id gref looked change answer in
     record {
@@ -274,12 +273,11 @@ exchange-stands s h xs ys x gref looked change answer o st here a becomes within
           (subst (λ (b : Bool). Agrees s (i ∷ h) (cond b (with_own gref.0 change (record x { underway = o })) (record x { underway = o }))) (sym (same-number x.id.0))
           (exchange-agrees s h x gref looked change answer o within room m a call given))
           (λ y apart b. subst (λ (c : Bool). Agrees s (i ∷ h) (cond c (with_own gref.0 change y) y)) (sym apart)
-          (other-agrees s i h y y.slots y.frames apart b b.room (exchanged-slots h x.id gref looked change answer y.id.0 y.slots b.slots) (frames-stay s i h y.id y.frames (λ given contents. refl) b.frames)));
+          (other-agrees s i h y y.slots apart b b.room (exchanged-slots h x.id gref looked change answer y.id.0 y.slots b.slots)));
       tables = λ dom. subst FitsTable (sym (kept-table s i h dom refl)) (st.tables dom);
       words = λ t r below. exchange-words s h xs x.id gref looked change answer t r st within fits room below;
       entries = λ t r. exchange-entries s h xs x.id gref looked change answer t r st fits;
       lawful = subst (All (IsLawful s)) (sym (exchanged-live h x.id gref looked change answer)) st.lawful;
-      filled = filled-stays s i h xs (λ given contents. refl) st;
       free = λ t r e. exchange-free s h xs x.id gref looked change answer t r st safe e;
       spelled = λ t r valid. exchange-spelled s h xs x.id gref looked change answer t r st safe valid;
     }

@@ -8,12 +8,12 @@ use Rattle.gt_entry.specs.declared.control.Control.{Control}
 use Rattle.gt_entry.specs.declared.header.Header.{Header}
 use Rattle.gt_core.specs.States.{State}
 use Rattle.gt_core.specs.History.{History, Setting, word_at, control_at}
-use Rattle.gt_core.specs.Standing.{CoreStands, FitsTable, FitsWord}
+use Rattle.gt_core.specs.Standing.{DomainsStand, FitsTable, FitsWord}
 
 pub fits-word : (c : Control) → FitsWord c → control_of (control_word c) ≡ c
 fits-word c f = control-round c f.in_range f.domain
 
-pub word-shows : (s : Setting) (h : History) (xs : List State) (t r : ℕ) → CoreStands s h xs → r < TABLE_ENTRIES → control_of (word_at s h t r) ≡ control_at s h t r
+pub word-shows : (s : Setting) (h : History) (xs : List State) (t r : ℕ) → DomainsStand s h xs → r < TABLE_ENTRIES → control_of (word_at s h t r) ≡ control_at s h t r
 word-shows s h xs t r st within = fits-word (control_at s h t r) (st.words t r within)
 
 -- a header within the limits has room in its word, and its table has at most 2,048 entries

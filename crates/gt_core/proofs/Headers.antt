@@ -21,10 +21,10 @@ use Rattle.gt_core.specs.States.{State, state_of, changed_in}
 use Rattle.gt_core.specs.Effects.{with_header}
 use Rattle.gt_core.specs.History.{History, Setting, Pin, entry_at, generation_at, body_at, or_else, header_or, table_at, control_at, reads_at, writes_at, is_pin_on, one_if_mapped, open_call}
 use Rattle.gt_core.specs.Legal.{IsSpelled}
-use Rattle.gt_core.specs.Standing.{IsLawful, FitsTable, FitsWord, Agrees, CoreStands, CallAgrees, GivenAgrees}
+use Rattle.gt_core.specs.Standing.{IsLawful, FitsTable, FitsWord, Agrees, DomainsStand, CallAgrees, GivenAgrees}
 use Rattle.gt_core.proofs.Quiet.{KeepsKnown, kept-entry, kept-raises, kept-live, kept-generations}
 use Rattle.gt_core.proofs.Others.{other-table}
-use Rattle.gt_core.proofs.Keeping.{stepped, SlotsAgree, becomes-changed, each-stands, other-agrees, frames-stay, filled-stays, mappings-stay, same-number}
+use Rattle.gt_core.proofs.Keeping.{stepped, SlotsAgree, becomes-changed, each-stands, other-agrees, mappings-stay, same-number}
 
 -- the item of a header that is stored
 abbrev pub headed : DomId → ℕ → ℕ → Option Answer → Item
@@ -83,28 +83,26 @@ headed-agrees s h x version frames answer o m fits a call given =
       room = a.room;
       slots = headed-slots h x.id version frames answer x.id.0 x.slots k a.slots;
       mappings = mappings-stay i h x.id.0 x.mappings k a.mappings;
-      frames = frames-stay s i h x.id x.frames (λ given contents. refl) a.frames;
       call = call;
       given = given;
     }
 
 -- a header within the limits that its owner stores keeps what the core stands for
-pub header-stands : (s : Setting) (h : History) (xs ys : List State) (x : State) (version frames : ℕ) (answer : Option Answer) (o : Option Open) → CoreStands s h xs → state_of xs x.id.0 ≡ Some x → Agrees s h x
+pub header-stands : (s : Setting) (h : History) (xs ys : List State) (x : State) (version frames : ℕ) (answer : Option Answer) (o : Option Open) → DomainsStand s h xs → state_of xs x.id.0 ≡ Some x → Agrees s h x
     → ((q : ℕ) → state_of ys q ≡ cond (x.id.0 == q) (Some (record x { underway = o })) (state_of xs q)) → one_if_mapped answer ≡ 0 → FitsTable (record { version = version; frames = frames })
     → CallAgrees s (headed x.id version frames answer ∷ h) x.id o (open_call (headed x.id version frames answer ∷ h) x.id.0) → GivenAgrees (headed x.id version frames answer ∷ h) x.id.0 x.given
-    → CoreStands s (headed x.id version frames answer ∷ h) (changed_in x.id.0 (with_header version frames) ys)
+    → DomainsStand s (headed x.id version frames answer ∷ h) (changed_in x.id.0 (with_header version frames) ys)
 header-stands s h xs ys x version frames answer o st here a becomes m fits call given =
     record {
       each = each-stands s i h xs _ x (record x { underway = o }) x.id.0 (with_header version frames) st here
           (becomes-changed xs ys x (record x { underway = o }) x.id.0 (with_header version frames) (λ y. refl) becomes) refl (λ y. refl)
           (subst (λ (b : Bool). Agrees s (i ∷ h) (cond b (with_header version frames (record x { underway = o })) (record x { underway = o }))) (sym (same-number x.id.0)) (headed-agrees s h x version frames answer o m fits a call given))
           (λ y apart b. subst (λ (c : Bool). Agrees s (i ∷ h) (cond c (with_header version frames y) y)) (sym apart)
-          (other-agrees s i h y y.slots y.frames apart b b.room (headed-slots h x.id version frames answer y.id.0 y.slots k b.slots) (frames-stay s i h y.id y.frames (λ given contents. refl) b.frames)));
+          (other-agrees s i h y y.slots apart b b.room (headed-slots h x.id version frames answer y.id.0 y.slots k b.slots)));
       tables = λ dom. headed-fits s h x.id version frames answer dom (x.id.0 == dom.0) refl fits (st.tables dom);
       words = λ t r within. subst FitsWord (sym (control t r)) (st.words t r within);
       entries = λ t r. subst IsEntry (sym (kept-entry i h t r k)) (st.entries t r);
       lawful = subst (All (IsLawful s)) (sym (kept-live i h k)) st.lawful;
-      filled = filled-stays s i h xs (λ given contents. refl) st;
       free = λ t r e. let was = st.free t r (sym (kept-entry i h t r k) ∙ e) in
           (ap (λ (ps : List Pin). count_by (is_pin_on t r Read) ps) (kept-live i h k) ∙ was.0, ap (λ (ps : List Pin). count_by (is_pin_on t r Write) ps) (kept-live i h k) ∙ was.1);
       spelled = λ t r valid. spelled t r (st.spelled t r (λ e. valid (kept-entry i h t r k ∙ e)));

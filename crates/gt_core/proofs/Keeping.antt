@@ -8,7 +8,7 @@ use mathlib.Core.Path.{fun_ext}
 use Rattle.gt_types.specs.Names.{domain_of}
 use Rattle.gt_types.specs.declared.DomId.{DomId}
 use Rattle.gt_types.specs.declared.Dir.TheVariants.{Read, Write}
-use Rattle.gt_types.specs.declared.limits.TheConstants.{TABLE_ENTRIES, FRAME_SIZE}
+use Rattle.gt_types.specs.declared.limits.TheConstants.{TABLE_ENTRIES}
 use Rattle.gt_entry.specs.declared.entry.Entry.{Entry}
 use Rattle.gt_entry.specs.declared.entry.Entry.TheVariants.{Invalid, Page, Sub, Via}
 use Rattle.gt_entry.specs.declared.header.Header.{Header}
@@ -19,7 +19,7 @@ use Rattle.gt_entry.specs.Entries.{IsEntry}
 use Rattle.gt_handles.specs.declared.handles.Handle.{Handle}
 use Rattle.gt_handles.specs.Handles.{Kept, value_of, count_of}
 use Rattle.gt_calls.specs.declared.held.Held.{Held}
-use Rattle.gt_calls.specs.Rules.{CallerKnowledge, control_with, frames_of, knowledge_of, generation_in}
+use Rattle.gt_calls.specs.Rules.{CallerKnowledge, control_with, knowledge_of, generation_in}
 use Rattle.gt_calls.specs.Standing.{StandsAt, pins_at}
 use Rattle.gt_calls.specs.Following.{GoesOn}
 use Rattle.gt_calls.specs.Resting.{Rests}
@@ -33,12 +33,12 @@ use Rattle.gt_calls.specs.declared.action.Step.{Step}
 use Rattle.gt_calls.specs.declared.action.Seen.{Seen}
 use Rattle.gt_core.specs.Rows.{changed_at}
 use Rattle.gt_core.specs.States.{State, state_of, changed_in}
-use Rattle.gt_core.specs.History.{History, Setting, Pin, live, entry_at, raises_at, generation_at, body_at, table_at, reads_at, writes_at, control_at, contents_at, known_at, mappings_at, mapping_of, maps_answered_at, legs_at, is_pin_on, open_call, underway_after, Underway, values, change_of, change_at, entry_after, raise_after, or_else, stored_at, header_stored}
+use Rattle.gt_core.specs.History.{History, Setting, Pin, live, entry_at, raises_at, generation_at, body_at, table_at, reads_at, writes_at, control_at, known_at, mappings_at, mapping_of, maps_answered_at, legs_at, is_pin_on, open_call, underway_after, Underway, values, change_of, change_at, entry_after, raise_after, or_else, stored_at, header_stored}
 use Rattle.gt_core.specs.Legal.{IsSpelled, stood, stood_with, first_of_item}
-use Rattle.gt_core.specs.Standing.{IsLawful, FitsTable, FitsWord, SlotAgrees, MappingsAgree, Agrees, StateAgrees, CoreStands, CallAgrees, OpenAgrees, GivenAgrees}
+use Rattle.gt_core.specs.Standing.{IsLawful, FitsTable, FitsWord, SlotAgrees, MappingsAgree, Agrees, StateAgrees, DomainsStand, CallAgrees, OpenAgrees, GivenAgrees}
 use Rattle.gt_core.proofs.Rows.{get-changed, length-changed, state-changed}
 use Rattle.gt_core.proofs.Mappings.{mappings-same}
-use Rattle.gt_core.proofs.Quiet.{KeepsKnown, WritesNone, kept-contents, kept-table, kept-live, kept-maps_answered}
+use Rattle.gt_core.proofs.Quiet.{KeepsKnown, kept-table, kept-live, kept-maps_answered}
 use Rattle.gt_core.proofs.Others.{other-entry, other-body, other-maps, other-mappings, other-legs, other-generations, other-table, other-known}
 use Rattle.gt_core.proofs.Placing.{place-stays}
 
@@ -52,19 +52,6 @@ known-same s h d a =
     ∙ ap (λ (f : Handle → Option Held). record { domains = s.domains; may = s.may; entry = λ r. entry_at h d.id.0 r; generation = λ r. generation_at s h d.id.0 r; header = table_at s h d.id; mapping = f; in_use = count_of d.mappings; maps_answered = d.mappings.given }) a.mappings.named
     ∙ ap (λ (x : ℕ). record { domains = s.domains; may = s.may; entry = λ r. entry_at h d.id.0 r; generation = λ r. generation_at s h d.id.0 r; header = table_at s h d.id; mapping = mapping_of (mappings_at h d.id.0); in_use = x; maps_answered = d.mappings.given }) a.mappings.count
     ∙ ap (λ (x : ℕ). record { domains = s.domains; may = s.may; entry = λ r. entry_at h d.id.0 r; generation = λ r. generation_at s h d.id.0 r; header = table_at s h d.id; mapping = mapping_of (mappings_at h d.id.0); in_use = length (mappings_at h d.id.0); maps_answered = x }) a.mappings.given
-
--- frames
-
--- these frames hold what the history left in them
-abbrev pub FramesAgree : Setting → History → DomId → List (List ℕ) → Type 0
-FramesAgree s h id frames = (f : ℕ) → f < frames_of s.domains id → slice_get frames f ≡ Some (contents_at h id.0 f)
-
-pub frames-stay : (s : Setting) (i : Item) (h : History) (id : DomId) (frames : List (List ℕ)) → WritesNone i → FramesAgree s h id frames → FramesAgree s (i ∷ h) id frames
-frames-stay s i h id frames none a = λ f below. a f below ∙ ap (λ (l : List ℕ). Some l) (sym (kept-contents i h id.0 f none))
-
--- each frame is as full as it was
-pub filled-stays : (s : Setting) (i : Item) (h : History) (xs : List State) → WritesNone i → CoreStands s h xs → (t f : ℕ) → length (contents_at (i ∷ h) t f) ≡ FRAME_SIZE
-filled-stays s i h xs none a t f = ap (λ (l : List ℕ). length l) (kept-contents i h t f none) ∙ a.filled t f
 
 -- calls
 
@@ -156,10 +143,10 @@ pub length-slots : (r : ℕ) (f : Slot → Slot) (slots : List Slot) (b : Bool) 
 length-slots r f slots true e = length-changed slots r f ∙ e
 length-slots r f slots false e = e
 
--- a domain that doesn't act: its pins and frames may have changed, its call stands where it stood
-pub other-agrees : (s : Setting) (i : Item) (h : History) (x : State) (slots : List Slot) (frames : List (List ℕ)) → (i.actor.0 == x.id.0) ≡ false → Agrees s h x
-    → length slots ≡ TABLE_ENTRIES → SlotsAgree (i ∷ h) x.id.0 slots → FramesAgree s (i ∷ h) x.id frames → Agrees s (i ∷ h) (record x { slots = slots; frames = frames })
-other-agrees s i h x slots frames apart a len agree full =
+-- a domain that doesn't act: its pins may have changed, its call stands where it stood
+pub other-agrees : (s : Setting) (i : Item) (h : History) (x : State) (slots : List Slot) → (i.actor.0 == x.id.0) ≡ false → Agrees s h x
+    → length slots ≡ TABLE_ENTRIES → SlotsAgree (i ∷ h) x.id.0 slots → Agrees s (i ∷ h) (record x { slots = slots })
+other-agrees s i h x slots apart a len agree =
     record {
       header = a.header ∙ sym (other-table s i h x.id apart);
       rows = a.rows;
@@ -168,7 +155,6 @@ other-agrees s i h x slots frames apart a len agree full =
       room = len;
       slots = agree;
       mappings = mappings-same x.mappings _ _ _ _ (sym (other-mappings i h x.id.0 apart)) (sym (other-maps i h x.id.0 apart)) a.mappings;
-      frames = full;
       given = given-other i h x.id.0 x.given apart a.given;
       call = call-of-other s i h x.id x.underway apart a.call;
     }
@@ -212,16 +198,15 @@ same-spelled i h t r q a valid =
     (subst (λ (n : ℕ). IsSpelled (entry_at h t r) (body_at h t r FirstHalf) n) (sym (same-body i h t r SecondHalf q))
     (a (λ e. valid (same-entry i h t r q ∙ e)))))
 
--- the domain that acts: its pins, mappings, frames and call may have changed
-pub actor-agrees : (s : Setting) (i : Item) (h : History) (x : State) (slots : List Slot) (mappings : Kept Held) (frames : List (List ℕ)) (o : Option Open) (given : List ℕ) → KeepsEntries i → Agrees s h x
-    → length slots ≡ TABLE_ENTRIES → SlotsAgree (i ∷ h) x.id.0 slots → MappingsAgree mappings (mappings_at (i ∷ h) x.id.0) (maps_answered_at (i ∷ h) x.id.0) → FramesAgree s (i ∷ h) x.id frames
+-- the domain that acts: its pins, mappings and call may have changed
+pub actor-agrees : (s : Setting) (i : Item) (h : History) (x : State) (slots : List Slot) (mappings : Kept Held) (o : Option Open) (given : List ℕ) → KeepsEntries i → Agrees s h x
+    → length slots ≡ TABLE_ENTRIES → SlotsAgree (i ∷ h) x.id.0 slots → MappingsAgree mappings (mappings_at (i ∷ h) x.id.0) (maps_answered_at (i ∷ h) x.id.0)
     → CallAgrees s (i ∷ h) x.id o (open_call (i ∷ h) x.id.0) → GivenAgrees (i ∷ h) x.id.0 given
-    → Agrees s (i ∷ h) (record x { slots = slots; mappings = mappings; frames = frames; underway = o; given = given })
-actor-agrees s i h x slots mappings frames o given q a len agree same full call bytes =
+    → Agrees s (i ∷ h) (record x { slots = slots; mappings = mappings; underway = o; given = given })
+actor-agrees s i h x slots mappings o given q a len agree same call bytes =
     record {
       header = a.header ∙ sym (kept-table s i h x.id q.header);
       rows = a.rows;
-      frames = full;
       entries = a.entries ∙ fun_ext (λ r. sym (same-entry i h x.id.0 r q));
       generations = a.generations ∙ sym (same-generations s i h x.id.0 q);
       room = len;
@@ -266,7 +251,7 @@ abbrev pub Becomes : List State → List State → State → State → ℕ → (
 Becomes xs zs x new t g = (q : ℕ) → state_of zs q ≡ after_change (t == q) g (cond (x.id.0 == q) (Some new) (state_of xs q))
 
 -- each domain agrees after an item, where the actor does, and each other one
-pub each-stands : (s : Setting) (i : Item) (h : History) (xs zs : List State) (x new : State) (t : ℕ) (g : State → State) → CoreStands s h xs → state_of xs x.id.0 ≡ Some x
+pub each-stands : (s : Setting) (i : Item) (h : History) (xs zs : List State) (x new : State) (t : ℕ) (g : State → State) → DomainsStand s h xs → state_of xs x.id.0 ≡ Some x
     → Becomes xs zs x new t g → new.id ≡ x.id → ((y : State) → (g y).id ≡ y.id) → Agrees s (i ∷ h) (cond (t == x.id.0) (g new) new)
     → ((y : State) → (x.id.0 == y.id.0) ≡ false → Agrees s h y → Agrees s (i ∷ h) (cond (t == y.id.0) (g y) y))
     → (dom : DomId) → StateAgrees s (i ∷ h) dom (state_of zs dom.0)
@@ -299,14 +284,14 @@ each-stands s i h xs zs x new t g st here becomes same keeps mine others dom = s
     by false apart = bystander (state_of xs dom.0) apart (st.each dom)
 
 -- the same, where no step changes a state
-pub each-stays : (s : Setting) (i : Item) (h : History) (xs zs : List State) (x new : State) → CoreStands s h xs → state_of xs x.id.0 ≡ Some x → i.actor ≡ x.id → WritesNone i → KeepsKnown i
+pub each-stays : (s : Setting) (i : Item) (h : History) (xs zs : List State) (x new : State) → DomainsStand s h xs → state_of xs x.id.0 ≡ Some x → i.actor ≡ x.id → KeepsKnown i
     → ((q : ℕ) → state_of zs q ≡ cond (x.id.0 == q) (Some new) (state_of xs q)) → new.id ≡ x.id → Agrees s (i ∷ h) new
     → ((y : State) → (x.id.0 == y.id.0) ≡ false → SlotsAgree h y.id.0 y.slots → SlotsAgree (i ∷ h) y.id.0 y.slots) → (dom : DomId) → StateAgrees s (i ∷ h) dom (state_of zs dom.0)
-each-stays s i h xs zs x new st here own none kept becomes same mine slots dom =
+each-stays s i h xs zs x new st here own kept becomes same mine slots dom =
     each-stands s i h xs zs x new 0 (λ (y : State). y) st here (λ q. becomes q ∙ sym (plain (0 == q) (cond (x.id.0 == q) (Some new) (state_of xs q)))) same (λ y. refl)
     (subst (Agrees s (i ∷ h)) (sym (cond-same (0 == x.id.0) new)) mine)
     (λ y apart a. subst (Agrees s (i ∷ h)) (sym (cond-same (0 == y.id.0) y))
-    (other-agrees s i h y y.slots y.frames (ap (λ (z : DomId). z.0 == y.id.0) own ∙ apart) a a.room (slots y apart a.slots) (frames-stay s i h y.id y.frames none a.frames)))
+    (other-agrees s i h y y.slots (ap (λ (z : DomId). z.0 == y.id.0) own ∙ apart) a a.room (slots y apart a.slots)))
     dom
   where
     plain : (b : Bool) (o : Option State) → after_change b (λ (y : State). y) o ≡ o
@@ -315,11 +300,10 @@ each-stays s i h xs zs x new st here own none kept becomes same mine slots dom =
     plain false o = refl
 
 -- a core stands for one item more that changes no entry and stores no word
-pub keeps-stands : (s : Setting) (i : Item) (h : History) (xs zs : List State) → KeepsEntries i → CoreStands s h xs → ((dom : DomId) → StateAgrees s (i ∷ h) dom (state_of zs dom.0))
+pub keeps-stands : (s : Setting) (i : Item) (h : History) (xs zs : List State) → KeepsEntries i → DomainsStand s h xs → ((dom : DomId) → StateAgrees s (i ∷ h) dom (state_of zs dom.0))
     → All (IsLawful s) (live (i ∷ h)) → ((t r : ℕ) → r < TABLE_ENTRIES → (reads_at (i ∷ h) t r < 4096) × (writes_at (i ∷ h) t r < 4096))
-    → ((t r : ℕ) → entry_at h t r ≡ Invalid → (reads_at (i ∷ h) t r ≡ 0) × (writes_at (i ∷ h) t r ≡ 0)) → ((t f : ℕ) → length (contents_at (i ∷ h) t f) ≡ FRAME_SIZE)
-    → CoreStands s (i ∷ h) zs
-keeps-stands s i h xs zs q st each lawful counts free filled =
+    → ((t r : ℕ) → entry_at h t r ≡ Invalid → (reads_at (i ∷ h) t r ≡ 0) × (writes_at (i ∷ h) t r ≡ 0)) → DomainsStand s (i ∷ h) zs
+keeps-stands s i h xs zs q st each lawful counts free =
     record {
       each = each;
       tables = λ dom. subst FitsTable (sym (kept-table s i h dom q.header)) (st.tables dom);
@@ -327,17 +311,16 @@ keeps-stands s i h xs zs q st each lawful counts free filled =
       entries = λ t r. subst IsEntry (sym (same-entry i h t r q)) (st.entries t r);
       lawful = lawful;
       free = λ t r e. free t r (sym (same-entry i h t r q) ∙ e);
-      filled = filled;
       spelled = λ t r valid. same-spelled i h t r q (st.spelled t r) valid;
     }
 
 -- the same, where no pin is taken or given back
-pub pins-stand : (s : Setting) (i : Item) (h : History) (xs zs : List State) → KeepsEntries i → KeepsKnown i → CoreStands s h xs → ((dom : DomId) → StateAgrees s (i ∷ h) dom (state_of zs dom.0))
-    → ((t f : ℕ) → length (contents_at (i ∷ h) t f) ≡ FRAME_SIZE) → CoreStands s (i ∷ h) zs
-pins-stand s i h xs zs q k st each filled =
+pub pins-stand : (s : Setting) (i : Item) (h : History) (xs zs : List State) → KeepsEntries i → KeepsKnown i → DomainsStand s h xs → ((dom : DomId) → StateAgrees s (i ∷ h) dom (state_of zs dom.0))
+    → DomainsStand s (i ∷ h) zs
+pins-stand s i h xs zs q k st each =
     keeps-stands s i h xs zs q st each (subst (All (IsLawful s)) (sym (kept-live i h k)) st.lawful)
     (λ t r within. let c = counts-fit s h t r (st.words t r within) in (subst (λ (n : ℕ). n < 4096) (sym (count t r Read)) c.0, subst (λ (n : ℕ). n < 4096) (sym (count t r Write)) c.1))
-    (λ t r e. let f = st.free t r e in (count t r Read ∙ f.0, count t r Write ∙ f.1)) filled
+    (λ t r e. let f = st.free t r e in (count t r Read ∙ f.0, count t r Write ∙ f.1))
   where
     count : (t r : ℕ) (dir : Rattle.gt_types.specs.declared.Dir.Dir) → count_by (is_pin_on t r dir) (live (i ∷ h)) ≡ count_by (is_pin_on t r dir) (live h)
     count t r dir = ap (λ (ps : List Pin). count_by (is_pin_on t r dir) ps) (kept-live i h k)
@@ -357,16 +340,15 @@ pub mappings-stay : (i : Item) (h : History) (q : ℕ) (kept : Kept Held) → Ke
 mappings-stay i h q kept k a =
     mappings-same kept _ _ _ _ (ap (λ (ps : List Pin). Rattle.gt_core.specs.History.gather Rattle.gt_core.specs.History.by_mapping q ps) (sym (kept-live i h k))) (sym (kept-maps_answered i h q k)) a
 
--- a core stands for one item more that leaves all words, pins and frames as they are
-pub quiet-stands : (s : Setting) (i : Item) (h : History) (xs zs : List State) (x : State) (o : Option Open) (given : List ℕ) → KeepsEntries i → KeepsKnown i → WritesNone i → i.actor ≡ x.id → CoreStands s h xs
+-- the domains stand for one item more that leaves all words and pins as they are
+pub quiet-stands : (s : Setting) (i : Item) (h : History) (xs zs : List State) (x : State) (o : Option Open) (given : List ℕ) → KeepsEntries i → KeepsKnown i → i.actor ≡ x.id → DomainsStand s h xs
     → state_of xs x.id.0 ≡ Some x → Agrees s h x → ((q : ℕ) → state_of zs q ≡ cond (x.id.0 == q) (Some (record x { underway = o; given = given })) (state_of xs q))
-    → CallAgrees s (i ∷ h) x.id o (open_call (i ∷ h) x.id.0) → GivenAgrees (i ∷ h) x.id.0 given → CoreStands s (i ∷ h) zs
-quiet-stands s i h xs zs x o given e k none own st here a becomes call bytes =
+    → CallAgrees s (i ∷ h) x.id o (open_call (i ∷ h) x.id.0) → GivenAgrees (i ∷ h) x.id.0 given → DomainsStand s (i ∷ h) zs
+quiet-stands s i h xs zs x o given e k own st here a becomes call bytes =
     pins-stand s i h xs zs e k st
-    (each-stays s i h xs zs x (record x { underway = o; given = given }) st here own none k becomes refl
-    (actor-agrees s i h x x.slots x.mappings x.frames o given e a a.room (slots-stay i h x.id.0 x.slots e k a.slots) (mappings-stay i h x.id.0 x.mappings k a.mappings) (frames-stay s i h x.id x.frames none a.frames) call bytes)
+    (each-stays s i h xs zs x (record x { underway = o; given = given }) st here own k becomes refl
+    (actor-agrees s i h x x.slots x.mappings o given e a a.room (slots-stay i h x.id.0 x.slots e k a.slots) (mappings-stay i h x.id.0 x.mappings k a.mappings) call bytes)
     (λ y apart b. slots-stay i h y.id.0 y.slots e k b))
-    (filled-stays s i h xs none st)
 
 -- the item of a step
 abbrev pub stepped : DomId → Step → Seen → Option Answer → Item

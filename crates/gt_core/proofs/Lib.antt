@@ -7,6 +7,7 @@ pub mod Beginning
 pub mod Doing
 pub mod Exchanging
 pub mod Fitting
+pub mod Framing
 pub mod Given
 pub mod Headers
 pub mod Judging
@@ -37,4 +38,3 @@ pub mod Together
 pub mod Tries
 pub mod Unpinning
 pub mod Values
-pub mod Writing

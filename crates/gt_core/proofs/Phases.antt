@@ -42,14 +42,14 @@ use Rattle.gt_calls.specs.Standing.{IsTurn, IsQuiet, HasShown, StandsAt}
 use Rattle.gt_core.specs.States.{State, state_of}
 use Rattle.gt_core.specs.History.{History, Setting, word_at, table_at, entry_at, generation_at, reads_at, writes_at, known_at, seen_by, legs_at}
 use Rattle.gt_core.specs.Legal.{StepsSoFar}
-use Rattle.gt_core.specs.Standing.{CoreStands, StateAgrees, PhaseStands, LegStands, Asks, EndsAfter, phase_refusal, numbered}
+use Rattle.gt_core.specs.Standing.{DomainsStand, StateAgrees, PhaseStands, LegStands, Asks, EndsAfter, phase_refusal, numbered}
 use Rattle.gt_core.proofs.Fitting.{word-shows, table-fits}
 use Rattle.gt_core.proofs.Seeing.{IsWithin}
 use Rattle.gt_core.proofs.Legs.{Words}
 
 -- where a call stands before its next step, in a core that stands for the history
 pub record IsHere (s : Setting) (h : History) (xs : List State) (d : DomId) (r : Asked) (shown : List Seen) (so_far : StepsSoFar) (phase : Phase) (step : Step) : Type 0 where
-  pub st : CoreStands s h xs
+  pub st : DomainsStand s h xs
   pub own : state_of xs d.0 ≢ None
   pub at : StandsAt (known_at s h d) d r shown phase
   pub acts : action_at d phase ≡ Makes step
@@ -65,14 +65,14 @@ step_in (Done verdict) other = other
 pub makes-same : (a b : Step) → Makes a ≡ Makes b → a ≡ b
 makes-same a b e = ap (λ (x : Action). step_in x a) e
 
-pub state-some : (s : Setting) (h : History) (xs : List State) (dom : DomId) → CoreStands s h xs → domain_of s.domains dom ≢ None → state_of xs dom.0 ≢ None
+pub state-some : (s : Setting) (h : History) (xs : List State) (dom : DomId) → DomainsStand s h xs → domain_of s.domains dom ≢ None → state_of xs dom.0 ≢ None
 state-some s h xs dom st some e = some (subst (λ (o : Option State). StateAgrees s h dom o) e (st.each dom))
 
 pub of-run : (o : Option DomainConfig) → is_none o ≡ false → o ≢ None
 of-run None e n = absurd (true≢false e)
 of-run (Some c) e n = absurd (none-some c (sym n))
 
-pub words-of : (s : Setting) (h : History) (xs : List State) (l : Leg) → CoreStands s h xs → Words s h l
+pub words-of : (s : Setting) (h : History) (xs : List State) (l : Leg) → DomainsStand s h xs → Words s h l
 words-of s h xs l st =
     record {
       round = λ within. word-shows s h xs l.dom.0 l.gref.0 st within;
@@ -84,17 +84,17 @@ words-of s h xs l st =
 
 -- an owner's reference is below the end of its words
 
-table-below : (s : Setting) (h : History) (xs : List State) (d : DomId) (gref : GrantRef) → CoreStands s h xs → gref.0 < size_of (table_at s h d) → gref.0 < TABLE_ENTRIES
+table-below : (s : Setting) (h : History) (xs : List State) (d : DomId) (gref : GrantRef) → DomainsStand s h xs → gref.0 < size_of (table_at s h d) → gref.0 < TABLE_ENTRIES
 table-below s h xs d gref st lt = let le : size_of (table_at s h d) ≤ TABLE_ENTRIES = (table-fits _ (st.tables d)).0 in omega arith
 
-pub word-below : (s : Setting) (h : History) (xs : List State) (d : DomId) (r : Asked) (way : Continuation) (shown : List Seen) (gref : GrantRef) (word : ℕ) (change : Change) → CoreStands s h xs → begun (known_at s h d) d r ≡ None
+pub word-below : (s : Setting) (h : History) (xs : List State) (d : DomId) (r : Asked) (way : Continuation) (shown : List Seen) (gref : GrantRef) (word : ℕ) (change : Change) → DomainsStand s h xs → begun (known_at s h d) d r ≡ None
     → RestsOnWord (known_at s h d) way d r shown gref word change → gref.0 < TABLE_ENTRIES
 word-below s h xs d r way shown gref word (Publish entry) st none rests = table-below s h xs d gref st (opens (known_at s h d) d (Grant gref entry) (subst (λ (z : Asked). begun (known_at s h d) d z ≡ None) rests.0 none)).in_table
 word-below s h xs d r way shown gref word ToInvalid st none rests = table-below s h xs d gref st (opens (known_at s h d) d (Revoke gref) (subst (λ (z : Asked). begun (known_at s h d) d z ≡ None) rests.0 none)).in_table
 word-below s h xs d r way shown gref word ToReadOnly st none rests = table-below s h xs d gref st (opens (known_at s h d) d (Demote gref) (subst (λ (z : Asked). begun (known_at s h d) d z ≡ None) rests.0 none)).in_table
 word-below s h xs d r way shown gref word ToWritable st none rests = table-below s h xs d gref st (opens (known_at s h d) d (Promote gref) (subst (λ (z : Asked). begun (known_at s h d) d z ≡ None) rests.0 none)).in_table
 
-pub turn-below : (s : Setting) (h : History) (xs : List State) (d : DomId) (r : Asked) (gref : GrantRef) (change : Change) → CoreStands s h xs → begun (known_at s h d) d r ≡ None
+pub turn-below : (s : Setting) (h : History) (xs : List State) (d : DomId) (r : Asked) (gref : GrantRef) (change : Change) → DomainsStand s h xs → begun (known_at s h d) d r ≡ None
     → IsTurn r gref change → gref.0 < TABLE_ENTRIES
 turn-below s h xs d r gref ToReadOnly st none is = table-below s h xs d gref st (opens (known_at s h d) d (Demote gref) (subst (λ (z : Asked). begun (known_at s h d) d z ≡ None) is none)).in_table
 turn-below s h xs d r gref ToWritable st none is = table-below s h xs d gref st (opens (known_at s h d) d (Promote gref) (subst (λ (z : Asked). begun (known_at s h d) d z ≡ None) is none)).in_table
@@ -214,7 +214,7 @@ pub grant-invalid : (s : Setting) (h : History) (d : DomId) (gref : GrantRef) (e
 grant-invalid s h d gref entry none = invalid-is (entry_at h d.0 gref.0) (opens (known_at s h d) d (Grant gref entry) none).free
 
 -- a publication is of the word that its entry has
-publish-here : (s : Setting) (h : History) (xs : List State) (d : DomId) (r : Asked) (shown : List Seen) (gref : GrantRef) (looked : ℕ) (change : Change) → CoreStands s h xs → begun (known_at s h d) d r ≡ None
+publish-here : (s : Setting) (h : History) (xs : List State) (d : DomId) (r : Asked) (shown : List Seen) (gref : GrantRef) (looked : ℕ) (change : Change) → DomainsStand s h xs → begun (known_at s h d) d r ≡ None
     → RestsOnWord (known_at s h d) (path (known_at s h d) d r) d r shown gref looked change → IsPublished s h d (Exchange gref looked change)
 publish-here s h xs d r shown gref looked (Publish entry) st none rests =
     let free = st.free d.0 gref.0 (grant-invalid s h d gref entry (subst (λ (z : Asked). begun (known_at s h d) d z ≡ None) rests.0 none)) in

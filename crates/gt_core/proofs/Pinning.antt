@@ -28,10 +28,10 @@ use Rattle.gt_core.specs.Rows.{changed_at}
 use Rattle.gt_core.specs.States.{State, state_of, changed_in}
 use Rattle.gt_core.specs.Effects.{with_slot, slot_after, Adds}
 use Rattle.gt_core.specs.History.{History, Setting, Pin, live, entry_at, body_at, reads_at, writes_at, mappings_at, maps_answered_at, legs_at, open_call, is_pin_on, same_dir, gather, by_mapping, by_leg, holder_after, one_if_mapped}
-use Rattle.gt_core.specs.Standing.{IsLawful, SlotAgrees, Agrees, CoreStands, CallAgrees, GivenAgrees, MappingsAgree}
+use Rattle.gt_core.specs.Standing.{IsLawful, SlotAgrees, Agrees, DomainsStand, CallAgrees, GivenAgrees, MappingsAgree}
 use Rattle.gt_core.proofs.Mappings.{mappings-added, mappings-same}
 use Rattle.gt_core.proofs.Others.{gather-append}
-use Rattle.gt_core.proofs.Keeping.{stepped, SlotsAgree, KeepsEntries, same-body, actor-agrees, other-agrees, slots-agree, length-slots, counts-fit, becomes-changed, each-stands, keeps-stands, frames-stay, filled-stays, same-number}
+use Rattle.gt_core.proofs.Keeping.{stepped, SlotsAgree, KeepsEntries, same-body, actor-agrees, other-agrees, slots-agree, length-slots, counts-fit, becomes-changed, each-stands, keeps-stands, same-number}
 
 abbrev pub pins_at : History → ℕ → ℕ → Dir → ℕ
 pins_at h t r Read = reads_at h t r
@@ -196,12 +196,12 @@ answered-stays h i d m = by (i.actor.0 == d) (one_if_mapped i.answer) (maps_answ
     by false n was e = omega arith
 
 -- a pin that is taken on a valid entry, and lawful, keeps what the core stands for, where the domain's mappings are those that it then has
-pub pin-stands : (s : Setting) (h : History) (xs ys : List State) (x : State) (p : Held) (answer : Option Answer) (kept : Kept Held) (o : Option Open) → CoreStands s h xs → state_of xs x.id.0 ≡ Some x → Agrees s h x
+pub pin-stands : (s : Setting) (h : History) (xs ys : List State) (x : State) (p : Held) (answer : Option Answer) (kept : Kept Held) (o : Option Open) → DomainsStand s h xs → state_of xs x.id.0 ≡ Some x → Agrees s h x
     → ((q : ℕ) → state_of ys q ≡ cond (x.id.0 == q) (Some (record x { mappings = kept; underway = o })) (state_of xs q))
     → entry_at h p.dom.0 p.gref.0 ≢ Invalid → IsFew h (new_pin h x.id p answer) → IsLawful s (new_pin h x.id p answer)
     → MappingsAgree kept (mappings_at (pins x.id p answer ∷ h) x.id.0) (maps_answered_at (pins x.id p answer ∷ h) x.id.0)
     → CallAgrees s (pins x.id p answer ∷ h) x.id o (open_call (pins x.id p answer ∷ h) x.id.0) → GivenAgrees (pins x.id p answer ∷ h) x.id.0 x.given
-    → CoreStands s (pins x.id p answer ∷ h) (changed_in p.dom.0 (with_slot p.gref.0 (Pinned p.dir)) ys)
+    → DomainsStand s (pins x.id p answer ∷ h) (changed_in p.dom.0 (with_slot p.gref.0 (Pinned p.dir)) ys)
 pin-stands s h xs ys x p answer kept o st here a becomes valid few lawful maps call given =
     let i : Item = pins x.id p answer in
     let q : Pin = new_pin h x.id p answer in
@@ -221,7 +221,6 @@ pin-stands s h xs ys x p answer kept o st here a becomes valid few lawful maps c
       now-none (is_pin_on u r Read q) (reads_at (i ∷ h) u r) (reads_at h u r) was.0 (not-there h q u r Read valid none) (grown-count h i q u r Read grows),
       now-none (is_pin_on u r Write q) (writes_at (i ∷ h) u r) (writes_at h u r) was.1 (not-there h q u r Write valid none) (grown-count h i q u r Write grows),
     ))
-    (filled-stays s i h xs (λ given contents. refl) st)
   where
     after : State → Bool → State
     after y b = cond b (with_slot p.gref.0 (Pinned p.dir) y) y
@@ -233,18 +232,17 @@ pin-stands s h xs ys x p answer kept o st here a becomes valid few lawful maps c
     mine : (b : Bool) → (p.dom.0 == x.id.0) ≡ b → Agrees s (pins x.id p answer ∷ h) (cond b (with_slot p.gref.0 (Pinned p.dir) (record x { mappings = kept; underway = o })) (record x { mappings = kept; underway = o }))
     mine b is =
         subst (Agrees s (pins x.id p answer ∷ h)) (picked (record x { mappings = kept; underway = o }) b)
-        (actor-agrees s (pins x.id p answer) h x (cond b (changed_at p.gref.0 (slot_after (Pinned p.dir)) x.slots) x.slots) kept x.frames o x.given (pins-keeps x.id p answer) a
+        (actor-agrees s (pins x.id p answer) h x (cond b (changed_at p.gref.0 (slot_after (Pinned p.dir)) x.slots) x.slots) kept o x.given (pins-keeps x.id p answer) a
         (length-slots p.gref.0 (slot_after (Pinned p.dir)) x.slots b a.room)
         (pinned-slots h (pins x.id p answer) (new_pin h x.id p answer) x.id.0 x.slots b (pins-keeps x.id p answer) (pinned-live h x.id p answer) few is a.slots)
-        maps (frames-stay s (pins x.id p answer) h x.id x.frames (λ given contents. refl) a.frames) call given)
+        maps call given)
 
     other : (y : State) → (x.id.0 == y.id.0) ≡ false → Agrees s h y → (b : Bool) → (p.dom.0 == y.id.0) ≡ b → Agrees s (pins x.id p answer ∷ h) (cond b (with_slot p.gref.0 (Pinned p.dir) y) y)
     other y apart c b is =
         subst (Agrees s (pins x.id p answer ∷ h)) (picked y b)
-        (other-agrees s (pins x.id p answer) h y (cond b (changed_at p.gref.0 (slot_after (Pinned p.dir)) y.slots) y.slots) y.frames apart c
+        (other-agrees s (pins x.id p answer) h y (cond b (changed_at p.gref.0 (slot_after (Pinned p.dir)) y.slots) y.slots) apart c
         (length-slots p.gref.0 (slot_after (Pinned p.dir)) y.slots b c.room)
-        (pinned-slots h (pins x.id p answer) (new_pin h x.id p answer) y.id.0 y.slots b (pins-keeps x.id p answer) (pinned-live h x.id p answer) few is c.slots)
-        (frames-stay s (pins x.id p answer) h y.id y.frames (λ given contents. refl) c.frames))
+        (pinned-slots h (pins x.id p answer) (new_pin h x.id p answer) y.id.0 y.slots b (pins-keeps x.id p answer) (pinned-live h x.id p answer) few is c.slots))
 
 -- the mappings after the pin of a map
 pub map-agrees : (h : History) (d : DomId) (p : Held) (handle : Handle) (old kept : Kept Held) → Adds old kept handle (record p { entry = entry_at h p.dom.0 p.gref.0 }) → MappingsAgree old (mappings_at h d.0) (maps_answered_at h d.0)

@@ -1,10 +1,24 @@
--- One event more.
+-- One event more, and what stands for each event.
 use Rattle.std.proofs.Common.{◌≡◌, ◌<◌, ◌+◌, ℕ, refl, length, get_or, take, List, [], ◌∷◌, ◌++◌, sym, ap, ◌∙◌, subst}
 use Rattle.std.proofs.lemmas.List.{take_more}
 use Rattle.gt_core.specs.declared.trace.Event.{Event}
 use Rattle.gt_core.specs.declared.trace.Element.{Element}
-use Rattle.gt_core.specs.States.{State}
-use Rattle.gt_core.specs.Standing.{CoreStands}
+use Rattle.std.specs.Prelude.{Bool, Result, IfOk, OnErr}
+use Rattle.std.proofs.Common.{Ok, Err}
+use Rattle.gt_types.specs.declared.DomId.{DomId}
+use Rattle.gt_types.specs.declared.TypeId.{TypeId}
+use Rattle.gt_types.specs.declared.perms.Perms.{Perms}
+use Rattle.gt_types.specs.declared.Memory.{Memory}
+use Rattle.gt_types.specs.declared.config.Config.{Config}
+use Rattle.gt_calls.specs.declared.request.Request.{Request}
+use Rattle.gt_frames.specs.Places.{frame_counts}
+use Rattle.gt_frames.specs.Sets.{FrameSet, all_zeros, AreKept}
+use Rattle.gt_core.specs.declared.trace.Event.TheVariants.{Begin, Tick}
+use Rattle.gt_core.specs.declared.core_state.Begun.{Begun}
+use Rattle.gt_core.specs.declared.core_state.Ticked.{Ticked}
+use Rattle.gt_core.specs.States.{State, CoreState, core_of}
+use Rattle.gt_core.specs.Standing.{DomainsStand, CoreStands, StandsForSome, Does, DoesAlone, setting_of, begun_element, ticked_element}
+use Rattle.gt_core.proofs.Framing.{frames-begun, frames-start}
 use Rattle.gt_core.specs.History.{History, Setting}
 use Rattle.gt_core.specs.Legal.{LegalAfter, MayDo, grown, history_after}
 
@@ -20,20 +34,54 @@ pub history-more : (h : History) (xs : List Element) (x : Element) → history_a
 history-more h [] x = refl
 history-more h (y ∷ xs) x = history-more (grown h y) xs x
 
-pub record PlaysOn (s : Setting) (es : List Event) (i : ℕ) (trace : List Element) (domains : List State) : Type 0 where
+pub record PlaysOn (s : Setting) (es : List Event) (i : ℕ) (trace : List Element) (core : CoreState) : Type 0 where
   pub legal : LegalAfter s [] (take i es) trace
-  pub stands : CoreStands s (history_after [] trace) domains
+  pub stands : CoreStands s (history_after [] trace) core
 
 -- a turn of the loop
-pub plays-on : (s s' : Setting) (es : List Event) (i : ℕ) (e : Event) (trace trace' : List Element) (old new : List State) (x : Element)
+pub plays-on : (s s' : Setting) (es : List Event) (i : ℕ) (e : Event) (trace trace' : List Element) (old new : CoreState) (x : Element)
     → PlaysOn s es i trace old → i < length es → e ≡ get_or es i e → trace' ≡ trace ++ x ∷ [] → s' ≡ s
-    → ((h : History) → CoreStands s' h old → MayDo s' h e x × CoreStands s' (grown h x) new)
+    → Does s' old e x new
     → PlaysOn s es (i + 1) trace' new
 plays-on s s' es i e trace trace' old new x was within at pushed same turn =
-    let t = subst (λ (z : Setting). (h : History) → CoreStands z h old → MayDo z h e x × CoreStands z (grown h x) new) same turn (history_after [] trace) was.stands in
+    let t = subst (λ (z : Setting). Does z old e x new) same turn (history_after [] trace) was.stands in
     let front : take (i + 1) es ≡ take i es ++ e ∷ [] = take_more es i e within ∙ ap (λ (y : Event). take i es ++ y ∷ []) (sym at) in
     record {
       legal = subst (λ (fs : List Event). LegalAfter s [] fs trace') (sym front)
           (subst (λ (xs : List Element). LegalAfter s [] (take i es ++ e ∷ []) xs) (sym pushed) (legal-more s [] (take i es) trace e x was.legal t.0));
       stands = subst (λ (h : History). CoreStands s h new) (sym (ap (history_after []) pushed ∙ history-more [] trace x)) t.1;
     }
+
+-- a core at rest stands for the empty history
+pub core-starts : (config : Config) (may : TypeId → TypeId → Perms → Bool) (xs : List State) (fs : FrameSet) → DomainsStand (setting_of config may) [] xs → fs ≡ all_zeros (frame_counts config.domains.items) → AreKept fs
+    → CoreStands (setting_of config may) [] (core_of xs fs)
+core-starts config may xs fs domains zeros kept = record { domains = domains; frames = frames-start (setting_of config may) fs zeros kept }
+
+-- a beginning changes no frame
+begun-stands : (s : Setting) (xs ys : List State) (fs : FrameSet) (dom : DomId) (request : Request) (b : Begun)
+    → DoesAlone s xs (Begin dom request) (begun_element dom request b) ys
+    → Does s (core_of xs fs) (Begin dom request) (begun_element dom request b) (core_of ys fs)
+begun-stands s xs ys fs dom request b stands h st =
+    let r = stands h st.domains in
+    (r.0, record { domains = r.1; frames = frames-begun s h fs dom request b st.frames })
+
+pub begin-does : (s : Setting) (xs ys : List State) (fs : FrameSet) (dom : DomId) (request : Request) (r : Result Begun Memory)
+    → IfOk r (λ b. DoesAlone s xs (Begin dom request) (begun_element dom request b) ys)
+    → IfOk r (λ b. Does s (core_of xs fs) (Begin dom request) (begun_element dom request b) (core_of ys fs))
+begin-does s xs ys fs dom request (Ok b) stands = begun-stands s xs ys fs dom request b stands
+begin-does s xs ys fs dom request (Err e) stands = tt
+
+-- after a beginning the core stands for some history, refused memory or not
+pub begun-all : (s : Setting) (xs ys : List State) (fs : FrameSet) (dom : DomId) (request : Request) (r : Result Begun Memory) → StandsForSome s (core_of xs fs)
+    → IfOk r (λ b. DoesAlone s xs (Begin dom request) (begun_element dom request b) ys)
+    → OnErr r (ys ≡ xs) → StandsForSome s (core_of ys fs)
+begun-all s xs ys fs dom request (Ok b) (h, st) stands err =
+    (grown h (begun_element dom request b), (begun-stands s xs ys fs dom request b stands h st).1)
+begun-all s xs ys fs dom request (Err e) some stands err = subst (λ (zs : List State). StandsForSome s (core_of zs fs)) (sym err) some
+
+-- and so it does after a tick
+pub ticked-all : (s : Setting) (old : CoreState) (ys : List State) (gs : FrameSet) (dom : DomId) (r : Result Ticked Memory) → StandsForSome s old
+    → IfOk r (λ t. Does s old (Tick dom) (ticked_element dom t) (core_of ys gs)) → OnErr r (ys ≡ old.domains) → OnErr r (gs ≡ old.frames) → StandsForSome s (core_of ys gs)
+ticked-all s old ys gs dom (Ok t) (h, st) does domains frames = (grown h (ticked_element dom t), (does h st).1)
+ticked-all s old ys gs dom (Err e) some does domains frames =
+    subst (λ (zs : List State). StandsForSome s (core_of zs gs)) (sym domains) (subst (λ (fs : FrameSet). StandsForSome s (core_of old.domains fs)) (sym frames) some)

@@ -16,7 +16,7 @@ use Rattle.gt_entry.specs.declared.change.Half.{Half}
 use Rattle.gt_entry.specs.declared.change.Half.TheVariants.{First as FirstHalf, Second as SecondHalf}
 use Rattle.gt_types.specs.declared.limits.TheConstants.{TABLE_ENTRIES}
 use Rattle.gt_core.specs.History.{History, Setting, entry_at, generation_at, reads_at, body_at, table_at, word_at, seen_by, exchange_sees}
-use Rattle.gt_core.specs.Standing.{Agrees, StateAgrees, CoreStands, state_of}
+use Rattle.gt_core.specs.Standing.{Agrees, StateAgrees, DomainsStand, state_of}
 use Rattle.gt_core.specs.Sight.{reads_in, writes_in, body_in, slot_reads, slot_writes, slot_body, control_in, control_seen, header_seen, body_seen, sees}
 
 header_seen-state : (xs : List State) (d : ℕ) (x : State) → state_of xs d ≡ Some x → header_seen xs d ≡ header_word x.header
@@ -86,20 +86,20 @@ IsWithin xs d (Pin p) = (state_of xs p.dom.0 ≢ None) × (p.gref.0 < TABLE_ENTR
 IsWithin xs d (Exchange gref looked change) = (state_of xs d.0 ≢ None) × (gref.0 < TABLE_ENTRIES)
 IsWithin xs d step = Unit {0}
 
-pub state-there : (s : Setting) (h : History) (xs : List State) (dom : DomId) → CoreStands s h xs → state_of xs dom.0 ≢ None → (x : State) × (state_of xs dom.0 ≡ Some x) × (x.id ≡ dom) × Agrees s h x
+pub state-there : (s : Setting) (h : History) (xs : List State) (dom : DomId) → DomainsStand s h xs → state_of xs dom.0 ≢ None → (x : State) × (state_of xs dom.0 ≡ Some x) × (x.id ≡ dom) × Agrees s h x
 state-there s h xs dom st some = by (state_of xs dom.0) refl (st.each dom)
   where
     by : (o : Option State) → state_of xs dom.0 ≡ o → StateAgrees s h dom o → (x : State) × (state_of xs dom.0 ≡ Some x) × (x.id ≡ dom) × Agrees s h x
     by None e a = absurd (some e)
     by (Some x) e a = (x, e, a.1, a.2)
 
-control-agrees : (s : Setting) (h : History) (xs : List State) (dom : DomId) (r : ℕ) → CoreStands s h xs → state_of xs dom.0 ≢ None → r < TABLE_ENTRIES → control_seen xs dom.0 r ≡ word_at s h dom.0 r
+control-agrees : (s : Setting) (h : History) (xs : List State) (dom : DomId) (r : ℕ) → DomainsStand s h xs → state_of xs dom.0 ≢ None → r < TABLE_ENTRIES → control_seen xs dom.0 r ≡ word_at s h dom.0 r
 control-agrees s h xs dom r st some within =
     let x = state-there s h xs dom st some in
     control_seen-state xs dom.0 r x.0 x.1 ∙ word-agrees s h x.0 r x.3 within ∙ ap (λ (d : DomId). word_at s h d.0 r) x.2
 
 -- what the core's step sees is what the history left
-pub sees-agree : (s : Setting) (h : History) (xs : List State) (d : DomId) (step : Step) → CoreStands s h xs → IsWithin xs d step → sees xs d step ≡ seen_by s h d step
+pub sees-agree : (s : Setting) (h : History) (xs : List State) (d : DomId) (step : Step) → DomainsStand s h xs → IsWithin xs d step → sees xs d step ≡ seen_by s h d step
 sees-agree s h xs d (LookHeader dom) st w =
     let x = state-there s h xs dom st w in
     ap (λ (n : ℕ). Word n) (header_seen-state xs dom.0 x.0 x.1 ∙ ap header_word (x.3.header) ∙ ap (λ (t : DomId). header_word (table_at s h t)) x.2)

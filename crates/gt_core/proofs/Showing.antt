@@ -14,13 +14,13 @@ use Rattle.gt_calls.specs.Rules.{size_of, row_entry, row_generation}
 use Rattle.gt_core.specs.States.{State}
 use Rattle.gt_core.specs.History.{History, Setting, entry_at, generation_at, reads_at, writes_at, table_at}
 use Rattle.gt_core.specs.Shown.{shown_in, shown_at}
-use Rattle.gt_core.specs.Standing.{Agrees, CoreStands}
+use Rattle.gt_core.specs.Standing.{Agrees, DomainsStand}
 use Rattle.gt_core.proofs.Fitting.{table-fits}
 use Rattle.gt_core.proofs.Places.{has_id}
 use Rattle.gt_core.proofs.Beginning.{begin-nowhere, agrees-found}
 
 -- no domain has the number
-pub shown-nowhere : (s : Setting) (h : History) (xs : List State) (dom : DomId) (r : ℕ) → position (has_id dom.0) xs ≡ None → CoreStands s h xs → None ≡ shown_at s h dom r
+pub shown-nowhere : (s : Setting) (h : History) (xs : List State) (dom : DomId) (r : ℕ) → position (has_id dom.0) xs ≡ None → DomainsStand s h xs → None ≡ shown_at s h dom r
 shown-nowhere s h xs dom r p st =
     sym (ap (λ (o : Option DomainConfig). cond (is_some o && nat_lt r (size_of (table_at s h dom)))
     (Some (record { entry = entry_at h dom.0 r; generation = generation_at s h dom.0 r; reads = reads_at h dom.0 r; writes = writes_at h dom.0 r })) None) (begin-nowhere s h xs dom p st))
@@ -44,7 +44,7 @@ not-below r n le = by (nat_lt r n) refl
     by false e = e
 
 -- the reference is past the table
-pub shown-past : (s : Setting) (h : History) (xs : List State) (dom : DomId) (r at : ℕ) (x : State) → position (has_id dom.0) xs ≡ Some at → x ≡ get_or xs at x → size_of x.header ≤ r → CoreStands s h xs → None ≡ shown_at s h dom r
+pub shown-past : (s : Setting) (h : History) (xs : List State) (dom : DomId) (r at : ℕ) (x : State) → position (has_id dom.0) xs ≡ Some at → x ≡ get_or xs at x → size_of x.header ≤ r → DomainsStand s h xs → None ≡ shown_at s h dom r
 shown-past s h xs dom r at x p here past st =
     let a = agrees-found s h xs dom at x p here st in
     let size : size_of (table_at s h dom) ≤ r = subst (λ (d : DomId). size_of (table_at s h d) ≤ r) a.1 (subst (λ (z : Header). size_of z ≤ r) a.2.header past) in
@@ -71,7 +71,7 @@ rows-show s h x r a within =
     ∙ ap (λ (n : ℕ). Some (record { entry = entry_at h x.id.0 r; generation = generation_at s h x.id.0 r; reads = reads_at h x.id.0 r; writes = n })) b.writes
 
 -- an entry of the table
-pub shown-there : (s : Setting) (h : History) (xs : List State) (dom : DomId) (r at : ℕ) (x : State) → position (has_id dom.0) xs ≡ Some at → x ≡ get_or xs at x → r < size_of x.header → CoreStands s h xs
+pub shown-there : (s : Setting) (h : History) (xs : List State) (dom : DomId) (r at : ℕ) (x : State) → position (has_id dom.0) xs ≡ Some at → x ≡ get_or xs at x → r < size_of x.header → DomainsStand s h xs
     → shown_in (slice_get x.own r) (slice_get x.slots r) ≡ shown_at s h dom r
 shown-there s h xs dom r at x p here within st =
     let a = agrees-found s h xs dom at x p here st in

@@ -20,11 +20,11 @@ use Rattle.gt_entry.specs.declared.header.Header.{Header}
 use Rattle.gt_entry.specs.declared.entry.Entry.TheVariants.{Invalid}
 use Rattle.gt_calls.specs.declared.known.Own.{Own}
 use Rattle.gt_core.specs.declared.slot.Slot.{Slot}
-use Rattle.gt_calls.specs.declared.known.TheConstants.{ENTRIES, FRAME_LEN}
+use Rattle.gt_calls.specs.declared.known.TheConstants.{ENTRIES}
 use Rattle.gt_calls.specs.Rules.{entry_in, generation_in, row_entry, row_generation, frames_in, frames_of}
 use Rattle.gt_core.specs.States.{State, state_of, first_state}
-use Rattle.gt_core.specs.History.{Setting, entry_at, raises_at, body_at, live, mappings_at, maps_answered_at, open_call, contents_at, header_from, table_at, reads_at, writes_at, control_at}
-use Rattle.gt_core.specs.Standing.{setting_of, Agrees, StateAgrees, SlotAgrees, CallAgrees, FitsTable, FitsWord, IsLawful, CoreStands}
+use Rattle.gt_core.specs.History.{Setting, entry_at, raises_at, body_at, live, mappings_at, maps_answered_at, open_call, header_from, table_at, reads_at, writes_at, control_at}
+use Rattle.gt_core.specs.Standing.{setting_of, Agrees, StateAgrees, SlotAgrees, CallAgrees, FitsTable, FitsWord, IsLawful, DomainsStand}
 use Rattle.gt_core.proofs.Keeping.{given-none}
 use Rattle.gt_entry.specs.declared.change.Half.{Half}
 use Rattle.gt_entry.specs.declared.change.Half.TheVariants.{First as FirstHalf, Second as SecondHalf}
@@ -123,10 +123,6 @@ no-header : (s : Setting) (t : DomId) → table_at s [] t ≡ header_from (domai
 unfolding table_at
 no-header s t = refl
 
-no-contents : (t f : ℕ) → contents_at [] t f ≡ replicate 4096 0
-unfolding contents_at Rattle.gt_frames.specs.Bytes.zeros
-no-contents t f = refl
-
 no-reads : (t r : ℕ) → reads_at [] t r ≡ 0
 unfolding live
 no-reads t r = refl
@@ -160,9 +156,6 @@ slot-starts t n r slot e = by (ltb r n) (sym (get-replicate n r (record { reads 
         }
     by false k = absurd (none-some slot k)
 
-frames-at : (ds : List DomainConfig) (dom : DomId) (d : DomainConfig) → domain_of ds dom ≡ Some d → frames_of ds dom ≡ d.frames
-frames-at ds dom d e = ap frames_in e
-
 rest-agrees : (s : Setting) (d : DomainConfig) → domain_of s.domains d.id ≡ Some d → Fine d → s.first_generation ≤ LAST_GENERATION → Agrees s [] (first_state s.first_generation d)
 rest-agrees s d is f le =
     let g : min s.first_generation LAST_GENERATION ≡ s.first_generation = omega arith in
@@ -174,10 +167,6 @@ rest-agrees s d is f le =
       room = length-replicate {A = Slot} ENTRIES (record { reads = 0; writes = 0; first = 0; second = 0 });
       slots = λ r slot e. slot-starts d.id.0 ENTRIES r slot e;
       mappings = mappings-same _ _ _ _ _ (sym (no-mappings d.id.0)) (sym (no-maps d.id.0)) no-handles;
-      frames = λ n below.
-          let within : n < d.frames = subst (λ (k : ℕ). n < k) (frames-at s.domains d.id d is) below in
-          get-replicate d.frames n (replicate FRAME_LEN 0) ∙ ap (λ (b : Bool). cond b (Some (replicate FRAME_LEN 0)) None) (lt-ltb n d.frames within)
-          ∙ ap (λ (l : List ℕ). Some l) (sym (no-contents d.id.0 n));
       call = subst (λ (c : _). CallAgrees s [] d.id None c) (sym (no-call d.id.0)) (no-legs d.id.0);
       given = given-none [] d.id.0 [] (no-call d.id.0);
     }
@@ -202,7 +191,7 @@ rest-word s t r le = record { in_range = record { reads = omega arith; writes = 
 
 -- a core at rest stands for the empty history
 pub starts : (config : Config) (may : TypeId → TypeId → Perms → Bool) → IsWithinLimits config
-    → CoreStands (setting_of config may) [] (map (first_state config.first_gen) config.domains.items)
+    → DomainsStand (setting_of config may) [] (map (first_state config.first_gen) config.domains.items)
 starts config may l =
     let s = setting_of config may in
     let fine : All Fine s.domains = fine-all config.domains.items l.table_frames l.versions in
@@ -213,6 +202,5 @@ starts config may l =
       entries = λ t r. subst IsEntry (sym (no-entry t r)) tt;
       lawful = subst (All (IsLawful s)) (sym no-live) (λ i p below. absurd (omega arith));
       free = λ t r e. (no-reads t r, no-writes t r);
-      filled = λ t f. ap (λ (l : List ℕ). length l) (no-contents t f) ∙ length-replicate {A = ℕ} 4096 0;
       spelled = λ t r valid. absurd (valid (no-entry t r));
     }

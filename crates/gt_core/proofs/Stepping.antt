@@ -44,8 +44,8 @@ use Rattle.gt_core.specs.States.{State, state_of, changed_in}
 use Rattle.gt_core.specs.Sight.{sees}
 use Rattle.gt_core.specs.History.{History, Setting, Pin, live, entry_at, generation_at, word_at, table_at, known_at, legs_at, mappings_at, mapping_of, maps_answered_at, seen_by, Underway, values, open_call, underway_after, holder_after, one_if_mapped}
 use Rattle.gt_core.specs.Legal.{StepsSoFar, StepsRight, Justified, IsSafe, PinIsSound, AnsweredBy, GivesValue, LeavesAll, IsSpelled, gives_back, verdict_in, refusal_in, refusal_of, refusal_if, or_then, first_of_item, first_in_call, stood, most_steps}
-use Rattle.gt_core.specs.Standing.{CoreStands, Agrees, CallAgrees, OpenAgrees, GivenAgrees, FitsGiven, PhaseStands, IsClean, phase_refusal, numbered}
-use Rattle.gt_core.proofs.Quiet.{KeepsKnown, WritesNone}
+use Rattle.gt_core.specs.Standing.{DomainsStand, Agrees, CallAgrees, OpenAgrees, GivenAgrees, FitsGiven, PhaseStands, IsClean, phase_refusal, numbered}
+use Rattle.gt_core.proofs.Quiet.{KeepsKnown}
 use Rattle.gt_core.proofs.Phases.{IsHere, makes-same}
 use Rattle.gt_core.proofs.Placing.{IsStore}
 use Rattle.gt_core.proofs.Keeping.{stepped, KeepsEntries, same-entry, same-generations, known-same, open_call-own, stood-own, same-number}
@@ -64,10 +64,13 @@ use Rattle.gt_calls.specs.declared.action.Value.TheVariants.{Frames as FramesTol
 use Rattle.gt_core.specs.declared.trace.Bytes.{Bytes}
 use Rattle.gt_core.specs.declared.trace.Answer.TheVariants.{Bytes as BytesAnswer}
 use Rattle.gt_handles.specs.Handles.{Kept}
-use Rattle.gt_core.specs.Effects.{applied, copied_by, bytes_in, frame_in, or_none, with_underway, with_mapping, without_given, with_bytes, with_slot, Adds}
+use Rattle.gt_core.specs.Effects.{applied, with_underway, with_mapping, with_slot, Adds}
+use Rattle.gt_core.specs.Accesses.{IsWriting, IsReadable, IsAdmitted, AccessedBy}
+use Rattle.gt_frames.specs.Frames.{bytes_at}
+use Rattle.gt_frames.specs.Sets.{FrameSet, frame_at}
 use Rattle.gt_core.specs.History.{contents_at, given_in}
 use Rattle.gt_core.specs.Legal.{IsRight, StepsRightIn, IsInFrame}
-use Rattle.gt_core.specs.Standing.{StateAgrees, Settled, IsLoadOf, IsLawful, IsLawfullyHeld, answer_with}
+use Rattle.gt_core.specs.Standing.{CoreStands, FramesStand, core_of, StateAgrees, Settled, IsLawful, IsLawfullyHeld, answer_with}
 use Rattle.gt_core.proofs.Places.{has_id, found, state_of-set}
 use Rattle.gt_core.proofs.Keeping.{quiet-stands, becomes-changed}
 use Rattle.gt_core.proofs.Storing.{store-stands}
@@ -75,121 +78,85 @@ use Rattle.gt_core.proofs.Exchanging.{exchange-stands}
 use Rattle.gt_core.proofs.Headers.{header-stands}
 use Rattle.gt_core.proofs.Pinning.{new_pin, pin-stands, map-agrees, leg-agrees as pin-agrees}
 use Rattle.gt_core.proofs.Unpinning.{unpin-stands, becomes-unpinned, loses-leg, loses-mapping, mapping-agrees, leg-agrees as unpin-agrees}
-use Rattle.gt_core.proofs.Writing.{write-stands}
+use Rattle.gt_core.proofs.Framing.{bytes-held, open-admitted, open-readable, frames-stepped}
 use Rattle.gt_core.proofs.Acting.{header-fits, map-lawful, CanPin}
 use Rattle.gt_core.proofs.Values.{granted-value, given-value, mapped-ends}
 use Rattle.gt_core.proofs.Beginning.{agrees-found}
 use Rattle.gt_core.proofs.Ticking.{Ticks, ticks, here-of, given-goes-on, legs-after, open-after, goes-right, ends-right, last-fact}
 
--- the frames that the core keeps
-
-frame-there : (s : Setting) (h : History) (xs : List State) (t : DomId) (f : ℕ) → CoreStands s h xs → f < frames_of s.domains t → frame_in (state_of xs t.0) f ≡ contents_at h t.0 f
-frame-there s h xs t f st below = by (state_of xs t.0) (st.each t)
-  where
-    by : (o : Option State) → StateAgrees s h t o → frame_in o f ≡ contents_at h t.0 f
-    by None a = absurd (let b : f < frames_in (domain_of s.domains t) = below in let e : f < 0 = subst (λ (z : _). f < frames_in z) a b in omega arith)
-    by (Some y) a = ap or_none (a.2.frames f (subst (λ (z : DomId). f < frames_of s.domains z) (sym a.1) below)) ∙ ap (λ (z : DomId). contents_at h z.0 f) a.1
-
 -- the states where just the actor's call, or its handles or bytes, are others
 abbrev Replaced : List State → List State → State → State → Type 0
 Replaced xs ys x new = (q : ℕ) → state_of ys q ≡ cond (x.id.0 == q) (Some new) (state_of xs q)
 
-frame-same : (xs ys : List State) (x new : State) (t f : ℕ) → state_of xs x.id.0 ≡ Some x → new.frames ≡ x.frames → Replaced xs ys x new → frame_in (state_of ys t) f ≡ frame_in (state_of xs t) f
-frame-same xs ys x new t f here same r = ap (λ (o : Option State). frame_in o f) (r t) ∙ by (x.id.0 == t) refl
-  where
-    by : (b : Bool) → (x.id.0 == t) ≡ b → frame_in (cond b (Some new) (state_of xs t)) f ≡ frame_in (state_of xs t) f
-    by true is = ap (λ (l : List (List ℕ)). or_none (slice_get l f)) same ∙ ap (λ (o : Option State). frame_in o f) (sym here ∙ ap (state_of xs) (eqb-true x.id.0 t is))
-    by false is = refl
+-- each step but the pin of a map
 
-take-short : (n : ℕ) (l : List ℕ) → length (take n l) ≤ n
-take-short n l = let e = length-take n l in omega arith
+calm : (s : Setting) (h : History) (xs ys : List State) (x : State) (o' : Option Open) (step : Step) (seen : Seen) (answer : Option Answer) → KeepsEntries (stepped x.id step seen answer) → KeepsKnown (stepped x.id step seen answer)
+    → DomainsStand s h xs → state_of xs x.id.0 ≡ Some x → Agrees s h x → Replaced xs ys x (record x { underway = o' }) → CallAgrees s (stepped x.id step seen answer ∷ h) x.id o' (open_call (stepped x.id step seen answer ∷ h) x.id.0)
+    → DomainsStand s (stepped x.id step seen answer ∷ h) ys
+calm s h xs ys x o' step seen answer e k st here a r call =
+    quiet-stands s (stepped x.id step seen answer) h xs ys x o' x.given e k refl st here a r call (given-goes-on x.id step seen answer h x.given a.given)
 
-frame-of-copy : (s : Setting) (h : History) (d : DomId) (r : Asked) (from to : Place) (len : ℕ) → Rattle.gt_core.specs.Legal.CopyIsJustified s h d r from to len → IsInFrame s from len
-frame-of-copy s h d (Copy c) from to len a = a.0
-frame-of-copy s h d r from to len a = absurd a
-
-frame-to-copy : (s : Setting) (h : History) (d : DomId) (r : Asked) (from to : Place) (len : ℕ) → Rattle.gt_core.specs.Legal.CopyIsJustified s h d r from to len → IsInFrame s to len
-frame-to-copy s h d (Copy c) from to len a = a.1
-frame-to-copy s h d r from to len a = absurd a
-
--- each step but a write and the pin of a map
-
-calm : (s : Setting) (h : History) (xs ys : List State) (x : State) (o' : Option Open) (step : Step) (seen : Seen) (answer : Option Answer) → KeepsEntries (stepped x.id step seen answer) → KeepsKnown (stepped x.id step seen answer) → WritesNone (stepped x.id step seen answer)
-    → CoreStands s h xs → state_of xs x.id.0 ≡ Some x → Agrees s h x → Replaced xs ys x (record x { underway = o' }) → CallAgrees s (stepped x.id step seen answer ∷ h) x.id o' (open_call (stepped x.id step seen answer ∷ h) x.id.0)
-    → CoreStands s (stepped x.id step seen answer ∷ h) ys
-calm s h xs ys x o' step seen answer e k w st here a r call =
-    quiet-stands s (stepped x.id step seen answer) h xs ys x o' x.given e k w refl st here a r call (given-goes-on x.id step seen answer h x.given a.given)
-
-pub step-stands : (s : Setting) (h : History) (xs ys : List State) (x : State) (c : Underway) (phase : Phase) (step : Step) (answer : Option Answer) (o' : Option Open) (bytes : List ℕ) → IsHere s h xs x.id c.request (values c) (reverse c.steps) phase step
+pub step-stands : (s : Setting) (h : History) (xs ys : List State) (x : State) (c : Underway) (phase : Phase) (step : Step) (answer : Option Answer) (o' : Option Open) → IsHere s h xs x.id c.request (values c) (reverse c.steps) phase step
     → ((p : Held) (place : ℕ) → step ≡ Unpin p (ByLeg place) → (others : List Held) × (held_in phase ≡ p ∷ others) × (place ≡ length others))
-    → state_of xs x.id.0 ≡ Some x → Agrees s h x → Replaced xs ys x (record x { underway = o' }) → one_if_mapped answer ≡ 0 → ((n : ℕ) → holder_after answer n ≡ ByLeg n) → bytes ≡ copied_by xs step
-    → ((dom : DomId) (frame off len : ℕ) → step ≡ WriteBytes dom frame off len → ⊥) → (IsStore step → answer ≡ None)
+    → state_of xs x.id.0 ≡ Some x → Agrees s h x → Replaced xs ys x (record x { underway = o' }) → one_if_mapped answer ≡ 0 → ((n : ℕ) → holder_after answer n ≡ ByLeg n) → (IsStore step → answer ≡ None)
     → CallAgrees s (stepped x.id step (seen_by s h x.id step) answer ∷ h) x.id o' (open_call (stepped x.id step (seen_by s h x.id step) answer ∷ h) x.id.0)
-    → CoreStands s (stepped x.id step (seen_by s h x.id step) answer ∷ h) (applied x.id step (seen_by s h x.id step) bytes ys)
-step-stands s h xs ys x c phase (LookHeader dom) answer o' bytes i last here a r m leg copied write store call =
-    calm s h xs ys x o' (LookHeader dom) _ answer (record { changes = λ r. refl; stores = λ r which. refl; header = refl }) (record { changes = λ r. refl; pins = λ before ps. refl; unpins = λ pins. refl; maps = m }) (λ given contents. refl) i.st here a r call
-step-stands s h xs ys x c phase (LookControl dom gref) answer o' bytes i last here a r m leg copied write store call =
-    calm s h xs ys x o' (LookControl dom gref) _ answer (record { changes = λ r. refl; stores = λ r which. refl; header = refl }) (record { changes = λ r. refl; pins = λ before ps. refl; unpins = λ pins. refl; maps = m }) (λ given contents. refl) i.st here a r call
-step-stands s h xs ys x c phase (LookBody dom gref half) answer o' bytes i last here a r m leg copied write store call =
-    calm s h xs ys x o' (LookBody dom gref half) _ answer (record { changes = λ r. refl; stores = λ r which. refl; header = refl }) (record { changes = λ r. refl; pins = λ before ps. refl; unpins = λ pins. refl; maps = m }) (λ given contents. refl) i.st here a r call
-step-stands s h xs ys x c phase (ReadBytes dom frame off len) answer o' bytes i last here a r m leg copied write store call =
-    calm s h xs ys x o' (ReadBytes dom frame off len) _ answer (record { changes = λ r. refl; stores = λ r which. refl; header = refl }) (record { changes = λ r. refl; pins = λ before ps. refl; unpins = λ pins. refl; maps = m }) (λ given contents. refl) i.st here a r call
-step-stands s h xs ys x c phase (WriteBytes dom frame off len) answer o' bytes i last here a r m leg copied write store call = absurd (write dom frame off len refl)
-step-stands s h xs ys x c phase (PinStep p) answer o' bytes i last here a r m leg copied write store call = by (word_at s h p.dom.0 p.gref.0 == p.word) refl call
+    → DomainsStand s (stepped x.id step (seen_by s h x.id step) answer ∷ h) (applied x.id step (seen_by s h x.id step) ys)
+step-stands s h xs ys x c phase (LookHeader dom) answer o' i last here a r m leg store call =
+    calm s h xs ys x o' (LookHeader dom) _ answer (record { changes = λ r. refl; stores = λ r which. refl; header = refl }) (record { changes = λ r. refl; pins = λ before ps. refl; unpins = λ pins. refl; maps = m }) i.st here a r call
+step-stands s h xs ys x c phase (LookControl dom gref) answer o' i last here a r m leg store call =
+    calm s h xs ys x o' (LookControl dom gref) _ answer (record { changes = λ r. refl; stores = λ r which. refl; header = refl }) (record { changes = λ r. refl; pins = λ before ps. refl; unpins = λ pins. refl; maps = m }) i.st here a r call
+step-stands s h xs ys x c phase (LookBody dom gref half) answer o' i last here a r m leg store call =
+    calm s h xs ys x o' (LookBody dom gref half) _ answer (record { changes = λ r. refl; stores = λ r which. refl; header = refl }) (record { changes = λ r. refl; pins = λ before ps. refl; unpins = λ pins. refl; maps = m }) i.st here a r call
+step-stands s h xs ys x c phase (ReadBytes dom frame off len) answer o' i last here a r m leg store call =
+    calm s h xs ys x o' (ReadBytes dom frame off len) _ answer (record { changes = λ r. refl; stores = λ r which. refl; header = refl }) (record { changes = λ r. refl; pins = λ before ps. refl; unpins = λ pins. refl; maps = m }) i.st here a r call
+step-stands s h xs ys x c phase (WriteBytes dom frame off len) answer o' i last here a r m leg store call =
+    calm s h xs ys x o' (WriteBytes dom frame off len) _ answer (record { changes = λ r. refl; stores = λ r which. refl; header = refl }) (record { changes = λ r. refl; pins = λ before ps. refl; unpins = λ pins. refl; maps = m }) i.st here a r call
+step-stands s h xs ys x c phase (CopyBytes from to len) answer o' i last here a r m leg store call =
+    calm s h xs ys x o' (CopyBytes from to len) _ answer (record { changes = λ r. refl; stores = λ r which. refl; header = refl }) (record { changes = λ r. refl; pins = λ before ps. refl; unpins = λ pins. refl; maps = m }) i.st here a r call
+step-stands s h xs ys x c phase (PinStep p) answer o' i last here a r m leg store call = by (word_at s h p.dom.0 p.gref.0 == p.word) refl call
   where
     seen : Bool → Seen
     seen b = cond b Taken (Missed (word_at s h p.dom.0 p.gref.0))
 
     by : (b : Bool) → (word_at s h p.dom.0 p.gref.0 == p.word) ≡ b → CallAgrees s (stepped x.id (PinStep p) (seen b) answer ∷ h) x.id o' (open_call (stepped x.id (PinStep p) (seen b) answer ∷ h) x.id.0)
-        → CoreStands s (stepped x.id (PinStep p) (seen b) answer ∷ h) (applied x.id (PinStep p) (seen b) bytes ys)
+        → DomainsStand s (stepped x.id (PinStep p) (seen b) answer ∷ h) (applied x.id (PinStep p) (seen b) ys)
     by true is call =
         let can = can-pin s h xs x.id c.request (values c) (reverse c.steps) phase p i (eqb-true (word_at s h p.dom.0 p.gref.0) p.word is) in
         pin-stands s h xs ys x p answer x.mappings o' i.st here a r can.valid can.few
         (subst (IsLawfullyHeld s (new_pin h x.id p answer)) (sym (leg (length (legs_at h x.id.0)))) tt)
         (pin-agrees h x.id p answer x.mappings (leg (length (legs_at h x.id.0))) m a.mappings) call (given-goes-on x.id (PinStep p) Taken answer h x.given a.given)
     by false is call =
-        calm s h xs ys x o' (PinStep p) (seen false) answer (record { changes = λ r. refl; stores = λ r which. refl; header = refl }) (record { changes = λ r. refl; pins = λ before ps. refl; unpins = λ pins. refl; maps = m }) (λ given contents. refl) i.st here a r call
-step-stands s h xs ys x c phase (Exchange gref looked change) answer o' bytes i last here a r m leg copied write store call = by (word_at s h x.id.0 gref.0 == looked) refl call
+        calm s h xs ys x o' (PinStep p) (seen false) answer (record { changes = λ r. refl; stores = λ r which. refl; header = refl }) (record { changes = λ r. refl; pins = λ before ps. refl; unpins = λ pins. refl; maps = m }) i.st here a r call
+step-stands s h xs ys x c phase (Exchange gref looked change) answer o' i last here a r m leg store call = by (word_at s h x.id.0 gref.0 == looked) refl call
   where
     seen : Bool → Seen
     seen b = cond b Taken (Missed (word_at s h x.id.0 gref.0))
 
     by : (b : Bool) → (word_at s h x.id.0 gref.0 == looked) ≡ b → CallAgrees s (stepped x.id (Exchange gref looked change) (seen b) answer ∷ h) x.id o' (open_call (stepped x.id (Exchange gref looked change) (seen b) answer ∷ h) x.id.0)
-        → CoreStands s (stepped x.id (Exchange gref looked change) (seen b) answer ∷ h) (applied x.id (Exchange gref looked change) (seen b) bytes ys)
+        → DomainsStand s (stepped x.id (Exchange gref looked change) (seen b) answer ∷ h) (applied x.id (Exchange gref looked change) (seen b) ys)
     by true is call =
         let can = can-change s h xs x.id c.request (values c) (reverse c.steps) phase gref looked change i (eqb-true (word_at s h x.id.0 gref.0) looked is) in
         exchange-stands s h xs ys x gref looked change answer o' i.st here a r can.within can.safe can.fits can.room m call (given-goes-on x.id (Exchange gref looked change) Taken answer h x.given a.given)
     by false is call =
-        calm s h xs ys x o' (Exchange gref looked change) (seen false) answer (record { changes = λ r. refl; stores = λ r which. refl; header = refl }) (record { changes = λ r. refl; pins = λ before ps. refl; unpins = λ pins. refl; maps = m }) (λ given contents. refl) i.st here a r call
-step-stands s h xs ys x c phase (Unpin p (ByLeg place)) answer o' bytes i last here a r m leg copied write store call =
+        calm s h xs ys x o' (Exchange gref looked change) (seen false) answer (record { changes = λ r. refl; stores = λ r which. refl; header = refl }) (record { changes = λ r. refl; pins = λ before ps. refl; unpins = λ pins. refl; maps = m }) i.st here a r call
+step-stands s h xs ys x c phase (Unpin p (ByLeg place)) answer o' i last here a r m leg store call =
     let l = last p place refl in
     let legs : legs_at h x.id.0 ≡ numbered 0 (reverse l.0 ++ p ∷ []) = i.held ∙ ap (λ (z : List Held). numbered 0 (reverse z)) l.1 ∙ ap (numbered 0) (reverse_onto l.0 p []) in
     let at : length (reverse l.0) ≡ place = length-reverse l.0 ∙ sym l.2 in
     unpin-stands s h xs _ x p (ByLeg place) Nothing answer x.mappings o' i.st here a (becomes-unpinned xs ys x p (ByLeg place) o' r)
     (subst (λ (n : ℕ). Rattle.gt_core.proofs.Unpinning.Loses p (live h) (Rattle.gt_core.specs.History.without x.id.0 (ByLeg n) (live h))) at (loses-leg h x.id (reverse l.0) p legs))
     (unpin-agrees h x.id p place Nothing answer x.mappings m a.mappings) call (given-goes-on x.id (Unpin p (ByLeg place)) Nothing answer h x.given a.given)
-step-stands s h xs ys x c phase (Unpin p (ByMapping handle)) answer o' bytes i last here a r m leg copied write store call =
+step-stands s h xs ys x c phase (Unpin p (ByMapping handle)) answer o' i last here a r m leg store call =
     let found : mapping_of (mappings_at h x.id.0) handle ≡ Some p = i.rests.1.1 in
     unpin-stands s h xs _ x p (ByMapping handle) Nothing answer (Rattle.gt_core.specs.Effects.taken handle x.mappings) o' i.st here a (becomes-unpinned xs ys x p (ByMapping handle) o' r)
     (loses-mapping h x.id handle p found) (mapping-agrees h x.id p handle Nothing answer x.mappings m found a.mappings) call (given-goes-on x.id (Unpin p (ByMapping handle)) Nothing answer h x.given a.given)
-step-stands s h xs ys x c phase (StoreHeader version frames) answer o' bytes i last here a r m leg copied write store call =
+step-stands s h xs ys x c phase (StoreHeader version frames) answer o' i last here a r m leg store call =
     header-stands s h xs ys x version frames answer o' i.st here a r m (header-fits s h xs x.id c.request version frames i.st i.rests.0 i.rests.1) call (given-goes-on x.id (StoreHeader version frames) Nothing answer h x.given a.given)
-step-stands s h xs ys x c phase (StoreBody gref half word) answer o' bytes i last here a r m leg copied write store call =
-    subst (λ (z : Option Answer). CoreStands s (stepped x.id (StoreBody gref half word) Nothing z ∷ h) (applied x.id (StoreBody gref half word) Nothing bytes ys)) (sym (store tt))
+step-stands s h xs ys x c phase (StoreBody gref half word) answer o' i last here a r m leg store call =
+    subst (λ (z : Option Answer). DomainsStand s (stepped x.id (StoreBody gref half word) Nothing z ∷ h) (applied x.id (StoreBody gref half word) Nothing ys)) (sym (store tt))
     (store-stands s h xs ys x gref half word o' i.st here a (store-invalid s h x.id c.request gref half word i.rests.0 i.rests.1) r
     (subst (λ (z : Option Answer). CallAgrees s (stepped x.id (StoreBody gref half word) Nothing z ∷ h) x.id o' (open_call (stepped x.id (StoreBody gref half word) Nothing z ∷ h) x.id.0)) (store tt) call)
     (given-goes-on x.id (StoreBody gref half word) Nothing None h x.given a.given))
-step-stands s h xs ys x c phase (CopyBytes from to len) answer o' bytes i last here a r m leg copied write store call =
-    let just = copy-justified s h x.id c.request (pins_at phase) from to len i.rests.0 i.held i.rests.1 in
-    let in_from : IsInFrame s from len = frame-of-copy s h x.id c.request from to len just in
-    let in_to : IsInFrame s to len = frame-to-copy s h x.id c.request from to len just in
-    let held : List ℕ = take len (drop from.off (contents_at h from.owner.0 from.frame)) in
-    let same : bytes ≡ held = copied ∙ ap (λ (l : List ℕ). take len (drop from.off l)) (frame-there s h xs from.owner from.frame i.st in_from.0) in
-    let short : length held ≤ len = take-short len (drop from.off (contents_at h from.owner.0 from.frame)) in
-    let room = in_to.1 in
-    subst (λ (l : List ℕ). CoreStands s (stepped x.id (CopyBytes from to len) Nothing answer ∷ h) (changed_in to.owner.0 (with_bytes to.frame to.off l) ys)) (sym same)
-    (write-stands s h xs ys x (stepped x.id (CopyBytes from to len) Nothing answer) to held x.given o' (record { changes = λ r. refl; stores = λ r which. refl; header = refl }) (record { changes = λ r. refl; pins = λ before ps. refl; unpins = λ pins. refl; maps = m }) refl
-    i.st here a r refl (omega arith) call (given-goes-on x.id (CopyBytes from to len) Nothing answer h x.given a.given))
 
 -- the actor's call after this
 
@@ -198,31 +165,24 @@ call-over s h d step seen answer legs = subst (λ (u : Option Underway). CallAgr
 
 -- what a tick is to do
 abbrev pub Ticked : Setting → History → DomId → Step → Seen → Option Answer → List State → Type 0
-Ticked s h d step seen answer zs = IsRight s h (stepped d step seen answer) × CoreStands s (stepped d step seen answer ∷ h) zs
+Ticked s h d step seen answer zs = IsRight s h (stepped d step seen answer) × DomainsStand s (stepped d step seen answer ∷ h) zs
 
 right-in : (s : Setting) (h : History) (d : DomId) (step : Step) (seen : Seen) (answer : Option Answer) (c : Underway) → open_call h d.0 ≡ Some c → StepsRight s h (stepped d step seen answer) step seen c → IsRight s h (stepped d step seen answer)
 right-in s h d step seen answer c call a = subst (λ (u : Option Underway). StepsRightIn s h (stepped d step seen answer) step seen u) (sym call) a
 
 -- a call that goes on
 
-single-write : (step : Step) (dom : DomId) (frame off len : ℕ) → step ≡ WriteBytes dom frame off len → IsSingle step
-single-write step dom frame off len e = subst IsSingle (sym e) tt
-
-pub goes-core : (s : Setting) (h : History) (xs ys : List State) (x : State) (o : Open) (c : Underway) (new : Call) (z : Step) (bytes : List ℕ) → Ticks s h xs x o c new (Makes z) → Replaced xs ys x (record x { underway = Some (record { call = new; step = z }) }) → bytes ≡ copied_by xs o.step
-    → Ticked s h x.id o.step (seen_by s h x.id o.step) None (applied x.id o.step (seen_by s h x.id o.step) bytes ys)
-goes-core s h xs ys x o c new z bytes t r copied =
+pub goes-core : (s : Setting) (h : History) (xs ys : List State) (x : State) (o : Open) (c : Underway) (new : Call) (z : Step) → Ticks s h xs x o c new (Makes z) → Replaced xs ys x (record x { underway = Some (record { call = new; step = z }) })
+    → Ticked s h x.id o.step (seen_by s h x.id o.step) None (applied x.id o.step (seen_by s h x.id o.step) ys)
+goes-core s h xs ys x o c new z t r =
     let seen = seen_by s h x.id o.step in
     let i = stepped x.id o.step seen None in
     let now : open_call (i ∷ h) x.id.0 ≡ Some (record { request = c.request; given = c.given; steps = c.steps ++ (o.step, seen) ∷ [] }) = open_call-own i h ∙ ap (underway_after i) t.call in (
       right-in s h x.id o.step seen None c t.call (goes-right s h xs x o c new z t),
-      step-stands s h xs ys x c t.stands.phase o.step None (Some (record { call = new; step = z })) bytes (here-of s h xs x o c t.st t.here t.stands) (last-fact s h xs x o c new (Makes z) t) t.here t.agrees r refl (λ n. refl) copied
-          (λ dom frame off len e. no-write e (single-ends s h x.id c.request (reverse c.steps) t.stands.phase o.step t.stands.acts t.stands.place (single-write o.step dom frame off len e)))
+      step-stands s h xs ys x c t.stands.phase o.step None (Some (record { call = new; step = z })) (here-of s h xs x o c t.st t.here t.stands) (last-fact s h xs x o c new (Makes z) t) t.here t.agrees r refl (λ n. refl)
           (λ store. refl)
           (subst (λ (u : Option Underway). CallAgrees s (i ∷ h) x.id (Some (record { call = new; step = z })) u) (sym now) (open-after s h xs x o c new z t)),
     )
-  where
-    no-write : {A : Type 0} → A → (verdict : Verdict) × (next_of s h x.id t.stands.phase o.step ≡ Ending no_pins verdict) × Rattle.gt_core.specs.Standing.EndsAfter c.request o.step verdict → ⊥
-    no-write a e = let f : Makes z ≡ Done e.0 = t.acts ∙ ap (action_at x.id) e.1 in cc
 
 -- a call that is over
 
@@ -297,30 +257,21 @@ plain-leg (Rattle.gt_core.specs.declared.trace.Answer.TheVariants.Frames k) a n 
 plain-leg (Rattle.gt_core.specs.declared.trace.Answer.TheVariants.Size z) a n = refl
 plain-leg (Rattle.gt_core.specs.declared.trace.Answer.TheVariants.Version k) a n = refl
 
-pub ends-core : (s : Setting) (h : History) (xs ys : List State) (x : State) (o : Open) (c : Underway) (new : Call) (v : Verdict) (answer : Answer) (bytes : List ℕ) → Ticks s h xs x o c new (Done v) → Replaced xs ys x (record x { underway = None }) → bytes ≡ copied_by xs o.step
-    → IsPlainAnswer answer → ((m : Held) → v ≡ KeptPin m → ⊥) → ((dom : DomId) (frame off len : ℕ) → o.step ≡ WriteBytes dom frame off len → ⊥) → refusal_of answer ≡ refusal_in (Some v) → GivesValue s h x.id c.request (Some o.step) answer
-    → Ticked s h x.id o.step (seen_by s h x.id o.step) (Some answer) (applied x.id o.step (seen_by s h x.id o.step) bytes ys)
-ends-core s h xs ys x o c new v answer bytes t r copied plain unmapped write same value =
+pub ends-core : (s : Setting) (h : History) (xs ys : List State) (x : State) (o : Open) (c : Underway) (new : Call) (v : Verdict) (answer : Answer) → Ticks s h xs x o c new (Done v) → Replaced xs ys x (record x { underway = None })
+    → IsPlainAnswer answer → ((m : Held) → v ≡ KeptPin m → ⊥) → refusal_of answer ≡ refusal_in (Some v) → GivesValue s h x.id c.request (Some o.step) answer
+    → Ticked s h x.id o.step (seen_by s h x.id o.step) (Some answer) (applied x.id o.step (seen_by s h x.id o.step) ys)
+ends-core s h xs ys x o c new v answer t r plain unmapped same value =
     let seen = seen_by s h x.id o.step in
     let legs = none-held s h xs x o c new v answer t (plain-maps answer plain) (plain-leg answer plain) unmapped in (
       right-in s h x.id o.step seen (Some answer) c t.call (ends-right s h xs x o c new v answer t same legs value),
-      step-stands s h xs ys x c t.stands.phase o.step (Some answer) None bytes (here-of s h xs x o c t.st t.here t.stands) (last-fact s h xs x o c new (Done v) t) t.here t.agrees r (plain-maps answer plain) (plain-leg answer plain) copied
-          write (λ store. absurd (store-goes s h xs x o c new v t store)) (call-over s h x.id o.step seen answer legs),
+      step-stands s h xs ys x c t.stands.phase o.step (Some answer) None (here-of s h xs x o c t.st t.here t.stands) (last-fact s h xs x o c new (Done v) t) t.here t.agrees r (plain-maps answer plain) (plain-leg answer plain)
+          (λ store. absurd (store-goes s h xs x o c new v t store)) (call-over s h x.id o.step seen answer legs),
     )
 
--- a write ends its call with Ok
-write-granted : (s : Setting) (h : History) (xs : List State) (x : State) (o : Open) (c : Underway) (new : Call) (v : Verdict) → (t : Ticks s h xs x o c new (Done v)) → (dom : DomId) (frame off len : ℕ) → o.step ≡ WriteBytes dom frame off len → v ≡ Granted
-write-granted s h xs x o c new v t dom frame off len e =
-    let l = single-ends s h x.id c.request (reverse c.steps) t.stands.phase o.step t.stands.acts t.stands.place (single-write o.step dom frame off len e) in
-    let f : Done v ≡ Done l.0 = t.acts ∙ ap (action_at x.id) l.1 in
-    let g : v ≡ l.0 = cc in
-    g ∙ subst (λ (z : Step). Rattle.gt_core.specs.Standing.EndsAfter c.request z l.0) e l.2
-
-pub given-core : (s : Setting) (h : History) (xs ys : List State) (x : State) (o : Open) (c : Underway) (new : Call) (value : Value) (bytes : List ℕ) → Ticks s h xs x o c new (Done (Given value)) → Replaced xs ys x (record x { underway = None }) → bytes ≡ copied_by xs o.step
-    → Ticked s h x.id o.step (seen_by s h x.id o.step) (Some (answer_with value)) (applied x.id o.step (seen_by s h x.id o.step) bytes ys)
-given-core s h xs ys x o c new value bytes t r copied =
-    ends-core s h xs ys x o c new (Given value) (answer_with value) bytes t r copied (plain value) (λ m e. cc)
-    (λ dom frame off len e. let f : Given value ≡ Granted = write-granted s h xs x o c new (Given value) t dom frame off len e in cc) (same value)
+pub given-core : (s : Setting) (h : History) (xs ys : List State) (x : State) (o : Open) (c : Underway) (new : Call) (value : Value) → Ticks s h xs x o c new (Done (Given value)) → Replaced xs ys x (record x { underway = None })
+    → Ticked s h x.id o.step (seen_by s h x.id o.step) (Some (answer_with value)) (applied x.id o.step (seen_by s h x.id o.step) ys)
+given-core s h xs ys x o c new value t r =
+    ends-core s h xs ys x o c new (Given value) (answer_with value) t r (plain value) (λ m e. cc) (same value)
     (given-value s h xs x.id c.request (values c) (reverse c.steps) t.stands.phase o.step value (here-of s h xs x o c t.st t.here t.stands) (sym t.acts))
   where
     plain : (z : Value) → IsPlainAnswer (answer_with z)
@@ -333,16 +284,15 @@ given-core s h xs ys x o c new value bytes t r copied =
     same (SizeTold n) = refl
     same (VersionTold n) = refl
 
-pub refused-core : (s : Setting) (h : History) (xs ys : List State) (x : State) (o : Open) (c : Underway) (new : Call) (denial : Denial) (bytes : List ℕ) → Ticks s h xs x o c new (Done (Refused denial)) → Replaced xs ys x (record x { underway = None }) → bytes ≡ copied_by xs o.step
-    → Ticked s h x.id o.step (seen_by s h x.id o.step) (Some (Denied denial)) (applied x.id o.step (seen_by s h x.id o.step) bytes ys)
-refused-core s h xs ys x o c new denial bytes t r copied =
-    ends-core s h xs ys x o c new (Refused denial) (Denied denial) bytes t r copied tt (λ m e. cc)
-    (λ dom frame off len e. let f : Refused denial ≡ Granted = write-granted s h xs x o c new (Refused denial) t dom frame off len e in cc) refl tt
+pub refused-core : (s : Setting) (h : History) (xs ys : List State) (x : State) (o : Open) (c : Underway) (new : Call) (denial : Denial) → Ticks s h xs x o c new (Done (Refused denial)) → Replaced xs ys x (record x { underway = None })
+    → Ticked s h x.id o.step (seen_by s h x.id o.step) (Some (Denied denial)) (applied x.id o.step (seen_by s h x.id o.step) ys)
+refused-core s h xs ys x o c new denial t r =
+    ends-core s h xs ys x o c new (Refused denial) (Denied denial) t r tt (λ m e. cc) refl tt
 
 -- a map with its pin
-pub mapped-core : (s : Setting) (h : History) (xs ys : List State) (x : State) (o : Open) (c : Underway) (new : Call) (held : Held) (handle : Handle) (kept : Kept Held) (bytes : List ℕ) → Ticks s h xs x o c new (Done (KeptPin held)) → Replaced xs ys x (record x { mappings = kept; underway = None })
-    → Adds x.mappings kept handle held → Ticked s h x.id o.step (seen_by s h x.id o.step) (Some (Mapped handle)) (applied x.id o.step (seen_by s h x.id o.step) bytes ys)
-mapped-core s h xs ys x o c new held handle kept bytes t r adds = by (seen_by s h x.id o.step) refl
+pub mapped-core : (s : Setting) (h : History) (xs ys : List State) (x : State) (o : Open) (c : Underway) (new : Call) (held : Held) (handle : Handle) (kept : Kept Held) → Ticks s h xs x o c new (Done (KeptPin held)) → Replaced xs ys x (record x { mappings = kept; underway = None })
+    → Adds x.mappings kept handle held → Ticked s h x.id o.step (seen_by s h x.id o.step) (Some (Mapped handle)) (applied x.id o.step (seen_by s h x.id o.step) ys)
+mapped-core s h xs ys x o c new held handle kept t r adds = by (seen_by s h x.id o.step) refl
   where
     d : DomId
     d = x.id
@@ -350,7 +300,7 @@ mapped-core s h xs ys x o c new held handle kept bytes t r adds = by (seen_by s 
     i : IsHere s h xs x.id c.request (values c) (reverse c.steps) t.stands.phase o.step
     i = here-of s h xs x o c t.st t.here t.stands
 
-    by : (seen : Seen) → seen_by s h d o.step ≡ seen → Ticked s h d o.step seen (Some (Mapped handle)) (applied d o.step seen bytes ys)
+    by : (seen : Seen) → seen_by s h d o.step ≡ seen → Ticked s h d o.step seen (Some (Mapped handle)) (applied d o.step seen ys)
     by seen saw =
         let m = mapped-ends s h xs d c.request (values c) (reverse c.steps) t.stands.phase o.step held i (sym t.acts) in
         let taken : seen ≡ Taken = sym saw ∙ ap (seen_by s h d) m.is ∙ ap (λ (b : Bool). cond b Taken (Missed (word_at s h held.dom.0 held.gref.0))) (eq-eqb (word_at s h held.dom.0 held.gref.0) held.word m.taken) in
@@ -370,102 +320,60 @@ mapped-core s h xs ys x o c new held handle kept bytes t r adds = by (seen_by s 
           subst (λ (v : Seen). IsRight s h (stepped d o.step v (Some (Mapped handle)))) saw
               (right-in s h d o.step (seen_by s h d o.step) (Some (Mapped handle)) c t.call
               (ends-right s h xs x o c new (KeptPin held) (Mapped handle) t refl (ap (λ (k : Item). legs_at (k ∷ h) d.0) same_step ∙ legs) value)),
-          subst (λ (z : Step). CoreStands s (stepped d z seen (Some (Mapped handle)) ∷ h) (applied d z seen bytes ys)) (sym m.is)
-              (subst (λ (v : Seen). CoreStands s (stepped d (PinStep held) v (Some (Mapped handle)) ∷ h) (applied d (PinStep held) v bytes ys)) (sym taken) after),
+          subst (λ (z : Step). DomainsStand s (stepped d z seen (Some (Mapped handle)) ∷ h) (applied d z seen ys)) (sym m.is)
+              (subst (λ (v : Seen). DomainsStand s (stepped d (PinStep held) v (Some (Mapped handle)) ∷ h) (applied d (PinStep held) v ys)) (sym taken) after),
         )
 
 -- a call that is answered Ok with no value but bytes
 
 -- what a read gave
-read-gives : (s : Setting) (h : History) (xs ys : List State) (x : State) (o : Open) (c : Underway) (new : Call) (dom : DomId) (frame off len : ℕ) (b : Bytes) → Ticks s h xs x o c new (Done Granted) → Replaced xs ys x (record x { underway = None }) → o.step ≡ ReadBytes dom frame off len
-    → ((n : ℕ) → IsLoadOf o.call.request n → length (bytes_in ys dom.0 frame off n) ≡ n → b.bytes.items ≡ bytes_in ys dom.0 frame off n) → GivesValue s h x.id c.request (Some (ReadBytes dom frame off len)) (BytesAnswer b)
-read-gives s h xs ys x o c new dom frame off len b t r is gives =
+read-gives : (s : Setting) (h : History) (xs : List State) (fs : FrameSet) (x : State) (o : Open) (c : Underway) (new : Call) (dom : DomId) (frame off len : ℕ) (b : Bytes) → Ticks s h xs x o c new (Done Granted) → FramesStand s h fs → o.step ≡ ReadBytes dom frame off len
+    → b.bytes.items ≡ bytes_at (frame_at fs (record { owner = dom; number = frame })) off len → GivesValue s h x.id c.request (Some (ReadBytes dom frame off len)) (BytesAnswer b)
+read-gives s h xs fs x o c new dom frame off len b t fr is gives =
     let i = subst (IsHere s h xs x.id c.request (values c) (reverse c.steps) t.stands.phase) is (here-of s h xs x o c t.st t.here t.stands) in
-    let just = read-justified s h xs x.id c.request dom frame off len i.st i.rests.0 i.rests.1 in
-    let inside : frame < frames_of s.domains dom = just.0.0 in
-    let range : off + len ≤ FRAME_SIZE = just.0.1 in
-    let bytes : bytes_in ys dom.0 frame off len ≡ take len (drop off (contents_at h dom.0 frame)) =
-    ap (λ (l : List ℕ). take len (drop off l)) (frame-same xs ys x (record x { underway = None }) dom.0 frame t.here refl r ∙ frame-there s h xs dom frame t.st inside) in
-    let full : length (take len (drop off (contents_at h dom.0 frame))) ≡ len = length-take-le len (drop off (contents_at h dom.0 frame)) (room range) in
-    by i.rests.1 bytes (ap (λ (l : List ℕ). length l) bytes ∙ full)
+    by i.rests.1 (gives ∙ bytes-held s h fs dom frame off len fr)
   where
-    room : off + len ≤ FRAME_SIZE → len ≤ length (drop off (contents_at h dom.0 frame))
-    room range = let e = length-drop off (contents_at h dom.0 frame) in let f : length (contents_at h dom.0 frame) ≡ FRAME_SIZE = t.st.filled dom.0 frame in omega arith
-
-    by : Rattle.gt_calls.specs.Resting.RestsOnRequest (known_at s h x.id) x.id c.request (ReadBytes dom frame off len) → bytes_in ys dom.0 frame off len ≡ take len (drop off (contents_at h dom.0 frame)) → length (bytes_in ys dom.0 frame off len) ≡ len
+    by : Rattle.gt_calls.specs.Resting.RestsOnRequest (known_at s h x.id) x.id c.request (ReadBytes dom frame off len) → b.bytes.items ≡ take len (drop off (contents_at h dom.0 frame))
         → GivesValue s h x.id c.request (Some (ReadBytes dom frame off len)) (BytesAnswer b)
-    by (inl (handle, asked, mapped)) bytes full =
-        subst (λ (q : Asked). GivesValue s h x.id q (Some (ReadBytes dom frame off len)) (BytesAnswer b)) (sym asked)
-        (gives len (subst (λ (q : Asked). IsLoadOf q len) (sym (t.stands.asks ∙ asked)) refl) full ∙ bytes)
-    by (inr (asked, own)) bytes full =
-        subst (λ (q : Asked). GivesValue s h x.id q (Some (ReadBytes dom frame off len)) (BytesAnswer b)) (sym asked)
-        (gives len (subst (λ (q : Asked). IsLoadOf q len) (sym (t.stands.asks ∙ asked)) refl) full ∙ bytes)
+    by (inl (handle, asked, mapped)) bytes = subst (λ (q : Asked). GivesValue s h x.id q (Some (ReadBytes dom frame off len)) (BytesAnswer b)) (sym asked) bytes
+    by (inr (asked, own)) bytes = subst (λ (q : Asked). GivesValue s h x.id q (Some (ReadBytes dom frame off len)) (BytesAnswer b)) (sym asked) bytes
 
--- the bytes given to a write are as many as it asks
-given-fits : (k : CallerKnowledge) (d : DomId) (r : Asked) (dom : DomId) (frame off len : ℕ) (given : List ℕ) → Rattle.gt_calls.specs.Resting.RestsOnRequest k d r (WriteBytes dom frame off len) → FitsGiven r given → off + length given ≤ FRAME_SIZE
-given-fits k d r dom frame off len given (inl (handle, asked, mapped)) f =
-    let g : FitsGiven (Store handle off len) given = subst (λ (q : Asked). FitsGiven q given) asked f in
-    let e = g.0 in
-    let room = g.1 in omega arith
-given-fits k d r dom frame off len given (inr (asked, own)) f =
-    let g : FitsGiven (Poke frame off len) given = subst (λ (q : Asked). FitsGiven q given) asked f in
-    let e = g.0 in
-    let room = g.1 in omega arith
-
-granted-core : (s : Setting) (h : History) (xs zs : List State) (at : ℕ) (x : State) (o : Open) (c : Underway) (new : Call) (answer : Answer) (bytes : List ℕ) → Ticks s h xs x o c new (Done Granted)
-    → Replaced xs (set xs at (with_underway None x)) x (record x { underway = None }) → Replaced xs (set xs at (without_given x)) x (record x { underway = None; given = [] }) → bytes ≡ copied_by xs o.step → Settled xs at x o o.step answer zs
-    → Ticked s h x.id o.step (seen_by s h x.id o.step) (Some answer) (applied x.id o.step (seen_by s h x.id o.step) bytes zs)
-granted-core s h xs zs at x o c new answer bytes t plain written copied settled = by o.step refl settled
+granted-core : (s : Setting) (h : History) (fs : FrameSet) (xs zs : List State) (at : ℕ) (x : State) (o : Open) (c : Underway) (new : Call) (answer : Answer) → Ticks s h xs x o c new (Done Granted) → FramesStand s h fs
+    → Replaced xs (set xs at (with_underway None x)) x (record x { underway = None }) → Settled fs xs at x o.step answer zs
+    → Ticked s h x.id o.step (seen_by s h x.id o.step) (Some answer) (applied x.id o.step (seen_by s h x.id o.step) zs)
+granted-core s h fs xs zs at x o c new answer t fr plain settled = by o.step refl settled
   where
     d : DomId
     d = x.id
 
-    Goal : Step → Type 0
-    Goal step = Ticked s h d step (seen_by s h d step) (Some answer) (applied d step (seen_by s h d step) bytes zs)
+    Goal : Type 0
+    Goal = Ticked s h d o.step (seen_by s h d o.step) (Some answer) (applied d o.step (seen_by s h d o.step) zs)
 
-    over : (step : Step) → o.step ≡ step → (answer ≡ AnswerDone) × (zs ≡ set xs at (with_underway None x)) → ((dom : DomId) (frame off len : ℕ) → step ≡ ReadBytes dom frame off len → ⊥) → ((dom : DomId) (frame off len : ℕ) → step ≡ WriteBytes dom frame off len → ⊥) → Goal step
-    over step is (done, left) read write =
-        subst Goal is
-        (subst (λ (a : Answer). Ticked s h d o.step (seen_by s h d o.step) (Some a) (applied d o.step (seen_by s h d o.step) bytes zs)) (sym done)
-        (subst (λ (l : List State). Ticked s h d o.step (seen_by s h d o.step) (Some AnswerDone) (applied d o.step (seen_by s h d o.step) bytes l)) (sym left)
-        (ends-core s h xs (set xs at (with_underway None x)) x o c new Granted AnswerDone bytes t plain copied tt (λ m e. cc) (λ dom frame off len e. write dom frame off len (sym is ∙ e)) refl
-        (granted-value s h xs d c.request (values c) (reverse c.steps) t.stands.phase o.step (here-of s h xs x o c t.st t.here t.stands) (λ dom frame off len e. read dom frame off len (sym is ∙ e)) (sym t.acts)))))
+    ends : (a : Answer) → answer ≡ a → IsPlainAnswer a → refusal_of a ≡ None → zs ≡ set xs at (with_underway None x) → GivesValue s h d c.request (Some o.step) a → Goal
+    ends a done is_plain same left value =
+        subst (λ (b : Answer). Ticked s h d o.step (seen_by s h d o.step) (Some b) (applied d o.step (seen_by s h d o.step) zs)) (sym done)
+        (subst (λ (l : List State). Ticked s h d o.step (seen_by s h d o.step) (Some a) (applied d o.step (seen_by s h d o.step) l)) (sym left)
+        (ends-core s h xs (set xs at (with_underway None x)) x o c new Granted a t plain is_plain (λ m e. cc) same value))
 
-    by : (step : Step) → o.step ≡ step → Settled xs at x o step answer zs → Goal o.step
+    over : (step : Step) → o.step ≡ step → (answer ≡ AnswerDone) × (zs ≡ set xs at (with_underway None x)) → ((dom : DomId) (frame off len : ℕ) → step ≡ ReadBytes dom frame off len → ⊥) → Goal
+    over step is (done, left) read =
+        ends AnswerDone done tt refl left
+        (granted-value s h xs d c.request (values c) (reverse c.steps) t.stands.phase o.step (here-of s h xs x o c t.st t.here t.stands) (λ dom frame off len e. read dom frame off len (sym is ∙ e)) (sym t.acts))
+
+    by : (step : Step) → o.step ≡ step → Settled fs xs at x step answer zs → Goal
     by (ReadBytes dom frame off len) is (b, done, left, gives) =
-        subst (λ (a : Answer). Ticked s h d o.step (seen_by s h d o.step) (Some a) (applied d o.step (seen_by s h d o.step) bytes zs)) (sym done)
-        (subst (λ (l : List State). Ticked s h d o.step (seen_by s h d o.step) (Some (BytesAnswer b)) (applied d o.step (seen_by s h d o.step) bytes l)) (sym left)
-        (ends-core s h xs (set xs at (with_underway None x)) x o c new Granted (BytesAnswer b) bytes t plain copied tt (λ m e. cc) (λ t' frame' off' len' e. let f : ReadBytes dom frame off len ≡ WriteBytes t' frame' off' len' = sym is ∙ e in cc) refl
-        (subst (λ (z : Step). GivesValue s h d c.request (Some z) (BytesAnswer b)) (sym is)
-        (read-gives s h xs (set xs at (with_underway None x)) x o c new dom frame off len b t plain is
-        (λ n l. subst (λ (z : List State). length (bytes_in z dom.0 frame off n) ≡ n → b.bytes.items ≡ bytes_in z dom.0 frame off n) left (gives n l))))))
-    by (WriteBytes dom frame off len) is (done, left) =
-        let i = subst (IsHere s h xs d c.request (values c) (reverse c.steps) t.stands.phase) is (here-of s h xs x o c t.st t.here t.stands) in
-        let given = t.agrees.given c t.call in
-        let room = given-fits (known_at s h d) d c.request dom frame off len c.given i.rests.1 given.1 in
-        let k = stepped d (WriteBytes dom frame off len) Nothing (Some AnswerDone) in
-        let legs : legs_at (k ∷ h) d.0 ≡ [] = subst (λ (z : Step). legs_at (stepped d z (seen_by s h d z) (Some AnswerDone) ∷ h) d.0 ≡ []) is (none-held s h xs x o c new Granted AnswerDone t refl (λ n. refl) (λ m e. cc)) in
-        subst (λ (a : Answer). Ticked s h d o.step (seen_by s h d o.step) (Some a) (applied d o.step (seen_by s h d o.step) bytes zs)) (sym done) (
-          right-in s h d o.step (seen_by s h d o.step) (Some AnswerDone) c t.call
-              (ends-right s h xs x o c new Granted AnswerDone t refl (none-held s h xs x o c new Granted AnswerDone t refl (λ n. refl) (λ m e. cc))
-              (granted-value s h xs d c.request (values c) (reverse c.steps) t.stands.phase o.step (here-of s h xs x o c t.st t.here t.stands) (λ t' frame' off' len' e. let f : WriteBytes dom frame off len ≡ ReadBytes t' frame' off' len' = sym is ∙ e in cc) (sym t.acts))),
-          subst (λ (z : Step). CoreStands s (stepped d z (seen_by s h d z) (Some AnswerDone) ∷ h) (applied d z (seen_by s h d z) bytes zs)) (sym is)
-              (subst (λ (l : List State). CoreStands s (k ∷ h) l) (sym left)
-              (subst (λ (l : List ℕ). CoreStands s (k ∷ h) (changed_in dom.0 (with_bytes frame off l) (set xs at (without_given x)))) (sym given.0)
-              (write-stands s h xs (set xs at (without_given x)) x k (record { owner = dom; frame = frame; off = off }) c.given [] None (record { changes = λ r. refl; stores = λ r which. refl; header = refl })
-              (record { changes = λ r. refl; pins = λ before ps. refl; unpins = λ pins. refl; maps = refl }) refl t.st t.here t.agrees written
-              (ap (λ (u : Option Underway). Some (record { at = record { owner = dom; frame = frame; off = off }; bytes = given_in u })) t.call) room (call-over s h d (WriteBytes dom frame off len) Nothing AnswerDone legs)
-              (Rattle.gt_core.proofs.Keeping.given-none (k ∷ h) d.0 [] (open_call-own k h))))),
-        )
-    by (LookHeader dom) is a = subst Goal (sym is) (over (LookHeader dom) is a (λ t frame off len e. cc) (λ t frame off len e. cc))
-    by (LookControl dom gref) is a = subst Goal (sym is) (over (LookControl dom gref) is a (λ t frame off len e. cc) (λ t frame off len e. cc))
-    by (LookBody dom gref half) is a = subst Goal (sym is) (over (LookBody dom gref half) is a (λ t frame off len e. cc) (λ t frame off len e. cc))
-    by (PinStep p) is a = subst Goal (sym is) (over (PinStep p) is a (λ t frame off len e. cc) (λ t frame off len e. cc))
-    by (Unpin p holder) is a = subst Goal (sym is) (over (Unpin p holder) is a (λ t frame off len e. cc) (λ t frame off len e. cc))
-    by (StoreBody gref half word) is a = subst Goal (sym is) (over (StoreBody gref half word) is a (λ t frame off len e. cc) (λ t frame off len e. cc))
-    by (StoreHeader version frames) is a = subst Goal (sym is) (over (StoreHeader version frames) is a (λ t frame off len e. cc) (λ t frame off len e. cc))
-    by (Exchange gref looked change) is a = subst Goal (sym is) (over (Exchange gref looked change) is a (λ t frame off len e. cc) (λ t frame off len e. cc))
-    by (CopyBytes from to len) is a = subst Goal (sym is) (over (CopyBytes from to len) is a (λ t frame off len e. cc) (λ t frame off len e. cc))
+        ends (BytesAnswer b) done tt refl left
+        (subst (λ (z : Step). GivesValue s h d c.request (Some z) (BytesAnswer b)) (sym is) (read-gives s h xs fs x o c new dom frame off len b t fr is gives))
+    by (WriteBytes dom frame off len) is a = over (WriteBytes dom frame off len) is a (λ t frame off len e. cc)
+    by (LookHeader dom) is a = over (LookHeader dom) is a (λ t frame off len e. cc)
+    by (LookControl dom gref) is a = over (LookControl dom gref) is a (λ t frame off len e. cc)
+    by (LookBody dom gref half) is a = over (LookBody dom gref half) is a (λ t frame off len e. cc)
+    by (PinStep p) is a = over (PinStep p) is a (λ t frame off len e. cc)
+    by (Unpin p holder) is a = over (Unpin p holder) is a (λ t frame off len e. cc)
+    by (StoreBody gref half word) is a = over (StoreBody gref half word) is a (λ t frame off len e. cc)
+    by (StoreHeader version frames) is a = over (StoreHeader version frames) is a (λ t frame off len e. cc)
+    by (Exchange gref looked change) is a = over (Exchange gref looked change) is a (λ t frame off len e. cc)
+    by (CopyBytes from to len) is a = over (CopyBytes from to len) is a (λ t frame off len e. cc)
 
 -- the ways that a tick goes
 
@@ -479,7 +387,7 @@ pub record Begins (s : Setting) (h : History) (xs : List State) (dom : DomId) (a
   pub place : position (has_id dom.0) xs ≡ Some at
   pub here : x ≡ get_or xs at x
   pub under : x.underway ≡ Some o
-  pub stands : CoreStands s h xs
+  pub stands : DomainsStand s h xs
   pub saw : seen ≡ sees xs dom o.step
   pub caller : new.caller ≡ o.call.caller
   pub asks : new.request ≡ o.call.request
@@ -512,42 +420,42 @@ begun s h xs dom at x o seen new action b =
     }
 
 -- the same for the domain asked, and what its step saw
-settle : (s : Setting) (h : History) (xs : List State) (dom : DomId) (at : ℕ) (x : State) (o : Open) (seen : Seen) (new : Call) (action : Action) (answer : Option Answer) (bytes : List ℕ) (zs : List State) → Begun s h xs dom at x o seen new action
-    → Ticked s h x.id o.step (seen_by s h x.id o.step) answer (applied x.id o.step (seen_by s h x.id o.step) bytes zs)
-    → (domain_of s.domains dom ≢ None) × IsRight s h (stepped dom o.step seen answer) × CoreStands s (stepped dom o.step seen answer ∷ h) (applied dom o.step seen bytes zs)
-settle s h xs dom at x o seen new action answer bytes zs b t =
-    let u = subst (λ (d : DomId). Ticked s h d o.step seen answer (applied d o.step seen bytes zs)) b.is (subst (λ (v : Seen). Ticked s h x.id o.step v answer (applied x.id o.step v bytes zs)) (sym b.same) t) in
+settle : (s : Setting) (h : History) (xs : List State) (dom : DomId) (at : ℕ) (x : State) (o : Open) (seen : Seen) (new : Call) (action : Action) (answer : Option Answer) (zs : List State) → Begun s h xs dom at x o seen new action
+    → Ticked s h x.id o.step (seen_by s h x.id o.step) answer (applied x.id o.step (seen_by s h x.id o.step) zs)
+    → (domain_of s.domains dom ≢ None) × IsRight s h (stepped dom o.step seen answer) × DomainsStand s (stepped dom o.step seen answer ∷ h) (applied dom o.step seen zs)
+settle s h xs dom at x o seen new action answer zs b t =
+    let u = subst (λ (d : DomId). Ticked s h d o.step seen answer (applied d o.step seen zs)) b.is (subst (λ (v : Seen). Ticked s h x.id o.step v answer (applied x.id o.step v zs)) (sym b.same) t) in
     (b.named, u.0, u.1)
 
-pub tick-goes : (s : Setting) (h : History) (xs : List State) (dom : DomId) (at : ℕ) (x : State) (o : Open) (seen : Seen) (new : Call) (z : Step) (bytes : List ℕ) → Begins s h xs dom at x o seen new (Makes z) → bytes ≡ copied_by xs o.step
-    → (domain_of s.domains dom ≢ None) × IsRight s h (stepped dom o.step seen None) × CoreStands s (stepped dom o.step seen None ∷ h) (applied dom o.step seen bytes (set xs at (with_underway (Some (record { call = new; step = z })) x)))
-tick-goes s h xs dom at x o seen new z bytes b copied =
+pub tick-goes : (s : Setting) (h : History) (xs : List State) (dom : DomId) (at : ℕ) (x : State) (o : Open) (seen : Seen) (new : Call) (z : Step) → Begins s h xs dom at x o seen new (Makes z)
+    → (domain_of s.domains dom ≢ None) × IsRight s h (stepped dom o.step seen None) × DomainsStand s (stepped dom o.step seen None ∷ h) (applied dom o.step seen (set xs at (with_underway (Some (record { call = new; step = z })) x)))
+tick-goes s h xs dom at x o seen new z b =
     let n = begun s h xs dom at x o seen new (Makes z) b in
-    settle s h xs dom at x o seen new (Makes z) None bytes _ n (goes-core s h xs _ x o n.c new z bytes n.ticks (n.replaced (with_underway (Some (record { call = new; step = z })) x) refl) copied)
+    settle s h xs dom at x o seen new (Makes z) None _ n (goes-core s h xs _ x o n.c new z n.ticks (n.replaced (with_underway (Some (record { call = new; step = z })) x) refl))
 
-pub tick-granted : (s : Setting) (h : History) (xs zs : List State) (dom : DomId) (at : ℕ) (x : State) (o : Open) (seen : Seen) (new : Call) (answer : Answer) (bytes : List ℕ) → Begins s h xs dom at x o seen new (Done Granted) → bytes ≡ copied_by xs o.step → Settled xs at x o o.step answer zs
-    → (domain_of s.domains dom ≢ None) × IsRight s h (stepped dom o.step seen (Some answer)) × CoreStands s (stepped dom o.step seen (Some answer) ∷ h) (applied dom o.step seen bytes zs)
-tick-granted s h xs zs dom at x o seen new answer bytes b copied settled =
+pub tick-granted : (s : Setting) (h : History) (fs : FrameSet) (xs zs : List State) (dom : DomId) (at : ℕ) (x : State) (o : Open) (seen : Seen) (new : Call) (answer : Answer) → Begins s h xs dom at x o seen new (Done Granted) → FramesStand s h fs → Settled fs xs at x o.step answer zs
+    → (domain_of s.domains dom ≢ None) × IsRight s h (stepped dom o.step seen (Some answer)) × DomainsStand s (stepped dom o.step seen (Some answer) ∷ h) (applied dom o.step seen zs)
+tick-granted s h fs xs zs dom at x o seen new answer b fr settled =
     let n = begun s h xs dom at x o seen new (Done Granted) b in
-    settle s h xs dom at x o seen new (Done Granted) (Some answer) bytes zs n (granted-core s h xs zs at x o n.c new answer bytes n.ticks (n.replaced (with_underway None x) refl) (n.replaced (without_given x) refl) copied settled)
+    settle s h xs dom at x o seen new (Done Granted) (Some answer) zs n (granted-core s h fs xs zs at x o n.c new answer n.ticks fr (n.replaced (with_underway None x) refl) settled)
 
-pub tick-mapped : (s : Setting) (h : History) (xs : List State) (dom : DomId) (at : ℕ) (x : State) (o : Open) (seen : Seen) (new : Call) (held : Held) (handle : Handle) (kept : Kept Held) (bytes : List ℕ) → Begins s h xs dom at x o seen new (Done (KeptPin held)) → Adds x.mappings kept handle held
-    → (domain_of s.domains dom ≢ None) × IsRight s h (stepped dom o.step seen (Some (Mapped handle))) × CoreStands s (stepped dom o.step seen (Some (Mapped handle)) ∷ h) (applied dom o.step seen bytes (set xs at (with_mapping kept x)))
-tick-mapped s h xs dom at x o seen new held handle kept bytes b adds =
+pub tick-mapped : (s : Setting) (h : History) (xs : List State) (dom : DomId) (at : ℕ) (x : State) (o : Open) (seen : Seen) (new : Call) (held : Held) (handle : Handle) (kept : Kept Held) → Begins s h xs dom at x o seen new (Done (KeptPin held)) → Adds x.mappings kept handle held
+    → (domain_of s.domains dom ≢ None) × IsRight s h (stepped dom o.step seen (Some (Mapped handle))) × DomainsStand s (stepped dom o.step seen (Some (Mapped handle)) ∷ h) (applied dom o.step seen (set xs at (with_mapping kept x)))
+tick-mapped s h xs dom at x o seen new held handle kept b adds =
     let n = begun s h xs dom at x o seen new (Done (KeptPin held)) b in
-    settle s h xs dom at x o seen new (Done (KeptPin held)) (Some (Mapped handle)) bytes _ n (mapped-core s h xs _ x o n.c new held handle kept bytes n.ticks (n.replaced (with_mapping kept x) refl) adds)
+    settle s h xs dom at x o seen new (Done (KeptPin held)) (Some (Mapped handle)) _ n (mapped-core s h xs _ x o n.c new held handle kept n.ticks (n.replaced (with_mapping kept x) refl) adds)
 
-pub tick-given : (s : Setting) (h : History) (xs : List State) (dom : DomId) (at : ℕ) (x : State) (o : Open) (seen : Seen) (new : Call) (value : Value) (bytes : List ℕ) → Begins s h xs dom at x o seen new (Done (Given value)) → bytes ≡ copied_by xs o.step
-    → (domain_of s.domains dom ≢ None) × IsRight s h (stepped dom o.step seen (Some (answer_with value))) × CoreStands s (stepped dom o.step seen (Some (answer_with value)) ∷ h) (applied dom o.step seen bytes (set xs at (with_underway None x)))
-tick-given s h xs dom at x o seen new value bytes b copied =
+pub tick-given : (s : Setting) (h : History) (xs : List State) (dom : DomId) (at : ℕ) (x : State) (o : Open) (seen : Seen) (new : Call) (value : Value) → Begins s h xs dom at x o seen new (Done (Given value))
+    → (domain_of s.domains dom ≢ None) × IsRight s h (stepped dom o.step seen (Some (answer_with value))) × DomainsStand s (stepped dom o.step seen (Some (answer_with value)) ∷ h) (applied dom o.step seen (set xs at (with_underway None x)))
+tick-given s h xs dom at x o seen new value b =
     let n = begun s h xs dom at x o seen new (Done (Given value)) b in
-    settle s h xs dom at x o seen new (Done (Given value)) (Some (answer_with value)) bytes _ n (given-core s h xs _ x o n.c new value bytes n.ticks (n.replaced (with_underway None x) refl) copied)
+    settle s h xs dom at x o seen new (Done (Given value)) (Some (answer_with value)) _ n (given-core s h xs _ x o n.c new value n.ticks (n.replaced (with_underway None x) refl))
 
-pub tick-refused : (s : Setting) (h : History) (xs : List State) (dom : DomId) (at : ℕ) (x : State) (o : Open) (seen : Seen) (new : Call) (denial : Denial) (bytes : List ℕ) → Begins s h xs dom at x o seen new (Done (Refused denial)) → bytes ≡ copied_by xs o.step
-    → (domain_of s.domains dom ≢ None) × IsRight s h (stepped dom o.step seen (Some (Denied denial))) × CoreStands s (stepped dom o.step seen (Some (Denied denial)) ∷ h) (applied dom o.step seen bytes (set xs at (with_underway None x)))
-tick-refused s h xs dom at x o seen new denial bytes b copied =
+pub tick-refused : (s : Setting) (h : History) (xs : List State) (dom : DomId) (at : ℕ) (x : State) (o : Open) (seen : Seen) (new : Call) (denial : Denial) → Begins s h xs dom at x o seen new (Done (Refused denial))
+    → (domain_of s.domains dom ≢ None) × IsRight s h (stepped dom o.step seen (Some (Denied denial))) × DomainsStand s (stepped dom o.step seen (Some (Denied denial)) ∷ h) (applied dom o.step seen (set xs at (with_underway None x)))
+tick-refused s h xs dom at x o seen new denial b =
     let n = begun s h xs dom at x o seen new (Done (Refused denial)) b in
-    settle s h xs dom at x o seen new (Done (Refused denial)) (Some (Denied denial)) bytes _ n (refused-core s h xs _ x o n.c new denial bytes n.ticks (n.replaced (with_underway None x) refl) copied)
+    settle s h xs dom at x o seen new (Done (Refused denial)) (Some (Denied denial)) _ n (refused-core s h xs _ x o n.c new denial n.ticks (n.replaced (with_underway None x) refl))
 
 -- a map that is over had asked for its room when it began
 pub map-asked : (s : Setting) (h : History) (xs : List State) (dom : DomId) (at : ℕ) (x : State) (o : Open) (seen : Seen) (new : Call) (held : Held) → Begins s h xs dom at x o seen new (Done (KeptPin held)) → Rattle.gt_core.specs.States.IsMapping (Rattle.gt_core.specs.States.asked_in x.underway)
@@ -557,23 +465,67 @@ map-asked s h xs dom at x o seen new held b =
     let m = mapped-ends s h xs x.id n.c.request (values n.c) (reverse n.c.steps) t.stands.phase o.step held (here-of s h xs x o n.c t.st t.here t.stands) (sym t.acts) in
     subst (λ (z : Option Open). Rattle.gt_core.specs.States.IsMapping (Rattle.gt_core.specs.States.asked_in z)) (sym b.under) (subst (λ (q : Asked). Rattle.gt_core.specs.States.IsMapping (Some q)) (sym (t.stands.asks ∙ m.of_map)) tt)
 
-copying : (step : Step) → Rattle.gt_core.specs.Effects.IsCopy step → Rattle.gt_core.specs.Standing.IsCopying (Some (Makes step))
-copying (CopyBytes from to len) a = tt
-copying (LookHeader dom) a = absurd a
-copying (LookControl dom gref) a = absurd a
-copying (LookBody dom gref half) a = absurd a
-copying (PinStep p) a = absurd a
-copying (Unpin p holder) a = absurd a
-copying (StoreBody gref half word) a = absurd a
-copying (StoreHeader version frames) a = absurd a
-copying (Exchange gref looked change) a = absurd a
-copying (ReadBytes dom frame off len) a = absurd a
-copying (WriteBytes dom frame off len) a = absurd a
-
 -- a tick for which memory is wanted
-pub tick-wants : (s : Setting) (h : History) (xs : List State) (dom : DomId) (at : ℕ) (x : State) (o : Open) → position (has_id dom.0) xs ≡ Some at → x ≡ get_or xs at x → x.underway ≡ Some o → CoreStands s h xs → Rattle.gt_core.specs.Effects.IsCopy o.step
+pub tick-wants : (s : Setting) (h : History) (xs : List State) (dom : DomId) (at : ℕ) (x : State) (o : Open) → position (has_id dom.0) xs ≡ Some at → x ≡ get_or xs at x → x.underway ≡ Some o → DomainsStand s h xs → IsWriting o.step
     → Rattle.gt_core.specs.Standing.WantsMemoryNow s h dom
-tick-wants s h xs dom at x o place here under st copy =
+tick-wants s h xs dom at x o place here under st writing =
     let a = agrees-found s h xs dom at x place here st in
     let u = call-here s h x.id x.underway (open_call h x.id.0) o under a.2.call in
-    subst (Rattle.gt_core.specs.Standing.WantsMemoryNow s h) a.1 (u.0, u.1, subst Rattle.gt_core.specs.Standing.IsCopying (sym u.2.follows) (copying o.step copy))
+    subst (Rattle.gt_core.specs.Standing.WantsMemoryNow s h) a.1 (u.0, u.1, subst Rattle.gt_core.specs.Standing.IsWritingNext (sym u.2.follows) writing)
+
+-- the open call of the domain asked
+open-here : (s : Setting) (h : History) (xs : List State) (dom : DomId) (at : ℕ) (x : State) (o : Open) → position (has_id dom.0) xs ≡ Some at → x ≡ get_or xs at x → x.underway ≡ Some o → DomainsStand s h xs
+    → (x.id ≡ dom) × Agrees s h x × ((c : Underway) × (open_call h x.id.0 ≡ Some c) × OpenAgrees s h x.id o c)
+open-here s h xs dom at x o place here under st =
+    let a = agrees-found s h xs dom at x place here st in
+    (a.1, a.2, call-here s h x.id x.underway (open_call h x.id.0) o under a.2.call)
+
+-- what its step writes is by right
+pub tick-admitted : (s : Setting) (h : History) (xs : List State) (fs : FrameSet) (dom : DomId) (at : ℕ) (x : State) (o : Open) → position (has_id dom.0) xs ≡ Some at → x ≡ get_or xs at x → x.underway ≡ Some o → CoreStands s h (core_of xs fs)
+    → IsAdmitted fs x o.call o.step
+tick-admitted s h xs fs dom at x o place here under st =
+    let a = open-here s h xs dom at x o place here under st.domains in
+    open-admitted s h xs fs x o a.2.0 st.domains st.frames a.1 a.2.1 a.2.2
+
+-- and what it reads is there
+pub tick-readable : (s : Setting) (h : History) (xs : List State) (fs : FrameSet) (dom : DomId) (at : ℕ) (x : State) (o : Open) → position (has_id dom.0) xs ≡ Some at → x ≡ get_or xs at x → x.underway ≡ Some o → CoreStands s h (core_of xs fs)
+    → IsReadable fs o.call o.step
+tick-readable s h xs fs dom at x o place here under st =
+    let a = open-here s h xs dom at x o place here under st.domains in
+    open-readable s h xs fs x o a.2.0 st.domains st.frames a.2.2
+
+-- the frames after it
+pub tick-frames : (s : Setting) (h : History) (xs : List State) (fs gs : FrameSet) (dom : DomId) (at : ℕ) (x : State) (o : Open) (seen : Seen) (answer : Option Answer) → position (has_id dom.0) xs ≡ Some at → x ≡ get_or xs at x → x.underway ≡ Some o
+    → CoreStands s h (core_of xs fs) → AccessedBy x o.call o.step fs gs → FramesStand s (stepped dom o.step seen answer ∷ h) gs
+tick-frames s h xs fs gs dom at x o seen answer place here under st wrote =
+    let a = open-here s h xs dom at x o place here under st.domains in
+    subst (λ (d : DomId). FramesStand s (stepped d o.step seen answer ∷ h) gs) a.0
+    (frames-stepped s h fs gs x o.call o.step seen answer a.2.0 a.2.1 (a.1.given a.2.0 a.2.1).0 st.frames wrote)
+
+-- a step that reads changes no frame, so that its range is there after it too
+pub readable-after : (fs gs : FrameSet) (x : State) (call : Call) (step : Step) → AccessedBy x call step fs gs → IsReadable fs call step → IsReadable gs call step
+readable-after fs gs x call (ReadBytes dom frame off len) wrote a = subst (λ (z : FrameSet). IsReadable z call (ReadBytes dom frame off len)) (sym wrote) a
+readable-after fs gs x call (WriteBytes dom frame off len) wrote a = tt
+readable-after fs gs x call (CopyBytes from to len) wrote a = tt
+readable-after fs gs x call (LookHeader dom) wrote a = tt
+readable-after fs gs x call (LookControl dom gref) wrote a = tt
+readable-after fs gs x call (LookBody dom gref half) wrote a = tt
+readable-after fs gs x call (PinStep p) wrote a = tt
+readable-after fs gs x call (Unpin p holder) wrote a = tt
+readable-after fs gs x call (StoreBody gref half word) wrote a = tt
+readable-after fs gs x call (StoreHeader version frames) wrote a = tt
+readable-after fs gs x call (Exchange gref looked change) wrote a = tt
+
+-- and it gives what they held before it
+pub settled-before : (fs gs : FrameSet) (xs new : List State) (at : ℕ) (x d : State) (call : Call) (step : Step) (answer : Answer) → AccessedBy x call step fs gs → Settled gs xs at d step answer new → Settled fs xs at d step answer new
+settled-before fs gs xs new at x d call (ReadBytes dom frame off len) answer wrote a = subst (λ (z : FrameSet). Settled z xs at d (ReadBytes dom frame off len) answer new) wrote a
+settled-before fs gs xs new at x d call (WriteBytes dom frame off len) answer wrote a = a
+settled-before fs gs xs new at x d call (CopyBytes from to len) answer wrote a = a
+settled-before fs gs xs new at x d call (LookHeader dom) answer wrote a = a
+settled-before fs gs xs new at x d call (LookControl dom gref) answer wrote a = a
+settled-before fs gs xs new at x d call (LookBody dom gref half) answer wrote a = a
+settled-before fs gs xs new at x d call (PinStep p) answer wrote a = a
+settled-before fs gs xs new at x d call (Unpin p holder) answer wrote a = a
+settled-before fs gs xs new at x d call (StoreBody gref half word) answer wrote a = a
+settled-before fs gs xs new at x d call (StoreHeader version frames) answer wrote a = a
+settled-before fs gs xs new at x d call (Exchange gref looked change) answer wrote a = a

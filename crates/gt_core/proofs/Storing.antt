@@ -26,11 +26,11 @@ use Rattle.gt_core.specs.States.{State, state_of, changed_in}
 use Rattle.gt_core.specs.Effects.{with_slot, slot_after}
 use Rattle.gt_core.specs.History.{History, Setting, Pin, entry_at, generation_at, body_at, reads_at, writes_at, control_at, same_half, or_else, stored_at, is_pin_on, open_call}
 use Rattle.gt_core.specs.Legal.{IsSpelled}
-use Rattle.gt_core.specs.Standing.{IsLawful, FitsTable, FitsWord, SlotAgrees, Agrees, CoreStands, CallAgrees, GivenAgrees}
+use Rattle.gt_core.specs.Standing.{IsLawful, FitsTable, FitsWord, SlotAgrees, Agrees, DomainsStand, CallAgrees, GivenAgrees}
 use Rattle.gt_core.proofs.Rows.{get-changed, length-changed}
 use Rattle.gt_core.proofs.Quiet.{KeepsKnown, kept-entry, kept-raises, kept-live, kept-table, kept-generations}
 use Rattle.gt_core.proofs.Others.{other-body}
-use Rattle.gt_core.proofs.Keeping.{stepped, SlotsAgree, becomes-changed, each-stands, other-agrees, frames-stay, filled-stays, mappings-stay, same-number}
+use Rattle.gt_core.proofs.Keeping.{stepped, SlotsAgree, becomes-changed, each-stands, other-agrees, mappings-stay, same-number}
 
 -- the item of a store
 abbrev pub stores : DomId → GrantRef → Half → ℕ → Item
@@ -138,28 +138,26 @@ store-agrees s h x gref half word o a call given =
       room = length-changed x.slots gref.0 (slot_after (Stored half word)) ∙ a.room;
       slots = slots-stored x.id gref half word h x.slots a.slots;
       mappings = mappings-stay i h x.id.0 x.mappings k a.mappings;
-      frames = frames-stay s i h x.id x.frames (λ given contents. refl) a.frames;
       call = call;
       given = given;
     }
 
 -- a body word stored on an invalid entry keeps what the core stands for
-pub store-stands : (s : Setting) (h : History) (xs ys : List State) (x : State) (gref : GrantRef) (half : Half) (word : ℕ) (o : Option Open) → CoreStands s h xs
+pub store-stands : (s : Setting) (h : History) (xs ys : List State) (x : State) (gref : GrantRef) (half : Half) (word : ℕ) (o : Option Open) → DomainsStand s h xs
     → state_of xs x.id.0 ≡ Some x → Agrees s h x → entry_at h x.id.0 gref.0 ≡ Invalid → ((q : ℕ) → state_of ys q ≡ cond (x.id.0 == q) (Some (record x { underway = o })) (state_of xs q))
     → CallAgrees s (stores x.id gref half word ∷ h) x.id o (open_call (stores x.id gref half word ∷ h) x.id.0) → GivenAgrees (stores x.id gref half word ∷ h) x.id.0 x.given
-    → CoreStands s (stores x.id gref half word ∷ h) (changed_in x.id.0 (with_slot gref.0 (Stored half word)) ys)
+    → DomainsStand s (stores x.id gref half word ∷ h) (changed_in x.id.0 (with_slot gref.0 (Stored half word)) ys)
 store-stands s h xs ys x gref half word o st here a invalid becomes call given =
     record {
       each = each-stands s i h xs _ x (record x { underway = o }) x.id.0 (with_slot gref.0 (Stored half word)) st here
           (becomes-changed xs ys x (record x { underway = o }) x.id.0 (with_slot gref.0 (Stored half word)) (λ y. refl) becomes) refl (λ y. refl)
           (subst (λ (b : Bool). Agrees s (i ∷ h) (cond b (with_slot gref.0 (Stored half word) (record x { underway = o })) (record x { underway = o }))) (sym (same-number x.id.0)) (store-agrees s h x gref half word o a call given))
           (λ y apart b. subst (λ (c : Bool). Agrees s (i ∷ h) (cond c (with_slot gref.0 (Stored half word) y) y)) (sym apart)
-          (other-agrees s i h y y.slots y.frames apart b b.room (λ r slot e. slot-same x.id gref half word y.id.0 r h slot (λ which. other-body i h y.id.0 r which apart) (b.slots r slot e)) (frames-stay s i h y.id y.frames (λ given contents. refl) b.frames)));
+          (other-agrees s i h y y.slots apart b b.room (λ r slot e. slot-same x.id gref half word y.id.0 r h slot (λ which. other-body i h y.id.0 r which apart) (b.slots r slot e))));
       tables = λ dom. subst FitsTable (sym (kept-table s i h dom refl)) (st.tables dom);
       words = λ t r within. subst FitsWord (sym (kept-control t r)) (st.words t r within);
       entries = λ t r. subst IsEntry (sym (kept-entry i h t r k)) (st.entries t r);
       lawful = subst (All (IsLawful s)) (sym (kept-live i h k)) st.lawful;
-      filled = filled-stays s i h xs (λ given contents. refl) st;
       free = λ t r e. let was = st.free t r (sym (kept-entry i h t r k) ∙ e) in
           (ap (λ (ps : List Pin). count_by (is_pin_on t r Read) ps) (kept-live i h k) ∙ was.0, ap (λ (ps : List Pin). count_by (is_pin_on t r Write) ps) (kept-live i h k) ∙ was.1);
       spelled = λ t r valid. spelled t r (λ e. valid (kept-entry i h t r k ∙ e));

@@ -9,13 +9,13 @@ use Rattle.gt_handles.specs.Handles.{value_of}
 use Rattle.gt_calls.specs.declared.held.Held.{Held}
 use Rattle.gt_core.specs.States.{State}
 use Rattle.gt_core.specs.History.{History, Setting, mapping_of, mappings_at}
-use Rattle.gt_core.specs.Standing.{CoreStands}
+use Rattle.gt_core.specs.Standing.{DomainsStand}
 use Rattle.gt_core.specs.Subject.{place_of, subject_at}
 use Rattle.gt_core.proofs.Places.{has_id}
 use Rattle.gt_core.proofs.Beginning.{begin-nowhere, agrees-found}
 
 -- no domain has the number
-pub subject-nowhere : (s : Setting) (h : History) (xs : List State) (dom : DomId) (handle : Handle) → position (has_id dom.0) xs ≡ None → CoreStands s h xs → None ≡ subject_at s h dom handle
+pub subject-nowhere : (s : Setting) (h : History) (xs : List State) (dom : DomId) (handle : Handle) → position (has_id dom.0) xs ≡ None → DomainsStand s h xs → None ≡ subject_at s h dom handle
 subject-nowhere s h xs dom handle p st =
     sym (ap (λ (o : Option DomainConfig). cond (is_some o) (option_map place_of (mapping_of (mappings_at h dom.0) handle)) None) (begin-nowhere s h xs dom p st))
 
@@ -24,7 +24,7 @@ some-domain None n = absurd (n refl)
 some-domain (Some d) n = refl
 
 -- a domain of the run
-pub subject-there : (s : Setting) (h : History) (xs : List State) (dom : DomId) (handle : Handle) (at : ℕ) (x : State) → position (has_id dom.0) xs ≡ Some at → x ≡ get_or xs at x → CoreStands s h xs
+pub subject-there : (s : Setting) (h : History) (xs : List State) (dom : DomId) (handle : Handle) (at : ℕ) (x : State) → position (has_id dom.0) xs ≡ Some at → x ≡ get_or xs at x → DomainsStand s h xs
     → option_map place_of (value_of x.mappings handle) ≡ subject_at s h dom handle
 subject-there s h xs dom handle at x p here st =
     let a = agrees-found s h xs dom at x p here st in

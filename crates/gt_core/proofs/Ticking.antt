@@ -47,8 +47,8 @@ use Rattle.gt_core.specs.States.{State, state_of}
 use Rattle.gt_core.specs.Sight.{sees}
 use Rattle.gt_core.specs.History.{History, Setting, Pin, live, entry_at, generation_at, word_at, table_at, known_at, legs_at, mappings_at, mapping_of, maps_answered_at, seen_by, Underway, values, open_call, underway_after, holder_after, one_if_mapped}
 use Rattle.gt_core.specs.Legal.{StepsSoFar, StepsRight, Justified, IsSafe, PinIsSound, AnsweredBy, GivesValue, LeavesAll, IsSpelled, gives_back, verdict_in, refusal_in, refusal_of, refusal_if, or_then, first_of_item, first_in_call, stood, most_steps}
-use Rattle.gt_core.specs.Standing.{CoreStands, Agrees, OpenAgrees, GivenAgrees, FitsGiven, PhaseStands, IsClean, phase_refusal, numbered}
-use Rattle.gt_core.proofs.Quiet.{KeepsKnown, WritesNone, kept-known, kept-legs}
+use Rattle.gt_core.specs.Standing.{DomainsStand, Agrees, OpenAgrees, GivenAgrees, FitsGiven, PhaseStands, IsClean, phase_refusal, numbered}
+use Rattle.gt_core.proofs.Quiet.{KeepsKnown, kept-known, kept-legs}
 use Rattle.gt_core.proofs.Seeing.{sees-agree}
 use Rattle.gt_core.proofs.Phases.{IsHere, makes-same, step-within, step-publishes, seen-fits}
 use Rattle.gt_core.proofs.Judging.{judged}
@@ -65,7 +65,7 @@ use Rattle.gt_core.proofs.Outcomes.{next_of, IsSingle, single-ends, taken-ends, 
 
 -- what is known of a step of an open call, which saw what the history left
 pub record Ticks (s : Setting) (h : History) (xs : List State) (x : State) (o : Open) (c : Underway) (new : Call) (action : Action) : Type 0 where
-  pub st : CoreStands s h xs
+  pub st : DomainsStand s h xs
   pub here : state_of xs x.id.0 ≡ Some x
   pub agrees : Agrees s h x
   pub call : open_call h x.id.0 ≡ Some c
@@ -81,7 +81,7 @@ pub record Ticks (s : Setting) (h : History) (xs : List State) (x : State) (o : 
   pub acts : action ≡ action_at x.id (next_of s h x.id stands.phase o.step)
   pub holds : HoldsAfter o.step (seen_by s h x.id o.step) (held_in stands.phase) (held_in (next_of s h x.id stands.phase o.step)) action
 
-pub here-of : (s : Setting) (h : History) (xs : List State) (x : State) (o : Open) (c : Underway) → CoreStands s h xs → state_of xs x.id.0 ≡ Some x → (a : OpenAgrees s h x.id o c)
+pub here-of : (s : Setting) (h : History) (xs : List State) (x : State) (o : Open) (c : Underway) → DomainsStand s h xs → state_of xs x.id.0 ≡ Some x → (a : OpenAgrees s h x.id o c)
     → IsHere s h xs x.id c.request (values c) (reverse c.steps) a.phase o.step
 here-of s h xs x o c st here a =
     record { st = st; own = λ e. none-some x (sym e ∙ here); at = a.at; acts = a.acts; place = a.place; held = a.held; rests = a.rests; fits = a.fits }
@@ -93,7 +93,7 @@ call-is call d r p a b e =
     ∙ ap (λ (z : Asked). record { caller = d; request = z; phase = call.phase }) b
     ∙ ap (λ (z : Option Phase). record { caller = d; request = r; phase = z }) e
 
-pub ticks : (s : Setting) (h : History) (xs : List State) (x : State) (o : Open) (c : Underway) (seen : Seen) (new : Call) (action : Action) → CoreStands s h xs → state_of xs x.id.0 ≡ Some x → Agrees s h x → open_call h x.id.0 ≡ Some c
+pub ticks : (s : Setting) (h : History) (xs : List State) (x : State) (o : Open) (c : Underway) (seen : Seen) (new : Call) (action : Action) → DomainsStand s h xs → state_of xs x.id.0 ≡ Some x → Agrees s h x → open_call h x.id.0 ≡ Some c
     → OpenAgrees s h x.id o c → seen ≡ sees xs x.id o.step → new.caller ≡ o.call.caller → new.request ≡ o.call.request
     → Goes (knowledge_of s.domains s.first_generation s.may x.own x.header x.mappings) o.call seen new action → (seen ≡ seen_by s h x.id o.step) × Ticks s h xs x o c new action
 ticks s h xs x o c seen new action st here agrees call a saw caller asks goes =

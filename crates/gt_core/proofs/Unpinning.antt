@@ -26,11 +26,11 @@ use Rattle.gt_core.specs.Rows.{changed_at}
 use Rattle.gt_core.specs.States.{State, state_of, changed_in}
 use Rattle.gt_core.specs.Effects.{with_slot, without_mapping, slot_after, taken}
 use Rattle.gt_core.specs.History.{History, Setting, Pin, live, body_at, reads_at, writes_at, mappings_at, maps_answered_at, legs_at, open_call, is_pin_on, without, is_holder, same_handle, same_dir, gather, by_mapping, by_leg, mapping_of, one_if_mapped}
-use Rattle.gt_core.specs.Standing.{IsLawful, SlotAgrees, Agrees, CoreStands, CallAgrees, GivenAgrees, MappingsAgree, numbered}
+use Rattle.gt_core.specs.Standing.{IsLawful, SlotAgrees, Agrees, DomainsStand, CallAgrees, GivenAgrees, MappingsAgree, numbered}
 use Rattle.gt_core.proofs.Mappings.{less, mappings-taken, mappings-same}
 use Rattle.gt_core.proofs.Rows.{state-changed}
 use Rattle.gt_core.proofs.Pinning.{answered-stays}
-use Rattle.gt_core.proofs.Keeping.{stepped, SlotsAgree, KeepsEntries, same-body, actor-agrees, other-agrees, slots-agree, length-slots, counts-fit, after_change, Becomes, becomes-changed, each-stands, keeps-stands, frames-stay, filled-stays}
+use Rattle.gt_core.proofs.Keeping.{stepped, SlotsAgree, KeepsEntries, same-body, actor-agrees, other-agrees, slots-agree, length-slots, counts-fit, after_change, Becomes, becomes-changed, each-stands, keeps-stands}
 
 -- what an unpin takes from the live pins
 
@@ -341,11 +341,11 @@ le-zero : (a b : ℕ) → a ≤ b → b ≡ 0 → a ≡ 0
 le-zero a b e f = omega arith
 
 -- a live pin that is given back keeps what the core stands for, where the domain's mappings are those that it then has
-pub unpin-stands : (s : Setting) (h : History) (xs zs : List State) (x : State) (p : Held) (holder : Holder) (seen : Seen) (answer : Option Answer) (kept : Kept Held) (o : Option Open) → CoreStands s h xs
+pub unpin-stands : (s : Setting) (h : History) (xs zs : List State) (x : State) (p : Held) (holder : Holder) (seen : Seen) (answer : Option Answer) (kept : Kept Held) (o : Option Open) → DomainsStand s h xs
     → state_of xs x.id.0 ≡ Some x → Agrees s h x → Becomes xs zs x (record x { mappings = kept; underway = o }) p.dom.0 (with_slot p.gref.0 (Unpinned p.dir)) → Loses p (live h) (without x.id.0 holder (live h))
     → MappingsAgree kept (mappings_at (unpins x.id p holder seen answer ∷ h) x.id.0) (maps_answered_at (unpins x.id p holder seen answer ∷ h) x.id.0)
     → CallAgrees s (unpins x.id p holder seen answer ∷ h) x.id o (open_call (unpins x.id p holder seen answer ∷ h) x.id.0) → GivenAgrees (unpins x.id p holder seen answer ∷ h) x.id.0 x.given
-    → CoreStands s (unpins x.id p holder seen answer ∷ h) zs
+    → DomainsStand s (unpins x.id p holder seen answer ∷ h) zs
 unpin-stands s h xs zs x p holder seen answer kept o st here a becomes loses maps call given =
     keeps-stands s i h xs zs keeps st
     (each-stands s i h xs zs x new p.dom.0 (with_slot p.gref.0 (Unpinned p.dir)) st here becomes refl (λ y. refl) (mine (p.dom.0 == x.id.0) refl) (λ y apart b. other y apart b (p.dom.0 == y.id.0) refl))
@@ -354,7 +354,6 @@ unpin-stands s h xs zs x p holder seen answer kept o st here a becomes loses map
     (le-lt (reads_at (i ∷ h) t r) (reads_at h t r) 4096 (shrunk-le h i p t r Read shrinks) was.0, le-lt (writes_at (i ∷ h) t r) (writes_at h t r) 4096 (shrunk-le h i p t r Write shrinks) was.1))
     (λ t r none. let was = st.free t r none in
     (le-zero (reads_at (i ∷ h) t r) (reads_at h t r) (shrunk-le h i p t r Read shrinks) was.0, le-zero (writes_at (i ∷ h) t r) (writes_at h t r) (shrunk-le h i p t r Write shrinks) was.1))
-    (filled-stays s i h xs (λ given contents. refl) st)
   where
     i : Item
     i = unpins x.id p holder seen answer
@@ -375,16 +374,15 @@ unpin-stands s h xs zs x p holder seen answer kept o st here a becomes loses map
     mine : (b : Bool) → (p.dom.0 == x.id.0) ≡ b → Agrees s (i ∷ h) (cond b (with_slot p.gref.0 (Unpinned p.dir) new) new)
     mine b is =
         subst (Agrees s (i ∷ h)) (picked new b)
-        (actor-agrees s i h x (cond b (changed_at p.gref.0 (slot_after (Unpinned p.dir)) x.slots) x.slots) kept x.frames o x.given keeps a
+        (actor-agrees s i h x (cond b (changed_at p.gref.0 (slot_after (Unpinned p.dir)) x.slots) x.slots) kept o x.given keeps a
         (length-slots p.gref.0 (slot_after (Unpinned p.dir)) x.slots b a.room) (unpinned-slots h i p x.id.0 x.slots b keeps shrinks is a.slots)
-        maps (frames-stay s i h x.id x.frames (λ given contents. refl) a.frames) call given)
+        maps call given)
 
     other : (y : State) → (x.id.0 == y.id.0) ≡ false → Agrees s h y → (b : Bool) → (p.dom.0 == y.id.0) ≡ b → Agrees s (i ∷ h) (cond b (with_slot p.gref.0 (Unpinned p.dir) y) y)
     other y apart c b is =
         subst (Agrees s (i ∷ h)) (picked y b)
-        (other-agrees s i h y (cond b (changed_at p.gref.0 (slot_after (Unpinned p.dir)) y.slots) y.slots) y.frames apart c
-        (length-slots p.gref.0 (slot_after (Unpinned p.dir)) y.slots b c.room) (unpinned-slots h i p y.id.0 y.slots b keeps shrinks is c.slots)
-        (frames-stay s i h y.id y.frames (λ given contents. refl) c.frames))
+        (other-agrees s i h y (cond b (changed_at p.gref.0 (slot_after (Unpinned p.dir)) y.slots) y.slots) apart c
+        (length-slots p.gref.0 (slot_after (Unpinned p.dir)) y.slots b c.room) (unpinned-slots h i p y.id.0 y.slots b keeps shrinks is c.slots))
 
 -- the states after an unpin: the mapping goes too, where it is of one
 pub becomes-unpinned : (xs ys : List State) (x : State) (p : Held) (holder : Holder) (o : Option Open) → ((q : ℕ) → state_of ys q ≡ cond (x.id.0 == q) (Some (record x { underway = o })) (state_of xs q))

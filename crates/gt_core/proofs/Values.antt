@@ -47,7 +47,7 @@ use Rattle.gt_core.specs.declared.trace.Answer.TheVariants.{Done as AnswerDone, 
 use Rattle.gt_core.specs.States.{State}
 use Rattle.gt_core.specs.History.{History, Setting, word_at, table_at, known_at, seen_by}
 use Rattle.gt_core.specs.Legal.{StepsSoFar, GivesValue}
-use Rattle.gt_core.specs.Standing.{CoreStands, PhaseStands, EndsAfter, EndsCopy, Asks, answer_with}
+use Rattle.gt_core.specs.Standing.{DomainsStand, PhaseStands, EndsAfter, EndsCopy, Asks, answer_with}
 use Rattle.gt_core.proofs.Fitting.{table-fits}
 use Rattle.gt_core.proofs.Phases.{IsHere, makes-same}
 use Rattle.gt_core.proofs.Outcomes.{next_of, walk-done}
@@ -141,7 +141,7 @@ granted-value s h xs d r shown so_far phase step i read next = by phase i.at.has
 
 -- a call that is answered with a value
 
-told-value : (s : Setting) (h : History) (xs : List State) (d : DomId) (r : Asked) (dom : DomId) (question : Question) (value : Value) → CoreStands s h xs → Asks d r dom question → told question (header_word (table_at s h dom)) ≡ Given value
+told-value : (s : Setting) (h : History) (xs : List State) (d : DomId) (r : Asked) (dom : DomId) (question : Question) (value : Value) → DomainsStand s h xs → Asks d r dom question → told question (header_word (table_at s h dom)) ≡ Given value
     → GivesValue s h d r (Some (LookHeader dom)) (answer_with value)
 told-value s h xs d r dom AsksSize value st a e =
     let v : SizeTold (record { frames = (header_of (header_word (table_at s h dom))).frames; max = Rattle.gt_types.specs.declared.limits.TheConstants.MAX_TABLE_FRAMES }) ≡ value = cc in

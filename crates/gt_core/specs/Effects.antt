@@ -1,6 +1,5 @@
 -- What a step does to the states of the domains: the code's own representation, which stands here since private contracts cite it.
-use Rattle.std.specs.Prelude.{ℕ, List, [], Option, Some, None, if◌then◌else◌, nat_le, ◌+◌, ◌-◌, ◌%◌, length, min, take, drop, slice_get, is_some, ◌≡◌, slice_set}
-use Rattle.gt_frames.specs.Bytes.{overlay}
+use Rattle.std.specs.Prelude.{ℕ, List, [], Option, Some, None, if◌then◌else◌, ◌+◌, ◌-◌, ◌%◌, min, is_some, ◌≡◌, slice_set}
 use Rattle.gt_types.specs.declared.DomId.{DomId}
 use Rattle.gt_types.specs.declared.limits.TheConstants.{MAX_PINS}
 use Rattle.gt_types.specs.declared.Dir.TheVariants.{Read, Write}
@@ -9,7 +8,7 @@ use Rattle.gt_calls.specs.declared.request.Holder.{Holder}
 use Rattle.gt_calls.specs.declared.request.Holder.TheVariants.{Mapping as ByMapping, Leg as ByLeg}
 use Rattle.gt_entry.specs.declared.change.Change.{Change}
 use Rattle.gt_calls.specs.declared.action.Step.{Step}
-use Rattle.gt_calls.specs.declared.action.Step.TheVariants.{Pin, Unpin, StoreBody, StoreHeader, Exchange, Copy as CopyBytes}
+use Rattle.gt_calls.specs.declared.action.Step.TheVariants.{Pin, Unpin, StoreBody, StoreHeader, Exchange}
 use Rattle.gt_calls.specs.declared.action.Seen.{Seen}
 use Rattle.gt_calls.specs.declared.action.Seen.TheVariants.{Taken}
 use Rattle.gt_calls.specs.declared.held.Held.{Held}
@@ -52,18 +51,6 @@ with_underway underway x = record x { underway = underway }
 abbrev pub with_call : Open → List ℕ → State → State
 with_call call given x = record x { underway = Some call; given = given }
 
--- the state after its call is over, and the bytes given to it are gone (own)
-abbrev pub without_given : State → State
-without_given x = record x { underway = None; given = [] }
-
--- the bytes of a frame with these laid over them, where they have room (own)
-abbrev pub written_over : ℕ → List ℕ → List ℕ → List ℕ
-written_over off given old = if nat_le (off + length given) (length old) then overlay old off given else old
-
--- the state with these bytes written to a frame (own)
-abbrev pub with_bytes : ℕ → ℕ → List ℕ → State → State
-with_bytes frame off given x = record x { frames = changed_at frame (written_over off given) x.frames }
-
 -- these handles are the old ones and a new one, under the next serial, which names this mapping (own)
 pub record Adds (old new : Kept Held) (handle : Handle) (m : Held) : Type 0 where
   pub serial : handle.serial ≡ old.given
@@ -85,36 +72,11 @@ abbrev pub without_mapping : Holder → State → State
 without_mapping (ByMapping handle) x = record x { mappings = taken handle x.mappings }
 without_mapping (ByLeg number) x = x
 
--- the bytes of a frame, none where there is no such frame (own)
-abbrev pub or_none : Option (List ℕ) → List ℕ
-or_none None = []
-or_none (Some bytes) = bytes
-
--- the bytes of frame f in this state, none where there is no such frame or state (own)
-abbrev pub frame_in : Option State → ℕ → List ℕ
-frame_in None f = []
-frame_in (Some x) f = or_none (slice_get x.frames f)
-
--- the bytes of a range in frame f of domain t (own)
-abbrev pub bytes_in : List State → ℕ → ℕ → ℕ → ℕ → List ℕ
-bytes_in xs t f off len = take len (drop off (frame_in (state_of xs t) f))
-
--- the bytes that a copy writes: those of its source range (own)
-abbrev pub copied_by : List State → Step → List ℕ
-copied_by xs (CopyBytes from to len) = bytes_in xs from.owner.0 from.frame from.off len
-copied_by xs step = []
-
--- the states after a step of domain d that saw this; a copy writes these bytes (own)
-abbrev pub applied : DomId → Step → Seen → List ℕ → List State → List State
-applied d (Pin p) Taken bytes xs = changed_in p.dom.0 (with_slot p.gref.0 (Pinned p.dir)) xs
-applied d (Unpin p holder) seen bytes xs = changed_in d.0 (without_mapping holder) (changed_in p.dom.0 (with_slot p.gref.0 (Unpinned p.dir)) xs)
-applied d (StoreBody gref half word) seen bytes xs = changed_in d.0 (with_slot gref.0 (Stored half word)) xs
-applied d (StoreHeader version frames) seen bytes xs = changed_in d.0 (with_header version frames) xs
-applied d (Exchange gref looked change) Taken bytes xs = changed_in d.0 (with_own gref.0 change) xs
-applied d (CopyBytes from to len) seen bytes xs = changed_in to.owner.0 (with_bytes to.frame to.off bytes) xs
-applied d step seen bytes xs = xs
-
--- the step is a copy's access (own)
-abbrev pub IsCopy : Step → Type 0
-IsCopy (CopyBytes from to len) = Unit {0}
-IsCopy step = ⊥
+-- the states after a step of domain d that saw this (own)
+abbrev pub applied : DomId → Step → Seen → List State → List State
+applied d (Pin p) Taken xs = changed_in p.dom.0 (with_slot p.gref.0 (Pinned p.dir)) xs
+applied d (Unpin p holder) seen xs = changed_in d.0 (without_mapping holder) (changed_in p.dom.0 (with_slot p.gref.0 (Unpinned p.dir)) xs)
+applied d (StoreBody gref half word) seen xs = changed_in d.0 (with_slot gref.0 (Stored half word)) xs
+applied d (StoreHeader version frames) seen xs = changed_in d.0 (with_header version frames) xs
+applied d (Exchange gref looked change) Taken xs = changed_in d.0 (with_own gref.0 change) xs
+applied d step seen xs = xs

@@ -1,3 +1,4 @@
+pub mod Accesses
 pub mod Alike
 pub mod Effects
 pub mod History

@@ -34,23 +34,30 @@ use Rattle.gt_core.specs.declared.trace.Bytes.{Bytes}
 use Rattle.gt_handles.specs.declared.handles.Handle.{Handle}
 use Rattle.gt_calls.specs.declared.action.Step.{Step}
 use Rattle.gt_calls.specs.declared.action.Step.TheVariants.{StoreHeader, Read as ReadBytes, Write as WriteBytes, Copy as CopyBytes}
-use Rattle.gt_core.specs.Effects.{with_underway, bytes_in, without_given, with_bytes}
+use Rattle.gt_core.specs.Effects.{with_underway}
+use Rattle.gt_core.specs.Accesses.{IsWriting}
+use Rattle.gt_frames.specs.declared.places.FrameName.{FrameName}
+use Rattle.gt_frames.specs.Frames.{patches, bytes_at}
+use Rattle.gt_frames.specs.Places.{frame_counts}
+use Rattle.gt_frames.specs.Sets.{FrameSet, frame_at, AreKept}
 use Rattle.gt_handles.specs.Handles.{Kept, value_of as mapping_under, count_of}
 use Rattle.gt_calls.specs.declared.held.Held.{Held}
 use Rattle.std.proofs.Math.ListN.{set}
 use Rattle.gt_core.specs.declared.trace.Happened.TheVariants.{Began, Stepped}
+use Rattle.gt_core.specs.declared.trace.Event.{Event}
 use Rattle.gt_core.specs.declared.trace.Element.{Element}
 use Rattle.gt_core.specs.declared.trace.Element.TheVariants.{Busy, Idle, NoDomain, Item as Did}
-pub use Rattle.gt_core.specs.States.{State, state_of, first_state, changed_in, asks_memory, IsMapping}
+pub use Rattle.gt_core.specs.States.{State, CoreState, core_of, state_of, first_state, changed_in, asks_memory, IsMapping}
 use Rattle.gt_core.specs.declared.slot.Slot.{Slot}
 use Rattle.gt_core.specs.declared.slot.Open.{Open}
 use Rattle.gt_core.specs.declared.core_state.Begun.{Begun}
 use Rattle.gt_core.specs.declared.core_state.Begun.TheVariants.{Open as BegunOpen, Done as BegunDone, Busy as BegunBusy, NoDomain as BegunNoDomain}
 use Rattle.gt_core.specs.declared.core_state.Ticked.{Ticked}
 use Rattle.gt_core.specs.declared.core_state.Ticked.TheVariants.{Step as TickedStep, Done as TickedDone, Idle as TickedIdle, NoDomain as TickedNoDomain}
-use Rattle.gt_core.specs.declared.core_state.Opening.{Opening}
-use Rattle.gt_core.specs.declared.core_state.Opening.TheVariants.{Open as OpeningOpen, Done as OpeningDone}
-use Rattle.gt_calls.specs.Rules.{CallerKnowledge, begun, entry_in, generation_in, first_look, first_body, is_kind, frames_of, control_with}
+use Rattle.gt_core.specs.declared.machine.Machine.{Machine}
+use Rattle.gt_core.specs.declared.machine.Opening.{Opening}
+use Rattle.gt_core.specs.declared.machine.Opening.TheVariants.{Open as OpeningOpen, Done as OpeningDone}
+use Rattle.gt_calls.specs.Rules.{CallerKnowledge, knowledge_of, begun, entry_in, generation_in, first_look, first_body, is_kind, frames_of, control_with}
 use Rattle.gt_calls.specs.Path.{path, rule_of_try}
 use Rattle.gt_calls.specs.declared.leg.TheConstants.{MORE_TRIES}
 use Rattle.gt_entry.specs.Spelling.{entry_of}
@@ -77,8 +84,8 @@ use Rattle.gt_calls.specs.declared.leg.LegPhase.{LegPhase}
 use Rattle.gt_calls.specs.declared.leg.LegPhase.TheVariants.{Header as AtHeader, Look, Body, Second, Pinning, Relook}
 use Rattle.gt_calls.specs.declared.call.Phase.{Phase}
 use Rattle.gt_calls.specs.declared.call.Phase.TheVariants.{Storing, StoringSecond, Exchanging, Looking, Changing, Walking, Accessing, Asking, Last, Ending}
-use Rattle.gt_core.specs.History.{History, Setting, Pin, live, entry_at, generation_at, body_at, table_at, reads_at, writes_at, control_at, contents_at, known_at, maps_answered_at, mappings_at, mapping_of, legs_at, frame_of, Underway, open_call, values}
-use Rattle.gt_core.specs.Legal.{LeavesAll, MayUse, IsSpelled, stood, StepsSoFar, misses, looked_at, is_in_body, refusal_in}
+use Rattle.gt_core.specs.History.{History, Setting, Pin, live, entry_at, generation_at, body_at, table_at, reads_at, writes_at, control_at, patches_at, contents_at, known_at, maps_answered_at, mappings_at, mapping_of, legs_at, frame_of, Underway, open_call, values}
+use Rattle.gt_core.specs.Legal.{MayDo, grown, LeavesAll, MayUse, IsSpelled, stood, StepsSoFar, misses, looked_at, is_in_body, refusal_in}
 
 -- a call opens so: no rule stands at its beginning, and it is about to make its first step (own)
 pub record IsOpened (k : CallerKnowledge) (dom : DomId) (request : Request) (o : Open) : Type 0 where
@@ -130,20 +137,24 @@ ticked_element dom TickedNoDomain = NoDomain
 abbrev pub setting_of : Config → (TypeId → TypeId → Perms → Bool) → Setting
 setting_of config may = record { domains = config.domains.items; first_generation = config.first_gen; may = may }
 
--- a request for so many bytes (own)
-abbrev pub IsLoadOf : Asked → ℕ → Type 0
-IsLoadOf (Load handle off len) n = len ≡ n
-IsLoadOf (Peek frame off len) n = len ≡ n
-IsLoadOf request n = ⊥
+-- the setting of a machine's run, where this is what its policy allows by its rights (own)
+abbrev pub setting_by : {P : Type 0} → (P → TypeId → TypeId → Perms → Bool) → Machine P → Setting
+setting_by may m = setting_of m.config (may m.rights)
 
--- a call that nothing stood against is over after this last step: its answer, and the states (own)
-abbrev pub Settled : List State → ℕ → State → Open → Step → Answer → List State → Type 0
-Settled xs at d o (ReadBytes dom frame off len) answer new =
+-- what a machine keeps (own)
+abbrev pub state_by : {P : Type 0} → Machine P → CoreState
+state_by m = core_of m.domains.items m.frames
+
+-- what a call of this domain knows in a machine (own)
+abbrev pub known_by : {P : Type 0} → (P → TypeId → TypeId → Perms → Bool) → Machine P → State → CallerKnowledge
+known_by may m d = knowledge_of m.config.domains.items m.config.first_gen (may m.rights) d.own d.header d.mappings
+
+-- a call that nothing stood against is over after this last step: its answer, and the states; a read gives what the frame holds (own)
+abbrev pub Settled : FrameSet → List State → ℕ → State → Step → Answer → List State → Type 0
+Settled fs xs at d (ReadBytes dom frame off len) answer new =
     (b : Bytes) × (answer ≡ BytesAnswer b) × (new ≡ set xs at (with_underway None d))
-    × ((n : ℕ) → IsLoadOf o.call.request n → length (bytes_in new dom.0 frame off n) ≡ n → b.bytes.items ≡ bytes_in new dom.0 frame off n)
-Settled xs at d o (WriteBytes dom frame off len) answer new =
-    (answer ≡ AnswerDone) × (new ≡ changed_in dom.0 (with_bytes frame off d.given) (set xs at (without_given d)))
-Settled xs at d o step answer new = (answer ≡ AnswerDone) × (new ≡ set xs at (with_underway None d))
+    × (b.bytes.items ≡ bytes_at (frame_at fs (record { owner = dom; number = frame })) off len)
+Settled fs xs at d step answer new = (answer ≡ AnswerDone) × (new ≡ set xs at (with_underway None d))
 
 -- a run can't start for this reason: the first fault of its configuration, or want of memory where that has none (own)
 abbrev pub IsStartFaultOf : Config → StartFault → Type 0
@@ -154,14 +165,14 @@ IsStartFaultOf config NoMemory = IsWithinLimits config
 abbrev pub WantsMemory : Setting → History → DomId → Request → Type 0
 WantsMemory s h d request = (asks_memory (asked request) ≡ true) × (domain_of s.domains d ≢ None) × (open_call h d.0 ≡ None) × (begun_of (known_at s h d) d request ≡ None)
 
--- the action is a copy's access (own)
-abbrev pub IsCopying : Option Action → Type 0
-IsCopying (Some (Makes (CopyBytes from to len))) = Unit {0}
-IsCopying action = ⊥
+-- the action is an access that writes: of a store, a poke or a copy (own)
+abbrev pub IsWritingNext : Option Action → Type 0
+IsWritingNext (Some (Makes step)) = IsWriting step
+IsWritingNext action = ⊥
 
--- memory can be wanted where the domain's open call is about to copy (own)
+-- memory can be wanted where the domain's open call is about to write bytes, whose frame keeps a record of them (own)
 abbrev pub WantsMemoryNow : Setting → History → DomId → Type 0
-WantsMemoryNow s h d = (c : Underway) × (open_call h d.0 ≡ Some c) × IsCopying (path (known_at s h d) d c.request (values c))
+WantsMemoryNow s h d = (c : Underway) × (open_call h d.0 ≡ Some c) × IsWritingNext (path (known_at s h d) d c.request (values c))
 
 -- what a call has seen
 
@@ -308,7 +319,6 @@ pub record Agrees (s : Setting) (h : History) (d : State) : Type 0 where
   pub room : length d.slots ≡ TABLE_ENTRIES
   pub slots : (r : ℕ) (slot : Slot) → slice_get d.slots r ≡ Some slot → SlotAgrees h d.id.0 r slot
   pub mappings : MappingsAgree d.mappings (mappings_at h d.id.0) (maps_answered_at h d.id.0)
-  pub frames : (f : ℕ) → f < frames_of s.domains d.id → slice_get d.frames f ≡ Some (contents_at h d.id.0 f)
   pub call : CallAgrees s h d.id d.underway (open_call h d.id.0)
   pub given : GivenAgrees h d.id.0 d.given
 
@@ -338,13 +348,46 @@ pub record FitsWord (c : Control) : Type 0 where
   pub in_range : IsInRange c
   pub domain : c.dom.0 < 65536
 
--- the core stands for the history (own)
-pub record CoreStands (s : Setting) (h : History) (domains : List State) : Type 0 where
+-- the domains of the run are as the history leaves them (own)
+pub record DomainsStand (s : Setting) (h : History) (domains : List State) : Type 0 where
   pub each : (dom : DomId) → StateAgrees s h dom (state_of domains dom.0)
   pub tables : (dom : DomId) → FitsTable (table_at s h dom)
   pub words : (t r : ℕ) → r < TABLE_ENTRIES → FitsWord (control_at s h t r)
   pub entries : (t r : ℕ) → IsEntry (entry_at h t r)
   pub lawful : All (IsLawful s) (live h)
   pub free : (t r : ℕ) → entry_at h t r ≡ Invalid → (reads_at h t r ≡ 0) × (writes_at h t r ≡ 0)
-  pub filled : (t f : ℕ) → length (contents_at h t f) ≡ FRAME_SIZE
   pub spelled : (t r : ℕ) → entry_at h t r ≢ Invalid → IsSpelled (entry_at h t r) (body_at h t r FirstHalf) (body_at h t r SecondHalf)
+
+-- there are the frames of the run; each was written as the history tells, so that it holds what the history left in it, and has its size; and each write to it was by right (own)
+pub record FramesStand (s : Setting) (h : History) (fs : FrameSet) : Type 0 where
+  pub counts : fs.domains ≡ frame_counts s.domains
+  pub writes : (name : FrameName) → patches (frame_at fs name).journal ≡ patches_at h name.owner.0 name.number
+  pub kept : AreKept fs
+  pub filled : (t f : ℕ) → length (contents_at h t f) ≡ FRAME_SIZE
+
+-- the core stands for the history (own)
+pub record CoreStands (s : Setting) (h : History) (core : CoreState) : Type 0 where
+  pub domains : DomainsStand s h core.domains
+  pub frames : FramesStand s h core.frames
+
+-- the core stands for some history (own)
+abbrev pub StandsForSome : Setting → CoreState → Type 0
+StandsForSome s core = (h : History) × CoreStands s h core
+
+-- for each history that the core stood for, the event did what it may do after it, and the core stands for that history with this element (own)
+abbrev pub Does : Setting → CoreState → Event → Element → CoreState → Type 0
+Does s old event x new = (h : History) → CoreStands s h old → MayDo s h event x × CoreStands s (grown h x) new
+
+-- the same of the domains alone (own)
+abbrev pub DoesAlone : Setting → List State → Event → Element → List State → Type 0
+DoesAlone s old event x new = (h : History) → DomainsStand s h old → MayDo s h event x × DomainsStand s (grown h x) new
+
+-- what contracts see of a core: its configuration, what its policy is made of, and what it keeps of the run (own)
+pub record CoreModel (P : Type 0) : Type 0 where
+  pub config : Config
+  pub rights : P
+  pub state : CoreState
+
+-- the setting of a core's run, where this is what its policy allows by its rights (own)
+abbrev pub setting_in : {P : Type 0} → (P → TypeId → TypeId → Perms → Bool) → CoreModel P → Setting
+setting_in may core = setting_of core.config (may core.rights)

@@ -2,7 +2,7 @@
 use Rattle.std.specs.Prelude.{Bool, true, false, ℕ, List, [], ◌∷◌, Option, Some, None, ◌==◌, ◌≡◌, ◌<◌, ◌≤◌, ◌+◌, ◌^◌, ◌%◌, min, replicate, if◌then◌else◌}
 use Rattle.gt_types.specs.declared.config.DomainConfig.{DomainConfig}
 use Rattle.gt_entry.specs.declared.entry.Entry.TheVariants.{Invalid}
-use Rattle.gt_calls.specs.declared.known.TheConstants.{ENTRIES, FRAME_LEN}
+use Rattle.gt_calls.specs.declared.known.TheConstants.{ENTRIES}
 use Rattle.gt_types.specs.declared.limits.TheConstants.{LAST_GENERATION}
 use Rattle.gt_calls.specs.declared.request.Asked.{Asked}
 use Rattle.gt_calls.specs.declared.request.Asked.TheVariants.{Map, Load, Store, Peek, Poke}
@@ -13,17 +13,26 @@ use Rattle.gt_handles.specs.Handles.{Kept}
 use Rattle.gt_calls.specs.declared.held.Held.{Held}
 use Rattle.gt_core.specs.declared.slot.Slot.{Slot}
 use Rattle.gt_core.specs.declared.slot.Open.{Open}
+use Rattle.gt_frames.specs.Sets.{FrameSet}
 
--- what the core keeps of a domain: its header, what its owner knows of each entry, the pins and body words of each entry, its mappings by handle, its frames, its call under way, and the bytes given to that call to be written (own)
+-- what the core keeps of a domain: its header, what its owner knows of each entry, the pins and body words of each entry, its mappings by handle, its call under way, and the bytes given to that call to be written (own)
 pub record State : Type 0 where
   pub id : DomId
   pub header : Header
   pub own : List Own
   pub slots : List Slot
   pub mappings : Kept Held
-  pub frames : List (List ℕ)
   pub underway : Option Open
   pub given : List ℕ
+
+-- what the core keeps of a run: its domains, and their frames (own)
+pub record CoreState : Type 0 where
+  pub domains : List State
+  pub frames : FrameSet
+
+-- these domains and frames (own)
+abbrev pub core_of : List State → FrameSet → CoreState
+core_of domains frames = record { domains = domains; frames = frames }
 
 -- what the call under way asks (own)
 abbrev pub asked_in : Option Open → Option Asked
@@ -72,7 +81,6 @@ first_state first_gen d =
       own = replicate ENTRIES (record { entry = Invalid; generation = min first_gen LAST_GENERATION });
       slots = replicate ENTRIES (record { reads = 0; writes = 0; first = 0; second = 0 });
       mappings = record { slots = []; given = 0; room = 0 };
-      frames = replicate d.frames (replicate FRAME_LEN 0);
       underway = None;
       given = [];
     }

@@ -1,7 +1,7 @@
 //! What steps do to the states of the domains.
 ghost use Rattle.std.specs.Prelude.{◌≡◌};
 ghost use Rattle.gt_core.specs.States.{changed_in};
-ghost use Rattle.gt_core.specs.Effects.{with_slot, applied, without_mapping, with_own, with_header, with_bytes};
+ghost use Rattle.gt_core.specs.Effects.{with_slot, applied, without_mapping, with_own, with_header};
 
 use crate::slot::SlotChange;
 use crate::state::{DomainState, find};
@@ -40,19 +40,9 @@ fn store_header(domains: &mut [DomainState], dom: DomId, version: u32, frames: u
     }
 }
 
-/// Writes bytes to a frame from `off` on.
-pub fn write_to(domains: &mut [DomainState], dom: DomId, frame: u64, off: u16, bytes: &[u8])
-    ensures { domains.new ≡ changed_in dom.0 (with_bytes frame off bytes.now) domains.old }
-{
-    if let Some(at) = find(domains, dom) {
-        domains[at].write(frame, off, bytes);
-    }
-}
-
-/// What a step of the domain that saw this does to the words and frames, and to the actor's mappings where it gives one
-/// up. A copy writes these bytes.
-pub fn apply(domains: &mut [DomainState], actor: DomId, step: Step, seen: Seen, bytes: &[u8])
-    ensures { domains.new ≡ applied actor step seen bytes.now domains.old }
+/// What a step of the domain that saw this does to the words, and to the actor's mappings where it gives one up.
+pub fn apply(domains: &mut [DomainState], actor: DomId, step: Step, seen: Seen)
+    ensures { domains.new ≡ applied actor step seen domains.old }
 {
     match (step, seen) {
         (Step::Pin { held }, Seen::Taken) => {
@@ -71,7 +61,6 @@ pub fn apply(domains: &mut [DomainState], actor: DomId, step: Step, seen: Seen, 
         (Step::Exchange { gref, change, .. }, Seen::Taken) => {
             change_own(domains, actor, gref, change);
         }
-        (Step::Copy { to, .. }, _) => write_to(domains, to.owner, to.frame, to.off, bytes),
         _ => {}
     }
 }

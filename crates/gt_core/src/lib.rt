@@ -12,9 +12,11 @@
 //! stands on `gt_calls`, `gt_entry`, `gt_frames`, `gt_handles` and `gt_types`.
 #![tactic(auto)]
 
+mod accesses;
 mod core_state;
 mod effects;
 mod laws;
+mod machine;
 mod sight;
 mod slot;
 mod state;

@@ -1,16 +1,16 @@
 //! The state of a domain, as plain lists.
 ghost use Rattle.std.specs.Prelude.{◌≡◌, ◌==◌, ◌%◌, position};
-ghost use Rattle.gt_core.specs.Effects.{written_over};
+ghost use Rattle.gt_core.specs.Accesses.{ground_of};
 
 use crate::core_state::Shown;
 use crate::slot::{Open, Slot, SlotChange};
-use gt_calls::{Asked, Change, END_OF_SERIALS, ENTRIES, FRAME_LEN, Held, Holder, Own};
+use gt_calls::{Asked, Call, Change, ENTRIES, Held, Holder, Own, Route};
 use gt_entry::Header;
+use gt_frames::{Ground, Writ};
 use gt_handles::{Handle, Handles};
 use gt_types::{DomId, DomainConfig, GrantRef, LAST_GENERATION, Memory};
 use std::alloc::Global;
 use std::marker::Model;
-use std::mem;
 
 /// A domain of the run.
 #[derive(Drop)]
@@ -20,22 +20,30 @@ pub struct DomainState {
     pub(crate) own: Vec<Own>,
     pub(crate) slots: Vec<Slot>,
     pub(crate) mappings: Handles<Held>,
-    pub(crate) frames: Vec<Vec<u8>>,
     pub(crate) underway: Option<Open>,
     pub(crate) given: Vec<u8>,
     pub(crate) room: Option<Vec<u8>>,
 }
 
 impl Model for DomainState {
-    ghost use Rattle.std.specs.Prelude.{◌<◌, map, vec_len};
+    ghost use Rattle.std.specs.Prelude.{◌<◌, vec_len};
     ghost use Rattle.std.specs.Option.{option_map};
     ghost use Rattle.gt_core.specs.States.{State, HasRoom, asked_in};
 
     ghost Value = { State };
 
-    ghost view = { λ d. record { id = d.id; header = d.header; own = d.own.items; slots = d.slots.items; mappings = record d.mappings { room = 0 }; frames = map (λ f. f.items) d.frames.items; underway = d.underway; given = d.given.items } };
+    ghost view = { λ d. record {
+      id = d.id;
+      header = d.header;
+      own = d.own.items;
+      slots = d.slots.items;
+      mappings = record d.mappings { room = 0 };
+      underway = d.underway;
+      given = d.given.items;
+    } };
 
-    ghost invariant = { λ d. (d.header.version < 4) × HasRoom (asked_in d.underway) d.mappings (option_map (λ v. vec_len v) d.room) };
+    ghost invariant = { λ d.
+        (d.header.version < 4) × HasRoom (asked_in d.underway) d.mappings (option_map (λ v. vec_len v) d.room) };
 }
 
 /// The place of the domain with this number.
@@ -58,23 +66,29 @@ fn table_header(version: u32, frames: u32) -> Header
     }
 }
 
-// Lays bytes over the contents of a frame from `off` on, where they have room.
-fn write_over(contents: &mut Vec<u8>, off: u16, bytes: &[u8])
-    ensures { contents.new.items ≡ written_over off bytes.now contents.old.items }
+// The ground of a write by this route.
+fn ground_of(route: Route) -> Ground
+    ensures { result ≡ ground_of route }
 {
-    let start = usize::from(off);
-    if start <= contents.len() && bytes.len() <= contents.len() - start {
-        contents[start..start + bytes.len()].copy_from_slice(bytes);
+    match route {
+        Route::Own => Ground::Owned,
+        Route::Direct(held) => Ground::Granted(held.entry),
+        Route::Through { via, held } => Ground::Forwarded {
+            via: via.entry,
+            middle: via.dom,
+            entry: held.entry,
+        },
     }
 }
 
 impl DomainState {
-    ghost use Rattle.std.specs.Prelude.{◌≡◌, ◌<◌, ◌+◌, ◌^◌, IfOk, IsOk, OnErr, OnOk, Some, None, true, length, take, drop, slice_get};
+    ghost use Rattle.std.specs.Prelude.{◌≡◌, ◌<◌, ◌+◌, ◌^◌, IfOk, OnErr, OnOk, Some, None, true, slice_get, vec_len};
+    ghost use Rattle.gt_core.specs.Accesses.{route_of, IsWritOf};
     ghost use Rattle.gt_core.specs.States.{first_state, asked_in, asks_memory, kept_by, IsMapping, IsLoading};
     ghost use Rattle.gt_core.specs.Shown.{shown_in};
-    ghost use Rattle.gt_core.specs.Effects.{Adds, frame_in, with_slot, with_own, with_header, with_underway, with_call, without_given, with_bytes, with_mapping, without_mapping};
+    ghost use Rattle.gt_core.specs.Effects.{Adds, with_slot, with_own, with_header, with_underway, with_call, with_mapping, without_mapping};
 
-    /// A domain at rest: all entries invalid and of the first generation, all frames zero.
+    /// A domain at rest: all entries invalid and of the first generation.
     pub fn new(alloc: Global, domain: DomainConfig, first_gen: u32) -> Result<DomainState, Memory>
         ensures { IfOk result (λ d. d ≡ first_state first_gen domain) }
     {
@@ -84,17 +98,12 @@ impl DomainState {
             own.push(Own::new(first_gen.min(LAST_GENERATION)))?;
             slots.push(Slot::new())?;
         }
-        let mut frames = Vec::new(alloc);
-        'frames: for _ in 0..domain.frames {
-            frames.push(vec![in alloc; 0u8; FRAME_LEN]?)?;
-        }
         Ok(DomainState {
             id: domain.id,
             header: table_header(domain.version, domain.table_frames),
             own,
             slots,
             mappings: Handles::new(alloc),
-            frames,
             underway: None,
             given: Vec::new(alloc),
             room: None,
@@ -151,7 +160,7 @@ impl DomainState {
     /// A load is over: the room for its bytes.
     pub fn close_load(&mut self, alloc: Global) -> Vec<u8>
         ensures closed { self.new ≡ with_underway None self.old }
-        ensures room { IsLoading (asked_in self.old.underway) (length result.items) }
+        ensures room { IsLoading (asked_in self.old.underway) (vec_len result) }
     {
         self.underway = None;
         match self.room.take() {
@@ -160,66 +169,38 @@ impl DomainState {
         }
     }
 
-    /// A store or poke is over: the bytes given to it.
-    pub fn close_store(&mut self, alloc: Global) -> Vec<u8>
-        ensures closed { self.new ≡ without_given self.old }
-        ensures given { result.items ≡ self.old.given }
-    {
-        self.underway = None;
-        self.room = None;
-        mem::replace(&mut self.given, Vec::new(alloc))
-    }
-
     /// A map is over: its pin is kept as a new mapping, under the next serial. Its room was made when it began.
-    pub fn add_mapping(&mut self, held: Held) -> Result<Handle, Memory>
-        ensures adds { IfOk result (λ handle. Adds self.old.mappings self.new.mappings handle held) }
-        ensures added { OnOk result (self.new ≡ with_mapping self.new.mappings self.old) }
-        ensures refused { OnErr result (self.new ≡ self.old) }
-        ensures room { IsMapping (asked_in self.old.underway) → IsOk result }
+    pub fn add_mapping(&mut self, held: Held) -> Handle
+        requires { IsMapping (asked_in self.old.underway) }
+        ensures adds { Adds self.old.mappings self.new.mappings result held }
+        ensures added { self.new ≡ with_mapping self.new.mappings self.old }
     {
-        if self.mappings.given() >= END_OF_SERIALS {
-            return Err(Memory);
-        }
-        self.mappings.reserve()?;
         let handle = self.mappings.insert(held);
         self.underway = None;
-        Ok(handle)
+        handle
     }
 
-    /// Reads bytes of a frame from `off` on over all of `out`; where they are not there, `out` stays.
-    pub fn read(&self, frame: u64, off: u16, mut out: Vec<u8>) -> Vec<u8>
-        ensures { length (take (length out.items) (drop off (frame_in (Some self.now) frame))) ≡ length out.items → result.items ≡ take (length out.items) (drop off (frame_in (Some self.now) frame)) }
+    // The route by which its call writes.
+    fn route(&self, call: Call) -> Route
+        ensures { result ≡ route_of self.now.mappings call }
     {
-        let start = usize::from(off);
-        let end = start + out.len();
-        if frame < self.frames.len() as u64 {
-            let bytes = &self.frames[frame as usize];
-            if end <= bytes.len() {
-                out.copy_from_slice(&bytes[start..end]);
-            }
+        match call.request {
+            Asked::Store { handle, .. } => match self.mappings.get(handle) {
+                Some(held) => Route::Direct(*held),
+                None => Route::Own,
+            },
+            Asked::Copy(_) => call.pins().dest,
+            _ => Route::Own,
         }
-        out
     }
 
-    /// The bytes of a frame from `off` on, at most `len` of them; none where there is no such frame.
-    pub fn range(&self, frame: u64, off: u16, len: u16) -> &[u8]
-        ensures { result.now ≡ take len (drop off (frame_in (Some self.now) frame)) }
+    /// The writ of its call: the caller writes, by its own frame or by the entries of the pins that it holds for that.
+    pub fn writ(&self, call: Call) -> Writ
+        ensures { IsWritOf self.now call result }
     {
-        if frame >= self.frames.len() as u64 {
-            return &[];
-        }
-        let bytes = &self.frames[frame as usize];
-        let start = usize::from(off).min(bytes.len());
-        let end = (start + usize::from(len)).min(bytes.len());
-        &bytes[start..end]
-    }
-
-    /// Writes bytes to a frame from `off` on, where they have room.
-    pub fn write(&mut self, frame: u64, off: u16, bytes: &[u8])
-        ensures { self.new ≡ with_bytes frame off bytes.now self.old }
-    {
-        if frame < self.frames.len() as u64 {
-            write_over(&mut self.frames[frame as usize], off, bytes);
+        Writ {
+            writer: call.caller,
+            basis: ground_of(self.route(call)),
         }
     }
 

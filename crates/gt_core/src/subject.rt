@@ -2,10 +2,10 @@
 ghost use Rattle.std.specs.Prelude.{◌≡◌, option_copied};
 ghost use Rattle.gt_handles.specs.Handles.{value_of};
 ghost use Rattle.gt_core.specs.History.{History};
-ghost use Rattle.gt_core.specs.Standing.{CoreStands, setting_of};
+ghost use Rattle.gt_core.specs.Standing.{DomainsStand, setting_by};
 ghost use Rattle.gt_core.specs.Subject.{subject_at};
 
-use crate::core_state::Core;
+use crate::machine::Machine;
 use crate::state::{DomainState, find};
 use gt_calls::{Handle, Held};
 use gt_types::{Allows, DomId, GrantRef};
@@ -19,11 +19,11 @@ impl DomainState {
     }
 }
 
-impl<P: Allows> Core<P> {
-    /// The domain and the reference of the entry that the domain has mapped under this handle: None where the
-    /// handle names no mapping of it, as one that was given up, or for no domain of the run.
-    pub fn subject(&self, dom: DomId, handle: Handle) -> Option<(DomId, GrantRef)>
-        ensures { (h : History) → CoreStands (setting_of self.now.config (P.may self.now.rights)) h self.now.domains.items → result ≡ subject_at (setting_of self.now.config (P.may self.now.rights)) h dom handle }
+impl<P: Allows> Machine<P> {
+    /// The entry that the domain has mapped under this handle.
+    pub(crate) fn subject(&self, dom: DomId, handle: Handle) -> Option<(DomId, GrantRef)>
+        ensures { (h : History) → DomainsStand (setting_by P.may self.now) h self.now.domains.items →
+            result ≡ subject_at (setting_by P.may self.now) h dom handle }
     {
         let at = find(&self.domains, dom)?;
         let held = self.domains[at].mapping(handle)?;

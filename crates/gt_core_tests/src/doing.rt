@@ -173,8 +173,8 @@ fn shown_said(alloc: Global, shown: Option<Shown>) -> Result<String, AllocError>
     format!(in alloc; "{entry:?} gen={generation} reads={reads} writes={writes} status={status:x}")
 }
 
-/// The answer of the open call, where it ends within so many ticks.
-pub fn ended(core: &mut Core<Triples>, dom: DomId, ticks: u32) -> Result<Option<Answer>, Fail> {
+// The answer of the open call, where it ends within so many ticks.
+fn ended(core: &mut Core<Triples>, dom: DomId, ticks: u32) -> Result<Option<Answer>, Fail> {
     for _ in 0..ticks {
         if let Ticked::Done(_, _, answer) = core.tick(dom)? {
             return Ok(Some(answer));

@@ -1,8 +1,10 @@
 //! Runs in which a request for memory is refused. With bench/refused.sh, which refuses each in turn: what is asked
-//! again is answered as it is without a refusal, and no tick is refused.
-use crate::doing::{OWNER, PEER, ended, rights, start, three_domains};
+//! again is answered as it is without a refusal, a tick as well as a beginning.
+use crate::doing::{OWNER, PEER, rights, start, start_to_copy, three_domains};
 use crate::runs::{GRANT, MAP_RO, MAP_RW, REVOKE};
-use gt_core::{Answer, Begun, Core, Element, Event, Handle, Item, Request, Ticked, play};
+use gt_core::{
+    Answer, Begun, CopyArgs, Core, Element, End, Event, Handle, Item, Request, Ticked, play,
+};
 use gt_types::{DomId, GrantRef, Memory, Rule, StartFault, Triples};
 use std::alloc::Global;
 use std::process::Abort;
@@ -17,6 +19,28 @@ fn started(rt: &impl Abort, alloc: Global) -> Result<Core<Triples>, StartFault> 
             start(alloc, 1, 0)
         }
     }
+}
+
+// The next tick, asked for twice where memory was refused: that leaves the core as it was.
+fn ticked(rt: &impl Abort, core: &mut Core<Triples>, dom: DomId) -> Result<Ticked, Fail> {
+    let before = core.show(OWNER, GrantRef(0));
+    match core.tick(dom) {
+        Ok(ticked) => Ok(ticked),
+        Err(Memory) => {
+            assert!(rt; core.show(OWNER, GrantRef(0)) == before);
+            Ok(core.tick(dom)?)
+        }
+    }
+}
+
+// The answer of the open call, where it has one.
+fn ended(rt: &impl Abort, core: &mut Core<Triples>, dom: DomId) -> Result<Option<Answer>, Fail> {
+    for _ in 0..71 {
+        if let Ticked::Done(_, _, answer) = ticked(rt, core, dom)? {
+            return Ok(Some(answer));
+        }
+    }
+    Ok(None)
 }
 
 // The answer of a whole call whose memory may be refused once: that leaves the core as it was.
@@ -38,7 +62,7 @@ fn ask(
     if let Begun::Done(answer) = begun {
         return Ok(answer);
     }
-    let answer = ended(core, dom, 71)?;
+    let answer = ended(rt, core, dom)?;
     Ok(answer.ok_or("the call is still open")?)
 }
 
@@ -114,6 +138,52 @@ fn accesses_with_memory_refused(rt: HostRuntime) -> Result<(), Fail> {
     };
     let loaded = ask(&rt, &mut core, PEER, load)?;
     assert!(rt; is_bytes(&loaded, &[8, 1, 2, 3, 4, 5, 6, 7, 8]));
+    Ok(())
+}
+
+#[test]
+fn copies_with_memory_refused(rt: HostRuntime) -> Result<(), Fail> {
+    let mut core = match start_to_copy(rt.alloc(), 1, &[(OWNER, PEER)]) {
+        Ok(core) => core,
+        Err(fault) => {
+            assert_eq!(rt; fault, StartFault::Memory);
+            start_to_copy(rt.alloc(), 1, &[(OWNER, PEER)])?
+        }
+    };
+    let granted = ask(&rt, &mut core, OWNER, GRANT)?;
+    assert!(rt; matches!(granted, Answer::Done));
+    for byte in 1..9u8 {
+        let poke = Request::Poke {
+            frame: 5,
+            off: 0,
+            bytes: &[byte],
+        };
+        let copy = Request::Copy(CopyArgs {
+            source: End {
+                ptr: 0,
+                domid: OWNER,
+                offset: 0,
+            },
+            dest: End {
+                ptr: 3,
+                domid: PEER,
+                offset: u16::from(byte),
+            },
+            len: 1,
+            flags: 1,
+        });
+        let poked = ask(&rt, &mut core, OWNER, poke)?;
+        let copied = ask(&rt, &mut core, PEER, copy)?;
+        assert!(rt; matches!((&poked, &copied), (Answer::Done, Answer::Done)));
+    }
+    let peek = Request::Peek {
+        frame: 3,
+        off: 0,
+        len: 10,
+    };
+    let peeked = ask(&rt, &mut core, PEER, peek)?;
+    let is_unpinned = matches!(core.show(OWNER, GrantRef(0)), Some(shown) if shown.reads == 0);
+    assert!(rt; is_unpinned && is_bytes(&peeked, &[0, 1, 2, 3, 4, 5, 6, 7, 8, 0]));
     Ok(())
 }
 

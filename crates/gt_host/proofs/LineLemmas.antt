@@ -11,7 +11,7 @@ use Rattle.gt_core.specs.History.{History, Setting, open_call}
 use Rattle.gt_core.specs.Legal.{MayDo, grown, LegalAfter, history_after}
 use Rattle.gt_core.specs.Shown.{shown_at}
 use Rattle.gt_core.specs.Standing.{CoreStands, begun_element}
-use Rattle.gt_core.specs.States.{State}
+use Rattle.gt_core.specs.States.{CoreState}
 use Rattle.gt_core.specs.declared.core_state.Begun.{Begun}
 use Rattle.gt_core.specs.declared.core_state.Begun.TheVariants as begun
 use Rattle.gt_core.specs.declared.core_state.Shown.{Shown}
@@ -68,7 +68,7 @@ some_known None e = cc
 some_known (Some x) e = (x, refl)
 
 -- more has happened
-came : (s : Setting) (audit : Bool) (p : Progress) (events : List Event) (trace : List Element) (named : List Named) (calls : ℕ → Option Step) (text : List ℕ) (old new : List State) (kept next : Kept) → HasCome s audit p old kept → Happens s (history_of p) events trace new
+came : (s : Setting) (audit : Bool) (p : Progress) (events : List Event) (trace : List Element) (named : List Named) (calls : ℕ → Option Step) (text : List ℕ) (old new : CoreState) (kept next : Kept) → HasCome s audit p old kept → Happens s (history_of p) events trace new
     → IsKept next (record { events = p.events ++ events; trace = p.trace ++ trace; named = named; open_steps = calls; text = text })
     → ((n : ℕ) → is_some (calls n) ≡ is_some (open_call (history_after (history_of p) trace) n))
     → next.audit.is_on ≡ kept.audit.is_on
@@ -85,7 +85,7 @@ came s audit p events trace named calls text old new kept next come happens keep
     }
 
 -- nothing has happened but a line more
-lined : (s : Setting) (audit : Bool) (p : Progress) (line : List ℕ) (domains : List State) (kept : Kept) → HasCome s audit p domains kept → HasCome s audit (with_line p line) domains kept
+lined : (s : Setting) (audit : Bool) (p : Progress) (line : List ℕ) (domains : CoreState) (kept : Kept) → HasCome s audit p domains kept → HasCome s audit (with_line p line) domains kept
 lined s audit p line domains kept come = record {
   legal = come.legal;
   stands = come.stands;
@@ -96,7 +96,7 @@ lined s audit p line domains kept come = record {
 
 -- `do ID CALL`
 
-pub do_answered : (s : Setting) (audit : Bool) (types : List (List ℕ)) (st : Step) (call : Call) (p : Progress) (old new : List State) (kept next : Kept) (before after : List ℕ) (request : Request) (said : Outcome) (a : Answer) (told : Option Hypercall)
+pub do_answered : (s : Setting) (audit : Bool) (types : List (List ℕ)) (st : Step) (call : Call) (p : Progress) (old new : CoreState) (kept next : Kept) (before after : List ℕ) (request : Request) (said : Outcome) (a : Answer) (told : Option Hypercall)
     → Asks p.named st.dom call request → said ≡ Answered a → HasCome s audit p old kept → Calls s (history_of p) st.dom request new said
     → (kept.audit.is_on ≡ true → IsAbout s old st.dom request told) → AddsRecord kept next st.dom told a
     → AreNamed next.labels (named_after p.named st.dom st a) → next.calls ≡ kept.calls → after ≡ before ++ answer_line types st.line st.dom a
@@ -121,7 +121,7 @@ do_answered s audit types st call p old new kept next before after request said 
       (answer_line types st.line st.dom a, refl, line),
     )
 
-pub do_busy : (s : Setting) (audit : Bool) (types : List (List ℕ)) (st : Step) (call : Call) (p : Progress) (old new : List State) (kept : Kept) (before after : List ℕ) (request : Request) (said : Outcome)
+pub do_busy : (s : Setting) (audit : Bool) (types : List (List ℕ)) (st : Step) (call : Call) (p : Progress) (old new : CoreState) (kept : Kept) (before after : List ℕ) (request : Request) (said : Outcome)
     → Asks p.named st.dom call request → said ≡ IsBusy → HasCome s audit p old kept → Calls s (history_of p) st.dom request new said → after ≡ before ++ busy_line st.line st.dom
     → (q : Progress) × DoLine types st call p q × HasCome s audit q new kept × IsAppended p.text q.text before after
 do_busy s audit types st call p old new kept before after request said asks is come made line =
@@ -139,7 +139,7 @@ do_busy s audit types st call p old new kept before after request said asks is c
 -- `begin ID CALL`
 
 -- one event of the domain
-begun_once : (s : Setting) (audit : Bool) (types : List (List ℕ)) (st : Step) (call : Call) (p : Progress) (request : Request) (x : Element) (named : List Named) (calls : ℕ → Option Step) (text : List ℕ) (old new : List State) (kept next : Kept) (before after : List ℕ)
+begun_once : (s : Setting) (audit : Bool) (types : List (List ℕ)) (st : Step) (call : Call) (p : Progress) (request : Request) (x : Element) (named : List Named) (calls : ℕ → Option Step) (text : List ℕ) (old new : CoreState) (kept next : Kept) (before after : List ℕ)
     → Asks p.named st.dom call request → HasCome s audit p old kept → MayDo s (history_of p) (Begin st.dom request) x × CoreStands s (grown (history_of p) x) new
     → after_beginning types (with_events p (Begin st.dom request ∷ []) (x ∷ [])) st x
     ≡ record { events = p.events ++ Begin st.dom request ∷ []; trace = p.trace ++ x ∷ []; named = named; open_steps = calls; text = p.text ++ text }
@@ -157,7 +157,7 @@ begun_once s audit types st call p request x named calls text old new kept next 
       (text, refl, line),
     )
 
-pub begin_answered : (s : Setting) (audit : Bool) (types : List (List ℕ)) (st : Step) (call : Call) (p : Progress) (old new : List State) (kept next : Kept) (before after : List ℕ) (request : Request) (said : Begun) (a : Answer) (hyper : Option Hypercall)
+pub begin_answered : (s : Setting) (audit : Bool) (types : List (List ℕ)) (st : Step) (call : Call) (p : Progress) (old new : CoreState) (kept next : Kept) (before after : List ℕ) (request : Request) (said : Begun) (a : Answer) (hyper : Option Hypercall)
     → Asks p.named st.dom call request → said ≡ begun.Done a → HasCome s audit p old kept → (kept.audit.is_on ≡ true → IsAbout s old st.dom request hyper) → AddsRecord kept next st.dom hyper a → MayDo s (history_of p) (Begin st.dom request) (begun_element st.dom request said) × CoreStands s (grown (history_of p) (begun_element st.dom request said)) new
     → AreNamed next.labels (named_after p.named st.dom st a) → next.calls ≡ kept.calls → after ≡ before ++ answer_line types st.line st.dom a
     → (q : Progress) × BeginLine types st call p q × HasCome s audit q new next × IsAppended p.text q.text before after
@@ -172,7 +172,7 @@ begin_answered s audit types st call p old new kept next before after request sa
     (about on (history_of p) come.stands) adds.records (subst (λ (c : OpenCalls). AreTold s (history_of p) (told_in c)) (sym same) known))
     line
 
-pub begin_busy : (s : Setting) (audit : Bool) (types : List (List ℕ)) (st : Step) (call : Call) (p : Progress) (old new : List State) (kept : Kept) (before after : List ℕ) (request : Request) (said : Begun)
+pub begin_busy : (s : Setting) (audit : Bool) (types : List (List ℕ)) (st : Step) (call : Call) (p : Progress) (old new : CoreState) (kept : Kept) (before after : List ℕ) (request : Request) (said : Begun)
     → Asks p.named st.dom call request → said ≡ begun.Busy → HasCome s audit p old kept → MayDo s (history_of p) (Begin st.dom request) (begun_element st.dom request said) × CoreStands s (grown (history_of p) (begun_element st.dom request said)) new
     → after ≡ before ++ busy_line st.line st.dom → (q : Progress) × BeginLine types st call p q × HasCome s audit q new kept × IsAppended p.text q.text before after
 begin_busy s audit types st call p old new kept before after request said asks is come told line =
@@ -180,7 +180,7 @@ begin_busy s audit types st call p old new kept before after request said asks i
     begun_once s audit types st call p request Busy p.named p.open_steps (busy_line st.line st.dom) old new kept kept before after asks come told_so refl come.keeps.names come.keeps.calls (λ n apart. refl) (come.knows st.dom.0) refl
     (λ on known. audited_busy s (history_of p) (Busy ∷ []) kept.audit.records.items (told_in kept.calls) refl known) line
 
-begun_open : (s : Setting) (audit : Bool) (types : List (List ℕ)) (st : Step) (call : Call) (p : Progress) (old new : List State) (kept next : Kept) (before after : List ℕ) (request : Request) (hyper : Option Hypercall)
+begun_open : (s : Setting) (audit : Bool) (types : List (List ℕ)) (st : Step) (call : Call) (p : Progress) (old new : CoreState) (kept next : Kept) (before after : List ℕ) (request : Request) (hyper : Option Hypercall)
     → Asks p.named st.dom call request → HasCome s audit p old kept → (kept.audit.is_on ≡ true → IsAbout s old st.dom request hyper) → next.audit ≡ kept.audit → ((n : ℕ) → told_in next.calls n ≡ cond (n == st.dom.0) hyper (told_in kept.calls n))
     → MayDo s (history_of p) (Begin st.dom request) (Did (record { actor = st.dom; happened = Began request; answer = None }))
     × CoreStands s (record { actor = st.dom; happened = Began request; answer = None } ∷ history_of p) new
@@ -199,7 +199,7 @@ begun_open s audit types st call p old new kept next before after request hyper 
     (audited_begun s (history_of p) st.dom request kept.audit.records.items (told_in kept.calls) (told_in next.calls) hyper told.0 (about on (history_of p) come.stands) picked knew))
     (line ∙ sym (append-nil before))
 
-pub begin_open : (s : Setting) (audit : Bool) (types : List (List ℕ)) (st : Step) (call : Call) (p : Progress) (old new : List State) (kept next : Kept) (before after : List ℕ) (request : Request) (said : Begun) (hyper : Option Hypercall)
+pub begin_open : (s : Setting) (audit : Bool) (types : List (List ℕ)) (st : Step) (call : Call) (p : Progress) (old new : CoreState) (kept next : Kept) (before after : List ℕ) (request : Request) (said : Begun) (hyper : Option Hypercall)
     → Asks p.named st.dom call request → domain_of s.domains st.dom ≢ None → (said ≡ begun.Open) ⊎ (said ≡ begun.NoDomain) → HasCome s audit p old kept
     → (kept.audit.is_on ≡ true → IsAbout s old st.dom request hyper) → next.audit ≡ kept.audit → ((n : ℕ) → told_in next.calls n ≡ cond (n == st.dom.0) hyper (told_in kept.calls n))
     → MayDo s (history_of p) (Begin st.dom request) (begun_element st.dom request said) × CoreStands s (grown (history_of p) (begun_element st.dom request said)) new
@@ -214,7 +214,7 @@ begin_open s audit types st call p old new kept next before after request said h
 
 -- `tick ID N`
 
-pub ticks_answered : (s : Setting) (audit : Bool) (types : List (List ℕ)) (st : Step) (most : ℕ) (begun : Step) (p : Progress) (old new : List State) (kept next : Kept) (before after : List ℕ) (said : Option Answer) (a : Answer) (hyper : Option Hypercall)
+pub ticks_answered : (s : Setting) (audit : Bool) (types : List (List ℕ)) (st : Step) (most : ℕ) (begun : Step) (p : Progress) (old new : CoreState) (kept next : Kept) (before after : List ℕ) (said : Option Answer) (a : Answer) (hyper : Option Hypercall)
     → hyper ≡ told_in kept.calls st.dom.0 → AddsRecord kept next st.dom hyper a → ((n : ℕ) → told_in next.calls n ≡ cond (n == st.dom.0) None (told_in kept.calls n))
     → call_in kept.calls st.dom.0 ≡ Some begun → said ≡ Some a → HasCome s audit p old kept → TicksTo s (history_of p) st.dom most new said
     → AreNamed next.labels (named_after p.named st.dom begun a) → ((n : ℕ) → call_in next.calls n ≡ cond (n == st.dom.0) None (call_in kept.calls n)) → after ≡ before ++ answer_line types begun.line st.dom a
@@ -240,7 +240,7 @@ ticks_answered s audit types st most begun p old new kept next before after said
       (answer_line types begun.line st.dom a, refl, line),
     )
 
-pub ticks_open : (s : Setting) (audit : Bool) (types : List (List ℕ)) (st : Step) (most : ℕ) (begun : Step) (p : Progress) (old new : List State) (kept : Kept) (before after : List ℕ) (said : Option Answer)
+pub ticks_open : (s : Setting) (audit : Bool) (types : List (List ℕ)) (st : Step) (most : ℕ) (begun : Step) (p : Progress) (old new : CoreState) (kept : Kept) (before after : List ℕ) (said : Option Answer)
     → domain_of s.domains st.dom ≢ None → call_in kept.calls st.dom.0 ≡ Some begun → said ≡ None → HasCome s audit p old kept → TicksTo s (history_of p) st.dom most new said → after ≡ before
     → (q : Progress) × TickLine types st most (p.open_steps st.dom.0) p q × HasCome s audit q new kept × IsAppended p.text q.text before after
 ticks_open s audit types st most begun p old new kept before after said configured begins is come ticks line =
@@ -261,7 +261,7 @@ ticks_open s audit types st most begun p old new kept before after said configur
       ([], sym (append-nil p.text), line ∙ sym (append-nil before)),
     )
 
-pub ticks_idle : (s : Setting) (audit : Bool) (types : List (List ℕ)) (st : Step) (most : ℕ) (p : Progress) (domains : List State) (kept : Kept) (before after : List ℕ)
+pub ticks_idle : (s : Setting) (audit : Bool) (types : List (List ℕ)) (st : Step) (most : ℕ) (p : Progress) (domains : CoreState) (kept : Kept) (before after : List ℕ)
     → call_in kept.calls st.dom.0 ≡ None → HasCome s audit p domains kept → after ≡ before ++ idle_line st.line st.dom
     → (q : Progress) × TickLine types st most (p.open_steps st.dom.0) p q × HasCome s audit q domains kept × IsAppended p.text q.text before after
 ticks_idle s audit types st most p domains kept before after none come line =
@@ -276,7 +276,7 @@ ticks_idle s audit types st most p domains kept before after none come line =
 
 -- `show ID REF`
 
-pub shows : (s : Setting) (audit : Bool) (st : Step) (gref : GrantRef) (p : Progress) (domains : List State) (kept : Kept) (before after : List ℕ) (shown : Option Shown)
+pub shows : (s : Setting) (audit : Bool) (st : Step) (gref : GrantRef) (p : Progress) (domains : CoreState) (kept : Kept) (before after : List ℕ) (shown : Option Shown)
     → HasCome s audit p domains kept → ((h : History) → CoreStands s h domains → shown ≡ shown_at s h st.dom gref.0) → after ≡ before ++ show_line st.line st.dom gref shown
     → (q : Progress) × ShowLine s st gref p q × HasCome s audit q domains kept × IsAppended p.text q.text before after
 shows s audit st gref p domains kept before after shown come told line =

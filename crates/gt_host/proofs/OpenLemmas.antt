@@ -6,7 +6,7 @@ use Rattle.gt_types.specs.declared.DomId.{DomId}
 use Rattle.gt_core.specs.History.{History, Setting, Underway, open_call, underway_after}
 use Rattle.gt_core.specs.Legal.{MayDo, StepsRight, StepsRightIn, grown, LegalAfter, history_after, most_steps}
 use Rattle.gt_core.specs.Standing.{CoreStands, begun_element}
-use Rattle.gt_core.specs.States.{State}
+use Rattle.gt_core.specs.States.{CoreState}
 use Rattle.gt_calls.specs.declared.request.Request.{Request}
 use Rattle.gt_calls.specs.declared.request.Asked.{Asked}
 use Rattle.gt_calls.specs.declared.request.Asked.TheVariants as asks
@@ -140,7 +140,7 @@ always_answered s h d most xs request all known open_now quiet legal =
     ]
 
 -- ticks of a call that has just begun come to its answer
-pub unanswered : (s t : Setting) (h : History) (d : DomId) (most : ℕ) (request : Asked) (mid new : List State) (said : Option Answer) → most ≡ 71 → t ≡ s → domain_of s.domains d ≢ None → HasOpen h d.0 request 0
+pub unanswered : (s t : Setting) (h : History) (d : DomId) (most : ℕ) (request : Asked) (mid new : CoreState) (said : Option Answer) → most ≡ 71 → t ≡ s → domain_of s.domains d ≢ None → HasOpen h d.0 request 0
     → CoreStands s h mid → ((g : History) → CoreStands t g mid → TicksTo t g d most new said) → said ≡ None → ⊥
 unanswered s t h d most request mid new said all same known open_now stands ticks none =
     let here = subst (λ (q : Setting). (g : History) → CoreStands q g mid → TicksTo q g d most new said) same ticks in

@@ -7,7 +7,7 @@ use Rattle.gt_types.specs.declared.config.Config.{Config}
 use Rattle.gt_core.specs.History.{History, Setting}
 use Rattle.gt_core.specs.Legal.{MayDo, grown, LegalAfter, history_after}
 use Rattle.gt_core.specs.Standing.{CoreStands, setting_of, begun_element, ticked_element}
-use Rattle.gt_core.specs.States.{State}
+use Rattle.gt_core.specs.States.{CoreState}
 use Rattle.gt_calls.specs.declared.request.Request.{Request}
 use Rattle.gt_core.specs.declared.trace.Answer.{Answer}
 use Rattle.gt_core.specs.declared.trace.Event.{Event}
@@ -45,7 +45,7 @@ LegalAfter-append s h [] (x ∷ xs) more ys p q = absurd p
 LegalAfter-append s h (e ∷ es) [] more ys p q = absurd p
 
 -- events, and then others
-pub Happens-append : (s : Setting) (h : History) (es : List Event) (xs : List Element) (more : List Event) (ys : List Element) (mid new : List State)
+pub Happens-append : (s : Setting) (h : History) (es : List Event) (xs : List Element) (more : List Event) (ys : List Element) (mid new : CoreState)
     → Happens s h es xs mid → Happens s (history_after h xs) more ys new → Happens s h (es ++ more) (xs ++ ys) new
 Happens-append s h es xs more ys mid new p q = record {
   legal = LegalAfter-append s h es xs more ys p.legal q.legal;
@@ -53,7 +53,7 @@ Happens-append s h es xs more ys mid new p q = record {
 }
 
 -- one event
-pub happens_one : (s : Setting) (h : History) (e : Event) (x : Element) (new : List State) → MayDo s h e x × CoreStands s (grown h x) new → Happens s h (e ∷ []) (x ∷ []) new
+pub happens_one : (s : Setting) (h : History) (e : Event) (x : Element) (new : CoreState) → MayDo s h e x × CoreStands s (grown h x) new → Happens s h (e ∷ []) (x ∷ []) new
 happens_one s h e x new p = record { legal = (p.0, tt); stands = p.1 }
 
 -- elements that answer nothing, and one more
@@ -69,17 +69,17 @@ quiet_tick dom ticked.Idle other = refl
 quiet_tick dom ticked.NoDomain other = refl
 
 -- so many ticks of an open call were made, and none answered
-pub record IsTicking (s : Setting) (h : History) (dom : DomId) (count : ℕ) (domains : List State) : Type 0 where
+pub record IsTicking (s : Setting) (h : History) (dom : DomId) (count : ℕ) (domains : CoreState) : Type 0 where
   pub trace : List Element
   pub quiet : AnswerNothing trace
   pub length_of : length trace ≡ count
   pub happens : Happens s h (replicate count (Tick dom)) trace domains
 
-pub no_tick : (s : Setting) (h : History) (dom : DomId) (domains : List State) → CoreStands s h domains → IsTicking s h dom 0 domains
+pub no_tick : (s : Setting) (h : History) (dom : DomId) (domains : CoreState) → CoreStands s h domains → IsTicking s h dom 0 domains
 no_tick s h dom domains stands = record { trace = []; quiet = tt; length_of = refl; happens = record { legal = tt; stands = stands } }
 
 -- a tick more
-ticked_more : (s : Setting) (h : History) (dom : DomId) (count : ℕ) (mid new : List State) (x : Element) → (u : IsTicking s h dom count mid)
+ticked_more : (s : Setting) (h : History) (dom : DomId) (count : ℕ) (mid new : CoreState) (x : Element) → (u : IsTicking s h dom count mid)
     → MayDo s (history_after h u.trace) (Tick dom) x × CoreStands s (grown (history_after h u.trace) x) new → Happens s h (replicate (count + 1) (Tick dom)) (u.trace ++ x ∷ []) new
 ticked_more s h dom count mid new x u told =
     subst (λ (events : List Event). Happens s h events (u.trace ++ x ∷ []) new) (sym (replicate_next count (Tick dom)))
@@ -88,7 +88,7 @@ ticked_more s h dom count mid new x u told =
 one_more : (count : ℕ) (trace : List Element) (x : Element) → length trace ≡ count → length (trace ++ x ∷ []) ≡ count + 1
 one_more count trace x e = length-append trace (x ∷ []) ∙ ap (λ (n : ℕ). n + 1) e
 
-pub tick_more : (s t : Setting) (h : History) (dom : DomId) (count : ℕ) (mid new : List State) (said : Ticked) → t ≡ s → ((a : _) (b : _) (c : _) → said ≡ ticked.Done a b c → ⊥)
+pub tick_more : (s t : Setting) (h : History) (dom : DomId) (count : ℕ) (mid new : CoreState) (said : Ticked) → t ≡ s → ((a : _) (b : _) (c : _) → said ≡ ticked.Done a b c → ⊥)
     → ((g : History) → CoreStands t g mid → MayDo t g (Tick dom) (ticked_element dom said) × CoreStands t (grown g (ticked_element dom said)) new)
     → IsTicking s h dom count mid → IsTicking s h dom (count + 1) new
 tick_more s t h dom count mid new said same other told u =
@@ -101,7 +101,7 @@ tick_more s t h dom count mid new said same other told u =
     }
 
 -- the tick that answers
-pub tick_last : (s t : Setting) (h : History) (dom : DomId) (most count : ℕ) (mid new : List State) (said : Ticked) (step : Step) (seen : Seen) (answer : Answer) → t ≡ s → count < most → said ≡ ticked.Done step seen answer
+pub tick_last : (s t : Setting) (h : History) (dom : DomId) (most count : ℕ) (mid new : CoreState) (said : Ticked) (step : Step) (seen : Seen) (answer : Answer) → t ≡ s → count < most → said ≡ ticked.Done step seen answer
     → ((g : History) → CoreStands t g mid → MayDo t g (Tick dom) (ticked_element dom said) × CoreStands t (grown g (ticked_element dom said)) new)
     → IsTicking s h dom count mid → TicksTo s h dom most new (Some answer)
 tick_last s t h dom most count mid new said step seen answer same few is told u =
@@ -119,7 +119,7 @@ tick_last s t h dom most count mid new said step seen answer same few is told u 
     }
 
 -- no tick answered
-pub tick_none : (s : Setting) (h : History) (dom : DomId) (most count : ℕ) (new : List State) → count ≡ most → IsTicking s h dom count new → TicksTo s h dom most new None
+pub tick_none : (s : Setting) (h : History) (dom : DomId) (most count : ℕ) (new : CoreState) → count ≡ most → IsTicking s h dom count new → TicksTo s h dom most new None
 tick_none s h dom most count new all u = record {
   ticks = count;
   trace = u.trace;
@@ -131,7 +131,7 @@ tick_none s h dom most count new all u = record {
 -- calls
 
 -- a call that is answered at once
-pub call_done : (s : Setting) (h : History) (dom : DomId) (request : Request) (said : Begun) (answer : Answer) (new : List State) → said ≡ begun.Done answer
+pub call_done : (s : Setting) (h : History) (dom : DomId) (request : Request) (said : Begun) (answer : Answer) (new : CoreState) → said ≡ begun.Done answer
     → MayDo s h (Begin dom request) (begun_element dom request said) × CoreStands s (grown h (begun_element dom request said)) new → Calls s h dom request new (Answered answer)
 call_done s h dom request said answer new is told = record {
   ticks = 0;
@@ -147,7 +147,7 @@ call_done s h dom request said answer new is told = record {
 }
 
 -- a call that does not begin
-pub call_busy : (s : Setting) (h : History) (dom : DomId) (request : Request) (said : Begun) (new : List State) → said ≡ begun.Busy
+pub call_busy : (s : Setting) (h : History) (dom : DomId) (request : Request) (said : Begun) (new : CoreState) → said ≡ begun.Busy
     → MayDo s h (Begin dom request) (begun_element dom request said) × CoreStands s (grown h (begun_element dom request said)) new → Calls s h dom request new Busy
 call_busy s h dom request said new is told = record {
   ticks = 0;
@@ -172,7 +172,7 @@ comes_after i trace answer none ends = (
 )
 
 -- a call that began, and then its ticks
-call_with_ticks : (s : Setting) (h : History) (dom : DomId) (most : ℕ) (request : Request) (i : Item) (mid new : List State) (answer : Answer) → i.answer ≡ None
+call_with_ticks : (s : Setting) (h : History) (dom : DomId) (most : ℕ) (request : Request) (i : Item) (mid new : CoreState) (answer : Answer) → i.answer ≡ None
     → MayDo s h (Begin dom request) (Did i) × CoreStands s (i ∷ h) mid → TicksTo s (i ∷ h) dom most new (Some answer) → Calls s h dom request new (Answered answer)
 call_with_ticks s h dom most request i mid new answer none told t = record {
   ticks = t.ticks;
@@ -182,7 +182,7 @@ call_with_ticks s h dom most request i mid new answer none told t = record {
   happens = Happens-append s h (Begin dom request ∷ []) (Did i ∷ []) (replicate t.ticks (Tick dom)) t.trace mid new (happens_one s h (Begin dom request) (Did i) mid told) t.happens;
 }
 
-pub call_ticked : (s t : Setting) (h : History) (dom : DomId) (most : ℕ) (request : Request) (began : Begun) (mid new : List State) (answer : Answer) (said : Option Answer) → t ≡ s → domain_of s.domains dom ≢ None → (began ≡ begun.Open) ⊎ (began ≡ begun.NoDomain)
+pub call_ticked : (s t : Setting) (h : History) (dom : DomId) (most : ℕ) (request : Request) (began : Begun) (mid new : CoreState) (answer : Answer) (said : Option Answer) → t ≡ s → domain_of s.domains dom ≢ None → (began ≡ begun.Open) ⊎ (began ≡ begun.NoDomain)
     → MayDo s h (Begin dom request) (begun_element dom request began) × CoreStands s (grown h (begun_element dom request began)) mid → ((g : History) → CoreStands t g mid → TicksTo t g dom most new said) → said ≡ Some answer → Calls s h dom request new (Answered answer)
 call_ticked s t h dom most request began mid new answer said same configured (inl open_now) told ticks is =
     let known = subst (λ (q : Setting). (g : History) → CoreStands q g mid → TicksTo q g dom most new said) same ticks in

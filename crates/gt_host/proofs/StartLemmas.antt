@@ -9,8 +9,7 @@ use Rattle.gt_types.specs.declared.config.ConfigFault.{ConfigFault}
 use Rattle.gt_script.specs.Contents.{Contents, first_gen}
 use Rattle.gt_types.specs.declared.limits.TheConstants.{LAST_GENERATION}
 use Rattle.gt_core.specs.History.{Setting}
-use Rattle.gt_core.specs.Standing.{CoreStands, setting_of}
-use Rattle.gt_core.specs.declared.core_state.Core.{Core}
+use Rattle.gt_core.specs.Standing.{CoreModel, CoreStands, setting_of}
 use Rattle.gt_host.specs.declared.rights.Rights.{Rights}
 use Rattle.gt_host.specs.Rights.{may_by, may_in}
 use Rattle.gt_host.specs.Playing.{StartsFor}
@@ -26,13 +25,13 @@ no_fault c f faultless some first (inr (inl d)) = None-Some _ f (faultless.each 
 no_fault c f faultless some first (inr (inr (is, nonempty, all, late))) = omega arith
 
 -- a core that was made with the domains and the rights of a script
-pub starts_for : (c : Contents) (core : Core Rights) (config : Config) (rights : Rights) → core.config ≡ config → core.rights ≡ rights → CoreStands (setting_of config (may_by rights)) [] core.domains.items
+pub starts_for : (c : Contents) (core : CoreModel Rights) (config : Config) (rights : Rights) → core.config ≡ config → core.rights ≡ rights → CoreStands (setting_of config (may_by rights)) [] core.state
     → config.domains.items ≡ c.domains → config.first_gen ≡ first_gen c → may_by rights ≡ may_in c → StartsFor c core
 starts_for c core config rights same_config same_rights stands domains generation may = record {
   domains = ap (λ (k : Config). k.domains.items) same_config ∙ domains;
   generation = ap (λ (k : Config). k.first_gen) same_config ∙ generation;
   rights = ap may_by same_rights ∙ may;
-  stands = subst (λ (s : Setting). CoreStands s [] core.domains.items) (sym (same_setting may_by core.config config core.rights rights same_config same_rights)) stands;
+  stands = subst (λ (s : Setting). CoreStands s [] core.state) (sym (same_setting may_by core.config config core.rights rights same_config same_rights)) stands;
 }
 
 known_here : (b rest : Bool) (d : DomainConfig) (more : Option DomainConfig) → (rest ≡ true → more ≢ None) → (b || rest) ≡ true → cond {A = Option DomainConfig} b (Some d) more ≢ None

@@ -10,8 +10,7 @@ use Rattle.gt_script.specs.Script.{Wrong, in_script, in_policy}
 use Rattle.gt_script.specs.declared.script.Step.{Step}
 use Rattle.gt_core.specs.History.{Setting}
 use Rattle.gt_core.specs.Legal.{Legal}
-use Rattle.gt_core.specs.Standing.{CoreStands, setting_of}
-use Rattle.gt_core.specs.declared.core_state.Core.{Core}
+use Rattle.gt_core.specs.Standing.{CoreModel, CoreStands, setting_of}
 use Rattle.gt_host.specs.declared.fault.PlayFault.{PlayFault}
 use Rattle.gt_host.specs.declared.fault.PlayFault.TheVariants.{Memory, Read, Write, Script, Policy}
 use Rattle.gt_host.specs.declared.rights.Rights.{Rights}
@@ -29,11 +28,11 @@ abbrev pub setting_of_script : Contents → Setting
 setting_of_script c = record { domains = c.domains; first_generation = first_gen c; may = may_in c }
 
 -- the core starts with the domains and the rights of the script (own)
-pub record StartsFor (c : Contents) (core : Core Rights) : Type 0 where
+pub record StartsFor (c : Contents) (core : CoreModel Rights) : Type 0 where
   pub domains : core.config.domains.items ≡ c.domains
   pub generation : core.config.first_gen ≡ first_gen c
   pub rights : may_by core.rights ≡ may_in c
-  pub stands : CoreStands (setting_of core.config (may_by core.rights)) [] core.domains.items
+  pub stands : CoreStands (setting_of core.config (may_by core.rights)) [] core.state
 
 -- The steps lead here, what their events did is a legal trace, and the calls that are open are those of the trace. Asked of the last point, it holds at the
 -- earlier ones too, since a legal trace begins and answers calls one at a time. (own)

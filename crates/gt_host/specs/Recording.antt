@@ -7,7 +7,7 @@ use Rattle.gt_audit.specs.declared.record.Hypercall.{Hypercall}
 use Rattle.gt_core.specs.History.{History, Setting}
 use Rattle.gt_core.specs.Legal.{history_after}
 use Rattle.gt_core.specs.Standing.{CoreStands}
-use Rattle.gt_core.specs.States.{State}
+use Rattle.gt_core.specs.States.{CoreState}
 use Rattle.gt_core.specs.Subject.{subject_at}
 use Rattle.gt_core.specs.declared.trace.Element.{Element}
 use Rattle.gt_host.specs.declared.kept.Kept.{Kept}
@@ -15,7 +15,7 @@ use Rattle.gt_host.specs.OpenCalls.{told_in}
 use Rattle.gt_host.specs.Auditing.{call_told, open_told, records_of}
 
 -- the domain's request is told so, after the items for which the core stands (own)
-abbrev pub IsAbout : Setting → List State → DomId → Request → Option Hypercall → Type 0
+abbrev pub IsAbout : Setting → CoreState → DomId → Request → Option Hypercall → Type 0
 IsAbout s domains dom request told = (h : History) → CoreStands s h domains → told ≡ call_told (subject_at s h dom) (asked request)
 
 -- nothing is recorded, and no open call is told (own)

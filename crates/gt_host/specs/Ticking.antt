@@ -5,7 +5,7 @@ use Rattle.gt_types.specs.declared.DomId.{DomId}
 use Rattle.gt_core.specs.History.{History, Setting}
 use Rattle.gt_core.specs.Legal.{Legal, LegalAfter, history_after}
 use Rattle.gt_core.specs.Standing.{CoreStands}
-use Rattle.gt_core.specs.States.{State}
+use Rattle.gt_core.specs.States.{CoreState}
 use Rattle.gt_calls.specs.declared.request.Request.{Request}
 use Rattle.gt_core.specs.declared.trace.Answer.{Answer}
 use Rattle.gt_core.specs.declared.trace.Event.{Event}
@@ -19,30 +19,30 @@ use Rattle.gt_host.specs.Recording.{IsAudited}
 use Rattle.gt_host.specs.Runs.{Progress, ComesTo, TicksComeTo, KnowsOpen, call_events, history_of}
 
 -- the events did what they may after the history, and the core stands for what they leave (own)
-pub record Happens (s : Setting) (h : History) (events : List Event) (trace : List Element) (domains : List State) : Type 0 where
+pub record Happens (s : Setting) (h : History) (events : List Event) (trace : List Element) (core : CoreState) : Type 0 where
   pub legal : LegalAfter s h events trace
-  pub stands : CoreStands s (history_after h trace) domains
+  pub stands : CoreStands s (history_after h trace) core
 
 -- a call comes to this, by its beginning and some ticks (own)
-pub record Calls (s : Setting) (h : History) (dom : DomId) (request : Request) (domains : List State) (outcome : Outcome) : Type 0 where
+pub record Calls (s : Setting) (h : History) (dom : DomId) (request : Request) (core : CoreState) (outcome : Outcome) : Type 0 where
   pub ticks : ℕ
   pub trace : List Element
   pub length_of : length trace ≡ 1 + ticks
   pub comes : ComesTo trace outcome
-  pub happens : Happens s h (call_events dom request ticks) trace domains
+  pub happens : Happens s h (call_events dom request ticks) trace core
 
 -- at most so many ticks of a domain come to this (own)
-pub record TicksTo (s : Setting) (h : History) (dom : DomId) (most : ℕ) (domains : List State) (answer : Option Answer) : Type 0 where
+pub record TicksTo (s : Setting) (h : History) (dom : DomId) (most : ℕ) (core : CoreState) (answer : Option Answer) : Type 0 where
   pub ticks : ℕ
   pub trace : List Element
   pub length_of : length trace ≡ ticks
   pub comes : TicksComeTo most trace answer
-  pub happens : Happens s h (replicate ticks (Tick dom)) trace domains
+  pub happens : Happens s h (replicate ticks (Tick dom)) trace core
 
 -- the core stands for some history, and the domain is one of the run (own)
-pub record IsReady (s : Setting) (dom : DomId) (domains : List State) : Type 0 where
+pub record IsReady (s : Setting) (dom : DomId) (core : CoreState) : Type 0 where
   pub history : History
-  pub stands : CoreStands s history domains
+  pub stands : CoreStands s history core
   pub known : domain_of s.domains dom ≢ None
 
 -- what is kept beside the core is what a run that has come here knows: what labels name, and the open calls (own)
@@ -51,9 +51,9 @@ pub record IsKept (kept : Kept) (p : Progress) : Type 0 where
   pub calls : (dom : ℕ) → call_in kept.calls dom ≡ p.open_steps dom
 
 -- the run has come to this point: what it did is legal, and the core and what is kept stand for it; it is recorded, where that is asked for (own)
-pub record HasCome (s : Setting) (audit : Bool) (p : Progress) (domains : List State) (kept : Kept) : Type 0 where
+pub record HasCome (s : Setting) (audit : Bool) (p : Progress) (domains : CoreState) (kept : Kept) : Type 0 where
   pub legal : Legal s p.events p.trace
-  pub stands : CoreStands s (history_of p) domains
+  pub stands : CoreStands s (history_of p) core
   pub keeps : IsKept kept p
   pub knows : KnowsOpen p
   pub audited : IsAudited s audit p.trace kept
@@ -63,7 +63,7 @@ abbrev pub IsAppended : List ℕ → List ℕ → List ℕ → List ℕ → Type
 IsAppended was is before after = (text : List ℕ) × (is ≡ was ++ text) × (after ≡ before ++ text)
 
 -- from each point that the run may have come to, this leads to a next one (own)
-abbrev pub Leads : Setting → (Progress → Progress → Type 0) → List State → List State → Kept → Kept → List ℕ → List ℕ → Type 0
+abbrev pub Leads : Setting → (Progress → Progress → Type 0) → CoreState → CoreState → Kept → Kept → List ℕ → List ℕ → Type 0
 Leads s ToNext old_domains new_domains old_kept new_kept before after =
     (p : Progress) (audit : Bool) → HasCome s audit p old_domains old_kept
     → (q : Progress) × ToNext p q × HasCome s audit q new_domains new_kept × IsAppended p.text q.text before after

@@ -31,7 +31,7 @@ fn end_told(end: End) -> CopyEnd
 // What a call is told as that the domain is about to make; None where such calls are not audited. An unmap is
 // told by the entry that is mapped now: once it has its answer, its handle may name none.
 fn call_told<P: Allows>(core: &Core<P>, dom: DomId, request: Request<'_>) -> Option<Hypercall>
-    ensures { IsAbout (setting_of core.now.config (P.may core.now.rights)) core.now.domains.items
+    ensures { IsAbout (setting_of core.now.config (P.may core.now.rights)) core.now.state
         dom request.entry result }
 {
     match request {
@@ -104,7 +104,7 @@ impl Audit {
         request: Request<'_>,
     ) -> Option<Hypercall>
         ensures { self.now.is_on ≡ true →
-            IsAbout (setting_of core.now.config (P.may core.now.rights)) core.now.domains.items dom request.entry result }
+            IsAbout (setting_of core.now.config (P.may core.now.rights)) core.now.state dom request.entry result }
     {
         if self.is_on {
             call_told(core, dom, request)

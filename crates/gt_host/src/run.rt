@@ -259,8 +259,8 @@ fn tick_up_to<P: Allows>(
     dom: DomId,
     most: u32,
 ) -> Result<Option<Answer>, Memory>
-    ensures ticks { (h : History) → CoreStands (setting_of core.old.config (P.may core.old.rights)) h core.old.domains.items →
-        IfOk result (TicksTo (setting_of core.old.config (P.may core.old.rights)) h dom most core.new.domains.items) }
+    ensures ticks { (h : History) → CoreStands (setting_of core.old.config (P.may core.old.rights)) h core.old.state →
+        IfOk result (TicksTo (setting_of core.old.config (P.may core.old.rights)) h dom most core.new.state) }
     ensures config { core.new.config ≡ core.old.config }
     ensures rights { core.new.rights ≡ core.old.rights }
 {
@@ -278,9 +278,9 @@ fn run_call<P: Allows>(
     dom: DomId,
     request: Request<'_>,
 ) -> Result<Outcome, Memory>
-    requires { IsReady (setting_of core.old.config (P.may core.old.rights)) dom core.old.domains.items }
-    ensures calls { (h : History) → CoreStands (setting_of core.old.config (P.may core.old.rights)) h core.old.domains.items →
-        IfOk result (Calls (setting_of core.old.config (P.may core.old.rights)) h dom request.entry core.new.domains.items) }
+    requires { IsReady (setting_of core.old.config (P.may core.old.rights)) dom core.old.state }
+    ensures calls { (h : History) → CoreStands (setting_of core.old.config (P.may core.old.rights)) h core.old.state →
+        IfOk result (Calls (setting_of core.old.config (P.may core.old.rights)) h dom request.entry core.new.state) }
     ensures config { core.new.config ≡ core.old.config }
     ensures rights { core.new.rights ≡ core.old.rights }
 {
@@ -305,10 +305,10 @@ fn run_do<'b, 'a, P: Allows>(
     bytes: &[u8],
     out: &mut Vec<u8>,
 ) -> Result<(), Fault>
-    requires ready { IsReady (setting_of core.old.config (P.may core.old.rights)) step.now.dom core.old.domains.items }
+    requires ready { IsReady (setting_of core.old.config (P.may core.old.rights)) step.now.dom core.old.state }
     requires said { bytes.now ≡ said_in call.now }
     ensures leads { OnOk result (Leads (setting_of core.old.config (P.may core.old.rights)) (DoLine types.now step.now call.now)
-        core.old.domains.items core.new.domains.items kept.old kept.new out.old.items out.new.items) }
+        core.old.state core.new.state kept.old kept.new out.old.items out.new.items) }
     ensures config { core.new.config ≡ core.old.config }
     ensures rights { core.new.rights ≡ core.old.rights }
     ensures errors { IfErr result (λ e. e ≡ faults.Memory) }
@@ -339,7 +339,7 @@ fn run_begin<'b, 'a, P: Allows>(
     requires known { domain_of core.old.config.domains.items step.now.dom ≢ None }
     requires said { bytes.now ≡ said_in call.now }
     ensures leads { OnOk result (Leads (setting_of core.old.config (P.may core.old.rights)) (BeginLine types.now step.now call.now)
-        core.old.domains.items core.new.domains.items kept.old kept.new out.old.items out.new.items) }
+        core.old.state core.new.state kept.old kept.new out.old.items out.new.items) }
     ensures config { core.new.config ≡ core.old.config }
     ensures rights { core.new.rights ≡ core.old.rights }
     ensures errors { IfErr result (λ e. e ≡ faults.Memory) }
@@ -369,7 +369,7 @@ fn run_ticks<'b, 'a, P: Allows>(
 ) -> Result<(), Fault>
     requires { domain_of core.old.config.domains.items step.now.dom ≢ None }
     ensures leads { OnOk result (Leads (setting_of core.old.config (P.may core.old.rights)) (λ p q. TickLine types.now step.now most (p.open_steps step.now.dom.0) p q)
-        core.old.domains.items core.new.domains.items kept.old kept.new out.old.items out.new.items) }
+        core.old.state core.new.state kept.old kept.new out.old.items out.new.items) }
     ensures config { core.new.config ≡ core.old.config }
     ensures rights { core.new.rights ≡ core.old.rights }
     ensures errors { IfErr result (λ e. e ≡ faults.Memory) }
@@ -404,9 +404,9 @@ pub fn run_step<'b, 'a, P: Allows>(
     step: &'b Step<'a>,
     out: &mut Vec<u8>,
 ) -> Result<(), Fault>
-    requires { IsReady (setting_of core.old.config (P.may core.old.rights)) step.now.dom core.old.domains.items }
+    requires { IsReady (setting_of core.old.config (P.may core.old.rights)) step.now.dom core.old.state }
     ensures leads { OnOk result (Leads (setting_of core.old.config (P.may core.old.rights)) (λ p q. RunsLine (setting_of core.old.config (P.may core.old.rights)) types.now step.now step.now.action p q)
-        core.old.domains.items core.new.domains.items kept.old kept.new out.old.items out.new.items) }
+        core.old.state core.new.state kept.old kept.new out.old.items out.new.items) }
     ensures config { core.new.config ≡ core.old.config }
     ensures rights { core.new.rights ≡ core.old.rights }
     ensures errors { IfErr result (λ e. e ≡ faults.Memory) }

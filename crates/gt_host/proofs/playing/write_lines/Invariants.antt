@@ -6,5 +6,5 @@ use Rattle.gt_host.proofs.playing.write_lines.Given as goal
 abbrev pub invariant-steps : goal.invariant-steps
 invariant-steps g l =
     (l.core.config ≡ l.initial.core.config) × (l.core.rights ≡ l.initial.core.rights)
-    × IsUnderway (told l.script) l.audit (take l.step-index l.steps) l.core.domains.items l.kept l.waiting.items (g.W.Write.contents l.initial.writer) (g.W.Write.contents l.writer)
+    × IsUnderway (told l.script) l.audit (take l.step-index l.steps) l.core.state l.kept l.waiting.items (g.W.Write.contents l.initial.writer) (g.W.Write.contents l.writer)
     × (length l.waiting.items < 65536)

@@ -9,12 +9,12 @@ use Rattle.gt_host.proofs.run.run_ticks.Goals as goal
 
 pub returns-in_default-clause-leads : goal.returns-in_default-clause-leads
 returns-in_default-clause-leads g c = λ p audit come.
-    ticks_idle (setting_of c.args.core.now.config (g.P.Allows.may c.args.core.now.rights)) audit c.args.types.now c.args.step.now c.args.most p c.args.core.now.domains.items c.args.kept.now c.args.out.now.items _
+    ticks_idle (setting_of c.args.core.now.config (g.P.Allows.may c.args.core.now.rights)) audit c.args.types.now c.args.step.now c.args.most p c.args.core.now.state c.args.kept.now c.args.out.now.items _
     (sym c.of.ensures.call ∙ ap (λ (o : Option Opened). option_map (λ (s : Opened). s.step.now) o) c.in_default.is) come c.in_ok-push_idle_line.ensures
 
 pub returns-in_ok-settle-clause-leads : goal.returns-in_ok-settle-clause-leads
 returns-in_ok-settle-clause-leads g c = λ p audit come.
-    ticks_answered (setting_of c.args.core.now.config (g.P.Allows.may c.args.core.now.rights)) audit c.args.types.now c.args.step.now c.args.most c.in-Some.begun.step.now p c.args.core.now.domains.items _ c.args.kept.now
+    ticks_answered (setting_of c.args.core.now.config (g.P.Allows.may c.args.core.now.rights)) audit c.args.types.now c.args.step.now c.args.most c.in-Some.begun.step.now p c.args.core.now.state _ c.args.kept.now
     (record { labels = c.settle.new.labels; calls = c.end.new.self; audit = c.record.new.self }) c.args.out.now.items _ c.in_ok-answer.field-0 c.in-Some-2.answer c.in-Some.begun.told
     (sym (ap (λ (o : Option Opened). option_and_then (λ (s : Opened). s.told) o) c.in-Some.is) ∙ c.of.ensures.told) (record { is_on = c.record.ensures.on; records = c.in_ok-record.ensures.records }) c.end.ensures.told
     (sym c.of.ensures.call ∙ ap (λ (o : Option Opened). option_map (λ (s : Opened). s.step.now) o) c.in-Some.is) c.in-Some-2.is come (c.in_ok-answer.ensures.ticks (history_of p) come.stands)
@@ -22,5 +22,5 @@ returns-in_ok-settle-clause-leads g c = λ p audit come.
 
 pub returns-in_default-2-clause-leads : goal.returns-in_default-2-clause-leads
 returns-in_default-2-clause-leads g c = λ p audit come.
-    ticks_open (setting_of c.args.core.now.config (g.P.Allows.may c.args.core.now.rights)) audit c.args.types.now c.args.step.now c.args.most c.in-Some.begun.step.now p c.args.core.now.domains.items _ c.args.kept.now c.args.out.now.items _ c.in_ok-answer.field-0
+    ticks_open (setting_of c.args.core.now.config (g.P.Allows.may c.args.core.now.rights)) audit c.args.types.now c.args.step.now c.args.most c.in-Some.begun.step.now p c.args.core.now.state _ c.args.kept.now c.args.out.now.items _ c.in_ok-answer.field-0
     c.requires (sym c.of.ensures.call ∙ ap (λ (o : Option Opened). option_map (λ (s : Opened). s.step.now) o) c.in-Some.is) c.in_default-2.is come (c.in_ok-answer.ensures.ticks (history_of p) come.stands) refl

@@ -7,5 +7,5 @@ use Rattle.gt_host.proofs.run.tick_up_to.Given as goal
 abbrev pub invariant-ticks : goal.invariant-ticks
 invariant-ticks g l =
     (l.core.config ≡ l.initial.core.config) × (l.core.rights ≡ l.initial.core.rights)
-    × ((h : History) → CoreStands (setting_of l.initial.core.config (g.P.Allows.may l.initial.core.rights)) h l.initial.core.domains.items
-    → IsTicking (setting_of l.initial.core.config (g.P.Allows.may l.initial.core.rights)) h l.dom l.counter l.core.domains.items)
+    × ((h : History) → CoreStands (setting_of l.initial.core.config (g.P.Allows.may l.initial.core.rights)) h l.initial.core.state
+    → IsTicking (setting_of l.initial.core.config (g.P.Allows.may l.initial.core.rights)) h l.dom l.counter l.core.state)

@@ -1,6 +1,6 @@
 use Rattle.gt_handles.specs.Handles.{Kept}
 use Rattle.gt_calls.specs.declared.held.Held.{Held}
-use Rattle.std.proofs.Common.{◌≡◌, ℕ, Vec, Global, None, map, subst, sym, ap, arith}
+use Rattle.std.proofs.Common.{◌≡◌, ℕ, None, subst, sym, ap, arith}
 use Rattle.gt_entry.specs.declared.header.Header.{Header}
 use Rattle.gt_core.specs.States.{State, first_state}
 use Rattle.gt_calls.specs.declared.known.TheConstants.{ENTRIES}
@@ -10,8 +10,7 @@ use Rattle.gt_core.proofs.state.DomainState.new.Goals as goal
 pub returns : goal.returns
 returns c =
     let n : c.entries.counter ≡ ENTRIES = omega arith in
-    let m : c.frames.counter ≡ c.args.domain.frames = omega arith in
     let first : State = first_state c.args.first_gen c.args.domain in
-    subst (λ (x : Header). ◌≡◌ {A = State} (record { id = c.args.domain.id; header = x; own = c.entries.own.items; slots = c.entries.slots.items; mappings = record c.new-2.result { room = 0 }; frames = map (λ (f : Vec ℕ Global). f.items) c.frames.frames.items; underway = None; given = c.new-3.result.items }) first) (sym c.table_header.ensures)
-    (at-rest c.args.domain c.args.first_gen c.entries.counter c.frames.counter c.entries.own.items c.entries.slots.items (record c.new-2.result { room = 0 }) (map (λ (f : Vec ℕ Global). f.items) c.frames.frames.items) c.new-3.result.items
-    n m c.entries.invariant.own c.entries.invariant.slots (ap (λ (k : Kept Held). record k { room = 0 }) c.new-2.ensures) c.frames.invariant c.new-3.ensures.items)
+    subst (λ (x : Header). ◌≡◌ {A = State} (record { id = c.args.domain.id; header = x; own = c.entries.own.items; slots = c.entries.slots.items; mappings = record c.new-2.result { room = 0 }; underway = None; given = c.new-3.result.items }) first) (sym c.table_header.ensures)
+    (at-rest c.args.domain c.args.first_gen c.entries.counter c.entries.own.items c.entries.slots.items (record c.new-2.result { room = 0 }) c.new-3.result.items
+    n c.entries.invariant.own c.entries.invariant.slots (ap (λ (k : Kept Held). record k { room = 0 }) c.new-2.ensures) c.new-3.ensures.items)

@@ -1,4 +1,4 @@
-use Rattle.std.proofs.Common.{◌≡◌, ℕ, Vec, Global, map, replicate, min}
+use Rattle.std.proofs.Common.{◌≡◌, ℕ, replicate, min}
 use Rattle.gt_entry.specs.declared.entry.Entry.TheVariants.{Invalid}
 use Rattle.gt_core.proofs.state.DomainState.new.Given as goal
 
@@ -8,7 +8,3 @@ invariant-entries l = record {
   own : l.own.items ≡ replicate l.counter (record { entry = Invalid; generation = min l.first_gen 1048575 });
   slots : l.slots.items ≡ replicate l.counter (record { reads = 0; writes = 0; first = 0; second = 0 });
 }
-
--- so many frames of zeros
-abbrev pub invariant-frames : goal.invariant-frames
-invariant-frames l = map (λ (f : Vec ℕ Global). f.items) l.frames.items ≡ replicate l.counter (replicate 4096 0)

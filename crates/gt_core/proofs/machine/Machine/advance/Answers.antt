@@ -4,7 +4,7 @@ use Rattle.gt_calls.specs.declared.known.Own.{Own}
 use Rattle.gt_calls.specs.Rules.{knowledge_of}
 use Rattle.gt_calls.specs.Following.{Goes}
 use Rattle.gt_core.specs.States.{State}
-use Rattle.gt_core.proofs.core_state.Core.advance.Goals as goal
+use Rattle.gt_core.proofs.machine.Machine.advance.Goals as goal
 
 pub returns-clause-goes : goal.returns-clause-goes
 returns-clause-goes g c =

@@ -5,7 +5,7 @@ use Rattle.gt_core.specs.States.{State}
 use Rattle.gt_core.specs.Standing.{setting_of}
 use Rattle.gt_core.proofs.Places.{has_id}
 use Rattle.gt_core.proofs.Showing.{shown-nowhere, shown-past, shown-there}
-use Rattle.gt_core.proofs.core_state.Core.show.Goals as goal
+use Rattle.gt_core.proofs.machine.Machine.show.Goals as goal
 
 pub returns-in_err-at : goal.returns-in_err-at
 returns-in_err-at g c =

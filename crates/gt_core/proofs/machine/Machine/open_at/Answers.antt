@@ -4,7 +4,7 @@ use Rattle.gt_calls.specs.declared.known.Own.{Own}
 use Rattle.gt_calls.specs.Rules.{knowledge_of}
 use Rattle.gt_core.specs.States.{State}
 use Rattle.gt_core.specs.Standing.{Opens}
-use Rattle.gt_core.proofs.core_state.Core.open_at.Goals as goal
+use Rattle.gt_core.proofs.machine.Machine.open_at.Goals as goal
 
 pub returns : goal.returns
 returns g c =

@@ -1,6 +1,6 @@
 use Rattle.std.proofs.Common.{◌<◌, length, arith}
 use Rattle.gt_core.proofs.Settling.{rest-more}
-use Rattle.gt_core.proofs.core_state.start_domains.Goals as goal
+use Rattle.gt_core.proofs.machine.start_domains.Goals as goal
 
 pub loop-domain-preserved : goal.loop-domain-preserved
 loop-domain-preserved c =

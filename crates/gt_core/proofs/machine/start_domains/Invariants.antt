@@ -1,6 +1,6 @@
 use Rattle.std.proofs.Common.{◌≡◌, map, take}
 use Rattle.gt_core.specs.States.{first_state}
-use Rattle.gt_core.proofs.core_state.start_domains.Given as goal
+use Rattle.gt_core.proofs.machine.start_domains.Given as goal
 
 -- so many domains are at rest
 abbrev pub invariant-loop-domain : goal.invariant-loop-domain

@@ -6,7 +6,7 @@ use Rattle.gt_core.specs.Standing.{setting_of}
 use Rattle.gt_core.specs.Subject.{place_of}
 use Rattle.gt_core.proofs.Places.{has_id}
 use Rattle.gt_core.proofs.Subjects.{subject-nowhere, subject-there}
-use Rattle.gt_core.proofs.core_state.Core.subject.Goals as goal
+use Rattle.gt_core.proofs.machine.Machine.subject.Goals as goal
 
 pub returns-in_err-at : goal.returns-in_err-at
 returns-in_err-at g c =

@@ -1,0 +1,390 @@
+-- The frames of a core: what a step of a call writes to them is by right, and leaves them as the history tells.
+use Rattle.std.proofs.Common.{◌≡◌, ◌≢◌, ◌≤◌, ◌<◌, ◌+◌, ◌-◌, ◌⊎◌, inl, inr, ℕ, refl, Bool, true, false, List, [], ◌∷◌, ◌++◌, map, replicate, length, take, drop, Option, Some, None, cond, ltb, sym, ap, ◌∙◌, arith, subst, reverse}
+use Rattle.std.proofs.lemmas.Bool.{eqb-true, eqb-false, eq-eqb, ne_eqb, le-leb, leb-true, lt-ltb, and_parts, and_from, false≢true}
+use Rattle.std.proofs.lemmas.List.{append-nil, map-append, length-append, length-drop, length-take-le, length-replicate}
+use Rattle.std.specs.Prelude.{◌==◌, ◌&&◌, nat_lt, nat_le, is_some, unwrap_or, slice_get, IsTrue, Any}
+use Rattle.gt_types.specs.Names.{domain_of, resolved}
+use Rattle.gt_types.specs.declared.DomId.{DomId}
+use Rattle.gt_types.specs.declared.Dir.TheVariants.{Write}
+use Rattle.gt_types.specs.declared.Use.TheVariants.{Map as ForMap, Copy as ForCopy}
+use Rattle.gt_types.specs.declared.config.DomainConfig.{DomainConfig}
+use Rattle.gt_types.specs.declared.limits.TheConstants.{FRAME_SIZE}
+use Rattle.gt_entry.specs.declared.entry.Entry.{Entry}
+use Rattle.gt_entry.specs.declared.entry.Entry.TheVariants.{Invalid, Page, Sub, Via}
+use Rattle.gt_entry.specs.Entries.{frame_of}
+use Rattle.gt_entry.specs.Permits.{permits, forwards, leads_to, is_of_frame, allows_direction}
+use Rattle.gt_handles.specs.declared.handles.Handle.{Handle}
+use Rattle.gt_handles.specs.Handles.{Kept, value_of}
+use Rattle.gt_calls.specs.declared.held.Held.{Held}
+use Rattle.gt_calls.specs.declared.held.Route.{Route}
+use Rattle.gt_calls.specs.declared.held.Route.TheVariants.{Own, Direct, Through}
+use Rattle.gt_calls.specs.declared.held.Pins.{Pins}
+use Rattle.gt_calls.specs.declared.request.End.{End}
+use Rattle.gt_calls.specs.declared.request.Request.{Request}
+use Rattle.gt_calls.specs.declared.request.Asked.{Asked}
+use Rattle.gt_calls.specs.declared.request.Asked.TheVariants.{Load, Store, Peek, Poke, Copy}
+use Rattle.gt_calls.specs.declared.action.Place.{Place}
+use Rattle.gt_calls.specs.declared.action.Seen.{Seen}
+use Rattle.gt_calls.specs.declared.action.Step.{Step}
+use Rattle.gt_calls.specs.declared.action.Step.TheVariants.{LookHeader, LookControl, LookBody, Pin as PinStep, Unpin, StoreBody, StoreHeader, Exchange, Read as ReadBytes, Write as WriteBytes, Copy as CopyBytes}
+use Rattle.gt_calls.specs.declared.action.Action.TheVariants.{Step as Makes}
+use Rattle.gt_calls.specs.declared.call.Call.{Call}
+use Rattle.gt_calls.specs.declared.call.Phase.{Phase}
+use Rattle.gt_calls.specs.Rules.{CallerKnowledge, begun, frames_of, frames_in, is_dest_granted}
+use Rattle.gt_calls.specs.Path.{place_of, dest_pair}
+use Rattle.gt_calls.specs.Opening.{opens}
+use Rattle.gt_calls.specs.Resting.{Rests, RestsOnRequest, RestsOnWays, IsReached, LeadsTo}
+use Rattle.gt_calls.specs.Standing.{pins_at, held_in}
+use Rattle.gt_frames.specs.declared.places.FrameName.{FrameName}
+use Rattle.gt_frames.specs.declared.writ.Ground.{Ground}
+use Rattle.gt_frames.specs.declared.writ.Writ.{Writ}
+use Rattle.gt_frames.specs.declared.writ.Record.{Record}
+use Rattle.gt_frames.specs.Bytes.{Patch, overlay, replay, zeros, written}
+use Rattle.gt_frames.specs.Frames.{FrameState, patch_of, patches, bytes_at, permits_writing, suffices, is_rightful, all_rightful}
+use Rattle.gt_frames.specs.Places.{frame_counts, pool_number, frames_of as frames_of_all, is_name}
+use Rattle.gt_frames.specs.Sets.{FrameSet, frame_at, has_frame, has_range, admits, all_zeros, AreKept, WritesTo, journal_in}
+use Rattle.gt_core.specs.declared.slot.Open.{Open}
+use Rattle.gt_core.specs.declared.trace.Item.{Item}
+use Rattle.gt_core.specs.declared.trace.Answer.{Answer}
+use Rattle.gt_core.specs.declared.trace.Happened.TheVariants.{Stepped}
+use Rattle.gt_core.specs.declared.core_state.Begun.{Begun}
+use Rattle.gt_core.specs.declared.core_state.Begun.TheVariants.{Open as BegunOpen, Done as BegunDone, Busy as BegunBusy, NoDomain as BegunNoDomain}
+use Rattle.gt_core.specs.States.{State, state_of}
+use Rattle.gt_core.specs.Accesses.{name_of, ground_of, route_by, route_of, IsWritOf, IsLoadOf, IsReadable, IsAdmitted, AccessedBy}
+use Rattle.gt_core.specs.History.{History, Setting, patches_at, patches_by, contents_at, written_by, Writing, given_in, open_call, Underway, values, known_at, live, legs_at, mappings_at, mapping_of}
+use Rattle.gt_core.specs.Legal.{IsInFrame, CopyIsJustified, grown}
+use Rattle.gt_core.specs.Standing.{DomainsStand, FramesStand, Agrees, OpenAgrees, GivenAgrees, FitsGiven, numbered, begun_element}
+use Rattle.gt_core.proofs.Keeping.{stepped, same-number}
+use Rattle.gt_core.proofs.Starting.{get-replicate}
+use Rattle.gt_core.proofs.Accessing.{permits-as, mapping-pin, none-of, same-held, IsRightful, read-justified, write-justified, copy-justified}
+
+-- what a frame holds, and which frames there are
+
+-- a range of a frame holds what the history left in it
+pub bytes-held : (s : Setting) (h : History) (fs : FrameSet) (dom : DomId) (frame off len : ℕ) → FramesStand s h fs
+    → bytes_at (frame_at fs (record { owner = dom; number = frame })) off len ≡ take len (drop off (contents_at h dom.0 frame))
+bytes-held s h fs dom frame off len fr =
+    let size : off + len - off ≡ len = omega arith in
+    ap (λ (ps : List Patch). take (off + len - off) (drop off (written ps))) (fr.writes (record { owner = dom; number = frame }))
+    ∙ ap (λ (n : ℕ). take n (drop off (contents_at h dom.0 frame))) size
+
+frame-numbered : (ds : List DomainConfig) (t : DomId) (f at : ℕ) → f < frames_of ds t → is_some (pool_number (frame_counts ds) t f at) ≡ true
+frame-numbered [] t f at below = absurd (omega arith)
+frame-numbered (d ∷ ds) t f at below = by (d.id.0 == t.0) below (λ b. frame-numbered ds t f (at + d.frames) b)
+  where
+    there : (b : Bool) → b ≡ true → is_some (cond b (Some (at + f)) None) ≡ true
+    there true e = refl
+    there false e = e
+
+    by : (b : Bool) → f < frames_in (cond b (Some d) (domain_of ds t)) → (f < frames_of ds t → is_some (pool_number (frame_counts ds) t f (at + d.frames)) ≡ true)
+        → is_some (cond b (cond (nat_lt f d.frames) (Some (at + f)) None) (pool_number (frame_counts ds) t f (at + d.frames))) ≡ true
+    by true le rest = there (nat_lt f d.frames) (lt-ltb f d.frames le)
+    by false le rest = rest le
+
+frame-there : (s : Setting) (h : History) (fs : FrameSet) (name : FrameName) → FramesStand s h fs → name.number < frames_of s.domains name.owner → has_frame fs name ≡ true
+frame-there s h fs name fr below =
+    ap (λ (ds : _). is_some (pool_number ds name.owner name.number 0)) fr.counts ∙ frame-numbered s.domains name.owner name.number 0 below
+
+range-there : (s : Setting) (h : History) (fs : FrameSet) (at : Place) (len : ℕ) → FramesStand s h fs → IsInFrame s at len → IsTrue (has_range fs (name_of at) at.off len)
+range-there s h fs at len fr a = and_from _ _ (frame-there s h fs (name_of at) fr a.0) (le-leb (at.off + len) FRAME_SIZE a.1)
+
+-- writs
+
+-- an entry that lets a mapping write lets any range of its frame be written
+map-writes : (e : Entry) (d : DomId) (frame off len : ℕ) → frame ≡ frame_of e → permits e d Write ForMap off len ≡ true → permits_writing e d frame off len ≡ true
+map-writes Invalid d frame off len is a = absurd (false≢true a)
+map-writes (Page dom ro f) d frame off len is a = and_from _ _ (eq-eqb f frame (sym is)) a
+map-writes (Sub dom ro f start size) d frame off len is a = absurd (false≢true (sym (never (dom.0 == d.0) (allows_direction ro Write)) ∙ a))
+  where
+    never : (b c : Bool) → (b && c && false && nat_le start off && nat_le (off + len) (start + size)) ≡ false
+    never true true = refl
+    never true false = refl
+    never false c = refl
+map-writes (Via dom ro dom2 gref) d frame off len is a = absurd (false≢true a)
+
+-- an entry that permits a copy to write permits it to write its own frame
+copy-writes : (e : Entry) (d : DomId) (off len : ℕ) → permits e d Write ForCopy off len ≡ true → permits_writing e d (frame_of e) off len ≡ true
+copy-writes Invalid d off len a = absurd (false≢true a)
+copy-writes (Page dom ro f) d off len a = and_from _ _ (same-number f) a
+copy-writes (Sub dom ro f start size) d off len a = and_from _ _ (same-number f) a
+copy-writes (Via dom ro dom2 gref) d off len a = absurd (false≢true a)
+
+leads-there : (e : Entry) (p : Held) → LeadsTo e p → leads_to e p.dom ≡ true
+leads-there Invalid p a = absurd a
+leads-there (Page dom ro f) p a = absurd a
+leads-there (Sub dom ro f off len) p a = absurd a
+leads-there (Via dom ro dom2 gref) p a = eq-eqb dom2.0 p.dom.0 (ap (λ (z : DomId). z.0) (sym a.0))
+
+-- the entries of a copy's pins let it write
+way-covers : (k : CallerKnowledge) (d : DomId) (granted : Bool) (end : End) (len : ℕ) (pair : DomId → DomId × DomId) (route : Route) → IsReached k d granted end Write len pair route
+    → suffices (ground_of route) d (place_of d end route).owner (place_of d end route).frame end.offset len ≡ true
+way-covers k d granted end len pair Own a = same-number d.0
+way-covers k d granted end len pair (Direct p) a = copy-writes p.entry d end.offset len a.2.permitted
+way-covers k d granted end len pair (Through via p) a =
+    and_from _ _ (and_from _ _ a.1.forwarded (leads-there via.entry p a.2))
+    (copy-writes p.entry via.dom end.offset len (subst (λ (z : DomId). permits p.entry z Write ForCopy end.offset len ≡ true) (sym a.1.named) a.3.permitted))
+
+-- the route of a call, which suffices, is that of its writ
+admitted-by : (fs : FrameSet) (x : State) (call : Call) (name : FrameName) (off len : ℕ) (route : Route) → has_frame fs name ≡ true → off + len ≤ FRAME_SIZE → route_of x.mappings call ≡ route
+    → suffices (ground_of route) call.caller name.owner name.number off len ≡ true → (w : Writ) → IsWritOf x call w → IsTrue (admits fs name w off len)
+admitted-by fs x call name off len route there within is right w of_call =
+    let by : w.basis ≡ ground_of route = of_call.1 ∙ ap ground_of is in
+    and_from _ _ (and_from _ _ there (le-leb (off + len) FRAME_SIZE within))
+    (ap (λ (d : DomId). suffices w.basis d name.owner name.number off len) of_call.0 ∙ ap (λ (g : Ground). suffices g call.caller name.owner name.number off len) by ∙ right)
+
+-- a store through a mapping writes by the mapping's entry
+store-admitted : (s : Setting) (h : History) (xs : List State) (fs : FrameSet) (x : State) (phase : Option Phase) (handle : Handle) (dom : DomId) (frame off len : ℕ) → DomainsStand s h xs → FramesStand s h fs → Agrees s h x
+    → begun (known_at s h x.id) x.id (Store handle off len) ≡ None → (mapped : Rattle.gt_calls.specs.Resting.IsMapped (known_at s h x.id) handle dom frame) → FitsGiven (Store handle off len) x.given
+    → IsAdmitted fs x (record { caller = x.id; request = Store handle off len; phase = phase }) (WriteBytes dom frame off len)
+store-admitted s h xs fs x phase handle dom frame off len st fr a none mapped fits =
+    let k = known_at s h x.id in
+    let m = mapped.mapping in
+    let o = opens k x.id (Store handle off len) none in
+    let same : o.mapping ≡ m = same-held k handle o.mapping m o.found mapped.found in
+    let writable : m.dir ≡ Write = ap (λ (q : Held). q.dir) (sym same) ∙ o.writable in
+    let one = (mapping-pin s h xs x.id handle m st mapped.found).4 in
+    let held : value_of x.mappings handle ≡ Some m = ap (λ (f : Handle → Option Held). f handle) a.mappings.named ∙ mapped.found in
+    let within : off + length x.given ≤ FRAME_SIZE = let e = fits.0 in let room = fits.1 in omega arith in
+    let below : frame < frames_of s.domains dom = subst (λ (n : ℕ). n < frames_of s.domains dom) (sym mapped.of_frame) (subst (λ (z : DomId). frame_of m.entry < frames_of s.domains z) (sym mapped.of_dom) one.framed) in
+    admitted-by fs x (record { caller = x.id; request = Store handle off len; phase = phase }) (record { owner = dom; number = frame }) off (length x.given) (Direct m)
+    (frame-there s h fs (record { owner = dom; number = frame }) fr below) within (ap route_by held)
+    (map-writes m.entry x.id frame off (length x.given) mapped.of_frame
+    (permits-as m.entry x.id m.dir Write off (length x.given) (λ w. writable) one.permitted))
+
+-- a poke writes to a frame of the caller's own
+poke-admitted : (s : Setting) (h : History) (fs : FrameSet) (x : State) (phase : Option Phase) (dom : DomId) (frame off len : ℕ) → FramesStand s h fs → begun (known_at s h x.id) x.id (Poke frame off len) ≡ None → dom ≡ x.id
+    → FitsGiven (Poke frame off len) x.given → IsAdmitted fs x (record { caller = x.id; request = Poke frame off len; phase = phase }) (WriteBytes dom frame off len)
+poke-admitted s h fs x phase dom frame off len fr none own fits =
+    let o = opens (known_at s h x.id) x.id (Poke frame off len) none in
+    let within : off + length x.given ≤ FRAME_SIZE = let e = fits.0 in let room = fits.1 in omega arith in
+    admitted-by fs x (record { caller = x.id; request = Poke frame off len; phase = phase }) (record { owner = dom; number = frame }) off (length x.given) Own
+    (frame-there s h fs (record { owner = dom; number = frame }) fr (subst (λ (z : DomId). frame < frames_of s.domains z) (sym own) o.framed)) within refl
+    (eq-eqb x.id.0 dom.0 (ap (λ (z : DomId). z.0) (sym own)))
+
+frame-of-copy : (s : Setting) (h : History) (d : DomId) (r : Asked) (from to : Place) (len : ℕ) → CopyIsJustified s h d r from to len → IsInFrame s from len × IsInFrame s to len
+frame-of-copy s h d (Copy c) from to len a = (a.0, a.1)
+frame-of-copy s h d r from to len a = absurd a
+
+-- a copy writes by the pins of its destination
+copy-admitted : (s : Setting) (h : History) (fs : FrameSet) (x : State) (r : Asked) (phase : Phase) (from to : Place) (len : ℕ) → FramesStand s h fs → begun (known_at s h x.id) x.id r ≡ None
+    → legs_at h x.id.0 ≡ numbered 0 (reverse (held_in phase)) → RestsOnWays (known_at s h x.id) x.id r (pins_at phase) from to len
+    → IsAdmitted fs x (record { caller = x.id; request = r; phase = Some phase }) (CopyBytes from to len)
+copy-admitted s h fs x r phase from to len fr none held a =
+    let c = a.copy in
+    let inside = frame-of-copy s h x.id r from to len (copy-justified s h x.id r (pins_at phase) from to len none held a) in
+    let route = (pins_at phase).dest in
+    let t = place_of x.id c.dest route in
+    let right : suffices (ground_of route) x.id t.owner t.frame t.off c.len ≡ true =
+    way-covers (known_at s h x.id) x.id (is_dest_granted c) c.dest c.len (dest_pair x.id (pins_at phase).source) route a.dest_reached in
+    let right_to : suffices (ground_of route) x.id to.owner to.frame to.off len ≡ true =
+    subst (λ (z : Place). suffices (ground_of route) x.id z.owner z.frame z.off len ≡ true) (sym a.to_is) (subst (λ (n : ℕ). suffices (ground_of route) x.id t.owner t.frame t.off n ≡ true) (sym a.len_is) right) in
+    let by : route_of x.mappings (record { caller = x.id; request = r; phase = Some phase }) ≡ route = ap (λ (q : Asked). route_of x.mappings (record { caller = x.id; request = q; phase = Some phase })) a.of_copy in
+    (range-there s h fs from len fr inside.0, admitted-by fs x (record { caller = x.id; request = r; phase = Some phase }) (name_of to) to.off len route (frame-there s h fs (name_of to) fr inside.1.0) inside.1.1 by right_to)
+
+call-by : (s : Setting) (h : History) (d : DomId) (o : Open) (c : Underway) → (a : OpenAgrees s h d o c) → o.call ≡ record { caller = d; request = c.request; phase = Some a.phase }
+call-by s h d o c a =
+    ap (λ (z : DomId). record { caller = z; request = o.call.request; phase = o.call.phase }) a.caller
+    ∙ ap (λ (z : Asked). record { caller = d; request = z; phase = o.call.phase }) a.asks
+    ∙ ap (λ (z : Option Phase). record { caller = d; request = c.request; phase = z }) a.here
+
+-- what the next step of an open call writes is by right
+pub open-admitted : (s : Setting) (h : History) (xs : List State) (fs : FrameSet) (x : State) (o : Open) (c : Underway) → DomainsStand s h xs → FramesStand s h fs → Agrees s h x → open_call h x.id.0 ≡ Some c → OpenAgrees s h x.id o c
+    → IsAdmitted fs x o.call o.step
+open-admitted s h xs fs x o c st fr a call here =
+    subst (λ (z : Call). IsAdmitted fs x z o.step) (sym (call-by s h x.id o c here)) (by o.step here.rests)
+  where
+    given : FitsGiven c.request x.given
+    given = let g = a.given c call in subst (FitsGiven c.request) (sym g.0) g.1
+
+    asks : (r : Asked) (dom : DomId) (frame off len : ℕ) → c.request ≡ r → IsAdmitted fs x (record { caller = x.id; request = r; phase = Some here.phase }) (WriteBytes dom frame off len)
+        → IsAdmitted fs x (record { caller = x.id; request = c.request; phase = Some here.phase }) (WriteBytes dom frame off len)
+    asks r dom frame off len is b = subst (λ (q : Asked). IsAdmitted fs x (record { caller = x.id; request = q; phase = Some here.phase }) (WriteBytes dom frame off len)) (sym is) b
+
+    writes : (dom : DomId) (frame off len : ℕ) → begun (known_at s h x.id) x.id c.request ≡ None → RestsOnRequest (known_at s h x.id) x.id c.request (WriteBytes dom frame off len)
+        → IsAdmitted fs x (record { caller = x.id; request = c.request; phase = Some here.phase }) (WriteBytes dom frame off len)
+    writes dom frame off len none (inl (handle, is, mapped)) =
+        asks (Store handle off len) dom frame off len is
+        (store-admitted s h xs fs x (Some here.phase) handle dom frame off len st fr a (none-of (known_at s h x.id) x.id c.request (Store handle off len) is none) mapped (subst (λ (q : Asked). FitsGiven q x.given) is given))
+    writes dom frame off len none (inr (is, own)) =
+        asks (Poke frame off len) dom frame off len is
+        (poke-admitted s h fs x (Some here.phase) dom frame off len fr (none-of (known_at s h x.id) x.id c.request (Poke frame off len) is none) own (subst (λ (q : Asked). FitsGiven q x.given) is given))
+
+    by : (step : Step) → Rests (known_at s h x.id) x.id c.request (pins_at here.phase) (values c) (Makes step) → IsAdmitted fs x (record { caller = x.id; request = c.request; phase = Some here.phase }) step
+    by (WriteBytes dom frame off len) r = writes dom frame off len r.0 r.1
+    by (CopyBytes from to len) r = copy-admitted s h fs x c.request here.phase from to len fr r.0 here.held r.1
+    by (LookHeader dom) r = tt
+    by (LookControl dom gref) r = tt
+    by (LookBody dom gref half) r = tt
+    by (PinStep p) r = tt
+    by (Unpin p holder) r = tt
+    by (StoreBody gref half word) r = tt
+    by (StoreHeader version frames) r = tt
+    by (Exchange gref looked change) r = tt
+    by (ReadBytes dom frame off len) r = tt
+
+-- what it reads is there
+pub open-readable : (s : Setting) (h : History) (xs : List State) (fs : FrameSet) (x : State) (o : Open) (c : Underway) → DomainsStand s h xs → FramesStand s h fs → OpenAgrees s h x.id o c → IsReadable fs o.call o.step
+open-readable s h xs fs x o c st fr here = by o.step here.rests
+  where
+    long : (dom : DomId) (frame off len : ℕ) → RestsOnRequest (known_at s h x.id) x.id c.request (ReadBytes dom frame off len) → IsLoadOf o.call.request len
+    long dom frame off len (inl (handle, is, mapped)) = subst (λ (q : Asked). IsLoadOf q len) (sym (here.asks ∙ is)) refl
+    long dom frame off len (inr (is, own)) = subst (λ (q : Asked). IsLoadOf q len) (sym (here.asks ∙ is)) refl
+
+    by : (step : Step) → Rests (known_at s h x.id) x.id c.request (pins_at here.phase) (values c) (Makes step) → IsReadable fs o.call step
+    by (ReadBytes dom frame off len) r =
+        let just = read-justified s h xs x.id c.request dom frame off len st r.0 r.1 in
+        (range-there s h fs (record { owner = dom; frame = frame; off = off }) len fr just.0, long dom frame off len r.1)
+    by (WriteBytes dom frame off len) r = tt
+    by (CopyBytes from to len) r = tt
+    by (LookHeader dom) r = tt
+    by (LookControl dom gref) r = tt
+    by (LookBody dom gref half) r = tt
+    by (PinStep p) r = tt
+    by (Unpin p holder) r = tt
+    by (StoreBody gref half word) r = tt
+    by (StoreHeader version frames) r = tt
+    by (Exchange gref looked change) r = tt
+
+-- the size of a frame
+
+-- bytes that are laid over others inside them leave them as many as they were
+length-overlay : (xs : List ℕ) (off : ℕ) (ys : List ℕ) → off + length ys ≤ length xs → length (overlay xs off ys) ≡ length xs
+length-overlay xs off ys within =
+    let back = drop (off + length ys) xs in
+    let a : length ((take off xs ++ ys) ++ back) ≡ length (take off xs ++ ys) + length back = length-append (take off xs ++ ys) back in
+    let b : length (take off xs ++ ys) ≡ length (take off xs) + length ys = length-append (take off xs) ys in
+    let c : length back ≡ length xs - (off + length ys) = length-drop (off + length ys) xs in
+    let d : length (take off xs) ≡ off = length-take-le off xs (omega arith) in
+    let whole : length ((take off xs ++ ys) ++ back) ≡ length xs = omega arith in
+    whole
+
+length-replay : (owner : DomId) (number : ℕ) (rs : List Record) (xs : List ℕ) → length xs ≡ FRAME_SIZE → IsTrue (all_rightful owner number rs) → length (replay xs (patches rs)) ≡ FRAME_SIZE
+length-replay owner number [] xs full a = full
+length-replay owner number (r ∷ rs) xs full a =
+    let parts = and_parts (is_rightful owner number r) (all_rightful owner number rs) a in
+    let within : r.off + length r.bytes ≤ FRAME_SIZE = leb-true (r.off + length r.bytes) FRAME_SIZE (and_parts (nat_le (r.off + length r.bytes) FRAME_SIZE) _ parts.0).0 in
+    length-replay owner number rs (overlay xs r.off r.bytes) (length-overlay xs r.off r.bytes (subst (λ (n : ℕ). r.off + length r.bytes ≤ n) (sym full) within) ∙ full) parts.1
+
+length-zeros : length zeros ≡ FRAME_SIZE
+unfolding zeros
+length-zeros = length-replicate {A = ℕ} FRAME_SIZE 0
+
+filled-by : (h : History) (fs : FrameSet) → ((name : FrameName) → patches (frame_at fs name).journal ≡ patches_at h name.owner.0 name.number) → AreKept fs → (t f : ℕ) → length (contents_at h t f) ≡ FRAME_SIZE
+filled-by h fs writes kept t f =
+    let name : FrameName = record { owner = record { 0 = t }; number = f } in
+    ap (λ (ps : List Patch). length (written ps)) (sym (writes name)) ∙ length-replay name.owner f (frame_at fs name).journal zeros length-zeros (kept name)
+
+-- one item more
+
+-- what the item writes
+abbrev WritingOf : Item → History → Option Writing
+WritingOf i h = written_by i.happened (given_in (open_call h i.actor.0)) (λ u g. written (patches_at h u g))
+
+patches-more : (i : Item) (h : History) (t f : ℕ) → patches_at (i ∷ h) t f ≡ patches_at h t f ++ patches_by (WritingOf i h) t f
+unfolding patches_at
+patches-more i h t f = refl
+
+-- an item that writes nothing
+nothing-written : (s : Setting) (h : History) (fs : FrameSet) (i : Item) → WritingOf i h ≡ None → FramesStand s h fs → FramesStand s (i ∷ h) fs
+nothing-written s h fs i none fr = record { counts = fr.counts; writes = writes; kept = fr.kept; filled = filled-by (i ∷ h) fs writes fr.kept }
+  where
+    writes : (name : FrameName) → patches (frame_at fs name).journal ≡ patches_at (i ∷ h) name.owner.0 name.number
+    writes name =
+        fr.writes name ∙ sym (append-nil (patches_at h name.owner.0 name.number))
+        ∙ ap (λ (w : Option Writing). patches_at h name.owner.0 name.number ++ patches_by w name.owner.0 name.number) (sym none)
+        ∙ sym (patches-more i h name.owner.0 name.number)
+
+-- an item that writes these bytes to a frame by this writ
+written-once : (s : Setting) (h : History) (fs gs : FrameSet) (i : Item) (at : Place) (w : Writ) (bytes : List ℕ) → WritingOf i h ≡ Some (record { at = at; bytes = bytes }) → FramesStand s h fs → WritesTo fs gs (name_of at) w at.off bytes → AreKept gs
+    → FramesStand s (i ∷ h) gs
+written-once s h fs gs i at w bytes wrote fr to kept = record { counts = to.domains ∙ fr.counts; writes = writes; kept = kept; filled = filled-by (i ∷ h) gs writes kept }
+  where
+    patch : Patch
+    patch = record { off = at.off; bytes = bytes }
+
+    turned : (a b : ℕ) → (a == b) ≡ false → (b == a) ≡ false
+    turned a b e = ne_eqb b a (λ f. eqb-false a b e (sym f))
+
+    elsewhere : (name : FrameName) → is_name name (name_of at) ≡ false → patches (frame_at gs name).journal ≡ patches_at h name.owner.0 name.number ++ []
+    elsewhere name apart = ap (λ (z : FrameState). patches z.journal) (to.others name apart) ∙ fr.writes name ∙ sym (append-nil (patches_at h name.owner.0 name.number))
+
+    here : patches (frame_at gs (name_of at)).journal ≡ patches_at h at.owner.0 at.frame ++ patch ∷ []
+    here =
+        ap (λ (z : FrameState). patches z.journal) to.write.journal
+        ∙ map-append patch_of (frame_at fs (name_of at)).journal (record { writ = w; off = at.off; bytes = bytes } ∷ [])
+        ∙ ap (λ (ps : List Patch). ps ++ patch ∷ []) (fr.writes (name_of at))
+
+    named : (name : FrameName) → at.owner.0 ≡ name.owner.0 → at.frame ≡ name.number → name_of at ≡ name
+    named name a b = ap (λ (n : ℕ). record { owner = record { 0 = n }; number = at.frame }) a ∙ ap (λ (n : ℕ). record { owner = name.owner; number = n }) b
+
+    by : (name : FrameName) (a : Bool) → (at.owner.0 == name.owner.0) ≡ a → (b : Bool) → (at.frame == name.number) ≡ b
+        → patches (frame_at gs name).journal ≡ patches_at h name.owner.0 name.number ++ cond (a && b) (patch ∷ []) []
+    by name true is true same =
+        subst (λ (z : FrameName). patches (frame_at gs z).journal ≡ patches_at h z.owner.0 z.number ++ patch ∷ []) (named name (eqb-true at.owner.0 name.owner.0 is) (eqb-true at.frame name.number same)) here
+    by name true is false other = elsewhere name (apart (name.owner.0 == at.owner.0) (name.number == at.frame) (turned at.frame name.number other))
+      where
+        apart : (a b : Bool) → b ≡ false → (a && b) ≡ false
+        apart true b e = e
+        apart false b e = refl
+    by name false is b same = elsewhere name (apart (name.owner.0 == at.owner.0) (name.number == at.frame) (turned at.owner.0 name.owner.0 is))
+      where
+        apart : (a b : Bool) → a ≡ false → (a && b) ≡ false
+        apart a b e = ap (λ (z : Bool). z && b) e
+
+    writes : (name : FrameName) → patches (frame_at gs name).journal ≡ patches_at (i ∷ h) name.owner.0 name.number
+    writes name =
+        by name (at.owner.0 == name.owner.0) refl (at.frame == name.number) refl
+        ∙ ap (λ (z : Option Writing). patches_at h name.owner.0 name.number ++ patches_by z name.owner.0 name.number) (sym wrote)
+        ∙ sym (patches-more i h name.owner.0 name.number)
+
+-- the frames after a step, which wrote what its call was given or what its source held
+pub frames-stepped : (s : Setting) (h : History) (fs gs : FrameSet) (x : State) (call : Call) (step : Step) (seen : Seen) (answer : Option Answer) (c : Underway) → open_call h x.id.0 ≡ Some c → x.given ≡ c.given → FramesStand s h fs → AccessedBy x call step fs gs
+    → FramesStand s (stepped x.id step seen answer ∷ h) gs
+frames-stepped s h fs gs x call step seen answer c under given fr = by step
+  where
+    quiet : (z : Step) → WritingOf (stepped x.id z seen answer) h ≡ None → gs ≡ fs → FramesStand s (stepped x.id z seen answer ∷ h) gs
+    quiet z none same = subst (FramesStand s (stepped x.id z seen answer ∷ h)) (sym same) (nothing-written s h fs (stepped x.id z seen answer) none fr)
+
+    by : (z : Step) → AccessedBy x call z fs gs → FramesStand s (stepped x.id z seen answer ∷ h) gs
+    by (WriteBytes dom frame off len) a =
+        written-once s h fs gs (stepped x.id (WriteBytes dom frame off len) seen answer) (record { owner = dom; frame = frame; off = off }) a.0 x.given
+        (ap (λ (u : Option Underway). Some (record { at = record { owner = dom; frame = frame; off = off }; bytes = given_in u })) under ∙ ap (λ (l : List ℕ). Some (record { at = record { owner = dom; frame = frame; off = off }; bytes = l })) (sym given)) fr a.2 a.3
+    by (CopyBytes from to len) a =
+        written-once s h fs gs (stepped x.id (CopyBytes from to len) seen answer) to a.0 (bytes_at (frame_at fs (name_of from)) from.off len)
+        (ap (λ (l : List ℕ). Some (record { at = to; bytes = l })) (sym (bytes-held s h fs from.owner from.frame from.off len fr))) fr a.2 a.3
+    by (LookHeader dom) a = quiet (LookHeader dom) refl a
+    by (LookControl dom gref) a = quiet (LookControl dom gref) refl a
+    by (LookBody dom gref half) a = quiet (LookBody dom gref half) refl a
+    by (PinStep p) a = quiet (PinStep p) refl a
+    by (Unpin p holder) a = quiet (Unpin p holder) refl a
+    by (StoreBody gref half word) a = quiet (StoreBody gref half word) refl a
+    by (StoreHeader version frames) a = quiet (StoreHeader version frames) refl a
+    by (Exchange gref looked change) a = quiet (Exchange gref looked change) refl a
+    by (ReadBytes dom frame off len) a = quiet (ReadBytes dom frame off len) refl a
+
+-- a beginning writes nothing
+pub frames-begun : (s : Setting) (h : History) (fs : FrameSet) (dom : DomId) (request : Request) (b : Begun) → FramesStand s h fs → FramesStand s (grown h (begun_element dom request b)) fs
+frames-begun s h fs dom request BegunOpen fr = nothing-written s h fs _ refl fr
+frames-begun s h fs dom request (BegunDone answer) fr = nothing-written s h fs _ refl fr
+frames-begun s h fs dom request BegunBusy fr = fr
+frames-begun s h fs dom request BegunNoDomain fr = fr
+
+-- frames at rest
+
+no-patches : (t f : ℕ) → patches_at [] t f ≡ []
+unfolding patches_at
+no-patches t f = refl
+
+pub frames-start : (s : Setting) (fs : FrameSet) → fs ≡ all_zeros (frame_counts s.domains) → AreKept fs → FramesStand s [] fs
+frames-start s fs same kept = record { counts = ap (λ (z : FrameSet). z.domains) same; writes = writes; kept = kept; filled = filled-by [] fs writes kept }
+  where
+    picked : (b : Bool) → ◌≡◌ {A = List Record} (unwrap_or (cond b (Some []) None) []) []
+    picked true = refl
+    picked false = refl
+
+    by : (place : Option ℕ) → journal_in place (replicate (frames_of_all (frame_counts s.domains)) []) ≡ []
+    by None = refl
+    by (Some n) = ap (λ (o : Option (List Record)). unwrap_or o []) (get-replicate (frames_of_all (frame_counts s.domains)) n []) ∙ picked (nat_lt n (frames_of_all (frame_counts s.domains)))
+
+    writes : (name : FrameName) → patches (frame_at fs name).journal ≡ patches_at [] name.owner.0 name.number
+    writes name = ap (λ (z : FrameSet). patches (frame_at z name).journal) same ∙ ap patches (by (pool_number (frame_counts s.domains) name.owner name.number 0)) ∙ sym (no-patches name.owner.0 name.number)

@@ -1,0 +1,89 @@
+-- How a call reads and writes bytes in frames: the code's own representation, which stands here since private contracts cite it.
+use Rattle.std.specs.Prelude.{◌≡◌, ℕ, List, length, Option, Some, None, IsTrue}
+use Rattle.gt_handles.specs.Handles.{Kept, value_of}
+use Rattle.gt_calls.specs.declared.held.Held.{Held}
+use Rattle.gt_calls.specs.declared.held.Route.{Route}
+use Rattle.gt_calls.specs.declared.held.Route.TheVariants.{Own, Direct, Through}
+use Rattle.gt_calls.specs.declared.request.Asked.{Asked}
+use Rattle.gt_calls.specs.declared.request.Asked.TheVariants.{Load, Store, Peek, Copy}
+use Rattle.gt_calls.specs.declared.action.Place.{Place}
+use Rattle.gt_calls.specs.declared.action.Step.{Step}
+use Rattle.gt_calls.specs.declared.action.Step.TheVariants.{Read as ReadBytes, Write as WriteBytes, Copy as CopyBytes}
+use Rattle.gt_calls.specs.declared.call.Call.{Call}
+use Rattle.gt_calls.specs.Standing.{pins_by_call}
+use Rattle.gt_frames.specs.declared.places.FrameName.{FrameName}
+use Rattle.gt_frames.specs.declared.writ.Ground.{Ground}
+use Rattle.gt_frames.specs.declared.writ.Ground.TheVariants.{Owned, Granted, Forwarded}
+use Rattle.gt_frames.specs.declared.writ.Writ.{Writ}
+use Rattle.gt_frames.specs.Frames.{bytes_at}
+use Rattle.gt_frames.specs.Sets.{FrameSet, frame_at, has_range, admits, AreKept, WritesTo}
+use Rattle.gt_core.specs.declared.slot.Open.{Open}
+use Rattle.gt_core.specs.States.{State}
+
+-- the name of the frame of a place (own)
+abbrev pub name_of : Place → FrameName
+name_of at = record { owner = at.owner; number = at.frame }
+
+-- the ground of a write by a route: the frame is the writer's own, or the entries of the route's pins let it (own)
+abbrev pub ground_of : Route → Ground
+ground_of Own = Owned
+ground_of (Direct p) = Granted p.entry
+ground_of (Through via p) = Forwarded via.entry via.dom p.entry
+
+-- the route by the pin of a mapping (own)
+abbrev pub route_by : Option Held → Route
+route_by None = Own
+route_by (Some m) = Direct m
+
+-- the route by which a call writes: by the pin of a store's mapping, or by those of a copy's destination; else to the caller's own frame (own)
+abbrev pub route_of : Kept Held → Call → Route
+route_of mappings call = by call.request
+  where
+    by : Asked → Route
+    by (Store handle off len) = route_by (value_of mappings handle)
+    by (Copy c) = (pins_by_call call).dest
+    by request = Own
+
+-- the writ is that of a domain's call: the caller writes, by the route of the call (own)
+abbrev pub IsWritOf : State → Call → Writ → Type 0
+IsWritOf d call w = (w.writer ≡ call.caller) × (w.basis ≡ ground_of (route_of d.mappings call))
+
+-- the step writes bytes (own)
+abbrev pub IsWriting : Step → Type 0
+IsWriting (WriteBytes dom frame off len) = Unit {0}
+IsWriting (CopyBytes from to len) = Unit {0}
+IsWriting step = ⊥
+
+-- a request for so many bytes (own)
+abbrev pub IsLoadOf : Asked → ℕ → Type 0
+IsLoadOf (Load handle off len) n = len ≡ n
+IsLoadOf (Peek frame off len) n = len ≡ n
+IsLoadOf request n = ⊥
+
+-- where the step reads, its range is there, and its call asks for as many bytes (own)
+abbrev pub IsReadable : FrameSet → Call → Step → Type 0
+IsReadable fs call (ReadBytes dom frame off len) =
+    IsTrue (has_range fs (record { owner = dom; number = frame }) off len) × IsLoadOf call.request len
+IsReadable fs call step = Unit {0}
+
+-- where the step writes, its ranges are there, and the writ of the domain's call is for the one that it writes (own)
+abbrev pub IsAdmitted : FrameSet → State → Call → Step → Type 0
+IsAdmitted fs d call (WriteBytes dom frame off len) =
+    (w : Writ) → IsWritOf d call w → IsTrue (admits fs (record { owner = dom; number = frame }) w off (length d.given))
+IsAdmitted fs d call (CopyBytes from to len) =
+    IsTrue (has_range fs (name_of from) from.off len)
+    × ((w : Writ) → IsWritOf d call w → IsTrue (admits fs (name_of to) w to.off len))
+IsAdmitted fs d call step = Unit {0}
+
+-- the frames after the domain's call writes these bytes to one of them, by its writ (own)
+abbrev pub WritesByRight : State → Call → FrameSet → FrameSet → FrameName → ℕ → List ℕ → Type 0
+WritesByRight d call old new name off bytes =
+    (w : Writ) × IsWritOf d call w × WritesTo old new name w off bytes × AreKept new
+
+-- the frames after a step: it writes what its call was given, or for a copy what the source range held, or changes none (own)
+abbrev pub AccessedBy : State → Call → Step → FrameSet → FrameSet → Type 0
+AccessedBy d call (WriteBytes dom frame off len) old new =
+    WritesByRight d call old new (record { owner = dom; number = frame }) off d.given
+AccessedBy d call (CopyBytes from to len) old new =
+    WritesByRight d call old new (name_of to) to.off (bytes_at (frame_at old (name_of from)) from.off len)
+AccessedBy d call step old new = new ≡ old

@@ -1,0 +1,66 @@
+//! The accesses of calls to the bytes of frames.
+ghost use Rattle.std.specs.Prelude.{◌≡◌, OnOk, OnErr, IsTrue, vec_len};
+ghost use Rattle.gt_frames.specs.Frames.{bytes_at};
+ghost use Rattle.gt_frames.specs.Sets.{frame_at, has_range};
+ghost use Rattle.gt_core.specs.Accesses.{name_of, IsWriting, IsAdmitted, AccessedBy};
+
+use crate::slot::Open;
+use crate::state::DomainState;
+use gt_calls::{Place, Step};
+use gt_frames::{FrameName, Frames, Spot};
+use gt_types::Memory;
+
+fn spot(at: Place) -> Spot
+    ensures frame { result.frame ≡ name_of at }
+    ensures off { result.off ≡ at.off }
+{
+    Spot {
+        frame: FrameName {
+            owner: at.owner,
+            number: at.frame,
+        },
+        off: at.off,
+    }
+}
+
+/// Reads the bytes of a frame from `off` on over all of `out`.
+pub fn read_bytes(frames: &Frames, name: FrameName, off: u16, out: Vec<u8>) -> Vec<u8>
+    requires { IsTrue (has_range frames.now name off (vec_len out)) }
+    ensures { result.items ≡ bytes_at (frame_at frames.now name) off (vec_len out) }
+{
+    let frame = frames.get(name).unwrap();
+    frame.read(off, out).into_bytes()
+}
+
+/// Writes what the domain's call writes in this step: the bytes given to it, or for a copy those of its source. Other
+/// steps write nothing.
+///
+/// # Errors
+///
+/// `Memory`, only where the step writes, with all frames as they were.
+pub fn write_bytes(frames: &mut Frames, domain: &DomainState, underway: Open) -> Result<(), Memory>
+    requires { IsAdmitted frames.old domain.now underway.call underway.step }
+    ensures accessed { OnOk result (AccessedBy domain.now underway.call underway.step frames.old frames.new) }
+    ensures refused { OnErr result (frames.new ≡ frames.old) }
+    ensures memory { OnErr result (IsWriting underway.step) }
+{
+    match underway.step {
+        Step::Write {
+            dom,
+            frame,
+            off,
+            ..
+        } => {
+            let name = FrameName {
+                owner: dom,
+                number: frame,
+            };
+            frames.write(name, &domain.writ(underway.call), off, &domain.given)?;
+        }
+        Step::Copy { from, to, len } => {
+            frames.copy(&domain.writ(underway.call), spot(from), spot(to), len)?;
+        }
+        _ => {}
+    }
+    Ok(())
+}

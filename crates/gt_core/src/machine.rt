@@ -1,0 +1,317 @@
+//! The words and frames of a core, and what its calls do to them.
+ghost use Rattle.std.specs.Prelude.{◌≡◌, ◌<◌, List, [], length, slice_get, set, map, IfOk, IfErr, OnOk, OnErr, IsOk, Option, Some, None};
+ghost use Rattle.gt_types.specs.Config.{IsWithinLimits};
+ghost use Rattle.gt_calls.specs.Rules.{knows};
+ghost use Rattle.gt_calls.specs.Following.{Goes};
+ghost use Rattle.gt_calls.specs.Asking.{given_by};
+ghost use Rattle.gt_frames.specs.Sets.{all_zeros, AreKept};
+ghost use Rattle.gt_frames.specs.Places.{frame_counts};
+ghost use Rattle.gt_core.specs.History.{History};
+ghost use Rattle.gt_core.specs.States.{State};
+ghost use Rattle.gt_core.specs.Accesses.{IsReadable};
+ghost use Rattle.gt_core.specs.Effects.{applied, with_underway};
+ghost use Rattle.gt_core.specs.Shown.{shown_at};
+ghost use Rattle.gt_core.specs.Standing.{Opens, DomainsStand, StandsForSome, Does, DoesAlone, IsStartFaultOf, Settled};
+ghost use Rattle.gt_core.specs.Standing.{WantsMemory, WantsMemoryNow, setting_of, setting_by, state_by, known_by};
+ghost use Rattle.gt_core.specs.Standing.{begun_element, ticked_element, answer_with, answer_of, first_state};
+ghost use Rattle.gt_core.specs.declared.trace.Event.TheVariants.{Begin, Tick};
+
+use crate::accesses::{read_bytes, write_bytes};
+use crate::core_state::{Begun, Shown, Ticked};
+use crate::effects::apply;
+use crate::sight::see;
+use crate::slot::Open;
+use crate::state::{DomainState, find};
+use crate::trace::{Answer, Bytes};
+use gt_calls::{Action, Call, Known, Request, Seen, Start, Step, Value, Verdict, asked_fits};
+use gt_frames::{FrameName, Frames};
+use gt_types::{Allows, Config, DomId, GrantRef, Memory, StartFault};
+use std::alloc::Global;
+
+/// The domains and frames of a run, under its configuration and policy.
+#[derive(Drop)]
+pub struct Machine<P> {
+    pub(crate) alloc: Global,
+    pub(crate) config: Config,
+    pub(crate) rights: P,
+    pub(crate) domains: Vec<DomainState>,
+    pub(crate) frames: Frames,
+}
+
+/// How a call begins in the core.
+#[derive(Clone, Copy)]
+pub enum Opening {
+    Open(Open),
+    Done(Verdict),
+}
+
+fn open_call<P: Allows>(known: &Known<'_, P>, dom: DomId, request: Request<'_>) -> Opening
+    ensures { Opens (knows P.may known.now) dom request.entry result }
+{
+    match Call::begin(dom, request, known) {
+        Start::Done(verdict) => Opening::Done(verdict),
+        Start::Open(first) => {
+            let mut call = first;
+            match call.next(known, Seen::Nothing) {
+                Action::Step(step) => Opening::Open(Open { call, step }),
+                Action::Done(verdict) => Opening::Done(verdict),
+            }
+        }
+    }
+}
+
+// The answer with this value.
+fn answer_with(value: Value) -> Answer
+    ensures { result ≡ answer_with value }
+{
+    match value {
+        Value::Frames(frames) => Answer::Frames(frames),
+        Value::Size(size) => Answer::Size(size),
+        Value::Version(version) => Answer::Version(version),
+    }
+}
+
+// The answer of a call that ends so, and gives no mapping and no bytes.
+fn answer_of(verdict: Verdict) -> Answer
+    ensures { result ≡ answer_of verdict }
+{
+    match verdict {
+        Verdict::Granted | Verdict::Mapped(_) => Answer::Done,
+        Verdict::Given(value) => answer_with(value),
+        Verdict::Refused(denial) => Answer::Denied(denial),
+    }
+}
+
+// The bytes that a request gives to be written.
+fn given_by<'a>(request: Request<'a>) -> &'a [u8]
+    ensures { result.now ≡ given_by request.entry }
+{
+    match request {
+        Request::Store { bytes, .. } | Request::Poke { bytes, .. } => bytes,
+        _ => &[],
+    }
+}
+
+impl<P: Allows> Machine<P> {
+    fn open_at(&self, at: usize, dom: DomId, request: Request<'_>) -> Opening
+        requires { at < length self.now.domains.items }
+        ensures { (d : State) → slice_get self.now.domains.items at ≡ Some d →
+            Opens (known_by P.may self.now d) dom request.entry result }
+    {
+        let domain = &self.domains[at];
+        let known = Known {
+            config: &self.config,
+            rights: &self.rights,
+            own: &domain.own,
+            header: domain.header,
+            mappings: &domain.mappings,
+        };
+        open_call(&known, dom, request)
+    }
+
+    /// Begins a call of the domain.
+    ///
+    /// # Errors
+    ///
+    /// `Memory`, with the domains as they were.
+    pub fn begin(&mut self, dom: DomId, request: Request<'_>) -> Result<Begun, Memory>
+        ensures stands { IfOk result (λ b. DoesAlone (setting_by P.may self.old) self.old.domains.items
+            (Begin dom request.entry) (begun_element dom request.entry b) self.new.domains.items) }
+        ensures config { self.new.config ≡ self.old.config }
+        ensures rights { self.new.rights ≡ self.old.rights }
+        ensures frames { self.new.frames ≡ self.old.frames }
+        ensures memory { (h : History) → DomainsStand (setting_by P.may self.old) h self.old.domains.items →
+            OnErr result (WantsMemory (setting_by P.may self.old) h dom request.entry) }
+        ensures err { OnErr result (self.new.domains.items ≡ self.old.domains.items) }
+    {
+        let Some(at) = find(&self.domains, dom) else {
+            return Ok(Begun::NoDomain);
+        };
+        if self.domains[at].underway().is_some() {
+            return Ok(Begun::Busy);
+        }
+        match self.open_at(at, dom, request) {
+            Opening::Done(verdict) => Ok(Begun::Done(answer_of(verdict))),
+            Opening::Open(open) => {
+                asked_fits(open.call.request);
+                let alloc = self.alloc;
+                self.domains[at].begin(alloc, open, given_by(request))?;
+                Ok(Begun::Open)
+            }
+        }
+    }
+
+    fn advance(&self, at: usize, last: Open, seen: Seen) -> (Call, Action)
+        requires { at < length self.now.domains.items }
+        ensures caller { result.0.caller ≡ last.call.caller }
+        ensures request { result.0.request ≡ last.call.request }
+        ensures goes { (d : State) → slice_get self.now.domains.items at ≡ Some d →
+            Goes (known_by P.may self.now d) last.call seen result.0 result.1 }
+    {
+        let mut call = last.call;
+        let domain = &self.domains[at];
+        let known = Known {
+            config: &self.config,
+            rights: &self.rights,
+            own: &domain.own,
+            header: domain.header,
+            mappings: &domain.mappings,
+        };
+        let action = call.next(&known, seen);
+        (call, action)
+    }
+
+    // The answer of a call that nothing stood against, and that gives no value: what its last step read, or
+    // nothing. The call is over.
+    fn settle(&mut self, at: usize, last: Open) -> Answer
+        requires there { at < length self.old.domains.items }
+        requires under { (d : State) → slice_get self.old.domains.items at ≡ Some d → d.underway ≡ Some last }
+        requires readable { IsReadable self.old.frames last.call last.step }
+        ensures config { self.new.config ≡ self.old.config }
+        ensures rights { self.new.rights ≡ self.old.rights }
+        ensures frames { self.new.frames ≡ self.old.frames }
+        ensures settles { (d : State) → slice_get self.old.domains.items at ≡ Some d →
+            Settled self.old.frames self.old.domains.items at d last.step result self.new.domains.items }
+    {
+        match last.step {
+            Step::Read {
+                dom,
+                frame,
+                off,
+                ..
+            } => {
+                let out = self.domains[at].close_load(self.alloc);
+                let name = FrameName {
+                    owner: dom,
+                    number: frame,
+                };
+                let bytes = read_bytes(&self.frames, name, off, out);
+                Answer::Bytes(Bytes { bytes })
+            }
+            _ => {
+                self.domains[at].close();
+                Answer::Done
+            }
+        }
+    }
+
+    // The domain's call is over after this step.
+    fn end(&mut self, at: usize, dom: DomId, step: Step, seen: Seen)
+        requires { at < length self.old.domains.items }
+        ensures config { self.new.config ≡ self.old.config }
+        ensures rights { self.new.rights ≡ self.old.rights }
+        ensures frames { self.new.frames ≡ self.old.frames }
+        ensures left { (d : State) → slice_get self.old.domains.items at ≡ Some d →
+            self.new.domains.items ≡ applied dom step seen (set self.old.domains.items at (with_underway None d)) }
+    {
+        self.domains[at].close();
+        apply(&mut self.domains, dom, step, seen);
+    }
+
+    /// Makes the next step of the domain's open call.
+    ///
+    /// # Errors
+    ///
+    /// `Memory`, with the domains and frames as they were.
+    pub fn tick(&mut self, dom: DomId) -> Result<Ticked, Memory>
+        requires { StandsForSome (setting_by P.may self.old) (state_by self.old) }
+        ensures stands { IfOk result (λ t. Does (setting_by P.may self.old) (state_by self.old)
+            (Tick dom) (ticked_element dom t) (state_by self.new)) }
+        ensures config { self.new.config ≡ self.old.config }
+        ensures rights { self.new.rights ≡ self.old.rights }
+        ensures memory { (h : History) → DomainsStand (setting_by P.may self.old) h self.old.domains.items →
+            OnErr result (WantsMemoryNow (setting_by P.may self.old) h dom) }
+        ensures domains { OnErr result (self.new.domains.items ≡ self.old.domains.items) }
+        ensures frames { OnErr result (self.new.frames ≡ self.old.frames) }
+    {
+        let Some(at) = find(&self.domains, dom) else {
+            return Ok(Ticked::NoDomain);
+        };
+        let Some(open) = self.domains[at].underway() else {
+            return Ok(Ticked::Idle);
+        };
+        write_bytes(&mut self.frames, &self.domains[at], open)?;
+        let seen = see(&self.domains, dom, open.step);
+        let (call, action) = self.advance(at, open, seen);
+        match action {
+            Action::Step(step) => {
+                self.domains[at].go_on(Open { call, step });
+                apply(&mut self.domains, dom, open.step, seen);
+                Ok(Ticked::Step(open.step, seen))
+            }
+            Action::Done(verdict) => match verdict {
+                Verdict::Granted => {
+                    let answer = self.settle(at, open);
+                    apply(&mut self.domains, dom, open.step, seen);
+                    Ok(Ticked::Done(open.step, seen, answer))
+                }
+                Verdict::Mapped(held) => {
+                    let handle = self.domains[at].add_mapping(held);
+                    apply(&mut self.domains, dom, open.step, seen);
+                    Ok(Ticked::Done(open.step, seen, Answer::Mapped(handle)))
+                }
+                Verdict::Given(value) => {
+                    self.end(at, dom, open.step, seen);
+                    Ok(Ticked::Done(open.step, seen, answer_with(value)))
+                }
+                Verdict::Refused(denial) => {
+                    self.end(at, dom, open.step, seen);
+                    Ok(Ticked::Done(open.step, seen, Answer::Denied(denial)))
+                }
+            },
+        }
+    }
+
+    /// What an entry of a domain shows: None past the table, or for no domain of the run.
+    pub fn show(&self, dom: DomId, gref: GrantRef) -> Option<Shown>
+        ensures { (h : History) → DomainsStand (setting_by P.may self.now) h self.now.domains.items →
+            result ≡ shown_at (setting_by P.may self.now) h dom gref.0 }
+    {
+        let at = find(&self.domains, dom)?;
+        let domain = &self.domains[at];
+        if gref.0 >= domain.header.entries() {
+            return None;
+        }
+        domain.shown(gref)
+    }
+}
+
+fn start_domains(alloc: Global, config: &Config) -> Result<Vec<DomainState>, Memory>
+    ensures { IfOk result (λ states. states.items ≡ map (first_state config.now.first_gen) config.now.domains.items) }
+{
+    let mut domains = Vec::new(alloc);
+    for domain in &config.domains {
+        domains.push(DomainState::new(alloc, *domain, config.first_gen)?)?;
+    }
+    Ok(domains)
+}
+
+impl<P: Allows + Drop> Machine<P> {
+    /// A machine at rest.
+    ///
+    /// # Errors
+    ///
+    /// The first fault of the configuration, or `Memory` where it has none.
+    pub fn new(alloc: Global, config: Config, rights: P) -> Result<Machine<P>, StartFault>
+        ensures domains { IfOk result (λ m. DomainsStand (setting_of config (P.may rights)) [] m.domains.items) }
+        ensures frames { IfOk result (λ m. m.frames ≡ all_zeros (frame_counts config.domains.items)) }
+        ensures kept { IfOk result (λ m. AreKept m.frames) }
+        ensures config { IfOk result (λ m. m.config ≡ config) }
+        ensures rights { IfOk result (λ m. m.rights ≡ rights) }
+        ensures fits { IsOk result → IsWithinLimits config }
+        ensures fault { IfErr result (IsStartFaultOf config) }
+    {
+        if let Err(fault) = config.check() {
+            return Err(StartFault::Config(fault));
+        }
+        let domains = start_domains(alloc, &config)?;
+        let frames = Frames::new(alloc, &config)?;
+        Ok(Machine {
+            alloc,
+            config,
+            rights,
+            domains,
+            frames,
+        })
+    }
+}
