@@ -1,5 +1,5 @@
 -- Runs of one script that are the same but for the keys of handles: their names, requests and answers.
-use Rattle.std.proofs.Common.{◌≡◌, ◌≤◌, ◌⊎◌, inl, inr, ℕ, zero, suc, ◌+◌, Bool, true, false, List, [], ◌∷◌, ◌++◌, length, replicate, Option, None, Some, refl, cond, ap, sym, subst, ◌∙◌, arith}
+use Rattle.std.proofs.Common.{◌≡◌, ◌⊎◌, inl, inr, ℕ, Bool, true, false, List, [], ◌∷◌, ◌++◌, Option, None, Some, refl, cond, ap, sym, subst, ◌∙◌, arith}
 use Rattle.std.specs.Prelude.{◌==◌, ◌&&◌, unwrap_or, codes}
 use Rattle.std.specs.Str.{bytes_eq}
 use Rattle.std.specs.Option.{option_map}
@@ -16,7 +16,6 @@ use Rattle.gt_lines.specs.declared.calls.Call.TheVariants as calls
 use Rattle.gt_script.specs.declared.script.Step.{Step}
 use Rattle.gt_handles.specs.declared.handles.Handle.{Handle}
 use Rattle.gt_calls.specs.Asking.{asked}
-use Rattle.gt_calls.specs.declared.judging.TheConstants.{END_OF_SERIALS}
 use Rattle.gt_calls.specs.declared.request.Request.{Request}
 use Rattle.gt_calls.specs.declared.request.Request.TheVariants as requests
 use Rattle.gt_core.specs.declared.trace.Answer.{Answer}
@@ -28,9 +27,9 @@ use Rattle.gt_core.specs.declared.trace.Event.{Event}
 use Rattle.gt_core.specs.declared.trace.Event.TheVariants.{Begin, Tick}
 use Rattle.gt_core.specs.History.{History, Setting}
 use Rattle.gt_core.specs.Legal.{MayDo, actor_of, grown, history_after}
-use Rattle.gt_core.specs.Alike.{bare_handle, bare_bytes, bare_request, told, told_item, ToldItem, SameElement, IsGiven, IsKnown, AsksKnown}
+use Rattle.gt_core.specs.Alike.{bare_handle, bare_bytes, bare_request, told, ToldItem, SameElement, IsGiven, IsKnown, AsksKnown}
 use Rattle.gt_host.specs.Printing.{answer_text, bytes_text}
-use Rattle.gt_host.specs.Runs.{Named, handle_named, handle_of, never_given, with_name, named_after, handle_given, label_in, request_of, table_request, access_request, bytes_said, Asks, answer_in}
+use Rattle.gt_host.specs.Runs.{Named, handle_named, handle_of, never_given, with_name, named_after, handle_given, label_in, request_of, table_request, access_request, Asks, answer_in}
 
 -- names
 

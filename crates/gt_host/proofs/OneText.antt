@@ -1,5 +1,5 @@
 -- Two legal runs of a script print one text.
-use Rattle.std.proofs.Common.{◌≡◌, ◌≤◌, ◌+◌, ◌⊎◌, inl, inr, ℕ, zero, suc, List, [], ◌∷◌, ◌++◌, length, replicate, take, drop, Option, None, Some, refl, cond, ap, sym, subst, ◌∙◌, append_assoc, length-append, arith}
+use Rattle.std.proofs.Common.{◌≡◌, ◌≤◌, ◌+◌, inl, inr, ℕ, zero, suc, List, [], ◌∷◌, ◌++◌, length, replicate, take, drop, Option, None, Some, Result, Ok, refl, cond, ap, sym, subst, ◌∙◌, append_assoc, length-append, arith}
 use Rattle.std.specs.Prelude.{◌==◌, codes}
 use Rattle.std.specs.Option.{option_map}
 use Rattle.std.proofs.lemmas.Option.{none-some, same_Some}
@@ -10,6 +10,7 @@ use Rattle.gt_lines.specs.declared.calls.Call.{Call}
 use Rattle.gt_lines.specs.declared.calls.Action.{Action}
 use Rattle.gt_lines.specs.declared.calls.Action.TheVariants as actions
 use Rattle.gt_script.specs.Contents.{Contents, type_names}
+use Rattle.gt_script.specs.Script.{Tells, Wrong}
 use Rattle.gt_script.specs.declared.script.Step.{Step}
 use Rattle.gt_calls.specs.declared.request.Request.{Request}
 use Rattle.gt_core.specs.declared.trace.Answer.{Answer}
@@ -19,7 +20,7 @@ use Rattle.gt_core.specs.declared.trace.Element.TheVariants as elements
 use Rattle.gt_core.specs.declared.trace.Event.{Event}
 use Rattle.gt_core.specs.declared.trace.Event.TheVariants.{Begin, Tick}
 use Rattle.gt_core.specs.History.{History, Setting}
-use Rattle.gt_core.specs.Legal.{MayDo, Legal, LegalAfter, grown, history_after}
+use Rattle.gt_core.specs.Legal.{Legal, LegalAfter, grown, history_after}
 use Rattle.gt_core.specs.Shown.{shown_at}
 use Rattle.gt_core.specs.declared.core_state.Shown.{Shown}
 use Rattle.gt_core.specs.Alike.{told, SameEvent, SameElement, IsOfKnown, IsRun, AreAlike}
@@ -29,8 +30,8 @@ use Rattle.gt_host.specs.declared.outcome.Outcome.{Outcome}
 use Rattle.gt_host.specs.declared.outcome.Outcome.TheVariants.{Answered, Busy}
 use Rattle.gt_host.specs.Printing.{answer_text, answer_line, call_text, busy_line, idle_line}
 use Rattle.gt_host.specs.Showing.{show_line}
-use Rattle.gt_host.specs.Playing.{IsLegalRunOf, setting_of_script, whole_text, BeginsRun}
-use Rattle.gt_host.specs.Runs.{Named, Progress, Asks, AnswerNothing, EndsWith, ComesTo, TicksComeTo, answer_in, call_events, at_start, history_of, with_events, with_line, with_call, answered, after_call, after_item, after_beginning, after_ticks, DoLine, BeginLine, TickLine, ShowLine, RunsLine, LeadsTo, open_lines}
+use Rattle.gt_host.specs.Playing.{IsLegalRunOf, setting_of_script, whole_text, BeginsRun, BeginsEvery, Played}
+use Rattle.gt_host.specs.Runs.{Progress, AnswerNothing, EndsWith, ComesTo, TicksComeTo, answer_in, call_events, at_start, history_of, with_events, with_line, with_call, answered, after_call, after_item, after_beginning, after_ticks, DoLine, BeginLine, TickLine, ShowLine, RunsLine, LeadsTo, open_lines}
 use Rattle.gt_host.proofs.RunLemmas.{history_after-append}
 use Rattle.gt_host.proofs.AlikeLemmas.{bare_names, NamesGiven, AnswerGiven, asks-same, asks-known, text-same, named-same, named-given, names-after, answers-same, done-given}
 use Rattle.gt_host.proofs.TickLemmas.{StaysAlike, swapped, answers-alike, call-given, ticks-alike, ticks-apart, ticks-answered}
@@ -98,14 +99,26 @@ with-events t p q es fs xs ys w legal lawful alike =
 with-line : (t : Setting) (p q : Progress) (one other : List ℕ) → one ≡ other → Together t p q → Together t (with_line p one) (with_line q other)
 with-line t p q one other e w =
     record {
-      legal = w.legal; lawful = w.lawful; alike = w.alike; named = w.named; given = w.given; known = w.known; opens = w.opens;
+      legal = w.legal;
+      lawful = w.lawful;
+      alike = w.alike;
+      named = w.named;
+      given = w.given;
+      known = w.known;
+      opens = w.opens;
       text = ap (λ (l : List ℕ). p.text ++ l) e ∙ ap (λ (l : List ℕ). l ++ other) w.text;
     }
 
 with-call : (t : Setting) (p q : Progress) (dom : DomId) (s : Option Step) → Together t p q → Together t (with_call p dom s) (with_call q dom s)
 with-call t p q dom s w =
     record {
-      legal = w.legal; lawful = w.lawful; alike = w.alike; named = w.named; given = w.given; known = w.known; text = w.text;
+      legal = w.legal;
+      lawful = w.lawful;
+      alike = w.alike;
+      named = w.named;
+      given = w.given;
+      known = w.known;
+      text = w.text;
       opens = ap (λ (f : ℕ → Option Step). λ (d : ℕ). cond (d == dom.0) s (f d)) w.opens;
     }
 
@@ -116,7 +129,10 @@ with-answer : (t : Setting) (types : List (List ℕ)) (p q : Progress) (dom : Do
     → Together t (answered types p dom s a) (answered types q dom s b)
 with-answer t types p q dom s a b e one other w =
     record {
-      legal = w.legal; lawful = w.lawful; alike = w.alike; opens = w.opens;
+      legal = w.legal;
+      lawful = w.lawful;
+      alike = w.alike;
+      opens = w.opens;
       named = named-same p.named q.named dom s a b w.named e;
       given = named-given (history_of p) p.named dom s a w.given one;
       known = named-given (history_of q) q.named dom s b w.known other;
@@ -153,7 +169,11 @@ swapped-calls t p q d one other n m xs ys c =
     let w = c.together in
     record {
       together = record { legal = w.lawful; lawful = w.legal; alike = swapped t (history_of p) (history_of q) w.alike; named = sym w.named; given = w.known; known = w.given; opens = sym w.opens; text = sym w.text };
-      asked = sym c.asked; first = c.second; second = c.first; legal = c.lawful; lawful = c.legal;
+      asked = sym c.asked;
+      first = c.second;
+      second = c.first;
+      legal = c.lawful;
+      lawful = c.legal;
     }
 
 calls-together : StaysAlike → (t : Setting) (types : List (List ℕ)) (s : Step) (p q : Progress) (one other : Request) (n m : ℕ) (xs ys : List Element) (o r : Outcome) → Calls t p q s.dom one other n m xs ys
@@ -233,8 +253,8 @@ begin-together law t types s call p q one other w (request, asks, x, is) (demand
     let m1 = (piece t p (Begin d request ∷ []) (x ∷ []) w.legal l1).0 in
     let m2 = (piece t q (Begin d demand ∷ []) (y ∷ []) w.lawful l2).0 in
     let same = law t (history_of p) (history_of q) (Begin d request) (Begin d demand) x y w.alike
-      (ap (λ (z : Request). Begin d z) (asks-same p.named q.named d call request demand w.named asks seeks))
-      (asks-known (history_of p) p.named d call request w.given asks) (asks-known (history_of q) q.named d call demand w.known seeks) m1 m2 in
+    (ap (λ (z : Request). Begin d z) (asks-same p.named q.named d call request demand w.named asks seeks))
+    (asks-known (history_of p) p.named d call request w.given asks) (asks-known (history_of q) q.named d call demand w.known seeks) m1 m2 in
     subst (λ (z : Progress). Together t z other) (sym is)
     (subst (λ (z : Progress). Together t (after_beginning types (with_events p (Begin d request ∷ []) (x ∷ [])) s x) z) (sym so)
     (begun-together t types s (with_events p (Begin d request ∷ []) (x ∷ [])) (with_events q (Begin d demand ∷ []) (y ∷ [])) x y same.0
@@ -369,3 +389,95 @@ pub one-text : StaysAlike → ShowsAlike → (c : Contents) (p q : Progress) →
 one-text law shows c p q x y =
     let w = runs-together law shows c c.steps p q x y in
     ap (λ (l : List ℕ). l ++ open_lines c.domains p.open_steps) w.text ∙ ap (λ (f : ℕ → Option Step). q.text ++ open_lines c.domains f) w.opens
+
+-- beginnings
+
+-- a run goes on from the point to which its first steps led
+record Goes (t : Setting) (types : List (List ℕ)) (steps : List Step) (n : ℕ) (p q : Progress) : Type 0 where
+  pub mid : Progress
+  pub front : LeadsTo t types p (take n steps) mid
+  pub back : LeadsTo t types mid (drop n steps) q
+
+goes-on : (t : Setting) (types : List (List ℕ)) (steps : List Step) (n : ℕ) (p q : Progress) → LeadsTo t types p steps q → Goes t types steps n p q
+goes-on t types steps zero p q run = record { mid = p; front = refl; back = run }
+goes-on t types [] (suc n) p q run = record { mid = p; front = refl; back = run }
+goes-on t types (s ∷ steps) (suc n) p q (r, line, rest) =
+    let g = goes-on t types steps n r q rest in
+    record { mid = g.mid; front = (r, line, g.front); back = g.back }
+
+-- text is appended
+abbrev Grows : List ℕ → List ℕ → Type 0
+Grows before after = (more : List ℕ) × (after ≡ before ++ more)
+
+grows-none : (text : List ℕ) → Grows text text
+grows-none text = ([], sym (append-nil text))
+
+grows-both : (a b c : List ℕ) → Grows a b → Grows b c → Grows a c
+grows-both a b c (x, e) (y, f) = (x ++ y, f ∙ ap (λ (l : List ℕ). l ++ y) e ∙ append_assoc a x y)
+
+call-grows : (types : List (List ℕ)) (p : Progress) (s : Step) (o : Outcome) → Grows p.text (after_call types p s o).text
+call-grows types p s (Answered a) = (answer_line types s.line s.dom a, refl)
+call-grows types p s Busy = (busy_line s.line s.dom, refl)
+
+item-grows : (types : List (List ℕ)) (p : Progress) (s : Step) (a : Option Answer) → Grows p.text (after_item types p s a).text
+item-grows types p s None = grows-none p.text
+item-grows types p s (Some a) = (answer_line types s.line s.dom a, refl)
+
+begin-grows : (types : List (List ℕ)) (p : Progress) (s : Step) (x : Element) → Grows p.text (after_beginning types p s x).text
+begin-grows types p s (elements.Item i) = item-grows types p s i.answer
+begin-grows types p s elements.Busy = (busy_line s.line s.dom, refl)
+begin-grows types p s elements.Idle = grows-none p.text
+begin-grows types p s elements.NoDomain = grows-none p.text
+
+ticks-grow : (types : List (List ℕ)) (p : Progress) (d : DomId) (s : Step) (a : Option Answer) → Grows p.text (after_ticks types p d s a).text
+ticks-grow types p d s None = grows-none p.text
+ticks-grow types p d s (Some a) = (answer_line types s.line d a, refl)
+
+tick-grows : (types : List (List ℕ)) (s : Step) (most : ℕ) (o : Option Step) (p q : Progress) → TickLine types s most o p q → Grows p.text q.text
+tick-grows types s most None p q x = (idle_line s.line s.dom, ap (λ (z : Progress). z.text) x.1)
+tick-grows types s most (Some begun) p q (n, xs, a, len, comes, is) =
+    subst (λ (z : Progress). Grows p.text z.text) (sym is) (ticks-grow types (with_events p (replicate n (Tick s.dom)) xs) s.dom begun a)
+
+line-grows : (t : Setting) (types : List (List ℕ)) (s : Step) (action : Action) (p q : Progress) → RunsLine t types s action p q → Grows p.text q.text
+line-grows t types s (actions.Do call) p q (request, asks, n, xs, o, len, comes, is) =
+    subst (λ (z : Progress). Grows p.text z.text) (sym is) (call-grows types (with_events p (call_events s.dom request n) xs) s o)
+line-grows t types s (actions.Begin call) p q (request, asks, x, is) =
+    subst (λ (z : Progress). Grows p.text z.text) (sym is) (begin-grows types (with_events p (Begin s.dom request ∷ []) (x ∷ [])) s x)
+line-grows t types s (actions.Tick most) p q x = tick-grows types s most (p.open_steps s.dom.0) p q x
+line-grows t types s (actions.Show gref) p q is = (show_line s.line s.dom gref (shown_at t (history_of p) s.dom gref.0), ap (λ (z : Progress). z.text) is)
+
+leads-grow : (t : Setting) (types : List (List ℕ)) (steps : List Step) (p q : Progress) → LeadsTo t types p steps q → Grows p.text q.text
+leads-grow t types [] p q e = subst (λ (z : Progress). Grows p.text z.text) e (grows-none p.text)
+leads-grow t types (s ∷ steps) p q (r, line, rest) = grows-both p.text r.text q.text (line-grows t types s s.action p r line) (leads-grow t types steps r q rest)
+
+-- what a run printed that came some way is a beginning of what each one prints that comes to the end
+front-text : StaysAlike → ShowsAlike → (c : Contents) (n : ℕ) (p q : Progress) → IsLegalRunOf c (take n c.steps) p → IsLegalRunOf c c.steps q → Grows p.text (whole_text c q)
+front-text law shows c n p q x y =
+    let t = setting_of_script c in
+    let types = type_names c in
+    let g = goes-on t types c.steps n at_start q y.0 in
+    let w = leads-together law shows t types (take n c.steps) at_start at_start p g.mid (start-together t) x.0 g.front x.1 (leads-legal t types (drop n c.steps) g.mid q g.back y.1) in
+    subst (λ (l : List ℕ). Grows l (whole_text c q)) (sym w.text)
+    (grows-both g.mid.text q.text (whole_text c q) (leads-grow t types (drop n c.steps) g.mid q g.back) (open_lines c.domains q.open_steps, refl))
+
+pub begins-every : StaysAlike → ShowsAlike → (c : Contents) (old new : Option (List ℕ)) → BeginsRun c old new → BeginsEvery c old new
+begins-every law shows c old new (inl (n, p, run, some)) q whole =
+    let g = front-text law shows c n p q run whole in
+    subst (λ (l : List ℕ). AppendsBeginning old new l) (sym g.1) (begins_longer old new p.text g.0 some)
+begins-every law shows c old new (inr (p, run, all)) q whole =
+    subst (λ (l : List ℕ). AppendsBeginning old new l) (one-text law shows c p q run whole) all
+
+-- bytes that are played twice to the end
+
+abbrev TellsOnce : Type 0
+TellsOnce = (bytes : List ℕ) (one other : Result Contents Wrong) → Tells bytes one → Tells bytes other → one ≡ other
+
+same-contents : (c e : Contents) → ◌≡◌ {A = Result Contents Wrong} (Ok c) (Ok e) → c ≡ e
+same-contents c e is = cc
+
+pub played-once : StaysAlike → ShowsAlike → TellsOnce → (input old one other : List ℕ) → Played (Tells input) (Some old) (Some one) (Ok tt) → Played (Tells input) (Some old) (Some other) (Ok tt) → one ≡ other
+played-once law shows once input old one other (c, said, (p, run, went)) (e, says, (q, way, gone)) =
+    let same = same-contents e c (once input (Ok e) (Ok c) says said) in
+    let way_of = subst (λ (z : Contents). IsLegalRunOf z z.steps q) same way in
+    let gone_of = subst (λ (z : Contents). other ≡ old ++ whole_text z q) same gone in
+    went ∙ ap (λ (l : List ℕ). old ++ l) (one-text law shows c p q run way_of) ∙ sym gone_of

@@ -12,7 +12,7 @@ use Rattle.gt_host.specs.declared.fault.Fault.{Fault}
 use Rattle.gt_host.specs.declared.fault.Fault.TheVariants as runs
 use Rattle.gt_host.specs.declared.fault.PlayFault.{PlayFault}
 use Rattle.gt_host.specs.Faults.{fault_of, read_fault, ended}
-use Rattle.gt_host.specs.Playing.{BeginsRun, WritesRun, Played}
+use Rattle.gt_host.specs.Playing.{BeginsEvery, BeginsRun, WritesRun, Played}
 use Rattle.gt_streams.specs.Laws.{keeps_same, of_any_input}
 use Rattle.gt_streams.specs.Streams.{OfInput}
 
@@ -27,14 +27,15 @@ pub played_nothing : (Told : Result Contents Wrong → Type 0) (error : ScriptEr
 played_nothing Told error fault old new told kept is = subst (λ (f : PlayFault). Played Told old new (Err f)) (sym is) (no_script Told error old new told kept)
 
 -- a script was run
-run-told : (Told : Result Contents Wrong → Type 0) (c : Contents) (r : Result (Unit {0}) Fault) (old new : Option (List ℕ)) → Told (Ok c) → OnOk r (WritesRun c old new) → OnErr r (BeginsRun c old new) → Played Told old new (ended r)
-run-told Told c (Ok done) old new told whole begun = (c, told, whole)
-run-told Told c (Err runs.Memory) old new told whole begun = inr (c, told, begun)
-run-told Told c (Err runs.Write) old new told whole begun = (c, told, begun)
+run-told : (Told : Result Contents Wrong → Type 0) (c : Contents) (r : Result (Unit {0}) Fault) (old new : Option (List ℕ)) → Told (Ok c) → OnOk r (WritesRun c old new) → OnErr r (BeginsRun c old new)
+    → (BeginsRun c old new → BeginsEvery c old new) → Played Told old new (ended r)
+run-told Told c (Ok done) old new told whole begun every = (c, told, whole)
+run-told Told c (Err runs.Memory) old new told whole begun every = inr (c, told, begun, every begun)
+run-told Told c (Err runs.Write) old new told whole begun every = (c, told, begun, every begun)
 
 pub played_run : (Told : Result Contents Wrong → Type 0) (c : Contents) (r : Result (Unit {0}) Fault) (t : Result (Unit {0}) PlayFault) (old new : Option (List ℕ)) → Told (Ok c)
-    → OnOk r (WritesRun c old new) → OnErr r (BeginsRun c old new) → t ≡ ended r → Played Told old new t
-played_run Told c r t old new told whole begun is = subst (λ (q : Result (Unit {0}) PlayFault). Played Told old new q) (sym is) (run-told Told c r old new told whole begun)
+    → OnOk r (WritesRun c old new) → OnErr r (BeginsRun c old new) → (BeginsRun c old new → BeginsEvery c old new) → t ≡ ended r → Played Told old new t
+played_run Told c r t old new told whole begun every is = subst (λ (q : Result (Unit {0}) PlayFault). Played Told old new q) (sym is) (run-told Told c r old new told whole begun every)
 
 -- nothing could be read
 unread : (Told : Result Contents Wrong → Type 0) (old : Option (List ℕ)) (error : ReadFault) → Played Told old old (Err (read_fault error))

@@ -1,17 +1,16 @@
 -- The events of a line, in two runs that are the same but for keys.
-use Rattle.std.proofs.Common.{◌≡◌, ◌≤◌, ◌+◌, ◌⊎◌, ℕ, zero, suc, List, [], ◌∷◌, ◌++◌, length, replicate, Option, None, Some, refl, ap, sym, subst, ◌∙◌, arith}
+use Rattle.std.proofs.Common.{◌≡◌, ◌≤◌, ℕ, zero, suc, List, [], ◌∷◌, ◌++◌, length, replicate, None, Some, refl, ap, sym, ◌∙◌, arith}
 use Rattle.std.specs.Option.{option_map}
 use Rattle.std.proofs.lemmas.Option.{none-some, same_Some}
-use Rattle.std.proofs.lemmas.List.{length-append}
 use Rattle.gt_types.specs.declared.DomId.{DomId}
 use Rattle.gt_core.specs.declared.trace.Answer.{Answer}
 use Rattle.gt_core.specs.declared.trace.Element.{Element}
 use Rattle.gt_core.specs.declared.trace.Event.{Event}
-use Rattle.gt_core.specs.declared.trace.Event.TheVariants.{Begin, Tick}
+use Rattle.gt_core.specs.declared.trace.Event.TheVariants.{Tick}
 use Rattle.gt_core.specs.History.{History, Setting}
 use Rattle.gt_core.specs.Legal.{MayDo, LegalAfter, actor_of, grown, history_after}
 use Rattle.gt_core.specs.Alike.{told, SameEvent, SameElement, IsOfKnown, AreAlike}
-use Rattle.gt_host.specs.Runs.{answer_in, AnswerNothing, EndsWith}
+use Rattle.gt_host.specs.Runs.{answer_in, AnswerNothing}
 use Rattle.gt_host.proofs.AlikeLemmas.{answers-same, AnswerGiven, done-given}
 
 -- what the laws of gt_core say: alike events do the same but for keys in alike runs, and leave alike runs

@@ -59,9 +59,13 @@ BeginsWhole c old new = (p : Progress) × IsLegalRunOf c c.steps p × AppendsBeg
 abbrev pub BeginsRun : Contents → Option (List ℕ) → Option (List ℕ) → Type 0
 BeginsRun c old new = BeginsSome c old new ⊎ BeginsWhole c old new
 
--- what the bytes say is a script, and a beginning of its text went out (own)
+-- what went out is a beginning of the text of each run that comes to the end (own)
+abbrev pub BeginsEvery : Contents → Option (List ℕ) → Option (List ℕ) → Type 0
+BeginsEvery c old new = (p : Progress) → IsLegalRunOf c c.steps p → AppendsBeginning old new (whole_text c p)
+
+-- what the bytes say is a script, and a beginning of its text went out: of a run of it, and of each one that comes to the end (own)
 abbrev pub Begins : (Result Contents Wrong → Type 0) → Option (List ℕ) → Option (List ℕ) → Type 0
-Begins Told old new = (c : Contents) × Told (Ok c) × BeginsRun c old new
+Begins Told old new = (c : Contents) × Told (Ok c) × BeginsRun c old new × BeginsEvery c old new
 
 -- what `play` wrote, where it answers so for bytes of which this is told: at Ok the text of the run, whole;
 -- at a fault of the script nothing, and the fault is the script's first; after a failed write a beginning, and so for want of memory, unless nothing (own)

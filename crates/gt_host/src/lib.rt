@@ -28,5 +28,5 @@ mod run;
 mod showing;
 
 pub use fault::PlayFault;
-pub use laws::every_script_prints_one_text;
+pub use laws::{every_beginning_is_of_the_text, every_script_prints_one_text};
 pub use playing::play;

@@ -13,6 +13,7 @@ ghost use Rattle.gt_host.specs.Playing.{CanStart, StartsFor, WritesRun, BeginsRu
 use crate::answers::push_open_line;
 use crate::fault::{Fault, PlayFault};
 use crate::kept::Kept;
+use crate::laws::every_beginning_is_of_the_text;
 use crate::open_calls::OpenCalls;
 use crate::rights::Rights;
 use crate::run::run_step;
@@ -107,6 +108,7 @@ fn play_bytes<W: Write>(alloc: Global, input: &[u8], writer: &mut W) -> Result<(
     ensures { (all : List ℕ) → input.now ≡ take 1048577 all →
         Played (Tells all) (W.contents writer.old) (W.contents writer.new) result }
 {
+    every_beginning_is_of_the_text();
     match parse(alloc, input) {
         Ok(script) => PlayFault::told(write_run(alloc, &script, writer)),
         Err(error) => Err(PlayFault::from(error)),

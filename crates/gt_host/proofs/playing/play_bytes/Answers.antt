@@ -6,7 +6,8 @@ use Rattle.gt_host.proofs.playing.play_bytes.Goals as goal
 
 pub returns-in-Ok : goal.returns-in-Ok
 returns-in-Ok g c = λ all e.
-    played_run (Tells all) (told c.in-Ok.script) c.write_run.result _ _ _ (c.in-Ok.ensures.beginning all e) c.write_run.ensures.whole c.write_run.ensures.beginning c.told.ensures
+    played_run (Tells all) (told c.in-Ok.script) c.write_run.result _ _ _ (c.in-Ok.ensures.beginning all e) c.write_run.ensures.whole c.write_run.ensures.beginning
+    (c.every_beginning_is_of_the_text.ensures (told c.in-Ok.script) _ _) c.told.ensures
 
 pub returns-in-Err : goal.returns-in-Err
 returns-in-Err g c = λ all e.
