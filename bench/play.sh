@@ -14,6 +14,9 @@
 #
 # Then 30,000 lines of map, load and unmap of one mapping more, with 10 and with 8,000 mappings in use:
 # prints mappings and seconds, those of making the mappings in use taken away. Both should take the same.
+#
+# Then the script of 40,000 lines once more, without and with its audit: with it a run should take at most 1.5 times
+# as long.
 set -euo pipefail
 
 top="$(cd "$(dirname "${BASH_SOURCE[0]}")/.." && pwd)"
@@ -45,18 +48,18 @@ script() {
   }'
 }
 
-# The seconds of one run.
+# The seconds of one run, of `gthost play` with these words.
 seconds() {
   local from to
   from="$(date +%s%N)"
-  "${priority[@]}" "$program" play "$1" >/dev/null
+  "${priority[@]}" "$program" play "$@" >/dev/null
   to="$(date +%s%N)"
   awk -v ns="$((to - from))" 'BEGIN { printf "%.3f\n", ns / 1e9 }'
 }
 
 # The least time of all runs.
 least() {
-  for _ in $(seq "$runs"); do seconds "$1"; done | sort -n | head -n 1
+  for _ in $(seq "$runs"); do seconds "$@"; done | sort -n | head -n 1
 }
 
 printf '%8s  %s\n' lines seconds
@@ -95,6 +98,11 @@ for lines in 5000 10000 20000; do
   copies "$lines" >"$work/copies.gt"
   printf '%8s  %s\n' "$lines" "$(least "$work/copies.gt")"
 done
+
+# The audit of the script of 40,000 lines: as many lines, two in five of which are audited.
+printf '%8s  %s\n' audit seconds
+printf '%8s  %s\n' without "$(least "$work/40000.gt")"
+printf '%8s  %s\n' with "$(least --audit "$work/40000.gt")"
 
 # A script with so many mappings in use, and so many lines of calls by one more.
 held() {

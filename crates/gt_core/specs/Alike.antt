@@ -72,6 +72,7 @@ pub record ToldItem : Type 0 where
   pub happened : Happened
   pub answer : Option (Answer ⊎ List ℕ)
 
+-- that of this item (own)
 abbrev pub told_item : Item → ToldItem
 told_item i = record { actor = i.actor; happened = bare_happened i.happened; answer = option_map told i.answer }
 

@@ -11,7 +11,6 @@ use Rattle.gt_handles.specs.declared.handles.Handle.{Handle}
 use Rattle.gt_calls.specs.Asking.{asked}
 use Rattle.gt_calls.specs.declared.request.Request.{Request}
 use Rattle.gt_calls.specs.declared.request.Request.TheVariants as requests
-use Rattle.gt_calls.specs.declared.request.Asked.{Asked}
 use Rattle.gt_audit.specs.declared.record.Hypercall.{Hypercall}
 use Rattle.gt_audit.specs.declared.record.Hypercall.TheVariants as calls
 use Rattle.gt_audit.specs.declared.record.Record.{Record}
@@ -28,7 +27,7 @@ use Rattle.gt_core.specs.declared.trace.Happened.{Happened}
 use Rattle.gt_core.specs.declared.trace.Happened.TheVariants.{Began, Stepped}
 use Rattle.gt_core.specs.declared.trace.Item.{Item}
 use Rattle.gt_core.specs.Alike.{bare_handle, bare_request, bare_happened, told, told_item, told_items, ToldItem, IsKnown, AsksKnown, HappensKnown, IsRun, AreAlike}
-use Rattle.gt_host.specs.Auditing.{call_told, reply_told, record_told, record_with, before_begun, before_call, underway_told, open_told, item_told, record_of, record_in, records_of, record_lines, asked_lines, audit_text}
+use Rattle.gt_host.specs.Auditing.{call_told, reply_told, record_with, before_begun, before_call, underway_told, item_told, record_of, record_in, records_of, asked_lines, audit_text}
 
 -- what the law of gt_core says of handles
 abbrev pub HasOneSubject : Type 0
@@ -100,7 +99,7 @@ newest s i j g h a =
     let parts = same-head (told_item i) (told_item j) (told_items g) (told_items h) a.same in
     record { alike = record { first = a.first.2; second = a.second.2; same = parts.1 }; item = parts.0; known = a.first.1; asked = a.second.1 }
 
-none-newer : (i : Item) (g : History) → told_items (i ∷ g) ≡ [] → ⊥
+none-newer : (i : Item) (g : History) → told_items (i ∷ g) ≡ told_items [] → ⊥
 unfolding told_items
 none-newer i g e = cc
 

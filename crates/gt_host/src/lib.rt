@@ -8,11 +8,12 @@
 //! What holds of it: the text that went out is that of a run of the script, and what the run did
 //! is a legal trace of the core. It is whole where `play` answers Ok; a
 //! script with a fault writes nothing, and the fault is the script's first; after a failed write,
-//! or for want of memory, what went out is a beginning of such a text. It stands on `gt_script`
+//! or for want of memory, what went out is a beginning of such a text. Where the audit is asked for, the
+//! records of what the run did follow, and no other line changes. It stands on `gt_script`
 //! for what a script says, on `gt_core` for what its calls do, on `gt_policy` and `gt_types` for
 //! what its policy or its triples allow, on `gt_entry` for the entries that lines grant and show,
-//! and on `gt_streams` for reads and writes; its definitions also speak of the requests of
-//! `gt_calls` and the handles of `gt_handles`.
+//! on `gt_audit` for records and their lines, and on `gt_streams` for reads and writes; its
+//! definitions also speak of the requests of `gt_calls` and the handles of `gt_handles`.
 #![tactic(auto)]
 
 mod answers;

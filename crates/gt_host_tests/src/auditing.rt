@@ -39,9 +39,10 @@ do 2 load k 0 1\n\
 do 2 map h 1 0 ro\n\
 do 2 store h 0 01\n";
 
-// Refused maps are audited, accesses are not.
+// Refused maps and copies are audited, accesses are not. A copy tells its caller by its number.
 const REFUSED: &str = "do 2 map h 9 0 ro\n\
 do 2 map h 1 0 3\n\
+do 2 copy frame 1 5 0 frame self 3 0 1\n\
 do 2 peek 8 0 1\n\
 do 2 peek 8 4096 1\n";
 
@@ -80,8 +81,10 @@ audit 2 map 1 0 6 : ok\n",
         &rt,
         alloc,
         refused.as_str(),
-        "12 2 N1 -2\n13 2 N2 -1\n14 2 N16 -9\n15 2 N3 -10\n",
-        "audit 2 map 9 0 6 : N1 -2\naudit 2 map 1 0 3 : N2 -1\n",
+        "12 2 N1 -2\n13 2 N2 -1\n14 2 N4 -8\n15 2 N16 -9\n16 2 N3 -10\n",
+        "audit 2 map 9 0 6 : N1 -2\n\
+audit 2 map 1 0 3 : N2 -1\n\
+audit 2 copy frame 1 5 0 frame 2 3 0 1 0 : N4 -8\n",
     )?;
     prints(
         &rt,

@@ -1,5 +1,7 @@
 //! Readers, writers and allocators that fail, after each count of bytes.
-use crate::scripts::{BYTES, BYTES_TEXT, FIRST, FIRST_TEXT, HEAD, STEPS, STEPS_TEXT};
+use crate::scripts::{
+    BYTES, BYTES_TEXT, FIRST, FIRST_TEXT, HEAD, POLICY, POLICY_AUDITED, STEPS, STEPS_TEXT,
+};
 use gt_host::{PlayFault as Fault, play};
 use std::alloc::Global;
 use std::io::{self, ErrorKind, Read, Write};
@@ -103,6 +105,7 @@ fn refused_at_most_once(
     alloc: Global,
     script: &[u8],
     text: &[u8],
+    audit: bool,
 ) -> Result<(), Fail> {
     let mut reader = script;
     let taken = match Vec::with_capacity(alloc, 4096) {
@@ -110,7 +113,7 @@ fn refused_at_most_once(
         Err(_) => Vec::with_capacity(alloc, 4096)?,
     };
     let mut writer = FailingWriter { taken, left: 4096 };
-    match play(alloc, &mut reader, &mut writer, false) {
+    match play(alloc, &mut reader, &mut writer, audit) {
         Ok(()) => assert_eq!(rt; writer.taken.as_slice(), text),
         Err(fault) => {
             assert!(rt; matches!(fault, Fault::Memory));
@@ -126,12 +129,13 @@ fn memory_that_is_refused(rt: HostRuntime) -> Result<(), Fail> {
         Ok(script) => script,
         Err(_) => format!(in rt.alloc(); "{HEAD}{STEPS}")?,
     };
-    for (script, text) in [
-        (FIRST, FIRST_TEXT),
-        (BYTES, BYTES_TEXT),
-        (script.as_str(), STEPS_TEXT),
+    for (script, text, audit) in [
+        (FIRST, FIRST_TEXT, false),
+        (BYTES, BYTES_TEXT, false),
+        (script.as_str(), STEPS_TEXT, false),
+        (POLICY, POLICY_AUDITED, true),
     ] {
-        refused_at_most_once(&rt, rt.alloc(), script.as_bytes(), text.as_bytes())?;
+        refused_at_most_once(&rt, rt.alloc(), script.as_bytes(), text.as_bytes(), audit)?;
     }
     Ok(())
 }

@@ -87,3 +87,11 @@ do 2 map h 1 0 ro\n\
 do 2 map k 1 0 rw\n\
 do 2 unmap h\n\
 do 2 load h 0 2\n";
+
+/// What it prints with its audit.
+pub const POLICY_AUDITED: &str = "6 1 ok\n7 2 ok\n\
+8 2 N5 -8 source=b_t target=a_t perm=map_write\n\
+9 2 N5 -8 source=b_t target=a_t perm=unmap\n10 2 ok 0000\n\
+audit 2 map 1 0 6 : ok\n\
+audit 2 map 1 0 2 : N5 -8 source=b_t target=a_t perm=map_write\n\
+audit 2 unmap 1 0 : N5 -8 source=b_t target=a_t perm=unmap\n";
