@@ -10,8 +10,10 @@
 #![tactic(auto)]
 
 mod blocks;
+mod command;
 mod faults;
 mod laws;
+mod orders;
 mod script;
 mod types;
 
