@@ -10,7 +10,6 @@ use Rattle.gt_types.specs.declared.limits.TheConstants.{LAST_GENERATION}
 use Rattle.gt_lines.specs.Words.{words}
 use Rattle.gt_lines.specs.Numbers.{decimal_value, decimal_number, below}
 use Rattle.gt_lines.specs.Fields.{◌>>=◌, generation_word}
-
 use Rattle.gt_lines.specs.Lines.{triple_of, wear_of, domain_of, body_of, line_of, asked_of}
 use Rattle.gt_script.specs.Laws.{said, wear_in}
 use Rattle.gt_lines.specs.declared.numbers.Number.{Number}

@@ -42,6 +42,10 @@ empty command = record { command = command; policy = None; types = []; triples =
 abbrev pub with_policy : Command → Allowed → Contents
 with_policy command p = record (empty command) { policy = Some p }
 
+-- a script without the lines of its body for `run` (own)
+abbrev pub without_orders : Contents → Contents
+without_orders c = record c { orders = [] }
+
 -- the names of the types, with these where there is no policy (own)
 abbrev pub names_with : Option Allowed → List (List ℕ) → List (List ℕ)
 names_with None types = types

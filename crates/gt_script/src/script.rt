@@ -21,6 +21,7 @@ use gt_policy::Policy;
 use gt_types::{DomId, DomainConfig, LONGEST_TEXT, Triple, TypeId};
 use std::alloc::{AllocError, Global};
 use std::marker::Model;
+use std::mem;
 
 /// What a line of the body asks, with the number of that line and its domain.
 #[derive(Debug, Drop)]
@@ -177,7 +178,7 @@ impl<'a> Script<'a> {
     ghost use Rattle.gt_lines.specs.Words.{words as words_in};
     ghost use Rattle.std.specs.Option.{option_map};
     ghost use Rattle.gt_policy.specs.Allowing.{allowed_of};
-    ghost use Rattle.gt_script.specs.Contents.{told, empty, with_policy, type_names, first_gen};
+    ghost use Rattle.gt_script.specs.Contents.{told, empty, with_policy, without_orders, type_names, first_gen};
     ghost use Rattle.gt_script.specs.Script.{with_triple, type_in, with_names, with_domain, with_step, with_order, with_body, with_line, with_words, with_lines, completed, whole, has_no_rights, has_body, is_misplaced};
     ghost use Rattle.gt_script.specs.Outcomes.{Adds, Says};
 
@@ -242,6 +243,15 @@ impl<'a> Script<'a> {
         ensures { result.now ≡ self.now.domains }
     {
         self.domains.as_slice()
+    }
+
+    // The script without the lines of its body for `run`, and these.
+    pub(crate) fn into_parts(mut self, alloc: Global) -> (Script<'a>, Vec<Order<'a>>)
+        ensures head { told result.0 ≡ without_orders (told self.entry) }
+        ensures orders { result.1.items ≡ (told self.entry).orders }
+    {
+        let orders = mem::replace(&mut self.orders, Vec::new(alloc));
+        (self, orders)
     }
 
     /// The steps of the body, in their order.
