@@ -1,14 +1,14 @@
 -- What a script for `run` says.
-use Rattle.std.proofs.Common.{◌≡◌, ◌⊎◌, inl, inr, ℕ, List, length, Option, Some, None, Result, Ok, Err, refl, sym, ap, ◌∙◌, subst, All, IsTrue}
+use Rattle.std.proofs.Common.{◌≡◌, ◌⊎◌, inl, inr, ℕ, List, length, Option, Some, None, Result, Ok, Err, refl, sym, ap, ◌∙◌, subst, All, IsTrue, IfOk}
 use Rattle.gt_types.specs.Config.{is_taken}
 use Rattle.gt_types.specs.declared.config.DomainConfig.{DomainConfig}
 use Rattle.gt_script.specs.Blocks.{block_fault_shown}
-use Rattle.gt_script.specs.Contents.{Contents, without_orders}
+use Rattle.gt_script.specs.Contents.{Contents, told, without_orders}
 use Rattle.gt_script.specs.Flags.{flags_of}
 use Rattle.gt_script.specs.Laws.{IsScriptFor}
 use Rattle.gt_script.specs.Outcomes.{Answers}
 use Rattle.gt_script.specs.RunContents.{RunContents}
-use Rattle.gt_script.specs.RunScripts.{run_of, RunSays, RunTells, RunAnswers}
+use Rattle.gt_script.specs.RunScripts.{CanConfigure, run_of, RunSays, RunTells, RunAnswers}
 use Rattle.gt_script.specs.Script.{Wrong, in_script, in_policy, TellsFor}
 use Rattle.gt_script.specs.Stuck.{AreNumbered, IsTold, AllEnd, IsStuckAt, IsJudged}
 use Rattle.gt_script.specs.Tasks.{task_of, tasks_for, tasks_of}
@@ -75,6 +75,16 @@ pub fault-tells : (bytes : List ℕ) (error : ScriptError) → Answers (Err erro
 fault-tells bytes errors.Memory h = tt
 fault-tells bytes (errors.Fault fault) h = inl h
 fault-tells bytes (errors.Policy fault) (g, shown, h) = (g, shown, inl h)
+
+can-configure : (lines : List (List ℕ)) (c : Contents) → IsScriptFor Run lines c → CanConfigure c
+can-configure lines c (inl s) = (s.parts.faultless, s.parts.some_domain, s.parts.generation)
+can-configure lines c (inr s) = (s.parts.faultless, s.parts.some_domain, s.parts.generation)
+
+pub head-configures : (lines : List (List ℕ)) (c : Contents) (r : Result RunScript ScriptError) → IsScriptFor Run lines c → RunAnswers r (RunSays c) → IfOk r (λ s. CanConfigure (told s.head))
+head-configures lines c (Ok s) of h =
+    let head : told s.head ≡ without_orders c = ap (λ (k : RunContents). k.head) h.1 in
+    subst (λ (k : Contents). CanConfigure k) (sym head) (can-configure lines c of)
+head-configures lines c (Err e) of h = tt
 
 pub ordered : (lines : List (List ℕ)) (c : Contents) → IsScriptFor Run lines c → All (λ (o : Order). IsTrue (is_taken c.domains o.dom)) c.orders
 ordered lines c (inl s) = s.parts.ordered

@@ -1,9 +1,11 @@
 -- The script for `run` that bytes say, or their first fault.
-use Rattle.std.specs.Prelude.{◌≡◌, ◌⊎◌, ℕ, ◌==◌, List, filter, length, Some, Result, Ok, Err}
+use Rattle.std.specs.Prelude.{◌≡◌, ◌⊎◌, ◌≤◌, ℕ, ◌==◌, List, filter, length, Some, Result, Ok, Err}
+use Rattle.gt_types.specs.Config.{AreFaultless}
 use Rattle.gt_types.specs.declared.DomId.{DomId}
+use Rattle.gt_types.specs.declared.limits.TheConstants.{LAST_GENERATION}
 use Rattle.gt_policy.specs.declared.fault.Fault as policy
 use Rattle.gt_script.specs.Blocks.{block_fault_shown}
-use Rattle.gt_script.specs.Contents.{Contents, without_orders}
+use Rattle.gt_script.specs.Contents.{Contents, without_orders, first_gen}
 use Rattle.gt_script.specs.Flags.{flags_of}
 use Rattle.gt_script.specs.RunContents.{RunContents, run_told}
 use Rattle.gt_script.specs.Script.{Wrong, in_script, in_policy, TellsFor}
@@ -15,6 +17,10 @@ use Rattle.gt_script.specs.declared.faults.ScriptError.{ScriptError}
 use Rattle.gt_script.specs.declared.faults.ScriptError.TheVariants as errors
 use Rattle.gt_script.specs.declared.run_script.RunScript.{RunScript}
 use Rattle.gt_script.specs.declared.tasks.Task.{Task}
+
+-- the domains and the first generation are within the limits of a run (own)
+abbrev pub CanConfigure : Contents → Type 0
+CanConfigure c = AreFaultless c.domains × (1 ≤ length c.domains) × (first_gen c ≤ LAST_GENERATION)
 
 -- the list of a domain: its own tasks, in their order (own)
 abbrev pub list_of : List Task → DomId → List Task

@@ -3,7 +3,7 @@ ghost use Rattle.std.specs.Prelude.{◌≡◌, ◌+◌, ℕ, List, All, IsTrue, 
 ghost use Rattle.gt_types.specs.Config.{is_taken};
 ghost use Rattle.gt_types.specs.declared.limits.TheConstants.{LONGEST_TEXT};
 ghost use Rattle.gt_script.specs.Contents.{told};
-ghost use Rattle.gt_script.specs.RunScripts.{RunSays, RunTells, RunAnswers, list_of as list_in};
+ghost use Rattle.gt_script.specs.RunScripts.{CanConfigure, RunSays, RunTells, RunAnswers, list_of as list_in};
 
 use crate::command::Command;
 use crate::faults::{Fault, FaultKind, ScriptError};
@@ -92,6 +92,7 @@ fn of_script<'a>(alloc: Global, script: Script<'a>) -> Result<RunScript<'a>, Scr
 /// a fault, and last of all a domain that waits for a flag that is never told.
 pub fn parse_run<'a>(alloc: Global, bytes: &'a [u8]) -> Result<RunScript<'a>, ScriptError>
     ensures script { RunAnswers result (RunTells bytes.entry.now) }
+    ensures holds { IfOk result (λ s. CanConfigure (told s.head)) }
 
     // What is read up to one byte past the limit decides for all that there is.
     ensures beginning { (all : List ℕ) → bytes.entry.now ≡ take (LONGEST_TEXT + 1) all → RunAnswers result (RunTells all) }
