@@ -1,8 +1,11 @@
 pub mod BlockLemmas
 pub mod FaultLemmas
+pub mod FlagLemmas
 pub mod LawLemmas
+pub mod OneLemmas
+pub mod RoundLemmas
+pub mod RunLemmas
 pub mod ScriptLemmas
+pub mod StandingLemmas
 pub mod TypeLemmas
 pub mod WearLemmas
-pub mod OneLemmas
-pub mod StandingLemmas

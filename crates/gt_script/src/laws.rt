@@ -2,7 +2,8 @@
 ghost use Rattle.std.specs.Prelude.{◌≡◌, ℕ, List, Result, Err};
 ghost use Rattle.gt_script.specs.Contents.{Contents};
 ghost use Rattle.gt_script.specs.Laws.{IsFaultOf, IsFaultOfBlock};
-ghost use Rattle.gt_script.specs.Script.{Tells, Wrong, in_policy, in_script};
+ghost use Rattle.gt_script.specs.Script.{Tells, TellsFor, Wrong, in_policy, in_script};
+ghost use Rattle.gt_script.specs.declared.command.Command.{Command};
 ghost use Rattle.gt_script.specs.declared.faults.Fault.{Fault};
 ghost use Rattle.gt_policy.specs.declared.fault.Fault as policy;
 
@@ -20,6 +21,8 @@ pub fn every_text_tells_one_thing()
 /// A law: a fault that stands first, of the bytes or of their policy block, is the one that they tell. So
 /// where one stands no other does.
 pub fn every_fault_that_stands_is_told()
-    ensures script { (bytes : List ℕ) (f : Fault) → IsFaultOf bytes f → Tells bytes (Err (in_script f)) }
-    ensures block { (bytes : List ℕ) (g : policy.Fault) → IsFaultOfBlock bytes g → Tells bytes (Err (in_policy g)) }
+    ensures script { (command : Command) (bytes : List ℕ) (f : Fault) →
+        IsFaultOf command bytes f → TellsFor command bytes (Err (in_script f)) }
+    ensures block { (command : Command) (bytes : List ℕ) (g : policy.Fault) →
+        IsFaultOfBlock bytes g → TellsFor command bytes (Err (in_policy g)) }
 {}

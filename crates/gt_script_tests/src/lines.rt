@@ -194,8 +194,8 @@ const NO_STEPS: [&str; 28] = [
     "show self 0",
     "show 1 0 0",
     "show 99 x",
-    "tell 1 x",
-    "await 1 x",
+    "tell 1",
+    "await 1 x y",
 ];
 
 // Steps of domains that are not configured.
