@@ -6,8 +6,8 @@ use gt_calls::Handle;
 use gt_entry::Entry;
 use gt_live::{Domain, Monitor};
 use gt_types::{
-    Allows, Config, Denial, DomId, DomainConfig, Facts, GrantRef, Memory, Perms, Size, StartFault,
-    Triple, Triples, TypeId,
+    Allows, Config, Denial, DomId, DomainConfig, Facts, Memory, Perms, Size, StartFault, Triple,
+    Triples, TypeId,
 };
 use std::alloc::{AllocError, Global};
 

@@ -287,6 +287,10 @@ fn a_domain_that_leaves_gives_its_pins_back(rt: HostRuntime) -> Result<(), Fail>
         line(ONE, Asks::Grant(0, page(false, 5)), "ok"),
         line(TWO, Asks::Map(1, 0, READ_ONLY), "ok"),
         line(TWO, Asks::Map(1, 0, WRITABLE), "ok"),
+        line(TWO, Asks::Unmap, "ok"),
+        line(TWO, Asks::Unmap, "N6 -4"),
+        line(TWO, Asks::Map(1, 0, WRITABLE), "ok"),
+        line(TWO, Asks::Map(9, 0, READ_ONLY), "N1 -2"),
         line(TWO, Asks::GetVersion(1), "ok version=1"),
         line(ONE, Asks::Revoke(0), "N19 -1 entry 1 0 100020010011"),
     ];
@@ -300,9 +304,15 @@ fn a_domain_that_leaves_gives_its_pins_back(rt: HostRuntime) -> Result<(), Fail>
     Ok(())
 }
 
-const RECORDS: &str =
-    "[Record { dom: DomId(2), call: Map { dom: DomId(1), gref: GrantRef(0), flags: 6 }, reply: Done }, \
+const RECORDS: &str = "[\
+    Record { dom: DomId(2), call: Map { dom: DomId(1), gref: GrantRef(0), flags: 6 }, reply: Done }, \
     Record { dom: DomId(2), call: Map { dom: DomId(1), gref: GrantRef(0), flags: 2 }, reply: Done }, \
+    Record { dom: DomId(2), call: Unmap { subject: Some((DomId(1), GrantRef(0))) }, reply: Done }, \
+    Record { dom: DomId(2), call: Unmap { subject: None }, \
+    reply: Denied(Denial { rule: N6, status: BadHandle, facts: None }) }, \
+    Record { dom: DomId(2), call: Map { dom: DomId(1), gref: GrantRef(0), flags: 2 }, reply: Done }, \
+    Record { dom: DomId(2), call: Map { dom: DomId(9), gref: GrantRef(0), flags: 6 }, \
+    reply: Denied(Denial { rule: N1, status: BadDomain, facts: None }) }, \
     Record { dom: DomId(2), call: GetVersion { dom: DomId(1) }, reply: Version(1) }] 0";
 
 // Maps the first entry of domain 1 for reading so often. Answers how often that was Ok.

@@ -8,10 +8,12 @@ use std::thread::{Threads, join};
 
 // Grants a page, and takes it back once it is not in use.
 fn lend<P: Allows>(mut one: Running<'_, P>, page: &Entry) -> bool {
-    let lent = one.grant(0, page).is_ok();
+    if one.grant(0, page).is_err() {
+        return false;
+    }
     for _ in 0..u64::MAX {
         if one.revoke(0).is_ok() {
-            return lent;
+            return true;
         }
     }
     false

@@ -4,7 +4,6 @@ use crate::running::{Running, all_running};
 use gt_entry::{Control, Entry, Kind};
 use gt_types::{Allows, Denial, DomId, Facts, Rule};
 use std::alloc::AllocError;
-use std::process::Abort;
 use std::test::Fail;
 use std::thread::{self, Threads};
 
