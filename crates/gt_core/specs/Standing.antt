@@ -137,6 +137,18 @@ ticked_element dom TickedNoDomain = NoDomain
 abbrev pub setting_of : Config → (TypeId → TypeId → Perms → Bool) → Setting
 setting_of config may = record { domains = config.domains.items; first_generation = config.first_gen; may = may }
 
+-- the setting of a machine's run, where this is what its policy allows by its rights (own)
+abbrev pub setting_by : {P : Type 0} → (P → TypeId → TypeId → Perms → Bool) → Machine P → Setting
+setting_by may m = setting_of m.config (may m.rights)
+
+-- what a machine keeps (own)
+abbrev pub state_by : {P : Type 0} → Machine P → CoreState
+state_by m = core_of m.domains.items m.frames
+
+-- what a call of this domain knows in a machine (own)
+abbrev pub known_by : {P : Type 0} → (P → TypeId → TypeId → Perms → Bool) → Machine P → State → CallerKnowledge
+known_by may m d = knowledge_of m.config.domains.items m.config.first_gen (may m.rights) d.own d.header d.mappings
+
 -- a call that nothing stood against is over after this last step: its answer, and the states; a read gives what the frame holds (own)
 abbrev pub Settled : FrameSet → List State → ℕ → State → Step → Answer → List State → Type 0
 Settled fs xs at d (ReadBytes dom frame off len) answer new =
@@ -379,15 +391,3 @@ pub record CoreModel (P : Type 0) : Type 0 where
 -- the setting of a core's run, where this is what its policy allows by its rights (own)
 abbrev pub setting_in : {P : Type 0} → (P → TypeId → TypeId → Perms → Bool) → CoreModel P → Setting
 setting_in may core = setting_of core.config (may core.rights)
-
--- the same of a machine (own)
-abbrev pub setting_by : {P : Type 0} → (P → TypeId → TypeId → Perms → Bool) → Machine P → Setting
-setting_by may m = setting_of m.config (may m.rights)
-
--- what a machine keeps (own)
-abbrev pub state_by : {P : Type 0} → Machine P → CoreState
-state_by m = core_of m.domains.items m.frames
-
--- what a call of this domain knows in a machine (own)
-abbrev pub known_by : {P : Type 0} → (P → TypeId → TypeId → Perms → Bool) → Machine P → State → CallerKnowledge
-known_by may m d = knowledge_of m.config.domains.items m.config.first_gen (may m.rights) d.own d.header d.mappings
