@@ -210,12 +210,6 @@ write-justified s h xs d r dom frame off len st none (inr (is, own)) =
 
 -- a copy
 
--- a pin that the call holds is live
-in-append : {K : Type 0} (m : Held) (xs ys : List (K × Held)) → IsHeldIn m xs → IsHeldIn m (xs ++ ys)
-in-append m [] ys a = absurd a
-in-append m (x ∷ xs) ys (inl e) = inl e
-in-append m (x ∷ xs) ys (inr a) = inr (in-append m xs ys a)
-
 abbrev IsAmong : Held → List Held → Type 0
 IsAmong m [] = ⊥
 IsAmong m (x ∷ xs) = (x ≡ m) ⊎ IsAmong m xs

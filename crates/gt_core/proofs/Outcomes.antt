@@ -174,20 +174,6 @@ quiet-copy (Exchange gref looked change) a b = b
 quiet-copy (ReadBytes dom frame off len) a b = b
 quiet-copy (WriteBytes dom frame off len) a b = b
 
--- after it the copy ends with Ok
-copy-ends : (s : Setting) (h : History) (way : Continuation) (d : DomId) (r : Asked) (shown : List Seen) (phase : Phase) (from to : Rattle.gt_calls.specs.declared.action.Place.Place) (len : ℕ) → HasShown (known_at s h d) way d r shown phase → action_at d phase ≡ Makes (CopyBytes from to len)
-    → phase_refusal (phase_after (known_at s h d) d phase Nothing) ≡ None
-copy-ends s h way d r shown (Storing g entry) from to len a e = cc
-copy-ends s h way d r shown (StoringSecond g entry) from to len a e = cc
-copy-ends s h way d r shown (Exchanging g w c) from to len a e = cc
-copy-ends s h way d r shown (Looking g c more) from to len a e = cc
-copy-ends s h way d r shown (Changing g c more w) from to len a e = cc
-copy-ends s h way d r shown (Walking aim l at) from to len a e = absurd (leg-copy l at (subst IsCopyStep (sym (makes-same _ _ e)) tt))
-copy-ends s h way d r shown (Accessing c source dest) from to len a e = refl
-copy-ends s h way d r shown (Asking dom question) from to len a e = cc
-copy-ends s h way d r shown (Last last verdict) from to len a e = absurd (quiet-copy last a.0 (subst IsCopyStep (sym (makes-same _ _ e)) tt))
-copy-ends s h way d r shown (Ending pins verdict) from to len a e = absurd (give-copy (last_first pins) verdict (CopyBytes from to len) e tt)
-
 -- and it is over, or gives pins back
 copy-over : (s : Setting) (h : History) (way : Continuation) (d : DomId) (r : Asked) (shown : List Seen) (phase : Phase) (from to : Rattle.gt_calls.specs.declared.action.Place.Place) (len : ℕ) → HasShown (known_at s h d) way d r shown phase → action_at d phase ≡ Makes (CopyBytes from to len)
     → (steps : List (Step × Seen)) → IsClean (phase_after (known_at s h d) d phase Nothing) steps

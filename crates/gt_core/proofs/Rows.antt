@@ -23,12 +23,6 @@ changed-past [] r f past = refl
 changed-past (z ∷ zs) zero f past = absurd (omega arith)
 changed-past (z ∷ zs) (suc r) f past = ap (λ l. z ∷ l) (changed-past zs r f (omega arith))
 
--- a write of the changed element, in a list of what the elements show
-pub map-changed : {A B : Type 0} (g : A → B) (xs : List A) (r : ℕ) (f : B → B) (y x : A) → r < length xs → x ≡ get_or xs r x → g y ≡ f (g x) → map g (set xs r y) ≡ changed_at r f (map g xs)
-map-changed g [] r f y x within e s = absurd (omega arith)
-map-changed g (z ∷ zs) zero f y x within e s = ap (λ v. v ∷ map g zs) (s ∙ ap (λ v. f (g v)) e)
-map-changed g (z ∷ zs) (suc r) f y x within e s = ap (λ l. g z ∷ l) (map-changed g zs r f y x (omega arith) e s)
-
 pub length-changed : {A : Type 0} (xs : List A) (r : ℕ) (f : A → A) → length (changed_at r f xs) ≡ length xs
 length-changed [] r f = refl
 length-changed (z ∷ zs) zero f = refl
@@ -103,13 +97,6 @@ length-changed_in (z ∷ zs) d f = by (z.id.0 == d) (length-changed_in zs d f)
     by true e = refl
     by false e = ap suc e
 
--- what a call of a slice leaves of a vector, where it changes one state
-pub slice-changed : (n d : ℕ) (f : State → State) (xs ys zs : List State) → length xs ≡ n → ys ≡ xs → zs ≡ changed_in d f ys → take n (zs ++ drop (length zs) xs) ≡ changed_in d f xs
-slice-changed n d f xs ys zs len same new =
-    let e : zs ≡ changed_in d f xs = new ∙ ap (changed_in d f) same in
-    let l : length zs ≡ n = ap (λ (y : List State). length y) e ∙ length-changed_in xs d f ∙ len in
-    ap (λ (k : List State). take n (zs ++ k)) (drop_all (length zs) xs (omega arith)) ∙ ap (λ (k : List State). take n k) (append-nil zs) ∙ take_all n zs (omega arith) ∙ e
-
 -- the first state with a number, after the change of the one with number d
 pub state-changed : (xs : List State) (d q : ℕ) (f : State → State) → ((x : State) → (f x).id ≡ x.id) → state_of (changed_in d f xs) q ≡ cond (d == q) (option_map f (state_of xs q)) (state_of xs q)
 state-changed [] d q f keeps = sym (cond-none (d == q))
@@ -137,14 +124,3 @@ state-changed (z ∷ zs) d q f keeps = by (z.id.0 == d) (state-changed zs d q f 
     by false rest e =
         ap (cond (z.id.0 == q) (Some z)) rest
         ∙ apart (z.id.0 == q) (d == q) (λ a c. true≢false (sym (eq-eqb z.id.0 d (eqb-true z.id.0 q a ∙ sym (eqb-true d q c))) ∙ e))
-
-drop-nil : (n : ℕ) → drop {A = ℕ} n [] ≡ []
-drop-nil zero = refl
-drop-nil (suc n) = refl
-
--- bytes read where there is no frame: none
-pub nothing-read : (out : List ℕ) (off : ℕ) → length (take (length out) (drop {A = ℕ} off [])) ≡ length out → out ≡ take (length out) (drop {A = ℕ} off [])
-nothing-read out off e =
-    let none : take (length out) (drop {A = ℕ} off []) ≡ [] = ap (λ (l : List ℕ). take (length out) l) (drop-nil off) ∙ take-nil (length out) in
-    let zero : length out ≡ 0 = sym e ∙ ap (λ (l : List ℕ). length l) none in
-    nil_from_length out zero ∙ sym none

@@ -171,16 +171,6 @@ given-last s h d r (PinStep p) verdict value q b g = absurd q
 given-last s h d r (Exchange gref looked change) verdict value q b g = absurd q
 given-last s h d r (CopyBytes from to len) verdict value q b g = absurd q
 
--- no call but a question or a set up gives a value
-abbrev NoValue : Verdict → Type 0
-NoValue (Given value) = ⊥
-NoValue v = Unit {0}
-
--- nor one but a map a pin
-abbrev NoPin : Verdict → Type 0
-NoPin (Mapped p) = ⊥
-NoPin v = Unit {0}
-
 -- what is so of the end of a phase, if it is one
 abbrev AtEnd : (Verdict → Type 0) → Action → Type 0
 AtEnd Q (Makes step) = Unit {0}
@@ -250,13 +240,6 @@ plain-end Q s h d r so_far (Ending pins verdict) step v plain (inr c) e n asking
     by [] f = cc
     by (q ∷ qs) f =
         at-end Q _ v (give-end Q (last_first (without_last pins)) verdict (copy-end Q verdict c.2 plain)) (subst (λ (z : Step). Next s h d (Ending pins verdict) z v) (sym (makes-same (Unpin q (ByLeg (length qs))) step f)) n)
-
-walk-plain : (Q : Verdict → Type 0) (k : CallerKnowledge) (d : DomId) (aim : Aim) (l : Leg) (next : LegNext) (v : Verdict) → Plain Q → action_at d (after_leg k d aim l next) ≡ Done v → Q v ⊎ ((p : Held) × (v ≡ Mapped p) × (next ≡ Pinned p) × (aim ≡ Mapping))
-walk-plain Q k d aim l next v plain e = by (walk-done k d aim l next v e)
-  where
-    by : ((denial : Denial) × (v ≡ Refused denial)) ⊎ ((p : Held) × (v ≡ Mapped p) × (next ≡ Pinned p) × (aim ≡ Mapping)) → Q v ⊎ ((p : Held) × (v ≡ Mapped p) × (next ≡ Pinned p) × (aim ≡ Mapping))
-    by (inl x) = inl (subst Q (sym x.1) (plain.1 x.0))
-    by (inr x) = inr x
 
 pub given-value : (s : Setting) (h : History) (xs : List State) (d : DomId) (r : Asked) (shown : List Seen) (so_far : StepsSoFar) (phase : Phase) (step : Step) (value : Value) → IsHere s h xs d r shown so_far phase step
     → Next s h d phase step (Given value) → GivesValue s h d r (Some step) (answer_with value)
