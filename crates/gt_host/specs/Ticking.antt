@@ -51,7 +51,7 @@ pub record IsKept (kept : Kept) (p : Progress) : Type 0 where
   pub calls : (dom : ℕ) → call_in kept.calls dom ≡ p.open_steps dom
 
 -- the run has come to this point: what it did is legal, and the core and what is kept stand for it; it is recorded, where that is asked for (own)
-pub record HasCome (s : Setting) (audit : Bool) (p : Progress) (domains : CoreState) (kept : Kept) : Type 0 where
+pub record HasCome (s : Setting) (audit : Bool) (p : Progress) (core : CoreState) (kept : Kept) : Type 0 where
   pub legal : Legal s p.events p.trace
   pub stands : CoreStands s (history_of p) core
   pub keeps : IsKept kept p
@@ -64,6 +64,6 @@ IsAppended was is before after = (text : List ℕ) × (is ≡ was ++ text) × (a
 
 -- from each point that the run may have come to, this leads to a next one (own)
 abbrev pub Leads : Setting → (Progress → Progress → Type 0) → CoreState → CoreState → Kept → Kept → List ℕ → List ℕ → Type 0
-Leads s ToNext old_domains new_domains old_kept new_kept before after =
-    (p : Progress) (audit : Bool) → HasCome s audit p old_domains old_kept
-    → (q : Progress) × ToNext p q × HasCome s audit q new_domains new_kept × IsAppended p.text q.text before after
+Leads s ToNext old_core new_core old_kept new_kept before after =
+    (p : Progress) (audit : Bool) → HasCome s audit p old_core old_kept
+    → (q : Progress) × ToNext p q × HasCome s audit q new_core new_kept × IsAppended p.text q.text before after

@@ -14,34 +14,61 @@ fn words_of(alloc: Global, line: &[&str]) -> Result<Vec<String>, AllocError> {
 #[test]
 fn a_command_takes_its_file_from_the_line(rt: HostRuntime) -> Result<(), Fail> {
     let alloc = rt.alloc();
-    let lines: [(&[&str], Mode, Option<&str>); 8] = [
-        (&["gthost", "play"], Mode::Play, None),
+    let lines: [(&[&str], Mode, bool, Option<&str>); 12] = [
+        (&["gthost", "play"], Mode::Play, false, None),
         (
             &["gthost", "play", "first.gt"],
             Mode::Play,
+            false,
             Some("first.gt"),
         ),
-        (&["gthost", "play", "-"], Mode::Play, Some("-")),
+        (&["gthost", "play", "-"], Mode::Play, false, Some("-")),
         (
             &["gthost", "play", "--", "--help"],
             Mode::Play,
+            false,
             Some("--help"),
         ),
         (
             &["gthost", "play", "first.gt", "--"],
             Mode::Play,
+            false,
             Some("first.gt"),
         ),
-        (&["gthost", "policy"], Mode::Policy, None),
-        (&["gthost", "policy", "play"], Mode::Policy, Some("play")),
-        (&["gthost", "play", "policy"], Mode::Play, Some("policy")),
+        (&["gthost", "policy"], Mode::Policy, false, None),
+        (
+            &["gthost", "policy", "play"],
+            Mode::Policy,
+            false,
+            Some("play"),
+        ),
+        (
+            &["gthost", "play", "policy"],
+            Mode::Play,
+            false,
+            Some("policy"),
+        ),
+        (&["gthost", "play", "--audit"], Mode::Play, true, None),
+        (
+            &["gthost", "play", "--audit", "a.gt"],
+            Mode::Play,
+            true,
+            Some("a.gt"),
+        ),
+        (
+            &["gthost", "play", "a.gt", "--audit"],
+            Mode::Play,
+            true,
+            Some("a.gt"),
+        ),
+        (&["gthost", "rules", "N19"], Mode::Rules, false, Some("N19")),
     ];
-    for (line, mode, file) in lines {
+    for (line, mode, audit, file) in lines {
         let words = words_of(alloc, line)?;
         match plan(alloc, words.as_slice()) {
             Ok(invocation) => {
-                assert_eq!(rt; invocation.mode, mode);
-                assert_eq!(rt; invocation.file, file);
+                let asked = (invocation.mode, invocation.audit, invocation.file);
+                assert_eq!(rt; asked, (mode, audit, file));
             }
             Err(_) => assert!(rt; false),
         }
@@ -52,8 +79,10 @@ fn a_command_takes_its_file_from_the_line(rt: HostRuntime) -> Result<(), Fail> {
 #[test]
 fn help_is_no_fault(rt: HostRuntime) -> Result<(), Fail> {
     let alloc = rt.alloc();
-    let lines: [(&[&str], bool); 11] = [
+    let lines: [(&[&str], bool); 14] = [
         (&["gthost", "--help"], false),
+        (&["gthost", "--version"], false),
+        (&["gthost", "play", "--version"], true),
         (&["gthost", "play", "-h"], false),
         (&["gthost", "policy", "--help"], false),
         (&["gthost", "policy", "a.te", "b.te"], true),
@@ -62,7 +91,8 @@ fn help_is_no_fault(rt: HostRuntime) -> Result<(), Fail> {
         (&["gthost", "run", "first.gt"], true),
         (&["gthost", "help"], true),
         (&["gthost", "play", "first.gt", "second.gt"], true),
-        (&["gthost", "play", "--audit"], true),
+        (&["gthost", "play", "--audit", "--audit"], true),
+        (&["gthost", "play", "--audit=yes"], true),
         (&["gthost", "--", "play"], true),
     ];
     for (line, is_fault) in lines {
