@@ -26,5 +26,9 @@ mod rights;
 mod run;
 mod showing;
 
+pub use answers::push_answer_line;
 pub use fault::PlayFault;
+pub use labels::Labels;
 pub use playing::play;
+pub use rights::Rights;
+pub use run::{bytes_said, label_given, request_of};

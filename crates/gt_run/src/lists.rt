@@ -1,0 +1,38 @@
+//! What the domains of a run do, each in its own order.
+use crate::serving::Output;
+use gt_lines::{Call, Text};
+use gt_types::DomId;
+use std::thread::Promise;
+
+/// What a line of a list asks of its domain. Flags are numbered from 0.
+#[derive(Debug, Drop)]
+pub enum Deed<'a> {
+    /// `do ID CALL`: the call from its beginning to its answer.
+    Do(Call<'a>),
+    /// `tell ID FLAG`
+    Tell(usize),
+    /// `await ID FLAG`: the domain goes on once the flag was told by anybody.
+    Await(usize),
+}
+
+/// A line of a domain's list, with its number in the script.
+#[derive(Debug, Drop)]
+pub struct ListLine<'a> {
+    pub line: usize,
+    pub deed: Deed<'a>,
+}
+
+/// A domain's part of a run: its list, and the names of types that its lines print.
+#[derive(Clone, Copy)]
+pub struct Part<'s, 'a> {
+    pub dom: DomId,
+    pub list: &'s [ListLine<'a>],
+    pub types: &'s [Text<'s>],
+}
+
+// The thread of a domain promises what comes of its part.
+impl<'s, 'a> Promise<Output> for Part<'s, 'a> {
+    ghost use Rattle.gt_run.specs.Printing.{CameOf};
+
+    ghost kept_by = { λ part output. CameOf part output };
+}

@@ -1,0 +1,131 @@
+//! Worked rows.
+use crate::gates::{Looking, Meeting, Turns};
+use crate::lists::{config, lists, rights};
+use gt_audit::SharedLog;
+use gt_lines::Text;
+use gt_run::{Flags, Gate, ListLine, Part, RunFault, run_lists};
+use gt_types::{DomId, Memory};
+use std::alloc::Global;
+use std::sync::Wait;
+use std::test::Fail;
+use std::thread::Threads;
+
+fn part<'s, 'a>(dom: u16, list: &'s [ListLine<'a>], types: &'s [Text<'s>]) -> Part<'s, 'a> {
+    Part {
+        dom: DomId(dom),
+        list,
+        types,
+    }
+}
+
+// Runs a body over three domains, and answers what it prints.
+fn run_body<R: Threads + Wait + Sync, G: Gate + Sync>(
+    rt: &R,
+    alloc: Global,
+    body: &str,
+    log: Option<&SharedLog>,
+    gate: &G,
+) -> Result<Vec<u8>, RunFault> {
+    let lists = lists(alloc, 12, body)?;
+    let types = [Text::new(b"a_t"), Text::new(b"b_t"), Text::new(b"c_t")];
+    let parts = [
+        part(1, lists[0].as_slice(), &types),
+        part(2, lists[1].as_slice(), &types),
+        part(3, lists[2].as_slice(), &types),
+    ];
+    let mut out = Vec::new(alloc);
+    run_lists(
+        rt,
+        alloc,
+        config(alloc, 3)?,
+        rights(alloc)?,
+        &parts,
+        log,
+        gate,
+        &mut out,
+    )?;
+    Ok(out)
+}
+
+#[test]
+fn two_domains_meet(rt: HostRuntime) -> Result<(), Fail> {
+    let body = "tell 1 x\nawait 1 y\ntell 2 y\nawait 2 x\n";
+    let out = run_body(&rt, rt.alloc(), body, None, &Meeting::of(2))?;
+    assert_eq!(rt; out.as_slice(), "".as_bytes());
+    Ok(())
+}
+
+#[test]
+fn three_domains_meet(rt: HostRuntime) -> Result<(), Fail> {
+    let body = "await 1 y\nawait 2 x\nawait 3 x\ntell 1 x\ntell 2 y\n";
+    let out = run_body(&rt, rt.alloc(), body, None, &Meeting::of(3))?;
+    assert_eq!(rt; out.as_slice(), "".as_bytes());
+    Ok(())
+}
+
+#[test]
+fn a_false_gate_stops_its_domain(rt: HostRuntime) -> Result<(), Fail> {
+    let body = "do 1 grant 0 page 2 rw 5\nawait 1 x\ndo 1 revoke 0\ndo 2 map h 1 1 ro\n";
+    let out = run_body(&rt, rt.alloc(), body, None, &Turns::new())?;
+    assert_eq!(rt;
+        out.as_slice(),
+        "12 1 ok\n13 1 gate\n15 2 N10 -1\n".as_bytes()
+    );
+    Ok(())
+}
+
+const SHARING: &str = "do 1 grant 0 page 2 rw 5
+tell 1 a
+await 2 a
+do 2 map h 1 0 rw
+do 2 unmap h
+tell 2 b
+await 1 b
+do 1 revoke 0
+";
+
+#[test]
+fn a_page_is_shared(rt: HostRuntime) -> Result<(), Fail> {
+    let gate = Flags::new(&rt, rt.alloc())?;
+    let out = run_body(&rt, rt.alloc(), SHARING, None, &gate)?;
+    assert_eq!(rt;
+        out.as_slice(),
+        "12 1 ok\n19 1 ok\n15 2 ok\n16 2 ok\n".as_bytes()
+    );
+    Ok(())
+}
+
+#[test]
+fn records_are_told_before_the_next_line(rt: HostRuntime) -> Result<(), Fail> {
+    let log = SharedLog::new(rt.alloc())?;
+    let gate = Looking::at(&log, DomId(2), 2);
+    let out = run_body(&rt, rt.alloc(), SHARING, Some(&log), &gate)?;
+    assert_eq!(rt;
+        out.as_slice(),
+        "12 1 ok\n19 1 ok\n15 2 ok\n16 2 ok\naudit 2 map 1 0 2 : ok\naudit 2 unmap 1 0 : ok\n".as_bytes()
+    );
+    assert_eq!(rt; gate.found().0, true);
+    Ok(())
+}
+
+const AWAITING: &str = "do 1 grant 0 page 2 rw 5
+tell 1 a
+tell 1 b
+await 2 a
+do 2 map h 1 0 rw
+do 2 unmap h
+await 2 b
+";
+
+#[test]
+fn records_are_told_before_an_await(rt: HostRuntime) -> Result<(), Fail> {
+    let log = SharedLog::new(rt.alloc())?;
+    let gate = Looking::at(&log, DomId(2), 2);
+    let out = run_body(&rt, rt.alloc(), AWAITING, Some(&log), &gate)?;
+    assert_eq!(rt;
+        out.as_slice(),
+        "12 1 ok\n16 2 ok\n17 2 ok\naudit 2 map 1 0 2 : ok\naudit 2 unmap 1 0 : ok\n".as_bytes()
+    );
+    assert_eq!(rt; gate.found(), (false, true));
+    Ok(())
+}
