@@ -1,5 +1,6 @@
 -- What the lists of a run print.
-use Rattle.std.specs.Prelude.{◌≡◌, ◌⊎◌, ◌++◌, ℕ, Bool, true, false, List, [], ◌∷◌, take, codes, decimal, flat_map, Option, Some, Result, IfOk, slice_get}
+use Rattle.std.specs.Prelude.{◌≡◌, ◌⊎◌, ◌++◌, ℕ, Bool, true, false, List, [], ◌∷◌, take, map, codes, Option, Some, IfOk, slice_get}
+use Rattle.std.specs.List.{flat_map}
 use Rattle.std.specs.Io.KnownBytes.{Appends}
 use Rattle.std.specs.declared.thread.PromisedHandle.{PromisedHandle}
 use Rattle.gt_types.specs.declared.DomId.{DomId}
@@ -18,16 +19,24 @@ use Rattle.gt_run.specs.declared.serving.Output.{Output}
 abbrev pub gate_line : ℕ → DomId → List ℕ
 gate_line line dom = call_text line dom ++ codes "gate\n"
 
+-- the texts of these, one after the other (own)
+abbrev pub Each : {A : Type 0} → (A → List ℕ → Type 0) → List A → List ℕ → Type 0
+Each P [] text = text ≡ []
+Each P (x ∷ xs) text = (first : List ℕ) × (more : List ℕ) × P x first × Each P xs more × (text ≡ first ++ more)
+
+-- the line of some answer (own)
+abbrev pub IsAnswerLine : List (List ℕ) → ℕ → DomId → List ℕ → Type 0
+IsAnswerLine names line dom text = (answer : Answer) × (text ≡ answer_line names line dom answer)
+
 -- what a line prints that asks this of its domain: a call the line of its answer, and the others nothing (own)
 unfoldable pub PrintsDeed : List (List ℕ) → DomId → ℕ → Deed → List ℕ → Type 0
-PrintsDeed names dom line (Do call) text = (answer : Answer) × (text ≡ answer_line names line dom answer)
+PrintsDeed names dom line (Do call) text = IsAnswerLine names line dom text
 PrintsDeed names dom line (Tell flag) text = text ≡ []
 PrintsDeed names dom line (Await flag) text = text ≡ []
 
 -- what the lines of a list print, one after the other (own)
 abbrev pub Prints : List (List ℕ) → DomId → List ListLine → List ℕ → Type 0
-Prints names dom [] text = text ≡ []
-Prints names dom (l ∷ ls) text = (first more : List ℕ) × PrintsDeed names dom l.line l.deed first × Prints names dom ls more × (text ≡ first ++ more)
+Prints names dom list text = Each (λ l t. PrintsDeed names dom l.line l.deed t) list text
 
 -- the line awaits a flag (own)
 unfoldable pub IsAwait : Deed → Type 0
@@ -43,30 +52,47 @@ pub record Stops (names : List (List ℕ)) (dom : DomId) (list : List ListLine) 
   pub stands : slice_get list number ≡ Some at
   pub awaits : IsAwait at.deed
   pub printed : Prints names dom (take number list) before
-  pub whole : text ≡ before ++ gate_line at.line dom
+  pub text_is : text ≡ before ++ gate_line at.line dom
 
 -- what a list prints: all its lines, or those up to where its gate answers false (own)
-abbrev pub Serves : List (List ℕ) → DomId → List ListLine → List ℕ → Type 0
-Serves names dom list text = Prints names dom list text ⊎ Stops names dom list text
+abbrev pub PrintsList : List (List ℕ) → DomId → List ListLine → List ℕ → Type 0
+PrintsList names dom list text = Prints names dom list text ⊎ Stops names dom list text
 
--- what a list printed, whole, or a beginning of it (own)
+-- what a list printed: whole, or a beginning of its lines (own)
 abbrev pub Printed : Bool → List (List ℕ) → DomId → List ListLine → List ℕ → Type 0
-Printed true names dom list text = Serves names dom list text
+Printed true names dom list text = PrintsList names dom list text
 Printed false names dom list text = (number : ℕ) × Prints names dom (take number list) text
 
--- audit lines, one after the other (own)
-abbrev pub AuditLines : List (List ℕ) → List ℕ → Type 0
-AuditLines names text = (records : List Record) × (text ≡ flat_map (line_text (type_text (λ name. name) names)) records)
+-- the audit lines of some records, one after the other (own)
+abbrev pub IsAudit : List (List ℕ) → List ℕ → Type 0
+IsAudit names text = (records : List Record) × (text ≡ flat_map (line_text (type_text (λ name. name) names)) records)
 
 -- what comes of a domain's part of a run (own)
 abbrev pub CameOf : Part → Output → Type 0
-CameOf p o = Printed o.whole p.types.now p.dom p.list.now o.text.items × IfOk o.audit (λ audit. AuditLines p.types.now audit.items)
+CameOf p o = Printed o.whole p.types.now p.dom p.list.now o.text.items × IfOk o.audit (λ audit. IsAudit p.types.now audit.items)
 
 -- what the domains print, in their order (own)
 abbrev pub PrintsParts : List Part → List ℕ → Type 0
-PrintsParts [] text = text ≡ []
-PrintsParts (p ∷ ps) text = (first more : List ℕ) × Serves p.types.now p.dom p.list.now first × PrintsParts ps more × (text ≡ first ++ more)
+PrintsParts parts text = Each (λ p t. PrintsList p.types.now p.dom p.list.now t) parts text
+
+-- the audit lines of the domains, in their order (own)
+abbrev pub AuditsParts : List Part → List ℕ → Type 0
+AuditsParts parts text = Each (λ p t. IsAudit p.types.now t) parts text
+
+-- the lines of all domains went out (own)
+abbrev pub WritesParts : List Part → Option (List ℕ) → Option (List ℕ) → Type 0
+WritesParts parts old new = (text : List ℕ) × PrintsParts parts text × Appends old new text
+
+-- the lines of all domains went out, and behind them their audit lines and how many records were lost (own)
+abbrev pub WritesAll : List Part → Option (List ℕ) → Option (List ℕ) → Type 0
+WritesAll parts old new =
+    (text : List ℕ) × (audit : List ℕ) × (lost : ℕ) × PrintsParts parts text × AuditsParts parts audit × Appends old new (text ++ audit ++ lost_text lost)
 
 -- the parts that were promised (own)
 abbrev pub promised : List (PromisedHandle Output Part) → List Part
 promised handles = map (λ h. h.promise) handles
+
+-- what the first lines of a list printed, so many: whole, or a beginning of its lines (own)
+abbrev pub Gone : Bool → List (List ℕ) → DomId → List ListLine → ℕ → List ℕ → Type 0
+Gone true names dom list count text = Prints names dom (take count list) text
+Gone false names dom list count text = (number : ℕ) × Prints names dom (take number list) text

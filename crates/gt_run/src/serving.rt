@@ -1,7 +1,6 @@
 //! One domain's list, from its first line to its last.
-ghost use Rattle.std.specs.Prelude.{◌≡◌, ◌++◌, ◌⊎◌, OnOk, OnErr, IfOk, IsTrue};
-ghost use Rattle.gt_host.specs.Printing.{answer_line};
-ghost use Rattle.gt_run.specs.Printing.{gate_line, CameOf, Printed};
+ghost use Rattle.std.specs.Prelude.{◌≡◌, ◌++◌, [], false, IfOk, IsOk, IsTrue};
+ghost use Rattle.gt_run.specs.Printing.{gate_line, CameOf, IsAnswerLine, Printed};
 
 use crate::gate::Gate;
 use crate::lists::{Deed, ListLine, Part};
@@ -10,7 +9,7 @@ use crate::telling::Teller;
 use gt_audit::SharedLog;
 use gt_core::Answer;
 use gt_host::{Labels, bytes_said, label_given, push_answer_line, request_of};
-use gt_lines::{Call, Text};
+use gt_lines::Call;
 use gt_texts::{push_number, push_text};
 use gt_types::{Allows, DomId, Memory};
 use std::alloc::{AllocError, Global};
@@ -46,44 +45,50 @@ fn make_call<'a, R: Wait, P: Allows>(
     Ok(answer)
 }
 
-// Appends the line of an answer and tells whether there was memory; where there was none nothing is appended.
-fn has_pushed_answer(
+// Makes the call of a line, tells its record, and answers the line that it prints.
+fn call_line<'a, R: Wait, P: Allows>(
+    rt: &R,
     alloc: Global,
-    text: &mut Vec<u8>,
-    types: &[Text],
+    domain: &mut Running<'_, P>,
+    labels: &mut Labels<'a>,
+    teller: &mut Option<Teller<'_>>,
+    part: Part<'_, 'a>,
     line: usize,
-    dom: DomId,
-    answer: &Answer,
-) -> bool
-    ensures line { IsTrue result → text.new.items ≡ text.old.items ++ answer_line types.now line dom answer.now }
-    ensures nothing { (result ≡ false) → text.new.items ≡ text.old.items }
+    call: &Call<'a>,
+) -> Result<Vec<u8>, AllocError>
+    ensures { IfOk result (λ text. IsAnswerLine part.entry.types.now line part.entry.dom text.items) }
 {
-    let len = text.len();
-    let pushed = push_answer_line(alloc, text, types, line, dom, answer).is_ok();
-    if !pushed {
-        text.truncate(len);
+    let answer = make_call(rt, alloc, domain, labels, part.dom, call);
+    if let Some(teller) = teller {
+        teller.tell(rt, domain.trail());
     }
-    pushed
+    let mut text = Vec::new(alloc);
+    push_answer_line(alloc, &mut text, part.types, line, part.dom, &answer?)?;
+    Ok(text)
 }
 
-fn push_gate_line(text: &mut Vec<u8>, line: usize, dom: DomId) -> Result<(), AllocError>
-    ensures { OnOk result (text.new.items ≡ text.old.items ++ gate_line line dom) }
+// The line of a gate that answered false.
+fn gate_line(alloc: Global, line: usize, dom: DomId) -> Result<Vec<u8>, AllocError>
+    ensures { IfOk result (λ text. text.items ≡ gate_line line dom) }
 {
-    push_number(text, line)?;
-    push_text(text, " ")?;
-    push_number(text, dom.0)?;
-    push_text(text, " ")?;
-    push_text(text, "gate\n")
+    let mut text = Vec::new(alloc);
+    push_number(&mut text, line)?;
+    push_text(&mut text, " ")?;
+    push_number(&mut text, dom.0)?;
+    push_text(&mut text, " ")?;
+    push_text(&mut text, "gate\n")?;
+    Ok(text)
 }
 
-// The same with the line of a gate that answered false.
-fn has_pushed_gate(text: &mut Vec<u8>, line: usize, dom: DomId) -> bool {
-    let len = text.len();
-    let pushed = push_gate_line(text, line, dom).is_ok();
-    if !pushed {
-        text.truncate(len);
+// Appends a line where it and all before it found memory, and tells whether they did.
+fn has_appended(text: &mut Vec<u8>, whole: bool, line: Result<Vec<u8>, AllocError>) -> bool
+    ensures appended { IsTrue result → IsTrue whole × IsOk line × IfOk line (λ l. text.new.items ≡ text.old.items ++ l.items) }
+    ensures kept { (result ≡ false) → text.new.items ≡ text.old.items }
+{
+    match line {
+        Ok(line) if whole => text.extend_from_slice(line.as_slice()).is_ok(),
+        _ => false,
     }
-    pushed
 }
 
 // Serves the lines of a domain, and tells whether all were written. It goes on where a line finds no memory, since other
@@ -96,27 +101,31 @@ fn serve<'a, R: Wait, P: Allows, G: Gate>(
     teller: &mut Option<Teller<'_>>,
     gate: &G,
     text: &mut Vec<u8>,
-) -> bool {
+) -> bool
+    requires { text.old.items ≡ [] }
+    ensures { Printed result part.entry.types.now part.entry.dom part.entry.list.now text.new.items }
+{
     let mut labels = Labels::new(alloc);
     let mut whole = true;
     'lines: for line in part.list {
         match &line.deed {
             Deed::Do(call) => {
-                let answer = make_call(rt, alloc, domain, &mut labels, part.dom, call);
-                if let Some(teller) = teller {
-                    teller.tell(rt, domain.trail());
-                }
-                whole = match answer {
-                    Ok(answer) if whole => {
-                        has_pushed_answer(alloc, text, part.types, line.line, part.dom, &answer)
-                    }
-                    _ => false,
-                };
+                let printed = call_line(
+                    rt,
+                    alloc,
+                    domain,
+                    &mut labels,
+                    teller,
+                    part,
+                    line.line,
+                    call,
+                );
+                whole = has_appended(text, whole, printed);
             }
             Deed::Tell(flag) => gate.tell(*flag),
             Deed::Await(flag) => {
                 if !gate.pass(*flag) {
-                    return whole && has_pushed_gate(text, line.line, part.dom);
+                    return has_appended(text, whole, gate_line(alloc, line.line, part.dom));
                 }
             }
         }
@@ -134,7 +143,9 @@ pub fn work<'a, R: Wait, P: Allows, G: Gate>(
     log: Option<&SharedLog>,
     gate: &G,
     start: &OnceLock<bool>,
-) -> Output {
+) -> Output
+    ensures { CameOf part.entry result }
+{
     let mut domain = domain;
     let mut output = Output {
         text: Vec::new(alloc),

@@ -14,6 +14,9 @@ pub struct Teller<'l> {
 }
 
 impl<'l> Teller<'l> {
+    ghost use Rattle.std.specs.Prelude.{◌≡◌, IfOk};
+    ghost use Rattle.gt_run.specs.Printing.{IsAudit};
+
     /// Nothing was told yet.
     pub fn new(alloc: Global, log: &'l SharedLog, dom: DomId) -> Self {
         Teller {
@@ -33,7 +36,9 @@ impl<'l> Teller<'l> {
     }
 
     /// The audit lines of the records told, as the log has them, in order.
-    pub fn audit(&self, alloc: Global, types: &[Text]) -> Result<Vec<u8>, Memory> {
+    pub fn audit(&self, alloc: Global, types: &[Text]) -> Result<Vec<u8>, Memory>
+        ensures { IfOk result (λ text. IsAudit types.now text.items) }
+    {
         let mut text = Vec::new(alloc);
         let records = self.told.records(alloc)?;
         'records: for told in &records {

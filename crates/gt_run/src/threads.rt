@@ -1,6 +1,10 @@
 //! A thread for each domain.
-ghost use Rattle.std.specs.Prelude.{All};
+ghost use Rattle.std.specs.Prelude.{◌≡◌, ◌++◌, All, length, IfOk, IsOk, OnOk, IsTrue};
+ghost use Rattle.std.specs.Io.KnownBytes.{Appends};
+ghost use Rattle.gt_types.specs.Config.{IsWithinLimits};
+ghost use Rattle.gt_audit.specs.Lines.{lost_text};
 ghost use Rattle.gt_live.specs.Domains.{IsOf};
+ghost use Rattle.gt_run.specs.Printing.{AuditsParts, CameOf, WritesAll, WritesParts, promised};
 
 use crate::fault::RunFault;
 use crate::gate::Gate;
@@ -35,6 +39,7 @@ pub fn all_running<'m, P: Allows>(
     domains: Vec<Domain>,
 ) -> Result<Vec<Running<'m, P>>, Memory>
     requires { All (λ d. IsOf P.may monitor.now d) domains.items }
+    ensures { IfOk result (λ all. length all.items ≡ length domains.items) }
 {
     let Ok(room) = Vec::with_capacity(alloc, domains.len()) else {
         finish_all(monitor, domains);
@@ -49,14 +54,15 @@ pub fn all_running<'m, P: Allows>(
     Ok(all)
 }
 
-/// What was started: the threads in the order of their domains, and whether there is one for each.
+// What was started: the threads in the order of their domains, and whether there is one for each.
+#[derive(Drop)]
 struct Started<'s, 'a> {
     handles: Vec<PromisedHandle<Output, Part<'s, 'a>>>,
     all: bool,
 }
 
-// Starts a thread for each domain, with its part. It waits for the start before it does anything. Of those behind a thread
-// that is refused none is started, and they are finished.
+// Starts a thread for each domain, with its part. It waits for the start before it does anything. Behind a thread that is
+// refused none is started, and the domains that are left are finished.
 fn start_each<'s, 'a, E, R: Wait + Sync, P: Allows + Sync, G: Gate + Sync>(
     scope: &'s Scope<'s, E>,
     rt: &'s R,
@@ -66,13 +72,22 @@ fn start_each<'s, 'a, E, R: Wait + Sync, P: Allows + Sync, G: Gate + Sync>(
     log: Option<&'s SharedLog>,
     gate: &'s G,
     start: &'s OnceLock<bool>,
-) -> Started<'s, 'a> {
+) -> Started<'s, 'a>
+    requires { length domains.items ≡ length parts.now }
+    ensures { IsTrue result.all → promised result.handles.items ≡ parts.entry.now }
+{
     let mut handles = Vec::new(alloc);
-    'threads: for (domain, part) in domains.into_iter().zip(parts) {
+    let mut rest = domains.into_iter();
+    'parts: for part in parts {
         let part = *part;
+        let Some(domain) = rest.next() else {
+            unreachable!()
+        };
         match scope.spawn_with(
             part,
-            move || work(rt, alloc, domain, part, log, gate, start),
+            move || -> Output
+                ensures { CameOf part.entry result }
+            { work(rt, alloc, domain, part, log, gate, start) },
         ) {
             Ok(handle) => {
                 if handles.push(handle).is_err() {
@@ -97,12 +112,19 @@ fn start_each<'s, 'a, E, R: Wait + Sync, P: Allows + Sync, G: Gate + Sync>(
 #[derive(Drop)]
 struct Joined {
     outcome: Result<(), RunFault>,
-    audits: Vec<Vec<u8>>,
+    audit: Vec<u8>,
     lost: u64,
 }
 
-// Writes what came of a domain's list, whole or a beginning of it.
-fn write_output<W: Write>(writer: &mut W, output: &Output) -> Result<(), RunFault> {
+// Writes what came of a domain's list, where all went well before: whole, or a beginning of it.
+fn write_next<W: Write>(
+    outcome: Result<(), RunFault>,
+    writer: &mut W,
+    output: &Output,
+) -> Result<(), RunFault>
+    ensures { OnOk result (IsOk outcome × IsTrue output.now.whole × Appends (W.contents writer.old) (W.contents writer.new) output.now.text.items) }
+{
+    outcome?;
     write_text(writer, output.text.as_slice())?;
     if output.whole {
         Ok(())
@@ -111,54 +133,70 @@ fn write_output<W: Write>(writer: &mut W, output: &Output) -> Result<(), RunFaul
     }
 }
 
-fn keep_audit(audits: &mut Vec<Vec<u8>>, audit: Result<Vec<u8>, Memory>) -> Result<(), RunFault> {
-    audits.push(audit?)?;
+// Keeps the audit lines of a domain, where all went well before.
+fn keep_audit(
+    outcome: Result<(), RunFault>,
+    all: &mut Vec<u8>,
+    audit: Result<Vec<u8>, Memory>,
+) -> Result<(), RunFault>
+    ensures { OnOk result (IsOk outcome × IfOk audit (λ more. all.new.items ≡ all.old.items ++ more.items) × IsOk audit) }
+{
+    outcome?;
+    let more = audit?;
+    all.extend_from_slice(more.as_slice())?;
     Ok(())
 }
 
 // Joins all threads in their order. The lines of each domain are written as it is joined, unless something failed before.
-fn join_each<R: Threads, W: Write>(
+fn join_each<'s, 'a, R: Threads, W: Write>(
     rt: &R,
     alloc: Global,
-    handles: Vec<PromisedHandle<Output, Part<'_, '_>>>,
+    handles: Vec<PromisedHandle<Output, Part<'s, 'a>>>,
     writer: &mut W,
-) -> Joined {
-    let mut joined = Joined {
-        outcome: Ok(()),
-        audits: Vec::new(alloc),
-        lost: 0,
-    };
+) -> Joined
+    ensures { OnOk result.outcome (WritesParts (promised handles.entry.items) (W.contents writer.old) (W.contents writer.new)
+        × AuditsParts (promised handles.entry.items) result.audit.items) }
+{
+    let mut outcome = Ok(());
+    let mut audit = Vec::new(alloc);
+    let mut lost: u64 = 0;
     'joins: for handle in handles {
         let output = handle.join(rt);
-        if joined.outcome.is_ok() {
-            joined.outcome = write_output(writer, &output);
-        }
-        let kept = keep_audit(&mut joined.audits, output.audit);
-        if joined.outcome.is_ok() {
-            joined.outcome = kept;
-        }
-        joined.lost = joined.lost.saturating_add(output.lost);
+        outcome = write_next(outcome, writer, &output);
+        lost = lost.saturating_add(output.lost);
+        outcome = keep_audit(outcome, &mut audit, output.audit);
     }
-    joined
+    Joined {
+        outcome,
+        audit,
+        lost,
+    }
+}
+
+// Joins threads that ran no list.
+fn join_idle<'s, 'a, R: Threads>(rt: &R, handles: Vec<PromisedHandle<Output, Part<'s, 'a>>>) {
+    'joins: for handle in handles {
+        let _ = handle.join(rt);
+    }
 }
 
 // Writes the audit lines of all domains, and how many records were lost.
 fn write_audit<W: Write>(
     alloc: Global,
     writer: &mut W,
-    audits: &[Vec<u8>],
+    audit: &[u8],
     lost: u64,
-) -> Result<(), RunFault> {
-    'audits: for audit in audits {
-        write_text(writer, audit.as_slice())?;
-    }
-    let mut last = Vec::new(alloc);
+) -> Result<(), RunFault>
+    ensures { OnOk result (Appends (W.contents writer.old) (W.contents writer.new) (audit.now ++ lost_text lost)) }
+{
+    let mut last = Vec::from_slice(alloc, audit)?;
     push_lost(&mut last, lost)?;
     finish(writer, last.as_slice())?;
     Ok(())
 }
 
 // A writer on its way back out of a scope, and how it went there.
+#[derive(Drop)]
 struct Written<'w, W> {
     writer: &'w mut W,
     outcome: Result<(), RunFault>,
@@ -169,24 +207,27 @@ fn take_back<W>(writer: &mut W)
     ensures { writer.new ≡ writer.old }
 {}
 
-// Writes what the threads print, those that were started.
-fn write_each<R: Threads, W: Write>(
+// Writes what the threads print, where there is one for each domain.
+fn write_each<'s, 'a, R: Threads, W: Write>(
     rt: &R,
     alloc: Global,
-    started: Started<'_, '_>,
+    handles: Vec<PromisedHandle<Output, Part<'s, 'a>>>,
+    all: bool,
     writer: &mut W,
-) -> Result<(), RunFault> {
-    let Started { handles, all } = started;
-    let Joined {
-        outcome,
-        audits,
-        lost,
-    } = join_each(rt, alloc, handles, writer);
+) -> Result<(), RunFault>
+    ensures all { OnOk result (IsTrue all × WritesAll (promised handles.entry.items) (W.contents writer.old) (W.contents writer.new)) }
+{
     if !all {
+        join_idle(rt, handles);
         return Err(RunFault::Thread);
     }
+    let Joined {
+        outcome,
+        audit,
+        lost,
+    } = join_each(rt, alloc, handles, writer);
     outcome?;
-    write_audit(alloc, writer, audits.as_slice(), lost)
+    write_audit(alloc, writer, audit.as_slice(), lost)
 }
 
 /// Gives each domain a thread of its own, with its part, and writes what they print: the lines of each domain as it is
@@ -200,16 +241,24 @@ pub fn run_each<'a, R: Threads + Wait + Sync, P: Allows + Sync, G: Gate + Sync, 
     log: Option<&SharedLog>,
     gate: &G,
     writer: &mut W,
-) -> Result<(), RunFault> {
+) -> Result<(), RunFault>
+    requires { length domains.items ≡ length parts.now }
+    ensures { OnOk result (WritesAll parts.now (W.contents writer.old) (W.contents writer.new)) }
+{
     let start = OnceLock::new();
     let start = &start;
     let Written { writer, outcome } = thread::scope(
         thread::scope_env(),
         rt,
-        move |scope| -> Written<'_, W> {
-            let started = start_each(scope, rt, alloc, domains, parts, log, gate, start);
-            let _ = start.try_set(started.all);
-            let outcome = write_each(rt, alloc, started, writer);
+        move |scope| -> Written<'_, W>
+            requires { length domains.items ≡ length parts.now }
+            ensures same { result.writer.ghost_name ≡ writer.entry.ghost_name }
+            ensures text { OnOk result.outcome (WritesAll parts.entry.now (W.contents writer.entry.now) (W.contents result.writer.now)) }
+        {
+            let Started { handles, all } =
+                start_each(scope, rt, alloc, domains, parts, log, gate, start);
+            let _ = start.try_set(all);
+            let outcome = write_each(rt, alloc, handles, all, writer);
             Written { writer, outcome }
         },
     );
@@ -227,7 +276,11 @@ pub fn run_lists<'a, R: Threads + Wait + Sync, P: Allows + Drop + Sync, G: Gate 
     log: Option<&SharedLog>,
     gate: &G,
     writer: &mut W,
-) -> Result<(), RunFault> {
+) -> Result<(), RunFault>
+    requires limits { IsWithinLimits config }
+    requires each { length config.domains.items ≡ length parts.now }
+    ensures { OnOk result (WritesAll parts.now (W.contents writer.old) (W.contents writer.new)) }
+{
     match Monitor::new(alloc, config, rights) {
         Ok((monitor, domains)) => {
             let domains = all_running(alloc, &monitor, domains)?;
