@@ -25,7 +25,7 @@ pub joins_more : {A V E : Type 0} (part : A → Part) (items : V → List ℕ) (
     → OnOk r0 (WritesParts (map part hs) old now × AuditsParts (map part hs) a0)
     → OnOk r1 (IsOk r0 × IsTrue whole × Appends now new text)
     → OnOk r2 (IsOk r1 × IfOk audit (λ more. a1 ≡ a0 ++ items more) × IsOk audit)
-    → Printed whole (part h).types.now (part h).dom (part h).list.now text
+    → Printed whole (part h).types.now (part h).dom (part h).tasks.now text
     → IfOk audit (λ more. IsAudit (part h).types.now (items more))
     → OnOk r2 (WritesParts (map part (hs ++ h ∷ [])) old new × AuditsParts (map part (hs ++ h ∷ [])) a1)
 joins_more part items hs h whole text a0 a1 audit r0 r1 (Err e) old now new i w k p u = tt
@@ -42,6 +42,6 @@ joins_more part items hs h true text a0 a1 (Ok more) (Ok b) (Ok c) (Ok d) old no
 pub writes_all : (ps : List Part) (all : Bool) (r0 r : Result (Unit {0}) RunFault) (d : Unit {0}) (audit : List ℕ) (lost : ℕ) (old now new : Option (List ℕ))
     → r0 ≡ Ok d → all ≡ true → OnOk r0 (WritesParts ps old now × AuditsParts ps audit) → OnOk r (Appends now new (audit ++ lost_text lost)) → OnOk r (IsTrue all × WritesAll ps old new)
 writes_all ps all (Ok b) (Ok done) d audit lost old now new was given w out =
-    (given, w.0.0, audit, lost, w.0.1, w.1, appends_both old now new w.0.0 (audit ++ lost_text lost) w.0.2 out)
+    (given, (w.0.0, audit, lost, w.0.1, w.1, appends_both old now new w.0.0 (audit ++ lost_text lost) w.0.2 out))
 writes_all ps all (Err e) (Ok done) d audit lost old now new was given w out = cc
 writes_all ps all r0 (Err fault) d audit lost old now new was given w out = tt

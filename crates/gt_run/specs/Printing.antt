@@ -1,5 +1,5 @@
 -- What the lists of a run print.
-use Rattle.std.specs.Prelude.{◌≡◌, ◌⊎◌, ◌++◌, ℕ, Bool, true, false, List, [], ◌∷◌, take, map, codes, Option, Some, IfOk, slice_get}
+use Rattle.std.specs.Prelude.{◌≡◌, ◌⊎◌, ◌++◌, ◌==◌, ℕ, Bool, true, false, List, [], ◌∷◌, take, map, codes, Option, Some, IfOk, slice_get}
 use Rattle.std.specs.List.{flat_map}
 use Rattle.std.specs.Io.KnownBytes.{Appends}
 use Rattle.std.specs.declared.thread.PromisedHandle.{PromisedHandle}
@@ -11,7 +11,7 @@ use Rattle.gt_core.specs.declared.trace.Answer.{Answer}
 use Rattle.gt_host.specs.Printing.{answer_line, call_text}
 use Rattle.gt_run.specs.declared.lists.Deed.{Deed}
 use Rattle.gt_run.specs.declared.lists.Deed.TheVariants.{Do, Tell, Await}
-use Rattle.gt_run.specs.declared.lists.ListLine.{ListLine}
+use Rattle.gt_run.specs.declared.lists.Task.{Task}
 use Rattle.gt_run.specs.declared.lists.Part.{Part}
 use Rattle.gt_run.specs.declared.serving.Output.{Output}
 
@@ -34,9 +34,14 @@ PrintsDeed names dom line (Do call) text = IsAnswerLine names line dom text
 PrintsDeed names dom line (Tell flag) text = text ≡ []
 PrintsDeed names dom line (Await flag) text = text ≡ []
 
--- what the lines of a list print, one after the other (own)
-abbrev pub Prints : List (List ℕ) → DomId → List ListLine → List ℕ → Type 0
-Prints names dom list text = Each (λ l t. PrintsDeed names dom l.line l.deed t) list text
+-- what a line prints as a domain's, which it is or is not: nothing where it is another's (own)
+abbrev pub PrintsWhere : Bool → List (List ℕ) → DomId → Task → List ℕ → Type 0
+PrintsWhere true names dom task text = PrintsDeed names dom task.line task.deed text
+PrintsWhere false names dom task text = text ≡ []
+
+-- what the lines of a domain print, one after the other, among those of all domains (own)
+abbrev pub Prints : List (List ℕ) → DomId → List Task → List ℕ → Type 0
+Prints names dom tasks text = Each (λ task t. PrintsWhere (task.dom.0 == dom.0) names dom task t) tasks text
 
 -- the line awaits a flag (own)
 unfoldable pub IsAwait : Deed → Type 0
@@ -45,9 +50,10 @@ IsAwait (Tell flag) = ⊥
 IsAwait (Await flag) = Unit {0}
 
 -- what a list prints whose gate answers false at a line: the lines before it, and that (own)
-pub record Stops (names : List (List ℕ)) (dom : DomId) (list : List ListLine) (text : List ℕ) : Type 0 where
+pub record Stops (names : List (List ℕ)) (dom : DomId) (tasks : List Task) (text : List ℕ) : Type 0 where
   pub number : ℕ
-  pub at : ListLine
+  pub at : Task
+  pub own : at.dom.0 ≡ dom.0
   pub before : List ℕ
   pub stands : slice_get list number ≡ Some at
   pub awaits : IsAwait at.deed
@@ -55,11 +61,11 @@ pub record Stops (names : List (List ℕ)) (dom : DomId) (list : List ListLine) 
   pub text_is : text ≡ before ++ gate_line at.line dom
 
 -- what a list prints: all its lines, or those up to where its gate answers false (own)
-abbrev pub PrintsList : List (List ℕ) → DomId → List ListLine → List ℕ → Type 0
+abbrev pub PrintsList : List (List ℕ) → DomId → List Task → List ℕ → Type 0
 PrintsList names dom list text = Prints names dom list text ⊎ Stops names dom list text
 
 -- what a list printed: whole, or a beginning of its lines (own)
-abbrev pub Printed : Bool → List (List ℕ) → DomId → List ListLine → List ℕ → Type 0
+abbrev pub Printed : Bool → List (List ℕ) → DomId → List Task → List ℕ → Type 0
 Printed true names dom list text = PrintsList names dom list text
 Printed false names dom list text = (number : ℕ) × Prints names dom (take number list) text
 
@@ -69,11 +75,11 @@ IsAudit names text = (records : List Record) × (text ≡ flat_map (line_text (t
 
 -- what comes of a domain's part of a run (own)
 abbrev pub CameOf : Part → Output → Type 0
-CameOf p o = Printed o.whole p.types.now p.dom p.list.now o.text.items × IfOk o.audit (λ audit. IsAudit p.types.now audit.items)
+CameOf p o = Printed o.whole p.types.now p.dom p.tasks.now o.text.items × IfOk o.audit (λ audit. IsAudit p.types.now audit.items)
 
 -- what the domains print, in their order (own)
 abbrev pub PrintsParts : List Part → List ℕ → Type 0
-PrintsParts parts text = Each (λ p t. PrintsList p.types.now p.dom p.list.now t) parts text
+PrintsParts parts text = Each (λ p t. PrintsList p.types.now p.dom p.tasks.now t) parts text
 
 -- the audit lines of the domains, in their order (own)
 abbrev pub AuditsParts : List Part → List ℕ → Type 0
@@ -93,6 +99,6 @@ abbrev pub promised : List (PromisedHandle Output Part) → List Part
 promised handles = map (λ h. h.promise) handles
 
 -- what the first lines of a list printed, so many: whole, or a beginning of its lines (own)
-abbrev pub Gone : Bool → List (List ℕ) → DomId → List ListLine → ℕ → List ℕ → Type 0
+abbrev pub Gone : Bool → List (List ℕ) → DomId → List Task → ℕ → List ℕ → Type 0
 Gone true names dom list count text = Prints names dom (take count list) text
 Gone false names dom list count text = (number : ℕ) × Prints names dom (take number list) text

@@ -15,5 +15,5 @@ mod threads;
 
 pub use fault::RunFault;
 pub use gate::{FLAGS, Flags, Gate};
-pub use lists::{Deed, ListLine, Part};
+pub use lists::{Deed, Part, Task};
 pub use threads::run_lists;

@@ -4,7 +4,7 @@ use gt_lines::{Call, Text};
 use gt_types::DomId;
 use std::thread::Promise;
 
-/// What a line of a list asks of its domain. Flags are numbered from 0.
+/// What a line of the body has its domain do. Flags are numbered from 0.
 #[derive(Debug, Drop)]
 pub enum Deed<'a> {
     /// `do ID CALL`: the call from its beginning to its answer.
@@ -15,18 +15,19 @@ pub enum Deed<'a> {
     Await(usize),
 }
 
-/// A line of a domain's list, with its number in the script.
+/// A line of the body, with its number and its domain. The list of a domain is its lines, in their order.
 #[derive(Debug, Drop)]
-pub struct ListLine<'a> {
+pub struct Task<'a> {
     pub line: usize,
+    pub dom: DomId,
     pub deed: Deed<'a>,
 }
 
-/// A domain's part of a run: its list, and the names of types that its lines print.
+/// A domain's part of a run: its lines among those of all domains, and the names of types that its answers print.
 #[derive(Clone, Copy)]
 pub struct Part<'s, 'a> {
     pub dom: DomId,
-    pub list: &'s [ListLine<'a>],
+    pub tasks: &'s [Task<'a>],
     pub types: &'s [Text<'s>],
 }
 

@@ -3,7 +3,7 @@ ghost use Rattle.std.specs.Prelude.{◌≡◌, ◌++◌, [], false, IfOk, IsOk, 
 ghost use Rattle.gt_run.specs.Printing.{gate_line, CameOf, IsAnswerLine, Printed};
 
 use crate::gate::Gate;
-use crate::lists::{Deed, ListLine, Part};
+use crate::lists::{Deed, Part};
 use crate::running::Running;
 use crate::telling::Teller;
 use gt_audit::SharedLog;
@@ -103,29 +103,23 @@ fn serve<'a, R: Wait, P: Allows, G: Gate>(
     text: &mut Vec<u8>,
 ) -> bool
     requires { text.old.items ≡ [] }
-    ensures { Printed result part.entry.types.now part.entry.dom part.entry.list.now text.new.items }
+    ensures { Printed result part.entry.types.now part.entry.dom part.entry.tasks.now text.new.items }
 {
     let mut labels = Labels::new(alloc);
     let mut whole = true;
-    'lines: for line in part.list {
-        match &line.deed {
-            Deed::Do(call) => {
-                let printed = call_line(
-                    rt,
-                    alloc,
-                    domain,
-                    &mut labels,
-                    teller,
-                    part,
-                    line.line,
-                    call,
-                );
-                whole = has_appended(text, whole, printed);
-            }
-            Deed::Tell(flag) => gate.tell(*flag),
-            Deed::Await(flag) => {
-                if !gate.pass(*flag) {
-                    return has_appended(text, whole, gate_line(alloc, line.line, part.dom));
+    'tasks: for task in part.tasks {
+        if task.dom.0 == part.dom.0 {
+            match &task.deed {
+                Deed::Do(call) => {
+                    let printed =
+                        call_line(rt, alloc, domain, &mut labels, teller, part, task.line, call);
+                    whole = has_appended(text, whole, printed);
+                }
+                Deed::Tell(flag) => gate.tell(*flag),
+                Deed::Await(flag) => {
+                    if !gate.pass(*flag) {
+                        return has_appended(text, whole, gate_line(alloc, task.line, part.dom));
+                    }
                 }
             }
         }
