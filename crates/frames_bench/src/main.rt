@@ -24,7 +24,7 @@ const OWNER: DomId = DomId(1);
 
 const BY_OWNER: Writ = Writ {
     writer: OWNER,
-    ground: Ground::Owned,
+    basis: Ground::Owned,
 };
 
 /// Writes these bytes to the frame's beginning, and answers how often.

@@ -42,7 +42,7 @@ bytes_at f off len = slice_range (contents f) off (off + len)
 abbrev pub permits_writing : Entry → DomId → ℕ → ℕ → ℕ → Bool
 permits_writing entry d number off len = is_of_frame entry number && permits entry d Write ForCopy off len
 
--- the writer may write this range of this frame of the owner's by this ground (own)
+-- the writer may write this range of this frame of the owner's by this basis (own)
 abbrev pub suffices : Ground → DomId → DomId → ℕ → ℕ → ℕ → Bool
 suffices Owned writer owner number off len = writer.0 == owner.0
 suffices (Granted entry) writer owner number off len = permits_writing entry writer number off len
@@ -51,7 +51,7 @@ suffices (Forwarded via middle entry) writer owner number off len =
 
 -- the writ is for this range of this frame (own)
 abbrev pub covers : Writ → DomId → ℕ → ℕ → ℕ → Bool
-covers w owner number off len = suffices w.ground w.writer owner number off len
+covers w owner number off len = suffices w.basis w.writer owner number off len
 
 -- the record lies in the frame, and its writ is for its range (own)
 abbrev pub is_rightful : DomId → ℕ → Record → Bool

@@ -4,7 +4,7 @@
 //! type promises that the bytes are the replay of the journal over zeros, and that each record lies
 //! in the frame and is by right: the writer owns the frame, or an entry of the owner's permits it
 //! that range for writing, or it goes through an entry that forwards it and one that permits the
-//! owner of the first. A [`Writ`] names the writer and that ground.
+//! owner of the first. A [`Writ`] names the writer and that basis.
 //!
 //! [`Frame::read`], [`Frame::write`], [`Frame::copy_between`] and [`Frame::copy_within`] do exactly
 //! what their receipts [`Read`], [`Written`] and [`Copied`] tell, overlap included. Nothing else

@@ -27,7 +27,7 @@ pub enum Ground {
 #[derive(Clone, Copy, Debug, PartialEq, Eq)]
 pub struct Writ {
     pub writer: DomId,
-    pub ground: Ground,
+    pub basis: Ground,
 }
 
 /// One write to a frame: these bytes from the offset `off` on, by this writ.
@@ -70,7 +70,7 @@ impl Writ {
     pub fn covers(&self, owner: DomId, number: u64, range: Range) -> bool
         ensures { result ≡ covers self.now owner number range.off range.len }
     {
-        match self.ground {
+        match self.basis {
             Ground::Owned => self.writer.0 == owner.0,
             Ground::Granted(entry) => permits_writing(entry, self.writer, number, range),
             Ground::Forwarded { via, middle, entry } => {

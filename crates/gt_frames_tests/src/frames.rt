@@ -48,7 +48,7 @@ fn spot(owner: u16, number: u64, off: u16) -> Spot {
 fn wrote(frames: &mut Frames, to: Spot) -> bool {
     let writ = Writ {
         writer: to.frame.owner,
-        ground: Ground::Owned,
+        basis: Ground::Owned,
     };
     let range = Range {
         off: to.off,
@@ -62,7 +62,7 @@ fn wrote(frames: &mut Frames, to: Spot) -> bool {
 fn copied(frames: &mut Frames, from: Spot, to: Spot, len: u16) -> bool {
     let writ = Writ {
         writer: to.frame.owner,
-        ground: Ground::Owned,
+        basis: Ground::Owned,
     };
     frames.has_range(from.frame, Range { off: from.off, len })
         && frames.admits(to.frame, &writ, Range { off: to.off, len })

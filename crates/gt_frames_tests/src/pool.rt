@@ -23,7 +23,7 @@ fn shown<R: Wait>(rt: &R, alloc: Global, pool: &Pool, frame: FrameName) -> Resul
 fn wrote<R: Wait>(rt: &R, pool: &Pool, to: FrameName, off: u16) -> bool {
     let writ = Writ {
         writer: to.owner,
-        ground: Ground::Owned,
+        basis: Ground::Owned,
     };
     match pool.lock(rt, to) {
         Some(mut frame) => {
@@ -46,7 +46,7 @@ fn copied<R: Wait>(
 ) -> bool {
     let writ = Writ {
         writer: to.owner,
-        ground: Ground::Owned,
+        basis: Ground::Owned,
     };
     match pool.lock_both(rt, from, to) {
         Some(mut ends) => from_off <= 4092

@@ -176,7 +176,7 @@ module _ (c : CallerKnowledge) (k : Layout) (caller : DomId) (v : View) (knows :
   still-held : (w : View) (p : Held) → IsSame v w → HasPin k v p → Holds (position_in k.ids p.dom) p.gref.0 p.dir (generation_of p.word) w
   still-held w p same pin =
       let t = position_in k.ids p.dom in let r = p.gref.0 in
-      in-counted p.dir (record_of p) (pins (steps_on t r w)) (subst (λ (ps : List LivePin). IsIn (p.dir, record_of p) ps) (sym (same.pins t r)) pin.there)
+      in-counted p.dir (record_of p) (pins (steps_on t r w)) (subst (λ (ps : List LivePin). IsIn (p.dir, record_of p) ps) (sym (same.pins t r)) pin.held)
 
   grant-opens : (request : Asked) (q : GrantRef) (e : Entry) → begun c caller request ≡ None → request ≡ asks.Grant q e → OpensGrant c q e
   grant-opens request q e none is = opens c caller (asks.Grant q e) (subst (λ (x : Asked). begun c caller x ≡ None) is none)
@@ -342,7 +342,7 @@ module _ (c : CallerKnowledge) (k : Layout) (caller : DomId) (v : View) (knows :
         pins = m;
         entry_is = t.spelled;
         mapping = record {
-          pin = record { run = t.run; inside = t.inside; there = subst (λ (x : EntryRecord). IsIn (p.dir, x) (pins (steps_on at p.gref.0 w'))) t.spelled m.pin };
+          pin = record { run = t.run; inside = t.inside; held = subst (λ (x : EntryRecord). IsIn (p.dir, x) (pins (steps_on at p.gref.0 w'))) t.spelled m.pin };
           permitted = t.permitted;
           in_frames = t.in_frames;
           allowed = may.0;

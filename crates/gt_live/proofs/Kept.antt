@@ -77,7 +77,7 @@ moved : (k : Layout) (ds : List DomainConfig) (may : Rights) (dom dom' : DomId) 
     → (IsIn (m.dir, record_of m) (pins (steps_on (position_in k.ids m.dom) m.gref.0 v)) → IsIn (m.dir, record_of m) (pins (steps_on (position_in k.ids m.dom) m.gref.0 w)))
     → IsMappingOf k ds may dom v m → IsMappingOf k ds may dom' w m
 moved k ds may dom dom' v w m same on is =
-    let here : IsMappingOf k ds may dom w m = record { pin = record { run = is.pin.run; inside = is.pin.inside; there = on is.pin.there }; permitted = is.permitted; in_frames = is.in_frames; allowed = is.allowed } in
+    let here : IsMappingOf k ds may dom w m = record { pin = record { run = is.pin.run; inside = is.pin.inside; held = on is.pin.held }; permitted = is.permitted; in_frames = is.in_frames; allowed = is.allowed } in
     subst (λ (d : DomId). IsMappingOf k ds may d w m) (sym same) here
 
 same-slots : (old new : Kept Held) (h : Handle) → new.slots ≡ old.slots → value_of new h ≡ value_of old h

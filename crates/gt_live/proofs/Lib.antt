@@ -4,7 +4,8 @@ pub mod Walking
 pub mod Rules
 pub mod Counting
 pub mod Can
-pub mod Advancing
+pub mod Accessing
+mod Advancing
 pub mod RowsKept
 pub mod Kept
 pub mod Knowing

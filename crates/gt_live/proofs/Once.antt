@@ -1,5 +1,5 @@
 -- How calls are answered at their beginning.
-use Rattle.std.proofs.Common.{◌≡◌, ℕ, Bool, true, false, cond, subst, List, [], ◌∷◌, Option, Some, None, nat_le, nat_lt, not, ◌==◌}
+use Rattle.std.proofs.Common.{◌≡◌, ℕ, Bool, true, false, cond, refl, subst, ◌+◌, length, List, [], ◌∷◌, Option, Some, None, nat_le, nat_lt, not, ◌==◌}
 use Rattle.std.specs.Prelude.{is_none, ◌||◌}
 use Rattle.gt_types.specs.declared.DomId.{DomId}
 use Rattle.gt_types.specs.declared.GrantRef.{GrantRef}
@@ -7,9 +7,9 @@ use Rattle.gt_types.specs.declared.TypeId.{TypeId}
 use Rattle.gt_types.specs.declared.rights.Triple.{Triple}
 use Rattle.gt_types.specs.declared.perms.Perms.{Perms}
 use Rattle.gt_types.specs.declared.denial.Rule.{Rule}
-use Rattle.gt_types.specs.declared.denial.Rule.TheVariants.{N1, N2, N5, N6, N8, N9, N10, N20, N21, N22, N23, N24}
+use Rattle.gt_types.specs.declared.denial.Rule.TheVariants.{N1, N2, N3, N4, N5, N6, N7, N8, N9, N10, N16, N20, N21, N22, N23, N24}
 use Rattle.gt_types.specs.declared.denial.Facts.TheVariants.{Policy}
-use Rattle.gt_types.specs.declared.limits.TheConstants.{LAST_GENERATION, MAX_MAPPINGS, MAX_TABLE_FRAMES}
+use Rattle.gt_types.specs.declared.limits.TheConstants.{FRAME_SIZE, LAST_GENERATION, MAX_MAPPINGS, MAX_TABLE_FRAMES}
 use Rattle.gt_types.specs.Denial.{denial_of}
 use Rattle.gt_types.specs.Names.{domain_of, resolved}
 use Rattle.gt_entry.specs.declared.change.Change.{Change}
@@ -26,8 +26,11 @@ use Rattle.gt_calls.specs.declared.request.Request.TheVariants as requests
 use Rattle.gt_calls.specs.Asking.{asked, begun_of, field_refused}
 use Rattle.gt_entry.specs.Bytes.{first_refused}
 use Rattle.gt_types.specs.declared.denial.Field.{Field}
-use Rattle.gt_calls.specs.Rules.{CallerKnowledge, cannot_stand, change_begun, query_begun, denied, first, given_when, granted_when, has_valid, is_already, is_invalid, is_version, map_dir, refused_when, rights_to_map, rights_to_query, rights_to_setup, rights_to_unmap, unmap_denied}
-use Rattle.gt_live.specs.Ending.{IsAtOnce, WaitsForNobody}
+use Rattle.gt_calls.specs.declared.request.CopyArgs.{CopyArgs}
+use Rattle.gt_types.specs.declared.denial.Denial.{Denial}
+use Rattle.gt_calls.specs.declared.action.Verdict.TheVariants.{Given, Mapped}
+use Rattle.gt_calls.specs.Rules.{copy_begun, ends_framed, ends_named, ends_owned, ends_ranged, frames_of, is_dest_granted, is_for_reading, is_foreign, is_past_frames, is_source_granted, own_access_begun, rights_to_copy, CallerKnowledge, cannot_stand, change_begun, query_begun, denied, first, given_when, granted_when, has_valid, is_already, is_invalid, is_version, map_dir, refused_when, rights_to_map, rights_to_query, rights_to_setup, rights_to_unmap, unmap_denied}
+use Rattle.gt_live.specs.Ending.{IsAccessing, IsAtOnce, IsWordless, WaitsForNobody}
 
 module _ (r : Asked) where
   -- not answered, or answered as this request may be at once
@@ -121,3 +124,58 @@ module _ (k : CallerKnowledge) (caller : DomId) where
   -- an answer at the beginning is one that may be at once
   pub answered-once : (request : Request) (verdict : Verdict) → WaitsForNobody (asked request) → begun_of k caller request ≡ Some verdict → IsAtOnce (asked request) verdict
   answered-once request verdict w e = subst (λ (o : Option Verdict). MayBe (asked request) o) e (once request w)
+
+  -- of the requests with an access none is Ok at its beginning
+  only-refused : (r : Asked) (verdict : Verdict) → IsAccessing r → IsAtOnce r verdict → (denial : Denial) × (verdict ≡ Refused denial) × IsWordless denial.facts
+  only-refused r (Refused denial) is at = (denial, refl, at)
+  only-refused (asks.Load handle off len) Granted is at = absurd at
+  only-refused (asks.Store handle off len) Granted is at = absurd at
+  only-refused (asks.Peek frame off len) Granted is at = absurd at
+  only-refused (asks.Poke frame off len) Granted is at = absurd at
+  only-refused (asks.Copy c) Granted is at = absurd at
+  only-refused (asks.Load handle off len) (Given value) is at = absurd at
+  only-refused (asks.Store handle off len) (Given value) is at = absurd at
+  only-refused (asks.Peek frame off len) (Given value) is at = absurd at
+  only-refused (asks.Poke frame off len) (Given value) is at = absurd at
+  only-refused (asks.Copy c) (Given value) is at = absurd at
+  only-refused (asks.Load handle off len) (Mapped p) is at = absurd at
+  only-refused (asks.Store handle off len) (Mapped p) is at = absurd at
+  only-refused (asks.Peek frame off len) (Mapped p) is at = absurd at
+  only-refused (asks.Poke frame off len) (Mapped p) is at = absurd at
+  only-refused (asks.Copy c) (Mapped p) is at = absurd at
+  only-refused _ _ is at = absurd is
+
+  once-own : (r : Asked) (frame off len : ℕ) → MayBe r (own_access_begun k.domains caller frame off len)
+  once-own r frame off len =
+      let a = nat_lt FRAME_SIZE (off + len) in let b = nat_le (frames_of k.domains caller) frame in
+      first-of r (refused_when a N3 ∷ refused_when b N16 ∷ []) (refused-may r a N3, (refused-may r b N16, tt))
+
+  once-copy : (c : CopyArgs) → MayBe (asks.Copy c) (copy_begun k caller c)
+  once-copy c =
+      let r = asks.Copy c in
+      let a = is_none (domain_of k.domains (resolved caller c.source.domid)) in let b = is_none (domain_of k.domains (resolved caller c.dest.domid)) in let d = nat_lt 3 c.flags in
+      let e = nat_lt FRAME_SIZE (c.source.offset + c.len) in let f = nat_lt FRAME_SIZE (c.dest.offset + c.len) in
+      let g = is_foreign caller (is_source_granted c) c.source in let h = is_foreign caller (is_dest_granted c) c.dest in
+      let i = is_past_frames k caller (is_source_granted c) c.source in let j = is_past_frames k caller (is_dest_granted c) c.dest in
+      let ts = rights_to_copy k (resolved caller c.source.domid) (resolved caller c.dest.domid) in
+      let named = first-of r (refused_when a N1 ∷ refused_when b N1 ∷ refused_when d N2 ∷ []) (refused-may r a N1, (refused-may r b N1, (refused-may r d N2, tt))) in
+      let ranged = first-of r (refused_when e N3 ∷ refused_when f N3 ∷ []) (refused-may r e N3, (refused-may r f N3, tt)) in
+      let owned = first-of r (refused_when g N4 ∷ refused_when h N4 ∷ []) (refused-may r g N4, (refused-may r h N4, tt)) in
+      let framed = first-of r (refused_when i N16 ∷ refused_when j N16 ∷ []) (refused-may r i N16, (refused-may r j N16, tt)) in
+      first-of r (ends_named k caller c ∷ ends_ranged c ∷ ends_owned caller c ∷ denied k.may ts ∷ ends_framed k caller c ∷ []) (named, (ranged, (owned, (denied-may r k.may ts, (framed, tt)))))
+
+  once-access : (request : Request) → IsAccessing (asked request) → MayBe (asked request) (begun_of k caller request)
+  once-access (requests.Load handle off bytes) w =
+      let r = asks.Load handle off bytes in let a = nat_lt FRAME_SIZE (off + bytes) in let b = is_none (k.mapping handle) in
+      first-of r (refused_when a N3 ∷ refused_when b N6 ∷ []) (refused-may r a N3, (refused-may r b N6, tt))
+  once-access (requests.Store handle off bytes) w =
+      let r = asked (requests.Store handle off bytes) in let a = nat_lt FRAME_SIZE (off + length bytes.now) in let b = is_none (k.mapping handle) in let d = is_for_reading (k.mapping handle) in
+      first-of r (refused_when a N3 ∷ refused_when b N6 ∷ refused_when d N7 ∷ []) (refused-may r a N3, (refused-may r b N6, (refused-may r d N7, tt)))
+  once-access (requests.Peek frame off len) w = once-own (asks.Peek frame off len) frame off len
+  once-access (requests.Poke frame off bytes) w = once-own (asked (requests.Poke frame off bytes)) frame off (length bytes.now)
+  once-access (requests.Copy c) w = once-copy c
+  once-access _ w = absurd w
+
+  -- a call with an access that is answered at its beginning is refused there
+  pub refused-once : (request : Request) (verdict : Verdict) → IsAccessing (asked request) → begun_of k caller request ≡ Some verdict → (denial : Denial) × (verdict ≡ Refused denial) × IsWordless denial.facts
+  refused-once request verdict w e = only-refused (asked request) verdict w (subst (λ (o : Option Verdict). MayBe (asked request) o) e (once-access request w))

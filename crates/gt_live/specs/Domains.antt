@@ -11,7 +11,7 @@ use Rattle.gt_audit.specs.declared.record.Reply.TheVariants as replies
 use Rattle.gt_types.specs.declared.perms.Perms.{Perms}
 use Rattle.gt_types.specs.declared.config.Config.{Config}
 use Rattle.gt_types.specs.declared.denial.Denial.{Denial}
-use Rattle.gt_types.specs.declared.denial.Rule.TheVariants.{N26}
+use Rattle.gt_types.specs.declared.denial.Rule.TheVariants.{N16, N26}
 use Rattle.gt_types.specs.declared.denial.Facts.TheVariants.{None as NoFacts}
 use Rattle.gt_types.specs.declared.limits.TheConstants.{TABLE_ENTRIES}
 use Rattle.gt_types.specs.Denial.{denial_of}
@@ -39,6 +39,12 @@ use Rattle.gt_live.specs.declared.domain.Domain.{Domain}
 use Rattle.gt_live.specs.declared.domain.Left.{Left}
 use Rattle.gt_live.specs.declared.monitor.Monitor.{Monitor}
 use Rattle.gt_live.specs.Mappings.{Adds, IsMappingOf, KeepsMappings, PinsAreOf, Removes}
+use Rattle.gt_access.specs.declared.by.Refused.{Refused as NotMade}
+use Rattle.gt_access.specs.declared.by.Refused.TheVariants.{Gone, Memory as OutOfMemory}
+use Rattle.gt_calls.specs.declared.action.Step.{Step}
+use Rattle.gt_calls.specs.Asking.{asked}
+use Rattle.gt_live.specs.Accesses.{AnsweredBy}
+use Rattle.gt_live.specs.Ending.{IsWordless}
 use Rattle.gt_live.specs.Walks.{Called}
 
 -- whose type may do what to whose (XSM FLASK)
@@ -69,6 +75,10 @@ known may m d = knowledge m.config (may m.rights) d
 -- a call of the domain d asked this and was answered so, after which the domain is e: its steps are those of the call's path, each as the words tell it, and the answer is the path's (own)
 abbrev pub Answered : {P : Type 0} → (P → Rights) → Monitor P → Domain → Request → Verdict → Domain → Type 0
 Answered may m d request verdict e = Called m.words.layout (path_of (known may m d) d.seat.dom request) verdict d.seat.view e.seat.view
+
+-- the same of a call with an access, whose answer tells this of it (own)
+abbrev pub Accesses : {P R : Type 0} → (P → Rights) → Monitor P → Domain → Request → (Step → R → Type 0) → Result R Denial → Domain → Type 0
+Accesses may m d request tells result e = AnsweredBy m.words.layout (path_of (known may m d) d.seat.dom request) tells result d.seat.view e.seat.view
 
 -- the domain has the mappings and pins that it had (own)
 abbrev pub KeepsPinned : Domain → Domain → Type 0
@@ -107,6 +117,18 @@ pub record IsOpened (c : CallerKnowledge) (caller : DomId) (call : Call) : Type 
   pub of_caller : call.caller ≡ caller
   pub fresh : IsFresh c call
   pub steps : MakesStep (path c caller call.request [])
+
+-- no rule stood at the beginning of this request, whose call is open (own)
+pub record Opens (c : CallerKnowledge) (caller : DomId) (request : Request) (call : Call) : Type 0 where
+  pub unanswered : begun_of c caller request ≡ None
+  pub asks : call.request ≡ asked request
+  pub same_way : path_of c caller request ≡ path c caller call.request
+  pub opened : IsOpened c caller call
+
+-- a rule stood at the beginning of this request, and refuses it without a word of an entry (own)
+pub record IsRefused (c : CallerKnowledge) (caller : DomId) (request : Request) (denial : Denial) : Type 0 where
+  pub answered : begun_of c caller request ≡ Some (Refused denial)
+  pub wordless : IsWordless denial.facts
 
 -- the seat has gone on, and nothing else has changed yet (own)
 pub record IsUnsettled (d e : Domain) : Type 0 where
@@ -172,6 +194,16 @@ abbrev pub mapped_by : Verdict → Option Handle → Result Handle Denial
 mapped_by (Refused denial) handle = Err denial
 mapped_by verdict (Some handle) = Ok handle
 mapped_by verdict None = Err (denial_of N26 NoFacts)
+
+-- the refusal of a call that was refused (own)
+abbrev pub refusal_of : Verdict → Denial
+refusal_of (Refused denial) = denial
+refusal_of verdict = denial_of N26 NoFacts
+
+-- how an access that was not made is refused (own)
+abbrev pub not_made : NotMade → Denial
+not_made Gone = denial_of N16 NoFacts
+not_made OutOfMemory = denial_of N26 NoFacts
 
 -- what a record tells of an answer (own)
 abbrev pub reply_of : Verdict → Reply

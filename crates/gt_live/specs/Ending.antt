@@ -16,6 +16,15 @@ WaitsForNobody (asks.Poke frame off len) = ⊥
 WaitsForNobody (asks.Copy c) = ⊥
 WaitsForNobody request = Unit {0}
 
+-- the request is one whose steps have an access to bytes among them (own)
+abbrev pub IsAccessing : Asked → Type 0
+IsAccessing (asks.Load handle off len) = Unit {0}
+IsAccessing (asks.Store handle off len) = Unit {0}
+IsAccessing (asks.Peek frame off len) = Unit {0}
+IsAccessing (asks.Poke frame off len) = Unit {0}
+IsAccessing (asks.Copy c) = Unit {0}
+IsAccessing request = ⊥
+
 -- the answer is one of this request: a refusal, a mapping to a map, a value to a call that asks it, and else Ok (own)
 abbrev pub IsAnswerTo : Asked → Verdict → Type 0
 IsAnswerTo request (Refused denial) = Unit {0}

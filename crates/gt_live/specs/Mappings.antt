@@ -4,14 +4,12 @@ use Rattle.gt_types.specs.declared.DomId.{DomId}
 use Rattle.gt_types.specs.declared.Dir.{Dir}
 use Rattle.gt_types.specs.declared.Use.TheVariants.{Map as ForMap}
 use Rattle.gt_types.specs.declared.perms.Perms.{Perms}
-use Rattle.gt_types.specs.declared.limits.TheConstants.{TABLE_ENTRIES}
 use Rattle.gt_entry.specs.Permits.{permits}
+pub use Rattle.gt_access.specs.Routes.{HasPin, record_of}
 use Rattle.gt_words.specs.Controls.{generation_of}
 use Rattle.gt_words.specs.Rule.{Layout, position_in}
-use Rattle.gt_words.specs.Conditions.{HasDomain}
 use Rattle.gt_words.specs.Keeping.{held}
-use Rattle.gt_words.specs.Views.{IsIn, is_same_dir, pins, steps_on}
-use Rattle.gt_words.specs.declared.view.EntryRecord.{EntryRecord}
+use Rattle.gt_words.specs.Views.{is_same_dir}
 use Rattle.gt_words.specs.declared.view.View.{View}
 use Rattle.gt_handles.specs.Handles.{Kept, KeepsSpent}
 use Rattle.gt_handles.specs.Listing.{IsInserted, IsTaken, count_passing}
@@ -22,16 +20,6 @@ use Rattle.gt_calls.specs.Opening.{IsAllowed}
 use Rattle.gt_calls.specs.Rules.{frames_of, label_of, map_perms, triples}
 use Rattle.gt_types.specs.declared.TypeId.{TypeId}
 use Rattle.gt_types.specs.declared.config.DomainConfig.{DomainConfig}
-
--- what the owner's record was when the pin was taken (own)
-abbrev pub record_of : Held → EntryRecord
-record_of p = record { generation = generation_of p.word; entry = p.entry }
-
--- the view has this pin, of the entry that it was taken from (own)
-pub record HasPin (k : Layout) (v : View) (p : Held) : Type 0 where
-  pub run : HasDomain k p.dom
-  pub inside : p.gref.0 < TABLE_ENTRIES
-  pub there : IsIn (p.dir, record_of p) (pins (steps_on (position_in k.ids p.dom) p.gref.0 v))
 
 -- a mapping: its pin is held, of an entry that permits the caller, of a frame of its owner's, and what its map asked is allowed (own)
 pub record IsMappingOf (k : Layout) (domains : List DomainConfig) (may : TypeId → TypeId → Perms → Bool) (caller : DomId) (v : View) (p : Held) : Type 0 where

@@ -9,6 +9,7 @@ use crate::domain::Domain;
 use crate::monitor::Monitor;
 use gt_audit::Trail;
 use gt_calls::{ENTRIES, Handles, Own};
+use gt_frames::Pool;
 use gt_types::{Allows, Config, StartFault};
 use gt_words::{Seat, Words};
 use std::alloc::{AllocError, Global};
@@ -57,7 +58,7 @@ fn make_domains<P: Allows>(
         if let Some(own) = rows.pop() {
             let mappings = Handles::new(alloc);
             let trail = Trail::new(alloc);
-            domains.push_reserved(Domain::new(seat, own, mappings, trail));
+            domains.push_reserved(Domain::new(alloc, seat, own, mappings, trail));
         }
     }
     Ok(domains)
@@ -86,10 +87,14 @@ impl<P: Allows + Drop> Monitor<P> {
             Ok(made) => made,
             Err(fault) => return Err(fault),
         };
+        let Ok(pool) = Pool::new(alloc, &config) else {
+            return Err(StartFault::Memory);
+        };
         let monitor = Monitor {
             config,
             rights,
             words,
+            pool,
         };
         match make_domains(alloc, &monitor, seats) {
             Ok(domains) => Ok((monitor, domains)),

@@ -1,0 +1,114 @@
+-- The routes by which a domain reaches a frame: the pins that justify an access, by what its seat knows.
+use Rattle.std.specs.Prelude.{◌≡◌, ℕ, ◌<◌, Bool, true, List, [], ◌∷◌, ◌++◌}
+use Rattle.gt_types.specs.declared.DomId.{DomId}
+use Rattle.gt_types.specs.declared.Dir.{Dir}
+use Rattle.gt_types.specs.declared.Dir.TheVariants.{Read, Write}
+use Rattle.gt_types.specs.declared.Use.{Use}
+use Rattle.gt_types.specs.declared.Use.TheVariants.{Copy as ForCopy}
+use Rattle.gt_types.specs.declared.TypeId.{TypeId}
+use Rattle.gt_types.specs.declared.perms.Perms.{Perms}
+use Rattle.gt_types.specs.declared.config.DomainConfig.{DomainConfig}
+use Rattle.gt_types.specs.declared.limits.TheConstants.{TABLE_ENTRIES}
+use Rattle.gt_types.specs.Names.{copy}
+use Rattle.gt_entry.specs.Permits.{permits, forwards, is_of_frame}
+use Rattle.gt_words.specs.Controls.{generation_of}
+use Rattle.gt_words.specs.Rule.{Layout, position_in}
+use Rattle.gt_words.specs.Conditions.{SeatOf, HasDomain}
+use Rattle.gt_words.specs.Views.{IsIn, pins, steps_on}
+use Rattle.gt_words.specs.declared.view.EntryRecord.{EntryRecord}
+use Rattle.gt_words.specs.declared.view.View.{View}
+use Rattle.gt_calls.specs.declared.held.Held.{Held}
+use Rattle.gt_calls.specs.declared.held.Pins.{Pins}
+use Rattle.gt_calls.specs.declared.held.Route.{Route}
+use Rattle.gt_calls.specs.declared.held.Route.TheVariants.{Own, Direct, Through}
+use Rattle.gt_calls.specs.Holding.{owner_by}
+use Rattle.gt_calls.specs.Opening.{IsAllowed}
+use Rattle.gt_calls.specs.Resting.{LeadsTo}
+use Rattle.gt_calls.specs.Rules.{label_of, map_perms, triples}
+use Rattle.gt_frames.specs.declared.places.FrameName.{FrameName}
+use Rattle.gt_frames.specs.declared.writ.Writ.{Writ}
+use Rattle.gt_frames.specs.declared.writ.Ground.TheVariants.{Owned, Granted, Forwarded}
+
+-- pins
+
+-- what the owner's record was when the pin was taken (own)
+abbrev pub record_of : Held → EntryRecord
+record_of p = record { generation = generation_of p.word; entry = p.entry }
+
+-- the view has this pin, of the entry that it was taken from (own)
+pub record HasPin (k : Layout) (v : View) (p : Held) : Type 0 where
+  pub run : HasDomain k p.dom
+  pub inside : p.gref.0 < TABLE_ENTRIES
+  pub held : IsIn (p.dir, record_of p) (pins (steps_on (position_in k.ids p.dom) p.gref.0 v))
+
+-- a pin that serves this direction: to write, a write pin (own)
+abbrev pub Serves : Dir → Held → Type 0
+Serves Read p = Unit {0}
+Serves Write p = p.dir ≡ Write
+
+-- the seat has this pin, of an entry of this frame which permitted the domain this direction, use and range (own, after grant_table.h)
+pub record IsPinnedFor (k : Layout) (s : SeatOf) (grantee : DomId) (dir : Dir) (purpose : Use) (name : FrameName) (off len : ℕ) (p : Held) : Type 0 where
+  pub pin : HasPin k s.view p
+  pub serves : Serves dir p
+  pub owner_is : p.dom ≡ name.owner
+  pub of_frame : is_of_frame p.entry name.number ≡ true
+  pub permitted : permits p.entry grantee dir purpose off len ≡ true
+
+-- the seat has this pin, of a transitive entry which forwarded its domain in this direction to the entry of the other pin (own, after grant_table.h, transitive)
+pub record IsPinnedOn (k : Layout) (s : SeatOf) (dir : Dir) (via p : Held) : Type 0 where
+  pub pin : HasPin k s.view via
+  pub serves : Serves dir via
+  pub forwarded : forwards via.entry s.dom dir ≡ true
+  pub leads : LeadsTo via.entry p
+
+-- the seat's domain reaches this range of the frame by the route: the frame is its own, or a pin of the frame's owner permits it, or, for a copy, a pin of a transitive entry forwards it to one that permits the domain between (own)
+abbrev pub Reaches : Layout → SeatOf → Dir → Use → FrameName → ℕ → ℕ → Route → Type 0
+Reaches k s dir purpose name off len Own = s.dom ≡ name.owner
+Reaches k s dir purpose name off len (Direct p) = IsPinnedFor k s s.dom dir purpose name off len p
+Reaches k s dir purpose name off len (Through via p) =
+    (purpose ≡ ForCopy) × IsPinnedOn k s dir via p × IsPinnedFor k s via.dom dir purpose name off len p
+
+-- rights
+
+-- the access goes through no mapping, or the policy allows what the mapping's map asked (own)
+abbrev pub MayAccess : List DomainConfig → (TypeId → TypeId → Perms → Bool) → DomId → Route → Type 0
+MayAccess domains may caller Own = Unit {0}
+MayAccess domains may caller (Direct p) = IsAllowed may (triples (label_of domains caller) (label_of domains p.dom) (map_perms p.dir))
+MayAccess domains may caller (Through via p) = ⊥
+
+-- the domain that an end of a copy names (own)
+abbrev pub named_by : DomId → Route → DomId
+named_by caller Own = caller
+named_by caller (Direct p) = p.dom
+named_by caller (Through via p) = via.dom
+
+-- this pair, where the route goes through a transitive entry (own)
+abbrev pub pair_beyond : Route → DomId × DomId → List (DomId × DomId)
+pair_beyond Own pair = []
+pair_beyond (Direct p) pair = []
+pair_beyond (Through via p) pair = pair ∷ []
+
+-- the pairs for which a copy asks: the domains named; past a transitive source its frame's owner and the destination named; past a transitive destination the owners of both frames (own)
+abbrev pub pairs_asked : DomId → Pins → List (DomId × DomId)
+pairs_asked caller p =
+    (named_by caller p.source, named_by caller p.dest)
+    ∷ pair_beyond p.source (owner_by caller p.source, named_by caller p.dest)
+    ++ pair_beyond p.dest (owner_by caller p.source, owner_by caller p.dest)
+
+-- the policy allows copying from the first of each pair to the second (XSM FLASK)
+abbrev pub MayCopyEach : List DomainConfig → (TypeId → TypeId → Perms → Bool) → List (DomId × DomId) → Type 0
+MayCopyEach domains may [] = Unit {0}
+MayCopyEach domains may (pair ∷ pairs) =
+    IsAllowed may (triples (label_of domains pair.0) (label_of domains pair.1) (copy ∷ [])) × MayCopyEach domains may pairs
+
+-- the policy allows the copy by these routes (own)
+abbrev pub MayCopy : List DomainConfig → (TypeId → TypeId → Perms → Bool) → DomId → Pins → Type 0
+MayCopy domains may caller p = MayCopyEach domains may (pairs_asked caller p)
+
+-- writs
+
+-- the writ of a domain by this route: it is made of the entries that the route's pins were taken from (own)
+abbrev pub writ_by : DomId → Route → Writ
+writ_by caller Own = record { writer = caller; basis = Owned }
+writ_by caller (Direct p) = record { writer = caller; basis = Granted p.entry }
+writ_by caller (Through via p) = record { writer = caller; basis = Forwarded via.entry via.dom p.entry }

@@ -1,0 +1,112 @@
+//! Accesses that lock the frames that they are made to, and free them again.
+ghost use Rattle.std.specs.Prelude.{◌≡◌, ◌+◌, ◌≤◌, length, vec_len, IfOk, IfSome};
+ghost use Rattle.gt_types.specs.declared.Dir.TheVariants as dirs;
+ghost use Rattle.gt_types.specs.declared.Use.TheVariants as uses;
+ghost use Rattle.gt_words.specs.Conditions.{IsSeatOf};
+ghost use Rattle.gt_access.specs.Accesses.{IsReadOf, writing_at, copying_at};
+ghost use Rattle.gt_access.specs.Routes.{MayAccess, MayCopy, Reaches};
+
+use crate::under::{Run, copy_under, read_under, writ_by, write_under};
+use gt_calls::{Pins, Route};
+use gt_frames::{Copied, FrameName, Read, Spot, Written};
+use gt_types::{Allows, FRAME_SIZE, Memory, Range};
+use gt_words::Seat;
+use std::sync::Wait;
+
+/// Why an access was not made. Nothing has changed then.
+#[derive(Clone, Copy, Debug, PartialEq, Eq)]
+pub enum Refused {
+    /// There is no such frame, or another one stands in its place.
+    Gone,
+    /// Memory was refused.
+    Memory,
+}
+
+impl From<Memory> for Refused {
+    fn from(_fault: Memory) -> Refused {
+        Refused::Memory
+    }
+}
+
+/// Reads bytes of the frame of this name, from `off` on over all of `out`. `None` where there is no
+/// such frame, or another one stands in its place.
+#[tactic(auto, using(crate::proofs::Covering::reaches_named))]
+pub fn read_by<R: Wait, P: Allows>(
+    rt: &R,
+    run: &Run<'_, P>,
+    seat: &Seat,
+    route: Route,
+    name: FrameName,
+    off: u16,
+    out: Vec<u8>,
+) -> Option<Read>
+    requires seat { IsSeatOf run.now.words.now seat.now }
+    requires reached { Reaches run.now.words.now.layout seat.now dirs.Read uses.Map name off (vec_len out) route }
+    requires may { MayAccess run.now.config.now.domains.items (P.may run.now.rights.now) seat.now.dom route }
+    requires range { off + vec_len out ≤ FRAME_SIZE }
+    ensures { IfSome result (λ r. IsReadOf r name off (vec_len out)) }
+{
+    let frame = run.pool.lock(rt, name)?;
+    Some(read_under(run, seat, &frame, route, off, out))
+}
+
+/// Writes `bytes` to the frame of this name, from `off` on.
+///
+/// # Errors
+///
+/// [`Refused`], with all frames as they were.
+#[tactic(auto, using(crate::proofs::Covering::reaches_named))]
+pub fn write_by<'a, R: Wait, P: Allows>(
+    rt: &R,
+    run: &Run<'_, P>,
+    seat: &Seat,
+    route: Route,
+    name: FrameName,
+    off: u16,
+    bytes: &'a [u8],
+) -> Result<Written<'a>, Refused>
+    requires seat { IsSeatOf run.now.words.now seat.now }
+    requires reached { Reaches run.now.words.now.layout seat.now dirs.Write uses.Map name off (length bytes.now) route }
+    requires may { MayAccess run.now.config.now.domains.items (P.may run.now.rights.now) seat.now.dom route }
+    requires range { off + length bytes.now ≤ FRAME_SIZE }
+    ensures { IfOk result (λ r. r ≡ writing_at name off bytes.entry.now seat.now.dom) }
+{
+    let Some(mut frame) = run.pool.lock(rt, name) else {
+        return Err(Refused::Gone);
+    };
+    let writ = writ_by(seat.dom(), route);
+    Ok(write_under(run, seat, &mut frame, route, &writ, off, bytes)?)
+}
+
+/// Copies `len` bytes from one place to another, of one frame or of two.
+///
+/// # Errors
+///
+/// [`Refused`], with all frames as they were.
+#[tactic(auto, using(crate::proofs::Covering::reaches_named))]
+pub fn copy_by<R: Wait, P: Allows>(
+    rt: &R,
+    run: &Run<'_, P>,
+    seat: &Seat,
+    routes: Pins,
+    from: Spot,
+    to: Spot,
+    len: u16,
+) -> Result<Copied, Refused>
+    requires seat { IsSeatOf run.now.words.now seat.now }
+    requires source { Reaches run.now.words.now.layout seat.now dirs.Read uses.Copy from.frame from.off len routes.source }
+    requires dest { Reaches run.now.words.now.layout seat.now dirs.Write uses.Copy to.frame to.off len routes.dest }
+    requires may { MayCopy run.now.config.now.domains.items (P.may run.now.rights.now) seat.now.dom routes }
+    requires source_range { from.off + len ≤ FRAME_SIZE }
+    requires dest_range { to.off + len ≤ FRAME_SIZE }
+    ensures { IfOk result (λ r. r ≡ copying_at from to len seat.now.dom) }
+{
+    let Some(mut ends) = run.pool.lock_both(rt, from.frame, to.frame) else {
+        return Err(Refused::Gone);
+    };
+    let writ = writ_by(seat.dom(), routes.dest);
+    let range = Range { off: from.off, len };
+    let copied = copy_under(run, seat, &mut ends, routes, &writ, range, to.off);
+    drop(ends);
+    Ok(copied?)
+}

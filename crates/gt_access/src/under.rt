@@ -1,0 +1,129 @@
+//! Accesses to locked frames.
+ghost use Rattle.std.specs.Prelude.{◌≡◌, ◌+◌, ◌≤◌, length, vec_len, IfOk, OnOk, OnErr};
+ghost use Rattle.gt_types.specs.declared.Dir.TheVariants as dirs;
+ghost use Rattle.gt_types.specs.declared.Use.TheVariants as uses;
+ghost use Rattle.gt_words.specs.Conditions.{IsSeatOf};
+ghost use Rattle.gt_frames.specs.Frames.{bytes_at, IsKept, IsWrite};
+ghost use Rattle.gt_frames.specs.Pool.{dest_of, source_of};
+ghost use Rattle.gt_frames.specs.Receipts.{reading_of, writing_of, copying_of};
+ghost use Rattle.gt_frames.specs.Sets.{name_of};
+ghost use Rattle.gt_access.specs.Routes.{MayAccess, MayCopy, Reaches, writ_by};
+
+use gt_calls::{Pins, Route};
+use gt_frames::{Copied, Ends, Frame, Ground, Pool, Read, Writ, Written};
+use gt_types::{Allows, Config, DomId, FRAME_SIZE, Memory, Range};
+use gt_words::{Seat, Words};
+
+/// The run that an access belongs to: its words, its domains, what its policy allows, and its frames.
+pub struct Run<'m, P> {
+    pub words: &'m Words,
+    pub config: &'m Config,
+    pub rights: &'m P,
+    pub pool: &'m Pool,
+}
+
+impl<P> Drop for Run<'_, P> {
+    fn drop(self) {
+        let Run {
+            words: _,
+            config: _,
+            rights: _,
+            pool: _,
+        } = self;
+    }
+}
+
+/// The writ of a domain that writes by this route.
+pub fn writ_by(caller: DomId, route: Route) -> Writ
+    ensures { result ≡ writ_by caller route }
+{
+    let basis = match route {
+        Route::Own => Ground::Owned,
+        Route::Direct(held) => Ground::Granted(held.entry),
+        Route::Through { via, held } => Ground::Forwarded {
+            via: via.entry,
+            middle: via.dom,
+            entry: held.entry,
+        },
+    };
+    Writ {
+        writer: caller,
+        basis,
+    }
+}
+
+/// Reads bytes of a locked frame from `off` on over all of `out`, whose length is the range's.
+pub fn read_under<P: Allows>(
+    run: &Run<'_, P>,
+    seat: &Seat,
+    frame: &Frame,
+    route: Route,
+    off: u16,
+    out: Vec<u8>,
+) -> Read
+    requires seat { IsSeatOf run.now.words.now seat.now }
+    requires reached { Reaches run.now.words.now.layout seat.now dirs.Read uses.Map (name_of frame.now) off (vec_len out) route }
+    requires may { MayAccess run.now.config.now.domains.items (P.may run.now.rights.now) seat.now.dom route }
+    requires range { off + vec_len out ≤ FRAME_SIZE }
+    ensures read { result ≡ reading_of frame.now off (vec_len out) }
+    ensures len { length result.bytes ≡ vec_len out }
+{
+    frame.read(off, out)
+}
+
+/// Writes `bytes` to a locked frame, from `off` on.
+///
+/// # Errors
+///
+/// `Memory`, with the frame as it was.
+#[tactic(auto, using(crate::proofs::Covering::covers_by))]
+pub fn write_under<'a, P: Allows>(
+    run: &Run<'_, P>,
+    seat: &Seat,
+    frame: &mut Frame,
+    route: Route,
+    writ: &Writ,
+    off: u16,
+    bytes: &'a [u8],
+) -> Result<Written<'a>, Memory>
+    requires seat { IsSeatOf run.now.words.now seat.now }
+    requires reached { Reaches run.now.words.now.layout seat.now dirs.Write uses.Map (name_of frame.old) off (length bytes.now) route }
+    requires may { MayAccess run.now.config.now.domains.items (P.may run.now.rights.now) seat.now.dom route }
+    requires writ { writ.now ≡ writ_by seat.now.dom route }
+    requires range { off + length bytes.now ≤ FRAME_SIZE }
+    ensures written { OnOk result (IsWrite frame.old frame.new writ.now off bytes.now) }
+    ensures kept { IsKept frame.new }
+    ensures receipt { IfOk result (λ r. r ≡ writing_of frame.old off bytes.now seat.now.dom) }
+    ensures refused { OnErr result (frame.new ≡ frame.old) }
+{
+    frame.write(writ, off, bytes)
+}
+
+/// Copies a range of the one locked frame to the other, from `to_off` on; both may be one frame.
+///
+/// # Errors
+///
+/// `Memory`, with both frames as they were.
+pub fn copy_under<P: Allows>(
+    run: &Run<'_, P>,
+    seat: &Seat,
+    ends: &mut Ends<'_>,
+    routes: Pins,
+    writ: &Writ,
+    from: Range,
+    to_off: u16,
+) -> Result<Copied, Memory>
+    requires seat { IsSeatOf run.now.words.now seat.now }
+    requires source { Reaches run.now.words.now.layout seat.now dirs.Read uses.Copy (name_of (source_of ends.old)) from.off from.len routes.source }
+    requires dest { Reaches run.now.words.now.layout seat.now dirs.Write uses.Copy (name_of (dest_of ends.old)) to_off from.len routes.dest }
+    requires may { MayCopy run.now.config.now.domains.items (P.may run.now.rights.now) seat.now.dom routes }
+    requires writ { writ.now ≡ writ_by seat.now.dom routes.dest }
+    requires source_range { from.off + from.len ≤ FRAME_SIZE }
+    requires dest_range { to_off + from.len ≤ FRAME_SIZE }
+    ensures written { OnOk result (IsWrite (dest_of ends.old) (dest_of ends.new) writ.now to_off (bytes_at (source_of ends.old) from.off from.len)) }
+    ensures kept { IsKept (dest_of ends.new) }
+    ensures receipt { IfOk result (λ r. r ≡ copying_of (source_of ends.old) from.off (dest_of ends.old) to_off from.len seat.now.dom) }
+    ensures refused { OnErr result ((dest_of ends.new ≡ dest_of ends.old) × (source_of ends.new ≡ source_of ends.old)) }
+{
+    ends.copy(writ, from.off, to_off, from.len)
+}

@@ -1,0 +1,124 @@
+-- Calls of one access: how they are answered, and what lets a mapping through.
+use Rattle.std.proofs.Common.{◌≡◌, ℕ, ◌==◌, ◌&&◌, Bool, true, false, refl, sym, ap, ◌∙◌, subst, List, [], ◌∷◌, Option, Some, None, inl, inr, arith}
+use Rattle.std.specs.Prelude.{IfErr, IfOk, Result, Ok, Err}
+use Rattle.std.proofs.lemmas.Bool.{eq-eqb}
+use Rattle.std.proofs.lemmas.Bool.Decides.{nat_tests}
+use Rattle.gt_types.specs.declared.DomId.{DomId}
+use Rattle.gt_types.specs.declared.Dir.{Dir}
+use Rattle.gt_types.specs.declared.Dir.TheVariants.{Read, Write}
+use Rattle.gt_types.specs.declared.Use.TheVariants.{Map as ForMap}
+use Rattle.gt_types.specs.declared.denial.Denial.{Denial}
+use Rattle.gt_types.specs.declared.denial.Facts.{Facts}
+use Rattle.gt_types.specs.declared.denial.Facts.TheVariants as facts
+use Rattle.gt_types.specs.declared.config.DomainConfig.{DomainConfig}
+use Rattle.gt_entry.specs.declared.entry.Entry.{Entry}
+use Rattle.gt_entry.specs.declared.entry.Entry.TheVariants.{Invalid, Page, Sub, Via}
+use Rattle.gt_entry.specs.Entries.{frame_of}
+use Rattle.gt_entry.specs.Permits.{is_of_frame, permits}
+use Rattle.gt_words.specs.Conditions.{SeatOf}
+use Rattle.gt_words.specs.Rule.{Layout}
+use Rattle.gt_words.specs.declared.view.View.{View}
+use Rattle.gt_access.specs.Routes.{IsPinnedFor, Serves}
+use Rattle.gt_calls.specs.declared.action.Seen.TheVariants.{Nothing}
+use Rattle.gt_calls.specs.declared.action.Step.{Step}
+use Rattle.gt_calls.specs.declared.action.Verdict.{Verdict}
+use Rattle.gt_calls.specs.declared.action.Verdict.TheVariants.{Granted, Refused}
+use Rattle.gt_calls.specs.declared.held.Held.{Held}
+use Rattle.gt_calls.specs.declared.request.Request.{Request}
+use Rattle.gt_handles.specs.declared.handles.Handle.{Handle}
+use Rattle.gt_calls.specs.declared.request.Asked.TheVariants as asks
+use Rattle.gt_calls.specs.Asking.{asked, begun_of}
+use Rattle.gt_calls.specs.Opening.{opens}
+use Rattle.gt_calls.specs.Path.{Continuation, after_beginning, by_mapping, ended, makes, path_of, steps_of}
+use Rattle.gt_calls.specs.Rules.{CallerKnowledge, begun}
+use Rattle.gt_live.specs.Accesses.{Accessed, AnsweredBy, IsAccess, IsOfAccess, frame_named}
+use Rattle.gt_live.specs.Domains.{IsRefused, Opens, Rights}
+use Rattle.gt_live.specs.Ending.{IsWordless}
+use Rattle.gt_live.specs.Mappings.{IsMappingOf}
+use Rattle.gt_live.specs.Walks.{Called, CarriesFound}
+
+-- what permits a mapping permits it any range
+any-range : (e : Entry) (d : DomId) (dir : Dir) (off len : ℕ) → permits e d dir ForMap 0 0 ≡ true → permits e d dir ForMap off len ≡ true
+any-range Invalid d dir off len is = is
+any-range (Page dom ro frame) d dir off len is = is
+any-range (Via dom ro dom2 gref) d dir off len is = is
+any-range (Sub dom ro frame start size) d dir off len is = grind (arith, nat_tests)
+
+-- what permits writing permits reading
+to-read : (e : Entry) (d : DomId) (dir : Dir) (off len : ℕ) → permits e d dir ForMap off len ≡ true → permits e d Read ForMap off len ≡ true
+to-read e d Read off len is = is
+to-read Invalid d Write off len is = is
+to-read (Page dom ro frame) d Write off len is = grind (arith, nat_tests)
+to-read (Via dom ro dom2 gref) d Write off len is = is
+to-read (Sub dom ro frame start size) d Write off len is = grind (arith, nat_tests)
+
+-- what permits anybody is of its frame
+of-its-frame : (e : Entry) (d : DomId) (dir : Dir) (off len : ℕ) → permits e d dir ForMap off len ≡ true → is_of_frame e (frame_of e) ≡ true
+of-its-frame Invalid d dir off len is = cc
+of-its-frame (Page dom ro frame) d dir off len is = eq-eqb frame frame refl
+of-its-frame (Sub dom ro frame start size) d dir off len is = eq-eqb frame frame refl
+of-its-frame (Via dom ro dom2 gref) d dir off len is = cc
+
+serving : (e : Entry) (d : DomId) (dir own : Dir) (off len : ℕ) → (dir ≡ Write → own ≡ Write) → permits e d own ForMap off len ≡ true → permits e d dir ForMap off len ≡ true
+serving e d Read own off len so is = to-read e d own off len is
+serving e d Write own off len so is = subst (λ (x : Dir). permits e d x ForMap off len ≡ true) (so refl) is
+
+serves : (p : Held) (dir : Dir) → (dir ≡ Write → p.dir ≡ Write) → Serves dir p
+serves p Read so = tt
+serves p Write so = so refl
+
+-- a mapping reaches any range of its frame, to write where its pin is a write pin
+pub reaches-mapped : (k : Layout) (ds : List DomainConfig) (may : Rights) (s : SeatOf) (p : Held) (dir : Dir) (number off len : ℕ) → IsMappingOf k ds may s.dom s.view p → (dir ≡ Write → p.dir ≡ Write) → number ≡ frame_of p.entry
+    → IsPinnedFor k s s.dom dir ForMap (frame_named p.dom number) off len p
+reaches-mapped k ds may s p dir number off len is so frame =
+    let some = any-range p.entry s.dom p.dir off len is.permitted in
+    record {
+      pin = is.pin;
+      serves = serves p dir so;
+      owner_is = refl;
+      of_frame = ap (λ (n : ℕ). is_of_frame p.entry n) frame ∙ of-its-frame p.entry s.dom p.dir off len some;
+      permitted = serving p.entry s.dom dir p.dir off len so some;
+    }
+
+wordless-found : (k : Layout) (v : View) (f : Facts) → IsWordless f → CarriesFound k v [] f
+wordless-found k v (facts.Entry dom gref word) is = absurd is
+wordless-found k v (facts.Header dom word) is = absurd is
+wordless-found k v facts.None is = tt
+wordless-found k v (facts.Policy source target perm) is = tt
+wordless-found k v (facts.Field field) is = tt
+
+-- a call that is refused at its beginning
+pub refused-first : {R : Type 0} (k : Layout) (c : CallerKnowledge) (caller : DomId) (request : Request) (tells : Step → R → Type 0) (denial : Denial) (v : View) → IsRefused c caller request denial
+    → AnsweredBy k (path_of c caller request) tells (Err denial) v v
+refused-first k c caller request tells denial v is =
+    inl (record { steps = []; view = refl; walked = tt; answered = ap (λ (o : Option Verdict). after_beginning o (steps_of c caller (asked request)) []) is.answered; carried = wordless-found k v denial.facts is.wordless })
+
+-- a call of one access
+whole : (k : Layout) (way : Continuation) (access : Step) (v : View) → IsAccess access → way ≡ makes access (ended Granted) → Accessed k way access v v
+whole k way access v is e = record {
+  at = v;
+  comes = record { steps = []; view = refl; walked = tt; next = ap (λ (w : Continuation). w []) e; is_access = is };
+  ends = record { steps = []; view = refl; walked = tt; answered = ap (λ (w : Continuation). w (Nothing ∷ [])) e; carried = tt };
+}
+
+pub one-access : {R : Type 0} (k : Layout) (way : Continuation) (access : Step) (tells : Step → R → Type 0) (result : Result R Denial) (v : View) → IsAccess access → way ≡ makes access (ended Granted)
+    → IfOk result (λ (r : R). tells access r) → IfErr result IsOfAccess → AnsweredBy k way tells result v v
+one-access k way access tells (Ok r) v is e ok err = (access, whole k way access v is e, ok)
+one-access k way access tells (Err denial) v is e ok err = inr (access, whole k way access v is e, err)
+
+-- the way of a call through a mapping
+pub mapped-way : (k : CallerKnowledge) (caller : DomId) (request : Request) (handle : Handle) (p : Held) (step : Held → Step) → begun_of k caller request ≡ None → k.mapping handle ≡ Some p
+    → steps_of k caller (asked request) ≡ by_mapping (k.mapping handle) step → path_of k caller request ≡ makes (step p) (ended Granted)
+mapped-way k caller request handle p step none there is =
+    ap (λ (o : Option Verdict). after_beginning o (steps_of k caller (asked request))) none ∙ (is ∙ ap (λ (o : Option Held). by_mapping o step) there)
+
+-- and of one to a frame of the caller's own
+pub own-way : (k : CallerKnowledge) (caller : DomId) (request : Request) (access : Step) → begun_of k caller request ≡ None
+    → steps_of k caller (asked request) ≡ makes access (ended Granted) → path_of k caller request ≡ makes access (ended Granted)
+own-way k caller request access none is = ap (λ (o : Option Verdict). after_beginning o (steps_of k caller (asked request))) none ∙ is
+
+-- a store goes through a mapping that lets write
+pub writes-by : (k : CallerKnowledge) (caller : DomId) (handle : Handle) (off len : ℕ) (p : Held) → begun k caller (asks.Store handle off len) ≡ None → k.mapping handle ≡ Some p → p.dir ≡ Write
+writes-by k caller handle off len p none there =
+    let o = opens k caller (asks.Store handle off len) none in let both : Some o.mapping ≡ Some p = sym o.found ∙ there in let same : o.mapping ≡ p = cc in
+    sym (ap (λ (x : Held). x.dir) same) ∙ o.writable

@@ -1,0 +1,40 @@
+use Rattle.std.proofs.Common.{◌≡◌, ◌∙◌, sym, ap, subst, refl, Some, Option, length}
+use Rattle.std.specs.Prelude.{IfOk, ℕ, option_copied}
+use Rattle.gt_access.specs.Accesses.{IsReadOf}
+use Rattle.gt_frames.specs.Receipts.{Reading}
+use Rattle.gt_types.specs.declared.DomId.{DomId}
+use Rattle.gt_types.specs.declared.Dir.TheVariants as dirs
+use Rattle.gt_entry.specs.Entries.{frame_of}
+use Rattle.gt_calls.specs.declared.action.Step.TheVariants as steps
+use Rattle.gt_calls.specs.declared.action.Verdict.{Verdict}
+use Rattle.gt_calls.specs.declared.action.Verdict.TheVariants.{Granted}
+use Rattle.gt_calls.specs.declared.held.Held.{Held}
+use Rattle.gt_calls.specs.declared.request.Asked.TheVariants as asks
+use Rattle.gt_calls.specs.declared.request.Request.TheVariants as requests
+use Rattle.gt_calls.specs.Path.{Continuation, after_beginning, by_mapping, ended, makes, steps_of}
+use Rattle.gt_calls.specs.Opening.{opens}
+use Rattle.gt_handles.specs.Handles.{value_of}
+use Rattle.gt_live.specs.Accesses.{IsReadBy, IsWrittenBy, frame_named}
+use Rattle.gt_live.specs.Domains.{knowledge}
+use Rattle.gt_live.proofs.Accessing.{mapped-way, one-access, reaches-mapped}
+use Rattle.gt_live.proofs.domain.Domain.load.Goals as goal
+
+pub read_through-requires-clause-reached : goal.read_through-requires-clause-reached
+read_through-requires-clause-reached g c =
+    let m = c.args.monitor.now in let d = c.args.self.now in let may = g.P.Allows.may m.rights in let held = c.unwrap-held.result.now in
+    let there : value_of d.mappings c.args.handle ≡ Some held = sym c.get.ensures.value ∙ ap option_copied c.unwrap-held.ensures in
+    reaches-mapped m.words.layout m.config.domains.items may d.seat held dirs.Read c.frame.result c.args.off c.args.len (c.requires.mine.mapped c.args.handle held there) (λ e. cc) c.frame.ensures
+
+pub read_through-requires-clause-may : goal.read_through-requires-clause-may
+read_through-requires-clause-may g c =
+    let m = c.args.monitor.now in let d = c.args.self.now in let may = g.P.Allows.may m.rights in let held = c.unwrap-held.result.now in
+    let there : value_of d.mappings c.args.handle ≡ Some held = sym c.get.ensures.value ∙ ap option_copied c.unwrap-held.ensures in
+    (c.requires.mine.mapped c.args.handle held there).allowed
+
+pub returns-clause-answered : goal.returns-clause-answered
+returns-clause-answered g c =
+    let m = c.args.monitor.now in let d = c.args.self.now in let may = g.P.Allows.may m.rights in let held = c.unwrap-held.result.now in
+    let there : value_of d.mappings c.args.handle ≡ Some held = sym c.get.ensures.value ∙ ap option_copied c.unwrap-held.ensures in
+    let k = knowledge m.config may d in
+    let way = mapped-way k d.seat.dom (requests.Load c.args.handle c.args.off c.args.len) c.args.handle held (λ (p : Held). steps.Read p.dom (frame_of p.entry) c.args.off c.args.len) c.in_default.ensures.opened.unanswered there refl in
+    one-access m.words.layout _ (steps.Read held.dom (frame_of held.entry) c.args.off c.args.len) IsReadBy c.read_through.result d.seat.view tt way (subst (λ (n : ℕ). IfOk c.read_through.result (λ (r : Reading). IsReadOf r (frame_named held.dom n) c.args.off c.args.len)) c.frame.ensures c.read_through.ensures.read) c.read_through.ensures.refused

@@ -1,0 +1,80 @@
+-- Calls with an access to bytes: the way to it, the access, and the way on to the end.
+use Rattle.std.specs.Prelude.{◌≡◌, ◌⊎◌, ℕ, List, [], ◌∷◌, ◌++◌, Some, Result, Ok, Err}
+use Rattle.gt_types.specs.declared.DomId.{DomId}
+use Rattle.gt_types.specs.declared.denial.Denial.{Denial}
+use Rattle.gt_types.specs.declared.denial.Rule.TheVariants.{N16, N26}
+use Rattle.gt_types.specs.declared.denial.Facts.TheVariants.{None as NoFacts}
+use Rattle.gt_types.specs.Denial.{denial_of}
+use Rattle.gt_words.specs.Rule.{Layout}
+use Rattle.gt_words.specs.declared.view.SeatStep.{SeatStep}
+use Rattle.gt_words.specs.declared.view.View.{View}
+use Rattle.gt_frames.specs.Receipts.{Copying, Reading, Writing}
+use Rattle.gt_frames.specs.declared.places.FrameName.{FrameName}
+use Rattle.gt_frames.specs.declared.places.Spot.{Spot}
+use Rattle.gt_access.specs.Accesses.{IsReadOf, copying_at, writing_at}
+use Rattle.gt_calls.specs.declared.action.Action.TheVariants.{Step as Makes}
+use Rattle.gt_calls.specs.declared.action.Place.{Place}
+use Rattle.gt_calls.specs.declared.action.Seen.{Seen}
+use Rattle.gt_calls.specs.declared.action.Seen.TheVariants.{Nothing}
+use Rattle.gt_calls.specs.declared.action.Step.{Step}
+use Rattle.gt_calls.specs.declared.action.Step.TheVariants.{Read as ReadBytes, Write as WriteBytes, Copy as CopyBytes}
+use Rattle.gt_calls.specs.declared.action.Verdict.TheVariants.{Granted, Refused}
+use Rattle.gt_calls.specs.Path.{Continuation}
+use Rattle.gt_live.specs.Walks.{Called, IsWalk, after, shown}
+
+-- the step is an access to bytes, and none on the words (own)
+abbrev pub IsAccess : Step → Type 0
+IsAccess (ReadBytes dom frame off len) = Unit {0}
+IsAccess (WriteBytes dom frame off len) = Unit {0}
+IsAccess (CopyBytes from to len) = Unit {0}
+IsAccess step = ⊥
+
+-- what follows on this way after these values (own)
+abbrev pub onward : Continuation → List Seen → Continuation
+onward way values vs = way (values ++ vs)
+
+-- A call came to this access: the steps that took its seat's view from v to w are those of its way, one after another, and the access is what comes next (own)
+pub record ComesTo (k : Layout) (way : Continuation) (access : Step) (v w : View) : Type 0 where
+  pub steps : List SeatStep
+  pub view : w ≡ after steps v
+  pub walked : IsWalk k way v steps
+  pub next : way (shown steps) ≡ Some (Makes access)
+  pub is_access : IsAccess access
+
+-- A call with this access was made whole: it came to the access, which shows nothing, and went on from there to its end, at which its way is Ok (own)
+pub record Accessed (k : Layout) (way : Continuation) (access : Step) (v w : View) : Type 0 where
+  pub at : View
+  pub comes : ComesTo k way access v at
+  pub ends : Called k (onward way (shown comes.steps ++ Nothing ∷ [])) Granted at w
+
+-- an access that was not made, for want of memory or since a frame of another name stood in the place of the one wanted (own)
+abbrev pub IsOfAccess : Denial → Type 0
+IsOfAccess denial = (denial ≡ denial_of N26 NoFacts) ⊎ (denial ≡ denial_of N16 NoFacts)
+
+-- A call with an access was answered so. Ok: by its whole way, and what it answers is of the access. A refusal: the way's own; or the access could not be made, and the call went on to its end all the same, which gives its pins back (own)
+abbrev pub AnsweredBy : {R : Type 0} → Layout → Continuation → (Step → R → Type 0) → Result R Denial → View → View → Type 0
+AnsweredBy k way tells (Ok r) v w = (access : Step) × Accessed k way access v w × tells access r
+AnsweredBy k way tells (Err denial) v w = Called k way (Refused denial) v w ⊎ ((access : Step) × Accessed k way access v w × IsOfAccess denial)
+
+-- the frame of this owner with this number (own)
+abbrev pub frame_named : DomId → ℕ → FrameName
+frame_named owner number = record { owner = owner; number = number }
+
+-- the byte at this place (own)
+abbrev pub spot_of : Place → Spot
+spot_of place = record { frame = frame_named place.owner place.frame; off = place.off }
+
+-- these are bytes of just the frame and range that the access reads (own)
+abbrev pub IsReadBy : Step → Reading → Type 0
+IsReadBy (ReadBytes dom frame off len) r = IsReadOf r (frame_named dom frame) off len
+IsReadBy step r = ⊥
+
+-- this writer wrote these bytes to just the frame and range that the access writes (own)
+abbrev pub IsWrittenBy : DomId → List ℕ → Step → Writing → Type 0
+IsWrittenBy writer bytes (WriteBytes dom frame off len) r = r ≡ writing_at (frame_named dom frame) off bytes writer
+IsWrittenBy writer bytes step r = ⊥
+
+-- this writer copied just between the places and so many bytes as the access says (own)
+abbrev pub IsCopiedBy : DomId → Step → Copying → Type 0
+IsCopiedBy writer (CopyBytes from to len) r = r ≡ copying_at (spot_of from) (spot_of to) len writer
+IsCopiedBy writer step r = ⊥
