@@ -2,43 +2,47 @@
 use crate::doing::Doing::{self, Begin, Do, Path, Tick};
 use crate::doing::{OTHER, OWNER, PEER, start_to_copy};
 use crate::runs::{GRANT, GRANT_RO, REVOKE, goes};
+use crate::via::{
+    OWNERS_MAY, OWNERS_MAY_NOT, OWNERS_MAY_NOT_TO, REVOKED_BEFORE_THE_PIN, REVOKED_BEHIND_A_COPY,
+    VIA_TO_A_VIA, VIA_TO_ANOTHERS_PAGE, VIA_TO_NO_DOMAIN,
+};
 use gt_core::{CopyArgs, End, Request};
 use gt_entry::Entry;
 use gt_types::{DomId, GrantRef};
 use std::test::Fail;
 
 // The caller's own domain, in a request.
-const SELF: DomId = DomId(0x7FF0);
+pub const SELF: DomId = DomId(0x7FF0);
 
 // Which ends of a copy are named by a grant reference.
-const NONE: u16 = 0;
+pub const NONE: u16 = 0;
 
-const SOURCE: u16 = 1;
+pub const SOURCE: u16 = 1;
 
-const DEST: u16 = 2;
+pub const DEST: u16 = 2;
 
-const BOTH: u16 = 3;
+pub const BOTH: u16 = 3;
 
 // The ends of most copies: the owner's entry 0, the peer's entry 0, and frames of the caller's own.
-const OWNER_0: End = End {
+pub const OWNER_0: End = End {
     ptr: 0,
     domid: OWNER,
     offset: 0,
 };
 
-const PEER_0: End = End {
+pub const PEER_0: End = End {
     ptr: 0,
     domid: PEER,
     offset: 0,
 };
 
-const FRAME_0: End = End {
+pub const FRAME_0: End = End {
     ptr: 0,
     domid: SELF,
     offset: 0,
 };
 
-const FRAME_3: End = End {
+pub const FRAME_3: End = End {
     ptr: 3,
     domid: SELF,
     offset: 0,
@@ -359,451 +363,6 @@ const OVERLAP: [(Doing, &str); 3] = [
             },
         ),
         "ok [1, 1, 2, 3, 4, 0]",
-    ),
-];
-
-// A transitive entry is pinned until its copy has given its pins back.
-const REVOKED_BEHIND_A_COPY: [(Doing, &str); 12] = [
-    (
-        Do(
-            OWNER,
-            Request::Grant {
-                gref: GrantRef(4),
-                entry: Entry::Page {
-                    dom: PEER,
-                    ro: false,
-                    frame: 6,
-                },
-            },
-        ),
-        "ok",
-    ),
-    (
-        Do(
-            OWNER,
-            Request::Poke {
-                frame: 6,
-                off: 0,
-                bytes: &[0x5a],
-            },
-        ),
-        "ok",
-    ),
-    (
-        Do(
-            PEER,
-            Request::Grant {
-                gref: GrantRef(0),
-                entry: Entry::Via {
-                    dom: OTHER,
-                    ro: true,
-                    dom2: OWNER,
-                    gref: GrantRef(4),
-                },
-            },
-        ),
-        "ok",
-    ),
-    (
-        Begin(
-            OTHER,
-            Request::Copy(CopyArgs {
-                source: PEER_0,
-                dest: FRAME_0,
-                len: 1,
-                flags: SOURCE,
-            }),
-        ),
-        "open",
-    ),
-    (Tick(OTHER, 4), "open"),
-    (Do(PEER, REVOKE), "N19 100030000017"),
-    (Tick(OTHER, 5), "open"),
-    (Do(PEER, REVOKE), "N19 100030000017"),
-    (Tick(OTHER, 2), "ok"),
-    (
-        Do(
-            OTHER,
-            Request::Peek {
-                frame: 0,
-                off: 0,
-                len: 1,
-            },
-        ),
-        "ok [90]",
-    ),
-    (Do(PEER, REVOKE), "ok"),
-    (
-        Do(
-            OTHER,
-            Request::Copy(CopyArgs {
-                source: PEER_0,
-                dest: FRAME_0,
-                len: 1,
-                flags: SOURCE,
-            }),
-        ),
-        "N10 100000000000",
-    ),
-];
-
-// A transitive entry is revoked between the look and the pin of a copy.
-const REVOKED_BEFORE_THE_PIN: [(Doing, &str); 9] = [
-    (
-        Do(
-            OWNER,
-            Request::Grant {
-                gref: GrantRef(4),
-                entry: Entry::Page {
-                    dom: PEER,
-                    ro: false,
-                    frame: 6,
-                },
-            },
-        ),
-        "ok",
-    ),
-    (
-        Do(
-            OWNER,
-            Request::Poke {
-                frame: 6,
-                off: 0,
-                bytes: &[0x5a],
-            },
-        ),
-        "ok",
-    ),
-    (
-        Do(
-            PEER,
-            Request::Grant {
-                gref: GrantRef(0),
-                entry: Entry::Via {
-                    dom: OTHER,
-                    ro: true,
-                    dom2: OWNER,
-                    gref: GrantRef(4),
-                },
-            },
-        ),
-        "ok",
-    ),
-    (
-        Begin(
-            OTHER,
-            Request::Copy(CopyArgs {
-                source: PEER_0,
-                dest: FRAME_0,
-                len: 1,
-                flags: SOURCE,
-            }),
-        ),
-        "open",
-    ),
-    (Tick(OTHER, 2), "open"),
-    (Do(PEER, REVOKE), "ok"),
-    (Tick(OTHER, 2), "open"),
-    (Tick(OTHER, 1), "N10 100000000000"),
-    (
-        Do(
-            OTHER,
-            Request::Peek {
-                frame: 0,
-                off: 0,
-                len: 1,
-            },
-        ),
-        "ok [0]",
-    ),
-];
-
-// A transitive entry leads to another one.
-const VIA_TO_A_VIA: [(Doing, &str); 5] = [
-    (
-        Do(
-            OWNER,
-            Request::Grant {
-                gref: GrantRef(4),
-                entry: Entry::Via {
-                    dom: PEER,
-                    ro: false,
-                    dom2: OTHER,
-                    gref: GrantRef(0),
-                },
-            },
-        ),
-        "ok",
-    ),
-    (
-        Do(
-            PEER,
-            Request::Grant {
-                gref: GrantRef(0),
-                entry: Entry::Via {
-                    dom: OTHER,
-                    ro: false,
-                    dom2: OWNER,
-                    gref: GrantRef(4),
-                },
-            },
-        ),
-        "ok",
-    ),
-    (
-        Path(
-            OTHER,
-            Request::Copy(CopyArgs {
-                source: PEER_0,
-                dest: FRAME_0,
-                len: 1,
-                flags: SOURCE,
-            }),
-        ),
-        "H 2 6\n\
-C 2 0 100030000003\n\
-B 2 0 First 40001\n\
-P 2 0 Read taken\n\
-H 1 6\n\
-C 1 4 100020000003\n\
-U 2 0 Read -\n\
-N15 100020000003",
-    ),
-    (Do(PEER, REVOKE), "ok"),
-    (Do(OWNER, Request::Revoke { gref: GrantRef(4) }), "ok"),
-];
-
-// The owner behind a transitive entry may not be copied from.
-const OWNERS_MAY_NOT: [(Doing, &str); 4] = [
-    (
-        Do(
-            OWNER,
-            Request::Grant {
-                gref: GrantRef(4),
-                entry: Entry::Page {
-                    dom: PEER,
-                    ro: true,
-                    frame: 6,
-                },
-            },
-        ),
-        "ok",
-    ),
-    (
-        Do(
-            PEER,
-            Request::Grant {
-                gref: GrantRef(0),
-                entry: Entry::Via {
-                    dom: OTHER,
-                    ro: true,
-                    dom2: OWNER,
-                    gref: GrantRef(4),
-                },
-            },
-        ),
-        "ok",
-    ),
-    (
-        Do(
-            OTHER,
-            Request::Copy(CopyArgs {
-                source: PEER_0,
-                dest: FRAME_0,
-                len: 1,
-                flags: SOURCE,
-            }),
-        ),
-        "N5 source=1 target=3 Perms(32)",
-    ),
-    (Do(PEER, REVOKE), "ok"),
-];
-
-// It may.
-const OWNERS_MAY: [(Doing, &str); 4] = [
-    (
-        Do(
-            OWNER,
-            Request::Grant {
-                gref: GrantRef(4),
-                entry: Entry::Page {
-                    dom: PEER,
-                    ro: true,
-                    frame: 6,
-                },
-            },
-        ),
-        "ok",
-    ),
-    (
-        Do(
-            PEER,
-            Request::Grant {
-                gref: GrantRef(0),
-                entry: Entry::Via {
-                    dom: OTHER,
-                    ro: true,
-                    dom2: OWNER,
-                    gref: GrantRef(4),
-                },
-            },
-        ),
-        "ok",
-    ),
-    (
-        Path(
-            OTHER,
-            Request::Copy(CopyArgs {
-                source: PEER_0,
-                dest: FRAME_0,
-                len: 1,
-                flags: SOURCE,
-            }),
-        ),
-        "H 2 6\n\
-C 2 0 100030000007\n\
-B 2 0 First 40001\n\
-P 2 0 Read taken\n\
-H 1 6\n\
-C 1 4 100020000005\n\
-B 1 4 First 6\n\
-P 1 4 Read taken\n\
-A 1 6 0 to 3 0 0 len 1 -\n\
-U 1 4 Read -\n\
-U 2 0 Read -\n\
-ok",
-    ),
-    (Do(PEER, REVOKE), "ok"),
-];
-
-// The owner behind a transitive entry may not be copied to.
-const OWNERS_MAY_NOT_TO: [(Doing, &str); 3] = [
-    (
-        Do(
-            OWNER,
-            Request::Grant {
-                gref: GrantRef(4),
-                entry: Entry::Page {
-                    dom: PEER,
-                    ro: false,
-                    frame: 6,
-                },
-            },
-        ),
-        "ok",
-    ),
-    (
-        Do(
-            PEER,
-            Request::Grant {
-                gref: GrantRef(0),
-                entry: Entry::Via {
-                    dom: OTHER,
-                    ro: false,
-                    dom2: OWNER,
-                    gref: GrantRef(4),
-                },
-            },
-        ),
-        "ok",
-    ),
-    (
-        Do(
-            OTHER,
-            Request::Copy(CopyArgs {
-                source: FRAME_0,
-                dest: PEER_0,
-                len: 1,
-                flags: DEST,
-            }),
-        ),
-        "N5 source=3 target=1 Perms(32)",
-    ),
-];
-
-// A transitive entry leads to a domain that there is not.
-const VIA_TO_NO_DOMAIN: [(Doing, &str); 3] = [
-    (
-        Do(
-            PEER,
-            Request::Grant {
-                gref: GrantRef(1),
-                entry: Entry::Via {
-                    dom: OTHER,
-                    ro: true,
-                    dom2: DomId(9),
-                    gref: GrantRef(0),
-                },
-            },
-        ),
-        "ok",
-    ),
-    (
-        Path(
-            OTHER,
-            Request::Copy(CopyArgs {
-                source: End {
-                    ptr: 1,
-                    domid: PEER,
-                    offset: 0,
-                },
-                dest: FRAME_0,
-                len: 1,
-                flags: SOURCE,
-            }),
-        ),
-        "H 2 6\n\
-C 2 1 100030000007\n\
-B 2 1 First 9\n\
-P 2 1 Read taken\n\
-U 2 1 Read -\n\
-N1",
-    ),
-    (Do(PEER, Request::Revoke { gref: GrantRef(1) }), "ok"),
-];
-
-// Behind a transitive entry the page must be for the owner of that entry.
-const VIA_TO_ANOTHERS_PAGE: [(Doing, &str); 3] = [
-    (
-        Do(
-            OWNER,
-            Request::Grant {
-                gref: GrantRef(4),
-                entry: Entry::Page {
-                    dom: OTHER,
-                    ro: true,
-                    frame: 6,
-                },
-            },
-        ),
-        "ok",
-    ),
-    (
-        Do(
-            PEER,
-            Request::Grant {
-                gref: GrantRef(0),
-                entry: Entry::Via {
-                    dom: OTHER,
-                    ro: true,
-                    dom2: OWNER,
-                    gref: GrantRef(4),
-                },
-            },
-        ),
-        "ok",
-    ),
-    (
-        Do(
-            OTHER,
-            Request::Copy(CopyArgs {
-                source: PEER_0,
-                dest: FRAME_0,
-                len: 1,
-                flags: SOURCE,
-            }),
-        ),
-        "N11 100030000005",
     ),
 ];
 

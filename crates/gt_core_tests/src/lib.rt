@@ -5,6 +5,8 @@
 #![tactic(auto)]
 
 #[cfg(test)]
+mod accesses;
+#[cfg(test)]
 mod copies;
 #[cfg(test)]
 mod doing;
@@ -14,3 +16,7 @@ mod memory;
 mod pins;
 #[cfg(test)]
 mod runs;
+#[cfg(test)]
+mod tables;
+#[cfg(test)]
+mod via;

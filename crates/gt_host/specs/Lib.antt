@@ -1,3 +1,4 @@
+pub mod Copying
 pub mod Faults
 pub mod Labels
 pub mod Naming

@@ -34,6 +34,7 @@ use Rattle.gt_core.specs.Legal.{history_after}
 use Rattle.gt_core.specs.Shown.{shown_at}
 use Rattle.gt_host.specs.declared.outcome.Outcome.{Outcome}
 use Rattle.gt_host.specs.declared.outcome.Outcome.TheVariants.{Answered, Busy}
+use Rattle.gt_host.specs.Copying.{copy_asked}
 use Rattle.gt_host.specs.Printing.{answer_line, busy_line, idle_line, open_line}
 use Rattle.gt_host.specs.Showing.{show_line}
 
@@ -85,6 +86,7 @@ access_text (accesses.Load label off len) = None
 access_text (accesses.Store label off hex) = Some hex
 access_text (accesses.Peek frame off len) = None
 access_text (accesses.Poke frame off hex) = Some hex
+access_text (accesses.Copy source dest len) = None
 
 -- the hexadecimal text of a call (own)
 abbrev pub text_said : Call → Option (List ℕ)
@@ -120,6 +122,7 @@ access_request handle bytes (accesses.Load label off len) = requests.Load (handl
 access_request handle bytes (accesses.Store label off hex) = requests.Store (handle label) off bytes
 access_request handle bytes (accesses.Peek frame off len) = requests.Peek frame off len
 access_request handle bytes (accesses.Poke frame off hex) = requests.Poke frame off bytes
+access_request handle bytes (accesses.Copy source dest len) = requests.Copy (copy_asked source dest len)
 
 -- what a call of a script asks of the core, where its labels stand for these handles and these are its bytes (own)
 abbrev pub request_of : List Named → DomId → Bor (List ℕ) → Call → Request

@@ -16,6 +16,7 @@
 #![tactic(auto)]
 
 mod answers;
+mod copying;
 mod fault;
 mod kept;
 mod labels;

@@ -12,6 +12,7 @@ ghost use Rattle.gt_host.specs.Ticking.{IsReady, Calls, TicksTo, Leads};
 ghost use Rattle.gt_host.specs.declared.fault.Fault.TheVariants as faults;
 
 use crate::answers::{push_answer_line, push_busy_line, push_idle_line};
+use crate::copying::copy_asked;
 use crate::fault::Fault;
 use crate::kept::Kept;
 use crate::labels::Labels;
@@ -88,7 +89,10 @@ fn access_text<'b, 'a>(call: &'b AccessCall<'a>) -> Option<&'b Text<'a>>
 {
     match call {
         AccessCall::Store { hex, .. } | AccessCall::Poke { hex, .. } => Some(hex),
-        AccessCall::Unmap { .. } | AccessCall::Load { .. } | AccessCall::Peek { .. } => None,
+        AccessCall::Unmap { .. }
+        | AccessCall::Load { .. }
+        | AccessCall::Peek { .. }
+        | AccessCall::Copy { .. } => None,
     }
 }
 
@@ -168,6 +172,7 @@ fn access_request<'a, 'c>(
             off: *off,
             bytes,
         },
+        AccessCall::Copy { source, dest, len } => Request::Copy(copy_asked(*source, *dest, *len)),
     }
 }
 

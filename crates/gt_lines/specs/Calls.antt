@@ -8,6 +8,8 @@ use Rattle.gt_lines.specs.declared.calls.Grant.{Grant}
 use Rattle.gt_lines.specs.declared.calls.Grant.TheVariants as grants
 use Rattle.gt_lines.specs.declared.calls.TableCall.{TableCall}
 use Rattle.gt_lines.specs.declared.calls.TableCall.TheVariants as tables
+use Rattle.gt_lines.specs.declared.calls.CopyEnd.{CopyEnd}
+use Rattle.gt_lines.specs.declared.calls.CopyEnd.TheVariants as ends
 use Rattle.gt_lines.specs.declared.calls.AccessCall.{AccessCall}
 use Rattle.gt_lines.specs.declared.calls.AccessCall.TheVariants as accesses
 use Rattle.gt_lines.specs.declared.calls.Call.{Call}
@@ -120,6 +122,27 @@ poke_of (frame ∷ off ∷ digits ∷ []) = do
   Some (accesses.Poke f o h)
 poke_of _ = None
 
+-- an end of a copy: `gref` DOM REF OFF, or `frame` DOM FRAME OFF (own)
+unfoldable pub end_of : List ℕ → List ℕ → List ℕ → List ℕ → Option CopyEnd
+end_of kind dom place off = if bytes_eq kind (codes "gref") then (do
+  d ← domain_word dom
+  r ← reference_word place
+  o ← u16_word off
+  Some (ends.Granted d r o)) else (if bytes_eq kind (codes "frame") then (do
+    d ← domain_word dom
+    f ← u64_word place
+    o ← u16_word off
+    Some (ends.Frame d f o)) else None)
+
+-- what stands after `copy`: END END LEN, the source first (own)
+unfoldable pub copy_of : List (List ℕ) → Option AccessCall
+copy_of (from_kind ∷ from_dom ∷ from ∷ from_off ∷ to_kind ∷ to_dom ∷ to ∷ to_off ∷ len ∷ []) = do
+  s ← end_of from_kind from_dom from from_off
+  d ← end_of to_kind to_dom to to_off
+  n ← u16_word len
+  Some (accesses.Copy s d n)
+copy_of _ = None
+
 -- what stands after `revoke`: REF (own)
 unfoldable pub revoke_of : List (List ℕ) → Option TableCall
 revoke_of (gref ∷ []) = do
@@ -187,11 +210,13 @@ access_of word args = if bytes_eq word (codes "unmap") then unmap_of args
     else (if bytes_eq word (codes "load") then load_of args
     else (if bytes_eq word (codes "store") then store_of args
     else (if bytes_eq word (codes "peek") then peek_of args
-    else (if bytes_eq word (codes "poke") then poke_of args else None))))
+    else (if bytes_eq word (codes "poke") then poke_of args
+    else (if bytes_eq word (codes "copy") then copy_of args else None)))))
 
 -- the word of a call that ends a mapping or reaches bytes (own)
 abbrev pub is_access_word : List ℕ → Bool
-is_access_word word = (((bytes_eq word (codes "unmap") || bytes_eq word (codes "load")) || bytes_eq word (codes "store")) || bytes_eq word (codes "peek")) || bytes_eq word (codes "poke")
+is_access_word word = ((((bytes_eq word (codes "unmap") || bytes_eq word (codes "load")) || bytes_eq word (codes "store"))
+    || bytes_eq word (codes "peek")) || bytes_eq word (codes "poke")) || bytes_eq word (codes "copy")
 
 -- a call word and its arguments (own)
 unfoldable pub call_of : List (List ℕ) → Option Call

@@ -1,6 +1,6 @@
 //! The calls that a script can ask for.
 ghost use Rattle.std.specs.Prelude.{◌≡◌, map};
-ghost use Rattle.gt_lines.specs.Calls.{page_of, sub_of, via_of, granted, grant_of, map_of, unmap_of, load_of, store_of, peek_of, poke_of, bytes_of, revoke_of, demote_of, promote_of, version_of, setup_of, size_of, getversion_of, table_of, access_of, is_access_word, call_of, tick_of, show_of, action_of};
+ghost use Rattle.gt_lines.specs.Calls.{page_of, sub_of, via_of, granted, grant_of, map_of, unmap_of, load_of, store_of, peek_of, poke_of, end_of, copy_of, bytes_of, revoke_of, demote_of, promote_of, version_of, setup_of, size_of, getversion_of, table_of, access_of, is_access_word, call_of, tick_of, show_of, action_of};
 
 use crate::fields::{
     domain, flags, is, label, mode, reference, tick_count, u16_of, u32_of, u64_of,
@@ -58,6 +58,23 @@ pub enum TableCall<'a> {
     GetVersion { dom: DomId },
 }
 
+/// An end of a copy: bytes from `off` on.
+#[derive(Clone, Copy, Debug, PartialEq, Eq)]
+pub enum CopyEnd {
+    /// `gref DOM REF OFF`: of what the entry `gref` of the domain's table grants.
+    Granted {
+        dom: DomId,
+        gref: GrantRef,
+        off: u16,
+    },
+    /// `frame DOM FRAME OFF`: of a frame of the domain's own.
+    Frame {
+        dom: DomId,
+        frame: u64,
+        off: u16,
+    },
+}
+
 /// A call that ends a mapping or reaches bytes. A label stands for the handle of the last map of that label.
 #[derive(Debug, Drop)]
 pub enum AccessCall<'a> {
@@ -88,6 +105,12 @@ pub enum AccessCall<'a> {
         frame: u64,
         off: u16,
         hex: Text<'a>,
+    },
+    /// `copy END END LEN`: `len` bytes from the source, which stands first, to the destination.
+    Copy {
+        source: CopyEnd,
+        dest: CopyEnd,
+        len: u16,
     },
 }
 
@@ -287,6 +310,53 @@ fn read_poke<'a>(args: &[&'a [u8]]) -> Option<AccessCall<'a>>
     }
 }
 
+#[tactic(auto, unfolding(crate::specs::Calls::end_of))]
+fn read_end(kind: &[u8], dom: &[u8], place: &[u8], off: &[u8]) -> Option<CopyEnd>
+    ensures { result ≡ end_of kind.now dom.now place.now off.now }
+{
+    if is(kind, "gref") {
+        Some(CopyEnd::Granted {
+            dom: domain(dom)?,
+            gref: reference(place)?,
+            off: u16_of(off)?,
+        })
+    } else if is(kind, "frame") {
+        Some(CopyEnd::Frame {
+            dom: domain(dom)?,
+            frame: u64_of(place)?,
+            off: u16_of(off)?,
+        })
+    } else {
+        None
+    }
+}
+
+#[tactic(auto, unfolding(crate::specs::Calls::copy_of))]
+fn read_copy<'a>(args: &[&'a [u8]]) -> Option<AccessCall<'a>>
+    ensures { result ≡ copy_of (map (λ word. word.now) args.now) }
+{
+    match args {
+        [
+            from_kind,
+            from_dom,
+            from,
+            from_off,
+            to_kind,
+            to_dom,
+            to,
+            to_off,
+            len,
+        ] => {
+            Some(AccessCall::Copy {
+                source: read_end(from_kind, from_dom, from, from_off)?,
+                dest: read_end(to_kind, to_dom, to, to_off)?,
+                len: u16_of(len)?,
+            })
+        }
+        _ => None,
+    }
+}
+
 #[tactic(auto, unfolding(crate::specs::Calls::revoke_of))]
 fn read_revoke<'a>(args: &[&'a [u8]]) -> Option<TableCall<'a>>
     ensures { result ≡ revoke_of (map (λ word. word.now) args.now) }
@@ -408,6 +478,8 @@ fn read_access_call<'a>(word: &[u8], args: &[&'a [u8]]) -> Option<AccessCall<'a>
         read_peek(args)
     } else if is(word, "poke") {
         read_poke(args)
+    } else if is(word, "copy") {
+        read_copy(args)
     } else {
         None
     }
@@ -422,6 +494,7 @@ fn is_access_word(word: &[u8]) -> bool
         || is(word, "store")
         || is(word, "peek")
         || is(word, "poke")
+        || is(word, "copy")
 }
 
 #[tactic(auto, unfolding(crate::specs::Calls::call_of))]

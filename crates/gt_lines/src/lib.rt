@@ -19,7 +19,7 @@ mod numbers;
 mod texts;
 mod words;
 
-pub use calls::{AccessCall, Action, Call, Grant, TableCall};
+pub use calls::{AccessCall, Action, Call, CopyEnd, Grant, TableCall};
 pub use fields::is;
 pub use hexadecimal::hex_bytes;
 pub use laws::every_hex_text_says_its_bytes;

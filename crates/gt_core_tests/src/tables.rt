@@ -1,0 +1,357 @@
+//! Tables: versions, sizes, entries by their bytes, and the steps on headers and of grants.
+use crate::doing::Doing::{self, Begin, Do, Show, Steps, Tick};
+use crate::doing::{OTHER, OWNER, PEER, READ_ONLY};
+use crate::runs::{GRANT, REVOKE};
+use gt_core::Request;
+use gt_entry::Entry;
+use gt_types::{DomId, GrantRef};
+
+// The version changes between the header and the control word that a map looks at.
+pub const VERSION_IN_A_MAP: [(Doing, &str); 5] = [
+    (
+        Begin(
+            PEER,
+            Request::Map {
+                dom: OWNER,
+                gref: GrantRef(300),
+                flags: READ_ONLY,
+            },
+        ),
+        "open",
+    ),
+    (Tick(PEER, 1), "open"),
+    (Do(OWNER, Request::SetVersion { version: 2 }), "ok"),
+    (Tick(PEER, 1), "N10 0"),
+    (
+        Do(
+            PEER,
+            Request::Map {
+                dom: OWNER,
+                gref: GrantRef(300),
+                flags: READ_ONLY,
+            },
+        ),
+        "N9 6",
+    ),
+];
+
+// Versions of a table.
+pub const VERSIONS: [(Doing, &str); 9] = [
+    (
+        Do(
+            OWNER,
+            Request::Grant {
+                gref: GrantRef(0),
+                entry: Entry::Sub {
+                    dom: PEER,
+                    ro: false,
+                    frame: 5,
+                    off: 0,
+                    len: 1,
+                },
+            },
+        ),
+        "N21",
+    ),
+    (Do(OWNER, GRANT), "ok"),
+    (Do(OWNER, GRANT), "N20"),
+    (Do(OWNER, Request::SetVersion { version: 2 }), "N24"),
+    (Do(OWNER, Request::SetVersion { version: 1 }), "ok"),
+    (Do(OWNER, REVOKE), "ok"),
+    (Do(OWNER, Request::SetVersion { version: 2 }), "ok"),
+    (Do(OWNER, Request::SetVersion { version: 3 }), "N2"),
+    (Do(PEER, Request::GetVersion { dom: OWNER }), "ok version=2"),
+];
+
+// Sizes of a table.
+pub const SIZES: [(Doing, &str); 7] = [
+    (
+        Do(
+            PEER,
+            Request::Map {
+                dom: OWNER,
+                gref: GrantRef(256),
+                flags: READ_ONLY,
+            },
+        ),
+        "N9 6",
+    ),
+    (Do(OWNER, Request::SetupTable { frames: 2 }), "ok frames=2"),
+    (
+        Do(PEER, Request::QuerySize { dom: OWNER }),
+        "ok frames=2 max=4",
+    ),
+    (
+        Do(
+            PEER,
+            Request::Map {
+                dom: OWNER,
+                gref: GrantRef(256),
+                flags: READ_ONLY,
+            },
+        ),
+        "N10 0",
+    ),
+    (Do(OWNER, Request::SetupTable { frames: 0 }), "ok frames=2"),
+    (Do(OWNER, Request::SetupTable { frames: 5 }), "N23"),
+    (Do(PEER, Request::QuerySize { dom: DomId(9) }), "N1"),
+];
+
+// Entries by their bytes, of version 1.
+pub const ENTRY_BYTES: [(Doing, &str); 6] = [
+    (
+        Do(
+            OWNER,
+            Request::GrantBytes {
+                gref: GrantRef(0),
+                bytes: &[9, 0, 2, 0, 5, 0, 0, 0],
+            },
+        ),
+        "N25 reading",
+    ),
+    (
+        Do(
+            OWNER,
+            Request::GrantBytes {
+                gref: GrantRef(0),
+                bytes: &[1, 0, 2, 0, 5, 0, 0],
+            },
+        ),
+        "N25 length",
+    ),
+    (
+        Do(
+            OWNER,
+            Request::GrantBytes {
+                gref: GrantRef(0),
+                bytes: &[1, 1, 2, 0, 5, 0, 0, 0],
+            },
+        ),
+        "N25 sub_page",
+    ),
+    (
+        Do(
+            OWNER,
+            Request::GrantBytes {
+                gref: GrantRef(0),
+                bytes: &[3, 0, 2, 0, 5, 0, 0, 0],
+            },
+        ),
+        "N25 type",
+    ),
+    (
+        Do(
+            OWNER,
+            Request::GrantBytes {
+                gref: GrantRef(0),
+                bytes: &[1, 0, 2, 0, 5, 0, 0, 0],
+            },
+        ),
+        "ok",
+    ),
+    (
+        Do(
+            OWNER,
+            Request::GrantBytes {
+                gref: GrantRef(0),
+                bytes: &[1, 0, 2, 0, 5, 0, 0, 0],
+            },
+        ),
+        "N20",
+    ),
+];
+
+// A sub-page by its bytes, of version 2.
+pub const SUB_PAGE_BYTES: [(Doing, &str); 2] = [
+    (
+        Do(
+            OWNER,
+            Request::GrantBytes {
+                gref: GrantRef(0),
+                bytes: &[5, 1, 3, 0, 100, 0, 50, 0, 7, 0, 0, 0, 0, 0, 0, 0],
+            },
+        ),
+        "ok",
+    ),
+    (
+        Show(0),
+        "Sub { dom: DomId(3), ro: true, frame: 7, off: 100, len: 50 } gen=1 reads=0 writes=0 status=0",
+    ),
+];
+
+// Sub-pages and transitive entries are not mapped.
+pub const NOT_MAPPED: [(Doing, &str); 4] = [
+    (
+        Do(
+            OWNER,
+            Request::Grant {
+                gref: GrantRef(0),
+                entry: Entry::Sub {
+                    dom: PEER,
+                    ro: false,
+                    frame: 5,
+                    off: 0,
+                    len: 4096,
+                },
+            },
+        ),
+        "ok",
+    ),
+    (
+        Do(
+            OWNER,
+            Request::Grant {
+                gref: GrantRef(1),
+                entry: Entry::Via {
+                    dom: PEER,
+                    ro: false,
+                    dom2: OTHER,
+                    gref: GrantRef(7),
+                },
+            },
+        ),
+        "ok",
+    ),
+    (
+        Do(
+            PEER,
+            Request::Map {
+                dom: OWNER,
+                gref: GrantRef(0),
+                flags: READ_ONLY,
+            },
+        ),
+        "N12 100020000009",
+    ),
+    (
+        Do(
+            PEER,
+            Request::Map {
+                dom: OWNER,
+                gref: GrantRef(1),
+                flags: READ_ONLY,
+            },
+        ),
+        "N12 100020000003",
+    ),
+];
+
+// A map looks at the older header, and then meets a sub-page.
+pub const SUB_PAGE_BEHIND_AN_OLDER_HEADER: [(Doing, &str); 5] = [
+    (
+        Begin(
+            PEER,
+            Request::Map {
+                dom: OWNER,
+                gref: GrantRef(0),
+                flags: READ_ONLY,
+            },
+        ),
+        "open",
+    ),
+    (Tick(PEER, 1), "open"),
+    (Do(OWNER, Request::SetVersion { version: 2 }), "ok"),
+    (
+        Do(
+            OWNER,
+            Request::Grant {
+                gref: GrantRef(0),
+                entry: Entry::Sub {
+                    dom: PEER,
+                    ro: false,
+                    frame: 5,
+                    off: 0,
+                    len: 4096,
+                },
+            },
+        ),
+        "ok",
+    ),
+    (Tick(PEER, 1), "N12 100020000009"),
+];
+
+// Calls on tables: one step each, and none where they change nothing.
+pub const STEPS_ON_HEADERS: [(Doing, &str); 10] = [
+    (
+        Steps(PEER, Request::QuerySize { dom: OWNER }),
+        "LookHeader { dom: DomId(1) } 5\nok frames=1 max=4",
+    ),
+    (
+        Steps(OWNER, Request::SetVersion { version: 2 }),
+        "StoreHeader { version: 2, frames: 1 } -\nok",
+    ),
+    (
+        Steps(PEER, Request::GetVersion { dom: OWNER }),
+        "LookHeader { dom: DomId(1) } 6\nok version=2",
+    ),
+    (
+        Steps(OWNER, Request::SetupTable { frames: 3 }),
+        "StoreHeader { version: 2, frames: 3 } -\nok frames=3",
+    ),
+    (
+        Steps(PEER, Request::QuerySize { dom: OWNER }),
+        "LookHeader { dom: DomId(1) } e\nok frames=3 max=4",
+    ),
+    (
+        Steps(OWNER, Request::SetVersion { version: 1 }),
+        "StoreHeader { version: 1, frames: 3 } -\nok",
+    ),
+    (
+        Steps(PEER, Request::GetVersion { dom: OWNER }),
+        "LookHeader { dom: DomId(1) } d\nok version=1",
+    ),
+    (Steps(OWNER, Request::SetVersion { version: 1 }), "ok"),
+    (
+        Steps(OWNER, Request::SetupTable { frames: 3 }),
+        "ok frames=3",
+    ),
+    (
+        Steps(OWNER, Request::SetupTable { frames: 0 }),
+        "ok frames=3",
+    ),
+];
+
+// A grant stores the body words, and then publishes.
+pub const STEPS_OF_GRANTS: [(Doing, &str); 3] = [
+    (
+        Steps(
+            OWNER,
+            Request::Grant {
+                gref: GrantRef(0),
+                entry: Entry::Sub {
+                    dom: PEER,
+                    ro: false,
+                    frame: 5,
+                    off: 100,
+                    len: 50,
+                },
+            },
+        ),
+        "StoreBody { gref: GrantRef(0), half: First, word: 5 } -\nStoreBody { gref: GrantRef(0), half: Second, word: 3276900 } -\nExchange { gref: GrantRef(0), looked: 0, change: Publish(Sub { dom: DomId(2), ro: false, frame: 5, off: 100, len: 50 }) } taken\nok",
+    ),
+    (
+        Steps(
+            OWNER,
+            Request::Grant {
+                gref: GrantRef(1),
+                entry: Entry::Via {
+                    dom: PEER,
+                    ro: false,
+                    dom2: OTHER,
+                    gref: GrantRef(7),
+                },
+            },
+        ),
+        "StoreBody { gref: GrantRef(1), half: First, word: 458755 } -\nExchange { gref: GrantRef(1), looked: 0, change: Publish(Via { dom: DomId(2), ro: false, dom2: DomId(3), gref: GrantRef(7) }) } taken\nok",
+    ),
+    (
+        Steps(
+            OWNER,
+            Request::GrantBytes {
+                gref: GrantRef(2),
+                bytes: &[1, 1, 2, 0, 100, 0, 50, 0, 5, 0, 0, 0, 0, 0, 0, 0],
+            },
+        ),
+        "StoreBody { gref: GrantRef(2), half: First, word: 5 } -\nStoreBody { gref: GrantRef(2), half: Second, word: 3276900 } -\nExchange { gref: GrantRef(2), looked: 0, change: Publish(Sub { dom: DomId(2), ro: false, frame: 5, off: 100, len: 50 }) } taken\nok",
+    ),
+];
