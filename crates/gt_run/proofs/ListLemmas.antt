@@ -59,8 +59,8 @@ pub do_more : {V E : Type 0} (items : V → List ℕ) (whole r : Bool) (names : 
 unfolding PrintsDeed
 do_more items true true names dom list i l (Ok v) old new call within is own does a g more kept =
     subst (λ (t : List ℕ). Prints names dom (take (i + 1) list) t) (sym (more refl).2)
-        (prints_more names dom list i l old (items v) within is g
-            (own_prints names dom l (items v) own (subst (λ (d : Deed). PrintsDeed names dom l.line d (items v)) (sym does) a)))
+    (prints_more names dom list i l old (items v) within is g
+    (own_prints names dom l (items v) own (subst (λ (d : Deed). PrintsDeed names dom l.line d (items v)) (sym does) a)))
 do_more items true true names dom list i l (Err e) old new call within is own does a g more kept = let m = more refl in cc
 do_more items false true names dom list i l line old new call within is own does a g more kept = let m = more refl in cc
 do_more items true false names dom list i l line old new call within is own does a g more kept =

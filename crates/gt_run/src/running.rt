@@ -1,6 +1,7 @@
 //! A domain beside the monitor that it came with, so that it can move into a thread.
 use gt_audit::Trail;
-use gt_core::{Answer, Handle, Request};
+use gt_core::{Answer, Bytes, Handle, Request};
+use gt_frames::{Read, Written};
 use gt_live::{Domain, Left, Monitor};
 use gt_types::{Allows, Denial};
 use std::marker::Model;
@@ -47,6 +48,22 @@ fn mapped(answer: Result<Handle, Denial>) -> Answer {
     }
 }
 
+fn read(answer: Result<Read, Denial>) -> Answer {
+    match answer {
+        Ok(receipt) => Answer::Bytes(Bytes {
+            bytes: receipt.into_bytes(),
+        }),
+        Err(denial) => Answer::Denied(denial),
+    }
+}
+
+fn written(answer: Result<Written<'_>, Denial>) -> Answer {
+    match answer {
+        Ok(_) => Answer::Done,
+        Err(denial) => Answer::Denied(denial),
+    }
+}
+
 impl<'m, P: Allows> Running<'m, P> {
     ghost use Rattle.gt_live.specs.Domains.{IsOf};
 
@@ -69,7 +86,7 @@ impl<'m, P: Allows> Running<'m, P> {
     }
 
     /// Makes the call that is asked, and answers as it is answered.
-    pub fn ask<R: Wait>(&mut self, _rt: &R, request: Request<'_>) -> Answer {
+    pub fn ask<R: Wait>(&mut self, rt: &R, request: Request<'_>) -> Answer {
         match request {
             Request::Grant { gref, entry } => done(self.domain.grant(self.monitor, gref, &entry)),
             Request::GrantBytes { gref, bytes } => {
@@ -97,11 +114,19 @@ impl<'m, P: Allows> Running<'m, P> {
                 Ok(version) => Answer::Version(version),
                 Err(denial) => Answer::Denied(denial),
             },
-            Request::Load { .. }
-            | Request::Store { .. }
-            | Request::Peek { .. }
-            | Request::Poke { .. }
-            | Request::Copy(_) => Answer::Denied(gt_types::Denial::new(
+            Request::Load { handle, off, len } => {
+                read(self.domain.load(rt, self.monitor, handle, off, len))
+            }
+            Request::Store { handle, off, bytes } => {
+                written(self.domain.store(rt, self.monitor, handle, off, bytes))
+            }
+            Request::Peek { frame, off, len } => {
+                read(self.domain.peek(rt, self.monitor, frame, off, len))
+            }
+            Request::Poke { frame, off, bytes } => {
+                written(self.domain.poke(rt, self.monitor, frame, off, bytes))
+            }
+            Request::Copy(_) => Answer::Denied(gt_types::Denial::new(
                 gt_types::Rule::N26,
                 gt_types::Facts::None,
             )),

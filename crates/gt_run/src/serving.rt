@@ -111,8 +111,16 @@ fn serve<'a, R: Wait, P: Allows, G: Gate>(
         if task.dom.0 == part.dom.0 {
             match &task.deed {
                 Deed::Do(call) => {
-                    let printed =
-                        call_line(rt, alloc, domain, &mut labels, teller, part, task.line, call);
+                    let printed = call_line(
+                        rt,
+                        alloc,
+                        domain,
+                        &mut labels,
+                        teller,
+                        part,
+                        task.line,
+                        call,
+                    );
                     whole = has_appended(text, whole, printed);
                 }
                 Deed::Tell(flag) => gate.tell(*flag),

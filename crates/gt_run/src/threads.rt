@@ -255,8 +255,9 @@ pub fn run_each<'a, R: Threads + Wait + Sync, P: Allows + Sync, G: Gate + Sync, 
             ensures same { result.writer.ghost_name ≡ writer.entry.ghost_name }
             ensures text { OnOk result.outcome (WritesAll parts.entry.now (W.contents writer.entry.now) (W.contents result.writer.now)) }
         {
-            let Started { handles, all } =
-                start_each(scope, rt, alloc, domains, parts, log, gate, start);
+            let Started { handles, all } = start_each(
+                scope, rt, alloc, domains, parts, log, gate, start,
+            );
             let _ = start.try_set(all);
             let outcome = write_each(rt, alloc, handles, all, writer);
             Written { writer, outcome }

@@ -1,6 +1,6 @@
 //! Lists of worked runs.
 use gt_lines::{Action, Line, line_words, read_line, text_lines};
-use gt_run::{Deed, ListLine};
+use gt_run::{Deed, Task};
 use gt_types::{Config, DomId, DomainConfig, Perms, Triple, Triples, TypeId};
 use std::alloc::{AllocError, Global};
 
@@ -82,22 +82,17 @@ fn number_of(word: &[u8]) -> Option<u64> {
     }
 }
 
-/// The lists of domains 1 to 3 that a body says, whose first line has this number.
-pub fn lists<'a>(
-    alloc: Global,
-    first: usize,
-    body: &'a str,
-) -> Result<[Vec<ListLine<'a>>; 3], AllocError> {
-    let mut lists = [Vec::new(alloc), Vec::new(alloc), Vec::new(alloc)];
-    let mut number = first;
+/// What the lines of a body, whose first line has this number, have their domains do.
+pub fn tasks<'a>(alloc: Global, first: usize, body: &'a str) -> Result<Vec<Task<'a>>, AllocError> {
+    let mut tasks = Vec::new(alloc);
+    let mut line = first;
     for text in text_lines(alloc, body)? {
         let words = line_words(alloc, text)?;
         if let Some((id, deed)) = deed_of(words.as_slice()) {
-            if let Some(list) = lists.get_mut((id as usize).wrapping_sub(1)) {
-                list.push(ListLine { line: number, deed })?;
-            }
+            let dom = DomId(id as u16);
+            tasks.push(Task { line, dom, deed })?;
         }
-        number = number.wrapping_add(1);
+        line = line.wrapping_add(1);
     }
-    Ok(lists)
+    Ok(tasks)
 }

@@ -1,19 +1,19 @@
 //! Worked rows.
 use crate::gates::{Looking, Meeting, Turns};
-use crate::lists::{config, lists, rights};
+use crate::lists::{config, rights, tasks};
 use gt_audit::SharedLog;
 use gt_lines::Text;
-use gt_run::{Flags, Gate, ListLine, Part, RunFault, run_lists};
+use gt_run::{Flags, Gate, Part, RunFault, Task, run_lists};
 use gt_types::{DomId, Memory};
 use std::alloc::Global;
 use std::sync::Wait;
 use std::test::Fail;
 use std::thread::Threads;
 
-fn part<'s, 'a>(dom: u16, list: &'s [ListLine<'a>], types: &'s [Text<'s>]) -> Part<'s, 'a> {
+fn part<'s, 'a>(dom: u16, tasks: &'s [Task<'a>], types: &'s [Text<'s>]) -> Part<'s, 'a> {
     Part {
         dom: DomId(dom),
-        list,
+        tasks,
         types,
     }
 }
@@ -26,12 +26,12 @@ fn run_body<R: Threads + Wait + Sync, G: Gate + Sync>(
     log: Option<&SharedLog>,
     gate: &G,
 ) -> Result<Vec<u8>, RunFault> {
-    let lists = lists(alloc, 12, body)?;
+    let tasks = tasks(alloc, 12, body)?;
     let types = [Text::new(b"a_t"), Text::new(b"b_t"), Text::new(b"c_t")];
     let parts = [
-        part(1, lists[0].as_slice(), &types),
-        part(2, lists[1].as_slice(), &types),
-        part(3, lists[2].as_slice(), &types),
+        part(1, tasks.as_slice(), &types),
+        part(2, tasks.as_slice(), &types),
+        part(3, tasks.as_slice(), &types),
     ];
     let mut out = Vec::new(alloc);
     run_lists(
@@ -127,5 +127,28 @@ fn records_are_told_before_an_await(rt: HostRuntime) -> Result<(), Fail> {
         "12 1 ok\n16 2 ok\n17 2 ok\naudit 2 map 1 0 2 : ok\naudit 2 unmap 1 0 : ok\n".as_bytes()
     );
     assert_eq!(rt; gate.found(), (false, true));
+    Ok(())
+}
+
+const BYTES: &str = "do 1 grant 0 page 2 rw 5
+tell 1 g
+await 2 g
+do 2 map h 1 0 rw
+do 2 store h 0 77
+do 2 unmap h
+tell 2 d
+await 1 d
+do 1 peek 5 0 1
+do 1 revoke 0
+";
+
+#[test]
+fn bytes_go_through_a_page(rt: HostRuntime) -> Result<(), Fail> {
+    let gate = Flags::new(&rt, rt.alloc())?;
+    let out = run_body(&rt, rt.alloc(), BYTES, None, &gate)?;
+    assert_eq!(rt;
+        out.as_slice(),
+        "12 1 ok\n20 1 ok 77\n21 1 ok\n15 2 ok\n16 2 ok\n17 2 ok\n".as_bytes()
+    );
     Ok(())
 }

@@ -6,9 +6,9 @@ use Rattle.gt_run.proofs.threads.finish_all.Goals as goal
 
 pub finish-requires : goal.finish-requires
 finish-requires g c = record {
-    mine = All-head (IsOf g.P.Allows.may c.args.monitor.now) c.in-Some.domain (into_iter_items c.next.new.self)
-        (subst (All (IsOf g.P.Allows.may c.args.monitor.now)) c.in-Some.ensures.items c.rest.invariant);
-  }
+  mine = All-head (IsOf g.P.Allows.may c.args.monitor.now) c.in-Some.domain (into_iter_items c.next.new.self)
+      (subst (All (IsOf g.P.Allows.may c.args.monitor.now)) c.in-Some.ensures.items c.rest.invariant);
+}
 
 pub rest-preserved : goal.rest-preserved
 rest-preserved g c =
