@@ -1,5 +1,5 @@
 -- What the lines of a list come to, one after the other.
-use Rattle.std.proofs.Common.{◌≡◌, ◌++◌, ℕ, ◌+◌, ◌<◌, Bool, true, false, List, [], ◌∷◌, take, length, get_or, Option, Some, Result, Ok, Err, IfOk, IsTrue, refl, sym, subst, ap, ◌∙◌, add-one, inl, inr}
+use Rattle.std.proofs.Common.{◌≡◌, ◌++◌, ◌==◌, ℕ, ◌+◌, ◌<◌, Bool, true, false, List, [], ◌∷◌, take, length, get_or, Option, Some, Result, Ok, Err, IfOk, IsTrue, refl, sym, subst, ap, ◌∙◌, add-one, inl, inr}
 use Rattle.std.specs.Prelude.{IsOk}
 use Rattle.std.proofs.Math.Seq.{take-suc}
 use Rattle.std.proofs.lemmas.List.{append-nil}
@@ -77,7 +77,7 @@ gate_stops items true true names dom list i l (Ok v) old new flag within is own 
     inr (record {
       number = i;
       at = l;
-      own = eqb-true l.dom.0 dom.0 own;
+      own = own;
       before = old;
       stands = slice_get_read list (length list) i l refl within is;
       awaits = subst IsAwait (sym awaits) tt;

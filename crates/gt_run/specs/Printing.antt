@@ -53,11 +53,11 @@ IsAwait (Await flag) = Unit {0}
 pub record Stops (names : List (List ℕ)) (dom : DomId) (tasks : List Task) (text : List ℕ) : Type 0 where
   pub number : ℕ
   pub at : Task
-  pub own : at.dom.0 ≡ dom.0
+  pub own : (at.dom.0 == dom.0) ≡ true
   pub before : List ℕ
-  pub stands : slice_get list number ≡ Some at
+  pub stands : slice_get tasks number ≡ Some at
   pub awaits : IsAwait at.deed
-  pub printed : Prints names dom (take number list) before
+  pub printed : Prints names dom (take number tasks) before
   pub text_is : text ≡ before ++ gate_line at.line dom
 
 -- what a list prints: all its lines, or those up to where its gate answers false (own)
@@ -92,7 +92,7 @@ WritesParts parts old new = (text : List ℕ) × PrintsParts parts text × Appen
 -- the lines of all domains went out, and behind them their audit lines and how many records were lost (own)
 abbrev pub WritesAll : List Part → Option (List ℕ) → Option (List ℕ) → Type 0
 WritesAll parts old new =
-    (text : List ℕ) × (audit : List ℕ) × (lost : ℕ) × PrintsParts parts text × AuditsParts parts audit × Appends old new (text ++ audit ++ lost_text lost)
+    (text : List ℕ) × (audit : List ℕ) × (lost : ℕ) × PrintsParts parts text × AuditsParts parts audit × Appends old new (text ++ (audit ++ lost_text lost))
 
 -- the parts that were promised (own)
 abbrev pub promised : List (PromisedHandle Output Part) → List Part

@@ -14,11 +14,15 @@ pub struct Teller<'l> {
 }
 
 impl<'l> Teller<'l> {
-    ghost use Rattle.std.specs.Prelude.{◌≡◌, IfOk};
+    ghost use Rattle.std.specs.Prelude.{◌≡◌, ◌+◌, ◌-◌, ◌^◌, min, length, slice_get, IfOk};
+    ghost use Rattle.gt_audit.specs.Telling.{nothing_told};
     ghost use Rattle.gt_run.specs.Printing.{IsAudit};
+    ghost use Rattle.gt_run.specs.Telling.{TellsNext};
 
     /// Nothing was told yet.
-    pub fn new(alloc: Global, log: &'l SharedLog, dom: DomId) -> Self {
+    pub fn new(alloc: Global, log: &'l SharedLog, dom: DomId) -> Self
+        ensures { result ≡ record { told = nothing_told dom; next = 0 } }
+    {
         Teller {
             told: Told::new(alloc, log, dom),
             next: 0,
@@ -27,7 +31,9 @@ impl<'l> Teller<'l> {
 
     /// Tells the record that the trail has beyond those told, if it has one. A record for which there is no memory
     /// is lost.
-    pub fn tell(&mut self, rt: &impl Wait, trail: &Trail) {
+    pub fn tell(&mut self, rt: &impl Wait, trail: &Trail)
+        ensures { TellsNext (slice_get trail.now.records self.old.next) (length trail.now.records) self.old self.new }
+    {
         let records = trail.records();
         if let Some(told) = records.get(self.next) {
             self.told.tell(rt, self.next as u64, *told);
@@ -48,7 +54,9 @@ impl<'l> Teller<'l> {
     }
 
     /// How many records were lost, of those of a domain that has left: for want of memory in its trail, or in the log.
-    pub fn lost(&self, left: &Left) -> u64 {
+    pub fn lost(&self, left: &Left) -> u64
+        ensures { result ≡ min (left.now.trail.lost + self.now.told.lost) (2 ^ 64 - 1) }
+    {
         left.lost().saturating_add(self.told.lost())
     }
 }

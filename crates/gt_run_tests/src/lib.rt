@@ -6,4 +6,6 @@ mod gates;
 #[cfg(test)]
 mod lists;
 #[cfg(test)]
+mod many;
+#[cfg(test)]
 mod rows;

@@ -76,10 +76,13 @@ fn deed_of<'a>(words: &[&'a [u8]]) -> Option<(u64, Deed<'a>)> {
 }
 
 fn number_of(word: &[u8]) -> Option<u64> {
-    match word {
-        [digit] => Some(u64::from(digit.wrapping_sub(48))),
-        _ => None,
+    let mut number: u64 = 0;
+    for digit in word {
+        number = number
+            .wrapping_mul(10)
+            .wrapping_add(u64::from(digit.wrapping_sub(48)));
     }
+    Some(number)
 }
 
 /// What the lines of a body, whose first line has this number, have their domains do.
