@@ -3,4 +3,5 @@ pub mod Fields
 pub mod Hexadecimal
 pub mod Lines
 pub mod Numbers
+pub mod Signals
 pub mod Words

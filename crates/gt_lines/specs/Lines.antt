@@ -6,6 +6,9 @@ use Rattle.gt_types.specs.Names.{permission_of}
 use Rattle.gt_lines.specs.Numbers.{decimal_number}
 use Rattle.gt_lines.specs.Fields.{◌>>=◌, name_word, text_where, generation_word, type_word}
 use Rattle.gt_lines.specs.Calls.{action_of}
+use Rattle.gt_lines.specs.Signals.{is_signal_word, signal_of}
+use Rattle.gt_lines.specs.declared.lines.BodyLine.{BodyLine}
+use Rattle.gt_lines.specs.declared.lines.BodyLine.TheVariants as bodies
 use Rattle.gt_lines.specs.declared.lines.TripleLine.{TripleLine}
 use Rattle.gt_lines.specs.declared.lines.DomainLine.{DomainLine}
 use Rattle.gt_lines.specs.declared.lines.Line.{Line}
@@ -36,12 +39,17 @@ domain_of (id ∷ label ∷ frames ∷ table_frames ∷ version ∷ []) = do
   Some (record { id = i; type_name = t; frames = f; table_frames = n; version = v })
 domain_of _ = None
 
+-- what a line of the body asks, by its word and what stands after its domain (own)
+unfoldable pub asked_of : List ℕ → List (List ℕ) → Option BodyLine
+asked_of word args = if is_signal_word word then option_map bodies.Signal (signal_of word args)
+    else option_map bodies.Action (action_of word args)
+
 -- a line of the body: its word, then ID and what follows (own)
 unfoldable pub body_of : List ℕ → List (List ℕ) → Option Line
 body_of word [] = None
 body_of word (id ∷ args) = do
   n ← decimal_number id
-  a ← action_of word args
+  a ← asked_of word args
   Some (lines.Body n a)
 
 -- a line of a script by its first word (own)

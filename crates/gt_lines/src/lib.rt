@@ -1,7 +1,7 @@
 //! What one line of a script says.
 //!
 //! A text is parted into lines and a line into words; `read_line` answers what the words say: a triple, a
-//! first generation, a domain, or what a line of the body asks of its domain. Names, labels and
+//! first generation, a domain, or what a line of the body asks of its domain: an action, or that it tells or awaits a flag. Names, labels and
 //! hexadecimal texts are borrowed from the script's bytes, so that reading a line takes no memory but for
 //! the list of its words.
 //!
@@ -16,6 +16,7 @@ mod hexadecimal;
 mod laws;
 mod lines;
 mod numbers;
+mod signals;
 mod texts;
 mod words;
 
@@ -23,7 +24,8 @@ pub use calls::{AccessCall, Action, Call, CopyEnd, Grant, TableCall};
 pub use fields::is;
 pub use hexadecimal::hex_bytes;
 pub use laws::every_hex_text_says_its_bytes;
-pub use lines::{DomainLine, Line, TripleLine, read_line};
+pub use lines::{BodyLine, DomainLine, Line, TripleLine, read_line};
 pub use numbers::Number;
+pub use signals::Signal;
 pub use texts::Text;
 pub use words::{line_words, text_lines};

@@ -1,10 +1,11 @@
 //! What the words of a line say.
 ghost use Rattle.std.specs.Prelude.{◌≡◌, map};
-ghost use Rattle.gt_lines.specs.Lines.{triple_of, wear_of, domain_of, body_of, line_of};
+ghost use Rattle.gt_lines.specs.Lines.{triple_of, wear_of, domain_of, asked_of, body_of, line_of};
 
 use crate::calls::{Action, read_action};
 use crate::fields::{generation, is, label_type, name};
 use crate::numbers::{Number, decimal};
+use crate::signals::{Signal, is_signal_word, read_signal};
 use crate::texts::Text;
 use gt_types::Perms;
 
@@ -26,6 +27,15 @@ pub struct DomainLine<'a> {
     pub version: Number,
 }
 
+/// What a line of the body asks of its domain.
+#[derive(Debug, Drop)]
+pub enum BodyLine<'a> {
+    /// `do`, `begin`, `tick` or `show`.
+    Action(Action<'a>),
+    /// `tell` or `await`.
+    Signal(Signal<'a>),
+}
+
 /// A line of a script, with what its words say.
 #[derive(Debug, Drop)]
 pub enum Line<'a> {
@@ -34,7 +44,7 @@ pub enum Line<'a> {
     Wear(u32),
     Domain(DomainLine<'a>),
     /// A line of the body: its domain, by a number of any size, and what it asks.
-    Body { id: Number, action: Action<'a> },
+    Body { id: Number, asks: BodyLine<'a> },
 }
 
 #[tactic(auto, unfolding(crate::specs::Lines::triple_of))]
@@ -77,6 +87,17 @@ fn read_domain<'a>(args: &[&'a [u8]]) -> Option<DomainLine<'a>>
     }
 }
 
+#[tactic(auto, unfolding(crate::specs::Lines::asked_of))]
+fn read_asked<'a>(word: &[u8], args: &[&'a [u8]]) -> Option<BodyLine<'a>>
+    ensures { result ≡ asked_of word.now (map (λ word. word.now) args.now) }
+{
+    if is_signal_word(word) {
+        Some(BodyLine::Signal(read_signal(word, args)?))
+    } else {
+        Some(BodyLine::Action(read_action(word, args)?))
+    }
+}
+
 #[tactic(auto, unfolding(crate::specs::Lines::body_of))]
 fn read_body<'a>(word: &[u8], args: &[&'a [u8]]) -> Option<Line<'a>>
     ensures { result ≡ body_of word.now (map (λ word. word.now) args.now) }
@@ -84,7 +105,7 @@ fn read_body<'a>(word: &[u8], args: &[&'a [u8]]) -> Option<Line<'a>>
     match args {
         [id, rest @ ..] => Some(Line::Body {
             id: decimal(id)?,
-            action: read_action(word, rest)?,
+            asks: read_asked(word, rest)?,
         }),
         _ => None,
     }

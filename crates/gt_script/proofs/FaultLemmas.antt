@@ -1,5 +1,5 @@
 -- Where the first fault of a script stands, and what a script without fault is.
-use Rattle.std.proofs.Common.{◌≡◌, ◌⊎◌, IsSome, inl, inr, ℕ, suc, ◌+◌, ◌-◌, ◌<◌, ◌≤◌, ◌&&◌, Bool, true, false, List, [], ◌∷◌, ◌++◌, length, take, drop, Option, None, Some, Result, Ok, Err, refl, sym, ap, ◌∙◌, subst, arith, cond, length-take, length-drop, min, get_or, add-one, Bor, IfOk, IfErr}
+use Rattle.std.proofs.Common.{◌≡◌, ◌⊎◌, IsSome, IsTrue, All, inl, inr, ℕ, suc, ◌+◌, ◌-◌, ◌<◌, ◌≤◌, ◌&&◌, Bool, true, false, List, [], ◌∷◌, ◌++◌, length, take, drop, Option, None, Some, Result, Ok, Err, refl, sym, ap, ◌∙◌, subst, arith, cond, length-take, length-drop, min, get_or, add-one, Bor, IfOk, IfErr}
 use Rattle.std.specs.List.{slice_get, filter_map}
 use Rattle.std.specs.Option.{is_none}
 use Rattle.std.specs.Str.{IsUtf8}
@@ -19,9 +19,12 @@ use Rattle.gt_lines.specs.Words.{words}
 use Rattle.gt_script.specs.Faults.{error_in_block}
 use Rattle.gt_script.specs.Blocks.{opening, closing, block_text, Means, IsFaulty, IsPolicyOf}
 use Rattle.gt_script.specs.Contents.{told, Contents, empty, with_policy, names_with}
-use Rattle.gt_script.specs.Script.{is_empty, has_no_rights, with_words, with_lines, completed, completed_if_ok, whole, in_result, in_script, in_policy, ClosedSays, BlockSays, LinesSay, TextSays, Tells, Wrong}
-use Rattle.gt_script.specs.Laws.{said, domain_in, SayParts, IsTripleScript, IsPolicyScript, IsScriptOf, HasBlock, lines_before, IsOpen, HasNone, IsFaultOfLine, IsFaultOfEnd, IsFirstFault, IsFaultBehind, IsFaultOfLines, IsUnread, IsFaultOf, IsFaultOfBlock, Stands}
+use Rattle.gt_script.specs.Script.{is_empty, has_no_rights, with_words, with_lines, completed, completed_if_ok, whole, in_result, in_script, in_policy, ClosedSays, BlockSays, LinesSay, TextSays, TellsFor, Wrong}
+use Rattle.gt_script.specs.Laws.{said, domain_in, step_on, order_on, is_for, SayParts, IsTripleScript, IsPolicyScript, IsScriptFor, HasBlock, lines_before, IsOpen, HasNone, IsFaultOfLine, IsFaultOfEnd, IsFirstFault, IsFaultBehind, IsFaultOfLines, IsUnread, IsFaultOf, IsFaultOfBlock, StandsFor}
 use Rattle.gt_script.specs.Outcomes.{Answers, Says}
+use Rattle.gt_script.specs.declared.command.Command.{Command}
+use Rattle.gt_script.specs.declared.orders.Order.{Order}
+use Rattle.gt_script.specs.declared.script.Step.{Step}
 use Rattle.gt_script.specs.declared.script.Script.{Script}
 use Rattle.gt_script.specs.declared.faults.ScriptError.{ScriptError}
 use Rattle.gt_script.specs.declared.faults.ScriptError.TheVariants as errors
@@ -151,39 +154,46 @@ in_result-policy (Err f) g e = cc
 
 -- a script without fault
 
-triple_script : (ls : List (List ℕ)) (s : Contents) → Whole 1 ls empty s → IsTripleScript ls s
-triple_script ls s w =
-    let x = with_lines-Extends 1 ls empty s w.made in
+triple_script : (command : Command) (ls : List (List ℕ)) (s : Contents) → Whole 1 ls (empty command) s → IsTripleScript command ls s
+triple_script command ls s w =
+    let x = with_lines-Extends 1 ls (empty command) s w.made in
     record {
       parts = record {
         readable = x.readable;
         triples = x.triples s.types (Grown-refl s.types);
         wear = x.wear;
         domains = subst (λ (o : Option Allowed). s.domains ≡ filter_map (λ l. domain_in (names_with o s.types) l.1) (said 1 ls)) (sym x.policy) (x.domains s.types (Grown-refl s.types));
-        steps = x.steps;
+        steps = subst (λ (k : Command). s.steps ≡ filter_map (λ l. step_on k l.0 l.1) (said 1 ls)) (sym x.command) x.steps;
+        orders = subst (λ (k : Command). s.orders ≡ filter_map (λ l. order_on k l.0 l.1) (said 1 ls)) (sym x.command) x.orders;
+        suited = subst (λ (k : Command). All (λ l. IsTrue (is_for k l.1)) (said 1 ls)) (sym x.command) x.suited;
         faultless = x.faultless faultless-none;
         generation = first_gen-small 1 ls s.wear x.wear;
         configured = x.configured (λ k y past. absurd (omega arith));
+        ordered = x.ordered (λ k y past. absurd (omega arith));
         some_domain = empty-false s.domains w.domains;
       };
+      for_command = x.command;
       policy = x.policy;
       distinct = x.types.distinct (λ i j y below past. absurd (omega arith));
       few_types = x.types.few (omega arith);
       some_triple = some_triple-of s x.policy w.rights;
     }
 
-rest_says : (n : ℕ) (ls : List (List ℕ)) (p : Allowed) (s : Contents) → Whole n ls (with_policy p) s → SayParts n ls s
-rest_says n ls p s w =
-    let x = with_lines-Extends n ls (with_policy p) s w.made in
+rest_says : (command : Command) (n : ℕ) (ls : List (List ℕ)) (p : Allowed) (s : Contents) → Whole n ls (with_policy command p) s → SayParts n ls s
+rest_says command n ls p s w =
+    let x = with_lines-Extends n ls (with_policy command p) s w.made in
     record {
       readable = x.readable;
       triples = x.triples s.types (Grown-refl s.types);
       wear = x.wear;
       domains = subst (λ (o : Option Allowed). s.domains ≡ filter_map (λ l. domain_in (names_with o s.types) l.1) (said n ls)) (sym x.policy) (x.domains s.types (Grown-refl s.types));
-      steps = x.steps;
+      steps = subst (λ (k : Command). s.steps ≡ filter_map (λ l. step_on k l.0 l.1) (said n ls)) (sym x.command) x.steps;
+      orders = subst (λ (k : Command). s.orders ≡ filter_map (λ l. order_on k l.0 l.1) (said n ls)) (sym x.command) x.orders;
+      suited = subst (λ (k : Command). All (λ l. IsTrue (is_for k l.1)) (said n ls)) (sym x.command) x.suited;
       faultless = x.faultless faultless-none;
       generation = first_gen-small n ls s.wear x.wear;
       configured = x.configured (λ k y past. absurd (omega arith));
+      ordered = x.ordered (λ k y past. absurd (omega arith));
       some_domain = empty-false s.domains w.domains;
     }
 
@@ -224,36 +234,37 @@ number-behind ls first end b =
     let same : first + end + 1 + 1 ≡ first + end + 2 = omega arith in
     same ∙ sym (ap (λ (k : ℕ). k + length (take end (drop first ls)) + 2) b.before ∙ ap (λ (k : ℕ). first + k + 2) b.many)
 
-policy_script : (ls : List (List ℕ)) (first end : ℕ) (p : Allowed) (s : Contents) → Block ls first end → Means (take end (drop first ls)) p
-    → Whole (first + end + 1 + 1) (drop (end + 1) (drop first ls)) (with_policy p) s → IsPolicyScript ls s
-policy_script ls first end p s b means w =
-    let x = with_lines-Extends (first + end + 1 + 1) (drop (end + 1) (drop first ls)) (with_policy p) s w.made in
+policy_script : (command : Command) (ls : List (List ℕ)) (first end : ℕ) (p : Allowed) (s : Contents) → Block ls first end → Means (take end (drop first ls)) p
+    → Whole (first + end + 1 + 1) (drop (end + 1) (drop first ls)) (with_policy command p) s → IsPolicyScript command ls s
+policy_script command ls first end p s b means w =
+    let x = with_lines-Extends (first + end + 1 + 1) (drop (end + 1) (drop first ls)) (with_policy command p) s w.made in
     record {
       block = take end (drop first ls);
       rest = drop (end + 1) (drop first ls);
       has = b.has;
       rights = p;
       means = means;
+      for_command = x.command;
       policy = x.policy;
-      parts = subst (λ (k : ℕ). SayParts k (drop (end + 1) (drop first ls)) s) (number-behind ls first end b) (rest_says (first + end + 1 + 1) (drop (end + 1) (drop first ls)) p s w);
+      parts = subst (λ (k : ℕ). SayParts k (drop (end + 1) (drop first ls)) s) (number-behind ls first end b) (rest_says command (first + end + 1 + 1) (drop (end + 1) (drop first ls)) p s w);
       no_triples = x.no_triples p refl;
     }
 
 -- what the lines say, if it is no fault
 
-closed-Ok : (ls : List (List ℕ)) (first end : ℕ) (s : Contents) → Block ls first end → ClosedSays (length ls) first (drop first ls) end (Ok s) → IsScriptOf ls s
-closed-Ok ls first end s b (inl (p, means, e)) =
-    inr (policy_script ls first end p s b means
-    (whole-by (length ls) (first + end + 1 + 1) (drop (end + 1) (drop first ls)) (with_policy p) s (with_lines (with_policy p) (first + end + 1 + 1) (drop (end + 1) (drop first ls))) refl (in_result-Ok _ s e)))
-closed-Ok ls first end s b (inr (g, faulty, e)) = absurd cc
+closed-Ok : (command : Command) (ls : List (List ℕ)) (first end : ℕ) (s : Contents) → Block ls first end → ClosedSays command (length ls) first (drop first ls) end (Ok s) → IsScriptFor command ls s
+closed-Ok command ls first end s b (inl (p, means, e)) =
+    inr (policy_script command ls first end p s b means
+    (whole-by (length ls) (first + end + 1 + 1) (drop (end + 1) (drop first ls)) (with_policy command p) s (with_lines (with_policy command p) (first + end + 1 + 1) (drop (end + 1) (drop first ls))) refl (in_result-Ok _ s e)))
+closed-Ok command ls first end s b (inr (g, faulty, e)) = absurd cc
 
-block-Ok : (ls : List (List ℕ)) (place : ℕ) (o : Option ℕ) (s : Contents) → opening ls ≡ Some place → closing (drop (place + 1) ls) ≡ o → BlockSays (length ls) (place + 1) (drop (place + 1) ls) o (Ok s) → IsScriptOf ls s
-block-Ok ls place None s opens closes e = absurd cc
-block-Ok ls place (Some end) s opens closes e = closed-Ok ls (place + 1) end s (block-at ls place end opens closes) e
+block-Ok : (command : Command) (ls : List (List ℕ)) (place : ℕ) (o : Option ℕ) (s : Contents) → opening ls ≡ Some place → closing (drop (place + 1) ls) ≡ o → BlockSays command (length ls) (place + 1) (drop (place + 1) ls) o (Ok s) → IsScriptFor command ls s
+block-Ok command ls place None s opens closes e = absurd cc
+block-Ok command ls place (Some end) s opens closes e = closed-Ok command ls (place + 1) end s (block-at ls place end opens closes) e
 
-lines-Ok : (ls : List (List ℕ)) (o : Option ℕ) (s : Contents) → opening ls ≡ o → LinesSay ls o (Ok s) → IsScriptOf ls s
-lines-Ok ls None s opens e = inl (triple_script ls s (whole-by (length ls) 1 ls empty s (with_lines empty 1 ls) refl (in_result-Ok _ s e)))
-lines-Ok ls (Some place) s opens e = block-Ok ls place (closing (drop (place + 1) ls)) s opens refl e
+lines-Ok : (command : Command) (ls : List (List ℕ)) (o : Option ℕ) (s : Contents) → opening ls ≡ o → LinesSay command ls o (Ok s) → IsScriptFor command ls s
+lines-Ok command ls None s opens e = inl (triple_script command ls s (whole-by (length ls) 1 ls (empty command) s (with_lines (empty command) 1 ls) refl (in_result-Ok _ s e)))
+lines-Ok command ls (Some place) s opens e = block-Ok command ls place (closing (drop (place + 1) ls)) s opens refl e
 
 -- what the lines say, if it is a fault
 
@@ -271,30 +282,30 @@ open-with ls place o none = record {
   inside = none_closes (drop (place + 1) ls) none;
 }
 
-closed-script : (ls : List (List ℕ)) (first end : ℕ) (f : Fault) → Block ls first end → ClosedSays (length ls) first (drop first ls) end (Err (in_script f)) → IsFaultBehind ls f
-closed-script ls first end f b (inl (p, means, e)) =
-    let r = fault-by (length ls) (first + end + 1 + 1) (drop (end + 1) (drop first ls)) (with_policy p) f (with_lines (with_policy p) (first + end + 1 + 1) (drop (end + 1) (drop first ls))) refl (in_result-script _ f e) in
+closed-script : (command : Command) (ls : List (List ℕ)) (first end : ℕ) (f : Fault) → Block ls first end → ClosedSays command (length ls) first (drop first ls) end (Err (in_script f)) → IsFaultBehind command ls f
+closed-script command ls first end f b (inl (p, means, e)) =
+    let r = fault-by (length ls) (first + end + 1 + 1) (drop (end + 1) (drop first ls)) (with_policy command p) f (with_lines (with_policy command p) (first + end + 1 + 1) (drop (end + 1) (drop first ls))) refl (in_result-script _ f e) in
     record {
       block = take end (drop first ls);
       rest = drop (end + 1) (drop first ls);
       has = b.has;
       rights = p;
       means = means;
-      first = subst (λ (k : ℕ). IsFirstFault (length ls) (with_policy p) k (drop (end + 1) (drop first ls)) f) (number-behind ls first end b) r;
+      first = subst (λ (k : ℕ). IsFirstFault (length ls) (with_policy command p) k (drop (end + 1) (drop first ls)) f) (number-behind ls first end b) r;
     }
-closed-script ls first end f b (inr (g, faulty, e)) = absurd cc
+closed-script command ls first end f b (inr (g, faulty, e)) = absurd cc
 
-block-script : (ls : List (List ℕ)) (place : ℕ) (o : Option ℕ) (f : Fault) → opening ls ≡ Some place → closing (drop (place + 1) ls) ≡ o → BlockSays (length ls) (place + 1) (drop (place + 1) ls) o (Err (in_script f)) → IsFaultOfLines ls f
-block-script ls place None f opens closes e = inr (inl (open-with ls place (opens_at ls place opens) closes, cc))
-block-script ls place (Some end) f opens closes e = inr (inr (closed-script ls (place + 1) end f (block-at ls place end opens closes) e))
+block-script : (command : Command) (ls : List (List ℕ)) (place : ℕ) (o : Option ℕ) (f : Fault) → opening ls ≡ Some place → closing (drop (place + 1) ls) ≡ o → BlockSays command (length ls) (place + 1) (drop (place + 1) ls) o (Err (in_script f)) → IsFaultOfLines command ls f
+block-script command ls place None f opens closes e = inr (inl (open-with ls place (opens_at ls place opens) closes, cc))
+block-script command ls place (Some end) f opens closes e = inr (inr (closed-script command ls (place + 1) end f (block-at ls place end opens closes) e))
 
-lines-script : (ls : List (List ℕ)) (o : Option ℕ) (f : Fault) → opening ls ≡ o → LinesSay ls o (Err (in_script f)) → IsFaultOfLines ls f
-lines-script ls None f opens e = inl (none-has ls (none_opens ls opens), fault-by (length ls) 1 ls empty f (with_lines empty 1 ls) refl (in_result-script _ f e))
-lines-script ls (Some place) f opens e = block-script ls place (closing (drop (place + 1) ls)) f opens refl e
+lines-script : (command : Command) (ls : List (List ℕ)) (o : Option ℕ) (f : Fault) → opening ls ≡ o → LinesSay command ls o (Err (in_script f)) → IsFaultOfLines command ls f
+lines-script command ls None f opens e = inl (none-has ls (none_opens ls opens), fault-by (length ls) 1 ls (empty command) f (with_lines (empty command) 1 ls) refl (in_result-script _ f e))
+lines-script command ls (Some place) f opens e = block-script command ls place (closing (drop (place + 1) ls)) f opens refl e
 
-closed-policy : (bytes : List ℕ) (first end : ℕ) (g : policy.Fault) → length bytes ≤ 1048576 → IsUtf8 bytes → Block (lines_in bytes) first end → ClosedSays (length (lines_in bytes)) first (drop first (lines_in bytes)) end (Err (in_policy g)) → IsFaultOfBlock bytes g
-closed-policy bytes first end g short text b (inl (p, means, e)) = absurd (in_result-policy _ g e)
-closed-policy bytes first end g short text b (inr (h, faulty, e)) =
+closed-policy : (command : Command) (bytes : List ℕ) (first end : ℕ) (g : policy.Fault) → length bytes ≤ 1048576 → IsUtf8 bytes → Block (lines_in bytes) first end → ClosedSays command (length (lines_in bytes)) first (drop first (lines_in bytes)) end (Err (in_policy g)) → IsFaultOfBlock bytes g
+closed-policy command bytes first end g short text b (inl (p, means, e)) = absurd (in_result-policy _ g e)
+closed-policy command bytes first end g short text b (inr (h, faulty, e)) =
     let same : h ≡ g = cc in
     record {
       short = short;
@@ -305,41 +316,41 @@ closed-policy bytes first end g short text b (inr (h, faulty, e)) =
       faulty = subst (λ (k : ℕ). IsFaulty k (take end (drop first (lines_in bytes))) g) (sym b.before) (subst (λ (x : policy.Fault). IsFaulty first (take end (drop first (lines_in bytes))) x) same faulty);
     }
 
-block-policy : (bytes : List ℕ) (place : ℕ) (o : Option ℕ) (g : policy.Fault) → length bytes ≤ 1048576 → IsUtf8 bytes → opening (lines_in bytes) ≡ Some place → closing (drop (place + 1) (lines_in bytes)) ≡ o
-    → BlockSays (length (lines_in bytes)) (place + 1) (drop (place + 1) (lines_in bytes)) o (Err (in_policy g)) → IsFaultOfBlock bytes g
-block-policy bytes place None g short text opens closes e = absurd cc
-block-policy bytes place (Some end) g short text opens closes e = closed-policy bytes (place + 1) end g short text (block-at (lines_in bytes) place end opens closes) e
+block-policy : (command : Command) (bytes : List ℕ) (place : ℕ) (o : Option ℕ) (g : policy.Fault) → length bytes ≤ 1048576 → IsUtf8 bytes → opening (lines_in bytes) ≡ Some place → closing (drop (place + 1) (lines_in bytes)) ≡ o
+    → BlockSays command (length (lines_in bytes)) (place + 1) (drop (place + 1) (lines_in bytes)) o (Err (in_policy g)) → IsFaultOfBlock bytes g
+block-policy command bytes place None g short text opens closes e = absurd cc
+block-policy command bytes place (Some end) g short text opens closes e = closed-policy command bytes (place + 1) end g short text (block-at (lines_in bytes) place end opens closes) e
 
-lines-policy : (bytes : List ℕ) (o : Option ℕ) (g : policy.Fault) → length bytes ≤ 1048576 → IsUtf8 bytes → opening (lines_in bytes) ≡ o → LinesSay (lines_in bytes) o (Err (in_policy g)) → IsFaultOfBlock bytes g
-lines-policy bytes None g short text opens e = absurd (in_result-policy _ g e)
-lines-policy bytes (Some place) g short text opens e = block-policy bytes place (closing (drop (place + 1) (lines_in bytes))) g short text opens refl e
+lines-policy : (command : Command) (bytes : List ℕ) (o : Option ℕ) (g : policy.Fault) → length bytes ≤ 1048576 → IsUtf8 bytes → opening (lines_in bytes) ≡ o → LinesSay command (lines_in bytes) o (Err (in_policy g)) → IsFaultOfBlock bytes g
+lines-policy command bytes None g short text opens e = absurd (in_result-policy _ g e)
+lines-policy command bytes (Some place) g short text opens e = block-policy command bytes place (closing (drop (place + 1) (lines_in bytes))) g short text opens refl e
 
 -- what bytes say
 
-tells-Ok : (bytes : List ℕ) (s : Contents) → Tells bytes (Ok s) → IsScriptOf (lines_in bytes) s
-tells-Ok bytes s (inl (long, e)) = absurd cc
-tells-Ok bytes s (inr (inl (short, bad, e))) = absurd cc
-tells-Ok bytes s (inr (inr (short, text, says))) = lines-Ok (lines_in bytes) (opening (lines_in bytes)) s refl says
+tells-Ok : (command : Command) (bytes : List ℕ) (s : Contents) → TellsFor command bytes (Ok s) → IsScriptFor command (lines_in bytes) s
+tells-Ok command bytes s (inl (long, e)) = absurd cc
+tells-Ok command bytes s (inr (inl (short, bad, e))) = absurd cc
+tells-Ok command bytes s (inr (inr (short, text, says))) = lines-Ok command (lines_in bytes) (opening (lines_in bytes)) s refl says
 
-tells-script : (bytes : List ℕ) (f : Fault) → Tells bytes (Err (in_script f)) → IsFaultOf bytes f
-tells-script bytes f (inl (long, e)) = inl (inl (long, cc))
-tells-script bytes f (inr (inl (short, bad, e))) = inl (inr (short, bad, cc))
-tells-script bytes f (inr (inr (short, text, says))) = inr (short, text, lines-script (lines_in bytes) (opening (lines_in bytes)) f refl says)
+tells-script : (command : Command) (bytes : List ℕ) (f : Fault) → TellsFor command bytes (Err (in_script f)) → IsFaultOf command bytes f
+tells-script command bytes f (inl (long, e)) = inl (inl (long, cc))
+tells-script command bytes f (inr (inl (short, bad, e))) = inl (inr (short, bad, cc))
+tells-script command bytes f (inr (inr (short, text, says))) = inr (short, text, lines-script command (lines_in bytes) (opening (lines_in bytes)) f refl says)
 
-tells-policy : (bytes : List ℕ) (g : policy.Fault) → Tells bytes (Err (in_policy g)) → IsFaultOfBlock bytes g
-tells-policy bytes g (inl (long, e)) = absurd cc
-tells-policy bytes g (inr (inl (short, bad, e))) = absurd cc
-tells-policy bytes g (inr (inr (short, text, says))) = lines-policy bytes (opening (lines_in bytes)) g short text refl says
+tells-policy : (command : Command) (bytes : List ℕ) (g : policy.Fault) → TellsFor command bytes (Err (in_policy g)) → IsFaultOfBlock bytes g
+tells-policy command bytes g (inl (long, e)) = absurd cc
+tells-policy command bytes g (inr (inl (short, bad, e))) = absurd cc
+tells-policy command bytes g (inr (inr (short, text, says))) = lines-policy command bytes (opening (lines_in bytes)) g short text refl says
 
-pub answers-script : (bytes : List ℕ) (r : Result Script ScriptError) → Answers r (Tells bytes) → IfOk r (λ s. IsScriptOf (lines_in bytes) (told s))
-answers-script bytes (Ok s) h = tells-Ok bytes (told s) h
-answers-script bytes (Err e) h = tt
+pub answers-script : (command : Command) (bytes : List ℕ) (r : Result Script ScriptError) → Answers r (TellsFor command bytes) → IfOk r (λ s. IsScriptFor command (lines_in bytes) (told s))
+answers-script command bytes (Ok s) h = tells-Ok command bytes (told s) h
+answers-script command bytes (Err e) h = tt
 
-pub answers-fault : (bytes : List ℕ) (r : Result Script ScriptError) → Answers r (Tells bytes) → IfErr r (λ e. Stands bytes e)
-answers-fault bytes (Ok s) h = tt
-answers-fault bytes (Err errors.Memory) h = tt
-answers-fault bytes (Err (errors.Fault f)) h = tells-script bytes f h
-answers-fault bytes (Err (errors.Policy e)) (g, shown, h) = (g, shown, tells-policy bytes g h)
+pub answers-fault : (command : Command) (bytes : List ℕ) (r : Result Script ScriptError) → Answers r (TellsFor command bytes) → IfErr r (λ e. StandsFor command bytes e)
+answers-fault command bytes (Ok s) h = tt
+answers-fault command bytes (Err errors.Memory) h = tt
+answers-fault command bytes (Err (errors.Fault f)) h = tells-script command bytes f h
+answers-fault command bytes (Err (errors.Policy e)) (g, shown, h) = (g, shown, tells-policy command bytes g h)
 
 -- a text past the limit is as long as what is read of it
 
@@ -351,16 +362,16 @@ take_whole n xs h =
     let few : min (n + 1) (length xs) ≤ n = subst (λ (k : ℕ). k ≤ n) (length-take (n + 1) xs) h in
     take_all (n + 1) xs (omega (arith, few))
 
-tells-all : (all : List ℕ) (said : Result Contents Wrong) → Tells (take 1048577 all) said → Tells all said
-tells-all all said (inl (long, e)) = inl (longer 1048576 all long, e)
-tells-all all said (inr (inl (short, bad, e))) = subst (λ (l : List ℕ). Tells l said) (take_whole 1048576 all short) (inr (inl (short, bad, e)))
-tells-all all said (inr (inr (short, text, says))) = subst (λ (l : List ℕ). Tells l said) (take_whole 1048576 all short) (inr (inr (short, text, says)))
+tells-all : (command : Command) (all : List ℕ) (said : Result Contents Wrong) → TellsFor command (take 1048577 all) said → TellsFor command all said
+tells-all command all said (inl (long, e)) = inl (longer 1048576 all long, e)
+tells-all command all said (inr (inl (short, bad, e))) = subst (λ (l : List ℕ). TellsFor command l said) (take_whole 1048576 all short) (inr (inl (short, bad, e)))
+tells-all command all said (inr (inr (short, text, says))) = subst (λ (l : List ℕ). TellsFor command l said) (take_whole 1048576 all short) (inr (inr (short, text, says)))
 
-pub answers-all : (bytes all : List ℕ) (r : Result Script ScriptError) → bytes ≡ take 1048577 all → Answers r (Tells bytes) → Answers r (Tells all)
-answers-all bytes all (Ok s) e h = tells-all all (Ok (told s)) (subst (λ (l : List ℕ). Tells l (Ok (told s))) e h)
-answers-all bytes all (Err errors.Memory) e h = tt
-answers-all bytes all (Err (errors.Fault f)) e h = tells-all all (Err (in_script f)) (subst (λ (l : List ℕ). Tells l (Err (in_script f))) e h)
-answers-all bytes all (Err (errors.Policy fault)) e (g, shown, h) = (g, shown, tells-all all (Err (in_policy g)) (subst (λ (l : List ℕ). Tells l (Err (in_policy g))) e h))
+pub answers-all : (command : Command) (bytes all : List ℕ) (r : Result Script ScriptError) → bytes ≡ take 1048577 all → Answers r (TellsFor command bytes) → Answers r (TellsFor command all)
+answers-all command bytes all (Ok s) e h = tells-all command all (Ok (told s)) (subst (λ (l : List ℕ). TellsFor command l (Ok (told s))) e h)
+answers-all command bytes all (Err errors.Memory) e h = tt
+answers-all command bytes all (Err (errors.Fault f)) e h = tells-all command all (Err (in_script f)) (subst (λ (l : List ℕ). TellsFor command l (Err (in_script f))) e h)
+answers-all command bytes all (Err (errors.Policy fault)) e (g, shown, h) = (g, shown, tells-all command all (Err (in_policy g)) (subst (λ (l : List ℕ). TellsFor command l (Err (in_policy g))) e h))
 
 -- from the answers of the parts to those of the whole
 
@@ -377,14 +388,14 @@ answers-weaker (Err (errors.Fault g)) P Q f h = f (Err (in_script g)) h
 answers-weaker (Err (errors.Policy e)) P Q f (g, shown, h) = (g, shown, f (Err (in_policy g)) h)
 
 -- a text that is none
-pub answers-unread : (bytes : List ℕ) (f : Fault) → IsUnread bytes f → Tells bytes (Err (in_script f))
-answers-unread bytes f (inl (long, e)) = inl (long, ap (λ (g : Fault). Err (in_script g)) e)
-answers-unread bytes f (inr (short, bad, e)) = inr (inl (short, bad, ap (λ (g : Fault). Err (in_script g)) e))
+pub answers-unread : (command : Command) (bytes : List ℕ) (f : Fault) → IsUnread bytes f → TellsFor command bytes (Err (in_script f))
+answers-unread command bytes f (inl (long, e)) = inl (long, ap (λ (g : Fault). Err (in_script g)) e)
+answers-unread command bytes f (inr (short, bad, e)) = inr (inl (short, bad, ap (λ (g : Fault). Err (in_script g)) e))
 
 -- a text
-pub answers-text : (bytes text : List ℕ) (r : Result Script ScriptError) → text ≡ bytes → length bytes ≤ 1048576 → IsUtf8 bytes → Answers r (TextSays text) → Answers r (Tells bytes)
-answers-text bytes text r same short utf8 h =
-    subst (λ (l : List ℕ). Answers r (Tells l)) same (answers-weaker r (TextSays text) (Tells text) (λ w says. inr (inr (subst (λ (l : List ℕ). length l ≤ 1048576) (sym same) short, subst IsUtf8 (sym same) utf8, says))) h)
+pub answers-text : (command : Command) (bytes text : List ℕ) (r : Result Script ScriptError) → text ≡ bytes → length bytes ≤ 1048576 → IsUtf8 bytes → Answers r (TextSays command text) → Answers r (TellsFor command bytes)
+answers-text command bytes text r same short utf8 h =
+    subst (λ (l : List ℕ). Answers r (TellsFor command l)) same (answers-weaker r (TextSays command text) (TellsFor command text) (λ w says. inr (inr (subst (λ (l : List ℕ). length l ≤ 1048576) (sym same) short, subst IsUtf8 (sym same) utf8, says))) h)
 
 -- the parts of a text with a policy block
 
@@ -402,47 +413,47 @@ texts-length [] = refl
 texts-length (l ∷ ls) = ap suc (texts-length ls)
 
 -- no line closes the block
-pub block_open : (count first : ℕ) (lines : List (List ℕ)) (o : Option ℕ) → o ≡ closing lines → o ≡ None → BlockSays count first lines (closing lines) (Err (in_script (record { line = count + 1; kind = Syntax })))
-block_open count first lines o closes none =
-    subst (λ (q : Option ℕ). BlockSays count first lines q (Err (in_script (record { line = count + 1; kind = Syntax })))) (sym none ∙ closes) refl
+pub block_open : (command : Command) (count first : ℕ) (lines : List (List ℕ)) (o : Option ℕ) → o ≡ closing lines → o ≡ None → BlockSays command count first lines (closing lines) (Err (in_script (record { line = count + 1; kind = Syntax })))
+block_open command count first lines o closes none =
+    subst (λ (q : Option ℕ). BlockSays command count first lines q (Err (in_script (record { line = count + 1; kind = Syntax })))) (sym none ∙ closes) refl
 
 -- a line closes it, and the lines behind it say the rest
-pub block_rest : (count first end : ℕ) (lines : List (Bor (List ℕ))) (p : Allowed) (c : Contents) (r : Result Script ScriptError) → Some end ≡ closing (texts lines) → Means (texts (take end lines)) p → c ≡ with_policy p
-    → Says r (whole count c (first + end + 1 + 1) (texts (take (length lines - (end + 1)) (drop (end + 1) lines)))) → Answers r (BlockSays count first (texts lines) (closing (texts lines)))
-block_rest count first end lines p c r closes means starts h =
-    let said : Says r (whole count (with_policy p) (first + end + 1 + 1) (drop (end + 1) (texts lines))) =
-    subst (λ (l : List (List ℕ)). Says r (whole count (with_policy p) (first + end + 1 + 1) l)) (ap texts (take_rest (end + 1) lines) ∙ texts-drop (end + 1) lines)
+pub block_rest : (command : Command) (count first end : ℕ) (lines : List (Bor (List ℕ))) (p : Allowed) (c : Contents) (r : Result Script ScriptError) → Some end ≡ closing (texts lines) → Means (texts (take end lines)) p → c ≡ with_policy command p
+    → Says r (whole count c (first + end + 1 + 1) (texts (take (length lines - (end + 1)) (drop (end + 1) lines)))) → Answers r (BlockSays command count first (texts lines) (closing (texts lines)))
+block_rest command count first end lines p c r closes means starts h =
+    let said : Says r (whole count (with_policy command p) (first + end + 1 + 1) (drop (end + 1) (texts lines))) =
+    subst (λ (l : List (List ℕ)). Says r (whole count (with_policy command p) (first + end + 1 + 1) l)) (ap texts (take_rest (end + 1) lines) ∙ texts-drop (end + 1) lines)
     (subst (λ (k : Contents). Says r (whole count k (first + end + 1 + 1) (texts (take (length lines - (end + 1)) (drop (end + 1) lines))))) starts h) in
     let meant : Means (take end (texts lines)) p = subst (λ (l : List (List ℕ)). Means l p) (texts-take end lines) means in
-    subst (λ (q : Option ℕ). Answers r (BlockSays count first (texts lines) q)) closes
-    (answers-weaker r (λ w. w ≡ in_result (whole count (with_policy p) (first + end + 1 + 1) (drop (end + 1) (texts lines)))) (ClosedSays count first (texts lines) end) (λ w e. inl (p, meant, e)) (answers-lines r _ said))
+    subst (λ (q : Option ℕ). Answers r (BlockSays command count first (texts lines) q)) closes
+    (answers-weaker r (λ w. w ≡ in_result (whole count (with_policy command p) (first + end + 1 + 1) (drop (end + 1) (texts lines)))) (ClosedSays command count first (texts lines) end) (λ w e. inl (p, meant, e)) (answers-lines r _ said))
 
-block-fault : (count first end : ℕ) (lines : List (List ℕ)) (error : ScriptError) → IsPolicyOf first (take end lines) (Err error) → Answers (Err error) (ClosedSays count first lines end)
-block-fault count first end lines errors.Memory h = tt
-block-fault count first end lines (errors.Fault f) h = absurd h
-block-fault count first end lines (errors.Policy e) (g, shown, faulty) = (g, shown, inr (g, faulty, refl))
+block-fault : (command : Command) (count first end : ℕ) (lines : List (List ℕ)) (error : ScriptError) → IsPolicyOf first (take end lines) (Err error) → Answers (Err error) (ClosedSays command count first lines end)
+block-fault command count first end lines errors.Memory h = tt
+block-fault command count first end lines (errors.Fault f) h = absurd h
+block-fault command count first end lines (errors.Policy e) (g, shown, faulty) = (g, shown, inr (g, faulty, refl))
 
-pub block_faulty : (count first end : ℕ) (lines : List (Bor (List ℕ))) (error : ScriptError) → Some end ≡ closing (texts lines) → IsPolicyOf first (texts (take end lines)) (Err error)
-    → Answers (Err error) (BlockSays count first (texts lines) (closing (texts lines)))
-block_faulty count first end lines error closes h =
-    subst (λ (q : Option ℕ). Answers (Err error) (BlockSays count first (texts lines) q)) closes
-    (block-fault count first end (texts lines) error (subst (λ (l : List (List ℕ)). IsPolicyOf first l (Err error)) (texts-take end lines) h))
+pub block_faulty : (command : Command) (count first end : ℕ) (lines : List (Bor (List ℕ))) (error : ScriptError) → Some end ≡ closing (texts lines) → IsPolicyOf first (texts (take end lines)) (Err error)
+    → Answers (Err error) (BlockSays command count first (texts lines) (closing (texts lines)))
+block_faulty command count first end lines error closes h =
+    subst (λ (q : Option ℕ). Answers (Err error) (BlockSays command count first (texts lines) q)) closes
+    (block-fault command count first end (texts lines) error (subst (λ (l : List (List ℕ)). IsPolicyOf first l (Err error)) (texts-take end lines) h))
 
 -- lines with a block
-pub lines_block : (lines : List (Bor (List ℕ))) (place : ℕ) (r : Result Script ScriptError) → Some place ≡ opening (texts lines)
-    → (let behind : List (Bor (List ℕ)) = take (length lines - (place + 1)) (drop (place + 1) lines) in Answers r (BlockSays (length lines) (place + 1) (texts behind) (closing (texts behind)))) → Answers r (LinesSay (texts lines) (opening (texts lines)))
-lines_block lines place r opens h =
-    subst (λ (q : Option ℕ). Answers r (LinesSay (texts lines) q)) opens
-    (subst (λ (k : ℕ). Answers r (BlockSays k (place + 1) (drop (place + 1) (texts lines)) (closing (drop (place + 1) (texts lines))))) (sym (texts-length lines))
-    (subst (λ (l : List (List ℕ)). Answers r (BlockSays (length lines) (place + 1) l (closing l))) (ap texts (take_rest (place + 1) lines) ∙ texts-drop (place + 1) lines) h))
+pub lines_block : (command : Command) (lines : List (Bor (List ℕ))) (place : ℕ) (r : Result Script ScriptError) → Some place ≡ opening (texts lines)
+    → (let behind : List (Bor (List ℕ)) = take (length lines - (place + 1)) (drop (place + 1) lines) in Answers r (BlockSays command (length lines) (place + 1) (texts behind) (closing (texts behind)))) → Answers r (LinesSay command (texts lines) (opening (texts lines)))
+lines_block command lines place r opens h =
+    subst (λ (q : Option ℕ). Answers r (LinesSay command (texts lines) q)) opens
+    (subst (λ (k : ℕ). Answers r (BlockSays command k (place + 1) (drop (place + 1) (texts lines)) (closing (drop (place + 1) (texts lines))))) (sym (texts-length lines))
+    (subst (λ (l : List (List ℕ)). Answers r (BlockSays command (length lines) (place + 1) l (closing l))) (ap texts (take_rest (place + 1) lines) ∙ texts-drop (place + 1) lines) h))
 
 -- lines without one
-pub lines_none : (lines : List (Bor (List ℕ))) (c : Contents) (o : Option ℕ) (r : Result Script ScriptError) → o ≡ opening (texts lines) → o ≡ None → c ≡ empty
-    → Says r (whole (length lines) c (0 + 1) (texts lines)) → Answers r (LinesSay (texts lines) (opening (texts lines)))
-lines_none lines c o r opens none starts h =
-    let said : Says r (whole (length (texts lines)) empty 1 (texts lines)) =
-    subst (λ (k : ℕ). Says r (whole k empty 1 (texts lines))) (sym (texts-length lines)) (subst (λ (k : Contents). Says r (whole (length lines) k 1 (texts lines))) starts h) in
-    subst (λ (q : Option ℕ). Answers r (LinesSay (texts lines) q)) (sym none ∙ opens) (answers-lines r (whole (length (texts lines)) empty 1 (texts lines)) said)
+pub lines_none : (command : Command) (lines : List (Bor (List ℕ))) (c : Contents) (o : Option ℕ) (r : Result Script ScriptError) → o ≡ opening (texts lines) → o ≡ None → c ≡ (empty command)
+    → Says r (whole (length lines) c (0 + 1) (texts lines)) → Answers r (LinesSay command (texts lines) (opening (texts lines)))
+lines_none command lines c o r opens none starts h =
+    let said : Says r (whole (length (texts lines)) (empty command) 1 (texts lines)) =
+    subst (λ (k : ℕ). Says r (whole k (empty command) 1 (texts lines))) (sym (texts-length lines)) (subst (λ (k : Contents). Says r (whole (length lines) k 1 (texts lines))) starts h) in
+    subst (λ (q : Option ℕ). Answers r (LinesSay command (texts lines) q)) (sym none ∙ opens) (answers-lines r (whole (length (texts lines)) (empty command) 1 (texts lines)) said)
 
 -- the policy of a block's text
 

@@ -20,17 +20,22 @@ use Rattle.gt_lines.specs.Lines.{line_of}
 use Rattle.gt_script.specs.Types.{with_type}
 use Rattle.gt_policy.specs.Allowing.{Allowed, type_named}
 use Rattle.gt_script.specs.Contents.{Contents, names_with}
-use Rattle.gt_script.specs.Script.{is_empty, is_misplaced, has_no_rights, or_config, domain_written, with_triple, type_in, with_domain, with_step, with_placed, with_line, with_words, with_lines}
-use Rattle.gt_script.specs.Laws.{said, triple_in, wear_in, domain_in, step_on, IsLine}
+use Rattle.gt_script.specs.Script.{is_empty, is_misplaced, has_no_rights, or_config, or_mode, configured, domain_written, with_triple, type_in, with_domain, with_step, with_order, with_asked, with_body, with_placed, with_line, with_words, with_lines}
+use Rattle.gt_script.specs.Laws.{said, triple_in, wear_in, domain_in, step_for, step_on, order_for, order_on, asks_for, is_for, IsLine}
 use Rattle.gt_lines.specs.declared.numbers.Number.{Number}
 use Rattle.gt_lines.specs.declared.calls.Action.{Action}
 use Rattle.gt_lines.specs.declared.lines.TripleLine.{TripleLine}
 use Rattle.gt_lines.specs.declared.lines.DomainLine.{DomainLine}
 use Rattle.gt_lines.specs.declared.lines.Line.{Line}
 use Rattle.gt_lines.specs.declared.lines.Line.TheVariants as line
+use Rattle.gt_lines.specs.declared.lines.BodyLine.{BodyLine}
+use Rattle.gt_script.specs.declared.command.Command.{Command}
+use Rattle.gt_script.specs.declared.command.Command.TheVariants.{Play, Run}
+use Rattle.gt_script.specs.declared.orders.Order.{Order}
+use Rattle.gt_script.specs.declared.orders.RunLine.{RunLine}
 use Rattle.gt_script.specs.declared.script.Step.{Step}
 use Rattle.gt_script.specs.declared.faults.FaultKind.{FaultKind}
-use Rattle.gt_script.specs.declared.faults.FaultKind.TheVariants.{Syntax}
+use Rattle.gt_script.specs.declared.faults.FaultKind.TheVariants.{Syntax, Config}
 use Rattle.gt_script.specs.declared.faults.Fault.{Fault}
 use Rattle.gt_script.proofs.TypeLemmas.{Grown, Grown-refl, Grown-trans, with_type-Typed}
 
@@ -39,6 +44,10 @@ use Rattle.gt_script.proofs.TypeLemmas.{Grown, Grown-refl, Grown-trans, with_typ
 bind-Some : {A B : Type 0} (o : Option A) (f : A → Option B) (y : B) → (o >>= f) ≡ Some y → (x : A) × (o ≡ Some x) × (f x ≡ Some y)
 bind-Some None f y e = absurd cc
 bind-Some (Some x) f y e = (x, refl, e)
+
+or_mode-Ok : (o : Option Contents) (d : Contents) → or_mode o ≡ Ok d → o ≡ Some d
+or_mode-Ok None d e = absurd cc
+or_mode-Ok (Some c) d e = let same : c ≡ d = cc in ap Some same
 
 or_config-Ok : (o : Option Contents) (d : Contents) → or_config o ≡ Ok d → o ≡ Some d
 or_config-Ok None d e = absurd cc
@@ -81,6 +90,11 @@ faultless-none = record { each = λ at x there. absurd (omega (arith, slice_get_
 taken-push : (ds : List DomainConfig) (d : DomainConfig) (id : DomId) → IsTrue (is_taken ds id) → IsTrue (is_taken (ds ++ d ∷ []) id)
 taken-push ds d id h = list_any-append (λ (e : DomainConfig). e.id.0 == id.0) ds (d ∷ []) ∙ rw h refl
 
+-- the line l, if it says one, is for this command
+abbrev Suits : Command → Option Line → Type 0
+Suits command None = Unit {0}
+Suits command (Some l) = IsTrue (is_for command l)
+
 -- what the line l, if it says one, adds to a script as line n
 record Adds (n : ℕ) (l : Option Line) (c d : Contents) : Type 0 where
   policy : d.policy ≡ c.policy
@@ -89,9 +103,13 @@ record Adds (n : ℕ) (l : Option Line) (c d : Contents) : Type 0 where
   triples : (types : List (List ℕ)) → Grown d.types types → d.triples ≡ c.triples ++ option_to_list (l >>= triple_in types)
   wear : option_to_list d.wear ≡ option_to_list c.wear ++ option_to_list (l >>= wear_in)
   domains : (types : List (List ℕ)) → Grown d.types types → d.domains ≡ c.domains ++ option_to_list (l >>= domain_in (names_with c.policy types))
-  steps : d.steps ≡ c.steps ++ option_to_list (l >>= step_on n)
+  command : d.command ≡ c.command
+  steps : d.steps ≡ c.steps ++ option_to_list (l >>= step_on c.command n)
+  orders : d.orders ≡ c.orders ++ option_to_list (l >>= order_on c.command n)
+  suited : Suits c.command l
   faultless : AreFaultless c.domains → AreFaultless d.domains
   configured : All (λ (s : Step). IsTrue (is_taken c.domains s.dom)) c.steps → All (λ (s : Step). IsTrue (is_taken d.domains s.dom)) d.steps
+  ordered : All (λ (o : Order). IsTrue (is_taken c.domains o.dom)) c.orders → All (λ (o : Order). IsTrue (is_taken d.domains o.dom)) d.orders
 
 adds-nothing : (n : ℕ) (c : Contents) → Adds n None c c
 adds-nothing n c = record {
@@ -101,9 +119,13 @@ adds-nothing n c = record {
   triples = λ types g. sym (append-nil c.triples);
   wear = sym (append-nil (option_to_list c.wear));
   domains = λ types g. sym (append-nil c.domains);
+  command = refl;
   steps = sym (append-nil c.steps);
+  orders = sym (append-nil c.orders);
+  suited = tt;
   faultless = λ h. h;
   configured = λ h. h;
+  ordered = λ h. h;
 }
 
 bind-at : {A B : Type 0} (o : Option A) (x : A) (f : A → Option B) → o ≡ Some x → (o >>= f) ≡ f x
@@ -125,9 +147,13 @@ adds-triple-of n c d t source target free s r same =
           ap (λ (o : Option Triple). c.triples ++ option_to_list o) (sym said);
       wear = sym (append-nil (option_to_list c.wear));
       domains = λ types g. sym (append-nil c.domains);
+      command = refl;
       steps = sym (append-nil c.steps);
+      orders = sym (append-nil c.orders);
+      suited = refl;
       faultless = λ h. h;
       configured = λ h. h;
+      ordered = λ h. h;
     })
 
 adds-triple : (n : ℕ) (c d : Contents) (t : TripleLine) → c.policy ≡ None → with_triple c t ≡ Ok d → Adds n (Some (line.Triple t)) c d
@@ -165,9 +191,13 @@ adds-domain-of n c d l label domain t w fine same =
       domains = λ types g.
           let said : domain_in (names_with c.policy types) (line.Domain l) ≡ Some domain = bind-at _ _ _ (a.number types g) ∙ w in
           ap (λ (o : Option DomainConfig). c.domains ++ option_to_list o) (sym said);
+      command = refl;
       steps = sym (append-nil c.steps);
+      orders = sym (append-nil c.orders);
+      suited = refl;
       faultless = λ h. faultless-push c.domains domain h (none-is _ fine);
       configured = λ h. All-weaker _ _ (λ s k. taken-push c.domains domain s.dom k) c.steps h;
+      ordered = λ h. All-weaker _ _ (λ o k. taken-push c.domains domain o.dom k) c.orders h;
     })
 
 adds-domain : (n : ℕ) (c d : Contents) (l : DomainLine) → with_domain c l ≡ Ok d → Adds n (Some (line.Domain l)) c d
@@ -178,29 +208,81 @@ adds-domain n c d l e =
     let r = then-Some _ _ d q.2 in
     adds-domain-of n c d l p.0 q.0 p.1 q.1 r.0 r.1
 
-adds-step-of : (n : ℕ) (c d : Contents) (number : Number) (action : Action) (id : ℕ) → number_below (2 ^ 16) number ≡ Some id → is_taken c.domains (record { 0 = id }) ≡ true
-    → record c { steps = c.steps ++ record { line = n; dom = record { 0 = id }; action = action } ∷ [] } ≡ d → Adds n (Some (line.Body number action)) c d
-adds-step-of n c d number action id small taken same =
-    subst (λ (x : Contents). Adds n (Some (line.Body number action)) c x) same (record {
+-- a domain that is configured has this number
+configured-Some : (ds : List DomainConfig) (number : Number) (dom : DomId) → configured ds number ≡ Some dom → (number_below (2 ^ 16) number ≡ Some dom.0) × (is_taken ds dom ≡ true)
+unfolding configured
+configured-Some ds number dom e =
+    let p = bind-Some _ _ dom e in
+    let r = then-Some _ _ dom p.2 in
+    (p.1 ∙ ap (λ (d : DomId). Some d.0) r.1, subst (λ (d : DomId). is_taken ds d ≡ true) r.1 r.0)
+
+adds-step : (n : ℕ) (c d : Contents) (number : Number) (asks : BodyLine) (dom : DomId) → c.command ≡ Play → number_below (2 ^ 16) number ≡ Some dom.0 → is_taken c.domains dom ≡ true
+    → with_step c n dom asks ≡ Ok d → Adds n (Some (line.Body number asks)) c d
+unfolding with_step
+adds-step n c d number asks dom play small taken e =
+    let p = bind-Some _ _ d (or_mode-Ok _ d e) in
+    subst (λ (x : Contents). Adds n (Some (line.Body number asks)) c x) (same_Some _ _ p.2) (record {
       policy = refl;
       no_triples = λ p e. refl;
       types = Grown-refl c.types;
       triples = λ types g. sym (append-nil c.triples);
       wear = sym (append-nil (option_to_list c.wear));
       domains = λ types g. sym (append-nil c.domains);
+      command = refl;
       steps =
-          let said : step_on n (line.Body number action) ≡ Some (record { line = n; dom = record { 0 = id }; action = action }) = bind-at _ _ _ small in
+          let said : step_on c.command n (line.Body number asks) ≡ Some (record { line = n; dom = dom; action = p.0 }) =
+          ap (λ (k : Command). step_for k n number asks) play ∙ bind-at _ _ _ small ∙ bind-at _ _ _ p.1 in
           ap (λ (o : Option Step). c.steps ++ option_to_list o) (sym said);
+      orders =
+          let said : order_on c.command n (line.Body number asks) ≡ None = ap (λ (k : Command). order_for k n number asks) play in
+          sym (append-nil c.orders) ∙ ap (λ (o : Option Order). c.orders ++ option_to_list o) (sym said);
+      suited = ap (λ (k : Command). asks_for k asks) play ∙ ap (λ (o : Option Action). is_some o) p.1;
       faultless = λ h. h;
       configured = λ h. All-push (λ (s : Step). IsTrue (is_taken c.domains s.dom)) c.steps _ h taken;
+      ordered = λ h. h;
     })
 
-adds-step : (n : ℕ) (c d : Contents) (number : Number) (action : Action) → with_step c n number action ≡ Ok d → Adds n (Some (line.Body number action)) c d
-unfolding with_step
-adds-step n c d number action e =
-    let p = bind-Some _ _ d (or_config-Ok _ d e) in
-    let r = then-Some _ _ d p.2 in
-    adds-step-of n c d number action p.0 p.1 r.0 r.1
+adds-order : (n : ℕ) (c d : Contents) (number : Number) (asks : BodyLine) (dom : DomId) → c.command ≡ Run → number_below (2 ^ 16) number ≡ Some dom.0 → is_taken c.domains dom ≡ true
+    → with_order c n dom asks ≡ Ok d → Adds n (Some (line.Body number asks)) c d
+unfolding with_order
+adds-order n c d number asks dom run small taken e =
+    let p = bind-Some _ _ d (or_mode-Ok _ d e) in
+    subst (λ (x : Contents). Adds n (Some (line.Body number asks)) c x) (same_Some _ _ p.2) (record {
+      policy = refl;
+      no_triples = λ p e. refl;
+      types = Grown-refl c.types;
+      triples = λ types g. sym (append-nil c.triples);
+      wear = sym (append-nil (option_to_list c.wear));
+      domains = λ types g. sym (append-nil c.domains);
+      command = refl;
+      steps =
+          let said : step_on c.command n (line.Body number asks) ≡ None = ap (λ (k : Command). step_for k n number asks) run in
+          sym (append-nil c.steps) ∙ ap (λ (o : Option Step). c.steps ++ option_to_list o) (sym said);
+      orders =
+          let said : order_on c.command n (line.Body number asks) ≡ Some (record { line = n; dom = dom; asks = p.0 }) =
+          ap (λ (k : Command). order_for k n number asks) run ∙ bind-at _ _ _ small ∙ bind-at _ _ _ p.1 in
+          ap (λ (o : Option Order). c.orders ++ option_to_list o) (sym said);
+      suited = ap (λ (k : Command). asks_for k asks) run ∙ ap (λ (o : Option RunLine). is_some o) p.1;
+      faultless = λ h. h;
+      configured = λ h. h;
+      ordered = λ h. All-push (λ (o : Order). IsTrue (is_taken c.domains o.dom)) c.orders _ h taken;
+    })
+
+adds-asked : (n : ℕ) (c d : Contents) (number : Number) (asks : BodyLine) (dom : DomId) (command : Command) → c.command ≡ command → number_below (2 ^ 16) number ≡ Some dom.0
+    → is_taken c.domains dom ≡ true → with_asked command c n dom asks ≡ Ok d → Adds n (Some (line.Body number asks)) c d
+adds-asked n c d number asks dom Play is small taken e = adds-step n c d number asks dom is small taken e
+adds-asked n c d number asks dom Run is small taken e = adds-order n c d number asks dom is small taken e
+
+adds-known : (n : ℕ) (c d : Contents) (number : Number) (asks : BodyLine) (known : Option DomId) → configured c.domains number ≡ known
+    → (let r : Result Contents FaultKind = elim known [ None ↦ Err Config | Some dom ↦ with_asked c.command c n dom asks ] in r ≡ Ok d) → Adds n (Some (line.Body number asks)) c d
+adds-known n c d number asks None p e = absurd cc
+adds-known n c d number asks (Some dom) p e =
+    let is = configured-Some c.domains number dom p in
+    adds-asked n c d number asks dom c.command refl is.0 is.1 e
+
+adds-body : (n : ℕ) (c d : Contents) (number : Number) (asks : BodyLine) → with_body c n number asks ≡ Ok d → Adds n (Some (line.Body number asks)) c d
+unfolding with_body
+adds-body n c d number asks e = adds-known n c d number asks (configured c.domains number) refl e
 
 -- a line in its place that gives the first generation is the first to do so, and a triple stands behind no policy
 
@@ -226,9 +308,13 @@ adds-wear n c d first fresh same =
       triples = λ types g. sym (append-nil c.triples);
       wear = ap (λ (o : Option ℕ). option_to_list o ++ first ∷ []) (sym fresh);
       domains = λ types g. sym (append-nil c.domains);
+      command = refl;
       steps = sym (append-nil c.steps);
+      orders = sym (append-nil c.orders);
+      suited = refl;
       faultless = λ h. h;
       configured = λ h. h;
+      ordered = λ h. h;
     })
 
 adds-placed : (n : ℕ) (c d : Contents) (l : Line) → is_misplaced c l ≡ false → with_placed c n l ≡ Ok d → Adds n (Some l) c d
@@ -239,7 +325,7 @@ adds-placed n c d (line.Wear first) p e =
     let same : record c { wear = Some first } ≡ d = cc in
     adds-wear n c d first fresh same
 adds-placed n c d (line.Domain l) p e = adds-domain n c d l e
-adds-placed n c d (line.Body number action) p e = adds-step n c d number action e
+adds-placed n c d (line.Body number asks) p e = adds-body n c d number asks e
 
 adds-line : (n : ℕ) (c d : Contents) (l : Line) → with_line c n l ≡ Ok d → Adds n (Some l) c d
 unfolding with_line
@@ -271,9 +357,13 @@ pub record Extends (n : ℕ) (ls : List (List ℕ)) (c d : Contents) : Type 0 wh
   pub triples : (types : List (List ℕ)) → Grown d.types types → d.triples ≡ c.triples ++ filter_map (λ l. triple_in types l.1) (said n ls)
   pub wear : option_to_list d.wear ≡ option_to_list c.wear ++ filter_map (λ l. wear_in l.1) (said n ls)
   pub domains : (types : List (List ℕ)) → Grown d.types types → d.domains ≡ c.domains ++ filter_map (λ l. domain_in (names_with c.policy types) l.1) (said n ls)
-  pub steps : d.steps ≡ c.steps ++ filter_map (λ l. step_on l.0 l.1) (said n ls)
+  pub command : d.command ≡ c.command
+  pub steps : d.steps ≡ c.steps ++ filter_map (λ l. step_on c.command l.0 l.1) (said n ls)
+  pub orders : d.orders ≡ c.orders ++ filter_map (λ l. order_on c.command l.0 l.1) (said n ls)
+  pub suited : All (λ l. IsTrue (is_for c.command l.1)) (said n ls)
   pub faultless : AreFaultless c.domains → AreFaultless d.domains
   pub configured : All (λ (s : Step). IsTrue (is_taken c.domains s.dom)) c.steps → All (λ (s : Step). IsTrue (is_taken d.domains s.dom)) d.steps
+  pub ordered : All (λ (o : Order). IsTrue (is_taken c.domains o.dom)) c.orders → All (λ (o : Order). IsTrue (is_taken d.domains o.dom)) d.orders
 
 cons-list : {X : Type 0} (o : Option X) (xs : List X) → cons_option o xs ≡ option_to_list o ++ xs
 cons-list None xs = refl
@@ -283,6 +373,11 @@ pub filter-cons : {X : Type 0} (g : ℕ → Line → Option X) (n : ℕ) (o : Op
     → filter_map (λ l. g l.0 l.1) (cons_option (option_map (λ x. (n, x)) o) xs) ≡ option_to_list (o >>= g n) ++ filter_map (λ l. g l.0 l.1) xs
 filter-cons g n None xs = refl
 filter-cons g n (Some l) xs = cons-list (g n l) _
+
+suits-cons : (command : Command) (n : ℕ) (o : Option Line) (xs : List (ℕ × Line)) → Suits command o → All (λ l. IsTrue (is_for command l.1)) xs
+    → All (λ l. IsTrue (is_for command l.1)) (cons_option (option_map (λ x. (n, x)) o) xs)
+suits-cons command n None xs here rest = rest
+suits-cons command n (Some l) xs here rest = All-cons (λ (l : ℕ × Line). IsTrue (is_for command l.1)) (n, l) xs here rest
 
 joined : {X : Type 0} (a b e o f : List X) → b ≡ a ++ o → e ≡ b ++ f → e ≡ a ++ (o ++ f)
 joined a b e o f p q = q ∙ ap (λ xs. xs ++ f) p ∙ append_assoc a o f
@@ -302,10 +397,15 @@ extends-cons n l ls c d e a x =
       domains = λ types g. joined c.domains d.domains e.domains _ _ (here.domains types (Grown-trans _ _ _ x.types g))
           (subst (λ (q : Option Allowed). e.domains ≡ d.domains ++ filter_map (λ l. domain_in (names_with q types) l.1) (said (n + 1) ls)) here.policy (x.domains types g))
           ∙ ap (λ (ds : List DomainConfig). c.domains ++ ds) (sym (filter-cons (λ _ y. domain_in (names_with c.policy types) y) n (line_of (words l)) (said (n + 1) ls)));
-      steps = joined c.steps d.steps e.steps _ _ here.steps x.steps
-          ∙ ap (λ (ss : List Step). c.steps ++ ss) (sym (filter-cons step_on n (line_of (words l)) (said (n + 1) ls)));
+      command = x.command ∙ here.command;
+      steps = joined c.steps d.steps e.steps _ _ here.steps (subst (λ (k : Command). e.steps ≡ d.steps ++ filter_map (λ l. step_on k l.0 l.1) (said (n + 1) ls)) here.command x.steps)
+          ∙ ap (λ (ss : List Step). c.steps ++ ss) (sym (filter-cons (step_on c.command) n (line_of (words l)) (said (n + 1) ls)));
+      orders = joined c.orders d.orders e.orders _ _ here.orders (subst (λ (k : Command). e.orders ≡ d.orders ++ filter_map (λ l. order_on k l.0 l.1) (said (n + 1) ls)) here.command x.orders)
+          ∙ ap (λ (os : List Order). c.orders ++ os) (sym (filter-cons (order_on c.command) n (line_of (words l)) (said (n + 1) ls)));
+      suited = suits-cons c.command n (line_of (words l)) (said (n + 1) ls) here.suited (subst (λ (k : Command). All (λ l. IsTrue (is_for k l.1)) (said (n + 1) ls)) here.command x.suited);
       faultless = λ h. x.faultless (here.faultless h);
       configured = λ h. x.configured (here.configured h);
+      ordered = λ h. x.ordered (here.ordered h);
     }
 
 extends-line : (n : ℕ) (l : List ℕ) (ls : List (List ℕ)) (c e : Contents) (r : Result Contents FaultKind) → with_words c n (words l) ≡ r
@@ -325,8 +425,12 @@ with_lines-Extends n [] c e h =
       triples = λ types g. sym (append-nil c.triples);
       wear = sym (append-nil (option_to_list c.wear));
       domains = λ types g. sym (append-nil c.domains);
+      command = refl;
       steps = sym (append-nil c.steps);
+      orders = sym (append-nil c.orders);
+      suited = All-nil (λ l. IsTrue (is_for c.command l.1));
       faultless = λ k. k;
       configured = λ k. k;
+      ordered = λ k. k;
     })
 with_lines-Extends n (l ∷ ls) c e h = extends-line n l ls c e (with_words c n (words l)) refl (λ d. with_lines-Extends (n + 1) ls d e) h

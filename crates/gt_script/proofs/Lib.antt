@@ -1,7 +1,10 @@
 pub mod BlockLemmas
 pub mod FaultLemmas
+pub mod FlagLemmas
 pub mod LawLemmas
+pub mod OneLemmas
+pub mod RoundLemmas
+pub mod RunLemmas
 pub mod ScriptLemmas
 pub mod TypeLemmas
 pub mod WearLemmas
-pub mod OneLemmas

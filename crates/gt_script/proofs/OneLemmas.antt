@@ -7,7 +7,8 @@ use Rattle.gt_policy.specs.Whole.{Says}
 use Rattle.gt_policy.specs.declared.fault.Fault as policy
 use Rattle.gt_script.specs.Blocks.{Means, IsFaulty, behind, block_text, opening, closing}
 use Rattle.gt_script.specs.Contents.{Contents, with_policy}
-use Rattle.gt_script.specs.Script.{Wrong, in_policy, in_result, whole, ClosedSays, BlockSays, LinesSay, TextSays, Tells}
+use Rattle.gt_script.specs.declared.command.Command.{Command}
+use Rattle.gt_script.specs.Script.{Wrong, in_policy, in_result, whole, ClosedSays, BlockSays, LinesSay, TextSays, TellsFor}
 
 -- a text of a policy says one thing alone
 abbrev pub OneMeaning : Type 0
@@ -31,33 +32,33 @@ faulty_one one before lines f g (k, says, is) (l, said, other) = is ∙ ap (behi
 means_or_faulty : OneMeaning → (before : ℕ) (lines : List (List ℕ)) (a : Allowed) (g : policy.Fault) → Means lines a → IsFaulty before lines g → ⊥
 means_or_faulty one before lines a g (m, says, is) (f, said, other) = never_both m f (one (block_text lines) (Ok m) (Err f) says said)
 
-closed_one : OneMeaning → (count first : ℕ) (lines : List (List ℕ)) (end : ℕ) (x y : Result Contents Wrong) → ClosedSays count first lines end x → ClosedSays count first lines end y → x ≡ y
-closed_one one count first lines end x y (inl (a, means, is)) (inl (b, meant, other)) =
-    is ∙ ap (λ (p : Allowed). in_result (whole count (with_policy p) (first + end + 1 + 1) (drop (end + 1) lines))) (means_one one (take end lines) a b means meant) ∙ sym other
-closed_one one count first lines end x y (inl (a, means, is)) (inr (g, faulty, other)) = absurd (means_or_faulty one first (take end lines) a g means faulty)
-closed_one one count first lines end x y (inr (g, faulty, is)) (inl (a, means, other)) = absurd (means_or_faulty one first (take end lines) a g means faulty)
-closed_one one count first lines end x y (inr (f, faulty, is)) (inr (g, also, other)) =
+closed_one : (command : Command) → OneMeaning → (count first : ℕ) (lines : List (List ℕ)) (end : ℕ) (x y : Result Contents Wrong) → ClosedSays command count first lines end x → ClosedSays command count first lines end y → x ≡ y
+closed_one command one count first lines end x y (inl (a, means, is)) (inl (b, meant, other)) =
+    is ∙ ap (λ (p : Allowed). in_result (whole count (with_policy command p) (first + end + 1 + 1) (drop (end + 1) lines))) (means_one one (take end lines) a b means meant) ∙ sym other
+closed_one command one count first lines end x y (inl (a, means, is)) (inr (g, faulty, other)) = absurd (means_or_faulty one first (take end lines) a g means faulty)
+closed_one command one count first lines end x y (inr (g, faulty, is)) (inl (a, means, other)) = absurd (means_or_faulty one first (take end lines) a g means faulty)
+closed_one command one count first lines end x y (inr (f, faulty, is)) (inr (g, also, other)) =
     is ∙ ap (λ (p : policy.Fault). Err (in_policy p)) (faulty_one one first (take end lines) f g faulty also) ∙ sym other
 
-block_one : OneMeaning → (count first : ℕ) (lines : List (List ℕ)) (o : Option ℕ) (x y : Result Contents Wrong) → BlockSays count first lines o x → BlockSays count first lines o y → x ≡ y
-block_one one count first lines None x y is other = is ∙ sym other
-block_one one count first lines (Some end) x y is other = closed_one one count first lines end x y is other
+block_one : (command : Command) → OneMeaning → (count first : ℕ) (lines : List (List ℕ)) (o : Option ℕ) (x y : Result Contents Wrong) → BlockSays command count first lines o x → BlockSays command count first lines o y → x ≡ y
+block_one command one count first lines None x y is other = is ∙ sym other
+block_one command one count first lines (Some end) x y is other = closed_one command one count first lines end x y is other
 
-lines_one : OneMeaning → (lines : List (List ℕ)) (o : Option ℕ) (x y : Result Contents Wrong) → LinesSay lines o x → LinesSay lines o y → x ≡ y
-lines_one one lines None x y is other = is ∙ sym other
-lines_one one lines (Some place) x y is other = block_one one (length lines) (place + 1) (drop (place + 1) lines) (closing (drop (place + 1) lines)) x y is other
+lines_one : (command : Command) → OneMeaning → (lines : List (List ℕ)) (o : Option ℕ) (x y : Result Contents Wrong) → LinesSay command lines o x → LinesSay command lines o y → x ≡ y
+lines_one command one lines None x y is other = is ∙ sym other
+lines_one command one lines (Some place) x y is other = block_one command one (length lines) (place + 1) (drop (place + 1) lines) (closing (drop (place + 1) lines)) x y is other
 
 long_or_short : (n most : ℕ) → most < n → n ≤ most → ⊥
 long_or_short n most long short = absurd (omega arith)
 
 -- bytes tell one script, or one fault
-pub tells_one : OneMeaning → (bytes : List ℕ) (x y : Result Contents Wrong) → Tells bytes x → Tells bytes y → x ≡ y
-tells_one one bytes x y (inl (long, is)) (inl (also, other)) = is ∙ sym other
-tells_one one bytes x y (inl (long, is)) (inr (inl (short, bad, other))) = absurd (long_or_short (length bytes) 1048576 long short)
-tells_one one bytes x y (inl (long, is)) (inr (inr (short, text, says))) = absurd (long_or_short (length bytes) 1048576 long short)
-tells_one one bytes x y (inr (inl (short, bad, is))) (inl (long, other)) = absurd (long_or_short (length bytes) 1048576 long short)
-tells_one one bytes x y (inr (inl (short, bad, is))) (inr (inl (also, worse, other))) = is ∙ sym other
-tells_one one bytes x y (inr (inl (short, bad, is))) (inr (inr (also, text, says))) = absurd (bad text)
-tells_one one bytes x y (inr (inr (short, text, says))) (inl (long, other)) = absurd (long_or_short (length bytes) 1048576 long short)
-tells_one one bytes x y (inr (inr (short, text, says))) (inr (inl (also, bad, other))) = absurd (bad text)
-tells_one one bytes x y (inr (inr (short, text, says))) (inr (inr (also, utf8, said))) = lines_one one (lines_in bytes) (opening (lines_in bytes)) x y says said
+pub tells_one : (command : Command) → OneMeaning → (bytes : List ℕ) (x y : Result Contents Wrong) → TellsFor command bytes x → TellsFor command bytes y → x ≡ y
+tells_one command one bytes x y (inl (long, is)) (inl (also, other)) = is ∙ sym other
+tells_one command one bytes x y (inl (long, is)) (inr (inl (short, bad, other))) = absurd (long_or_short (length bytes) 1048576 long short)
+tells_one command one bytes x y (inl (long, is)) (inr (inr (short, text, says))) = absurd (long_or_short (length bytes) 1048576 long short)
+tells_one command one bytes x y (inr (inl (short, bad, is))) (inl (long, other)) = absurd (long_or_short (length bytes) 1048576 long short)
+tells_one command one bytes x y (inr (inl (short, bad, is))) (inr (inl (also, worse, other))) = is ∙ sym other
+tells_one command one bytes x y (inr (inl (short, bad, is))) (inr (inr (also, text, says))) = absurd (bad text)
+tells_one command one bytes x y (inr (inr (short, text, says))) (inl (long, other)) = absurd (long_or_short (length bytes) 1048576 long short)
+tells_one command one bytes x y (inr (inr (short, text, says))) (inr (inl (also, bad, other))) = absurd (bad text)
+tells_one command one bytes x y (inr (inr (short, text, says))) (inr (inr (also, utf8, said))) = lines_one command one (lines_in bytes) (opening (lines_in bytes)) x y says said

@@ -10,11 +10,10 @@ use Rattle.gt_types.specs.declared.limits.TheConstants.{LAST_GENERATION}
 use Rattle.gt_lines.specs.Words.{words}
 use Rattle.gt_lines.specs.Numbers.{decimal_value, decimal_number, below}
 use Rattle.gt_lines.specs.Fields.{◌>>=◌, generation_word}
-use Rattle.gt_lines.specs.Calls.{action_of}
-use Rattle.gt_lines.specs.Lines.{triple_of, wear_of, domain_of, body_of, line_of}
+use Rattle.gt_lines.specs.Lines.{triple_of, wear_of, domain_of, body_of, line_of, asked_of}
 use Rattle.gt_script.specs.Laws.{said, wear_in}
 use Rattle.gt_lines.specs.declared.numbers.Number.{Number}
-use Rattle.gt_lines.specs.declared.calls.Action.{Action}
+use Rattle.gt_lines.specs.declared.lines.BodyLine.{BodyLine}
 use Rattle.gt_lines.specs.declared.lines.TripleLine.{TripleLine}
 use Rattle.gt_lines.specs.declared.lines.DomainLine.{DomainLine}
 use Rattle.gt_lines.specs.declared.lines.Line.{Line}
@@ -26,7 +25,7 @@ abbrev Ages : Line → Type 0
 Ages (line.Triple t) = Unit {0}
 Ages (line.Wear first) = first ≤ LAST_GENERATION
 Ages (line.Domain d) = Unit {0}
-Ages (line.Body id action) = Unit {0}
+Ages (line.Body id asks) = Unit {0}
 
 below-less : (limit n m : ℕ) → below (limit + 1) n ≡ Some m → m ≤ limit
 below-less limit n m e = grind (arith, nat_tests)
@@ -45,15 +44,15 @@ wear-ages [] first e = absurd cc
 wear-ages (word ∷ []) first e = generation-ages word first e
 wear-ages (word ∷ other ∷ args) first e = absurd cc
 
-body-by : (number : Option Number) (action : Option Action) (l : Line) → (number >>= λ n. action >>= λ a. Some (line.Body n a)) ≡ Some l → Ages l
-body-by None action l e = absurd cc
+body-by : (number : Option Number) (asks : Option BodyLine) (l : Line) → (number >>= λ n. asks >>= λ a. Some (line.Body n a)) ≡ Some l → Ages l
+body-by None asks l e = absurd cc
 body-by (Some n) None l e = absurd cc
 body-by (Some n) (Some a) l e = let same : line.Body n a ≡ l = cc in subst Ages same tt
 
 body-ages : (word : List ℕ) (args : List (List ℕ)) (l : Line) → body_of word args ≡ Some l → Ages l
 unfolding body_of
 body-ages word [] l e = absurd cc
-body-ages word (id ∷ args) l e = body-by (decimal_number id) (action_of word args) l e
+body-ages word (id ∷ args) l e = body-by (decimal_number id) (asked_of word args) l e
 
 -- a line by its first word, which is `triple`, `wear`, `domain` or another
 by-word : (a b c : Bool) (t : Option TripleLine) (w : Option ℕ) (d : Option DomainLine) (rest : Option Line) (l : Line)
@@ -76,7 +75,7 @@ ages-cons None h gs a = a
 ages-cons (Some (line.Triple t)) h gs a = a
 ages-cons (Some (line.Wear first)) h gs a = All-cons (λ g. g ≤ LAST_GENERATION) first gs (h (line.Wear first) refl) a
 ages-cons (Some (line.Domain d)) h gs a = a
-ages-cons (Some (line.Body id action)) h gs a = a
+ages-cons (Some (line.Body id asks)) h gs a = a
 
 all-age : (n : ℕ) (ls : List (List ℕ)) → All (λ g. g ≤ LAST_GENERATION) (filter_map (λ l. wear_in l.1) (said n ls))
 all-age n [] = All-nil (λ g. g ≤ LAST_GENERATION)

@@ -4,37 +4,47 @@ use Rattle.std.specs.Option.{unwrap_or, option_map}
 use Rattle.gt_types.specs.declared.rights.Triple.{Triple}
 use Rattle.gt_types.specs.declared.config.DomainConfig.{DomainConfig}
 use Rattle.gt_policy.specs.Allowing.{Rights, Allowed, allowed_of}
+use Rattle.gt_script.specs.declared.command.Command.{Command}
+use Rattle.gt_script.specs.declared.orders.Order.{Order}
 use Rattle.gt_script.specs.declared.script.Step.{Step}
 
--- what the policy of its block tells, where it has one; else the names of its types, by their numbers, and its triples; its domains and steps; all in the order of their lines; and the number of its line `wear`, where it has one (own)
+-- the command that it is for; what the policy of its block tells, where it has one; else the names of its types, by their numbers, and its triples; its domains; the lines of its body, which are steps for `play` and orders for `run`; all in the order of their lines; and the number of its line `wear`, where it has one (own)
 pub record Contents : Type 0 where
+  pub command : Command
   pub policy : Option Allowed
   pub types : List (List ℕ)
   pub triples : List Triple
   pub wear : Option ℕ
   pub domains : List DomainConfig
   pub steps : List Step
+  pub orders : List Order
 
 -- the same, with the policy as it is kept (own)
 pub record Kept : Type 0 where
+  pub command : Command
   pub policy : Option Rights
   pub types : List (List ℕ)
   pub triples : List Triple
   pub wear : Option ℕ
   pub domains : List DomainConfig
   pub steps : List Step
+  pub orders : List Order
 
 -- what a script holds that is kept so (own)
 abbrev pub told : Kept → Contents
-told k = record { policy = option_map allowed_of k.policy; types = k.types; triples = k.triples; wear = k.wear; domains = k.domains; steps = k.steps }
+told k = record { command = k.command; policy = option_map allowed_of k.policy; types = k.types; triples = k.triples; wear = k.wear; domains = k.domains; steps = k.steps; orders = k.orders }
 
--- a script of no line (own)
-abbrev pub empty : Contents
-empty = record { policy = None; types = []; triples = []; wear = None; domains = []; steps = [] }
+-- a script of no line, for this command (own)
+abbrev pub empty : Command → Contents
+empty command = record { command = command; policy = None; types = []; triples = []; wear = None; domains = []; steps = []; orders = [] }
 
 -- a script of a policy block alone (own)
-abbrev pub with_policy : Allowed → Contents
-with_policy p = record empty { policy = Some p }
+abbrev pub with_policy : Command → Allowed → Contents
+with_policy command p = record (empty command) { policy = Some p }
+
+-- a script without the lines of its body for `run` (own)
+abbrev pub without_orders : Contents → Contents
+without_orders c = record c { orders = [] }
 
 -- the names of the types, with these where there is no policy (own)
 abbrev pub names_with : Option Allowed → List (List ℕ) → List (List ℕ)

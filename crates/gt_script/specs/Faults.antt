@@ -5,7 +5,7 @@ use Rattle.gt_policy.specs.declared.parse.FaultKind as policy
 use Rattle.gt_policy.specs.declared.parse.FaultKind.TheVariants as kinds
 use Rattle.gt_policy.specs.Texts.{fault_text as policy_fault_text}
 use Rattle.gt_script.specs.declared.faults.FaultKind.{FaultKind}
-use Rattle.gt_script.specs.declared.faults.FaultKind.TheVariants.{Limit, Utf8, Syntax, Config}
+use Rattle.gt_script.specs.declared.faults.FaultKind.TheVariants.{Limit, Utf8, Syntax, Config, Mode, Stuck}
 use Rattle.gt_script.specs.declared.faults.Fault.{Fault}
 use Rattle.gt_script.specs.declared.faults.ScriptError.{ScriptError}
 use Rattle.gt_script.specs.declared.faults.ScriptError.TheVariants.{Memory}
@@ -17,6 +17,8 @@ fault_word Limit = codes "limit"
 fault_word Utf8 = codes "utf8"
 fault_word Syntax = codes "syntax"
 fault_word Config = codes "config"
+fault_word Mode = codes "mode"
+fault_word Stuck = codes "stuck"
 
 -- a fault with the number of its line (own)
 abbrev pub fault_text : Fault → List ℕ

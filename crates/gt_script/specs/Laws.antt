@@ -1,6 +1,6 @@
 -- What the parts of a script are, said without the order of reading (own).
-use Rattle.std.specs.Prelude.{◌≡◌, ◌≢◌, ◌≤◌, ◌<◌, ◌+◌, ◌^◌, ◌⊎◌, ℕ, List, [], ◌∷◌, ◌++◌, length, take, Option, Some, None, Ok, Err, IsSome, IsTrue, All, AllPairs, slice_get, codes}
-use Rattle.std.specs.Option.{option_map, option_to_list}
+use Rattle.std.specs.Prelude.{◌≡◌, ◌≢◌, ◌≤◌, ◌<◌, ◌+◌, ◌^◌, ◌⊎◌, ℕ, Bool, true, List, [], ◌∷◌, ◌++◌, length, take, Option, Some, None, Ok, Err, IsSome, IsTrue, All, AllPairs, slice_get, codes}
+use Rattle.std.specs.Option.{option_map, option_to_list, is_some}
 use Rattle.std.specs.List.{filter_map, enumerate_from}
 use Rattle.std.specs.Str.{IsUtf8}
 use Rattle.std.specs.Str.Lines.{lines as lines_in}
@@ -18,9 +18,14 @@ use Rattle.gt_lines.specs.Numbers.{number_below}
 use Rattle.gt_lines.specs.Fields.{◌>>=◌}
 use Rattle.gt_lines.specs.Lines.{line_of}
 use Rattle.gt_script.specs.Contents.{Contents, empty, with_policy, type_names, first_gen}
-use Rattle.gt_script.specs.Script.{domain_written, with_words, with_lines}
+use Rattle.gt_script.specs.Script.{domain_written, action_in, run_line_in, with_words, with_lines}
 use Rattle.gt_lines.specs.declared.lines.Line.{Line}
 use Rattle.gt_lines.specs.declared.lines.Line.TheVariants as line
+use Rattle.gt_lines.specs.declared.numbers.Number.{Number}
+use Rattle.gt_lines.specs.declared.lines.BodyLine.{BodyLine}
+use Rattle.gt_script.specs.declared.command.Command.{Command}
+use Rattle.gt_script.specs.declared.command.Command.TheVariants.{Play, Run}
+use Rattle.gt_script.specs.declared.orders.Order.{Order}
 use Rattle.gt_script.specs.declared.script.Step.{Step}
 use Rattle.gt_script.specs.declared.faults.Fault.{Fault}
 use Rattle.gt_script.specs.declared.faults.FaultKind.TheVariants.{Limit, Utf8, Syntax, Config}
@@ -40,14 +45,14 @@ triple_in types (line.Triple t) = do
   Some (record { source = source; target = target; perm = t.perm })
 triple_in types (line.Wear first) = None
 triple_in types (line.Domain d) = None
-triple_in types (line.Body id action) = None
+triple_in types (line.Body id asks) = None
 
 -- the first generation of a line, if it gives one (own)
 abbrev pub wear_in : Line → Option ℕ
 wear_in (line.Triple t) = None
 wear_in (line.Wear first) = Some first
 wear_in (line.Domain d) = None
-wear_in (line.Body id action) = None
+wear_in (line.Body id asks) = None
 
 -- the domain of a line, if it configures one (own)
 abbrev pub domain_in : List (List ℕ) → Line → Option DomainConfig
@@ -56,16 +61,49 @@ domain_in types (line.Wear first) = None
 domain_in types (line.Domain d) = do
   label ← type_named types d.type_name
   domain_written d label
-domain_in types (line.Body id action) = None
+domain_in types (line.Body id asks) = None
 
--- the step of line n, if it is one of the body (own)
-abbrev pub step_on : ℕ → Line → Option Step
-step_on n (line.Triple t) = None
-step_on n (line.Wear first) = None
-step_on n (line.Domain d) = None
-step_on n (line.Body number action) = do
+-- the step that line n is in a script for this command, if it is one (own)
+abbrev pub step_for : Command → ℕ → Number → BodyLine → Option Step
+step_for Play n number asks = do
   id ← number_below (2 ^ 16) number
+  action ← action_in asks
   Some (record { line = n; dom = record { 0 = id }; action = action })
+step_for Run n number asks = None
+
+-- the order that line n is in a script for this command, if it is one (own)
+abbrev pub order_for : Command → ℕ → Number → BodyLine → Option Order
+order_for Play n number asks = None
+order_for Run n number asks = do
+  id ← number_below (2 ^ 16) number
+  order ← run_line_in asks
+  Some (record { line = n; dom = record { 0 = id }; asks = order })
+
+-- the step of line n, if it is one of the body of a script for `play` (own)
+abbrev pub step_on : Command → ℕ → Line → Option Step
+step_on command n (line.Triple t) = None
+step_on command n (line.Wear first) = None
+step_on command n (line.Domain d) = None
+step_on command n (line.Body number asks) = step_for command n number asks
+
+-- the order of line n, if it is one of the body of a script for `run` (own)
+abbrev pub order_on : Command → ℕ → Line → Option Order
+order_on command n (line.Triple t) = None
+order_on command n (line.Wear first) = None
+order_on command n (line.Domain d) = None
+order_on command n (line.Body number asks) = order_for command n number asks
+
+-- a line is for this command: each but those of the body that are for the other one (own)
+abbrev pub asks_for : Command → BodyLine → Bool
+asks_for Play asks = is_some (action_in asks)
+asks_for Run asks = is_some (run_line_in asks)
+
+-- the same of any line (own)
+abbrev pub is_for : Command → Line → Bool
+is_for command (line.Triple t) = true
+is_for command (line.Wear first) = true
+is_for command (line.Domain d) = true
+is_for command (line.Body number asks) = asks_for command asks
 
 -- a line without words, or one that says something (own)
 abbrev pub IsLine : List ℕ → Type 0
@@ -77,14 +115,18 @@ pub record SayParts (n : ℕ) (lines : List (List ℕ)) (c : Contents) : Type 0 
   pub triples : c.triples ≡ filter_map (λ l. triple_in c.types l.1) (said n lines)
   pub wear : option_to_list c.wear ≡ filter_map (λ l. wear_in l.1) (said n lines)
   pub domains : c.domains ≡ filter_map (λ l. domain_in (type_names c) l.1) (said n lines)
-  pub steps : c.steps ≡ filter_map (λ l. step_on l.0 l.1) (said n lines)
+  pub steps : c.steps ≡ filter_map (λ l. step_on c.command l.0 l.1) (said n lines)
+  pub orders : c.orders ≡ filter_map (λ l. order_on c.command l.0 l.1) (said n lines)
+  pub suited : All (λ l. IsTrue (is_for c.command l.1)) (said n lines)
   pub faultless : AreFaultless c.domains
   pub generation : first_gen c ≤ LAST_GENERATION
   pub configured : All (λ s. IsTrue (is_taken c.domains s.dom)) c.steps
+  pub ordered : All (λ o. IsTrue (is_taken c.domains o.dom)) c.orders
   pub some_domain : 1 ≤ length c.domains
 
--- the lines are those of this script, which says by triples what is allowed: any name is a type, and each has one number (own)
-pub record IsTripleScript (lines : List (List ℕ)) (c : Contents) : Type 0 where
+-- the lines are those of this script for the command, which says by triples what is allowed: any name is a type, and each has one number (own)
+pub record IsTripleScript (command : Command) (lines : List (List ℕ)) (c : Contents) : Type 0 where
+  pub for_command : c.command ≡ command
   pub parts : SayParts 1 lines c
   pub policy : c.policy ≡ None
   pub distinct : AllPairs (λ a b. a ≢ b) c.types
@@ -106,8 +148,9 @@ pub record HasBlock (lines block rest : List (List ℕ)) : Type 0 where
 abbrev pub lines_before : {lines block rest : List (List ℕ)} → HasBlock lines block rest → ℕ
 lines_before b = length b.front + 1
 
--- the lines are those of this script, whose policy is that of its block; the lines behind the block say the rest, and no triple is one of them (own)
-pub record IsPolicyScript (lines : List (List ℕ)) (c : Contents) : Type 0 where
+-- the lines are those of this script for the command, whose policy is that of its block; the lines behind the block say the rest, and no triple is one of them (own)
+pub record IsPolicyScript (command : Command) (lines : List (List ℕ)) (c : Contents) : Type 0 where
+  pub for_command : c.command ≡ command
   pub block : List (List ℕ)
   pub rest : List (List ℕ)
   pub has : HasBlock lines block rest
@@ -117,9 +160,13 @@ pub record IsPolicyScript (lines : List (List ℕ)) (c : Contents) : Type 0 wher
   pub parts : SayParts (lines_before has + length block + 2) rest c
   pub no_triples : c.triples ≡ []
 
--- the lines are those of this script (own)
+-- the lines are those of this script for the command (own)
+abbrev pub IsScriptFor : Command → List (List ℕ) → Contents → Type 0
+IsScriptFor command lines c = IsTripleScript command lines c ⊎ IsPolicyScript command lines c
+
+-- the lines are those of this script for `play` (own)
 abbrev pub IsScriptOf : List (List ℕ) → Contents → Type 0
-IsScriptOf lines c = IsTripleScript lines c ⊎ IsPolicyScript lines c
+IsScriptOf lines c = IsScriptFor Play lines c
 
 -- the fault is that of the line at this place, counted from 0, of lines from number n on that are added to a script, and the lines before it have none (own)
 pub record IsFaultOfLine (n : ℕ) (lines : List (List ℕ)) (c : Contents) (f : Fault) : Type 0 where
@@ -161,20 +208,20 @@ pub record HasNone (lines : List (List ℕ)) : Type 0 where
   pub another : (l : List ℕ) (ls : List (List ℕ)) → others ≡ l ∷ ls → (words l ≢ []) × (words l ≢ codes "policy" ∷ [])
 
 -- the first fault behind a policy block (own)
-pub record IsFaultBehind (lines : List (List ℕ)) (f : Fault) : Type 0 where
+pub record IsFaultBehind (command : Command) (lines : List (List ℕ)) (f : Fault) : Type 0 where
   pub block : List (List ℕ)
   pub rest : List (List ℕ)
   pub has : HasBlock lines block rest
   pub rights : Allowed
   pub means : Means block rights
-  pub first : IsFirstFault (length lines) (with_policy rights) (lines_before has + length block + 2) rest f
+  pub first : IsFirstFault (length lines) (with_policy command rights) (lines_before has + length block + 2) rest f
 
 -- the first fault of the lines, where it is none of a policy (own)
-abbrev pub IsFaultOfLines : List (List ℕ) → Fault → Type 0
-IsFaultOfLines lines f =
-    (HasNone lines × IsFirstFault (length lines) empty 1 lines f)
+abbrev pub IsFaultOfLines : Command → List (List ℕ) → Fault → Type 0
+IsFaultOfLines command lines f =
+    (HasNone lines × IsFirstFault (length lines) (empty command) 1 lines f)
     ⊎ ((IsOpen lines × (f ≡ record { line = length lines + 1; kind = Syntax }))
-    ⊎ IsFaultBehind lines f)
+    ⊎ IsFaultBehind command lines f)
 
 -- the bytes are too many, or no text, and this is their fault (own)
 abbrev pub IsUnread : List ℕ → Fault → Type 0
@@ -183,8 +230,8 @@ IsUnread bytes f =
     ⊎ ((length bytes ≤ LONGEST_TEXT) × (¬ IsUtf8 bytes) × (f ≡ record { line = line_after (take (utf8_valid_len bytes) bytes); kind = Utf8 }))
 
 -- the first fault of the bytes, where it is none of a policy: too many, no text, or the first fault of the lines (own)
-abbrev pub IsFaultOf : List ℕ → Fault → Type 0
-IsFaultOf bytes f = IsUnread bytes f ⊎ ((length bytes ≤ LONGEST_TEXT) × IsUtf8 bytes × IsFaultOfLines (lines_in bytes) f)
+abbrev pub IsFaultOf : Command → List ℕ → Fault → Type 0
+IsFaultOf command bytes f = IsUnread bytes f ⊎ ((length bytes ≤ LONGEST_TEXT) × IsUtf8 bytes × IsFaultOfLines command (lines_in bytes) f)
 
 -- the first fault of the bytes is that of their policy block, on its own line of them (own)
 pub record IsFaultOfBlock (bytes : List ℕ) (g : policy.Fault) : Type 0 where
@@ -195,8 +242,12 @@ pub record IsFaultOfBlock (bytes : List ℕ) (g : policy.Fault) : Type 0 where
   pub has : HasBlock (lines_in bytes) block rest
   pub faulty : IsFaulty (lines_before has) block g
 
--- memory ran out, or this is the first fault (own)
+-- memory ran out, or this is the first fault of a script for the command (own)
+abbrev pub StandsFor : Command → List ℕ → ScriptError → Type 0
+StandsFor command bytes Memory = Unit {0}
+StandsFor command bytes (errors.Fault f) = IsFaultOf command bytes f
+StandsFor command bytes (errors.Policy e) = (g : policy.Fault) × (block_fault_shown e ≡ Some g) × IsFaultOfBlock bytes g
+
+-- memory ran out, or this is the first fault of a script for `play` (own)
 abbrev pub Stands : List ℕ → ScriptError → Type 0
-Stands bytes Memory = Unit {0}
-Stands bytes (errors.Fault f) = IsFaultOf bytes f
-Stands bytes (errors.Policy e) = (g : policy.Fault) × (block_fault_shown e ≡ Some g) × IsFaultOfBlock bytes g
+Stands bytes e = StandsFor Play bytes e

@@ -1,7 +1,13 @@
 pub mod Blocks
 pub mod Contents
 pub mod Faults
+pub mod Flags
 pub mod Laws
 pub mod Outcomes
+pub mod Rounds
+pub mod RunContents
+pub mod RunScripts
 pub mod Script
+pub mod Stuck
+pub mod Tasks
 pub mod Types

@@ -7,6 +7,7 @@ use Rattle.gt_streams.specs.Texts.{line_after}
 use Rattle.gt_types.specs.declared.limits.TheConstants.{LONGEST_TEXT}
 use Rattle.std.specs.Str.Lines.{lines as lines_in}
 use Rattle.gt_types.specs.Config.{is_taken, domain_fault}
+use Rattle.gt_types.specs.declared.DomId.{DomId}
 use Rattle.gt_types.specs.declared.TypeId.{TypeId}
 use Rattle.gt_types.specs.declared.config.DomainConfig.{DomainConfig}
 use Rattle.gt_policy.specs.Allowing.{Allowed, type_named}
@@ -20,12 +21,19 @@ use Rattle.gt_script.specs.Types.{with_type}
 use Rattle.gt_script.specs.Contents.{Contents, empty, with_policy}
 use Rattle.gt_lines.specs.declared.numbers.Number.{Number}
 use Rattle.gt_lines.specs.declared.calls.Action.{Action}
+use Rattle.gt_lines.specs.declared.calls.Action.TheVariants as actions
+use Rattle.gt_lines.specs.declared.lines.BodyLine.{BodyLine}
+use Rattle.gt_lines.specs.declared.lines.BodyLine.TheVariants as bodies
+use Rattle.gt_script.specs.declared.command.Command.{Command}
+use Rattle.gt_script.specs.declared.command.Command.TheVariants.{Play, Run}
+use Rattle.gt_script.specs.declared.orders.RunLine.{RunLine}
+use Rattle.gt_script.specs.declared.orders.RunLine.TheVariants as runs
 use Rattle.gt_lines.specs.declared.lines.TripleLine.{TripleLine}
 use Rattle.gt_lines.specs.declared.lines.DomainLine.{DomainLine}
 use Rattle.gt_lines.specs.declared.lines.Line.{Line}
 use Rattle.gt_lines.specs.declared.lines.Line.TheVariants as line
 use Rattle.gt_script.specs.declared.faults.FaultKind.{FaultKind}
-use Rattle.gt_script.specs.declared.faults.FaultKind.TheVariants.{Limit, Utf8, Syntax, Config}
+use Rattle.gt_script.specs.declared.faults.FaultKind.TheVariants.{Limit, Utf8, Syntax, Config, Mode}
 use Rattle.gt_script.specs.declared.faults.Fault.{Fault}
 
 -- a list without elements (own)
@@ -45,12 +53,16 @@ domain_written d label = do
 unfoldable pub has_no_rights : Contents → Bool
 has_no_rights c = is_none c.policy && is_empty c.triples
 
--- the policy or triples come first, then at most one line `wear`, then domains, then steps (own)
+-- a line of the body was read (own)
+unfoldable pub has_body : Contents → Bool
+has_body c = not (is_empty c.steps) || not (is_empty c.orders)
+
+-- the policy or triples come first, then at most one line `wear`, then domains, then the body (own)
 unfoldable pub is_misplaced : Contents → Line → Bool
 is_misplaced c (line.Triple t) = (is_some c.policy || is_some c.wear) || not (is_empty c.domains)
 is_misplaced c (line.Wear first) = (has_no_rights c || is_some c.wear) || not (is_empty c.domains)
-is_misplaced c (line.Domain d) = has_no_rights c || not (is_empty c.steps)
-is_misplaced c (line.Body id action) = is_empty c.domains
+is_misplaced c (line.Domain d) = has_no_rights c || has_body c
+is_misplaced c (line.Body id asks) = is_empty c.domains
 
 -- what a line adds, or that it is past a limit (own)
 abbrev pub or_config : Option Contents → Result Contents FaultKind
@@ -81,19 +93,57 @@ with_domain c d = or_config (do
   if is_none (domain_fault c.domains domain)
       then Some (record c { types = label.0; domains = c.domains ++ domain ∷ [] }) else None)
 
--- a script with one step more, on line n, of a domain that is configured (own)
-unfoldable pub with_step : Contents → ℕ → Number → Action → Result Contents FaultKind
-with_step c n number action = or_config (do
+-- the domain with this number, where it is configured (own)
+unfoldable pub configured : List DomainConfig → Number → Option DomId
+configured domains number = do
   id ← number_below (2 ^ 16) number
-  if is_taken c.domains (record { 0 = id })
-      then Some (record c { steps = c.steps ++ record { line = n; dom = record { 0 = id }; action = action } ∷ [] }) else None)
+  if is_taken domains (record { 0 = id }) then Some (record { 0 = id }) else None
+
+-- what a line of the body is for `play`: an action (own)
+unfoldable pub action_in : BodyLine → Option Action
+action_in (bodies.Action a) = Some a
+action_in (bodies.Signal s) = None
+
+-- what a line of the body is for `run`: a whole call, or what it says of a flag (own)
+unfoldable pub run_line_in : BodyLine → Option RunLine
+run_line_in (bodies.Action (actions.Do call)) = Some (runs.Do call)
+run_line_in (bodies.Action (actions.Begin call)) = None
+run_line_in (bodies.Action (actions.Tick count)) = None
+run_line_in (bodies.Action (actions.Show gref)) = None
+run_line_in (bodies.Signal s) = Some (runs.Signal s)
+
+-- what a line adds, or that it is for the other command (own)
+abbrev pub or_mode : Option Contents → Result Contents FaultKind
+or_mode (Some c) = Ok c
+or_mode None = Err Mode
+
+-- a script for `play` with one step more, on line n (own)
+unfoldable pub with_step : Contents → ℕ → DomId → BodyLine → Result Contents FaultKind
+with_step c n dom asks = or_mode (do
+  action ← action_in asks
+  Some (record c { steps = c.steps ++ record { line = n; dom = dom; action = action } ∷ [] }))
+
+-- a script for `run` with one order more, on line n (own)
+unfoldable pub with_order : Contents → ℕ → DomId → BodyLine → Result Contents FaultKind
+with_order c n dom asks = or_mode (do
+  order ← run_line_in asks
+  Some (record c { orders = c.orders ++ record { line = n; dom = dom; asks = order } ∷ [] }))
+
+-- a script for this command with a line of the body more (own)
+abbrev pub with_asked : Command → Contents → ℕ → DomId → BodyLine → Result Contents FaultKind
+with_asked Play c n dom asks = with_step c n dom asks
+with_asked Run c n dom asks = with_order c n dom asks
+
+-- a script with a line of the body more, of a domain that is configured (own)
+unfoldable pub with_body : Contents → ℕ → Number → BodyLine → Result Contents FaultKind
+with_body c n number asks = elim (configured c.domains number) [ None ↦ Err Config | Some dom ↦ with_asked c.command c n dom asks ]
 
 -- a script with line n more, which is in its place (own)
 abbrev pub with_placed : Contents → ℕ → Line → Result Contents FaultKind
 with_placed c n (line.Triple t) = with_triple c t
 with_placed c n (line.Wear first) = Ok (record c { wear = Some first })
 with_placed c n (line.Domain d) = with_domain c d
-with_placed c n (line.Body id action) = with_step c n id action
+with_placed c n (line.Body id asks) = with_body c n id asks
 
 -- a script with line n more (own)
 unfoldable pub with_line : Contents → ℕ → Line → Result Contents FaultKind
@@ -136,29 +186,33 @@ abbrev pub in_result : Result Contents Fault → Result Contents Wrong
 in_result (Ok c) = Ok c
 in_result (Err f) = Err (in_script f)
 
--- the lines behind a line `policy` of this number, of which the one at this place is `end`, say this: the rest of a script of `count` lines with the policy of the block, or its fault (own)
-abbrev pub ClosedSays : ℕ → ℕ → List (List ℕ) → ℕ → Result Contents Wrong → Type 0
-ClosedSays count first lines end said =
-    ((p : Allowed) × Means (take end lines) p × (said ≡ in_result (whole count (with_policy p) (first + end + 1 + 1) (drop (end + 1) lines))))
+-- the lines behind a line `policy` of this number, of which the one at this place is `end`, say this: the rest of a script of `count` lines for this command with the policy of the block, or its fault (own)
+abbrev pub ClosedSays : Command → ℕ → ℕ → List (List ℕ) → ℕ → Result Contents Wrong → Type 0
+ClosedSays command count first lines end said =
+    ((p : Allowed) × Means (take end lines) p × (said ≡ in_result (whole count (with_policy command p) (first + end + 1 + 1) (drop (end + 1) lines))))
     ⊎ ((g : policy.Fault) × IsFaulty first (take end lines) g × (said ≡ Err (in_policy g)))
 
 -- the same, where a line `end` may be missing (own)
-abbrev pub BlockSays : ℕ → ℕ → List (List ℕ) → Option ℕ → Result Contents Wrong → Type 0
-BlockSays count first lines None said = said ≡ Err (in_script (record { line = count + 1; kind = Syntax }))
-BlockSays count first lines (Some end) said = ClosedSays count first lines end said
+abbrev pub BlockSays : Command → ℕ → ℕ → List (List ℕ) → Option ℕ → Result Contents Wrong → Type 0
+BlockSays command count first lines None said = said ≡ Err (in_script (record { line = count + 1; kind = Syntax }))
+BlockSays command count first lines (Some end) said = ClosedSays command count first lines end said
 
 -- the lines say this: they begin with a policy block, or have none (own)
-abbrev pub LinesSay : List (List ℕ) → Option ℕ → Result Contents Wrong → Type 0
-LinesSay lines None said = said ≡ in_result (whole (length lines) empty 1 lines)
-LinesSay lines (Some place) said = BlockSays (length lines) (place + 1) (drop (place + 1) lines) (closing (drop (place + 1) lines)) said
+abbrev pub LinesSay : Command → List (List ℕ) → Option ℕ → Result Contents Wrong → Type 0
+LinesSay command lines None said = said ≡ in_result (whole (length lines) (empty command) 1 lines)
+LinesSay command lines (Some place) said = BlockSays command (length lines) (place + 1) (drop (place + 1) lines) (closing (drop (place + 1) lines)) said
 
 -- the text says this (own)
-abbrev pub TextSays : List ℕ → Result Contents Wrong → Type 0
-TextSays text said = LinesSay (lines_in text) (opening (lines_in text)) said
+abbrev pub TextSays : Command → List ℕ → Result Contents Wrong → Type 0
+TextSays command text said = LinesSay command (lines_in text) (opening (lines_in text)) said
 
--- the bytes say this script, or have this fault, which is their first: they are too many, or no text, or it is that of the text (own)
-abbrev pub Tells : List ℕ → Result Contents Wrong → Type 0
-Tells bytes said =
+-- the bytes say this script for the command, or have this fault, which is their first: they are too many, or no text, or it is that of the text (own)
+abbrev pub TellsFor : Command → List ℕ → Result Contents Wrong → Type 0
+TellsFor command bytes said =
     ((LONGEST_TEXT < length bytes) × (said ≡ Err (in_script (record { line = 1; kind = Limit }))))
     ⊎ (((length bytes ≤ LONGEST_TEXT) × (¬ IsUtf8 bytes) × (said ≡ Err (in_script (record { line = line_after (take (utf8_valid_len bytes) bytes); kind = Utf8 }))))
-    ⊎ ((length bytes ≤ LONGEST_TEXT) × IsUtf8 bytes × TextSays bytes said))
+    ⊎ ((length bytes ≤ LONGEST_TEXT) × IsUtf8 bytes × TextSays command bytes said))
+
+-- the bytes say this script for `play`, or have this fault, which is their first (own)
+abbrev pub Tells : List ℕ → Result Contents Wrong → Type 0
+Tells bytes said = TellsFor Play bytes said

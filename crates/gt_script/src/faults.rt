@@ -17,6 +17,10 @@ pub enum FaultKind {
     /// A limit of the domains or types, a type that the policy does not declare, a repeated domain or
     /// one that is not configured, or no domain at all.
     Config,
+    /// A line that is for the other of the commands `play` and `run`.
+    Mode,
+    /// A list that waits for a flag that is never told.
+    Stuck,
 }
 
 /// The first fault of a script.
@@ -118,6 +122,8 @@ impl fmt::Display for FaultKind {
             FaultKind::Utf8 => "utf8",
             FaultKind::Syntax => "syntax",
             FaultKind::Config => "config",
+            FaultKind::Mode => "mode",
+            FaultKind::Stuck => "stuck",
         })
     }
 }

@@ -10,12 +10,20 @@
 #![tactic(auto)]
 
 mod blocks;
+mod command;
 mod faults;
+mod flags;
 mod laws;
+mod orders;
+mod run_script;
 mod script;
+mod stuck;
+mod tasks;
 mod types;
 
 pub use faults::{BlockFault, Fault, FaultKind, ScriptError};
 pub use gt_lines::{AccessCall, Action, Call, Grant, TableCall, Text, hex_bytes};
 pub use laws::every_text_tells_one_thing;
+pub use run_script::{RunScript, parse_run};
 pub use script::{Script, Step, parse};
+pub use tasks::{Deed, Task};

@@ -4,21 +4,24 @@ ghost use Rattle.std.specs.Str.{IsUtf8};
 ghost use Rattle.std.specs.Str.Lines.{lines as lines_in};
 ghost use Rattle.gt_types.specs.Config.{is_taken};
 ghost use Rattle.gt_script.specs.Blocks.{opening as opening_in, closing as closing_in};
-ghost use Rattle.gt_script.specs.Script.{domain_written, LinesSay, BlockSays, TextSays, Tells};
+ghost use Rattle.gt_script.specs.Script.{domain_written, configured, action_in, run_line_in, LinesSay, BlockSays, TextSays, TellsFor, Tells};
 ghost use Rattle.gt_script.specs.Contents.{told};
 ghost use Rattle.gt_script.specs.Outcomes.{Answers};
-ghost use Rattle.gt_script.specs.Laws.{IsScriptOf, Stands, IsUnread};
+ghost use Rattle.gt_script.specs.Laws.{IsScriptFor, IsScriptOf, StandsFor, Stands, IsUnread};
 
 use crate::blocks::{closing, opening, read_policy};
+use crate::command::Command;
 use crate::faults::{Fault, FaultKind, ScriptError};
+use crate::orders::{Order, RunLine};
 use crate::types::TypeNames;
 use gt_lines::{
-    Action, DomainLine, Line, Number, Text, TripleLine, line_words, read_line, text_lines,
+    Action, BodyLine, DomainLine, Line, Number, Text, TripleLine, line_words, read_line, text_lines,
 };
 use gt_policy::Policy;
 use gt_types::{DomId, DomainConfig, LONGEST_TEXT, Triple, TypeId};
 use std::alloc::{AllocError, Global};
 use std::marker::Model;
+use std::mem;
 
 /// What a line of the body asks, with the number of that line and its domain.
 #[derive(Debug, Drop)]
@@ -31,12 +34,14 @@ pub struct Step<'a> {
 /// A script without fault. With a policy block it has neither triples nor types of its own.
 #[derive(Drop)]
 pub struct Script<'a> {
+    command: Command,
     policy: Option<Policy>,
     types: TypeNames<'a>,
     triples: Vec<Triple>,
     wear: Option<u32>,
     domains: Vec<DomainConfig>,
     steps: Vec<Step<'a>>,
+    orders: Vec<Order<'a>>,
 }
 
 impl<'a> Model for Script<'a> {
@@ -45,12 +50,14 @@ impl<'a> Model for Script<'a> {
     ghost Value = { Kept };
 
     ghost view = { λ s. record {
+      command = s.command;
       policy = s.policy;
       types = s.types;
       triples = s.triples.items;
       wear = s.wear;
       domains = s.domains.items;
       steps = s.steps.items;
+      orders = s.orders.items;
     } };
 }
 
@@ -90,6 +97,42 @@ fn is_domain(domains: &[DomainConfig], id: DomId) -> bool
     ensures { result ≡ is_taken domains.now id }
 {
     domains.iter().any(|d| d.id == id)
+}
+
+// The domain with this number, where it is configured.
+#[tactic(auto, unfolding(crate::specs::Script::configured))]
+fn configured(domains: &[DomainConfig], number: Number) -> Option<DomId>
+    ensures { result ≡ configured domains.now number }
+{
+    let dom = DomId(number.below(1 << 16)? as u16);
+    if is_domain(domains, dom) {
+        Some(dom)
+    } else {
+        None
+    }
+}
+
+// What a line of the body is for `play`.
+#[tactic(auto, unfolding(crate::specs::Script::action_in))]
+fn action_in<'a>(asks: BodyLine<'a>) -> Option<Action<'a>>
+    ensures { result ≡ action_in asks.entry }
+{
+    match asks {
+        BodyLine::Action(action) => Some(action),
+        BodyLine::Signal(_) => None,
+    }
+}
+
+// What a line of the body is for `run`.
+#[tactic(auto, unfolding(crate::specs::Script::run_line_in))]
+fn run_line_in<'a>(asks: BodyLine<'a>) -> Option<RunLine<'a>>
+    ensures { result ≡ run_line_in asks.entry }
+{
+    match asks {
+        BodyLine::Action(Action::Do(call)) => Some(RunLine::Do(call)),
+        BodyLine::Action(Action::Begin(_) | Action::Tick(_) | Action::Show(_)) => None,
+        BodyLine::Signal(signal) => Some(RunLine::Signal(signal)),
+    }
 }
 
 // The names of a policy's types, by their numbers.
@@ -135,28 +178,30 @@ impl<'a> Script<'a> {
     ghost use Rattle.gt_lines.specs.Words.{words as words_in};
     ghost use Rattle.std.specs.Option.{option_map};
     ghost use Rattle.gt_policy.specs.Allowing.{allowed_of};
-    ghost use Rattle.gt_script.specs.Contents.{told, empty, with_policy, type_names, first_gen};
-    ghost use Rattle.gt_script.specs.Script.{with_triple, type_in, with_names, with_domain, with_step, with_line, with_words, with_lines, completed, whole, has_no_rights, is_misplaced};
+    ghost use Rattle.gt_script.specs.Contents.{told, empty, with_policy, without_orders, type_names, first_gen};
+    ghost use Rattle.gt_script.specs.Script.{with_triple, type_in, with_names, with_domain, with_step, with_order, with_body, with_line, with_words, with_lines, completed, whole, has_no_rights, has_body, is_misplaced};
     ghost use Rattle.gt_script.specs.Outcomes.{Adds, Says};
 
-    fn new(alloc: Global) -> Script<'a>
-        ensures { told result ≡ empty }
+    fn new(alloc: Global, command: Command) -> Script<'a>
+        ensures { told result ≡ empty command }
     {
         Script {
+            command,
             policy: None,
             types: TypeNames::new(alloc),
             triples: Vec::new(alloc),
             wear: None,
             domains: Vec::new(alloc),
             steps: Vec::new(alloc),
+            orders: Vec::new(alloc),
         }
     }
 
     // A script with this policy, and nothing more so far.
-    fn with_policy(alloc: Global, policy: Policy) -> Script<'a>
-        ensures { told result ≡ with_policy (allowed_of policy) }
+    fn with_policy(alloc: Global, command: Command, policy: Policy) -> Script<'a>
+        ensures { told result ≡ with_policy command (allowed_of policy) }
     {
-        let mut script = Script::new(alloc);
+        let mut script = Script::new(alloc, command);
         script.policy = Some(policy);
         script
     }
@@ -198,6 +243,15 @@ impl<'a> Script<'a> {
         ensures { result.now ≡ self.now.domains }
     {
         self.domains.as_slice()
+    }
+
+    // The script without the lines of its body for `run`, and these.
+    pub(crate) fn into_parts(mut self, alloc: Global) -> (Script<'a>, Vec<Order<'a>>)
+        ensures head { told result.0 ≡ without_orders (told self.entry) }
+        ensures orders { result.1.items ≡ (told self.entry).orders }
+    {
+        let orders = mem::replace(&mut self.orders, Vec::new(alloc));
+        (self, orders)
     }
 
     /// The steps of the body, in their order.
@@ -259,22 +313,49 @@ impl<'a> Script<'a> {
     fn with_step(
         mut self,
         line: usize,
-        id: Number,
-        action: Action<'a>,
+        dom: DomId,
+        asks: BodyLine<'a>,
     ) -> Result<Script<'a>, AddError>
-        ensures { Adds result (with_step (told self.entry) line id action.entry) }
+        ensures { Adds result (with_step (told self.entry) line dom asks.entry) }
     {
-        let Some(id) = id.below(1 << 16) else {
-            return Err(AddError::Fault(FaultKind::Config));
+        let Some(action) = action_in(asks) else {
+            return Err(AddError::Fault(FaultKind::Mode));
         };
-        let dom = DomId(id as u16);
-        if !is_domain(&self.domains, dom) {
-            return Err(AddError::Fault(FaultKind::Config));
-        }
         self.steps
             .push(Step { line, dom, action })
             .map_err(AllocError::from)?;
         Ok(self)
+    }
+
+    #[tactic(auto, unfolding(crate::specs::Script::with_order))]
+    fn with_order(
+        mut self,
+        line: usize,
+        dom: DomId,
+        asks: BodyLine<'a>,
+    ) -> Result<Script<'a>, AddError>
+        ensures { Adds result (with_order (told self.entry) line dom asks.entry) }
+    {
+        let Some(asks) = run_line_in(asks) else {
+            return Err(AddError::Fault(FaultKind::Mode));
+        };
+        self.orders
+            .push(Order { line, dom, asks })
+            .map_err(AllocError::from)?;
+        Ok(self)
+    }
+
+    #[tactic(auto, unfolding(crate::specs::Script::with_body))]
+    fn with_body(self, line: usize, id: Number, asks: BodyLine<'a>) -> Result<Script<'a>, AddError>
+        ensures { Adds result (with_body (told self.entry) line id asks.entry) }
+    {
+        let Some(dom) = configured(&self.domains, id) else {
+            return Err(AddError::Fault(FaultKind::Config));
+        };
+        match self.command {
+            Command::Play => self.with_step(line, dom, asks),
+            Command::Run => self.with_order(line, dom, asks),
+        }
     }
 
     #[tactic(auto, unfolding(crate::specs::Script::has_no_rights))]
@@ -282,6 +363,13 @@ impl<'a> Script<'a> {
         ensures { result ≡ has_no_rights (told self.now) }
     {
         self.policy.is_none() && self.triples.is_empty()
+    }
+
+    #[tactic(auto, unfolding(crate::specs::Script::has_body))]
+    fn has_body(&self) -> bool
+        ensures { result ≡ has_body (told self.now) }
+    {
+        !self.steps.is_empty() || !self.orders.is_empty()
     }
 
     #[tactic(auto, unfolding(crate::specs::Script::is_misplaced))]
@@ -295,7 +383,7 @@ impl<'a> Script<'a> {
             Line::Wear(_) => {
                 self.has_no_rights() || self.wear.is_some() || !self.domains.is_empty()
             }
-            Line::Domain(_) => self.has_no_rights() || !self.steps.is_empty(),
+            Line::Domain(_) => self.has_no_rights() || self.has_body(),
             Line::Body { .. } => self.domains.is_empty(),
         }
     }
@@ -314,7 +402,7 @@ impl<'a> Script<'a> {
                 Ok(self)
             }
             Line::Domain(domain) => self.with_domain(domain),
-            Line::Body { id, action } => self.with_step(number, id, action),
+            Line::Body { id, asks } => self.with_body(number, id, asks),
         }
     }
 
@@ -400,13 +488,14 @@ impl<'a> Script<'a> {
 // number `first`.
 fn of_block<'a>(
     alloc: Global,
+    command: Command,
     count: usize,
     first: usize,
     lines: &[&'a str],
 ) -> Result<Script<'a>, ScriptError>
     requires whole { first + length lines.now ≡ count }
     requires fits { count < 2 ^ 63 }
-    ensures { Answers result (BlockSays count first (map (λ line. line.now) lines.now) (closing_in (map (λ line. line.now) lines.now))) }
+    ensures { Answers result (BlockSays command count first (map (λ line. line.now) lines.now) (closing_in (map (λ line. line.now) lines.now))) }
 {
     let Some(end) = closing(alloc, lines)? else {
         return Err(ScriptError::Fault(Fault {
@@ -416,7 +505,7 @@ fn of_block<'a>(
     };
     match read_policy(alloc, first, &lines[..end]) {
         Ok(policy) => {
-            let script = Script::with_policy(alloc, policy);
+            let script = Script::with_policy(alloc, command, policy);
             script.with_rest(alloc, first + end + 1, count, &lines[end + 1..])
         }
         Err(error) => Err(error),
@@ -424,20 +513,24 @@ fn of_block<'a>(
 }
 
 // The script that the lines say.
-fn of_lines<'a>(alloc: Global, lines: &[&'a str]) -> Result<Script<'a>, ScriptError>
-    ensures { Answers result (LinesSay (map (λ line. line.now) lines.now) (opening_in (map (λ line. line.now) lines.now))) }
+fn of_lines<'a>(
+    alloc: Global,
+    command: Command,
+    lines: &[&'a str],
+) -> Result<Script<'a>, ScriptError>
+    ensures { Answers result (LinesSay command (map (λ line. line.now) lines.now) (opening_in (map (λ line. line.now) lines.now))) }
 {
     match opening(alloc, lines)? {
-        Some(place) => of_block(alloc, lines.len(), place + 1, &lines[place + 1..]),
-        None => Script::new(alloc).with_rest(alloc, 0, lines.len(), lines),
+        Some(place) => of_block(alloc, command, lines.len(), place + 1, &lines[place + 1..]),
+        None => Script::new(alloc, command).with_rest(alloc, 0, lines.len(), lines),
     }
 }
 
-fn of_text<'a>(alloc: Global, text: &'a str) -> Result<Script<'a>, ScriptError>
-    ensures { Answers result (TextSays text.entry.now) }
+fn of_text<'a>(alloc: Global, command: Command, text: &'a str) -> Result<Script<'a>, ScriptError>
+    ensures { Answers result (TextSays command text.entry.now) }
 {
     let lines = text_lines(alloc, text)?;
-    of_lines(alloc, lines.as_slice())
+    of_lines(alloc, command, lines.as_slice())
 }
 
 // The bytes as text, if they are not too many.
@@ -460,9 +553,28 @@ fn script_text<'a>(bytes: &'a [u8]) -> Result<&'a str, Fault>
     }
 }
 
-/// The script that the bytes say, or their first fault: too many bytes, then no UTF-8, then the
-/// first line that is wrong, where a policy block is judged as a whole at its end, then what the
-/// whole lacks.
+/// The script for the command that the bytes say, or their first fault, but for a list that waits for ever.
+pub fn parse_for<'a>(
+    alloc: Global,
+    command: Command,
+    bytes: &'a [u8],
+) -> Result<Script<'a>, ScriptError>
+    ensures script { Answers result (TellsFor command bytes.entry.now) }
+    ensures holds { IfOk result (λ s. IsScriptFor command (lines_in bytes.entry.now) (told s)) }
+    ensures fault { IfErr result (λ e. StandsFor command bytes.entry.now e) }
+
+    // What is read up to one byte past the limit decides for all that there is.
+    ensures beginning { (all : List ℕ) → bytes.entry.now ≡ take (LONGEST_TEXT + 1) all → Answers result (TellsFor command all) }
+{
+    match script_text(bytes) {
+        Ok(text) => of_text(alloc, command, text),
+        Err(fault) => Err(ScriptError::Fault(fault)),
+    }
+}
+
+/// The script for `play` that the bytes say, or their first fault: too many bytes, then no UTF-8, then
+/// the first line that is wrong, where a policy block is judged as a whole at its end, then what the
+/// whole lacks. A line for `run` alone is a fault.
 pub fn parse<'a>(alloc: Global, bytes: &'a [u8]) -> Result<Script<'a>, ScriptError>
     ensures script { Answers result (Tells bytes.entry.now) }
     ensures holds { IfOk result (λ s. IsScriptOf (lines_in bytes.entry.now) (told s)) }
@@ -471,8 +583,5 @@ pub fn parse<'a>(alloc: Global, bytes: &'a [u8]) -> Result<Script<'a>, ScriptErr
     // What is read up to one byte past the limit decides for all that there is.
     ensures beginning { (all : List ℕ) → bytes.entry.now ≡ take (LONGEST_TEXT + 1) all → Answers result (Tells all) }
 {
-    match script_text(bytes) {
-        Ok(text) => of_text(alloc, text),
-        Err(fault) => Err(ScriptError::Fault(fault)),
-    }
+    parse_for(alloc, Command::Play, bytes)
 }

@@ -5,7 +5,11 @@
 #![tactic(auto)]
 
 #[cfg(test)]
+mod copies;
+#[cfg(test)]
 mod lines;
+#[cfg(test)]
+mod runs;
 #[cfg(test)]
 mod said;
 #[cfg(test)]

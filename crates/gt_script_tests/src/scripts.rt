@@ -204,7 +204,13 @@ fn names_the_line_of_a_bad_step(rt: HostRuntime) -> Result<(), Fail> {
     for (step, wanted) in [
         ("do 9 revoke 0", "line 6: config"),
         ("do 1 grant 0 page 2 rw", "line 6: syntax"),
-        ("tell 1 x", "line 6: syntax"),
+        ("tell 1 x", "line 6: mode"),
+        ("await 2 x_9", "line 6: mode"),
+        ("tell 99 x", "line 6: config"),
+        ("tell 1", "line 6: syntax"),
+        ("await 99 9x", "line 6: syntax"),
+        ("tell 1 x y", "line 6: syntax"),
+        ("begin 1 tell x", "line 6: syntax"),
     ] {
         let text = FIRST.replace(alloc, "do 1 grant 0 page 2 rw 5", step)?;
         let fault = fault_text(alloc, text.as_bytes())?;
@@ -328,6 +334,8 @@ fn prints_a_fault(rt: HostRuntime) -> Result<(), Fail> {
         (FaultKind::Utf8, "line 6: utf8"),
         (FaultKind::Syntax, "line 6: syntax"),
         (FaultKind::Config, "line 6: config"),
+        (FaultKind::Mode, "line 6: mode"),
+        (FaultKind::Stuck, "line 6: stuck"),
     ] {
         let fault = Fault { line: 6, kind };
         assert_eq!(rt; format!(in rt.alloc(); "{fault}")?.as_str(), text);

@@ -1,0 +1,46 @@
+//! What a line says of a flag, which domains tell one another.
+ghost use Rattle.std.specs.Prelude.{◌≡◌, map};
+ghost use Rattle.gt_lines.specs.Signals.{flag_of, is_signal_word, signal_of};
+
+use crate::fields::{is, label};
+use crate::texts::Text;
+
+/// What a line says of a flag. A flag has the form of a label.
+#[derive(Debug, Drop)]
+pub enum Signal<'a> {
+    /// `tell ID FLAG`: the domain tells the flag.
+    Tell(Text<'a>),
+    /// `await ID FLAG`: the domain goes on once some domain has told the flag.
+    Await(Text<'a>),
+}
+
+#[tactic(auto, unfolding(crate::specs::Signals::flag_of))]
+fn read_flag<'a>(args: &[&'a [u8]]) -> Option<Text<'a>>
+    ensures { result ≡ flag_of (map (λ word. word.now) args.now) }
+{
+    match args {
+        [flag] => label(flag),
+        _ => None,
+    }
+}
+
+/// A word of a line that says something of a flag.
+pub fn is_signal_word(word: &[u8]) -> bool
+    ensures { result ≡ is_signal_word word.now }
+{
+    is(word, "tell") || is(word, "await")
+}
+
+/// What a line's first word says of a flag together with the words after its domain.
+#[tactic(auto, unfolding(crate::specs::Signals::signal_of))]
+pub fn read_signal<'a>(word: &[u8], args: &[&'a [u8]]) -> Option<Signal<'a>>
+    ensures { result ≡ signal_of word.now (map (λ word. word.now) args.now) }
+{
+    if is(word, "tell") {
+        Some(Signal::Tell(read_flag(args)?))
+    } else if is(word, "await") {
+        Some(Signal::Await(read_flag(args)?))
+    } else {
+        None
+    }
+}

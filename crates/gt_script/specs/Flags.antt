@@ -1,0 +1,31 @@
+-- The flags of a script for `run`, numbered as they first appear (own).
+use Rattle.std.specs.Prelude.{ℕ, List, [], ◌∷◌, ◌++◌, Option, Some, None, map, fold, if◌then◌else◌}
+use Rattle.std.specs.Borrow.{Bor}
+use Rattle.std.specs.List.{filter_map, list_any, position_or_len}
+use Rattle.std.specs.Str.{bytes_eq}
+use Rattle.gt_lines.specs.declared.signals.Signal.TheVariants.{Tell, Await}
+use Rattle.gt_script.specs.declared.orders.Order.{Order}
+use Rattle.gt_script.specs.declared.orders.RunLine.{RunLine}
+use Rattle.gt_script.specs.declared.orders.RunLine.TheVariants as runs
+
+-- the texts that are lent (own)
+abbrev pub names_in : List (Bor (List ℕ)) → List (List ℕ)
+names_in keys = map (λ key. key.now) keys
+
+-- the names with this one, which goes last if it is new (own)
+unfoldable pub with_flag : List (List ℕ) → List ℕ → List (List ℕ)
+with_flag names name = if list_any (bytes_eq name) names then names else names ++ name ∷ []
+
+-- the flag that a line names, if it names one (own)
+abbrev pub flag_in : RunLine → Option (List ℕ)
+flag_in (runs.Do call) = None
+flag_in (runs.Signal (Tell flag)) = Some flag
+flag_in (runs.Signal (Await flag)) = Some flag
+
+-- the names of the flags of these lines, each once, in the order in which they first appear (own)
+abbrev pub flags_of : List Order → List (List ℕ)
+flags_of orders = fold with_flag [] (filter_map (λ o. flag_in o.asks) orders)
+
+-- the number of a flag: the place of its name (own)
+unfoldable pub flag_number : List (List ℕ) → List ℕ → ℕ
+flag_number names name = position_or_len (bytes_eq name) names

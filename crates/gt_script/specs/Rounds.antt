@@ -1,0 +1,95 @@
+-- How domains go on in turn, while flags are told (own).
+use Rattle.std.specs.Prelude.{◌≡◌, ◌≤◌, ◌<◌, ℕ, Bool, true, false, not, List, length, take, Option, Some, None, slice_get, slice_set, get_or, All, IsTrue}
+use Rattle.std.specs.List.{sum_by}
+use Rattle.gt_types.specs.declared.DomId.{DomId}
+use Rattle.gt_types.specs.declared.config.DomainConfig.{DomainConfig}
+use Rattle.gt_script.specs.Stuck.{IsClosed, PassesAll, WaitsAt}
+use Rattle.gt_script.specs.declared.tasks.Deed.{Deed}
+use Rattle.gt_script.specs.declared.tasks.Deed.TheVariants.{Do, Tell, Await}
+use Rattle.gt_script.specs.declared.tasks.Task.{Task}
+
+-- whether a flag is told (own)
+abbrev pub holds : List Bool → ℕ → Bool
+holds told flag = get_or told flag false
+
+-- a flag is told (own)
+abbrev pub Holds : List Bool → ℕ → Type 0
+Holds told flag = IsTrue (holds told flag)
+
+-- each told flag is one of this set (own)
+abbrev pub Within : List Bool → (ℕ → Bool) → Type 0
+Within told set = (flag : ℕ) → Holds told flag → IsTrue (set flag)
+
+-- one for a flag that is not told (own)
+abbrev pub is_untold : Bool → ℕ
+is_untold true = 0
+is_untold false = 1
+
+-- how many flags are not told (own)
+abbrev pub untold : List Bool → ℕ
+untold told = sum_by is_untold told
+
+-- the flag of a task is told (own)
+abbrev pub IsDone : List Bool → Deed → Type 0
+IsDone told (Do call) = Unit {0}
+IsDone told (Tell flag) = Holds told flag
+IsDone told (Await flag) = Holds told flag
+
+-- a domain waits at this deed (own)
+unfoldable pub is_waiting : List Bool → Deed → Bool
+is_waiting told (Do call) = false
+is_waiting told (Tell flag) = false
+is_waiting told (Await flag) = not (holds told flag)
+
+-- the told flags behind this deed (own)
+unfoldable pub told_after : List Bool → Deed → List Bool
+told_after told (Do call) = told
+told_after told (Tell flag) = slice_set told flag true
+told_after told (Await flag) = told
+
+-- this deed tells a flag that is not told (own)
+unfoldable pub is_new : List Bool → Deed → Bool
+is_new told (Do call) = false
+is_new told (Tell flag) = not (holds told flag)
+is_new told (Await flag) = false
+
+-- the domain has come to this place: the flags of its own tasks before it are told (own)
+abbrev pub Comes : List Task → DomId → ℕ → List Bool → Type 0
+Comes tasks dom place told = All (λ t. t.dom.0 ≡ dom.0 → IsDone told t.deed) (take place tasks)
+
+-- a domain went on to this place, told flags on its way, and the last part says whether one was not told before (own)
+pub record WayTo (tasks : List Task) (dom : DomId) (old new : List Bool) (place : ℕ) (is_news : Bool) : Type 0 where
+  pub comes : Comes tasks dom place new
+  pub grown : (flag : ℕ) → Holds old flag → Holds new flag
+  pub sound : (set : ℕ → Bool) → IsClosed tasks set → Within old set → Within new set
+  pub many : length new ≡ length old
+  pub quiet : is_news ≡ false → new ≡ old
+  pub loud : is_news ≡ true → untold new < untold old
+
+-- a domain at this place waits there for a flag that is not told, unless it is at its end (own)
+abbrev pub WaitsFor : List Task → DomId → ℕ → List Bool → Type 0
+WaitsFor tasks dom place told = (task : Task) → slice_get tasks place ≡ Some task
+    → (flag : ℕ) × (task.deed ≡ Await flag) × (task.dom.0 ≡ dom.0) × (holds told flag ≡ false)
+
+-- a domain went on as far as told flags let it (own)
+abbrev pub GoesOn : List Task → DomId → List Bool → List Bool → ℕ → Bool → Type 0
+GoesOn tasks dom old new place is_news = (place ≤ length tasks) × WayTo tasks dom old new place is_news × WaitsFor tasks dom place new
+
+-- each domain has come to its place (own)
+abbrev pub HaveCome : List Task → List DomainConfig → List ℕ → List Bool → Type 0
+HaveCome tasks domains places told = (i : ℕ) (d : DomainConfig) → slice_get domains i ≡ Some d
+    → (get_or places i 0 ≤ length tasks) × Comes tasks d.id (get_or places i 0) told
+
+-- the first of the domains went on in turn, up to this one (own)
+pub record Turning (tasks : List Task) (domains : List DomainConfig) (places : List ℕ) (old new : List Bool) (upto : ℕ) (is_news : Bool) : Type 0 where
+  pub have : HaveCome tasks domains places new
+  pub sound : (set : ℕ → Bool) → IsClosed tasks set → Within old set → Within new set
+  pub many : length new ≡ length old
+  pub quiet : is_news ≡ false → new ≡ old
+  pub loud : is_news ≡ true → untold new < untold old
+  pub rest : is_news ≡ false → (i : ℕ) (d : DomainConfig) → i < upto → slice_get domains i ≡ Some d → WaitsFor tasks d.id (get_or places i 0) new
+
+-- the line where a domain waits, where these flags are told; none where it comes to its end (own)
+abbrev pub WaitsIn : List Bool → List Task → DomId → Option ℕ → Type 0
+WaitsIn told tasks dom None = PassesAll (Holds told) dom tasks
+WaitsIn told tasks dom (Some line) = WaitsAt (Holds told) tasks dom line

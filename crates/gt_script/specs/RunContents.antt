@@ -1,0 +1,20 @@
+-- What a script for `run` holds.
+use Rattle.std.specs.Prelude.{ℕ, List}
+use Rattle.gt_script.specs.Contents.{Contents, Kept, told}
+use Rattle.gt_script.specs.declared.tasks.Task.{Task}
+
+-- what stands in front of the body, as a script without lines of a body; what each line of the body has its domain do, in order; and how many flags there are (own)
+pub record RunContents : Type 0 where
+  pub head : Contents
+  pub tasks : List Task
+  pub flags : ℕ
+
+-- the same, with the policy as it is kept (own)
+pub record RunKept : Type 0 where
+  pub head : Kept
+  pub tasks : List Task
+  pub flags : ℕ
+
+-- what a script holds that is kept so (own)
+abbrev pub run_told : RunKept → RunContents
+run_told k = record { head = told k.head; tasks = k.tasks; flags = k.flags }

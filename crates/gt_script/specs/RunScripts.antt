@@ -1,0 +1,49 @@
+-- The script for `run` that bytes say, or their first fault.
+use Rattle.std.specs.Prelude.{◌≡◌, ◌⊎◌, ◌≤◌, ℕ, ◌==◌, List, filter, length, Some, Result, Ok, Err}
+use Rattle.gt_types.specs.Config.{AreFaultless}
+use Rattle.gt_types.specs.declared.DomId.{DomId}
+use Rattle.gt_types.specs.declared.limits.TheConstants.{LAST_GENERATION}
+use Rattle.gt_policy.specs.declared.fault.Fault as policy
+use Rattle.gt_script.specs.Blocks.{block_fault_shown}
+use Rattle.gt_script.specs.Contents.{Contents, without_orders, first_gen}
+use Rattle.gt_script.specs.Flags.{flags_of}
+use Rattle.gt_script.specs.RunContents.{RunContents, run_told}
+use Rattle.gt_script.specs.Script.{Wrong, in_script, in_policy, TellsFor}
+use Rattle.gt_script.specs.Stuck.{IsTold, AllEnd, IsStuckAt}
+use Rattle.gt_script.specs.Tasks.{tasks_of}
+use Rattle.gt_script.specs.declared.command.Command.TheVariants.{Run}
+use Rattle.gt_script.specs.declared.faults.FaultKind.TheVariants.{Stuck}
+use Rattle.gt_script.specs.declared.faults.ScriptError.{ScriptError}
+use Rattle.gt_script.specs.declared.faults.ScriptError.TheVariants as errors
+use Rattle.gt_script.specs.declared.run_script.RunScript.{RunScript}
+use Rattle.gt_script.specs.declared.tasks.Task.{Task}
+
+-- the domains and the first generation are within the limits of a run (own)
+abbrev pub CanConfigure : Contents → Type 0
+CanConfigure c = AreFaultless c.domains × (1 ≤ length c.domains) × (first_gen c ≤ LAST_GENERATION)
+
+-- the list of a domain: its own tasks, in their order (own)
+abbrev pub list_of : List Task → DomId → List Task
+list_of tasks dom = filter (λ t. t.dom.0 == dom.0) tasks
+
+-- what a script that was read for `run` holds: flags are numbered as they first appear in it (own)
+abbrev pub run_of : Contents → RunContents
+run_of c = record { head = without_orders c; tasks = tasks_of c; flags = length (flags_of c.orders) }
+
+-- a script that was read for `run` says this: what it holds, where each domain comes to the end of its list, and else the line where the first one that does not waits for ever (own)
+abbrev pub RunSays : Contents → Result RunContents Wrong → Type 0
+RunSays c (Ok run) = AllEnd (IsTold (tasks_of c)) (tasks_of c) c.domains × (run ≡ run_of c)
+RunSays c (Err (in_script f)) = IsStuckAt (IsTold (tasks_of c)) (tasks_of c) c.domains f.line × (f.kind ≡ Stuck)
+RunSays c (Err (in_policy g)) = ⊥
+
+-- the bytes say this script for `run`, or have this fault, which is their first; that a domain waits for ever is the last of all (own)
+abbrev pub RunTells : List ℕ → Result RunContents Wrong → Type 0
+RunTells bytes (Ok run) = (c : Contents) × TellsFor Run bytes (Ok c) × RunSays c (Ok run)
+RunTells bytes (Err wrong) = TellsFor Run bytes (Err wrong) ⊎ ((c : Contents) × TellsFor Run bytes (Ok c) × RunSays c (Err wrong))
+
+-- what is told is this script, or this fault, unless memory ran out (own)
+abbrev pub RunAnswers : Result RunScript ScriptError → (Result RunContents Wrong → Type 0) → Type 0
+RunAnswers (Ok script) Told = Told (Ok (run_told script))
+RunAnswers (Err errors.Memory) Told = Unit {0}
+RunAnswers (Err (errors.Fault fault)) Told = Told (Err (in_script fault))
+RunAnswers (Err (errors.Policy fault)) Told = (g : policy.Fault) × (block_fault_shown fault ≡ Some g) × Told (Err (in_policy g))

@@ -1,0 +1,69 @@
+-- Which flags are told in a run, and where a domain waits for ever.
+use Rattle.std.specs.Prelude.{◌≡◌, ◌<◌, ℕ, Bool, List, take, Option, Some, None, slice_get, All, IsTrue}
+use Rattle.gt_types.specs.declared.DomId.{DomId}
+use Rattle.gt_types.specs.declared.config.DomainConfig.{DomainConfig}
+use Rattle.gt_script.specs.declared.tasks.Deed.{Deed}
+use Rattle.gt_script.specs.declared.tasks.Deed.TheVariants.{Do, Tell, Await}
+use Rattle.gt_script.specs.declared.tasks.Task.{Task}
+
+-- a flag that a task names is below this number (own)
+abbrev pub IsBelow : ℕ → Deed → Type 0
+IsBelow count (Do call) = Unit {0}
+IsBelow count (Tell flag) = flag < count
+IsBelow count (Await flag) = flag < count
+
+-- each flag of these tasks is below this number (own)
+abbrev pub AreNumbered : ℕ → List Task → Type 0
+AreNumbered count tasks = All (λ t. IsBelow count t.deed) tasks
+
+-- a domain goes past a task where the flags that have this are told: it waits at no other task than one that awaits another flag (own)
+abbrev pub IsPassed : (ℕ → Type 0) → Deed → Type 0
+IsPassed Told (Do call) = Unit {0}
+IsPassed Told (Tell flag) = Unit {0}
+IsPassed Told (Await flag) = Told flag
+
+-- a domain goes past all its own tasks among these (own)
+abbrev pub PassesAll : (ℕ → Type 0) → DomId → List Task → Type 0
+PassesAll Told dom tasks = All (λ t. t.dom.0 ≡ dom.0 → IsPassed Told t.deed) tasks
+
+-- a set of flags is closed: it has each flag that a task tells, where the task's domain goes past all that it has to do before it (own)
+abbrev pub IsClosed : List Task → (ℕ → Bool) → Type 0
+IsClosed tasks set = (at : ℕ) (task : Task) (flag : ℕ) → slice_get tasks at ≡ Some task → task.deed ≡ Tell flag
+    → PassesAll (λ f. IsTrue (set f)) task.dom (take at tasks) → IsTrue (set flag)
+
+-- a flag is told: each closed set has it, so it is one of the least closed set (own)
+abbrev pub IsTold : List Task → ℕ → Type 0
+IsTold tasks flag = (set : ℕ → Bool) → IsClosed tasks set → IsTrue (set flag)
+
+-- a domain comes to the end of its list, where these flags are told (own)
+abbrev pub Ends : (ℕ → Type 0) → List Task → DomId → Type 0
+Ends Told tasks dom = PassesAll Told dom tasks
+
+-- a domain goes on as far as the line with this number, where it waits for a flag that is not told (own)
+pub record WaitsAt (Told : ℕ → Type 0) (tasks : List Task) (dom : DomId) (line : ℕ) : Type 0 where
+  pub at : ℕ
+  pub task : Task
+  pub flag : ℕ
+  pub there : slice_get tasks at ≡ Some task
+  pub own : task.dom.0 ≡ dom.0
+  pub number : task.line ≡ line
+  pub awaits : task.deed ≡ Await flag
+  pub before : PassesAll Told dom (take at tasks)
+  pub untold : ¬ Told flag
+
+-- each of the domains comes to the end of its list (own)
+abbrev pub AllEnd : (ℕ → Type 0) → List Task → List DomainConfig → Type 0
+AllEnd Told tasks domains = All (λ d. Ends Told tasks d.id) domains
+
+-- the first of the domains that does not come to its end waits at this line (own)
+pub record IsStuckAt (Told : ℕ → Type 0) (tasks : List Task) (domains : List DomainConfig) (line : ℕ) : Type 0 where
+  pub place : ℕ
+  pub domain : DomainConfig
+  pub there : slice_get domains place ≡ Some domain
+  pub others : AllEnd Told tasks (take place domains)
+  pub waits : WaitsAt Told tasks domain.id line
+
+-- the line where the first of the domains that waits for ever does so; none where each comes to its end (own)
+abbrev pub IsJudged : (ℕ → Type 0) → List Task → List DomainConfig → Option ℕ → Type 0
+IsJudged Told tasks domains None = AllEnd Told tasks domains
+IsJudged Told tasks domains (Some line) = IsStuckAt Told tasks domains line

@@ -1,0 +1,104 @@
+//! A script for `run`: its head, and what its lines have its domains do.
+ghost use Rattle.std.specs.Prelude.{◌≡◌, ◌+◌, ℕ, List, All, IsTrue, take, map, filter, IfOk};
+ghost use Rattle.gt_types.specs.Config.{is_taken};
+ghost use Rattle.gt_types.specs.declared.limits.TheConstants.{LONGEST_TEXT};
+ghost use Rattle.gt_script.specs.Contents.{told};
+ghost use Rattle.gt_script.specs.RunScripts.{CanConfigure, RunSays, RunTells, RunAnswers, list_of as list_in};
+
+use crate::command::Command;
+use crate::faults::{Fault, FaultKind, ScriptError};
+use crate::flags::flags_of;
+use crate::script::{Script, parse_for};
+use crate::stuck::stuck_line;
+use crate::tasks::{Task, tasks_for};
+use gt_types::DomId;
+use std::alloc::{AllocError, Global};
+use std::marker::Model;
+
+/// A script for `run` without fault, in which each domain comes to the end of its list.
+#[derive(Drop)]
+pub struct RunScript<'a> {
+    head: Script<'a>,
+    tasks: Vec<Task<'a>>,
+    flags: usize,
+}
+
+impl<'a> Model for RunScript<'a> {
+    ghost use Rattle.gt_script.specs.RunContents.{RunKept};
+
+    ghost Value = { RunKept };
+
+    ghost view = { λ s. record { head = s.head; tasks = s.tasks.items; flags = s.flags } };
+}
+
+impl<'a> RunScript<'a> {
+    /// What stands in front of the body, as a script without steps.
+    pub fn head(&self) -> &Script<'a>
+        ensures { result.now ≡ self.now.head }
+    {
+        &self.head
+    }
+
+    /// What the lines of the body have their domains do, in the order of the lines.
+    pub fn tasks(&self) -> &[Task<'a>]
+        ensures { result.now ≡ self.now.tasks }
+    {
+        self.tasks.as_slice()
+    }
+
+    /// How many flags the script names. Each flag that a task names is below this number.
+    pub fn flags(&self) -> usize
+        ensures { result ≡ self.now.flags }
+    {
+        self.flags
+    }
+
+    /// The list of a domain: its own lines, in their order.
+    pub fn list_of<'s>(&'s self, alloc: Global, dom: DomId) -> Result<Vec<&'s Task<'a>>, AllocError>
+        ensures { IfOk result (λ list. map (λ t. t.now) list.items ≡ list_in self.entry.now.tasks dom) }
+    {
+        let mut list = Vec::new(alloc);
+        'tasks: for task in self.tasks.as_slice() {
+            if task.dom == dom {
+                list.push(task)?;
+            }
+        }
+        Ok(list)
+    }
+}
+
+// The script for `run` that was read as this one.
+fn of_script<'a>(alloc: Global, script: Script<'a>) -> Result<RunScript<'a>, ScriptError>
+    requires { All (λ o. IsTrue (is_taken (told script).domains o.dom)) (told script).orders }
+    ensures { RunAnswers result (RunSays (told script.entry)) }
+{
+    let (head, orders) = script.into_parts(alloc);
+    let flags = flags_of(alloc, orders.as_slice())?;
+    let count = flags.len();
+    let tasks = tasks_for(alloc, &flags, orders)?;
+    let stuck = stuck_line(alloc, tasks.as_slice(), head.domains(), count)?;
+    if let Some(line) = stuck {
+        let kind = FaultKind::Stuck;
+        return Err(ScriptError::Fault(Fault { line, kind }));
+    }
+    Ok(RunScript {
+        head,
+        tasks,
+        flags: count,
+    })
+}
+
+/// The script for `run` that the bytes say, or their first fault: as for `play`, where a line for `play` alone is
+/// a fault, and last of all a domain that waits for a flag that is never told.
+pub fn parse_run<'a>(alloc: Global, bytes: &'a [u8]) -> Result<RunScript<'a>, ScriptError>
+    ensures script { RunAnswers result (RunTells bytes.entry.now) }
+    ensures holds { IfOk result (λ s. CanConfigure (told s.head)) }
+
+    // What is read up to one byte past the limit decides for all that there is.
+    ensures beginning { (all : List ℕ) → bytes.entry.now ≡ take (LONGEST_TEXT + 1) all → RunAnswers result (RunTells all) }
+{
+    match parse_for(alloc, Command::Run, bytes) {
+        Ok(script) => of_script(alloc, script),
+        Err(error) => Err(error),
+    }
+}

@@ -1,0 +1,170 @@
+//! Whether each domain of a run comes to the end of its list, where calls are taken as done at once.
+//!
+//! Domains go on in turn, each as far as told flags let it, until a whole turn tells no new flag.
+ghost use Rattle.std.specs.Prelude.{◌≡◌, ◌≤◌, ◌↔◌, ℕ, Bool, IfOk, All, IsTrue, length};
+ghost use Rattle.gt_types.specs.Config.{is_taken};
+ghost use Rattle.gt_script.specs.Stuck.{IsBelow, AreNumbered, IsClosed, IsTold, IsJudged};
+ghost use Rattle.gt_script.specs.Rounds.{holds, is_waiting, told_after, is_new, Within, GoesOn, Comes, HaveCome, Turning, WaitsIn};
+
+use crate::tasks::{Deed, Task};
+use gt_types::{DomId, DomainConfig};
+use std::alloc::{AllocError, Global};
+
+// How far a domain came, and whether it told a flag that was not told before.
+#[derive(Clone, Copy)]
+struct Way {
+    place: usize,
+    is_news: bool,
+}
+
+// The place to which each domain has come, and for each flag whether it is told.
+#[derive(Drop)]
+struct Turns {
+    places: Vec<usize>,
+    told: Vec<bool>,
+}
+
+// The task is one of the domain's own.
+fn is_own(task: &Task, dom: DomId) -> bool
+    ensures { IsTrue result ↔ (task.now.dom.0 ≡ dom.0) }
+{
+    task.dom == dom
+}
+
+impl Turns {
+    ghost use Rattle.std.specs.Prelude.{◌≡◌, ◌≤◌, length};
+
+    // A domain waits at this deed.
+    #[tactic(auto, unfolding(crate::specs::Rounds::is_waiting))]
+    fn is_waiting(&self, deed: &Deed) -> bool
+        requires { IsBelow (length self.now.told.items) deed.now }
+        ensures { result ≡ is_waiting self.now.told.items deed.now }
+    {
+        match deed {
+            Deed::Do(_) | Deed::Tell(_) => false,
+            Deed::Await(flag) => !self.told[*flag],
+        }
+    }
+
+    // Tells the flag that this deed tells, if it tells one. Whether it was not told before.
+    #[tactic(auto, unfolding(crate::specs::Rounds::told_after, crate::specs::Rounds::is_new))]
+    fn tell(&mut self, deed: &Deed) -> bool
+        requires { IsBelow (length self.old.told.items) deed.now }
+        ensures told { self.new.told.items ≡ told_after self.old.told.items deed.now }
+        ensures places { self.new.places.items ≡ self.old.places.items }
+        ensures news { result ≡ is_new self.old.told.items deed.now }
+    {
+        match deed {
+            Deed::Do(_) | Deed::Await(_) => false,
+            Deed::Tell(flag) => {
+                let was_told = self.told[*flag];
+                self.told[*flag] = true;
+                !was_told
+            }
+        }
+    }
+
+    // A domain that stands at a place goes on as far as told flags let it, and tells those on its way.
+    fn go_on(&mut self, tasks: &[Task], dom: DomId, from: usize) -> Way
+        requires numbered { AreNumbered (length self.old.told.items) tasks.now }
+        requires place { from ≤ length tasks.now }
+        requires come { Comes tasks.now dom from self.old.told.items }
+        ensures goes { GoesOn tasks.now dom self.old.told.items self.new.told.items result.place result.is_news }
+        ensures places { self.new.places.items ≡ self.old.places.items }
+    {
+        let mut is_news = false;
+        'tasks: for place in from..tasks.len() {
+            let task = &tasks[place];
+            if is_own(task, dom) {
+                if self.is_waiting(&task.deed) {
+                    return Way { place, is_news };
+                }
+                is_news |= self.tell(&task.deed);
+            }
+        }
+        Way {
+            place: tasks.len(),
+            is_news,
+        }
+    }
+
+    // Each domain in turn goes on from its place. Whether one told a flag that was not told before.
+    fn turn(&mut self, tasks: &[Task], domains: &[DomainConfig]) -> bool
+        requires numbered { AreNumbered (length self.old.told.items) tasks.now }
+        requires many { length self.old.places.items ≡ length domains.now }
+        requires come { HaveCome tasks.now domains.now self.old.places.items self.old.told.items }
+        ensures turns { Turning tasks.now domains.now self.new.places.items self.old.told.items self.new.told.items (length domains.now) result }
+        ensures many { length self.new.places.items ≡ length domains.now }
+    {
+        let mut is_news = false;
+        'domains: for (i, domain) in domains.iter().enumerate() {
+            let from = self.places[i];
+            let way = self.go_on(tasks, domain.id, from);
+            self.places[i] = way.place;
+            is_news |= way.is_news;
+        }
+        is_news
+    }
+}
+
+// The flags that are told, of so many.
+fn told_flags(
+    alloc: Global,
+    tasks: &[Task],
+    domains: &[DomainConfig],
+    flags: usize,
+) -> Result<Vec<bool>, AllocError>
+    requires numbered { AreNumbered flags tasks.now }
+    requires known { All (λ t. IsTrue (is_taken domains.now t.dom)) tasks.now }
+    ensures many { IfOk result (λ told. length told.items ≡ flags) }
+    ensures closed { IfOk result (λ told. IsClosed tasks.now (holds told.items)) }
+    ensures least { IfOk result (λ told. (set : ℕ → Bool) → IsClosed tasks.now set → Within told.items set) }
+{
+    let mut turns = Turns {
+        places: vec![in alloc; 0; domains.len()]?,
+        told: vec![in alloc; false; flags]?,
+    };
+    'turns: loop {
+        if !turns.turn(tasks, domains) {
+            return Ok(turns.told);
+        }
+    }
+}
+
+// The line where a domain waits, where these flags are told.
+fn waiting_line(tasks: &[Task], dom: DomId, told: &[bool]) -> Option<usize>
+    requires { AreNumbered (length told.now) tasks.now }
+    ensures { WaitsIn told.now tasks.now dom result }
+{
+    'tasks: for task in tasks {
+        if task.dom == dom {
+            if let Deed::Await(flag) = task.deed {
+                if !told[flag] {
+                    return Some(task.line);
+                }
+            }
+        }
+    }
+    None
+}
+
+/// The line where the first of the domains that waits for ever does so, if one does. The tasks name so many flags.
+pub fn stuck_line(
+    alloc: Global,
+    tasks: &[Task],
+    domains: &[DomainConfig],
+    flags: usize,
+) -> Result<Option<usize>, AllocError>
+    requires numbered { AreNumbered flags tasks.now }
+    requires known { All (λ t. IsTrue (is_taken domains.now t.dom)) tasks.now }
+    ensures { IfOk result (λ line. IsJudged (IsTold tasks.now) tasks.now domains.now line) }
+{
+    let told = told_flags(alloc, tasks, domains, flags)?;
+    'domains: for domain in domains {
+        let line = waiting_line(tasks, domain.id, told.as_slice());
+        if line.is_some() {
+            return Ok(line);
+        }
+    }
+    Ok(None)
+}
