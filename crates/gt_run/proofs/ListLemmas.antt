@@ -6,9 +6,9 @@ use Rattle.std.proofs.lemmas.List.{append-nil}
 use Rattle.std.proofs.lemmas.Option.{slice_get_read}
 use Rattle.gt_types.specs.declared.DomId.{DomId}
 use Rattle.gt_lines.specs.declared.calls.Call.{Call}
-use Rattle.gt_run.specs.declared.lists.Deed.{Deed}
-use Rattle.gt_run.specs.declared.lists.Deed.TheVariants.{Do, Tell, Await}
-use Rattle.gt_run.specs.declared.lists.Task.{Task}
+use Rattle.gt_script.specs.declared.tasks.Deed.{Deed}
+use Rattle.gt_script.specs.declared.tasks.Deed.TheVariants.{Do, Tell, Await}
+use Rattle.gt_script.specs.declared.tasks.Task.{Task}
 use Rattle.gt_run.specs.Printing.{Gone, IsAnswerLine, IsAwait, Printed, Prints, PrintsDeed, PrintsWhere, gate_line}
 use Rattle.gt_run.proofs.PartLemmas.{each_snoc}
 

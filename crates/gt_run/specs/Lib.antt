@@ -1,3 +1,4 @@
 pub mod Faults
 pub mod Printing
+pub mod Running
 pub mod Telling

@@ -9,9 +9,9 @@ use Rattle.gt_audit.specs.Lines.{line_text, lost_text}
 use Rattle.gt_audit.specs.declared.record.Record.{Record}
 use Rattle.gt_core.specs.declared.trace.Answer.{Answer}
 use Rattle.gt_host.specs.Printing.{answer_line, call_text}
-use Rattle.gt_run.specs.declared.lists.Deed.{Deed}
-use Rattle.gt_run.specs.declared.lists.Deed.TheVariants.{Do, Tell, Await}
-use Rattle.gt_run.specs.declared.lists.Task.{Task}
+use Rattle.gt_script.specs.declared.tasks.Deed.{Deed}
+use Rattle.gt_script.specs.declared.tasks.Deed.TheVariants.{Do, Tell, Await}
+use Rattle.gt_script.specs.declared.tasks.Task.{Task}
 use Rattle.gt_run.specs.declared.lists.Part.{Part}
 use Rattle.gt_run.specs.declared.serving.Output.{Output}
 

@@ -8,6 +8,7 @@
 mod fault;
 mod gate;
 mod lists;
+mod run;
 mod running;
 mod serving;
 mod telling;
@@ -15,5 +16,4 @@ mod threads;
 
 pub use fault::RunFault;
 pub use gate::{FLAGS, Flags, Gate};
-pub use lists::{Deed, Part, Task};
-pub use threads::run_lists;
+pub use run::run;

@@ -3,13 +3,14 @@ ghost use Rattle.std.specs.Prelude.{◌≡◌, ◌++◌, [], false, IfOk, IsOk, 
 ghost use Rattle.gt_run.specs.Printing.{gate_line, CameOf, IsAnswerLine, Printed};
 
 use crate::gate::Gate;
-use crate::lists::{Deed, Part};
+use crate::lists::Part;
 use crate::running::Running;
 use crate::telling::Teller;
 use gt_audit::SharedLog;
 use gt_core::Answer;
 use gt_host::{Labels, bytes_said, label_given, push_answer_line, request_of};
 use gt_lines::Call;
+use gt_script::Deed;
 use gt_texts::{push_number, push_text};
 use gt_types::{Allows, DomId, Memory};
 use std::alloc::{AllocError, Global};

@@ -47,12 +47,23 @@ impl Gate for Turns {
     }
 }
 
+/// A gate that lets nobody on.
+#[derive(Drop)]
+pub struct Closed;
+
+impl Gate for Closed {
+    fn tell(&self, _flag: usize) {}
+
+    fn pass(&self, _flag: usize) -> bool {
+        false
+    }
+}
+
 /// A gate at which so many callers meet, whatever they wait for.
 #[derive(Drop)]
 pub struct Meeting {
     wanted: u64,
     callers: AtomicU64,
-    tells: AtomicU64,
 }
 
 impl Meeting {
@@ -60,20 +71,12 @@ impl Meeting {
         Meeting {
             wanted,
             callers: AtomicU64::new(0),
-            tells: AtomicU64::new(0),
         }
-    }
-
-    /// How often a flag was told.
-    pub fn told(&self) -> u64 {
-        self.tells.load(Ordering::SeqCst)
     }
 }
 
 impl Gate for Meeting {
-    fn tell(&self, _flag: usize) {
-        self.tells.fetch_add(1, Ordering::SeqCst);
-    }
+    fn tell(&self, _flag: usize) {}
 
     fn pass(&self, _flag: usize) -> bool {
         self.callers.fetch_add(1, Ordering::SeqCst);

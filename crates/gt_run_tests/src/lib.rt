@@ -4,8 +4,8 @@
 #[cfg(test)]
 mod gates;
 #[cfg(test)]
-mod lists;
-#[cfg(test)]
 mod many;
 #[cfg(test)]
 mod rows;
+#[cfg(test)]
+mod scripts;

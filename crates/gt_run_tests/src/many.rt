@@ -1,23 +1,23 @@
 //! Many domains with long lists.
 use crate::gates::Meeting;
-use crate::lists::{config, rights, tasks};
-use gt_lines::Text;
-use gt_run::{Part, RunFault, run_lists};
-use gt_types::DomId;
+use crate::scripts::run_text;
 use std::alloc::{AllocError, Global};
 use std::fmt::Write;
-use std::sync::Wait;
 use std::test::Fail;
-use std::thread::Threads;
 
 const DOMAINS: u16 = 16;
 
 const ROUNDS: u16 = 250;
 
-// The body: all domains meet, and then each does what no other sees, four calls a round.
-fn body(alloc: Global) -> Result<String, AllocError> {
+// The script, whose body begins at line 18: all domains meet, and then each does what no other sees, four calls a round.
+fn script(alloc: Global) -> Result<String, AllocError> {
     let mut text = String::new(alloc);
+    let _ = writeln!(text, "triple a_t a_t map_read");
     for id in 1..DOMAINS + 1 {
+        let _ = writeln!(text, "domain {id} u:r:a_t 8 1 1");
+    }
+    for id in 1..DOMAINS + 1 {
+        let _ = writeln!(text, "tell {id} x");
         let _ = writeln!(text, "await {id} x");
         for round in 0..ROUNDS {
             let _ = writeln!(text, "do {id} poke 3 {round} {:02x}", id);
@@ -29,12 +29,12 @@ fn body(alloc: Global) -> Result<String, AllocError> {
     Ok(text)
 }
 
-// What it prints, where its first line has the number 1.
+// What it prints.
 fn answers(alloc: Global) -> Result<String, AllocError> {
     let mut text = String::new(alloc);
-    let mut line: u32 = 0;
+    let mut line: u32 = 17;
     for id in 1..DOMAINS + 1 {
-        line = line.wrapping_add(1);
+        line = line.wrapping_add(2);
         for _ in 0..ROUNDS {
             let _ = writeln!(text, "{} {id} ok", line.wrapping_add(1));
             let _ = writeln!(text, "{} {id} ok {:02x}", line.wrapping_add(2), id);
@@ -46,43 +46,14 @@ fn answers(alloc: Global) -> Result<String, AllocError> {
     Ok(text)
 }
 
-fn run_many<R: Threads + Wait + Sync>(
-    rt: &R,
-    alloc: Global,
-    body: &str,
-) -> Result<Vec<u8>, RunFault> {
-    let tasks = tasks(alloc, 1, body)?;
-    let types = [Text::new(b"a_t")];
-    let mut parts = Vec::new(alloc);
-    for id in 1..DOMAINS + 1 {
-        parts.push(Part {
-            dom: DomId(id),
-            tasks: tasks.as_slice(),
-            types: &types,
-        })?;
-    }
-    let mut out = Vec::new(alloc);
-    let gate = Meeting::of(u64::from(DOMAINS));
-    run_lists(
-        rt,
-        alloc,
-        config(alloc, DOMAINS)?,
-        rights(alloc)?,
-        parts.as_slice(),
-        None,
-        &gate,
-        &mut out,
-    )?;
-    Ok(out)
-}
-
 #[test]
 fn sixteen_domains_print_the_same_in_each_run(rt: HostRuntime) -> Result<(), Fail> {
     let alloc = rt.alloc();
-    let body = body(alloc)?;
+    let script = script(alloc)?;
     let wanted = answers(alloc)?;
     for _ in 0..2 {
-        let out = run_many(&rt, alloc, body.as_str())?;
+        let gate = Meeting::of(u64::from(DOMAINS));
+        let out = run_text(&rt, alloc, script.as_str(), None, &gate)?;
         assert!(rt; out.as_slice() == wanted.as_bytes());
     }
     Ok(())

@@ -1,51 +1,10 @@
 //! Worked rows.
-use crate::gates::{Looking, Meeting, Turns};
-use crate::lists::{config, rights, tasks};
+use crate::gates::{Closed, Looking, Meeting};
+use crate::scripts::run_body;
 use gt_audit::SharedLog;
-use gt_lines::Text;
-use gt_run::{Flags, Gate, Part, RunFault, Task, run_lists};
-use gt_types::{DomId, Memory};
-use std::alloc::Global;
-use std::sync::Wait;
+use gt_run::{Flags, RunFault};
+use gt_types::DomId;
 use std::test::Fail;
-use std::thread::Threads;
-
-fn part<'s, 'a>(dom: u16, tasks: &'s [Task<'a>], types: &'s [Text<'s>]) -> Part<'s, 'a> {
-    Part {
-        dom: DomId(dom),
-        tasks,
-        types,
-    }
-}
-
-// Runs a body over three domains, and answers what it prints.
-fn run_body<R: Threads + Wait + Sync, G: Gate + Sync>(
-    rt: &R,
-    alloc: Global,
-    body: &str,
-    log: Option<&SharedLog>,
-    gate: &G,
-) -> Result<Vec<u8>, RunFault> {
-    let tasks = tasks(alloc, 12, body)?;
-    let types = [Text::new(b"a_t"), Text::new(b"b_t"), Text::new(b"c_t")];
-    let parts = [
-        part(1, tasks.as_slice(), &types),
-        part(2, tasks.as_slice(), &types),
-        part(3, tasks.as_slice(), &types),
-    ];
-    let mut out = Vec::new(alloc);
-    run_lists(
-        rt,
-        alloc,
-        config(alloc, 3)?,
-        rights(alloc)?,
-        &parts,
-        log,
-        gate,
-        &mut out,
-    )?;
-    Ok(out)
-}
 
 #[test]
 fn two_domains_meet(rt: HostRuntime) -> Result<(), Fail> {
@@ -57,7 +16,7 @@ fn two_domains_meet(rt: HostRuntime) -> Result<(), Fail> {
 
 #[test]
 fn three_domains_meet(rt: HostRuntime) -> Result<(), Fail> {
-    let body = "await 1 y\nawait 2 x\nawait 3 x\ntell 1 x\ntell 2 y\n";
+    let body = "tell 1 x\nawait 1 y\ntell 2 y\nawait 2 x\ntell 3 z\nawait 3 x\n";
     let out = run_body(&rt, rt.alloc(), body, None, &Meeting::of(3))?;
     assert_eq!(rt; out.as_slice(), "".as_bytes());
     Ok(())
@@ -65,8 +24,8 @@ fn three_domains_meet(rt: HostRuntime) -> Result<(), Fail> {
 
 #[test]
 fn a_false_gate_stops_its_domain(rt: HostRuntime) -> Result<(), Fail> {
-    let body = "do 1 grant 0 page 2 rw 5\nawait 1 x\ndo 1 revoke 0\ndo 2 map h 1 1 ro\n";
-    let out = run_body(&rt, rt.alloc(), body, None, &Turns::new())?;
+    let body = "do 1 grant 0 page 2 rw 5\nawait 1 x\ndo 1 revoke 0\ndo 2 map h 1 1 ro\ntell 2 x\n";
+    let out = run_body(&rt, rt.alloc(), body, None, &Closed)?;
     assert_eq!(rt;
         out.as_slice(),
         "12 1 ok\n13 1 gate\n15 2 N10 -1\n".as_bytes()
@@ -131,13 +90,13 @@ fn records_are_told_before_an_await(rt: HostRuntime) -> Result<(), Fail> {
 }
 
 const BYTES: &str = "do 1 grant 0 page 2 rw 5
-tell 1 g
-await 2 g
+tell 1 granted
+await 2 granted
 do 2 map h 1 0 rw
 do 2 store h 0 77
 do 2 unmap h
-tell 2 d
-await 1 d
+tell 2 done
+await 1 done
 do 1 peek 5 0 1
 do 1 revoke 0
 ";
@@ -223,5 +182,28 @@ fn each_call_is_answered(rt: HostRuntime) -> Result<(), Fail> {
     let gate = Flags::new(&rt, rt.alloc())?;
     let out = run_body(&rt, rt.alloc(), EACH_CALL, None, &gate)?;
     assert_eq!(rt; out.as_slice(), EACH_ANSWER.as_bytes());
+    Ok(())
+}
+
+#[test]
+fn a_script_that_is_stuck_writes_nothing(rt: HostRuntime) -> Result<(), Fail> {
+    let gate = Flags::new(&rt, rt.alloc())?;
+    let stuck = run_body(&rt, rt.alloc(), "await 1 x\ntell 2 y\n", None, &gate);
+    match stuck {
+        Err(RunFault::Play(fault)) => {
+            let text = format!(in rt.alloc(); "{fault}")?;
+            assert_eq!(rt; text.as_str(), "line 12: stuck");
+        }
+        _ => assert!(rt; false),
+    }
+    Ok(())
+}
+
+#[test]
+fn two_domains_wait_for_each_other(rt: HostRuntime) -> Result<(), Fail> {
+    let gate = Flags::new(&rt, rt.alloc())?;
+    let body = "tell 1 x\nawait 1 y\ntell 2 y\nawait 2 x\n";
+    let out = run_body(&rt, rt.alloc(), body, None, &gate)?;
+    assert_eq!(rt; out.as_slice(), "".as_bytes());
     Ok(())
 }
