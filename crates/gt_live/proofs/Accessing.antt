@@ -6,6 +6,7 @@ use Rattle.std.proofs.lemmas.Bool.Decides.{nat_tests}
 use Rattle.gt_types.specs.declared.DomId.{DomId}
 use Rattle.gt_types.specs.declared.Dir.{Dir}
 use Rattle.gt_types.specs.declared.Dir.TheVariants.{Read, Write}
+use Rattle.gt_types.specs.declared.Use.{Use}
 use Rattle.gt_types.specs.declared.Use.TheVariants.{Map as ForMap}
 use Rattle.gt_types.specs.declared.denial.Denial.{Denial}
 use Rattle.gt_types.specs.declared.denial.Facts.{Facts}
@@ -17,6 +18,7 @@ use Rattle.gt_entry.specs.Entries.{frame_of}
 use Rattle.gt_entry.specs.Permits.{is_of_frame, permits}
 use Rattle.gt_words.specs.Conditions.{SeatOf}
 use Rattle.gt_words.specs.Rule.{Layout}
+use Rattle.gt_words.specs.declared.view.SeatStep.{SeatStep}
 use Rattle.gt_words.specs.declared.view.View.{View}
 use Rattle.gt_access.specs.Routes.{IsPinnedFor, Serves}
 use Rattle.gt_calls.specs.declared.action.Seen.TheVariants.{Nothing}
@@ -53,17 +55,17 @@ to-read (Via dom ro dom2 gref) d Write off len is = is
 to-read (Sub dom ro frame start size) d Write off len is = grind (arith, nat_tests)
 
 -- what permits anybody is of its frame
-of-its-frame : (e : Entry) (d : DomId) (dir : Dir) (off len : ℕ) → permits e d dir ForMap off len ≡ true → is_of_frame e (frame_of e) ≡ true
-of-its-frame Invalid d dir off len is = cc
-of-its-frame (Page dom ro frame) d dir off len is = eq-eqb frame frame refl
-of-its-frame (Sub dom ro frame start size) d dir off len is = eq-eqb frame frame refl
-of-its-frame (Via dom ro dom2 gref) d dir off len is = cc
+pub of-its-frame : (e : Entry) (d : DomId) (dir : Dir) (purpose : Use) (off len : ℕ) → permits e d dir purpose off len ≡ true → is_of_frame e (frame_of e) ≡ true
+of-its-frame Invalid d dir purpose off len is = cc
+of-its-frame (Page dom ro frame) d dir purpose off len is = eq-eqb frame frame refl
+of-its-frame (Sub dom ro frame start size) d dir purpose off len is = eq-eqb frame frame refl
+of-its-frame (Via dom ro dom2 gref) d dir purpose off len is = cc
 
 serving : (e : Entry) (d : DomId) (dir own : Dir) (off len : ℕ) → (dir ≡ Write → own ≡ Write) → permits e d own ForMap off len ≡ true → permits e d dir ForMap off len ≡ true
 serving e d Read own off len so is = to-read e d own off len is
 serving e d Write own off len so is = subst (λ (x : Dir). permits e d x ForMap off len ≡ true) (so refl) is
 
-serves : (p : Held) (dir : Dir) → (dir ≡ Write → p.dir ≡ Write) → Serves dir p
+pub serves : (p : Held) (dir : Dir) → (dir ≡ Write → p.dir ≡ Write) → Serves dir p
 serves p Read so = tt
 serves p Write so = so refl
 
@@ -76,22 +78,23 @@ reaches-mapped k ds may s p dir number off len is so frame =
       pin = is.pin;
       serves = serves p dir so;
       owner_is = refl;
-      of_frame = ap (λ (n : ℕ). is_of_frame p.entry n) frame ∙ of-its-frame p.entry s.dom p.dir off len some;
+      of_frame = ap (λ (n : ℕ). is_of_frame p.entry n) frame ∙ of-its-frame p.entry s.dom p.dir ForMap off len some;
       permitted = serving p.entry s.dom dir p.dir off len so some;
     }
 
-wordless-found : (k : Layout) (v : View) (f : Facts) → IsWordless f → CarriesFound k v [] f
-wordless-found k v (facts.Entry dom gref word) is = absurd is
-wordless-found k v (facts.Header dom word) is = absurd is
-wordless-found k v facts.None is = tt
-wordless-found k v (facts.Policy source target perm) is = tt
-wordless-found k v (facts.Field field) is = tt
+-- a refusal without a word tells none
+pub wordless-found : (k : Layout) (v : View) (steps : List SeatStep) (f : Facts) → IsWordless f → CarriesFound k v steps f
+wordless-found k v steps (facts.Entry dom gref word) is = absurd is
+wordless-found k v steps (facts.Header dom word) is = absurd is
+wordless-found k v steps facts.None is = tt
+wordless-found k v steps (facts.Policy source target perm) is = tt
+wordless-found k v steps (facts.Field field) is = tt
 
 -- a call that is refused at its beginning
 pub refused-first : {R : Type 0} (k : Layout) (c : CallerKnowledge) (caller : DomId) (request : Request) (tells : Step → R → Type 0) (denial : Denial) (v : View) → IsRefused c caller request denial
     → AnsweredBy k (path_of c caller request) tells (Err denial) v v
 refused-first k c caller request tells denial v is =
-    inl (record { steps = []; view = refl; walked = tt; answered = ap (λ (o : Option Verdict). after_beginning o (steps_of c caller (asked request)) []) is.answered; carried = wordless-found k v denial.facts is.wordless })
+    inl (record { steps = []; view = refl; walked = tt; answered = ap (λ (o : Option Verdict). after_beginning o (steps_of c caller (asked request)) []) is.answered; carried = wordless-found k v [] denial.facts is.wordless })
 
 -- a call of one access
 whole : (k : Layout) (way : Continuation) (access : Step) (v : View) → IsAccess access → way ≡ makes access (ended Granted) → Accessed k way access v v

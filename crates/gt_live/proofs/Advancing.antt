@@ -8,7 +8,7 @@ use Rattle.gt_entry.specs.declared.change.Change.{Change}
 use Rattle.gt_entry.specs.declared.change.Change.TheVariants.{Publish, Revoke, Demote, Promote}
 use Rattle.gt_entry.specs.Words.{unit_of}
 use Rattle.gt_words.specs.Views.{last_of}
-use Rattle.gt_words.specs.Conditions.{IsNotEarlier}
+use Rattle.gt_words.specs.Conditions.{IsNotEarlier, SeesNoEarlier}
 use Rattle.gt_words.specs.Rule.{Layout, position_in}
 use Rattle.gt_words.specs.Steps.{changed_word, on_entry, on_header}
 use Rattle.gt_words.specs.declared.view.EntryStep.{EntryStep}
@@ -86,7 +86,7 @@ makes-next c k effect v w call s knows waits g =
     subst (λ (u : View). CanMake k u s) (sym g.view)
     (can-make c k call.caller v knows call.request (pins_by_call call) g.steps s waits g.walked (subst (λ (u : View). IsSame v u) g.view g.stands) g.held g.rests)
 
-same-call : (call call' : Call) → call'.caller ≡ call.caller → call'.request ≡ call.request → (record call { phase = call'.phase }) ≡ call'
+pub same-call : (call call' : Call) → call'.caller ≡ call.caller → call'.request ≡ call.request → (record call { phase = call'.phase }) ≡ call'
 same-call call call' callers requests =
     ap (λ (d : DomId). record { caller = d; request = call.request; phase = call'.phase }) (sym callers)
     ∙ ap (λ (a : Asked). record { caller = call'.caller; request = a; phase = call'.phase }) (sym requests)
@@ -127,19 +127,19 @@ unfolding made-gains
 finds-header k (LookHeader d) (Word n) v w m dom word e = ap (λ (z : DomId). on_header (position_in k.ids z) (header.Looked n)) e.0 ∙ ap (λ (z : ℕ). on_header (position_in k.ids dom) (header.Looked z)) e.1
 finds-header k _ _ v w m dom word e = absurd e
 
-carried-facts : (k : Layout) (caller : DomId) (v u w : View) (s : Step) (x : Seen) (steps : List SeatStep) (m : Made k s x u w) (f : Facts) → IsSame v u → v.position ≡ position_in k.ids caller → IsFound caller s x f → CarriesFound k v ((made-gains k s x u w m).step ∷ steps) f
-carried-facts k caller v u w s x steps m (facts.Entry dom gref word) same at found =
-    let f = finds k caller s x u w m dom gref word (same.position ∙ at) found in
-    let low = same.seen (position_in k.ids dom) gref.0 in let high = f.not_earlier in
+pub carried-facts : (k : Layout) (caller : DomId) (v u w : View) (s : Step) (x : Seen) (steps : List SeatStep) (m : Made k s x u w) (f : Facts) → SeesNoEarlier v u → u.position ≡ position_in k.ids caller → IsFound caller s x f → CarriesFound k v ((made-gains k s x u w m).step ∷ steps) f
+carried-facts k caller v u w s x steps m (facts.Entry dom gref word) early at found =
+    let f = finds k caller s x u w m dom gref word at found in
+    let low = early (position_in k.ids dom) gref.0 in let high = f.not_earlier in
     record { step = f.on; taken = inl (sym f.is); found = f.found; not_earlier = omega (arith, low, high) }
-carried-facts k caller v u w s x steps m (facts.Header dom word) same at found = inl (sym (finds-header k s x u w m dom word found))
-carried-facts k caller v u w s x steps m facts.None same at found = tt
-carried-facts k caller v u w s x steps m (facts.Policy source target perm) same at found = tt
-carried-facts k caller v u w s x steps m (facts.Field field) same at found = tt
+carried-facts k caller v u w s x steps m (facts.Header dom word) early at found = inl (sym (finds-header k s x u w m dom word found))
+carried-facts k caller v u w s x steps m facts.None early at found = tt
+carried-facts k caller v u w s x steps m (facts.Policy source target perm) early at found = tt
+carried-facts k caller v u w s x steps m (facts.Field field) early at found = tt
 
 carried-verdict : (k : Layout) (caller : DomId) (v u w : View) (s : Step) (x : Seen) (steps : List SeatStep) (m : Made k s x u w) (verdict : Verdict) → IsSame v u → v.position ≡ position_in k.ids caller → TellsFound caller s x verdict
     → TellsSteps k v ((made-gains k s x u w m).step ∷ steps) verdict
-carried-verdict k caller v u w s x steps m (Refused denial) same at found = carried-facts k caller v u w s x steps m denial.facts same at found
+carried-verdict k caller v u w s x steps m (Refused denial) same at found = carried-facts k caller v u w s x steps m denial.facts same.seen (same.position ∙ at) found
 carried-verdict k caller v u w s x steps m Granted same at found = tt
 carried-verdict k caller v u w s x steps m (Given value) same at found = tt
 carried-verdict k caller v u w s x steps m (Mapped p) same at found = tt

@@ -81,7 +81,7 @@ unwrapped n at lt = by (nat_lt at n) (lt-ltb at n lt)
     by true e = lt
     by false e = cc
 
-own-of-run : (k : Layout) (v : View) (caller d : DomId) → id_at k.ids v.position ≡ caller → v.position < length k.ids → d ≡ caller → HasDomain k d
+pub own-of-run : (k : Layout) (v : View) (caller d : DomId) → id_at k.ids v.position ≡ caller → v.position < length k.ids → d ≡ caller → HasDomain k d
 own-of-run k v caller d named inside same = subst (λ (x : DomId). HasDomain k x) (named ∙ sym same) (unwrapped _ _ (found-by k.ids v.position inside))
 
 which-invalid : (e : Entry) → is_invalid e ≡ true → e ≡ Invalid
@@ -94,7 +94,7 @@ valid-entry : (e : Entry) → is_invalid e ≡ false → e ≢ Invalid
 valid-entry e f is = let yes = ap is_invalid is in cc
 
 -- a pin that there is counts
-in-counted : (d : Dir) (x : EntryRecord) (ps : List LivePin) → IsIn (d, x) ps → 0 < pins_like d x.generation ps
+pub in-counted : (d : Dir) (x : EntryRecord) (ps : List LivePin) → IsIn (d, x) ps → 0 < pins_like d x.generation ps
 in-counted d x [] there = absurd there
 in-counted d x (p ∷ ps) (inl e) =
     let one = count-cons (is_pin d x.generation) p ps in
@@ -122,10 +122,10 @@ pub record Tried (c : CallerKnowledge) (k : Layout) (caller : DomId) (request : 
   pub in_frames : nat_le (frames_of c.domains p.dom) (frame_of p.entry) ≡ false
 
 module _ (c : CallerKnowledge) (k : Layout) (caller : DomId) (v : View) (knows : Knows c k caller v) where
-  named-run : (d : DomId) → IsNamed c d → HasDomain k d
+  pub named-run : (d : DomId) → IsNamed c d → HasDomain k d
   named-run d is = let there = is-there (domain_of c.domains d) is in knows.run d there.0 there.1
 
-  in-own : (q : ℕ) → q < size_of c.header → q < 2048
+  pub in-own : (q : ℕ) → q < size_of c.header → q < 2048
   in-own q lt = let fe = few-entries (c.header.version == 2) c.header.frames knows.header.few in omega (arith, fe, lt)
 
   row : (w : View) → IsSame v w → (q : ℕ) → q < 2048 → last_of q w ≡ record { generation = c.generation q; entry = c.entry q }

@@ -5,9 +5,13 @@ pub mod Rules
 pub mod Counting
 pub mod Can
 pub mod Accessing
-mod Advancing
+pub mod Advancing
 pub mod RowsKept
 pub mod Kept
 pub mod Knowing
 pub mod Once
 pub mod NewDomain
+pub mod Taking
+pub mod Copying
+pub mod Stopping
+pub mod Copied

@@ -29,7 +29,7 @@ use Rattle.gt_types.specs.declared.denial.Field.{Field}
 use Rattle.gt_calls.specs.declared.request.CopyArgs.{CopyArgs}
 use Rattle.gt_types.specs.declared.denial.Denial.{Denial}
 use Rattle.gt_calls.specs.declared.action.Verdict.TheVariants.{Given, Mapped}
-use Rattle.gt_calls.specs.Rules.{copy_begun, ends_framed, ends_named, ends_owned, ends_ranged, frames_of, is_dest_granted, is_for_reading, is_foreign, is_past_frames, is_source_granted, own_access_begun, rights_to_copy, CallerKnowledge, cannot_stand, change_begun, query_begun, denied, first, given_when, granted_when, has_valid, is_already, is_invalid, is_version, map_dir, refused_when, rights_to_map, rights_to_query, rights_to_setup, rights_to_unmap, unmap_denied}
+use Rattle.gt_calls.specs.Rules.{copy_begun, ends_framed, ends_named, ends_owned, ends_ranged, frames_of, is_dest_granted, is_for_reading, is_foreign, is_past_frames, is_source_granted, own_access_begun, rights_to_copy, via_judged, CallerKnowledge, cannot_stand, change_begun, query_begun, denied, first, given_when, granted_when, has_valid, is_already, is_invalid, is_version, map_dir, refused_when, rights_to_map, rights_to_query, rights_to_setup, rights_to_unmap, unmap_denied}
 use Rattle.gt_live.specs.Ending.{IsAccessing, IsAtOnce, IsWordless, WaitsForNobody}
 
 module _ (r : Asked) where
@@ -179,3 +179,10 @@ module _ (k : CallerKnowledge) (caller : DomId) where
   -- a call with an access that is answered at its beginning is refused there
   pub refused-once : (request : Request) (verdict : Verdict) → IsAccessing (asked request) → begun_of k caller request ≡ Some verdict → (denial : Denial) × (verdict ≡ Refused denial) × IsWordless denial.facts
   refused-once request verdict w e = only-refused (asked request) verdict w (subst (λ (o : Option Verdict). MayBe (asked request) o) e (once-access request w))
+
+  -- past a Via a copy is refused without a word, where it is
+  pub via-refused : (pair : DomId × DomId) (dom : DomId) (verdict : Verdict) → via_judged k pair dom ≡ Some verdict → (denial : Denial) × (verdict ≡ Refused denial) × IsWordless denial.facts
+  via-refused pair dom verdict e =
+      let r = asks.Load (record { serial = 0; key = 0 }) 0 0 in let a = is_none (domain_of k.domains dom) in let ts = rights_to_copy k pair.0 pair.1 in
+      let may : MayBe r (via_judged k pair dom) = first-of r (refused_when a N1 ∷ denied k.may ts ∷ []) (refused-may r a N1, (denied-may r k.may ts, tt)) in
+      only-refused r verdict tt (subst (λ (o : Option Verdict). MayBe r o) e may)

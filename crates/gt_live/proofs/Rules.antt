@@ -23,7 +23,7 @@ use Rattle.gt_calls.specs.Resting.{Lets}
 use Rattle.gt_calls.specs.Rules.{before_pin, first, first_look, is_outside, is_past_owner, stands}
 
 -- none of a list of rules stands: the first does not, and none of the others
-none-stands : (b : Bool) (n : Rule) (xs : List (Option Rule)) → first (stands b n ∷ xs) ≡ None → (b ≡ false) × (first xs ≡ None)
+pub none-stands : (b : Bool) (n : Rule) (xs : List (Option Rule)) → first (stands b n ∷ xs) ≡ None → (b ≡ false) × (first xs ≡ None)
 none-stands true n xs e = cc
 none-stands false n xs e = (refl, e)
 

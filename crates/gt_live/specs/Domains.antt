@@ -4,7 +4,9 @@ use Rattle.gt_types.specs.declared.DomId.{DomId}
 use Rattle.gt_types.specs.declared.TypeId.{TypeId}
 use Rattle.gt_types.specs.declared.GrantRef.{GrantRef}
 use Rattle.gt_types.specs.declared.Size.{Size}
+use Rattle.gt_audit.specs.declared.record.CopyEnd.{CopyEnd}
 use Rattle.gt_audit.specs.declared.record.Hypercall.{Hypercall}
+use Rattle.gt_audit.specs.declared.record.Hypercall.TheVariants as hypercalls
 use Rattle.gt_audit.specs.declared.record.Record.{Record}
 use Rattle.gt_audit.specs.declared.record.Reply.{Reply}
 use Rattle.gt_audit.specs.declared.record.Reply.TheVariants as replies
@@ -26,7 +28,10 @@ use Rattle.gt_calls.specs.declared.action.Verdict.{Verdict}
 use Rattle.gt_calls.specs.declared.action.Verdict.TheVariants.{Granted, Given, Mapped, Refused}
 use Rattle.gt_calls.specs.declared.action.Value.TheVariants.{Frames, Size as SizeTold, Version}
 use Rattle.gt_calls.specs.declared.held.Held.{Held}
+use Rattle.gt_calls.specs.declared.request.CopyArgs.{CopyArgs}
+use Rattle.gt_calls.specs.declared.request.End.{End}
 use Rattle.gt_calls.specs.declared.request.Request.{Request}
+use Rattle.gt_frames.specs.Receipts.{Copying}
 use Rattle.gt_calls.specs.Asking.{begun_of}
 use Rattle.gt_calls.specs.Path.{path, path_of}
 use Rattle.gt_calls.specs.Standing.{IsFresh}
@@ -231,3 +236,17 @@ subject_in (Some p) = Some (p.dom, p.gref)
 -- the entry that the mapping under this handle is of, if it has one (own)
 abbrev pub subject_of : Domain → Handle → Option (DomId × GrantRef)
 subject_of d handle = subject_in (value_of d.mappings handle)
+
+-- what a record tells of a copy's answer (own)
+abbrev pub copy_reply : Result Copying Denial → Reply
+copy_reply (Ok copied) = replies.Done
+copy_reply (Err denial) = replies.Denied denial
+
+-- what a record tells of an end of a copy (own)
+abbrev pub told_end : End → CopyEnd
+told_end end = record { ptr = end.ptr; dom = end.domid; off = end.offset }
+
+-- the record of a copy that this domain asked, and that was answered so (own)
+abbrev pub told_copy : Domain → CopyArgs → Result Copying Denial → Record
+told_copy d c result =
+    record { dom = d.seat.dom; call = hypercalls.Copy (told_end c.source) (told_end c.dest) c.len c.flags; reply = copy_reply result }

@@ -20,7 +20,6 @@ use Rattle.gt_calls.specs.declared.request.Asked.{Asked}
 use Rattle.gt_calls.specs.declared.request.Asked.TheVariants as asks
 use Rattle.gt_calls.specs.declared.call.Call.{Call}
 use Rattle.gt_calls.specs.declared.held.Held.{Held}
-use Rattle.gt_calls.specs.declared.request.Holder.TheVariants.{Mapping as ByHandle}
 use Rattle.gt_handles.specs.declared.handles.Handle.{Handle}
 use Rattle.gt_calls.specs.Changes.{raise_of}
 use Rattle.gt_calls.specs.Following.{GoesOn}
@@ -41,7 +40,7 @@ CanMake k v (LookHeader d) = HasDomain k d
 CanMake k v (LookControl d q) = HasDomain k d × (q.0 < TABLE_ENTRIES)
 CanMake k v (LookBody d q half) = HasDomain k d × (q.0 < TABLE_ENTRIES)
 CanMake k v (Pin p) = HasDomain k p.dom × (p.gref.0 < TABLE_ENTRIES) × CanPin k (position_in k.ids p.dom) p.gref.0 p.dir p.word v
-CanMake k v (Unpin p (ByHandle handle)) =
+CanMake k v (Unpin p holder) =
     HasDomain k p.dom × (p.gref.0 < TABLE_ENTRIES) × Holds (position_in k.ids p.dom) p.gref.0 p.dir (generation_of p.word) v
 CanMake k v (StoreBody q half n) = (q.0 < TABLE_ENTRIES) × ((last_of q.0 v).entry ≡ Invalid)
 CanMake k v (StoreHeader version frames) = IsKeptHeader (record { version = version; frames = frames })

@@ -4,6 +4,7 @@ pub mod Mappings
 pub mod Ending
 pub mod Effects
 pub mod Driving
+pub mod Underway
 pub mod Rows
 pub mod Domains
 pub mod Starting

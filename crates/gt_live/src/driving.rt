@@ -1,5 +1,5 @@
 //! A call driven along its path, each of its steps made on the words.
-ghost use Rattle.std.specs.Prelude.{◌≡◌, ◌<◌, None, [], ◌∷◌};
+ghost use Rattle.std.specs.Prelude.{◌≡◌, ◌<◌, None, Some, [], ◌∷◌};
 ghost use Rattle.gt_calls.specs.Rules.{knows};
 ghost use Rattle.gt_calls.specs.Path.{path};
 ghost use Rattle.gt_calls.specs.Following.{MakesStep};
@@ -9,8 +9,14 @@ ghost use Rattle.gt_live.specs.Walks.{Made, Called};
 ghost use Rattle.gt_live.specs.Effects.{Answers, effect_of};
 ghost use Rattle.gt_live.specs.Ending.{IsAnswerTo, WaitsForNobody};
 ghost use Rattle.gt_live.specs.Driving.{CanMake, Knows, Leaves};
+ghost use Rattle.gt_live.specs.Underway.{AreOfRun, GivesBack, HasTaken, Stops};
+ghost use Rattle.gt_words.specs.declared.view.View.{View};
+ghost use Rattle.gt_calls.specs.declared.call.Phase.TheVariants.{Accessing};
+ghost use Rattle.gt_calls.specs.declared.request.Asked.TheVariants as asks;
+ghost use Rattle.gt_calls.specs.declared.request.CopyArgs.{CopyArgs};
+ghost use Rattle.gt_calls.specs.Standing.{held_by_call, pins_by_call};
 
-use gt_calls::{Action, Call, Held, Holder, Known, Seen, Step, Verdict};
+use gt_calls::{Action, Call, Held, Holder, Known, Place, Seen, Step, Verdict};
 use gt_entry::{Change, Header};
 use gt_handles::Handle;
 use gt_types::{Allows, GrantRef};
@@ -35,6 +41,15 @@ pub enum Effect {
 pub struct Finished {
     pub verdict: Verdict,
     pub effect: Effect,
+}
+
+/// Where a call stops that makes an access.
+#[derive(Clone, Copy)]
+pub enum Stop {
+    /// At its end, without the access.
+    Done(Verdict),
+    /// At its access: so many bytes are copied from the one place to the other.
+    Access { from: Place, to: Place, len: u16 },
 }
 
 // The header with these numbers.
@@ -157,5 +172,57 @@ pub(crate) fn drive<P: Allows>(
                 action = call.next(known, seen);
             }
         }
+    }
+}
+
+// Drives a copy from its beginning to its access, or to its end where it is refused before.
+pub(crate) fn walk<P: Allows>(
+    words: &Words,
+    known: &Known<'_, P>,
+    seat: &mut Seat,
+    call: &mut Call,
+) -> Stop
+    requires seat { IsSeatOf words.now seat.old }
+    requires fresh { IsFresh (knows P.may known.now) call.old }
+    requires knows { Knows (knows P.may known.now) words.now.layout call.old.caller seat.old.view }
+    requires copies { (copy : CopyArgs) × (call.old.request ≡ asks.Copy copy) }
+    ensures seat { IsSameSeat seat.old seat.new }
+    ensures caller { call.new.caller ≡ call.old.caller }
+    ensures request { call.new.request ≡ call.old.request }
+    ensures stops { Stops (knows P.may known.now) words.now.layout call.new result seat.old.view seat.new.view }
+{
+    let mut action = call.next(known, Seen::Nothing);
+    'steps: loop {
+        match action {
+            Action::Done(verdict) => return Stop::Done(verdict),
+            Action::Step(step) => {
+                if let Step::Copy { from, to, len } = step {
+                    return Stop::Access { from, to, len };
+                }
+                let seen = perform(words, seat, step);
+                action = call.next(known, seen);
+            }
+        }
+    }
+}
+
+// Gives back the pins that a copy held at its access, the last one first.
+pub(crate) fn give_back<P: Allows>(
+    words: &Words,
+    known: &Known<'_, P>,
+    seat: &mut Seat,
+    call: &mut Call,
+)
+    requires seat { IsSeatOf words.now seat.old }
+    requires accessing { (copy : CopyArgs) × (call.old.phase ≡ Some (Accessing copy (pins_by_call call.old).source (pins_by_call call.old).dest)) }
+    requires taken { (base : View) × HasTaken words.now.layout (held_by_call call.old) base seat.old.view }
+    requires of_run { AreOfRun words.now.layout (held_by_call call.old) }
+    ensures seat { IsSameSeat seat.old seat.new }
+    ensures gives { GivesBack words.now.layout (pins_by_call call.old) seat.old.view seat.new.view }
+{
+    let mut action = call.next(known, Seen::Nothing);
+    'pins: while let Action::Step(step) = action {
+        let seen = perform(words, seat, step);
+        action = call.next(known, seen);
     }
 }

@@ -1,0 +1,166 @@
+-- A copy at its access: what its routes reach, what the policy allows of it, and how it is answered.
+use Rattle.std.proofs.Common.{◌≡◌, ℕ, ◌+◌, Bool, true, false, cond, refl, sym, ap, ◌∙◌, subst, List, [], ◌∷◌, ◌++◌, Option, Some, None, inl, inr}
+use Rattle.std.specs.Prelude.{IfErr, IfOk, Result, Ok, Err, is_none}
+use Rattle.gt_types.specs.declared.DomId.{DomId}
+use Rattle.gt_types.specs.declared.TypeId.{TypeId}
+use Rattle.gt_types.specs.declared.perms.Perms.{Perms}
+use Rattle.gt_types.specs.declared.denial.Rule.TheVariants.{N1, N5}
+use Rattle.gt_types.specs.declared.denial.Facts.TheVariants.{Policy}
+use Rattle.gt_types.specs.Denial.{denial_of}
+use Rattle.gt_types.specs.declared.rights.Triple.{Triple}
+use Rattle.gt_types.specs.declared.Dir.{Dir}
+use Rattle.gt_types.specs.declared.Dir.TheVariants.{Read, Write}
+use Rattle.gt_types.specs.declared.Use.TheVariants.{Copy as ForCopy}
+use Rattle.gt_types.specs.declared.denial.Denial.{Denial}
+use Rattle.gt_types.specs.Names.{copy as copying, domain_of, resolved}
+use Rattle.gt_entry.specs.declared.entry.Entry.{Entry}
+use Rattle.gt_entry.specs.Entries.{frame_of}
+use Rattle.gt_entry.specs.Permits.{is_of_frame, permits}
+use Rattle.gt_words.specs.Conditions.{SeatOf}
+use Rattle.gt_words.specs.Rule.{Layout}
+use Rattle.gt_words.specs.Views.{IsIn}
+use Rattle.gt_words.specs.declared.view.View.{View}
+use Rattle.gt_frames.specs.Receipts.{Copying}
+use Rattle.gt_access.specs.Accesses.{copying_at}
+use Rattle.gt_access.specs.Routes.{MayCopy, MayCopyEach, Reaches, named_by, pair_beyond}
+use Rattle.gt_calls.specs.declared.action.Place.{Place}
+use Rattle.gt_calls.specs.declared.action.Step.TheVariants.{Copy as CopyBytes}
+use Rattle.gt_calls.specs.declared.action.Verdict.{Verdict}
+use Rattle.gt_calls.specs.declared.action.Verdict.TheVariants.{Granted, Refused}
+use Rattle.gt_calls.specs.declared.call.Call.{Call}
+use Rattle.gt_calls.specs.declared.held.Held.{Held}
+use Rattle.gt_calls.specs.declared.held.Pins.{Pins}
+use Rattle.gt_calls.specs.declared.held.Route.{Route}
+use Rattle.gt_calls.specs.declared.held.Route.TheVariants.{Own, Direct, Through}
+use Rattle.gt_calls.specs.declared.request.CopyArgs.{CopyArgs}
+use Rattle.gt_calls.specs.declared.request.End.{End}
+use Rattle.gt_calls.specs.Holding.{frame_by, held_by, last_first, owner_by}
+use Rattle.gt_calls.specs.Opening.{IsAllowed, IsOwnEnd, OpensCopy}
+use Rattle.gt_calls.specs.Path.{Continuation, dest_pair, path, source_pair}
+use Rattle.gt_calls.specs.declared.request.Asked.{Asked}
+use Rattle.gt_calls.specs.Resting.{IsReached, RestsOnWays}
+use Rattle.gt_calls.specs.Rules.{CallerKnowledge, denied, first, is_dest_granted, is_source_granted, label_of, refused_when, rights_to_copy, triples, via_judged}
+use Rattle.gt_calls.specs.Standing.{pins_by_call}
+use Rattle.gt_live.specs.Accesses.{Accessed, AnsweredBy, IsCopiedBy, IsOfAccess, frame_named, spot_of}
+use Rattle.gt_live.specs.Underway.{AreOfRun, AtAccess, GivesBack, HasTaken}
+use Rattle.gt_live.specs.Walks.{Called}
+use Rattle.gt_live.proofs.Accessing.{of-its-frame, serves}
+use Rattle.gt_live.proofs.Taking.{has-pin}
+
+pub in-dest : {A : Type 0} (a : A) (xs ys : List A) → IsIn a xs → IsIn a (xs ++ ys)
+in-dest a [] ys is = absurd is
+in-dest a (x ∷ xs) ys (inl e) = inl e
+in-dest a (x ∷ xs) ys (inr more) = inr (in-dest a xs ys more)
+
+pub in-source : {A : Type 0} (a : A) (xs ys : List A) → IsIn a ys → IsIn a (xs ++ ys)
+in-source a [] ys is = is
+in-source a (x ∷ xs) ys is = inr (in-source a xs ys is)
+
+-- the route to an end reaches its range
+pub reaches-end : (c : CallerKnowledge) (k : Layout) (s : SeatOf) (granted : Bool) (end : End) (dir : Dir) (len : ℕ) (pair : DomId → DomId × DomId) (route : Route) (taken : List Held) (v : View) → IsReached c s.dom granted end dir len pair route → HasTaken k taken v s.view
+    → AreOfRun k taken → ((p : Held) → IsIn p (held_by route) → IsIn p taken) → Reaches k s dir ForCopy (frame_named (owner_by s.dom route) (frame_by end.ptr route)) end.offset len route
+reaches-end c k s granted end dir len pair Own taken v r x all among = refl
+reaches-end c k s granted end dir len pair (Direct p) taken v r x all among = record {
+  pin = has-pin k taken v s.view p x all (among p (inl refl));
+  serves = serves p dir (λ e. r.2.taken_for ∙ e);
+  owner_is = refl;
+  of_frame = of-its-frame p.entry s.dom dir ForCopy end.offset len r.2.permitted;
+  permitted = r.2.permitted;
+}
+reaches-end c k s granted end dir len pair (Through via p) taken v r x all among =
+    let may : permits p.entry via.dom dir ForCopy end.offset len ≡ true = ap (λ (d : DomId). permits p.entry d dir ForCopy end.offset len) r.1.named ∙ r.3.permitted in (
+      refl,
+      record { pin = has-pin k taken v s.view via x all (among via (inr (inl refl))); serves = serves via dir (λ e. r.1.taken_for ∙ e); forwarded = r.1.forwarded; leads = r.2 },
+      record {
+        pin = has-pin k taken v s.view p x all (among p (inl refl));
+        serves = serves p dir (λ e. r.3.taken_for ∙ e);
+        owner_is = refl;
+        of_frame = of-its-frame p.entry via.dom dir ForCopy end.offset len may;
+        permitted = may;
+      },
+    )
+
+-- the domain that an end names
+names-end : (c : CallerKnowledge) (caller : DomId) (granted : Bool) (end : End) (dir : Dir) (len : ℕ) (pair : DomId → DomId × DomId) (route : Route) → IsReached c caller granted end dir len pair route → (granted ≡ false → IsOwnEnd c caller end) → named_by caller route ≡ resolved caller end.domid
+names-end c caller granted end dir len pair Own r own = ap numbered (sym (own r.0).owned)
+  where
+    numbered : ℕ → DomId
+    numbered n = record { 0 = n }
+names-end c caller granted end dir len pair (Direct p) r own = r.1
+names-end c caller granted end dir len pair (Through via p) r own = r.1.named
+
+-- where no rule stands past a Via, the policy allows the pair
+one-allowed : (may : TypeId → TypeId → Perms → Bool) (t : Triple) → denied may (t ∷ []) ≡ None → IsAllowed may (t ∷ [])
+one-allowed may t e = by (may t.source t.target t.perm) refl e
+  where
+    by : (b : Bool) → may t.source t.target t.perm ≡ b → cond b None (Some (Refused (denial_of N5 (Policy t.source t.target t.perm)))) ≡ None → (may t.source t.target t.perm ≡ true) × Unit {0}
+    by true is f = (is, tt)
+    by false is f = cc
+
+last-none : (o : Option Verdict) → first (o ∷ []) ≡ None → o ≡ None
+last-none None e = refl
+last-none (Some verdict) e = cc
+
+via-allowed : (c : CallerKnowledge) (pair : DomId × DomId) (dom : DomId) → via_judged c pair dom ≡ None → IsAllowed c.may (rights_to_copy c pair.0 pair.1)
+via-allowed c pair dom e = one-allowed c.may (record { source = label_of c.domains pair.0; target = label_of c.domains pair.1; perm = copying }) (last-none _ (by (is_none (domain_of c.domains dom)) e))
+  where
+    by : (b : Bool) → first (refused_when b N1 ∷ denied c.may (rights_to_copy c pair.0 pair.1) ∷ []) ≡ None → first (denied c.may (rights_to_copy c pair.0 pair.1) ∷ []) ≡ None
+    by true f = cc
+    by false f = f
+
+abbrev pub Allows : CallerKnowledge → DomId × DomId → Type 0
+Allows c pair = IsAllowed c.may (rights_to_copy c pair.0 pair.1)
+
+beyond-source : (c : CallerKnowledge) (caller : DomId) (granted : Bool) (a : CopyArgs) (dir : Dir) (len : ℕ) (route : Route) (to : DomId) (rest : List (DomId × DomId)) → IsReached c caller granted a.source dir len (source_pair caller a) route → to ≡ resolved caller a.dest.domid
+    → MayCopyEach c.domains c.may rest → MayCopyEach c.domains c.may (pair_beyond route (owner_by caller route, to) ++ rest)
+beyond-source c caller granted a dir len Own to rest r named more = more
+beyond-source c caller granted a dir len (Direct p) to rest r named more = more
+beyond-source c caller granted a dir len (Through via p) to rest r named more =
+    (subst (λ (d : DomId). Allows c (p.dom, d)) (sym named) (via-allowed c (p.dom, resolved caller a.dest.domid) p.dom r.4), more)
+
+beyond-dest : (c : CallerKnowledge) (caller : DomId) (granted : Bool) (end : End) (dir : Dir) (len : ℕ) (source route : Route) → IsReached c caller granted end dir len (dest_pair caller source) route
+    → MayCopyEach c.domains c.may (pair_beyond route (owner_by caller source, owner_by caller route))
+beyond-dest c caller granted end dir len source Own r = tt
+beyond-dest c caller granted end dir len source (Direct p) r = tt
+beyond-dest c caller granted end dir len source (Through via p) r = (via-allowed c (owner_by caller source, p.dom) p.dom r.4, tt)
+
+-- the policy allows a copy whose ends are reached
+pub may-copy : (c : CallerKnowledge) (caller : DomId) (a : CopyArgs) (pins : Pins) → OpensCopy c caller a → IsReached c caller (is_source_granted a) a.source Read a.len (source_pair caller a) pins.source
+    → IsReached c caller (is_dest_granted a) a.dest Write a.len (dest_pair caller pins.source) pins.dest → MayCopy c.domains c.may caller pins
+may-copy c caller a pins opens source dest =
+    let from = names-end c caller (is_source_granted a) a.source Read a.len (source_pair caller a) pins.source source opens.own_source in
+    let to = names-end c caller (is_dest_granted a) a.dest Write a.len (dest_pair caller pins.source) pins.dest dest opens.own_dest in (
+      subst (λ (d : DomId). Allows c (d, named_by caller pins.dest)) (sym from) (subst (λ (d : DomId). Allows c (resolved caller a.source.domid, d)) (sym to) opens.allowed),
+      beyond-source c caller (is_source_granted a) a Read a.len pins.source (named_by caller pins.dest) _ source to (beyond-dest c caller (is_dest_granted a) a.dest Write a.len pins.source pins.dest dest),
+    )
+
+-- a copy that came to its access and gave its pins back
+pub made-whole : (c : CallerKnowledge) (k : Layout) (call : Call) (from to : Place) (len : ℕ) (v mid w : View) (way : Continuation) (writer : DomId) (result : Result Copying Denial) → AtAccess c k call from to len v mid → GivesBack k (pins_by_call call) mid w → way ≡ path c call.caller call.request
+    → IfOk result (λ (r : Copying). r ≡ copying_at (spot_of from) (spot_of to) len writer) → IfErr result IsOfAccess → AnsweredBy k way (IsCopiedBy writer) result v w
+made-whole c k call from to len v mid w way writer result a g same ok err = subst (λ (y : Continuation). AnsweredBy k y (IsCopiedBy writer) result v w) (sym same) (by result ok err)
+  where
+    whole : Accessed k (path c call.caller call.request) (CopyBytes from to len) v w
+    whole = record {
+      at = mid;
+      comes = a.comes;
+      ends = subst (λ (y : Continuation). Called k y Granted mid w) (sym a.ends) (record { steps = g.steps; view = g.view; walked = g.walked; answered = g.ended; carried = tt });
+    }
+
+    by : (r : Result Copying Denial) → IfOk r (λ (x : Copying). x ≡ copying_at (spot_of from) (spot_of to) len writer) → IfErr r IsOfAccess → AnsweredBy k (path c call.caller call.request) (IsCopiedBy writer) r v w
+    by (Ok r) o e = (CopyBytes from to len, whole, o)
+    by (Err denial) o e = inr (CopyBytes from to len, whole, e)
+
+-- what the routes to both ends reach
+pub reaches-source : (c : CallerKnowledge) (k : Layout) (s : SeatOf) (request : Asked) (pins : Pins) (from to : Place) (len : ℕ) (v : View) → RestsOnWays c s.dom request pins from to len → HasTaken k (last_first pins) v s.view → AreOfRun k (last_first pins)
+    → Reaches k s Read ForCopy (frame_named from.owner from.frame) from.off len pins.source
+reaches-source c k s request pins from to len v r x all =
+    let at = reaches-end c k s (is_source_granted r.copy) r.copy.source Read r.copy.len (source_pair s.dom r.copy) pins.source (last_first pins) v r.source_reached x all (λ p is. in-source p (held_by pins.dest) (held_by pins.source) is) in
+    subst (λ (n : ℕ). Reaches k s Read ForCopy (frame_named from.owner from.frame) from.off n pins.source) (sym r.len_is)
+    (subst (λ (p : Place). Reaches k s Read ForCopy (frame_named p.owner p.frame) p.off r.copy.len pins.source) (sym r.from_is) at)
+
+pub reaches-dest : (c : CallerKnowledge) (k : Layout) (s : SeatOf) (request : Asked) (pins : Pins) (from to : Place) (len : ℕ) (v : View) → RestsOnWays c s.dom request pins from to len → HasTaken k (last_first pins) v s.view → AreOfRun k (last_first pins)
+    → Reaches k s Write ForCopy (frame_named to.owner to.frame) to.off len pins.dest
+reaches-dest c k s request pins from to len v r x all =
+    let at = reaches-end c k s (is_dest_granted r.copy) r.copy.dest Write r.copy.len (dest_pair s.dom pins.source) pins.dest (last_first pins) v r.dest_reached x all (λ p is. in-dest p (held_by pins.dest) (held_by pins.source) is) in
+    subst (λ (n : ℕ). Reaches k s Write ForCopy (frame_named to.owner to.frame) to.off n pins.dest) (sym r.len_is)
+    (subst (λ (p : Place). Reaches k s Write ForCopy (frame_named p.owner p.frame) p.off r.copy.len pins.dest) (sym r.to_is) at)

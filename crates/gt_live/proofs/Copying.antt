@@ -1,0 +1,447 @@
+-- A copy on its way: its next step can be made, and where it stands after it.
+use Rattle.std.proofs.Common.{◌≡◌, ◌≢◌, ◌⊎◌, ℕ, ◌+◌, ◌-◌, ◌<◌, ◌==◌, ◌&&◌, Bool, true, false, cond, refl, sym, ap, ◌∙◌, subst, List, [], ◌∷◌, ◌++◌, length, zero, suc, Option, Some, None, inl, inr, arith, nat_lt, append_assoc}
+use Rattle.std.specs.Prelude.{IsSome, is_none}
+use Rattle.std.proofs.lemmas.Bool.{eqb-true}
+use Rattle.gt_types.specs.declared.DomId.{DomId}
+use Rattle.gt_types.specs.declared.GrantRef.{GrantRef}
+use Rattle.gt_types.specs.declared.Dir.{Dir}
+use Rattle.gt_types.specs.declared.Dir.TheVariants.{Read, Write}
+use Rattle.gt_types.specs.declared.Use.TheVariants.{Copy as ForCopy}
+use Rattle.gt_types.specs.declared.denial.Denial.{Denial}
+use Rattle.gt_types.specs.declared.denial.Facts.{Facts}
+use Rattle.gt_types.specs.declared.denial.Facts.TheVariants as facts
+use Rattle.gt_types.specs.declared.denial.Rule.{Rule}
+use Rattle.gt_types.specs.declared.denial.Rule.TheVariants.{N9, N10, N18}
+use Rattle.gt_types.specs.Denial.{denial_of}
+use Rattle.gt_types.specs.Names.{resolved}
+use Rattle.gt_entry.specs.declared.entry.Entry.{Entry}
+use Rattle.gt_entry.specs.declared.entry.Entry.TheVariants.{Invalid, Page, Sub, Via}
+use Rattle.gt_entry.specs.declared.control.Control.{Control}
+use Rattle.gt_entry.specs.declared.control.Kind.{Kind}
+use Rattle.gt_entry.specs.declared.control.Kind.TheVariants.{Invalid as KindInvalid, Page as KindPage, Sub as KindSub, Via as KindVia}
+use Rattle.gt_entry.specs.declared.change.Half.TheVariants.{First as FirstHalf, Second as SecondHalf}
+use Rattle.gt_entry.specs.declared.change.Change.TheVariants.{Publish, Revoke as ToInvalid, Demote as ToReadOnly, Promote as ToWritable}
+use Rattle.gt_entry.specs.Permits.{forwards, permits}
+use Rattle.gt_entry.specs.Spelling.{entry_of, entry_with}
+use Rattle.gt_entry.specs.Words.{control_of, header_of, is_kind, kind_of, size_of}
+use Rattle.gt_words.specs.Conditions.{CanPin, HasDomain, MayPin}
+use Rattle.gt_words.specs.Controls.{ForwardsPin, LeadsTo, PermitsPin, generation_of, pins_in}
+use Rattle.gt_words.specs.Keeping.{SeesNoEarlier}
+use Rattle.gt_words.specs.Laws.{domain_at}
+use Rattle.gt_words.specs.Rule.{Layout, id_at, position_in}
+use Rattle.gt_words.specs.Views.{HasBody, Seen as Looks, last_seen, record_seen, seen, seen_or_none, steps_on, value_or_zero, with_body}
+use Rattle.gt_words.specs.declared.view.EntryRecord.{EntryRecord}
+use Rattle.gt_words.specs.declared.view.SeatStep.{SeatStep}
+use Rattle.gt_words.specs.declared.view.View.{View}
+use Rattle.gt_calls.specs.declared.action.Action.{Action}
+use Rattle.gt_calls.specs.declared.action.Action.TheVariants.{Step as Makes, Done}
+use Rattle.gt_calls.specs.declared.action.Place.{Place}
+use Rattle.gt_calls.specs.declared.action.Seen.{Seen}
+use Rattle.gt_calls.specs.declared.action.Seen.TheVariants.{Nothing, Word, Taken, Missed}
+use Rattle.gt_calls.specs.declared.action.Step.{Step}
+use Rattle.gt_calls.specs.declared.action.Step.TheVariants.{LookHeader, LookControl, LookBody, Pin, Unpin, StoreBody, StoreHeader, Exchange, Read as ReadBytes, Write as WriteBytes, Copy as CopyBytes}
+use Rattle.gt_calls.specs.declared.action.Verdict.{Verdict}
+use Rattle.gt_calls.specs.declared.action.Verdict.TheVariants.{Granted, Given, Mapped, Refused}
+use Rattle.gt_calls.specs.declared.call.Call.{Call}
+use Rattle.gt_calls.specs.declared.call.Phase.{Phase}
+use Rattle.gt_calls.specs.declared.call.Phase.TheVariants.{Storing, StoringSecond, Exchanging, Looking, Changing, Walking, Accessing, Asking, Last, Ending}
+use Rattle.gt_calls.specs.declared.copying.Aim.{Aim}
+use Rattle.gt_calls.specs.declared.copying.Aim.TheVariants.{Mapping, Source, Dest}
+use Rattle.gt_calls.specs.declared.held.Held.{Held}
+use Rattle.gt_calls.specs.declared.held.Pins.{Pins as HeldPins}
+use Rattle.gt_calls.specs.declared.held.Route.{Route}
+use Rattle.gt_calls.specs.declared.held.Route.TheVariants.{Own, Direct, Through}
+use Rattle.gt_calls.specs.declared.leg.Leg.{Leg}
+use Rattle.gt_calls.specs.declared.leg.LegNext.TheVariants.{Going, Refused as LegRefused, Pinned}
+use Rattle.gt_calls.specs.declared.leg.LegPhase.{LegPhase}
+use Rattle.gt_calls.specs.declared.leg.LegPhase.TheVariants.{Header, Look, Body, Second, Pinning, Relook}
+use Rattle.gt_calls.specs.declared.request.Asked.{Asked}
+use Rattle.gt_calls.specs.declared.request.Asked.TheVariants as asks
+use Rattle.gt_calls.specs.declared.request.CopyArgs.{CopyArgs}
+use Rattle.gt_calls.specs.declared.request.End.{End}
+use Rattle.gt_calls.specs.declared.request.Holder.TheVariants.{Mapping as ByHandle, Leg as ByLeg}
+use Rattle.gt_handles.specs.declared.handles.Handle.{Handle}
+use Rattle.gt_calls.specs.Holding.{held_by, last_first, pins_so_far, without_last}
+use Rattle.gt_calls.specs.Machine.{action_at, after_dest_pin, after_leg, after_look, after_miss, after_pin_of, after_source_pin, after_words, at_dest, leg_after, leg_step, next_to_give, phase_after, where_via}
+use Rattle.gt_calls.specs.Path.{Continuation, dest_pair, end_leg, entry_refusal, held_of, path, place_of, rule_of_try, second_leg, source_pair}
+use Rattle.gt_calls.specs.Resting.{HasRead, HasSeenTable, IsFor, IsForwarded, IsMapped, IsOnFrom, IsOfRun as IsNamed, Lets, Rests, RestsOnTry}
+use Rattle.gt_calls.specs.Rules.{CallerKnowledge, first_look, is_dest_granted, via_judged}
+use Rattle.gt_calls.specs.Standing.{held_in}
+use Rattle.gt_live.specs.Driving.{CanMake, IsSame, Knows}
+use Rattle.gt_live.specs.Ending.{IsWordless}
+use Rattle.gt_live.specs.Mappings.{HasPin, record_of}
+use Rattle.gt_live.specs.Underway.{AreOfRun, HasTaken, StandsInCopy, StandsWell}
+use Rattle.gt_live.specs.Walks.{CarriesFound, IsWalk, Made, after, shown}
+use Rattle.gt_live.proofs.Accessing.{wordless-found}
+use Rattle.gt_live.proofs.Advancing.{carried-facts}
+use Rattle.gt_live.proofs.Can.{in-own, named-run, own-of-run}
+use Rattle.gt_live.proofs.Making.{IsLook, look-same, made-gains}
+use Rattle.gt_live.proofs.Once.{via-refused}
+use Rattle.gt_live.proofs.Rules.{none-stands, room-for}
+use Rattle.gt_live.proofs.Taking.{has-pin, holds-taken, of-run, taken-look, taken-pin, taken-unpin}
+use Rattle.gt_live.proofs.Walking.{in-seen-table, made-last, read-page}
+
+-- what a seat saw of an entry whose words were read, the second body word of a sub-page alone
+abbrev pub words_seen : ℕ → ℕ → ℕ → Looks
+words_seen word body second = record { word = word; first = Some body; second = cond (is_kind (control_of word).kind KindSub) (Some second) None }
+
+read-words : (k : Layout) (way : Continuation) (v : View) (steps : List SeatStep) (dom : DomId) (gref : GrantRef) (word body second : ℕ) → IsWalk k way v steps → HasRead way dom gref word body second (shown steps)
+    → seen (steps_on (position_in k.ids dom) gref.0 (after steps v)) ≡ Some (words_seen word body second)
+read-words k way v steps dom gref word body second walk r = by (is_kind (control_of word).kind KindSub) refl
+  where
+    by : (b : Bool) → is_kind (control_of word).kind KindSub ≡ b → seen (steps_on (position_in k.ids dom) gref.0 (after steps v)) ≡ Some (record { word = word; first = Some body; second = cond b (Some second) None })
+    by false e = read-page k way v steps dom gref word body second walk r e
+    by true e =
+        let three_shown : shown steps ≡ (r.before ++ Word word ∷ Word body ∷ []) ++ Word second ∷ [] =
+        r.shown_is ∙ (ap (λ (b : Bool). r.before ++ Word word ∷ Word body ∷ cond b (Word second ∷ []) []) e ∙ sym (append_assoc r.before (Word word ∷ Word body ∷ []) (Word second ∷ []))) in
+        let three = made-last k way v steps (r.before ++ Word word ∷ Word body ∷ []) (Word second) (LookBody dom gref SecondHalf) walk three_shown (r.second_read e) in
+        let two_shown : shown three.rest ≡ (r.before ++ Word word ∷ []) ++ Word body ∷ [] = three.shown_is ∙ sym (append_assoc r.before (Word word ∷ []) (Word body ∷ [])) in
+        let two = made-last k way v three.rest (r.before ++ Word word ∷ []) (Word body) (LookBody dom gref FirstHalf) three.walked two_shown r.first_read in
+        let one = made-last k way v two.rest r.before (Word word) (LookControl dom gref) two.walked two.shown_is r.looked in
+        ap seen three.made.steps.adds.here
+        ∙ ap (λ (o : Option Looks). with_body SecondHalf second o) (ap seen two.made.steps.adds.here ∙ ap (λ (o : Option Looks). with_body FirstHalf body o) (ap seen one.made.0.steps.adds.here))
+
+-- the second body word is of sub-pages alone
+second-of-sub : (x : Kind) (w : Control) (a b : ℕ) → entry_with x w a (value_or_zero (cond (is_kind x KindSub) (Some b) None)) ≡ entry_with x w a b
+second-of-sub KindInvalid w a b = refl
+second-of-sub KindPage w a b = refl
+second-of-sub KindSub w a b = refl
+second-of-sub KindVia w a b = refl
+
+-- what a first leg lets, permits or forwards
+lets-first : (l : Leg) (e : Entry) (me : DomId) → l.grantee ≡ me → Lets l e → PermitsPin e me l.dir ⊎ ForwardsPin e me l.dir
+lets-first l Invalid me is lets = absurd lets
+lets-first l (Page dom ro frame) me is lets = inl (l.purpose, l.off, l.len, ap (λ (d : DomId). permits (Page dom ro frame) d l.dir l.purpose l.off l.len) (sym is) ∙ lets.0)
+lets-first l (Sub dom ro frame off len) me is lets = inl (l.purpose, l.off, l.len, ap (λ (d : DomId). permits (Sub dom ro frame off len) d l.dir l.purpose l.off l.len) (sym is) ∙ lets.0)
+lets-first l (Via dom ro dom2 gref) me is lets = inr (ap (λ (d : DomId). forwards (Via dom ro dom2 gref) d l.dir) (sym is) ∙ lets.0)
+
+-- what a second leg lets, permits
+lets-second : (l : Leg) (e : Entry) → l.beyond_via ≡ true → Lets l e → permits e l.grantee l.dir l.purpose l.off l.len ≡ true
+lets-second l Invalid on lets = absurd lets
+lets-second l (Page dom ro frame) on lets = lets.0
+lets-second l (Sub dom ro frame off len) on lets = lets.0
+lets-second l (Via dom ro dom2 gref) on lets = let no_via = lets.2 in cc
+
+-- a second leg goes on from its Via
+pub record GoesOnFrom (e : Entry) (first l : Leg) : Type 0 where
+  pub leads : LeadsTo e l.dom l.gref.0
+  pub judge : l.grantee ≡ first.dom
+  pub beyond : l.beyond_via ≡ true
+  pub dir : l.dir ≡ first.dir
+
+on-from : (c : CallerKnowledge) (first l : Leg) (e : Entry) → IsOnFrom c first e l → GoesOnFrom e first l
+on-from c first l Invalid is = absurd is
+on-from c first l (Page dom ro frame) is = absurd is
+on-from c first l (Sub dom ro frame off len) is = absurd is
+on-from c first l (Via dom ro dom2 gref) is = record {
+  leads = (ap (λ (x : Leg). x.dom.0) (sym is), ap (λ (x : Leg). x.gref.0) (sym is));
+  judge = ap (λ (x : Leg). x.grantee) is;
+  beyond = ap (λ (x : Leg). x.beyond_via) is;
+  dir = ap (λ (x : Leg). x.dir) is;
+}
+
+-- the request is a copy
+abbrev pub IsCopy : Asked → Type 0
+IsCopy (asks.Copy copy) = Unit {0}
+IsCopy request = ⊥
+
+-- the aim is an end of a copy
+abbrev pub IsEnd : Aim → Type 0
+IsEnd Mapping = ⊥
+IsEnd (Source copy via) = Unit {0}
+IsEnd (Dest copy source via) = Unit {0}
+
+an-end : (k : Layout) (v : View) (steps : List SeatStep) (aim : Aim) (l : Leg) (at : LegPhase) → StandsInCopy k v steps (Walking aim l at) → IsEnd aim
+an-end k v steps Mapping l at is = absurd is
+an-end k v steps (Source copy via) l at is = tt
+an-end k v steps (Dest copy source via) l at is = tt
+
+abbrev tail_of : List Held → List Held
+tail_of [] = []
+tail_of (p ∷ ps) = ps
+
+-- the pins but the last are those after the first of the list
+fewer : (source dest : Route) → last_first (without_last (record { source = source; dest = dest })) ≡ tail_of (last_first (record { source = source; dest = dest }))
+fewer Own Own = refl
+fewer (Direct p) Own = refl
+fewer (Through via p) Own = refl
+fewer source (Direct q) = refl
+fewer source (Through w q) = refl
+
+pub one-fewer : (pins : HeldPins) (p : Held) (ps : List Held) → last_first pins ≡ p ∷ ps → last_first (without_last pins) ≡ ps
+one-fewer pins p ps e = fewer pins.source pins.dest ∙ ap tail_of e
+
+-- a word found is found still after one step more
+still-found : (k : Layout) (v : View) (x : SeatStep) (steps : List SeatStep) (f : Facts) → CarriesFound k v steps f → CarriesFound k v (x ∷ steps) f
+still-found k v x steps (facts.Entry dom gref word) is = record { step = is.step; taken = inr is.taken; found = is.found; not_earlier = is.not_earlier }
+still-found k v x steps (facts.Header dom word) is = inr is
+still-found k v x steps facts.None is = tt
+still-found k v x steps (facts.Policy source target perm) is = tt
+still-found k v x steps (facts.Field field) is = tt
+
+module _ (c : CallerKnowledge) (k : Layout) (caller : DomId) (v : View) (knows : Knows c k caller v) where
+  -- the entry that a leg pins permits or forwards the caller, or permits the owner of a Via that it has pinned
+  by-first : (p : Held) (l : Leg) (w : View) → id_at k.ids w.position ≡ caller → l.grantee ≡ caller → Lets l p.entry → MayPin k (position_in k.ids p.dom) p.gref.0 w l.dir (record_of p)
+  by-first p l w me judge lets = by (lets-first l p.entry (id_at k.ids w.position) (judge ∙ sym me) lets)
+    where
+      by : PermitsPin p.entry (id_at k.ids w.position) l.dir ⊎ ForwardsPin p.entry (id_at k.ids w.position) l.dir → MayPin k (position_in k.ids p.dom) p.gref.0 w l.dir (record_of p)
+      by (inl x) = inl x
+      by (inr x) = inr (inl x)
+
+  by-via : (p via : Held) (l first : Leg) (end : End) (dir : Dir) (w : View) → id_at k.ids w.position ≡ caller → p.dom ≡ l.dom → p.gref ≡ l.gref → HasDomain k p.dom → HasPin k w via → first.dom ≡ resolved caller end.domid → first.dir ≡ dir
+      → IsForwarded caller end dir via → IsOnFrom c first via.entry l → Lets l p.entry → MayPin k (position_in k.ids p.dom) p.gref.0 w l.dir (record_of p)
+  by-via p via l first end dir w me dom gref run pin first_dom first_dir forwarded is lets =
+      let on = on-from c first l via.entry is in
+      let dirs : l.dir ≡ dir = on.dir ∙ first_dir in
+      let owner : id_at k.ids (position_in k.ids via.dom) ≡ l.grantee = domain_at k via.dom pin.run ∙ (forwarded.named ∙ sym (on.judge ∙ first_dom)) in
+      let target : l.dom ≡ id_at k.ids (position_in k.ids p.dom) = sym dom ∙ sym (domain_at k p.dom run) in
+      inr (inr (record {
+        owner = position_in k.ids via.dom;
+        reference = via.gref.0;
+        via = (via.dir, record_of via);
+        held = pin.held;
+        same_kind = forwarded.taken_for ∙ sym dirs;
+        forwarded = ap (λ (d : DomId). forwards via.entry d l.dir) me ∙ (ap (λ (d : Dir). forwards via.entry caller d) dirs ∙ forwarded.forwarded);
+        leads = subst (λ (d : DomId). LeadsTo via.entry d p.gref.0) target (subst (λ (q : GrantRef). LeadsTo via.entry l.dom q.0) (sym gref) on.leads);
+        permits = (l.purpose, l.off, l.len, ap (λ (d : DomId). permits p.entry d l.dir l.purpose l.off l.len) owner ∙ lets-second l p.entry on.beyond lets);
+      }))
+
+  may-pin : (request : Asked) → IsCopy request → (aim : Aim) (l : Leg) (p : Held) (w : View) → IsFor c caller request aim l → id_at k.ids w.position ≡ caller → p.dom ≡ l.dom → p.gref ≡ l.gref → HasDomain k p.dom
+      → HasTaken k (last_first (pins_so_far aim)) v w → AreOfRun k (last_first (pins_so_far aim)) → Lets l p.entry → MayPin k (position_in k.ids p.dom) p.gref.0 w l.dir (record_of p)
+  may-pin request copies Mapping l p w is me dom gref run x all lets = absurd (subst (λ (y : Asked). IsCopy y) is.of_map copies)
+  may-pin request copies (Source copy None) l p w is me dom gref run x all lets = by-first p l w me (ap (λ (y : Leg). y.grantee) is.1.1) lets
+  may-pin request copies (Source copy (Some via)) l p w is me dom gref run x all lets =
+      by-via p via l (end_leg c caller copy.source Read copy.len) copy.source Read w me dom gref run (has-pin k (via ∷ []) v w via x all (inl refl)) refl refl is.1.1 is.1.2 lets
+  may-pin request copies (Dest copy source None) l p w is me dom gref run x all lets = by-first p l w me (ap (λ (y : Leg). y.grantee) is.2.1) lets
+  may-pin request copies (Dest copy source (Some via)) l p w is me dom gref run x all lets =
+      by-via p via l (end_leg c caller copy.dest Write copy.len) copy.dest Write w me dom gref run (has-pin k (via ∷ held_by source) v w via x all (inl refl)) refl refl is.2.1 is.2.2 lets
+
+  -- the facts of a pin that a copy tries
+  pub record Tries (p : Held) (w : View) : Type 0 where
+    pub run : HasDomain k p.dom
+    pub inside : p.gref.0 < 2048
+    pub can : CanPin k (position_in k.ids p.dom) p.gref.0 p.dir p.word w
+    pub spelled : record_seen (last_seen (position_in k.ids p.dom) p.gref.0 w) ≡ record_of p
+
+  pub tries-pin : (request : Asked) → IsCopy request → (held : HeldPins) (steps : List SeatStep) (p : Held) → IsWalk k (path c caller request) v steps → HasTaken k (last_first held) v (after steps v) → AreOfRun k (last_first held)
+      → RestsOnTry c caller request held (path c caller request) (shown steps) p → Tries p (after steps v)
+  tries-pin request copies held steps p walk x all r =
+      let w = after steps v in let l = r.leg in let at = position_in k.ids p.dom in let way = path c caller request in
+      let saw = read-words k way v steps p.dom p.gref p.word r.body r.second walk r.read in
+      let s = words_seen p.word r.body r.second in
+      let last : last_seen at p.gref.0 w ≡ s = ap seen_or_none saw in
+      let entry : p.entry ≡ entry_of (control_of p.word) r.body r.second = ap (λ (y : Held). y.entry) r.pin_is in
+      let spelled : record_seen s ≡ record_of p = ap (λ (e : Entry). record { generation = generation_of p.word; entry = e }) (second-of-sub (control_of p.word).kind (control_of p.word) r.body r.second ∙ sym entry) in
+      let here : record_seen (last_seen at p.gref.0 w) ≡ record_of p = ap record_seen last ∙ spelled in
+      let dirs : p.dir ≡ l.dir = ap (λ (y : Held). y.dir) r.pin_is in
+      let run = named-run c k caller v knows p.dom r.of_run in
+      let may = may-pin request copies r.aim l p w r.aimed knows.named (ap (λ (y : Held). y.dom) r.pin_is) (ap (λ (y : Held). y.gref) r.pin_is) run
+      (subst (λ (h : HeldPins). HasTaken k (last_first h) v w) r.held x) (subst (λ (h : HeldPins). AreOfRun k (last_first h)) r.held all) r.lets in
+      let valid = none-stands (is_kind (control_of p.word).kind KindInvalid) N10 _ r.first in
+      let second_too : kind_of p.word ≡ KindSub → IsSome s.second = λ e. subst (λ (b : Bool). IsSome (cond b (Some r.second) None)) (sym (ap (λ (y : Kind). is_kind y KindSub) e)) refl in
+      record {
+        run = run;
+        inside = in-seen-table k way v steps p.dom p.gref walk r.in_table;
+        can = record {
+          looked = (saw ∙ ap (λ (y : Looks). Some y) (sym last), ap (λ (y : Looks). y.word) last, subst (λ (y : Looks). HasBody y) (sym last) (refl, second_too));
+          valid = λ gone. let yes : is_kind (control_of p.word).kind KindInvalid ≡ true = ap (λ (y : Kind). is_kind y KindInvalid) gone in let none_so = valid.0 in absurd (cc);
+          room = subst (λ (d : Dir). pins_in d p.word < 4095) (sym dirs) (room-for l p.word p.entry r.last);
+          permitted = subst (λ (y : EntryRecord). MayPin k at p.gref.0 w p.dir y) (sym here) (subst (λ (d : Dir). MayPin k at p.gref.0 w d (record_of p)) (sym dirs) may);
+        };
+        spelled = here;
+      }
+
+  -- the step that comes next can be made, where it is no access
+  pub can-walk : (request : Asked) → IsCopy request → (held : HeldPins) (steps : List SeatStep) (s : Step) → IsWalk k (path c caller request) v steps → HasTaken k (last_first held) v (after steps v) → AreOfRun k (last_first held)
+      → Rests c caller request held (shown steps) (Makes s) → ((from to : Place) (len : ℕ) → s ≡ CopyBytes from to len → ⊥) → CanMake k (after steps v) s
+  can-walk request copies held steps (LookHeader d) walk x all r other = named-run c k caller v knows d r.1
+  can-walk request copies held steps (LookControl d q) walk x all r other = by r.1
+    where
+      by : (IsNamed c d × HasSeenTable (path c caller request) d q (shown steps)) ⊎ ((d ≡ caller) × (q.0 < size_of c.header)) → HasDomain k d × (q.0 < 2048)
+      by (inl y) = (named-run c k caller v knows d y.0, in-seen-table k (path c caller request) v steps d q walk y.1)
+      by (inr y) = (own-of-run k v caller d knows.named knows.inside y.0, in-own c k caller v knows q.0 y.1)
+  can-walk request copies held steps (LookBody d q half) walk x all r other = (named-run c k caller v knows d r.1.0, in-seen-table k (path c caller request) v steps d q walk r.1.1)
+  can-walk request copies held steps (Pin p) walk x all r other = let t = tries-pin request copies held steps p walk x all r.1 in (t.run, t.inside, t.can)
+  can-walk request copies held steps (Unpin p (ByHandle handle)) walk x all r other = absurd (subst (λ (y : Asked). IsCopy y) r.1.0 copies)
+  can-walk request copies held steps (Unpin p (ByLeg place)) walk x all r other =
+      let w = after steps v in let x1 : HasTaken k (p ∷ r.1.others) v w = subst (λ (ps : List Held). HasTaken k ps v w) r.1.held x in let a1 : AreOfRun k (p ∷ r.1.others) = subst (λ (ps : List Held). AreOfRun k ps) r.1.held all in
+      (a1.0.0, a1.0.1, holds-taken k (p ∷ r.1.others) v w p x1 (inl refl))
+  can-walk request copies held steps (StoreBody q FirstHalf n) walk x all r other = absurd (subst (λ (y : Asked). IsCopy y) r.1.1 copies)
+  can-walk request copies held steps (StoreBody q SecondHalf n) walk x all r other = absurd (subst (λ (y : Asked). IsCopy y) r.1.1 copies)
+  can-walk request copies held steps (StoreHeader version frames) walk x all r other = by r.1
+    where
+      by : ((request ≡ asks.SetVersion version) × (frames ≡ c.header.frames)) ⊎ ((request ≡ asks.SetupTable frames) × (version ≡ c.header.version)) → CanMake k (after steps v) (StoreHeader version frames)
+      by (inl y) = absurd (subst (λ (z : Asked). IsCopy z) y.0 copies)
+      by (inr y) = absurd (subst (λ (z : Asked). IsCopy z) y.0 copies)
+  can-walk request copies held steps (Exchange q looked (Publish e)) walk x all r other = absurd (subst (λ (y : Asked). IsCopy y) r.1.0 copies)
+  can-walk request copies held steps (Exchange q looked ToInvalid) walk x all r other = absurd (subst (λ (y : Asked). IsCopy y) r.1.0 copies)
+  can-walk request copies held steps (Exchange q looked ToReadOnly) walk x all r other = absurd (subst (λ (y : Asked). IsCopy y) r.1.0 copies)
+  can-walk request copies held steps (Exchange q looked ToWritable) walk x all r other = absurd (subst (λ (y : Asked). IsCopy y) r.1.0 copies)
+  can-walk request copies held steps (ReadBytes d frame off len) walk x all r other = by r.1
+    where
+      by : ((handle : Handle) × (request ≡ asks.Load handle off len) × IsMapped c handle d frame) ⊎ ((request ≡ asks.Peek frame off len) × (d ≡ caller)) → ⊥
+      by (inl y) = absurd (subst (λ (z : Asked). IsCopy z) y.1 copies)
+      by (inr y) = absurd (subst (λ (z : Asked). IsCopy z) y.0 copies)
+  can-walk request copies held steps (WriteBytes d frame off len) walk x all r other = by r.1
+    where
+      by : ((handle : Handle) × (request ≡ asks.Store handle off len) × IsMapped c handle d frame) ⊎ ((request ≡ asks.Poke frame off len) × (d ≡ caller)) → ⊥
+      by (inl y) = absurd (subst (λ (z : Asked). IsCopy z) y.1 copies)
+      by (inr y) = absurd (subst (λ (z : Asked). IsCopy z) y.0 copies)
+  can-walk request copies held steps (CopyBytes from to len) walk x all r other = absurd (other from to len refl)
+
+  -- where a copy stands after a step
+
+  module _ (w : View) (steps : List SeatStep) where
+    walking-stands : (aim : Aim) (l : Leg) (at : LegPhase) → IsEnd aim → HasTaken k (last_first (pins_so_far aim)) v w → AreOfRun k (last_first (pins_so_far aim)) → StandsWell k v w steps (Walking aim l at)
+    walking-stands Mapping l at is x all = absurd is
+    walking-stands (Source copy via) l at is x all = record { stays = tt; taken = x; of_run = all }
+    walking-stands (Dest copy source via) l at is x all = record { stays = tt; taken = x; of_run = all }
+
+    pub dest-stands : (copy : CopyArgs) (source : Route) → HasTaken k (held_by source) v w → AreOfRun k (held_by source) → StandsWell k v w steps (at_dest c caller copy source)
+    dest-stands copy source x all = by (is_dest_granted copy)
+      where
+        by : (b : Bool) → StandsWell k v w steps (cond b (Walking (Dest copy source None) (end_leg c caller copy.dest Write copy.len) Header) (Accessing copy source Own))
+        by true = record { stays = tt; taken = x; of_run = all }
+        by false = record { stays = tt; taken = x; of_run = all }
+
+    via-stands : (aim : Aim) (l : Leg) (pair : DomId × DomId) (dom : DomId) (second : Leg) → IsEnd aim → HasTaken k (last_first (pins_so_far aim)) v w → AreOfRun k (last_first (pins_so_far aim))
+        → StandsWell k v w steps (where_via (via_judged c pair dom) aim second)
+    via-stands aim l pair dom second is x all = by (via_judged c pair dom) refl
+      where
+        by : (o : Option Verdict) → via_judged c pair dom ≡ o → StandsWell k v w steps (where_via o aim second)
+        by None e = walking-stands aim second Header is x all
+        by (Some verdict) e =
+            let no_word = via-refused c caller pair dom verdict e in
+            subst (λ (y : Verdict). StandsWell k v w steps (Ending (pins_so_far aim) y)) (sym no_word.1)
+            (record { stays = wordless-found k v steps no_word.0.facts no_word.2; taken = x; of_run = all })
+
+    pin-stands : (aim : Aim) (l : Leg) (p : Held) → IsEnd aim → HasTaken k (p ∷ last_first (pins_so_far aim)) v w → AreOfRun k (p ∷ last_first (pins_so_far aim)) → StandsWell k v w steps (after_pin_of c caller aim l p)
+    pin-stands Mapping l p is x all = absurd is
+    pin-stands (Source copy None) l p is x all = by p.entry
+      where
+        by : (e : Entry) → StandsWell k v w steps (after_source_pin c caller copy l p e)
+        by (Via dom ro dom2 gref) = via-stands (Source copy (Some p)) l (source_pair caller copy dom2) dom2 (second_leg c l dom2 gref) tt x all
+        by Invalid = dest-stands copy (Direct p) x all
+        by (Page dom ro frame) = dest-stands copy (Direct p) x all
+        by (Sub dom ro frame off len) = dest-stands copy (Direct p) x all
+    pin-stands (Source copy (Some via)) l p is x all = dest-stands copy (Through via p) x all
+    pin-stands (Dest copy source None) l p is x all = by p.entry
+      where
+        by : (e : Entry) → StandsWell k v w steps (after_dest_pin c caller copy source l p e)
+        by (Via dom ro dom2 gref) = via-stands (Dest copy source (Some p)) l (dest_pair caller source dom2) dom2 (second_leg c l dom2 gref) tt x all
+        by Invalid = record { stays = tt; taken = x; of_run = all }
+        by (Page dom ro frame) = record { stays = tt; taken = x; of_run = all }
+        by (Sub dom ro frame off len) = record { stays = tt; taken = x; of_run = all }
+    pin-stands (Dest copy source (Some via)) l p is x all = record { stays = tt; taken = x; of_run = all }
+
+  module _ (u w : View) (steps : List SeatStep) (low : SeesNoEarlier v u) (still : u.position ≡ v.position) where
+    -- a leg that goes on, or is refused by the word that its step found
+    module _ (aim : Aim) (l : Leg) (s : Step) (x : Seen) (m : Made k s x u w) (is : IsEnd aim) (taken : HasTaken k (last_first (pins_so_far aim)) v w) (all : AreOfRun k (last_first (pins_so_far aim))) where
+      abbrev pub now : List SeatStep
+      now = (made-gains k s x u w m).step ∷ steps
+
+      goes : (at : LegPhase) → StandsWell k v w now (after_leg c caller aim l (Going at))
+      goes at = walking-stands w now aim l at is taken all
+
+      refused : (denial : Denial) → CarriesFound k v now denial.facts → StandsWell k v w now (after_leg c caller aim l (LegRefused denial))
+      refused denial found = record { stays = found; taken = taken; of_run = all }
+
+      missed : (more n : ℕ) → CarriesFound k v now (facts.Entry l.dom l.gref n) → StandsWell k v w now (after_leg c caller aim l (after_miss l more n))
+      missed more n found = by (nat_lt 0 more)
+        where
+          by : (b : Bool) → StandsWell k v w now (after_leg c caller aim l (cond b (Going (Look (more - 1))) (LegRefused (entry_refusal l.dom l.gref N18 n))))
+          by true = goes (Look (more - 1))
+          by false = refused (entry_refusal l.dom l.gref N18 n) found
+
+      words : (more word body second : ℕ) (o : Option Rule) → StandsWell k v w now (after_leg c caller aim l (after_words more word body second o))
+      words more word body second (Some rule) = goes (Relook more word rule)
+      words more word body second None = goes (Pinning more word body second)
+
+    looked : (aim : Aim) (s : Step) (x : Seen) → Made k s x u w → IsLook s x → HasTaken k (last_first (pins_so_far aim)) v u → HasTaken k (last_first (pins_so_far aim)) v w
+    looked aim s x m is taken = taken-look k (last_first (pins_so_far aim)) v u w taken (look-same k s x u w m is)
+
+    leg-stands : (aim : Aim) (l : Leg) (at : LegPhase) (x : Seen) (m : Made k (leg_step l at) x u w) → IsEnd aim → HasTaken k (last_first (pins_so_far aim)) v u → AreOfRun k (last_first (pins_so_far aim))
+        → ((p : Held) → leg_step l at ≡ Pin p → Tries p u) → StandsWell k v w ((made-gains k (leg_step l at) x u w m).step ∷ steps) (after_leg c caller aim l (leg_after l at x))
+    leg-stands aim l Header (Word n) m is x all tries = by (nat_lt l.gref.0 (size_of (header_of n)))
+      where
+        by : (b : Bool) → StandsWell k v w ((made-gains k (LookHeader l.dom) (Word n) u w m).step ∷ steps) (after_leg c caller aim l (cond b (Going (Look 3)) (LegRefused (denial_of N9 (facts.Header l.dom n)))))
+        by true = goes aim l (LookHeader l.dom) (Word n) m is (looked aim (LookHeader l.dom) (Word n) m tt x) all (Look 3)
+        by false = refused aim l (LookHeader l.dom) (Word n) m is (looked aim (LookHeader l.dom) (Word n) m tt x) all (denial_of N9 (facts.Header l.dom n)) (carried-facts k caller v u w (LookHeader l.dom) (Word n) steps m (facts.Header l.dom n) low (still ∙ knows.stands) (refl, refl))
+    leg-stands aim l (Look more) (Word n) m is x all tries = by (first_look l (control_of n))
+      where
+        by : (o : Option Rule) → StandsWell k v w ((made-gains k (LookControl l.dom l.gref) (Word n) u w m).step ∷ steps) (after_leg c caller aim l (after_look l more n o))
+        by None = goes aim l (LookControl l.dom l.gref) (Word n) m is (looked aim (LookControl l.dom l.gref) (Word n) m tt x) all (Body more n)
+        by (Some rule) = refused aim l (LookControl l.dom l.gref) (Word n) m is (looked aim (LookControl l.dom l.gref) (Word n) m tt x) all (entry_refusal l.dom l.gref rule n)
+            (carried-facts k caller v u w (LookControl l.dom l.gref) (Word n) steps m (facts.Entry l.dom l.gref n) low (still ∙ knows.stands) (refl, refl, refl))
+    leg-stands aim l (Body more word) (Word n) m is x all tries = by (is_kind (control_of word).kind KindSub)
+      where
+        by : (b : Bool) → StandsWell k v w ((made-gains k (LookBody l.dom l.gref FirstHalf) (Word n) u w m).step ∷ steps) (after_leg c caller aim l (cond b (Going (Second more word n)) (after_words more word n 0 (rule_of_try l word n 0))))
+        by true = goes aim l (LookBody l.dom l.gref FirstHalf) (Word n) m is (looked aim (LookBody l.dom l.gref FirstHalf) (Word n) m tt x) all (Second more word n)
+        by false = words aim l (LookBody l.dom l.gref FirstHalf) (Word n) m is (looked aim (LookBody l.dom l.gref FirstHalf) (Word n) m tt x) all more word n 0 (rule_of_try l word n 0)
+    leg-stands aim l (Second more word body) (Word n) m is x all tries =
+        words aim l (LookBody l.dom l.gref SecondHalf) (Word n) m is (looked aim (LookBody l.dom l.gref SecondHalf) (Word n) m tt x) all more word body n (rule_of_try l word body n)
+    leg-stands aim l (Relook more word rule) (Word n) m is x all tries = by (n == word) refl
+      where
+        found : CarriesFound k v ((made-gains k (LookControl l.dom l.gref) (Word n) u w m).step ∷ steps) (facts.Entry l.dom l.gref n)
+        found = carried-facts k caller v u w (LookControl l.dom l.gref) (Word n) steps m (facts.Entry l.dom l.gref n) low (still ∙ knows.stands) (refl, refl, refl)
+
+        by : (b : Bool) → (n == word) ≡ b → StandsWell k v w ((made-gains k (LookControl l.dom l.gref) (Word n) u w m).step ∷ steps) (after_leg c caller aim l (cond b (LegRefused (entry_refusal l.dom l.gref rule word)) (after_miss l more n)))
+        by true e = refused aim l (LookControl l.dom l.gref) (Word n) m is (looked aim (LookControl l.dom l.gref) (Word n) m tt x) all (entry_refusal l.dom l.gref rule word)
+            (subst (λ (y : ℕ). CarriesFound k v ((made-gains k (LookControl l.dom l.gref) (Word n) u w m).step ∷ steps) (facts.Entry l.dom l.gref y)) (eqb-true n word e) found)
+        by false e = missed aim l (LookControl l.dom l.gref) (Word n) m is (looked aim (LookControl l.dom l.gref) (Word n) m tt x) all more n found
+    leg-stands aim l (Pinning more word body second) Taken m is x all tries =
+        let p = held_of l word body second in let t = tries p refl in
+        pin-stands w ((made-gains k (Pin p) Taken u w m).step ∷ steps) aim l p is (taken-pin k p (last_first (pins_so_far aim)) v u w m t.spelled x) ((t.run, t.inside), all)
+    leg-stands aim l (Pinning more word body second) (Missed n) m is x all tries =
+        let p = held_of l word body second in
+        missed aim l (Pin p) (Missed n) m is (looked aim (Pin p) (Missed n) m tt x) all more n
+        (carried-facts k caller v u w (Pin p) (Missed n) steps m (facts.Entry l.dom l.gref n) low (still ∙ knows.stands) (refl, refl, refl))
+    leg-stands aim l _ _ m is x all tries = absurd m
+
+    -- at the end the last pin is given back
+    end-stands : (pins : HeldPins) (denial : Denial) (p : Held) (ps : List Held) (place : ℕ) (x : Seen) (m : Made k (Unpin p (ByLeg place)) x u w) → last_first pins ≡ p ∷ ps → StandsWell k v u steps (Ending pins (Refused denial))
+        → StandsWell k v w ((made-gains k (Unpin p (ByLeg place)) x u w m).step ∷ steps) (phase_after c caller (Ending pins (Refused denial)) x)
+    end-stands pins denial p ps place Nothing m e st =
+        let few = one-fewer pins p ps e in
+        record {
+          stays = still-found k v (made-gains k (Unpin p (ByLeg place)) Nothing u w m).step steps denial.facts st.stays;
+          taken = subst (λ (qs : List Held). HasTaken k qs v w) (sym few) (taken-unpin k p ps v u w m (subst (λ (qs : List Held). HasTaken k qs v u) e st.taken));
+          of_run = subst (λ (qs : List Held). AreOfRun k qs) (sym few) (subst (λ (qs : List Held). AreOfRun k qs) e st.of_run).1;
+        }
+    end-stands pins denial p ps place (Word n) m e st = absurd m
+    end-stands pins denial p ps place Taken m e st = absurd m
+    end-stands pins denial p ps place (Missed n) m e st = absurd m
+
+    no-access : (from to : Place) (len : ℕ) (x : Seen) → Made k (CopyBytes from to len) x u w → ⊥
+    no-access from to len Nothing m = absurd m
+    no-access from to len (Word n) m = absurd m
+    no-access from to len Taken m = absurd m
+    no-access from to len (Missed n) m = absurd m
+
+    -- a step made where the copy stands
+    abbrev pub OnSo : Phase → Seen → Step → Type 0
+    OnSo phase x s = (m : Made k s x u w) → ((p : Held) → s ≡ Pin p → Tries p u) → StandsWell k v w ((made-gains k s x u w m).step ∷ steps) (phase_after c caller phase x)
+
+    pub step-stands : (phase : Phase) (s : Step) (x : Seen) → Makes s ≡ action_at caller phase → StandsWell k v u steps phase → OnSo phase x s
+    step-stands (Walking aim l at) s x acts st = let same : s ≡ leg_step l at = cc in subst (λ (y : Step). OnSo (Walking aim l at) x y) (sym same) (λ m tries. leg-stands aim l at x m (an-end k v steps aim l at st.stays) st.taken st.of_run tries)
+    step-stands (Accessing copy source dest) s x acts st = by acts
+      where
+        by : Makes s ≡ action_at caller (Accessing copy source dest) → OnSo (Accessing copy source dest) x s
+        by e = let same : s ≡ CopyBytes (place_of caller copy.source source) (place_of caller copy.dest dest) copy.len = cc in
+            subst (λ (y : Step). OnSo (Accessing copy source dest) x y) (sym same) (λ m tries. absurd (no-access (place_of caller copy.source source) (place_of caller copy.dest dest) copy.len x m))
+    step-stands (Ending pins (Refused denial)) s x acts st = by (last_first pins) refl acts
+      where
+        by : (ps : List Held) → last_first pins ≡ ps → Makes s ≡ next_to_give ps (Refused denial) → OnSo (Ending pins (Refused denial)) x s
+        by [] e a = cc
+        by (p ∷ ps) e a = let same : s ≡ Unpin p (ByLeg (length ps)) = cc in
+            subst (λ (y : Step). OnSo (Ending pins (Refused denial)) x y) (sym same) (λ m tries. end-stands pins denial p ps (length ps) x m e st)
+    step-stands (Ending pins Granted) s x acts st = absurd st.stays
+    step-stands (Ending pins (Given value)) s x acts st = absurd st.stays
+    step-stands (Ending pins (Mapped p)) s x acts st = absurd st.stays
+    step-stands (Storing gref entry) s x acts st = absurd st.stays
+    step-stands (StoringSecond gref entry) s x acts st = absurd st.stays
+    step-stands (Exchanging gref looked change) s x acts st = absurd st.stays
+    step-stands (Looking gref change more) s x acts st = absurd st.stays
+    step-stands (Changing gref change more looked) s x acts st = absurd st.stays
+    step-stands (Asking dom question) s x acts st = absurd st.stays
+    step-stands (Last step verdict) s x acts st = absurd st.stays

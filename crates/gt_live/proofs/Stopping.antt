@@ -1,0 +1,313 @@
+-- A copy driven to its access, and from there to its end.
+use Rattle.std.proofs.Common.{◌≡◌, ℕ, ◌+◌, ◌<◌, Bool, true, false, cond, refl, sym, ap, ◌∙◌, subst, List, [], ◌∷◌, ◌++◌, length, Option, Some, None, inl, inr, arith, append_assoc}
+use Rattle.std.proofs.lemmas.List.{append-nil}
+use mathlib.Core.Path.{fun_ext}
+use Rattle.gt_types.specs.declared.DomId.{DomId}
+use Rattle.gt_types.specs.declared.denial.Denial.{Denial}
+use Rattle.gt_types.specs.declared.Dir.TheVariants.{Read}
+use Rattle.gt_words.specs.Rule.{Layout}
+use Rattle.gt_words.specs.declared.view.SeatStep.{SeatStep}
+use Rattle.gt_words.specs.declared.view.View.{View}
+use Rattle.gt_calls.specs.declared.action.Action.{Action}
+use Rattle.gt_calls.specs.declared.action.Action.TheVariants.{Step as Makes, Done}
+use Rattle.gt_calls.specs.declared.action.Place.{Place}
+use Rattle.gt_calls.specs.declared.action.Seen.{Seen}
+use Rattle.gt_calls.specs.declared.action.Seen.TheVariants.{Nothing, Word, Taken, Missed}
+use Rattle.gt_calls.specs.declared.action.Step.{Step}
+use Rattle.gt_calls.specs.declared.action.Step.TheVariants.{Pin, Unpin, Copy as CopyBytes}
+use Rattle.gt_calls.specs.declared.action.Verdict.{Verdict}
+use Rattle.gt_calls.specs.declared.action.Verdict.TheVariants.{Granted, Given, Mapped, Refused}
+use Rattle.gt_calls.specs.declared.call.Call.{Call}
+use Rattle.gt_calls.specs.declared.call.Phase.{Phase}
+use Rattle.gt_calls.specs.declared.call.Phase.TheVariants.{Storing, StoringSecond, Exchanging, Looking, Changing, Walking, Accessing, Asking, Last, Ending}
+use Rattle.gt_calls.specs.declared.copying.Aim.TheVariants.{Source}
+use Rattle.gt_calls.specs.declared.held.Held.{Held}
+use Rattle.gt_calls.specs.declared.held.Pins.{Pins}
+use Rattle.gt_calls.specs.declared.held.Route.{Route}
+use Rattle.gt_calls.specs.declared.held.Route.TheVariants.{Own}
+use Rattle.gt_calls.specs.declared.leg.Leg.{Leg}
+use Rattle.gt_calls.specs.declared.leg.LegPhase.{LegPhase}
+use Rattle.gt_calls.specs.declared.leg.LegPhase.TheVariants.{Header, Look, Body, Second, Pinning, Relook}
+use Rattle.gt_calls.specs.declared.request.Asked.{Asked}
+use Rattle.gt_calls.specs.declared.request.Asked.TheVariants as asks
+use Rattle.gt_calls.specs.declared.request.CopyArgs.{CopyArgs}
+use Rattle.gt_calls.specs.declared.request.Holder.TheVariants.{Leg as ByLeg}
+use Rattle.gt_calls.specs.Counting.{steps_to_come}
+use Rattle.gt_calls.specs.Following.{FitsNext, Goes}
+use Rattle.gt_calls.specs.Holding.{last_first, without_last}
+use Rattle.gt_calls.specs.Machine.{action_at, at_dest, at_source, first_phase, leg_step, next_to_give, phase_after, standing_after}
+use Rattle.gt_calls.specs.Path.{Continuation, end_leg, give_back, path, place_of}
+use Rattle.gt_calls.specs.Resting.{Rests}
+use Rattle.gt_calls.specs.Rules.{CallerKnowledge, is_source_granted}
+use Rattle.gt_calls.specs.Standing.{IsAt, IsFresh, held_by_call, held_in, pins_at, pins_by_call}
+use Rattle.gt_live.specs.Driving.{CanMake, Knows}
+use Rattle.gt_live.specs.Underway.{AreOfRun, AtAccess, EndsRefused, GivesBack, HasTaken, Returning, StandsWell, Underway}
+use Rattle.gt_live.specs.Walks.{Called, IsWalk, Made, MakesStep, after, shown, shown_by}
+use Rattle.gt_live.proofs.Advancing.{same-call}
+use Rattle.gt_live.proofs.Copying.{IsCopy, Tries, can-walk, dest-stands, one-fewer, step-stands, tries-pin}
+use Rattle.gt_live.proofs.Making.{made-fits, made-gains, same-self}
+use Rattle.gt_live.proofs.Taking.{all-back, holds-taken, none-taken, taken-unpin}
+
+-- the pins of a call, by where it stands
+held-there : (call : Call) (phase : Phase) → call.phase ≡ Some phase → pins_by_call call ≡ pins_at phase
+held-there call phase there = ap (λ (o : Option Phase). pins_by_call (record call { phase = o })) there
+
+is-copy : (request : Asked) (copy : CopyArgs) → request ≡ asks.Copy copy → IsCopy request
+is-copy request copy is = subst (λ (r : Asked). IsCopy r) (sym is) tt
+
+source-stands : (c : CallerKnowledge) (k : Layout) (caller : DomId) (v : View) (knows : Knows c k caller v) (copy : CopyArgs) → StandsWell k v v [] (at_source c caller copy)
+source-stands c k caller v knows copy = by (is_source_granted copy)
+  where
+    by : (b : Bool) → StandsWell k v v [] (cond b (Walking (Source copy None) (end_leg c caller copy.source Read copy.len) Header) (at_dest c caller copy Own))
+    by true = record { stays = tt; taken = none-taken k v v (same-self v); of_run = tt }
+    by false = dest-stands c k caller v knows v [] copy Own (none-taken k v v (same-self v)) tt
+
+-- a copy that was opened goes on from its first action
+pub starts : (c : CallerKnowledge) (k : Layout) (v : View) (call call' : Call) (action : Action) (copy : CopyArgs) → Knows c k call.caller v → IsFresh c call → call.request ≡ asks.Copy copy → call'.caller ≡ call.caller → call'.request ≡ call.request → Goes c call Nothing call' action
+    → Underway c k v v call' action
+starts c k v call call' action copy knows fresh is callers requests goes =
+    let on = goes.first fresh in let t = call.caller in let r = call.request in let phase = at_source c t copy in
+    let same = same-call call call' callers requests in
+    let there : call'.phase ≡ Some phase =
+    goes.moves ∙ (ap (λ (o : Option Phase). Some (standing_after c t r o Nothing)) fresh.unmoved ∙ ap (λ (x : Asked). Some (first_phase c t x)) is) in
+    let acts : action ≡ action_at t phase = goes.acts ∙ (ap (λ (o : Option Phase). action_at t (standing_after c t r o Nothing)) fresh.unmoved ∙ ap (λ (x : Asked). action_at t (first_phase c t x)) is) in
+    let here : Underway c k v v (record call { phase = call'.phase }) action =
+    record {
+      steps = [];
+      view = refl;
+      walked = tt;
+      at = subst (λ (z : Call). IsAt c z []) (sym same) on.0.at;
+      goes = on.0.follows;
+      rests = on.0.rests;
+      copy = copy;
+      of_copy = is;
+      phase = phase;
+      there = there;
+      acts = acts;
+      stands = source-stands c k t v knows copy;
+    } in
+    subst (λ (z : Call). Underway c k v v z action) same here
+
+-- its next step can be made, where it is no access
+pub makes-copy : (c : CallerKnowledge) (k : Layout) (v w : View) (call : Call) (s : Step) → Knows c k call.caller v → Underway c k v w call (Makes s) → ((from to : Place) (len : ℕ) → s ≡ CopyBytes from to len → ⊥) → CanMake k w s
+makes-copy c k v w call s knows u other =
+    let held = held-there call u.phase u.there in
+    subst (λ (z : View). CanMake k z s) (sym u.view)
+    (can-walk c k call.caller v knows call.request (is-copy call.request u.copy u.of_copy) (pins_by_call call) u.steps s u.walked
+    (subst (λ (h : Pins). HasTaken k (last_first h) v (after u.steps v)) (sym held) (subst (λ (z : View). HasTaken k (held_in u.phase) v z) u.view u.stands.taken))
+    (subst (λ (h : Pins). AreOfRun k (last_first h)) (sym held) u.stands.of_run) u.rests other)
+
+-- after a step that was made it goes on, and has fewer to come
+pub goes-on : (c : CallerKnowledge) (k : Layout) (v w w' : View) (call call' : Call) (action : Action) (s : Step) (x : Seen) → Knows c k call.caller v → Underway c k v w call (Makes s) → Made k s x w w' → call'.caller ≡ call.caller → call'.request ≡ call.request
+    → Goes c call x call' action → Underway c k v w' call' action × (steps_to_come call' < steps_to_come call)
+goes-on c k v w w' call call' action s x knows u m callers requests goes =
+    let t = call.caller in let r = call.request in let mid = after u.steps v in
+    let fits : FitsNext (path c t r (shown u.steps)) x = subst (λ (o : Option Action). FitsNext o x) (sym u.goes) (made-fits k s x w w' m) in
+    let on = goes.later (shown u.steps) u.at fits in
+    let m1 : Made k s x mid w' = subst (λ (z : View). Made k s x z w') u.view m in
+    let gain = made-gains k s x mid w' m1 in
+    let view : w' ≡ after (gain.step ∷ u.steps) v = gain.view in
+    let m2 : Made k s (shown_by gain.step) mid (after (gain.step ∷ u.steps) v) = subst (λ (z : View). Made k s (shown_by gain.step) mid z) view (subst (λ (y : Seen). Made k s y mid w') (sym gain.shows) m1) in
+    let made : MakesStep k (path c t r (shown u.steps)) (shown_by gain.step) mid (after (gain.step ∷ u.steps) v) =
+    subst (λ (o : Option Action). MakesStep k o (shown_by gain.step) mid (after (gain.step ∷ u.steps) v)) (sym u.goes) m2 in
+    let held = held-there call u.phase u.there in
+    let well : StandsWell k v mid u.steps u.phase = subst (λ (z : View). StandsWell k v z u.steps u.phase) u.view u.stands in
+    let tries : (p : Held) → s ≡ Pin p → Tries c k t v knows p mid =
+    λ p e. tries-pin c k t v knows r (is-copy r u.copy u.of_copy) (pins_by_call call) u.steps p u.walked (subst (λ (h : Pins). HasTaken k (last_first h) v mid) (sym held) well.taken)
+    (subst (λ (h : Pins). AreOfRun k (last_first h)) (sym held) well.of_run) (subst (λ (y : Step). Rests c t r (pins_by_call call) (shown u.steps) (Makes y)) e u.rests).1 in
+    let same = same-call call call' callers requests in
+    let here : Underway c k v w' (record call { phase = call'.phase }) action =
+    record {
+      steps = gain.step ∷ u.steps;
+      view = view;
+      walked = (made, u.walked);
+      at = subst (λ (z : Call). IsAt c z (shown u.steps ++ shown_by gain.step ∷ [])) (sym same) (subst (λ (y : Seen). IsAt c call' (shown u.steps ++ y ∷ [])) (sym gain.shows) on.0.at);
+      goes = subst (λ (y : Seen). path c t r (shown u.steps ++ y ∷ []) ≡ Some action) (sym gain.shows) on.0.follows;
+      rests = subst (λ (y : Seen). Rests c t r (pins_by_call call') (shown u.steps ++ y ∷ []) action) (sym gain.shows) on.0.rests;
+      copy = u.copy;
+      of_copy = u.of_copy;
+      phase = phase_after c t u.phase x;
+      there = goes.moves ∙ ap (λ (o : Option Phase). Some (standing_after c t r o x)) u.there;
+      acts = goes.acts ∙ ap (λ (o : Option Phase). action_at t (standing_after c t r o x)) u.there;
+      stands = step-stands c k t v knows mid w' u.steps well.taken.seen well.taken.position u.phase s x u.acts well m1 tries;
+    } in
+    (subst (λ (z : Call). Underway c k v w' z action) same here, on.2)
+
+-- the end of a copy that comes to no access
+pub ends-refused : (c : CallerKnowledge) (k : Layout) (v w : View) (call : Call) (verdict : Verdict) → Underway c k v w call (Done verdict) → EndsRefused c k call verdict v w
+ends-refused c k v w call verdict u = by u.phase u.acts u.stands
+  where
+    at-end : (pins : Pins) (denial : Denial) (ps : List Held) → last_first pins ≡ ps → Done verdict ≡ next_to_give ps (Refused denial) → StandsWell k v w u.steps (Ending pins (Refused denial)) → EndsRefused c k call verdict v w
+    at-end pins denial [] e a well =
+        let same : verdict ≡ Refused denial = cc in
+        record {
+          denial = denial;
+          refused = same;
+          called = subst (λ (y : Verdict). Called k (path c call.caller call.request) y v w) (sym same)
+              (record { steps = u.steps; view = u.view; walked = u.walked; answered = u.goes ∙ ap (λ (y : Verdict). Some (Done y)) same; carried = well.stays });
+          same = all-back k v w (subst (λ (qs : List Held). HasTaken k qs v w) e well.taken);
+        }
+    at-end pins denial (p ∷ ps) e a well = cc
+
+    by : (phase : Phase) → Done verdict ≡ action_at call.caller phase → StandsWell k v w u.steps phase → EndsRefused c k call verdict v w
+    by (Walking aim l at) a well = cc
+    by (Accessing copy source dest) a well = cc
+    by (Ending pins (Refused denial)) a well = at-end pins denial (last_first pins) refl a well
+    by (Ending pins Granted) a well = absurd well.stays
+    by (Ending pins (Given value)) a well = absurd well.stays
+    by (Ending pins (Mapped p)) a well = absurd well.stays
+    by (Storing gref entry) a well = absurd well.stays
+    by (StoringSecond gref entry) a well = absurd well.stays
+    by (Exchanging gref looked change) a well = absurd well.stays
+    by (Looking gref change more) a well = absurd well.stays
+    by (Changing gref change more looked) a well = absurd well.stays
+    by (Asking dom question) a well = absurd well.stays
+    by (Last step other) a well = absurd well.stays
+
+-- no leg makes an access
+no-leg : (l : Leg) (at : LegPhase) (from to : Place) (len : ℕ) → Makes (CopyBytes from to len) ≡ Makes (leg_step l at) → ⊥
+no-leg l Header from to len e = cc
+no-leg l (Look more) from to len e = cc
+no-leg l (Body more word) from to len e = cc
+no-leg l (Second more word body) from to len e = cc
+no-leg l (Pinning more word body second) from to len e = cc
+no-leg l (Relook more word rule) from to len e = cc
+
+no-end : (ps : List Held) (verdict : Verdict) (from to : Place) (len : ℕ) → Makes (CopyBytes from to len) ≡ next_to_give ps verdict → ⊥
+no-end [] verdict from to len e = cc
+no-end (p ∷ ps) verdict from to len e = cc
+
+-- a copy that comes to its access
+pub comes-there : (c : CallerKnowledge) (k : Layout) (v w : View) (call : Call) (from to : Place) (len : ℕ) → Underway c k v w call (Makes (CopyBytes from to len)) → AtAccess c k call from to len v w
+comes-there c k v w call from to len u = by u.phase u.there u.acts u.stands
+  where
+    here : (copy : CopyArgs) (source dest : Route) → call.phase ≡ Some (Accessing copy source dest) → StandsWell k v w u.steps (Accessing copy source dest) → AtAccess c k call from to len v w
+    here copy source dest there well =
+        let t = call.caller in let r = call.request in let way = path c t r in
+        let held : pins_by_call call ≡ record { source = source; dest = dest } = held-there call (Accessing copy source dest) there in
+        let at : IsAt c (record call { phase = Some (Accessing copy source dest) }) (shown u.steps) = subst (λ (o : Option Phase). IsAt c (record call { phase = o }) (shown u.steps)) there u.at in
+        let leads : (vs : List Seen) → way ((shown u.steps ++ Nothing ∷ []) ++ vs) ≡ give_back (last_first (record { source = source; dest = dest })) Granted vs =
+        λ vs. ap way (append_assoc (shown u.steps) (Nothing ∷ []) vs) ∙ at.leads (Nothing ∷ vs) in
+        record {
+          comes = record { steps = u.steps; view = u.view; walked = u.walked; next = u.goes; is_access = tt };
+          copy = copy;
+          there = there ∙ ap (λ (h : Pins). Some (Accessing copy h.source h.dest)) (sym held);
+          rests = u.rests.1;
+          taken = subst (λ (h : Pins). HasTaken k (last_first h) v w) (sym held) well.taken;
+          of_run = subst (λ (h : Pins). AreOfRun k (last_first h)) (sym held) well.of_run;
+          ends = fun_ext leads ∙ ap (λ (h : Pins). give_back (last_first h) Granted) (sym held);
+        }
+
+    by : (phase : Phase) → call.phase ≡ Some phase → Makes (CopyBytes from to len) ≡ action_at call.caller phase → StandsWell k v w u.steps phase → AtAccess c k call from to len v w
+    by (Walking aim l at) there a well = absurd (no-leg l at from to len a)
+    by (Accessing copy source dest) there a well = here copy source dest there well
+    by (Ending pins verdict) there a well = absurd (no-end (last_first pins) verdict from to len a)
+    by (Storing gref entry) there a well = absurd well.stays
+    by (StoringSecond gref entry) there a well = absurd well.stays
+    by (Exchanging gref looked change) there a well = absurd well.stays
+    by (Looking gref change more) there a well = absurd well.stays
+    by (Changing gref change more looked) there a well = absurd well.stays
+    by (Asking dom question) there a well = absurd well.stays
+    by (Last step other) there a well = absurd well.stays
+
+-- pins given back
+
+pub returns-first : (c : CallerKnowledge) (k : Layout) (v : View) (call call' : Call) (action : Action) (copy : CopyArgs) → call.phase ≡ Some (Accessing copy (pins_by_call call).source (pins_by_call call).dest) → AreOfRun k (held_by_call call) → Goes c call Nothing call' action
+    → Returning k (pins_by_call call) v v call' action
+returns-first c k v call call' action copy there all goes =
+    let t = call.caller in let r = call.request in
+    record {
+      steps = [];
+      view = refl;
+      walked = tt;
+      left = pins_by_call call;
+      there = goes.moves ∙ ap (λ (o : Option Phase). Some (standing_after c t r o Nothing)) there;
+      acts = goes.acts ∙ ap (λ (o : Option Phase). action_at t (standing_after c t r o Nothing)) there;
+      leads = λ vs. refl;
+      back = λ base x. x;
+      of_run = all;
+    }
+
+-- the next one to be given back
+pub record NextBack (k : Layout) (left : Pins) (s : Step) : Type 0 where
+  pub pin : Held
+  pub others : List Held
+  pub first : last_first left ≡ pin ∷ others
+  pub step : s ≡ Unpin pin (ByLeg (length others))
+
+pub next-back : (k : Layout) (left : Pins) (s : Step) → Makes s ≡ next_to_give (last_first left) Granted → NextBack k left s
+next-back k left s a = by (last_first left) refl a
+  where
+    by : (ps : List Held) → last_first left ≡ ps → Makes s ≡ next_to_give ps Granted → NextBack k left s
+    by [] e f = cc
+    by (p ∷ ps) e f = record { pin = p; others = ps; first = e; step = cc }
+
+pub can-return : (k : Layout) (routes : Pins) (base v w : View) (call : Call) (s : Step) → HasTaken k (last_first routes) base v → Returning k routes v w call (Makes s) → CanMake k w s
+can-return k routes base v w call s x g =
+    let n = next-back k g.left s g.acts in
+    let taken : HasTaken k (n.pin ∷ n.others) base w = subst (λ (ps : List Held). HasTaken k ps base w) n.first (g.back base x) in
+    let all : AreOfRun k (n.pin ∷ n.others) = subst (λ (ps : List Held). AreOfRun k ps) n.first g.of_run in
+    subst (λ (y : Step). CanMake k w y) (sym n.step) (all.0.0, all.0.1, holds-taken k (n.pin ∷ n.others) base w n.pin taken (inl refl))
+
+saw-nothing : (k : Layout) (p : Held) (place : ℕ) (x : Seen) (w w' : View) → Made k (Unpin p (ByLeg place)) x w w' → x ≡ Nothing
+saw-nothing k p place Nothing w w' m = refl
+saw-nothing k p place (Word n) w w' m = absurd m
+saw-nothing k p place Taken w w' m = absurd m
+saw-nothing k p place (Missed n) w w' m = absurd m
+
+left-to-come : (call : Call) (pins : Pins) → call.phase ≡ Some (Ending pins Granted) → steps_to_come call ≡ length (last_first pins)
+left-to-come call pins there = ap (λ (o : Option Phase). steps_to_come (record call { phase = o })) there
+
+pub returns-on : (c : CallerKnowledge) (k : Layout) (routes : Pins) (v w w' : View) (call call' : Call) (action : Action) (s : Step) (x : Seen) → Returning k routes v w call (Makes s) → Made k s x w w' → Goes c call x call' action
+    → Returning k routes v w' call' action × (steps_to_come call' < steps_to_come call)
+returns-on c k routes v w w' call call' action s x g m goes =
+    let n = next-back k g.left s g.acts in let p = n.pin in let place = length n.others in
+    let m0 : Made k (Unpin p (ByLeg place)) x w w' = subst (λ (y : Step). Made k y x w w') n.step m in
+    let none : x ≡ Nothing = saw-nothing k p place x w w' m0 in
+    let m1 : Made k (Unpin p (ByLeg place)) Nothing (after g.steps v) w' = subst (λ (z : View). Made k (Unpin p (ByLeg place)) Nothing z w') g.view (subst (λ (y : Seen). Made k (Unpin p (ByLeg place)) y w w') none m0) in
+    let gain = made-gains k (Unpin p (ByLeg place)) Nothing (after g.steps v) w' m1 in
+    let view : w' ≡ after (gain.step ∷ g.steps) v = gain.view in
+    let fewer = one-fewer g.left p n.others n.first in
+    let way : Continuation = give_back (last_first routes) Granted in
+    let next : way (shown g.steps) ≡ Some (Makes (Unpin p (ByLeg place))) =
+    ap way (sym (append-nil (shown g.steps))) ∙ (g.leads [] ∙ ap (λ (ps : List Held). give_back ps Granted []) n.first) in
+    let m2 : Made k (Unpin p (ByLeg place)) (shown_by gain.step) (after g.steps v) (after (gain.step ∷ g.steps) v) =
+    subst (λ (z : View). Made k (Unpin p (ByLeg place)) (shown_by gain.step) (after g.steps v) z) view (subst (λ (y : Seen). Made k (Unpin p (ByLeg place)) y (after g.steps v) w') (sym gain.shows) m1) in
+    let made : MakesStep k (way (shown g.steps)) (shown_by gain.step) (after g.steps v) (after (gain.step ∷ g.steps) v) =
+    subst (λ (o : Option Action). MakesStep k o (shown_by gain.step) (after g.steps v) (after (gain.step ∷ g.steps) v)) (sym next) m2 in
+    let there : call'.phase ≡ Some (Ending (without_last g.left) Granted) =
+    goes.moves ∙ (ap (λ (o : Option Phase). Some (standing_after c call.caller call.request o x)) g.there ∙ ap (λ (y : Seen). Some (phase_after c call.caller (Ending g.left Granted) y)) none) in
+    let acts : action ≡ next_to_give (last_first (without_last g.left)) Granted =
+    goes.acts ∙ (ap (λ (o : Option Phase). action_at call.caller (standing_after c call.caller call.request o x)) g.there ∙ ap (λ (y : Seen). action_at call.caller (phase_after c call.caller (Ending g.left Granted) y)) none) in
+    let before = left-to-come call g.left g.there ∙ ap {B = ℕ} (λ (ps : List Held). length ps) n.first in
+    let now = left-to-come call' (without_last g.left) there ∙ ap {B = ℕ} (λ (ps : List Held). length ps) fewer in
+    let m3 : Made k (Unpin p (ByLeg place)) Nothing w w' = subst (λ (y : Seen). Made k (Unpin p (ByLeg place)) y w w') none m0 in (
+      record {
+        steps = gain.step ∷ g.steps;
+        view = view;
+        walked = (made, g.walked);
+        left = without_last g.left;
+        there = there;
+        acts = acts;
+        leads = λ vs.
+            ap (λ (y : Seen). way ((shown g.steps ++ y ∷ []) ++ vs)) gain.shows
+            ∙ (ap way (append_assoc (shown g.steps) (Nothing ∷ []) vs) ∙ (g.leads (Nothing ∷ vs) ∙ (ap (λ (ps : List Held). give_back ps Granted (Nothing ∷ vs)) n.first ∙ ap (λ (ps : List Held). give_back ps Granted vs) (sym fewer))));
+        back = λ base y. subst (λ (ps : List Held). HasTaken k ps base w') (sym fewer) (taken-unpin k p n.others base w w' m3 (subst (λ (ps : List Held). HasTaken k ps base w) n.first (g.back base y)));
+        of_run = subst (λ (ps : List Held). AreOfRun k ps) (sym fewer) (subst (λ (ps : List Held). AreOfRun k ps) n.first g.of_run).1;
+      },
+      omega (arith, before, now),
+    )
+
+pub returned : (k : Layout) (routes : Pins) (v w : View) (call : Call) (action : Action) → Returning k routes v w call action → ((s : Step) → action ≡ Makes s → ⊥) → GivesBack k routes v w
+returned k routes v w call action g none = by (last_first g.left) refl g.acts
+  where
+    by : (ps : List Held) → last_first g.left ≡ ps → action ≡ next_to_give ps Granted → GivesBack k routes v w
+    by [] e a =
+        record {
+          steps = g.steps;
+          view = g.view;
+          walked = g.walked;
+          ended = ap (give_back (last_first routes) Granted) (sym (append-nil (shown g.steps))) ∙ (g.leads [] ∙ ap (λ (ps : List Held). give_back ps Granted []) e);
+          back = λ base x. subst (λ (ps : List Held). HasTaken k ps base w) e (g.back base x);
+        }
+    by (p ∷ ps) e a = absurd (none (Unpin p (ByLeg (length ps))) a)

@@ -1,0 +1,134 @@
+-- A copy under way: the pins that it holds, and where it stops. The code's own representation, which stands here since contracts cite it.
+use Rattle.std.specs.Prelude.{◌≡◌, ℕ, ◌+◌, ◌<◌, ◌==◌, ◌&&◌, Bool, cond, List, [], ◌∷◌, ◌++◌, Option, Some, None}
+use Rattle.gt_types.specs.declared.DomId.{DomId}
+use Rattle.gt_types.specs.declared.denial.Denial.{Denial}
+use Rattle.gt_types.specs.declared.limits.TheConstants.{TABLE_ENTRIES}
+use Rattle.gt_words.specs.Conditions.{HasDomain}
+use Rattle.gt_words.specs.Keeping.{SeesNoEarlier}
+use Rattle.gt_words.specs.Rule.{Layout, position_in}
+use Rattle.gt_words.specs.Views.{LivePin, last_of, pins, steps_on}
+use Rattle.gt_words.specs.declared.view.SeatStep.{SeatStep}
+use Rattle.gt_words.specs.declared.view.View.{View}
+use Rattle.gt_calls.specs.declared.action.Action.{Action}
+use Rattle.gt_calls.specs.declared.action.Action.TheVariants as actions
+use Rattle.gt_calls.specs.declared.action.Place.{Place}
+use Rattle.gt_calls.specs.declared.action.Seen.{Seen}
+use Rattle.gt_calls.specs.declared.action.Seen.TheVariants.{Nothing}
+use Rattle.gt_calls.specs.declared.action.Step.TheVariants.{Copy as CopyBytes}
+use Rattle.gt_calls.specs.declared.action.Verdict.{Verdict}
+use Rattle.gt_calls.specs.declared.action.Verdict.TheVariants.{Granted, Refused}
+use Rattle.gt_calls.specs.declared.call.Call.{Call}
+use Rattle.gt_calls.specs.declared.call.Phase.{Phase}
+use Rattle.gt_calls.specs.declared.call.Phase.TheVariants.{Accessing, Ending, Walking}
+use Rattle.gt_calls.specs.declared.copying.Aim.{Aim}
+use Rattle.gt_calls.specs.declared.copying.Aim.TheVariants.{Source, Dest}
+use Rattle.gt_calls.specs.declared.held.Held.{Held}
+use Rattle.gt_calls.specs.declared.held.Pins.{Pins}
+use Rattle.gt_calls.specs.declared.request.CopyArgs.{CopyArgs}
+use Rattle.gt_calls.specs.declared.request.Asked.TheVariants.{Copy}
+use Rattle.gt_calls.specs.Following.{GoesOn}
+use Rattle.gt_calls.specs.Holding.{last_first}
+use Rattle.gt_calls.specs.Machine.{action_at, next_to_give}
+use Rattle.gt_calls.specs.Path.{Continuation, give_back, path}
+use Rattle.gt_calls.specs.Resting.{Rests, RestsOnWays}
+use Rattle.gt_calls.specs.Rules.{CallerKnowledge}
+use Rattle.gt_calls.specs.Standing.{IsAt, held_by_call, held_in, pins_by_call}
+use Rattle.gt_live.specs.declared.driving.Stop.{Stop}
+use Rattle.gt_live.specs.declared.driving.Stop.TheVariants.{Done, Access}
+use Rattle.gt_live.specs.Accesses.{Accessed, ComesTo, onward}
+use Rattle.gt_live.specs.Driving.{IsSame}
+use Rattle.gt_live.specs.Mappings.{record_of}
+use Rattle.gt_live.specs.Walks.{Called, CarriesFound, IsWalk, after, shown}
+
+-- the pin is one of the entry r of the domain t (own)
+abbrev pub is_of_entry : Layout → ℕ → ℕ → Held → Bool
+is_of_entry k t r p = (position_in k.ids p.dom == t) && (p.gref.0 == r)
+
+-- of these pins those of the entry r of the domain t, as a view has them (own)
+abbrev pub live_of : Layout → ℕ → ℕ → List Held → List LivePin
+live_of k t r [] = []
+live_of k t r (p ∷ ps) = cond (is_of_entry k t r p) ((p.dir, record_of p) ∷ live_of k t r ps) (live_of k t r ps)
+
+-- the seat has taken these pins, the last one first, and else has the pins and records that it had (own)
+pub record HasTaken (k : Layout) (taken : List Held) (v w : View) : Type 0 where
+  pub pins : (t r : ℕ) → pins (steps_on t r w) ≡ live_of k t r taken ++ pins (steps_on t r v)
+  pub records : (r : ℕ) → last_of r w ≡ last_of r v
+  pub seen : SeesNoEarlier v w
+  pub position : w.position ≡ v.position
+  pub ids : w.ids ≡ v.ids
+
+-- each of these pins is of an entry of the run (own)
+abbrev pub AreOfRun : Layout → List Held → Type 0
+AreOfRun k [] = Unit {0}
+AreOfRun k (p ∷ ps) = (HasDomain k p.dom × (p.gref.0 < TABLE_ENTRIES)) × AreOfRun k ps
+
+-- a copy stands so: on a leg to one of its ends, at its access, or at the end after a refusal, whose word its steps found (own)
+abbrev pub StandsInCopy : Layout → View → List SeatStep → Phase → Type 0
+StandsInCopy k v steps (Walking (Source c via) l at) = Unit {0}
+StandsInCopy k v steps (Walking (Dest c source via) l at) = Unit {0}
+StandsInCopy k v steps (Accessing c source dest) = Unit {0}
+StandsInCopy k v steps (Ending pins (Refused denial)) = CarriesFound k v steps denial.facts
+StandsInCopy k v steps phase = ⊥
+
+-- the same, and its seat has just the pins that it holds there, besides those that it had (own)
+pub record StandsWell (k : Layout) (v w : View) (steps : List SeatStep) (phase : Phase) : Type 0 where
+  pub stays : StandsInCopy k v steps phase
+  pub taken : HasTaken k (held_in phase) v w
+  pub of_run : AreOfRun k (held_in phase)
+
+-- a copy under way: it added steps to its seat's view, which are those of its path, and the action is what comes next (own)
+pub record Underway (c : CallerKnowledge) (k : Layout) (v w : View) (call : Call) (action : Action) : Type 0 where
+  pub steps : List SeatStep
+  pub view : w ≡ after steps v
+  pub walked : IsWalk k (path c call.caller call.request) v steps
+  pub at : IsAt c call (shown steps)
+  pub goes : GoesOn c call.caller call.request (shown steps) action
+  pub rests : Rests c call.caller call.request (pins_by_call call) (shown steps) action
+  pub copy : CopyArgs
+  pub of_copy : call.request ≡ Copy copy
+  pub phase : Phase
+  pub there : call.phase ≡ Some phase
+  pub acts : action ≡ action_at call.caller phase
+  pub stands : StandsWell k v w steps phase
+
+-- a copy came to its access: it holds the pins of the routes to its ends, which the access rests on, and gives them back on the way from there to its end (own)
+pub record AtAccess (c : CallerKnowledge) (k : Layout) (call : Call) (from to : Place) (len : ℕ) (v w : View) : Type 0 where
+  pub comes : ComesTo k (path c call.caller call.request) (CopyBytes from to len) v w
+  pub copy : CopyArgs
+  pub there : call.phase ≡ Some (Accessing copy (pins_by_call call).source (pins_by_call call).dest)
+  pub rests : RestsOnWays c call.caller call.request (pins_by_call call) from to len
+  pub taken : HasTaken k (held_by_call call) v w
+  pub of_run : AreOfRun k (held_by_call call)
+  pub ends : onward (path c call.caller call.request) (shown comes.steps ++ Nothing ∷ []) ≡ give_back (held_by_call call) Granted
+
+-- a copy ended without its access: it was refused, and its seat has the pins and records that it had (own)
+pub record EndsRefused (c : CallerKnowledge) (k : Layout) (call : Call) (verdict : Verdict) (v w : View) : Type 0 where
+  pub denial : Denial
+  pub refused : verdict ≡ Refused denial
+  pub called : Called k (path c call.caller call.request) verdict v w
+  pub same : IsSame v w
+
+-- where a copy stops (own)
+abbrev pub Stops : CallerKnowledge → Layout → Call → Stop → View → View → Type 0
+Stops c k call (Done verdict) v w = EndsRefused c k call verdict v w
+Stops c k call (Access from to len) v w = AtAccess c k call from to len v w
+
+-- the pins that a copy held at its access were given back, one after another, and nothing else (own)
+pub record GivesBack (k : Layout) (routes : Pins) (v w : View) : Type 0 where
+  pub steps : List SeatStep
+  pub view : w ≡ after steps v
+  pub walked : IsWalk k (give_back (last_first routes) Granted) v steps
+  pub ended : give_back (last_first routes) Granted (shown steps) ≡ Some (actions.Done Granted)
+  pub back : (base : View) → HasTaken k (last_first routes) base v → HasTaken k [] base w
+
+-- pins that a copy held at its access are being given back: those given back are of the way, and the rest is what is left (own)
+pub record Returning (k : Layout) (routes : Pins) (v w : View) (call : Call) (action : Action) : Type 0 where
+  pub steps : List SeatStep
+  pub view : w ≡ after steps v
+  pub walked : IsWalk k (give_back (last_first routes) Granted) v steps
+  pub left : Pins
+  pub there : call.phase ≡ Some (Ending left Granted)
+  pub acts : action ≡ next_to_give (last_first left) Granted
+  pub leads : (vs : List Seen) → give_back (last_first routes) Granted (shown steps ++ vs) ≡ give_back (last_first left) Granted vs
+  pub back : (base : View) → HasTaken k (last_first routes) base v → HasTaken k (last_first left) base w
+  pub of_run : AreOfRun k (last_first left)

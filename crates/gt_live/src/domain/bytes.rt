@@ -1,0 +1,236 @@
+//! The calls that read or write the bytes of one frame.
+ghost use Rattle.std.specs.Prelude.{◌≡◌, ◌+◌, ◌≤◌, length, IfOk, IfErr};
+ghost use Rattle.gt_types.specs.declared.Dir.TheVariants as dirs;
+ghost use Rattle.gt_types.specs.declared.Use.TheVariants as uses;
+ghost use Rattle.gt_words.specs.Conditions.{IsSameSeat, IsSeatOf};
+ghost use Rattle.gt_access.specs.Accesses.{IsReadOf, writing_at};
+ghost use Rattle.gt_access.specs.Routes.{MayAccess, Reaches};
+ghost use Rattle.gt_calls.specs.Asking.{asked};
+ghost use Rattle.gt_live.specs.Accesses.{IsOfAccess, IsReadBy, IsWrittenBy};
+ghost use Rattle.gt_live.specs.Domains.{Accesses, IsOf, IsRefused, KeepsPinned, Opens, known, not_made, refusal_of};
+ghost use Rattle.gt_live.specs.Ending.{IsAccessing};
+
+use super::Domain;
+use crate::monitor::Monitor;
+use gt_access::{Refused, Run, read_by, write_by};
+use gt_calls::{Call, Handle, Request, Route, Start, Verdict};
+use gt_frames::{FrameName, Read, Written};
+use gt_types::{Allows, Denial, Facts, Rule};
+use std::sync::Wait;
+
+// The refusal of a call that was refused.
+pub(super) fn refusal_of(verdict: Verdict) -> Denial
+    ensures { result ≡ refusal_of verdict }
+{
+    match verdict {
+        Verdict::Refused(denial) => denial,
+        _ => Denial::new(Rule::N26, Facts::None),
+    }
+}
+
+// How an access that was not made is refused.
+pub(super) fn not_made(refused: Refused) -> Denial
+    ensures { result ≡ not_made refused }
+{
+    match refused {
+        Refused::Gone => Denial::new(Rule::N16, Facts::None),
+        Refused::Memory => Denial::new(Rule::N26, Facts::None),
+    }
+}
+
+impl Domain {
+    // Judges a call that makes an access.
+    pub(super) fn judge<P: Allows>(
+        &self,
+        monitor: &Monitor<P>,
+        request: Request<'_>,
+    ) -> Result<Call, Denial>
+        requires { IsAccessing (asked request) }
+        ensures opened { IfOk result (λ call. Opens (known P.may monitor.now self.now) self.now.seat.dom request.entry call) }
+        ensures refused { IfErr result (λ denial. IsRefused (known P.may monitor.now self.now) self.now.seat.dom request.entry denial) }
+    {
+        match self.begin(monitor, request) {
+            Start::Open(call) => Ok(call),
+            Start::Done(verdict) => Err(refusal_of(verdict)),
+        }
+    }
+
+    // Reads a range of a frame that this route leads to.
+    fn read_through<R: Wait, P: Allows>(
+        &self,
+        rt: &R,
+        monitor: &Monitor<P>,
+        route: Route,
+        name: FrameName,
+        off: u16,
+        len: u16,
+    ) -> Result<Read, Denial>
+        requires seat { IsSeatOf monitor.now.words self.now.seat }
+        requires reached { Reaches monitor.now.words.layout self.now.seat dirs.Read uses.Map name off len route }
+        requires may { MayAccess monitor.now.config.domains.items (P.may monitor.now.rights) self.now.seat.dom route }
+        requires range { off + len ≤ 4096 }
+        ensures read { IfOk result (λ r. IsReadOf r name off len) }
+        ensures refused { IfErr result IsOfAccess }
+    {
+        let Ok(out) = vec![in self.alloc; 0u8; usize::from(len)] else {
+            return Err(not_made(Refused::Memory));
+        };
+        let run = Run {
+            words: &monitor.words,
+            config: &monitor.config,
+            rights: &monitor.rights,
+            pool: &monitor.pool,
+        };
+        match read_by(rt, &run, &self.seat, route, name, off, out) {
+            Some(read) => Ok(read),
+            None => Err(not_made(Refused::Gone)),
+        }
+    }
+
+    // Writes bytes to a frame that this route leads to.
+    fn write_through<'a, R: Wait, P: Allows>(
+        &self,
+        rt: &R,
+        monitor: &Monitor<P>,
+        route: Route,
+        name: FrameName,
+        off: u16,
+        bytes: &'a [u8],
+    ) -> Result<Written<'a>, Denial>
+        requires seat { IsSeatOf monitor.now.words self.now.seat }
+        requires reached { Reaches monitor.now.words.layout self.now.seat dirs.Write uses.Map name off (length bytes.now) route }
+        requires may { MayAccess monitor.now.config.domains.items (P.may monitor.now.rights) self.now.seat.dom route }
+        requires range { off + length bytes.now ≤ 4096 }
+        ensures written { IfOk result (λ r. r ≡ writing_at name off bytes.entry.now self.now.seat.dom) }
+        ensures refused { IfErr result IsOfAccess }
+    {
+        let run = Run {
+            words: &monitor.words,
+            config: &monitor.config,
+            rights: &monitor.rights,
+            pool: &monitor.pool,
+        };
+        match write_by(rt, &run, &self.seat, route, name, off, bytes) {
+            Ok(written) => Ok(written),
+            Err(refused) => Err(not_made(refused)),
+        }
+    }
+
+    /// Reads `len` bytes from the offset `off` on through a mapping.
+    ///
+    /// # Errors
+    /// N3 or N6; or N26 or N16 at the access. Nothing changes.
+    pub fn load<R: Wait, P: Allows>(
+        &mut self,
+        rt: &R,
+        monitor: &Monitor<P>,
+        handle: Handle,
+        off: u16,
+        len: u16,
+    ) -> Result<Read, Denial>
+        requires mine { IsOf P.may monitor.now self.old }
+        ensures mine { IsOf P.may monitor.now self.new }
+        ensures seat { IsSameSeat self.old.seat self.new.seat }
+        ensures answered { Accesses P.may monitor.now self.old (Request.Load handle off len) IsReadBy result self.new }
+        ensures kept { KeepsPinned self.old self.new }
+        ensures silent { self.new.trail ≡ self.old.trail }
+    {
+        if let Err(denial) = self.judge(monitor, Request::Load { handle, off, len }) {
+            return Err(denial);
+        }
+        let held = *self.mappings.get(handle).unwrap();
+        let name = FrameName {
+            owner: held.dom,
+            number: held.entry.frame(),
+        };
+        self.read_through(rt, monitor, Route::Direct(held), name, off, len)
+    }
+
+    /// Reads `len` bytes from the offset `off` on of a frame of its own.
+    ///
+    /// # Errors
+    /// N3 or N16; or N26 or N16 at the access. Nothing changes.
+    pub fn peek<R: Wait, P: Allows>(
+        &mut self,
+        rt: &R,
+        monitor: &Monitor<P>,
+        frame: u64,
+        off: u16,
+        len: u16,
+    ) -> Result<Read, Denial>
+        requires mine { IsOf P.may monitor.now self.old }
+        ensures mine { IsOf P.may monitor.now self.new }
+        ensures seat { IsSameSeat self.old.seat self.new.seat }
+        ensures answered { Accesses P.may monitor.now self.old (Request.Peek frame off len) IsReadBy result self.new }
+        ensures kept { KeepsPinned self.old self.new }
+        ensures silent { self.new.trail ≡ self.old.trail }
+    {
+        if let Err(denial) = self.judge(monitor, Request::Peek { frame, off, len }) {
+            return Err(denial);
+        }
+        let name = FrameName {
+            owner: self.seat.dom(),
+            number: frame,
+        };
+        self.read_through(rt, monitor, Route::Own, name, off, len)
+    }
+
+    /// Writes `bytes` from the offset `off` on through a mapping.
+    ///
+    /// # Errors
+    /// N3, N6 or N7; or N26 or N16 at the access. Nothing changes, the frame neither.
+    pub fn store<'a, R: Wait, P: Allows>(
+        &mut self,
+        rt: &R,
+        monitor: &Monitor<P>,
+        handle: Handle,
+        off: u16,
+        bytes: &'a [u8],
+    ) -> Result<Written<'a>, Denial>
+        requires mine { IsOf P.may monitor.now self.old }
+        ensures mine { IsOf P.may monitor.now self.new }
+        ensures seat { IsSameSeat self.old.seat self.new.seat }
+        ensures answered { Accesses P.may monitor.now self.old (Request.Store handle off bytes.entry) (IsWrittenBy self.old.seat.dom bytes.entry.now) result self.new }
+        ensures kept { KeepsPinned self.old self.new }
+        ensures silent { self.new.trail ≡ self.old.trail }
+    {
+        if let Err(denial) = self.judge(monitor, Request::Store { handle, off, bytes }) {
+            return Err(denial);
+        }
+        let held = *self.mappings.get(handle).unwrap();
+        let name = FrameName {
+            owner: held.dom,
+            number: held.entry.frame(),
+        };
+        self.write_through(rt, monitor, Route::Direct(held), name, off, bytes)
+    }
+
+    /// Writes `bytes` from the offset `off` on to a frame of its own.
+    ///
+    /// # Errors
+    /// N3 or N16; or N26 or N16 at the access. Nothing changes, the frame neither.
+    pub fn poke<'a, R: Wait, P: Allows>(
+        &mut self,
+        rt: &R,
+        monitor: &Monitor<P>,
+        frame: u64,
+        off: u16,
+        bytes: &'a [u8],
+    ) -> Result<Written<'a>, Denial>
+        requires mine { IsOf P.may monitor.now self.old }
+        ensures mine { IsOf P.may monitor.now self.new }
+        ensures seat { IsSameSeat self.old.seat self.new.seat }
+        ensures answered { Accesses P.may monitor.now self.old (Request.Poke frame off bytes.entry) (IsWrittenBy self.old.seat.dom bytes.entry.now) result self.new }
+        ensures kept { KeepsPinned self.old self.new }
+        ensures silent { self.new.trail ≡ self.old.trail }
+    {
+        if let Err(denial) = self.judge(monitor, Request::Poke { frame, off, bytes }) {
+            return Err(denial);
+        }
+        let name = FrameName {
+            owner: self.seat.dom(),
+            number: frame,
+        };
+        self.write_through(rt, monitor, Route::Own, name, off, bytes)
+    }
+}

@@ -1,0 +1,202 @@
+//! The call that copies bytes between frames.
+ghost use Rattle.std.specs.Prelude.{◌≡◌, ◌+◌, ◌≤◌, IfOk, IfErr, Some};
+ghost use Rattle.gt_types.specs.declared.Dir.TheVariants as dirs;
+ghost use Rattle.gt_types.specs.declared.Use.TheVariants as uses;
+ghost use Rattle.gt_words.specs.Conditions.{IsSameSeat, IsSeatOf};
+ghost use Rattle.gt_words.specs.declared.view.View.{View};
+ghost use Rattle.gt_access.specs.Accesses.{copying_at};
+ghost use Rattle.gt_access.specs.Routes.{MayCopy, Reaches};
+ghost use Rattle.gt_audit.specs.Telling.{Tells};
+ghost use Rattle.gt_calls.specs.declared.call.Phase.TheVariants.{Accessing};
+ghost use Rattle.gt_calls.specs.declared.request.Asked.TheVariants as asks;
+ghost use Rattle.gt_calls.specs.declared.request.CopyArgs.{CopyArgs};
+ghost use Rattle.gt_calls.specs.Standing.{held_by_call, pins_by_call};
+ghost use Rattle.gt_live.specs.Accesses.{IsCopiedBy, IsOfAccess, spot_of};
+ghost use Rattle.gt_live.specs.Domains.{Accesses, IsOf, IsOpened, IsUnsettled, KeepsPinned, copy_reply, known, told_copy, told_end};
+ghost use Rattle.gt_live.specs.Underway.{AreOfRun, GivesBack, HasTaken, Stops};
+
+use super::Domain;
+use super::bytes::{not_made, refusal_of};
+use crate::driving::{Stop, give_back, walk};
+use crate::monitor::Monitor;
+use gt_access::{Run, copy_by};
+use gt_audit::{CopyEnd, Hypercall, Record, Reply};
+use gt_calls::{Call, CopyArgs, End, Known, Pins, Place, Request};
+use gt_frames::{Copied, FrameName, Spot};
+use gt_types::{Allows, Denial};
+use std::sync::Wait;
+
+// The byte at this place.
+fn spot_of(place: Place) -> Spot
+    ensures { result ≡ spot_of place }
+{
+    Spot {
+        frame: FrameName {
+            owner: place.owner,
+            number: place.frame,
+        },
+        off: place.off,
+    }
+}
+
+// What a record tells of an end of a copy.
+fn told_end(end: End) -> CopyEnd
+    ensures { result ≡ told_end end }
+{
+    CopyEnd {
+        ptr: end.ptr,
+        dom: end.domid,
+        off: end.offset,
+    }
+}
+
+// What a record tells of a copy's answer.
+fn copy_reply(answer: &Result<Copied, Denial>) -> Reply
+    ensures { result ≡ copy_reply answer.now }
+{
+    match answer {
+        Ok(_) => Reply::Done,
+        Err(denial) => Reply::Denied(*denial),
+    }
+}
+
+impl Domain {
+    // Drives an open copy to its access, or to its end where it is refused before.
+    fn walk<P: Allows>(&mut self, monitor: &Monitor<P>, call: &mut Call) -> Stop
+        requires mine { IsOf P.may monitor.now self.old }
+        requires opened { IsOpened (known P.may monitor.now self.old) self.old.seat.dom call.old }
+        requires copies { (copy : CopyArgs) × (call.old.request ≡ asks.Copy copy) }
+        ensures kept { IsUnsettled self.old self.new }
+        ensures caller { call.new.caller ≡ self.old.seat.dom }
+        ensures request { call.new.request ≡ call.old.request }
+        ensures stops { Stops (known P.may monitor.now self.old) monitor.now.words.layout call.new result self.old.seat.view self.new.seat.view }
+    {
+        let known = Known {
+            config: &monitor.config,
+            rights: &monitor.rights,
+            own: &self.own,
+            header: self.seat.header(),
+            mappings: &self.mappings,
+        };
+        walk(&monitor.words, &known, &mut self.seat, call)
+    }
+
+    // Gives back the pins that a copy held at its access.
+    fn give_back<P: Allows>(&mut self, monitor: &Monitor<P>, call: &mut Call)
+        requires seat { IsSeatOf monitor.now.words self.old.seat }
+        requires accessing { (copy : CopyArgs) × (call.old.phase ≡ Some (Accessing copy (pins_by_call call.old).source (pins_by_call call.old).dest)) }
+        requires taken { (base : View) × HasTaken monitor.now.words.layout (held_by_call call.old) base self.old.seat.view }
+        requires of_run { AreOfRun monitor.now.words.layout (held_by_call call.old) }
+        ensures kept { IsUnsettled self.old self.new }
+        ensures gives { GivesBack monitor.now.words.layout (pins_by_call call.old) self.old.seat.view self.new.seat.view }
+    {
+        let known = Known {
+            config: &monitor.config,
+            rights: &monitor.rights,
+            own: &self.own,
+            header: self.seat.header(),
+            mappings: &self.mappings,
+        };
+        give_back(&monitor.words, &known, &mut self.seat, call);
+    }
+
+    // Copies between places that these routes lead to.
+    fn copy_through<R: Wait, P: Allows>(
+        &self,
+        rt: &R,
+        monitor: &Monitor<P>,
+        routes: Pins,
+        from: Place,
+        to: Place,
+        len: u16,
+    ) -> Result<Copied, Denial>
+        requires seat { IsSeatOf monitor.now.words self.now.seat }
+        requires source { Reaches monitor.now.words.layout self.now.seat dirs.Read uses.Copy (spot_of from).frame from.off len routes.source }
+        requires dest { Reaches monitor.now.words.layout self.now.seat dirs.Write uses.Copy (spot_of to).frame to.off len routes.dest }
+        requires may { MayCopy monitor.now.config.domains.items (P.may monitor.now.rights) self.now.seat.dom routes }
+        requires source_range { from.off + len ≤ 4096 }
+        requires dest_range { to.off + len ≤ 4096 }
+        ensures copied { IfOk result (λ r. r ≡ copying_at (spot_of from) (spot_of to) len self.now.seat.dom) }
+        ensures refused { IfErr result IsOfAccess }
+    {
+        let run = Run {
+            words: &monitor.words,
+            config: &monitor.config,
+            rights: &monitor.rights,
+            pool: &monitor.pool,
+        };
+        match copy_by(
+            rt,
+            &run,
+            &self.seat,
+            routes,
+            spot_of(from),
+            spot_of(to),
+            len,
+        ) {
+            Ok(copied) => Ok(copied),
+            Err(refused) => Err(not_made(refused)),
+        }
+    }
+
+    // Copies, and tells nobody.
+    fn make_copy<R: Wait, P: Allows>(
+        &mut self,
+        rt: &R,
+        monitor: &Monitor<P>,
+        copy: CopyArgs,
+    ) -> Result<Copied, Denial>
+        requires mine { IsOf P.may monitor.now self.old }
+        ensures mine { IsOf P.may monitor.now self.new }
+        ensures seat { IsSameSeat self.old.seat self.new.seat }
+        ensures answered { Accesses P.may monitor.now self.old (Request.Copy copy) (IsCopiedBy self.old.seat.dom) result self.new }
+        ensures kept { KeepsPinned self.old self.new }
+        ensures silent { self.new.trail ≡ self.old.trail }
+    {
+        let mut call = match self.judge(monitor, Request::Copy(copy)) {
+            Ok(call) => call,
+            Err(denial) => return Err(denial),
+        };
+        match self.walk(monitor, &mut call) {
+            Stop::Done(verdict) => Err(refusal_of(verdict)),
+            Stop::Access { from, to, len } => {
+                let copied = self.copy_through(rt, monitor, call.pins(), from, to, len);
+                self.give_back(monitor, &mut call);
+                copied
+            }
+        }
+    }
+
+    /// Copies bytes between frames, of its own or by grants, transitive ones too. The pins that it takes
+    /// for this are given back once the frames are free.
+    ///
+    /// # Errors
+    /// The first rule that stands; or N26 or N16 at the access. Nothing has changed then: no frame, no
+    /// mapping, no pin.
+    pub fn copy<R: Wait, P: Allows>(
+        &mut self,
+        rt: &R,
+        monitor: &Monitor<P>,
+        copy: &CopyArgs,
+    ) -> Result<Copied, Denial>
+        requires mine { IsOf P.may monitor.now self.old }
+        ensures mine { IsOf P.may monitor.now self.new }
+        ensures seat { IsSameSeat self.old.seat self.new.seat }
+        ensures answered { Accesses P.may monitor.now self.old (Request.Copy copy.now) (IsCopiedBy self.old.seat.dom) result self.new }
+        ensures kept { KeepsPinned self.old self.new }
+        ensures told { Tells self.old.trail (told_copy self.old copy.now result) self.new.trail }
+    {
+        let copy = *copy;
+        let result = self.make_copy(rt, monitor, copy);
+        let call = Hypercall::Copy {
+            source: told_end(copy.source),
+            dest: told_end(copy.dest),
+            len: copy.len,
+            flags: copy.flags,
+        };
+        let dom = self.seat.dom();
+        let reply = copy_reply(&result);
+        self.trail.push(Record { dom, call, reply });
+        result
+    }
+}
