@@ -1,7 +1,7 @@
 //! A domain beside the monitor that it came with, so that it can move into a thread.
 use gt_audit::Trail;
 use gt_core::{Answer, Bytes, Handle, Request};
-use gt_frames::{Read, Written};
+use gt_frames::{Copied, Read, Written};
 use gt_live::{Domain, Left, Monitor};
 use gt_types::{Allows, Denial};
 use std::marker::Model;
@@ -58,6 +58,13 @@ fn read(answer: Result<Read, Denial>) -> Answer {
 }
 
 fn written(answer: Result<Written<'_>, Denial>) -> Answer {
+    match answer {
+        Ok(_) => Answer::Done,
+        Err(denial) => Answer::Denied(denial),
+    }
+}
+
+fn copied(answer: Result<Copied, Denial>) -> Answer {
     match answer {
         Ok(_) => Answer::Done,
         Err(denial) => Answer::Denied(denial),
@@ -126,10 +133,7 @@ impl<'m, P: Allows> Running<'m, P> {
             Request::Poke { frame, off, bytes } => {
                 written(self.domain.poke(rt, self.monitor, frame, off, bytes))
             }
-            Request::Copy(_) => Answer::Denied(gt_types::Denial::new(
-                gt_types::Rule::N26,
-                gt_types::Facts::None,
-            )),
+            Request::Copy(args) => copied(self.domain.copy(rt, self.monitor, &args)),
         }
     }
 }
