@@ -94,17 +94,17 @@ fn reads_scripts_for_run(rt: HostRuntime) -> Result<(), Fail> {
 fn a_long_way_round_ends(rt: HostRuntime) -> Result<(), Fail> {
     let alloc = rt.alloc();
     let mut text = String::from_str(alloc, HEAD)?;
-    for turn in 0..20_000 {
+    for turn in 0..5_000 {
         let (here, there) = if turn % 2 == 0 { (1, 2) } else { (2, 1) };
         let lines = format!(in alloc; "tell {here} f{turn}\nawait {there} f{turn}\n")?;
         text.push_str(lines.as_str())?;
     }
     match parse_run(alloc, text.as_bytes()) {
-        Ok(script) => assert_eq!(rt; (script.flags(), script.tasks().len()), (20_000, 40_000)),
+        Ok(script) => assert_eq!(rt; (script.flags(), script.tasks().len()), (5_000, 10_000)),
         Err(error) => assert_eq!(rt; error.to_string(alloc)?.as_str(), ""),
     }
-    text.push_str("await 1 f20000\n")?;
+    text.push_str("await 1 f5000\n")?;
     let said = run_said(alloc, text.as_bytes())?;
-    assert_eq!(rt; said.as_str(), "line 40004: stuck");
+    assert_eq!(rt; said.as_str(), "line 10004: stuck");
     Ok(())
 }
