@@ -1,4 +1,3 @@
 pub mod Faults
 pub mod Printing
-pub mod Running
 pub mod Telling

@@ -8,7 +8,7 @@
 mod fault;
 mod gate;
 mod lists;
-mod run;
+mod reading;
 mod running;
 mod serving;
 mod telling;
@@ -16,4 +16,6 @@ mod threads;
 
 pub use fault::RunFault;
 pub use gate::{FLAGS, Flags, Gate};
-pub use run::run;
+pub use lists::Part;
+pub use reading::run;
+pub use threads::run_lists;

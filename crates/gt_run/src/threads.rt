@@ -1,7 +1,8 @@
 //! A thread for each domain.
-ghost use Rattle.std.specs.Prelude.{◌≡◌, ◌++◌, All, length, IfOk, IsOk, OnOk, IsTrue};
+ghost use Rattle.std.specs.Prelude.{◌≡◌, ◌≤◌, ◌++◌, All, length, IfOk, IsOk, OnOk, IsTrue};
 ghost use Rattle.std.specs.Io.KnownBytes.{Appends};
-ghost use Rattle.gt_types.specs.Config.{IsWithinLimits};
+ghost use Rattle.gt_types.specs.Config.{AreFaultless};
+ghost use Rattle.gt_types.specs.declared.limits.TheConstants.{LAST_GENERATION};
 ghost use Rattle.gt_audit.specs.Lines.{lost_text};
 ghost use Rattle.gt_live.specs.Domains.{IsOf};
 ghost use Rattle.gt_run.specs.Printing.{AuditsParts, CameOf, WritesAll, WritesParts, promised};
@@ -278,7 +279,9 @@ pub fn run_lists<'a, R: Threads + Wait + Sync, P: Allows + Drop + Sync, G: Gate 
     gate: &G,
     writer: &mut W,
 ) -> Result<(), RunFault>
-    requires limits { IsWithinLimits config }
+    requires faultless { AreFaultless config.domains.items }
+    requires some { 1 ≤ length config.domains.items }
+    requires generation { config.first_gen ≤ LAST_GENERATION }
     requires each { length config.domains.items ≡ length parts.now }
     ensures { OnOk result (WritesAll parts.now (W.contents writer.old) (W.contents writer.new)) }
 {

