@@ -107,8 +107,8 @@ fn text_said<'b, 'a>(call: &'b Call<'a>) -> Option<&'b Text<'a>>
     }
 }
 
-// The bytes that a call says: those of an entry, or those that it writes.
-fn bytes_said<'a>(alloc: Global, call: &Call<'a>) -> Result<Vec<u8>, AllocError>
+/// The bytes that a call says: those of an entry, or those that it writes.
+pub fn bytes_said<'a>(alloc: Global, call: &Call<'a>) -> Result<Vec<u8>, AllocError>
     ensures { IfOk result (λ bytes. bytes.items ≡ said_in call.now) }
 {
     match text_said(call) {
@@ -176,8 +176,8 @@ fn access_request<'a, 'c>(
     }
 }
 
-// What a call that says these bytes asks of the core.
-fn request_of<'a, 'c>(
+/// What a call that says these bytes asks.
+pub fn request_of<'a, 'c>(
     labels: &Labels<'a>,
     dom: DomId,
     bytes: &'c [u8],
@@ -201,8 +201,8 @@ fn request_of<'a, 'c>(
     }
 }
 
-// The label to which a call gives its handle.
-fn label_given<'a>(call: &Call<'a>) -> Option<&'a [u8]>
+/// The label to which a call gives its handle.
+pub fn label_given<'a>(call: &Call<'a>) -> Option<&'a [u8]>
     ensures { option_map (λ l. l.now) result ≡ label_given call.now }
 {
     match call {

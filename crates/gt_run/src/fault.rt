@@ -1,0 +1,76 @@
+//! Why a run did not end well.
+use gt_host::PlayFault;
+use gt_streams::WriteFault;
+use gt_types::Memory;
+use std::alloc::{AllocError, AllocFailed};
+use std::error::Error;
+use std::fmt;
+
+/// Why a run did not end well. It prints as one line, without its end.
+#[derive(Debug, Drop)]
+pub enum RunFault {
+    /// A fault that a play can have too: of the script, for want of memory, or of a read or a write.
+    Play(PlayFault),
+    /// A thread was refused. No list ran, and nothing was written.
+    Thread,
+}
+
+impl fmt::Display for RunFault {
+    ghost use Rattle.std.specs.Prelude.{Some};
+    ghost use Rattle.gt_run.specs.Faults.{run_fault_text};
+
+    ghost output = { λ fault. Some (run_fault_text fault) };
+
+    fn fmt<W: fmt::Write>(&self, f: &mut fmt::Formatter<W>) -> fmt::Result {
+        match self {
+            RunFault::Play(fault) => write!(f, "{fault}"),
+            RunFault::Thread => f.write_str("thread"),
+        }
+    }
+}
+
+impl Error for RunFault {}
+
+impl From<Memory> for RunFault {
+    ghost use Rattle.std.specs.Prelude.{◌≡◌};
+    ghost use Rattle.gt_run.specs.Faults.{out_of_memory};
+
+    ghost from_gives = { λ _ fault. fault ≡ out_of_memory };
+
+    fn from(_error: Memory) -> RunFault {
+        RunFault::Play(PlayFault::Memory)
+    }
+}
+
+impl From<AllocError> for RunFault {
+    ghost use Rattle.std.specs.Prelude.{◌≡◌};
+    ghost use Rattle.gt_run.specs.Faults.{out_of_memory};
+
+    ghost from_gives = { λ _ fault. fault ≡ out_of_memory };
+
+    fn from(_error: AllocError) -> RunFault {
+        RunFault::Play(PlayFault::Memory)
+    }
+}
+
+impl<T: Drop> From<AllocFailed<T>> for RunFault {
+    ghost use Rattle.std.specs.Prelude.{◌≡◌};
+    ghost use Rattle.gt_run.specs.Faults.{out_of_memory};
+
+    ghost from_gives = { λ _ fault. fault ≡ out_of_memory };
+
+    fn from(_error: AllocFailed<T>) -> RunFault {
+        RunFault::Play(PlayFault::Memory)
+    }
+}
+
+impl From<WriteFault> for RunFault {
+    ghost use Rattle.std.specs.Prelude.{◌≡◌};
+    ghost use Rattle.gt_run.specs.Faults.{not_written};
+
+    ghost from_gives = { λ _ fault. fault ≡ not_written };
+
+    fn from(_error: WriteFault) -> RunFault {
+        RunFault::Play(PlayFault::Write)
+    }
+}

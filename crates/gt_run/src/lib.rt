@@ -1,0 +1,21 @@
+//! Runs the domains of a script at once, each in a thread of its own.
+//!
+//! Each domain has a list of lines: calls, which it makes on the monitor of `gt_live`, flags that it tells, and flags
+//! that it awaits at a [`Gate`]. All threads are started before any list begins. The lines of each domain's answers are
+//! written in its own order, those of the first domain first, and its audit lines behind them all.
+#![tactic(auto)]
+
+mod fault;
+mod gate;
+mod lists;
+mod reading;
+mod running;
+mod serving;
+mod telling;
+mod threads;
+
+pub use fault::RunFault;
+pub use gate::{FLAGS, Flags, Gate};
+pub use lists::Part;
+pub use reading::run;
+pub use threads::run_lists;

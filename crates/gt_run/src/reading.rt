@@ -1,0 +1,110 @@
+//! A script in, and the lines of its domains out.
+ghost use Rattle.std.specs.Prelude.{◌≡◌, length, IfOk};
+ghost use Rattle.gt_script.specs.Contents.{told};
+ghost use Rattle.gt_script.specs.RunScripts.{CanConfigure};
+ghost use Rattle.gt_streams.specs.Streams.{ConsumesAtMost};
+ghost use Rattle.gt_streams.specs.declared.streams.TheConstants.{READ_LIMIT};
+
+use crate::fault::RunFault;
+use crate::gate::Gate;
+use crate::lists::Part;
+use crate::threads::run_lists;
+use gt_audit::SharedLog;
+use gt_host::{PlayFault, Rights};
+use gt_lines::Text;
+use gt_script::{RunScript, Task, parse_run};
+use gt_streams::read_text;
+use gt_types::{Config, DomainConfig};
+use std::alloc::{AllocError, Global};
+use std::io::{Read, Write};
+use std::sync::Wait;
+use std::thread::Threads;
+
+// The parts of the domains, in their order.
+fn parts_of<'s, 'a>(
+    alloc: Global,
+    domains: &[DomainConfig],
+    tasks: &'s [Task<'a>],
+    types: &'s [Text<'s>],
+) -> Result<Vec<Part<'s, 'a>>, AllocError>
+    ensures { IfOk result (λ parts. length parts.items ≡ length domains.now) }
+{
+    let mut parts = Vec::new(alloc);
+    'domains: for domain in domains {
+        let dom = domain.id;
+        parts.push(Part { dom, tasks, types })?;
+    }
+    Ok(parts)
+}
+
+// Runs a script that was read.
+fn run_script<'a, R: Threads + Wait + Sync, G: Gate + Sync, W: Write>(
+    rt: &R,
+    alloc: Global,
+    script: &RunScript<'a>,
+    log: Option<&SharedLog>,
+    gate: &G,
+    writer: &mut W,
+) -> Result<(), RunFault>
+    requires { CanConfigure (told script.now.head) }
+{
+    let head = script.head();
+    let config = Config {
+        domains: Vec::from_slice(alloc, head.domains())?,
+        first_gen: head.first_gen(),
+    };
+    let rights = Rights::of(alloc, head)?;
+    let types = head.type_names(alloc)?;
+    let parts = parts_of(alloc, head.domains(), script.tasks(), types.as_slice())?;
+    run_lists(
+        rt,
+        alloc,
+        config,
+        rights,
+        parts.as_slice(),
+        log,
+        gate,
+        writer,
+    )
+}
+
+// Runs the script that bytes say, of which those up to the limit were read.
+fn run_bytes<R: Threads + Wait + Sync, G: Gate + Sync, W: Write>(
+    rt: &R,
+    alloc: Global,
+    input: &[u8],
+    writer: &mut W,
+    log: Option<&SharedLog>,
+    gate: &G,
+) -> Result<(), RunFault> {
+    match parse_run(alloc, input) {
+        Ok(script) => run_script(rt, alloc, &script, log, gate, writer),
+        Err(error) => Err(RunFault::Play(PlayFault::from(error))),
+    }
+}
+
+/// Runs the script that the reader has: each domain makes its calls in a thread of its own, and where one awaits a flag
+/// it asks the gate. Writes a line for each answer: those of the first domain first, and each domain's in their order.
+/// Where a log is given, calls are recorded in it, and behind all other lines stand the audit lines of each domain and
+/// how many records were lost.
+///
+/// Of the reader at most 1,048,577 bytes are read. A script with a fault writes nothing.
+///
+/// # Errors
+/// The script's first fault; a thread that was refused, and then no list ran; or want of memory, or a read or a write
+/// that failed.
+pub fn run<R: Threads + Wait + Sync, I: Read, W: Write, G: Gate + Sync>(
+    rt: &R,
+    alloc: Global,
+    reader: &mut I,
+    writer: &mut W,
+    log: Option<&SharedLog>,
+    gate: &G,
+) -> Result<(), RunFault>
+    ensures read { ConsumesAtMost READ_LIMIT (I.remaining reader.old) (I.remaining reader.new) }
+{
+    match read_text(alloc, reader) {
+        Ok(input) => run_bytes(rt, alloc, input.as_slice(), writer, log, gate),
+        Err(error) => Err(RunFault::Play(PlayFault::from(error))),
+    }
+}

@@ -1,0 +1,139 @@
+//! A domain beside the monitor that it came with, so that it can move into a thread.
+use gt_audit::Trail;
+use gt_core::{Answer, Bytes, Handle, Request};
+use gt_frames::{Copied, Read, Written};
+use gt_live::{Domain, Left, Monitor};
+use gt_types::{Allows, Denial};
+use std::marker::Model;
+use std::sync::Wait;
+
+/// A domain beside the monitor that it came with. Dropping it finishes the domain.
+///
+/// A closure takes nothing that can't be dropped, and a [`Domain`] can't be. So this is what moves into a thread.
+pub struct Running<'m, P: Allows> {
+    monitor: &'m Monitor<P>,
+    domain: Domain,
+}
+
+impl<'m, P: Allows> Model for Running<'m, P> {
+    ghost use Rattle.gt_types.specs.declared.DomId.{DomId};
+    ghost use Rattle.gt_live.specs.Domains.{IsOf};
+
+    ghost Value = { DomId };
+
+    ghost view = { λ r. r.domain.seat.dom };
+
+    ghost invariant = { λ r. IsOf P.may r.monitor.now r.domain };
+}
+
+impl<'m, P: Allows> Drop for Running<'m, P> {
+    fn drop(self) {
+        let Running { monitor, domain } = self;
+        domain.finish(monitor);
+    }
+}
+
+// The answer of a call that gives no value.
+fn done(answer: Result<(), Denial>) -> Answer {
+    match answer {
+        Ok(()) => Answer::Done,
+        Err(denial) => Answer::Denied(denial),
+    }
+}
+
+fn mapped(answer: Result<Handle, Denial>) -> Answer {
+    match answer {
+        Ok(handle) => Answer::Mapped(handle),
+        Err(denial) => Answer::Denied(denial),
+    }
+}
+
+fn read(answer: Result<Read, Denial>) -> Answer {
+    match answer {
+        Ok(receipt) => Answer::Bytes(Bytes {
+            bytes: receipt.into_bytes(),
+        }),
+        Err(denial) => Answer::Denied(denial),
+    }
+}
+
+fn written(answer: Result<Written<'_>, Denial>) -> Answer {
+    match answer {
+        Ok(_) => Answer::Done,
+        Err(denial) => Answer::Denied(denial),
+    }
+}
+
+fn copied(answer: Result<Copied, Denial>) -> Answer {
+    match answer {
+        Ok(_) => Answer::Done,
+        Err(denial) => Answer::Denied(denial),
+    }
+}
+
+impl<'m, P: Allows> Running<'m, P> {
+    ghost use Rattle.gt_live.specs.Domains.{IsOf};
+
+    /// The domain beside its monitor.
+    pub fn new(monitor: &'m Monitor<P>, domain: Domain) -> Self
+        requires { IsOf P.may monitor.now domain }
+    {
+        Running { monitor, domain }
+    }
+
+    /// The records of its calls so far, in order.
+    pub fn trail(&self) -> &Trail {
+        self.domain.trail()
+    }
+
+    /// Leaves the run.
+    pub fn finish(self) -> Left {
+        let Running { monitor, domain } = self;
+        domain.finish(monitor)
+    }
+
+    /// Makes the call that is asked, and answers as it is answered.
+    pub fn ask<R: Wait>(&mut self, rt: &R, request: Request<'_>) -> Answer {
+        match request {
+            Request::Grant { gref, entry } => done(self.domain.grant(self.monitor, gref, &entry)),
+            Request::GrantBytes { gref, bytes } => {
+                done(self.domain.grant_bytes(self.monitor, gref, bytes))
+            }
+            Request::Revoke { gref } => done(self.domain.revoke(self.monitor, gref)),
+            Request::Demote { gref } => done(self.domain.demote(self.monitor, gref)),
+            Request::Promote { gref } => done(self.domain.promote(self.monitor, gref)),
+            Request::Map { dom, gref, flags } => {
+                mapped(self.domain.map(self.monitor, dom, gref, flags))
+            }
+            Request::Unmap { handle } => done(self.domain.unmap(self.monitor, handle)),
+            Request::SetVersion { version } => done(self.domain.set_version(self.monitor, version)),
+            Request::SetupTable { frames } => {
+                match self.domain.setup_table(self.monitor, frames) {
+                    Ok(frames) => Answer::Frames(frames),
+                    Err(denial) => Answer::Denied(denial),
+                }
+            }
+            Request::QuerySize { dom } => match self.domain.query_size(self.monitor, dom) {
+                Ok(size) => Answer::Size(size),
+                Err(denial) => Answer::Denied(denial),
+            },
+            Request::GetVersion { dom } => match self.domain.get_version(self.monitor, dom) {
+                Ok(version) => Answer::Version(version),
+                Err(denial) => Answer::Denied(denial),
+            },
+            Request::Load { handle, off, len } => {
+                read(self.domain.load(rt, self.monitor, handle, off, len))
+            }
+            Request::Store { handle, off, bytes } => {
+                written(self.domain.store(rt, self.monitor, handle, off, bytes))
+            }
+            Request::Peek { frame, off, len } => {
+                read(self.domain.peek(rt, self.monitor, frame, off, len))
+            }
+            Request::Poke { frame, off, bytes } => {
+                written(self.domain.poke(rt, self.monitor, frame, off, bytes))
+            }
+            Request::Copy(args) => copied(self.domain.copy(rt, self.monitor, &args)),
+        }
+    }
+}

@@ -1,0 +1,62 @@
+//! What a domain tells to the log that all share.
+use gt_audit::{SharedLog, Told, Trail, push_line};
+use gt_lines::Text;
+use gt_live::Left;
+use gt_types::{DomId, Memory};
+use std::alloc::Global;
+use std::sync::Wait;
+
+/// What a domain told to the log: each record of its trail under its place there, counted from 0.
+#[derive(Drop)]
+pub struct Teller<'l> {
+    told: Told<'l>,
+    next: usize,
+}
+
+impl<'l> Teller<'l> {
+    ghost use Rattle.std.specs.Prelude.{◌≡◌, ◌+◌, ◌-◌, ◌^◌, min, length, slice_get, IfOk};
+    ghost use Rattle.gt_audit.specs.Telling.{nothing_told};
+    ghost use Rattle.gt_run.specs.Printing.{IsAudit};
+    ghost use Rattle.gt_run.specs.Telling.{TellsNext};
+
+    /// Nothing was told yet.
+    pub fn new(alloc: Global, log: &'l SharedLog, dom: DomId) -> Self
+        ensures { result ≡ record { told = nothing_told dom; next = 0 } }
+    {
+        Teller {
+            told: Told::new(alloc, log, dom),
+            next: 0,
+        }
+    }
+
+    /// Tells the record that the trail has beyond those told, if it has one. A record for which there is no memory
+    /// is lost.
+    pub fn tell(&mut self, rt: &impl Wait, trail: &Trail)
+        ensures { TellsNext (slice_get trail.now.records self.old.next) (length trail.now.records) self.old self.new }
+    {
+        let records = trail.records();
+        if let Some(told) = records.get(self.next) {
+            self.told.tell(rt, self.next as u64, *told);
+            self.next = records.len();
+        }
+    }
+
+    /// The audit lines of the records told, as the log has them, in order.
+    pub fn audit(&self, alloc: Global, types: &[Text]) -> Result<Vec<u8>, Memory>
+        ensures { IfOk result (λ text. IsAudit types.now text.items) }
+    {
+        let mut text = Vec::new(alloc);
+        let records = self.told.records(alloc)?;
+        'records: for told in &records {
+            push_line(&mut text, told, types)?;
+        }
+        Ok(text)
+    }
+
+    /// How many records were lost, of those of a domain that has left: for want of memory in its trail, or in the log.
+    pub fn lost(&self, left: &Left) -> u64
+        ensures { result ≡ min (left.now.trail.lost + self.now.told.lost) (2 ^ 64 - 1) }
+    {
+        left.lost().saturating_add(self.told.lost())
+    }
+}

@@ -1,0 +1,296 @@
+//! A thread for each domain.
+ghost use Rattle.std.specs.Prelude.{◌≡◌, ◌≤◌, ◌++◌, All, length, IfOk, IsOk, OnOk, IsTrue};
+ghost use Rattle.std.specs.Io.KnownBytes.{Appends};
+ghost use Rattle.gt_types.specs.Config.{AreFaultless};
+ghost use Rattle.gt_types.specs.declared.limits.TheConstants.{LAST_GENERATION};
+ghost use Rattle.gt_audit.specs.Lines.{lost_text};
+ghost use Rattle.gt_live.specs.Domains.{IsOf};
+ghost use Rattle.gt_run.specs.Printing.{AuditsParts, CameOf, WritesAll, WritesParts, promised};
+
+use crate::fault::RunFault;
+use crate::gate::Gate;
+use crate::lists::Part;
+use crate::running::Running;
+use crate::serving::{Output, work};
+use gt_audit::{SharedLog, push_lost};
+use gt_live::{Domain, Monitor};
+use gt_streams::{finish, write_text};
+use gt_types::{Allows, Config, Memory, StartFault};
+use std::alloc::Global;
+use std::io::Write;
+use std::sync::{OnceLock, Wait};
+use std::thread;
+use std::thread::{PromisedHandle, Scope, Threads};
+
+// Finishes domains that get no thread.
+fn finish_all<P: Allows>(monitor: &Monitor<P>, domains: Vec<Domain>)
+    requires { All (λ d. IsOf P.may monitor.now d) domains.items }
+{
+    let mut rest = domains.into_iter();
+    'rest: while let Some(domain) = rest.next() {
+        domain.finish(monitor);
+    }
+    rest.destroy_empty();
+}
+
+/// Each domain beside its monitor. Where there is no memory for that, each is finished.
+pub fn all_running<'m, P: Allows>(
+    alloc: Global,
+    monitor: &'m Monitor<P>,
+    domains: Vec<Domain>,
+) -> Result<Vec<Running<'m, P>>, Memory>
+    requires { All (λ d. IsOf P.may monitor.now d) domains.items }
+    ensures { IfOk result (λ all. length all.items ≡ length domains.items) }
+{
+    let Ok(room) = Vec::with_capacity(alloc, domains.len()) else {
+        finish_all(monitor, domains);
+        return Err(Memory);
+    };
+    let mut all: Vec<Running<'m, P>> = room;
+    let mut rest = domains.into_iter();
+    'rest: while let Some(domain) = rest.next() {
+        all.push_reserved(Running::new(monitor, domain));
+    }
+    rest.destroy_empty();
+    Ok(all)
+}
+
+// What was started: the threads in the order of their domains, and whether there is one for each.
+#[derive(Drop)]
+struct Started<'s, 'a> {
+    handles: Vec<PromisedHandle<Output, Part<'s, 'a>>>,
+    all: bool,
+}
+
+// Starts a thread for each domain, with its part. It waits for the start before it does anything. Behind a thread that is
+// refused none is started, and the domains that are left are finished.
+fn start_each<'s, 'a, E, R: Wait + Sync, P: Allows + Sync, G: Gate + Sync>(
+    scope: &'s Scope<'s, E>,
+    rt: &'s R,
+    alloc: Global,
+    domains: Vec<Running<'s, P>>,
+    parts: &'s [Part<'s, 'a>],
+    log: Option<&'s SharedLog>,
+    gate: &'s G,
+    start: &'s OnceLock<bool>,
+) -> Started<'s, 'a>
+    requires { length domains.items ≡ length parts.now }
+    ensures { IsTrue result.all → promised result.handles.items ≡ parts.entry.now }
+{
+    let mut handles = Vec::new(alloc);
+    let mut rest = domains.into_iter();
+    'parts: for part in parts {
+        let part = *part;
+        let Some(domain) = rest.next() else {
+            unreachable!()
+        };
+        match scope.spawn_with(
+            part,
+            move || -> Output
+                ensures { CameOf part.entry result }
+            { work(rt, alloc, domain, part, log, gate, start) },
+        ) {
+            Ok(handle) => {
+                if handles.push(handle).is_err() {
+                    return Started {
+                        handles,
+                        all: false,
+                    };
+                }
+            }
+            Err(_) => {
+                return Started {
+                    handles,
+                    all: false,
+                };
+            }
+        }
+    }
+    Started { handles, all: true }
+}
+
+// What was joined: how it went, the audit lines of the domains, and how many records were lost.
+#[derive(Drop)]
+struct Joined {
+    outcome: Result<(), RunFault>,
+    audit: Vec<u8>,
+    lost: u64,
+}
+
+// Writes what came of a domain's list, where all went well before: whole, or a beginning of it.
+fn write_next<W: Write>(
+    outcome: Result<(), RunFault>,
+    writer: &mut W,
+    output: &Output,
+) -> Result<(), RunFault>
+    ensures { OnOk result (IsOk outcome × IsTrue output.now.whole × Appends (W.contents writer.old) (W.contents writer.new) output.now.text.items) }
+{
+    outcome?;
+    write_text(writer, output.text.as_slice())?;
+    if output.whole {
+        Ok(())
+    } else {
+        Err(RunFault::from(Memory))
+    }
+}
+
+// Keeps the audit lines of a domain, where all went well before.
+fn keep_audit(
+    outcome: Result<(), RunFault>,
+    all: &mut Vec<u8>,
+    audit: Result<Vec<u8>, Memory>,
+) -> Result<(), RunFault>
+    ensures { OnOk result (IsOk outcome × IfOk audit (λ more. all.new.items ≡ all.old.items ++ more.items) × IsOk audit) }
+{
+    outcome?;
+    let more = audit?;
+    all.extend_from_slice(more.as_slice())?;
+    Ok(())
+}
+
+// Joins all threads in their order. The lines of each domain are written as it is joined, unless something failed before.
+fn join_each<'s, 'a, R: Threads, W: Write>(
+    rt: &R,
+    alloc: Global,
+    handles: Vec<PromisedHandle<Output, Part<'s, 'a>>>,
+    writer: &mut W,
+) -> Joined
+    ensures { OnOk result.outcome (WritesParts (promised handles.entry.items) (W.contents writer.old) (W.contents writer.new)
+        × AuditsParts (promised handles.entry.items) result.audit.items) }
+{
+    let mut outcome = Ok(());
+    let mut audit = Vec::new(alloc);
+    let mut lost: u64 = 0;
+    'joins: for handle in handles {
+        let output = handle.join(rt);
+        outcome = write_next(outcome, writer, &output);
+        lost = lost.saturating_add(output.lost);
+        outcome = keep_audit(outcome, &mut audit, output.audit);
+    }
+    Joined {
+        outcome,
+        audit,
+        lost,
+    }
+}
+
+// Joins threads that ran no list.
+fn join_idle<'s, 'a, R: Threads>(rt: &R, handles: Vec<PromisedHandle<Output, Part<'s, 'a>>>) {
+    'joins: for handle in handles {
+        let _ = handle.join(rt);
+    }
+}
+
+// Writes the audit lines of all domains, and how many records were lost.
+fn write_audit<W: Write>(
+    alloc: Global,
+    writer: &mut W,
+    audit: &[u8],
+    lost: u64,
+) -> Result<(), RunFault>
+    ensures { OnOk result (Appends (W.contents writer.old) (W.contents writer.new) (audit.now ++ lost_text lost)) }
+{
+    let mut last = Vec::from_slice(alloc, audit)?;
+    push_lost(&mut last, lost)?;
+    finish(writer, last.as_slice())?;
+    Ok(())
+}
+
+// A writer on its way back out of a scope, and how it went there.
+#[derive(Drop)]
+struct Written<'w, W> {
+    writer: &'w mut W,
+    outcome: Result<(), RunFault>,
+}
+
+// Takes a writer back that was lent.
+fn take_back<W>(writer: &mut W)
+    ensures { writer.new ≡ writer.old }
+{}
+
+// Writes what the threads print, where there is one for each domain.
+fn write_each<'s, 'a, R: Threads, W: Write>(
+    rt: &R,
+    alloc: Global,
+    handles: Vec<PromisedHandle<Output, Part<'s, 'a>>>,
+    all: bool,
+    writer: &mut W,
+) -> Result<(), RunFault>
+    ensures all { OnOk result (IsTrue all × WritesAll (promised handles.entry.items) (W.contents writer.old) (W.contents writer.new)) }
+{
+    if !all {
+        join_idle(rt, handles);
+        return Err(RunFault::Thread);
+    }
+    let Joined {
+        outcome,
+        audit,
+        lost,
+    } = join_each(rt, alloc, handles, writer);
+    outcome?;
+    write_audit(alloc, writer, audit.as_slice(), lost)
+}
+
+/// Gives each domain a thread of its own, with its part, and writes what they print: the lines of each domain as it is
+/// joined, in their order, and then their audit lines. No list begins before all threads stand; where one is refused no
+/// list runs.
+pub fn run_each<'a, R: Threads + Wait + Sync, P: Allows + Sync, G: Gate + Sync, W: Write>(
+    rt: &R,
+    alloc: Global,
+    domains: Vec<Running<'_, P>>,
+    parts: &[Part<'_, 'a>],
+    log: Option<&SharedLog>,
+    gate: &G,
+    writer: &mut W,
+) -> Result<(), RunFault>
+    requires { length domains.items ≡ length parts.now }
+    ensures { OnOk result (WritesAll parts.now (W.contents writer.old) (W.contents writer.new)) }
+{
+    let start = OnceLock::new();
+    let start = &start;
+    let Written { writer, outcome } = thread::scope(
+        thread::scope_env(),
+        rt,
+        move |scope| -> Written<'_, W>
+            requires { length domains.items ≡ length parts.now }
+            ensures same { result.writer.ghost_name ≡ writer.entry.ghost_name }
+            ensures text { OnOk result.outcome (WritesAll parts.entry.now (W.contents writer.entry.now) (W.contents result.writer.now)) }
+        {
+            let Started { handles, all } = start_each(
+                scope, rt, alloc, domains, parts, log, gate, start,
+            );
+            let _ = start.try_set(all);
+            let outcome = write_each(rt, alloc, handles, all, writer);
+            Written { writer, outcome }
+        },
+    );
+    take_back(writer);
+    outcome
+}
+
+/// Runs parts over a monitor that starts with this configuration and these rights.
+pub fn run_lists<'a, R: Threads + Wait + Sync, P: Allows + Drop + Sync, G: Gate + Sync, W: Write>(
+    rt: &R,
+    alloc: Global,
+    config: Config,
+    rights: P,
+    parts: &[Part<'_, 'a>],
+    log: Option<&SharedLog>,
+    gate: &G,
+    writer: &mut W,
+) -> Result<(), RunFault>
+    requires faultless { AreFaultless config.domains.items }
+    requires some { 1 ≤ length config.domains.items }
+    requires generation { config.first_gen ≤ LAST_GENERATION }
+    requires each { length config.domains.items ≡ length parts.now }
+    ensures { OnOk result (WritesAll parts.now (W.contents writer.old) (W.contents writer.new)) }
+{
+    match Monitor::new(alloc, config, rights) {
+        Ok((monitor, domains)) => {
+            let domains = all_running(alloc, &monitor, domains)?;
+            run_each(rt, alloc, domains, parts, log, gate, writer)
+        }
+        Err(StartFault::Memory) => Err(RunFault::from(Memory)),
+        Err(StartFault::Config(_)) => unreachable!(),
+    }
+}

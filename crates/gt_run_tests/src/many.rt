@@ -1,0 +1,60 @@
+//! Many domains with long lists.
+use crate::gates::Meeting;
+use crate::scripts::run_text;
+use std::alloc::{AllocError, Global};
+use std::fmt::Write;
+use std::test::Fail;
+
+const DOMAINS: u16 = 16;
+
+const ROUNDS: u16 = 250;
+
+// The script, whose body begins at line 18: all domains meet, and then each does what no other sees, four calls a round.
+fn script(alloc: Global) -> Result<String, AllocError> {
+    let mut text = String::new(alloc);
+    let _ = writeln!(text, "triple a_t a_t map_read");
+    for id in 1..DOMAINS + 1 {
+        let _ = writeln!(text, "domain {id} u:r:a_t 8 1 1");
+    }
+    for id in 1..DOMAINS + 1 {
+        let _ = writeln!(text, "tell {id} x");
+        let _ = writeln!(text, "await {id} x");
+        for round in 0..ROUNDS {
+            let _ = writeln!(text, "do {id} poke 3 {round} {:02x}", id);
+            let _ = writeln!(text, "do {id} peek 3 {round} 1");
+            let _ = writeln!(text, "do {id} grant {round} page 1 ro 3");
+            let _ = writeln!(text, "do {id} revoke {round}");
+        }
+    }
+    Ok(text)
+}
+
+// What it prints.
+fn answers(alloc: Global) -> Result<String, AllocError> {
+    let mut text = String::new(alloc);
+    let mut line: u32 = 17;
+    for id in 1..DOMAINS + 1 {
+        line = line.wrapping_add(2);
+        for _ in 0..ROUNDS {
+            let _ = writeln!(text, "{} {id} ok", line.wrapping_add(1));
+            let _ = writeln!(text, "{} {id} ok {:02x}", line.wrapping_add(2), id);
+            let _ = writeln!(text, "{} {id} ok", line.wrapping_add(3));
+            let _ = writeln!(text, "{} {id} ok", line.wrapping_add(4));
+            line = line.wrapping_add(4);
+        }
+    }
+    Ok(text)
+}
+
+#[test]
+fn sixteen_domains_print_the_same_in_each_run(rt: HostRuntime) -> Result<(), Fail> {
+    let alloc = rt.alloc();
+    let script = script(alloc)?;
+    let wanted = answers(alloc)?;
+    for _ in 0..2 {
+        let gate = Meeting::of(u64::from(DOMAINS));
+        let out = run_text(&rt, alloc, script.as_str(), None, &gate)?;
+        assert!(rt; out.as_slice() == wanted.as_bytes());
+    }
+    Ok(())
+}
