@@ -36,7 +36,10 @@ fn perform<R: Read, W: Write>(
     ensures { OfInput (R.remaining reader.old) (λ input. Performs work input (W.contents out.old) (W.contents out.new) result) }
 {
     match work {
-        Work::Play { audit } => gt_host::play(alloc, reader, out, audit).map_err(Failure::Play),
+        Work::Play { audit } => match gt_host::play(alloc, reader, out, audit) {
+            Ok(()) => Ok(()),
+            Err(fault) => Err(Failure::Play(fault)),
+        },
         Work::List => policy(alloc, reader, out).map_err(Failure::List),
     }
 }
