@@ -13,7 +13,7 @@ use Rattle.clap.proofs.FaultLemmas.{stopped_fault}
 use Rattle.gt_program.specs.CommandLine.{gthost_app, command_name, takes_audit, is_set, Word, mark, help, version, audit, flag, plain, word_of, long_flag, short_flag, Request, to_do, for_help, for_version, nothing, asked_by, asked_by_audit, asked_behind_mark, asked_of, asked_of_none, asked, refusals, IsPlanFor, IsPlanOf}
 use Rattle.gt_program.specs.declared.plan.Invocation.{Invocation}
 use Rattle.gt_program.specs.declared.plan.Mode.{Mode}
-use Rattle.gt_program.specs.declared.plan.Mode.TheVariants.{Play, Policy, Rules}
+use Rattle.gt_program.specs.declared.plan.Mode.TheVariants.{Play, Run, Policy, Rules}
 use Rattle.clap.specs.declared.error.Error.{Error}
 use Rattle.clap.specs.Matches.{subcommand_name_of}
 use Rattle.clap.specs.declared.parser.matches.ArgMatches.{ArgMatches}
@@ -36,18 +36,21 @@ gthost_is_simple = refl
 -- the kinds with which the words behind a command are refused
 command_fault : Mode → List Text → Kinds
 command_fault Play words = audited.command_fault Play words
+command_fault Run words = audited.command_fault Run words
 command_fault Policy words = bare.command_fault Policy words
 command_fault Rules words = bare.command_fault Rules words
 
 -- the rows of the words behind a command
 rows_in : Mode → List Text → List Row
 rows_in Play words = audited.rows_in Play words
+rows_in Run words = audited.rows_in Run words
 rows_in Policy words = bare.rows_in Policy words
 rows_in Rules words = bare.rows_in Rules words
 
 command_words : (mode : Mode) (words : List Text) → SaysLine (asked_of mode false None words) (command_fault mode words) (rows_in mode words)
 unfolding command_fault rows_in
 command_words Play words = audited.command_words Play refl words
+command_words Run words = audited.command_words Run refl words
 command_words Policy words = bare.command_words Policy refl words
 command_words Rules words = bare.command_words Rules refl words
 
@@ -109,41 +112,41 @@ Strays kinds next audit = Wrong kinds
 Strays kinds next flag = Wrong kinds
 Strays kinds next plain = Wrong kinds
 
-module _ (word : Text) (no_play : bytes_eq (codes "play") word ≡ false) (no_policy : bytes_eq (codes "policy") word ≡ false) (no_rules : bytes_eq (codes "rules") word ≡ false) where
+module _ (word : Text) (no_play : bytes_eq (codes "play") word ≡ false) (no_run : bytes_eq (codes "run") word ≡ false) (no_policy : bytes_eq (codes "policy") word ≡ false) (no_rules : bytes_eq (codes "rules") word ≡ false) where
   abbrev Strayed : Word → Type 0
   Strayed = Strays (top_kinds word) (top_next word)
 
   stray_mark : bytes_eq word (codes "--") ≡ true → Strayed mark
   unfolding walked
-  stray_mark e = (rw (no_play, no_policy, no_rules, e) refl, rw (no_play, no_policy, no_rules, e) refl)
+  stray_mark e = (rw (no_play, no_run, no_policy, no_rules, e) refl, rw (no_play, no_run, no_policy, no_rules, e) refl)
 
   stray_plain : bytes_eq word (codes "--") ≡ false → long_of word ≡ None → short_of word ≡ None → Strayed plain
   unfolding walked
-  stray_plain e l s = rw (no_play, no_policy, no_rules, e, l, s) stray
+  stray_plain e l s = rw (no_play, no_run, no_policy, no_rules, e, l, s) stray
 
   stray_long : (name : Text) (value : Option Text) → bytes_eq word (codes "--") ≡ false → long_of word ≡ Some (name, value) → Named name → Strayed (long_flag name value)
   unfolding walked
-  stray_long _ None e l help_name = rw (no_play, no_policy, no_rules, e, l) refl
-  stray_long _ (Some value) e l help_name = rw (no_play, no_policy, no_rules, e, l) valued
-  stray_long _ None e l version_name = rw (no_play, no_policy, no_rules, e, l) refl
-  stray_long _ (Some value) e l version_name = rw (no_play, no_policy, no_rules, e, l) valued
-  stray_long _ None e l audit_name = rw (no_play, no_policy, no_rules, e, l) unknown
-  stray_long _ (Some value) e l audit_name = rw (no_play, no_policy, no_rules, e, l) unknown
-  stray_long name None e l (other_name _ h v a) = rw (no_play, no_policy, no_rules, e, l, h, v, a) unknown
-  stray_long name (Some value) e l (other_name _ h v a) = rw (no_play, no_policy, no_rules, e, l, h, v) unknown
+  stray_long _ None e l help_name = rw (no_play, no_run, no_policy, no_rules, e, l) refl
+  stray_long _ (Some value) e l help_name = rw (no_play, no_run, no_policy, no_rules, e, l) valued
+  stray_long _ None e l version_name = rw (no_play, no_run, no_policy, no_rules, e, l) refl
+  stray_long _ (Some value) e l version_name = rw (no_play, no_run, no_policy, no_rules, e, l) valued
+  stray_long _ None e l audit_name = rw (no_play, no_run, no_policy, no_rules, e, l) unknown
+  stray_long _ (Some value) e l audit_name = rw (no_play, no_run, no_policy, no_rules, e, l) unknown
+  stray_long name None e l (other_name _ h v a) = rw (no_play, no_run, no_policy, no_rules, e, l, h, v, a) unknown
+  stray_long name (Some value) e l (other_name _ h v a) = rw (no_play, no_run, no_policy, no_rules, e, l, h, v) unknown
 
   stray_letter : (x : ℕ) (flags : Text) (letter : ℕ) → bytes_eq word (codes "--") ≡ false → long_of word ≡ None
       → short_of word ≡ Some (x ∷ flags) → slice_get (chars (x ∷ flags)) 0 ≡ Some letter → Lettered letter → Strayed (short_flag (Some letter))
   unfolding walked flags_fault bundle_met
-  stray_letter x flags letter e l s c (letter_of_help _ h) = rw (no_play, no_policy, no_rules, e, l, s, c, h) refl
-  stray_letter x flags letter e l s c (letter_of_version _ h v) = rw (no_play, no_policy, no_rules, e, l, s, c, h, v) refl
-  stray_letter x flags letter e l s c (other_letter _ h v) = rw (no_play, no_policy, no_rules, e, l, s, c, h, v) unknown
+  stray_letter x flags letter e l s c (letter_of_help _ h) = rw (no_play, no_run, no_policy, no_rules, e, l, s, c, h) refl
+  stray_letter x flags letter e l s c (letter_of_version _ h v) = rw (no_play, no_run, no_policy, no_rules, e, l, s, c, h, v) refl
+  stray_letter x flags letter e l s c (other_letter _ h v) = rw (no_play, no_run, no_policy, no_rules, e, l, s, c, h, v) unknown
 
   stray_no_letter : (flags : Text) → bytes_eq word (codes "--") ≡ false → long_of word ≡ None
       → short_of word ≡ Some flags → slice_get (chars flags) 0 ≡ None → Strayed plain
   unfolding walked flags_fault bundle_met
-  stray_no_letter [] e l s c = rw (no_play, no_policy, no_rules, e, l, s) stray
-  stray_no_letter (x ∷ flags) e l s c = rw (no_play, no_policy, no_rules, e, l, s, c) stray
+  stray_no_letter [] e l s c = rw (no_play, no_run, no_policy, no_rules, e, l, s) stray
+  stray_no_letter (x ∷ flags) e l s c = rw (no_play, no_run, no_policy, no_rules, e, l, s, c) stray
 
   strays : Strayed (word_of word)
   strays = word_goes Strayed word stray_mark stray_plain stray_long stray_letter stray_no_letter
@@ -176,13 +179,17 @@ play_is : (word : Text) → bytes_eq (codes "play") word ≡ true → Enters Pla
 unfolding walked
 play_is word e = (rw e refl, rw e refl)
 
-policy_is : (word : Text) → bytes_eq (codes "play") word ≡ false → bytes_eq (codes "policy") word ≡ true → Enters Policy word
+run_is : (word : Text) → bytes_eq (codes "play") word ≡ false → bytes_eq (codes "run") word ≡ true → Enters Run word
 unfolding walked
-policy_is word no_play e = (rw (no_play, e) refl, rw (no_play, e) refl)
+run_is word no_play e = (rw (no_play, e) refl, rw (no_play, e) refl)
 
-rules_is : (word : Text) → bytes_eq (codes "play") word ≡ false → bytes_eq (codes "policy") word ≡ false → bytes_eq (codes "rules") word ≡ true → Enters Rules word
+policy_is : (word : Text) → bytes_eq (codes "play") word ≡ false → bytes_eq (codes "run") word ≡ false → bytes_eq (codes "policy") word ≡ true → Enters Policy word
 unfolding walked
-rules_is word no_play no_policy e = (rw (no_play, no_policy, e) refl, rw (no_play, no_policy, e) refl)
+policy_is word no_play no_run e = (rw (no_play, no_run, e) refl, rw (no_play, no_run, e) refl)
+
+rules_is : (word : Text) → bytes_eq (codes "play") word ≡ false → bytes_eq (codes "run") word ≡ false → bytes_eq (codes "policy") word ≡ false → bytes_eq (codes "rules") word ≡ true → Enters Rules word
+unfolding walked
+rules_is word no_play no_run no_policy e = (rw (no_play, no_run, no_policy, e) refl, rw (no_play, no_run, no_policy, e) refl)
 
 or_nothing : (kinds : Kinds) → or_else kinds [] ≡ kinds
 or_nothing [] = refl
@@ -191,6 +198,7 @@ or_nothing (k ∷ ks) = refl
 below_command : (mode : Mode) (rest : List Text) → top_ended (behind_command mode rest) ≡ command_fault mode rest
 unfolding defaults_fault walk_fault command_fault
 below_command Play rest = or_nothing (command_fault Play rest)
+below_command Run rest = or_nothing (command_fault Run rest)
 below_command Policy rest = or_nothing (command_fault Policy rest)
 below_command Rules rest = or_nothing (command_fault Rules rest)
 
@@ -208,6 +216,7 @@ sub_at end = entered (built gthost_app) end.stopped
 sub_behind : (mode : Mode) (rest : List Text) → sub_at (behind_command mode rest) ≡ Some (command_name mode, rows_in mode rest)
 unfolding rows_in
 sub_behind Play rest = refl
+sub_behind Run rest = refl
 sub_behind Policy rest = refl
 sub_behind Rules rest = refl
 
@@ -251,17 +260,18 @@ module _ (name word : Text) (rest : List Text) where
       with_command mode (asked_of mode false None rest) rest line_kinds line_end (asks_of mode false None rest)
       (ap₂ (λ (k : Kinds) (w : Walk). or_else k (top_ended w)) passes ends ∙ below_command mode rest) ends (command_words mode rest)
 
-  line_by : (a b c : Bool) → bytes_eq (codes "play") word ≡ a → bytes_eq (codes "policy") word ≡ b → bytes_eq (codes "rules") word ≡ c
-      → SaysAll (cond a (asked_of Play false None rest) (cond b (asked_of Policy false None rest) (cond c (asked_of Rules false None rest) (asked_of_none (word_of word))))) line_kinds (sub_at line_end)
-  line_by true b c e f g = command_line Play (play_is word e)
-  line_by false true c e f g = command_line Policy (policy_is word e f)
-  line_by false false true e f g = command_line Rules (rules_is word e f g)
-  line_by false false false e f g = without_command (word_of word) (top_kinds word) (top_next word) rest (sub_at line_end) (strays word e f g)
+  line_by : (a b c d : Bool) → bytes_eq (codes "play") word ≡ a → bytes_eq (codes "run") word ≡ b → bytes_eq (codes "policy") word ≡ c → bytes_eq (codes "rules") word ≡ d
+      → SaysAll (cond a (asked_of Play false None rest) (cond b (asked_of Run false None rest) (cond c (asked_of Policy false None rest) (cond d (asked_of Rules false None rest) (asked_of_none (word_of word)))))) line_kinds (sub_at line_end)
+  line_by true b c d e f g h = command_line Play (play_is word e)
+  line_by false true c d e f g h = command_line Run (run_is word e f)
+  line_by false false true d e f g h = command_line Policy (policy_is word e f g)
+  line_by false false false true e f g h = command_line Rules (rules_is word e f g h)
+  line_by false false false false e f g h = without_command (word_of word) (top_kinds word) (top_next word) rest (sub_at line_end) (strays word e f g h)
 
   line_says : SaysAll (asked (word ∷ rest)) (fault_of gthost_app (name ∷ word ∷ rest)) (subcommand_of gthost_app (name ∷ word ∷ rest))
   line_says =
       let said : SaysAll (asked (word ∷ rest)) line_kinds (sub_at line_end) =
-      line_by (bytes_eq (codes "play") word) (bytes_eq (codes "policy") word) (bytes_eq (codes "rules") word) refl refl refl in
+      line_by (bytes_eq (codes "play") word) (bytes_eq (codes "run") word) (bytes_eq (codes "policy") word) (bytes_eq (codes "rules") word) refl refl refl refl in
       subst (λ (k : Kinds). SaysAll (asked (word ∷ rest)) k (sub_at line_end)) (sym line_kinds_are) said
 
 no_words : (words : List Text) → drop 1 words ≡ [] → Wrong (fault_of gthost_app words)
@@ -306,13 +316,20 @@ refusal nothing kinds sub e says has = refusal_of_wrong e says has
 -- a parse that succeeds is of a line that asks for a command, and so is its plan
 same_command : (mode other : Mode) → command_name mode ≡ command_name other → other ≡ mode
 same_command Play Play e = refl
+same_command Run Run e = refl
 same_command Policy Policy e = refl
 same_command Rules Rules e = refl
+same_command Play Run e = absurd cc
 same_command Play Policy e = absurd cc
 same_command Play Rules e = absurd cc
+same_command Run Play e = absurd cc
+same_command Run Policy e = absurd cc
+same_command Run Rules e = absurd cc
 same_command Policy Play e = absurd cc
+same_command Policy Run e = absurd cc
 same_command Policy Rules e = absurd cc
 same_command Rules Play e = absurd cc
+same_command Rules Run e = absurd cc
 same_command Rules Policy e = absurd cc
 
 pub planned : (request : Request) (kinds : Kinds) (sub : Option (Text × List Row)) (p : Invocation) → SaysAll request kinds sub → kinds ≡ [] → IsPlanOf p sub → IsPlanFor request p

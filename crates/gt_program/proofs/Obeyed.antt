@@ -52,6 +52,7 @@ out_of_memory : (mode : Mode) (audited : Bool) (name : Option (List ℕ)) (file 
     → Obeys (to_do mode audited name) file input old new status
 out_of_memory modes.Play audited name file input old new status is = no_memory (known_text file input name) old new (Play audited) status is
 out_of_memory modes.Policy audited name file input old new status is = no_memory (known_text file input name) old new ListPolicy status is
+out_of_memory modes.Run audited name file input old new status is = omega arith
 out_of_memory modes.Rules audited name file input old new status is = omega arith
 
 -- it was refused

@@ -12,7 +12,7 @@ use Rattle.clap.specs.declared.error.kind.ErrorKind.TheVariants.{ArgumentConflic
 use Rattle.clap.specs.declared.parser.matches.ArgMatches.{ArgMatches}
 use Rattle.gt_program.specs.declared.plan.Invocation.{Invocation}
 use Rattle.gt_program.specs.declared.plan.Mode.{Mode}
-use Rattle.gt_program.specs.declared.plan.Mode.TheVariants.{Play, Policy, Rules}
+use Rattle.gt_program.specs.declared.plan.Mode.TheVariants.{Play, Run, Policy, Rules}
 
 -- [FILE] (own)
 abbrev pub file_rule : Rule
@@ -25,12 +25,14 @@ audit_rule = record (new_rule (codes "audit")) { long = Some (codes "audit"); ac
 -- the names of the commands (own)
 abbrev pub command_name : Mode → Text
 command_name Play = codes "play"
+command_name Run = codes "run"
 command_name Policy = codes "policy"
 command_name Rules = codes "rules"
 
 -- the command takes the flag `--audit` (own)
 abbrev pub takes_audit : Mode → Bool
 takes_audit Play = true
+takes_audit Run = true
 takes_audit Policy = false
 takes_audit Rules = false
 
@@ -47,10 +49,13 @@ abbrev pub bare_app : App
 bare_app = on_top (λ s. record s { has_version = true; subcommand_required = true; disable_help_subcommand = true })
     (new_app (codes "gthost"))
 
--- gthost COMMAND, of three commands; there is no command `help` (own)
+-- gthost COMMAND, of the two commands that run a script (own)
+abbrev pub runners_app : App
+runners_app = with_subcommand (with_subcommand bare_app (audited_app (codes "play")).top) (audited_app (codes "run")).top
+
+-- gthost COMMAND, of four commands; there is no command `help` (own)
 abbrev pub gthost_app : App
-gthost_app = with_subcommand (with_subcommand (with_subcommand bare_app (audited_app (codes "play")).top)
-    (command_app (codes "policy")).top) (command_app (codes "rules")).top
+gthost_app = with_subcommand (with_subcommand runners_app (command_app (codes "policy")).top) (command_app (codes "rules")).top
 
 -- the flag is set by these rows (own)
 abbrev pub is_set : Text → List Row → Bool
@@ -147,8 +152,9 @@ asked_of_none _ = nothing
 abbrev pub asked : List Text → Request
 asked [] = nothing
 asked (word ∷ rest) = if bytes_eq (codes "play") word then asked_of Play false None rest
+    else (if bytes_eq (codes "run") word then asked_of Run false None rest
     else (if bytes_eq (codes "policy") word then asked_of Policy false None rest
-    else (if bytes_eq (codes "rules") word then asked_of Rules false None rest else asked_of_none (word_of word)))
+    else (if bytes_eq (codes "rules") word then asked_of Rules false None rest else asked_of_none (word_of word))))
 
 -- what is answered
 

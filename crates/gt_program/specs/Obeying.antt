@@ -7,6 +7,7 @@ use Rattle.gt_script.specs.Script.{Tells}
 use Rattle.gt_streams.specs.Texts.{read_word}
 use Rattle.gt_host.specs.Faults.{play_fault_text}
 use Rattle.gt_host.specs.Playing.{Played}
+use Rattle.gt_run.specs.Faults.{run_fault_text}
 use Rattle.gt_listing.specs.Faults.{listing_fault_text}
 use Rattle.gt_listing.specs.Writing.{Listed}
 use Rattle.gt_program.specs.CommandLine.{Request, to_do, for_help, for_version, nothing}
@@ -19,6 +20,7 @@ use Rattle.gt_program.specs.declared.obeying.Work.TheVariants.{Play, List as Lis
 -- the line for a failure (own)
 abbrev pub failure_text : Failure → List ℕ
 failure_text (failures.Play fault) = codes "gthost: " ++ play_fault_text fault
+failure_text (failures.Run fault) = codes "gthost: " ++ run_fault_text fault
 failure_text (failures.List fault) = codes "gthost: " ++ listing_fault_text fault
 failure_text (failures.File fault) = codes "gthost: " ++ read_word fault
 failure_text (failures.Help fault) = codes "gthost: write"
@@ -33,6 +35,7 @@ status_of (Err failure) = 1
 abbrev pub Performs : Work → List ℕ → Option (List ℕ) → Option (List ℕ) → Result (Unit {0}) Failure → Type 0
 Performs (Play audited) input old new (Ok done) = Played (Tells input) audited old new (Ok done)
 Performs (Play audited) input old new (Err (failures.Play fault)) = Played (Tells input) audited old new (Err fault)
+Performs (Play audited) input old new (Err (failures.Run fault)) = ⊥
 Performs (Play audited) input old new (Err (failures.List fault)) = ⊥
 Performs (Play audited) input old new (Err (failures.File fault)) = ⊥
 Performs (Play audited) input old new (Err (failures.Help fault)) = ⊥
@@ -40,6 +43,7 @@ Performs (Play audited) input old new (Err failures.Memory) = ⊥
 Performs ListPolicy input old new (Ok done) = Listed input old new (Ok done)
 Performs ListPolicy input old new (Err (failures.List fault)) = Listed input old new (Err fault)
 Performs ListPolicy input old new (Err (failures.Play fault)) = ⊥
+Performs ListPolicy input old new (Err (failures.Run fault)) = ⊥
 Performs ListPolicy input old new (Err (failures.File fault)) = ⊥
 Performs ListPolicy input old new (Err (failures.Help fault)) = ⊥
 Performs ListPolicy input old new (Err failures.Memory) = ⊥
@@ -48,6 +52,7 @@ Performs ListPolicy input old new (Err failures.Memory) = ⊥
 abbrev pub IsUnopened : Option (List ℕ) → Option (List ℕ) → Result (Unit {0}) Failure → Type 0
 IsUnopened old new (Ok done) = ⊥
 IsUnopened old new (Err (failures.Play fault)) = ⊥
+IsUnopened old new (Err (failures.Run fault)) = ⊥
 IsUnopened old new (Err (failures.List fault)) = ⊥
 IsUnopened old new (Err (failures.File fault)) = Keeps old new
 IsUnopened old new (Err (failures.Help fault)) = ⊥
@@ -74,11 +79,12 @@ abbrev pub Works : Work → Option (List ℕ) → Option (List ℕ) → Option (
 Works work known old new status =
     IfSome known (λ bytes. (r : Result (Unit {0}) Failure) × (status ≡ status_of r) × (Runs work bytes old new r ⊎ (r ≡ Err failures.Memory)))
 
--- The exit status fits what was asked for, and what was written does: work that was done, the rules, where the status is 2
+-- The exit status fits what was asked for, and what was written does: work that was done, the domains of a script that were run, the rules, where the status is 2
 -- for the name of none, help, the version, or nothing for words that ask for nothing, whose status is 2. Want of memory is
 -- 1 for all of them. (own)
 abbrev pub Obeys : Request → (List ℕ → Option (List ℕ)) → Option (List ℕ) → Option (List ℕ) → Option (List ℕ) → ℕ → Type 0
 Obeys (to_do modes.Play audited name) file input old new status = Works (Play audited) (known_text file input name) old new status
+Obeys (to_do modes.Run audited name) file input old new status = status ≤ 1
 Obeys (to_do modes.Policy audited name) file input old new status = Works ListPolicy (known_text file input name) old new status
 Obeys (to_do modes.Rules audited name) file input old new status = status ≤ 2
 Obeys for_help file input old new status = status ≤ 1

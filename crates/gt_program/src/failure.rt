@@ -4,6 +4,7 @@ ghost use Rattle.gt_program.specs.Obeying.{status_of};
 
 use gt_host::PlayFault;
 use gt_listing::Fault;
+use gt_run::RunFault;
 use gt_streams::{ReadFault, WriteFault};
 use std::error::Error;
 use std::fmt;
@@ -13,6 +14,8 @@ use std::fmt;
 pub enum Failure {
     /// A script was not played to its end.
     Play(PlayFault),
+    /// The domains of a script were not run to their end.
+    Run(RunFault),
     /// A policy was not listed to its end.
     List(Fault),
     /// The file can't be opened. Nothing was written.
@@ -32,6 +35,7 @@ impl fmt::Display for Failure {
     fn fmt<W: fmt::Write>(&self, f: &mut fmt::Formatter<W>) -> fmt::Result {
         match self {
             Failure::Play(fault) => write!(f, "gthost: {fault}"),
+            Failure::Run(fault) => write!(f, "gthost: {fault}"),
             Failure::List(fault) => write!(f, "gthost: {fault}"),
             Failure::File(fault) => write!(f, "gthost: {fault}"),
             Failure::Help(fault) => write!(f, "gthost: {fault}"),

@@ -12,10 +12,14 @@ use crate::rules::tell_rules;
 use crate::texts::Texts;
 use clap::Error;
 use clap::error::ErrorKind;
+use gt_audit::SharedLog;
 use gt_listing::policy;
+use gt_run::{Flags, run};
 use gt_streams::WriteFault;
 use std::alloc::Global;
 use std::io::{Read, Write};
+use std::sync::Wait;
+use std::thread::Threads;
 
 /// What is done with a text.
 #[derive(Clone, Copy)]
@@ -99,8 +103,48 @@ fn refuse<W: Write, E: Eprint>(out: &mut W, err: &E, error: &Error) -> u8
     2
 }
 
+// Runs the script of a reader, its domains in threads.
+fn run_script<R: Threads + Wait + Sync, I: Read, W: Write>(
+    rt: &R,
+    alloc: Global,
+    audit: bool,
+    reader: &mut I,
+    out: &mut W,
+) -> Result<(), Failure> {
+    let Ok(gate) = Flags::new(rt, alloc) else {
+        return Err(Failure::Memory);
+    };
+    let Ok(log) = SharedLog::new(alloc) else {
+        return Err(Failure::Memory);
+    };
+    let shared = if audit { Some(&log) } else { None };
+    match run(rt, alloc, reader, out, shared, &gate) {
+        Ok(()) => Ok(()),
+        Err(fault) => Err(Failure::Run(fault)),
+    }
+}
+
+// Runs the script of the file that is named, or of the standard input.
+fn run_on<R: Threads + Wait + Sync, T: Texts, W: Write>(
+    rt: &R,
+    alloc: Global,
+    texts: &T,
+    invocation: &Invocation,
+    out: &mut W,
+) -> Result<(), Failure> {
+    let audit = invocation.audit;
+    let Some(name) = invocation.file else {
+        return run_script(rt, alloc, audit, &mut texts.input(), out);
+    };
+    match texts.open(name) {
+        Ok(mut file) => run_script(rt, alloc, audit, &mut file, out),
+        Err(fault) => Err(Failure::File(fault)),
+    }
+}
+
 // Does what the plan says.
-fn follow<T: Texts, W: Write, E: Eprint>(
+fn follow<R: Threads + Wait + Sync, T: Texts, W: Write, E: Eprint>(
+    rt: &R,
     alloc: Global,
     texts: &T,
     invocation: &Invocation,
@@ -113,6 +157,7 @@ fn follow<T: Texts, W: Write, E: Eprint>(
     let work = match invocation.mode {
         Mode::Play => Work::Play { audit },
         Mode::Policy => Work::List,
+        Mode::Run => return report(err, run_on(rt, alloc, texts, invocation, out)),
         Mode::Rules => return tell_rules(out, err, invocation.file),
     };
     report(err, perform_on(alloc, texts, work, invocation.file, out))
@@ -121,9 +166,10 @@ fn follow<T: Texts, W: Write, E: Eprint>(
 /// Does what the words of a command line ask for, the program's name first, and answers the exit
 /// status. Texts, rules, help and version go to `out`; a fault goes to `err`, in one line.
 ///
-/// The status is 0 for success, 1 for a fault of script, policy, file or memory or for a text that was not
+/// The status is 0 for success, 1 for a fault of script, policy, file, memory or thread or for a text that was not
 /// written, and 2 where the words ask for nothing that the program does.
-pub fn obey<T: Texts, W: Write, E: Eprint>(
+pub fn obey<R: Threads + Wait + Sync, T: Texts, W: Write, E: Eprint>(
+    rt: &R,
     alloc: Global,
     texts: &T,
     words: &[String],
@@ -133,7 +179,7 @@ pub fn obey<T: Texts, W: Write, E: Eprint>(
     ensures { Obeys (asked (drop 1 (map string_bytes words.now))) (T.file texts.now) (T.input texts.now) (W.contents out.old) (W.contents out.new) result }
 {
     match plan(alloc, words) {
-        Ok(invocation) => follow(alloc, texts, &invocation, out, err),
+        Ok(invocation) => follow(rt, alloc, texts, &invocation, out, err),
         Err(error) => refuse(out, err, &error),
     }
 }

@@ -1,8 +1,8 @@
 //! The command line.
 ghost use Rattle.std.specs.Prelude.{◌≡◌, IfOk, false, map, drop, string_bytes, codes};
-ghost use Rattle.clap.specs.Words.{subcommand_of, app_of, rows_of, found_of};
+ghost use Rattle.clap.specs.Words.{subcommand_of, app_of, rows_of, rule_of, found_of};
 ghost use Rattle.clap.specs.declared.builder.command.Command.TheViews.{out-Command as fields_of};
-ghost use Rattle.gt_program.specs.CommandLine.{audited_app, bare_app, command_app, gthost_app, asked, is_set, IsAnswerTo, IsPlanOf, IsRead};
+ghost use Rattle.gt_program.specs.CommandLine.{audit_rule, audited_app, bare_app, command_app, runners_app, gthost_app, asked, is_set, IsAnswerTo, IsPlanOf, IsRead};
 
 use clap::{Arg, ArgAction, ArgMatches, Command, Error};
 use std::alloc::{AllocError, Global};
@@ -12,6 +12,8 @@ use std::alloc::{AllocError, Global};
 pub enum Mode {
     /// Run a script on the core.
     Play,
+    /// Run a script's domains in threads.
+    Run,
     /// List what a policy allows.
     Policy,
     /// Tell the rules by which calls are refused.
@@ -37,9 +39,20 @@ A policy has at most 1048576 bytes, 256 types, 256 attributes and 65536 allow st
 const MORE: &str =
     "A script says what the policy allows, which domains there are and what they call.
 An answer such as `N19 -1` names the rule that refused the call, and its status: see `gthost rules`.
-The exit status is 0 for success, 1 for a fault of script, policy, file or memory, and 2 for a wrong command line.
+The exit status is 0 for success, 1 for a fault of script, policy, file, memory or thread, and 2 for a wrong command line.
 Try: gthost play examples/first.gt
-and: gthost policy examples/split_driver.te";
+     gthost run examples/ring.gt
+     gthost policy examples/split_driver.te";
+
+fn audit_flag<'a>(alloc: Global) -> Arg<'a>
+    ensures rule { rule_of result ≡ audit_rule }
+    ensures local { result.global ≡ false }
+{
+    Arg::new(alloc, "audit")
+        .long("audit")
+        .action(ArgAction::SetTrue)
+        .help("Prints a line for each hypercall too, behind all others")
+}
 
 fn play_command<'a>(alloc: Global) -> Result<Command<'a>, AllocError>
     ensures { IfOk result (λ c. (app_of c ≡ audited_app (codes "play")) × ((fields_of c).has_globals ≡ false)) }
@@ -47,14 +60,24 @@ fn play_command<'a>(alloc: Global) -> Result<Command<'a>, AllocError>
     let file = Arg::new(alloc, "file")
         .value_name("FILE")
         .help("The script; standard input where it is left out");
-    let audit = Arg::new(alloc, "audit")
-        .long("audit")
-        .action(ArgAction::SetTrue)
-        .help("Prints a line for each hypercall too, behind all others");
     Command::new(alloc, "play")
         .about("Runs a script line by line, and prints a line for each answer")
         .arg(file)?
-        .arg(audit)
+        .arg(audit_flag(alloc))
+}
+
+fn run_command<'a>(alloc: Global) -> Result<Command<'a>, AllocError>
+    ensures { IfOk result (λ c. (app_of c ≡ audited_app (codes "run")) × ((fields_of c).has_globals ≡ false)) }
+{
+    let file = Arg::new(alloc, "file")
+        .value_name("FILE")
+        .help("The script; standard input where it is left out");
+    Command::new(alloc, "run")
+        .about(
+            "Runs each domain of a script in a thread of its own, and prints its answers in its order",
+        )
+        .arg(file)?
+        .arg(audit_flag(alloc))
 }
 
 fn policy_command<'a>(alloc: Global) -> Result<Command<'a>, AllocError>
@@ -95,16 +118,22 @@ fn bare_command<'a>(alloc: Global) -> Command<'a>
         .disable_help_subcommand(true)
 }
 
+// The program with the commands that run a script.
+fn runners_command<'a>(alloc: Global) -> Result<Command<'a>, AllocError>
+    ensures { IfOk result (λ c. (app_of c ≡ runners_app) × ((fields_of c).has_globals ≡ false)) }
+{
+    let play = play_command(alloc)?;
+    let run = run_command(alloc)?;
+    bare_command(alloc).subcommand(play)?.subcommand(run)
+}
+
 fn gthost_command<'a>(alloc: Global) -> Result<Command<'a>, AllocError>
     ensures { IfOk result (λ c. app_of c ≡ gthost_app) }
 {
-    let play = play_command(alloc)?;
+    let runners = runners_command(alloc)?;
     let policy = policy_command(alloc)?;
     let rules = rules_command(alloc)?;
-    bare_command(alloc)
-        .subcommand(play)?
-        .subcommand(policy)?
-        .subcommand(rules)
+    runners.subcommand(policy)?.subcommand(rules)
 }
 
 // Whether a flag was given.
@@ -138,6 +167,9 @@ pub fn plan<'a>(alloc: Global, words: &'a [String]) -> Result<Invocation<'a>, Er
     let matches = command.try_get_matches_from(words)?;
     if let Some(matches) = matches.subcommand_matches("play") {
         return Ok(plan_of(Mode::Play, matches));
+    }
+    if let Some(matches) = matches.subcommand_matches("run") {
+        return Ok(plan_of(Mode::Run, matches));
     }
     if let Some(matches) = matches.subcommand_matches("policy") {
         return Ok(plan_of(Mode::Policy, matches));

@@ -7,6 +7,8 @@ use std::alloc::Global;
 use std::fs::File;
 use std::io::{self, ErrorKind};
 use std::rt::Runtime;
+use std::sync::Wait;
+use std::thread::Threads;
 
 /// The files and the standard input of the system.
 #[derive(Drop)]
@@ -39,7 +41,7 @@ fn words_of<R: Runtime + AllocGlobal>(rt: &R) -> io::Result<Vec<String>> {
 }
 
 /// Does what the words of the program's command line ask for, and answers the exit status.
-pub fn run<R: Runtime + AllocGlobal>(rt: &R) -> u8 {
+pub fn run<R: Runtime + AllocGlobal + Threads + Wait + Sync>(rt: &R) -> u8 {
     let words = match words_of(rt) {
         Ok(words) => words,
         Err(error) if error.kind() == ErrorKind::OutOfMemory => {
@@ -52,6 +54,7 @@ pub fn run<R: Runtime + AllocGlobal>(rt: &R) -> u8 {
     };
     let texts = System { rt };
     obey(
+        rt,
         rt.alloc(),
         &texts,
         words.as_slice(),

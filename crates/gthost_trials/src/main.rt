@@ -12,6 +12,8 @@ use std::alloc::{AllocError, Global};
 use std::fmt::Display;
 use std::io::{self, ErrorKind, Write};
 use std::rt::Runtime;
+use std::sync::Wait;
+use std::thread::Threads;
 
 // The standard output, in the place of the standard error.
 #[derive(Drop)]
@@ -52,18 +54,22 @@ fn words_of(alloc: Global, line: &str) -> Result<Vec<String>, AllocError> {
 }
 
 // Does what a command line asks for, and answers the exit status.
-fn try_line<R: Runtime + AllocGlobal>(rt: &R, line: &str) -> Result<u8, AllocError> {
+fn try_line<R: Runtime + AllocGlobal + Threads + Wait + Sync>(
+    rt: &R,
+    line: &str,
+) -> Result<u8, AllocError> {
     let alloc = rt.alloc();
     let texts = System { rt };
     let screen = Screen { rt };
     match line.strip_prefix("full: ") {
         Some(line) => {
             let words = words_of(alloc, line)?;
-            Ok(obey(alloc, &texts, words.as_slice(), &mut Full, &screen))
+            Ok(obey(rt, alloc, &texts, words.as_slice(), &mut Full, &screen))
         }
         None => {
             let words = words_of(alloc, line)?;
             Ok(obey(
+                rt,
                 alloc,
                 &texts,
                 words.as_slice(),

@@ -7,7 +7,7 @@ use Rattle.clap.proofs.FaultLemmas.{failed_up}
 use Rattle.gt_program.specs.CommandLine.{gthost_app, command_name, asked, Request, refusals, IsPlanFor, IsPlanOf}
 use Rattle.gt_program.specs.declared.plan.Invocation.{Invocation}
 use Rattle.gt_program.specs.declared.plan.Mode.{Mode}
-use Rattle.gt_program.specs.declared.plan.Mode.TheVariants.{Play, Policy, Rules}
+use Rattle.gt_program.specs.declared.plan.Mode.TheVariants.{Play, Run, Policy, Rules}
 use Rattle.clap.specs.declared.error.Error.{Error}
 use Rattle.gt_program.proofs.Line.{gthost_is_simple, words_say, refusal, planned, entered_command}
 use Rattle.gt_program.proofs.plan.plan.Goals as goal
@@ -41,16 +41,22 @@ pub returns-in-Some-subcommand_matches-clause-answers : goal.returns-in-Some-sub
 returns-in-Some-subcommand_matches-clause-answers c =
     planned_by (map string_bytes c.args.words.now) c.plan_of-in-Some-subcommand_matches.result (passes_by _ _ c.in_ok-command.ensures c.in_ok-matches.ensures.kinds) (search rules)
 
-pub returns-clause-answers : goal.returns-clause-answers
-returns-clause-answers c =
+pub returns-in-Some-subcommand_matches-2-clause-answers : goal.returns-in-Some-subcommand_matches-2-clause-answers
+returns-in-Some-subcommand_matches-2-clause-answers c =
     planned_by (map string_bytes c.args.words.now) c.plan_of-in-Some-subcommand_matches-2.result (passes_by _ _ c.in_ok-command.ensures c.in_ok-matches.ensures.kinds) (search rules)
 
--- a command that was entered is one of the three
-none_of : {T : Type 0} (play policy rules_found : Option T) (name : Option Text) (mode : Mode) → (name ≡ Some (codes "play") → IsSome play) → (name ≡ Some (codes "policy") → IsSome policy) → (name ≡ Some (codes "rules") → IsSome rules_found)
-    → play ≡ None → policy ≡ None → rules_found ≡ None → name ≡ Some (command_name mode) → ⊥
-none_of play policy rules_found name Play found also too first second third is = never_both play (found is) first
-none_of play policy rules_found name Policy found also too first second third is = never_both policy (also is) second
-none_of play policy rules_found name Rules found also too first second third is = never_both rules_found (too is) third
+pub returns-clause-answers : goal.returns-clause-answers
+returns-clause-answers c =
+    planned_by (map string_bytes c.args.words.now) c.plan_of-in-Some-subcommand_matches-3.result (passes_by _ _ c.in_ok-command.ensures c.in_ok-matches.ensures.kinds) (search rules)
+
+-- a command that was entered is one of the four
+none_of : {T : Type 0} (play run policy rules_found : Option T) (name : Option Text) (mode : Mode)
+    → (name ≡ Some (codes "play") → IsSome play) → (name ≡ Some (codes "run") → IsSome run) → (name ≡ Some (codes "policy") → IsSome policy) → (name ≡ Some (codes "rules") → IsSome rules_found)
+    → play ≡ None → run ≡ None → policy ≡ None → rules_found ≡ None → name ≡ Some (command_name mode) → ⊥
+none_of play run policy rules_found name Play a b c d no_play no_run no_policy no_rules is = never_both play (a is) no_play
+none_of play run policy rules_found name Run a b c d no_play no_run no_policy no_rules is = never_both run (b is) no_run
+none_of play run policy rules_found name Policy a b c d no_play no_run no_policy no_rules is = never_both policy (c is) no_policy
+none_of play run policy rules_found name Rules a b c d no_play no_run no_policy no_rules is = never_both rules_found (d is) no_rules
 
 pub unreachable-requires : goal.unreachable-requires
 unreachable-requires c =
@@ -60,5 +66,6 @@ unreachable-requires c =
     let rows : subcommand_rows_of c.in_ok-matches.matches ≡ subcommand_of gthost_app words =
     (c.in_ok-matches.ensures.matches (ap is_simple app)).1 ∙ ap (λ (a : App). subcommand_of a words) app in
     let entered = entered_command c.in_ok-matches.matches (asked (drop 1 words)) (fault_of gthost_app words) (subcommand_of gthost_app words) (words_say words) passes rows in
-    none_of c.subcommand_matches.result c.subcommand_matches-2.result c.subcommand_matches-3.result (subcommand_name_of c.in_ok-matches.matches) entered.0
-    c.subcommand_matches.ensures.found.1 c.subcommand_matches-2.ensures.found.1 c.subcommand_matches-3.ensures.found.1 c.in_default.is c.in_default-subcommand_matches.is c.in-None.is entered.1
+    none_of c.subcommand_matches.result c.subcommand_matches-2.result c.subcommand_matches-3.result c.subcommand_matches-4.result (subcommand_name_of c.in_ok-matches.matches) entered.0
+    c.subcommand_matches.ensures.found.1 c.subcommand_matches-2.ensures.found.1 c.subcommand_matches-3.ensures.found.1 c.subcommand_matches-4.ensures.found.1
+    c.in_default.is c.in_default-subcommand_matches.is c.in_default-subcommand_matches-2.is c.in-None.is entered.1
