@@ -1,3 +1,4 @@
+//! Copies, as scripts of what their steps see.
 use crate::script::{
     CALLER, HEADER, MIDDLE, OWNER, Script, goes, known, page, pin, refused, refused_at, rights,
     three_domains, via,

@@ -1,3 +1,4 @@
+//! Owners' calls, as scripts of what their steps see.
 use crate::script::{
     CALLER, OWNER, Script, busy, goes, known, page, pin, refused, refused_at, rights, three_domains,
 };

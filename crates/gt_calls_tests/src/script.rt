@@ -1,3 +1,4 @@
+//! A call driven by a script of what its steps see.
 use gt_calls::{
     Action, Call, Half, Handles, Held, Holder, Known, Own, Request, Seen, Start, Step, Verdict,
 };

@@ -1,3 +1,4 @@
+//! Entries as guests write them: bytes of versions 1 and 2.
 ghost use Rattle.std.specs.Prelude.{◌≡◌, ◌+◌, ◌<◌, ℕ, List, Some, None, IfOk, IfErr, IfSome, IfNone, MatchResult};
 ghost use Rattle.gt_entry.specs.declared.entry.Entry.{Entry};
 ghost use Rattle.gt_entry.specs.Words.{flag};

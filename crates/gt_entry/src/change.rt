@@ -1,3 +1,4 @@
+//! What an owner does to an entry, and the two halves of its body.
 use crate::entry::Entry;
 
 /// One of the two body words of an entry.

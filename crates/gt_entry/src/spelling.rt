@@ -1,3 +1,4 @@
+//! Laws of entries and the words that spell them.
 ghost use Rattle.std.specs.Prelude.{◌≡◌, ◌<◌, ◌+◌, ◌*◌, ◌^◌, ℕ};
 ghost use Rattle.gt_entry.specs.declared.entry.Entry.{Entry};
 ghost use Rattle.gt_entry.specs.declared.control.Control.{Control};

@@ -1,3 +1,4 @@
+//! One frame: its bytes and its journal.
 ghost use Rattle.std.specs.Prelude.{◌≡◌, ◌+◌, ◌≤◌, ◌++◌, [], ◌∷◌, length, vec_len, IsTrue, IfOk, OnOk, OnErr};
 ghost use Rattle.gt_frames.specs.Bytes.{overlay};
 ghost use Rattle.gt_frames.specs.Frames.{recorded};

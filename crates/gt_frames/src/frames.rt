@@ -1,3 +1,4 @@
+//! The frames of a run, for one thread.
 ghost use Rattle.std.specs.Prelude.{◌≡◌, ◌+◌, ◌<◌, ◌≤◌, slice_get, Some, ◌^◌, ◌++◌, [], ◌∷◌, length, map, set, get_or, vec_len, IsTrue, IsSome, IfOk, IfSome, OnOk, OnErr, ◌↔◌};
 ghost use Rattle.gt_frames.specs.Frames.{FrameState, covers};
 ghost use Rattle.gt_frames.specs.Receipts.{copying_of};

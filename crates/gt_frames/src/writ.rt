@@ -1,3 +1,4 @@
+//! By what right a range is written.
 ghost use Rattle.std.specs.Prelude.{◌≡◌};
 ghost use Rattle.gt_entry.specs.Permits.{is_of_frame, leads_to};
 ghost use Rattle.gt_frames.specs.Frames.{permits_writing, covers};

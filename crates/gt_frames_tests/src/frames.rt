@@ -1,3 +1,4 @@
+//! The frames of a run, found by owner and number.
 ghost use Rattle.std.specs.Prelude.{◌≡◌};
 
 use gt_frames::{FrameName, Frames, Ground, Spot, Writ};

@@ -1,3 +1,4 @@
+//! Frames under locks, in threads.
 use crate::frames::{config, name};
 use gt_frames::{FrameName, Ground, Pool, Writ};
 use std::alloc::Global;

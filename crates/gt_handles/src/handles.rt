@@ -1,3 +1,4 @@
+//! Map handles over a slab.
 ghost use Rattle.std.specs.Prelude.{◌≡◌, ◌+◌, ◌<◌, ◌≤◌, ◌^◌, ◌==◌, IsOk, IsSome, IfSome, IfNone, OnOk, OnSome, Some, None, option_copied, slice_index_or, slice_set};
 
 use gt_types::Memory;

@@ -1,3 +1,4 @@
+//! Laws of map handles.
 ghost use Rattle.gt_handles.specs.Listing.{InsertedIsCounted, InsertedIsListed, NoMorePass, NothingIsListed, TakenIsCounted, TakenIsUnlisted};
 
 use crate::handles::Handles;

@@ -1,3 +1,4 @@
+//! Command lines, and the plans made of them.
 use gt_program::plan::{Mode, plan};
 use std::alloc::{AllocError, Global};
 use std::test::Fail;
