@@ -182,7 +182,10 @@ fn refuses_other_lengths(rt: HostRuntime) {
         (2, [1, 0, 2, 0, 5, 0, 0, 0].as_slice()),
         (0, [1, 0, 2, 0, 5, 0, 0, 0].as_slice()),
         (3, [1, 0, 2, 0, 5, 0, 0, 0].as_slice()),
-        (3, [1, 0, 2, 0, 5, 0, 0, 0, 7, 0, 0, 0, 0, 0, 0, 0].as_slice()),
+        (
+            3,
+            [1, 0, 2, 0, 5, 0, 0, 0, 7, 0, 0, 0, 0, 0, 0, 0].as_slice(),
+        ),
     ] {
         assert_eq!(rt; decode(version, bytes), Err(Field::Length));
     }

@@ -69,9 +69,9 @@ fn play_command<'a>(alloc: Global) -> Result<Command<'a>, AllocError>
 fn run_command<'a>(alloc: Global) -> Result<Command<'a>, AllocError>
     ensures { IfOk result (λ c. (app_of c ≡ audited_app (codes "run")) × ((fields_of c).has_globals ≡ false)) }
 {
-    let file = Arg::new(alloc, "file")
-        .value_name("FILE")
-        .help("The script; standard input where it is left out");
+    let file = Arg::new(alloc, "file").value_name("FILE").help(
+        "The script, with the lines of each domain; standard input where it is left out",
+    );
     Command::new(alloc, "run")
         .about(
             "Runs each domain of a script in a thread of its own, and prints its answers in its order",
