@@ -36,12 +36,8 @@ use Rattle.gt_policy.specs.Allowing.{was_given, stands_for, is_with, is_without,
 use Rattle.gt_policy.specs.Granting.{mentions, gives, is_named, names_with, names_without, set_holds, is_self, lists_word, statement_grants, is_granted}
 use Rattle.gt_policy.proofs.TextLemmas.{bind_ok}
 use Rattle.gt_policy.proofs.PermLemmas.{lists_words}
-
-abbrev pub ok_of : {A : Type 0} → A → Result A Fault
-ok_of a = Ok a
-
-pub ok_part : {A : Type 0} (a b : A) → ok_of a ≡ ok_of b → a ≡ b
-ok_part a b e = cc
+use Rattle.gt_policy.proofs.BoolLemmas.{or_false, or_no, or_assoc}
+use Rattle.gt_policy.proofs.SpellingLemmas.{ok_of, ok_part}
 
 pub known_ok : (w : List ℕ) (n : ℕ) (o : Option Symbol) (s : Symbol) → any_symbol w n o ≡ Ok s → o ≡ Some s
 known_ok w n (Some x) s e = ap (λ y. Some y) (ok_part x s e)
@@ -127,19 +123,6 @@ bytes_eq_swap v w = go (bytes_eq v w) (bytes_eq w v) refl refl
     go true c e f = sym ((bytes_eq-Decides w v).1 (sym ((bytes_eq-Decides v w).0 e))) ∙ f
     go false true e f = sym e ∙ (bytes_eq-Decides v w).1 (sym ((bytes_eq-Decides w v).0 f))
     go false false e f = refl
-
-or_no : (b c : Bool) → b ≡ (b || (c && false))
-or_no true c = refl
-or_no false true = refl
-or_no false false = refl
-
-pub or_false : (b : Bool) → b ≡ (b || false)
-or_false true = refl
-or_false false = refl
-
-or_assoc : (a b c : Bool) → ((a || b) || c) ≡ (a || (b || c))
-or_assoc true b c = refl
-or_assoc false b c = refl
 
 and_false : (b : Bool) → (b && false) ≡ false
 and_false true = refl
