@@ -3,6 +3,7 @@ use Rattle.std.proofs.Common.{◌≡◌, ◌≢◌, ℕ, ◌+◌, ◌/◌, ◌%�
 use Rattle.std.proofs.lemmas.Bool.Decides.{nat_tests}
 use Rattle.std.proofs.lemmas.List.{get_or_default}
 use Rattle.std.proofs.lemmas.Option.{none-some}
+use Rattle.std.proofs.lemmas.Bool.{or_parts}
 use Rattle.gt_types.specs.declared.denial.Field.{Field}
 use Rattle.gt_types.specs.declared.denial.Field.TheVariants.{Length, Kind, Reading, Writing, Pwt, Pcd, Pat, SubPage, Reserved}
 use Rattle.gt_entry.specs.declared.entry.Entry.{Entry}
@@ -42,10 +43,6 @@ none-refused version size flags e =
     record { kind = a.0; reading = b.0; writing = c.0; pwt = d.0; pcd = f.0; pat = g.0; sub_page = h.0; reserved = k.0 }
 
 -- flags of which nothing is refused
-
-or-false : (a b : Bool) → (a || b) ≡ false → (a ≡ false) × (b ≡ false)
-or-false true b e = absurd cc
-or-false false b e = (refl, e)
 
 and-true : (a : Bool) → (a && true) ≡ a
 and-true true = refl
@@ -135,8 +132,8 @@ v1-none bytes (Via dom ro dom2 gref) s = absurd s.layout
 
 v1-kind : (f : ℕ) → NoneRefused 1 8 f → f % 4 ≡ 1
 v1-kind f n =
-    let a = or-false ((f % 4 == 0) || (f % 4 == 2)) ((f % 4 == 3) && true) n.kind in
-    let b = or-false (f % 4 == 0) (f % 4 == 2) a.0 in
+    let a = or_parts ((f % 4 == 0) || (f % 4 == 2)) ((f % 4 == 3) && true) n.kind in
+    let b = or_parts (f % 4 == 0) (f % 4 == 2) a.0 in
     let three : (f % 4 == 3) ≡ false = sym (and-true (f % 4 == 3)) ∙ a.1 in
     let two = b.1 in
     let none = b.0 in
@@ -168,8 +165,8 @@ v2-none bytes (Via dom false dom2 gref) s = ap (λ (f : ℕ). find (is_refused 2
 
 v2-kind : (f : ℕ) → NoneRefused 2 16 f → (f % 4 ≢ 0) × (f % 4 ≢ 2)
 v2-kind f n =
-    let a = or-false ((f % 4 == 0) || (f % 4 == 2)) ((f % 4 == 3) && false) n.kind in
-    let b = or-false (f % 4 == 0) (f % 4 == 2) a.0 in
+    let a = or_parts ((f % 4 == 0) || (f % 4 == 2)) ((f % 4 == 3) && false) n.kind in
+    let b = or_parts (f % 4 == 0) (f % 4 == 2) a.0 in
     let two = b.1 in
     let none = b.0 in
     (grind (arith, nat_tests), grind (arith, nat_tests))

@@ -75,14 +75,15 @@ pub fn every_header_is_in_its_word()
 
 /// A law: two control words are equal only part by part.
 pub fn every_word_has_its_own_parts()
-    ensures { (l d g r w l' d' g' r' w' : ℕ) → l < 16 → l' < 16 → r < 4096 → r' < 4096 → w < 4096 → w' < 4096
-        → d < 65536 → d' < 65536 → word_with l d g r w ≡ word_with l' d' g' r' w'
+    ensures { (l d g r w l' d' g' r' w' : ℕ) → l < 16 → l' < 16 → r < 4096 → r' < 4096 → w < 4096
+        → w' < 4096 → d < 65536 → d' < 65536 → word_with l d g r w ≡ word_with l' d' g' r' w'
         → SamePartsOf l d g r w l' d' g' r' w' }
 {}
 
 /// A law: the parts of a control word are read from it by division.
 pub fn every_part_is_in_its_word()
-    ensures { (l d g r w : ℕ) → l < 16 → d < 65536 → r < 4096 → w < 4096 → PartsOf (word_with l d g r w) l d g r w }
+    ensures { (l d g r w : ℕ) → l < 16 → d < 65536 → r < 4096 → w < 4096
+        → PartsOf (word_with l d g r w) l d g r w }
 {}
 
 /// A law: the word of an entry's control is one sum of the entry's parts.

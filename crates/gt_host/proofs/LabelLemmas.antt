@@ -4,12 +4,12 @@ use Rattle.std.proofs.lemmas.Map.Lookups.{exact_unsigned, exact_bytes}
 use Rattle.std.specs.Cmp.{IsTotalOrder}
 use Rattle.std.specs.Cmp.{Equal-is}
 use Rattle.std.specs.Cmp.Lexicographic.{slice_cmp}
-use Rattle.std.specs.Map.{KeepsOthers}
+use Rattle.std.specs.Map.{KeepsOthers, lookup}
 use Rattle.std.specs.Ordering.{nat_cmp, ordering_then, is_eq}
 use Rattle.std.specs.declared.cmp.Ordering.{Ordering}
 use Rattle.std.specs.declared.cmp.Ordering.TheVariants.{Less, Equal, Greater}
 use Rattle.gt_handles.specs.declared.handles.Handle.{Handle}
-use Rattle.gt_host.specs.Labels.{is_label, handle_in}
+use Rattle.gt_host.specs.Labels.{is_label}
 
 -- the order of the keys, by their numbers and their texts
 abbrev key_cmp : (ℕ × List ℕ) → (ℕ × List ℕ) → Ordering
@@ -40,7 +40,7 @@ not_true false h = refl
 -- a map that took a value at one key has at every other label what it had
 pub others_kept : (old new : List ((ℕ × Bor (List ℕ)) × Handle)) (key : ℕ × Bor (List ℕ)) (d : ℕ) (l : List ℕ)
     → KeepsOthers (λ x y. is_eq (key_cmp (plain x) (plain y))) (λ x. is_eq (key_cmp (plain key) (plain x))) old new
-    → (d ≢ key.0) ⊎ (l ≢ key.1.now) → handle_in new d l ≡ handle_in old d l
+    → (d ≢ key.0) ⊎ (l ≢ key.1.now) → lookup (is_label d l) new ≡ lookup (is_label d l) old
 unfolding KeepsOthers
 others_kept old new key d l kept other =
     kept (is_label d l)

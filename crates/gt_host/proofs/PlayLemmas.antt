@@ -99,10 +99,6 @@ pub has_begun : (c : Contents) (audit : Bool) (steps : List Step) (n : ℕ) (dom
 has_begun c audit steps n domains kept waiting old mid all u =
     begins c audit steps n domains kept waiting old mid mid all u (0, omega arith, appends_nothing mid)
 
-pub OnErr-all : {T E : Type 0} (r : Result T E) (P : Type 0) → P → OnErr r P
-OnErr-all (Ok x) P h = tt
-OnErr-all (Err e) P h = h
-
 -- a step more, of whose line some goes out
 pub goes_on : (c : Contents) (audit : Bool) (t : Setting) (known : List (List ℕ)) (steps : List Step) (i : ℕ) (s : Step) (domains next : CoreState) (kept later : Kept) (w more rest : List ℕ) (old mid now : Option (List ℕ))
     → t ≡ setting_of_script c → IsUnderway c audit (take i steps) domains kept w old mid → i < length steps → s ≡ get_or steps i s → known ≡ (type_names c)

@@ -17,13 +17,13 @@ pub struct Labels<'a> {
 }
 
 impl<'a> Labels<'a> {
-    ghost use Rattle.std.specs.Prelude.{◌≡◌, ◌≢◌, ◌⊎◌, ℕ, List, OnOk, None, Some, unwrap_or};
+    ghost use Rattle.std.specs.Prelude.{◌≡◌, ℕ, List, OnOk, None, Some, unwrap_or};
     ghost use Rattle.gt_host.specs.declared.labels.TheConstants.{NEVER_GIVEN};
-    ghost use Rattle.gt_host.specs.Labels.{handle_in};
+    ghost use Rattle.gt_host.specs.Labels.{handle_in, RenamesOnly};
 
     /// No label names a handle yet.
     pub fn new(alloc: Global) -> Labels<'a>
-        ensures { (dom : ℕ) → (label : List ℕ) → handle_in result.handles.entries dom label ≡ None }
+        ensures { (dom : ℕ) → (label : List ℕ) → handle_in result dom label ≡ None }
     {
         Labels {
             handles: BTreeMap::new(alloc),
@@ -32,7 +32,7 @@ impl<'a> Labels<'a> {
 
     /// The handle that the domain's label names, or the one that is never given.
     pub fn handle(&self, dom: DomId, label: &'a [u8]) -> Handle
-        ensures { result ≡ unwrap_or (handle_in self.now.handles.entries dom.0 label.entry.now) NEVER_GIVEN }
+        ensures { result ≡ unwrap_or (handle_in self.now dom.0 label.entry.now) NEVER_GIVEN }
     {
         let key = (dom.0, label);
         self.handles.get(&key).copied().unwrap_or(NEVER_GIVEN)
@@ -40,8 +40,8 @@ impl<'a> Labels<'a> {
 
     /// From now on the domain's label names this handle.
     pub fn name(&mut self, dom: DomId, label: &'a [u8], handle: Handle) -> Result<(), AllocError>
-        ensures named { OnOk result (handle_in self.new.handles.entries dom.0 label.entry.now ≡ Some handle) }
-        ensures others { OnOk result ((d : ℕ) → (l : List ℕ) → (d ≢ dom.0) ⊎ (l ≢ label.entry.now) → handle_in self.new.handles.entries d l ≡ handle_in self.old.handles.entries d l) }
+        ensures named { OnOk result (handle_in self.new dom.0 label.entry.now ≡ Some handle) }
+        ensures others { OnOk result (RenamesOnly self.old self.new dom.0 label.entry.now) }
     {
         self.handles.insert((dom.0, label), handle)?;
         Ok(())

@@ -44,7 +44,8 @@ fn start<'s, 'a>(alloc: Global, script: &'s Script<'a>) -> Result<Core<Rights>, 
 
 // The line of a domain's call that has no answer, if it has one.
 fn push_if_open(out: &mut Vec<u8>, dom: DomId, begun: Option<Opened>) -> Result<(), AllocError>
-    ensures { OnOk result (out.new.items ≡ out.old.items ++ open_text dom (option_map (λ o. o.step.now) begun.entry)) }
+    ensures { OnOk result (out.new.items ≡ out.old.items
+        ++ open_text dom (option_map (λ o. o.step.now) begun.entry)) }
 {
     match begun {
         Some(begun) => push_open_line(out, begun.step.line, dom),
@@ -67,7 +68,7 @@ fn push_open_lines(
 }
 
 // Runs the steps of the script, and writes their lines.
-fn write_lines<'s, 'a, W: Write>(
+fn run_lines<'s, 'a, W: Write>(
     alloc: Global,
     core: &mut Core<Rights>,
     script: &'s Script<'a>,
@@ -77,7 +78,8 @@ fn write_lines<'s, 'a, W: Write>(
     requires can { CanStart (told script.now) }
     requires starts { StartsFor (told script.now) core.old }
     ensures whole { OnOk result (WritesRun (told script.now) audit (W.contents writer.old) (W.contents writer.new)) }
-    ensures beginning { OnErr result (BeginsRun (told script.now) audit (W.contents writer.old) (W.contents writer.new)) }
+    ensures beginning { OnErr result (BeginsRun (told script.now) audit
+        (W.contents writer.old) (W.contents writer.new)) }
     ensures errors { IfErr result (λ e. (e ≡ faults.Memory) ⊎ (e ≡ faults.Write)) }
 {
     let types = script.type_names(alloc)?;
@@ -95,7 +97,7 @@ fn write_lines<'s, 'a, W: Write>(
 }
 
 // Runs the script, and writes its lines.
-fn write_run<W: Write>(
+fn run_script<W: Write>(
     alloc: Global,
     script: &Script,
     writer: &mut W,
@@ -103,11 +105,12 @@ fn write_run<W: Write>(
 ) -> Result<(), Fault>
     requires { CanStart (told script.now) }
     ensures whole { OnOk result (WritesRun (told script.now) audit (W.contents writer.old) (W.contents writer.new)) }
-    ensures beginning { OnErr result (BeginsRun (told script.now) audit (W.contents writer.old) (W.contents writer.new)) }
+    ensures beginning { OnErr result (BeginsRun (told script.now) audit
+        (W.contents writer.old) (W.contents writer.new)) }
     ensures errors { IfErr result (λ e. (e ≡ faults.Memory) ⊎ (e ≡ faults.Write)) }
 {
     let mut core = start(alloc, script)?;
-    write_lines(alloc, &mut core, script, writer, audit)
+    run_lines(alloc, &mut core, script, writer, audit)
 }
 
 // Plays the script that bytes say, of which those up to the limit were read.
@@ -122,7 +125,7 @@ fn play_bytes<W: Write>(
 {
     every_beginning_is_of_the_text();
     match parse(alloc, input) {
-        Ok(script) => PlayFault::told(write_run(alloc, &script, writer, audit)),
+        Ok(script) => PlayFault::told(run_script(alloc, &script, writer, audit)),
         Err(error) => Err(PlayFault::from(error)),
     }
 }

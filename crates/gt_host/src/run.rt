@@ -4,10 +4,10 @@ ghost use Rattle.std.specs.Option.{option_map};
 ghost use Rattle.gt_types.specs.Names.{domain_of};
 ghost use Rattle.gt_types.specs.declared.DomId.{DomId};
 ghost use Rattle.gt_core.specs.History.{History};
-ghost use Rattle.gt_core.specs.Standing.{CoreStands, setting_of};
+ghost use Rattle.gt_core.specs.Standing.{CoreStands, setting_in};
 ghost use Rattle.gt_host.specs.Printing.{answer_line};
-ghost use Rattle.gt_host.specs.Runs.{Named, entry_of, table_text, access_text, text_said, bytes_said as said_in, table_request, access_request, request_of, handle_of, label_given, label_in, named_after, DoLine, BeginLine, TickLine, RunsLine};
-ghost use Rattle.gt_host.specs.Naming.{AreNamed};
+ghost use Rattle.gt_host.specs.Runs.{Named, entry_of, table_text, access_text, text_said, bytes_said as said_in, table_request, access_request, request_of, handle_of, label_given, label_in, DoLine, BeginLine, TickLine, RunsLine};
+ghost use Rattle.gt_host.specs.Naming.{AreNamed, IsNamedOn};
 ghost use Rattle.gt_host.specs.Ticking.{IsReady, Calls, TicksTo, Leads};
 ghost use Rattle.gt_host.specs.declared.fault.Fault.TheVariants as faults;
 
@@ -146,7 +146,8 @@ fn access_request<'a, 'c>(
     bytes: &'c [u8],
     call: &AccessCall<'a>,
 ) -> Request<'c>
-    ensures { (named : List Named) → AreNamed labels.now named → result ≡ access_request (handle_of named dom) bytes.entry call.now }
+    ensures { (named : List Named) → AreNamed labels.now named →
+        result ≡ access_request (handle_of named dom) bytes.entry call.now }
 {
     match call {
         AccessCall::Unmap { label } => Request::Unmap {
@@ -183,7 +184,8 @@ pub fn request_of<'a, 'c>(
     bytes: &'c [u8],
     call: &Call<'a>,
 ) -> Request<'c>
-    ensures { (named : List Named) → AreNamed labels.now named → result ≡ request_of named dom bytes.entry call.now }
+    ensures { (named : List Named) → AreNamed labels.now named →
+        result ≡ request_of named dom bytes.entry call.now }
 {
     match call {
         Call::Table(call) => table_request(bytes, call),
@@ -228,7 +230,7 @@ fn name_mapping<'a>(
     step: &Step<'a>,
     answer: &Answer,
 ) -> Result<(), AllocError>
-    ensures { OnOk result ((named : List Named) → AreNamed labels.old named → AreNamed labels.new (named_after named dom step.now answer.now)) }
+    ensures { OnOk result (IsNamedOn labels.old labels.new dom step.now answer.now) }
 {
     match (label_in(&step.action), answer) {
         (Some(label), Answer::Mapped(handle)) => labels.name(dom, label, *handle),
@@ -237,7 +239,7 @@ fn name_mapping<'a>(
 }
 
 // The domain's call, which this step began, has its answer.
-fn settle<'a>(
+fn answer_call<'a>(
     alloc: Global,
     labels: &mut Labels<'a>,
     types: &[Text<'a>],
@@ -246,7 +248,7 @@ fn settle<'a>(
     answer: &Answer,
     out: &mut Vec<u8>,
 ) -> Result<(), AllocError>
-    ensures named { OnOk result ((named : List Named) → AreNamed labels.old named → AreNamed labels.new (named_after named dom step.now answer.now)) }
+    ensures named { OnOk result (IsNamedOn labels.old labels.new dom step.now answer.now) }
     ensures line { OnOk result (out.new.items ≡ out.old.items ++ answer_line types.now step.now.line dom answer.now) }
 {
     name_mapping(labels, dom, step, answer)?;
@@ -259,8 +261,8 @@ fn tick_up_to<P: Allows>(
     dom: DomId,
     most: u32,
 ) -> Result<Option<Answer>, Memory>
-    ensures ticks { (h : History) → CoreStands (setting_of core.old.config (P.may core.old.rights)) h core.old.state →
-        IfOk result (TicksTo (setting_of core.old.config (P.may core.old.rights)) h dom most core.new.state) }
+    ensures ticks { (h : History) → CoreStands (setting_in P.may core.old) h core.old.state →
+        IfOk result (TicksTo (setting_in P.may core.old) h dom most core.new.state) }
     ensures config { core.new.config ≡ core.old.config }
     ensures rights { core.new.rights ≡ core.old.rights }
 {
@@ -278,9 +280,9 @@ fn run_call<P: Allows>(
     dom: DomId,
     request: Request<'_>,
 ) -> Result<Outcome, Memory>
-    requires { IsReady (setting_of core.old.config (P.may core.old.rights)) dom core.old.state }
-    ensures calls { (h : History) → CoreStands (setting_of core.old.config (P.may core.old.rights)) h core.old.state →
-        IfOk result (Calls (setting_of core.old.config (P.may core.old.rights)) h dom request.entry core.new.state) }
+    requires { IsReady (setting_in P.may core.old) dom core.old.state }
+    ensures calls { (h : History) → CoreStands (setting_in P.may core.old) h core.old.state →
+        IfOk result (Calls (setting_in P.may core.old) h dom request.entry core.new.state) }
     ensures config { core.new.config ≡ core.old.config }
     ensures rights { core.new.rights ≡ core.old.rights }
 {
@@ -305,9 +307,9 @@ fn run_do<'b, 'a, P: Allows>(
     bytes: &[u8],
     out: &mut Vec<u8>,
 ) -> Result<(), Fault>
-    requires ready { IsReady (setting_of core.old.config (P.may core.old.rights)) step.now.dom core.old.state }
+    requires ready { IsReady (setting_in P.may core.old) step.now.dom core.old.state }
     requires said { bytes.now ≡ said_in call.now }
-    ensures leads { OnOk result (Leads (setting_of core.old.config (P.may core.old.rights)) (DoLine types.now step.now call.now)
+    ensures leads { OnOk result (Leads (setting_in P.may core.old) (DoLine types.now step.now call.now)
         core.old.state core.new.state kept.old kept.new out.old.items out.new.items) }
     ensures config { core.new.config ≡ core.old.config }
     ensures rights { core.new.rights ≡ core.old.rights }
@@ -318,7 +320,7 @@ fn run_do<'b, 'a, P: Allows>(
     match run_call(core, step.dom, request)? {
         Outcome::Answered(answer) => {
             kept.audit.record(step.dom, told, &answer)?;
-            settle(alloc, &mut kept.labels, types, step.dom, step, &answer, out)?;
+            answer_call(alloc, &mut kept.labels, types, step.dom, step, &answer, out)?;
         }
         Outcome::Busy => push_busy_line(out, step.line, step.dom)?,
     }
@@ -338,7 +340,7 @@ fn run_begin<'b, 'a, P: Allows>(
 ) -> Result<(), Fault>
     requires known { domain_of core.old.config.domains.items step.now.dom ≢ None }
     requires said { bytes.now ≡ said_in call.now }
-    ensures leads { OnOk result (Leads (setting_of core.old.config (P.may core.old.rights)) (BeginLine types.now step.now call.now)
+    ensures leads { OnOk result (Leads (setting_in P.may core.old) (BeginLine types.now step.now call.now)
         core.old.state core.new.state kept.old kept.new out.old.items out.new.items) }
     ensures config { core.new.config ≡ core.old.config }
     ensures rights { core.new.rights ≡ core.old.rights }
@@ -349,7 +351,7 @@ fn run_begin<'b, 'a, P: Allows>(
     match core.begin(step.dom, request)? {
         Begun::Done(answer) => {
             kept.audit.record(step.dom, told, &answer)?;
-            settle(alloc, &mut kept.labels, types, step.dom, step, &answer, out)?;
+            answer_call(alloc, &mut kept.labels, types, step.dom, step, &answer, out)?;
         }
         Begun::Busy => push_busy_line(out, step.line, step.dom)?,
         Begun::Open | Begun::NoDomain => kept.calls.begin(step.dom, step, told)?,
@@ -368,7 +370,8 @@ fn run_ticks<'b, 'a, P: Allows>(
     out: &mut Vec<u8>,
 ) -> Result<(), Fault>
     requires { domain_of core.old.config.domains.items step.now.dom ≢ None }
-    ensures leads { OnOk result (Leads (setting_of core.old.config (P.may core.old.rights)) (λ p q. TickLine types.now step.now most (p.open_steps step.now.dom.0) p q)
+    ensures leads { OnOk result (Leads (setting_in P.may core.old)
+        (λ p q. TickLine types.now step.now most (p.open_steps step.now.dom.0) p q)
         core.old.state core.new.state kept.old kept.new out.old.items out.new.items) }
     ensures config { core.new.config ≡ core.old.config }
     ensures rights { core.new.rights ≡ core.old.rights }
@@ -381,7 +384,7 @@ fn run_ticks<'b, 'a, P: Allows>(
     if let Some(answer) = tick_up_to(core, step.dom, most)? {
         kept.calls.end(step.dom);
         kept.audit.record(step.dom, begun.told, &answer)?;
-        settle(
+        answer_call(
             alloc,
             &mut kept.labels,
             types,
@@ -404,8 +407,9 @@ pub fn run_step<'b, 'a, P: Allows>(
     step: &'b Step<'a>,
     out: &mut Vec<u8>,
 ) -> Result<(), Fault>
-    requires { IsReady (setting_of core.old.config (P.may core.old.rights)) step.now.dom core.old.state }
-    ensures leads { OnOk result (Leads (setting_of core.old.config (P.may core.old.rights)) (λ p q. RunsLine (setting_of core.old.config (P.may core.old.rights)) types.now step.now step.now.action p q)
+    requires { IsReady (setting_in P.may core.old) step.now.dom core.old.state }
+    ensures leads { OnOk result (Leads (setting_in P.may core.old)
+        (λ p q. RunsLine (setting_in P.may core.old) types.now step.now step.now.action p q)
         core.old.state core.new.state kept.old kept.new out.old.items out.new.items) }
     ensures config { core.new.config ≡ core.old.config }
     ensures rights { core.new.rights ≡ core.old.rights }

@@ -2,6 +2,8 @@
 use Rattle.std.specs.Prelude.{ℕ, ◌||◌, Bool, List, [], ◌∷◌, Option, Some, None, if◌then◌else◌, codes}
 use Rattle.std.specs.Option.{option_map}
 use Rattle.std.specs.Str.{bytes_eq}
+use Rattle.gt_types.specs.declared.DomId.{DomId}
+use Rattle.gt_types.specs.declared.GrantRef.{GrantRef}
 use Rattle.gt_lines.specs.Fields.{◌>>=◌, u16_word, u32_word, u64_word, reference_word, domain_word, mode_word, flags_word, tick_word, label_word, text_where}
 use Rattle.gt_lines.specs.Hexadecimal.{hex_word}
 use Rattle.gt_lines.specs.declared.calls.Grant.{Grant}
@@ -143,66 +145,32 @@ copy_of (from_kind ∷ from_dom ∷ from ∷ from_off ∷ to_kind ∷ to_dom ∷
   Some (accesses.Copy s d n)
 copy_of _ = None
 
--- what stands after `revoke`: REF (own)
-unfoldable pub revoke_of : List (List ℕ) → Option TableCall
-revoke_of (gref ∷ []) = do
-  r ← reference_word gref
-  Some (tables.Revoke r)
-revoke_of _ = None
+-- what stands after `revoke`, `demote`, `promote`, and `show` and its domain: REF (own)
+unfoldable pub only_reference : List (List ℕ) → Option GrantRef
+only_reference (gref ∷ []) = reference_word gref
+only_reference _ = None
 
--- what stands after `demote`: REF (own)
-unfoldable pub demote_of : List (List ℕ) → Option TableCall
-demote_of (gref ∷ []) = do
-  r ← reference_word gref
-  Some (tables.Demote r)
-demote_of _ = None
+-- what stands after `version` and `setup`: V and N, of 32 bits (grant_table.h)
+unfoldable pub only_number : List (List ℕ) → Option ℕ
+only_number (number ∷ []) = u32_word number
+only_number _ = None
 
--- what stands after `promote`: REF (own)
-unfoldable pub promote_of : List (List ℕ) → Option TableCall
-promote_of (gref ∷ []) = do
-  r ← reference_word gref
-  Some (tables.Promote r)
-promote_of _ = None
-
--- what stands after `version`: V, of 32 bits (grant_table.h)
-unfoldable pub version_of : List (List ℕ) → Option TableCall
-version_of (number ∷ []) = do
-  v ← u32_word number
-  Some (tables.SetVersion v)
-version_of _ = None
-
--- what stands after `setup`: N, of 32 bits (grant_table.h)
-unfoldable pub setup_of : List (List ℕ) → Option TableCall
-setup_of (number ∷ []) = do
-  n ← u32_word number
-  Some (tables.SetupTable n)
-setup_of _ = None
-
--- what stands after `size`: DOM (own)
-unfoldable pub size_of : List (List ℕ) → Option TableCall
-size_of (dom ∷ []) = do
-  d ← domain_word dom
-  Some (tables.QuerySize d)
-size_of _ = None
-
--- what stands after `getversion`: DOM (own)
-unfoldable pub getversion_of : List (List ℕ) → Option TableCall
-getversion_of (dom ∷ []) = do
-  d ← domain_word dom
-  Some (tables.GetVersion d)
-getversion_of _ = None
+-- what stands after `size` and `getversion`: DOM (own)
+unfoldable pub only_domain : List (List ℕ) → Option DomId
+only_domain (dom ∷ []) = domain_word dom
+only_domain _ = None
 
 -- a call on a table, by its word (own)
 unfoldable pub table_of : List ℕ → List (List ℕ) → Option TableCall
 table_of word args = if bytes_eq word (codes "grant") then grant_of args
     else (if bytes_eq word (codes "bytes") then bytes_of args
-    else (if bytes_eq word (codes "revoke") then revoke_of args
-    else (if bytes_eq word (codes "demote") then demote_of args
-    else (if bytes_eq word (codes "promote") then promote_of args
-    else (if bytes_eq word (codes "version") then version_of args
-    else (if bytes_eq word (codes "setup") then setup_of args
-    else (if bytes_eq word (codes "size") then size_of args
-    else (if bytes_eq word (codes "getversion") then getversion_of args else None))))))))
+    else (if bytes_eq word (codes "revoke") then option_map tables.Revoke (only_reference args)
+    else (if bytes_eq word (codes "demote") then option_map tables.Demote (only_reference args)
+    else (if bytes_eq word (codes "promote") then option_map tables.Promote (only_reference args)
+    else (if bytes_eq word (codes "version") then option_map tables.SetVersion (only_number args)
+    else (if bytes_eq word (codes "setup") then option_map tables.SetupTable (only_number args)
+    else (if bytes_eq word (codes "size") then option_map tables.QuerySize (only_domain args)
+    else (if bytes_eq word (codes "getversion") then option_map tables.GetVersion (only_domain args) else None))))))))
 
 -- a call that ends a mapping or reaches bytes, by its word (own)
 unfoldable pub access_of : List ℕ → List (List ℕ) → Option AccessCall
@@ -232,16 +200,9 @@ tick_of (count ∷ []) = do
   Some (actions.Tick n)
 tick_of _ = None
 
--- what stands after `show` and its domain: REF (own)
-unfoldable pub show_of : List (List ℕ) → Option Action
-show_of (gref ∷ []) = do
-  r ← reference_word gref
-  Some (actions.Show r)
-show_of _ = None
-
 -- what a body line's first word says together with the words after its domain (own)
 unfoldable pub action_of : List ℕ → List (List ℕ) → Option Action
 action_of word args = if bytes_eq word (codes "do") then option_map actions.Do (call_of args)
     else (if bytes_eq word (codes "begin") then option_map actions.Begin (call_of args)
     else (if bytes_eq word (codes "tick") then tick_of args
-    else (if bytes_eq word (codes "show") then show_of args else None)))
+    else (if bytes_eq word (codes "show") then option_map actions.Show (only_reference args) else None)))

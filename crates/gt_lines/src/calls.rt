@@ -1,6 +1,6 @@
 //! The calls that a script can ask for.
 ghost use Rattle.std.specs.Prelude.{◌≡◌, map};
-ghost use Rattle.gt_lines.specs.Calls.{page_of, sub_of, via_of, granted, grant_of, map_of, unmap_of, load_of, store_of, peek_of, poke_of, end_of, copy_of, bytes_of, revoke_of, demote_of, promote_of, version_of, setup_of, size_of, getversion_of, table_of, access_of, is_access_word, call_of, tick_of, show_of, action_of};
+ghost use Rattle.gt_lines.specs.Calls.{page_of, sub_of, via_of, granted, grant_of, map_of, unmap_of, load_of, store_of, peek_of, poke_of, end_of, copy_of, bytes_of, only_reference, only_number, only_domain, table_of, access_of, is_access_word, call_of, tick_of, action_of};
 
 use crate::fields::{
     domain, flags, is, label, mode, reference, tick_count, u16_of, u32_of, u64_of,
@@ -357,82 +357,35 @@ fn read_copy<'a>(args: &[&'a [u8]]) -> Option<AccessCall<'a>>
     }
 }
 
-#[tactic(auto, unfolding(crate::specs::Calls::revoke_of))]
-fn read_revoke<'a>(args: &[&'a [u8]]) -> Option<TableCall<'a>>
-    ensures { result ≡ revoke_of (map (λ word. word.now) args.now) }
+// A reference, alone.
+#[tactic(auto, unfolding(crate::specs::Calls::only_reference))]
+fn only_reference(args: &[&[u8]]) -> Option<GrantRef>
+    ensures { result ≡ only_reference (map (λ word. word.now) args.now) }
 {
     match args {
-        [gref] => Some(TableCall::Revoke {
-            gref: reference(gref)?,
-        }),
+        [gref] => reference(gref),
         _ => None,
     }
 }
 
-#[tactic(auto, unfolding(crate::specs::Calls::demote_of))]
-fn read_demote<'a>(args: &[&'a [u8]]) -> Option<TableCall<'a>>
-    ensures { result ≡ demote_of (map (λ word. word.now) args.now) }
+// A number of 32 bits, alone.
+#[tactic(auto, unfolding(crate::specs::Calls::only_number))]
+fn only_number(args: &[&[u8]]) -> Option<u32>
+    ensures { result ≡ only_number (map (λ word. word.now) args.now) }
 {
     match args {
-        [gref] => Some(TableCall::Demote {
-            gref: reference(gref)?,
-        }),
+        [number] => u32_of(number),
         _ => None,
     }
 }
 
-#[tactic(auto, unfolding(crate::specs::Calls::promote_of))]
-fn read_promote<'a>(args: &[&'a [u8]]) -> Option<TableCall<'a>>
-    ensures { result ≡ promote_of (map (λ word. word.now) args.now) }
+// A domain, alone.
+#[tactic(auto, unfolding(crate::specs::Calls::only_domain))]
+fn only_domain(args: &[&[u8]]) -> Option<DomId>
+    ensures { result ≡ only_domain (map (λ word. word.now) args.now) }
 {
     match args {
-        [gref] => Some(TableCall::Promote {
-            gref: reference(gref)?,
-        }),
-        _ => None,
-    }
-}
-
-#[tactic(auto, unfolding(crate::specs::Calls::version_of))]
-fn read_version<'a>(args: &[&'a [u8]]) -> Option<TableCall<'a>>
-    ensures { result ≡ version_of (map (λ word. word.now) args.now) }
-{
-    match args {
-        [number] => Some(TableCall::SetVersion {
-            version: u32_of(number)?,
-        }),
-        _ => None,
-    }
-}
-
-#[tactic(auto, unfolding(crate::specs::Calls::setup_of))]
-fn read_setup<'a>(args: &[&'a [u8]]) -> Option<TableCall<'a>>
-    ensures { result ≡ setup_of (map (λ word. word.now) args.now) }
-{
-    match args {
-        [number] => Some(TableCall::SetupTable {
-            frames: u32_of(number)?,
-        }),
-        _ => None,
-    }
-}
-
-#[tactic(auto, unfolding(crate::specs::Calls::size_of))]
-fn read_size<'a>(args: &[&'a [u8]]) -> Option<TableCall<'a>>
-    ensures { result ≡ size_of (map (λ word. word.now) args.now) }
-{
-    match args {
-        [dom] => Some(TableCall::QuerySize { dom: domain(dom)? }),
-        _ => None,
-    }
-}
-
-#[tactic(auto, unfolding(crate::specs::Calls::getversion_of))]
-fn read_getversion<'a>(args: &[&'a [u8]]) -> Option<TableCall<'a>>
-    ensures { result ≡ getversion_of (map (λ word. word.now) args.now) }
-{
-    match args {
-        [dom] => Some(TableCall::GetVersion { dom: domain(dom)? }),
+        [dom] => domain(dom),
         _ => None,
     }
 }
@@ -446,19 +399,33 @@ fn read_table_call<'a>(word: &[u8], args: &[&'a [u8]]) -> Option<TableCall<'a>>
     } else if is(word, "bytes") {
         read_bytes(args)
     } else if is(word, "revoke") {
-        read_revoke(args)
+        Some(TableCall::Revoke {
+            gref: only_reference(args)?,
+        })
     } else if is(word, "demote") {
-        read_demote(args)
+        Some(TableCall::Demote {
+            gref: only_reference(args)?,
+        })
     } else if is(word, "promote") {
-        read_promote(args)
+        Some(TableCall::Promote {
+            gref: only_reference(args)?,
+        })
     } else if is(word, "version") {
-        read_version(args)
+        Some(TableCall::SetVersion {
+            version: only_number(args)?,
+        })
     } else if is(word, "setup") {
-        read_setup(args)
+        Some(TableCall::SetupTable {
+            frames: only_number(args)?,
+        })
     } else if is(word, "size") {
-        read_size(args)
+        Some(TableCall::QuerySize {
+            dom: only_domain(args)?,
+        })
     } else if is(word, "getversion") {
-        read_getversion(args)
+        Some(TableCall::GetVersion {
+            dom: only_domain(args)?,
+        })
     } else {
         None
     }
@@ -521,16 +488,6 @@ fn read_tick<'a>(args: &[&'a [u8]]) -> Option<Action<'a>>
     }
 }
 
-#[tactic(auto, unfolding(crate::specs::Calls::show_of))]
-fn read_show<'a>(args: &[&'a [u8]]) -> Option<Action<'a>>
-    ensures { result ≡ show_of (map (λ word. word.now) args.now) }
-{
-    match args {
-        [gref] => Some(Action::Show(reference(gref)?)),
-        _ => None,
-    }
-}
-
 /// What a body line's first word says together with the words after its domain.
 #[tactic(auto, unfolding(crate::specs::Calls::action_of))]
 pub fn read_action<'a>(word: &[u8], args: &[&'a [u8]]) -> Option<Action<'a>>
@@ -543,7 +500,7 @@ pub fn read_action<'a>(word: &[u8], args: &[&'a [u8]]) -> Option<Action<'a>>
     } else if is(word, "tick") {
         read_tick(args)
     } else if is(word, "show") {
-        read_show(args)
+        Some(Action::Show(only_reference(args)?))
     } else {
         None
     }

@@ -1,9 +1,9 @@
 //! What one line of a script says.
 //!
-//! A text is parted into lines and a line into words; `read_line` answers what the words say: a triple, a
-//! first generation, a domain, or what a line of the body asks of its domain: an action, or that it tells or awaits a flag. Names, labels and
-//! hexadecimal texts are borrowed from the script's bytes, so that reading a line takes no memory but for
-//! the list of its words.
+//! A text is parted into lines and a line into words. `read_line` answers what the words say: a triple, a
+//! first generation, a domain, or what a line of the body asks of its domain. That is an action, or that the
+//! domain tells or awaits a flag. Names, labels and hexadecimal texts are borrowed from the script's bytes,
+//! so reading a line takes no memory but for the list of its words.
 //!
 //! What the words mean is defined by patterns on them, in `specs/`, word by word; each function here
 //! answers exactly that. Whether a line may stand where it does is not judged here. The crate stands on

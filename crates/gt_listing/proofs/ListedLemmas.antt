@@ -3,6 +3,7 @@ use Rattle.std.proofs.Common.{◌≡◌, ◌⊎◌, ℕ, ◌+◌, ◌<◌, ◌�
 use Rattle.std.proofs.lemmas.List.{take_all}
 use Rattle.std.specs.Io.KnownBytes.{Appends}
 use Rattle.std.specs.Str.{IsUtf8}
+use Rattle.gt_streams.specs.Laws.{take_whole}
 use Rattle.gt_types.specs.declared.TypeId.{TypeId}
 use Rattle.gt_types.specs.declared.perms.Perms.{Perms}
 use Rattle.gt_policy.specs.Allowing.{Meaning, Rights, Allowed, Shows, may_of}
@@ -66,12 +67,6 @@ refused line kinds.Limit text old says = (_, refl, says _ refl, keeps_same old)
 pub parsed_no : (line : ℕ) (kind : FaultKind) (fault : Fault) (text : List ℕ) (old : Option (List ℕ)) → fault ≡ fault_of line kind
     → ((f : policy.Fault) → fault_shown (record { line = line; kind = kind }) ≡ Some f → Says text (Err f)) → Parsed text old old (Err fault)
 parsed_no line kind fault text old is says = subst (λ (f : Fault). Parsed text old old (Err f)) (sym is) (refused line kind text old says)
-
--- a front with no more than n elements of n + 1 that were asked for is the whole
-take_whole : (n : ℕ) (xs : List ℕ) → length (take (n + 1) xs) ≤ n → take (n + 1) xs ≡ xs
-take_whole n xs h =
-    let few : min (n + 1) (length xs) ≤ n = subst (λ (k : ℕ). k ≤ n) (length-take (n + 1) xs) h in
-    take_all (n + 1) xs (omega (arith, few))
 
 take_shorter : (n : ℕ) (xs : List ℕ) → length (take n xs) ≤ length xs
 take_shorter n xs = rw length-take (omega arith)

@@ -75,10 +75,6 @@ step_begun f xs i e start w more given a b c within is so_far added goes =
     let begun : AppendsBeginning a c (start ++ flat_map f (take (i + 1) xs)) = subst (λ (l : List ℕ). AppendsBeginning a c l) (piece_more f xs i e start within) (begins_more a b c (start ++ flat_map f (take i xs)) w (f (get_or xs i e)) so_far next) in
     begins_pieces f xs (i + 1) start a c begun
 
-pub OnErr-all : {T E : Type 0} (r : Result T E) (P : Type 0) → P → OnErr r P
-OnErr-all (Ok x) P h = tt
-OnErr-all (Err e) P h = h
-
 -- nothing waits yet
 pub sends_start : (a : Option (List ℕ)) (waiting : List ℕ) → waiting ≡ [] → Sends a a [] waiting
 sends_start a waiting none = ([], sym none, appends_nothing a)

@@ -8,7 +8,8 @@ use gt_policy::written_texts;
 
 /// A policy has one listing.
 pub fn one_listing()
-    ensures { (bytes one other : List ℕ) (m : Meaning) → Says bytes (Ok m) → IsListing m one → IsListing m other → one ≡ other }
+    ensures { (bytes one other : List ℕ) (m : Meaning) →
+        Says bytes (Ok m) → IsListing m one → IsListing m other → one ≡ other }
 {
     written_texts();
 }

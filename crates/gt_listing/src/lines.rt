@@ -61,7 +61,8 @@ pub fn push_pair(
     source: TypeId,
     target: TypeId,
 ) -> Result<(), AllocError>
-    ensures { OnOk result (out.new.items ≡ out.old.items ++ pair_text policy.now.types (looks table.now) source target) }
+    ensures { OnOk result (out.new.items ≡ out.old.items
+        ++ pair_text policy.now.types (looks table.now) source target) }
 {
     'permissions: for perm in Perms::EVERY {
         let triple = Triple {

@@ -10,7 +10,9 @@ use gt_types::LONGEST_TEXT;
 
 /// The bytes as text, if they are not too many.
 pub fn policy_text<'a>(bytes: &'a [u8]) -> Result<&'a str, Fault>
-    ensures text { IfOk result (λ text. (text.now ≡ bytes.entry.now) × (length bytes.entry.now ≤ LONGEST_TEXT) × IsUtf8 bytes.entry.now) }
+    ensures text { IfOk result (λ text. text.now ≡ bytes.entry.now) }
+    ensures few { IfOk result (λ _. length bytes.entry.now ≤ LONGEST_TEXT) }
+    ensures utf8 { IfOk result (λ _. IsUtf8 bytes.entry.now) }
     ensures fault { IfErr result (λ fault. IsNoText bytes.entry.now fault) }
 {
     if bytes.len() > LONGEST_TEXT {

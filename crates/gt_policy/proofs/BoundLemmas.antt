@@ -22,9 +22,10 @@ use Rattle.gt_policy.specs.declared.resolve.Draft.{Draft}
 use Rattle.gt_policy.specs.declared.rules.Rule.{Rule}
 use Rattle.gt_policy.specs.Names.{Names, symbol_of}
 use Rattle.gt_policy.specs.Resolving.{known, type_in, attribute_in, element_of, elements_of, given_by, with_statement, resolved, granted, nothing_given}
-use Rattle.gt_policy.specs.Allowing.{was_given, stands_for, is_with, is_without, holds_type, says_itself, is_granted_by, some_grants, AreWithin}
+use Rattle.gt_policy.specs.Allowing.{was_given, stands_for, is_with, holds_type, says_itself, is_granted_by, some_grants, AreWithin}
 use Rattle.gt_policy.proofs.TextLemmas.{bind_ok}
-use Rattle.gt_policy.proofs.GrantingLemmas.{ok_of, ok_part, known_ok, type_ok, type_place, give_rules, allow_read, rule_of}
+use Rattle.gt_policy.proofs.GrantingLemmas.{known_ok, type_ok, type_place, give_rules, allow_read, rule_of}
+use Rattle.gt_policy.proofs.SpellingLemmas.{ok_of, ok_part}
 
 either : (b c : Bool) → (b || c) ≡ true → (b ≡ true) ⊎ (c ≡ true)
 either true c e = inl refl

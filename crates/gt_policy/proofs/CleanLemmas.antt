@@ -14,12 +14,9 @@ use Rattle.gt_policy.specs.Names.{Names, no_names, symbol_at, is_declared, with_
 use Rattle.gt_policy.specs.Grammar.{◌>>=◌}
 use Rattle.gt_policy.specs.Spelling.{types_in, attributes_in, declared_in, allows_in, AreDistinct, AreClean, names_of}
 use Rattle.gt_policy.proofs.TextLemmas.{all_added, bind_ok}
-
-abbrev ok_of : {A : Type 0} → A → Result A Fault
-ok_of a = Ok a
-
-ok_part : {A : Type 0} (a b : A) → ok_of a ≡ ok_of b → a ≡ b
-ok_part a b e = cc
+use Rattle.std.proofs.lemmas.Bool.{or_from, or_parts}
+use Rattle.std.proofs.lemmas.List.{append-nil}
+use Rattle.gt_policy.proofs.SpellingLemmas.{ok_of, ok_part}
 
 -- the name is declared
 abbrev known : Names → List ℕ → Bool
@@ -84,22 +81,11 @@ abbrev AllNew : Names → List (List ℕ) → Type 0
 AllNew seen [] = Unit {0}
 AllNew seen (w ∷ ws) = (known seen w ≡ false) × AllNew seen ws
 
-or_false : (a b : Bool) → a ≡ false → b ≡ false → (a || b) ≡ false
-or_false a b x y = rw (x, y) refl
-
-left_false : (a b : Bool) → (a || b) ≡ false → a ≡ false
-left_false true b e = e
-left_false false b e = refl
-
-right_false : (a b : Bool) → (a || b) ≡ false → b ≡ false
-right_false true b e = absurd (cc)
-right_false false b e = e
-
 new_after : (seen next : Names) (w : List ℕ) (ws : List (List ℕ)) → ((q : List ℕ) → known next q ≡ (known seen q || bytes_eq w q)) → AllNew seen ws → list_any (λ v. bytes_eq w v) ws ≡ false → AllNew next ws
 new_after seen next w [] now new apart = tt
 new_after seen next w (v ∷ ws) now new apart = (
-  now v ∙ or_false (known seen v) (bytes_eq w v) new.0 (left_false (bytes_eq w v) (list_any (λ u. bytes_eq w u) ws) apart),
-  new_after seen next w ws now new.1 (right_false (bytes_eq w v) (list_any (λ u. bytes_eq w u) ws) apart),
+  now v ∙ or_from (known seen v) (bytes_eq w v) new.0 (or_parts (bytes_eq w v) (list_any (λ u. bytes_eq w u) ws) apart).0,
+  new_after seen next w ws now new.1 (or_parts (bytes_eq w v) (list_any (λ u. bytes_eq w u) ws) apart).1,
 )
 
 new_before : (seen next : Names) (w : List ℕ) (ws : List (List ℕ)) → ((q : List ℕ) → known next q ≡ (known seen q || bytes_eq w q)) → AllNew next ws → AllNew seen ws × (list_any (λ v. bytes_eq w v) ws ≡ false)
@@ -107,7 +93,7 @@ new_before seen next w [] now new = (tt, refl)
 new_before seen next w (v ∷ ws) now new =
     let both : (known seen v || bytes_eq w v) ≡ false = sym (now v) ∙ new.0 in
     let others = new_before seen next w ws now new.1 in
-    ((left_false (known seen v) (bytes_eq w v) both, others.0), or_false (bytes_eq w v) (list_any (λ u. bytes_eq w u) ws) (right_false (known seen v) (bytes_eq w v) both) others.1)
+    (((or_parts (known seen v) (bytes_eq w v) both).0, others.0), or_from (bytes_eq w v) (list_any (λ u. bytes_eq w u) ws) (or_parts (known seen v) (bytes_eq w v) both).1 others.1)
 
 -- there is room for what the statements declare
 record Room (seen : Names) (ss : List Statement) : Type 0 where
@@ -119,10 +105,6 @@ record Room (seen : Names) (ss : List Statement) : Type 0 where
 
 abbrev plus_all : Names → List Statement → Names
 plus_all seen ss = record { types = seen.types ++ types_in ss; attributes = seen.attributes ++ attributes_in ss; allows = seen.allows + allows_in ss }
-
-append_none : {X : Type 0} (xs : List X) → xs ++ [] ≡ xs
-append_none [] = refl
-append_none (x ∷ xs) = ap (λ ys. x ∷ ys) (append_none xs)
 
 abbrev names : List (List ℕ) → List (List ℕ) → ℕ → Names
 names ts gs n = record { types = ts; attributes = gs; allows = n }
@@ -181,7 +163,7 @@ length-push xs w = length-append xs (w ∷ [])
 
 -- clean statements are added
 room_added : (ss : List Statement) (seen : Names) → Room seen ss → all_added seen ss ≡ Ok (plus_all seen ss)
-room_added [] seen r = ap (λ (q : Names). ok_of q) (same_names seen.types (seen.types ++ []) seen.attributes (seen.attributes ++ []) seen.allows (seen.allows + 0) (sym (append_none seen.types)) (sym (append_none seen.attributes)) (let e : seen.allows ≡ seen.allows + 0 = omega arith in e))
+room_added [] seen r = ap (λ (q : Names). ok_of q) (same_names seen.types (seen.types ++ []) seen.attributes (seen.attributes ++ []) seen.allows (seen.allows + 0) (sym (append-nil seen.types)) (sym (append-nil seen.attributes)) (let e : seen.allows ≡ seen.allows + 0 = omega arith in e))
 room_added (DeclareType w ms ∷ ss) seen r =
     let t = r.types in
     let longer = length-push seen.types w in
@@ -218,7 +200,7 @@ old_allow seen (w ∷ ws) new = (new.0, old_allow seen ws new.1)
 added_room : (ss : List Statement) (seen end : Names) → all_added seen ss ≡ Ok end → length seen.types ≤ 256 → length seen.attributes ≤ 256 → seen.allows ≤ 65536 → Room seen ss × (plus_all seen ss ≡ end)
 added_room [] seen end e ft fa fn = (
   record { distinct = tt; new = tt; types = omega arith; attributes = omega arith; allows = omega arith },
-  same_names (seen.types ++ []) seen.types (seen.attributes ++ []) seen.attributes (seen.allows + 0) seen.allows (append_none seen.types) (append_none seen.attributes) (let e : seen.allows + 0 ≡ seen.allows = omega arith in e) ∙ ok_part seen end e,
+  same_names (seen.types ++ []) seen.types (seen.attributes ++ []) seen.attributes (seen.allows + 0) seen.allows (append-nil seen.types) (append-nil seen.attributes) (let e : seen.allows + 0 ≡ seen.allows = omega arith in e) ∙ ok_part seen end e,
 )
 added_room (DeclareType w ms ∷ ss) seen end e ft fa fn =
     let b = bind_ok (with_type seen w 0) (λ n. all_added n ss) end e in

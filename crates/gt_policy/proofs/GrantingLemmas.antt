@@ -36,12 +36,8 @@ use Rattle.gt_policy.specs.Allowing.{was_given, stands_for, is_with, is_without,
 use Rattle.gt_policy.specs.Granting.{mentions, gives, is_named, names_with, names_without, set_holds, is_self, lists_word, statement_grants, is_granted}
 use Rattle.gt_policy.proofs.TextLemmas.{bind_ok}
 use Rattle.gt_policy.proofs.PermLemmas.{lists_words}
-
-abbrev pub ok_of : {A : Type 0} → A → Result A Fault
-ok_of a = Ok a
-
-pub ok_part : {A : Type 0} (a b : A) → ok_of a ≡ ok_of b → a ≡ b
-ok_part a b e = cc
+use Rattle.gt_policy.proofs.BoolLemmas.{or_false, or_no, or_assoc}
+use Rattle.gt_policy.proofs.SpellingLemmas.{ok_of, ok_part}
 
 pub known_ok : (w : List ℕ) (n : ℕ) (o : Option Symbol) (s : Symbol) → any_symbol w n o ≡ Ok s → o ≡ Some s
 known_ok w n (Some x) s e = ap (λ y. Some y) (ok_part x s e)
@@ -74,41 +70,31 @@ attribute_place (Some j) a i e = let same : IsType j ≡ IsAttribute i = same_So
 attribute_place None (Some j) i e = ap (λ y. Some y) (let same : IsAttribute j ≡ IsAttribute i = same_Some (IsAttribute j) (IsAttribute i) e in cc)
 attribute_place None None i e = absurd (none-some (IsAttribute i) e)
 
-same_type : (names : Names) (v w : List ℕ) (i j : ℕ) → symbol_of names v ≡ Some (IsType j) → symbol_of names w ≡ Some (IsType i) → bytes_eq v w ≡ (i == j)
-same_type names v w i j e f = go (bytes_eq v w) refl
+-- two names of one kind are the same where their numbers are
+same_symbol : (names : Names) (make : ℕ → Symbol) (declared : List (List ℕ)) (v w : List ℕ) (i j : ℕ) → ((a b : ℕ) → make a ≡ make b → a ≡ b)
+    → ((u : List ℕ) (a : ℕ) → symbol_of names u ≡ Some (make a) → position (λ t. bytes_eq t u) declared ≡ Some a)
+    → symbol_of names v ≡ Some (make j) → symbol_of names w ≡ Some (make i) → bytes_eq v w ≡ (i == j)
+same_symbol names make declared v w i j apart place e f = go (bytes_eq v w) refl
   where
     go : (b : Bool) → bytes_eq v w ≡ b → b ≡ (i == j)
     go true s =
-        let same : Some (IsType j) ≡ Some (IsType i) = sym e ∙ ap (λ u. symbol_of names u) ((bytes_eq-Decides v w).0 s) ∙ f in
-        let number : IsType j ≡ IsType i = same_Some (IsType j) (IsType i) same in
-        let equal : j ≡ i = cc in grind (arith, nat_tests)
+        let same : Some (make j) ≡ Some (make i) = sym e ∙ ap (λ u. symbol_of names u) ((bytes_eq-Decides v w).0 s) ∙ f in
+        let equal : j ≡ i = apart j i (same_Some (make j) (make i) same) in grind (arith, nat_tests)
     go false s = other (i == j) refl
       where
         other : (c : Bool) → (i == j) ≡ c → false ≡ c
         other true t =
             let equal : i ≡ j = grind (arith, nat_tests) in
-            let place : symbol_of names v ≡ Some (IsType i) = e ∙ ap (λ k. Some (IsType k)) (sym equal) in
-            let same = at_place names.types v w i (type_place _ _ i place) (type_place _ _ i f) in
+            let there : symbol_of names v ≡ Some (make i) = e ∙ ap (λ k. Some (make k)) (sym equal) in
+            let same = at_place declared v w i (place v i there) (place w i f) in
             sym s ∙ (bytes_eq-Decides v w).1 same
         other false t = refl
 
+same_type : (names : Names) (v w : List ℕ) (i j : ℕ) → symbol_of names v ≡ Some (IsType j) → symbol_of names w ≡ Some (IsType i) → bytes_eq v w ≡ (i == j)
+same_type names v w i j e f = same_symbol names (λ n. IsType n) names.types v w i j (λ a b h. cc) (λ u a h. type_place _ _ a h) e f
+
 same_attribute : (names : Names) (v w : List ℕ) (i j : ℕ) → symbol_of names v ≡ Some (IsAttribute j) → symbol_of names w ≡ Some (IsAttribute i) → bytes_eq v w ≡ (i == j)
-same_attribute names v w i j e f = go (bytes_eq v w) refl
-  where
-    go : (b : Bool) → bytes_eq v w ≡ b → b ≡ (i == j)
-    go true s =
-        let same : Some (IsAttribute j) ≡ Some (IsAttribute i) = sym e ∙ ap (λ u. symbol_of names u) ((bytes_eq-Decides v w).0 s) ∙ f in
-        let number : IsAttribute j ≡ IsAttribute i = same_Some (IsAttribute j) (IsAttribute i) same in
-        let equal : j ≡ i = cc in grind (arith, nat_tests)
-    go false s = other (i == j) refl
-      where
-        other : (c : Bool) → (i == j) ≡ c → false ≡ c
-        other true t =
-            let equal : i ≡ j = grind (arith, nat_tests) in
-            let place : symbol_of names v ≡ Some (IsAttribute i) = e ∙ ap (λ k. Some (IsAttribute k)) (sym equal) in
-            let same = at_place names.attributes v w i (attribute_place _ _ i place) (attribute_place _ _ i f) in
-            sym s ∙ (bytes_eq-Decides v w).1 same
-        other false t = refl
+same_attribute names v w i j e f = same_symbol names (λ n. IsAttribute n) names.attributes v w i j (λ a b h. cc) (λ u a h. attribute_place _ _ a h) e f
 
 -- a type is no attribute
 apart : (names : Names) (v w : List ℕ) (i j : ℕ) → symbol_of names v ≡ Some (IsAttribute j) → symbol_of names w ≡ Some (IsType i) → bytes_eq v w ≡ false
@@ -127,19 +113,6 @@ bytes_eq_swap v w = go (bytes_eq v w) (bytes_eq w v) refl refl
     go true c e f = sym ((bytes_eq-Decides w v).1 (sym ((bytes_eq-Decides v w).0 e))) ∙ f
     go false true e f = sym e ∙ (bytes_eq-Decides v w).1 (sym ((bytes_eq-Decides w v).0 f))
     go false false e f = refl
-
-or_no : (b c : Bool) → b ≡ (b || (c && false))
-or_no true c = refl
-or_no false true = refl
-or_no false false = refl
-
-pub or_false : (b : Bool) → b ≡ (b || false)
-or_false true = refl
-or_false false = refl
-
-or_assoc : (a b c : Bool) → ((a || b) || c) ≡ (a || (b || c))
-or_assoc true b c = refl
-or_assoc false b c = refl
 
 and_false : (b : Bool) → (b && false) ≡ false
 and_false true = refl

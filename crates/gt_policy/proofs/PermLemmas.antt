@@ -18,6 +18,7 @@ use Rattle.gt_policy.specs.Resolving.{no_perms, all_perms, union, with_named, pe
 use Rattle.gt_policy.specs.Granting.{lists_word}
 use Rattle.gt_policy.specs.TypeSets.{is_set}
 use Rattle.gt_policy.proofs.TypeSetLemmas.{is_set-or}
+use Rattle.gt_policy.proofs.BoolLemmas.{or_false, or_assoc}
 
 abbrev pub bit : ℕ → Perms
 bit n = record { 0 = n }
@@ -38,10 +39,6 @@ lists_union p q k =
 abbrev lists_opt : Option Perms → Perms → Bool
 lists_opt None p = false
 lists_opt (Some q) p = lists_perm q p
-
-or_false : (b : Bool) → b ≡ (b || false)
-or_false true = refl
-or_false false = refl
 
 lists_with : (p : Perms) (o : Option Perms) (k : ℕ) → lists_perm (with_named p o) (bit (2 ^ k)) ≡ (lists_perm p (bit (2 ^ k)) || lists_opt o (bit (2 ^ k)))
 lists_with p (Some q) k = lists_union p q k
@@ -102,10 +99,6 @@ lists_named c k word w = go (bytes_eq w c) refl
     go : (v : Bool) → bytes_eq w c ≡ v → lists_opt (look_up table w) (bit (2 ^ k)) ≡ v
     go true e = ap (λ u. lists_opt (look_up table u) (bit (2 ^ k))) ((bytes_eq-Decides w c).0 e) ∙ word.self
     go false e = looked_other table w c (2 ^ k) e word.agrees
-
-or_assoc : (a b c : Bool) → ((a || b) || c) ≡ (a || (b || c))
-or_assoc true b c = refl
-or_assoc false b c = refl
 
 lists_from : (c : List ℕ) (k : ℕ) → IsWord c k → (ws : List (List ℕ)) (p : Perms) → lists_perm (perms_from p ws) (bit (2 ^ k)) ≡ (lists_perm p (bit (2 ^ k)) || list_any (λ v. bytes_eq v c) ws)
 lists_from c k word [] p = or_false (lists_perm p (bit (2 ^ k)))

@@ -5,7 +5,6 @@ use Rattle.std.specs.List.{list_any}
 use Rattle.std.proofs.lemmas.Bool.{eqb-true, false≢true}
 use Rattle.std.proofs.lemmas.List.{take_all}
 use Rattle.std.proofs.lemmas.List.Folds.{list_any_more}
-use Rattle.std.proofs.Math.Path.{fun_ext}
 use Rattle.gt_types.specs.declared.perms.Perms.{Perms}
 use Rattle.gt_types.specs.Names as names
 use Rattle.gt_types.specs.Names.{is_permission, every_permission}
@@ -16,6 +15,7 @@ use Rattle.gt_policy.specs.Allowing.{lists_perm, grants, some_grants}
 use Rattle.gt_policy.specs.Resolving.{union}
 use Rattle.gt_policy.specs.Rows.{Lane, reaches, is_reached}
 use Rattle.gt_policy.proofs.PermLemmas.{bit, lists_union}
+use Rattle.gt_policy.proofs.BoolLemmas.{or_false}
 
 -- each lane has grown by the types that these permissions reach
 abbrev pub AreGrown : Perms → (ℕ → Bool) → List Lane → List Lane → Type 0
@@ -26,10 +26,6 @@ AreGrown perms reached (l ∷ ls) (n ∷ ns) = (n.0 ≡ l.0) × ((t : ℕ) → h
 
 same_lists : (perms p q : Perms) → (p.0 == q.0) ≡ true → lists_perm perms p ≡ lists_perm perms q
 same_lists perms p q e = ap (λ (n : ℕ). bit_and perms.0 n == n) (eqb-true p.0 q.0 e)
-
-or_none : (b : Bool) → b ≡ (b || false)
-or_none true = refl
-or_none false = refl
 
 grown_lanes : (perms : Perms) (reached : ℕ → Bool) (old new : List Lane) → AreGrown perms reached old new → (t : ℕ) (perm : Perms) → reaches new t perm ≡ (reaches old t perm || (list_any (λ l. l.0.0 == perm.0) old && (lists_perm perms perm && reached t)))
 grown_lanes perms reached [] [] h t perm = refl
@@ -65,7 +61,7 @@ no_grant false l h r e = refl
 
 -- a statement whose sources the type is not among adds nothing
 pub nothing_grown : (rule : Rule) (s t : ℕ) (perm : Perms) (b : Bool) → holds rule.source s ≡ false → b ≡ (b || (is_permission perm && grants rule s t perm))
-nothing_grown rule s t perm b e = or_none b ∙ ap (λ (x : Bool). b || x) (no_grant (is_permission perm) (lists_perm rule.perms perm) (holds rule.source s) _ e)
+nothing_grown rule s t perm b e = or_false b ∙ ap (λ (x : Bool). b || x) (no_grant (is_permission perm) (lists_perm rule.perms perm) (holds rule.source s) _ e)
 
 -- a permission that has no lane
 pub no_lane : (ls : List Lane) (t : ℕ) (perm : Perms) → list_any (λ l. l.0.0 == perm.0) ls ≡ false → reaches ls t perm ≡ false
@@ -163,7 +159,7 @@ pub if_taken : (a b c : Bool) → b ≡ true → (a || c) ≡ (a || (b && c))
 if_taken a b c e = ap (λ (x : Bool). a || (x && c)) (sym e)
 
 pub if_not : (a b c : Bool) → b ≡ false → a ≡ (a || (b && c))
-if_not a b c e = or_none a ∙ ap (λ (x : Bool). a || (x && c)) (sym e)
+if_not a b c e = or_false a ∙ ap (λ (x : Bool). a || (x && c)) (sym e)
 
 step_cases : (x here b v : Bool) → (v ≡ true → here ≡ b) → ((x && here) || (b && v)) ≡ ((x || v) && here)
 step_cases true true true true same = refl

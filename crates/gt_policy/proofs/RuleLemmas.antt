@@ -15,6 +15,7 @@ use Rattle.std.proofs.Math.Path.{fun_ext}
 use Rattle.gt_policy.specs.TypeSets.{is_set, holds}
 use Rattle.gt_policy.specs.Members.{no_types}
 use Rattle.gt_policy.specs.Allowing.{was_given, is_granted_by}
+use Rattle.gt_policy.proofs.BoolLemmas.{or_no}
 
 -- nothing is in the set with no type
 no_types-none : (n : ℕ) → holds no_types n ≡ false
@@ -24,11 +25,6 @@ no_types-none n = go (nat_lt n 128) (nat_lt n 256)
     go true w = ap (λ x. x == 1) (bit_at-zero n)
     go false true = ap (λ x. x == 1) (bit_at-zero (n - 128))
     go false false = refl
-
-or_no : (b c : Bool) → b ≡ (b || (c && false))
-or_no true c = refl
-or_no false true = refl
-or_no false false = refl
 
 or_yes : (b c : Bool) → (b || c) ≡ (b || (c && true))
 or_yes true c = refl

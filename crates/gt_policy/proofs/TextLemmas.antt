@@ -15,13 +15,8 @@ use Rattle.gt_policy.specs.Names.{Names, with_type, with_attribute, with_allow}
 use Rattle.gt_policy.specs.Grammar.{Lexemes, Reading, ◌>>=◌, at, excluded, type_name, attribute_name, attributes, set_of, colon, semicolon, classes_of, is_grant_alone, perms_of, allow_statement, typeattribute_statement, type_statement, attribute_statement, beside, next_one, statement}
 use Rattle.gt_policy.specs.Spelling.{SpellsSet, SpellsPerms, SpellsStatement, type_of, attribute_of, attributes_of, allow_of, SpellsText, text_end, statement_of}
 use Rattle.gt_policy.specs.Whole.{Follows, ended, more, wrong}
-use Rattle.gt_policy.proofs.SpellingLemmas.{names_read, names_spelled, names_shorter, set_read, set_spelled, set_shorter, classes_read, classes_spelled, list_shorter, perms_read, perms_spelled, perms_shorter}
-
-abbrev ok_of : {A : Type 0} → A → Result A Fault
-ok_of a = Ok a
-
-ok_part : {A : Type 0} (a b : A) → ok_of a ≡ ok_of b → a ≡ b
-ok_part a b e = cc
+use Rattle.gt_policy.proofs.SpellingLemmas.{ok_of, ok_part, names_read, names_spelled, names_shorter, set_read, set_spelled, set_shorter, classes_read, classes_spelled, list_shorter, perms_read, perms_spelled, perms_shorter}
+use Rattle.std.proofs.lemmas.List.{append-nil}
 
 pub bind_ok : {A B : Type 0} (m : Result A Fault) (f : A → Result B Fault) (y : B) → (m >>= f) ≡ ok_of y → (x : A) × (m ≡ ok_of x) × (f x ≡ ok_of y)
 bind_ok (Ok x) f y e = (x, refl, e)
@@ -272,15 +267,11 @@ abbrev pub all_added : Names → List Statement → Result Names Fault
 all_added seen [] = Ok seen
 all_added seen (s ∷ ss) = added seen s >>= λ next. all_added next ss
 
-append_none : {X : Type 0} (xs : List X) → xs ++ [] ≡ xs
-append_none [] = refl
-append_none (x ∷ xs) = ap (λ ys. x ∷ ys) (append_none xs)
-
 pub text_read : (seen : Names) (ss : List Statement) (ls : Lexemes) (said : Result (Names × List Statement) Fault) → Follows seen ss ls said → (names : Names) (all : List Statement) → said ≡ Ok (names, all)
     → (others : List Statement) × (all ≡ ss ++ others) × SpellsText others ls × (all_added seen others ≡ Ok names)
 text_read seen ss ls said (ended _ _ _ rest e) names all is =
     let same = ok_part (seen, ss) (names, all) is in
-    ([], sym (ap (λ q. q.1) same) ∙ sym (append_none ss), end_read seen ls rest e, ap (λ (q : Names × List Statement). ok_of q.0) same)
+    ([], sym (ap (λ q. q.1) same) ∙ sym (append-nil ss), end_read seen ls rest e, ap (λ (q : Names × List Statement). ok_of q.0) same)
 text_read seen ss ls said (more _ next _ s _ rest _ e h) names all is =
     let found = statement_read seen ls s next rest e in
     let r = text_read next (ss ++ s ∷ []) rest said h names all is in
@@ -291,7 +282,7 @@ pub text_spelled : (others : List Statement) (ls : Lexemes) → SpellsText other
 unfolding statement
 text_spelled others ls (text_end n behind) seen names ss fits =
     subst (λ (q : Names). Follows seen ss ((End, n) ∷ behind) (Ok (q, ss ++ []))) (ok_part seen names fits)
-    (subst (λ (xs : List Statement). Follows seen ss ((End, n) ∷ behind) (Ok (seen, xs))) (sym (append_none ss)) (ended seen ss ((End, n) ∷ behind) [] refl))
+    (subst (λ (xs : List Statement). Follows seen ss ((End, n) ∷ behind) (Ok (seen, xs))) (sym (append-nil ss)) (ended seen ss ((End, n) ∷ behind) [] refl))
 text_spelled others ls (statement_of s after _ rest h t) seen names ss fits =
     let b = bind_ok (added seen s) (λ next. all_added next after) names fits in
     more seen b.0 ss s ls rest (Ok (names, ss ++ s ∷ after)) (statement_spelled seen b.0 s ls rest h b.1)

@@ -7,6 +7,7 @@ use Rattle.std.proofs.lemmas.Bool.Decides.{nat_tests}
 use Rattle.std.proofs.lemmas.Nat.Bits.{bit_at-lt, bit_at_or, bit_at_and, bit_at_not, bit_at_set_same, bit_at_set_other}
 use Rattle.gt_policy.specs.declared.types.TypeSet.{TypeSet}
 use Rattle.gt_policy.specs.TypeSets.{is_set, holds}
+use Rattle.gt_policy.proofs.BoolLemmas.{or_false}
 
 -- bits are below two
 or_bits : (a b : ℕ) → a < 2 → b < 2 → (max a b == 1) ≡ ((a == 1) || (b == 1))
@@ -26,10 +27,6 @@ is_set-without a b n fits within =
 or_true : (b : Bool) → true ≡ (b || true)
 or_true true = refl
 or_true false = refl
-
-or_false : (b : Bool) → b ≡ (b || false)
-or_false true = refl
-or_false false = refl
 
 -- one more bit
 pub is_set-with : (a k n : ℕ) → k < 128 → is_set (bit_or a (1 * 2 ^ k % 2 ^ 128)) n ≡ (is_set a n || (n == k))

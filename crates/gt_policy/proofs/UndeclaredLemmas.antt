@@ -27,9 +27,7 @@ use Rattle.gt_policy.specs.Accepting.{meant_by}
 use Rattle.gt_policy.specs.Undeclared.{Role, InSet, OfType, OfAttribute, Use, all_used, set_uses, statement_uses, uses_of, is_type, is_attribute, is_met, AreDeclared, IsFirstUndeclared}
 use Rattle.gt_policy.proofs.CleanLemmas.{declared_known, is_some_position}
 use Rattle.gt_policy.proofs.GrantingLemmas.{bytes_eq_swap}
-
-abbrev ok_of : {A : Type 0} → A → Result A Fault
-ok_of a = Ok a
+use Rattle.gt_policy.proofs.SpellingLemmas.{ok_of}
 
 -- a walk over these names ends well where all are declared, and else with the fault of the first that is not
 abbrev Tells : {X : Type 0} → List Statement → List Use → Result X Fault → Type 0

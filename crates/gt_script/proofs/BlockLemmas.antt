@@ -9,6 +9,7 @@ use Rattle.std.proofs.lemmas.Slice.Eq.{bytes_eq-Decides}
 use Rattle.std.specs.Str.{bytes_eq}
 use Rattle.gt_lines.specs.Words.{words}
 use Rattle.gt_script.specs.Blocks.{is_just, opening, closing}
+use Rattle.gt_script.specs.Laws.{HasNone}
 use Rattle.gt_script.proofs.ScriptLemmas.{texts}
 
 -- a place found behind others
@@ -122,22 +123,15 @@ opens_at (l ∷ ls) place h = by (eqb (length (words l)) 0) refl (λ n e. opens_
     by true e on h = later (opening ls) refl (no_words (words l) e) on h
     by false e on h = here (is_just (codes "policy") (words l)) refl h
 
--- no line opens a block
-pub record NoneOpens (ls : List (List ℕ)) : Type 0 where
-  pub front : List (List ℕ)
-  pub others : List (List ℕ)
-  pub parts : ls ≡ front ++ others
-  pub nothing : All (λ l. words l ≡ []) front
-  pub another : (l : List ℕ) (rest : List (List ℕ)) → others ≡ l ∷ rest → (words l ≢ []) × (words l ≢ codes "policy" ∷ [])
-
 first_is : (l m : List ℕ) (ls ms : List (List ℕ)) → l ∷ ls ≡ m ∷ ms → l ≡ m
 first_is l m ls ms e = cc
 
-pub none_opens : (ls : List (List ℕ)) → opening ls ≡ None → NoneOpens ls
+-- no line opens a block
+pub none_opens : (ls : List (List ℕ)) → opening ls ≡ None → HasNone ls
 none_opens [] h = record { front = []; others = []; parts = refl; nothing = All-nil (λ x. words x ≡ []); another = λ l rest e. absurd cc }
 none_opens (l ∷ ls) h = by (eqb (length (words l)) 0) refl (λ e. none_opens ls e) h
   where
-    later : (o : Option ℕ) → opening ls ≡ o → words l ≡ [] → (opening ls ≡ None → NoneOpens ls) → option_map (λ n. suc n) o ≡ None → NoneOpens (l ∷ ls)
+    later : (o : Option ℕ) → opening ls ≡ o → words l ≡ [] → (opening ls ≡ None → HasNone ls) → option_map (λ n. suc n) o ≡ None → HasNone (l ∷ ls)
     later None e blank on h =
         let rest = on e in
         record {
@@ -149,7 +143,7 @@ none_opens (l ∷ ls) h = by (eqb (length (words l)) 0) refl (λ e. none_opens l
         }
     later (Some n) e blank on h = absurd cc
 
-    here : (b : Bool) → is_just (codes "policy") (words l) ≡ b → words l ≢ [] → cond {A = Option ℕ} b (Some 0) None ≡ None → NoneOpens (l ∷ ls)
+    here : (b : Bool) → is_just (codes "policy") (words l) ≡ b → words l ≢ [] → cond {A = Option ℕ} b (Some 0) None ≡ None → HasNone (l ∷ ls)
     here true e some h = absurd cc
     here false e some h = record {
       front = [];
@@ -159,7 +153,7 @@ none_opens (l ∷ ls) h = by (eqb (length (words l)) 0) refl (λ e. none_opens l
       another = λ m rest is. subst (λ (x : List ℕ). (words x ≢ []) × (words x ≢ codes "policy" ∷ [])) (first_is l m ls rest is) (some, just-not (codes "policy") (words l) e);
     }
 
-    by : (b : Bool) → eqb (length (words l)) 0 ≡ b → (opening ls ≡ None → NoneOpens ls) → cond b (option_map (λ n. suc n) (opening ls)) (cond {A = Option ℕ} (is_just (codes "policy") (words l)) (Some 0) None) ≡ None → NoneOpens (l ∷ ls)
+    by : (b : Bool) → eqb (length (words l)) 0 ≡ b → (opening ls ≡ None → HasNone ls) → cond b (option_map (λ n. suc n) (opening ls)) (cond {A = Option ℕ} (is_just (codes "policy") (words l)) (Some 0) None) ≡ None → HasNone (l ∷ ls)
     by true e on h = later (opening ls) refl (no_words (words l) e) on h
     by false e on h = here (is_just (codes "policy") (words l)) refl (some_words (words l) e) h
 

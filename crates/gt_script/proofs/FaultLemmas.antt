@@ -31,7 +31,8 @@ use Rattle.gt_script.specs.declared.faults.ScriptError.TheVariants as errors
 use Rattle.gt_script.specs.declared.faults.FaultKind.{FaultKind}
 use Rattle.gt_script.specs.declared.faults.FaultKind.TheVariants.{Syntax, Config}
 use Rattle.gt_script.specs.declared.faults.Fault.{Fault}
-use Rattle.gt_script.proofs.BlockLemmas.{OpensAt, opens_at, NoneOpens, none_opens, ClosesAt, closes_at, none_closes}
+use Rattle.gt_streams.specs.Laws.{take_whole}
+use Rattle.gt_script.proofs.BlockLemmas.{OpensAt, opens_at, none_opens, ClosesAt, closes_at, none_closes}
 use Rattle.gt_script.proofs.ScriptLemmas.{texts}
 use Rattle.gt_script.proofs.LawLemmas.{with_lines-Extends, faultless-none}
 use Rattle.gt_script.proofs.TypeLemmas.{Grown-refl}
@@ -268,9 +269,6 @@ lines-Ok command ls (Some place) s opens e = block-Ok command ls place (closing 
 
 -- what the lines say, if it is a fault
 
-none-has : (ls : List (List ℕ)) → NoneOpens ls → HasNone ls
-none-has ls n = record { front = n.front; others = n.others; parts = n.parts; nothing = n.nothing; another = n.another }
-
 open-with : (ls : List (List ℕ)) (place : ℕ) → OpensAt ls place → closing (drop (place + 1) ls) ≡ None → IsOpen ls
 open-with ls place o none = record {
   front = take place ls;
@@ -300,7 +298,7 @@ block-script command ls place None f opens closes e = inr (inl (open-with ls pla
 block-script command ls place (Some end) f opens closes e = inr (inr (closed-script command ls (place + 1) end f (block-at ls place end opens closes) e))
 
 lines-script : (command : Command) (ls : List (List ℕ)) (o : Option ℕ) (f : Fault) → opening ls ≡ o → LinesSay command ls o (Err (in_script f)) → IsFaultOfLines command ls f
-lines-script command ls None f opens e = inl (none-has ls (none_opens ls opens), fault-by (length ls) 1 ls (empty command) f (with_lines (empty command) 1 ls) refl (in_result-script _ f e))
+lines-script command ls None f opens e = inl (none_opens ls opens, fault-by (length ls) 1 ls (empty command) f (with_lines (empty command) 1 ls) refl (in_result-script _ f e))
 lines-script command ls (Some place) f opens e = block-script command ls place (closing (drop (place + 1) ls)) f opens refl e
 
 closed-policy : (command : Command) (bytes : List ℕ) (first end : ℕ) (g : policy.Fault) → length bytes ≤ 1048576 → IsUtf8 bytes → Block (lines_in bytes) first end → ClosedSays command (length (lines_in bytes)) first (drop first (lines_in bytes)) end (Err (in_policy g)) → IsFaultOfBlock bytes g
@@ -356,11 +354,6 @@ answers-fault command bytes (Err (errors.Policy e)) (g, shown, h) = (g, shown, t
 
 longer : (n : ℕ) (xs : List ℕ) → n < length (take (n + 1) xs) → n < length xs
 longer n xs h = let many : length (take (n + 1) xs) ≤ length xs = rw length-take (omega arith) in omega (arith, many, h)
-
-take_whole : (n : ℕ) (xs : List ℕ) → length (take (n + 1) xs) ≤ n → take (n + 1) xs ≡ xs
-take_whole n xs h =
-    let few : min (n + 1) (length xs) ≤ n = subst (λ (k : ℕ). k ≤ n) (length-take (n + 1) xs) h in
-    take_all (n + 1) xs (omega (arith, few))
 
 tells-all : (command : Command) (all : List ℕ) (said : Result Contents Wrong) → TellsFor command (take 1048577 all) said → TellsFor command all said
 tells-all command all said (inl (long, e)) = inl (longer 1048576 all long, e)

@@ -18,6 +18,7 @@ use Rattle.gt_script.specs.declared.orders.Order.{Order}
 use Rattle.gt_script.specs.declared.orders.RunLine.{RunLine}
 use Rattle.gt_script.specs.declared.orders.RunLine.TheVariants as runs
 use Rattle.gt_script.specs.declared.tasks.Task.{Task}
+use Rattle.gt_script.proofs.TypeLemmas.{same_bytes}
 
 any-names : (keys : List (Bor (List ℕ))) (name : List ℕ) → list_any (λ k. bytes_eq name k.now) keys ≡ list_any (bytes_eq name) (names_in keys)
 any-names [] name = refl
@@ -83,9 +84,6 @@ flags-unnamed orders i x names within so_far here =
 
 abbrev Has : List (List ℕ) → List ℕ → Type 0
 Has names name = list_any (bytes_eq name) names ≡ true
-
-same_bytes : (name : List ℕ) → bytes_eq name name ≡ true
-same_bytes name = (bytes_eq-Decides name name).1 refl
 
 or-right : (a b : Bool) → b ≡ true → (a || b) ≡ true
 or-right true b e = refl

@@ -4,6 +4,7 @@ use Rattle.std.specs.List.{slice_get, sum_by, list_any}
 use Rattle.std.proofs.lemmas.Grind.{get_or_default_zero}
 use Rattle.std.proofs.lemmas.Bool.{cases_eq, cases_lt, eqb-true}
 use Rattle.std.proofs.lemmas.List.Folds.{Any-from_list_any}
+use Rattle.std.proofs.lemmas.Bool.{or_parts}
 use Rattle.gt_types.specs.Config.{is_taken}
 use Rattle.std.specs.Option.{is_some}
 use Rattle.std.proofs.Math.Seq.{take-suc}
@@ -209,11 +210,6 @@ turn-start tasks domains places told have = record {
   rest = λ e i d below there. absurd (omega arith);
 }
 
-both-false : (a b : Bool) → (a || b) ≡ false → (a ≡ false) × (b ≡ false)
-both-false false false e = (refl, refl)
-both-false false true e = absurd cc
-both-false true b e = absurd cc
-
 loud-turn : (old new newer : List Bool) (news more : Bool) → (news ≡ false → new ≡ old) → (news ≡ true → untold new < untold old) → (more ≡ false → newer ≡ new) → (more ≡ true → untold newer < untold new)
     → (news || more) ≡ true → untold newer < untold old
 loud-turn old new newer news true quiet loud calm strong e = let some = no_fewer old new news quiet loud in let less = strong refl in omega (arith, some, less)
@@ -241,7 +237,7 @@ turn-more tasks domains places old new newer i p news more x t within many (shor
       ];
       sound = λ set closed inside. way.sound set closed (t.sound set closed inside);
       many = way.many ∙ t.many;
-      quiet = λ e. way.quiet (both-false news more e).1 ∙ t.quiet (both-false news more e).0;
+      quiet = λ e. way.quiet (or_parts news more e).1 ∙ t.quiet (or_parts news more e).0;
       loud = λ e. loud-turn old new newer news more t.quiet t.loud way.quiet way.loud e;
       rest = λ e j d below there. elim (cases_eq j i) [
         | inl k ↦
@@ -252,7 +248,7 @@ turn-more tasks domains places old new newer i p news more x t within many (shor
             let place : get_or (set places i p) j 0 ≡ get_or places j 0 = get_or-set_other places i j p 0 n in
             let less : j < i = omega (arith, n) in
             subst (λ (k : ℕ). WaitsFor tasks d.id k newer) (sym place)
-            (subst (λ (l : List Bool). WaitsFor tasks d.id (get_or places j 0) l) (sym (way.quiet (both-false news more e).1)) (t.rest (both-false news more e).0 j d less there))
+            (subst (λ (l : List Bool). WaitsFor tasks d.id (get_or places j 0) l) (sym (way.quiet (or_parts news more e).1)) (t.rest (or_parts news more e).0 j d less there))
       ];
     }
 

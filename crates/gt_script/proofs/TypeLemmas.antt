@@ -55,7 +55,7 @@ pub record Typed (names : List (List ℕ)) (name : List ℕ) (r : List (List ℕ
   pub number : type_named r.0 name ≡ Some r.1
   pub grown : Grown names r.0
 
-same_bytes : (name : List ℕ) → bytes_eq name name ≡ true
+pub same_bytes : (name : List ℕ) → bytes_eq name name ≡ true
 same_bytes name = (bytes_eq-Decides name name).1 refl
 
 other_bytes : (a b : List ℕ) → bytes_eq a b ≡ false → a ≢ b

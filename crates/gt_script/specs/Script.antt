@@ -85,6 +85,11 @@ type_in (Some p) types name = option_map (λ id. (types, id)) (type_named p.type
 abbrev pub with_names : Contents → List (List ℕ) × TypeId → Contents × TypeId
 with_names c named = (record c { types = named.0 }, named.1)
 
+-- a name has this number as that of a domain's type, and the script takes in the name where it is new; none where the name is no type (own)
+abbrev pub GivesTypeNumber : Contents → Contents → List ℕ → Option TypeId → Type 0
+GivesTypeNumber old new name number =
+    option_map (λ id. (new, id)) number ≡ option_map (with_names old) (type_in old.policy old.types name)
+
 -- a script with one domain more, which has no fault behind those before it (own)
 unfoldable pub with_domain : Contents → DomainLine → Result Contents FaultKind
 with_domain c d = or_config (do

@@ -1,6 +1,7 @@
 -- The numbers of the types (own).
-use Rattle.std.specs.Prelude.{ℕ, List, [], ◌∷◌, ◌++◌, length, nat_lt, Option, Some, None, position}
+use Rattle.std.specs.Prelude.{◌≡◌, ℕ, List, [], ◌∷◌, ◌++◌, length, nat_lt, Option, Some, None, position}
 use Rattle.std.specs.Prelude.{if◌then◌else◌}
+use Rattle.std.specs.Option.{option_map}
 use Rattle.std.specs.Str.{bytes_eq}
 use Rattle.gt_types.specs.declared.TypeId.{TypeId}
 
@@ -10,3 +11,7 @@ with_type names name = elim (position (λ t. bytes_eq t name) names) [
   | Some i ↦ Some (names, record { 0 = i })
   | None ↦ if nat_lt (length names) 256 then Some (names ++ name ∷ [], record { 0 = length names }) else None
 ]
+
+-- a name has this number among the names, which take it in where it is new; none where it is one too many (own)
+abbrev pub GivesNumber : List (List ℕ) → List (List ℕ) → List ℕ → Option TypeId → Type 0
+GivesNumber old new name number = option_map (λ id. (new, id)) number ≡ with_type old name

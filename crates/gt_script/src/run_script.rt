@@ -95,7 +95,8 @@ pub fn parse_run<'a>(alloc: Global, bytes: &'a [u8]) -> Result<RunScript<'a>, Sc
     ensures holds { IfOk result (λ s. CanConfigure (told s.head)) }
 
     // What is read up to one byte past the limit decides for all that there is.
-    ensures beginning { (all : List ℕ) → bytes.entry.now ≡ take (LONGEST_TEXT + 1) all → RunAnswers result (RunTells all) }
+    ensures beginning { (all : List ℕ) → bytes.entry.now ≡ take (LONGEST_TEXT + 1) all →
+        RunAnswers result (RunTells all) }
 {
     match parse_for(alloc, Command::Run, bytes) {
         Ok(script) => of_script(alloc, script),

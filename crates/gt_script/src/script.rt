@@ -179,7 +179,7 @@ impl<'a> Script<'a> {
     ghost use Rattle.std.specs.Option.{option_map};
     ghost use Rattle.gt_policy.specs.Allowing.{allowed_of};
     ghost use Rattle.gt_script.specs.Contents.{told, empty, with_policy, without_orders, type_names, first_gen};
-    ghost use Rattle.gt_script.specs.Script.{with_triple, type_in, with_names, with_domain, with_step, with_order, with_body, with_line, with_words, with_lines, completed, whole, has_no_rights, has_body, is_misplaced};
+    ghost use Rattle.gt_script.specs.Script.{with_triple, GivesTypeNumber, with_domain, with_step, with_order, with_body, with_line, with_words, with_lines, completed, whole, has_no_rights, has_body, is_misplaced};
     ghost use Rattle.gt_script.specs.Outcomes.{Adds, Says};
 
     fn new(alloc: Global, command: Command) -> Script<'a>
@@ -284,7 +284,7 @@ impl<'a> Script<'a> {
 
     // The number of a domain's type, which the policy has to declare; without one any name is a type.
     fn type_number(&mut self, name: &'a [u8]) -> Result<Option<TypeId>, AllocError>
-        ensures { IfOk result (λ number. option_map (λ id. (told self.new, id)) number ≡ option_map (with_names (told self.old)) (type_in (told self.old).policy self.old.types name.entry.now)) }
+        ensures { IfOk result (GivesTypeNumber (told self.old) (told self.new) name.entry.now) }
     {
         match &self.policy {
             Some(policy) => Ok(policy.type_spelled(name)),
@@ -495,7 +495,8 @@ fn of_block<'a>(
 ) -> Result<Script<'a>, ScriptError>
     requires whole { first + length lines.now ≡ count }
     requires fits { count < 2 ^ 63 }
-    ensures { Answers result (BlockSays command count first (map (λ line. line.now) lines.now) (closing_in (map (λ line. line.now) lines.now))) }
+    ensures { let said = map (λ line. line.now) lines.now in
+        Answers result (BlockSays command count first said (closing_in said)) }
 {
     let Some(end) = closing(alloc, lines)? else {
         return Err(ScriptError::Fault(Fault {
@@ -518,7 +519,7 @@ fn of_lines<'a>(
     command: Command,
     lines: &[&'a str],
 ) -> Result<Script<'a>, ScriptError>
-    ensures { Answers result (LinesSay command (map (λ line. line.now) lines.now) (opening_in (map (λ line. line.now) lines.now))) }
+    ensures { let said = map (λ line. line.now) lines.now in Answers result (LinesSay command said (opening_in said)) }
 {
     match opening(alloc, lines)? {
         Some(place) => of_block(alloc, command, lines.len(), place + 1, &lines[place + 1..]),
@@ -535,7 +536,9 @@ fn of_text<'a>(alloc: Global, command: Command, text: &'a str) -> Result<Script<
 
 // The bytes as text, if they are not too many.
 fn script_text<'a>(bytes: &'a [u8]) -> Result<&'a str, Fault>
-    ensures text { IfOk result (λ text. (text.now ≡ bytes.entry.now) × (length bytes.entry.now ≤ LONGEST_TEXT) × IsUtf8 bytes.entry.now) }
+    ensures text { IfOk result (λ text. text.now ≡ bytes.entry.now) }
+    ensures few { IfOk result (λ _. length bytes.entry.now ≤ LONGEST_TEXT) }
+    ensures utf8 { IfOk result (λ _. IsUtf8 bytes.entry.now) }
     ensures fault { IfErr result (λ fault. IsUnread bytes.entry.now fault) }
 {
     if bytes.len() > LONGEST_TEXT {
@@ -564,7 +567,8 @@ pub fn parse_for<'a>(
     ensures fault { IfErr result (λ e. StandsFor command bytes.entry.now e) }
 
     // What is read up to one byte past the limit decides for all that there is.
-    ensures beginning { (all : List ℕ) → bytes.entry.now ≡ take (LONGEST_TEXT + 1) all → Answers result (TellsFor command all) }
+    ensures beginning { (all : List ℕ) → bytes.entry.now ≡ take (LONGEST_TEXT + 1) all →
+        Answers result (TellsFor command all) }
 {
     match script_text(bytes) {
         Ok(text) => of_text(alloc, command, text),
@@ -581,7 +585,8 @@ pub fn parse<'a>(alloc: Global, bytes: &'a [u8]) -> Result<Script<'a>, ScriptErr
     ensures fault { IfErr result (λ e. Stands bytes.entry.now e) }
 
     // What is read up to one byte past the limit decides for all that there is.
-    ensures beginning { (all : List ℕ) → bytes.entry.now ≡ take (LONGEST_TEXT + 1) all → Answers result (Tells all) }
+    ensures beginning { (all : List ℕ) → bytes.entry.now ≡ take (LONGEST_TEXT + 1) all →
+        Answers result (Tells all) }
 {
     parse_for(alloc, Command::Play, bytes)
 }

@@ -93,7 +93,8 @@ impl Turns {
         requires numbered { AreNumbered (length self.old.told.items) tasks.now }
         requires many { length self.old.places.items ≡ length domains.now }
         requires come { HaveCome tasks.now domains.now self.old.places.items self.old.told.items }
-        ensures turns { Turning tasks.now domains.now self.new.places.items self.old.told.items self.new.told.items (length domains.now) result }
+        ensures turns { Turning tasks.now domains.now self.new.places.items
+            self.old.told.items self.new.told.items (length domains.now) result }
         ensures many { length self.new.places.items ≡ length domains.now }
     {
         let mut is_news = false;

@@ -34,8 +34,7 @@ fn position_of(names: &[Text], name: &[u8]) -> Option<usize>
 
 impl<'a> TypeNames<'a> {
     ghost use Rattle.std.specs.Prelude.{[], IfOk};
-    ghost use Rattle.std.specs.Option.{option_map};
-    ghost use Rattle.gt_script.specs.Types.{with_type};
+    ghost use Rattle.gt_script.specs.Types.{GivesNumber};
 
     /// No names.
     pub fn new(alloc: Global) -> TypeNames<'a>
@@ -56,7 +55,7 @@ impl<'a> TypeNames<'a> {
     /// The number of a type, which is added if it is new; None where it is one too many.
     #[tactic(auto, unfolding(crate::specs::Types::with_type))]
     pub fn number(&mut self, name: &'a [u8]) -> Result<Option<TypeId>, AllocError>
-        ensures { IfOk result (λ number. option_map (λ id. (self.new, id)) number ≡ with_type self.old name.entry.now) }
+        ensures { IfOk result (GivesNumber self.old self.new name.entry.now) }
     {
         if let Some(at) = position_of(&self.names, name) {
             return Ok(Some(TypeId(at as u16)));

@@ -1,7 +1,8 @@
 -- What writes come to, one after the other.
-use Rattle.std.proofs.Common.{◌≡◌, ◌≤◌, IfSome, ℕ, ◌+◌, List, [], ◌++◌, length, take, Option, None, Some, refl, ap, sym, subst, ◌∙◌, append_assoc, length-append, arith}
+use Rattle.std.proofs.Common.{◌≡◌, ◌≤◌, IfSome, ℕ, ◌+◌, List, [], ◌++◌, length, take, Option, None, Some, Result, Ok, Err, min, refl, ap, sym, subst, ◌∙◌, append_assoc, length-append, arith}
 use Rattle.std.proofs.Math.Seq.{take-append-add}
-use Rattle.std.proofs.lemmas.List.{append-nil, take-append-le, take_all}
+use Rattle.std.proofs.lemmas.List.{append-nil, length-take, take-append-le, take_all}
+use Rattle.std.specs.Result.{OnErr}
 use Rattle.std.specs.Io.KnownBytes.{Appends, Keeps}
 use Rattle.gt_streams.specs.Streams.{AppendsBeginning, OfInput}
 
@@ -41,3 +42,14 @@ of_input (Some all) bytes P few e h = h all e
 pub of_any_input : (known : Option (List ℕ)) (P : List ℕ → Type 0) → ((all : List ℕ) → P all) → OfInput known P
 of_any_input None P h = ([], omega arith, h [])
 of_any_input (Some all) P h = h all
+
+-- a front with no more than n elements, of n + 1 that were asked for, is the whole
+pub take_whole : (n : ℕ) (xs : List ℕ) → length (take (n + 1) xs) ≤ n → take (n + 1) xs ≡ xs
+take_whole n xs h =
+    let few : min (n + 1) (length xs) ≤ n = subst (λ (k : ℕ). k ≤ n) (length-take (n + 1) xs) h in
+    take_all (n + 1) xs (omega (arith, few))
+
+-- what holds anyway holds at an error
+pub OnErr-all : {T E : Type 0} (r : Result T E) (P : Type 0) → P → OnErr r P
+OnErr-all (Ok x) P h = tt
+OnErr-all (Err e) P h = h

@@ -12,7 +12,10 @@ pub fn every_writer_keeps_what_it_has()
 /// A law: texts that go out one after the other are one text, and a beginning of the last one makes
 /// a beginning of that text.
 pub fn every_text_goes_on()
-    ensures both { (a b c : Option (List ℕ)) (xs ys : List ℕ) → Appends a b xs → Appends b c ys → Appends a c (xs ++ ys) }
-    ensures begins { (a b c : Option (List ℕ)) (xs ys : List ℕ) → Appends a b xs → AppendsBeginning b c ys → AppendsBeginning a c (xs ++ ys) }
-    ensures longer { (a c : Option (List ℕ)) (xs ys : List ℕ) → AppendsBeginning a c xs → AppendsBeginning a c (xs ++ ys) }
+    ensures both { (a b c : Option (List ℕ)) (xs ys : List ℕ) →
+        Appends a b xs → Appends b c ys → Appends a c (xs ++ ys) }
+    ensures begins { (a b c : Option (List ℕ)) (xs ys : List ℕ) →
+        Appends a b xs → AppendsBeginning b c ys → AppendsBeginning a c (xs ++ ys) }
+    ensures longer { (a c : Option (List ℕ)) (xs ys : List ℕ) →
+        AppendsBeginning a c xs → AppendsBeginning a c (xs ++ ys) }
 {}

@@ -32,7 +32,8 @@ fn fault_of(error: &Error) -> ReadFault
 // nothing, and more may follow.
 fn read_on<R: Read>(reader: &mut R, bytes: &mut Vec<u8>, room: usize) -> Result<bool, ReadFault>
     requires { 0 < room }
-    ensures ok { IfOk result (λ more. ReadsOn room more (R.remaining reader.old) (R.remaining reader.new) bytes.old.items bytes.new.items) }
+    ensures ok { IfOk result (λ more.
+        ReadsOn room more (R.remaining reader.old) (R.remaining reader.new) bytes.old.items bytes.new.items) }
     ensures err { OnErr result (ConsumesAtMost room (R.remaining reader.old) (R.remaining reader.new)) }
 {
     let mut piece = [0; PIECE];
@@ -51,7 +52,8 @@ fn read_on<R: Read>(reader: &mut R, bytes: &mut Vec<u8>, room: usize) -> Result<
 /// those bytes and no other. An Err tells whether memory was refused, here or in a read, or a read
 /// failed; the reader has then lost 1,048,577 bytes at most.
 pub fn read_text<R: Read>(alloc: Global, reader: &mut R) -> Result<Vec<u8>, ReadFault>
-    ensures text { IfOk result (λ bytes. IfSome (R.remaining reader.old) (λ all. bytes.items ≡ take READ_LIMIT all)) }
+    ensures text { IfOk result (λ bytes.
+        IfSome (R.remaining reader.old) (λ all. bytes.items ≡ take READ_LIMIT all)) }
     ensures limit { IfOk result (λ bytes. length bytes.items ≤ READ_LIMIT) }
     ensures read { IfOk result (λ bytes. Consumes (R.remaining reader.old) (R.remaining reader.new) bytes.items) }
     ensures err { OnErr result (ConsumesAtMost READ_LIMIT (R.remaining reader.old) (R.remaining reader.new)) }
@@ -103,7 +105,8 @@ pub fn write_text<W: Write>(writer: &mut W, text: &[u8]) -> Result<(), WriteFaul
 /// Writes the lines that wait, once there are 65,536 bytes of them: fewer wait then. After an Err a
 /// beginning of them may have gone out.
 pub fn send<W: Write>(writer: &mut W, waiting: &mut Vec<u8>) -> Result<(), WriteFault>
-    ensures ok { OnOk result (Sends (W.contents writer.old) (W.contents writer.new) waiting.old.items waiting.new.items) }
+    ensures ok { OnOk result (Sends (W.contents writer.old) (W.contents writer.new)
+        waiting.old.items waiting.new.items) }
     ensures few { OnOk result (length waiting.new.items < CHUNK) }
     ensures err { OnErr result (AppendsBeginning (W.contents writer.old) (W.contents writer.new) waiting.old.items) }
 {

@@ -6,7 +6,7 @@ use Rattle.gt_host.proofs.playing.play_bytes.Goals as goal
 
 pub returns-in-Ok : goal.returns-in-Ok
 returns-in-Ok g c = λ all e.
-    played_run (Tells all) c.args.audit (told c.in-Ok.script) c.write_run.result _ _ _ (c.in-Ok.ensures.beginning all e) c.write_run.ensures.whole c.write_run.ensures.beginning
+    played_run (Tells all) c.args.audit (told c.in-Ok.script) c.run_script.result _ _ _ (c.in-Ok.ensures.beginning all e) c.run_script.ensures.whole c.run_script.ensures.beginning
     (c.every_beginning_is_of_the_text.ensures (told c.in-Ok.script) c.args.audit _ _) c.told.ensures
 
 pub returns-in-Err : goal.returns-in-Err

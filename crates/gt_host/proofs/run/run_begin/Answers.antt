@@ -4,12 +4,12 @@ use Rattle.gt_host.specs.Runs.{history_of}
 use Rattle.gt_host.proofs.LineLemmas.{begin_answered, begin_busy, begin_open}
 use Rattle.gt_host.proofs.run.run_begin.Goals as goal
 
-pub returns-in_ok-settle-in-Done-clause-leads : goal.returns-in_ok-settle-in-Done-clause-leads
-returns-in_ok-settle-in-Done-clause-leads g c = λ p audit come.
+pub returns-in_ok-answer_call-in-Done-clause-leads : goal.returns-in_ok-answer_call-in-Done-clause-leads
+returns-in_ok-answer_call-in-Done-clause-leads g c = λ p audit come.
     begin_answered (setting_of c.args.core.now.config (g.P.Allows.may c.args.core.now.rights)) audit c.args.types.now c.args.step.now c.args.call.now p c.args.core.now.state _ c.args.kept.now
-    (record { labels = c.settle.new.labels; calls = c.args.kept.now.calls; audit = c.record.new.self }) c.args.out.now.items _ c.request_of-request.result c.in_ok-answer.field-0 c.in-Done.answer c.about-told.result
+    (record { labels = c.answer_call.new.labels; calls = c.args.kept.now.calls; audit = c.record.new.self }) c.args.out.now.items _ c.request_of-request.result c.in_ok-answer.field-0 c.in-Done.answer c.about-told.result
     (c.args.bytes, c.requires.said, c.request_of-request.ensures p.named come.keeps.names) c.in-Done.is come c.about-told.ensures (record { is_on = c.record.ensures.on; records = c.in_ok-record-in-Done.ensures.records }) (c.in_ok-answer.ensures.stands (history_of p) come.stands)
-    (c.in_ok-settle-in-Done.ensures.named p.named come.keeps.names) refl c.in_ok-settle-in-Done.ensures.line
+    (c.in_ok-answer_call-in-Done.ensures.named p.named come.keeps.names) refl c.in_ok-answer_call-in-Done.ensures.line
 
 pub returns-in_ok-push_busy_line-in-Busy-clause-leads : goal.returns-in_ok-push_busy_line-in-Busy-clause-leads
 returns-in_ok-push_busy_line-in-Busy-clause-leads g c = λ p audit come.

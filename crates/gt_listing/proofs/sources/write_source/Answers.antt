@@ -2,7 +2,8 @@ use Rattle.std.proofs.Common.{◌≡◌, ◌<◌, length, refl, arith}
 use Rattle.gt_types.specs.declared.TypeId.{TypeId}
 use Rattle.gt_allow.specs.Looking.{looks}
 use Rattle.gt_listing.specs.Lines.{pair_text}
-use Rattle.gt_listing.proofs.PieceLemmas.{OnErr-all, begins_pieces, has_begun, sends_nothing, sent_all, step_begun, step_sent}
+use Rattle.gt_streams.specs.Laws.{OnErr-all}
+use Rattle.gt_listing.proofs.PieceLemmas.{begins_pieces, has_begun, sends_nothing, sent_all, step_begun, step_sent}
 use Rattle.gt_listing.proofs.sources.write_source.Goals as goal
 
 pub targets-init : goal.targets-init

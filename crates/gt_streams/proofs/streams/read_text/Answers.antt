@@ -1,5 +1,6 @@
-use Rattle.std.proofs.Common.{arith, rules, ◌≤◌, ◌+◌, length}
-use Rattle.gt_streams.proofs.StreamLemmas.{OnErr-all, reads_more, read_ends, read_is_front}
+use Rattle.std.proofs.Common.{arith, rules}
+use Rattle.gt_streams.specs.Laws.{OnErr-all}
+use Rattle.gt_streams.proofs.StreamLemmas.{reads_more, read_ends, read_is_front}
 use Rattle.gt_streams.proofs.streams.read_text.Goals as goal
 
 pub returns-in_err-read_on-clause-err : goal.returns-in_err-read_on-clause-err

@@ -1,4 +1,4 @@
-use Rattle.std.proofs.Common.{◌≡◌, ◌||◌, ◌&&◌, false, ℕ, List, refl, sym, subst, ◌∙◌}
+use Rattle.std.proofs.Common.{◌≡◌, ◌||◌, ◌&&◌, false, List, refl, sym, subst, ◌∙◌}
 use Rattle.gt_types.specs.Names.{is_permission}
 use Rattle.gt_types.specs.Names as names
 use Rattle.gt_types.specs.declared.perms.Perms.{Perms}

@@ -1,7 +1,7 @@
 use Rattle.std.proofs.Common.{◌≡◌, ◌<◌, length, take}
 use Rattle.gt_script.specs.Contents.{told}
 use Rattle.gt_host.proofs.PlayLemmas.{IsUnderway}
-use Rattle.gt_host.proofs.playing.write_lines.Given as goal
+use Rattle.gt_host.proofs.playing.run_lines.Given as goal
 
 abbrev pub invariant-steps : goal.invariant-steps
 invariant-steps g l =
