@@ -154,13 +154,16 @@ fn mapping_reply(answer: Result<Handle, Denial>) -> Reply
 }
 
 impl Domain {
-    ghost use Rattle.std.specs.Prelude.{◌≡◌, ◌≤◌, ℕ, List, [], OnOk, OnErr, IfOk, IfErr, None, Some};
+    ghost use Rattle.std.specs.Prelude.{◌≡◌, ◌≤◌, ℕ, List, [], OnOk, OnErr, IfOk, IfErr, IfSome, None, Some};
     ghost use Rattle.gt_audit.specs.Telling.{Tells};
     ghost use Rattle.gt_live.specs.Domains.{mapping_reply, subject_of, told_of, Answered, HasLeft, HasRoomFor, IsOf};
     ghost use Rattle.gt_live.specs.Domains.{IsOpened, IsUnsettled, KeepsPinned, MapAnswered, Released, Settles};
     ghost use Rattle.gt_live.specs.Domains.{known, verdict_of, verdict_of_frames, verdict_of_size};
     ghost use Rattle.gt_live.specs.Domains.{verdict_of_version};
-    ghost use Rattle.gt_live.specs.Mappings.{Removes};
+    ghost use Rattle.gt_live.specs.Mappings.{ReachesItsFrame, Removes};
+    ghost use Rattle.gt_access.specs.Routes.{MayAccess};
+    ghost use Rattle.gt_calls.specs.declared.held.Route.TheVariants.{Direct};
+    ghost use Rattle.gt_handles.specs.Handles.{value_of};
     ghost use Rattle.gt_calls.specs.declared.held.Held.{Held};
     ghost use Rattle.gt_handles.specs.Handles.{IsEmpty};
     ghost use Rattle.gt_words.specs.Conditions.{KeepsPins};
@@ -189,6 +192,24 @@ impl Domain {
         ensures { result.now ≡ self.now.trail }
     {
         &self.trail
+    }
+
+    /// Its seat, whose pins an access to a locked frame rests on.
+    pub fn seat(&self) -> &Seat
+        ensures { result.now ≡ self.now.seat }
+    {
+        &self.seat
+    }
+
+    /// The mapping under a handle, by whose pin the domain reaches any range of the mapping's frame.
+    pub fn mapping<P: Allows>(&self, monitor: &Monitor<P>, handle: Handle) -> Option<Held>
+        requires mine { IsOf P.may monitor.now self.now }
+        ensures value { result ≡ value_of self.now.mappings handle }
+        ensures reaches { IfSome result (ReachesItsFrame monitor.now.words.layout self.now.seat) }
+        ensures may { IfSome result (λ p.
+            MayAccess monitor.now.config.domains.items (P.may monitor.now.rights) self.now.seat.dom (Direct p)) }
+    {
+        self.mappings.get(handle).copied()
     }
 
     // Judges a call at its beginning.
