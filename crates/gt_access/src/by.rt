@@ -94,7 +94,8 @@ pub fn copy_by<R: Wait, P: Allows>(
     len: u16,
 ) -> Result<Copied, Refused>
     requires seat { IsSeatOf run.now.words.now seat.now }
-    requires source { Reaches run.now.words.now.layout seat.now dirs.Read uses.Copy from.frame from.off len routes.source }
+    requires source { Reaches run.now.words.now.layout seat.now dirs.Read uses.Copy
+        from.frame from.off len routes.source }
     requires dest { Reaches run.now.words.now.layout seat.now dirs.Write uses.Copy to.frame to.off len routes.dest }
     requires may { MayCopy run.now.config.now.domains.items (P.may run.now.rights.now) seat.now.dom routes }
     requires source_range { from.off + len ≤ FRAME_SIZE }

@@ -62,7 +62,8 @@ pub fn read_under<P: Allows>(
     out: Vec<u8>,
 ) -> Read
     requires seat { IsSeatOf run.now.words.now seat.now }
-    requires reached { Reaches run.now.words.now.layout seat.now dirs.Read uses.Map (name_of frame.now) off (vec_len out) route }
+    requires reached { Reaches run.now.words.now.layout seat.now dirs.Read uses.Map
+        (name_of frame.now) off (vec_len out) route }
     requires may { MayAccess run.now.config.now.domains.items (P.may run.now.rights.now) seat.now.dom route }
     requires range { off + vec_len out ≤ FRAME_SIZE }
     ensures read { result ≡ reading_of frame.now off (vec_len out) }
@@ -87,7 +88,8 @@ pub fn write_under<'a, P: Allows>(
     bytes: &'a [u8],
 ) -> Result<Written<'a>, Memory>
     requires seat { IsSeatOf run.now.words.now seat.now }
-    requires reached { Reaches run.now.words.now.layout seat.now dirs.Write uses.Map (name_of frame.old) off (length bytes.now) route }
+    requires reached { Reaches run.now.words.now.layout seat.now dirs.Write uses.Map
+        (name_of frame.old) off (length bytes.now) route }
     requires may { MayAccess run.now.config.now.domains.items (P.may run.now.rights.now) seat.now.dom route }
     requires writ { writ.now ≡ writ_by seat.now.dom route }
     requires range { off + length bytes.now ≤ FRAME_SIZE }
@@ -114,15 +116,19 @@ pub fn copy_under<P: Allows>(
     to_off: u16,
 ) -> Result<Copied, Memory>
     requires seat { IsSeatOf run.now.words.now seat.now }
-    requires source { Reaches run.now.words.now.layout seat.now dirs.Read uses.Copy (name_of (source_of ends.old)) from.off from.len routes.source }
-    requires dest { Reaches run.now.words.now.layout seat.now dirs.Write uses.Copy (name_of (dest_of ends.old)) to_off from.len routes.dest }
+    requires source { Reaches run.now.words.now.layout seat.now dirs.Read uses.Copy
+        (name_of (source_of ends.old)) from.off from.len routes.source }
+    requires dest { Reaches run.now.words.now.layout seat.now dirs.Write uses.Copy
+        (name_of (dest_of ends.old)) to_off from.len routes.dest }
     requires may { MayCopy run.now.config.now.domains.items (P.may run.now.rights.now) seat.now.dom routes }
     requires writ { writ.now ≡ writ_by seat.now.dom routes.dest }
     requires source_range { from.off + from.len ≤ FRAME_SIZE }
     requires dest_range { to_off + from.len ≤ FRAME_SIZE }
-    ensures written { OnOk result (IsWrite (dest_of ends.old) (dest_of ends.new) writ.now to_off (bytes_at (source_of ends.old) from.off from.len)) }
+    ensures written { OnOk result (IsWrite (dest_of ends.old) (dest_of ends.new)
+        writ.now to_off (bytes_at (source_of ends.old) from.off from.len)) }
     ensures kept { IsKept (dest_of ends.new) }
-    ensures receipt { IfOk result (λ r. r ≡ copying_of (source_of ends.old) from.off (dest_of ends.old) to_off from.len seat.now.dom) }
+    ensures receipt { IfOk result
+        (λ r. r ≡ copying_of (source_of ends.old) from.off (dest_of ends.old) to_off from.len seat.now.dom) }
     ensures refused { OnErr result ((dest_of ends.new ≡ dest_of ends.old) × (source_of ends.new ≡ source_of ends.old)) }
 {
     ends.copy(writ, from.off, to_off, from.len)

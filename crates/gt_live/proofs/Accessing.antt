@@ -36,7 +36,7 @@ use Rattle.gt_calls.specs.Rules.{CallerKnowledge, begun}
 use Rattle.gt_live.specs.Accesses.{Accessed, AnsweredBy, IsAccess, IsOfAccess, frame_named}
 use Rattle.gt_live.specs.Domains.{IsRefused, Opens, Rights}
 use Rattle.gt_live.specs.Ending.{IsWordless}
-use Rattle.gt_live.specs.Mappings.{IsMappingOf}
+use Rattle.gt_live.specs.Mappings.{IsMappingOf, ReachesItsFrame}
 use Rattle.gt_live.specs.Walks.{Called, CarriesFound}
 
 -- what permits a mapping permits it any range
@@ -81,6 +81,12 @@ reaches-mapped k ds may s p dir number off len is so frame =
       of_frame = ap (λ (n : ℕ). is_of_frame p.entry n) frame ∙ of-its-frame p.entry s.dom p.dir ForMap off len some;
       permitted = serving p.entry s.dom dir p.dir off len so some;
     }
+
+pub reaches-its-frame : (k : Layout) (ds : List DomainConfig) (may : Rights) (s : SeatOf) (p : Held) → IsMappingOf k ds may s.dom s.view p → ReachesItsFrame k s p
+reaches-its-frame k ds may s p is = record {
+  reads = λ (off len : ℕ). reaches-mapped k ds may s p Read (frame_of p.entry) off len is (λ (e : Read ≡ Write). cc) refl;
+  writes = λ (writes : p.dir ≡ Write) (off len : ℕ). reaches-mapped k ds may s p Write (frame_of p.entry) off len is (λ (e : Write ≡ Write). writes) refl;
+}
 
 -- a refusal without a word tells none
 pub wordless-found : (k : Layout) (v : View) (steps : List SeatStep) (f : Facts) → IsWordless f → CarriesFound k v steps f

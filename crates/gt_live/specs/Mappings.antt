@@ -2,10 +2,15 @@
 use Rattle.std.specs.Prelude.{◌≡◌, ℕ, ◌<◌, ◌==◌, ◌&&◌, Bool, true, false, nat_le, List}
 use Rattle.gt_types.specs.declared.DomId.{DomId}
 use Rattle.gt_types.specs.declared.Dir.{Dir}
+use Rattle.gt_types.specs.declared.Dir.TheVariants.{Read, Write}
 use Rattle.gt_types.specs.declared.Use.TheVariants.{Map as ForMap}
 use Rattle.gt_types.specs.declared.perms.Perms.{Perms}
 use Rattle.gt_entry.specs.Permits.{permits}
 pub use Rattle.gt_access.specs.Routes.{HasPin, record_of}
+use Rattle.gt_access.specs.Routes.{Reaches}
+use Rattle.gt_frames.specs.declared.places.FrameName.{FrameName}
+use Rattle.gt_words.specs.Conditions.{SeatOf}
+use Rattle.gt_calls.specs.declared.held.Route.TheVariants.{Direct}
 use Rattle.gt_words.specs.Controls.{generation_of}
 use Rattle.gt_words.specs.Rule.{Layout, position_in}
 use Rattle.gt_words.specs.Keeping.{held}
@@ -27,6 +32,15 @@ pub record IsMappingOf (k : Layout) (domains : List DomainConfig) (may : TypeId 
   pub permitted : permits p.entry caller p.dir ForMap 0 0 ≡ true
   pub in_frames : nat_le (frames_of domains p.dom) (frame_of p.entry) ≡ false
   pub allowed : IsAllowed may (triples (label_of domains caller) (label_of domains p.dom) (map_perms p.dir))
+
+-- the frame that a mapping is of (own)
+abbrev pub frame_mapped : Held → FrameName
+frame_mapped p = record { owner = p.dom; number = frame_of p.entry }
+
+-- by its mapping the seat's domain reaches any range of the frame, to write it where the pin is a write pin (own)
+pub record ReachesItsFrame (k : Layout) (s : SeatOf) (p : Held) : Type 0 where
+  pub reads : (off len : ℕ) → Reaches k s Read ForMap (frame_mapped p) off len (Direct p)
+  pub writes : p.dir ≡ Write → (off len : ℕ) → Reaches k s Write ForMap (frame_mapped p) off len (Direct p)
 
 -- the mapping has a pin of this kind and generation of the entry r of the domain t (own)
 abbrev pub is_mapping_of : Layout → ℕ → ℕ → Dir → ℕ → Held → Bool

@@ -6,7 +6,8 @@ ghost use Rattle.gt_calls.specs.Path.{path};
 ghost use Rattle.gt_words.specs.Conditions.{IsSameSeat};
 ghost use Rattle.gt_live.specs.Rows.{row_changed};
 ghost use Rattle.gt_live.specs.Ending.{IsAnswerTo, IsMap, WaitsForNobody};
-ghost use Rattle.gt_live.specs.Domains.{Answered, IsOf, done_by, known, mapped_by, mapping_reply, reply_of, version_told, size_told, frames_told};
+ghost use Rattle.gt_live.specs.Domains.{Answered, IsOf, done_by, known, mapped_by, mapping_reply, reply_of};
+ghost use Rattle.gt_live.specs.Domains.{version_told, size_told, frames_told};
 ghost use Rattle.gt_live.specs.Walks.{Called};
 ghost use Rattle.gt_live.specs.Driving.{Leaves};
 ghost use Rattle.gt_live.specs.Effects.{Answers};
@@ -153,10 +154,16 @@ fn mapping_reply(answer: Result<Handle, Denial>) -> Reply
 }
 
 impl Domain {
-    ghost use Rattle.std.specs.Prelude.{◌≡◌, ◌≤◌, ℕ, List, [], OnOk, OnErr, IfOk, IfErr, None, Some};
+    ghost use Rattle.std.specs.Prelude.{◌≡◌, ◌≤◌, ℕ, List, [], OnOk, OnErr, IfOk, IfErr, IfSome, None, Some};
     ghost use Rattle.gt_audit.specs.Telling.{Tells};
-    ghost use Rattle.gt_live.specs.Domains.{mapping_reply, subject_of, told_of, Answered, HasLeft, HasRoomFor, IsOf, IsOpened, IsUnsettled, KeepsPinned, MapAnswered, Released, Settles, known, verdict_of, verdict_of_frames, verdict_of_size, verdict_of_version};
-    ghost use Rattle.gt_live.specs.Mappings.{Removes};
+    ghost use Rattle.gt_live.specs.Domains.{mapping_reply, subject_of, told_of, Answered, HasLeft, HasRoomFor, IsOf};
+    ghost use Rattle.gt_live.specs.Domains.{IsOpened, IsUnsettled, KeepsPinned, MapAnswered, Released, Settles};
+    ghost use Rattle.gt_live.specs.Domains.{known, verdict_of, verdict_of_frames, verdict_of_size};
+    ghost use Rattle.gt_live.specs.Domains.{verdict_of_version};
+    ghost use Rattle.gt_live.specs.Mappings.{ReachesItsFrame, Removes};
+    ghost use Rattle.gt_access.specs.Routes.{MayAccess};
+    ghost use Rattle.gt_calls.specs.declared.held.Route.TheVariants.{Direct};
+    ghost use Rattle.gt_handles.specs.Handles.{value_of};
     ghost use Rattle.gt_calls.specs.declared.held.Held.{Held};
     ghost use Rattle.gt_handles.specs.Handles.{IsEmpty};
     ghost use Rattle.gt_words.specs.Conditions.{KeepsPins};
@@ -187,6 +194,24 @@ impl Domain {
         &self.trail
     }
 
+    /// Its seat, whose pins an access to a locked frame rests on.
+    pub fn seat(&self) -> &Seat
+        ensures { result.now ≡ self.now.seat }
+    {
+        &self.seat
+    }
+
+    /// The mapping under a handle, by whose pin the domain reaches any range of the mapping's frame.
+    pub fn mapping<P: Allows>(&self, monitor: &Monitor<P>, handle: Handle) -> Option<Held>
+        requires mine { IsOf P.may monitor.now self.now }
+        ensures value { result ≡ value_of self.now.mappings handle }
+        ensures reaches { IfSome result (ReachesItsFrame monitor.now.words.layout self.now.seat) }
+        ensures may { IfSome result (λ p.
+            MayAccess monitor.now.config.domains.items (P.may monitor.now.rights) self.now.seat.dom (Direct p)) }
+    {
+        self.mappings.get(handle).copied()
+    }
+
     // Judges a call at its beginning.
     fn begin<P: Allows>(&self, monitor: &Monitor<P>, request: Request<'_>) -> Start
         ensures { Starts (known P.may monitor.now self.now) self.now.seat.dom request.entry result }
@@ -207,8 +232,11 @@ impl Domain {
         requires opened { IsOpened (known P.may monitor.now self.old) self.old.seat.dom call }
         requires waits { WaitsForNobody call.request }
         ensures kept { IsUnsettled self.old self.new }
-        ensures called { Called monitor.now.words.layout (path (known P.may monitor.now self.old) self.old.seat.dom call.request) result.verdict self.old.seat.view self.new.seat.view }
-        ensures leaves { Leaves (known P.may monitor.now self.old) monitor.now.words.layout self.old.seat.dom call.request self.old.seat.view self.new.seat.view result.effect }
+        ensures called { Called monitor.now.words.layout
+            (path (known P.may monitor.now self.old) self.old.seat.dom call.request)
+            result.verdict self.old.seat.view self.new.seat.view }
+        ensures leaves { Leaves (known P.may monitor.now self.old) monitor.now.words.layout
+            self.old.seat.dom call.request self.old.seat.view self.new.seat.view result.effect }
         ensures answers { Answers result.effect result.verdict × IsAnswerTo call.request result.verdict }
     {
         let known = Known {
@@ -229,7 +257,9 @@ impl Domain {
         requires room { HasRoomFor call.request self.old.mappings }
         ensures mine { IsOf P.may monitor.now self.new }
         ensures seat { IsSameSeat self.old.seat self.new.seat }
-        ensures called { Called monitor.now.words.layout (path (known P.may monitor.now self.old) self.old.seat.dom call.request) result.verdict self.old.seat.view self.new.seat.view }
+        ensures called { Called monitor.now.words.layout
+            (path (known P.may monitor.now self.old) self.old.seat.dom call.request)
+            result.verdict self.old.seat.view self.new.seat.view }
         ensures answer { IsAnswerTo call.request result.verdict }
         ensures settled { Settles call.request result.verdict result.handle self.old self.new }
         ensures silent { self.new.trail ≡ self.old.trail }
@@ -332,7 +362,8 @@ impl Domain {
         requires mine { IsOf P.may monitor.now self.old }
         ensures mine { IsOf P.may monitor.now self.new }
         ensures seat { IsSameSeat self.old.seat self.new.seat }
-        ensures answered { Answered P.may monitor.now self.old (Request.Grant gref entry.now) (verdict_of result) self.new }
+        ensures answered { Answered P.may monitor.now self.old
+            (Request.Grant gref entry.now) (verdict_of result) self.new }
         ensures kept { KeepsPinned self.old self.new }
         ensures silent { self.new.trail ≡ self.old.trail }
     {
@@ -353,7 +384,8 @@ impl Domain {
         requires mine { IsOf P.may monitor.now self.old }
         ensures mine { IsOf P.may monitor.now self.new }
         ensures seat { IsSameSeat self.old.seat self.new.seat }
-        ensures answered { Answered P.may monitor.now self.old (Request.GrantBytes gref bytes.entry) (verdict_of result) self.new }
+        ensures answered { Answered P.may monitor.now self.old
+            (Request.GrantBytes gref bytes.entry) (verdict_of result) self.new }
         ensures kept { KeepsPinned self.old self.new }
         ensures silent { self.new.trail ≡ self.old.trail }
     {
@@ -417,9 +449,11 @@ impl Domain {
         requires mine { IsOf P.may monitor.now self.old }
         ensures mine { IsOf P.may monitor.now self.new }
         ensures seat { IsSameSeat self.old.seat self.new.seat }
-        ensures answered { Answered P.may monitor.now self.old (Request.SetVersion version) (verdict_of result) self.new }
+        ensures answered { Answered P.may monitor.now self.old
+            (Request.SetVersion version) (verdict_of result) self.new }
         ensures kept { KeepsPinned self.old self.new }
-        ensures told { Tells self.old.trail (told_of self.old (Hypercall.SetVersion version) (verdict_of result)) self.new.trail }
+        ensures told { Tells self.old.trail
+            (told_of self.old (Hypercall.SetVersion version) (verdict_of result)) self.new.trail }
     {
         let call = Hypercall::SetVersion { version };
         done(self.told_call(monitor, Request::SetVersion { version }, call))
@@ -437,9 +471,11 @@ impl Domain {
         requires mine { IsOf P.may monitor.now self.old }
         ensures mine { IsOf P.may monitor.now self.new }
         ensures seat { IsSameSeat self.old.seat self.new.seat }
-        ensures answered { Answered P.may monitor.now self.old (Request.SetupTable frames) (verdict_of_frames result) self.new }
+        ensures answered { Answered P.may monitor.now self.old
+            (Request.SetupTable frames) (verdict_of_frames result) self.new }
         ensures kept { KeepsPinned self.old self.new }
-        ensures told { Tells self.old.trail (told_of self.old (Hypercall.SetupTable frames) (verdict_of_frames result)) self.new.trail }
+        ensures told { Tells self.old.trail
+            (told_of self.old (Hypercall.SetupTable frames) (verdict_of_frames result)) self.new.trail }
     {
         let call = Hypercall::SetupTable { frames };
         frames_told(self.told_call(monitor, Request::SetupTable { frames }, call))
@@ -457,9 +493,11 @@ impl Domain {
         requires mine { IsOf P.may monitor.now self.old }
         ensures mine { IsOf P.may monitor.now self.new }
         ensures seat { IsSameSeat self.old.seat self.new.seat }
-        ensures answered { Answered P.may monitor.now self.old (Request.QuerySize dom) (verdict_of_size result) self.new }
+        ensures answered { Answered P.may monitor.now self.old
+            (Request.QuerySize dom) (verdict_of_size result) self.new }
         ensures kept { KeepsPinned self.old self.new }
-        ensures told { Tells self.old.trail (told_of self.old (Hypercall.QuerySize dom) (verdict_of_size result)) self.new.trail }
+        ensures told { Tells self.old.trail
+            (told_of self.old (Hypercall.QuerySize dom) (verdict_of_size result)) self.new.trail }
     {
         let call = Hypercall::QuerySize { dom };
         size_told(self.told_call(monitor, Request::QuerySize { dom }, call))
@@ -477,9 +515,11 @@ impl Domain {
         requires mine { IsOf P.may monitor.now self.old }
         ensures mine { IsOf P.may monitor.now self.new }
         ensures seat { IsSameSeat self.old.seat self.new.seat }
-        ensures answered { Answered P.may monitor.now self.old (Request.GetVersion dom) (verdict_of_version result) self.new }
+        ensures answered { Answered P.may monitor.now self.old
+            (Request.GetVersion dom) (verdict_of_version result) self.new }
         ensures kept { KeepsPinned self.old self.new }
-        ensures told { Tells self.old.trail (told_of self.old (Hypercall.GetVersion dom) (verdict_of_version result)) self.new.trail }
+        ensures told { Tells self.old.trail
+            (told_of self.old (Hypercall.GetVersion dom) (verdict_of_version result)) self.new.trail }
     {
         let call = Hypercall::GetVersion { dom };
         version_told(self.told_call(monitor, Request::GetVersion { dom }, call))
@@ -526,7 +566,9 @@ impl Domain {
         ensures mine { IsOf P.may monitor.now self.new }
         ensures seat { IsSameSeat self.old.seat self.new.seat }
         ensures answered { MapAnswered P.may monitor.now self.old (Request.Map dom gref flags) result self.new }
-        ensures told { Tells self.old.trail (record { dom = self.old.seat.dom; call = Hypercall.Map dom gref flags; reply = mapping_reply result }) self.new.trail }
+        ensures told { Tells self.old.trail
+            (record { dom = self.old.seat.dom; call = Hypercall.Map dom gref flags; reply = mapping_reply result })
+            self.new.trail }
     {
         let result = self.make_mapping(monitor, dom, gref, flags);
         let call = Hypercall::Map { dom, gref, flags };
@@ -547,7 +589,8 @@ impl Domain {
         ensures answered { Answered P.may monitor.now self.old (Request.Unmap handle) (verdict_of result) self.new }
         ensures removed { OnOk result ((p : Held) × Removes self.old.mappings self.new.mappings handle p) }
         ensures refused { OnErr result (KeepsPinned self.old self.new) }
-        ensures told { Tells self.old.trail (told_of self.old (Hypercall.Unmap (subject_of self.old handle)) (verdict_of result)) self.new.trail }
+        ensures told { Tells self.old.trail
+            (told_of self.old (Hypercall.Unmap (subject_of self.old handle)) (verdict_of result)) self.new.trail }
     {
         let subject = self.subject(handle);
         let call = Hypercall::Unmap { subject };
@@ -559,7 +602,8 @@ impl Domain {
         requires mine { IsOf P.may monitor.now self.old }
         ensures mine { IsOf P.may monitor.now self.new }
         ensures seat { IsSameSeat self.old.seat self.new.seat }
-        ensures released { (handles : List Handle) × Released monitor.now.words.layout handles self.old.mappings self.old.seat.view self.new.mappings self.new.seat.view }
+        ensures released { (handles : List Handle) × Released monitor.now.words.layout handles
+            self.old.mappings self.old.seat.view self.new.mappings self.new.seat.view }
         ensures all_given { IsEmpty self.new.mappings }
         ensures silent { self.new.trail ≡ self.old.trail }
     {

@@ -156,8 +156,11 @@ pub(crate) fn drive<P: Allows>(
     requires knows { Knows (knows P.may known.now) words.now.layout begun.caller seat.old.view }
     requires waits { WaitsForNobody begun.request }
     ensures seat { IsSameSeat seat.old seat.new }
-    ensures called { Called words.now.layout (path (knows P.may known.now) begun.caller begun.request) result.verdict seat.old.view seat.new.view }
-    ensures leaves { Leaves (knows P.may known.now) words.now.layout begun.caller begun.request seat.old.view seat.new.view result.effect }
+    ensures called { Called words.now.layout
+        (path (knows P.may known.now) begun.caller begun.request)
+        result.verdict seat.old.view seat.new.view }
+    ensures leaves { Leaves (knows P.may known.now) words.now.layout
+        begun.caller begun.request seat.old.view seat.new.view result.effect }
     ensures answers { Answers result.effect result.verdict × IsAnswerTo begun.request result.verdict }
 {
     let mut call = begun;
@@ -214,7 +217,8 @@ pub(crate) fn give_back<P: Allows>(
     call: &mut Call,
 )
     requires seat { IsSeatOf words.now seat.old }
-    requires accessing { (copy : CopyArgs) × (call.old.phase ≡ Some (Accessing copy (pins_by_call call.old).source (pins_by_call call.old).dest)) }
+    requires accessing { (copy : CopyArgs)
+        × (call.old.phase ≡ Some (Accessing copy (pins_by_call call.old).source (pins_by_call call.old).dest)) }
     requires taken { (base : View) × HasTaken words.now.layout (held_by_call call.old) base seat.old.view }
     requires of_run { AreOfRun words.now.layout (held_by_call call.old) }
     ensures seat { IsSameSeat seat.old seat.new }

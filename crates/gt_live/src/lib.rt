@@ -5,9 +5,9 @@
 //! Those that access bytes, and no others, take the lock of a frame for it (`gt_access`).
 //!
 //! It promises that what a call adds to its domain's steps is, action by action, the path of that call, with the answer
-//! that the path gives; that between calls a domain has just the pins of its mappings; and that a domain which has left
-//! has none; and that an Ok of a call that accesses bytes is the receipt of just what its path accesses. `specs/Walks.antt`
-//! has the first, `specs/Accesses.antt` the last, `specs/Domains.antt` the others.
+//! that the path gives; that between calls a domain has just the pins of its mappings; that a domain which has left has
+//! none; and that an Ok of a call that accesses bytes is the receipt of just what its path accesses.
+//! `specs/Walks.antt` has the first, `specs/Accesses.antt` the last, `specs/Domains.antt` the others.
 //! It stands on `gt_calls`, `gt_words`, `gt_access`, `gt_frames`, `gt_handles` and `gt_audit`.
 #![tactic(auto)]
 

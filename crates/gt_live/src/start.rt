@@ -46,9 +46,12 @@ fn make_domains<P: Allows>(
 ) -> Result<Vec<Domain>, AllocError>
     requires config { IsWithinLimits monitor.now.config }
     requires count { length seats.items ≡ length monitor.now.config.domains.items }
-    requires seats { (i : ℕ) → i < length monitor.now.config.domains.items → HoldsAt (λ s. IsNewSeat monitor.now.words i s) seats.items i }
+    requires seats { (i : ℕ) → i < length monitor.now.config.domains.items
+        → HoldsAt (λ s. IsNewSeat monitor.now.words i s) seats.items i }
     ensures count { IfOk result (λ v. length v.items ≡ length monitor.now.config.domains.items) }
-    ensures domains { IfOk result (λ v. (i : ℕ) → i < length monitor.now.config.domains.items → HoldsAt (λ d. IsNewDomain monitor.now.words monitor.now.config (P.may monitor.now.rights) i d) v.items i) }
+    ensures domains { IfOk result (λ v.
+        (i : ℕ) → i < length monitor.now.config.domains.items
+        → HoldsAt (λ d. IsNewDomain monitor.now.words monitor.now.config (P.may monitor.now.rights) i d) v.items i) }
 {
     let count = monitor.config.domains.len();
     let mut rows = all_rows(alloc, monitor.config.first_gen, count)?;
@@ -79,7 +82,9 @@ impl<P: Allows + Drop> Monitor<P> {
         ensures ok { OnOk result (IsWithinLimits config) }
         ensures run { IfOk result (λ r. (r.0.config ≡ config) × (r.0.rights ≡ rights)) }
         ensures count { IfOk result (λ r. length r.1.items ≡ length config.domains.items) }
-        ensures domains { IfOk result (λ r. (i : ℕ) → i < length config.domains.items → HoldsAt (λ d. IsNewDomain r.0.words config (P.may rights) i d) r.1.items i) }
+        ensures domains { IfOk result (λ r.
+            (i : ℕ) → i < length config.domains.items
+            → HoldsAt (λ d. IsNewDomain r.0.words config (P.may rights) i d) r.1.items i) }
         ensures mine { IfOk result (λ r. All (λ d. IsOf P.may r.0 d) r.1.items) }
         ensures err { IfErr result (IsStartFault config) }
     {

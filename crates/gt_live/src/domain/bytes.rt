@@ -46,8 +46,10 @@ impl Domain {
         request: Request<'_>,
     ) -> Result<Call, Denial>
         requires { IsAccessing (asked request) }
-        ensures opened { IfOk result (λ call. Opens (known P.may monitor.now self.now) self.now.seat.dom request.entry call) }
-        ensures refused { IfErr result (λ denial. IsRefused (known P.may monitor.now self.now) self.now.seat.dom request.entry denial) }
+        ensures opened { IfOk result
+            (λ call. Opens (known P.may monitor.now self.now) self.now.seat.dom request.entry call) }
+        ensures refused { IfErr result
+            (λ denial. IsRefused (known P.may monitor.now self.now) self.now.seat.dom request.entry denial) }
     {
         match self.begin(monitor, request) {
             Start::Open(call) => Ok(call),
@@ -98,7 +100,8 @@ impl Domain {
         bytes: &'a [u8],
     ) -> Result<Written<'a>, Denial>
         requires seat { IsSeatOf monitor.now.words self.now.seat }
-        requires reached { Reaches monitor.now.words.layout self.now.seat dirs.Write uses.Map name off (length bytes.now) route }
+        requires reached { Reaches monitor.now.words.layout self.now.seat dirs.Write uses.Map
+            name off (length bytes.now) route }
         requires may { MayAccess monitor.now.config.domains.items (P.may monitor.now.rights) self.now.seat.dom route }
         requires range { off + length bytes.now ≤ 4096 }
         ensures written { IfOk result (λ r. r ≡ writing_at name off bytes.entry.now self.now.seat.dom) }
@@ -190,7 +193,8 @@ impl Domain {
         requires mine { IsOf P.may monitor.now self.old }
         ensures mine { IsOf P.may monitor.now self.new }
         ensures seat { IsSameSeat self.old.seat self.new.seat }
-        ensures answered { Accesses P.may monitor.now self.old (Request.Store handle off bytes.entry) (IsWrittenBy self.old.seat.dom bytes.entry.now) result self.new }
+        ensures answered { Accesses P.may monitor.now self.old
+            (Request.Store handle off bytes.entry) (IsWrittenBy self.old.seat.dom bytes.entry.now) result self.new }
         ensures kept { KeepsPinned self.old self.new }
         ensures silent { self.new.trail ≡ self.old.trail }
     {
@@ -220,7 +224,8 @@ impl Domain {
         requires mine { IsOf P.may monitor.now self.old }
         ensures mine { IsOf P.may monitor.now self.new }
         ensures seat { IsSameSeat self.old.seat self.new.seat }
-        ensures answered { Accesses P.may monitor.now self.old (Request.Poke frame off bytes.entry) (IsWrittenBy self.old.seat.dom bytes.entry.now) result self.new }
+        ensures answered { Accesses P.may monitor.now self.old
+            (Request.Poke frame off bytes.entry) (IsWrittenBy self.old.seat.dom bytes.entry.now) result self.new }
         ensures kept { KeepsPinned self.old self.new }
         ensures silent { self.new.trail ≡ self.old.trail }
     {

@@ -12,7 +12,8 @@ ghost use Rattle.gt_calls.specs.declared.request.Asked.TheVariants as asks;
 ghost use Rattle.gt_calls.specs.declared.request.CopyArgs.{CopyArgs};
 ghost use Rattle.gt_calls.specs.Standing.{held_by_call, pins_by_call};
 ghost use Rattle.gt_live.specs.Accesses.{IsCopiedBy, IsOfAccess, spot_of};
-ghost use Rattle.gt_live.specs.Domains.{Accesses, IsOf, IsOpened, IsUnsettled, KeepsPinned, copy_reply, known, told_copy, told_end};
+ghost use Rattle.gt_live.specs.Domains.{Accesses, IsOf, IsOpened, IsUnsettled, KeepsPinned, copy_reply, known};
+ghost use Rattle.gt_live.specs.Domains.{told_copy, told_end};
 ghost use Rattle.gt_live.specs.Underway.{AreOfRun, GivesBack, HasTaken, Stops};
 
 use super::Domain;
@@ -69,7 +70,8 @@ impl Domain {
         ensures kept { IsUnsettled self.old self.new }
         ensures caller { call.new.caller ≡ self.old.seat.dom }
         ensures request { call.new.request ≡ call.old.request }
-        ensures stops { Stops (known P.may monitor.now self.old) monitor.now.words.layout call.new result self.old.seat.view self.new.seat.view }
+        ensures stops { Stops (known P.may monitor.now self.old) monitor.now.words.layout
+            call.new result self.old.seat.view self.new.seat.view }
     {
         let known = Known {
             config: &monitor.config,
@@ -84,11 +86,14 @@ impl Domain {
     // Gives back the pins that a copy held at its access.
     fn give_back<P: Allows>(&mut self, monitor: &Monitor<P>, call: &mut Call)
         requires seat { IsSeatOf monitor.now.words self.old.seat }
-        requires accessing { (copy : CopyArgs) × (call.old.phase ≡ Some (Accessing copy (pins_by_call call.old).source (pins_by_call call.old).dest)) }
-        requires taken { (base : View) × HasTaken monitor.now.words.layout (held_by_call call.old) base self.old.seat.view }
+        requires accessing { (copy : CopyArgs)
+            × (call.old.phase ≡ Some (Accessing copy (pins_by_call call.old).source (pins_by_call call.old).dest)) }
+        requires taken { (base : View)
+            × HasTaken monitor.now.words.layout (held_by_call call.old) base self.old.seat.view }
         requires of_run { AreOfRun monitor.now.words.layout (held_by_call call.old) }
         ensures kept { IsUnsettled self.old self.new }
-        ensures gives { GivesBack monitor.now.words.layout (pins_by_call call.old) self.old.seat.view self.new.seat.view }
+        ensures gives { GivesBack monitor.now.words.layout
+            (pins_by_call call.old) self.old.seat.view self.new.seat.view }
     {
         let known = Known {
             config: &monitor.config,
@@ -111,8 +116,10 @@ impl Domain {
         len: u16,
     ) -> Result<Copied, Denial>
         requires seat { IsSeatOf monitor.now.words self.now.seat }
-        requires source { Reaches monitor.now.words.layout self.now.seat dirs.Read uses.Copy (spot_of from).frame from.off len routes.source }
-        requires dest { Reaches monitor.now.words.layout self.now.seat dirs.Write uses.Copy (spot_of to).frame to.off len routes.dest }
+        requires source { Reaches monitor.now.words.layout self.now.seat dirs.Read uses.Copy
+            (spot_of from).frame from.off len routes.source }
+        requires dest { Reaches monitor.now.words.layout self.now.seat dirs.Write uses.Copy
+            (spot_of to).frame to.off len routes.dest }
         requires may { MayCopy monitor.now.config.domains.items (P.may monitor.now.rights) self.now.seat.dom routes }
         requires source_range { from.off + len ≤ 4096 }
         requires dest_range { to.off + len ≤ 4096 }
@@ -149,7 +156,8 @@ impl Domain {
         requires mine { IsOf P.may monitor.now self.old }
         ensures mine { IsOf P.may monitor.now self.new }
         ensures seat { IsSameSeat self.old.seat self.new.seat }
-        ensures answered { Accesses P.may monitor.now self.old (Request.Copy copy) (IsCopiedBy self.old.seat.dom) result self.new }
+        ensures answered { Accesses P.may monitor.now self.old
+            (Request.Copy copy) (IsCopiedBy self.old.seat.dom) result self.new }
         ensures kept { KeepsPinned self.old self.new }
         ensures silent { self.new.trail ≡ self.old.trail }
     {
@@ -182,7 +190,8 @@ impl Domain {
         requires mine { IsOf P.may monitor.now self.old }
         ensures mine { IsOf P.may monitor.now self.new }
         ensures seat { IsSameSeat self.old.seat self.new.seat }
-        ensures answered { Accesses P.may monitor.now self.old (Request.Copy copy.now) (IsCopiedBy self.old.seat.dom) result self.new }
+        ensures answered { Accesses P.may monitor.now self.old
+            (Request.Copy copy.now) (IsCopiedBy self.old.seat.dom) result self.new }
         ensures kept { KeepsPinned self.old self.new }
         ensures told { Tells self.old.trail (told_copy self.old copy.now result) self.new.trail }
     {

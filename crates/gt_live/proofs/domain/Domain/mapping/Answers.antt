@@ -1,0 +1,25 @@
+use Rattle.std.proofs.Common.{◌≡◌, ◌∙◌, sym, Option, Some, None, refl}
+use Rattle.std.specs.Prelude.{IfSome}
+use Rattle.gt_access.specs.Routes.{MayAccess}
+use Rattle.gt_calls.specs.declared.held.Held.{Held}
+use Rattle.gt_calls.specs.declared.held.Route.TheVariants.{Direct}
+use Rattle.gt_handles.specs.Handles.{value_of}
+use Rattle.gt_live.specs.Mappings.{IsMappingOf, ReachesItsFrame}
+use Rattle.gt_live.proofs.Accessing.{reaches-its-frame}
+use Rattle.gt_live.proofs.domain.Domain.mapping.Goals as goal
+
+if-found : (Is : Held → Type 0) (found : Option Held) → ((p : Held) → found ≡ Some p → Is p) → IfSome found Is
+if-found Is None all = tt
+if-found Is (Some p) all = all p refl
+
+pub returns-clause-reaches : goal.returns-clause-reaches
+returns-clause-reaches g c =
+    let m = c.args.monitor.now in let d = c.args.self.now in let may = g.P.Allows.may m.rights in
+    if-found (ReachesItsFrame m.words.layout d.seat) c.copied.result
+    (λ (p : Held) (there : c.copied.result ≡ Some p). reaches-its-frame m.words.layout m.config.domains.items may d.seat p (c.requires.mine.mapped c.args.handle p (sym c.get.ensures.value ∙ sym c.copied.ensures ∙ there)))
+
+pub returns-clause-may : goal.returns-clause-may
+returns-clause-may g c =
+    let m = c.args.monitor.now in let d = c.args.self.now in let may = g.P.Allows.may m.rights in
+    if-found (λ (p : Held). MayAccess m.config.domains.items may d.seat.dom (Direct p)) c.copied.result
+    (λ (p : Held) (there : c.copied.result ≡ Some p). (c.requires.mine.mapped c.args.handle p (sym c.get.ensures.value ∙ sym c.copied.ensures ∙ there)).allowed)
