@@ -105,7 +105,6 @@ found-in (x ∷ ms) handle m e = by (same_handle x.0 handle) (found-in ms handle
 
 -- a pin that lets its mapping be used lets the domain access any range in that way
 pub permits-as : (e : Entry) (d : DomId) (held dir : Dir) (off len : ℕ) → ((dir ≡ Write) → held ≡ Write) → permits e d held ForMap 0 0 ≡ true → permits e d dir ForMap off len ≡ true
-permits-as Invalid d held dir off len w a = a
 permits-as (Page dom ro frame) d held dir off len w a =
     let parts = and_parts (dom.0 == d.0) (allows_direction ro held) a in
     and_from (dom.0 == d.0) (allows_direction ro dir) parts.0 (by dir w parts.1)
@@ -117,9 +116,8 @@ permits-as (Sub dom ro frame start size) d held dir off len w a = absurd (false�
   where
     never : (b c : Bool) → (b && c && false && nat_le start 0 && nat_le (0 + 0) (start + size)) ≡ false
     never true true = refl
-    never true false = refl
-    never false c = refl
-permits-as (Via dom ro dom2 gref) d held dir off len w a = a
+    never b c = refl
+permits-as e d held dir off len w a = a
 
 -- the mapping's pin is the domain's, by right
 pub record IsRightful (s : Setting) (d : DomId) (m : Held) (p : Pin) : Type 0 where
@@ -255,9 +253,8 @@ via-may : (k : CallerKnowledge) (pair : DomId × DomId) (dom : DomId) → via_ju
 via-may k pair dom e = allowed k.may (rights_to_copy k pair.0 pair.1) (by (is_none (domain_of k.domains dom)) (copy_denied k pair.0 pair.1) e)
   where
     by : (b : Bool) (o : Option Rattle.gt_calls.specs.declared.action.Verdict.Verdict) → first (refused_when b N1 ∷ o ∷ []) ≡ None → o ≡ None
-    by true o f = cc
     by false None f = refl
-    by false (Some v) f = cc
+    by b o f = cc
 
 reached-frame : (s : Setting) (h : History) (d : DomId) (granted : Bool) (end : End) (dir : Dir) (len : ℕ) (pair : DomId → DomId × DomId) (route : Route) → IsReached (known_at s h d) d granted end dir len pair route → end.offset + len ≤ FRAME_SIZE
     → IsInFrame s (place_of d end route) len

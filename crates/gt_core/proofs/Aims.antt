@@ -37,29 +37,21 @@ unnumbered n (p ∷ ps) = ap (λ (l : List Held). p ∷ l) (unnumbered (n + 1) p
 
 on-from : (k : CallerKnowledge) (n : LegNow) (e : Entry) (l : Leg) → IsOnFrom k n.leg e l → second_now k n e ≡ Some (record { leg = l; pair = n.pair })
 on-from k n (Via dom ro dom2 gref) l is = ap (λ (x : Leg). Some (record { leg = x; pair = n.pair })) (sym is)
-on-from k n Invalid l is = absurd is
-on-from k n (Page dom ro frame) l is = absurd is
-on-from k n (Sub dom ro frame off len) l is = absurd is
+on-from k n e l is = absurd is
 
 from-via : (k : CallerKnowledge) (d : DomId) (c : CopyArgs) (p : Held) (e : Entry) (l : Leg) → IsOnFrom k (source_now k d c).leg e l → from_source k d c p e [] ≡ Some (record { leg = l; pair = source_pair d c })
 from-via k d c p (Via dom ro dom2 gref) l is = on-from k (source_now k d c) (Via dom ro dom2 gref) l is
-from-via k d c p Invalid l is = absurd is
-from-via k d c p (Page dom ro frame) l is = absurd is
-from-via k d c p (Sub dom ro frame off len) l is = absurd is
+from-via k d c p e l is = absurd is
 
 past-via : (k : CallerKnowledge) (d : DomId) (c : CopyArgs) (p q : Held) (e : Entry) (more : List Held) → LeadsTo e q → from_source k d c p e (q ∷ more) ≡ after_source k d c (Through p q) more
 past-via k d c p q (Via dom ro dom2 gref) more leads = refl
-past-via k d c p q Invalid more leads = absurd leads
-past-via k d c p q (Page dom ro frame) more leads = absurd leads
-past-via k d c p q (Sub dom ro frame off len) more leads = absurd leads
+past-via k d c p q e more leads = absurd leads
 
 past-direct : (k : CallerKnowledge) (d judged : DomId) (dir : Dir) (off len : ℕ) (c : CopyArgs) (p : Held) (e : Entry) (more : List Held) → permits e judged dir ForCopy off len ≡ true
     → from_source k d c p e more ≡ after_source k d c (Direct p) more
 past-direct k d judged dir off len c p (Page dom ro frame) more may = refl
 past-direct k d judged dir off len c p (Sub dom ro frame start size) more may = refl
-past-direct k d judged dir off len c p Invalid more may = absurd (false≢true may)
-past-direct k d judged dir off len c p (Via dom ro dom2 gref) [] may = absurd (false≢true may)
-past-direct k d judged dir off len c p (Via dom ro dom2 gref) (q ∷ more) may = absurd (false≢true may)
+past-direct k d judged dir off len c p e more may = absurd (false≢true may)
 
 granted-source : (k : CallerKnowledge) (d : DomId) (c : CopyArgs) (held : List Held) → is_source_granted c ≡ true → copy_now k d c held ≡ toward_source k d c held
 granted-source k d c held e = ap (λ (b : Bool). cond b (toward_source k d c held) (after_source k d c Own held)) e

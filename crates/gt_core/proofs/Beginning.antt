@@ -95,11 +95,6 @@ call-some s h id (Some o) (Some c) e a n = cc
 -- an opened call
 
 held-by : (k : CallerKnowledge) (d : DomId) (r : Asked) → held_in (first_phase k d r) ≡ []
-held-by k d (Grant gref entry) = refl
-held-by k d (Revoke gref) = refl
-held-by k d (Demote gref) = refl
-held-by k d (Promote gref) = refl
-held-by k d (Map dom gref flags) = refl
 held-by k d (Unmap handle) = by (k.mapping handle)
   where
     by : (o : Option Held) → held_in (unmap_phase handle o) ≡ []
@@ -115,23 +110,15 @@ held-by k d (Store handle off len) = by (k.mapping handle)
     by : (o : Option Held) → held_in (store_phase o off len) ≡ []
     by None = refl
     by (Some m) = refl
-held-by k d (Peek frame off len) = refl
-held-by k d (Poke frame off len) = refl
 held-by k d (Copy c) = by (is_source_granted c) (is_dest_granted c)
   where
     by : (a b : Bool) → held_in (cond a (Walking (Source c None) (end_leg k d c.source Read c.len) AtHeader) (cond b (Walking (Dest c Own None) (end_leg k d c.dest Write c.len) AtHeader) (Accessing c Own Own))) ≡ []
-    by true b = refl
     by false true = refl
-    by false false = refl
-held-by k d (SetVersion version) = refl
-held-by k d (SetupTable frames) = refl
-held-by k d (QuerySize dom) = refl
-held-by k d (GetVersion dom) = refl
+    by a b = refl
+held-by k d r = refl
 
 first-place : (s : Setting) (h : History) (d : DomId) (r : Asked) → begun (known_at s h d) d r ≡ None → PhaseStands s h d r [] (first_phase (known_at s h d) d r)
 unfolding Rattle.gt_core.specs.Legal.misses
-first-place s h d (Grant gref entry) e = tt
-first-place s h d (Revoke gref) e = tt
 first-place s h d (Demote gref) e = (refl, refl)
 first-place s h d (Promote gref) e = (refl, refl)
 first-place s h d (Map dom gref flags) e = (of-run (domain_of s.domains (resolved d dom)) (opens (known_at s h d) d (Map dom gref flags) e).of_run, tt)
@@ -161,82 +148,37 @@ first-place s h d (SetVersion version) e = inl (refl, refl)
 first-place s h d (SetupTable frames) e = inr (refl, refl)
 first-place s h d (QuerySize dom) e = (dom, refl, refl)
 first-place s h d (GetVersion dom) e = (dom, refl, refl)
+first-place s h d r e = tt
 
 -- a call that opens has no rule against it where it then stands
 first-plain : (k : CallerKnowledge) (d : DomId) (r : Asked) → begun k d r ≡ None → phase_refusal (first_phase k d r) ≡ None
-first-plain k d (Grant gref entry) e = refl
-first-plain k d (Revoke gref) e = refl
-first-plain k d (Demote gref) e = refl
-first-plain k d (Promote gref) e = refl
-first-plain k d (Map dom gref flags) e = refl
 first-plain k d (Unmap handle) e = ap (λ (o : Option Held). phase_refusal (unmap_phase handle o)) (opens k d (Unmap handle) e).found
 first-plain k d (Load handle off len) e = ap (λ (o : Option Held). phase_refusal (load_phase o off len)) (opens k d (Load handle off len) e).found
 first-plain k d (Store handle off len) e = ap (λ (o : Option Held). phase_refusal (store_phase o off len)) (opens k d (Store handle off len) e).found
-first-plain k d (Peek frame off len) e = refl
-first-plain k d (Poke frame off len) e = refl
 first-plain k d (Copy c) e = by (is_source_granted c) (is_dest_granted c)
   where
     by : (a b : Bool) → phase_refusal (cond a (Walking (Source c None) (end_leg k d c.source Read c.len) AtHeader) (cond b (Walking (Dest c Own None) (end_leg k d c.dest Write c.len) AtHeader) (Accessing c Own Own))) ≡ None
-    by true b = refl
     by false true = refl
-    by false false = refl
-first-plain k d (SetVersion version) e = refl
-first-plain k d (SetupTable frames) e = refl
-first-plain k d (QuerySize dom) e = refl
-first-plain k d (GetVersion dom) e = refl
+    by a b = refl
+first-plain k d r e = refl
 
 all-nothing : {A : Type 0} (P : A → Type 0) → All P []
 all-nothing P = λ i x below. absurd (omega arith)
 
 clean-nothing : (p : Phase) → IsClean p []
-clean-nothing (Storing gref entry) = all-nothing LeavesAll
-clean-nothing (StoringSecond gref entry) = all-nothing LeavesAll
-clean-nothing (Exchanging gref looked change) = all-nothing LeavesAll
-clean-nothing (Looking gref change more) = all-nothing LeavesAll
-clean-nothing (Changing gref change more looked) = all-nothing LeavesAll
-clean-nothing (Walking aim l at) = all-nothing LeavesAll
-clean-nothing (Accessing copy source dest) = all-nothing LeavesAll
-clean-nothing (Asking dom question) = all-nothing LeavesAll
-clean-nothing (Last step verdict) = all-nothing LeavesAll
 clean-nothing (Ending pins verdict) = inr (all-nothing LeavesAll)
+clean-nothing p = all-nothing LeavesAll
 
 -- a call keeps the bytes that are given to it
 kept-given : (request : Request) → kept_by (asked request) (given_by request) ≡ given_by request
 kept-given (requests.Grant gref entry) = refl
-kept-given (requests.GrantBytes gref bytes) = refl
-kept-given (requests.Revoke gref) = refl
-kept-given (requests.Demote gref) = refl
-kept-given (requests.Promote gref) = refl
-kept-given (requests.Map dom gref flags) = refl
-kept-given (requests.Unmap handle) = refl
-kept-given (requests.Load handle off len) = refl
-kept-given (requests.Store handle off bytes) = refl
-kept-given (requests.Peek frame off len) = refl
-kept-given (requests.Poke frame off bytes) = refl
-kept-given (requests.Copy c) = refl
-kept-given (requests.SetVersion version) = refl
-kept-given (requests.SetupTable frames) = refl
-kept-given (requests.QuerySize dom) = refl
-kept-given (requests.GetVersion dom) = refl
+kept-given request = refl
 
 -- where nothing stands against it, they end inside a frame
 given-fits : (k : CallerKnowledge) (d : DomId) (request : Request) → begun_of k d request ≡ None → FitsGiven (asked request) (given_by request)
 given-fits k d (requests.Store handle off bytes) e = (refl, (opens k d (Store handle off (length bytes.now)) e).range)
 given-fits k d (requests.Poke frame off bytes) e = (refl, (opens k d (Poke frame off (length bytes.now)) e).range)
-given-fits k d (requests.Grant gref entry) e = tt
-given-fits k d (requests.GrantBytes gref bytes) e = tt
-given-fits k d (requests.Revoke gref) e = tt
-given-fits k d (requests.Demote gref) e = tt
-given-fits k d (requests.Promote gref) e = tt
-given-fits k d (requests.Map dom gref flags) e = tt
-given-fits k d (requests.Unmap handle) e = tt
-given-fits k d (requests.Load handle off len) e = tt
-given-fits k d (requests.Peek frame off len) e = tt
-given-fits k d (requests.Copy c) e = tt
-given-fits k d (requests.SetVersion version) e = tt
-given-fits k d (requests.SetupTable frames) e = tt
-given-fits k d (requests.QuerySize dom) e = tt
-given-fits k d (requests.GetVersion dom) e = tt
+given-fits k d request e = tt
 
 -- a call that was just begun has the bytes of its request
 given-begins : (i : Item) (h : History) (d : DomId) (request : Request) (given : List ℕ)
@@ -300,20 +242,12 @@ begin-opens s h d request o fits a closed op =
 -- a call that is answered at once
 
 pub plain-unmapped : (v : Verdict) → one_if_mapped (Some (answer_of v)) ≡ 0
-plain-unmapped Granted = refl
-plain-unmapped (KeptPin p) = refl
 plain-unmapped (Given (FramesTold n)) = refl
-plain-unmapped (Given (SizeTold z)) = refl
-plain-unmapped (Given (VersionTold n)) = refl
-plain-unmapped (Refused denial) = refl
+plain-unmapped v = refl
 
 pub plain-refusal : (v : Verdict) → refusal_of (answer_of v) ≡ refusal_in (Some v)
-plain-refusal Granted = refl
-plain-refusal (KeptPin p) = refl
 plain-refusal (Given (FramesTold n)) = refl
-plain-refusal (Given (SizeTold z)) = refl
-plain-refusal (Given (VersionTold n)) = refl
-plain-refusal (Refused denial) = refl
+plain-refusal v = refl
 
 -- what holds of a verdict, if there is one
 

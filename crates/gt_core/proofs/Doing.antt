@@ -81,9 +81,8 @@ same-step r (Unpin p (ByMapping a)) plain names = absurd (plain a names)
 same-step r step plain names = refl
 
 same-action : (r : Asked) (o : Option Action) → ((a : Handle) → r ≡ Unmap a → ⊥) → ((step : Step) → o ≡ Some (Makes step) → NamesAsked r step) → o ≡ option_map bare_action o
-same-action r None plain names = refl
-same-action r (Some (Ends v)) plain names = refl
 same-action r (Some (Makes step)) plain names = ap (λ (z : Step). Some (Makes z)) (sym (same-step r step plain (names step refl)))
+same-action r o plain names = refl
 
 path-bare : (k : CallerKnowledge) (found : Handle → Option Held) (d : DomId) (r : Asked) (vs : List Seen) → FindsSame found k.mapping r
     → path (record k { mapping = found }) d (bare_asked r) vs ≡ option_map bare_action (path k d r vs)
@@ -105,7 +104,6 @@ begun-bare : (k : CallerKnowledge) (found : Handle → Option Held) (d : DomId) 
 begun-bare k found d (requests.Unmap a) same = ap (λ (o : Option Held). first (refused_when (is_none o) N6 ∷ unmap_denied k d o ∷ [])) same
 begun-bare k found d (requests.Load a off len) same = ap (λ (o : Option Held). load_begun (λ x. o) a off len) same
 begun-bare k found d (requests.Store a off bytes) same = ap (λ (o : Option Held). store_begun (λ x. o) a off (length bytes.now)) same
-begun-bare k found d (requests.GrantBytes gref bytes) same = refl
 begun-bare k found d q same = refl
 
 finds-same : (s : Setting) (h : History) (d : DomId) (r : Asked) → IsRun s h → AsksKnown h d.0 r → FindsSame (mapping_of (mappings_at (bare h) d.0)) (mapping_of (mappings_at h d.0)) r
@@ -174,7 +172,6 @@ value-at s h d (Peek f off len) (Some (ReadBytes t frame o n)) = ap (λ (l : Lis
 value-at s h d (SetupTable frames) None = ap (λ (x : Header). Some (inl (answers.Frames x.frames))) (table-bare s h d)
 value-at s h d (QuerySize dom) (Some (LookHeader t)) = ap (λ (x : Header). Some (inl (answers.Size (record { frames = x.frames; max = MAX_TABLE_FRAMES })))) (table-bare s h t)
 value-at s h d (GetVersion dom) (Some (LookHeader t)) = ap (λ (x : Header). Some (inl (answers.Version x.version))) (table-bare s h t)
-value-at s h d (SetupTable frames) (Some (StoreHeader version stored)) = refl
 value-at s h d r step = refl
 
 unpin-value : (s : Setting) (h : History) (d : DomId) (r : Asked) (p : Held) (x y : Holder) → value_told s h d r (Some (Unpin p x)) ≡ value_told s h d r (Some (Unpin p y))
@@ -205,9 +202,8 @@ told-by s h d r step (Some denial) a e v = refused-told denial a e
 answer-told : (s : Setting) (h : History) (d : DomId) (r : Asked) (step : Option Step) (giving : Bool) (v : Option Verdict) (a : Option Answer) (against : Option Denial)
     → AnsweredBy s h d r step giving v a against → option_map told a ≡ answer_told s h d r step v
 answer-told s h d r step giving None None against is = refl
-answer-told s h d r step giving None (Some a) against is = absurd is
-answer-told s h d r step giving (Some v) None against is = absurd is
 answer-told s h d r step giving (Some v) (Some a) against is = told-by s h d r step (refusal_in (Some v)) a is.0 is.2
+answer-told s h d r step giving v a against is = absurd is
 
 answer-at : (s : Setting) (h : History) (d : DomId) (r : Asked) (step : Option Step) (v : Option Verdict) → answer_told s (bare h) d (bare_asked r) step v ≡ answer_told s h d r step v
 answer-at s h d r step None = refl
@@ -255,9 +251,8 @@ step-twice (Unpin p (ByMapping a)) = refl
 step-twice step = refl
 
 verdict-bare : (o : Option Action) → verdict_in (option_map bare_action o) ≡ verdict_in o
-verdict-bare None = refl
 verdict-bare (Some (Makes step)) = refl
-verdict-bare (Some (Ends v)) = refl
+verdict-bare o = refl
 
 began-at : (s : Setting) (h : History) (d : DomId) (q : Request) → IsRun s h → AsksKnown h d.0 (asked q) → began_told s (bare h) d (bare_request q) ≡ began_told s h d q
 began-at s h d q run k =
@@ -344,24 +339,22 @@ pub does : (s : Setting) (h : History) (e : Event) (x : Element) → MayDo s h e
 does s h (Begin d q) NoDomain m = ap (λ (o : Option DomainConfig). within o (begin_told s h d q (open_call h d.0))) (sym m)
 does s h (Tick d) NoDomain m = ap (λ (o : Option DomainConfig). within o (tick_told s h d (open_call h d.0))) (sym m)
 does s h (Begin d q) Busy m = is-within (domain_of s.domains d) (inl Busy) (begin_told s h d q (open_call h d.0)) m.0 (is-busy s h d q (open_call h d.0) m.1)
-does s h (Tick d) Busy m = absurd m
-does s h (Begin d q) Idle m = absurd m
 does s h (Tick d) Idle m = is-within (domain_of s.domains d) (inl Idle) (tick_told s h d (open_call h d.0)) m.0 (ap (tick_told s h d) (sym m.1))
 does s h (Begin d q) (Did i) m =
     is-within (domain_of s.domains d) (inr (told_item i)) (begin_told s h d q (open_call h d.0)) m.0 (begin-item s h d q i.actor i.happened i.answer m.1.0 m.1.1 m.2)
 does s h (Tick d) (Did i) m =
     is-within (domain_of s.domains d) (inr (told_item i)) (tick_told s h d (open_call h d.0)) m.0 (tick-item s h d i.actor i.happened i.answer m)
+does s h e x m = absurd m
 
 begin-at : (s : Setting) (h : History) (d : DomId) (q : Request) (c : Option Underway) → IsRun s h → AsksKnown h d.0 (asked q) → begin_told s (bare h) d (bare_request q) (option_map bare_call c) ≡ begin_told s h d q c
 begin-at s h d q None run k = ap (λ (t : ToldItem). inr t) (began-at s h d q run k)
 begin-at s h d q (Some c) run k = refl
 
 next-at : (s : Setting) (h : History) (d : DomId) (c : Underway) (o : Option Action) → IsRun s h → AsksKnown h d.0 c.request → stepped_told s (bare h) d (bare_call c) (option_map bare_action o) ≡ stepped_told s h d c o
-next-at s h d c None run k = refl
-next-at s h d c (Some (Ends v)) run k = refl
 next-at s h d c (Some (Makes step)) run k =
     ap (λ (vs : List Seen). inr (step_told s (bare h) d (bare_asked c.request) vs (bare_step step))) (values-bare c)
     ∙ ap (λ (t : ToldItem). inr t) (stepped-at s h d c.request (values c) step run k)
+next-at s h d c o run k = refl
 
 tick-at : (s : Setting) (h : History) (d : DomId) (c : Option Underway) → IsRun s h → CallKnown h d.0 c → tick_told s (bare h) d (option_map bare_call c) ≡ tick_told s h d c
 tick-at s h d None run k = refl

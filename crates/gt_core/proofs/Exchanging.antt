@@ -82,8 +82,7 @@ exchanged-maps h d gref looked change answer t m = none-more (d.0 == t) (maps_an
 row-entries : (b : Bool) (o : Option Own) (change : Change) → (b ≡ true → o ≢ None)
     → row_entry (cond b (option_map (own_after change) o) o) ≡ entry_after (cond b (Some change) None) (row_entry o)
 row-entries true None change some = absurd (some refl refl)
-row-entries true (Some own) change some = refl
-row-entries false o change some = refl
+row-entries b o change some = refl
 
 row-generations : (b : Bool) (o : Option Own) (change : Change) (first raises : ℕ) → (b ≡ true → (o ≢ None) × (first + raises + raise_of change ≤ LAST_GENERATION))
     → row_generation first o ≡ first + raises
@@ -158,20 +157,15 @@ hit-cases P d t g r change none some = by (d == t) (g == r) refl refl
   where
     by : (b c : Bool) → (d == t) ≡ b → (g == r) ≡ c → P t r (cond b (cond c (Some change) None) None)
     by true true e f = subst (λ (n : ℕ). P n r (Some change)) (eqb-true d t e) (subst (λ (n : ℕ). P d n (Some change)) (eqb-true g r f) some)
-    by true false e f = none
-    by false c e f = none
+    by b c e f = none
 
 word-fits : (e : Entry) (g r w : ℕ) → IsEntry e → (r < 4096) × (w < 4096) → g ≤ LAST_GENERATION → FitsWord (control_with e g r w)
 word-fits Invalid g r w a c below = record { in_range = record { reads = c.0; writes = c.1; generation = omega arith }; domain = omega arith }
-word-fits (Page dom ro frame) g r w a c below = record { in_range = record { reads = c.0; writes = c.1; generation = omega arith }; domain = a.0 }
-word-fits (Sub dom ro frame off len) g r w a c below = record { in_range = record { reads = c.0; writes = c.1; generation = omega arith }; domain = a.0 }
-word-fits (Via dom ro dom2 gref) g r w a c below = record { in_range = record { reads = c.0; writes = c.1; generation = omega arith }; domain = a.0 }
+word-fits e g r w a c below = record { in_range = record { reads = c.0; writes = c.1; generation = omega arith }; domain = a.0 }
 
 ro-fits : (to : Bool) (e : Entry) → IsEntry e → IsEntry (with_ro to e)
 ro-fits to Invalid a = tt
-ro-fits to (Page dom ro frame) a = a
-ro-fits to (Sub dom ro frame off len) a = a
-ro-fits to (Via dom ro dom2 gref) a = a
+ro-fits to e a = a
 
 changed-fits : (change : Change) (e : Entry) → IsEntry e → FitsChange change → IsEntry (changed_entry change e)
 changed-fits (Publish entry) e a f = f
@@ -212,9 +206,7 @@ exchange-entries s h xs d gref looked change answer t r st fits =
 
 ro-invalid : (to : Bool) (e : Entry) → with_ro to e ≡ Invalid → e ≡ Invalid
 ro-invalid to Invalid a = refl
-ro-invalid to (Page dom ro frame) a = cc
-ro-invalid to (Sub dom ro frame off len) a = cc
-ro-invalid to (Via dom ro dom2 gref) a = cc
+ro-invalid to e a = cc
 
 -- an entry that a change leaves invalid has no pins
 changed-free : (h : History) (t r : ℕ) (change : Change) → (entry_at h t r ≡ Invalid → (reads_at h t r ≡ 0) × (writes_at h t r ≡ 0)) → IsSafeChange h t r change
@@ -233,9 +225,7 @@ exchange-free s h xs d gref looked change answer t r st safe e =
 
 ro-spelled : (to : Bool) (e : Entry) (first second : ℕ) → IsSpelled e first second → IsSpelled (with_ro to e) first second
 ro-spelled to Invalid first second a = a
-ro-spelled to (Page dom ro frame) first second a = a
-ro-spelled to (Sub dom ro frame off len) first second a = a
-ro-spelled to (Via dom ro dom2 gref) first second a = a
+ro-spelled to e first second a = a
 
 abbrev Spelled : Entry → ℕ → ℕ → Type 0
 Spelled e first second = e ≢ Invalid → IsSpelled e first second

@@ -92,28 +92,23 @@ range-there s h fs at len fr a = and_from _ _ (frame-there s h fs (name_of at) f
 
 -- an entry that lets a mapping write lets any range of its frame be written
 map-writes : (e : Entry) (d : DomId) (frame off len : ℕ) → frame ≡ frame_of e → permits e d Write ForMap off len ≡ true → permits_writing e d frame off len ≡ true
-map-writes Invalid d frame off len is a = absurd (false≢true a)
 map-writes (Page dom ro f) d frame off len is a = and_from _ _ (eq-eqb f frame (sym is)) a
 map-writes (Sub dom ro f start size) d frame off len is a = absurd (false≢true (sym (never (dom.0 == d.0) (allows_direction ro Write)) ∙ a))
   where
     never : (b c : Bool) → (b && c && false && nat_le start off && nat_le (off + len) (start + size)) ≡ false
     never true true = refl
-    never true false = refl
-    never false c = refl
-map-writes (Via dom ro dom2 gref) d frame off len is a = absurd (false≢true a)
+    never b c = refl
+map-writes e d frame off len is a = absurd (false≢true a)
 
 -- an entry that permits a copy to write permits it to write its own frame
 copy-writes : (e : Entry) (d : DomId) (off len : ℕ) → permits e d Write ForCopy off len ≡ true → permits_writing e d (frame_of e) off len ≡ true
-copy-writes Invalid d off len a = absurd (false≢true a)
 copy-writes (Page dom ro f) d off len a = and_from _ _ (same-number f) a
 copy-writes (Sub dom ro f start size) d off len a = and_from _ _ (same-number f) a
-copy-writes (Via dom ro dom2 gref) d off len a = absurd (false≢true a)
+copy-writes e d off len a = absurd (false≢true a)
 
 leads-there : (e : Entry) (p : Held) → LeadsTo e p → leads_to e p.dom ≡ true
-leads-there Invalid p a = absurd a
-leads-there (Page dom ro f) p a = absurd a
-leads-there (Sub dom ro f off len) p a = absurd a
 leads-there (Via dom ro dom2 gref) p a = eq-eqb dom2.0 p.dom.0 (ap (λ (z : DomId). z.0) (sym a.0))
+leads-there e p a = absurd a
 
 -- the entries of a copy's pins let it write
 way-covers : (k : CallerKnowledge) (d : DomId) (granted : Bool) (end : End) (len : ℕ) (pair : DomId → DomId × DomId) (route : Route) → IsReached k d granted end Write len pair route
@@ -212,15 +207,7 @@ open-admitted s h xs fs x o c st fr a call here =
     by : (step : Step) → Rests (known_at s h x.id) x.id c.request (pins_at here.phase) (values c) (Makes step) → IsAdmitted fs x (record { caller = x.id; request = c.request; phase = Some here.phase }) step
     by (WriteBytes dom frame off len) r = writes dom frame off len r.0 r.1
     by (CopyBytes from to len) r = copy-admitted s h fs x c.request here.phase from to len fr r.0 here.held r.1
-    by (LookHeader dom) r = tt
-    by (LookControl dom gref) r = tt
-    by (LookBody dom gref half) r = tt
-    by (PinStep p) r = tt
-    by (Unpin p holder) r = tt
-    by (StoreBody gref half word) r = tt
-    by (StoreHeader version frames) r = tt
-    by (Exchange gref looked change) r = tt
-    by (ReadBytes dom frame off len) r = tt
+    by step r = tt
 
 -- what it reads is there
 pub open-readable : (s : Setting) (h : History) (xs : List State) (fs : FrameSet) (x : State) (o : Open) (c : Underway) → DomainsStand s h xs → FramesStand s h fs → OpenAgrees s h x.id o c → IsReadable fs o.call o.step
@@ -234,16 +221,7 @@ open-readable s h xs fs x o c st fr here = by o.step here.rests
     by (ReadBytes dom frame off len) r =
         let just = read-justified s h xs x.id c.request dom frame off len st r.0 r.1 in
         (range-there s h fs (record { owner = dom; frame = frame; off = off }) len fr just.0, long dom frame off len r.1)
-    by (WriteBytes dom frame off len) r = tt
-    by (CopyBytes from to len) r = tt
-    by (LookHeader dom) r = tt
-    by (LookControl dom gref) r = tt
-    by (LookBody dom gref half) r = tt
-    by (PinStep p) r = tt
-    by (Unpin p holder) r = tt
-    by (StoreBody gref half word) r = tt
-    by (StoreHeader version frames) r = tt
-    by (Exchange gref looked change) r = tt
+    by step r = tt
 
 -- the size of a frame
 
@@ -352,22 +330,13 @@ frames-stepped s h fs gs x call step seen answer c under given fr = by step
     by (CopyBytes from to len) a =
         written-once s h fs gs (stepped x.id (CopyBytes from to len) seen answer) to a.0 (bytes_at (frame_at fs (name_of from)) from.off len)
         (ap (λ (l : List ℕ). Some (record { at = to; bytes = l })) (sym (bytes-held s h fs from.owner from.frame from.off len fr))) fr a.2 a.3
-    by (LookHeader dom) a = quiet (LookHeader dom) refl a
-    by (LookControl dom gref) a = quiet (LookControl dom gref) refl a
-    by (LookBody dom gref half) a = quiet (LookBody dom gref half) refl a
-    by (PinStep p) a = quiet (PinStep p) refl a
-    by (Unpin p holder) a = quiet (Unpin p holder) refl a
-    by (StoreBody gref half word) a = quiet (StoreBody gref half word) refl a
-    by (StoreHeader version frames) a = quiet (StoreHeader version frames) refl a
-    by (Exchange gref looked change) a = quiet (Exchange gref looked change) refl a
-    by (ReadBytes dom frame off len) a = quiet (ReadBytes dom frame off len) refl a
+    by z a = quiet z refl a
 
 -- a beginning writes nothing
 pub frames-begun : (s : Setting) (h : History) (fs : FrameSet) (dom : DomId) (request : Request) (b : Begun) → FramesStand s h fs → FramesStand s (grown h (begun_element dom request b)) fs
-frames-begun s h fs dom request BegunOpen fr = nothing-written s h fs _ refl fr
-frames-begun s h fs dom request (BegunDone answer) fr = nothing-written s h fs _ refl fr
 frames-begun s h fs dom request BegunBusy fr = fr
 frames-begun s h fs dom request BegunNoDomain fr = fr
+frames-begun s h fs dom request b fr = nothing-written s h fs _ refl fr
 
 -- frames at rest
 

@@ -105,9 +105,8 @@ open-stays s i h d o c apart a =
 
 call-stays : (s : Setting) (i : Item) (h : History) (d : DomId) (o : Option Open) (c : Option Underway) → (i.actor.0 == d.0) ≡ false → CallAgrees s h d o c → CallAgrees s (i ∷ h) d o c
 call-stays s i h d None None apart a = other-legs i h d.0 apart ∙ a
-call-stays s i h d None (Some c) apart a = a
-call-stays s i h d (Some o) None apart a = a
 call-stays s i h d (Some o) (Some c) apart a = open-stays s i h d o c apart a
+call-stays s i h d o c apart a = a
 
 call-of-other : (s : Setting) (i : Item) (h : History) (d : DomId) (o : Option Open) → (i.actor.0 == d.0) ≡ false → CallAgrees s h d o (open_call h d.0) → CallAgrees s (i ∷ h) d o (open_call (i ∷ h) d.0)
 call-of-other s i h d o apart a =
@@ -220,15 +219,11 @@ actor-agrees s i h x slots mappings o given q a len agree same call bytes =
 
 room-for : (e : Entry) (g r w : ℕ) → FitsWord (control_with e g r w) → (r < 4096) × (w < 4096)
 room-for Invalid g r w f = (f.in_range.reads, f.in_range.writes)
-room-for (Page dom ro frame) g r w f = (f.in_range.reads, f.in_range.writes)
-room-for (Sub dom ro frame off len) g r w f = (f.in_range.reads, f.in_range.writes)
-room-for (Via dom ro dom2 gref) g r w f = (f.in_range.reads, f.in_range.writes)
+room-for e g r w f = (f.in_range.reads, f.in_range.writes)
 
 fits-with : (e : Entry) (g r w r' w' : ℕ) → r' < 4096 → w' < 4096 → FitsWord (control_with e g r w) → FitsWord (control_with e g r' w')
 fits-with Invalid g r w r' w' a b f = record { in_range = record { reads = a; writes = b; generation = f.in_range.generation }; domain = f.domain }
-fits-with (Page dom ro frame) g r w r' w' a b f = record { in_range = record { reads = a; writes = b; generation = f.in_range.generation }; domain = f.domain }
-fits-with (Sub dom ro frame off len) g r w r' w' a b f = record { in_range = record { reads = a; writes = b; generation = f.in_range.generation }; domain = f.domain }
-fits-with (Via dom ro dom2 gref) g r w r' w' a b f = record { in_range = record { reads = a; writes = b; generation = f.in_range.generation }; domain = f.domain }
+fits-with e g r w r' w' a b f = record { in_range = record { reads = a; writes = b; generation = f.in_range.generation }; domain = f.domain }
 
 -- the counts that a control word holds are below 4,096
 pub counts-fit : (s : Setting) (h : History) (t r : ℕ) → FitsWord (control_at s h t r) → (reads_at h t r < 4096) × (writes_at h t r < 4096)
@@ -296,8 +291,7 @@ each-stays s i h xs zs x new st here own kept becomes same mine slots dom =
   where
     plain : (b : Bool) (o : Option State) → after_change b (λ (y : State). y) o ≡ o
     plain true None = refl
-    plain true (Some y) = refl
-    plain false o = refl
+    plain b o = refl
 
 -- a core stands for one item more that changes no entry and stores no word
 pub keeps-stands : (s : Setting) (i : Item) (h : History) (xs zs : List State) → KeepsEntries i → DomainsStand s h xs → ((dom : DomId) → StateAgrees s (i ∷ h) dom (state_of zs dom.0))

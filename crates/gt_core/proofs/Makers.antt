@@ -136,9 +136,7 @@ only-beyond : (r : Asked) (k : CallerKnowledge) (l : Leg) (pair : DomId → DomI
 only-beyond r k l pair held reached p (Via dom ro dom2 gref) only =
     only-unless r (via_judged k (pair dom2) dom2) (p ∷ held) (leg (second_leg k l dom2 gref) (refused_holding (p ∷ held)) (λ q. reached (Through p q)))
     (only-leg r (second_leg k l dom2 gref) (refused_holding (p ∷ held)) (λ q. reached (Through p q)) (λ denial. only-back r (p ∷ held) (Refused denial)) (λ q. only (Through p q)))
-only-beyond r k l pair held reached p Invalid only = only _
-only-beyond r k l pair held reached p (Page dom ro frame) only = only _
-only-beyond r k l pair held reached p (Sub dom ro frame off len) only = only _
+only-beyond r k l pair held reached p entry only = only _
 
 only-reaches : (r : Asked) (k : CallerKnowledge) (b : Bool) (l : Leg) (pair : DomId → DomId × DomId) (held : List Held) (reached : Route → Continuation)
     → ((way : Route) → Only r (reached way)) → Only r (reaches k b l pair held reached)
@@ -156,9 +154,7 @@ only-copies r k d c =
 
 only-busy : (r : Asked) (d : DomId) (gref : GrantRef) (change : Change) (w : ℕ) → Only r (busy d gref change w)
 only-busy r d gref (Publish entry) w = only-nowhere r
-only-busy r d gref ToInvalid w = only-ended r _
-only-busy r d gref ToReadOnly w = only-ended r _
-only-busy r d gref ToWritable w = only-ended r _
+only-busy r d gref change w = only-ended r _
 
 only-once : (r : Asked) (d : DomId) (gref : GrantRef) (looked : ℕ) (change : Change) → Only r (exchanges_once d gref looked change)
 only-once r d gref looked change = only-exchanges r (Exchange gref looked change) looked (ended Granted) (busy d gref change) tt (only-ended r Granted) (λ w. only-busy r d gref change w)
@@ -176,9 +172,7 @@ only-turns r change d gref (suc n) = only-turn r change d gref (λ found. turns 
 
 only-after_first : (r : Asked) (k : CallerKnowledge) (d : DomId) (gref : GrantRef) (entry : Entry) → Only r (after_first k d gref entry)
 only-after_first r k d gref (Sub dom ro frame off len) = only-makes r _ _ tt (only-once r d gref _ _)
-only-after_first r k d gref Invalid = only-once r d gref _ _
-only-after_first r k d gref (Page dom ro frame) = only-once r d gref _ _
-only-after_first r k d gref (Via dom ro dom2 g) = only-once r d gref _ _
+only-after_first r k d gref entry = only-once r d gref _ _
 
 -- calls
 
@@ -195,13 +189,11 @@ only-steps k d (requests.Map dom gref flags) = only-leg _ (map_leg k d dom gref 
 only-steps k d (requests.Unmap handle) = only-mapping _ (k.mapping handle) _ (λ p. refl)
 only-steps k d (requests.Load handle off len) = only-mapping _ (k.mapping handle) _ (λ p. tt)
 only-steps k d (requests.Store handle off len) = only-mapping _ (k.mapping handle) _ (λ p. tt)
-only-steps k d (requests.Peek frame off len) = only-makes _ _ (ended Granted) tt (only-ended _ Granted)
-only-steps k d (requests.Poke frame off len) = only-makes _ _ (ended Granted) tt (only-ended _ Granted)
 only-steps k d (requests.Copy c) = only-copies _ k d c
-only-steps k d (requests.SetVersion version) = only-makes _ _ (ended Granted) tt (only-ended _ Granted)
 only-steps k d (requests.SetupTable frames) = only-makes _ _ _ tt (only-ended _ _)
 only-steps k d (requests.QuerySize dom) = only-looks _ _ _ tt (λ w. only-ended _ _)
 only-steps k d (requests.GetVersion dom) = only-looks _ _ _ tt (λ w. only-ended _ _)
+only-steps k d r = only-makes _ _ (ended Granted) tt (only-ended _ Granted)
 
 only-beginning : (r : Asked) (v : Option Verdict) (c : Continuation) → Only r c → Only r (after_beginning v c)
 only-beginning r None c only = only

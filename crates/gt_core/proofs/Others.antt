@@ -80,8 +80,7 @@ without-apart give d actor holder (p ∷ ps) apart = by (p.actor == actor) (is_h
         → gather give d (cond (b && e) ps (p ∷ without actor holder ps)) ≡ gather give d (p ∷ ps)
     by true true own rest =
         sym (ap (λ l. l ++ gather give d ps) (nothing-apart (p.actor == d) (give p.holder p.held) (ap (λ (n : ℕ). n == d) (eqb-true p.actor actor own) ∙ apart)))
-    by true false own rest = ap (λ l. cond (p.actor == d) (give p.holder p.held) [] ++ l) rest
-    by false e own rest = ap (λ l. cond (p.actor == d) (give p.holder p.held) [] ++ l) rest
+    by b e own rest = ap (λ l. cond (p.actor == d) (give p.holder p.held) [] ++ l) rest
 
 unpinned-apart : {A : Type 0} (give : Holder → Held → List A) (d : ℕ) (actor : DomId) (happened : Happened) (ps : List Pin) → (actor.0 == d) ≡ false → gather give d (unpinned_by actor happened ps) ≡ gather give d ps
 unpinned-apart give d actor (Stepped (Unpin p holder) seen) ps apart = without-apart give d actor.0 holder ps apart

@@ -98,8 +98,7 @@ pub turn-below : (s : Setting) (h : History) (xs : List State) (d : DomId) (r : 
     → IsTurn r gref change → gref.0 < TABLE_ENTRIES
 turn-below s h xs d r gref ToReadOnly st none is = table-below s h xs d gref st (opens (known_at s h d) d (Demote gref) (subst (λ (z : Asked). begun (known_at s h d) d z ≡ None) is none)).in_table
 turn-below s h xs d r gref ToWritable st none is = table-below s h xs d gref st (opens (known_at s h d) d (Promote gref) (subst (λ (z : Asked). begun (known_at s h d) d z ≡ None) is none)).in_table
-turn-below s h xs d r gref (Publish entry) st none is = absurd is
-turn-below s h xs d r gref ToInvalid st none is = absurd is
+turn-below s h xs d r gref change st none is = absurd is
 
 -- each step is on words that there are
 
@@ -107,9 +106,7 @@ leg-within : (s : Setting) (h : History) (xs : List State) (d : DomId) (l : Leg)
 leg-within s h xs d l so_far AtHeader some a = some
 leg-within s h xs d l so_far (Look more) some a = (some, a.0)
 leg-within s h xs d l so_far (Body more word) some a = (some, a.within)
-leg-within s h xs d l so_far (Second more word body) some a = (some, a.0.within)
-leg-within s h xs d l so_far (Pinning more word body second) some a = (some, a.0.within)
-leg-within s h xs d l so_far (Relook more word rule) some a = (some, a.0.within)
+leg-within s h xs d l so_far p some a = (some, a.0.within)
 
 quiet-within : (xs : List State) (d : DomId) (step : Step) → IsQuiet step → IsWithin xs d step
 quiet-within xs d (Unpin p holder) q = tt
@@ -140,16 +137,14 @@ step-within s h xs d r shown so_far phase step i = subst (λ (a : Action). OfAct
     OfAction (Done v) = Unit {0}
 
     by : (p : Phase) → HasShown (known_at s h d) (path (known_at s h d) d r) d r shown p → PhaseStands s h d r so_far p → action_at d p ≡ Makes step → OfAction (action_at d p)
-    by (Storing gref entry) a b e = tt
-    by (StoringSecond gref entry) a b e = tt
     by (Exchanging gref looked change) a b e = (i.own, word-below s h xs d r (path (known_at s h d) d r) shown gref looked change i.st i.at.unanswered a)
     by (Looking gref change more) a b e = (i.own, turn-below s h xs d r gref change i.st i.at.unanswered a)
     by (Changing gref change more looked) a b e = (i.own, turn-below s h xs d r gref change i.st i.at.unanswered a.1)
     by (Walking aim l at) a b e = leg-within s h xs d l so_far at (state-some s h xs l.dom i.st b.0) b.1
-    by (Accessing c source dest) a b e = tt
     by (Asking dom question) a b e = state-some s h xs dom i.st (asks-run s h d r dom question i.at.unanswered b)
     by (Last last verdict) a b e = quiet-within xs d last a.0
     by (Ending pins verdict) a b e = subst (λ (x : Action). OfAction x) (sym e) (give-within xs d (last_first pins) verdict step e)
+    by p a b e = tt
 
 -- what a step sees fits it
 
@@ -168,9 +163,7 @@ IsPublished s h d step = Unit {0}
 changed-fits : (s : Setting) (h : History) (d : DomId) (gref : GrantRef) (looked : ℕ) (change : Change) → IsPublished s h d (Exchange gref looked change)
     → IsChanged change looked (cond (word_at s h d.0 gref.0 == looked) Taken (Missed (word_at s h d.0 gref.0)))
 changed-fits s h d gref looked (Publish entry) p = ap (λ (b : Bool). cond b Taken (Missed (word_at s h d.0 gref.0))) (eq-eqb (word_at s h d.0 gref.0) looked p)
-changed-fits s h d gref looked ToInvalid p = exchanged-fits looked (word_at s h d.0 gref.0)
-changed-fits s h d gref looked ToReadOnly p = exchanged-fits looked (word_at s h d.0 gref.0)
-changed-fits s h d gref looked ToWritable p = exchanged-fits looked (word_at s h d.0 gref.0)
+changed-fits s h d gref looked change p = exchanged-fits looked (word_at s h d.0 gref.0)
 
 pub seen-fits : (s : Setting) (h : History) (d : DomId) (step : Step) → IsPublished s h d step → FitsStep step (seen_by s h d step)
 seen-fits s h d (LookHeader dom) p = tt
@@ -178,21 +171,14 @@ seen-fits s h d (LookControl dom gref) p = tt
 seen-fits s h d (LookBody dom gref half) p = tt
 seen-fits s h d (PinStep q) p = exchanged-fits q.word (word_at s h q.dom.0 q.gref.0)
 seen-fits s h d (Exchange gref looked change) p = changed-fits s h d gref looked change p
-seen-fits s h d (Unpin q holder) p = refl
-seen-fits s h d (StoreBody gref half word) p = refl
-seen-fits s h d (StoreHeader version frames) p = refl
-seen-fits s h d (ReadBytes dom frame off len) p = refl
-seen-fits s h d (WriteBytes dom frame off len) p = refl
-seen-fits s h d (CopyBytes from to len) p = refl
+seen-fits s h d step p = refl
 
 -- the owner's word with no pins
 
 -- a word with no pins is the idle word, and no other
 pub idle-pins : (e : Entry) (g r w : ℕ) → control_word (control_with e g r w) ≡ control_word (control_with e g 0 0) → r + w ≡ 0
 idle-pins Invalid g r w e = omega arith
-idle-pins (Page dom ro frame) g r w e = omega arith
-idle-pins (Sub dom ro frame off len) g r w e = omega arith
-idle-pins (Via dom ro dom2 gref) g r w e = omega arith
+idle-pins z g r w e = omega arith
 
 pub idle-here : (s : Setting) (h : History) (d : DomId) (gref : GrantRef) → reads_at h d.0 gref.0 + writes_at h d.0 gref.0 ≡ 0 → word_at s h d.0 gref.0 ≡ idle_word (known_at s h d) gref
 idle-here s h d gref none =
@@ -206,9 +192,7 @@ idle-no-pins s h d gref e = idle-pins (entry_at h d.0 gref.0) (generation_at s h
 
 invalid-is : (e : Entry) → is_invalid e ≡ true → e ≡ Invalid
 invalid-is Invalid e = refl
-invalid-is (Page dom ro frame) e = absurd (false≢true e)
-invalid-is (Sub dom ro frame off len) e = absurd (false≢true e)
-invalid-is (Via dom ro dom2 gref) e = absurd (false≢true e)
+invalid-is z e = absurd (false≢true e)
 
 pub grant-invalid : (s : Setting) (h : History) (d : DomId) (gref : GrantRef) (entry : Entry) → begun (known_at s h d) d (Grant gref entry) ≡ None → entry_at h d.0 gref.0 ≡ Invalid
 grant-invalid s h d gref entry none = invalid-is (entry_at h d.0 gref.0) (opens (known_at s h d) d (Grant gref entry) none).free
@@ -221,36 +205,19 @@ publish-here s h xs d r shown gref looked (Publish entry) st none rests =
     let a : reads_at h d.0 gref.0 ≡ 0 = free.0 in
     let b : writes_at h d.0 gref.0 ≡ 0 = free.1 in
     idle-here s h d gref (omega arith) ∙ sym rests.1
-publish-here s h xs d r shown gref looked ToInvalid st none rests = tt
-publish-here s h xs d r shown gref looked ToReadOnly st none rests = tt
-publish-here s h xs d r shown gref looked ToWritable st none rests = tt
+publish-here s h xs d r shown gref looked change st none rests = tt
 
 turn-publishes : (s : Setting) (h : History) (d : DomId) (r : Asked) (gref : GrantRef) (looked : ℕ) (change : Change) → IsTurn r gref change → IsPublished s h d (Exchange gref looked change)
 turn-publishes s h d r gref looked (Publish entry) is = absurd is
-turn-publishes s h d r gref looked ToInvalid is = tt
-turn-publishes s h d r gref looked ToReadOnly is = tt
-turn-publishes s h d r gref looked ToWritable is = tt
+turn-publishes s h d r gref looked change is = tt
 
 leg-publishes : (s : Setting) (h : History) (d : DomId) (l : Leg) (p : LegPhase) → IsPublished s h d (leg_step l p)
 leg-publishes s h d l AtHeader = tt
-leg-publishes s h d l (Look more) = tt
-leg-publishes s h d l (Body more word) = tt
-leg-publishes s h d l (Second more word body) = tt
-leg-publishes s h d l (Pinning more word body second) = tt
-leg-publishes s h d l (Relook more word rule) = tt
+leg-publishes s h d l p = tt
 
 quiet-publishes : (s : Setting) (h : History) (d : DomId) (step : Step) → IsQuiet step → IsPublished s h d step
 quiet-publishes s h d (Exchange gref looked change) q = absurd q
-quiet-publishes s h d (LookHeader dom) q = tt
-quiet-publishes s h d (LookControl dom gref) q = tt
-quiet-publishes s h d (LookBody dom gref half) q = tt
-quiet-publishes s h d (PinStep p) q = tt
-quiet-publishes s h d (Unpin p holder) q = tt
-quiet-publishes s h d (StoreBody gref half word) q = tt
-quiet-publishes s h d (StoreHeader version frames) q = tt
-quiet-publishes s h d (ReadBytes dom frame off len) q = tt
-quiet-publishes s h d (WriteBytes dom frame off len) q = tt
-quiet-publishes s h d (CopyBytes from to len) q = tt
+quiet-publishes s h d step q = tt
 
 give-publishes : (s : Setting) (h : History) (d : DomId) (held : List Held) (verdict : Verdict) (step : Step) → next_to_give held verdict ≡ Makes step → IsPublished s h d step
 give-publishes s h d [] verdict step e = cc
@@ -264,13 +231,9 @@ step-publishes s h xs d r shown so_far phase step i = subst (λ (a : Action). Of
     OfAction (Done v) = Unit {0}
 
     by : (p : Phase) → HasShown (known_at s h d) (path (known_at s h d) d r) d r shown p → action_at d p ≡ Makes step → OfAction (action_at d p)
-    by (Storing gref entry) a e = tt
-    by (StoringSecond gref entry) a e = tt
     by (Exchanging gref looked change) a e = publish-here s h xs d r shown gref looked change i.st i.at.unanswered a
-    by (Looking gref change more) a e = tt
     by (Changing gref change more looked) a e = turn-publishes s h d r gref looked change a.1
     by (Walking aim l at) a e = leg-publishes s h d l at
-    by (Accessing c source dest) a e = tt
-    by (Asking dom question) a e = tt
     by (Last last verdict) a e = quiet-publishes s h d last a.0
     by (Ending pins verdict) a e = subst (λ (x : Action). OfAction x) (sym e) (give-publishes s h d (last_first pins) verdict step e)
+    by p a e = tt

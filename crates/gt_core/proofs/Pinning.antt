@@ -59,10 +59,9 @@ grown-count : (h : History) (i : Item) (p : Pin) (t r : ℕ) (k : Dir) → Grows
 grown-count h i p t r k e = ap (λ (ps : List Pin). count_by (is_pin_on t r k) ps) e ∙ sum_by_push (λ (x : Pin). cond (is_pin_on t r k x) 1 0) (live h) p
 
 pub same-dir : (a b : Dir) → same_dir a b ≡ true → a ≡ b
-same-dir Read Read e = refl
 same-dir Read Write e = absurd (false≢true e)
 same-dir Write Read e = absurd (false≢true e)
-same-dir Write Write e = refl
+same-dir a b e = refl
 
 pins-counted : (h : History) (t r : ℕ) (k : Dir) → pins_at h t r k ≡ count_by (is_pin_on t r k) (live h)
 pins-counted h t r Read = refl

@@ -107,10 +107,8 @@ legs-bare d (p ∷ ps) =
     by (ByLeg m) = refl
 
 holder-bare : (a : Option Answer) (n : ℕ) → holder_after (option_map answer_from (option_map told a)) n ≡ bare_holder (holder_after a n)
-holder-bare None n = refl
 holder-bare (Some (Mapped handle)) n = refl
-holder-bare (Some (Bytes b)) n = refl
-holder-bare (Some answer) n = refl
+holder-bare a n = refl
 
 pinned-bare : (d : DomId) (x : Happened) (a : Option Answer) (h : History) (ps : List Pin)
     → pinned_by d (bare_happened x) (option_map answer_from (option_map told a)) (bare h) (bare_pins ps) ≡ bare_pins (pinned_by d x a h ps)
@@ -170,8 +168,7 @@ gather-bare d (p ∷ ps) = by (p.actor == d) p.holder (gather-bare d ps)
     by : (b : Bool) (x : Holder) → gather by_mapping d (bare_pins ps) ≡ bare_mappings (gather by_mapping d ps)
         → cond b (by_mapping (bare_holder x) p.held) [] ++ gather by_mapping d (bare_pins ps) ≡ bare_mappings (cond b (by_mapping x p.held) [] ++ gather by_mapping d ps)
     by true (ByMapping a) rest = ap (λ (l : List (Handle × Held)). (bare_handle a, p.held) ∷ l) rest
-    by true (ByLeg n) rest = rest
-    by false x rest = rest
+    by b x rest = rest
 
 pub mappings-bare : (s : Setting) (h : History) (d : ℕ) → IsRun s h → mappings_at (bare h) d ≡ bare_mappings (mappings_at h d)
 mappings-bare s h d run = ap (λ (ps : List Pin). gather by_mapping d ps) (live-bare s h run) ∙ gather-bare d (live h)
@@ -191,8 +188,7 @@ gather-given h d (p ∷ ps) g = by (p.actor == d) refl p.holder g.0 (gather-give
   where
     by : (b : Bool) → (p.actor == d) ≡ b → (x : Holder) → HeldGiven h p.actor x → AreGiven h d (gather by_mapping d ps) → AreGiven h d (cond b (by_mapping x p.held) [] ++ gather by_mapping d ps)
     by true e (ByMapping a) given rest = (subst (λ (n : ℕ). IsGiven h n a) (eqb-true p.actor d e) given, rest)
-    by true e (ByLeg n) given rest = rest
-    by false e x given rest = rest
+    by b e x given rest = rest
 
 found-bare : (s : Setting) (h : History) (d : ℕ) (a : Handle) (ms : List (Handle × Held)) → IsRun s h → IsKnown h d a → AreGiven h d ms → mapping_of (bare_mappings ms) (bare_handle a) ≡ mapping_of ms a
 found-bare s h d a [] run k g = refl

@@ -47,9 +47,7 @@ cond-twice false x y z = refl
 
 cond-apart : (a b : Bool) (x y z : Option State) → ((a ≡ true) → (b ≡ true) → ⊥) → cond a x (cond b y z) ≡ cond b y (cond a x z)
 cond-apart true true x y z h = absurd (h refl refl)
-cond-apart true false x y z h = refl
-cond-apart false true x y z h = refl
-cond-apart false false x y z h = refl
+cond-apart a b x y z h = refl
 
 -- a new state of the first domain with a number
 pub state_of-set : (xs : List State) (i : ℕ) (old new : State) (q : ℕ)

@@ -27,8 +27,7 @@ pub legal-more : (s : Setting) (h : History) (es : List Event) (xs : List Elemen
     → LegalAfter s h (es ++ e ∷ []) (xs ++ x ∷ [])
 legal-more s h [] [] e x a m = (m, tt)
 legal-more s h (f ∷ es) (y ∷ xs) e x a m = (a.0, legal-more s (grown h y) es xs e x a.1 m)
-legal-more s h [] (y ∷ xs) e x a m = absurd a
-legal-more s h (f ∷ es) [] e x a m = absurd a
+legal-more s h es xs e x a m = absurd a
 
 pub history-more : (h : History) (xs : List Element) (x : Element) → history_after h (xs ++ x ∷ []) ≡ grown (history_after h xs) x
 history-more h [] x = refl

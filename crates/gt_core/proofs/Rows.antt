@@ -24,9 +24,8 @@ changed-past (z ∷ zs) zero f past = absurd (omega arith)
 changed-past (z ∷ zs) (suc r) f past = ap (λ l. z ∷ l) (changed-past zs r f (omega arith))
 
 pub length-changed : {A : Type 0} (xs : List A) (r : ℕ) (f : A → A) → length (changed_at r f xs) ≡ length xs
-length-changed [] r f = refl
-length-changed (z ∷ zs) zero f = refl
 length-changed (z ∷ zs) (suc r) f = ap suc (length-changed zs r f)
+length-changed xs r f = refl
 
 suc-eqb : (r q : ℕ) → (suc r == suc q) ≡ (r == q)
 suc-eqb r q = by (r == q) refl
@@ -111,9 +110,7 @@ state-changed (z ∷ zs) d q f keeps = by (z.id.0 == d) (state-changed zs d q f 
 
     apart : (b c : Bool) → (b ≡ true → c ≡ true → ⊥) → cond b (Some z) (cond c (option_map f (state_of zs q)) (state_of zs q)) ≡ cond c (option_map f (cond b (Some z) (state_of zs q))) (cond b (Some z) (state_of zs q))
     apart true true n = absurd (n refl refl)
-    apart true false n = refl
-    apart false true n = refl
-    apart false false n = refl
+    apart b c n = refl
 
     by : (b : Bool) → state_of (changed_in d f zs) q ≡ cond (d == q) (option_map f (state_of zs q)) (state_of zs q) → (z.id.0 == d) ≡ b
         → state_of (cond b (f z ∷ zs) (z ∷ changed_in d f zs)) q ≡ cond (d == q) (option_map f (cond (z.id.0 == q) (Some z) (state_of zs q))) (cond (z.id.0 == q) (Some z) (state_of zs q))

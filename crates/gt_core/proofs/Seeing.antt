@@ -109,9 +109,4 @@ sees-agree s h xs d (LookBody dom gref half) st w =
     ap (λ (n : ℕ). Word n) (body_seen-state xs dom.0 gref.0 half x.0 x.1 ∙ body-agrees s h x.0 gref.0 half x.3 w.1 ∙ ap (λ (t : DomId). body_at h t.0 gref.0 half) x.2)
 sees-agree s h xs d (Pin p) st w = ap (λ (n : ℕ). exchange_sees n p.word) (control-agrees s h xs p.dom p.gref.0 st w.0 w.1)
 sees-agree s h xs d (Exchange gref looked change) st w = ap (λ (n : ℕ). exchange_sees n looked) (control-agrees s h xs d gref.0 st w.0 w.1)
-sees-agree s h xs d (Unpin p holder) st w = refl
-sees-agree s h xs d (StoreBody gref half word) st w = refl
-sees-agree s h xs d (StoreHeader version frames) st w = refl
-sees-agree s h xs d (ReadBytes dom frame off len) st w = refl
-sees-agree s h xs d (WriteBytes dom frame off len) st w = refl
-sees-agree s h xs d (CopyBytes from to len) st w = refl
+sees-agree s h xs d step st w = refl

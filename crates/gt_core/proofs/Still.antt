@@ -19,10 +19,8 @@ same-after : (before first generation : ℕ) (Holds : Entry → Type 0) (entry :
     → (first + before ≡ generation → entry ≢ Invalid → Holds entry)
     → first + (before + raise_after c) ≡ generation → entry_after c entry ≢ Invalid → Holds (entry_after c entry)
 same-after before first generation Holds entry None le was e valid = was (omega arith) valid
-same-after before first generation Holds entry (Some (Publish new)) le was e valid = absurd (omega arith)
 same-after before first generation Holds entry (Some Revoke) le was e valid = absurd (valid refl)
-same-after before first generation Holds entry (Some Demote) le was e valid = absurd (omega arith)
-same-after before first generation Holds entry (Some Promote) le was e valid = absurd (omega arith)
+same-after before first generation Holds entry c le was e valid = absurd (omega arith)
 
 -- each item keeps what a call saw
 pub same-keeps : (s : Setting) (i : Item) (h : History) (l : Leg) (word : ℕ) (Holds : Entry → Type 0) → (control_of word).generation ≤ generation_at s h l.dom.0 l.gref.0

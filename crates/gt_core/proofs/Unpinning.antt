@@ -149,8 +149,7 @@ other-gather {A} give holder d (p ∷ ps) none = by (p.actor == d) (is_holder p.
 
     by : (b c : Bool) → is_holder p.holder holder ≡ c → gather give d (without d holder ps) ≡ gather give d ps → gather give d (cond (b && c) ps (p ∷ without d holder ps)) ≡ cond (p.actor == d) (give p.holder p.held) [] ++ gather give d ps
     by true true is rest = both (p.actor == d) (none p.holder is p.held)
-    by true false is rest = ap (λ (l : List A). cond (p.actor == d) (give p.holder p.held) [] ++ l) rest
-    by false c is rest = ap (λ (l : List A). cond (p.actor == d) (give p.holder p.held) [] ++ l) rest
+    by b c is rest = ap (λ (l : List A). cond (p.actor == d) (give p.holder p.held) [] ++ l) rest
 
 leg-none : (number : ℕ) (x : Holder) → is_holder x (ByLeg number) ≡ true → (p : Held) → by_mapping x p ≡ []
 leg-none number (ByMapping k) e p = absurd (false≢true e)
