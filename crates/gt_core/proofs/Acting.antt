@@ -1,49 +1,10 @@
 -- What each step of an open call rests on, by the history.
-use Rattle.std.proofs.Common.{◌≡◌, ◌≢◌, ◌<◌, ◌≤◌, ◌+◌, ◌⊎◌, inl, inr, ℕ, refl, Bool, true, false, List, [], ◌∷◌, Option, None, sym, ap, ◌∙◌, subst, reverse, arith}
-use Rattle.std.proofs.lemmas.Bool.{eqb-true, eqb-false, leb-false, ltb-false, false≢true}
-use Rattle.std.specs.Prelude.{◌==◌, nat_lt}
-use Rattle.gt_types.specs.Names.{domain_of, resolved}
-use Rattle.gt_types.specs.declared.DomId.{DomId}
-use Rattle.gt_types.specs.declared.GrantRef.{GrantRef}
-use Rattle.gt_types.specs.declared.Dir.{Dir}
-use Rattle.gt_types.specs.declared.Dir.TheVariants.{Read, Write}
-use Rattle.gt_types.specs.declared.Use.TheVariants.{Map as ForMap}
-use Rattle.gt_types.specs.declared.limits.TheConstants.{TABLE_ENTRIES, LAST_GENERATION, LAST_VERSION, MAX_TABLE_FRAMES, MAX_PINS}
-use Rattle.gt_types.specs.declared.denial.Rule.{Rule}
-use Rattle.gt_types.specs.declared.denial.Rule.TheVariants.{N14, N16, N17}
-use Rattle.gt_entry.specs.declared.entry.Entry.{Entry}
-use Rattle.gt_entry.specs.declared.entry.Entry.TheVariants.{Invalid, Page, Sub, Via}
-use Rattle.gt_entry.specs.declared.change.Change.{Change}
-use Rattle.gt_entry.specs.declared.change.Change.TheVariants.{Publish, Revoke as ToInvalid, Demote as ToReadOnly, Promote as ToWritable}
-use Rattle.gt_entry.specs.declared.change.Half.{Half}
-use Rattle.gt_entry.specs.declared.change.Half.TheVariants.{First as FirstHalf, Second as SecondHalf}
-use Rattle.gt_entry.specs.Entries.{frame_of}
-use Rattle.gt_entry.specs.Permits.{permits}
-use Rattle.gt_entry.specs.Words.{control_of}
-use Rattle.gt_calls.specs.declared.held.Held.{Held}
-use Rattle.gt_calls.specs.declared.request.Asked.{Asked}
-use Rattle.gt_calls.specs.declared.request.Asked.TheVariants.{Grant, Map, Copy, SetVersion, SetupTable}
-use Rattle.gt_calls.specs.declared.action.Seen.{Seen}
-use Rattle.gt_calls.specs.declared.action.Step.TheVariants.{Pin as PinStep, StoreHeader, Exchange}
-use Rattle.gt_calls.specs.declared.action.Action.TheVariants.{Step as Makes}
-use Rattle.gt_calls.specs.declared.copying.Aim.{Aim}
-use Rattle.gt_calls.specs.declared.copying.Aim.TheVariants.{Mapping, Source, Dest}
-use Rattle.gt_calls.specs.declared.call.Phase.{Phase}
-use Rattle.gt_calls.specs.declared.call.Phase.TheVariants.{Storing, StoringSecond, Exchanging, Looking, Changing, Walking, Accessing, Asking, Last, Ending}
-use Rattle.gt_calls.specs.declared.leg.Leg.{Leg}
-use Rattle.gt_calls.specs.declared.leg.LegPhase.{LegPhase}
-use Rattle.gt_calls.specs.declared.leg.LegPhase.TheVariants.{Header as AtHeader, Look, Body, Second, Pinning, Relook}
-use Rattle.gt_calls.specs.Holding.{last_first}
-use Rattle.gt_calls.specs.Rules.{CallerKnowledge, begun, stands, first, first_look, before_pin, pins_of, is_outside, is_past_owner, frames_of, rights_to_map}
-use Rattle.gt_calls.specs.Path.{path, held_of, map_leg, Continuation}
-use Rattle.gt_calls.specs.Opening.{opens}
-use Rattle.gt_calls.specs.Resting.{RestsOnTry, RestsOnRequest, RestsOnGrant, IsFor, Lets}
-use Rattle.gt_calls.specs.Machine.{action_at, leg_step, next_to_give}
-use Rattle.gt_calls.specs.Standing.{HasShown, IsQuiet, IsTurn}
-use Rattle.gt_core.specs.States.{State}
-use Rattle.gt_core.specs.History.{History, Setting, entry_at, generation_at, body_at, reads_at, writes_at, control_at, word_at, known_at, legs_at, raise_of}
-use Rattle.gt_core.specs.Legal.{IsSafeChange, IsSpelled, MayUse, NoneStands, leg_at, rule_before_pin, StepsSoFar}
-use Rattle.gt_core.specs.Standing.{DomainsStand, FitsAsked, FitsTable, PhaseStands, numbered}
+use Rattle.gt_core.proofs.Words.{◌≡◌, ◌≢◌, ◌<◌, ◌≤◌, ◌+◌, ◌⊎◌, inl, inr, ℕ, refl, Bool, true, false, List, [], ◌∷◌, Option, None, sym, ap, ◌∙◌, subst, reverse, arith, eqb-true, eqb-false, leb-false, ltb-false, false≢true, ◌==◌, nat_lt, domain_of, resolved, DomId, GrantRef, Dir, Read, Write, ForMap, TABLE_ENTRIES, LAST_GENERATION, MAX_TABLE_FRAMES, MAX_PINS, Rule, N16, Entry, Invalid, Page, Sub, Via, Change, Publish, ToInvalid, ToReadOnly, ToWritable, Half, FirstHalf, SecondHalf, frame_of, permits, control_of, Held, Asked, Grant, Map, Copy, SetVersion, SetupTable, Seen, PinStep, StoreHeader, Exchange, Makes, Aim, Mapping, Source, Dest, Phase, Exchanging, Changing, Walking, Last, Ending, Leg, LegPhase, AtHeader, Pinning, last_first, CallerKnowledge, begun, stands, first, first_look, before_pin, frames_of, path, held_of, map_leg, Continuation, opens, RestsOnRequest, IsFor, action_at, leg_step, next_to_give, HasShown, IsQuiet, State, History, Setting, entry_at, generation_at, body_at, reads_at, writes_at, control_at, word_at, known_at, legs_at, raise_of, IsSafeChange, IsSpelled, MayUse, leg_at, rule_before_pin, StepsSoFar, DomainsStand, FitsAsked, FitsTable, PhaseStands, numbered}
+use Rattle.gt_types.specs.declared.limits.TheConstants.{LAST_VERSION}
+use Rattle.gt_types.specs.declared.denial.Rule.TheVariants.{N14, N17}
+use Rattle.gt_calls.specs.Rules.{pins_of, is_outside, is_past_owner}
+use Rattle.gt_calls.specs.Resting.{RestsOnTry, RestsOnGrant, Lets}
+use Rattle.gt_core.specs.Legal.{NoneStands}
 use Rattle.gt_core.proofs.Fitting.{word-shows}
 use Rattle.gt_core.proofs.Legs.{IsAsTried, as-tried, still-judged, control-generation, control-reads, control-writes}
 use Rattle.gt_core.proofs.Aims.{leg-here}

@@ -1,28 +1,8 @@
 -- The leg that an open call walks is the one that its pins tell.
-use Rattle.std.proofs.Common.{◌≡◌, ◌+◌, ℕ, refl, Bool, true, List, [], ◌∷◌, ◌++◌, map, reverse, Option, Some, None, cond, sym, ap, ◌∙◌}
-use Rattle.std.proofs.lemmas.Bool.{false≢true}
-use Rattle.gt_types.specs.declared.DomId.{DomId}
-use Rattle.gt_types.specs.declared.Dir.{Dir}
-use Rattle.gt_types.specs.declared.Dir.TheVariants.{Read, Write}
-use Rattle.gt_types.specs.declared.Use.TheVariants.{Copy as ForCopy}
-use Rattle.gt_entry.specs.declared.entry.Entry.{Entry}
-use Rattle.gt_entry.specs.declared.entry.Entry.TheVariants.{Invalid, Page, Sub, Via}
-use Rattle.gt_entry.specs.Permits.{permits}
-use Rattle.gt_calls.specs.declared.request.Asked.{Asked}
-use Rattle.gt_calls.specs.declared.request.CopyArgs.{CopyArgs}
-use Rattle.gt_calls.specs.declared.held.Held.{Held}
-use Rattle.gt_calls.specs.declared.held.Route.{Route}
-use Rattle.gt_calls.specs.declared.held.Route.TheVariants.{Own, Direct, Through}
-use Rattle.gt_calls.specs.declared.copying.Aim.{Aim}
-use Rattle.gt_calls.specs.declared.copying.Aim.TheVariants.{Mapping, Source, Dest}
-use Rattle.gt_calls.specs.declared.leg.Leg.{Leg}
-use Rattle.gt_calls.specs.Holding.{last_first, pins_so_far, begun_route, held_by}
-use Rattle.gt_calls.specs.Rules.{CallerKnowledge, is_source_granted, is_dest_granted}
-use Rattle.gt_calls.specs.Path.{source_pair, dest_pair}
-use Rattle.gt_calls.specs.Resting.{IsFor, IsToward, IsReached, IsOnFrom, LeadsTo}
-use Rattle.gt_core.specs.History.{History, Setting, known_at, legs_at}
-use Rattle.gt_core.specs.Legal.{LegNow, leg_now, copy_now, toward_source, from_source, after_source, source_now, dest_now, second_now}
-use Rattle.gt_core.specs.Standing.{numbered}
+use Rattle.gt_core.proofs.Words.{◌≡◌, ◌+◌, ℕ, refl, Bool, true, List, [], ◌∷◌, ◌++◌, map, reverse, Option, Some, None, cond, sym, ap, ◌∙◌, false≢true, DomId, Dir, Read, Write, ForCopy, Entry, Page, Sub, Via, permits, Asked, CopyArgs, Held, Route, Direct, Through, Aim, Mapping, Source, Dest, Leg, last_first, pins_so_far, held_by, CallerKnowledge, is_source_granted, is_dest_granted, source_pair, dest_pair, IsFor, IsToward, IsReached, IsOnFrom, LeadsTo, History, Setting, known_at, legs_at, LegNow, numbered}
+use Rattle.gt_calls.specs.declared.held.Route.TheVariants.{Own}
+use Rattle.gt_calls.specs.Holding.{begun_route}
+use Rattle.gt_core.specs.Legal.{leg_now, copy_now, toward_source, from_source, after_source, source_now, dest_now, second_now}
 use Rattle.gt_core.proofs.Legs.{IsLegOf}
 
 -- whose right to copy to whom a Via of this leg asks

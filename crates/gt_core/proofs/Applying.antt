@@ -1,14 +1,6 @@
 -- What a step leaves of the states, as a call of a slice tells it.
-use Rattle.std.proofs.Common.{◌≡◌, ◌++◌, ℕ, refl, List, length, take, drop, ap, ◌∙◌, arith}
-use Rattle.std.proofs.lemmas.List.{append-nil, take_all, drop_all}
-use Rattle.gt_types.specs.declared.DomId.{DomId}
-use Rattle.gt_calls.specs.declared.action.Step.{Step}
-use Rattle.gt_calls.specs.declared.action.Step.TheVariants.{LookHeader, LookControl, LookBody, Pin as PinStep, Unpin, StoreBody, StoreHeader, Exchange, Read as ReadBytes, Write as WriteBytes, Copy as CopyBytes}
-use Rattle.gt_calls.specs.declared.action.Seen.{Seen}
-use Rattle.gt_calls.specs.declared.action.Seen.TheVariants.{Nothing, Word, Taken, Missed}
-use Rattle.gt_core.specs.declared.slot.SlotChange.TheVariants.{Pinned, Unpinned, Stored}
-use Rattle.gt_core.specs.States.{State, changed_in}
-use Rattle.gt_core.specs.Effects.{applied, with_slot, with_own, with_header, without_mapping}
+use Rattle.gt_core.proofs.Words.{◌≡◌, ◌++◌, ℕ, refl, List, length, take, drop, ap, ◌∙◌, arith, append-nil, take_all, drop_all, DomId, Step, PinStep, Unpin, StoreBody, StoreHeader, Exchange, Seen, Taken, Unpinned, Stored, State, changed_in, applied, with_slot, with_own, with_header, without_mapping}
+use Rattle.gt_core.specs.declared.slot.SlotChange.TheVariants.{Pinned}
 use Rattle.gt_core.proofs.Rows.{length-changed_in}
 
 length-applied : (d : DomId) (step : Step) (seen : Seen) (xs : List State) → length (applied d step seen xs) ≡ length xs

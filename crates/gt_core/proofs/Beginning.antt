@@ -1,70 +1,23 @@
 -- A beginning keeps what a core stands for.
-use Rattle.std.proofs.Common.{arith, ◌≤◌, ◌≡◌, ◌≢◌, ◌<◌, ◌+◌, inl, inr, ℕ, refl, Bool, true, false, List, [], ◌∷◌, length, Option, Some, None, cond, sym, ap, ◌∙◌, subst, get_or, set, reverse}
-use Rattle.std.proofs.lemmas.Bool.{eqb-true, true≢false}
-use Rattle.std.proofs.lemmas.Option.{slice_get_read, same_Some}
-use Rattle.std.proofs.lemmas.List.Quantifiers.{position-Some}
-use Rattle.std.specs.Prelude.{All, nat_lt, nat_le, ◌==◌, ◌||◌, ◌^◌, not, is_none, is_some, position, slice_get}
-use Rattle.gt_types.specs.Names.{domain_of, resolved}
-use Rattle.gt_types.specs.Denial.{denial_of}
-use Rattle.gt_types.specs.declared.DomId.{DomId}
-use Rattle.gt_types.specs.declared.TypeId.{TypeId}
-use Rattle.gt_types.specs.declared.Dir.TheVariants.{Read, Write}
-use Rattle.gt_types.specs.declared.perms.Perms.{Perms}
-use Rattle.gt_types.specs.declared.rights.Triple.{Triple}
-use Rattle.gt_types.specs.declared.limits.TheConstants.{FRAME_SIZE, LAST_GENERATION, MAX_MAPPINGS, MAX_TABLE_FRAMES}
+use Rattle.gt_core.proofs.Words.{arith, ◌≤◌, ◌≡◌, ◌≢◌, ◌<◌, ◌+◌, inl, inr, ℕ, refl, Bool, true, false, List, [], ◌∷◌, length, Option, Some, None, cond, sym, ap, ◌∙◌, subst, get_or, set, reverse, eqb-true, true≢false, slice_get_read, same_Some, position-Some, All, nat_lt, nat_le, ◌==◌, ◌||◌, not, is_none, is_some, position, slice_get, domain_of, resolved, denial_of, DomId, TypeId, Read, Write, Perms, Triple, FRAME_SIZE, LAST_GENERATION, MAX_TABLE_FRAMES, Rule, N1, N5, N6, N9, N10, N16, Policy, Entry, Header, Change, ToReadOnly, ToWritable, Held, Request, CopyArgs, Asked, Grant, Revoke, Demote, Promote, Map, Unmap, Load, SetVersion, SetupTable, QuerySize, GetVersion, Store, Peek, Poke, Copy, Seen, Verdict, Given, Refused, FramesTold, Makes, Done, END_OF_SERIALS, Call, Phase, Walking, Accessing, Ending, Source, Dest, AtHeader, asked, begun_of, given_by, CallerKnowledge, first, refused_when, denied, unmap_denied, rights_to_map, rights_to_copy, size_of, begun, knowledge_of, frames_of, is_source_granted, is_dest_granted, opens, end_leg, action_at, at_dest, StandsAt, held_in, pins_at, GoesOn, Goes, Starts, path, Nothing, Step, Action, Rests, Pins, most_of, steps_left, Item, Began, Answer, AnswerDone, Open, State, state_of, kept_by, with_call, History, Setting, table_at, known_at, Underway, open_call, legs_at, one_if_mapped, LeavesAll, stood, AnsweredBy, GivesValue, refusal_in, refusal_of, IsRight, IsClean, phase_refusal, FitsAsked, PhaseStands, OpenAgrees, CallAgrees, FitsGiven, GivenAgrees, Agrees, StateAgrees, DomainsStand, Opens, numbered}
+use Rattle.std.specs.Prelude.{◌^◌}
+use Rattle.gt_types.specs.declared.limits.TheConstants.{MAX_MAPPINGS}
 use Rattle.gt_types.specs.declared.denial.Field.{Field}
-use Rattle.gt_types.specs.declared.denial.Rule.{Rule}
-use Rattle.gt_types.specs.declared.denial.Rule.TheVariants.{N1, N2, N3, N4, N5, N6, N7, N8, N9, N10, N16, N20, N21, N22, N23, N24}
-use Rattle.gt_types.specs.declared.denial.Facts.TheVariants.{Policy}
-use Rattle.gt_entry.specs.declared.entry.Entry.{Entry}
-use Rattle.gt_entry.specs.declared.header.Header.{Header}
-use Rattle.gt_entry.specs.declared.change.Change.{Change}
-use Rattle.gt_entry.specs.declared.change.Change.TheVariants.{Demote as ToReadOnly, Promote as ToWritable}
+use Rattle.gt_types.specs.declared.denial.Rule.TheVariants.{N2, N3, N4, N7, N8, N20, N21, N22, N23, N24}
 use Rattle.gt_entry.specs.Bytes.{first_refused}
-use Rattle.gt_calls.specs.declared.held.Held.{Held}
 use Rattle.gt_calls.specs.declared.held.Route.TheVariants.{Own}
-use Rattle.gt_calls.specs.declared.request.Request.{Request}
 use Rattle.gt_calls.specs.declared.request.Request.TheVariants as requests
-use Rattle.gt_calls.specs.declared.request.CopyArgs.{CopyArgs}
-use Rattle.gt_calls.specs.declared.request.Asked.{Asked}
-use Rattle.gt_calls.specs.declared.request.Asked.TheVariants.{Grant, Revoke, Demote, Promote, Map, Unmap, Load, SetVersion, SetupTable, QuerySize, GetVersion, Store, Peek, Poke, Copy}
-use Rattle.gt_calls.specs.declared.action.Seen.{Seen}
-use Rattle.gt_calls.specs.declared.action.Verdict.{Verdict}
-use Rattle.gt_calls.specs.declared.action.Verdict.TheVariants.{Granted, Given, Refused, Mapped as KeptPin}
-use Rattle.gt_calls.specs.declared.action.Value.TheVariants.{Frames as FramesTold, Size as SizeTold, Version as VersionTold}
-use Rattle.gt_calls.specs.declared.action.Action.TheVariants.{Step as Makes, Done}
-use Rattle.gt_calls.specs.declared.judging.TheConstants.{END_OF_SERIALS}
-use Rattle.gt_calls.specs.declared.call.Call.{Call}
-use Rattle.gt_calls.specs.declared.call.Phase.{Phase}
-use Rattle.gt_calls.specs.declared.call.Phase.TheVariants.{Storing, StoringSecond, Exchanging, Looking, Changing, Walking, Accessing, Asking, Last, Ending}
-use Rattle.gt_calls.specs.declared.copying.Aim.TheVariants.{Source, Dest}
-use Rattle.gt_calls.specs.declared.leg.LegPhase.TheVariants.{Header as AtHeader}
-use Rattle.gt_calls.specs.Asking.{asked, field_refused, begun_of, bytes_begun, IsSaid, given_by}
-use Rattle.gt_calls.specs.Rules.{CallerKnowledge, first, refused_when, granted_when, given_when, denied, unmap_denied, rights_to_map, rights_to_unmap, rights_to_copy, rights_to_setup, rights_to_query, map_dir, is_already, change_begun, version_begun, setup_begun, query_begun, own_access_begun, is_version, has_valid, cannot_stand, is_for_reading, is_invalid, size_of, begun, knowledge_of, frames_of, ends_named, ends_ranged, ends_owned, ends_framed, is_foreign, is_past_frames, is_source_granted, is_dest_granted}
-use Rattle.gt_calls.specs.Opening.{opens}
-use Rattle.gt_calls.specs.Path.{end_leg}
-use Rattle.gt_calls.specs.Machine.{first_phase, action_at, at_dest, unmap_phase, load_phase, store_phase}
-use Rattle.gt_calls.specs.Standing.{IsFresh, StandsAt, IsAt, held_in, pins_at, pins_by_call}
-use Rattle.gt_calls.specs.Following.{GoesOn, Goes, Starts, MakesStep}
-use Rattle.gt_calls.specs.Path.{path}
+use Rattle.gt_calls.specs.Asking.{field_refused, bytes_begun, IsSaid}
+use Rattle.gt_calls.specs.Rules.{granted_when, given_when, rights_to_unmap, rights_to_setup, rights_to_query, map_dir, is_already, change_begun, version_begun, setup_begun, query_begun, own_access_begun, is_version, has_valid, cannot_stand, is_for_reading, is_invalid, ends_named, ends_ranged, ends_owned, ends_framed, is_foreign, is_past_frames}
+use Rattle.gt_calls.specs.Machine.{first_phase, unmap_phase, load_phase, store_phase}
+use Rattle.gt_calls.specs.Standing.{IsFresh, IsAt, pins_by_call}
+use Rattle.gt_calls.specs.Following.{MakesStep}
 use Rattle.gt_calls.specs.declared.call.Start.TheVariants.{Open as StartOpen}
-use Rattle.gt_calls.specs.declared.action.Seen.TheVariants.{Nothing}
-use Rattle.gt_calls.specs.declared.action.Step.{Step}
-use Rattle.gt_calls.specs.declared.action.Action.{Action}
-use Rattle.gt_calls.specs.Resting.{Rests}
-use Rattle.gt_calls.specs.declared.held.Pins.{Pins}
-use Rattle.gt_calls.specs.Counting.{most_steps as most_of, steps_left, steps_to_come}
-use Rattle.gt_core.specs.declared.trace.Item.{Item}
-use Rattle.gt_core.specs.declared.trace.Happened.TheVariants.{Began}
-use Rattle.gt_core.specs.declared.trace.Answer.{Answer}
-use Rattle.gt_core.specs.declared.trace.Answer.TheVariants.{Frames, Done as AnswerDone}
-use Rattle.gt_core.specs.declared.slot.Open.{Open}
+use Rattle.gt_calls.specs.Counting.{steps_to_come}
+use Rattle.gt_core.specs.declared.trace.Answer.TheVariants.{Frames}
 use Rattle.gt_core.specs.declared.machine.Opening.TheVariants.{Open as OpeningOpen}
-use Rattle.gt_core.specs.States.{State, state_of, asks_memory, kept_by}
-use Rattle.gt_core.specs.Effects.{with_call}
-use Rattle.gt_core.specs.History.{History, Setting, table_at, known_at, Underway, open_call, legs_at, one_if_mapped}
-use Rattle.gt_core.specs.Legal.{LeavesAll, stood, AnsweredBy, GivesValue, refusal_in, refusal_of, MayDo, IsRight}
-use Rattle.gt_core.specs.Standing.{IsMapping, IsClean, phase_refusal, WantsMemory, IsOpened, FitsAsked, PhaseStands, OpenAgrees, CallAgrees, FitsGiven, GivenAgrees, Agrees, StateAgrees, DomainsStand, answer_of, Opens, numbered}
+use Rattle.gt_core.specs.States.{asks_memory}
+use Rattle.gt_core.specs.Standing.{IsMapping, WantsMemory, IsOpened, answer_of}
 use Rattle.gt_core.proofs.Quiet.{KeepsKnown, kept-known, kept-legs}
 use Rattle.gt_core.proofs.Places.{has_id, found, not-found, state_of-set}
 use Rattle.gt_core.proofs.Phases.{of-run}

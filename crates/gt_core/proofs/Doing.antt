@@ -1,46 +1,13 @@
 -- What an event does after a history, but for keys, is a function of the history; and it is the same without keys.
-use Rattle.std.proofs.Common.{◌≡◌, ◌≢◌, ◌⊎◌, inl, inr, ℕ, refl, Bool, false, List, [], ◌∷◌, ◌++◌, length, Option, Some, None, is_none, sym, ap, ◌∙◌, subst, take, drop}
-use Rattle.std.specs.Option.{option_map}
-use Rattle.std.proofs.lemmas.Option.{none-some, same_Some}
-use Rattle.gt_types.specs.Names.{domain_of}
-use Rattle.gt_types.specs.declared.DomId.{DomId}
-use Rattle.gt_types.specs.declared.config.DomainConfig.{DomainConfig}
-use Rattle.gt_types.specs.declared.denial.Denial.{Denial}
-use Rattle.gt_types.specs.declared.denial.Rule.TheVariants.{N6}
-use Rattle.gt_types.specs.declared.limits.TheConstants.{MAX_TABLE_FRAMES}
-use Rattle.gt_entry.specs.declared.header.Header.{Header}
-use Rattle.gt_entry.specs.Words.{header_word}
-use Rattle.gt_handles.specs.declared.handles.Handle.{Handle}
-use Rattle.gt_calls.specs.Asking.{asked, begun_of}
-use Rattle.gt_calls.specs.Rules.{CallerKnowledge, first, refused_when, unmap_begun, unmap_denied, load_begun, store_begun}
-use Rattle.gt_calls.specs.Path.{Continuation, path, ended, makes, by_mapping, after_beginning}
-use Rattle.gt_calls.specs.declared.held.Held.{Held}
-use Rattle.gt_calls.specs.declared.request.Request.{Request}
+use Rattle.gt_core.proofs.Words.{◌≡◌, ◌≢◌, ◌⊎◌, inl, inr, ℕ, refl, Bool, false, List, [], ◌∷◌, ◌++◌, length, Option, Some, None, sym, ap, ◌∙◌, subst, take, drop, option_map, none-some, same_Some, domain_of, DomId, DomainConfig, Denial, N6, MAX_TABLE_FRAMES, Header, header_word, Handle, asked, begun_of, CallerKnowledge, first, refused_when, unmap_denied, Continuation, path, ended, makes, after_beginning, Held, Request, Asked, Map, Unmap, Load, Store, Peek, SetupTable, QuerySize, GetVersion, Holder, ByMapping, Seen, Nothing, Word, Step, LookHeader, LookControl, LookBody, PinStep, Unpin, StoreHeader, Exchange, ReadBytes, WriteBytes, Action, Makes, Verdict, Granted, Answer, Event, Begin, Tick, Happened, Began, Stepped, Item, Element, Busy, Idle, NoDomain, Did, History, Setting, Underway, open_call, values, known_at, seen_by, exchange_sees, table_at, maps_answered_at, contents_at, mappings_at, mapping_of, MayDo, IsRight, StepsRight, StepsRightIn, AnsweredBy, GivesValue, refusal_of, refusal_in, verdict_in, gives_back, stood, bare_handle, bare_request, bare_event, bare_step, told, told_item, ToldItem, AsksKnown, IsOfKnown, IsRun}
+use Rattle.std.proofs.Common.{is_none}
+use Rattle.gt_calls.specs.Rules.{unmap_begun, load_begun, store_begun}
+use Rattle.gt_calls.specs.Path.{by_mapping}
 use Rattle.gt_calls.specs.declared.request.Request.TheVariants as requests
-use Rattle.gt_calls.specs.declared.request.Asked.{Asked}
-use Rattle.gt_calls.specs.declared.request.Asked.TheVariants.{Map, Unmap, Load, Store, Peek, SetupTable, QuerySize, GetVersion}
-use Rattle.gt_calls.specs.declared.request.Holder.{Holder}
-use Rattle.gt_calls.specs.declared.request.Holder.TheVariants.{Mapping as ByMapping}
-use Rattle.gt_calls.specs.declared.action.Seen.{Seen}
-use Rattle.gt_calls.specs.declared.action.Seen.TheVariants.{Nothing, Word}
-use Rattle.gt_calls.specs.declared.action.Step.{Step}
-use Rattle.gt_calls.specs.declared.action.Step.TheVariants.{LookHeader, LookControl, LookBody, Pin as PinStep, Unpin, StoreHeader, Exchange, Read as ReadBytes, Write as WriteBytes}
-use Rattle.gt_calls.specs.declared.action.Action.{Action}
-use Rattle.gt_calls.specs.declared.action.Action.TheVariants.{Step as Makes, Done as Ends}
-use Rattle.gt_calls.specs.declared.action.Verdict.{Verdict}
-use Rattle.gt_calls.specs.declared.action.Verdict.TheVariants.{Granted}
-use Rattle.gt_core.specs.declared.trace.Answer.{Answer}
+use Rattle.gt_calls.specs.declared.action.Action.TheVariants.{Done as Ends}
 use Rattle.gt_core.specs.declared.trace.Answer.TheVariants as answers
-use Rattle.gt_core.specs.declared.trace.Event.{Event}
-use Rattle.gt_core.specs.declared.trace.Event.TheVariants.{Begin, Tick}
-use Rattle.gt_core.specs.declared.trace.Happened.{Happened}
-use Rattle.gt_core.specs.declared.trace.Happened.TheVariants.{Began, Stepped}
-use Rattle.gt_core.specs.declared.trace.Item.{Item}
-use Rattle.gt_core.specs.declared.trace.Element.{Element}
-use Rattle.gt_core.specs.declared.trace.Element.TheVariants.{Busy, Idle, NoDomain, Item as Did}
-use Rattle.gt_core.specs.History.{History, Setting, Underway, open_call, values, known_at, seen_by, exchange_sees, table_at, maps_answered_at, contents_at, mappings_at, mapping_of, frame_of}
-use Rattle.gt_core.specs.Legal.{MayDo, IsRight, BeginsRight, StepsRight, StepsRightIn, AnsweredBy, GivesValue, refusal_of, refusal_in, verdict_in, gives_back, stood}
-use Rattle.gt_core.specs.Alike.{bare_handle, bare_request, bare_event, bare_step, told, told_item, ToldItem, AsksKnown, IsOfKnown, IsRun}
+use Rattle.gt_core.specs.History.{frame_of}
+use Rattle.gt_core.specs.Legal.{BeginsRight}
 use Rattle.gt_core.proofs.Makers.{NamesAsked, only-path}
 use Rattle.gt_core.proofs.Bare.{bare, bare_asked, bare_call, asked-bare, open-bare, values-bare, table-bare, body-bare, maps-bare, contents-bare}
 use Rattle.gt_core.proofs.Given.{CallKnown, open-known}

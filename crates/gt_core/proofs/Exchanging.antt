@@ -1,40 +1,9 @@
 -- An exchange that was taken keeps what a core stands for.
-use Rattle.std.proofs.Common.{◌≡◌, ◌≢◌, ◌<◌, ◌≤◌, ◌+◌, ℕ, refl, Bool, true, false, List, ◌∷◌, length, Option, Some, None, cond, sym, ap, ◌∙◌, arith, subst, get_or}
-use Rattle.std.proofs.lemmas.Bool.{eqb-true}
-use Rattle.std.proofs.lemmas.Option.{none-some, slice_get-get_or}
-use Rattle.std.specs.Option.{option_map}
-use Rattle.std.specs.Prelude.{◌==◌, All, count_by, slice_get}
-use mathlib.Core.Path.{fun_ext}
-use Rattle.gt_types.specs.declared.DomId.{DomId}
-use Rattle.gt_types.specs.declared.GrantRef.{GrantRef}
-use Rattle.gt_types.specs.declared.Dir.TheVariants.{Read, Write}
-use Rattle.gt_types.specs.declared.limits.TheConstants.{TABLE_ENTRIES, LAST_GENERATION}
-use Rattle.gt_entry.specs.declared.entry.Entry.{Entry}
-use Rattle.gt_entry.specs.declared.entry.Entry.TheVariants.{Invalid, Page, Sub, Via}
-use Rattle.gt_entry.specs.declared.control.Control.{Control}
-use Rattle.gt_entry.specs.declared.change.Change.{Change}
-use Rattle.gt_entry.specs.declared.change.Change.TheVariants.{Publish, Revoke as ToInvalid, Demote as ToReadOnly, Promote as ToWritable}
-use Rattle.gt_entry.specs.declared.change.Half.{Half}
-use Rattle.gt_entry.specs.declared.change.Half.TheVariants.{First as FirstHalf, Second as SecondHalf}
-use Rattle.gt_entry.specs.Entries.{IsEntry}
-use Rattle.gt_calls.specs.declared.action.Step.TheVariants.{Exchange}
-use Rattle.gt_calls.specs.declared.action.Seen.TheVariants.{Taken}
-use Rattle.gt_calls.specs.declared.known.Own.{Own}
-use Rattle.gt_core.specs.declared.slot.Slot.{Slot}
-use Rattle.gt_core.specs.declared.slot.Open.{Open}
-use Rattle.gt_core.specs.declared.trace.Item.{Item}
-use Rattle.gt_core.specs.declared.trace.Answer.{Answer}
-use Rattle.gt_calls.specs.Rules.{entry_in, generation_in, control_with, row_entry, row_generation}
-use Rattle.gt_core.specs.Rows.{changed_at}
-use Rattle.gt_core.specs.States.{State, state_of, changed_in}
-use Rattle.gt_core.specs.Effects.{with_own, own_after}
-use Rattle.gt_core.specs.History.{History, Setting, Pin, live, entry_at, raises_at, raise_of, changed_entry, generation_at, body_at, reads_at, writes_at, control_at, maps_answered_at, open_call, is_pin_on, change_of, entry_after, with_ro, raise_after, or_else, one_if_mapped}
-use Rattle.gt_core.specs.Legal.{IsSafeChange, IsSpelled}
-use Rattle.gt_core.specs.Standing.{IsLawful, FitsTable, FitsWord, Agrees, DomainsStand, CallAgrees, GivenAgrees}
+use Rattle.gt_core.proofs.Words.{◌≡◌, ◌≢◌, ◌<◌, ◌≤◌, ◌+◌, ℕ, refl, Bool, true, false, List, ◌∷◌, length, Option, Some, None, cond, sym, ap, ◌∙◌, arith, subst, get_or, eqb-true, none-some, slice_get-get_or, option_map, ◌==◌, All, count_by, slice_get, fun_ext, DomId, GrantRef, Read, Write, TABLE_ENTRIES, LAST_GENERATION, Entry, Invalid, Control, Change, Publish, ToInvalid, ToReadOnly, ToWritable, Half, FirstHalf, SecondHalf, IsEntry, Exchange, Taken, Own, Slot, Open, Item, Answer, entry_in, generation_in, control_with, row_entry, row_generation, changed_at, State, state_of, changed_in, with_own, own_after, History, Setting, Pin, live, entry_at, raises_at, raise_of, generation_at, body_at, reads_at, writes_at, control_at, maps_answered_at, open_call, is_pin_on, change_of, entry_after, raise_after, or_else, one_if_mapped, IsSafeChange, IsSpelled, IsLawful, FitsTable, FitsWord, Agrees, DomainsStand, CallAgrees, GivenAgrees, append-nil}
+use Rattle.gt_core.specs.History.{changed_entry, with_ro}
 use Rattle.gt_core.proofs.Rows.{get-changed, length-changed}
 use Rattle.gt_core.proofs.Quiet.{kept-table}
 use Rattle.gt_core.proofs.Mappings.{mappings-same}
-use Rattle.std.proofs.lemmas.List.{append-nil}
 use Rattle.gt_core.proofs.Keeping.{stepped, SlotsAgree, becomes-changed, each-stands, other-agrees, same-number, counts-fit}
 
 -- each number of the entry that is published fits its type

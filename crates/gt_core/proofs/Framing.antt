@@ -1,62 +1,23 @@
 -- The frames of a core: what a step of a call writes to them is by right, and leaves them as the history tells.
-use Rattle.std.proofs.Common.{◌≡◌, ◌≢◌, ◌≤◌, ◌<◌, ◌+◌, ◌-◌, ◌⊎◌, inl, inr, ℕ, refl, Bool, true, false, List, [], ◌∷◌, ◌++◌, map, replicate, length, take, drop, Option, Some, None, cond, ltb, sym, ap, ◌∙◌, arith, subst, reverse}
-use Rattle.std.proofs.lemmas.Bool.{eqb-true, eqb-false, eq-eqb, ne_eqb, le-leb, leb-true, lt-ltb, and_parts, and_from, false≢true}
-use Rattle.std.proofs.lemmas.List.{append-nil, map-append, length-append, length-drop, length-take-le, length-replicate}
-use Rattle.std.specs.Prelude.{◌==◌, ◌&&◌, nat_lt, nat_le, is_some, unwrap_or, slice_get, IsTrue, Any}
-use Rattle.gt_types.specs.Names.{domain_of, resolved}
-use Rattle.gt_types.specs.declared.DomId.{DomId}
-use Rattle.gt_types.specs.declared.Dir.TheVariants.{Write}
-use Rattle.gt_types.specs.declared.Use.TheVariants.{Map as ForMap, Copy as ForCopy}
-use Rattle.gt_types.specs.declared.config.DomainConfig.{DomainConfig}
-use Rattle.gt_types.specs.declared.limits.TheConstants.{FRAME_SIZE}
-use Rattle.gt_entry.specs.declared.entry.Entry.{Entry}
-use Rattle.gt_entry.specs.declared.entry.Entry.TheVariants.{Invalid, Page, Sub, Via}
-use Rattle.gt_entry.specs.Entries.{frame_of}
-use Rattle.gt_entry.specs.Permits.{permits, forwards, leads_to, is_of_frame, allows_direction}
-use Rattle.gt_handles.specs.declared.handles.Handle.{Handle}
-use Rattle.gt_handles.specs.Handles.{Kept, value_of}
-use Rattle.gt_calls.specs.declared.held.Held.{Held}
-use Rattle.gt_calls.specs.declared.held.Route.{Route}
-use Rattle.gt_calls.specs.declared.held.Route.TheVariants.{Own, Direct, Through}
-use Rattle.gt_calls.specs.declared.held.Pins.{Pins}
-use Rattle.gt_calls.specs.declared.request.End.{End}
-use Rattle.gt_calls.specs.declared.request.Request.{Request}
-use Rattle.gt_calls.specs.declared.request.Asked.{Asked}
-use Rattle.gt_calls.specs.declared.request.Asked.TheVariants.{Load, Store, Peek, Poke, Copy}
-use Rattle.gt_calls.specs.declared.action.Place.{Place}
-use Rattle.gt_calls.specs.declared.action.Seen.{Seen}
-use Rattle.gt_calls.specs.declared.action.Step.{Step}
-use Rattle.gt_calls.specs.declared.action.Step.TheVariants.{LookHeader, LookControl, LookBody, Pin as PinStep, Unpin, StoreBody, StoreHeader, Exchange, Read as ReadBytes, Write as WriteBytes, Copy as CopyBytes}
-use Rattle.gt_calls.specs.declared.action.Action.TheVariants.{Step as Makes}
-use Rattle.gt_calls.specs.declared.call.Call.{Call}
-use Rattle.gt_calls.specs.declared.call.Phase.{Phase}
-use Rattle.gt_calls.specs.Rules.{CallerKnowledge, begun, frames_of, frames_in, is_dest_granted}
-use Rattle.gt_calls.specs.Path.{place_of, dest_pair}
-use Rattle.gt_calls.specs.Opening.{opens}
-use Rattle.gt_calls.specs.Resting.{Rests, RestsOnRequest, RestsOnWays, IsReached, LeadsTo}
-use Rattle.gt_calls.specs.Standing.{pins_at, held_in}
+use Rattle.gt_core.proofs.Words.{◌≡◌, ◌≤◌, ◌<◌, ◌+◌, ◌-◌, inl, inr, ℕ, refl, Bool, true, false, List, [], ◌∷◌, ◌++◌, replicate, length, take, drop, Option, Some, None, cond, sym, ap, ◌∙◌, arith, subst, reverse, eqb-true, eqb-false, eq-eqb, ne_eqb, lt-ltb, and_parts, and_from, false≢true, append-nil, map-append, length-append, length-drop, length-take-le, length-replicate, ◌==◌, ◌&&◌, nat_lt, nat_le, is_some, IsTrue, domain_of, DomId, Write, ForMap, ForCopy, DomainConfig, FRAME_SIZE, Entry, Page, Sub, Via, frame_of, permits, allows_direction, Handle, value_of, Held, Route, Direct, Through, End, Request, Asked, Store, Poke, Copy, Place, Seen, Step, ReadBytes, WriteBytes, CopyBytes, Makes, Call, Phase, CallerKnowledge, begun, frames_of, frames_in, is_dest_granted, dest_pair, opens, Rests, RestsOnRequest, RestsOnWays, IsReached, LeadsTo, pins_at, held_in, Patch, written, bytes_at, frame_counts, FrameSet, frame_at, has_range, all_zeros, AreKept, Open, Item, Answer, Begun, State, IsLoadOf, IsReadable, IsAdmitted, AccessedBy, History, Setting, patches_at, patches_by, contents_at, written_by, Writing, given_in, open_call, Underway, values, known_at, legs_at, IsInFrame, CopyIsJustified, grown, DomainsStand, FramesStand, Agrees, OpenAgrees, FitsGiven, numbered, begun_element}
+use Rattle.std.proofs.lemmas.Bool.{le-leb, leb-true}
+use Rattle.std.specs.Prelude.{unwrap_or}
+use Rattle.gt_entry.specs.Permits.{leads_to}
+use Rattle.gt_calls.specs.declared.held.Route.TheVariants.{Own}
+use Rattle.gt_calls.specs.Path.{place_of}
 use Rattle.gt_frames.specs.declared.places.FrameName.{FrameName}
 use Rattle.gt_frames.specs.declared.writ.Ground.{Ground}
 use Rattle.gt_frames.specs.declared.writ.Writ.{Writ}
 use Rattle.gt_frames.specs.declared.writ.Record.{Record}
-use Rattle.gt_frames.specs.Bytes.{Patch, overlay, replay, zeros, written}
-use Rattle.gt_frames.specs.Frames.{FrameState, patch_of, patches, bytes_at, permits_writing, suffices, is_rightful, all_rightful}
-use Rattle.gt_frames.specs.Places.{frame_counts, pool_number, frames_of as frames_of_all, is_name}
-use Rattle.gt_frames.specs.Sets.{FrameSet, frame_at, has_frame, has_range, admits, all_zeros, AreKept, WritesTo, journal_in}
-use Rattle.gt_core.specs.declared.slot.Open.{Open}
-use Rattle.gt_core.specs.declared.trace.Item.{Item}
-use Rattle.gt_core.specs.declared.trace.Answer.{Answer}
-use Rattle.gt_core.specs.declared.trace.Happened.TheVariants.{Stepped}
-use Rattle.gt_core.specs.declared.core_state.Begun.{Begun}
-use Rattle.gt_core.specs.declared.core_state.Begun.TheVariants.{Open as BegunOpen, Done as BegunDone, Busy as BegunBusy, NoDomain as BegunNoDomain}
-use Rattle.gt_core.specs.States.{State, state_of}
-use Rattle.gt_core.specs.Accesses.{name_of, ground_of, route_by, route_of, IsWritOf, IsLoadOf, IsReadable, IsAdmitted, AccessedBy}
-use Rattle.gt_core.specs.History.{History, Setting, patches_at, patches_by, contents_at, written_by, Writing, given_in, open_call, Underway, values, known_at, live, legs_at, mappings_at, mapping_of}
-use Rattle.gt_core.specs.Legal.{IsInFrame, CopyIsJustified, grown}
-use Rattle.gt_core.specs.Standing.{DomainsStand, FramesStand, Agrees, OpenAgrees, GivenAgrees, FitsGiven, numbered, begun_element}
+use Rattle.gt_frames.specs.Bytes.{overlay, replay, zeros}
+use Rattle.gt_frames.specs.Frames.{FrameState, patch_of, patches, permits_writing, suffices, is_rightful, all_rightful}
+use Rattle.gt_frames.specs.Places.{pool_number, frames_of as frames_of_all, is_name}
+use Rattle.gt_frames.specs.Sets.{has_frame, admits, WritesTo, journal_in}
+use Rattle.gt_core.specs.declared.core_state.Begun.TheVariants.{Busy as BegunBusy, NoDomain as BegunNoDomain}
+use Rattle.gt_core.specs.Accesses.{name_of, ground_of, route_by, route_of, IsWritOf}
 use Rattle.gt_core.proofs.Keeping.{stepped, same-number}
 use Rattle.gt_core.proofs.Starting.{get-replicate}
-use Rattle.gt_core.proofs.Accessing.{permits-as, mapping-pin, none-of, same-held, IsRightful, read-justified, write-justified, copy-justified}
+use Rattle.gt_core.proofs.Accessing.{permits-as, mapping-pin, none-of, same-held, read-justified, copy-justified}
 
 -- what a frame holds, and which frames there are
 

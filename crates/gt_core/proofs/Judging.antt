@@ -1,57 +1,11 @@
 -- The refusal that a step leads to is the first rule that stands, and where the call stands then.
-use Rattle.std.proofs.Common.{◌≡◌, ◌+◌, ◌-◌, inl, inr, ℕ, zero, suc, refl, Bool, true, false, List, [], ◌∷◌, Option, Some, None, cond, sym, ap, ◌∙◌, subst, reverse, arith}
-use Rattle.std.specs.Prelude.{nat_lt, nat_le, ◌==◌, ◌&&◌, ◌||◌, not}
-use Rattle.std.proofs.lemmas.Bool.{lt-ltb, eqb-true, eq-eqb, true≢false, false≢true}
-use Rattle.gt_types.specs.declared.DomId.{DomId}
-use Rattle.gt_types.specs.declared.GrantRef.{GrantRef}
-use Rattle.gt_types.specs.declared.denial.Rule.{Rule}
-use Rattle.gt_types.specs.declared.denial.Rule.TheVariants.{N10, N11, N12, N13, N15, N18, N19}
-use Rattle.gt_types.specs.declared.denial.Denial.{Denial}
-use Rattle.gt_types.specs.declared.limits.TheConstants.{MAX_TRIES}
-use Rattle.gt_entry.specs.declared.entry.Entry.{Entry}
-use Rattle.gt_entry.specs.declared.entry.Entry.TheVariants.{Invalid, Page, Sub, Via}
-use Rattle.gt_entry.specs.declared.control.Control.{Control}
+use Rattle.gt_core.proofs.Words.{◌≡◌, ◌+◌, ◌-◌, inl, inr, ℕ, zero, suc, refl, Bool, true, false, List, [], ◌∷◌, Option, Some, None, cond, sym, ap, ◌∙◌, subst, reverse, arith, nat_lt, nat_le, ◌==◌, ◌&&◌, ◌||◌, not, lt-ltb, eqb-true, eq-eqb, true≢false, false≢true, DomId, GrantRef, Rule, N10, N18, N19, Denial, MAX_TRIES, Entry, Invalid, Via, Control, Change, Publish, ToInvalid, ToReadOnly, ToWritable, allows_direction, control_of, MORE_TRIES, Held, Route, Direct, Through, Asked, CopyArgs, ByMapping, Verdict, Step, LookHeader, LookControl, Unpin, StoreBody, StoreHeader, Exchange, ReadBytes, WriteBytes, Seen, Taken, Missed, Action, Makes, Done, Aim, Mapping, Source, Dest, Question, AsksSize, AsksVersion, Phase, Storing, Exchanging, Looking, Changing, Walking, Accessing, Asking, Last, Ending, Leg, LegPhase, AtHeader, Look, Body, Second, Pinning, Relook, LegNext, Going, LegRefused, Pinned, last_first, CallerKnowledge, first, stands, first_look, is_kind, size_of, via_judged, is_dest_granted, Continuation, path, entry_refusal, held_of, rule_of_try, source_pair, dest_pair, end_leg, second_leg, IsFor, IsOnFrom, RestsOnWord, phase_after, action_at, after_leg, leg_after, leg_step, after_miss, after_pin_of, after_source_pin, after_dest_pin, at_dest, where_via, after_store, refused_as, next_to_give, IsTurn, IsQuiet, HasShown, State, History, Setting, word_at, control_at, table_at, entry_at, generation_at, body_at, reads_at, writes_at, known_at, seen_by, legs_at, StepsSoFar, LegNow, misses, is_demote, at_entry, first_at, refusal_in, or_then, PhaseStands, LegStands, Asks, EndsAfter, phase_refusal, numbered}
+use Rattle.gt_types.specs.declared.denial.Rule.TheVariants.{N11, N12, N13, N15}
 use Rattle.gt_entry.specs.declared.control.Kind.TheVariants.{Invalid as KindInvalid, Page as KindPage, Via as KindVia}
-use Rattle.gt_entry.specs.declared.change.Change.{Change}
-use Rattle.gt_entry.specs.declared.change.Change.TheVariants.{Publish, Revoke as ToInvalid, Demote as ToReadOnly, Promote as ToWritable}
-use Rattle.gt_entry.specs.Permits.{is_copying, allows_direction}
-use Rattle.gt_entry.specs.Words.{control_word, control_of}
+use Rattle.gt_entry.specs.Permits.{is_copying}
 use Rattle.gt_entry.specs.Spelling.{control_with}
-use Rattle.gt_calls.specs.declared.leg.TheConstants.{MORE_TRIES}
-use Rattle.gt_calls.specs.declared.held.Held.{Held}
-use Rattle.gt_calls.specs.declared.held.Route.{Route}
-use Rattle.gt_calls.specs.declared.held.Route.TheVariants.{Direct, Through}
-use Rattle.gt_calls.specs.declared.request.Asked.{Asked}
-use Rattle.gt_calls.specs.declared.request.CopyArgs.{CopyArgs}
-use Rattle.gt_calls.specs.declared.request.Holder.TheVariants.{Mapping as ByMapping, Leg as ByLeg}
-use Rattle.gt_calls.specs.declared.action.Verdict.{Verdict}
-use Rattle.gt_calls.specs.declared.action.Step.{Step}
-use Rattle.gt_calls.specs.declared.action.Step.TheVariants.{LookHeader, LookControl, LookBody, Pin as PinStep, Unpin, StoreBody, StoreHeader, Exchange, Read as ReadBytes, Write as WriteBytes, Copy as CopyBytes}
-use Rattle.gt_calls.specs.declared.action.Seen.{Seen}
-use Rattle.gt_calls.specs.declared.action.Seen.TheVariants.{Taken, Missed}
-use Rattle.gt_calls.specs.declared.action.Action.{Action}
-use Rattle.gt_calls.specs.declared.action.Action.TheVariants.{Step as Makes, Done}
-use Rattle.gt_calls.specs.declared.copying.Aim.{Aim}
-use Rattle.gt_calls.specs.declared.copying.Aim.TheVariants.{Mapping, Source, Dest}
-use Rattle.gt_calls.specs.declared.call.Question.{Question}
-use Rattle.gt_calls.specs.declared.call.Question.TheVariants.{Size as AsksSize, Version as AsksVersion}
-use Rattle.gt_calls.specs.declared.call.Phase.{Phase}
-use Rattle.gt_calls.specs.declared.call.Phase.TheVariants.{Storing, StoringSecond, Exchanging, Looking, Changing, Walking, Accessing, Asking, Last, Ending}
-use Rattle.gt_calls.specs.declared.leg.Leg.{Leg}
-use Rattle.gt_calls.specs.declared.leg.LegPhase.{LegPhase}
-use Rattle.gt_calls.specs.declared.leg.LegPhase.TheVariants.{Header as AtHeader, Look, Body, Second, Pinning, Relook}
-use Rattle.gt_calls.specs.declared.leg.LegNext.{LegNext}
-use Rattle.gt_calls.specs.declared.leg.LegNext.TheVariants.{Going, Refused as LegRefused, Pinned}
-use Rattle.gt_calls.specs.Holding.{last_first}
-use Rattle.gt_calls.specs.Rules.{CallerKnowledge, first, stands, first_look, is_kind, size_of, via_judged, is_dest_granted}
-use Rattle.gt_calls.specs.Path.{Continuation, path, entry_refusal, held_of, rule_of_try, source_pair, dest_pair, end_leg, second_leg}
-use Rattle.gt_calls.specs.Resting.{IsFor, IsOnFrom, RestsOnWord}
-use Rattle.gt_calls.specs.Machine.{phase_after, action_at, after_leg, leg_after, leg_step, after_miss, after_pin_of, after_source_pin, after_dest_pin, at_dest, where_via, after_store, publishing, after_own_look, after_own_miss, refused_as, next_to_give}
-use Rattle.gt_calls.specs.Standing.{IsTurn, IsQuiet, HasShown, StandsAt}
-use Rattle.gt_core.specs.States.{State}
-use Rattle.gt_core.specs.History.{History, Setting, word_at, control_at, table_at, entry_at, generation_at, body_at, reads_at, writes_at, known_at, seen_by, legs_at}
-use Rattle.gt_core.specs.Legal.{StepsSoFar, LegNow, misses, is_demote, at_entry, rule_at_via, rule_at_pin, first_at, refusal_in, or_then}
-use Rattle.gt_core.specs.Standing.{PhaseStands, LegStands, Asks, EndsAfter, phase_refusal, numbered}
+use Rattle.gt_calls.specs.Machine.{publishing, after_own_look, after_own_miss}
+use Rattle.gt_core.specs.Legal.{rule_at_via, rule_at_pin}
 use Rattle.gt_core.proofs.Fitting.{word-shows}
 use Rattle.gt_core.proofs.Tries.{misses-look, misses-exchange, misses-exchanged, few, miss-late}
 use Rattle.gt_core.proofs.Legs.{Words, IsAsTried, as-tried, TakesNone, leg-judged, refusal_next, IsLegOf, control-writes}

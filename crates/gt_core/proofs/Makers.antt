@@ -1,36 +1,9 @@
 -- The only step that names the handle of a mapping is that of an unmap, and it names the handle asked.
-use Rattle.std.proofs.Common.{◌≡◌, ℕ, zero, suc, refl, Bool, true, false, List, [], ◌∷◌, ◌++◌, length, Option, Some, None, cond, subst}
-use Rattle.std.specs.Prelude.{nat_lt, ◌==◌}
-use Rattle.std.proofs.lemmas.Option.{none-some, same_Some}
-use Rattle.gt_types.specs.declared.DomId.{DomId}
-use Rattle.gt_types.specs.declared.GrantRef.{GrantRef}
-use Rattle.gt_types.specs.declared.denial.Rule.{Rule}
-use Rattle.gt_types.specs.declared.denial.Denial.{Denial}
-use Rattle.gt_entry.specs.declared.entry.Entry.{Entry}
-use Rattle.gt_entry.specs.declared.entry.Entry.TheVariants.{Invalid, Page, Sub, Via}
-use Rattle.gt_entry.specs.declared.control.Kind.TheVariants.{Sub as KindSub}
-use Rattle.gt_entry.specs.Words.{control_of, header_of}
-use Rattle.gt_entry.specs.declared.change.Change.{Change}
-use Rattle.gt_entry.specs.declared.change.Change.TheVariants.{Publish, Revoke as ToInvalid, Demote as ToReadOnly, Promote as ToWritable}
-use Rattle.gt_calls.specs.declared.leg.TheConstants.{MORE_TRIES}
-use Rattle.gt_calls.specs.declared.leg.Leg.{Leg}
-use Rattle.gt_calls.specs.declared.held.Held.{Held}
-use Rattle.gt_calls.specs.declared.held.Route.{Route}
-use Rattle.gt_calls.specs.declared.held.Route.TheVariants.{Through}
-use Rattle.gt_calls.specs.declared.request.CopyArgs.{CopyArgs}
-use Rattle.gt_calls.specs.declared.request.Asked.{Asked}
+use Rattle.gt_core.proofs.Words.{◌≡◌, ℕ, zero, suc, refl, Bool, true, false, List, [], ◌∷◌, ◌++◌, length, Option, Some, None, cond, subst, nat_lt, ◌==◌, none-some, same_Some, DomId, GrantRef, Rule, Denial, Entry, Sub, Via, KindSub, control_of, header_of, Change, Publish, ToInvalid, ToReadOnly, ToWritable, MORE_TRIES, Leg, Held, Route, Through, CopyArgs, Asked, ByMapping, ByLeg, Seen, Nothing, Word, Taken, Missed, Step, LookHeader, LookControl, Unpin, Exchange, Makes, Done, Verdict, Granted, Refused, held_by, CallerKnowledge, begun, first_look, is_kind, size_of, via_judged, is_source_granted, is_dest_granted, Continuation, ended, makes, held_of, rule_of_try, entry_refusal, is_stopped, steps_of, after_beginning, path, second_leg, map_leg, source_pair, dest_pair}
 use Rattle.gt_calls.specs.declared.request.Asked.TheVariants as requests
-use Rattle.gt_calls.specs.declared.request.Holder.TheVariants.{Mapping as ByMapping, Leg as ByLeg}
-use Rattle.gt_calls.specs.declared.action.Seen.{Seen}
-use Rattle.gt_calls.specs.declared.action.Seen.TheVariants.{Nothing, Word, Taken, Missed}
-use Rattle.gt_calls.specs.declared.action.Step.{Step}
-use Rattle.gt_calls.specs.declared.action.Step.TheVariants.{LookHeader, LookControl, Pin, Unpin, Exchange}
-use Rattle.gt_calls.specs.declared.action.Action.TheVariants.{Step as Makes, Done}
-use Rattle.gt_calls.specs.declared.action.Verdict.{Verdict}
-use Rattle.gt_calls.specs.declared.action.Verdict.TheVariants.{Granted, Mapped, Refused}
-use Rattle.gt_calls.specs.Holding.{held_by}
-use Rattle.gt_calls.specs.Rules.{CallerKnowledge, begun, first_look, is_kind, size_of, via_judged, is_source_granted, is_dest_granted}
-use Rattle.gt_calls.specs.Path.{Continuation, AfterRefusal, AfterPin, nowhere, ended, makes, looks, exchanges, give_back, at_first_look, last_step, reads_second, reads_body, try_pin, tries, leg, held_of, rule_of_try, entry_refusal, unless_refused, beyond, reaches, accesses, to_dest, copies, is_stopped, turn, turns, busy, exchanges_once, after_first, by_mapping, steps_of, after_beginning, path, refused_holding, second_leg, map_leg, source_pair, dest_pair}
+use Rattle.gt_calls.specs.declared.action.Step.TheVariants.{Pin}
+use Rattle.gt_calls.specs.declared.action.Verdict.TheVariants.{Mapped}
+use Rattle.gt_calls.specs.Path.{AfterRefusal, AfterPin, nowhere, looks, exchanges, give_back, at_first_look, last_step, reads_second, reads_body, try_pin, tries, leg, unless_refused, beyond, reaches, accesses, to_dest, copies, turn, turns, busy, exchanges_once, after_first, by_mapping, refused_holding}
 use Rattle.gt_core.proofs.Phases.{makes-same}
 
 -- a step that names the handle of a mapping is an unmap's, of the handle asked

@@ -1,18 +1,9 @@
 -- The handles of a domain, and its mappings as the history has them.
-use Rattle.std.proofs.Common.{◌≡◌, ◌+◌, ℕ, zero, suc, refl, Bool, true, false, List, [], ◌∷◌, ◌++◌, length, Option, Some, None, is_some, cond, sym, ap, ◌∙◌, arith, subst, count_by, slice_index_or, slice_set}
-use Rattle.std.specs.Prelude.{◌==◌, ◌&&◌}
-use mathlib.Core.Path.{fun_ext}
-use Rattle.std.proofs.lemmas.Bool.{eqb-true, eq-eqb, and_parts, and_from, true≢false}
-use Rattle.std.proofs.lemmas.Option.{none-some}
-use Rattle.std.proofs.lemmas.List.{length-append}
-use Rattle.std.proofs.lemmas.List.Sums.{sum_by-cons}
-use Rattle.gt_handles.specs.declared.handles.Handle.{Handle}
+use Rattle.gt_core.proofs.Words.{◌≡◌, ◌+◌, ℕ, zero, suc, refl, Bool, true, false, List, [], ◌∷◌, ◌++◌, length, Option, Some, None, cond, sym, ap, ◌∙◌, arith, subst, ◌==◌, ◌&&◌, fun_ext, eqb-true, eq-eqb, and_parts, and_from, true≢false, none-some, length-append, sum_by-cons, Handle, Kept, value_of, count_of, Held, mapping_of, same_handle, Adds, taken, MappingsAgree}
+use Rattle.std.proofs.Common.{is_some, count_by, slice_index_or, slice_set}
 use Rattle.gt_handles.specs.declared.handles.Slot.{Slot}
-use Rattle.gt_handles.specs.Handles.{Kept, value_of, count_of, under}
-use Rattle.gt_calls.specs.declared.held.Held.{Held}
-use Rattle.gt_core.specs.History.{mapping_of, same_handle}
-use Rattle.gt_core.specs.Effects.{Adds, taken}
-use Rattle.gt_core.specs.Standing.{AreApart, MappingsAgree}
+use Rattle.gt_handles.specs.Handles.{under}
+use Rattle.gt_core.specs.Standing.{AreApart}
 
 pub same-handle : (a b : Handle) → same_handle a b ≡ true → a ≡ b
 same-handle a b e =

@@ -1,34 +1,6 @@
 -- The live pins and the mappings are the same without keys, where each handle that is named is told by its serial.
-use Rattle.std.proofs.Common.{◌≡◌, ◌+◌, ℕ, suc, refl, Bool, true, false, List, [], ◌∷◌, ◌++◌, length, Option, Some, None, cond, sym, ap, ◌∙◌, subst}
-use Rattle.std.specs.Prelude.{◌==◌, ◌&&◌, count_by, is_some, nat_lt}
-use Rattle.std.specs.Option.{option_map}
-use Rattle.std.proofs.lemmas.Bool.{eqb-true}
-use Rattle.std.proofs.lemmas.List.Sums.{sum_by-cons}
-use mathlib.Core.Path.{fun_ext}
-use Rattle.gt_types.specs.declared.DomId.{DomId}
-use Rattle.gt_types.specs.declared.Dir.{Dir}
-use Rattle.gt_types.specs.declared.Dir.TheVariants.{Read, Write}
-use Rattle.gt_entry.specs.declared.entry.Entry.{Entry}
-use Rattle.gt_entry.specs.declared.header.Header.{Header}
-use Rattle.gt_entry.specs.Words.{control_word}
-use Rattle.gt_handles.specs.declared.handles.Handle.{Handle}
-use Rattle.gt_calls.specs.Rules.{CallerKnowledge, control_with, size_of}
-use Rattle.gt_calls.specs.declared.request.Holder.{Holder}
-use Rattle.gt_calls.specs.declared.request.Holder.TheVariants.{Mapping as ByMapping, Leg as ByLeg}
-use Rattle.gt_calls.specs.declared.held.Held.{Held}
-use Rattle.gt_calls.specs.declared.action.Seen.{Seen}
-use Rattle.gt_calls.specs.declared.action.Seen.TheVariants.{Taken}
-use Rattle.gt_calls.specs.declared.action.Step.TheVariants.{Pin as PinStep, Unpin}
-use Rattle.gt_core.specs.declared.trace.Answer.{Answer}
-use Rattle.gt_core.specs.declared.trace.Answer.TheVariants.{Mapped, Bytes}
-use Rattle.gt_core.specs.declared.trace.Happened.{Happened}
-use Rattle.gt_core.specs.declared.trace.Happened.TheVariants.{Stepped}
-use Rattle.gt_core.specs.History.{History, Setting, Pin, live, without, is_holder, same_handle, holder_after, gather, by_leg, by_mapping, pinned_by, unpinned_by, is_pin_on, reads_at, writes_at, mappings_at, mapping_of, entry_at, generation_at, table_at, word_at, maps_answered_at, known_at}
-use Rattle.gt_types.specs.Names.{domain_of}
-use Rattle.gt_core.specs.Shown.{shown_at}
-use Rattle.gt_core.specs.Subject.{subject_at, place_of}
+use Rattle.gt_core.proofs.Words.{◌≡◌, ◌+◌, ℕ, suc, refl, Bool, true, false, List, [], ◌∷◌, ◌++◌, length, Option, Some, None, cond, sym, ap, ◌∙◌, subst, ◌==◌, ◌&&◌, count_by, is_some, nat_lt, option_map, eqb-true, sum_by-cons, fun_ext, DomId, Dir, Read, Write, Entry, Header, control_word, Handle, CallerKnowledge, control_with, size_of, Holder, ByMapping, ByLeg, Held, Seen, Taken, PinStep, Unpin, Answer, Mapped, Happened, Stepped, History, Setting, Pin, live, without, is_holder, same_handle, holder_after, gather, by_leg, by_mapping, pinned_by, unpinned_by, is_pin_on, reads_at, writes_at, mappings_at, mapping_of, entry_at, generation_at, table_at, word_at, maps_answered_at, known_at, domain_of, shown_at, subject_at, place_of, bare_handle, bare_happened, told, IsGiven, IsKnown, IsRun, AreAlike}
 use Rattle.gt_core.specs.declared.core_state.Shown.{Shown}
-use Rattle.gt_core.specs.Alike.{bare_handle, bare_happened, told, IsGiven, IsKnown, IsRun, AreAlike}
 use Rattle.gt_core.proofs.Bare.{bare-same, answer_from, bare, entry-bare, raises-bare, table-bare, maps-bare}
 use Rattle.gt_core.proofs.Given.{HeldGiven, PinsGiven, pins-given, known-tells, unpin-known}
 

@@ -1,12 +1,7 @@
 -- The state of a domain among the states.
-use Rattle.std.proofs.Common.{◌≡◌, ◌<◌, ◌≤◌, ℕ, zero, suc, refl, Bool, true, false, List, [], ◌∷◌, length, Option, Some, None, cond, ltb, sym, ap, ◌∙◌, arith, get_or, set}
-use Rattle.std.proofs.lemmas.Bool.{eqb-true, eq-eqb, true≢false, ltb-false}
+use Rattle.gt_core.proofs.Words.{◌≡◌, ◌<◌, ◌≤◌, ℕ, zero, suc, refl, Bool, true, false, List, [], ◌∷◌, length, Option, Some, None, cond, ltb, sym, ap, ◌∙◌, arith, get_or, set, eqb-true, eq-eqb, true≢false, ltb-false, position-Some, slice_get_past, slice_get-get_or, Result, OnErr, position, slice_get, ◌==◌, position_or_len, State}
 use Rattle.std.proofs.lemmas.List.Folds.{find_at}
-use Rattle.std.proofs.lemmas.List.Quantifiers.{position-Some}
-use Rattle.std.proofs.lemmas.Option.{slice_get_past, slice_get-get_or}
-use Rattle.std.specs.Prelude.{Result, Ok, Err, OnErr, find, position, slice_get, ◌==◌}
-use Rattle.std.specs.List.{position_or_len}
-use Rattle.gt_core.specs.States.{State}
+use Rattle.std.specs.Prelude.{Ok, Err, find}
 use Rattle.gt_core.specs.Standing.{state_of}
 
 abbrev pub has_id : ℕ → State → Bool

@@ -1,14 +1,5 @@
 -- A change of one element of a list, and of the first state with a number.
-use Rattle.std.proofs.Common.{◌≡◌, ◌<◌, ◌≤◌, ◌+◌, ℕ, zero, suc, refl, Bool, true, false, List, [], ◌∷◌, length, map, Option, Some, None, cond, ltb, sym, ap, ◌∙◌, arith, get_or, set, take, drop, ◌++◌}
-use Rattle.std.proofs.lemmas.Bool.{eqb-true, ne_eqb, eq-eqb, false≢true, true≢false, ltb-false}
-use Rattle.std.proofs.lemmas.List.Quantifiers.{position-Some}
-use Rattle.std.proofs.lemmas.List.{nil_from_length, append-nil, take_all, drop_all}
-use Rattle.std.proofs.Math.Seq.{take-nil}
-use Rattle.std.specs.Prelude.{position, slice_get, ◌==◌, not}
-use Rattle.std.specs.List.{position_or_len}
-use Rattle.std.specs.Option.{option_map}
-use Rattle.gt_core.specs.Rows.{changed_at}
-use Rattle.gt_core.specs.States.{State, state_of, changed_in}
+use Rattle.gt_core.proofs.Words.{◌≡◌, ◌<◌, ◌≤◌, ◌+◌, ℕ, zero, suc, refl, Bool, true, false, List, [], ◌∷◌, length, Option, Some, None, cond, ltb, sym, ap, ◌∙◌, arith, get_or, set, eqb-true, ne_eqb, eq-eqb, false≢true, true≢false, ltb-false, position-Some, position, slice_get, ◌==◌, not, position_or_len, option_map, changed_at, State, state_of, changed_in}
 use Rattle.gt_core.proofs.Places.{has_id}
 
 -- a write of the changed element

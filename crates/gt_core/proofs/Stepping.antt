@@ -1,78 +1,18 @@
 -- What the core does for a step of an open call: it is right, and the core stands for it.
-use Rattle.std.proofs.Common.{◌≡◌, ◌≢◌, ◌<◌, ◌≤◌, ◌+◌, inl, inr, ℕ, refl, Bool, true, false, List, [], ◌∷◌, ◌++◌, length, Option, Some, None, cond, sym, ap, ◌∙◌, subst, reverse, arith}
-use Rattle.std.proofs.lemmas.Bool.{eqb-true, eq-eqb}
-use Rattle.std.proofs.lemmas.List.{length-reverse, length-take-le, length-take, length-drop}
-use Rattle.std.proofs.lemmas.Grind.{reverse_onto}
-use Rattle.std.proofs.lemmas.Option.{same_Some}
-use Rattle.std.specs.Prelude.{◌==◌, take, drop, slice_get}
-use Rattle.gt_types.specs.declared.DomId.{DomId}
-use Rattle.gt_types.specs.declared.GrantRef.{GrantRef}
-use Rattle.gt_types.specs.declared.limits.TheConstants.{FRAME_SIZE}
-use Rattle.gt_types.specs.declared.denial.Denial.{Denial}
-use Rattle.gt_entry.specs.declared.entry.Entry.{Entry}
-use Rattle.gt_entry.specs.declared.entry.Entry.TheVariants.{Invalid, Page, Sub, Via}
-use Rattle.gt_entry.specs.declared.change.Half.{Half}
-use Rattle.gt_handles.specs.declared.handles.Handle.{Handle}
-use Rattle.gt_calls.specs.declared.held.Held.{Held}
-use Rattle.gt_calls.specs.declared.action.Place.{Place}
-use Rattle.gt_calls.specs.declared.request.Asked.{Asked}
-use Rattle.gt_calls.specs.declared.request.Asked.TheVariants.{Store, Poke, Copy}
-use Rattle.gt_calls.specs.declared.request.Holder.TheVariants.{Mapping as ByMapping, Leg as ByLeg}
-use Rattle.gt_calls.specs.declared.action.Seen.{Seen}
-use Rattle.gt_calls.specs.declared.action.Seen.TheVariants.{Nothing, Taken, Missed}
-use Rattle.gt_calls.specs.declared.action.Verdict.{Verdict}
-use Rattle.gt_calls.specs.declared.action.Verdict.TheVariants.{Granted, Given, Mapped as KeptPin, Refused}
-use Rattle.gt_calls.specs.declared.action.Step.{Step}
-use Rattle.gt_calls.specs.declared.action.Step.TheVariants.{LookHeader, LookControl, LookBody, Pin as PinStep, Unpin, StoreBody, StoreHeader, Exchange, Read as ReadBytes, Write as WriteBytes, Copy as CopyBytes}
-use Rattle.gt_calls.specs.declared.action.Action.{Action}
-use Rattle.gt_calls.specs.declared.action.Action.TheVariants.{Step as Makes, Done}
-use Rattle.gt_calls.specs.declared.call.Call.{Call}
-use Rattle.gt_calls.specs.declared.call.Phase.{Phase}
-use Rattle.gt_calls.specs.declared.call.Phase.TheVariants.{Storing, StoringSecond, Exchanging, Looking, Changing, Walking, Accessing, Asking, Last, Ending}
-use Rattle.gt_calls.specs.Holding.{last_first, no_pins}
-use Rattle.gt_calls.specs.Rules.{CallerKnowledge, knowledge_of}
-use Rattle.gt_calls.specs.Path.{path}
-use Rattle.gt_calls.specs.Resting.{Rests, RestsStep}
-use Rattle.gt_calls.specs.Machine.{phase_after, action_at, next_to_give, after_store}
-use Rattle.gt_calls.specs.Standing.{HasShown, pins_at, held_in}
-use Rattle.gt_calls.specs.Following.{Goes}
-use Rattle.gt_core.specs.declared.slot.Open.{Open}
-use Rattle.gt_core.specs.declared.trace.Item.{Item}
-use Rattle.gt_core.specs.declared.trace.Answer.{Answer}
-use Rattle.gt_core.specs.declared.trace.Answer.TheVariants.{Denied, Done as AnswerDone, Mapped}
-use Rattle.gt_core.specs.States.{State, state_of, changed_in}
-use Rattle.gt_core.specs.Sight.{sees}
-use Rattle.gt_core.specs.History.{History, Setting, Pin, live, entry_at, generation_at, word_at, table_at, known_at, legs_at, mappings_at, mapping_of, maps_answered_at, seen_by, Underway, values, open_call, underway_after, holder_after, one_if_mapped}
-use Rattle.gt_core.specs.Legal.{StepsSoFar, StepsRight, Justified, IsSafe, PinIsSound, AnsweredBy, GivesValue, LeavesAll, IsSpelled, gives_back, verdict_in, refusal_in, refusal_of, refusal_if, or_then, first_of_item, first_in_call, stood, most_steps}
-use Rattle.gt_core.specs.Standing.{DomainsStand, Agrees, CallAgrees, OpenAgrees, GivenAgrees, FitsGiven, PhaseStands, IsClean, phase_refusal, numbered}
+use Rattle.gt_core.proofs.Words.{◌≡◌, ◌≢◌, inl, inr, ℕ, refl, Bool, true, false, List, [], ◌∷◌, ◌++◌, length, Option, Some, None, cond, sym, ap, ◌∙◌, subst, reverse, eqb-true, eq-eqb, length-reverse, reverse_onto, same_Some, ◌==◌, DomId, GrantRef, Denial, Entry, Invalid, Half, Handle, Held, Asked, ByMapping, ByLeg, Seen, Nothing, Taken, Missed, Verdict, Granted, Given, KeptPin, Refused, Step, PinStep, Unpin, StoreBody, StoreHeader, Exchange, ReadBytes, WriteBytes, CopyBytes, Action, Makes, Done, Call, Phase, Storing, Walking, Last, Ending, last_first, knowledge_of, path, phase_after, action_at, next_to_give, after_store, HasShown, pins_at, held_in, Goes, Open, Item, Answer, Denied, AnswerDone, Mapped, State, state_of, sees, History, Setting, live, word_at, known_at, legs_at, mappings_at, mapping_of, seen_by, Underway, values, open_call, underway_after, holder_after, one_if_mapped, StepsRight, GivesValue, refusal_in, refusal_of, DomainsStand, Agrees, CallAgrees, OpenAgrees, numbered, position, get_or, set, position-Some, domain_of, Value, FramesTold, BytesAnswer, Kept, applied, with_underway, with_mapping, Adds, IsReadable, IsAdmitted, AccessedBy, bytes_at, FrameSet, frame_at, contents_at, IsRight, StepsRightIn, CoreStands, FramesStand, core_of, Settled, IsLawful, IsLawfullyHeld, answer_with}
+use Rattle.std.specs.Prelude.{take, drop}
 use Rattle.gt_core.proofs.Quiet.{KeepsKnown}
 use Rattle.gt_core.proofs.Phases.{IsHere, makes-same}
 use Rattle.gt_core.proofs.Placing.{IsStore}
-use Rattle.gt_core.proofs.Keeping.{stepped, KeepsEntries, same-entry, same-generations, known-same, open_call-own, stood-own, same-number}
+use Rattle.gt_core.proofs.Keeping.{stepped, KeepsEntries, open_call-own}
 use Rattle.gt_core.proofs.Pinning.{pins, map-legs}
 use Rattle.gt_core.proofs.Unpinning.{unpins, leg-left, leg-mappings, mapping-legs}
 use Rattle.gt_core.proofs.Acting.{can-change, can-pin, store-invalid}
-use Rattle.gt_core.proofs.Accessing.{read-justified, copy-justified}
-use Rattle.gt_core.proofs.Outcomes.{next_of, IsSingle, single-ends, ends-so}
-use Rattle.std.specs.Prelude.{position}
-use Rattle.std.proofs.Common.{get_or, set}
-use Rattle.std.proofs.lemmas.List.Quantifiers.{position-Some}
-use Rattle.gt_types.specs.Names.{domain_of}
-use Rattle.gt_calls.specs.Rules.{frames_of, frames_in}
-use Rattle.gt_calls.specs.declared.action.Value.{Value}
-use Rattle.gt_calls.specs.declared.action.Value.TheVariants.{Frames as FramesTold, Size as SizeTold, Version as VersionTold}
+use Rattle.gt_core.proofs.Outcomes.{next_of, ends-so}
 use Rattle.gt_core.specs.declared.trace.Bytes.{Bytes}
-use Rattle.gt_core.specs.declared.trace.Answer.TheVariants.{Bytes as BytesAnswer}
-use Rattle.gt_handles.specs.Handles.{Kept}
-use Rattle.gt_core.specs.Effects.{applied, with_underway, with_mapping, with_slot, Adds}
-use Rattle.gt_core.specs.Accesses.{IsWriting, IsReadable, IsAdmitted, AccessedBy}
-use Rattle.gt_frames.specs.Frames.{bytes_at}
-use Rattle.gt_frames.specs.Sets.{FrameSet, frame_at}
-use Rattle.gt_core.specs.History.{contents_at, given_in}
-use Rattle.gt_core.specs.Legal.{IsRight, StepsRightIn, IsInFrame}
-use Rattle.gt_core.specs.Standing.{CoreStands, FramesStand, core_of, StateAgrees, Settled, IsLawful, IsLawfullyHeld, answer_with}
+use Rattle.gt_core.specs.Accesses.{IsWriting}
 use Rattle.gt_core.proofs.Places.{has_id, found, state_of-set}
-use Rattle.gt_core.proofs.Keeping.{quiet-stands, becomes-changed}
+use Rattle.gt_core.proofs.Keeping.{quiet-stands}
 use Rattle.gt_core.proofs.Storing.{store-stands}
 use Rattle.gt_core.proofs.Exchanging.{exchange-stands}
 use Rattle.gt_core.proofs.Headers.{header-stands}

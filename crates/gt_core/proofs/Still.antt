@@ -1,19 +1,7 @@
 -- What a call saw of an entry stays true while the entry's generation stays.
-use Rattle.std.proofs.Common.{◌≡◌, ◌≢◌, ◌≤◌, ◌+◌, ℕ, refl, ◌∷◌, Option, Some, None, arith}
-use Rattle.gt_entry.specs.declared.entry.Entry.{Entry}
-use Rattle.gt_entry.specs.declared.entry.Entry.TheVariants.{Invalid}
-use Rattle.gt_entry.specs.declared.change.Change.{Change}
-use Rattle.gt_entry.specs.declared.change.Change.TheVariants.{Publish, Revoke, Demote, Promote}
-use Rattle.gt_entry.specs.Words.{control_of}
-use Rattle.gt_calls.specs.declared.leg.Leg.{Leg}
-use Rattle.gt_calls.specs.declared.leg.LegPhase.{LegPhase}
-use Rattle.gt_calls.specs.declared.leg.LegPhase.TheVariants.{Header, Look, Body, Second, Pinning, Relook}
-use Rattle.gt_types.specs.declared.denial.Rule.{Rule}
-use Rattle.gt_core.specs.declared.trace.Item.{Item}
-use Rattle.gt_core.specs.History.{History, Setting, entry_at, entry_after, raises_at, raise_after, generation_at, change_of}
-use Rattle.gt_core.specs.Legal.{StepsSoFar}
-use Rattle.gt_core.specs.Standing.{WhileSame, IsShown, HasLooked, HasRead, LegStands}
-use Rattle.gt_entry.specs.Spelling.{entry_of, first_body}
+use Rattle.gt_core.proofs.Words.{◌≡◌, ◌≢◌, ◌≤◌, ◌+◌, ℕ, refl, ◌∷◌, Option, Some, None, arith, Entry, Invalid, Change, control_of, Leg, LegPhase, Look, Body, Second, Pinning, Relook, Rule, Item, History, Setting, entry_at, entry_after, raises_at, raise_after, generation_at, change_of, StepsSoFar, WhileSame, IsShown, HasLooked, HasRead, LegStands, entry_of, first_body}
+use Rattle.gt_entry.specs.declared.change.Change.TheVariants.{Revoke}
+use Rattle.gt_calls.specs.declared.leg.LegPhase.TheVariants.{Header}
 
 same-after : (before first generation : ℕ) (Holds : Entry → Type 0) (entry : Entry) (c : Option Change) → generation ≤ first + before
     → (first + before ≡ generation → entry ≢ Invalid → Holds entry)

@@ -1,53 +1,8 @@
 -- A step of an open call is right, and the core stands for it.
-use Rattle.std.proofs.Common.{◌≡◌, ◌≢◌, ◌<◌, ◌≤◌, ◌+◌, ◌⊎◌, inl, inr, ℕ, suc, refl, Bool, true, false, List, [], ◌∷◌, ◌++◌, length, Option, Some, None, cond, sym, ap, ◌∙◌, subst, reverse, arith}
-use Rattle.std.proofs.lemmas.Bool.{eqb-true}
-use Rattle.std.proofs.lemmas.List.{map-append, reverse-append, length-append, length-reverse}
-use Rattle.std.proofs.lemmas.Grind.{reverse_onto}
-use Rattle.std.proofs.lemmas.Option.{none-some, same_Some}
-use Rattle.std.specs.Prelude.{◌==◌, All}
-use Rattle.gt_types.specs.declared.DomId.{DomId}
-use Rattle.gt_types.specs.declared.GrantRef.{GrantRef}
-use Rattle.gt_types.specs.declared.denial.Denial.{Denial}
-use Rattle.gt_entry.specs.declared.entry.Entry.{Entry}
-use Rattle.gt_entry.specs.declared.entry.Entry.TheVariants.{Invalid, Page, Sub, Via}
-use Rattle.gt_entry.specs.declared.header.Header.{Header}
-use Rattle.gt_entry.specs.declared.change.Change.{Change}
-use Rattle.gt_entry.specs.declared.change.Half.{Half}
-use Rattle.gt_entry.specs.declared.change.Half.TheVariants.{First as FirstHalf, Second as SecondHalf}
-use Rattle.gt_handles.specs.declared.handles.Handle.{Handle}
-use Rattle.gt_calls.specs.declared.held.Held.{Held}
-use Rattle.gt_calls.specs.declared.held.Pins.{Pins}
-use Rattle.gt_calls.specs.declared.request.Asked.{Asked}
-use Rattle.gt_calls.specs.declared.request.Asked.TheVariants.{Grant, Revoke, Demote, Promote, Map, Unmap, Load, Store, Peek, Poke, Copy, SetVersion, SetupTable, QuerySize, GetVersion}
-use Rattle.gt_calls.specs.declared.request.Holder.TheVariants.{Mapping as ByMapping, Leg as ByLeg}
-use Rattle.gt_calls.specs.declared.action.Seen.{Seen}
-use Rattle.gt_calls.specs.declared.action.Seen.TheVariants.{Nothing, Word, Taken, Missed}
-use Rattle.gt_calls.specs.declared.action.Verdict.{Verdict}
-use Rattle.gt_calls.specs.declared.action.Verdict.TheVariants.{Granted, Mapped as KeptPin}
-use Rattle.gt_calls.specs.declared.action.Step.{Step}
-use Rattle.gt_calls.specs.declared.action.Step.TheVariants.{LookHeader, LookControl, LookBody, Pin as PinStep, Unpin, StoreBody, StoreHeader, Exchange, Read as ReadBytes, Write as WriteBytes, Copy as CopyBytes}
-use Rattle.gt_calls.specs.declared.action.Action.{Action}
-use Rattle.gt_calls.specs.declared.action.Action.TheVariants.{Step as Makes, Done}
-use Rattle.gt_calls.specs.declared.call.Call.{Call}
-use Rattle.gt_calls.specs.declared.call.Phase.{Phase}
-use Rattle.gt_calls.specs.declared.call.Phase.TheVariants.{Storing, StoringSecond, Exchanging, Looking, Changing, Walking, Accessing, Asking, Last, Ending}
-use Rattle.gt_calls.specs.Holding.{last_first, no_pins}
-use Rattle.gt_calls.specs.Rules.{CallerKnowledge, knowledge_of}
-use Rattle.gt_calls.specs.Path.{path, FitsStep}
-use Rattle.gt_calls.specs.Resting.{Rests, RestsStep}
-use Rattle.gt_calls.specs.Machine.{phase_after, action_at, next_to_give, after_store}
-use Rattle.gt_calls.specs.Standing.{StandsAt, HasShown, pins_at, held_in}
-use Rattle.gt_calls.specs.Following.{Goes, GoesOn, FitsNext, HoldsAfter}
-use Rattle.gt_calls.specs.Counting.{most_steps as most_of, steps_left, IsCounted}
-use Rattle.gt_core.specs.declared.slot.Open.{Open}
-use Rattle.gt_core.specs.declared.trace.Item.{Item}
-use Rattle.gt_core.specs.declared.trace.Answer.{Answer}
-use Rattle.gt_core.specs.declared.trace.Happened.TheVariants.{Stepped}
-use Rattle.gt_core.specs.States.{State, state_of}
-use Rattle.gt_core.specs.Sight.{sees}
-use Rattle.gt_core.specs.History.{History, Setting, Pin, live, entry_at, generation_at, word_at, table_at, known_at, legs_at, mappings_at, mapping_of, maps_answered_at, seen_by, Underway, values, open_call, underway_after, holder_after, one_if_mapped}
-use Rattle.gt_core.specs.Legal.{StepsSoFar, StepsRight, Justified, IsSafe, PinIsSound, AnsweredBy, GivesValue, LeavesAll, IsSpelled, gives_back, verdict_in, refusal_in, refusal_of, refusal_if, or_then, first_of_item, first_in_call, stood, most_steps}
-use Rattle.gt_core.specs.Standing.{DomainsStand, Agrees, OpenAgrees, GivenAgrees, FitsGiven, PhaseStands, IsClean, phase_refusal, numbered}
+use Rattle.gt_core.proofs.Words.{◌≡◌, ◌≢◌, ◌<◌, ◌≤◌, ◌+◌, ◌⊎◌, inl, inr, ℕ, suc, refl, Bool, true, false, List, [], ◌∷◌, ◌++◌, length, Option, Some, None, cond, sym, ap, ◌∙◌, subst, reverse, arith, eqb-true, map-append, length-append, length-reverse, reverse_onto, none-some, same_Some, ◌==◌, All, DomId, GrantRef, Denial, Entry, Invalid, Sub, Header, Change, Half, FirstHalf, SecondHalf, Handle, Held, Pins, Asked, Demote, ByMapping, ByLeg, Seen, Nothing, Taken, Missed, Verdict, Granted, KeptPin, Step, PinStep, Unpin, StoreBody, StoreHeader, Exchange, ReadBytes, WriteBytes, CopyBytes, Action, Makes, Done, Call, Phase, Storing, StoringSecond, Walking, Last, Ending, last_first, no_pins, CallerKnowledge, knowledge_of, path, Rests, phase_after, action_at, next_to_give, after_store, StandsAt, HasShown, pins_at, held_in, Goes, GoesOn, most_of, steps_left, Open, Item, Answer, Stepped, State, state_of, sees, History, Setting, Pin, entry_at, generation_at, word_at, table_at, known_at, legs_at, mappings_at, mapping_of, maps_answered_at, seen_by, Underway, values, open_call, underway_after, holder_after, one_if_mapped, StepsSoFar, StepsRight, Justified, IsSafe, PinIsSound, AnsweredBy, GivesValue, LeavesAll, IsSpelled, gives_back, verdict_in, refusal_in, refusal_of, refusal_if, or_then, first_of_item, first_in_call, stood, most_steps, DomainsStand, Agrees, OpenAgrees, GivenAgrees, FitsGiven, PhaseStands, IsClean, phase_refusal, numbered}
+use Rattle.std.proofs.lemmas.List.{reverse-append}
+use Rattle.gt_calls.specs.Following.{FitsNext, HoldsAfter}
+use Rattle.gt_calls.specs.Counting.{IsCounted}
 use Rattle.gt_core.proofs.Quiet.{KeepsKnown, kept-known, kept-legs}
 use Rattle.gt_core.proofs.Seeing.{sees-agree}
 use Rattle.gt_core.proofs.Phases.{IsHere, makes-same, step-within, step-publishes, seen-fits}

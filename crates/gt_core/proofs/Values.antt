@@ -1,53 +1,8 @@
 -- What an answer of a call is, by its last step.
-use Rattle.std.proofs.Common.{◌≡◌, ◌≢◌, ◌<◌, ◌≤◌, ◌+◌, ◌⊎◌, inl, inr, ℕ, zero, suc, refl, Bool, true, false, List, [], ◌∷◌, ◌++◌, length, Option, Some, None, cond, sym, ap, ◌∙◌, subst, reverse, arith}
-use Rattle.std.proofs.lemmas.Bool.{eqb-true}
-use Rattle.std.specs.Prelude.{◌==◌, nat_lt}
-use Rattle.gt_types.specs.declared.DomId.{DomId}
-use Rattle.gt_types.specs.declared.GrantRef.{GrantRef}
-use Rattle.gt_types.specs.declared.denial.Denial.{Denial}
-use Rattle.gt_types.specs.declared.denial.Rule.TheVariants.{N18, N19}
-use Rattle.gt_entry.specs.declared.entry.Entry.{Entry}
-use Rattle.gt_entry.specs.declared.entry.Entry.TheVariants.{Invalid, Page, Sub, Via}
-use Rattle.gt_entry.specs.declared.header.Header.{Header}
-use Rattle.gt_entry.specs.declared.change.Change.{Change}
-use Rattle.gt_entry.specs.declared.change.Change.TheVariants.{Publish, Revoke as ToInvalid, Demote as ToReadOnly, Promote as ToWritable}
-use Rattle.gt_entry.specs.Words.{control_of, header_of, header_word}
-use Rattle.gt_calls.specs.declared.held.Held.{Held}
-use Rattle.gt_calls.specs.declared.request.Asked.{Asked}
-use Rattle.gt_calls.specs.declared.request.Asked.TheVariants.{Map, SetupTable, QuerySize, GetVersion}
-use Rattle.gt_calls.specs.declared.request.Holder.TheVariants.{Mapping as ByMapping, Leg as ByLeg}
-use Rattle.gt_calls.specs.declared.action.Seen.{Seen}
-use Rattle.gt_calls.specs.declared.action.Seen.TheVariants.{Taken, Missed}
-use Rattle.gt_calls.specs.declared.action.Verdict.{Verdict}
-use Rattle.gt_calls.specs.declared.action.Verdict.TheVariants.{Granted, Given, Mapped, Refused}
-use Rattle.gt_calls.specs.declared.action.Value.{Value}
-use Rattle.gt_calls.specs.declared.action.Value.TheVariants.{Frames as FramesTold, Size as SizeTold, Version as VersionTold}
-use Rattle.gt_calls.specs.declared.action.Step.{Step}
-use Rattle.gt_calls.specs.declared.action.Step.TheVariants.{LookHeader, LookControl, LookBody, Pin as PinStep, Unpin, StoreBody, StoreHeader, Exchange, Read as ReadBytes, Write as WriteBytes, Copy as CopyBytes}
-use Rattle.gt_calls.specs.declared.action.Action.{Action}
-use Rattle.gt_calls.specs.declared.action.Action.TheVariants.{Step as Makes, Done}
-use Rattle.gt_calls.specs.declared.copying.Aim.{Aim}
-use Rattle.gt_calls.specs.declared.copying.Aim.TheVariants.{Mapping, Source, Dest}
-use Rattle.gt_calls.specs.declared.call.Question.{Question}
-use Rattle.gt_calls.specs.declared.call.Question.TheVariants.{Size as AsksSize, Version as AsksVersion}
-use Rattle.gt_calls.specs.declared.call.Phase.{Phase}
-use Rattle.gt_calls.specs.declared.call.Phase.TheVariants.{Storing, StoringSecond, Exchanging, Looking, Changing, Walking, Accessing, Asking, Last, Ending}
-use Rattle.gt_calls.specs.declared.leg.Leg.{Leg}
-use Rattle.gt_calls.specs.declared.leg.LegPhase.{LegPhase}
-use Rattle.gt_calls.specs.declared.leg.LegPhase.TheVariants.{Header as AtHeader, Look, Body, Second, Pinning, Relook}
-use Rattle.gt_calls.specs.declared.leg.LegNext.{LegNext}
-use Rattle.gt_calls.specs.declared.leg.LegNext.TheVariants.{Pinned}
-use Rattle.gt_calls.specs.Holding.{last_first, pins_so_far, without_last}
-use Rattle.gt_calls.specs.Rules.{CallerKnowledge}
-use Rattle.gt_calls.specs.Path.{path, held_of, is_stopped, Continuation}
-use Rattle.gt_calls.specs.Resting.{IsFor, RestsOnWord, RestsOnRequest}
-use Rattle.gt_calls.specs.Machine.{phase_after, action_at, after_leg, leg_after, leg_step, after_store, refused_as, next_to_give}
-use Rattle.gt_calls.specs.Standing.{HasShown, IsQuiet, IsTurn, held_in}
-use Rattle.gt_core.specs.declared.trace.Answer.TheVariants.{Done as AnswerDone, Size, Version}
-use Rattle.gt_core.specs.States.{State}
-use Rattle.gt_core.specs.History.{History, Setting, word_at, table_at, known_at, seen_by}
-use Rattle.gt_core.specs.Legal.{StepsSoFar, GivesValue}
-use Rattle.gt_core.specs.Standing.{DomainsStand, PhaseStands, EndsAfter, EndsCopy, Asks, answer_with}
+use Rattle.gt_core.proofs.Words.{◌≡◌, ◌⊎◌, inl, inr, ℕ, refl, Bool, true, false, List, [], ◌∷◌, length, Option, Some, cond, sym, ap, ◌∙◌, subst, eqb-true, ◌==◌, nat_lt, DomId, GrantRef, Denial, N18, N19, Entry, Invalid, Header, Change, Publish, ToReadOnly, ToWritable, control_of, header_of, header_word, Held, Asked, Map, SetupTable, QuerySize, GetVersion, ByMapping, ByLeg, Seen, Taken, Missed, Verdict, Granted, Given, Refused, Value, FramesTold, SizeTold, VersionTold, Step, LookHeader, PinStep, Unpin, StoreBody, StoreHeader, Exchange, ReadBytes, WriteBytes, Action, Makes, Done, Aim, Mapping, Question, AsksSize, AsksVersion, Phase, Storing, StoringSecond, Exchanging, Looking, Changing, Walking, Accessing, Asking, Last, Ending, Leg, LegPhase, Pinning, LegNext, Pinned, last_first, pins_so_far, CallerKnowledge, path, held_of, is_stopped, Continuation, IsFor, RestsOnWord, RestsOnRequest, phase_after, action_at, after_leg, leg_after, leg_step, after_store, refused_as, next_to_give, HasShown, IsQuiet, IsTurn, held_in, AnswerDone, State, History, Setting, word_at, table_at, known_at, seen_by, StepsSoFar, GivesValue, DomainsStand, PhaseStands, EndsAfter, EndsCopy, Asks, answer_with}
+use Rattle.gt_calls.specs.declared.action.Verdict.TheVariants.{Mapped}
+use Rattle.gt_calls.specs.Holding.{without_last}
+use Rattle.gt_core.specs.declared.trace.Answer.TheVariants.{Size, Version}
 use Rattle.gt_core.proofs.Fitting.{table-fits}
 use Rattle.gt_core.proofs.Phases.{IsHere, makes-same}
 use Rattle.gt_core.proofs.Outcomes.{next_of, walk-done}
