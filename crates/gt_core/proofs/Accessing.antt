@@ -1,47 +1,10 @@
 -- What an access to bytes rests on: it is inside a frame, and justified.
-use Rattle.std.proofs.Common.{◌≡◌, ◌≢◌, ◌≤◌, ◌<◌, ◌+◌, ◌⊎◌, inl, inr, ℕ, suc, refl, Bool, true, false, List, [], ◌∷◌, ◌++◌, Option, Some, None, cond, sym, ap, ◌∙◌, arith, subst, reverse}
-use Rattle.std.proofs.lemmas.Bool.{eqb-true, and_parts, and_from, leb-false, false≢true}
-use Rattle.std.proofs.lemmas.Option.{none-some, same_Some}
-use Rattle.std.specs.Prelude.{◌==◌, ◌&&◌, nat_le, is_none, All, Any}
-use Rattle.std.proofs.lemmas.Grind.{reverse_onto}
-use Rattle.gt_types.specs.Names.{domain_of, resolved}
-use Rattle.gt_types.specs.Denial.{denial_of}
-use Rattle.gt_types.specs.declared.DomId.{DomId}
-use Rattle.gt_types.specs.declared.TypeId.{TypeId}
-use Rattle.gt_types.specs.declared.Dir.{Dir}
-use Rattle.gt_types.specs.declared.Dir.TheVariants.{Read, Write}
-use Rattle.gt_types.specs.declared.Use.TheVariants.{Map as ForMap, Copy as ForCopy}
-use Rattle.gt_types.specs.declared.perms.Perms.{Perms}
-use Rattle.gt_types.specs.declared.rights.Triple.{Triple}
-use Rattle.gt_types.specs.declared.limits.TheConstants.{FRAME_SIZE}
-use Rattle.gt_types.specs.declared.denial.Facts.TheVariants.{Policy}
-use Rattle.gt_types.specs.declared.denial.Rule.TheVariants.{N1, N5}
-use Rattle.gt_entry.specs.declared.entry.Entry.{Entry}
-use Rattle.gt_entry.specs.declared.entry.Entry.TheVariants.{Invalid, Page, Sub, Via}
-use Rattle.gt_entry.specs.Entries.{frame_of}
-use Rattle.gt_entry.specs.Permits.{permits, forwards, allows_direction}
-use Rattle.gt_handles.specs.declared.handles.Handle.{Handle}
-use Rattle.gt_calls.specs.declared.held.Held.{Held}
-use Rattle.gt_calls.specs.declared.held.Route.{Route}
-use Rattle.gt_calls.specs.declared.held.Route.TheVariants.{Own, Direct, Through}
-use Rattle.gt_calls.specs.declared.held.Pins.{Pins}
-use Rattle.gt_calls.specs.declared.request.End.{End}
-use Rattle.gt_calls.specs.declared.request.Asked.{Asked}
-use Rattle.gt_calls.specs.declared.request.Asked.TheVariants.{Load, Store, Peek, Poke, Copy}
-use Rattle.gt_calls.specs.declared.request.Holder.{Holder}
-use Rattle.gt_calls.specs.declared.request.Holder.TheVariants.{Mapping as ByMapping, Leg as ByLeg}
-use Rattle.gt_calls.specs.declared.action.Place.{Place}
-use Rattle.gt_calls.specs.declared.action.Verdict.TheVariants.{Refused}
-use Rattle.gt_calls.specs.declared.action.Step.TheVariants.{Read as ReadBytes, Write as WriteBytes}
-use Rattle.gt_calls.specs.Holding.{last_first}
-use Rattle.gt_calls.specs.Rules.{CallerKnowledge, begun, frames_of, via_judged, denied, copy_denied, rights_to_copy, refused_when, first, is_source_granted, is_dest_granted}
-use Rattle.gt_calls.specs.Path.{place_of, source_pair, dest_pair}
-use Rattle.gt_calls.specs.Opening.{opens, IsAllowed}
-use Rattle.gt_calls.specs.Resting.{RestsOnRequest, RestsOnWays, IsMapped, IsReached, IsPermitted, LeadsTo}
-use Rattle.gt_core.specs.States.{State}
-use Rattle.gt_core.specs.History.{History, Setting, Pin, live, known_at, legs_at, mappings_at, mapping_of, gather, by_mapping, by_leg, same_handle}
-use Rattle.gt_core.specs.Legal.{Reaches, Forwards, MayUse, MayCopy, MayUseMapping, MayAccess, MayAsk, IsInFrame, EndIsJustified, CopyIsJustified, Justified}
-use Rattle.gt_core.specs.Standing.{IsLawful, IsLawfullyHeld, DomainsStand, numbered}
+use Rattle.gt_core.proofs.Words.{◌≡◌, ◌≢◌, ◌≤◌, ◌<◌, ◌+◌, ◌⊎◌, inl, inr, ℕ, suc, refl, Bool, true, false, List, [], ◌∷◌, ◌++◌, Option, Some, None, cond, sym, ap, ◌∙◌, arith, subst, reverse, eqb-true, and_parts, and_from, leb-false, false≢true, none-some, same_Some, ◌==◌, ◌&&◌, nat_le, is_none, All, Any, reverse_onto, domain_of, resolved, denial_of, DomId, TypeId, Dir, Read, Write, ForMap, ForCopy, Perms, Triple, FRAME_SIZE, Policy, N1, N5, Entry, Page, Sub, frame_of, permits, forwards, allows_direction, Handle, Held, Route, Direct, Through, Pins, End, Asked, Load, Store, Peek, Poke, Copy, Holder, ByMapping, ByLeg, Place, Refused, ReadBytes, WriteBytes, last_first, CallerKnowledge, begun, frames_of, via_judged, denied, copy_denied, rights_to_copy, refused_when, first, is_source_granted, is_dest_granted, source_pair, dest_pair, opens, RestsOnRequest, RestsOnWays, IsReached, LeadsTo, State, History, Setting, Pin, live, known_at, legs_at, mappings_at, mapping_of, gather, by_mapping, by_leg, same_handle, MayUse, IsInFrame, CopyIsJustified, Justified, IsLawful, IsLawfullyHeld, DomainsStand, numbered}
+use Rattle.gt_calls.specs.declared.held.Route.TheVariants.{Own}
+use Rattle.gt_calls.specs.Path.{place_of}
+use Rattle.gt_calls.specs.Opening.{IsAllowed}
+use Rattle.gt_calls.specs.Resting.{IsMapped, IsPermitted}
+use Rattle.gt_core.specs.Legal.{Reaches, Forwards, MayCopy, MayUseMapping, MayAccess, MayAsk, EndIsJustified}
 
 -- pins among those that a domain's give
 
@@ -105,7 +68,6 @@ found-in (x ∷ ms) handle m e = by (same_handle x.0 handle) (found-in ms handle
 
 -- a pin that lets its mapping be used lets the domain access any range in that way
 pub permits-as : (e : Entry) (d : DomId) (held dir : Dir) (off len : ℕ) → ((dir ≡ Write) → held ≡ Write) → permits e d held ForMap 0 0 ≡ true → permits e d dir ForMap off len ≡ true
-permits-as Invalid d held dir off len w a = a
 permits-as (Page dom ro frame) d held dir off len w a =
     let parts = and_parts (dom.0 == d.0) (allows_direction ro held) a in
     and_from (dom.0 == d.0) (allows_direction ro dir) parts.0 (by dir w parts.1)
@@ -117,9 +79,8 @@ permits-as (Sub dom ro frame start size) d held dir off len w a = absurd (false�
   where
     never : (b c : Bool) → (b && c && false && nat_le start 0 && nat_le (0 + 0) (start + size)) ≡ false
     never true true = refl
-    never true false = refl
-    never false c = refl
-permits-as (Via dom ro dom2 gref) d held dir off len w a = a
+    never b c = refl
+permits-as e d held dir off len w a = a
 
 -- the mapping's pin is the domain's, by right
 pub record IsRightful (s : Setting) (d : DomId) (m : Held) (p : Pin) : Type 0 where
@@ -255,9 +216,8 @@ via-may : (k : CallerKnowledge) (pair : DomId × DomId) (dom : DomId) → via_ju
 via-may k pair dom e = allowed k.may (rights_to_copy k pair.0 pair.1) (by (is_none (domain_of k.domains dom)) (copy_denied k pair.0 pair.1) e)
   where
     by : (b : Bool) (o : Option Rattle.gt_calls.specs.declared.action.Verdict.Verdict) → first (refused_when b N1 ∷ o ∷ []) ≡ None → o ≡ None
-    by true o f = cc
     by false None f = refl
-    by false (Some v) f = cc
+    by b o f = cc
 
 reached-frame : (s : Setting) (h : History) (d : DomId) (granted : Bool) (end : End) (dir : Dir) (len : ℕ) (pair : DomId → DomId × DomId) (route : Route) → IsReached (known_at s h d) d granted end dir len pair route → end.offset + len ≤ FRAME_SIZE
     → IsInFrame s (place_of d end route) len

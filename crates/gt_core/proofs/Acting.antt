@@ -1,49 +1,10 @@
 -- What each step of an open call rests on, by the history.
-use Rattle.std.proofs.Common.{◌≡◌, ◌≢◌, ◌<◌, ◌≤◌, ◌+◌, ◌⊎◌, inl, inr, ℕ, refl, Bool, true, false, List, [], ◌∷◌, Option, None, sym, ap, ◌∙◌, subst, reverse, arith}
-use Rattle.std.proofs.lemmas.Bool.{eqb-true, eqb-false, leb-false, ltb-false, false≢true}
-use Rattle.std.specs.Prelude.{◌==◌, nat_lt}
-use Rattle.gt_types.specs.Names.{domain_of, resolved}
-use Rattle.gt_types.specs.declared.DomId.{DomId}
-use Rattle.gt_types.specs.declared.GrantRef.{GrantRef}
-use Rattle.gt_types.specs.declared.Dir.{Dir}
-use Rattle.gt_types.specs.declared.Dir.TheVariants.{Read, Write}
-use Rattle.gt_types.specs.declared.Use.TheVariants.{Map as ForMap}
-use Rattle.gt_types.specs.declared.limits.TheConstants.{TABLE_ENTRIES, LAST_GENERATION, LAST_VERSION, MAX_TABLE_FRAMES, MAX_PINS}
-use Rattle.gt_types.specs.declared.denial.Rule.{Rule}
-use Rattle.gt_types.specs.declared.denial.Rule.TheVariants.{N14, N16, N17}
-use Rattle.gt_entry.specs.declared.entry.Entry.{Entry}
-use Rattle.gt_entry.specs.declared.entry.Entry.TheVariants.{Invalid, Page, Sub, Via}
-use Rattle.gt_entry.specs.declared.change.Change.{Change}
-use Rattle.gt_entry.specs.declared.change.Change.TheVariants.{Publish, Revoke as ToInvalid, Demote as ToReadOnly, Promote as ToWritable}
-use Rattle.gt_entry.specs.declared.change.Half.{Half}
-use Rattle.gt_entry.specs.declared.change.Half.TheVariants.{First as FirstHalf, Second as SecondHalf}
-use Rattle.gt_entry.specs.Entries.{frame_of}
-use Rattle.gt_entry.specs.Permits.{permits}
-use Rattle.gt_entry.specs.Words.{control_of}
-use Rattle.gt_calls.specs.declared.held.Held.{Held}
-use Rattle.gt_calls.specs.declared.request.Asked.{Asked}
-use Rattle.gt_calls.specs.declared.request.Asked.TheVariants.{Grant, Map, Copy, SetVersion, SetupTable}
-use Rattle.gt_calls.specs.declared.action.Seen.{Seen}
-use Rattle.gt_calls.specs.declared.action.Step.TheVariants.{Pin as PinStep, StoreHeader, Exchange}
-use Rattle.gt_calls.specs.declared.action.Action.TheVariants.{Step as Makes}
-use Rattle.gt_calls.specs.declared.copying.Aim.{Aim}
-use Rattle.gt_calls.specs.declared.copying.Aim.TheVariants.{Mapping, Source, Dest}
-use Rattle.gt_calls.specs.declared.call.Phase.{Phase}
-use Rattle.gt_calls.specs.declared.call.Phase.TheVariants.{Storing, StoringSecond, Exchanging, Looking, Changing, Walking, Accessing, Asking, Last, Ending}
-use Rattle.gt_calls.specs.declared.leg.Leg.{Leg}
-use Rattle.gt_calls.specs.declared.leg.LegPhase.{LegPhase}
-use Rattle.gt_calls.specs.declared.leg.LegPhase.TheVariants.{Header as AtHeader, Look, Body, Second, Pinning, Relook}
-use Rattle.gt_calls.specs.Holding.{last_first}
-use Rattle.gt_calls.specs.Rules.{CallerKnowledge, begun, stands, first, first_look, before_pin, pins_of, is_outside, is_past_owner, frames_of, rights_to_map}
-use Rattle.gt_calls.specs.Path.{path, held_of, map_leg, Continuation}
-use Rattle.gt_calls.specs.Opening.{opens}
-use Rattle.gt_calls.specs.Resting.{RestsOnTry, RestsOnRequest, RestsOnGrant, IsFor, Lets}
-use Rattle.gt_calls.specs.Machine.{action_at, leg_step, next_to_give}
-use Rattle.gt_calls.specs.Standing.{HasShown, IsQuiet, IsTurn}
-use Rattle.gt_core.specs.States.{State}
-use Rattle.gt_core.specs.History.{History, Setting, entry_at, generation_at, body_at, reads_at, writes_at, control_at, word_at, known_at, legs_at, raise_of}
-use Rattle.gt_core.specs.Legal.{IsSafeChange, IsSpelled, MayUse, NoneStands, leg_at, rule_before_pin, StepsSoFar}
-use Rattle.gt_core.specs.Standing.{DomainsStand, FitsAsked, FitsTable, PhaseStands, numbered}
+use Rattle.gt_core.proofs.Words.{◌≡◌, ◌≢◌, ◌<◌, ◌≤◌, ◌+◌, ◌⊎◌, inl, inr, ℕ, refl, Bool, true, false, List, [], ◌∷◌, Option, None, sym, ap, ◌∙◌, subst, reverse, arith, eqb-true, eqb-false, leb-false, ltb-false, false≢true, ◌==◌, nat_lt, domain_of, resolved, DomId, GrantRef, Dir, Read, Write, ForMap, TABLE_ENTRIES, LAST_GENERATION, MAX_TABLE_FRAMES, MAX_PINS, Rule, N16, Entry, Invalid, Page, Sub, Via, Change, Publish, ToInvalid, ToReadOnly, ToWritable, Half, FirstHalf, SecondHalf, frame_of, permits, control_of, Held, Asked, Grant, Map, Copy, SetVersion, SetupTable, Seen, PinStep, StoreHeader, Exchange, Makes, Aim, Mapping, Source, Dest, Phase, Exchanging, Changing, Walking, Last, Ending, Leg, LegPhase, AtHeader, Pinning, last_first, CallerKnowledge, begun, stands, first, first_look, before_pin, frames_of, path, held_of, map_leg, Continuation, opens, RestsOnRequest, IsFor, action_at, leg_step, next_to_give, HasShown, IsQuiet, State, History, Setting, entry_at, generation_at, body_at, reads_at, writes_at, control_at, word_at, known_at, legs_at, raise_of, IsSafeChange, IsSpelled, MayUse, leg_at, rule_before_pin, StepsSoFar, DomainsStand, FitsAsked, FitsTable, PhaseStands, numbered}
+use Rattle.gt_types.specs.declared.limits.TheConstants.{LAST_VERSION}
+use Rattle.gt_types.specs.declared.denial.Rule.TheVariants.{N14, N17}
+use Rattle.gt_calls.specs.Rules.{pins_of, is_outside, is_past_owner}
+use Rattle.gt_calls.specs.Resting.{RestsOnTry, RestsOnGrant, Lets}
+use Rattle.gt_core.specs.Legal.{NoneStands}
 use Rattle.gt_core.proofs.Fitting.{word-shows}
 use Rattle.gt_core.proofs.Legs.{IsAsTried, as-tried, still-judged, control-generation, control-reads, control-writes}
 use Rattle.gt_core.proofs.Aims.{leg-here}
@@ -65,38 +26,24 @@ pub record CanChange (s : Setting) (h : History) (d : DomId) (gref : GrantRef) (
 -- a publication follows the stores that spell its entry
 publish-spelled : (s : Setting) (h : History) (d : DomId) (r : Asked) (way : Continuation) (shown : List Seen) (so_far : StepsSoFar) (p : Phase) (gref : GrantRef) (looked : ℕ) (entry : Entry) → HasShown (known_at s h d) way d r shown p → PhaseStands s h d r so_far p
     → action_at d p ≡ Makes (Exchange gref looked (Publish entry)) → IsSpelled entry (body_at h d.0 gref.0 FirstHalf) (body_at h d.0 gref.0 SecondHalf)
-publish-spelled s h d r way shown so_far (Storing g e) gref looked entry a b acts = cc
-publish-spelled s h d r way shown so_far (StoringSecond g e) gref looked entry a b acts = cc
 publish-spelled s h d r way shown so_far (Exchanging g w (Publish e)) gref looked entry a b acts =
     let same : e ≡ entry = cc in
     let at : g ≡ gref = cc in
     subst (λ (x : Entry). IsSpelled x (body_at h d.0 gref.0 FirstHalf) (body_at h d.0 gref.0 SecondHalf)) same
     (subst (λ (x : GrantRef). IsSpelled e (body_at h d.0 x.0 FirstHalf) (body_at h d.0 x.0 SecondHalf)) at b)
-publish-spelled s h d r way shown so_far (Exchanging g w ToInvalid) gref looked entry a b acts = cc
-publish-spelled s h d r way shown so_far (Exchanging g w ToReadOnly) gref looked entry a b acts = cc
-publish-spelled s h d r way shown so_far (Exchanging g w ToWritable) gref looked entry a b acts = cc
-publish-spelled s h d r way shown so_far (Looking g change more) gref looked entry a b acts = cc
 publish-spelled s h d r way shown so_far (Changing g (Publish e) more w) gref looked entry a b acts = absurd a.1
-publish-spelled s h d r way shown so_far (Changing g ToInvalid more w) gref looked entry a b acts = cc
-publish-spelled s h d r way shown so_far (Changing g ToReadOnly more w) gref looked entry a b acts = cc
-publish-spelled s h d r way shown so_far (Changing g ToWritable more w) gref looked entry a b acts = cc
 publish-spelled s h d r way shown so_far (Walking aim l at) gref looked entry a b acts = absurd (by at acts)
   where
     by : (z : LegPhase) → Makes (leg_step l z) ≡ Makes (Exchange gref looked (Publish entry)) → ⊥
     by AtHeader e = cc
-    by (Look more) e = cc
-    by (Body more word) e = cc
-    by (Second more word body) e = cc
-    by (Pinning more word body second) e = cc
-    by (Relook more word rule) e = cc
-publish-spelled s h d r way shown so_far (Accessing c source dest) gref looked entry a b acts = cc
-publish-spelled s h d r way shown so_far (Asking dom question) gref looked entry a b acts = cc
+    by z e = cc
 publish-spelled s h d r way shown so_far (Last last verdict) gref looked entry a b acts = absurd (subst IsQuiet (makes-same _ _ acts) a.0)
 publish-spelled s h d r way shown so_far (Ending pins verdict) gref looked entry a b acts = absurd (by (last_first pins) acts)
   where
     by : (held : List Held) → next_to_give held verdict ≡ Makes (Exchange gref looked (Publish entry)) → ⊥
     by [] e = cc
     by (p ∷ ps) e = cc
+publish-spelled s h d r way shown so_far p gref looked entry a b acts = cc
 
 -- a generation has room in its word
 generation-fits : (s : Setting) (h : History) (xs : List State) (t r : ℕ) → DomainsStand s h xs → r < TABLE_ENTRIES → generation_at s h t r ≤ LAST_GENERATION
@@ -238,31 +185,21 @@ can-pin s h xs d r shown so_far phase p i same = by phase i.at.has_shown i.place
   where
     walk : (aim : Aim) (l : Leg) (at : LegPhase) → IsFor (known_at s h d) d r aim l → PhaseStands s h d r so_far (Walking aim l at) → Makes (leg_step l at) ≡ Makes (PinStep p)
         → legs_at h d.0 ≡ numbered 0 (reverse (last_first (Rattle.gt_calls.specs.Holding.pins_so_far aim))) → CanPin s h d r p
-    walk aim l AtHeader is b e held = cc
-    walk aim l (Look more) is b e held = cc
-    walk aim l (Body more word) is b e held = cc
-    walk aim l (Second more word body) is b e held = cc
-    walk aim l (Relook more word rule) is b e held = cc
     walk aim l (Pinning more word body second) is b e held =
         let q : held_of l word body second ≡ p = cc in
         subst (CanPin s h d r) q (taken-pin s h xs d r so_far aim l more word body second i.st is held b (subst (λ (z : Held). word_at s h z.dom.0 z.gref.0 ≡ z.word) (sym q) same))
+    walk aim l at is b e held = cc
 
     by : (z : Phase) → HasShown (known_at s h d) (path (known_at s h d) d r) d r shown z → PhaseStands s h d r so_far z → action_at d z ≡ Makes (PinStep p)
         → legs_at h d.0 ≡ numbered 0 (reverse (last_first (Rattle.gt_calls.specs.Standing.pins_at z))) → CanPin s h d r p
-    by (Storing gref entry) a b e held = cc
-    by (StoringSecond gref entry) a b e held = cc
-    by (Exchanging gref looked change) a b e held = cc
-    by (Looking gref change more) a b e held = cc
-    by (Changing gref change more looked) a b e held = cc
     by (Walking aim l at) a b e held = walk aim l at a.1 b e held
-    by (Accessing c source dest) a b e held = cc
-    by (Asking dom question) a b e held = cc
     by (Last last verdict) a b e held = absurd (subst IsQuiet (makes-same _ _ e) a.0)
     by (Ending pins verdict) a b e held = absurd (give (last_first pins) e)
       where
         give : (l : List Held) → next_to_give l verdict ≡ Makes (PinStep p) → ⊥
         give [] f = cc
         give (q ∷ qs) f = cc
+    by z a b e held = cc
 
 -- a pin that a map takes is lawful
 

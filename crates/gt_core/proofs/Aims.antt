@@ -1,28 +1,8 @@
 -- The leg that an open call walks is the one that its pins tell.
-use Rattle.std.proofs.Common.{◌≡◌, ◌+◌, ℕ, refl, Bool, true, List, [], ◌∷◌, ◌++◌, map, reverse, Option, Some, None, cond, sym, ap, ◌∙◌}
-use Rattle.std.proofs.lemmas.Bool.{false≢true}
-use Rattle.gt_types.specs.declared.DomId.{DomId}
-use Rattle.gt_types.specs.declared.Dir.{Dir}
-use Rattle.gt_types.specs.declared.Dir.TheVariants.{Read, Write}
-use Rattle.gt_types.specs.declared.Use.TheVariants.{Copy as ForCopy}
-use Rattle.gt_entry.specs.declared.entry.Entry.{Entry}
-use Rattle.gt_entry.specs.declared.entry.Entry.TheVariants.{Invalid, Page, Sub, Via}
-use Rattle.gt_entry.specs.Permits.{permits}
-use Rattle.gt_calls.specs.declared.request.Asked.{Asked}
-use Rattle.gt_calls.specs.declared.request.CopyArgs.{CopyArgs}
-use Rattle.gt_calls.specs.declared.held.Held.{Held}
-use Rattle.gt_calls.specs.declared.held.Route.{Route}
-use Rattle.gt_calls.specs.declared.held.Route.TheVariants.{Own, Direct, Through}
-use Rattle.gt_calls.specs.declared.copying.Aim.{Aim}
-use Rattle.gt_calls.specs.declared.copying.Aim.TheVariants.{Mapping, Source, Dest}
-use Rattle.gt_calls.specs.declared.leg.Leg.{Leg}
-use Rattle.gt_calls.specs.Holding.{last_first, pins_so_far, begun_route, held_by}
-use Rattle.gt_calls.specs.Rules.{CallerKnowledge, is_source_granted, is_dest_granted}
-use Rattle.gt_calls.specs.Path.{source_pair, dest_pair}
-use Rattle.gt_calls.specs.Resting.{IsFor, IsToward, IsReached, IsOnFrom, LeadsTo}
-use Rattle.gt_core.specs.History.{History, Setting, known_at, legs_at}
-use Rattle.gt_core.specs.Legal.{LegNow, leg_now, copy_now, toward_source, from_source, after_source, source_now, dest_now, second_now}
-use Rattle.gt_core.specs.Standing.{numbered}
+use Rattle.gt_core.proofs.Words.{◌≡◌, ◌+◌, ℕ, refl, Bool, true, List, [], ◌∷◌, ◌++◌, map, reverse, Option, Some, None, cond, sym, ap, ◌∙◌, false≢true, DomId, Dir, Read, Write, ForCopy, Entry, Page, Sub, Via, permits, Asked, CopyArgs, Held, Route, Direct, Through, Aim, Mapping, Source, Dest, Leg, last_first, pins_so_far, held_by, CallerKnowledge, is_source_granted, is_dest_granted, source_pair, dest_pair, IsFor, IsToward, IsReached, IsOnFrom, LeadsTo, History, Setting, known_at, legs_at, LegNow, numbered}
+use Rattle.gt_calls.specs.declared.held.Route.TheVariants.{Own}
+use Rattle.gt_calls.specs.Holding.{begun_route}
+use Rattle.gt_core.specs.Legal.{leg_now, copy_now, toward_source, from_source, after_source, source_now, dest_now, second_now}
 use Rattle.gt_core.proofs.Legs.{IsLegOf}
 
 -- whose right to copy to whom a Via of this leg asks
@@ -37,29 +17,21 @@ unnumbered n (p ∷ ps) = ap (λ (l : List Held). p ∷ l) (unnumbered (n + 1) p
 
 on-from : (k : CallerKnowledge) (n : LegNow) (e : Entry) (l : Leg) → IsOnFrom k n.leg e l → second_now k n e ≡ Some (record { leg = l; pair = n.pair })
 on-from k n (Via dom ro dom2 gref) l is = ap (λ (x : Leg). Some (record { leg = x; pair = n.pair })) (sym is)
-on-from k n Invalid l is = absurd is
-on-from k n (Page dom ro frame) l is = absurd is
-on-from k n (Sub dom ro frame off len) l is = absurd is
+on-from k n e l is = absurd is
 
 from-via : (k : CallerKnowledge) (d : DomId) (c : CopyArgs) (p : Held) (e : Entry) (l : Leg) → IsOnFrom k (source_now k d c).leg e l → from_source k d c p e [] ≡ Some (record { leg = l; pair = source_pair d c })
 from-via k d c p (Via dom ro dom2 gref) l is = on-from k (source_now k d c) (Via dom ro dom2 gref) l is
-from-via k d c p Invalid l is = absurd is
-from-via k d c p (Page dom ro frame) l is = absurd is
-from-via k d c p (Sub dom ro frame off len) l is = absurd is
+from-via k d c p e l is = absurd is
 
 past-via : (k : CallerKnowledge) (d : DomId) (c : CopyArgs) (p q : Held) (e : Entry) (more : List Held) → LeadsTo e q → from_source k d c p e (q ∷ more) ≡ after_source k d c (Through p q) more
 past-via k d c p q (Via dom ro dom2 gref) more leads = refl
-past-via k d c p q Invalid more leads = absurd leads
-past-via k d c p q (Page dom ro frame) more leads = absurd leads
-past-via k d c p q (Sub dom ro frame off len) more leads = absurd leads
+past-via k d c p q e more leads = absurd leads
 
 past-direct : (k : CallerKnowledge) (d judged : DomId) (dir : Dir) (off len : ℕ) (c : CopyArgs) (p : Held) (e : Entry) (more : List Held) → permits e judged dir ForCopy off len ≡ true
     → from_source k d c p e more ≡ after_source k d c (Direct p) more
 past-direct k d judged dir off len c p (Page dom ro frame) more may = refl
 past-direct k d judged dir off len c p (Sub dom ro frame start size) more may = refl
-past-direct k d judged dir off len c p Invalid more may = absurd (false≢true may)
-past-direct k d judged dir off len c p (Via dom ro dom2 gref) [] may = absurd (false≢true may)
-past-direct k d judged dir off len c p (Via dom ro dom2 gref) (q ∷ more) may = absurd (false≢true may)
+past-direct k d judged dir off len c p e more may = absurd (false≢true may)
 
 granted-source : (k : CallerKnowledge) (d : DomId) (c : CopyArgs) (held : List Held) → is_source_granted c ≡ true → copy_now k d c held ≡ toward_source k d c held
 granted-source k d c held e = ap (λ (b : Bool). cond b (toward_source k d c held) (after_source k d c Own held)) e

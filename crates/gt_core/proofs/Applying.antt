@@ -1,35 +1,16 @@
 -- What a step leaves of the states, as a call of a slice tells it.
-use Rattle.std.proofs.Common.{◌≡◌, ◌++◌, ℕ, refl, List, length, take, drop, ap, ◌∙◌, arith}
-use Rattle.std.proofs.lemmas.List.{append-nil, take_all, drop_all}
-use Rattle.gt_types.specs.declared.DomId.{DomId}
-use Rattle.gt_calls.specs.declared.action.Step.{Step}
-use Rattle.gt_calls.specs.declared.action.Step.TheVariants.{LookHeader, LookControl, LookBody, Pin as PinStep, Unpin, StoreBody, StoreHeader, Exchange, Read as ReadBytes, Write as WriteBytes, Copy as CopyBytes}
-use Rattle.gt_calls.specs.declared.action.Seen.{Seen}
-use Rattle.gt_calls.specs.declared.action.Seen.TheVariants.{Nothing, Word, Taken, Missed}
-use Rattle.gt_core.specs.declared.slot.SlotChange.TheVariants.{Pinned, Unpinned, Stored}
-use Rattle.gt_core.specs.States.{State, changed_in}
-use Rattle.gt_core.specs.Effects.{applied, with_slot, with_own, with_header, without_mapping}
+use Rattle.gt_core.proofs.Words.{◌≡◌, ◌++◌, ℕ, refl, List, length, take, drop, ap, ◌∙◌, arith, append-nil, take_all, drop_all, DomId, Step, PinStep, Unpin, StoreBody, StoreHeader, Exchange, Seen, Taken, Unpinned, Stored, State, changed_in, applied, with_slot, with_own, with_header, without_mapping}
+use Rattle.gt_core.specs.declared.slot.SlotChange.TheVariants.{Pinned}
 use Rattle.gt_core.proofs.Rows.{length-changed_in}
 
 length-applied : (d : DomId) (step : Step) (seen : Seen) (xs : List State) → length (applied d step seen xs) ≡ length xs
-length-applied d (LookHeader dom) seen xs = refl
-length-applied d (LookControl dom gref) seen xs = refl
-length-applied d (LookBody dom gref half) seen xs = refl
-length-applied d (ReadBytes dom frame off len) seen xs = refl
-length-applied d (WriteBytes dom frame off len) seen xs = refl
 length-applied d (PinStep p) Taken xs = length-changed_in xs p.dom.0 (with_slot p.gref.0 (Pinned p.dir))
-length-applied d (PinStep p) (Missed w) xs = refl
-length-applied d (PinStep p) (Word w) xs = refl
-length-applied d (PinStep p) Nothing xs = refl
 length-applied d (Exchange gref looked change) Taken xs = length-changed_in xs d.0 (with_own gref.0 change)
-length-applied d (Exchange gref looked change) (Missed w) xs = refl
-length-applied d (Exchange gref looked change) (Word w) xs = refl
-length-applied d (Exchange gref looked change) Nothing xs = refl
 length-applied d (Unpin p holder) seen xs =
     length-changed_in (changed_in p.dom.0 (with_slot p.gref.0 (Unpinned p.dir)) xs) d.0 (without_mapping holder) ∙ length-changed_in xs p.dom.0 (with_slot p.gref.0 (Unpinned p.dir))
 length-applied d (StoreBody gref half word) seen xs = length-changed_in xs d.0 (with_slot gref.0 (Stored half word))
 length-applied d (StoreHeader version frames) seen xs = length-changed_in xs d.0 (with_header version frames)
-length-applied d (CopyBytes from to len) seen xs = refl
+length-applied d step seen xs = refl
 
 -- what a call of a slice leaves of a vector
 pub slice-after : (n : ℕ) (d : DomId) (step : Step) (seen : Seen) (xs ys zs : List State) → length xs ≡ n → ys ≡ xs → zs ≡ applied d step seen ys → take n (zs ++ drop (length zs) xs) ≡ applied d step seen xs

@@ -1,30 +1,7 @@
 -- What a history leaves is the same without keys.
-use Rattle.std.proofs.Common.{◌≡◌, ◌+◌, ◌⊎◌, inl, inr, ℕ, refl, Bool, true, false, List, [], ◌∷◌, ◌++◌, map, Option, Some, None, cond, sym, ap, ◌∙◌}
-use Rattle.std.specs.Prelude.{◌==◌}
-use Rattle.std.specs.Option.{option_map}
-use mathlib.Core.Path.{fun_ext}
-use Rattle.gt_types.specs.declared.DomId.{DomId}
-use Rattle.gt_entry.specs.declared.entry.Entry.{Entry}
-use Rattle.gt_entry.specs.declared.header.Header.{Header}
-use Rattle.gt_entry.specs.declared.change.Change.{Change}
-use Rattle.gt_entry.specs.declared.change.Half.{Half}
-use Rattle.gt_calls.specs.Asking.{asked, given_by}
-use Rattle.gt_calls.specs.declared.request.Request.{Request}
+use Rattle.gt_core.proofs.Words.{◌≡◌, ◌+◌, ◌⊎◌, inl, inr, ℕ, refl, Bool, true, false, List, [], ◌∷◌, ◌++◌, map, Option, Some, None, cond, sym, ap, ◌∙◌, ◌==◌, option_map, fun_ext, DomId, Entry, Header, Change, Half, asked, given_by, Request, Asked, Unmap, Load, Store, ByMapping, Seen, Step, Unpin, Answer, Mapped, Bytes, Happened, Began, Stepped, Item, Patch, written, History, Setting, Underway, Writing, entry_at, entry_after, change_at, change_of, raises_at, raise_after, body_at, or_else, stored_at, table_at, header_or, header_stored, open_call, underway_with, underway_after, maps_answered_at, one_if_mapped, contents_at, patches_by, patches_at, written_by, given_in, values, bare_handle, bare_request, bare_step, bare_happened, told, told_item, told_items, ToldItem, SameHistory}
 use Rattle.gt_calls.specs.declared.request.Request.TheVariants as requests
-use Rattle.gt_calls.specs.declared.request.Asked.{Asked}
-use Rattle.gt_calls.specs.declared.request.Asked.TheVariants.{Unmap, Load, Store}
-use Rattle.gt_calls.specs.declared.request.Holder.TheVariants.{Mapping as ByMapping}
-use Rattle.gt_calls.specs.declared.action.Seen.{Seen}
-use Rattle.gt_calls.specs.declared.action.Step.{Step}
-use Rattle.gt_calls.specs.declared.action.Step.TheVariants.{Unpin}
-use Rattle.gt_core.specs.declared.trace.Answer.{Answer}
-use Rattle.gt_core.specs.declared.trace.Answer.TheVariants.{Done, Mapped, Bytes}
-use Rattle.gt_core.specs.declared.trace.Happened.{Happened}
-use Rattle.gt_core.specs.declared.trace.Happened.TheVariants.{Began, Stepped}
-use Rattle.gt_core.specs.declared.trace.Item.{Item}
-use Rattle.gt_frames.specs.Bytes.{Patch, written}
-use Rattle.gt_core.specs.History.{History, Setting, Underway, Writing, entry_at, entry_after, change_at, change_of, raises_at, raise_after, body_at, or_else, stored_at, table_at, header_or, header_stored, open_call, underway_with, underway_after, maps_answered_at, one_if_mapped, contents_at, patches_by, patches_at, written_by, given_in, values}
-use Rattle.gt_core.specs.Alike.{bare_handle, bare_request, bare_step, bare_happened, told, told_item, told_items, ToldItem, SameHistory}
+use Rattle.gt_core.specs.declared.trace.Answer.TheVariants.{Done}
 
 -- an answer that tells this, where bytes are no matter
 abbrev pub answer_from : Answer ⊎ List ℕ → Answer

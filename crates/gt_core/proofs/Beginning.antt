@@ -1,70 +1,23 @@
 -- A beginning keeps what a core stands for.
-use Rattle.std.proofs.Common.{arith, ◌≤◌, ◌≡◌, ◌≢◌, ◌<◌, ◌+◌, inl, inr, ℕ, refl, Bool, true, false, List, [], ◌∷◌, length, Option, Some, None, cond, sym, ap, ◌∙◌, subst, get_or, set, reverse}
-use Rattle.std.proofs.lemmas.Bool.{eqb-true, true≢false}
-use Rattle.std.proofs.lemmas.Option.{slice_get_read, same_Some}
-use Rattle.std.proofs.lemmas.List.Quantifiers.{position-Some}
-use Rattle.std.specs.Prelude.{All, nat_lt, nat_le, ◌==◌, ◌||◌, ◌^◌, not, is_none, is_some, position, slice_get}
-use Rattle.gt_types.specs.Names.{domain_of, resolved}
-use Rattle.gt_types.specs.Denial.{denial_of}
-use Rattle.gt_types.specs.declared.DomId.{DomId}
-use Rattle.gt_types.specs.declared.TypeId.{TypeId}
-use Rattle.gt_types.specs.declared.Dir.TheVariants.{Read, Write}
-use Rattle.gt_types.specs.declared.perms.Perms.{Perms}
-use Rattle.gt_types.specs.declared.rights.Triple.{Triple}
-use Rattle.gt_types.specs.declared.limits.TheConstants.{FRAME_SIZE, LAST_GENERATION, MAX_MAPPINGS, MAX_TABLE_FRAMES}
+use Rattle.gt_core.proofs.Words.{arith, ◌≤◌, ◌≡◌, ◌≢◌, ◌<◌, ◌+◌, inl, inr, ℕ, refl, Bool, true, false, List, [], ◌∷◌, length, Option, Some, None, cond, sym, ap, ◌∙◌, subst, get_or, set, reverse, eqb-true, true≢false, slice_get_read, same_Some, position-Some, All, nat_lt, nat_le, ◌==◌, ◌||◌, not, is_none, is_some, position, slice_get, domain_of, resolved, denial_of, DomId, TypeId, Read, Write, Perms, Triple, FRAME_SIZE, LAST_GENERATION, MAX_TABLE_FRAMES, Rule, N1, N5, N6, N9, N10, N16, Policy, Entry, Header, Change, ToReadOnly, ToWritable, Held, Request, CopyArgs, Asked, Grant, Revoke, Demote, Promote, Map, Unmap, Load, SetVersion, SetupTable, QuerySize, GetVersion, Store, Peek, Poke, Copy, Seen, Verdict, Given, Refused, FramesTold, Makes, Done, END_OF_SERIALS, Call, Phase, Walking, Accessing, Ending, Source, Dest, AtHeader, asked, begun_of, given_by, CallerKnowledge, first, refused_when, denied, unmap_denied, rights_to_map, rights_to_copy, size_of, begun, knowledge_of, frames_of, is_source_granted, is_dest_granted, opens, end_leg, action_at, at_dest, StandsAt, held_in, pins_at, GoesOn, Goes, Starts, path, Nothing, Step, Action, Rests, Pins, most_of, steps_left, Item, Began, Answer, AnswerDone, Open, State, state_of, kept_by, with_call, History, Setting, table_at, known_at, Underway, open_call, legs_at, one_if_mapped, LeavesAll, stood, AnsweredBy, GivesValue, refusal_in, refusal_of, IsRight, IsClean, phase_refusal, FitsAsked, PhaseStands, OpenAgrees, CallAgrees, FitsGiven, GivenAgrees, Agrees, StateAgrees, DomainsStand, Opens, numbered}
+use Rattle.std.specs.Prelude.{◌^◌}
+use Rattle.gt_types.specs.declared.limits.TheConstants.{MAX_MAPPINGS}
 use Rattle.gt_types.specs.declared.denial.Field.{Field}
-use Rattle.gt_types.specs.declared.denial.Rule.{Rule}
-use Rattle.gt_types.specs.declared.denial.Rule.TheVariants.{N1, N2, N3, N4, N5, N6, N7, N8, N9, N10, N16, N20, N21, N22, N23, N24}
-use Rattle.gt_types.specs.declared.denial.Facts.TheVariants.{Policy}
-use Rattle.gt_entry.specs.declared.entry.Entry.{Entry}
-use Rattle.gt_entry.specs.declared.header.Header.{Header}
-use Rattle.gt_entry.specs.declared.change.Change.{Change}
-use Rattle.gt_entry.specs.declared.change.Change.TheVariants.{Demote as ToReadOnly, Promote as ToWritable}
+use Rattle.gt_types.specs.declared.denial.Rule.TheVariants.{N2, N3, N4, N7, N8, N20, N21, N22, N23, N24}
 use Rattle.gt_entry.specs.Bytes.{first_refused}
-use Rattle.gt_calls.specs.declared.held.Held.{Held}
 use Rattle.gt_calls.specs.declared.held.Route.TheVariants.{Own}
-use Rattle.gt_calls.specs.declared.request.Request.{Request}
 use Rattle.gt_calls.specs.declared.request.Request.TheVariants as requests
-use Rattle.gt_calls.specs.declared.request.CopyArgs.{CopyArgs}
-use Rattle.gt_calls.specs.declared.request.Asked.{Asked}
-use Rattle.gt_calls.specs.declared.request.Asked.TheVariants.{Grant, Revoke, Demote, Promote, Map, Unmap, Load, SetVersion, SetupTable, QuerySize, GetVersion, Store, Peek, Poke, Copy}
-use Rattle.gt_calls.specs.declared.action.Seen.{Seen}
-use Rattle.gt_calls.specs.declared.action.Verdict.{Verdict}
-use Rattle.gt_calls.specs.declared.action.Verdict.TheVariants.{Granted, Given, Refused, Mapped as KeptPin}
-use Rattle.gt_calls.specs.declared.action.Value.TheVariants.{Frames as FramesTold, Size as SizeTold, Version as VersionTold}
-use Rattle.gt_calls.specs.declared.action.Action.TheVariants.{Step as Makes, Done}
-use Rattle.gt_calls.specs.declared.judging.TheConstants.{END_OF_SERIALS}
-use Rattle.gt_calls.specs.declared.call.Call.{Call}
-use Rattle.gt_calls.specs.declared.call.Phase.{Phase}
-use Rattle.gt_calls.specs.declared.call.Phase.TheVariants.{Storing, StoringSecond, Exchanging, Looking, Changing, Walking, Accessing, Asking, Last, Ending}
-use Rattle.gt_calls.specs.declared.copying.Aim.TheVariants.{Source, Dest}
-use Rattle.gt_calls.specs.declared.leg.LegPhase.TheVariants.{Header as AtHeader}
-use Rattle.gt_calls.specs.Asking.{asked, field_refused, begun_of, bytes_begun, IsSaid, given_by}
-use Rattle.gt_calls.specs.Rules.{CallerKnowledge, first, refused_when, granted_when, given_when, denied, unmap_denied, rights_to_map, rights_to_unmap, rights_to_copy, rights_to_setup, rights_to_query, map_dir, is_already, change_begun, version_begun, setup_begun, query_begun, own_access_begun, is_version, has_valid, cannot_stand, is_for_reading, is_invalid, size_of, begun, knowledge_of, frames_of, ends_named, ends_ranged, ends_owned, ends_framed, is_foreign, is_past_frames, is_source_granted, is_dest_granted}
-use Rattle.gt_calls.specs.Opening.{opens}
-use Rattle.gt_calls.specs.Path.{end_leg}
-use Rattle.gt_calls.specs.Machine.{first_phase, action_at, at_dest, unmap_phase, load_phase, store_phase}
-use Rattle.gt_calls.specs.Standing.{IsFresh, StandsAt, IsAt, held_in, pins_at, pins_by_call}
-use Rattle.gt_calls.specs.Following.{GoesOn, Goes, Starts, MakesStep}
-use Rattle.gt_calls.specs.Path.{path}
+use Rattle.gt_calls.specs.Asking.{field_refused, bytes_begun, IsSaid}
+use Rattle.gt_calls.specs.Rules.{granted_when, given_when, rights_to_unmap, rights_to_setup, rights_to_query, map_dir, is_already, change_begun, version_begun, setup_begun, query_begun, own_access_begun, is_version, has_valid, cannot_stand, is_for_reading, is_invalid, ends_named, ends_ranged, ends_owned, ends_framed, is_foreign, is_past_frames}
+use Rattle.gt_calls.specs.Machine.{first_phase, unmap_phase, load_phase, store_phase}
+use Rattle.gt_calls.specs.Standing.{IsFresh, IsAt, pins_by_call}
+use Rattle.gt_calls.specs.Following.{MakesStep}
 use Rattle.gt_calls.specs.declared.call.Start.TheVariants.{Open as StartOpen}
-use Rattle.gt_calls.specs.declared.action.Seen.TheVariants.{Nothing}
-use Rattle.gt_calls.specs.declared.action.Step.{Step}
-use Rattle.gt_calls.specs.declared.action.Action.{Action}
-use Rattle.gt_calls.specs.Resting.{Rests}
-use Rattle.gt_calls.specs.declared.held.Pins.{Pins}
-use Rattle.gt_calls.specs.Counting.{most_steps as most_of, steps_left, steps_to_come}
-use Rattle.gt_core.specs.declared.trace.Item.{Item}
-use Rattle.gt_core.specs.declared.trace.Happened.TheVariants.{Began}
-use Rattle.gt_core.specs.declared.trace.Answer.{Answer}
-use Rattle.gt_core.specs.declared.trace.Answer.TheVariants.{Frames, Done as AnswerDone}
-use Rattle.gt_core.specs.declared.slot.Open.{Open}
+use Rattle.gt_calls.specs.Counting.{steps_to_come}
+use Rattle.gt_core.specs.declared.trace.Answer.TheVariants.{Frames}
 use Rattle.gt_core.specs.declared.machine.Opening.TheVariants.{Open as OpeningOpen}
-use Rattle.gt_core.specs.States.{State, state_of, asks_memory, kept_by}
-use Rattle.gt_core.specs.Effects.{with_call}
-use Rattle.gt_core.specs.History.{History, Setting, table_at, known_at, Underway, open_call, legs_at, one_if_mapped}
-use Rattle.gt_core.specs.Legal.{LeavesAll, stood, AnsweredBy, GivesValue, refusal_in, refusal_of, MayDo, IsRight}
-use Rattle.gt_core.specs.Standing.{IsMapping, IsClean, phase_refusal, WantsMemory, IsOpened, FitsAsked, PhaseStands, OpenAgrees, CallAgrees, FitsGiven, GivenAgrees, Agrees, StateAgrees, DomainsStand, answer_of, Opens, numbered}
+use Rattle.gt_core.specs.States.{asks_memory}
+use Rattle.gt_core.specs.Standing.{IsMapping, WantsMemory, IsOpened, answer_of}
 use Rattle.gt_core.proofs.Quiet.{KeepsKnown, kept-known, kept-legs}
 use Rattle.gt_core.proofs.Places.{has_id, found, not-found, state_of-set}
 use Rattle.gt_core.proofs.Phases.{of-run}
@@ -95,11 +48,6 @@ call-some s h id (Some o) (Some c) e a n = cc
 -- an opened call
 
 held-by : (k : CallerKnowledge) (d : DomId) (r : Asked) → held_in (first_phase k d r) ≡ []
-held-by k d (Grant gref entry) = refl
-held-by k d (Revoke gref) = refl
-held-by k d (Demote gref) = refl
-held-by k d (Promote gref) = refl
-held-by k d (Map dom gref flags) = refl
 held-by k d (Unmap handle) = by (k.mapping handle)
   where
     by : (o : Option Held) → held_in (unmap_phase handle o) ≡ []
@@ -115,23 +63,15 @@ held-by k d (Store handle off len) = by (k.mapping handle)
     by : (o : Option Held) → held_in (store_phase o off len) ≡ []
     by None = refl
     by (Some m) = refl
-held-by k d (Peek frame off len) = refl
-held-by k d (Poke frame off len) = refl
 held-by k d (Copy c) = by (is_source_granted c) (is_dest_granted c)
   where
     by : (a b : Bool) → held_in (cond a (Walking (Source c None) (end_leg k d c.source Read c.len) AtHeader) (cond b (Walking (Dest c Own None) (end_leg k d c.dest Write c.len) AtHeader) (Accessing c Own Own))) ≡ []
-    by true b = refl
     by false true = refl
-    by false false = refl
-held-by k d (SetVersion version) = refl
-held-by k d (SetupTable frames) = refl
-held-by k d (QuerySize dom) = refl
-held-by k d (GetVersion dom) = refl
+    by a b = refl
+held-by k d r = refl
 
 first-place : (s : Setting) (h : History) (d : DomId) (r : Asked) → begun (known_at s h d) d r ≡ None → PhaseStands s h d r [] (first_phase (known_at s h d) d r)
 unfolding Rattle.gt_core.specs.Legal.misses
-first-place s h d (Grant gref entry) e = tt
-first-place s h d (Revoke gref) e = tt
 first-place s h d (Demote gref) e = (refl, refl)
 first-place s h d (Promote gref) e = (refl, refl)
 first-place s h d (Map dom gref flags) e = (of-run (domain_of s.domains (resolved d dom)) (opens (known_at s h d) d (Map dom gref flags) e).of_run, tt)
@@ -161,82 +101,37 @@ first-place s h d (SetVersion version) e = inl (refl, refl)
 first-place s h d (SetupTable frames) e = inr (refl, refl)
 first-place s h d (QuerySize dom) e = (dom, refl, refl)
 first-place s h d (GetVersion dom) e = (dom, refl, refl)
+first-place s h d r e = tt
 
 -- a call that opens has no rule against it where it then stands
 first-plain : (k : CallerKnowledge) (d : DomId) (r : Asked) → begun k d r ≡ None → phase_refusal (first_phase k d r) ≡ None
-first-plain k d (Grant gref entry) e = refl
-first-plain k d (Revoke gref) e = refl
-first-plain k d (Demote gref) e = refl
-first-plain k d (Promote gref) e = refl
-first-plain k d (Map dom gref flags) e = refl
 first-plain k d (Unmap handle) e = ap (λ (o : Option Held). phase_refusal (unmap_phase handle o)) (opens k d (Unmap handle) e).found
 first-plain k d (Load handle off len) e = ap (λ (o : Option Held). phase_refusal (load_phase o off len)) (opens k d (Load handle off len) e).found
 first-plain k d (Store handle off len) e = ap (λ (o : Option Held). phase_refusal (store_phase o off len)) (opens k d (Store handle off len) e).found
-first-plain k d (Peek frame off len) e = refl
-first-plain k d (Poke frame off len) e = refl
 first-plain k d (Copy c) e = by (is_source_granted c) (is_dest_granted c)
   where
     by : (a b : Bool) → phase_refusal (cond a (Walking (Source c None) (end_leg k d c.source Read c.len) AtHeader) (cond b (Walking (Dest c Own None) (end_leg k d c.dest Write c.len) AtHeader) (Accessing c Own Own))) ≡ None
-    by true b = refl
     by false true = refl
-    by false false = refl
-first-plain k d (SetVersion version) e = refl
-first-plain k d (SetupTable frames) e = refl
-first-plain k d (QuerySize dom) e = refl
-first-plain k d (GetVersion dom) e = refl
+    by a b = refl
+first-plain k d r e = refl
 
 all-nothing : {A : Type 0} (P : A → Type 0) → All P []
 all-nothing P = λ i x below. absurd (omega arith)
 
 clean-nothing : (p : Phase) → IsClean p []
-clean-nothing (Storing gref entry) = all-nothing LeavesAll
-clean-nothing (StoringSecond gref entry) = all-nothing LeavesAll
-clean-nothing (Exchanging gref looked change) = all-nothing LeavesAll
-clean-nothing (Looking gref change more) = all-nothing LeavesAll
-clean-nothing (Changing gref change more looked) = all-nothing LeavesAll
-clean-nothing (Walking aim l at) = all-nothing LeavesAll
-clean-nothing (Accessing copy source dest) = all-nothing LeavesAll
-clean-nothing (Asking dom question) = all-nothing LeavesAll
-clean-nothing (Last step verdict) = all-nothing LeavesAll
 clean-nothing (Ending pins verdict) = inr (all-nothing LeavesAll)
+clean-nothing p = all-nothing LeavesAll
 
 -- a call keeps the bytes that are given to it
 kept-given : (request : Request) → kept_by (asked request) (given_by request) ≡ given_by request
 kept-given (requests.Grant gref entry) = refl
-kept-given (requests.GrantBytes gref bytes) = refl
-kept-given (requests.Revoke gref) = refl
-kept-given (requests.Demote gref) = refl
-kept-given (requests.Promote gref) = refl
-kept-given (requests.Map dom gref flags) = refl
-kept-given (requests.Unmap handle) = refl
-kept-given (requests.Load handle off len) = refl
-kept-given (requests.Store handle off bytes) = refl
-kept-given (requests.Peek frame off len) = refl
-kept-given (requests.Poke frame off bytes) = refl
-kept-given (requests.Copy c) = refl
-kept-given (requests.SetVersion version) = refl
-kept-given (requests.SetupTable frames) = refl
-kept-given (requests.QuerySize dom) = refl
-kept-given (requests.GetVersion dom) = refl
+kept-given request = refl
 
 -- where nothing stands against it, they end inside a frame
 given-fits : (k : CallerKnowledge) (d : DomId) (request : Request) → begun_of k d request ≡ None → FitsGiven (asked request) (given_by request)
 given-fits k d (requests.Store handle off bytes) e = (refl, (opens k d (Store handle off (length bytes.now)) e).range)
 given-fits k d (requests.Poke frame off bytes) e = (refl, (opens k d (Poke frame off (length bytes.now)) e).range)
-given-fits k d (requests.Grant gref entry) e = tt
-given-fits k d (requests.GrantBytes gref bytes) e = tt
-given-fits k d (requests.Revoke gref) e = tt
-given-fits k d (requests.Demote gref) e = tt
-given-fits k d (requests.Promote gref) e = tt
-given-fits k d (requests.Map dom gref flags) e = tt
-given-fits k d (requests.Unmap handle) e = tt
-given-fits k d (requests.Load handle off len) e = tt
-given-fits k d (requests.Peek frame off len) e = tt
-given-fits k d (requests.Copy c) e = tt
-given-fits k d (requests.SetVersion version) e = tt
-given-fits k d (requests.SetupTable frames) e = tt
-given-fits k d (requests.QuerySize dom) e = tt
-given-fits k d (requests.GetVersion dom) e = tt
+given-fits k d request e = tt
 
 -- a call that was just begun has the bytes of its request
 given-begins : (i : Item) (h : History) (d : DomId) (request : Request) (given : List ℕ)
@@ -300,20 +195,12 @@ begin-opens s h d request o fits a closed op =
 -- a call that is answered at once
 
 pub plain-unmapped : (v : Verdict) → one_if_mapped (Some (answer_of v)) ≡ 0
-plain-unmapped Granted = refl
-plain-unmapped (KeptPin p) = refl
 plain-unmapped (Given (FramesTold n)) = refl
-plain-unmapped (Given (SizeTold z)) = refl
-plain-unmapped (Given (VersionTold n)) = refl
-plain-unmapped (Refused denial) = refl
+plain-unmapped v = refl
 
 pub plain-refusal : (v : Verdict) → refusal_of (answer_of v) ≡ refusal_in (Some v)
-plain-refusal Granted = refl
-plain-refusal (KeptPin p) = refl
 plain-refusal (Given (FramesTold n)) = refl
-plain-refusal (Given (SizeTold z)) = refl
-plain-refusal (Given (VersionTold n)) = refl
-plain-refusal (Refused denial) = refl
+plain-refusal v = refl
 
 -- what holds of a verdict, if there is one
 

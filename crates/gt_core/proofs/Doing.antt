@@ -1,46 +1,13 @@
 -- What an event does after a history, but for keys, is a function of the history; and it is the same without keys.
-use Rattle.std.proofs.Common.{◌≡◌, ◌≢◌, ◌⊎◌, inl, inr, ℕ, refl, Bool, false, List, [], ◌∷◌, ◌++◌, length, Option, Some, None, is_none, sym, ap, ◌∙◌, subst, take, drop}
-use Rattle.std.specs.Option.{option_map}
-use Rattle.std.proofs.lemmas.Option.{none-some, same_Some}
-use Rattle.gt_types.specs.Names.{domain_of}
-use Rattle.gt_types.specs.declared.DomId.{DomId}
-use Rattle.gt_types.specs.declared.config.DomainConfig.{DomainConfig}
-use Rattle.gt_types.specs.declared.denial.Denial.{Denial}
-use Rattle.gt_types.specs.declared.denial.Rule.TheVariants.{N6}
-use Rattle.gt_types.specs.declared.limits.TheConstants.{MAX_TABLE_FRAMES}
-use Rattle.gt_entry.specs.declared.header.Header.{Header}
-use Rattle.gt_entry.specs.Words.{header_word}
-use Rattle.gt_handles.specs.declared.handles.Handle.{Handle}
-use Rattle.gt_calls.specs.Asking.{asked, begun_of}
-use Rattle.gt_calls.specs.Rules.{CallerKnowledge, first, refused_when, unmap_begun, unmap_denied, load_begun, store_begun}
-use Rattle.gt_calls.specs.Path.{Continuation, path, ended, makes, by_mapping, after_beginning}
-use Rattle.gt_calls.specs.declared.held.Held.{Held}
-use Rattle.gt_calls.specs.declared.request.Request.{Request}
+use Rattle.gt_core.proofs.Words.{◌≡◌, ◌≢◌, ◌⊎◌, inl, inr, ℕ, refl, Bool, false, List, [], ◌∷◌, ◌++◌, length, Option, Some, None, sym, ap, ◌∙◌, subst, take, drop, option_map, none-some, same_Some, domain_of, DomId, DomainConfig, Denial, N6, MAX_TABLE_FRAMES, Header, header_word, Handle, asked, begun_of, CallerKnowledge, first, refused_when, unmap_denied, Continuation, path, ended, makes, after_beginning, Held, Request, Asked, Map, Unmap, Load, Store, Peek, SetupTable, QuerySize, GetVersion, Holder, ByMapping, Seen, Nothing, Word, Step, LookHeader, LookControl, LookBody, PinStep, Unpin, StoreHeader, Exchange, ReadBytes, WriteBytes, Action, Makes, Verdict, Granted, Answer, Event, Begin, Tick, Happened, Began, Stepped, Item, Element, Busy, Idle, NoDomain, Did, History, Setting, Underway, open_call, values, known_at, seen_by, exchange_sees, table_at, maps_answered_at, contents_at, mappings_at, mapping_of, MayDo, IsRight, StepsRight, StepsRightIn, AnsweredBy, GivesValue, refusal_of, refusal_in, verdict_in, gives_back, stood, bare_handle, bare_request, bare_event, bare_step, told, told_item, ToldItem, AsksKnown, IsOfKnown, IsRun}
+use Rattle.std.proofs.Common.{is_none}
+use Rattle.gt_calls.specs.Rules.{unmap_begun, load_begun, store_begun}
+use Rattle.gt_calls.specs.Path.{by_mapping}
 use Rattle.gt_calls.specs.declared.request.Request.TheVariants as requests
-use Rattle.gt_calls.specs.declared.request.Asked.{Asked}
-use Rattle.gt_calls.specs.declared.request.Asked.TheVariants.{Map, Unmap, Load, Store, Peek, SetupTable, QuerySize, GetVersion}
-use Rattle.gt_calls.specs.declared.request.Holder.{Holder}
-use Rattle.gt_calls.specs.declared.request.Holder.TheVariants.{Mapping as ByMapping}
-use Rattle.gt_calls.specs.declared.action.Seen.{Seen}
-use Rattle.gt_calls.specs.declared.action.Seen.TheVariants.{Nothing, Word}
-use Rattle.gt_calls.specs.declared.action.Step.{Step}
-use Rattle.gt_calls.specs.declared.action.Step.TheVariants.{LookHeader, LookControl, LookBody, Pin as PinStep, Unpin, StoreHeader, Exchange, Read as ReadBytes, Write as WriteBytes}
-use Rattle.gt_calls.specs.declared.action.Action.{Action}
-use Rattle.gt_calls.specs.declared.action.Action.TheVariants.{Step as Makes, Done as Ends}
-use Rattle.gt_calls.specs.declared.action.Verdict.{Verdict}
-use Rattle.gt_calls.specs.declared.action.Verdict.TheVariants.{Granted}
-use Rattle.gt_core.specs.declared.trace.Answer.{Answer}
+use Rattle.gt_calls.specs.declared.action.Action.TheVariants.{Done as Ends}
 use Rattle.gt_core.specs.declared.trace.Answer.TheVariants as answers
-use Rattle.gt_core.specs.declared.trace.Event.{Event}
-use Rattle.gt_core.specs.declared.trace.Event.TheVariants.{Begin, Tick}
-use Rattle.gt_core.specs.declared.trace.Happened.{Happened}
-use Rattle.gt_core.specs.declared.trace.Happened.TheVariants.{Began, Stepped}
-use Rattle.gt_core.specs.declared.trace.Item.{Item}
-use Rattle.gt_core.specs.declared.trace.Element.{Element}
-use Rattle.gt_core.specs.declared.trace.Element.TheVariants.{Busy, Idle, NoDomain, Item as Did}
-use Rattle.gt_core.specs.History.{History, Setting, Underway, open_call, values, known_at, seen_by, exchange_sees, table_at, maps_answered_at, contents_at, mappings_at, mapping_of, frame_of}
-use Rattle.gt_core.specs.Legal.{MayDo, IsRight, BeginsRight, StepsRight, StepsRightIn, AnsweredBy, GivesValue, refusal_of, refusal_in, verdict_in, gives_back, stood}
-use Rattle.gt_core.specs.Alike.{bare_handle, bare_request, bare_event, bare_step, told, told_item, ToldItem, AsksKnown, IsOfKnown, IsRun}
+use Rattle.gt_core.specs.History.{frame_of}
+use Rattle.gt_core.specs.Legal.{BeginsRight}
 use Rattle.gt_core.proofs.Makers.{NamesAsked, only-path}
 use Rattle.gt_core.proofs.Bare.{bare, bare_asked, bare_call, asked-bare, open-bare, values-bare, table-bare, body-bare, maps-bare, contents-bare}
 use Rattle.gt_core.proofs.Given.{CallKnown, open-known}
@@ -81,9 +48,8 @@ same-step r (Unpin p (ByMapping a)) plain names = absurd (plain a names)
 same-step r step plain names = refl
 
 same-action : (r : Asked) (o : Option Action) → ((a : Handle) → r ≡ Unmap a → ⊥) → ((step : Step) → o ≡ Some (Makes step) → NamesAsked r step) → o ≡ option_map bare_action o
-same-action r None plain names = refl
-same-action r (Some (Ends v)) plain names = refl
 same-action r (Some (Makes step)) plain names = ap (λ (z : Step). Some (Makes z)) (sym (same-step r step plain (names step refl)))
+same-action r o plain names = refl
 
 path-bare : (k : CallerKnowledge) (found : Handle → Option Held) (d : DomId) (r : Asked) (vs : List Seen) → FindsSame found k.mapping r
     → path (record k { mapping = found }) d (bare_asked r) vs ≡ option_map bare_action (path k d r vs)
@@ -105,7 +71,6 @@ begun-bare : (k : CallerKnowledge) (found : Handle → Option Held) (d : DomId) 
 begun-bare k found d (requests.Unmap a) same = ap (λ (o : Option Held). first (refused_when (is_none o) N6 ∷ unmap_denied k d o ∷ [])) same
 begun-bare k found d (requests.Load a off len) same = ap (λ (o : Option Held). load_begun (λ x. o) a off len) same
 begun-bare k found d (requests.Store a off bytes) same = ap (λ (o : Option Held). store_begun (λ x. o) a off (length bytes.now)) same
-begun-bare k found d (requests.GrantBytes gref bytes) same = refl
 begun-bare k found d q same = refl
 
 finds-same : (s : Setting) (h : History) (d : DomId) (r : Asked) → IsRun s h → AsksKnown h d.0 r → FindsSame (mapping_of (mappings_at (bare h) d.0)) (mapping_of (mappings_at h d.0)) r
@@ -174,7 +139,6 @@ value-at s h d (Peek f off len) (Some (ReadBytes t frame o n)) = ap (λ (l : Lis
 value-at s h d (SetupTable frames) None = ap (λ (x : Header). Some (inl (answers.Frames x.frames))) (table-bare s h d)
 value-at s h d (QuerySize dom) (Some (LookHeader t)) = ap (λ (x : Header). Some (inl (answers.Size (record { frames = x.frames; max = MAX_TABLE_FRAMES })))) (table-bare s h t)
 value-at s h d (GetVersion dom) (Some (LookHeader t)) = ap (λ (x : Header). Some (inl (answers.Version x.version))) (table-bare s h t)
-value-at s h d (SetupTable frames) (Some (StoreHeader version stored)) = refl
 value-at s h d r step = refl
 
 unpin-value : (s : Setting) (h : History) (d : DomId) (r : Asked) (p : Held) (x y : Holder) → value_told s h d r (Some (Unpin p x)) ≡ value_told s h d r (Some (Unpin p y))
@@ -205,9 +169,8 @@ told-by s h d r step (Some denial) a e v = refused-told denial a e
 answer-told : (s : Setting) (h : History) (d : DomId) (r : Asked) (step : Option Step) (giving : Bool) (v : Option Verdict) (a : Option Answer) (against : Option Denial)
     → AnsweredBy s h d r step giving v a against → option_map told a ≡ answer_told s h d r step v
 answer-told s h d r step giving None None against is = refl
-answer-told s h d r step giving None (Some a) against is = absurd is
-answer-told s h d r step giving (Some v) None against is = absurd is
 answer-told s h d r step giving (Some v) (Some a) against is = told-by s h d r step (refusal_in (Some v)) a is.0 is.2
+answer-told s h d r step giving v a against is = absurd is
 
 answer-at : (s : Setting) (h : History) (d : DomId) (r : Asked) (step : Option Step) (v : Option Verdict) → answer_told s (bare h) d (bare_asked r) step v ≡ answer_told s h d r step v
 answer-at s h d r step None = refl
@@ -255,9 +218,8 @@ step-twice (Unpin p (ByMapping a)) = refl
 step-twice step = refl
 
 verdict-bare : (o : Option Action) → verdict_in (option_map bare_action o) ≡ verdict_in o
-verdict-bare None = refl
 verdict-bare (Some (Makes step)) = refl
-verdict-bare (Some (Ends v)) = refl
+verdict-bare o = refl
 
 began-at : (s : Setting) (h : History) (d : DomId) (q : Request) → IsRun s h → AsksKnown h d.0 (asked q) → began_told s (bare h) d (bare_request q) ≡ began_told s h d q
 began-at s h d q run k =
@@ -344,24 +306,22 @@ pub does : (s : Setting) (h : History) (e : Event) (x : Element) → MayDo s h e
 does s h (Begin d q) NoDomain m = ap (λ (o : Option DomainConfig). within o (begin_told s h d q (open_call h d.0))) (sym m)
 does s h (Tick d) NoDomain m = ap (λ (o : Option DomainConfig). within o (tick_told s h d (open_call h d.0))) (sym m)
 does s h (Begin d q) Busy m = is-within (domain_of s.domains d) (inl Busy) (begin_told s h d q (open_call h d.0)) m.0 (is-busy s h d q (open_call h d.0) m.1)
-does s h (Tick d) Busy m = absurd m
-does s h (Begin d q) Idle m = absurd m
 does s h (Tick d) Idle m = is-within (domain_of s.domains d) (inl Idle) (tick_told s h d (open_call h d.0)) m.0 (ap (tick_told s h d) (sym m.1))
 does s h (Begin d q) (Did i) m =
     is-within (domain_of s.domains d) (inr (told_item i)) (begin_told s h d q (open_call h d.0)) m.0 (begin-item s h d q i.actor i.happened i.answer m.1.0 m.1.1 m.2)
 does s h (Tick d) (Did i) m =
     is-within (domain_of s.domains d) (inr (told_item i)) (tick_told s h d (open_call h d.0)) m.0 (tick-item s h d i.actor i.happened i.answer m)
+does s h e x m = absurd m
 
 begin-at : (s : Setting) (h : History) (d : DomId) (q : Request) (c : Option Underway) → IsRun s h → AsksKnown h d.0 (asked q) → begin_told s (bare h) d (bare_request q) (option_map bare_call c) ≡ begin_told s h d q c
 begin-at s h d q None run k = ap (λ (t : ToldItem). inr t) (began-at s h d q run k)
 begin-at s h d q (Some c) run k = refl
 
 next-at : (s : Setting) (h : History) (d : DomId) (c : Underway) (o : Option Action) → IsRun s h → AsksKnown h d.0 c.request → stepped_told s (bare h) d (bare_call c) (option_map bare_action o) ≡ stepped_told s h d c o
-next-at s h d c None run k = refl
-next-at s h d c (Some (Ends v)) run k = refl
 next-at s h d c (Some (Makes step)) run k =
     ap (λ (vs : List Seen). inr (step_told s (bare h) d (bare_asked c.request) vs (bare_step step))) (values-bare c)
     ∙ ap (λ (t : ToldItem). inr t) (stepped-at s h d c.request (values c) step run k)
+next-at s h d c o run k = refl
 
 tick-at : (s : Setting) (h : History) (d : DomId) (c : Option Underway) → IsRun s h → CallKnown h d.0 c → tick_told s (bare h) d (option_map bare_call c) ≡ tick_told s h d c
 tick-at s h d None run k = refl

@@ -1,40 +1,9 @@
 -- An exchange that was taken keeps what a core stands for.
-use Rattle.std.proofs.Common.{◌≡◌, ◌≢◌, ◌<◌, ◌≤◌, ◌+◌, ℕ, refl, Bool, true, false, List, ◌∷◌, length, Option, Some, None, cond, sym, ap, ◌∙◌, arith, subst, get_or}
-use Rattle.std.proofs.lemmas.Bool.{eqb-true}
-use Rattle.std.proofs.lemmas.Option.{none-some, slice_get-get_or}
-use Rattle.std.specs.Option.{option_map}
-use Rattle.std.specs.Prelude.{◌==◌, All, count_by, slice_get}
-use mathlib.Core.Path.{fun_ext}
-use Rattle.gt_types.specs.declared.DomId.{DomId}
-use Rattle.gt_types.specs.declared.GrantRef.{GrantRef}
-use Rattle.gt_types.specs.declared.Dir.TheVariants.{Read, Write}
-use Rattle.gt_types.specs.declared.limits.TheConstants.{TABLE_ENTRIES, LAST_GENERATION}
-use Rattle.gt_entry.specs.declared.entry.Entry.{Entry}
-use Rattle.gt_entry.specs.declared.entry.Entry.TheVariants.{Invalid, Page, Sub, Via}
-use Rattle.gt_entry.specs.declared.control.Control.{Control}
-use Rattle.gt_entry.specs.declared.change.Change.{Change}
-use Rattle.gt_entry.specs.declared.change.Change.TheVariants.{Publish, Revoke as ToInvalid, Demote as ToReadOnly, Promote as ToWritable}
-use Rattle.gt_entry.specs.declared.change.Half.{Half}
-use Rattle.gt_entry.specs.declared.change.Half.TheVariants.{First as FirstHalf, Second as SecondHalf}
-use Rattle.gt_entry.specs.Entries.{IsEntry}
-use Rattle.gt_calls.specs.declared.action.Step.TheVariants.{Exchange}
-use Rattle.gt_calls.specs.declared.action.Seen.TheVariants.{Taken}
-use Rattle.gt_calls.specs.declared.known.Own.{Own}
-use Rattle.gt_core.specs.declared.slot.Slot.{Slot}
-use Rattle.gt_core.specs.declared.slot.Open.{Open}
-use Rattle.gt_core.specs.declared.trace.Item.{Item}
-use Rattle.gt_core.specs.declared.trace.Answer.{Answer}
-use Rattle.gt_calls.specs.Rules.{entry_in, generation_in, control_with, row_entry, row_generation}
-use Rattle.gt_core.specs.Rows.{changed_at}
-use Rattle.gt_core.specs.States.{State, state_of, changed_in}
-use Rattle.gt_core.specs.Effects.{with_own, own_after}
-use Rattle.gt_core.specs.History.{History, Setting, Pin, live, entry_at, raises_at, raise_of, changed_entry, generation_at, body_at, reads_at, writes_at, control_at, maps_answered_at, open_call, is_pin_on, change_of, entry_after, with_ro, raise_after, or_else, one_if_mapped}
-use Rattle.gt_core.specs.Legal.{IsSafeChange, IsSpelled}
-use Rattle.gt_core.specs.Standing.{IsLawful, FitsTable, FitsWord, Agrees, DomainsStand, CallAgrees, GivenAgrees}
+use Rattle.gt_core.proofs.Words.{◌≡◌, ◌≢◌, ◌<◌, ◌≤◌, ◌+◌, ℕ, refl, Bool, true, false, List, ◌∷◌, length, Option, Some, None, cond, sym, ap, ◌∙◌, arith, subst, get_or, eqb-true, none-some, slice_get-get_or, option_map, ◌==◌, All, count_by, slice_get, fun_ext, DomId, GrantRef, Read, Write, TABLE_ENTRIES, LAST_GENERATION, Entry, Invalid, Control, Change, Publish, ToInvalid, ToReadOnly, ToWritable, Half, FirstHalf, SecondHalf, IsEntry, Exchange, Taken, Own, Slot, Open, Item, Answer, entry_in, generation_in, control_with, row_entry, row_generation, changed_at, State, state_of, changed_in, with_own, own_after, History, Setting, Pin, live, entry_at, raises_at, raise_of, generation_at, body_at, reads_at, writes_at, control_at, maps_answered_at, open_call, is_pin_on, change_of, entry_after, raise_after, or_else, one_if_mapped, IsSafeChange, IsSpelled, IsLawful, FitsTable, FitsWord, Agrees, DomainsStand, CallAgrees, GivenAgrees, append-nil}
+use Rattle.gt_core.specs.History.{changed_entry, with_ro}
 use Rattle.gt_core.proofs.Rows.{get-changed, length-changed}
 use Rattle.gt_core.proofs.Quiet.{kept-table}
 use Rattle.gt_core.proofs.Mappings.{mappings-same}
-use Rattle.std.proofs.lemmas.List.{append-nil}
 use Rattle.gt_core.proofs.Keeping.{stepped, SlotsAgree, becomes-changed, each-stands, other-agrees, same-number, counts-fit}
 
 -- each number of the entry that is published fits its type
@@ -82,8 +51,7 @@ exchanged-maps h d gref looked change answer t m = none-more (d.0 == t) (maps_an
 row-entries : (b : Bool) (o : Option Own) (change : Change) → (b ≡ true → o ≢ None)
     → row_entry (cond b (option_map (own_after change) o) o) ≡ entry_after (cond b (Some change) None) (row_entry o)
 row-entries true None change some = absurd (some refl refl)
-row-entries true (Some own) change some = refl
-row-entries false o change some = refl
+row-entries b o change some = refl
 
 row-generations : (b : Bool) (o : Option Own) (change : Change) (first raises : ℕ) → (b ≡ true → (o ≢ None) × (first + raises + raise_of change ≤ LAST_GENERATION))
     → row_generation first o ≡ first + raises
@@ -158,20 +126,15 @@ hit-cases P d t g r change none some = by (d == t) (g == r) refl refl
   where
     by : (b c : Bool) → (d == t) ≡ b → (g == r) ≡ c → P t r (cond b (cond c (Some change) None) None)
     by true true e f = subst (λ (n : ℕ). P n r (Some change)) (eqb-true d t e) (subst (λ (n : ℕ). P d n (Some change)) (eqb-true g r f) some)
-    by true false e f = none
-    by false c e f = none
+    by b c e f = none
 
 word-fits : (e : Entry) (g r w : ℕ) → IsEntry e → (r < 4096) × (w < 4096) → g ≤ LAST_GENERATION → FitsWord (control_with e g r w)
 word-fits Invalid g r w a c below = record { in_range = record { reads = c.0; writes = c.1; generation = omega arith }; domain = omega arith }
-word-fits (Page dom ro frame) g r w a c below = record { in_range = record { reads = c.0; writes = c.1; generation = omega arith }; domain = a.0 }
-word-fits (Sub dom ro frame off len) g r w a c below = record { in_range = record { reads = c.0; writes = c.1; generation = omega arith }; domain = a.0 }
-word-fits (Via dom ro dom2 gref) g r w a c below = record { in_range = record { reads = c.0; writes = c.1; generation = omega arith }; domain = a.0 }
+word-fits e g r w a c below = record { in_range = record { reads = c.0; writes = c.1; generation = omega arith }; domain = a.0 }
 
 ro-fits : (to : Bool) (e : Entry) → IsEntry e → IsEntry (with_ro to e)
 ro-fits to Invalid a = tt
-ro-fits to (Page dom ro frame) a = a
-ro-fits to (Sub dom ro frame off len) a = a
-ro-fits to (Via dom ro dom2 gref) a = a
+ro-fits to e a = a
 
 changed-fits : (change : Change) (e : Entry) → IsEntry e → FitsChange change → IsEntry (changed_entry change e)
 changed-fits (Publish entry) e a f = f
@@ -212,9 +175,7 @@ exchange-entries s h xs d gref looked change answer t r st fits =
 
 ro-invalid : (to : Bool) (e : Entry) → with_ro to e ≡ Invalid → e ≡ Invalid
 ro-invalid to Invalid a = refl
-ro-invalid to (Page dom ro frame) a = cc
-ro-invalid to (Sub dom ro frame off len) a = cc
-ro-invalid to (Via dom ro dom2 gref) a = cc
+ro-invalid to e a = cc
 
 -- an entry that a change leaves invalid has no pins
 changed-free : (h : History) (t r : ℕ) (change : Change) → (entry_at h t r ≡ Invalid → (reads_at h t r ≡ 0) × (writes_at h t r ≡ 0)) → IsSafeChange h t r change
@@ -233,9 +194,7 @@ exchange-free s h xs d gref looked change answer t r st safe e =
 
 ro-spelled : (to : Bool) (e : Entry) (first second : ℕ) → IsSpelled e first second → IsSpelled (with_ro to e) first second
 ro-spelled to Invalid first second a = a
-ro-spelled to (Page dom ro frame) first second a = a
-ro-spelled to (Sub dom ro frame off len) first second a = a
-ro-spelled to (Via dom ro dom2 gref) first second a = a
+ro-spelled to e first second a = a
 
 abbrev Spelled : Entry → ℕ → ℕ → Type 0
 Spelled e first second = e ≢ Invalid → IsSpelled e first second

@@ -1,14 +1,8 @@
 -- A control that has room in its word is what the word says.
-use Rattle.std.proofs.Common.{◌≡◌, ◌<◌, ◌≤◌, ◌+◌, ◌*◌, ◌/◌, ◌%◌, ℕ, Bool, true, false, cond, List, ap, ◌∙◌, arith}
-use Rattle.std.specs.Prelude.{◌==◌}
+use Rattle.gt_core.proofs.Words.{◌≡◌, ◌<◌, ◌≤◌, ◌+◌, ◌%◌, ℕ, Bool, true, false, cond, List, ap, ◌∙◌, arith, ◌==◌, TABLE_ENTRIES, control_word, control_of, header_word, header_of, Control, Header, State, History, Setting, word_at, control_at, DomainsStand, FitsTable, FitsWord}
+use Rattle.std.proofs.Common.{◌*◌, ◌/◌}
 use Rattle.gt_entry.specs.Laws.{control-round}
-use Rattle.gt_types.specs.declared.limits.TheConstants.{TABLE_ENTRIES}
-use Rattle.gt_entry.specs.Words.{control_word, control_of, header_word, header_of, size_of}
-use Rattle.gt_entry.specs.declared.control.Control.{Control}
-use Rattle.gt_entry.specs.declared.header.Header.{Header}
-use Rattle.gt_core.specs.States.{State}
-use Rattle.gt_core.specs.History.{History, Setting, word_at, control_at}
-use Rattle.gt_core.specs.Standing.{DomainsStand, FitsTable, FitsWord}
+use Rattle.gt_entry.specs.Words.{size_of}
 
 pub fits-word : (c : Control) → FitsWord c → control_of (control_word c) ≡ c
 fits-word c f = control-round c f.in_range f.domain

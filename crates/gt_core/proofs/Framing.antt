@@ -1,62 +1,23 @@
 -- The frames of a core: what a step of a call writes to them is by right, and leaves them as the history tells.
-use Rattle.std.proofs.Common.{◌≡◌, ◌≢◌, ◌≤◌, ◌<◌, ◌+◌, ◌-◌, ◌⊎◌, inl, inr, ℕ, refl, Bool, true, false, List, [], ◌∷◌, ◌++◌, map, replicate, length, take, drop, Option, Some, None, cond, ltb, sym, ap, ◌∙◌, arith, subst, reverse}
-use Rattle.std.proofs.lemmas.Bool.{eqb-true, eqb-false, eq-eqb, ne_eqb, le-leb, leb-true, lt-ltb, and_parts, and_from, false≢true}
-use Rattle.std.proofs.lemmas.List.{append-nil, map-append, length-append, length-drop, length-take-le, length-replicate}
-use Rattle.std.specs.Prelude.{◌==◌, ◌&&◌, nat_lt, nat_le, is_some, unwrap_or, slice_get, IsTrue, Any}
-use Rattle.gt_types.specs.Names.{domain_of, resolved}
-use Rattle.gt_types.specs.declared.DomId.{DomId}
-use Rattle.gt_types.specs.declared.Dir.TheVariants.{Write}
-use Rattle.gt_types.specs.declared.Use.TheVariants.{Map as ForMap, Copy as ForCopy}
-use Rattle.gt_types.specs.declared.config.DomainConfig.{DomainConfig}
-use Rattle.gt_types.specs.declared.limits.TheConstants.{FRAME_SIZE}
-use Rattle.gt_entry.specs.declared.entry.Entry.{Entry}
-use Rattle.gt_entry.specs.declared.entry.Entry.TheVariants.{Invalid, Page, Sub, Via}
-use Rattle.gt_entry.specs.Entries.{frame_of}
-use Rattle.gt_entry.specs.Permits.{permits, forwards, leads_to, is_of_frame, allows_direction}
-use Rattle.gt_handles.specs.declared.handles.Handle.{Handle}
-use Rattle.gt_handles.specs.Handles.{Kept, value_of}
-use Rattle.gt_calls.specs.declared.held.Held.{Held}
-use Rattle.gt_calls.specs.declared.held.Route.{Route}
-use Rattle.gt_calls.specs.declared.held.Route.TheVariants.{Own, Direct, Through}
-use Rattle.gt_calls.specs.declared.held.Pins.{Pins}
-use Rattle.gt_calls.specs.declared.request.End.{End}
-use Rattle.gt_calls.specs.declared.request.Request.{Request}
-use Rattle.gt_calls.specs.declared.request.Asked.{Asked}
-use Rattle.gt_calls.specs.declared.request.Asked.TheVariants.{Load, Store, Peek, Poke, Copy}
-use Rattle.gt_calls.specs.declared.action.Place.{Place}
-use Rattle.gt_calls.specs.declared.action.Seen.{Seen}
-use Rattle.gt_calls.specs.declared.action.Step.{Step}
-use Rattle.gt_calls.specs.declared.action.Step.TheVariants.{LookHeader, LookControl, LookBody, Pin as PinStep, Unpin, StoreBody, StoreHeader, Exchange, Read as ReadBytes, Write as WriteBytes, Copy as CopyBytes}
-use Rattle.gt_calls.specs.declared.action.Action.TheVariants.{Step as Makes}
-use Rattle.gt_calls.specs.declared.call.Call.{Call}
-use Rattle.gt_calls.specs.declared.call.Phase.{Phase}
-use Rattle.gt_calls.specs.Rules.{CallerKnowledge, begun, frames_of, frames_in, is_dest_granted}
-use Rattle.gt_calls.specs.Path.{place_of, dest_pair}
-use Rattle.gt_calls.specs.Opening.{opens}
-use Rattle.gt_calls.specs.Resting.{Rests, RestsOnRequest, RestsOnWays, IsReached, LeadsTo}
-use Rattle.gt_calls.specs.Standing.{pins_at, held_in}
+use Rattle.gt_core.proofs.Words.{◌≡◌, ◌≤◌, ◌<◌, ◌+◌, ◌-◌, inl, inr, ℕ, refl, Bool, true, false, List, [], ◌∷◌, ◌++◌, replicate, length, take, drop, Option, Some, None, cond, sym, ap, ◌∙◌, arith, subst, reverse, eqb-true, eqb-false, eq-eqb, ne_eqb, lt-ltb, and_parts, and_from, false≢true, append-nil, map-append, length-append, length-drop, length-take-le, length-replicate, ◌==◌, ◌&&◌, nat_lt, nat_le, is_some, IsTrue, domain_of, DomId, Write, ForMap, ForCopy, DomainConfig, FRAME_SIZE, Entry, Page, Sub, Via, frame_of, permits, allows_direction, Handle, value_of, Held, Route, Direct, Through, End, Request, Asked, Store, Poke, Copy, Place, Seen, Step, ReadBytes, WriteBytes, CopyBytes, Makes, Call, Phase, CallerKnowledge, begun, frames_of, frames_in, is_dest_granted, dest_pair, opens, Rests, RestsOnRequest, RestsOnWays, IsReached, LeadsTo, pins_at, held_in, Patch, written, bytes_at, frame_counts, FrameSet, frame_at, has_range, all_zeros, AreKept, Open, Item, Answer, Begun, State, IsLoadOf, IsReadable, IsAdmitted, AccessedBy, History, Setting, patches_at, patches_by, contents_at, written_by, Writing, given_in, open_call, Underway, values, known_at, legs_at, IsInFrame, CopyIsJustified, grown, DomainsStand, FramesStand, Agrees, OpenAgrees, FitsGiven, numbered, begun_element}
+use Rattle.std.proofs.lemmas.Bool.{le-leb, leb-true}
+use Rattle.std.specs.Prelude.{unwrap_or}
+use Rattle.gt_entry.specs.Permits.{leads_to}
+use Rattle.gt_calls.specs.declared.held.Route.TheVariants.{Own}
+use Rattle.gt_calls.specs.Path.{place_of}
 use Rattle.gt_frames.specs.declared.places.FrameName.{FrameName}
 use Rattle.gt_frames.specs.declared.writ.Ground.{Ground}
 use Rattle.gt_frames.specs.declared.writ.Writ.{Writ}
 use Rattle.gt_frames.specs.declared.writ.Record.{Record}
-use Rattle.gt_frames.specs.Bytes.{Patch, overlay, replay, zeros, written}
-use Rattle.gt_frames.specs.Frames.{FrameState, patch_of, patches, bytes_at, permits_writing, suffices, is_rightful, all_rightful}
-use Rattle.gt_frames.specs.Places.{frame_counts, pool_number, frames_of as frames_of_all, is_name}
-use Rattle.gt_frames.specs.Sets.{FrameSet, frame_at, has_frame, has_range, admits, all_zeros, AreKept, WritesTo, journal_in}
-use Rattle.gt_core.specs.declared.slot.Open.{Open}
-use Rattle.gt_core.specs.declared.trace.Item.{Item}
-use Rattle.gt_core.specs.declared.trace.Answer.{Answer}
-use Rattle.gt_core.specs.declared.trace.Happened.TheVariants.{Stepped}
-use Rattle.gt_core.specs.declared.core_state.Begun.{Begun}
-use Rattle.gt_core.specs.declared.core_state.Begun.TheVariants.{Open as BegunOpen, Done as BegunDone, Busy as BegunBusy, NoDomain as BegunNoDomain}
-use Rattle.gt_core.specs.States.{State, state_of}
-use Rattle.gt_core.specs.Accesses.{name_of, ground_of, route_by, route_of, IsWritOf, IsLoadOf, IsReadable, IsAdmitted, AccessedBy}
-use Rattle.gt_core.specs.History.{History, Setting, patches_at, patches_by, contents_at, written_by, Writing, given_in, open_call, Underway, values, known_at, live, legs_at, mappings_at, mapping_of}
-use Rattle.gt_core.specs.Legal.{IsInFrame, CopyIsJustified, grown}
-use Rattle.gt_core.specs.Standing.{DomainsStand, FramesStand, Agrees, OpenAgrees, GivenAgrees, FitsGiven, numbered, begun_element}
+use Rattle.gt_frames.specs.Bytes.{overlay, replay, zeros}
+use Rattle.gt_frames.specs.Frames.{FrameState, patch_of, patches, permits_writing, suffices, is_rightful, all_rightful}
+use Rattle.gt_frames.specs.Places.{pool_number, frames_of as frames_of_all, is_name}
+use Rattle.gt_frames.specs.Sets.{has_frame, admits, WritesTo, journal_in}
+use Rattle.gt_core.specs.declared.core_state.Begun.TheVariants.{Busy as BegunBusy, NoDomain as BegunNoDomain}
+use Rattle.gt_core.specs.Accesses.{name_of, ground_of, route_by, route_of, IsWritOf}
 use Rattle.gt_core.proofs.Keeping.{stepped, same-number}
 use Rattle.gt_core.proofs.Starting.{get-replicate}
-use Rattle.gt_core.proofs.Accessing.{permits-as, mapping-pin, none-of, same-held, IsRightful, read-justified, write-justified, copy-justified}
+use Rattle.gt_core.proofs.Accessing.{permits-as, mapping-pin, none-of, same-held, read-justified, copy-justified}
 
 -- what a frame holds, and which frames there are
 
@@ -92,28 +53,23 @@ range-there s h fs at len fr a = and_from _ _ (frame-there s h fs (name_of at) f
 
 -- an entry that lets a mapping write lets any range of its frame be written
 map-writes : (e : Entry) (d : DomId) (frame off len : ℕ) → frame ≡ frame_of e → permits e d Write ForMap off len ≡ true → permits_writing e d frame off len ≡ true
-map-writes Invalid d frame off len is a = absurd (false≢true a)
 map-writes (Page dom ro f) d frame off len is a = and_from _ _ (eq-eqb f frame (sym is)) a
 map-writes (Sub dom ro f start size) d frame off len is a = absurd (false≢true (sym (never (dom.0 == d.0) (allows_direction ro Write)) ∙ a))
   where
     never : (b c : Bool) → (b && c && false && nat_le start off && nat_le (off + len) (start + size)) ≡ false
     never true true = refl
-    never true false = refl
-    never false c = refl
-map-writes (Via dom ro dom2 gref) d frame off len is a = absurd (false≢true a)
+    never b c = refl
+map-writes e d frame off len is a = absurd (false≢true a)
 
 -- an entry that permits a copy to write permits it to write its own frame
 copy-writes : (e : Entry) (d : DomId) (off len : ℕ) → permits e d Write ForCopy off len ≡ true → permits_writing e d (frame_of e) off len ≡ true
-copy-writes Invalid d off len a = absurd (false≢true a)
 copy-writes (Page dom ro f) d off len a = and_from _ _ (same-number f) a
 copy-writes (Sub dom ro f start size) d off len a = and_from _ _ (same-number f) a
-copy-writes (Via dom ro dom2 gref) d off len a = absurd (false≢true a)
+copy-writes e d off len a = absurd (false≢true a)
 
 leads-there : (e : Entry) (p : Held) → LeadsTo e p → leads_to e p.dom ≡ true
-leads-there Invalid p a = absurd a
-leads-there (Page dom ro f) p a = absurd a
-leads-there (Sub dom ro f off len) p a = absurd a
 leads-there (Via dom ro dom2 gref) p a = eq-eqb dom2.0 p.dom.0 (ap (λ (z : DomId). z.0) (sym a.0))
+leads-there e p a = absurd a
 
 -- the entries of a copy's pins let it write
 way-covers : (k : CallerKnowledge) (d : DomId) (granted : Bool) (end : End) (len : ℕ) (pair : DomId → DomId × DomId) (route : Route) → IsReached k d granted end Write len pair route
@@ -212,15 +168,7 @@ open-admitted s h xs fs x o c st fr a call here =
     by : (step : Step) → Rests (known_at s h x.id) x.id c.request (pins_at here.phase) (values c) (Makes step) → IsAdmitted fs x (record { caller = x.id; request = c.request; phase = Some here.phase }) step
     by (WriteBytes dom frame off len) r = writes dom frame off len r.0 r.1
     by (CopyBytes from to len) r = copy-admitted s h fs x c.request here.phase from to len fr r.0 here.held r.1
-    by (LookHeader dom) r = tt
-    by (LookControl dom gref) r = tt
-    by (LookBody dom gref half) r = tt
-    by (PinStep p) r = tt
-    by (Unpin p holder) r = tt
-    by (StoreBody gref half word) r = tt
-    by (StoreHeader version frames) r = tt
-    by (Exchange gref looked change) r = tt
-    by (ReadBytes dom frame off len) r = tt
+    by step r = tt
 
 -- what it reads is there
 pub open-readable : (s : Setting) (h : History) (xs : List State) (fs : FrameSet) (x : State) (o : Open) (c : Underway) → DomainsStand s h xs → FramesStand s h fs → OpenAgrees s h x.id o c → IsReadable fs o.call o.step
@@ -234,16 +182,7 @@ open-readable s h xs fs x o c st fr here = by o.step here.rests
     by (ReadBytes dom frame off len) r =
         let just = read-justified s h xs x.id c.request dom frame off len st r.0 r.1 in
         (range-there s h fs (record { owner = dom; frame = frame; off = off }) len fr just.0, long dom frame off len r.1)
-    by (WriteBytes dom frame off len) r = tt
-    by (CopyBytes from to len) r = tt
-    by (LookHeader dom) r = tt
-    by (LookControl dom gref) r = tt
-    by (LookBody dom gref half) r = tt
-    by (PinStep p) r = tt
-    by (Unpin p holder) r = tt
-    by (StoreBody gref half word) r = tt
-    by (StoreHeader version frames) r = tt
-    by (Exchange gref looked change) r = tt
+    by step r = tt
 
 -- the size of a frame
 
@@ -352,22 +291,13 @@ frames-stepped s h fs gs x call step seen answer c under given fr = by step
     by (CopyBytes from to len) a =
         written-once s h fs gs (stepped x.id (CopyBytes from to len) seen answer) to a.0 (bytes_at (frame_at fs (name_of from)) from.off len)
         (ap (λ (l : List ℕ). Some (record { at = to; bytes = l })) (sym (bytes-held s h fs from.owner from.frame from.off len fr))) fr a.2 a.3
-    by (LookHeader dom) a = quiet (LookHeader dom) refl a
-    by (LookControl dom gref) a = quiet (LookControl dom gref) refl a
-    by (LookBody dom gref half) a = quiet (LookBody dom gref half) refl a
-    by (PinStep p) a = quiet (PinStep p) refl a
-    by (Unpin p holder) a = quiet (Unpin p holder) refl a
-    by (StoreBody gref half word) a = quiet (StoreBody gref half word) refl a
-    by (StoreHeader version frames) a = quiet (StoreHeader version frames) refl a
-    by (Exchange gref looked change) a = quiet (Exchange gref looked change) refl a
-    by (ReadBytes dom frame off len) a = quiet (ReadBytes dom frame off len) refl a
+    by z a = quiet z refl a
 
 -- a beginning writes nothing
 pub frames-begun : (s : Setting) (h : History) (fs : FrameSet) (dom : DomId) (request : Request) (b : Begun) → FramesStand s h fs → FramesStand s (grown h (begun_element dom request b)) fs
-frames-begun s h fs dom request BegunOpen fr = nothing-written s h fs _ refl fr
-frames-begun s h fs dom request (BegunDone answer) fr = nothing-written s h fs _ refl fr
 frames-begun s h fs dom request BegunBusy fr = fr
 frames-begun s h fs dom request BegunNoDomain fr = fr
+frames-begun s h fs dom request b fr = nothing-written s h fs _ refl fr
 
 -- frames at rest
 

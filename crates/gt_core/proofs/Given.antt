@@ -1,36 +1,7 @@
 -- The handles that domains were answered: each serial once, and each mapping under one of them.
-use Rattle.std.proofs.Common.{◌≡◌, ◌≤◌, ◌<◌, ◌+◌, inl, inr, ℕ, refl, Bool, true, false, List, [], ◌∷◌, ◌++◌, Option, Some, None, cond, sym, ap, ◌∙◌, subst, arith}
-use Rattle.std.specs.Prelude.{◌==◌, ◌&&◌}
-use Rattle.std.proofs.lemmas.Bool.{eqb-true, eq-eqb}
-use Rattle.std.proofs.lemmas.Option.{none-some}
-use Rattle.gt_types.specs.declared.DomId.{DomId}
-use Rattle.gt_types.specs.declared.denial.Denial.{Denial}
-use Rattle.gt_handles.specs.declared.handles.Handle.{Handle}
-use Rattle.gt_calls.specs.declared.judging.TheConstants.{END_OF_SERIALS}
-use Rattle.gt_calls.specs.declared.request.Asked.{Asked}
+use Rattle.gt_core.proofs.Words.{◌≡◌, ◌≤◌, ◌<◌, ◌+◌, inl, inr, ℕ, refl, Bool, true, false, List, [], ◌∷◌, ◌++◌, Option, Some, None, cond, sym, ap, ◌∙◌, subst, arith, ◌==◌, ◌&&◌, eqb-true, eq-eqb, none-some, DomId, Denial, Handle, END_OF_SERIALS, Asked, Holder, ByMapping, ByLeg, Held, Seen, Taken, Step, LookHeader, PinStep, Unpin, StoreHeader, Makes, Verdict, asked, begun_of, opens, CallerKnowledge, begun, Continuation, path, after_beginning, steps_of, IsMapping, Answer, Happened, Began, Stepped, Item, History, Setting, Underway, Pin, live, without, is_holder, same_handle, pinned_by, unpinned_by, open_call, underway_after, underway_with, maps_answered_at, one_if_mapped, known_at, values, IsRight, StepsRightIn, AnsweredBy, GivesValue, gives_back, verdict_in, stood, bare_handle, IsGiven, IsKnown, AsksKnown, HappensKnown, IsRun}
 use Rattle.gt_calls.specs.declared.request.Asked.TheVariants as requests
-use Rattle.gt_calls.specs.declared.request.Holder.{Holder}
-use Rattle.gt_calls.specs.declared.request.Holder.TheVariants.{Mapping as ByMapping, Leg as ByLeg}
-use Rattle.gt_calls.specs.declared.held.Held.{Held}
-use Rattle.gt_calls.specs.declared.action.Seen.{Seen}
-use Rattle.gt_calls.specs.declared.action.Seen.TheVariants.{Taken}
-use Rattle.gt_calls.specs.declared.action.Step.{Step}
-use Rattle.gt_calls.specs.declared.action.Step.TheVariants.{LookHeader, Pin as PinStep, Unpin, StoreHeader}
-use Rattle.gt_calls.specs.declared.action.Action.TheVariants.{Step as Makes}
-use Rattle.gt_calls.specs.declared.action.Verdict.{Verdict}
-use Rattle.gt_calls.specs.Asking.{asked, begun_of}
-use Rattle.gt_calls.specs.Opening.{opens}
-use Rattle.gt_calls.specs.Rules.{CallerKnowledge, begun}
-use Rattle.gt_calls.specs.Path.{Continuation, path, after_beginning, steps_of}
-use Rattle.gt_core.specs.States.{IsMapping}
-use Rattle.gt_core.specs.declared.trace.Answer.{Answer}
 use Rattle.gt_core.specs.declared.trace.Answer.TheVariants as answers
-use Rattle.gt_core.specs.declared.trace.Happened.{Happened}
-use Rattle.gt_core.specs.declared.trace.Happened.TheVariants.{Began, Stepped}
-use Rattle.gt_core.specs.declared.trace.Item.{Item}
-use Rattle.gt_core.specs.History.{History, Setting, Underway, Pin, live, without, is_holder, same_handle, pinned_by, unpinned_by, open_call, underway_after, underway_with, maps_answered_at, one_if_mapped, known_at, values}
-use Rattle.gt_core.specs.Legal.{IsRight, StepsRightIn, AnsweredBy, GivesValue, gives_back, verdict_in, stood}
-use Rattle.gt_core.specs.Alike.{bare_handle, IsGiven, IsKnown, AsksKnown, HappensKnown, IsRun}
 use Rattle.gt_core.proofs.Makers.{only-path, done-makes}
 
 -- a map that is answered

@@ -1,27 +1,5 @@
 -- A header that its owner stores.
-use Rattle.std.proofs.Common.{◌≡◌, ◌<◌, ◌+◌, ◌%◌, ℕ, refl, Bool, true, false, List, ◌∷◌, Option, Some, None, cond, sym, ap, ◌∙◌, arith, subst}
-use Rattle.std.proofs.Math.Nat.{mod-eq_of_lt}
-use Rattle.std.specs.Prelude.{◌==◌, All, count_by}
-use mathlib.Core.Path.{fun_ext}
-use Rattle.gt_types.specs.declared.DomId.{DomId}
-use Rattle.gt_types.specs.declared.Dir.TheVariants.{Read, Write}
-use Rattle.gt_entry.specs.declared.entry.Entry.{Entry}
-use Rattle.gt_entry.specs.declared.header.Header.{Header}
-use Rattle.gt_entry.specs.declared.change.Half.{Half}
-use Rattle.gt_entry.specs.declared.change.Half.TheVariants.{First as FirstHalf, Second as SecondHalf}
-use Rattle.gt_entry.specs.Entries.{IsEntry}
-use Rattle.gt_calls.specs.declared.action.Step.TheVariants.{StoreHeader}
-use Rattle.gt_calls.specs.declared.action.Seen.TheVariants.{Nothing}
-use Rattle.gt_calls.specs.Rules.{control_with}
-use Rattle.gt_core.specs.declared.slot.Slot.{Slot}
-use Rattle.gt_core.specs.declared.slot.Open.{Open}
-use Rattle.gt_core.specs.declared.trace.Item.{Item}
-use Rattle.gt_core.specs.declared.trace.Answer.{Answer}
-use Rattle.gt_core.specs.States.{State, state_of, changed_in}
-use Rattle.gt_core.specs.Effects.{with_header}
-use Rattle.gt_core.specs.History.{History, Setting, Pin, entry_at, generation_at, body_at, or_else, header_or, table_at, control_at, reads_at, writes_at, is_pin_on, one_if_mapped, open_call}
-use Rattle.gt_core.specs.Legal.{IsSpelled}
-use Rattle.gt_core.specs.Standing.{IsLawful, FitsTable, FitsWord, Agrees, DomainsStand, CallAgrees, GivenAgrees}
+use Rattle.gt_core.proofs.Words.{◌≡◌, ◌<◌, ◌+◌, ◌%◌, ℕ, refl, Bool, true, false, List, ◌∷◌, Option, Some, None, cond, sym, ap, ◌∙◌, arith, subst, mod-eq_of_lt, ◌==◌, All, count_by, fun_ext, DomId, Read, Write, Entry, Header, Half, FirstHalf, SecondHalf, IsEntry, StoreHeader, Nothing, control_with, Slot, Open, Item, Answer, State, state_of, changed_in, with_header, History, Setting, Pin, entry_at, generation_at, body_at, or_else, header_or, table_at, control_at, reads_at, writes_at, is_pin_on, one_if_mapped, open_call, IsSpelled, IsLawful, FitsTable, FitsWord, Agrees, DomainsStand, CallAgrees, GivenAgrees}
 use Rattle.gt_core.proofs.Quiet.{KeepsKnown, kept-entry, kept-raises, kept-live, kept-generations}
 use Rattle.gt_core.proofs.Others.{other-table}
 use Rattle.gt_core.proofs.Keeping.{stepped, SlotsAgree, becomes-changed, each-stands, other-agrees, mappings-stay, same-number}

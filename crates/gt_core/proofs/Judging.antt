@@ -1,57 +1,11 @@
 -- The refusal that a step leads to is the first rule that stands, and where the call stands then.
-use Rattle.std.proofs.Common.{◌≡◌, ◌+◌, ◌-◌, inl, inr, ℕ, zero, suc, refl, Bool, true, false, List, [], ◌∷◌, Option, Some, None, cond, sym, ap, ◌∙◌, subst, reverse, arith}
-use Rattle.std.specs.Prelude.{nat_lt, nat_le, ◌==◌, ◌&&◌, ◌||◌, not}
-use Rattle.std.proofs.lemmas.Bool.{lt-ltb, eqb-true, eq-eqb, true≢false, false≢true}
-use Rattle.gt_types.specs.declared.DomId.{DomId}
-use Rattle.gt_types.specs.declared.GrantRef.{GrantRef}
-use Rattle.gt_types.specs.declared.denial.Rule.{Rule}
-use Rattle.gt_types.specs.declared.denial.Rule.TheVariants.{N10, N11, N12, N13, N15, N18, N19}
-use Rattle.gt_types.specs.declared.denial.Denial.{Denial}
-use Rattle.gt_types.specs.declared.limits.TheConstants.{MAX_TRIES}
-use Rattle.gt_entry.specs.declared.entry.Entry.{Entry}
-use Rattle.gt_entry.specs.declared.entry.Entry.TheVariants.{Invalid, Page, Sub, Via}
-use Rattle.gt_entry.specs.declared.control.Control.{Control}
+use Rattle.gt_core.proofs.Words.{◌≡◌, ◌+◌, ◌-◌, inl, inr, ℕ, zero, suc, refl, Bool, true, false, List, [], ◌∷◌, Option, Some, None, cond, sym, ap, ◌∙◌, subst, reverse, arith, nat_lt, nat_le, ◌==◌, ◌&&◌, ◌||◌, not, lt-ltb, eqb-true, eq-eqb, true≢false, false≢true, DomId, GrantRef, Rule, N10, N18, N19, Denial, MAX_TRIES, Entry, Invalid, Via, Control, Change, Publish, ToInvalid, ToReadOnly, ToWritable, allows_direction, control_of, MORE_TRIES, Held, Route, Direct, Through, Asked, CopyArgs, ByMapping, Verdict, Step, LookHeader, LookControl, Unpin, StoreBody, StoreHeader, Exchange, ReadBytes, WriteBytes, Seen, Taken, Missed, Action, Makes, Done, Aim, Mapping, Source, Dest, Question, AsksSize, AsksVersion, Phase, Storing, Exchanging, Looking, Changing, Walking, Accessing, Asking, Last, Ending, Leg, LegPhase, AtHeader, Look, Body, Second, Pinning, Relook, LegNext, Going, LegRefused, Pinned, last_first, CallerKnowledge, first, stands, first_look, is_kind, size_of, via_judged, is_dest_granted, Continuation, path, entry_refusal, held_of, rule_of_try, source_pair, dest_pair, end_leg, second_leg, IsFor, IsOnFrom, RestsOnWord, phase_after, action_at, after_leg, leg_after, leg_step, after_miss, after_pin_of, after_source_pin, after_dest_pin, at_dest, where_via, after_store, refused_as, next_to_give, IsTurn, IsQuiet, HasShown, State, History, Setting, word_at, control_at, table_at, entry_at, generation_at, body_at, reads_at, writes_at, known_at, seen_by, legs_at, StepsSoFar, LegNow, misses, is_demote, at_entry, first_at, refusal_in, or_then, PhaseStands, LegStands, Asks, EndsAfter, phase_refusal, numbered}
+use Rattle.gt_types.specs.declared.denial.Rule.TheVariants.{N11, N12, N13, N15}
 use Rattle.gt_entry.specs.declared.control.Kind.TheVariants.{Invalid as KindInvalid, Page as KindPage, Via as KindVia}
-use Rattle.gt_entry.specs.declared.change.Change.{Change}
-use Rattle.gt_entry.specs.declared.change.Change.TheVariants.{Publish, Revoke as ToInvalid, Demote as ToReadOnly, Promote as ToWritable}
-use Rattle.gt_entry.specs.Permits.{is_copying, allows_direction}
-use Rattle.gt_entry.specs.Words.{control_word, control_of}
+use Rattle.gt_entry.specs.Permits.{is_copying}
 use Rattle.gt_entry.specs.Spelling.{control_with}
-use Rattle.gt_calls.specs.declared.leg.TheConstants.{MORE_TRIES}
-use Rattle.gt_calls.specs.declared.held.Held.{Held}
-use Rattle.gt_calls.specs.declared.held.Route.{Route}
-use Rattle.gt_calls.specs.declared.held.Route.TheVariants.{Direct, Through}
-use Rattle.gt_calls.specs.declared.request.Asked.{Asked}
-use Rattle.gt_calls.specs.declared.request.CopyArgs.{CopyArgs}
-use Rattle.gt_calls.specs.declared.request.Holder.TheVariants.{Mapping as ByMapping, Leg as ByLeg}
-use Rattle.gt_calls.specs.declared.action.Verdict.{Verdict}
-use Rattle.gt_calls.specs.declared.action.Step.{Step}
-use Rattle.gt_calls.specs.declared.action.Step.TheVariants.{LookHeader, LookControl, LookBody, Pin as PinStep, Unpin, StoreBody, StoreHeader, Exchange, Read as ReadBytes, Write as WriteBytes, Copy as CopyBytes}
-use Rattle.gt_calls.specs.declared.action.Seen.{Seen}
-use Rattle.gt_calls.specs.declared.action.Seen.TheVariants.{Taken, Missed}
-use Rattle.gt_calls.specs.declared.action.Action.{Action}
-use Rattle.gt_calls.specs.declared.action.Action.TheVariants.{Step as Makes, Done}
-use Rattle.gt_calls.specs.declared.copying.Aim.{Aim}
-use Rattle.gt_calls.specs.declared.copying.Aim.TheVariants.{Mapping, Source, Dest}
-use Rattle.gt_calls.specs.declared.call.Question.{Question}
-use Rattle.gt_calls.specs.declared.call.Question.TheVariants.{Size as AsksSize, Version as AsksVersion}
-use Rattle.gt_calls.specs.declared.call.Phase.{Phase}
-use Rattle.gt_calls.specs.declared.call.Phase.TheVariants.{Storing, StoringSecond, Exchanging, Looking, Changing, Walking, Accessing, Asking, Last, Ending}
-use Rattle.gt_calls.specs.declared.leg.Leg.{Leg}
-use Rattle.gt_calls.specs.declared.leg.LegPhase.{LegPhase}
-use Rattle.gt_calls.specs.declared.leg.LegPhase.TheVariants.{Header as AtHeader, Look, Body, Second, Pinning, Relook}
-use Rattle.gt_calls.specs.declared.leg.LegNext.{LegNext}
-use Rattle.gt_calls.specs.declared.leg.LegNext.TheVariants.{Going, Refused as LegRefused, Pinned}
-use Rattle.gt_calls.specs.Holding.{last_first}
-use Rattle.gt_calls.specs.Rules.{CallerKnowledge, first, stands, first_look, is_kind, size_of, via_judged, is_dest_granted}
-use Rattle.gt_calls.specs.Path.{Continuation, path, entry_refusal, held_of, rule_of_try, source_pair, dest_pair, end_leg, second_leg}
-use Rattle.gt_calls.specs.Resting.{IsFor, IsOnFrom, RestsOnWord}
-use Rattle.gt_calls.specs.Machine.{phase_after, action_at, after_leg, leg_after, leg_step, after_miss, after_pin_of, after_source_pin, after_dest_pin, at_dest, where_via, after_store, publishing, after_own_look, after_own_miss, refused_as, next_to_give}
-use Rattle.gt_calls.specs.Standing.{IsTurn, IsQuiet, HasShown, StandsAt}
-use Rattle.gt_core.specs.States.{State}
-use Rattle.gt_core.specs.History.{History, Setting, word_at, control_at, table_at, entry_at, generation_at, body_at, reads_at, writes_at, known_at, seen_by, legs_at}
-use Rattle.gt_core.specs.Legal.{StepsSoFar, LegNow, misses, is_demote, at_entry, rule_at_via, rule_at_pin, first_at, refusal_in, or_then}
-use Rattle.gt_core.specs.Standing.{PhaseStands, LegStands, Asks, EndsAfter, phase_refusal, numbered}
+use Rattle.gt_calls.specs.Machine.{publishing, after_own_look, after_own_miss}
+use Rattle.gt_core.specs.Legal.{rule_at_via, rule_at_pin}
 use Rattle.gt_core.proofs.Fitting.{word-shows}
 use Rattle.gt_core.proofs.Tries.{misses-look, misses-exchange, misses-exchanged, few, miss-late}
 use Rattle.gt_core.proofs.Legs.{Words, IsAsTried, as-tried, TakesNone, leg-judged, refusal_next, IsLegOf, control-writes}
@@ -66,9 +20,7 @@ Judged s h d r so_far phase step = or_then (phase_refusal phase) (first_at s h d
 
 stored-refusal : (k : CallerKnowledge) (gref : GrantRef) (entry : Entry) → None ≡ phase_refusal (after_store k gref entry)
 stored-refusal k gref Invalid = refl
-stored-refusal k gref (Page dom ro frame) = refl
-stored-refusal k gref (Sub dom ro frame off len) = refl
-stored-refusal k gref (Via dom ro dom2 r) = refl
+stored-refusal k gref entry = refl
 
 published-refusal : (k : CallerKnowledge) (d : DomId) (gref : GrantRef) (looked w : ℕ) (entry : Entry) (b : Bool) → b ≡ true → None ≡ phase_refusal (phase_after k d (Exchanging gref looked (Publish entry)) (cond b Taken (Missed w)))
 published-refusal k d gref looked w entry true e = refl
@@ -92,8 +44,7 @@ once-judged s h d r way shown so_far gref looked ToInvalid published rests place
     revoke-refusal (known_at s h d) d gref looked w (reads_at h d.0 gref.0 + writes_at h d.0 gref.0) (w == looked)
     (λ b. idle-no-pins s h d gref (eqb-true w looked b ∙ rests.1))
     (λ b none. false≢true (sym b ∙ eq-eqb w looked (idle-here s h d gref none ∙ sym rests.1)))
-once-judged s h d r way shown so_far gref looked ToReadOnly published rests place = absurd place
-once-judged s h d r way shown so_far gref looked ToWritable published rests place = absurd place
+once-judged s h d r way shown so_far gref looked change published rests place = absurd place
 
 -- an owner's turns
 
@@ -104,9 +55,8 @@ writes-shown s h t r round =
 
 look-refusal : (d : DomId) (gref : GrantRef) (change : Change) (more w : ℕ) (b late : Bool) → late ≡ false
     → at_entry d gref w (first (stands b N19 ∷ None ∷ stands late N18 ∷ [])) ≡ phase_refusal (cond b (refused_as d gref N19 w) (Changing gref change more w))
-look-refusal d gref change more w true late e = refl
 look-refusal d gref change more w false true e = absurd (true≢false e)
-look-refusal d gref change more w false false e = refl
+look-refusal d gref change more w b late e = refl
 
 look-judged : (s : Setting) (h : History) (d : DomId) (r : Asked) (so_far : StepsSoFar) (gref : GrantRef) (change : Change) (more : ℕ) → control_of (word_at s h d.0 gref.0) ≡ control_at s h d.0 gref.0
     → IsTurn r gref change → PhaseStands s h d r so_far (Looking gref change more) → Judged s h d r so_far (Looking gref change more) (LookControl d gref)
@@ -119,8 +69,7 @@ look-judged s h d r so_far gref ToWritable more round is place =
     let w = word_at s h d.0 gref.0 in
     subst (λ (z : Asked). Judged s h d z so_far (Looking gref ToWritable more) (LookControl d gref)) (sym is)
     (look-refusal d gref ToWritable more w false _ (ap (nat_le MAX_TRIES) (misses-look d gref w so_far place.1) ∙ few (misses so_far) more place.0))
-look-judged s h d r so_far gref (Publish entry) more round is place = absurd is
-look-judged s h d r so_far gref ToInvalid more round is place = absurd is
+look-judged s h d r so_far gref change more round is place = absurd is
 
 own-miss-late : (d : DomId) (gref : GrantRef) (change : Change) (more found m : ℕ) → m + more ≡ MORE_TRIES
     → at_entry d gref found (stands (nat_le MAX_TRIES (1 + m)) N18) ≡ phase_refusal (after_own_miss d gref change more found)
@@ -141,25 +90,21 @@ change-refusal k d gref change more looked w so_far false turn =
 
 change-judged : (s : Setting) (h : History) (d : DomId) (r : Asked) (so_far : StepsSoFar) (gref : GrantRef) (change : Change) (more looked : ℕ) → IsTurn r gref change
     → PhaseStands s h d r so_far (Changing gref change more looked) → Judged s h d r so_far (Changing gref change more looked) (Exchange gref looked change)
-change-judged s h d r so_far gref ToReadOnly more looked is place =
-    let w = word_at s h d.0 gref.0 in change-refusal (known_at s h d) d gref ToReadOnly more looked w so_far (w == looked) place.0
-change-judged s h d r so_far gref ToWritable more looked is place =
-    let w = word_at s h d.0 gref.0 in change-refusal (known_at s h d) d gref ToWritable more looked w so_far (w == looked) place.0
 change-judged s h d r so_far gref (Publish entry) more looked is place = absurd is
 change-judged s h d r so_far gref ToInvalid more looked is place = absurd is
+change-judged s h d r so_far gref change more looked is place =
+    let w = word_at s h d.0 gref.0 in change-refusal (known_at s h d) d gref change more looked w so_far (w == looked) place.0
 
 -- a leg
 
 leg-refusal : (k : CallerKnowledge) (d : DomId) (aim : Aim) (l : Leg) (next : LegNext) → ((p : Held) → next ≡ Pinned p → ⊥) → refusal_next next ≡ phase_refusal (after_leg k d aim l next)
-leg-refusal k d aim l (Going phase) none = refl
-leg-refusal k d aim l (LegRefused denial) none = refl
 leg-refusal k d aim l (Pinned p) none = absurd (none p refl)
+leg-refusal k d aim l next none = refl
 
 -- the aim is not a call for a leg: no demote walks one
 plain-leg : (k : CallerKnowledge) (d : DomId) (r : Asked) (aim : Aim) (l : Leg) → IsFor k d r aim l → is_demote r ≡ false
 plain-leg k d r Mapping l is = ap is_demote is.of_map
-plain-leg k d r (Source c via) l is = ap is_demote is.0
-plain-leg k d r (Dest c source via) l is = ap is_demote is.0
+plain-leg k d r aim l is = ap is_demote is.0
 
 pub not-pinned : (s : Setting) (h : History) (d : DomId) (l : Leg) (at : LegPhase) → TakesNone s h d l at → (p : Held) → leg_after l at (seen_by s h d (leg_step l at)) ≡ Pinned p → ⊥
 not-pinned s h d l AtHeader none p e = by (nat_lt l.gref.0 (size_of (Rattle.gt_entry.specs.Words.header_of (Rattle.gt_entry.specs.Words.header_word (table_at s h l.dom))))) e
@@ -242,41 +187,30 @@ dest-refusal k d c source = by (is_dest_granted c)
     by false = refl
 
 no-via : (k : CallerKnowledge) (l : Leg) (pair : DomId → DomId × DomId) (e : Entry) → (IsVia e → ⊥) → rule_at_via k (Some (record { leg = l; pair = pair })) e ≡ None
-no-via k l pair Invalid n = refl
-no-via k l pair (Page dom ro frame) n = refl
-no-via k l pair (Sub dom ro frame off len) n = refl
 no-via k l pair (Via dom ro dom2 gref) n = absurd (n tt)
+no-via k l pair e n = refl
 
 source-pin-refusal : (k : CallerKnowledge) (d : DomId) (c : CopyArgs) (l : Leg) (p : Held) (e : Entry)
     → phase_refusal (after_source_pin k d c l p e) ≡ rule_at_via k (Some (record { leg = l; pair = source_pair d c })) e
 source-pin-refusal k d c l p (Via dom ro dom2 gref) = where-refusal (via_judged k (source_pair d c dom2) dom2) (Source c (Some p)) (second_leg k l dom2 gref)
-source-pin-refusal k d c l p Invalid = dest-refusal k d c (Direct p)
-source-pin-refusal k d c l p (Page dom ro frame) = dest-refusal k d c (Direct p)
-source-pin-refusal k d c l p (Sub dom ro frame off len) = dest-refusal k d c (Direct p)
+source-pin-refusal k d c l p e = dest-refusal k d c (Direct p)
 
 dest-pin-refusal : (k : CallerKnowledge) (d : DomId) (c : CopyArgs) (source : Route) (l : Leg) (p : Held) (e : Entry)
     → phase_refusal (after_dest_pin k d c source l p e) ≡ rule_at_via k (Some (record { leg = l; pair = dest_pair d source })) e
 dest-pin-refusal k d c source l p (Via dom ro dom2 gref) = where-refusal (via_judged k (dest_pair d source dom2) dom2) (Dest c source (Some p)) (second_leg k l dom2 gref)
-dest-pin-refusal k d c source l p Invalid = refl
-dest-pin-refusal k d c source l p (Page dom ro frame) = refl
-dest-pin-refusal k d c source l p (Sub dom ro frame off len) = refl
+dest-pin-refusal k d c source l p e = refl
 
 pin-refusal : (k : CallerKnowledge) (d : DomId) (aim : Aim) (l : Leg) (p : Held) (e : Entry) → p.entry ≡ e → (IsVia e → IsFirstLeg aim)
     → phase_refusal (after_pin_of k d aim l p) ≡ rule_at_via k (Some (record { leg = l; pair = pair_of d aim })) e
-pin-refusal k d Mapping l p e same first = sym (no-via k l (pair_of d Mapping) e (λ v. first v))
 pin-refusal k d (Source c None) l p e same first = ap (λ (z : Entry). phase_refusal (after_source_pin k d c l p z)) same ∙ source-pin-refusal k d c l p e
 pin-refusal k d (Source c (Some via)) l p e same first = dest-refusal k d c (Through via p) ∙ sym (no-via k l (pair_of d (Source c (Some via))) e (λ v. first v))
 pin-refusal k d (Dest c source None) l p e same first = ap (λ (z : Entry). phase_refusal (after_dest_pin k d c source l p z)) same ∙ dest-pin-refusal k d c source l p e
-pin-refusal k d (Dest c source (Some via)) l p e same first = sym (no-via k l (pair_of d (Dest c source (Some via))) e (λ v. first v))
+pin-refusal k d aim l p e same first = sym (no-via k l (pair_of d aim) e (λ v. first v))
 
 -- where none of five rules stands
 pub five-none : (a b c d e : Bool) → first (stands a N10 ∷ stands b N11 ∷ stands c N12 ∷ stands d N13 ∷ stands e N15 ∷ []) ≡ None → (a ≡ false) × (b ≡ false) × (c ≡ false) × (d ≡ false) × (e ≡ false)
-five-none true b c d e h = cc
-five-none false true c d e h = cc
-five-none false false true d e h = cc
-five-none false false false true e h = cc
-five-none false false false false true h = cc
 five-none false false false false false h = (refl, refl, refl, refl, refl)
+five-none a b c d e h = cc
 
 -- a Via is met in a copy's first legs alone
 via-passed : (l : Leg) (dom : DomId) (ro : Bool) (dom2 : DomId) (gref : GrantRef) (g r w : ℕ) → first_look l (control_with (Via dom ro dom2 gref) g r w) ≡ None → (is_copying l.purpose ≡ true) × (l.beyond_via ≡ false)
@@ -295,22 +229,17 @@ via-passed l dom ro dom2 gref g r w e =
 
 second-beyond : (k : CallerKnowledge) (n : Leg) (e : Entry) (l : Leg) → IsOnFrom k n e l → l.beyond_via ≡ true
 second-beyond k n (Via dom ro dom2 gref) l is = ap (λ (z : Leg). z.beyond_via) is
-second-beyond k n Invalid l is = absurd is
-second-beyond k n (Page dom ro frame) l is = absurd is
-second-beyond k n (Sub dom ro frame off len) l is = absurd is
+second-beyond k n e l is = absurd is
 
 first-leg-of : (k : CallerKnowledge) (d : DomId) (r : Asked) (aim : Aim) (l : Leg) → IsFor k d r aim l → is_copying l.purpose ≡ true → l.beyond_via ≡ false → IsFirstLeg aim
 first-leg-of k d r Mapping l is copying beyond = false≢true (ap (λ (z : Leg). is_copying z.purpose) (sym is.leg_is) ∙ copying)
-first-leg-of k d r (Source c None) l is copying beyond = tt
 first-leg-of k d r (Source c (Some via)) l is copying beyond = true≢false (sym (second-beyond k (end_leg k d c.source Rattle.gt_types.specs.declared.Dir.TheVariants.Read c.len) via.entry l is.1.2) ∙ beyond)
-first-leg-of k d r (Dest c source None) l is copying beyond = tt
 first-leg-of k d r (Dest c source (Some via)) l is copying beyond = true≢false (sym (second-beyond k (end_leg k d c.dest Rattle.gt_types.specs.declared.Dir.TheVariants.Write c.len) via.entry l is.2.2) ∙ beyond)
+first-leg-of k d r aim l is copying beyond = tt
 
 pub met-first : (k : CallerKnowledge) (d : DomId) (r : Asked) (aim : Aim) (l : Leg) (e : Entry) (g n m : ℕ) → IsFor k d r aim l → first_look l (control_with e g n m) ≡ None → IsVia e → IsFirstLeg aim
 met-first k d r aim l (Via dom ro dom2 gref) g n m is passed v = let f = via-passed l dom ro dom2 gref g n m passed in first-leg-of k d r aim l is f.0 f.1
-met-first k d r aim l Invalid g n m is passed v = absurd v
-met-first k d r aim l (Page dom ro frame) g n m is passed v = absurd v
-met-first k d r aim l (Sub dom ro frame off len) g n m is passed v = absurd v
+met-first k d r aim l e g n m is passed v = absurd v
 
 pub taken-first : (s : Setting) (h : History) (d : DomId) (r : Asked) (aim : Aim) (l : Leg) (word body second : ℕ) → IsFor (known_at s h d) d r aim l → first_look l (control_of word) ≡ None → IsAsTried s h l word body second
     → IsVia (entry_at h l.dom.0 l.gref.0) → IsFirstLeg aim
@@ -336,11 +265,7 @@ walk-judged s h d r so_far aim l (Pinning more word body second) ws is leg a = b
     by true e =
         taken-judged s h d r so_far aim l more word body second (word_at s h l.dom.0 l.gref.0 == word) e is leg a.0.passed
         (as-tried s h l so_far more word body second None a.0 a.1 ws (eqb-true (word_at s h l.dom.0 l.gref.0) word e))
-walk-judged s h d r so_far aim l AtHeader ws is leg a = leg-step-judged s h d r so_far aim l AtHeader ws is leg a tt
-walk-judged s h d r so_far aim l (Look more) ws is leg a = leg-step-judged s h d r so_far aim l (Look more) ws is leg a tt
-walk-judged s h d r so_far aim l (Body more word) ws is leg a = leg-step-judged s h d r so_far aim l (Body more word) ws is leg a tt
-walk-judged s h d r so_far aim l (Second more word body) ws is leg a = leg-step-judged s h d r so_far aim l (Second more word body) ws is leg a tt
-walk-judged s h d r so_far aim l (Relook more word rule) ws is leg a = leg-step-judged s h d r so_far aim l (Relook more word rule) ws is leg a tt
+walk-judged s h d r so_far aim l at ws is leg a = leg-step-judged s h d r so_far aim l at ws is leg a tt
 
 -- single steps
 
@@ -351,30 +276,15 @@ asked-judged s h d r so_far dom AsksVersion a = subst (λ (z : Asked). Judged s 
 ends-plain : (r : Asked) (step : Step) (verdict : Verdict) → EndsAfter r step verdict → refusal_in (Some verdict) ≡ None
 ends-plain r (StoreHeader version frames) verdict (inl e) = ap (λ (v : Verdict). refusal_in (Some v)) e.1
 ends-plain r (StoreHeader version frames) verdict (inr e) = ap (λ (v : Verdict). refusal_in (Some v)) e.1
-ends-plain r (LookHeader dom) verdict e = ap (λ (v : Verdict). refusal_in (Some v)) e
-ends-plain r (LookControl dom gref) verdict e = ap (λ (v : Verdict). refusal_in (Some v)) e
-ends-plain r (LookBody dom gref half) verdict e = ap (λ (v : Verdict). refusal_in (Some v)) e
-ends-plain r (PinStep p) verdict e = ap (λ (v : Verdict). refusal_in (Some v)) e
-ends-plain r (Unpin p holder) verdict e = ap (λ (v : Verdict). refusal_in (Some v)) e
-ends-plain r (StoreBody gref half word) verdict e = ap (λ (v : Verdict). refusal_in (Some v)) e
-ends-plain r (Exchange gref looked change) verdict e = ap (λ (v : Verdict). refusal_in (Some v)) e
-ends-plain r (ReadBytes dom frame off len) verdict e = ap (λ (v : Verdict). refusal_in (Some v)) e
-ends-plain r (WriteBytes dom frame off len) verdict e = ap (λ (v : Verdict). refusal_in (Some v)) e
-ends-plain r (CopyBytes from to len) verdict e = ap (λ (v : Verdict). refusal_in (Some v)) e
+ends-plain r step verdict e = ap (λ (v : Verdict). refusal_in (Some v)) e
 
 last-judged : (s : Setting) (h : History) (d : DomId) (r : Asked) (so_far : StepsSoFar) (step : Step) (verdict : Verdict) → IsQuiet step → refusal_in (Some verdict) ≡ None → Judged s h d r so_far (Last step verdict) step
 last-judged s h d r so_far (Unpin p (ByMapping handle)) verdict q plain = sym plain
-last-judged s h d r so_far (Unpin p (ByLeg number)) verdict q plain = absurd q
 last-judged s h d r so_far (StoreBody gref half word) verdict q plain = sym plain
 last-judged s h d r so_far (StoreHeader version frames) verdict q plain = sym plain
 last-judged s h d r so_far (ReadBytes dom frame off len) verdict q plain = sym plain
 last-judged s h d r so_far (WriteBytes dom frame off len) verdict q plain = sym plain
-last-judged s h d r so_far (CopyBytes from to len) verdict q plain = absurd q
-last-judged s h d r so_far (LookHeader dom) verdict q plain = absurd q
-last-judged s h d r so_far (LookControl dom gref) verdict q plain = absurd q
-last-judged s h d r so_far (LookBody dom gref half) verdict q plain = absurd q
-last-judged s h d r so_far (PinStep p) verdict q plain = absurd q
-last-judged s h d r so_far (Exchange gref looked change) verdict q plain = absurd q
+last-judged s h d r so_far step verdict q plain = absurd q
 
 pub then-none : (o : Option Denial) → or_then o None ≡ o
 then-none None = refl
@@ -399,12 +309,11 @@ judged s h xs d r shown so_far phase step i = subst (λ (a : Action). OfAction p
     by : (p : Phase) → HasShown k (path k d r) d r shown p → PhaseStands s h d r so_far p → action_at d p ≡ Makes step → legs_at h d.0 ≡ numbered 0 (reverse (last_first (Rattle.gt_calls.specs.Standing.pins_at p)))
         → IsPublished s h d step → OfAction p (action_at d p)
     by (Storing gref entry) a b e held pub_here = stored-refusal k gref entry
-    by (StoringSecond gref entry) a b e held pub_here = refl
     by (Exchanging gref looked change) a b e held pub_here = once-judged s h d r (path k d r) shown so_far gref looked change (subst (IsPublished s h d) (sym (makes-same _ _ e)) pub_here) a b
     by (Looking gref change more) a b e held pub_here = look-judged s h d r so_far gref change more (word-shows s h xs d.0 gref.0 i.st (turn-below s h xs d r gref change i.st i.at.unanswered a)) a b
     by (Changing gref change more looked) a b e held pub_here = change-judged s h d r so_far gref change more looked a.1 b
     by (Walking aim l at) a b e held pub_here = walk-judged s h d r so_far aim l at (words-of s h xs l i.st) a.1 (leg-here s h d r aim l a.1 held) b.1
-    by (Accessing c source dest) a b e held pub_here = refl
     by (Asking dom question) a b e held pub_here = asked-judged s h d r so_far dom question b
     by (Last last verdict) a b e held pub_here = last-judged s h d r so_far last verdict a.0 (ends-plain r last verdict b)
     by (Ending pins verdict) a b e held pub_here = subst (λ (x : Action). OfAction (Ending pins verdict) x) (sym e) (give-judged s h d r so_far pins (last_first pins) verdict step e)
+    by p a b e held pub_here = refl

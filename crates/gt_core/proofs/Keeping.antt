@@ -1,41 +1,7 @@
 -- What stays of a core's agreement with a history after one item more.
-use Rattle.std.proofs.Common.{◌≡◌, ◌≢◌, ◌<◌, ◌+◌, ℕ, refl, Bool, true, false, List, ◌∷◌, length, Option, Some, None, cond, sym, ap, ◌∙◌, arith, subst, reverse}
-use Rattle.std.proofs.lemmas.Bool.{eqb-true, eq-eqb, and_left, and_right}
-use Rattle.std.proofs.lemmas.Option.{none-some}
-use Rattle.std.specs.Prelude.{◌==◌, ◌&&◌, All, count_by, slice_get}
-use Rattle.std.specs.Option.{option_map}
-use mathlib.Core.Path.{fun_ext}
-use Rattle.gt_types.specs.Names.{domain_of}
-use Rattle.gt_types.specs.declared.DomId.{DomId}
-use Rattle.gt_types.specs.declared.Dir.TheVariants.{Read, Write}
-use Rattle.gt_types.specs.declared.limits.TheConstants.{TABLE_ENTRIES}
-use Rattle.gt_entry.specs.declared.entry.Entry.{Entry}
-use Rattle.gt_entry.specs.declared.entry.Entry.TheVariants.{Invalid, Page, Sub, Via}
-use Rattle.gt_entry.specs.declared.header.Header.{Header}
-use Rattle.gt_entry.specs.declared.change.Change.{Change}
-use Rattle.gt_entry.specs.declared.change.Half.{Half}
-use Rattle.gt_entry.specs.declared.change.Half.TheVariants.{First as FirstHalf, Second as SecondHalf}
-use Rattle.gt_entry.specs.Entries.{IsEntry}
-use Rattle.gt_handles.specs.declared.handles.Handle.{Handle}
-use Rattle.gt_handles.specs.Handles.{Kept, value_of, count_of}
-use Rattle.gt_calls.specs.declared.held.Held.{Held}
-use Rattle.gt_calls.specs.Rules.{CallerKnowledge, control_with, knowledge_of, generation_in}
-use Rattle.gt_calls.specs.Standing.{StandsAt, pins_at}
-use Rattle.gt_calls.specs.Following.{GoesOn}
-use Rattle.gt_calls.specs.Resting.{Rests}
-use Rattle.gt_calls.specs.declared.action.Action.TheVariants.{Step as Makes}
-use Rattle.gt_core.specs.declared.slot.Slot.{Slot}
-use Rattle.gt_core.specs.declared.slot.Open.{Open}
-use Rattle.gt_core.specs.declared.trace.Item.{Item}
-use Rattle.gt_core.specs.declared.trace.Answer.{Answer}
-use Rattle.gt_core.specs.declared.trace.Happened.TheVariants.{Stepped}
-use Rattle.gt_calls.specs.declared.action.Step.{Step}
-use Rattle.gt_calls.specs.declared.action.Seen.{Seen}
-use Rattle.gt_core.specs.Rows.{changed_at}
-use Rattle.gt_core.specs.States.{State, state_of, changed_in}
-use Rattle.gt_core.specs.History.{History, Setting, Pin, live, entry_at, raises_at, generation_at, body_at, table_at, reads_at, writes_at, control_at, known_at, mappings_at, mapping_of, maps_answered_at, legs_at, is_pin_on, open_call, underway_after, Underway, values, change_of, change_at, entry_after, raise_after, or_else, stored_at, header_stored}
-use Rattle.gt_core.specs.Legal.{IsSpelled, stood, stood_with, first_of_item}
-use Rattle.gt_core.specs.Standing.{IsLawful, FitsTable, FitsWord, SlotAgrees, MappingsAgree, Agrees, StateAgrees, DomainsStand, CallAgrees, OpenAgrees, GivenAgrees}
+use Rattle.gt_core.proofs.Words.{◌≡◌, ◌≢◌, ◌<◌, ◌+◌, ℕ, refl, Bool, true, false, List, ◌∷◌, length, Option, Some, None, cond, sym, ap, ◌∙◌, arith, subst, reverse, eqb-true, eq-eqb, none-some, ◌==◌, ◌&&◌, All, count_by, slice_get, option_map, fun_ext, domain_of, DomId, Read, Write, TABLE_ENTRIES, Entry, Invalid, Header, Change, Half, FirstHalf, SecondHalf, IsEntry, Handle, Kept, value_of, count_of, Held, CallerKnowledge, control_with, knowledge_of, generation_in, StandsAt, pins_at, GoesOn, Rests, Makes, Slot, Open, Item, Answer, Stepped, Step, Seen, changed_at, State, state_of, changed_in, History, Setting, Pin, live, entry_at, raises_at, generation_at, body_at, table_at, reads_at, writes_at, control_at, known_at, mappings_at, mapping_of, maps_answered_at, is_pin_on, open_call, underway_after, Underway, values, change_of, change_at, entry_after, raise_after, or_else, stored_at, header_stored, IsSpelled, stood, first_of_item, IsLawful, FitsTable, FitsWord, SlotAgrees, MappingsAgree, Agrees, StateAgrees, DomainsStand, CallAgrees, OpenAgrees, GivenAgrees}
+use Rattle.std.proofs.lemmas.Bool.{and_left, and_right}
+use Rattle.gt_core.specs.Legal.{stood_with}
 use Rattle.gt_core.proofs.Rows.{get-changed, length-changed, state-changed}
 use Rattle.gt_core.proofs.Mappings.{mappings-same}
 use Rattle.gt_core.proofs.Quiet.{KeepsKnown, kept-table, kept-live, kept-maps_answered}
@@ -105,9 +71,8 @@ open-stays s i h d o c apart a =
 
 call-stays : (s : Setting) (i : Item) (h : History) (d : DomId) (o : Option Open) (c : Option Underway) → (i.actor.0 == d.0) ≡ false → CallAgrees s h d o c → CallAgrees s (i ∷ h) d o c
 call-stays s i h d None None apart a = other-legs i h d.0 apart ∙ a
-call-stays s i h d None (Some c) apart a = a
-call-stays s i h d (Some o) None apart a = a
 call-stays s i h d (Some o) (Some c) apart a = open-stays s i h d o c apart a
+call-stays s i h d o c apart a = a
 
 call-of-other : (s : Setting) (i : Item) (h : History) (d : DomId) (o : Option Open) → (i.actor.0 == d.0) ≡ false → CallAgrees s h d o (open_call h d.0) → CallAgrees s (i ∷ h) d o (open_call (i ∷ h) d.0)
 call-of-other s i h d o apart a =
@@ -220,15 +185,11 @@ actor-agrees s i h x slots mappings o given q a len agree same call bytes =
 
 room-for : (e : Entry) (g r w : ℕ) → FitsWord (control_with e g r w) → (r < 4096) × (w < 4096)
 room-for Invalid g r w f = (f.in_range.reads, f.in_range.writes)
-room-for (Page dom ro frame) g r w f = (f.in_range.reads, f.in_range.writes)
-room-for (Sub dom ro frame off len) g r w f = (f.in_range.reads, f.in_range.writes)
-room-for (Via dom ro dom2 gref) g r w f = (f.in_range.reads, f.in_range.writes)
+room-for e g r w f = (f.in_range.reads, f.in_range.writes)
 
 fits-with : (e : Entry) (g r w r' w' : ℕ) → r' < 4096 → w' < 4096 → FitsWord (control_with e g r w) → FitsWord (control_with e g r' w')
 fits-with Invalid g r w r' w' a b f = record { in_range = record { reads = a; writes = b; generation = f.in_range.generation }; domain = f.domain }
-fits-with (Page dom ro frame) g r w r' w' a b f = record { in_range = record { reads = a; writes = b; generation = f.in_range.generation }; domain = f.domain }
-fits-with (Sub dom ro frame off len) g r w r' w' a b f = record { in_range = record { reads = a; writes = b; generation = f.in_range.generation }; domain = f.domain }
-fits-with (Via dom ro dom2 gref) g r w r' w' a b f = record { in_range = record { reads = a; writes = b; generation = f.in_range.generation }; domain = f.domain }
+fits-with e g r w r' w' a b f = record { in_range = record { reads = a; writes = b; generation = f.in_range.generation }; domain = f.domain }
 
 -- the counts that a control word holds are below 4,096
 pub counts-fit : (s : Setting) (h : History) (t r : ℕ) → FitsWord (control_at s h t r) → (reads_at h t r < 4096) × (writes_at h t r < 4096)
@@ -296,8 +257,7 @@ each-stays s i h xs zs x new st here own kept becomes same mine slots dom =
   where
     plain : (b : Bool) (o : Option State) → after_change b (λ (y : State). y) o ≡ o
     plain true None = refl
-    plain true (Some y) = refl
-    plain false o = refl
+    plain b o = refl
 
 -- a core stands for one item more that changes no entry and stores no word
 pub keeps-stands : (s : Setting) (i : Item) (h : History) (xs zs : List State) → KeepsEntries i → DomainsStand s h xs → ((dom : DomId) → StateAgrees s (i ∷ h) dom (state_of zs dom.0))

@@ -38,3 +38,4 @@ pub mod Together
 pub mod Tries
 pub mod Unpinning
 pub mod Values
+pub mod Words

@@ -1,36 +1,9 @@
 -- The only step that names the handle of a mapping is that of an unmap, and it names the handle asked.
-use Rattle.std.proofs.Common.{◌≡◌, ℕ, zero, suc, refl, Bool, true, false, List, [], ◌∷◌, ◌++◌, length, Option, Some, None, cond, subst}
-use Rattle.std.specs.Prelude.{nat_lt, ◌==◌}
-use Rattle.std.proofs.lemmas.Option.{none-some, same_Some}
-use Rattle.gt_types.specs.declared.DomId.{DomId}
-use Rattle.gt_types.specs.declared.GrantRef.{GrantRef}
-use Rattle.gt_types.specs.declared.denial.Rule.{Rule}
-use Rattle.gt_types.specs.declared.denial.Denial.{Denial}
-use Rattle.gt_entry.specs.declared.entry.Entry.{Entry}
-use Rattle.gt_entry.specs.declared.entry.Entry.TheVariants.{Invalid, Page, Sub, Via}
-use Rattle.gt_entry.specs.declared.control.Kind.TheVariants.{Sub as KindSub}
-use Rattle.gt_entry.specs.Words.{control_of, header_of}
-use Rattle.gt_entry.specs.declared.change.Change.{Change}
-use Rattle.gt_entry.specs.declared.change.Change.TheVariants.{Publish, Revoke as ToInvalid, Demote as ToReadOnly, Promote as ToWritable}
-use Rattle.gt_calls.specs.declared.leg.TheConstants.{MORE_TRIES}
-use Rattle.gt_calls.specs.declared.leg.Leg.{Leg}
-use Rattle.gt_calls.specs.declared.held.Held.{Held}
-use Rattle.gt_calls.specs.declared.held.Route.{Route}
-use Rattle.gt_calls.specs.declared.held.Route.TheVariants.{Through}
-use Rattle.gt_calls.specs.declared.request.CopyArgs.{CopyArgs}
-use Rattle.gt_calls.specs.declared.request.Asked.{Asked}
+use Rattle.gt_core.proofs.Words.{◌≡◌, ℕ, zero, suc, refl, Bool, true, false, List, [], ◌∷◌, ◌++◌, length, Option, Some, None, cond, subst, nat_lt, ◌==◌, none-some, same_Some, DomId, GrantRef, Rule, Denial, Entry, Sub, Via, KindSub, control_of, header_of, Change, Publish, ToInvalid, ToReadOnly, ToWritable, MORE_TRIES, Leg, Held, Route, Through, CopyArgs, Asked, ByMapping, ByLeg, Seen, Nothing, Word, Taken, Missed, Step, LookHeader, LookControl, Unpin, Exchange, Makes, Done, Verdict, Granted, Refused, held_by, CallerKnowledge, begun, first_look, is_kind, size_of, via_judged, is_source_granted, is_dest_granted, Continuation, ended, makes, held_of, rule_of_try, entry_refusal, is_stopped, steps_of, after_beginning, path, second_leg, map_leg, source_pair, dest_pair}
 use Rattle.gt_calls.specs.declared.request.Asked.TheVariants as requests
-use Rattle.gt_calls.specs.declared.request.Holder.TheVariants.{Mapping as ByMapping, Leg as ByLeg}
-use Rattle.gt_calls.specs.declared.action.Seen.{Seen}
-use Rattle.gt_calls.specs.declared.action.Seen.TheVariants.{Nothing, Word, Taken, Missed}
-use Rattle.gt_calls.specs.declared.action.Step.{Step}
-use Rattle.gt_calls.specs.declared.action.Step.TheVariants.{LookHeader, LookControl, Pin, Unpin, Exchange}
-use Rattle.gt_calls.specs.declared.action.Action.TheVariants.{Step as Makes, Done}
-use Rattle.gt_calls.specs.declared.action.Verdict.{Verdict}
-use Rattle.gt_calls.specs.declared.action.Verdict.TheVariants.{Granted, Mapped, Refused}
-use Rattle.gt_calls.specs.Holding.{held_by}
-use Rattle.gt_calls.specs.Rules.{CallerKnowledge, begun, first_look, is_kind, size_of, via_judged, is_source_granted, is_dest_granted}
-use Rattle.gt_calls.specs.Path.{Continuation, AfterRefusal, AfterPin, nowhere, ended, makes, looks, exchanges, give_back, at_first_look, last_step, reads_second, reads_body, try_pin, tries, leg, held_of, rule_of_try, entry_refusal, unless_refused, beyond, reaches, accesses, to_dest, copies, is_stopped, turn, turns, busy, exchanges_once, after_first, by_mapping, steps_of, after_beginning, path, refused_holding, second_leg, map_leg, source_pair, dest_pair}
+use Rattle.gt_calls.specs.declared.action.Step.TheVariants.{Pin}
+use Rattle.gt_calls.specs.declared.action.Verdict.TheVariants.{Mapped}
+use Rattle.gt_calls.specs.Path.{AfterRefusal, AfterPin, nowhere, looks, exchanges, give_back, at_first_look, last_step, reads_second, reads_body, try_pin, tries, leg, unless_refused, beyond, reaches, accesses, to_dest, copies, turn, turns, busy, exchanges_once, after_first, by_mapping, refused_holding}
 use Rattle.gt_core.proofs.Phases.{makes-same}
 
 -- a step that names the handle of a mapping is an unmap's, of the handle asked
@@ -136,9 +109,7 @@ only-beyond : (r : Asked) (k : CallerKnowledge) (l : Leg) (pair : DomId → DomI
 only-beyond r k l pair held reached p (Via dom ro dom2 gref) only =
     only-unless r (via_judged k (pair dom2) dom2) (p ∷ held) (leg (second_leg k l dom2 gref) (refused_holding (p ∷ held)) (λ q. reached (Through p q)))
     (only-leg r (second_leg k l dom2 gref) (refused_holding (p ∷ held)) (λ q. reached (Through p q)) (λ denial. only-back r (p ∷ held) (Refused denial)) (λ q. only (Through p q)))
-only-beyond r k l pair held reached p Invalid only = only _
-only-beyond r k l pair held reached p (Page dom ro frame) only = only _
-only-beyond r k l pair held reached p (Sub dom ro frame off len) only = only _
+only-beyond r k l pair held reached p entry only = only _
 
 only-reaches : (r : Asked) (k : CallerKnowledge) (b : Bool) (l : Leg) (pair : DomId → DomId × DomId) (held : List Held) (reached : Route → Continuation)
     → ((way : Route) → Only r (reached way)) → Only r (reaches k b l pair held reached)
@@ -156,9 +127,7 @@ only-copies r k d c =
 
 only-busy : (r : Asked) (d : DomId) (gref : GrantRef) (change : Change) (w : ℕ) → Only r (busy d gref change w)
 only-busy r d gref (Publish entry) w = only-nowhere r
-only-busy r d gref ToInvalid w = only-ended r _
-only-busy r d gref ToReadOnly w = only-ended r _
-only-busy r d gref ToWritable w = only-ended r _
+only-busy r d gref change w = only-ended r _
 
 only-once : (r : Asked) (d : DomId) (gref : GrantRef) (looked : ℕ) (change : Change) → Only r (exchanges_once d gref looked change)
 only-once r d gref looked change = only-exchanges r (Exchange gref looked change) looked (ended Granted) (busy d gref change) tt (only-ended r Granted) (λ w. only-busy r d gref change w)
@@ -176,9 +145,7 @@ only-turns r change d gref (suc n) = only-turn r change d gref (λ found. turns 
 
 only-after_first : (r : Asked) (k : CallerKnowledge) (d : DomId) (gref : GrantRef) (entry : Entry) → Only r (after_first k d gref entry)
 only-after_first r k d gref (Sub dom ro frame off len) = only-makes r _ _ tt (only-once r d gref _ _)
-only-after_first r k d gref Invalid = only-once r d gref _ _
-only-after_first r k d gref (Page dom ro frame) = only-once r d gref _ _
-only-after_first r k d gref (Via dom ro dom2 g) = only-once r d gref _ _
+only-after_first r k d gref entry = only-once r d gref _ _
 
 -- calls
 
@@ -195,13 +162,11 @@ only-steps k d (requests.Map dom gref flags) = only-leg _ (map_leg k d dom gref 
 only-steps k d (requests.Unmap handle) = only-mapping _ (k.mapping handle) _ (λ p. refl)
 only-steps k d (requests.Load handle off len) = only-mapping _ (k.mapping handle) _ (λ p. tt)
 only-steps k d (requests.Store handle off len) = only-mapping _ (k.mapping handle) _ (λ p. tt)
-only-steps k d (requests.Peek frame off len) = only-makes _ _ (ended Granted) tt (only-ended _ Granted)
-only-steps k d (requests.Poke frame off len) = only-makes _ _ (ended Granted) tt (only-ended _ Granted)
 only-steps k d (requests.Copy c) = only-copies _ k d c
-only-steps k d (requests.SetVersion version) = only-makes _ _ (ended Granted) tt (only-ended _ Granted)
 only-steps k d (requests.SetupTable frames) = only-makes _ _ _ tt (only-ended _ _)
 only-steps k d (requests.QuerySize dom) = only-looks _ _ _ tt (λ w. only-ended _ _)
 only-steps k d (requests.GetVersion dom) = only-looks _ _ _ tt (λ w. only-ended _ _)
+only-steps k d r = only-makes _ _ (ended Granted) tt (only-ended _ Granted)
 
 only-beginning : (r : Asked) (v : Option Verdict) (c : Continuation) → Only r c → Only r (after_beginning v c)
 only-beginning r None c only = only

@@ -1,18 +1,9 @@
 -- The handles of a domain, and its mappings as the history has them.
-use Rattle.std.proofs.Common.{◌≡◌, ◌+◌, ℕ, zero, suc, refl, Bool, true, false, List, [], ◌∷◌, ◌++◌, length, Option, Some, None, is_some, cond, sym, ap, ◌∙◌, arith, subst, count_by, slice_index_or, slice_set}
-use Rattle.std.specs.Prelude.{◌==◌, ◌&&◌}
-use mathlib.Core.Path.{fun_ext}
-use Rattle.std.proofs.lemmas.Bool.{eqb-true, eq-eqb, and_parts, and_from, true≢false}
-use Rattle.std.proofs.lemmas.Option.{none-some}
-use Rattle.std.proofs.lemmas.List.{length-append}
-use Rattle.std.proofs.lemmas.List.Sums.{sum_by-cons}
-use Rattle.gt_handles.specs.declared.handles.Handle.{Handle}
+use Rattle.gt_core.proofs.Words.{◌≡◌, ◌+◌, ℕ, zero, suc, refl, Bool, true, false, List, [], ◌∷◌, ◌++◌, length, Option, Some, None, cond, sym, ap, ◌∙◌, arith, subst, ◌==◌, ◌&&◌, fun_ext, eqb-true, eq-eqb, and_parts, and_from, true≢false, none-some, length-append, sum_by-cons, Handle, Kept, value_of, count_of, Held, mapping_of, same_handle, Adds, taken, MappingsAgree}
+use Rattle.std.proofs.Common.{is_some, count_by, slice_index_or, slice_set}
 use Rattle.gt_handles.specs.declared.handles.Slot.{Slot}
-use Rattle.gt_handles.specs.Handles.{Kept, value_of, count_of, under}
-use Rattle.gt_calls.specs.declared.held.Held.{Held}
-use Rattle.gt_core.specs.History.{mapping_of, same_handle}
-use Rattle.gt_core.specs.Effects.{Adds, taken}
-use Rattle.gt_core.specs.Standing.{AreApart, MappingsAgree}
+use Rattle.gt_handles.specs.Handles.{under}
+use Rattle.gt_core.specs.Standing.{AreApart}
 
 pub same-handle : (a b : Handle) → same_handle a b ≡ true → a ≡ b
 same-handle a b e =
@@ -139,16 +130,13 @@ apart-less (x ∷ ms) handle a = by (same_handle x.0 handle) (apart-less ms hand
 -- the slots of the handles, and one less
 
 set-here : (slots : List (Option (Slot Held))) (key : ℕ) → slice_index_or (slice_set slots key None) key None ≡ None
-set-here [] key = refl
-set-here (x ∷ xs) zero = refl
 set-here (x ∷ xs) (suc key) = set-here xs key
+set-here slots key = refl
 
 set-there : (slots : List (Option (Slot Held))) (key at : ℕ) → (at ≡ key → ⊥) → slice_index_or (slice_set slots key None) at None ≡ slice_index_or slots at None
-set-there [] key at apart = refl
 set-there (x ∷ xs) zero zero apart = absurd (apart refl)
-set-there (x ∷ xs) zero (suc at) apart = refl
-set-there (x ∷ xs) (suc key) zero apart = refl
 set-there (x ∷ xs) (suc key) (suc at) apart = set-there xs key at (λ e. apart (ap suc e))
+set-there slots key at apart = refl
 
 set-none : (slots : List (Option (Slot Held))) (key at : ℕ) → slice_index_or (slice_set slots key None) at None ≡ cond (at == key) None (slice_index_or slots at None)
 set-none slots key at = by (at == key) refl
@@ -182,14 +170,13 @@ taken-of kept handle other m has =
         ∙ under-other (slice_index_or kept.slots handle.key None) other.serial handle.serial m is has)
 
 count-set : (slots : List (Option (Slot Held))) (key : ℕ) (slot : Slot Held) → slice_index_or slots key None ≡ Some slot → count_by is_some (slice_set slots key None) + 1 ≡ count_by is_some slots
-count-set [] key slot e = absurd (none-some slot e)
-count-set (None ∷ os) zero slot e = absurd (none-some slot e)
 count-set (Some x ∷ os) zero slot e =
     omega (arith, sum_by-cons (λ (o : Option (Slot Held)). cond (is_some o) 1 0) (Some x) os, sum_by-cons (λ (o : Option (Slot Held)). cond (is_some o) 1 0) None os)
 count-set (None ∷ os) (suc key) slot e =
     omega (arith, count-set os key slot e, sum_by-cons (λ (o : Option (Slot Held)). cond (is_some o) 1 0) None os, sum_by-cons (λ (o : Option (Slot Held)). cond (is_some o) 1 0) None (slice_set os key None))
 count-set (Some x ∷ os) (suc key) slot e =
     omega (arith, count-set os key slot e, sum_by-cons (λ (o : Option (Slot Held)). cond (is_some o) 1 0) (Some x) os, sum_by-cons (λ (o : Option (Slot Held)). cond (is_some o) 1 0) (Some x) (slice_set os key None))
+count-set slots key slot e = absurd (none-some slot e)
 
 count-taken : (kept : Kept Held) (handle : Handle) (m : Held) → value_of kept handle ≡ Some m → count_of (taken handle kept) + 1 ≡ count_of kept
 count-taken kept handle m has =

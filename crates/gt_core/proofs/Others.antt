@@ -1,25 +1,6 @@
 -- What an item leaves of the other domains.
-use Rattle.std.proofs.Common.{◌≡◌, ◌+◌, ℕ, refl, Bool, true, false, List, [], ◌∷◌, ◌++◌, length, Option, None, cond, sym, ap, ◌∙◌, arith}
-use Rattle.gt_handles.specs.declared.handles.Handle.{Handle}
-use Rattle.std.specs.Prelude.{◌==◌, ◌&&◌}
-use Rattle.gt_types.specs.declared.DomId.{DomId}
-use Rattle.gt_entry.specs.declared.entry.Entry.{Entry}
-use Rattle.gt_entry.specs.declared.header.Header.{Header}
-use Rattle.gt_calls.specs.declared.request.Holder.{Holder}
-use Rattle.gt_entry.specs.declared.change.Change.{Change}
-use Rattle.gt_entry.specs.declared.change.Half.{Half}
-use Rattle.gt_calls.specs.declared.action.Step.TheVariants.{Pin as PinStep, Unpin}
-use Rattle.gt_calls.specs.declared.action.Seen.TheVariants.{Taken}
-use Rattle.gt_calls.specs.declared.held.Held.{Held}
-use Rattle.gt_core.specs.declared.trace.Item.{Item}
-use Rattle.gt_core.specs.declared.trace.Happened.TheVariants.{Stepped}
-use Rattle.gt_core.specs.declared.trace.Answer.{Answer}
-use Rattle.gt_core.specs.History.{History, Setting, Pin, live, entry_at, raises_at, generation_at, body_at, header_stored, header_or, table_at, mappings_at, legs_at, gather, by_mapping, by_leg, maps_answered_at, known_at, without, is_holder, mapping_of}
-use mathlib.Core.Path.{fun_ext}
-use Rattle.std.proofs.lemmas.Bool.{eqb-true, false≢true}
-use Rattle.std.proofs.lemmas.List.{append-nil, append_assoc}
-use Rattle.gt_core.specs.declared.trace.Happened.{Happened}
-use Rattle.gt_core.specs.History.{change_at, entry_after, raise_after, or_else, stored_at, pinned_by, unpinned_by, one_if_mapped}
+use Rattle.gt_core.proofs.Words.{◌≡◌, ◌+◌, ℕ, refl, Bool, true, false, List, [], ◌∷◌, ◌++◌, length, Option, None, cond, sym, ap, ◌∙◌, arith, Handle, ◌==◌, ◌&&◌, DomId, Entry, Header, Holder, Change, Half, PinStep, Unpin, Taken, Held, Item, Stepped, Answer, History, Setting, Pin, live, entry_at, raises_at, generation_at, body_at, header_stored, header_or, table_at, mappings_at, legs_at, gather, by_mapping, by_leg, maps_answered_at, known_at, without, is_holder, mapping_of, fun_ext, eqb-true, false≢true, append-nil, Happened, change_at, entry_after, raise_after, or_else, stored_at, pinned_by, unpinned_by, one_if_mapped}
+use Rattle.std.proofs.lemmas.List.{append_assoc}
 
 none-of : {A : Type 0} (b : Bool) (o : Option A) → b ≡ false → ◌≡◌ {A = Option A} (cond b o None) None
 none-of true o e = absurd (false≢true (sym e))
@@ -80,8 +61,7 @@ without-apart give d actor holder (p ∷ ps) apart = by (p.actor == actor) (is_h
         → gather give d (cond (b && e) ps (p ∷ without actor holder ps)) ≡ gather give d (p ∷ ps)
     by true true own rest =
         sym (ap (λ l. l ++ gather give d ps) (nothing-apart (p.actor == d) (give p.holder p.held) (ap (λ (n : ℕ). n == d) (eqb-true p.actor actor own) ∙ apart)))
-    by true false own rest = ap (λ l. cond (p.actor == d) (give p.holder p.held) [] ++ l) rest
-    by false e own rest = ap (λ l. cond (p.actor == d) (give p.holder p.held) [] ++ l) rest
+    by b e own rest = ap (λ l. cond (p.actor == d) (give p.holder p.held) [] ++ l) rest
 
 unpinned-apart : {A : Type 0} (give : Holder → Held → List A) (d : ℕ) (actor : DomId) (happened : Happened) (ps : List Pin) → (actor.0 == d) ≡ false → gather give d (unpinned_by actor happened ps) ≡ gather give d ps
 unpinned-apart give d actor (Stepped (Unpin p holder) seen) ps apart = without-apart give d actor.0 holder ps apart

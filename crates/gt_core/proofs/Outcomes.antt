@@ -1,42 +1,7 @@
 -- Where a step leads a call: what it ends with, what it has left, and what its answer is.
-use Rattle.std.proofs.Common.{◌≡◌, ◌⊎◌, inl, inr, ℕ, refl, Bool, true, false, List, [], ◌∷◌, ◌++◌, length, Option, Some, None, cond, sym, ap, ◌∙◌, subst}
-use Rattle.std.proofs.lemmas.List.Elements.{All-push}
-use Rattle.std.specs.Prelude.{◌==◌, All}
-use Rattle.gt_types.specs.declared.DomId.{DomId}
-use Rattle.gt_types.specs.declared.GrantRef.{GrantRef}
-use Rattle.gt_types.specs.declared.denial.Denial.{Denial}
-use Rattle.gt_entry.specs.declared.entry.Entry.{Entry}
-use Rattle.gt_entry.specs.declared.entry.Entry.TheVariants.{Invalid, Page, Sub, Via}
-use Rattle.gt_entry.specs.declared.change.Change.{Change}
-use Rattle.gt_calls.specs.declared.held.Held.{Held}
-use Rattle.gt_calls.specs.declared.held.Route.TheVariants.{Own, Direct, Through}
-use Rattle.gt_calls.specs.declared.held.Pins.{Pins}
-use Rattle.gt_calls.specs.declared.request.Asked.{Asked}
-use Rattle.gt_calls.specs.declared.request.Holder.TheVariants.{Mapping as ByMapping, Leg as ByLeg}
-use Rattle.gt_calls.specs.declared.action.Seen.{Seen}
-use Rattle.gt_calls.specs.declared.action.Seen.TheVariants.{Nothing, Taken, Missed}
-use Rattle.gt_calls.specs.declared.action.Verdict.{Verdict}
-use Rattle.gt_calls.specs.declared.action.Verdict.TheVariants.{Granted, Mapped, Refused}
-use Rattle.gt_calls.specs.declared.action.Step.{Step}
-use Rattle.gt_calls.specs.declared.action.Step.TheVariants.{LookHeader, LookControl, LookBody, Pin as PinStep, Unpin, StoreBody, StoreHeader, Exchange, Read as ReadBytes, Write as WriteBytes, Copy as CopyBytes}
-use Rattle.gt_calls.specs.declared.action.Action.TheVariants.{Step as Makes, Done}
-use Rattle.gt_calls.specs.declared.copying.Aim.{Aim}
-use Rattle.gt_calls.specs.declared.copying.Aim.TheVariants.{Mapping, Source, Dest}
-use Rattle.gt_calls.specs.declared.call.Phase.{Phase}
-use Rattle.gt_calls.specs.declared.call.Phase.TheVariants.{Storing, StoringSecond, Exchanging, Looking, Changing, Walking, Accessing, Asking, Last, Ending}
-use Rattle.gt_calls.specs.declared.leg.Leg.{Leg}
-use Rattle.gt_calls.specs.declared.leg.LegPhase.{LegPhase}
-use Rattle.gt_calls.specs.declared.leg.LegPhase.TheVariants.{Header as AtHeader, Look, Body, Second, Pinning, Relook}
-use Rattle.gt_calls.specs.declared.leg.LegNext.{LegNext}
-use Rattle.gt_calls.specs.declared.leg.LegNext.TheVariants.{Going, Refused as LegRefused, Pinned}
-use Rattle.gt_calls.specs.Holding.{last_first, pins_so_far, no_pins}
-use Rattle.gt_calls.specs.Rules.{CallerKnowledge, via_judged, is_dest_granted}
-use Rattle.gt_calls.specs.Path.{source_pair, dest_pair, second_leg, end_leg, Continuation}
-use Rattle.gt_calls.specs.Machine.{phase_after, action_at, after_leg, leg_step, after_source_pin, after_dest_pin, where_via, next_to_give}
-use Rattle.gt_calls.specs.Standing.{HasShown, IsQuiet}
-use Rattle.gt_core.specs.History.{History, Setting, word_at, known_at, seen_by}
-use Rattle.gt_core.specs.Legal.{StepsSoFar, LeavesAll, refusal_in}
-use Rattle.gt_core.specs.Standing.{PhaseStands, EndsAfter, IsClean, phase_refusal}
+use Rattle.gt_core.proofs.Words.{◌≡◌, ◌⊎◌, inl, inr, ℕ, refl, Bool, true, false, List, [], ◌∷◌, ◌++◌, length, Option, Some, None, cond, sym, ap, ◌∙◌, subst, All-push, ◌==◌, All, DomId, GrantRef, Denial, Entry, Via, Change, Held, Direct, Through, Pins, Asked, ByMapping, ByLeg, Seen, Nothing, Taken, Missed, Verdict, Granted, Refused, Step, Unpin, StoreHeader, Exchange, ReadBytes, WriteBytes, CopyBytes, Makes, Done, Aim, Mapping, Source, Dest, Phase, Exchanging, Changing, Walking, Accessing, Last, Ending, Leg, LegPhase, AtHeader, LegNext, LegRefused, Pinned, last_first, pins_so_far, no_pins, CallerKnowledge, via_judged, is_dest_granted, source_pair, dest_pair, second_leg, end_leg, Continuation, phase_after, action_at, after_leg, leg_step, after_source_pin, after_dest_pin, where_via, next_to_give, HasShown, IsQuiet, History, Setting, word_at, known_at, seen_by, StepsSoFar, LeavesAll, refusal_in, PhaseStands, EndsAfter, IsClean}
+use Rattle.gt_calls.specs.declared.held.Route.TheVariants.{Own}
+use Rattle.gt_calls.specs.declared.action.Verdict.TheVariants.{Mapped}
 use Rattle.gt_core.proofs.Phases.{makes-same}
 
 -- the next phase
@@ -54,11 +19,7 @@ IsSingle step = ⊥
 
 leg-single : (l : Leg) (at : LegPhase) → IsSingle (leg_step l at) → ⊥
 leg-single l AtHeader a = a
-leg-single l (Look more) a = a
-leg-single l (Body more word) a = a
-leg-single l (Second more word body) a = a
-leg-single l (Pinning more word body second) a = a
-leg-single l (Relook more word rule) a = a
+leg-single l at a = a
 
 give-single : (held : List Held) (verdict : Verdict) (step : Step) → next_to_give held verdict ≡ Makes step → IsSingle step → ⊥
 give-single [] verdict step e a = cc
@@ -66,16 +27,10 @@ give-single (p ∷ ps) verdict step e a = subst IsSingle (sym (makes-same _ _ e)
 
 -- it is the last one
 pub is-last : (d : DomId) (phase : Phase) (step : Step) → action_at d phase ≡ Makes step → IsSingle step → (verdict : Verdict) × (phase ≡ Last step verdict)
-is-last d (Storing gref entry) step e a = absurd (subst IsSingle (sym (makes-same _ _ e)) a)
-is-last d (StoringSecond gref entry) step e a = absurd (subst IsSingle (sym (makes-same _ _ e)) a)
-is-last d (Exchanging gref looked change) step e a = absurd (subst IsSingle (sym (makes-same _ _ e)) a)
-is-last d (Looking gref change more) step e a = absurd (subst IsSingle (sym (makes-same _ _ e)) a)
-is-last d (Changing gref change more looked) step e a = absurd (subst IsSingle (sym (makes-same _ _ e)) a)
 is-last d (Walking aim l at) step e a = absurd (leg-single l at (subst IsSingle (sym (makes-same _ _ e)) a))
-is-last d (Accessing c source dest) step e a = absurd (subst IsSingle (sym (makes-same _ _ e)) a)
-is-last d (Asking dom question) step e a = absurd (subst IsSingle (sym (makes-same _ _ e)) a)
 is-last d (Last last verdict) step e a = (verdict, ap (λ (z : Step). Last z verdict) (makes-same _ _ e))
 is-last d (Ending pins verdict) step e a = absurd (give-single (last_first pins) verdict step e a)
+is-last d phase step e a = absurd (subst IsSingle (sym (makes-same _ _ e)) a)
 
 single-sees : (s : Setting) (h : History) (d : DomId) (step : Step) → IsSingle step → seen_by s h d step ≡ Nothing
 single-sees s h d (StoreHeader version frames) a = refl
@@ -83,13 +38,7 @@ single-sees s h d (ReadBytes dom frame off len) a = refl
 single-sees s h d (WriteBytes dom frame off len) a = refl
 single-sees s h d (Unpin p (ByMapping handle)) a = refl
 single-sees s h d (Unpin p (ByLeg n)) a = refl
-single-sees s h d (LookHeader dom) a = absurd a
-single-sees s h d (LookControl dom gref) a = absurd a
-single-sees s h d (LookBody dom gref half) a = absurd a
-single-sees s h d (PinStep p) a = absurd a
-single-sees s h d (StoreBody gref half word) a = absurd a
-single-sees s h d (Exchange gref looked change) a = absurd a
-single-sees s h d (CopyBytes from to len) a = absurd a
+single-sees s h d step a = absurd a
 
 -- so the call is over after it
 pub single-ends : (s : Setting) (h : History) (d : DomId) (r : Asked) (so_far : StepsSoFar) (phase : Phase) (step : Step) → action_at d phase ≡ Makes step → PhaseStands s h d r so_far phase → IsSingle step
@@ -105,26 +54,13 @@ single-ends s h d r so_far phase step e b a =
 after-plain : (r : Asked) (step : Step) (verdict : Verdict) → EndsAfter r step verdict → refusal_in (Some verdict) ≡ None
 after-plain r (StoreHeader version frames) verdict (inl a) = ap (λ (v : Verdict). refusal_in (Some v)) a.1
 after-plain r (StoreHeader version frames) verdict (inr a) = ap (λ (v : Verdict). refusal_in (Some v)) a.1
-after-plain r (LookHeader dom) verdict a = ap (λ (v : Verdict). refusal_in (Some v)) a
-after-plain r (LookControl dom gref) verdict a = ap (λ (v : Verdict). refusal_in (Some v)) a
-after-plain r (LookBody dom gref half) verdict a = ap (λ (v : Verdict). refusal_in (Some v)) a
-after-plain r (PinStep p) verdict a = ap (λ (v : Verdict). refusal_in (Some v)) a
-after-plain r (Unpin p holder) verdict a = ap (λ (v : Verdict). refusal_in (Some v)) a
-after-plain r (StoreBody gref half word) verdict a = ap (λ (v : Verdict). refusal_in (Some v)) a
-after-plain r (Exchange gref looked change) verdict a = ap (λ (v : Verdict). refusal_in (Some v)) a
-after-plain r (ReadBytes dom frame off len) verdict a = ap (λ (v : Verdict). refusal_in (Some v)) a
-after-plain r (WriteBytes dom frame off len) verdict a = ap (λ (v : Verdict). refusal_in (Some v)) a
-after-plain r (CopyBytes from to len) verdict a = ap (λ (v : Verdict). refusal_in (Some v)) a
+after-plain r step verdict a = ap (λ (v : Verdict). refusal_in (Some v)) a
 
 -- an exchange that was taken
 
 leg-exchange : (l : Leg) (at : LegPhase) (gref : GrantRef) (looked : ℕ) (change : Change) → Makes (leg_step l at) ≡ Makes (Exchange gref looked change) → ⊥
 leg-exchange l AtHeader gref looked change e = cc
-leg-exchange l (Look more) gref looked change e = cc
-leg-exchange l (Body more word) gref looked change e = cc
-leg-exchange l (Second more word body) gref looked change e = cc
-leg-exchange l (Pinning more word body second) gref looked change e = cc
-leg-exchange l (Relook more word rule) gref looked change e = cc
+leg-exchange l at gref looked change e = cc
 
 give-exchange : (held : List Held) (verdict : Verdict) (gref : GrantRef) (looked : ℕ) (change : Change) → next_to_give held verdict ≡ Makes (Exchange gref looked change) → ⊥
 give-exchange [] verdict gref looked change e = cc
@@ -133,16 +69,12 @@ give-exchange (p ∷ ps) verdict gref looked change e = cc
 -- it ends its call
 pub taken-ends : (k : CallerKnowledge) (way : Continuation) (d : DomId) (r : Asked) (shown : List Seen) (phase : Phase) (gref : GrantRef) (looked : ℕ) (change : Change) → HasShown k way d r shown phase → action_at d phase ≡ Makes (Exchange gref looked change)
     → phase_after k d phase Taken ≡ Ending no_pins Granted
-taken-ends k way d r shown (Storing g entry) gref looked change a e = cc
-taken-ends k way d r shown (StoringSecond g entry) gref looked change a e = cc
 taken-ends k way d r shown (Exchanging g w c) gref looked change a e = refl
-taken-ends k way d r shown (Looking g c more) gref looked change a e = cc
 taken-ends k way d r shown (Changing g c more w) gref looked change a e = refl
 taken-ends k way d r shown (Walking aim l at) gref looked change a e = absurd (leg-exchange l at gref looked change e)
-taken-ends k way d r shown (Accessing c source dest) gref looked change a e = cc
-taken-ends k way d r shown (Asking dom question) gref looked change a e = cc
 taken-ends k way d r shown (Last last verdict) gref looked change a e = absurd (subst IsQuiet (makes-same _ _ e) a.0)
 taken-ends k way d r shown (Ending pins verdict) gref looked change a e = absurd (give-exchange (last_first pins) verdict gref looked change e)
+taken-ends k way d r shown phase gref looked change a e = cc
 
 -- a copy's access
 abbrev IsCopyStep : Step → Type 0
@@ -151,11 +83,7 @@ IsCopyStep step = ⊥
 
 leg-copy : (l : Leg) (at : LegPhase) → IsCopyStep (leg_step l at) → ⊥
 leg-copy l AtHeader a = a
-leg-copy l (Look more) a = a
-leg-copy l (Body more word) a = a
-leg-copy l (Second more word body) a = a
-leg-copy l (Pinning more word body second) a = a
-leg-copy l (Relook more word rule) a = a
+leg-copy l at a = a
 
 give-copy : (held : List Held) (verdict : Verdict) (step : Step) → next_to_give held verdict ≡ Makes step → IsCopyStep step → ⊥
 give-copy [] verdict step e a = cc
@@ -163,44 +91,22 @@ give-copy (p ∷ ps) verdict step e a = subst IsCopyStep (sym (makes-same _ _ e)
 
 quiet-copy : (step : Step) → IsQuiet step → IsCopyStep step → ⊥
 quiet-copy (CopyBytes from to len) a b = a
-quiet-copy (LookHeader dom) a b = b
-quiet-copy (LookControl dom gref) a b = b
-quiet-copy (LookBody dom gref half) a b = b
-quiet-copy (PinStep p) a b = b
-quiet-copy (Unpin p holder) a b = b
-quiet-copy (StoreBody gref half word) a b = b
-quiet-copy (StoreHeader version frames) a b = b
-quiet-copy (Exchange gref looked change) a b = b
-quiet-copy (ReadBytes dom frame off len) a b = b
-quiet-copy (WriteBytes dom frame off len) a b = b
+quiet-copy step a b = b
 
 -- and it is over, or gives pins back
 copy-over : (s : Setting) (h : History) (way : Continuation) (d : DomId) (r : Asked) (shown : List Seen) (phase : Phase) (from to : Rattle.gt_calls.specs.declared.action.Place.Place) (len : ℕ) → HasShown (known_at s h d) way d r shown phase → action_at d phase ≡ Makes (CopyBytes from to len)
     → (steps : List (Step × Seen)) → IsClean (phase_after (known_at s h d) d phase Nothing) steps
-copy-over s h way d r shown (Storing g entry) from to len a e = cc
-copy-over s h way d r shown (StoringSecond g entry) from to len a e = cc
-copy-over s h way d r shown (Exchanging g w c) from to len a e = cc
-copy-over s h way d r shown (Looking g c more) from to len a e = cc
-copy-over s h way d r shown (Changing g c more w) from to len a e = cc
 copy-over s h way d r shown (Walking aim l at) from to len a e = absurd (leg-copy l at (subst IsCopyStep (sym (makes-same _ _ e)) tt))
 copy-over s h way d r shown (Accessing c source dest) from to len a e = λ steps. inl refl
-copy-over s h way d r shown (Asking dom question) from to len a e = cc
 copy-over s h way d r shown (Last last verdict) from to len a e = absurd (quiet-copy last a.0 (subst IsCopyStep (sym (makes-same _ _ e)) tt))
 copy-over s h way d r shown (Ending pins verdict) from to len a e = absurd (give-copy (last_first pins) verdict (CopyBytes from to len) e tt)
+copy-over s h way d r shown phase from to len a e = cc
 
 -- the steps so far have left all as it was, unless the call ends with Ok
 
 clean-all : (p : Phase) (steps : List (Step × Seen)) → All LeavesAll steps → IsClean p steps
-clean-all (Storing gref entry) steps a = a
-clean-all (StoringSecond gref entry) steps a = a
-clean-all (Exchanging gref looked change) steps a = a
-clean-all (Looking gref change more) steps a = a
-clean-all (Changing gref change more looked) steps a = a
-clean-all (Walking aim l at) steps a = a
-clean-all (Accessing c source dest) steps a = a
-clean-all (Asking dom question) steps a = a
-clean-all (Last step verdict) steps a = a
 clean-all (Ending pins verdict) steps a = inr a
+clean-all p steps a = a
 
 -- where a call is not at its end, all is as it was
 abbrev IsEnd : Phase → Type 0
@@ -208,16 +114,8 @@ IsEnd (Ending pins verdict) = Unit {0}
 IsEnd p = ⊥
 
 clean-was : (p : Phase) (steps : List (Step × Seen)) → IsClean p steps → All LeavesAll steps ⊎ IsEnd p
-clean-was (Storing gref entry) steps a = inl a
-clean-was (StoringSecond gref entry) steps a = inl a
-clean-was (Exchanging gref looked change) steps a = inl a
-clean-was (Looking gref change more) steps a = inl a
-clean-was (Changing gref change more looked) steps a = inl a
-clean-was (Walking aim l at) steps a = inl a
-clean-was (Accessing c source dest) steps a = inl a
-clean-was (Asking dom question) steps a = inl a
-clean-was (Last step verdict) steps a = inl a
 clean-was (Ending pins verdict) steps a = inr tt
+clean-was p steps a = inl a
 
 -- a call that gives pins back goes on to
 clean-giving : (k : CallerKnowledge) (d : DomId) (pins : Pins) (verdict : Verdict) (held : List Held) (step : Step) (steps : List (Step × Seen)) → next_to_give held verdict ≡ Makes step → IsClean (Ending pins verdict) steps
@@ -237,15 +135,8 @@ single-clean s h d r so_far phase step e b a =
     inr (λ steps. subst (λ (p : Phase). IsClean p steps) (sym x.1) (inl (after-plain r step x.0 x.2)))
 
 step-ends : (s : Setting) (h : History) (way : Continuation) (d : DomId) (r : Asked) (shown : List Seen) (so_far : StepsSoFar) (phase : Phase) (step : Step) → HasShown (known_at s h d) way d r shown phase → action_at d phase ≡ Makes step → PhaseStands s h d r so_far phase → Ends s h d phase step
-step-ends s h way d r shown so_far phase (LookHeader dom) a e b = inl tt
-step-ends s h way d r shown so_far phase (LookControl dom gref) a e b = inl tt
-step-ends s h way d r shown so_far phase (LookBody dom gref half) a e b = inl tt
-step-ends s h way d r shown so_far phase (PinStep p) a e b = inl tt
-step-ends s h way d r shown so_far phase (StoreBody gref half word) a e b = inl tt
-step-ends s h way d r shown so_far phase (Unpin p (ByLeg n)) a e b = inl tt
 step-ends s h way d r shown so_far phase (Unpin p (ByMapping handle)) a e b = single-clean s h d r so_far phase (Unpin p (ByMapping handle)) e b tt
 step-ends s h way d r shown so_far phase (StoreHeader version frames) a e b = single-clean s h d r so_far phase (StoreHeader version frames) e b tt
-step-ends s h way d r shown so_far phase (ReadBytes dom frame off len) a e b = inl tt
 step-ends s h way d r shown so_far phase (WriteBytes dom frame off len) a e b = single-clean s h d r so_far phase (WriteBytes dom frame off len) e b tt
 step-ends s h way d r shown so_far phase (CopyBytes from to len) a e b = inr (copy-over s h way d r shown phase from to len a e)
 step-ends s h way d r shown so_far phase (Exchange gref looked change) a e b = by (word_at s h d.0 gref.0 == looked) refl
@@ -253,6 +144,7 @@ step-ends s h way d r shown so_far phase (Exchange gref looked change) a e b = b
     by : (c : Bool) → (word_at s h d.0 gref.0 == looked) ≡ c → LeavesAll (Exchange gref looked change, cond c Taken (Missed (word_at s h d.0 gref.0))) ⊎ ((steps : List (Step × Seen)) → IsClean (phase_after (known_at s h d) d phase (cond c Taken (Missed (word_at s h d.0 gref.0)))) steps)
     by true is = inr (λ steps. subst (λ (p : Phase). IsClean p steps) (sym (taken-ends (known_at s h d) way d r shown phase gref looked change a e)) (inl refl))
     by false is = inl tt
+step-ends s h way d r shown so_far phase step a e b = inl tt
 
 pub clean-next : (s : Setting) (h : History) (way : Continuation) (d : DomId) (r : Asked) (shown : List Seen) (so_far : StepsSoFar) (phase : Phase) (step : Step) (steps : List (Step × Seen)) → HasShown (known_at s h d) way d r shown phase → action_at d phase ≡ Makes step → PhaseStands s h d r so_far phase
     → IsClean phase steps → IsClean (next_of s h d phase step) (steps ++ (step, seen_by s h d step) ∷ [])
@@ -266,15 +158,7 @@ clean-next s h way d r shown so_far phase step steps a e b clean = by (clean-was
         give [] g z = cc
         give (p ∷ ps) g z =
             subst (λ (v : Seen). IsClean (phase_after (known_at s h d) d (Ending pins verdict) v) (steps ++ (step, v) ∷ [])) (ap (seen_by s h d) (makes-same (Unpin p (ByLeg (length ps))) step g)) z
-    giving (Storing gref entry) end f c = absurd end
-    giving (StoringSecond gref entry) end f c = absurd end
-    giving (Exchanging gref looked change) end f c = absurd end
-    giving (Looking gref change more) end f c = absurd end
-    giving (Changing gref change more looked) end f c = absurd end
-    giving (Walking aim l at) end f c = absurd end
-    giving (Accessing c' source dest) end f c = absurd end
-    giving (Asking dom question) end f c = absurd end
-    giving (Last last verdict) end f c = absurd end
+    giving p end f c = absurd end
 
     by : All LeavesAll steps ⊎ IsEnd phase → Ends s h d phase step → IsClean (next_of s h d phase step) (steps ++ (step, seen_by s h d step) ∷ [])
     by (inl all) (inl leaves) = clean-all (next_of s h d phase step) (steps ++ (step, seen_by s h d step) ∷ []) (All-push LeavesAll steps (step, seen_by s h d step) all leaves)
@@ -285,25 +169,16 @@ clean-next s h way d r shown so_far phase step steps a e b clean = by (clean-was
 
 -- a call whose next action is its end holds no pins
 pub ends-so : (d : DomId) (p : Phase) (v : Verdict) → action_at d p ≡ Done v → (pins : Pins) × (p ≡ Ending pins v) × (last_first pins ≡ [])
-ends-so d (Storing gref entry) v e = cc
-ends-so d (StoringSecond gref entry) v e = cc
-ends-so d (Exchanging gref looked change) v e = cc
-ends-so d (Looking gref change more) v e = cc
-ends-so d (Changing gref change more looked) v e = cc
-ends-so d (Walking aim l at) v e = cc
-ends-so d (Accessing c source dest) v e = cc
-ends-so d (Asking dom question) v e = cc
-ends-so d (Last step verdict) v e = cc
 ends-so d (Ending pins verdict) v e = by (last_first pins) refl e
   where
     by : (held : List Held) → last_first pins ≡ held → next_to_give held verdict ≡ Done v → (ps : Pins) × (Ending pins verdict ≡ Ending ps v) × (last_first ps ≡ [])
     by [] is f = let w : verdict ≡ v = cc in (pins, ap (Ending pins) w, is)
     by (p ∷ ps) is f = cc
+ends-so d p v e = cc
 
 -- how a walk ends: refused, or with the pin of a map
 pub walk-done : (k : CallerKnowledge) (d : DomId) (aim : Aim) (l : Leg) (next : LegNext) (v : Verdict) → action_at d (after_leg k d aim l next) ≡ Done v
     → ((denial : Denial) × (v ≡ Refused denial)) ⊎ ((p : Held) × (v ≡ Mapped p) × (next ≡ Pinned p) × (aim ≡ Mapping))
-walk-done k d aim l (Going phase) v e = cc
 walk-done k d aim l (LegRefused denial) v e = by (last_first (pins_so_far aim)) e
   where
     by : (held : List Held) → next_to_give held (Refused denial) ≡ Done v → ((denial : Denial) × (v ≡ Refused denial)) ⊎ ((p : Held) × (v ≡ Mapped p) × (LegRefused denial ≡ Pinned p) × (aim ≡ Mapping))
@@ -322,9 +197,7 @@ walk-done k d (Source c None) l (Pinned p) v e = absurd (by p.entry e)
 
     by : (entry : Entry) → action_at d (after_source_pin k d c l p entry) ≡ Done v → ⊥
     by (Via dom ro dom2 gref) f = where-not (via_judged k (source_pair d c dom2) dom2) (second_leg k l dom2 gref) f
-    by Invalid f = dest-not (is_dest_granted c) f
-    by (Page dom ro frame) f = dest-not (is_dest_granted c) f
-    by (Sub dom ro frame off len) f = dest-not (is_dest_granted c) f
+    by entry f = dest-not (is_dest_granted c) f
 walk-done k d (Source c (Some via)) l (Pinned p) v e = absurd (by (is_dest_granted c) e)
   where
     by : (b : Bool) → action_at d (cond b (Walking (Dest c (Through via p) None) (end_leg k d c.dest Rattle.gt_types.specs.declared.Dir.TheVariants.Write c.len) AtHeader) (Accessing c (Through via p) Own)) ≡ Done v → ⊥
@@ -338,7 +211,5 @@ walk-done k d (Dest c source None) l (Pinned p) v e = absurd (by p.entry e)
 
     by : (entry : Entry) → action_at d (after_dest_pin k d c source l p entry) ≡ Done v → ⊥
     by (Via dom ro dom2 gref) f = where-not (via_judged k (dest_pair d source dom2) dom2) (second_leg k l dom2 gref) f
-    by Invalid f = cc
-    by (Page dom ro frame) f = cc
-    by (Sub dom ro frame off len) f = cc
-walk-done k d (Dest c source (Some via)) l (Pinned p) v e = cc
+    by entry f = cc
+walk-done k d aim l next v e = cc

@@ -1,48 +1,8 @@
 -- Each step of an open call: it is on words that there are, its refusal is the first rule that stands, and where the call stands after it.
-use Rattle.std.proofs.Common.{◌≡◌, ◌≢◌, ◌<◌, ◌≤◌, ◌+◌, ℕ, refl, Bool, true, false, List, [], ◌∷◌, Option, Some, None, cond, sym, ap, ◌∙◌, subst, reverse, arith}
-use Rattle.std.specs.Prelude.{◌==◌, is_none}
-use Rattle.std.proofs.lemmas.Bool.{eq-eqb, true≢false, false≢true}
-use Rattle.std.proofs.lemmas.Option.{none-some}
-use Rattle.gt_types.specs.Names.{domain_of, resolved}
-use Rattle.gt_types.specs.declared.DomId.{DomId}
-use Rattle.gt_types.specs.declared.GrantRef.{GrantRef}
-use Rattle.gt_types.specs.declared.config.DomainConfig.{DomainConfig}
-use Rattle.gt_types.specs.declared.limits.TheConstants.{TABLE_ENTRIES}
-use Rattle.gt_entry.specs.declared.entry.Entry.{Entry}
-use Rattle.gt_entry.specs.declared.entry.Entry.TheVariants.{Invalid, Page, Sub, Via}
-use Rattle.gt_entry.specs.declared.change.Change.{Change}
-use Rattle.gt_entry.specs.declared.change.Change.TheVariants.{Publish, Revoke as ToInvalid, Demote as ToReadOnly, Promote as ToWritable}
+use Rattle.gt_core.proofs.Words.{◌≡◌, ◌≢◌, ◌<◌, ◌≤◌, ◌+◌, ℕ, refl, Bool, true, false, List, [], ◌∷◌, Option, Some, None, cond, sym, ap, ◌∙◌, subst, reverse, arith, ◌==◌, is_none, eq-eqb, true≢false, false≢true, none-some, domain_of, resolved, DomId, GrantRef, DomainConfig, TABLE_ENTRIES, Entry, Invalid, Change, Publish, ToInvalid, ToReadOnly, ToWritable, control_word, Held, Asked, Grant, Revoke, Demote, Promote, QuerySize, GetVersion, Verdict, Step, LookHeader, LookControl, LookBody, PinStep, Unpin, StoreBody, StoreHeader, Exchange, ReadBytes, WriteBytes, CopyBytes, Seen, Taken, Missed, Action, Makes, Done, Question, AsksSize, AsksVersion, Phase, Exchanging, Looking, Changing, Walking, Asking, Last, Ending, Leg, LegPhase, AtHeader, Look, Body, last_first, begun, size_of, opens, Continuation, FitsStep, path, RestsOnWord, action_at, leg_step, next_to_give, IsTurn, IsQuiet, HasShown, StandsAt, State, state_of, History, Setting, word_at, table_at, entry_at, generation_at, reads_at, writes_at, known_at, seen_by, legs_at, StepsSoFar, DomainsStand, StateAgrees, PhaseStands, LegStands, Asks, numbered}
 use Rattle.gt_entry.specs.Entries.{is_invalid}
-use Rattle.gt_entry.specs.Words.{control_word}
 use Rattle.gt_entry.specs.Spelling.{control_with}
-use Rattle.gt_calls.specs.declared.held.Held.{Held}
-use Rattle.gt_calls.specs.declared.request.Asked.{Asked}
-use Rattle.gt_calls.specs.declared.request.Asked.TheVariants.{Grant, Revoke, Demote, Promote, QuerySize, GetVersion}
-use Rattle.gt_calls.specs.declared.action.Verdict.{Verdict}
-use Rattle.gt_calls.specs.declared.action.Step.{Step}
-use Rattle.gt_calls.specs.declared.action.Step.TheVariants.{LookHeader, LookControl, LookBody, Pin as PinStep, Unpin, StoreBody, StoreHeader, Exchange, Read as ReadBytes, Write as WriteBytes, Copy as CopyBytes}
-use Rattle.gt_calls.specs.declared.action.Seen.{Seen}
-use Rattle.gt_calls.specs.declared.action.Seen.TheVariants.{Taken, Missed}
-use Rattle.gt_calls.specs.declared.action.Action.{Action}
-use Rattle.gt_calls.specs.declared.action.Action.TheVariants.{Step as Makes, Done}
-use Rattle.gt_calls.specs.declared.call.Question.{Question}
-use Rattle.gt_calls.specs.declared.call.Question.TheVariants.{Size as AsksSize, Version as AsksVersion}
-use Rattle.gt_calls.specs.declared.call.Phase.{Phase}
-use Rattle.gt_calls.specs.declared.call.Phase.TheVariants.{Storing, StoringSecond, Exchanging, Looking, Changing, Walking, Accessing, Asking, Last, Ending}
-use Rattle.gt_calls.specs.declared.leg.Leg.{Leg}
-use Rattle.gt_calls.specs.declared.leg.LegPhase.{LegPhase}
-use Rattle.gt_calls.specs.declared.leg.LegPhase.TheVariants.{Header as AtHeader, Look, Body, Second, Pinning, Relook}
-use Rattle.gt_calls.specs.Holding.{last_first}
-use Rattle.gt_calls.specs.Rules.{begun, size_of}
-use Rattle.gt_calls.specs.Opening.{opens}
-use Rattle.gt_calls.specs.Path.{Continuation, FitsStep, IsExchanged, IsChanged, path, idle_word}
-use Rattle.gt_calls.specs.Resting.{IsFor, IsToward, IsOnFrom, RestsOnWord, RestsOnRequest}
-use Rattle.gt_calls.specs.Machine.{action_at, leg_step, next_to_give}
-use Rattle.gt_calls.specs.Standing.{IsTurn, IsQuiet, HasShown, StandsAt}
-use Rattle.gt_core.specs.States.{State, state_of}
-use Rattle.gt_core.specs.History.{History, Setting, word_at, table_at, entry_at, generation_at, reads_at, writes_at, known_at, seen_by, legs_at}
-use Rattle.gt_core.specs.Legal.{StepsSoFar}
-use Rattle.gt_core.specs.Standing.{DomainsStand, StateAgrees, PhaseStands, LegStands, Asks, EndsAfter, phase_refusal, numbered}
+use Rattle.gt_calls.specs.Path.{IsExchanged, IsChanged, idle_word}
 use Rattle.gt_core.proofs.Fitting.{word-shows, table-fits}
 use Rattle.gt_core.proofs.Seeing.{IsWithin}
 use Rattle.gt_core.proofs.Legs.{Words}
@@ -98,8 +58,7 @@ pub turn-below : (s : Setting) (h : History) (xs : List State) (d : DomId) (r : 
     → IsTurn r gref change → gref.0 < TABLE_ENTRIES
 turn-below s h xs d r gref ToReadOnly st none is = table-below s h xs d gref st (opens (known_at s h d) d (Demote gref) (subst (λ (z : Asked). begun (known_at s h d) d z ≡ None) is none)).in_table
 turn-below s h xs d r gref ToWritable st none is = table-below s h xs d gref st (opens (known_at s h d) d (Promote gref) (subst (λ (z : Asked). begun (known_at s h d) d z ≡ None) is none)).in_table
-turn-below s h xs d r gref (Publish entry) st none is = absurd is
-turn-below s h xs d r gref ToInvalid st none is = absurd is
+turn-below s h xs d r gref change st none is = absurd is
 
 -- each step is on words that there are
 
@@ -107,9 +66,7 @@ leg-within : (s : Setting) (h : History) (xs : List State) (d : DomId) (l : Leg)
 leg-within s h xs d l so_far AtHeader some a = some
 leg-within s h xs d l so_far (Look more) some a = (some, a.0)
 leg-within s h xs d l so_far (Body more word) some a = (some, a.within)
-leg-within s h xs d l so_far (Second more word body) some a = (some, a.0.within)
-leg-within s h xs d l so_far (Pinning more word body second) some a = (some, a.0.within)
-leg-within s h xs d l so_far (Relook more word rule) some a = (some, a.0.within)
+leg-within s h xs d l so_far p some a = (some, a.0.within)
 
 quiet-within : (xs : List State) (d : DomId) (step : Step) → IsQuiet step → IsWithin xs d step
 quiet-within xs d (Unpin p holder) q = tt
@@ -140,16 +97,14 @@ step-within s h xs d r shown so_far phase step i = subst (λ (a : Action). OfAct
     OfAction (Done v) = Unit {0}
 
     by : (p : Phase) → HasShown (known_at s h d) (path (known_at s h d) d r) d r shown p → PhaseStands s h d r so_far p → action_at d p ≡ Makes step → OfAction (action_at d p)
-    by (Storing gref entry) a b e = tt
-    by (StoringSecond gref entry) a b e = tt
     by (Exchanging gref looked change) a b e = (i.own, word-below s h xs d r (path (known_at s h d) d r) shown gref looked change i.st i.at.unanswered a)
     by (Looking gref change more) a b e = (i.own, turn-below s h xs d r gref change i.st i.at.unanswered a)
     by (Changing gref change more looked) a b e = (i.own, turn-below s h xs d r gref change i.st i.at.unanswered a.1)
     by (Walking aim l at) a b e = leg-within s h xs d l so_far at (state-some s h xs l.dom i.st b.0) b.1
-    by (Accessing c source dest) a b e = tt
     by (Asking dom question) a b e = state-some s h xs dom i.st (asks-run s h d r dom question i.at.unanswered b)
     by (Last last verdict) a b e = quiet-within xs d last a.0
     by (Ending pins verdict) a b e = subst (λ (x : Action). OfAction x) (sym e) (give-within xs d (last_first pins) verdict step e)
+    by p a b e = tt
 
 -- what a step sees fits it
 
@@ -168,9 +123,7 @@ IsPublished s h d step = Unit {0}
 changed-fits : (s : Setting) (h : History) (d : DomId) (gref : GrantRef) (looked : ℕ) (change : Change) → IsPublished s h d (Exchange gref looked change)
     → IsChanged change looked (cond (word_at s h d.0 gref.0 == looked) Taken (Missed (word_at s h d.0 gref.0)))
 changed-fits s h d gref looked (Publish entry) p = ap (λ (b : Bool). cond b Taken (Missed (word_at s h d.0 gref.0))) (eq-eqb (word_at s h d.0 gref.0) looked p)
-changed-fits s h d gref looked ToInvalid p = exchanged-fits looked (word_at s h d.0 gref.0)
-changed-fits s h d gref looked ToReadOnly p = exchanged-fits looked (word_at s h d.0 gref.0)
-changed-fits s h d gref looked ToWritable p = exchanged-fits looked (word_at s h d.0 gref.0)
+changed-fits s h d gref looked change p = exchanged-fits looked (word_at s h d.0 gref.0)
 
 pub seen-fits : (s : Setting) (h : History) (d : DomId) (step : Step) → IsPublished s h d step → FitsStep step (seen_by s h d step)
 seen-fits s h d (LookHeader dom) p = tt
@@ -178,21 +131,14 @@ seen-fits s h d (LookControl dom gref) p = tt
 seen-fits s h d (LookBody dom gref half) p = tt
 seen-fits s h d (PinStep q) p = exchanged-fits q.word (word_at s h q.dom.0 q.gref.0)
 seen-fits s h d (Exchange gref looked change) p = changed-fits s h d gref looked change p
-seen-fits s h d (Unpin q holder) p = refl
-seen-fits s h d (StoreBody gref half word) p = refl
-seen-fits s h d (StoreHeader version frames) p = refl
-seen-fits s h d (ReadBytes dom frame off len) p = refl
-seen-fits s h d (WriteBytes dom frame off len) p = refl
-seen-fits s h d (CopyBytes from to len) p = refl
+seen-fits s h d step p = refl
 
 -- the owner's word with no pins
 
 -- a word with no pins is the idle word, and no other
 pub idle-pins : (e : Entry) (g r w : ℕ) → control_word (control_with e g r w) ≡ control_word (control_with e g 0 0) → r + w ≡ 0
 idle-pins Invalid g r w e = omega arith
-idle-pins (Page dom ro frame) g r w e = omega arith
-idle-pins (Sub dom ro frame off len) g r w e = omega arith
-idle-pins (Via dom ro dom2 gref) g r w e = omega arith
+idle-pins z g r w e = omega arith
 
 pub idle-here : (s : Setting) (h : History) (d : DomId) (gref : GrantRef) → reads_at h d.0 gref.0 + writes_at h d.0 gref.0 ≡ 0 → word_at s h d.0 gref.0 ≡ idle_word (known_at s h d) gref
 idle-here s h d gref none =
@@ -206,9 +152,7 @@ idle-no-pins s h d gref e = idle-pins (entry_at h d.0 gref.0) (generation_at s h
 
 invalid-is : (e : Entry) → is_invalid e ≡ true → e ≡ Invalid
 invalid-is Invalid e = refl
-invalid-is (Page dom ro frame) e = absurd (false≢true e)
-invalid-is (Sub dom ro frame off len) e = absurd (false≢true e)
-invalid-is (Via dom ro dom2 gref) e = absurd (false≢true e)
+invalid-is z e = absurd (false≢true e)
 
 pub grant-invalid : (s : Setting) (h : History) (d : DomId) (gref : GrantRef) (entry : Entry) → begun (known_at s h d) d (Grant gref entry) ≡ None → entry_at h d.0 gref.0 ≡ Invalid
 grant-invalid s h d gref entry none = invalid-is (entry_at h d.0 gref.0) (opens (known_at s h d) d (Grant gref entry) none).free
@@ -221,36 +165,19 @@ publish-here s h xs d r shown gref looked (Publish entry) st none rests =
     let a : reads_at h d.0 gref.0 ≡ 0 = free.0 in
     let b : writes_at h d.0 gref.0 ≡ 0 = free.1 in
     idle-here s h d gref (omega arith) ∙ sym rests.1
-publish-here s h xs d r shown gref looked ToInvalid st none rests = tt
-publish-here s h xs d r shown gref looked ToReadOnly st none rests = tt
-publish-here s h xs d r shown gref looked ToWritable st none rests = tt
+publish-here s h xs d r shown gref looked change st none rests = tt
 
 turn-publishes : (s : Setting) (h : History) (d : DomId) (r : Asked) (gref : GrantRef) (looked : ℕ) (change : Change) → IsTurn r gref change → IsPublished s h d (Exchange gref looked change)
 turn-publishes s h d r gref looked (Publish entry) is = absurd is
-turn-publishes s h d r gref looked ToInvalid is = tt
-turn-publishes s h d r gref looked ToReadOnly is = tt
-turn-publishes s h d r gref looked ToWritable is = tt
+turn-publishes s h d r gref looked change is = tt
 
 leg-publishes : (s : Setting) (h : History) (d : DomId) (l : Leg) (p : LegPhase) → IsPublished s h d (leg_step l p)
 leg-publishes s h d l AtHeader = tt
-leg-publishes s h d l (Look more) = tt
-leg-publishes s h d l (Body more word) = tt
-leg-publishes s h d l (Second more word body) = tt
-leg-publishes s h d l (Pinning more word body second) = tt
-leg-publishes s h d l (Relook more word rule) = tt
+leg-publishes s h d l p = tt
 
 quiet-publishes : (s : Setting) (h : History) (d : DomId) (step : Step) → IsQuiet step → IsPublished s h d step
 quiet-publishes s h d (Exchange gref looked change) q = absurd q
-quiet-publishes s h d (LookHeader dom) q = tt
-quiet-publishes s h d (LookControl dom gref) q = tt
-quiet-publishes s h d (LookBody dom gref half) q = tt
-quiet-publishes s h d (PinStep p) q = tt
-quiet-publishes s h d (Unpin p holder) q = tt
-quiet-publishes s h d (StoreBody gref half word) q = tt
-quiet-publishes s h d (StoreHeader version frames) q = tt
-quiet-publishes s h d (ReadBytes dom frame off len) q = tt
-quiet-publishes s h d (WriteBytes dom frame off len) q = tt
-quiet-publishes s h d (CopyBytes from to len) q = tt
+quiet-publishes s h d step q = tt
 
 give-publishes : (s : Setting) (h : History) (d : DomId) (held : List Held) (verdict : Verdict) (step : Step) → next_to_give held verdict ≡ Makes step → IsPublished s h d step
 give-publishes s h d [] verdict step e = cc
@@ -264,13 +191,9 @@ step-publishes s h xs d r shown so_far phase step i = subst (λ (a : Action). Of
     OfAction (Done v) = Unit {0}
 
     by : (p : Phase) → HasShown (known_at s h d) (path (known_at s h d) d r) d r shown p → action_at d p ≡ Makes step → OfAction (action_at d p)
-    by (Storing gref entry) a e = tt
-    by (StoringSecond gref entry) a e = tt
     by (Exchanging gref looked change) a e = publish-here s h xs d r shown gref looked change i.st i.at.unanswered a
-    by (Looking gref change more) a e = tt
     by (Changing gref change more looked) a e = turn-publishes s h d r gref looked change a.1
     by (Walking aim l at) a e = leg-publishes s h d l at
-    by (Accessing c source dest) a e = tt
-    by (Asking dom question) a e = tt
     by (Last last verdict) a e = quiet-publishes s h d last a.0
     by (Ending pins verdict) a e = subst (λ (x : Action). OfAction x) (sym e) (give-publishes s h d (last_first pins) verdict step e)
+    by p a e = tt

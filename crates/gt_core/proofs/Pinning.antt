@@ -1,34 +1,8 @@
 -- A pin that was taken keeps what a core stands for.
-use Rattle.std.proofs.Common.{◌≡◌, ◌≢◌, ◌<◌, ◌+◌, ℕ, refl, Bool, true, false, List, [], ◌∷◌, ◌++◌, length, Option, Some, cond, sym, ap, ◌∙◌, arith, subst}
-use Rattle.std.specs.Prelude.{◌==◌, ◌&&◌, All, count_by, min}
-use Rattle.std.proofs.lemmas.Bool.{eqb-true, eq-eqb, and_parts, and_from, false≢true, true≢false}
+use Rattle.gt_core.proofs.Words.{◌≡◌, ◌≢◌, ◌<◌, ◌+◌, ℕ, refl, Bool, true, false, List, [], ◌∷◌, ◌++◌, length, Option, Some, cond, sym, ap, ◌∙◌, arith, subst, ◌==◌, ◌&&◌, All, count_by, eqb-true, eq-eqb, and_parts, and_from, false≢true, true≢false, All-push, append-nil, DomId, Dir, Read, Write, MAX_PINS, Invalid, FirstHalf, SecondHalf, Kept, Handle, Held, Holder, ByLeg, PinStep, Taken, Slot, Open, Item, Answer, Mapped, changed_at, State, state_of, changed_in, with_slot, slot_after, Adds, History, Setting, Pin, live, entry_at, body_at, reads_at, writes_at, mappings_at, maps_answered_at, legs_at, open_call, is_pin_on, same_dir, gather, by_mapping, by_leg, holder_after, one_if_mapped, IsLawful, SlotAgrees, Agrees, DomainsStand, CallAgrees, GivenAgrees, MappingsAgree}
+use Rattle.std.specs.Prelude.{min}
 use Rattle.std.proofs.lemmas.List.Sums.{sum_by_push}
-use Rattle.std.proofs.lemmas.List.Elements.{All-push}
-use Rattle.std.proofs.lemmas.List.{append-nil}
-use Rattle.gt_types.specs.declared.DomId.{DomId}
-use Rattle.gt_types.specs.declared.Dir.{Dir}
-use Rattle.gt_types.specs.declared.Dir.TheVariants.{Read, Write}
-use Rattle.gt_types.specs.declared.limits.TheConstants.{MAX_PINS}
-use Rattle.gt_entry.specs.declared.entry.Entry.TheVariants.{Invalid}
-use Rattle.gt_entry.specs.declared.change.Half.TheVariants.{First as FirstHalf, Second as SecondHalf}
-use Rattle.gt_handles.specs.Handles.{Kept}
-use Rattle.gt_handles.specs.declared.handles.Handle.{Handle}
-use Rattle.gt_calls.specs.declared.held.Held.{Held}
-use Rattle.gt_calls.specs.declared.request.Holder.{Holder}
-use Rattle.gt_calls.specs.declared.request.Holder.TheVariants.{Leg as ByLeg}
-use Rattle.gt_calls.specs.declared.action.Step.TheVariants.{Pin as PinStep}
-use Rattle.gt_calls.specs.declared.action.Seen.TheVariants.{Taken}
-use Rattle.gt_core.specs.declared.slot.Slot.{Slot}
-use Rattle.gt_core.specs.declared.slot.Open.{Open}
 use Rattle.gt_core.specs.declared.slot.SlotChange.TheVariants.{Pinned}
-use Rattle.gt_core.specs.declared.trace.Item.{Item}
-use Rattle.gt_core.specs.declared.trace.Answer.{Answer}
-use Rattle.gt_core.specs.declared.trace.Answer.TheVariants.{Mapped}
-use Rattle.gt_core.specs.Rows.{changed_at}
-use Rattle.gt_core.specs.States.{State, state_of, changed_in}
-use Rattle.gt_core.specs.Effects.{with_slot, slot_after, Adds}
-use Rattle.gt_core.specs.History.{History, Setting, Pin, live, entry_at, body_at, reads_at, writes_at, mappings_at, maps_answered_at, legs_at, open_call, is_pin_on, same_dir, gather, by_mapping, by_leg, holder_after, one_if_mapped}
-use Rattle.gt_core.specs.Standing.{IsLawful, SlotAgrees, Agrees, DomainsStand, CallAgrees, GivenAgrees, MappingsAgree}
 use Rattle.gt_core.proofs.Mappings.{mappings-added, mappings-same}
 use Rattle.gt_core.proofs.Others.{gather-append}
 use Rattle.gt_core.proofs.Keeping.{stepped, SlotsAgree, KeepsEntries, same-body, actor-agrees, other-agrees, slots-agree, length-slots, counts-fit, becomes-changed, each-stands, keeps-stands, same-number}
@@ -59,10 +33,9 @@ grown-count : (h : History) (i : Item) (p : Pin) (t r : ℕ) (k : Dir) → Grows
 grown-count h i p t r k e = ap (λ (ps : List Pin). count_by (is_pin_on t r k) ps) e ∙ sum_by_push (λ (x : Pin). cond (is_pin_on t r k x) 1 0) (live h) p
 
 pub same-dir : (a b : Dir) → same_dir a b ≡ true → a ≡ b
-same-dir Read Read e = refl
 same-dir Read Write e = absurd (false≢true e)
 same-dir Write Read e = absurd (false≢true e)
-same-dir Write Write e = refl
+same-dir a b e = refl
 
 pins-counted : (h : History) (t r : ℕ) (k : Dir) → pins_at h t r k ≡ count_by (is_pin_on t r k) (live h)
 pins-counted h t r Read = refl

@@ -1,34 +1,6 @@
 -- The live pins and the mappings are the same without keys, where each handle that is named is told by its serial.
-use Rattle.std.proofs.Common.{◌≡◌, ◌+◌, ℕ, suc, refl, Bool, true, false, List, [], ◌∷◌, ◌++◌, length, Option, Some, None, cond, sym, ap, ◌∙◌, subst}
-use Rattle.std.specs.Prelude.{◌==◌, ◌&&◌, count_by, is_some, nat_lt}
-use Rattle.std.specs.Option.{option_map}
-use Rattle.std.proofs.lemmas.Bool.{eqb-true}
-use Rattle.std.proofs.lemmas.List.Sums.{sum_by-cons}
-use mathlib.Core.Path.{fun_ext}
-use Rattle.gt_types.specs.declared.DomId.{DomId}
-use Rattle.gt_types.specs.declared.Dir.{Dir}
-use Rattle.gt_types.specs.declared.Dir.TheVariants.{Read, Write}
-use Rattle.gt_entry.specs.declared.entry.Entry.{Entry}
-use Rattle.gt_entry.specs.declared.header.Header.{Header}
-use Rattle.gt_entry.specs.Words.{control_word}
-use Rattle.gt_handles.specs.declared.handles.Handle.{Handle}
-use Rattle.gt_calls.specs.Rules.{CallerKnowledge, control_with, size_of}
-use Rattle.gt_calls.specs.declared.request.Holder.{Holder}
-use Rattle.gt_calls.specs.declared.request.Holder.TheVariants.{Mapping as ByMapping, Leg as ByLeg}
-use Rattle.gt_calls.specs.declared.held.Held.{Held}
-use Rattle.gt_calls.specs.declared.action.Seen.{Seen}
-use Rattle.gt_calls.specs.declared.action.Seen.TheVariants.{Taken}
-use Rattle.gt_calls.specs.declared.action.Step.TheVariants.{Pin as PinStep, Unpin}
-use Rattle.gt_core.specs.declared.trace.Answer.{Answer}
-use Rattle.gt_core.specs.declared.trace.Answer.TheVariants.{Mapped, Bytes}
-use Rattle.gt_core.specs.declared.trace.Happened.{Happened}
-use Rattle.gt_core.specs.declared.trace.Happened.TheVariants.{Stepped}
-use Rattle.gt_core.specs.History.{History, Setting, Pin, live, without, is_holder, same_handle, holder_after, gather, by_leg, by_mapping, pinned_by, unpinned_by, is_pin_on, reads_at, writes_at, mappings_at, mapping_of, entry_at, generation_at, table_at, word_at, maps_answered_at, known_at}
-use Rattle.gt_types.specs.Names.{domain_of}
-use Rattle.gt_core.specs.Shown.{shown_at}
-use Rattle.gt_core.specs.Subject.{subject_at, place_of}
+use Rattle.gt_core.proofs.Words.{◌≡◌, ◌+◌, ℕ, suc, refl, Bool, true, false, List, [], ◌∷◌, ◌++◌, length, Option, Some, None, cond, sym, ap, ◌∙◌, subst, ◌==◌, ◌&&◌, count_by, is_some, nat_lt, option_map, eqb-true, sum_by-cons, fun_ext, DomId, Dir, Read, Write, Entry, Header, control_word, Handle, CallerKnowledge, control_with, size_of, Holder, ByMapping, ByLeg, Held, Seen, Taken, PinStep, Unpin, Answer, Mapped, Happened, Stepped, History, Setting, Pin, live, without, is_holder, same_handle, holder_after, gather, by_leg, by_mapping, pinned_by, unpinned_by, is_pin_on, reads_at, writes_at, mappings_at, mapping_of, entry_at, generation_at, table_at, word_at, maps_answered_at, known_at, domain_of, shown_at, subject_at, place_of, bare_handle, bare_happened, told, IsGiven, IsKnown, IsRun, AreAlike}
 use Rattle.gt_core.specs.declared.core_state.Shown.{Shown}
-use Rattle.gt_core.specs.Alike.{bare_handle, bare_happened, told, IsGiven, IsKnown, IsRun, AreAlike}
 use Rattle.gt_core.proofs.Bare.{bare-same, answer_from, bare, entry-bare, raises-bare, table-bare, maps-bare}
 use Rattle.gt_core.proofs.Given.{HeldGiven, PinsGiven, pins-given, known-tells, unpin-known}
 
@@ -107,10 +79,8 @@ legs-bare d (p ∷ ps) =
     by (ByLeg m) = refl
 
 holder-bare : (a : Option Answer) (n : ℕ) → holder_after (option_map answer_from (option_map told a)) n ≡ bare_holder (holder_after a n)
-holder-bare None n = refl
 holder-bare (Some (Mapped handle)) n = refl
-holder-bare (Some (Bytes b)) n = refl
-holder-bare (Some answer) n = refl
+holder-bare a n = refl
 
 pinned-bare : (d : DomId) (x : Happened) (a : Option Answer) (h : History) (ps : List Pin)
     → pinned_by d (bare_happened x) (option_map answer_from (option_map told a)) (bare h) (bare_pins ps) ≡ bare_pins (pinned_by d x a h ps)
@@ -170,8 +140,7 @@ gather-bare d (p ∷ ps) = by (p.actor == d) p.holder (gather-bare d ps)
     by : (b : Bool) (x : Holder) → gather by_mapping d (bare_pins ps) ≡ bare_mappings (gather by_mapping d ps)
         → cond b (by_mapping (bare_holder x) p.held) [] ++ gather by_mapping d (bare_pins ps) ≡ bare_mappings (cond b (by_mapping x p.held) [] ++ gather by_mapping d ps)
     by true (ByMapping a) rest = ap (λ (l : List (Handle × Held)). (bare_handle a, p.held) ∷ l) rest
-    by true (ByLeg n) rest = rest
-    by false x rest = rest
+    by b x rest = rest
 
 pub mappings-bare : (s : Setting) (h : History) (d : ℕ) → IsRun s h → mappings_at (bare h) d ≡ bare_mappings (mappings_at h d)
 mappings-bare s h d run = ap (λ (ps : List Pin). gather by_mapping d ps) (live-bare s h run) ∙ gather-bare d (live h)
@@ -191,8 +160,7 @@ gather-given h d (p ∷ ps) g = by (p.actor == d) refl p.holder g.0 (gather-give
   where
     by : (b : Bool) → (p.actor == d) ≡ b → (x : Holder) → HeldGiven h p.actor x → AreGiven h d (gather by_mapping d ps) → AreGiven h d (cond b (by_mapping x p.held) [] ++ gather by_mapping d ps)
     by true e (ByMapping a) given rest = (subst (λ (n : ℕ). IsGiven h n a) (eqb-true p.actor d e) given, rest)
-    by true e (ByLeg n) given rest = rest
-    by false e x given rest = rest
+    by b e x given rest = rest
 
 found-bare : (s : Setting) (h : History) (d : ℕ) (a : Handle) (ms : List (Handle × Held)) → IsRun s h → IsKnown h d a → AreGiven h d ms → mapping_of (bare_mappings ms) (bare_handle a) ≡ mapping_of ms a
 found-bare s h d a [] run k g = refl

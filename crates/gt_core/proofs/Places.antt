@@ -1,12 +1,7 @@
 -- The state of a domain among the states.
-use Rattle.std.proofs.Common.{◌≡◌, ◌<◌, ◌≤◌, ℕ, zero, suc, refl, Bool, true, false, List, [], ◌∷◌, length, Option, Some, None, cond, ltb, sym, ap, ◌∙◌, arith, get_or, set}
-use Rattle.std.proofs.lemmas.Bool.{eqb-true, eq-eqb, true≢false, ltb-false}
+use Rattle.gt_core.proofs.Words.{◌≡◌, ◌<◌, ◌≤◌, ℕ, zero, suc, refl, Bool, true, false, List, [], ◌∷◌, length, Option, Some, None, cond, ltb, sym, ap, ◌∙◌, arith, get_or, set, eqb-true, eq-eqb, true≢false, ltb-false, position-Some, slice_get_past, slice_get-get_or, Result, OnErr, position, slice_get, ◌==◌, position_or_len, State}
 use Rattle.std.proofs.lemmas.List.Folds.{find_at}
-use Rattle.std.proofs.lemmas.List.Quantifiers.{position-Some}
-use Rattle.std.proofs.lemmas.Option.{slice_get_past, slice_get-get_or}
-use Rattle.std.specs.Prelude.{Result, Ok, Err, OnErr, find, position, slice_get, ◌==◌}
-use Rattle.std.specs.List.{position_or_len}
-use Rattle.gt_core.specs.States.{State}
+use Rattle.std.specs.Prelude.{Ok, Err, find}
 use Rattle.gt_core.specs.Standing.{state_of}
 
 abbrev pub has_id : ℕ → State → Bool
@@ -47,9 +42,7 @@ cond-twice false x y z = refl
 
 cond-apart : (a b : Bool) (x y z : Option State) → ((a ≡ true) → (b ≡ true) → ⊥) → cond a x (cond b y z) ≡ cond b y (cond a x z)
 cond-apart true true x y z h = absurd (h refl refl)
-cond-apart true false x y z h = refl
-cond-apart false true x y z h = refl
-cond-apart false false x y z h = refl
+cond-apart a b x y z h = refl
 
 -- a new state of the first domain with a number
 pub state_of-set : (xs : List State) (i : ℕ) (old new : State) (q : ℕ)

@@ -1,34 +1,19 @@
 -- One event more, and what stands for each event.
-use Rattle.std.proofs.Common.{◌≡◌, ◌<◌, ◌+◌, ℕ, refl, length, get_or, take, List, [], ◌∷◌, ◌++◌, sym, ap, ◌∙◌, subst}
-use Rattle.std.proofs.lemmas.List.{take_more}
-use Rattle.gt_core.specs.declared.trace.Event.{Event}
-use Rattle.gt_core.specs.declared.trace.Element.{Element}
-use Rattle.std.specs.Prelude.{Bool, Result, IfOk, OnErr}
+use Rattle.gt_core.proofs.Words.{◌≡◌, ◌<◌, ◌+◌, ℕ, refl, length, get_or, take, List, [], ◌∷◌, ◌++◌, sym, ap, ◌∙◌, subst, take_more, Event, Element, Result, OnErr, DomId, TypeId, Perms, Config, Request, frame_counts, FrameSet, all_zeros, AreKept, Begin, Tick, Begun, State, DomainsStand, CoreStands, Does, setting_of, begun_element, ticked_element, History, Setting, LegalAfter, MayDo, grown, history_after}
+use Rattle.std.specs.Prelude.{Bool, IfOk}
 use Rattle.std.proofs.Common.{Ok, Err}
-use Rattle.gt_types.specs.declared.DomId.{DomId}
-use Rattle.gt_types.specs.declared.TypeId.{TypeId}
-use Rattle.gt_types.specs.declared.perms.Perms.{Perms}
 use Rattle.gt_types.specs.declared.Memory.{Memory}
-use Rattle.gt_types.specs.declared.config.Config.{Config}
-use Rattle.gt_calls.specs.declared.request.Request.{Request}
-use Rattle.gt_frames.specs.Places.{frame_counts}
-use Rattle.gt_frames.specs.Sets.{FrameSet, all_zeros, AreKept}
-use Rattle.gt_core.specs.declared.trace.Event.TheVariants.{Begin, Tick}
-use Rattle.gt_core.specs.declared.core_state.Begun.{Begun}
 use Rattle.gt_core.specs.declared.core_state.Ticked.{Ticked}
-use Rattle.gt_core.specs.States.{State, CoreState, core_of}
-use Rattle.gt_core.specs.Standing.{DomainsStand, CoreStands, StandsForSome, Does, DoesAlone, setting_of, begun_element, ticked_element}
+use Rattle.gt_core.specs.States.{CoreState, core_of}
+use Rattle.gt_core.specs.Standing.{StandsForSome, DoesAlone}
 use Rattle.gt_core.proofs.Framing.{frames-begun, frames-start}
-use Rattle.gt_core.specs.History.{History, Setting}
-use Rattle.gt_core.specs.Legal.{LegalAfter, MayDo, grown, history_after}
 
 -- one event more
 pub legal-more : (s : Setting) (h : History) (es : List Event) (xs : List Element) (e : Event) (x : Element) → LegalAfter s h es xs → MayDo s (history_after h xs) e x
     → LegalAfter s h (es ++ e ∷ []) (xs ++ x ∷ [])
 legal-more s h [] [] e x a m = (m, tt)
 legal-more s h (f ∷ es) (y ∷ xs) e x a m = (a.0, legal-more s (grown h y) es xs e x a.1 m)
-legal-more s h [] (y ∷ xs) e x a m = absurd a
-legal-more s h (f ∷ es) [] e x a m = absurd a
+legal-more s h es xs e x a m = absurd a
 
 pub history-more : (h : History) (xs : List Element) (x : Element) → history_after h (xs ++ x ∷ []) ≡ grown (history_after h xs) x
 history-more h [] x = refl

@@ -1,14 +1,5 @@
 -- A change of one element of a list, and of the first state with a number.
-use Rattle.std.proofs.Common.{◌≡◌, ◌<◌, ◌≤◌, ◌+◌, ℕ, zero, suc, refl, Bool, true, false, List, [], ◌∷◌, length, map, Option, Some, None, cond, ltb, sym, ap, ◌∙◌, arith, get_or, set, take, drop, ◌++◌}
-use Rattle.std.proofs.lemmas.Bool.{eqb-true, ne_eqb, eq-eqb, false≢true, true≢false, ltb-false}
-use Rattle.std.proofs.lemmas.List.Quantifiers.{position-Some}
-use Rattle.std.proofs.lemmas.List.{nil_from_length, append-nil, take_all, drop_all}
-use Rattle.std.proofs.Math.Seq.{take-nil}
-use Rattle.std.specs.Prelude.{position, slice_get, ◌==◌, not}
-use Rattle.std.specs.List.{position_or_len}
-use Rattle.std.specs.Option.{option_map}
-use Rattle.gt_core.specs.Rows.{changed_at}
-use Rattle.gt_core.specs.States.{State, state_of, changed_in}
+use Rattle.gt_core.proofs.Words.{◌≡◌, ◌<◌, ◌≤◌, ◌+◌, ℕ, zero, suc, refl, Bool, true, false, List, [], ◌∷◌, length, Option, Some, None, cond, ltb, sym, ap, ◌∙◌, arith, get_or, set, eqb-true, ne_eqb, eq-eqb, false≢true, true≢false, ltb-false, position-Some, position, slice_get, ◌==◌, not, position_or_len, option_map, changed_at, State, state_of, changed_in}
 use Rattle.gt_core.proofs.Places.{has_id}
 
 -- a write of the changed element
@@ -24,9 +15,8 @@ changed-past (z ∷ zs) zero f past = absurd (omega arith)
 changed-past (z ∷ zs) (suc r) f past = ap (λ l. z ∷ l) (changed-past zs r f (omega arith))
 
 pub length-changed : {A : Type 0} (xs : List A) (r : ℕ) (f : A → A) → length (changed_at r f xs) ≡ length xs
-length-changed [] r f = refl
-length-changed (z ∷ zs) zero f = refl
 length-changed (z ∷ zs) (suc r) f = ap suc (length-changed zs r f)
+length-changed xs r f = refl
 
 suc-eqb : (r q : ℕ) → (suc r == suc q) ≡ (r == q)
 suc-eqb r q = by (r == q) refl
@@ -111,9 +101,7 @@ state-changed (z ∷ zs) d q f keeps = by (z.id.0 == d) (state-changed zs d q f 
 
     apart : (b c : Bool) → (b ≡ true → c ≡ true → ⊥) → cond b (Some z) (cond c (option_map f (state_of zs q)) (state_of zs q)) ≡ cond c (option_map f (cond b (Some z) (state_of zs q))) (cond b (Some z) (state_of zs q))
     apart true true n = absurd (n refl refl)
-    apart true false n = refl
-    apart false true n = refl
-    apart false false n = refl
+    apart b c n = refl
 
     by : (b : Bool) → state_of (changed_in d f zs) q ≡ cond (d == q) (option_map f (state_of zs q)) (state_of zs q) → (z.id.0 == d) ≡ b
         → state_of (cond b (f z ∷ zs) (z ∷ changed_in d f zs)) q ≡ cond (d == q) (option_map f (cond (z.id.0 == q) (Some z) (state_of zs q))) (cond (z.id.0 == q) (Some z) (state_of zs q))

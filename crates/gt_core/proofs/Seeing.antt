@@ -1,23 +1,8 @@
 -- What the core's steps see is what the history left.
-use Rattle.std.proofs.Common.{◌≡◌, ◌≢◌, ◌<◌, ℕ, zero, suc, refl, Bool, true, false, List, [], ◌∷◌, length, Option, Some, None, cond, sym, ap, ◌∙◌, arith}
-use Rattle.std.proofs.lemmas.Option.{none-some, same_Some}
-use Rattle.std.specs.Prelude.{◌==◌, slice_get}
-use Rattle.gt_types.specs.declared.DomId.{DomId}
-use Rattle.gt_entry.specs.declared.entry.Entry.{Entry}
-use Rattle.gt_entry.specs.Words.{control_word, header_word}
-use Rattle.gt_core.specs.declared.slot.Slot.{Slot}
-use Rattle.gt_calls.specs.declared.known.Own.{Own}
-use Rattle.gt_core.specs.States.{State}
-use Rattle.gt_calls.specs.declared.action.Step.{Step}
-use Rattle.gt_calls.specs.declared.action.Step.TheVariants.{LookHeader, LookControl, LookBody, Pin, Unpin, StoreBody, StoreHeader, Exchange, Read as ReadBytes, Write as WriteBytes, Copy as CopyBytes}
-use Rattle.gt_calls.specs.declared.action.Seen.TheVariants.{Word}
-use Rattle.gt_calls.specs.Rules.{control_with, generation_in}
-use Rattle.gt_entry.specs.declared.change.Half.{Half}
-use Rattle.gt_entry.specs.declared.change.Half.TheVariants.{First as FirstHalf, Second as SecondHalf}
-use Rattle.gt_types.specs.declared.limits.TheConstants.{TABLE_ENTRIES}
-use Rattle.gt_core.specs.History.{History, Setting, entry_at, generation_at, reads_at, body_at, table_at, word_at, seen_by, exchange_sees}
-use Rattle.gt_core.specs.Standing.{Agrees, StateAgrees, DomainsStand, state_of}
-use Rattle.gt_core.specs.Sight.{reads_in, writes_in, body_in, slot_reads, slot_writes, slot_body, control_in, control_seen, header_seen, body_seen, sees}
+use Rattle.gt_core.proofs.Words.{◌≡◌, ◌≢◌, ◌<◌, ℕ, zero, suc, refl, Bool, true, false, List, [], ◌∷◌, length, Option, Some, None, cond, sym, ap, ◌∙◌, arith, none-some, same_Some, ◌==◌, slice_get, DomId, Entry, control_word, header_word, Slot, Own, State, Step, LookHeader, LookControl, LookBody, Exchange, Word, control_with, generation_in, Half, FirstHalf, SecondHalf, TABLE_ENTRIES, History, Setting, entry_at, generation_at, reads_at, body_at, table_at, word_at, seen_by, exchange_sees, Agrees, StateAgrees, DomainsStand, control_seen, header_seen, body_seen, sees}
+use Rattle.gt_calls.specs.declared.action.Step.TheVariants.{Pin}
+use Rattle.gt_core.specs.Standing.{state_of}
+use Rattle.gt_core.specs.Sight.{reads_in, writes_in, body_in, slot_reads, slot_writes, slot_body, control_in}
 
 header_seen-state : (xs : List State) (d : ℕ) (x : State) → state_of xs d ≡ Some x → header_seen xs d ≡ header_word x.header
 header_seen-state [] d x e = cc
@@ -109,9 +94,4 @@ sees-agree s h xs d (LookBody dom gref half) st w =
     ap (λ (n : ℕ). Word n) (body_seen-state xs dom.0 gref.0 half x.0 x.1 ∙ body-agrees s h x.0 gref.0 half x.3 w.1 ∙ ap (λ (t : DomId). body_at h t.0 gref.0 half) x.2)
 sees-agree s h xs d (Pin p) st w = ap (λ (n : ℕ). exchange_sees n p.word) (control-agrees s h xs p.dom p.gref.0 st w.0 w.1)
 sees-agree s h xs d (Exchange gref looked change) st w = ap (λ (n : ℕ). exchange_sees n looked) (control-agrees s h xs d gref.0 st w.0 w.1)
-sees-agree s h xs d (Unpin p holder) st w = refl
-sees-agree s h xs d (StoreBody gref half word) st w = refl
-sees-agree s h xs d (StoreHeader version frames) st w = refl
-sees-agree s h xs d (ReadBytes dom frame off len) st w = refl
-sees-agree s h xs d (WriteBytes dom frame off len) st w = refl
-sees-agree s h xs d (CopyBytes from to len) st w = refl
+sees-agree s h xs d step st w = refl

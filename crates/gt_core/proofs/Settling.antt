@@ -1,27 +1,5 @@
 -- How a call that nothing stood against is over.
-use Rattle.std.proofs.lemmas.List.{take_more, map-append}
-use Rattle.std.proofs.Common.{◌≡◌, ◌<◌, ◌+◌, ◌++◌, ◌%◌, map, get_or, ℕ, List, [], ◌∷◌, length, take, Some, None, refl, sym, ap, ◌∙◌, set, replicate, min}
-use Rattle.gt_handles.specs.Handles.{Kept}
-use Rattle.gt_types.specs.declared.DomId.{DomId}
-use Rattle.gt_types.specs.declared.config.DomainConfig.{DomainConfig}
-use Rattle.gt_entry.specs.declared.entry.Entry.TheVariants.{Invalid}
-use Rattle.gt_entry.specs.declared.header.Header.{Header}
-use Rattle.gt_calls.specs.declared.known.TheConstants.{ENTRIES}
-use Rattle.gt_types.specs.declared.limits.TheConstants.{LAST_GENERATION}
-use Rattle.gt_calls.specs.declared.known.Own.{Own}
-use Rattle.gt_calls.specs.declared.held.Held.{Held}
-use Rattle.gt_core.specs.declared.slot.Slot.{Slot}
-use Rattle.gt_core.specs.declared.slot.Open.{Open}
-use Rattle.gt_calls.specs.declared.request.Asked.{Asked}
-use Rattle.gt_calls.specs.declared.request.Asked.TheVariants.{Load, Peek}
-use Rattle.gt_calls.specs.declared.action.Step.{Step}
-use Rattle.gt_calls.specs.declared.action.Step.TheVariants.{LookHeader, LookControl, LookBody, Pin as PinStep, Unpin, StoreBody, StoreHeader, Exchange, Read as ReadBytes, Write as WriteBytes, Copy as CopyBytes}
-use Rattle.gt_core.specs.States.{State, first_state, IsLoading}
-use Rattle.gt_core.specs.Effects.{with_underway}
-use Rattle.gt_core.specs.declared.trace.Answer.TheVariants.{Done as AnswerDone}
-use Rattle.gt_core.specs.Standing.{Settled}
-use Rattle.gt_core.specs.Accesses.{IsLoadOf}
-use Rattle.gt_frames.specs.Sets.{FrameSet}
+use Rattle.gt_core.proofs.Words.{take_more, map-append, ◌≡◌, ◌<◌, ◌+◌, ◌++◌, ◌%◌, map, get_or, ℕ, List, [], ◌∷◌, length, take, Some, None, refl, sym, ap, ◌∙◌, set, replicate, min, Kept, DomId, DomainConfig, Invalid, Header, ENTRIES, LAST_GENERATION, Own, Held, Slot, Asked, Load, Peek, Step, ReadBytes, State, first_state, IsLoading, with_underway, AnswerDone, Settled, IsLoadOf, FrameSet}
 
 -- the room of a load is as long as what it asks
 pub loaded : (r : Asked) (m n : ℕ) → IsLoading (Some r) m → IsLoadOf r n → m ≡ n
@@ -54,14 +32,5 @@ rest-more first_gen items i d old new x within so_far made pushed =
 pub settled-plain : (fs : FrameSet) (xs new : List State) (at : ℕ) (d : State) (step : Step)
     → ((dom : DomId) (frame off len : ℕ) → step ≡ ReadBytes dom frame off len → ⊥)
     → new ≡ set xs at (with_underway None d) → Settled fs xs at d step AnswerDone new
-settled-plain fs xs new at d (LookHeader dom) r e = (refl, e)
-settled-plain fs xs new at d (LookControl dom gref) r e = (refl, e)
-settled-plain fs xs new at d (LookBody dom gref half) r e = (refl, e)
-settled-plain fs xs new at d (PinStep p) r e = (refl, e)
-settled-plain fs xs new at d (Unpin p holder) r e = (refl, e)
-settled-plain fs xs new at d (StoreBody gref half word) r e = (refl, e)
-settled-plain fs xs new at d (StoreHeader version frames) r e = (refl, e)
-settled-plain fs xs new at d (Exchange gref looked change) r e = (refl, e)
-settled-plain fs xs new at d (WriteBytes dom frame off len) r e = (refl, e)
-settled-plain fs xs new at d (CopyBytes from to len) r e = (refl, e)
 settled-plain fs xs new at d (ReadBytes dom frame off len) r e = absurd (r dom frame off len refl)
+settled-plain fs xs new at d step r e = (refl, e)

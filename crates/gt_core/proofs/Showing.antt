@@ -1,20 +1,6 @@
 -- What the core shows of an entry is what the history left.
-use Rattle.std.proofs.Common.{◌≡◌, ◌<◌, ◌≤◌, ℕ, zero, suc, refl, Bool, true, false, List, [], ◌∷◌, length, Option, Some, None, cond, sym, ap, ◌∙◌, arith, subst, get_or}
-use Rattle.std.proofs.lemmas.Bool.{lt-ltb, ltb-true}
-use Rattle.std.specs.Prelude.{nat_lt, ◌&&◌, is_some, slice_get, position}
-use Rattle.gt_types.specs.Names.{domain_of}
-use Rattle.gt_types.specs.declared.DomId.{DomId}
-use Rattle.gt_types.specs.declared.limits.TheConstants.{TABLE_ENTRIES}
-use Rattle.gt_types.specs.declared.config.DomainConfig.{DomainConfig}
-use Rattle.gt_entry.specs.declared.entry.Entry.{Entry}
-use Rattle.gt_entry.specs.declared.header.Header.{Header}
-use Rattle.gt_calls.specs.declared.known.Own.{Own}
-use Rattle.gt_core.specs.declared.slot.Slot.{Slot}
-use Rattle.gt_calls.specs.Rules.{size_of, row_entry, row_generation}
-use Rattle.gt_core.specs.States.{State}
-use Rattle.gt_core.specs.History.{History, Setting, entry_at, generation_at, reads_at, writes_at, table_at}
-use Rattle.gt_core.specs.Shown.{shown_in, shown_at}
-use Rattle.gt_core.specs.Standing.{Agrees, DomainsStand}
+use Rattle.gt_core.proofs.Words.{◌≡◌, ◌<◌, ◌≤◌, ℕ, zero, suc, refl, Bool, true, false, List, [], ◌∷◌, length, Option, Some, None, cond, sym, ap, ◌∙◌, arith, subst, get_or, lt-ltb, ltb-true, nat_lt, ◌&&◌, is_some, slice_get, position, domain_of, DomId, TABLE_ENTRIES, DomainConfig, Entry, Header, Own, Slot, size_of, row_entry, row_generation, State, History, Setting, entry_at, generation_at, reads_at, writes_at, table_at, shown_at, Agrees, DomainsStand}
+use Rattle.gt_core.specs.Shown.{shown_in}
 use Rattle.gt_core.proofs.Fitting.{table-fits}
 use Rattle.gt_core.proofs.Places.{has_id}
 use Rattle.gt_core.proofs.Beginning.{begin-nowhere, agrees-found}

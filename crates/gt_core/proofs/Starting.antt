@@ -1,36 +1,10 @@
 -- A core at rest stands for the empty history.
-use Rattle.std.proofs.Common.{◌≡◌, ◌<◌, ◌≤◌, ◌+◌, ◌%◌, ℕ, refl, Bool, true, false, List, [], ◌∷◌, Option, Some, None, cond, ltb, sym, ap, ◌∙◌, arith, subst, map, replicate, min, get_or, length}
+use Rattle.gt_core.proofs.Words.{◌≡◌, ◌<◌, ◌≤◌, ◌+◌, ◌%◌, ℕ, refl, Bool, true, false, List, [], ◌∷◌, Option, Some, None, cond, ltb, sym, ap, ◌∙◌, arith, subst, map, replicate, min, get_or, eqb-true, ltb-false, ltb-true, none-some, same_Some, slice_get-get_or, slice_get_past, mod-eq_of_lt, length-replicate, All-tail, fun_ext, nat_lt, ◌==◌, slice_get, All, option_map, domain_of, DomId, TypeId, Perms, Config, DomainConfig, Header, Invalid, Own, Slot, ENTRIES, entry_in, generation_in, row_entry, row_generation, State, state_of, first_state, Setting, entry_at, raises_at, body_at, live, mappings_at, maps_answered_at, open_call, table_at, reads_at, writes_at, control_at, setting_of, Agrees, StateAgrees, SlotAgrees, CallAgrees, FitsTable, FitsWord, IsLawful, DomainsStand, Half, FirstHalf, SecondHalf, IsEntry, LAST_GENERATION, gather, legs_at}
 use Rattle.gt_core.proofs.Mappings.{mappings-same, no-handles}
-use Rattle.std.proofs.lemmas.Bool.{eqb-true, lt-ltb, ltb-false, ltb-true}
-use Rattle.std.proofs.lemmas.Option.{none-some, same_Some, slice_get-get_or, slice_get_past}
-use Rattle.std.proofs.Math.Nat.{mod-eq_of_lt}
-use Rattle.std.proofs.lemmas.List.{get_or-replicate, length-replicate}
-use Rattle.std.proofs.lemmas.List.Elements.{All-tail}
-use mathlib.Core.Path.{fun_ext}
-use Rattle.std.specs.Prelude.{nat_lt, ◌==◌, slice_get, All}
-use Rattle.std.specs.Option.{option_map}
-use Rattle.gt_types.specs.Names.{domain_of}
+use Rattle.std.proofs.lemmas.List.{get_or-replicate}
 use Rattle.gt_types.specs.Config.{IsWithinLimits}
-use Rattle.gt_types.specs.declared.DomId.{DomId}
-use Rattle.gt_types.specs.declared.TypeId.{TypeId}
-use Rattle.gt_types.specs.declared.perms.Perms.{Perms}
-use Rattle.gt_types.specs.declared.config.Config.{Config}
-use Rattle.gt_types.specs.declared.config.DomainConfig.{DomainConfig}
-use Rattle.gt_entry.specs.declared.header.Header.{Header}
-use Rattle.gt_entry.specs.declared.entry.Entry.TheVariants.{Invalid}
-use Rattle.gt_calls.specs.declared.known.Own.{Own}
-use Rattle.gt_core.specs.declared.slot.Slot.{Slot}
-use Rattle.gt_calls.specs.declared.known.TheConstants.{ENTRIES}
-use Rattle.gt_calls.specs.Rules.{entry_in, generation_in, row_entry, row_generation, frames_in, frames_of}
-use Rattle.gt_core.specs.States.{State, state_of, first_state}
-use Rattle.gt_core.specs.History.{Setting, entry_at, raises_at, body_at, live, mappings_at, maps_answered_at, open_call, header_from, table_at, reads_at, writes_at, control_at}
-use Rattle.gt_core.specs.Standing.{setting_of, Agrees, StateAgrees, SlotAgrees, CallAgrees, FitsTable, FitsWord, IsLawful, DomainsStand}
+use Rattle.gt_core.specs.History.{header_from}
 use Rattle.gt_core.proofs.Keeping.{given-none}
-use Rattle.gt_entry.specs.declared.change.Half.{Half}
-use Rattle.gt_entry.specs.declared.change.Half.TheVariants.{First as FirstHalf, Second as SecondHalf}
-use Rattle.gt_entry.specs.Entries.{IsEntry}
-use Rattle.gt_types.specs.declared.limits.TheConstants.{LAST_GENERATION}
-use Rattle.gt_core.specs.History.{gather, legs_at}
 
 state-of-map : (g : ℕ) (ds : List DomainConfig) (dom : DomId) → state_of (map (first_state g) ds) dom.0 ≡ option_map (first_state g) (domain_of ds dom)
 state-of-map g [] dom = refl

@@ -1,78 +1,18 @@
 -- What the core does for a step of an open call: it is right, and the core stands for it.
-use Rattle.std.proofs.Common.{◌≡◌, ◌≢◌, ◌<◌, ◌≤◌, ◌+◌, inl, inr, ℕ, refl, Bool, true, false, List, [], ◌∷◌, ◌++◌, length, Option, Some, None, cond, sym, ap, ◌∙◌, subst, reverse, arith}
-use Rattle.std.proofs.lemmas.Bool.{eqb-true, eq-eqb}
-use Rattle.std.proofs.lemmas.List.{length-reverse, length-take-le, length-take, length-drop}
-use Rattle.std.proofs.lemmas.Grind.{reverse_onto}
-use Rattle.std.proofs.lemmas.Option.{same_Some}
-use Rattle.std.specs.Prelude.{◌==◌, take, drop, slice_get}
-use Rattle.gt_types.specs.declared.DomId.{DomId}
-use Rattle.gt_types.specs.declared.GrantRef.{GrantRef}
-use Rattle.gt_types.specs.declared.limits.TheConstants.{FRAME_SIZE}
-use Rattle.gt_types.specs.declared.denial.Denial.{Denial}
-use Rattle.gt_entry.specs.declared.entry.Entry.{Entry}
-use Rattle.gt_entry.specs.declared.entry.Entry.TheVariants.{Invalid, Page, Sub, Via}
-use Rattle.gt_entry.specs.declared.change.Half.{Half}
-use Rattle.gt_handles.specs.declared.handles.Handle.{Handle}
-use Rattle.gt_calls.specs.declared.held.Held.{Held}
-use Rattle.gt_calls.specs.declared.action.Place.{Place}
-use Rattle.gt_calls.specs.declared.request.Asked.{Asked}
-use Rattle.gt_calls.specs.declared.request.Asked.TheVariants.{Store, Poke, Copy}
-use Rattle.gt_calls.specs.declared.request.Holder.TheVariants.{Mapping as ByMapping, Leg as ByLeg}
-use Rattle.gt_calls.specs.declared.action.Seen.{Seen}
-use Rattle.gt_calls.specs.declared.action.Seen.TheVariants.{Nothing, Taken, Missed}
-use Rattle.gt_calls.specs.declared.action.Verdict.{Verdict}
-use Rattle.gt_calls.specs.declared.action.Verdict.TheVariants.{Granted, Given, Mapped as KeptPin, Refused}
-use Rattle.gt_calls.specs.declared.action.Step.{Step}
-use Rattle.gt_calls.specs.declared.action.Step.TheVariants.{LookHeader, LookControl, LookBody, Pin as PinStep, Unpin, StoreBody, StoreHeader, Exchange, Read as ReadBytes, Write as WriteBytes, Copy as CopyBytes}
-use Rattle.gt_calls.specs.declared.action.Action.{Action}
-use Rattle.gt_calls.specs.declared.action.Action.TheVariants.{Step as Makes, Done}
-use Rattle.gt_calls.specs.declared.call.Call.{Call}
-use Rattle.gt_calls.specs.declared.call.Phase.{Phase}
-use Rattle.gt_calls.specs.declared.call.Phase.TheVariants.{Storing, StoringSecond, Exchanging, Looking, Changing, Walking, Accessing, Asking, Last, Ending}
-use Rattle.gt_calls.specs.Holding.{last_first, no_pins}
-use Rattle.gt_calls.specs.Rules.{CallerKnowledge, knowledge_of}
-use Rattle.gt_calls.specs.Path.{path}
-use Rattle.gt_calls.specs.Resting.{Rests, RestsStep}
-use Rattle.gt_calls.specs.Machine.{phase_after, action_at, next_to_give, after_store}
-use Rattle.gt_calls.specs.Standing.{HasShown, pins_at, held_in}
-use Rattle.gt_calls.specs.Following.{Goes}
-use Rattle.gt_core.specs.declared.slot.Open.{Open}
-use Rattle.gt_core.specs.declared.trace.Item.{Item}
-use Rattle.gt_core.specs.declared.trace.Answer.{Answer}
-use Rattle.gt_core.specs.declared.trace.Answer.TheVariants.{Denied, Done as AnswerDone, Mapped}
-use Rattle.gt_core.specs.States.{State, state_of, changed_in}
-use Rattle.gt_core.specs.Sight.{sees}
-use Rattle.gt_core.specs.History.{History, Setting, Pin, live, entry_at, generation_at, word_at, table_at, known_at, legs_at, mappings_at, mapping_of, maps_answered_at, seen_by, Underway, values, open_call, underway_after, holder_after, one_if_mapped}
-use Rattle.gt_core.specs.Legal.{StepsSoFar, StepsRight, Justified, IsSafe, PinIsSound, AnsweredBy, GivesValue, LeavesAll, IsSpelled, gives_back, verdict_in, refusal_in, refusal_of, refusal_if, or_then, first_of_item, first_in_call, stood, most_steps}
-use Rattle.gt_core.specs.Standing.{DomainsStand, Agrees, CallAgrees, OpenAgrees, GivenAgrees, FitsGiven, PhaseStands, IsClean, phase_refusal, numbered}
+use Rattle.gt_core.proofs.Words.{◌≡◌, ◌≢◌, inl, inr, ℕ, refl, Bool, true, false, List, [], ◌∷◌, ◌++◌, length, Option, Some, None, cond, sym, ap, ◌∙◌, subst, reverse, eqb-true, eq-eqb, length-reverse, reverse_onto, same_Some, ◌==◌, DomId, GrantRef, Denial, Entry, Invalid, Half, Handle, Held, Asked, ByMapping, ByLeg, Seen, Nothing, Taken, Missed, Verdict, Granted, Given, KeptPin, Refused, Step, PinStep, Unpin, StoreBody, StoreHeader, Exchange, ReadBytes, WriteBytes, CopyBytes, Action, Makes, Done, Call, Phase, Storing, Walking, Last, Ending, last_first, knowledge_of, path, phase_after, action_at, next_to_give, after_store, HasShown, pins_at, held_in, Goes, Open, Item, Answer, Denied, AnswerDone, Mapped, State, state_of, sees, History, Setting, live, word_at, known_at, legs_at, mappings_at, mapping_of, seen_by, Underway, values, open_call, underway_after, holder_after, one_if_mapped, StepsRight, GivesValue, refusal_in, refusal_of, DomainsStand, Agrees, CallAgrees, OpenAgrees, numbered, position, get_or, set, position-Some, domain_of, Value, FramesTold, BytesAnswer, Kept, applied, with_underway, with_mapping, Adds, IsReadable, IsAdmitted, AccessedBy, bytes_at, FrameSet, frame_at, contents_at, IsRight, StepsRightIn, CoreStands, FramesStand, core_of, Settled, IsLawful, IsLawfullyHeld, answer_with}
+use Rattle.std.specs.Prelude.{take, drop}
 use Rattle.gt_core.proofs.Quiet.{KeepsKnown}
 use Rattle.gt_core.proofs.Phases.{IsHere, makes-same}
 use Rattle.gt_core.proofs.Placing.{IsStore}
-use Rattle.gt_core.proofs.Keeping.{stepped, KeepsEntries, same-entry, same-generations, known-same, open_call-own, stood-own, same-number}
+use Rattle.gt_core.proofs.Keeping.{stepped, KeepsEntries, open_call-own}
 use Rattle.gt_core.proofs.Pinning.{pins, map-legs}
 use Rattle.gt_core.proofs.Unpinning.{unpins, leg-left, leg-mappings, mapping-legs}
 use Rattle.gt_core.proofs.Acting.{can-change, can-pin, store-invalid}
-use Rattle.gt_core.proofs.Accessing.{read-justified, copy-justified}
-use Rattle.gt_core.proofs.Outcomes.{next_of, IsSingle, single-ends, ends-so}
-use Rattle.std.specs.Prelude.{position}
-use Rattle.std.proofs.Common.{get_or, set}
-use Rattle.std.proofs.lemmas.List.Quantifiers.{position-Some}
-use Rattle.gt_types.specs.Names.{domain_of}
-use Rattle.gt_calls.specs.Rules.{frames_of, frames_in}
-use Rattle.gt_calls.specs.declared.action.Value.{Value}
-use Rattle.gt_calls.specs.declared.action.Value.TheVariants.{Frames as FramesTold, Size as SizeTold, Version as VersionTold}
+use Rattle.gt_core.proofs.Outcomes.{next_of, ends-so}
 use Rattle.gt_core.specs.declared.trace.Bytes.{Bytes}
-use Rattle.gt_core.specs.declared.trace.Answer.TheVariants.{Bytes as BytesAnswer}
-use Rattle.gt_handles.specs.Handles.{Kept}
-use Rattle.gt_core.specs.Effects.{applied, with_underway, with_mapping, with_slot, Adds}
-use Rattle.gt_core.specs.Accesses.{IsWriting, IsReadable, IsAdmitted, AccessedBy}
-use Rattle.gt_frames.specs.Frames.{bytes_at}
-use Rattle.gt_frames.specs.Sets.{FrameSet, frame_at}
-use Rattle.gt_core.specs.History.{contents_at, given_in}
-use Rattle.gt_core.specs.Legal.{IsRight, StepsRightIn, IsInFrame}
-use Rattle.gt_core.specs.Standing.{CoreStands, FramesStand, core_of, StateAgrees, Settled, IsLawful, IsLawfullyHeld, answer_with}
+use Rattle.gt_core.specs.Accesses.{IsWriting}
 use Rattle.gt_core.proofs.Places.{has_id, found, state_of-set}
-use Rattle.gt_core.proofs.Keeping.{quiet-stands, becomes-changed}
+use Rattle.gt_core.proofs.Keeping.{quiet-stands}
 use Rattle.gt_core.proofs.Storing.{store-stands}
 use Rattle.gt_core.proofs.Exchanging.{exchange-stands}
 use Rattle.gt_core.proofs.Headers.{header-stands}
@@ -101,18 +41,6 @@ pub step-stands : (s : Setting) (h : History) (xs ys : List State) (x : State) (
     → state_of xs x.id.0 ≡ Some x → Agrees s h x → Replaced xs ys x (record x { underway = o' }) → one_if_mapped answer ≡ 0 → ((n : ℕ) → holder_after answer n ≡ ByLeg n) → (IsStore step → answer ≡ None)
     → CallAgrees s (stepped x.id step (seen_by s h x.id step) answer ∷ h) x.id o' (open_call (stepped x.id step (seen_by s h x.id step) answer ∷ h) x.id.0)
     → DomainsStand s (stepped x.id step (seen_by s h x.id step) answer ∷ h) (applied x.id step (seen_by s h x.id step) ys)
-step-stands s h xs ys x c phase (LookHeader dom) answer o' i last here a r m leg store call =
-    calm s h xs ys x o' (LookHeader dom) _ answer (record { changes = λ r. refl; stores = λ r which. refl; header = refl }) (record { changes = λ r. refl; pins = λ before ps. refl; unpins = λ pins. refl; maps = m }) i.st here a r call
-step-stands s h xs ys x c phase (LookControl dom gref) answer o' i last here a r m leg store call =
-    calm s h xs ys x o' (LookControl dom gref) _ answer (record { changes = λ r. refl; stores = λ r which. refl; header = refl }) (record { changes = λ r. refl; pins = λ before ps. refl; unpins = λ pins. refl; maps = m }) i.st here a r call
-step-stands s h xs ys x c phase (LookBody dom gref half) answer o' i last here a r m leg store call =
-    calm s h xs ys x o' (LookBody dom gref half) _ answer (record { changes = λ r. refl; stores = λ r which. refl; header = refl }) (record { changes = λ r. refl; pins = λ before ps. refl; unpins = λ pins. refl; maps = m }) i.st here a r call
-step-stands s h xs ys x c phase (ReadBytes dom frame off len) answer o' i last here a r m leg store call =
-    calm s h xs ys x o' (ReadBytes dom frame off len) _ answer (record { changes = λ r. refl; stores = λ r which. refl; header = refl }) (record { changes = λ r. refl; pins = λ before ps. refl; unpins = λ pins. refl; maps = m }) i.st here a r call
-step-stands s h xs ys x c phase (WriteBytes dom frame off len) answer o' i last here a r m leg store call =
-    calm s h xs ys x o' (WriteBytes dom frame off len) _ answer (record { changes = λ r. refl; stores = λ r which. refl; header = refl }) (record { changes = λ r. refl; pins = λ before ps. refl; unpins = λ pins. refl; maps = m }) i.st here a r call
-step-stands s h xs ys x c phase (CopyBytes from to len) answer o' i last here a r m leg store call =
-    calm s h xs ys x o' (CopyBytes from to len) _ answer (record { changes = λ r. refl; stores = λ r which. refl; header = refl }) (record { changes = λ r. refl; pins = λ before ps. refl; unpins = λ pins. refl; maps = m }) i.st here a r call
 step-stands s h xs ys x c phase (PinStep p) answer o' i last here a r m leg store call = by (word_at s h p.dom.0 p.gref.0 == p.word) refl call
   where
     seen : Bool → Seen
@@ -157,6 +85,8 @@ step-stands s h xs ys x c phase (StoreBody gref half word) answer o' i last here
     (store-stands s h xs ys x gref half word o' i.st here a (store-invalid s h x.id c.request gref half word i.rests.0 i.rests.1) r
     (subst (λ (z : Option Answer). CallAgrees s (stepped x.id (StoreBody gref half word) Nothing z ∷ h) x.id o' (open_call (stepped x.id (StoreBody gref half word) Nothing z ∷ h) x.id.0)) (store tt) call)
     (given-goes-on x.id (StoreBody gref half word) Nothing None h x.given a.given))
+step-stands s h xs ys x c phase step answer o' i last here a r m leg store call =
+    calm s h xs ys x o' step _ answer (record { changes = λ r. refl; stores = λ r which. refl; header = refl }) (record { changes = λ r. refl; pins = λ before ps. refl; unpins = λ pins. refl; maps = m }) i.st here a r call
 
 -- the actor's call after this
 
@@ -196,36 +126,20 @@ store-goes s h xs x o c new v t store = by o.step refl store
       where
         after : (y : Entry) → Done v ≡ action_at x.id (after_store (known_at s h x.id) g y) → ⊥
         after Invalid k = cc
-        after (Page dom ro frame) k = cc
-        after (Sub dom ro frame off len) k = cc
-        after (Via dom ro dom2 r) k = cc
-    stored (StoringSecond g entry) gref half word a e f = cc
-    stored (Exchanging g w ch) gref half word a e f = cc
-    stored (Looking g ch more) gref half word a e f = cc
-    stored (Changing g ch more w) gref half word a e f = cc
+        after y k = cc
     stored (Walking aim l at) gref half word a e f = Rattle.gt_core.proofs.Ticking.leg-store l at (subst IsStore (sym (makes-same _ _ e)) tt)
-    stored (Accessing cc' source dest) gref half word a e f = cc
-    stored (Asking dom question) gref half word a e f = cc
     stored (Last last verdict) gref half word a e f = subst (Rattle.gt_calls.specs.Resting.RestsOnRequest (known_at s h x.id) x.id c.request) (makes-same _ _ e) a.1
     stored (Ending held verdict) gref half word a e f = give (last_first held) e
       where
         give : (l : List Held) → next_to_give l verdict ≡ Makes (StoreBody gref half word) → ⊥
         give [] k = cc
         give (p ∷ ps) k = cc
+    stored p gref half word a e f = cc
 
     by : (step : Step) → o.step ≡ step → IsStore step → ⊥
     by (StoreBody gref half word) is n =
         stored t.stands.phase gref half word t.stands.at.has_shown (t.stands.acts ∙ ap Makes is) (t.acts ∙ ap (λ (z : Step). action_at x.id (next_of s h x.id t.stands.phase z)) is)
-    by (LookHeader dom) is n = n
-    by (LookControl dom gref) is n = n
-    by (LookBody dom gref half) is n = n
-    by (PinStep p) is n = n
-    by (Unpin p holder) is n = n
-    by (StoreHeader version frames) is n = n
-    by (Exchange gref looked change) is n = n
-    by (ReadBytes dom frame off len) is n = n
-    by (WriteBytes dom frame off len) is n = n
-    by (CopyBytes from to len) is n = n
+    by step is n = n
 
 none-held : (s : Setting) (h : History) (xs : List State) (x : State) (o : Open) (c : Underway) (new : Call) (v : Verdict) (answer : Answer) → (t : Ticks s h xs x o c new (Done v)) → one_if_mapped (Some answer) ≡ 0 → ((n : ℕ) → holder_after (Some answer) n ≡ ByLeg n)
     → ((m : Held) → v ≡ KeptPin m → ⊥) → legs_at (stepped x.id o.step (seen_by s h x.id o.step) (Some answer) ∷ h) x.id.0 ≡ []
@@ -241,21 +155,11 @@ IsPlainAnswer answer = Unit {0}
 
 plain-maps : (answer : Answer) → IsPlainAnswer answer → one_if_mapped (Some answer) ≡ 0
 plain-maps (Mapped handle) a = absurd a
-plain-maps AnswerDone a = refl
-plain-maps (Denied denial) a = refl
-plain-maps (BytesAnswer b) a = refl
-plain-maps (Rattle.gt_core.specs.declared.trace.Answer.TheVariants.Frames n) a = refl
-plain-maps (Rattle.gt_core.specs.declared.trace.Answer.TheVariants.Size z) a = refl
-plain-maps (Rattle.gt_core.specs.declared.trace.Answer.TheVariants.Version n) a = refl
+plain-maps answer a = refl
 
 plain-leg : (answer : Answer) → IsPlainAnswer answer → (n : ℕ) → holder_after (Some answer) n ≡ ByLeg n
 plain-leg (Mapped handle) a n = absurd a
-plain-leg AnswerDone a n = refl
-plain-leg (Denied denial) a n = refl
-plain-leg (BytesAnswer b) a n = refl
-plain-leg (Rattle.gt_core.specs.declared.trace.Answer.TheVariants.Frames k) a n = refl
-plain-leg (Rattle.gt_core.specs.declared.trace.Answer.TheVariants.Size z) a n = refl
-plain-leg (Rattle.gt_core.specs.declared.trace.Answer.TheVariants.Version k) a n = refl
+plain-leg answer a n = refl
 
 pub ends-core : (s : Setting) (h : History) (xs ys : List State) (x : State) (o : Open) (c : Underway) (new : Call) (v : Verdict) (answer : Answer) → Ticks s h xs x o c new (Done v) → Replaced xs ys x (record x { underway = None })
     → IsPlainAnswer answer → ((m : Held) → v ≡ KeptPin m → ⊥) → refusal_of answer ≡ refusal_in (Some v) → GivesValue s h x.id c.request (Some o.step) answer
@@ -276,13 +180,11 @@ given-core s h xs ys x o c new value t r =
   where
     plain : (z : Value) → IsPlainAnswer (answer_with z)
     plain (FramesTold n) = tt
-    plain (SizeTold n) = tt
-    plain (VersionTold n) = tt
+    plain z = tt
 
     same : (z : Value) → refusal_of (answer_with z) ≡ None
     same (FramesTold n) = refl
-    same (SizeTold n) = refl
-    same (VersionTold n) = refl
+    same z = refl
 
 pub refused-core : (s : Setting) (h : History) (xs ys : List State) (x : State) (o : Open) (c : Underway) (new : Call) (denial : Denial) → Ticks s h xs x o c new (Done (Refused denial)) → Replaced xs ys x (record x { underway = None })
     → Ticked s h x.id o.step (seen_by s h x.id o.step) (Some (Denied denial)) (applied x.id o.step (seen_by s h x.id o.step) ys)
@@ -365,15 +267,8 @@ granted-core s h fs xs zs at x o c new answer t fr plain settled = by o.step ref
         ends (BytesAnswer b) done tt refl left
         (subst (λ (z : Step). GivesValue s h d c.request (Some z) (BytesAnswer b)) (sym is) (read-gives s h xs fs x o c new dom frame off len b t fr is gives))
     by (WriteBytes dom frame off len) is a = over (WriteBytes dom frame off len) is a (λ t frame off len e. cc)
-    by (LookHeader dom) is a = over (LookHeader dom) is a (λ t frame off len e. cc)
-    by (LookControl dom gref) is a = over (LookControl dom gref) is a (λ t frame off len e. cc)
-    by (LookBody dom gref half) is a = over (LookBody dom gref half) is a (λ t frame off len e. cc)
-    by (PinStep p) is a = over (PinStep p) is a (λ t frame off len e. cc)
-    by (Unpin p holder) is a = over (Unpin p holder) is a (λ t frame off len e. cc)
-    by (StoreBody gref half word) is a = over (StoreBody gref half word) is a (λ t frame off len e. cc)
-    by (StoreHeader version frames) is a = over (StoreHeader version frames) is a (λ t frame off len e. cc)
-    by (Exchange gref looked change) is a = over (Exchange gref looked change) is a (λ t frame off len e. cc)
     by (CopyBytes from to len) is a = over (CopyBytes from to len) is a (λ t frame off len e. cc)
+    by step is a = over step is a (λ t frame off len e. cc)
 
 -- the ways that a tick goes
 
@@ -505,27 +400,9 @@ tick-frames s h xs fs gs dom at x o seen answer place here under st wrote =
 -- a step that reads changes no frame, so that its range is there after it too
 pub readable-after : (fs gs : FrameSet) (x : State) (call : Call) (step : Step) → AccessedBy x call step fs gs → IsReadable fs call step → IsReadable gs call step
 readable-after fs gs x call (ReadBytes dom frame off len) wrote a = subst (λ (z : FrameSet). IsReadable z call (ReadBytes dom frame off len)) (sym wrote) a
-readable-after fs gs x call (WriteBytes dom frame off len) wrote a = tt
-readable-after fs gs x call (CopyBytes from to len) wrote a = tt
-readable-after fs gs x call (LookHeader dom) wrote a = tt
-readable-after fs gs x call (LookControl dom gref) wrote a = tt
-readable-after fs gs x call (LookBody dom gref half) wrote a = tt
-readable-after fs gs x call (PinStep p) wrote a = tt
-readable-after fs gs x call (Unpin p holder) wrote a = tt
-readable-after fs gs x call (StoreBody gref half word) wrote a = tt
-readable-after fs gs x call (StoreHeader version frames) wrote a = tt
-readable-after fs gs x call (Exchange gref looked change) wrote a = tt
+readable-after fs gs x call step wrote a = tt
 
 -- and it gives what they held before it
 pub settled-before : (fs gs : FrameSet) (xs new : List State) (at : ℕ) (x d : State) (call : Call) (step : Step) (answer : Answer) → AccessedBy x call step fs gs → Settled gs xs at d step answer new → Settled fs xs at d step answer new
 settled-before fs gs xs new at x d call (ReadBytes dom frame off len) answer wrote a = subst (λ (z : FrameSet). Settled z xs at d (ReadBytes dom frame off len) answer new) wrote a
-settled-before fs gs xs new at x d call (WriteBytes dom frame off len) answer wrote a = a
-settled-before fs gs xs new at x d call (CopyBytes from to len) answer wrote a = a
-settled-before fs gs xs new at x d call (LookHeader dom) answer wrote a = a
-settled-before fs gs xs new at x d call (LookControl dom gref) answer wrote a = a
-settled-before fs gs xs new at x d call (LookBody dom gref half) answer wrote a = a
-settled-before fs gs xs new at x d call (PinStep p) answer wrote a = a
-settled-before fs gs xs new at x d call (Unpin p holder) answer wrote a = a
-settled-before fs gs xs new at x d call (StoreBody gref half word) answer wrote a = a
-settled-before fs gs xs new at x d call (StoreHeader version frames) answer wrote a = a
-settled-before fs gs xs new at x d call (Exchange gref looked change) answer wrote a = a
+settled-before fs gs xs new at x d call step answer wrote a = a

@@ -1,28 +1,14 @@
 -- What a call saw of an entry stays true while the entry's generation stays.
-use Rattle.std.proofs.Common.{◌≡◌, ◌≢◌, ◌≤◌, ◌+◌, ℕ, refl, ◌∷◌, Option, Some, None, arith}
-use Rattle.gt_entry.specs.declared.entry.Entry.{Entry}
-use Rattle.gt_entry.specs.declared.entry.Entry.TheVariants.{Invalid}
-use Rattle.gt_entry.specs.declared.change.Change.{Change}
-use Rattle.gt_entry.specs.declared.change.Change.TheVariants.{Publish, Revoke, Demote, Promote}
-use Rattle.gt_entry.specs.Words.{control_of}
-use Rattle.gt_calls.specs.declared.leg.Leg.{Leg}
-use Rattle.gt_calls.specs.declared.leg.LegPhase.{LegPhase}
-use Rattle.gt_calls.specs.declared.leg.LegPhase.TheVariants.{Header, Look, Body, Second, Pinning, Relook}
-use Rattle.gt_types.specs.declared.denial.Rule.{Rule}
-use Rattle.gt_core.specs.declared.trace.Item.{Item}
-use Rattle.gt_core.specs.History.{History, Setting, entry_at, entry_after, raises_at, raise_after, generation_at, change_of}
-use Rattle.gt_core.specs.Legal.{StepsSoFar}
-use Rattle.gt_core.specs.Standing.{WhileSame, IsShown, HasLooked, HasRead, LegStands}
-use Rattle.gt_entry.specs.Spelling.{entry_of, first_body}
+use Rattle.gt_core.proofs.Words.{◌≡◌, ◌≢◌, ◌≤◌, ◌+◌, ℕ, refl, ◌∷◌, Option, Some, None, arith, Entry, Invalid, Change, control_of, Leg, LegPhase, Look, Body, Second, Pinning, Relook, Rule, Item, History, Setting, entry_at, entry_after, raises_at, raise_after, generation_at, change_of, StepsSoFar, WhileSame, IsShown, HasLooked, HasRead, LegStands, entry_of, first_body}
+use Rattle.gt_entry.specs.declared.change.Change.TheVariants.{Revoke}
+use Rattle.gt_calls.specs.declared.leg.LegPhase.TheVariants.{Header}
 
 same-after : (before first generation : ℕ) (Holds : Entry → Type 0) (entry : Entry) (c : Option Change) → generation ≤ first + before
     → (first + before ≡ generation → entry ≢ Invalid → Holds entry)
     → first + (before + raise_after c) ≡ generation → entry_after c entry ≢ Invalid → Holds (entry_after c entry)
 same-after before first generation Holds entry None le was e valid = was (omega arith) valid
-same-after before first generation Holds entry (Some (Publish new)) le was e valid = absurd (omega arith)
 same-after before first generation Holds entry (Some Revoke) le was e valid = absurd (valid refl)
-same-after before first generation Holds entry (Some Demote) le was e valid = absurd (omega arith)
-same-after before first generation Holds entry (Some Promote) le was e valid = absurd (omega arith)
+same-after before first generation Holds entry c le was e valid = absurd (omega arith)
 
 -- each item keeps what a call saw
 pub same-keeps : (s : Setting) (i : Item) (h : History) (l : Leg) (word : ℕ) (Holds : Entry → Type 0) → (control_of word).generation ≤ generation_at s h l.dom.0 l.gref.0

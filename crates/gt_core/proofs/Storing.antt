@@ -1,32 +1,6 @@
 -- A body word stored on an invalid entry keeps what a core stands for.
-use Rattle.std.proofs.Common.{◌≡◌, ◌≢◌, ◌+◌, ℕ, refl, Bool, true, false, List, ◌∷◌, Option, Some, None, cond, sym, ap, ◌∙◌, subst}
-use Rattle.std.proofs.lemmas.Bool.{eqb-true, eq-eqb}
-use Rattle.std.proofs.lemmas.Option.{none-some, same_Some}
-use Rattle.std.specs.Prelude.{◌==◌, ◌&&◌, All, count_by, slice_get}
-use Rattle.std.specs.Option.{option_map}
-use mathlib.Core.Path.{fun_ext}
-use Rattle.gt_types.specs.declared.DomId.{DomId}
-use Rattle.gt_types.specs.declared.GrantRef.{GrantRef}
-use Rattle.gt_types.specs.declared.Dir.TheVariants.{Read, Write}
-use Rattle.gt_entry.specs.declared.entry.Entry.{Entry}
-use Rattle.gt_entry.specs.declared.entry.Entry.TheVariants.{Invalid}
-use Rattle.gt_entry.specs.declared.change.Half.{Half}
-use Rattle.gt_entry.specs.declared.change.Half.TheVariants.{First as FirstHalf, Second as SecondHalf}
-use Rattle.gt_entry.specs.Entries.{IsEntry}
-use Rattle.gt_calls.specs.declared.action.Step.TheVariants.{StoreBody}
-use Rattle.gt_calls.specs.declared.action.Seen.TheVariants.{Nothing}
-use Rattle.gt_calls.specs.Rules.{control_with}
-use Rattle.gt_core.specs.declared.slot.Slot.{Slot}
-use Rattle.gt_core.specs.declared.slot.SlotChange.TheVariants.{Stored}
-use Rattle.gt_core.specs.declared.slot.Open.{Open}
-use Rattle.gt_core.specs.declared.trace.Item.{Item}
-use Rattle.gt_core.specs.declared.trace.Happened.TheVariants.{Stepped}
-use Rattle.gt_core.specs.Rows.{changed_at}
-use Rattle.gt_core.specs.States.{State, state_of, changed_in}
-use Rattle.gt_core.specs.Effects.{with_slot, slot_after}
-use Rattle.gt_core.specs.History.{History, Setting, Pin, entry_at, generation_at, body_at, reads_at, writes_at, control_at, same_half, or_else, stored_at, is_pin_on, open_call}
-use Rattle.gt_core.specs.Legal.{IsSpelled}
-use Rattle.gt_core.specs.Standing.{IsLawful, FitsTable, FitsWord, SlotAgrees, Agrees, DomainsStand, CallAgrees, GivenAgrees}
+use Rattle.gt_core.proofs.Words.{◌≡◌, ◌≢◌, ◌+◌, ℕ, refl, Bool, true, false, List, ◌∷◌, Option, Some, None, cond, sym, ap, ◌∙◌, subst, eqb-true, eq-eqb, none-some, same_Some, ◌==◌, ◌&&◌, All, count_by, slice_get, option_map, fun_ext, DomId, GrantRef, Read, Write, Entry, Invalid, Half, FirstHalf, SecondHalf, IsEntry, StoreBody, Nothing, control_with, Slot, Stored, Open, Item, Stepped, changed_at, State, state_of, changed_in, with_slot, slot_after, History, Setting, Pin, entry_at, generation_at, body_at, reads_at, writes_at, control_at, or_else, stored_at, is_pin_on, open_call, IsSpelled, IsLawful, FitsTable, FitsWord, SlotAgrees, Agrees, DomainsStand, CallAgrees, GivenAgrees}
+use Rattle.gt_core.specs.History.{same_half}
 use Rattle.gt_core.proofs.Rows.{get-changed, length-changed}
 use Rattle.gt_core.proofs.Quiet.{KeepsKnown, kept-entry, kept-raises, kept-live, kept-table, kept-generations}
 use Rattle.gt_core.proofs.Others.{other-body}

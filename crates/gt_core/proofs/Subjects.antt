@@ -1,16 +1,7 @@
 -- The entry of a mapping, as the core finds it, is that of the history.
-use Rattle.std.proofs.Common.{◌≡◌, ◌≢◌, ℕ, Bool, true, List, Option, Some, None, is_some, cond, refl, sym, ap, ◌∙◌, get_or}
-use Rattle.std.specs.Prelude.{option_map, position}
-use Rattle.gt_types.specs.Names.{domain_of}
-use Rattle.gt_types.specs.declared.DomId.{DomId}
-use Rattle.gt_types.specs.declared.config.DomainConfig.{DomainConfig}
-use Rattle.gt_handles.specs.declared.handles.Handle.{Handle}
-use Rattle.gt_handles.specs.Handles.{value_of}
-use Rattle.gt_calls.specs.declared.held.Held.{Held}
-use Rattle.gt_core.specs.States.{State}
-use Rattle.gt_core.specs.History.{History, Setting, mapping_of, mappings_at}
-use Rattle.gt_core.specs.Standing.{DomainsStand}
-use Rattle.gt_core.specs.Subject.{place_of, subject_at}
+use Rattle.gt_core.proofs.Words.{◌≡◌, ◌≢◌, ℕ, Bool, true, List, Option, Some, None, cond, refl, sym, ap, ◌∙◌, get_or, position, domain_of, DomId, DomainConfig, Handle, value_of, Held, State, History, Setting, mapping_of, mappings_at, DomainsStand, place_of, subject_at}
+use Rattle.std.proofs.Common.{is_some}
+use Rattle.std.specs.Prelude.{option_map}
 use Rattle.gt_core.proofs.Places.{has_id}
 use Rattle.gt_core.proofs.Beginning.{begin-nowhere, agrees-found}
 

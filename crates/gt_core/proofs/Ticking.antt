@@ -1,53 +1,8 @@
 -- A step of an open call is right, and the core stands for it.
-use Rattle.std.proofs.Common.{◌≡◌, ◌≢◌, ◌<◌, ◌≤◌, ◌+◌, ◌⊎◌, inl, inr, ℕ, suc, refl, Bool, true, false, List, [], ◌∷◌, ◌++◌, length, Option, Some, None, cond, sym, ap, ◌∙◌, subst, reverse, arith}
-use Rattle.std.proofs.lemmas.Bool.{eqb-true}
-use Rattle.std.proofs.lemmas.List.{map-append, reverse-append, length-append, length-reverse}
-use Rattle.std.proofs.lemmas.Grind.{reverse_onto}
-use Rattle.std.proofs.lemmas.Option.{none-some, same_Some}
-use Rattle.std.specs.Prelude.{◌==◌, All}
-use Rattle.gt_types.specs.declared.DomId.{DomId}
-use Rattle.gt_types.specs.declared.GrantRef.{GrantRef}
-use Rattle.gt_types.specs.declared.denial.Denial.{Denial}
-use Rattle.gt_entry.specs.declared.entry.Entry.{Entry}
-use Rattle.gt_entry.specs.declared.entry.Entry.TheVariants.{Invalid, Page, Sub, Via}
-use Rattle.gt_entry.specs.declared.header.Header.{Header}
-use Rattle.gt_entry.specs.declared.change.Change.{Change}
-use Rattle.gt_entry.specs.declared.change.Half.{Half}
-use Rattle.gt_entry.specs.declared.change.Half.TheVariants.{First as FirstHalf, Second as SecondHalf}
-use Rattle.gt_handles.specs.declared.handles.Handle.{Handle}
-use Rattle.gt_calls.specs.declared.held.Held.{Held}
-use Rattle.gt_calls.specs.declared.held.Pins.{Pins}
-use Rattle.gt_calls.specs.declared.request.Asked.{Asked}
-use Rattle.gt_calls.specs.declared.request.Asked.TheVariants.{Grant, Revoke, Demote, Promote, Map, Unmap, Load, Store, Peek, Poke, Copy, SetVersion, SetupTable, QuerySize, GetVersion}
-use Rattle.gt_calls.specs.declared.request.Holder.TheVariants.{Mapping as ByMapping, Leg as ByLeg}
-use Rattle.gt_calls.specs.declared.action.Seen.{Seen}
-use Rattle.gt_calls.specs.declared.action.Seen.TheVariants.{Nothing, Word, Taken, Missed}
-use Rattle.gt_calls.specs.declared.action.Verdict.{Verdict}
-use Rattle.gt_calls.specs.declared.action.Verdict.TheVariants.{Granted, Mapped as KeptPin}
-use Rattle.gt_calls.specs.declared.action.Step.{Step}
-use Rattle.gt_calls.specs.declared.action.Step.TheVariants.{LookHeader, LookControl, LookBody, Pin as PinStep, Unpin, StoreBody, StoreHeader, Exchange, Read as ReadBytes, Write as WriteBytes, Copy as CopyBytes}
-use Rattle.gt_calls.specs.declared.action.Action.{Action}
-use Rattle.gt_calls.specs.declared.action.Action.TheVariants.{Step as Makes, Done}
-use Rattle.gt_calls.specs.declared.call.Call.{Call}
-use Rattle.gt_calls.specs.declared.call.Phase.{Phase}
-use Rattle.gt_calls.specs.declared.call.Phase.TheVariants.{Storing, StoringSecond, Exchanging, Looking, Changing, Walking, Accessing, Asking, Last, Ending}
-use Rattle.gt_calls.specs.Holding.{last_first, no_pins}
-use Rattle.gt_calls.specs.Rules.{CallerKnowledge, knowledge_of}
-use Rattle.gt_calls.specs.Path.{path, FitsStep}
-use Rattle.gt_calls.specs.Resting.{Rests, RestsStep}
-use Rattle.gt_calls.specs.Machine.{phase_after, action_at, next_to_give, after_store}
-use Rattle.gt_calls.specs.Standing.{StandsAt, HasShown, pins_at, held_in}
-use Rattle.gt_calls.specs.Following.{Goes, GoesOn, FitsNext, HoldsAfter}
-use Rattle.gt_calls.specs.Counting.{most_steps as most_of, steps_left, IsCounted}
-use Rattle.gt_core.specs.declared.slot.Open.{Open}
-use Rattle.gt_core.specs.declared.trace.Item.{Item}
-use Rattle.gt_core.specs.declared.trace.Answer.{Answer}
-use Rattle.gt_core.specs.declared.trace.Happened.TheVariants.{Stepped}
-use Rattle.gt_core.specs.States.{State, state_of}
-use Rattle.gt_core.specs.Sight.{sees}
-use Rattle.gt_core.specs.History.{History, Setting, Pin, live, entry_at, generation_at, word_at, table_at, known_at, legs_at, mappings_at, mapping_of, maps_answered_at, seen_by, Underway, values, open_call, underway_after, holder_after, one_if_mapped}
-use Rattle.gt_core.specs.Legal.{StepsSoFar, StepsRight, Justified, IsSafe, PinIsSound, AnsweredBy, GivesValue, LeavesAll, IsSpelled, gives_back, verdict_in, refusal_in, refusal_of, refusal_if, or_then, first_of_item, first_in_call, stood, most_steps}
-use Rattle.gt_core.specs.Standing.{DomainsStand, Agrees, OpenAgrees, GivenAgrees, FitsGiven, PhaseStands, IsClean, phase_refusal, numbered}
+use Rattle.gt_core.proofs.Words.{◌≡◌, ◌≢◌, ◌<◌, ◌≤◌, ◌+◌, ◌⊎◌, inl, inr, ℕ, suc, refl, Bool, true, false, List, [], ◌∷◌, ◌++◌, length, Option, Some, None, cond, sym, ap, ◌∙◌, subst, reverse, arith, eqb-true, map-append, length-append, length-reverse, reverse_onto, none-some, same_Some, ◌==◌, All, DomId, GrantRef, Denial, Entry, Invalid, Sub, Header, Change, Half, FirstHalf, SecondHalf, Handle, Held, Pins, Asked, Demote, ByMapping, ByLeg, Seen, Nothing, Taken, Missed, Verdict, Granted, KeptPin, Step, PinStep, Unpin, StoreBody, StoreHeader, Exchange, ReadBytes, WriteBytes, CopyBytes, Action, Makes, Done, Call, Phase, Storing, StoringSecond, Walking, Last, Ending, last_first, no_pins, CallerKnowledge, knowledge_of, path, Rests, phase_after, action_at, next_to_give, after_store, StandsAt, HasShown, pins_at, held_in, Goes, GoesOn, most_of, steps_left, Open, Item, Answer, Stepped, State, state_of, sees, History, Setting, Pin, entry_at, generation_at, word_at, table_at, known_at, legs_at, mappings_at, mapping_of, maps_answered_at, seen_by, Underway, values, open_call, underway_after, holder_after, one_if_mapped, StepsSoFar, StepsRight, Justified, IsSafe, PinIsSound, AnsweredBy, GivesValue, LeavesAll, IsSpelled, gives_back, verdict_in, refusal_in, refusal_of, refusal_if, or_then, first_of_item, first_in_call, stood, most_steps, DomainsStand, Agrees, OpenAgrees, GivenAgrees, FitsGiven, PhaseStands, IsClean, phase_refusal, numbered}
+use Rattle.std.proofs.lemmas.List.{reverse-append}
+use Rattle.gt_calls.specs.Following.{FitsNext, HoldsAfter}
+use Rattle.gt_calls.specs.Counting.{IsCounted}
 use Rattle.gt_core.proofs.Quiet.{KeepsKnown, kept-known, kept-legs}
 use Rattle.gt_core.proofs.Seeing.{sees-agree}
 use Rattle.gt_core.proofs.Phases.{IsHere, makes-same, step-within, step-publishes, seen-fits}
@@ -146,9 +101,8 @@ pub given-goes-on : (d : DomId) (step : Step) (seen : Seen) (answer : Option Ans
 given-goes-on d step seen answer h given a = λ c call. by answer (open_call h d.0) refl c (sym (open_call-own (stepped d step seen answer) h) ∙ call)
   where
     by : (answer : Option Answer) (u : Option Underway) → open_call h d.0 ≡ u → (c : Underway) → underway_after (stepped d step seen answer) u ≡ Some c → (given ≡ c.given) × FitsGiven c.request c.given
-    by (Some x) u is c e = absurd (none-some c e)
-    by None None is c e = absurd (none-some c e)
     by None (Some b) is c e = subst (λ (z : Underway). (given ≡ z.given) × FitsGiven z.request z.given) (same_Some _ _ e) (a b is)
+    by answer u is c e = absurd (none-some c e)
 
 -- the first rule that stood at the places of the call, up to this step
 pub stood-after : (s : Setting) (h : History) (xs : List State) (x : State) (o : Open) (c : Underway) (new : Call) (action : Action) (answer : Option Answer) → (t : Ticks s h xs x o c new action)
@@ -231,25 +185,12 @@ legs-by h d answer old new action step seen m leg unmapped held holds pinned las
         ap (λ (k : ℕ). legs_at (unpins d p (ByLeg k) v answer ∷ h) d.0) (at ∙ ap (λ (l : List Held). length l) same ∙ sym (length-reverse new)) ∙ leg-left h d (reverse new) p v answer legs
 
     by : (z : Step) (v : Seen) → HoldsAfter z v old new action → PinFact h z v → LastFact old z → legs_at (stepped d z v answer ∷ h) d.0 ≡ numbered 0 (reverse new)
-    by (LookHeader dom) v e f g = quiet (LookHeader dom) v (record { changes = λ r. refl; pins = λ before ps. refl; unpins = λ pins. refl; maps = m }) e
-    by (LookControl dom gref) v e f g = quiet (LookControl dom gref) v (record { changes = λ r. refl; pins = λ before ps. refl; unpins = λ pins. refl; maps = m }) e
-    by (LookBody dom gref half) v e f g = quiet (LookBody dom gref half) v (record { changes = λ r. refl; pins = λ before ps. refl; unpins = λ pins. refl; maps = m }) e
     by (PinStep p) Taken e f g = pin p e (f p refl refl)
-    by (PinStep p) (Missed w) e f g = quiet (PinStep p) (Missed w) (record { changes = λ r. refl; pins = λ before ps. refl; unpins = λ pins. refl; maps = m }) e
-    by (PinStep p) (Word w) e f g = quiet (PinStep p) (Word w) (record { changes = λ r. refl; pins = λ before ps. refl; unpins = λ pins. refl; maps = m }) e
-    by (PinStep p) Nothing e f g = quiet (PinStep p) Nothing (record { changes = λ r. refl; pins = λ before ps. refl; unpins = λ pins. refl; maps = m }) e
     by (Unpin p (ByLeg place)) v e f g = give p place v e (g p place refl)
     by (Unpin p (ByMapping handle)) v e f g = mapping-legs h d p handle v answer ∙ held ∙ ap (λ (l : List Held). numbered 0 (reverse l)) (sym e)
-    by (StoreBody gref half word) v e f g = quiet (StoreBody gref half word) v (record { changes = λ r. refl; pins = λ before ps. refl; unpins = λ pins. refl; maps = m }) e
-    by (StoreHeader version frames) v e f g = quiet (StoreHeader version frames) v (record { changes = λ r. refl; pins = λ before ps. refl; unpins = λ pins. refl; maps = m }) e
     by (Exchange gref looked change) Taken e f g =
         ap (λ (ps : List Pin). Rattle.gt_core.specs.History.gather Rattle.gt_core.specs.History.by_leg d.0 ps) (exchanged-live h d gref looked change answer) ∙ held ∙ ap (λ (l : List Held). numbered 0 (reverse l)) (sym e)
-    by (Exchange gref looked change) (Missed w) e f g = quiet (Exchange gref looked change) (Missed w) (record { changes = λ r. refl; pins = λ before ps. refl; unpins = λ pins. refl; maps = m }) e
-    by (Exchange gref looked change) (Word w) e f g = quiet (Exchange gref looked change) (Word w) (record { changes = λ r. refl; pins = λ before ps. refl; unpins = λ pins. refl; maps = m }) e
-    by (Exchange gref looked change) Nothing e f g = quiet (Exchange gref looked change) Nothing (record { changes = λ r. refl; pins = λ before ps. refl; unpins = λ pins. refl; maps = m }) e
-    by (ReadBytes dom frame off len) v e f g = quiet (ReadBytes dom frame off len) v (record { changes = λ r. refl; pins = λ before ps. refl; unpins = λ pins. refl; maps = m }) e
-    by (WriteBytes dom frame off len) v e f g = quiet (WriteBytes dom frame off len) v (record { changes = λ r. refl; pins = λ before ps. refl; unpins = λ pins. refl; maps = m }) e
-    by (CopyBytes from to len) v e f g = quiet (CopyBytes from to len) v (record { changes = λ r. refl; pins = λ before ps. refl; unpins = λ pins. refl; maps = m }) e
+    by z v e f g = quiet z v (record { changes = λ r. refl; pins = λ before ps. refl; unpins = λ pins. refl; maps = m }) e
 
 pub pin-fact : (s : Setting) (h : History) (xs : List State) (x : State) (o : Open) (c : Underway) (new : Call) (action : Action) → Ticks s h xs x o c new action → PinFact h o.step (seen_by s h x.id o.step)
 pin-fact s h xs x o c new action t p is saw =
@@ -277,27 +218,17 @@ known-by s h d step seen single exchange = by step seen single exchange
     quiet z v k e = kept-known s (stepped d z v None) h d k e
 
     by : (z : Step) (v : Seen) → (IsSingle z → ⊥) → ((gref : GrantRef) (looked : ℕ) (change : Change) → z ≡ Exchange gref looked change → v ≡ Taken → ⊥) → known_at s (stepped d z v None ∷ h) d ≡ known_at s h d
-    by (LookHeader dom) v n e = quiet (LookHeader dom) v (record { changes = λ r. refl; pins = λ before ps. refl; unpins = λ pins. refl; maps = refl }) refl
-    by (LookControl dom gref) v n e = quiet (LookControl dom gref) v (record { changes = λ r. refl; pins = λ before ps. refl; unpins = λ pins. refl; maps = refl }) refl
-    by (LookBody dom gref half) v n e = quiet (LookBody dom gref half) v (record { changes = λ r. refl; pins = λ before ps. refl; unpins = λ pins. refl; maps = refl }) refl
     by (PinStep p) Taken n e =
         known-from s (pins d p None) h d (record { changes = λ r. refl; stores = λ r which. refl; header = refl }) (Rattle.gt_core.proofs.Quiet.kept-table s (pins d p None) h d refl) (leg-maps h d p None refl) (answered-stays h (pins d p None) d.0 refl)
-    by (PinStep p) (Missed w) n e = quiet (PinStep p) (Missed w) (record { changes = λ r. refl; pins = λ before ps. refl; unpins = λ pins. refl; maps = refl }) refl
-    by (PinStep p) (Word w) n e = quiet (PinStep p) (Word w) (record { changes = λ r. refl; pins = λ before ps. refl; unpins = λ pins. refl; maps = refl }) refl
-    by (PinStep p) Nothing n e = quiet (PinStep p) Nothing (record { changes = λ r. refl; pins = λ before ps. refl; unpins = λ pins. refl; maps = refl }) refl
     by (Unpin p (ByLeg place)) v n e =
         known-from s (unpins d p (ByLeg place) v None) h d (record { changes = λ r. refl; stores = λ r which. refl; header = refl }) (Rattle.gt_core.proofs.Quiet.kept-table s (unpins d p (ByLeg place) v None) h d refl) (leg-mappings h d p place v None)
         (answered-stays h (unpins d p (ByLeg place) v None) d.0 refl)
     by (Unpin p (ByMapping handle)) v n e = absurd (n tt)
-    by (StoreBody gref half word) v n e = quiet (StoreBody gref half word) v (record { changes = λ r. refl; pins = λ before ps. refl; unpins = λ pins. refl; maps = refl }) refl
     by (StoreHeader version frames) v n e = absurd (n tt)
     by (Exchange gref looked change) Taken n e = absurd (e gref looked change refl refl)
-    by (Exchange gref looked change) (Missed w) n e = quiet (Exchange gref looked change) (Missed w) (record { changes = λ r. refl; pins = λ before ps. refl; unpins = λ pins. refl; maps = refl }) refl
-    by (Exchange gref looked change) (Word w) n e = quiet (Exchange gref looked change) (Word w) (record { changes = λ r. refl; pins = λ before ps. refl; unpins = λ pins. refl; maps = refl }) refl
-    by (Exchange gref looked change) Nothing n e = quiet (Exchange gref looked change) Nothing (record { changes = λ r. refl; pins = λ before ps. refl; unpins = λ pins. refl; maps = refl }) refl
     by (ReadBytes dom frame off len) v n e = absurd (n tt)
     by (WriteBytes dom frame off len) v n e = absurd (n tt)
-    by (CopyBytes from to len) v n e = quiet (CopyBytes from to len) v (record { changes = λ r. refl; pins = λ before ps. refl; unpins = λ pins. refl; maps = refl }) refl
+    by z v n e = quiet z v (record { changes = λ r. refl; pins = λ before ps. refl; unpins = λ pins. refl; maps = refl }) refl
 
 goes-not : (d : DomId) (z : Step) (p : Phase) (pins : Pins) (v : Verdict) → last_first pins ≡ [] → Makes z ≡ action_at d p → p ≡ Ending pins v → ⊥
 goes-not d z p pins v none e is = let f : Makes z ≡ Done v = e ∙ ap (action_at d) is ∙ ap (λ (l : List Held). next_to_give l v) none in cc
@@ -315,17 +246,12 @@ known-after s h xs x o c new z t =
 
 plain-spelled : (entry : Entry) (first second : ℕ) → (Rattle.gt_calls.specs.Resting.IsSubPage entry → ⊥) → first ≡ Rattle.gt_calls.specs.Rules.first_body entry → IsSpelled entry first second
 plain-spelled Invalid first second n f = tt
-plain-spelled (Page dom ro frame) first second n f = f
 plain-spelled (Sub dom ro frame off len) first second n f = absurd (n tt)
-plain-spelled (Via dom ro dom2 gref) first second n f = f
+plain-spelled entry first second n f = f
 
 pub leg-store : (l : Rattle.gt_calls.specs.declared.leg.Leg.Leg) (at : Rattle.gt_calls.specs.declared.leg.LegPhase.LegPhase) → IsStore (Rattle.gt_calls.specs.Machine.leg_step l at) → ⊥
 leg-store l Rattle.gt_calls.specs.declared.leg.LegPhase.TheVariants.Header f = f
-leg-store l (Rattle.gt_calls.specs.declared.leg.LegPhase.TheVariants.Look more) f = f
-leg-store l (Rattle.gt_calls.specs.declared.leg.LegPhase.TheVariants.Body more w) f = f
-leg-store l (Rattle.gt_calls.specs.declared.leg.LegPhase.TheVariants.Second more w body) f = f
-leg-store l (Rattle.gt_calls.specs.declared.leg.LegPhase.TheVariants.Pinning more w body second) f = f
-leg-store l (Rattle.gt_calls.specs.declared.leg.LegPhase.TheVariants.Relook more w rule) f = f
+leg-store l at f = f
 
 store-place : (s : Setting) (h : History) (d : DomId) (r : Asked) (so_far now : StepsSoFar) (phase : Phase) (gref : GrantRef) (half : Half) (word : ℕ) (way : Rattle.gt_calls.specs.Path.Continuation) (shown : List Seen) → HasShown (known_at s h d) way d r shown phase → PhaseStands s h d r so_far phase
     → action_at d phase ≡ Makes (StoreBody gref half word) → PhaseStands s (stores d gref half word ∷ h) d r now (phase_after (known_at s h d) d phase Nothing)
@@ -334,28 +260,19 @@ store-place s h d r so_far now (Storing g entry) gref half word way shown a b e 
     subst (λ (st : Step). PhaseStands s (stepped d st Nothing None ∷ h) d r now (after_store (known_at s h d) g entry)) z (by entry)
   where
     by : (y : Entry) → PhaseStands s (stores d g FirstHalf (Rattle.gt_calls.specs.Rules.first_body y) ∷ h) d r now (after_store (known_at s h d) g y)
-    by Invalid = plain-spelled Invalid (Rattle.gt_core.specs.History.body_at (stores d g FirstHalf (Rattle.gt_calls.specs.Rules.first_body Invalid) ∷ h) d.0 g.0 FirstHalf) (Rattle.gt_core.specs.History.body_at (stores d g FirstHalf (Rattle.gt_calls.specs.Rules.first_body Invalid) ∷ h) d.0 g.0 SecondHalf) (λ n. n) (half-stored d g FirstHalf (Rattle.gt_calls.specs.Rules.first_body Invalid) h)
-    by (Page dom ro frame) = plain-spelled (Page dom ro frame) (Rattle.gt_core.specs.History.body_at (stores d g FirstHalf (Rattle.gt_calls.specs.Rules.first_body (Page dom ro frame)) ∷ h) d.0 g.0 FirstHalf) (Rattle.gt_core.specs.History.body_at (stores d g FirstHalf (Rattle.gt_calls.specs.Rules.first_body (Page dom ro frame)) ∷ h) d.0 g.0 SecondHalf) (λ n. n) (half-stored d g FirstHalf (Rattle.gt_calls.specs.Rules.first_body (Page dom ro frame)) h)
     by (Sub dom ro frame off len) = half-stored d g FirstHalf (Rattle.gt_calls.specs.Rules.first_body (Sub dom ro frame off len)) h
-    by (Via dom ro dom2 gref) = plain-spelled (Via dom ro dom2 gref) (Rattle.gt_core.specs.History.body_at (stores d g FirstHalf (Rattle.gt_calls.specs.Rules.first_body (Via dom ro dom2 gref)) ∷ h) d.0 g.0 FirstHalf) (Rattle.gt_core.specs.History.body_at (stores d g FirstHalf (Rattle.gt_calls.specs.Rules.first_body (Via dom ro dom2 gref)) ∷ h) d.0 g.0 SecondHalf) (λ n. n) (half-stored d g FirstHalf (Rattle.gt_calls.specs.Rules.first_body (Via dom ro dom2 gref)) h)
+    by y = plain-spelled y (Rattle.gt_core.specs.History.body_at (stores d g FirstHalf (Rattle.gt_calls.specs.Rules.first_body y) ∷ h) d.0 g.0 FirstHalf) (Rattle.gt_core.specs.History.body_at (stores d g FirstHalf (Rattle.gt_calls.specs.Rules.first_body y) ∷ h) d.0 g.0 SecondHalf) (λ n. n) (half-stored d g FirstHalf (Rattle.gt_calls.specs.Rules.first_body y) h)
 store-place s h d r so_far now (StoringSecond g entry) gref half word way shown a b e =
     let z : StoreBody g SecondHalf (Rattle.gt_calls.specs.Rules.second_body entry) ≡ StoreBody gref half word = makes-same _ _ e in
     subst (λ (st : Step). PhaseStands s (stepped d st Nothing None ∷ h) d r now (Rattle.gt_calls.specs.Machine.publishing (known_at s h d) g entry)) z (by entry a.3 b)
   where
     by : (y : Entry) → Rattle.gt_calls.specs.Resting.IsSubPage y → Rattle.gt_core.specs.History.body_at h d.0 g.0 FirstHalf ≡ Rattle.gt_calls.specs.Rules.first_body y
         → PhaseStands s (stores d g SecondHalf (Rattle.gt_calls.specs.Rules.second_body y) ∷ h) d r now (Rattle.gt_calls.specs.Machine.publishing (known_at s h d) g y)
-    by Invalid n f = absurd n
-    by (Page dom ro frame) n f = absurd n
-    by (Via dom ro dom2 gref) n f = absurd n
     by (Sub dom ro frame off len) n f =
         let y : Entry = Sub dom ro frame off len in
         (first-stays d g (Rattle.gt_calls.specs.Rules.second_body y) g.0 h ∙ f, half-stored d g SecondHalf (Rattle.gt_calls.specs.Rules.second_body y) h)
-store-place s h d r so_far now (Exchanging g w ch) gref half word way shown a b e = cc
-store-place s h d r so_far now (Looking g ch more) gref half word way shown a b e = cc
-store-place s h d r so_far now (Changing g ch more w) gref half word way shown a b e = cc
+    by y n f = absurd n
 store-place s h d r so_far now (Walking aim l at) gref half word way shown a b e = absurd (leg-store l at (subst IsStore (sym (makes-same _ _ e)) tt))
-store-place s h d r so_far now (Accessing c source dest) gref half word way shown a b e = cc
-store-place s h d r so_far now (Asking dom question) gref half word way shown a b e = cc
 store-place s h d r so_far now (Last last verdict) gref half word way shown a b e =
     absurd (subst (λ (z : Step). RestsOn z → ⊥) (sym (makes-same _ _ e)) (λ n. n) a.1)
   where
@@ -366,6 +283,7 @@ store-place s h d r so_far now (Ending held_pins verdict) gref half word way sho
     give : (held : List Held) → next_to_give held verdict ≡ Makes (StoreBody gref half word) → ⊥
     give [] f = cc
     give (p ∷ ps) f = cc
+store-place s h d r so_far now phase gref half word way shown a b e = cc
 
 body-stays : (i : Item) (h : History) (d : ℕ) → ((r : ℕ) (which : Half) → Rattle.gt_core.specs.History.stored_at i.happened r which ≡ None) → BodyStays i h d
 unfolding Rattle.gt_core.specs.History.body_at
@@ -373,29 +291,11 @@ body-stays i h d none = λ r which. ap (λ (o : Option ℕ). Rattle.gt_core.spec
 
 decide-store : (step : Step) → IsStore step ⊎ (IsStore step → ⊥)
 decide-store (StoreBody gref half word) = inl tt
-decide-store (LookHeader dom) = inr (λ n. n)
-decide-store (LookControl dom gref) = inr (λ n. n)
-decide-store (LookBody dom gref half) = inr (λ n. n)
-decide-store (PinStep p) = inr (λ n. n)
-decide-store (Unpin p holder) = inr (λ n. n)
-decide-store (StoreHeader version frames) = inr (λ n. n)
-decide-store (Exchange gref looked change) = inr (λ n. n)
-decide-store (ReadBytes dom frame off len) = inr (λ n. n)
-decide-store (WriteBytes dom frame off len) = inr (λ n. n)
-decide-store (CopyBytes from to len) = inr (λ n. n)
+decide-store step = inr (λ n. n)
 
 stored-none : (step : Step) (seen : Seen) → (IsStore step → ⊥) → (r : ℕ) (which : Half) → Rattle.gt_core.specs.History.stored_at (Stepped step seen) r which ≡ None
 stored-none (StoreBody gref half word) seen n r which = absurd (n tt)
-stored-none (LookHeader dom) seen n r which = refl
-stored-none (LookControl dom gref) seen n r which = refl
-stored-none (LookBody dom gref half) seen n r which = refl
-stored-none (PinStep p) seen n r which = refl
-stored-none (Unpin p holder) seen n r which = refl
-stored-none (StoreHeader version frames) seen n r which = refl
-stored-none (Exchange gref looked change) seen n r which = refl
-stored-none (ReadBytes dom frame off len) seen n r which = refl
-stored-none (WriteBytes dom frame off len) seen n r which = refl
-stored-none (CopyBytes from to len) seen n r which = refl
+stored-none step seen n r which = refl
 
 place-after : (s : Setting) (h : History) (xs : List State) (x : State) (o : Open) (c : Underway) (new : Call) (action : Action) → (t : Ticks s h xs x o c new action)
     → PhaseStands s (stepped x.id o.step (seen_by s h x.id o.step) None ∷ h) x.id c.request ((o.step, seen_by s h x.id o.step) ∷ reverse c.steps) (next_of s h x.id t.stands.phase o.step)
@@ -406,16 +306,7 @@ place-after s h xs x o c new action t = by (decide-store o.step)
 
     store : (step : Step) → o.step ≡ step → IsStore step → PhaseStands s (stepped d step (seen_by s h d step) None ∷ h) d c.request ((step, seen_by s h d step) ∷ reverse c.steps) (next_of s h d t.stands.phase step)
     store (StoreBody gref half word) is n = store-place s h d c.request (reverse c.steps) _ t.stands.phase gref half word (path (known_at s h d) d c.request) (values c) t.stands.at.has_shown t.stands.place (t.stands.acts ∙ ap Makes is)
-    store (LookHeader dom) is n = absurd n
-    store (LookControl dom gref) is n = absurd n
-    store (LookBody dom gref half) is n = absurd n
-    store (PinStep p) is n = absurd n
-    store (Unpin p holder) is n = absurd n
-    store (StoreHeader version frames) is n = absurd n
-    store (Exchange gref looked change) is n = absurd n
-    store (ReadBytes dom frame off len) is n = absurd n
-    store (WriteBytes dom frame off len) is n = absurd n
-    store (CopyBytes from to len) is n = absurd n
+    store step is n = absurd n
 
     by : IsStore o.step ⊎ (IsStore o.step → ⊥) → PhaseStands s (stepped d o.step (seen_by s h d o.step) None ∷ h) d c.request ((o.step, seen_by s h d o.step) ∷ reverse c.steps) (next_of s h d t.stands.phase o.step)
     by (inl n) = store o.step refl n
@@ -461,14 +352,7 @@ step-justified : (s : Setting) (h : History) (xs : List State) (d : DomId) (r : 
 step-justified s h xs d r shown so_far phase (ReadBytes dom frame off len) i = read-justified s h xs d r dom frame off len i.st i.rests.0 i.rests.1
 step-justified s h xs d r shown so_far phase (WriteBytes dom frame off len) i = write-justified s h xs d r dom frame off len i.st i.rests.0 i.rests.1
 step-justified s h xs d r shown so_far phase (CopyBytes from to len) i = copy-justified s h d r (pins_at phase) from to len i.rests.0 i.held i.rests.1
-step-justified s h xs d r shown so_far phase (LookHeader dom) i = tt
-step-justified s h xs d r shown so_far phase (LookControl dom gref) i = tt
-step-justified s h xs d r shown so_far phase (LookBody dom gref half) i = tt
-step-justified s h xs d r shown so_far phase (PinStep p) i = tt
-step-justified s h xs d r shown so_far phase (Unpin p holder) i = tt
-step-justified s h xs d r shown so_far phase (StoreBody gref half word) i = tt
-step-justified s h xs d r shown so_far phase (StoreHeader version frames) i = tt
-step-justified s h xs d r shown so_far phase (Exchange gref looked change) i = tt
+step-justified s h xs d r shown so_far phase step i = tt
 
 step-safe : (s : Setting) (h : History) (xs : List State) (d : DomId) (r : Asked) (shown : List Seen) (so_far : StepsSoFar) (phase : Phase) (step : Step) (answer : Option Answer) → IsHere s h xs d r shown so_far phase step → IsSafe s h (stepped d step (seen_by s h d step) answer)
 step-safe s h xs d r shown so_far phase (Exchange gref looked change) answer i = by (word_at s h d.0 gref.0 == looked) refl
@@ -477,19 +361,12 @@ step-safe s h xs d r shown so_far phase (Exchange gref looked change) answer i =
     by true is = (can-change s h xs d r shown so_far phase gref looked change i (eqb-true (word_at s h d.0 gref.0) looked is)).safe
     by false is = tt
 step-safe s h xs d r shown so_far phase (StoreBody gref half word) answer i = store-invalid s h d r gref half word i.rests.0 i.rests.1
-step-safe s h xs d r shown so_far phase (LookHeader dom) answer i = tt
-step-safe s h xs d r shown so_far phase (LookControl dom gref) answer i = tt
-step-safe s h xs d r shown so_far phase (LookBody dom gref half) answer i = tt
 step-safe s h xs d r shown so_far phase (PinStep p) answer i = by (word_at s h p.dom.0 p.gref.0 == p.word)
   where
     by : (b : Bool) → IsSafe s h (stepped d (PinStep p) (cond b Taken (Missed (word_at s h p.dom.0 p.gref.0))) answer)
     by true = tt
     by false = tt
-step-safe s h xs d r shown so_far phase (Unpin p holder) answer i = tt
-step-safe s h xs d r shown so_far phase (StoreHeader version frames) answer i = tt
-step-safe s h xs d r shown so_far phase (ReadBytes dom frame off len) answer i = tt
-step-safe s h xs d r shown so_far phase (WriteBytes dom frame off len) answer i = tt
-step-safe s h xs d r shown so_far phase (CopyBytes from to len) answer i = tt
+step-safe s h xs d r shown so_far phase step answer i = tt
 
 step-sound : (s : Setting) (h : History) (xs : List State) (d : DomId) (r : Asked) (shown : List Seen) (so_far : StepsSoFar) (phase : Phase) (step : Step) → IsHere s h xs d r shown so_far phase step → PinIsSound s h d r step (seen_by s h d step)
 step-sound s h xs d r shown so_far phase (PinStep p) i = by (word_at s h p.dom.0 p.gref.0 == p.word) refl
@@ -497,50 +374,20 @@ step-sound s h xs d r shown so_far phase (PinStep p) i = by (word_at s h p.dom.0
     by : (b : Bool) → (word_at s h p.dom.0 p.gref.0 == p.word) ≡ b → PinIsSound s h d r (PinStep p) (cond b Taken (Missed (word_at s h p.dom.0 p.gref.0)))
     by true is = (can-pin s h xs d r shown so_far phase p i (eqb-true (word_at s h p.dom.0 p.gref.0) p.word is)).sound
     by false is = tt
-step-sound s h xs d r shown so_far phase (Exchange gref looked change) i = tt
-step-sound s h xs d r shown so_far phase (StoreBody gref half word) i = tt
-step-sound s h xs d r shown so_far phase (LookHeader dom) i = tt
-step-sound s h xs d r shown so_far phase (LookControl dom gref) i = tt
-step-sound s h xs d r shown so_far phase (LookBody dom gref half) i = tt
-step-sound s h xs d r shown so_far phase (Unpin p holder) i = tt
-step-sound s h xs d r shown so_far phase (StoreHeader version frames) i = tt
-step-sound s h xs d r shown so_far phase (ReadBytes dom frame off len) i = tt
-step-sound s h xs d r shown so_far phase (WriteBytes dom frame off len) i = tt
-step-sound s h xs d r shown so_far phase (CopyBytes from to len) i = tt
+step-sound s h xs d r shown so_far phase step i = tt
 
 most-fits : (r : Asked) → most_of r ≤ most_steps r
 most-fits (Demote gref) = omega arith
-most-fits (Promote gref) = omega arith
-most-fits (Grant gref entry) = omega arith
-most-fits (Revoke gref) = omega arith
-most-fits (Map dom gref flags) = omega arith
-most-fits (Unmap handle) = omega arith
-most-fits (Load handle off len) = omega arith
-most-fits (Store handle off len) = omega arith
-most-fits (Peek frame off len) = omega arith
-most-fits (Poke frame off len) = omega arith
-most-fits (Copy c) = omega arith
-most-fits (SetVersion version) = omega arith
-most-fits (SetupTable frames) = omega arith
-most-fits (QuerySize dom) = omega arith
-most-fits (GetVersion dom) = omega arith
+most-fits r = omega arith
 
 -- a call that goes on gives pins back, or has no rule against it
 goes-fair : (d : DomId) (p : Phase) (z : Step) → action_at d p ≡ Makes z → (phase_refusal p ≡ None) ⊎ (gives_back (Some (Makes z)) ≡ true)
-goes-fair d (Storing gref entry) z e = inl refl
-goes-fair d (StoringSecond gref entry) z e = inl refl
-goes-fair d (Exchanging gref looked change) z e = inl refl
-goes-fair d (Looking gref change more) z e = inl refl
-goes-fair d (Changing gref change more looked) z e = inl refl
-goes-fair d (Walking aim l at) z e = inl refl
-goes-fair d (Accessing c source dest) z e = inl refl
-goes-fair d (Asking dom question) z e = inl refl
-goes-fair d (Last step verdict) z e = inl refl
 goes-fair d (Ending pins verdict) z e = inr (by (last_first pins) e)
   where
     by : (held : List Held) → next_to_give held verdict ≡ Makes z → gives_back (Some (Makes z)) ≡ true
     by [] f = cc
     by (p ∷ ps) f = subst (λ (y : Step). gives_back (Some (Makes y)) ≡ true) (makes-same _ _ f) refl
+goes-fair d p z e = inl refl
 
 pub goes-right : (s : Setting) (h : History) (xs : List State) (x : State) (o : Open) (c : Underway) (new : Call) (z : Step) → Ticks s h xs x o c new (Makes z)
     → StepsRight s h (stepped x.id o.step (seen_by s h x.id o.step) None) o.step (seen_by s h x.id o.step) c

@@ -1,18 +1,7 @@
 -- Runs that are alike stay so.
-use Rattle.std.proofs.Common.{◌≡◌, ◌⊎◌, inl, inr, List, ◌∷◌, Option, sym, ap, ◌∙◌, subst}
-use Rattle.gt_types.specs.declared.DomId.{DomId}
-use Rattle.gt_calls.specs.Asking.{asked}
-use Rattle.gt_core.specs.declared.trace.Answer.{Answer}
-use Rattle.gt_core.specs.declared.trace.Event.{Event}
-use Rattle.gt_core.specs.declared.trace.Event.TheVariants.{Begin, Tick}
-use Rattle.gt_core.specs.declared.trace.Happened.{Happened}
-use Rattle.gt_core.specs.declared.trace.Happened.TheVariants.{Began, Stepped}
-use Rattle.gt_core.specs.declared.trace.Item.{Item}
-use Rattle.gt_core.specs.declared.trace.Element.{Element}
-use Rattle.gt_core.specs.declared.trace.Element.TheVariants.{Busy, Idle, NoDomain, Item as Did}
-use Rattle.gt_core.specs.History.{History, Setting}
-use Rattle.gt_core.specs.Legal.{MayDo, IsOf, IsRight, grown}
-use Rattle.gt_core.specs.Alike.{bare_event, told_item, told_items, ToldItem, SameEvent, SameElement, SameHistory, AsksKnown, IsOfKnown, HappensKnown, IsRun, AreAlike}
+use Rattle.gt_core.proofs.Words.{◌≡◌, ◌⊎◌, inl, inr, List, ◌∷◌, Option, sym, ap, ◌∙◌, subst, DomId, asked, Answer, Event, Begin, Tick, Happened, Began, Stepped, Item, Element, Busy, Idle, NoDomain, Did, History, Setting, MayDo, IsRight, grown, bare_event, told_item, told_items, ToldItem, SameHistory, AsksKnown, IsOfKnown, HappensKnown, IsRun, AreAlike}
+use Rattle.gt_core.specs.Legal.{IsOf}
+use Rattle.gt_core.specs.Alike.{SameEvent, SameElement}
 use Rattle.gt_core.proofs.Bare.{bare, bare-same}
 use Rattle.gt_core.proofs.Doing.{element_told, doing, does, does-bare}
 

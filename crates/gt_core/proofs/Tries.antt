@@ -1,21 +1,6 @@
 -- The tries of a leg, or of an owner's turns, by the steps so far.
-use Rattle.std.proofs.Common.{◌≡◌, ◌+◌, ℕ, zero, suc, refl, Bool, true, false, [], ◌∷◌, Option, Some, None, cond, sym, ap, ◌∙◌, ltb, arith}
-use Rattle.std.specs.Prelude.{nat_lt, nat_le, ◌==◌, ◌&&◌, not}
-use Rattle.std.proofs.lemmas.Bool.{lt-ltb, lt-leb}
-use Rattle.gt_types.specs.declared.DomId.{DomId}
-use Rattle.gt_types.specs.declared.GrantRef.{GrantRef}
-use Rattle.gt_types.specs.declared.denial.Rule.{Rule}
-use Rattle.gt_types.specs.declared.denial.Rule.TheVariants.{N18}
-use Rattle.gt_types.specs.declared.limits.TheConstants.{MAX_TRIES}
-use Rattle.gt_entry.specs.declared.change.Change.{Change}
-use Rattle.gt_entry.specs.declared.change.Half.{Half}
-use Rattle.gt_calls.specs.declared.leg.TheConstants.{MORE_TRIES}
-use Rattle.gt_calls.specs.declared.held.Held.{Held}
-use Rattle.gt_calls.specs.declared.action.Step.TheVariants.{LookHeader, LookControl, LookBody, Pin as PinStep, Exchange}
-use Rattle.gt_calls.specs.declared.action.Seen.{Seen}
-use Rattle.gt_calls.specs.declared.action.Seen.TheVariants.{Word, Taken, Missed}
-use Rattle.gt_calls.specs.Rules.{first, stands}
-use Rattle.gt_core.specs.Legal.{StepsSoFar, misses, looked_at, is_in_body, is_other, at_entry}
+use Rattle.gt_core.proofs.Words.{◌≡◌, ◌+◌, ℕ, zero, suc, refl, Bool, true, false, [], ◌∷◌, Option, Some, None, cond, sym, ap, ◌∙◌, ltb, arith, nat_lt, nat_le, ◌==◌, ◌&&◌, not, lt-ltb, DomId, GrantRef, Rule, N18, MAX_TRIES, Change, Half, MORE_TRIES, Held, LookHeader, LookControl, LookBody, PinStep, Exchange, Seen, Word, Taken, Missed, first, stands, StepsSoFar, misses, looked_at, is_in_body, is_other, at_entry}
+use Rattle.std.proofs.lemmas.Bool.{lt-leb}
 
 pub misses-header : (dom : DomId) (v : Seen) (so_far : StepsSoFar) → misses ((LookHeader dom, v) ∷ so_far) ≡ 0
 unfolding misses

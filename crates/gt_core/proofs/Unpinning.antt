@@ -1,32 +1,7 @@
 -- An unpin keeps what a core stands for.
-use Rattle.std.proofs.Common.{◌≡◌, ◌<◌, ◌≤◌, ◌+◌, ◌-◌, ◌⊎◌, inl, inr, ℕ, suc, refl, Bool, true, false, List, [], ◌∷◌, ◌++◌, length, Option, Some, None, cond, sym, ap, ◌∙◌, arith, subst}
-use Rattle.std.specs.Prelude.{◌==◌, ◌&&◌, All, count_by}
-use Rattle.std.proofs.lemmas.Bool.{eqb-true, eq-eqb, and_from, false≢true, true≢false}
-use Rattle.std.proofs.lemmas.Option.{none-some, same_Some}
-use Rattle.std.proofs.lemmas.List.{append-nil}
-use Rattle.std.proofs.lemmas.List.Sums.{sum_by-cons, sum_by-append}
-use Rattle.std.proofs.lemmas.List.Elements.{All-cons, All-head, All-tail}
-use Rattle.gt_types.specs.declared.DomId.{DomId}
-use Rattle.gt_types.specs.declared.Dir.{Dir}
-use Rattle.gt_types.specs.declared.Dir.TheVariants.{Read, Write}
-use Rattle.gt_entry.specs.declared.change.Half.TheVariants.{First as FirstHalf, Second as SecondHalf}
-use Rattle.gt_handles.specs.declared.handles.Handle.{Handle}
-use Rattle.gt_handles.specs.Handles.{Kept}
-use Rattle.gt_calls.specs.declared.held.Held.{Held}
-use Rattle.gt_calls.specs.declared.request.Holder.{Holder}
-use Rattle.gt_calls.specs.declared.request.Holder.TheVariants.{Mapping as ByMapping, Leg as ByLeg}
-use Rattle.gt_calls.specs.declared.action.Step.TheVariants.{Unpin}
-use Rattle.gt_calls.specs.declared.action.Seen.{Seen}
-use Rattle.gt_core.specs.declared.slot.Slot.{Slot}
-use Rattle.gt_core.specs.declared.slot.Open.{Open}
-use Rattle.gt_core.specs.declared.slot.SlotChange.TheVariants.{Unpinned}
-use Rattle.gt_core.specs.declared.trace.Item.{Item}
-use Rattle.gt_core.specs.declared.trace.Answer.{Answer}
-use Rattle.gt_core.specs.Rows.{changed_at}
-use Rattle.gt_core.specs.States.{State, state_of, changed_in}
-use Rattle.gt_core.specs.Effects.{with_slot, without_mapping, slot_after, taken}
-use Rattle.gt_core.specs.History.{History, Setting, Pin, live, body_at, reads_at, writes_at, mappings_at, maps_answered_at, legs_at, open_call, is_pin_on, without, is_holder, same_handle, same_dir, gather, by_mapping, by_leg, mapping_of, one_if_mapped}
-use Rattle.gt_core.specs.Standing.{IsLawful, SlotAgrees, Agrees, DomainsStand, CallAgrees, GivenAgrees, MappingsAgree, numbered}
+use Rattle.gt_core.proofs.Words.{◌≡◌, ◌<◌, ◌≤◌, ◌+◌, ◌-◌, ◌⊎◌, inl, inr, ℕ, suc, refl, Bool, true, false, List, [], ◌∷◌, ◌++◌, length, Option, Some, None, cond, sym, ap, ◌∙◌, arith, subst, ◌==◌, ◌&&◌, All, count_by, eqb-true, eq-eqb, and_from, false≢true, true≢false, none-some, same_Some, append-nil, sum_by-cons, All-tail, DomId, Dir, Read, Write, FirstHalf, SecondHalf, Handle, Kept, Held, Holder, ByMapping, ByLeg, Unpin, Seen, Slot, Open, Unpinned, Item, Answer, changed_at, State, state_of, changed_in, with_slot, without_mapping, slot_after, taken, History, Setting, Pin, live, body_at, reads_at, writes_at, mappings_at, maps_answered_at, legs_at, open_call, is_pin_on, without, is_holder, same_handle, same_dir, gather, by_mapping, by_leg, mapping_of, one_if_mapped, IsLawful, SlotAgrees, Agrees, DomainsStand, CallAgrees, GivenAgrees, MappingsAgree, numbered}
+use Rattle.std.proofs.lemmas.List.Sums.{sum_by-append}
+use Rattle.std.proofs.lemmas.List.Elements.{All-cons, All-head}
 use Rattle.gt_core.proofs.Mappings.{less, mappings-taken, mappings-same}
 use Rattle.gt_core.proofs.Rows.{state-changed}
 use Rattle.gt_core.proofs.Pinning.{answered-stays}
@@ -149,8 +124,7 @@ other-gather {A} give holder d (p ∷ ps) none = by (p.actor == d) (is_holder p.
 
     by : (b c : Bool) → is_holder p.holder holder ≡ c → gather give d (without d holder ps) ≡ gather give d ps → gather give d (cond (b && c) ps (p ∷ without d holder ps)) ≡ cond (p.actor == d) (give p.holder p.held) [] ++ gather give d ps
     by true true is rest = both (p.actor == d) (none p.holder is p.held)
-    by true false is rest = ap (λ (l : List A). cond (p.actor == d) (give p.holder p.held) [] ++ l) rest
-    by false c is rest = ap (λ (l : List A). cond (p.actor == d) (give p.holder p.held) [] ++ l) rest
+    by b c is rest = ap (λ (l : List A). cond (p.actor == d) (give p.holder p.held) [] ++ l) rest
 
 leg-none : (number : ℕ) (x : Holder) → is_holder x (ByLeg number) ≡ true → (p : Held) → by_mapping x p ≡ []
 leg-none number (ByMapping k) e p = absurd (false≢true e)

@@ -1,53 +1,8 @@
 -- What an answer of a call is, by its last step.
-use Rattle.std.proofs.Common.{◌≡◌, ◌≢◌, ◌<◌, ◌≤◌, ◌+◌, ◌⊎◌, inl, inr, ℕ, zero, suc, refl, Bool, true, false, List, [], ◌∷◌, ◌++◌, length, Option, Some, None, cond, sym, ap, ◌∙◌, subst, reverse, arith}
-use Rattle.std.proofs.lemmas.Bool.{eqb-true}
-use Rattle.std.specs.Prelude.{◌==◌, nat_lt}
-use Rattle.gt_types.specs.declared.DomId.{DomId}
-use Rattle.gt_types.specs.declared.GrantRef.{GrantRef}
-use Rattle.gt_types.specs.declared.denial.Denial.{Denial}
-use Rattle.gt_types.specs.declared.denial.Rule.TheVariants.{N18, N19}
-use Rattle.gt_entry.specs.declared.entry.Entry.{Entry}
-use Rattle.gt_entry.specs.declared.entry.Entry.TheVariants.{Invalid, Page, Sub, Via}
-use Rattle.gt_entry.specs.declared.header.Header.{Header}
-use Rattle.gt_entry.specs.declared.change.Change.{Change}
-use Rattle.gt_entry.specs.declared.change.Change.TheVariants.{Publish, Revoke as ToInvalid, Demote as ToReadOnly, Promote as ToWritable}
-use Rattle.gt_entry.specs.Words.{control_of, header_of, header_word}
-use Rattle.gt_calls.specs.declared.held.Held.{Held}
-use Rattle.gt_calls.specs.declared.request.Asked.{Asked}
-use Rattle.gt_calls.specs.declared.request.Asked.TheVariants.{Map, SetupTable, QuerySize, GetVersion}
-use Rattle.gt_calls.specs.declared.request.Holder.TheVariants.{Mapping as ByMapping, Leg as ByLeg}
-use Rattle.gt_calls.specs.declared.action.Seen.{Seen}
-use Rattle.gt_calls.specs.declared.action.Seen.TheVariants.{Taken, Missed}
-use Rattle.gt_calls.specs.declared.action.Verdict.{Verdict}
-use Rattle.gt_calls.specs.declared.action.Verdict.TheVariants.{Granted, Given, Mapped, Refused}
-use Rattle.gt_calls.specs.declared.action.Value.{Value}
-use Rattle.gt_calls.specs.declared.action.Value.TheVariants.{Frames as FramesTold, Size as SizeTold, Version as VersionTold}
-use Rattle.gt_calls.specs.declared.action.Step.{Step}
-use Rattle.gt_calls.specs.declared.action.Step.TheVariants.{LookHeader, LookControl, LookBody, Pin as PinStep, Unpin, StoreBody, StoreHeader, Exchange, Read as ReadBytes, Write as WriteBytes, Copy as CopyBytes}
-use Rattle.gt_calls.specs.declared.action.Action.{Action}
-use Rattle.gt_calls.specs.declared.action.Action.TheVariants.{Step as Makes, Done}
-use Rattle.gt_calls.specs.declared.copying.Aim.{Aim}
-use Rattle.gt_calls.specs.declared.copying.Aim.TheVariants.{Mapping, Source, Dest}
-use Rattle.gt_calls.specs.declared.call.Question.{Question}
-use Rattle.gt_calls.specs.declared.call.Question.TheVariants.{Size as AsksSize, Version as AsksVersion}
-use Rattle.gt_calls.specs.declared.call.Phase.{Phase}
-use Rattle.gt_calls.specs.declared.call.Phase.TheVariants.{Storing, StoringSecond, Exchanging, Looking, Changing, Walking, Accessing, Asking, Last, Ending}
-use Rattle.gt_calls.specs.declared.leg.Leg.{Leg}
-use Rattle.gt_calls.specs.declared.leg.LegPhase.{LegPhase}
-use Rattle.gt_calls.specs.declared.leg.LegPhase.TheVariants.{Header as AtHeader, Look, Body, Second, Pinning, Relook}
-use Rattle.gt_calls.specs.declared.leg.LegNext.{LegNext}
-use Rattle.gt_calls.specs.declared.leg.LegNext.TheVariants.{Pinned}
-use Rattle.gt_calls.specs.Holding.{last_first, pins_so_far, without_last}
-use Rattle.gt_calls.specs.Rules.{CallerKnowledge}
-use Rattle.gt_calls.specs.Path.{path, held_of, is_stopped, Continuation}
-use Rattle.gt_calls.specs.Resting.{IsFor, RestsOnWord, RestsOnRequest}
-use Rattle.gt_calls.specs.Machine.{phase_after, action_at, after_leg, leg_after, leg_step, after_store, refused_as, next_to_give}
-use Rattle.gt_calls.specs.Standing.{HasShown, IsQuiet, IsTurn, held_in}
-use Rattle.gt_core.specs.declared.trace.Answer.TheVariants.{Done as AnswerDone, Size, Version}
-use Rattle.gt_core.specs.States.{State}
-use Rattle.gt_core.specs.History.{History, Setting, word_at, table_at, known_at, seen_by}
-use Rattle.gt_core.specs.Legal.{StepsSoFar, GivesValue}
-use Rattle.gt_core.specs.Standing.{DomainsStand, PhaseStands, EndsAfter, EndsCopy, Asks, answer_with}
+use Rattle.gt_core.proofs.Words.{◌≡◌, ◌⊎◌, inl, inr, ℕ, refl, Bool, true, false, List, [], ◌∷◌, length, Option, Some, cond, sym, ap, ◌∙◌, subst, eqb-true, ◌==◌, nat_lt, DomId, GrantRef, Denial, N18, N19, Entry, Invalid, Header, Change, Publish, ToReadOnly, ToWritable, control_of, header_of, header_word, Held, Asked, Map, SetupTable, QuerySize, GetVersion, ByMapping, ByLeg, Seen, Taken, Missed, Verdict, Granted, Given, Refused, Value, FramesTold, SizeTold, VersionTold, Step, LookHeader, PinStep, Unpin, StoreBody, StoreHeader, Exchange, ReadBytes, WriteBytes, Action, Makes, Done, Aim, Mapping, Question, AsksSize, AsksVersion, Phase, Storing, StoringSecond, Exchanging, Looking, Changing, Walking, Accessing, Asking, Last, Ending, Leg, LegPhase, Pinning, LegNext, Pinned, last_first, pins_so_far, CallerKnowledge, path, held_of, is_stopped, Continuation, IsFor, RestsOnWord, RestsOnRequest, phase_after, action_at, after_leg, leg_after, leg_step, after_store, refused_as, next_to_give, HasShown, IsQuiet, IsTurn, held_in, AnswerDone, State, History, Setting, word_at, table_at, known_at, seen_by, StepsSoFar, GivesValue, DomainsStand, PhaseStands, EndsAfter, EndsCopy, Asks, answer_with}
+use Rattle.gt_calls.specs.declared.action.Verdict.TheVariants.{Mapped}
+use Rattle.gt_calls.specs.Holding.{without_last}
+use Rattle.gt_core.specs.declared.trace.Answer.TheVariants.{Size, Version}
 use Rattle.gt_core.proofs.Fitting.{table-fits}
 use Rattle.gt_core.proofs.Phases.{IsHere, makes-same}
 use Rattle.gt_core.proofs.Outcomes.{next_of, walk-done}
@@ -65,46 +20,32 @@ held-not (p ∷ ps) w v e = cc
 granted-last : (s : Setting) (h : History) (d : DomId) (r : Asked) (last : Step) (verdict : Verdict) → IsQuiet last → RestsOnRequest (known_at s h d) d r last → EndsAfter r last verdict → verdict ≡ Granted → ((dom : DomId) (frame off len : ℕ) → last ≡ ReadBytes dom frame off len → ⊥)
     → GivesValue s h d r (Some last) AnswerDone
 granted-last s h d r (Unpin p (ByMapping handle)) verdict q a b g read = subst (λ (z : Asked). GivesValue s h d z (Some (Unpin p (ByMapping handle))) AnswerDone) (sym a.0) refl
-granted-last s h d r (Unpin p (ByLeg n)) verdict q a b g read = absurd q
 granted-last s h d r (StoreHeader version frames) verdict q a (inl b) g read = subst (λ (z : Asked). GivesValue s h d z (Some (StoreHeader version frames)) AnswerDone) (sym b.0) refl
 granted-last s h d r (StoreHeader version frames) verdict q a (inr b) g read = absurd (let f : Granted ≡ Given (FramesTold frames) = sym g ∙ b.1 in cc)
 granted-last s h d r (ReadBytes dom frame off len) verdict q a b g read = absurd (read dom frame off len refl)
 granted-last s h d r (WriteBytes dom frame off len) verdict q (inl a) b g read = subst (λ (z : Asked). GivesValue s h d z (Some (WriteBytes dom frame off len)) AnswerDone) (sym a.1) refl
 granted-last s h d r (WriteBytes dom frame off len) verdict q (inr a) b g read = subst (λ (z : Asked). GivesValue s h d z (Some (WriteBytes dom frame off len)) AnswerDone) (sym a.0) refl
 granted-last s h d r (StoreBody gref half word) verdict q a b g read = absurd a
-granted-last s h d r (LookHeader dom) verdict q a b g read = absurd q
-granted-last s h d r (LookControl dom gref) verdict q a b g read = absurd q
-granted-last s h d r (LookBody dom gref half) verdict q a b g read = absurd q
-granted-last s h d r (PinStep p) verdict q a b g read = absurd q
-granted-last s h d r (Exchange gref looked change) verdict q a b g read = absurd q
-granted-last s h d r (CopyBytes from to len) verdict q a b g read = absurd q
+granted-last s h d r last verdict q a b g read = absurd q
 
 last-next : (s : Setting) (h : History) (d : DomId) (last : Step) (verdict v : Verdict) → IsQuiet last → Next s h d (Last last verdict) last v → verdict ≡ v
 last-next s h d (Unpin p (ByMapping handle)) verdict v q e = cc
-last-next s h d (Unpin p (ByLeg n)) verdict v q e = absurd q
 last-next s h d (StoreHeader version frames) verdict v q e = cc
 last-next s h d (ReadBytes dom frame off len) verdict v q e = cc
 last-next s h d (WriteBytes dom frame off len) verdict v q e = cc
 last-next s h d (StoreBody gref half word) verdict v q e = cc
-last-next s h d (LookHeader dom) verdict v q e = absurd q
-last-next s h d (LookControl dom gref) verdict v q e = absurd q
-last-next s h d (LookBody dom gref half) verdict v q e = absurd q
-last-next s h d (PinStep p) verdict v q e = absurd q
-last-next s h d (Exchange gref looked change) verdict v q e = absurd q
-last-next s h d (CopyBytes from to len) verdict v q e = absurd q
+last-next s h d last verdict v q e = absurd q
 
 turn-value : (s : Setting) (h : History) (d : DomId) (r : Asked) (gref : GrantRef) (change : Change) (step : Option Step) → IsTurn r gref change → GivesValue s h d r step AnswerDone
-turn-value s h d r gref (Publish entry) step a = absurd a
-turn-value s h d r gref ToInvalid step a = absurd a
 turn-value s h d r gref ToReadOnly step a = subst (λ (z : Asked). GivesValue s h d z step AnswerDone) (sym a) refl
 turn-value s h d r gref ToWritable step a = subst (λ (z : Asked). GivesValue s h d z step AnswerDone) (sym a) refl
+turn-value s h d r gref change step a = absurd a
 
 once-value : (s : Setting) (h : History) (way : Continuation) (d : DomId) (r : Asked) (shown : List Seen) (so_far : StepsSoFar) (gref : GrantRef) (looked : ℕ) (change : Change) (step : Option Step) → RestsOnWord (known_at s h d) way d r shown gref looked change
     → PhaseStands s h d r so_far (Exchanging gref looked change) → GivesValue s h d r step AnswerDone
-once-value s h way d r shown so_far gref looked (Publish entry) step a b = subst (λ (z : Asked). GivesValue s h d z step AnswerDone) (sym a.0) refl
-once-value s h way d r shown so_far gref looked ToInvalid step a b = subst (λ (z : Asked). GivesValue s h d z step AnswerDone) (sym a.0) refl
 once-value s h way d r shown so_far gref looked ToReadOnly step a b = absurd b
 once-value s h way d r shown so_far gref looked ToWritable step a b = absurd b
+once-value s h way d r shown so_far gref looked change step a b = subst (λ (z : Asked). GivesValue s h d z step AnswerDone) (sym a.0) refl
 
 walk-value : (s : Setting) (h : History) (d : DomId) (r : Asked) (aim : Aim) (l : Leg) (next : LegNext) (step : Option Step) → IsFor (known_at s h d) d r aim l → action_at d (after_leg (known_at s h d) d aim l next) ≡ Done Granted → GivesValue s h d r step AnswerDone
 walk-value s h d r Mapping l next step a e = absurd (by (walk-done (known_at s h d) d Mapping l next Granted e))
@@ -112,8 +53,7 @@ walk-value s h d r Mapping l next step a e = absurd (by (walk-done (known_at s h
     by : ((denial : Denial) × (Granted ≡ Refused denial)) ⊎ ((p : Held) × (Granted ≡ Mapped p) × (next ≡ Pinned p) × (Mapping ≡ Mapping)) → ⊥
     by (inl x) = let f : Granted ≡ Refused x.0 = x.1 in cc
     by (inr x) = let f : Granted ≡ Mapped x.0 = x.1 in cc
-walk-value s h d r (Source c via) l next step a e = subst (λ (z : Asked). GivesValue s h d z step AnswerDone) (sym a.0) refl
-walk-value s h d r (Dest c source via) l next step a e = subst (λ (z : Asked). GivesValue s h d z step AnswerDone) (sym a.0) refl
+walk-value s h d r aim l next step a e = subst (λ (z : Asked). GivesValue s h d z step AnswerDone) (sym a.0) refl
 
 pub granted-value : (s : Setting) (h : History) (xs : List State) (d : DomId) (r : Asked) (shown : List Seen) (so_far : StepsSoFar) (phase : Phase) (step : Step) → IsHere s h xs d r shown so_far phase step → ((dom : DomId) (frame off len : ℕ) → step ≡ ReadBytes dom frame off len → ⊥)
     → Next s h d phase step Granted → GivesValue s h d r (Some step) AnswerDone
@@ -123,13 +63,10 @@ granted-value s h xs d r shown so_far phase step i read next = by phase i.at.has
     k = known_at s h d
 
     by : (p : Phase) → HasShown k (path k d r) d r shown p → PhaseStands s h d r so_far p → action_at d p ≡ Makes step → Next s h d p step Granted → GivesValue s h d r (Some step) AnswerDone
-    by (Storing gref entry) a b e n = subst (λ (z : Asked). GivesValue s h d z (Some step) AnswerDone) (sym a.0) refl
-    by (StoringSecond gref entry) a b e n = subst (λ (z : Asked). GivesValue s h d z (Some step) AnswerDone) (sym a.0) refl
     by (Exchanging gref looked change) a b e n = once-value s h (path k d r) d r shown so_far gref looked change (Some step) a b
     by (Looking gref change more) a b e n = turn-value s h d r gref change (Some step) a
     by (Changing gref change more looked) a b e n = turn-value s h d r gref change (Some step) a.1
     by (Walking aim l at) a b e n = walk-value s h d r aim l (leg_after l at (seen_by s h d step)) (Some step) a.1 n
-    by (Accessing c source dest) a b e n = subst (λ (z : Asked). GivesValue s h d z (Some step) AnswerDone) (sym a.0) refl
     by (Asking dom AsksSize) a b e n = absurd (let f : Done (Given (SizeTold _)) ≡ Done Granted = subst (λ (z : Step). Next s h d (Asking dom AsksSize) z Granted) (sym (makes-same _ _ e)) n in cc)
     by (Asking dom AsksVersion) a b e n = absurd (let f : Done (Given (VersionTold _)) ≡ Done Granted = subst (λ (z : Step). Next s h d (Asking dom AsksVersion) z Granted) (sym (makes-same _ _ e)) n in cc)
     by (Last last verdict) a b e n =
@@ -138,6 +75,7 @@ granted-value s h xs d r shown so_far phase step i read next = by phase i.at.has
         (granted-last s h d r last verdict a.0 a.1 b (last-next s h d last verdict Granted a.0 (subst (λ (z : Step). Next s h d (Last last verdict) z Granted) (sym same) n)) (λ dom frame off len f. read dom frame off len (sym same ∙ f)))
     by (Ending pins verdict) a (inl none) e n = absurd (let f : Done verdict ≡ Makes step = sym (ap (λ (l : List Held). next_to_give l verdict) none) ∙ e in cc)
     by (Ending pins verdict) a (inr c) e n = subst (λ (z : Asked). GivesValue s h d z (Some step) AnswerDone) (sym c.1) refl
+    by p a b e n = subst (λ (z : Asked). GivesValue s h d z (Some step) AnswerDone) (sym a.0) refl
 
 -- a call that is answered with a value
 
@@ -164,12 +102,7 @@ given-last s h d r (Unpin p holder) verdict value q b g = absurd (let f : Grante
 given-last s h d r (ReadBytes dom frame off len) verdict value q b g = absurd (let f : Granted ≡ Given value = sym b ∙ g in cc)
 given-last s h d r (WriteBytes dom frame off len) verdict value q b g = absurd (let f : Granted ≡ Given value = sym b ∙ g in cc)
 given-last s h d r (StoreBody gref half word) verdict value q b g = absurd (let f : Granted ≡ Given value = sym b ∙ g in cc)
-given-last s h d r (LookHeader dom) verdict value q b g = absurd q
-given-last s h d r (LookControl dom gref) verdict value q b g = absurd q
-given-last s h d r (LookBody dom gref half) verdict value q b g = absurd q
-given-last s h d r (PinStep p) verdict value q b g = absurd q
-given-last s h d r (Exchange gref looked change) verdict value q b g = absurd q
-given-last s h d r (CopyBytes from to len) verdict value q b g = absurd q
+given-last s h d r last verdict value q b g = absurd q
 
 -- what is so of the end of a phase, if it is one
 abbrev AtEnd : (Verdict → Type 0) → Action → Type 0
@@ -182,9 +115,7 @@ Plain Q = Q Granted × ((denial : Denial) → Q (Refused denial))
 
 store-end : (Q : Verdict → Type 0) (k : CallerKnowledge) (d : DomId) (gref : GrantRef) (entry : Entry) → AtEnd Q (action_at d (after_store k gref entry))
 store-end Q k d gref Invalid = tt
-store-end Q k d gref (Page dom ro frame) = tt
-store-end Q k d gref (Sub dom ro frame off len) = tt
-store-end Q k d gref (Via dom ro dom2 r) = tt
+store-end Q k d gref entry = tt
 
 give-end : (Q : Verdict → Type 0) (held : List Held) (v : Verdict) → Q v → AtEnd Q (next_to_give held v)
 give-end Q [] v a = a
@@ -212,8 +143,7 @@ at-end Q a v q e = subst (AtEnd Q) e q
 copy-end : (Q : Verdict → Type 0) (v : Verdict) → EndsCopy v → Plain Q → Q v
 copy-end Q Granted e plain = plain.0
 copy-end Q (Refused denial) e plain = plain.1 denial
-copy-end Q (Given value) e plain = absurd e
-copy-end Q (Mapped p) e plain = absurd e
+copy-end Q v e plain = absurd e
 
 -- an end of a call that is no question, no set up and no map is by Ok or by a refusal
 plain-end : (Q : Verdict → Type 0) (s : Setting) (h : History) (d : DomId) (r : Asked) (so_far : StepsSoFar) (p : Phase) (step : Step) (v : Verdict) → Plain Q → PhaseStands s h d r so_far p → action_at d p ≡ Makes step → Next s h d p step v
@@ -280,11 +210,6 @@ pub record MapEnds (s : Setting) (h : History) (d : DomId) (r : Asked) (phase : 
   pub none : held_in phase ≡ []
 
 pinned-leg : (s : Setting) (h : History) (d : DomId) (l : Leg) (at : LegPhase) (m : Held) → leg_after l at (seen_by s h d (leg_step l at)) ≡ Pinned m → (leg_step l at ≡ PinStep m) × (word_at s h m.dom.0 m.gref.0 ≡ m.word)
-pinned-leg s h d l AtHeader m e = absurd (Rattle.gt_core.proofs.Judging.not-pinned s h d l AtHeader tt m e)
-pinned-leg s h d l (Look more) m e = absurd (Rattle.gt_core.proofs.Judging.not-pinned s h d l (Look more) tt m e)
-pinned-leg s h d l (Body more word) m e = absurd (Rattle.gt_core.proofs.Judging.not-pinned s h d l (Body more word) tt m e)
-pinned-leg s h d l (Second more word body) m e = absurd (Rattle.gt_core.proofs.Judging.not-pinned s h d l (Second more word body) tt m e)
-pinned-leg s h d l (Relook more word rule) m e = absurd (Rattle.gt_core.proofs.Judging.not-pinned s h d l (Relook more word rule) tt m e)
 pinned-leg s h d l (Pinning more word body second) m e = by (word_at s h l.dom.0 l.gref.0 == word) refl
   where
     q : Held
@@ -296,6 +221,7 @@ pinned-leg s h d l (Pinning more word body second) m e = by (word_at s h l.dom.0
         let same : q ≡ m = cc in
         (ap PinStep same, subst (λ (z : Held). word_at s h z.dom.0 z.gref.0 ≡ z.word) same (eqb-true (word_at s h l.dom.0 l.gref.0) word is))
     by false is = absurd (Rattle.gt_core.proofs.Judging.not-pinned s h d l (Pinning more word body second) is m e)
+pinned-leg s h d l at m e = absurd (Rattle.gt_core.proofs.Judging.not-pinned s h d l at tt m e)
 
 pub mapped-ends : (s : Setting) (h : History) (xs : List State) (d : DomId) (r : Asked) (shown : List Seen) (so_far : StepsSoFar) (phase : Phase) (step : Step) (m : Held) → IsHere s h xs d r shown so_far phase step
     → Next s h d phase step (Mapped m) → MapEnds s h d r phase step m
@@ -329,17 +255,11 @@ mapped-ends s h xs d r shown so_far phase step m i next =
         by (ReadBytes dom frame off len) v q b g = let f : Granted ≡ Mapped m = sym b ∙ g in cc
         by (WriteBytes dom frame off len) v q b g = let f : Granted ≡ Mapped m = sym b ∙ g in cc
         by (StoreBody gref half word) v q b g = let f : Granted ≡ Mapped m = sym b ∙ g in cc
-        by (LookHeader dom) v q b g = q
-        by (LookControl dom gref) v q b g = q
-        by (LookBody dom gref half) v q b g = q
-        by (PinStep p) v q b g = q
-        by (Exchange gref looked change) v q b g = q
-        by (CopyBytes from to len) v q b g = q
+        by z v q b g = q
 
     of_map : (aim : Aim) (l : Leg) → IsFor (known_at s h d) d r aim l → aim ≡ Mapping → (dom : DomId) × (gref : GrantRef) × (flags : ℕ) × (r ≡ Map dom gref flags)
     of_map Mapping l a is = (a.dom, a.gref, a.flags, a.of_map)
-    of_map (Source c via) l a is = cc
-    of_map (Dest c source via) l a is = cc
+    of_map aim l a is = cc
 
     walked : (aim : Aim) (l : Leg) (at : LegPhase) → phase ≡ Walking aim l at → MapEnds s h d r phase step m
     walked aim l at is =

@@ -17,7 +17,6 @@ use Rattle.gt_frames.specs.declared.writ.Ground.TheVariants.{Owned, Granted, For
 use Rattle.gt_frames.specs.declared.writ.Writ.{Writ}
 use Rattle.gt_frames.specs.Frames.{bytes_at}
 use Rattle.gt_frames.specs.Sets.{FrameSet, frame_at, has_range, admits, AreKept, WritesTo}
-use Rattle.gt_core.specs.declared.slot.Open.{Open}
 use Rattle.gt_core.specs.States.{State}
 
 -- the name of the frame of a place (own)

@@ -1,5 +1,5 @@
 -- What a step does to the states of the domains: the code's own representation, which stands here since private contracts cite it.
-use Rattle.std.specs.Prelude.{ℕ, List, [], Option, Some, None, if◌then◌else◌, ◌+◌, ◌-◌, ◌%◌, min, is_some, ◌≡◌, slice_set}
+use Rattle.std.specs.Prelude.{ℕ, List, Option, Some, None, if◌then◌else◌, ◌+◌, ◌-◌, ◌%◌, min, is_some, ◌≡◌, slice_set}
 use Rattle.gt_types.specs.declared.DomId.{DomId}
 use Rattle.gt_types.specs.declared.limits.TheConstants.{MAX_PINS}
 use Rattle.gt_types.specs.declared.Dir.TheVariants.{Read, Write}
@@ -18,7 +18,7 @@ use Rattle.gt_entry.specs.declared.change.Half.TheVariants.{First as FirstHalf, 
 use Rattle.gt_core.specs.declared.slot.SlotChange.TheVariants.{Pinned, Unpinned, Stored}
 use Rattle.gt_core.specs.declared.slot.Open.{Open}
 use Rattle.gt_core.specs.Rows.{changed_at}
-use Rattle.gt_core.specs.States.{State, state_of, changed_in}
+use Rattle.gt_core.specs.States.{State, changed_in}
 pub use Rattle.gt_calls.specs.Changes.{own_after}
 use Rattle.gt_handles.specs.Handles.{Kept, value_of, count_of, Updates}
 

@@ -33,7 +33,7 @@ use Rattle.gt_core.specs.declared.trace.Answer.TheVariants.{Denied, Done as Answ
 use Rattle.gt_core.specs.declared.trace.Bytes.{Bytes}
 use Rattle.gt_handles.specs.declared.handles.Handle.{Handle}
 use Rattle.gt_calls.specs.declared.action.Step.{Step}
-use Rattle.gt_calls.specs.declared.action.Step.TheVariants.{StoreHeader, Read as ReadBytes, Write as WriteBytes, Copy as CopyBytes}
+use Rattle.gt_calls.specs.declared.action.Step.TheVariants.{StoreHeader, Read as ReadBytes}
 use Rattle.gt_core.specs.Effects.{with_underway}
 use Rattle.gt_core.specs.Accesses.{IsWriting}
 use Rattle.gt_frames.specs.declared.places.FrameName.{FrameName}
@@ -74,7 +74,7 @@ use Rattle.gt_entry.specs.declared.control.Kind.TheVariants.{Sub as KindSub}
 use Rattle.gt_entry.specs.Words.{IsInRange, control_of}
 use Rattle.gt_entry.specs.Entries.{IsEntry}
 use Rattle.gt_entry.specs.Permits.{permits}
-use Rattle.gt_calls.specs.declared.request.Asked.TheVariants.{Load, Store, Peek, Poke, Copy, SetVersion, SetupTable, QuerySize, GetVersion}
+use Rattle.gt_calls.specs.declared.request.Asked.TheVariants.{Store, Poke, Copy, SetVersion, SetupTable, QuerySize, GetVersion}
 use Rattle.gt_calls.specs.Holding.{last_first}
 use Rattle.gt_types.specs.Names.{resolved}
 use Rattle.gt_calls.specs.declared.call.Question.{Question}

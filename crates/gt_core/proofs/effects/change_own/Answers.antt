@@ -1,5 +1,4 @@
-use Rattle.std.proofs.Common.{sym, ap, ◌∙◌}
-use Rattle.gt_core.specs.Effects.{with_own}
+use Rattle.gt_core.proofs.Words.{sym, ap, ◌∙◌, with_own}
 use Rattle.gt_core.proofs.Rows.{set-state, changed-nowhere}
 use Rattle.gt_core.proofs.effects.change_own.Goals as goal
 

@@ -1,5 +1,4 @@
-use Rattle.std.proofs.Common.{sym, ap, ◌∙◌}
-use Rattle.gt_core.specs.Effects.{without_mapping}
+use Rattle.gt_core.proofs.Words.{sym, ap, ◌∙◌, without_mapping}
 use Rattle.gt_core.proofs.Rows.{set-state, changed-nowhere}
 use Rattle.gt_core.proofs.effects.forget.Goals as goal
 

@@ -1,4 +1,4 @@
-use Rattle.std.proofs.Common.{sym, ◌∙◌}
+use Rattle.gt_core.proofs.Words.{sym, ◌∙◌}
 use Rattle.gt_core.proofs.Doing.{does}
 use Rattle.gt_core.proofs.Together.{same-element}
 use Rattle.gt_core.proofs.laws.every_event_does_one_thing.Goals as goal

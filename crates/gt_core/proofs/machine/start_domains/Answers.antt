@@ -1,4 +1,4 @@
-use Rattle.std.proofs.Common.{◌<◌, length, arith}
+use Rattle.gt_core.proofs.Words.{◌<◌, length, arith}
 use Rattle.gt_core.proofs.Settling.{rest-more}
 use Rattle.gt_core.proofs.machine.start_domains.Goals as goal
 

@@ -1,5 +1,4 @@
-use Rattle.std.proofs.Common.{◌≡◌, map, take}
-use Rattle.gt_core.specs.States.{first_state}
+use Rattle.gt_core.proofs.Words.{◌≡◌, map, take, first_state}
 use Rattle.gt_core.proofs.machine.start_domains.Given as goal
 
 -- so many domains are at rest

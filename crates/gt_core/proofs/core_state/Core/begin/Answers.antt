@@ -1,5 +1,4 @@
-use Rattle.std.proofs.Common.{◌≡◌, sym, ap, ◌∙◌}
-use Rattle.gt_core.specs.Standing.{setting_of, core_of, CoreModel}
+use Rattle.gt_core.proofs.Words.{setting_of}
 use Rattle.gt_core.proofs.Playing.{begun-all, begin-does}
 use Rattle.gt_core.proofs.core_state.Core.begin.Goals as goal
 

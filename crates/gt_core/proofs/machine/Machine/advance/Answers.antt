@@ -1,9 +1,4 @@
-use Rattle.std.proofs.Common.{◌≡◌, List, length, refl, sym, ◌∙◌, subst}
-use Rattle.std.proofs.lemmas.Option.{same_Some, slice_get_read}
-use Rattle.gt_calls.specs.declared.known.Own.{Own}
-use Rattle.gt_calls.specs.Rules.{knowledge_of}
-use Rattle.gt_calls.specs.Following.{Goes}
-use Rattle.gt_core.specs.States.{State}
+use Rattle.gt_core.proofs.Words.{◌≡◌, List, length, refl, sym, ◌∙◌, subst, same_Some, slice_get_read, Own, knowledge_of, Goes, State}
 use Rattle.gt_core.proofs.machine.Machine.advance.Goals as goal
 
 pub returns-clause-goes : goal.returns-clause-goes

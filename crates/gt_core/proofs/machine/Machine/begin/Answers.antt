@@ -1,18 +1,9 @@
-use Rattle.std.proofs.Common.{sym, ◌∙◌, ap, Some, ◌≡◌, ℕ, List, refl, subst, None, Option}
-use Rattle.std.specs.Prelude.{position, is_some}
-use Rattle.gt_core.specs.declared.slot.Open.{Open}
-use Rattle.gt_core.specs.Effects.{with_call}
-use Rattle.gt_calls.specs.Asking.{given_by}
-use Rattle.gt_core.specs.States.{State, kept_by}
+use Rattle.gt_core.proofs.Words.{sym, ◌∙◌, ap, Some, ◌≡◌, ℕ, List, refl, subst, None, Option, position, is_some, Open, with_call, given_by, State, kept_by, ◌<◌, ◌+◌, knowledge_of, setting_of, DomainsStand, Opens, same_Some, set, ◌∷◌}
 use Rattle.gt_core.specs.declared.machine.Opening.{Opening}
-use Rattle.std.proofs.Common.{◌<◌, ◌+◌, ◌^◌}
+use Rattle.std.proofs.Common.{◌^◌}
 use Rattle.gt_core.proofs.Beginning.{serial-left}
-use Rattle.gt_calls.specs.Rules.{knowledge_of}
-use Rattle.gt_core.specs.Standing.{setting_of, DomainsStand, Opens}
 use Rattle.gt_core.proofs.Places.{has_id, on-err}
 use Rattle.gt_core.proofs.Beginning.{begin-wants, begin-nowhere, begin-busy, begin-answers, begin-opened, place-at, began}
-use Rattle.std.proofs.lemmas.Option.{same_Some}
-use Rattle.std.proofs.Common.{set, ◌∷◌}
 use Rattle.gt_core.proofs.machine.Machine.begin.Goals as goal
 
 pub returns-in_default-clause-stands : goal.returns-in_default-clause-stands

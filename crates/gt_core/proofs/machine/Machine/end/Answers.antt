@@ -1,7 +1,4 @@
-use Rattle.std.proofs.Common.{refl, sym, ◌∙◌, ap, None, ◌≡◌, List, length, set}
-use Rattle.std.proofs.lemmas.Option.{same_Some, slice_get_read}
-use Rattle.gt_core.specs.States.{State}
-use Rattle.gt_core.specs.Effects.{applied, with_underway}
+use Rattle.gt_core.proofs.Words.{refl, sym, ◌∙◌, ap, None, ◌≡◌, List, length, set, same_Some, slice_get_read, State, applied, with_underway}
 use Rattle.gt_core.proofs.Applying.{slice-after}
 use Rattle.gt_core.proofs.machine.Machine.end.Goals as goal
 

@@ -1,6 +1,4 @@
-use Rattle.std.proofs.Common.{List, [], refl, sym, subst}
-use Rattle.gt_core.specs.States.{State}
-use Rattle.gt_core.specs.Standing.{DomainsStand, setting_of}
+use Rattle.gt_core.proofs.Words.{List, [], refl, sym, subst, State, DomainsStand, setting_of}
 use Rattle.gt_core.proofs.Starting.{starts}
 use Rattle.gt_core.proofs.machine.Machine.new.Goals as goal
 

@@ -1,17 +1,5 @@
-use Rattle.std.proofs.Common.{◌≡◌, ℕ, List, length, Option, Some, None, refl, sym, ap, ◌∙◌, subst, set}
-use Rattle.std.proofs.lemmas.Option.{same_Some, slice_get_read}
-use Rattle.std.specs.Prelude.{slice_get, IsTrue, vec_len}
-use Rattle.gt_types.specs.declared.DomId.{DomId}
-use Rattle.gt_frames.specs.Frames.{bytes_at}
-use Rattle.gt_frames.specs.Sets.{FrameSet, frame_at, has_range}
-use Rattle.gt_core.specs.declared.slot.Open.{Open}
-use Rattle.gt_calls.specs.declared.action.Step.{Step}
-use Rattle.gt_calls.specs.declared.action.Step.TheVariants.{Read as ReadBytes}
-use Rattle.gt_core.specs.declared.trace.Answer.TheVariants.{Bytes as BytesAnswer}
-use Rattle.gt_core.specs.States.{State, IsLoading, asked_in}
-use Rattle.gt_core.specs.Accesses.{IsReadable}
-use Rattle.gt_core.specs.Effects.{with_underway}
-use Rattle.gt_core.specs.Standing.{Settled}
+use Rattle.gt_core.proofs.Words.{◌≡◌, ℕ, length, Option, Some, None, refl, sym, ap, ◌∙◌, subst, set, same_Some, slice_get_read, slice_get, IsTrue, bytes_at, FrameSet, frame_at, has_range, Open, Step, BytesAnswer, State, IsLoading, asked_in, IsReadable, with_underway, Settled}
+use Rattle.std.specs.Prelude.{vec_len}
 use Rattle.gt_core.proofs.Settling.{loaded, settled-plain}
 use Rattle.gt_core.proofs.machine.Machine.settle.Goals as goal
 

@@ -1,8 +1,4 @@
-use Rattle.std.proofs.Common.{◌≡◌, ◌<◌, ◌≤◌, ℕ, List, Some, None, sym, ap, ◌∙◌, subst}
-use Rattle.std.specs.Prelude.{position}
-use Rattle.gt_calls.specs.Rules.{size_of}
-use Rattle.gt_core.specs.States.{State}
-use Rattle.gt_core.specs.Standing.{setting_of}
+use Rattle.gt_core.proofs.Words.{◌≡◌, ◌<◌, ◌≤◌, ℕ, List, Some, None, sym, ap, ◌∙◌, subst, position, size_of, State, setting_of}
 use Rattle.gt_core.proofs.Places.{has_id}
 use Rattle.gt_core.proofs.Showing.{shown-nowhere, shown-past, shown-there}
 use Rattle.gt_core.proofs.machine.Machine.show.Goals as goal

@@ -1,9 +1,6 @@
-use Rattle.std.proofs.Common.{◌≡◌, List, Option, Some, None, Bor, option_copied, sym, ap, ◌∙◌}
-use Rattle.std.specs.Prelude.{option_map, position}
-use Rattle.gt_calls.specs.declared.held.Held.{Held}
-use Rattle.gt_core.specs.States.{State}
-use Rattle.gt_core.specs.Standing.{setting_of}
-use Rattle.gt_core.specs.Subject.{place_of}
+use Rattle.gt_core.proofs.Words.{◌≡◌, List, Option, Some, None, sym, ap, ◌∙◌, position, Held, State, setting_of, place_of}
+use Rattle.std.proofs.Common.{Bor, option_copied}
+use Rattle.std.specs.Prelude.{option_map}
 use Rattle.gt_core.proofs.Places.{has_id}
 use Rattle.gt_core.proofs.Subjects.{subject-nowhere, subject-there}
 use Rattle.gt_core.proofs.machine.Machine.subject.Goals as goal

@@ -1,25 +1,5 @@
-use Rattle.std.proofs.Common.{sym, ◌∙◌, ap, Some, ◌≡◌, List, None, refl, subst, ◌∷◌, length, set}
-use Rattle.std.specs.Prelude.{position, slice_get}
-use Rattle.std.proofs.lemmas.Option.{same_Some}
+use Rattle.gt_core.proofs.Words.{sym, ◌∙◌, ap, Some, ◌≡◌, List, None, refl, subst, ◌∷◌, length, set, position, slice_get, same_Some, Kept, Held, Goes, knowledge_of, Adds, Action, Done, Verdict, Answer, Denied, Mapped, sees, State, asked_in, IsMapping, applied, with_underway, with_mapping, IsAdmitted, AccessedBy, FrameSet, setting_of, core_of, DomainsStand, FramesStand, CoreStands, answer_with, ticked_element, MayDo, Tick}
 use Rattle.std.proofs.lemmas.List.{length-set}
-use Rattle.gt_handles.specs.Handles.{Kept}
-use Rattle.gt_calls.specs.declared.held.Held.{Held}
-use Rattle.gt_calls.specs.Following.{Goes}
-use Rattle.gt_calls.specs.Rules.{knowledge_of}
-use Rattle.gt_core.specs.Effects.{Adds}
-use Rattle.gt_calls.specs.declared.action.Action.{Action}
-use Rattle.gt_calls.specs.declared.action.Action.TheVariants.{Done}
-use Rattle.gt_calls.specs.declared.action.Verdict.{Verdict}
-use Rattle.gt_core.specs.declared.trace.Answer.{Answer}
-use Rattle.gt_core.specs.declared.trace.Answer.TheVariants.{Denied, Mapped}
-use Rattle.gt_core.specs.Sight.{sees}
-use Rattle.gt_core.specs.States.{State, asked_in, IsMapping}
-use Rattle.gt_core.specs.Effects.{applied, with_underway, with_mapping}
-use Rattle.gt_core.specs.Accesses.{IsAdmitted, AccessedBy}
-use Rattle.gt_frames.specs.Sets.{FrameSet}
-use Rattle.gt_core.specs.Standing.{setting_of, core_of, DomainsStand, FramesStand, CoreStands, answer_with, ticked_element}
-use Rattle.gt_core.specs.Legal.{MayDo}
-use Rattle.gt_core.specs.declared.trace.Event.TheVariants.{Tick}
 use Rattle.gt_core.specs.declared.core_state.Ticked.TheVariants.{Done as TickDone}
 use Rattle.gt_core.proofs.Places.{has_id, on-err}
 use Rattle.gt_core.proofs.Beginning.{begin-nowhere, tick-idle, place-at}

@@ -1,6 +1,4 @@
-use Rattle.std.proofs.Common.{◌<◌, ◌≤◌, ℕ, List, length, sym, ap, ◌∙◌, arith}
-use Rattle.gt_calls.specs.declared.known.Own.{Own}
-use Rattle.gt_core.specs.Effects.{with_own, own_after}
+use Rattle.gt_core.proofs.Words.{◌<◌, ◌≤◌, List, length, sym, ap, ◌∙◌, arith, Own, with_own, own_after}
 use Rattle.gt_core.proofs.Rows.{set-changed, changed-past}
 use Rattle.gt_core.proofs.state.DomainState.change_own.Goals as goal
 

@@ -1,6 +1,4 @@
-use Rattle.std.proofs.Common.{◌<◌, ◌≤◌, ℕ, List, length, sym, ap, ◌∙◌, arith}
-use Rattle.gt_core.specs.declared.slot.Slot.{Slot}
-use Rattle.gt_core.specs.Effects.{with_slot, slot_after}
+use Rattle.gt_core.proofs.Words.{◌<◌, ◌≤◌, List, length, sym, ap, ◌∙◌, arith, Slot, with_slot, slot_after}
 use Rattle.gt_core.proofs.Rows.{set-changed, changed-past}
 use Rattle.gt_core.proofs.state.DomainState.change_slot.Goals as goal
 

@@ -1,9 +1,4 @@
-use Rattle.gt_handles.specs.Handles.{Kept}
-use Rattle.gt_calls.specs.declared.held.Held.{Held}
-use Rattle.std.proofs.Common.{◌≡◌, ℕ, None, subst, sym, ap, arith}
-use Rattle.gt_entry.specs.declared.header.Header.{Header}
-use Rattle.gt_core.specs.States.{State, first_state}
-use Rattle.gt_calls.specs.declared.known.TheConstants.{ENTRIES}
+use Rattle.gt_core.proofs.Words.{Kept, Held, ◌≡◌, None, subst, sym, ap, arith, Header, State, first_state, ENTRIES}
 use Rattle.gt_core.proofs.Settling.{at-rest}
 use Rattle.gt_core.proofs.state.DomainState.new.Goals as goal
 

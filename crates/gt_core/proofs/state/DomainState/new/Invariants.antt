@@ -1,5 +1,4 @@
-use Rattle.std.proofs.Common.{◌≡◌, ℕ, replicate, min}
-use Rattle.gt_entry.specs.declared.entry.Entry.TheVariants.{Invalid}
+use Rattle.gt_core.proofs.Words.{◌≡◌, replicate, min, Invalid}
 use Rattle.gt_core.proofs.state.DomainState.new.Given as goal
 
 -- so many entries, all invalid and with no pins

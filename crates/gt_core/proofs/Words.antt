@@ -1,0 +1,125 @@
+-- The words that these proofs use, from the crates below and from the definitions of this one.
+pub use Rattle.std.proofs.Common.{Bool, List, None, Option, Some, ap, arith, cond, drop, false, get_or, inl, inr, length, ltb, map, min, refl, replicate, reverse, set, subst, suc, sym, take, true, zero, ℕ, [], ◌%◌, ◌++◌, ◌+◌, ◌-◌, ◌<◌, ◌∙◌, ◌∷◌, ◌≡◌, ◌≢◌, ◌≤◌, ◌⊎◌}
+pub use Rattle.std.proofs.Math.Nat.{mod-eq_of_lt}
+pub use Rattle.std.proofs.lemmas.Bool.{and_from, and_parts, eq-eqb, eqb-false, eqb-true, false≢true, leb-false, lt-ltb, ltb-false, ltb-true, ne_eqb, true≢false}
+pub use Rattle.std.proofs.lemmas.Grind.{reverse_onto}
+pub use Rattle.std.proofs.lemmas.List.{append-nil, drop_all, length-append, length-drop, length-replicate, length-reverse, length-take-le, map-append, take_all, take_more}
+pub use Rattle.std.proofs.lemmas.List.Elements.{All-push, All-tail}
+pub use Rattle.std.proofs.lemmas.List.Quantifiers.{position-Some}
+pub use Rattle.std.proofs.lemmas.List.Sums.{sum_by-cons}
+pub use Rattle.std.proofs.lemmas.Option.{none-some, same_Some, slice_get-get_or, slice_get_past, slice_get_read}
+pub use Rattle.std.specs.List.{position_or_len}
+pub use Rattle.std.specs.Option.{option_map}
+pub use Rattle.std.specs.Prelude.{All, Any, IsTrue, OnErr, Result, count_by, is_none, is_some, nat_le, nat_lt, not, position, slice_get, ◌&&◌, ◌==◌, ◌||◌}
+pub use Rattle.gt_types.specs.Denial.{denial_of}
+pub use Rattle.gt_types.specs.Names.{domain_of, resolved}
+pub use Rattle.gt_types.specs.declared.Dir.{Dir}
+pub use Rattle.gt_types.specs.declared.Dir.TheVariants.{Read, Write}
+pub use Rattle.gt_types.specs.declared.DomId.{DomId}
+pub use Rattle.gt_types.specs.declared.GrantRef.{GrantRef}
+pub use Rattle.gt_types.specs.declared.TypeId.{TypeId}
+pub use Rattle.gt_types.specs.declared.Use.TheVariants.{Copy as ForCopy, Map as ForMap}
+pub use Rattle.gt_types.specs.declared.config.Config.{Config}
+pub use Rattle.gt_types.specs.declared.config.DomainConfig.{DomainConfig}
+pub use Rattle.gt_types.specs.declared.denial.Denial.{Denial}
+pub use Rattle.gt_types.specs.declared.denial.Facts.TheVariants.{Policy}
+pub use Rattle.gt_types.specs.declared.denial.Rule.{Rule}
+pub use Rattle.gt_types.specs.declared.denial.Rule.TheVariants.{N1, N10, N16, N18, N19, N5, N6, N9}
+pub use Rattle.gt_types.specs.declared.limits.TheConstants.{FRAME_SIZE, LAST_GENERATION, MAX_PINS, MAX_TABLE_FRAMES, MAX_TRIES, TABLE_ENTRIES}
+pub use Rattle.gt_types.specs.declared.perms.Perms.{Perms}
+pub use Rattle.gt_types.specs.declared.rights.Triple.{Triple}
+pub use Rattle.gt_entry.specs.Entries.{IsEntry, frame_of}
+pub use Rattle.gt_entry.specs.Permits.{allows_direction, forwards, permits}
+pub use Rattle.gt_entry.specs.Spelling.{entry_of, first_body}
+pub use Rattle.gt_entry.specs.Words.{control_of, control_word, header_of, header_word}
+pub use Rattle.gt_entry.specs.declared.change.Change.{Change}
+pub use Rattle.gt_entry.specs.declared.change.Change.TheVariants.{Demote as ToReadOnly, Promote as ToWritable, Publish, Revoke as ToInvalid}
+pub use Rattle.gt_entry.specs.declared.change.Half.{Half}
+pub use Rattle.gt_entry.specs.declared.change.Half.TheVariants.{First as FirstHalf, Second as SecondHalf}
+pub use Rattle.gt_entry.specs.declared.control.Control.{Control}
+pub use Rattle.gt_entry.specs.declared.control.Kind.TheVariants.{Sub as KindSub}
+pub use Rattle.gt_entry.specs.declared.entry.Entry.{Entry}
+pub use Rattle.gt_entry.specs.declared.entry.Entry.TheVariants.{Invalid, Page, Sub, Via}
+pub use Rattle.gt_entry.specs.declared.header.Header.{Header}
+pub use Rattle.gt_handles.specs.Handles.{Kept, count_of, value_of}
+pub use Rattle.gt_handles.specs.declared.handles.Handle.{Handle}
+pub use Rattle.gt_frames.specs.Bytes.{Patch, written}
+pub use Rattle.gt_frames.specs.Frames.{bytes_at}
+pub use Rattle.gt_frames.specs.Places.{frame_counts}
+pub use Rattle.gt_frames.specs.Sets.{AreKept, FrameSet, all_zeros, frame_at, has_range}
+pub use Rattle.gt_calls.specs.Asking.{asked, begun_of, given_by}
+pub use Rattle.gt_calls.specs.Counting.{most_steps as most_of, steps_left}
+pub use Rattle.gt_calls.specs.Following.{Goes, GoesOn, Starts}
+pub use Rattle.gt_calls.specs.Holding.{held_by, last_first, no_pins, pins_so_far}
+pub use Rattle.gt_calls.specs.Machine.{action_at, after_dest_pin, after_leg, after_miss, after_pin_of, after_source_pin, after_store, at_dest, leg_after, leg_step, next_to_give, phase_after, refused_as, where_via}
+pub use Rattle.gt_calls.specs.Opening.{opens}
+pub use Rattle.gt_calls.specs.Path.{Continuation, FitsStep, after_beginning, dest_pair, end_leg, ended, entry_refusal, held_of, is_stopped, makes, map_leg, path, rule_of_try, second_leg, source_pair, steps_of}
+pub use Rattle.gt_calls.specs.Resting.{IsFor, IsOnFrom, IsReached, IsToward, LeadsTo, Rests, RestsOnRequest, RestsOnWays, RestsOnWord}
+pub use Rattle.gt_calls.specs.Rules.{CallerKnowledge, before_pin, begun, control_with, copy_denied, denied, entry_in, first, first_look, frames_in, frames_of, generation_in, is_dest_granted, is_kind, is_source_granted, knowledge_of, refused_when, rights_to_copy, rights_to_map, row_entry, row_generation, size_of, stands, unmap_denied, via_judged}
+pub use Rattle.gt_calls.specs.Standing.{HasShown, IsQuiet, IsTurn, StandsAt, held_in, pins_at}
+pub use Rattle.gt_calls.specs.declared.action.Action.{Action}
+pub use Rattle.gt_calls.specs.declared.action.Action.TheVariants.{Done, Step as Makes}
+pub use Rattle.gt_calls.specs.declared.action.Place.{Place}
+pub use Rattle.gt_calls.specs.declared.action.Seen.{Seen}
+pub use Rattle.gt_calls.specs.declared.action.Seen.TheVariants.{Missed, Nothing, Taken, Word}
+pub use Rattle.gt_calls.specs.declared.action.Step.{Step}
+pub use Rattle.gt_calls.specs.declared.action.Step.TheVariants.{Copy as CopyBytes, Exchange, LookBody, LookControl, LookHeader, Pin as PinStep, Read as ReadBytes, StoreBody, StoreHeader, Unpin, Write as WriteBytes}
+pub use Rattle.gt_calls.specs.declared.action.Value.{Value}
+pub use Rattle.gt_calls.specs.declared.action.Value.TheVariants.{Frames as FramesTold, Size as SizeTold, Version as VersionTold}
+pub use Rattle.gt_calls.specs.declared.action.Verdict.{Verdict}
+pub use Rattle.gt_calls.specs.declared.action.Verdict.TheVariants.{Given, Granted, Mapped as KeptPin, Refused}
+pub use Rattle.gt_calls.specs.declared.call.Call.{Call}
+pub use Rattle.gt_calls.specs.declared.call.Phase.{Phase}
+pub use Rattle.gt_calls.specs.declared.call.Phase.TheVariants.{Accessing, Asking, Changing, Ending, Exchanging, Last, Looking, Storing, StoringSecond, Walking}
+pub use Rattle.gt_calls.specs.declared.call.Question.{Question}
+pub use Rattle.gt_calls.specs.declared.call.Question.TheVariants.{Size as AsksSize, Version as AsksVersion}
+pub use Rattle.gt_calls.specs.declared.copying.Aim.{Aim}
+pub use Rattle.gt_calls.specs.declared.copying.Aim.TheVariants.{Dest, Mapping, Source}
+pub use Rattle.gt_calls.specs.declared.held.Held.{Held}
+pub use Rattle.gt_calls.specs.declared.held.Pins.{Pins}
+pub use Rattle.gt_calls.specs.declared.held.Route.{Route}
+pub use Rattle.gt_calls.specs.declared.held.Route.TheVariants.{Direct, Through}
+pub use Rattle.gt_calls.specs.declared.judging.TheConstants.{END_OF_SERIALS}
+pub use Rattle.gt_calls.specs.declared.known.Own.{Own}
+pub use Rattle.gt_calls.specs.declared.known.TheConstants.{ENTRIES}
+pub use Rattle.gt_calls.specs.declared.leg.Leg.{Leg}
+pub use Rattle.gt_calls.specs.declared.leg.LegNext.{LegNext}
+pub use Rattle.gt_calls.specs.declared.leg.LegNext.TheVariants.{Going, Pinned, Refused as LegRefused}
+pub use Rattle.gt_calls.specs.declared.leg.LegPhase.{LegPhase}
+pub use Rattle.gt_calls.specs.declared.leg.LegPhase.TheVariants.{Body, Header as AtHeader, Look, Pinning, Relook, Second}
+pub use Rattle.gt_calls.specs.declared.leg.TheConstants.{MORE_TRIES}
+pub use Rattle.gt_calls.specs.declared.request.Asked.{Asked}
+pub use Rattle.gt_calls.specs.declared.request.Asked.TheVariants.{Copy, Demote, GetVersion, Grant, Load, Map, Peek, Poke, Promote, QuerySize, Revoke, SetVersion, SetupTable, Store, Unmap}
+pub use Rattle.gt_calls.specs.declared.request.CopyArgs.{CopyArgs}
+pub use Rattle.gt_calls.specs.declared.request.End.{End}
+pub use Rattle.gt_calls.specs.declared.request.Holder.{Holder}
+pub use Rattle.gt_calls.specs.declared.request.Holder.TheVariants.{Leg as ByLeg, Mapping as ByMapping}
+pub use Rattle.gt_calls.specs.declared.request.Request.{Request}
+pub use Rattle.gt_core.specs.Accesses.{AccessedBy, IsAdmitted, IsLoadOf, IsReadable}
+pub use Rattle.gt_core.specs.Alike.{AreAlike, AsksKnown, HappensKnown, IsKnown, IsOfKnown, SameHistory, ToldItem, bare_event, bare_handle, bare_happened, bare_request, bare_step, told, told_item}
+unfoldable pub use Rattle.gt_core.specs.Alike.{IsGiven, IsRun, told_items}
+pub use Rattle.gt_core.specs.Effects.{Adds, applied, own_after, slot_after, taken, with_call, with_header, with_mapping, with_own, with_slot, with_underway, without_mapping}
+pub use Rattle.gt_core.specs.History.{History, Pin, Setting, Underway, Writing, by_leg, by_mapping, change_at, change_of, contents_at, control_at, entry_after, exchange_sees, generation_at, given_in, header_or, header_stored, holder_after, is_holder, is_pin_on, known_at, legs_at, mapping_of, mappings_at, one_if_mapped, or_else, patches_by, pinned_by, raise_after, raise_of, reads_at, same_dir, same_handle, seen_by, stored_at, underway_after, underway_with, unpinned_by, values, word_at, writes_at, written_by}
+unfoldable pub use Rattle.gt_core.specs.History.{body_at, entry_at, gather, live, maps_answered_at, open_call, patches_at, raises_at, table_at, without}
+pub use Rattle.gt_core.specs.Legal.{AnsweredBy, CopyIsJustified, GivesValue, IsInFrame, IsRight, IsSafe, IsSafeChange, IsSpelled, Justified, LeavesAll, LegNow, LegalAfter, MayDo, MayUse, PinIsSound, StepsRight, StepsRightIn, StepsSoFar, at_entry, first_at, first_in_call, first_of_item, gives_back, grown, history_after, is_demote, is_in_body, is_other, leg_at, most_steps, or_then, refusal_if, refusal_in, refusal_of, rule_before_pin, verdict_in}
+unfoldable pub use Rattle.gt_core.specs.Legal.{looked_at, misses, stood}
+pub use Rattle.gt_core.specs.Rows.{changed_at}
+pub use Rattle.gt_core.specs.Shown.{shown_at}
+pub use Rattle.gt_core.specs.Sight.{body_seen, control_seen, header_seen, sees}
+pub use Rattle.gt_core.specs.Standing.{Agrees, Asks, CallAgrees, CoreStands, Does, DomainsStand, EndsAfter, EndsCopy, FitsAsked, FitsGiven, FitsTable, FitsWord, FramesStand, GivenAgrees, HasLooked, HasRead, IsClean, IsLawful, IsLawfullyHeld, IsShown, LegStands, MappingsAgree, OpenAgrees, Opens, PhaseStands, Settled, SlotAgrees, StateAgrees, WhileSame, answer_with, begun_element, core_of, numbered, phase_refusal, setting_of, ticked_element}
+pub use Rattle.gt_core.specs.States.{IsLoading, IsMapping, State, asked_in, changed_in, first_state, kept_by, state_of}
+pub use Rattle.gt_core.specs.Subject.{place_of, subject_at}
+pub use Rattle.gt_core.specs.declared.core_state.Begun.{Begun}
+pub use Rattle.gt_core.specs.declared.slot.Open.{Open}
+pub use Rattle.gt_core.specs.declared.slot.Slot.{Slot}
+pub use Rattle.gt_core.specs.declared.slot.SlotChange.TheVariants.{Stored, Unpinned}
+pub use Rattle.gt_core.specs.declared.trace.Answer.{Answer}
+pub use Rattle.gt_core.specs.declared.trace.Answer.TheVariants.{Bytes, Bytes as BytesAnswer, Denied, Done as AnswerDone, Mapped}
+pub use Rattle.gt_core.specs.declared.trace.Element.{Element}
+pub use Rattle.gt_core.specs.declared.trace.Element.TheVariants.{Busy, Idle, Item as Did, NoDomain}
+pub use Rattle.gt_core.specs.declared.trace.Event.{Event}
+pub use Rattle.gt_core.specs.declared.trace.Event.TheVariants.{Begin, Tick}
+pub use Rattle.gt_core.specs.declared.trace.Happened.{Happened}
+pub use Rattle.gt_core.specs.declared.trace.Happened.TheVariants.{Began, Stepped}
+pub use Rattle.gt_core.specs.declared.trace.Item.{Item}
+pub use mathlib.Core.Path.{fun_ext}
