@@ -4,7 +4,7 @@ ghost use Rattle.gt_types.specs.declared.Dir.TheVariants as dirs;
 ghost use Rattle.gt_types.specs.declared.Use.TheVariants as uses;
 ghost use Rattle.gt_words.specs.Conditions.{IsSeatOf};
 ghost use Rattle.gt_frames.specs.Frames.{bytes_at, IsKept, IsWrite};
-ghost use Rattle.gt_frames.specs.Pool.{dest_of, source_of};
+ghost use Rattle.gt_frames.specs.Pool.{dest_of, source_of, KeepsSource};
 ghost use Rattle.gt_frames.specs.Receipts.{reading_of, writing_of, copying_of};
 ghost use Rattle.gt_frames.specs.Sets.{name_of};
 ghost use Rattle.gt_access.specs.Routes.{MayAccess, MayCopy, Reaches, writ_by};
@@ -126,6 +126,7 @@ pub fn copy_under<P: Allows>(
     requires dest_range { to_off + from.len ≤ FRAME_SIZE }
     ensures written { OnOk result (IsWrite (dest_of ends.old) (dest_of ends.new)
         writ.now to_off (bytes_at (source_of ends.old) from.off from.len)) }
+    ensures source_kept { OnOk result (KeepsSource ends.old ends.new) }
     ensures kept { IsKept (dest_of ends.new) }
     ensures receipt { IfOk result
         (λ r. r ≡ copying_of (source_of ends.old) from.off (dest_of ends.old) to_off from.len seat.now.dom) }

@@ -1,9 +1,11 @@
 -- Locked frames.
-use Rattle.std.specs.Prelude.{Option, Some, None}
+use Rattle.std.specs.Prelude.{◌≡◌, false, Option, Some, None}
 use Rattle.std.specs.Sync.Mutex.{mutex_guard_value}
 use Rattle.std.specs.declared.sync.MutexGuard.{MutexGuard}
 use Rattle.gt_frames.specs.declared.pool.Ends.{Ends}
 use Rattle.gt_frames.specs.Frames.{FrameState}
+use Rattle.gt_frames.specs.Places.{is_name}
+use Rattle.gt_frames.specs.Sets.{name_of}
 
 -- the frame that the bytes go to (own)
 abbrev pub dest_of : Ends → FrameState
@@ -17,3 +19,7 @@ frame_or f (Some g) = mutex_guard_value g
 -- the frame that the bytes come from (own)
 abbrev pub source_of : Ends → FrameState
 source_of e = frame_or (dest_of e) e.source
+
+-- the frame that the bytes come from is as it was, where it is another one than the frame that they go to (own)
+abbrev pub KeepsSource : Ends → Ends → Type 0
+KeepsSource old new = is_name (name_of (source_of old)) (name_of (dest_of old)) ≡ false → source_of new ≡ source_of old

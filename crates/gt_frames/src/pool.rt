@@ -3,7 +3,7 @@ ghost use Rattle.std.specs.Prelude.{◌≡◌, ◌+◌, ◌<◌, ◌≤◌, ◌+
 ghost use Rattle.std.specs.Sync.Mutex.{mutex_guard_value};
 ghost use Rattle.gt_frames.specs.Frames.{bytes_at, contents, covers, IsKept, IsWrite};
 ghost use Rattle.gt_frames.specs.Places.{frame_counts, frames_of, pool_number};
-ghost use Rattle.gt_frames.specs.Pool.{source_of, dest_of};
+ghost use Rattle.gt_frames.specs.Pool.{source_of, dest_of, KeepsSource};
 ghost use Rattle.gt_frames.specs.Receipts.{copying_of};
 ghost use Rattle.gt_frames.specs.Sets.{name_of};
 
@@ -199,6 +199,7 @@ impl<'p> Ends<'p> {
         ensures written { OnOk result (IsWrite (dest_of self.old) (dest_of self.new) writ.now to_off
             (bytes_at (source_of self.old) from_off len)) }
         ensures kept { IsKept (dest_of self.new) }
+        ensures source_kept { OnOk result (KeepsSource self.old self.new) }
         ensures receipt { IfOk result (λ r.
             r ≡ copying_of (source_of self.old) from_off (dest_of self.old) to_off len writ.now.writer) }
         ensures refused { OnErr result

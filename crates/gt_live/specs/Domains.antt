@@ -224,6 +224,24 @@ abbrev pub mapping_reply : Result Handle Denial → Reply
 mapping_reply (Ok handle) = replies.Done
 mapping_reply (Err denial) = replies.Denied denial
 
+-- the answer that a reply tells (own)
+abbrev pub told_by : Reply → Verdict
+told_by replies.Done = Granted
+told_by (replies.Frames frames) = Given (Frames frames)
+told_by (replies.Size size) = Given (SizeTold size)
+told_by (replies.Version version) = Given (Version version)
+told_by (replies.Denied denial) = Refused denial
+
+-- an answer without the mapping that a map is given, which no record tells (own)
+abbrev pub without_mapping : Verdict → Verdict
+without_mapping (Mapped p) = Granted
+without_mapping verdict = verdict
+
+-- the refusal of an answer; Ok, where there is none (own)
+abbrev pub outcome_of : {R : Type 0} → Result R Denial → Verdict
+outcome_of (Ok value) = Granted
+outcome_of (Err denial) = Refused denial
+
 -- the record of a call of this domain, which was answered so (own)
 abbrev pub told_of : Domain → Hypercall → Verdict → Record
 told_of d call verdict = record { dom = d.seat.dom; call = call; reply = reply_of verdict }

@@ -6,8 +6,8 @@ ghost use Rattle.gt_calls.specs.Path.{path};
 ghost use Rattle.gt_words.specs.Conditions.{IsSameSeat};
 ghost use Rattle.gt_live.specs.Rows.{row_changed};
 ghost use Rattle.gt_live.specs.Ending.{IsAnswerTo, IsMap, WaitsForNobody};
-ghost use Rattle.gt_live.specs.Domains.{Answered, IsOf, done_by, known, mapped_by, mapping_reply, reply_of};
-ghost use Rattle.gt_live.specs.Domains.{version_told, size_told, frames_told};
+ghost use Rattle.gt_live.specs.Domains.{Answered, IsOf, done_by, known, mapped_by, mapping_reply, outcome_of};
+ghost use Rattle.gt_live.specs.Domains.{reply_of, told_by, version_told, size_told, frames_told, without_mapping};
 ghost use Rattle.gt_live.specs.Walks.{Called};
 ghost use Rattle.gt_live.specs.Driving.{Leaves};
 ghost use Rattle.gt_live.specs.Effects.{Answers};
@@ -132,7 +132,8 @@ fn mapped(verdict: Verdict, handle: Option<Handle>) -> Result<Handle, Denial>
 
 // What a record tells of an answer.
 fn reply_of(verdict: Verdict) -> Reply
-    ensures { result ≡ reply_of verdict }
+    ensures reply { result ≡ reply_of verdict }
+    ensures tells { told_by result ≡ without_mapping verdict }
 {
     match verdict {
         Verdict::Granted | Verdict::Mapped(_) => Reply::Done,
@@ -145,7 +146,8 @@ fn reply_of(verdict: Verdict) -> Reply
 
 // What a record tells of a map's answer.
 fn mapping_reply(answer: Result<Handle, Denial>) -> Reply
-    ensures { result ≡ mapping_reply answer }
+    ensures reply { result ≡ mapping_reply answer }
+    ensures tells { told_by result ≡ outcome_of answer }
 {
     match answer {
         Ok(_) => Reply::Done,

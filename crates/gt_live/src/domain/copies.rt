@@ -13,7 +13,7 @@ ghost use Rattle.gt_calls.specs.declared.request.CopyArgs.{CopyArgs};
 ghost use Rattle.gt_calls.specs.Standing.{held_by_call, pins_by_call};
 ghost use Rattle.gt_live.specs.Accesses.{IsCopiedBy, IsOfAccess, spot_of};
 ghost use Rattle.gt_live.specs.Domains.{Accesses, IsOf, IsOpened, IsUnsettled, KeepsPinned, copy_reply, known};
-ghost use Rattle.gt_live.specs.Domains.{told_copy, told_end};
+ghost use Rattle.gt_live.specs.Domains.{outcome_of, told_by, told_copy, told_end};
 ghost use Rattle.gt_live.specs.Underway.{AreOfRun, GivesBack, HasTaken, Stops};
 
 use super::Domain;
@@ -53,7 +53,8 @@ fn told_end(end: End) -> CopyEnd
 
 // What a record tells of a copy's answer.
 fn copy_reply(answer: &Result<Copied, Denial>) -> Reply
-    ensures { result ≡ copy_reply answer.now }
+    ensures reply { result ≡ copy_reply answer.now }
+    ensures tells { told_by result ≡ outcome_of answer.now }
 {
     match answer {
         Ok(_) => Reply::Done,
