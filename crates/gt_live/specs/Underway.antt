@@ -1,4 +1,4 @@
--- A copy under way: the pins that it holds, and where it stops. The code's own representation, which stands here since contracts cite it.
+-- A copy under way: the pins that it holds, and where it stops. The code's own representation. It is in specs/ because contracts cite it.
 use Rattle.std.specs.Prelude.{◌≡◌, ℕ, ◌+◌, ◌<◌, ◌==◌, ◌&&◌, Bool, cond, List, [], ◌∷◌, ◌++◌, Option, Some, None}
 use Rattle.gt_types.specs.declared.DomId.{DomId}
 use Rattle.gt_types.specs.declared.denial.Denial.{Denial}
