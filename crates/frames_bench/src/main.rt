@@ -6,7 +6,7 @@
 //! domains), `locks` (of one of these frames), `locked` (copies of 4,096 bytes under two locks) or
 //! `handles` (that many in use, then all popped).
 //!
-//! It promises nothing beyond the calls that it makes, and stands on `gt_frames`, `gt_handles` and
+//! It promises nothing beyond the calls that it makes, and uses `gt_frames`, `gt_handles` and
 //! `gt_types`. The script `bench/frames.sh` runs and times it.
 #![tactic(auto)]
 

@@ -16,7 +16,7 @@ use std::sync::Wait;
 /// Why an access was not made. Nothing has changed then.
 #[derive(Clone, Copy, Debug, PartialEq, Eq)]
 pub enum Refused {
-    /// There is no such frame, or another one stands in its place.
+    /// There is no such frame, or another one is in its place.
     Gone,
     /// Memory was refused.
     Memory,
@@ -29,7 +29,7 @@ impl From<Memory> for Refused {
 }
 
 /// Reads bytes of the frame of this name, from `off` on over all of `out`. `None` where there is no
-/// such frame, or another one stands in its place.
+/// such frame, or another one is in its place.
 #[tactic(auto, using(crate::proofs::Covering::reaches_named))]
 pub fn read_by<R: Wait, P: Allows>(
     rt: &R,

@@ -1,15 +1,16 @@
 //! Accesses to frames under locks: the bytes that a domain reads, writes or copies by its pins.
 //!
 //! A [`Run`] lends what accesses are judged by. [`read_under`], [`write_under`] and [`copy_under`] are
-//! lent locked frames, the caller's seat and the route to each frame. Their condition is that the
-//! route's pins are in the view of that seat and justify the range, that the policy allows the access,
-//! and that the writ is of those pins' entries. They then do just what a frame's own calls do, and hand
-//! on the frame's receipt.
+//! lent locked frames, the caller's seat and the route to each frame. Their conditions: the route's
+//! pins are in the view of that seat and justify the range, the policy allows the access, and the writ
+//! is of those pins' entries. They then do just what a frame's own calls do, and hand on the frame's
+//! receipt.
 //!
-//! [`read_by`], [`write_by`] and [`copy_by`] lock the frames that the routes lead to and free them again.
-//! They alone may wait. A frame under another name than the one wanted, or none, is [`Refused::Gone`].
+//! [`read_by`], [`write_by`] and [`copy_by`] lock the frames that the routes lead to and free them
+//! again. They alone may wait. A frame under another name than the one wanted, or none, is
+//! [`Refused::Gone`].
 //!
-//! It stands on `gt_frames` (frames, pool), `gt_words` (seats and their views), `gt_calls` (routes),
+//! It uses `gt_frames` (frames, pool), `gt_words` (seats and their views), `gt_calls` (routes),
 //! `gt_entry` and `gt_types`.
 #![tactic(auto)]
 

@@ -1,3 +1,4 @@
+//! An access by a pin, and one to an own frame.
 ghost use Rattle.std.specs.Prelude.{◌≡◌, ◌≢◌, ◌+◌, ◌<◌, ◌≤◌, [], ◌∷◌, length, true, IfOk, IfSome};
 ghost use Rattle.gt_types.specs.Config.{IsWithinLimits};
 ghost use Rattle.gt_words.specs.Conditions.{IsSeatOf, IsSameSeat, HasDomain};

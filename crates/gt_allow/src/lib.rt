@@ -1,13 +1,13 @@
-//! The compiled allow table of a policy: what the policy allows, so that a question is one look.
+//! The compiled allow table of a policy, which answers a question with one look.
 //!
-//! [`AllowTable::compile`] asks a [`Policy`](gt_policy::Policy) once for each of its types and keeps
+//! [`AllowTable::compile`] asks a [`Policy`](gt_policy::Policy) once for each of its types. It keeps
 //! one set of permissions for each pair of types, and no statement. [`AllowTable`] then answers as the
 //! policy does, for all types and each permission: its contract is one equation between the two, as
-//! functions of source, target and permission. A question with a type that is not declared, for several
-//! permissions or for none is denied by both.
+//! functions of source, target and permission. Both deny a question with a type that is not declared,
+//! for several permissions, or for none.
 //!
-//! It stands on `gt_policy` for what a policy allows, on `gt_types` for types, permissions and rights,
-//! and on `bitflags` for sets of permissions.
+//! It uses `gt_policy` (what a policy allows), `gt_types` (types, permissions, rights) and `bitflags`
+//! (sets of permissions).
 #![tactic(auto)]
 
 mod table;

@@ -1,4 +1,4 @@
--- The lines that tell records.
+-- The lines of records.
 use Rattle.std.specs.Prelude.{ℕ, Bool, List, [], ◌++◌, ◌==◌, if◌then◌else◌, Some, None, codes, decimal, bit_and}
 use Rattle.gt_types.specs.declared.DomId.{DomId}
 use Rattle.gt_types.specs.declared.GrantRef.{GrantRef}

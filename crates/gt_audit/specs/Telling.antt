@@ -1,4 +1,4 @@
--- The records that were told, and those that were lost.
+-- The records that were pushed, and those that were lost.
 use Rattle.std.specs.Prelude.{◌≡◌, ℕ, ◌+◌, ◌-◌, ◌^◌, min, ◌⊎◌, List, [], ◌∷◌, ◌++◌}
 use Rattle.gt_types.specs.declared.DomId.{DomId}
 use Rattle.gt_audit.specs.declared.record.Record.{Record}

@@ -1,16 +1,17 @@
-//! Audit: what is recorded of an answered hypercall, the line that tells it, and where records are kept.
+//! Audit: what is recorded of an answered hypercall, the line that prints it, and where records are
+//! kept.
 //!
 //! A [`Record`] is a plain value: who called, what was asked, and the answer. [`line`] prints it. A
-//! domain keeps its own records in a [`Trail`]; domains that run in threads also push theirs into a
+//! domain keeps its own records in a [`Trail`]. Domains that run in threads also push theirs into a
 //! [`SharedLog`], where any thread may read them while others push.
 //!
 //! What holds: a line is exactly the text of its record, with the names of types that it is given. A
 //! record is appended to its trail or counted as lost, and no other record changes. A token of a shared
-//! log gives the record that was pushed for it, whatever came after; what is found under a domain and a
+//! log gives the record that was pushed for it, whatever came after. What is found under a domain and a
 //! number was pushed for them. Only a push into a shared log may wait.
 //!
-//! It stands on `gt_types` for domains, references and refusals, on `gt_texts` for what answers print,
-//! and on `boxcar` for a list that threads share.
+//! It uses `gt_types` (domains, references, refusals), `gt_texts` (what answers print) and `boxcar` (a
+//! list that threads share).
 #![tactic(auto)]
 
 mod lines;

@@ -1,4 +1,4 @@
-//! The lines that tell records.
+//! The lines of records.
 ghost use Rattle.std.specs.Prelude.{◌≡◌, ◌++◌, OnOk, IfOk, codes, decimal, string_bytes};
 ghost use Rattle.gt_types.specs.Names.{resolved as resolved_in};
 ghost use Rattle.gt_texts.specs.Printing.{type_text};
@@ -50,7 +50,7 @@ fn push_with_number(out: &mut Vec<u8>, word: &str, number: u32) -> Result<(), Al
     push_number(out, number)
 }
 
-// An entry, behind a blank.
+// An entry, after a blank.
 fn push_entry(
     out: &mut Vec<u8>,
     caller: DomId,
@@ -72,7 +72,7 @@ fn kind(is_reference: bool) -> &'static str
     if is_reference { "gref" } else { "frame" }
 }
 
-// An end of a copy, behind a blank.
+// An end of a copy, after a blank.
 fn push_end(
     out: &mut Vec<u8>,
     caller: DomId,
@@ -160,7 +160,7 @@ fn push_reply<N: AsSlice<u8>>(
     }
 }
 
-// What stands before the answer.
+// What comes before the answer.
 fn push_asked(out: &mut Vec<u8>, caller: DomId, call: Hypercall) -> Result<(), AllocError>
     ensures text { OnOk result (out.new.items ≡ out.old.items ++ asked_text caller call) }
     ensures stays { OnOk result (StaysText out.old.items out.new.items) }
@@ -172,8 +172,8 @@ fn push_asked(out: &mut Vec<u8>, caller: DomId, call: Hypercall) -> Result<(), A
     push_text(out, " : ")
 }
 
-/// Appends the line of a record. The name of a type stands at its number in `names`; a type without one
-/// prints no name. After an Err a part of the line may stand.
+/// Appends the line of a record. The name of a type is at its number in `names`; a type without one
+/// prints no name. After an Err a part of the line may be there.
 pub fn push_line<N: AsSlice<u8>>(
     out: &mut Vec<u8>,
     told: &Record,
@@ -187,7 +187,7 @@ pub fn push_line<N: AsSlice<u8>>(
     push_text(out, "\n")
 }
 
-/// The line of a record, with its LF. The name of a type stands at its number in `names`.
+/// The line of a record, with its LF. The name of a type is at its number in `names`.
 pub fn line(alloc: Global, told: &Record, names: &[String]) -> Result<String, Memory>
     ensures { IfOk result (λ text. string_bytes text ≡ line_text (type_text string_bytes names.now) told.now) }
 {
@@ -199,8 +199,8 @@ pub fn line(alloc: Global, told: &Record, names: &[String]) -> Result<String, Me
     }
 }
 
-/// Appends the line that tells how many records were lost; nothing where none was. After an Err a part of
-/// the line may stand.
+/// Appends the line that says how many records were lost; nothing where none was. After an Err a part of
+/// the line may be there.
 pub fn push_lost(out: &mut Vec<u8>, lost: u64) -> Result<(), AllocError>
     ensures text { OnOk result (out.new.items ≡ out.old.items ++ lost_text lost) }
     ensures stays { OnOk result (StaysText out.old.items out.new.items) }

@@ -44,10 +44,10 @@ pub enum Hypercall {
     },
 }
 
-/// What was answered, as far as a line tells it.
+/// What was answered, as far as a line prints it.
 #[derive(Clone, Copy, Debug, PartialEq, Eq)]
 pub enum Reply {
-    /// Ok without a value that a line tells; a map's handle is none.
+    /// Ok without a value that a line prints; a map's handle is none.
     Done,
     /// The frames that a table has.
     Frames(u32),

@@ -5,7 +5,7 @@ use gt_types::DomId;
 use std::alloc::{AllocError, Global};
 use std::sync::Wait;
 
-// A record as it stands in the log.
+// A record as the log has it.
 #[derive(Drop)]
 struct Entry {
     dom: DomId,
@@ -19,7 +19,7 @@ pub struct SharedLog {
     entries: Vec<Entry>,
 }
 
-/// What shows that a record stands in a log.
+/// What shows that a log has a record.
 #[derive(Drop)]
 pub struct Pushed {
     token: boxcar::Pushed<Entry>,

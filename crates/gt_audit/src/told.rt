@@ -1,4 +1,4 @@
-//! What one domain told to a shared log.
+//! What one domain pushed into a shared log.
 use crate::record::Record;
 use crate::shared::{Pushed, SharedLog};
 use gt_types::DomId;
@@ -6,7 +6,7 @@ use std::alloc::{AllocError, Global};
 use std::marker::Model;
 use std::sync::Wait;
 
-/// What one domain told to a log: its records, each under its number, in order, and how many were lost.
+/// What one domain pushed into a log: its records, each under its number, in order, and how many were lost.
 #[derive(Drop)]
 pub struct Told<'l> {
     log: &'l SharedLog,
@@ -31,7 +31,7 @@ impl<'l> Told<'l> {
     ghost use Rattle.std.specs.Prelude.{◌≡◌, IfOk, map};
     ghost use Rattle.gt_audit.specs.Telling.{nothing_told, TellsUnder};
 
-    /// Nothing was told yet.
+    /// Nothing was pushed yet.
     pub fn new(alloc: Global, log: &'l SharedLog, dom: DomId) -> Self
         ensures { result ≡ nothing_told dom }
     {
@@ -43,7 +43,7 @@ impl<'l> Told<'l> {
         }
     }
 
-    /// Tells a record under this number. Where memory is refused, here or by the log, it is lost; the count
+    /// Pushes a record under this number. Where memory is refused, here or by the log, it is lost; the count
     /// of those stops at [`u64::MAX`].
     pub fn tell(&mut self, rt: &impl Wait, number: u64, told: Record)
         ensures { TellsUnder self.old number told self.new }
@@ -65,7 +65,7 @@ impl<'l> Told<'l> {
         self.lost
     }
 
-    /// The records told, as the log has them, in order.
+    /// The records pushed, as the log has them, in order.
     pub fn records(&self, alloc: Global) -> Result<Vec<Record>, AllocError>
         ensures { IfOk result (λ v. v.items ≡ map (λ e. e.1) self.now.told) }
     {

@@ -72,7 +72,7 @@ impl Write for FailingWriter {
 
 const TEXT: &[u8] = b"one line\nand another\n";
 
-// What comes of a reader that ends so behind so many bytes, of which it gives some at a time.
+// What comes of a reader that ends so after so many bytes, of which it gives some at a time.
 fn read_behind(
     alloc: Global,
     bytes: &[u8],
@@ -109,7 +109,7 @@ fn texts_up_to_the_limit(rt: HostRuntime) -> Result<(), Fail> {
     Ok(())
 }
 
-// A read that fails is told as what it is; behind the limit there is none.
+// A read that fails is answered as what it is; after the limit there is none.
 #[test]
 fn a_reader_that_fails(rt: HostRuntime) -> Result<(), Fail> {
     let long = vec![in rt.alloc(); b' '; 1_048_600]?;
@@ -134,7 +134,7 @@ fn a_reader_that_fails(rt: HostRuntime) -> Result<(), Fail> {
     Ok(())
 }
 
-// As many writes as there are bytes, each behind an interruption.
+// As many writes as there are bytes, each after an interruption.
 #[test]
 fn a_writer_of_single_bytes(rt: HostRuntime) -> Result<(), Fail> {
     let text = vec![in rt.alloc(); b'.'; 70_000]?;

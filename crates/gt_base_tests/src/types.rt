@@ -19,7 +19,7 @@ const TWO: DomainConfig = DomainConfig {
     ..ONE
 };
 
-// Domains with the first generation, and what is told of them. A fault of the second domain is named, whatever the
+// Domains with the first generation, and what is found of them. A fault of the second domain is named, whatever the
 // third has.
 const CONFIGS: [(&[DomainConfig], u32, Result<(), ConfigFault>); 11] = [
     (

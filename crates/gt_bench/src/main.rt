@@ -6,7 +6,7 @@
 //! (all map the same entry, by a transitive entry each) or `grants` (the first thread is the owner, who
 //! revokes and grants the one entry again, and the others map it).
 //!
-//! It promises nothing beyond the calls that it makes, and stands on `gt_words`. The script `bench/words.sh` runs and
+//! It promises nothing beyond the calls that it makes, and uses `gt_words`. The script `bench/words.sh` runs and
 //! times it beside two programs in C.
 #![tactic(auto)]
 

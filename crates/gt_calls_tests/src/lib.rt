@@ -1,4 +1,4 @@
-//! Tests of calls, over what `gt_calls` makes public: each is a driver that tells what its steps saw.
+//! Tests of calls, over what `gt_calls` makes public: each is a driver that says what its steps saw.
 //!
 //! They say what no contract says: whole calls, step by step, with worked words of the public header, and that
 //! what they need of memory is had where there is enough.

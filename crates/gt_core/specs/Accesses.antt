@@ -1,4 +1,4 @@
--- How a call reads and writes bytes in frames: the code's own representation, which stands here since private contracts cite it.
+-- How a call reads and writes bytes in frames: the code's own representation. It is in specs/ because private contracts cite it.
 use Rattle.std.specs.Prelude.{◌≡◌, ℕ, List, length, Option, Some, None, IsTrue}
 use Rattle.gt_handles.specs.Handles.{Kept, value_of}
 use Rattle.gt_calls.specs.declared.held.Held.{Held}

@@ -32,7 +32,7 @@ use Rattle.gt_core.specs.Legal.{IsRight}
 abbrev pub bare_handle : Handle → Handle
 bare_handle handle = record { serial = handle.serial; key = 0 }
 
--- bytes lent, wherever they stand (own)
+-- bytes lent, wherever they are in memory (own)
 abbrev pub bare_bytes : Bor (List ℕ) → Bor (List ℕ)
 bare_bytes bytes = record { ref_ptr = (0, 0); now = bytes.now }
 
@@ -60,13 +60,13 @@ abbrev pub bare_happened : Happened → Happened
 bare_happened (Began request) = Began (bare_request request)
 bare_happened (Stepped step seen) = Stepped (bare_step step) seen
 
--- what an answer tells: its bytes, or the answer itself, without a key (own)
+-- what an answer says: its bytes, or the answer itself, without a key (own)
 abbrev pub told : Answer → Answer ⊎ List ℕ
 told (Mapped handle) = inl (Mapped (bare_handle handle))
 told (Bytes b) = inr b.bytes.items
 told answer = inl answer
 
--- what an item tells but for keys: its domain, what happened, and what its answer tells (own)
+-- what an item says but for keys: its domain, what happened, and what its answer says (own)
 pub record ToldItem : Type 0 where
   pub actor : DomId
   pub happened : Happened
@@ -76,7 +76,7 @@ pub record ToldItem : Type 0 where
 abbrev pub told_item : Item → ToldItem
 told_item i = record { actor = i.actor; happened = bare_happened i.happened; answer = option_map told i.answer }
 
--- what the items tell, each (own)
+-- what the items say, each (own)
 unfoldable pub told_items : History → List ToldItem
 told_items [] = []
 told_items (i ∷ before) = told_item i ∷ told_items before

@@ -1,4 +1,4 @@
--- What the core keeps of an entry: the code's own representation, which stands here since private contracts cite it.
+-- What the core keeps of an entry: the code's own representation. It is in specs/ because private contracts cite it.
 use Rattle.std.specs.Prelude.{ℕ, zero, suc, List, [], ◌∷◌}
 
 -- the pins and body words of an entry (own)

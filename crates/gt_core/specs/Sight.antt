@@ -1,4 +1,4 @@
--- What steps see in the states of the domains: the code's own representation, which stands here since private contracts cite it.
+-- What steps see in the states of the domains: the code's own representation. It is in specs/ because private contracts cite it.
 use Rattle.std.specs.Prelude.{ℕ, Bool, true, false, ◌==◌, if◌then◌else◌, List, [], ◌∷◌, Option, Some, None, slice_get}
 use Rattle.gt_types.specs.declared.DomId.{DomId}
 use Rattle.gt_entry.specs.declared.change.Half.{Half}

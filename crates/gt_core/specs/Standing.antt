@@ -1,4 +1,4 @@
--- When a core stands for a history. The upper half, up to `Settles`, tells the code's own representation and stands here since private contracts cite it.
+-- When a core stands for a history. The upper half, up to `Settles`, describes the code's own representation. It is in specs/ because private contracts cite it.
 use Rattle.std.specs.Prelude.{◌≡◌, ◌≢◌, ◌<◌, ◌≤◌, ◌+◌, ◌⊎◌, reverse, ℕ, Bool, true, false, List, [], ◌∷◌, Option, Some, None, slice_get, length, All}
 use Rattle.gt_types.specs.Names.{domain_of}
 use Rattle.gt_types.specs.declared.DomId.{DomId}

@@ -1,15 +1,17 @@
 //! The grant tables of a run, as a machine over events.
 //!
 //! [`Core`] keeps the tables, mappings and frames of the configured domains. `begin` and `tick` make
-//! one atomic step each: the beginning of a call, a look at a word, an exchange, a store, an unpin or an
-//! access to bytes. [`play`] plays a list of events.
+//! one atomic step each: the beginning of a call, a look at a word, an exchange, a store, an unpin or
+//! an access to bytes. [`play`] plays a list of events.
 //!
-//! It promises that what it does is a legal trace, for every list of events: each step shows what the
-//! steps before it left, a foreign byte is read or written only where a live pin lets it and the policy allows it,
-//! a revocation is taken exactly where no pin on its entry is live, and a refusal names the first rule
-//! that stood. `specs/Legal.antt` says it, over histories (`specs/History.antt`) and the rules and paths of
-//! calls (of `gt_calls`, which judges them); `specs/Standing.antt` says when a core stands for a history. It
-//! stands on `gt_calls`, `gt_entry`, `gt_frames`, `gt_handles` and `gt_types`.
+//! What holds: what it does is a legal trace, for every list of events. Each step shows what the steps
+//! before it left. A foreign byte is read or written only where a live pin lets it and the policy
+//! allows it. A revocation is taken exactly where no pin on its entry is live. A refusal names the
+//! first rule that stood. `specs/Legal.antt` says it, over histories (`specs/History.antt`) and over
+//! the rules and paths of calls, which `gt_calls` judges. `specs/Standing.antt` says when a core stands
+//! for a history.
+//!
+//! It uses `gt_calls`, `gt_entry`, `gt_frames`, `gt_handles` and `gt_types`.
 #![tactic(auto)]
 
 mod accesses;

@@ -136,7 +136,7 @@ const ANOTHER_GRANT_BEFORE_THE_PIN: [(Doing, &str); 8] = [
     ),
 ];
 
-// A map before the grant of a read-only page, and one behind it.
+// A map before the grant of a read-only page, and one after it.
 const READ_ONLY_PAGE: [(Doing, &str); 4] = [
     (Do(PEER, MAP_RO), "N10 0"),
     (Do(OWNER, GRANT_RO), "ok"),
@@ -367,7 +367,7 @@ const RUNS: [(u32, u32, &[(Doing, &str)]); 24] = [
     (2, 0, &STEPS_OF_GRANTS),
 ];
 
-/// A run: what comes of each that is done is what stands beside it.
+/// A run: beside each thing done is what comes of it.
 pub fn goes(
     rt: &impl Abort,
     core: &mut Core<Triples>,

@@ -13,13 +13,13 @@ pub enum Half {
 /// What an owner's exchange of a control word does to its entry.
 #[derive(Clone, Copy, Debug, PartialEq, Eq)]
 pub enum Change {
-    /// This entry stands there, at the next generation.
+    /// It becomes this entry, at the next generation.
     Publish(Entry),
-    /// Nothing is granted, and the generation stays.
+    /// It becomes invalid, and the generation stays.
     Revoke,
-    /// The same entry refuses writing, at the next generation.
+    /// It becomes read-only, at the next generation.
     Demote,
-    /// The same entry allows writing, at the next generation.
+    /// It becomes writable, at the next generation.
     Promote,
 }
 

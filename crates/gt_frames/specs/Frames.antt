@@ -20,11 +20,11 @@ pub record FrameState : Type 0 where
 
 -- bytes
 
--- the write that a record tells of (own)
+-- the write of a record (own)
 abbrev pub patch_of : Record → Patch
 patch_of r = record { off = r.off; bytes = r.bytes }
 
--- the writes that a journal tells of, the oldest first (own)
+-- the writes of a journal, the oldest first (own)
 abbrev pub patches : List Record → List Patch
 patches rs = map patch_of rs
 

@@ -1,4 +1,4 @@
--- Where a frame stands among the frames of a run.
+-- The place of a frame among the frames of a run.
 use Rattle.std.specs.Prelude.{ℕ, ◌+◌, ◌==◌, Bool, ◌&&◌, nat_lt, if◌then◌else◌, List, [], ◌∷◌, map, Option, Some, None}
 use Rattle.std.specs.List.{flat_map, range_with_len}
 use Rattle.gt_types.specs.declared.DomId.{DomId}

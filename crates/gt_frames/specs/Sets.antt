@@ -61,7 +61,7 @@ name_of f = record { owner = f.owner; number = f.number }
 abbrev pub journal_of : FrameState → List Record
 journal_of f = f.journal
 
--- each frame of the list stands at the place of its name, and is kept (own)
+-- each frame of the list is at the place of its name, and is kept (own)
 pub record AreLaidOut (domains : List FrameCount) (frames : List FrameState) : Type 0 where
   pub count : length frames ≡ frames_of domains
   pub names : map name_of frames ≡ names_of domains

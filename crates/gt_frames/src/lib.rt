@@ -1,21 +1,21 @@
 //! Frames: the bytes that domains share, each frame with a journal of its writes.
 //!
 //! A [`Frame`] holds 4,096 bytes, all zero at first, and keeps a [`Record`] of each write to it. Its
-//! type promises that the bytes are the replay of the journal over zeros, and that each record lies
-//! in the frame and is by right: the writer owns the frame, or an entry of the owner's permits it
-//! that range for writing, or it goes through an entry that forwards it and one that permits the
-//! owner of the first. A [`Writ`] names the writer and that basis.
+//! type promises that the bytes are the replay of the journal over zeros, and that each record lies in
+//! the frame and is by right: the writer owns the frame, or an entry of the owner's permits it that
+//! range for writing, or it goes through an entry that forwards it and one that permits the owner of
+//! the first. A [`Writ`] names the writer and that basis.
 //!
 //! [`Frame::read`], [`Frame::write`], [`Frame::copy_between`] and [`Frame::copy_within`] do exactly
-//! what their receipts [`Read`], [`Written`] and [`Copied`] tell, overlap included. Nothing else
-//! makes a receipt, and none can be cloned. Where memory is refused nothing changes; reading takes
-//! none. Who may write is the caller's to show, by a writ that covers the range.
+//! what their receipts [`Read`], [`Written`] and [`Copied`] say, overlap included. Nothing else makes a
+//! receipt, and none can be cloned. Where memory is refused nothing changes; reading takes none. The
+//! caller shows who may write, by a writ that covers the range.
 //!
 //! [`Frames`] are all frames of a run for one thread: a write or a copy names its frames by owner and
 //! number, changes just the one written, and leaves all others as they were. A [`Pool`] has each of
 //! them under a lock of its own: a frame that is handed out has the name that was asked for.
 //!
-//! It stands on `gt_types` (names) and `gt_entry` (entries, and what they permit).
+//! It uses `gt_types` (names) and `gt_entry` (entries, and what they permit).
 #![tactic(auto)]
 
 mod bytes;

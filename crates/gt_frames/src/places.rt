@@ -1,4 +1,4 @@
-//! Where a frame stands among the frames of a run.
+//! The place of a frame among the frames of a run.
 ghost use Rattle.std.specs.Prelude.{◌≡◌, ◌<◌, ◌^◌, IfOk};
 ghost use Rattle.gt_frames.specs.Places.{frame_counts, pool_number, frames_of};
 

@@ -4,8 +4,8 @@
 //! does its work where there is memory, and what bytes a reader then finds. Each is a table of steps
 //! with the texts wanted after them.
 //!
-//! The tests of a single frame stand in `gt_base_tests`. This crate holds no code of its own, and
-//! stands on `gt_frames` and `gt_types`.
+//! The tests of a single frame are in `gt_base_tests`. This crate holds no code of its own, and
+//! uses `gt_frames` and `gt_types`.
 #![tactic(auto)]
 
 #[cfg(test)]

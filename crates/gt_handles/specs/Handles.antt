@@ -4,7 +4,7 @@ use Rattle.std.specs.Coded.{Coded, code_by, coded×, coded_ℕ, coded_list, code
 use Rattle.gt_handles.specs.declared.handles.Handle.{Handle}
 use Rattle.gt_handles.specs.declared.handles.Slot.{Slot}
 
--- what stands at each key, how many serials were given, and how many more values fit with no allocation (own)
+-- what is at each key, how many serials were given, and how many more values fit with no allocation (own)
 pub record Kept (T : Type 0) : Type 0 where
   pub slots : List (Option (Slot T))
   pub given : ℕ

@@ -1,4 +1,4 @@
--- What ends a run, as its caller is told.
+-- What ends a run, for its caller.
 use Rattle.std.specs.Prelude.{ℕ, List, Result, Ok, Err, codes}
 use Rattle.gt_policy.specs.Texts.{fault_text as policy_fault_text}
 use Rattle.gt_script.specs.Faults.{fault_text}

@@ -1,4 +1,4 @@
--- What the labels of a run stand for.
+-- What the labels of a run name.
 use Rattle.std.specs.Prelude.{◌≡◌, ℕ, List}
 use Rattle.gt_host.specs.declared.labels.Labels.{Labels}
 use Rattle.gt_host.specs.Labels.{handle_in}

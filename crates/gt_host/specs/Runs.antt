@@ -46,7 +46,7 @@ pub record Named : Type 0 where
   pub label : List ℕ
   pub handle : Handle
 
--- the handle that a label names for its domain: that of its last map that was answered Ok, which stands first (own)
+-- the handle that a label names for its domain: that of its last map that was answered Ok, which comes first (own)
 abbrev pub handle_named : List Named → ℕ → List ℕ → Option Handle
 handle_named [] dom label = None
 handle_named (n ∷ more) dom label = if (n.dom.0 == dom) && bytes_eq n.label label then Some n.handle else handle_named more dom label

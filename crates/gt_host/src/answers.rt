@@ -50,7 +50,7 @@ fn push_call(out: &mut Vec<u8>, line: usize, dom: DomId) -> Result<(), AllocErro
 }
 
 /// Appends the line of an answer: of the call on this line of the script, which this domain made.
-/// The name of a type stands at its number in `names`. After an Err a part of the line may stand.
+/// The name of a type is at its number in `names`. After an Err a part of the line may be there.
 pub fn push_answer_line(
     alloc: Global,
     out: &mut Vec<u8>,

@@ -28,8 +28,8 @@ fn end_told(end: End) -> CopyEnd
     }
 }
 
-// What a call is told as that the domain is about to make; None where such calls are not audited. An unmap is
-// told by the entry that is mapped now: once it has its answer, its handle may name none.
+// How a call is recorded that the domain is about to make; None where such calls are not audited. An unmap is
+// recorded by the entry that is mapped now: once it has its answer, its handle may name none.
 fn call_told<P: Allows>(core: &Core<P>, dom: DomId, request: Request<'_>) -> Option<Hypercall>
     ensures { IsAbout (setting_of core.now.config (P.may core.now.rights)) core.now.state
         dom request.entry result }
@@ -95,7 +95,7 @@ impl Audit {
         }
     }
 
-    /// What the call is told as that the domain is about to make: None where such calls are not audited, or
+    /// How the call is recorded that the domain is about to make: None where such calls are not audited, or
     /// no records are asked for.
     pub fn about<P: Allows>(
         &self,
@@ -113,7 +113,7 @@ impl Audit {
         }
     }
 
-    /// Records the answer of the domain's call that is told so; nothing where it is told as None.
+    /// Records the answer of the domain's call, as `about` gave it; nothing where that was None.
     pub fn record(
         &mut self,
         dom: DomId,
@@ -131,7 +131,7 @@ impl Audit {
         Ok(())
     }
 
-    /// Appends the lines of the records, where they are asked for. After an Err a part of them may stand.
+    /// Appends the lines of the records, where they are asked for. After an Err a part of them may be there.
     pub fn push_lines(&self, out: &mut Vec<u8>, names: &[Text]) -> Result<(), AllocError>
         ensures { OnOk result
             (out.new.items ≡ out.old.items ++ asked_lines self.now.is_on names.now self.now.records.items) }

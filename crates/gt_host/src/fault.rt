@@ -126,7 +126,7 @@ impl PlayFault {
     ghost use Rattle.std.specs.Prelude.{◌≡◌};
     ghost use Rattle.gt_host.specs.Faults.{ended};
 
-    /// How a run ended, as its caller is told.
+    /// How a run ended, for its caller.
     pub fn told(outcome: Result<(), Fault>) -> Result<(), PlayFault>
         ensures { result ≡ ended outcome }
     {

@@ -5,7 +5,7 @@ use gt_types::DomId;
 use std::alloc::{AllocError, Global};
 use std::collections::BTreeMap;
 
-/// A call that has no answer yet: the step of the script that began it, and what an audit tells it as.
+/// A call that has no answer yet: the step of the script that began it, and how it is recorded.
 #[derive(Clone, Copy)]
 pub struct Opened<'b, 'a> {
     pub step: &'b Step<'a>,
@@ -41,7 +41,7 @@ impl<'b, 'a> OpenCalls<'b, 'a> {
         self.begun.get(&dom.0).copied()
     }
 
-    /// The domain has the call of this step open from now on, told so.
+    /// The domain has the call of this step open from now on, recorded so.
     pub fn begin(
         &mut self,
         dom: DomId,

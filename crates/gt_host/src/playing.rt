@@ -137,7 +137,7 @@ fn play_bytes<W: Write>(
 /// failed write, or for want of memory, a beginning of the text was written.
 ///
 /// With `audit` a line for each answer of an audited call follows, in the order of the answers; no other
-/// line changes. Audited are map, unmap, copy, and those that set or tell a table's version or frames.
+/// line changes. Audited are map, unmap, copy, and those that set or answer a table's version or frames.
 pub fn play<R: Read, W: Write>(
     alloc: Global,
     reader: &mut R,

@@ -398,7 +398,7 @@ fn run_ticks<'b, 'a, P: Allows>(
 }
 
 /// Runs a step of a script on the core, and appends its line if it has one. After an Err a part of
-/// the line may stand.
+/// the line may be there.
 pub fn run_step<'b, 'a, P: Allows>(
     alloc: Global,
     core: &mut Core<P>,

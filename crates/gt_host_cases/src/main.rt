@@ -1,9 +1,9 @@
 //! Plays worked scripts and prints what each prints, under its name.
 //!
-//! The words of the command line are the names. The script `x` stands in `data/x.gt`, as the program
+//! The words of the command line are the names. The script `x` is `data/x.gt`, as the program
 //! `gthost` plays it. `args` names them all, and `stdout` has what they must print: the answers of the
 //! calls, line by line, or the script's first fault. Each is played once more with its audit, and where
-//! that changes an answer, or adds a line that tells no record, a line says so. A script is added by its
+//! that changes an answer, or adds a line of no record, a line says so. A script is added by its
 //! file, its name in `args` and its lines in `stdout`; that costs no proof.
 #![tactic(auto)]
 
@@ -25,7 +25,7 @@ fn played<R: Runtime>(rt: &R, alloc: Global, name: &str, audit: bool) -> anyhow:
     Ok(text)
 }
 
-// The text, and then lines that tell records.
+// The text, and then lines of records.
 fn adds_records(text: &str, audited: &str) -> bool {
     match audited.strip_prefix(text) {
         Some(rest) => rest.lines().all(|line| line.starts_with("audit ")),

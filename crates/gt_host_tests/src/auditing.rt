@@ -1,4 +1,4 @@
-//! The audit of worked scripts: a line for each answer of an audited call, behind all other lines.
+//! The audit of worked scripts: a line for each answer of an audited call, after all other lines.
 use crate::scripts::{HEAD, POLICY};
 use gt_host::play;
 use std::alloc::Global;
@@ -14,7 +14,7 @@ fn played(alloc: Global, mut script: &[u8], audit: bool) -> Result<String, Fail>
     }
 }
 
-// The script prints these lines, and with its audit these behind them.
+// The script prints these lines, and with its audit these after them.
 fn prints(
     rt: &impl Abort,
     alloc: Global,
@@ -39,7 +39,7 @@ do 2 load k 0 1\n\
 do 2 map h 1 0 ro\n\
 do 2 store h 0 01\n";
 
-// Refused maps and copies are audited, accesses are not. A copy tells its caller by its number.
+// Refused maps and copies are audited, accesses are not. A copy is recorded with its caller's number.
 const REFUSED: &str = "do 2 map h 9 0 ro\n\
 do 2 map h 1 0 3\n\
 do 2 copy frame 1 5 0 frame self 3 0 1\n\

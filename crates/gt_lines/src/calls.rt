@@ -75,7 +75,7 @@ pub enum CopyEnd {
     },
 }
 
-/// A call that ends a mapping or reaches bytes. A label stands for the handle of the last map of that label.
+/// A call that ends a mapping or reaches bytes. A label names the handle of the last map of that label.
 #[derive(Debug, Drop)]
 pub enum AccessCall<'a> {
     /// `unmap LABEL`
@@ -106,7 +106,7 @@ pub enum AccessCall<'a> {
         off: u16,
         hex: Text<'a>,
     },
-    /// `copy END END LEN`: `len` bytes from the source, which stands first, to the destination.
+    /// `copy END END LEN`: `len` bytes from the source, which comes first, to the destination.
     Copy {
         source: CopyEnd,
         dest: CopyEnd,
@@ -118,7 +118,7 @@ pub enum AccessCall<'a> {
 #[derive(Debug, Drop)]
 pub enum Call<'a> {
     Table(TableCall<'a>),
-    /// `map LABEL DOM REF FLAGS`: the label stands for the handle that it answers.
+    /// `map LABEL DOM REF FLAGS`: the label names the handle that it answers.
     Map {
         label: Text<'a>,
         dom: DomId,

@@ -15,7 +15,7 @@ const HOST_MAP: u32 = 2;
 /// The flag of a map that only reads: `GNTMAP_readonly` of the same header.
 const READONLY: u32 = 4;
 
-/// The most characters of a label behind its first.
+/// The most characters of a label after its first.
 const MOST_BEHIND_LETTER: usize = 31;
 
 /// The most steps that a tick may ask for; the least is one.
@@ -194,7 +194,7 @@ pub fn name<'a>(word: &'a [u8]) -> Option<Text<'a>>
     }
 }
 
-// What stands before the first colon, and what stands after it.
+// What comes before the first colon, and what comes after it.
 #[tactic(auto, unfolding(crate::specs::Fields::at_colon))]
 fn split_at_colon<'a>(word: &'a [u8]) -> Option<(&'a [u8], &'a [u8])>
     ensures { option_map (λ parts. (parts.0.now, parts.1.now)) result ≡ at_colon word.entry.now }

@@ -77,11 +77,11 @@ IsOf may m d = IsDomainOf m.words m.config (may m.rights) d
 abbrev pub known : {P : Type 0} → (P → Rights) → Monitor P → Domain → CallerKnowledge
 known may m d = knowledge m.config (may m.rights) d
 
--- a call of the domain d asked this and was answered so, after which the domain is e: its steps are those of the call's path, each as the words tell it, and the answer is the path's (own)
+-- a call of the domain d asked this and was answered so, after which the domain is e: its steps are those of the call's path, each made as the words say, and the answer is the path's (own)
 abbrev pub Answered : {P : Type 0} → (P → Rights) → Monitor P → Domain → Request → Verdict → Domain → Type 0
 Answered may m d request verdict e = Called m.words.layout (path_of (known may m d) d.seat.dom request) verdict d.seat.view e.seat.view
 
--- the same of a call with an access, whose answer tells this of it (own)
+-- the same of a call with an access, whose answer says this of it (own)
 abbrev pub Accesses : {P R : Type 0} → (P → Rights) → Monitor P → Domain → Request → (Step → R → Type 0) → Result R Denial → Domain → Type 0
 Accesses may m d request tells result e = AnsweredBy m.words.layout (path_of (known may m d) d.seat.dom request) tells result d.seat.view e.seat.view
 
@@ -94,17 +94,17 @@ abbrev pub verdict_of : Result (Unit {0}) Denial → Verdict
 verdict_of (Ok done) = Granted
 verdict_of (Err denial) = Refused denial
 
--- the same of a call that tells a version (grant_table.h)
+-- the same of a call that answers a version (grant_table.h)
 abbrev pub verdict_of_version : Result ℕ Denial → Verdict
 verdict_of_version (Ok version) = Given (Version version)
 verdict_of_version (Err denial) = Refused denial
 
--- of a call that tells a table's size (grant_table.h)
+-- of a call that answers a table's size (grant_table.h)
 abbrev pub verdict_of_size : Result Size Denial → Verdict
 verdict_of_size (Ok size) = Given (SizeTold size)
 verdict_of_size (Err denial) = Refused denial
 
--- and of one that tells how many frames a table then has (grant_table.h)
+-- and of one that answers how many frames a table then has (grant_table.h)
 abbrev pub verdict_of_frames : Result ℕ Denial → Verdict
 verdict_of_frames (Ok frames) = Given (Frames frames)
 verdict_of_frames (Err denial) = Refused denial
@@ -159,19 +159,19 @@ abbrev pub done_by : Verdict → Result (Unit {0}) Denial
 done_by (Refused denial) = Err denial
 done_by verdict = Ok tt
 
--- the version that is told, 0 where none is (own)
+-- the version that is answered, 0 where none is (own)
 abbrev pub version_told : Verdict → Result ℕ Denial
 version_told (Refused denial) = Err denial
 version_told (Given (Version version)) = Ok version
 version_told verdict = Ok 0
 
--- the size that is told, none where none is (own)
+-- the size that is answered, none where none is (own)
 abbrev pub size_told : Verdict → Result Size Denial
 size_told (Refused denial) = Err denial
 size_told (Given (SizeTold size)) = Ok size
 size_told verdict = Ok (record { frames = 0; max = 0 })
 
--- the number of frames that is told, 0 where none is (own)
+-- the number of frames that is answered, 0 where none is (own)
 abbrev pub frames_told : Verdict → Result ℕ Denial
 frames_told (Refused denial) = Err denial
 frames_told (Given (Frames frames)) = Ok frames
@@ -210,7 +210,7 @@ abbrev pub not_made : NotMade → Denial
 not_made Gone = denial_of N16 NoFacts
 not_made OutOfMemory = denial_of N26 NoFacts
 
--- what a record tells of an answer (own)
+-- what a record keeps of an answer (own)
 abbrev pub reply_of : Verdict → Reply
 reply_of Granted = replies.Done
 reply_of (Mapped p) = replies.Done
@@ -219,7 +219,7 @@ reply_of (Given (SizeTold size)) = replies.Size size
 reply_of (Given (Version version)) = replies.Version version
 reply_of (Refused denial) = replies.Denied denial
 
--- what a record tells of a map's answer (own)
+-- what a record keeps of a map's answer (own)
 abbrev pub mapping_reply : Result Handle Denial → Reply
 mapping_reply (Ok handle) = replies.Done
 mapping_reply (Err denial) = replies.Denied denial
@@ -255,12 +255,12 @@ subject_in (Some p) = Some (p.dom, p.gref)
 abbrev pub subject_of : Domain → Handle → Option (DomId × GrantRef)
 subject_of d handle = subject_in (value_of d.mappings handle)
 
--- what a record tells of a copy's answer (own)
+-- what a record keeps of a copy's answer (own)
 abbrev pub copy_reply : Result Copying Denial → Reply
 copy_reply (Ok copied) = replies.Done
 copy_reply (Err denial) = replies.Denied denial
 
--- what a record tells of an end of a copy (own)
+-- what a record keeps of an end of a copy (own)
 abbrev pub told_end : End → CopyEnd
 told_end end = record { ptr = end.ptr; dom = end.domid; off = end.offset }
 

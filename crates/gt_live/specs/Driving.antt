@@ -1,4 +1,4 @@
--- What a call needs of its seat where it stands, and how it leaves it: the code's own representation, which stands here since contracts cite it.
+-- What a call needs of its seat where it is, and how it leaves it: the code's own representation. It is in specs/ because contracts cite it.
 use Rattle.std.specs.Prelude.{◌≡◌, ℕ, ◌+◌, ◌^◌, ◌<◌, List, [], length, Some, None}
 use Rattle.gt_types.specs.declared.DomId.{DomId}
 use Rattle.gt_types.specs.declared.config.DomainConfig.{DomainConfig}

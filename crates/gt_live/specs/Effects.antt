@@ -47,7 +47,7 @@ abbrev pub IsFoundIn : Step → Seen → DomId → ℕ → Type 0
 IsFoundIn (LookHeader d) (Word n) dom word = (d ≡ dom) × (n ≡ word)
 IsFoundIn step seen dom word = ⊥
 
--- the word that a refusal tells, if it tells one, is the one that the step found (own)
+-- the word that a refusal carries, if it carries one, is the one that the step found (own)
 abbrev pub IsFound : DomId → Step → Seen → Facts → Type 0
 IsFound caller step seen (facts.Entry dom gref word) = IsFoundAt caller step seen dom gref word
 IsFound caller step seen (facts.Header dom word) = IsFoundIn step seen dom word

@@ -1,4 +1,4 @@
--- A copy under way: the pins that it holds, and where it stops. The code's own representation, which stands here since contracts cite it.
+-- A copy under way: the pins that it holds, and where it stops. The code's own representation. It is in specs/ because contracts cite it.
 use Rattle.std.specs.Prelude.{◌≡◌, ℕ, ◌+◌, ◌<◌, ◌==◌, ◌&&◌, Bool, cond, List, [], ◌∷◌, ◌++◌, Option, Some, None}
 use Rattle.gt_types.specs.declared.DomId.{DomId}
 use Rattle.gt_types.specs.declared.denial.Denial.{Denial}
@@ -62,7 +62,7 @@ abbrev pub AreOfRun : Layout → List Held → Type 0
 AreOfRun k [] = Unit {0}
 AreOfRun k (p ∷ ps) = (HasDomain k p.dom × (p.gref.0 < TABLE_ENTRIES)) × AreOfRun k ps
 
--- a copy stands so: on a leg to one of its ends, at its access, or at the end after a refusal, whose word its steps found (own)
+-- where a copy is: on a leg to one of its ends, at its access, or at the end after a refusal, whose word its steps found (own)
 abbrev pub StandsInCopy : Layout → View → List SeatStep → Phase → Type 0
 StandsInCopy k v steps (Walking (Source c via) l at) = Unit {0}
 StandsInCopy k v steps (Walking (Dest c source via) l at) = Unit {0}

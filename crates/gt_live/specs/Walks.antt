@@ -39,7 +39,7 @@ shown_by (Entry t r (ChangeMissed c e y n)) = Missed n
 shown_by (Header t (header.Looked n)) = Word n
 shown_by (Header t (header.Stored n)) = Nothing
 
--- what steps show, the first first; the steps stand with the last first (own)
+-- what steps show, the first first; the steps are listed with the last first (own)
 abbrev pub shown : List SeatStep → List Seen
 shown [] = []
 shown (x ∷ xs) = shown xs ++ shown_by x ∷ []
@@ -48,7 +48,7 @@ shown (x ∷ xs) = shown xs ++ shown_by x ∷ []
 abbrev pub after : List SeatStep → View → View
 after xs v = record v { steps = xs ++ v.steps }
 
--- The step of a call was made on the words, by a seat whose view it took from v to w, and showed this: what each of the words' own calls tells of it (own)
+-- The step of a call was made on the words, by a seat whose view it took from v to w, and showed this: what each of the words' own calls promises of it (own)
 abbrev pub Made : Layout → Step → Seen → View → View → Type 0
 Made k (LookHeader d) (Word n) v w = LooksAtHeader k (position_in k.ids d) n v w
 Made k (LookControl d q) (Word n) v w =

@@ -86,7 +86,7 @@ fn done(verdict: Verdict) -> Result<(), Denial>
     }
 }
 
-// The version that is told.
+// The version that is answered.
 fn version_told(verdict: Verdict) -> Result<u32, Denial>
     ensures { result ≡ version_told verdict }
 {
@@ -97,7 +97,7 @@ fn version_told(verdict: Verdict) -> Result<u32, Denial>
     }
 }
 
-// The size that is told.
+// The size that is answered.
 fn size_told(verdict: Verdict) -> Result<Size, Denial>
     ensures { result ≡ size_told verdict }
 {
@@ -108,7 +108,7 @@ fn size_told(verdict: Verdict) -> Result<Size, Denial>
     }
 }
 
-// The number of frames that is told.
+// The number of frames that is answered.
 fn frames_told(verdict: Verdict) -> Result<u32, Denial>
     ensures { result ≡ frames_told verdict }
 {
@@ -130,7 +130,7 @@ fn mapped(verdict: Verdict, handle: Option<Handle>) -> Result<Handle, Denial>
     }
 }
 
-// What a record tells of an answer.
+// What a record keeps of an answer.
 fn reply_of(verdict: Verdict) -> Reply
     ensures reply { result ≡ reply_of verdict }
     ensures tells { told_by result ≡ without_mapping verdict }
@@ -144,7 +144,7 @@ fn reply_of(verdict: Verdict) -> Reply
     }
 }
 
-// What a record tells of a map's answer.
+// What a record keeps of a map's answer.
 fn mapping_reply(answer: Result<Handle, Denial>) -> Reply
     ensures reply { result ≡ mapping_reply answer }
     ensures tells { told_by result ≡ outcome_of answer }
@@ -527,7 +527,7 @@ impl Domain {
         version_told(self.told_call(monitor, Request::GetVersion { dom }, call))
     }
 
-    // Maps an entry, and tells nobody.
+    // Maps an entry, without a record.
     fn make_mapping<P: Allows>(
         &mut self,
         monitor: &Monitor<P>,

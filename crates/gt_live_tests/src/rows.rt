@@ -1,4 +1,4 @@
-//! Worked rows, each a list of lines with their answers. A refusal tells the word that decided it, so that what the
+//! Worked rows, each a list of lines with their answers. A refusal carries the word that decided it, so that what the
 //! entry is, its counts and its generation are compared too.
 use crate::asking::{Asks, READ_ONLY, WRITABLE, numbered, rights, start, text};
 use crate::running::{Running, all_running};

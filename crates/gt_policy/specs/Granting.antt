@@ -1,4 +1,4 @@
--- What the statements of a text grant, by the names that stand in them.
+-- What the statements of a text grant, by the names in them.
 use Rattle.std.specs.Prelude.{ℕ, Bool, true, false, ◌&&◌, ◌||◌, not, List}
 use Rattle.std.specs.List.{list_any}
 use Rattle.std.specs.Str.{bytes_eq}

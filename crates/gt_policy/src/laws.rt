@@ -51,7 +51,7 @@ pub fn first_faults()
         IsWritten text ss → IsFirstUndeclared ss (uses_of ss) f → Says text (Err f) }
 {}
 
-/// A policy allows what the statements of its text grant, by the names that stand in them: some allow
+/// A policy allows what the statements of its text grant, by the names in them: some allow
 /// statement whose classes hold `grant` lists the permission or `*`, its source set holds the source,
 /// and its target set holds the target, or says `self` and the two are one. The bits that a statement
 /// grants are those of the words that it lists.

@@ -75,7 +75,7 @@ impl Members {
         Members { sets }
     }
 
-    // The types that a name stands for.
+    // The types that a name means.
     fn named(&self, symbol: Symbol) -> TypeSet
         ensures { (n : ℕ) → holds result n ≡ stands_for (has self.now) symbol n }
     {

@@ -52,7 +52,7 @@ allow { -dom0_t domain } domain:grant { map_read copy };\n",
         ("", ""),
         // A word beside class `grant` is a permission of the other class.
         ("type a_t;\nallow a_t a_t:{ grant file } map_red;\n", ""),
-        // Types stand in the order of their names, whatever the order of their declarations, and
+        // Types come in the order of their names, whatever the order of their declarations, and
         // permissions in their own; capital letters and digits come before small letters.
         (
             "type b_t;\ntype a_t;\ntype B_t;\n\
@@ -114,7 +114,7 @@ fn bytes_that_are_no_text(rt: HostRuntime) -> Result<(), Fail> {
     let bad = vec![in alloc; 0xff; 1_048_577]?;
     for (text, wanted) in [
         (b"type a_t;\ntype b_t;\nty\xff".as_slice(), "line 3: utf8"),
-        // A text with a fault and a bad byte behind it is no text.
+        // A text with a fault and a bad byte after it is no text.
         (b"type a_t\n}\xc3(".as_slice(), "line 2: utf8"),
         // Too many bytes come before bad ones.
         (long.as_slice(), "line 1: policy limit"),

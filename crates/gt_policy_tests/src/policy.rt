@@ -102,7 +102,7 @@ const PERMISSIONS: [(&str, &str); 7] = [
     ("type a; allow a a:file *;", ""),
 ];
 
-// Names, and what stands between them.
+// Names, and what is between them.
 const NAMES: [(&str, &str); 8] = [
     (
         "type a-b.c_d;\r\nallow a-b.c_d self:grant copy;",
@@ -117,7 +117,7 @@ const NAMES: [(&str, &str); 8] = [
     ("type a_;\r\rtype _a;", "line 1: policy syntax"),
 ];
 
-// A text that ends too early has its fault behind its last line.
+// A text that ends too early has its fault after its last line.
 const ENDS: [(&str, &str); 4] = [
     ("type a_t\n", "line 2: policy syntax"),
     ("type a_t", "line 2: policy syntax"),

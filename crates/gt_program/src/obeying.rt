@@ -68,7 +68,7 @@ fn perform_on<T: Texts, W: Write>(
     }
 }
 
-// Tells why a command did not end well, if it did not. A failed write of that is not told.
+// Reports why a command did not end well, if it did not. A failed write of that is not reported.
 pub(crate) fn report<E: Eprint>(err: &E, outcome: Result<(), Failure>) -> u8
     ensures { result ≡ status_of outcome }
 {

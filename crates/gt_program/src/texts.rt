@@ -3,7 +3,7 @@ use gt_streams::ReadFault;
 use std::io::Read;
 
 /// Where the texts are that commands work on: files by their names, and the standard input. An
-/// implementation may tell the bytes of some of them; a contract then speaks of those.
+/// implementation may promise the bytes of some of them; a contract then speaks of those.
 pub trait Texts {
     ghost use Rattle.std.specs.Prelude.{◌≡◌, ℕ, List, Option, None, Some, IfOk, IfSome};
 

@@ -1,4 +1,4 @@
--- What a domain tells to the log that all share.
+-- What a domain pushes into the log that all share.
 use Rattle.std.specs.Prelude.{◌≡◌, ℕ, Option, None, Some}
 use Rattle.gt_audit.specs.Telling.{TellsUnder}
 use Rattle.gt_audit.specs.declared.record.Record.{Record}

@@ -46,7 +46,7 @@ fn make_call<'a, R: Wait, P: Allows>(
     Ok(answer)
 }
 
-// Makes the call of a line, tells its record, and answers the line that it prints.
+// Makes the call of a line, pushes its record, and answers the line that it prints.
 fn call_line<'a, R: Wait, P: Allows>(
     rt: &R,
     alloc: Global,
@@ -81,7 +81,7 @@ fn gate_line(alloc: Global, line: usize, dom: DomId) -> Result<Vec<u8>, AllocErr
     Ok(text)
 }
 
-// Appends a line where it and all before it found memory, and tells whether they did.
+// Appends a line where it and all before it found memory, and answers whether they did.
 fn has_appended(text: &mut Vec<u8>, whole: bool, line: Result<Vec<u8>, AllocError>) -> bool
     ensures appended { IsTrue result → IsTrue whole × IsOk line × IfOk line (λ l. text.new.items ≡ text.old.items ++ l.items) }
     ensures kept { (result ≡ false) → text.new.items ≡ text.old.items }
@@ -92,8 +92,8 @@ fn has_appended(text: &mut Vec<u8>, whole: bool, line: Result<Vec<u8>, AllocErro
     }
 }
 
-// Serves the lines of a domain, and tells whether all were written. It goes on where a line finds no memory, since other
-// domains may wait for what this one tells; nothing is written behind that line.
+// Serves the lines of a domain, and answers whether all were written. It goes on where a line finds no memory, since other
+// domains may wait for what this one tells; nothing is written after that line.
 fn serve<'a, R: Wait, P: Allows, G: Gate>(
     rt: &R,
     alloc: Global,

@@ -1,4 +1,4 @@
-//! What a domain tells to the log that all share.
+//! What a domain pushes into the log that all share.
 use gt_audit::{SharedLog, Told, Trail, push_line};
 use gt_lines::Text;
 use gt_live::Left;
@@ -6,7 +6,7 @@ use gt_types::{DomId, Memory};
 use std::alloc::Global;
 use std::sync::Wait;
 
-/// What a domain told to the log: each record of its trail under its place there, counted from 0.
+/// What a domain pushed into the log: each record of its trail under its place there, counted from 0.
 #[derive(Drop)]
 pub struct Teller<'l> {
     told: Told<'l>,
@@ -19,7 +19,7 @@ impl<'l> Teller<'l> {
     ghost use Rattle.gt_run.specs.Printing.{IsAudit};
     ghost use Rattle.gt_run.specs.Telling.{TellsNext};
 
-    /// Nothing was told yet.
+    /// Nothing was pushed yet.
     pub fn new(alloc: Global, log: &'l SharedLog, dom: DomId) -> Self
         ensures { result ≡ record { told = nothing_told dom; next = 0 } }
     {
@@ -29,7 +29,7 @@ impl<'l> Teller<'l> {
         }
     }
 
-    /// Tells the record that the trail has beyond those told, if it has one. A record for which there is no memory
+    /// Pushes the record that the trail has beyond those pushed, if it has one. A record for which there is no memory
     /// is lost.
     pub fn tell(&mut self, rt: &impl Wait, trail: &Trail)
         ensures { TellsNext (slice_get trail.now.records self.old.next) (length trail.now.records) self.old self.new }
@@ -41,7 +41,7 @@ impl<'l> Teller<'l> {
         }
     }
 
-    /// The audit lines of the records told, as the log has them, in order.
+    /// The audit lines of the records pushed, as the log has them, in order.
     pub fn audit(&self, alloc: Global, types: &[Text]) -> Result<Vec<u8>, Memory>
         ensures { IfOk result (λ text. IsAudit types.now text.items) }
     {

@@ -232,7 +232,7 @@ fn write_each<'s, 'a, R: Threads, W: Write>(
 }
 
 /// Gives each domain a thread of its own, with its part, and writes what they print: the lines of each domain as it is
-/// joined, in their order, and then their audit lines. No list begins before all threads stand; where one is refused no
+/// joined, in their order, and then their audit lines. No list begins before all threads are there; where one is refused no
 /// list runs.
 pub fn run_each<'a, R: Threads + Wait + Sync, P: Allows + Sync, G: Gate + Sync, W: Write>(
     rt: &R,

@@ -1,7 +1,7 @@
 //! Runs worked scripts and prints what each prints, under its name.
 //!
-//! The words of the command line are the names. The script `x` stands in `data/x.gt`, as the program
-//! `gthost` runs it; those behind the word `--audit` are run with their audit lines. `args` names them all, and
+//! The words of the command line are the names. The script `x` is `data/x.gt`, as the program
+//! `gthost` runs it; those after the word `--audit` are run with their audit lines. `args` names them all, and
 //! `stdout` has what they must print. A script is added by its file, its name in `args` and its lines in `stdout`.
 #![tactic(auto)]
 

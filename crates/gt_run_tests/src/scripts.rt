@@ -32,7 +32,7 @@ pub fn run_text<R: Threads + Wait + Sync, G: Gate + Sync>(
     Ok(out)
 }
 
-/// Runs a body behind the head, and answers what it prints.
+/// Runs a body after the head, and answers what it prints.
 pub fn run_body<R: Threads + Wait + Sync, G: Gate + Sync>(
     rt: &R,
     alloc: Global,

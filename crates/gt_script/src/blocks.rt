@@ -1,4 +1,4 @@
-//! The policy block of a script: where it stands, and the policy that it says.
+//! The policy block of a script: where it is, and the policy that it says.
 ghost use Rattle.std.specs.Prelude.{◌≡◌, ◌+◌, ◌<◌, ◌^◌, ℕ, List, IfOk, IfSome, map, length, string_bytes};
 ghost use Rattle.gt_script.specs.Blocks.{is_just as says_just, opening as opening_in, closing as closing_in, block_text as text_in, IsPolicyOf};
 
@@ -56,7 +56,7 @@ fn block_text(alloc: Global, lines: &[&str]) -> Result<String, AllocError>
     Ok(text)
 }
 
-/// The policy that the lines of a block say, or its first fault, where `before` lines stand in front
+/// The policy that the lines of a block say, or its first fault, where `before` lines come in front
 /// of them in the script.
 pub fn read_policy(alloc: Global, before: usize, lines: &[&str]) -> Result<Policy, ScriptError>
     requires { before < 2 ^ 63 }

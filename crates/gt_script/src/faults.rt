@@ -53,7 +53,7 @@ impl ScriptError {
     ghost use Rattle.std.specs.Prelude.{◌≡◌, ◌+◌, ◌<◌, ◌^◌};
     ghost use Rattle.gt_script.specs.Faults.{error_in_block};
 
-    // The fault of a policy block that stands behind so many lines, or want of memory.
+    // The fault of a policy block that comes after so many lines, or want of memory.
     pub(crate) fn in_block(before: usize, fault: PolicyFault) -> ScriptError
         requires { before < 2 ^ 63 }
         ensures { result ≡ error_in_block (before + fault.line) fault.kind }

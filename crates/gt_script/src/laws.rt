@@ -1,4 +1,4 @@
-//! Laws of what bytes tell.
+//! Laws of what bytes say.
 ghost use Rattle.std.specs.Prelude.{◌≡◌, ℕ, List, Result, Err};
 ghost use Rattle.gt_script.specs.Contents.{Contents};
 ghost use Rattle.gt_script.specs.Laws.{IsFaultOf, IsFaultOfBlock};
@@ -9,7 +9,7 @@ ghost use Rattle.gt_policy.specs.declared.fault.Fault as policy;
 
 use gt_policy::one_meaning;
 
-/// A law: bytes tell one thing, a script or a fault. Whatever two contents the same bytes tell are the
+/// A law: bytes say one thing, a script or a fault. Whatever two contents the same bytes say are the
 /// same: what is allowed, the types, domains and steps.
 pub fn every_text_tells_one_thing()
     ensures { (bytes : List ℕ) (one other : Result Contents Wrong) →
@@ -18,8 +18,8 @@ pub fn every_text_tells_one_thing()
     one_meaning();
 }
 
-/// A law: a fault that stands first, of the bytes or of their policy block, is the one that they tell. So
-/// where one stands no other does.
+/// A law: a fault that comes first, of the bytes or of their policy block, is the one that they say. So
+/// there is no other.
 pub fn every_fault_that_stands_is_told()
     ensures script { (command : Command) (bytes : List ℕ) (f : Fault) →
         IsFaultOf command bytes f → TellsFor command bytes (Err (in_script f)) }

@@ -1,12 +1,14 @@
 //! The script language: what the bytes of a script say, or their first fault.
 //!
 //! A script is text of lines and words. Its head is a policy block, or allows triples of types, and
-//! configures domains; its body is a list of steps, each of one domain. `parse` answers the
-//! script, exactly, or the first fault with its line. Names and labels are borrowed from the bytes.
+//! configures domains. Its body is a list of steps, each of one domain. `parse` answers the script,
+//! exactly, or the first fault with its line. Names and labels are borrowed from the bytes.
 //!
-//! What a line says is told by `gt_lines`; whether it may stand depends on the lines before it, and is
-//! defined here. The crate stands on `gt_types`, whose domains and triples a script is made of, on
-//! `gt_policy` for its policy block, on `gt_streams` for bytes as text, and on `gt_lines`.
+//! What a line says is for `gt_lines`. Whether it is in its place depends on the lines before it, and
+//! is defined here.
+//!
+//! It uses `gt_types` (domains and triples), `gt_policy` (the policy block), `gt_streams` (bytes as
+//! text) and `gt_lines`.
 #![tactic(auto)]
 
 mod blocks;

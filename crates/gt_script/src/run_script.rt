@@ -32,7 +32,7 @@ impl<'a> Model for RunScript<'a> {
 }
 
 impl<'a> RunScript<'a> {
-    /// What stands in front of the body, as a script without steps.
+    /// What comes before the body, as a script without steps.
     pub fn head(&self) -> &Script<'a>
         ensures { result.now ≡ self.now.head }
     {

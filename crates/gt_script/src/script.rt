@@ -1,4 +1,4 @@
-//! A script: what stands on its lines, in order.
+//! A script: what its lines say, in order.
 ghost use Rattle.std.specs.Prelude.{◌≡◌, ◌≤◌, ◌<◌, ◌+◌, ◌^◌, ◌⊎◌, ℕ, List, length, take, drop, map, IfOk, IfErr};
 ghost use Rattle.std.specs.Str.{IsUtf8};
 ghost use Rattle.std.specs.Str.Lines.{lines as lines_in};
@@ -431,7 +431,7 @@ impl<'a> Script<'a> {
         self.with_words(number, words.as_slice())
     }
 
-    // This script with more lines, which stand behind so many others.
+    // This script with more lines, which come after so many others.
     fn with_lines(
         self,
         alloc: Global,
@@ -452,7 +452,7 @@ impl<'a> Script<'a> {
         Ok(script)
     }
 
-    // What a script lacks at its end: a policy or a triple, else a domain.
+    // What a script lacks at its end: a policy or a triple, or otherwise a domain.
     #[tactic(auto, unfolding(crate::specs::Script::completed))]
     fn completed(self, count: usize) -> Result<Script<'a>, ScriptError>
         requires { count < 2 ^ 64 - 1 }
@@ -469,7 +469,7 @@ impl<'a> Script<'a> {
         Err(ScriptError::Fault(Fault { line, kind }))
     }
 
-    // This script with the lines behind so many others, up to the end of a script of `count` lines.
+    // This script with the lines after so many others, up to the end of a script of `count` lines.
     fn with_rest(
         self,
         alloc: Global,
@@ -484,7 +484,7 @@ impl<'a> Script<'a> {
     }
 }
 
-// The script of `count` lines that has a policy block, from the lines behind the line `policy` with the
+// The script of `count` lines that has a policy block, from the lines after the line `policy` with the
 // number `first`.
 fn of_block<'a>(
     alloc: Global,

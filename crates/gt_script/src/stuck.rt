@@ -64,7 +64,7 @@ impl Turns {
         }
     }
 
-    // A domain that stands at a place goes on as far as told flags let it, and tells those on its way.
+    // A domain that is at a place goes on as far as told flags let it, and tells those on its way.
     fn go_on(&mut self, tasks: &[Task], dom: DomId, from: usize) -> Way
         requires numbered { AreNumbered (length self.old.told.items) tasks.now }
         requires place { from ≤ length tasks.now }

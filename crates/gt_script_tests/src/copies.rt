@@ -2,7 +2,7 @@
 use crate::said::{HEAD, Part, fault_text, said};
 use std::test::Fail;
 
-// Lines with what they are read as, behind three others.
+// Lines with what they are read as, after three others.
 const READ: [(&str, &str); 3] = [
     (
         "do 2 copy gref 1 0 100 frame self 3 7 50",

@@ -1,4 +1,4 @@
-//! Lines of a script: what each is read as, and where each may stand.
+//! Lines of a script: what each is read as, and where each may be.
 use crate::said::{HEAD, Part, fault_text, said};
 use std::test::Fail;
 
@@ -272,13 +272,13 @@ const BAD_DOMAINS: [&str; 12] = [
     "domain 2 u:r:a_t 8 1 18446744073709551617",
 ];
 
-// Lines of a head, which stand behind no step.
+// Lines of a head, which come after no step.
 const OF_THE_HEAD: [&str; 3] = ["triple a_t a_t copy", "wear 1", "domain 3 u:r:a_t 8 1 1"];
 
-// Lines that stand behind no domain.
+// Lines that come after no domain.
 const OF_THE_FRONT: [&str; 2] = ["triple a_t a_t copy", "wear 0"];
 
-// What stands in front of a line and behind it, what comes of each script that is so made, and the
+// What is before a line and after it, what comes of each script that is so made, and the
 // lines that are tried there.
 #[test]
 fn lines_in_their_places(rt: HostRuntime) -> Result<(), Fail> {
@@ -429,7 +429,7 @@ fn reads_the_lines_of_a_body(rt: HostRuntime) -> Result<(), Fail> {
     Ok(())
 }
 
-// Each behind the calls that have hexadecimal text: entry bytes, a store, and a poke.
+// Each after the calls that have hexadecimal text: entry bytes, a store, and a poke.
 #[test]
 fn reads_hexadecimal_text(rt: HostRuntime) -> Result<(), Fail> {
     let alloc = rt.alloc();

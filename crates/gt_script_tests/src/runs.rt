@@ -38,7 +38,7 @@ const BODIES: [(&str, &str); 22] = [
         "do 2 revoke 7\ndo 1 revoke 8\n",
         "5 1 Do(Table(Revoke { gref: GrantRef(8) }))\n4 2 Do(Table(Revoke { gref: GrantRef(7) }))\n0 flags",
     ),
-    // Each waits for what the other tells, behind its own await or in front of it.
+    // Each waits for what the other tells, after its own await or before it.
     ("await 1 x\ntell 2 y\n", "line 4: stuck"),
     (
         "tell 1 x\nawait 1 y\ntell 2 y\nawait 2 x\n",

@@ -62,7 +62,7 @@ fn reads_the_first_generation(rt: HostRuntime) -> Result<(), Fail> {
     Ok(())
 }
 
-// Texts whose parts stand in order or not, with the first fault.
+// Texts whose parts are in order or not, with the first fault.
 const PARTS: [(&str, &str); 22] = [
     ("\n# nothing\n \t\n", "line 4: syntax"),
     ("# nothing", "line 2: syntax"),
@@ -158,7 +158,7 @@ const BLOCKS: [(&str, &str); 29] = [
         "line 4: config",
     ),
     ("triple a_t a_t copy\n", "line 2: config"),
-    // Blank lines and comments stand in front, and CR in front of LF everywhere.
+    // Blank lines and comments come in front, and CR in front of LF everywhere.
     (
         "# a host\n\n \t\npolicy # here\ntype a_t;\nend # done\ndomain 1 u:r:a_t 1 1 1\n",
         "",

@@ -9,7 +9,7 @@ use gt_types::{Denial, Facts, TypeId};
 use std::alloc::AllocError;
 use std::convert::AsSlice;
 
-// The name that stands at a type's number: no bytes where none does.
+// The name at a type's number: no bytes where there is none.
 fn name_of<'n, N: AsSlice<u8>>(names: &'n [N], id: TypeId) -> &'n [u8]
     ensures { result.now ≡ type_text N.items names.entry.now id }
 {
@@ -19,7 +19,7 @@ fn name_of<'n, N: AsSlice<u8>>(names: &'n [N], id: TypeId) -> &'n [u8]
     }
 }
 
-/// Appends the name of a type: the one that stands at its number in `names`, and nothing where none does.
+/// Appends the name of a type: the one at its number in `names`, and nothing where there is none.
 pub fn push_type<N: AsSlice<u8>>(
     out: &mut Vec<u8>,
     names: &[N],
@@ -32,7 +32,7 @@ pub fn push_type<N: AsSlice<u8>>(
     Ok(())
 }
 
-/// Appends what a refusal rests on, where its line names that. After an Err a part of it may stand.
+/// Appends what a refusal rests on, where its line names that. After an Err a part of it may be there.
 pub fn push_facts<N: AsSlice<u8>>(
     out: &mut Vec<u8>,
     names: &[N],
@@ -62,7 +62,7 @@ pub fn push_facts<N: AsSlice<u8>>(
     }
 }
 
-/// Appends a refusal: its rule, its status, and what it rests on. After an Err a part of it may stand.
+/// Appends a refusal: its rule, its status, and what it rests on. After an Err a part of it may be there.
 pub fn push_denial<N: AsSlice<u8>>(
     out: &mut Vec<u8>,
     names: &[N],

@@ -1,13 +1,14 @@
-//! What answers print: the names of types, what a refusal rests on, refusals, and the values of
-//! calls that answer numbers.
+//! What answers print: the names of types, what a refusal rests on, refusals, and the values of calls
+//! that answer numbers.
 //!
 //! A run prints a line for each answer and an audit line for each answered hypercall, and both end in
-//! the same words. They stand here once, as definitions and as functions that append them to the bytes
+//! the same words. They are here once, as definitions and as functions that append them to the bytes
 //! that wait.
 //!
 //! What holds: each function appends exactly its text, for any names, facts and numbers, and bytes that
-//! were UTF-8 stay so. Where memory is refused, a beginning of the text may stand. The crate stands on
-//! `gt_types` for the names of rules, fields and permissions, and on `itoa` for numbers.
+//! were UTF-8 stay so. Where memory is refused, a beginning of the text may be there.
+//!
+//! It uses `gt_types` (the names of rules, fields and permissions) and `itoa` (numbers).
 #![tactic(auto)]
 
 mod denials;

@@ -15,7 +15,7 @@ pub fn push_number<I: Integer>(out: &mut Vec<u8>, number: I) -> Result<(), Alloc
     push_text(out, buffer.format(number))
 }
 
-/// Appends ` NAME=NUMBER`. After an Err a part of it may stand.
+/// Appends ` NAME=NUMBER`. After an Err a part of it may be there.
 pub fn push_part<I: Integer>(out: &mut Vec<u8>, name: &str, number: I) -> Result<(), AllocError>
     ensures text { OnOk result (out.new.items ≡ out.old.items
         ++ codes " " ++ name.now ++ codes "=" ++ I.text number) }

@@ -1,4 +1,4 @@
-//! Texts behind one another.
+//! Texts one after another.
 ghost use Rattle.std.specs.Prelude.{◌≡◌, ◌++◌, OnOk, OnErr};
 ghost use Rattle.gt_texts.specs.Texts.{StaysText};
 

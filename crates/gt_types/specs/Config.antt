@@ -33,7 +33,7 @@ is_outside last n = not (nat_le 1 n && nat_le n last)
 abbrev pub is_taken : List DomainConfig → DomId → Bool
 is_taken domains id = list_any (λ d. d.id.0 == id.0) domains
 
--- the first fault of a domain behind those before it, in the order: one domain too many, number, repetition, frames, table frames, version (own)
+-- the first fault of a domain after those before it, in the order: one domain too many, number, repetition, frames, table frames, version (own)
 unfoldable pub domain_fault : List DomainConfig → DomainConfig → Option ConfigFault
 domain_fault before d =
     option_or (fault_when (nat_le MAX_DOMAINS (length before)) (TooMany d.id))
@@ -43,7 +43,7 @@ domain_fault before d =
     (option_or (fault_when (is_outside MAX_TABLE_FRAMES d.table_frames) (TableFrames d.id))
     (fault_when (is_outside LAST_VERSION d.version) (Version d.id))))))
 
--- no domain has a fault behind those before it (own)
+-- no domain has a fault after those before it (own)
 pub record AreFaultless (domains : List DomainConfig) : Type 0 where
   pub each : (at : ℕ) (domain : DomainConfig) → slice_get domains at ≡ Some domain → domain_fault (take at domains) domain ≡ None
 

@@ -35,7 +35,7 @@ pub fn the_permissions()
 {}
 
 /// A list of domains without a fault stays without one when a domain follows that has none
-/// behind them. So a configuration can be judged domain by domain as it is read.
+/// after them. So a configuration can be judged domain by domain as it is read.
 pub fn every_faultless_list_grows_by_one()
     ensures none { AreFaultless [] }
     ensures more { (ds : List DomainConfig) (d : DomainConfig) →

@@ -107,7 +107,7 @@ impl<'m, P: Allows> Running<'m, P> {
         }
     }
 
-    /// Makes the call that is asked, and tells its answer.
+    /// Makes the call that is asked, and answers what it answers.
     pub fn ask<R: Wait>(
         &mut self,
         rt: &R,

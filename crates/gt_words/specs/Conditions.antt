@@ -56,7 +56,7 @@ pub record IsSeatOf (b : Board) (s : SeatOf) : Type 0 where
   pub named : id_at b.layout.ids s.view.position ≡ s.dom
   pub ids : s.view.ids ≡ b.layout.ids
 
--- where the domain stands among those of the run (own)
+-- the place of the domain among those of the run (own)
 abbrev pub position_at : Board → DomId → ℕ
 position_at b d = position_in b.layout.ids d
 

@@ -30,11 +30,11 @@ use Rattle.gt_words.specs.declared.view.View.{View}
 abbrev pub DomainsAreOfRun : Type 0
 DomainsAreOfRun = (c : Config) (d : DomId) → (IsSome (domain_of c.domains.items d) → HasDomain (layout_of c) d) × (HasDomain (layout_of c) d → IsSome (domain_of c.domains.items d))
 
--- a domain of the run stands at its position (own)
+-- a domain of the run is at its position (own)
 abbrev pub DomainsStandThere : Type 0
 DomainsStandThere = (k : Layout) (d : DomId) → HasDomain k d → id_at k.ids (position_in k.ids d) ≡ d
 
--- a seat stands at the position of its domain (own)
+-- a seat is at the position of its domain (own)
 abbrev pub SeatsStandThere : Type 0
 SeatsStandThere = (c : Config) (b : Board) (s : SeatOf) → IsWithinLimits c → b.layout ≡ layout_of c → IsSeatOf b s → s.view.position ≡ position_at b s.dom
 
@@ -129,7 +129,7 @@ found_at xs d (Some i) is inside = let passes = (position-Some (λ (x : DomId). 
 abbrev numbered : ℕ → DomId
 numbered n = record { 0 = n }
 
--- a domain of the run stands at its position
+-- a domain of the run is at its position
 pub domain_at : DomainsStandThere
 domain_at k d inside = ap numbered (found_at k.ids d (position (λ (x : DomId). x.0 == d.0) k.ids) refl inside)
 
@@ -169,7 +169,7 @@ wrapped n at lt = grind (arith, nat_tests)
 pub domain_of_run : DomainsAreOfRun
 domain_of_run c d = (λ e. unwrapped _ _ (among c.domains.items d e), λ lt. named c.domains.items d (wrapped _ _ lt))
 
--- a seat stands at the position of its domain
+-- a seat is at the position of its domain
 pub seat_at : SeatsStandThere
 seat_at c b s limits layout is = own_position c b.layout b.layout.ids s.view.position s.dom (sym layout) limits (ap (λ (k : Layout). k.ids) layout) is.inside is.named
 

@@ -47,11 +47,11 @@ position_in xs d = unwrap_or (position (λ x. x.0 == d.0) xs) (length xs)
 abbrev pub id_at : List DomId → ℕ → DomId
 id_at xs t = slice_index_or xs t (record { 0 = 0 })
 
--- where the word j of the entry r of the domain t stands: behind the header of its domain, each entry at a stride of its own (own)
+-- the place of the word j of the entry r of the domain t: after the header of its domain, each entry at a stride of its own (own)
 abbrev pub place : ℕ → ℕ → ℕ → ℕ
 place t r j = t * DOMAIN_WORDS + (ENTRY_WORDS * r + (ENTRY_WORDS + j))
 
--- where the header word of a domain stands: first of its words (own)
+-- the place of the header word of a domain: first of its words (own)
 abbrev pub header_place : ℕ → ℕ
 header_place t = t * DOMAIN_WORDS
 
@@ -71,7 +71,7 @@ IsNextEntry x y = (x.generation ≡ y.generation + 1) × (x.entry ≢ Invalid) �
 abbrev pub MayFollow : EntryRecord → EntryRecord → Type 0
 MayFollow x y = IsRevocation x y ⊎ IsNextEntry x y
 
--- the owner's list, x the last record and behind it the earlier ones: the first is invalid, and each other may come next after the one before it (own)
+-- the owner's list, x the last record and after it the earlier ones: the first is invalid, and each other may come next after the one before it (own)
 abbrev pub IsLawful : EntryRecord → List EntryRecord → Type 0
 IsLawful x [] = IsRecord x × (x.entry ≡ Invalid)
 IsLawful x (y ∷ ys) = IsRecord x × MayFollow x y × IsLawful y ys

@@ -50,7 +50,7 @@ pub record StepKind : Type 0 where
   pub step : ℕ → SeatStep
   pub leaves : ℕ → ℕ
 
--- what a step of this kind tells its caller: its view gained the step, which was taken on words and views that show a state (own)
+-- what a step of this kind promises its caller: its view gained the step, which was taken on words and views that show a state (own)
 abbrev pub tells : {S : Type 0} → StepKind → TableStep S → Me S View → ℕ → Me S View → Type 0
 tells {S} d st m n m' = (m'.1 ≡ m.1) × (m'.0 ≡ with_step (d.step n) m.0) × TakesStep S d.layout m.0 (d.step n) st.word n (d.leaves n)
 

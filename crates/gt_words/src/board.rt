@@ -197,7 +197,7 @@ fn store_header_word<J: OfKind>(cells: &Cells, seat: &mut Place, at: usize, new:
     cells.store::<TellsStore<J>>(seat, at * DOMAIN_WORDS, new)
 }
 
-// Where a body word stands among the words of its entry.
+// The place of a body word among the words of its entry.
 fn index_of(half: Half) -> usize
     ensures index { result ≡ half_index half }
     ensures inside { result < 3 }

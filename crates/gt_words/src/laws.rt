@@ -8,12 +8,12 @@ pub fn every_domain_is_of_the_run()
     ensures { DomainsAreOfRun }
 {}
 
-/// A law: a domain of the run stands at its position.
+/// A law: a domain of the run is at its position.
 pub fn every_domain_has_its_position()
     ensures { DomainsStandThere }
 {}
 
-/// A law: a seat stands at the position of its domain.
+/// A law: a seat is at the position of its domain.
 pub fn every_seat_has_its_position()
     ensures { SeatsStandThere }
 {}

@@ -4,9 +4,12 @@
 //! atomic step on one of them. Between any two steps the words and what the seats know show a state of
 //! the core: who was granted what, with each pin counted. So a revocation that is answered Ok was made
 //! while no domain had a pin of its entry.
-//! A call tells a state in which its step can have been made, and what the step made of it, by contracts;
-//! at run time views and steps cost nothing. No call but `Words::new` takes memory, and none waits.
-//! It stands on `atomic_table`, whose rule is `Shows` of specs/Rule.antt, and on the words of `gt_entry`.
+//!
+//! Each call promises, by its contract, a state in which its step can have been made, and what the step
+//! made of it. At run time views and steps cost nothing. No call but `Words::new` takes memory, and
+//! none waits.
+//!
+//! It uses `atomic_table`, whose rule is `Shows` of specs/Rule.antt, and the words of `gt_entry`.
 #![tactic(auto)]
 
 mod board;

@@ -93,7 +93,7 @@ pub struct Pin {
     pub dir: Dir,
 }
 
-// Where the domain stands in the list.
+// The place of the domain in the list.
 fn found_in(ids: &[DomId], dom: DomId) -> Option<usize>
     ensures { result ≡ position (λ x. x.0 == dom.0) ids.now }
 {

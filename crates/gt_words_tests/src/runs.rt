@@ -1,4 +1,4 @@
-//! Worked runs of two domains, each told in one text. Words are in base 16, but inside an answer in base 10.
+//! Worked runs of two domains, each written as one text. Words are in base 16, but inside an answer in base 10.
 use crate::calls::{
     Row, churn, look, page, pin_twice, publish, revoke, revoke_pinned, start, toggle, try_pin,
     turn, two_domains,

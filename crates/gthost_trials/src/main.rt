@@ -1,7 +1,7 @@
 //! Tries command lines of the program `gthost`, and prints what each writes, with its exit status.
 //!
-//! Each word of this program's own command line is a command line of `gthost`: its words stand between
-//! blanks. Behind `full: ` stands one whose texts go to a writer that is full. What `gthost` writes to the
+//! Each word of this program's own command line is a command line of `gthost`, whose words are between
+//! blanks. After `full: ` comes one whose texts go to a writer that is full. What `gthost` writes to the
 //! standard error goes to the standard output here, so that `stdout` has it. `args` has the command
 //! lines, `data/` their files, and `stdin` the text for those that name none. A command line is added
 //! there; that costs no proof.

@@ -3,9 +3,9 @@
 //! `live_bench LOAD THREADS ROUNDS` runs a load and prints the rounds that its threads have done, never a time. A round is
 //! a map and an unmap that were both answered Ok, or a revocation and a grant. LOAD is `apart` or `adjacent` (each thread
 //! maps an entry of its own, with entries between them or side by side), or `grants` (the first thread is the owner, who
-//! revokes and grants by turns the entries that the others map). What the policy allows stands in a compiled table.
+//! revokes and grants by turns the entries that the others map). What the policy allows is in a compiled table.
 //!
-//! It promises nothing beyond the calls that it makes, and stands on `gt_live`. The script `bench/live.sh` runs and times
+//! It promises nothing beyond the calls that it makes, and uses `gt_live`. The script `bench/live.sh` runs and times
 //! it beside the bare words and a program in C.
 #![tactic(auto)]
 

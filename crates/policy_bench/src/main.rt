@@ -6,7 +6,7 @@
 //! (and the table is asked for every triple) or `walk` (the text is parsed, and the statements are
 //! walked for each triple of a type on itself). It prints counts, never a time.
 //!
-//! It promises nothing beyond the calls that it makes, and stands on `gt_allow`, `gt_policy` and
+//! It promises nothing beyond the calls that it makes, and uses `gt_allow`, `gt_policy` and
 //! `gt_types`. The script `bench/policy.sh` runs and times it.
 #![tactic(auto)]
 

@@ -40,7 +40,7 @@ fn spot_of(place: Place) -> Spot
     }
 }
 
-// What a record tells of an end of a copy.
+// What a record keeps of an end of a copy.
 fn told_end(end: End) -> CopyEnd
     ensures { result ≡ told_end end }
 {
@@ -51,7 +51,7 @@ fn told_end(end: End) -> CopyEnd
     }
 }
 
-// What a record tells of a copy's answer.
+// What a record keeps of a copy's answer.
 fn copy_reply(answer: &Result<Copied, Denial>) -> Reply
     ensures reply { result ≡ copy_reply answer.now }
     ensures tells { told_by result ≡ outcome_of answer.now }
@@ -147,7 +147,7 @@ impl Domain {
         }
     }
 
-    // Copies, and tells nobody.
+    // Copies, without a record.
     fn make_copy<R: Wait, P: Allows>(
         &mut self,
         rt: &R,
