@@ -30,7 +30,8 @@ impl Model for AllowTable {
 
 // Appends the sets of one source, for each type as the target.
 fn push_row(sets: &mut Vec<Perms>, count: u16, row: &Row) -> Result<(), AllocError>
-    ensures { OnOk result ((added : List Perms) × (sets.new.items ≡ sets.old.items ++ added) × IsRow row.now count added) }
+    ensures { OnOk result ((added : List Perms)
+        × (sets.new.items ≡ sets.old.items ++ added) × IsRow row.now count added) }
 {
     'targets: for target in 0..count {
         sets.push(row.on(TypeId(target)))?;

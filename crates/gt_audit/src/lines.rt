@@ -3,7 +3,8 @@ ghost use Rattle.std.specs.Prelude.{◌≡◌, ◌++◌, OnOk, IfOk, codes, deci
 ghost use Rattle.gt_types.specs.Names.{resolved as resolved_in};
 ghost use Rattle.gt_texts.specs.Printing.{type_text};
 ghost use Rattle.gt_texts.specs.Texts.{StaysText, AreTexts};
-ghost use Rattle.gt_audit.specs.Lines.{domain_text, entry_text, kind_text, end_text, copy_text, hypercall_text, asked_text, reply_text, line_text, lost_text};
+ghost use Rattle.gt_audit.specs.Lines.{domain_text, entry_text, kind_text, end_text, copy_text, hypercall_text};
+ghost use Rattle.gt_audit.specs.Lines.{asked_text, reply_text, line_text, lost_text};
 
 use crate::record::{CopyEnd, Hypercall, Record, Reply};
 use gt_texts::{push_denial, push_frames, push_number, push_size, push_text, push_version};

@@ -1,5 +1,6 @@
 //! The frames of a run, for one thread.
-ghost use Rattle.std.specs.Prelude.{◌≡◌, ◌+◌, ◌<◌, ◌≤◌, slice_get, Some, ◌^◌, ◌++◌, [], ◌∷◌, length, map, set, get_or, vec_len, IsTrue, IsSome, IfOk, IfSome, OnOk, OnErr, ◌↔◌};
+ghost use Rattle.std.specs.Prelude.{◌≡◌, ◌+◌, ◌<◌, ◌≤◌, slice_get, Some, ◌^◌, ◌++◌, [], ◌∷◌, length, map, set};
+ghost use Rattle.std.specs.Prelude.{get_or, vec_len, IsTrue, IsSome, IfOk, IfSome, OnOk, OnErr, ◌↔◌};
 ghost use Rattle.gt_frames.specs.Frames.{FrameState, covers};
 ghost use Rattle.gt_frames.specs.Receipts.{copying_of};
 ghost use Rattle.gt_frames.specs.Sets.{zero_frames, CopiesAmong};
@@ -83,7 +84,8 @@ impl Frames {
     ghost use Rattle.gt_frames.specs.Frames.{bytes_at, IsKept};
     ghost use Rattle.gt_frames.specs.Places.{frame_counts};
     ghost use Rattle.gt_frames.specs.Receipts.{writing_of, copying_of};
-    ghost use Rattle.gt_frames.specs.Sets.{frame_at, place_in, has_frame, has_range, admits, all_zeros, AreKept, WritesTo};
+    ghost use Rattle.gt_frames.specs.Sets.{frame_at, place_in, has_frame, has_range, admits, all_zeros};
+    ghost use Rattle.gt_frames.specs.Sets.{AreKept, WritesTo};
 
     /// The frames of all domains, in their order, each of zeros. The bytes of each are made on the
     /// heap, once.
@@ -173,7 +175,8 @@ impl Frames {
             (bytes_at (frame_at self.old from.frame) from.off len)) }
         ensures kept { AreKept self.new }
         ensures receipt { IfOk result (λ r.
-            r ≡ copying_of (frame_at self.old from.frame) from.off (frame_at self.old to.frame) to.off len writ.now.writer) }
+            r ≡ copying_of (frame_at self.old from.frame) from.off
+            (frame_at self.old to.frame) to.off len writ.now.writer) }
         ensures refused { OnErr result (self.new ≡ self.old) }
     {
         let source = self.place(from.frame).unwrap();

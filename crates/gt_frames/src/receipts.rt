@@ -47,7 +47,13 @@ impl<'a> Model for Written<'a> {
 
     ghost Value = { Writing };
 
-    ghost view = { λ r. record { owner = r.owner; number = r.number; off = r.off; bytes = r.bytes.now; writer = r.writer } };
+    ghost view = { λ r. record {
+      owner = r.owner;
+      number = r.number;
+      off = r.off;
+      bytes = r.bytes.now;
+      writer = r.writer;
+    } };
 }
 
 /// One end of a copy.

@@ -1,5 +1,6 @@
 //! Map handles over a slab.
-ghost use Rattle.std.specs.Prelude.{◌≡◌, ◌+◌, ◌<◌, ◌≤◌, ◌^◌, ◌==◌, IsOk, IsSome, IfSome, IfNone, OnOk, OnSome, Some, None, option_copied, slice_index_or, slice_set};
+ghost use Rattle.std.specs.Prelude.{◌≡◌, ◌+◌, ◌<◌, ◌≤◌, ◌^◌, ◌==◌, IsOk, IsSome, IfSome, IfNone, OnOk, OnSome};
+ghost use Rattle.std.specs.Prelude.{Some, None, option_copied, slice_index_or, slice_set};
 
 use gt_types::Memory;
 use slab::Slab;
@@ -45,7 +46,8 @@ impl<T> Model for Handles<T> {
 
 impl<T> Handles<T> {
     ghost use Rattle.std.specs.Prelude.{[]};
-    ghost use Rattle.gt_handles.specs.Handles.{value_of, count_of, Updates, IsSpent, KeepsSpent, IsLeast, IsEmpty, IsSound};
+    ghost use Rattle.gt_handles.specs.Handles.{value_of, count_of, Updates, IsSpent, KeepsSpent, IsLeast};
+    ghost use Rattle.gt_handles.specs.Handles.{IsEmpty, IsSound};
 
     /// No values yet, and no serial given. It takes no memory.
     pub fn new(alloc: Global) -> Self

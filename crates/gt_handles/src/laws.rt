@@ -1,5 +1,6 @@
 //! Laws of map handles.
-ghost use Rattle.gt_handles.specs.Listing.{InsertedIsCounted, InsertedIsListed, NoMorePass, NothingIsListed, TakenIsCounted, TakenIsUnlisted};
+ghost use Rattle.gt_handles.specs.Listing.{InsertedIsCounted, InsertedIsListed, NoMorePass, NothingIsListed};
+ghost use Rattle.gt_handles.specs.Listing.{TakenIsCounted, TakenIsUnlisted};
 
 use crate::handles::Handles;
 

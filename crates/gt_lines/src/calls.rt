@@ -1,6 +1,9 @@
 //! The calls that a script can ask for.
 ghost use Rattle.std.specs.Prelude.{◌≡◌, map};
-ghost use Rattle.gt_lines.specs.Calls.{page_of, sub_of, via_of, granted, grant_of, map_of, unmap_of, load_of, store_of, peek_of, poke_of, end_of, copy_of, bytes_of, only_reference, only_number, only_domain, table_of, access_of, is_access_word, call_of, tick_of, action_of};
+ghost use Rattle.gt_lines.specs.Calls.{page_of, sub_of, via_of, granted, grant_of, map_of, unmap_of, load_of};
+ghost use Rattle.gt_lines.specs.Calls.{store_of, peek_of, poke_of, end_of, copy_of, bytes_of, only_reference};
+ghost use Rattle.gt_lines.specs.Calls.{only_number, only_domain, table_of, access_of, is_access_word, call_of};
+ghost use Rattle.gt_lines.specs.Calls.{tick_of, action_of};
 
 use crate::fields::{
     domain, flags, is, label, mode, reference, tick_count, u16_of, u32_of, u64_of,

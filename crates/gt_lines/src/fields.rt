@@ -3,7 +3,9 @@ ghost use Rattle.std.specs.Prelude.{◌≡◌, map};
 ghost use Rattle.std.specs.Option.{option_map};
 ghost use Rattle.std.specs.Str.{bytes_eq};
 ghost use Rattle.std.specs.List.{list_all};
-ghost use Rattle.gt_lines.specs.Fields.{u16_word, u32_word, u64_word, reference_word, domain_word, mode_word, flags_word, tick_word, generation_word, name_byte, label_byte, name_word, label_word, text_where, at_colon, type_word};
+ghost use Rattle.gt_lines.specs.Fields.{u16_word, u32_word, u64_word, reference_word, domain_word, mode_word};
+ghost use Rattle.gt_lines.specs.Fields.{flags_word, tick_word, generation_word, name_byte, label_byte};
+ghost use Rattle.gt_lines.specs.Fields.{name_word, label_word, text_where, at_colon, type_word};
 
 use crate::numbers::{Number, decimal};
 use crate::texts::Text;

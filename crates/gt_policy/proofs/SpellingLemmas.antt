@@ -1,6 +1,6 @@
 -- What the readers take is what the grammar spells, and the other way round.
 use Rattle.std.proofs.Common.{◌≡◌, ◌<◌, ℕ, Bool, true, false, List, [], ◌∷◌, length, Result, Ok, Err, refl, sym, ap, ◌∙◌, subst, arith}
-use Rattle.std.specs.Prelude.{if◌then◌else◌, ◌||◌}
+use Rattle.std.specs.Prelude.{if◌then◌else◌}
 use Rattle.std.specs.List.{list_any}
 use Rattle.gt_policy.specs.declared.lexer.Token.TheVariants.{Name, SelfWord, Open, Close, Semicolon, Comma, Minus, Star}
 use Rattle.gt_policy.specs.declared.fault.Fault.{Fault}

@@ -1,14 +1,13 @@
 -- Flags numbered as they first appear.
-use Rattle.std.proofs.Common.{◌≡◌, ℕ, ◌+◌, ◌<◌, ◌≤◌, ◌||◌, not, Bool, true, false, List, [], ◌∷◌, ◌++◌, length, take, Option, Some, None, refl, sym, ap, ◌∙◌, subst, arith, All, cond, ltb, eqb, map, get_or, add-one, Bor, IsTrue, length-append}
-use Rattle.std.specs.Option.{option_map, option_to_list, unwrap_or}
+use Rattle.std.proofs.Common.{◌≡◌, ℕ, ◌+◌, ◌<◌, ◌≤◌, ◌||◌, not, Bool, true, false, List, [], ◌∷◌, ◌++◌, length, take, Option, Some, None, refl, sym, ap, ◌∙◌, subst, arith, All, cond, ltb, get_or, add-one, Bor}
+use Rattle.std.specs.Option.{option_to_list, unwrap_or}
 use Rattle.std.specs.List.{filter_map, fold, list_any, position, position_or_len, cons_option}
 use Rattle.std.specs.Str.{bytes_eq}
 use Rattle.std.proofs.Math.Seq.{take-suc}
 use Rattle.std.proofs.lemmas.Bool.Decides.{nat_tests}
 use Rattle.std.proofs.lemmas.List.Elements.{All-nil, All-cons, All-map, All-tail, filter_map-append}
-use Rattle.std.proofs.lemmas.List.Folds.{position_or_len_push, list_any-append}
+use Rattle.std.proofs.lemmas.List.Folds.{list_any-append}
 use Rattle.std.proofs.lemmas.List.Sums.{fold-append, prefix_len-le-length}
-use Rattle.std.proofs.lemmas.Slice.Eq.{bytes_eq-Decides}
 use Rattle.gt_types.specs.declared.DomId.{DomId}
 use Rattle.gt_lines.specs.declared.signals.Signal.TheVariants.{Tell, Await}
 use Rattle.gt_script.specs.Flags.{names_in, with_flag, flag_in, flags_of, flag_number}

@@ -1,6 +1,5 @@
 -- Bytes tell one thing.
-use Rattle.std.proofs.Common.{◌≡◌, ◌⊎◌, ℕ, ◌+◌, ◌<◌, ◌≤◌, List, length, take, drop, Option, None, Some, Result, Ok, Err, refl, sym, ap, ◌∙◌, inl, inr, arith}
-use Rattle.std.specs.Str.{IsUtf8}
+use Rattle.std.proofs.Common.{◌≡◌, ℕ, ◌+◌, ◌<◌, ◌≤◌, List, length, take, drop, Option, None, Some, Result, Ok, Err, sym, ap, ◌∙◌, inl, inr, arith}
 use Rattle.std.specs.Str.Lines.{lines as lines_in}
 use Rattle.gt_policy.specs.Allowing.{Allowed, Meaning, allowed_by}
 use Rattle.gt_policy.specs.Whole.{Says}
@@ -8,7 +7,7 @@ use Rattle.gt_policy.specs.declared.fault.Fault as policy
 use Rattle.gt_script.specs.Blocks.{Means, IsFaulty, behind, block_text, opening, closing}
 use Rattle.gt_script.specs.Contents.{Contents, with_policy}
 use Rattle.gt_script.specs.declared.command.Command.{Command}
-use Rattle.gt_script.specs.Script.{Wrong, in_policy, in_result, whole, ClosedSays, BlockSays, LinesSay, TextSays, TellsFor}
+use Rattle.gt_script.specs.Script.{Wrong, in_policy, in_result, whole, ClosedSays, BlockSays, LinesSay, TellsFor}
 
 -- a text of a policy says one thing alone
 abbrev pub OneMeaning : Type 0

@@ -1,18 +1,16 @@
 -- What a script for `run` says.
-use Rattle.std.proofs.Common.{◌≡◌, ◌⊎◌, inl, inr, ℕ, List, length, Option, Some, None, Result, Ok, Err, refl, sym, ap, ◌∙◌, subst, All, IsTrue, IfOk}
+use Rattle.std.proofs.Common.{◌≡◌, inl, inr, ℕ, List, length, Option, Some, None, Result, Ok, Err, refl, sym, ap, ◌∙◌, subst, All, IsTrue, IfOk}
 use Rattle.gt_types.specs.Config.{is_taken}
 use Rattle.gt_types.specs.declared.config.DomainConfig.{DomainConfig}
-use Rattle.gt_script.specs.Blocks.{block_fault_shown}
 use Rattle.gt_script.specs.Contents.{Contents, told, without_orders}
 use Rattle.gt_script.specs.Flags.{flags_of}
 use Rattle.gt_script.specs.Laws.{IsScriptFor}
 use Rattle.gt_script.specs.Outcomes.{Answers}
 use Rattle.gt_script.specs.RunContents.{RunContents}
-use Rattle.gt_script.specs.RunScripts.{CanConfigure, run_of, RunSays, RunTells, RunAnswers}
-use Rattle.gt_script.specs.Script.{Wrong, in_script, in_policy, TellsFor}
-use Rattle.gt_script.specs.Stuck.{AreNumbered, IsTold, AllEnd, IsStuckAt, IsJudged}
-use Rattle.gt_script.specs.Tasks.{task_of, tasks_for, tasks_of}
-use Rattle.gt_script.specs.declared.command.Command.{Command}
+use Rattle.gt_script.specs.RunScripts.{CanConfigure, RunSays, RunTells, RunAnswers}
+use Rattle.gt_script.specs.Script.{Wrong, in_script, TellsFor}
+use Rattle.gt_script.specs.Stuck.{AreNumbered, IsTold, IsJudged}
+use Rattle.gt_script.specs.Tasks.{tasks_for, tasks_of}
 use Rattle.gt_script.specs.declared.command.Command.TheVariants.{Run}
 use Rattle.gt_script.specs.declared.faults.Fault.{Fault}
 use Rattle.gt_script.specs.declared.faults.FaultKind.TheVariants.{Stuck}

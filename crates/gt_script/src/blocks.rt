@@ -1,6 +1,7 @@
 //! The policy block of a script: where it is, and the policy that it says.
 ghost use Rattle.std.specs.Prelude.{◌≡◌, ◌+◌, ◌<◌, ◌^◌, ℕ, List, IfOk, IfSome, map, length, string_bytes};
-ghost use Rattle.gt_script.specs.Blocks.{is_just as says_just, opening as opening_in, closing as closing_in, block_text as text_in, IsPolicyOf};
+ghost use Rattle.gt_script.specs.Blocks.{is_just as says_just, opening as opening_in, closing as closing_in};
+ghost use Rattle.gt_script.specs.Blocks.{block_text as text_in, IsPolicyOf};
 
 use crate::faults::ScriptError;
 use gt_lines::{is, line_words};

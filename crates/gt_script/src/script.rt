@@ -4,7 +4,8 @@ ghost use Rattle.std.specs.Str.{IsUtf8};
 ghost use Rattle.std.specs.Str.Lines.{lines as lines_in};
 ghost use Rattle.gt_types.specs.Config.{is_taken};
 ghost use Rattle.gt_script.specs.Blocks.{opening as opening_in, closing as closing_in};
-ghost use Rattle.gt_script.specs.Script.{domain_written, configured, action_in, run_line_in, LinesSay, BlockSays, TextSays, TellsFor, Tells};
+ghost use Rattle.gt_script.specs.Script.{domain_written, configured, action_in, run_line_in, LinesSay};
+ghost use Rattle.gt_script.specs.Script.{BlockSays, TextSays, TellsFor, Tells};
 ghost use Rattle.gt_script.specs.Contents.{told};
 ghost use Rattle.gt_script.specs.Outcomes.{Answers};
 ghost use Rattle.gt_script.specs.Laws.{IsScriptFor, IsScriptOf, StandsFor, Stands, IsUnread};
@@ -179,7 +180,9 @@ impl<'a> Script<'a> {
     ghost use Rattle.std.specs.Option.{option_map};
     ghost use Rattle.gt_policy.specs.Allowing.{allowed_of};
     ghost use Rattle.gt_script.specs.Contents.{told, empty, with_policy, without_orders, type_names, first_gen};
-    ghost use Rattle.gt_script.specs.Script.{with_triple, GivesTypeNumber, with_domain, with_step, with_order, with_body, with_line, with_words, with_lines, completed, whole, has_no_rights, has_body, is_misplaced};
+    ghost use Rattle.gt_script.specs.Script.{with_triple, GivesTypeNumber, with_domain, with_step, with_order};
+    ghost use Rattle.gt_script.specs.Script.{with_body, with_line, with_words, with_lines, completed, whole};
+    ghost use Rattle.gt_script.specs.Script.{has_no_rights, has_body, is_misplaced};
     ghost use Rattle.gt_script.specs.Outcomes.{Adds, Says};
 
     fn new(alloc: Global, command: Command) -> Script<'a>

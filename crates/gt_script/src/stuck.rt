@@ -4,7 +4,8 @@
 ghost use Rattle.std.specs.Prelude.{◌≡◌, ◌≤◌, ◌↔◌, ℕ, Bool, IfOk, All, IsTrue, length};
 ghost use Rattle.gt_types.specs.Config.{is_taken};
 ghost use Rattle.gt_script.specs.Stuck.{IsBelow, AreNumbered, IsClosed, IsTold, IsJudged};
-ghost use Rattle.gt_script.specs.Rounds.{holds, is_waiting, told_after, is_new, Within, GoesOn, Comes, HaveCome, Turning, WaitsIn};
+ghost use Rattle.gt_script.specs.Rounds.{holds, is_waiting, told_after, is_new, Within, GoesOn, Comes};
+ghost use Rattle.gt_script.specs.Rounds.{HaveCome, Turning, WaitsIn};
 
 use crate::tasks::{Deed, Task};
 use gt_types::{DomId, DomainConfig};

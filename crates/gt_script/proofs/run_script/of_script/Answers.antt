@@ -1,4 +1,4 @@
-use Rattle.std.proofs.Common.{◌≡◌, ◌∙◌, List, ap}
+use Rattle.std.proofs.Common.{◌∙◌, List, ap}
 use Rattle.gt_script.specs.Contents.{Contents, told}
 use Rattle.gt_script.specs.Flags.{flags_of}
 use Rattle.gt_script.specs.declared.orders.Order.{Order}

@@ -1,4 +1,3 @@
-use Rattle.std.proofs.Common.{sym, ◌∙◌}
 use Rattle.gt_script.specs.Contents.{told}
 use Rattle.gt_script.proofs.RunLemmas.{run-tells, fault-tells, ordered, head-configures}
 use Rattle.gt_script.proofs.run_script.parse_run.Goals as goal

@@ -1,4 +1,4 @@
-use Rattle.std.proofs.Common.{arith, inr, ap, refl}
+use Rattle.std.proofs.Common.{arith, inr, refl}
 use Rattle.gt_script.proofs.script.script_text.Goals as goal
 
 pub returns-in-Err-clause-fault : goal.returns-in-Err-clause-fault

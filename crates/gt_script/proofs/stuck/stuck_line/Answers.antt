@@ -1,4 +1,4 @@
-use Rattle.std.proofs.Common.{◌≡◌, ◌∙◌, sym}
+use Rattle.std.proofs.Common.{◌∙◌, sym}
 use Rattle.gt_script.proofs.RoundLemmas.{told-is, none-waits, one-waits, nobody-waits}
 use Rattle.gt_script.proofs.stuck.stuck_line.Goals as goal
 

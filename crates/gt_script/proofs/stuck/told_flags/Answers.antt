@@ -1,4 +1,4 @@
-use Rattle.std.proofs.Common.{◌≡◌, ◌∙◌, sym}
+use Rattle.std.proofs.Common.{◌∙◌}
 use Rattle.gt_script.proofs.RoundLemmas.{closed-told}
 use Rattle.gt_script.proofs.stuck.told_flags.Goals as goal
 

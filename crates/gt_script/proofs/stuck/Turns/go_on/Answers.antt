@@ -1,4 +1,4 @@
-use Rattle.std.proofs.Common.{◌≡◌, ◌≤◌, ◌∙◌, ℕ, arith, refl, sym}
+use Rattle.std.proofs.Common.{◌∙◌, arith, refl, sym}
 use Rattle.gt_script.proofs.RoundLemmas.{way-start, way-own, way-other, below-at, stops-at, goes-to-end}
 use Rattle.gt_script.proofs.stuck.Turns.go_on.Goals.{then-is_own+else-is_waiting, else-is_own}
 use Rattle.gt_script.proofs.stuck.Turns.go_on.Goals as goal

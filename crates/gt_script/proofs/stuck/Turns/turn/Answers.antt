@@ -1,4 +1,4 @@
-use Rattle.std.proofs.Common.{◌≡◌, ◌∙◌, refl, arith}
+use Rattle.std.proofs.Common.{◌∙◌}
 use Rattle.std.proofs.lemmas.List.{length-set}
 use Rattle.gt_script.proofs.RoundLemmas.{turn-start, turn-more, numbered-more, come-here}
 use Rattle.gt_script.proofs.stuck.Turns.turn.Goals as goal
