@@ -229,17 +229,17 @@ impl Domain {
     }
 
     // Drives an open call to its end.
-    fn drive<P: Allows>(&mut self, monitor: &Monitor<P>, call: Call) -> Finished
+    fn drive<P: Allows>(&mut self, monitor: &Monitor<P>, call: &mut Call) -> Finished
         requires mine { IsOf P.may monitor.now self.old }
-        requires opened { IsOpened (known P.may monitor.now self.old) self.old.seat.dom call }
-        requires waits { WaitsForNobody call.request }
+        requires opened { IsOpened (known P.may monitor.now self.old) self.old.seat.dom call.old }
+        requires waits { WaitsForNobody call.old.request }
         ensures kept { IsUnsettled self.old self.new }
         ensures called { Called monitor.now.words.layout
-            (path (known P.may monitor.now self.old) self.old.seat.dom call.request)
+            (path (known P.may monitor.now self.old) self.old.seat.dom call.old.request)
             result.verdict self.old.seat.view self.new.seat.view }
         ensures leaves { Leaves (known P.may monitor.now self.old) monitor.now.words.layout
-            self.old.seat.dom call.request self.old.seat.view self.new.seat.view result.effect }
-        ensures answers { Answers result.effect result.verdict × IsAnswerTo call.request result.verdict }
+            self.old.seat.dom call.old.request self.old.seat.view self.new.seat.view result.effect }
+        ensures answers { Answers result.effect result.verdict × IsAnswerTo call.old.request result.verdict }
     {
         let known = Known {
             config: &monitor.config,
@@ -252,18 +252,18 @@ impl Domain {
     }
 
     // Drives an open call to its end, and keeps what it did.
-    fn run<P: Allows>(&mut self, monitor: &Monitor<P>, call: Call) -> Answer
+    fn run<P: Allows>(&mut self, monitor: &Monitor<P>, call: &mut Call) -> Answer
         requires mine { IsOf P.may monitor.now self.old }
-        requires opened { IsOpened (known P.may monitor.now self.old) self.old.seat.dom call }
-        requires waits { WaitsForNobody call.request }
-        requires room { HasRoomFor call.request self.old.mappings }
+        requires opened { IsOpened (known P.may monitor.now self.old) self.old.seat.dom call.old }
+        requires waits { WaitsForNobody call.old.request }
+        requires room { HasRoomFor call.old.request self.old.mappings }
         ensures mine { IsOf P.may monitor.now self.new }
         ensures seat { IsSameSeat self.old.seat self.new.seat }
         ensures called { Called monitor.now.words.layout
-            (path (known P.may monitor.now self.old) self.old.seat.dom call.request)
+            (path (known P.may monitor.now self.old) self.old.seat.dom call.old.request)
             result.verdict self.old.seat.view self.new.seat.view }
-        ensures answer { IsAnswerTo call.request result.verdict }
-        ensures settled { Settles call.request result.verdict result.handle self.old self.new }
+        ensures answer { IsAnswerTo call.old.request result.verdict }
+        ensures settled { Settles call.old.request result.verdict result.handle self.old self.new }
         ensures silent { self.new.trail ≡ self.old.trail }
     {
         let finished = self.drive(monitor, call);
@@ -314,7 +314,7 @@ impl Domain {
     {
         match self.begin(monitor, request) {
             Start::Done(verdict) => verdict,
-            Start::Open(call) => self.run(monitor, call).verdict,
+            Start::Open(mut call) => self.run(monitor, &mut call).verdict,
         }
     }
 
@@ -541,14 +541,14 @@ impl Domain {
         ensures answered { MapAnswered P.may monitor.now self.old (Request.Map dom gref flags) result self.new }
         ensures silent { self.new.trail ≡ self.old.trail }
     {
-        let call = match self.begin(monitor, Request::Map { dom, gref, flags }) {
+        let mut call = match self.begin(monitor, Request::Map { dom, gref, flags }) {
             Start::Done(verdict) => return mapped(verdict, None),
             Start::Open(call) => call,
         };
         if self.mappings.reserve().is_err() {
             return Err(Denial::new(Rule::N26, Facts::None));
         }
-        let answer = self.run(monitor, call);
+        let answer = self.run(monitor, &mut call);
         mapped(answer.verdict, answer.handle)
     }
 

@@ -64,13 +64,13 @@ fn header_with(version: u32, frames: u32) -> Header
 }
 
 // Makes a step of a call on the words.
-fn perform(words: &Words, seat: &mut Seat, step: Step) -> Seen
+fn perform(words: &Words, seat: &mut Seat, step: &Step) -> Seen
     requires seat { IsSeatOf words.now seat.old }
-    requires can { CanMake words.now.layout seat.old.view step }
+    requires can { CanMake words.now.layout seat.old.view step.now }
     ensures seat { IsSameSeat seat.old seat.new }
-    ensures made { Made words.now.layout step result seat.old.view seat.new.view }
+    ensures made { Made words.now.layout step.now result seat.old.view seat.new.view }
 {
-    match step {
+    match *step {
         Step::LookHeader { dom } => Seen::Word(words.load_header(seat, dom)),
         Step::LookControl { dom, gref } => Seen::Word(words.load_control(seat, dom, gref)),
         Step::LookBody { dom, gref, half } => Seen::Word(words.load_body(seat, dom, gref, half)),
@@ -124,22 +124,24 @@ fn exchange(words: &Words, seat: &mut Seat, gref: GrantRef, looked: u64, change:
     }
 }
 
-// What a step that saw this did.
-fn effect_of(step: Step, seen: Seen) -> Effect
-    ensures { result ≡ effect_of step seen }
+// Tells what a step that saw this did.
+fn tell_effect(step: &Step, seen: Seen, effect: &mut Effect)
+    ensures { effect.new ≡ effect_of step.now seen }
 {
     match (step, seen) {
-        (Step::Pin { held }, Seen::Taken) => Effect::Pinned(held),
+        (Step::Pin { held }, Seen::Taken) => *effect = Effect::Pinned(*held),
         (
             Step::Unpin {
                 holder: Holder::Mapping(handle),
                 ..
             },
             _,
-        ) => Effect::Unpinned(handle),
-        (Step::Exchange { gref, change, .. }, Seen::Taken) => Effect::Changed(gref, change),
-        (Step::StoreHeader { .. }, _) => Effect::Stored,
-        _ => Effect::Nothing,
+        ) => *effect = Effect::Unpinned(*handle),
+        (Step::Exchange { gref, change, .. }, Seen::Taken) => {
+            *effect = Effect::Changed(*gref, *change);
+        }
+        (Step::StoreHeader { .. }, _) => *effect = Effect::Stored,
+        _ => *effect = Effect::Nothing,
     }
 }
 
@@ -148,30 +150,34 @@ pub(crate) fn drive<P: Allows>(
     words: &Words,
     known: &Known<'_, P>,
     seat: &mut Seat,
-    begun: Call,
+    call: &mut Call,
 ) -> Finished
     requires seat { IsSeatOf words.now seat.old }
-    requires fresh { IsFresh (knows P.may known.now) begun }
-    requires steps { MakesStep (path (knows P.may known.now) begun.caller begun.request []) }
-    requires knows { Knows (knows P.may known.now) words.now.layout begun.caller seat.old.view }
-    requires waits { WaitsForNobody begun.request }
+    requires fresh { IsFresh (knows P.may known.now) call.old }
+    requires steps { MakesStep (path (knows P.may known.now) call.old.caller call.old.request []) }
+    requires knows { Knows (knows P.may known.now) words.now.layout call.old.caller seat.old.view }
+    requires waits { WaitsForNobody call.old.request }
     ensures seat { IsSameSeat seat.old seat.new }
     ensures called { Called words.now.layout
-        (path (knows P.may known.now) begun.caller begun.request)
+        (path (knows P.may known.now) call.old.caller call.old.request)
         result.verdict seat.old.view seat.new.view }
     ensures leaves { Leaves (knows P.may known.now) words.now.layout
-        begun.caller begun.request seat.old.view seat.new.view result.effect }
-    ensures answers { Answers result.effect result.verdict × IsAnswerTo begun.request result.verdict }
+        call.old.caller call.old.request seat.old.view seat.new.view result.effect }
+    ensures answers { Answers result.effect result.verdict × IsAnswerTo call.old.request result.verdict }
 {
-    let mut call = begun;
     let mut effect = Effect::Nothing;
     let mut action = call.next(known, Seen::Nothing);
     'steps: loop {
-        match action {
-            Action::Done(verdict) => return Finished { verdict, effect },
+        match &action {
+            Action::Done(verdict) => {
+                return Finished {
+                    verdict: *verdict,
+                    effect,
+                };
+            }
             Action::Step(step) => {
                 let seen = perform(words, seat, step);
-                effect = effect_of(step, seen);
+                tell_effect(step, seen, &mut effect);
                 action = call.next(known, seen);
             }
         }
@@ -202,7 +208,7 @@ pub(crate) fn walk<P: Allows>(
                 if let Step::Copy { from, to, len } = step {
                     return Stop::Access { from, to, len };
                 }
-                let seen = perform(words, seat, step);
+                let seen = perform(words, seat, &step);
                 action = call.next(known, seen);
             }
         }
@@ -226,7 +232,7 @@ pub(crate) fn give_back<P: Allows>(
 {
     let mut action = call.next(known, Seen::Nothing);
     'pins: while let Action::Step(step) = action {
-        let seen = perform(words, seat, step);
+        let seen = perform(words, seat, &step);
         action = call.next(known, seen);
     }
 }

@@ -13,7 +13,7 @@ use Rattle.gt_live.proofs.driving.drive.Goals as goal
 pub returns-in-Done : goal.returns-in-Done
 returns-in-Done g c =
     let known = knows g.P.Allows.may c.args.known.now in let k = c.args.words.now.layout in let inv = c.steps.invariant in
-    let e = ends known k c.steps.effect c.args.seat.now.view c.steps.seat.view c.steps.call c.in-Done.verdict c.args.begun.caller c.args.begun.request
+    let e = ends known k c.steps.effect c.args.seat.now.view c.steps.seat.view c.steps.call c.in-Done.verdict c.args.call.now.caller c.args.call.now.request
     (subst (λ (a : Asked). WaitsForNobody a) (sym inv.request) c.requires.waits)
     (subst (λ (a : Action). Going known k c.steps.effect c.args.seat.now.view c.steps.seat.view c.steps.call a) c.in-Done.is inv.going) inv.caller inv.request in
     record { seat = inv.same; called = e.called; leaves = e.left; answers = e.answers }
@@ -26,7 +26,7 @@ steps-init g c =
       same = same_seat-self c.args.seat.now;
       caller = e.caller;
       request = e.request;
-      going = begins known k c.args.seat.now.view c.args.begun c.next-action.new.self c.next-action.result c.requires.fresh c.requires.steps e.caller e.request e.goes;
+      going = begins known k c.args.seat.now.view c.args.call.now c.next-action.new.self c.next-action.result c.requires.fresh c.requires.steps e.caller e.request e.goes;
     }
 
 pub perform-seen-requires-clause-can : goal.perform-seen-requires-clause-can
@@ -56,5 +56,5 @@ steps-preserved g c =
       same = same_seat-then c.args.seat.now c.steps.seat c.perform-seen.new.seat inv.same c.perform-seen.ensures.seat;
       caller = e.caller ∙ inv.caller;
       request = e.request ∙ inv.request;
-      going = subst (λ (x : Effect). Going known k x c.args.seat.now.view c.perform-seen.new.seat.view c.next-action-in-Step.new.self c.next-action-in-Step.result) (sym c.effect_of-effect.ensures) on.0;
+      going = subst (λ (x : Effect). Going known k x c.args.seat.now.view c.perform-seen.new.seat.view c.next-action-in-Step.new.self c.next-action-in-Step.result) (sym c.tell_effect.ensures) on.0;
     }

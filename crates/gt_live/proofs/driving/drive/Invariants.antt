@@ -9,8 +9,8 @@ abbrev pub invariant-steps : goal.invariant-steps
 invariant-steps g l = record {
   seat : IsSeatOf l.words l.seat;
   same : IsSameSeat l.fn.seat l.seat;
-  caller : l.call.caller ≡ l.fn.begun.caller;
-  request : l.call.request ≡ l.fn.begun.request;
+  caller : l.call.caller ≡ l.fn.call.caller;
+  request : l.call.request ≡ l.fn.call.request;
   going : Going (knows g.P.Allows.may l.known) l.words.layout l.effect l.fn.seat.view l.seat.view l.call l.action;
 }
 
