@@ -1,6 +1,7 @@
 -- From the plan of a command line, or its refusal, to what the line comes to.
 use Rattle.std.specs.Borrow.{Bor}
 use Rattle.std.proofs.Common.{◌≡◌, ◌⊎◌, ◌∙◌, ℕ, ◌≤◌, Bool, List, Option, None, Some, option_map, Result, Ok, Err, IfSome, refl, sym, subst, ap, inl, inr, arith}
+use Rattle.std.specs.Io.KnownBytes.{Keeps}
 use Rattle.clap.specs.Kinds.{HasKind}
 use Rattle.clap.specs.Words.{kind_of}
 use Rattle.clap.specs.declared.error.Error.{Error}
@@ -21,9 +22,9 @@ runs : (known old new : Option (List ℕ)) (work : Work) (r : Result (Unit {0}) 
 runs None old new work r status ran is = tt
 runs (Some bytes) old new work r status ran is = (r, is, inl ran)
 
-no_memory : (known old new : Option (List ℕ)) (work : Work) (status : ℕ) → status ≡ 1 → Works work known old new status
-no_memory None old new work status is = tt
-no_memory (Some bytes) old new work status is = (Err failures.Memory, is, inr refl)
+no_memory : (known old new : Option (List ℕ)) (work : Work) (status : ℕ) → status ≡ 1 → Keeps old new → Works work known old new status
+no_memory None old new work status is kept = tt
+no_memory (Some bytes) old new work status is kept = (Err failures.Memory, is, inr (refl, kept))
 
 -- the work on the text that is named was done
 pub worked : (name : Option (Bor (List ℕ))) (file : List ℕ → Option (List ℕ)) (input old new : Option (List ℕ)) (work : Work) (r : Result (Unit {0}) Failure) (status : ℕ)
@@ -43,22 +44,25 @@ done for_help file input old new p status plan obeys = absurd plan
 done for_version file input old new p status plan obeys = absurd plan
 done nothing file input old new p status plan obeys = absurd plan
 
-wrong : (kind other : ErrorKind) (status : ℕ) → FitsKind kind status → kind ≡ other → (other ≡ OutOfMemory → ⊥) → (other ≡ DisplayHelp → ⊥) → (other ≡ DisplayVersion → ⊥) → status ≡ 2
-wrong kind other status fits is memory help version =
+silent : (kind other : ErrorKind) (old new : Option (List ℕ)) (status : ℕ) → FitsKind kind old new status → kind ≡ other → (other ≡ DisplayHelp → ⊥) → (other ≡ DisplayVersion → ⊥) → Keeps old new
+silent kind other old new status fits is help version = fits.silent (λ (e : kind ≡ DisplayHelp). help (sym is ∙ e)) (λ (e : kind ≡ DisplayVersion). version (sym is ∙ e))
+
+wrong : (kind other : ErrorKind) (old new : Option (List ℕ)) (status : ℕ) → FitsKind kind old new status → kind ≡ other → (other ≡ OutOfMemory → ⊥) → (other ≡ DisplayHelp → ⊥) → (other ≡ DisplayVersion → ⊥) → status ≡ 2
+wrong kind other old new status fits is memory help version =
     fits.wrong (λ (e : kind ≡ OutOfMemory). memory (sym is ∙ e)) (λ (e : kind ≡ DisplayHelp). help (sym is ∙ e)) (λ (e : kind ≡ DisplayVersion). version (sym is ∙ e))
 
 -- want of memory
-out_of_memory : (mode : Mode) (audited : Bool) (name : Option (List ℕ)) (file : List ℕ → Option (List ℕ)) (input old new : Option (List ℕ)) (status : ℕ) → status ≡ 1
+out_of_memory : (mode : Mode) (audited : Bool) (name : Option (List ℕ)) (file : List ℕ → Option (List ℕ)) (input old new : Option (List ℕ)) (status : ℕ) → status ≡ 1 → Keeps old new
     → Obeys (to_do mode audited name) file input old new status
-out_of_memory modes.Play audited name file input old new status is = no_memory (known_text file input name) old new (Play audited) status is
-out_of_memory modes.Policy audited name file input old new status is = no_memory (known_text file input name) old new ListPolicy status is
-out_of_memory modes.Run audited name file input old new status is = omega arith
-out_of_memory modes.Rules audited name file input old new status is = omega arith
+out_of_memory modes.Play audited name file input old new status is kept = no_memory (known_text file input name) old new (Play audited) status is kept
+out_of_memory modes.Policy audited name file input old new status is kept = no_memory (known_text file input name) old new ListPolicy status is kept
+out_of_memory modes.Run audited name file input old new status is kept = omega arith
+out_of_memory modes.Rules audited name file input old new status is kept = omega arith
 
 -- it was refused
-pub refused : (request : Request) (file : List ℕ → Option (List ℕ)) (input old new : Option (List ℕ)) (error : Error) (status : ℕ) → HasKind (refusals request) error → FitsKind (kind_of error) status
+pub refused : (request : Request) (file : List ℕ → Option (List ℕ)) (input old new : Option (List ℕ)) (error : Error) (status : ℕ) → HasKind (refusals request) error → FitsKind (kind_of error) old new status
     → Obeys request file input old new status
-refused (to_do mode audited name) file input old new error status (inl memory) fits = out_of_memory mode audited name file input old new status (fits.memory memory)
+refused (to_do mode audited name) file input old new error status (inl memory) fits = out_of_memory mode audited name file input old new status (fits.memory memory) (silent _ OutOfMemory old new status fits memory (λ q. cc) (λ q. cc))
 refused (to_do mode audited name) file input old new error status (inr none) fits = absurd none
 refused for_help file input old new error status (inl memory) fits = let e = fits.memory memory in omega arith
 refused for_help file input old new error status (inr (inl help)) fits = fits.help help
@@ -66,10 +70,10 @@ refused for_help file input old new error status (inr (inr none)) fits = absurd 
 refused for_version file input old new error status (inl memory) fits = let e = fits.memory memory in omega arith
 refused for_version file input old new error status (inr (inl version)) fits = fits.version version
 refused for_version file input old new error status (inr (inr none)) fits = absurd none
-refused nothing file input old new error status (inl memory) fits = inr (fits.memory memory)
-refused nothing file input old new error status (inr (inl e)) fits = inl (wrong _ UnknownArgument status fits e (λ q. cc) (λ q. cc) (λ q. cc))
-refused nothing file input old new error status (inr (inr (inl e))) fits = inl (wrong _ InvalidSubcommand status fits e (λ q. cc) (λ q. cc) (λ q. cc))
-refused nothing file input old new error status (inr (inr (inr (inl e)))) fits = inl (wrong _ MissingSubcommand status fits e (λ q. cc) (λ q. cc) (λ q. cc))
-refused nothing file input old new error status (inr (inr (inr (inr (inl e))))) fits = inl (wrong _ TooManyValues status fits e (λ q. cc) (λ q. cc) (λ q. cc))
-refused nothing file input old new error status (inr (inr (inr (inr (inr (inl e)))))) fits = inl (wrong _ ArgumentConflict status fits e (λ q. cc) (λ q. cc) (λ q. cc))
+refused nothing file input old new error status (inl memory) fits = (inr (fits.memory memory), silent _ OutOfMemory old new status fits memory (λ q. cc) (λ q. cc))
+refused nothing file input old new error status (inr (inl e)) fits = (inl (wrong _ UnknownArgument old new status fits e (λ q. cc) (λ q. cc) (λ q. cc)), silent _ UnknownArgument old new status fits e (λ q. cc) (λ q. cc))
+refused nothing file input old new error status (inr (inr (inl e))) fits = (inl (wrong _ InvalidSubcommand old new status fits e (λ q. cc) (λ q. cc) (λ q. cc)), silent _ InvalidSubcommand old new status fits e (λ q. cc) (λ q. cc))
+refused nothing file input old new error status (inr (inr (inr (inl e)))) fits = (inl (wrong _ MissingSubcommand old new status fits e (λ q. cc) (λ q. cc) (λ q. cc)), silent _ MissingSubcommand old new status fits e (λ q. cc) (λ q. cc))
+refused nothing file input old new error status (inr (inr (inr (inr (inl e))))) fits = (inl (wrong _ TooManyValues old new status fits e (λ q. cc) (λ q. cc) (λ q. cc)), silent _ TooManyValues old new status fits e (λ q. cc) (λ q. cc))
+refused nothing file input old new error status (inr (inr (inr (inr (inr (inl e)))))) fits = (inl (wrong _ ArgumentConflict old new status fits e (λ q. cc) (λ q. cc) (λ q. cc)), silent _ ArgumentConflict old new status fits e (λ q. cc) (λ q. cc))
 refused nothing file input old new error status (inr (inr (inr (inr (inr (inr none)))))) fits = absurd none

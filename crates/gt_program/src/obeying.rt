@@ -91,7 +91,7 @@ fn show_help<W: Write, E: Eprint>(out: &mut W, err: &E, help: &Error) -> u8
 
 // Tells why a command line is not obeyed, or writes the help or the version that it asks for.
 fn refuse<W: Write, E: Eprint>(out: &mut W, err: &E, error: &Error) -> u8
-    ensures { FitsKind (kind_of error.now) result }
+    ensures { FitsKind (kind_of error.now) (W.contents out.old) (W.contents out.new) result }
 {
     if error.kind() == ErrorKind::OutOfMemory {
         return report(err, Err(Failure::Memory));

@@ -5,4 +5,4 @@ pub returns-in-Ok : goal.returns-in-Ok
 returns-in-Ok g c = done _ _ _ _ _ c.in-Ok.invocation _ c.in-Ok.ensures.answers c.follow.ensures
 
 pub returns-in-Err : goal.returns-in-Err
-returns-in-Err g c = refused _ _ _ _ _ c.in-Err.error _ c.in-Err.ensures.answers (record { memory = c.refuse.ensures.memory; help = c.refuse.ensures.help; version = c.refuse.ensures.version; wrong = c.refuse.ensures.wrong })
+returns-in-Err g c = refused _ _ _ _ _ c.in-Err.error _ c.in-Err.ensures.answers (record { memory = c.refuse.ensures.memory; help = c.refuse.ensures.help; version = c.refuse.ensures.version; wrong = c.refuse.ensures.wrong; silent = c.refuse.ensures.silent })

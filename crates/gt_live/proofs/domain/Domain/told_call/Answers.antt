@@ -17,5 +17,5 @@ returns-clause-told g c =
     let d = c.args.self.now in let e = c.call-verdict.ensures in let new = c.push.new.self in
     let same : ◌≡◌ {A = Record} (record { dom = c.dom-dom.result; call = c.args.call; reply = c.reply_of-reply.result }) (told_of d c.args.call c.call-verdict.result) =
     ap (λ (x : DomId). record { dom = x; call = c.args.call; reply = c.reply_of-reply.result }) (c.dom-dom.ensures ∙ e.seat.dom)
-    ∙ ap (λ (x : Reply). record { dom = d.seat.dom; call = c.args.call; reply = x }) c.reply_of-reply.ensures in
+    ∙ ap (λ (x : Reply). record { dom = d.seat.dom; call = c.args.call; reply = x }) c.reply_of-reply.ensures.reply in
     subst (λ (t : Telling). Tells t (told_of d c.args.call c.call-verdict.result) new) e.silent (subst (λ (r : Record). Tells c.call-verdict.new.self.trail r new) same c.push.ensures)
