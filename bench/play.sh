@@ -22,7 +22,7 @@ set -euo pipefail
 top="$(cd "$(dirname "${BASH_SOURCE[0]}")/.." && pwd)"
 runs="${1:-5}"
 read -ra priority <<<"${PRIORITY:-}"
-"$top/gthost" --help >/dev/null # proves and builds it, where that is not done yet
+"$top/gthost" policy </dev/null # proves and builds it, where that is not done yet; no policy prints nothing
 program="$top/crates/gthost/out/gthost"
 work="$(mktemp -d)"
 trap 'rm -rf "$work"' EXIT

@@ -12,7 +12,7 @@
 set -euo pipefail
 
 top="$(cd "$(dirname "${BASH_SOURCE[0]}")/.." && pwd)"
-"$top/gthost" --help >/dev/null # proves and builds it, where that is not done yet
+"$top/gthost" policy </dev/null # proves and builds it, where that is not done yet; no policy prints nothing
 program="$top/crates/gthost/out/gthost"
 cd "$top/crates/policy_bench"
 rt run -- make grant 0 > /dev/null 2>&1 # builds it anew, where it has changed
