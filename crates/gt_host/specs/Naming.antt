@@ -12,5 +12,5 @@ abbrev pub AreNamed : Labels → List Named → Type 0
 AreNamed labels named = (dom : ℕ) (label : List ℕ) → handle_in labels dom label ≡ handle_named named dom label
 
 -- the labels name what they named before, and what the answer to this line's call names (own)
-abbrev pub IsNamedOn : Labels → Labels → DomId → Step → Answer → Type 0
-IsNamedOn old new dom s answer = (named : List Named) → AreNamed old named → AreNamed new (named_after named dom s answer)
+abbrev pub NamesMapping : Labels → Labels → DomId → Step → Answer → Type 0
+NamesMapping old new dom s answer = (named : List Named) → AreNamed old named → AreNamed new (named_after named dom s answer)

@@ -1,6 +1,7 @@
 //! What a run prints: a line for each answer.
 ghost use Rattle.std.specs.Prelude.{◌≡◌, ◌++◌, OnOk};
-ghost use Rattle.gt_host.specs.Printing.{bytes_text, answer_text, call_text, answer_line, busy_line, idle_line, open_line};
+ghost use Rattle.gt_host.specs.Printing.{bytes_text, answer_text, call_text, answer_line, busy_line, idle_line};
+ghost use Rattle.gt_host.specs.Printing.{open_line};
 
 use gt_core::Answer;
 use gt_lines::Text;

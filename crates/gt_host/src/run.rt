@@ -6,8 +6,10 @@ ghost use Rattle.gt_types.specs.declared.DomId.{DomId};
 ghost use Rattle.gt_core.specs.History.{History};
 ghost use Rattle.gt_core.specs.Standing.{CoreStands, setting_in};
 ghost use Rattle.gt_host.specs.Printing.{answer_line};
-ghost use Rattle.gt_host.specs.Runs.{Named, entry_of, table_text, access_text, text_said, bytes_said as said_in, table_request, access_request, request_of, handle_of, label_given, label_in, DoLine, BeginLine, TickLine, RunsLine};
-ghost use Rattle.gt_host.specs.Naming.{AreNamed, IsNamedOn};
+ghost use Rattle.gt_host.specs.Runs.{Named, entry_of, table_text, access_text, text_said};
+ghost use Rattle.gt_host.specs.Runs.{bytes_said as said_in, table_request, access_request, request_of};
+ghost use Rattle.gt_host.specs.Runs.{handle_of, label_given, label_in, DoLine, BeginLine, TickLine, RunsLine};
+ghost use Rattle.gt_host.specs.Naming.{AreNamed, NamesMapping};
 ghost use Rattle.gt_host.specs.Ticking.{IsReady, Calls, TicksTo, Leads};
 ghost use Rattle.gt_host.specs.declared.fault.Fault.TheVariants as faults;
 
@@ -230,7 +232,7 @@ fn name_mapping<'a>(
     step: &Step<'a>,
     answer: &Answer,
 ) -> Result<(), AllocError>
-    ensures { OnOk result (IsNamedOn labels.old labels.new dom step.now answer.now) }
+    ensures { OnOk result (NamesMapping labels.old labels.new dom step.now answer.now) }
 {
     match (label_in(&step.action), answer) {
         (Some(label), Answer::Mapped(handle)) => labels.name(dom, label, *handle),
@@ -248,7 +250,7 @@ fn answer_call<'a>(
     answer: &Answer,
     out: &mut Vec<u8>,
 ) -> Result<(), AllocError>
-    ensures named { OnOk result (IsNamedOn labels.old labels.new dom step.now answer.now) }
+    ensures named { OnOk result (NamesMapping labels.old labels.new dom step.now answer.now) }
     ensures line { OnOk result (out.new.items ≡ out.old.items ++ answer_line types.now step.now.line dom answer.now) }
 {
     name_mapping(labels, dom, step, answer)?;

@@ -1,6 +1,7 @@
 //! What a run prints of an entry.
 ghost use Rattle.std.specs.Prelude.{◌≡◌, ◌++◌, OnOk, codes};
-ghost use Rattle.gt_host.specs.Showing.{mode_text, kind_text, part_text, range_text, entry_text, counts_text, status_text, shown_text, show_line};
+ghost use Rattle.gt_host.specs.Showing.{mode_text, kind_text, part_text, range_text, entry_text, counts_text};
+ghost use Rattle.gt_host.specs.Showing.{status_text, shown_text, show_line};
 
 use gt_core::Shown;
 use gt_entry::{Control, Entry, status_word};

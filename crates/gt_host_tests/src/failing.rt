@@ -2,58 +2,11 @@
 use crate::scripts::{
     BYTES, BYTES_TEXT, FIRST, FIRST_TEXT, HEAD, POLICY, POLICY_AUDITED, STEPS, STEPS_TEXT,
 };
+use gt_failing::{FailingReader, FailingWriter};
 use gt_host::{PlayFault as Fault, play};
 use std::alloc::Global;
-use std::io::{self, ErrorKind, Read, Write};
 use std::process::Abort;
 use std::test::Fail;
-
-// A script of which so many bytes can be read; then each read fails.
-#[derive(Drop)]
-struct FailingReader<'a> {
-    bytes: &'a [u8],
-    left: usize,
-}
-
-impl<'a> Read for FailingReader<'a> {
-    fn read(&mut self, buf: &mut [u8]) -> io::Result<usize> {
-        if self.left == 0 {
-            return Err(io::Error::from(ErrorKind::ConnectionReset));
-        }
-        let bytes: &'a [u8] = self.bytes;
-        let count = buf.len().min(bytes.len()).min(self.left);
-        buf[..count].copy_from_slice(&bytes[..count]);
-        self.bytes = &bytes[count..];
-        self.left -= count;
-        Ok(count)
-    }
-}
-
-// Takes so many bytes, a few at a time; then each write fails, and each flush.
-#[derive(Drop)]
-struct FailingWriter {
-    taken: Vec<u8>,
-    left: usize,
-}
-
-impl Write for FailingWriter {
-    fn write(&mut self, buf: &[u8]) -> io::Result<usize> {
-        if self.left == 0 {
-            return Err(io::Error::from(ErrorKind::BrokenPipe));
-        }
-        let count = buf.len().min(self.left).min(3);
-        self.taken.extend_from_slice(&buf[..count])?;
-        self.left -= count;
-        Ok(count)
-    }
-
-    fn flush(&mut self) -> io::Result<()> {
-        if self.left == 0 {
-            return Err(io::Error::from(ErrorKind::BrokenPipe));
-        }
-        Ok(())
-    }
-}
 
 // Each read fails after so many bytes, for each number of them.
 #[test]
@@ -61,10 +14,7 @@ fn a_reader_that_fails(rt: HostRuntime) -> Result<(), Fail> {
     let alloc = rt.alloc();
     for script in [FIRST.as_bytes(), BYTES.as_bytes()] {
         for left in 0..script.len() {
-            let mut reader = FailingReader {
-                bytes: script,
-                left,
-            };
+            let mut reader = FailingReader::new(script, left);
             let mut writer = Vec::new(alloc);
             let outcome = play(alloc, &mut reader, &mut writer, false);
             let is_read = matches!(outcome, Err(Fault::Read)) && writer.is_empty();
@@ -82,10 +32,7 @@ fn a_writer_that_fails(rt: HostRuntime) -> Result<(), Fail> {
         for left in 0..text.len() + 2 {
             let is_short = left <= text.len();
             let mut reader = script.as_bytes();
-            let mut writer = FailingWriter {
-                taken: Vec::new(alloc),
-                left,
-            };
+            let mut writer = FailingWriter::new(Vec::new(alloc), left);
             let outcome = play(alloc, &mut reader, &mut writer, false);
             let is_told = match outcome {
                 Ok(()) => !is_short,
@@ -112,7 +59,7 @@ fn refused_at_most_once(
         Ok(taken) => taken,
         Err(_) => Vec::with_capacity(alloc, 4096)?,
     };
-    let mut writer = FailingWriter { taken, left: 4096 };
+    let mut writer = FailingWriter::new(taken, 4096);
     match play(alloc, &mut reader, &mut writer, audit) {
         Ok(()) => assert_eq!(rt; writer.taken.as_slice(), text),
         Err(fault) => {

@@ -7,7 +7,6 @@ use Rattle.std.proofs.lemmas.List.Folds.{flat_map-map}
 use Rattle.std.specs.Io.KnownBytes.{Appends}
 use Rattle.gt_types.specs.declared.TypeId.{TypeId}
 use Rattle.gt_types.specs.declared.perms.Perms.{Perms}
-use Rattle.gt_types.specs.declared.rights.Triple.{Triple}
 use Rattle.gt_types.specs.Names.{every_permission}
 use Rattle.gt_listing.specs.Listing.{line_of, pair_triples, triples_of, is_one, listing}
 use Rattle.gt_listing.specs.Lines.{triple_text, pair_text, source_text}

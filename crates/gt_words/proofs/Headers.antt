@@ -9,6 +9,7 @@ use Rattle.atomic_table.specs.Table.{State, Me, step, stepped, keeps, Allows}
 use Rattle.atomic_table.proofs.Lists.{at_set, set_again, at_map}
 use Rattle.gt_words.proofs.Lists.{whose_at, whose_here}
 use Rattle.gt_words.proofs.Kept.{header_keeps, header_keeps_pins, header_keeps_rows, header_sees}
+use Rattle.gt_words.proofs.Lifts.{still_dealt, still_seated}
 use Rattle.gt_words.proofs.Owed.{stored_owes}
 use Rattle.gt_entry.specs.Laws.{header-round}
 use Rattle.gt_entry.specs.Words.{header_of, header_word, size_of}
@@ -108,14 +109,8 @@ module _ {S : Type 0} (k : Layout) (s : State S View) (id : ℕ) (v : View) (t :
     shows_header : (y : ℕ) → t < k.domains → HeaderByOwner id t m → Finds m (shown_header k t s) → y ≡ header_after m (shown_header k t s) → IsHeader y → Shows k (stepped s (header_place t) y id [] w keeps)
     shows_header y tn own finds is ok = record {
       wide = length-set s.words (header_place t) y ∙ shown.wide;
-      dealt = (
-        (λ u e. ⊎_elim (λ (q : (0 ≡ id) × (w ≡ u)). ap (λ (z : View). z.dealt) (sym q.1) ∙ (shown.dealt.0 v (subst (λ (z : ℕ). get_elem? s.views z ≡ some v) (sym q.0) at) ∙ sym (length-set s.views id w)))
-            (λ (q : (0 ≢ id) × (get_elem? s.views 0 ≡ some u)). shown.dealt.0 u q.1 ∙ sym (length-set s.views id w)) (at_set s.views id 0 w u e)),
-        (let z = length-set s.views id w in let a = shown.dealt.1 in omega arith),
-        (let z = length-set s.views id w in let a = shown.dealt.2 in omega arith),
-      );
-      seats = λ i u e. ⊎_elim (λ (q : (i ≡ id) × (w ≡ u)). let z = shown.seats id v at in (ap (λ (x : View). x.position) (sym q.1) ∙ (z.0 ∙ sym q.0), ap (λ (x : View). x.first) (sym q.1) ∙ z.1, ap (λ (x : View). x.headers) (sym q.1) ∙ z.2))
-          (λ (q : (i ≢ id) × (get_elem? s.views i ≡ some u)). shown.seats i u q.1) (at_set s.views id i w u e);
+      dealt = still_dealt k s id v (on_header t m) shown at;
+      seats = still_seated k s id v (on_header t m) shown at;
       entries = λ u r un rn. let p : (j : ℕ) → j < 3 → get_or s.words (place u r j) 0 ≡ get_or (set s.words (header_place t) y) (place u r j) 0 = λ j jn. sym (get_or-set_other s.words (header_place t) (place u r j) y 0 (λ e. omega arith)) in
           let p0 = p 0 (omega arith) in let p1 = p 1 (omega arith) in let p2 = p 2 (omega arith) in let q = sym (map_entry u r) in
           subst (λ (z : ℕ × ℕ × ℕ × List (List EntryStep)). ShowsEntry k.first u z.0 z.1 z.2 z.3) (λ i. (p0 i, p1 i, p2 i, q i)) (shown.entries u r un rn);

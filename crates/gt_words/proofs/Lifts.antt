@@ -1,6 +1,6 @@
 -- A step on one entry keeps the rule of the table, where it keeps the rule of that entry.
 use Rattle.gt_words.specs.declared.board.TheConstants.{DOMAIN_WORDS}
-use Rattle.std.proofs.Common.{◌≡◌, ◌≢◌, ⊎_elim, ℕ, ◌*◌, ◌<◌, Bool, true, false, cond, ◌==◌, ◌&&◌, List, [], ◌∷◌, map, get_or, set, sym, refl, ap, ◌∙◌, subst, arith, length-set, get_or-set_other, eq-eqb, ne_eqb}
+use Rattle.std.proofs.Common.{◌≡◌, ◌≢◌, ⊎_elim, ℕ, ◌*◌, ◌<◌, ◌≤◌, Bool, true, false, cond, ◌==◌, ◌&&◌, List, [], ◌∷◌, map, get_or, set, length, sym, refl, ap, ◌∙◌, subst, arith, length-set, get_or-set_other, eq-eqb, ne_eqb}
 use mathlib.Core.Option.{some}
 use mathlib.Core.Logic.{dite}
 use native.Mathlib.Decide.{ℕ_discrete}
@@ -12,6 +12,7 @@ use Rattle.gt_words.specs.Rule.{IsHeader, Layout, SawHeaders, Shows, ShowsEntry,
 use Rattle.gt_words.specs.Steps.{on_entry}
 use Rattle.gt_words.specs.Views.{steps_on, steps_on_header, with_step}
 use Rattle.gt_words.specs.declared.view.EntryStep.{EntryStep}
+use Rattle.gt_words.specs.declared.view.SeatStep.{SeatStep}
 use Rattle.gt_words.specs.declared.view.View.{View}
 use Rattle.gt_types.specs.declared.limits.TheConstants.{TABLE_ENTRIES}
 
@@ -43,6 +44,21 @@ module _ {S : Type 0} (s : State S View) (id : ℕ) (v : View) (t r : ℕ) (m : 
   map_else t' r' n = map-set (steps_on t' r') s.views id (added t r m v) ∙ (ap (set (map (steps_on t' r') s.views) id) (steps_on-added-else t r m v t' r' n)
       ∙ set_again (map (steps_on t' r') s.views) id (steps_on t' r' v) (at_map (steps_on t' r') s.views id v at))
 
+-- a seat that takes a step is still dealt by the first one, and stands where it stood
+module _ {S : Type 0} (k : Layout) (s : State S View) (id : ℕ) (v : View) (m : SeatStep) (shown : Shows k s) (at : get_elem? s.views id ≡ some v) where
+  pub still_dealt : ((u : View) → get_elem? (set s.views id (with_step m v)) 0 ≡ some u → u.dealt ≡ length (set s.views id (with_step m v)))
+      × (length (set s.views id (with_step m v)) ≤ k.domains) × (0 < length (set s.views id (with_step m v)))
+  still_dealt = let w : View = with_step m v in (
+    (λ u e. ⊎_elim (λ (q : (0 ≡ id) × (w ≡ u)). ap (λ (z : View). z.dealt) (sym q.1) ∙ (shown.dealt.0 v (subst (λ (z : ℕ). get_elem? s.views z ≡ some v) (sym q.0) at) ∙ sym (length-set s.views id w)))
+        (λ (q : (0 ≢ id) × (get_elem? s.views 0 ≡ some u)). shown.dealt.0 u q.1 ∙ sym (length-set s.views id w)) (at_set s.views id 0 w u e)),
+    (let z = length-set s.views id w in let a = shown.dealt.1 in omega arith),
+    (let z = length-set s.views id w in let a = shown.dealt.2 in omega arith),
+  )
+
+  pub still_seated : (i : ℕ) (u : View) → get_elem? (set s.views id (with_step m v)) i ≡ some u → (u.position ≡ i) × (u.first ≡ k.first) × (u.headers ≡ k.headers)
+  still_seated i u e = let w : View = with_step m v in ⊎_elim (λ (q : (i ≡ id) × (w ≡ u)). let z = shown.seats id v at in (ap (λ (x : View). x.position) (sym q.1) ∙ (z.0 ∙ sym q.0), ap (λ (x : View). x.first) (sym q.1) ∙ z.1, ap (λ (x : View). x.headers) (sym q.1) ∙ z.2))
+      (λ (q : (i ≢ id) × (get_elem? s.views i ≡ some u)). shown.seats i u q.1) (at_set s.views id i w u e)
+
 module _ {S : Type 0} (k : Layout) (s : State S View) (id : ℕ) (v : View) (t r : ℕ) (m : EntryStep) (shown : Shows k s) (at : get_elem? s.views id ≡ some v) where
   -- the words of another entry stay
   stays : (j y t' r' j' : ℕ) → r < TABLE_ENTRIES → r' < TABLE_ENTRIES → j < 3 → j' < 3 → (t ≡ t' → r ≡ r' → ⊥) → get_or (set s.words (place t r j) y) (place t' r' j') 0 ≡ get_or s.words (place t' r' j') 0
@@ -53,14 +69,8 @@ module _ {S : Type 0} (k : Layout) (s : State S View) (id : ℕ) (v : View) (t r
       → Shows k (stepped s (place t r j) y id [] (added t r m v) keeps)
   shows_step j y tn rn jn entries = let w : View = added t r m v in let ws : List ℕ = set s.words (place t r j) y in record {
     wide = length-set s.words (place t r j) y ∙ shown.wide;
-    dealt = (
-      (λ u e. ⊎_elim (λ (q : (0 ≡ id) × (w ≡ u)). ap (λ (z : View). z.dealt) (sym q.1) ∙ (shown.dealt.0 v (subst (λ (z : ℕ). get_elem? s.views z ≡ some v) (sym q.0) at) ∙ sym (length-set s.views id w)))
-          (λ (q : (0 ≢ id) × (get_elem? s.views 0 ≡ some u)). shown.dealt.0 u q.1 ∙ sym (length-set s.views id w)) (at_set s.views id 0 w u e)),
-      (let z = length-set s.views id w in let a = shown.dealt.1 in omega arith),
-      (let z = length-set s.views id w in let a = shown.dealt.2 in omega arith),
-    );
-    seats = λ i u e. ⊎_elim (λ (q : (i ≡ id) × (w ≡ u)). let z = shown.seats id v at in (ap (λ (x : View). x.position) (sym q.1) ∙ (z.0 ∙ sym q.0), ap (λ (x : View). x.first) (sym q.1) ∙ z.1, ap (λ (x : View). x.headers) (sym q.1) ∙ z.2))
-        (λ (q : (i ≢ id) × (get_elem? s.views i ≡ some u)). shown.seats i u q.1) (at_set s.views id i w u e);
+    dealt = still_dealt k s id v (on_entry t r m) shown at;
+    seats = still_seated k s id v (on_entry t r m) shown at;
     entries = λ t' r' tn' rn'. dite (ℕ_discrete t t')
         (λ e. dite (ℕ_discrete r r') (λ f. subst (λ (z : ℕ × ℕ). ShowsEntry k.first z.0 (get_or ws (place z.0 z.1 0) 0) (get_or ws (place z.0 z.1 1) 0) (get_or ws (place z.0 z.1 2) 0) (map (steps_on z.0 z.1) (set s.views id w))) (λ i. (e i, f i))
         (subst (ShowsEntry k.first t (get_or ws (place t r 0) 0) (get_or ws (place t r 1) 0) (get_or ws (place t r 2) 0)) (sym (map_here s id v t r m at)) entries))

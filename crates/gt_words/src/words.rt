@@ -78,7 +78,10 @@ pub struct Words {
 impl Model for Words {
     ghost Value = { Board };
 
-    ghost view = { λ w. record { table = w.words.table.shared.table_id; layout = layout_of w.words.table.shared.key } };
+    ghost view = { λ w. record {
+      table = w.words.table.shared.table_id;
+      layout = layout_of w.words.table.shared.key;
+    } };
 
     ghost invariant = { λ w. (w.ids.items ≡ (layout_of w.words.table.shared.key).ids)
         × IsWithinLimits w.words.table.shared.key };

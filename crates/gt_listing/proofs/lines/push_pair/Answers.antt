@@ -1,4 +1,4 @@
-use Rattle.std.proofs.Common.{◌≡◌, ◌<◌, ◌∙◌, List, ℕ, length, sym, arith}
+use Rattle.std.proofs.Common.{◌≡◌, ◌∙◌, List, ℕ, length, sym, arith}
 use Rattle.std.proofs.lemmas.List.{append-nil}
 use Rattle.gt_types.specs.Names.{every_permission}
 use Rattle.gt_types.specs.declared.perms.Perms.{Perms}

@@ -3,7 +3,7 @@ use Rattle.gt_allow.specs.Looking.{looks}
 use Rattle.gt_listing.specs.Lines.{source_text}
 use Rattle.gt_listing.proofs.LineLemmas.{begins_listing, finished}
 use Rattle.gt_streams.specs.Laws.{OnErr-all}
-use Rattle.gt_listing.proofs.PieceLemmas.{begins_all, begins_pieces, has_begun, sends_start, sent_all, step_begun, step_sent}
+use Rattle.gt_listing.proofs.PieceLemmas.{begins_all, sends_start, sent_all, step_begun, step_sent}
 use Rattle.gt_listing.proofs.sources.write_sources.Goals as goal
 
 pub sources-init : goal.sources-init

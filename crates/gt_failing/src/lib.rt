@@ -1,0 +1,11 @@
+//! Readers and writers in memory that fail behind so many bytes, for the tests of crates that read and
+//! write.
+//!
+//! It promises nothing beyond the traits, and stands on no other crate.
+#![tactic(auto)]
+
+mod reader;
+mod writer;
+
+pub use reader::FailingReader;
+pub use writer::FailingWriter;

@@ -1,0 +1,78 @@
+//! A writer that fails.
+use std::io::{self, ErrorKind, Write};
+
+/// Takes so many bytes, a few at a time; then each write fails, and each flush.
+#[derive(Drop)]
+pub struct FailingWriter {
+    /// What was written.
+    pub taken: Vec<u8>,
+    left: usize,
+    most: usize,
+    interrupts: bool,
+    is_interrupted: bool,
+    end: Option<ErrorKind>,
+}
+
+impl FailingWriter {
+    /// Takes `left` bytes behind those of `taken`, three at a time. Then the pipe is broken.
+    pub fn new(taken: Vec<u8>, left: usize) -> FailingWriter {
+        FailingWriter {
+            taken,
+            left,
+            most: 3,
+            interrupts: false,
+            is_interrupted: false,
+            end: Some(ErrorKind::BrokenPipe),
+        }
+    }
+
+    /// Takes `left` bytes, at most `most` a write, with an interruption before each write. Then each
+    /// write fails as `end` says, or takes nothing.
+    pub fn interrupted(
+        taken: Vec<u8>,
+        left: usize,
+        most: usize,
+        end: Option<ErrorKind>,
+    ) -> FailingWriter {
+        FailingWriter {
+            taken,
+            left,
+            most,
+            interrupts: true,
+            is_interrupted: false,
+            end,
+        }
+    }
+
+    // The end, where it has come.
+    fn is_at_end(&self) -> io::Result<bool> {
+        if self.left != 0 {
+            return Ok(false);
+        }
+        match self.end {
+            Some(kind) => Err(io::Error::from(kind)),
+            None => Ok(true),
+        }
+    }
+}
+
+impl Write for FailingWriter {
+    fn write(&mut self, buf: &[u8]) -> io::Result<usize> {
+        self.is_interrupted = self.interrupts && !self.is_interrupted;
+        if self.is_interrupted {
+            return Err(io::Error::from(ErrorKind::Interrupted));
+        }
+        if self.is_at_end()? {
+            return Ok(0);
+        }
+        let count = buf.len().min(self.left).min(self.most);
+        self.taken.extend_from_slice(&buf[..count])?;
+        self.left -= count;
+        Ok(count)
+    }
+
+    fn flush(&mut self) -> io::Result<()> {
+        self.is_at_end()?;
+        Ok(())
+    }
+}
