@@ -5,29 +5,43 @@
 # words, and the ratios of `live_bench` to the programs in C: the table's lock with its readers in one word, and spread over a
 # word for each thread. Below the table stand the instructions of a round on one thread, as valgrind counts them.
 #
-# `bench/live.sh [RUNS]` makes so many runs of each program by turns (11), and takes from their time that of no rounds.
+# A second table has the loads of bytes: thousands of loads, stores and copies a second, beside a program in C with a mutex
+# for each frame (`live_bytes.c`), without a journal and with one, and the ratio to each. What C loses by its journal is what
+# a journal costs there. `bench/live.sh [RUNS] calls` or `bytes` prints the one table alone.
+#
+# `bench/live.sh [RUNS] [TABLE]` makes so many runs of each program by turns (11), and takes from their time that of no rounds.
 # `PRIORITY='chrt -f 1' bench/live.sh` runs the programs before other work; `bench/live.sh 0` counts instructions alone.
 set -euo pipefail
 
 top="$(cd "$(dirname "${BASH_SOURCE[0]}")/.." && pwd)"
 runs="${1:-11}"
+table="${2:-both}"
 read -ra priority <<<"${PRIORITY:-}"
 work="$(mktemp -d)"
 trap 'rm -rf "$work"' EXIT
 
-for program in live_bench gt_bench; do # proves and builds them, where that is not done yet
+built=(live_bench)
+[ "$table" = bytes ] || built+=(gt_bench)
+for program in "${built[@]}"; do # proves and builds them, where that is not done yet
   (cd "$top/crates/$program" && rt run -- apart 1 0 >/dev/null 2>&1)
   cp "$top/crates/$program/out/$program" "$work/$program"
 done
 "${CC:-clang}" -O2 -pthread -o "$work/counted" "$top/bench/live_tables.c"
 "${CC:-clang}" -O2 -pthread -DSPREAD -o "$work/spread" "$top/bench/live_tables.c"
+"${CC:-clang}" -O2 -pthread -o "$work/plain" "$top/bench/live_bytes.c"
+"${CC:-clang}" -O2 -pthread -DJOURNAL -o "$work/journal" "$top/bench/live_bytes.c"
 
 programs=(live_bench gt_bench counted spread)
+movers=(live_bench plain journal)
 
-# How often each thread of a program does what it does, in a run that is long enough to be timed.
+# How often each thread of a program does what it does, in a run that is long enough to be timed. A journal keeps what is
+# written, so there is no memory for long runs of stores and copies.
 rounds_of() {
-  case "$1" in
-    live_bench) echo 200000 ;;
+  case "$1 $2" in
+    *" load-"* | plain*) echo 500000 ;;
+    *" "*-64) echo 100000 ;;
+    *" "*-4096) echo 10000 ;;
+    live_bench*) echo 200000 ;;
     *) echo 3000000 ;;
   esac
 }
@@ -41,15 +55,16 @@ nanoseconds() {
   echo "$((to - from))"
 }
 
-# The least nanoseconds of a round of each program, times the threads, in the order of the programs.
+# The least nanoseconds of a round of each of these programs, times the threads, in their order.
 least_times() {
-  local program rounds
+  local program rounds load="$1" threads="$2"
+  shift 2
   for _ in $(seq "$runs"); do
-    for program in "${programs[@]}"; do
-      rounds="$(rounds_of "$program")"
-      echo "$program $(nanoseconds "$program" "$1" "$2" 0) $(nanoseconds "$program" "$1" "$2" "$rounds") $rounds"
+    for program in "$@"; do
+      rounds="$(rounds_of "$program" "$load")"
+      echo "$program $(nanoseconds "$program" "$load" "$threads" 0) $(nanoseconds "$program" "$load" "$threads" "$rounds") $rounds"
     done
-  done | awk -v names="${programs[*]}" '
+  done | awk -v names="$*" '
     !($1 in none) || $2 < none[$1] { none[$1] = $2 }
     !($1 in some) || $3 < some[$1] { some[$1] = $3 }
     { rounds[$1] = $4 }
@@ -61,35 +76,60 @@ least_times() {
 
 # One line of the table.
 compare() {
-  least_times "$1" "$2" | awk -v load="$1" -v threads="$2" '{
+  least_times "$1" "$2" "${programs[@]}" | awk -v load="$1" -v threads="$2" '{
     for (i = 1; i <= 4; i++) speed[i] = 2000 * threads / $i
     printf "%-9s %7d %8.1f %8.1f %8.1f %8.1f %8.2f %9.2f %8.2f\n", load, threads, speed[1], speed[2], speed[3], speed[4],
       speed[2] / speed[1], speed[1] / speed[3], speed[1] / speed[4]
   }'
 }
 
-# The instructions of a round on one thread.
+# One line of the table of bytes.
+compare_bytes() {
+  least_times "$1" "$2" "${movers[@]}" | awk -v load="$1" -v threads="$2" '{
+    for (i = 1; i <= 3; i++) speed[i] = 1000000 * threads / $i
+    printf "%-10s %7d %9.0f %9.0f %9.0f %8.2f %9.2f\n", load, threads, speed[1], speed[2], speed[3],
+      speed[1] / speed[2], speed[1] / speed[3]
+  }'
+}
+
+# The instructions of a round of a program on one thread.
 instructions() {
   local none some
-  none="$(counted "$1" 1000)"
-  some="$(counted "$1" 11000)"
-  echo "$1: $(((some - none) / 10000)) instructions a round"
+  none="$(counted "$1" "$2" 1000)"
+  some="$(counted "$1" "$2" 11000)"
+  echo "$(((some - none) / 10000))"
 }
 
 counted() {
   valgrind --tool=cachegrind --cache-sim=no --cachegrind-out-file="$work/cachegrind" --log-file="$work/log" \
-    "$work/$1" apart 1 "$2" >/dev/null
+    "$work/$1" "$2" 1 "$3" >/dev/null
   sed -n 's/.*I *refs: *//p' "$work/log" | tr -d ,
 }
 
-if [ "$runs" -gt 0 ]; then
-  printf '%-9s %7s %8s %8s %8s %8s %8s %9s %8s\n' load threads calls words counted spread words/ /counted /spread
-  for load in apart adjacent; do
-    for threads in 1 2 3 4; do
-      compare "$load" "$threads"
+moves=(load-64 load-4096 store-64 store-4096 copy-64 copy-4096)
+if [ "$table" != bytes ]; then
+  if [ "$runs" -gt 0 ]; then
+    printf '%-9s %7s %8s %8s %8s %8s %8s %9s %8s\n' load threads calls words counted spread words/ /counted /spread
+    for load in apart adjacent; do
+      for threads in 1 2 3 4; do
+        compare "$load" "$threads"
+      done
     done
+  fi
+  for program in "${programs[@]}"; do
+    echo "$program: $(instructions "$program" apart) instructions a round"
   done
 fi
-for program in "${programs[@]}"; do
-  instructions "$program"
-done
+if [ "$table" != calls ]; then
+  if [ "$runs" -gt 0 ]; then
+    printf '%-10s %7s %9s %9s %9s %8s %9s\n' load threads calls C 'C,journal' /C /journal
+    for load in "${moves[@]}"; do
+      for threads in 1 4; do
+        compare_bytes "$load" "$threads"
+      done
+    done
+  fi
+  for load in "${moves[@]}"; do
+    echo "$load: $(for program in "${movers[@]}"; do echo "$program $(instructions "$program" "$load")"; done | paste -sd' ') instructions a round"
+  done
+fi

@@ -23,13 +23,13 @@ pub enum Load {
 }
 
 /// The most threads of a load.
-const MOST: usize = 4;
+pub(crate) const MOST: usize = 4;
 
 /// The domain that grants.
-const OWNER: DomId = DomId(1);
+pub(crate) const OWNER: DomId = DomId(1);
 
 /// The domains that map are this one and those after it.
-const FIRST_MAPPER: u16 = 3;
+pub(crate) const FIRST_MAPPER: u16 = 3;
 
 /// The entry of the first mapper.
 const FIRST: u32 = 64;
@@ -40,8 +40,8 @@ const APART: u32 = 64;
 /// How far they lie apart where they are neighbours.
 const ADJACENT: u32 = 1;
 
-/// Each type may map the pages of each and unmap them.
-const POLICY: &str = "type a_t; allow a_t a_t:grant { map_read unmap };";
+/// Each type may map the pages of each and unmap them, and copy.
+pub(crate) const POLICY: &str = "type a_t; allow a_t a_t:grant { map_read map_write unmap copy };";
 
 /// What a domain does, with the entries that it maps or grants.
 #[derive(Clone, Copy)]
@@ -68,7 +68,7 @@ fn domain(id: u16) -> DomainConfig {
 }
 
 // The owner, one that does nothing, and a domain for each thread.
-fn six_domains(alloc: Global) -> Result<Config, AllocError> {
+pub(crate) fn six_domains(alloc: Global) -> Result<Config, AllocError> {
     let domains = vec![in alloc;
         domain(1),
         domain(2),

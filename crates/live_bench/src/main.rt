@@ -5,22 +5,41 @@
 //! maps an entry of its own, with entries between them or side by side), or `grants` (the first thread is the owner, who
 //! revokes and grants by turns the entries that the others map). What the policy allows is in a compiled table.
 //!
+//! The loads of bytes are `load-64`, `load-4096`, `store-64`, `store-4096`, `copy-64` and `copy-4096`: each thread has a
+//! page of its own that the owner granted to it, and a round is one access of so many bytes, through its mapping or as a
+//! copy by reference to a frame of its own.
+//!
 //! It promises nothing beyond the calls that it makes, and uses `gt_live`. The script `bench/live.sh` runs and times
 //! it beside the bare words and a program in C.
 #![tactic(auto)]
 
+mod bytes;
 mod loads;
 mod running;
 
+use crate::bytes::{Moves, run_moves};
 use crate::loads::{Load, run};
 use anyhow::{Result, bail};
 use std::env;
 
-fn load_of(name: &str) -> Option<Load> {
+/// What the threads do: calls on entries, or accesses of so many bytes.
+#[derive(Clone, Copy)]
+enum Work {
+    Calls(Load),
+    Bytes(Moves, u16),
+}
+
+fn work_of(name: &str) -> Option<Work> {
     match name {
-        "apart" => Some(Load::Apart),
-        "adjacent" => Some(Load::Adjacent),
-        "grants" => Some(Load::Grants),
+        "apart" => Some(Work::Calls(Load::Apart)),
+        "adjacent" => Some(Work::Calls(Load::Adjacent)),
+        "grants" => Some(Work::Calls(Load::Grants)),
+        "load-64" => Some(Work::Bytes(Moves::Loads, 64)),
+        "load-4096" => Some(Work::Bytes(Moves::Loads, 4096)),
+        "store-64" => Some(Work::Bytes(Moves::Stores, 64)),
+        "store-4096" => Some(Work::Bytes(Moves::Stores, 4096)),
+        "copy-64" => Some(Work::Bytes(Moves::Copies, 64)),
+        "copy-4096" => Some(Work::Bytes(Moves::Copies, 4096)),
         _ => None,
     }
 }
@@ -31,12 +50,15 @@ fn main(rt: HostRuntime) -> Result<()> {
     else {
         bail!("wanted: LOAD THREADS ROUNDS");
     };
-    let Some(load) = load_of(name.as_str()) else {
+    let Some(work) = work_of(name.as_str()) else {
         bail!("no such load: {}", name.as_str());
     };
     let threads = threads.as_str().parse::<usize>()?;
     let rounds = rounds.as_str().parse::<u32>()?;
-    let done = run(&rt, rt.alloc(), load, threads, rounds)?;
+    let done = match work {
+        Work::Calls(load) => run(&rt, rt.alloc(), load, threads, rounds)?,
+        Work::Bytes(moves, len) => run_moves(&rt, rt.alloc(), moves, len, threads, rounds)?,
+    };
     println!(rt; "{} {threads} {done}", name.as_str())?;
     Ok(())
 }

@@ -2,11 +2,13 @@
 ghost use Rattle.std.specs.Prelude.{All};
 ghost use Rattle.gt_live.specs.Domains.{IsOf};
 
+use gt_calls::{CopyArgs, Handle};
 use gt_entry::Entry;
 use gt_live::{Domain, Monitor};
 use gt_types::{Allows, DomId, GrantRef, Memory};
 use std::alloc::Global;
 use std::marker::Model;
+use std::sync::Wait;
 
 /// A domain beside its monitor, which leaves the run when it is let go. So a thread can take it.
 pub struct Running<'m, P: Allows> {
@@ -59,7 +61,32 @@ impl<'m, P: Allows> Running<'m, P> {
             Err(_) => false,
         }
     }
+
+    /// Maps an entry for reading and writing, if it is allowed.
+    pub fn map(&mut self, dom: DomId, gref: GrantRef) -> Option<Handle> {
+        self.domain.map(self.monitor, dom, gref, WRITABLE).ok()
+    }
+
+    /// Reads so many bytes through a mapping, and answers whether it did.
+    pub fn load<R: Wait>(&mut self, rt: &R, handle: Handle, len: u16) -> bool {
+        self.domain.load(rt, self.monitor, handle, 0, len).is_ok()
+    }
+
+    /// Writes these bytes through a mapping, and answers whether it did.
+    pub fn store<R: Wait>(&mut self, rt: &R, handle: Handle, bytes: &[u8]) -> bool {
+        self.domain
+            .store(rt, self.monitor, handle, 0, bytes)
+            .is_ok()
+    }
+
+    /// Copies, and answers whether it did.
+    pub fn copy<R: Wait>(&mut self, rt: &R, copy: &CopyArgs) -> bool {
+        self.domain.copy(rt, self.monitor, copy).is_ok()
+    }
 }
+
+// The flags of a map for reading and writing.
+const WRITABLE: u32 = 2;
 
 // The flags of a map for reading.
 const READ_ONLY: u32 = 6;
