@@ -106,7 +106,7 @@ unfoldable pub use Rattle.gt_core.specs.Legal.{looked_at, misses, stood}
 pub use Rattle.gt_core.specs.Rows.{changed_at}
 pub use Rattle.gt_core.specs.Shown.{shown_at}
 pub use Rattle.gt_core.specs.Sight.{body_seen, control_seen, header_seen, sees}
-pub use Rattle.gt_core.specs.Standing.{Agrees, Asks, CallAgrees, CoreStands, Does, DomainsStand, EndsAfter, EndsCopy, FitsAsked, FitsGiven, FitsTable, FitsWord, FramesStand, GivenAgrees, HasLooked, HasRead, IsClean, IsLawful, IsLawfullyHeld, IsShown, LegStands, MappingsAgree, OpenAgrees, Opens, PhaseStands, Settled, SlotAgrees, StateAgrees, WhileSame, answer_with, begun_element, core_of, numbered, phase_refusal, setting_of, ticked_element}
+pub use Rattle.gt_core.specs.Standing.{Agrees, Asks, CallAgrees, CoreStands, Does, DomainsStand, EndsAfter, EndsCopy, FitsAsked, FitsGiven, FitsTable, FitsWord, FramesStand, GivenAgrees, HasLooked, HasRead, IsClean, IsLawful, IsLawfullyHeld, IsShown, LegStands, MappingsAgree, OpenAgrees, Opens, PhaseStands, Settled, SlotAgrees, StateAgrees, WhileSame, answer_with, begun_element, core_of, numbered, phase_refusal, setting_of, ticked_element, Closed, IsRoomFor, Ended, ticked_with}
 pub use Rattle.gt_core.specs.States.{IsLoading, IsMapping, State, asked_in, changed_in, first_state, kept_by, state_of}
 pub use Rattle.gt_core.specs.Subject.{place_of, subject_at}
 pub use Rattle.gt_core.specs.declared.core_state.Begun.{Begun}
