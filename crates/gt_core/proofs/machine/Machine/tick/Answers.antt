@@ -48,7 +48,6 @@ write_bytes-requires g c =
     let written : x ≡ domain = same_Some _ _ (sym here ∙ place-at xs c.args.dom.0 at domain p c.index-2.ensures) in
     subst (λ (z : State). IsAdmitted c.args.self.now.frames z o.call o.step) written (tick-admitted s c.requires.0 xs c.args.self.now.frames c.args.dom at x o p c.index.ensures is c.requires.1)
 
-
 pub settle-answer-requires-clause-under : goal.settle-answer-requires-clause-under
 settle-answer-requires-clause-under g c =
     let xs = c.args.self.now.domains.items in
