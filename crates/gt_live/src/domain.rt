@@ -188,7 +188,6 @@ impl Domain {
     }
 
     // Judges a call at its beginning.
-    #[inline(always)]
     fn begin<P: Allows>(&self, monitor: &Monitor<P>, request: Request<'_>) -> Start
         ensures { Starts (known P.may monitor.now self.now) self.now.seat.dom request.entry result }
     {
