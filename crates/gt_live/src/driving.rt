@@ -63,7 +63,8 @@ fn header_with(version: u32, frames: u32) -> Header
     }
 }
 
-// Makes a step of a call on the words.
+// Makes a step of a call on the words. It stands apart, so that the step is not taken out of its place.
+#[inline(never)]
 fn perform(words: &Words, seat: &mut Seat, step: &Step) -> Seen
     requires seat { IsSeatOf words.now seat.old }
     requires can { CanMake words.now.layout seat.old.view step.now }
@@ -125,6 +126,7 @@ fn exchange(words: &Words, seat: &mut Seat, gref: GrantRef, looked: u64, change:
 }
 
 // Tells what a step that saw this did.
+#[inline(never)]
 fn tell_effect(step: &Step, seen: Seen, effect: &mut Effect)
     ensures { effect.new ≡ effect_of step.now seen }
 {
