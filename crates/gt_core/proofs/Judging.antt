@@ -1,5 +1,5 @@
 -- The refusal that a step leads to is the first rule that stands, and where the call stands then.
-use Rattle.gt_core.proofs.Words.{◌≡◌, ◌+◌, ◌-◌, inl, inr, ℕ, zero, suc, refl, Bool, true, false, List, [], ◌∷◌, Option, Some, None, cond, sym, ap, ◌∙◌, subst, reverse, arith, nat_lt, nat_le, ◌==◌, ◌&&◌, ◌||◌, not, lt-ltb, eqb-true, eq-eqb, true≢false, false≢true, DomId, GrantRef, Rule, N10, N18, N19, Denial, MAX_TRIES, Entry, Invalid, Via, Control, Change, Publish, ToInvalid, ToReadOnly, ToWritable, allows_direction, control_of, MORE_TRIES, Held, Route, Direct, Through, Asked, CopyArgs, ByMapping, Verdict, Step, LookHeader, LookControl, Unpin, StoreBody, StoreHeader, Exchange, ReadBytes, WriteBytes, Seen, Taken, Missed, Action, Makes, Done, Aim, Mapping, Source, Dest, Question, AsksSize, AsksVersion, Phase, Storing, Exchanging, Looking, Changing, Walking, Accessing, Asking, Last, Ending, Leg, LegPhase, AtHeader, Look, Body, Second, Pinning, Relook, LegNext, Going, LegRefused, Pinned, last_first, CallerKnowledge, first, stands, first_look, is_kind, size_of, via_judged, is_dest_granted, Continuation, path, entry_refusal, held_of, rule_of_try, source_pair, dest_pair, end_leg, second_leg, IsFor, IsOnFrom, RestsOnWord, phase_after, action_at, after_leg, leg_after, leg_step, after_miss, after_pin_of, after_source_pin, after_dest_pin, at_dest, where_via, after_store, refused_as, next_to_give, IsTurn, IsQuiet, HasShown, State, History, Setting, word_at, control_at, table_at, entry_at, generation_at, body_at, reads_at, writes_at, known_at, seen_by, legs_at, StepsSoFar, LegNow, misses, is_demote, at_entry, first_at, refusal_in, or_then, PhaseStands, LegStands, Asks, EndsAfter, phase_refusal, numbered}
+use Rattle.gt_core.proofs.Words.{◌≡◌, ◌+◌, ◌-◌, inl, inr, ℕ, zero, suc, refl, Bool, true, false, List, [], ◌∷◌, Option, Some, None, cond, sym, ap, ◌∙◌, subst, reverse, arith, nat_lt, nat_le, ◌==◌, ◌&&◌, ◌||◌, not, lt-ltb, eqb-true, eq-eqb, true≢false, false≢true, DomId, GrantRef, Rule, N10, N18, N19, Denial, MAX_TRIES, Entry, Invalid, Via, Control, Change, Publish, ToInvalid, ToReadOnly, ToWritable, allows_direction, control_of, MORE_TRIES, Held, Route, Direct, Through, Asked, CopyArgs, ByMapping, Verdict, Step, LookHeader, LookControl, Unpin, StoreBody, StoreHeader, Exchange, ReadBytes, WriteBytes, Seen, Taken, Missed, Action, Makes, Done, Aim, Mapping, Source, Dest, Question, AsksSize, AsksVersion, Phase, Storing, Exchanging, Looking, Changing, Walking, Accessing, Asking, Last, Ending, Leg, LegPhase, AtHeader, Look, Body, Second, Pinning, Relook, LegNext, Going, LegRefused, Pinned, last_first, CallerKnowledge, first, stands, first_look, is_kind, size_of, via_judged, is_dest_granted, Continuation, path, entry_refusal, held_of, rule_of_try, source_pair, dest_pair, end_leg, second_leg, IsFor, IsOnFrom, RestsOnWord, phase_after, action_at, after_leg, leg_after, leg_step, after_miss, after_pin_of, after_source_pin, after_dest_pin, at_dest, where_via, after_store, refused_as, next_to_give, IsTurn, IsQuiet, HasShown, State, History, Setting, word_at, control_at, table_at, entry_at, generation_at, body_at, reads_at, writes_at, known_at, seen_by, legs_at, StepsSoFar, LegNow, misses, is_demote, at_entry, first_at, refusal_in, or_then, PhaseStands, LegStands, Asks, EndsAfter, phase_refusal, numbered, header_of, header_word, denial_of, N9, after_look, KindSub, FirstHalf, after_words, SecondHalf, Write, Read, Pins, pins_at}
 use Rattle.gt_types.specs.declared.denial.Rule.TheVariants.{N11, N12, N13, N15}
 use Rattle.gt_entry.specs.declared.control.Kind.TheVariants.{Invalid as KindInvalid, Page as KindPage, Via as KindVia}
 use Rattle.gt_entry.specs.Permits.{is_copying}
@@ -107,28 +107,28 @@ plain-leg k d r Mapping l is = ap is_demote is.of_map
 plain-leg k d r aim l is = ap is_demote is.0
 
 pub not-pinned : (s : Setting) (h : History) (d : DomId) (l : Leg) (at : LegPhase) → TakesNone s h d l at → (p : Held) → leg_after l at (seen_by s h d (leg_step l at)) ≡ Pinned p → ⊥
-not-pinned s h d l AtHeader none p e = by (nat_lt l.gref.0 (size_of (Rattle.gt_entry.specs.Words.header_of (Rattle.gt_entry.specs.Words.header_word (table_at s h l.dom))))) e
+not-pinned s h d l AtHeader none p e = by (nat_lt l.gref.0 (size_of (header_of (header_word (table_at s h l.dom))))) e
   where
-    by : (b : Bool) → cond b (Going (Look MORE_TRIES)) (LegRefused (Rattle.gt_types.specs.Denial.denial_of Rattle.gt_types.specs.declared.denial.Rule.TheVariants.N9 (Rattle.gt_types.specs.declared.denial.Facts.TheVariants.Header l.dom (Rattle.gt_entry.specs.Words.header_word (table_at s h l.dom))))) ≡ Pinned p → ⊥
+    by : (b : Bool) → cond b (Going (Look MORE_TRIES)) (LegRefused (denial_of N9 (Rattle.gt_types.specs.declared.denial.Facts.TheVariants.Header l.dom (header_word (table_at s h l.dom))))) ≡ Pinned p → ⊥
     by true f = cc
     by false f = cc
 not-pinned s h d l (Look more) none p e = by (first_look l (control_of (word_at s h l.dom.0 l.gref.0))) e
   where
-    by : (o : Option Rule) → Rattle.gt_calls.specs.Machine.after_look l more (word_at s h l.dom.0 l.gref.0) o ≡ Pinned p → ⊥
+    by : (o : Option Rule) → after_look l more (word_at s h l.dom.0 l.gref.0) o ≡ Pinned p → ⊥
     by None f = cc
     by (Some rule) f = cc
-not-pinned s h d l (Body more word) none p e = by (is_kind (control_of word).kind Rattle.gt_entry.specs.declared.control.Kind.TheVariants.Sub) (rule_of_try l word (body_at h l.dom.0 l.gref.0 Rattle.gt_entry.specs.declared.change.Half.TheVariants.First) 0) e
+not-pinned s h d l (Body more word) none p e = by (is_kind (control_of word).kind KindSub) (rule_of_try l word (body_at h l.dom.0 l.gref.0 FirstHalf) 0) e
   where
     body : ℕ
-    body = body_at h l.dom.0 l.gref.0 Rattle.gt_entry.specs.declared.change.Half.TheVariants.First
+    body = body_at h l.dom.0 l.gref.0 FirstHalf
 
-    by : (b : Bool) (o : Option Rule) → cond b (Going (Second more word body)) (Rattle.gt_calls.specs.Machine.after_words more word body 0 o) ≡ Pinned p → ⊥
+    by : (b : Bool) (o : Option Rule) → cond b (Going (Second more word body)) (after_words more word body 0 o) ≡ Pinned p → ⊥
     by true o f = cc
     by false None f = cc
     by false (Some rule) f = cc
-not-pinned s h d l (Second more word body) none p e = by (rule_of_try l word body (body_at h l.dom.0 l.gref.0 Rattle.gt_entry.specs.declared.change.Half.TheVariants.Second)) e
+not-pinned s h d l (Second more word body) none p e = by (rule_of_try l word body (body_at h l.dom.0 l.gref.0 SecondHalf)) e
   where
-    by : (o : Option Rule) → Rattle.gt_calls.specs.Machine.after_words more word body (body_at h l.dom.0 l.gref.0 Rattle.gt_entry.specs.declared.change.Half.TheVariants.Second) o ≡ Pinned p → ⊥
+    by : (o : Option Rule) → after_words more word body (body_at h l.dom.0 l.gref.0 SecondHalf) o ≡ Pinned p → ⊥
     by None f = cc
     by (Some rule) f = cc
 not-pinned s h d l (Pinning more word body second) none p e = by (word_at s h l.dom.0 l.gref.0 == word) none e
@@ -182,7 +182,7 @@ where-refusal (Some v) aim l = refl
 dest-refusal : (k : CallerKnowledge) (d : DomId) (c : CopyArgs) (source : Route) → phase_refusal (at_dest k d c source) ≡ None
 dest-refusal k d c source = by (is_dest_granted c)
   where
-    by : (b : Bool) → phase_refusal (cond b (Walking (Dest c source None) (end_leg k d c.dest Rattle.gt_types.specs.declared.Dir.TheVariants.Write c.len) AtHeader) (Accessing c source Rattle.gt_calls.specs.declared.held.Route.TheVariants.Own)) ≡ None
+    by : (b : Bool) → phase_refusal (cond b (Walking (Dest c source None) (end_leg k d c.dest Write c.len) AtHeader) (Accessing c source Rattle.gt_calls.specs.declared.held.Route.TheVariants.Own)) ≡ None
     by true = refl
     by false = refl
 
@@ -233,8 +233,8 @@ second-beyond k n e l is = absurd is
 
 first-leg-of : (k : CallerKnowledge) (d : DomId) (r : Asked) (aim : Aim) (l : Leg) → IsFor k d r aim l → is_copying l.purpose ≡ true → l.beyond_via ≡ false → IsFirstLeg aim
 first-leg-of k d r Mapping l is copying beyond = false≢true (ap (λ (z : Leg). is_copying z.purpose) (sym is.leg_is) ∙ copying)
-first-leg-of k d r (Source c (Some via)) l is copying beyond = true≢false (sym (second-beyond k (end_leg k d c.source Rattle.gt_types.specs.declared.Dir.TheVariants.Read c.len) via.entry l is.1.2) ∙ beyond)
-first-leg-of k d r (Dest c source (Some via)) l is copying beyond = true≢false (sym (second-beyond k (end_leg k d c.dest Rattle.gt_types.specs.declared.Dir.TheVariants.Write c.len) via.entry l is.2.2) ∙ beyond)
+first-leg-of k d r (Source c (Some via)) l is copying beyond = true≢false (sym (second-beyond k (end_leg k d c.source Read c.len) via.entry l is.1.2) ∙ beyond)
+first-leg-of k d r (Dest c source (Some via)) l is copying beyond = true≢false (sym (second-beyond k (end_leg k d c.dest Write c.len) via.entry l is.2.2) ∙ beyond)
 first-leg-of k d r aim l is copying beyond = tt
 
 pub met-first : (k : CallerKnowledge) (d : DomId) (r : Asked) (aim : Aim) (l : Leg) (e : Entry) (g n m : ℕ) → IsFor k d r aim l → first_look l (control_with e g n m) ≡ None → IsVia e → IsFirstLeg aim
@@ -290,7 +290,7 @@ pub then-none : (o : Option Denial) → or_then o None ≡ o
 then-none None = refl
 then-none (Some d) = refl
 
-give-judged : (s : Setting) (h : History) (d : DomId) (r : Asked) (so_far : StepsSoFar) (pins : Rattle.gt_calls.specs.declared.held.Pins.Pins) (held : List Held) (verdict : Verdict) (step : Step) → next_to_give held verdict ≡ Makes step
+give-judged : (s : Setting) (h : History) (d : DomId) (r : Asked) (so_far : StepsSoFar) (pins : Pins) (held : List Held) (verdict : Verdict) (step : Step) → next_to_give held verdict ≡ Makes step
     → Judged s h d r so_far (Ending pins verdict) step
 give-judged s h d r so_far pins [] verdict step e = cc
 give-judged s h d r so_far pins (p ∷ ps) verdict step e = subst (λ (z : Step). Judged s h d r so_far (Ending pins verdict) z) (makes-same _ _ e) (then-none (refusal_in (Some verdict)))
@@ -306,7 +306,7 @@ judged s h xs d r shown so_far phase step i = subst (λ (a : Action). OfAction p
     OfAction p (Makes z) = Judged s h d r so_far p z
     OfAction p (Done v) = Unit {0}
 
-    by : (p : Phase) → HasShown k (path k d r) d r shown p → PhaseStands s h d r so_far p → action_at d p ≡ Makes step → legs_at h d.0 ≡ numbered 0 (reverse (last_first (Rattle.gt_calls.specs.Standing.pins_at p)))
+    by : (p : Phase) → HasShown k (path k d r) d r shown p → PhaseStands s h d r so_far p → action_at d p ≡ Makes step → legs_at h d.0 ≡ numbered 0 (reverse (last_first (pins_at p)))
         → IsPublished s h d step → OfAction p (action_at d p)
     by (Storing gref entry) a b e held pub_here = stored-refusal k gref entry
     by (Exchanging gref looked change) a b e held pub_here = once-judged s h d r (path k d r) shown so_far gref looked change (subst (IsPublished s h d) (sym (makes-same _ _ e)) pub_here) a b

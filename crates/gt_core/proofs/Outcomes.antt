@@ -1,5 +1,5 @@
 -- Where a step leads a call: what it ends with, what it has left, and what its answer is.
-use Rattle.gt_core.proofs.Words.{◌≡◌, ◌⊎◌, inl, inr, ℕ, refl, Bool, true, false, List, [], ◌∷◌, ◌++◌, length, Option, Some, None, cond, sym, ap, ◌∙◌, subst, All-push, ◌==◌, All, DomId, GrantRef, Denial, Entry, Via, Change, Held, Direct, Through, Pins, Asked, ByMapping, ByLeg, Seen, Nothing, Taken, Missed, Verdict, Granted, Refused, Step, Unpin, StoreHeader, Exchange, ReadBytes, WriteBytes, CopyBytes, Makes, Done, Aim, Mapping, Source, Dest, Phase, Exchanging, Changing, Walking, Accessing, Last, Ending, Leg, LegPhase, AtHeader, LegNext, LegRefused, Pinned, last_first, pins_so_far, no_pins, CallerKnowledge, via_judged, is_dest_granted, source_pair, dest_pair, second_leg, end_leg, Continuation, phase_after, action_at, after_leg, leg_step, after_source_pin, after_dest_pin, where_via, next_to_give, HasShown, IsQuiet, History, Setting, word_at, known_at, seen_by, StepsSoFar, LeavesAll, refusal_in, PhaseStands, EndsAfter, IsClean}
+use Rattle.gt_core.proofs.Words.{◌≡◌, ◌⊎◌, inl, inr, ℕ, refl, Bool, true, false, List, [], ◌∷◌, ◌++◌, length, Option, Some, None, cond, sym, ap, ◌∙◌, subst, All-push, ◌==◌, All, DomId, GrantRef, Denial, Entry, Via, Change, Held, Direct, Through, Pins, Asked, ByMapping, ByLeg, Seen, Nothing, Taken, Missed, Verdict, Granted, Refused, Step, Unpin, StoreHeader, Exchange, ReadBytes, WriteBytes, CopyBytes, Makes, Done, Aim, Mapping, Source, Dest, Phase, Exchanging, Changing, Walking, Accessing, Last, Ending, Leg, LegPhase, AtHeader, LegNext, LegRefused, Pinned, last_first, pins_so_far, no_pins, CallerKnowledge, via_judged, is_dest_granted, source_pair, dest_pair, second_leg, end_leg, Continuation, phase_after, action_at, after_leg, leg_step, after_source_pin, after_dest_pin, where_via, next_to_give, HasShown, IsQuiet, History, Setting, word_at, known_at, seen_by, StepsSoFar, LeavesAll, refusal_in, PhaseStands, EndsAfter, IsClean, Place, Write}
 use Rattle.gt_calls.specs.declared.held.Route.TheVariants.{Own}
 use Rattle.gt_calls.specs.declared.action.Verdict.TheVariants.{Mapped}
 use Rattle.gt_core.proofs.Phases.{makes-same}
@@ -94,7 +94,7 @@ quiet-copy (CopyBytes from to len) a b = a
 quiet-copy step a b = b
 
 -- and it is over, or gives pins back
-copy-over : (s : Setting) (h : History) (way : Continuation) (d : DomId) (r : Asked) (shown : List Seen) (phase : Phase) (from to : Rattle.gt_calls.specs.declared.action.Place.Place) (len : ℕ) → HasShown (known_at s h d) way d r shown phase → action_at d phase ≡ Makes (CopyBytes from to len)
+copy-over : (s : Setting) (h : History) (way : Continuation) (d : DomId) (r : Asked) (shown : List Seen) (phase : Phase) (from to : Place) (len : ℕ) → HasShown (known_at s h d) way d r shown phase → action_at d phase ≡ Makes (CopyBytes from to len)
     → (steps : List (Step × Seen)) → IsClean (phase_after (known_at s h d) d phase Nothing) steps
 copy-over s h way d r shown (Walking aim l at) from to len a e = absurd (leg-copy l at (subst IsCopyStep (sym (makes-same _ _ e)) tt))
 copy-over s h way d r shown (Accessing c source dest) from to len a e = λ steps. inl refl
@@ -191,7 +191,7 @@ walk-done k d (Source c None) l (Pinned p) v e = absurd (by p.entry e)
     where-not None second f = cc
     where-not (Some w) second f = cc
 
-    dest-not : (b : Bool) → action_at d (cond b (Walking (Dest c (Direct p) None) (end_leg k d c.dest Rattle.gt_types.specs.declared.Dir.TheVariants.Write c.len) AtHeader) (Accessing c (Direct p) Own)) ≡ Done v → ⊥
+    dest-not : (b : Bool) → action_at d (cond b (Walking (Dest c (Direct p) None) (end_leg k d c.dest Write c.len) AtHeader) (Accessing c (Direct p) Own)) ≡ Done v → ⊥
     dest-not true f = cc
     dest-not false f = cc
 
@@ -200,7 +200,7 @@ walk-done k d (Source c None) l (Pinned p) v e = absurd (by p.entry e)
     by entry f = dest-not (is_dest_granted c) f
 walk-done k d (Source c (Some via)) l (Pinned p) v e = absurd (by (is_dest_granted c) e)
   where
-    by : (b : Bool) → action_at d (cond b (Walking (Dest c (Through via p) None) (end_leg k d c.dest Rattle.gt_types.specs.declared.Dir.TheVariants.Write c.len) AtHeader) (Accessing c (Through via p) Own)) ≡ Done v → ⊥
+    by : (b : Bool) → action_at d (cond b (Walking (Dest c (Through via p) None) (end_leg k d c.dest Write c.len) AtHeader) (Accessing c (Through via p) Own)) ≡ Done v → ⊥
     by true f = cc
     by false f = cc
 walk-done k d (Dest c source None) l (Pinned p) v e = absurd (by p.entry e)

@@ -1,5 +1,5 @@
 -- Each step of an open call: it is on words that there are, its refusal is the first rule that stands, and where the call stands after it.
-use Rattle.gt_core.proofs.Words.{◌≡◌, ◌≢◌, ◌<◌, ◌≤◌, ◌+◌, ℕ, refl, Bool, true, false, List, [], ◌∷◌, Option, Some, None, cond, sym, ap, ◌∙◌, subst, reverse, arith, ◌==◌, is_none, eq-eqb, true≢false, false≢true, none-some, domain_of, resolved, DomId, GrantRef, DomainConfig, TABLE_ENTRIES, Entry, Invalid, Change, Publish, ToInvalid, ToReadOnly, ToWritable, control_word, Held, Asked, Grant, Revoke, Demote, Promote, QuerySize, GetVersion, Verdict, Step, LookHeader, LookControl, LookBody, PinStep, Unpin, StoreBody, StoreHeader, Exchange, ReadBytes, WriteBytes, CopyBytes, Seen, Taken, Missed, Action, Makes, Done, Question, AsksSize, AsksVersion, Phase, Exchanging, Looking, Changing, Walking, Asking, Last, Ending, Leg, LegPhase, AtHeader, Look, Body, last_first, begun, size_of, opens, Continuation, FitsStep, path, RestsOnWord, action_at, leg_step, next_to_give, IsTurn, IsQuiet, HasShown, StandsAt, State, state_of, History, Setting, word_at, table_at, entry_at, generation_at, reads_at, writes_at, known_at, seen_by, legs_at, StepsSoFar, DomainsStand, StateAgrees, PhaseStands, LegStands, Asks, numbered}
+use Rattle.gt_core.proofs.Words.{◌≡◌, ◌≢◌, ◌<◌, ◌≤◌, ◌+◌, ℕ, refl, Bool, true, false, List, [], ◌∷◌, Option, Some, None, cond, sym, ap, ◌∙◌, subst, reverse, arith, ◌==◌, is_none, eq-eqb, true≢false, false≢true, none-some, domain_of, resolved, DomId, GrantRef, DomainConfig, TABLE_ENTRIES, Entry, Invalid, Change, Publish, ToInvalid, ToReadOnly, ToWritable, control_word, Held, Asked, Grant, Revoke, Demote, Promote, QuerySize, GetVersion, Verdict, Step, LookHeader, LookControl, LookBody, PinStep, Unpin, StoreBody, StoreHeader, Exchange, ReadBytes, WriteBytes, CopyBytes, Seen, Taken, Missed, Action, Makes, Done, Question, AsksSize, AsksVersion, Phase, Exchanging, Looking, Changing, Walking, Asking, Last, Ending, Leg, LegPhase, AtHeader, Look, Body, last_first, begun, size_of, opens, Continuation, FitsStep, path, RestsOnWord, action_at, leg_step, next_to_give, IsTurn, IsQuiet, HasShown, StandsAt, State, state_of, History, Setting, word_at, table_at, entry_at, generation_at, reads_at, writes_at, known_at, seen_by, legs_at, StepsSoFar, DomainsStand, StateAgrees, PhaseStands, LegStands, Asks, numbered, pins_at, Rests, FitsAsked}
 use Rattle.gt_entry.specs.Entries.{is_invalid}
 use Rattle.gt_entry.specs.Spelling.{control_with}
 use Rattle.gt_calls.specs.Path.{IsExchanged, IsChanged, idle_word}
@@ -14,9 +14,9 @@ pub record IsHere (s : Setting) (h : History) (xs : List State) (d : DomId) (r :
   pub at : StandsAt (known_at s h d) d r shown phase
   pub acts : action_at d phase ≡ Makes step
   pub place : PhaseStands s h d r so_far phase
-  pub held : legs_at h d.0 ≡ numbered 0 (reverse (last_first (Rattle.gt_calls.specs.Standing.pins_at phase)))
-  pub rests : Rattle.gt_calls.specs.Resting.Rests (known_at s h d) d r (Rattle.gt_calls.specs.Standing.pins_at phase) shown (Makes step)
-  pub fits : Rattle.gt_core.specs.Standing.FitsAsked r
+  pub held : legs_at h d.0 ≡ numbered 0 (reverse (last_first (pins_at phase)))
+  pub rests : Rests (known_at s h d) d r (pins_at phase) shown (Makes step)
+  pub fits : FitsAsked r
 
 abbrev step_in : Action → Step → Step
 step_in (Makes step) other = step

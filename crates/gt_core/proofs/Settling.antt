@@ -1,5 +1,5 @@
 -- How a call that nothing stood against is over.
-use Rattle.gt_core.proofs.Words.{take_more, map-append, ◌≡◌, ◌<◌, ◌+◌, ◌++◌, ◌%◌, map, get_or, ℕ, List, [], ◌∷◌, length, take, Some, None, refl, sym, ap, ◌∙◌, set, replicate, min, Kept, DomId, DomainConfig, Invalid, Header, ENTRIES, LAST_GENERATION, Own, Held, Slot, Asked, Load, Peek, Step, ReadBytes, State, first_state, IsLoading, with_underway, AnswerDone, Settled, IsLoadOf, FrameSet}
+use Rattle.gt_core.proofs.Words.{take_more, map-append, ◌≡◌, ◌<◌, ◌+◌, ◌++◌, ◌%◌, map, get_or, ℕ, List, [], ◌∷◌, length, take, Some, None, refl, sym, ap, ◌∙◌, set, replicate, min, Kept, DomId, DomainConfig, Invalid, Header, ENTRIES, LAST_GENERATION, Own, Held, Slot, Asked, Load, Peek, Step, ReadBytes, State, first_state, IsLoading, with_underway, AnswerDone, Closed, IsLoadOf, FrameSet}
 
 -- the room of a load is as long as what it asks
 pub loaded : (r : Asked) (m n : ℕ) → IsLoading (Some r) m → IsLoadOf r n → m ≡ n
@@ -29,8 +29,8 @@ rest-more first_gen items i d old new x within so_far made pushed =
     ∙ sym (map-append (first_state first_gen) (take i items) (get_or items i d ∷ [])) ∙ ap (λ (l : List DomainConfig). map (first_state first_gen) l) (sym (take_more items i d within))
 
 -- a call that reads no bytes is over
-pub settled-plain : (fs : FrameSet) (xs new : List State) (at : ℕ) (d : State) (step : Step)
+pub closed-plain : (fs : FrameSet) (xs new : List State) (at : ℕ) (d : State) (step : Step)
     → ((dom : DomId) (frame off len : ℕ) → step ≡ ReadBytes dom frame off len → ⊥)
-    → new ≡ set xs at (with_underway None d) → Settled fs xs at d step AnswerDone new
-settled-plain fs xs new at d (ReadBytes dom frame off len) r e = absurd (r dom frame off len refl)
-settled-plain fs xs new at d step r e = (refl, e)
+    → new ≡ set xs at (with_underway None d) → Closed fs xs at d step AnswerDone new
+closed-plain fs xs new at d (ReadBytes dom frame off len) r e = absurd (r dom frame off len refl)
+closed-plain fs xs new at d step r e = (refl, e)

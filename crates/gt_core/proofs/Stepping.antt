@@ -1,12 +1,13 @@
 -- What the core does for a step of an open call: it is right, and the core stands for it.
-use Rattle.gt_core.proofs.Words.{◌≡◌, ◌≢◌, inl, inr, ℕ, refl, Bool, true, false, List, [], ◌∷◌, ◌++◌, length, Option, Some, None, cond, sym, ap, ◌∙◌, subst, reverse, eqb-true, eq-eqb, length-reverse, reverse_onto, same_Some, ◌==◌, DomId, GrantRef, Denial, Entry, Invalid, Half, Handle, Held, Asked, ByMapping, ByLeg, Seen, Nothing, Taken, Missed, Verdict, Granted, Given, KeptPin, Refused, Step, PinStep, Unpin, StoreBody, StoreHeader, Exchange, ReadBytes, WriteBytes, CopyBytes, Action, Makes, Done, Call, Phase, Storing, Walking, Last, Ending, last_first, knowledge_of, path, phase_after, action_at, next_to_give, after_store, HasShown, pins_at, held_in, Goes, Open, Item, Answer, Denied, AnswerDone, Mapped, State, state_of, sees, History, Setting, live, word_at, known_at, legs_at, mappings_at, mapping_of, seen_by, Underway, values, open_call, underway_after, holder_after, one_if_mapped, StepsRight, GivesValue, refusal_in, refusal_of, DomainsStand, Agrees, CallAgrees, OpenAgrees, numbered, position, get_or, set, position-Some, domain_of, Value, FramesTold, BytesAnswer, Kept, applied, with_underway, with_mapping, Adds, IsReadable, IsAdmitted, AccessedBy, bytes_at, FrameSet, frame_at, contents_at, IsRight, StepsRightIn, CoreStands, FramesStand, core_of, Settled, IsLawful, IsLawfullyHeld, answer_with}
+use Rattle.gt_core.proofs.Words.{◌≡◌, ◌≢◌, inl, inr, ℕ, refl, Bool, true, false, List, [], ◌∷◌, ◌++◌, length, Option, Some, None, cond, sym, ap, ◌∙◌, subst, reverse, eqb-true, eq-eqb, length-reverse, reverse_onto, same_Some, ◌==◌, DomId, GrantRef, Denial, Entry, Invalid, Half, Handle, Held, Asked, ByMapping, ByLeg, Seen, Nothing, Taken, Missed, Verdict, Granted, Given, KeptPin, Refused, Step, PinStep, Unpin, StoreBody, StoreHeader, Exchange, ReadBytes, WriteBytes, CopyBytes, Action, Makes, Done, Call, Phase, Storing, Walking, Last, Ending, last_first, knowledge_of, path, phase_after, action_at, next_to_give, after_store, HasShown, pins_at, held_in, Goes, Open, Item, Answer, Denied, AnswerDone, Mapped, State, state_of, sees, History, Setting, live, word_at, known_at, legs_at, mappings_at, mapping_of, seen_by, Underway, values, open_call, underway_after, holder_after, one_if_mapped, StepsRight, GivesValue, refusal_in, refusal_of, DomainsStand, Agrees, CallAgrees, OpenAgrees, numbered, position, get_or, set, position-Some, domain_of, Value, FramesTold, BytesAnswer, Kept, applied, with_underway, with_mapping, Adds, IsReadable, IsAdmitted, AccessedBy, bytes_at, FrameSet, frame_at, contents_at, IsRight, StepsRightIn, CoreStands, FramesStand, core_of, Settled, IsLawful, IsLawfullyHeld, answer_with, Closed, IsRoomFor, IsMapping, ticked_with, ticked_element, Element, Tick, MayDo, Does, Did, grown, without, RestsOnRequest, WantsMemoryNow, IsWritingNext}
+use Rattle.gt_core.specs.declared.core_state.Ticked.{Ticked as TickTold}
 use Rattle.std.specs.Prelude.{take, drop}
 use Rattle.gt_core.proofs.Quiet.{KeepsKnown}
 use Rattle.gt_core.proofs.Phases.{IsHere, makes-same}
 use Rattle.gt_core.proofs.Placing.{IsStore}
 use Rattle.gt_core.proofs.Keeping.{stepped, KeepsEntries, open_call-own}
 use Rattle.gt_core.proofs.Pinning.{pins, map-legs}
-use Rattle.gt_core.proofs.Unpinning.{unpins, leg-left, leg-mappings, mapping-legs}
+use Rattle.gt_core.proofs.Unpinning.{unpins, leg-left, leg-mappings, mapping-legs, Loses}
 use Rattle.gt_core.proofs.Acting.{can-change, can-pin, store-invalid}
 use Rattle.gt_core.proofs.Outcomes.{next_of, ends-so}
 use Rattle.gt_core.specs.declared.trace.Bytes.{Bytes}
@@ -22,7 +23,7 @@ use Rattle.gt_core.proofs.Framing.{bytes-held, open-admitted, open-readable, fra
 use Rattle.gt_core.proofs.Acting.{header-fits, map-lawful, CanPin}
 use Rattle.gt_core.proofs.Values.{granted-value, given-value, mapped-ends}
 use Rattle.gt_core.proofs.Beginning.{agrees-found}
-use Rattle.gt_core.proofs.Ticking.{Ticks, ticks, here-of, given-goes-on, legs-after, open-after, goes-right, ends-right, last-fact}
+use Rattle.gt_core.proofs.Ticking.{Ticks, ticks, here-of, given-goes-on, legs-after, open-after, goes-right, ends-right, last-fact, leg-store}
 
 -- the states where just the actor's call, or its handles or bytes, are others
 abbrev Replaced : List State → List State → State → State → Type 0
@@ -72,7 +73,7 @@ step-stands s h xs ys x c phase (Unpin p (ByLeg place)) answer o' i last here a 
     let legs : legs_at h x.id.0 ≡ numbered 0 (reverse l.0 ++ p ∷ []) = i.held ∙ ap (λ (z : List Held). numbered 0 (reverse z)) l.1 ∙ ap (numbered 0) (reverse_onto l.0 p []) in
     let at : length (reverse l.0) ≡ place = length-reverse l.0 ∙ sym l.2 in
     unpin-stands s h xs _ x p (ByLeg place) Nothing answer x.mappings o' i.st here a (becomes-unpinned xs ys x p (ByLeg place) o' r)
-    (subst (λ (n : ℕ). Rattle.gt_core.proofs.Unpinning.Loses p (live h) (Rattle.gt_core.specs.History.without x.id.0 (ByLeg n) (live h))) at (loses-leg h x.id (reverse l.0) p legs))
+    (subst (λ (n : ℕ). Loses p (live h) (without x.id.0 (ByLeg n) (live h))) at (loses-leg h x.id (reverse l.0) p legs))
     (unpin-agrees h x.id p place Nothing answer x.mappings m a.mappings) call (given-goes-on x.id (Unpin p (ByLeg place)) Nothing answer h x.given a.given)
 step-stands s h xs ys x c phase (Unpin p (ByMapping handle)) answer o' i last here a r m leg store call =
     let found : mapping_of (mappings_at h x.id.0) handle ≡ Some p = i.rests.1.1 in
@@ -127,8 +128,8 @@ store-goes s h xs x o c new v t store = by o.step refl store
         after : (y : Entry) → Done v ≡ action_at x.id (after_store (known_at s h x.id) g y) → ⊥
         after Invalid k = cc
         after y k = cc
-    stored (Walking aim l at) gref half word a e f = Rattle.gt_core.proofs.Ticking.leg-store l at (subst IsStore (sym (makes-same _ _ e)) tt)
-    stored (Last last verdict) gref half word a e f = subst (Rattle.gt_calls.specs.Resting.RestsOnRequest (known_at s h x.id) x.id c.request) (makes-same _ _ e) a.1
+    stored (Walking aim l at) gref half word a e f = leg-store l at (subst IsStore (sym (makes-same _ _ e)) tt)
+    stored (Last last verdict) gref half word a e f = subst (RestsOnRequest (known_at s h x.id) x.id c.request) (makes-same _ _ e) a.1
     stored (Ending held verdict) gref half word a e f = give (last_first held) e
       where
         give : (l : List Held) → next_to_give l verdict ≡ Makes (StoreBody gref half word) → ⊥
@@ -235,13 +236,13 @@ read-gives s h xs fs x o c new dom frame off len b t fr is gives =
     let i = subst (IsHere s h xs x.id c.request (values c) (reverse c.steps) t.stands.phase) is (here-of s h xs x o c t.st t.here t.stands) in
     by i.rests.1 (gives ∙ bytes-held s h fs dom frame off len fr)
   where
-    by : Rattle.gt_calls.specs.Resting.RestsOnRequest (known_at s h x.id) x.id c.request (ReadBytes dom frame off len) → b.bytes.items ≡ take len (drop off (contents_at h dom.0 frame))
+    by : RestsOnRequest (known_at s h x.id) x.id c.request (ReadBytes dom frame off len) → b.bytes.items ≡ take len (drop off (contents_at h dom.0 frame))
         → GivesValue s h x.id c.request (Some (ReadBytes dom frame off len)) (BytesAnswer b)
     by (inl (handle, asked, mapped)) bytes = subst (λ (q : Asked). GivesValue s h x.id q (Some (ReadBytes dom frame off len)) (BytesAnswer b)) (sym asked) bytes
     by (inr (asked, own)) bytes = subst (λ (q : Asked). GivesValue s h x.id q (Some (ReadBytes dom frame off len)) (BytesAnswer b)) (sym asked) bytes
 
 granted-core : (s : Setting) (h : History) (fs : FrameSet) (xs zs : List State) (at : ℕ) (x : State) (o : Open) (c : Underway) (new : Call) (answer : Answer) → Ticks s h xs x o c new (Done Granted) → FramesStand s h fs
-    → Replaced xs (set xs at (with_underway None x)) x (record x { underway = None }) → Settled fs xs at x o.step answer zs
+    → Replaced xs (set xs at (with_underway None x)) x (record x { underway = None }) → Closed fs xs at x o.step answer zs
     → Ticked s h x.id o.step (seen_by s h x.id o.step) (Some answer) (applied x.id o.step (seen_by s h x.id o.step) zs)
 granted-core s h fs xs zs at x o c new answer t fr plain settled = by o.step refl settled
   where
@@ -262,7 +263,7 @@ granted-core s h fs xs zs at x o c new answer t fr plain settled = by o.step ref
         ends AnswerDone done tt refl left
         (granted-value s h xs d c.request (values c) (reverse c.steps) t.stands.phase o.step (here-of s h xs x o c t.st t.here t.stands) (λ dom frame off len e. read dom frame off len (sym is ∙ e)) (sym t.acts))
 
-    by : (step : Step) → o.step ≡ step → Settled fs xs at x step answer zs → Goal
+    by : (step : Step) → o.step ≡ step → Closed fs xs at x step answer zs → Goal
     by (ReadBytes dom frame off len) is (b, done, left, gives) =
         ends (BytesAnswer b) done tt refl left
         (subst (λ (z : Step). GivesValue s h d c.request (Some z) (BytesAnswer b)) (sym is) (read-gives s h xs fs x o c new dom frame off len b t fr is gives))
@@ -278,11 +279,10 @@ call-here s h id (Some o) None one e a = absurd a
 call-here s h id (Some o) (Some c) one e a = (c, refl, subst (λ (x : Open). OpenAgrees s h id x c) (same_Some _ _ e) a)
 
 -- what a domain's tick has to begin with
-pub record Begins (s : Setting) (h : History) (xs : List State) (dom : DomId) (at : ℕ) (x : State) (o : Open) (seen : Seen) (new : Call) (action : Action) : Type 0 where
+pub record Begins (s : Setting) (xs : List State) (dom : DomId) (at : ℕ) (x : State) (o : Open) (seen : Seen) (new : Call) (action : Action) : Type 0 where
   pub place : position (has_id dom.0) xs ≡ Some at
   pub here : x ≡ get_or xs at x
   pub under : x.underway ≡ Some o
-  pub stands : DomainsStand s h xs
   pub saw : seen ≡ sees xs dom o.step
   pub caller : new.caller ≡ o.call.caller
   pub asks : new.request ≡ o.call.request
@@ -297,13 +297,13 @@ pub record Begun (s : Setting) (h : History) (xs : List State) (dom : DomId) (at
   pub ticks : Ticks s h xs x o c new action
   pub replaced : (new : State) → new.id.0 ≡ x.id.0 → Replaced xs (set xs at new) x new
 
-begun : (s : Setting) (h : History) (xs : List State) (dom : DomId) (at : ℕ) (x : State) (o : Open) (seen : Seen) (new : Call) (action : Action) → Begins s h xs dom at x o seen new action → Begun s h xs dom at x o seen new action
-begun s h xs dom at x o seen new action b =
-    let a = agrees-found s h xs dom at x b.place b.here b.stands in
+begun : (s : Setting) (h : History) (xs : List State) (dom : DomId) (at : ℕ) (x : State) (o : Open) (seen : Seen) (new : Call) (action : Action) → DomainsStand s h xs → Begins s xs dom at x o seen new action → Begun s h xs dom at x o seen new action
+begun s h xs dom at x o seen new action st b =
+    let a = agrees-found s h xs dom at x b.place b.here st in
     let f : state_of xs dom.0 ≡ Some x = found xs dom.0 at x b.place ∙ ap (λ (y : State). Some y) (sym b.here) in
     let g : state_of xs x.id.0 ≡ Some x = ap (λ (z : DomId). state_of xs z.0) a.1 ∙ f in
     let u = call-here s h x.id x.underway (open_call h x.id.0) o b.under a.2.call in
-    let t = ticks s h xs x o u.0 seen new action b.stands g a.2 u.1 u.2 (b.saw ∙ ap (λ (z : DomId). sees xs z o.step) (sym a.1)) b.caller b.asks b.goes in
+    let t = ticks s h xs x o u.0 seen new action st g a.2 u.1 u.2 (b.saw ∙ ap (λ (z : DomId). sees xs z o.step) (sym a.1)) b.caller b.asks b.goes in
     let places = position-Some (has_id dom.0) xs at x b.place in
     record {
       named = a.0;
@@ -322,51 +322,44 @@ settle s h xs dom at x o seen new action answer zs b t =
     let u = subst (λ (d : DomId). Ticked s h d o.step seen answer (applied d o.step seen zs)) b.is (subst (λ (v : Seen). Ticked s h x.id o.step v answer (applied x.id o.step v zs)) (sym b.same) t) in
     (b.named, u.0, u.1)
 
-pub tick-goes : (s : Setting) (h : History) (xs : List State) (dom : DomId) (at : ℕ) (x : State) (o : Open) (seen : Seen) (new : Call) (z : Step) → Begins s h xs dom at x o seen new (Makes z)
-    → (domain_of s.domains dom ≢ None) × IsRight s h (stepped dom o.step seen None) × DomainsStand s (stepped dom o.step seen None ∷ h) (applied dom o.step seen (set xs at (with_underway (Some (record { call = new; step = z })) x)))
-tick-goes s h xs dom at x o seen new z b =
-    let n = begun s h xs dom at x o seen new (Makes z) b in
-    settle s h xs dom at x o seen new (Makes z) None _ n (goes-core s h xs _ x o n.c new z n.ticks (n.replaced (with_underway (Some (record { call = new; step = z })) x) refl))
+-- what the domain's call comes to by its action
+action-core : (s : Setting) (h : History) (fs : FrameSet) (xs zs : List State) (at : ℕ) (x : State) (o : Open) (c : Underway) (new : Call) (action : Action) (answer : Option Answer) → Ticks s h xs x o c new action → FramesStand s h fs
+    → ((y : State) → y.id.0 ≡ x.id.0 → Replaced xs (set xs at y) x y) → Settled fs xs at x o.step new action answer zs
+    → Ticked s h x.id o.step (seen_by s h x.id o.step) answer (applied x.id o.step (seen_by s h x.id o.step) zs)
+action-core s h fs xs zs at x o c new action answer t fr r settled = by action t settled
+  where
+    Goal : Option Answer → List State → Type 0
+    Goal a ys = Ticked s h x.id o.step (seen_by s h x.id o.step) a (applied x.id o.step (seen_by s h x.id o.step) ys)
 
-pub tick-granted : (s : Setting) (h : History) (fs : FrameSet) (xs zs : List State) (dom : DomId) (at : ℕ) (x : State) (o : Open) (seen : Seen) (new : Call) (answer : Answer) → Begins s h xs dom at x o seen new (Done Granted) → FramesStand s h fs → Settled fs xs at x o.step answer zs
-    → (domain_of s.domains dom ≢ None) × IsRight s h (stepped dom o.step seen (Some answer)) × DomainsStand s (stepped dom o.step seen (Some answer) ∷ h) (applied dom o.step seen zs)
-tick-granted s h fs xs zs dom at x o seen new answer b fr settled =
-    let n = begun s h xs dom at x o seen new (Done Granted) b in
-    settle s h xs dom at x o seen new (Done Granted) (Some answer) zs n (granted-core s h fs xs zs at x o n.c new answer n.ticks fr (n.replaced (with_underway None x) refl) settled)
+    become : (a : Option Answer) (ys : List State) → answer ≡ a → zs ≡ ys → Goal a ys → Goal answer zs
+    become a ys is left b = subst (λ (z : Option Answer). Goal z zs) (sym is) (subst (Goal a) (sym left) b)
 
-pub tick-mapped : (s : Setting) (h : History) (xs : List State) (dom : DomId) (at : ℕ) (x : State) (o : Open) (seen : Seen) (new : Call) (held : Held) (handle : Handle) (kept : Kept Held) → Begins s h xs dom at x o seen new (Done (KeptPin held)) → Adds x.mappings kept handle held
-    → (domain_of s.domains dom ≢ None) × IsRight s h (stepped dom o.step seen (Some (Mapped handle))) × DomainsStand s (stepped dom o.step seen (Some (Mapped handle)) ∷ h) (applied dom o.step seen (set xs at (with_mapping kept x)))
-tick-mapped s h xs dom at x o seen new held handle kept b adds =
-    let n = begun s h xs dom at x o seen new (Done (KeptPin held)) b in
-    settle s h xs dom at x o seen new (Done (KeptPin held)) (Some (Mapped handle)) _ n (mapped-core s h xs _ x o n.c new held handle kept n.ticks (n.replaced (with_mapping kept x) refl) adds)
+    told : (a : Answer) (b : Answer) → answer ≡ Some a → a ≡ b → answer ≡ Some b
+    told a b is gives = is ∙ ap (λ (z : Answer). Some z) gives
 
-pub tick-given : (s : Setting) (h : History) (xs : List State) (dom : DomId) (at : ℕ) (x : State) (o : Open) (seen : Seen) (new : Call) (value : Value) → Begins s h xs dom at x o seen new (Done (Given value))
-    → (domain_of s.domains dom ≢ None) × IsRight s h (stepped dom o.step seen (Some (answer_with value))) × DomainsStand s (stepped dom o.step seen (Some (answer_with value)) ∷ h) (applied dom o.step seen (set xs at (with_underway None x)))
-tick-given s h xs dom at x o seen new value b =
-    let n = begun s h xs dom at x o seen new (Done (Given value)) b in
-    settle s h xs dom at x o seen new (Done (Given value)) (Some (answer_with value)) _ n (given-core s h xs _ x o n.c new value n.ticks (n.replaced (with_underway None x) refl))
-
-pub tick-refused : (s : Setting) (h : History) (xs : List State) (dom : DomId) (at : ℕ) (x : State) (o : Open) (seen : Seen) (new : Call) (denial : Denial) → Begins s h xs dom at x o seen new (Done (Refused denial))
-    → (domain_of s.domains dom ≢ None) × IsRight s h (stepped dom o.step seen (Some (Denied denial))) × DomainsStand s (stepped dom o.step seen (Some (Denied denial)) ∷ h) (applied dom o.step seen (set xs at (with_underway None x)))
-tick-refused s h xs dom at x o seen new denial b =
-    let n = begun s h xs dom at x o seen new (Done (Refused denial)) b in
-    settle s h xs dom at x o seen new (Done (Refused denial)) (Some (Denied denial)) _ n (refused-core s h xs _ x o n.c new denial n.ticks (n.replaced (with_underway None x) refl))
+    by : (z : Action) → Ticks s h xs x o c new z → Settled fs xs at x o.step new z answer zs → Goal answer zs
+    by (Makes z) t (none, left) = become None _ none left (goes-core s h xs _ x o c new z t (r (with_underway (Some (record { call = new; step = z })) x) refl))
+    by (Done Granted) t (a, is, closed) = become (Some a) zs is refl (granted-core s h fs xs zs at x o c new a t fr (r (with_underway None x) refl) closed)
+    by (Done (KeptPin held)) t (a, is, (handle, kept, gives, adds, left)) = become (Some (Mapped handle)) _ (told a (Mapped handle) is gives) left (mapped-core s h xs _ x o c new held handle kept t (r (with_mapping kept x) refl) adds)
+    by (Done (Given value)) t (a, is, (gives, left)) = become (Some (answer_with value)) _ (told a (answer_with value) is gives) left (given-core s h xs _ x o c new value t (r (with_underway None x) refl))
+    by (Done (Refused denial)) t (a, is, (gives, left)) = become (Some (Denied denial)) _ (told a (Denied denial) is gives) left (refused-core s h xs _ x o c new denial t (r (with_underway None x) refl))
 
 -- a map that is over had asked for its room when it began
-pub map-asked : (s : Setting) (h : History) (xs : List State) (dom : DomId) (at : ℕ) (x : State) (o : Open) (seen : Seen) (new : Call) (held : Held) → Begins s h xs dom at x o seen new (Done (KeptPin held)) → Rattle.gt_core.specs.States.IsMapping (Rattle.gt_core.specs.States.asked_in x.underway)
-map-asked s h xs dom at x o seen new held b =
-    let n = begun s h xs dom at x o seen new (Done (KeptPin held)) b in
+pub room-asked : (s : Setting) (h : History) (xs : List State) (dom : DomId) (at : ℕ) (x : State) (o : Open) (seen : Seen) (new : Call) (action : Action) → DomainsStand s h xs → Begins s xs dom at x o seen new action → IsRoomFor o.call.request action
+room-asked s h xs dom at x o seen new (Done (KeptPin held)) st b =
+    let n = begun s h xs dom at x o seen new (Done (KeptPin held)) st b in
     let t = n.ticks in
     let m = mapped-ends s h xs x.id n.c.request (values n.c) (reverse n.c.steps) t.stands.phase o.step held (here-of s h xs x o n.c t.st t.here t.stands) (sym t.acts) in
-    subst (λ (z : Option Open). Rattle.gt_core.specs.States.IsMapping (Rattle.gt_core.specs.States.asked_in z)) (sym b.under) (subst (λ (q : Asked). Rattle.gt_core.specs.States.IsMapping (Some q)) (sym (t.stands.asks ∙ m.of_map)) tt)
+    subst (λ (q : Asked). IsMapping (Some q)) (sym (t.stands.asks ∙ m.of_map)) tt
+room-asked s h xs dom at x o seen new action st b = tt
 
 -- a tick for which memory is wanted
 pub tick-wants : (s : Setting) (h : History) (xs : List State) (dom : DomId) (at : ℕ) (x : State) (o : Open) → position (has_id dom.0) xs ≡ Some at → x ≡ get_or xs at x → x.underway ≡ Some o → DomainsStand s h xs → IsWriting o.step
-    → Rattle.gt_core.specs.Standing.WantsMemoryNow s h dom
+    → WantsMemoryNow s h dom
 tick-wants s h xs dom at x o place here under st writing =
     let a = agrees-found s h xs dom at x place here st in
     let u = call-here s h x.id x.underway (open_call h x.id.0) o under a.2.call in
-    subst (Rattle.gt_core.specs.Standing.WantsMemoryNow s h) a.1 (u.0, u.1, subst Rattle.gt_core.specs.Standing.IsWritingNext (sym u.2.follows) writing)
+    subst (WantsMemoryNow s h) a.1 (u.0, u.1, subst IsWritingNext (sym u.2.follows) writing)
 
 -- the open call of the domain asked
 open-here : (s : Setting) (h : History) (xs : List State) (dom : DomId) (at : ℕ) (x : State) (o : Open) → position (has_id dom.0) xs ≡ Some at → x ≡ get_or xs at x → x.underway ≡ Some o → DomainsStand s h xs
@@ -390,7 +383,7 @@ tick-readable s h xs fs dom at x o place here under st =
     open-readable s h xs fs x o a.2.0 st.domains st.frames a.2.2
 
 -- the frames after it
-pub tick-frames : (s : Setting) (h : History) (xs : List State) (fs gs : FrameSet) (dom : DomId) (at : ℕ) (x : State) (o : Open) (seen : Seen) (answer : Option Answer) → position (has_id dom.0) xs ≡ Some at → x ≡ get_or xs at x → x.underway ≡ Some o
+tick-frames : (s : Setting) (h : History) (xs : List State) (fs gs : FrameSet) (dom : DomId) (at : ℕ) (x : State) (o : Open) (seen : Seen) (answer : Option Answer) → position (has_id dom.0) xs ≡ Some at → x ≡ get_or xs at x → x.underway ≡ Some o
     → CoreStands s h (core_of xs fs) → AccessedBy x o.call o.step fs gs → FramesStand s (stepped dom o.step seen answer ∷ h) gs
 tick-frames s h xs fs gs dom at x o seen answer place here under st wrote =
     let a = open-here s h xs dom at x o place here under st.domains in
@@ -403,6 +396,24 @@ readable-after fs gs x call (ReadBytes dom frame off len) wrote a = subst (λ (z
 readable-after fs gs x call step wrote a = tt
 
 -- and it gives what they held before it
-pub settled-before : (fs gs : FrameSet) (xs new : List State) (at : ℕ) (x d : State) (call : Call) (step : Step) (answer : Answer) → AccessedBy x call step fs gs → Settled gs xs at d step answer new → Settled fs xs at d step answer new
-settled-before fs gs xs new at x d call (ReadBytes dom frame off len) answer wrote a = subst (λ (z : FrameSet). Settled z xs at d (ReadBytes dom frame off len) answer new) wrote a
-settled-before fs gs xs new at x d call step answer wrote a = a
+closed-before : (fs gs : FrameSet) (xs new : List State) (at : ℕ) (x d : State) (call : Call) (step : Step) (answer : Answer) → AccessedBy x call step fs gs → Closed gs xs at d step answer new → Closed fs xs at d step answer new
+closed-before fs gs xs new at x d call (ReadBytes dom frame off len) answer wrote a = subst (λ (z : FrameSet). Closed z xs at d (ReadBytes dom frame off len) answer new) wrote a
+closed-before fs gs xs new at x d call step answer wrote a = a
+
+settled-before : (fs gs : FrameSet) (xs new : List State) (at : ℕ) (x d : State) (old call : Call) (step : Step) (action : Action) (answer : Option Answer) → AccessedBy x old step fs gs
+    → Settled gs xs at d step call action answer new → Settled fs xs at d step call action answer new
+settled-before fs gs xs new at x d old call step (Done Granted) answer wrote (a, is, closed) = (a, is, closed-before fs gs xs new at x d old step a wrote closed)
+settled-before fs gs xs new at x d old call step action answer wrote a = a
+
+-- a tick whose step is told so, where the frames and the states then are those that its step and its call's settling left
+pub tick-does : (s : Setting) (fs gs ks : FrameSet) (xs ys zs : List State) (dom : DomId) (at : ℕ) (x : State) (o : Open) (seen : Seen) (new : Call) (action : Action) (answer : Option Answer) (told : TickTold) → told ≡ ticked_with o.step seen answer
+    → Begins s xs dom at x o seen new action → AccessedBy x o.call o.step fs gs → Settled gs xs at x o.step new action answer zs → ys ≡ applied dom o.step seen zs → ks ≡ gs → Does s (core_of xs fs) (Tick dom) (ticked_element dom told) (core_of ys ks)
+tick-does s fs gs ks xs ys zs dom at x o seen new action answer told is b wrote settled left same = λ h st.
+    let n = begun s h xs dom at x o seen new action st.domains b in
+    let r = settle s h xs dom at x o seen new action answer zs n (action-core s h fs xs zs at x o n.c new action answer n.ticks st.frames n.replaced (settled-before fs gs xs zs at x x o.call new o.step action answer wrote settled)) in
+    subst (λ (z : Element). MayDo s h (Tick dom) z × CoreStands s (grown h z) (core_of ys ks)) (sym (ap (ticked_element dom) is ∙ element answer))
+    ((r.0, (refl, tt), r.1), record { domains = subst (DomainsStand s (stepped dom o.step seen answer ∷ h)) (sym left) r.2; frames = subst (FramesStand s (stepped dom o.step seen answer ∷ h)) (sym same) (tick-frames s h xs fs gs dom at x o seen answer b.place b.here b.under st wrote) })
+  where
+    element : (a : Option Answer) → ticked_element dom (ticked_with o.step seen a) ≡ Did (stepped dom o.step seen a)
+    element None = refl
+    element (Some a) = refl

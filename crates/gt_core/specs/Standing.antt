@@ -27,14 +27,15 @@ use Rattle.gt_entry.specs.declared.change.Half.TheVariants.{First as FirstHalf, 
 use Rattle.gt_calls.specs.declared.action.Seen.{Seen}
 use Rattle.gt_entry.specs.declared.header.Header.{Header}
 use Rattle.gt_calls.specs.declared.action.Action.{Action}
-use Rattle.gt_calls.specs.declared.action.Action.TheVariants.{Step as Makes}
+use Rattle.gt_calls.specs.declared.action.Action.TheVariants.{Step as Makes, Done as Ends}
+use Rattle.gt_calls.specs.declared.call.Call.{Call}
 use Rattle.gt_core.specs.declared.trace.Answer.{Answer}
-use Rattle.gt_core.specs.declared.trace.Answer.TheVariants.{Denied, Done as AnswerDone, Bytes as BytesAnswer, Frames as FramesAnswer, Size as SizeAnswer, Version as VersionAnswer}
+use Rattle.gt_core.specs.declared.trace.Answer.TheVariants.{Denied, Mapped as MappedAnswer, Done as AnswerDone, Bytes as BytesAnswer, Frames as FramesAnswer, Size as SizeAnswer, Version as VersionAnswer}
 use Rattle.gt_core.specs.declared.trace.Bytes.{Bytes}
 use Rattle.gt_handles.specs.declared.handles.Handle.{Handle}
 use Rattle.gt_calls.specs.declared.action.Step.{Step}
 use Rattle.gt_calls.specs.declared.action.Step.TheVariants.{StoreHeader, Read as ReadBytes}
-use Rattle.gt_core.specs.Effects.{with_underway}
+use Rattle.gt_core.specs.Effects.{with_underway, with_mapping, Adds}
 use Rattle.gt_core.specs.Accesses.{IsWriting}
 use Rattle.gt_frames.specs.declared.places.FrameName.{FrameName}
 use Rattle.gt_frames.specs.Frames.{patches, bytes_at}
@@ -133,6 +134,11 @@ ticked_element dom (TickedDone step seen answer) = Did (record { actor = dom; ha
 ticked_element dom TickedIdle = Idle
 ticked_element dom TickedNoDomain = NoDomain
 
+-- what a tick tells of a step: with the answer, where there is one (own)
+abbrev pub ticked_with : Step → Seen → Option Answer → Ticked
+ticked_with step seen None = TickedStep step seen
+ticked_with step seen (Some answer) = TickedDone step seen answer
+
 -- the setting of a run with this configuration and these rights (own)
 abbrev pub setting_of : Config → (TypeId → TypeId → Perms → Bool) → Setting
 setting_of config may = record { domains = config.domains.items; first_generation = config.first_gen; may = may }
@@ -150,11 +156,31 @@ abbrev pub known_by : {P : Type 0} → (P → TypeId → TypeId → Perms → Bo
 known_by may m d = knowledge_of m.config.domains.items m.config.first_gen (may m.rights) d.own d.header d.mappings
 
 -- a call that nothing stood against is over after this last step: its answer, and the states; a read gives what the frame holds (own)
-abbrev pub Settled : FrameSet → List State → ℕ → State → Step → Answer → List State → Type 0
-Settled fs xs at d (ReadBytes dom frame off len) answer new =
+abbrev pub Closed : FrameSet → List State → ℕ → State → Step → Answer → List State → Type 0
+Closed fs xs at d (ReadBytes dom frame off len) answer new =
     (b : Bytes) × (answer ≡ BytesAnswer b) × (new ≡ set xs at (with_underway None d))
     × (b.bytes.items ≡ bytes_at (frame_at fs (record { owner = dom; number = frame })) off len)
-Settled fs xs at d step answer new = (answer ≡ AnswerDone) × (new ≡ set xs at (with_underway None d))
+Closed fs xs at d step answer new = (answer ≡ AnswerDone) × (new ≡ set xs at (with_underway None d))
+
+-- a call is over with this verdict: its answer, and the states (own)
+abbrev pub Ended : FrameSet → List State → ℕ → State → Step → Verdict → Answer → List State → Type 0
+Ended fs xs at d step Granted answer new = Closed fs xs at d step answer new
+Ended fs xs at d step (KeptPin held) answer new =
+    (handle : Handle) × (kept : Kept Held) × (answer ≡ MappedAnswer handle) × Adds d.mappings kept handle held
+    × (new ≡ set xs at (with_mapping kept d))
+Ended fs xs at d step (Given value) answer new = (answer ≡ answer_with value) × (new ≡ set xs at (with_underway None d))
+Ended fs xs at d step (Refused denial) answer new = (answer ≡ Denied denial) × (new ≡ set xs at (with_underway None d))
+
+-- a call comes to its next step, or to its end with an answer (own)
+abbrev pub Settled : FrameSet → List State → ℕ → State → Step → Call → Action → Option Answer → List State → Type 0
+Settled fs xs at d step call (Makes next) answer new =
+    (answer ≡ None) × (new ≡ set xs at (with_underway (Some (record { call = call; step = next })) d))
+Settled fs xs at d step call (Ends verdict) answer new = (a : Answer) × (answer ≡ Some a) × Ended fs xs at d step verdict a new
+
+-- only a map ends with a mapping, for which it made room when it began (own)
+abbrev pub IsRoomFor : Asked → Action → Type 0
+IsRoomFor request (Ends (KeptPin held)) = IsMapping (Some request)
+IsRoomFor request action = Unit {0}
 
 -- a run can't start for this reason: the first fault of its configuration, or want of memory where that has none (own)
 abbrev pub IsStartFaultOf : Config → StartFault → Type 0

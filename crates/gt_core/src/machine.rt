@@ -9,11 +9,11 @@ ghost use Rattle.gt_frames.specs.Places.{frame_counts};
 ghost use Rattle.gt_core.specs.History.{History};
 ghost use Rattle.gt_core.specs.States.{State};
 ghost use Rattle.gt_core.specs.Accesses.{IsReadable};
-ghost use Rattle.gt_core.specs.Effects.{applied, with_underway};
 ghost use Rattle.gt_core.specs.Shown.{shown_at};
-ghost use Rattle.gt_core.specs.Standing.{Opens, DomainsStand, StandsForSome, Does, DoesAlone, IsStartFaultOf, Settled};
+ghost use Rattle.gt_core.specs.Standing.{Opens, DomainsStand, StandsForSome, Does, DoesAlone, IsStartFaultOf, Closed, Settled};
+ghost use Rattle.gt_core.specs.Standing.{IsRoomFor};
 ghost use Rattle.gt_core.specs.Standing.{WantsMemory, WantsMemoryNow, setting_of, setting_by, state_by, known_by};
-ghost use Rattle.gt_core.specs.Standing.{begun_element, ticked_element, answer_with, answer_of, first_state};
+ghost use Rattle.gt_core.specs.Standing.{begun_element, ticked_element, ticked_with, answer_with, answer_of, first_state};
 ghost use Rattle.gt_core.specs.declared.trace.Event.TheVariants.{Begin, Tick};
 
 use crate::accesses::{read_bytes, write_bytes};
@@ -79,6 +79,16 @@ fn answer_of(verdict: Verdict) -> Answer
         Verdict::Granted | Verdict::Mapped(_) => Answer::Done,
         Verdict::Given(value) => answer_with(value),
         Verdict::Refused(denial) => Answer::Denied(denial),
+    }
+}
+
+// What a tick tells of a step that saw this: with the answer, where the call is over.
+fn told(step: Step, seen: Seen, answer: Option<Answer>) -> Ticked
+    ensures { result ≡ ticked_with step seen answer }
+{
+    match answer {
+        None => Ticked::Step(step, seen),
+        Some(answer) => Ticked::Done(step, seen, answer),
     }
 }
 
@@ -163,7 +173,7 @@ impl<P: Allows> Machine<P> {
 
     // The answer of a call that nothing stood against, and that gives no value: what its last step read, or
     // nothing. The call is over.
-    fn settle(&mut self, at: usize, last: Open) -> Answer
+    fn close(&mut self, at: usize, last: Open) -> Answer
         requires there { at < length self.old.domains.items }
         requires under { (d : State) → slice_get self.old.domains.items at ≡ Some d → d.underway ≡ Some last }
         requires readable { IsReadable self.old.frames last.call last.step }
@@ -171,7 +181,7 @@ impl<P: Allows> Machine<P> {
         ensures rights { self.new.rights ≡ self.old.rights }
         ensures frames { self.new.frames ≡ self.old.frames }
         ensures settles { (d : State) → slice_get self.old.domains.items at ≡ Some d →
-            Settled self.old.frames self.old.domains.items at d last.step result self.new.domains.items }
+            Closed self.old.frames self.old.domains.items at d last.step result self.new.domains.items }
     {
         match last.step {
             Step::Read {
@@ -195,17 +205,37 @@ impl<P: Allows> Machine<P> {
         }
     }
 
-    // The domain's call is over after this step.
-    fn end(&mut self, at: usize, dom: DomId, step: Step, seen: Seen)
-        requires { at < length self.old.domains.items }
+    // What the domain's call comes to by this action: its next step, or its answer, with which it is over.
+    fn settle(&mut self, at: usize, last: Open, call: Call, action: Action) -> Option<Answer>
+        requires there { at < length self.old.domains.items }
+        requires under { (d : State) → slice_get self.old.domains.items at ≡ Some d → d.underway ≡ Some last }
+        requires readable { IsReadable self.old.frames last.call last.step }
+        requires asks { call.request ≡ last.call.request }
+        requires room { IsRoomFor last.call.request action }
         ensures config { self.new.config ≡ self.old.config }
         ensures rights { self.new.rights ≡ self.old.rights }
         ensures frames { self.new.frames ≡ self.old.frames }
-        ensures left { (d : State) → slice_get self.old.domains.items at ≡ Some d →
-            self.new.domains.items ≡ applied dom step seen (set self.old.domains.items at (with_underway None d)) }
+        ensures settles { (d : State) → slice_get self.old.domains.items at ≡ Some d →
+            Settled self.old.frames self.old.domains.items at d last.step call action result self.new.domains.items }
     {
-        self.domains[at].close();
-        apply(&mut self.domains, dom, step, seen);
+        match action {
+            Action::Step(step) => {
+                self.domains[at].go_on(Open { call, step });
+                None
+            }
+            Action::Done(verdict) => match verdict {
+                Verdict::Granted => Some(self.close(at, last)),
+                Verdict::Mapped(held) => Some(Answer::Mapped(self.domains[at].add_mapping(held))),
+                Verdict::Given(value) => {
+                    self.domains[at].close();
+                    Some(answer_with(value))
+                }
+                Verdict::Refused(denial) => {
+                    self.domains[at].close();
+                    Some(Answer::Denied(denial))
+                }
+            },
+        }
     }
 
     /// Makes the next step of the domain's open call.
@@ -233,33 +263,9 @@ impl<P: Allows> Machine<P> {
         write_bytes(&mut self.frames, &self.domains[at], open)?;
         let seen = see(&self.domains, dom, open.step);
         let (call, action) = self.advance(at, open, seen);
-        match action {
-            Action::Step(step) => {
-                self.domains[at].go_on(Open { call, step });
-                apply(&mut self.domains, dom, open.step, seen);
-                Ok(Ticked::Step(open.step, seen))
-            }
-            Action::Done(verdict) => match verdict {
-                Verdict::Granted => {
-                    let answer = self.settle(at, open);
-                    apply(&mut self.domains, dom, open.step, seen);
-                    Ok(Ticked::Done(open.step, seen, answer))
-                }
-                Verdict::Mapped(held) => {
-                    let handle = self.domains[at].add_mapping(held);
-                    apply(&mut self.domains, dom, open.step, seen);
-                    Ok(Ticked::Done(open.step, seen, Answer::Mapped(handle)))
-                }
-                Verdict::Given(value) => {
-                    self.end(at, dom, open.step, seen);
-                    Ok(Ticked::Done(open.step, seen, answer_with(value)))
-                }
-                Verdict::Refused(denial) => {
-                    self.end(at, dom, open.step, seen);
-                    Ok(Ticked::Done(open.step, seen, Answer::Denied(denial)))
-                }
-            },
-        }
+        let answer = self.settle(at, open, call, action);
+        apply(&mut self.domains, dom, open.step, seen);
+        Ok(told(open.step, seen, answer))
     }
 
     /// What an entry of a domain shows: None past the table, or for no domain of the run.
