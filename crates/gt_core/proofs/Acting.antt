@@ -1,5 +1,5 @@
 -- What each step of an open call rests on, by the history.
-use Rattle.gt_core.proofs.Words.{◌≡◌, ◌≢◌, ◌<◌, ◌≤◌, ◌+◌, ◌⊎◌, inl, inr, ℕ, refl, Bool, true, false, List, [], ◌∷◌, Option, None, sym, ap, ◌∙◌, subst, reverse, arith, eqb-true, eqb-false, leb-false, ltb-false, false≢true, ◌==◌, nat_lt, domain_of, resolved, DomId, GrantRef, Dir, Read, Write, ForMap, TABLE_ENTRIES, LAST_GENERATION, MAX_TABLE_FRAMES, MAX_PINS, Rule, N16, Entry, Invalid, Page, Sub, Via, Change, Publish, ToInvalid, ToReadOnly, ToWritable, Half, FirstHalf, SecondHalf, frame_of, permits, control_of, Held, Asked, Grant, Map, Copy, SetVersion, SetupTable, Seen, PinStep, StoreHeader, Exchange, Makes, Aim, Mapping, Source, Dest, Phase, Exchanging, Changing, Walking, Last, Ending, Leg, LegPhase, AtHeader, Pinning, last_first, CallerKnowledge, begun, stands, first, first_look, before_pin, frames_of, path, held_of, map_leg, Continuation, opens, RestsOnRequest, IsFor, action_at, leg_step, next_to_give, HasShown, IsQuiet, State, History, Setting, entry_at, generation_at, body_at, reads_at, writes_at, control_at, word_at, known_at, legs_at, raise_of, IsSafeChange, IsSpelled, MayUse, leg_at, rule_before_pin, StepsSoFar, DomainsStand, FitsAsked, FitsTable, PhaseStands, numbered, Demote, Promote, pins_so_far, map_dir, Pins}
+use Rattle.gt_core.proofs.Words.{◌≡◌, ◌≢◌, ◌<◌, ◌≤◌, ◌+◌, ◌⊎◌, inl, inr, ℕ, refl, Bool, true, false, List, [], ◌∷◌, Option, None, sym, ap, ◌∙◌, subst, reverse, arith, eqb-true, eqb-false, leb-false, ltb-false, false≢true, ◌==◌, nat_lt, domain_of, resolved, DomId, GrantRef, Dir, Read, Write, ForMap, TABLE_ENTRIES, LAST_GENERATION, MAX_TABLE_FRAMES, MAX_PINS, Rule, N16, Entry, Invalid, Page, Sub, Via, Change, Publish, ToInvalid, ToReadOnly, ToWritable, Half, FirstHalf, SecondHalf, frame_of, permits, control_of, Held, Asked, Grant, Map, Copy, SetVersion, SetupTable, Seen, PinStep, StoreHeader, Exchange, Makes, Aim, Mapping, Source, Dest, Phase, Exchanging, Changing, Walking, Last, Ending, Leg, LegPhase, AtHeader, Pinning, last_first, CallerKnowledge, begun, stands, first, first_look, before_pin, frames_of, path, held_of, map_leg, Continuation, opens, RestsOnRequest, IsFor, action_at, leg_step, next_to_give, HasShown, IsQuiet, State, History, Setting, entry_at, generation_at, body_at, reads_at, writes_at, control_at, word_at, known_at, legs_at, raise_of, IsSafeChange, IsSpelled, MayUse, leg_at, rule_before_pin, StepsSoFar, DomainsStand, FitsAsked, FitsTable, PhaseStands, numbered, Demote, Promote, pins_so_far, map_dir, Pins, Step}
 use Rattle.gt_types.specs.declared.limits.TheConstants.{LAST_VERSION}
 use Rattle.gt_types.specs.declared.denial.Rule.TheVariants.{N14, N17}
 use Rattle.gt_calls.specs.Rules.{pins_of, is_outside, is_past_owner}
@@ -8,7 +8,7 @@ use Rattle.gt_core.specs.Legal.{NoneStands}
 use Rattle.gt_core.proofs.Fitting.{word-shows}
 use Rattle.gt_core.proofs.Legs.{IsAsTried, as-tried, still-judged, control-generation, control-reads, control-writes}
 use Rattle.gt_core.proofs.Aims.{leg-here}
-use Rattle.gt_core.proofs.Phases.{IsHere, makes-same, words-of, word-below, grant-invalid, idle-no-pins, of-run}
+use Rattle.gt_core.proofs.Phases.{IsHere, makes-same, words-of, word-below, grant-invalid, idle-no-pins, of-run, by-giving}
 use Rattle.gt_core.proofs.Judging.{writes-shown}
 use Rattle.gt_core.proofs.Exchanging.{FitsChange}
 use Rattle.gt_core.proofs.Keeping.{counts-fit}
@@ -38,11 +38,7 @@ publish-spelled s h d r way shown so_far (Walking aim l at) gref looked entry a 
     by AtHeader e = cc
     by z e = cc
 publish-spelled s h d r way shown so_far (Last last verdict) gref looked entry a b acts = absurd (subst IsQuiet (makes-same _ _ acts) a.0)
-publish-spelled s h d r way shown so_far (Ending pins verdict) gref looked entry a b acts = absurd (by (last_first pins) acts)
-  where
-    by : (held : List Held) → next_to_give held verdict ≡ Makes (Exchange gref looked (Publish entry)) → ⊥
-    by [] e = cc
-    by (p ∷ ps) e = cc
+publish-spelled s h d r way shown so_far (Ending pins verdict) gref looked entry a b acts = absurd (by-giving (λ (z : Step). z ≡ Exchange gref looked (Publish entry) → ⊥) (λ p n f. cc) (last_first pins) verdict _ acts refl)
 publish-spelled s h d r way shown so_far p gref looked entry a b acts = cc
 
 -- a generation has room in its word
@@ -194,11 +190,7 @@ can-pin s h xs d r shown so_far phase p i same = by phase i.at.has_shown i.place
         → legs_at h d.0 ≡ numbered 0 (reverse (last_first (Rattle.gt_calls.specs.Standing.pins_at z))) → CanPin s h d r p
     by (Walking aim l at) a b e held = walk aim l at a.1 b e held
     by (Last last verdict) a b e held = absurd (subst IsQuiet (makes-same _ _ e) a.0)
-    by (Ending pins verdict) a b e held = absurd (give (last_first pins) e)
-      where
-        give : (l : List Held) → next_to_give l verdict ≡ Makes (PinStep p) → ⊥
-        give [] f = cc
-        give (q ∷ qs) f = cc
+    by (Ending pins verdict) a b e held = absurd (by-giving (λ (z : Step). z ≡ PinStep p → ⊥) (λ q n f. cc) (last_first pins) verdict _ e refl)
     by z a b e held = cc
 
 -- a pin that a map takes is lawful

@@ -3,7 +3,7 @@ use Rattle.gt_core.proofs.Words.{◌≡◌, ◌≢◌, inl, inr, ℕ, refl, Bool
 use Rattle.gt_core.specs.declared.core_state.Ticked.{Ticked as TickTold}
 use Rattle.std.specs.Prelude.{take, drop}
 use Rattle.gt_core.proofs.Quiet.{KeepsKnown}
-use Rattle.gt_core.proofs.Phases.{IsHere, makes-same}
+use Rattle.gt_core.proofs.Phases.{IsHere, makes-same, by-giving}
 use Rattle.gt_core.proofs.Placing.{IsStore}
 use Rattle.gt_core.proofs.Keeping.{stepped, KeepsEntries, open_call-own}
 use Rattle.gt_core.proofs.Pinning.{pins, map-legs}
@@ -130,11 +130,7 @@ store-goes s h xs x o c new v t store = by o.step refl store
         after y k = cc
     stored (Walking aim l at) gref half word a e f = leg-store l at (subst IsStore (sym (makes-same _ _ e)) tt)
     stored (Last last verdict) gref half word a e f = subst (RestsOnRequest (known_at s h x.id) x.id c.request) (makes-same _ _ e) a.1
-    stored (Ending held verdict) gref half word a e f = give (last_first held) e
-      where
-        give : (l : List Held) → next_to_give l verdict ≡ Makes (StoreBody gref half word) → ⊥
-        give [] k = cc
-        give (p ∷ ps) k = cc
+    stored (Ending held verdict) gref half word a e f = by-giving (λ (z : Step). IsStore z → ⊥) (λ p n k. k) (last_first held) verdict _ e tt
     stored p gref half word a e f = cc
 
     by : (step : Step) → o.step ≡ step → IsStore step → ⊥

@@ -5,13 +5,13 @@ use Rattle.gt_calls.specs.Following.{FitsNext, HoldsAfter}
 use Rattle.gt_calls.specs.Counting.{IsCounted}
 use Rattle.gt_core.proofs.Quiet.{KeepsKnown, kept-known, kept-legs, kept-table}
 use Rattle.gt_core.proofs.Seeing.{sees-agree}
-use Rattle.gt_core.proofs.Phases.{IsHere, makes-same, step-within, step-publishes, seen-fits}
+use Rattle.gt_core.proofs.Phases.{IsHere, makes-same, step-within, step-publishes, seen-fits, by-giving}
 use Rattle.gt_core.proofs.Judging.{judged}
 use Rattle.gt_core.proofs.Placing.{IsStore, placed, place-stays, BodyStays}
 use Rattle.gt_core.proofs.Keeping.{stepped, KeepsEntries, same-entry, same-generations, known-same, open_call-own, stood-own, same-number, cond-same}
 use Rattle.gt_core.proofs.Storing.{stores, half-stored, first-stays}
 use Rattle.gt_core.proofs.Pinning.{pins, leg-grows, leg-maps, answered-stays}
-use Rattle.gt_core.proofs.Unpinning.{unpins, leg-left, leg-mappings, mapping-legs}
+use Rattle.gt_core.proofs.Unpinning.{unpins, leg-left, leg-mappings, mapping-legs, from-zero}
 use Rattle.gt_core.proofs.Beginning.{is-at, to-come, pins-there}
 use Rattle.gt_core.proofs.Acting.{can-change, can-pin, store-invalid}
 use Rattle.gt_core.proofs.Exchanging.{exchanged-live}
@@ -147,9 +147,6 @@ length-numbered : (n : ℕ) (ps : List Held) → length (numbered n ps) ≡ leng
 length-numbered n [] = refl
 length-numbered n (p ∷ ps) = let e = length-numbered (n + 1) ps in omega arith
 
-from-zero : (n : ℕ) → 0 + n ≡ n
-from-zero n = omega arith
-
 -- the pin that is taken is of the entry as it is
 abbrev PinFact : History → Step → Seen → Type 0
 PinFact h step seen = (p : Held) → step ≡ PinStep p → seen ≡ Taken → record p { entry = entry_at h p.dom.0 p.gref.0 } ≡ p
@@ -278,11 +275,7 @@ store-place s h d r so_far now (Last last verdict) gref half word way shown a b 
   where
     RestsOn : Step → Type 0
     RestsOn z = RestsOnRequest (known_at s h d) d r z
-store-place s h d r so_far now (Ending held_pins verdict) gref half word way shown a b e = absurd (give (last_first held_pins) e)
-  where
-    give : (held : List Held) → next_to_give held verdict ≡ Makes (StoreBody gref half word) → ⊥
-    give [] f = cc
-    give (p ∷ ps) f = cc
+store-place s h d r so_far now (Ending held_pins verdict) gref half word way shown a b e = absurd (by-giving (λ (z : Step). IsStore z → ⊥) (λ p n f. f) (last_first held_pins) verdict _ e tt)
 store-place s h d r so_far now phase gref half word way shown a b e = cc
 
 body-stays : (i : Item) (h : History) (d : ℕ) → ((r : ℕ) (which : Half) → stored_at i.happened r which ≡ None) → BodyStays i h d
@@ -382,11 +375,7 @@ most-fits r = omega arith
 
 -- a call that goes on gives pins back, or has no rule against it
 goes-fair : (d : DomId) (p : Phase) (z : Step) → action_at d p ≡ Makes z → (phase_refusal p ≡ None) ⊎ (gives_back (Some (Makes z)) ≡ true)
-goes-fair d (Ending pins verdict) z e = inr (by (last_first pins) e)
-  where
-    by : (held : List Held) → next_to_give held verdict ≡ Makes z → gives_back (Some (Makes z)) ≡ true
-    by [] f = cc
-    by (p ∷ ps) f = subst (λ (y : Step). gives_back (Some (Makes y)) ≡ true) (makes-same _ _ f) refl
+goes-fair d (Ending pins verdict) z e = inr (by-giving (λ (y : Step). gives_back (Some (Makes y)) ≡ true) (λ p n. refl) (last_first pins) verdict z e)
 goes-fair d p z e = inl refl
 
 pub goes-right : (s : Setting) (h : History) (xs : List State) (x : State) (o : Open) (c : Underway) (new : Call) (z : Step) → Ticks s h xs x o c new (Makes z)
