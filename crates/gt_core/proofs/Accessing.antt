@@ -1,5 +1,5 @@
 -- What an access to bytes rests on: it is inside a frame, and justified.
-use Rattle.gt_core.proofs.Words.{◌≡◌, ◌≢◌, ◌≤◌, ◌<◌, ◌+◌, ◌⊎◌, inl, inr, ℕ, suc, refl, Bool, true, false, List, [], ◌∷◌, ◌++◌, Option, Some, None, cond, sym, ap, ◌∙◌, arith, subst, reverse, eqb-true, and_parts, and_from, leb-false, false≢true, none-some, same_Some, ◌==◌, ◌&&◌, nat_le, is_none, All, Any, reverse_onto, domain_of, resolved, denial_of, DomId, TypeId, Dir, Read, Write, ForMap, ForCopy, Perms, Triple, FRAME_SIZE, Policy, N1, N5, Entry, Page, Sub, frame_of, permits, forwards, allows_direction, Handle, Held, Route, Direct, Through, Pins, End, Asked, Load, Store, Peek, Poke, Copy, Holder, ByMapping, ByLeg, Place, Refused, ReadBytes, WriteBytes, last_first, CallerKnowledge, begun, frames_of, via_judged, denied, copy_denied, rights_to_copy, refused_when, first, is_source_granted, is_dest_granted, source_pair, dest_pair, opens, RestsOnRequest, RestsOnWays, IsReached, LeadsTo, State, History, Setting, Pin, live, known_at, legs_at, mappings_at, mapping_of, gather, by_mapping, by_leg, same_handle, MayUse, IsInFrame, CopyIsJustified, Justified, IsLawful, IsLawfullyHeld, DomainsStand, numbered}
+use Rattle.gt_core.proofs.Words.{◌≡◌, ◌≢◌, ◌≤◌, ◌<◌, ◌+◌, ◌⊎◌, inl, inr, ℕ, suc, refl, Bool, true, false, List, [], ◌∷◌, ◌++◌, Option, Some, None, cond, sym, ap, ◌∙◌, arith, subst, reverse, eqb-true, and_parts, and_from, leb-false, false≢true, none-some, same_Some, ◌==◌, ◌&&◌, nat_le, is_none, All, Any, reverse_onto, domain_of, resolved, denial_of, DomId, TypeId, Dir, Read, Write, ForMap, ForCopy, Perms, Triple, FRAME_SIZE, Policy, N1, N5, Entry, Page, Sub, frame_of, permits, forwards, allows_direction, Handle, Held, Route, Direct, Through, Pins, End, Asked, Load, Store, Peek, Poke, Copy, Holder, ByMapping, ByLeg, Place, Refused, ReadBytes, WriteBytes, last_first, CallerKnowledge, begun, frames_of, via_judged, denied, copy_denied, rights_to_copy, refused_when, first, is_source_granted, is_dest_granted, source_pair, dest_pair, opens, RestsOnRequest, RestsOnWays, IsReached, LeadsTo, State, History, Setting, Pin, live, known_at, legs_at, mappings_at, mapping_of, gather, by_mapping, by_leg, same_handle, MayUse, IsInFrame, CopyIsJustified, Justified, IsLawful, IsLawfullyHeld, DomainsStand, numbered, Verdict, owner_by}
 use Rattle.gt_calls.specs.declared.held.Route.TheVariants.{Own}
 use Rattle.gt_calls.specs.Path.{place_of}
 use Rattle.gt_calls.specs.Opening.{IsAllowed}
@@ -215,7 +215,7 @@ allowed may (t ∷ ts) e = by (may t.source t.target t.perm) refl (allowed may t
 via-may : (k : CallerKnowledge) (pair : DomId × DomId) (dom : DomId) → via_judged k pair dom ≡ None → IsAllowed k.may (rights_to_copy k pair.0 pair.1)
 via-may k pair dom e = allowed k.may (rights_to_copy k pair.0 pair.1) (by (is_none (domain_of k.domains dom)) (copy_denied k pair.0 pair.1) e)
   where
-    by : (b : Bool) (o : Option Rattle.gt_calls.specs.declared.action.Verdict.Verdict) → first (refused_when b N1 ∷ o ∷ []) ≡ None → o ≡ None
+    by : (b : Bool) (o : Option Verdict) → first (refused_when b N1 ∷ o ∷ []) ≡ None → o ≡ None
     by false None f = refl
     by b o f = cc
 
@@ -300,9 +300,9 @@ copy-justified s h d r pins from to len none legs a =
       reached-frame s h d (is_dest_granted c) c.dest Write c.len (dest_pair d pins.source) pins.dest a.dest_reached o.dest_range,
       o.allowed,
       end-justified s h d (is_source_granted c) c.source Read c.len (source_pair d c) (f.owner, resolved d c.dest.domid) pins.source (last_first pins) legs has.0 a.source_reached
-          (λ p via e. ap (λ (z : Route). (Rattle.gt_calls.specs.Holding.owner_by d z, resolved d c.dest.domid)) (sym e)),
+          (λ p via e. ap (λ (z : Route). (owner_by d z, resolved d c.dest.domid)) (sym e)),
       end-justified s h d (is_dest_granted c) c.dest Write c.len (dest_pair d pins.source) (f.owner, t.owner) pins.dest (last_first pins) legs has.1 a.dest_reached
-          (λ p via e. ap (λ (z : Route). (f.owner, Rattle.gt_calls.specs.Holding.owner_by d z)) (sym e)),
+          (λ p via e. ap (λ (z : Route). (f.owner, owner_by d z)) (sym e)),
     ) in
     subst (λ (z : Asked). CopyIsJustified s h d z from to len) (sym a.of_copy)
     (subst (λ (z : Place). CopyIsJustified s h d (Copy c) z to len) (sym a.from_is)

@@ -1,5 +1,5 @@
 -- What each step of an open call rests on, by the history.
-use Rattle.gt_core.proofs.Words.{◌≡◌, ◌≢◌, ◌<◌, ◌≤◌, ◌+◌, ◌⊎◌, inl, inr, ℕ, refl, Bool, true, false, List, [], ◌∷◌, Option, None, sym, ap, ◌∙◌, subst, reverse, arith, eqb-true, eqb-false, leb-false, ltb-false, false≢true, ◌==◌, nat_lt, domain_of, resolved, DomId, GrantRef, Dir, Read, Write, ForMap, TABLE_ENTRIES, LAST_GENERATION, MAX_TABLE_FRAMES, MAX_PINS, Rule, N16, Entry, Invalid, Page, Sub, Via, Change, Publish, ToInvalid, ToReadOnly, ToWritable, Half, FirstHalf, SecondHalf, frame_of, permits, control_of, Held, Asked, Grant, Map, Copy, SetVersion, SetupTable, Seen, PinStep, StoreHeader, Exchange, Makes, Aim, Mapping, Source, Dest, Phase, Exchanging, Changing, Walking, Last, Ending, Leg, LegPhase, AtHeader, Pinning, last_first, CallerKnowledge, begun, stands, first, first_look, before_pin, frames_of, path, held_of, map_leg, Continuation, opens, RestsOnRequest, IsFor, action_at, leg_step, next_to_give, HasShown, IsQuiet, State, History, Setting, entry_at, generation_at, body_at, reads_at, writes_at, control_at, word_at, known_at, legs_at, raise_of, IsSafeChange, IsSpelled, MayUse, leg_at, rule_before_pin, StepsSoFar, DomainsStand, FitsAsked, FitsTable, PhaseStands, numbered}
+use Rattle.gt_core.proofs.Words.{◌≡◌, ◌≢◌, ◌<◌, ◌≤◌, ◌+◌, ◌⊎◌, inl, inr, ℕ, refl, Bool, true, false, List, [], ◌∷◌, Option, None, sym, ap, ◌∙◌, subst, reverse, arith, eqb-true, eqb-false, leb-false, ltb-false, false≢true, ◌==◌, nat_lt, domain_of, resolved, DomId, GrantRef, Dir, Read, Write, ForMap, TABLE_ENTRIES, LAST_GENERATION, MAX_TABLE_FRAMES, MAX_PINS, Rule, N16, Entry, Invalid, Page, Sub, Via, Change, Publish, ToInvalid, ToReadOnly, ToWritable, Half, FirstHalf, SecondHalf, frame_of, permits, control_of, Held, Asked, Grant, Map, Copy, SetVersion, SetupTable, Seen, PinStep, StoreHeader, Exchange, Makes, Aim, Mapping, Source, Dest, Phase, Exchanging, Changing, Walking, Last, Ending, Leg, LegPhase, AtHeader, Pinning, last_first, CallerKnowledge, begun, stands, first, first_look, before_pin, frames_of, path, held_of, map_leg, Continuation, opens, RestsOnRequest, IsFor, action_at, leg_step, next_to_give, HasShown, IsQuiet, State, History, Setting, entry_at, generation_at, body_at, reads_at, writes_at, control_at, word_at, known_at, legs_at, raise_of, IsSafeChange, IsSpelled, MayUse, leg_at, rule_before_pin, StepsSoFar, DomainsStand, FitsAsked, FitsTable, PhaseStands, numbered, Demote, Promote, pins_so_far, map_dir, Pins, Step}
 use Rattle.gt_types.specs.declared.limits.TheConstants.{LAST_VERSION}
 use Rattle.gt_types.specs.declared.denial.Rule.TheVariants.{N14, N17}
 use Rattle.gt_calls.specs.Rules.{pins_of, is_outside, is_past_owner}
@@ -8,7 +8,7 @@ use Rattle.gt_core.specs.Legal.{NoneStands}
 use Rattle.gt_core.proofs.Fitting.{word-shows}
 use Rattle.gt_core.proofs.Legs.{IsAsTried, as-tried, still-judged, control-generation, control-reads, control-writes}
 use Rattle.gt_core.proofs.Aims.{leg-here}
-use Rattle.gt_core.proofs.Phases.{IsHere, makes-same, words-of, word-below, grant-invalid, idle-no-pins, of-run}
+use Rattle.gt_core.proofs.Phases.{IsHere, makes-same, words-of, word-below, grant-invalid, idle-no-pins, of-run, by-giving}
 use Rattle.gt_core.proofs.Judging.{writes-shown}
 use Rattle.gt_core.proofs.Exchanging.{FitsChange}
 use Rattle.gt_core.proofs.Keeping.{counts-fit}
@@ -38,11 +38,7 @@ publish-spelled s h d r way shown so_far (Walking aim l at) gref looked entry a 
     by AtHeader e = cc
     by z e = cc
 publish-spelled s h d r way shown so_far (Last last verdict) gref looked entry a b acts = absurd (subst IsQuiet (makes-same _ _ acts) a.0)
-publish-spelled s h d r way shown so_far (Ending pins verdict) gref looked entry a b acts = absurd (by (last_first pins) acts)
-  where
-    by : (held : List Held) → next_to_give held verdict ≡ Makes (Exchange gref looked (Publish entry)) → ⊥
-    by [] e = cc
-    by (p ∷ ps) e = cc
+publish-spelled s h d r way shown so_far (Ending pins verdict) gref looked entry a b acts = absurd (by-giving (λ (z : Step). z ≡ Exchange gref looked (Publish entry) → ⊥) (λ p n f. cc) (last_first pins) verdict _ acts refl)
 publish-spelled s h d r way shown so_far p gref looked entry a b acts = cc
 
 -- a generation has room in its word
@@ -88,24 +84,24 @@ can-change s h xs d r shown so_far phase gref looked ToInvalid i same =
 can-change s h xs d r shown so_far phase gref looked ToReadOnly i same =
     let k = known_at s h d in
     let rests = i.rests.1 in
-    let none = none-of k d r (Rattle.gt_calls.specs.declared.request.Asked.TheVariants.Demote gref) rests.0 i.rests.0 in
+    let none = none-of k d r (Demote gref) rests.0 i.rests.0 in
     let within = word-below s h xs d r (path k d r) shown gref looked ToReadOnly i.st i.rests.0 rests in
     record {
       within = within;
       safe = sym (writes-shown s h d.0 gref.0 (word-shows s h xs d.0 gref.0 i.st within)) ∙ ap (λ (n : ℕ). (control_of n).writes) same ∙ stops-none (control_of looked).writes rests.2;
       fits = tt;
-      room = not-last (generation_at s h d.0 gref.0) (generation-fits s h xs d.0 gref.0 i.st within) (opens k d (Rattle.gt_calls.specs.declared.request.Asked.TheVariants.Demote gref) none).not_worn;
+      room = not-last (generation_at s h d.0 gref.0) (generation-fits s h xs d.0 gref.0 i.st within) (opens k d (Demote gref) none).not_worn;
     }
 can-change s h xs d r shown so_far phase gref looked ToWritable i same =
     let k = known_at s h d in
     let rests = i.rests.1 in
-    let none = none-of k d r (Rattle.gt_calls.specs.declared.request.Asked.TheVariants.Promote gref) rests.0 i.rests.0 in
+    let none = none-of k d r (Promote gref) rests.0 i.rests.0 in
     let within = word-below s h xs d r (path k d r) shown gref looked ToWritable i.st i.rests.0 rests in
     record {
       within = within;
       safe = tt;
       fits = tt;
-      room = not-last (generation_at s h d.0 gref.0) (generation-fits s h xs d.0 gref.0 i.st within) (opens k d (Rattle.gt_calls.specs.declared.request.Asked.TheVariants.Promote gref) none).not_worn;
+      room = not-last (generation_at s h d.0 gref.0) (generation-fits s h xs d.0 gref.0 i.st within) (opens k d (Promote gref) none).not_worn;
     }
 
 -- a body word is stored on an invalid entry
@@ -164,7 +160,7 @@ below-most n lt apart = by (n == MAX_PINS) refl
     by false e = let f : n ≢ MAX_PINS = eqb-false n MAX_PINS e in omega arith
 
 taken-pin : (s : Setting) (h : History) (xs : List State) (d : DomId) (r : Asked) (so_far : StepsSoFar) (aim : Aim) (l : Leg) (more word body second : ℕ) → DomainsStand s h xs → IsFor (known_at s h d) d r aim l
-    → legs_at h d.0 ≡ numbered 0 (reverse (last_first (Rattle.gt_calls.specs.Holding.pins_so_far aim))) → PhaseStands s h d r so_far (Walking aim l (Pinning more word body second)) → word_at s h l.dom.0 l.gref.0 ≡ word
+    → legs_at h d.0 ≡ numbered 0 (reverse (last_first (pins_so_far aim))) → PhaseStands s h d r so_far (Walking aim l (Pinning more word body second)) → word_at s h l.dom.0 l.gref.0 ≡ word
     → CanPin s h d r (held_of l word body second)
 taken-pin s h xs d r so_far aim l more word body second st is held place same =
     let a : IsAsTried s h l word body second = as-tried s h l so_far more word body second None place.1.0 place.1.1 (words-of s h xs l st) same in
@@ -184,7 +180,7 @@ pub can-pin : (s : Setting) (h : History) (xs : List State) (d : DomId) (r : Ask
 can-pin s h xs d r shown so_far phase p i same = by phase i.at.has_shown i.place i.acts i.held
   where
     walk : (aim : Aim) (l : Leg) (at : LegPhase) → IsFor (known_at s h d) d r aim l → PhaseStands s h d r so_far (Walking aim l at) → Makes (leg_step l at) ≡ Makes (PinStep p)
-        → legs_at h d.0 ≡ numbered 0 (reverse (last_first (Rattle.gt_calls.specs.Holding.pins_so_far aim))) → CanPin s h d r p
+        → legs_at h d.0 ≡ numbered 0 (reverse (last_first (pins_so_far aim))) → CanPin s h d r p
     walk aim l (Pinning more word body second) is b e held =
         let q : held_of l word body second ≡ p = cc in
         subst (CanPin s h d r) q (taken-pin s h xs d r so_far aim l more word body second i.st is held b (subst (λ (z : Held). word_at s h z.dom.0 z.gref.0 ≡ z.word) (sym q) same))
@@ -194,23 +190,19 @@ can-pin s h xs d r shown so_far phase p i same = by phase i.at.has_shown i.place
         → legs_at h d.0 ≡ numbered 0 (reverse (last_first (Rattle.gt_calls.specs.Standing.pins_at z))) → CanPin s h d r p
     by (Walking aim l at) a b e held = walk aim l at a.1 b e held
     by (Last last verdict) a b e held = absurd (subst IsQuiet (makes-same _ _ e) a.0)
-    by (Ending pins verdict) a b e held = absurd (give (last_first pins) e)
-      where
-        give : (l : List Held) → next_to_give l verdict ≡ Makes (PinStep p) → ⊥
-        give [] f = cc
-        give (q ∷ qs) f = cc
+    by (Ending pins verdict) a b e held = absurd (by-giving (λ (z : Step). z ≡ PinStep p → ⊥) (λ q n f. cc) (last_first pins) verdict _ e refl)
     by z a b e held = cc
 
 -- a pin that a map takes is lawful
 
 map-lets : (k : CallerKnowledge) (d dom : DomId) (gref : GrantRef) (flags : ℕ) (e : Entry) → Lets (map_leg k d dom gref flags) e
-    → (permits e d (Rattle.gt_calls.specs.Rules.map_dir flags) ForMap 0 0 ≡ true) × (frame_of e < frames_of k.domains (resolved d dom))
+    → (permits e d (map_dir flags) ForMap 0 0 ≡ true) × (frame_of e < frames_of k.domains (resolved d dom))
 map-lets k d dom gref flags Invalid a = absurd a
 map-lets k d dom gref flags (Page to ro frame) a = (a.0, leb-false (frames_of k.domains (resolved d dom)) frame a.1)
 map-lets k d dom gref flags (Sub to ro frame off len) a = (a.0, leb-false (frames_of k.domains (resolved d dom)) frame a.1)
 map-lets k d dom gref flags (Via to ro dom2 r) a = absurd (false≢true a.1)
 
-pub map-lawful : (s : Setting) (h : History) (d : DomId) (r : Asked) (p : Held) (shown : List Seen) (pins : Rattle.gt_calls.specs.declared.held.Pins.Pins) → begun (known_at s h d) d r ≡ None → RestsOnTry (known_at s h d) d r pins (path (known_at s h d) d r) shown p
+pub map-lawful : (s : Setting) (h : History) (d : DomId) (r : Asked) (p : Held) (shown : List Seen) (pins : Pins) → begun (known_at s h d) d r ≡ None → RestsOnTry (known_at s h d) d r pins (path (known_at s h d) d r) shown p
     → (dom : DomId) (gref : GrantRef) (flags : ℕ) → r ≡ Map dom gref flags
     → (permits p.entry d p.dir ForMap 0 0 ≡ true) × MayUse s d p.dom p.dir × (frame_of p.entry < frames_of s.domains p.dom) × (domain_of s.domains p.dom ≢ None)
 map-lawful s h d r p shown pins none t dom gref flags is = by t.aim t.aimed

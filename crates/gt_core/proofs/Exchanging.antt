@@ -1,5 +1,5 @@
 -- An exchange that was taken keeps what a core stands for.
-use Rattle.gt_core.proofs.Words.{◌≡◌, ◌≢◌, ◌<◌, ◌≤◌, ◌+◌, ℕ, refl, Bool, true, false, List, ◌∷◌, length, Option, Some, None, cond, sym, ap, ◌∙◌, arith, subst, get_or, eqb-true, none-some, slice_get-get_or, option_map, ◌==◌, All, count_by, slice_get, fun_ext, DomId, GrantRef, Read, Write, TABLE_ENTRIES, LAST_GENERATION, Entry, Invalid, Control, Change, Publish, ToInvalid, ToReadOnly, ToWritable, Half, FirstHalf, SecondHalf, IsEntry, Exchange, Taken, Own, Slot, Open, Item, Answer, entry_in, generation_in, control_with, row_entry, row_generation, changed_at, State, state_of, changed_in, with_own, own_after, History, Setting, Pin, live, entry_at, raises_at, raise_of, generation_at, body_at, reads_at, writes_at, control_at, maps_answered_at, open_call, is_pin_on, change_of, entry_after, raise_after, or_else, one_if_mapped, IsSafeChange, IsSpelled, IsLawful, FitsTable, FitsWord, Agrees, DomainsStand, CallAgrees, GivenAgrees, append-nil}
+use Rattle.gt_core.proofs.Words.{◌≡◌, ◌≢◌, ◌<◌, ◌≤◌, ◌+◌, ℕ, refl, Bool, true, false, List, ◌∷◌, length, Option, Some, None, cond, sym, ap, ◌∙◌, arith, subst, get_or, eqb-true, none-some, slice_get-get_or, option_map, ◌==◌, All, count_by, slice_get, fun_ext, DomId, GrantRef, Read, Write, TABLE_ENTRIES, LAST_GENERATION, Entry, Invalid, Control, Change, Publish, ToInvalid, ToReadOnly, ToWritable, Half, FirstHalf, SecondHalf, IsEntry, Exchange, Taken, Own, Slot, Open, Item, Answer, entry_in, generation_in, control_with, row_entry, row_generation, changed_at, State, state_of, changed_in, with_own, own_after, History, Setting, Pin, live, entry_at, raises_at, raise_of, generation_at, body_at, reads_at, writes_at, control_at, maps_answered_at, open_call, is_pin_on, change_of, entry_after, raise_after, or_else, one_if_mapped, IsSafeChange, IsSpelled, IsLawful, FitsTable, FitsWord, Agrees, DomainsStand, CallAgrees, GivenAgrees, append-nil, gather, by_mapping}
 use Rattle.gt_core.specs.History.{changed_entry, with_ro}
 use Rattle.gt_core.proofs.Rows.{get-changed, length-changed}
 use Rattle.gt_core.proofs.Quiet.{kept-table}
@@ -115,7 +115,7 @@ exchange-agrees s h x gref looked change answer o within room m a call given =
       generations = fun_ext (λ r. own-raised s h x gref looked change answer r within room a);
       room = a.room;
       slots = exchanged-slots h x.id gref looked change answer x.id.0 x.slots a.slots;
-      mappings = mappings-same x.mappings _ _ _ _ (ap (λ (ps : List Pin). Rattle.gt_core.specs.History.gather Rattle.gt_core.specs.History.by_mapping x.id.0 ps) (sym (exchanged-live h x.id gref looked change answer))) (sym (exchanged-maps h x.id gref looked change answer x.id.0 m)) a.mappings;
+      mappings = mappings-same x.mappings _ _ _ _ (ap (λ (ps : List Pin). gather by_mapping x.id.0 ps) (sym (exchanged-live h x.id gref looked change answer))) (sym (exchanged-maps h x.id gref looked change answer x.id.0 m)) a.mappings;
       call = call;
       given = given;
     }

@@ -1,5 +1,5 @@
 -- The frames of a core: what a step of a call writes to them is by right, and leaves them as the history tells.
-use Rattle.gt_core.proofs.Words.{◌≡◌, ◌≤◌, ◌<◌, ◌+◌, ◌-◌, inl, inr, ℕ, refl, Bool, true, false, List, [], ◌∷◌, ◌++◌, replicate, length, take, drop, Option, Some, None, cond, sym, ap, ◌∙◌, arith, subst, reverse, eqb-true, eqb-false, eq-eqb, ne_eqb, lt-ltb, and_parts, and_from, false≢true, append-nil, map-append, length-append, length-drop, length-take-le, length-replicate, ◌==◌, ◌&&◌, nat_lt, nat_le, is_some, IsTrue, domain_of, DomId, Write, ForMap, ForCopy, DomainConfig, FRAME_SIZE, Entry, Page, Sub, Via, frame_of, permits, allows_direction, Handle, value_of, Held, Route, Direct, Through, End, Request, Asked, Store, Poke, Copy, Place, Seen, Step, ReadBytes, WriteBytes, CopyBytes, Makes, Call, Phase, CallerKnowledge, begun, frames_of, frames_in, is_dest_granted, dest_pair, opens, Rests, RestsOnRequest, RestsOnWays, IsReached, LeadsTo, pins_at, held_in, Patch, written, bytes_at, frame_counts, FrameSet, frame_at, has_range, all_zeros, AreKept, Open, Item, Answer, Begun, State, IsLoadOf, IsReadable, IsAdmitted, AccessedBy, History, Setting, patches_at, patches_by, contents_at, written_by, Writing, given_in, open_call, Underway, values, known_at, legs_at, IsInFrame, CopyIsJustified, grown, DomainsStand, FramesStand, Agrees, OpenAgrees, FitsGiven, numbered, begun_element}
+use Rattle.gt_core.proofs.Words.{◌≡◌, ◌≤◌, ◌<◌, ◌+◌, ◌-◌, inl, inr, ℕ, refl, Bool, true, false, List, [], ◌∷◌, ◌++◌, replicate, length, take, drop, Option, Some, None, cond, sym, ap, ◌∙◌, arith, subst, reverse, eqb-true, eqb-false, eq-eqb, ne_eqb, lt-ltb, and_parts, and_from, false≢true, append-nil, map-append, length-append, length-drop, length-take-le, length-replicate, ◌==◌, ◌&&◌, nat_lt, nat_le, is_some, IsTrue, domain_of, DomId, Write, ForMap, ForCopy, DomainConfig, FRAME_SIZE, Entry, Page, Sub, Via, frame_of, permits, allows_direction, Handle, value_of, Held, Route, Direct, Through, End, Request, Asked, Store, Poke, Copy, Place, Seen, Step, ReadBytes, WriteBytes, CopyBytes, Makes, Call, Phase, CallerKnowledge, begun, frames_of, frames_in, is_dest_granted, dest_pair, opens, Rests, RestsOnRequest, RestsOnWays, IsReached, LeadsTo, pins_at, held_in, Patch, written, bytes_at, frame_counts, FrameSet, frame_at, has_range, all_zeros, AreKept, Open, Item, Answer, Begun, State, IsLoadOf, IsReadable, IsAdmitted, AccessedBy, History, Setting, patches_at, patches_by, contents_at, written_by, Writing, given_in, open_call, Underway, values, known_at, legs_at, IsInFrame, CopyIsJustified, grown, DomainsStand, FramesStand, Agrees, OpenAgrees, FitsGiven, numbered, begun_element, IsMapped}
 use Rattle.std.proofs.lemmas.Bool.{le-leb, leb-true}
 use Rattle.std.specs.Prelude.{unwrap_or}
 use Rattle.gt_entry.specs.Permits.{leads_to}
@@ -90,7 +90,7 @@ admitted-by fs x call name off len route there within is right w of_call =
 
 -- a store through a mapping writes by the mapping's entry
 store-admitted : (s : Setting) (h : History) (xs : List State) (fs : FrameSet) (x : State) (phase : Option Phase) (handle : Handle) (dom : DomId) (frame off len : ℕ) → DomainsStand s h xs → FramesStand s h fs → Agrees s h x
-    → begun (known_at s h x.id) x.id (Store handle off len) ≡ None → (mapped : Rattle.gt_calls.specs.Resting.IsMapped (known_at s h x.id) handle dom frame) → FitsGiven (Store handle off len) x.given
+    → begun (known_at s h x.id) x.id (Store handle off len) ≡ None → (mapped : IsMapped (known_at s h x.id) handle dom frame) → FitsGiven (Store handle off len) x.given
     → IsAdmitted fs x (record { caller = x.id; request = Store handle off len; phase = phase }) (WriteBytes dom frame off len)
 store-admitted s h xs fs x phase handle dom frame off len st fr a none mapped fits =
     let k = known_at s h x.id in

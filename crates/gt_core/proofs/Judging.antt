@@ -1,5 +1,5 @@
 -- The refusal that a step leads to is the first rule that stands, and where the call stands then.
-use Rattle.gt_core.proofs.Words.{◌≡◌, ◌+◌, ◌-◌, inl, inr, ℕ, zero, suc, refl, Bool, true, false, List, [], ◌∷◌, Option, Some, None, cond, sym, ap, ◌∙◌, subst, reverse, arith, nat_lt, nat_le, ◌==◌, ◌&&◌, ◌||◌, not, lt-ltb, eqb-true, eq-eqb, true≢false, false≢true, DomId, GrantRef, Rule, N10, N18, N19, Denial, MAX_TRIES, Entry, Invalid, Via, Control, Change, Publish, ToInvalid, ToReadOnly, ToWritable, allows_direction, control_of, MORE_TRIES, Held, Route, Direct, Through, Asked, CopyArgs, ByMapping, Verdict, Step, LookHeader, LookControl, Unpin, StoreBody, StoreHeader, Exchange, ReadBytes, WriteBytes, Seen, Taken, Missed, Action, Makes, Done, Aim, Mapping, Source, Dest, Question, AsksSize, AsksVersion, Phase, Storing, Exchanging, Looking, Changing, Walking, Accessing, Asking, Last, Ending, Leg, LegPhase, AtHeader, Look, Body, Second, Pinning, Relook, LegNext, Going, LegRefused, Pinned, last_first, CallerKnowledge, first, stands, first_look, is_kind, size_of, via_judged, is_dest_granted, Continuation, path, entry_refusal, held_of, rule_of_try, source_pair, dest_pair, end_leg, second_leg, IsFor, IsOnFrom, RestsOnWord, phase_after, action_at, after_leg, leg_after, leg_step, after_miss, after_pin_of, after_source_pin, after_dest_pin, at_dest, where_via, after_store, refused_as, next_to_give, IsTurn, IsQuiet, HasShown, State, History, Setting, word_at, control_at, table_at, entry_at, generation_at, body_at, reads_at, writes_at, known_at, seen_by, legs_at, StepsSoFar, LegNow, misses, is_demote, at_entry, first_at, refusal_in, or_then, PhaseStands, LegStands, Asks, EndsAfter, phase_refusal, numbered}
+use Rattle.gt_core.proofs.Words.{◌≡◌, ◌+◌, ◌-◌, inl, inr, ℕ, zero, suc, refl, Bool, true, false, List, [], ◌∷◌, Option, Some, None, cond, sym, ap, ◌∙◌, subst, reverse, arith, nat_lt, nat_le, ◌==◌, ◌&&◌, ◌||◌, not, lt-ltb, eqb-true, eq-eqb, true≢false, false≢true, DomId, GrantRef, Rule, N10, N18, N19, Denial, MAX_TRIES, Entry, Invalid, Via, Control, Change, Publish, ToInvalid, ToReadOnly, ToWritable, allows_direction, control_of, MORE_TRIES, Held, Route, Direct, Through, Asked, CopyArgs, ByMapping, Verdict, Step, LookHeader, LookControl, Unpin, StoreBody, StoreHeader, Exchange, ReadBytes, WriteBytes, Seen, Taken, Missed, Action, Makes, Done, Aim, Mapping, Source, Dest, Question, AsksSize, AsksVersion, Phase, Storing, Exchanging, Looking, Changing, Walking, Accessing, Asking, Last, Ending, Leg, LegPhase, AtHeader, Look, Body, Second, Pinning, Relook, LegNext, Going, LegRefused, Pinned, last_first, CallerKnowledge, first, stands, first_look, is_kind, size_of, via_judged, is_dest_granted, Continuation, path, entry_refusal, held_of, rule_of_try, source_pair, dest_pair, end_leg, second_leg, IsFor, IsOnFrom, RestsOnWord, phase_after, action_at, after_leg, leg_after, leg_step, after_miss, after_pin_of, after_source_pin, after_dest_pin, at_dest, where_via, after_store, refused_as, next_to_give, IsTurn, IsQuiet, HasShown, State, History, Setting, word_at, control_at, table_at, entry_at, generation_at, body_at, reads_at, writes_at, known_at, seen_by, legs_at, StepsSoFar, LegNow, misses, is_demote, at_entry, first_at, refusal_in, or_then, PhaseStands, LegStands, Asks, EndsAfter, phase_refusal, numbered, header_of, header_word, denial_of, N9, after_look, KindSub, FirstHalf, after_words, SecondHalf, Write, Read, Pins, pins_at}
 use Rattle.gt_types.specs.declared.denial.Rule.TheVariants.{N11, N12, N13, N15}
 use Rattle.gt_entry.specs.declared.control.Kind.TheVariants.{Invalid as KindInvalid, Page as KindPage, Via as KindVia}
 use Rattle.gt_entry.specs.Permits.{is_copying}
@@ -11,6 +11,7 @@ use Rattle.gt_core.proofs.Tries.{misses-look, misses-exchange, misses-exchanged,
 use Rattle.gt_core.proofs.Legs.{Words, IsAsTried, as-tried, TakesNone, leg-judged, refusal_next, IsLegOf, control-writes}
 use Rattle.gt_core.proofs.Aims.{pair_of, leg-here}
 use Rattle.gt_core.proofs.Phases.{IsHere, makes-same, words-of, turn-below, IsPublished, step-publishes, idle-here, idle-no-pins}
+use Rattle.gt_core.proofs.Outcomes.{after-plain}
 
 -- the first rule that stands at this step, or before it, is the refusal that the call comes to
 abbrev pub Judged : Setting → History → DomId → Asked → StepsSoFar → Phase → Step → Type 0
@@ -106,55 +107,43 @@ plain-leg : (k : CallerKnowledge) (d : DomId) (r : Asked) (aim : Aim) (l : Leg) 
 plain-leg k d r Mapping l is = ap is_demote is.of_map
 plain-leg k d r aim l is = ap is_demote is.0
 
+-- a leg goes on with a pin
+abbrev IsPinned : LegNext → Type 0
+IsPinned (Pinned p) = Unit {0}
+IsPinned next = ⊥
+
+neither : (b : Bool) (x y : LegNext) → (IsPinned x → ⊥) → (IsPinned y → ⊥) → IsPinned (cond b x y) → ⊥
+neither true x y f g a = f a
+neither false x y f g a = g a
+
+look-pins-none : (l : Leg) (more word : ℕ) (o : Option Rule) → IsPinned (after_look l more word o) → ⊥
+look-pins-none l more word None a = a
+look-pins-none l more word (Some rule) a = a
+
+words-pin-none : (more word body second : ℕ) (o : Option Rule) → IsPinned (after_words more word body second o) → ⊥
+words-pin-none more word body second None a = a
+words-pin-none more word body second (Some rule) a = a
+
+miss-pins-none : (l : Leg) (more found : ℕ) → IsPinned (after_miss l more found) → ⊥
+miss-pins-none l more found a = neither (nat_lt 0 more) (Going (Look (more - 1))) (LegRefused (entry_refusal l.dom l.gref N18 found)) (λ n. n) (λ n. n) a
+
+pins-none : (s : Setting) (h : History) (d : DomId) (l : Leg) (at : LegPhase) → TakesNone s h d l at → IsPinned (leg_after l at (seen_by s h d (leg_step l at))) → ⊥
+pins-none s h d l AtHeader none a =
+    neither (nat_lt l.gref.0 (size_of (header_of (header_word (table_at s h l.dom))))) (Going (Look MORE_TRIES)) (LegRefused (denial_of N9 (Rattle.gt_types.specs.declared.denial.Facts.TheVariants.Header l.dom (header_word (table_at s h l.dom))))) (λ n. n) (λ n. n) a
+pins-none s h d l (Look more) none a = look-pins-none l more (word_at s h l.dom.0 l.gref.0) (first_look l (control_of (word_at s h l.dom.0 l.gref.0))) a
+pins-none s h d l (Body more word) none a =
+    let body = body_at h l.dom.0 l.gref.0 FirstHalf in
+    neither (is_kind (control_of word).kind KindSub) (Going (Second more word body)) (after_words more word body 0 (rule_of_try l word body 0)) (λ n. n) (words-pin-none more word body 0 (rule_of_try l word body 0)) a
+pins-none s h d l (Second more word body) none a =
+    let second = body_at h l.dom.0 l.gref.0 SecondHalf in words-pin-none more word body second (rule_of_try l word body second) a
+pins-none s h d l (Pinning more word body second) none a =
+    miss-pins-none l more (word_at s h l.dom.0 l.gref.0) (subst (λ (b : Bool). IsPinned (leg_after l (Pinning more word body second) (cond b Taken (Missed (word_at s h l.dom.0 l.gref.0))))) none a)
+pins-none s h d l (Relook more word rule) none a =
+    let found = word_at s h l.dom.0 l.gref.0 in
+    neither (found == word) (LegRefused (entry_refusal l.dom l.gref rule word)) (after_miss l more found) (λ n. n) (miss-pins-none l more found) a
+
 pub not-pinned : (s : Setting) (h : History) (d : DomId) (l : Leg) (at : LegPhase) → TakesNone s h d l at → (p : Held) → leg_after l at (seen_by s h d (leg_step l at)) ≡ Pinned p → ⊥
-not-pinned s h d l AtHeader none p e = by (nat_lt l.gref.0 (size_of (Rattle.gt_entry.specs.Words.header_of (Rattle.gt_entry.specs.Words.header_word (table_at s h l.dom))))) e
-  where
-    by : (b : Bool) → cond b (Going (Look MORE_TRIES)) (LegRefused (Rattle.gt_types.specs.Denial.denial_of Rattle.gt_types.specs.declared.denial.Rule.TheVariants.N9 (Rattle.gt_types.specs.declared.denial.Facts.TheVariants.Header l.dom (Rattle.gt_entry.specs.Words.header_word (table_at s h l.dom))))) ≡ Pinned p → ⊥
-    by true f = cc
-    by false f = cc
-not-pinned s h d l (Look more) none p e = by (first_look l (control_of (word_at s h l.dom.0 l.gref.0))) e
-  where
-    by : (o : Option Rule) → Rattle.gt_calls.specs.Machine.after_look l more (word_at s h l.dom.0 l.gref.0) o ≡ Pinned p → ⊥
-    by None f = cc
-    by (Some rule) f = cc
-not-pinned s h d l (Body more word) none p e = by (is_kind (control_of word).kind Rattle.gt_entry.specs.declared.control.Kind.TheVariants.Sub) (rule_of_try l word (body_at h l.dom.0 l.gref.0 Rattle.gt_entry.specs.declared.change.Half.TheVariants.First) 0) e
-  where
-    body : ℕ
-    body = body_at h l.dom.0 l.gref.0 Rattle.gt_entry.specs.declared.change.Half.TheVariants.First
-
-    by : (b : Bool) (o : Option Rule) → cond b (Going (Second more word body)) (Rattle.gt_calls.specs.Machine.after_words more word body 0 o) ≡ Pinned p → ⊥
-    by true o f = cc
-    by false None f = cc
-    by false (Some rule) f = cc
-not-pinned s h d l (Second more word body) none p e = by (rule_of_try l word body (body_at h l.dom.0 l.gref.0 Rattle.gt_entry.specs.declared.change.Half.TheVariants.Second)) e
-  where
-    by : (o : Option Rule) → Rattle.gt_calls.specs.Machine.after_words more word body (body_at h l.dom.0 l.gref.0 Rattle.gt_entry.specs.declared.change.Half.TheVariants.Second) o ≡ Pinned p → ⊥
-    by None f = cc
-    by (Some rule) f = cc
-not-pinned s h d l (Pinning more word body second) none p e = by (word_at s h l.dom.0 l.gref.0 == word) none e
-  where
-    found : ℕ
-    found = word_at s h l.dom.0 l.gref.0
-
-    late : (b : Bool) → cond b (Going (Look (more - 1))) (LegRefused (entry_refusal l.dom l.gref N18 found)) ≡ Pinned p → ⊥
-    late true f = cc
-    late false f = cc
-
-    by : (b : Bool) → b ≡ false → leg_after l (Pinning more word body second) (cond b Taken (Missed found)) ≡ Pinned p → ⊥
-    by true n f = absurd (true≢false n)
-    by false n f = late (nat_lt 0 more) f
-not-pinned s h d l (Relook more word rule) none p e = by (word_at s h l.dom.0 l.gref.0 == word) e
-  where
-    found : ℕ
-    found = word_at s h l.dom.0 l.gref.0
-
-    late : (b : Bool) → cond b (Going (Look (more - 1))) (LegRefused (entry_refusal l.dom l.gref N18 found)) ≡ Pinned p → ⊥
-    late true f = cc
-    late false f = cc
-
-    by : (b : Bool) → cond b (LegRefused (entry_refusal l.dom l.gref rule word)) (after_miss l more found) ≡ Pinned p → ⊥
-    by true f = cc
-    by false f = late (nat_lt 0 more) f
+not-pinned s h d l at none p e = pins-none s h d l at none (subst IsPinned (sym e) tt)
 
 leg-step-judged : (s : Setting) (h : History) (d : DomId) (r : Asked) (so_far : StepsSoFar) (aim : Aim) (l : Leg) (at : LegPhase) → Words s h l → IsFor (known_at s h d) d r aim l
     → IsLegOf s h d r l (pair_of d aim) → LegStands s h l so_far at → TakesNone s h d l at → Judged s h d r so_far (Walking aim l at) (leg_step l at)
@@ -182,7 +171,7 @@ where-refusal (Some v) aim l = refl
 dest-refusal : (k : CallerKnowledge) (d : DomId) (c : CopyArgs) (source : Route) → phase_refusal (at_dest k d c source) ≡ None
 dest-refusal k d c source = by (is_dest_granted c)
   where
-    by : (b : Bool) → phase_refusal (cond b (Walking (Dest c source None) (end_leg k d c.dest Rattle.gt_types.specs.declared.Dir.TheVariants.Write c.len) AtHeader) (Accessing c source Rattle.gt_calls.specs.declared.held.Route.TheVariants.Own)) ≡ None
+    by : (b : Bool) → phase_refusal (cond b (Walking (Dest c source None) (end_leg k d c.dest Write c.len) AtHeader) (Accessing c source Rattle.gt_calls.specs.declared.held.Route.TheVariants.Own)) ≡ None
     by true = refl
     by false = refl
 
@@ -233,8 +222,8 @@ second-beyond k n e l is = absurd is
 
 first-leg-of : (k : CallerKnowledge) (d : DomId) (r : Asked) (aim : Aim) (l : Leg) → IsFor k d r aim l → is_copying l.purpose ≡ true → l.beyond_via ≡ false → IsFirstLeg aim
 first-leg-of k d r Mapping l is copying beyond = false≢true (ap (λ (z : Leg). is_copying z.purpose) (sym is.leg_is) ∙ copying)
-first-leg-of k d r (Source c (Some via)) l is copying beyond = true≢false (sym (second-beyond k (end_leg k d c.source Rattle.gt_types.specs.declared.Dir.TheVariants.Read c.len) via.entry l is.1.2) ∙ beyond)
-first-leg-of k d r (Dest c source (Some via)) l is copying beyond = true≢false (sym (second-beyond k (end_leg k d c.dest Rattle.gt_types.specs.declared.Dir.TheVariants.Write c.len) via.entry l is.2.2) ∙ beyond)
+first-leg-of k d r (Source c (Some via)) l is copying beyond = true≢false (sym (second-beyond k (end_leg k d c.source Read c.len) via.entry l is.1.2) ∙ beyond)
+first-leg-of k d r (Dest c source (Some via)) l is copying beyond = true≢false (sym (second-beyond k (end_leg k d c.dest Write c.len) via.entry l is.2.2) ∙ beyond)
 first-leg-of k d r aim l is copying beyond = tt
 
 pub met-first : (k : CallerKnowledge) (d : DomId) (r : Asked) (aim : Aim) (l : Leg) (e : Entry) (g n m : ℕ) → IsFor k d r aim l → first_look l (control_with e g n m) ≡ None → IsVia e → IsFirstLeg aim
@@ -273,11 +262,6 @@ asked-judged : (s : Setting) (h : History) (d : DomId) (r : Asked) (so_far : Ste
 asked-judged s h d r so_far dom AsksSize a = subst (λ (z : Asked). Judged s h d z so_far (Asking dom AsksSize) (LookHeader dom)) (sym a.1) refl
 asked-judged s h d r so_far dom AsksVersion a = subst (λ (z : Asked). Judged s h d z so_far (Asking dom AsksVersion) (LookHeader dom)) (sym a.1) refl
 
-ends-plain : (r : Asked) (step : Step) (verdict : Verdict) → EndsAfter r step verdict → refusal_in (Some verdict) ≡ None
-ends-plain r (StoreHeader version frames) verdict (inl e) = ap (λ (v : Verdict). refusal_in (Some v)) e.1
-ends-plain r (StoreHeader version frames) verdict (inr e) = ap (λ (v : Verdict). refusal_in (Some v)) e.1
-ends-plain r step verdict e = ap (λ (v : Verdict). refusal_in (Some v)) e
-
 last-judged : (s : Setting) (h : History) (d : DomId) (r : Asked) (so_far : StepsSoFar) (step : Step) (verdict : Verdict) → IsQuiet step → refusal_in (Some verdict) ≡ None → Judged s h d r so_far (Last step verdict) step
 last-judged s h d r so_far (Unpin p (ByMapping handle)) verdict q plain = sym plain
 last-judged s h d r so_far (StoreBody gref half word) verdict q plain = sym plain
@@ -290,7 +274,7 @@ pub then-none : (o : Option Denial) → or_then o None ≡ o
 then-none None = refl
 then-none (Some d) = refl
 
-give-judged : (s : Setting) (h : History) (d : DomId) (r : Asked) (so_far : StepsSoFar) (pins : Rattle.gt_calls.specs.declared.held.Pins.Pins) (held : List Held) (verdict : Verdict) (step : Step) → next_to_give held verdict ≡ Makes step
+give-judged : (s : Setting) (h : History) (d : DomId) (r : Asked) (so_far : StepsSoFar) (pins : Pins) (held : List Held) (verdict : Verdict) (step : Step) → next_to_give held verdict ≡ Makes step
     → Judged s h d r so_far (Ending pins verdict) step
 give-judged s h d r so_far pins [] verdict step e = cc
 give-judged s h d r so_far pins (p ∷ ps) verdict step e = subst (λ (z : Step). Judged s h d r so_far (Ending pins verdict) z) (makes-same _ _ e) (then-none (refusal_in (Some verdict)))
@@ -306,7 +290,7 @@ judged s h xs d r shown so_far phase step i = subst (λ (a : Action). OfAction p
     OfAction p (Makes z) = Judged s h d r so_far p z
     OfAction p (Done v) = Unit {0}
 
-    by : (p : Phase) → HasShown k (path k d r) d r shown p → PhaseStands s h d r so_far p → action_at d p ≡ Makes step → legs_at h d.0 ≡ numbered 0 (reverse (last_first (Rattle.gt_calls.specs.Standing.pins_at p)))
+    by : (p : Phase) → HasShown k (path k d r) d r shown p → PhaseStands s h d r so_far p → action_at d p ≡ Makes step → legs_at h d.0 ≡ numbered 0 (reverse (last_first (pins_at p)))
         → IsPublished s h d step → OfAction p (action_at d p)
     by (Storing gref entry) a b e held pub_here = stored-refusal k gref entry
     by (Exchanging gref looked change) a b e held pub_here = once-judged s h d r (path k d r) shown so_far gref looked change (subst (IsPublished s h d) (sym (makes-same _ _ e)) pub_here) a b
@@ -314,6 +298,6 @@ judged s h xs d r shown so_far phase step i = subst (λ (a : Action). OfAction p
     by (Changing gref change more looked) a b e held pub_here = change-judged s h d r so_far gref change more looked a.1 b
     by (Walking aim l at) a b e held pub_here = walk-judged s h d r so_far aim l at (words-of s h xs l i.st) a.1 (leg-here s h d r aim l a.1 held) b.1
     by (Asking dom question) a b e held pub_here = asked-judged s h d r so_far dom question b
-    by (Last last verdict) a b e held pub_here = last-judged s h d r so_far last verdict a.0 (ends-plain r last verdict b)
+    by (Last last verdict) a b e held pub_here = last-judged s h d r so_far last verdict a.0 (after-plain r last verdict b)
     by (Ending pins verdict) a b e held pub_here = subst (λ (x : Action). OfAction (Ending pins verdict) x) (sym e) (give-judged s h d r so_far pins (last_first pins) verdict step e)
     by p a b e held pub_here = refl

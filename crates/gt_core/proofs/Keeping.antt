@@ -1,5 +1,5 @@
 -- What stays of a core's agreement with a history after one item more.
-use Rattle.gt_core.proofs.Words.{◌≡◌, ◌≢◌, ◌<◌, ◌+◌, ℕ, refl, Bool, true, false, List, ◌∷◌, length, Option, Some, None, cond, sym, ap, ◌∙◌, arith, subst, reverse, eqb-true, eq-eqb, none-some, ◌==◌, ◌&&◌, All, count_by, slice_get, option_map, fun_ext, domain_of, DomId, Read, Write, TABLE_ENTRIES, Entry, Invalid, Header, Change, Half, FirstHalf, SecondHalf, IsEntry, Handle, Kept, value_of, count_of, Held, CallerKnowledge, control_with, knowledge_of, generation_in, StandsAt, pins_at, GoesOn, Rests, Makes, Slot, Open, Item, Answer, Stepped, Step, Seen, changed_at, State, state_of, changed_in, History, Setting, Pin, live, entry_at, raises_at, generation_at, body_at, table_at, reads_at, writes_at, control_at, known_at, mappings_at, mapping_of, maps_answered_at, is_pin_on, open_call, underway_after, Underway, values, change_of, change_at, entry_after, raise_after, or_else, stored_at, header_stored, IsSpelled, stood, first_of_item, IsLawful, FitsTable, FitsWord, SlotAgrees, MappingsAgree, Agrees, StateAgrees, DomainsStand, CallAgrees, OpenAgrees, GivenAgrees}
+use Rattle.gt_core.proofs.Words.{◌≡◌, ◌≢◌, ◌<◌, ◌+◌, ℕ, refl, Bool, true, false, List, ◌∷◌, length, Option, Some, None, cond, sym, ap, ◌∙◌, arith, subst, reverse, eqb-true, eq-eqb, none-some, ◌==◌, ◌&&◌, All, count_by, slice_get, option_map, fun_ext, domain_of, DomId, Read, Write, TABLE_ENTRIES, Entry, Invalid, Header, Change, Half, FirstHalf, SecondHalf, IsEntry, Handle, Kept, value_of, count_of, Held, CallerKnowledge, control_with, knowledge_of, generation_in, StandsAt, pins_at, GoesOn, Rests, Makes, Slot, Open, Item, Answer, Stepped, Step, Seen, changed_at, State, state_of, changed_in, History, Setting, Pin, live, entry_at, raises_at, generation_at, body_at, table_at, reads_at, writes_at, control_at, known_at, mappings_at, mapping_of, maps_answered_at, is_pin_on, open_call, underway_after, Underway, values, change_of, change_at, entry_after, raise_after, or_else, stored_at, header_stored, IsSpelled, stood, first_of_item, IsLawful, FitsTable, FitsWord, SlotAgrees, MappingsAgree, Agrees, StateAgrees, DomainsStand, CallAgrees, OpenAgrees, GivenAgrees, Dir, gather, by_mapping}
 use Rattle.std.proofs.lemmas.Bool.{and_left, and_right}
 use Rattle.gt_core.specs.Legal.{stood_with}
 use Rattle.gt_core.proofs.Rows.{get-changed, length-changed, state-changed}
@@ -282,7 +282,7 @@ pins-stand s i h xs zs q k st each =
     (λ t r within. let c = counts-fit s h t r (st.words t r within) in (subst (λ (n : ℕ). n < 4096) (sym (count t r Read)) c.0, subst (λ (n : ℕ). n < 4096) (sym (count t r Write)) c.1))
     (λ t r e. let f = st.free t r e in (count t r Read ∙ f.0, count t r Write ∙ f.1))
   where
-    count : (t r : ℕ) (dir : Rattle.gt_types.specs.declared.Dir.Dir) → count_by (is_pin_on t r dir) (live (i ∷ h)) ≡ count_by (is_pin_on t r dir) (live h)
+    count : (t r : ℕ) (dir : Dir) → count_by (is_pin_on t r dir) (live (i ∷ h)) ≡ count_by (is_pin_on t r dir) (live h)
     count t r dir = ap (λ (ps : List Pin). count_by (is_pin_on t r dir) ps) (kept-live i h k)
 
 -- the slots of a domain stay, where no pin is taken or given back and no body word stored
@@ -298,7 +298,7 @@ slots-stay i h q slots e k a = λ r slot at. let b = a r slot at in
 -- and its mappings
 pub mappings-stay : (i : Item) (h : History) (q : ℕ) (kept : Kept Held) → KeepsKnown i → MappingsAgree kept (mappings_at h q) (maps_answered_at h q) → MappingsAgree kept (mappings_at (i ∷ h) q) (maps_answered_at (i ∷ h) q)
 mappings-stay i h q kept k a =
-    mappings-same kept _ _ _ _ (ap (λ (ps : List Pin). Rattle.gt_core.specs.History.gather Rattle.gt_core.specs.History.by_mapping q ps) (sym (kept-live i h k))) (sym (kept-maps_answered i h q k)) a
+    mappings-same kept _ _ _ _ (ap (λ (ps : List Pin). gather by_mapping q ps) (sym (kept-live i h k))) (sym (kept-maps_answered i h q k)) a
 
 -- the domains stand for one item more that leaves all words and pins as they are
 pub quiet-stands : (s : Setting) (i : Item) (h : History) (xs zs : List State) (x : State) (o : Option Open) (given : List ℕ) → KeepsEntries i → KeepsKnown i → i.actor ≡ x.id → DomainsStand s h xs

@@ -1,8 +1,8 @@
 -- Where a step leads a call: what it ends with, what it has left, and what its answer is.
-use Rattle.gt_core.proofs.Words.{◌≡◌, ◌⊎◌, inl, inr, ℕ, refl, Bool, true, false, List, [], ◌∷◌, ◌++◌, length, Option, Some, None, cond, sym, ap, ◌∙◌, subst, All-push, ◌==◌, All, DomId, GrantRef, Denial, Entry, Via, Change, Held, Direct, Through, Pins, Asked, ByMapping, ByLeg, Seen, Nothing, Taken, Missed, Verdict, Granted, Refused, Step, Unpin, StoreHeader, Exchange, ReadBytes, WriteBytes, CopyBytes, Makes, Done, Aim, Mapping, Source, Dest, Phase, Exchanging, Changing, Walking, Accessing, Last, Ending, Leg, LegPhase, AtHeader, LegNext, LegRefused, Pinned, last_first, pins_so_far, no_pins, CallerKnowledge, via_judged, is_dest_granted, source_pair, dest_pair, second_leg, end_leg, Continuation, phase_after, action_at, after_leg, leg_step, after_source_pin, after_dest_pin, where_via, next_to_give, HasShown, IsQuiet, History, Setting, word_at, known_at, seen_by, StepsSoFar, LeavesAll, refusal_in, PhaseStands, EndsAfter, IsClean}
+use Rattle.gt_core.proofs.Words.{◌≡◌, ◌⊎◌, inl, inr, ℕ, refl, Bool, true, false, List, [], ◌∷◌, ◌++◌, length, Option, Some, None, cond, sym, ap, ◌∙◌, subst, All-push, ◌==◌, All, DomId, GrantRef, Denial, Entry, Via, Change, Held, Direct, Through, Pins, Asked, ByMapping, ByLeg, Seen, Nothing, Taken, Missed, Verdict, Granted, Refused, Step, Unpin, StoreHeader, Exchange, ReadBytes, WriteBytes, CopyBytes, Makes, Done, Aim, Mapping, Source, Dest, Phase, Exchanging, Changing, Walking, Accessing, Last, Ending, Leg, LegPhase, AtHeader, LegNext, LegRefused, Pinned, last_first, pins_so_far, no_pins, CallerKnowledge, via_judged, is_dest_granted, source_pair, dest_pair, second_leg, end_leg, Continuation, phase_after, action_at, after_leg, leg_step, after_source_pin, after_dest_pin, where_via, next_to_give, HasShown, IsQuiet, History, Setting, word_at, known_at, seen_by, StepsSoFar, LeavesAll, refusal_in, PhaseStands, EndsAfter, IsClean, Place, Write}
 use Rattle.gt_calls.specs.declared.held.Route.TheVariants.{Own}
 use Rattle.gt_calls.specs.declared.action.Verdict.TheVariants.{Mapped}
-use Rattle.gt_core.proofs.Phases.{makes-same}
+use Rattle.gt_core.proofs.Phases.{makes-same, by-giving}
 
 -- the next phase
 abbrev pub next_of : Setting → History → DomId → Phase → Step → Phase
@@ -21,15 +21,11 @@ leg-single : (l : Leg) (at : LegPhase) → IsSingle (leg_step l at) → ⊥
 leg-single l AtHeader a = a
 leg-single l at a = a
 
-give-single : (held : List Held) (verdict : Verdict) (step : Step) → next_to_give held verdict ≡ Makes step → IsSingle step → ⊥
-give-single [] verdict step e a = cc
-give-single (p ∷ ps) verdict step e a = subst IsSingle (sym (makes-same _ _ e)) a
-
 -- it is the last one
 pub is-last : (d : DomId) (phase : Phase) (step : Step) → action_at d phase ≡ Makes step → IsSingle step → (verdict : Verdict) × (phase ≡ Last step verdict)
 is-last d (Walking aim l at) step e a = absurd (leg-single l at (subst IsSingle (sym (makes-same _ _ e)) a))
 is-last d (Last last verdict) step e a = (verdict, ap (λ (z : Step). Last z verdict) (makes-same _ _ e))
-is-last d (Ending pins verdict) step e a = absurd (give-single (last_first pins) verdict step e a)
+is-last d (Ending pins verdict) step e a = absurd (by-giving (λ (z : Step). IsSingle z → ⊥) (λ p n f. f) (last_first pins) verdict step e a)
 is-last d phase step e a = absurd (subst IsSingle (sym (makes-same _ _ e)) a)
 
 single-sees : (s : Setting) (h : History) (d : DomId) (step : Step) → IsSingle step → seen_by s h d step ≡ Nothing
@@ -51,7 +47,7 @@ single-ends s h d r so_far phase step e b a =
     )
 
 -- it is not refused
-after-plain : (r : Asked) (step : Step) (verdict : Verdict) → EndsAfter r step verdict → refusal_in (Some verdict) ≡ None
+pub after-plain : (r : Asked) (step : Step) (verdict : Verdict) → EndsAfter r step verdict → refusal_in (Some verdict) ≡ None
 after-plain r (StoreHeader version frames) verdict (inl a) = ap (λ (v : Verdict). refusal_in (Some v)) a.1
 after-plain r (StoreHeader version frames) verdict (inr a) = ap (λ (v : Verdict). refusal_in (Some v)) a.1
 after-plain r step verdict a = ap (λ (v : Verdict). refusal_in (Some v)) a
@@ -62,10 +58,6 @@ leg-exchange : (l : Leg) (at : LegPhase) (gref : GrantRef) (looked : ℕ) (chang
 leg-exchange l AtHeader gref looked change e = cc
 leg-exchange l at gref looked change e = cc
 
-give-exchange : (held : List Held) (verdict : Verdict) (gref : GrantRef) (looked : ℕ) (change : Change) → next_to_give held verdict ≡ Makes (Exchange gref looked change) → ⊥
-give-exchange [] verdict gref looked change e = cc
-give-exchange (p ∷ ps) verdict gref looked change e = cc
-
 -- it ends its call
 pub taken-ends : (k : CallerKnowledge) (way : Continuation) (d : DomId) (r : Asked) (shown : List Seen) (phase : Phase) (gref : GrantRef) (looked : ℕ) (change : Change) → HasShown k way d r shown phase → action_at d phase ≡ Makes (Exchange gref looked change)
     → phase_after k d phase Taken ≡ Ending no_pins Granted
@@ -73,7 +65,7 @@ taken-ends k way d r shown (Exchanging g w c) gref looked change a e = refl
 taken-ends k way d r shown (Changing g c more w) gref looked change a e = refl
 taken-ends k way d r shown (Walking aim l at) gref looked change a e = absurd (leg-exchange l at gref looked change e)
 taken-ends k way d r shown (Last last verdict) gref looked change a e = absurd (subst IsQuiet (makes-same _ _ e) a.0)
-taken-ends k way d r shown (Ending pins verdict) gref looked change a e = absurd (give-exchange (last_first pins) verdict gref looked change e)
+taken-ends k way d r shown (Ending pins verdict) gref looked change a e = absurd (by-giving (λ (z : Step). z ≡ Exchange gref looked change → ⊥) (λ p n f. cc) (last_first pins) verdict _ e refl)
 taken-ends k way d r shown phase gref looked change a e = cc
 
 -- a copy's access
@@ -85,21 +77,17 @@ leg-copy : (l : Leg) (at : LegPhase) → IsCopyStep (leg_step l at) → ⊥
 leg-copy l AtHeader a = a
 leg-copy l at a = a
 
-give-copy : (held : List Held) (verdict : Verdict) (step : Step) → next_to_give held verdict ≡ Makes step → IsCopyStep step → ⊥
-give-copy [] verdict step e a = cc
-give-copy (p ∷ ps) verdict step e a = subst IsCopyStep (sym (makes-same _ _ e)) a
-
 quiet-copy : (step : Step) → IsQuiet step → IsCopyStep step → ⊥
 quiet-copy (CopyBytes from to len) a b = a
 quiet-copy step a b = b
 
 -- and it is over, or gives pins back
-copy-over : (s : Setting) (h : History) (way : Continuation) (d : DomId) (r : Asked) (shown : List Seen) (phase : Phase) (from to : Rattle.gt_calls.specs.declared.action.Place.Place) (len : ℕ) → HasShown (known_at s h d) way d r shown phase → action_at d phase ≡ Makes (CopyBytes from to len)
+copy-over : (s : Setting) (h : History) (way : Continuation) (d : DomId) (r : Asked) (shown : List Seen) (phase : Phase) (from to : Place) (len : ℕ) → HasShown (known_at s h d) way d r shown phase → action_at d phase ≡ Makes (CopyBytes from to len)
     → (steps : List (Step × Seen)) → IsClean (phase_after (known_at s h d) d phase Nothing) steps
 copy-over s h way d r shown (Walking aim l at) from to len a e = absurd (leg-copy l at (subst IsCopyStep (sym (makes-same _ _ e)) tt))
 copy-over s h way d r shown (Accessing c source dest) from to len a e = λ steps. inl refl
 copy-over s h way d r shown (Last last verdict) from to len a e = absurd (quiet-copy last a.0 (subst IsCopyStep (sym (makes-same _ _ e)) tt))
-copy-over s h way d r shown (Ending pins verdict) from to len a e = absurd (give-copy (last_first pins) verdict (CopyBytes from to len) e tt)
+copy-over s h way d r shown (Ending pins verdict) from to len a e = absurd (by-giving (λ (z : Step). IsCopyStep z → ⊥) (λ p n f. f) (last_first pins) verdict (CopyBytes from to len) e tt)
 copy-over s h way d r shown phase from to len a e = cc
 
 -- the steps so far have left all as it was, unless the call ends with Ok
@@ -191,7 +179,7 @@ walk-done k d (Source c None) l (Pinned p) v e = absurd (by p.entry e)
     where-not None second f = cc
     where-not (Some w) second f = cc
 
-    dest-not : (b : Bool) → action_at d (cond b (Walking (Dest c (Direct p) None) (end_leg k d c.dest Rattle.gt_types.specs.declared.Dir.TheVariants.Write c.len) AtHeader) (Accessing c (Direct p) Own)) ≡ Done v → ⊥
+    dest-not : (b : Bool) → action_at d (cond b (Walking (Dest c (Direct p) None) (end_leg k d c.dest Write c.len) AtHeader) (Accessing c (Direct p) Own)) ≡ Done v → ⊥
     dest-not true f = cc
     dest-not false f = cc
 
@@ -200,7 +188,7 @@ walk-done k d (Source c None) l (Pinned p) v e = absurd (by p.entry e)
     by entry f = dest-not (is_dest_granted c) f
 walk-done k d (Source c (Some via)) l (Pinned p) v e = absurd (by (is_dest_granted c) e)
   where
-    by : (b : Bool) → action_at d (cond b (Walking (Dest c (Through via p) None) (end_leg k d c.dest Rattle.gt_types.specs.declared.Dir.TheVariants.Write c.len) AtHeader) (Accessing c (Through via p) Own)) ≡ Done v → ⊥
+    by : (b : Bool) → action_at d (cond b (Walking (Dest c (Through via p) None) (end_leg k d c.dest Write c.len) AtHeader) (Accessing c (Through via p) Own)) ≡ Done v → ⊥
     by true f = cc
     by false f = cc
 walk-done k d (Dest c source None) l (Pinned p) v e = absurd (by p.entry e)

@@ -1,5 +1,5 @@
 -- Each step of an open call: it is on words that there are, its refusal is the first rule that stands, and where the call stands after it.
-use Rattle.gt_core.proofs.Words.{◌≡◌, ◌≢◌, ◌<◌, ◌≤◌, ◌+◌, ℕ, refl, Bool, true, false, List, [], ◌∷◌, Option, Some, None, cond, sym, ap, ◌∙◌, subst, reverse, arith, ◌==◌, is_none, eq-eqb, true≢false, false≢true, none-some, domain_of, resolved, DomId, GrantRef, DomainConfig, TABLE_ENTRIES, Entry, Invalid, Change, Publish, ToInvalid, ToReadOnly, ToWritable, control_word, Held, Asked, Grant, Revoke, Demote, Promote, QuerySize, GetVersion, Verdict, Step, LookHeader, LookControl, LookBody, PinStep, Unpin, StoreBody, StoreHeader, Exchange, ReadBytes, WriteBytes, CopyBytes, Seen, Taken, Missed, Action, Makes, Done, Question, AsksSize, AsksVersion, Phase, Exchanging, Looking, Changing, Walking, Asking, Last, Ending, Leg, LegPhase, AtHeader, Look, Body, last_first, begun, size_of, opens, Continuation, FitsStep, path, RestsOnWord, action_at, leg_step, next_to_give, IsTurn, IsQuiet, HasShown, StandsAt, State, state_of, History, Setting, word_at, table_at, entry_at, generation_at, reads_at, writes_at, known_at, seen_by, legs_at, StepsSoFar, DomainsStand, StateAgrees, PhaseStands, LegStands, Asks, numbered}
+use Rattle.gt_core.proofs.Words.{◌≡◌, ◌≢◌, ◌<◌, ◌≤◌, ◌+◌, ℕ, refl, Bool, true, false, List, [], ◌∷◌, Option, Some, None, cond, sym, ap, ◌∙◌, subst, reverse, arith, ◌==◌, is_none, eq-eqb, true≢false, false≢true, none-some, domain_of, resolved, DomId, GrantRef, DomainConfig, TABLE_ENTRIES, Entry, Invalid, Change, Publish, ToInvalid, ToReadOnly, ToWritable, control_word, Held, Asked, Grant, Revoke, Demote, Promote, QuerySize, GetVersion, Verdict, Step, LookHeader, LookControl, LookBody, PinStep, Unpin, StoreBody, StoreHeader, Exchange, ReadBytes, WriteBytes, CopyBytes, Seen, Taken, Missed, Action, Makes, Done, Question, AsksSize, AsksVersion, Phase, Exchanging, Looking, Changing, Walking, Asking, Last, Ending, Leg, LegPhase, AtHeader, Look, Body, last_first, begun, size_of, opens, Continuation, FitsStep, path, RestsOnWord, action_at, leg_step, next_to_give, IsTurn, IsQuiet, HasShown, StandsAt, State, state_of, History, Setting, word_at, table_at, entry_at, generation_at, reads_at, writes_at, known_at, seen_by, legs_at, StepsSoFar, DomainsStand, StateAgrees, PhaseStands, LegStands, Asks, numbered, pins_at, Rests, FitsAsked, length, ByLeg}
 use Rattle.gt_entry.specs.Entries.{is_invalid}
 use Rattle.gt_entry.specs.Spelling.{control_with}
 use Rattle.gt_calls.specs.Path.{IsExchanged, IsChanged, idle_word}
@@ -14,9 +14,9 @@ pub record IsHere (s : Setting) (h : History) (xs : List State) (d : DomId) (r :
   pub at : StandsAt (known_at s h d) d r shown phase
   pub acts : action_at d phase ≡ Makes step
   pub place : PhaseStands s h d r so_far phase
-  pub held : legs_at h d.0 ≡ numbered 0 (reverse (last_first (Rattle.gt_calls.specs.Standing.pins_at phase)))
-  pub rests : Rattle.gt_calls.specs.Resting.Rests (known_at s h d) d r (Rattle.gt_calls.specs.Standing.pins_at phase) shown (Makes step)
-  pub fits : Rattle.gt_core.specs.Standing.FitsAsked r
+  pub held : legs_at h d.0 ≡ numbered 0 (reverse (last_first (pins_at phase)))
+  pub rests : Rests (known_at s h d) d r (pins_at phase) shown (Makes step)
+  pub fits : FitsAsked r
 
 abbrev step_in : Action → Step → Step
 step_in (Makes step) other = step
@@ -24,6 +24,11 @@ step_in (Done verdict) other = other
 
 pub makes-same : (a b : Step) → Makes a ≡ Makes b → a ≡ b
 makes-same a b e = ap (λ (x : Action). step_in x a) e
+
+-- a call that gives its pins back makes a step that gives one back by its place
+pub by-giving : (P : Step → Type 0) → ((p : Held) (n : ℕ) → P (Unpin p (ByLeg n))) → (held : List Held) (verdict : Verdict) (step : Step) → next_to_give held verdict ≡ Makes step → P step
+by-giving P each [] verdict step e = absurd (let f : Done verdict ≡ Makes step = e in cc)
+by-giving P each (p ∷ ps) verdict step e = subst P (makes-same _ _ e) (each p (length ps))
 
 pub state-some : (s : Setting) (h : History) (xs : List State) (dom : DomId) → DomainsStand s h xs → domain_of s.domains dom ≢ None → state_of xs dom.0 ≢ None
 state-some s h xs dom st some e = some (subst (λ (o : Option State). StateAgrees s h dom o) e (st.each dom))
@@ -77,10 +82,6 @@ quiet-within xs d (WriteBytes dom frame off len) q = tt
 quiet-within xs d (CopyBytes from to len) q = tt
 quiet-within xs d step q = absurd q
 
-give-within : (xs : List State) (d : DomId) (held : List Held) (verdict : Verdict) (step : Step) → next_to_give held verdict ≡ Makes step → IsWithin xs d step
-give-within xs d [] verdict step e = cc
-give-within xs d (p ∷ ps) verdict step e = subst (λ (z : Step). IsWithin xs d z) (makes-same _ _ e) tt
-
 asks-run : (s : Setting) (h : History) (d : DomId) (r : Asked) (dom : DomId) (question : Question) → begun (known_at s h d) d r ≡ None → Asks d r dom question → domain_of s.domains dom ≢ None
 asks-run s h d r dom AsksSize none a =
     subst (λ (z : DomId). domain_of s.domains z ≢ None) (sym a.2)
@@ -103,7 +104,7 @@ step-within s h xs d r shown so_far phase step i = subst (λ (a : Action). OfAct
     by (Walking aim l at) a b e = leg-within s h xs d l so_far at (state-some s h xs l.dom i.st b.0) b.1
     by (Asking dom question) a b e = state-some s h xs dom i.st (asks-run s h d r dom question i.at.unanswered b)
     by (Last last verdict) a b e = quiet-within xs d last a.0
-    by (Ending pins verdict) a b e = subst (λ (x : Action). OfAction x) (sym e) (give-within xs d (last_first pins) verdict step e)
+    by (Ending pins verdict) a b e = subst (λ (x : Action). OfAction x) (sym e) (by-giving (IsWithin xs d) (λ p n. tt) (last_first pins) verdict step e)
     by p a b e = tt
 
 -- what a step sees fits it
@@ -179,10 +180,6 @@ quiet-publishes : (s : Setting) (h : History) (d : DomId) (step : Step) → IsQu
 quiet-publishes s h d (Exchange gref looked change) q = absurd q
 quiet-publishes s h d step q = tt
 
-give-publishes : (s : Setting) (h : History) (d : DomId) (held : List Held) (verdict : Verdict) (step : Step) → next_to_give held verdict ≡ Makes step → IsPublished s h d step
-give-publishes s h d [] verdict step e = cc
-give-publishes s h d (p ∷ ps) verdict step e = subst (IsPublished s h d) (makes-same _ _ e) tt
-
 pub step-publishes : (s : Setting) (h : History) (xs : List State) (d : DomId) (r : Asked) (shown : List Seen) (so_far : StepsSoFar) (phase : Phase) (step : Step) → IsHere s h xs d r shown so_far phase step → IsPublished s h d step
 step-publishes s h xs d r shown so_far phase step i = subst (λ (a : Action). OfAction a) i.acts (by phase i.at.has_shown i.acts)
   where
@@ -195,5 +192,5 @@ step-publishes s h xs d r shown so_far phase step i = subst (λ (a : Action). Of
     by (Changing gref change more looked) a e = turn-publishes s h d r gref looked change a.1
     by (Walking aim l at) a e = leg-publishes s h d l at
     by (Last last verdict) a e = quiet-publishes s h d last a.0
-    by (Ending pins verdict) a e = subst (λ (x : Action). OfAction x) (sym e) (give-publishes s h d (last_first pins) verdict step e)
+    by (Ending pins verdict) a e = subst (λ (x : Action). OfAction x) (sym e) (by-giving (IsPublished s h d) (λ p n. tt) (last_first pins) verdict step e)
     by p a e = tt

@@ -1,13 +1,13 @@
 -- What the core does for a step of an open call: it is right, and the core stands for it.
-use Rattle.gt_core.proofs.Words.{◌≡◌, ◌≢◌, inl, inr, ℕ, refl, Bool, true, false, List, [], ◌∷◌, ◌++◌, length, Option, Some, None, cond, sym, ap, ◌∙◌, subst, reverse, eqb-true, eq-eqb, length-reverse, reverse_onto, same_Some, ◌==◌, DomId, GrantRef, Denial, Entry, Invalid, Half, Handle, Held, Asked, ByMapping, ByLeg, Seen, Nothing, Taken, Missed, Verdict, Granted, Given, KeptPin, Refused, Step, PinStep, Unpin, StoreBody, StoreHeader, Exchange, ReadBytes, WriteBytes, CopyBytes, Action, Makes, Done, Call, Phase, Storing, Walking, Last, Ending, last_first, knowledge_of, path, phase_after, action_at, next_to_give, after_store, HasShown, pins_at, held_in, Goes, Open, Item, Answer, Denied, AnswerDone, Mapped, State, state_of, sees, History, Setting, live, word_at, known_at, legs_at, mappings_at, mapping_of, seen_by, Underway, values, open_call, underway_after, holder_after, one_if_mapped, StepsRight, GivesValue, refusal_in, refusal_of, DomainsStand, Agrees, CallAgrees, OpenAgrees, numbered, position, get_or, set, position-Some, domain_of, Value, FramesTold, BytesAnswer, Kept, applied, with_underway, with_mapping, Adds, IsReadable, IsAdmitted, AccessedBy, bytes_at, FrameSet, frame_at, contents_at, IsRight, StepsRightIn, CoreStands, FramesStand, core_of, Settled, IsLawful, IsLawfullyHeld, answer_with, Closed, IsRoomFor, IsMapping, ticked_with, ticked_element, Element, Tick, MayDo, Does, Did, grown}
+use Rattle.gt_core.proofs.Words.{◌≡◌, ◌≢◌, inl, inr, ℕ, refl, Bool, true, false, List, [], ◌∷◌, ◌++◌, length, Option, Some, None, cond, sym, ap, ◌∙◌, subst, reverse, eqb-true, eq-eqb, length-reverse, reverse_onto, same_Some, ◌==◌, DomId, GrantRef, Denial, Entry, Invalid, Half, Handle, Held, Asked, ByMapping, ByLeg, Seen, Nothing, Taken, Missed, Verdict, Granted, Given, KeptPin, Refused, Step, PinStep, Unpin, StoreBody, StoreHeader, Exchange, ReadBytes, WriteBytes, CopyBytes, Action, Makes, Done, Call, Phase, Storing, Walking, Last, Ending, last_first, knowledge_of, path, phase_after, action_at, next_to_give, after_store, HasShown, pins_at, held_in, Goes, Open, Item, Answer, Denied, AnswerDone, Mapped, State, state_of, sees, History, Setting, live, word_at, known_at, legs_at, mappings_at, mapping_of, seen_by, Underway, values, open_call, underway_after, holder_after, one_if_mapped, StepsRight, GivesValue, refusal_in, refusal_of, DomainsStand, Agrees, CallAgrees, OpenAgrees, numbered, position, get_or, set, position-Some, domain_of, Value, FramesTold, BytesAnswer, Kept, applied, with_underway, with_mapping, Adds, IsReadable, IsAdmitted, AccessedBy, bytes_at, FrameSet, frame_at, contents_at, IsRight, StepsRightIn, CoreStands, FramesStand, core_of, Settled, IsLawful, IsLawfullyHeld, answer_with, Closed, IsRoomFor, IsMapping, ticked_with, ticked_element, Element, Tick, MayDo, Does, Did, grown, without, RestsOnRequest, WantsMemoryNow, IsWritingNext}
 use Rattle.gt_core.specs.declared.core_state.Ticked.{Ticked as TickTold}
 use Rattle.std.specs.Prelude.{take, drop}
 use Rattle.gt_core.proofs.Quiet.{KeepsKnown}
-use Rattle.gt_core.proofs.Phases.{IsHere, makes-same}
+use Rattle.gt_core.proofs.Phases.{IsHere, makes-same, by-giving}
 use Rattle.gt_core.proofs.Placing.{IsStore}
 use Rattle.gt_core.proofs.Keeping.{stepped, KeepsEntries, open_call-own}
 use Rattle.gt_core.proofs.Pinning.{pins, map-legs}
-use Rattle.gt_core.proofs.Unpinning.{unpins, leg-left, leg-mappings, mapping-legs}
+use Rattle.gt_core.proofs.Unpinning.{unpins, leg-left, leg-mappings, mapping-legs, Loses}
 use Rattle.gt_core.proofs.Acting.{can-change, can-pin, store-invalid}
 use Rattle.gt_core.proofs.Outcomes.{next_of, ends-so}
 use Rattle.gt_core.specs.declared.trace.Bytes.{Bytes}
@@ -23,7 +23,7 @@ use Rattle.gt_core.proofs.Framing.{bytes-held, open-admitted, open-readable, fra
 use Rattle.gt_core.proofs.Acting.{header-fits, map-lawful, CanPin}
 use Rattle.gt_core.proofs.Values.{granted-value, given-value, mapped-ends}
 use Rattle.gt_core.proofs.Beginning.{agrees-found}
-use Rattle.gt_core.proofs.Ticking.{Ticks, ticks, here-of, given-goes-on, legs-after, open-after, goes-right, ends-right, last-fact}
+use Rattle.gt_core.proofs.Ticking.{Ticks, ticks, here-of, given-goes-on, legs-after, open-after, goes-right, ends-right, last-fact, leg-store}
 
 -- the states where just the actor's call, or its handles or bytes, are others
 abbrev Replaced : List State → List State → State → State → Type 0
@@ -73,7 +73,7 @@ step-stands s h xs ys x c phase (Unpin p (ByLeg place)) answer o' i last here a 
     let legs : legs_at h x.id.0 ≡ numbered 0 (reverse l.0 ++ p ∷ []) = i.held ∙ ap (λ (z : List Held). numbered 0 (reverse z)) l.1 ∙ ap (numbered 0) (reverse_onto l.0 p []) in
     let at : length (reverse l.0) ≡ place = length-reverse l.0 ∙ sym l.2 in
     unpin-stands s h xs _ x p (ByLeg place) Nothing answer x.mappings o' i.st here a (becomes-unpinned xs ys x p (ByLeg place) o' r)
-    (subst (λ (n : ℕ). Rattle.gt_core.proofs.Unpinning.Loses p (live h) (Rattle.gt_core.specs.History.without x.id.0 (ByLeg n) (live h))) at (loses-leg h x.id (reverse l.0) p legs))
+    (subst (λ (n : ℕ). Loses p (live h) (without x.id.0 (ByLeg n) (live h))) at (loses-leg h x.id (reverse l.0) p legs))
     (unpin-agrees h x.id p place Nothing answer x.mappings m a.mappings) call (given-goes-on x.id (Unpin p (ByLeg place)) Nothing answer h x.given a.given)
 step-stands s h xs ys x c phase (Unpin p (ByMapping handle)) answer o' i last here a r m leg store call =
     let found : mapping_of (mappings_at h x.id.0) handle ≡ Some p = i.rests.1.1 in
@@ -128,13 +128,9 @@ store-goes s h xs x o c new v t store = by o.step refl store
         after : (y : Entry) → Done v ≡ action_at x.id (after_store (known_at s h x.id) g y) → ⊥
         after Invalid k = cc
         after y k = cc
-    stored (Walking aim l at) gref half word a e f = Rattle.gt_core.proofs.Ticking.leg-store l at (subst IsStore (sym (makes-same _ _ e)) tt)
-    stored (Last last verdict) gref half word a e f = subst (Rattle.gt_calls.specs.Resting.RestsOnRequest (known_at s h x.id) x.id c.request) (makes-same _ _ e) a.1
-    stored (Ending held verdict) gref half word a e f = give (last_first held) e
-      where
-        give : (l : List Held) → next_to_give l verdict ≡ Makes (StoreBody gref half word) → ⊥
-        give [] k = cc
-        give (p ∷ ps) k = cc
+    stored (Walking aim l at) gref half word a e f = leg-store l at (subst IsStore (sym (makes-same _ _ e)) tt)
+    stored (Last last verdict) gref half word a e f = subst (RestsOnRequest (known_at s h x.id) x.id c.request) (makes-same _ _ e) a.1
+    stored (Ending held verdict) gref half word a e f = by-giving (λ (z : Step). IsStore z → ⊥) (λ p n k. k) (last_first held) verdict _ e tt
     stored p gref half word a e f = cc
 
     by : (step : Step) → o.step ≡ step → IsStore step → ⊥
@@ -236,7 +232,7 @@ read-gives s h xs fs x o c new dom frame off len b t fr is gives =
     let i = subst (IsHere s h xs x.id c.request (values c) (reverse c.steps) t.stands.phase) is (here-of s h xs x o c t.st t.here t.stands) in
     by i.rests.1 (gives ∙ bytes-held s h fs dom frame off len fr)
   where
-    by : Rattle.gt_calls.specs.Resting.RestsOnRequest (known_at s h x.id) x.id c.request (ReadBytes dom frame off len) → b.bytes.items ≡ take len (drop off (contents_at h dom.0 frame))
+    by : RestsOnRequest (known_at s h x.id) x.id c.request (ReadBytes dom frame off len) → b.bytes.items ≡ take len (drop off (contents_at h dom.0 frame))
         → GivesValue s h x.id c.request (Some (ReadBytes dom frame off len)) (BytesAnswer b)
     by (inl (handle, asked, mapped)) bytes = subst (λ (q : Asked). GivesValue s h x.id q (Some (ReadBytes dom frame off len)) (BytesAnswer b)) (sym asked) bytes
     by (inr (asked, own)) bytes = subst (λ (q : Asked). GivesValue s h x.id q (Some (ReadBytes dom frame off len)) (BytesAnswer b)) (sym asked) bytes
@@ -355,11 +351,11 @@ room-asked s h xs dom at x o seen new action st b = tt
 
 -- a tick for which memory is wanted
 pub tick-wants : (s : Setting) (h : History) (xs : List State) (dom : DomId) (at : ℕ) (x : State) (o : Open) → position (has_id dom.0) xs ≡ Some at → x ≡ get_or xs at x → x.underway ≡ Some o → DomainsStand s h xs → IsWriting o.step
-    → Rattle.gt_core.specs.Standing.WantsMemoryNow s h dom
+    → WantsMemoryNow s h dom
 tick-wants s h xs dom at x o place here under st writing =
     let a = agrees-found s h xs dom at x place here st in
     let u = call-here s h x.id x.underway (open_call h x.id.0) o under a.2.call in
-    subst (Rattle.gt_core.specs.Standing.WantsMemoryNow s h) a.1 (u.0, u.1, subst Rattle.gt_core.specs.Standing.IsWritingNext (sym u.2.follows) writing)
+    subst (WantsMemoryNow s h) a.1 (u.0, u.1, subst IsWritingNext (sym u.2.follows) writing)
 
 -- the open call of the domain asked
 open-here : (s : Setting) (h : History) (xs : List State) (dom : DomId) (at : ℕ) (x : State) (o : Open) → position (has_id dom.0) xs ≡ Some at → x ≡ get_or xs at x → x.underway ≡ Some o → DomainsStand s h xs

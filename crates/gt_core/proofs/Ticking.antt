@@ -1,17 +1,17 @@
 -- A step of an open call is right, and the core stands for it.
-use Rattle.gt_core.proofs.Words.{◌≡◌, ◌≢◌, ◌<◌, ◌≤◌, ◌+◌, ◌⊎◌, inl, inr, ℕ, suc, refl, Bool, true, false, List, [], ◌∷◌, ◌++◌, length, Option, Some, None, cond, sym, ap, ◌∙◌, subst, reverse, arith, eqb-true, map-append, length-append, length-reverse, reverse_onto, none-some, same_Some, ◌==◌, All, DomId, GrantRef, Denial, Entry, Invalid, Sub, Header, Change, Half, FirstHalf, SecondHalf, Handle, Held, Pins, Asked, Demote, ByMapping, ByLeg, Seen, Nothing, Taken, Missed, Verdict, Granted, KeptPin, Step, PinStep, Unpin, StoreBody, StoreHeader, Exchange, ReadBytes, WriteBytes, CopyBytes, Action, Makes, Done, Call, Phase, Storing, StoringSecond, Walking, Last, Ending, last_first, no_pins, CallerKnowledge, knowledge_of, path, Rests, phase_after, action_at, next_to_give, after_store, StandsAt, HasShown, pins_at, held_in, Goes, GoesOn, most_of, steps_left, Open, Item, Answer, Stepped, State, state_of, sees, History, Setting, Pin, entry_at, generation_at, word_at, table_at, known_at, legs_at, mappings_at, mapping_of, maps_answered_at, seen_by, Underway, values, open_call, underway_after, holder_after, one_if_mapped, StepsSoFar, StepsRight, Justified, IsSafe, PinIsSound, AnsweredBy, GivesValue, LeavesAll, IsSpelled, gives_back, verdict_in, refusal_in, refusal_of, refusal_if, or_then, first_of_item, first_in_call, stood, most_steps, DomainsStand, Agrees, OpenAgrees, GivenAgrees, FitsGiven, PhaseStands, IsClean, phase_refusal, numbered}
+use Rattle.gt_core.proofs.Words.{◌≡◌, ◌≢◌, ◌<◌, ◌≤◌, ◌+◌, ◌⊎◌, inl, inr, ℕ, suc, refl, Bool, true, false, List, [], ◌∷◌, ◌++◌, length, Option, Some, None, cond, sym, ap, ◌∙◌, subst, reverse, arith, eqb-true, map-append, length-append, length-reverse, reverse_onto, none-some, same_Some, ◌==◌, All, DomId, GrantRef, Denial, Entry, Invalid, Sub, Header, Change, Half, FirstHalf, SecondHalf, Handle, Held, Pins, Asked, Demote, ByMapping, ByLeg, Seen, Nothing, Taken, Missed, Verdict, Granted, KeptPin, Step, PinStep, Unpin, StoreBody, StoreHeader, Exchange, ReadBytes, WriteBytes, CopyBytes, Action, Makes, Done, Call, Phase, Storing, StoringSecond, Walking, Last, Ending, last_first, no_pins, CallerKnowledge, knowledge_of, path, Rests, phase_after, action_at, next_to_give, after_store, StandsAt, HasShown, pins_at, held_in, Goes, GoesOn, most_of, steps_left, Open, Item, Answer, Stepped, State, state_of, sees, History, Setting, Pin, entry_at, generation_at, word_at, table_at, known_at, legs_at, mappings_at, mapping_of, maps_answered_at, seen_by, Underway, values, open_call, underway_after, holder_after, one_if_mapped, StepsSoFar, StepsRight, Justified, IsSafe, PinIsSound, AnsweredBy, GivesValue, LeavesAll, IsSpelled, gives_back, verdict_in, refusal_in, refusal_of, refusal_if, or_then, first_of_item, first_in_call, stood, most_steps, DomainsStand, Agrees, OpenAgrees, GivenAgrees, FitsGiven, PhaseStands, IsClean, phase_refusal, numbered, exchange_sees, gather, by_leg, header_stored, IsSubPage, Leg, LegPhase, leg_step, AtHeader, Continuation, body_at, second_body, publishing, RestsOnRequest, stored_at, or_else, first_body}
 use Rattle.std.proofs.lemmas.List.{reverse-append}
 use Rattle.gt_calls.specs.Following.{FitsNext, HoldsAfter}
 use Rattle.gt_calls.specs.Counting.{IsCounted}
-use Rattle.gt_core.proofs.Quiet.{KeepsKnown, kept-known, kept-legs}
+use Rattle.gt_core.proofs.Quiet.{KeepsKnown, kept-known, kept-legs, kept-table}
 use Rattle.gt_core.proofs.Seeing.{sees-agree}
-use Rattle.gt_core.proofs.Phases.{IsHere, makes-same, step-within, step-publishes, seen-fits}
+use Rattle.gt_core.proofs.Phases.{IsHere, makes-same, step-within, step-publishes, seen-fits, by-giving}
 use Rattle.gt_core.proofs.Judging.{judged}
 use Rattle.gt_core.proofs.Placing.{IsStore, placed, place-stays, BodyStays}
-use Rattle.gt_core.proofs.Keeping.{stepped, KeepsEntries, same-entry, same-generations, known-same, open_call-own, stood-own, same-number}
+use Rattle.gt_core.proofs.Keeping.{stepped, KeepsEntries, same-entry, same-generations, known-same, open_call-own, stood-own, same-number, cond-same}
 use Rattle.gt_core.proofs.Storing.{stores, half-stored, first-stays}
 use Rattle.gt_core.proofs.Pinning.{pins, leg-grows, leg-maps, answered-stays}
-use Rattle.gt_core.proofs.Unpinning.{unpins, leg-left, leg-mappings, mapping-legs}
+use Rattle.gt_core.proofs.Unpinning.{unpins, leg-left, leg-mappings, mapping-legs, from-zero}
 use Rattle.gt_core.proofs.Beginning.{is-at, to-come, pins-there}
 use Rattle.gt_core.proofs.Acting.{can-change, can-pin, store-invalid}
 use Rattle.gt_core.proofs.Exchanging.{exchanged-live}
@@ -130,7 +130,7 @@ known-from s i h d q table maps answered =
     ∙ ap (λ (n : ℕ). record { domains = s.domains; may = s.may; entry = λ r. entry_at h d.0 r; generation = λ r. generation_at s h d.0 r; header = table_at s h d; mapping = mapping_of (mappings_at h d.0); in_use = length (mappings_at h d.0); maps_answered = n })
     answered
 
-taken-word : (word looked : ℕ) → Rattle.gt_core.specs.History.exchange_sees word looked ≡ Taken → word ≡ looked
+taken-word : (word looked : ℕ) → exchange_sees word looked ≡ Taken → word ≡ looked
 taken-word word looked e = by (word == looked) refl e
   where
     by : (b : Bool) → (word == looked) ≡ b → cond b Taken (Missed word) ≡ Taken → word ≡ looked
@@ -146,9 +146,6 @@ numbered-push n (q ∷ ps) p =
 length-numbered : (n : ℕ) (ps : List Held) → length (numbered n ps) ≡ length ps
 length-numbered n [] = refl
 length-numbered n (p ∷ ps) = let e = length-numbered (n + 1) ps in omega arith
-
-from-zero : (n : ℕ) → 0 + n ≡ n
-from-zero n = omega arith
 
 -- the pin that is taken is of the entry as it is
 abbrev PinFact : History → Step → Seen → Type 0
@@ -189,7 +186,7 @@ legs-by h d answer old new action step seen m leg unmapped held holds pinned las
     by (Unpin p (ByLeg place)) v e f g = give p place v e (g p place refl)
     by (Unpin p (ByMapping handle)) v e f g = mapping-legs h d p handle v answer ∙ held ∙ ap (λ (l : List Held). numbered 0 (reverse l)) (sym e)
     by (Exchange gref looked change) Taken e f g =
-        ap (λ (ps : List Pin). Rattle.gt_core.specs.History.gather Rattle.gt_core.specs.History.by_leg d.0 ps) (exchanged-live h d gref looked change answer) ∙ held ∙ ap (λ (l : List Held). numbered 0 (reverse l)) (sym e)
+        ap (λ (ps : List Pin). gather by_leg d.0 ps) (exchanged-live h d gref looked change answer) ∙ held ∙ ap (λ (l : List Held). numbered 0 (reverse l)) (sym e)
     by z v e f g = quiet z v (record { changes = λ r. refl; pins = λ before ps. refl; unpins = λ pins. refl; maps = m }) e
 
 pub pin-fact : (s : Setting) (h : History) (xs : List State) (x : State) (o : Open) (c : Underway) (new : Call) (action : Action) → Ticks s h xs x o c new action → PinFact h o.step (seen_by s h x.id o.step)
@@ -214,14 +211,14 @@ known-by : (s : Setting) (h : History) (d : DomId) (step : Step) (seen : Seen) �
     → known_at s (stepped d step seen None ∷ h) d ≡ known_at s h d
 known-by s h d step seen single exchange = by step seen single exchange
   where
-    quiet : (z : Step) (v : Seen) → KeepsKnown (stepped d z v None) → Rattle.gt_core.specs.History.header_stored (Stepped z v) ≡ None → known_at s (stepped d z v None ∷ h) d ≡ known_at s h d
+    quiet : (z : Step) (v : Seen) → KeepsKnown (stepped d z v None) → header_stored (Stepped z v) ≡ None → known_at s (stepped d z v None ∷ h) d ≡ known_at s h d
     quiet z v k e = kept-known s (stepped d z v None) h d k e
 
     by : (z : Step) (v : Seen) → (IsSingle z → ⊥) → ((gref : GrantRef) (looked : ℕ) (change : Change) → z ≡ Exchange gref looked change → v ≡ Taken → ⊥) → known_at s (stepped d z v None ∷ h) d ≡ known_at s h d
     by (PinStep p) Taken n e =
-        known-from s (pins d p None) h d (record { changes = λ r. refl; stores = λ r which. refl; header = refl }) (Rattle.gt_core.proofs.Quiet.kept-table s (pins d p None) h d refl) (leg-maps h d p None refl) (answered-stays h (pins d p None) d.0 refl)
+        known-from s (pins d p None) h d (record { changes = λ r. refl; stores = λ r which. refl; header = refl }) (kept-table s (pins d p None) h d refl) (leg-maps h d p None refl) (answered-stays h (pins d p None) d.0 refl)
     by (Unpin p (ByLeg place)) v n e =
-        known-from s (unpins d p (ByLeg place) v None) h d (record { changes = λ r. refl; stores = λ r which. refl; header = refl }) (Rattle.gt_core.proofs.Quiet.kept-table s (unpins d p (ByLeg place) v None) h d refl) (leg-mappings h d p place v None)
+        known-from s (unpins d p (ByLeg place) v None) h d (record { changes = λ r. refl; stores = λ r which. refl; header = refl }) (kept-table s (unpins d p (ByLeg place) v None) h d refl) (leg-mappings h d p place v None)
         (answered-stays h (unpins d p (ByLeg place) v None) d.0 refl)
     by (Unpin p (ByMapping handle)) v n e = absurd (n tt)
     by (StoreHeader version frames) v n e = absurd (n tt)
@@ -244,56 +241,52 @@ known-after s h xs x o c new z t =
 
 -- where a store leads
 
-plain-spelled : (entry : Entry) (first second : ℕ) → (Rattle.gt_calls.specs.Resting.IsSubPage entry → ⊥) → first ≡ Rattle.gt_calls.specs.Rules.first_body entry → IsSpelled entry first second
+plain-spelled : (entry : Entry) (first second : ℕ) → (IsSubPage entry → ⊥) → first ≡ first_body entry → IsSpelled entry first second
 plain-spelled Invalid first second n f = tt
 plain-spelled (Sub dom ro frame off len) first second n f = absurd (n tt)
 plain-spelled entry first second n f = f
 
-pub leg-store : (l : Rattle.gt_calls.specs.declared.leg.Leg.Leg) (at : Rattle.gt_calls.specs.declared.leg.LegPhase.LegPhase) → IsStore (Rattle.gt_calls.specs.Machine.leg_step l at) → ⊥
-leg-store l Rattle.gt_calls.specs.declared.leg.LegPhase.TheVariants.Header f = f
+pub leg-store : (l : Leg) (at : LegPhase) → IsStore (leg_step l at) → ⊥
+leg-store l AtHeader f = f
 leg-store l at f = f
 
-store-place : (s : Setting) (h : History) (d : DomId) (r : Asked) (so_far now : StepsSoFar) (phase : Phase) (gref : GrantRef) (half : Half) (word : ℕ) (way : Rattle.gt_calls.specs.Path.Continuation) (shown : List Seen) → HasShown (known_at s h d) way d r shown phase → PhaseStands s h d r so_far phase
+store-place : (s : Setting) (h : History) (d : DomId) (r : Asked) (so_far now : StepsSoFar) (phase : Phase) (gref : GrantRef) (half : Half) (word : ℕ) (way : Continuation) (shown : List Seen) → HasShown (known_at s h d) way d r shown phase → PhaseStands s h d r so_far phase
     → action_at d phase ≡ Makes (StoreBody gref half word) → PhaseStands s (stores d gref half word ∷ h) d r now (phase_after (known_at s h d) d phase Nothing)
 store-place s h d r so_far now (Storing g entry) gref half word way shown a b e =
-    let z : StoreBody g FirstHalf (Rattle.gt_calls.specs.Rules.first_body entry) ≡ StoreBody gref half word = makes-same _ _ e in
+    let z : StoreBody g FirstHalf (first_body entry) ≡ StoreBody gref half word = makes-same _ _ e in
     subst (λ (st : Step). PhaseStands s (stepped d st Nothing None ∷ h) d r now (after_store (known_at s h d) g entry)) z (by entry)
   where
-    by : (y : Entry) → PhaseStands s (stores d g FirstHalf (Rattle.gt_calls.specs.Rules.first_body y) ∷ h) d r now (after_store (known_at s h d) g y)
-    by (Sub dom ro frame off len) = half-stored d g FirstHalf (Rattle.gt_calls.specs.Rules.first_body (Sub dom ro frame off len)) h
-    by y = plain-spelled y (Rattle.gt_core.specs.History.body_at (stores d g FirstHalf (Rattle.gt_calls.specs.Rules.first_body y) ∷ h) d.0 g.0 FirstHalf) (Rattle.gt_core.specs.History.body_at (stores d g FirstHalf (Rattle.gt_calls.specs.Rules.first_body y) ∷ h) d.0 g.0 SecondHalf) (λ n. n) (half-stored d g FirstHalf (Rattle.gt_calls.specs.Rules.first_body y) h)
+    by : (y : Entry) → PhaseStands s (stores d g FirstHalf (first_body y) ∷ h) d r now (after_store (known_at s h d) g y)
+    by (Sub dom ro frame off len) = half-stored d g FirstHalf (first_body (Sub dom ro frame off len)) h
+    by y = plain-spelled y (body_at (stores d g FirstHalf (first_body y) ∷ h) d.0 g.0 FirstHalf) (body_at (stores d g FirstHalf (first_body y) ∷ h) d.0 g.0 SecondHalf) (λ n. n) (half-stored d g FirstHalf (first_body y) h)
 store-place s h d r so_far now (StoringSecond g entry) gref half word way shown a b e =
-    let z : StoreBody g SecondHalf (Rattle.gt_calls.specs.Rules.second_body entry) ≡ StoreBody gref half word = makes-same _ _ e in
-    subst (λ (st : Step). PhaseStands s (stepped d st Nothing None ∷ h) d r now (Rattle.gt_calls.specs.Machine.publishing (known_at s h d) g entry)) z (by entry a.3 b)
+    let z : StoreBody g SecondHalf (second_body entry) ≡ StoreBody gref half word = makes-same _ _ e in
+    subst (λ (st : Step). PhaseStands s (stepped d st Nothing None ∷ h) d r now (publishing (known_at s h d) g entry)) z (by entry a.3 b)
   where
-    by : (y : Entry) → Rattle.gt_calls.specs.Resting.IsSubPage y → Rattle.gt_core.specs.History.body_at h d.0 g.0 FirstHalf ≡ Rattle.gt_calls.specs.Rules.first_body y
-        → PhaseStands s (stores d g SecondHalf (Rattle.gt_calls.specs.Rules.second_body y) ∷ h) d r now (Rattle.gt_calls.specs.Machine.publishing (known_at s h d) g y)
+    by : (y : Entry) → IsSubPage y → body_at h d.0 g.0 FirstHalf ≡ first_body y
+        → PhaseStands s (stores d g SecondHalf (second_body y) ∷ h) d r now (publishing (known_at s h d) g y)
     by (Sub dom ro frame off len) n f =
         let y : Entry = Sub dom ro frame off len in
-        (first-stays d g (Rattle.gt_calls.specs.Rules.second_body y) g.0 h ∙ f, half-stored d g SecondHalf (Rattle.gt_calls.specs.Rules.second_body y) h)
+        (first-stays d g (second_body y) g.0 h ∙ f, half-stored d g SecondHalf (second_body y) h)
     by y n f = absurd n
 store-place s h d r so_far now (Walking aim l at) gref half word way shown a b e = absurd (leg-store l at (subst IsStore (sym (makes-same _ _ e)) tt))
 store-place s h d r so_far now (Last last verdict) gref half word way shown a b e =
     absurd (subst (λ (z : Step). RestsOn z → ⊥) (sym (makes-same _ _ e)) (λ n. n) a.1)
   where
     RestsOn : Step → Type 0
-    RestsOn z = Rattle.gt_calls.specs.Resting.RestsOnRequest (known_at s h d) d r z
-store-place s h d r so_far now (Ending held_pins verdict) gref half word way shown a b e = absurd (give (last_first held_pins) e)
-  where
-    give : (held : List Held) → next_to_give held verdict ≡ Makes (StoreBody gref half word) → ⊥
-    give [] f = cc
-    give (p ∷ ps) f = cc
+    RestsOn z = RestsOnRequest (known_at s h d) d r z
+store-place s h d r so_far now (Ending held_pins verdict) gref half word way shown a b e = absurd (by-giving (λ (z : Step). IsStore z → ⊥) (λ p n f. f) (last_first held_pins) verdict _ e tt)
 store-place s h d r so_far now phase gref half word way shown a b e = cc
 
-body-stays : (i : Item) (h : History) (d : ℕ) → ((r : ℕ) (which : Half) → Rattle.gt_core.specs.History.stored_at i.happened r which ≡ None) → BodyStays i h d
-unfolding Rattle.gt_core.specs.History.body_at
-body-stays i h d none = λ r which. ap (λ (o : Option ℕ). Rattle.gt_core.specs.History.or_else o (Rattle.gt_core.specs.History.body_at h d r which)) (ap (λ (o : Option ℕ). cond (i.actor.0 == d) o None) (none r which) ∙ Rattle.gt_core.proofs.Keeping.cond-same (i.actor.0 == d) None)
+body-stays : (i : Item) (h : History) (d : ℕ) → ((r : ℕ) (which : Half) → stored_at i.happened r which ≡ None) → BodyStays i h d
+unfolding body_at
+body-stays i h d none = λ r which. ap (λ (o : Option ℕ). or_else o (body_at h d r which)) (ap (λ (o : Option ℕ). cond (i.actor.0 == d) o None) (none r which) ∙ cond-same (i.actor.0 == d) None)
 
 decide-store : (step : Step) → IsStore step ⊎ (IsStore step → ⊥)
 decide-store (StoreBody gref half word) = inl tt
 decide-store step = inr (λ n. n)
 
-stored-none : (step : Step) (seen : Seen) → (IsStore step → ⊥) → (r : ℕ) (which : Half) → Rattle.gt_core.specs.History.stored_at (Stepped step seen) r which ≡ None
+stored-none : (step : Step) (seen : Seen) → (IsStore step → ⊥) → (r : ℕ) (which : Half) → stored_at (Stepped step seen) r which ≡ None
 stored-none (StoreBody gref half word) seen n r which = absurd (n tt)
 stored-none step seen n r which = refl
 
@@ -382,11 +375,7 @@ most-fits r = omega arith
 
 -- a call that goes on gives pins back, or has no rule against it
 goes-fair : (d : DomId) (p : Phase) (z : Step) → action_at d p ≡ Makes z → (phase_refusal p ≡ None) ⊎ (gives_back (Some (Makes z)) ≡ true)
-goes-fair d (Ending pins verdict) z e = inr (by (last_first pins) e)
-  where
-    by : (held : List Held) → next_to_give held verdict ≡ Makes z → gives_back (Some (Makes z)) ≡ true
-    by [] f = cc
-    by (p ∷ ps) f = subst (λ (y : Step). gives_back (Some (Makes y)) ≡ true) (makes-same _ _ f) refl
+goes-fair d (Ending pins verdict) z e = inr (by-giving (λ (y : Step). gives_back (Some (Makes y)) ≡ true) (λ p n. refl) (last_first pins) verdict z e)
 goes-fair d p z e = inl refl
 
 pub goes-right : (s : Setting) (h : History) (xs : List State) (x : State) (o : Open) (c : Underway) (new : Call) (z : Step) → Ticks s h xs x o c new (Makes z)

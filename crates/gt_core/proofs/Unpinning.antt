@@ -197,7 +197,7 @@ last-less m (q ∷ ps) p =
     ∙ ap (λ (l : List (ℕ × Held)). (m, q) ∷ l)
     ((let e : m + suc (length ps) ≡ m + 1 + length ps = omega arith in ap (λ (n : ℕ). less_of (λ (k : ℕ). k == n) (numbered (m + 1) (ps ++ p ∷ []))) e) ∙ last-less (m + 1) ps p)
 
-from-zero : (n : ℕ) → 0 + n ≡ n
+pub from-zero : (n : ℕ) → 0 + n ≡ n
 from-zero n = omega arith
 
 pub loses-leg : (h : History) (d : DomId) (ps : List Held) (p : Held) → legs_at h d.0 ≡ numbered 0 (ps ++ p ∷ []) → Loses p (live h) (without d.0 (ByLeg (length ps)) (live h))

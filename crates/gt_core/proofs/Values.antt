@@ -1,5 +1,5 @@
 -- What an answer of a call is, by its last step.
-use Rattle.gt_core.proofs.Words.{◌≡◌, ◌⊎◌, inl, inr, ℕ, refl, Bool, true, false, List, [], ◌∷◌, length, Option, Some, cond, sym, ap, ◌∙◌, subst, eqb-true, ◌==◌, nat_lt, DomId, GrantRef, Denial, N18, N19, Entry, Invalid, Header, Change, Publish, ToReadOnly, ToWritable, control_of, header_of, header_word, Held, Asked, Map, SetupTable, QuerySize, GetVersion, ByMapping, ByLeg, Seen, Taken, Missed, Verdict, Granted, Given, Refused, Value, FramesTold, SizeTold, VersionTold, Step, LookHeader, PinStep, Unpin, StoreBody, StoreHeader, Exchange, ReadBytes, WriteBytes, Action, Makes, Done, Aim, Mapping, Question, AsksSize, AsksVersion, Phase, Storing, StoringSecond, Exchanging, Looking, Changing, Walking, Accessing, Asking, Last, Ending, Leg, LegPhase, Pinning, LegNext, Pinned, last_first, pins_so_far, CallerKnowledge, path, held_of, is_stopped, Continuation, IsFor, RestsOnWord, RestsOnRequest, phase_after, action_at, after_leg, leg_after, leg_step, after_store, refused_as, next_to_give, HasShown, IsQuiet, IsTurn, held_in, AnswerDone, State, History, Setting, word_at, table_at, known_at, seen_by, StepsSoFar, GivesValue, DomainsStand, PhaseStands, EndsAfter, EndsCopy, Asks, answer_with}
+use Rattle.gt_core.proofs.Words.{◌≡◌, ◌⊎◌, inl, inr, ℕ, refl, Bool, true, false, List, [], ◌∷◌, length, Option, Some, cond, sym, ap, ◌∙◌, subst, eqb-true, ◌==◌, nat_lt, DomId, GrantRef, Denial, N18, N19, Entry, Invalid, Header, Change, Publish, ToReadOnly, ToWritable, control_of, header_of, header_word, Held, Asked, Map, SetupTable, QuerySize, GetVersion, ByMapping, ByLeg, Seen, Taken, Missed, Verdict, Granted, Given, Refused, Value, FramesTold, SizeTold, VersionTold, Step, LookHeader, PinStep, Unpin, StoreBody, StoreHeader, Exchange, ReadBytes, WriteBytes, Action, Makes, Done, Aim, Mapping, Question, AsksSize, AsksVersion, Phase, Storing, StoringSecond, Exchanging, Looking, Changing, Walking, Accessing, Asking, Last, Ending, Leg, LegPhase, Pinning, LegNext, Pinned, last_first, pins_so_far, CallerKnowledge, path, held_of, is_stopped, Continuation, IsFor, RestsOnWord, RestsOnRequest, phase_after, action_at, after_leg, leg_after, leg_step, after_store, refused_as, next_to_give, HasShown, IsQuiet, IsTurn, held_in, AnswerDone, State, History, Setting, word_at, table_at, known_at, seen_by, StepsSoFar, GivesValue, DomainsStand, PhaseStands, EndsAfter, EndsCopy, Asks, answer_with, MAX_TABLE_FRAMES, ◌-◌}
 use Rattle.gt_calls.specs.declared.action.Verdict.TheVariants.{Mapped}
 use Rattle.gt_calls.specs.Holding.{without_last}
 use Rattle.gt_core.specs.declared.trace.Answer.TheVariants.{Size, Version}
@@ -7,6 +7,7 @@ use Rattle.gt_core.proofs.Fitting.{table-fits}
 use Rattle.gt_core.proofs.Phases.{IsHere, makes-same}
 use Rattle.gt_core.proofs.Outcomes.{next_of, walk-done}
 use Rattle.gt_calls.specs.Path.{told}
+use Rattle.gt_core.proofs.Judging.{not-pinned}
 
 -- the next phase of a call that stands at a question
 abbrev Next : Setting → History → DomId → Phase → Step → Verdict → Type 0
@@ -82,10 +83,10 @@ granted-value s h xs d r shown so_far phase step i read next = by phase i.at.has
 told-value : (s : Setting) (h : History) (xs : List State) (d : DomId) (r : Asked) (dom : DomId) (question : Question) (value : Value) → DomainsStand s h xs → Asks d r dom question → told question (header_word (table_at s h dom)) ≡ Given value
     → GivesValue s h d r (Some (LookHeader dom)) (answer_with value)
 told-value s h xs d r dom AsksSize value st a e =
-    let v : SizeTold (record { frames = (header_of (header_word (table_at s h dom))).frames; max = Rattle.gt_types.specs.declared.limits.TheConstants.MAX_TABLE_FRAMES }) ≡ value = cc in
+    let v : SizeTold (record { frames = (header_of (header_word (table_at s h dom))).frames; max = MAX_TABLE_FRAMES }) ≡ value = cc in
     subst (λ (z : Asked). GivesValue s h d z (Some (LookHeader dom)) (answer_with value)) (sym a.1)
     (subst (λ (x : Value). GivesValue s h d (QuerySize a.0) (Some (LookHeader dom)) (answer_with x)) v
-    (ap (λ (t : Header). Size (record { frames = t.frames; max = Rattle.gt_types.specs.declared.limits.TheConstants.MAX_TABLE_FRAMES })) (table-fits _ (st.tables dom)).1))
+    (ap (λ (t : Header). Size (record { frames = t.frames; max = MAX_TABLE_FRAMES })) (table-fits _ (st.tables dom)).1))
 told-value s h xs d r dom AsksVersion value st a e =
     let v : VersionTold (header_of (header_word (table_at s h dom))).version ≡ value = cc in
     subst (λ (z : Asked). GivesValue s h d z (Some (LookHeader dom)) (answer_with value)) (sym a.1)
@@ -133,7 +134,7 @@ change-end : (Q : Verdict → Type 0) (k : CallerKnowledge) (d : DomId) (gref : 
 change-end Q k d gref change more looked w true plain = plain.0
 change-end Q k d gref change more looked w false plain = by (nat_lt 0 more)
   where
-    by : (c : Bool) → AtEnd Q (action_at d (cond c (Looking gref change (Rattle.std.proofs.Common.◌-◌ more 1)) (refused_as d gref N18 w)))
+    by : (c : Bool) → AtEnd Q (action_at d (cond c (Looking gref change (◌-◌ more 1)) (refused_as d gref N18 w)))
     by true = tt
     by false = plain.1 _
 
@@ -220,8 +221,8 @@ pinned-leg s h d l (Pinning more word body second) m e = by (word_at s h l.dom.0
         let f : Pinned q ≡ Pinned m = sym (ap (λ (b : Bool). leg_after l (Pinning more word body second) (cond b Taken (Missed (word_at s h l.dom.0 l.gref.0)))) is) ∙ e in
         let same : q ≡ m = cc in
         (ap PinStep same, subst (λ (z : Held). word_at s h z.dom.0 z.gref.0 ≡ z.word) same (eqb-true (word_at s h l.dom.0 l.gref.0) word is))
-    by false is = absurd (Rattle.gt_core.proofs.Judging.not-pinned s h d l (Pinning more word body second) is m e)
-pinned-leg s h d l at m e = absurd (Rattle.gt_core.proofs.Judging.not-pinned s h d l at tt m e)
+    by false is = absurd (not-pinned s h d l (Pinning more word body second) is m e)
+pinned-leg s h d l at m e = absurd (not-pinned s h d l at tt m e)
 
 pub mapped-ends : (s : Setting) (h : History) (xs : List State) (d : DomId) (r : Asked) (shown : List Seen) (so_far : StepsSoFar) (phase : Phase) (step : Step) (m : Held) → IsHere s h xs d r shown so_far phase step
     → Next s h d phase step (Mapped m) → MapEnds s h d r phase step m

@@ -50,12 +50,12 @@ pub use Rattle.gt_frames.specs.Sets.{AreKept, FrameSet, all_zeros, frame_at, has
 pub use Rattle.gt_calls.specs.Asking.{asked, begun_of, given_by}
 pub use Rattle.gt_calls.specs.Counting.{most_steps as most_of, steps_left}
 pub use Rattle.gt_calls.specs.Following.{Goes, GoesOn, Starts}
-pub use Rattle.gt_calls.specs.Holding.{held_by, last_first, no_pins, pins_so_far}
-pub use Rattle.gt_calls.specs.Machine.{action_at, after_dest_pin, after_leg, after_miss, after_pin_of, after_source_pin, after_store, at_dest, leg_after, leg_step, next_to_give, phase_after, refused_as, where_via}
+pub use Rattle.gt_calls.specs.Holding.{held_by, last_first, no_pins, pins_so_far, owner_by}
+pub use Rattle.gt_calls.specs.Machine.{action_at, after_dest_pin, after_leg, after_miss, after_pin_of, after_source_pin, after_store, at_dest, leg_after, leg_step, next_to_give, phase_after, refused_as, where_via, after_look, after_words, publishing}
 pub use Rattle.gt_calls.specs.Opening.{opens}
 pub use Rattle.gt_calls.specs.Path.{Continuation, FitsStep, after_beginning, dest_pair, end_leg, ended, entry_refusal, held_of, is_stopped, makes, map_leg, path, rule_of_try, second_leg, source_pair, steps_of}
-pub use Rattle.gt_calls.specs.Resting.{IsFor, IsOnFrom, IsReached, IsToward, LeadsTo, Rests, RestsOnRequest, RestsOnWays, RestsOnWord}
-pub use Rattle.gt_calls.specs.Rules.{CallerKnowledge, before_pin, begun, control_with, copy_denied, denied, entry_in, first, first_look, frames_in, frames_of, generation_in, is_dest_granted, is_kind, is_source_granted, knowledge_of, refused_when, rights_to_copy, rights_to_map, row_entry, row_generation, size_of, stands, unmap_denied, via_judged}
+pub use Rattle.gt_calls.specs.Resting.{IsFor, IsOnFrom, IsReached, IsToward, LeadsTo, Rests, RestsOnRequest, RestsOnWays, RestsOnWord, IsMapped, IsSubPage}
+pub use Rattle.gt_calls.specs.Rules.{CallerKnowledge, before_pin, begun, control_with, copy_denied, denied, entry_in, first, first_look, frames_in, frames_of, generation_in, is_dest_granted, is_kind, is_source_granted, knowledge_of, refused_when, rights_to_copy, rights_to_map, row_entry, row_generation, size_of, stands, unmap_denied, via_judged, map_dir, second_body, first_body}
 pub use Rattle.gt_calls.specs.Standing.{HasShown, IsQuiet, IsTurn, StandsAt, held_in, pins_at}
 pub use Rattle.gt_calls.specs.declared.action.Action.{Action}
 pub use Rattle.gt_calls.specs.declared.action.Action.TheVariants.{Done, Step as Makes}
@@ -101,12 +101,12 @@ unfoldable pub use Rattle.gt_core.specs.Alike.{IsGiven, IsRun, told_items}
 pub use Rattle.gt_core.specs.Effects.{Adds, applied, own_after, slot_after, taken, with_call, with_header, with_mapping, with_own, with_slot, with_underway, without_mapping}
 pub use Rattle.gt_core.specs.History.{History, Pin, Setting, Underway, Writing, by_leg, by_mapping, change_at, change_of, contents_at, control_at, entry_after, exchange_sees, generation_at, given_in, header_or, header_stored, holder_after, is_holder, is_pin_on, known_at, legs_at, mapping_of, mappings_at, one_if_mapped, or_else, patches_by, pinned_by, raise_after, raise_of, reads_at, same_dir, same_handle, seen_by, stored_at, underway_after, underway_with, unpinned_by, values, word_at, writes_at, written_by}
 unfoldable pub use Rattle.gt_core.specs.History.{body_at, entry_at, gather, live, maps_answered_at, open_call, patches_at, raises_at, table_at, without}
-pub use Rattle.gt_core.specs.Legal.{AnsweredBy, CopyIsJustified, GivesValue, IsInFrame, IsRight, IsSafe, IsSafeChange, IsSpelled, Justified, LeavesAll, LegNow, LegalAfter, MayDo, MayUse, PinIsSound, StepsRight, StepsRightIn, StepsSoFar, at_entry, first_at, first_in_call, first_of_item, gives_back, grown, history_after, is_demote, is_in_body, is_other, leg_at, most_steps, or_then, refusal_if, refusal_in, refusal_of, rule_before_pin, verdict_in}
+pub use Rattle.gt_core.specs.Legal.{AnsweredBy, CopyIsJustified, GivesValue, IsInFrame, IsRight, IsSafe, IsSafeChange, IsSpelled, Justified, LeavesAll, LegNow, LegalAfter, MayDo, MayUse, PinIsSound, StepsRight, StepsRightIn, StepsSoFar, at_entry, first_at, first_in_call, first_of_item, gives_back, grown, history_after, is_demote, is_in_body, is_other, leg_at, most_steps, or_then, refusal_if, refusal_in, refusal_of, rule_before_pin, verdict_in, rule_at_pin}
 unfoldable pub use Rattle.gt_core.specs.Legal.{looked_at, misses, stood}
 pub use Rattle.gt_core.specs.Rows.{changed_at}
 pub use Rattle.gt_core.specs.Shown.{shown_at}
 pub use Rattle.gt_core.specs.Sight.{body_seen, control_seen, header_seen, sees}
-pub use Rattle.gt_core.specs.Standing.{Agrees, Asks, CallAgrees, CoreStands, Does, DomainsStand, EndsAfter, EndsCopy, FitsAsked, FitsGiven, FitsTable, FitsWord, FramesStand, GivenAgrees, HasLooked, HasRead, IsClean, IsLawful, IsLawfullyHeld, IsShown, LegStands, MappingsAgree, OpenAgrees, Opens, PhaseStands, Settled, SlotAgrees, StateAgrees, WhileSame, answer_with, begun_element, core_of, numbered, phase_refusal, setting_of, ticked_element, Closed, IsRoomFor, Ended, ticked_with}
+pub use Rattle.gt_core.specs.Standing.{Agrees, Asks, CallAgrees, CoreStands, Does, DomainsStand, EndsAfter, EndsCopy, FitsAsked, FitsGiven, FitsTable, FitsWord, FramesStand, GivenAgrees, HasLooked, HasRead, IsClean, IsLawful, IsLawfullyHeld, IsShown, LegStands, MappingsAgree, OpenAgrees, Opens, PhaseStands, Settled, SlotAgrees, StateAgrees, WhileSame, answer_with, begun_element, core_of, numbered, phase_refusal, setting_of, ticked_element, Closed, IsRoomFor, ticked_with, IsWritingNext, WantsMemoryNow}
 pub use Rattle.gt_core.specs.States.{IsLoading, IsMapping, State, asked_in, changed_in, first_state, kept_by, state_of}
 pub use Rattle.gt_core.specs.Subject.{place_of, subject_at}
 pub use Rattle.gt_core.specs.declared.core_state.Begun.{Begun}
