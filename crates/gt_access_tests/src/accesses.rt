@@ -1,4 +1,3 @@
-//! Accesses to frames by their owner, and by a domain that pinned an entry.
 ghost use Rattle.std.specs.Prelude.{◌≡◌, ◌≢◌, ◌+◌, ◌<◌, ◌≤◌, [], ◌∷◌, length, true, IfOk, IfSome};
 ghost use Rattle.gt_types.specs.Config.{IsWithinLimits};
 ghost use Rattle.gt_words.specs.Conditions.{IsSeatOf, IsSameSeat, HasDomain};
