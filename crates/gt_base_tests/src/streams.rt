@@ -1,74 +1,9 @@
 //! Streams in memory, and streams that fail.
+use gt_failing::{FailingReader, FailingWriter};
 use gt_streams::{ReadFault, WriteFault, finish, push_text, read_text, send, text_of, write_text};
 use std::alloc::Global;
-use std::io::{self, ErrorKind, Read, Write};
+use std::io::ErrorKind;
 use std::test::Fail;
-
-// A text of which so many bytes can be read, a few at a time, with an interruption before each read; then
-// each read fails as it says.
-#[derive(Drop)]
-struct FailingReader<'a> {
-    bytes: &'a [u8],
-    left: usize,
-    most: usize,
-    is_interrupted: bool,
-    end: ErrorKind,
-}
-
-impl<'a> Read for FailingReader<'a> {
-    fn read(&mut self, buf: &mut [u8]) -> io::Result<usize> {
-        self.is_interrupted = !self.is_interrupted;
-        if self.is_interrupted {
-            return Err(io::Error::from(ErrorKind::Interrupted));
-        }
-        if self.left == 0 {
-            return Err(io::Error::from(self.end));
-        }
-        let bytes: &'a [u8] = self.bytes;
-        let count = buf.len().min(bytes.len()).min(self.left).min(self.most);
-        buf[..count].copy_from_slice(&bytes[..count]);
-        self.bytes = &bytes[count..];
-        self.left -= count;
-        Ok(count)
-    }
-}
-
-// Takes so many bytes, a few at a time, and is interrupted before each of them; then each write
-// fails as it says.
-#[derive(Drop)]
-struct FailingWriter {
-    taken: Vec<u8>,
-    left: usize,
-    most: usize,
-    is_interrupted: bool,
-    end: Option<ErrorKind>,
-}
-
-impl Write for FailingWriter {
-    fn write(&mut self, buf: &[u8]) -> io::Result<usize> {
-        self.is_interrupted = !self.is_interrupted;
-        if self.is_interrupted {
-            return Err(io::Error::from(ErrorKind::Interrupted));
-        }
-        if self.left == 0 {
-            return match self.end {
-                Some(kind) => Err(io::Error::from(kind)),
-                None => Ok(0),
-            };
-        }
-        let count = buf.len().min(self.left).min(self.most);
-        self.taken.extend_from_slice(&buf[..count])?;
-        self.left -= count;
-        Ok(count)
-    }
-
-    fn flush(&mut self) -> io::Result<()> {
-        match self.end {
-            Some(kind) => Err(io::Error::from(kind)),
-            None => Ok(()),
-        }
-    }
-}
 
 const TEXT: &[u8] = b"one line\nand another\n";
 
@@ -80,13 +15,7 @@ fn read_behind(
     most: usize,
     end: ErrorKind,
 ) -> Result<usize, ReadFault> {
-    let mut reader = FailingReader {
-        bytes,
-        left,
-        most,
-        is_interrupted: false,
-        end,
-    };
+    let mut reader = FailingReader::interrupted(bytes, left, most, end);
     Ok(read_text(alloc, &mut reader)?.len())
 }
 
@@ -138,13 +67,7 @@ fn a_reader_that_fails(rt: HostRuntime) -> Result<(), Fail> {
 #[test]
 fn a_writer_of_single_bytes(rt: HostRuntime) -> Result<(), Fail> {
     let text = vec![in rt.alloc(); b'.'; 70_000]?;
-    let mut writer = FailingWriter {
-        taken: Vec::new(rt.alloc()),
-        left: 70_000,
-        most: 1,
-        is_interrupted: false,
-        end: None,
-    };
+    let mut writer = FailingWriter::interrupted(Vec::new(rt.alloc()), 70_000, 1, None);
     assert_eq!(rt;
         (write_text(&mut writer, text.as_slice()), writer.taken.len()),
         (Ok(()), 70_000)
@@ -156,13 +79,7 @@ fn a_writer_of_single_bytes(rt: HostRuntime) -> Result<(), Fail> {
 fn writes_go_on_until_all_is_out(rt: HostRuntime) -> Result<(), Fail> {
     for left in 0..TEXT.len() + 1 {
         for end in [None, Some(ErrorKind::BrokenPipe)] {
-            let mut writer = FailingWriter {
-                taken: Vec::new(rt.alloc()),
-                left,
-                most: 3,
-                is_interrupted: false,
-                end,
-            };
+            let mut writer = FailingWriter::interrupted(Vec::new(rt.alloc()), left, 3, end);
             let want = if left < TEXT.len() {
                 Err(WriteFault)
             } else {
@@ -208,13 +125,8 @@ fn texts_wait_as_their_bytes(rt: HostRuntime) -> Result<(), Fail> {
 
 #[test]
 fn what_the_writer_holds_is_handed_on(rt: HostRuntime) -> Result<(), Fail> {
-    let mut writer = FailingWriter {
-        taken: Vec::new(rt.alloc()),
-        left: TEXT.len(),
-        most: 3,
-        is_interrupted: false,
-        end: Some(ErrorKind::BrokenPipe),
-    };
+    let end = Some(ErrorKind::BrokenPipe);
+    let mut writer = FailingWriter::interrupted(Vec::new(rt.alloc()), TEXT.len(), 3, end);
     assert_eq!(rt; finish(&mut writer, TEXT), Err(WriteFault));
     assert_eq!(rt; writer.taken.as_slice(), TEXT);
     Ok(())

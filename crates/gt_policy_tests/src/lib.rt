@@ -11,3 +11,5 @@ mod listing;
 mod policy;
 #[cfg(test)]
 mod tables;
+#[cfg(test)]
+mod texts;

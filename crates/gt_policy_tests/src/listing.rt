@@ -1,23 +1,13 @@
 //! Whole listings over a reader and a writer in memory, and over ones that fail.
+use crate::texts::{GUESTS, TAKEN_OUT};
+use gt_failing::{FailingReader, FailingWriter};
 use gt_listing::{Fault, policy};
 use gt_policy::{FaultKind, PolicyFault};
 use std::alloc::Global;
-use std::io::{self, ErrorKind, Read, Write};
 use std::process::Abort;
 use std::test::Fail;
 
-const WITHOUT_ITSELF: &str = "attribute s;\n\
-type a_t, s;\n\
-type b_t;\n\
-typeattribute b_t s;\n\
-allow s { self -a_t b_t }:{ grant file } { copy open };\n";
-
-const WITHOUT_ITSELF_LINES: &str = "a_t a_t copy\na_t b_t copy\nb_t b_t copy\n";
-
-const GUESTS: &str = "attribute domain;\n\
-type dom0_t, domain;\n\
-type domU_t, domain;\n\
-allow { domain -dom0_t } domain:grant { map_read copy };\n";
+const TAKEN_OUT_LINES: &str = "a_t a_t copy\na_t b_t copy\nb_t b_t copy\n";
 
 const GUESTS_LINES: &str = "domU_t dom0_t map_read\n\
 domU_t dom0_t copy\n\
@@ -40,7 +30,7 @@ fn listed(alloc: Global, mut text: &[u8]) -> Result<String, Fail> {
 #[test]
 fn lists_what_a_policy_allows(rt: HostRuntime) -> Result<(), Fail> {
     for (text, wanted) in [
-        (WITHOUT_ITSELF, WITHOUT_ITSELF_LINES),
+        (TAKEN_OUT, TAKEN_OUT_LINES),
         (GUESTS, GUESTS_LINES),
         (
             "attribute domain;\n\
@@ -126,60 +116,10 @@ fn bytes_that_are_no_text(rt: HostRuntime) -> Result<(), Fail> {
     Ok(())
 }
 
-// A text of which so many bytes can be read; then each read fails.
-#[derive(Drop)]
-struct FailingReader<'a> {
-    bytes: &'a [u8],
-    left: usize,
-}
-
-impl<'a> Read for FailingReader<'a> {
-    fn read(&mut self, buf: &mut [u8]) -> io::Result<usize> {
-        if self.left == 0 {
-            return Err(io::Error::from(ErrorKind::ConnectionReset));
-        }
-        let bytes: &'a [u8] = self.bytes;
-        let count = buf.len().min(bytes.len()).min(self.left);
-        buf[..count].copy_from_slice(&bytes[..count]);
-        self.bytes = &bytes[count..];
-        self.left -= count;
-        Ok(count)
-    }
-}
-
-// Takes so many bytes, a few at a time; then each write fails, and each flush.
-#[derive(Drop)]
-struct FailingWriter {
-    taken: Vec<u8>,
-    left: usize,
-}
-
-impl Write for FailingWriter {
-    fn write(&mut self, buf: &[u8]) -> io::Result<usize> {
-        if self.left == 0 {
-            return Err(io::Error::from(ErrorKind::BrokenPipe));
-        }
-        let count = buf.len().min(self.left).min(3);
-        self.taken.extend_from_slice(&buf[..count])?;
-        self.left -= count;
-        Ok(count)
-    }
-
-    fn flush(&mut self) -> io::Result<()> {
-        if self.left == 0 {
-            return Err(io::Error::from(ErrorKind::BrokenPipe));
-        }
-        Ok(())
-    }
-}
-
 #[test]
 fn a_reader_that_fails(rt: HostRuntime) -> Result<(), Fail> {
     for left in 0..GUESTS.len() {
-        let mut reader = FailingReader {
-            bytes: GUESTS.as_bytes(),
-            left,
-        };
+        let mut reader = FailingReader::new(GUESTS.as_bytes(), left);
         let mut writer = Vec::new(rt.alloc());
         let outcome = policy(rt.alloc(), &mut reader, &mut writer);
         let is_told = matches!(outcome, Err(Fault::Read)) && writer.is_empty();
@@ -191,10 +131,7 @@ fn a_reader_that_fails(rt: HostRuntime) -> Result<(), Fail> {
 #[test]
 fn a_writer_that_fails(rt: HostRuntime) -> Result<(), Fail> {
     for left in 0..GUESTS_LINES.len() + 1 {
-        let mut writer = FailingWriter {
-            taken: Vec::new(rt.alloc()),
-            left,
-        };
+        let mut writer = FailingWriter::new(Vec::new(rt.alloc()), left);
         let outcome = policy(rt.alloc(), &mut GUESTS.as_bytes(), &mut writer);
         let is_beginning = writer.taken.as_slice() == &GUESTS_LINES.as_bytes()[..left];
         let is_told = matches!(outcome, Err(Fault::Write)) && is_beginning;
@@ -216,7 +153,7 @@ fn refused_at_most_once(
         Ok(taken) => taken,
         Err(_) => Vec::with_capacity(alloc, 4096)?,
     };
-    let mut writer = FailingWriter { taken, left: 4096 };
+    let mut writer = FailingWriter::new(taken, 4096);
     match policy(alloc, &mut reader, &mut writer) {
         Ok(()) => assert_eq!(rt; writer.taken.as_slice(), lines.as_bytes()),
         Err(fault) => {
@@ -230,5 +167,5 @@ fn refused_at_most_once(
 #[test]
 fn memory_that_is_refused(rt: HostRuntime) -> Result<(), Fail> {
     refused_at_most_once(&rt, rt.alloc(), GUESTS, GUESTS_LINES)?;
-    refused_at_most_once(&rt, rt.alloc(), WITHOUT_ITSELF, WITHOUT_ITSELF_LINES)
+    refused_at_most_once(&rt, rt.alloc(), TAKEN_OUT, TAKEN_OUT_LINES)
 }

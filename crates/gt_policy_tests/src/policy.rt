@@ -1,4 +1,5 @@
 //! Worked texts, limits, and every beginning of a text.
+use crate::texts::GUESTS;
 use bitflags::Flags;
 use gt_policy::{FaultKind, Policy};
 use gt_types::{Allows, Perms, TypeId};
@@ -29,12 +30,6 @@ fn shown(alloc: Global, text: &str) -> Result<String, AllocError> {
         Err(fault) => fault.to_string(alloc),
     }
 }
-
-// Two types of one attribute, of which one is taken out of a source set.
-const GUESTS: &str = "attribute domain;\n\
-type dom0_t, domain;\n\
-type domU_t, domain;\n\
-allow { domain -dom0_t } domain:grant { map_read copy };\n";
 
 const SEEN_BY_DOMU: &str =
     "domU_t dom0_t map_read;domU_t dom0_t copy;domU_t domU_t map_read;domU_t domU_t copy;";

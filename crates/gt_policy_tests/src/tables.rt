@@ -1,4 +1,5 @@
 //! The compiled table beside the walk of the statements: both answer every question alike.
+use crate::texts::{GUESTS, TAKEN_OUT};
 use bitflags::Flags;
 use gt_allow::AllowTable;
 use gt_policy::Policy;
@@ -6,19 +7,7 @@ use gt_types::{Allows, Perms, Triple, Triples, TypeId};
 use std::alloc::{AllocError, Global};
 use std::test::Fail;
 
-/// Two types of one attribute, of which a set takes one out, with `self` beside it.
-const TAKEN_OUT: &str = "attribute s;\n\
-type a_t, s;\n\
-type b_t;\n\
-typeattribute b_t s;\n\
-allow s { self -a_t b_t }:{ grant file } { copy open };\n";
-
 const ONE_STATEMENT: &str = "type a_t; type b_t; allow b_t a_t:grant map_read;\n";
-
-const BUT_DOM0: &str = "attribute domain;\n\
-type dom0_t, domain;\n\
-type domU_t, domain;\n\
-allow { domain -dom0_t } domain:grant { map_read copy };\n";
 
 const DOM0_TAKEN_FIRST: &str = "attribute domain;\n\
 type dom0_t, domain;\n\
@@ -70,7 +59,7 @@ fn a_table_answers_as_the_walk(rt: HostRuntime) -> Result<(), Fail> {
     for (text, triples) in [
         (TAKEN_OUT, 3),
         (ONE_STATEMENT, 1),
-        (BUT_DOM0, 4),
+        (GUESTS, 4),
         (DOM0_TAKEN_FIRST, 4),
         (THREE_DOMAINS, 48),
         (SPLIT_DRIVER, 22),
