@@ -23,17 +23,20 @@ const TWO: usize = 1;
 
 const THREE: usize = 2;
 
-const WRITABLE: u32 = 2;
+/// The flags of a map for reading and writing.
+pub const WRITABLE: u32 = 2;
 
-const READ_ONLY: u32 = 6;
+/// The flags of a map for reading.
+pub const READ_ONLY: u32 = 6;
 
 const fn line<'a>(by: usize, asks: Asks<'a>, said: &'a str) -> Turn<'a> {
     Turn { by, asks, said }
 }
 
-const fn page(frame: u64) -> Entry {
+/// The writable page with this frame, for this domain.
+pub const fn page(dom: u16, frame: u64) -> Entry {
     Entry::Page {
-        dom: DomId(2),
+        dom: DomId(dom),
         ro: false,
         frame,
     }
@@ -57,8 +60,8 @@ const fn end(ptr: u64, dom: u16, offset: u16) -> End {
     }
 }
 
-// A copy from a grant of this domain to a frame of the caller's own.
-const fn fetch<'a>(dom: u16, gref: u64, off: u16, frame: u64, to: u16, len: u16) -> Asks<'a> {
+/// A copy from a grant of this domain to a frame of the caller's own.
+pub const fn fetch<'a>(dom: u16, gref: u64, off: u16, frame: u64, to: u16, len: u16) -> Asks<'a> {
     Asks::Copy(CopyArgs {
         source: end(gref, dom, off),
         dest: end(frame, DOMID_SELF, to),
@@ -101,7 +104,7 @@ fn play<R: Wait + Abort>(
 #[test]
 fn bytes_go_through_a_mapping(rt: HostRuntime) -> Result<(), Fail> {
     let lines = [
-        line(ONE, Asks::Grant(0, page(5)), "ok"),
+        line(ONE, Asks::Grant(0, page(2, 5)), "ok"),
         line(TWO, Asks::Map(1, 0, WRITABLE), "ok"),
         line(TWO, Asks::Store(10, &[0xc0, 0xff, 0xee]), "ok"),
         line(ONE, Asks::Peek(5, 9, 5), "ok [0, 192, 255, 238, 0]"),
@@ -122,7 +125,7 @@ fn bytes_go_through_a_mapping(rt: HostRuntime) -> Result<(), Fail> {
 #[test]
 fn a_page_is_copied(rt: HostRuntime) -> Result<(), Fail> {
     let lines = [
-        line(ONE, Asks::Grant(0, page(5)), "ok"),
+        line(ONE, Asks::Grant(0, page(2, 5)), "ok"),
         line(ONE, Asks::Poke(5, 4094, &[0xab, 0xcd]), "ok"),
         line(TWO, fetch(1, 0, 0, 3, 0, 4096), "ok"),
         line(TWO, Asks::Peek(3, 4093, 3), "ok [0, 171, 205]"),
@@ -157,7 +160,7 @@ fn a_part_of_a_page_is_copied(rt: HostRuntime) -> Result<(), Fail> {
 #[test]
 fn a_transitive_copy_takes_one_step_more(rt: HostRuntime) -> Result<(), Fail> {
     let lines = [
-        line(ONE, Asks::Grant(4, page(6)), "ok"),
+        line(ONE, Asks::Grant(4, page(2, 6)), "ok"),
         line(ONE, Asks::Poke(6, 0, &[0x5a]), "ok"),
         line(TWO, Asks::Grant(0, via(3, true, 1, 4)), "ok"),
         line(THREE, fetch(2, 0, 0, 0, 0, 1), "ok"),
@@ -177,7 +180,7 @@ fn a_transitive_copy_takes_one_step_more(rt: HostRuntime) -> Result<(), Fail> {
 #[test]
 fn a_mapping_given_up_moves_no_bytes(rt: HostRuntime) -> Result<(), Fail> {
     let lines = [
-        line(ONE, Asks::Grant(0, page(5)), "ok"),
+        line(ONE, Asks::Grant(0, page(2, 5)), "ok"),
         line(TWO, Asks::Load(0, 1), "N6 -4"),
         line(TWO, Asks::Map(1, 0, READ_ONLY), "ok"),
         line(TWO, Asks::Unmap, "ok"),

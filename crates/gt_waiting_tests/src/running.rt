@@ -62,20 +62,19 @@ impl<'m, P: Allows> Drop for Running<'m, P> {
     }
 }
 
-fn done_text<T: Drop>(alloc: Global, answer: Result<T, Denial>) -> Result<String, AllocError> {
+// The answer of a call that reads no bytes.
+fn without_bytes<T: Drop>(answer: Result<T, Denial>) -> Result<Option<Read>, Denial> {
     match answer {
-        Ok(_) => format!(in alloc; "ok"),
-        Err(denial) => format!(in alloc; "{} {}", denial.rule, denial.status.number()),
+        Ok(_) => Ok(None),
+        Err(denial) => Err(denial),
     }
 }
 
-fn bytes_text(alloc: Global, answer: Result<Read, Denial>) -> Result<String, AllocError> {
+// The answer of a call that reads.
+fn with_bytes(answer: Result<Read, Denial>) -> Result<Option<Read>, Denial> {
     match answer {
-        Ok(read) => {
-            let bytes = read.into_bytes();
-            format!(in alloc; "ok {:?}", bytes.as_slice())
-        }
-        Err(denial) => format!(in alloc; "{} {}", denial.rule, denial.status.number()),
+        Ok(read) => Ok(Some(read)),
+        Err(denial) => Err(denial),
     }
 }
 
@@ -107,7 +106,38 @@ impl<'m, P: Allows> Running<'m, P> {
         }
     }
 
-    /// Makes the call that is asked, and answers what it answers.
+    /// Makes the call that is asked. Answers what it read, if it reads.
+    pub fn make<R: Wait>(
+        &mut self,
+        rt: &R,
+        asks: Asks<'_>,
+        last: &mut Option<Handle>,
+    ) -> Result<Option<Read>, Denial> {
+        let handle = last.unwrap_or(NEVER_GIVEN);
+        let monitor = self.monitor;
+        match asks {
+            Asks::Grant(gref, entry) => {
+                without_bytes(self.domain.grant(monitor, GrantRef(gref), &entry))
+            }
+            Asks::Revoke(gref) => without_bytes(self.domain.revoke(monitor, GrantRef(gref))),
+            Asks::Demote(gref) => without_bytes(self.domain.demote(monitor, GrantRef(gref))),
+            Asks::Map(dom, gref, flags) => without_bytes(self.map(dom, gref, flags, last)),
+            Asks::Unmap => without_bytes(self.domain.unmap(monitor, handle)),
+            Asks::Load(off, len) => with_bytes(self.domain.load(rt, monitor, handle, off, len)),
+            Asks::Store(off, bytes) => {
+                without_bytes(self.domain.store(rt, monitor, handle, off, bytes))
+            }
+            Asks::Peek(frame, off, len) => {
+                with_bytes(self.domain.peek(rt, monitor, frame, off, len))
+            }
+            Asks::Poke(frame, off, bytes) => {
+                without_bytes(self.domain.poke(rt, monitor, frame, off, bytes))
+            }
+            Asks::Copy(copy) => without_bytes(self.domain.copy(rt, monitor, &copy)),
+        }
+    }
+
+    /// Makes the call that is asked, and tells its answer.
     pub fn ask<R: Wait>(
         &mut self,
         rt: &R,
@@ -115,40 +145,13 @@ impl<'m, P: Allows> Running<'m, P> {
         asks: Asks<'_>,
         last: &mut Option<Handle>,
     ) -> Result<String, AllocError> {
-        let handle = last.unwrap_or(NEVER_GIVEN);
-        match asks {
-            Asks::Grant(gref, entry) => {
-                done_text(
-                    alloc,
-                    self.domain.grant(self.monitor, GrantRef(gref), &entry),
-                )
+        match self.make(rt, asks, last) {
+            Ok(None) => format!(in alloc; "ok"),
+            Ok(Some(read)) => {
+                let bytes = read.into_bytes();
+                format!(in alloc; "ok {:?}", bytes.as_slice())
             }
-            Asks::Revoke(gref) => done_text(
-                alloc,
-                self.domain.revoke(self.monitor, GrantRef(gref)),
-            ),
-            Asks::Demote(gref) => done_text(
-                alloc,
-                self.domain.demote(self.monitor, GrantRef(gref)),
-            ),
-            Asks::Map(dom, gref, flags) => done_text(alloc, self.map(dom, gref, flags, last)),
-            Asks::Unmap => done_text(alloc, self.domain.unmap(self.monitor, handle)),
-            Asks::Load(off, len) => {
-                bytes_text(alloc, self.domain.load(rt, self.monitor, handle, off, len))
-            }
-            Asks::Store(off, bytes) => {
-                done_text(
-                    alloc,
-                    self.domain.store(rt, self.monitor, handle, off, bytes),
-                )
-            }
-            Asks::Peek(frame, off, len) => {
-                bytes_text(alloc, self.domain.peek(rt, self.monitor, frame, off, len))
-            }
-            Asks::Poke(frame, off, bytes) => {
-                done_text(alloc, self.domain.poke(rt, self.monitor, frame, off, bytes))
-            }
-            Asks::Copy(copy) => done_text(alloc, self.domain.copy(rt, self.monitor, &copy)),
+            Err(denial) => format!(in alloc; "{} {}", denial.rule, denial.status.number()),
         }
     }
 }
