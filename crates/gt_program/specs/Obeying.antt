@@ -3,11 +3,13 @@ use Rattle.std.specs.Prelude.{◌≡◌, ◌⊎◌, ℕ, ◌≤◌, ◌++◌, fa
 use Rattle.std.specs.Io.KnownBytes.{Keeps}
 use Rattle.clap.specs.declared.error.kind.ErrorKind.{ErrorKind}
 use Rattle.clap.specs.declared.error.kind.ErrorKind.TheVariants.{DisplayHelp, DisplayVersion, OutOfMemory}
+use Rattle.gt_script.specs.RunScripts.{RunTells}
 use Rattle.gt_script.specs.Script.{Tells}
 use Rattle.gt_streams.specs.Texts.{read_word}
 use Rattle.gt_host.specs.Faults.{play_fault_text}
 use Rattle.gt_host.specs.Playing.{Played}
 use Rattle.gt_run.specs.Faults.{run_fault_text}
+use Rattle.gt_run.specs.Runs.{Ran}
 use Rattle.gt_listing.specs.Faults.{listing_fault_text}
 use Rattle.gt_listing.specs.Writing.{Listed}
 use Rattle.gt_program.specs.CommandLine.{Request, to_do, for_help, for_version, nothing}
@@ -62,6 +64,20 @@ IsUnopened old new (Err failures.Memory) = ⊥
 abbrev pub Runs : Work → List ℕ → Option (List ℕ) → Option (List ℕ) → Result (Unit {0}) Failure → Type 0
 Runs work input old new r = Performs work input old new r ⊎ IsUnopened old new r
 
+-- what `run` wrote that ended so, where these are the bytes of its text; nothing where memory was refused before it read them (own)
+abbrev pub PerformsRun : List ℕ → Option (List ℕ) → Option (List ℕ) → Result (Unit {0}) Failure → Type 0
+PerformsRun input old new (Ok done) = Ran (RunTells input) old new (Ok done)
+PerformsRun input old new (Err (failures.Run fault)) = Ran (RunTells input) old new (Err fault)
+PerformsRun input old new (Err failures.Memory) = Keeps old new
+PerformsRun input old new (Err (failures.Play fault)) = ⊥
+PerformsRun input old new (Err (failures.List fault)) = ⊥
+PerformsRun input old new (Err (failures.File fault)) = ⊥
+PerformsRun input old new (Err (failures.Help fault)) = ⊥
+
+-- the domains of the script that these bytes say were run, or its file could not be opened (own)
+abbrev pub RunsDomains : List ℕ → Option (List ℕ) → Option (List ℕ) → Result (Unit {0}) Failure → Type 0
+RunsDomains input old new r = PerformsRun input old new r ⊎ IsUnopened old new r
+
 -- the bytes that are known of the file that is named, or of the standard input where none is (own)
 abbrev pub known_text : (List ℕ → Option (List ℕ)) → Option (List ℕ) → Option (List ℕ) → Option (List ℕ)
 known_text file input None = input
@@ -80,12 +96,17 @@ abbrev pub Works : Work → Option (List ℕ) → Option (List ℕ) → Option (
 Works work known old new status =
     IfSome known (λ bytes. (r : Result (Unit {0}) Failure) × (status ≡ status_of r) × (Runs work bytes old new r ⊎ ((r ≡ Err failures.Memory) × Keeps old new)))
 
+-- the exit status fits what the run of the text's domains wrote, where its bytes are known; for want of memory it is 1, and nothing was written (own)
+abbrev pub WorksRun : Option (List ℕ) → Option (List ℕ) → Option (List ℕ) → ℕ → Type 0
+WorksRun known old new status =
+    IfSome known (λ bytes. (r : Result (Unit {0}) Failure) × (status ≡ status_of r) × (RunsDomains bytes old new r ⊎ ((r ≡ Err failures.Memory) × Keeps old new)))
+
 -- The exit status fits what was asked for, and what was written does: work that was done, the domains of a script that were run, the rules, where the status is 2
 -- for the name of none, help, the version, or nothing for words that ask for nothing, whose status is 2 and for which nothing is written. Want of memory is
 -- 1 for all of them. (own)
 abbrev pub Obeys : Request → (List ℕ → Option (List ℕ)) → Option (List ℕ) → Option (List ℕ) → Option (List ℕ) → ℕ → Type 0
 Obeys (to_do modes.Play audited name) file input old new status = Works (Play audited) (known_text file input name) old new status
-Obeys (to_do modes.Run audited name) file input old new status = status ≤ 1
+Obeys (to_do modes.Run audited name) file input old new status = WorksRun (known_text file input name) old new status
 Obeys (to_do modes.Policy audited name) file input old new status = Works ListPolicy (known_text file input name) old new status
 Obeys (to_do modes.Rules audited name) file input old new status = status ≤ 2
 Obeys for_help file input old new status = status ≤ 1

@@ -4,7 +4,7 @@ ghost use Rattle.std.specs.Option.{option_map};
 ghost use Rattle.clap.specs.Words.{kind_of};
 ghost use Rattle.gt_streams.specs.Streams.{OfInput};
 ghost use Rattle.gt_program.specs.CommandLine.{asked, asked_by_plan};
-ghost use Rattle.gt_program.specs.Obeying.{status_of, known_text, FitsKind, Obeys, Performs, Runs};
+ghost use Rattle.gt_program.specs.Obeying.{status_of, known_text, FitsKind, Obeys, Performs, PerformsRun, Runs, RunsDomains};
 
 use crate::failure::{Failure, exit_status};
 use crate::plan::{Invocation, Mode, plan};
@@ -104,13 +104,16 @@ fn refuse<W: Write, E: Eprint>(out: &mut W, err: &E, error: &Error) -> u8
 }
 
 // Runs the script of a reader, its domains in threads.
+#[tactic(auto, using(crate::proofs::Obeyed::unread_run))]
 fn run_script<R: Threads + Wait + Sync, I: Read, W: Write>(
     rt: &R,
     alloc: Global,
     audit: bool,
     reader: &mut I,
     out: &mut W,
-) -> Result<(), Failure> {
+) -> Result<(), Failure>
+    ensures { OfInput (I.remaining reader.old) (λ input. PerformsRun input (W.contents out.old) (W.contents out.new) result) }
+{
     let Ok(gate) = Flags::new(rt, alloc) else {
         return Err(Failure::Memory);
     };
@@ -131,7 +134,10 @@ fn run_on<R: Threads + Wait + Sync, T: Texts, W: Write>(
     texts: &T,
     invocation: &Invocation,
     out: &mut W,
-) -> Result<(), Failure> {
+) -> Result<(), Failure>
+    ensures { IfSome (known_text (T.file texts.now) (T.input texts.now) (option_map (λ f. f.now) invocation.now.file))
+        (λ input. RunsDomains input (W.contents out.old) (W.contents out.new) result) }
+{
     let audit = invocation.audit;
     let Some(name) = invocation.file else {
         return run_script(rt, alloc, audit, &mut texts.input(), out);
@@ -143,6 +149,7 @@ fn run_on<R: Threads + Wait + Sync, T: Texts, W: Write>(
 }
 
 // Does what the plan says.
+#[tactic(auto, using(crate::proofs::Obeyed::ran_plan))]
 fn follow<R: Threads + Wait + Sync, T: Texts, W: Write, E: Eprint>(
     rt: &R,
     alloc: Global,
@@ -151,7 +158,8 @@ fn follow<R: Threads + Wait + Sync, T: Texts, W: Write, E: Eprint>(
     out: &mut W,
     err: &E,
 ) -> u8
-    ensures { Obeys (asked_by_plan invocation.now) (T.file texts.now) (T.input texts.now) (W.contents out.old) (W.contents out.new) result }
+    ensures { Obeys (asked_by_plan invocation.now) (T.file texts.now) (T.input texts.now)
+        (W.contents out.old) (W.contents out.new) result }
 {
     let audit = invocation.audit;
     let work = match invocation.mode {
@@ -176,7 +184,8 @@ pub fn obey<R: Threads + Wait + Sync, T: Texts, W: Write, E: Eprint>(
     out: &mut W,
     err: &E,
 ) -> u8
-    ensures { Obeys (asked (drop 1 (map string_bytes words.now))) (T.file texts.now) (T.input texts.now) (W.contents out.old) (W.contents out.new) result }
+    ensures { Obeys (asked (drop 1 (map string_bytes words.now))) (T.file texts.now) (T.input texts.now)
+        (W.contents out.old) (W.contents out.new) result }
 {
     match plan(alloc, words) {
         Ok(invocation) => follow(rt, alloc, texts, &invocation, out, err),

@@ -1,3 +1,6 @@
+pub mod Asking
 pub mod Faults
+pub mod Joining
 pub mod Printing
+pub mod Runs
 pub mod Telling

@@ -1,9 +1,11 @@
 //! A script in, and the lines of its domains out.
-ghost use Rattle.std.specs.Prelude.{◌≡◌, length, IfOk};
+ghost use Rattle.std.specs.Prelude.{◌≡◌, ℕ, List, take, IfOk};
 ghost use Rattle.gt_script.specs.Contents.{told};
-ghost use Rattle.gt_script.specs.RunScripts.{CanConfigure};
-ghost use Rattle.gt_streams.specs.Streams.{ConsumesAtMost};
+ghost use Rattle.gt_script.specs.RunContents.{run_told};
+ghost use Rattle.gt_script.specs.RunScripts.{CanConfigure, RunTells};
+ghost use Rattle.gt_streams.specs.Streams.{ConsumesAtMost, OfInput};
 ghost use Rattle.gt_streams.specs.declared.streams.TheConstants.{READ_LIMIT};
+ghost use Rattle.gt_run.specs.Runs.{AreParts, Ran, WroteScript};
 
 use crate::fault::RunFault;
 use crate::gate::Gate;
@@ -27,7 +29,7 @@ fn parts_of<'s, 'a>(
     tasks: &'s [Task<'a>],
     types: &'s [Text<'s>],
 ) -> Result<Vec<Part<'s, 'a>>, AllocError>
-    ensures { IfOk result (λ parts. length parts.items ≡ length domains.now) }
+    ensures { IfOk result (λ parts. AreParts domains.entry.now tasks.entry.now types.entry.now parts.items) }
 {
     let mut parts = Vec::new(alloc);
     'domains: for domain in domains {
@@ -47,6 +49,7 @@ fn run_script<'a, R: Threads + Wait + Sync, G: Gate + Sync, W: Write>(
     writer: &mut W,
 ) -> Result<(), RunFault>
     requires { CanConfigure (told script.now.head) }
+    ensures { WroteScript (run_told script.entry.now) (W.contents writer.old) (W.contents writer.new) result }
 {
     let head = script.head();
     let config = Config {
@@ -76,7 +79,10 @@ fn run_bytes<R: Threads + Wait + Sync, G: Gate + Sync, W: Write>(
     writer: &mut W,
     log: Option<&SharedLog>,
     gate: &G,
-) -> Result<(), RunFault> {
+) -> Result<(), RunFault>
+    ensures { (all : List ℕ) → input.now ≡ take 1048577 all →
+        Ran (RunTells all) (W.contents writer.old) (W.contents writer.new) result }
+{
     match parse_run(alloc, input) {
         Ok(script) => run_script(rt, alloc, &script, log, gate, writer),
         Err(error) => Err(RunFault::Play(PlayFault::from(error))),
@@ -88,7 +94,8 @@ fn run_bytes<R: Threads + Wait + Sync, G: Gate + Sync, W: Write>(
 /// Where a log is given, calls are recorded in it, and behind all other lines stand the audit lines of each domain and
 /// how many records were lost.
 ///
-/// Of the reader at most 1,048,577 bytes are read. A script with a fault writes nothing.
+/// Of the reader at most 1,048,577 bytes are read. A script with a fault writes nothing. After a failed write, or for
+/// want of memory, a beginning of a text of the script was written.
 ///
 /// # Errors
 /// The script's first fault; a thread that was refused, and then no list ran; or want of memory, or a read or a write
@@ -101,6 +108,8 @@ pub fn run<R: Threads + Wait + Sync, I: Read, W: Write, G: Gate + Sync>(
     log: Option<&SharedLog>,
     gate: &G,
 ) -> Result<(), RunFault>
+    ensures text { OfInput (I.remaining reader.old) (λ input.
+        Ran (RunTells input) (W.contents writer.old) (W.contents writer.new) result) }
     ensures read { ConsumesAtMost READ_LIMIT (I.remaining reader.old) (I.remaining reader.new) }
 {
     match read_text(alloc, reader) {

@@ -1,9 +1,12 @@
 //! A domain beside the monitor that it came with, so that it can move into a thread.
+ghost use Rattle.std.specs.Prelude.{◌≡◌};
+ghost use Rattle.gt_run.specs.Asking.{IsReadAnswer, frames_answer, mapped_answer, plain_answer, size_answer, version_answer};
+
 use gt_audit::Trail;
 use gt_core::{Answer, Bytes, Handle, Request};
 use gt_frames::{Copied, Read, Written};
 use gt_live::{Domain, Left, Monitor};
-use gt_types::{Allows, Denial};
+use gt_types::{Allows, Denial, Size};
 use std::marker::Model;
 use std::sync::Wait;
 
@@ -16,12 +19,12 @@ pub struct Running<'m, P: Allows> {
 }
 
 impl<'m, P: Allows> Model for Running<'m, P> {
-    ghost use Rattle.gt_types.specs.declared.DomId.{DomId};
     ghost use Rattle.gt_live.specs.Domains.{IsOf};
+    ghost use Rattle.gt_run.specs.Asking.{Stand};
 
-    ghost Value = { DomId };
+    ghost Value = { Stand P };
 
-    ghost view = { λ r. r.domain.seat.dom };
+    ghost view = { λ r. record { monitor = r.monitor.now; domain = r.domain } };
 
     ghost invariant = { λ r. IsOf P.may r.monitor.now r.domain };
 }
@@ -34,21 +37,54 @@ impl<'m, P: Allows> Drop for Running<'m, P> {
 }
 
 // The answer of a call that gives no value.
-fn done(answer: Result<(), Denial>) -> Answer {
+fn done(answer: Result<(), Denial>) -> Answer
+    ensures { result ≡ plain_answer answer }
+{
     match answer {
         Ok(()) => Answer::Done,
         Err(denial) => Answer::Denied(denial),
     }
 }
 
-fn mapped(answer: Result<Handle, Denial>) -> Answer {
+fn mapped(answer: Result<Handle, Denial>) -> Answer
+    ensures { result ≡ mapped_answer answer }
+{
     match answer {
         Ok(handle) => Answer::Mapped(handle),
         Err(denial) => Answer::Denied(denial),
     }
 }
 
-fn read(answer: Result<Read, Denial>) -> Answer {
+fn frames_told(answer: Result<u32, Denial>) -> Answer
+    ensures { result ≡ frames_answer answer }
+{
+    match answer {
+        Ok(frames) => Answer::Frames(frames),
+        Err(denial) => Answer::Denied(denial),
+    }
+}
+
+fn size_told(answer: Result<Size, Denial>) -> Answer
+    ensures { result ≡ size_answer answer }
+{
+    match answer {
+        Ok(size) => Answer::Size(size),
+        Err(denial) => Answer::Denied(denial),
+    }
+}
+
+fn version_told(answer: Result<u32, Denial>) -> Answer
+    ensures { result ≡ version_answer answer }
+{
+    match answer {
+        Ok(version) => Answer::Version(version),
+        Err(denial) => Answer::Denied(denial),
+    }
+}
+
+fn read(answer: Result<Read, Denial>) -> Answer
+    ensures { IsReadAnswer answer result }
+{
     match answer {
         Ok(receipt) => Answer::Bytes(Bytes {
             bytes: receipt.into_bytes(),
@@ -57,14 +93,18 @@ fn read(answer: Result<Read, Denial>) -> Answer {
     }
 }
 
-fn written(answer: Result<Written<'_>, Denial>) -> Answer {
+fn written(answer: Result<Written<'_>, Denial>) -> Answer
+    ensures { result ≡ plain_answer answer.entry }
+{
     match answer {
         Ok(_) => Answer::Done,
         Err(denial) => Answer::Denied(denial),
     }
 }
 
-fn copied(answer: Result<Copied, Denial>) -> Answer {
+fn copied(answer: Result<Copied, Denial>) -> Answer
+    ensures { result ≡ plain_answer answer }
+{
     match answer {
         Ok(_) => Answer::Done,
         Err(denial) => Answer::Denied(denial),
@@ -73,16 +113,20 @@ fn copied(answer: Result<Copied, Denial>) -> Answer {
 
 impl<'m, P: Allows> Running<'m, P> {
     ghost use Rattle.gt_live.specs.Domains.{IsOf};
+    ghost use Rattle.gt_run.specs.Asking.{Asks};
 
     /// The domain beside its monitor.
     pub fn new(monitor: &'m Monitor<P>, domain: Domain) -> Self
         requires { IsOf P.may monitor.now domain }
+        ensures { result ≡ record { monitor = monitor.now; domain = domain } }
     {
         Running { monitor, domain }
     }
 
     /// The records of its calls so far, in order.
-    pub fn trail(&self) -> &Trail {
+    pub fn trail(&self) -> &Trail
+        ensures { result.now ≡ self.now.domain.trail }
+    {
         self.domain.trail()
     }
 
@@ -93,7 +137,10 @@ impl<'m, P: Allows> Running<'m, P> {
     }
 
     /// Makes the call that is asked, and answers as it is answered.
-    pub fn ask<R: Wait>(&mut self, rt: &R, request: Request<'_>) -> Answer {
+    pub fn ask<R: Wait>(&mut self, rt: &R, request: Request<'_>) -> Answer
+        ensures monitor { self.new.monitor ≡ self.old.monitor }
+        ensures asked { Asks P.may self.old.monitor self.old.domain request.entry result self.new.domain }
+    {
         match request {
             Request::Grant { gref, entry } => done(self.domain.grant(self.monitor, gref, &entry)),
             Request::GrantBytes { gref, bytes } => {
@@ -108,19 +155,12 @@ impl<'m, P: Allows> Running<'m, P> {
             Request::Unmap { handle } => done(self.domain.unmap(self.monitor, handle)),
             Request::SetVersion { version } => done(self.domain.set_version(self.monitor, version)),
             Request::SetupTable { frames } => {
-                match self.domain.setup_table(self.monitor, frames) {
-                    Ok(frames) => Answer::Frames(frames),
-                    Err(denial) => Answer::Denied(denial),
-                }
+                frames_told(self.domain.setup_table(self.monitor, frames))
             }
-            Request::QuerySize { dom } => match self.domain.query_size(self.monitor, dom) {
-                Ok(size) => Answer::Size(size),
-                Err(denial) => Answer::Denied(denial),
-            },
-            Request::GetVersion { dom } => match self.domain.get_version(self.monitor, dom) {
-                Ok(version) => Answer::Version(version),
-                Err(denial) => Answer::Denied(denial),
-            },
+            Request::QuerySize { dom } => size_told(self.domain.query_size(self.monitor, dom)),
+            Request::GetVersion { dom } => {
+                version_told(self.domain.get_version(self.monitor, dom))
+            }
             Request::Load { handle, off, len } => {
                 read(self.domain.load(rt, self.monitor, handle, off, len))
             }

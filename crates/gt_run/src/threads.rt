@@ -1,11 +1,15 @@
 //! A thread for each domain.
-ghost use Rattle.std.specs.Prelude.{◌≡◌, ◌≤◌, ◌++◌, All, length, IfOk, IsOk, OnOk, IsTrue};
+ghost use Rattle.std.specs.Prelude.{◌≡◌, ◌≤◌, ◌++◌, All, length, ◌⊎◌, Err, IfOk, IfErr, IsOk, OnOk, IsTrue};
 ghost use Rattle.std.specs.Io.KnownBytes.{Appends};
 ghost use Rattle.gt_types.specs.Config.{AreFaultless};
 ghost use Rattle.gt_types.specs.declared.limits.TheConstants.{LAST_GENERATION};
 ghost use Rattle.gt_audit.specs.Lines.{lost_text};
 ghost use Rattle.gt_live.specs.Domains.{IsOf};
-ghost use Rattle.gt_run.specs.Printing.{AuditsParts, CameOf, WritesAll, WritesParts, promised};
+ghost use Rattle.gt_streams.specs.Streams.{AppendsBeginning};
+ghost use Rattle.gt_run.specs.Faults.{out_of_memory};
+ghost use Rattle.gt_run.specs.Joining.{IsLate, Joins, WritesNext, WroteStarted};
+ghost use Rattle.gt_run.specs.Printing.{CameOf, promised};
+ghost use Rattle.gt_run.specs.Runs.{Wrote};
 
 use crate::fault::RunFault;
 use crate::gate::Gate;
@@ -123,7 +127,7 @@ fn write_next<W: Write>(
     writer: &mut W,
     output: &Output,
 ) -> Result<(), RunFault>
-    ensures { OnOk result (IsOk outcome × IsTrue output.now.whole × Appends (W.contents writer.old) (W.contents writer.new) output.now.text.items) }
+    ensures { WritesNext outcome output.now.whole output.now.text.items (W.contents writer.old) (W.contents writer.new) result }
 {
     outcome?;
     write_text(writer, output.text.as_slice())?;
@@ -140,7 +144,8 @@ fn keep_audit(
     all: &mut Vec<u8>,
     audit: Result<Vec<u8>, Memory>,
 ) -> Result<(), RunFault>
-    ensures { OnOk result (IsOk outcome × IfOk audit (λ more. all.new.items ≡ all.old.items ++ more.items) × IsOk audit) }
+    ensures ok { OnOk result (IsOk outcome × IfOk audit (λ more. all.new.items ≡ all.old.items ++ more.items) × IsOk audit) }
+    ensures err { IfErr result (λ e. (outcome ≡ Err e) ⊎ (e ≡ out_of_memory)) }
 {
     outcome?;
     let more = audit?;
@@ -155,8 +160,7 @@ fn join_each<'s, 'a, R: Threads, W: Write>(
     handles: Vec<PromisedHandle<Output, Part<'s, 'a>>>,
     writer: &mut W,
 ) -> Joined
-    ensures { OnOk result.outcome (WritesParts (promised handles.entry.items) (W.contents writer.old) (W.contents writer.new)
-        × AuditsParts (promised handles.entry.items) result.audit.items) }
+    ensures { Joins (promised handles.entry.items) result.audit.items (W.contents writer.old) (W.contents writer.new) result.outcome }
 {
     let mut outcome = Ok(());
     let mut audit = Vec::new(alloc);
@@ -188,7 +192,9 @@ fn write_audit<W: Write>(
     audit: &[u8],
     lost: u64,
 ) -> Result<(), RunFault>
-    ensures { OnOk result (Appends (W.contents writer.old) (W.contents writer.new) (audit.now ++ lost_text lost)) }
+    ensures whole { OnOk result (Appends (W.contents writer.old) (W.contents writer.new) (audit.now ++ lost_text lost)) }
+    ensures beginning { AppendsBeginning (W.contents writer.old) (W.contents writer.new) (audit.now ++ lost_text lost) }
+    ensures late { IfErr result IsLate }
 {
     let mut last = Vec::from_slice(alloc, audit)?;
     push_lost(&mut last, lost)?;
@@ -216,7 +222,7 @@ fn write_each<'s, 'a, R: Threads, W: Write>(
     all: bool,
     writer: &mut W,
 ) -> Result<(), RunFault>
-    ensures all { OnOk result (IsTrue all × WritesAll (promised handles.entry.items) (W.contents writer.old) (W.contents writer.new)) }
+    ensures { WroteStarted all (promised handles.entry.items) (W.contents writer.old) (W.contents writer.new) result }
 {
     if !all {
         join_idle(rt, handles);
@@ -244,7 +250,7 @@ pub fn run_each<'a, R: Threads + Wait + Sync, P: Allows + Sync, G: Gate + Sync, 
     writer: &mut W,
 ) -> Result<(), RunFault>
     requires { length domains.items ≡ length parts.now }
-    ensures { OnOk result (WritesAll parts.now (W.contents writer.old) (W.contents writer.new)) }
+    ensures { Wrote parts.now (W.contents writer.old) (W.contents writer.new) result }
 {
     let start = OnceLock::new();
     let start = &start;
@@ -254,7 +260,7 @@ pub fn run_each<'a, R: Threads + Wait + Sync, P: Allows + Sync, G: Gate + Sync, 
         move |scope| -> Written<'_, W>
             requires { length domains.items ≡ length parts.now }
             ensures same { result.writer.ghost_name ≡ writer.entry.ghost_name }
-            ensures text { OnOk result.outcome (WritesAll parts.entry.now (W.contents writer.entry.now) (W.contents result.writer.now)) }
+            ensures text { Wrote parts.entry.now (W.contents writer.entry.now) (W.contents result.writer.now) result.outcome }
         {
             let Started { handles, all } = start_each(
                 scope, rt, alloc, domains, parts, log, gate, start,
@@ -283,7 +289,7 @@ pub fn run_lists<'a, R: Threads + Wait + Sync, P: Allows + Drop + Sync, G: Gate 
     requires some { 1 ≤ length config.domains.items }
     requires generation { config.first_gen ≤ LAST_GENERATION }
     requires each { length config.domains.items ≡ length parts.now }
-    ensures { OnOk result (WritesAll parts.now (W.contents writer.old) (W.contents writer.new)) }
+    ensures { Wrote parts.now (W.contents writer.old) (W.contents writer.new) result }
 {
     match Monitor::new(alloc, config, rights) {
         Ok((monitor, domains)) => {

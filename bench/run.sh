@@ -1,0 +1,88 @@
+#!/usr/bin/env bash
+# Runs `gthost run` where the system refuses it threads, memory or the disk, and judges each run. It is no part of the
+# gate. Each run must end within a minute by itself, and tell its fault in one line. What it printed must be a
+# beginning of the whole text, and nothing where a thread was refused.
+#
+# - Sixteen domains under less and less address space (`ulimit -v`), until the program does not start any more. Each
+#   thread takes some 8 MiB of it for its stack. Some of these runs must be refused a thread.
+# - examples/ring.gt with its audit lines, with one request for memory after the other refused (bench/refused.c).
+# - The same into a device that is full.
+#
+# usage: bench/run.sh
+set -euo pipefail
+top="$(cd "$(dirname "${BASH_SOURCE[0]}")/.." && pwd)"
+program="${PROGRAM:-$top/crates/gthost/out/gthost}"
+[ -x "$program" ] || "$top/gthost" --help >/dev/null # proves and builds it, where that is not done yet
+work="$(mktemp -d)"
+trap 'rm -rf "$work"' EXIT
+failed=0
+declare -A ends
+
+# Tells that a run is wrong.
+wrong() { echo "wrong: $1"; failed=1; }
+
+# Judges a run by its exit status and what it printed, against the whole text.
+judge() {
+  local name="$1" status="$2" fault
+  fault="$(cat "$work/err")"
+  case "$status:$fault" in
+    0:) cmp -s "$work/out" "$work/whole" || wrong "$name printed another text" ;;
+    1:'gthost: thread') [ ! -s "$work/out" ] || wrong "$name was refused a thread and printed" ;;
+    1:'gthost: memory' | 1:'gthost: write')
+      cmp -s "$work/out" <(head -c "$(stat -c %s "$work/out")" "$work/whole") || wrong "$name printed no beginning" ;;
+    *) wrong "$name ended with status $status: $fault" ;;
+  esac
+  ends["${fault:-whole}"]=$((${ends["${fault:-whole}"]:-0} + 1))
+}
+
+# How the runs ended, each way with how often.
+tell() {
+  local fault
+  for fault in "${!ends[@]}"; do echo "$1: ${ends[$fault]} runs, $fault"; done | sort
+  ends=()
+}
+
+# Sixteen domains, each of which waits for all and then makes its calls.
+{
+  echo 'triple a_t a_t map_read'
+  for id in $(seq 16); do echo "domain $id u:r:a_t 8 1 1"; done
+  for id in $(seq 16); do echo "tell $id here$id"; done
+  for id in $(seq 16); do
+    for other in $(seq 16); do echo "await $id here$other"; done
+    for gref in $(seq 0 19); do echo "do $id grant $gref page 1 ro 3"; done
+  done
+} >"$work/many.gt"
+"$program" run "$work/many.gt" >"$work/whole"
+for ((space = 260000; space >= 8000; space -= 4000)); do
+  status=0
+  (ulimit -v "$space" && timeout 60 "$program" run "$work/many.gt") >"$work/out" 2>"$work/err" || status=$?
+  # With less than this the loader does not start the program.
+  if [ "$status" = 127 ] || [ "$status" -gt 127 ] && ! grep -q '^gthost' "$work/err"; then
+    [ "$status" = 124 ] && wrong "$space KiB: it did not end"
+    break
+  fi
+  judge "$space KiB" "$status"
+done
+[ "${ends['gthost: thread']:-0}" -gt 0 ] || wrong 'no run was refused a thread'
+tell 'less and less address space'
+
+# One request for memory after the other refused.
+"${CC:-cc}" -O1 -shared -fPIC -o "$work/refused.so" "$top/bench/refused.c" -ldl
+ring=("$program" run "$top/examples/ring.gt" --audit)
+"${ring[@]}" >"$work/whole"
+requests="$(LD_PRELOAD="$work/refused.so" "${ring[@]}" 2>&1 >/dev/null | sed -n 's/^requests //p')"
+for ((n = 1; n <= requests; n++)); do
+  status=0
+  timeout 60 env REFUSED="$n" LD_PRELOAD="$work/refused.so" "${ring[@]}" >"$work/out" 2>"$work/both" || status=$?
+  sed '/^requests /d' "$work/both" >"$work/err"
+  judge "request $n" "$status"
+done
+tell 'each request for memory refused'
+
+# A device that is full.
+status=0
+timeout 60 "${ring[@]}" >/dev/full 2>"$work/err" || status=$?
+: >"$work/out"
+judge 'a full device' "$status"
+tell 'a full device'
+exit $failed

@@ -1,0 +1,14 @@
+use Rattle.std.proofs.Common.{ℕ, List}
+use Rattle.gt_script.specs.RunScripts.{RunTells}
+use Rattle.gt_streams.specs.Laws.{of_input}
+use Rattle.gt_run.specs.Runs.{Ran}
+use Rattle.gt_run.proofs.RanLemmas.{ran_unread}
+use Rattle.gt_run.proofs.reading.run.Goals as goal
+
+pub returns-in-Ok-clause-text : goal.returns-in-Ok-clause-text
+returns-in-Ok-clause-text g c =
+    let ran = rw c.as_slice.ensures.value at c.run_bytes.ensures in
+    of_input _ c.in-Ok.input.items (λ (input : List ℕ). Ran (RunTells input) _ _ c.run_bytes.result) c.in-Ok.ensures.limit c.in-Ok.ensures.text ran
+
+pub returns-in-Err-clause-text : goal.returns-in-Err-clause-text
+returns-in-Err-clause-text g c = ran_unread _ _ c.in-Err.error _ c.from.ensures
