@@ -14,7 +14,6 @@ use Rattle.gt_script.specs.declared.tasks.Deed.{Deed}
 use Rattle.gt_script.specs.declared.tasks.Deed.TheVariants.{Do, Tell, Await}
 use Rattle.gt_script.specs.declared.tasks.Task.{Task}
 use Rattle.gt_run.specs.declared.fault.RunFault.{RunFault}
-use Rattle.gt_run.specs.declared.fault.RunFault.TheVariants.{Thread}
 use Rattle.gt_run.specs.declared.lists.Part.{Part}
 use Rattle.gt_run.specs.Faults.{out_of_memory}
 use Rattle.gt_run.specs.Joining.{IsLate, Joins, WritesNext, WroteStarted}

@@ -1,8 +1,7 @@
 -- From what was read to what was written.
-use Rattle.std.proofs.Common.{◌≡◌, ◌⊎◌, ◌++◌, ◌+◌, ◌<◌, ℕ, List, [], ◌∷◌, All, get_or, length, map, take, Option, Result, Ok, Err, refl, sym, subst, ap, ◌∙◌, add-one, inl, inr}
+use Rattle.std.proofs.Common.{◌≡◌, ◌++◌, ◌+◌, ◌<◌, ℕ, List, [], ◌∷◌, get_or, length, map, take, Option, Result, Ok, Err, sym, subst, ap, ◌∙◌, inl, inr}
 use Rattle.std.proofs.lemmas.List.{map-append, length-map, map_more}
 use Rattle.std.proofs.lemmas.List.Elements.{All-append, All-cons, All-nil}
-use Rattle.std.specs.Io.KnownBytes.{Keeps}
 use Rattle.gt_types.specs.declared.config.DomainConfig.{DomainConfig}
 use Rattle.gt_host.specs.Faults.{fault_of, read_fault}
 use Rattle.gt_host.specs.declared.fault.PlayFault.{PlayFault}

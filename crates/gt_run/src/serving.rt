@@ -83,7 +83,8 @@ fn gate_line(alloc: Global, line: usize, dom: DomId) -> Result<Vec<u8>, AllocErr
 
 // Appends a line where it and all before it found memory, and tells whether they did.
 fn has_appended(text: &mut Vec<u8>, whole: bool, line: Result<Vec<u8>, AllocError>) -> bool
-    ensures appended { IsTrue result → IsTrue whole × IsOk line × IfOk line (λ l. text.new.items ≡ text.old.items ++ l.items) }
+    ensures appended { IsTrue result → IsTrue whole × IsOk line
+        × IfOk line (λ l. text.new.items ≡ text.old.items ++ l.items) }
     ensures kept { (result ≡ false) → text.new.items ≡ text.old.items }
 {
     match line {

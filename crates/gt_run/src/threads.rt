@@ -127,7 +127,8 @@ fn write_next<W: Write>(
     writer: &mut W,
     output: &Output,
 ) -> Result<(), RunFault>
-    ensures { WritesNext outcome output.now.whole output.now.text.items (W.contents writer.old) (W.contents writer.new) result }
+    ensures { WritesNext outcome output.now.whole output.now.text.items
+        (W.contents writer.old) (W.contents writer.new) result }
 {
     outcome?;
     write_text(writer, output.text.as_slice())?;
@@ -144,7 +145,8 @@ fn keep_audit(
     all: &mut Vec<u8>,
     audit: Result<Vec<u8>, Memory>,
 ) -> Result<(), RunFault>
-    ensures ok { OnOk result (IsOk outcome × IfOk audit (λ more. all.new.items ≡ all.old.items ++ more.items) × IsOk audit) }
+    ensures ok { OnOk result (IsOk outcome × IfOk audit (λ more. all.new.items ≡ all.old.items ++ more.items)
+        × IsOk audit) }
     ensures err { IfErr result (λ e. (outcome ≡ Err e) ⊎ (e ≡ out_of_memory)) }
 {
     outcome?;
@@ -160,7 +162,8 @@ fn join_each<'s, 'a, R: Threads, W: Write>(
     handles: Vec<PromisedHandle<Output, Part<'s, 'a>>>,
     writer: &mut W,
 ) -> Joined
-    ensures { Joins (promised handles.entry.items) result.audit.items (W.contents writer.old) (W.contents writer.new) result.outcome }
+    ensures { Joins (promised handles.entry.items) result.audit.items
+        (W.contents writer.old) (W.contents writer.new) result.outcome }
 {
     let mut outcome = Ok(());
     let mut audit = Vec::new(alloc);
@@ -192,7 +195,8 @@ fn write_audit<W: Write>(
     audit: &[u8],
     lost: u64,
 ) -> Result<(), RunFault>
-    ensures whole { OnOk result (Appends (W.contents writer.old) (W.contents writer.new) (audit.now ++ lost_text lost)) }
+    ensures whole { OnOk result
+        (Appends (W.contents writer.old) (W.contents writer.new) (audit.now ++ lost_text lost)) }
     ensures beginning { AppendsBeginning (W.contents writer.old) (W.contents writer.new) (audit.now ++ lost_text lost) }
     ensures late { IfErr result IsLate }
 {
@@ -260,7 +264,8 @@ pub fn run_each<'a, R: Threads + Wait + Sync, P: Allows + Sync, G: Gate + Sync, 
         move |scope| -> Written<'_, W>
             requires { length domains.items ≡ length parts.now }
             ensures same { result.writer.ghost_name ≡ writer.entry.ghost_name }
-            ensures text { Wrote parts.entry.now (W.contents writer.entry.now) (W.contents result.writer.now) result.outcome }
+            ensures text { Wrote parts.entry.now
+                (W.contents writer.entry.now) (W.contents result.writer.now) result.outcome }
         {
             let Started { handles, all } = start_each(
                 scope, rt, alloc, domains, parts, log, gate, start,
