@@ -56,11 +56,8 @@ tell() {
 for ((space = 260000; space >= 8000; space -= 4000)); do
   status=0
   (ulimit -v "$space" && timeout 60 "$program" run "$work/many.gt") >"$work/out" 2>"$work/err" || status=$?
-  # With less than this the loader does not start the program.
-  if [ "$status" = 127 ] || [ "$status" -gt 127 ] && ! grep -q '^gthost' "$work/err"; then
-    [ "$status" = 124 ] && wrong "$space KiB: it did not end"
-    break
-  fi
+  # With less than this the system does not load the program.
+  case "$status" in 126 | 127) break ;; esac
   judge "$space KiB" "$status"
 done
 [ "${ends['gthost: thread']:-0}" -gt 0 ] || wrong 'no run was refused a thread'

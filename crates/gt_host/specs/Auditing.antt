@@ -1,5 +1,5 @@
 -- The audit of a run, as its trace has it.
-use Rattle.std.specs.Prelude.{◌==◌, ◌++◌, ℕ, Bool, true, false, List, [], ◌∷◌, Option, None, Some, if◌then◌else◌, option_to_list}
+use Rattle.std.specs.Prelude.{◌≡◌, ◌==◌, ◌++◌, ℕ, Bool, true, false, List, [], ◌∷◌, Option, None, Some, if◌then◌else◌, option_to_list}
 use Rattle.gt_types.specs.declared.DomId.{DomId}
 use Rattle.gt_types.specs.declared.GrantRef.{GrantRef}
 use Rattle.gt_handles.specs.declared.handles.Handle.{Handle}
@@ -8,7 +8,7 @@ use Rattle.gt_calls.specs.declared.request.Asked.{Asked}
 use Rattle.gt_calls.specs.declared.request.Asked.TheVariants as asks
 use Rattle.gt_calls.specs.declared.request.End.{End}
 use Rattle.gt_texts.specs.Printing.{type_text}
-use Rattle.gt_audit.specs.Lines.{line_text}
+use Rattle.gt_audit.specs.Lines.{line_text, reply_text}
 use Rattle.gt_audit.specs.declared.record.CopyEnd.{CopyEnd}
 use Rattle.gt_audit.specs.declared.record.Hypercall.{Hypercall}
 use Rattle.gt_audit.specs.declared.record.Hypercall.TheVariants as calls
@@ -25,6 +25,7 @@ use Rattle.gt_core.specs.declared.trace.Element.TheVariants as elements
 use Rattle.gt_core.specs.declared.trace.Happened.{Happened}
 use Rattle.gt_core.specs.declared.trace.Happened.TheVariants.{Began, Stepped}
 use Rattle.gt_core.specs.declared.trace.Item.{Item}
+use Rattle.gt_host.specs.Printing.{answer_text}
 
 -- what a call is told as
 
@@ -59,6 +60,11 @@ reply_told (answers.Bytes bytes) = replies.Done
 reply_told (answers.Frames frames) = replies.Frames frames
 reply_told (answers.Size size) = replies.Size size
 reply_told (answers.Version version) = replies.Version version
+
+-- the reply prints as the answer does; bytes, which no audited call answers, are not told (own)
+abbrev pub PrintsAs : List (List ℕ) → Answer → Reply → Type 0
+PrintsAs names (answers.Bytes bytes) reply = Unit {0}
+PrintsAs names answer reply = reply_text (type_text (λ name. name) names) reply ≡ answer_text names answer
 
 -- the record of a call of this domain that is told so, with its answer: none of a call that is not audited (own)
 abbrev pub record_told : DomId → Option Hypercall → Answer → Option Record

@@ -1,7 +1,7 @@
 //! The audit of a run: a record of each answer of an audited call.
-ghost use Rattle.std.specs.Prelude.{◌≡◌, ◌++◌, [], true, OnOk, option_to_list};
+ghost use Rattle.std.specs.Prelude.{◌≡◌, ◌++◌, ℕ, List, [], true, OnOk, option_to_list};
 ghost use Rattle.gt_core.specs.Standing.{setting_of};
-ghost use Rattle.gt_host.specs.Auditing.{end_told, reply_told, record_told, record_lines, asked_lines};
+ghost use Rattle.gt_host.specs.Auditing.{end_told, reply_told, record_told, record_lines, asked_lines, PrintsAs};
 ghost use Rattle.gt_host.specs.Recording.{IsAbout};
 
 use gt_audit::{CopyEnd, Hypercall, Record, Reply, push_line};
@@ -62,7 +62,8 @@ fn call_told<P: Allows>(core: &Core<P>, dom: DomId, request: Request<'_>) -> Opt
 }
 
 fn reply_told(answer: &Answer) -> Reply
-    ensures { result ≡ reply_told answer.now }
+    ensures reply { result ≡ reply_told answer.now }
+    ensures prints { (names : List (List ℕ)) → PrintsAs names answer.now result }
 {
     match answer {
         Answer::Denied(denial) => Reply::Denied(*denial),

@@ -96,10 +96,10 @@ abbrev pub Works : Work → Option (List ℕ) → Option (List ℕ) → Option (
 Works work known old new status =
     IfSome known (λ bytes. (r : Result (Unit {0}) Failure) × (status ≡ status_of r) × (Runs work bytes old new r ⊎ ((r ≡ Err failures.Memory) × Keeps old new)))
 
--- the exit status fits what the run of the text's domains wrote, where its bytes are known; for want of memory it is 1 (own)
+-- the exit status fits what the run of the text's domains wrote, where its bytes are known; for want of memory it is 1, and nothing was written (own)
 abbrev pub WorksRun : Option (List ℕ) → Option (List ℕ) → Option (List ℕ) → ℕ → Type 0
 WorksRun known old new status =
-    IfSome known (λ bytes. (r : Result (Unit {0}) Failure) × (status ≡ status_of r) × (RunsDomains bytes old new r ⊎ (r ≡ Err failures.Memory)))
+    IfSome known (λ bytes. (r : Result (Unit {0}) Failure) × (status ≡ status_of r) × (RunsDomains bytes old new r ⊎ ((r ≡ Err failures.Memory) × Keeps old new)))
 
 -- The exit status fits what was asked for, and what was written does: work that was done, the domains of a script that were run, the rules, where the status is 2
 -- for the name of none, help, the version, or nothing for words that ask for nothing, whose status is 2 and for which nothing is written. Want of memory is
