@@ -1,5 +1,5 @@
 -- What stays of a core's agreement with a history after one item more.
-use Rattle.gt_core.proofs.Words.{◌≡◌, ◌≢◌, ◌<◌, ◌+◌, ℕ, refl, Bool, true, false, List, ◌∷◌, length, Option, Some, None, cond, sym, ap, ◌∙◌, arith, subst, reverse, eqb-true, eq-eqb, none-some, ◌==◌, ◌&&◌, All, count_by, slice_get, option_map, fun_ext, domain_of, DomId, Read, Write, TABLE_ENTRIES, Entry, Invalid, Header, Change, Half, FirstHalf, SecondHalf, IsEntry, Handle, Kept, value_of, count_of, Held, CallerKnowledge, control_with, knowledge_of, generation_in, StandsAt, pins_at, GoesOn, Rests, Makes, Slot, Open, Item, Answer, Stepped, Step, Seen, changed_at, State, state_of, changed_in, History, Setting, Pin, live, entry_at, raises_at, generation_at, body_at, table_at, reads_at, writes_at, control_at, known_at, mappings_at, mapping_of, maps_answered_at, is_pin_on, open_call, underway_after, Underway, values, change_of, change_at, entry_after, raise_after, or_else, stored_at, header_stored, IsSpelled, stood, first_of_item, IsLawful, FitsTable, FitsWord, SlotAgrees, MappingsAgree, Agrees, StateAgrees, DomainsStand, CallAgrees, OpenAgrees, GivenAgrees, Dir, gather, by_mapping}
+use Rattle.gt_core.proofs.Words.{◌≡◌, ◌≢◌, ◌<◌, ◌+◌, ℕ, refl, Bool, true, false, List, ◌∷◌, length, Option, Some, None, cond, sym, ap, ◌∙◌, arith, subst, reverse, eqb-true, eq-eqb, none-some, ◌==◌, ◌&&◌, All, count_by, slice_get, option_map, fun_ext, domain_of, DomId, Read, Write, TABLE_ENTRIES, Entry, Invalid, Header, Change, Half, FirstHalf, SecondHalf, IsEntry, Handle, Kept, value_of, count_of, Held, CallerKnowledge, control_with, knowledge_of, generation_in, StandsAt, pins_at, GoesOn, Rests, Makes, Slot, Open, Item, Answer, Stepped, Step, Seen, changed_at, State, state_of, changed_in, History, Setting, Pin, live, entry_at, raises_at, generation_at, body_at, table_at, reads_at, writes_at, control_at, known_at, mappings_at, mapping_of, maps_answered_at, is_pin_on, open_call, underway_after, Underway, values, change_of, change_at, entry_after, raise_after, or_else, stored_at, header_stored, IsSpelled, stood, first_of_item, IsLawful, FitsTable, FitsWord, SlotAgrees, MappingsAgree, Agrees, StateAgrees, DomainsStand, CallAgrees, OpenAgrees, GivenAgrees, Dir, gather, by_mapping, slot_after, with_slot}
 use Rattle.std.proofs.lemmas.Bool.{and_left, and_right}
 use Rattle.gt_core.specs.Legal.{stood_with}
 use Rattle.gt_core.proofs.Rows.{get-changed, length-changed, state-changed}
@@ -7,6 +7,7 @@ use Rattle.gt_core.proofs.Mappings.{mappings-same}
 use Rattle.gt_core.proofs.Quiet.{KeepsKnown, kept-table, kept-live, kept-maps_answered}
 use Rattle.gt_core.proofs.Others.{other-entry, other-body, other-maps, other-mappings, other-legs, other-generations, other-table, other-known}
 use Rattle.gt_core.proofs.Placing.{place-stays}
+use Rattle.gt_core.specs.declared.slot.SlotChange.{SlotChange}
 
 -- what a domain itself knows is what the core keeps of it
 pub known-same : (s : Setting) (h : History) (d : State) → Agrees s h d
@@ -318,3 +319,22 @@ stepped d step seen answer = record { actor = d; happened = Stepped step seen; a
 pub becomes-changed : (xs ys : List State) (x new : State) (t : ℕ) (g : State → State) → ((y : State) → (g y).id ≡ y.id) → ((q : ℕ) → state_of ys q ≡ cond (x.id.0 == q) (Some new) (state_of xs q))
     → Becomes xs (changed_in t g ys) x new t g
 becomes-changed xs ys x new t g keeps was = λ q. state-changed ys t q g keeps ∙ ap (λ (o : Option State). after_change (t == q) g o) (was q)
+
+-- each domain agrees after an item that changes the pins of one entry, where the slots of each do
+pub slots-stand : (s : Setting) (i : Item) (h : History) (xs zs : List State) (x : State) (kept : Kept Held) (o : Option Open) (t r : ℕ) (change : SlotChange) → KeepsEntries i → i.actor ≡ x.id → DomainsStand s h xs → state_of xs x.id.0 ≡ Some x → Agrees s h x
+    → Becomes xs zs x (record x { mappings = kept; underway = o }) t (with_slot r change)
+    → ((q : ℕ) (slots : List Slot) (b : Bool) → (t == q) ≡ b → SlotsAgree h q slots → SlotsAgree (i ∷ h) q (cond b (changed_at r (slot_after change) slots) slots))
+    → MappingsAgree kept (mappings_at (i ∷ h) x.id.0) (maps_answered_at (i ∷ h) x.id.0) → CallAgrees s (i ∷ h) x.id o (open_call (i ∷ h) x.id.0) → GivenAgrees (i ∷ h) x.id.0 x.given
+    → (dom : DomId) → StateAgrees s (i ∷ h) dom (state_of zs dom.0)
+slots-stand s i h xs zs x kept o t r change keeps own st here a becomes slots maps call given =
+    each-stands s i h xs zs x (record x { mappings = kept; underway = o }) t (with_slot r change) st here becomes refl (λ y. refl)
+    (subst (Agrees s (i ∷ h)) (picked (record x { mappings = kept; underway = o }) (t == x.id.0))
+    (actor-agrees s i h x (cond (t == x.id.0) (changed_at r (slot_after change) x.slots) x.slots) kept o x.given keeps a
+    (length-slots r (slot_after change) x.slots (t == x.id.0) a.room) (slots x.id.0 x.slots (t == x.id.0) refl a.slots) maps call given))
+    (λ y apart b. subst (Agrees s (i ∷ h)) (picked y (t == y.id.0))
+    (other-agrees s i h y (cond (t == y.id.0) (changed_at r (slot_after change) y.slots) y.slots) (ap (λ (z : DomId). z.0 == y.id.0) own ∙ apart) b
+    (length-slots r (slot_after change) y.slots (t == y.id.0) b.room) (slots y.id.0 y.slots (t == y.id.0) refl b.slots)))
+  where
+    picked : (y : State) (b : Bool) → record y { slots = cond b (changed_at r (slot_after change) y.slots) y.slots } ≡ cond b (with_slot r change y) y
+    picked y true = refl
+    picked y false = refl

@@ -5,7 +5,7 @@ use Rattle.std.proofs.lemmas.List.Sums.{sum_by_push}
 use Rattle.gt_core.specs.declared.slot.SlotChange.TheVariants.{Pinned}
 use Rattle.gt_core.proofs.Mappings.{mappings-added, mappings-same}
 use Rattle.gt_core.proofs.Others.{gather-append}
-use Rattle.gt_core.proofs.Keeping.{stepped, SlotsAgree, KeepsEntries, same-body, actor-agrees, other-agrees, slots-agree, length-slots, counts-fit, becomes-changed, each-stands, keeps-stands, same-number}
+use Rattle.gt_core.proofs.Keeping.{stepped, SlotsAgree, KeepsEntries, same-body, slots-agree, counts-fit, becomes-changed, slots-stand, keeps-stands, same-number}
 
 abbrev pub pins_at : History → ℕ → ℕ → Dir → ℕ
 pins_at h t r Read = reads_at h t r
@@ -180,11 +180,9 @@ pin-stands s h xs ys x p answer kept o st here a becomes valid few lawful maps c
     let q : Pin = new_pin h x.id p answer in
     let keeps = pins-keeps x.id p answer in
     let grows : Grows h i q = pinned-live h x.id p answer in
-    let new : State = record x { mappings = kept; underway = o } in
     keeps-stands s i h xs _ keeps st
-    (each-stands s i h xs _ x new p.dom.0 (with_slot p.gref.0 (Pinned p.dir)) st here (becomes-changed xs ys x new p.dom.0 (with_slot p.gref.0 (Pinned p.dir)) (λ y. refl) becomes) refl (λ y. refl)
-    (mine (p.dom.0 == x.id.0) refl)
-    (λ y apart b. other y apart b (p.dom.0 == y.id.0) refl))
+    (slots-stand s i h xs _ x kept o p.dom.0 p.gref.0 (Pinned p.dir) keeps refl st here a (becomes-changed xs ys x (record x { mappings = kept; underway = o }) p.dom.0 (with_slot p.gref.0 (Pinned p.dir)) (λ y. refl) becomes)
+    (λ z slots b is was. pinned-slots h i q z slots b keeps grows few is was) maps call given)
     (subst (All (IsLawful s)) (sym grows) (All-push (IsLawful s) (live h) q st.lawful lawful))
     (λ u r within. let was = counts-fit s h u r (st.words u r within) in (
       now-fits (is_pin_on u r Read q) (reads_at (i ∷ h) u r) (reads_at h u r) was.0 (few-there h q u r Read few) (grown-count h i q u r Read grows),
@@ -194,28 +192,6 @@ pin-stands s h xs ys x p answer kept o st here a becomes valid few lawful maps c
       now-none (is_pin_on u r Read q) (reads_at (i ∷ h) u r) (reads_at h u r) was.0 (not-there h q u r Read valid none) (grown-count h i q u r Read grows),
       now-none (is_pin_on u r Write q) (writes_at (i ∷ h) u r) (writes_at h u r) was.1 (not-there h q u r Write valid none) (grown-count h i q u r Write grows),
     ))
-  where
-    after : State → Bool → State
-    after y b = cond b (with_slot p.gref.0 (Pinned p.dir) y) y
-
-    picked : (y : State) (b : Bool) → record y { slots = cond b (changed_at p.gref.0 (slot_after (Pinned p.dir)) y.slots) y.slots } ≡ cond b (with_slot p.gref.0 (Pinned p.dir) y) y
-    picked y true = refl
-    picked y false = refl
-
-    mine : (b : Bool) → (p.dom.0 == x.id.0) ≡ b → Agrees s (pins x.id p answer ∷ h) (cond b (with_slot p.gref.0 (Pinned p.dir) (record x { mappings = kept; underway = o })) (record x { mappings = kept; underway = o }))
-    mine b is =
-        subst (Agrees s (pins x.id p answer ∷ h)) (picked (record x { mappings = kept; underway = o }) b)
-        (actor-agrees s (pins x.id p answer) h x (cond b (changed_at p.gref.0 (slot_after (Pinned p.dir)) x.slots) x.slots) kept o x.given (pins-keeps x.id p answer) a
-        (length-slots p.gref.0 (slot_after (Pinned p.dir)) x.slots b a.room)
-        (pinned-slots h (pins x.id p answer) (new_pin h x.id p answer) x.id.0 x.slots b (pins-keeps x.id p answer) (pinned-live h x.id p answer) few is a.slots)
-        maps call given)
-
-    other : (y : State) → (x.id.0 == y.id.0) ≡ false → Agrees s h y → (b : Bool) → (p.dom.0 == y.id.0) ≡ b → Agrees s (pins x.id p answer ∷ h) (cond b (with_slot p.gref.0 (Pinned p.dir) y) y)
-    other y apart c b is =
-        subst (Agrees s (pins x.id p answer ∷ h)) (picked y b)
-        (other-agrees s (pins x.id p answer) h y (cond b (changed_at p.gref.0 (slot_after (Pinned p.dir)) y.slots) y.slots) apart c
-        (length-slots p.gref.0 (slot_after (Pinned p.dir)) y.slots b c.room)
-        (pinned-slots h (pins x.id p answer) (new_pin h x.id p answer) y.id.0 y.slots b (pins-keeps x.id p answer) (pinned-live h x.id p answer) few is c.slots))
 
 -- the mappings after the pin of a map
 pub map-agrees : (h : History) (d : DomId) (p : Held) (handle : Handle) (old kept : Kept Held) → Adds old kept handle (record p { entry = entry_at h p.dom.0 p.gref.0 }) → MappingsAgree old (mappings_at h d.0) (maps_answered_at h d.0)

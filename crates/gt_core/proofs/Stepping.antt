@@ -1,5 +1,5 @@
 -- What the core does for a step of an open call: it is right, and the core stands for it.
-use Rattle.gt_core.proofs.Words.{◌≡◌, ◌≢◌, inl, inr, ℕ, refl, Bool, true, false, List, [], ◌∷◌, ◌++◌, length, Option, Some, None, cond, sym, ap, ◌∙◌, subst, reverse, eqb-true, eq-eqb, length-reverse, reverse_onto, same_Some, ◌==◌, DomId, GrantRef, Denial, Entry, Invalid, Half, Handle, Held, Asked, ByMapping, ByLeg, Seen, Nothing, Taken, Missed, Verdict, Granted, Given, KeptPin, Refused, Step, PinStep, Unpin, StoreBody, StoreHeader, Exchange, ReadBytes, WriteBytes, CopyBytes, Action, Makes, Done, Call, Phase, Storing, Walking, Last, Ending, last_first, knowledge_of, path, phase_after, action_at, next_to_give, after_store, HasShown, pins_at, held_in, Goes, Open, Item, Answer, Denied, AnswerDone, Mapped, State, state_of, sees, History, Setting, live, word_at, known_at, legs_at, mappings_at, mapping_of, seen_by, Underway, values, open_call, underway_after, holder_after, one_if_mapped, StepsRight, GivesValue, refusal_in, refusal_of, DomainsStand, Agrees, CallAgrees, OpenAgrees, numbered, position, get_or, set, position-Some, domain_of, Value, FramesTold, BytesAnswer, Kept, applied, with_underway, with_mapping, Adds, IsReadable, IsAdmitted, AccessedBy, bytes_at, FrameSet, frame_at, contents_at, IsRight, StepsRightIn, CoreStands, FramesStand, core_of, Settled, IsLawful, IsLawfullyHeld, answer_with, Closed, IsRoomFor, IsMapping, ticked_with, ticked_element, Element, Tick, MayDo, Does, Did, grown, without, RestsOnRequest, WantsMemoryNow, IsWritingNext}
+use Rattle.gt_core.proofs.Words.{◌≡◌, ◌≢◌, inl, inr, ℕ, refl, Bool, true, false, List, [], ◌∷◌, ◌++◌, length, Option, Some, None, cond, sym, ap, ◌∙◌, subst, reverse, eqb-true, eq-eqb, length-reverse, reverse_onto, same_Some, ◌==◌, DomId, GrantRef, Denial, Entry, Invalid, Half, Handle, Held, Asked, ByMapping, ByLeg, Seen, Nothing, Taken, Missed, Verdict, Granted, Given, KeptPin, Refused, Step, PinStep, Unpin, StoreBody, StoreHeader, Exchange, ReadBytes, WriteBytes, CopyBytes, Action, Makes, Done, Call, Phase, Storing, Walking, Last, Ending, last_first, knowledge_of, path, phase_after, action_at, after_store, HasShown, pins_at, held_in, Goes, Open, Item, Answer, Denied, AnswerDone, Mapped, State, state_of, sees, History, Setting, live, word_at, known_at, legs_at, mappings_at, mapping_of, seen_by, Underway, values, open_call, underway_after, holder_after, one_if_mapped, StepsRight, GivesValue, refusal_in, refusal_of, DomainsStand, Agrees, CallAgrees, OpenAgrees, numbered, position, get_or, set, position-Some, domain_of, Value, FramesTold, BytesAnswer, Kept, applied, with_underway, with_mapping, Adds, IsReadable, IsAdmitted, AccessedBy, bytes_at, FrameSet, frame_at, contents_at, IsRight, StepsRightIn, CoreStands, FramesStand, core_of, Settled, IsLawful, IsLawfullyHeld, answer_with, Closed, IsRoomFor, IsMapping, ticked_with, ticked_element, Element, Tick, MayDo, Does, Did, grown, without, RestsOnRequest, WantsMemoryNow, IsWritingNext}
 use Rattle.gt_core.specs.declared.core_state.Ticked.{Ticked as TickTold}
 use Rattle.std.specs.Prelude.{take, drop}
 use Rattle.gt_core.proofs.Quiet.{KeepsKnown}
@@ -7,7 +7,7 @@ use Rattle.gt_core.proofs.Phases.{IsHere, makes-same, by-giving}
 use Rattle.gt_core.proofs.Placing.{IsStore}
 use Rattle.gt_core.proofs.Keeping.{stepped, KeepsEntries, open_call-own}
 use Rattle.gt_core.proofs.Pinning.{pins, map-legs}
-use Rattle.gt_core.proofs.Unpinning.{unpins, leg-left, leg-mappings, mapping-legs, Loses}
+use Rattle.gt_core.proofs.Unpinning.{unpins, Loses}
 use Rattle.gt_core.proofs.Acting.{can-change, can-pin, store-invalid}
 use Rattle.gt_core.proofs.Outcomes.{next_of, ends-so}
 use Rattle.gt_core.specs.declared.trace.Bytes.{Bytes}

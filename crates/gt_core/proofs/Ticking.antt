@@ -8,7 +8,7 @@ use Rattle.gt_core.proofs.Seeing.{sees-agree}
 use Rattle.gt_core.proofs.Phases.{IsHere, makes-same, step-within, step-publishes, seen-fits, by-giving}
 use Rattle.gt_core.proofs.Judging.{judged}
 use Rattle.gt_core.proofs.Placing.{IsStore, placed, place-stays, BodyStays}
-use Rattle.gt_core.proofs.Keeping.{stepped, KeepsEntries, same-entry, same-generations, known-same, open_call-own, stood-own, same-number, cond-same}
+use Rattle.gt_core.proofs.Keeping.{stepped, KeepsEntries, same-entry, same-generations, known-same, open_call-own, stood-own, cond-same}
 use Rattle.gt_core.proofs.Storing.{stores, half-stored, first-stays}
 use Rattle.gt_core.proofs.Pinning.{pins, leg-grows, leg-maps, answered-stays}
 use Rattle.gt_core.proofs.Unpinning.{unpins, leg-left, leg-mappings, mapping-legs, from-zero}

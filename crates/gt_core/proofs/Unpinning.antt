@@ -5,7 +5,7 @@ use Rattle.std.proofs.lemmas.List.Elements.{All-cons, All-head}
 use Rattle.gt_core.proofs.Mappings.{less, mappings-taken, mappings-same}
 use Rattle.gt_core.proofs.Rows.{state-changed}
 use Rattle.gt_core.proofs.Pinning.{answered-stays}
-use Rattle.gt_core.proofs.Keeping.{stepped, SlotsAgree, KeepsEntries, same-body, actor-agrees, other-agrees, slots-agree, length-slots, counts-fit, after_change, Becomes, becomes-changed, each-stands, keeps-stands}
+use Rattle.gt_core.proofs.Keeping.{stepped, SlotsAgree, KeepsEntries, same-body, slots-agree, counts-fit, after_change, Becomes, becomes-changed, slots-stand, keeps-stands}
 
 -- what an unpin takes from the live pins
 
@@ -322,7 +322,7 @@ pub unpin-stands : (s : Setting) (h : History) (xs zs : List State) (x : State) 
     → DomainsStand s (unpins x.id p holder seen answer ∷ h) zs
 unpin-stands s h xs zs x p holder seen answer kept o st here a becomes loses maps call given =
     keeps-stands s i h xs zs keeps st
-    (each-stands s i h xs zs x new p.dom.0 (with_slot p.gref.0 (Unpinned p.dir)) st here becomes refl (λ y. refl) (mine (p.dom.0 == x.id.0) refl) (λ y apart b. other y apart b (p.dom.0 == y.id.0) refl))
+    (slots-stand s i h xs zs x kept o p.dom.0 p.gref.0 (Unpinned p.dir) keeps refl st here a becomes (λ z slots b is was. unpinned-slots h i p z slots b keeps shrinks is was) maps call given)
     (subst (All (IsLawful s)) (sym (unpinned-live h x.id p holder seen answer)) (all-less (IsLawful s) p (live h) (without x.id.0 holder (live h)) loses st.lawful))
     (λ t r within. let was = counts-fit s h t r (st.words t r within) in
     (le-lt (reads_at (i ∷ h) t r) (reads_at h t r) 4096 (shrunk-le h i p t r Read shrinks) was.0, le-lt (writes_at (i ∷ h) t r) (writes_at h t r) 4096 (shrunk-le h i p t r Write shrinks) was.1))
@@ -335,28 +335,8 @@ unpin-stands s h xs zs x p holder seen answer kept o st here a becomes loses map
     keeps : KeepsEntries i
     keeps = unpins-keeps x.id p holder seen answer
 
-    new : State
-    new = record x { mappings = kept; underway = o }
-
     shrinks : Shrinks h i p
     shrinks = subst (Loses p (live h)) (sym (unpinned-live h x.id p holder seen answer)) loses
-
-    picked : (y : State) (b : Bool) → record y { slots = cond b (changed_at p.gref.0 (slot_after (Unpinned p.dir)) y.slots) y.slots } ≡ cond b (with_slot p.gref.0 (Unpinned p.dir) y) y
-    picked y true = refl
-    picked y false = refl
-
-    mine : (b : Bool) → (p.dom.0 == x.id.0) ≡ b → Agrees s (i ∷ h) (cond b (with_slot p.gref.0 (Unpinned p.dir) new) new)
-    mine b is =
-        subst (Agrees s (i ∷ h)) (picked new b)
-        (actor-agrees s i h x (cond b (changed_at p.gref.0 (slot_after (Unpinned p.dir)) x.slots) x.slots) kept o x.given keeps a
-        (length-slots p.gref.0 (slot_after (Unpinned p.dir)) x.slots b a.room) (unpinned-slots h i p x.id.0 x.slots b keeps shrinks is a.slots)
-        maps call given)
-
-    other : (y : State) → (x.id.0 == y.id.0) ≡ false → Agrees s h y → (b : Bool) → (p.dom.0 == y.id.0) ≡ b → Agrees s (i ∷ h) (cond b (with_slot p.gref.0 (Unpinned p.dir) y) y)
-    other y apart c b is =
-        subst (Agrees s (i ∷ h)) (picked y b)
-        (other-agrees s i h y (cond b (changed_at p.gref.0 (slot_after (Unpinned p.dir)) y.slots) y.slots) apart c
-        (length-slots p.gref.0 (slot_after (Unpinned p.dir)) y.slots b c.room) (unpinned-slots h i p y.id.0 y.slots b keeps shrinks is c.slots))
 
 -- the states after an unpin: the mapping goes too, where it is of one
 pub becomes-unpinned : (xs ys : List State) (x : State) (p : Held) (holder : Holder) (o : Option Open) → ((q : ℕ) → state_of ys q ≡ cond (x.id.0 == q) (Some (record x { underway = o })) (state_of xs q))

@@ -3,8 +3,8 @@ use crate::doing::Doing::{self, Begin, Do, Path, Tick};
 use crate::doing::{OTHER, OWNER, PEER, start_to_copy};
 use crate::runs::{GRANT, GRANT_RO, REVOKE, goes};
 use crate::via::{
-    OWNERS_MAY, OWNERS_MAY_NOT, OWNERS_MAY_NOT_TO, REVOKED_BEFORE_THE_PIN, REVOKED_BEHIND_A_COPY,
-    VIA_TO_A_VIA, VIA_TO_ANOTHERS_PAGE, VIA_TO_NO_DOMAIN,
+    OWNERS_MAY, REVOKED_BEFORE_THE_PIN, REVOKED_BEHIND_A_COPY, VIA_TO_A_VIA, VIA_TO_ANOTHERS_PAGE,
+    VIA_TO_NO_DOMAIN,
 };
 use gt_core::{CopyArgs, End, Request};
 use gt_entry::Entry;
@@ -18,8 +18,6 @@ pub const SELF: DomId = DomId(0x7FF0);
 pub const NONE: u16 = 0;
 
 pub const SOURCE: u16 = 1;
-
-pub const DEST: u16 = 2;
 
 pub const BOTH: u16 = 3;
 
@@ -380,7 +378,7 @@ const ALL: [(DomId, DomId); 9] = [
 ];
 
 // Each run with the version of the tables and the pairs of domains that may be copied from and to.
-const COPIES: [(u32, &[(DomId, DomId)], &[(Doing, &str)]); 14] = [
+const COPIES: [(u32, &[(DomId, DomId)], &[(Doing, &str)]); 12] = [
     (1, &ALL, &PAGE),
     (2, &ALL, &SUB_PAGE),
     (1, &ALL, &READ_ONLY_DEST),
@@ -390,9 +388,7 @@ const COPIES: [(u32, &[(DomId, DomId)], &[(Doing, &str)]); 14] = [
     (2, &ALL, &REVOKED_BEHIND_A_COPY),
     (2, &ALL, &REVOKED_BEFORE_THE_PIN),
     (2, &ALL, &VIA_TO_A_VIA),
-    (2, &[(PEER, OTHER)], &OWNERS_MAY_NOT),
     (2, &[(PEER, OTHER), (OWNER, OTHER)], &OWNERS_MAY),
-    (2, &[(OTHER, PEER)], &OWNERS_MAY_NOT_TO),
     (2, &ALL, &VIA_TO_NO_DOMAIN),
     (2, &ALL, &VIA_TO_ANOTHERS_PAGE),
 ];

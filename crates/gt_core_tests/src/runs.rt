@@ -5,8 +5,8 @@ use crate::accesses::{
 use crate::doing::Doing::{self, Begin, Do, Show, Steps, Tick};
 use crate::doing::{OTHER, OWNER, PEER, READ_ONLY, WRITABLE, said, start};
 use crate::tables::{
-    ENTRY_BYTES, NOT_MAPPED, SIZES, STEPS_OF_GRANTS, STEPS_ON_HEADERS,
-    SUB_PAGE_BEHIND_AN_OLDER_HEADER, SUB_PAGE_BYTES, VERSION_IN_A_MAP, VERSIONS,
+    NOT_MAPPED, SIZES, STEPS_OF_GRANTS, STEPS_ON_HEADERS, SUB_PAGE_BEHIND_AN_OLDER_HEADER,
+    VERSION_IN_A_MAP,
 };
 use gt_core::{Core, Handle, Request};
 use gt_entry::Entry;
@@ -62,33 +62,6 @@ pub const STRANGE: Handle = Handle {
     serial: u64::MAX,
     key: 0,
 };
-
-// A page is granted, mapped, read, unmapped and revoked.
-const FIRST: [(Doing, &str); 5] = [
-    (Do(OWNER, GRANT), "ok"),
-    (Do(PEER, MAP_RW), "ok 0.0"),
-    (
-        Do(
-            PEER,
-            Request::Load {
-                handle: FIRST_HANDLE,
-                off: 0,
-                len: 2,
-            },
-        ),
-        "ok [0, 0]",
-    ),
-    (
-        Do(
-            PEER,
-            Request::Unmap {
-                handle: FIRST_HANDLE,
-            },
-        ),
-        "ok",
-    ),
-    (Do(OWNER, REVOKE), "ok"),
-];
 
 // A revocation between the beginning and the unpin of an unmap.
 const REVOKE_BEFORE_THE_UNPIN: [(Doing, &str); 6] = [
@@ -267,14 +240,6 @@ const DEMOTED_UNDER_A_PIN: [(Doing, &str); 7] = [
     ),
 ];
 
-// An entry at the last generation but one is published once, and is worn then.
-const WORN: [(Doing, &str); 4] = [
-    (Do(OWNER, GRANT), "ok"),
-    (Do(OWNER, DEMOTE), "N22"),
-    (Do(OWNER, REVOKE), "ok"),
-    (Do(OWNER, GRANT), "N22"),
-];
-
 // A handle that was taken names no later mapping, though its key serves again.
 const TAKEN_HANDLE: [(Doing, &str); 9] = [
     (Do(OWNER, GRANT), "ok"),
@@ -340,8 +305,7 @@ const TAKEN_HANDLE: [(Doing, &str); 9] = [
     ),
 ];
 // Each run with the version of the tables and the first generation.
-const RUNS: [(u32, u32, &[(Doing, &str)]); 24] = [
-    (1, 0, &FIRST),
+const RUNS: [(u32, u32, &[(Doing, &str)]); 19] = [
     (1, 0, &REVOKE_BEFORE_THE_UNPIN),
     (1, 0, &ANOTHER_GRANT_BEFORE_THE_PIN),
     (1, 0, &READ_ONLY_PAGE),
@@ -350,17 +314,13 @@ const RUNS: [(u32, u32, &[(Doing, &str)]); 24] = [
     (1, 0, &FOURTH_TRY),
     (1, 0, &PAST_THE_LAST),
     (1, 0, &DEMOTED_UNDER_A_PIN),
-    (1, 1048574, &WORN),
     (1, 0, &TAKEN_HANDLE),
     (1, 0, &SHARED_PAGE),
     (1, 0, &ORDER_OF_ACCESSES),
     (1, 0, &STORE_BY_A_TAKEN_HANDLE),
     (1, 0, &STORE_WITH_ITS_STEP),
     (1, 0, &VERSION_IN_A_MAP),
-    (1, 0, &VERSIONS),
     (2, 0, &SIZES),
-    (1, 0, &ENTRY_BYTES),
-    (2, 0, &SUB_PAGE_BYTES),
     (2, 0, &NOT_MAPPED),
     (1, 0, &SUB_PAGE_BEHIND_AN_OLDER_HEADER),
     (1, 0, &STEPS_ON_HEADERS),

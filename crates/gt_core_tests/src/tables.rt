@@ -1,7 +1,6 @@
 //! Tables: versions, sizes, entries by their bytes, and the steps on headers and of grants.
-use crate::doing::Doing::{self, Begin, Do, Show, Steps, Tick};
+use crate::doing::Doing::{self, Begin, Do, Steps, Tick};
 use crate::doing::{OTHER, OWNER, PEER, READ_ONLY};
-use crate::runs::{GRANT, REVOKE};
 use gt_core::Request;
 use gt_entry::Entry;
 use gt_types::{DomId, GrantRef};
@@ -33,34 +32,6 @@ pub const VERSION_IN_A_MAP: [(Doing, &str); 5] = [
         ),
         "N9 6",
     ),
-];
-
-// Versions of a table.
-pub const VERSIONS: [(Doing, &str); 9] = [
-    (
-        Do(
-            OWNER,
-            Request::Grant {
-                gref: GrantRef(0),
-                entry: Entry::Sub {
-                    dom: PEER,
-                    ro: false,
-                    frame: 5,
-                    off: 0,
-                    len: 1,
-                },
-            },
-        ),
-        "N21",
-    ),
-    (Do(OWNER, GRANT), "ok"),
-    (Do(OWNER, GRANT), "N20"),
-    (Do(OWNER, Request::SetVersion { version: 2 }), "N24"),
-    (Do(OWNER, Request::SetVersion { version: 1 }), "ok"),
-    (Do(OWNER, REVOKE), "ok"),
-    (Do(OWNER, Request::SetVersion { version: 2 }), "ok"),
-    (Do(OWNER, Request::SetVersion { version: 3 }), "N2"),
-    (Do(PEER, Request::GetVersion { dom: OWNER }), "ok version=2"),
 ];
 
 // Sizes of a table.
@@ -95,88 +66,6 @@ pub const SIZES: [(Doing, &str); 7] = [
     (Do(OWNER, Request::SetupTable { frames: 0 }), "ok frames=2"),
     (Do(OWNER, Request::SetupTable { frames: 5 }), "N23"),
     (Do(PEER, Request::QuerySize { dom: DomId(9) }), "N1"),
-];
-
-// Entries by their bytes, of version 1.
-pub const ENTRY_BYTES: [(Doing, &str); 6] = [
-    (
-        Do(
-            OWNER,
-            Request::GrantBytes {
-                gref: GrantRef(0),
-                bytes: &[9, 0, 2, 0, 5, 0, 0, 0],
-            },
-        ),
-        "N25 reading",
-    ),
-    (
-        Do(
-            OWNER,
-            Request::GrantBytes {
-                gref: GrantRef(0),
-                bytes: &[1, 0, 2, 0, 5, 0, 0],
-            },
-        ),
-        "N25 length",
-    ),
-    (
-        Do(
-            OWNER,
-            Request::GrantBytes {
-                gref: GrantRef(0),
-                bytes: &[1, 1, 2, 0, 5, 0, 0, 0],
-            },
-        ),
-        "N25 sub_page",
-    ),
-    (
-        Do(
-            OWNER,
-            Request::GrantBytes {
-                gref: GrantRef(0),
-                bytes: &[3, 0, 2, 0, 5, 0, 0, 0],
-            },
-        ),
-        "N25 type",
-    ),
-    (
-        Do(
-            OWNER,
-            Request::GrantBytes {
-                gref: GrantRef(0),
-                bytes: &[1, 0, 2, 0, 5, 0, 0, 0],
-            },
-        ),
-        "ok",
-    ),
-    (
-        Do(
-            OWNER,
-            Request::GrantBytes {
-                gref: GrantRef(0),
-                bytes: &[1, 0, 2, 0, 5, 0, 0, 0],
-            },
-        ),
-        "N20",
-    ),
-];
-
-// A sub-page by its bytes, of version 2.
-pub const SUB_PAGE_BYTES: [(Doing, &str); 2] = [
-    (
-        Do(
-            OWNER,
-            Request::GrantBytes {
-                gref: GrantRef(0),
-                bytes: &[5, 1, 3, 0, 100, 0, 50, 0, 7, 0, 0, 0, 0, 0, 0, 0],
-            },
-        ),
-        "ok",
-    ),
-    (
-        Show(0),
-        "Sub { dom: DomId(3), ro: true, frame: 7, off: 100, len: 50 } gen=1 reads=0 writes=0 status=0",
-    ),
 ];
 
 // Sub-pages and transitive entries are not mapped.

@@ -1,5 +1,5 @@
 //! Copies through transitive entries.
-use crate::copies::{DEST, FRAME_0, PEER_0, SOURCE};
+use crate::copies::{FRAME_0, PEER_0, SOURCE};
 use crate::doing::Doing::{self, Begin, Do, Path, Tick};
 use crate::doing::{OTHER, OWNER, PEER};
 use crate::runs::REVOKE;
@@ -218,53 +218,7 @@ N15 100020000003",
     (Do(OWNER, Request::Revoke { gref: GrantRef(4) }), "ok"),
 ];
 
-// The owner behind a transitive entry may not be copied from.
-pub const OWNERS_MAY_NOT: [(Doing, &str); 4] = [
-    (
-        Do(
-            OWNER,
-            Request::Grant {
-                gref: GrantRef(4),
-                entry: Entry::Page {
-                    dom: PEER,
-                    ro: true,
-                    frame: 6,
-                },
-            },
-        ),
-        "ok",
-    ),
-    (
-        Do(
-            PEER,
-            Request::Grant {
-                gref: GrantRef(0),
-                entry: Entry::Via {
-                    dom: OTHER,
-                    ro: true,
-                    dom2: OWNER,
-                    gref: GrantRef(4),
-                },
-            },
-        ),
-        "ok",
-    ),
-    (
-        Do(
-            OTHER,
-            Request::Copy(CopyArgs {
-                source: PEER_0,
-                dest: FRAME_0,
-                len: 1,
-                flags: SOURCE,
-            }),
-        ),
-        "N5 source=1 target=3 Perms(32)",
-    ),
-    (Do(PEER, REVOKE), "ok"),
-];
-
-// It may.
+// The owner behind a transitive entry may be copied from.
 pub const OWNERS_MAY: [(Doing, &str); 4] = [
     (
         Do(
@@ -319,51 +273,6 @@ U 2 0 Read -\n\
 ok",
     ),
     (Do(PEER, REVOKE), "ok"),
-];
-
-// The owner behind a transitive entry may not be copied to.
-pub const OWNERS_MAY_NOT_TO: [(Doing, &str); 3] = [
-    (
-        Do(
-            OWNER,
-            Request::Grant {
-                gref: GrantRef(4),
-                entry: Entry::Page {
-                    dom: PEER,
-                    ro: false,
-                    frame: 6,
-                },
-            },
-        ),
-        "ok",
-    ),
-    (
-        Do(
-            PEER,
-            Request::Grant {
-                gref: GrantRef(0),
-                entry: Entry::Via {
-                    dom: OTHER,
-                    ro: false,
-                    dom2: OWNER,
-                    gref: GrantRef(4),
-                },
-            },
-        ),
-        "ok",
-    ),
-    (
-        Do(
-            OTHER,
-            Request::Copy(CopyArgs {
-                source: FRAME_0,
-                dest: PEER_0,
-                len: 1,
-                flags: DEST,
-            }),
-        ),
-        "N5 source=3 target=1 Perms(32)",
-    ),
 ];
 
 // A transitive entry leads to a domain that there is not.

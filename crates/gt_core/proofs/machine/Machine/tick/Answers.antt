@@ -1,9 +1,6 @@
-use Rattle.gt_core.proofs.Words.{sym, ◌∙◌, ap, Some, ◌≡◌, List, None, refl, subst, ◌∷◌, length, set, position, slice_get, same_Some, Kept, Held, Goes, knowledge_of, Adds, Action, Done, Verdict, Answer, Denied, Mapped, sees, State, asked_in, IsMapping, applied, with_underway, with_mapping, IsAdmitted, AccessedBy, FrameSet, setting_of, core_of, DomainsStand, FramesStand, CoreStands, answer_with, ticked_element, MayDo, Tick}
-use Rattle.std.proofs.lemmas.List.{length-set}
-use Rattle.gt_core.specs.declared.core_state.Ticked.TheVariants.{Done as TickDone}
+use Rattle.gt_core.proofs.Words.{sym, ◌∙◌, ap, Some, ◌≡◌, List, None, subst, ◌∷◌, length, position, slice_get, same_Some, sees, State, IsAdmitted, AccessedBy, FrameSet, setting_of}
 use Rattle.gt_core.proofs.Places.{has_id, on-err}
 use Rattle.gt_core.proofs.Beginning.{begin-nowhere, tick-idle, place-at}
-use Rattle.gt_core.proofs.Keeping.{stepped}
 use Rattle.gt_core.proofs.Applying.{slice-after}
 use Rattle.gt_core.proofs.Stepping.{Begins, tick-does, room-asked, tick-wants, tick-admitted, tick-readable, readable-after}
 use Rattle.gt_core.proofs.machine.Machine.tick.Goals as goal
