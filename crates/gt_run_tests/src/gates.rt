@@ -59,28 +59,6 @@ impl Gate for Closed {
     }
 }
 
-/// A gate that hears of no flag, and so gives up after so many turns.
-#[derive(Drop)]
-pub struct Deaf {
-    turns: Turns,
-}
-
-impl Deaf {
-    pub fn new() -> Deaf {
-        Deaf {
-            turns: Turns::new(),
-        }
-    }
-}
-
-impl Gate for Deaf {
-    fn tell(&self, _flag: usize) {}
-
-    fn pass(&self, flag: usize) -> bool {
-        self.turns.pass(flag)
-    }
-}
-
 /// A gate at which so many callers meet, whatever they wait for.
 #[derive(Drop)]
 pub struct Meeting {

@@ -1,8 +1,6 @@
-//! Runs of lists, each domain in a thread of its own: worked rows over gates, and readers and writers that fail.
+//! Runs of lists, each domain in a thread of its own: worked rows over gates, and threads that are refused.
 #![tactic(auto)]
 
-#[cfg(test)]
-mod failing;
 #[cfg(test)]
 mod gates;
 #[cfg(test)]

@@ -1,5 +1,5 @@
 //! Worked rows.
-use crate::gates::{Closed, Deaf, Looking, Meeting};
+use crate::gates::{Closed, Looking, Meeting};
 use crate::scripts::run_body;
 use gt_audit::SharedLog;
 use gt_run::{Flags, RunFault};
@@ -30,14 +30,6 @@ fn a_false_gate_stops_its_domain(rt: HostRuntime) -> Result<(), Fail> {
         out.as_slice(),
         "12 1 ok\n13 1 gate\n15 2 N10 -1\n".as_bytes()
     );
-    Ok(())
-}
-
-#[test]
-fn a_gate_gives_up_after_its_turns(rt: HostRuntime) -> Result<(), Fail> {
-    let body = "tell 1 x\nawait 1 y\ndo 1 revoke 0\ntell 2 y\nawait 2 x\ntell 3 z\n";
-    let out = run_body(&rt, rt.alloc(), body, None, &Deaf::new())?;
-    assert_eq!(rt; out.as_slice(), "13 1 gate\n16 2 gate\n".as_bytes());
     Ok(())
 }
 
