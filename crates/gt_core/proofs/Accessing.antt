@@ -243,12 +243,15 @@ HasRoute held (Direct p) = IsAmong p held
 HasRoute held (Through via p) = IsAmong via held × IsAmong p held
 
 end-justified : (s : Setting) (h : History) (d : DomId) (granted : Bool) (end : End) (dir : Dir) (len : ℕ) (pair : DomId → DomId × DomId) (owners : DomId × DomId) (route : Route) (held : List Held) → legs_at h d.0 ≡ numbered 0 (reverse held) → HasRoute held route
-    → IsReached (known_at s h d) d granted end dir len pair route → ((p : Held) (via : Held) → route ≡ Through via p → pair p.dom ≡ owners) → EndIsJustified s h d dir (place_of d end route) len (resolved d end.domid) owners
-end-justified s h d granted end dir len pair owners Own held legs has a same = inl refl
+    → IsReached (known_at s h d) d granted end dir len pair route
+    → ((p : Held) (via : Held) → route ≡ Through via p → pair p.dom ≡ owners)
+    → EndIsJustified s h d granted dir (place_of d end route) len (resolved d end.domid) owners
+end-justified s h d granted end dir len pair owners Own held legs has a same = inl (a.0, refl)
 end-justified s h d granted end dir len pair owners (Direct p) held legs has a same =
-    inr (inl (a.1, any-map (IsOwnPin d p) (Reaches d d dir ForCopy (place_of d end (Direct p)) len) (live h) (λ q own. reaches-by s h d d dir end.offset len p q a.2 own) (leg-pin h d p held legs has)))
+    inr (inl (a.0, a.1, any-map (IsOwnPin d p) (Reaches d d dir ForCopy (place_of d end (Direct p)) len) (live h) (λ q own. reaches-by s h d d dir end.offset len p q a.2 own) (leg-pin h d p held legs has)))
 end-justified s h d granted end dir len pair owners (Through via p) held legs has a same =
     inr (inr (
+      a.0,
       any-map (IsOwnPin d p) _ (live h)
           (λ q own. any-map (IsOwnPin d via) _ (live h) (λ v of_via. (forwards-by q own v of_via, reaches-by s h d (resolved d end.domid) dir end.offset len p q a.3 own)) (leg-pin h d via held legs has.0))
           (leg-pin h d p held legs has.1),

@@ -1,5 +1,5 @@
 -- An exchange that was taken keeps what a core stands for.
-use Rattle.gt_core.proofs.Words.{◌≡◌, ◌≢◌, ◌<◌, ◌≤◌, ◌+◌, ℕ, refl, Bool, true, false, List, ◌∷◌, length, Option, Some, None, cond, sym, ap, ◌∙◌, arith, subst, get_or, eqb-true, none-some, slice_get-get_or, option_map, ◌==◌, All, count_by, slice_get, fun_ext, DomId, GrantRef, Read, Write, TABLE_ENTRIES, LAST_GENERATION, Entry, Invalid, Control, Change, Publish, ToInvalid, ToReadOnly, ToWritable, Half, FirstHalf, SecondHalf, IsEntry, Exchange, Taken, Own, Slot, Open, Item, Answer, entry_in, generation_in, control_with, row_entry, row_generation, changed_at, State, state_of, changed_in, with_own, own_after, History, Setting, Pin, live, entry_at, raises_at, raise_of, generation_at, body_at, reads_at, writes_at, control_at, maps_answered_at, open_call, is_pin_on, change_of, entry_after, raise_after, or_else, one_if_mapped, IsSafeChange, IsSpelled, IsLawful, FitsTable, FitsWord, Agrees, DomainsStand, CallAgrees, GivenAgrees, append-nil, gather, by_mapping}
+use Rattle.gt_core.proofs.Words.{◌≡◌, ◌≢◌, ◌<◌, ◌≤◌, ◌+◌, ℕ, refl, Bool, true, false, List, ◌∷◌, length, Option, Some, None, cond, sym, ap, ◌∙◌, arith, subst, get_or, eqb-true, none-some, slice_get-get_or, option_map, ◌==◌, All, count_by, slice_get, fun_ext, DomId, GrantRef, Read, Write, TABLE_ENTRIES, LAST_GENERATION, Entry, Invalid, Control, Change, Publish, ToInvalid, ToReadOnly, ToWritable, Half, FirstHalf, SecondHalf, IsEntry, Exchange, Taken, Own, PinCounts, Open, Item, Answer, entry_in, generation_in, control_with, row_entry, row_generation, changed_at, State, state_of, changed_in, with_own, own_after, History, Setting, Pin, live, entry_at, raises_at, raise_of, generation_at, body_at, reads_at, writes_at, control_at, maps_answered_at, open_call, is_pin_on, change_of, entry_after, raise_after, or_else, one_if_mapped, IsSafeChange, IsSpelled, IsLawful, FitsTable, FitsWord, Agrees, DomainsStand, CallAgrees, GivenAgrees, append-nil, gather, by_mapping}
 use Rattle.gt_core.specs.History.{changed_entry, with_ro}
 use Rattle.gt_core.proofs.Rows.{get-changed, length-changed}
 use Rattle.gt_core.proofs.Quiet.{kept-table}
@@ -93,7 +93,7 @@ own-raised s h x gref looked change answer r within room a =
     ∙ ap (λ (b : Bool). s.first_generation + (raises_at h x.id.0 r + raise_after (cond b (cond (gref.0 == r) (Some change) None) None))) (sym (same-number x.id.0))
     ∙ ap (λ (n : ℕ). s.first_generation + n) (sym (exchanged-raises h (exchanged x.id gref looked change answer) x.id.0 r))
 
-exchanged-slots : (h : History) (d : DomId) (gref : GrantRef) (looked : ℕ) (change : Change) (answer : Option Answer) (q : ℕ) (slots : List Slot) → SlotsAgree h q slots → SlotsAgree (exchanged d gref looked change answer ∷ h) q slots
+exchanged-slots : (h : History) (d : DomId) (gref : GrantRef) (looked : ℕ) (change : Change) (answer : Option Answer) (q : ℕ) (slots : List PinCounts) → SlotsAgree h q slots → SlotsAgree (exchanged d gref looked change answer ∷ h) q slots
 exchanged-slots h d gref looked change answer q slots a = λ r slot e. let b = a r slot e in
     record {
       reads = b.reads ∙ ap (λ (ps : List Pin). count_by (is_pin_on q r Read) ps) (sym (exchanged-live h d gref looked change answer));

@@ -1,5 +1,5 @@
 -- A header that its owner stores.
-use Rattle.gt_core.proofs.Words.{◌≡◌, ◌<◌, ◌+◌, ◌%◌, ℕ, refl, Bool, true, false, List, ◌∷◌, Option, Some, None, cond, sym, ap, ◌∙◌, arith, subst, mod-eq_of_lt, ◌==◌, All, count_by, fun_ext, DomId, Read, Write, Entry, Header, Half, FirstHalf, SecondHalf, IsEntry, StoreHeader, Nothing, control_with, Slot, Open, Item, Answer, State, state_of, changed_in, with_header, History, Setting, Pin, entry_at, generation_at, body_at, or_else, header_or, table_at, control_at, reads_at, writes_at, is_pin_on, one_if_mapped, open_call, IsSpelled, IsLawful, FitsTable, FitsWord, Agrees, DomainsStand, CallAgrees, GivenAgrees}
+use Rattle.gt_core.proofs.Words.{◌≡◌, ◌<◌, ◌+◌, ◌%◌, ℕ, refl, Bool, true, false, List, ◌∷◌, Option, Some, None, cond, sym, ap, ◌∙◌, arith, subst, mod-eq_of_lt, ◌==◌, All, count_by, fun_ext, DomId, Read, Write, Entry, Header, Half, FirstHalf, SecondHalf, IsEntry, StoreHeader, Nothing, control_with, PinCounts, Open, Item, Answer, State, state_of, changed_in, with_header, History, Setting, Pin, entry_at, generation_at, body_at, or_else, header_or, table_at, control_at, reads_at, writes_at, is_pin_on, one_if_mapped, open_call, IsSpelled, IsLawful, FitsTable, FitsWord, Agrees, DomainsStand, CallAgrees, GivenAgrees}
 use Rattle.gt_core.proofs.Quiet.{KeepsKnown, kept-entry, kept-raises, kept-live, kept-generations}
 use Rattle.gt_core.proofs.Others.{other-table}
 use Rattle.gt_core.proofs.Keeping.{stepped, SlotsAgree, becomes-changed, each-stands, other-agrees, mappings-stay, same-number}
@@ -29,7 +29,7 @@ headed-fits : (s : Setting) (h : History) (d : DomId) (version frames : ℕ) (an
 headed-fits s h d version frames answer t true own new old = subst FitsTable (sym (headed-table s h d version frames answer t own)) new
 headed-fits s h d version frames answer t false own new old = subst FitsTable (sym (other-table s (headed d version frames answer) h t own)) old
 
-headed-slots : (h : History) (d : DomId) (version frames : ℕ) (answer : Option Answer) (t : ℕ) (slots : List Slot) → KeepsKnown (headed d version frames answer) → SlotsAgree h t slots → SlotsAgree (headed d version frames answer ∷ h) t slots
+headed-slots : (h : History) (d : DomId) (version frames : ℕ) (answer : Option Answer) (t : ℕ) (slots : List PinCounts) → KeepsKnown (headed d version frames answer) → SlotsAgree h t slots → SlotsAgree (headed d version frames answer ∷ h) t slots
 headed-slots h d version frames answer t slots k a = λ r slot e. let b = a r slot e in
     let i = headed d version frames answer in
     record {

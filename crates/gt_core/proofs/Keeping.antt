@@ -1,5 +1,5 @@
 -- What stays of a core's agreement with a history after one item more.
-use Rattle.gt_core.proofs.Words.{◌≡◌, ◌≢◌, ◌<◌, ◌+◌, ℕ, refl, Bool, true, false, List, ◌∷◌, length, Option, Some, None, cond, sym, ap, ◌∙◌, arith, subst, reverse, eqb-true, eq-eqb, none-some, ◌==◌, ◌&&◌, All, count_by, slice_get, option_map, fun_ext, domain_of, DomId, Read, Write, TABLE_ENTRIES, Entry, Invalid, Header, Change, Half, FirstHalf, SecondHalf, IsEntry, Handle, Kept, value_of, count_of, Held, CallerKnowledge, control_with, knowledge_of, generation_in, StandsAt, pins_at, GoesOn, Rests, Makes, Slot, Open, Item, Answer, Stepped, Step, Seen, changed_at, State, state_of, changed_in, History, Setting, Pin, live, entry_at, raises_at, generation_at, body_at, table_at, reads_at, writes_at, control_at, known_at, mappings_at, mapping_of, maps_answered_at, is_pin_on, open_call, underway_after, Underway, values, change_of, change_at, entry_after, raise_after, or_else, stored_at, header_stored, IsSpelled, stood, first_of_item, IsLawful, FitsTable, FitsWord, SlotAgrees, MappingsAgree, Agrees, StateAgrees, DomainsStand, CallAgrees, OpenAgrees, GivenAgrees, Dir, gather, by_mapping, slot_after, with_slot}
+use Rattle.gt_core.proofs.Words.{◌≡◌, ◌≢◌, ◌<◌, ◌+◌, ℕ, refl, Bool, true, false, List, ◌∷◌, length, Option, Some, None, cond, sym, ap, ◌∙◌, arith, subst, reverse, eqb-true, eq-eqb, none-some, ◌==◌, ◌&&◌, All, count_by, slice_get, option_map, fun_ext, domain_of, DomId, Read, Write, TABLE_ENTRIES, Entry, Invalid, Header, Change, Half, FirstHalf, SecondHalf, IsEntry, Handle, Kept, value_of, count_of, Held, CallerKnowledge, control_with, knowledge_of, generation_in, StandsAt, pins_at, GoesOn, Rests, Makes, PinCounts, Open, Item, Answer, Stepped, Step, Seen, changed_at, State, state_of, changed_in, History, Setting, Pin, live, entry_at, raises_at, generation_at, body_at, table_at, reads_at, writes_at, control_at, known_at, mappings_at, mapping_of, maps_answered_at, is_pin_on, open_call, underway_after, Underway, values, change_of, change_at, entry_after, raise_after, or_else, stored_at, header_stored, IsSpelled, stood, first_of_item, IsLawful, FitsTable, FitsWord, SlotAgrees, MappingsAgree, Agrees, StateAgrees, DomainsStand, CallAgrees, OpenAgrees, GivenAgrees, Dir, gather, by_mapping, slot_after, with_slot}
 use Rattle.std.proofs.lemmas.Bool.{and_left, and_right}
 use Rattle.gt_core.specs.Legal.{stood_with}
 use Rattle.gt_core.proofs.Rows.{get-changed, length-changed, state-changed}
@@ -7,7 +7,7 @@ use Rattle.gt_core.proofs.Mappings.{mappings-same}
 use Rattle.gt_core.proofs.Quiet.{KeepsKnown, kept-table, kept-live, kept-maps_answered}
 use Rattle.gt_core.proofs.Others.{other-entry, other-body, other-maps, other-mappings, other-legs, other-generations, other-table, other-known}
 use Rattle.gt_core.proofs.Placing.{place-stays}
-use Rattle.gt_core.specs.declared.slot.SlotChange.{SlotChange}
+use Rattle.gt_core.specs.declared.pin_counts.CountsChange.{CountsChange}
 
 -- what a domain itself knows is what the core keeps of it
 pub known-same : (s : Setting) (h : History) (d : State) → Agrees s h d
@@ -81,36 +81,36 @@ call-of-other s i h d o apart a =
 
 -- slots
 
-abbrev pub SlotsAgree : History → ℕ → List Slot → Type 0
-SlotsAgree h q slots = (r : ℕ) (slot : Slot) → slice_get slots r ≡ Some slot → SlotAgrees h q r slot
+abbrev pub SlotsAgree : History → ℕ → List PinCounts → Type 0
+SlotsAgree h q slots = (r : ℕ) (slot : PinCounts) → slice_get slots r ≡ Some slot → SlotAgrees h q r slot
 
-slot-agrees : (h new : History) (q r k : ℕ) (f : Slot → Slot) (b : Bool) (o : Option Slot) (slot : Slot) → (r == k) ≡ b → ((old : Slot) → o ≡ Some old → SlotAgrees h q k old)
-    → ((old : Slot) → SlotAgrees h q r old → SlotAgrees new q r (f old)) → ((r == k) ≡ false → (old : Slot) → SlotAgrees h q k old → SlotAgrees new q k old)
+slot-agrees : (h new : History) (q r k : ℕ) (f : PinCounts → PinCounts) (b : Bool) (o : Option PinCounts) (slot : PinCounts) → (r == k) ≡ b → ((old : PinCounts) → o ≡ Some old → SlotAgrees h q k old)
+    → ((old : PinCounts) → SlotAgrees h q r old → SlotAgrees new q r (f old)) → ((r == k) ≡ false → (old : PinCounts) → SlotAgrees h q k old → SlotAgrees new q k old)
     → cond b (option_map f o) o ≡ Some slot → SlotAgrees new q k slot
 slot-agrees h new q r k f true None slot is was there apart e = absurd (none-some slot e)
 slot-agrees h new q r k f true (Some old) slot is was there apart e =
     let y : f old ≡ slot = cc in
     let n : r ≡ k = eqb-true r k is in
-    subst (λ (z : Slot). SlotAgrees new q k z) y
+    subst (λ (z : PinCounts). SlotAgrees new q k z) y
     (subst (λ (m : ℕ). SlotAgrees new q m (f old)) n (there old (subst (λ (m : ℕ). SlotAgrees h q m old) (sym n) (was old refl))))
 slot-agrees h new q r k f false o slot is was there apart e = apart is slot (was slot e)
 
 -- the slots of domain q, after the change of one slot of domain t
-pub slots-agree : (h new : History) (t q r : ℕ) (f : Slot → Slot) (slots : List Slot) (b : Bool) → (t == q) ≡ b → SlotsAgree h q slots
-    → ((t == q) ≡ true → (old : Slot) → SlotAgrees h q r old → SlotAgrees new q r (f old))
-    → ((k : ℕ) (old : Slot) → ((t == q) && (r == k)) ≡ false → SlotAgrees h q k old → SlotAgrees new q k old)
+pub slots-agree : (h new : History) (t q r : ℕ) (f : PinCounts → PinCounts) (slots : List PinCounts) (b : Bool) → (t == q) ≡ b → SlotsAgree h q slots
+    → ((t == q) ≡ true → (old : PinCounts) → SlotAgrees h q r old → SlotAgrees new q r (f old))
+    → ((k : ℕ) (old : PinCounts) → ((t == q) && (r == k)) ≡ false → SlotAgrees h q k old → SlotAgrees new q k old)
     → SlotsAgree new q (cond b (changed_at r f slots) slots)
 slots-agree h new t q r f slots true is was there apart =
     λ k slot e. slot-agrees h new q r k f (r == k) (slice_get slots k) slot refl (λ old o. was k old o) (there is)
     (λ no old a. apart k old (and_right (t == q) (r == k) no) a) (sym (get-changed slots r k f) ∙ e)
 slots-agree h new t q r f slots false is was there apart = λ k slot e. apart k slot (and_left (t == q) (r == k) is) (was k slot e)
 
-pub length-slots : (r : ℕ) (f : Slot → Slot) (slots : List Slot) (b : Bool) → length slots ≡ TABLE_ENTRIES → length (cond b (changed_at r f slots) slots) ≡ TABLE_ENTRIES
+pub length-slots : (r : ℕ) (f : PinCounts → PinCounts) (slots : List PinCounts) (b : Bool) → length slots ≡ TABLE_ENTRIES → length (cond b (changed_at r f slots) slots) ≡ TABLE_ENTRIES
 length-slots r f slots true e = length-changed slots r f ∙ e
 length-slots r f slots false e = e
 
 -- a domain that doesn't act: its pins may have changed, its call stands where it stood
-pub other-agrees : (s : Setting) (i : Item) (h : History) (x : State) (slots : List Slot) → (i.actor.0 == x.id.0) ≡ false → Agrees s h x
+pub other-agrees : (s : Setting) (i : Item) (h : History) (x : State) (slots : List PinCounts) → (i.actor.0 == x.id.0) ≡ false → Agrees s h x
     → length slots ≡ TABLE_ENTRIES → SlotsAgree (i ∷ h) x.id.0 slots → Agrees s (i ∷ h) (record x { slots = slots })
 other-agrees s i h x slots apart a len agree =
     record {
@@ -165,7 +165,7 @@ same-spelled i h t r q a valid =
     (a (λ e. valid (same-entry i h t r q ∙ e)))))
 
 -- the domain that acts: its pins, mappings and call may have changed
-pub actor-agrees : (s : Setting) (i : Item) (h : History) (x : State) (slots : List Slot) (mappings : Kept Held) (o : Option Open) (given : List ℕ) → KeepsEntries i → Agrees s h x
+pub actor-agrees : (s : Setting) (i : Item) (h : History) (x : State) (slots : List PinCounts) (mappings : Kept Held) (o : Option Open) (given : List ℕ) → KeepsEntries i → Agrees s h x
     → length slots ≡ TABLE_ENTRIES → SlotsAgree (i ∷ h) x.id.0 slots → MappingsAgree mappings (mappings_at (i ∷ h) x.id.0) (maps_answered_at (i ∷ h) x.id.0)
     → CallAgrees s (i ∷ h) x.id o (open_call (i ∷ h) x.id.0) → GivenAgrees (i ∷ h) x.id.0 given
     → Agrees s (i ∷ h) (record x { slots = slots; mappings = mappings; underway = o; given = given })
@@ -287,7 +287,7 @@ pins-stand s i h xs zs q k st each =
     count t r dir = ap (λ (ps : List Pin). count_by (is_pin_on t r dir) ps) (kept-live i h k)
 
 -- the slots of a domain stay, where no pin is taken or given back and no body word stored
-pub slots-stay : (i : Item) (h : History) (q : ℕ) (slots : List Slot) → KeepsEntries i → KeepsKnown i → SlotsAgree h q slots → SlotsAgree (i ∷ h) q slots
+pub slots-stay : (i : Item) (h : History) (q : ℕ) (slots : List PinCounts) → KeepsEntries i → KeepsKnown i → SlotsAgree h q slots → SlotsAgree (i ∷ h) q slots
 slots-stay i h q slots e k a = λ r slot at. let b = a r slot at in
     record {
       reads = b.reads ∙ ap (λ (ps : List Pin). count_by (is_pin_on q r Read) ps) (sym (kept-live i h k));
@@ -321,9 +321,9 @@ pub becomes-changed : (xs ys : List State) (x new : State) (t : ℕ) (g : State 
 becomes-changed xs ys x new t g keeps was = λ q. state-changed ys t q g keeps ∙ ap (λ (o : Option State). after_change (t == q) g o) (was q)
 
 -- each domain agrees after an item that changes the pins of one entry, where the slots of each do
-pub slots-stand : (s : Setting) (i : Item) (h : History) (xs zs : List State) (x : State) (kept : Kept Held) (o : Option Open) (t r : ℕ) (change : SlotChange) → KeepsEntries i → i.actor ≡ x.id → DomainsStand s h xs → state_of xs x.id.0 ≡ Some x → Agrees s h x
+pub slots-stand : (s : Setting) (i : Item) (h : History) (xs zs : List State) (x : State) (kept : Kept Held) (o : Option Open) (t r : ℕ) (change : CountsChange) → KeepsEntries i → i.actor ≡ x.id → DomainsStand s h xs → state_of xs x.id.0 ≡ Some x → Agrees s h x
     → Becomes xs zs x (record x { mappings = kept; underway = o }) t (with_slot r change)
-    → ((q : ℕ) (slots : List Slot) (b : Bool) → (t == q) ≡ b → SlotsAgree h q slots → SlotsAgree (i ∷ h) q (cond b (changed_at r (slot_after change) slots) slots))
+    → ((q : ℕ) (slots : List PinCounts) (b : Bool) → (t == q) ≡ b → SlotsAgree h q slots → SlotsAgree (i ∷ h) q (cond b (changed_at r (slot_after change) slots) slots))
     → MappingsAgree kept (mappings_at (i ∷ h) x.id.0) (maps_answered_at (i ∷ h) x.id.0) → CallAgrees s (i ∷ h) x.id o (open_call (i ∷ h) x.id.0) → GivenAgrees (i ∷ h) x.id.0 x.given
     → (dom : DomId) → StateAgrees s (i ∷ h) dom (state_of zs dom.0)
 slots-stand s i h xs zs x kept o t r change keeps own st here a becomes slots maps call given =

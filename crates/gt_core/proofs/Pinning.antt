@@ -1,8 +1,8 @@
 -- A pin that was taken keeps what a core stands for.
-use Rattle.gt_core.proofs.Words.{◌≡◌, ◌≢◌, ◌<◌, ◌+◌, ℕ, refl, Bool, true, false, List, [], ◌∷◌, ◌++◌, length, Option, Some, cond, sym, ap, ◌∙◌, arith, subst, ◌==◌, ◌&&◌, All, count_by, eqb-true, eq-eqb, and_parts, and_from, false≢true, true≢false, All-push, append-nil, DomId, Dir, Read, Write, MAX_PINS, Invalid, FirstHalf, SecondHalf, Kept, Handle, Held, Holder, ByLeg, PinStep, Taken, Slot, Open, Item, Answer, Mapped, changed_at, State, state_of, changed_in, with_slot, slot_after, Adds, History, Setting, Pin, live, entry_at, body_at, reads_at, writes_at, mappings_at, maps_answered_at, legs_at, open_call, is_pin_on, same_dir, gather, by_mapping, by_leg, holder_after, one_if_mapped, IsLawful, SlotAgrees, Agrees, DomainsStand, CallAgrees, GivenAgrees, MappingsAgree}
+use Rattle.gt_core.proofs.Words.{◌≡◌, ◌≢◌, ◌<◌, ◌+◌, ℕ, refl, Bool, true, false, List, [], ◌∷◌, ◌++◌, length, Option, Some, cond, sym, ap, ◌∙◌, arith, subst, ◌==◌, ◌&&◌, All, count_by, eqb-true, eq-eqb, and_parts, and_from, false≢true, true≢false, All-push, append-nil, DomId, Dir, Read, Write, MAX_PINS, Invalid, FirstHalf, SecondHalf, Kept, Handle, Held, Holder, ByLeg, PinStep, Taken, PinCounts, Open, Item, Answer, Mapped, changed_at, State, state_of, changed_in, with_slot, slot_after, Adds, History, Setting, Pin, live, entry_at, body_at, reads_at, writes_at, mappings_at, maps_answered_at, legs_at, open_call, is_pin_on, same_dir, gather, by_mapping, by_leg, holder_after, one_if_mapped, IsLawful, SlotAgrees, Agrees, DomainsStand, CallAgrees, GivenAgrees, MappingsAgree}
 use Rattle.std.specs.Prelude.{min}
 use Rattle.std.proofs.lemmas.List.Sums.{sum_by_push}
-use Rattle.gt_core.specs.declared.slot.SlotChange.TheVariants.{Pinned}
+use Rattle.gt_core.specs.declared.pin_counts.CountsChange.TheVariants.{Pinned}
 use Rattle.gt_core.proofs.Mappings.{mappings-added, mappings-same}
 use Rattle.gt_core.proofs.Others.{gather-append}
 use Rattle.gt_core.proofs.Keeping.{stepped, SlotsAgree, KeepsEntries, same-body, slots-agree, counts-fit, becomes-changed, slots-stand, keeps-stands, same-number}
@@ -68,7 +68,7 @@ counted-up true true old now was p few e f = let c : was < MAX_PINS = few refl i
 counted-up true false old now was p few e f = omega arith
 counted-up false hit old now was p few e f = absurd (false≢true p)
 
-slot-up : (h : History) (i : Item) (p : Pin) (q : ℕ) (old : Slot) → KeepsEntries i → Grows h i p → IsFew h p → (p.held.dom.0 == q) ≡ true → SlotAgrees h q p.held.gref.0 old
+slot-up : (h : History) (i : Item) (p : Pin) (q : ℕ) (old : PinCounts) → KeepsEntries i → Grows h i p → IsFew h p → (p.held.dom.0 == q) ≡ true → SlotAgrees h q p.held.gref.0 old
     → SlotAgrees (i ∷ h) q p.held.gref.0 (slot_after (Pinned p.held.dir) old)
 slot-up h i p q old keeps grows few on a =
     let r = p.held.gref.0 in
@@ -89,7 +89,7 @@ no-hit true hit n was now p e f = absurd (true≢false p)
 no-hit false hit n was now p e f = omega arith
 
 -- a slot that the pin doesn't name
-slot-stays : (h : History) (i : Item) (p : Pin) (q k : ℕ) (old : Slot) → KeepsEntries i → Grows h i p → ((p.held.dom.0 == q) && (p.held.gref.0 == k)) ≡ false → SlotAgrees h q k old → SlotAgrees (i ∷ h) q k old
+slot-stays : (h : History) (i : Item) (p : Pin) (q k : ℕ) (old : PinCounts) → KeepsEntries i → Grows h i p → ((p.held.dom.0 == q) && (p.held.gref.0 == k)) ≡ false → SlotAgrees h q k old → SlotAgrees (i ∷ h) q k old
 slot-stays h i p q k old keeps grows off a =
     record {
       reads = no-hit ((p.held.dom.0 == q) && (p.held.gref.0 == k)) (same_dir p.held.dir Read) old.reads (reads_at h q k) (reads_at (i ∷ h) q k) off a.reads (grown-count h i p q k Read grows);
@@ -98,7 +98,7 @@ slot-stays h i p q k old keeps grows off a =
       second = a.second ∙ sym (same-body i h q k SecondHalf keeps);
     }
 
-pinned-slots : (h : History) (i : Item) (p : Pin) (q : ℕ) (slots : List Slot) (b : Bool) → KeepsEntries i → Grows h i p → IsFew h p → (p.held.dom.0 == q) ≡ b
+pinned-slots : (h : History) (i : Item) (p : Pin) (q : ℕ) (slots : List PinCounts) (b : Bool) → KeepsEntries i → Grows h i p → IsFew h p → (p.held.dom.0 == q) ≡ b
     → SlotsAgree h q slots → SlotsAgree (i ∷ h) q (cond b (changed_at p.held.gref.0 (slot_after (Pinned p.held.dir)) slots) slots)
 pinned-slots h i p q slots b keeps grows few is was =
     slots-agree h (i ∷ h) p.held.dom.0 q p.held.gref.0 (slot_after (Pinned p.held.dir)) slots b is was

@@ -1,5 +1,5 @@
 -- What the core's steps see is what the history left.
-use Rattle.gt_core.proofs.Words.{◌≡◌, ◌≢◌, ◌<◌, ℕ, zero, suc, refl, Bool, true, false, List, [], ◌∷◌, length, Option, Some, None, cond, sym, ap, ◌∙◌, arith, none-some, same_Some, ◌==◌, slice_get, DomId, Entry, control_word, header_word, Slot, Own, State, Step, LookHeader, LookControl, LookBody, Exchange, Word, control_with, generation_in, Half, FirstHalf, SecondHalf, TABLE_ENTRIES, History, Setting, entry_at, generation_at, reads_at, body_at, table_at, word_at, seen_by, exchange_sees, Agrees, StateAgrees, DomainsStand, control_seen, header_seen, body_seen, sees}
+use Rattle.gt_core.proofs.Words.{◌≡◌, ◌≢◌, ◌<◌, ℕ, zero, suc, refl, Bool, true, false, List, [], ◌∷◌, length, Option, Some, None, cond, sym, ap, ◌∙◌, arith, none-some, same_Some, ◌==◌, slice_get, DomId, Entry, control_word, header_word, PinCounts, Own, State, Step, LookHeader, LookControl, LookBody, Exchange, Word, control_with, generation_in, Half, FirstHalf, SecondHalf, TABLE_ENTRIES, History, Setting, entry_at, generation_at, reads_at, body_at, table_at, word_at, seen_by, exchange_sees, Agrees, StateAgrees, DomainsStand, control_seen, header_seen, body_seen, sees}
 use Rattle.gt_calls.specs.declared.action.Step.TheVariants.{Pin}
 use Rattle.gt_core.specs.Standing.{state_of}
 use Rattle.gt_core.specs.Sight.{reads_in, writes_in, body_in, slot_reads, slot_writes, slot_body, control_in}
@@ -30,15 +30,15 @@ body_seen-state (y ∷ ys) d r which x e = by (y.id.0 == d) e (body_seen-state y
     by true k t = ap (λ (z : State). body_in z.slots r which) (same_Some y x k)
     by false k t = t k
 
-past-none : (xs : List Slot) (r : ℕ) → r < length xs → slice_get xs r ≡ None → ⊥
+past-none : (xs : List PinCounts) (r : ℕ) → r < length xs → slice_get xs r ≡ None → ⊥
 past-none [] r within e = absurd (omega arith)
 past-none (x ∷ xs) zero within e = none-some x (sym e)
 past-none (x ∷ xs) (suc r) within e = past-none xs r (omega arith) e
 
-slot-here : (s : Setting) (h : History) (x : State) (r : ℕ) → Agrees s h x → r < TABLE_ENTRIES → (slot : Slot) × (slice_get x.slots r ≡ Some slot)
+slot-here : (s : Setting) (h : History) (x : State) (r : ℕ) → Agrees s h x → r < TABLE_ENTRIES → (slot : PinCounts) × (slice_get x.slots r ≡ Some slot)
 slot-here s h x r a within = some (slice_get x.slots r) refl
   where
-    some : (o : Option Slot) → slice_get x.slots r ≡ o → (slot : Slot) × (slice_get x.slots r ≡ Some slot)
+    some : (o : Option PinCounts) → slice_get x.slots r ≡ o → (slot : PinCounts) × (slice_get x.slots r ≡ Some slot)
     some (Some slot) e = (slot, e)
     some None e = absurd (past-none x.slots r (let room : length x.slots ≡ TABLE_ENTRIES = a.room in omega arith) e)
 
@@ -59,8 +59,8 @@ word-agrees s h x r a within =
     ∙ ap (λ (n : ℕ). control_word (control_with (entry_at h x.id.0 r) (generation_at s h x.id.0 r) (reads_at h x.id.0 r) n)) (ap slot_writes here.1 ∙ b.writes)
 
 body-agrees : (s : Setting) (h : History) (x : State) (r : ℕ) (which : Half) → Agrees s h x → r < TABLE_ENTRIES → body_in x.slots r which ≡ body_at h x.id.0 r which
-body-agrees s h x r SecondHalf a within = let here = slot-here s h x r a within in ap (λ (o : Option Slot). slot_body o SecondHalf) here.1 ∙ (a.slots r here.0 here.1).second
-body-agrees s h x r FirstHalf a within = let here = slot-here s h x r a within in ap (λ (o : Option Slot). slot_body o FirstHalf) here.1 ∙ (a.slots r here.0 here.1).first
+body-agrees s h x r SecondHalf a within = let here = slot-here s h x r a within in ap (λ (o : Option PinCounts). slot_body o SecondHalf) here.1 ∙ (a.slots r here.0 here.1).second
+body-agrees s h x r FirstHalf a within = let here = slot-here s h x r a within in ap (λ (o : Option PinCounts). slot_body o FirstHalf) here.1 ∙ (a.slots r here.0 here.1).first
 
 -- the step is on an entry that there is
 abbrev pub IsWithin : List State → DomId → Step → Type 0

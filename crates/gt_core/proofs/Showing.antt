@@ -1,5 +1,5 @@
 -- What the core shows of an entry is what the history left.
-use Rattle.gt_core.proofs.Words.{◌≡◌, ◌<◌, ◌≤◌, ℕ, zero, suc, refl, Bool, true, false, List, [], ◌∷◌, length, Option, Some, None, cond, sym, ap, ◌∙◌, arith, subst, get_or, lt-ltb, ltb-true, nat_lt, ◌&&◌, is_some, slice_get, position, domain_of, DomId, TABLE_ENTRIES, DomainConfig, Entry, Header, Own, Slot, size_of, row_entry, row_generation, State, History, Setting, entry_at, generation_at, reads_at, writes_at, table_at, shown_at, Agrees, DomainsStand}
+use Rattle.gt_core.proofs.Words.{◌≡◌, ◌<◌, ◌≤◌, ℕ, zero, suc, refl, Bool, true, false, List, [], ◌∷◌, length, Option, Some, None, cond, sym, ap, ◌∙◌, arith, subst, get_or, lt-ltb, ltb-true, nat_lt, ◌&&◌, is_some, slice_get, position, domain_of, DomId, TABLE_ENTRIES, DomainConfig, Entry, Header, Own, PinCounts, size_of, row_entry, row_generation, State, History, Setting, entry_at, generation_at, reads_at, writes_at, table_at, shown_at, Agrees, DomainsStand}
 use Rattle.gt_core.specs.Shown.{shown_in}
 use Rattle.gt_core.proofs.Fitting.{table-fits}
 use Rattle.gt_core.proofs.Places.{has_id}
@@ -50,7 +50,7 @@ rows-show s h x r a within =
     let entry : own.0.entry ≡ entry_at h x.id.0 r = sym (ap row_entry own.1) ∙ ap (λ (f : ℕ → Entry). f r) a.entries in
     let generation : own.0.generation ≡ generation_at s h x.id.0 r =
     sym (ap (row_generation s.first_generation) own.1) ∙ ap (λ (f : ℕ → ℕ). f r) a.generations in
-    ap (λ (o : Option Own). shown_in o (slice_get x.slots r)) own.1 ∙ ap (λ (o : Option Slot). shown_in (Some own.0) o) slot.1
+    ap (λ (o : Option Own). shown_in o (slice_get x.slots r)) own.1 ∙ ap (λ (o : Option PinCounts). shown_in (Some own.0) o) slot.1
     ∙ ap (λ (e : Entry). Some (record { entry = e; generation = own.0.generation; reads = slot.0.reads; writes = slot.0.writes })) entry
     ∙ ap (λ (n : ℕ). Some (record { entry = entry_at h x.id.0 r; generation = n; reads = slot.0.reads; writes = slot.0.writes })) generation
     ∙ ap (λ (n : ℕ). Some (record { entry = entry_at h x.id.0 r; generation = generation_at s h x.id.0 r; reads = n; writes = slot.0.writes })) b.reads

@@ -1,5 +1,5 @@
 -- A core at rest stands for the empty history.
-use Rattle.gt_core.proofs.Words.{◌≡◌, ◌<◌, ◌≤◌, ◌+◌, ◌%◌, ℕ, refl, Bool, true, false, List, [], ◌∷◌, Option, Some, None, cond, ltb, sym, ap, ◌∙◌, arith, subst, map, replicate, min, get_or, eqb-true, ltb-false, ltb-true, none-some, same_Some, slice_get-get_or, slice_get_past, mod-eq_of_lt, length-replicate, All-tail, fun_ext, nat_lt, ◌==◌, slice_get, All, option_map, domain_of, DomId, TypeId, Perms, Config, DomainConfig, Header, Invalid, Own, Slot, ENTRIES, entry_in, generation_in, row_entry, row_generation, State, state_of, first_state, Setting, entry_at, raises_at, body_at, live, mappings_at, maps_answered_at, open_call, table_at, reads_at, writes_at, control_at, setting_of, Agrees, StateAgrees, SlotAgrees, CallAgrees, FitsTable, FitsWord, IsLawful, DomainsStand, Half, FirstHalf, SecondHalf, IsEntry, LAST_GENERATION, gather, legs_at}
+use Rattle.gt_core.proofs.Words.{◌≡◌, ◌<◌, ◌≤◌, ◌+◌, ◌%◌, ℕ, refl, Bool, true, false, List, [], ◌∷◌, Option, Some, None, cond, ltb, sym, ap, ◌∙◌, arith, subst, map, replicate, min, get_or, eqb-true, ltb-false, ltb-true, none-some, same_Some, slice_get-get_or, slice_get_past, mod-eq_of_lt, length-replicate, All-tail, fun_ext, nat_lt, ◌==◌, slice_get, All, option_map, domain_of, DomId, TypeId, Perms, Config, DomainConfig, Header, Invalid, Own, PinCounts, ENTRIES, entry_in, generation_in, row_entry, row_generation, State, state_of, first_state, Setting, entry_at, raises_at, body_at, live, mappings_at, maps_answered_at, open_call, table_at, reads_at, writes_at, control_at, setting_of, Agrees, StateAgrees, SlotAgrees, CallAgrees, FitsTable, FitsWord, IsLawful, DomainsStand, Half, FirstHalf, SecondHalf, IsEntry, LAST_GENERATION, gather, legs_at}
 use Rattle.gt_core.proofs.Mappings.{mappings-same, no-handles}
 use Rattle.std.proofs.lemmas.List.{get_or-replicate}
 use Rattle.gt_types.specs.Config.{IsWithinLimits}
@@ -116,17 +116,17 @@ header-kept d f =
     let low : d.version < 4 = let le = f.0 in omega arith in
     ap (λ (n : ℕ). record { version = n; frames = d.table_frames % 256 }) (mod-eq_of_lt low) ∙ ap (λ (n : ℕ). record { version = d.version; frames = n }) (mod-eq_of_lt small)
 
-slot-starts : (t n r : ℕ) (slot : Slot) → slice_get (replicate n (record { reads = 0; writes = 0; first = 0; second = 0 })) r ≡ Some slot → SlotAgrees [] t r slot
+slot-starts : (t n r : ℕ) (slot : PinCounts) → slice_get (replicate n (record { reads = 0; writes = 0; first = 0; second = 0 })) r ≡ Some slot → SlotAgrees [] t r slot
 slot-starts t n r slot e = by (ltb r n) (sym (get-replicate n r (record { reads = 0; writes = 0; first = 0; second = 0 })) ∙ e)
   where
     by : (b : Bool) → cond b (Some (record { reads = 0; writes = 0; first = 0; second = 0 })) None ≡ Some slot → SlotAgrees [] t r slot
     by true k =
         let same = same_Some (record { reads = 0; writes = 0; first = 0; second = 0 }) slot k in
         record {
-          reads = sym (ap (λ (z : Slot). z.reads) same) ∙ sym (no-reads t r);
-          writes = sym (ap (λ (z : Slot). z.writes) same) ∙ sym (no-writes t r);
-          first = sym (ap (λ (z : Slot). z.first) same) ∙ sym (no-body t r FirstHalf);
-          second = sym (ap (λ (z : Slot). z.second) same) ∙ sym (no-body t r SecondHalf);
+          reads = sym (ap (λ (z : PinCounts). z.reads) same) ∙ sym (no-reads t r);
+          writes = sym (ap (λ (z : PinCounts). z.writes) same) ∙ sym (no-writes t r);
+          first = sym (ap (λ (z : PinCounts). z.first) same) ∙ sym (no-body t r FirstHalf);
+          second = sym (ap (λ (z : PinCounts). z.second) same) ∙ sym (no-body t r SecondHalf);
         }
     by false k = absurd (none-some slot k)
 
@@ -138,7 +138,7 @@ rest-agrees s d is f le =
       rows = length-replicate {A = Own} ENTRIES (record { entry = Invalid; generation = min s.first_generation LAST_GENERATION });
       entries = fun_ext (λ r. rows-entry (min s.first_generation LAST_GENERATION) r ∙ sym (no-entry d.id.0 r));
       generations = fun_ext (λ r. rows-generation s.first_generation r ∙ g ∙ (let z : s.first_generation ≡ s.first_generation + 0 = omega arith in z) ∙ ap (λ (n : ℕ). s.first_generation + n) (sym (no-raises d.id.0 r)));
-      room = length-replicate {A = Slot} ENTRIES (record { reads = 0; writes = 0; first = 0; second = 0 });
+      room = length-replicate {A = PinCounts} ENTRIES (record { reads = 0; writes = 0; first = 0; second = 0 });
       slots = λ r slot e. slot-starts d.id.0 ENTRIES r slot e;
       mappings = mappings-same _ _ _ _ _ (sym (no-mappings d.id.0)) (sym (no-maps d.id.0)) no-handles;
       call = subst (λ (c : _). CallAgrees s [] d.id None c) (sym (no-call d.id.0)) (no-legs d.id.0);

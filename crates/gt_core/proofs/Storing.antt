@@ -1,5 +1,5 @@
 -- A body word stored on an invalid entry keeps what a core stands for.
-use Rattle.gt_core.proofs.Words.{◌≡◌, ◌≢◌, ◌+◌, ℕ, refl, Bool, true, false, List, ◌∷◌, Option, Some, None, cond, sym, ap, ◌∙◌, subst, eqb-true, eq-eqb, none-some, same_Some, ◌==◌, ◌&&◌, All, count_by, slice_get, option_map, fun_ext, DomId, GrantRef, Read, Write, Entry, Invalid, Half, FirstHalf, SecondHalf, IsEntry, StoreBody, Nothing, control_with, Slot, Stored, Open, Item, Stepped, changed_at, State, state_of, changed_in, with_slot, slot_after, History, Setting, Pin, entry_at, generation_at, body_at, reads_at, writes_at, control_at, or_else, stored_at, is_pin_on, open_call, IsSpelled, IsLawful, FitsTable, FitsWord, SlotAgrees, Agrees, DomainsStand, CallAgrees, GivenAgrees}
+use Rattle.gt_core.proofs.Words.{◌≡◌, ◌≢◌, ◌+◌, ℕ, refl, Bool, true, false, List, ◌∷◌, Option, Some, None, cond, sym, ap, ◌∙◌, subst, eqb-true, eq-eqb, none-some, same_Some, ◌==◌, ◌&&◌, All, count_by, slice_get, option_map, fun_ext, DomId, GrantRef, Read, Write, Entry, Invalid, Half, FirstHalf, SecondHalf, IsEntry, StoreBody, Nothing, control_with, PinCounts, Stored, Open, Item, Stepped, changed_at, State, state_of, changed_in, with_slot, slot_after, History, Setting, Pin, entry_at, generation_at, body_at, reads_at, writes_at, control_at, or_else, stored_at, is_pin_on, open_call, IsSpelled, IsLawful, FitsTable, FitsWord, SlotAgrees, Agrees, DomainsStand, CallAgrees, GivenAgrees}
 use Rattle.gt_core.specs.History.{same_half}
 use Rattle.gt_core.proofs.Rows.{get-changed, length-changed}
 use Rattle.gt_core.proofs.Quiet.{KeepsKnown, kept-entry, kept-raises, kept-live, kept-table, kept-generations}
@@ -51,7 +51,7 @@ elsewhere-stays : (d : DomId) (gref : GrantRef) (half : Half) (word r : ℕ) (wh
 elsewhere-stays d gref half word r which h apart = half-stays d gref half word r which h (ap (λ (b : Bool). b && same_half half which) apart)
 
 -- the slot of the entry, and the others
-slot-stored : (d : DomId) (gref : GrantRef) (half : Half) (word : ℕ) (h : History) (slot : Slot) → SlotAgrees h d.0 gref.0 slot
+slot-stored : (d : DomId) (gref : GrantRef) (half : Half) (word : ℕ) (h : History) (slot : PinCounts) → SlotAgrees h d.0 gref.0 slot
     → SlotAgrees (stores d gref half word ∷ h) d.0 gref.0 (slot_after (Stored half word) slot)
 slot-stored d gref SecondHalf word h slot a =
     let k = kept-live (stores d gref SecondHalf word) h (store-keeps d gref SecondHalf word) in
@@ -70,7 +70,7 @@ slot-stored d gref FirstHalf word h slot a =
       second = a.second ∙ sym (second-stays d gref word gref.0 h);
     }
 
-slot-same : (d : DomId) (gref : GrantRef) (half : Half) (word t r : ℕ) (h : History) (slot : Slot) → ((which : Half) → body_at (stores d gref half word ∷ h) t r which ≡ body_at h t r which)
+slot-same : (d : DomId) (gref : GrantRef) (half : Half) (word t r : ℕ) (h : History) (slot : PinCounts) → ((which : Half) → body_at (stores d gref half word ∷ h) t r which ≡ body_at h t r which)
     → SlotAgrees h t r slot → SlotAgrees (stores d gref half word ∷ h) t r slot
 slot-same d gref half word t r h slot same a =
     let k = kept-live (stores d gref half word) h (store-keeps d gref half word) in
@@ -81,14 +81,14 @@ slot-same d gref half word t r h slot same a =
       second = a.second ∙ sym (same SecondHalf);
     }
 
-slots-stored : (d : DomId) (gref : GrantRef) (half : Half) (word : ℕ) (h : History) (slots : List Slot) → SlotsAgree h d.0 slots
+slots-stored : (d : DomId) (gref : GrantRef) (half : Half) (word : ℕ) (h : History) (slots : List PinCounts) → SlotsAgree h d.0 slots
     → SlotsAgree (stores d gref half word ∷ h) d.0 (changed_at gref.0 (slot_after (Stored half word)) slots)
 slots-stored d gref half word h slots a r slot e = by (gref.0 == r) refl (sym (get-changed slots gref.0 r (slot_after (Stored half word))) ∙ e)
   where
-    at : (o : Option Slot) → slice_get slots r ≡ o → gref.0 ≡ r → option_map (slot_after (Stored half word)) o ≡ Some slot → SlotAgrees (stores d gref half word ∷ h) d.0 r slot
+    at : (o : Option PinCounts) → slice_get slots r ≡ o → gref.0 ≡ r → option_map (slot_after (Stored half word)) o ≡ Some slot → SlotAgrees (stores d gref half word ∷ h) d.0 r slot
     at None there same k = absurd (none-some slot k)
     at (Some old) there same k =
-        subst (λ (z : Slot). SlotAgrees (stores d gref half word ∷ h) d.0 r z) (same_Some _ slot k)
+        subst (λ (z : PinCounts). SlotAgrees (stores d gref half word ∷ h) d.0 r z) (same_Some _ slot k)
         (subst (λ (n : ℕ). SlotAgrees h d.0 n old → SlotAgrees (stores d gref half word ∷ h) d.0 n (slot_after (Stored half word) old)) same
         (slot-stored d gref half word h old) (a r old there))
 

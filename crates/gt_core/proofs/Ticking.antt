@@ -345,6 +345,7 @@ step-justified : (s : Setting) (h : History) (xs : List State) (d : DomId) (r : 
 step-justified s h xs d r shown so_far phase (ReadBytes dom frame off len) i = read-justified s h xs d r dom frame off len i.st i.rests.0 i.rests.1
 step-justified s h xs d r shown so_far phase (WriteBytes dom frame off len) i = write-justified s h xs d r dom frame off len i.st i.rests.0 i.rests.1
 step-justified s h xs d r shown so_far phase (CopyBytes from to len) i = copy-justified s h d r (pins_at phase) from to len i.rests.0 i.held i.rests.1
+step-justified s h xs d r shown so_far phase (Unpin p (ByMapping handle)) i = i.rests.1.0
 step-justified s h xs d r shown so_far phase step i = tt
 
 step-safe : (s : Setting) (h : History) (xs : List State) (d : DomId) (r : Asked) (shown : List Seen) (so_far : StepsSoFar) (phase : Phase) (step : Step) (answer : Option Answer) → IsHere s h xs d r shown so_far phase step → IsSafe s h (stepped d step (seen_by s h d step) answer)

@@ -1,5 +1,5 @@
 -- An unpin keeps what a core stands for.
-use Rattle.gt_core.proofs.Words.{◌≡◌, ◌<◌, ◌≤◌, ◌+◌, ◌-◌, ◌⊎◌, inl, inr, ℕ, suc, refl, Bool, true, false, List, [], ◌∷◌, ◌++◌, length, Option, Some, None, cond, sym, ap, ◌∙◌, arith, subst, ◌==◌, ◌&&◌, All, count_by, eqb-true, eq-eqb, and_from, false≢true, true≢false, none-some, same_Some, append-nil, sum_by-cons, All-tail, DomId, Dir, Read, Write, FirstHalf, SecondHalf, Handle, Kept, Held, Holder, ByMapping, ByLeg, Unpin, Seen, Slot, Open, Unpinned, Item, Answer, changed_at, State, state_of, changed_in, with_slot, without_mapping, slot_after, taken, History, Setting, Pin, live, body_at, reads_at, writes_at, mappings_at, maps_answered_at, legs_at, open_call, is_pin_on, without, is_holder, same_handle, same_dir, gather, by_mapping, by_leg, mapping_of, one_if_mapped, IsLawful, SlotAgrees, Agrees, DomainsStand, CallAgrees, GivenAgrees, MappingsAgree, numbered}
+use Rattle.gt_core.proofs.Words.{◌≡◌, ◌<◌, ◌≤◌, ◌+◌, ◌-◌, ◌⊎◌, inl, inr, ℕ, suc, refl, Bool, true, false, List, [], ◌∷◌, ◌++◌, length, Option, Some, None, cond, sym, ap, ◌∙◌, arith, subst, ◌==◌, ◌&&◌, All, count_by, eqb-true, eq-eqb, and_from, false≢true, true≢false, none-some, same_Some, append-nil, sum_by-cons, All-tail, DomId, Dir, Read, Write, FirstHalf, SecondHalf, Handle, Kept, Held, Holder, ByMapping, ByLeg, Unpin, Seen, PinCounts, Open, Unpinned, Item, Answer, changed_at, State, state_of, changed_in, with_slot, without_mapping, slot_after, taken, History, Setting, Pin, live, body_at, reads_at, writes_at, mappings_at, maps_answered_at, legs_at, open_call, is_pin_on, without, is_holder, same_handle, same_dir, gather, by_mapping, by_leg, mapping_of, one_if_mapped, IsLawful, SlotAgrees, Agrees, DomainsStand, CallAgrees, GivenAgrees, MappingsAgree, numbered}
 use Rattle.std.proofs.lemmas.List.Sums.{sum_by-append}
 use Rattle.std.proofs.lemmas.List.Elements.{All-cons, All-head}
 use Rattle.gt_core.proofs.Mappings.{less, mappings-taken, mappings-same}
@@ -270,7 +270,7 @@ counted-down true true old now was p e f = omega arith
 counted-down true false old now was p e f = omega arith
 counted-down false hit old now was p e f = absurd (false≢true p)
 
-slot-down : (h : History) (i : Item) (p : Held) (q : ℕ) (old : Slot) → KeepsEntries i → Shrinks h i p → (p.dom.0 == q) ≡ true → SlotAgrees h q p.gref.0 old → SlotAgrees (i ∷ h) q p.gref.0 (slot_after (Unpinned p.dir) old)
+slot-down : (h : History) (i : Item) (p : Held) (q : ℕ) (old : PinCounts) → KeepsEntries i → Shrinks h i p → (p.dom.0 == q) ≡ true → SlotAgrees h q p.gref.0 old → SlotAgrees (i ∷ h) q p.gref.0 (slot_after (Unpinned p.dir) old)
 slot-down h i p q old keeps shrinks on a =
     let r = p.gref.0 in
     let both_on : ((p.dom.0 == q) && (r == r)) ≡ true = and_from (p.dom.0 == q) (r == r) on (eq-eqb r r refl) in
@@ -290,7 +290,7 @@ no-hit true hit n was now p e f = absurd (true≢false p)
 no-hit false hit n was now p e f = omega arith
 
 -- a slot that the unpin doesn't name
-slot-stays : (h : History) (i : Item) (p : Held) (q k : ℕ) (old : Slot) → KeepsEntries i → Shrinks h i p → ((p.dom.0 == q) && (p.gref.0 == k)) ≡ false → SlotAgrees h q k old → SlotAgrees (i ∷ h) q k old
+slot-stays : (h : History) (i : Item) (p : Held) (q k : ℕ) (old : PinCounts) → KeepsEntries i → Shrinks h i p → ((p.dom.0 == q) && (p.gref.0 == k)) ≡ false → SlotAgrees h q k old → SlotAgrees (i ∷ h) q k old
 slot-stays h i p q k old keeps shrinks off a =
     record {
       reads = no-hit ((p.dom.0 == q) && (p.gref.0 == k)) (same_dir p.dir Read) old.reads (reads_at h q k) (reads_at (i ∷ h) q k) off a.reads (shrunk-count h i p q k Read shrinks);
@@ -299,7 +299,7 @@ slot-stays h i p q k old keeps shrinks off a =
       second = a.second ∙ sym (same-body i h q k SecondHalf keeps);
     }
 
-unpinned-slots : (h : History) (i : Item) (p : Held) (q : ℕ) (slots : List Slot) (b : Bool) → KeepsEntries i → Shrinks h i p → (p.dom.0 == q) ≡ b → SlotsAgree h q slots
+unpinned-slots : (h : History) (i : Item) (p : Held) (q : ℕ) (slots : List PinCounts) (b : Bool) → KeepsEntries i → Shrinks h i p → (p.dom.0 == q) ≡ b → SlotsAgree h q slots
     → SlotsAgree (i ∷ h) q (cond b (changed_at p.gref.0 (slot_after (Unpinned p.dir)) slots) slots)
 unpinned-slots h i p q slots b keeps shrinks is was =
     slots-agree h (i ∷ h) p.dom.0 q p.gref.0 (slot_after (Unpinned p.dir)) slots b is was

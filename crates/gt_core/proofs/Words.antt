@@ -110,9 +110,9 @@ pub use Rattle.gt_core.specs.Standing.{Agrees, Asks, CallAgrees, CoreStands, Doe
 pub use Rattle.gt_core.specs.States.{IsLoading, IsMapping, State, asked_in, changed_in, first_state, kept_by, state_of}
 pub use Rattle.gt_core.specs.Subject.{place_of, subject_at}
 pub use Rattle.gt_core.specs.declared.core_state.Begun.{Begun}
-pub use Rattle.gt_core.specs.declared.slot.Open.{Open}
-pub use Rattle.gt_core.specs.declared.slot.Slot.{Slot}
-pub use Rattle.gt_core.specs.declared.slot.SlotChange.TheVariants.{Stored, Unpinned}
+pub use Rattle.gt_core.specs.declared.underway.Open.{Open}
+pub use Rattle.gt_core.specs.declared.pin_counts.PinCounts.{PinCounts}
+pub use Rattle.gt_core.specs.declared.pin_counts.CountsChange.TheVariants.{Stored, Unpinned}
 pub use Rattle.gt_core.specs.declared.trace.Answer.{Answer}
 pub use Rattle.gt_core.specs.declared.trace.Answer.TheVariants.{Bytes, Bytes as BytesAnswer, Denied, Done as AnswerDone, Mapped}
 pub use Rattle.gt_core.specs.declared.trace.Element.{Element}

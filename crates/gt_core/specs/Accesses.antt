@@ -1,4 +1,5 @@
--- How a call reads and writes bytes in frames: the code's own representation. It is in specs/ because private contracts cite it.
+-- How a call reads and writes bytes in frames: the code's own representation.
+-- It is in specs/ because private contracts cite it.
 use Rattle.std.specs.Prelude.{◌≡◌, ℕ, List, length, Option, Some, None, IsTrue}
 use Rattle.gt_handles.specs.Handles.{Kept, value_of}
 use Rattle.gt_calls.specs.declared.held.Held.{Held}
@@ -34,7 +35,8 @@ abbrev pub route_by : Option Held → Route
 route_by None = Own
 route_by (Some m) = Direct m
 
--- the route by which a call writes: by the pin of a store's mapping, or by those of a copy's destination; else to the caller's own frame (own)
+-- the route by which a call writes: by the pin of a store's mapping, or by those of a copy's destination; else to the
+-- caller's own frame (own)
 abbrev pub route_of : Kept Held → Call → Route
 route_of mappings call = by call.request
   where
@@ -68,7 +70,8 @@ IsReadable fs call step = Unit {0}
 -- where the step writes, its ranges are there, and the writ of the domain's call is for the one that it writes (own)
 abbrev pub IsAdmitted : FrameSet → State → Call → Step → Type 0
 IsAdmitted fs d call (WriteBytes dom frame off len) =
-    (w : Writ) → IsWritOf d call w → IsTrue (admits fs (record { owner = dom; number = frame }) w off (length d.given))
+    (w : Writ) → IsWritOf d call w
+    → IsTrue (admits fs (record { owner = dom; number = frame }) w off (length d.given))
 IsAdmitted fs d call (CopyBytes from to len) =
     IsTrue (has_range fs (name_of from) from.off len)
     × ((w : Writ) → IsWritOf d call w → IsTrue (admits fs (name_of to) w to.off len))
@@ -79,7 +82,8 @@ abbrev pub WritesByRight : State → Call → FrameSet → FrameSet → FrameNam
 WritesByRight d call old new name off bytes =
     (w : Writ) × IsWritOf d call w × WritesTo old new name w off bytes × AreKept new
 
--- the frames after a step: it writes what its call was given, or for a copy what the source range held, or changes none (own)
+-- the frames after a step: it writes what its call was given, or for a copy what the source range held, or changes
+-- none (own)
 abbrev pub AccessedBy : State → Call → Step → FrameSet → FrameSet → Type 0
 AccessedBy d call (WriteBytes dom frame off len) old new =
     WritesByRight d call old new (record { owner = dom; number = frame }) off d.given

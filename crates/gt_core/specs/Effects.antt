@@ -1,4 +1,5 @@
--- What a step does to the states of the domains: the code's own representation, which stands here since private contracts cite it.
+-- What a step does to the states of the domains: the code's own representation, which stands here since private
+-- contracts cite it.
 use Rattle.std.specs.Prelude.{ℕ, List, Option, Some, None, if◌then◌else◌, ◌+◌, ◌-◌, ◌%◌, min, is_some, ◌≡◌, slice_set}
 use Rattle.gt_types.specs.declared.DomId.{DomId}
 use Rattle.gt_types.specs.declared.limits.TheConstants.{MAX_PINS}
@@ -12,18 +13,18 @@ use Rattle.gt_calls.specs.declared.action.Step.TheVariants.{Pin, Unpin, StoreBod
 use Rattle.gt_calls.specs.declared.action.Seen.{Seen}
 use Rattle.gt_calls.specs.declared.action.Seen.TheVariants.{Taken}
 use Rattle.gt_calls.specs.declared.held.Held.{Held}
-use Rattle.gt_core.specs.declared.slot.Slot.{Slot}
-use Rattle.gt_core.specs.declared.slot.SlotChange.{SlotChange}
+use Rattle.gt_core.specs.declared.pin_counts.PinCounts.{PinCounts}
+use Rattle.gt_core.specs.declared.pin_counts.CountsChange.{CountsChange}
 use Rattle.gt_entry.specs.declared.change.Half.TheVariants.{First as FirstHalf, Second as SecondHalf}
-use Rattle.gt_core.specs.declared.slot.SlotChange.TheVariants.{Pinned, Unpinned, Stored}
-use Rattle.gt_core.specs.declared.slot.Open.{Open}
+use Rattle.gt_core.specs.declared.pin_counts.CountsChange.TheVariants.{Pinned, Unpinned, Stored}
+use Rattle.gt_core.specs.declared.underway.Open.{Open}
 use Rattle.gt_core.specs.Rows.{changed_at}
 use Rattle.gt_core.specs.States.{State, changed_in}
 pub use Rattle.gt_calls.specs.Changes.{own_after}
 use Rattle.gt_handles.specs.Handles.{Kept, value_of, count_of, Updates}
 
 -- one pin more or less of a kind, or another body word (own)
-abbrev pub slot_after : SlotChange → Slot → Slot
+abbrev pub slot_after : CountsChange → PinCounts → PinCounts
 slot_after (Pinned Read) slot = record slot { reads = min (slot.reads + 1) MAX_PINS }
 slot_after (Pinned Write) slot = record slot { writes = min (slot.writes + 1) MAX_PINS }
 slot_after (Unpinned Read) slot = record slot { reads = slot.reads - 1 }
@@ -32,7 +33,7 @@ slot_after (Stored SecondHalf word) slot = record slot { second = word }
 slot_after (Stored FirstHalf word) slot = record slot { first = word }
 
 -- the state after a change of the pins or a body word of entry r (own)
-abbrev pub with_slot : ℕ → SlotChange → State → State
+abbrev pub with_slot : ℕ → CountsChange → State → State
 with_slot r change x = record x { slots = changed_at r (slot_after change) x.slots }
 
 -- the state after an owner's change of entry r (own)
@@ -65,7 +66,9 @@ with_mapping mappings x = record x { mappings = mappings; underway = None }
 
 -- the mapping under this handle goes, if there is one (own)
 abbrev pub taken : Handle → Kept Held → Kept Held
-taken handle mappings = if is_some (value_of mappings handle) then record mappings { slots = slice_set mappings.slots handle.key None } else mappings
+taken handle mappings =
+    if is_some (value_of mappings handle) then record mappings { slots = slice_set mappings.slots handle.key None }
+    else mappings
 
 -- the state after its holder gave up a pin: a mapping goes, a call has none to lose (own)
 abbrev pub without_mapping : Holder → State → State
@@ -75,7 +78,8 @@ without_mapping (ByLeg number) x = x
 -- the states after a step of domain d that saw this (own)
 abbrev pub applied : DomId → Step → Seen → List State → List State
 applied d (Pin p) Taken xs = changed_in p.dom.0 (with_slot p.gref.0 (Pinned p.dir)) xs
-applied d (Unpin p holder) seen xs = changed_in d.0 (without_mapping holder) (changed_in p.dom.0 (with_slot p.gref.0 (Unpinned p.dir)) xs)
+applied d (Unpin p holder) seen xs =
+    changed_in d.0 (without_mapping holder) (changed_in p.dom.0 (with_slot p.gref.0 (Unpinned p.dir)) xs)
 applied d (StoreBody gref half word) seen xs = changed_in d.0 (with_slot gref.0 (Stored half word)) xs
 applied d (StoreHeader version frames) seen xs = changed_in d.0 (with_header version frames) xs
 applied d (Exchange gref looked change) Taken xs = changed_in d.0 (with_own gref.0 change) xs

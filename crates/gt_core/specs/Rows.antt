@@ -2,7 +2,7 @@
 use Rattle.std.specs.Prelude.{ℕ, zero, suc, List, [], ◌∷◌}
 
 -- the pins and body words of an entry (own)
-pub record SlotRow : Type 0 where
+pub record PinCountsRow : Type 0 where
   pub reads : ℕ
   pub writes : ℕ
   pub first : ℕ

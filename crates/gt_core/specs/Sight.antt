@@ -1,4 +1,5 @@
--- What steps see in the states of the domains: the code's own representation. It is in specs/ because private contracts cite it.
+-- What steps see in the states of the domains: the code's own representation.
+-- It is in specs/ because private contracts cite it.
 use Rattle.std.specs.Prelude.{ℕ, Bool, true, false, ◌==◌, if◌then◌else◌, List, [], ◌∷◌, Option, Some, None, slice_get}
 use Rattle.gt_types.specs.declared.DomId.{DomId}
 use Rattle.gt_entry.specs.declared.change.Half.{Half}
@@ -9,42 +10,43 @@ use Rattle.gt_calls.specs.declared.action.Step.TheVariants.{LookHeader, LookCont
 use Rattle.gt_calls.specs.declared.action.Seen.{Seen}
 use Rattle.gt_calls.specs.declared.action.Seen.TheVariants.{Nothing, Word, Taken}
 use Rattle.gt_calls.specs.declared.known.Own.{Own}
-use Rattle.gt_core.specs.declared.slot.Slot.{Slot}
+use Rattle.gt_core.specs.declared.pin_counts.PinCounts.{PinCounts}
 use Rattle.gt_core.specs.States.{State}
 use Rattle.gt_calls.specs.Rules.{control_with, entry_in, generation_in}
 pub use Rattle.gt_core.specs.History.{exchange_sees}
 
 -- the read pins in a slot, 0 where there is none (own)
-abbrev pub slot_reads : Option Slot → ℕ
+abbrev pub slot_reads : Option PinCounts → ℕ
 slot_reads None = 0
 slot_reads (Some slot) = slot.reads
 
 -- the write pins in a slot, 0 where there is none (own)
-abbrev pub slot_writes : Option Slot → ℕ
+abbrev pub slot_writes : Option PinCounts → ℕ
 slot_writes None = 0
 slot_writes (Some slot) = slot.writes
 
 -- a body word in a slot, 0 where there is none (own)
-abbrev pub slot_body : Option Slot → Half → ℕ
+abbrev pub slot_body : Option PinCounts → Half → ℕ
 slot_body None which = 0
 slot_body (Some slot) SecondHalf = slot.second
 slot_body (Some slot) FirstHalf = slot.first
 
 -- the read pins in slot r (own)
-abbrev pub reads_in : List Slot → ℕ → ℕ
+abbrev pub reads_in : List PinCounts → ℕ → ℕ
 reads_in slots r = slot_reads (slice_get slots r)
 
 -- the write pins in slot r (own)
-abbrev pub writes_in : List Slot → ℕ → ℕ
+abbrev pub writes_in : List PinCounts → ℕ → ℕ
 writes_in slots r = slot_writes (slice_get slots r)
 
 -- a body word in slot r (own)
-abbrev pub body_in : List Slot → ℕ → Half → ℕ
+abbrev pub body_in : List PinCounts → ℕ → Half → ℕ
 body_in slots r which = slot_body (slice_get slots r) which
 
 -- the control word made of an owner's row and a slot (own)
-abbrev pub control_in : List Own → List Slot → ℕ → ℕ
-control_in own slots r = control_word (control_with (entry_in own r) (generation_in 0 own r) (reads_in slots r) (writes_in slots r))
+abbrev pub control_in : List Own → List PinCounts → ℕ → ℕ
+control_in own slots r =
+    control_word (control_with (entry_in own r) (generation_in 0 own r) (reads_in slots r) (writes_in slots r))
 
 -- the header word of domain d, 0 where there is no such state (own)
 abbrev pub header_seen : List State → ℕ → ℕ
@@ -60,18 +62,6 @@ control_seen (x ∷ xs) d r = if x.id.0 == d then control_in x.own x.slots r els
 abbrev pub body_seen : List State → ℕ → ℕ → Half → ℕ
 body_seen [] d r which = 0
 body_seen (x ∷ xs) d r which = if x.id.0 == d then body_in x.slots r which else body_seen xs d r which
-
--- a look, and an exchange that was missed, leave everything as it was, and so does reading bytes (own)
-abbrev pub changes_nothing : Step → Seen → Bool
-changes_nothing (LookHeader dom) seen = true
-changes_nothing (LookControl dom gref) seen = true
-changes_nothing (LookBody dom gref half) seen = true
-changes_nothing (Pin p) Taken = false
-changes_nothing (Pin p) seen = true
-changes_nothing (Exchange gref looked change) Taken = false
-changes_nothing (Exchange gref looked change) seen = true
-changes_nothing (ReadBytes dom frame off len) seen = true
-changes_nothing step seen = false
 
 -- what a step of the domain sees (own)
 abbrev pub sees : List State → DomId → Step → Seen

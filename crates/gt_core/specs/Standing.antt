@@ -1,7 +1,9 @@
--- When a core stands for a history. The upper half, up to `Settles`, describes the code's own representation. It is in specs/ because private contracts cite it.
+-- When a core stands for a history. The upper half, up to `IsRoomFor`, describes the code's own representation. It is
+-- in specs/ because private contracts cite it.
 use Rattle.std.specs.Prelude.{◌≡◌, ◌≢◌, ◌<◌, ◌≤◌, ◌+◌, ◌⊎◌, reverse, ℕ, Bool, true, false, List, [], ◌∷◌, Option, Some, None, slice_get, length, All}
 use Rattle.gt_types.specs.Names.{domain_of}
 use Rattle.gt_types.specs.declared.DomId.{DomId}
+use Rattle.gt_types.specs.declared.Dir.{Dir}
 use Rattle.gt_types.specs.declared.TypeId.{TypeId}
 use Rattle.gt_types.specs.declared.Use.TheVariants.{Map as ForMap}
 use Rattle.gt_types.specs.declared.denial.Denial.{Denial}
@@ -49,8 +51,8 @@ use Rattle.gt_core.specs.declared.trace.Event.{Event}
 use Rattle.gt_core.specs.declared.trace.Element.{Element}
 use Rattle.gt_core.specs.declared.trace.Element.TheVariants.{Busy, Idle, NoDomain, Item as Did}
 pub use Rattle.gt_core.specs.States.{State, CoreState, core_of, state_of, first_state, changed_in, asks_memory, IsMapping}
-use Rattle.gt_core.specs.declared.slot.Slot.{Slot}
-use Rattle.gt_core.specs.declared.slot.Open.{Open}
+use Rattle.gt_core.specs.declared.pin_counts.PinCounts.{PinCounts}
+use Rattle.gt_core.specs.declared.underway.Open.{Open}
 use Rattle.gt_core.specs.declared.core_state.Begun.{Begun}
 use Rattle.gt_core.specs.declared.core_state.Begun.TheVariants.{Open as BegunOpen, Done as BegunDone, Busy as BegunBusy, NoDomain as BegunNoDomain}
 use Rattle.gt_core.specs.declared.core_state.Ticked.{Ticked}
@@ -123,14 +125,16 @@ answer_of (Refused denial) = Denied denial
 -- what the trace has for what `begin` did (own)
 abbrev pub begun_element : DomId → Request → Begun → Element
 begun_element dom request BegunOpen = Did (record { actor = dom; happened = Began request; answer = None })
-begun_element dom request (BegunDone answer) = Did (record { actor = dom; happened = Began request; answer = Some answer })
+begun_element dom request (BegunDone answer) =
+    Did (record { actor = dom; happened = Began request; answer = Some answer })
 begun_element dom request BegunBusy = Busy
 begun_element dom request BegunNoDomain = NoDomain
 
 -- what the trace has for what `tick` did (own)
 abbrev pub ticked_element : DomId → Ticked → Element
 ticked_element dom (TickedStep step seen) = Did (record { actor = dom; happened = Stepped step seen; answer = None })
-ticked_element dom (TickedDone step seen answer) = Did (record { actor = dom; happened = Stepped step seen; answer = Some answer })
+ticked_element dom (TickedDone step seen answer) =
+    Did (record { actor = dom; happened = Stepped step seen; answer = Some answer })
 ticked_element dom TickedIdle = Idle
 ticked_element dom TickedNoDomain = NoDomain
 
@@ -152,10 +156,12 @@ abbrev pub state_by : {P : Type 0} → Machine P → CoreState
 state_by m = core_of m.domains.items m.frames
 
 -- what a call of this domain knows in a machine (own)
-abbrev pub known_by : {P : Type 0} → (P → TypeId → TypeId → Perms → Bool) → Machine P → State → CallerKnowledge
+abbrev pub known_by : {P : Type 0} → (P → TypeId → TypeId → Perms → Bool)
+    → Machine P → State → CallerKnowledge
 known_by may m d = knowledge_of m.config.domains.items m.config.first_gen (may m.rights) d.own d.header d.mappings
 
--- a call that nothing stood against is over after this last step: its answer, and the states; a read gives what the frame holds (own)
+-- a call that nothing stood against is over after this last step: its answer, and the states; a read gives what the
+-- frame holds (own)
 abbrev pub Closed : FrameSet → List State → ℕ → State → Step → Answer → List State → Type 0
 Closed fs xs at d (ReadBytes dom frame off len) answer new =
     (b : Bytes) × (answer ≡ BytesAnswer b) × (new ≡ set xs at (with_underway None d))
@@ -168,14 +174,18 @@ Ended fs xs at d step Granted answer new = Closed fs xs at d step answer new
 Ended fs xs at d step (KeptPin held) answer new =
     (handle : Handle) × (kept : Kept Held) × (answer ≡ MappedAnswer handle) × Adds d.mappings kept handle held
     × (new ≡ set xs at (with_mapping kept d))
-Ended fs xs at d step (Given value) answer new = (answer ≡ answer_with value) × (new ≡ set xs at (with_underway None d))
-Ended fs xs at d step (Refused denial) answer new = (answer ≡ Denied denial) × (new ≡ set xs at (with_underway None d))
+Ended fs xs at d step (Given value) answer new =
+    (answer ≡ answer_with value) × (new ≡ set xs at (with_underway None d))
+Ended fs xs at d step (Refused denial) answer new =
+    (answer ≡ Denied denial) × (new ≡ set xs at (with_underway None d))
 
 -- a call comes to its next step, or to its end with an answer (own)
-abbrev pub Settled : FrameSet → List State → ℕ → State → Step → Call → Action → Option Answer → List State → Type 0
+abbrev pub Settled : FrameSet → List State → ℕ → State → Step → Call → Action
+    → Option Answer → List State → Type 0
 Settled fs xs at d step call (Makes next) answer new =
     (answer ≡ None) × (new ≡ set xs at (with_underway (Some (record { call = call; step = next })) d))
-Settled fs xs at d step call (Ends verdict) answer new = (a : Answer) × (answer ≡ Some a) × Ended fs xs at d step verdict a new
+Settled fs xs at d step call (Ends verdict) answer new =
+    (a : Answer) × (answer ≡ Some a) × Ended fs xs at d step verdict a new
 
 -- only a map ends with a mapping, for which it made room when it began (own)
 abbrev pub IsRoomFor : Asked → Action → Type 0
@@ -187,9 +197,12 @@ abbrev pub IsStartFaultOf : Config → StartFault → Type 0
 IsStartFaultOf config (ConfigFault fault) = IsFirstFault config fault
 IsStartFaultOf config NoMemory = IsWithinLimits config
 
--- memory can be wanted where a domain of the run, at rest, begins a map, a load, a store, a peek or a poke against which no rule stands (own)
+-- memory can be wanted where a domain of the run, at rest, begins a map, a load, a store, a peek or a poke against
+-- which no rule stands (own)
 abbrev pub WantsMemory : Setting → History → DomId → Request → Type 0
-WantsMemory s h d request = (asks_memory (asked request) ≡ true) × (domain_of s.domains d ≢ None) × (open_call h d.0 ≡ None) × (begun_of (known_at s h d) d request ≡ None)
+WantsMemory s h d request =
+    (asks_memory (asked request) ≡ true) × (domain_of s.domains d ≢ None) × (open_call h d.0 ≡ None)
+    × (begun_of (known_at s h d) d request ≡ None)
 
 -- the action is an access that writes: of a store, a poke or a copy (own)
 abbrev pub IsWritingNext : Option Action → Type 0
@@ -198,20 +211,23 @@ IsWritingNext action = ⊥
 
 -- memory can be wanted where the domain's open call is about to write bytes, whose frame keeps a record of them (own)
 abbrev pub WantsMemoryNow : Setting → History → DomId → Type 0
-WantsMemoryNow s h d = (c : Underway) × (open_call h d.0 ≡ Some c) × IsWritingNext (path (known_at s h d) d c.request (values c))
+WantsMemoryNow s h d =
+    (c : Underway) × (open_call h d.0 ≡ Some c) × IsWritingNext (path (known_at s h d) d c.request (values c))
 
 -- what a call has seen
 
 -- while the leg's entry has the generation that was looked at and is valid, this holds of it (own)
 abbrev pub WhileSame : Setting → History → Leg → ℕ → (Entry → Type 0) → Type 0
 WhileSame s h l word Holds =
-    generation_at s h l.dom.0 l.gref.0 ≡ (control_of word).generation → entry_at h l.dom.0 l.gref.0 ≢ Invalid → Holds (entry_at h l.dom.0 l.gref.0)
+    generation_at s h l.dom.0 l.gref.0 ≡ (control_of word).generation → entry_at h l.dom.0 l.gref.0 ≢ Invalid
+    → Holds (entry_at h l.dom.0 l.gref.0)
 
 -- the entry is the one that this word shows (own)
 abbrev pub IsShown : Control → Entry → Type 0
 IsShown c entry = c ≡ control_with entry c.generation c.reads c.writes
 
--- a control word of the leg's entry was looked at in this try, no rule on the entry stood, and the entry's generation was reached (own)
+-- a control word of the leg's entry was looked at in this try, no rule on the entry stood, and the entry's generation
+-- was reached (own)
 pub record HasLooked (s : Setting) (h : History) (l : Leg) (so_far : StepsSoFar) (more word : ℕ) : Type 0 where
   pub within : l.gref.0 < TABLE_ENTRIES
   pub turn : misses so_far + more ≡ MORE_TRIES
@@ -221,7 +237,8 @@ pub record HasLooked (s : Setting) (h : History) (l : Leg) (so_far : StepsSoFar)
   pub shown : WhileSame s h l word (IsShown (control_of word))
 
 -- its body words were read too, and this rule stands on them (own)
-pub record HasRead (s : Setting) (h : History) (l : Leg) (so_far : StepsSoFar) (word body second : ℕ) (rule : Option Rule) : Type 0 where
+pub record HasRead (s : Setting) (h : History) (l : Leg) (so_far : StepsSoFar) (word body second : ℕ)
+    (rule : Option Rule) : Type 0 where
   pub in_body : is_in_body so_far ≡ true
   pub judged : rule_of_try l word body second ≡ rule
   pub spelled : WhileSame s h l word (λ entry. entry_of (control_of word) body second ≡ entry)
@@ -229,12 +246,17 @@ pub record HasRead (s : Setting) (h : History) (l : Leg) (so_far : StepsSoFar) (
 -- where a leg stands, by the steps so far (own)
 abbrev pub LegStands : Setting → History → Leg → StepsSoFar → LegPhase → Type 0
 LegStands s h l so_far AtHeader = Unit {0}
-LegStands s h l so_far (Look more) = (l.gref.0 < TABLE_ENTRIES) × (misses so_far + more ≡ MORE_TRIES) × (is_in_body so_far ≡ false)
+LegStands s h l so_far (Look more) =
+    (l.gref.0 < TABLE_ENTRIES) × (misses so_far + more ≡ MORE_TRIES) × (is_in_body so_far ≡ false)
 LegStands s h l so_far (Body more word) = HasLooked s h l so_far more word
-LegStands s h l so_far (Second more word body) = HasLooked s h l so_far more word × WhileSame s h l word (λ entry. first_body entry ≡ body) × (is_kind (control_of word).kind KindSub ≡ true)
-LegStands s h l so_far (Pinning more word body second) = HasLooked s h l so_far more word × HasRead s h l so_far word body second None
+LegStands s h l so_far (Second more word body) =
+    HasLooked s h l so_far more word × WhileSame s h l word (λ entry. first_body entry ≡ body)
+    × (is_kind (control_of word).kind KindSub ≡ true)
+LegStands s h l so_far (Pinning more word body second) =
+    HasLooked s h l so_far more word × HasRead s h l so_far word body second None
 LegStands s h l so_far (Relook more word rule) =
-    HasLooked s h l so_far more word × ((body : ℕ) × (second : ℕ) × HasRead s h l so_far word body second (Some rule))
+    HasLooked s h l so_far more word
+    × ((body : ℕ) × (second : ℕ) × HasRead s h l so_far word body second (Some rule))
 
 -- the call asks this of a header (own)
 abbrev pub Asks : DomId → Asked → DomId → Question → Type 0
@@ -244,7 +266,8 @@ Asks d request dom AsksVersion = (named : DomId) × (request ≡ GetVersion name
 -- the call ends so after its one step: a set up with the frames that it stored, each other one with no value (own)
 abbrev pub EndsAfter : Asked → Step → Verdict → Type 0
 EndsAfter request (StoreHeader version frames) verdict =
-    ((request ≡ SetVersion version) × (verdict ≡ Granted)) ⊎ ((request ≡ SetupTable frames) × (verdict ≡ Given (Frames frames)))
+    ((request ≡ SetVersion version) × (verdict ≡ Granted))
+    ⊎ ((request ≡ SetupTable frames) × (verdict ≡ Given (Frames frames)))
 EndsAfter request step verdict = verdict ≡ Granted
 
 -- a copy ends with Ok, or with a refusal (own)
@@ -257,16 +280,20 @@ EndsCopy verdict = ⊥
 abbrev pub PhaseStands : Setting → History → DomId → Asked → StepsSoFar → Phase → Type 0
 PhaseStands s h d request so_far (Storing gref entry) = Unit {0}
 PhaseStands s h d request so_far (StoringSecond gref entry) = body_at h d.0 gref.0 FirstHalf ≡ first_body entry
-PhaseStands s h d request so_far (Exchanging gref looked (Publish entry)) = IsSpelled entry (body_at h d.0 gref.0 FirstHalf) (body_at h d.0 gref.0 SecondHalf)
+PhaseStands s h d request so_far (Exchanging gref looked (Publish entry)) =
+    IsSpelled entry (body_at h d.0 gref.0 FirstHalf) (body_at h d.0 gref.0 SecondHalf)
 PhaseStands s h d request so_far (Exchanging gref looked ToInvalid) = Unit {0}
 PhaseStands s h d request so_far (Exchanging gref looked change) = ⊥
-PhaseStands s h d request so_far (Looking gref change more) = (misses so_far + more ≡ MORE_TRIES) × (is_in_body so_far ≡ false)
-PhaseStands s h d request so_far (Changing gref change more looked) = (misses so_far + more ≡ MORE_TRIES) × (looked_at so_far ≡ Some looked)
+PhaseStands s h d request so_far (Looking gref change more) =
+    (misses so_far + more ≡ MORE_TRIES) × (is_in_body so_far ≡ false)
+PhaseStands s h d request so_far (Changing gref change more looked) =
+    (misses so_far + more ≡ MORE_TRIES) × (looked_at so_far ≡ Some looked)
 PhaseStands s h d request so_far (Walking aim l at) = (domain_of s.domains l.dom ≢ None) × LegStands s h l so_far at
 PhaseStands s h d request so_far (Accessing copy source dest) = Unit {0}
 PhaseStands s h d request so_far (Asking dom question) = Asks d request dom question
 PhaseStands s h d request so_far (Last step verdict) = EndsAfter request step verdict
-PhaseStands s h d request so_far (Ending pins verdict) = (last_first pins ≡ []) ⊎ ((copy : CopyArgs) × (request ≡ Copy copy) × EndsCopy verdict)
+PhaseStands s h d request so_far (Ending pins verdict) =
+    (last_first pins ≡ []) ⊎ ((copy : CopyArgs) × (request ≡ Copy copy) × EndsCopy verdict)
 
 -- the refusal that a call ends with, where it has come to its end (own)
 abbrev pub phase_refusal : Phase → Option Denial
@@ -283,7 +310,8 @@ abbrev pub numbered : ℕ → List Held → List (ℕ × Held)
 numbered n [] = []
 numbered n (p ∷ ps) = (n, p) ∷ numbered (n + 1) ps
 
--- an open call is where its steps have led it, it holds its live pins, and the first rule that stood so far is the one that it ends with (own)
+-- an open call is where its steps have led it, it holds its live pins, and the first rule that stood so far is the one
+-- that it ends with (own)
 pub record OpenAgrees (s : Setting) (h : History) (id : DomId) (o : Open) (c : Underway) : Type 0 where
   pub caller : o.call.caller ≡ id
   pub asks : o.call.request ≡ c.request
@@ -300,7 +328,8 @@ pub record OpenAgrees (s : Setting) (h : History) (id : DomId) (o : Open) (c : U
   pub held : legs_at h id.0 ≡ numbered 0 (reverse (held_in phase))
   pub few : length c.steps + steps_left phase ≤ most_of c.request
 
--- the open call is that of the history, and there is one in both or in neither; with none open no pin is held by one (own)
+-- the open call is that of the history, and there is one in both or in neither; with none open no pin is held by
+-- one (own)
 abbrev pub CallAgrees : Setting → History → DomId → Option Open → Option Underway → Type 0
 CallAgrees s h id None None = legs_at h id.0 ≡ []
 CallAgrees s h id (Some o) (Some c) = OpenAgrees s h id o c
@@ -315,10 +344,11 @@ FitsGiven request given = Unit {0}
 
 -- the bytes given are those of the open call, if there is one (own)
 abbrev pub GivenAgrees : History → ℕ → List ℕ → Type 0
-GivenAgrees h d given = (c : Underway) → open_call h d ≡ Some c → (given ≡ c.given) × FitsGiven c.request c.given
+GivenAgrees h d given =
+    (c : Underway) → open_call h d ≡ Some c → (given ≡ c.given) × FitsGiven c.request c.given
 
 -- the pins and body words of an entry (own)
-pub record SlotAgrees (h : History) (t r : ℕ) (slot : Slot) : Type 0 where
+pub record SlotAgrees (h : History) (t r : ℕ) (slot : PinCounts) : Type 0 where
   pub reads : slot.reads ≡ reads_at h t r
   pub writes : slot.writes ≡ writes_at h t r
   pub first : slot.first ≡ body_at h t r FirstHalf
@@ -343,7 +373,7 @@ pub record Agrees (s : Setting) (h : History) (d : State) : Type 0 where
   pub entries : entry_in d.own ≡ (λ r. entry_at h d.id.0 r)
   pub generations : generation_in s.first_generation d.own ≡ (λ r. generation_at s h d.id.0 r)
   pub room : length d.slots ≡ TABLE_ENTRIES
-  pub slots : (r : ℕ) (slot : Slot) → slice_get d.slots r ≡ Some slot → SlotAgrees h d.id.0 r slot
+  pub slots : (r : ℕ) (slot : PinCounts) → slice_get d.slots r ≡ Some slot → SlotAgrees h d.id.0 r slot
   pub mappings : MappingsAgree d.mappings (mappings_at h d.id.0) (maps_answered_at h d.id.0)
   pub call : CallAgrees s h d.id d.underway (open_call h d.id.0)
   pub given : GivenAgrees h d.id.0 d.given
@@ -353,14 +383,20 @@ abbrev pub StateAgrees : Setting → History → DomId → Option State → Type
 StateAgrees s h dom None = domain_of s.domains dom ≡ None
 StateAgrees s h dom (Some d) = (domain_of s.domains dom ≢ None) × (d.id ≡ dom) × Agrees s h d
 
+-- an entry of domain t lets domain d use a frame of domain t by a mapping of this kind, and so does the policy (own)
+abbrev pub LetsUse : Setting → DomId → DomId → Dir → Entry → Type 0
+LetsUse s d t dir entry =
+    (permits entry d dir ForMap 0 0 ≡ true) × MayUse s d t dir × (frame_of entry < frames_of s.domains t)
+    × (domain_of s.domains t ≢ None)
+
 -- a mapping's pin was taken by right, on a frame of its owner; of a call's own pin nothing is asked (own)
 abbrev pub IsLawfullyHeld : Setting → Pin → Holder → Type 0
 IsLawfullyHeld s p (ByMapping handle) =
-    (permits p.held.entry (record { 0 = p.actor }) p.held.dir ForMap 0 0 ≡ true) × MayUse s (record { 0 = p.actor }) p.held.dom p.held.dir
-    × (frame_of p.held.entry < frames_of s.domains p.held.dom) × (domain_of s.domains p.held.dom ≢ None)
+    LetsUse s (record { 0 = p.actor }) p.held.dom p.held.dir p.held.entry
 IsLawfullyHeld s p (ByLeg number) = Unit {0}
 
--- the pin of a mapping was taken on an entry that permitted it, for a frame of its owner, and the policy allows what it is for (own)
+-- the pin of a mapping was taken on an entry that permitted it, for a frame of its owner, and the policy allows what it
+-- is for (own)
 abbrev pub IsLawful : Setting → Pin → Type 0
 IsLawful s p = IsLawfullyHeld s p p.holder
 
@@ -382,9 +418,11 @@ pub record DomainsStand (s : Setting) (h : History) (domains : List State) : Typ
   pub entries : (t r : ℕ) → IsEntry (entry_at h t r)
   pub lawful : All (IsLawful s) (live h)
   pub free : (t r : ℕ) → entry_at h t r ≡ Invalid → (reads_at h t r ≡ 0) × (writes_at h t r ≡ 0)
-  pub spelled : (t r : ℕ) → entry_at h t r ≢ Invalid → IsSpelled (entry_at h t r) (body_at h t r FirstHalf) (body_at h t r SecondHalf)
+  pub spelled : (t r : ℕ) → entry_at h t r ≢ Invalid
+      → IsSpelled (entry_at h t r) (body_at h t r FirstHalf) (body_at h t r SecondHalf)
 
--- there are the frames of the run; each was written as the history tells, so that it holds what the history left in it, and has its size; and each write to it was by right (own)
+-- there are the frames of the run; each was written as the history tells, so that it holds what the history left in it,
+-- and has its size; and each write to it was by right (own)
 pub record FramesStand (s : Setting) (h : History) (fs : FrameSet) : Type 0 where
   pub counts : fs.domains ≡ frame_counts s.domains
   pub writes : (name : FrameName) → patches (frame_at fs name).journal ≡ patches_at h name.owner.0 name.number
@@ -400,13 +438,15 @@ pub record CoreStands (s : Setting) (h : History) (core : CoreState) : Type 0 wh
 abbrev pub StandsForSome : Setting → CoreState → Type 0
 StandsForSome s core = (h : History) × CoreStands s h core
 
--- for each history that the core stood for, the event did what it may do after it, and the core stands for that history with this element (own)
+-- for each history that the core stood for, the event did what it may do after it, and the core stands for that history
+-- with this element (own)
 abbrev pub Does : Setting → CoreState → Event → Element → CoreState → Type 0
 Does s old event x new = (h : History) → CoreStands s h old → MayDo s h event x × CoreStands s (grown h x) new
 
 -- the same of the domains alone (own)
 abbrev pub DoesAlone : Setting → List State → Event → Element → List State → Type 0
-DoesAlone s old event x new = (h : History) → DomainsStand s h old → MayDo s h event x × DomainsStand s (grown h x) new
+DoesAlone s old event x new =
+    (h : History) → DomainsStand s h old → MayDo s h event x × DomainsStand s (grown h x) new
 
 -- what contracts see of a core: its configuration, what its policy is made of, and what it keeps of the run (own)
 pub record CoreModel (P : Type 0) : Type 0 where

@@ -1,4 +1,5 @@
--- A domain's state, as the core keeps it: the code's own representation. It is in specs/ because private contracts cite it.
+-- A domain's state, as the core keeps it: the code's own representation.
+-- It is in specs/ because private contracts cite it.
 use Rattle.std.specs.Prelude.{Bool, true, false, ℕ, List, [], ◌∷◌, Option, Some, None, ◌==◌, ◌≡◌, ◌<◌, ◌≤◌, ◌+◌, ◌^◌, ◌%◌, min, replicate, if◌then◌else◌}
 use Rattle.gt_types.specs.declared.config.DomainConfig.{DomainConfig}
 use Rattle.gt_entry.specs.declared.entry.Entry.TheVariants.{Invalid}
@@ -11,16 +12,17 @@ use Rattle.gt_entry.specs.declared.header.Header.{Header}
 use Rattle.gt_calls.specs.declared.known.Own.{Own}
 use Rattle.gt_handles.specs.Handles.{Kept}
 use Rattle.gt_calls.specs.declared.held.Held.{Held}
-use Rattle.gt_core.specs.declared.slot.Slot.{Slot}
-use Rattle.gt_core.specs.declared.slot.Open.{Open}
+use Rattle.gt_core.specs.declared.pin_counts.PinCounts.{PinCounts}
+use Rattle.gt_core.specs.declared.underway.Open.{Open}
 use Rattle.gt_frames.specs.Sets.{FrameSet}
 
--- what the core keeps of a domain: its header, what its owner knows of each entry, the pins and body words of each entry, its mappings by handle, its call under way, and the bytes given to that call to be written (own)
+-- what the core keeps of a domain: its header, what its owner knows of each entry, the pins and body words of each
+-- entry, its mappings by handle, its call under way, and the bytes given to that call to be written (own)
 pub record State : Type 0 where
   pub id : DomId
   pub header : Header
   pub own : List Own
-  pub slots : List Slot
+  pub slots : List PinCounts
   pub mappings : Kept Held
   pub underway : Option Open
   pub given : List ℕ
@@ -39,7 +41,8 @@ abbrev pub asked_in : Option Open → Option Asked
 asked_in None = None
 asked_in (Some o) = Some o.call.request
 
--- the calls that ask for memory: a map for its mapping, a load or peek for its answer, a store or poke for what it was given (own)
+-- the calls that ask for memory: a map for its mapping, a load or peek for its answer, a store or poke for what it was
+-- given (own)
 abbrev pub asks_memory : Asked → Bool
 asks_memory (Map dom gref flags) = true
 asks_memory (Load handle off len) = true
@@ -65,7 +68,8 @@ IsLoading (Some (Load handle off len)) n = n ≡ len
 IsLoading (Some (Peek frame off len)) n = n ≡ len
 IsLoading _ n = Unit {0}
 
--- the room that a call's answer wants was made when it began: for one more mapping, under a serial that is left, or for the bytes of a load or peek (own)
+-- the room that a call's answer wants was made when it began: for one more mapping, under a serial that is left, or for
+-- the bytes of a load or peek (own)
 abbrev pub HasRoom : Option Asked → Kept Held → Option ℕ → Type 0
 HasRoom (Some (Map dom gref flags)) mappings bytes = (1 ≤ mappings.room) × (mappings.given + 1 < 2 ^ 64)
 HasRoom (Some (Load handle off len)) mappings bytes = bytes ≡ Some len

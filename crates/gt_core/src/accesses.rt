@@ -4,8 +4,8 @@ ghost use Rattle.gt_frames.specs.Frames.{bytes_at};
 ghost use Rattle.gt_frames.specs.Sets.{frame_at, has_range};
 ghost use Rattle.gt_core.specs.Accesses.{name_of, IsWriting, IsAdmitted, AccessedBy};
 
-use crate::slot::Open;
 use crate::state::DomainState;
+use crate::underway::Open;
 use gt_calls::{Place, Step};
 use gt_frames::{FrameName, Frames, Spot};
 use gt_types::Memory;

@@ -3,12 +3,12 @@ ghost use Rattle.std.specs.Prelude.{◌≡◌};
 ghost use Rattle.gt_core.specs.States.{changed_in};
 ghost use Rattle.gt_core.specs.Effects.{with_slot, applied, without_mapping, with_own, with_header};
 
-use crate::slot::SlotChange;
+use crate::pin_counts::CountsChange;
 use crate::state::{DomainState, find};
 use gt_calls::{Change, Holder, Seen, Step};
 use gt_types::{DomId, GrantRef};
 
-fn change_slot(domains: &mut [DomainState], dom: DomId, gref: GrantRef, change: SlotChange)
+fn change_slot(domains: &mut [DomainState], dom: DomId, gref: GrantRef, change: CountsChange)
     ensures { domains.new ≡ changed_in dom.0 (with_slot gref.0 change) domains.old }
 {
     if let Some(at) = find(domains, dom) {
@@ -46,14 +46,19 @@ pub fn apply(domains: &mut [DomainState], actor: DomId, step: Step, seen: Seen)
 {
     match (step, seen) {
         (Step::Pin { held }, Seen::Taken) => {
-            change_slot(domains, held.dom, held.gref, SlotChange::Pinned(held.dir));
+            change_slot(domains, held.dom, held.gref, CountsChange::Pinned(held.dir));
         }
         (Step::Unpin { held, holder }, _) => {
-            change_slot(domains, held.dom, held.gref, SlotChange::Unpinned(held.dir));
+            change_slot(
+                domains,
+                held.dom,
+                held.gref,
+                CountsChange::Unpinned(held.dir),
+            );
             forget(domains, actor, holder);
         }
         (Step::StoreBody { gref, half, word }, _) => {
-            change_slot(domains, actor, gref, SlotChange::Stored(half, word));
+            change_slot(domains, actor, gref, CountsChange::Stored(half, word));
         }
         (Step::StoreHeader { version, frames }, _) => {
             store_header(domains, actor, version, frames);

@@ -19,11 +19,12 @@ mod core_state;
 mod effects;
 mod laws;
 mod machine;
+mod pin_counts;
 mod sight;
-mod slot;
 mod state;
 mod subject;
 mod trace;
+mod underway;
 
 pub use core_state::{Begun, Core, Shown, Ticked, play};
 pub use gt_calls::{

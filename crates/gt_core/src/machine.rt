@@ -20,9 +20,9 @@ use crate::accesses::{read_bytes, write_bytes};
 use crate::core_state::{Begun, Shown, Ticked};
 use crate::effects::apply;
 use crate::sight::see;
-use crate::slot::Open;
 use crate::state::{DomainState, find};
 use crate::trace::{Answer, Bytes};
+use crate::underway::Open;
 use gt_calls::{Action, Call, Known, Request, Seen, Start, Step, Value, Verdict, asked_fits};
 use gt_frames::{FrameName, Frames};
 use gt_types::{Allows, Config, DomId, GrantRef, Memory, StartFault};
@@ -206,7 +206,7 @@ impl<P: Allows> Machine<P> {
     }
 
     // What the domain's call comes to by this action: its next step, or its answer, with which it is over.
-    fn settle(&mut self, at: usize, last: Open, call: Call, action: Action) -> Option<Answer>
+    fn go_on_or_end(&mut self, at: usize, last: Open, call: Call, action: Action) -> Option<Answer>
         requires there { at < length self.old.domains.items }
         requires under { (d : State) → slice_get self.old.domains.items at ≡ Some d → d.underway ≡ Some last }
         requires readable { IsReadable self.old.frames last.call last.step }
@@ -263,7 +263,7 @@ impl<P: Allows> Machine<P> {
         write_bytes(&mut self.frames, &self.domains[at], open)?;
         let seen = see(&self.domains, dom, open.step);
         let (call, action) = self.advance(at, open, seen);
-        let answer = self.settle(at, open, call, action);
+        let answer = self.go_on_or_end(at, open, call, action);
         apply(&mut self.domains, dom, open.step, seen);
         Ok(told(open.step, seen, answer))
     }

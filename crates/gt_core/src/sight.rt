@@ -2,13 +2,13 @@
 ghost use Rattle.std.specs.Prelude.{◌≡◌, true, false};
 ghost use Rattle.gt_core.specs.Sight.{reads_in, writes_in, control_in, body_in, control_seen, header_seen, body_seen, exchange_sees, sees};
 
-use crate::slot::Slot;
+use crate::pin_counts::PinCounts;
 use crate::state::DomainState;
 use gt_calls::{Half, Own, Seen, Step, own_at};
 use gt_entry::Control;
 use gt_types::{DomId, GrantRef};
 
-fn slot_at(slots: &[Slot], gref: GrantRef) -> Slot
+fn slot_at(slots: &[PinCounts], gref: GrantRef) -> PinCounts
     ensures reads { result.reads ≡ reads_in slots.now gref.0 }
     ensures writes { result.writes ≡ writes_in slots.now gref.0 }
     ensures first { result.first ≡ body_in slots.now gref.0 Half.First }
@@ -18,11 +18,11 @@ fn slot_at(slots: &[Slot], gref: GrantRef) -> Slot
     if at < slots.len() {
         slots[at]
     } else {
-        Slot::new()
+        PinCounts::new()
     }
 }
 
-fn control_word(own: &[Own], slots: &[Slot], gref: GrantRef) -> u64
+fn control_word(own: &[Own], slots: &[PinCounts], gref: GrantRef) -> u64
     ensures { result ≡ control_in own.now slots.now gref.0 }
 {
     let row = own_at(own, 0, gref);
@@ -30,7 +30,7 @@ fn control_word(own: &[Own], slots: &[Slot], gref: GrantRef) -> u64
     Control::of_entry(row.entry(), row.generation(), slot.reads(), slot.writes()).pack()
 }
 
-fn body_word(slots: &[Slot], gref: GrantRef, half: Half) -> u64
+fn body_word(slots: &[PinCounts], gref: GrantRef, half: Half) -> u64
     ensures { result ≡ body_in slots.now gref.0 half }
 {
     let slot = slot_at(slots, gref);

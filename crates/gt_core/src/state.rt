@@ -3,7 +3,8 @@ ghost use Rattle.std.specs.Prelude.{◌≡◌, ◌==◌, ◌%◌, position};
 ghost use Rattle.gt_core.specs.Accesses.{ground_of};
 
 use crate::core_state::Shown;
-use crate::slot::{Open, Slot, SlotChange};
+use crate::pin_counts::{CountsChange, PinCounts};
+use crate::underway::Open;
 use gt_calls::{Asked, Call, Change, ENTRIES, Held, Holder, Own, Route};
 use gt_entry::Header;
 use gt_frames::{Ground, Writ};
@@ -18,7 +19,7 @@ pub struct DomainState {
     pub(crate) id: DomId,
     pub(crate) header: Header,
     pub(crate) own: Vec<Own>,
-    pub(crate) slots: Vec<Slot>,
+    pub(crate) slots: Vec<PinCounts>,
     pub(crate) mappings: Handles<Held>,
     pub(crate) underway: Option<Open>,
     pub(crate) given: Vec<u8>,
@@ -96,7 +97,7 @@ impl DomainState {
         let mut slots = Vec::with_capacity(alloc, ENTRIES)?;
         'entries: for _ in 0..ENTRIES {
             own.push(Own::new(first_gen.min(LAST_GENERATION)))?;
-            slots.push(Slot::new())?;
+            slots.push(PinCounts::new())?;
         }
         Ok(DomainState {
             id: domain.id,
@@ -219,7 +220,7 @@ impl DomainState {
     }
 
     /// Changes the pins or a body word of an entry.
-    pub fn change_slot(&mut self, gref: GrantRef, change: SlotChange)
+    pub fn change_slot(&mut self, gref: GrantRef, change: CountsChange)
         ensures { self.new ≡ with_slot gref.0 change self.old }
     {
         let at = gref.0 as usize;

@@ -45,16 +45,16 @@ write_bytes-requires g c =
     let written : x ≡ domain = same_Some _ _ (sym here ∙ place-at xs c.args.dom.0 at domain p c.index-2.ensures) in
     subst (λ (z : State). IsAdmitted c.args.self.now.frames z o.call o.step) written (tick-admitted s c.requires.0 xs c.args.self.now.frames c.args.dom at x o p c.index.ensures is c.requires.1)
 
-pub settle-answer-requires-clause-under : goal.settle-answer-requires-clause-under
-settle-answer-requires-clause-under g c =
+pub go_on_or_end-answer-requires-clause-under : goal.go_on_or_end-answer-requires-clause-under
+go_on_or_end-answer-requires-clause-under g c =
     let xs = c.args.self.now.domains.items in
     let at = c.in-Some.at in
     let p : position (has_id c.args.dom.0) xs ≡ Some at = ap (λ (l : List State). position (has_id c.args.dom.0) l) (sym c.deref.ensures.value) ∙ sym c.find.ensures ∙ c.in-Some.is in
     let here = place-at xs c.args.dom.0 at c.index.result.now p c.index.ensures in
     λ d there. ap (λ (z : State). z.underway) (same_Some _ _ (sym there ∙ here)) ∙ sym c.underway.ensures ∙ c.in-Some-underway.is
 
-pub settle-answer-requires-clause-readable : goal.settle-answer-requires-clause-readable
-settle-answer-requires-clause-readable g c =
+pub go_on_or_end-answer-requires-clause-readable : goal.go_on_or_end-answer-requires-clause-readable
+go_on_or_end-answer-requires-clause-readable g c =
     let s = setting_of c.args.self.now.config (g.P.Allows.may c.args.self.now.rights) in
     let xs = c.args.self.now.domains.items in
     let x = c.index.result.now in
@@ -67,8 +67,8 @@ settle-answer-requires-clause-readable g c =
     readable-after c.args.self.now.frames c.write_bytes.new.frames x o.call o.step wrote
     (tick-readable s c.requires.0 xs c.args.self.now.frames c.args.dom at x o p c.index.ensures (sym c.underway.ensures ∙ c.in-Some-underway.is) c.requires.1)
 
-pub settle-answer-requires-clause-room : goal.settle-answer-requires-clause-room
-settle-answer-requires-clause-room g c =
+pub go_on_or_end-answer-requires-clause-room : goal.go_on_or_end-answer-requires-clause-room
+go_on_or_end-answer-requires-clause-room g c =
     let s = setting_of c.args.self.now.config (g.P.Allows.may c.args.self.now.rights) in
     let xs = c.args.self.now.domains.items in
     let x = c.index.result.now in
@@ -96,8 +96,8 @@ returns-clause-stands g c =
     let seen = c.see-seen.result in
     let begins : Begins s xs c.args.dom at x o seen c.advance-action.result.0 c.advance-action.result.1 =
     record { place = p; here = c.index.ensures; under = sym c.underway.ensures ∙ c.in-Some-underway.is; saw = c.see-seen.ensures ∙ ap (λ (l : List State). sees l c.args.dom o.step) c.deref-2.ensures.value; caller = c.advance-action.ensures.caller; asks = c.advance-action.ensures.request; goes = c.advance-action.ensures.goes x here } in
-    let zs = c.settle-answer.new.self.domains.items in
-    let left = slice-after c.settle-answer.new.self.domains.len c.args.dom o.step seen zs c.deref_mut.result.now c.apply.new.domains
+    let zs = c.go_on_or_end-answer.new.self.domains.items in
+    let left = slice-after c.go_on_or_end-answer.new.self.domains.len c.args.dom o.step seen zs c.deref_mut.result.now c.apply.new.domains
     (ap (λ (l : List State). length l) (sym c.deref_mut.ensures.value) ∙ c.deref_mut.ensures.len) c.deref_mut.ensures.value c.apply.ensures in
-    tick-does s fs gs c.settle-answer.new.self.frames xs _ zs c.args.dom at x o seen c.advance-action.result.0 c.advance-action.result.1 c.settle-answer.result c.told.result c.told.ensures
-    begins wrote (c.settle-answer.ensures.settles x here) left c.settle-answer.ensures.frames
+    tick-does s fs gs c.go_on_or_end-answer.new.self.frames xs _ zs c.args.dom at x o seen c.advance-action.result.0 c.advance-action.result.1 c.go_on_or_end-answer.result c.told.result c.told.ensures
+    begins wrote (c.go_on_or_end-answer.ensures.settles x here) left c.go_on_or_end-answer.ensures.frames

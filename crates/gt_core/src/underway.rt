@@ -1,0 +1,9 @@
+//! A call under way.
+use gt_calls::{Call, Step};
+
+/// A call under way, and its next step.
+#[derive(Clone, Copy)]
+pub struct Open {
+    pub call: Call,
+    pub step: Step,
+}
