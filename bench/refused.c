@@ -5,6 +5,7 @@
 #include <errno.h>
 #include <stdio.h>
 #include <stdlib.h>
+#include <sys/syscall.h>
 #include <unistd.h>
 
 static long refused = -1, count = 0;
@@ -27,7 +28,9 @@ __attribute__((constructor)) static void begin(void) {
 
 static int is_refused(void) {
     begin();
-    return ++count == refused;
+    if (++count != refused) return 0;
+    errno = ENOMEM;
+    return 1;
 }
 
 void *malloc(size_t size) { return is_refused() ? NULL : real_malloc(size); }
@@ -38,8 +41,16 @@ int posix_memalign(void **out, size_t to, size_t size) {
     return is_refused() ? ENOMEM : real_memalign(out, to, size);
 }
 
+static void leave(int status) { syscall(SYS_exit_group, status); }
+
 __attribute__((destructor)) static void end(void) {
     char text[40];
     int length = snprintf(text, sizeof text, "requests %ld\n", count);
-    if (write(2, text, (size_t)length) != length) _exit(1);
+    if (write(2, text, (size_t)length) != length) leave(1);
+}
+
+/* A program of the kit ends by _exit, which runs no destructor. */
+void _exit(int status) {
+    end();
+    for (;;) leave(status);
 }
