@@ -1,5 +1,5 @@
 //! Accesses that lock the frames that they are made to, and free them again.
-ghost use Rattle.std.specs.Prelude.{◌≡◌, ◌+◌, ◌≤◌, length, vec_len, IfOk, IfSome};
+ghost use Rattle.std.specs.Prelude.{◌≡◌, ◌+◌, ◌≤◌, length, vec_capacity, vec_len, IfOk, IfSome};
 ghost use Rattle.gt_types.specs.declared.Dir.TheVariants as dirs;
 ghost use Rattle.gt_types.specs.declared.Use.TheVariants as uses;
 ghost use Rattle.gt_words.specs.Conditions.{IsSeatOf};
@@ -28,8 +28,8 @@ impl From<Memory> for Refused {
     }
 }
 
-/// Reads bytes of the frame of this name, from `off` on over all of `out`. `None` where there is no
-/// such frame, or another one is in its place.
+/// Reads a range of the frame of this name into `room`, which is empty and has room for it. `None` where
+/// there is no such frame, or another one is in its place.
 #[tactic(auto, using(crate::proofs::Covering::reaches_named))]
 pub fn read_by<R: Wait, P: Allows>(
     rt: &R,
@@ -37,17 +37,18 @@ pub fn read_by<R: Wait, P: Allows>(
     seat: &Seat,
     route: Route,
     name: FrameName,
-    off: u16,
-    out: Vec<u8>,
+    range: Range,
+    room: Vec<u8>,
 ) -> Option<Read>
     requires seat { IsSeatOf run.now.words.now seat.now }
-    requires reached { Reaches run.now.words.now.layout seat.now dirs.Read uses.Map name off (vec_len out) route }
+    requires reached { Reaches run.now.words.now.layout seat.now dirs.Read uses.Map name range.off range.len route }
     requires may { MayAccess run.now.config.now.domains.items (P.may run.now.rights.now) seat.now.dom route }
-    requires range { off + vec_len out ≤ FRAME_SIZE }
-    ensures { IfSome result (λ r. IsReadOf r name off (vec_len out)) }
+    requires range { range.off + range.len ≤ FRAME_SIZE }
+    requires room { (vec_len room ≡ 0) × (range.len ≤ vec_capacity room) }
+    ensures { IfSome result (λ r. IsReadOf r name range.off range.len) }
 {
     let frame = run.pool.lock(rt, name)?;
-    Some(read_under(run, seat, &frame, route, off, out))
+    Some(read_under(run, seat, &frame, route, range, room))
 }
 
 /// Writes `bytes` to the frame of this name, from `off` on.

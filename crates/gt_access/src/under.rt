@@ -1,5 +1,5 @@
 //! Accesses to locked frames.
-ghost use Rattle.std.specs.Prelude.{◌≡◌, ◌+◌, ◌≤◌, length, vec_len, IfOk, OnOk, OnErr};
+ghost use Rattle.std.specs.Prelude.{◌≡◌, ◌+◌, ◌≤◌, length, vec_capacity, vec_len, IfOk, OnOk, OnErr};
 ghost use Rattle.gt_types.specs.declared.Dir.TheVariants as dirs;
 ghost use Rattle.gt_types.specs.declared.Use.TheVariants as uses;
 ghost use Rattle.gt_words.specs.Conditions.{IsSeatOf};
@@ -52,24 +52,25 @@ pub fn writ_by(caller: DomId, route: Route) -> Writ
     }
 }
 
-/// Reads bytes of a locked frame from `off` on over all of `out`, whose length is the range's.
+/// Reads a range of a locked frame into `room`, which is empty and has room for it.
 pub fn read_under<P: Allows>(
     run: &Run<'_, P>,
     seat: &Seat,
     frame: &Frame,
     route: Route,
-    off: u16,
-    out: Vec<u8>,
+    range: Range,
+    room: Vec<u8>,
 ) -> Read
     requires seat { IsSeatOf run.now.words.now seat.now }
     requires reached { Reaches run.now.words.now.layout seat.now dirs.Read uses.Map
-        (name_of frame.now) off (vec_len out) route }
+        (name_of frame.now) range.off range.len route }
     requires may { MayAccess run.now.config.now.domains.items (P.may run.now.rights.now) seat.now.dom route }
-    requires range { off + vec_len out ≤ FRAME_SIZE }
-    ensures read { result ≡ reading_of frame.now off (vec_len out) }
-    ensures len { length result.bytes ≡ vec_len out }
+    requires range { range.off + range.len ≤ FRAME_SIZE }
+    requires room { (vec_len room ≡ 0) × (range.len ≤ vec_capacity room) }
+    ensures read { result ≡ reading_of frame.now range.off range.len }
+    ensures len { length result.bytes ≡ range.len }
 {
-    frame.read(off, out)
+    frame.read_to(range.off, usize::from(range.len), room)
 }
 
 /// Writes `bytes` to a locked frame, from `off` on.

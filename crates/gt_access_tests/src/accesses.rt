@@ -8,7 +8,7 @@ ghost use Rattle.gt_words.specs.Views.{last_of};
 use gt_access::{Run, copy_by, read_by, write_by};
 use gt_calls::{Pins, Route};
 use gt_frames::{FrameName, Pool, Spot};
-use gt_types::{Allows, Config, DomId, DomainConfig, Perms, StartFault, TypeId};
+use gt_types::{Allows, Config, DomId, DomainConfig, Perms, Range, StartFault, TypeId};
 use gt_words::{Seat, Words};
 use std::alloc::{AllocError, Global};
 use std::sync::Wait;
@@ -118,12 +118,20 @@ fn shown<R: Wait>(
 ) -> Result<String, Fail>
     requires { IsSeatOf run.now.words.now seat.now }
 {
-    let out = vec![in alloc; 7u8; 6]?;
+    let room = Vec::with_capacity(alloc, 6)?;
     let name = FrameName {
         owner: seat.dom(),
         number,
     };
-    let text = match read_by(rt, run, seat, Route::Own, name, 0, out) {
+    let text = match read_by(
+        rt,
+        run,
+        seat,
+        Route::Own,
+        name,
+        Range { off: 0, len: 6 },
+        room,
+    ) {
         Some(read) => {
             let bytes = read.into_bytes();
             format!(in alloc; "{:?}", bytes.as_slice())?

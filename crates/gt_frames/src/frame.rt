@@ -1,5 +1,6 @@
 //! One frame: its bytes and its journal.
-ghost use Rattle.std.specs.Prelude.{◌≡◌, ◌+◌, ◌≤◌, ◌++◌, [], ◌∷◌, length, vec_len, IsTrue, IfOk, OnOk, OnErr};
+ghost use Rattle.std.specs.Prelude.{◌≡◌, ◌+◌, ◌≤◌, ◌++◌, [], ◌∷◌, length, vec_capacity, vec_len, IsTrue, IfOk};
+ghost use Rattle.std.specs.Prelude.{OnOk, OnErr};
 ghost use Rattle.gt_frames.specs.Bytes.{overlay};
 ghost use Rattle.gt_frames.specs.Frames.{recorded};
 
@@ -96,14 +97,26 @@ impl Frame {
         ensures read { result ≡ reading_of self.now off (vec_len out) }
         ensures len { length result.bytes ≡ vec_len out }
     {
+        let len = out.len();
+        out.clear();
+        self.read_to(off, len, out)
+    }
+
+    /// Reads `len` bytes from the offset `off` on into `room`, which is empty and has room for them. It
+    /// takes no memory.
+    pub fn read_to(&self, off: u16, len: usize, mut room: Vec<u8>) -> Read
+        requires range { off + len ≤ FRAME_SIZE }
+        requires room { (vec_len room ≡ 0) × (len ≤ vec_capacity room) }
+        ensures read { result ≡ reading_of self.now off len }
+        ensures len { length result.bytes ≡ len }
+    {
         let start = usize::from(off);
-        let end = start + out.len();
-        out.copy_from_slice(&self.bytes[start..end]);
+        let _ = room.extend_from_slice(&self.bytes[start..start + len]);
         Read {
             owner: self.owner,
             number: self.number,
             off,
-            bytes: Bytes::from(out),
+            bytes: Bytes::from(room),
         }
     }
 

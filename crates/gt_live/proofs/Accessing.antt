@@ -34,10 +34,11 @@ use Rattle.gt_calls.specs.Opening.{opens}
 use Rattle.gt_calls.specs.Path.{Continuation, after_beginning, by_mapping, ended, makes, path_of, steps_of}
 use Rattle.gt_calls.specs.Rules.{CallerKnowledge, begun}
 use Rattle.gt_live.specs.Accesses.{Accessed, AnsweredBy, IsAccess, IsOfAccess, frame_named}
-use Rattle.gt_live.specs.Domains.{IsRefused, Opens, Rights}
-use Rattle.gt_live.specs.Ending.{IsWordless}
+use Rattle.gt_live.specs.Domains.{IsRefused, Opens, Rights, refusal_of}
+use Rattle.gt_live.specs.Ending.{IsAccessing, IsWordless}
 use Rattle.gt_live.specs.Mappings.{IsMappingOf, ReachesItsFrame}
 use Rattle.gt_live.specs.Walks.{Called, CarriesFound}
+use Rattle.gt_live.proofs.Once.{refused-once}
 
 -- what permits a mapping permits it any range
 any-range : (e : Entry) (d : DomId) (dir : Dir) (off len : ℕ) → permits e d dir ForMap 0 0 ≡ true → permits e d dir ForMap off len ≡ true
@@ -96,11 +97,47 @@ wordless-found k v steps facts.None is = tt
 wordless-found k v steps (facts.Policy source target perm) is = tt
 wordless-found k v steps (facts.Field field) is = tt
 
+pub none-left : {A : Type 0} (o : Option A) → ((a : A) → o ≡ Some a → ⊥) → o ≡ None
+none-left None not = refl
+none-left (Some a) not = absurd (not a refl)
+
+-- a refusal at the beginning, which carries no word
+abbrev pub IsPlainly : Verdict → Type 0
+IsPlainly verdict = (denial : Denial) × (verdict ≡ Refused denial) × IsWordless denial.facts
+
+pub refuses : (c : CallerKnowledge) (caller : DomId) (request : Request) (verdict : Verdict) (denial : Denial)
+    → IsPlainly verdict → begun_of c caller request ≡ Some verdict → denial ≡ refusal_of verdict
+    → IsRefused c caller request denial
+refuses c caller request verdict denial is e said =
+    let here : IsRefused c caller request is.0 =
+    record { answered = e ∙ ap (λ (v : Verdict). Some v) is.1; wordless = is.2 } in
+    let same : denial ≡ is.0 = said ∙ ap (λ (v : Verdict). refusal_of v) is.1 in
+    subst (λ (x : Denial). IsRefused c caller request x) (sym same) here
+
 -- a call that is refused at its beginning
-pub refused-first : {R : Type 0} (k : Layout) (c : CallerKnowledge) (caller : DomId) (request : Request) (tells : Step → R → Type 0) (denial : Denial) (v : View) → IsRefused c caller request denial
+pub refused-called : (k : Layout) (c : CallerKnowledge) (caller : DomId) (request : Request) (denial : Denial) (v : View)
+    → IsRefused c caller request denial → Called k (path_of c caller request) (Refused denial) v v
+refused-called k c caller request denial v is = record {
+  steps = [];
+  view = refl;
+  walked = tt;
+  answered = ap (λ (o : Option Verdict). after_beginning o (steps_of c caller (asked request)) []) is.answered;
+  carried = wordless-found k v [] denial.facts is.wordless;
+}
+
+pub refused-first : {R : Type 0} (k : Layout) (c : CallerKnowledge) (caller : DomId) (request : Request)
+    (tells : Step → R → Type 0) (denial : Denial) (v : View) → IsRefused c caller request denial
     → AnsweredBy k (path_of c caller request) tells (Err denial) v v
-refused-first k c caller request tells denial v is =
-    inl (record { steps = []; view = refl; walked = tt; answered = ap (λ (o : Option Verdict). after_beginning o (steps_of c caller (asked request)) []) is.answered; carried = wordless-found k v [] denial.facts is.wordless })
+refused-first k c caller request tells denial v is = inl (refused-called k c caller request denial v is)
+
+-- the same of a call with an access, by the verdict at its beginning
+pub refused-access : {R : Type 0} (k : Layout) (c : CallerKnowledge) (caller : DomId) (request : Request)
+    (tells : Step → R → Type 0) (verdict : Verdict) (denial : Denial) (v : View) → IsAccessing (asked request)
+    → begun_of c caller request ≡ Some verdict → denial ≡ refusal_of verdict
+    → AnsweredBy k (path_of c caller request) tells (Err denial) v v
+refused-access k c caller request tells verdict denial v is e said =
+    refused-first k c caller request tells denial v
+    (refuses c caller request verdict denial (refused-once c caller request verdict is e) e said)
 
 -- a call of one access
 whole : (k : Layout) (way : Continuation) (access : Step) (v : View) → IsAccess access → way ≡ makes access (ended Granted) → Accessed k way access v v

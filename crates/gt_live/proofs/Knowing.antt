@@ -31,14 +31,15 @@ use Rattle.gt_calls.specs.declared.request.Asked.{Asked}
 use Rattle.gt_calls.specs.declared.request.Asked.TheVariants as asks
 use Rattle.gt_calls.specs.Rules.{CallerKnowledge, knowledge_of}
 use Rattle.gt_live.specs.declared.domain.Domain.{Domain}
-use Rattle.gt_live.specs.Domains.{Answered, HasRoomFor, IsDomainOf, KeepsPinned, MapAnswered, mapped_by, Rights, Settles, done_by, frames_told, knowledge, size_told, verdict_of, verdict_of_frames, verdict_of_size, verdict_of_version, version_told}
-use Rattle.gt_live.specs.Driving.{IsSame, Knows}
-use Rattle.gt_live.specs.Effects.{Answers}
+use Rattle.gt_live.specs.Domains.{IsDomainOf, Rights, done_by, frames_told, knowledge, size_told, verdict_of, verdict_of_frames}
+use Rattle.gt_live.specs.Domains.{verdict_of_size, verdict_of_version, version_told}
+use Rattle.gt_live.specs.Driving.{IsSame, Knows, Leaves}
 use Rattle.gt_live.specs.Walks.{CarriesFound, TellsSteps}
 use Rattle.gt_types.specs.declared.denial.Facts.{Facts}
 use Rattle.gt_types.specs.declared.denial.Facts.TheVariants as facts
-use Rattle.gt_live.specs.Ending.{IsAnswerTo, IsAtOnce, IsWordless, IsHeaderChange, IsMap, IsOwnChange}
-use Rattle.gt_live.specs.Mappings.{Adds, Removes}
+use Rattle.gt_live.specs.Ending.{IsAnswerTo, IsAtOnce, IsMap, IsOfMapping, IsWordless}
+use Rattle.gt_live.specs.declared.driving.Effect.{Effect}
+use Rattle.gt_entry.specs.declared.change.Change.{Change}
 use Rattle.gt_live.specs.declared.driving.Effect.TheVariants.{Nothing, Pinned, Unpinned, Changed, Stored}
 
 -- what is known by lent parts is what is known
@@ -60,61 +61,20 @@ knows-own b c may d limits run is kept = record {
   mapped = λ h m e. (is.mapped h m e).pin;
 }
 
--- the effects of a call, and what it made of the mappings
+map-of-mapping : (request : Asked) → IsMap request → IsOfMapping request
+map-of-mapping (asks.Map dom gref flags) is = tt
+map-of-mapping _ is = absurd is
 
-pub settle-mapped : (request : Asked) (verdict : Verdict) (p : Held) (h : Handle) (d e : Domain) → IsMap request → Answers (Pinned p) verdict → Adds d.mappings e.mappings h p → Settles request verdict (Some h) d e
-settle-mapped (asks.Map dom gref flags) (Mapped q) p h d e is same adds = subst (λ (x : Held). Adds d.mappings e.mappings h x) (sym same) adds
-settle-mapped (asks.Map dom gref flags) Granted p h d e is no_answer adds = absurd no_answer
-settle-mapped (asks.Map dom gref flags) (Given value) p h d e is no_answer adds = absurd no_answer
-settle-mapped (asks.Map dom gref flags) (Refused denial) p h d e is no_answer adds = absurd no_answer
-settle-mapped _ verdict p h d e is same adds = absurd is
-
-pub settle-unmapped : (verdict : Verdict) (h : Handle) (other : Option Handle) (d e : Domain) → Answers (Unpinned h) verdict → (p : Held) × Removes d.mappings e.mappings h p → Settles (asks.Unmap h) verdict other d e
-settle-unmapped Granted h other d e a gone = gone
-settle-unmapped (Given value) h other d e a gone = absurd a
-settle-unmapped (Mapped p) h other d e a gone = absurd a
-settle-unmapped (Refused denial) h other d e a gone = absurd a
-
-pub settle-changed : (request : Asked) (verdict : Verdict) (d e : Domain) → IsOwnChange request → KeepsPinned d e → Settles request verdict None d e
-settle-changed (asks.Grant gref entry) verdict d e is kept = kept
-settle-changed (asks.Revoke gref) verdict d e is kept = kept
-settle-changed (asks.Demote gref) verdict d e is kept = kept
-settle-changed (asks.Promote gref) verdict d e is kept = kept
-settle-changed _ verdict d e is kept = absurd is
-
-pub settle-stored : (request : Asked) (verdict : Verdict) (d e : Domain) → IsHeaderChange request → KeepsPinned d e → Settles request verdict None d e
-settle-stored (asks.SetVersion version) verdict d e is kept = kept
-settle-stored (asks.SetupTable frames) verdict d e is kept = kept
-settle-stored _ verdict d e is kept = absurd is
-
-settle-refused : (request : Asked) (denial : Denial) (d e : Domain) → KeepsPinned d e → Settles request (Refused denial) None d e
-settle-refused (asks.Map dom gref flags) denial d e kept = kept
-settle-refused (asks.Unmap handle) denial d e kept = kept
-settle-refused (asks.Grant gref entry) denial d e kept = kept
-settle-refused (asks.Revoke gref) denial d e kept = kept
-settle-refused (asks.Demote gref) denial d e kept = kept
-settle-refused (asks.Promote gref) denial d e kept = kept
-settle-refused (asks.Load handle off len) denial d e kept = kept
-settle-refused (asks.Store handle off len) denial d e kept = kept
-settle-refused (asks.Peek frame off len) denial d e kept = kept
-settle-refused (asks.Poke frame off len) denial d e kept = kept
-settle-refused (asks.Copy args) denial d e kept = kept
-settle-refused (asks.SetVersion version) denial d e kept = kept
-settle-refused (asks.SetupTable frames) denial d e kept = kept
-settle-refused (asks.QuerySize dom) denial d e kept = kept
-settle-refused (asks.GetVersion dom) denial d e kept = kept
-
-settle-given : (request : Asked) (value : Value) (d e : Domain) → IsAnswerTo request (Given value) → KeepsPinned d e → Settles request (Given value) None d e
-settle-given (asks.SetupTable frames) value d e is kept = kept
-settle-given (asks.QuerySize dom) value d e is kept = kept
-settle-given (asks.GetVersion dom) value d e is kept = kept
-settle-given _ value d e is kept = absurd is
-
-pub settle-looked : (request : Asked) (verdict : Verdict) (d e : Domain) → Answers Nothing verdict → IsAnswerTo request verdict → KeepsPinned d e → Settles request verdict None d e
-settle-looked request (Refused denial) d e a is kept = settle-refused request denial d e kept
-settle-looked request (Given value) d e a is kept = settle-given request value d e is kept
-settle-looked request Granted d e a is kept = absurd a
-settle-looked request (Mapped p) d e a is kept = absurd a
+-- a call that neither maps nor unmaps, and changed no entry, has only looked
+pub unchanged : (c : CallerKnowledge) (k : Layout) (caller : DomId) (request : Asked) (v w : View) (effect : Effect)
+    → (IsOfMapping request → ⊥) → ((q : GrantRef) (change : Change) → effect ≡ Changed q change → ⊥)
+    → Leaves c k caller request v w effect → IsSame v w
+unchanged c k caller request v w Nothing other not left = left
+unchanged c k caller request v w (Pinned p) other not left = absurd (other (map-of-mapping request left.asked))
+unchanged c k caller request v w (Unpinned h) other not left =
+    absurd (other (subst (λ (r : Asked). IsOfMapping r) (sym left.asked) tt))
+unchanged c k caller request v w (Changed q change) other not left = absurd (not q change refl)
+unchanged c k caller request v w Stored other not left = left.0
 
 -- a call that is answered at its beginning
 
@@ -125,14 +85,6 @@ at-once-answer (asks.Promote gref) Granted is = tt
 at-once-answer (asks.SetVersion version) Granted is = tt
 at-once-answer (asks.SetupTable frames) (Given (values.Frames n)) is = tt
 at-once-answer _ _ is = absurd is
-
-pub settle-once : (request : Asked) (verdict : Verdict) (d e : Domain) → IsAtOnce request verdict → KeepsPinned d e → Settles request verdict None d e
-settle-once request (Refused denial) d e is kept = settle-refused request denial d e kept
-settle-once (asks.Demote gref) Granted d e is kept = kept
-settle-once (asks.Promote gref) Granted d e is kept = kept
-settle-once (asks.SetVersion version) Granted d e is kept = kept
-settle-once (asks.SetupTable frames) (Given value) d e is kept = kept
-settle-once _ _ d e is kept = absurd is
 
 -- an answer at once carries no word
 wordless : (k : Layout) (v : View) (f : Facts) → IsWordless f → CarriesFound k v [] f
@@ -199,71 +151,8 @@ frames-back n (Refused denial) a = refl
 frames-back n (Given (values.Frames m)) a = refl
 frames-back n _ a = absurd a
 
-pub room-of : (request : Asked) (kept : Kept Held) → IsMap request → HasRoomFor request kept → 1 ≤ kept.room
-room-of (asks.Map dom gref flags) kept is room = room
-room-of _ kept is room = absurd is
-
--- a call that is no map needs no room
-pub no-room-asked : (request : Asked) (kept : Kept Held) → (IsMap request → ⊥) → HasRoomFor request kept
-no-room-asked (asks.Map dom gref flags) kept other = absurd (other tt)
-no-room-asked (asks.Grant gref entry) kept other = tt
-no-room-asked (asks.Revoke gref) kept other = tt
-no-room-asked (asks.Demote gref) kept other = tt
-no-room-asked (asks.Promote gref) kept other = tt
-no-room-asked (asks.Unmap handle) kept other = tt
-no-room-asked (asks.Load handle off len) kept other = tt
-no-room-asked (asks.Store handle off len) kept other = tt
-no-room-asked (asks.Peek frame off len) kept other = tt
-no-room-asked (asks.Poke frame off len) kept other = tt
-no-room-asked (asks.Copy args) kept other = tt
-no-room-asked (asks.SetVersion version) kept other = tt
-no-room-asked (asks.SetupTable frames) kept other = tt
-no-room-asked (asks.QuerySize dom) kept other = tt
-no-room-asked (asks.GetVersion dom) kept other = tt
-
--- the handle counts for a map alone
-pub settle-plain : (request : Asked) (verdict : Verdict) (h : Option Handle) (d e : Domain) → (IsMap request → ⊥) → Settles request verdict h d e → Settles request verdict None d e
-settle-plain (asks.Map dom gref flags) verdict h d e other s = absurd (other tt)
-settle-plain (asks.Unmap handle) Granted h d e other s = s
-settle-plain (asks.Unmap handle) (Refused denial) h d e other s = s
-settle-plain (asks.Unmap handle) (Given value) h d e other s = s
-settle-plain (asks.Unmap handle) (Mapped p) h d e other s = s
-settle-plain (asks.Grant gref entry) verdict h d e other s = s
-settle-plain (asks.Revoke gref) verdict h d e other s = s
-settle-plain (asks.Demote gref) verdict h d e other s = s
-settle-plain (asks.Promote gref) verdict h d e other s = s
-settle-plain (asks.Load handle off len) verdict h d e other s = s
-settle-plain (asks.Store handle off len) verdict h d e other s = s
-settle-plain (asks.Peek frame off len) verdict h d e other s = s
-settle-plain (asks.Poke frame off len) verdict h d e other s = s
-settle-plain (asks.Copy args) verdict h d e other s = s
-settle-plain (asks.SetVersion version) verdict h d e other s = s
-settle-plain (asks.SetupTable frames) verdict h d e other s = s
-settle-plain (asks.QuerySize dom) verdict h d e other s = s
-settle-plain (asks.GetVersion dom) verdict h d e other s = s
-
 -- a map's answer
 
-roomier-inserted : (old' old new : Kept Held) (h : Handle) (p : Held) → old' ≡ record old { room = old'.room } → IsInserted old' new h p → IsInserted old new h p
+pub roomier-inserted : (old' old new : Kept Held) (h : Handle) (p : Held) → old' ≡ record old { room = old'.room } → IsInserted old' new h p → IsInserted old new h p
 roomier-inserted old' old new h p room i =
     let j = subst (λ (z : Kept Held). IsInserted z new h p) room i in record { fresh = j.fresh; updates = j.updates; count = j.count; given = j.given }
-
-pub map-once : {P : Type 0} (may : P → Rights) (m : Monitor P) (d : Domain) (request : Request) (r : Asked) (verdict : Verdict) (result : Result Handle Denial) → IsAtOnce r verdict → IsMap r → Answered may m d request verdict d → result ≡ mapped_by verdict None
-    → MapAnswered may m d request result d
-map-once may m d request (asks.Map dom gref flags) (Refused denial) result once is said e =
-    subst (λ (x : Result Handle Denial). MapAnswered may m d request x d) (sym e) (inl said, (record { slots = refl; given = refl }, λ t q. refl))
-map-once may m d request (asks.Map dom gref flags) _ result once is said e = absurd once
-map-once may m d request _ verdict result once is said e = absurd is
-
-pub map-settled : {P : Type 0} (may : P → Rights) (m : Monitor P) (d d' e : Domain) (request : Request) (dom : DomId) (gref : GrantRef) (flags : ℕ) (verdict : Verdict) (h : Option Handle) (result : Result Handle Denial)
-    → d'.mappings ≡ record d.mappings { room = d'.mappings.room } → d'.seat ≡ d.seat → Answered may m d request verdict e → IsAnswerTo (asks.Map dom gref flags) verdict → Settles (asks.Map dom gref flags) verdict h d' e → result ≡ mapped_by verdict h
-    → MapAnswered may m d request result e
-map-settled may m d d' e request dom gref flags (Refused denial) h result room seat said a s r =
-    subst (λ (x : Result Handle Denial). MapAnswered may m d request x e) (sym r)
-    (inl said, (record { slots = s.0.slots ∙ ap (λ (z : Kept Held). z.slots) room; given = s.0.given ∙ ap (λ (z : Kept Held). z.given) room }, subst (λ (z : SeatOf). KeepsPins z.view e.seat.view) seat s.1))
-map-settled may m d d' e request dom gref flags (Mapped p) (Some h) result room seat said a s r =
-    subst (λ (x : Result Handle Denial). MapAnswered may m d request x e) (sym r)
-    (p, said, record { serial = s.serial ∙ ap (λ (z : Kept Held). z.given) room; inserted = roomier-inserted d'.mappings d.mappings e.mappings h p room s.inserted; spent = λ other was. subst (λ (z : Kept Held). KeepsSpent z e.mappings) room s.spent other (record { given = was.given; gone = was.gone }) })
-map-settled may m d d' e request dom gref flags (Mapped p) None result room seat said a s r = absurd s
-map-settled may m d d' e request dom gref flags Granted h result room seat said a s r = absurd a
-map-settled may m d d' e request dom gref flags (Given value) h result room seat said a s r = absurd a

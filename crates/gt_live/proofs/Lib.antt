@@ -4,12 +4,13 @@ pub mod Walking
 pub mod Rules
 pub mod Counting
 pub mod Can
-pub mod Accessing
 pub mod Advancing
 pub mod RowsKept
 pub mod Kept
 pub mod Knowing
 pub mod Once
+pub mod Accessing
+pub mod Maps
 pub mod NewDomain
 pub mod Taking
 pub mod Copying

@@ -30,7 +30,7 @@ use Rattle.gt_calls.specs.declared.request.CopyArgs.{CopyArgs}
 use Rattle.gt_types.specs.declared.denial.Denial.{Denial}
 use Rattle.gt_calls.specs.declared.action.Verdict.TheVariants.{Given, Mapped}
 use Rattle.gt_calls.specs.Rules.{copy_begun, ends_framed, ends_named, ends_owned, ends_ranged, frames_of, is_dest_granted, is_for_reading, is_foreign, is_past_frames, is_source_granted, own_access_begun, rights_to_copy, via_judged, CallerKnowledge, cannot_stand, change_begun, query_begun, denied, first, given_when, granted_when, has_valid, is_already, is_invalid, is_version, map_dir, refused_when, rights_to_map, rights_to_query, rights_to_setup, rights_to_unmap, unmap_denied}
-use Rattle.gt_live.specs.Ending.{IsAccessing, IsAtOnce, IsWordless, WaitsForNobody}
+use Rattle.gt_live.specs.Ending.{IsAccessing, IsAtOnce, IsOfMapping, IsWordless, WaitsForNobody}
 
 module _ (r : Asked) where
   -- not answered, or answered as this request may be at once
@@ -144,6 +144,23 @@ module _ (k : CallerKnowledge) (caller : DomId) where
   only-refused (asks.Poke frame off len) (Mapped p) is at = absurd at
   only-refused (asks.Copy c) (Mapped p) is at = absurd at
   only-refused _ _ is at = absurd is
+
+  -- nor of those that map or unmap
+  pub mapping-refused : (request : Request) (verdict : Verdict) → IsOfMapping (asked request)
+      → WaitsForNobody (asked request) → begun_of k caller request ≡ Some verdict
+      → (denial : Denial) × (verdict ≡ Refused denial) × IsWordless denial.facts
+  mapping-refused request verdict is waits e = by (asked request) verdict is (answered-once request verdict waits e)
+    where
+      by : (r : Asked) (verdict : Verdict) → IsOfMapping r → IsAtOnce r verdict
+          → (denial : Denial) × (verdict ≡ Refused denial) × IsWordless denial.facts
+      by r (Refused denial) is at = (denial, refl, at)
+      by (asks.Map dom gref flags) Granted is at = absurd at
+      by (asks.Map dom gref flags) (Given value) is at = absurd at
+      by (asks.Map dom gref flags) (Mapped p) is at = absurd at
+      by (asks.Unmap handle) Granted is at = absurd at
+      by (asks.Unmap handle) (Given value) is at = absurd at
+      by (asks.Unmap handle) (Mapped p) is at = absurd at
+      by _ _ is at = absurd is
 
   once-own : (r : Asked) (frame off len : ℕ) → MayBe r (own_access_begun k.domains caller frame off len)
   once-own r frame off len =

@@ -89,10 +89,14 @@ Accesses may m d request tells result e = AnsweredBy m.words.layout (path_of (kn
 abbrev pub KeepsPinned : Domain → Domain → Type 0
 KeepsPinned d e = KeepsMappings d.mappings e.mappings × KeepsPins d.seat.view e.seat.view
 
+-- the refusal of an answer; Ok, where there is none (own)
+abbrev pub outcome_of : {R : Type 0} → Result R Denial → Verdict
+outcome_of (Ok value) = Granted
+outcome_of (Err denial) = Refused denial
+
 -- the answer that a verdict gives to a call without a value (own)
 abbrev pub verdict_of : Result (Unit {0}) Denial → Verdict
-verdict_of (Ok done) = Granted
-verdict_of (Err denial) = Refused denial
+verdict_of result = outcome_of result
 
 -- the same of a call that answers a version (grant_table.h)
 abbrev pub verdict_of_version : Result ℕ Denial → Verdict
@@ -142,18 +146,6 @@ pub record IsUnsettled (d e : Domain) : Type 0 where
   pub mappings : e.mappings ≡ d.mappings
   pub trail : e.trail ≡ d.trail
 
--- there is room for the mapping that a map makes (own)
-abbrev pub HasRoomFor : Asked → Kept Held → Type 0
-HasRoomFor (asks.Map dom gref flags) kept = 1 ≤ kept.room
-HasRoomFor request kept = Unit {0}
-
--- what a call that was answered so made of the mappings: a map added one, an unmap took its own, and all else left mappings and pins as they were (own)
-abbrev pub Settles : Asked → Verdict → Option Handle → Domain → Domain → Type 0
-Settles (asks.Map dom gref flags) (Mapped p) (Some handle) d e = Adds d.mappings e.mappings handle p
-Settles (asks.Map dom gref flags) (Mapped p) None d e = ⊥
-Settles (asks.Unmap handle) Granted other d e = (p : Held) × Removes d.mappings e.mappings handle p
-Settles request verdict handle d e = KeepsPinned d e
-
 -- Ok, or the refusal (own)
 abbrev pub done_by : Verdict → Result (Unit {0}) Denial
 done_by (Refused denial) = Err denial
@@ -194,12 +186,6 @@ pub record HasLeft (k : Layout) (d : Domain) (l : Left) : Type 0 where
   pub records : l.trail ≡ d.trail
   pub no_pins : (t r : ℕ) → pins (steps_on t r l.seat.view) ≡ []
 
--- the handle that a map is answered with, or its refusal (own)
-abbrev pub mapped_by : Verdict → Option Handle → Result Handle Denial
-mapped_by (Refused denial) handle = Err denial
-mapped_by verdict (Some handle) = Ok handle
-mapped_by verdict None = Err (denial_of N26 NoFacts)
-
 -- the refusal of a call that was refused (own)
 abbrev pub refusal_of : Verdict → Denial
 refusal_of (Refused denial) = denial
@@ -221,8 +207,7 @@ reply_of (Refused denial) = replies.Denied denial
 
 -- what a record keeps of a map's answer (own)
 abbrev pub mapping_reply : Result Handle Denial → Reply
-mapping_reply (Ok handle) = replies.Done
-mapping_reply (Err denial) = replies.Denied denial
+mapping_reply result = reply_of (outcome_of result)
 
 -- the answer that a reply tells (own)
 abbrev pub told_by : Reply → Verdict
@@ -236,11 +221,6 @@ told_by (replies.Denied denial) = Refused denial
 abbrev pub without_mapping : Verdict → Verdict
 without_mapping (Mapped p) = Granted
 without_mapping verdict = verdict
-
--- the refusal of an answer; Ok, where there is none (own)
-abbrev pub outcome_of : {R : Type 0} → Result R Denial → Verdict
-outcome_of (Ok value) = Granted
-outcome_of (Err denial) = Refused denial
 
 -- the record of a call of this domain, which was answered so (own)
 abbrev pub told_of : Domain → Hypercall → Verdict → Record
@@ -257,8 +237,7 @@ subject_of d handle = subject_in (value_of d.mappings handle)
 
 -- what a record keeps of a copy's answer (own)
 abbrev pub copy_reply : Result Copying Denial → Reply
-copy_reply (Ok copied) = replies.Done
-copy_reply (Err denial) = replies.Denied denial
+copy_reply result = reply_of (outcome_of result)
 
 -- what a record keeps of an end of a copy (own)
 abbrev pub told_end : End → CopyEnd

@@ -45,6 +45,12 @@ abbrev pub IsMap : Asked → Type 0
 IsMap (asks.Map dom gref flags) = Unit {0}
 IsMap request = ⊥
 
+-- the request takes a mapping, or gives one up (own)
+abbrev pub IsOfMapping : Asked → Type 0
+IsOfMapping (asks.Map dom gref flags) = Unit {0}
+IsOfMapping (asks.Unmap handle) = Unit {0}
+IsOfMapping request = ⊥
+
 -- the request changes an entry of the caller's own (own)
 abbrev pub IsOwnChange : Asked → Type 0
 IsOwnChange (asks.Grant gref entry) = Unit {0}

@@ -3,6 +3,7 @@ pub mod Accesses
 pub mod Mappings
 pub mod Ending
 pub mod Effects
+pub mod Maps
 pub mod Driving
 pub mod Underway
 pub mod Rows

@@ -5,8 +5,8 @@ ghost use Rattle.gt_calls.specs.Following.{Starts};
 ghost use Rattle.gt_calls.specs.Path.{path};
 ghost use Rattle.gt_words.specs.Conditions.{IsSameSeat};
 ghost use Rattle.gt_live.specs.Rows.{row_changed};
-ghost use Rattle.gt_live.specs.Ending.{IsAnswerTo, IsMap, WaitsForNobody};
-ghost use Rattle.gt_live.specs.Domains.{Answered, IsOf, done_by, known, mapped_by, mapping_reply, outcome_of};
+ghost use Rattle.gt_live.specs.Ending.{IsAnswerTo, IsOfMapping, WaitsForNobody};
+ghost use Rattle.gt_live.specs.Domains.{Answered, IsOf, done_by, known, outcome_of, refusal_of};
 ghost use Rattle.gt_live.specs.Domains.{reply_of, told_by, version_told, size_told, frames_told, without_mapping};
 ghost use Rattle.gt_live.specs.Walks.{Called};
 ghost use Rattle.gt_live.specs.Driving.{Leaves};
@@ -15,14 +15,17 @@ ghost use Rattle.gt_live.specs.Effects.{Answers};
 mod bytes;
 mod copies;
 
-use crate::driving::{Effect, Finished, drive};
+use crate::driving::{Effect, Finished, drive, drive_map, pin_of};
 use crate::monitor::Monitor;
 use gt_access::{Refused, Run, read_by, write_by};
 use gt_audit::{Hypercall, Record, Reply, Trail};
-use gt_calls::{Call, Handle, Handles, Held, Known, Own, Request, Route, Start, Value, Verdict};
+use gt_calls::{
+    Call, Handle, Handles, Held, Known, Own, Request, Route, Start, Value, Verdict, judge_map,
+    judge_unmap,
+};
 use gt_entry::{Change, Entry};
 use gt_types::{Allows, Denial, DomId, Facts, GrantRef, Rule, Size};
-use gt_words::{Pin, Seat};
+use gt_words::Seat;
 use std::alloc::Global;
 
 /// A domain of the run: its seat, and what it knows by itself.
@@ -57,13 +60,6 @@ impl Left {
     {
         self.trail.lost()
     }
-}
-
-/// How a call is answered, and the handle that a map is given.
-#[derive(Clone, Copy)]
-pub struct Answer {
-    verdict: Verdict,
-    handle: Option<Handle>,
 }
 
 // Changes an owner's row of an entry, if it has one.
@@ -119,14 +115,13 @@ fn frames_told(verdict: Verdict) -> Result<u32, Denial>
     }
 }
 
-// The handle that a map is answered with, or its refusal.
-fn mapped(verdict: Verdict, handle: Option<Handle>) -> Result<Handle, Denial>
-    ensures { result ≡ mapped_by verdict handle }
+// The refusal of a call that was refused.
+fn refusal_of(verdict: Verdict) -> Denial
+    ensures { result ≡ refusal_of verdict }
 {
-    match (verdict, handle) {
-        (Verdict::Refused(denial), _) => Err(denial),
-        (_, Some(handle)) => Ok(handle),
-        (_, None) => Err(Denial::new(Rule::N26, Facts::None)),
+    match verdict {
+        Verdict::Refused(denial) => denial,
+        _ => Denial::new(Rule::N26, Facts::None),
     }
 }
 
@@ -144,22 +139,25 @@ fn reply_of(verdict: Verdict) -> Reply
     }
 }
 
-// What a record keeps of a map's answer.
-fn mapping_reply(answer: Result<Handle, Denial>) -> Reply
-    ensures reply { result ≡ mapping_reply answer }
-    ensures tells { told_by result ≡ outcome_of answer }
+// What a record keeps of an answer that is Ok, or a refusal.
+fn outcome_reply<T>(answer: &Result<T, Denial>) -> Reply
+    ensures reply { result ≡ reply_of (outcome_of answer.now) }
+    ensures tells { told_by result ≡ outcome_of answer.now }
 {
     match answer {
         Ok(_) => Reply::Done,
-        Err(denial) => Reply::Denied(denial),
+        Err(denial) => Reply::Denied(*denial),
     }
 }
 
 impl Domain {
     ghost use Rattle.std.specs.Prelude.{◌≡◌, ◌≤◌, ℕ, List, [], OnOk, OnErr, IfOk, IfErr, IfSome, None, Some};
     ghost use Rattle.gt_audit.specs.Telling.{Tells};
-    ghost use Rattle.gt_live.specs.Domains.{mapping_reply, subject_of, told_of, Answered, HasLeft, HasRoomFor, IsOf};
-    ghost use Rattle.gt_live.specs.Domains.{IsOpened, IsUnsettled, KeepsPinned, MapAnswered, Released, Settles};
+    ghost use Rattle.gt_live.specs.Domains.{mapping_reply, subject_of, told_of, Answered, HasLeft, IsOf};
+    ghost use Rattle.gt_live.specs.Domains.{IsOpened, IsUnsettled, KeepsPinned, MapAnswered, Released};
+    ghost use Rattle.gt_live.specs.Maps.{pin_effect, pin_verdict};
+    ghost use Rattle.gt_calls.specs.Rules.{knows, map_begun, unmap_begun};
+    ghost use Rattle.gt_calls.specs.declared.request.Asked.TheVariants as asks;
     ghost use Rattle.gt_live.specs.Domains.{known, verdict_of, verdict_of_frames, verdict_of_size};
     ghost use Rattle.gt_live.specs.Domains.{verdict_of_version};
     ghost use Rattle.gt_live.specs.Mappings.{ReachesItsFrame, Removes};
@@ -214,18 +212,24 @@ impl Domain {
         self.mappings.get(handle).copied()
     }
 
-    // Judges a call at its beginning.
-    fn begin<P: Allows>(&self, monitor: &Monitor<P>, request: Request<'_>) -> Start
-        ensures { Starts (known P.may monitor.now self.now) self.now.seat.dom request.entry result }
+    // What it knows by itself, and what the monitor allows.
+    fn known<'a, P: Allows>(&'a self, monitor: &'a Monitor<P>) -> Known<'a, P>
+        ensures { knows P.may result ≡ known P.may monitor.now self.now }
     {
-        let known = Known {
+        Known {
             config: &monitor.config,
             rights: &monitor.rights,
             own: &self.own,
             header: self.seat.header(),
             mappings: &self.mappings,
-        };
-        Call::begin(self.seat.dom(), request, &known)
+        }
+    }
+
+    // Judges a call at its beginning.
+    fn begin<P: Allows>(&self, monitor: &Monitor<P>, request: Request<'_>) -> Start
+        ensures { Starts (known P.may monitor.now self.now) self.now.seat.dom request.entry result }
+    {
+        Call::begin(self.seat.dom(), request, &self.known(monitor))
     }
 
     // Drives an open call to its end.
@@ -251,70 +255,41 @@ impl Domain {
         drive(&monitor.words, &known, &mut self.seat, call)
     }
 
-    // Drives an open call to its end, and keeps what it did.
-    fn run<P: Allows>(&mut self, monitor: &Monitor<P>, call: &mut Call) -> Answer
+    // Drives an open call to its end, and keeps what it changed. It neither maps nor unmaps.
+    fn run<P: Allows>(&mut self, monitor: &Monitor<P>, call: &mut Call) -> Verdict
         requires mine { IsOf P.may monitor.now self.old }
         requires opened { IsOpened (known P.may monitor.now self.old) self.old.seat.dom call.old }
-        requires waits { WaitsForNobody call.old.request }
-        requires room { HasRoomFor call.old.request self.old.mappings }
+        requires waits { WaitsForNobody call.old.request × (IsOfMapping call.old.request → ⊥) }
         ensures mine { IsOf P.may monitor.now self.new }
         ensures seat { IsSameSeat self.old.seat self.new.seat }
         ensures called { Called monitor.now.words.layout
             (path (known P.may monitor.now self.old) self.old.seat.dom call.old.request)
-            result.verdict self.old.seat.view self.new.seat.view }
-        ensures answer { IsAnswerTo call.old.request result.verdict }
-        ensures settled { Settles call.old.request result.verdict result.handle self.old self.new }
+            result self.old.seat.view self.new.seat.view }
+        ensures answer { IsAnswerTo call.old.request result }
+        ensures kept { KeepsPinned self.old self.new }
         ensures silent { self.new.trail ≡ self.old.trail }
     {
         let finished = self.drive(monitor, call);
-        let verdict = finished.verdict;
-        match finished.effect {
-            Effect::Pinned(held) => {
-                let handle = self.mappings.insert(held);
-                Answer {
-                    verdict,
-                    handle: Some(handle),
-                }
-            }
-            Effect::Unpinned(handle) => {
-                self.mappings.take(handle);
-                Answer {
-                    verdict,
-                    handle: None,
-                }
-            }
-            Effect::Changed(gref, change) => {
-                change_row(&mut self.own, gref, change);
-                Answer {
-                    verdict,
-                    handle: None,
-                }
-            }
-            Effect::Nothing => Answer {
-                verdict,
-                handle: None,
-            },
-            Effect::Stored => Answer {
-                verdict,
-                handle: None,
-            },
+        if let Effect::Changed(gref, change) = finished.effect {
+            change_row(&mut self.own, gref, change);
         }
+        finished.verdict
     }
 
-    // Makes a call that takes no memory.
+    // Makes a call that takes no memory, and neither maps nor unmaps.
     fn call<P: Allows>(&mut self, monitor: &Monitor<P>, request: Request<'_>) -> Verdict
         requires mine { IsOf P.may monitor.now self.old }
-        requires waits { WaitsForNobody (asked request) × (IsMap (asked request) → ⊥) }
+        requires waits { WaitsForNobody (asked request) × (IsOfMapping (asked request) → ⊥) }
         ensures mine { IsOf P.may monitor.now self.new }
         ensures seat { IsSameSeat self.old.seat self.new.seat }
         ensures answered { Answered P.may monitor.now self.old request.entry result self.new }
         ensures answer { IsAnswerTo (asked request.entry) result }
-        ensures settled { Settles (asked request.entry) result None self.old self.new }
+        ensures kept { KeepsPinned self.old self.new }
         ensures silent { self.new.trail ≡ self.old.trail }
     {
         match self.begin(monitor, request) {
             Start::Done(verdict) => verdict,
-            Start::Open(mut call) => self.run(monitor, &mut call).verdict,
+            Start::Open(mut call) => self.run(monitor, &mut call),
         }
     }
 
@@ -336,12 +311,12 @@ impl Domain {
         call: Hypercall,
     ) -> Verdict
         requires mine { IsOf P.may monitor.now self.old }
-        requires waits { WaitsForNobody (asked request) × (IsMap (asked request) → ⊥) }
+        requires waits { WaitsForNobody (asked request) × (IsOfMapping (asked request) → ⊥) }
         ensures mine { IsOf P.may monitor.now self.new }
         ensures seat { IsSameSeat self.old.seat self.new.seat }
         ensures answered { Answered P.may monitor.now self.old request.entry result self.new }
         ensures answer { IsAnswerTo (asked request.entry) result }
-        ensures settled { Settles (asked request.entry) result None self.old self.new }
+        ensures kept { KeepsPinned self.old self.new }
         ensures told { Tells self.old.trail (told_of self.old call result) self.new.trail }
     {
         let verdict = self.call(monitor, request);
@@ -527,6 +502,42 @@ impl Domain {
         version_told(self.told_call(monitor, Request::GetVersion { dom }, call))
     }
 
+    // Drives a map that no rule answered at its beginning to its end.
+    fn drive_map<P: Allows>(
+        &mut self,
+        monitor: &Monitor<P>,
+        dom: DomId,
+        gref: GrantRef,
+        flags: u32,
+    ) -> Result<Held, Denial>
+        requires mine { IsOf P.may monitor.now self.old }
+        requires unanswered { map_begun (known P.may monitor.now self.old) self.old.seat.dom dom flags ≡ None }
+        ensures kept { IsUnsettled self.old self.new }
+        ensures called { Called monitor.now.words.layout
+            (path (known P.may monitor.now self.old) self.old.seat.dom (asks.Map dom gref flags))
+            (pin_verdict result) self.old.seat.view self.new.seat.view }
+        ensures leaves { Leaves (known P.may monitor.now self.old) monitor.now.words.layout
+            self.old.seat.dom (asks.Map dom gref flags) self.old.seat.view self.new.seat.view (pin_effect result) }
+    {
+        let known = Known {
+            config: &monitor.config,
+            rights: &monitor.rights,
+            own: &self.own,
+            header: self.seat.header(),
+            mappings: &self.mappings,
+        };
+        let caller = self.seat.dom();
+        drive_map(
+            &monitor.words,
+            &known,
+            &mut self.seat,
+            caller,
+            dom,
+            gref,
+            flags,
+        )
+    }
+
     // Maps an entry, without a record.
     fn make_mapping<P: Allows>(
         &mut self,
@@ -541,15 +552,16 @@ impl Domain {
         ensures answered { MapAnswered P.may monitor.now self.old (Request.Map dom gref flags) result self.new }
         ensures silent { self.new.trail ≡ self.old.trail }
     {
-        let mut call = match self.begin(monitor, Request::Map { dom, gref, flags }) {
-            Start::Done(verdict) => return mapped(verdict, None),
-            Start::Open(call) => call,
-        };
+        if let Some(verdict) = self.judge_map(monitor, dom, flags) {
+            return Err(refusal_of(verdict));
+        }
         if self.mappings.reserve().is_err() {
             return Err(Denial::new(Rule::N26, Facts::None));
         }
-        let answer = self.run(monitor, &mut call);
-        mapped(answer.verdict, answer.handle)
+        match self.drive_map(monitor, dom, gref, flags) {
+            Ok(held) => Ok(self.mappings.insert(held)),
+            Err(denial) => Err(denial),
+        }
     }
 
     /// Maps an entry of a domain, for reading and writing (flags 2) or for reading (flags 6).
@@ -575,9 +587,41 @@ impl Domain {
         let result = self.make_mapping(monitor, dom, gref, flags);
         let call = Hypercall::Map { dom, gref, flags };
         let dom = self.seat.dom();
-        let reply = mapping_reply(result);
+        let reply = outcome_reply(&result);
         self.trail.push(Record { dom, call, reply });
         result
+    }
+
+    // The verdict at the beginning of a map, if one is given there.
+    fn judge_map<P: Allows>(&self, monitor: &Monitor<P>, dom: DomId, flags: u32) -> Option<Verdict>
+        ensures { result ≡ map_begun (known P.may monitor.now self.now) self.now.seat.dom dom flags }
+    {
+        judge_map(&self.known(monitor), self.seat.dom(), dom, flags)
+    }
+
+    // The verdict at the beginning of an unmap, if one is given there.
+    fn judge_unmap<P: Allows>(&self, monitor: &Monitor<P>, handle: Handle) -> Option<Verdict>
+        ensures { result ≡ unmap_begun (known P.may monitor.now self.now) self.now.seat.dom handle }
+    {
+        judge_unmap(&self.known(monitor), self.seat.dom(), handle)
+    }
+
+    // Gives a mapping up, without a record.
+    fn give_up<P: Allows>(&mut self, monitor: &Monitor<P>, handle: Handle) -> Result<(), Denial>
+        requires mine { IsOf P.may monitor.now self.old }
+        ensures mine { IsOf P.may monitor.now self.new }
+        ensures seat { IsSameSeat self.old.seat self.new.seat }
+        ensures answered { Answered P.may monitor.now self.old (Request.Unmap handle) (verdict_of result) self.new }
+        ensures removed { OnOk result ((p : Held) × Removes self.old.mappings self.new.mappings handle p) }
+        ensures refused { OnErr result (KeepsPinned self.old self.new) }
+        ensures silent { self.new.trail ≡ self.old.trail }
+    {
+        if let Some(verdict) = self.judge_unmap(monitor, handle) {
+            return Err(refusal_of(verdict));
+        }
+        let held = self.mappings.take(handle).unwrap();
+        monitor.words.unpin(&mut self.seat, pin_of(held));
+        Ok(())
     }
 
     /// Gives a mapping up, and its pin back.
@@ -595,8 +639,12 @@ impl Domain {
             (told_of self.old (Hypercall.Unmap (subject_of self.old handle)) (verdict_of result)) self.new.trail }
     {
         let subject = self.subject(handle);
+        let result = self.give_up(monitor, handle);
         let call = Hypercall::Unmap { subject };
-        done(self.told_call(monitor, Request::Unmap { handle }, call))
+        let dom = self.seat.dom();
+        let reply = outcome_reply(&result);
+        self.trail.push(Record { dom, call, reply });
+        result
     }
 
     // Gives each mapping's pin back.
@@ -610,13 +658,7 @@ impl Domain {
         ensures silent { self.new.trail ≡ self.old.trail }
     {
         'mappings: while let Some((_, held)) = self.mappings.pop() {
-            let pin = Pin {
-                dom: held.dom,
-                gref: held.gref,
-                word: held.word,
-                dir: held.dir,
-            };
-            monitor.words.unpin(&mut self.seat, pin);
+            monitor.words.unpin(&mut self.seat, pin_of(held));
         }
     }
 

@@ -1,25 +1,29 @@
 //! A call driven along its path, each of its steps made on the words.
 ghost use Rattle.std.specs.Prelude.{◌≡◌, ◌<◌, None, Some, [], ◌∷◌};
-ghost use Rattle.gt_calls.specs.Rules.{knows};
+ghost use Rattle.gt_calls.specs.Rules.{knows, map_begun};
 ghost use Rattle.gt_calls.specs.Path.{path};
 ghost use Rattle.gt_calls.specs.Following.{MakesStep};
 ghost use Rattle.gt_calls.specs.Standing.{IsFresh};
+ghost use Rattle.gt_calls.specs.Machine.{leg_step};
 ghost use Rattle.gt_words.specs.Conditions.{IsSeatOf, IsSameSeat};
 ghost use Rattle.gt_live.specs.Walks.{Made, Called};
 ghost use Rattle.gt_live.specs.Effects.{Answers, effect_of};
 ghost use Rattle.gt_live.specs.Ending.{IsAnswerTo, WaitsForNobody};
 ghost use Rattle.gt_live.specs.Driving.{CanMake, Knows, Leaves};
 ghost use Rattle.gt_live.specs.Underway.{AreOfRun, GivesBack, HasTaken, Stops};
+ghost use Rattle.gt_live.specs.Maps.{pin_effect, pin_of, pin_verdict};
 ghost use Rattle.gt_words.specs.declared.view.View.{View};
 ghost use Rattle.gt_calls.specs.declared.call.Phase.TheVariants.{Accessing};
 ghost use Rattle.gt_calls.specs.declared.request.Asked.TheVariants as asks;
 ghost use Rattle.gt_calls.specs.declared.request.CopyArgs.{CopyArgs};
 ghost use Rattle.gt_calls.specs.Standing.{held_by_call, pins_by_call};
 
-use gt_calls::{Action, Call, Held, Holder, Known, Place, Seen, Step, Verdict};
+use gt_calls::{
+    Action, Call, Half, Held, Holder, Known, LegNext, LegPhase, MapCall, Place, Seen, Step, Verdict,
+};
 use gt_entry::{Change, Header};
 use gt_handles::Handle;
-use gt_types::{Allows, GrantRef};
+use gt_types::{Allows, Denial, DomId, GrantRef};
 use gt_words::{Pin, Seat, Words};
 
 /// What the last step of a call did, beyond looking.
@@ -63,6 +67,18 @@ fn header_with(version: u32, frames: u32) -> Header
     }
 }
 
+// The pin that is held, as the words know it.
+pub(crate) fn pin_of(held: Held) -> Pin
+    ensures { result ≡ pin_of held }
+{
+    Pin {
+        dom: held.dom,
+        gref: held.gref,
+        word: held.word,
+        dir: held.dir,
+    }
+}
+
 // Makes a step of a call on the words. It stands apart, so that the step is not taken out of its place.
 #[inline(never)]
 fn perform(words: &Words, seat: &mut Seat, step: &Step) -> Seen
@@ -80,13 +96,7 @@ fn perform(words: &Words, seat: &mut Seat, step: &Step) -> Seen
             Err(found) => Seen::Missed(found),
         },
         Step::Unpin { held, .. } => {
-            let pin = Pin {
-                dom: held.dom,
-                gref: held.gref,
-                word: held.word,
-                dir: held.dir,
-            };
-            words.unpin(seat, pin);
+            words.unpin(seat, pin_of(held));
             Seen::Nothing
         }
         Step::StoreBody { gref, half, word } => {
@@ -182,6 +192,60 @@ pub(crate) fn drive<P: Allows>(
                 tell_effect(step, seen, &mut effect);
                 action = call.next(known, seen);
             }
+        }
+    }
+}
+
+// Makes the step of a map's leg on the words.
+#[inline(always)]
+fn try_step(words: &Words, seat: &mut Seat, call: &MapCall) -> Seen
+    requires seat { IsSeatOf words.now seat.old }
+    requires can { CanMake words.now.layout seat.old.view (leg_step call.now.leg call.now.at) }
+    ensures seat { IsSameSeat seat.old seat.new }
+    ensures made { Made words.now.layout (leg_step call.now.leg call.now.at) result seat.old.view seat.new.view }
+{
+    let (dom, gref) = (call.leg.dom, call.leg.gref);
+    match call.at {
+        LegPhase::Header => Seen::Word(words.load_header(seat, dom)),
+        LegPhase::Look { .. } | LegPhase::Relook { .. } => {
+            Seen::Word(words.load_control(seat, dom, gref))
+        }
+        LegPhase::Body { .. } => Seen::Word(words.load_body(seat, dom, gref, Half::First)),
+        LegPhase::Second { .. } => Seen::Word(words.load_body(seat, dom, gref, Half::Second)),
+        LegPhase::Pinning { word, .. } => match words.pin(seat, dom, gref, word, call.leg.dir) {
+            Ok(_) => Seen::Taken,
+            Err(found) => Seen::Missed(found),
+        },
+    }
+}
+
+// Drives a map that no rule answered at its beginning to its end: the pin that it took, or its refusal. Most calls of a
+// run are maps, so it makes room for the map's leg alone.
+pub(crate) fn drive_map<P: Allows>(
+    words: &Words,
+    known: &Known<'_, P>,
+    seat: &mut Seat,
+    caller: DomId,
+    dom: DomId,
+    gref: GrantRef,
+    flags: u32,
+) -> Result<Held, Denial>
+    requires seat { IsSeatOf words.now seat.old }
+    requires unanswered { map_begun (knows P.may known.now) caller dom flags ≡ None }
+    requires knows { Knows (knows P.may known.now) words.now.layout caller seat.old.view }
+    ensures seat { IsSameSeat seat.old seat.new }
+    ensures called { Called words.now.layout (path (knows P.may known.now) caller (asks.Map dom gref flags))
+        (pin_verdict result) seat.old.view seat.new.view }
+    ensures leaves { Leaves (knows P.may known.now) words.now.layout caller (asks.Map dom gref flags)
+        seat.old.view seat.new.view (pin_effect result) }
+{
+    let mut call = MapCall::open(known, caller, dom, gref, flags);
+    'steps: loop {
+        let seen = try_step(words, seat, &call);
+        match call.next(seen) {
+            LegNext::Going(at) => call.at = at,
+            LegNext::Refused(denial) => return Err(denial),
+            LegNext::Pinned(held) => return Ok(held),
         }
     }
 }

@@ -5,28 +5,17 @@ ghost use Rattle.gt_types.specs.declared.Use.TheVariants as uses;
 ghost use Rattle.gt_words.specs.Conditions.{IsSameSeat, IsSeatOf};
 ghost use Rattle.gt_access.specs.Accesses.{IsReadOf, writing_at};
 ghost use Rattle.gt_access.specs.Routes.{MayAccess, Reaches};
-ghost use Rattle.gt_calls.specs.Asking.{asked};
+ghost use Rattle.gt_calls.specs.declared.request.Request.TheVariants as requests;
 ghost use Rattle.gt_live.specs.Accesses.{IsOfAccess, IsReadBy, IsWrittenBy};
-ghost use Rattle.gt_live.specs.Domains.{Accesses, IsOf, IsRefused, KeepsPinned, Opens, known, not_made, refusal_of};
-ghost use Rattle.gt_live.specs.Ending.{IsAccessing};
+ghost use Rattle.gt_live.specs.Domains.{Accesses, IsOf, KeepsPinned, not_made};
 
-use super::Domain;
+use super::{Domain, refusal_of};
 use crate::monitor::Monitor;
 use gt_access::{Refused, Run, read_by, write_by};
-use gt_calls::{Call, Handle, Request, Route, Start, Verdict};
+use gt_calls::{Handle, Route, judge_load, judge_own_access, judge_store};
 use gt_frames::{FrameName, Read, Written};
-use gt_types::{Allows, Denial, Facts, Rule};
+use gt_types::{Allows, Denial, Facts, Range, Rule};
 use std::sync::Wait;
-
-// The refusal of a call that was refused.
-pub(super) fn refusal_of(verdict: Verdict) -> Denial
-    ensures { result ≡ refusal_of verdict }
-{
-    match verdict {
-        Verdict::Refused(denial) => denial,
-        _ => Denial::new(Rule::N26, Facts::None),
-    }
-}
 
 // How an access that was not made is refused.
 pub(super) fn not_made(refused: Refused) -> Denial
@@ -39,24 +28,6 @@ pub(super) fn not_made(refused: Refused) -> Denial
 }
 
 impl Domain {
-    // Judges a call that makes an access.
-    pub(super) fn judge<P: Allows>(
-        &self,
-        monitor: &Monitor<P>,
-        request: Request<'_>,
-    ) -> Result<Call, Denial>
-        requires { IsAccessing (asked request) }
-        ensures opened { IfOk result
-            (λ call. Opens (known P.may monitor.now self.now) self.now.seat.dom request.entry call) }
-        ensures refused { IfErr result
-            (λ denial. IsRefused (known P.may monitor.now self.now) self.now.seat.dom request.entry denial) }
-    {
-        match self.begin(monitor, request) {
-            Start::Open(call) => Ok(call),
-            Start::Done(verdict) => Err(refusal_of(verdict)),
-        }
-    }
-
     // Reads a range of a frame that this route leads to.
     fn read_through<R: Wait, P: Allows>(
         &self,
@@ -74,7 +45,7 @@ impl Domain {
         ensures read { IfOk result (λ r. IsReadOf r name off len) }
         ensures refused { IfErr result IsOfAccess }
     {
-        let Ok(out) = vec![in self.alloc; 0u8; usize::from(len)] else {
+        let Ok(room) = Vec::with_capacity(self.alloc, usize::from(len)) else {
             return Err(not_made(Refused::Memory));
         };
         let run = Run {
@@ -83,7 +54,7 @@ impl Domain {
             rights: &monitor.rights,
             pool: &monitor.pool,
         };
-        match read_by(rt, &run, &self.seat, route, name, off, out) {
+        match read_by(rt, &run, &self.seat, route, name, Range { off, len }, room) {
             Some(read) => Ok(read),
             None => Err(not_made(Refused::Gone)),
         }
@@ -134,12 +105,12 @@ impl Domain {
         requires mine { IsOf P.may monitor.now self.old }
         ensures mine { IsOf P.may monitor.now self.new }
         ensures seat { IsSameSeat self.old.seat self.new.seat }
-        ensures answered { Accesses P.may monitor.now self.old (Request.Load handle off len) IsReadBy result self.new }
+        ensures answered { Accesses P.may monitor.now self.old (requests.Load handle off len) IsReadBy result self.new }
         ensures kept { KeepsPinned self.old self.new }
         ensures silent { self.new.trail ≡ self.old.trail }
     {
-        if let Err(denial) = self.judge(monitor, Request::Load { handle, off, len }) {
-            return Err(denial);
+        if let Some(verdict) = judge_load(&self.mappings, handle, off, len) {
+            return Err(refusal_of(verdict));
         }
         let held = *self.mappings.get(handle).unwrap();
         let name = FrameName {
@@ -164,15 +135,17 @@ impl Domain {
         requires mine { IsOf P.may monitor.now self.old }
         ensures mine { IsOf P.may monitor.now self.new }
         ensures seat { IsSameSeat self.old.seat self.new.seat }
-        ensures answered { Accesses P.may monitor.now self.old (Request.Peek frame off len) IsReadBy result self.new }
+        ensures answered { Accesses P.may monitor.now self.old (requests.Peek frame off len) IsReadBy result self.new }
         ensures kept { KeepsPinned self.old self.new }
         ensures silent { self.new.trail ≡ self.old.trail }
     {
-        if let Err(denial) = self.judge(monitor, Request::Peek { frame, off, len }) {
-            return Err(denial);
+        let caller = self.seat.dom();
+        let domains = &monitor.config.domains;
+        if let Some(verdict) = judge_own_access(domains, caller, frame, off, usize::from(len)) {
+            return Err(refusal_of(verdict));
         }
         let name = FrameName {
-            owner: self.seat.dom(),
+            owner: caller,
             number: frame,
         };
         self.read_through(rt, monitor, Route::Own, name, off, len)
@@ -194,12 +167,12 @@ impl Domain {
         ensures mine { IsOf P.may monitor.now self.new }
         ensures seat { IsSameSeat self.old.seat self.new.seat }
         ensures answered { Accesses P.may monitor.now self.old
-            (Request.Store handle off bytes.entry) (IsWrittenBy self.old.seat.dom bytes.entry.now) result self.new }
+            (requests.Store handle off bytes.entry) (IsWrittenBy self.old.seat.dom bytes.entry.now) result self.new }
         ensures kept { KeepsPinned self.old self.new }
         ensures silent { self.new.trail ≡ self.old.trail }
     {
-        if let Err(denial) = self.judge(monitor, Request::Store { handle, off, bytes }) {
-            return Err(denial);
+        if let Some(verdict) = judge_store(&self.mappings, handle, off, bytes.len()) {
+            return Err(refusal_of(verdict));
         }
         let held = *self.mappings.get(handle).unwrap();
         let name = FrameName {
@@ -225,15 +198,17 @@ impl Domain {
         ensures mine { IsOf P.may monitor.now self.new }
         ensures seat { IsSameSeat self.old.seat self.new.seat }
         ensures answered { Accesses P.may monitor.now self.old
-            (Request.Poke frame off bytes.entry) (IsWrittenBy self.old.seat.dom bytes.entry.now) result self.new }
+            (requests.Poke frame off bytes.entry) (IsWrittenBy self.old.seat.dom bytes.entry.now) result self.new }
         ensures kept { KeepsPinned self.old self.new }
         ensures silent { self.new.trail ≡ self.old.trail }
     {
-        if let Err(denial) = self.judge(monitor, Request::Poke { frame, off, bytes }) {
-            return Err(denial);
+        let caller = self.seat.dom();
+        let domains = &monitor.config.domains;
+        if let Some(verdict) = judge_own_access(domains, caller, frame, off, bytes.len()) {
+            return Err(refusal_of(verdict));
         }
         let name = FrameName {
-            owner: self.seat.dom(),
+            owner: caller,
             number: frame,
         };
         self.write_through(rt, monitor, Route::Own, name, off, bytes)

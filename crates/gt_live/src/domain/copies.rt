@@ -12,17 +12,17 @@ ghost use Rattle.gt_calls.specs.declared.request.Asked.TheVariants as asks;
 ghost use Rattle.gt_calls.specs.declared.request.CopyArgs.{CopyArgs};
 ghost use Rattle.gt_calls.specs.Standing.{held_by_call, pins_by_call};
 ghost use Rattle.gt_live.specs.Accesses.{IsCopiedBy, IsOfAccess, spot_of};
-ghost use Rattle.gt_live.specs.Domains.{Accesses, IsOf, IsOpened, IsUnsettled, KeepsPinned, copy_reply, known};
-ghost use Rattle.gt_live.specs.Domains.{outcome_of, told_by, told_copy, told_end};
+ghost use Rattle.gt_live.specs.Domains.{Accesses, IsOf, IsOpened, IsRefused, IsUnsettled, KeepsPinned, Opens, known};
+ghost use Rattle.gt_live.specs.Domains.{told_copy, told_end};
 ghost use Rattle.gt_live.specs.Underway.{AreOfRun, GivesBack, HasTaken, Stops};
 
-use super::Domain;
-use super::bytes::{not_made, refusal_of};
+use super::bytes::not_made;
+use super::{Domain, outcome_reply, refusal_of};
 use crate::driving::{Stop, give_back, walk};
 use crate::monitor::Monitor;
 use gt_access::{Run, copy_by};
-use gt_audit::{CopyEnd, Hypercall, Record, Reply};
-use gt_calls::{Call, CopyArgs, End, Known, Pins, Place, Request};
+use gt_audit::{CopyEnd, Hypercall, Record};
+use gt_calls::{Call, CopyArgs, End, Known, Pins, Place, Request, Start};
 use gt_frames::{Copied, FrameName, Spot};
 use gt_types::{Allows, Denial};
 use std::sync::Wait;
@@ -51,18 +51,20 @@ fn told_end(end: End) -> CopyEnd
     }
 }
 
-// What a record keeps of a copy's answer.
-fn copy_reply(answer: &Result<Copied, Denial>) -> Reply
-    ensures reply { result ≡ copy_reply answer.now }
-    ensures tells { told_by result ≡ outcome_of answer.now }
-{
-    match answer {
-        Ok(_) => Reply::Done,
-        Err(denial) => Reply::Denied(*denial),
-    }
-}
-
 impl Domain {
+    // Judges a copy at its beginning.
+    fn judge_copy<P: Allows>(&self, monitor: &Monitor<P>, copy: CopyArgs) -> Result<Call, Denial>
+        ensures opened { IfOk result
+            (λ call. Opens (known P.may monitor.now self.now) self.now.seat.dom (Request.Copy copy) call) }
+        ensures refused { IfErr result
+            (λ denial. IsRefused (known P.may monitor.now self.now) self.now.seat.dom (Request.Copy copy) denial) }
+    {
+        match self.begin(monitor, Request::Copy(copy)) {
+            Start::Open(call) => Ok(call),
+            Start::Done(verdict) => Err(refusal_of(verdict)),
+        }
+    }
+
     // Drives an open copy to its access, or to its end where it is refused before.
     fn walk<P: Allows>(&mut self, monitor: &Monitor<P>, call: &mut Call) -> Stop
         requires mine { IsOf P.may monitor.now self.old }
@@ -162,7 +164,7 @@ impl Domain {
         ensures kept { KeepsPinned self.old self.new }
         ensures silent { self.new.trail ≡ self.old.trail }
     {
-        let mut call = match self.judge(monitor, Request::Copy(copy)) {
+        let mut call = match self.judge_copy(monitor, copy) {
             Ok(call) => call,
             Err(denial) => return Err(denial),
         };
@@ -205,7 +207,7 @@ impl Domain {
             flags: copy.flags,
         };
         let dom = self.seat.dom();
-        let reply = copy_reply(&result);
+        let reply = outcome_reply(&result);
         self.trail.push(Record { dom, call, reply });
         result
     }

@@ -25,9 +25,9 @@ returns-clause-told g c =
     let d = c.args.self.now in let e = c.make_mapping-result.ensures in let new = c.push.new.self in
     let call = hypercalls.Map c.args.dom c.args.gref c.args.flags in
     let wanted : Record = record { dom = d.seat.dom; call = call; reply = mapping_reply c.make_mapping-result.result } in
-    let same : ◌≡◌ {A = Record} (record { dom = c.dom-dom.result; call = call; reply = c.mapping_reply-reply.result }) wanted =
-    ap (λ (x : DomId). record { dom = x; call = call; reply = c.mapping_reply-reply.result }) (c.dom-dom.ensures ∙ e.seat.dom)
-    ∙ ap (λ (x : Reply). record { dom = d.seat.dom; call = call; reply = x }) c.mapping_reply-reply.ensures.reply in
+    let same : ◌≡◌ {A = Record} (record { dom = c.dom-dom.result; call = call; reply = c.outcome_reply-reply.result }) wanted =
+    ap (λ (x : DomId). record { dom = x; call = call; reply = c.outcome_reply-reply.result }) (c.dom-dom.ensures ∙ e.seat.dom)
+    ∙ ap (λ (x : Reply). record { dom = d.seat.dom; call = call; reply = x }) c.outcome_reply-reply.ensures.reply in
     subst (λ (t : Telling). Tells t wanted new) e.silent (subst (λ (r : Record). Tells c.make_mapping-result.new.self.trail r new) same c.push.ensures)
 
 map-retold : {P : Type 0} (may : P → Rights) (m : Monitor P) (d f : Domain) (request : Request) (result : Result Handle Denial) (t : Telling) → MapAnswered may m d request result f → MapAnswered may m d request result (record f { trail = t })

@@ -1,11 +1,13 @@
-use Rattle.std.proofs.Common.{◌≡◌, ◌∙◌, sym, ap, subst, refl, length}
-use Rattle.std.specs.Prelude.{IfOk}
+use Rattle.std.proofs.Common.{◌≡◌, ◌∙◌, sym, ap, subst, refl, length, List}
+use Rattle.std.specs.Prelude.{IfOk, ℕ}
 use Rattle.gt_types.specs.declared.DomId.{DomId}
+use Rattle.gt_types.specs.declared.config.DomainConfig.{DomainConfig}
+use Rattle.gt_calls.specs.Rules.{own_access_begun}
 use Rattle.gt_calls.specs.declared.action.Step.TheVariants as steps
 use Rattle.gt_calls.specs.declared.request.Request.TheVariants as requests
 use Rattle.gt_live.specs.Accesses.{IsReadBy, IsWrittenBy, frame_named}
 use Rattle.gt_live.specs.Domains.{knowledge}
-use Rattle.gt_live.proofs.Accessing.{one-access, own-way}
+use Rattle.gt_live.proofs.Accessing.{none-left, one-access, own-way, refused-access}
 use Rattle.gt_access.specs.Accesses.{IsReadOf}
 use Rattle.gt_frames.specs.Receipts.{Reading}
 use Rattle.gt_live.proofs.domain.Domain.peek.Goals as goal
@@ -13,7 +15,23 @@ use Rattle.gt_live.proofs.domain.Domain.peek.Goals as goal
 pub returns-clause-answered : goal.returns-clause-answered
 returns-clause-answered g c =
     let m = c.args.monitor.now in let d = c.args.self.now in let may = g.P.Allows.may m.rights in let k = knowledge m.config may d in
+    let ds = m.config.domains.items in
+    let judged : c.judge_own_access.result ≡ own_access_begun ds d.seat.dom c.args.frame c.args.off c.args.len =
+    c.judge_own_access.ensures ∙ (ap (λ (n : ℕ). own_access_begun c.deref.result.now c.dom-caller.result c.args.frame c.args.off n) c.from.ensures
+    ∙ ap (λ (xs : List DomainConfig). own_access_begun xs c.dom-caller.result c.args.frame c.args.off c.args.len) c.deref.ensures.value
+    ∙ ap (λ (x : DomId). own_access_begun ds x c.args.frame c.args.off c.args.len) c.dom-caller.ensures) in
     let access = steps.Read d.seat.dom c.args.frame c.args.off c.args.len in
-    let way = own-way k d.seat.dom (requests.Peek c.args.frame c.args.off c.args.len) access c.in_default.ensures.opened.unanswered refl in
+    let way = own-way k d.seat.dom (requests.Peek c.args.frame c.args.off c.args.len) access (sym judged ∙ none-left c.judge_own_access.result c.in_default.not-Some) refl in
     one-access m.words.layout _ access IsReadBy c.read_through.result d.seat.view tt way
-    (subst (λ (x : DomId). IfOk c.read_through.result (λ (r : Reading). IsReadOf r (frame_named x c.args.frame) c.args.off c.args.len)) c.dom.ensures c.read_through.ensures.read) c.read_through.ensures.refused
+    (subst (λ (x : DomId). IfOk c.read_through.result (λ (r : Reading). IsReadOf r (frame_named x c.args.frame) c.args.off c.args.len)) c.dom-caller.ensures c.read_through.ensures.read) c.read_through.ensures.refused
+
+pub returns-in-Some-clause-answered : goal.returns-in-Some-clause-answered
+returns-in-Some-clause-answered g c =
+    let m = c.args.monitor.now in let d = c.args.self.now in
+    let ds = m.config.domains.items in
+    let judged : c.judge_own_access.result ≡ own_access_begun ds d.seat.dom c.args.frame c.args.off c.args.len =
+    c.judge_own_access.ensures ∙ (ap (λ (n : ℕ). own_access_begun c.deref.result.now c.dom-caller.result c.args.frame c.args.off n) c.from.ensures
+    ∙ ap (λ (xs : List DomainConfig). own_access_begun xs c.dom-caller.result c.args.frame c.args.off c.args.len) c.deref.ensures.value
+    ∙ ap (λ (x : DomId). own_access_begun ds x c.args.frame c.args.off c.args.len) c.dom-caller.ensures) in
+    refused-access m.words.layout (knowledge m.config (g.P.Allows.may m.rights) d) d.seat.dom (requests.Peek c.args.frame c.args.off c.args.len) IsReadBy
+    c.in-Some.verdict c.refusal_of.result d.seat.view tt (sym judged ∙ c.in-Some.is) c.refusal_of.ensures

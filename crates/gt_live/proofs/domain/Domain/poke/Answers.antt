@@ -1,11 +1,13 @@
-use Rattle.std.proofs.Common.{◌≡◌, ◌∙◌, sym, ap, subst, refl, length}
+use Rattle.std.proofs.Common.{◌≡◌, ◌∙◌, sym, ap, subst, refl, length, List}
 use Rattle.std.specs.Prelude.{IfOk}
 use Rattle.gt_types.specs.declared.DomId.{DomId}
+use Rattle.gt_types.specs.declared.config.DomainConfig.{DomainConfig}
+use Rattle.gt_calls.specs.Rules.{own_access_begun}
 use Rattle.gt_calls.specs.declared.action.Step.TheVariants as steps
 use Rattle.gt_calls.specs.declared.request.Request.TheVariants as requests
 use Rattle.gt_live.specs.Accesses.{IsReadBy, IsWrittenBy, frame_named}
 use Rattle.gt_live.specs.Domains.{knowledge}
-use Rattle.gt_live.proofs.Accessing.{one-access, own-way}
+use Rattle.gt_live.proofs.Accessing.{none-left, one-access, own-way, refused-access}
 use Rattle.gt_access.specs.Accesses.{writing_at}
 use Rattle.gt_frames.specs.Receipts.{Writing}
 use Rattle.gt_live.proofs.domain.Domain.poke.Goals as goal
@@ -13,7 +15,21 @@ use Rattle.gt_live.proofs.domain.Domain.poke.Goals as goal
 pub returns-clause-answered : goal.returns-clause-answered
 returns-clause-answered g c =
     let m = c.args.monitor.now in let d = c.args.self.now in let may = g.P.Allows.may m.rights in let k = knowledge m.config may d in
+    let ds = m.config.domains.items in
+    let judged : c.judge_own_access.result ≡ own_access_begun ds d.seat.dom c.args.frame c.args.off (length c.args.bytes.now) =
+    c.judge_own_access.ensures ∙ (ap (λ (xs : List DomainConfig). own_access_begun xs c.dom-caller.result c.args.frame c.args.off (length c.args.bytes.now)) c.deref.ensures.value
+    ∙ ap (λ (x : DomId). own_access_begun ds x c.args.frame c.args.off (length c.args.bytes.now)) c.dom-caller.ensures) in
     let access = steps.Write d.seat.dom c.args.frame c.args.off (length c.args.bytes.now) in
-    let way = own-way k d.seat.dom (requests.Poke c.args.frame c.args.off c.args.bytes) access c.in_default.ensures.opened.unanswered refl in
+    let way = own-way k d.seat.dom (requests.Poke c.args.frame c.args.off c.args.bytes) access (sym judged ∙ none-left c.judge_own_access.result c.in_default.not-Some) refl in
     one-access m.words.layout _ access (IsWrittenBy d.seat.dom c.args.bytes.now) c.write_through.result d.seat.view tt way
-    (subst (λ (x : DomId). IfOk c.write_through.result (λ (r : Writing). r ≡ writing_at (frame_named x c.args.frame) c.args.off c.args.bytes.now d.seat.dom)) c.dom.ensures c.write_through.ensures.written) c.write_through.ensures.refused
+    (subst (λ (x : DomId). IfOk c.write_through.result (λ (r : Writing). r ≡ writing_at (frame_named x c.args.frame) c.args.off c.args.bytes.now d.seat.dom)) c.dom-caller.ensures c.write_through.ensures.written) c.write_through.ensures.refused
+
+pub returns-in-Some-clause-answered : goal.returns-in-Some-clause-answered
+returns-in-Some-clause-answered g c =
+    let m = c.args.monitor.now in let d = c.args.self.now in
+    let ds = m.config.domains.items in
+    let judged : c.judge_own_access.result ≡ own_access_begun ds d.seat.dom c.args.frame c.args.off (length c.args.bytes.now) =
+    c.judge_own_access.ensures ∙ (ap (λ (xs : List DomainConfig). own_access_begun xs c.dom-caller.result c.args.frame c.args.off (length c.args.bytes.now)) c.deref.ensures.value
+    ∙ ap (λ (x : DomId). own_access_begun ds x c.args.frame c.args.off (length c.args.bytes.now)) c.dom-caller.ensures) in
+    refused-access m.words.layout (knowledge m.config (g.P.Allows.may m.rights) d) d.seat.dom (requests.Poke c.args.frame c.args.off c.args.bytes) (IsWrittenBy d.seat.dom c.args.bytes.now)
+    c.in-Some.verdict c.refusal_of.result d.seat.view tt (sym judged ∙ c.in-Some.is) c.refusal_of.ensures

@@ -16,14 +16,14 @@ use Rattle.gt_calls.specs.Opening.{opens}
 use Rattle.gt_handles.specs.Handles.{value_of}
 use Rattle.gt_live.specs.Accesses.{IsReadBy, IsWrittenBy, frame_named}
 use Rattle.gt_live.specs.Domains.{knowledge}
-use Rattle.gt_live.proofs.Accessing.{mapped-way, one-access, reaches-mapped, writes-by}
+use Rattle.gt_live.proofs.Accessing.{mapped-way, none-left, one-access, refused-access, reaches-mapped, writes-by}
 use Rattle.gt_live.proofs.domain.Domain.store.Goals as goal
 
 pub write_through-requires-clause-reached : goal.write_through-requires-clause-reached
 write_through-requires-clause-reached g c =
     let m = c.args.monitor.now in let d = c.args.self.now in let may = g.P.Allows.may m.rights in let held = c.unwrap-held.result.now in
     let there : value_of d.mappings c.args.handle ≡ Some held = sym c.get.ensures.value ∙ ap option_copied c.unwrap-held.ensures in
-    let writable : held.dir ≡ dirs.Write = writes-by (knowledge m.config may d) d.seat.dom c.args.handle c.args.off (length c.args.bytes.now) held c.in_default.ensures.opened.unanswered there in
+    let writable : held.dir ≡ dirs.Write = writes-by (knowledge m.config may d) d.seat.dom c.args.handle c.args.off (length c.args.bytes.now) held (sym c.judge_store.ensures ∙ none-left c.judge_store.result c.in_default.not-Some) there in
     reaches-mapped m.words.layout m.config.domains.items may d.seat held dirs.Write c.frame.result c.args.off (length c.args.bytes.now) (c.requires.mine.mapped c.args.handle held there) (λ e. writable) c.frame.ensures
 
 pub write_through-requires-clause-may : goal.write_through-requires-clause-may
@@ -37,5 +37,11 @@ returns-clause-answered g c =
     let m = c.args.monitor.now in let d = c.args.self.now in let may = g.P.Allows.may m.rights in let held = c.unwrap-held.result.now in
     let there : value_of d.mappings c.args.handle ≡ Some held = sym c.get.ensures.value ∙ ap option_copied c.unwrap-held.ensures in
     let k = knowledge m.config may d in
-    let way = mapped-way k d.seat.dom (requests.Store c.args.handle c.args.off c.args.bytes) c.args.handle held (λ (p : Held). steps.Write p.dom (frame_of p.entry) c.args.off (length c.args.bytes.now)) c.in_default.ensures.opened.unanswered there refl in
+    let way = mapped-way k d.seat.dom (requests.Store c.args.handle c.args.off c.args.bytes) c.args.handle held (λ (p : Held). steps.Write p.dom (frame_of p.entry) c.args.off (length c.args.bytes.now)) (sym c.judge_store.ensures ∙ none-left c.judge_store.result c.in_default.not-Some) there refl in
     one-access m.words.layout _ (steps.Write held.dom (frame_of held.entry) c.args.off (length c.args.bytes.now)) (IsWrittenBy d.seat.dom c.args.bytes.now) c.write_through.result d.seat.view tt way (subst (λ (n : ℕ). IfOk c.write_through.result (λ (r : Writing). r ≡ writing_at (frame_named held.dom n) c.args.off c.args.bytes.now d.seat.dom)) c.frame.ensures c.write_through.ensures.written) c.write_through.ensures.refused
+
+pub returns-in-Some-clause-answered : goal.returns-in-Some-clause-answered
+returns-in-Some-clause-answered g c =
+    let m = c.args.monitor.now in let d = c.args.self.now in
+    refused-access m.words.layout (knowledge m.config (g.P.Allows.may m.rights) d) d.seat.dom (requests.Store c.args.handle c.args.off c.args.bytes) (IsWrittenBy d.seat.dom c.args.bytes.now)
+    c.in-Some.verdict c.refusal_of.result d.seat.view tt (sym c.judge_store.ensures ∙ c.in-Some.is) c.refusal_of.ensures

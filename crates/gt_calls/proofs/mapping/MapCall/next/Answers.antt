@@ -1,0 +1,6 @@
+use Rattle.gt_calls.specs.Rules.{CallerKnowledge}
+use Rattle.gt_calls.proofs.MapCalls.{map-goes}
+use Rattle.gt_calls.proofs.mapping.MapCall.next.Goals as goal
+
+pub returns : goal.returns
+returns c = record { goes = λ (k : CallerKnowledge). map-goes k c.args.self.now c.args.seen c.leg_next.result c.leg_next.ensures }

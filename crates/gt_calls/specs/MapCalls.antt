@@ -1,0 +1,39 @@
+-- A map under way as the call that it is.
+use Rattle.std.specs.Prelude.{Some, None}
+use Rattle.gt_calls.specs.declared.action.Action.TheVariants.{Step as Makes, Done}
+use Rattle.gt_calls.specs.declared.action.Seen.{Seen}
+use Rattle.gt_calls.specs.declared.action.Seen.TheVariants.{Nothing}
+use Rattle.gt_calls.specs.declared.action.Verdict.{Verdict}
+use Rattle.gt_calls.specs.declared.action.Verdict.TheVariants.{Mapped, Refused}
+use Rattle.gt_calls.specs.declared.call.Call.{Call}
+use Rattle.gt_calls.specs.declared.call.Phase.TheVariants.{Walking}
+use Rattle.gt_calls.specs.declared.copying.Aim.TheVariants.{Mapping}
+use Rattle.gt_calls.specs.declared.leg.LegNext.{LegNext}
+use Rattle.gt_calls.specs.declared.leg.LegNext.TheVariants.{Going, Refused as LegRefused, Pinned}
+use Rattle.gt_calls.specs.declared.mapping.MapCall.{MapCall}
+use Rattle.gt_calls.specs.declared.request.Asked.TheVariants.{Map}
+use Rattle.gt_calls.specs.Following.{Goes}
+use Rattle.gt_calls.specs.Machine.{ended_as, leg_step}
+use Rattle.gt_calls.specs.Rules.{CallerKnowledge}
+
+-- the call that a map under way is (own)
+abbrev pub call_of : MapCall → Call
+call_of m = record { caller = m.caller; request = Map m.dom m.gref m.flags; phase = Some (Walking Mapping m.leg m.at) }
+
+-- the same before its first step (own)
+abbrev pub unmoved : MapCall → Call
+unmoved m = record { caller = m.caller; request = Map m.dom m.gref m.flags; phase = None }
+
+-- the same at its end (own)
+abbrev pub ended : MapCall → Verdict → Call
+ended m verdict = record { caller = m.caller; request = Map m.dom m.gref m.flags; phase = Some (ended_as verdict) }
+
+-- a map begins as its call does, with the step of its leg (own)
+abbrev pub BeginsAs : CallerKnowledge → MapCall → Type 0
+BeginsAs k m = Goes k (unmoved m) Nothing (call_of m) (Makes (leg_step m.leg m.at))
+
+-- a map goes on as its call does: to the next step of its leg, or to its end (own)
+abbrev pub GoesOnAs : CallerKnowledge → MapCall → Seen → LegNext → Type 0
+GoesOnAs k m seen (Going at) = Goes k (call_of m) seen (call_of (record m { at = at })) (Makes (leg_step m.leg at))
+GoesOnAs k m seen (LegRefused denial) = Goes k (call_of m) seen (ended m (Refused denial)) (Done (Refused denial))
+GoesOnAs k m seen (Pinned p) = Goes k (call_of m) seen (ended m (Mapped p)) (Done (Mapped p))

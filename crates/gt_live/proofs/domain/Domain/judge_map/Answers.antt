@@ -1,0 +1,12 @@
+use Rattle.std.proofs.Common.{◌≡◌, ◌∙◌, ap}
+use Rattle.gt_types.specs.declared.DomId.{DomId}
+use Rattle.gt_calls.specs.Rules.{CallerKnowledge, map_begun}
+use Rattle.gt_live.specs.Domains.{knowledge}
+use Rattle.gt_live.proofs.domain.Domain.judge_map.Goals as goal
+
+pub returns : goal.returns
+returns g c =
+    let m = c.args.monitor.now in let k = knowledge m.config (g.P.Allows.may m.rights) c.args.self.now in
+    c.judge_map.ensures
+    ∙ (ap (λ (x : CallerKnowledge). map_begun x c.dom.result c.args.dom c.args.flags) c.known.ensures
+    ∙ ap (λ (x : DomId). map_begun k x c.args.dom c.args.flags) c.dom.ensures)
