@@ -1,9 +1,15 @@
 -- What a domain that runs is asked, and how it is answered.
-use Rattle.std.specs.Prelude.{◌≡◌, ℕ, List, Result, Ok, Err}
+use Rattle.std.specs.Prelude.{◌≡◌, ℕ, List, Result, Ok, Err, OnOk, OnErr}
 use Rattle.gt_types.specs.declared.Size.{Size}
 use Rattle.gt_types.specs.declared.denial.Denial.{Denial}
 use Rattle.gt_frames.specs.Receipts.{Copying, Reading, Writing}
 use Rattle.gt_handles.specs.declared.handles.Handle.{Handle}
+use Rattle.gt_audit.specs.Telling.{Tells}
+use Rattle.gt_audit.specs.declared.record.Hypercall.{Hypercall}
+use Rattle.gt_audit.specs.declared.record.Hypercall.TheVariants as hypercalls
+use Rattle.gt_calls.specs.declared.action.Step.{Step}
+use Rattle.gt_calls.specs.declared.action.Verdict.{Verdict}
+use Rattle.gt_calls.specs.declared.held.Held.{Held}
 use Rattle.gt_calls.specs.declared.request.Request.{Request}
 use Rattle.gt_calls.specs.declared.request.Request.TheVariants as requests
 use Rattle.gt_core.specs.declared.trace.Answer.{Answer}
@@ -11,7 +17,10 @@ use Rattle.gt_core.specs.declared.trace.Answer.TheVariants as answers
 use Rattle.gt_live.specs.declared.domain.Domain.{Domain}
 use Rattle.gt_live.specs.declared.monitor.Monitor.{Monitor}
 use Rattle.gt_live.specs.Accesses.{IsCopiedBy, IsReadBy, IsWrittenBy}
-use Rattle.gt_live.specs.Domains.{Accesses, Answered, MapAnswered, Rights, verdict_of, verdict_of_frames, verdict_of_size, verdict_of_version}
+use Rattle.gt_live.specs.Domains.{Accesses, Answered, KeepsPinned, MapAnswered, Rights, mapping_reply, subject_of}
+use Rattle.gt_live.specs.Domains.{told_copy, told_of, verdict_of, verdict_of_frames, verdict_of_size}
+use Rattle.gt_live.specs.Domains.{verdict_of_version}
+use Rattle.gt_live.specs.Mappings.{Removes}
 
 -- a domain beside the monitor of its run (own)
 pub record Stand (P : Type 0) : Type 0 where
@@ -53,25 +62,67 @@ abbrev pub IsReadAnswer : Result Reading Denial → Answer → Type 0
 IsReadAnswer (Ok r) answer = HasBytes r.bytes answer
 IsReadAnswer (Err denial) answer = answer ≡ answers.Denied denial
 
--- The domain d was asked this, answered so, and is e after it: the answer tells how its own call of that name was answered, and so what that call did. (own)
+-- A call that is not recorded was answered so: the domain has the mappings, pins and records that it had. (own)
+abbrev pub AnswersQuietly : {P : Type 0} → (P → Rights) → Monitor P → Domain → Request → Verdict → Domain → Type 0
+AnswersQuietly may m d request verdict e =
+    Answered may m d request verdict e × KeepsPinned d e × (e.trail ≡ d.trail)
+
+-- a call that is recorded was answered so: the domain has the mappings and pins that it had, and this call is the one
+-- record more, which is kept or counted as lost (own)
+abbrev pub AnswersTold : {P : Type 0} → (P → Rights) → Monitor P → Domain → Request → Hypercall → Verdict → Domain
+    → Type 0
+AnswersTold may m d request call verdict e =
+    Answered may m d request verdict e × KeepsPinned d e × Tells d.trail (told_of d call verdict) e.trail
+
+-- an access to one frame was answered so: the domain has the mappings, pins and records that it had (own)
+abbrev pub AccessesQuietly : {P R : Type 0} → (P → Rights) → Monitor P → Domain → Request → (Step → R → Type 0)
+    → Result R Denial → Domain → Type 0
+AccessesQuietly may m d request tells result e =
+    Accesses may m d request tells result e × KeepsPinned d e × (e.trail ≡ d.trail)
+
+-- The domain d was asked this, answered so, and is e after it: the answer tells how its own call of that name was
+-- answered, and so what that call did, to its mappings and its records too. (own)
+abbrev pub AnswersCall : {P : Type 0} → (P → Rights) → Monitor P → Domain → Request → Answer → Domain → Type 0
+AnswersCall may m d (requests.Map dom gref flags) answer e =
+    (r : Result Handle Denial) × (answer ≡ mapped_answer r)
+    × MapAnswered may m d (requests.Map dom gref flags) r e
+    × Tells d.trail (record { dom = d.seat.dom; call = hypercalls.Map dom gref flags; reply = mapping_reply r }) e.trail
+AnswersCall may m d (requests.Unmap handle) answer e =
+    (r : Result (Unit {0}) Denial) × (answer ≡ plain_answer r)
+    × Answered may m d (requests.Unmap handle) (verdict_of r) e
+    × OnOk r ((p : Held) × Removes d.mappings e.mappings handle p) × OnErr r (KeepsPinned d e)
+    × Tells d.trail (told_of d (hypercalls.Unmap (subject_of d handle)) (verdict_of r)) e.trail
+AnswersCall may m d (requests.SetVersion version) answer e =
+    (r : Result (Unit {0}) Denial) × (answer ≡ plain_answer r)
+    × AnswersTold may m d (requests.SetVersion version) (hypercalls.SetVersion version) (verdict_of r) e
+AnswersCall may m d (requests.SetupTable frames) answer e =
+    (r : Result ℕ Denial) × (answer ≡ frames_answer r)
+    × AnswersTold may m d (requests.SetupTable frames) (hypercalls.SetupTable frames) (verdict_of_frames r) e
+AnswersCall may m d (requests.QuerySize dom) answer e =
+    (r : Result Size Denial) × (answer ≡ size_answer r)
+    × AnswersTold may m d (requests.QuerySize dom) (hypercalls.QuerySize dom) (verdict_of_size r) e
+AnswersCall may m d (requests.GetVersion dom) answer e =
+    (r : Result ℕ Denial) × (answer ≡ version_answer r)
+    × AnswersTold may m d (requests.GetVersion dom) (hypercalls.GetVersion dom) (verdict_of_version r) e
+AnswersCall may m d (requests.Load handle off len) answer e =
+    (r : Result Reading Denial) × IsReadAnswer r answer
+    × AccessesQuietly may m d (requests.Load handle off len) IsReadBy r e
+AnswersCall may m d (requests.Peek frame off len) answer e =
+    (r : Result Reading Denial) × IsReadAnswer r answer
+    × AccessesQuietly may m d (requests.Peek frame off len) IsReadBy r e
+AnswersCall may m d (requests.Store handle off bytes) answer e =
+    (r : Result Writing Denial) × (answer ≡ plain_answer r)
+    × AccessesQuietly may m d (requests.Store handle off bytes) (IsWrittenBy d.seat.dom bytes.now) r e
+AnswersCall may m d (requests.Poke frame off bytes) answer e =
+    (r : Result Writing Denial) × (answer ≡ plain_answer r)
+    × AccessesQuietly may m d (requests.Poke frame off bytes) (IsWrittenBy d.seat.dom bytes.now) r e
+AnswersCall may m d (requests.Copy args) answer e =
+    (r : Result Copying Denial) × (answer ≡ plain_answer r)
+    × Accesses may m d (requests.Copy args) (IsCopiedBy d.seat.dom) r e
+    × KeepsPinned d e × Tells d.trail (told_copy d args r) e.trail
+AnswersCall may m d request answer e =
+    (r : Result (Unit {0}) Denial) × (answer ≡ plain_answer r) × AnswersQuietly may m d request (verdict_of r) e
+
+-- the same of a domain that keeps its number (own)
 abbrev pub Asks : {P : Type 0} → (P → Rights) → Monitor P → Domain → Request → Answer → Domain → Type 0
-Asks may m d (requests.Map dom gref flags) answer e =
-    (r : Result Handle Denial) × (answer ≡ mapped_answer r) × MapAnswered may m d (requests.Map dom gref flags) r e
-Asks may m d (requests.SetupTable frames) answer e =
-    (r : Result ℕ Denial) × (answer ≡ frames_answer r) × Answered may m d (requests.SetupTable frames) (verdict_of_frames r) e
-Asks may m d (requests.QuerySize dom) answer e =
-    (r : Result Size Denial) × (answer ≡ size_answer r) × Answered may m d (requests.QuerySize dom) (verdict_of_size r) e
-Asks may m d (requests.GetVersion dom) answer e =
-    (r : Result ℕ Denial) × (answer ≡ version_answer r) × Answered may m d (requests.GetVersion dom) (verdict_of_version r) e
-Asks may m d (requests.Load handle off len) answer e =
-    (r : Result Reading Denial) × IsReadAnswer r answer × Accesses may m d (requests.Load handle off len) IsReadBy r e
-Asks may m d (requests.Peek frame off len) answer e =
-    (r : Result Reading Denial) × IsReadAnswer r answer × Accesses may m d (requests.Peek frame off len) IsReadBy r e
-Asks may m d (requests.Store handle off bytes) answer e =
-    (r : Result Writing Denial) × (answer ≡ plain_answer r) × Accesses may m d (requests.Store handle off bytes) (IsWrittenBy d.seat.dom bytes.now) r e
-Asks may m d (requests.Poke frame off bytes) answer e =
-    (r : Result Writing Denial) × (answer ≡ plain_answer r) × Accesses may m d (requests.Poke frame off bytes) (IsWrittenBy d.seat.dom bytes.now) r e
-Asks may m d (requests.Copy args) answer e =
-    (r : Result Copying Denial) × (answer ≡ plain_answer r) × Accesses may m d (requests.Copy args) (IsCopiedBy d.seat.dom) r e
-Asks may m d request answer e =
-    (r : Result (Unit {0}) Denial) × (answer ≡ plain_answer r) × Answered may m d request (verdict_of r) e
+Asks may m d request answer e = (e.seat.dom ≡ d.seat.dom) × AnswersCall may m d request answer e

@@ -59,6 +59,21 @@ impl Gate for Closed {
     }
 }
 
+/// A gate that hears nobody: it gives up after so many turns.
+#[derive(Drop)]
+pub struct Deaf;
+
+impl Gate for Deaf {
+    fn tell(&self, _flag: usize) {}
+
+    fn pass(&self, _flag: usize) -> bool {
+        for _ in 0..TURNS {
+            spin_loop();
+        }
+        false
+    }
+}
+
 /// A gate at which so many callers meet, whatever they wait for.
 #[derive(Drop)]
 pub struct Meeting {

@@ -1,6 +1,8 @@
-//! Runs of lists, each domain in a thread of its own: worked rows over gates, and threads that are refused.
+//! Runs of lists, each domain in a thread of its own: worked rows over gates, readers and writers that fail.
 #![tactic(auto)]
 
+#[cfg(test)]
+mod failing;
 #[cfg(test)]
 mod gates;
 #[cfg(test)]

@@ -33,7 +33,8 @@ fn a_false_gate_stops_its_domain(rt: HostRuntime) -> Result<(), Fail> {
     Ok(())
 }
 
-const SHARING: &str = "do 1 grant 0 page 2 rw 5
+/// A page is granted, mapped, unmapped and revoked, each step once the other domain has told the one before.
+pub const SHARING: &str = "do 1 grant 0 page 2 rw 5
 tell 1 a
 await 2 a
 do 2 map h 1 0 rw
@@ -41,6 +42,15 @@ do 2 unmap h
 tell 2 b
 await 1 b
 do 1 revoke 0
+";
+
+/// What it prints with its audit lines.
+pub const SHARING_AUDITED: &str = "12 1 ok
+19 1 ok
+15 2 ok
+16 2 ok
+audit 2 map 1 0 2 : ok
+audit 2 unmap 1 0 : ok
 ";
 
 #[test]
@@ -59,10 +69,7 @@ fn records_are_told_before_the_next_line(rt: HostRuntime) -> Result<(), Fail> {
     let log = SharedLog::new(rt.alloc())?;
     let gate = Looking::at(&log, DomId(2), 2);
     let out = run_body(&rt, rt.alloc(), SHARING, Some(&log), &gate)?;
-    assert_eq!(rt;
-        out.as_slice(),
-        "12 1 ok\n19 1 ok\n15 2 ok\n16 2 ok\naudit 2 map 1 0 2 : ok\naudit 2 unmap 1 0 : ok\n".as_bytes()
-    );
+    assert_eq!(rt; out.as_slice(), SHARING_AUDITED.as_bytes());
     assert_eq!(rt; gate.found().0, true);
     Ok(())
 }

@@ -1,28 +1,176 @@
 use Rattle.gt_run.proofs.running.Running.ask.Goals as goal
 
 pub returns-in-Grant-clause-asked : goal.returns-in-Grant-clause-asked
-returns-in-Grant-clause-asked g c = rw (← c.self.view_is, c.in-Grant.is) (c.grant.result, c.done.ensures, c.grant.ensures.answered)
+returns-in-Grant-clause-asked g c =
+    rw (← c.self.view_is, c.in-Grant.is) (
+      c.grant.ensures.seat.dom,
+      (
+        c.grant.result,
+        c.done.ensures,
+        (c.grant.ensures.answered, c.grant.ensures.kept, c.grant.ensures.silent),
+      ),
+    )
 
 pub returns-in-GrantBytes-clause-asked : goal.returns-in-GrantBytes-clause-asked
-returns-in-GrantBytes-clause-asked g c = rw (← c.self.view_is, c.in-GrantBytes.is) (c.grant_bytes.result, c.done-in-GrantBytes.ensures, c.grant_bytes.ensures.answered)
+returns-in-GrantBytes-clause-asked g c =
+    rw (← c.self.view_is, c.in-GrantBytes.is) (
+      c.grant_bytes.ensures.seat.dom,
+      (
+        c.grant_bytes.result,
+        c.done-in-GrantBytes.ensures,
+        (c.grant_bytes.ensures.answered, c.grant_bytes.ensures.kept, c.grant_bytes.ensures.silent),
+      ),
+    )
 
 pub returns-in-Revoke-clause-asked : goal.returns-in-Revoke-clause-asked
-returns-in-Revoke-clause-asked g c = rw (← c.self.view_is, c.in-Revoke.is) (c.revoke.result, c.done-in-Revoke.ensures, c.revoke.ensures.answered)
+returns-in-Revoke-clause-asked g c =
+    rw (← c.self.view_is, c.in-Revoke.is) (
+      c.revoke.ensures.seat.dom,
+      (
+        c.revoke.result,
+        c.done-in-Revoke.ensures,
+        (c.revoke.ensures.answered, c.revoke.ensures.kept, c.revoke.ensures.silent),
+      ),
+    )
+
+pub returns-in-Demote-clause-asked : goal.returns-in-Demote-clause-asked
+returns-in-Demote-clause-asked g c =
+    rw (← c.self.view_is, c.in-Demote.is) (
+      c.demote.ensures.seat.dom,
+      (
+        c.demote.result,
+        c.done-in-Demote.ensures,
+        (c.demote.ensures.answered, c.demote.ensures.kept, c.demote.ensures.silent),
+      ),
+    )
+
+pub returns-in-Promote-clause-asked : goal.returns-in-Promote-clause-asked
+returns-in-Promote-clause-asked g c =
+    rw (← c.self.view_is, c.in-Promote.is) (
+      c.promote.ensures.seat.dom,
+      (
+        c.promote.result,
+        c.done-in-Promote.ensures,
+        (c.promote.ensures.answered, c.promote.ensures.kept, c.promote.ensures.silent),
+      ),
+    )
+
+pub returns-in-Map-clause-asked : goal.returns-in-Map-clause-asked
+returns-in-Map-clause-asked g c =
+    rw (← c.self.view_is, c.in-Map.is)
+    (c.map.ensures.seat.dom, (c.map.result, c.mapped.ensures, c.map.ensures.answered, c.map.ensures.told))
+
+pub returns-in-Unmap-clause-asked : goal.returns-in-Unmap-clause-asked
+returns-in-Unmap-clause-asked g c =
+    rw (← c.self.view_is, c.in-Unmap.is) (
+      c.unmap.ensures.seat.dom,
+      (
+        c.unmap.result,
+        c.done-in-Unmap.ensures,
+        c.unmap.ensures.answered,
+        c.unmap.ensures.removed,
+        c.unmap.ensures.refused,
+        c.unmap.ensures.told,
+      ),
+    )
 
 pub returns-in-SetVersion-clause-asked : goal.returns-in-SetVersion-clause-asked
-returns-in-SetVersion-clause-asked g c = rw (← c.self.view_is, c.in-SetVersion.is) (c.set_version.result, c.done-in-SetVersion.ensures, c.set_version.ensures.answered)
+returns-in-SetVersion-clause-asked g c =
+    rw (← c.self.view_is, c.in-SetVersion.is) (
+      c.set_version.ensures.seat.dom,
+      (
+        c.set_version.result,
+        c.done-in-SetVersion.ensures,
+        (c.set_version.ensures.answered, c.set_version.ensures.kept, c.set_version.ensures.told),
+      ),
+    )
 
 pub returns-in-SetupTable-clause-asked : goal.returns-in-SetupTable-clause-asked
-returns-in-SetupTable-clause-asked g c = rw (← c.self.view_is, c.in-SetupTable.is) (c.setup_table.result, c.frames_told.ensures, c.setup_table.ensures.answered)
+returns-in-SetupTable-clause-asked g c =
+    rw (← c.self.view_is, c.in-SetupTable.is) (
+      c.setup_table.ensures.seat.dom,
+      (
+        c.setup_table.result,
+        c.frames_told.ensures,
+        (c.setup_table.ensures.answered, c.setup_table.ensures.kept, c.setup_table.ensures.told),
+      ),
+    )
 
 pub returns-in-QuerySize-clause-asked : goal.returns-in-QuerySize-clause-asked
-returns-in-QuerySize-clause-asked g c = rw (← c.self.view_is, c.in-QuerySize.is) (c.query_size.result, c.size_told.ensures, c.query_size.ensures.answered)
+returns-in-QuerySize-clause-asked g c =
+    rw (← c.self.view_is, c.in-QuerySize.is) (
+      c.query_size.ensures.seat.dom,
+      (
+        c.query_size.result,
+        c.size_told.ensures,
+        (c.query_size.ensures.answered, c.query_size.ensures.kept, c.query_size.ensures.told),
+      ),
+    )
 
 pub returns-in-GetVersion-clause-asked : goal.returns-in-GetVersion-clause-asked
-returns-in-GetVersion-clause-asked g c = rw (← c.self.view_is, c.in-GetVersion.is) (c.get_version.result, c.version_told.ensures, c.get_version.ensures.answered)
+returns-in-GetVersion-clause-asked g c =
+    rw (← c.self.view_is, c.in-GetVersion.is) (
+      c.get_version.ensures.seat.dom,
+      (
+        c.get_version.result,
+        c.version_told.ensures,
+        (c.get_version.ensures.answered, c.get_version.ensures.kept, c.get_version.ensures.told),
+      ),
+    )
+
+pub returns-in-Load-clause-asked : goal.returns-in-Load-clause-asked
+returns-in-Load-clause-asked g c =
+    rw (← c.self.view_is, c.in-Load.is) (
+      c.load.ensures.seat.dom,
+      (
+        c.load.result,
+        c.read.ensures,
+        (c.load.ensures.answered, c.load.ensures.kept, c.load.ensures.silent),
+      ),
+    )
+
+pub returns-in-Store-clause-asked : goal.returns-in-Store-clause-asked
+returns-in-Store-clause-asked g c =
+    rw (← c.self.view_is, c.in-Store.is) (
+      c.store.ensures.seat.dom,
+      (
+        c.store.result,
+        c.written.ensures,
+        (c.store.ensures.answered, c.store.ensures.kept, c.store.ensures.silent),
+      ),
+    )
 
 pub returns-in-Peek-clause-asked : goal.returns-in-Peek-clause-asked
-returns-in-Peek-clause-asked g c = rw (← c.self.view_is, c.in-Peek.is) (c.peek.result, c.read-in-Peek.ensures, c.peek.ensures.answered)
+returns-in-Peek-clause-asked g c =
+    rw (← c.self.view_is, c.in-Peek.is) (
+      c.peek.ensures.seat.dom,
+      (
+        c.peek.result,
+        c.read-in-Peek.ensures,
+        (c.peek.ensures.answered, c.peek.ensures.kept, c.peek.ensures.silent),
+      ),
+    )
 
 pub returns-in-Poke-clause-asked : goal.returns-in-Poke-clause-asked
-returns-in-Poke-clause-asked g c = rw (← c.self.view_is, c.in-Poke.is) (c.poke.result, c.written-in-Poke.ensures, c.poke.ensures.answered)
+returns-in-Poke-clause-asked g c =
+    rw (← c.self.view_is, c.in-Poke.is) (
+      c.poke.ensures.seat.dom,
+      (
+        c.poke.result,
+        c.written-in-Poke.ensures,
+        (c.poke.ensures.answered, c.poke.ensures.kept, c.poke.ensures.silent),
+      ),
+    )
+
+pub returns-in-Copy-clause-asked : goal.returns-in-Copy-clause-asked
+returns-in-Copy-clause-asked g c =
+    rw (← c.self.view_is, c.in-Copy.is) (
+      c.copy.ensures.seat.dom,
+      (
+        c.copy.result,
+        c.copied.ensures,
+        c.copy.ensures.answered,
+        c.copy.ensures.kept,
+        c.copy.ensures.told,
+      ),
+    )
