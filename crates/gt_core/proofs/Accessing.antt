@@ -1,10 +1,7 @@
 -- What an access to bytes rests on: it is inside a frame, and justified.
-use Rattle.gt_core.proofs.Words.{◌≡◌, ◌≢◌, ◌≤◌, ◌<◌, ◌+◌, ◌⊎◌, inl, inr, ℕ, suc, refl, Bool, true, false, List, [], ◌∷◌, ◌++◌, Option, Some, None, cond, sym, ap, ◌∙◌, arith, subst, reverse, eqb-true, and_parts, and_from, leb-false, false≢true, none-some, same_Some, ◌==◌, ◌&&◌, nat_le, is_none, All, Any, reverse_onto, domain_of, resolved, denial_of, DomId, TypeId, Dir, Read, Write, ForMap, ForCopy, Perms, Triple, FRAME_SIZE, Policy, N1, N5, Entry, Page, Sub, frame_of, permits, forwards, allows_direction, Handle, Held, Route, Direct, Through, Pins, End, Asked, Load, Store, Peek, Poke, Copy, Holder, ByMapping, ByLeg, Place, Refused, ReadBytes, WriteBytes, last_first, CallerKnowledge, begun, frames_of, via_judged, denied, copy_denied, rights_to_copy, refused_when, first, is_source_granted, is_dest_granted, source_pair, dest_pair, opens, RestsOnRequest, RestsOnWays, IsReached, LeadsTo, State, History, Setting, Pin, live, known_at, legs_at, mappings_at, mapping_of, gather, by_mapping, by_leg, same_handle, MayUse, IsInFrame, CopyIsJustified, Justified, IsLawful, IsLawfullyHeld, DomainsStand, numbered, Verdict, owner_by}
+use Rattle.gt_core.proofs.Words.{◌≡◌, ◌≢◌, ◌≤◌, ◌<◌, ◌+◌, ◌⊎◌, inl, inr, ℕ, suc, refl, Bool, true, false, List, [], ◌∷◌, ◌++◌, Option, Some, None, cond, sym, ap, ◌∙◌, arith, subst, reverse, eqb-true, and_parts, and_from, leb-false, false≢true, none-some, same_Some, ◌==◌, ◌&&◌, nat_le, is_none, All, Any, reverse_onto, domain_of, resolved, denial_of, DomId, TypeId, Dir, Read, Write, ForMap, ForCopy, Perms, Triple, FRAME_SIZE, Policy, N1, N5, Entry, Page, Sub, frame_of, permits, forwards, allows_direction, Handle, Held, Route, Direct, Through, Pins, End, Asked, Load, Store, Peek, Poke, Copy, Holder, ByMapping, ByLeg, Place, Refused, ReadBytes, WriteBytes, last_first, CallerKnowledge, begun, frames_of, via_judged, denied, copy_denied, rights_to_copy, refused_when, first, is_source_granted, is_dest_granted, source_pair, dest_pair, opens, RestsOnRequest, RestsOnWays, IsReached, LeadsTo, State, History, Setting, Pin, live, known_at, legs_at, mappings_at, mapping_of, gather, by_mapping, by_leg, same_handle, MayUse, IsInFrame, CopyIsJustified, Justified, IsLawful, IsLawfullyHeld, DomainsStand, numbered, Verdict, owner_by, IsAllowed, IsMapped, IsPermitted, Reaches, Forwards, MayCopy, MayUseMapping, MayAccess, MayAsk, EndIsJustified}
 use Rattle.gt_calls.specs.declared.held.Route.TheVariants.{Own}
 use Rattle.gt_calls.specs.Path.{place_of}
-use Rattle.gt_calls.specs.Opening.{IsAllowed}
-use Rattle.gt_calls.specs.Resting.{IsMapped, IsPermitted}
-use Rattle.gt_core.specs.Legal.{Reaches, Forwards, MayCopy, MayUseMapping, MayAccess, MayAsk, EndIsJustified}
 
 -- pins among those that a domain's give
 
@@ -60,21 +57,19 @@ leg-gives (ByLeg n) = inl (n, λ p. refl)
 
 found-in : (ms : List (Handle × Held)) (handle : Handle) (m : Held) → mapping_of ms handle ≡ Some m → IsHeldIn m ms
 found-in [] handle m e = absurd (none-some m e)
-found-in (x ∷ ms) handle m e = by (same_handle x.0 handle) (found-in ms handle m) e
-  where
-    by : (b : Bool) → (mapping_of ms handle ≡ Some m → IsHeldIn m ms) → cond b (Some x.1) (mapping_of ms handle) ≡ Some m → (x.1 ≡ m) ⊎ IsHeldIn m ms
-    by true rest f = inl (same_Some _ _ f)
-    by false rest f = inr (rest f)
+found-in (x ∷ ms) handle m e = by (same_handle x.0 handle) (found-in ms handle m) e where
+  by : (b : Bool) → (mapping_of ms handle ≡ Some m → IsHeldIn m ms) → cond b (Some x.1) (mapping_of ms handle) ≡ Some m → (x.1 ≡ m) ⊎ IsHeldIn m ms
+  by true rest f = inl (same_Some _ _ f)
+  by false rest f = inr (rest f)
 
 -- a pin that lets its mapping be used lets the domain access any range in that way
 pub permits-as : (e : Entry) (d : DomId) (held dir : Dir) (off len : ℕ) → ((dir ≡ Write) → held ≡ Write) → permits e d held ForMap 0 0 ≡ true → permits e d dir ForMap off len ≡ true
 permits-as (Page dom ro frame) d held dir off len w a =
     let parts = and_parts (dom.0 == d.0) (allows_direction ro held) a in
-    and_from (dom.0 == d.0) (allows_direction ro dir) parts.0 (by dir w parts.1)
-  where
-    by : (z : Dir) → ((z ≡ Write) → held ≡ Write) → allows_direction ro held ≡ true → allows_direction ro z ≡ true
-    by Read v r = refl
-    by Write v r = subst (λ (x : Dir). allows_direction ro x ≡ true) (v refl) r
+    and_from (dom.0 == d.0) (allows_direction ro dir) parts.0 (by dir w parts.1) where
+      by : (z : Dir) → ((z ≡ Write) → held ≡ Write) → allows_direction ro held ≡ true → allows_direction ro z ≡ true
+      by Read v r = refl
+      by Write v r = subst (λ (x : Dir). allows_direction ro x ≡ true) (v refl) r
 permits-as (Sub dom ro frame start size) d held dir off len w a = absurd (false≢true (sym (never (dom.0 == d.0) (allows_direction ro held)) ∙ a))
   where
     never : (b c : Bool) → (b && c && false && nat_le start 0 && nat_le (0 + 0) (start + size)) ≡ false
@@ -96,8 +91,7 @@ mapping-holder (ByMapping k) handle e q = (k, refl)
 mapping-holder (ByLeg n) handle e q = absurd (let f = e q in cc)
 
 rightful : (s : Setting) (d : DomId) (m : Held) (p : Pin) → IsLawful s p → IsBy by_mapping d.0 m p → IsRightful s d m p
-rightful s d m p law a =
-    let held = mapping-holder p.holder a.2.0 a.2.1 m in
+rightful s d m p law a = let held = mapping-holder p.holder a.2.0 a.2.1 m in
     let w : IsLawfullyHeld s p (ByMapping held.0) = subst (IsLawfullyHeld s p) held.1 law in
     let same : record { 0 = p.actor } ≡ d = ap (λ (n : ℕ). record { 0 = n }) a.0 in
     let v = subst (λ (z : DomId). (permits p.held.entry z p.held.dir ForMap 0 0 ≡ true) × MayUse s z p.held.dom p.held.dir × (frame_of p.held.entry < frames_of s.domains p.held.dom) × (domain_of s.domains p.held.dom ≢ None)) same w in
@@ -112,14 +106,13 @@ mapping-pin s h xs d handle m st found =
 
 reaches : (s : Setting) (d : DomId) (dir : Dir) (m : Held) (off len : ℕ) (p : Pin) → ((dir ≡ Write) → m.dir ≡ Write) → IsRightful s d m p
     → Reaches d d dir ForMap (record { owner = m.dom; frame = frame_of m.entry; off = off }) len p
-reaches s d dir m off len p writes a =
-    record {
-      of_actor = a.own;
-      of_owner = ap (λ (q : Held). q.dom.0) a.is;
-      of_frame = ap (λ (q : Held). frame_of q.entry) a.is;
-      permitted = ap (λ (q : Held). permits q.entry d dir ForMap off len) a.is ∙ permits-as m.entry d m.dir dir off len writes a.permitted;
-      writes = λ w. ap (λ (q : Held). q.dir) a.is ∙ writes w;
-    }
+reaches s d dir m off len p writes a = record {
+  of_actor = a.own;
+  of_owner = ap (λ (q : Held). q.dom.0) a.is;
+  of_frame = ap (λ (q : Held). frame_of q.entry) a.is;
+  permitted = ap (λ (q : Held). permits q.entry d dir ForMap off len) a.is ∙ permits-as m.entry d m.dir dir off len writes a.permitted;
+  writes = λ w. ap (λ (q : Held). q.dir) a.is ∙ writes w;
+}
 
 -- an access is to bytes inside a frame of a domain of the run, by right
 pub record Accesses (s : Setting) (h : History) (d : DomId) (dir : Dir) (at : Place) (len : ℕ) : Type 0 where
@@ -129,10 +122,8 @@ pub record Accesses (s : Setting) (h : History) (d : DomId) (dir : Dir) (at : Pl
 mapping-accesses : (s : Setting) (h : History) (xs : List State) (d : DomId) (dir : Dir) (handle : Handle) (dom : DomId) (frame off len : ℕ) → DomainsStand s h xs
     → (a : IsMapped (known_at s h d) handle dom frame) → ((dir ≡ Write) → a.mapping.dir ≡ Write) → off + len ≤ FRAME_SIZE
     → Accesses s h d dir (record { owner = dom; frame = frame; off = off }) len × MayUseMapping s d (mapping_of (mappings_at h d.0) handle)
-mapping-accesses s h xs d dir handle dom frame off len st a writes inside =
-    let m = a.mapping in
-    let pin = mapping-pin s h xs d handle m st a.found in
-    let one = pin.4 in (
+mapping-accesses s h xs d dir handle dom frame off len st a writes inside = let m = a.mapping in
+    let pin = mapping-pin s h xs d handle m st a.found in let one = pin.4 in (
       subst (λ (z : DomId). Accesses s h d dir (record { owner = z; frame = frame; off = off }) len) (sym a.of_dom)
           (subst (λ (n : ℕ). Accesses s h d dir (record { owner = m.dom; frame = n; off = off }) len) (sym a.of_frame)
           (record { inside = (one.framed, inside); by_right = inr (any-map (IsRightful s d m) (Reaches d d dir ForMap (record { owner = m.dom; frame = frame_of m.entry; off = off }) len) (live h) (λ p b. reaches s d dir m off len p writes b) pin) })),
@@ -199,18 +190,16 @@ abbrev IsOwnPin : DomId → Held → Pin → Type 0
 IsOwnPin d m p = (p.actor ≡ d.0) × (p.held ≡ m)
 
 pub leg-pin : (h : History) (d : DomId) (m : Held) (held : List Held) → legs_at h d.0 ≡ numbered 0 (reverse held) → IsAmong m held → Any (IsOwnPin d m) (live h)
-leg-pin h d m held legs a =
-    any-map (IsBy by_leg d.0 m) (IsOwnPin d m) (live h) (λ p b. (b.0, b.1))
+leg-pin h d m held legs a = any-map (IsBy by_leg d.0 m) (IsOwnPin d m) (live h) (λ p b. (b.0, b.1))
     (gathered-any by_leg d.0 m (live h) leg-gives (subst (IsHeldIn m) (sym legs) (among-numbered 0 m (reverse held) (among-reverse m held a))))
 
 -- the policy allows what is not denied
 allowed : (may : TypeId → TypeId → Perms → Bool) (ts : List Triple) → denied may ts ≡ None → IsAllowed may ts
 allowed may [] e = tt
-allowed may (t ∷ ts) e = by (may t.source t.target t.perm) refl (allowed may ts) e
-  where
-    by : (b : Bool) → may t.source t.target t.perm ≡ b → (denied may ts ≡ None → IsAllowed may ts) → cond b (denied may ts) (Some (Refused (denial_of N5 (Policy t.source t.target t.perm)))) ≡ None → IsAllowed may (t ∷ ts)
-    by true is more f = (is, more f)
-    by false is more f = cc
+allowed may (t ∷ ts) e = by (may t.source t.target t.perm) refl (allowed may ts) e where
+  by : (b : Bool) → may t.source t.target t.perm ≡ b → (denied may ts ≡ None → IsAllowed may ts) → cond b (denied may ts) (Some (Refused (denial_of N5 (Policy t.source t.target t.perm)))) ≡ None → IsAllowed may (t ∷ ts)
+  by true is more f = (is, more f)
+  by false is more f = cc
 
 via-may : (k : CallerKnowledge) (pair : DomId × DomId) (dom : DomId) → via_judged k pair dom ≡ None → IsAllowed k.may (rights_to_copy k pair.0 pair.1)
 via-may k pair dom e = allowed k.may (rights_to_copy k pair.0 pair.1) (by (is_none (domain_of k.domains dom)) (copy_denied k pair.0 pair.1) e)
@@ -227,14 +216,13 @@ reached-frame s h d granted end dir len pair (Through via p) a range = (leb-fals
 
 reaches-by : (s : Setting) (h : History) (d judged : DomId) (dir : Dir) (off len : ℕ) (p : Held) (q : Pin) → IsPermitted (known_at s h d) p judged dir off len → IsOwnPin d p q
     → Reaches d judged dir ForCopy (record { owner = p.dom; frame = frame_of p.entry; off = off }) len q
-reaches-by s h d judged dir off len p q a own =
-    record {
-      of_actor = own.0;
-      of_owner = ap (λ (x : Held). x.dom.0) own.1;
-      of_frame = ap (λ (x : Held). frame_of x.entry) own.1;
-      permitted = ap (λ (x : Held). permits x.entry judged dir ForCopy off len) own.1 ∙ a.permitted;
-      writes = λ w. ap (λ (x : Held). x.dir) own.1 ∙ a.taken_for ∙ w;
-    }
+reaches-by s h d judged dir off len p q a own = record {
+  of_actor = own.0;
+  of_owner = ap (λ (x : Held). x.dom.0) own.1;
+  of_frame = ap (λ (x : Held). frame_of x.entry) own.1;
+  permitted = ap (λ (x : Held). permits x.entry judged dir ForCopy off len) own.1 ∙ a.permitted;
+  writes = λ w. ap (λ (x : Held). x.dir) own.1 ∙ a.taken_for ∙ w;
+}
 
 -- the pins of a route are among these
 abbrev pub HasRoute : List Held → Route → Type 0
@@ -249,55 +237,47 @@ end-justified : (s : Setting) (h : History) (d : DomId) (granted : Bool) (end : 
 end-justified s h d granted end dir len pair owners Own held legs has a same = inl (a.0, refl)
 end-justified s h d granted end dir len pair owners (Direct p) held legs has a same =
     inr (inl (a.0, a.1, any-map (IsOwnPin d p) (Reaches d d dir ForCopy (place_of d end (Direct p)) len) (live h) (λ q own. reaches-by s h d d dir end.offset len p q a.2 own) (leg-pin h d p held legs has)))
-end-justified s h d granted end dir len pair owners (Through via p) held legs has a same =
-    inr (inr (
-      a.0,
-      any-map (IsOwnPin d p) _ (live h)
-          (λ q own. any-map (IsOwnPin d via) _ (live h) (λ v of_via. (forwards-by q own v of_via, reaches-by s h d (resolved d end.domid) dir end.offset len p q a.3 own)) (leg-pin h d via held legs has.0))
-          (leg-pin h d p held legs has.1),
-      subst (MayCopy s) (same p via refl) (via-may (known_at s h d) (pair p.dom) p.dom a.4),
-    ))
-  where
-    leads : (e : Entry) (m q : Held) → m ≡ q → LeadsTo e m → LeadsTo e q
-    leads e m q is b = subst (LeadsTo e) is b
+end-justified s h d granted end dir len pair owners (Through via p) held legs has a same = inr (inr (
+  a.0,
+  any-map (IsOwnPin d p) _ (live h)
+      (λ q own. any-map (IsOwnPin d via) _ (live h) (λ v of_via. (forwards-by q own v of_via, reaches-by s h d (resolved d end.domid) dir end.offset len p q a.3 own)) (leg-pin h d via held legs has.0))
+      (leg-pin h d p held legs has.1),
+  subst (MayCopy s) (same p via refl) (via-may (known_at s h d) (pair p.dom) p.dom a.4),
+)) where
+  leads : (e : Entry) (m q : Held) → m ≡ q → LeadsTo e m → LeadsTo e q
+  leads e m q is b = subst (LeadsTo e) is b
 
-    forwards-by : (q : Pin) → IsOwnPin d p q → (v : Pin) → IsOwnPin d via v → Forwards d dir (resolved d end.domid) q v
-    forwards-by q own v of_via =
-        record {
-          of_actor = of_via.0;
-          of_named = ap (λ (x : Held). x.dom) of_via.1 ∙ a.1.named;
-          forwarded = ap (λ (x : Held). forwards x.entry d dir) of_via.1 ∙ a.1.forwarded;
-          leads = subst (λ (x : Held). LeadsTo x.entry q.held) (sym of_via.1) (leads via.entry p q.held (sym own.1) a.2);
-          writes = λ w. ap (λ (x : Held). x.dir) of_via.1 ∙ a.1.taken_for ∙ w;
-        }
+  forwards-by : (q : Pin) → IsOwnPin d p q → (v : Pin) → IsOwnPin d via v → Forwards d dir (resolved d end.domid) q v
+  forwards-by q own v of_via = record {
+    of_actor = of_via.0;
+    of_named = ap (λ (x : Held). x.dom) of_via.1 ∙ a.1.named;
+    forwarded = ap (λ (x : Held). forwards x.entry d dir) of_via.1 ∙ a.1.forwarded;
+    leads = subst (λ (x : Held). LeadsTo x.entry q.held) (sym of_via.1) (leads via.entry p q.held (sym own.1) a.2);
+    writes = λ w. ap (λ (x : Held). x.dir) of_via.1 ∙ a.1.taken_for ∙ w;
+  }
 
 -- the pins of both routes are held
 route-first : (pins : Pins) → HasRoute (last_first pins) pins.source × HasRoute (last_first pins) pins.dest
-route-first pins = (source pins.source pins.dest, dest pins.source pins.dest)
-  where
-    source : (a b : Route) → HasRoute (last_first (record { source = a; dest = b })) a
-    source Own b = tt
-    source (Direct p) Own = inl refl
-    source (Direct p) (Direct q) = inr (inl refl)
-    source (Direct p) (Through via q) = inr (inr (inl refl))
-    source (Through v p) Own = (inr (inl refl), inl refl)
-    source (Through v p) (Direct q) = (inr (inr (inl refl)), inr (inl refl))
-    source (Through v p) (Through via q) = (inr (inr (inr (inl refl))), inr (inr (inl refl)))
+route-first pins = (source pins.source pins.dest, dest pins.source pins.dest) where
+  source : (a b : Route) → HasRoute (last_first (record { source = a; dest = b })) a
+  source Own b = tt
+  source (Direct p) Own = inl refl
+  source (Direct p) (Direct q) = inr (inl refl)
+  source (Direct p) (Through via q) = inr (inr (inl refl))
+  source (Through v p) Own = (inr (inl refl), inl refl)
+  source (Through v p) (Direct q) = (inr (inr (inl refl)), inr (inl refl))
+  source (Through v p) (Through via q) = (inr (inr (inr (inl refl))), inr (inr (inl refl)))
 
-    dest : (a b : Route) → HasRoute (last_first (record { source = a; dest = b })) b
-    dest a Own = tt
-    dest a (Direct q) = inl refl
-    dest a (Through via q) = (inr (inl refl), inl refl)
+  dest : (a b : Route) → HasRoute (last_first (record { source = a; dest = b })) b
+  dest a Own = tt
+  dest a (Direct q) = inl refl
+  dest a (Through via q) = (inr (inl refl), inl refl)
 
 pub copy-justified : (s : Setting) (h : History) (d : DomId) (r : Asked) (pins : Pins) (from to : Place) (len : ℕ) → begun (known_at s h d) d r ≡ None → legs_at h d.0 ≡ numbered 0 (reverse (last_first pins))
     → RestsOnWays (known_at s h d) d r pins from to len → CopyIsJustified s h d r from to len
-copy-justified s h d r pins from to len none legs a =
-    let k = known_at s h d in
-    let c = a.copy in
-    let has = route-first pins in
-    let o = opens k d (Copy c) (none-of k d r (Copy c) a.of_copy none) in
-    let f = place_of d c.source pins.source in
-    let t = place_of d c.dest pins.dest in
+copy-justified s h d r pins from to len none legs a = let k = known_at s h d in let c = a.copy in
+    let has = route-first pins in let o = opens k d (Copy c) (none-of k d r (Copy c) a.of_copy none) in
+    let f = place_of d c.source pins.source in let t = place_of d c.dest pins.dest in
     let fits : CopyIsJustified s h d (Copy c) f t c.len = (
       reached-frame s h d (is_source_granted c) c.source Read c.len (source_pair d c) pins.source a.source_reached o.source_range,
       reached-frame s h d (is_dest_granted c) c.dest Write c.len (dest_pair d pins.source) pins.dest a.dest_reached o.dest_range,
@@ -306,8 +286,7 @@ copy-justified s h d r pins from to len none legs a =
           (λ p via e. ap (λ (z : Route). (owner_by d z, resolved d c.dest.domid)) (sym e)),
       end-justified s h d (is_dest_granted c) c.dest Write c.len (dest_pair d pins.source) (f.owner, t.owner) pins.dest (last_first pins) legs has.1 a.dest_reached
           (λ p via e. ap (λ (z : Route). (f.owner, owner_by d z)) (sym e)),
-    ) in
-    subst (λ (z : Asked). CopyIsJustified s h d z from to len) (sym a.of_copy)
+    ) in subst (λ (z : Asked). CopyIsJustified s h d z from to len) (sym a.of_copy)
     (subst (λ (z : Place). CopyIsJustified s h d (Copy c) z to len) (sym a.from_is)
     (subst (λ (z : Place). CopyIsJustified s h d (Copy c) f z len) (sym a.to_is)
     (subst (λ (n : ℕ). CopyIsJustified s h d (Copy c) f t n) (sym a.len_is) fits)))

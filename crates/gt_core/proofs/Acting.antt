@@ -1,17 +1,8 @@
 -- What each step of an open call rests on, by the history.
-use Rattle.gt_core.proofs.Words.{◌≡◌, ◌≢◌, ◌<◌, ◌≤◌, ◌+◌, ◌⊎◌, inl, inr, ℕ, refl, Bool, true, false, List, [], ◌∷◌, Option, None, sym, ap, ◌∙◌, subst, reverse, arith, eqb-true, eqb-false, leb-false, ltb-false, false≢true, ◌==◌, nat_lt, domain_of, resolved, DomId, GrantRef, Dir, Read, Write, ForMap, TABLE_ENTRIES, LAST_GENERATION, MAX_TABLE_FRAMES, MAX_PINS, Rule, N16, Entry, Invalid, Page, Sub, Via, Change, Publish, ToInvalid, ToReadOnly, ToWritable, Half, FirstHalf, SecondHalf, frame_of, permits, control_of, Held, Asked, Grant, Map, Copy, SetVersion, SetupTable, Seen, PinStep, StoreHeader, Exchange, Makes, Aim, Mapping, Source, Dest, Phase, Exchanging, Changing, Walking, Last, Ending, Leg, LegPhase, AtHeader, Pinning, last_first, CallerKnowledge, begun, stands, first, first_look, before_pin, frames_of, path, held_of, map_leg, Continuation, opens, RestsOnRequest, IsFor, action_at, leg_step, HasShown, IsQuiet, State, History, Setting, entry_at, generation_at, body_at, reads_at, writes_at, control_at, word_at, known_at, legs_at, raise_of, IsSafeChange, IsSpelled, MayUse, leg_at, rule_before_pin, StepsSoFar, DomainsStand, FitsAsked, FitsTable, PhaseStands, numbered, Demote, Promote, pins_so_far, map_dir, Pins, Step}
-use Rattle.gt_types.specs.declared.limits.TheConstants.{LAST_VERSION}
-use Rattle.gt_types.specs.declared.denial.Rule.TheVariants.{N14, N17}
-use Rattle.gt_calls.specs.Rules.{pins_of, is_outside, is_past_owner}
-use Rattle.gt_calls.specs.Resting.{RestsOnTry, RestsOnGrant, Lets}
-use Rattle.gt_core.specs.Legal.{NoneStands}
-use Rattle.gt_core.proofs.Fitting.{word-shows}
-use Rattle.gt_core.proofs.Legs.{IsAsTried, as-tried, still-judged, control-generation, control-reads, control-writes}
-use Rattle.gt_core.proofs.Aims.{leg-here}
-use Rattle.gt_core.proofs.Phases.{IsHere, makes-same, words-of, word-below, grant-invalid, idle-no-pins, of-run, by-giving}
-use Rattle.gt_core.proofs.Judging.{writes-shown}
-use Rattle.gt_core.proofs.Exchanging.{FitsChange}
-use Rattle.gt_core.proofs.Keeping.{counts-fit}
+use Rattle.gt_core.proofs.Words.{◌≡◌, ◌≢◌, ◌<◌, ◌≤◌, ◌+◌, ◌⊎◌, inl, inr, ℕ, refl, Bool, true, false, List, [], ◌∷◌, Option, None, sym, ap, ◌∙◌, subst, reverse, arith, eqb-true, eqb-false, leb-false, ltb-false, false≢true, ◌==◌, nat_lt, domain_of, resolved, DomId, GrantRef, Dir, Read, Write, ForMap, TABLE_ENTRIES, LAST_GENERATION, MAX_TABLE_FRAMES, MAX_PINS, Rule, N16, Entry, Invalid, Page, Sub, Via, Change, Publish, ToInvalid, ToReadOnly, ToWritable, Half, FirstHalf, SecondHalf, frame_of, permits, control_of, Held, Asked, Grant, Map, Copy, SetVersion, SetupTable, Seen, PinStep, StoreHeader, Exchange, Makes, Aim, Mapping, Source, Dest, Phase, Exchanging, Changing, Walking, Last, Ending, Leg, LegPhase, AtHeader, Pinning, last_first, CallerKnowledge, begun, stands, first, first_look, before_pin, frames_of, path, held_of, map_leg, Continuation, opens, RestsOnRequest, IsFor, action_at, leg_step, HasShown, IsQuiet, State, History, Setting, entry_at, generation_at, body_at, reads_at, writes_at, control_at, word_at, known_at, legs_at, raise_of, IsSafeChange, IsSpelled, MayUse, leg_at, rule_before_pin, StepsSoFar, DomainsStand, FitsAsked, FitsTable, PhaseStands, numbered, Demote, Promote, pins_so_far, map_dir, Pins, Step, LAST_VERSION, N14, N17, pins_of, is_outside, is_past_owner, RestsOnTry, RestsOnGrant, Lets, NoneStands}
+use Rattle.gt_core.proofs.Phases.{IsHere, makes-same, words-of, word-below, grant-invalid, idle-no-pins, of-run, by-giving, word-shows}
+use Rattle.gt_core.proofs.Judging.{writes-shown, leg-here, IsAsTried, as-tried, still-judged, control-generation, control-reads, control-writes}
+pub use Rattle.gt_core.proofs.Exchanging.{FitsChange, exchanged-live, exchange-stands, counts-fit}
 use Rattle.gt_core.proofs.Pinning.{pins_at}
 
 -- an owner's change
@@ -27,33 +18,29 @@ pub record CanChange (s : Setting) (h : History) (d : DomId) (gref : GrantRef) (
 publish-spelled : (s : Setting) (h : History) (d : DomId) (r : Asked) (way : Continuation) (shown : List Seen) (so_far : StepsSoFar) (p : Phase) (gref : GrantRef) (looked : ℕ) (entry : Entry) → HasShown (known_at s h d) way d r shown p → PhaseStands s h d r so_far p
     → action_at d p ≡ Makes (Exchange gref looked (Publish entry)) → IsSpelled entry (body_at h d.0 gref.0 FirstHalf) (body_at h d.0 gref.0 SecondHalf)
 publish-spelled s h d r way shown so_far (Exchanging g w (Publish e)) gref looked entry a b acts =
-    let same : e ≡ entry = cc in
-    let at : g ≡ gref = cc in
+    let same : e ≡ entry = cc in let at : g ≡ gref = cc in
     subst (λ (x : Entry). IsSpelled x (body_at h d.0 gref.0 FirstHalf) (body_at h d.0 gref.0 SecondHalf)) same
     (subst (λ (x : GrantRef). IsSpelled e (body_at h d.0 x.0 FirstHalf) (body_at h d.0 x.0 SecondHalf)) at b)
 publish-spelled s h d r way shown so_far (Changing g (Publish e) more w) gref looked entry a b acts = absurd a.1
-publish-spelled s h d r way shown so_far (Walking aim l at) gref looked entry a b acts = absurd (by at acts)
-  where
-    by : (z : LegPhase) → Makes (leg_step l z) ≡ Makes (Exchange gref looked (Publish entry)) → ⊥
-    by AtHeader e = cc
-    by z e = cc
+publish-spelled s h d r way shown so_far (Walking aim l at) gref looked entry a b acts = absurd (by at acts) where
+  by : (z : LegPhase) → Makes (leg_step l z) ≡ Makes (Exchange gref looked (Publish entry)) → ⊥
+  by AtHeader e = cc
+  by z e = cc
 publish-spelled s h d r way shown so_far (Last last verdict) gref looked entry a b acts = absurd (subst IsQuiet (makes-same _ _ acts) a.0)
 publish-spelled s h d r way shown so_far (Ending pins verdict) gref looked entry a b acts = absurd (by-giving (λ (z : Step). z ≡ Exchange gref looked (Publish entry) → ⊥) (λ p n f. cc) (last_first pins) verdict _ acts refl)
 publish-spelled s h d r way shown so_far p gref looked entry a b acts = cc
 
 -- a generation has room in its word
 generation-fits : (s : Setting) (h : History) (xs : List State) (t r : ℕ) → DomainsStand s h xs → r < TABLE_ENTRIES → generation_at s h t r ≤ LAST_GENERATION
-generation-fits s h xs t r st within =
-    let f = (st.words t r within).in_range.generation in
+generation-fits s h xs t r st within = let f = (st.words t r within).in_range.generation in
     let e = control-generation (entry_at h t r) (generation_at s h t r) (reads_at h t r) (writes_at h t r) in
     (omega arith)
 
 not-last : (g : ℕ) → g ≤ LAST_GENERATION → g ≢ LAST_GENERATION → g + 1 ≤ LAST_GENERATION
-not-last g le apart = by (g == LAST_GENERATION) refl
-  where
-    by : (b : Bool) → (g == LAST_GENERATION) ≡ b → g + 1 ≤ LAST_GENERATION
-    by true e = absurd (apart (eqb-true g LAST_GENERATION e))
-    by false e = let f : g ≢ LAST_GENERATION = eqb-false g LAST_GENERATION e in omega arith
+not-last g le apart = by (g == LAST_GENERATION) refl where
+  by : (b : Bool) → (g == LAST_GENERATION) ≡ b → g + 1 ≤ LAST_GENERATION
+  by true e = absurd (apart (eqb-true g LAST_GENERATION e))
+  by false e = let f : g ≢ LAST_GENERATION = eqb-false g LAST_GENERATION e in omega arith
 
 none-of : (k : CallerKnowledge) (d : DomId) (r q : Asked) → r ≡ q → begun k d r ≡ None → begun k d q ≡ None
 none-of k d r q is none = subst (λ (z : Asked). begun k d z ≡ None) is none
@@ -63,41 +50,31 @@ stops-none n e = let le = ltb-false 0 n e in omega arith
 
 pub can-change : (s : Setting) (h : History) (xs : List State) (d : DomId) (r : Asked) (shown : List Seen) (so_far : StepsSoFar) (phase : Phase) (gref : GrantRef) (looked : ℕ) (change : Change) → IsHere s h xs d r shown so_far phase (Exchange gref looked change)
     → word_at s h d.0 gref.0 ≡ looked → CanChange s h d gref change
-can-change s h xs d r shown so_far phase gref looked (Publish entry) i same =
-    let k = known_at s h d in
-    let rests = i.rests.1 in
-    let none = none-of k d r (Grant gref entry) rests.0 i.rests.0 in
-    let within = word-below s h xs d r (path k d r) shown gref looked (Publish entry) i.st i.rests.0 rests in
-    record {
+can-change s h xs d r shown so_far phase gref looked (Publish entry) i same = let k = known_at s h d in
+    let rests = i.rests.1 in let none = none-of k d r (Grant gref entry) rests.0 i.rests.0 in
+    let within = word-below s h xs d r (path k d r) shown gref looked (Publish entry) i.st i.rests.0 rests in record {
       within = within;
       safe = (grant-invalid s h d gref entry none, publish-spelled s h d r (path k d r) shown so_far phase gref looked entry i.at.has_shown i.place i.acts);
       fits = subst FitsAsked rests.0 i.fits;
       room = not-last (generation_at s h d.0 gref.0) (generation-fits s h xs d.0 gref.0 i.st within) (opens k d (Grant gref entry) none).not_worn;
     }
-can-change s h xs d r shown so_far phase gref looked ToInvalid i same =
-    let k = known_at s h d in
+can-change s h xs d r shown so_far phase gref looked ToInvalid i same = let k = known_at s h d in
     let rests = i.rests.1 in
     let within = word-below s h xs d r (path k d r) shown gref looked ToInvalid i.st i.rests.0 rests in
     let free : reads_at h d.0 gref.0 + writes_at h d.0 gref.0 ≡ 0 = idle-no-pins s h d gref (same ∙ rests.1) in
     let room = generation-fits s h xs d.0 gref.0 i.st within in
     record { within = within; safe = (omega arith, omega arith); fits = tt; room = (omega arith) }
-can-change s h xs d r shown so_far phase gref looked ToReadOnly i same =
-    let k = known_at s h d in
-    let rests = i.rests.1 in
-    let none = none-of k d r (Demote gref) rests.0 i.rests.0 in
-    let within = word-below s h xs d r (path k d r) shown gref looked ToReadOnly i.st i.rests.0 rests in
-    record {
+can-change s h xs d r shown so_far phase gref looked ToReadOnly i same = let k = known_at s h d in
+    let rests = i.rests.1 in let none = none-of k d r (Demote gref) rests.0 i.rests.0 in
+    let within = word-below s h xs d r (path k d r) shown gref looked ToReadOnly i.st i.rests.0 rests in record {
       within = within;
       safe = sym (writes-shown s h d.0 gref.0 (word-shows s h xs d.0 gref.0 i.st within)) ∙ ap (λ (n : ℕ). (control_of n).writes) same ∙ stops-none (control_of looked).writes rests.2;
       fits = tt;
       room = not-last (generation_at s h d.0 gref.0) (generation-fits s h xs d.0 gref.0 i.st within) (opens k d (Demote gref) none).not_worn;
     }
-can-change s h xs d r shown so_far phase gref looked ToWritable i same =
-    let k = known_at s h d in
-    let rests = i.rests.1 in
-    let none = none-of k d r (Promote gref) rests.0 i.rests.0 in
-    let within = word-below s h xs d r (path k d r) shown gref looked ToWritable i.st i.rests.0 rests in
-    record {
+can-change s h xs d r shown so_far phase gref looked ToWritable i same = let k = known_at s h d in
+    let rests = i.rests.1 in let none = none-of k d r (Promote gref) rests.0 i.rests.0 in
+    let within = word-below s h xs d r (path k d r) shown gref looked ToWritable i.st i.rests.0 rests in record {
       within = within;
       safe = tt;
       fits = tt;
@@ -118,11 +95,10 @@ header-fits s h xs d r version frames st none (inl a) =
     by : (version ≡ 1) ⊎ (version ≡ 2) → version ≤ LAST_VERSION
     by (inl e) = omega arith
     by (inr e) = omega arith
-header-fits s h xs d r version frames st none (inr a) =
-    record {
-      version = subst (λ (n : ℕ). n ≤ LAST_VERSION) (sym a.1) (st.tables d).version;
-      frames = (opens (known_at s h d) d (SetupTable frames) (none-of (known_at s h d) d r (SetupTable frames) a.0 none)).within;
-    }
+header-fits s h xs d r version frames st none (inr a) = record {
+  version = subst (λ (n : ℕ). n ≤ LAST_VERSION) (sym a.1) (st.tables d).version;
+  frames = (opens (known_at s h d) d (SetupTable frames) (none-of (known_at s h d) d r (SetupTable frames) a.0 none)).within;
+}
 
 -- a pin
 
@@ -139,8 +115,7 @@ stands-not false rule more e = (refl, e)
 
 -- before a pin there is room for it
 pins-left : (l : Leg) (e : Entry) (pins : ℕ) → before_pin l e pins ≡ None → pins ≢ MAX_PINS
-pins-left l e pins none =
-    let a = stands-not (is_outside l e) N14 _ none in
+pins-left l e pins none = let a = stands-not (is_outside l e) N14 _ none in
     let b = stands-not (is_past_owner l e) N16 _ a.1 in
     eqb-false pins MAX_PINS (stands-not (pins == MAX_PINS) N17 [] b.1).0
 
@@ -148,16 +123,15 @@ pins-shown : (s : Setting) (h : History) (t r : ℕ) (dir : Dir) → pins_of dir
 pins-shown s h t r Read = control-reads (entry_at h t r) (generation_at s h t r) (reads_at h t r) (writes_at h t r)
 pins-shown s h t r Write = control-writes (entry_at h t r) (generation_at s h t r) (reads_at h t r) (writes_at h t r)
 
-few-pins : (h : History) (t r : ℕ) (dir : Dir) → (reads_at h t r < 4096) × (writes_at h t r < 4096) → pins_at h t r dir < 4096
+few-pins : (h : History) (t r : ℕ) (dir : Dir) → (reads_at h t r < MAX_PINS + 1) × (writes_at h t r < MAX_PINS + 1) → pins_at h t r dir < MAX_PINS + 1
 few-pins h t r Read a = a.0
 few-pins h t r Write a = a.1
 
-below-most : (n : ℕ) → n < 4096 → n ≢ MAX_PINS → n < MAX_PINS
-below-most n lt apart = by (n == MAX_PINS) refl
-  where
-    by : (b : Bool) → (n == MAX_PINS) ≡ b → n < MAX_PINS
-    by true e = absurd (apart (eqb-true n MAX_PINS e))
-    by false e = let f : n ≢ MAX_PINS = eqb-false n MAX_PINS e in omega arith
+below-most : (n : ℕ) → n < MAX_PINS + 1 → n ≢ MAX_PINS → n < MAX_PINS
+below-most n lt apart = by (n == MAX_PINS) refl where
+  by : (b : Bool) → (n == MAX_PINS) ≡ b → n < MAX_PINS
+  by true e = absurd (apart (eqb-true n MAX_PINS e))
+  by false e = let f : n ≢ MAX_PINS = eqb-false n MAX_PINS e in omega arith
 
 taken-pin : (s : Setting) (h : History) (xs : List State) (d : DomId) (r : Asked) (so_far : StepsSoFar) (aim : Aim) (l : Leg) (more word body second : ℕ) → DomainsStand s h xs → IsFor (known_at s h d) d r aim l
     → legs_at h d.0 ≡ numbered 0 (reverse (last_first (pins_so_far aim))) → PhaseStands s h d r so_far (Walking aim l (Pinning more word body second)) → word_at s h l.dom.0 l.gref.0 ≡ word
@@ -167,8 +141,7 @@ taken-pin s h xs d r so_far aim l more word body second st is held place same =
     let p : Held = held_of l word body second in
     let judged : rule_before_pin s h l l.dom l.gref ≡ None = still-judged s h l word body second a ∙ place.1.1.judged in
     let left : pins_of l.dir (control_at s h l.dom.0 l.gref.0) ≢ MAX_PINS = pins-left l (entry_at h l.dom.0 l.gref.0) (pins_of l.dir (control_at s h l.dom.0 l.gref.0)) judged in
-    let counts = counts-fit s h l.dom.0 l.gref.0 (st.words l.dom.0 l.gref.0 place.1.0.within) in
-    record {
+    let counts = counts-fit s h l.dom.0 l.gref.0 (st.words l.dom.0 l.gref.0 place.1.0.within) in record {
       is = ap (λ (e : Entry). record p { entry = e }) (sym a.entry);
       valid = a.valid;
       few = below-most (pins_at h l.dom.0 l.gref.0 l.dir) (few-pins h l.dom.0 l.gref.0 l.dir counts) (λ e. left (pins-shown s h l.dom.0 l.gref.0 l.dir ∙ e));
@@ -177,21 +150,19 @@ taken-pin s h xs d r so_far aim l more word body second st is held place same =
 
 pub can-pin : (s : Setting) (h : History) (xs : List State) (d : DomId) (r : Asked) (shown : List Seen) (so_far : StepsSoFar) (phase : Phase) (p : Held) → IsHere s h xs d r shown so_far phase (PinStep p)
     → word_at s h p.dom.0 p.gref.0 ≡ p.word → CanPin s h d r p
-can-pin s h xs d r shown so_far phase p i same = by phase i.at.has_shown i.place i.acts i.held
-  where
-    walk : (aim : Aim) (l : Leg) (at : LegPhase) → IsFor (known_at s h d) d r aim l → PhaseStands s h d r so_far (Walking aim l at) → Makes (leg_step l at) ≡ Makes (PinStep p)
-        → legs_at h d.0 ≡ numbered 0 (reverse (last_first (pins_so_far aim))) → CanPin s h d r p
-    walk aim l (Pinning more word body second) is b e held =
-        let q : held_of l word body second ≡ p = cc in
-        subst (CanPin s h d r) q (taken-pin s h xs d r so_far aim l more word body second i.st is held b (subst (λ (z : Held). word_at s h z.dom.0 z.gref.0 ≡ z.word) (sym q) same))
-    walk aim l at is b e held = cc
+can-pin s h xs d r shown so_far phase p i same = by phase i.at.has_shown i.place i.acts i.held where
+  walk : (aim : Aim) (l : Leg) (at : LegPhase) → IsFor (known_at s h d) d r aim l → PhaseStands s h d r so_far (Walking aim l at) → Makes (leg_step l at) ≡ Makes (PinStep p)
+      → legs_at h d.0 ≡ numbered 0 (reverse (last_first (pins_so_far aim))) → CanPin s h d r p
+  walk aim l (Pinning more word body second) is b e held = let q : held_of l word body second ≡ p = cc in
+      subst (CanPin s h d r) q (taken-pin s h xs d r so_far aim l more word body second i.st is held b (subst (λ (z : Held). word_at s h z.dom.0 z.gref.0 ≡ z.word) (sym q) same))
+  walk aim l at is b e held = cc
 
-    by : (z : Phase) → HasShown (known_at s h d) (path (known_at s h d) d r) d r shown z → PhaseStands s h d r so_far z → action_at d z ≡ Makes (PinStep p)
-        → legs_at h d.0 ≡ numbered 0 (reverse (last_first (Rattle.gt_calls.specs.Standing.pins_at z))) → CanPin s h d r p
-    by (Walking aim l at) a b e held = walk aim l at a.1 b e held
-    by (Last last verdict) a b e held = absurd (subst IsQuiet (makes-same _ _ e) a.0)
-    by (Ending pins verdict) a b e held = absurd (by-giving (λ (z : Step). z ≡ PinStep p → ⊥) (λ q n f. cc) (last_first pins) verdict _ e refl)
-    by z a b e held = cc
+  by : (z : Phase) → HasShown (known_at s h d) (path (known_at s h d) d r) d r shown z → PhaseStands s h d r so_far z → action_at d z ≡ Makes (PinStep p)
+      → legs_at h d.0 ≡ numbered 0 (reverse (last_first (Rattle.gt_calls.specs.Standing.pins_at z))) → CanPin s h d r p
+  by (Walking aim l at) a b e held = walk aim l at a.1 b e held
+  by (Last last verdict) a b e held = absurd (subst IsQuiet (makes-same _ _ e) a.0)
+  by (Ending pins verdict) a b e held = absurd (by-giving (λ (z : Step). z ≡ PinStep p → ⊥) (λ q n f. cc) (last_first pins) verdict _ e refl)
+  by z a b e held = cc
 
 -- a pin that a map takes is lawful
 
@@ -205,22 +176,21 @@ map-lets k d dom gref flags (Via to ro dom2 r) a = absurd (false≢true a.1)
 pub map-lawful : (s : Setting) (h : History) (d : DomId) (r : Asked) (p : Held) (shown : List Seen) (pins : Pins) → begun (known_at s h d) d r ≡ None → RestsOnTry (known_at s h d) d r pins (path (known_at s h d) d r) shown p
     → (dom : DomId) (gref : GrantRef) (flags : ℕ) → r ≡ Map dom gref flags
     → (permits p.entry d p.dir ForMap 0 0 ≡ true) × MayUse s d p.dom p.dir × (frame_of p.entry < frames_of s.domains p.dom) × (domain_of s.domains p.dom ≢ None)
-map-lawful s h d r p shown pins none t dom gref flags is = by t.aim t.aimed
-  where
-    k : CallerKnowledge
-    k = known_at s h d
+map-lawful s h d r p shown pins none t dom gref flags is = by t.aim t.aimed where
+  k : CallerKnowledge
+  k = known_at s h d
 
-    Lawful : Held → Type 0
-    Lawful q = (permits p.entry d q.dir ForMap 0 0 ≡ true) × MayUse s d q.dom q.dir × (frame_of p.entry < frames_of s.domains q.dom) × (domain_of s.domains q.dom ≢ None)
+  Lawful : Held → Type 0
+  Lawful q = (permits p.entry d q.dir ForMap 0 0 ≡ true) × MayUse s d q.dom q.dir × (frame_of p.entry < frames_of s.domains q.dom) × (domain_of s.domains q.dom ≢ None)
 
-    mapped : (u : DomId) (g : GrantRef) (f : ℕ) → r ≡ Map u g f → t.leg ≡ map_leg k d u g f → Lawful p
-    mapped u g f of_map leg_is =
-        let lets = map-lets k d u g f p.entry (subst (λ (l : Leg). Lets l p.entry) leg_is t.lets) in
-        let o = opens k d (Map u g f) (none-of k d r (Map u g f) of_map none) in
-        let q : held_of (map_leg k d u g f) p.word t.body t.second ≡ p = sym (t.pin_is ∙ ap (λ (l : Leg). held_of l p.word t.body t.second) leg_is) in
-        subst Lawful q (lets.0, o.allowed, lets.1, of-run (domain_of s.domains (resolved d u)) o.of_run)
+  mapped : (u : DomId) (g : GrantRef) (f : ℕ) → r ≡ Map u g f → t.leg ≡ map_leg k d u g f → Lawful p
+  mapped u g f of_map leg_is =
+      let lets = map-lets k d u g f p.entry (subst (λ (l : Leg). Lets l p.entry) leg_is t.lets) in
+      let o = opens k d (Map u g f) (none-of k d r (Map u g f) of_map none) in
+      let q : held_of (map_leg k d u g f) p.word t.body t.second ≡ p = sym (t.pin_is ∙ ap (λ (l : Leg). held_of l p.word t.body t.second) leg_is) in
+      subst Lawful q (lets.0, o.allowed, lets.1, of-run (domain_of s.domains (resolved d u)) o.of_run)
 
-    by : (aim : Aim) → IsFor k d r aim t.leg → Lawful p
-    by Mapping a = mapped a.dom a.gref a.flags a.of_map a.leg_is
-    by (Source c via) a = absurd (let f : Map dom gref flags ≡ Copy c = sym is ∙ a.0 in cc)
-    by (Dest c source via) a = absurd (let f : Map dom gref flags ≡ Copy c = sym is ∙ a.0 in cc)
+  by : (aim : Aim) → IsFor k d r aim t.leg → Lawful p
+  by Mapping a = mapped a.dom a.gref a.flags a.of_map a.leg_is
+  by (Source c via) a = absurd (let f : Map dom gref flags ≡ Copy c = sym is ∙ a.0 in cc)
+  by (Dest c source via) a = absurd (let f : Map dom gref flags ≡ Copy c = sym is ∙ a.0 in cc)

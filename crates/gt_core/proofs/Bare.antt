@@ -80,8 +80,7 @@ table-bare s (i ∷ h) t =
 pub maps-bare : (h : History) (d : ℕ) → maps_answered_at (bare h) d ≡ maps_answered_at h d
 unfolding maps_answered_at bare
 maps-bare [] d = refl
-maps-bare (i ∷ h) d =
-    ap (λ (n : ℕ). cond (i.actor.0 == d) n 0 + maps_answered_at (bare h) d) (mapped-bare i.answer)
+maps-bare (i ∷ h) d = ap (λ (n : ℕ). cond (i.actor.0 == d) n 0 + maps_answered_at (bare h) d) (mapped-bare i.answer)
     ∙ ap (λ (n : ℕ). cond (i.actor.0 == d) (one_if_mapped i.answer) 0 + n) (maps-bare h d)
 
 -- calls
@@ -121,27 +120,24 @@ with-bare (Stepped step seen) (Some c) =
     ap (λ (l : List (Step × Seen)). Some (record { request = bare_asked c.request; given = c.given; steps = l })) (steps-more c.steps ((step, seen) ∷ []))
 
 after-bare : (i : Item) (c : Option Underway) → underway_after (item_from (told_item i)) (option_map bare_call c) ≡ option_map bare_call (underway_after i c)
-after-bare i c = by i.answer
-  where
-    by : (a : Option Answer) → underway_after (item_from (told_item (record i { answer = a }))) (option_map bare_call c) ≡ option_map bare_call (underway_after (record i { answer = a }) c)
-    by None = with-bare i.happened c
-    by (Some answer) = refl
+after-bare i c = by i.answer where
+  by : (a : Option Answer) → underway_after (item_from (told_item (record i { answer = a }))) (option_map bare_call c) ≡ option_map bare_call (underway_after (record i { answer = a }) c)
+  by None = with-bare i.happened c
+  by (Some answer) = refl
 
 pub open-bare : (h : History) (d : ℕ) → open_call (bare h) d ≡ option_map bare_call (open_call h d)
 unfolding open_call bare
 open-bare [] d = refl
-open-bare (i ∷ h) d = by (open-bare h d) (i.actor.0 == d)
-  where
-    by : open_call (bare h) d ≡ option_map bare_call (open_call h d) → (b : Bool) → cond b (underway_after (item_from (told_item i)) (open_call (bare h) d)) (open_call (bare h) d) ≡ option_map bare_call (cond b (underway_after i (open_call h d)) (open_call h d))
-    by same true = ap (underway_after (item_from (told_item i))) same ∙ after-bare i (open_call h d)
-    by same false = same
+open-bare (i ∷ h) d = by (open-bare h d) (i.actor.0 == d) where
+  by : open_call (bare h) d ≡ option_map bare_call (open_call h d) → (b : Bool) → cond b (underway_after (item_from (told_item i)) (open_call (bare h) d)) (open_call (bare h) d) ≡ option_map bare_call (cond b (underway_after i (open_call h d)) (open_call h d))
+  by same true = ap (underway_after (item_from (told_item i))) same ∙ after-bare i (open_call h d)
+  by same false = same
 
 pub values-bare : (c : Underway) → values (bare_call c) ≡ values c
-values-bare c = by c.steps
-  where
-    by : (ps : List (Step × Seen)) → map (λ (p : Step × Seen). p.1) (bare_steps ps) ≡ map (λ (p : Step × Seen). p.1) ps
-    by [] = refl
-    by (p ∷ ps) = ap (λ (l : List Seen). p.1 ∷ l) (by ps)
+values-bare c = by c.steps where
+  by : (ps : List (Step × Seen)) → map (λ (p : Step × Seen). p.1) (bare_steps ps) ≡ map (λ (p : Step × Seen). p.1) ps
+  by [] = refl
+  by (p ∷ ps) = ap (λ (l : List Seen). p.1 ∷ l) (by ps)
 
 -- bytes
 
@@ -156,8 +152,7 @@ given-in-bare (Some c) = refl
 patches-bare : (h : History) (t f : ℕ) → patches_at (bare h) t f ≡ patches_at h t f
 unfolding patches_at bare
 patches-bare [] t f = refl
-patches-bare (i ∷ h) t f =
-    ap (λ (w : Option Writing). patches_at (bare h) t f ++ patches_by w t f)
+patches-bare (i ∷ h) t f = ap (λ (w : Option Writing). patches_at (bare h) t f ++ patches_by w t f)
     (written-bare i.happened (given_in (open_call (bare h) i.actor.0)) (λ u g. written (patches_at (bare h) u g))
     ∙ ap (λ (bytes : List ℕ). written_by i.happened bytes (λ u g. written (patches_at (bare h) u g))) (ap given_in (open-bare h i.actor.0) ∙ given-in-bare (open_call h i.actor.0))
     ∙ ap (λ (k : ℕ → ℕ → List ℕ). written_by i.happened (given_in (open_call h i.actor.0)) k) (fun_ext (λ u. fun_ext (λ g. ap written (patches-bare h u g)))))

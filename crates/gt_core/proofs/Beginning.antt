@@ -1,28 +1,15 @@
 -- A beginning keeps what a core stands for.
-use Rattle.gt_core.proofs.Words.{arith, ◌≤◌, ◌≡◌, ◌≢◌, ◌<◌, ◌+◌, inl, inr, ℕ, refl, Bool, true, false, List, [], ◌∷◌, length, Option, Some, None, cond, sym, ap, ◌∙◌, subst, get_or, set, reverse, eqb-true, true≢false, slice_get_read, same_Some, position-Some, All, nat_lt, nat_le, ◌==◌, ◌||◌, not, is_none, is_some, position, slice_get, domain_of, resolved, denial_of, DomId, TypeId, Read, Write, Perms, Triple, FRAME_SIZE, LAST_GENERATION, MAX_TABLE_FRAMES, Rule, N1, N5, N6, N9, N10, N16, Policy, Entry, Header, Change, ToReadOnly, ToWritable, Held, Request, CopyArgs, Asked, Grant, Revoke, Demote, Promote, Map, Unmap, Load, SetVersion, SetupTable, QuerySize, GetVersion, Store, Peek, Poke, Copy, Seen, Verdict, Given, Refused, FramesTold, Makes, Done, END_OF_SERIALS, Call, Phase, Walking, Accessing, Ending, Source, Dest, AtHeader, asked, begun_of, given_by, CallerKnowledge, first, refused_when, denied, unmap_denied, rights_to_map, rights_to_copy, size_of, begun, knowledge_of, frames_of, is_source_granted, is_dest_granted, opens, end_leg, action_at, at_dest, StandsAt, held_in, pins_at, GoesOn, Goes, Starts, path, Nothing, Step, Action, Rests, Pins, most_of, steps_left, Item, Began, Answer, AnswerDone, Open, State, state_of, kept_by, with_call, History, Setting, table_at, known_at, Underway, open_call, legs_at, one_if_mapped, LeavesAll, stood, AnsweredBy, GivesValue, refusal_in, refusal_of, IsRight, IsClean, phase_refusal, FitsAsked, PhaseStands, OpenAgrees, CallAgrees, FitsGiven, GivenAgrees, Agrees, StateAgrees, DomainsStand, Opens, numbered, misses}
-use Rattle.std.specs.Prelude.{◌^◌}
-use Rattle.gt_types.specs.declared.limits.TheConstants.{MAX_MAPPINGS}
+use Rattle.gt_core.proofs.Words.{arith, ◌≤◌, ◌≡◌, ◌≢◌, ◌<◌, ◌+◌, inl, inr, ℕ, refl, Bool, true, false, List, [], ◌∷◌, length, Option, Some, None, cond, sym, ap, ◌∙◌, subst, get_or, set, reverse, eqb-true, true≢false, slice_get_read, same_Some, position-Some, All, nat_lt, nat_le, ◌==◌, ◌||◌, not, is_none, is_some, position, slice_get, domain_of, resolved, denial_of, DomId, TypeId, Read, Write, Perms, Triple, FRAME_SIZE, LAST_GENERATION, MAX_TABLE_FRAMES, Rule, N1, N5, N6, N9, N10, N16, Policy, Entry, Header, Change, ToReadOnly, ToWritable, Held, Request, CopyArgs, Asked, Grant, Revoke, Demote, Promote, Map, Unmap, Load, SetVersion, SetupTable, QuerySize, GetVersion, Store, Peek, Poke, Copy, Seen, Verdict, Given, Refused, FramesTold, Makes, Done, END_OF_SERIALS, Call, Phase, Walking, Accessing, Ending, Source, Dest, AtHeader, asked, begun_of, given_by, CallerKnowledge, first, refused_when, denied, unmap_denied, rights_to_map, rights_to_copy, size_of, begun, knowledge_of, frames_of, is_source_granted, is_dest_granted, opens, end_leg, action_at, at_dest, StandsAt, held_in, pins_at, GoesOn, Goes, Starts, path, Nothing, Step, Action, Rests, Pins, most_of, steps_left, Item, Began, Answer, AnswerDone, Open, State, state_of, kept_by, with_call, History, Setting, table_at, known_at, Underway, open_call, legs_at, one_if_mapped, LeavesAll, stood, AnsweredBy, GivesValue, refusal_in, refusal_of, IsRight, IsClean, phase_refusal, FitsAsked, PhaseStands, OpenAgrees, CallAgrees, FitsGiven, GivenAgrees, Agrees, StateAgrees, DomainsStand, Opens, numbered, misses, ◌^◌, MAX_MAPPINGS, N2, N3, N4, N7, N8, N20, N21, N22, N23, N24, field_refused, bytes_begun, IsSaid, granted_when, given_when, rights_to_unmap, rights_to_setup, rights_to_query, map_dir, is_already, change_begun, version_begun, setup_begun, query_begun, own_access_begun, is_version, has_valid, cannot_stand, is_for_reading, ends_named, ends_ranged, ends_owned, ends_framed, is_foreign, is_past_frames, first_phase, unmap_phase, load_phase, store_phase, IsFresh, IsAt, pins_by_call, MakesStep, steps_to_come, Frames, asks_memory, WantsMemory, IsOpened, answer_of}
 use Rattle.gt_types.specs.declared.denial.Field.{Field}
-use Rattle.gt_types.specs.declared.denial.Rule.TheVariants.{N2, N3, N4, N7, N8, N20, N21, N22, N23, N24}
 use Rattle.gt_entry.specs.Bytes.{first_refused}
 use Rattle.gt_calls.specs.declared.held.Route.TheVariants.{Own}
 use Rattle.gt_calls.specs.declared.request.Request.TheVariants as requests
-use Rattle.gt_calls.specs.Asking.{field_refused, bytes_begun, IsSaid}
-use Rattle.gt_calls.specs.Rules.{granted_when, given_when, rights_to_unmap, rights_to_setup, rights_to_query, map_dir, is_already, change_begun, version_begun, setup_begun, query_begun, own_access_begun, is_version, has_valid, cannot_stand, is_for_reading, is_invalid, ends_named, ends_ranged, ends_owned, ends_framed, is_foreign, is_past_frames}
-use Rattle.gt_calls.specs.Machine.{first_phase, unmap_phase, load_phase, store_phase}
-use Rattle.gt_calls.specs.Standing.{IsFresh, IsAt, pins_by_call}
-use Rattle.gt_calls.specs.Following.{MakesStep}
+use Rattle.gt_calls.specs.Rules.{is_invalid}
 use Rattle.gt_calls.specs.declared.call.Start.TheVariants.{Open as StartOpen}
-use Rattle.gt_calls.specs.Counting.{steps_to_come}
-use Rattle.gt_core.specs.declared.trace.Answer.TheVariants.{Frames}
 use Rattle.gt_core.specs.declared.machine.Opening.TheVariants.{Open as OpeningOpen}
-use Rattle.gt_core.specs.States.{asks_memory}
-use Rattle.gt_core.specs.Standing.{IsMapping, WantsMemory, IsOpened, answer_of}
-use Rattle.gt_core.proofs.Quiet.{KeepsKnown, kept-known, kept-legs}
-use Rattle.gt_core.proofs.Places.{has_id, found, not-found, state_of-set}
-use Rattle.gt_core.proofs.Phases.{of-run}
-use Rattle.gt_core.proofs.Placing.{dest-placed}
-use Rattle.gt_core.proofs.Keeping.{KeepsEntries, known-same, open_call-own, stood-own, given-none, quiet-stands}
+use Rattle.gt_core.specs.Standing.{IsMapping}
+pub use Rattle.gt_core.proofs.Places.{has_id, found, not-found, state_of-set, on-err}
+use Rattle.gt_core.proofs.Keeping.{KeepsEntries, known-same, open_call-own, stood-own, given-none, quiet-stands, KeepsKnown, kept-known, kept-legs, dest-placed, of-run}
 
 -- beginnings
 
@@ -48,26 +35,22 @@ call-some s h id (Some o) (Some c) e a n = cc
 -- an opened call
 
 held-by : (k : CallerKnowledge) (d : DomId) (r : Asked) → held_in (first_phase k d r) ≡ []
-held-by k d (Unmap handle) = by (k.mapping handle)
-  where
-    by : (o : Option Held) → held_in (unmap_phase handle o) ≡ []
-    by None = refl
-    by (Some m) = refl
-held-by k d (Load handle off len) = by (k.mapping handle)
-  where
-    by : (o : Option Held) → held_in (load_phase o off len) ≡ []
-    by None = refl
-    by (Some m) = refl
-held-by k d (Store handle off len) = by (k.mapping handle)
-  where
-    by : (o : Option Held) → held_in (store_phase o off len) ≡ []
-    by None = refl
-    by (Some m) = refl
-held-by k d (Copy c) = by (is_source_granted c) (is_dest_granted c)
-  where
-    by : (a b : Bool) → held_in (cond a (Walking (Source c None) (end_leg k d c.source Read c.len) AtHeader) (cond b (Walking (Dest c Own None) (end_leg k d c.dest Write c.len) AtHeader) (Accessing c Own Own))) ≡ []
-    by false true = refl
-    by a b = refl
+held-by k d (Unmap handle) = by (k.mapping handle) where
+  by : (o : Option Held) → held_in (unmap_phase handle o) ≡ []
+  by None = refl
+  by (Some m) = refl
+held-by k d (Load handle off len) = by (k.mapping handle) where
+  by : (o : Option Held) → held_in (load_phase o off len) ≡ []
+  by None = refl
+  by (Some m) = refl
+held-by k d (Store handle off len) = by (k.mapping handle) where
+  by : (o : Option Held) → held_in (store_phase o off len) ≡ []
+  by None = refl
+  by (Some m) = refl
+held-by k d (Copy c) = by (is_source_granted c) (is_dest_granted c) where
+  by : (a b : Bool) → held_in (cond a (Walking (Source c None) (end_leg k d c.source Read c.len) AtHeader) (cond b (Walking (Dest c Own None) (end_leg k d c.dest Write c.len) AtHeader) (Accessing c Own Own))) ≡ []
+  by false true = refl
+  by a b = refl
 held-by k d r = refl
 
 first-place : (s : Setting) (h : History) (d : DomId) (r : Asked) → begun (known_at s h d) d r ≡ None → PhaseStands s h d r [] (first_phase (known_at s h d) d r)
@@ -75,28 +58,24 @@ unfolding misses
 first-place s h d (Demote gref) e = (refl, refl)
 first-place s h d (Promote gref) e = (refl, refl)
 first-place s h d (Map dom gref flags) e = (of-run (domain_of s.domains (resolved d dom)) (opens (known_at s h d) d (Map dom gref flags) e).of_run, tt)
-first-place s h d (Unmap handle) e = by ((known_at s h d).mapping handle)
-  where
-    by : (o : Option Held) → PhaseStands s h d (Unmap handle) [] (unmap_phase handle o)
-    by None = inl refl
-    by (Some m) = refl
-first-place s h d (Load handle off len) e = by ((known_at s h d).mapping handle)
-  where
-    by : (o : Option Held) → PhaseStands s h d (Load handle off len) [] (load_phase o off len)
-    by None = inl refl
-    by (Some m) = refl
-first-place s h d (Store handle off len) e = by ((known_at s h d).mapping handle)
-  where
-    by : (o : Option Held) → PhaseStands s h d (Store handle off len) [] (store_phase o off len)
-    by None = inl refl
-    by (Some m) = refl
+first-place s h d (Unmap handle) e = by ((known_at s h d).mapping handle) where
+  by : (o : Option Held) → PhaseStands s h d (Unmap handle) [] (unmap_phase handle o)
+  by None = inl refl
+  by (Some m) = refl
+first-place s h d (Load handle off len) e = by ((known_at s h d).mapping handle) where
+  by : (o : Option Held) → PhaseStands s h d (Load handle off len) [] (load_phase o off len)
+  by None = inl refl
+  by (Some m) = refl
+first-place s h d (Store handle off len) e = by ((known_at s h d).mapping handle) where
+  by : (o : Option Held) → PhaseStands s h d (Store handle off len) [] (store_phase o off len)
+  by None = inl refl
+  by (Some m) = refl
 first-place s h d (Peek frame off len) e = refl
 first-place s h d (Poke frame off len) e = refl
-first-place s h d (Copy c) e = by (is_source_granted c)
-  where
-    by : (b : Bool) → PhaseStands s h d (Copy c) [] (cond b (Walking (Source c None) (end_leg (known_at s h d) d c.source Read c.len) AtHeader) (at_dest (known_at s h d) d c Own))
-    by true = (of-run (domain_of s.domains (resolved d c.source.domid)) (opens (known_at s h d) d (Copy c) e).source_of_run, tt)
-    by false = dest-placed s h d (Copy c) c Own [] refl e
+first-place s h d (Copy c) e = by (is_source_granted c) where
+  by : (b : Bool) → PhaseStands s h d (Copy c) [] (cond b (Walking (Source c None) (end_leg (known_at s h d) d c.source Read c.len) AtHeader) (at_dest (known_at s h d) d c Own))
+  by true = (of-run (domain_of s.domains (resolved d c.source.domid)) (opens (known_at s h d) d (Copy c) e).source_of_run, tt)
+  by false = dest-placed s h d (Copy c) c Own [] refl e
 first-place s h d (SetVersion version) e = inl (refl, refl)
 first-place s h d (SetupTable frames) e = inr (refl, refl)
 first-place s h d (QuerySize dom) e = (dom, refl, refl)
@@ -108,11 +87,10 @@ first-plain : (k : CallerKnowledge) (d : DomId) (r : Asked) → begun k d r ≡ 
 first-plain k d (Unmap handle) e = ap (λ (o : Option Held). phase_refusal (unmap_phase handle o)) (opens k d (Unmap handle) e).found
 first-plain k d (Load handle off len) e = ap (λ (o : Option Held). phase_refusal (load_phase o off len)) (opens k d (Load handle off len) e).found
 first-plain k d (Store handle off len) e = ap (λ (o : Option Held). phase_refusal (store_phase o off len)) (opens k d (Store handle off len) e).found
-first-plain k d (Copy c) e = by (is_source_granted c) (is_dest_granted c)
-  where
-    by : (a b : Bool) → phase_refusal (cond a (Walking (Source c None) (end_leg k d c.source Read c.len) AtHeader) (cond b (Walking (Dest c Own None) (end_leg k d c.dest Write c.len) AtHeader) (Accessing c Own Own))) ≡ None
-    by false true = refl
-    by a b = refl
+first-plain k d (Copy c) e = by (is_source_granted c) (is_dest_granted c) where
+  by : (a b : Bool) → phase_refusal (cond a (Walking (Source c None) (end_leg k d c.source Read c.len) AtHeader) (cond b (Walking (Dest c Own None) (end_leg k d c.dest Write c.len) AtHeader) (Accessing c Own Own))) ≡ None
+  by false true = refl
+  by a b = refl
 first-plain k d r e = refl
 
 all-nothing : {A : Type 0} (P : A → Type 0) → All P []
@@ -155,13 +133,9 @@ begin-opens : (s : Setting) (h : History) (d : State) (request : Request) (o : O
     → IsRight s h (began d.id request None)
     × CallAgrees s (began d.id request None ∷ h) d.id (Some o) (open_call (began d.id request None ∷ h) d.id.0)
     × GivenAgrees (began d.id request None ∷ h) d.id.0 (kept_by o.call.request (given_by request))
-begin-opens s h d request o fits a closed op =
-    let i = began d.id request None in
-    let keeps = began-keeps d.id request None refl in
-    let r = asked request in
-    let was = known-same s h d a in
-    let still = was ∙ sym (kept-known s i h d.id keeps refl) in
-    let k = known_at s (i ∷ h) d.id in
+begin-opens s h d request o fits a closed op = let i = began d.id request None in
+    let keeps = began-keeps d.id request None refl in let r = asked request in let was = known-same s h d a in
+    let still = was ∙ sym (kept-known s i h d.id keeps refl) in let k = known_at s (i ∷ h) d.id in
     let unanswered : begun_of (known_at s h d.id) d.id request ≡ None = ap (λ (k : CallerKnowledge). begun_of k d.id request) (sym was) ∙ op.unanswered in
     let said : IsSaid (table_at s h d.id) request = subst (λ (x : Header). IsSaid x request) a.header op.said in
     let none : begun k d.id r ≡ None = ap (λ (k : CallerKnowledge). begun k d.id r) (sym still) ∙ op.none in
@@ -170,8 +144,7 @@ begin-opens s h d request o fits a closed op =
     let here : o.call.phase ≡ Some (first_phase k d.id r) = op.phase ∙ ap (λ (k : CallerKnowledge). Some (first_phase k d.id r)) still in
     let stands : StandsAt k o.call.caller o.call.request [] (first_phase k d.id r) = is-at k o.call [] (first_phase k d.id r) here (subst (λ (k : CallerKnowledge). IsAt k o.call []) still op.at) in
     let few : steps_left (first_phase k d.id r) ≤ most_of r = subst (λ (n : ℕ). n ≤ most_of r) (to-come o.call (first_phase k d.id r) here) op.few in
-    let agrees : OpenAgrees s (i ∷ h) d.id o (record { request = r; given = given_by request; steps = [] }) =
-    record {
+    let agrees : OpenAgrees s (i ∷ h) d.id o (record { request = r; given = given_by request; steps = [] }) = record {
       caller = op.caller;
       asks = op.asks;
       phase = first_phase k d.id r;
@@ -224,11 +197,10 @@ or-refused s h d r false rule more a = a
 
 denied-fits : (s : Setting) (h : History) (d : DomId) (r : Asked) (may : TypeId → TypeId → Perms → Bool) (ts : List Triple) → OnVerdict (Fits s h d r) (denied may ts)
 denied-fits s h d r may [] = tt
-denied-fits s h d r may (t ∷ ts) = by (may t.source t.target t.perm) (denied-fits s h d r may ts)
-  where
-    by : (b : Bool) → OnVerdict (Fits s h d r) (denied may ts) → OnVerdict (Fits s h d r) (cond b (denied may ts) (Some (Refused (denial_of N5 (Policy t.source t.target t.perm)))))
-    by true a = a
-    by false a = tt
+denied-fits s h d r may (t ∷ ts) = by (may t.source t.target t.perm) (denied-fits s h d r may ts) where
+  by : (b : Bool) → OnVerdict (Fits s h d r) (denied may ts) → OnVerdict (Fits s h d r) (cond b (denied may ts) (Some (Refused (denial_of N5 (Policy t.source t.target t.perm)))))
+  by true a = a
+  by false a = tt
 
 or-denied : (s : Setting) (h : History) (d : DomId) (r : Asked) (may : TypeId → TypeId → Perms → Bool) (ts : List Triple) (more : List (Option Verdict)) → OnVerdict (Fits s h d r) (first more)
     → OnVerdict (Fits s h d r) (first (denied may ts ∷ more))
@@ -249,15 +221,11 @@ unmap-fits s h k d r None = tt
 unmap-fits s h k d r (Some m) = denied-fits s h d r k.may (rights_to_unmap k d m.dom)
 
 version-fits : (s : Setting) (h : History) (k : CallerKnowledge) (d : DomId) (version : ℕ) → OnVerdict (Fits s h d (SetVersion version)) (version_begun k.header k.entry version)
-version-fits s h k d version =
-    let r = SetVersion version in
-    or-refused s h d r (not (is_version version)) N2 _
+version-fits s h k d version = let r = SetVersion version in or-refused s h d r (not (is_version version)) N2 _
     (on-first (Fits s h d r) (granted_when (version == k.header.version)) _ (granted-fits s h d r (version == k.header.version) refl) (or-refused s h d r (has_valid k.entry (size_of k.header)) N24 [] tt))
 
 setup-fits : (s : Setting) (h : History) (k : CallerKnowledge) (d : DomId) (frames : ℕ) → k.header ≡ table_at s h d → OnVerdict (Fits s h d (SetupTable frames)) (setup_begun k d frames)
-setup-fits s h k d frames same =
-    let r = SetupTable frames in
-    or-denied s h d r k.may (rights_to_setup k d) _
+setup-fits s h k d frames same = let r = SetupTable frames in or-denied s h d r k.may (rights_to_setup k d) _
     (on-first (Fits s h d r) (given_when (nat_le frames k.header.frames) (FramesTold k.header.frames)) _ (given (nat_le frames k.header.frames)) (or-refused s h d r (nat_lt MAX_TABLE_FRAMES frames) N23 [] tt))
   where
     given : (b : Bool) → OnVerdict (Fits s h d (SetupTable frames)) (given_when b (FramesTold k.header.frames))
@@ -280,9 +248,7 @@ access-fits : (s : Setting) (h : History) (k : CallerKnowledge) (d : DomId) (r :
 access-fits s h k d r frame off len = or-refused s h d r (nat_lt FRAME_SIZE (off + len)) N3 _ (or-refused s h d r (nat_le (frames_of k.domains d) frame) N16 [] tt)
 
 copy-fits : (s : Setting) (h : History) (k : CallerKnowledge) (d : DomId) (r : Asked) (c : CopyArgs) → OnVerdict (Fits s h d r) (begun k d (Copy c))
-copy-fits s h k d r c =
-    let source = resolved d c.source.domid in
-    let dest = resolved d c.dest.domid in
+copy-fits s h k d r c = let source = resolved d c.source.domid in let dest = resolved d c.dest.domid in
     on-first (Fits s h d r) (ends_named k d c) _ (or-refused s h d r (is_none (domain_of k.domains source)) N1 _ (or-refused s h d r (is_none (domain_of k.domains dest)) N1 _ (or-refused s h d r (nat_lt 3 c.flags) N2 [] tt)))
     (on-first (Fits s h d r) (ends_ranged c) _ (or-refused s h d r (nat_lt FRAME_SIZE (c.source.offset + c.len)) N3 _ (or-refused s h d r (nat_lt FRAME_SIZE (c.dest.offset + c.len)) N3 [] tt))
     (on-first (Fits s h d r) (ends_owned d c) _ (or-refused s h d r (is_foreign d (is_source_granted c) c.source) N4 _ (or-refused s h d r (is_foreign d (is_dest_granted c) c.dest) N4 [] tt))
@@ -291,28 +257,22 @@ copy-fits s h k d r c =
 
 -- the value of a call that is answered at its beginning
 value-fits : (s : Setting) (h : History) (k : CallerKnowledge) (d : DomId) (request : Request) → k.header ≡ table_at s h d → OnVerdict (Fits s h d (asked request)) (begun_of k d request)
-value-fits s h k d (requests.Grant gref entry) same =
-    let r = Grant gref entry in
+value-fits s h k d (requests.Grant gref entry) same = let r = Grant gref entry in
     or-refused s h d r (nat_le (size_of k.header) gref.0) N9 _ (or-refused s h d r (not (is_invalid (k.entry gref.0))) N20 _
     (or-refused s h d r (cannot_stand entry k.header.version) N21 _ (or-refused s h d r (k.generation gref.0 == LAST_GENERATION) N22 [] tt)))
 value-fits s h k d (requests.GrantBytes gref bytes) same = bytes-fits s h d (asked (requests.GrantBytes gref bytes)) k.header (k.entry gref.0) (k.generation gref.0) gref.0 bytes.now
-value-fits s h k d (requests.Revoke gref) same =
-    let r = Revoke gref in
+value-fits s h k d (requests.Revoke gref) same = let r = Revoke gref in
     or-refused s h d r (nat_le (size_of k.header) gref.0) N9 _ (or-refused s h d r (is_invalid (k.entry gref.0)) N10 [] tt)
 value-fits s h k d (requests.Demote gref) same = turn-fits s h d (Demote gref) ToReadOnly k.header (k.entry gref.0) (k.generation gref.0) gref.0 refl
 value-fits s h k d (requests.Promote gref) same = turn-fits s h d (Promote gref) ToWritable k.header (k.entry gref.0) (k.generation gref.0) gref.0 refl
-value-fits s h k d (requests.Map dom gref flags) same =
-    let r = Map dom gref flags in
+value-fits s h k d (requests.Map dom gref flags) same = let r = Map dom gref flags in
     or-refused s h d r (is_none (domain_of k.domains (resolved d dom))) N1 _ (or-refused s h d r (not ((flags == 2) || (flags == 6))) N2 _
     (or-denied s h d r k.may (rights_to_map k d (resolved d dom) (map_dir flags)) _ (or-refused s h d r (nat_le MAX_MAPPINGS k.in_use || nat_le END_OF_SERIALS k.maps_answered) N8 [] tt)))
-value-fits s h k d (requests.Unmap handle) same =
-    let r = Unmap handle in
+value-fits s h k d (requests.Unmap handle) same = let r = Unmap handle in
     or-refused s h d r (is_none (k.mapping handle)) N6 _ (on-first (Fits s h d r) (unmap_denied k d (k.mapping handle)) [] (unmap-fits s h k d r (k.mapping handle)) tt)
-value-fits s h k d (requests.Load handle off len) same =
-    let r = Load handle off len in
+value-fits s h k d (requests.Load handle off len) same = let r = Load handle off len in
     or-refused s h d r (nat_lt FRAME_SIZE (off + len)) N3 _ (or-refused s h d r (is_none (k.mapping handle)) N6 [] tt)
-value-fits s h k d (requests.Store handle off bytes) same =
-    let r = asked (requests.Store handle off bytes) in
+value-fits s h k d (requests.Store handle off bytes) same = let r = asked (requests.Store handle off bytes) in
     or-refused s h d r (nat_lt FRAME_SIZE (off + length bytes.now)) N3 _ (or-refused s h d r (is_none (k.mapping handle)) N6 _ (or-refused s h d r (is_for_reading (k.mapping handle)) N7 [] tt))
 value-fits s h k d (requests.Peek frame off len) same = access-fits s h k d (Peek frame off len) frame off len
 value-fits s h k d (requests.Poke frame off bytes) same = access-fits s h k d (asked (requests.Poke frame off bytes)) frame off (length bytes.now)
@@ -331,10 +291,8 @@ begin-done : (s : Setting) (h : History) (d : State) (request : Request) (v : Ve
     → IsRight s h (began d.id request (Some (answer_of v)))
     × CallAgrees s (began d.id request (Some (answer_of v)) ∷ h) d.id d.underway (open_call (began d.id request (Some (answer_of v)) ∷ h) d.id.0)
     × GivenAgrees (began d.id request (Some (answer_of v)) ∷ h) d.id.0 d.given
-begin-done s h d request v a closed op =
-    let i = began d.id request (Some (answer_of v)) in
-    let keeps = began-keeps d.id request (Some (answer_of v)) (plain-unmapped v) in
-    let was = known-same s h d a in
+begin-done s h d request v a closed op = let i = began d.id request (Some (answer_of v)) in
+    let keeps = began-keeps d.id request (Some (answer_of v)) (plain-unmapped v) in let was = known-same s h d a in
     let at_once : begun_of (known_at s h d.id) d.id request ≡ Some v = ap (λ (k : CallerKnowledge). begun_of k d.id request) (sym was) ∙ op in
     let against : stood s (i ∷ h) d.id.0 ≡ refusal_in (Some v) = stood-own s i h ∙ ap refusal_in at_once in
     let empty = call-none s h d.id d.underway (open_call h d.id.0) closed a.call in
@@ -362,8 +320,7 @@ agrees-found s h domains dom at x p here st =
 
 pub begin-busy : (s : Setting) (h : History) (domains : List State) (dom : DomId) (at : ℕ) (x : State) → position (has_id dom.0) domains ≡ Some at → x ≡ get_or domains at x
     → is_some x.underway ≡ true → DomainsStand s h domains → (domain_of s.domains dom ≢ None) × (open_call h dom.0 ≢ None)
-begin-busy s h domains dom at x p here busy st =
-    let a = agrees-found s h domains dom at x p here st in
+begin-busy s h domains dom at x p here busy st = let a = agrees-found s h domains dom at x p here st in
     (a.0, subst (λ (d : DomId). open_call h d.0 ≢ None) a.1 (call-some s h x.id x.underway (open_call h x.id.0) busy a.2.call))
 
 pub closed-from : (o : Option Open) → is_some o ≡ false → o ≡ None
@@ -372,18 +329,16 @@ closed-from (Some o) e = absurd (true≢false e)
 
 -- the states with the actor's own one new
 same-state : (domains : List State) (x : State) (q : ℕ) → state_of domains x.id.0 ≡ Some x → state_of domains q ≡ cond (x.id.0 == q) (Some x) (state_of domains q)
-same-state domains x q e = by (x.id.0 == q) refl
-  where
-    by : (b : Bool) → (x.id.0 == q) ≡ b → state_of domains q ≡ cond b (Some x) (state_of domains q)
-    by true w = ap (state_of domains) (sym (eqb-true x.id.0 q w)) ∙ e
-    by false w = refl
+same-state domains x q e = by (x.id.0 == q) refl where
+  by : (b : Bool) → (x.id.0 == q) ≡ b → state_of domains q ≡ cond b (Some x) (state_of domains q)
+  by true w = ap (state_of domains) (sym (eqb-true x.id.0 q w)) ∙ e
+  by false w = refl
 
 begin-answered : (s : Setting) (h : History) (domains : List State) (dom : DomId) (at : ℕ) (x : State) (request : Request) (v : Verdict)
     → position (has_id dom.0) domains ≡ Some at → x ≡ get_or domains at x → is_some x.underway ≡ false
     → begun_of (knowledge_of s.domains s.first_generation s.may x.own x.header x.mappings) dom request ≡ Some v → DomainsStand s h domains
     → (domain_of s.domains dom ≢ None) × IsRight s h (began dom request (Some (answer_of v))) × DomainsStand s (began dom request (Some (answer_of v)) ∷ h) domains
-begin-answered s h domains dom at x request v p here idle op st =
-    let a = agrees-found s h domains dom at x p here st in
+begin-answered s h domains dom at x request v p here idle op st = let a = agrees-found s h domains dom at x p here st in
     let f = found domains dom.0 at x p ∙ ap (λ (y : State). Some y) (sym here) in
     let both = subst (λ (d : DomId). begun_of (knowledge_of s.domains s.first_generation s.may x.own x.header x.mappings) d request ≡ Some v → state_of domains d.0 ≡ Some x
     → IsRight s h (began d request (Some (answer_of v))) × DomainsStand s (began d request (Some (answer_of v)) ∷ h) domains) a.1
@@ -391,9 +346,7 @@ begin-answered s h domains dom at x request v p here idle op st =
       b.0,
       quiet-stands s (began x.id request (Some (answer_of v))) h domains domains x x.underway x.given (began-entries x.id request (Some (answer_of v))) (began-keeps x.id request (Some (answer_of v)) (plain-unmapped v))
           refl st g a.2 (λ q. same-state domains x q g) b.1 b.2,
-    ))
-    op f in
-    (a.0, both.0, both.1)
+    )) op f in (a.0, both.0, both.1)
 
 pub begin-opened : (s : Setting) (h : History) (domains : List State) (dom : DomId) (at : ℕ) (x : State) (request : Request) (o : Open)
     → FitsAsked o.call.request → position (has_id dom.0) domains ≡ Some at → x ≡ get_or domains at x → is_some x.underway ≡ false
@@ -410,9 +363,7 @@ begin-opened s h domains dom at x request o fits p here idle op st =
       b.0,
       quiet-stands s (began x.id request None) h domains (set domains at (with_call o (kept_by o.call.request (given_by request)) x)) x (Some o) (kept_by o.call.request (given_by request)) (began-entries x.id request None) (began-keeps x.id request None refl)
           refl st g a.2 (λ q. state_of-set domains at x (with_call o (kept_by o.call.request (given_by request)) x) q places.0 (sym here) refl apart) b.1 b.2,
-    ))
-    op f (λ k below. places.2 k below) in
-    (a.0, both.0, both.1)
+    )) op f (λ k below. places.2 k below) in (a.0, both.0, both.1)
 
 pub place-at : (domains : List State) (d at : ℕ) (x : State) → position (has_id d) domains ≡ Some at → x ≡ get_or domains at x → slice_get domains at ≡ Some x
 place-at domains d at x p here = slice_get_read domains (length domains) at x refl (position-Some (has_id d) domains at x p).0 here
@@ -428,8 +379,7 @@ begin-answers s h domains dom at x request v y e p here idle op st =
 -- a tick without a call
 pub tick-idle : (s : Setting) (h : History) (domains : List State) (dom : DomId) (at : ℕ) (x : State) → position (has_id dom.0) domains ≡ Some at → x ≡ get_or domains at x
     → x.underway ≡ None → DomainsStand s h domains → (domain_of s.domains dom ≢ None) × (open_call h dom.0 ≡ None)
-tick-idle s h domains dom at x p here closed st =
-    let a = agrees-found s h domains dom at x p here st in
+tick-idle s h domains dom at x p here closed st = let a = agrees-found s h domains dom at x p here st in
     (a.0, subst (λ (d : DomId). open_call h d.0 ≡ None) a.1 (call-none s h x.id x.underway (open_call h x.id.0) closed a.2.call).0)
 
 -- a beginning for which memory is wanted
@@ -446,25 +396,21 @@ begin-wants s h domains dom at x request o asks p here idle op st =
 
 -- a map that opens has a serial left
 pub serial-left : (k : CallerKnowledge) (d : DomId) (request : Request) (r : Asked) → r ≡ asked request → begun k d (asked request) ≡ None → IsMapping (Some r) → k.maps_answered + 1 < 2 ^ 64
-serial-left k d request r same none m = by r (subst (λ (z : Asked). begun k d z ≡ None) (sym same) none) m
-  where
-    by : (z : Asked) → begun k d z ≡ None → IsMapping (Some z) → k.maps_answered + 1 < 2 ^ 64
-    by (Map dom gref flags) e a = let lt : k.maps_answered < END_OF_SERIALS = (opens k d (Map dom gref flags) e).serials_left in omega arith
-    by z e a = absurd a
+serial-left k d request r same none m = by r (subst (λ (z : Asked). begun k d z ≡ None) (sym same) none) m where
+  by : (z : Asked) → begun k d z ≡ None → IsMapping (Some z) → k.maps_answered + 1 < 2 ^ 64
+  by (Map dom gref flags) e a = let lt : k.maps_answered < END_OF_SERIALS = (opens k d (Map dom gref flags) e).serials_left in omega arith
+  by z e a = absurd a
 
 -- a call that starts, and makes its first step, is opened
 pub opened : (k : CallerKnowledge) (dom : DomId) (request : Request) (first new : Call) (action : Action) (step : Step) → Starts k dom request (StartOpen first) → Goes k first Nothing new action → action ≡ Makes step → new.caller ≡ first.caller → new.request ≡ first.request
     → IsOpened k dom request (record { call = new; step = step })
 opened k dom request first new action step (none, said, caller, asks, fresh, path_is, makes) goes is by asked_as =
-    let start : Call = record { caller = dom; request = asked request; phase = None } in
-    let same : first ≡ start =
+    let start : Call = record { caller = dom; request = asked request; phase = None } in let same : first ≡ start =
     ap (λ (z : DomId). record { caller = z; request = first.request; phase = first.phase }) caller
     ∙ ap (λ (z : Asked). record { caller = dom; request = z; phase = first.phase }) asks
     ∙ ap (λ (z : Option Phase). record { caller = dom; request = asked request; phase = z }) fresh.unmoved in
     let g : Goes k start Nothing new (Makes step) = subst (λ (a : Action). Goes k start Nothing new a) is (subst (λ (z : Call). Goes k z Nothing new action) same goes) in
-    let new_fresh : IsFresh k start = subst (IsFresh k) same fresh in
-    let f = g.first new_fresh in
-    record {
+    let new_fresh : IsFresh k start = subst (IsFresh k) same fresh in let f = g.first new_fresh in record {
       unanswered = none;
       said = said;
       caller = by ∙ caller;

@@ -1,17 +1,11 @@
 -- What an event does after a history, but for keys, is a function of the history; and it is the same without keys.
-use Rattle.gt_core.proofs.Words.{◌≡◌, ◌≢◌, ◌⊎◌, inl, inr, ℕ, refl, Bool, false, List, [], ◌∷◌, ◌++◌, length, Option, Some, None, sym, ap, ◌∙◌, subst, take, drop, option_map, none-some, same_Some, domain_of, DomId, DomainConfig, Denial, N6, MAX_TABLE_FRAMES, Header, header_word, Handle, asked, begun_of, CallerKnowledge, first, refused_when, unmap_denied, Continuation, path, ended, makes, after_beginning, Held, Request, Asked, Map, Unmap, Load, Store, Peek, SetupTable, QuerySize, GetVersion, Holder, ByMapping, Seen, Nothing, Word, Step, LookHeader, LookControl, LookBody, PinStep, Unpin, StoreHeader, Exchange, ReadBytes, WriteBytes, Action, Makes, Verdict, Granted, Answer, Event, Begin, Tick, Happened, Began, Stepped, Item, Element, Busy, Idle, NoDomain, Did, History, Setting, Underway, open_call, values, known_at, seen_by, exchange_sees, table_at, maps_answered_at, contents_at, mappings_at, mapping_of, MayDo, IsRight, StepsRight, StepsRightIn, AnsweredBy, GivesValue, refusal_of, refusal_in, verdict_in, gives_back, stood, bare_handle, bare_request, bare_event, bare_step, told, told_item, ToldItem, AsksKnown, IsOfKnown, IsRun}
+use Rattle.gt_core.proofs.Words.{◌≡◌, ◌≢◌, ◌⊎◌, inl, inr, ℕ, refl, Bool, false, List, [], ◌∷◌, ◌++◌, length, Option, Some, None, sym, ap, ◌∙◌, subst, take, drop, option_map, none-some, same_Some, domain_of, DomId, DomainConfig, Denial, N6, MAX_TABLE_FRAMES, Header, header_word, Handle, asked, begun_of, CallerKnowledge, first, refused_when, unmap_denied, Continuation, path, ended, makes, after_beginning, Held, Request, Asked, Map, Unmap, Load, Store, Peek, SetupTable, QuerySize, GetVersion, Holder, ByMapping, Seen, Nothing, Word, Step, LookHeader, LookControl, LookBody, PinStep, Unpin, StoreHeader, Exchange, ReadBytes, WriteBytes, Action, Makes, Verdict, Granted, Answer, Event, Begin, Tick, Happened, Began, Stepped, Item, Element, Busy, Idle, NoDomain, Did, History, Setting, Underway, open_call, values, known_at, seen_by, exchange_sees, table_at, maps_answered_at, contents_at, mappings_at, mapping_of, MayDo, IsRight, StepsRight, StepsRightIn, AnsweredBy, GivesValue, refusal_of, refusal_in, verdict_in, gives_back, stood, bare_handle, bare_request, bare_event, bare_step, told, told_item, ToldItem, AsksKnown, IsOfKnown, IsRun, unmap_begun, load_begun, store_begun, Ends, BeginsRight}
 use Rattle.std.proofs.Common.{is_none}
-use Rattle.gt_calls.specs.Rules.{unmap_begun, load_begun, store_begun}
 use Rattle.gt_calls.specs.Path.{by_mapping}
 use Rattle.gt_calls.specs.declared.request.Request.TheVariants as requests
-use Rattle.gt_calls.specs.declared.action.Action.TheVariants.{Done as Ends}
 use Rattle.gt_core.specs.declared.trace.Answer.TheVariants as answers
 use Rattle.gt_core.specs.History.{frame_of}
-use Rattle.gt_core.specs.Legal.{BeginsRight}
-use Rattle.gt_core.proofs.Makers.{NamesAsked, only-path}
-use Rattle.gt_core.proofs.Bare.{bare, bare_asked, bare_call, asked-bare, open-bare, values-bare, table-bare, body-bare, maps-bare, contents-bare}
-use Rattle.gt_core.proofs.Given.{CallKnown, open-known}
-use Rattle.gt_core.proofs.Pins.{word-bare, mapping-bare, known-bare}
+use Rattle.gt_core.proofs.Pins.{word-bare, mapping-bare, known-bare, bare, bare_asked, bare_call, asked-bare, open-bare, values-bare, table-bare, body-bare, maps-bare, contents-bare, CallKnown, open-known, NamesAsked, only-path}
 
 -- paths
 
@@ -81,13 +75,11 @@ finds-same s h d r run k = tt
 
 path-at : (s : Setting) (h : History) (d : DomId) (r : Asked) (vs : List Seen) → IsRun s h → AsksKnown h d.0 r
     → path (known_at s (bare h) d) d (bare_asked r) vs ≡ option_map bare_action (path (known_at s h d) d r vs)
-path-at s h d r vs run k =
-    ap (λ (z : CallerKnowledge). path z d (bare_asked r) vs) (known-bare s h d run)
+path-at s h d r vs run k = ap (λ (z : CallerKnowledge). path z d (bare_asked r) vs) (known-bare s h d run)
     ∙ path-bare (known_at s h d) (mapping_of (mappings_at (bare h) d.0)) d r vs (finds-same s h d r run k)
 
 begun-at : (s : Setting) (h : History) (d : DomId) (q : Request) → IsRun s h → AsksKnown h d.0 (asked q) → begun_of (known_at s (bare h) d) d (bare_request q) ≡ begun_of (known_at s h d) d q
-begun-at s h d q run k =
-    ap (λ (z : CallerKnowledge). begun_of z d (bare_request q)) (known-bare s h d run)
+begun-at s h d q run k = ap (λ (z : CallerKnowledge). begun_of z d (bare_request q)) (known-bare s h d run)
     ∙ begun-bare (known_at s h d) (mapping_of (mappings_at (bare h) d.0)) d q (finds-same s h d (asked q) run k)
 
 seen-at : (s : Setting) (h : History) (d : DomId) (step : Step) → IsRun s h → seen_by s (bare h) d (bare_step step) ≡ seen_by s h d step
@@ -186,24 +178,21 @@ abbrev began_told : Setting → History → DomId → Request → ToldItem
 began_told s h d q = record { actor = d; happened = Began (bare_request q); answer = answer_told s h d (asked q) None (begun_of (known_at s h d) d q) }
 
 abbrev step_told : Setting → History → DomId → Asked → List Seen → Step → ToldItem
-step_told s h d r vs step =
-    record {
-      actor = d;
-      happened = Stepped (bare_step step) (seen_by s h d step);
-      answer = answer_told s h d r (Some step) (verdict_in (path (known_at s h d) d r (vs ++ seen_by s h d step ∷ [])));
-    }
+step_told s h d r vs step = record {
+  actor = d;
+  happened = Stepped (bare_step step) (seen_by s h d step);
+  answer = answer_told s h d r (Some step) (verdict_in (path (known_at s h d) d r (vs ++ seen_by s h d step ∷ [])));
+}
 
 is-began : (s : Setting) (h : History) (d : DomId) (q : Request) (a : Option Answer) → BeginsRight s h (record { actor = d; happened = Began q; answer = a }) q
     → told_item (record { actor = d; happened = Began q; answer = a }) ≡ began_told s h d q
-is-began s h d q a right =
-    let i : Item = record { actor = d; happened = Began q; answer = a } in
+is-began s h d q a right = let i : Item = record { actor = d; happened = Began q; answer = a } in
     ap (λ (t : Option (Answer ⊎ List ℕ)). record { actor = d; happened = Began (bare_request q); answer = t })
     (answer-told s h d (asked q) None false (begun_of (known_at s h d) d q) a (stood s (i ∷ h) d.0) right.1)
 
 is-stepped : (s : Setting) (h : History) (d : DomId) (step : Step) (seen : Seen) (a : Option Answer) (c : Underway) → StepsRight s h (record { actor = d; happened = Stepped step seen; answer = a }) step seen c
     → told_item (record { actor = d; happened = Stepped step seen; answer = a }) ≡ step_told s h d c.request (values c) step
-is-stepped s h d step seen a c right =
-    let i : Item = record { actor = d; happened = Stepped step seen; answer = a } in
+is-stepped s h d step seen a c right = let i : Item = record { actor = d; happened = Stepped step seen; answer = a } in
     let o : Seen → Option Action = λ v. path (known_at s h d) d c.request (values c ++ v ∷ []) in
     ap (λ (t : Option (Answer ⊎ List ℕ)). record { actor = d; happened = Stepped (bare_step step) seen; answer = t })
     (answer-told s h d c.request (Some step) (gives_back (o seen)) (verdict_in (o seen)) a (stood s (i ∷ h) d.0) right.answered)
@@ -325,8 +314,7 @@ next-at s h d c o run k = refl
 
 tick-at : (s : Setting) (h : History) (d : DomId) (c : Option Underway) → IsRun s h → CallKnown h d.0 c → tick_told s (bare h) d (option_map bare_call c) ≡ tick_told s h d c
 tick-at s h d None run k = refl
-tick-at s h d (Some c) run k =
-    ap (stepped_told s (bare h) d (bare_call c))
+tick-at s h d (Some c) run k = ap (stepped_told s (bare h) d (bare_call c))
     (ap (path (known_at s (bare h) d) d (bare_asked c.request)) (values-bare c) ∙ path-at s h d c.request (values c) run k)
     ∙ next-at s h d c (path (known_at s h d) d c.request (values c)) run k
 

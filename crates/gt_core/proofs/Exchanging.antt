@@ -1,10 +1,6 @@
 -- An exchange that was taken keeps what a core stands for.
-use Rattle.gt_core.proofs.Words.{◌≡◌, ◌≢◌, ◌<◌, ◌≤◌, ◌+◌, ℕ, refl, Bool, true, false, List, ◌∷◌, length, Option, Some, None, cond, sym, ap, ◌∙◌, arith, subst, get_or, eqb-true, none-some, slice_get-get_or, option_map, ◌==◌, All, count_by, slice_get, fun_ext, DomId, GrantRef, Read, Write, TABLE_ENTRIES, LAST_GENERATION, Entry, Invalid, Control, Change, Publish, ToInvalid, ToReadOnly, ToWritable, Half, FirstHalf, SecondHalf, IsEntry, Exchange, Taken, Own, PinCounts, Open, Item, Answer, entry_in, generation_in, control_with, row_entry, row_generation, changed_at, State, state_of, changed_in, with_own, own_after, History, Setting, Pin, live, entry_at, raises_at, raise_of, generation_at, body_at, reads_at, writes_at, control_at, maps_answered_at, open_call, is_pin_on, change_of, entry_after, raise_after, or_else, one_if_mapped, IsSafeChange, IsSpelled, IsLawful, FitsTable, FitsWord, Agrees, DomainsStand, CallAgrees, GivenAgrees, append-nil, gather, by_mapping}
-use Rattle.gt_core.specs.History.{changed_entry, with_ro}
-use Rattle.gt_core.proofs.Rows.{get-changed, length-changed}
-use Rattle.gt_core.proofs.Quiet.{kept-table}
-use Rattle.gt_core.proofs.Mappings.{mappings-same}
-use Rattle.gt_core.proofs.Keeping.{stepped, SlotsAgree, becomes-changed, each-stands, other-agrees, same-number, counts-fit}
+use Rattle.gt_core.proofs.Words.{◌≡◌, ◌≢◌, ◌<◌, ◌≤◌, ◌+◌, ℕ, refl, Bool, true, false, List, ◌∷◌, length, Option, Some, None, cond, sym, ap, ◌∙◌, arith, subst, get_or, eqb-true, none-some, slice_get-get_or, option_map, ◌==◌, All, count_by, slice_get, fun_ext, DomId, GrantRef, Read, Write, TABLE_ENTRIES, LAST_GENERATION, Entry, Invalid, Control, Change, Publish, ToInvalid, ToReadOnly, ToWritable, Half, FirstHalf, SecondHalf, IsEntry, Exchange, Taken, Own, PinCounts, Open, Item, Answer, entry_in, generation_in, control_with, row_entry, row_generation, changed_at, State, state_of, changed_in, with_own, own_after, History, Setting, Pin, live, entry_at, raises_at, raise_of, generation_at, body_at, reads_at, writes_at, control_at, maps_answered_at, open_call, is_pin_on, change_of, entry_after, raise_after, or_else, one_if_mapped, IsSafeChange, IsSpelled, IsLawful, FitsTable, FitsWord, Agrees, DomainsStand, CallAgrees, GivenAgrees, append-nil, gather, by_mapping, changed_entry, with_ro, MAX_PINS}
+pub use Rattle.gt_core.proofs.Keeping.{slot-kept, own-each, stepped, SlotsAgree, same-number, counts-fit, get-changed, length-changed, kept-table, mappings-same}
 
 -- each number of the entry that is published fits its type
 abbrev pub FitsChange : Change → Type 0
@@ -69,10 +65,8 @@ no_row = record { entry = Invalid; generation = 0 }
 
 own-entry : (s : Setting) (h : History) (x : State) (gref : GrantRef) (looked : ℕ) (change : Change) (answer : Option Answer) (r : ℕ) → gref.0 < TABLE_ENTRIES → Agrees s h x
     → entry_in (changed_at gref.0 (own_after change) x.own) r ≡ entry_at (exchanged x.id gref looked change answer ∷ h) x.id.0 r
-own-entry s h x gref looked change answer r within a =
-    let rows = a.rows in
-    let inside : gref.0 < length x.own = omega arith in
-    ap row_entry (get-changed x.own gref.0 r (own_after change))
+own-entry s h x gref looked change answer r within a = let rows = a.rows in
+    let inside : gref.0 < length x.own = omega arith in ap row_entry (get-changed x.own gref.0 r (own_after change))
     ∙ row-entries (gref.0 == r) (slice_get x.own r) change (λ b. row-some x.own gref.0 r no_row inside b)
     ∙ ap (entry_after (cond (gref.0 == r) (Some change) None)) (ap (λ (f : ℕ → Entry). f r) a.entries)
     ∙ ap (λ (b : Bool). entry_after (cond b (cond (gref.0 == r) (Some change) None) None) (entry_at h x.id.0 r)) (sym (same-number x.id.0))
@@ -80,35 +74,26 @@ own-entry s h x gref looked change answer r within a =
 
 own-raised : (s : Setting) (h : History) (x : State) (gref : GrantRef) (looked : ℕ) (change : Change) (answer : Option Answer) (r : ℕ) → gref.0 < TABLE_ENTRIES → generation_at s h x.id.0 gref.0 + raise_of change ≤ LAST_GENERATION → Agrees s h x
     → generation_in s.first_generation (changed_at gref.0 (own_after change) x.own) r ≡ (generation_at s (exchanged x.id gref looked change answer ∷ h) x.id.0 r)
-own-raised s h x gref looked change answer r within room a =
-    let rows = a.rows in
+own-raised s h x gref looked change answer r within room a = let rows = a.rows in
     let inside : gref.0 < length x.own = omega arith in
     ap (row_generation s.first_generation) (get-changed x.own gref.0 r (own_after change))
-    ∙ row-generations (gref.0 == r) (slice_get x.own r) change s.first_generation (raises_at h x.id.0 r)
-    (λ b. (
+    ∙ row-generations (gref.0 == r) (slice_get x.own r) change s.first_generation (raises_at h x.id.0 r) (λ b. (
       row-some x.own gref.0 r no_row inside b,
       subst (λ (n : ℕ). s.first_generation + raises_at h x.id.0 n + raise_of change ≤ LAST_GENERATION) (eqb-true gref.0 r b) room,
-    ))
-    (ap (λ (f : ℕ → ℕ). f r) a.generations)
+    )) (ap (λ (f : ℕ → ℕ). f r) a.generations)
     ∙ ap (λ (b : Bool). s.first_generation + (raises_at h x.id.0 r + raise_after (cond b (cond (gref.0 == r) (Some change) None) None))) (sym (same-number x.id.0))
     ∙ ap (λ (n : ℕ). s.first_generation + n) (sym (exchanged-raises h (exchanged x.id gref looked change answer) x.id.0 r))
 
 exchanged-slots : (h : History) (d : DomId) (gref : GrantRef) (looked : ℕ) (change : Change) (answer : Option Answer) (q : ℕ) (slots : List PinCounts) → SlotsAgree h q slots → SlotsAgree (exchanged d gref looked change answer ∷ h) q slots
-exchanged-slots h d gref looked change answer q slots a = λ r slot e. let b = a r slot e in
-    record {
-      reads = b.reads ∙ ap (λ (ps : List Pin). count_by (is_pin_on q r Read) ps) (sym (exchanged-live h d gref looked change answer));
-      writes = b.writes ∙ ap (λ (ps : List Pin). count_by (is_pin_on q r Write) ps) (sym (exchanged-live h d gref looked change answer));
-      first = b.first ∙ sym (exchanged-body h d gref looked change answer q r FirstHalf);
-      second = b.second ∙ sym (exchanged-body h d gref looked change answer q r SecondHalf);
-    }
+exchanged-slots h d gref looked change answer q slots a = λ r slot e.
+    slot-kept (exchanged d gref looked change answer) h q r slot (exchanged-live h d gref looked change answer) (λ which. exchanged-body h d gref looked change answer q r which) (a r slot e)
 
 -- the owner is as the exchange leaves it
 exchange-agrees : (s : Setting) (h : History) (x : State) (gref : GrantRef) (looked : ℕ) (change : Change) (answer : Option Answer) (o : Option Open) → gref.0 < TABLE_ENTRIES → generation_at s h x.id.0 gref.0 + raise_of change ≤ LAST_GENERATION
     → one_if_mapped answer ≡ 0 → Agrees s h x → CallAgrees s (exchanged x.id gref looked change answer ∷ h) x.id o (open_call (exchanged x.id gref looked change answer ∷ h) x.id.0)
     → GivenAgrees (exchanged x.id gref looked change answer ∷ h) x.id.0 x.given → Agrees s (exchanged x.id gref looked change answer ∷ h) (with_own gref.0 change (record x { underway = o }))
 exchange-agrees s h x gref looked change answer o within room m a call given =
-    let i = exchanged x.id gref looked change answer in
-    record {
+    let i = exchanged x.id gref looked change answer in record {
       header = a.header ∙ sym (kept-table s i h x.id refl);
       rows = length-changed x.own gref.0 (own_after change) ∙ a.rows;
       entries = fun_ext (λ r. own-entry s h x gref looked change answer r within a);
@@ -122,13 +107,12 @@ exchange-agrees s h x gref looked change answer o within room m a call given =
 
 -- the entries: the one that the exchange changes, and the others
 hit-cases : (P : ℕ → ℕ → Option Change → Type 0) (d t g r : ℕ) (change : Change) → P t r None → P d g (Some change) → P t r (cond (d == t) (cond (g == r) (Some change) None) None)
-hit-cases P d t g r change none some = by (d == t) (g == r) refl refl
-  where
-    by : (b c : Bool) → (d == t) ≡ b → (g == r) ≡ c → P t r (cond b (cond c (Some change) None) None)
-    by true true e f = subst (λ (n : ℕ). P n r (Some change)) (eqb-true d t e) (subst (λ (n : ℕ). P d n (Some change)) (eqb-true g r f) some)
-    by b c e f = none
+hit-cases P d t g r change none some = by (d == t) (g == r) refl refl where
+  by : (b c : Bool) → (d == t) ≡ b → (g == r) ≡ c → P t r (cond b (cond c (Some change) None) None)
+  by true true e f = subst (λ (n : ℕ). P n r (Some change)) (eqb-true d t e) (subst (λ (n : ℕ). P d n (Some change)) (eqb-true g r f) some)
+  by b c e f = none
 
-word-fits : (e : Entry) (g r w : ℕ) → IsEntry e → (r < 4096) × (w < 4096) → g ≤ LAST_GENERATION → FitsWord (control_with e g r w)
+word-fits : (e : Entry) (g r w : ℕ) → IsEntry e → (r < MAX_PINS + 1) × (w < MAX_PINS + 1) → g ≤ LAST_GENERATION → FitsWord (control_with e g r w)
 word-fits Invalid g r w a c below = record { in_range = record { reads = c.0; writes = c.1; generation = omega arith }; domain = omega arith }
 word-fits e g r w a c below = record { in_range = record { reads = c.0; writes = c.1; generation = omega arith }; domain = a.0 }
 
@@ -148,8 +132,7 @@ control_after s h t r c = control_with (entry_after c (entry_at h t r)) (s.first
 
 exchanged-control : (s : Setting) (h : History) (d : DomId) (gref : GrantRef) (looked : ℕ) (change : Change) (answer : Option Answer) (t r : ℕ)
     → control_at s (exchanged d gref looked change answer ∷ h) t r ≡ control_after s h t r (change_of (exchanged d gref looked change answer) t r)
-exchanged-control s h d gref looked change answer t r =
-    let i = exchanged d gref looked change answer in
+exchanged-control s h d gref looked change answer t r = let i = exchanged d gref looked change answer in
     let c = change_of i t r in
     ap (λ (e : Entry). control_with e (generation_at s (i ∷ h) t r) (reads_at (i ∷ h) t r) (writes_at (i ∷ h) t r)) (exchanged-entry h i t r)
     ∙ ap (λ (n : ℕ). control_with (entry_after c (entry_at h t r)) (s.first_generation + n) (reads_at (i ∷ h) t r) (writes_at (i ∷ h) t r)) (exchanged-raises h i t r)
@@ -210,8 +193,7 @@ changed-spelled h t r ToWritable spelled safe valid =
 
 exchange-spelled : (s : Setting) (h : History) (xs : List State) (d : DomId) (gref : GrantRef) (looked : ℕ) (change : Change) (answer : Option Answer) (t r : ℕ) → DomainsStand s h xs → IsSafeChange h d.0 gref.0 change
     → Spelled (entry_at (exchanged d gref looked change answer ∷ h) t r) (body_at (exchanged d gref looked change answer ∷ h) t r FirstHalf) (body_at (exchanged d gref looked change answer ∷ h) t r SecondHalf)
-exchange-spelled s h xs d gref looked change answer t r st safe =
-    let i = exchanged d gref looked change answer in
+exchange-spelled s h xs d gref looked change answer t r st safe = let i = exchanged d gref looked change answer in
     subst (λ (e : Entry). Spelled e (body_at (i ∷ h) t r FirstHalf) (body_at (i ∷ h) t r SecondHalf)) (sym (exchanged-entry h i t r))
     (subst (λ (n : ℕ). Spelled (entry_after (change_of i t r) (entry_at h t r)) n (body_at (i ∷ h) t r SecondHalf)) (sym (exchanged-body h d gref looked change answer t r FirstHalf))
     (subst (λ (n : ℕ). Spelled (entry_after (change_of i t r) (entry_at h t r)) (body_at h t r FirstHalf) n) (sym (exchanged-body h d gref looked change answer t r SecondHalf))
@@ -225,14 +207,9 @@ pub exchange-stands : (s : Setting) (h : History) (xs ys : List State) (x : Stat
     → CallAgrees s (exchanged x.id gref looked change answer ∷ h) x.id o (open_call (exchanged x.id gref looked change answer ∷ h) x.id.0) → GivenAgrees (exchanged x.id gref looked change answer ∷ h) x.id.0 x.given
     → DomainsStand s (exchanged x.id gref looked change answer ∷ h) (changed_in x.id.0 (with_own gref.0 change) ys)
 exchange-stands s h xs ys x gref looked change answer o st here a becomes within safe fits room m call given =
-    let i = exchanged x.id gref looked change answer in
-    record {
-      each = each-stands s i h xs _ x (record x { underway = o }) x.id.0 (with_own gref.0 change) st here
-          (becomes-changed xs ys x (record x { underway = o }) x.id.0 (with_own gref.0 change) (λ y. refl) becomes) refl (λ y. refl)
-          (subst (λ (b : Bool). Agrees s (i ∷ h) (cond b (with_own gref.0 change (record x { underway = o })) (record x { underway = o }))) (sym (same-number x.id.0))
-          (exchange-agrees s h x gref looked change answer o within room m a call given))
-          (λ y apart b. subst (λ (c : Bool). Agrees s (i ∷ h) (cond c (with_own gref.0 change y) y)) (sym apart)
-          (other-agrees s i h y y.slots apart b b.room (exchanged-slots h x.id gref looked change answer y.id.0 y.slots b.slots)));
+    let i = exchanged x.id gref looked change answer in record {
+      each = own-each s i h xs ys x o (with_own gref.0 change) refl st here becomes (λ y. refl) (exchange-agrees s h x gref looked change answer o within room m a call given)
+          (λ y apart b. exchanged-slots h x.id gref looked change answer y.id.0 y.slots b);
       tables = λ dom. subst FitsTable (sym (kept-table s i h dom refl)) (st.tables dom);
       words = λ t r below. exchange-words s h xs x.id gref looked change answer t r st within fits room below;
       entries = λ t r. exchange-entries s h xs x.id gref looked change answer t r st fits;

@@ -1,7 +1,5 @@
 -- A control that has room in its word is what the word says.
-use Rattle.gt_core.proofs.Words.{◌≡◌, ◌<◌, ◌≤◌, ◌+◌, ◌%◌, ℕ, Bool, true, false, cond, List, ap, ◌∙◌, arith, ◌==◌, TABLE_ENTRIES, control_word, control_of, header_word, header_of, Control, Header, State, History, Setting, word_at, control_at, DomainsStand, FitsTable, FitsWord}
-use Rattle.std.proofs.Common.{◌*◌, ◌/◌}
-use Rattle.gt_entry.specs.Laws.{control-round}
+use Rattle.gt_core.proofs.Words.{◌≡◌, ◌<◌, ◌≤◌, ◌+◌, ◌%◌, ℕ, Bool, true, false, cond, List, ap, ◌∙◌, arith, ◌==◌, TABLE_ENTRIES, control_word, control_of, header_word, header_of, Control, Header, State, History, Setting, word_at, control_at, DomainsStand, FitsTable, FitsWord, ◌*◌, ◌/◌, control-round, MAX_TABLE_FRAMES, ENTRIES_V1, ENTRIES_V2}
 use Rattle.gt_entry.specs.Words.{size_of}
 
 pub fits-word : (c : Control) → FitsWord c → control_of (control_word c) ≡ c
@@ -14,10 +12,10 @@ word-shows s h xs t r st within = fits-word (control_at s h t r) (st.words t r w
 pub table-fits : (x : Header) → FitsTable x → (size_of x ≤ TABLE_ENTRIES) × (header_of (header_word x) ≡ x)
 table-fits x f = (by (x.version == 2) few, ap (λ (n : ℕ). record { version = n; frames = (x.version + x.frames * 4) / 4 % 256 }) version ∙ ap (λ (n : ℕ). record { version = x.version; frames = n }) frames)
   where
-    few : x.frames ≤ 4
+    few : x.frames ≤ MAX_TABLE_FRAMES
     few = f.frames
 
-    by : (b : Bool) → x.frames ≤ 4 → x.frames * cond b 256 512 ≤ 2048
+    by : (b : Bool) → x.frames ≤ MAX_TABLE_FRAMES → x.frames * cond b ENTRIES_V2 ENTRIES_V1 ≤ TABLE_ENTRIES
     by true le = omega arith
     by false le = omega arith
 

@@ -1,22 +1,13 @@
 -- The frames of a core: what a step of a call writes to them is by right, and leaves them as the history tells.
-use Rattle.gt_core.proofs.Words.{◌≡◌, ◌≤◌, ◌<◌, ◌+◌, ◌-◌, inl, inr, ℕ, refl, Bool, true, false, List, [], ◌∷◌, ◌++◌, replicate, length, take, drop, Option, Some, None, cond, sym, ap, ◌∙◌, arith, subst, reverse, eqb-true, eqb-false, eq-eqb, ne_eqb, lt-ltb, and_parts, and_from, false≢true, append-nil, map-append, length-append, length-drop, length-take-le, length-replicate, ◌==◌, ◌&&◌, nat_lt, nat_le, is_some, IsTrue, domain_of, DomId, Write, ForMap, ForCopy, DomainConfig, FRAME_SIZE, Entry, Page, Sub, Via, frame_of, permits, allows_direction, Handle, value_of, Held, Route, Direct, Through, End, Request, Asked, Store, Poke, Copy, Place, Seen, Step, ReadBytes, WriteBytes, CopyBytes, Makes, Call, Phase, CallerKnowledge, begun, frames_of, frames_in, is_dest_granted, dest_pair, opens, Rests, RestsOnRequest, RestsOnWays, IsReached, LeadsTo, pins_at, held_in, Patch, written, bytes_at, frame_counts, FrameSet, frame_at, has_range, all_zeros, AreKept, Open, Item, Answer, Begun, State, IsLoadOf, IsReadable, IsAdmitted, AccessedBy, History, Setting, patches_at, patches_by, contents_at, written_by, Writing, given_in, open_call, Underway, values, known_at, legs_at, IsInFrame, CopyIsJustified, grown, DomainsStand, FramesStand, Agrees, OpenAgrees, FitsGiven, numbered, begun_element, IsMapped}
-use Rattle.std.proofs.lemmas.Bool.{le-leb, leb-true}
-use Rattle.std.specs.Prelude.{unwrap_or}
-use Rattle.gt_entry.specs.Permits.{leads_to}
+use Rattle.gt_core.proofs.Words.{◌≡◌, ◌≤◌, ◌<◌, ◌+◌, ◌-◌, inl, inr, ℕ, refl, Bool, true, false, List, [], ◌∷◌, ◌++◌, replicate, length, take, drop, Option, Some, None, cond, sym, ap, ◌∙◌, arith, subst, reverse, eqb-true, eqb-false, eq-eqb, ne_eqb, lt-ltb, and_parts, and_from, false≢true, append-nil, map-append, length-append, length-drop, length-take-le, length-replicate, ◌==◌, ◌&&◌, nat_lt, nat_le, is_some, IsTrue, domain_of, DomId, Write, ForMap, ForCopy, DomainConfig, FRAME_SIZE, Entry, Page, Sub, Via, frame_of, permits, allows_direction, Handle, value_of, Held, Route, Direct, Through, End, Request, Asked, Store, Poke, Copy, Place, Seen, Step, ReadBytes, WriteBytes, CopyBytes, Makes, Call, Phase, CallerKnowledge, begun, frames_of, frames_in, is_dest_granted, dest_pair, opens, Rests, RestsOnRequest, RestsOnWays, IsReached, LeadsTo, pins_at, held_in, Patch, written, bytes_at, frame_counts, FrameSet, frame_at, has_range, all_zeros, AreKept, Open, Item, Answer, Begun, State, IsLoadOf, IsReadable, IsAdmitted, AccessedBy, History, Setting, patches_at, patches_by, contents_at, written_by, Writing, given_in, open_call, Underway, values, known_at, legs_at, IsInFrame, CopyIsJustified, grown, DomainsStand, FramesStand, Agrees, OpenAgrees, FitsGiven, numbered, begun_element, IsMapped, le-leb, leb-true, unwrap_or, leads_to, overlay, replay, zeros, FrameState, patch_of, patches, permits_writing, suffices, is_rightful, all_rightful, pool_number, frames_of_all, is_name, has_frame, admits, WritesTo, journal_in, name_of, ground_of, route_by, route_of, IsWritOf}
 use Rattle.gt_calls.specs.declared.held.Route.TheVariants.{Own}
 use Rattle.gt_calls.specs.Path.{place_of}
 use Rattle.gt_frames.specs.declared.places.FrameName.{FrameName}
 use Rattle.gt_frames.specs.declared.writ.Ground.{Ground}
 use Rattle.gt_frames.specs.declared.writ.Writ.{Writ}
 use Rattle.gt_frames.specs.declared.writ.Record.{Record}
-use Rattle.gt_frames.specs.Bytes.{overlay, replay, zeros}
-use Rattle.gt_frames.specs.Frames.{FrameState, patch_of, patches, permits_writing, suffices, is_rightful, all_rightful}
-use Rattle.gt_frames.specs.Places.{pool_number, frames_of as frames_of_all, is_name}
-use Rattle.gt_frames.specs.Sets.{has_frame, admits, WritesTo, journal_in}
 use Rattle.gt_core.specs.declared.core_state.Begun.TheVariants.{Busy as BegunBusy, NoDomain as BegunNoDomain}
-use Rattle.gt_core.specs.Accesses.{name_of, ground_of, route_by, route_of, IsWritOf}
-use Rattle.gt_core.proofs.Keeping.{stepped, same-number}
-use Rattle.gt_core.proofs.Starting.{get-replicate}
+use Rattle.gt_core.proofs.Starting.{get-replicate, stepped, same-number}
 use Rattle.gt_core.proofs.Accessing.{permits-as, mapping-pin, none-of, same-held, read-justified, copy-justified}
 
 -- what a frame holds, and which frames there are
@@ -24,23 +15,21 @@ use Rattle.gt_core.proofs.Accessing.{permits-as, mapping-pin, none-of, same-held
 -- a range of a frame holds what the history left in it
 pub bytes-held : (s : Setting) (h : History) (fs : FrameSet) (dom : DomId) (frame off len : ℕ) → FramesStand s h fs
     → bytes_at (frame_at fs (record { owner = dom; number = frame })) off len ≡ take len (drop off (contents_at h dom.0 frame))
-bytes-held s h fs dom frame off len fr =
-    let size : off + len - off ≡ len = omega arith in
+bytes-held s h fs dom frame off len fr = let size : off + len - off ≡ len = omega arith in
     ap (λ (ps : List Patch). take (off + len - off) (drop off (written ps))) (fr.writes (record { owner = dom; number = frame }))
     ∙ ap (λ (n : ℕ). take n (drop off (contents_at h dom.0 frame))) size
 
 frame-numbered : (ds : List DomainConfig) (t : DomId) (f at : ℕ) → f < frames_of ds t → is_some (pool_number (frame_counts ds) t f at) ≡ true
 frame-numbered [] t f at below = absurd (omega arith)
-frame-numbered (d ∷ ds) t f at below = by (d.id.0 == t.0) below (λ b. frame-numbered ds t f (at + d.frames) b)
-  where
-    there : (b : Bool) → b ≡ true → is_some (cond b (Some (at + f)) None) ≡ true
-    there true e = refl
-    there false e = e
+frame-numbered (d ∷ ds) t f at below = by (d.id.0 == t.0) below (λ b. frame-numbered ds t f (at + d.frames) b) where
+  there : (b : Bool) → b ≡ true → is_some (cond b (Some (at + f)) None) ≡ true
+  there true e = refl
+  there false e = e
 
-    by : (b : Bool) → f < frames_in (cond b (Some d) (domain_of ds t)) → (f < frames_of ds t → is_some (pool_number (frame_counts ds) t f (at + d.frames)) ≡ true)
-        → is_some (cond b (cond (nat_lt f d.frames) (Some (at + f)) None) (pool_number (frame_counts ds) t f (at + d.frames))) ≡ true
-    by true le rest = there (nat_lt f d.frames) (lt-ltb f d.frames le)
-    by false le rest = rest le
+  by : (b : Bool) → f < frames_in (cond b (Some d) (domain_of ds t)) → (f < frames_of ds t → is_some (pool_number (frame_counts ds) t f (at + d.frames)) ≡ true)
+      → is_some (cond b (cond (nat_lt f d.frames) (Some (at + f)) None) (pool_number (frame_counts ds) t f (at + d.frames))) ≡ true
+  by true le rest = there (nat_lt f d.frames) (lt-ltb f d.frames le)
+  by false le rest = rest le
 
 frame-there : (s : Setting) (h : History) (fs : FrameSet) (name : FrameName) → FramesStand s h fs → name.number < frames_of s.domains name.owner → has_frame fs name ≡ true
 frame-there s h fs name fr below =
@@ -92,10 +81,8 @@ admitted-by fs x call name off len route there within is right w of_call =
 store-admitted : (s : Setting) (h : History) (xs : List State) (fs : FrameSet) (x : State) (phase : Option Phase) (handle : Handle) (dom : DomId) (frame off len : ℕ) → DomainsStand s h xs → FramesStand s h fs → Agrees s h x
     → begun (known_at s h x.id) x.id (Store handle off len) ≡ None → (mapped : IsMapped (known_at s h x.id) handle dom frame) → FitsGiven (Store handle off len) x.given
     → IsAdmitted fs x (record { caller = x.id; request = Store handle off len; phase = phase }) (WriteBytes dom frame off len)
-store-admitted s h xs fs x phase handle dom frame off len st fr a none mapped fits =
-    let k = known_at s h x.id in
-    let m = mapped.mapping in
-    let o = opens k x.id (Store handle off len) none in
+store-admitted s h xs fs x phase handle dom frame off len st fr a none mapped fits = let k = known_at s h x.id in
+    let m = mapped.mapping in let o = opens k x.id (Store handle off len) none in
     let same : o.mapping ≡ m = same-held k handle o.mapping m o.found mapped.found in
     let writable : m.dir ≡ Write = ap (λ (q : Held). q.dir) (sym same) ∙ o.writable in
     let one = (mapping-pin s h xs x.id handle m st mapped.found).4 in
@@ -125,11 +112,9 @@ frame-of-copy s h d r from to len a = absurd a
 copy-admitted : (s : Setting) (h : History) (fs : FrameSet) (x : State) (r : Asked) (phase : Phase) (from to : Place) (len : ℕ) → FramesStand s h fs → begun (known_at s h x.id) x.id r ≡ None
     → legs_at h x.id.0 ≡ numbered 0 (reverse (held_in phase)) → RestsOnWays (known_at s h x.id) x.id r (pins_at phase) from to len
     → IsAdmitted fs x (record { caller = x.id; request = r; phase = Some phase }) (CopyBytes from to len)
-copy-admitted s h fs x r phase from to len fr none held a =
-    let c = a.copy in
+copy-admitted s h fs x r phase from to len fr none held a = let c = a.copy in
     let inside = frame-of-copy s h x.id r from to len (copy-justified s h x.id r (pins_at phase) from to len none held a) in
-    let route = (pins_at phase).dest in
-    let t = place_of x.id c.dest route in
+    let route = (pins_at phase).dest in let t = place_of x.id c.dest route in
     let right : suffices (ground_of route) x.id t.owner t.frame t.off c.len ≡ true =
     way-covers (known_at s h x.id) x.id (is_dest_granted c) c.dest c.len (dest_pair x.id (pins_at phase).source) route a.dest_reached in
     let right_to : suffices (ground_of route) x.id to.owner to.frame to.off len ≡ true =
@@ -138,8 +123,7 @@ copy-admitted s h fs x r phase from to len fr none held a =
     (range-there s h fs from len fr inside.0, admitted-by fs x (record { caller = x.id; request = r; phase = Some phase }) (name_of to) to.off len route (frame-there s h fs (name_of to) fr inside.1.0) inside.1.1 by right_to)
 
 call-by : (s : Setting) (h : History) (d : DomId) (o : Open) (c : Underway) → (a : OpenAgrees s h d o c) → o.call ≡ record { caller = d; request = c.request; phase = Some a.phase }
-call-by s h d o c a =
-    ap (λ (z : DomId). record { caller = z; request = o.call.request; phase = o.call.phase }) a.caller
+call-by s h d o c a = ap (λ (z : DomId). record { caller = z; request = o.call.request; phase = o.call.phase }) a.caller
     ∙ ap (λ (z : Asked). record { caller = d; request = z; phase = o.call.phase }) a.asks
     ∙ ap (λ (z : Option Phase). record { caller = d; request = c.request; phase = z }) a.here
 
@@ -147,55 +131,48 @@ call-by s h d o c a =
 pub open-admitted : (s : Setting) (h : History) (xs : List State) (fs : FrameSet) (x : State) (o : Open) (c : Underway) → DomainsStand s h xs → FramesStand s h fs → Agrees s h x → open_call h x.id.0 ≡ Some c → OpenAgrees s h x.id o c
     → IsAdmitted fs x o.call o.step
 open-admitted s h xs fs x o c st fr a call here =
-    subst (λ (z : Call). IsAdmitted fs x z o.step) (sym (call-by s h x.id o c here)) (by o.step here.rests)
-  where
-    given : FitsGiven c.request x.given
-    given = let g = a.given c call in subst (FitsGiven c.request) (sym g.0) g.1
+    subst (λ (z : Call). IsAdmitted fs x z o.step) (sym (call-by s h x.id o c here)) (by o.step here.rests) where
+      given : FitsGiven c.request x.given
+      given = let g = a.given c call in subst (FitsGiven c.request) (sym g.0) g.1
 
-    asks : (r : Asked) (dom : DomId) (frame off len : ℕ) → c.request ≡ r → IsAdmitted fs x (record { caller = x.id; request = r; phase = Some here.phase }) (WriteBytes dom frame off len)
-        → IsAdmitted fs x (record { caller = x.id; request = c.request; phase = Some here.phase }) (WriteBytes dom frame off len)
-    asks r dom frame off len is b = subst (λ (q : Asked). IsAdmitted fs x (record { caller = x.id; request = q; phase = Some here.phase }) (WriteBytes dom frame off len)) (sym is) b
+      asks : (r : Asked) (dom : DomId) (frame off len : ℕ) → c.request ≡ r → IsAdmitted fs x (record { caller = x.id; request = r; phase = Some here.phase }) (WriteBytes dom frame off len)
+          → IsAdmitted fs x (record { caller = x.id; request = c.request; phase = Some here.phase }) (WriteBytes dom frame off len)
+      asks r dom frame off len is b = subst (λ (q : Asked). IsAdmitted fs x (record { caller = x.id; request = q; phase = Some here.phase }) (WriteBytes dom frame off len)) (sym is) b
 
-    writes : (dom : DomId) (frame off len : ℕ) → begun (known_at s h x.id) x.id c.request ≡ None → RestsOnRequest (known_at s h x.id) x.id c.request (WriteBytes dom frame off len)
-        → IsAdmitted fs x (record { caller = x.id; request = c.request; phase = Some here.phase }) (WriteBytes dom frame off len)
-    writes dom frame off len none (inl (handle, is, mapped)) =
-        asks (Store handle off len) dom frame off len is
-        (store-admitted s h xs fs x (Some here.phase) handle dom frame off len st fr a (none-of (known_at s h x.id) x.id c.request (Store handle off len) is none) mapped (subst (λ (q : Asked). FitsGiven q x.given) is given))
-    writes dom frame off len none (inr (is, own)) =
-        asks (Poke frame off len) dom frame off len is
-        (poke-admitted s h fs x (Some here.phase) dom frame off len fr (none-of (known_at s h x.id) x.id c.request (Poke frame off len) is none) own (subst (λ (q : Asked). FitsGiven q x.given) is given))
+      writes : (dom : DomId) (frame off len : ℕ) → begun (known_at s h x.id) x.id c.request ≡ None → RestsOnRequest (known_at s h x.id) x.id c.request (WriteBytes dom frame off len)
+          → IsAdmitted fs x (record { caller = x.id; request = c.request; phase = Some here.phase }) (WriteBytes dom frame off len)
+      writes dom frame off len none (inl (handle, is, mapped)) = asks (Store handle off len) dom frame off len is
+          (store-admitted s h xs fs x (Some here.phase) handle dom frame off len st fr a (none-of (known_at s h x.id) x.id c.request (Store handle off len) is none) mapped (subst (λ (q : Asked). FitsGiven q x.given) is given))
+      writes dom frame off len none (inr (is, own)) = asks (Poke frame off len) dom frame off len is
+          (poke-admitted s h fs x (Some here.phase) dom frame off len fr (none-of (known_at s h x.id) x.id c.request (Poke frame off len) is none) own (subst (λ (q : Asked). FitsGiven q x.given) is given))
 
-    by : (step : Step) → Rests (known_at s h x.id) x.id c.request (pins_at here.phase) (values c) (Makes step) → IsAdmitted fs x (record { caller = x.id; request = c.request; phase = Some here.phase }) step
-    by (WriteBytes dom frame off len) r = writes dom frame off len r.0 r.1
-    by (CopyBytes from to len) r = copy-admitted s h fs x c.request here.phase from to len fr r.0 here.held r.1
-    by step r = tt
+      by : (step : Step) → Rests (known_at s h x.id) x.id c.request (pins_at here.phase) (values c) (Makes step) → IsAdmitted fs x (record { caller = x.id; request = c.request; phase = Some here.phase }) step
+      by (WriteBytes dom frame off len) r = writes dom frame off len r.0 r.1
+      by (CopyBytes from to len) r = copy-admitted s h fs x c.request here.phase from to len fr r.0 here.held r.1
+      by step r = tt
 
 -- what it reads is there
 pub open-readable : (s : Setting) (h : History) (xs : List State) (fs : FrameSet) (x : State) (o : Open) (c : Underway) → DomainsStand s h xs → FramesStand s h fs → OpenAgrees s h x.id o c → IsReadable fs o.call o.step
-open-readable s h xs fs x o c st fr here = by o.step here.rests
-  where
-    long : (dom : DomId) (frame off len : ℕ) → RestsOnRequest (known_at s h x.id) x.id c.request (ReadBytes dom frame off len) → IsLoadOf o.call.request len
-    long dom frame off len (inl (handle, is, mapped)) = subst (λ (q : Asked). IsLoadOf q len) (sym (here.asks ∙ is)) refl
-    long dom frame off len (inr (is, own)) = subst (λ (q : Asked). IsLoadOf q len) (sym (here.asks ∙ is)) refl
+open-readable s h xs fs x o c st fr here = by o.step here.rests where
+  long : (dom : DomId) (frame off len : ℕ) → RestsOnRequest (known_at s h x.id) x.id c.request (ReadBytes dom frame off len) → IsLoadOf o.call.request len
+  long dom frame off len (inl (handle, is, mapped)) = subst (λ (q : Asked). IsLoadOf q len) (sym (here.asks ∙ is)) refl
+  long dom frame off len (inr (is, own)) = subst (λ (q : Asked). IsLoadOf q len) (sym (here.asks ∙ is)) refl
 
-    by : (step : Step) → Rests (known_at s h x.id) x.id c.request (pins_at here.phase) (values c) (Makes step) → IsReadable fs o.call step
-    by (ReadBytes dom frame off len) r =
-        let just = read-justified s h xs x.id c.request dom frame off len st r.0 r.1 in
-        (range-there s h fs (record { owner = dom; frame = frame; off = off }) len fr just.0, long dom frame off len r.1)
-    by step r = tt
+  by : (step : Step) → Rests (known_at s h x.id) x.id c.request (pins_at here.phase) (values c) (Makes step) → IsReadable fs o.call step
+  by (ReadBytes dom frame off len) r = let just = read-justified s h xs x.id c.request dom frame off len st r.0 r.1 in
+      (range-there s h fs (record { owner = dom; frame = frame; off = off }) len fr just.0, long dom frame off len r.1)
+  by step r = tt
 
 -- the size of a frame
 
 -- bytes that are laid over others inside them leave them as many as they were
 length-overlay : (xs : List ℕ) (off : ℕ) (ys : List ℕ) → off + length ys ≤ length xs → length (overlay xs off ys) ≡ length xs
-length-overlay xs off ys within =
-    let back = drop (off + length ys) xs in
+length-overlay xs off ys within = let back = drop (off + length ys) xs in
     let a : length ((take off xs ++ ys) ++ back) ≡ length (take off xs ++ ys) + length back = length-append (take off xs ++ ys) back in
     let b : length (take off xs ++ ys) ≡ length (take off xs) + length ys = length-append (take off xs) ys in
     let c : length back ≡ length xs - (off + length ys) = length-drop (off + length ys) xs in
     let d : length (take off xs) ≡ off = length-take-le off xs (omega arith) in
-    let whole : length ((take off xs ++ ys) ++ back) ≡ length xs = omega arith in
-    whole
+    let whole : length ((take off xs ++ ys) ++ back) ≡ length xs = omega arith in whole
 
 length-replay : (owner : DomId) (number : ℕ) (rs : List Record) (xs : List ℕ) → length xs ≡ FRAME_SIZE → IsTrue (all_rightful owner number rs) → length (replay xs (patches rs)) ≡ FRAME_SIZE
 length-replay owner number [] xs full a = full
@@ -209,8 +186,7 @@ unfolding zeros
 length-zeros = length-replicate {A = ℕ} FRAME_SIZE 0
 
 filled-by : (h : History) (fs : FrameSet) → ((name : FrameName) → patches (frame_at fs name).journal ≡ patches_at h name.owner.0 name.number) → AreKept fs → (t f : ℕ) → length (contents_at h t f) ≡ FRAME_SIZE
-filled-by h fs writes kept t f =
-    let name : FrameName = record { owner = record { 0 = t }; number = f } in
+filled-by h fs writes kept t f = let name : FrameName = record { owner = record { 0 = t }; number = f } in
     ap (λ (ps : List Patch). length (written ps)) (sym (writes name)) ∙ length-replay name.owner f (frame_at fs name).journal zeros length-zeros (kept name)
 
 -- one item more
@@ -228,8 +204,7 @@ nothing-written : (s : Setting) (h : History) (fs : FrameSet) (i : Item) → Wri
 nothing-written s h fs i none fr = record { counts = fr.counts; writes = writes; kept = fr.kept; filled = filled-by (i ∷ h) fs writes fr.kept }
   where
     writes : (name : FrameName) → patches (frame_at fs name).journal ≡ patches_at (i ∷ h) name.owner.0 name.number
-    writes name =
-        fr.writes name ∙ sym (append-nil (patches_at h name.owner.0 name.number))
+    writes name = fr.writes name ∙ sym (append-nil (patches_at h name.owner.0 name.number))
         ∙ ap (λ (w : Option Writing). patches_at h name.owner.0 name.number ++ patches_by w name.owner.0 name.number) (sym none)
         ∙ sym (patches-more i h name.owner.0 name.number)
 
@@ -248,8 +223,7 @@ written-once s h fs gs i at w bytes wrote fr to kept = record { counts = to.doma
     elsewhere name apart = ap (λ (z : FrameState). patches z.journal) (to.others name apart) ∙ fr.writes name ∙ sym (append-nil (patches_at h name.owner.0 name.number))
 
     here : patches (frame_at gs (name_of at)).journal ≡ patches_at h at.owner.0 at.frame ++ patch ∷ []
-    here =
-        ap (λ (z : FrameState). patches z.journal) to.write.journal
+    here = ap (λ (z : FrameState). patches z.journal) to.write.journal
         ∙ map-append patch_of (frame_at fs (name_of at)).journal (record { writ = w; off = at.off; bytes = bytes } ∷ [])
         ∙ ap (λ (ps : List Patch). ps ++ patch ∷ []) (fr.writes (name_of at))
 
@@ -271,27 +245,25 @@ written-once s h fs gs i at w bytes wrote fr to kept = record { counts = to.doma
         apart a b e = ap (λ (z : Bool). z && b) e
 
     writes : (name : FrameName) → patches (frame_at gs name).journal ≡ patches_at (i ∷ h) name.owner.0 name.number
-    writes name =
-        by name (at.owner.0 == name.owner.0) refl (at.frame == name.number) refl
+    writes name = by name (at.owner.0 == name.owner.0) refl (at.frame == name.number) refl
         ∙ ap (λ (z : Option Writing). patches_at h name.owner.0 name.number ++ patches_by z name.owner.0 name.number) (sym wrote)
         ∙ sym (patches-more i h name.owner.0 name.number)
 
 -- the frames after a step, which wrote what its call was given or what its source held
 pub frames-stepped : (s : Setting) (h : History) (fs gs : FrameSet) (x : State) (call : Call) (step : Step) (seen : Seen) (answer : Option Answer) (c : Underway) → open_call h x.id.0 ≡ Some c → x.given ≡ c.given → FramesStand s h fs → AccessedBy x call step fs gs
     → FramesStand s (stepped x.id step seen answer ∷ h) gs
-frames-stepped s h fs gs x call step seen answer c under given fr = by step
-  where
-    quiet : (z : Step) → WritingOf (stepped x.id z seen answer) h ≡ None → gs ≡ fs → FramesStand s (stepped x.id z seen answer ∷ h) gs
-    quiet z none same = subst (FramesStand s (stepped x.id z seen answer ∷ h)) (sym same) (nothing-written s h fs (stepped x.id z seen answer) none fr)
+frames-stepped s h fs gs x call step seen answer c under given fr = by step where
+  quiet : (z : Step) → WritingOf (stepped x.id z seen answer) h ≡ None → gs ≡ fs → FramesStand s (stepped x.id z seen answer ∷ h) gs
+  quiet z none same = subst (FramesStand s (stepped x.id z seen answer ∷ h)) (sym same) (nothing-written s h fs (stepped x.id z seen answer) none fr)
 
-    by : (z : Step) → AccessedBy x call z fs gs → FramesStand s (stepped x.id z seen answer ∷ h) gs
-    by (WriteBytes dom frame off len) a =
-        written-once s h fs gs (stepped x.id (WriteBytes dom frame off len) seen answer) (record { owner = dom; frame = frame; off = off }) a.0 x.given
-        (ap (λ (u : Option Underway). Some (record { at = record { owner = dom; frame = frame; off = off }; bytes = given_in u })) under ∙ ap (λ (l : List ℕ). Some (record { at = record { owner = dom; frame = frame; off = off }; bytes = l })) (sym given)) fr a.2 a.3
-    by (CopyBytes from to len) a =
-        written-once s h fs gs (stepped x.id (CopyBytes from to len) seen answer) to a.0 (bytes_at (frame_at fs (name_of from)) from.off len)
-        (ap (λ (l : List ℕ). Some (record { at = to; bytes = l })) (sym (bytes-held s h fs from.owner from.frame from.off len fr))) fr a.2 a.3
-    by z a = quiet z refl a
+  by : (z : Step) → AccessedBy x call z fs gs → FramesStand s (stepped x.id z seen answer ∷ h) gs
+  by (WriteBytes dom frame off len) a =
+      written-once s h fs gs (stepped x.id (WriteBytes dom frame off len) seen answer) (record { owner = dom; frame = frame; off = off }) a.0 x.given
+      (ap (λ (u : Option Underway). Some (record { at = record { owner = dom; frame = frame; off = off }; bytes = given_in u })) under ∙ ap (λ (l : List ℕ). Some (record { at = record { owner = dom; frame = frame; off = off }; bytes = l })) (sym given)) fr a.2 a.3
+  by (CopyBytes from to len) a =
+      written-once s h fs gs (stepped x.id (CopyBytes from to len) seen answer) to a.0 (bytes_at (frame_at fs (name_of from)) from.off len)
+      (ap (λ (l : List ℕ). Some (record { at = to; bytes = l })) (sym (bytes-held s h fs from.owner from.frame from.off len fr))) fr a.2 a.3
+  by z a = quiet z refl a
 
 -- a beginning writes nothing
 pub frames-begun : (s : Setting) (h : History) (fs : FrameSet) (dom : DomId) (request : Request) (b : Begun) → FramesStand s h fs → FramesStand s (grown h (begun_element dom request b)) fs

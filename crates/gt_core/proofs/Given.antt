@@ -2,7 +2,7 @@
 use Rattle.gt_core.proofs.Words.{◌≡◌, ◌≤◌, ◌<◌, ◌+◌, inl, inr, ℕ, refl, Bool, true, false, List, [], ◌∷◌, ◌++◌, Option, Some, None, cond, sym, ap, ◌∙◌, subst, arith, ◌==◌, ◌&&◌, eqb-true, eq-eqb, none-some, DomId, Denial, Handle, END_OF_SERIALS, Asked, Holder, ByMapping, ByLeg, Held, Seen, Taken, Step, LookHeader, PinStep, Unpin, StoreHeader, Makes, Verdict, asked, begun_of, opens, CallerKnowledge, begun, Continuation, path, after_beginning, steps_of, IsMapping, Answer, Happened, Began, Stepped, Item, History, Setting, Underway, Pin, live, without, is_holder, same_handle, pinned_by, unpinned_by, open_call, underway_after, underway_with, maps_answered_at, one_if_mapped, known_at, values, IsRight, StepsRightIn, AnsweredBy, GivesValue, gives_back, verdict_in, stood, bare_handle, IsGiven, IsKnown, AsksKnown, HappensKnown, IsRun}
 use Rattle.gt_calls.specs.declared.request.Asked.TheVariants as requests
 use Rattle.gt_core.specs.declared.trace.Answer.TheVariants as answers
-use Rattle.gt_core.proofs.Makers.{only-path, done-makes}
+pub use Rattle.gt_core.proofs.Makers.{only-path, done-makes, NamesAsked}
 
 -- a map that is answered
 
@@ -69,18 +69,15 @@ fresh-step s h i step seen handle (Some c) right e =
     let next = answered-next s h i.actor c.request step (gives_back o) (verdict_in o) (stood s (i ∷ h) i.actor.0) handle
     (subst (λ (a : Option Answer). AnsweredBy s h i.actor c.request (Some step) (gives_back o) (verdict_in o) a (stood s (i ∷ h) i.actor.0)) e right.answered) in
     let few : maps_answered_at h i.actor.0 < END_OF_SERIALS = few-answered (known_at s h i.actor) i.actor c.request (begun-none (known_at s h i.actor) i.actor c.request (values c) step right.continues) next.is_map in
-    let same : handle.serial ≡ maps_answered_at h i.actor.0 = next.serial in
-    (same, omega arith)
+    let same : handle.serial ≡ maps_answered_at h i.actor.0 = next.serial in (same, omega arith)
 
 fresh : (s : Setting) (h : History) (i : Item) (handle : Handle) → IsRight s h i → i.answer ≡ Some (answers.Mapped handle) → IsFresh h i.actor handle
-fresh s h i handle = by i.happened
-  where
-    by : (x : Happened) → IsRight s h (record i { happened = x }) → i.answer ≡ Some (answers.Mapped handle) → IsFresh h i.actor handle
-    by (Began request) right e =
-        let against = stood s (record i { happened = Began request } ∷ h) i.actor.0 in
-        absurd (answered-late s h i.actor (asked request) (begun_of (known_at s h i.actor) i.actor request) against handle
-        (subst (λ (a : Option Answer). AnsweredBy s h i.actor (asked request) None false (begun_of (known_at s h i.actor) i.actor request) a against) e right.1))
-    by (Stepped step seen) right e = fresh-step s h (record i { happened = Stepped step seen }) step seen handle (open_call h i.actor.0) right e
+fresh s h i handle = by i.happened where
+  by : (x : Happened) → IsRight s h (record i { happened = x }) → i.answer ≡ Some (answers.Mapped handle) → IsFresh h i.actor handle
+  by (Began request) right e = let against = stood s (record i { happened = Began request } ∷ h) i.actor.0 in
+      absurd (answered-late s h i.actor (asked request) (begun_of (known_at s h i.actor) i.actor request) against handle
+      (subst (λ (a : Option Answer). AnsweredBy s h i.actor (asked request) None false (begun_of (known_at s h i.actor) i.actor request) a against) e right.1))
+  by (Stepped step seen) right e = fresh-step s h (record i { happened = Stepped step seen }) step seen handle (open_call h i.actor.0) right e
 
 -- serials
 
@@ -102,13 +99,11 @@ record IsBelow (h : History) (d : ℕ) (handle : Handle) : Type 0 where
 given-below : (s : Setting) (h : History) (d : ℕ) (handle : Handle) → IsRun s h → IsGiven h d handle → IsBelow h d handle
 unfolding IsRun IsGiven
 given-below s [] d handle run g = absurd g
-given-below s (i ∷ h) d handle run (inl g) =
-    let f = fresh s h i handle run.0 g.1 in
+given-below s (i ∷ h) d handle run (inl g) = let f = fresh s h i handle run.0 g.1 in
     let one : maps_answered_at (i ∷ h) d ≡ 1 + maps_answered_at h d = maps-one i h d handle g.0 g.1 in
     let same : handle.serial ≡ maps_answered_at h d = f.0 ∙ ap (maps_answered_at h) g.0 in
     record { count = omega arith; end = f.1 }
-given-below s (i ∷ h) d handle run (inr g) =
-    let b = given-below s h d handle run.2 g in
+given-below s (i ∷ h) d handle run (inr g) = let b = given-below s h d handle run.2 g in
     let lt : handle.serial < maps_answered_at h d = b.count in
     let le : maps_answered_at h d ≤ maps_answered_at (i ∷ h) d = maps-grow i h d in
     record { count = omega arith; end = b.end }
@@ -123,27 +118,23 @@ given-once s [] d a b run f g e = absurd f
 given-once s (i ∷ h) d a b run (inl f) (inl g) e = mapped-same a b i.answer f.1 g.1
 given-once s (i ∷ h) d a b run (inl f) (inr g) e =
     let same : a.serial ≡ maps_answered_at h d = (fresh s h i a run.0 f.1).0 ∙ ap (maps_answered_at h) f.0 in
-    let lt : b.serial < maps_answered_at h d = (given-below s h d b run.2 g).count in
-    absurd (omega arith)
+    let lt : b.serial < maps_answered_at h d = (given-below s h d b run.2 g).count in absurd (omega arith)
 given-once s (i ∷ h) d a b run (inr f) (inl g) e =
     let same : b.serial ≡ maps_answered_at h d = (fresh s h i b run.0 g.1).0 ∙ ap (maps_answered_at h) g.0 in
-    let lt : a.serial < maps_answered_at h d = (given-below s h d a run.2 f).count in
-    absurd (omega arith)
+    let lt : a.serial < maps_answered_at h d = (given-below s h d a run.2 f).count in absurd (omega arith)
 given-once s (i ∷ h) d a b run (inr f) (inr g) e = given-once s h d a b run.2 f g e
 
 -- a handle that is known is told from the ones answered by its serial
 known-serial : (s : Setting) (h : History) (d : ℕ) (a b : Handle) → IsRun s h → IsGiven h d b → IsKnown h d a → b.serial ≡ a.serial → b ≡ a
 known-serial s h d a b run g (inl k) e = given-once s h d b a run g k e
-known-serial s h d a b run g (inr k) e =
-    let lt : b.serial < END_OF_SERIALS = (given-below s h d b run g).end in
+known-serial s h d a b run g (inr k) e = let lt : b.serial < END_OF_SERIALS = (given-below s h d b run g).end in
     absurd (omega arith)
 
 pub known-tells : (s : Setting) (h : History) (d : ℕ) (a b : Handle) → IsRun s h → IsGiven h d b → IsKnown h d a → same_handle (bare_handle b) (bare_handle a) ≡ same_handle b a
-known-tells s h d a b run g k = by (b.serial == a.serial) refl
-  where
-    by : (x : Bool) → (b.serial == a.serial) ≡ x → (x && (0 == 0)) ≡ (x && (b.key == a.key))
-    by true e = sym (eq-eqb b.key a.key (ap (λ (z : Handle). z.key) (known-serial s h d a b run g k (eqb-true b.serial a.serial e))))
-    by false e = refl
+known-tells s h d a b run g k = by (b.serial == a.serial) refl where
+  by : (x : Bool) → (b.serial == a.serial) ≡ x → (x && (0 == 0)) ≡ (x && (b.key == a.key))
+  by true e = sym (eq-eqb b.key a.key (ap (λ (z : Handle). z.key) (known-serial s h d a b run g k (eqb-true b.serial a.serial e))))
+  by false e = refl
 
 -- pins
 
@@ -184,12 +175,11 @@ unpinned-given h d x ps g = g
 
 pinned-given : (i : Item) (h : History) (ps : List Pin) → PinsGiven (i ∷ h) (pinned_by i.actor i.happened i.answer h ps)
 unfolding IsGiven
-pinned-given i h ps = by i.happened i.answer refl
-  where
-    by : (x : Happened) (a : Option Answer) → i.answer ≡ a → PinsGiven (i ∷ h) (pinned_by i.actor x a h ps)
-    by (Stepped (PinStep p) Taken) (Some (answers.Mapped handle)) e = (inl (refl, e), tt)
-    by (Stepped (PinStep p) Taken) a e = (tt, tt)
-    by x a e = tt
+pinned-given i h ps = by i.happened i.answer refl where
+  by : (x : Happened) (a : Option Answer) → i.answer ≡ a → PinsGiven (i ∷ h) (pinned_by i.actor x a h ps)
+  by (Stepped (PinStep p) Taken) (Some (answers.Mapped handle)) e = (inl (refl, e), tt)
+  by (Stepped (PinStep p) Taken) a e = (tt, tt)
+  by x a e = tt
 
 pub pins-given : (h : History) → PinsGiven h (live h)
 unfolding live
@@ -221,30 +211,26 @@ call-later i h d None k = tt
 call-later i h d (Some c) k = asks-later i h d c.request k
 
 with-known : (i : Item) (h : History) (c : Option Underway) → HappensKnown h i → CallKnown h i.actor.0 c → CallKnown (i ∷ h) i.actor.0 (underway_with i.happened c)
-with-known i h c = by i.happened c
-  where
-    by : (x : Happened) (c : Option Underway) → HappensKnown h (record i { happened = x }) → CallKnown h i.actor.0 c → CallKnown (i ∷ h) i.actor.0 (underway_with x c)
-    by (Began request) c asks k = asks-later i h i.actor.0 (asked request) asks
-    by (Stepped step seen) None asks k = tt
-    by (Stepped step seen) (Some c) asks k = asks-later i h i.actor.0 c.request k
+with-known i h c = by i.happened c where
+  by : (x : Happened) (c : Option Underway) → HappensKnown h (record i { happened = x }) → CallKnown h i.actor.0 c → CallKnown (i ∷ h) i.actor.0 (underway_with x c)
+  by (Began request) c asks k = asks-later i h i.actor.0 (asked request) asks
+  by (Stepped step seen) None asks k = tt
+  by (Stepped step seen) (Some c) asks k = asks-later i h i.actor.0 c.request k
 
 after-known : (i : Item) (h : History) (c : Option Underway) → HappensKnown h i → CallKnown h i.actor.0 c → CallKnown (i ∷ h) i.actor.0 (underway_after i c)
-after-known i h c asks k = by i.answer
-  where
-    by : (a : Option Answer) → CallKnown (i ∷ h) i.actor.0 (underway_after (record i { answer = a }) c)
-    by None = with-known i h c asks k
-    by (Some answer) = tt
+after-known i h c asks k = by i.answer where
+  by : (a : Option Answer) → CallKnown (i ∷ h) i.actor.0 (underway_after (record i { answer = a }) c)
+  by None = with-known i h c asks k
+  by (Some answer) = tt
 
 pub open-known : (s : Setting) (h : History) (d : ℕ) → IsRun s h → CallKnown h d (open_call h d)
 unfolding IsRun open_call
 open-known s [] d run = tt
-open-known s (i ∷ h) d run = by (i.actor.0 == d) refl (open-known s h d run.2)
-  where
-    by : (b : Bool) → (i.actor.0 == d) ≡ b → CallKnown h d (open_call h d) → CallKnown (i ∷ h) d (cond b (underway_after i (open_call h d)) (open_call h d))
-    by true e k =
-        subst (λ (n : ℕ). CallKnown (i ∷ h) n (underway_after i (open_call h n))) (eqb-true i.actor.0 d e)
-        (after-known i h (open_call h i.actor.0) run.1 (subst (λ (n : ℕ). CallKnown h n (open_call h n)) (sym (eqb-true i.actor.0 d e)) k))
-    by false e k = call-later i h d (open_call h d) k
+open-known s (i ∷ h) d run = by (i.actor.0 == d) refl (open-known s h d run.2) where
+  by : (b : Bool) → (i.actor.0 == d) ≡ b → CallKnown h d (open_call h d) → CallKnown (i ∷ h) d (cond b (underway_after i (open_call h d)) (open_call h d))
+  by true e k = subst (λ (n : ℕ). CallKnown (i ∷ h) n (underway_after i (open_call h n))) (eqb-true i.actor.0 d e)
+      (after-known i h (open_call h i.actor.0) run.1 (subst (λ (n : ℕ). CallKnown h n (open_call h n)) (sym (eqb-true i.actor.0 d e)) k))
+  by false e k = call-later i h d (open_call h d) k
 
 unpin-in : (s : Setting) (h : History) (i : Item) (p : Held) (handle : Handle) (seen : Seen) (c : Option Underway) → StepsRightIn s h i (Unpin p (ByMapping handle)) seen c → CallKnown h i.actor.0 c → IsKnown h i.actor.0 handle
 unpin-in s h i p handle seen None right k = absurd right

@@ -1,17 +1,8 @@
 -- The refusal that a step leads to is the first rule that stands, and where the call stands then.
-use Rattle.gt_core.proofs.Words.{◌≡◌, ◌+◌, ◌-◌, ℕ, zero, suc, refl, Bool, true, false, List, [], ◌∷◌, Option, Some, None, cond, sym, ap, ◌∙◌, subst, reverse, arith, nat_lt, nat_le, ◌==◌, ◌&&◌, ◌||◌, not, lt-ltb, eqb-true, eq-eqb, true≢false, false≢true, DomId, GrantRef, Rule, N10, N18, N19, Denial, MAX_TRIES, Entry, Invalid, Via, Control, Change, Publish, ToInvalid, ToReadOnly, ToWritable, allows_direction, control_of, MORE_TRIES, Held, Route, Direct, Through, Asked, CopyArgs, ByMapping, Verdict, Step, LookHeader, LookControl, Unpin, StoreBody, StoreHeader, Exchange, ReadBytes, WriteBytes, Seen, Taken, Missed, Action, Makes, Done, Aim, Mapping, Source, Dest, Question, AsksSize, AsksVersion, Phase, Storing, Exchanging, Looking, Changing, Walking, Accessing, Asking, Last, Ending, Leg, LegPhase, AtHeader, Look, Body, Second, Pinning, Relook, LegNext, Going, LegRefused, Pinned, last_first, CallerKnowledge, first, stands, first_look, is_kind, size_of, via_judged, is_dest_granted, Continuation, path, entry_refusal, held_of, rule_of_try, source_pair, dest_pair, end_leg, second_leg, IsFor, IsOnFrom, RestsOnWord, phase_after, action_at, after_leg, leg_after, leg_step, after_miss, after_pin_of, after_source_pin, after_dest_pin, at_dest, where_via, after_store, refused_as, next_to_give, IsTurn, IsQuiet, HasShown, State, History, Setting, word_at, control_at, table_at, entry_at, generation_at, body_at, reads_at, writes_at, known_at, seen_by, legs_at, StepsSoFar, LegNow, misses, is_demote, at_entry, first_at, refusal_in, or_then, PhaseStands, LegStands, Asks, phase_refusal, numbered, header_of, header_word, denial_of, N9, after_look, KindSub, FirstHalf, after_words, SecondHalf, Write, Read, Pins, pins_at}
-use Rattle.gt_types.specs.declared.denial.Rule.TheVariants.{N11, N12, N13, N15}
-use Rattle.gt_entry.specs.declared.control.Kind.TheVariants.{Page as KindPage, Via as KindVia}
-use Rattle.gt_entry.specs.Permits.{is_copying}
+use Rattle.gt_core.proofs.Words.{◌≡◌, ◌+◌, ◌-◌, ℕ, zero, suc, refl, Bool, true, false, List, [], ◌∷◌, Option, Some, None, cond, sym, ap, ◌∙◌, subst, reverse, arith, nat_lt, nat_le, ◌==◌, ◌&&◌, ◌||◌, not, lt-ltb, eqb-true, eq-eqb, true≢false, false≢true, DomId, GrantRef, Rule, N10, N18, N19, Denial, MAX_TRIES, Entry, Invalid, Via, Control, Change, Publish, ToInvalid, ToReadOnly, ToWritable, allows_direction, control_of, MORE_TRIES, Held, Route, Direct, Through, Asked, CopyArgs, ByMapping, Verdict, Step, LookHeader, LookControl, Unpin, StoreBody, StoreHeader, Exchange, ReadBytes, WriteBytes, Seen, Taken, Missed, Action, Makes, Done, Aim, Mapping, Source, Dest, Question, AsksSize, AsksVersion, Phase, Storing, Exchanging, Looking, Changing, Walking, Accessing, Asking, Last, Ending, Leg, LegPhase, AtHeader, Look, Body, Second, Pinning, Relook, LegNext, Going, LegRefused, Pinned, last_first, CallerKnowledge, first, stands, first_look, is_kind, size_of, via_judged, is_dest_granted, Continuation, path, entry_refusal, held_of, rule_of_try, source_pair, dest_pair, end_leg, second_leg, IsFor, IsOnFrom, RestsOnWord, phase_after, action_at, after_leg, leg_after, leg_step, after_miss, after_pin_of, after_source_pin, after_dest_pin, at_dest, where_via, after_store, refused_as, next_to_give, IsTurn, IsQuiet, HasShown, State, History, Setting, word_at, control_at, table_at, entry_at, generation_at, body_at, reads_at, writes_at, known_at, seen_by, legs_at, StepsSoFar, LegNow, misses, is_demote, at_entry, first_at, refusal_in, or_then, PhaseStands, LegStands, Asks, phase_refusal, numbered, header_of, header_word, denial_of, N9, after_look, KindSub, FirstHalf, after_words, SecondHalf, Write, Read, Pins, pins_at, N11, N12, N13, N15, KindPage, KindVia, is_copying, after_own_miss, rule_at_via, rule_at_pin}
 use Rattle.gt_entry.specs.Spelling.{control_with}
-use Rattle.gt_calls.specs.Machine.{after_own_miss}
-use Rattle.gt_core.specs.Legal.{rule_at_via, rule_at_pin}
-use Rattle.gt_core.proofs.Fitting.{word-shows}
-use Rattle.gt_core.proofs.Tries.{misses-look, misses-exchange, misses-exchanged, few, miss-late}
-use Rattle.gt_core.proofs.Legs.{Words, IsAsTried, as-tried, TakesNone, leg-judged, refusal_next, IsLegOf, control-writes}
-use Rattle.gt_core.proofs.Aims.{pair_of, leg-here}
-use Rattle.gt_core.proofs.Phases.{IsHere, makes-same, words-of, turn-below, IsPublished, step-publishes, idle-here, idle-no-pins}
-use Rattle.gt_core.proofs.Outcomes.{after-plain}
+pub use Rattle.gt_core.proofs.Aims.{pair_of, leg-here, Words, IsAsTried, as-tried, TakesNone, leg-judged, refusal_next, IsLegOf, control-writes, misses-look, misses-exchange, misses-exchanged, few, miss-late, still-judged, control-generation, control-reads}
+pub use Rattle.gt_core.proofs.Outcomes.{after-plain, IsHere, makes-same, words-of, turn-below, IsPublished, step-publishes, idle-here, idle-no-pins, word-shows, next_of, walk-done, ends-so, table-fits}
 
 -- the first rule that stands at this step, or before it, is the refusal that the call comes to
 abbrev pub Judged : Setting → History → DomId → Asked → StepsSoFar → Phase → Step → Type 0
@@ -40,8 +31,7 @@ once-judged : (s : Setting) (h : History) (d : DomId) (r : Asked) (way : Continu
 once-judged s h d r way shown so_far gref looked (Publish entry) published rests place =
     let w = word_at s h d.0 gref.0 in
     published-refusal (known_at s h d) d gref looked w entry (w == looked) (eq-eqb w looked published)
-once-judged s h d r way shown so_far gref looked ToInvalid published rests place =
-    let w = word_at s h d.0 gref.0 in
+once-judged s h d r way shown so_far gref looked ToInvalid published rests place = let w = word_at s h d.0 gref.0 in
     revoke-refusal (known_at s h d) d gref looked w (reads_at h d.0 gref.0 + writes_at h d.0 gref.0) (w == looked)
     (λ b. idle-no-pins s h d gref (eqb-true w looked b ∙ rests.1))
     (λ b none. false≢true (sym b ∙ eq-eqb w looked (idle-here s h d gref none ∙ sym rests.1)))
@@ -61,24 +51,21 @@ look-refusal d gref change more w b late e = refl
 
 look-judged : (s : Setting) (h : History) (d : DomId) (r : Asked) (so_far : StepsSoFar) (gref : GrantRef) (change : Change) (more : ℕ) → control_of (word_at s h d.0 gref.0) ≡ control_at s h d.0 gref.0
     → IsTurn r gref change → PhaseStands s h d r so_far (Looking gref change more) → Judged s h d r so_far (Looking gref change more) (LookControl d gref)
-look-judged s h d r so_far gref ToReadOnly more round is place =
-    let w = word_at s h d.0 gref.0 in
+look-judged s h d r so_far gref ToReadOnly more round is place = let w = word_at s h d.0 gref.0 in
     subst (λ (z : Asked). Judged s h d z so_far (Looking gref ToReadOnly more) (LookControl d gref)) (sym is)
     (look-refusal d gref ToReadOnly more w (nat_lt 0 (writes_at h d.0 gref.0)) _ (ap (nat_le MAX_TRIES) (misses-look d gref w so_far place.1) ∙ few (misses so_far) more place.0)
     ∙ ap (λ (n : ℕ). phase_refusal (cond (nat_lt 0 n) (refused_as d gref N19 w) (Changing gref ToReadOnly more w))) (sym (writes-shown s h d.0 gref.0 round)))
-look-judged s h d r so_far gref ToWritable more round is place =
-    let w = word_at s h d.0 gref.0 in
+look-judged s h d r so_far gref ToWritable more round is place = let w = word_at s h d.0 gref.0 in
     subst (λ (z : Asked). Judged s h d z so_far (Looking gref ToWritable more) (LookControl d gref)) (sym is)
     (look-refusal d gref ToWritable more w false _ (ap (nat_le MAX_TRIES) (misses-look d gref w so_far place.1) ∙ few (misses so_far) more place.0))
 look-judged s h d r so_far gref change more round is place = absurd is
 
 own-miss-late : (d : DomId) (gref : GrantRef) (change : Change) (more found m : ℕ) → m + more ≡ MORE_TRIES
     → at_entry d gref found (stands (nat_le MAX_TRIES (1 + m)) N18) ≡ phase_refusal (after_own_miss d gref change more found)
-own-miss-late d gref change more found m e = sym (miss-late d gref more found m e) ∙ by (nat_lt 0 more)
-  where
-    by : (b : Bool) → cond b None (at_entry d gref found (Some N18)) ≡ phase_refusal (cond b (Looking gref change (more - 1)) (refused_as d gref N18 found))
-    by true = refl
-    by false = refl
+own-miss-late d gref change more found m e = sym (miss-late d gref more found m e) ∙ by (nat_lt 0 more) where
+  by : (b : Bool) → cond b None (at_entry d gref found (Some N18)) ≡ phase_refusal (cond b (Looking gref change (more - 1)) (refused_as d gref N18 found))
+  by true = refl
+  by false = refl
 
 change-refusal : (k : CallerKnowledge) (d : DomId) (gref : GrantRef) (change : Change) (more looked w : ℕ) (so_far : StepsSoFar) (b : Bool) → misses so_far + more ≡ MORE_TRIES
     → at_entry d gref w (stands (nat_le MAX_TRIES (misses ((Exchange gref looked change, cond b Taken (Missed w)) ∷ so_far))) N18)
@@ -131,15 +118,13 @@ pins-none : (s : Setting) (h : History) (d : DomId) (l : Leg) (at : LegPhase) �
 pins-none s h d l AtHeader none a =
     neither (nat_lt l.gref.0 (size_of (header_of (header_word (table_at s h l.dom))))) (Going (Look MORE_TRIES)) (LegRefused (denial_of N9 (Rattle.gt_types.specs.declared.denial.Facts.TheVariants.Header l.dom (header_word (table_at s h l.dom))))) (λ n. n) (λ n. n) a
 pins-none s h d l (Look more) none a = look-pins-none l more (word_at s h l.dom.0 l.gref.0) (first_look l (control_of (word_at s h l.dom.0 l.gref.0))) a
-pins-none s h d l (Body more word) none a =
-    let body = body_at h l.dom.0 l.gref.0 FirstHalf in
+pins-none s h d l (Body more word) none a = let body = body_at h l.dom.0 l.gref.0 FirstHalf in
     neither (is_kind (control_of word).kind KindSub) (Going (Second more word body)) (after_words more word body 0 (rule_of_try l word body 0)) (λ n. n) (words-pin-none more word body 0 (rule_of_try l word body 0)) a
 pins-none s h d l (Second more word body) none a =
     let second = body_at h l.dom.0 l.gref.0 SecondHalf in words-pin-none more word body second (rule_of_try l word body second) a
 pins-none s h d l (Pinning more word body second) none a =
     miss-pins-none l more (word_at s h l.dom.0 l.gref.0) (subst (λ (b : Bool). IsPinned (leg_after l (Pinning more word body second) (cond b Taken (Missed (word_at s h l.dom.0 l.gref.0))))) none a)
-pins-none s h d l (Relook more word rule) none a =
-    let found = word_at s h l.dom.0 l.gref.0 in
+pins-none s h d l (Relook more word rule) none a = let found = word_at s h l.dom.0 l.gref.0 in
     neither (found == word) (LegRefused (entry_refusal l.dom l.gref rule word)) (after_miss l more found) (λ n. n) (miss-pins-none l more found) a
 
 pub not-pinned : (s : Setting) (h : History) (d : DomId) (l : Leg) (at : LegPhase) → TakesNone s h d l at → (p : Held) → leg_after l at (seen_by s h d (leg_step l at)) ≡ Pinned p → ⊥
@@ -169,11 +154,10 @@ where-refusal None aim l = refl
 where-refusal (Some v) aim l = refl
 
 dest-refusal : (k : CallerKnowledge) (d : DomId) (c : CopyArgs) (source : Route) → phase_refusal (at_dest k d c source) ≡ None
-dest-refusal k d c source = by (is_dest_granted c)
-  where
-    by : (b : Bool) → phase_refusal (cond b (Walking (Dest c source None) (end_leg k d c.dest Write c.len) AtHeader) (Accessing c source Rattle.gt_calls.specs.declared.held.Route.TheVariants.Own)) ≡ None
-    by true = refl
-    by false = refl
+dest-refusal k d c source = by (is_dest_granted c) where
+  by : (b : Bool) → phase_refusal (cond b (Walking (Dest c source None) (end_leg k d c.dest Write c.len) AtHeader) (Accessing c source Rattle.gt_calls.specs.declared.held.Route.TheVariants.Own)) ≡ None
+  by true = refl
+  by false = refl
 
 no-via : (k : CallerKnowledge) (l : Leg) (pair : DomId → DomId × DomId) (e : Entry) → (IsVia e → ⊥) → rule_at_via k (Some (record { leg = l; pair = pair })) e ≡ None
 no-via k l pair (Via dom ro dom2 gref) n = absurd (n tt)
@@ -203,18 +187,16 @@ five-none a b c d e h = cc
 
 -- a Via is met in a copy's first legs alone
 via-passed : (l : Leg) (dom : DomId) (ro : Bool) (dom2 : DomId) (gref : GrantRef) (g r w : ℕ) → first_look l (control_with (Via dom ro dom2 gref) g r w) ≡ None → (is_copying l.purpose ≡ true) × (l.beyond_via ≡ false)
-via-passed l dom ro dom2 gref g r w e =
-    let c = control_with (Via dom ro dom2 gref) g r w in
+via-passed l dom ro dom2 gref g r w e = let c = control_with (Via dom ro dom2 gref) g r w in
     let f = five-none false (not (dom.0 == l.grantee.0)) (not (is_copying l.purpose || is_kind c.kind KindPage)) (not (allows_direction ro l.dir)) (l.beyond_via && is_kind c.kind KindVia) e in
-    (copying (is_copying l.purpose) f.2, beyond l.beyond_via f.4)
-  where
-    copying : (b : Bool) → not (b || false) ≡ false → b ≡ true
-    copying true e = refl
-    copying false e = absurd (true≢false e)
+    (copying (is_copying l.purpose) f.2, beyond l.beyond_via f.4) where
+      copying : (b : Bool) → not (b || false) ≡ false → b ≡ true
+      copying true e = refl
+      copying false e = absurd (true≢false e)
 
-    beyond : (b : Bool) → (b && true) ≡ false → b ≡ false
-    beyond true e = absurd (true≢false e)
-    beyond false e = refl
+      beyond : (b : Bool) → (b && true) ≡ false → b ≡ false
+      beyond true e = absurd (true≢false e)
+      beyond false e = refl
 
 second-beyond : (k : CallerKnowledge) (n : Leg) (e : Entry) (l : Leg) → IsOnFrom k n e l → l.beyond_via ≡ true
 second-beyond k n (Via dom ro dom2 gref) l is = ap (λ (z : Leg). z.beyond_via) is

@@ -1,24 +1,16 @@
 -- What stays of a core's agreement with a history after one item more.
-use Rattle.gt_core.proofs.Words.{◌≡◌, ◌≢◌, ◌<◌, ◌+◌, ℕ, refl, Bool, true, false, List, ◌∷◌, length, Option, Some, None, cond, sym, ap, ◌∙◌, arith, subst, reverse, eqb-true, eq-eqb, none-some, ◌==◌, ◌&&◌, All, count_by, slice_get, option_map, fun_ext, domain_of, DomId, Read, Write, TABLE_ENTRIES, Entry, Invalid, Header, Change, Half, FirstHalf, SecondHalf, IsEntry, Handle, Kept, value_of, count_of, Held, CallerKnowledge, control_with, knowledge_of, generation_in, StandsAt, pins_at, GoesOn, Rests, Makes, PinCounts, Open, Item, Answer, Stepped, Step, Seen, changed_at, State, state_of, changed_in, History, Setting, Pin, live, entry_at, raises_at, generation_at, body_at, table_at, reads_at, writes_at, control_at, known_at, mappings_at, mapping_of, maps_answered_at, is_pin_on, open_call, underway_after, Underway, values, change_of, change_at, entry_after, raise_after, or_else, stored_at, header_stored, IsSpelled, stood, first_of_item, IsLawful, FitsTable, FitsWord, SlotAgrees, MappingsAgree, Agrees, StateAgrees, DomainsStand, CallAgrees, OpenAgrees, GivenAgrees, Dir, gather, by_mapping, slot_after, with_slot}
-use Rattle.std.proofs.lemmas.Bool.{and_left, and_right}
-use Rattle.gt_core.specs.Legal.{stood_with}
-use Rattle.gt_core.proofs.Rows.{get-changed, length-changed, state-changed}
-use Rattle.gt_core.proofs.Mappings.{mappings-same}
-use Rattle.gt_core.proofs.Quiet.{KeepsKnown, kept-table, kept-live, kept-maps_answered}
-use Rattle.gt_core.proofs.Others.{other-entry, other-body, other-maps, other-mappings, other-legs, other-generations, other-table, other-known}
-use Rattle.gt_core.proofs.Placing.{place-stays}
+use Rattle.gt_core.proofs.Words.{◌≡◌, ◌≢◌, ◌<◌, ◌+◌, ℕ, refl, Bool, true, false, List, ◌∷◌, length, Option, Some, None, cond, sym, ap, ◌∙◌, arith, subst, reverse, eqb-true, eq-eqb, none-some, ◌==◌, ◌&&◌, All, count_by, slice_get, option_map, fun_ext, domain_of, DomId, Read, Write, TABLE_ENTRIES, Entry, Invalid, Header, Change, Half, FirstHalf, SecondHalf, IsEntry, Handle, Kept, value_of, count_of, Held, CallerKnowledge, control_with, knowledge_of, generation_in, StandsAt, pins_at, GoesOn, Rests, Makes, PinCounts, Open, Item, Answer, Stepped, Step, Seen, changed_at, State, state_of, changed_in, History, Setting, Pin, live, entry_at, raises_at, generation_at, body_at, table_at, reads_at, writes_at, control_at, known_at, mappings_at, mapping_of, maps_answered_at, is_pin_on, open_call, underway_after, Underway, values, change_of, change_at, entry_after, raise_after, or_else, stored_at, header_stored, IsSpelled, stood, first_of_item, IsLawful, FitsTable, FitsWord, SlotAgrees, MappingsAgree, Agrees, StateAgrees, DomainsStand, CallAgrees, OpenAgrees, GivenAgrees, Dir, gather, by_mapping, slot_after, with_slot, and_left, and_right, stood_with, MAX_PINS}
+pub use Rattle.gt_core.proofs.Rows.{get-changed, length-changed, state-changed}
+pub use Rattle.gt_core.proofs.Mappings.{mappings-same, mappings-added, less, mappings-taken, no-handles}
+pub use Rattle.gt_core.proofs.Quiet.{known-as, KeepsKnown, KeepsAll, cond-same, kept-table, kept-live, kept-maps_answered, kept-known, kept-legs, kept-entry, kept-raises, kept-generations}
+pub use Rattle.gt_core.proofs.Others.{other-entry, other-body, other-maps, other-mappings, other-legs, other-generations, other-table, other-known, gather-append}
+pub use Rattle.gt_core.proofs.Placing.{place-stays, IsStore, IsHere, makes-same, by-giving, placed, BodyStays, step-within, step-publishes, seen-fits, sees-agree, judged, dest-placed, of-run}
 use Rattle.gt_core.specs.declared.pin_counts.CountsChange.{CountsChange}
 
 -- what a domain itself knows is what the core keeps of it
 pub known-same : (s : Setting) (h : History) (d : State) → Agrees s h d
     → knowledge_of s.domains s.first_generation s.may d.own d.header d.mappings ≡ known_at s h d.id
-known-same s h d a =
-    ap (λ (f : ℕ → Entry). record { domains = s.domains; may = s.may; entry = f; generation = generation_in s.first_generation d.own; header = d.header; mapping = value_of d.mappings; in_use = count_of d.mappings; maps_answered = d.mappings.given }) a.entries
-    ∙ ap (λ (f : ℕ → ℕ). record { domains = s.domains; may = s.may; entry = λ r. entry_at h d.id.0 r; generation = f; header = d.header; mapping = value_of d.mappings; in_use = count_of d.mappings; maps_answered = d.mappings.given }) a.generations
-    ∙ ap (λ (x : Header). record { domains = s.domains; may = s.may; entry = λ r. entry_at h d.id.0 r; generation = λ r. generation_at s h d.id.0 r; header = x; mapping = value_of d.mappings; in_use = count_of d.mappings; maps_answered = d.mappings.given }) a.header
-    ∙ ap (λ (f : Handle → Option Held). record { domains = s.domains; may = s.may; entry = λ r. entry_at h d.id.0 r; generation = λ r. generation_at s h d.id.0 r; header = table_at s h d.id; mapping = f; in_use = count_of d.mappings; maps_answered = d.mappings.given }) a.mappings.named
-    ∙ ap (λ (x : ℕ). record { domains = s.domains; may = s.may; entry = λ r. entry_at h d.id.0 r; generation = λ r. generation_at s h d.id.0 r; header = table_at s h d.id; mapping = mapping_of (mappings_at h d.id.0); in_use = x; maps_answered = d.mappings.given }) a.mappings.count
-    ∙ ap (λ (x : ℕ). record { domains = s.domains; may = s.may; entry = λ r. entry_at h d.id.0 r; generation = λ r. generation_at s h d.id.0 r; header = table_at s h d.id; mapping = mapping_of (mappings_at h d.id.0); in_use = length (mappings_at h d.id.0); maps_answered = x }) a.mappings.given
+known-same s h d a = let m = a.mappings in cc
 
 -- calls
 
@@ -52,23 +44,22 @@ given-none h d given none = λ c call. absurd (none-some c (sym none ∙ call))
 
 -- the call of another domain stands where it stood
 open-stays : (s : Setting) (i : Item) (h : History) (d : DomId) (o : Open) (c : Underway) → (i.actor.0 == d.0) ≡ false → OpenAgrees s h d o c → OpenAgrees s (i ∷ h) d o c
-open-stays s i h d o c apart a =
-    record {
-      caller = a.caller;
-      asks = a.asks;
-      phase = a.phase;
-      here = a.here;
-      at = subst (λ (z : CallerKnowledge). StandsAt z d c.request (values c) a.phase) (sym (other-known s i h d apart)) a.at;
-      acts = a.acts;
-      follows = subst (λ (z : CallerKnowledge). GoesOn z d c.request (values c) (Makes o.step)) (sym (other-known s i h d apart)) a.follows;
-      rests = subst (λ (z : CallerKnowledge). Rests z d c.request (pins_at a.phase) (values c) (Makes o.step)) (sym (other-known s i h d apart)) a.rests;
-      place = place-stays s i h d c.request (reverse c.steps) a.phase (λ r which. other-body i h d.0 r which apart) a.place;
-      fair = stood-other s i h d.0 apart ∙ a.fair;
-      fits = a.fits;
-      clean = a.clean;
-      held = other-legs i h d.0 apart ∙ a.held;
-      few = a.few;
-    }
+open-stays s i h d o c apart a = record {
+  caller = a.caller;
+  asks = a.asks;
+  phase = a.phase;
+  here = a.here;
+  at = subst (λ (z : CallerKnowledge). StandsAt z d c.request (values c) a.phase) (sym (other-known s i h d apart)) a.at;
+  acts = a.acts;
+  follows = subst (λ (z : CallerKnowledge). GoesOn z d c.request (values c) (Makes o.step)) (sym (other-known s i h d apart)) a.follows;
+  rests = subst (λ (z : CallerKnowledge). Rests z d c.request (pins_at a.phase) (values c) (Makes o.step)) (sym (other-known s i h d apart)) a.rests;
+  place = place-stays s i h d c.request (reverse c.steps) a.phase (λ r which. other-body i h d.0 r which apart) a.place;
+  fair = stood-other s i h d.0 apart ∙ a.fair;
+  fits = a.fits;
+  clean = a.clean;
+  held = other-legs i h d.0 apart ∙ a.held;
+  few = a.few;
+}
 
 call-stays : (s : Setting) (i : Item) (h : History) (d : DomId) (o : Option Open) (c : Option Underway) → (i.actor.0 == d.0) ≡ false → CallAgrees s h d o c → CallAgrees s (i ∷ h) d o c
 call-stays s i h d None None apart a = other-legs i h d.0 apart ∙ a
@@ -88,10 +79,8 @@ slot-agrees : (h new : History) (q r k : ℕ) (f : PinCounts → PinCounts) (b :
     → ((old : PinCounts) → SlotAgrees h q r old → SlotAgrees new q r (f old)) → ((r == k) ≡ false → (old : PinCounts) → SlotAgrees h q k old → SlotAgrees new q k old)
     → cond b (option_map f o) o ≡ Some slot → SlotAgrees new q k slot
 slot-agrees h new q r k f true None slot is was there apart e = absurd (none-some slot e)
-slot-agrees h new q r k f true (Some old) slot is was there apart e =
-    let y : f old ≡ slot = cc in
-    let n : r ≡ k = eqb-true r k is in
-    subst (λ (z : PinCounts). SlotAgrees new q k z) y
+slot-agrees h new q r k f true (Some old) slot is was there apart e = let y : f old ≡ slot = cc in
+    let n : r ≡ k = eqb-true r k is in subst (λ (z : PinCounts). SlotAgrees new q k z) y
     (subst (λ (m : ℕ). SlotAgrees new q m (f old)) n (there old (subst (λ (m : ℕ). SlotAgrees h q m old) (sym n) (was old refl))))
 slot-agrees h new q r k f false o slot is was there apart e = apart is slot (was slot e)
 
@@ -112,95 +101,78 @@ length-slots r f slots false e = e
 -- a domain that doesn't act: its pins may have changed, its call stands where it stood
 pub other-agrees : (s : Setting) (i : Item) (h : History) (x : State) (slots : List PinCounts) → (i.actor.0 == x.id.0) ≡ false → Agrees s h x
     → length slots ≡ TABLE_ENTRIES → SlotsAgree (i ∷ h) x.id.0 slots → Agrees s (i ∷ h) (record x { slots = slots })
-other-agrees s i h x slots apart a len agree =
-    record {
-      header = a.header ∙ sym (other-table s i h x.id apart);
-      rows = a.rows;
-      entries = a.entries ∙ fun_ext (λ r. sym (other-entry i h x.id.0 r apart));
-      generations = a.generations ∙ sym (other-generations s i h x.id.0 apart);
-      room = len;
-      slots = agree;
-      mappings = mappings-same x.mappings _ _ _ _ (sym (other-mappings i h x.id.0 apart)) (sym (other-maps i h x.id.0 apart)) a.mappings;
-      given = given-other i h x.id.0 x.given apart a.given;
-      call = call-of-other s i h x.id x.underway apart a.call;
-    }
+other-agrees s i h x slots apart a len agree = record {
+  header = a.header ∙ sym (other-table s i h x.id apart);
+  rows = a.rows;
+  entries = a.entries ∙ fun_ext (λ r. sym (other-entry i h x.id.0 r apart));
+  generations = a.generations ∙ sym (other-generations s i h x.id.0 apart);
+  room = len;
+  slots = agree;
+  mappings = mappings-same x.mappings _ _ _ _ (sym (other-mappings i h x.id.0 apart)) (sym (other-maps i h x.id.0 apart)) a.mappings;
+  given = given-other i h x.id.0 x.given apart a.given;
+  call = call-of-other s i h x.id x.underway apart a.call;
+}
 
 -- items that change no entry, and store no word
-
 pub record KeepsEntries (i : Item) : Type 0 where
   pub changes : (r : ℕ) → change_at i.happened r ≡ None
   pub stores : (r : ℕ) (which : Half) → stored_at i.happened r which ≡ None
   pub header : header_stored i.happened ≡ None
-
-pub cond-same : {A : Type 0} (b : Bool) (x : A) → cond b x x ≡ x
-cond-same true x = refl
-cond-same false x = refl
-
-no-change : (i : Item) (t r : ℕ) → KeepsEntries i → change_of i t r ≡ None
-no-change i t r q = ap (λ (c : Option Change). cond (i.actor.0 == t) c None) (q.changes r) ∙ cond-same (i.actor.0 == t) None
-
-pub same-entry : (i : Item) (h : History) (t r : ℕ) → KeepsEntries i → entry_at (i ∷ h) t r ≡ entry_at h t r
-unfolding entry_at
-same-entry i h t r q = ap (λ (c : Option Change). entry_after c (entry_at h t r)) (no-change i t r q)
-
-pub same-raises : (i : Item) (h : History) (t r : ℕ) → KeepsEntries i → raises_at (i ∷ h) t r ≡ raises_at h t r
-unfolding raises_at
-same-raises i h t r q = ap (λ (c : Option Change). raises_at h t r + raise_after c) (no-change i t r q) ∙ omega arith
 
 pub same-body : (i : Item) (h : History) (t r : ℕ) (which : Half) → KeepsEntries i → body_at (i ∷ h) t r which ≡ body_at h t r which
 unfolding body_at
 same-body i h t r which q =
     ap (λ (o : Option ℕ). or_else o (body_at h t r which)) (ap (λ (o : Option ℕ). cond (i.actor.0 == t) o None) (q.stores r which) ∙ cond-same (i.actor.0 == t) None)
 
-pub same-generations : (s : Setting) (i : Item) (h : History) (d : ℕ) → KeepsEntries i
-    → ◌≡◌ {A = ℕ → ℕ} (λ r. generation_at s (i ∷ h) d r) (λ r. generation_at s h d r)
-same-generations s i h d q = fun_ext (λ r. ap (λ (n : ℕ). s.first_generation + n) (same-raises i h d r q))
+spelled-as : (e e' : Entry) (a a' b b' : ℕ) → e' ≡ e → a' ≡ a → b' ≡ b → IsSpelled e a b → IsSpelled e' a' b'
+spelled-as e e' a a' b b' p q r z =
+    subst (λ (x : Entry). IsSpelled x a' b') (sym p) (subst (λ (n : ℕ). IsSpelled e n b') (sym q) (subst (IsSpelled e a) (sym r) z))
 
-same-spelled : (i : Item) (h : History) (t r : ℕ) → KeepsEntries i → (entry_at h t r ≢ Invalid → IsSpelled (entry_at h t r) (body_at h t r FirstHalf) (body_at h t r SecondHalf))
-    → entry_at (i ∷ h) t r ≢ Invalid → IsSpelled (entry_at (i ∷ h) t r) (body_at (i ∷ h) t r FirstHalf) (body_at (i ∷ h) t r SecondHalf)
-same-spelled i h t r q a valid =
-    subst (λ (e : Entry). IsSpelled e (body_at (i ∷ h) t r FirstHalf) (body_at (i ∷ h) t r SecondHalf)) (sym (same-entry i h t r q))
-    (subst (λ (n : ℕ). IsSpelled (entry_at h t r) n (body_at (i ∷ h) t r SecondHalf)) (sym (same-body i h t r FirstHalf q))
-    (subst (λ (n : ℕ). IsSpelled (entry_at h t r) (body_at h t r FirstHalf) n) (sym (same-body i h t r SecondHalf q))
-    (a (λ e. valid (same-entry i h t r q ∙ e)))))
+-- a slot agrees still, where the live pins and its body words are the same
+pub slot-kept : (i : Item) (h : History) (t r : ℕ) (slot : PinCounts) → live (i ∷ h) ≡ live h → ((which : Half) → body_at (i ∷ h) t r which ≡ body_at h t r which) → SlotAgrees h t r slot → SlotAgrees (i ∷ h) t r slot
+slot-kept i h t r slot same bodies a = record {
+  reads = a.reads ∙ ap (count_by (is_pin_on t r Read)) (sym same);
+  writes = a.writes ∙ ap (count_by (is_pin_on t r Write)) (sym same);
+  first = a.first ∙ sym (bodies FirstHalf);
+  second = a.second ∙ sym (bodies SecondHalf);
+}
 
--- the domain that acts: its pins, mappings and call may have changed
-pub actor-agrees : (s : Setting) (i : Item) (h : History) (x : State) (slots : List PinCounts) (mappings : Kept Held) (o : Option Open) (given : List ℕ) → KeepsEntries i → Agrees s h x
-    → length slots ≡ TABLE_ENTRIES → SlotsAgree (i ∷ h) x.id.0 slots → MappingsAgree mappings (mappings_at (i ∷ h) x.id.0) (maps_answered_at (i ∷ h) x.id.0)
+-- the domain that acts: its header, pins, mappings and call may have changed
+pub actor-agrees : (s : Setting) (i : Item) (h : History) (x : State) (header : Header) (slots : List PinCounts) (mappings : Kept Held) (o : Option Open) (given : List ℕ) → KeepsAll i → Agrees s h x
+    → header ≡ table_at s (i ∷ h) x.id → length slots ≡ TABLE_ENTRIES → SlotsAgree (i ∷ h) x.id.0 slots → MappingsAgree mappings (mappings_at (i ∷ h) x.id.0) (maps_answered_at (i ∷ h) x.id.0)
     → CallAgrees s (i ∷ h) x.id o (open_call (i ∷ h) x.id.0) → GivenAgrees (i ∷ h) x.id.0 given
-    → Agrees s (i ∷ h) (record x { slots = slots; mappings = mappings; underway = o; given = given })
-actor-agrees s i h x slots mappings o given q a len agree same call bytes =
-    record {
-      header = a.header ∙ sym (kept-table s i h x.id q.header);
-      rows = a.rows;
-      entries = a.entries ∙ fun_ext (λ r. sym (same-entry i h x.id.0 r q));
-      generations = a.generations ∙ sym (same-generations s i h x.id.0 q);
-      room = len;
-      slots = agree;
-      mappings = same;
-      call = call;
-      given = bytes;
-    }
+    → Agrees s (i ∷ h) (record x { header = header; slots = slots; mappings = mappings; underway = o; given = given })
+actor-agrees s i h x header slots mappings o given q a head len agree same call bytes = record {
+  header = head;
+  rows = a.rows;
+  entries = a.entries ∙ fun_ext (λ r. sym (kept-entry i h x.id.0 r q));
+  generations = a.generations ∙ sym (kept-generations s i h x.id.0 q);
+  room = len;
+  slots = agree;
+  mappings = same;
+  call = call;
+  given = bytes;
+}
 
 -- control words
 
-room-for : (e : Entry) (g r w : ℕ) → FitsWord (control_with e g r w) → (r < 4096) × (w < 4096)
+room-for : (e : Entry) (g r w : ℕ) → FitsWord (control_with e g r w) → (r < MAX_PINS + 1) × (w < MAX_PINS + 1)
 room-for Invalid g r w f = (f.in_range.reads, f.in_range.writes)
 room-for e g r w f = (f.in_range.reads, f.in_range.writes)
 
-fits-with : (e : Entry) (g r w r' w' : ℕ) → r' < 4096 → w' < 4096 → FitsWord (control_with e g r w) → FitsWord (control_with e g r' w')
+fits-with : (e : Entry) (g r w r' w' : ℕ) → r' < MAX_PINS + 1 → w' < MAX_PINS + 1 → FitsWord (control_with e g r w) → FitsWord (control_with e g r' w')
 fits-with Invalid g r w r' w' a b f = record { in_range = record { reads = a; writes = b; generation = f.in_range.generation }; domain = f.domain }
 fits-with e g r w r' w' a b f = record { in_range = record { reads = a; writes = b; generation = f.in_range.generation }; domain = f.domain }
 
 -- the counts that a control word holds are below 4,096
-pub counts-fit : (s : Setting) (h : History) (t r : ℕ) → FitsWord (control_at s h t r) → (reads_at h t r < 4096) × (writes_at h t r < 4096)
+pub counts-fit : (s : Setting) (h : History) (t r : ℕ) → FitsWord (control_at s h t r) → (reads_at h t r < MAX_PINS + 1) × (writes_at h t r < MAX_PINS + 1)
 counts-fit s h t r f = room-for (entry_at h t r) (generation_at s h t r) (reads_at h t r) (writes_at h t r) f
 
 -- a word whose counts have changed has room for them
-word-fits : (s : Setting) (i : Item) (h : History) (t r : ℕ) → KeepsEntries i → reads_at (i ∷ h) t r < 4096 → writes_at (i ∷ h) t r < 4096 → FitsWord (control_at s h t r) → FitsWord (control_at s (i ∷ h) t r)
+word-fits : (s : Setting) (i : Item) (h : History) (t r : ℕ) → KeepsEntries i → reads_at (i ∷ h) t r < MAX_PINS + 1 → writes_at (i ∷ h) t r < MAX_PINS + 1 → FitsWord (control_at s h t r) → FitsWord (control_at s (i ∷ h) t r)
 word-fits s i h t r q a b f =
-    subst (λ (e : Entry). FitsWord (control_with e (generation_at s (i ∷ h) t r) (reads_at (i ∷ h) t r) (writes_at (i ∷ h) t r))) (sym (same-entry i h t r q))
-    (subst (λ (n : ℕ). FitsWord (control_with (entry_at h t r) (s.first_generation + n) (reads_at (i ∷ h) t r) (writes_at (i ∷ h) t r))) (sym (same-raises i h t r q))
+    subst (λ (e : Entry). FitsWord (control_with e (generation_at s (i ∷ h) t r) (reads_at (i ∷ h) t r) (writes_at (i ∷ h) t r))) (sym (kept-entry i h t r q.changes))
+    (subst (λ (n : ℕ). FitsWord (control_with (entry_at h t r) (s.first_generation + n) (reads_at (i ∷ h) t r) (writes_at (i ∷ h) t r))) (sym (kept-raises i h t r q.changes))
     (fits-with (entry_at h t r) (generation_at s h t r) (reads_at h t r) (writes_at h t r) (reads_at (i ∷ h) t r) (writes_at (i ∷ h) t r) a b f))
 
 -- the states
@@ -233,13 +205,11 @@ each-stands s i h xs zs x new t g st here becomes same keeps mine others dom = s
 
     bystander : (o : Option State) → (x.id.0 == dom.0) ≡ false → StateAgrees s h dom o → StateAgrees s (i ∷ h) dom (after_change (t == dom.0) g o)
     bystander None apart a = nobody (t == dom.0) a
-    bystander (Some y) apart a =
-        subst (StateAgrees s (i ∷ h) dom) (sym (picked (t == dom.0) y))
+    bystander (Some y) apart a = subst (StateAgrees s (i ∷ h) dom) (sym (picked (t == dom.0) y))
         (a.0, named (t == dom.0) y ∙ a.1, subst (λ (n : DomId). Agrees s (i ∷ h) (cond (t == n.0) (g y) y)) a.1 (others y (ap (λ (z : DomId). x.id.0 == z.0) a.1 ∙ apart) a.2))
 
     by : (b : Bool) → (x.id.0 == dom.0) ≡ b → StateAgrees s (i ∷ h) dom (after_change (t == dom.0) g (cond b (Some new) (state_of xs dom.0)))
-    by true own =
-        let at : x.id ≡ dom = ap (λ (n : ℕ). record { 0 = n }) (eqb-true x.id.0 dom.0 own) in
+    by true own = let at : x.id ≡ dom = ap (λ (n : ℕ). record { 0 = n }) (eqb-true x.id.0 dom.0 own) in
         let was = subst (StateAgrees s h dom) (ap (state_of xs) (sym (eqb-true x.id.0 dom.0 own)) ∙ here) (st.each dom) in
         subst (StateAgrees s (i ∷ h) dom) (sym (picked (t == dom.0) new))
         (was.0, named (t == dom.0) new ∙ same ∙ at, subst (λ (z : DomId). Agrees s (i ∷ h) (cond (t == z.0) (g new) new)) at mine)
@@ -253,8 +223,7 @@ each-stays s i h xs zs x new st here own kept becomes same mine slots dom =
     each-stands s i h xs zs x new 0 (λ (y : State). y) st here (λ q. becomes q ∙ sym (plain (0 == q) (cond (x.id.0 == q) (Some new) (state_of xs q)))) same (λ y. refl)
     (subst (Agrees s (i ∷ h)) (sym (cond-same (0 == x.id.0) new)) mine)
     (λ y apart a. subst (Agrees s (i ∷ h)) (sym (cond-same (0 == y.id.0) y))
-    (other-agrees s i h y y.slots (ap (λ (z : DomId). z.0 == y.id.0) own ∙ apart) a a.room (slots y apart a.slots)))
-    dom
+    (other-agrees s i h y y.slots (ap (λ (z : DomId). z.0 == y.id.0) own ∙ apart) a a.room (slots y apart a.slots))) dom
   where
     plain : (b : Bool) (o : Option State) → after_change b (λ (y : State). y) o ≡ o
     plain true None = refl
@@ -262,39 +231,51 @@ each-stays s i h xs zs x new st here own kept becomes same mine slots dom =
 
 -- a core stands for one item more that changes no entry and stores no word
 pub keeps-stands : (s : Setting) (i : Item) (h : History) (xs zs : List State) → KeepsEntries i → DomainsStand s h xs → ((dom : DomId) → StateAgrees s (i ∷ h) dom (state_of zs dom.0))
-    → All (IsLawful s) (live (i ∷ h)) → ((t r : ℕ) → r < TABLE_ENTRIES → (reads_at (i ∷ h) t r < 4096) × (writes_at (i ∷ h) t r < 4096))
+    → All (IsLawful s) (live (i ∷ h)) → ((t r : ℕ) → r < TABLE_ENTRIES → (reads_at (i ∷ h) t r < MAX_PINS + 1) × (writes_at (i ∷ h) t r < MAX_PINS + 1))
     → ((t r : ℕ) → entry_at h t r ≡ Invalid → (reads_at (i ∷ h) t r ≡ 0) × (writes_at (i ∷ h) t r ≡ 0)) → DomainsStand s (i ∷ h) zs
-keeps-stands s i h xs zs q st each lawful counts free =
-    record {
-      each = each;
-      tables = λ dom. subst FitsTable (sym (kept-table s i h dom q.header)) (st.tables dom);
-      words = λ t r within. let c = counts t r within in word-fits s i h t r q c.0 c.1 (st.words t r within);
-      entries = λ t r. subst IsEntry (sym (same-entry i h t r q)) (st.entries t r);
-      lawful = lawful;
-      free = λ t r e. free t r (sym (same-entry i h t r q) ∙ e);
-      spelled = λ t r valid. same-spelled i h t r q (st.spelled t r) valid;
-    }
+keeps-stands s i h xs zs q st each lawful counts free = record {
+  each = each;
+  tables = λ dom. subst FitsTable (sym (kept-table s i h dom q.header)) (st.tables dom);
+  words = λ t r within. let c = counts t r within in word-fits s i h t r q c.0 c.1 (st.words t r within);
+  entries = λ t r. subst IsEntry (sym (kept-entry i h t r q.changes)) (st.entries t r);
+  lawful = lawful;
+  free = λ t r e. free t r (sym (kept-entry i h t r q.changes) ∙ e);
+  spelled = λ t r valid. let same = kept-entry i h t r q.changes in
+      spelled-as _ _ _ _ _ _ same (same-body i h t r FirstHalf q) (same-body i h t r SecondHalf q) (st.spelled t r (λ e. valid (same ∙ e)));
+}
 
--- the same, where no pin is taken or given back
+-- the domains stand for an item that changes no entry and no pin, where the tables fit, and the words of valid entries stay
+pub kept-stands : (s : Setting) (i : Item) (h : History) (xs zs : List State) → KeepsKnown i → DomainsStand s h xs → ((dom : DomId) → StateAgrees s (i ∷ h) dom (state_of zs dom.0)) → ((dom : DomId) → FitsTable (table_at s (i ∷ h) dom))
+    → ((t r : ℕ) → entry_at h t r ≢ Invalid → (which : Half) → body_at (i ∷ h) t r which ≡ body_at h t r which) → DomainsStand s (i ∷ h) zs
+kept-stands s i h xs zs k st each tables bodies = record {
+  each = each;
+  tables = tables;
+  words = λ t r within. subst FitsWord (sym (control t r)) (st.words t r within);
+  entries = λ t r. subst IsEntry (sym (entry t r)) (st.entries t r);
+  lawful = subst (All (IsLawful s)) (sym (kept-live i h k)) st.lawful;
+  free = λ t r e. let was = st.free t r (sym (entry t r) ∙ e) in (count t r Read ∙ was.0, count t r Write ∙ was.1);
+  spelled = λ t r valid. let b = bodies t r (λ e. valid (entry t r ∙ e)) in spelled-as _ _ _ _ _ _ (entry t r) (b FirstHalf) (b SecondHalf) (st.spelled t r (λ e. valid (entry t r ∙ e)));
+} where
+  entry : (t r : ℕ) → entry_at (i ∷ h) t r ≡ entry_at h t r
+  entry t r = kept-entry i h t r k.changes
+
+  count : (t r : ℕ) (dir : Dir) → count_by (is_pin_on t r dir) (live (i ∷ h)) ≡ count_by (is_pin_on t r dir) (live h)
+  count t r dir = ap (count_by (is_pin_on t r dir)) (kept-live i h k)
+
+  control : (t r : ℕ) → control_at s (i ∷ h) t r ≡ control_at s h t r
+  control t r = ap (λ (e : Entry). control_with e (generation_at s (i ∷ h) t r) (reads_at (i ∷ h) t r) (writes_at (i ∷ h) t r)) (entry t r)
+      ∙ ap (λ (n : ℕ). control_with (entry_at h t r) (s.first_generation + n) (reads_at (i ∷ h) t r) (writes_at (i ∷ h) t r)) (kept-raises i h t r k.changes)
+      ∙ ap (λ (ps : List Pin). control_with (entry_at h t r) (generation_at s h t r) (count_by (is_pin_on t r Read) ps) (count_by (is_pin_on t r Write) ps)) (kept-live i h k)
+
+-- the same, where no header and no body word is stored either
 pub pins-stand : (s : Setting) (i : Item) (h : History) (xs zs : List State) → KeepsEntries i → KeepsKnown i → DomainsStand s h xs → ((dom : DomId) → StateAgrees s (i ∷ h) dom (state_of zs dom.0))
     → DomainsStand s (i ∷ h) zs
 pins-stand s i h xs zs q k st each =
-    keeps-stands s i h xs zs q st each (subst (All (IsLawful s)) (sym (kept-live i h k)) st.lawful)
-    (λ t r within. let c = counts-fit s h t r (st.words t r within) in (subst (λ (n : ℕ). n < 4096) (sym (count t r Read)) c.0, subst (λ (n : ℕ). n < 4096) (sym (count t r Write)) c.1))
-    (λ t r e. let f = st.free t r e in (count t r Read ∙ f.0, count t r Write ∙ f.1))
-  where
-    count : (t r : ℕ) (dir : Dir) → count_by (is_pin_on t r dir) (live (i ∷ h)) ≡ count_by (is_pin_on t r dir) (live h)
-    count t r dir = ap (λ (ps : List Pin). count_by (is_pin_on t r dir) ps) (kept-live i h k)
+    kept-stands s i h xs zs k st each (λ dom. subst FitsTable (sym (kept-table s i h dom q.header)) (st.tables dom)) (λ t r valid which. same-body i h t r which q)
 
 -- the slots of a domain stay, where no pin is taken or given back and no body word stored
 pub slots-stay : (i : Item) (h : History) (q : ℕ) (slots : List PinCounts) → KeepsEntries i → KeepsKnown i → SlotsAgree h q slots → SlotsAgree (i ∷ h) q slots
-slots-stay i h q slots e k a = λ r slot at. let b = a r slot at in
-    record {
-      reads = b.reads ∙ ap (λ (ps : List Pin). count_by (is_pin_on q r Read) ps) (sym (kept-live i h k));
-      writes = b.writes ∙ ap (λ (ps : List Pin). count_by (is_pin_on q r Write) ps) (sym (kept-live i h k));
-      first = b.first ∙ sym (same-body i h q r FirstHalf e);
-      second = b.second ∙ sym (same-body i h q r SecondHalf e);
-    }
+slots-stay i h q slots e k a = λ r slot at. slot-kept i h q r slot (kept-live i h k) (λ which. same-body i h q r which e) (a r slot at)
 
 -- and its mappings
 pub mappings-stay : (i : Item) (h : History) (q : ℕ) (kept : Kept Held) → KeepsKnown i → MappingsAgree kept (mappings_at h q) (maps_answered_at h q) → MappingsAgree kept (mappings_at (i ∷ h) q) (maps_answered_at (i ∷ h) q)
@@ -305,10 +286,9 @@ mappings-stay i h q kept k a =
 pub quiet-stands : (s : Setting) (i : Item) (h : History) (xs zs : List State) (x : State) (o : Option Open) (given : List ℕ) → KeepsEntries i → KeepsKnown i → i.actor ≡ x.id → DomainsStand s h xs
     → state_of xs x.id.0 ≡ Some x → Agrees s h x → ((q : ℕ) → state_of zs q ≡ cond (x.id.0 == q) (Some (record x { underway = o; given = given })) (state_of xs q))
     → CallAgrees s (i ∷ h) x.id o (open_call (i ∷ h) x.id.0) → GivenAgrees (i ∷ h) x.id.0 given → DomainsStand s (i ∷ h) zs
-quiet-stands s i h xs zs x o given e k own st here a becomes call bytes =
-    pins-stand s i h xs zs e k st
+quiet-stands s i h xs zs x o given e k own st here a becomes call bytes = pins-stand s i h xs zs e k st
     (each-stays s i h xs zs x (record x { underway = o; given = given }) st here own k becomes refl
-    (actor-agrees s i h x x.slots x.mappings o given e a a.room (slots-stay i h x.id.0 x.slots e k a.slots) (mappings-stay i h x.id.0 x.mappings k a.mappings) call bytes)
+    (actor-agrees s i h x x.header x.slots x.mappings o given e.changes a (a.header ∙ sym (kept-table s i h x.id e.header)) a.room (slots-stay i h x.id.0 x.slots e k a.slots) (mappings-stay i h x.id.0 x.mappings k a.mappings) call bytes)
     (λ y apart b. slots-stay i h y.id.0 y.slots e k b))
 
 -- the item of a step
@@ -320,6 +300,16 @@ pub becomes-changed : (xs ys : List State) (x new : State) (t : ℕ) (g : State 
     → Becomes xs (changed_in t g ys) x new t g
 becomes-changed xs ys x new t g keeps was = λ q. state-changed ys t q g keeps ∙ ap (λ (o : Option State). after_change (t == q) g o) (was q)
 
+-- each domain agrees after an item that changes just its actor's state, and no pin of another
+pub own-each : (s : Setting) (i : Item) (h : History) (xs ys : List State) (x : State) (o : Option Open) (g : State → State) → i.actor ≡ x.id → DomainsStand s h xs → state_of xs x.id.0 ≡ Some x
+    → ((q : ℕ) → state_of ys q ≡ cond (x.id.0 == q) (Some (record x { underway = o })) (state_of xs q)) → ((y : State) → (g y).id ≡ y.id) → Agrees s (i ∷ h) (g (record x { underway = o }))
+    → ((y : State) → (x.id.0 == y.id.0) ≡ false → SlotsAgree h y.id.0 y.slots → SlotsAgree (i ∷ h) y.id.0 y.slots) → (dom : DomId) → StateAgrees s (i ∷ h) dom (state_of (changed_in x.id.0 g ys) dom.0)
+own-each s i h xs ys x o g own st here becomes keeps mine slots =
+    each-stands s i h xs _ x (record x { underway = o }) x.id.0 g st here (becomes-changed xs ys x (record x { underway = o }) x.id.0 g keeps becomes) refl keeps
+    (subst (λ (b : Bool). Agrees s (i ∷ h) (cond b (g (record x { underway = o })) (record x { underway = o }))) (sym (same-number x.id.0)) mine)
+    (λ y apart a. subst (λ (c : Bool). Agrees s (i ∷ h) (cond c (g y) y)) (sym apart)
+    (other-agrees s i h y y.slots (ap (λ (z : DomId). z.0 == y.id.0) own ∙ apart) a a.room (slots y apart a.slots)))
+
 -- each domain agrees after an item that changes the pins of one entry, where the slots of each do
 pub slots-stand : (s : Setting) (i : Item) (h : History) (xs zs : List State) (x : State) (kept : Kept Held) (o : Option Open) (t r : ℕ) (change : CountsChange) → KeepsEntries i → i.actor ≡ x.id → DomainsStand s h xs → state_of xs x.id.0 ≡ Some x → Agrees s h x
     → Becomes xs zs x (record x { mappings = kept; underway = o }) t (with_slot r change)
@@ -329,7 +319,7 @@ pub slots-stand : (s : Setting) (i : Item) (h : History) (xs zs : List State) (x
 slots-stand s i h xs zs x kept o t r change keeps own st here a becomes slots maps call given =
     each-stands s i h xs zs x (record x { mappings = kept; underway = o }) t (with_slot r change) st here becomes refl (λ y. refl)
     (subst (Agrees s (i ∷ h)) (picked (record x { mappings = kept; underway = o }) (t == x.id.0))
-    (actor-agrees s i h x (cond (t == x.id.0) (changed_at r (slot_after change) x.slots) x.slots) kept o x.given keeps a
+    (actor-agrees s i h x x.header (cond (t == x.id.0) (changed_at r (slot_after change) x.slots) x.slots) kept o x.given keeps.changes a (a.header ∙ sym (kept-table s i h x.id keeps.header))
     (length-slots r (slot_after change) x.slots (t == x.id.0) a.room) (slots x.id.0 x.slots (t == x.id.0) refl a.slots) maps call given))
     (λ y apart b. subst (Agrees s (i ∷ h)) (picked y (t == y.id.0))
     (other-agrees s i h y (cond (t == y.id.0) (changed_at r (slot_after change) y.slots) y.slots) (ap (λ (z : DomId). z.0 == y.id.0) own ∙ apart) b

@@ -1,9 +1,9 @@
 -- The only step that names the handle of a mapping is that of an unmap, and it names the handle asked.
-use Rattle.gt_core.proofs.Words.{◌≡◌, ℕ, zero, suc, refl, Bool, true, false, List, [], ◌∷◌, ◌++◌, length, Option, Some, None, cond, subst, nat_lt, ◌==◌, none-some, same_Some, DomId, GrantRef, Rule, Denial, Entry, Sub, Via, KindSub, control_of, header_of, Change, Publish, ToInvalid, ToReadOnly, ToWritable, MORE_TRIES, Leg, Held, Route, Through, CopyArgs, Asked, ByMapping, ByLeg, Seen, Nothing, Word, Taken, Missed, Step, LookHeader, LookControl, Unpin, Exchange, Makes, Done, Verdict, Granted, Refused, held_by, CallerKnowledge, begun, first_look, is_kind, size_of, via_judged, is_source_granted, is_dest_granted, Continuation, ended, makes, held_of, rule_of_try, entry_refusal, is_stopped, steps_of, after_beginning, path, second_leg, map_leg, source_pair, dest_pair}
+use Rattle.gt_core.proofs.Words.{◌≡◌, ℕ, zero, suc, refl, Bool, true, false, List, [], ◌∷◌, ◌++◌, length, Option, Some, None, cond, subst, nat_lt, ◌==◌, none-some, same_Some, DomId, GrantRef, Rule, Denial, Entry, Sub, Via, KindSub, control_of, header_of, Change, Publish, ToInvalid, ToReadOnly, ToWritable, MORE_TRIES, Leg, Held, Route, Through, CopyArgs, Asked, ByMapping, ByLeg, Seen, Nothing, Word, Taken, Missed, Step, LookHeader, LookControl, Unpin, Exchange, Makes, Done, Verdict, Granted, Refused, held_by, CallerKnowledge, begun, first_look, is_kind, size_of, via_judged, is_source_granted, is_dest_granted, Continuation, ended, makes, held_of, rule_of_try, entry_refusal, is_stopped, steps_of, after_beginning, path, second_leg, map_leg, source_pair, dest_pair, AfterRefusal, AfterPin, nowhere, looks, exchanges, give_back, at_first_look, last_step, reads_second, reads_body, try_pin, tries, leg, unless_refused, beyond, reaches, accesses, to_dest, copies, turn, turns, busy, exchanges_once, after_first, refused_holding}
 use Rattle.gt_calls.specs.declared.request.Asked.TheVariants as requests
 use Rattle.gt_calls.specs.declared.action.Step.TheVariants.{Pin}
 use Rattle.gt_calls.specs.declared.action.Verdict.TheVariants.{Mapped}
-use Rattle.gt_calls.specs.Path.{AfterRefusal, AfterPin, nowhere, looks, exchanges, give_back, at_first_look, last_step, reads_second, reads_body, try_pin, tries, leg, unless_refused, beyond, reaches, accesses, to_dest, copies, turn, turns, busy, exchanges_once, after_first, by_mapping, refused_holding}
+use Rattle.gt_calls.specs.Path.{by_mapping}
 use Rattle.gt_core.proofs.Phases.{makes-same}
 
 -- a step that names the handle of a mapping is an unmap's, of the handle asked
@@ -94,8 +94,7 @@ only-tries r l zero refused pinned refuses takes = only-try r l refused _ pinned
 only-tries r l (suc n) refused pinned refuses takes = only-try r l refused (λ found. tries l n refused pinned) pinned refuses (λ found. only-tries r l n refused pinned refuses takes) takes
 
 only-leg : (r : Asked) (l : Leg) (refused : AfterRefusal) (pinned : AfterPin) → OnlyAfterRefusal r refused → ((q : Held) → Only r (pinned q)) → Only r (leg l refused pinned)
-only-leg r l refused pinned refuses takes =
-    only-looks r (LookHeader l.dom) _ tt
+only-leg r l refused pinned refuses takes = only-looks r (LookHeader l.dom) _ tt
     (λ w. only-either r (nat_lt l.gref.0 (size_of (header_of w))) (tries l MORE_TRIES refused pinned) _ (only-tries r l MORE_TRIES refused pinned refuses takes) (refuses _))
 
 -- copies
@@ -118,8 +117,7 @@ only-reaches r k true l pair held reached only =
     only-leg r l (refused_holding held) (λ p. beyond k l pair held reached p p.entry) (λ denial. only-back r held (Refused denial)) (λ p. only-beyond r k l pair held reached p p.entry only)
 
 only-copies : (r : Asked) (k : CallerKnowledge) (d : DomId) (c : CopyArgs) → Only r (copies k d c)
-only-copies r k d c =
-    only-reaches r k (is_source_granted c) _ (source_pair d c) [] (to_dest k d c)
+only-copies r k d c = only-reaches r k (is_source_granted c) _ (source_pair d c) [] (to_dest k d c)
     (λ source. only-reaches r k (is_dest_granted c) _ (dest_pair d source) (held_by source) (accesses d c source)
     (λ dest. only-makes r _ (give_back (held_by dest ++ held_by source) Granted) tt (only-back r (held_by dest ++ held_by source) Granted)))
 
@@ -133,8 +131,7 @@ only-once : (r : Asked) (d : DomId) (gref : GrantRef) (looked : ℕ) (change : C
 only-once r d gref looked change = only-exchanges r (Exchange gref looked change) looked (ended Granted) (busy d gref change) tt (only-ended r Granted) (λ w. only-busy r d gref change w)
 
 only-turn : (r : Asked) (change : Change) (d : DomId) (gref : GrantRef) (missed : ℕ → Continuation) → ((w : ℕ) → Only r (missed w)) → Only r (turn change d gref missed)
-only-turn r change d gref missed miss =
-    only-looks r (LookControl d gref) _ tt
+only-turn r change d gref missed miss = only-looks r (LookControl d gref) _ tt
     (λ w. only-either r (is_stopped change (control_of w)) _ (exchanges (Exchange gref w change) w (ended Granted) missed) (only-ended r _)
     (only-exchanges r (Exchange gref w change) w (ended Granted) missed tt (only-ended r Granted) miss))
 

@@ -1,13 +1,10 @@
 -- The handles of a domain, and its mappings as the history has them.
-use Rattle.gt_core.proofs.Words.{◌≡◌, ◌+◌, ℕ, zero, suc, refl, Bool, true, false, List, [], ◌∷◌, ◌++◌, length, Option, Some, None, cond, sym, ap, ◌∙◌, arith, subst, ◌==◌, ◌&&◌, fun_ext, eqb-true, eq-eqb, and_parts, and_from, true≢false, none-some, length-append, sum_by-cons, Handle, Kept, value_of, count_of, Held, mapping_of, same_handle, Adds, taken, MappingsAgree}
-use Rattle.std.proofs.Common.{is_some, count_by, slice_index_or, slice_set}
+use Rattle.gt_core.proofs.Words.{◌≡◌, ◌+◌, ℕ, zero, suc, refl, Bool, true, false, List, [], ◌∷◌, ◌++◌, length, Option, Some, None, cond, sym, ap, ◌∙◌, arith, subst, ◌==◌, ◌&&◌, fun_ext, eqb-true, eq-eqb, and_parts, and_from, true≢false, none-some, length-append, sum_by-cons, Handle, Kept, value_of, count_of, Held, mapping_of, same_handle, Adds, taken, MappingsAgree, slice_index_or, slice_set, under, AreApart}
+use Rattle.std.proofs.Common.{is_some, count_by}
 use Rattle.gt_handles.specs.declared.handles.Slot.{Slot}
-use Rattle.gt_handles.specs.Handles.{under}
-use Rattle.gt_core.specs.Standing.{AreApart}
 
 pub same-handle : (a b : Handle) → same_handle a b ≡ true → a ≡ b
-same-handle a b e =
-    let p = and_parts (a.serial == b.serial) (a.key == b.key) e in
+same-handle a b e = let p = and_parts (a.serial == b.serial) (a.key == b.key) e in
     ap (λ (n : ℕ). record { serial = n; key = a.key }) (eqb-true a.serial b.serial p.0)
     ∙ ap (λ (n : ℕ). record { serial = b.serial; key = n }) (eqb-true a.key b.key p.1)
 
@@ -15,18 +12,16 @@ handle-same : (a : Handle) → same_handle a a ≡ true
 handle-same a = and_from (a.serial == a.serial) (a.key == a.key) (eq-eqb a.serial a.serial refl) (eq-eqb a.key a.key refl)
 
 apart-back : (a b : Handle) → same_handle a b ≡ false → same_handle b a ≡ false
-apart-back a b e = by (same_handle b a) refl
-  where
-    by : (c : Bool) → same_handle b a ≡ c → same_handle b a ≡ false
-    by true f = absurd (true≢false (sym (handle-same a) ∙ ap (λ (x : Handle). same_handle a x) (sym (same-handle b a f)) ∙ e))
-    by false f = f
+apart-back a b e = by (same_handle b a) refl where
+  by : (c : Bool) → same_handle b a ≡ c → same_handle b a ≡ false
+  by true f = absurd (true≢false (sym (handle-same a) ∙ ap (λ (x : Handle). same_handle a x) (sym (same-handle b a f)) ∙ e))
+  by false f = f
 
 swap-handles : (a b : Handle) → same_handle a b ≡ same_handle b a
-swap-handles a b = by (same_handle a b) refl
-  where
-    by : (c : Bool) → same_handle a b ≡ c → same_handle a b ≡ same_handle b a
-    by true e = e ∙ sym (handle-same a) ∙ ap (λ (x : Handle). same_handle x a) (same-handle a b e)
-    by false e = e ∙ sym (apart-back a b e)
+swap-handles a b = by (same_handle a b) refl where
+  by : (c : Bool) → same_handle a b ≡ c → same_handle a b ≡ same_handle b a
+  by true e = e ∙ sym (handle-same a) ∙ ap (λ (x : Handle). same_handle x a) (same-handle a b e)
+  by false e = e ∙ sym (apart-back a b e)
 
 none-both : (b : Bool) → ◌≡◌ {A = Option Held} (cond b None None) None
 none-both true = refl
@@ -35,11 +30,10 @@ none-both false = refl
 -- a list of mappings, and one more
 
 none-of : (x : Handle × Held) (ms : List (Handle × Held)) (handle : Handle) → mapping_of (x ∷ ms) handle ≡ None → (same_handle x.0 handle ≡ false) × (mapping_of ms handle ≡ None)
-none-of x ms handle e = by (same_handle x.0 handle) refl e
-  where
-    by : (b : Bool) → same_handle x.0 handle ≡ b → cond b (Some x.1) (mapping_of ms handle) ≡ None → (same_handle x.0 handle ≡ false) × (mapping_of ms handle ≡ None)
-    by true is f = absurd (none-some x.1 (sym f))
-    by false is f = (is, f)
+none-of x ms handle e = by (same_handle x.0 handle) refl e where
+  by : (b : Bool) → same_handle x.0 handle ≡ b → cond b (Some x.1) (mapping_of ms handle) ≡ None → (same_handle x.0 handle ≡ false) × (mapping_of ms handle ≡ None)
+  by true is f = absurd (none-some x.1 (sym f))
+  by false is f = (is, f)
 
 push-of : (ms : List (Handle × Held)) (handle : Handle) (m : Held) (other : Handle) → mapping_of ms handle ≡ None
     → mapping_of (ms ++ (handle, m) ∷ []) other ≡ cond (same_handle other handle) (Some m) (mapping_of ms other)
@@ -55,8 +49,7 @@ push-of (x ∷ ms) handle m other none = by (same_handle x.0 other) refl (push-o
 
 apart-push : (ms : List (Handle × Held)) (handle : Handle) (m : Held) → AreApart ms → mapping_of ms handle ≡ None → AreApart (ms ++ (handle, m) ∷ [])
 apart-push [] handle m a none = (refl, tt)
-apart-push (x ∷ ms) handle m a none =
-    let n = none-of x ms handle none in
+apart-push (x ∷ ms) handle m a none = let n = none-of x ms handle none in
     (push-of ms handle m x.0 n.1 ∙ ap (λ (b : Bool). cond b (Some m) (mapping_of ms x.0)) n.0 ∙ a.0, apart-push ms handle m a.1 n.1)
 
 -- the handles with one mapping more are those of the mappings with one more
@@ -80,52 +73,47 @@ less handle (m ∷ ms) = cond (same_handle m.0 handle) ms (m ∷ less handle ms)
 
 less-of : (ms : List (Handle × Held)) (handle other : Handle) → AreApart ms → mapping_of (less handle ms) other ≡ cond (same_handle other handle) None (mapping_of ms other)
 less-of [] handle other a = sym (none-both (same_handle other handle))
-less-of (x ∷ ms) handle other a = by (same_handle x.0 handle) refl (less-of ms handle other a.1)
-  where
-    gone : x.0 ≡ handle → (c : Bool) → same_handle other handle ≡ c → mapping_of ms other ≡ cond c None (cond (same_handle x.0 other) (Some x.1) (mapping_of ms other))
-    gone here true e = ap (mapping_of ms) (same-handle other handle e ∙ sym here) ∙ a.0
-    gone here false e =
-        let off : same_handle x.0 other ≡ false = ap (λ (z : Handle). same_handle z other) here ∙ apart-back other handle e in
-        sym (ap (λ (c : Bool). cond c (Some x.1) (mapping_of ms other)) off)
+less-of (x ∷ ms) handle other a = by (same_handle x.0 handle) refl (less-of ms handle other a.1) where
+  gone : x.0 ≡ handle → (c : Bool) → same_handle other handle ≡ c → mapping_of ms other ≡ cond c None (cond (same_handle x.0 other) (Some x.1) (mapping_of ms other))
+  gone here true e = ap (mapping_of ms) (same-handle other handle e ∙ sym here) ∙ a.0
+  gone here false e =
+      let off : same_handle x.0 other ≡ false = ap (λ (z : Handle). same_handle z other) here ∙ apart-back other handle e in
+      sym (ap (λ (c : Bool). cond c (Some x.1) (mapping_of ms other)) off)
 
-    stays : same_handle x.0 handle ≡ false → mapping_of (less handle ms) other ≡ cond (same_handle other handle) None (mapping_of ms other) → (c : Bool) → same_handle x.0 other ≡ c
-        → cond c (Some x.1) (mapping_of (less handle ms) other) ≡ cond (same_handle other handle) None (cond c (Some x.1) (mapping_of ms other))
-    stays is rest true e =
-        let off : same_handle other handle ≡ false = ap (λ (z : Handle). same_handle z handle) (sym (same-handle x.0 other e)) ∙ is in
-        sym (ap (λ (b : Bool). cond b None (Some x.1)) off)
-    stays is rest false e = rest
+  stays : same_handle x.0 handle ≡ false → mapping_of (less handle ms) other ≡ cond (same_handle other handle) None (mapping_of ms other) → (c : Bool) → same_handle x.0 other ≡ c
+      → cond c (Some x.1) (mapping_of (less handle ms) other) ≡ cond (same_handle other handle) None (cond c (Some x.1) (mapping_of ms other))
+  stays is rest true e =
+      let off : same_handle other handle ≡ false = ap (λ (z : Handle). same_handle z handle) (sym (same-handle x.0 other e)) ∙ is in
+      sym (ap (λ (b : Bool). cond b None (Some x.1)) off)
+  stays is rest false e = rest
 
-    by : (b : Bool) → same_handle x.0 handle ≡ b → mapping_of (less handle ms) other ≡ cond (same_handle other handle) None (mapping_of ms other)
-        → mapping_of (cond b ms (x ∷ less handle ms)) other ≡ cond (same_handle other handle) None (cond (same_handle x.0 other) (Some x.1) (mapping_of ms other))
-    by true is rest = gone (same-handle x.0 handle is) (same_handle other handle) refl
-    by false is rest = stays is rest (same_handle x.0 other) refl
+  by : (b : Bool) → same_handle x.0 handle ≡ b → mapping_of (less handle ms) other ≡ cond (same_handle other handle) None (mapping_of ms other)
+      → mapping_of (cond b ms (x ∷ less handle ms)) other ≡ cond (same_handle other handle) None (cond (same_handle x.0 other) (Some x.1) (mapping_of ms other))
+  by true is rest = gone (same-handle x.0 handle is) (same_handle other handle) refl
+  by false is rest = stays is rest (same_handle x.0 other) refl
 
 length-less : (ms : List (Handle × Held)) (handle : Handle) (m : Held) → mapping_of ms handle ≡ Some m → length ms ≡ length (less handle ms) + 1
 length-less [] handle m e = absurd (none-some m e)
-length-less (x ∷ ms) handle m e = by (same_handle x.0 handle) (λ k. length-less ms handle m k) e
-  where
-    by : (b : Bool) → (mapping_of ms handle ≡ Some m → length ms ≡ length (less handle ms) + 1) → cond b (Some x.1) (mapping_of ms handle) ≡ Some m
-        → length (x ∷ ms) ≡ length (cond b ms (x ∷ less handle ms)) + 1
-    by true rest f = omega arith
-    by false rest f = let r : length ms ≡ length (less handle ms) + 1 = rest f in omega arith
+length-less (x ∷ ms) handle m e = by (same_handle x.0 handle) (λ k. length-less ms handle m k) e where
+  by : (b : Bool) → (mapping_of ms handle ≡ Some m → length ms ≡ length (less handle ms) + 1) → cond b (Some x.1) (mapping_of ms handle) ≡ Some m
+      → length (x ∷ ms) ≡ length (cond b ms (x ∷ less handle ms)) + 1
+  by true rest f = omega arith
+  by false rest f = let r : length ms ≡ length (less handle ms) + 1 = rest f in omega arith
 
 less-none : (ms : List (Handle × Held)) (handle other : Handle) → mapping_of ms other ≡ None → mapping_of (less handle ms) other ≡ None
 less-none [] handle other e = refl
-less-none (x ∷ ms) handle other e =
-    let n = none-of x ms other e in
-    by (same_handle x.0 handle) n.0 n.1 (less-none ms handle other n.1)
-  where
-    by : (b : Bool) → same_handle x.0 other ≡ false → mapping_of ms other ≡ None → mapping_of (less handle ms) other ≡ None → mapping_of (cond b ms (x ∷ less handle ms)) other ≡ None
-    by true off none rest = none
-    by false off none rest = ap (λ (c : Bool). cond c (Some x.1) (mapping_of (less handle ms) other)) off ∙ rest
+less-none (x ∷ ms) handle other e = let n = none-of x ms other e in
+    by (same_handle x.0 handle) n.0 n.1 (less-none ms handle other n.1) where
+      by : (b : Bool) → same_handle x.0 other ≡ false → mapping_of ms other ≡ None → mapping_of (less handle ms) other ≡ None → mapping_of (cond b ms (x ∷ less handle ms)) other ≡ None
+      by true off none rest = none
+      by false off none rest = ap (λ (c : Bool). cond c (Some x.1) (mapping_of (less handle ms) other)) off ∙ rest
 
 apart-less : (ms : List (Handle × Held)) (handle : Handle) → AreApart ms → AreApart (less handle ms)
 apart-less [] handle a = tt
-apart-less (x ∷ ms) handle a = by (same_handle x.0 handle) (apart-less ms handle a.1)
-  where
-    by : (b : Bool) → AreApart (less handle ms) → AreApart (cond b ms (x ∷ less handle ms))
-    by true rest = a.1
-    by false rest = (less-none ms handle x.0 a.0, rest)
+apart-less (x ∷ ms) handle a = by (same_handle x.0 handle) (apart-less ms handle a.1) where
+  by : (b : Bool) → AreApart (less handle ms) → AreApart (cond b ms (x ∷ less handle ms))
+  by true rest = a.1
+  by false rest = (less-none ms handle x.0 a.0, rest)
 
 -- the slots of the handles, and one less
 
@@ -139,35 +127,32 @@ set-there (x ∷ xs) (suc key) (suc at) apart = set-there xs key at (λ e. apart
 set-there slots key at apart = refl
 
 set-none : (slots : List (Option (Slot Held))) (key at : ℕ) → slice_index_or (slice_set slots key None) at None ≡ cond (at == key) None (slice_index_or slots at None)
-set-none slots key at = by (at == key) refl
-  where
-    by : (b : Bool) → (at == key) ≡ b → slice_index_or (slice_set slots key None) at None ≡ cond b None (slice_index_or slots at None)
-    by true is = ap (λ (n : ℕ). slice_index_or (slice_set slots key None) n None) (eqb-true at key is) ∙ set-here slots key
-    by false is = set-there slots key at (λ e. true≢false (sym (eq-eqb at key e) ∙ is))
+set-none slots key at = by (at == key) refl where
+  by : (b : Bool) → (at == key) ≡ b → slice_index_or (slice_set slots key None) at None ≡ cond b None (slice_index_or slots at None)
+  by true is = ap (λ (n : ℕ). slice_index_or (slice_set slots key None) n None) (eqb-true at key is) ∙ set-here slots key
+  by false is = set-there slots key at (λ e. true≢false (sym (eq-eqb at key e) ∙ is))
 
 under-other : (o : Option (Slot Held)) (other serial : ℕ) (m : Held) → (other == serial) ≡ false → under serial o ≡ Some m → under other o ≡ None
 under-other None other serial m apart e = refl
-under-other (Some slot) other serial m apart e = by (slot.serial == serial) (slot.serial == other) refl refl e
-  where
-    by : (b c : Bool) → (slot.serial == serial) ≡ b → (slot.serial == other) ≡ c → cond b (Some slot.value) None ≡ Some m → cond c (Some slot.value) None ≡ None
-    by true true is at f = absurd (true≢false (sym (eq-eqb other serial (sym (eqb-true slot.serial other at) ∙ eqb-true slot.serial serial is)) ∙ apart))
-    by true false is at f = refl
-    by false c is at f = absurd (none-some m f)
+under-other (Some slot) other serial m apart e = by (slot.serial == serial) (slot.serial == other) refl refl e where
+  by : (b c : Bool) → (slot.serial == serial) ≡ b → (slot.serial == other) ≡ c → cond b (Some slot.value) None ≡ Some m → cond c (Some slot.value) None ≡ None
+  by true true is at f = absurd (true≢false (sym (eq-eqb other serial (sym (eqb-true slot.serial other at) ∙ eqb-true slot.serial serial is)) ∙ apart))
+  by true false is at f = refl
+  by false c is at f = absurd (none-some m f)
 
 taken-of : (kept : Kept Held) (handle other : Handle) (m : Held) → value_of kept handle ≡ Some m → value_of (taken handle kept) other ≡ cond (same_handle other handle) None (value_of kept other)
 taken-of kept handle other m has =
     ap (λ (o : Option Held). value_of (cond (is_some o) (record kept { slots = slice_set kept.slots handle.key None }) kept) other) has
     ∙ ap (under other.serial) (set-none kept.slots handle.key other.key)
-    ∙ by (other.serial == handle.serial) (other.key == handle.key) refl refl
-  where
-    by : (s k : Bool) → (other.serial == handle.serial) ≡ s → (other.key == handle.key) ≡ k
-        → under other.serial (cond k None (slice_index_or kept.slots other.key None)) ≡ cond (s && k) None (under other.serial (slice_index_or kept.slots other.key None))
-    by true true is at = refl
-    by true false is at = refl
-    by false false is at = refl
-    by false true is at =
-        sym (ap (λ (n : ℕ). under other.serial (slice_index_or kept.slots n None)) (eqb-true other.key handle.key at)
-        ∙ under-other (slice_index_or kept.slots handle.key None) other.serial handle.serial m is has)
+    ∙ by (other.serial == handle.serial) (other.key == handle.key) refl refl where
+      by : (s k : Bool) → (other.serial == handle.serial) ≡ s → (other.key == handle.key) ≡ k
+          → under other.serial (cond k None (slice_index_or kept.slots other.key None)) ≡ cond (s && k) None (under other.serial (slice_index_or kept.slots other.key None))
+      by true true is at = refl
+      by true false is at = refl
+      by false false is at = refl
+      by false true is at =
+          sym (ap (λ (n : ℕ). under other.serial (slice_index_or kept.slots n None)) (eqb-true other.key handle.key at)
+          ∙ under-other (slice_index_or kept.slots handle.key None) other.serial handle.serial m is has)
 
 count-set : (slots : List (Option (Slot Held))) (key : ℕ) (slot : Slot Held) → slice_index_or slots key None ≡ Some slot → count_by is_some (slice_set slots key None) + 1 ≡ count_by is_some slots
 count-set (Some x ∷ os) zero slot e =
@@ -181,26 +166,23 @@ count-set slots key slot e = absurd (none-some slot e)
 count-taken : (kept : Kept Held) (handle : Handle) (m : Held) → value_of kept handle ≡ Some m → count_of (taken handle kept) + 1 ≡ count_of kept
 count-taken kept handle m has =
     ap (λ (o : Option Held). count_of (cond (is_some o) (record kept { slots = slice_set kept.slots handle.key None }) kept) + 1) has
-    ∙ by (slice_index_or kept.slots handle.key None) refl has
-  where
-    by : (o : Option (Slot Held)) → slice_index_or kept.slots handle.key None ≡ o → under handle.serial o ≡ Some m → count_by is_some (slice_set kept.slots handle.key None) + 1 ≡ count_by is_some kept.slots
-    by None is f = absurd (none-some m f)
-    by (Some slot) is f = count-set kept.slots handle.key slot is
+    ∙ by (slice_index_or kept.slots handle.key None) refl has where
+      by : (o : Option (Slot Held)) → slice_index_or kept.slots handle.key None ≡ o → under handle.serial o ≡ Some m → count_by is_some (slice_set kept.slots handle.key None) + 1 ≡ count_by is_some kept.slots
+      by None is f = absurd (none-some m f)
+      by (Some slot) is f = count-set kept.slots handle.key slot is
 
 -- the handles without one mapping are those of the mappings without it
 pub mappings-taken : (kept : Kept Held) (handle : Handle) (m : Held) (ms : List (Handle × Held)) (n : ℕ) → mapping_of ms handle ≡ Some m → MappingsAgree kept ms n
     → MappingsAgree (taken handle kept) (less handle ms) n
 mappings-taken kept handle m ms n found a =
-    let has : value_of kept handle ≡ Some m = ap (λ (f : Handle → Option Held). f handle) a.named ∙ found in
-    record {
+    let has : value_of kept handle ≡ Some m = ap (λ (f : Handle → Option Held). f handle) a.named ∙ found in record {
       named = fun_ext (λ other. taken-of kept handle other m has ∙ ap (λ (f : Handle → Option Held). cond (same_handle other handle) None (f other)) a.named ∙ sym (less-of ms handle other a.apart));
       count = sums (count_of (taken handle kept)) (count_of kept) (length ms) (length (less handle ms)) (count-taken kept handle m has) a.count (length-less ms handle m found);
       given = ap (λ (o : Option Held). (cond (is_some o) (record kept { slots = slice_set kept.slots handle.key None }) kept).given) has ∙ a.given;
       apart = apart-less ms handle a.apart;
-    }
-  where
-    sums : (now was all left : ℕ) → now + 1 ≡ was → was ≡ all → all ≡ left + 1 → now ≡ left
-    sums now was all left a b c = omega arith
+    } where
+      sums : (now was all left : ℕ) → now + 1 ≡ was → was ≡ all → all ≡ left + 1 → now ≡ left
+      sums now was all left a b c = omega arith
 
 -- the same handles stand for the same mappings
 pub mappings-same : (kept : Kept Held) (ms ms' : List (Handle × Held)) (n n' : ℕ) → ms ≡ ms' → n ≡ n' → MappingsAgree kept ms n → MappingsAgree kept ms' n'

@@ -1,6 +1,6 @@
 -- What an item leaves of the other domains.
-use Rattle.gt_core.proofs.Words.{◌≡◌, ◌+◌, ℕ, refl, Bool, true, false, List, [], ◌∷◌, ◌++◌, length, Option, None, cond, sym, ap, ◌∙◌, arith, Handle, ◌==◌, ◌&&◌, DomId, Entry, Header, Holder, Change, Half, PinStep, Unpin, Taken, Held, Item, Stepped, Answer, History, Setting, Pin, live, entry_at, raises_at, generation_at, body_at, header_stored, header_or, table_at, mappings_at, legs_at, gather, by_mapping, by_leg, maps_answered_at, known_at, without, is_holder, mapping_of, fun_ext, eqb-true, false≢true, append-nil, Happened, change_at, entry_after, raise_after, or_else, stored_at, pinned_by, unpinned_by, one_if_mapped}
-use Rattle.std.proofs.lemmas.List.{append_assoc}
+use Rattle.gt_core.proofs.Words.{◌≡◌, ◌+◌, ℕ, refl, Bool, true, false, List, [], ◌∷◌, ◌++◌, length, Option, None, cond, sym, ap, ◌∙◌, arith, Handle, ◌==◌, ◌&&◌, DomId, Entry, Header, Holder, Change, Half, PinStep, Unpin, Taken, Held, Item, Stepped, Answer, History, Setting, Pin, live, entry_at, raises_at, generation_at, body_at, header_stored, header_or, table_at, mappings_at, legs_at, gather, by_mapping, by_leg, maps_answered_at, known_at, without, is_holder, mapping_of, fun_ext, eqb-true, false≢true, append-nil, Happened, change_at, entry_after, raise_after, or_else, stored_at, pinned_by, unpinned_by, one_if_mapped, append_assoc}
+use Rattle.gt_core.proofs.Quiet.{known-as}
 
 none-of : {A : Type 0} (b : Bool) (o : Option A) → b ≡ false → ◌≡◌ {A = Option A} (cond b o None) None
 none-of true o e = absurd (false≢true (sym e))
@@ -93,13 +93,5 @@ other-table s i h d apart = ap (λ (o : Option Header). header_or o (table_at s 
 -- no domain but the actor knows another thing by itself
 pub other-known : (s : Setting) (i : Item) (h : History) (d : DomId) → (i.actor.0 == d.0) ≡ false → known_at s (i ∷ h) d ≡ known_at s h d
 other-known s i h d apart =
-    ap (λ (f : ℕ → Entry). record { domains = s.domains; may = s.may; entry = f; generation = λ r. generation_at s (i ∷ h) d.0 r; header = table_at s (i ∷ h) d; mapping = mapping_of (mappings_at (i ∷ h) d.0); in_use = length (mappings_at (i ∷ h) d.0); maps_answered = maps_answered_at (i ∷ h) d.0 })
-    (fun_ext (λ r. other-entry i h d.0 r apart))
-    ∙ ap (λ (f : ℕ → ℕ). record { domains = s.domains; may = s.may; entry = λ r. entry_at h d.0 r; generation = f; header = table_at s (i ∷ h) d; mapping = mapping_of (mappings_at (i ∷ h) d.0); in_use = length (mappings_at (i ∷ h) d.0); maps_answered = maps_answered_at (i ∷ h) d.0 })
-    (other-generations s i h d.0 apart)
-    ∙ ap (λ (x : Header). record { domains = s.domains; may = s.may; entry = λ r. entry_at h d.0 r; generation = λ r. generation_at s h d.0 r; header = x; mapping = mapping_of (mappings_at (i ∷ h) d.0); in_use = length (mappings_at (i ∷ h) d.0); maps_answered = maps_answered_at (i ∷ h) d.0 })
-    (other-table s i h d apart)
-    ∙ ap (λ (l : List (Handle × Held)). record { domains = s.domains; may = s.may; entry = λ r. entry_at h d.0 r; generation = λ r. generation_at s h d.0 r; header = table_at s h d; mapping = mapping_of (l); in_use = length (l); maps_answered = maps_answered_at (i ∷ h) d.0 })
-    (other-mappings i h d.0 apart)
-    ∙ ap (λ (n : ℕ). record { domains = s.domains; may = s.may; entry = λ r. entry_at h d.0 r; generation = λ r. generation_at s h d.0 r; header = table_at s h d; mapping = mapping_of (mappings_at h d.0); in_use = length (mappings_at h d.0); maps_answered = n })
-    (other-maps i h d.0 apart)
+    known-as s h (i ∷ h) d (λ r. other-entry i h d.0 r apart) (λ r. other-raises i h d.0 r apart) (other-table s i h d apart)
+    (other-mappings i h d.0 apart) (other-maps i h d.0 apart)

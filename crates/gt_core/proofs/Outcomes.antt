@@ -2,7 +2,7 @@
 use Rattle.gt_core.proofs.Words.{◌≡◌, ◌⊎◌, inl, inr, ℕ, refl, Bool, true, false, List, [], ◌∷◌, ◌++◌, length, Option, Some, None, cond, sym, ap, ◌∙◌, subst, All-push, ◌==◌, All, DomId, GrantRef, Denial, Entry, Via, Change, Held, Direct, Through, Pins, Asked, ByMapping, ByLeg, Seen, Nothing, Taken, Missed, Verdict, Granted, Refused, Step, Unpin, StoreHeader, Exchange, ReadBytes, WriteBytes, CopyBytes, Makes, Done, Aim, Mapping, Source, Dest, Phase, Exchanging, Changing, Walking, Accessing, Last, Ending, Leg, LegPhase, AtHeader, LegNext, LegRefused, Pinned, last_first, pins_so_far, no_pins, CallerKnowledge, via_judged, is_dest_granted, source_pair, dest_pair, second_leg, end_leg, Continuation, phase_after, action_at, after_leg, leg_step, after_source_pin, after_dest_pin, where_via, next_to_give, HasShown, IsQuiet, History, Setting, word_at, known_at, seen_by, StepsSoFar, LeavesAll, refusal_in, PhaseStands, EndsAfter, IsClean, Place, Write}
 use Rattle.gt_calls.specs.declared.held.Route.TheVariants.{Own}
 use Rattle.gt_calls.specs.declared.action.Verdict.TheVariants.{Mapped}
-use Rattle.gt_core.proofs.Phases.{makes-same, by-giving}
+pub use Rattle.gt_core.proofs.Phases.{makes-same, by-giving, IsHere, words-of, turn-below, IsPublished, step-publishes, idle-here, idle-no-pins, word-shows, table-fits}
 
 -- the next phase
 abbrev pub next_of : Setting → History → DomId → Phase → Step → Phase
@@ -39,12 +39,11 @@ single-sees s h d step a = absurd a
 -- so the call is over after it
 pub single-ends : (s : Setting) (h : History) (d : DomId) (r : Asked) (so_far : StepsSoFar) (phase : Phase) (step : Step) → action_at d phase ≡ Makes step → PhaseStands s h d r so_far phase → IsSingle step
     → (verdict : Verdict) × (next_of s h d phase step ≡ Ending no_pins verdict) × EndsAfter r step verdict
-single-ends s h d r so_far phase step e b a =
-    let l = is-last d phase step e a in (
-      l.0,
-      ap (phase_after (known_at s h d) d phase) (single-sees s h d step a) ∙ ap (λ (p : Phase). phase_after (known_at s h d) d p Nothing) l.1,
-      subst (PhaseStands s h d r so_far) l.1 b,
-    )
+single-ends s h d r so_far phase step e b a = let l = is-last d phase step e a in (
+  l.0,
+  ap (phase_after (known_at s h d) d phase) (single-sees s h d step a) ∙ ap (λ (p : Phase). phase_after (known_at s h d) d p Nothing) l.1,
+  subst (PhaseStands s h d r so_far) l.1 b,
+)
 
 -- it is not refused
 pub after-plain : (r : Asked) (step : Step) (verdict : Verdict) → EndsAfter r step verdict → refusal_in (Some verdict) ≡ None
@@ -118,8 +117,7 @@ abbrev Ends : Setting → History → DomId → Phase → Step → Type 0
 Ends s h d phase step = LeavesAll (step, seen_by s h d step) ⊎ ((steps : List (Step × Seen)) → IsClean (next_of s h d phase step) steps)
 
 single-clean : (s : Setting) (h : History) (d : DomId) (r : Asked) (so_far : StepsSoFar) (phase : Phase) (step : Step) → action_at d phase ≡ Makes step → PhaseStands s h d r so_far phase → IsSingle step → Ends s h d phase step
-single-clean s h d r so_far phase step e b a =
-    let x = single-ends s h d r so_far phase step e b a in
+single-clean s h d r so_far phase step e b a = let x = single-ends s h d r so_far phase step e b a in
     inr (λ steps. subst (λ (p : Phase). IsClean p steps) (sym x.1) (inl (after-plain r step x.0 x.2)))
 
 step-ends : (s : Setting) (h : History) (way : Continuation) (d : DomId) (r : Asked) (shown : List Seen) (so_far : StepsSoFar) (phase : Phase) (step : Step) → HasShown (known_at s h d) way d r shown phase → action_at d phase ≡ Makes step → PhaseStands s h d r so_far phase → Ends s h d phase step
@@ -157,47 +155,42 @@ clean-next s h way d r shown so_far phase step steps a e b clean = by (clean-was
 
 -- a call whose next action is its end holds no pins
 pub ends-so : (d : DomId) (p : Phase) (v : Verdict) → action_at d p ≡ Done v → (pins : Pins) × (p ≡ Ending pins v) × (last_first pins ≡ [])
-ends-so d (Ending pins verdict) v e = by (last_first pins) refl e
-  where
-    by : (held : List Held) → last_first pins ≡ held → next_to_give held verdict ≡ Done v → (ps : Pins) × (Ending pins verdict ≡ Ending ps v) × (last_first ps ≡ [])
-    by [] is f = let w : verdict ≡ v = cc in (pins, ap (Ending pins) w, is)
-    by (p ∷ ps) is f = cc
+ends-so d (Ending pins verdict) v e = by (last_first pins) refl e where
+  by : (held : List Held) → last_first pins ≡ held → next_to_give held verdict ≡ Done v → (ps : Pins) × (Ending pins verdict ≡ Ending ps v) × (last_first ps ≡ [])
+  by [] is f = let w : verdict ≡ v = cc in (pins, ap (Ending pins) w, is)
+  by (p ∷ ps) is f = cc
 ends-so d p v e = cc
 
 -- how a walk ends: refused, or with the pin of a map
 pub walk-done : (k : CallerKnowledge) (d : DomId) (aim : Aim) (l : Leg) (next : LegNext) (v : Verdict) → action_at d (after_leg k d aim l next) ≡ Done v
     → ((denial : Denial) × (v ≡ Refused denial)) ⊎ ((p : Held) × (v ≡ Mapped p) × (next ≡ Pinned p) × (aim ≡ Mapping))
-walk-done k d aim l (LegRefused denial) v e = by (last_first (pins_so_far aim)) e
-  where
-    by : (held : List Held) → next_to_give held (Refused denial) ≡ Done v → ((denial : Denial) × (v ≡ Refused denial)) ⊎ ((p : Held) × (v ≡ Mapped p) × (LegRefused denial ≡ Pinned p) × (aim ≡ Mapping))
-    by [] f = let w : v ≡ Refused denial = cc in inl (denial, w)
-    by (q ∷ qs) f = cc
+walk-done k d aim l (LegRefused denial) v e = by (last_first (pins_so_far aim)) e where
+  by : (held : List Held) → next_to_give held (Refused denial) ≡ Done v → ((denial : Denial) × (v ≡ Refused denial)) ⊎ ((p : Held) × (v ≡ Mapped p) × (LegRefused denial ≡ Pinned p) × (aim ≡ Mapping))
+  by [] f = let w : v ≡ Refused denial = cc in inl (denial, w)
+  by (q ∷ qs) f = cc
 walk-done k d Mapping l (Pinned p) v e = let w : v ≡ Mapped p = cc in inr (p, w, refl, refl)
-walk-done k d (Source c None) l (Pinned p) v e = absurd (by p.entry e)
-  where
-    where-not : (o : Option Verdict) (second : Leg) → action_at d (where_via o (Source c (Some p)) second) ≡ Done v → ⊥
-    where-not None second f = cc
-    where-not (Some w) second f = cc
+walk-done k d (Source c None) l (Pinned p) v e = absurd (by p.entry e) where
+  where-not : (o : Option Verdict) (second : Leg) → action_at d (where_via o (Source c (Some p)) second) ≡ Done v → ⊥
+  where-not None second f = cc
+  where-not (Some w) second f = cc
 
-    dest-not : (b : Bool) → action_at d (cond b (Walking (Dest c (Direct p) None) (end_leg k d c.dest Write c.len) AtHeader) (Accessing c (Direct p) Own)) ≡ Done v → ⊥
-    dest-not true f = cc
-    dest-not false f = cc
+  dest-not : (b : Bool) → action_at d (cond b (Walking (Dest c (Direct p) None) (end_leg k d c.dest Write c.len) AtHeader) (Accessing c (Direct p) Own)) ≡ Done v → ⊥
+  dest-not true f = cc
+  dest-not false f = cc
 
-    by : (entry : Entry) → action_at d (after_source_pin k d c l p entry) ≡ Done v → ⊥
-    by (Via dom ro dom2 gref) f = where-not (via_judged k (source_pair d c dom2) dom2) (second_leg k l dom2 gref) f
-    by entry f = dest-not (is_dest_granted c) f
-walk-done k d (Source c (Some via)) l (Pinned p) v e = absurd (by (is_dest_granted c) e)
-  where
-    by : (b : Bool) → action_at d (cond b (Walking (Dest c (Through via p) None) (end_leg k d c.dest Write c.len) AtHeader) (Accessing c (Through via p) Own)) ≡ Done v → ⊥
-    by true f = cc
-    by false f = cc
-walk-done k d (Dest c source None) l (Pinned p) v e = absurd (by p.entry e)
-  where
-    where-not : (o : Option Verdict) (second : Leg) → action_at d (where_via o (Dest c source (Some p)) second) ≡ Done v → ⊥
-    where-not None second f = cc
-    where-not (Some w) second f = cc
+  by : (entry : Entry) → action_at d (after_source_pin k d c l p entry) ≡ Done v → ⊥
+  by (Via dom ro dom2 gref) f = where-not (via_judged k (source_pair d c dom2) dom2) (second_leg k l dom2 gref) f
+  by entry f = dest-not (is_dest_granted c) f
+walk-done k d (Source c (Some via)) l (Pinned p) v e = absurd (by (is_dest_granted c) e) where
+  by : (b : Bool) → action_at d (cond b (Walking (Dest c (Through via p) None) (end_leg k d c.dest Write c.len) AtHeader) (Accessing c (Through via p) Own)) ≡ Done v → ⊥
+  by true f = cc
+  by false f = cc
+walk-done k d (Dest c source None) l (Pinned p) v e = absurd (by p.entry e) where
+  where-not : (o : Option Verdict) (second : Leg) → action_at d (where_via o (Dest c source (Some p)) second) ≡ Done v → ⊥
+  where-not None second f = cc
+  where-not (Some w) second f = cc
 
-    by : (entry : Entry) → action_at d (after_dest_pin k d c source l p entry) ≡ Done v → ⊥
-    by (Via dom ro dom2 gref) f = where-not (via_judged k (dest_pair d source dom2) dom2) (second_leg k l dom2 gref) f
-    by entry f = cc
+  by : (entry : Entry) → action_at d (after_dest_pin k d c source l p entry) ≡ Done v → ⊥
+  by (Via dom ro dom2 gref) f = where-not (via_judged k (dest_pair d source dom2) dom2) (second_leg k l dom2 gref) f
+  by entry f = cc
 walk-done k d aim l next v e = cc

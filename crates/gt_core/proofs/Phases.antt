@@ -1,11 +1,9 @@
 -- Each step of an open call: it is on words that there are, its refusal is the first rule that stands, and where the call stands after it.
-use Rattle.gt_core.proofs.Words.{◌≡◌, ◌≢◌, ◌<◌, ◌≤◌, ◌+◌, ℕ, refl, Bool, true, false, List, [], ◌∷◌, Option, Some, None, cond, sym, ap, ◌∙◌, subst, reverse, arith, ◌==◌, is_none, eq-eqb, true≢false, false≢true, none-some, domain_of, resolved, DomId, GrantRef, DomainConfig, TABLE_ENTRIES, Entry, Invalid, Change, Publish, ToInvalid, ToReadOnly, ToWritable, control_word, Held, Asked, Grant, Revoke, Demote, Promote, QuerySize, GetVersion, Verdict, Step, LookHeader, LookControl, LookBody, PinStep, Unpin, StoreBody, StoreHeader, Exchange, ReadBytes, WriteBytes, CopyBytes, Seen, Taken, Missed, Action, Makes, Done, Question, AsksSize, AsksVersion, Phase, Exchanging, Looking, Changing, Walking, Asking, Last, Ending, Leg, LegPhase, AtHeader, Look, Body, last_first, begun, size_of, opens, Continuation, FitsStep, path, RestsOnWord, action_at, leg_step, next_to_give, IsTurn, IsQuiet, HasShown, StandsAt, State, state_of, History, Setting, word_at, table_at, entry_at, generation_at, reads_at, writes_at, known_at, seen_by, legs_at, StepsSoFar, DomainsStand, StateAgrees, PhaseStands, LegStands, Asks, numbered, pins_at, Rests, FitsAsked, length, ByLeg}
-use Rattle.gt_entry.specs.Entries.{is_invalid}
+use Rattle.gt_core.proofs.Words.{◌≡◌, ◌≢◌, ◌<◌, ◌≤◌, ◌+◌, ℕ, refl, Bool, true, false, List, [], ◌∷◌, Option, Some, None, cond, sym, ap, ◌∙◌, subst, reverse, arith, ◌==◌, is_none, eq-eqb, true≢false, false≢true, none-some, domain_of, resolved, DomId, GrantRef, DomainConfig, TABLE_ENTRIES, Entry, Invalid, Change, Publish, ToInvalid, ToReadOnly, ToWritable, control_word, Held, Asked, Grant, Revoke, Demote, Promote, QuerySize, GetVersion, Verdict, Step, LookHeader, LookControl, LookBody, PinStep, Unpin, StoreBody, StoreHeader, Exchange, ReadBytes, WriteBytes, CopyBytes, Seen, Taken, Missed, Action, Makes, Done, Question, AsksSize, AsksVersion, Phase, Exchanging, Looking, Changing, Walking, Asking, Last, Ending, Leg, LegPhase, AtHeader, Look, Body, last_first, begun, size_of, opens, Continuation, FitsStep, path, RestsOnWord, action_at, leg_step, next_to_give, IsTurn, IsQuiet, HasShown, StandsAt, State, state_of, History, Setting, word_at, table_at, entry_at, generation_at, reads_at, writes_at, known_at, seen_by, legs_at, StepsSoFar, DomainsStand, StateAgrees, PhaseStands, LegStands, Asks, numbered, pins_at, Rests, FitsAsked, length, ByLeg, is_invalid, IsExchanged, IsChanged, idle_word}
 use Rattle.gt_entry.specs.Spelling.{control_with}
-use Rattle.gt_calls.specs.Path.{IsExchanged, IsChanged, idle_word}
-use Rattle.gt_core.proofs.Fitting.{word-shows, table-fits}
-use Rattle.gt_core.proofs.Seeing.{IsWithin}
-use Rattle.gt_core.proofs.Legs.{Words}
+pub use Rattle.gt_core.proofs.Fitting.{word-shows, table-fits}
+pub use Rattle.gt_core.proofs.Seeing.{IsWithin, sees-agree}
+pub use Rattle.gt_core.proofs.Legs.{Words, leg-place, NextStands, misses-look, misses-exchange, looked-here}
 
 -- where a call stands before its next step, in a core that stands for the history
 pub record IsHere (s : Setting) (h : History) (xs : List State) (d : DomId) (r : Asked) (shown : List Seen) (so_far : StepsSoFar) (phase : Phase) (step : Step) : Type 0 where
@@ -38,14 +36,13 @@ of-run None e n = absurd (true≢false e)
 of-run (Some c) e n = absurd (none-some c (sym n))
 
 pub words-of : (s : Setting) (h : History) (xs : List State) (l : Leg) → DomainsStand s h xs → Words s h l
-words-of s h xs l st =
-    record {
-      round = λ within. word-shows s h xs l.dom.0 l.gref.0 st within;
-      is_entry = st.entries l.dom.0 l.gref.0;
-      spelled = st.spelled l.dom.0 l.gref.0;
-      size = (table-fits _ (st.tables l.dom)).0;
-      header = (table-fits _ (st.tables l.dom)).1;
-    }
+words-of s h xs l st = record {
+  round = λ within. word-shows s h xs l.dom.0 l.gref.0 st within;
+  is_entry = st.entries l.dom.0 l.gref.0;
+  spelled = st.spelled l.dom.0 l.gref.0;
+  size = (table-fits _ (st.tables l.dom)).0;
+  header = (table-fits _ (st.tables l.dom)).1;
+}
 
 -- an owner's reference is below the end of its words
 
@@ -83,11 +80,9 @@ quiet-within xs d (CopyBytes from to len) q = tt
 quiet-within xs d step q = absurd q
 
 asks-run : (s : Setting) (h : History) (d : DomId) (r : Asked) (dom : DomId) (question : Question) → begun (known_at s h d) d r ≡ None → Asks d r dom question → domain_of s.domains dom ≢ None
-asks-run s h d r dom AsksSize none a =
-    subst (λ (z : DomId). domain_of s.domains z ≢ None) (sym a.2)
+asks-run s h d r dom AsksSize none a = subst (λ (z : DomId). domain_of s.domains z ≢ None) (sym a.2)
     (of-run (domain_of s.domains (resolved d a.0)) (opens (known_at s h d) d (QuerySize a.0) (subst (λ (z : Asked). begun (known_at s h d) d z ≡ None) a.1 none)).of_run)
-asks-run s h d r dom AsksVersion none a =
-    subst (λ (z : DomId). domain_of s.domains z ≢ None) (sym a.2)
+asks-run s h d r dom AsksVersion none a = subst (λ (z : DomId). domain_of s.domains z ≢ None) (sym a.2)
     (of-run (domain_of s.domains (resolved d a.0)) (opens (known_at s h d) d (GetVersion a.0) (subst (λ (z : Asked). begun (known_at s h d) d z ≡ None) a.1 none)).of_run)
 
 pub step-within : (s : Setting) (h : History) (xs : List State) (d : DomId) (r : Asked) (shown : List Seen) (so_far : StepsSoFar) (phase : Phase) (step : Step) → IsHere s h xs d r shown so_far phase step → IsWithin xs d step
@@ -142,8 +137,7 @@ idle-pins Invalid g r w e = omega arith
 idle-pins z g r w e = omega arith
 
 pub idle-here : (s : Setting) (h : History) (d : DomId) (gref : GrantRef) → reads_at h d.0 gref.0 + writes_at h d.0 gref.0 ≡ 0 → word_at s h d.0 gref.0 ≡ idle_word (known_at s h d) gref
-idle-here s h d gref none =
-    let r : reads_at h d.0 gref.0 ≡ 0 = omega arith in
+idle-here s h d gref none = let r : reads_at h d.0 gref.0 ≡ 0 = omega arith in
     let w : writes_at h d.0 gref.0 ≡ 0 = omega arith in
     ap (λ (n : ℕ). control_word (control_with (entry_at h d.0 gref.0) (generation_at s h d.0 gref.0) n (writes_at h d.0 gref.0))) r
     ∙ ap (λ (n : ℕ). control_word (control_with (entry_at h d.0 gref.0) (generation_at s h d.0 gref.0) 0 n)) w
@@ -163,8 +157,7 @@ publish-here : (s : Setting) (h : History) (xs : List State) (d : DomId) (r : As
     → RestsOnWord (known_at s h d) (path (known_at s h d) d r) d r shown gref looked change → IsPublished s h d (Exchange gref looked change)
 publish-here s h xs d r shown gref looked (Publish entry) st none rests =
     let free = st.free d.0 gref.0 (grant-invalid s h d gref entry (subst (λ (z : Asked). begun (known_at s h d) d z ≡ None) rests.0 none)) in
-    let a : reads_at h d.0 gref.0 ≡ 0 = free.0 in
-    let b : writes_at h d.0 gref.0 ≡ 0 = free.1 in
+    let a : reads_at h d.0 gref.0 ≡ 0 = free.0 in let b : writes_at h d.0 gref.0 ≡ 0 = free.1 in
     idle-here s h d gref (omega arith) ∙ sym rests.1
 publish-here s h xs d r shown gref looked change st none rests = tt
 

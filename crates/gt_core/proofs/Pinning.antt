@@ -1,11 +1,8 @@
 -- A pin that was taken keeps what a core stands for.
-use Rattle.gt_core.proofs.Words.{◌≡◌, ◌≢◌, ◌<◌, ◌+◌, ℕ, refl, Bool, true, false, List, [], ◌∷◌, ◌++◌, length, Option, Some, cond, sym, ap, ◌∙◌, arith, subst, ◌==◌, ◌&&◌, All, count_by, eqb-true, eq-eqb, and_parts, and_from, false≢true, true≢false, All-push, append-nil, DomId, Dir, Read, Write, MAX_PINS, Invalid, FirstHalf, SecondHalf, Kept, Handle, Held, Holder, ByLeg, PinStep, Taken, PinCounts, Open, Item, Answer, Mapped, changed_at, State, state_of, changed_in, with_slot, slot_after, Adds, History, Setting, Pin, live, entry_at, body_at, reads_at, writes_at, mappings_at, maps_answered_at, legs_at, open_call, is_pin_on, same_dir, gather, by_mapping, by_leg, holder_after, one_if_mapped, IsLawful, SlotAgrees, Agrees, DomainsStand, CallAgrees, GivenAgrees, MappingsAgree}
+use Rattle.gt_core.proofs.Words.{◌≡◌, ◌≢◌, ◌<◌, ◌+◌, ℕ, refl, Bool, true, false, List, [], ◌∷◌, ◌++◌, length, Option, Some, cond, sym, ap, ◌∙◌, arith, subst, ◌==◌, ◌&&◌, All, count_by, eqb-true, eq-eqb, and_parts, and_from, false≢true, true≢false, All-push, append-nil, DomId, Dir, Read, Write, MAX_PINS, Invalid, FirstHalf, SecondHalf, Kept, Handle, Held, Holder, ByLeg, PinStep, Taken, PinCounts, Open, Item, Answer, Mapped, changed_at, State, state_of, changed_in, with_slot, slot_after, Adds, History, Setting, Pin, live, entry_at, body_at, reads_at, writes_at, mappings_at, maps_answered_at, legs_at, open_call, is_pin_on, same_dir, gather, by_mapping, by_leg, holder_after, one_if_mapped, IsLawful, SlotAgrees, Agrees, DomainsStand, CallAgrees, GivenAgrees, MappingsAgree, sum_by_push}
 use Rattle.std.specs.Prelude.{min}
-use Rattle.std.proofs.lemmas.List.Sums.{sum_by_push}
 use Rattle.gt_core.specs.declared.pin_counts.CountsChange.TheVariants.{Pinned}
-use Rattle.gt_core.proofs.Mappings.{mappings-added, mappings-same}
-use Rattle.gt_core.proofs.Others.{gather-append}
-use Rattle.gt_core.proofs.Keeping.{stepped, SlotsAgree, KeepsEntries, same-body, slots-agree, counts-fit, becomes-changed, slots-stand, keeps-stands, same-number}
+pub use Rattle.gt_core.proofs.Keeping.{stepped, SlotsAgree, KeepsEntries, same-body, slots-agree, counts-fit, becomes-changed, slots-stand, keeps-stands, same-number, open_call-own, quiet-stands, KeepsKnown, IsStore, IsHere, makes-same, by-giving, mappings-added, mappings-same, gather-append, after_change, Becomes, less, mappings-taken, state-changed}
 
 abbrev pub pins_at : History → ℕ → ℕ → Dir → ℕ
 pins_at h t r Read = reads_at h t r
@@ -48,15 +45,12 @@ record IsPlace (p : Pin) (t r : ℕ) (k : Dir) : Type 0 where
   of_dir : p.held.dir ≡ k
 
 place-of : (p : Pin) (t r : ℕ) (k : Dir) → is_pin_on t r k p ≡ true → IsPlace p t r k
-place-of p t r k e =
-    let outer = and_parts ((p.held.dom.0 == t) && (p.held.gref.0 == r)) (same_dir p.held.dir k) e in
+place-of p t r k e = let outer = and_parts ((p.held.dom.0 == t) && (p.held.gref.0 == r)) (same_dir p.held.dir k) e in
     let inner = and_parts (p.held.dom.0 == t) (p.held.gref.0 == r) outer.0 in
     record { on_dom = eqb-true p.held.dom.0 t inner.0; on_gref = eqb-true p.held.gref.0 r inner.1; of_dir = same-dir p.held.dir k outer.1 }
 
 few-there : (h : History) (p : Pin) (t r : ℕ) (k : Dir) → IsFew h p → is_pin_on t r k p ≡ true → count_by (is_pin_on t r k) (live h) < MAX_PINS
-few-there h p t r k few e =
-    let at = place-of p t r k e in
-    subst (λ (n : ℕ). n < MAX_PINS) (pins-counted h t r k)
+few-there h p t r k few e = let at = place-of p t r k e in subst (λ (n : ℕ). n < MAX_PINS) (pins-counted h t r k)
     (subst (λ (z : Dir). pins_at h t r z < MAX_PINS) at.of_dir
     (subst (λ (n : ℕ). pins_at h t n p.held.dir < MAX_PINS) at.on_gref
     (subst (λ (n : ℕ). pins_at h n p.held.gref.0 p.held.dir < MAX_PINS) at.on_dom few)))
@@ -70,8 +64,7 @@ counted-up false hit old now was p few e f = absurd (false≢true p)
 
 slot-up : (h : History) (i : Item) (p : Pin) (q : ℕ) (old : PinCounts) → KeepsEntries i → Grows h i p → IsFew h p → (p.held.dom.0 == q) ≡ true → SlotAgrees h q p.held.gref.0 old
     → SlotAgrees (i ∷ h) q p.held.gref.0 (slot_after (Pinned p.held.dir) old)
-slot-up h i p q old keeps grows few on a =
-    let r = p.held.gref.0 in
+slot-up h i p q old keeps grows few on a = let r = p.held.gref.0 in
     let both_on : ((p.held.dom.0 == q) && (r == r)) ≡ true = and_from (p.held.dom.0 == q) (r == r) on (eq-eqb r r refl) in
     both p.held.dir (a.first ∙ sym (same-body i h q r FirstHalf keeps)) (a.second ∙ sym (same-body i h q r SecondHalf keeps))
     (counted-up ((p.held.dom.0 == q) && (r == r)) (same_dir p.held.dir Read) old.reads (reads_at (i ∷ h) q r) (reads_at h q r) both_on (few-there h p q r Read few) a.reads (grown-count h i p q r Read grows))
@@ -90,13 +83,12 @@ no-hit false hit n was now p e f = omega arith
 
 -- a slot that the pin doesn't name
 slot-stays : (h : History) (i : Item) (p : Pin) (q k : ℕ) (old : PinCounts) → KeepsEntries i → Grows h i p → ((p.held.dom.0 == q) && (p.held.gref.0 == k)) ≡ false → SlotAgrees h q k old → SlotAgrees (i ∷ h) q k old
-slot-stays h i p q k old keeps grows off a =
-    record {
-      reads = no-hit ((p.held.dom.0 == q) && (p.held.gref.0 == k)) (same_dir p.held.dir Read) old.reads (reads_at h q k) (reads_at (i ∷ h) q k) off a.reads (grown-count h i p q k Read grows);
-      writes = no-hit ((p.held.dom.0 == q) && (p.held.gref.0 == k)) (same_dir p.held.dir Write) old.writes (writes_at h q k) (writes_at (i ∷ h) q k) off a.writes (grown-count h i p q k Write grows);
-      first = a.first ∙ sym (same-body i h q k FirstHalf keeps);
-      second = a.second ∙ sym (same-body i h q k SecondHalf keeps);
-    }
+slot-stays h i p q k old keeps grows off a = record {
+  reads = no-hit ((p.held.dom.0 == q) && (p.held.gref.0 == k)) (same_dir p.held.dir Read) old.reads (reads_at h q k) (reads_at (i ∷ h) q k) off a.reads (grown-count h i p q k Read grows);
+  writes = no-hit ((p.held.dom.0 == q) && (p.held.gref.0 == k)) (same_dir p.held.dir Write) old.writes (writes_at h q k) (writes_at (i ∷ h) q k) off a.writes (grown-count h i p q k Write grows);
+  first = a.first ∙ sym (same-body i h q k FirstHalf keeps);
+  second = a.second ∙ sym (same-body i h q k SecondHalf keeps);
+}
 
 pinned-slots : (h : History) (i : Item) (p : Pin) (q : ℕ) (slots : List PinCounts) (b : Bool) → KeepsEntries i → Grows h i p → IsFew h p → (p.held.dom.0 == q) ≡ b
     → SlotsAgree h q slots → SlotsAgree (i ∷ h) q (cond b (changed_at p.held.gref.0 (slot_after (Pinned p.held.dir)) slots) slots)
@@ -106,7 +98,7 @@ pinned-slots h i p q slots b keeps grows few is was =
 
 -- counts and words
 
-now-fits : (b : Bool) (now was : ℕ) → was < 4096 → (b ≡ true → was < MAX_PINS) → now ≡ was + cond b 1 0 → now < 4096
+now-fits : (b : Bool) (now was : ℕ) → was < MAX_PINS + 1 → (b ≡ true → was < MAX_PINS) → now ≡ was + cond b 1 0 → now < MAX_PINS + 1
 now-fits true now was a few e = let c : was < MAX_PINS = few refl in omega arith
 now-fits false now was a few e = omega arith
 
@@ -116,8 +108,7 @@ now-none false now was a none e = omega arith
 
 -- a pin stands on a valid entry
 not-there : (h : History) (p : Pin) (t r : ℕ) (k : Dir) → entry_at h p.held.dom.0 p.held.gref.0 ≢ Invalid → entry_at h t r ≡ Invalid → is_pin_on t r k p ≡ true → ⊥
-not-there h p t r k valid none e =
-    let at = place-of p t r k e in
+not-there h p t r k valid none e = let at = place-of p t r k e in
     valid (ap (λ (n : ℕ). entry_at h n p.held.gref.0) at.on_dom ∙ ap (λ (n : ℕ). entry_at h t n) at.on_gref ∙ none)
 
 pins-keeps : (d : DomId) (p : Held) (answer : Option Answer) → KeepsEntries (pins d p answer)
@@ -154,19 +145,17 @@ map-legs h d p handle = gathered by_leg h d p (Some (Mapped handle)) ∙ append-
 
 answered-up : (h : History) (d : DomId) (p : Held) (handle : Handle) → maps_answered_at h d.0 + 1 ≡ maps_answered_at (pins d p (Some (Mapped handle)) ∷ h) d.0
 unfolding maps_answered_at
-answered-up h d p handle = by (d.0 == d.0) (maps_answered_at h d.0) (same-number d.0)
-  where
-    by : (b : Bool) (was : ℕ) → b ≡ true → was + 1 ≡ cond b 1 0 + was
-    by true was e = omega arith
-    by false was e = absurd (false≢true e)
+answered-up h d p handle = by (d.0 == d.0) (maps_answered_at h d.0) (same-number d.0) where
+  by : (b : Bool) (was : ℕ) → b ≡ true → was + 1 ≡ cond b 1 0 + was
+  by true was e = omega arith
+  by false was e = absurd (false≢true e)
 
 pub answered-stays : (h : History) (i : Item) (d : ℕ) → one_if_mapped i.answer ≡ 0 → maps_answered_at (i ∷ h) d ≡ maps_answered_at h d
 unfolding maps_answered_at
-answered-stays h i d m = by (i.actor.0 == d) (one_if_mapped i.answer) (maps_answered_at h d) m
-  where
-    by : (b : Bool) (n was : ℕ) → n ≡ 0 → cond b n 0 + was ≡ was
-    by true n was e = omega arith
-    by false n was e = omega arith
+answered-stays h i d m = by (i.actor.0 == d) (one_if_mapped i.answer) (maps_answered_at h d) m where
+  by : (b : Bool) (n was : ℕ) → n ≡ 0 → cond b n 0 + was ≡ was
+  by true n was e = omega arith
+  by false n was e = omega arith
 
 -- a pin that is taken on a valid entry, and lawful, keeps what the core stands for, where the domain's mappings are those that it then has
 pub pin-stands : (s : Setting) (h : History) (xs ys : List State) (x : State) (p : Held) (answer : Option Answer) (kept : Kept Held) (o : Option Open) → DomainsStand s h xs → state_of xs x.id.0 ≡ Some x → Agrees s h x
@@ -176,10 +165,8 @@ pub pin-stands : (s : Setting) (h : History) (xs ys : List State) (x : State) (p
     → CallAgrees s (pins x.id p answer ∷ h) x.id o (open_call (pins x.id p answer ∷ h) x.id.0) → GivenAgrees (pins x.id p answer ∷ h) x.id.0 x.given
     → DomainsStand s (pins x.id p answer ∷ h) (changed_in p.dom.0 (with_slot p.gref.0 (Pinned p.dir)) ys)
 pin-stands s h xs ys x p answer kept o st here a becomes valid few lawful maps call given =
-    let i : Item = pins x.id p answer in
-    let q : Pin = new_pin h x.id p answer in
-    let keeps = pins-keeps x.id p answer in
-    let grows : Grows h i q = pinned-live h x.id p answer in
+    let i : Item = pins x.id p answer in let q : Pin = new_pin h x.id p answer in
+    let keeps = pins-keeps x.id p answer in let grows : Grows h i q = pinned-live h x.id p answer in
     keeps-stands s i h xs _ keeps st
     (slots-stand s i h xs _ x kept o p.dom.0 p.gref.0 (Pinned p.dir) keeps refl st here a (becomes-changed xs ys x (record x { mappings = kept; underway = o }) p.dom.0 (with_slot p.gref.0 (Pinned p.dir)) (λ y. refl) becomes)
     (λ z slots b is was. pinned-slots h i q z slots b keeps grows few is was) maps call given)
@@ -187,8 +174,7 @@ pin-stands s h xs ys x p answer kept o st here a becomes valid few lawful maps c
     (λ u r within. let was = counts-fit s h u r (st.words u r within) in (
       now-fits (is_pin_on u r Read q) (reads_at (i ∷ h) u r) (reads_at h u r) was.0 (few-there h q u r Read few) (grown-count h i q u r Read grows),
       now-fits (is_pin_on u r Write q) (writes_at (i ∷ h) u r) (writes_at h u r) was.1 (few-there h q u r Write few) (grown-count h i q u r Write grows),
-    ))
-    (λ u r none. let was = st.free u r none in (
+    )) (λ u r none. let was = st.free u r none in (
       now-none (is_pin_on u r Read q) (reads_at (i ∷ h) u r) (reads_at h u r) was.0 (not-there h q u r Read valid none) (grown-count h i q u r Read grows),
       now-none (is_pin_on u r Write q) (writes_at (i ∷ h) u r) (writes_at h u r) was.1 (not-there h q u r Write valid none) (grown-count h i q u r Write grows),
     ))

@@ -1,8 +1,8 @@
 -- The live pins and the mappings are the same without keys, where each handle that is named is told by its serial.
 use Rattle.gt_core.proofs.Words.{◌≡◌, ◌+◌, ℕ, suc, refl, Bool, true, false, List, [], ◌∷◌, ◌++◌, length, Option, Some, None, cond, sym, ap, ◌∙◌, subst, ◌==◌, ◌&&◌, count_by, is_some, nat_lt, option_map, eqb-true, sum_by-cons, fun_ext, DomId, Dir, Read, Write, Entry, Header, control_word, Handle, CallerKnowledge, control_with, size_of, Holder, ByMapping, ByLeg, Held, Seen, Taken, PinStep, Unpin, Answer, Mapped, Happened, Stepped, History, Setting, Pin, live, without, is_holder, same_handle, holder_after, gather, by_leg, by_mapping, pinned_by, unpinned_by, is_pin_on, reads_at, writes_at, mappings_at, mapping_of, entry_at, generation_at, table_at, word_at, maps_answered_at, known_at, domain_of, shown_at, subject_at, place_of, bare_handle, bare_happened, told, IsGiven, IsKnown, IsRun, AreAlike}
 use Rattle.gt_core.specs.declared.core_state.Shown.{Shown}
-use Rattle.gt_core.proofs.Bare.{bare-same, answer_from, bare, entry-bare, raises-bare, table-bare, maps-bare}
-use Rattle.gt_core.proofs.Given.{HeldGiven, PinsGiven, pins-given, known-tells, unpin-known}
+pub use Rattle.gt_core.proofs.Bare.{bare-same, answer_from, bare, entry-bare, raises-bare, table-bare, maps-bare, bare_asked, bare_call, asked-bare, open-bare, values-bare, body-bare, contents-bare}
+pub use Rattle.gt_core.proofs.Given.{HeldGiven, PinsGiven, pins-given, known-tells, unpin-known, CallKnown, open-known, NamesAsked, only-path}
 
 abbrev pub bare_holder : Holder → Holder
 bare_holder (ByMapping handle) = ByMapping (bare_handle handle)
@@ -29,27 +29,25 @@ Tells d holder (p ∷ ps) = (p.actor ≡ d → is_holder (bare_holder p.holder) 
 without-bare : (d : ℕ) (holder : Holder) (ps : List Pin) → Tells d holder ps → without d (bare_holder holder) (bare_pins ps) ≡ bare_pins (without d holder ps)
 unfolding without
 without-bare d holder [] t = refl
-without-bare d holder (p ∷ ps) t = by (p.actor == d) refl (without-bare d holder ps t.1)
-  where
-    at : (b : Bool) → without d (bare_holder holder) (bare_pins ps) ≡ bare_pins (without d holder ps)
-        → cond b (bare_pins ps) (bare_pin p ∷ without d (bare_holder holder) (bare_pins ps)) ≡ bare_pins (cond b ps (p ∷ without d holder ps))
-    at true rest = refl
-    at false rest = ap (λ (l : List Pin). bare_pin p ∷ l) rest
+without-bare d holder (p ∷ ps) t = by (p.actor == d) refl (without-bare d holder ps t.1) where
+  at : (b : Bool) → without d (bare_holder holder) (bare_pins ps) ≡ bare_pins (without d holder ps)
+      → cond b (bare_pins ps) (bare_pin p ∷ without d (bare_holder holder) (bare_pins ps)) ≡ bare_pins (cond b ps (p ∷ without d holder ps))
+  at true rest = refl
+  at false rest = ap (λ (l : List Pin). bare_pin p ∷ l) rest
 
-    by : (b : Bool) → (p.actor == d) ≡ b → without d (bare_holder holder) (bare_pins ps) ≡ bare_pins (without d holder ps)
-        → cond (b && is_holder (bare_holder p.holder) (bare_holder holder)) (bare_pins ps) (bare_pin p ∷ without d (bare_holder holder) (bare_pins ps)) ≡ bare_pins (cond (b && is_holder p.holder holder) ps (p ∷ without d holder ps))
-    by true e rest =
-        ap (λ (b : Bool). cond b (bare_pins ps) (bare_pin p ∷ without d (bare_holder holder) (bare_pins ps))) (t.0 (eqb-true p.actor d e))
-        ∙ at (is_holder p.holder holder) rest
-    by false e rest = at false rest
+  by : (b : Bool) → (p.actor == d) ≡ b → without d (bare_holder holder) (bare_pins ps) ≡ bare_pins (without d holder ps)
+      → cond (b && is_holder (bare_holder p.holder) (bare_holder holder)) (bare_pins ps) (bare_pin p ∷ without d (bare_holder holder) (bare_pins ps)) ≡ bare_pins (cond (b && is_holder p.holder holder) ps (p ∷ without d holder ps))
+  by true e rest =
+      ap (λ (b : Bool). cond b (bare_pins ps) (bare_pin p ∷ without d (bare_holder holder) (bare_pins ps))) (t.0 (eqb-true p.actor d e))
+      ∙ at (is_holder p.holder holder) rest
+  by false e rest = at false rest
 
 leg-tells : (d n : ℕ) (ps : List Pin) → Tells d (ByLeg n) ps
 leg-tells d n [] = tt
-leg-tells d n (p ∷ ps) = (λ own. by p.holder, leg-tells d n ps)
-  where
-    by : (x : Holder) → is_holder (bare_holder x) (ByLeg n) ≡ is_holder x (ByLeg n)
-    by (ByMapping b) = refl
-    by (ByLeg m) = refl
+leg-tells d n (p ∷ ps) = (λ own. by p.holder, leg-tells d n ps) where
+  by : (x : Holder) → is_holder (bare_holder x) (ByLeg n) ≡ is_holder x (ByLeg n)
+  by (ByMapping b) = refl
+  by (ByLeg m) = refl
 
 mapping-tells : (s : Setting) (h : History) (d : ℕ) (a : Handle) (ps : List Pin) → IsRun s h → IsKnown h d a → PinsGiven h ps → Tells d (ByMapping a) ps
 mapping-tells s h d a [] run k g = tt
@@ -72,11 +70,10 @@ unfolding gather
 legs-bare d [] = refl
 legs-bare d (p ∷ ps) =
     ap (λ (l : List (ℕ × Held)). cond (p.actor == d) l [] ++ gather by_leg d (bare_pins ps)) (by p.holder)
-    ∙ ap (λ (l : List (ℕ × Held)). cond (p.actor == d) (by_leg p.holder p.held) [] ++ l) (legs-bare d ps)
-  where
-    by : (x : Holder) → by_leg (bare_holder x) p.held ≡ by_leg x p.held
-    by (ByMapping b) = refl
-    by (ByLeg m) = refl
+    ∙ ap (λ (l : List (ℕ × Held)). cond (p.actor == d) (by_leg p.holder p.held) [] ++ l) (legs-bare d ps) where
+      by : (x : Holder) → by_leg (bare_holder x) p.held ≡ by_leg x p.held
+      by (ByMapping b) = refl
+      by (ByLeg m) = refl
 
 holder-bare : (a : Option Answer) (n : ℕ) → holder_after (option_map answer_from (option_map told a)) n ≡ bare_holder (holder_after a n)
 holder-bare (Some (Mapped handle)) n = refl
@@ -96,8 +93,7 @@ pinned-bare d x a h ps = refl
 pub live-bare : (s : Setting) (h : History) → IsRun s h → live (bare h) ≡ bare_pins (live h)
 unfolding live bare IsRun
 live-bare s [] run = refl
-live-bare s (i ∷ h) run =
-    let a = option_map answer_from (option_map told i.answer) in
+live-bare s (i ∷ h) run = let a = option_map answer_from (option_map told i.answer) in
     ap (λ (ps : List Pin). unpinned_by i.actor (bare_happened i.happened) ps ++ pinned_by i.actor (bare_happened i.happened) a (bare h) ps) (live-bare s h run.2)
     ∙ ap (λ (ps : List Pin). ps ++ pinned_by i.actor (bare_happened i.happened) a (bare h) (bare_pins (live h)))
     (unpinned-bare s h i.actor i.happened (live h) run.2 (λ p b seen e. unpin-known s h i p b seen e run.0 run.2) (pins-given h))
@@ -108,8 +104,7 @@ live-bare s (i ∷ h) run =
 
 count-bare : (t r : ℕ) (dir : Dir) (ps : List Pin) → count_by (is_pin_on t r dir) (bare_pins ps) ≡ count_by (is_pin_on t r dir) ps
 count-bare t r dir [] = refl
-count-bare t r dir (p ∷ ps) =
-    sum_by-cons (λ (q : Pin). cond (is_pin_on t r dir q) 1 0) (bare_pin p) (bare_pins ps)
+count-bare t r dir (p ∷ ps) = sum_by-cons (λ (q : Pin). cond (is_pin_on t r dir q) 1 0) (bare_pin p) (bare_pins ps)
     ∙ ap (λ (n : ℕ). cond (is_pin_on t r dir p) 1 0 + n) (count-bare t r dir ps)
     ∙ sym (sum_by-cons (λ (q : Pin). cond (is_pin_on t r dir q) 1 0) p ps)
 
@@ -135,12 +130,11 @@ bare_mappings (m ∷ ms) = (bare_handle m.0, m.1) ∷ bare_mappings ms
 gather-bare : (d : ℕ) (ps : List Pin) → gather by_mapping d (bare_pins ps) ≡ bare_mappings (gather by_mapping d ps)
 unfolding gather
 gather-bare d [] = refl
-gather-bare d (p ∷ ps) = by (p.actor == d) p.holder (gather-bare d ps)
-  where
-    by : (b : Bool) (x : Holder) → gather by_mapping d (bare_pins ps) ≡ bare_mappings (gather by_mapping d ps)
-        → cond b (by_mapping (bare_holder x) p.held) [] ++ gather by_mapping d (bare_pins ps) ≡ bare_mappings (cond b (by_mapping x p.held) [] ++ gather by_mapping d ps)
-    by true (ByMapping a) rest = ap (λ (l : List (Handle × Held)). (bare_handle a, p.held) ∷ l) rest
-    by b x rest = rest
+gather-bare d (p ∷ ps) = by (p.actor == d) p.holder (gather-bare d ps) where
+  by : (b : Bool) (x : Holder) → gather by_mapping d (bare_pins ps) ≡ bare_mappings (gather by_mapping d ps)
+      → cond b (by_mapping (bare_holder x) p.held) [] ++ gather by_mapping d (bare_pins ps) ≡ bare_mappings (cond b (by_mapping x p.held) [] ++ gather by_mapping d ps)
+  by true (ByMapping a) rest = ap (λ (l : List (Handle × Held)). (bare_handle a, p.held) ∷ l) rest
+  by b x rest = rest
 
 pub mappings-bare : (s : Setting) (h : History) (d : ℕ) → IsRun s h → mappings_at (bare h) d ≡ bare_mappings (mappings_at h d)
 mappings-bare s h d run = ap (λ (ps : List Pin). gather by_mapping d ps) (live-bare s h run) ∙ gather-bare d (live h)
@@ -156,11 +150,10 @@ AreGiven h d (m ∷ ms) = IsGiven h d m.0 × AreGiven h d ms
 gather-given : (h : History) (d : ℕ) (ps : List Pin) → PinsGiven h ps → AreGiven h d (gather by_mapping d ps)
 unfolding gather
 gather-given h d [] g = tt
-gather-given h d (p ∷ ps) g = by (p.actor == d) refl p.holder g.0 (gather-given h d ps g.1)
-  where
-    by : (b : Bool) → (p.actor == d) ≡ b → (x : Holder) → HeldGiven h p.actor x → AreGiven h d (gather by_mapping d ps) → AreGiven h d (cond b (by_mapping x p.held) [] ++ gather by_mapping d ps)
-    by true e (ByMapping a) given rest = (subst (λ (n : ℕ). IsGiven h n a) (eqb-true p.actor d e) given, rest)
-    by b e x given rest = rest
+gather-given h d (p ∷ ps) g = by (p.actor == d) refl p.holder g.0 (gather-given h d ps g.1) where
+  by : (b : Bool) → (p.actor == d) ≡ b → (x : Holder) → HeldGiven h p.actor x → AreGiven h d (gather by_mapping d ps) → AreGiven h d (cond b (by_mapping x p.held) [] ++ gather by_mapping d ps)
+  by true e (ByMapping a) given rest = (subst (λ (n : ℕ). IsGiven h n a) (eqb-true p.actor d e) given, rest)
+  by b e x given rest = rest
 
 found-bare : (s : Setting) (h : History) (d : ℕ) (a : Handle) (ms : List (Handle × Held)) → IsRun s h → IsKnown h d a → AreGiven h d ms → mapping_of (bare_mappings ms) (bare_handle a) ≡ mapping_of ms a
 found-bare s h d a [] run k g = refl
@@ -170,14 +163,12 @@ found-bare s h d a (m ∷ ms) run k g =
 
 -- a known handle finds the same mapping without its key
 pub mapping-bare : (s : Setting) (h : History) (d : ℕ) (a : Handle) → IsRun s h → IsKnown h d a → mapping_of (mappings_at (bare h) d) (bare_handle a) ≡ mapping_of (mappings_at h d) a
-mapping-bare s h d a run k =
-    ap (λ (ms : List (Handle × Held)). mapping_of ms (bare_handle a)) (mappings-bare s h d run)
+mapping-bare s h d a run k = ap (λ (ms : List (Handle × Held)). mapping_of ms (bare_handle a)) (mappings-bare s h d run)
     ∙ found-bare s h d a (mappings_at h d) run k (gather-given h d (live h) (pins-given h))
 
 -- what a domain knows by itself is the same, but for the keys of its mappings
 pub known-bare : (s : Setting) (h : History) (d : DomId) → IsRun s h → known_at s (bare h) d ≡ record (known_at s h d) { mapping = mapping_of (mappings_at (bare h) d.0) }
-known-bare s h d run =
-    let found = mapping_of (mappings_at (bare h) d.0) in
+known-bare s h d run = let found = mapping_of (mappings_at (bare h) d.0) in
     let kept : (ℕ → Entry) → (ℕ → ℕ) → Header → ℕ → ℕ → CallerKnowledge = λ e g x n m. record { domains = s.domains; may = s.may; entry = e; generation = g; header = x; mapping = found; in_use = n; maps_answered = m } in
     ap (λ (e : ℕ → Entry). kept e (λ r. generation_at s (bare h) d.0 r) (table_at s (bare h) d) (length (mappings_at (bare h) d.0)) (maps_answered_at (bare h) d.0)) (fun_ext (λ r. entry-bare h d.0 r))
     ∙ ap (λ (g : ℕ → ℕ). kept (λ r. entry_at h d.0 r) g (table_at s (bare h) d) (length (mappings_at (bare h) d.0)) (maps_answered_at (bare h) d.0)) (fun_ext (λ r. ap (λ (n : ℕ). s.first_generation + n) (raises-bare h d.0 r)))
@@ -187,8 +178,7 @@ known-bare s h d run =
 
 -- what an entry shows is the same
 shown-bare : (s : Setting) (h : History) (dom : DomId) (r : ℕ) → IsRun s h → shown_at s (bare h) dom r ≡ shown_at s h dom r
-shown-bare s h dom r run =
-    let shows : Header → Entry → ℕ → ℕ → ℕ → Option Shown = λ x e g n m.
+shown-bare s h dom r run = let shows : Header → Entry → ℕ → ℕ → ℕ → Option Shown = λ x e g n m.
     cond (is_some (domain_of s.domains dom) && nat_lt r (size_of x)) (Some (record { entry = e; generation = g; reads = n; writes = m })) None in
     ap (λ (x : Header). shows x (entry_at (bare h) dom.0 r) (generation_at s (bare h) dom.0 r) (reads_at (bare h) dom.0 r) (writes_at (bare h) dom.0 r)) (table-bare s h dom)
     ∙ ap (λ (e : Entry). shows (table_at s h dom) e (generation_at s (bare h) dom.0 r) (reads_at (bare h) dom.0 r) (writes_at (bare h) dom.0 r)) (entry-bare h dom.0 r)
@@ -206,7 +196,6 @@ subject-bare s h dom a run k =
     ap (λ (o : Option Held). cond (is_some (domain_of s.domains dom)) (option_map place_of o) None) (mapping-bare s h dom.0 a run k)
 
 pub subject-alike : (s : Setting) (g h : History) (dom : DomId) (a b : Handle) → AreAlike s g h → bare_handle a ≡ bare_handle b → IsKnown g dom.0 a → IsKnown h dom.0 b → subject_at s g dom a ≡ subject_at s h dom b
-subject-alike s g h dom a b alike same j k =
-    sym (subject-bare s g dom a alike.first j)
+subject-alike s g h dom a b alike same j k = sym (subject-bare s g dom a alike.first j)
     ∙ ap (λ (l : History). subject_at s l dom (bare_handle a)) (bare-same g h alike.same) ∙ ap (λ (x : Handle). subject_at s (bare h) dom x) same
     ∙ subject-bare s h dom b alike.second k

@@ -1,7 +1,7 @@
 -- The state of a domain among the states.
-use Rattle.gt_core.proofs.Words.{◌≡◌, ◌<◌, ◌≤◌, ℕ, zero, suc, refl, Bool, true, false, List, [], ◌∷◌, length, Option, Some, None, cond, ltb, sym, ap, ◌∙◌, arith, get_or, set, eqb-true, eq-eqb, true≢false, ltb-false, position-Some, slice_get_past, slice_get-get_or, Result, OnErr, position, slice_get, ◌==◌, position_or_len, State}
+use Rattle.gt_core.proofs.Words.{◌≡◌, ◌<◌, ◌≤◌, ℕ, zero, suc, refl, Bool, true, false, List, [], ◌∷◌, length, Option, Some, None, cond, ltb, sym, ap, ◌∙◌, arith, get_or, set, eqb-true, eq-eqb, true≢false, ltb-false, position-Some, slice_get_past, slice_get-get_or, Result, OnErr, position, slice_get, ◌==◌, position_or_len, State, find}
 use Rattle.std.proofs.lemmas.List.Folds.{find_at}
-use Rattle.std.specs.Prelude.{Ok, Err, find}
+use Rattle.std.specs.Prelude.{Ok, Err}
 use Rattle.gt_core.specs.Standing.{state_of}
 
 abbrev pub has_id : ℕ → State → Bool
@@ -12,18 +12,16 @@ state_of-find [] d = refl
 state_of-find (x ∷ xs) d = ap (cond (x.id.0 == d) (Some x)) (state_of-find xs d)
 
 none-place : (n m : ℕ) → cond (ltb n m) (Some n) None ≡ None → m ≤ n
-none-place n m h = none (ltb n m) refl h
-  where
-    none : (b : Bool) → ltb n m ≡ b → cond b (Some n) None ≡ None → m ≤ n
-    none true e k = cc
-    none false e k = ltb-false n m e
+none-place n m h = none (ltb n m) refl h where
+  none : (b : Bool) → ltb n m ≡ b → cond b (Some n) None ≡ None → m ≤ n
+  none true e k = cc
+  none false e k = ltb-false n m e
 
 some-place : (n m i : ℕ) → cond (ltb n m) (Some n) None ≡ Some i → n ≡ i
-some-place n m i h = some (ltb n m) h
-  where
-    some : (b : Bool) → cond b (Some n) None ≡ Some i → n ≡ i
-    some true k = cc
-    some false k = cc
+some-place n m i h = some (ltb n m) h where
+  some : (b : Bool) → cond b (Some n) None ≡ Some i → n ≡ i
+  some true k = cc
+  some false k = cc
 
 -- no domain has the number
 pub not-found : (xs : List State) (d : ℕ) → position (has_id d) xs ≡ None → state_of xs d ≡ None
@@ -31,8 +29,7 @@ not-found xs d h = state_of-find xs d ∙ find_at (has_id d) xs ∙ slice_get_pa
 
 -- the first domain with the number
 pub found : (xs : List State) (d i : ℕ) (x : State) → position (has_id d) xs ≡ Some i → state_of xs d ≡ Some (get_or xs i x)
-found xs d i x h =
-    state_of-find xs d ∙ find_at (has_id d) xs
+found xs d i x h = state_of-find xs d ∙ find_at (has_id d) xs
     ∙ ap (slice_get xs) (some-place (position_or_len (has_id d) xs) (length xs) i h)
     ∙ slice_get-get_or xs i x (position-Some (has_id d) xs i x h).0
 

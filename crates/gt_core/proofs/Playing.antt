@@ -1,11 +1,8 @@
 -- One event more, and what stands for each event.
-use Rattle.gt_core.proofs.Words.{◌≡◌, ◌<◌, ◌+◌, ℕ, refl, length, get_or, take, List, [], ◌∷◌, ◌++◌, sym, ap, ◌∙◌, subst, take_more, Event, Element, Result, OnErr, DomId, TypeId, Perms, Config, Request, frame_counts, FrameSet, all_zeros, AreKept, Begin, Tick, Begun, State, DomainsStand, CoreStands, Does, setting_of, begun_element, ticked_element, History, Setting, LegalAfter, MayDo, grown, history_after}
-use Rattle.std.specs.Prelude.{Bool, IfOk}
-use Rattle.std.proofs.Common.{Ok, Err}
+use Rattle.gt_core.proofs.Words.{◌≡◌, ◌<◌, ◌+◌, ℕ, refl, length, get_or, take, List, [], ◌∷◌, ◌++◌, sym, ap, ◌∙◌, subst, take_more, Event, Element, Result, OnErr, DomId, TypeId, Perms, Config, Request, frame_counts, FrameSet, all_zeros, AreKept, Begin, Tick, Begun, State, DomainsStand, CoreStands, Does, setting_of, begun_element, ticked_element, History, Setting, LegalAfter, MayDo, grown, history_after, IfOk, Ok, Err, Ticked, CoreState, StandsForSome, DoesAlone}
+use Rattle.std.specs.Prelude.{Bool}
 use Rattle.gt_types.specs.declared.Memory.{Memory}
-use Rattle.gt_core.specs.declared.core_state.Ticked.{Ticked}
-use Rattle.gt_core.specs.States.{CoreState, core_of}
-use Rattle.gt_core.specs.Standing.{StandsForSome, DoesAlone}
+use Rattle.gt_core.specs.States.{core_of}
 use Rattle.gt_core.proofs.Framing.{frames-begun, frames-start}
 
 -- one event more
@@ -26,8 +23,7 @@ pub record PlaysOn (s : Setting) (es : List Event) (i : ℕ) (trace : List Eleme
 -- a turn of the loop
 pub plays-on : (s s' : Setting) (es : List Event) (i : ℕ) (e : Event) (trace trace' : List Element) (old new : CoreState) (x : Element)
     → PlaysOn s es i trace old → i < length es → e ≡ get_or es i e → trace' ≡ trace ++ x ∷ [] → s' ≡ s
-    → Does s' old e x new
-    → PlaysOn s es (i + 1) trace' new
+    → Does s' old e x new → PlaysOn s es (i + 1) trace' new
 plays-on s s' es i e trace trace' old new x was within at pushed same turn =
     let t = subst (λ (z : Setting). Does z old e x new) same turn (history_after [] trace) was.stands in
     let front : take (i + 1) es ≡ take i es ++ e ∷ [] = take_more es i e within ∙ ap (λ (y : Event). take i es ++ y ∷ []) (sym at) in
@@ -46,8 +42,7 @@ core-starts config may xs fs domains zeros kept = record { domains = domains; fr
 begun-stands : (s : Setting) (xs ys : List State) (fs : FrameSet) (dom : DomId) (request : Request) (b : Begun)
     → DoesAlone s xs (Begin dom request) (begun_element dom request b) ys
     → Does s (core_of xs fs) (Begin dom request) (begun_element dom request b) (core_of ys fs)
-begun-stands s xs ys fs dom request b stands h st =
-    let r = stands h st.domains in
+begun-stands s xs ys fs dom request b stands h st = let r = stands h st.domains in
     (r.0, record { domains = r.1; frames = frames-begun s h fs dom request b st.frames })
 
 pub begin-does : (s : Setting) (xs ys : List State) (fs : FrameSet) (dom : DomId) (request : Request) (r : Result Begun Memory)

@@ -19,11 +19,10 @@ length-changed (z ∷ zs) (suc r) f = ap suc (length-changed zs r f)
 length-changed xs r f = refl
 
 suc-eqb : (r q : ℕ) → (suc r == suc q) ≡ (r == q)
-suc-eqb r q = by (r == q) refl
-  where
-    by : (b : Bool) → (r == q) ≡ b → (suc r == suc q) ≡ b
-    by true e = eq-eqb (suc r) (suc q) (ap suc (eqb-true r q e))
-    by false e = ne_eqb (suc r) (suc q) (λ s. false≢true (sym e ∙ eq-eqb r q (let t : suc r ≡ suc q = s in omega arith)))
+suc-eqb r q = by (r == q) refl where
+  by : (b : Bool) → (r == q) ≡ b → (suc r == suc q) ≡ b
+  by true e = eq-eqb (suc r) (suc q) (ap suc (eqb-true r q e))
+  by false e = ne_eqb (suc r) (suc q) (λ s. false≢true (sym e ∙ eq-eqb r q (let t : suc r ≡ suc q = s in omega arith)))
 
 zero-suc-eqb : (q : ℕ) → (zero == suc q) ≡ false
 zero-suc-eqb q = ne_eqb zero (suc q) (λ s. absurd (let t : zero ≡ suc q = s in omega arith))
@@ -56,24 +55,21 @@ changed-there (z ∷ zs) d (suc i) f x within here is apart =
 
 -- a write of the changed state
 pub set-state : (xs : List State) (d i : ℕ) (f : State → State) (x y : State) → position (has_id d) xs ≡ Some i → x ≡ get_or xs i x → y ≡ f x → set xs i y ≡ changed_in d f xs
-set-state xs d i f x y p here s =
-    let a = position-Some (has_id d) xs i x p in
+set-state xs d i f x y p here s = let a = position-Some (has_id d) xs i x p in
     ap (λ (v : State). set xs i v) s ∙ changed-there xs d i f x a.0 here a.1 a.2
 
 past-place : (n m : ℕ) → cond (ltb n m) (Some n) None ≡ None → m ≤ n
-past-place n m h = none (ltb n m) refl h
-  where
-    none : (b : Bool) → ltb n m ≡ b → cond b (Some n) None ≡ None → m ≤ n
-    none true e k = cc
-    none false e k = ltb-false n m e
+past-place n m h = none (ltb n m) refl h where
+  none : (b : Bool) → ltb n m ≡ b → cond b (Some n) None ≡ None → m ≤ n
+  none true e k = cc
+  none false e k = ltb-false n m e
 
 changed-none : (xs : List State) (d : ℕ) (f : State → State) → length xs ≤ position_or_len (has_id d) xs → changed_in d f xs ≡ xs
 changed-none [] d f past = refl
-changed-none (z ∷ zs) d f past = by (has_id d z) (λ k. changed-none zs d f k) past
-  where
-    by : (b : Bool) → (length zs ≤ position_or_len (has_id d) zs → changed_in d f zs ≡ zs) → length (z ∷ zs) ≤ cond (not b) (1 + position_or_len (has_id d) zs) 0 → cond b (f z ∷ zs) (z ∷ changed_in d f zs) ≡ z ∷ zs
-    by true rest k = absurd (omega arith)
-    by false rest k = ap (λ l. z ∷ l) (rest (omega arith))
+changed-none (z ∷ zs) d f past = by (has_id d z) (λ k. changed-none zs d f k) past where
+  by : (b : Bool) → (length zs ≤ position_or_len (has_id d) zs → changed_in d f zs ≡ zs) → length (z ∷ zs) ≤ cond (not b) (1 + position_or_len (has_id d) zs) 0 → cond b (f z ∷ zs) (z ∷ changed_in d f zs) ≡ z ∷ zs
+  by true rest k = absurd (omega arith)
+  by false rest k = ap (λ l. z ∷ l) (rest (omega arith))
 
 -- no state has the number
 pub changed-nowhere : (xs : List State) (d : ℕ) (f : State → State) → position (has_id d) xs ≡ None → changed_in d f xs ≡ xs
@@ -81,34 +77,30 @@ changed-nowhere xs d f p = changed-none xs d f (past-place (position_or_len (has
 
 pub length-changed_in : (xs : List State) (d : ℕ) (f : State → State) → length (changed_in d f xs) ≡ length xs
 length-changed_in [] d f = refl
-length-changed_in (z ∷ zs) d f = by (z.id.0 == d) (length-changed_in zs d f)
-  where
-    by : (b : Bool) → length (changed_in d f zs) ≡ length zs → length (cond b (f z ∷ zs) (z ∷ changed_in d f zs)) ≡ length (z ∷ zs)
-    by true e = refl
-    by false e = ap suc e
+length-changed_in (z ∷ zs) d f = by (z.id.0 == d) (length-changed_in zs d f) where
+  by : (b : Bool) → length (changed_in d f zs) ≡ length zs → length (cond b (f z ∷ zs) (z ∷ changed_in d f zs)) ≡ length (z ∷ zs)
+  by true e = refl
+  by false e = ap suc e
 
 -- the first state with a number, after the change of the one with number d
 pub state-changed : (xs : List State) (d q : ℕ) (f : State → State) → ((x : State) → (f x).id ≡ x.id) → state_of (changed_in d f xs) q ≡ cond (d == q) (option_map f (state_of xs q)) (state_of xs q)
 state-changed [] d q f keeps = sym (cond-none (d == q))
-state-changed (z ∷ zs) d q f keeps = by (z.id.0 == d) (state-changed zs d q f keeps) refl
-  where
-    same-d : z.id.0 ≡ d → (z.id.0 == q) ≡ (d == q)
-    same-d e = ap (λ n. n == q) e
+state-changed (z ∷ zs) d q f keeps = by (z.id.0 == d) (state-changed zs d q f keeps) refl where
+  same-d : z.id.0 ≡ d → (z.id.0 == q) ≡ (d == q)
+  same-d e = ap (λ n. n == q) e
 
-    at : (b : Bool) → cond b (Some (f z)) (state_of zs q) ≡ cond b (option_map f (cond b (Some z) (state_of zs q))) (cond b (Some z) (state_of zs q))
-    at true = refl
-    at false = refl
+  at : (b : Bool) → cond b (Some (f z)) (state_of zs q) ≡ cond b (option_map f (cond b (Some z) (state_of zs q))) (cond b (Some z) (state_of zs q))
+  at true = refl
+  at false = refl
 
-    apart : (b c : Bool) → (b ≡ true → c ≡ true → ⊥) → cond b (Some z) (cond c (option_map f (state_of zs q)) (state_of zs q)) ≡ cond c (option_map f (cond b (Some z) (state_of zs q))) (cond b (Some z) (state_of zs q))
-    apart true true n = absurd (n refl refl)
-    apart b c n = refl
+  apart : (b c : Bool) → (b ≡ true → c ≡ true → ⊥) → cond b (Some z) (cond c (option_map f (state_of zs q)) (state_of zs q)) ≡ cond c (option_map f (cond b (Some z) (state_of zs q))) (cond b (Some z) (state_of zs q))
+  apart true true n = absurd (n refl refl)
+  apart b c n = refl
 
-    by : (b : Bool) → state_of (changed_in d f zs) q ≡ cond (d == q) (option_map f (state_of zs q)) (state_of zs q) → (z.id.0 == d) ≡ b
-        → state_of (cond b (f z ∷ zs) (z ∷ changed_in d f zs)) q ≡ cond (d == q) (option_map f (cond (z.id.0 == q) (Some z) (state_of zs q))) (cond (z.id.0 == q) (Some z) (state_of zs q))
-    by true rest e =
-        ap (λ (w : ℕ). cond (w == q) (Some (f z)) (state_of zs q)) (ap (λ i. i.0) (keeps z))
-        ∙ at (z.id.0 == q)
-        ∙ ap (λ c. cond c (option_map f (cond (z.id.0 == q) (Some z) (state_of zs q))) (cond (z.id.0 == q) (Some z) (state_of zs q))) (same-d (eqb-true z.id.0 d e))
-    by false rest e =
-        ap (cond (z.id.0 == q) (Some z)) rest
-        ∙ apart (z.id.0 == q) (d == q) (λ a c. true≢false (sym (eq-eqb z.id.0 d (eqb-true z.id.0 q a ∙ sym (eqb-true d q c))) ∙ e))
+  by : (b : Bool) → state_of (changed_in d f zs) q ≡ cond (d == q) (option_map f (state_of zs q)) (state_of zs q) → (z.id.0 == d) ≡ b
+      → state_of (cond b (f z ∷ zs) (z ∷ changed_in d f zs)) q ≡ cond (d == q) (option_map f (cond (z.id.0 == q) (Some z) (state_of zs q))) (cond (z.id.0 == q) (Some z) (state_of zs q))
+  by true rest e = ap (λ (w : ℕ). cond (w == q) (Some (f z)) (state_of zs q)) (ap (λ i. i.0) (keeps z))
+      ∙ at (z.id.0 == q)
+      ∙ ap (λ c. cond c (option_map f (cond (z.id.0 == q) (Some z) (state_of zs q))) (cond (z.id.0 == q) (Some z) (state_of zs q))) (same-d (eqb-true z.id.0 d e))
+  by false rest e = ap (cond (z.id.0 == q) (Some z)) rest
+      ∙ apart (z.id.0 == q) (d == q) (λ a c. true≢false (sym (eq-eqb z.id.0 d (eqb-true z.id.0 q a ∙ sym (eqb-true d q c))) ∙ e))

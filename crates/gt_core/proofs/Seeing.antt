@@ -1,34 +1,30 @@
 -- What the core's steps see is what the history left.
-use Rattle.gt_core.proofs.Words.{◌≡◌, ◌≢◌, ◌<◌, ℕ, zero, suc, refl, Bool, true, false, List, [], ◌∷◌, length, Option, Some, None, cond, sym, ap, ◌∙◌, arith, none-some, same_Some, ◌==◌, slice_get, DomId, Entry, control_word, header_word, PinCounts, Own, State, Step, LookHeader, LookControl, LookBody, Exchange, Word, control_with, generation_in, Half, FirstHalf, SecondHalf, TABLE_ENTRIES, History, Setting, entry_at, generation_at, reads_at, body_at, table_at, word_at, seen_by, exchange_sees, Agrees, StateAgrees, DomainsStand, control_seen, header_seen, body_seen, sees}
+use Rattle.gt_core.proofs.Words.{◌≡◌, ◌≢◌, ◌<◌, ℕ, zero, suc, refl, Bool, true, false, List, [], ◌∷◌, length, Option, Some, None, cond, sym, ap, ◌∙◌, arith, none-some, same_Some, ◌==◌, slice_get, DomId, Entry, control_word, header_word, PinCounts, Own, State, Step, LookHeader, LookControl, LookBody, Exchange, Word, control_with, generation_in, Half, FirstHalf, SecondHalf, TABLE_ENTRIES, History, Setting, entry_at, generation_at, reads_at, body_at, table_at, word_at, seen_by, exchange_sees, Agrees, StateAgrees, DomainsStand, control_seen, header_seen, body_seen, sees, reads_in, writes_in, body_in, slot_reads, slot_writes, slot_body, control_in}
 use Rattle.gt_calls.specs.declared.action.Step.TheVariants.{Pin}
 use Rattle.gt_core.specs.Standing.{state_of}
-use Rattle.gt_core.specs.Sight.{reads_in, writes_in, body_in, slot_reads, slot_writes, slot_body, control_in}
 
 header_seen-state : (xs : List State) (d : ℕ) (x : State) → state_of xs d ≡ Some x → header_seen xs d ≡ header_word x.header
 header_seen-state [] d x e = cc
-header_seen-state (y ∷ ys) d x e = by (y.id.0 == d) e (header_seen-state ys d x)
-  where
-    by : (b : Bool) → cond b (Some y) (state_of ys d) ≡ Some x → (state_of ys d ≡ Some x → header_seen ys d ≡ header_word x.header) → cond b (header_word y.header) (header_seen ys d) ≡ header_word x.header
-    by true k r = ap (λ (z : State). header_word z.header) (same_Some y x k)
-    by false k r = r k
+header_seen-state (y ∷ ys) d x e = by (y.id.0 == d) e (header_seen-state ys d x) where
+  by : (b : Bool) → cond b (Some y) (state_of ys d) ≡ Some x → (state_of ys d ≡ Some x → header_seen ys d ≡ header_word x.header) → cond b (header_word y.header) (header_seen ys d) ≡ header_word x.header
+  by true k r = ap (λ (z : State). header_word z.header) (same_Some y x k)
+  by false k r = r k
 
 control_seen-state : (xs : List State) (d r : ℕ) (x : State) → state_of xs d ≡ Some x → control_seen xs d r ≡ control_in x.own x.slots r
 control_seen-state [] d r x e = cc
-control_seen-state (y ∷ ys) d r x e = by (y.id.0 == d) e (control_seen-state ys d r x)
-  where
-    by : (b : Bool) → cond b (Some y) (state_of ys d) ≡ Some x → (state_of ys d ≡ Some x → control_seen ys d r ≡ control_in x.own x.slots r)
-        → cond b (control_in y.own y.slots r) (control_seen ys d r) ≡ control_in x.own x.slots r
-    by true k t = ap (λ (z : State). control_in z.own z.slots r) (same_Some y x k)
-    by false k t = t k
+control_seen-state (y ∷ ys) d r x e = by (y.id.0 == d) e (control_seen-state ys d r x) where
+  by : (b : Bool) → cond b (Some y) (state_of ys d) ≡ Some x → (state_of ys d ≡ Some x → control_seen ys d r ≡ control_in x.own x.slots r)
+      → cond b (control_in y.own y.slots r) (control_seen ys d r) ≡ control_in x.own x.slots r
+  by true k t = ap (λ (z : State). control_in z.own z.slots r) (same_Some y x k)
+  by false k t = t k
 
 body_seen-state : (xs : List State) (d r : ℕ) (which : Half) (x : State) → state_of xs d ≡ Some x → body_seen xs d r which ≡ body_in x.slots r which
 body_seen-state [] d r which x e = cc
-body_seen-state (y ∷ ys) d r which x e = by (y.id.0 == d) e (body_seen-state ys d r which x)
-  where
-    by : (b : Bool) → cond b (Some y) (state_of ys d) ≡ Some x → (state_of ys d ≡ Some x → body_seen ys d r which ≡ body_in x.slots r which)
-        → cond b (body_in y.slots r which) (body_seen ys d r which) ≡ body_in x.slots r which
-    by true k t = ap (λ (z : State). body_in z.slots r which) (same_Some y x k)
-    by false k t = t k
+body_seen-state (y ∷ ys) d r which x e = by (y.id.0 == d) e (body_seen-state ys d r which x) where
+  by : (b : Bool) → cond b (Some y) (state_of ys d) ≡ Some x → (state_of ys d ≡ Some x → body_seen ys d r which ≡ body_in x.slots r which)
+      → cond b (body_in y.slots r which) (body_seen ys d r which) ≡ body_in x.slots r which
+  by true k t = ap (λ (z : State). body_in z.slots r which) (same_Some y x k)
+  by false k t = t k
 
 past-none : (xs : List PinCounts) (r : ℕ) → r < length xs → slice_get xs r ≡ None → ⊥
 past-none [] r within e = absurd (omega arith)
@@ -36,11 +32,10 @@ past-none (x ∷ xs) zero within e = none-some x (sym e)
 past-none (x ∷ xs) (suc r) within e = past-none xs r (omega arith) e
 
 slot-here : (s : Setting) (h : History) (x : State) (r : ℕ) → Agrees s h x → r < TABLE_ENTRIES → (slot : PinCounts) × (slice_get x.slots r ≡ Some slot)
-slot-here s h x r a within = some (slice_get x.slots r) refl
-  where
-    some : (o : Option PinCounts) → slice_get x.slots r ≡ o → (slot : PinCounts) × (slice_get x.slots r ≡ Some slot)
-    some (Some slot) e = (slot, e)
-    some None e = absurd (past-none x.slots r (let room : length x.slots ≡ TABLE_ENTRIES = a.room in omega arith) e)
+slot-here s h x r a within = some (slice_get x.slots r) refl where
+  some : (o : Option PinCounts) → slice_get x.slots r ≡ o → (slot : PinCounts) × (slice_get x.slots r ≡ Some slot)
+  some (Some slot) e = (slot, e)
+  some None e = absurd (past-none x.slots r (let room : length x.slots ≡ TABLE_ENTRIES = a.room in omega arith) e)
 
 -- where there is a row, its generation is the entry's
 generation-there : (a b : ℕ) (own : List Own) (r : ℕ) → r < length own → generation_in a own r ≡ generation_in b own r
@@ -49,9 +44,7 @@ generation-there a b (x ∷ xs) zero within = refl
 generation-there a b (x ∷ xs) (suc r) within = generation-there a b xs r (omega arith)
 
 word-agrees : (s : Setting) (h : History) (x : State) (r : ℕ) → Agrees s h x → r < TABLE_ENTRIES → control_in x.own x.slots r ≡ word_at s h x.id.0 r
-word-agrees s h x r a within =
-    let here = slot-here s h x r a within in
-    let b = a.slots r here.0 here.1 in
+word-agrees s h x r a within = let here = slot-here s h x r a within in let b = a.slots r here.0 here.1 in
     ap (λ (e : Entry). control_word (control_with e (generation_in 0 x.own r) (reads_in x.slots r) (writes_in x.slots r))) (ap (λ (f : ℕ → Entry). f r) a.entries)
     ∙ ap (λ (g : ℕ). control_word (control_with (entry_at h x.id.0 r) g (reads_in x.slots r) (writes_in x.slots r)))
     (generation-there 0 s.first_generation x.own r (let rows : length x.own ≡ TABLE_ENTRIES = a.rows in omega arith) ∙ ap (λ (f : ℕ → ℕ). f r) a.generations)
@@ -72,25 +65,21 @@ IsWithin xs d (Exchange gref looked change) = (state_of xs d.0 ≢ None) × (gre
 IsWithin xs d step = Unit {0}
 
 pub state-there : (s : Setting) (h : History) (xs : List State) (dom : DomId) → DomainsStand s h xs → state_of xs dom.0 ≢ None → (x : State) × (state_of xs dom.0 ≡ Some x) × (x.id ≡ dom) × Agrees s h x
-state-there s h xs dom st some = by (state_of xs dom.0) refl (st.each dom)
-  where
-    by : (o : Option State) → state_of xs dom.0 ≡ o → StateAgrees s h dom o → (x : State) × (state_of xs dom.0 ≡ Some x) × (x.id ≡ dom) × Agrees s h x
-    by None e a = absurd (some e)
-    by (Some x) e a = (x, e, a.1, a.2)
+state-there s h xs dom st some = by (state_of xs dom.0) refl (st.each dom) where
+  by : (o : Option State) → state_of xs dom.0 ≡ o → StateAgrees s h dom o → (x : State) × (state_of xs dom.0 ≡ Some x) × (x.id ≡ dom) × Agrees s h x
+  by None e a = absurd (some e)
+  by (Some x) e a = (x, e, a.1, a.2)
 
 control-agrees : (s : Setting) (h : History) (xs : List State) (dom : DomId) (r : ℕ) → DomainsStand s h xs → state_of xs dom.0 ≢ None → r < TABLE_ENTRIES → control_seen xs dom.0 r ≡ word_at s h dom.0 r
-control-agrees s h xs dom r st some within =
-    let x = state-there s h xs dom st some in
+control-agrees s h xs dom r st some within = let x = state-there s h xs dom st some in
     control_seen-state xs dom.0 r x.0 x.1 ∙ word-agrees s h x.0 r x.3 within ∙ ap (λ (d : DomId). word_at s h d.0 r) x.2
 
 -- what the core's step sees is what the history left
 pub sees-agree : (s : Setting) (h : History) (xs : List State) (d : DomId) (step : Step) → DomainsStand s h xs → IsWithin xs d step → sees xs d step ≡ seen_by s h d step
-sees-agree s h xs d (LookHeader dom) st w =
-    let x = state-there s h xs dom st w in
+sees-agree s h xs d (LookHeader dom) st w = let x = state-there s h xs dom st w in
     ap (λ (n : ℕ). Word n) (header_seen-state xs dom.0 x.0 x.1 ∙ ap header_word (x.3.header) ∙ ap (λ (t : DomId). header_word (table_at s h t)) x.2)
 sees-agree s h xs d (LookControl dom gref) st w = ap (λ (n : ℕ). Word n) (control-agrees s h xs dom gref.0 st w.0 w.1)
-sees-agree s h xs d (LookBody dom gref half) st w =
-    let x = state-there s h xs dom st w.0 in
+sees-agree s h xs d (LookBody dom gref half) st w = let x = state-there s h xs dom st w.0 in
     ap (λ (n : ℕ). Word n) (body_seen-state xs dom.0 gref.0 half x.0 x.1 ∙ body-agrees s h x.0 gref.0 half x.3 w.1 ∙ ap (λ (t : DomId). body_at h t.0 gref.0 half) x.2)
 sees-agree s h xs d (Pin p) st w = ap (λ (n : ℕ). exchange_sees n p.word) (control-agrees s h xs p.dom p.gref.0 st w.0 w.1)
 sees-agree s h xs d (Exchange gref looked change) st w = ap (λ (n : ℕ). exchange_sees n looked) (control-agrees s h xs d gref.0 st w.0 w.1)

@@ -1,9 +1,7 @@
 -- What the core shows of an entry is what the history left.
-use Rattle.gt_core.proofs.Words.{◌≡◌, ◌<◌, ◌≤◌, ℕ, zero, suc, refl, Bool, true, false, List, [], ◌∷◌, length, Option, Some, None, cond, sym, ap, ◌∙◌, arith, subst, get_or, lt-ltb, ltb-true, nat_lt, ◌&&◌, is_some, slice_get, position, domain_of, DomId, TABLE_ENTRIES, DomainConfig, Entry, Header, Own, PinCounts, size_of, row_entry, row_generation, State, History, Setting, entry_at, generation_at, reads_at, writes_at, table_at, shown_at, Agrees, DomainsStand}
-use Rattle.gt_core.specs.Shown.{shown_in}
+use Rattle.gt_core.proofs.Words.{◌≡◌, ◌<◌, ◌≤◌, ℕ, zero, suc, refl, Bool, true, false, List, [], ◌∷◌, length, Option, Some, None, cond, sym, ap, ◌∙◌, arith, subst, get_or, lt-ltb, ltb-true, nat_lt, ◌&&◌, is_some, slice_get, position, domain_of, DomId, TABLE_ENTRIES, DomainConfig, Entry, Header, Own, PinCounts, size_of, row_entry, row_generation, State, History, Setting, entry_at, generation_at, reads_at, writes_at, table_at, shown_at, Agrees, DomainsStand, shown_in}
 use Rattle.gt_core.proofs.Fitting.{table-fits}
-use Rattle.gt_core.proofs.Places.{has_id}
-use Rattle.gt_core.proofs.Beginning.{begin-nowhere, agrees-found}
+use Rattle.gt_core.proofs.Beginning.{begin-nowhere, agrees-found, has_id}
 
 -- no domain has the number
 pub shown-nowhere : (s : Setting) (h : History) (xs : List State) (dom : DomId) (r : ℕ) → position (has_id dom.0) xs ≡ None → DomainsStand s h xs → None ≡ shown_at s h dom r
@@ -23,16 +21,14 @@ shown-in-range s h dom r b some e =
     ∙ ap (λ (c : Bool). cond c (Some (record { entry = entry_at h dom.0 r; generation = generation_at s h dom.0 r; reads = reads_at h dom.0 r; writes = writes_at h dom.0 r })) None) e
 
 not-below : (r n : ℕ) → n ≤ r → nat_lt r n ≡ false
-not-below r n le = by (nat_lt r n) refl
-  where
-    by : (b : Bool) → nat_lt r n ≡ b → nat_lt r n ≡ false
-    by true e = absurd (let lt = ltb-true r n e in omega arith)
-    by false e = e
+not-below r n le = by (nat_lt r n) refl where
+  by : (b : Bool) → nat_lt r n ≡ b → nat_lt r n ≡ false
+  by true e = absurd (let lt = ltb-true r n e in omega arith)
+  by false e = e
 
 -- the reference is past the table
 pub shown-past : (s : Setting) (h : History) (xs : List State) (dom : DomId) (r at : ℕ) (x : State) → position (has_id dom.0) xs ≡ Some at → x ≡ get_or xs at x → size_of x.header ≤ r → DomainsStand s h xs → None ≡ shown_at s h dom r
-shown-past s h xs dom r at x p here past st =
-    let a = agrees-found s h xs dom at x p here st in
+shown-past s h xs dom r at x p here past st = let a = agrees-found s h xs dom at x p here st in
     let size : size_of (table_at s h dom) ≤ r = subst (λ (d : DomId). size_of (table_at s h d) ≤ r) a.1 (subst (λ (z : Header). size_of z ≤ r) a.2.header past) in
     sym (shown-in-range s h dom r false a.0 (not-below r (size_of (table_at s h dom)) size))
 
@@ -43,8 +39,7 @@ some-at (x ∷ xs) (suc r) within = some-at xs r (omega arith)
 
 rows-show : (s : Setting) (h : History) (x : State) (r : ℕ) → Agrees s h x → r < TABLE_ENTRIES
     → shown_in (slice_get x.own r) (slice_get x.slots r) ≡ Some (record { entry = entry_at h x.id.0 r; generation = generation_at s h x.id.0 r; reads = reads_at h x.id.0 r; writes = writes_at h x.id.0 r })
-rows-show s h x r a within =
-    let own = some-at x.own r (let n : length x.own ≡ TABLE_ENTRIES = a.rows in omega arith) in
+rows-show s h x r a within = let own = some-at x.own r (let n : length x.own ≡ TABLE_ENTRIES = a.rows in omega arith) in
     let slot = some-at x.slots r (let n : length x.slots ≡ TABLE_ENTRIES = a.room in omega arith) in
     let b = a.slots r slot.0 slot.1 in
     let entry : own.0.entry ≡ entry_at h x.id.0 r = sym (ap row_entry own.1) ∙ ap (λ (f : ℕ → Entry). f r) a.entries in
@@ -59,8 +54,7 @@ rows-show s h x r a within =
 -- an entry of the table
 pub shown-there : (s : Setting) (h : History) (xs : List State) (dom : DomId) (r at : ℕ) (x : State) → position (has_id dom.0) xs ≡ Some at → x ≡ get_or xs at x → r < size_of x.header → DomainsStand s h xs
     → shown_in (slice_get x.own r) (slice_get x.slots r) ≡ shown_at s h dom r
-shown-there s h xs dom r at x p here within st =
-    let a = agrees-found s h xs dom at x p here st in
+shown-there s h xs dom r at x p here within st = let a = agrees-found s h xs dom at x p here st in
     let size : r < size_of (table_at s h dom) = subst (λ (d : DomId). r < size_of (table_at s h d)) a.1 (subst (λ (z : Header). r < size_of z) a.2.header within) in
     let most : size_of (table_at s h dom) ≤ TABLE_ENTRIES = (table-fits _ (st.tables dom)).0 in
     rows-show s h x r a.2 (omega arith)

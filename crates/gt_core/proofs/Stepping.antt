@@ -1,29 +1,12 @@
 -- What the core does for a step of an open call: it is right, and the core stands for it.
-use Rattle.gt_core.proofs.Words.{◌≡◌, ◌≢◌, inl, inr, ℕ, refl, Bool, true, false, List, [], ◌∷◌, ◌++◌, length, Option, Some, None, cond, sym, ap, ◌∙◌, subst, reverse, eqb-true, eq-eqb, length-reverse, reverse_onto, same_Some, ◌==◌, DomId, GrantRef, Denial, Entry, Invalid, Half, Handle, Held, Asked, ByMapping, ByLeg, Seen, Nothing, Taken, Missed, Verdict, Granted, Given, KeptPin, Refused, Step, PinStep, Unpin, StoreBody, StoreHeader, Exchange, ReadBytes, WriteBytes, CopyBytes, Action, Makes, Done, Call, Phase, Storing, Walking, Last, Ending, last_first, knowledge_of, path, phase_after, action_at, after_store, HasShown, pins_at, held_in, Goes, Open, Item, Answer, Denied, AnswerDone, Mapped, State, state_of, sees, History, Setting, live, word_at, known_at, legs_at, mappings_at, mapping_of, seen_by, Underway, values, open_call, underway_after, holder_after, one_if_mapped, StepsRight, GivesValue, refusal_in, refusal_of, DomainsStand, Agrees, CallAgrees, OpenAgrees, numbered, position, get_or, set, position-Some, domain_of, Value, FramesTold, BytesAnswer, Kept, applied, with_underway, with_mapping, Adds, IsReadable, IsAdmitted, AccessedBy, bytes_at, FrameSet, frame_at, contents_at, IsRight, StepsRightIn, CoreStands, FramesStand, core_of, Settled, IsLawful, IsLawfullyHeld, answer_with, Closed, IsRoomFor, IsMapping, ticked_with, ticked_element, Element, Tick, MayDo, Does, Did, grown, without, RestsOnRequest, WantsMemoryNow, IsWritingNext}
-use Rattle.gt_core.specs.declared.core_state.Ticked.{Ticked as TickTold}
+use Rattle.gt_core.proofs.Words.{◌≡◌, ◌≢◌, inl, inr, ℕ, refl, Bool, true, false, List, [], ◌∷◌, ◌++◌, length, Option, Some, None, cond, sym, ap, ◌∙◌, subst, reverse, eqb-true, eq-eqb, length-reverse, reverse_onto, same_Some, ◌==◌, DomId, GrantRef, Denial, Entry, Invalid, Half, Handle, Held, Asked, ByMapping, ByLeg, Seen, Nothing, Taken, Missed, Verdict, Granted, Given, KeptPin, Refused, Step, PinStep, Unpin, StoreBody, StoreHeader, Exchange, ReadBytes, WriteBytes, CopyBytes, Action, Makes, Done, Call, Phase, Storing, Walking, Last, Ending, last_first, knowledge_of, path, phase_after, action_at, after_store, HasShown, pins_at, held_in, Goes, Open, Item, Answer, Denied, AnswerDone, Mapped, State, state_of, sees, History, Setting, live, word_at, known_at, legs_at, mappings_at, mapping_of, seen_by, Underway, values, open_call, underway_after, holder_after, one_if_mapped, StepsRight, GivesValue, refusal_in, refusal_of, DomainsStand, Agrees, CallAgrees, OpenAgrees, numbered, position, get_or, set, position-Some, domain_of, Value, FramesTold, BytesAnswer, Kept, applied, with_underway, with_mapping, Adds, IsReadable, IsAdmitted, AccessedBy, bytes_at, FrameSet, frame_at, contents_at, IsRight, StepsRightIn, CoreStands, FramesStand, core_of, Settled, IsLawful, IsLawfullyHeld, answer_with, Closed, IsRoomFor, IsMapping, ticked_with, ticked_element, Element, Tick, MayDo, Does, Did, grown, without, RestsOnRequest, WantsMemoryNow, IsWritingNext, TickTold, IsWriting}
 use Rattle.std.specs.Prelude.{take, drop}
-use Rattle.gt_core.proofs.Quiet.{KeepsKnown}
-use Rattle.gt_core.proofs.Phases.{IsHere, makes-same, by-giving}
-use Rattle.gt_core.proofs.Placing.{IsStore}
-use Rattle.gt_core.proofs.Keeping.{stepped, KeepsEntries, open_call-own}
-use Rattle.gt_core.proofs.Pinning.{pins, map-legs}
-use Rattle.gt_core.proofs.Unpinning.{unpins, Loses}
-use Rattle.gt_core.proofs.Acting.{can-change, can-pin, store-invalid}
-use Rattle.gt_core.proofs.Outcomes.{next_of, ends-so}
-use Rattle.gt_core.specs.declared.trace.Bytes.{Bytes}
-use Rattle.gt_core.specs.Accesses.{IsWriting}
-use Rattle.gt_core.proofs.Places.{has_id, found, state_of-set}
-use Rattle.gt_core.proofs.Keeping.{quiet-stands}
-use Rattle.gt_core.proofs.Storing.{store-stands}
-use Rattle.gt_core.proofs.Exchanging.{exchange-stands}
+use Rattle.gt_core.proofs.Pinning.{pins, map-legs, new_pin, pin-stands, map-agrees, leg-agrees as pin-agrees, stepped, KeepsEntries, open_call-own, quiet-stands, KeepsKnown, IsStore, IsHere, makes-same, by-giving}
 use Rattle.gt_core.proofs.Headers.{header-stands}
-use Rattle.gt_core.proofs.Pinning.{new_pin, pin-stands, map-agrees, leg-agrees as pin-agrees}
-use Rattle.gt_core.proofs.Unpinning.{unpin-stands, becomes-unpinned, loses-leg, loses-mapping, mapping-agrees, leg-agrees as unpin-agrees}
 use Rattle.gt_core.proofs.Framing.{bytes-held, open-admitted, open-readable, frames-stepped}
-use Rattle.gt_core.proofs.Acting.{header-fits, map-lawful, CanPin}
-use Rattle.gt_core.proofs.Values.{granted-value, given-value, mapped-ends}
-use Rattle.gt_core.proofs.Beginning.{agrees-found}
-use Rattle.gt_core.proofs.Ticking.{Ticks, ticks, here-of, given-goes-on, legs-after, open-after, goes-right, ends-right, last-fact, leg-store}
+use Rattle.gt_core.proofs.Values.{granted-value, given-value, mapped-ends, next_of, ends-so}
+use Rattle.gt_core.proofs.Ticking.{Ticks, ticks, here-of, given-goes-on, legs-after, open-after, goes-right, ends-right, last-fact, leg-store, unpins, Loses, unpin-stands, becomes-unpinned, loses-leg, loses-mapping, mapping-agrees, leg-agrees as unpin-agrees, can-change, can-pin, store-invalid, header-fits, map-lawful, CanPin, store-stands, exchange-stands, agrees-found, has_id, found, state_of-set}
+use Rattle.gt_core.specs.declared.trace.Bytes.{Bytes}
 
 -- the states where just the actor's call, or its handles or bytes, are others
 abbrev Replaced : List State → List State → State → State → Type 0
@@ -105,9 +88,7 @@ right-in s h d step seen answer c call a = subst (λ (u : Option Underway). Step
 
 pub goes-core : (s : Setting) (h : History) (xs ys : List State) (x : State) (o : Open) (c : Underway) (new : Call) (z : Step) → Ticks s h xs x o c new (Makes z) → Replaced xs ys x (record x { underway = Some (record { call = new; step = z }) })
     → Ticked s h x.id o.step (seen_by s h x.id o.step) None (applied x.id o.step (seen_by s h x.id o.step) ys)
-goes-core s h xs ys x o c new z t r =
-    let seen = seen_by s h x.id o.step in
-    let i = stepped x.id o.step seen None in
+goes-core s h xs ys x o c new z t r = let seen = seen_by s h x.id o.step in let i = stepped x.id o.step seen None in
     let now : open_call (i ∷ h) x.id.0 ≡ Some (record { request = c.request; given = c.given; steps = c.steps ++ (o.step, seen) ∷ [] }) = open_call-own i h ∙ ap (underway_after i) t.call in (
       right-in s h x.id o.step seen None c t.call (goes-right s h xs x o c new z t),
       step-stands s h xs ys x c t.stands.phase o.step None (Some (record { call = new; step = z })) (here-of s h xs x o c t.st t.here t.stands) (last-fact s h xs x o c new (Makes z) t) t.here t.agrees r refl (λ n. refl)
@@ -119,24 +100,22 @@ goes-core s h xs ys x o c new z t r =
 
 -- no store ends a call
 store-goes : (s : Setting) (h : History) (xs : List State) (x : State) (o : Open) (c : Underway) (new : Call) (v : Verdict) → (t : Ticks s h xs x o c new (Done v)) → IsStore o.step → ⊥
-store-goes s h xs x o c new v t store = by o.step refl store
-  where
-    stored : (p : Phase) (gref : GrantRef) (half : Half) (word : ℕ) → HasShown (known_at s h x.id) (path (known_at s h x.id) x.id c.request) x.id c.request (values c) p → action_at x.id p ≡ Makes (StoreBody gref half word)
-        → Done v ≡ action_at x.id (phase_after (known_at s h x.id) x.id p Nothing) → ⊥
-    stored (Storing g entry) gref half word a e f = after entry f
-      where
-        after : (y : Entry) → Done v ≡ action_at x.id (after_store (known_at s h x.id) g y) → ⊥
-        after Invalid k = cc
-        after y k = cc
-    stored (Walking aim l at) gref half word a e f = leg-store l at (subst IsStore (sym (makes-same _ _ e)) tt)
-    stored (Last last verdict) gref half word a e f = subst (RestsOnRequest (known_at s h x.id) x.id c.request) (makes-same _ _ e) a.1
-    stored (Ending held verdict) gref half word a e f = by-giving (λ (z : Step). IsStore z → ⊥) (λ p n k. k) (last_first held) verdict _ e tt
-    stored p gref half word a e f = cc
+store-goes s h xs x o c new v t store = by o.step refl store where
+  stored : (p : Phase) (gref : GrantRef) (half : Half) (word : ℕ) → HasShown (known_at s h x.id) (path (known_at s h x.id) x.id c.request) x.id c.request (values c) p → action_at x.id p ≡ Makes (StoreBody gref half word)
+      → Done v ≡ action_at x.id (phase_after (known_at s h x.id) x.id p Nothing) → ⊥
+  stored (Storing g entry) gref half word a e f = after entry f where
+    after : (y : Entry) → Done v ≡ action_at x.id (after_store (known_at s h x.id) g y) → ⊥
+    after Invalid k = cc
+    after y k = cc
+  stored (Walking aim l at) gref half word a e f = leg-store l at (subst IsStore (sym (makes-same _ _ e)) tt)
+  stored (Last last verdict) gref half word a e f = subst (RestsOnRequest (known_at s h x.id) x.id c.request) (makes-same _ _ e) a.1
+  stored (Ending held verdict) gref half word a e f = by-giving (λ (z : Step). IsStore z → ⊥) (λ p n k. k) (last_first held) verdict _ e tt
+  stored p gref half word a e f = cc
 
-    by : (step : Step) → o.step ≡ step → IsStore step → ⊥
-    by (StoreBody gref half word) is n =
-        stored t.stands.phase gref half word t.stands.at.has_shown (t.stands.acts ∙ ap Makes is) (t.acts ∙ ap (λ (z : Step). action_at x.id (next_of s h x.id t.stands.phase z)) is)
-    by step is n = n
+  by : (step : Step) → o.step ≡ step → IsStore step → ⊥
+  by (StoreBody gref half word) is n =
+      stored t.stands.phase gref half word t.stands.at.has_shown (t.stands.acts ∙ ap Makes is) (t.acts ∙ ap (λ (z : Step). action_at x.id (next_of s h x.id t.stands.phase z)) is)
+  by step is n = n
 
 none-held : (s : Setting) (h : History) (xs : List State) (x : State) (o : Open) (c : Underway) (new : Call) (v : Verdict) (answer : Answer) → (t : Ticks s h xs x o c new (Done v)) → one_if_mapped (Some answer) ≡ 0 → ((n : ℕ) → holder_after (Some answer) n ≡ ByLeg n)
     → ((m : Held) → v ≡ KeptPin m → ⊥) → legs_at (stepped x.id o.step (seen_by s h x.id o.step) (Some answer) ∷ h) x.id.0 ≡ []
@@ -161,8 +140,7 @@ plain-leg answer a n = refl
 pub ends-core : (s : Setting) (h : History) (xs ys : List State) (x : State) (o : Open) (c : Underway) (new : Call) (v : Verdict) (answer : Answer) → Ticks s h xs x o c new (Done v) → Replaced xs ys x (record x { underway = None })
     → IsPlainAnswer answer → ((m : Held) → v ≡ KeptPin m → ⊥) → refusal_of answer ≡ refusal_in (Some v) → GivesValue s h x.id c.request (Some o.step) answer
     → Ticked s h x.id o.step (seen_by s h x.id o.step) (Some answer) (applied x.id o.step (seen_by s h x.id o.step) ys)
-ends-core s h xs ys x o c new v answer t r plain unmapped same value =
-    let seen = seen_by s h x.id o.step in
+ends-core s h xs ys x o c new v answer t r plain unmapped same value = let seen = seen_by s h x.id o.step in
     let legs = none-held s h xs x o c new v answer t (plain-maps answer plain) (plain-leg answer plain) unmapped in (
       right-in s h x.id o.step seen (Some answer) c t.call (ends-right s h xs x o c new v answer t same legs value),
       step-stands s h xs ys x c t.stands.phase o.step (Some answer) None (here-of s h xs x o c t.st t.here t.stands) (last-fact s h xs x o c new (Done v) t) t.here t.agrees r (plain-maps answer plain) (plain-leg answer plain)
@@ -191,37 +169,36 @@ refused-core s h xs ys x o c new denial t r =
 -- a map with its pin
 pub mapped-core : (s : Setting) (h : History) (xs ys : List State) (x : State) (o : Open) (c : Underway) (new : Call) (held : Held) (handle : Handle) (kept : Kept Held) → Ticks s h xs x o c new (Done (KeptPin held)) → Replaced xs ys x (record x { mappings = kept; underway = None })
     → Adds x.mappings kept handle held → Ticked s h x.id o.step (seen_by s h x.id o.step) (Some (Mapped handle)) (applied x.id o.step (seen_by s h x.id o.step) ys)
-mapped-core s h xs ys x o c new held handle kept t r adds = by (seen_by s h x.id o.step) refl
-  where
-    d : DomId
-    d = x.id
+mapped-core s h xs ys x o c new held handle kept t r adds = by (seen_by s h x.id o.step) refl where
+  d : DomId
+  d = x.id
 
-    i : IsHere s h xs x.id c.request (values c) (reverse c.steps) t.stands.phase o.step
-    i = here-of s h xs x o c t.st t.here t.stands
+  i : IsHere s h xs x.id c.request (values c) (reverse c.steps) t.stands.phase o.step
+  i = here-of s h xs x o c t.st t.here t.stands
 
-    by : (seen : Seen) → seen_by s h d o.step ≡ seen → Ticked s h d o.step seen (Some (Mapped handle)) (applied d o.step seen ys)
-    by seen saw =
-        let m = mapped-ends s h xs d c.request (values c) (reverse c.steps) t.stands.phase o.step held i (sym t.acts) in
-        let taken : seen ≡ Taken = sym saw ∙ ap (seen_by s h d) m.is ∙ ap (λ (b : Bool). cond b Taken (Missed (word_at s h held.dom.0 held.gref.0))) (eq-eqb (word_at s h held.dom.0 held.gref.0) held.word m.taken) in
-        let j : IsHere s h xs d c.request (values c) (reverse c.steps) t.stands.phase (PinStep held) = subst (IsHere s h xs d c.request (values c) (reverse c.steps) t.stands.phase) m.is i in
-        let can : CanPin s h d c.request held = can-pin s h xs d c.request (values c) (reverse c.steps) t.stands.phase held j m.taken in
-        let law = map-lawful s h d c.request held (values c) (pins_at t.stands.phase) j.rests.0 j.rests.1 m.dom m.gref m.flags m.of_map in
-        let lawful : IsLawful s (new_pin h d held (Some (Mapped handle))) =
-        subst (λ (q : Held). IsLawfullyHeld s (record { actor = d.0; holder = ByMapping handle; held = q }) (ByMapping handle)) (sym can.is) law in
-        let legs : legs_at (pins d held (Some (Mapped handle)) ∷ h) d.0 ≡ [] = map-legs h d held handle ∙ t.stands.held ∙ ap (λ (l : List Held). numbered 0 (reverse l)) m.none in
-        let maps = map-agrees h d held handle x.mappings kept (subst (λ (q : Held). Adds x.mappings kept handle q) (sym can.is) adds) t.agrees.mappings in
-        let after = pin-stands s h xs ys x held (Some (Mapped handle)) kept None t.st t.here t.agrees r can.valid can.few lawful maps (call-over s h d (PinStep held) Taken (Mapped handle) legs) (given-goes-on d (PinStep held) Taken (Some (Mapped handle)) h x.given t.agrees.given) in
-        let same_step : stepped d o.step (seen_by s h d o.step) (Some (Mapped handle)) ≡ pins d held (Some (Mapped handle)) =
-        ap (λ (v : Seen). stepped d o.step v (Some (Mapped handle))) (saw ∙ taken) ∙ ap (λ (z : Step). stepped d z Taken (Some (Mapped handle))) m.is in
-        let value : GivesValue s h d c.request (Some o.step) (Mapped handle) =
-        subst (λ (z : Step). GivesValue s h d c.request (Some z) (Mapped handle)) (sym m.is)
-        (subst (λ (q : Asked). GivesValue s h d q (Some (PinStep held)) (Mapped handle)) (sym m.of_map) (adds.serial ∙ t.agrees.mappings.given)) in (
-          subst (λ (v : Seen). IsRight s h (stepped d o.step v (Some (Mapped handle)))) saw
-              (right-in s h d o.step (seen_by s h d o.step) (Some (Mapped handle)) c t.call
-              (ends-right s h xs x o c new (KeptPin held) (Mapped handle) t refl (ap (λ (k : Item). legs_at (k ∷ h) d.0) same_step ∙ legs) value)),
-          subst (λ (z : Step). DomainsStand s (stepped d z seen (Some (Mapped handle)) ∷ h) (applied d z seen ys)) (sym m.is)
-              (subst (λ (v : Seen). DomainsStand s (stepped d (PinStep held) v (Some (Mapped handle)) ∷ h) (applied d (PinStep held) v ys)) (sym taken) after),
-        )
+  by : (seen : Seen) → seen_by s h d o.step ≡ seen → Ticked s h d o.step seen (Some (Mapped handle)) (applied d o.step seen ys)
+  by seen saw =
+      let m = mapped-ends s h xs d c.request (values c) (reverse c.steps) t.stands.phase o.step held i (sym t.acts) in
+      let taken : seen ≡ Taken = sym saw ∙ ap (seen_by s h d) m.is ∙ ap (λ (b : Bool). cond b Taken (Missed (word_at s h held.dom.0 held.gref.0))) (eq-eqb (word_at s h held.dom.0 held.gref.0) held.word m.taken) in
+      let j : IsHere s h xs d c.request (values c) (reverse c.steps) t.stands.phase (PinStep held) = subst (IsHere s h xs d c.request (values c) (reverse c.steps) t.stands.phase) m.is i in
+      let can : CanPin s h d c.request held = can-pin s h xs d c.request (values c) (reverse c.steps) t.stands.phase held j m.taken in
+      let law = map-lawful s h d c.request held (values c) (pins_at t.stands.phase) j.rests.0 j.rests.1 m.dom m.gref m.flags m.of_map in
+      let lawful : IsLawful s (new_pin h d held (Some (Mapped handle))) =
+      subst (λ (q : Held). IsLawfullyHeld s (record { actor = d.0; holder = ByMapping handle; held = q }) (ByMapping handle)) (sym can.is) law in
+      let legs : legs_at (pins d held (Some (Mapped handle)) ∷ h) d.0 ≡ [] = map-legs h d held handle ∙ t.stands.held ∙ ap (λ (l : List Held). numbered 0 (reverse l)) m.none in
+      let maps = map-agrees h d held handle x.mappings kept (subst (λ (q : Held). Adds x.mappings kept handle q) (sym can.is) adds) t.agrees.mappings in
+      let after = pin-stands s h xs ys x held (Some (Mapped handle)) kept None t.st t.here t.agrees r can.valid can.few lawful maps (call-over s h d (PinStep held) Taken (Mapped handle) legs) (given-goes-on d (PinStep held) Taken (Some (Mapped handle)) h x.given t.agrees.given) in
+      let same_step : stepped d o.step (seen_by s h d o.step) (Some (Mapped handle)) ≡ pins d held (Some (Mapped handle)) =
+      ap (λ (v : Seen). stepped d o.step v (Some (Mapped handle))) (saw ∙ taken) ∙ ap (λ (z : Step). stepped d z Taken (Some (Mapped handle))) m.is in
+      let value : GivesValue s h d c.request (Some o.step) (Mapped handle) =
+      subst (λ (z : Step). GivesValue s h d c.request (Some z) (Mapped handle)) (sym m.is)
+      (subst (λ (q : Asked). GivesValue s h d q (Some (PinStep held)) (Mapped handle)) (sym m.of_map) (adds.serial ∙ t.agrees.mappings.given)) in (
+        subst (λ (v : Seen). IsRight s h (stepped d o.step v (Some (Mapped handle)))) saw
+            (right-in s h d o.step (seen_by s h d o.step) (Some (Mapped handle)) c t.call
+            (ends-right s h xs x o c new (KeptPin held) (Mapped handle) t refl (ap (λ (k : Item). legs_at (k ∷ h) d.0) same_step ∙ legs) value)),
+        subst (λ (z : Step). DomainsStand s (stepped d z seen (Some (Mapped handle)) ∷ h) (applied d z seen ys)) (sym m.is)
+            (subst (λ (v : Seen). DomainsStand s (stepped d (PinStep held) v (Some (Mapped handle)) ∷ h) (applied d (PinStep held) v ys)) (sym taken) after),
+      )
 
 -- a call that is answered Ok with no value but bytes
 
@@ -230,42 +207,38 @@ read-gives : (s : Setting) (h : History) (xs : List State) (fs : FrameSet) (x : 
     → b.bytes.items ≡ bytes_at (frame_at fs (record { owner = dom; number = frame })) off len → GivesValue s h x.id c.request (Some (ReadBytes dom frame off len)) (BytesAnswer b)
 read-gives s h xs fs x o c new dom frame off len b t fr is gives =
     let i = subst (IsHere s h xs x.id c.request (values c) (reverse c.steps) t.stands.phase) is (here-of s h xs x o c t.st t.here t.stands) in
-    by i.rests.1 (gives ∙ bytes-held s h fs dom frame off len fr)
-  where
-    by : RestsOnRequest (known_at s h x.id) x.id c.request (ReadBytes dom frame off len) → b.bytes.items ≡ take len (drop off (contents_at h dom.0 frame))
-        → GivesValue s h x.id c.request (Some (ReadBytes dom frame off len)) (BytesAnswer b)
-    by (inl (handle, asked, mapped)) bytes = subst (λ (q : Asked). GivesValue s h x.id q (Some (ReadBytes dom frame off len)) (BytesAnswer b)) (sym asked) bytes
-    by (inr (asked, own)) bytes = subst (λ (q : Asked). GivesValue s h x.id q (Some (ReadBytes dom frame off len)) (BytesAnswer b)) (sym asked) bytes
+    by i.rests.1 (gives ∙ bytes-held s h fs dom frame off len fr) where
+      by : RestsOnRequest (known_at s h x.id) x.id c.request (ReadBytes dom frame off len) → b.bytes.items ≡ take len (drop off (contents_at h dom.0 frame))
+          → GivesValue s h x.id c.request (Some (ReadBytes dom frame off len)) (BytesAnswer b)
+      by (inl (handle, asked, mapped)) bytes = subst (λ (q : Asked). GivesValue s h x.id q (Some (ReadBytes dom frame off len)) (BytesAnswer b)) (sym asked) bytes
+      by (inr (asked, own)) bytes = subst (λ (q : Asked). GivesValue s h x.id q (Some (ReadBytes dom frame off len)) (BytesAnswer b)) (sym asked) bytes
 
 granted-core : (s : Setting) (h : History) (fs : FrameSet) (xs zs : List State) (at : ℕ) (x : State) (o : Open) (c : Underway) (new : Call) (answer : Answer) → Ticks s h xs x o c new (Done Granted) → FramesStand s h fs
     → Replaced xs (set xs at (with_underway None x)) x (record x { underway = None }) → Closed fs xs at x o.step answer zs
     → Ticked s h x.id o.step (seen_by s h x.id o.step) (Some answer) (applied x.id o.step (seen_by s h x.id o.step) zs)
-granted-core s h fs xs zs at x o c new answer t fr plain settled = by o.step refl settled
-  where
-    d : DomId
-    d = x.id
+granted-core s h fs xs zs at x o c new answer t fr plain settled = by o.step refl settled where
+  d : DomId
+  d = x.id
 
-    Goal : Type 0
-    Goal = Ticked s h d o.step (seen_by s h d o.step) (Some answer) (applied d o.step (seen_by s h d o.step) zs)
+  Goal : Type 0
+  Goal = Ticked s h d o.step (seen_by s h d o.step) (Some answer) (applied d o.step (seen_by s h d o.step) zs)
 
-    ends : (a : Answer) → answer ≡ a → IsPlainAnswer a → refusal_of a ≡ None → zs ≡ set xs at (with_underway None x) → GivesValue s h d c.request (Some o.step) a → Goal
-    ends a done is_plain same left value =
-        subst (λ (b : Answer). Ticked s h d o.step (seen_by s h d o.step) (Some b) (applied d o.step (seen_by s h d o.step) zs)) (sym done)
-        (subst (λ (l : List State). Ticked s h d o.step (seen_by s h d o.step) (Some a) (applied d o.step (seen_by s h d o.step) l)) (sym left)
-        (ends-core s h xs (set xs at (with_underway None x)) x o c new Granted a t plain is_plain (λ m e. cc) same value))
+  ends : (a : Answer) → answer ≡ a → IsPlainAnswer a → refusal_of a ≡ None → zs ≡ set xs at (with_underway None x) → GivesValue s h d c.request (Some o.step) a → Goal
+  ends a done is_plain same left value =
+      subst (λ (b : Answer). Ticked s h d o.step (seen_by s h d o.step) (Some b) (applied d o.step (seen_by s h d o.step) zs)) (sym done)
+      (subst (λ (l : List State). Ticked s h d o.step (seen_by s h d o.step) (Some a) (applied d o.step (seen_by s h d o.step) l)) (sym left)
+      (ends-core s h xs (set xs at (with_underway None x)) x o c new Granted a t plain is_plain (λ m e. cc) same value))
 
-    over : (step : Step) → o.step ≡ step → (answer ≡ AnswerDone) × (zs ≡ set xs at (with_underway None x)) → ((dom : DomId) (frame off len : ℕ) → step ≡ ReadBytes dom frame off len → ⊥) → Goal
-    over step is (done, left) read =
-        ends AnswerDone done tt refl left
-        (granted-value s h xs d c.request (values c) (reverse c.steps) t.stands.phase o.step (here-of s h xs x o c t.st t.here t.stands) (λ dom frame off len e. read dom frame off len (sym is ∙ e)) (sym t.acts))
+  over : (step : Step) → o.step ≡ step → (answer ≡ AnswerDone) × (zs ≡ set xs at (with_underway None x)) → ((dom : DomId) (frame off len : ℕ) → step ≡ ReadBytes dom frame off len → ⊥) → Goal
+  over step is (done, left) read = ends AnswerDone done tt refl left
+      (granted-value s h xs d c.request (values c) (reverse c.steps) t.stands.phase o.step (here-of s h xs x o c t.st t.here t.stands) (λ dom frame off len e. read dom frame off len (sym is ∙ e)) (sym t.acts))
 
-    by : (step : Step) → o.step ≡ step → Closed fs xs at x step answer zs → Goal
-    by (ReadBytes dom frame off len) is (b, done, left, gives) =
-        ends (BytesAnswer b) done tt refl left
-        (subst (λ (z : Step). GivesValue s h d c.request (Some z) (BytesAnswer b)) (sym is) (read-gives s h xs fs x o c new dom frame off len b t fr is gives))
-    by (WriteBytes dom frame off len) is a = over (WriteBytes dom frame off len) is a (λ t frame off len e. cc)
-    by (CopyBytes from to len) is a = over (CopyBytes from to len) is a (λ t frame off len e. cc)
-    by step is a = over step is a (λ t frame off len e. cc)
+  by : (step : Step) → o.step ≡ step → Closed fs xs at x step answer zs → Goal
+  by (ReadBytes dom frame off len) is (b, done, left, gives) = ends (BytesAnswer b) done tt refl left
+      (subst (λ (z : Step). GivesValue s h d c.request (Some z) (BytesAnswer b)) (sym is) (read-gives s h xs fs x o c new dom frame off len b t fr is gives))
+  by (WriteBytes dom frame off len) is a = over (WriteBytes dom frame off len) is a (λ t frame off len e. cc)
+  by (CopyBytes from to len) is a = over (CopyBytes from to len) is a (λ t frame off len e. cc)
+  by step is a = over step is a (λ t frame off len e. cc)
 
 -- the ways that a tick goes
 
@@ -294,14 +267,12 @@ pub record Begun (s : Setting) (h : History) (xs : List State) (dom : DomId) (at
   pub replaced : (new : State) → new.id.0 ≡ x.id.0 → Replaced xs (set xs at new) x new
 
 begun : (s : Setting) (h : History) (xs : List State) (dom : DomId) (at : ℕ) (x : State) (o : Open) (seen : Seen) (new : Call) (action : Action) → DomainsStand s h xs → Begins s xs dom at x o seen new action → Begun s h xs dom at x o seen new action
-begun s h xs dom at x o seen new action st b =
-    let a = agrees-found s h xs dom at x b.place b.here st in
+begun s h xs dom at x o seen new action st b = let a = agrees-found s h xs dom at x b.place b.here st in
     let f : state_of xs dom.0 ≡ Some x = found xs dom.0 at x b.place ∙ ap (λ (y : State). Some y) (sym b.here) in
     let g : state_of xs x.id.0 ≡ Some x = ap (λ (z : DomId). state_of xs z.0) a.1 ∙ f in
     let u = call-here s h x.id x.underway (open_call h x.id.0) o b.under a.2.call in
     let t = ticks s h xs x o u.0 seen new action st g a.2 u.1 u.2 (b.saw ∙ ap (λ (z : DomId). sees xs z o.step) (sym a.1)) b.caller b.asks b.goes in
-    let places = position-Some (has_id dom.0) xs at x b.place in
-    record {
+    let places = position-Some (has_id dom.0) xs at x b.place in record {
       named = a.0;
       is = a.1;
       c = u.0;
@@ -322,29 +293,27 @@ settle s h xs dom at x o seen new action answer zs b t =
 action-core : (s : Setting) (h : History) (fs : FrameSet) (xs zs : List State) (at : ℕ) (x : State) (o : Open) (c : Underway) (new : Call) (action : Action) (answer : Option Answer) → Ticks s h xs x o c new action → FramesStand s h fs
     → ((y : State) → y.id.0 ≡ x.id.0 → Replaced xs (set xs at y) x y) → Settled fs xs at x o.step new action answer zs
     → Ticked s h x.id o.step (seen_by s h x.id o.step) answer (applied x.id o.step (seen_by s h x.id o.step) zs)
-action-core s h fs xs zs at x o c new action answer t fr r settled = by action t settled
-  where
-    Goal : Option Answer → List State → Type 0
-    Goal a ys = Ticked s h x.id o.step (seen_by s h x.id o.step) a (applied x.id o.step (seen_by s h x.id o.step) ys)
+action-core s h fs xs zs at x o c new action answer t fr r settled = by action t settled where
+  Goal : Option Answer → List State → Type 0
+  Goal a ys = Ticked s h x.id o.step (seen_by s h x.id o.step) a (applied x.id o.step (seen_by s h x.id o.step) ys)
 
-    become : (a : Option Answer) (ys : List State) → answer ≡ a → zs ≡ ys → Goal a ys → Goal answer zs
-    become a ys is left b = subst (λ (z : Option Answer). Goal z zs) (sym is) (subst (Goal a) (sym left) b)
+  become : (a : Option Answer) (ys : List State) → answer ≡ a → zs ≡ ys → Goal a ys → Goal answer zs
+  become a ys is left b = subst (λ (z : Option Answer). Goal z zs) (sym is) (subst (Goal a) (sym left) b)
 
-    told : (a : Answer) (b : Answer) → answer ≡ Some a → a ≡ b → answer ≡ Some b
-    told a b is gives = is ∙ ap (λ (z : Answer). Some z) gives
+  told : (a : Answer) (b : Answer) → answer ≡ Some a → a ≡ b → answer ≡ Some b
+  told a b is gives = is ∙ ap (λ (z : Answer). Some z) gives
 
-    by : (z : Action) → Ticks s h xs x o c new z → Settled fs xs at x o.step new z answer zs → Goal answer zs
-    by (Makes z) t (none, left) = become None _ none left (goes-core s h xs _ x o c new z t (r (with_underway (Some (record { call = new; step = z })) x) refl))
-    by (Done Granted) t (a, is, closed) = become (Some a) zs is refl (granted-core s h fs xs zs at x o c new a t fr (r (with_underway None x) refl) closed)
-    by (Done (KeptPin held)) t (a, is, (handle, kept, gives, adds, left)) = become (Some (Mapped handle)) _ (told a (Mapped handle) is gives) left (mapped-core s h xs _ x o c new held handle kept t (r (with_mapping kept x) refl) adds)
-    by (Done (Given value)) t (a, is, (gives, left)) = become (Some (answer_with value)) _ (told a (answer_with value) is gives) left (given-core s h xs _ x o c new value t (r (with_underway None x) refl))
-    by (Done (Refused denial)) t (a, is, (gives, left)) = become (Some (Denied denial)) _ (told a (Denied denial) is gives) left (refused-core s h xs _ x o c new denial t (r (with_underway None x) refl))
+  by : (z : Action) → Ticks s h xs x o c new z → Settled fs xs at x o.step new z answer zs → Goal answer zs
+  by (Makes z) t (none, left) = become None _ none left (goes-core s h xs _ x o c new z t (r (with_underway (Some (record { call = new; step = z })) x) refl))
+  by (Done Granted) t (a, is, closed) = become (Some a) zs is refl (granted-core s h fs xs zs at x o c new a t fr (r (with_underway None x) refl) closed)
+  by (Done (KeptPin held)) t (a, is, (handle, kept, gives, adds, left)) = become (Some (Mapped handle)) _ (told a (Mapped handle) is gives) left (mapped-core s h xs _ x o c new held handle kept t (r (with_mapping kept x) refl) adds)
+  by (Done (Given value)) t (a, is, (gives, left)) = become (Some (answer_with value)) _ (told a (answer_with value) is gives) left (given-core s h xs _ x o c new value t (r (with_underway None x) refl))
+  by (Done (Refused denial)) t (a, is, (gives, left)) = become (Some (Denied denial)) _ (told a (Denied denial) is gives) left (refused-core s h xs _ x o c new denial t (r (with_underway None x) refl))
 
 -- a map that is over had asked for its room when it began
 pub room-asked : (s : Setting) (h : History) (xs : List State) (dom : DomId) (at : ℕ) (x : State) (o : Open) (seen : Seen) (new : Call) (action : Action) → DomainsStand s h xs → Begins s xs dom at x o seen new action → IsRoomFor o.call.request action
 room-asked s h xs dom at x o seen new (Done (KeptPin held)) st b =
-    let n = begun s h xs dom at x o seen new (Done (KeptPin held)) st b in
-    let t = n.ticks in
+    let n = begun s h xs dom at x o seen new (Done (KeptPin held)) st b in let t = n.ticks in
     let m = mapped-ends s h xs x.id n.c.request (values n.c) (reverse n.c.steps) t.stands.phase o.step held (here-of s h xs x o n.c t.st t.here t.stands) (sym t.acts) in
     subst (λ (q : Asked). IsMapping (Some q)) (sym (t.stands.asks ∙ m.of_map)) tt
 room-asked s h xs dom at x o seen new action st b = tt
@@ -352,16 +321,14 @@ room-asked s h xs dom at x o seen new action st b = tt
 -- a tick for which memory is wanted
 pub tick-wants : (s : Setting) (h : History) (xs : List State) (dom : DomId) (at : ℕ) (x : State) (o : Open) → position (has_id dom.0) xs ≡ Some at → x ≡ get_or xs at x → x.underway ≡ Some o → DomainsStand s h xs → IsWriting o.step
     → WantsMemoryNow s h dom
-tick-wants s h xs dom at x o place here under st writing =
-    let a = agrees-found s h xs dom at x place here st in
+tick-wants s h xs dom at x o place here under st writing = let a = agrees-found s h xs dom at x place here st in
     let u = call-here s h x.id x.underway (open_call h x.id.0) o under a.2.call in
     subst (WantsMemoryNow s h) a.1 (u.0, u.1, subst IsWritingNext (sym u.2.follows) writing)
 
 -- the open call of the domain asked
 open-here : (s : Setting) (h : History) (xs : List State) (dom : DomId) (at : ℕ) (x : State) (o : Open) → position (has_id dom.0) xs ≡ Some at → x ≡ get_or xs at x → x.underway ≡ Some o → DomainsStand s h xs
     → (x.id ≡ dom) × Agrees s h x × ((c : Underway) × (open_call h x.id.0 ≡ Some c) × OpenAgrees s h x.id o c)
-open-here s h xs dom at x o place here under st =
-    let a = agrees-found s h xs dom at x place here st in
+open-here s h xs dom at x o place here under st = let a = agrees-found s h xs dom at x place here st in
     (a.1, a.2, call-here s h x.id x.underway (open_call h x.id.0) o under a.2.call)
 
 -- what its step writes is by right

@@ -22,15 +22,14 @@ unfolding raises_at
 reached-keeps s i h t r generation le = omega arith
 
 looked-keeps : (s : Setting) (i : Item) (h : History) (l : Leg) (so_far : StepsSoFar) (more word : ℕ) → HasLooked s h l so_far more word → HasLooked s (i ∷ h) l so_far more word
-looked-keeps s i h l so_far more word a =
-    record {
-      within = a.within;
-      turn = a.turn;
-      looked = a.looked;
-      passed = a.passed;
-      reached = reached-keeps s i h l.dom.0 l.gref.0 (control_of word).generation a.reached;
-      shown = same-keeps s i h l word (IsShown (control_of word)) a.reached a.shown;
-    }
+looked-keeps s i h l so_far more word a = record {
+  within = a.within;
+  turn = a.turn;
+  looked = a.looked;
+  passed = a.passed;
+  reached = reached-keeps s i h l.dom.0 l.gref.0 (control_of word).generation a.reached;
+  shown = same-keeps s i h l word (IsShown (control_of word)) a.reached a.shown;
+}
 
 read-keeps : (s : Setting) (i : Item) (h : History) (l : Leg) (so_far : StepsSoFar) (word body second : ℕ) (rule : Option Rule) → (control_of word).generation ≤ generation_at s h l.dom.0 l.gref.0
     → HasRead s h l so_far word body second rule → HasRead s (i ∷ h) l so_far word body second rule

@@ -1,10 +1,6 @@
 -- A body word stored on an invalid entry keeps what a core stands for.
-use Rattle.gt_core.proofs.Words.{◌≡◌, ◌≢◌, ◌+◌, ℕ, refl, Bool, true, false, List, ◌∷◌, Option, Some, None, cond, sym, ap, ◌∙◌, subst, eqb-true, eq-eqb, none-some, same_Some, ◌==◌, ◌&&◌, All, count_by, slice_get, option_map, fun_ext, DomId, GrantRef, Read, Write, Entry, Invalid, Half, FirstHalf, SecondHalf, IsEntry, StoreBody, Nothing, control_with, PinCounts, Stored, Open, Item, Stepped, changed_at, State, state_of, changed_in, with_slot, slot_after, History, Setting, Pin, entry_at, generation_at, body_at, reads_at, writes_at, control_at, or_else, stored_at, is_pin_on, open_call, IsSpelled, IsLawful, FitsTable, FitsWord, SlotAgrees, Agrees, DomainsStand, CallAgrees, GivenAgrees}
-use Rattle.gt_core.specs.History.{same_half}
-use Rattle.gt_core.proofs.Rows.{get-changed, length-changed}
-use Rattle.gt_core.proofs.Quiet.{KeepsKnown, kept-entry, kept-raises, kept-live, kept-table, kept-generations}
-use Rattle.gt_core.proofs.Others.{other-body}
-use Rattle.gt_core.proofs.Keeping.{stepped, SlotsAgree, becomes-changed, each-stands, other-agrees, mappings-stay, same-number}
+use Rattle.gt_core.proofs.Words.{◌≡◌, ◌≢◌, ◌+◌, ℕ, refl, Bool, true, false, List, ◌∷◌, Option, Some, None, cond, sym, ap, ◌∙◌, subst, eqb-true, eq-eqb, none-some, same_Some, ◌==◌, ◌&&◌, All, count_by, slice_get, option_map, fun_ext, DomId, GrantRef, Read, Write, Entry, Invalid, Half, FirstHalf, SecondHalf, IsEntry, StoreBody, Nothing, control_with, PinCounts, Stored, Open, Item, Stepped, changed_at, State, state_of, changed_in, with_slot, slot_after, History, Setting, Pin, entry_at, generation_at, body_at, reads_at, writes_at, control_at, or_else, stored_at, is_pin_on, open_call, IsSpelled, IsLawful, FitsTable, FitsWord, SlotAgrees, Agrees, DomainsStand, CallAgrees, GivenAgrees, same_half}
+pub use Rattle.gt_core.proofs.Keeping.{known-as, slot-kept, actor-agrees, kept-stands, own-each, stepped, SlotsAgree, mappings-stay, same-number, get-changed, length-changed, KeepsKnown, kept-entry, kept-raises, kept-live, kept-table, kept-generations, other-body, KeepsEntries, known-same, open_call-own, stood-own, cond-same, kept-known, kept-legs, IsStore, placed, place-stays, BodyStays, IsHere, makes-same, step-within, step-publishes, seen-fits, by-giving, sees-agree, judged}
 
 -- the item of a store
 abbrev pub stores : DomId → GrantRef → Half → ℕ → Item
@@ -26,14 +22,12 @@ half-stays d gref half word r which h e = own-stored d gref half word h r which 
 
 -- and the one stored is the word
 pub half-stored : (d : DomId) (gref : GrantRef) (half : Half) (word : ℕ) (h : History) → body_at (stores d gref half word ∷ h) d.0 gref.0 half ≡ word
-half-stored d gref half word h =
-    own-stored d gref half word h gref.0 half
+half-stored d gref half word h = own-stored d gref half word h gref.0 half
     ∙ ap (λ (b : Bool). or_else (cond (b && same_half half half) (Some word) None) (body_at h d.0 gref.0 half)) (eq-eqb gref.0 gref.0 refl)
-    ∙ by half
-  where
-    by : (z : Half) → or_else (cond (same_half z z) (Some word) None) (body_at h d.0 gref.0 half) ≡ word
-    by FirstHalf = refl
-    by SecondHalf = refl
+    ∙ by half where
+      by : (z : Half) → or_else (cond (same_half z z) (Some word) None) (body_at h d.0 gref.0 half) ≡ word
+      by FirstHalf = refl
+      by SecondHalf = refl
 
 and-false : (b : Bool) → (b && false) ≡ false
 and-false true = refl
@@ -54,16 +48,14 @@ elsewhere-stays d gref half word r which h apart = half-stays d gref half word r
 slot-stored : (d : DomId) (gref : GrantRef) (half : Half) (word : ℕ) (h : History) (slot : PinCounts) → SlotAgrees h d.0 gref.0 slot
     → SlotAgrees (stores d gref half word ∷ h) d.0 gref.0 (slot_after (Stored half word) slot)
 slot-stored d gref SecondHalf word h slot a =
-    let k = kept-live (stores d gref SecondHalf word) h (store-keeps d gref SecondHalf word) in
-    record {
+    let k = kept-live (stores d gref SecondHalf word) h (store-keeps d gref SecondHalf word) in record {
       reads = a.reads ∙ ap (λ (ps : List Pin). count_by (is_pin_on d.0 gref.0 Read) ps) (sym k);
       writes = a.writes ∙ ap (λ (ps : List Pin). count_by (is_pin_on d.0 gref.0 Write) ps) (sym k);
       first = a.first ∙ sym (first-stays d gref word gref.0 h);
       second = sym (half-stored d gref SecondHalf word h);
     }
 slot-stored d gref FirstHalf word h slot a =
-    let k = kept-live (stores d gref FirstHalf word) h (store-keeps d gref FirstHalf word) in
-    record {
+    let k = kept-live (stores d gref FirstHalf word) h (store-keeps d gref FirstHalf word) in record {
       reads = a.reads ∙ ap (λ (ps : List Pin). count_by (is_pin_on d.0 gref.0 Read) ps) (sym k);
       writes = a.writes ∙ ap (λ (ps : List Pin). count_by (is_pin_on d.0 gref.0 Write) ps) (sym k);
       first = sym (half-stored d gref FirstHalf word h);
@@ -72,14 +64,7 @@ slot-stored d gref FirstHalf word h slot a =
 
 slot-same : (d : DomId) (gref : GrantRef) (half : Half) (word t r : ℕ) (h : History) (slot : PinCounts) → ((which : Half) → body_at (stores d gref half word ∷ h) t r which ≡ body_at h t r which)
     → SlotAgrees h t r slot → SlotAgrees (stores d gref half word ∷ h) t r slot
-slot-same d gref half word t r h slot same a =
-    let k = kept-live (stores d gref half word) h (store-keeps d gref half word) in
-    record {
-      reads = a.reads ∙ ap (λ (ps : List Pin). count_by (is_pin_on t r Read) ps) (sym k);
-      writes = a.writes ∙ ap (λ (ps : List Pin). count_by (is_pin_on t r Write) ps) (sym k);
-      first = a.first ∙ sym (same FirstHalf);
-      second = a.second ∙ sym (same SecondHalf);
-    }
+slot-same d gref half word t r h slot same a = let i = stores d gref half word in slot-kept i h t r slot (kept-live i h (store-keeps d gref half word)) same a
 
 slots-stored : (d : DomId) (gref : GrantRef) (half : Half) (word : ℕ) (h : History) (slots : List PinCounts) → SlotsAgree h d.0 slots
     → SlotsAgree (stores d gref half word ∷ h) d.0 (changed_at gref.0 (slot_after (Stored half word)) slots)
@@ -101,20 +86,10 @@ slots-stored d gref half word h slots a r slot e = by (gref.0 == r) refl (sym (g
 store-agrees : (s : Setting) (h : History) (x : State) (gref : GrantRef) (half : Half) (word : ℕ) (o : Option Open) → Agrees s h x
     → CallAgrees s (stores x.id gref half word ∷ h) x.id o (open_call (stores x.id gref half word ∷ h) x.id.0) → GivenAgrees (stores x.id gref half word ∷ h) x.id.0 x.given
     → Agrees s (stores x.id gref half word ∷ h) (with_slot gref.0 (Stored half word) (record x { underway = o }))
-store-agrees s h x gref half word o a call given =
-    let i = stores x.id gref half word in
+store-agrees s h x gref half word o a call given = let i = stores x.id gref half word in
     let k = store-keeps x.id gref half word in
-    record {
-      header = a.header ∙ sym (kept-table s i h x.id refl);
-      rows = a.rows;
-      entries = a.entries ∙ fun_ext (λ r. sym (kept-entry i h x.id.0 r k));
-      generations = a.generations ∙ sym (kept-generations s i h x.id.0 k);
-      room = length-changed x.slots gref.0 (slot_after (Stored half word)) ∙ a.room;
-      slots = slots-stored x.id gref half word h x.slots a.slots;
-      mappings = mappings-stay i h x.id.0 x.mappings k a.mappings;
-      call = call;
-      given = given;
-    }
+    actor-agrees s i h x x.header (changed_at gref.0 (slot_after (Stored half word)) x.slots) x.mappings o x.given k.changes a (a.header ∙ sym (kept-table s i h x.id refl))
+    (length-changed x.slots gref.0 (slot_after (Stored half word)) ∙ a.room) (slots-stored x.id gref half word h x.slots a.slots) (mappings-stay i h x.id.0 x.mappings k a.mappings) call given
 
 -- a body word stored on an invalid entry keeps what the core stands for
 pub store-stands : (s : Setting) (h : History) (xs ys : List State) (x : State) (gref : GrantRef) (half : Half) (word : ℕ) (o : Option Open) → DomainsStand s h xs
@@ -122,32 +97,13 @@ pub store-stands : (s : Setting) (h : History) (xs ys : List State) (x : State) 
     → CallAgrees s (stores x.id gref half word ∷ h) x.id o (open_call (stores x.id gref half word ∷ h) x.id.0) → GivenAgrees (stores x.id gref half word ∷ h) x.id.0 x.given
     → DomainsStand s (stores x.id gref half word ∷ h) (changed_in x.id.0 (with_slot gref.0 (Stored half word)) ys)
 store-stands s h xs ys x gref half word o st here a invalid becomes call given =
-    record {
-      each = each-stands s i h xs _ x (record x { underway = o }) x.id.0 (with_slot gref.0 (Stored half word)) st here
-          (becomes-changed xs ys x (record x { underway = o }) x.id.0 (with_slot gref.0 (Stored half word)) (λ y. refl) becomes) refl (λ y. refl)
-          (subst (λ (b : Bool). Agrees s (i ∷ h) (cond b (with_slot gref.0 (Stored half word) (record x { underway = o })) (record x { underway = o }))) (sym (same-number x.id.0)) (store-agrees s h x gref half word o a call given))
-          (λ y apart b. subst (λ (c : Bool). Agrees s (i ∷ h) (cond c (with_slot gref.0 (Stored half word) y) y)) (sym apart)
-          (other-agrees s i h y y.slots apart b b.room (λ r slot e. slot-same x.id gref half word y.id.0 r h slot (λ which. other-body i h y.id.0 r which apart) (b.slots r slot e))));
-      tables = λ dom. subst FitsTable (sym (kept-table s i h dom refl)) (st.tables dom);
-      words = λ t r within. subst FitsWord (sym (kept-control t r)) (st.words t r within);
-      entries = λ t r. subst IsEntry (sym (kept-entry i h t r k)) (st.entries t r);
-      lawful = subst (All (IsLawful s)) (sym (kept-live i h k)) st.lawful;
-      free = λ t r e. let was = st.free t r (sym (kept-entry i h t r k) ∙ e) in
-          (ap (λ (ps : List Pin). count_by (is_pin_on t r Read) ps) (kept-live i h k) ∙ was.0, ap (λ (ps : List Pin). count_by (is_pin_on t r Write) ps) (kept-live i h k) ∙ was.1);
-      spelled = λ t r valid. spelled t r (λ e. valid (kept-entry i h t r k ∙ e));
-    }
+    kept-stands s i h xs _ (store-keeps x.id gref half word) st
+    (own-each s i h xs ys x o (with_slot gref.0 (Stored half word)) refl st here becomes (λ y. refl) (store-agrees s h x gref half word o a call given)
+    (λ y apart b r slot e. slot-same x.id gref half word y.id.0 r h slot (λ which. other-body i h y.id.0 r which apart) (b r slot e)))
+    (λ dom. subst FitsTable (sym (kept-table s i h dom refl)) (st.tables dom)) (λ t r valid. body-there t r valid (x.id.0 == t) (gref.0 == r) refl refl)
   where
     i : Item
     i = stores x.id gref half word
-
-    k : KeepsKnown i
-    k = store-keeps x.id gref half word
-
-    kept-control : (t r : ℕ) → control_at s (i ∷ h) t r ≡ control_at s h t r
-    kept-control t r =
-        ap (λ (e : Entry). control_with e (generation_at s (i ∷ h) t r) (reads_at (i ∷ h) t r) (writes_at (i ∷ h) t r)) (kept-entry i h t r k)
-        ∙ ap (λ (n : ℕ). control_with (entry_at h t r) (s.first_generation + n) (reads_at (i ∷ h) t r) (writes_at (i ∷ h) t r)) (kept-raises i h t r k)
-        ∙ ap (λ (ps : List Pin). control_with (entry_at h t r) (generation_at s h t r) (count_by (is_pin_on t r Read) ps) (count_by (is_pin_on t r Write) ps)) (kept-live i h k)
 
     body-there : (t r : ℕ) → entry_at h t r ≢ Invalid → (b e : Bool) → (x.id.0 == t) ≡ b → (gref.0 == r) ≡ e → (which : Half) → body_at (i ∷ h) t r which ≡ body_at h t r which
     body-there t r valid false e own at which = other-body i h t r which own
@@ -155,13 +111,3 @@ store-stands s h xs ys x gref half word o st here a invalid becomes call given =
         subst (λ (n : ℕ). body_at (i ∷ h) n r which ≡ body_at h n r which) (eqb-true x.id.0 t own) (elsewhere-stays x.id gref half word r which h at)
     body-there t r valid true true own at which =
         absurd (valid (subst (λ (n : ℕ). entry_at h n r ≡ Invalid) (eqb-true x.id.0 t own) (subst (λ (n : ℕ). entry_at h x.id.0 n ≡ Invalid) (eqb-true gref.0 r at) invalid)))
-
-    spelled-by : (t r : ℕ) (entry : Entry) → ((which : Half) → body_at (i ∷ h) t r which ≡ body_at h t r which) → IsSpelled entry (body_at h t r FirstHalf) (body_at h t r SecondHalf)
-        → IsSpelled entry (body_at (i ∷ h) t r FirstHalf) (body_at (i ∷ h) t r SecondHalf)
-    spelled-by t r entry b z =
-        subst (λ (n : ℕ). IsSpelled entry n (body_at (i ∷ h) t r SecondHalf)) (sym (b FirstHalf)) (subst (λ (n : ℕ). IsSpelled entry (body_at h t r FirstHalf) n) (sym (b SecondHalf)) z)
-
-    spelled : (t r : ℕ) → entry_at h t r ≢ Invalid → IsSpelled (entry_at (i ∷ h) t r) (body_at (i ∷ h) t r FirstHalf) (body_at (i ∷ h) t r SecondHalf)
-    spelled t r valid =
-        subst (λ (e : Entry). IsSpelled e (body_at (i ∷ h) t r FirstHalf) (body_at (i ∷ h) t r SecondHalf)) (sym (kept-entry i h t r k))
-        (spelled-by t r (entry_at h t r) (body-there t r valid (x.id.0 == t) (gref.0 == r) refl refl) (st.spelled t r valid))

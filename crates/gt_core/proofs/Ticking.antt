@@ -1,20 +1,9 @@
 -- A step of an open call is right, and the core stands for it.
-use Rattle.gt_core.proofs.Words.{◌≡◌, ◌≢◌, ◌<◌, ◌≤◌, ◌+◌, ◌⊎◌, inl, inr, ℕ, suc, refl, Bool, true, false, List, [], ◌∷◌, ◌++◌, length, Option, Some, None, cond, sym, ap, ◌∙◌, subst, reverse, arith, eqb-true, map-append, length-append, length-reverse, reverse_onto, none-some, same_Some, ◌==◌, All, DomId, GrantRef, Denial, Entry, Invalid, Sub, Header, Change, Half, FirstHalf, SecondHalf, Handle, Held, Pins, Asked, Demote, ByMapping, ByLeg, Seen, Nothing, Taken, Missed, Verdict, Granted, KeptPin, Step, PinStep, Unpin, StoreBody, StoreHeader, Exchange, ReadBytes, WriteBytes, CopyBytes, Action, Makes, Done, Call, Phase, Storing, StoringSecond, Walking, Last, Ending, last_first, no_pins, CallerKnowledge, knowledge_of, path, Rests, phase_after, action_at, next_to_give, after_store, StandsAt, HasShown, pins_at, held_in, Goes, GoesOn, most_of, steps_left, Open, Item, Answer, Stepped, State, state_of, sees, History, Setting, Pin, entry_at, generation_at, word_at, table_at, known_at, legs_at, mappings_at, mapping_of, maps_answered_at, seen_by, Underway, values, open_call, underway_after, holder_after, one_if_mapped, StepsSoFar, StepsRight, Justified, IsSafe, PinIsSound, AnsweredBy, GivesValue, LeavesAll, IsSpelled, gives_back, verdict_in, refusal_in, refusal_of, refusal_if, or_then, first_of_item, first_in_call, stood, most_steps, DomainsStand, Agrees, OpenAgrees, GivenAgrees, FitsGiven, PhaseStands, IsClean, phase_refusal, numbered, exchange_sees, gather, by_leg, header_stored, IsSubPage, Leg, LegPhase, leg_step, AtHeader, Continuation, body_at, second_body, publishing, RestsOnRequest, stored_at, or_else, first_body}
-use Rattle.std.proofs.lemmas.List.{reverse-append}
-use Rattle.gt_calls.specs.Following.{FitsNext, HoldsAfter}
-use Rattle.gt_calls.specs.Counting.{IsCounted}
-use Rattle.gt_core.proofs.Quiet.{KeepsKnown, kept-known, kept-legs, kept-table}
-use Rattle.gt_core.proofs.Seeing.{sees-agree}
-use Rattle.gt_core.proofs.Phases.{IsHere, makes-same, step-within, step-publishes, seen-fits, by-giving}
-use Rattle.gt_core.proofs.Judging.{judged}
-use Rattle.gt_core.proofs.Placing.{IsStore, placed, place-stays, BodyStays}
-use Rattle.gt_core.proofs.Keeping.{stepped, KeepsEntries, same-entry, same-generations, known-same, open_call-own, stood-own, cond-same}
-use Rattle.gt_core.proofs.Storing.{stores, half-stored, first-stays}
-use Rattle.gt_core.proofs.Pinning.{pins, leg-grows, leg-maps, answered-stays}
-use Rattle.gt_core.proofs.Unpinning.{unpins, leg-left, leg-mappings, mapping-legs, from-zero}
-use Rattle.gt_core.proofs.Beginning.{is-at, to-come, pins-there}
-use Rattle.gt_core.proofs.Acting.{can-change, can-pin, store-invalid}
-use Rattle.gt_core.proofs.Exchanging.{exchanged-live}
+use Rattle.gt_core.proofs.Words.{◌≡◌, ◌≢◌, ◌<◌, ◌≤◌, ◌+◌, ◌⊎◌, inl, inr, ℕ, suc, refl, Bool, true, false, List, [], ◌∷◌, ◌++◌, length, Option, Some, None, cond, sym, ap, ◌∙◌, subst, reverse, arith, eqb-true, map-append, length-append, length-reverse, reverse_onto, none-some, same_Some, ◌==◌, All, DomId, GrantRef, Denial, Entry, Invalid, Sub, Header, Change, Half, FirstHalf, SecondHalf, Handle, Held, Pins, Asked, Demote, ByMapping, ByLeg, Seen, Nothing, Taken, Missed, Verdict, Granted, KeptPin, Step, PinStep, Unpin, StoreBody, StoreHeader, Exchange, ReadBytes, WriteBytes, CopyBytes, Action, Makes, Done, Call, Phase, Storing, StoringSecond, Walking, Last, Ending, last_first, no_pins, CallerKnowledge, knowledge_of, path, Rests, phase_after, action_at, next_to_give, after_store, StandsAt, HasShown, pins_at, held_in, Goes, GoesOn, most_of, steps_left, Open, Item, Answer, Stepped, State, state_of, sees, History, Setting, Pin, entry_at, generation_at, word_at, table_at, known_at, legs_at, mappings_at, mapping_of, maps_answered_at, seen_by, Underway, values, open_call, underway_after, holder_after, one_if_mapped, StepsSoFar, StepsRight, Justified, IsSafe, PinIsSound, AnsweredBy, GivesValue, LeavesAll, IsSpelled, gives_back, verdict_in, refusal_in, refusal_of, refusal_if, or_then, first_of_item, first_in_call, stood, most_steps, DomainsStand, Agrees, OpenAgrees, GivenAgrees, FitsGiven, PhaseStands, IsClean, phase_refusal, numbered, exchange_sees, gather, by_leg, header_stored, IsSubPage, Leg, LegPhase, leg_step, AtHeader, Continuation, body_at, second_body, publishing, RestsOnRequest, stored_at, or_else, first_body, reverse-append, FitsNext, HoldsAfter, IsCounted}
+pub use Rattle.gt_core.proofs.Storing.{stores, half-stored, first-stays, store-stands, stepped, KeepsEntries, known-as, kept-entry, kept-raises, known-same, open_call-own, stood-own, cond-same, KeepsKnown, kept-known, kept-legs, kept-table, IsStore, placed, place-stays, BodyStays, IsHere, makes-same, step-within, step-publishes, seen-fits, by-giving, sees-agree, judged}
+pub use Rattle.gt_core.proofs.Unpinning.{unpins, leg-left, leg-mappings, mapping-legs, from-zero, Loses, unpin-stands, becomes-unpinned, loses-leg, loses-mapping, mapping-agrees, leg-agrees, pins, leg-grows, leg-maps, answered-stays}
+pub use Rattle.gt_core.proofs.Beginning.{is-at, to-come, pins-there, agrees-found, has_id, found, state_of-set}
+pub use Rattle.gt_core.proofs.Acting.{can-change, can-pin, store-invalid, header-fits, map-lawful, CanPin, exchanged-live, exchange-stands}
 use Rattle.gt_core.proofs.Accessing.{read-justified, write-justified, copy-justified}
 use Rattle.gt_core.proofs.Outcomes.{next_of, IsSingle, single-ends, taken-ends, clean-next, ends-so}
 
@@ -43,18 +32,15 @@ here-of s h xs x o c st here a =
 
 -- the call by its parts
 call-is : (call : Call) (d : DomId) (r : Asked) (p : Phase) → call.caller ≡ d → call.request ≡ r → call.phase ≡ Some p → call ≡ record { caller = d; request = r; phase = Some p }
-call-is call d r p a b e =
-    ap (λ (z : DomId). record { caller = z; request = call.request; phase = call.phase }) a
+call-is call d r p a b e = ap (λ (z : DomId). record { caller = z; request = call.request; phase = call.phase }) a
     ∙ ap (λ (z : Asked). record { caller = d; request = z; phase = call.phase }) b
     ∙ ap (λ (z : Option Phase). record { caller = d; request = r; phase = z }) e
 
 pub ticks : (s : Setting) (h : History) (xs : List State) (x : State) (o : Open) (c : Underway) (seen : Seen) (new : Call) (action : Action) → DomainsStand s h xs → state_of xs x.id.0 ≡ Some x → Agrees s h x → open_call h x.id.0 ≡ Some c
     → OpenAgrees s h x.id o c → seen ≡ sees xs x.id o.step → new.caller ≡ o.call.caller → new.request ≡ o.call.request
     → Goes (knowledge_of s.domains s.first_generation s.may x.own x.header x.mappings) o.call seen new action → (seen ≡ seen_by s h x.id o.step) × Ticks s h xs x o c new action
-ticks s h xs x o c seen new action st here agrees call a saw caller asks goes =
-    let k = known_at s h x.id in
-    let i = here-of s h xs x o c st here a in
-    let step = o.step in
+ticks s h xs x o c seen new action st here agrees call a saw caller asks goes = let k = known_at s h x.id in
+    let i = here-of s h xs x o c st here a in let step = o.step in
     let same : seen ≡ seen_by s h x.id step = saw ∙ sees-agree s h xs x.id step st (step-within s h xs x.id c.request (values c) (reverse c.steps) a.phase step i) in
     let old : Call = record { caller = x.id; request = c.request; phase = Some a.phase } in
     let g : Goes k old (seen_by s h x.id step) new action =
@@ -63,10 +49,8 @@ ticks s h xs x o c seen new action st here agrees call a saw caller asks goes =
     (subst (λ (v : Seen). Goes (knowledge_of s.domains s.first_generation s.may x.own x.header x.mappings) o.call v new action) same goes)) in
     let fits : FitsNext (path k x.id c.request (values c)) (seen_by s h x.id step) =
     subst (λ (z : Option Action). FitsNext z (seen_by s h x.id step)) (sym a.follows) (seen-fits s h x.id step (step-publishes s h xs x.id c.request (values c) (reverse c.steps) a.phase step i)) in
-    let l = g.later (values c) a.at fits in
-    let next = next_of s h x.id a.phase step in
-    let by : new.caller ≡ x.id = caller ∙ a.caller in
-    let asked : new.request ≡ c.request = asks ∙ a.asks in
+    let l = g.later (values c) a.at fits in let next = next_of s h x.id a.phase step in
+    let by : new.caller ≡ x.id = caller ∙ a.caller in let asked : new.request ≡ c.request = asks ∙ a.asks in
     let shown = values c ++ seen_by s h x.id step ∷ [] in
     let stands : StandsAt k new.caller new.request shown next = is-at k new shown next g.moves l.0.at in (
       same,
@@ -107,10 +91,8 @@ given-goes-on d step seen answer h given a = λ c call. by answer (open_call h d
 -- the first rule that stood at the places of the call, up to this step
 pub stood-after : (s : Setting) (h : History) (xs : List State) (x : State) (o : Open) (c : Underway) (new : Call) (action : Action) (answer : Option Answer) → (t : Ticks s h xs x o c new action)
     → stood s (stepped x.id o.step (seen_by s h x.id o.step) answer ∷ h) x.id.0 ≡ phase_refusal (next_of s h x.id t.stands.phase o.step)
-stood-after s h xs x o c new action answer t =
-    let i = stepped x.id o.step (seen_by s h x.id o.step) answer in
-    stood-own s i h
-    ∙ ap (λ (z : Option Denial). or_then z (first_of_item s h i)) t.stands.fair
+stood-after s h xs x o c new action answer t = let i = stepped x.id o.step (seen_by s h x.id o.step) answer in
+    stood-own s i h ∙ ap (λ (z : Option Denial). or_then z (first_of_item s h i)) t.stands.fair
     ∙ ap (λ (u : Option Underway). or_then (phase_refusal t.stands.phase) (first_in_call s h x.id i.happened u)) t.call
     ∙ judged s h xs x.id c.request (values c) (reverse c.steps) t.stands.phase o.step (here-of s h xs x o c t.st t.here t.stands)
 
@@ -119,28 +101,17 @@ stood-after s h xs x o c new action answer t =
 known-from : (s : Setting) (i : Item) (h : History) (d : DomId) → KeepsEntries i → table_at s (i ∷ h) d ≡ table_at s h d → mappings_at (i ∷ h) d.0 ≡ mappings_at h d.0 → maps_answered_at (i ∷ h) d.0 ≡ maps_answered_at h d.0
     → known_at s (i ∷ h) d ≡ known_at s h d
 known-from s i h d q table maps answered =
-    ap (λ (f : ℕ → Entry). record { domains = s.domains; may = s.may; entry = f; generation = λ r. generation_at s (i ∷ h) d.0 r; header = table_at s (i ∷ h) d; mapping = mapping_of (mappings_at (i ∷ h) d.0); in_use = length (mappings_at (i ∷ h) d.0); maps_answered = maps_answered_at (i ∷ h) d.0 })
-    (mathlib.Core.Path.fun_ext (λ r. same-entry i h d.0 r q))
-    ∙ ap (λ (f : ℕ → ℕ). record { domains = s.domains; may = s.may; entry = λ r. entry_at h d.0 r; generation = f; header = table_at s (i ∷ h) d; mapping = mapping_of (mappings_at (i ∷ h) d.0); in_use = length (mappings_at (i ∷ h) d.0); maps_answered = maps_answered_at (i ∷ h) d.0 })
-    (same-generations s i h d.0 q)
-    ∙ ap (λ (x : Header). record { domains = s.domains; may = s.may; entry = λ r. entry_at h d.0 r; generation = λ r. generation_at s h d.0 r; header = x; mapping = mapping_of (mappings_at (i ∷ h) d.0); in_use = length (mappings_at (i ∷ h) d.0); maps_answered = maps_answered_at (i ∷ h) d.0 })
-    table
-    ∙ ap (λ (l : List (Handle × Held)). record { domains = s.domains; may = s.may; entry = λ r. entry_at h d.0 r; generation = λ r. generation_at s h d.0 r; header = table_at s h d; mapping = mapping_of l; in_use = length l; maps_answered = maps_answered_at (i ∷ h) d.0 })
-    maps
-    ∙ ap (λ (n : ℕ). record { domains = s.domains; may = s.may; entry = λ r. entry_at h d.0 r; generation = λ r. generation_at s h d.0 r; header = table_at s h d; mapping = mapping_of (mappings_at h d.0); in_use = length (mappings_at h d.0); maps_answered = n })
-    answered
+    known-as s h (i ∷ h) d (λ r. kept-entry i h d.0 r q.changes) (λ r. kept-raises i h d.0 r q.changes) table maps answered
 
 taken-word : (word looked : ℕ) → exchange_sees word looked ≡ Taken → word ≡ looked
-taken-word word looked e = by (word == looked) refl e
-  where
-    by : (b : Bool) → (word == looked) ≡ b → cond b Taken (Missed word) ≡ Taken → word ≡ looked
-    by true is f = eqb-true word looked is
-    by false is f = cc
+taken-word word looked e = by (word == looked) refl e where
+  by : (b : Bool) → (word == looked) ≡ b → cond b Taken (Missed word) ≡ Taken → word ≡ looked
+  by true is f = eqb-true word looked is
+  by false is f = cc
 
 numbered-push : (n : ℕ) (ps : List Held) (p : Held) → numbered n (ps ++ p ∷ []) ≡ numbered n ps ++ (n + length ps, p) ∷ []
 numbered-push n [] p = let e : n ≡ n + 0 = omega arith in ap (λ (m : ℕ). (m, p) ∷ []) e
-numbered-push n (q ∷ ps) p =
-    ap (λ (l : List (ℕ × Held)). (n, q) ∷ l) (numbered-push (n + 1) ps p)
+numbered-push n (q ∷ ps) p = ap (λ (l : List (ℕ × Held)). (n, q) ∷ l) (numbered-push (n + 1) ps p)
     ∙ (let e : n + 1 + length ps ≡ n + suc (length ps) = omega arith in ap (λ (m : ℕ). (n, q) ∷ numbered (n + 1) ps ++ (m, p) ∷ []) e)
 
 length-numbered : (n : ℕ) (ps : List Held) → length (numbered n ps) ≡ length ps
@@ -157,37 +128,33 @@ LastFact old step = (p : Held) (place : ℕ) → step ≡ Unpin p (ByLeg place) 
 
 legs-by : (h : History) (d : DomId) (answer : Option Answer) (old new : List Held) (action : Action) (step : Step) (seen : Seen) → one_if_mapped answer ≡ 0 → ((n : ℕ) → holder_after answer n ≡ ByLeg n) → ((m : Held) → action ≡ Done (KeptPin m) → ⊥)
     → legs_at h d.0 ≡ numbered 0 (reverse old) → HoldsAfter step seen old new action → PinFact h step seen → LastFact old step → legs_at (stepped d step seen answer ∷ h) d.0 ≡ numbered 0 (reverse new)
-legs-by h d answer old new action step seen m leg unmapped held holds pinned last = by step seen holds pinned last
-  where
-    quiet : (z : Step) (v : Seen) → KeepsKnown (stepped d z v answer) → new ≡ old → legs_at (stepped d z v answer ∷ h) d.0 ≡ numbered 0 (reverse new)
-    quiet z v k e = kept-legs (stepped d z v answer) h d.0 k ∙ held ∙ ap (λ (l : List Held). numbered 0 (reverse l)) (sym e)
+legs-by h d answer old new action step seen m leg unmapped held holds pinned last = by step seen holds pinned last where
+  quiet : (z : Step) (v : Seen) → KeepsKnown (stepped d z v answer) → new ≡ old → legs_at (stepped d z v answer ∷ h) d.0 ≡ numbered 0 (reverse new)
+  quiet z v k e = kept-legs (stepped d z v answer) h d.0 k ∙ held ∙ ap (λ (l : List Held). numbered 0 (reverse l)) (sym e)
 
-    pin : (p : Held) → (new ≡ p ∷ old) ⊎ ((action ≡ Done (KeptPin p)) × (new ≡ old)) → record p { entry = entry_at h p.dom.0 p.gref.0 } ≡ p → legs_at (pins d p answer ∷ h) d.0 ≡ numbered 0 (reverse new)
-    pin p (inr b) is = absurd (unmapped p b.0)
-    pin p (inl b) is =
-        let n : length (legs_at h d.0) ≡ 0 + length (reverse old) = ap (λ (l : List (ℕ × Held)). length l) held ∙ length-numbered 0 (reverse old) ∙ sym (from-zero (length (reverse old))) in
-        leg-grows h d p answer (leg (length (legs_at h d.0)))
-        ∙ ap (λ (q : Held). legs_at h d.0 ++ (length (legs_at h d.0), q) ∷ []) is
-        ∙ ap (λ (k : ℕ). legs_at h d.0 ++ (k, p) ∷ []) n
-        ∙ ap (λ (l : List (ℕ × Held)). l ++ (0 + length (reverse old), p) ∷ []) held
-        ∙ sym (numbered-push 0 (reverse old) p)
-        ∙ ap (numbered 0) (sym (reverse_onto old p []))
-        ∙ ap (λ (l : List Held). numbered 0 (reverse l)) (sym b)
+  pin : (p : Held) → (new ≡ p ∷ old) ⊎ ((action ≡ Done (KeptPin p)) × (new ≡ old)) → record p { entry = entry_at h p.dom.0 p.gref.0 } ≡ p → legs_at (pins d p answer ∷ h) d.0 ≡ numbered 0 (reverse new)
+  pin p (inr b) is = absurd (unmapped p b.0)
+  pin p (inl b) is =
+      let n : length (legs_at h d.0) ≡ 0 + length (reverse old) = ap (λ (l : List (ℕ × Held)). length l) held ∙ length-numbered 0 (reverse old) ∙ sym (from-zero (length (reverse old))) in
+      leg-grows h d p answer (leg (length (legs_at h d.0)))
+      ∙ ap (λ (q : Held). legs_at h d.0 ++ (length (legs_at h d.0), q) ∷ []) is
+      ∙ ap (λ (k : ℕ). legs_at h d.0 ++ (k, p) ∷ []) n
+      ∙ ap (λ (l : List (ℕ × Held)). l ++ (0 + length (reverse old), p) ∷ []) held
+      ∙ sym (numbered-push 0 (reverse old) p) ∙ ap (numbered 0) (sym (reverse_onto old p []))
+      ∙ ap (λ (l : List Held). numbered 0 (reverse l)) (sym b)
 
-    give : (p : Held) (place : ℕ) (v : Seen) → old ≡ p ∷ new → (others : List Held) × (old ≡ p ∷ others) × (place ≡ length others) → legs_at (unpins d p (ByLeg place) v answer ∷ h) d.0 ≡ numbered 0 (reverse new)
-    give p place v e (others, is, at) =
-        let both : p ∷ others ≡ p ∷ new = sym is ∙ e in
-        let same : others ≡ new = cc in
-        let legs : legs_at h d.0 ≡ numbered 0 (reverse new ++ p ∷ []) = held ∙ ap (λ (l : List Held). numbered 0 (reverse l)) e ∙ ap (numbered 0) (reverse_onto new p []) in
-        ap (λ (k : ℕ). legs_at (unpins d p (ByLeg k) v answer ∷ h) d.0) (at ∙ ap (λ (l : List Held). length l) same ∙ sym (length-reverse new)) ∙ leg-left h d (reverse new) p v answer legs
+  give : (p : Held) (place : ℕ) (v : Seen) → old ≡ p ∷ new → (others : List Held) × (old ≡ p ∷ others) × (place ≡ length others) → legs_at (unpins d p (ByLeg place) v answer ∷ h) d.0 ≡ numbered 0 (reverse new)
+  give p place v e (others, is, at) = let both : p ∷ others ≡ p ∷ new = sym is ∙ e in let same : others ≡ new = cc in
+      let legs : legs_at h d.0 ≡ numbered 0 (reverse new ++ p ∷ []) = held ∙ ap (λ (l : List Held). numbered 0 (reverse l)) e ∙ ap (numbered 0) (reverse_onto new p []) in
+      ap (λ (k : ℕ). legs_at (unpins d p (ByLeg k) v answer ∷ h) d.0) (at ∙ ap (λ (l : List Held). length l) same ∙ sym (length-reverse new)) ∙ leg-left h d (reverse new) p v answer legs
 
-    by : (z : Step) (v : Seen) → HoldsAfter z v old new action → PinFact h z v → LastFact old z → legs_at (stepped d z v answer ∷ h) d.0 ≡ numbered 0 (reverse new)
-    by (PinStep p) Taken e f g = pin p e (f p refl refl)
-    by (Unpin p (ByLeg place)) v e f g = give p place v e (g p place refl)
-    by (Unpin p (ByMapping handle)) v e f g = mapping-legs h d p handle v answer ∙ held ∙ ap (λ (l : List Held). numbered 0 (reverse l)) (sym e)
-    by (Exchange gref looked change) Taken e f g =
-        ap (λ (ps : List Pin). gather by_leg d.0 ps) (exchanged-live h d gref looked change answer) ∙ held ∙ ap (λ (l : List Held). numbered 0 (reverse l)) (sym e)
-    by z v e f g = quiet z v (record { changes = λ r. refl; pins = λ before ps. refl; unpins = λ pins. refl; maps = m }) e
+  by : (z : Step) (v : Seen) → HoldsAfter z v old new action → PinFact h z v → LastFact old z → legs_at (stepped d z v answer ∷ h) d.0 ≡ numbered 0 (reverse new)
+  by (PinStep p) Taken e f g = pin p e (f p refl refl)
+  by (Unpin p (ByLeg place)) v e f g = give p place v e (g p place refl)
+  by (Unpin p (ByMapping handle)) v e f g = mapping-legs h d p handle v answer ∙ held ∙ ap (λ (l : List Held). numbered 0 (reverse l)) (sym e)
+  by (Exchange gref looked change) Taken e f g =
+      ap (λ (ps : List Pin). gather by_leg d.0 ps) (exchanged-live h d gref looked change answer) ∙ held ∙ ap (λ (l : List Held). numbered 0 (reverse l)) (sym e)
+  by z v e f g = quiet z v (record { changes = λ r. refl; pins = λ before ps. refl; unpins = λ pins. refl; maps = m }) e
 
 pub pin-fact : (s : Setting) (h : History) (xs : List State) (x : State) (o : Open) (c : Underway) (new : Call) (action : Action) → Ticks s h xs x o c new action → PinFact h o.step (seen_by s h x.id o.step)
 pin-fact s h xs x o c new action t p is saw =
@@ -209,31 +176,29 @@ legs-after s h xs x o c new action answer t m leg unmapped =
 -- what the domain knows stays, where its call goes on
 known-by : (s : Setting) (h : History) (d : DomId) (step : Step) (seen : Seen) → (IsSingle step → ⊥) → ((gref : GrantRef) (looked : ℕ) (change : Change) → step ≡ Exchange gref looked change → seen ≡ Taken → ⊥)
     → known_at s (stepped d step seen None ∷ h) d ≡ known_at s h d
-known-by s h d step seen single exchange = by step seen single exchange
-  where
-    quiet : (z : Step) (v : Seen) → KeepsKnown (stepped d z v None) → header_stored (Stepped z v) ≡ None → known_at s (stepped d z v None ∷ h) d ≡ known_at s h d
-    quiet z v k e = kept-known s (stepped d z v None) h d k e
+known-by s h d step seen single exchange = by step seen single exchange where
+  quiet : (z : Step) (v : Seen) → KeepsKnown (stepped d z v None) → header_stored (Stepped z v) ≡ None → known_at s (stepped d z v None ∷ h) d ≡ known_at s h d
+  quiet z v k e = kept-known s (stepped d z v None) h d k e
 
-    by : (z : Step) (v : Seen) → (IsSingle z → ⊥) → ((gref : GrantRef) (looked : ℕ) (change : Change) → z ≡ Exchange gref looked change → v ≡ Taken → ⊥) → known_at s (stepped d z v None ∷ h) d ≡ known_at s h d
-    by (PinStep p) Taken n e =
-        known-from s (pins d p None) h d (record { changes = λ r. refl; stores = λ r which. refl; header = refl }) (kept-table s (pins d p None) h d refl) (leg-maps h d p None refl) (answered-stays h (pins d p None) d.0 refl)
-    by (Unpin p (ByLeg place)) v n e =
-        known-from s (unpins d p (ByLeg place) v None) h d (record { changes = λ r. refl; stores = λ r which. refl; header = refl }) (kept-table s (unpins d p (ByLeg place) v None) h d refl) (leg-mappings h d p place v None)
-        (answered-stays h (unpins d p (ByLeg place) v None) d.0 refl)
-    by (Unpin p (ByMapping handle)) v n e = absurd (n tt)
-    by (StoreHeader version frames) v n e = absurd (n tt)
-    by (Exchange gref looked change) Taken n e = absurd (e gref looked change refl refl)
-    by (ReadBytes dom frame off len) v n e = absurd (n tt)
-    by (WriteBytes dom frame off len) v n e = absurd (n tt)
-    by z v n e = quiet z v (record { changes = λ r. refl; pins = λ before ps. refl; unpins = λ pins. refl; maps = refl }) refl
+  by : (z : Step) (v : Seen) → (IsSingle z → ⊥) → ((gref : GrantRef) (looked : ℕ) (change : Change) → z ≡ Exchange gref looked change → v ≡ Taken → ⊥) → known_at s (stepped d z v None ∷ h) d ≡ known_at s h d
+  by (PinStep p) Taken n e =
+      known-from s (pins d p None) h d (record { changes = λ r. refl; stores = λ r which. refl; header = refl }) (kept-table s (pins d p None) h d refl) (leg-maps h d p None refl) (answered-stays h (pins d p None) d.0 refl)
+  by (Unpin p (ByLeg place)) v n e =
+      known-from s (unpins d p (ByLeg place) v None) h d (record { changes = λ r. refl; stores = λ r which. refl; header = refl }) (kept-table s (unpins d p (ByLeg place) v None) h d refl) (leg-mappings h d p place v None)
+      (answered-stays h (unpins d p (ByLeg place) v None) d.0 refl)
+  by (Unpin p (ByMapping handle)) v n e = absurd (n tt)
+  by (StoreHeader version frames) v n e = absurd (n tt)
+  by (Exchange gref looked change) Taken n e = absurd (e gref looked change refl refl)
+  by (ReadBytes dom frame off len) v n e = absurd (n tt)
+  by (WriteBytes dom frame off len) v n e = absurd (n tt)
+  by z v n e = quiet z v (record { changes = λ r. refl; pins = λ before ps. refl; unpins = λ pins. refl; maps = refl }) refl
 
 goes-not : (d : DomId) (z : Step) (p : Phase) (pins : Pins) (v : Verdict) → last_first pins ≡ [] → Makes z ≡ action_at d p → p ≡ Ending pins v → ⊥
 goes-not d z p pins v none e is = let f : Makes z ≡ Done v = e ∙ ap (action_at d) is ∙ ap (λ (l : List Held). next_to_give l v) none in cc
 
 pub known-after : (s : Setting) (h : History) (xs : List State) (x : State) (o : Open) (c : Underway) (new : Call) (z : Step) → Ticks s h xs x o c new (Makes z)
     → known_at s (stepped x.id o.step (seen_by s h x.id o.step) None ∷ h) x.id ≡ known_at s h x.id
-known-after s h xs x o c new z t =
-    known-by s h x.id o.step (seen_by s h x.id o.step)
+known-after s h xs x o c new z t = known-by s h x.id o.step (seen_by s h x.id o.step)
     (λ single. let e = single-ends s h x.id c.request (reverse c.steps) t.stands.phase o.step t.stands.acts t.stands.place single in goes-not x.id z _ no_pins e.0 refl t.acts e.1)
     (λ gref looked change is saw.
     let e = taken-ends (known_at s h x.id) (path (known_at s h x.id) x.id c.request) x.id c.request (values c) t.stands.phase gref looked change t.stands.at.has_shown (t.stands.acts ∙ ap Makes is) in
@@ -265,16 +230,14 @@ store-place s h d r so_far now (StoringSecond g entry) gref half word way shown 
   where
     by : (y : Entry) → IsSubPage y → body_at h d.0 g.0 FirstHalf ≡ first_body y
         → PhaseStands s (stores d g SecondHalf (second_body y) ∷ h) d r now (publishing (known_at s h d) g y)
-    by (Sub dom ro frame off len) n f =
-        let y : Entry = Sub dom ro frame off len in
+    by (Sub dom ro frame off len) n f = let y : Entry = Sub dom ro frame off len in
         (first-stays d g (second_body y) g.0 h ∙ f, half-stored d g SecondHalf (second_body y) h)
     by y n f = absurd n
 store-place s h d r so_far now (Walking aim l at) gref half word way shown a b e = absurd (leg-store l at (subst IsStore (sym (makes-same _ _ e)) tt))
 store-place s h d r so_far now (Last last verdict) gref half word way shown a b e =
-    absurd (subst (λ (z : Step). RestsOn z → ⊥) (sym (makes-same _ _ e)) (λ n. n) a.1)
-  where
-    RestsOn : Step → Type 0
-    RestsOn z = RestsOnRequest (known_at s h d) d r z
+    absurd (subst (λ (z : Step). RestsOn z → ⊥) (sym (makes-same _ _ e)) (λ n. n) a.1) where
+      RestsOn : Step → Type 0
+      RestsOn z = RestsOnRequest (known_at s h d) d r z
 store-place s h d r so_far now (Ending held_pins verdict) gref half word way shown a b e = absurd (by-giving (λ (z : Step). IsStore z → ⊥) (λ p n f. f) (last_first held_pins) verdict _ e tt)
 store-place s h d r so_far now phase gref half word way shown a b e = cc
 
@@ -292,37 +255,30 @@ stored-none step seen n r which = refl
 
 place-after : (s : Setting) (h : History) (xs : List State) (x : State) (o : Open) (c : Underway) (new : Call) (action : Action) → (t : Ticks s h xs x o c new action)
     → PhaseStands s (stepped x.id o.step (seen_by s h x.id o.step) None ∷ h) x.id c.request ((o.step, seen_by s h x.id o.step) ∷ reverse c.steps) (next_of s h x.id t.stands.phase o.step)
-place-after s h xs x o c new action t = by (decide-store o.step)
-  where
-    d : DomId
-    d = x.id
+place-after s h xs x o c new action t = by (decide-store o.step) where
+  d : DomId
+  d = x.id
 
-    store : (step : Step) → o.step ≡ step → IsStore step → PhaseStands s (stepped d step (seen_by s h d step) None ∷ h) d c.request ((step, seen_by s h d step) ∷ reverse c.steps) (next_of s h d t.stands.phase step)
-    store (StoreBody gref half word) is n = store-place s h d c.request (reverse c.steps) _ t.stands.phase gref half word (path (known_at s h d) d c.request) (values c) t.stands.at.has_shown t.stands.place (t.stands.acts ∙ ap Makes is)
-    store step is n = absurd n
+  store : (step : Step) → o.step ≡ step → IsStore step → PhaseStands s (stepped d step (seen_by s h d step) None ∷ h) d c.request ((step, seen_by s h d step) ∷ reverse c.steps) (next_of s h d t.stands.phase step)
+  store (StoreBody gref half word) is n = store-place s h d c.request (reverse c.steps) _ t.stands.phase gref half word (path (known_at s h d) d c.request) (values c) t.stands.at.has_shown t.stands.place (t.stands.acts ∙ ap Makes is)
+  store step is n = absurd n
 
-    by : IsStore o.step ⊎ (IsStore o.step → ⊥) → PhaseStands s (stepped d o.step (seen_by s h d o.step) None ∷ h) d c.request ((o.step, seen_by s h d o.step) ∷ reverse c.steps) (next_of s h d t.stands.phase o.step)
-    by (inl n) = store o.step refl n
-    by (inr n) =
-        place-stays s (stepped d o.step (seen_by s h d o.step) None) h d c.request ((o.step, seen_by s h d o.step) ∷ reverse c.steps) (next_of s h d t.stands.phase o.step)
-        (body-stays (stepped d o.step (seen_by s h d o.step) None) h d.0 (stored-none o.step (seen_by s h d o.step) n))
-        (placed s h xs d c.request (values c) (reverse c.steps) t.stands.phase o.step (here-of s h xs x o c t.st t.here t.stands) n)
+  by : IsStore o.step ⊎ (IsStore o.step → ⊥) → PhaseStands s (stepped d o.step (seen_by s h d o.step) None ∷ h) d c.request ((o.step, seen_by s h d o.step) ∷ reverse c.steps) (next_of s h d t.stands.phase o.step)
+  by (inl n) = store o.step refl n
+  by (inr n) =
+      place-stays s (stepped d o.step (seen_by s h d o.step) None) h d c.request ((o.step, seen_by s h d o.step) ∷ reverse c.steps) (next_of s h d t.stands.phase o.step)
+      (body-stays (stepped d o.step (seen_by s h d o.step) None) h d.0 (stored-none o.step (seen_by s h d o.step) n))
+      (placed s h xs d c.request (values c) (reverse c.steps) t.stands.phase o.step (here-of s h xs x o c t.st t.here t.stands) n)
 
 -- a call that goes on is where this step has led it
 pub open-after : (s : Setting) (h : History) (xs : List State) (x : State) (o : Open) (c : Underway) (new : Call) (z : Step) → Ticks s h xs x o c new (Makes z)
     → OpenAgrees s (stepped x.id o.step (seen_by s h x.id o.step) None ∷ h) x.id (record { call = new; step = z }) (record { request = c.request; given = c.given; steps = c.steps ++ (o.step, seen_by s h x.id o.step) ∷ [] })
-open-after s h xs x o c new z t =
-    let d = x.id in
-    let r = c.request in
-    let seen = seen_by s h d o.step in
-    let i = stepped d o.step seen None in
-    let next = next_of s h d t.stands.phase o.step in
+open-after s h xs x o c new z t = let d = x.id in let r = c.request in let seen = seen_by s h d o.step in
+    let i = stepped d o.step seen None in let next = next_of s h d t.stands.phase o.step in
     let same = known-after s h xs x o c new z t in
     let shown : values c ++ seen ∷ [] ≡ values (record { request = c.request; given = c.given; steps = c.steps ++ (o.step, seen) ∷ [] }) = sym (values-more c o.step seen) in
     let longer : length (c.steps ++ (o.step, seen) ∷ []) ≡ length c.steps + 1 = length-append c.steps ((o.step, seen) ∷ []) in
-    let few = t.stands.few in
-    let fewer = t.fewer in
-    record {
+    let few = t.stands.few in let fewer = t.fewer in record {
       caller = t.caller;
       asks = t.asks;
       phase = next;
@@ -355,19 +311,17 @@ step-safe s h xs d r shown so_far phase (Exchange gref looked change) answer i =
     by true is = (can-change s h xs d r shown so_far phase gref looked change i (eqb-true (word_at s h d.0 gref.0) looked is)).safe
     by false is = tt
 step-safe s h xs d r shown so_far phase (StoreBody gref half word) answer i = store-invalid s h d r gref half word i.rests.0 i.rests.1
-step-safe s h xs d r shown so_far phase (PinStep p) answer i = by (word_at s h p.dom.0 p.gref.0 == p.word)
-  where
-    by : (b : Bool) → IsSafe s h (stepped d (PinStep p) (cond b Taken (Missed (word_at s h p.dom.0 p.gref.0))) answer)
-    by true = tt
-    by false = tt
+step-safe s h xs d r shown so_far phase (PinStep p) answer i = by (word_at s h p.dom.0 p.gref.0 == p.word) where
+  by : (b : Bool) → IsSafe s h (stepped d (PinStep p) (cond b Taken (Missed (word_at s h p.dom.0 p.gref.0))) answer)
+  by true = tt
+  by false = tt
 step-safe s h xs d r shown so_far phase step answer i = tt
 
 step-sound : (s : Setting) (h : History) (xs : List State) (d : DomId) (r : Asked) (shown : List Seen) (so_far : StepsSoFar) (phase : Phase) (step : Step) → IsHere s h xs d r shown so_far phase step → PinIsSound s h d r step (seen_by s h d step)
-step-sound s h xs d r shown so_far phase (PinStep p) i = by (word_at s h p.dom.0 p.gref.0 == p.word) refl
-  where
-    by : (b : Bool) → (word_at s h p.dom.0 p.gref.0 == p.word) ≡ b → PinIsSound s h d r (PinStep p) (cond b Taken (Missed (word_at s h p.dom.0 p.gref.0)))
-    by true is = (can-pin s h xs d r shown so_far phase p i (eqb-true (word_at s h p.dom.0 p.gref.0) p.word is)).sound
-    by false is = tt
+step-sound s h xs d r shown so_far phase (PinStep p) i = by (word_at s h p.dom.0 p.gref.0 == p.word) refl where
+  by : (b : Bool) → (word_at s h p.dom.0 p.gref.0 == p.word) ≡ b → PinIsSound s h d r (PinStep p) (cond b Taken (Missed (word_at s h p.dom.0 p.gref.0)))
+  by true is = (can-pin s h xs d r shown so_far phase p i (eqb-true (word_at s h p.dom.0 p.gref.0) p.word is)).sound
+  by false is = tt
 step-sound s h xs d r shown so_far phase step i = tt
 
 most-fits : (r : Asked) → most_of r ≤ most_steps r
@@ -381,15 +335,9 @@ goes-fair d p z e = inl refl
 
 pub goes-right : (s : Setting) (h : History) (xs : List State) (x : State) (o : Open) (c : Underway) (new : Call) (z : Step) → Ticks s h xs x o c new (Makes z)
     → StepsRight s h (stepped x.id o.step (seen_by s h x.id o.step) None) o.step (seen_by s h x.id o.step) c
-goes-right s h xs x o c new z t =
-    let d = x.id in
-    let seen = seen_by s h d o.step in
-    let i = here-of s h xs x o c t.st t.here t.stands in
-    let few = t.stands.few in
-    let fewer = t.fewer in
-    let counted = t.counted in
-    let most = most-fits c.request in
-    record {
+goes-right s h xs x o c new z t = let d = x.id in let seen = seen_by s h d o.step in
+    let i = here-of s h xs x o c t.st t.here t.stands in let few = t.stands.few in let fewer = t.fewer in
+    let counted = t.counted in let most = most-fits c.request in record {
       continues = t.stands.follows;
       sees = refl;
       justified = step-justified s h xs d c.request (values c) (reverse c.steps) t.stands.phase o.step i;
@@ -399,20 +347,17 @@ goes-right s h xs x o c new z t =
       left = λ some. absurd (some refl);
       answered = subst (λ (a : Option Action). AnsweredBy s h d c.request (Some o.step) (gives_back a) (verdict_in a) None (stood s (stepped d o.step seen None ∷ h) d.0)) (sym t.follows)
           (fair (goes-fair d (next_of s h d t.stands.phase o.step) z (sym t.acts)));
-    }
-  where
-    fair : (phase_refusal (next_of s h x.id t.stands.phase o.step) ≡ None) ⊎ (gives_back (Some (Makes z)) ≡ true)
-        → (stood s (stepped x.id o.step (seen_by s h x.id o.step) None ∷ h) x.id.0 ≡ None) ⊎ (gives_back (Some (Makes z)) ≡ true)
-    fair (inl e) = inl (stood-after s h xs x o c new (Makes z) None t ∙ e)
-    fair (inr e) = inr e
+    } where
+      fair : (phase_refusal (next_of s h x.id t.stands.phase o.step) ≡ None) ⊎ (gives_back (Some (Makes z)) ≡ true)
+          → (stood s (stepped x.id o.step (seen_by s h x.id o.step) None ∷ h) x.id.0 ≡ None) ⊎ (gives_back (Some (Makes z)) ≡ true)
+      fair (inl e) = inl (stood-after s h xs x o c new (Makes z) None t ∙ e)
+      fair (inr e) = inr e
 
 -- a call that is answered
 pub ends-right : (s : Setting) (h : History) (xs : List State) (x : State) (o : Open) (c : Underway) (new : Call) (v : Verdict) (answer : Answer) → Ticks s h xs x o c new (Done v) → refusal_of answer ≡ refusal_in (Some v)
     → legs_at (stepped x.id o.step (seen_by s h x.id o.step) (Some answer) ∷ h) x.id.0 ≡ [] → GivesValue s h x.id c.request (Some o.step) answer
     → StepsRight s h (stepped x.id o.step (seen_by s h x.id o.step) (Some answer)) o.step (seen_by s h x.id o.step) c
-ends-right s h xs x o c new v answer t same legs value =
-    let d = x.id in
-    let seen = seen_by s h d o.step in
+ends-right s h xs x o c new v answer t same legs value = let d = x.id in let seen = seen_by s h d o.step in
     let i = here-of s h xs x o c t.st t.here t.stands in
     let e = ends-so d (next_of s h d t.stands.phase o.step) v (sym t.acts) in
     let clean : IsClean (Ending e.0 v) (c.steps ++ (o.step, seen) ∷ []) =
@@ -428,8 +373,7 @@ ends-right s h xs x o c new v answer t same legs value =
       left = λ some. (by some clean, legs);
       answered = subst (λ (a : Option Action). AnsweredBy s h d c.request (Some o.step) (gives_back a) (verdict_in a) (Some answer) (stood s (stepped d o.step seen (Some answer) ∷ h) d.0)) (sym t.follows)
           (same, same ∙ sym (stood-after s h xs x o c new (Done v) (Some answer) t ∙ ap phase_refusal e.1), value);
-    }
-  where
-    by : refusal_if (Some answer) ≢ None → (refusal_in (Some v) ≡ None) ⊎ All LeavesAll (c.steps ++ (o.step, seen_by s h x.id o.step) ∷ []) → All LeavesAll (c.steps ++ (o.step, seen_by s h x.id o.step) ∷ [])
-    by some (inl none) = absurd (some (same ∙ none))
-    by some (inr all) = all
+    } where
+      by : refusal_if (Some answer) ≢ None → (refusal_in (Some v) ≡ None) ⊎ All LeavesAll (c.steps ++ (o.step, seen_by s h x.id o.step) ∷ []) → All LeavesAll (c.steps ++ (o.step, seen_by s h x.id o.step) ∷ [])
+      by some (inl none) = absurd (some (same ∙ none))
+      by some (inr all) = all

@@ -1,9 +1,7 @@
 -- Runs that are alike stay so.
-use Rattle.gt_core.proofs.Words.{◌≡◌, ◌⊎◌, inl, inr, List, ◌∷◌, Option, sym, ap, ◌∙◌, subst, DomId, asked, Answer, Event, Begin, Tick, Happened, Began, Stepped, Item, Element, Busy, Idle, NoDomain, Did, History, Setting, MayDo, IsRight, grown, bare_event, told_item, told_items, ToldItem, SameHistory, AsksKnown, IsOfKnown, HappensKnown, IsRun, AreAlike}
-use Rattle.gt_core.specs.Legal.{IsOf}
-use Rattle.gt_core.specs.Alike.{SameEvent, SameElement}
+use Rattle.gt_core.proofs.Words.{◌≡◌, ◌⊎◌, inl, inr, List, ◌∷◌, Option, sym, ap, ◌∙◌, subst, DomId, asked, Answer, Event, Begin, Tick, Happened, Began, Stepped, Item, Element, Busy, Idle, NoDomain, Did, History, Setting, MayDo, IsRight, grown, bare_event, told_item, told_items, ToldItem, SameHistory, AsksKnown, IsOfKnown, HappensKnown, IsRun, AreAlike, IsOf, SameEvent, SameElement}
 use Rattle.gt_core.proofs.Bare.{bare, bare-same}
-use Rattle.gt_core.proofs.Doing.{element_told, doing, does, does-bare}
+pub use Rattle.gt_core.proofs.Doing.{element_told, doing, does, does-bare}
 
 inr-same : (a b : ToldItem) → ◌≡◌ {A = Element ⊎ ToldItem} (inr a) (inr b) → a ≡ b
 inr-same a b e = cc
@@ -26,8 +24,7 @@ same-element x y e = inl-same x y e
 
 -- what alike events do in runs that are alike
 pub does-alike : (s : Setting) (g h : History) (e f : Event) (one other : Element) → AreAlike s g h → SameEvent e f → IsOfKnown g e → IsOfKnown h f → MayDo s g e one → MayDo s h f other → SameElement one other
-does-alike s g h e f one other alike same j k m n =
-    same-element one other
+does-alike s g h e f one other alike same j k m n = same-element one other
     (does s g e one m ∙ sym (does-bare s g e alike.first j)
     ∙ ap (λ (l : History). doing s l (bare_event e)) (bare-same g h alike.same) ∙ ap (doing s (bare h)) same
     ∙ does-bare s h f alike.second k ∙ sym (does s h f other n))

@@ -1,11 +1,6 @@
 -- An unpin keeps what a core stands for.
-use Rattle.gt_core.proofs.Words.{◌≡◌, ◌<◌, ◌≤◌, ◌+◌, ◌-◌, ◌⊎◌, inl, inr, ℕ, suc, refl, Bool, true, false, List, [], ◌∷◌, ◌++◌, length, Option, Some, None, cond, sym, ap, ◌∙◌, arith, subst, ◌==◌, ◌&&◌, All, count_by, eqb-true, eq-eqb, and_from, false≢true, true≢false, none-some, same_Some, append-nil, sum_by-cons, All-tail, DomId, Dir, Read, Write, FirstHalf, SecondHalf, Handle, Kept, Held, Holder, ByMapping, ByLeg, Unpin, Seen, PinCounts, Open, Unpinned, Item, Answer, changed_at, State, state_of, changed_in, with_slot, without_mapping, slot_after, taken, History, Setting, Pin, live, body_at, reads_at, writes_at, mappings_at, maps_answered_at, legs_at, open_call, is_pin_on, without, is_holder, same_handle, same_dir, gather, by_mapping, by_leg, mapping_of, one_if_mapped, IsLawful, SlotAgrees, Agrees, DomainsStand, CallAgrees, GivenAgrees, MappingsAgree, numbered}
-use Rattle.std.proofs.lemmas.List.Sums.{sum_by-append}
-use Rattle.std.proofs.lemmas.List.Elements.{All-cons, All-head}
-use Rattle.gt_core.proofs.Mappings.{less, mappings-taken, mappings-same}
-use Rattle.gt_core.proofs.Rows.{state-changed}
-use Rattle.gt_core.proofs.Pinning.{answered-stays}
-use Rattle.gt_core.proofs.Keeping.{stepped, SlotsAgree, KeepsEntries, same-body, slots-agree, counts-fit, after_change, Becomes, becomes-changed, slots-stand, keeps-stands}
+use Rattle.gt_core.proofs.Words.{◌≡◌, ◌<◌, ◌≤◌, ◌+◌, ◌-◌, ◌⊎◌, inl, inr, ℕ, suc, refl, Bool, true, false, List, [], ◌∷◌, ◌++◌, length, Option, Some, None, cond, sym, ap, ◌∙◌, arith, subst, ◌==◌, ◌&&◌, All, count_by, eqb-true, eq-eqb, and_from, false≢true, true≢false, none-some, same_Some, append-nil, sum_by-cons, All-tail, DomId, Dir, Read, Write, FirstHalf, SecondHalf, Handle, Kept, Held, Holder, ByMapping, ByLeg, Unpin, Seen, PinCounts, Open, Unpinned, Item, Answer, changed_at, State, state_of, changed_in, with_slot, without_mapping, slot_after, taken, History, Setting, Pin, live, body_at, reads_at, writes_at, mappings_at, maps_answered_at, legs_at, open_call, is_pin_on, without, is_holder, same_handle, same_dir, gather, by_mapping, by_leg, mapping_of, one_if_mapped, IsLawful, SlotAgrees, Agrees, DomainsStand, CallAgrees, GivenAgrees, MappingsAgree, numbered, sum_by-append, All-cons, All-head, MAX_PINS}
+pub use Rattle.gt_core.proofs.Pinning.{answered-stays, stepped, SlotsAgree, KeepsEntries, same-body, slots-agree, counts-fit, after_change, Becomes, becomes-changed, slots-stand, keeps-stands, less, mappings-taken, mappings-same, state-changed, pins, leg-grows, leg-maps}
 
 -- what an unpin takes from the live pins
 
@@ -41,21 +36,18 @@ pub record Tells {K : Type 0} (give : Holder → Held → List (K × Held)) (tes
 loses-one : {K : Type 0} (give : Holder → Held → List (K × Held)) (test : K → Bool) (holder : Holder) (d : ℕ) (m : Held) (p : Pin) (ps less : List Pin) → Tells give test holder
     → (one_of test (gather give d ps) ≡ Some m → Loses m ps less) → one_of test (gather give d (p ∷ ps)) ≡ Some m → Loses m (p ∷ ps) (cond ((p.actor == d) && is_holder p.holder holder) ps (p ∷ less))
 unfolding gather
-loses-one {K} give test holder d m p ps less t rest e = by (p.actor == d) (t.tells p.holder) e
-  where
-    at : (b : Bool) (k : K) → test k ≡ b → cond b (Some p.held) (one_of test (gather give d ps)) ≡ Some m → Loses m (p ∷ ps) (cond b ps (p ∷ less))
-    at true k is f = loses-first m p ps (same_Some _ _ f)
-    at false k is f = loses-later m p ps less (rest f)
+loses-one {K} give test holder d m p ps less t rest e = by (p.actor == d) (t.tells p.holder) e where
+  at : (b : Bool) (k : K) → test k ≡ b → cond b (Some p.held) (one_of test (gather give d ps)) ≡ Some m → Loses m (p ∷ ps) (cond b ps (p ∷ less))
+  at true k is f = loses-first m p ps (same_Some _ _ f)
+  at false k is f = loses-later m p ps less (rest f)
 
-    by : (b : Bool) → ((k : K) × ((q : Held) → give p.holder q ≡ (k, q) ∷ []) × (is_holder p.holder holder ≡ test k)) ⊎ (((q : Held) → give p.holder q ≡ []) × (is_holder p.holder holder ≡ false))
-        → one_of test (cond b (give p.holder p.held) [] ++ gather give d ps) ≡ Some m → Loses m (p ∷ ps) (cond (b && is_holder p.holder holder) ps (p ∷ less))
-    by true (inl a) f =
-        subst (λ (z : Bool). Loses m (p ∷ ps) (cond z ps (p ∷ less))) (sym a.2)
-        (at (test a.0) a.0 refl (sym (ap (λ (l : List (K × Held)). one_of test (l ++ gather give d ps)) (a.1 p.held)) ∙ f))
-    by true (inr a) f =
-        subst (λ (z : Bool). Loses m (p ∷ ps) (cond z ps (p ∷ less))) (sym a.1)
-        (loses-later m p ps less (rest (sym (ap (λ (l : List (K × Held)). one_of test (l ++ gather give d ps)) (a.0 p.held)) ∙ f)))
-    by false a f = loses-later m p ps less (rest f)
+  by : (b : Bool) → ((k : K) × ((q : Held) → give p.holder q ≡ (k, q) ∷ []) × (is_holder p.holder holder ≡ test k)) ⊎ (((q : Held) → give p.holder q ≡ []) × (is_holder p.holder holder ≡ false))
+      → one_of test (cond b (give p.holder p.held) [] ++ gather give d ps) ≡ Some m → Loses m (p ∷ ps) (cond (b && is_holder p.holder holder) ps (p ∷ less))
+  by true (inl a) f = subst (λ (z : Bool). Loses m (p ∷ ps) (cond z ps (p ∷ less))) (sym a.2)
+      (at (test a.0) a.0 refl (sym (ap (λ (l : List (K × Held)). one_of test (l ++ gather give d ps)) (a.1 p.held)) ∙ f))
+  by true (inr a) f = subst (λ (z : Bool). Loses m (p ∷ ps) (cond z ps (p ∷ less))) (sym a.1)
+      (loses-later m p ps less (rest (sym (ap (λ (l : List (K × Held)). one_of test (l ++ gather give d ps)) (a.0 p.held)) ∙ f)))
+  by false a f = loses-later m p ps less (rest f)
 
 loses-of : {K : Type 0} (give : Holder → Held → List (K × Held)) (test : K → Bool) (holder : Holder) (d : ℕ) (m : Held) (ps : List Pin) → Tells give test holder → one_of test (gather give d ps) ≡ Some m → Loses m ps (without d holder ps)
 unfolding without gather
@@ -65,29 +57,24 @@ loses-of give test holder d m (p ∷ ps) t e = loses-one give test holder d m p 
 less-one : {K : Type 0} (give : Holder → Held → List (K × Held)) (test : K → Bool) (holder : Holder) (d : ℕ) (p : Pin) (ps rest : List Pin) → Tells give test holder
     → gather give d rest ≡ less_of test (gather give d ps) → gather give d (cond ((p.actor == d) && is_holder p.holder holder) ps (p ∷ rest)) ≡ less_of test (gather give d (p ∷ ps))
 unfolding gather
-less-one {K} give test holder d p ps rest t left = by (p.actor == d) refl (t.tells p.holder)
-  where
-    at : (b : Bool) (k : K) → test k ≡ b → (p.actor == d) ≡ true → ((q : Held) → give p.holder q ≡ (k, q) ∷ [])
-        → gather give d (cond b ps (p ∷ rest)) ≡ less_of test ((k, p.held) ∷ gather give d ps)
-    at true k is own gives = sym (ap (λ (z : Bool). cond z (gather give d ps) ((k, p.held) ∷ less_of test (gather give d ps))) is)
-    at false k is own gives =
-        ap (λ (z : Bool). cond z (give p.holder p.held) [] ++ gather give d rest) own
-        ∙ ap (λ (l : List (K × Held)). l ++ gather give d rest) (gives p.held)
-        ∙ ap (λ (l : List (K × Held)). (k, p.held) ∷ l) left
-        ∙ sym (ap (λ (z : Bool). cond z (gather give d ps) ((k, p.held) ∷ less_of test (gather give d ps))) is)
+less-one {K} give test holder d p ps rest t left = by (p.actor == d) refl (t.tells p.holder) where
+  at : (b : Bool) (k : K) → test k ≡ b → (p.actor == d) ≡ true → ((q : Held) → give p.holder q ≡ (k, q) ∷ [])
+      → gather give d (cond b ps (p ∷ rest)) ≡ less_of test ((k, p.held) ∷ gather give d ps)
+  at true k is own gives = sym (ap (λ (z : Bool). cond z (gather give d ps) ((k, p.held) ∷ less_of test (gather give d ps))) is)
+  at false k is own gives = ap (λ (z : Bool). cond z (give p.holder p.held) [] ++ gather give d rest) own
+      ∙ ap (λ (l : List (K × Held)). l ++ gather give d rest) (gives p.held)
+      ∙ ap (λ (l : List (K × Held)). (k, p.held) ∷ l) left
+      ∙ sym (ap (λ (z : Bool). cond z (gather give d ps) ((k, p.held) ∷ less_of test (gather give d ps))) is)
 
-    by : (b : Bool) → (p.actor == d) ≡ b → ((k : K) × ((q : Held) → give p.holder q ≡ (k, q) ∷ []) × (is_holder p.holder holder ≡ test k)) ⊎ (((q : Held) → give p.holder q ≡ []) × (is_holder p.holder holder ≡ false))
-        → gather give d (cond (b && is_holder p.holder holder) ps (p ∷ rest)) ≡ less_of test (cond b (give p.holder p.held) [] ++ gather give d ps)
-    by true own (inl a) =
-        ap (λ (z : Bool). gather give d (cond z ps (p ∷ rest))) a.2 ∙ at (test a.0) a.0 refl own a.1
-        ∙ ap (λ (l : List (K × Held)). less_of test (l ++ gather give d ps)) (sym (a.1 p.held))
-    by true own (inr a) =
-        ap (λ (z : Bool). gather give d (cond z ps (p ∷ rest))) a.1
-        ∙ ap (λ (z : Bool). cond z (give p.holder p.held) [] ++ gather give d rest) own
-        ∙ ap (λ (l : List (K × Held)). l ++ gather give d rest) (a.0 p.held)
-        ∙ left
-        ∙ ap (λ (l : List (K × Held)). less_of test (l ++ gather give d ps)) (sym (a.0 p.held))
-    by false own a = ap (λ (z : Bool). cond z (give p.holder p.held) [] ++ gather give d rest) own ∙ left
+  by : (b : Bool) → (p.actor == d) ≡ b → ((k : K) × ((q : Held) → give p.holder q ≡ (k, q) ∷ []) × (is_holder p.holder holder ≡ test k)) ⊎ (((q : Held) → give p.holder q ≡ []) × (is_holder p.holder holder ≡ false))
+      → gather give d (cond (b && is_holder p.holder holder) ps (p ∷ rest)) ≡ less_of test (cond b (give p.holder p.held) [] ++ gather give d ps)
+  by true own (inl a) = ap (λ (z : Bool). gather give d (cond z ps (p ∷ rest))) a.2 ∙ at (test a.0) a.0 refl own a.1
+      ∙ ap (λ (l : List (K × Held)). less_of test (l ++ gather give d ps)) (sym (a.1 p.held))
+  by true own (inr a) = ap (λ (z : Bool). gather give d (cond z ps (p ∷ rest))) a.1
+      ∙ ap (λ (z : Bool). cond z (give p.holder p.held) [] ++ gather give d rest) own
+      ∙ ap (λ (l : List (K × Held)). l ++ gather give d rest) (a.0 p.held) ∙ left
+      ∙ ap (λ (l : List (K × Held)). less_of test (l ++ gather give d ps)) (sym (a.0 p.held))
+  by false own a = ap (λ (z : Bool). cond z (give p.holder p.held) [] ++ gather give d rest) own ∙ left
 
 -- what the others give stays, and the one is gone
 less-gather : {K : Type 0} (give : Holder → Held → List (K × Held)) (test : K → Bool) (holder : Holder) (d : ℕ) (ps : List Pin) → Tells give test holder → gather give d (without d holder ps) ≡ less_of test (gather give d ps)
@@ -98,18 +85,16 @@ less-gather give test holder d (p ∷ ps) t = less-one give test holder d p ps (
 -- the tests that there are
 
 mapping-tells : (handle : Handle) → Tells by_mapping (λ (k : Handle). same_handle k handle) (ByMapping handle)
-mapping-tells handle = record { tells = by }
-  where
-    by : (x : Holder) → ((k : Handle) × ((p : Held) → by_mapping x p ≡ (k, p) ∷ []) × (is_holder x (ByMapping handle) ≡ same_handle k handle)) ⊎ (((p : Held) → by_mapping x p ≡ []) × (is_holder x (ByMapping handle) ≡ false))
-    by (ByMapping k) = inl (k, λ p. refl, refl)
-    by (ByLeg n) = inr (λ p. refl, refl)
+mapping-tells handle = record { tells = by } where
+  by : (x : Holder) → ((k : Handle) × ((p : Held) → by_mapping x p ≡ (k, p) ∷ []) × (is_holder x (ByMapping handle) ≡ same_handle k handle)) ⊎ (((p : Held) → by_mapping x p ≡ []) × (is_holder x (ByMapping handle) ≡ false))
+  by (ByMapping k) = inl (k, λ p. refl, refl)
+  by (ByLeg n) = inr (λ p. refl, refl)
 
 leg-tells : (number : ℕ) → Tells by_leg (λ (k : ℕ). k == number) (ByLeg number)
-leg-tells number = record { tells = by }
-  where
-    by : (x : Holder) → ((k : ℕ) × ((p : Held) → by_leg x p ≡ (k, p) ∷ []) × (is_holder x (ByLeg number) ≡ (k == number))) ⊎ (((p : Held) → by_leg x p ≡ []) × (is_holder x (ByLeg number) ≡ false))
-    by (ByMapping k) = inr (λ p. refl, refl)
-    by (ByLeg n) = inl (n, λ p. refl, refl)
+leg-tells number = record { tells = by } where
+  by : (x : Holder) → ((k : ℕ) × ((p : Held) → by_leg x p ≡ (k, p) ∷ []) × (is_holder x (ByLeg number) ≡ (k == number))) ⊎ (((p : Held) → by_leg x p ≡ []) × (is_holder x (ByLeg number) ≡ false))
+  by (ByMapping k) = inr (λ p. refl, refl)
+  by (ByLeg n) = inl (n, λ p. refl, refl)
 
 -- what a holder of another kind gives is not touched
 
@@ -158,8 +143,7 @@ loses-mapping h d handle p found =
 
 -- the domain's mappings lose the one of the handle
 mapping-left : (h : History) (d : DomId) (p : Held) (handle : Handle) (seen : Seen) (answer : Option Answer) → mappings_at (unpins d p (ByMapping handle) seen answer ∷ h) d.0 ≡ less handle (mappings_at h d.0)
-mapping-left h d p handle seen answer =
-    ap (gather by_mapping d.0) (unpinned-live h d p (ByMapping handle) seen answer)
+mapping-left h d p handle seen answer = ap (gather by_mapping d.0) (unpinned-live h d p (ByMapping handle) seen answer)
     ∙ less-gather by_mapping (λ (k : Handle). same_handle k handle) (ByMapping handle) d.0 (live h) (mapping-tells handle)
     ∙ less-mapping (mappings_at h d.0) handle
 
@@ -177,11 +161,10 @@ mapping-agrees h d p handle seen answer kept m found a =
 -- by the place of a call's own pin, the last one
 
 later : (m n : ℕ) → (m == m + suc n) ≡ false
-later m n = by (m == m + suc n) refl
-  where
-    by : (b : Bool) → (m == m + suc n) ≡ b → (m == m + suc n) ≡ false
-    by true e = absurd (let f : m ≡ m + suc n = eqb-true m (m + suc n) e in omega arith)
-    by false e = e
+later m n = by (m == m + suc n) refl where
+  by : (b : Bool) → (m == m + suc n) ≡ b → (m == m + suc n) ≡ false
+  by true e = absurd (let f : m ≡ m + suc n = eqb-true m (m + suc n) e in omega arith)
+  by false e = e
 
 last-one : (m : ℕ) (ps : List Held) (p : Held) → one_of (λ (k : ℕ). k == m + length ps) (numbered m (ps ++ p ∷ [])) ≡ Some p
 last-one m [] p = ap (λ (b : Bool). cond b (Some p) None) (eq-eqb m (m + 0) (omega arith))
@@ -206,8 +189,7 @@ loses-leg h d ps p held =
 
 pub leg-left : (h : History) (d : DomId) (ps : List Held) (p : Held) (seen : Seen) (answer : Option Answer) → legs_at h d.0 ≡ numbered 0 (ps ++ p ∷ [])
     → legs_at (unpins d p (ByLeg (length ps)) seen answer ∷ h) d.0 ≡ numbered 0 ps
-leg-left h d ps p seen answer held =
-    ap (gather by_leg d.0) (unpinned-live h d p (ByLeg (length ps)) seen answer)
+leg-left h d ps p seen answer held = ap (gather by_leg d.0) (unpinned-live h d p (ByLeg (length ps)) seen answer)
     ∙ less-gather by_leg (λ (k : ℕ). k == length ps) (ByLeg (length ps)) d.0 (live h) (leg-tells (length ps))
     ∙ ap (less_of (λ (k : ℕ). k == length ps)) held ∙ subst (λ (n : ℕ). less_of (λ (k : ℕ). k == n) (numbered 0 (ps ++ p ∷ [])) ≡ numbered 0 ps) (from-zero (length ps)) (last-less 0 ps p)
 
@@ -232,8 +214,7 @@ hits m t r k = (m.dom.0 == t) && (m.gref.0 == r) && same_dir m.dir k
 
 -- the count of one kind on one entry falls by one, where the pin is of that
 count-less : (m : Held) (whole less : List Pin) (t r : ℕ) (k : Dir) → Loses m whole less → count_by (is_pin_on t r k) whole ≡ cond (hits m t r k) 1 0 + count_by (is_pin_on t r k) less
-count-less m whole less t r k l =
-    let f : Pin → Bool = is_pin_on t r k in
+count-less m whole less t r k l = let f : Pin → Bool = is_pin_on t r k in
     let one : cond (f l.pin) 1 0 ≡ cond (hits m t r k) 1 0 = ap (λ (p : Held). cond (hits p t r k) 1 0) l.of in
     let all : count_by f whole ≡ count_by f l.front + count_by f (l.pin ∷ l.back) = ap (count_by f) l.is ∙ count-append f l.front (l.pin ∷ l.back) in
     let some : count_by f less ≡ count_by f l.front + count_by f l.back = ap (count_by f) l.left ∙ count-append f l.front l.back in
@@ -259,10 +240,9 @@ shrunk-count : (h : History) (i : Item) (p : Held) (t r : ℕ) (k : Dir) → Shr
 shrunk-count h i p t r k l = count-less p (live h) (live (i ∷ h)) t r k l
 
 shrunk-le : (h : History) (i : Item) (p : Held) (t r : ℕ) (k : Dir) → Shrinks h i p → count_by (is_pin_on t r k) (live (i ∷ h)) ≤ count_by (is_pin_on t r k) (live h)
-shrunk-le h i p t r k l = sums _ _ _ (shrunk-count h i p t r k l)
-  where
-    sums : (a b c : ℕ) → a ≡ b + c → c ≤ a
-    sums a b c e = omega arith
+shrunk-le h i p t r k l = sums _ _ _ (shrunk-count h i p t r k l) where
+  sums : (a b c : ℕ) → a ≡ b + c → c ≤ a
+  sums a b c e = omega arith
 
 -- the slot that the unpin counts down
 counted-down : (on hit : Bool) (old now was : ℕ) → on ≡ true → old ≡ was → was ≡ cond (on && hit) 1 0 + now → cond hit (old - 1) old ≡ now
@@ -271,8 +251,7 @@ counted-down true false old now was p e f = omega arith
 counted-down false hit old now was p e f = absurd (false≢true p)
 
 slot-down : (h : History) (i : Item) (p : Held) (q : ℕ) (old : PinCounts) → KeepsEntries i → Shrinks h i p → (p.dom.0 == q) ≡ true → SlotAgrees h q p.gref.0 old → SlotAgrees (i ∷ h) q p.gref.0 (slot_after (Unpinned p.dir) old)
-slot-down h i p q old keeps shrinks on a =
-    let r = p.gref.0 in
+slot-down h i p q old keeps shrinks on a = let r = p.gref.0 in
     let both_on : ((p.dom.0 == q) && (r == r)) ≡ true = and_from (p.dom.0 == q) (r == r) on (eq-eqb r r refl) in
     both p.dir (a.first ∙ sym (same-body i h q r FirstHalf keeps)) (a.second ∙ sym (same-body i h q r SecondHalf keeps))
     (counted-down ((p.dom.0 == q) && (r == r)) (same_dir p.dir Read) old.reads (reads_at (i ∷ h) q r) (reads_at h q r) both_on a.reads (shrunk-count h i p q r Read shrinks))
@@ -291,13 +270,12 @@ no-hit false hit n was now p e f = omega arith
 
 -- a slot that the unpin doesn't name
 slot-stays : (h : History) (i : Item) (p : Held) (q k : ℕ) (old : PinCounts) → KeepsEntries i → Shrinks h i p → ((p.dom.0 == q) && (p.gref.0 == k)) ≡ false → SlotAgrees h q k old → SlotAgrees (i ∷ h) q k old
-slot-stays h i p q k old keeps shrinks off a =
-    record {
-      reads = no-hit ((p.dom.0 == q) && (p.gref.0 == k)) (same_dir p.dir Read) old.reads (reads_at h q k) (reads_at (i ∷ h) q k) off a.reads (shrunk-count h i p q k Read shrinks);
-      writes = no-hit ((p.dom.0 == q) && (p.gref.0 == k)) (same_dir p.dir Write) old.writes (writes_at h q k) (writes_at (i ∷ h) q k) off a.writes (shrunk-count h i p q k Write shrinks);
-      first = a.first ∙ sym (same-body i h q k FirstHalf keeps);
-      second = a.second ∙ sym (same-body i h q k SecondHalf keeps);
-    }
+slot-stays h i p q k old keeps shrinks off a = record {
+  reads = no-hit ((p.dom.0 == q) && (p.gref.0 == k)) (same_dir p.dir Read) old.reads (reads_at h q k) (reads_at (i ∷ h) q k) off a.reads (shrunk-count h i p q k Read shrinks);
+  writes = no-hit ((p.dom.0 == q) && (p.gref.0 == k)) (same_dir p.dir Write) old.writes (writes_at h q k) (writes_at (i ∷ h) q k) off a.writes (shrunk-count h i p q k Write shrinks);
+  first = a.first ∙ sym (same-body i h q k FirstHalf keeps);
+  second = a.second ∙ sym (same-body i h q k SecondHalf keeps);
+}
 
 unpinned-slots : (h : History) (i : Item) (p : Held) (q : ℕ) (slots : List PinCounts) (b : Bool) → KeepsEntries i → Shrinks h i p → (p.dom.0 == q) ≡ b → SlotsAgree h q slots
     → SlotsAgree (i ∷ h) q (cond b (changed_at p.gref.0 (slot_after (Unpinned p.dir)) slots) slots)
@@ -325,7 +303,7 @@ unpin-stands s h xs zs x p holder seen answer kept o st here a becomes loses map
     (slots-stand s i h xs zs x kept o p.dom.0 p.gref.0 (Unpinned p.dir) keeps refl st here a becomes (λ z slots b is was. unpinned-slots h i p z slots b keeps shrinks is was) maps call given)
     (subst (All (IsLawful s)) (sym (unpinned-live h x.id p holder seen answer)) (all-less (IsLawful s) p (live h) (without x.id.0 holder (live h)) loses st.lawful))
     (λ t r within. let was = counts-fit s h t r (st.words t r within) in
-    (le-lt (reads_at (i ∷ h) t r) (reads_at h t r) 4096 (shrunk-le h i p t r Read shrinks) was.0, le-lt (writes_at (i ∷ h) t r) (writes_at h t r) 4096 (shrunk-le h i p t r Write shrinks) was.1))
+    (le-lt (reads_at (i ∷ h) t r) (reads_at h t r) (MAX_PINS + 1) (shrunk-le h i p t r Read shrinks) was.0, le-lt (writes_at (i ∷ h) t r) (writes_at h t r) (MAX_PINS + 1) (shrunk-le h i p t r Write shrinks) was.1))
     (λ t r none. let was = st.free t r none in
     (le-zero (reads_at (i ∷ h) t r) (reads_at h t r) (shrunk-le h i p t r Read shrinks) was.0, le-zero (writes_at (i ∷ h) t r) (writes_at h t r) (shrunk-le h i p t r Write shrinks) was.1))
   where
@@ -344,17 +322,16 @@ pub becomes-unpinned : (xs ys : List State) (x : State) (p : Held) (holder : Hol
 becomes-unpinned xs ys x p holder o was = λ q.
     state-changed (changed_in p.dom.0 (with_slot p.gref.0 (Unpinned p.dir)) ys) x.id.0 q (without_mapping holder) (keeps holder)
     ∙ ap (λ (z : Option State). after_change (x.id.0 == q) (without_mapping holder) z) (becomes-changed xs ys x (record x { underway = o }) p.dom.0 (with_slot p.gref.0 (Unpinned p.dir)) (λ y. refl) was q)
-    ∙ by holder (x.id.0 == q) (p.dom.0 == q) (state_of xs q)
-  where
-    keeps : (w : Holder) (y : State) → (without_mapping w y).id ≡ y.id
-    keeps (ByMapping handle) y = refl
-    keeps (ByLeg number) y = refl
+    ∙ by holder (x.id.0 == q) (p.dom.0 == q) (state_of xs q) where
+      keeps : (w : Holder) (y : State) → (without_mapping w y).id ≡ y.id
+      keeps (ByMapping handle) y = refl
+      keeps (ByLeg number) y = refl
 
-    by : (w : Holder) (b c : Bool) (z : Option State) → after_change b (without_mapping w) (after_change c (with_slot p.gref.0 (Unpinned p.dir)) (cond b (Some (record x { underway = o })) z))
-        ≡ after_change c (with_slot p.gref.0 (Unpinned p.dir)) (cond b (Some (without_mapping w (record x { underway = o }))) z)
-    by (ByMapping handle) true true z = refl
-    by (ByMapping handle) true false z = refl
-    by (ByMapping handle) false c z = refl
-    by (ByLeg number) true true z = refl
-    by (ByLeg number) true false z = refl
-    by (ByLeg number) false c z = refl
+      by : (w : Holder) (b c : Bool) (z : Option State) → after_change b (without_mapping w) (after_change c (with_slot p.gref.0 (Unpinned p.dir)) (cond b (Some (record x { underway = o })) z))
+          ≡ after_change c (with_slot p.gref.0 (Unpinned p.dir)) (cond b (Some (without_mapping w (record x { underway = o }))) z)
+      by (ByMapping handle) true true z = refl
+      by (ByMapping handle) true false z = refl
+      by (ByMapping handle) false c z = refl
+      by (ByLeg number) true true z = refl
+      by (ByLeg number) true false z = refl
+      by (ByLeg number) false c z = refl

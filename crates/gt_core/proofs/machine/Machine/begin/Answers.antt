@@ -1,9 +1,7 @@
 use Rattle.gt_core.proofs.Words.{sym, ◌∙◌, ap, Some, ◌≡◌, ℕ, List, refl, subst, None, Option, position, is_some, Open, with_call, given_by, State, kept_by, ◌<◌, ◌+◌, knowledge_of, setting_of, DomainsStand, Opens, same_Some, set, ◌∷◌}
 use Rattle.gt_core.specs.declared.machine.Opening.{Opening}
 use Rattle.std.proofs.Common.{◌^◌}
-use Rattle.gt_core.proofs.Beginning.{serial-left}
-use Rattle.gt_core.proofs.Places.{has_id, on-err}
-use Rattle.gt_core.proofs.Beginning.{begin-wants, begin-nowhere, begin-busy, begin-answers, begin-opened, place-at, began}
+use Rattle.gt_core.proofs.Beginning.{serial-left, begin-wants, begin-nowhere, begin-busy, begin-answers, begin-opened, place-at, began, has_id, on-err}
 use Rattle.gt_core.proofs.machine.Machine.begin.Goals as goal
 
 pub returns-in_default-clause-stands : goal.returns-in_default-clause-stands
@@ -21,12 +19,10 @@ returns-then-is_some-clause-stands g c =
     λ h st. (begin-busy s h xs c.args.dom c.in-Some.at c.index.result.now p c.index.ensures (ap (λ (o : Option Open). is_some o) (sym c.underway.ensures) ∙ sym c.is_some.ensures ∙ c.if-is_some.true) st, st)
 
 pub returns-in-Done-clause-stands : goal.returns-in-Done-clause-stands
-returns-in-Done-clause-stands g c =
-    let s = setting_of c.args.self.now.config (g.P.Allows.may c.args.self.now.rights) in
+returns-in-Done-clause-stands g c = let s = setting_of c.args.self.now.config (g.P.Allows.may c.args.self.now.rights) in
     let xs = c.args.self.now.domains.items in
     let p : position (has_id c.args.dom.0) xs ≡ Some c.in-Some.at = ap (λ (l : List State). position (has_id c.args.dom.0) l) (sym c.deref.ensures.value) ∙ sym c.find.ensures ∙ c.in-Some.is in
-    let x = c.index.result.now in
-    let k = knowledge_of s.domains s.first_generation s.may x.own x.header x.mappings in
+    let x = c.index.result.now in let k = knowledge_of s.domains s.first_generation s.may x.own x.header x.mappings in
     let opens = subst (λ (o : Opening). Opens k c.args.dom c.args.request o) c.in-Done.is (c.open_at.ensures x (place-at xs c.args.dom.0 c.in-Some.at x p c.index.ensures)) in
     λ h st. let r = begin-answers s h xs c.args.dom c.in-Some.at x c.args.request c.in-Done.verdict c.answer_of.result c.answer_of.ensures p c.index.ensures (ap (λ (o : Option Open). is_some o) (sym c.underway.ensures) ∙ sym c.is_some.ensures ∙ c.if-is_some.false) opens st in
     ((r.0, (refl, refl), r.1), r.2)
@@ -36,8 +32,7 @@ returns-in_ok-begin-in-Open-clause-stands g c =
     let s = setting_of c.args.self.now.config (g.P.Allows.may c.args.self.now.rights) in
     let xs = c.args.self.now.domains.items in
     let p : position (has_id c.args.dom.0) xs ≡ Some c.in-Some.at = ap (λ (l : List State). position (has_id c.args.dom.0) l) (sym c.deref.ensures.value) ∙ sym c.find.ensures ∙ c.in-Some.is in
-    let x = c.index.result.now in
-    let k = knowledge_of s.domains s.first_generation s.may x.own x.header x.mappings in
+    let x = c.index.result.now in let k = knowledge_of s.domains s.first_generation s.may x.own x.header x.mappings in
     let opens = subst (λ (o : Opening). Opens k c.args.dom c.args.request o) c.in-Open.is (c.open_at.ensures x (place-at xs c.args.dom.0 c.in-Some.at x p c.index.ensures)) in
     let y = c.index_mut.result.now in
     let same : x ≡ y = same_Some x y (sym (place-at xs c.args.dom.0 c.in-Some.at x p c.index.ensures) ∙ place-at xs c.args.dom.0 c.in-Some.at y p c.index_mut.ensures.value) in
@@ -55,19 +50,16 @@ returns-in_err-begin-in-Open-clause-memory g c =
     let s = setting_of c.args.self.now.config (g.P.Allows.may c.args.self.now.rights) in
     let xs = c.args.self.now.domains.items in
     let p : position (has_id c.args.dom.0) xs ≡ Some c.in-Some.at = ap (λ (l : List State). position (has_id c.args.dom.0) l) (sym c.deref.ensures.value) ∙ sym c.find.ensures ∙ c.in-Some.is in
-    let x = c.index.result.now in
-    let k = knowledge_of s.domains s.first_generation s.may x.own x.header x.mappings in
+    let x = c.index.result.now in let k = knowledge_of s.domains s.first_generation s.may x.own x.header x.mappings in
     let opens = subst (λ (o : Opening). Opens k c.args.dom c.args.request o) c.in-Open.is (c.open_at.ensures x (place-at xs c.args.dom.0 c.in-Some.at x p c.index.ensures)) in
     λ h st. on-err c.from_residual.result _ (begin-wants s h xs c.args.dom c.in-Some.at x c.args.request c.in-Open.open c.in_err-begin-in-Open.ensures.memory p c.index.ensures
     (ap (λ (o : Option Open). is_some o) (sym c.underway.ensures) ∙ sym c.is_some.ensures ∙ c.if-is_some.false) opens st)
 
 pub begin-requires : goal.begin-requires
-begin-requires g c =
-    let s = setting_of c.args.self.now.config (g.P.Allows.may c.args.self.now.rights) in
+begin-requires g c = let s = setting_of c.args.self.now.config (g.P.Allows.may c.args.self.now.rights) in
     let xs = c.args.self.now.domains.items in
     let p : position (has_id c.args.dom.0) xs ≡ Some c.in-Some.at = ap (λ (l : List State). position (has_id c.args.dom.0) l) (sym c.deref.ensures.value) ∙ sym c.find.ensures ∙ c.in-Some.is in
-    let x = c.index.result.now in
-    let k = knowledge_of s.domains s.first_generation s.may x.own x.header x.mappings in
+    let x = c.index.result.now in let k = knowledge_of s.domains s.first_generation s.may x.own x.header x.mappings in
     let opens = subst (λ (o : Opening). Opens k c.args.dom c.args.request o) c.in-Open.is (c.open_at.ensures x (place-at xs c.args.dom.0 c.in-Some.at x p c.index.ensures)) in
     let y = c.index_mut.result.now in
     let same : x ≡ y = same_Some x y (sym (place-at xs c.args.dom.0 c.in-Some.at x p c.index.ensures) ∙ place-at xs c.args.dom.0 c.in-Some.at y p c.index_mut.ensures.value) in

@@ -1,12 +1,9 @@
-use Rattle.gt_core.proofs.Words.{◌≡◌, ℕ, length, Option, Some, None, refl, sym, ap, ◌∙◌, subst, set, same_Some, slice_get_read, slice_get, IsTrue, bytes_at, FrameSet, frame_at, has_range, Open, Step, BytesAnswer, State, IsLoading, asked_in, IsReadable, with_underway, Closed}
-use Rattle.std.specs.Prelude.{vec_len}
+use Rattle.gt_core.proofs.Words.{◌≡◌, ℕ, length, Option, Some, None, refl, sym, ap, ◌∙◌, subst, set, same_Some, slice_get_read, slice_get, IsTrue, bytes_at, FrameSet, frame_at, has_range, Open, Step, BytesAnswer, State, IsLoading, asked_in, IsReadable, with_underway, Closed, vec_len}
 use Rattle.gt_core.proofs.Settling.{loaded, closed-plain}
 use Rattle.gt_core.proofs.machine.Machine.close.Goals as goal
 
 pub read_bytes-bytes-requires : goal.read_bytes-bytes-requires
-read_bytes-bytes-requires g c =
-    let xs = c.args.self.now.domains.items in
-    let at = c.args.at in
+read_bytes-bytes-requires g c = let xs = c.args.self.now.domains.items in let at = c.args.at in
     let y = c.index_mut.result.now in
     let here : slice_get xs at ≡ Some y = slice_get_read xs (length xs) at y refl c.requires.there c.index_mut.ensures.value in
     let can = subst (IsReadable c.args.self.now.frames c.args.last.call) c.in-Read.is c.requires.readable in
@@ -14,16 +11,11 @@ read_bytes-bytes-requires g c =
     subst (λ (n : ℕ). IsTrue (has_range c.args.self.now.frames (record { owner = c.in-Read.dom; number = c.in-Read.frame }) c.in-Read.off n)) (sym (loaded c.args.last.call.request _ c.in-Read.len asks can.1)) can.0
 
 pub returns-in-Read-clause-settles : goal.returns-in-Read-clause-settles
-returns-in-Read-clause-settles g c =
-    let fs : FrameSet = c.args.self.now.frames in
-    let xs = c.args.self.now.domains.items in
-    let at = c.args.at in
-    let y = c.index_mut.result.now in
-    let out = c.close_load-out.result in
-    let new = set xs at c.close_load-out.new.self in
+returns-in-Read-clause-settles g c = let fs : FrameSet = c.args.self.now.frames in
+    let xs = c.args.self.now.domains.items in let at = c.args.at in let y = c.index_mut.result.now in
+    let out = c.close_load-out.result in let new = set xs at c.close_load-out.new.self in
     let bytes = c.read_bytes-bytes.result in
-    let can = subst (IsReadable fs c.args.last.call) c.in-Read.is c.requires.readable in
-    λ d here.
+    let can = subst (IsReadable fs c.args.last.call) c.in-Read.is c.requires.readable in λ d here.
     let same : y ≡ d = same_Some _ _ (sym (slice_get_read xs (length xs) at y refl c.requires.there c.index_mut.ensures.value) ∙ here) in
     let asks : IsLoading (Some c.args.last.call.request) (vec_len out) =
     subst (λ (o : Option Open). IsLoading (asked_in o) (vec_len out)) (ap (λ (z : State). z.underway) same ∙ c.requires.under d here) c.close_load-out.ensures.room in
@@ -33,11 +25,8 @@ returns-in-Read-clause-settles g c =
     subst (λ (s : Step). Closed fs xs at d s (BytesAnswer (record { bytes = bytes })) new) (sym c.in-Read.is) (record { bytes = bytes }, refl, after, read)
 
 pub returns-in_default : goal.returns-in_default
-returns-in_default g c =
-    let xs = c.args.self.now.domains.items in
-    let at = c.args.at in
-    let y = c.index_mut-in_default.result.now in
-    record {
+returns-in_default g c = let xs = c.args.self.now.domains.items in let at = c.args.at in
+    let y = c.index_mut-in_default.result.now in record {
       config = refl;
       rights = refl;
       frames = refl;

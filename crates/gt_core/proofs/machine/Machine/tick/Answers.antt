@@ -1,6 +1,5 @@
 use Rattle.gt_core.proofs.Words.{sym, ◌∙◌, ap, Some, ◌≡◌, List, None, subst, ◌∷◌, length, position, slice_get, same_Some, sees, State, IsAdmitted, AccessedBy, FrameSet, setting_of}
-use Rattle.gt_core.proofs.Places.{has_id, on-err}
-use Rattle.gt_core.proofs.Beginning.{begin-nowhere, tick-idle, place-at}
+use Rattle.gt_core.proofs.Beginning.{begin-nowhere, tick-idle, place-at, has_id, on-err}
 use Rattle.gt_core.proofs.Applying.{slice-after}
 use Rattle.gt_core.proofs.Stepping.{Begins, tick-does, room-asked, tick-wants, tick-admitted, tick-readable, readable-after}
 use Rattle.gt_core.proofs.machine.Machine.tick.Goals as goal
@@ -22,9 +21,7 @@ returns-in_default-underway-clause-stands g c =
 pub returns-in_err-write_bytes-clause-memory : goal.returns-in_err-write_bytes-clause-memory
 returns-in_err-write_bytes-clause-memory g c =
     let s = setting_of c.args.self.now.config (g.P.Allows.may c.args.self.now.rights) in
-    let xs = c.args.self.now.domains.items in
-    let x = c.index.result.now in
-    let at = c.in-Some.at in
+    let xs = c.args.self.now.domains.items in let x = c.index.result.now in let at = c.in-Some.at in
     let o = c.in-Some-underway.open in
     let p : position (has_id c.args.dom.0) xs ≡ Some at = ap (λ (l : List State). position (has_id c.args.dom.0) l) (sym c.deref.ensures.value) ∙ sym c.find.ensures ∙ c.in-Some.is in
     let here : slice_get xs at ≡ Some x = place-at xs c.args.dom.0 at x p c.index.ensures in
@@ -32,11 +29,8 @@ returns-in_err-write_bytes-clause-memory g c =
     λ h st. on-err c.from_residual.result _ (tick-wants s h xs c.args.dom at x o p c.index.ensures is st c.in_err-write_bytes.ensures.memory)
 
 pub write_bytes-requires : goal.write_bytes-requires
-write_bytes-requires g c =
-    let s = setting_of c.args.self.now.config (g.P.Allows.may c.args.self.now.rights) in
-    let xs = c.args.self.now.domains.items in
-    let x = c.index.result.now in
-    let at = c.in-Some.at in
+write_bytes-requires g c = let s = setting_of c.args.self.now.config (g.P.Allows.may c.args.self.now.rights) in
+    let xs = c.args.self.now.domains.items in let x = c.index.result.now in let at = c.in-Some.at in
     let o = c.in-Some-underway.open in
     let p : position (has_id c.args.dom.0) xs ≡ Some at = ap (λ (l : List State). position (has_id c.args.dom.0) l) (sym c.deref.ensures.value) ∙ sym c.find.ensures ∙ c.in-Some.is in
     let here : slice_get xs at ≡ Some x = place-at xs c.args.dom.0 at x p c.index.ensures in
@@ -46,9 +40,7 @@ write_bytes-requires g c =
     subst (λ (z : State). IsAdmitted c.args.self.now.frames z o.call o.step) written (tick-admitted s c.requires.0 xs c.args.self.now.frames c.args.dom at x o p c.index.ensures is c.requires.1)
 
 pub go_on_or_end-answer-requires-clause-under : goal.go_on_or_end-answer-requires-clause-under
-go_on_or_end-answer-requires-clause-under g c =
-    let xs = c.args.self.now.domains.items in
-    let at = c.in-Some.at in
+go_on_or_end-answer-requires-clause-under g c = let xs = c.args.self.now.domains.items in let at = c.in-Some.at in
     let p : position (has_id c.args.dom.0) xs ≡ Some at = ap (λ (l : List State). position (has_id c.args.dom.0) l) (sym c.deref.ensures.value) ∙ sym c.find.ensures ∙ c.in-Some.is in
     let here = place-at xs c.args.dom.0 at c.index.result.now p c.index.ensures in
     λ d there. ap (λ (z : State). z.underway) (same_Some _ _ (sym there ∙ here)) ∙ sym c.underway.ensures ∙ c.in-Some-underway.is
@@ -56,9 +48,7 @@ go_on_or_end-answer-requires-clause-under g c =
 pub go_on_or_end-answer-requires-clause-readable : goal.go_on_or_end-answer-requires-clause-readable
 go_on_or_end-answer-requires-clause-readable g c =
     let s = setting_of c.args.self.now.config (g.P.Allows.may c.args.self.now.rights) in
-    let xs = c.args.self.now.domains.items in
-    let x = c.index.result.now in
-    let at = c.in-Some.at in
+    let xs = c.args.self.now.domains.items in let x = c.index.result.now in let at = c.in-Some.at in
     let o = c.in-Some-underway.open in
     let p : position (has_id c.args.dom.0) xs ≡ Some at = ap (λ (l : List State). position (has_id c.args.dom.0) l) (sym c.deref.ensures.value) ∙ sym c.find.ensures ∙ c.in-Some.is in
     let here = place-at xs c.args.dom.0 at x p c.index.ensures in
@@ -70,9 +60,7 @@ go_on_or_end-answer-requires-clause-readable g c =
 pub go_on_or_end-answer-requires-clause-room : goal.go_on_or_end-answer-requires-clause-room
 go_on_or_end-answer-requires-clause-room g c =
     let s = setting_of c.args.self.now.config (g.P.Allows.may c.args.self.now.rights) in
-    let xs = c.args.self.now.domains.items in
-    let x = c.index.result.now in
-    let at = c.in-Some.at in
+    let xs = c.args.self.now.domains.items in let x = c.index.result.now in let at = c.in-Some.at in
     let o = c.in-Some-underway.open in
     let p : position (has_id c.args.dom.0) xs ≡ Some at = ap (λ (l : List State). position (has_id c.args.dom.0) l) (sym c.deref.ensures.value) ∙ sym c.find.ensures ∙ c.in-Some.is in
     let here = place-at xs c.args.dom.0 at x p c.index.ensures in
@@ -81,13 +69,9 @@ go_on_or_end-answer-requires-clause-room g c =
     room-asked s c.requires.0 xs c.args.dom at x o c.see-seen.result c.advance-action.result.0 c.advance-action.result.1 c.requires.1.domains begins
 
 pub returns-clause-stands : goal.returns-clause-stands
-returns-clause-stands g c =
-    let s = setting_of c.args.self.now.config (g.P.Allows.may c.args.self.now.rights) in
-    let xs = c.args.self.now.domains.items in
-    let x = c.index.result.now in
-    let at = c.in-Some.at in
-    let o = c.in-Some-underway.open in
-    let fs : FrameSet = c.args.self.now.frames in
+returns-clause-stands g c = let s = setting_of c.args.self.now.config (g.P.Allows.may c.args.self.now.rights) in
+    let xs = c.args.self.now.domains.items in let x = c.index.result.now in let at = c.in-Some.at in
+    let o = c.in-Some-underway.open in let fs : FrameSet = c.args.self.now.frames in
     let gs : FrameSet = c.write_bytes.new.frames in
     let p : position (has_id c.args.dom.0) xs ≡ Some at = ap (λ (l : List State). position (has_id c.args.dom.0) l) (sym c.deref.ensures.value) ∙ sym c.find.ensures ∙ c.in-Some.is in
     let here = place-at xs c.args.dom.0 at x p c.index.ensures in
