@@ -1,7 +1,8 @@
 -- What an access to bytes rests on: it is inside a frame, and justified.
-use Rattle.gt_core.proofs.Words.{◌≡◌, ◌≢◌, ◌≤◌, ◌<◌, ◌+◌, ◌⊎◌, inl, inr, ℕ, suc, refl, Bool, true, false, List, [], ◌∷◌, ◌++◌, Option, Some, None, cond, sym, ap, ◌∙◌, arith, subst, reverse, eqb-true, and_parts, and_from, leb-false, false≢true, none-some, same_Some, ◌==◌, ◌&&◌, nat_le, is_none, All, Any, reverse_onto, domain_of, resolved, denial_of, DomId, TypeId, Dir, Read, Write, ForMap, ForCopy, Perms, Triple, FRAME_SIZE, Policy, N1, N5, Entry, Page, Sub, frame_of, permits, forwards, allows_direction, Handle, Held, Route, Direct, Through, Pins, End, Asked, Load, Store, Peek, Poke, Copy, Holder, ByMapping, ByLeg, Place, Refused, ReadBytes, WriteBytes, last_first, CallerKnowledge, begun, frames_of, via_judged, denied, copy_denied, rights_to_copy, refused_when, first, is_source_granted, is_dest_granted, source_pair, dest_pair, opens, RestsOnRequest, RestsOnWays, IsReached, LeadsTo, State, History, Setting, Pin, live, known_at, legs_at, mappings_at, mapping_of, gather, by_mapping, by_leg, same_handle, MayUse, IsInFrame, CopyIsJustified, Justified, IsLawful, IsLawfullyHeld, DomainsStand, numbered, Verdict, owner_by, IsAllowed, IsMapped, IsPermitted, Reaches, Forwards, MayCopy, MayUseMapping, MayAccess, MayAsk, EndIsJustified}
+use Rattle.gt_core.proofs.Words.{◌≡◌, ◌≢◌, ◌≤◌, ◌<◌, ◌+◌, ◌⊎◌, inl, inr, ℕ, suc, refl, Bool, true, false, List, [], ◌∷◌, ◌++◌, Option, Some, None, cond, sym, ap, ◌∙◌, arith, subst, reverse, eqb-true, and_parts, and_from, leb-false, false≢true, none-some, same_Some, ◌==◌, ◌&&◌, nat_le, is_none, All, Any, reverse_onto, domain_of, resolved, denial_of, DomId, TypeId, Dir, Read, Write, ForMap, ForCopy, Perms, Triple, FRAME_SIZE, Policy, N1, N5, Entry, Page, Sub, frame_of, permits, forwards, allows_direction, Handle, Held, Route, Direct, Through, Pins, End, Asked, Load, Store, Peek, Poke, Copy, Holder, ByMapping, ByLeg, Place, Refused, ReadBytes, WriteBytes, last_first, CallerKnowledge, begun, frames_of, via_judged, denied, copy_denied, rights_to_copy, refused_when, first, is_source_granted, is_dest_granted, source_pair, dest_pair, opens, RestsOnRequest, RestsOnWays, IsReached, LeadsTo, State, History, Setting, Pin, live, known_at, legs_at, mappings_at, mapping_of, gather, by_mapping, by_leg, same_handle, MayUse, IsInFrame, CopyIsJustified, Justified, IsLawful, IsLawfullyHeld, DomainsStand, numbered, Verdict, owner_by, IsAllowed, IsMapped, IsPermitted, Reaches, Forwards, MayCopy, MayUseMapping, MayAccess, MayAsk, EndIsJustified, cond_both}
 use Rattle.gt_calls.specs.declared.held.Route.TheVariants.{Own}
 use Rattle.gt_calls.specs.Path.{place_of}
+pub use Rattle.gt_core.proofs.Phases.{none-of}
 
 -- pins among those that a domain's give
 
@@ -57,10 +58,8 @@ leg-gives (ByLeg n) = inl (n, λ p. refl)
 
 found-in : (ms : List (Handle × Held)) (handle : Handle) (m : Held) → mapping_of ms handle ≡ Some m → IsHeldIn m ms
 found-in [] handle m e = absurd (none-some m e)
-found-in (x ∷ ms) handle m e = by (same_handle x.0 handle) (found-in ms handle m) e where
-  by : (b : Bool) → (mapping_of ms handle ≡ Some m → IsHeldIn m ms) → cond b (Some x.1) (mapping_of ms handle) ≡ Some m → (x.1 ≡ m) ⊎ IsHeldIn m ms
-  by true rest f = inl (same_Some _ _ f)
-  by false rest f = inr (rest f)
+found-in (x ∷ ms) handle m e =
+    cond_both (same_handle x.0 handle) (Some x.1) (mapping_of ms handle) (λ o. o ≡ Some m → (x.1 ≡ m) ⊎ IsHeldIn m ms) (λ is f. inl (same_Some _ _ f)) (λ is f. inr (found-in ms handle m f)) e
 
 -- a pin that lets its mapping be used lets the domain access any range in that way
 pub permits-as : (e : Entry) (d : DomId) (held dir : Dir) (off len : ℕ) → ((dir ≡ Write) → held ≡ Write) → permits e d held ForMap 0 0 ≡ true → permits e d dir ForMap off len ≡ true
@@ -130,9 +129,6 @@ mapping-accesses s h xs d dir handle dom frame off len st a writes inside = let 
       subst (MayUseMapping s d) (sym a.found) one.may,
     )
 
-pub none-of : (k : CallerKnowledge) (d : DomId) (r q : Asked) → r ≡ q → begun k d r ≡ None → begun k d q ≡ None
-none-of k d r q is none = subst (λ (z : Asked). begun k d z ≡ None) is none
-
 not-write : (P : Type 0) → Read ≡ Write → P
 not-write P e = cc
 
@@ -196,10 +192,8 @@ leg-pin h d m held legs a = any-map (IsBy by_leg d.0 m) (IsOwnPin d m) (live h) 
 -- the policy allows what is not denied
 allowed : (may : TypeId → TypeId → Perms → Bool) (ts : List Triple) → denied may ts ≡ None → IsAllowed may ts
 allowed may [] e = tt
-allowed may (t ∷ ts) e = by (may t.source t.target t.perm) refl (allowed may ts) e where
-  by : (b : Bool) → may t.source t.target t.perm ≡ b → (denied may ts ≡ None → IsAllowed may ts) → cond b (denied may ts) (Some (Refused (denial_of N5 (Policy t.source t.target t.perm)))) ≡ None → IsAllowed may (t ∷ ts)
-  by true is more f = (is, more f)
-  by false is more f = cc
+allowed may (t ∷ ts) e =
+    cond_both (may t.source t.target t.perm) (denied may ts) (Some (Refused (denial_of N5 (Policy t.source t.target t.perm)))) (λ o. o ≡ None → IsAllowed may (t ∷ ts)) (λ is f. (is, allowed may ts f)) (λ is f. cc) e
 
 via-may : (k : CallerKnowledge) (pair : DomId × DomId) (dom : DomId) → via_judged k pair dom ≡ None → IsAllowed k.may (rights_to_copy k pair.0 pair.1)
 via-may k pair dom e = allowed k.may (rights_to_copy k pair.0 pair.1) (by (is_none (domain_of k.domains dom)) (copy_denied k pair.0 pair.1) e)

@@ -1,6 +1,6 @@
 -- What each step of an open call rests on, by the history.
-use Rattle.gt_core.proofs.Words.{◌≡◌, ◌≢◌, ◌<◌, ◌≤◌, ◌+◌, ◌⊎◌, inl, inr, ℕ, refl, Bool, true, false, List, [], ◌∷◌, Option, None, sym, ap, ◌∙◌, subst, reverse, arith, eqb-true, eqb-false, leb-false, ltb-false, false≢true, ◌==◌, nat_lt, domain_of, resolved, DomId, GrantRef, Dir, Read, Write, ForMap, TABLE_ENTRIES, LAST_GENERATION, MAX_TABLE_FRAMES, MAX_PINS, Rule, N16, Entry, Invalid, Page, Sub, Via, Change, Publish, ToInvalid, ToReadOnly, ToWritable, Half, FirstHalf, SecondHalf, frame_of, permits, control_of, Held, Asked, Grant, Map, Copy, SetVersion, SetupTable, Seen, PinStep, StoreHeader, Exchange, Makes, Aim, Mapping, Source, Dest, Phase, Exchanging, Changing, Walking, Last, Ending, Leg, LegPhase, AtHeader, Pinning, last_first, CallerKnowledge, begun, stands, first, first_look, before_pin, frames_of, path, held_of, map_leg, Continuation, opens, RestsOnRequest, IsFor, action_at, leg_step, HasShown, IsQuiet, State, History, Setting, entry_at, generation_at, body_at, reads_at, writes_at, control_at, word_at, known_at, legs_at, raise_of, IsSafeChange, IsSpelled, MayUse, leg_at, rule_before_pin, StepsSoFar, DomainsStand, FitsAsked, FitsTable, PhaseStands, numbered, Demote, Promote, pins_so_far, map_dir, Pins, Step, LAST_VERSION, N14, N17, pins_of, is_outside, is_past_owner, RestsOnTry, RestsOnGrant, Lets, NoneStands}
-use Rattle.gt_core.proofs.Phases.{IsHere, makes-same, words-of, word-below, grant-invalid, idle-no-pins, of-run, by-giving, word-shows}
+use Rattle.gt_core.proofs.Words.{◌≡◌, ◌≢◌, ◌<◌, ◌≤◌, ◌+◌, ◌⊎◌, inl, inr, ℕ, refl, Bool, true, false, List, [], ◌∷◌, Option, None, sym, ap, ◌∙◌, subst, reverse, arith, eqb-false, leb-false, ltb-false, false≢true, ◌==◌, nat_lt, domain_of, resolved, DomId, GrantRef, Dir, Read, Write, ForMap, TABLE_ENTRIES, LAST_GENERATION, MAX_TABLE_FRAMES, MAX_PINS, Rule, N16, Entry, Invalid, Page, Sub, Via, Change, Publish, ToInvalid, ToReadOnly, ToWritable, Half, FirstHalf, SecondHalf, frame_of, permits, control_of, Held, Asked, Grant, Map, Copy, SetVersion, SetupTable, Seen, PinStep, StoreHeader, Exchange, Makes, Aim, Mapping, Source, Dest, Phase, Exchanging, Changing, Walking, Last, Ending, Leg, LegPhase, AtHeader, Pinning, last_first, CallerKnowledge, begun, stands, first, first_look, before_pin, frames_of, path, held_of, map_leg, Continuation, opens, RestsOnRequest, IsFor, action_at, leg_step, HasShown, IsQuiet, State, History, Setting, entry_at, generation_at, body_at, reads_at, writes_at, control_at, word_at, known_at, legs_at, raise_of, IsSafeChange, IsSpelled, MayUse, leg_at, rule_before_pin, StepsSoFar, DomainsStand, FitsAsked, FitsTable, PhaseStands, numbered, Demote, Promote, pins_so_far, map_dir, Pins, Step, LAST_VERSION, N14, N17, pins_of, is_outside, is_past_owner, RestsOnTry, RestsOnGrant, Lets, NoneStands}
+use Rattle.gt_core.proofs.Phases.{none-of, IsHere, makes-same, words-of, word-below, grant-invalid, idle-no-pins, of-run, by-giving, word-shows}
 use Rattle.gt_core.proofs.Judging.{writes-shown, leg-here, IsAsTried, as-tried, still-judged, control-generation, control-reads, control-writes}
 pub use Rattle.gt_core.proofs.Exchanging.{FitsChange, exchanged-live, exchange-stands, counts-fit}
 use Rattle.gt_core.proofs.Pinning.{pins_at}
@@ -37,13 +37,7 @@ generation-fits s h xs t r st within = let f = (st.words t r within).in_range.ge
     (omega arith)
 
 not-last : (g : ℕ) → g ≤ LAST_GENERATION → g ≢ LAST_GENERATION → g + 1 ≤ LAST_GENERATION
-not-last g le apart = by (g == LAST_GENERATION) refl where
-  by : (b : Bool) → (g == LAST_GENERATION) ≡ b → g + 1 ≤ LAST_GENERATION
-  by true e = absurd (apart (eqb-true g LAST_GENERATION e))
-  by false e = let f : g ≢ LAST_GENERATION = eqb-false g LAST_GENERATION e in omega arith
-
-none-of : (k : CallerKnowledge) (d : DomId) (r q : Asked) → r ≡ q → begun k d r ≡ None → begun k d q ≡ None
-none-of k d r q is none = subst (λ (z : Asked). begun k d z ≡ None) is none
+not-last g le apart = omega arith
 
 stops-none : (n : ℕ) → nat_lt 0 n ≡ false → n ≡ 0
 stops-none n e = let le = ltb-false 0 n e in omega arith
@@ -128,10 +122,7 @@ few-pins h t r Read a = a.0
 few-pins h t r Write a = a.1
 
 below-most : (n : ℕ) → n < MAX_PINS + 1 → n ≢ MAX_PINS → n < MAX_PINS
-below-most n lt apart = by (n == MAX_PINS) refl where
-  by : (b : Bool) → (n == MAX_PINS) ≡ b → n < MAX_PINS
-  by true e = absurd (apart (eqb-true n MAX_PINS e))
-  by false e = let f : n ≢ MAX_PINS = eqb-false n MAX_PINS e in omega arith
+below-most n lt apart = omega arith
 
 taken-pin : (s : Setting) (h : History) (xs : List State) (d : DomId) (r : Asked) (so_far : StepsSoFar) (aim : Aim) (l : Leg) (more word body second : ℕ) → DomainsStand s h xs → IsFor (known_at s h d) d r aim l
     → legs_at h d.0 ≡ numbered 0 (reverse (last_first (pins_so_far aim))) → PhaseStands s h d r so_far (Walking aim l (Pinning more word body second)) → word_at s h l.dom.0 l.gref.0 ≡ word

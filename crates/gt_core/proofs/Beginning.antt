@@ -1,5 +1,5 @@
 -- A beginning keeps what a core stands for.
-use Rattle.gt_core.proofs.Words.{arith, ◌≤◌, ◌≡◌, ◌≢◌, ◌<◌, ◌+◌, inl, inr, ℕ, refl, Bool, true, false, List, [], ◌∷◌, length, Option, Some, None, cond, sym, ap, ◌∙◌, subst, get_or, set, reverse, eqb-true, true≢false, slice_get_read, same_Some, position-Some, All, nat_lt, nat_le, ◌==◌, ◌||◌, not, is_none, is_some, position, slice_get, domain_of, resolved, denial_of, DomId, TypeId, Read, Write, Perms, Triple, FRAME_SIZE, LAST_GENERATION, MAX_TABLE_FRAMES, Rule, N1, N5, N6, N9, N10, N16, Policy, Entry, Header, Change, ToReadOnly, ToWritable, Held, Request, CopyArgs, Asked, Grant, Revoke, Demote, Promote, Map, Unmap, Load, SetVersion, SetupTable, QuerySize, GetVersion, Store, Peek, Poke, Copy, Seen, Verdict, Given, Refused, FramesTold, Makes, Done, END_OF_SERIALS, Call, Phase, Walking, Accessing, Ending, Source, Dest, AtHeader, asked, begun_of, given_by, CallerKnowledge, first, refused_when, denied, unmap_denied, rights_to_map, rights_to_copy, size_of, begun, knowledge_of, frames_of, is_source_granted, is_dest_granted, opens, end_leg, action_at, at_dest, StandsAt, held_in, pins_at, GoesOn, Goes, Starts, path, Nothing, Step, Action, Rests, Pins, most_of, steps_left, Item, Began, Answer, AnswerDone, Open, State, state_of, kept_by, with_call, History, Setting, table_at, known_at, Underway, open_call, legs_at, one_if_mapped, LeavesAll, stood, AnsweredBy, GivesValue, refusal_in, refusal_of, IsRight, IsClean, phase_refusal, FitsAsked, PhaseStands, OpenAgrees, CallAgrees, FitsGiven, GivenAgrees, Agrees, StateAgrees, DomainsStand, Opens, numbered, misses, ◌^◌, MAX_MAPPINGS, N2, N3, N4, N7, N8, N20, N21, N22, N23, N24, field_refused, bytes_begun, IsSaid, granted_when, given_when, rights_to_unmap, rights_to_setup, rights_to_query, map_dir, is_already, change_begun, version_begun, setup_begun, query_begun, own_access_begun, is_version, has_valid, cannot_stand, is_for_reading, ends_named, ends_ranged, ends_owned, ends_framed, is_foreign, is_past_frames, first_phase, unmap_phase, load_phase, store_phase, IsFresh, IsAt, pins_by_call, MakesStep, steps_to_come, Frames, asks_memory, WantsMemory, IsOpened, answer_of}
+use Rattle.gt_core.proofs.Words.{arith, ◌≤◌, ◌≡◌, ◌≢◌, ◌<◌, ◌+◌, inl, inr, ℕ, refl, Bool, true, false, List, [], ◌∷◌, length, Option, Some, None, cond, sym, ap, ◌∙◌, subst, get_or, set, reverse, eqb-true, true≢false, slice_get_read, same_Some, position-Some, All, nat_lt, nat_le, ◌==◌, ◌||◌, not, is_none, is_some, position, slice_get, domain_of, resolved, denial_of, DomId, TypeId, Read, Write, Perms, Triple, FRAME_SIZE, LAST_GENERATION, MAX_TABLE_FRAMES, Rule, N1, N5, N6, N9, N10, N16, Policy, Entry, Header, Change, ToReadOnly, ToWritable, Held, Request, CopyArgs, Asked, Grant, Revoke, Demote, Promote, Map, Unmap, Load, SetVersion, SetupTable, QuerySize, GetVersion, Store, Peek, Poke, Copy, Seen, Verdict, Given, Refused, FramesTold, Makes, Done, END_OF_SERIALS, Call, Phase, Walking, Accessing, Ending, Source, Dest, AtHeader, asked, begun_of, given_by, CallerKnowledge, first, refused_when, denied, unmap_denied, rights_to_map, rights_to_copy, size_of, begun, knowledge_of, frames_of, is_source_granted, is_dest_granted, opens, end_leg, action_at, at_dest, StandsAt, held_in, pins_at, GoesOn, Goes, Starts, path, Nothing, Step, Action, Rests, Pins, most_of, steps_left, Item, Began, Answer, AnswerDone, Open, State, state_of, kept_by, with_call, History, Setting, table_at, known_at, Underway, open_call, legs_at, one_if_mapped, LeavesAll, stood, AnsweredBy, GivesValue, refusal_in, refusal_of, IsRight, IsClean, phase_refusal, FitsAsked, PhaseStands, OpenAgrees, CallAgrees, FitsGiven, GivenAgrees, Agrees, StateAgrees, DomainsStand, Opens, numbered, misses, ◌^◌, MAX_MAPPINGS, N2, N3, N4, N7, N8, N20, N21, N22, N23, N24, field_refused, bytes_begun, IsSaid, granted_when, given_when, rights_to_unmap, rights_to_setup, rights_to_query, map_dir, is_already, change_begun, version_begun, setup_begun, query_begun, own_access_begun, is_version, has_valid, cannot_stand, is_for_reading, ends_named, ends_ranged, ends_owned, ends_framed, is_foreign, is_past_frames, first_phase, unmap_phase, load_phase, store_phase, IsFresh, IsAt, pins_by_call, MakesStep, steps_to_come, Frames, asks_memory, WantsMemory, IsOpened, answer_of, cond_both, All-nil}
 use Rattle.gt_types.specs.declared.denial.Field.{Field}
 use Rattle.gt_entry.specs.Bytes.{first_refused}
 use Rattle.gt_calls.specs.declared.held.Route.TheVariants.{Own}
@@ -47,10 +47,9 @@ held-by k d (Store handle off len) = by (k.mapping handle) where
   by : (o : Option Held) → held_in (store_phase o off len) ≡ []
   by None = refl
   by (Some m) = refl
-held-by k d (Copy c) = by (is_source_granted c) (is_dest_granted c) where
-  by : (a b : Bool) → held_in (cond a (Walking (Source c None) (end_leg k d c.source Read c.len) AtHeader) (cond b (Walking (Dest c Own None) (end_leg k d c.dest Write c.len) AtHeader) (Accessing c Own Own))) ≡ []
-  by false true = refl
-  by a b = refl
+held-by k d (Copy c) =
+    cond_both (is_source_granted c) (Walking (Source c None) (end_leg k d c.source Read c.len) AtHeader) (at_dest k d c Own) (λ p. held_in p ≡ [])
+    (λ a. refl) (λ a. cond_both (is_dest_granted c) (Walking (Dest c Own None) (end_leg k d c.dest Write c.len) AtHeader) (Accessing c Own Own) (λ p. held_in p ≡ []) (λ b. refl) (λ b. refl))
 held-by k d r = refl
 
 first-place : (s : Setting) (h : History) (d : DomId) (r : Asked) → begun (known_at s h d) d r ≡ None → PhaseStands s h d r [] (first_phase (known_at s h d) d r)
@@ -72,10 +71,9 @@ first-place s h d (Store handle off len) e = by ((known_at s h d).mapping handle
   by (Some m) = refl
 first-place s h d (Peek frame off len) e = refl
 first-place s h d (Poke frame off len) e = refl
-first-place s h d (Copy c) e = by (is_source_granted c) where
-  by : (b : Bool) → PhaseStands s h d (Copy c) [] (cond b (Walking (Source c None) (end_leg (known_at s h d) d c.source Read c.len) AtHeader) (at_dest (known_at s h d) d c Own))
-  by true = (of-run (domain_of s.domains (resolved d c.source.domid)) (opens (known_at s h d) d (Copy c) e).source_of_run, tt)
-  by false = dest-placed s h d (Copy c) c Own [] refl e
+first-place s h d (Copy c) e =
+    cond_both (is_source_granted c) (Walking (Source c None) (end_leg (known_at s h d) d c.source Read c.len) AtHeader) (at_dest (known_at s h d) d c Own) (PhaseStands s h d (Copy c) [])
+    (λ a. (of-run (domain_of s.domains (resolved d c.source.domid)) (opens (known_at s h d) d (Copy c) e).source_of_run, tt)) (λ a. dest-placed s h d (Copy c) c Own [] refl e)
 first-place s h d (SetVersion version) e = inl (refl, refl)
 first-place s h d (SetupTable frames) e = inr (refl, refl)
 first-place s h d (QuerySize dom) e = (dom, refl, refl)
@@ -87,18 +85,14 @@ first-plain : (k : CallerKnowledge) (d : DomId) (r : Asked) → begun k d r ≡ 
 first-plain k d (Unmap handle) e = ap (λ (o : Option Held). phase_refusal (unmap_phase handle o)) (opens k d (Unmap handle) e).found
 first-plain k d (Load handle off len) e = ap (λ (o : Option Held). phase_refusal (load_phase o off len)) (opens k d (Load handle off len) e).found
 first-plain k d (Store handle off len) e = ap (λ (o : Option Held). phase_refusal (store_phase o off len)) (opens k d (Store handle off len) e).found
-first-plain k d (Copy c) e = by (is_source_granted c) (is_dest_granted c) where
-  by : (a b : Bool) → phase_refusal (cond a (Walking (Source c None) (end_leg k d c.source Read c.len) AtHeader) (cond b (Walking (Dest c Own None) (end_leg k d c.dest Write c.len) AtHeader) (Accessing c Own Own))) ≡ None
-  by false true = refl
-  by a b = refl
+first-plain k d (Copy c) e =
+    cond_both (is_source_granted c) (Walking (Source c None) (end_leg k d c.source Read c.len) AtHeader) (at_dest k d c Own) (λ p. phase_refusal p ≡ None)
+    (λ a. refl) (λ a. cond_both (is_dest_granted c) (Walking (Dest c Own None) (end_leg k d c.dest Write c.len) AtHeader) (Accessing c Own Own) (λ p. phase_refusal p ≡ None) (λ b. refl) (λ b. refl))
 first-plain k d r e = refl
 
-all-nothing : {A : Type 0} (P : A → Type 0) → All P []
-all-nothing P = λ i x below. absurd (omega arith)
-
 clean-nothing : (p : Phase) → IsClean p []
-clean-nothing (Ending pins verdict) = inr (all-nothing LeavesAll)
-clean-nothing p = all-nothing LeavesAll
+clean-nothing (Ending pins verdict) = inr (All-nil LeavesAll)
+clean-nothing p = All-nil LeavesAll
 
 -- a call keeps the bytes that are given to it
 kept-given : (request : Request) → kept_by (asked request) (given_by request) ≡ given_by request
@@ -197,10 +191,8 @@ or-refused s h d r false rule more a = a
 
 denied-fits : (s : Setting) (h : History) (d : DomId) (r : Asked) (may : TypeId → TypeId → Perms → Bool) (ts : List Triple) → OnVerdict (Fits s h d r) (denied may ts)
 denied-fits s h d r may [] = tt
-denied-fits s h d r may (t ∷ ts) = by (may t.source t.target t.perm) (denied-fits s h d r may ts) where
-  by : (b : Bool) → OnVerdict (Fits s h d r) (denied may ts) → OnVerdict (Fits s h d r) (cond b (denied may ts) (Some (Refused (denial_of N5 (Policy t.source t.target t.perm)))))
-  by true a = a
-  by false a = tt
+denied-fits s h d r may (t ∷ ts) =
+    cond_both (may t.source t.target t.perm) (denied may ts) (Some (Refused (denial_of N5 (Policy t.source t.target t.perm)))) (OnVerdict (Fits s h d r)) (λ a. denied-fits s h d r may ts) (λ a. tt)
 
 or-denied : (s : Setting) (h : History) (d : DomId) (r : Asked) (may : TypeId → TypeId → Perms → Bool) (ts : List Triple) (more : List (Option Verdict)) → OnVerdict (Fits s h d r) (first more)
     → OnVerdict (Fits s h d r) (first (denied may ts ∷ more))
@@ -329,10 +321,8 @@ closed-from (Some o) e = absurd (true≢false e)
 
 -- the states with the actor's own one new
 same-state : (domains : List State) (x : State) (q : ℕ) → state_of domains x.id.0 ≡ Some x → state_of domains q ≡ cond (x.id.0 == q) (Some x) (state_of domains q)
-same-state domains x q e = by (x.id.0 == q) refl where
-  by : (b : Bool) → (x.id.0 == q) ≡ b → state_of domains q ≡ cond b (Some x) (state_of domains q)
-  by true w = ap (state_of domains) (sym (eqb-true x.id.0 q w)) ∙ e
-  by false w = refl
+same-state domains x q e =
+    cond_both (x.id.0 == q) (Some x) (state_of domains q) (λ o. state_of domains q ≡ o) (λ w. ap (state_of domains) (sym (eqb-true x.id.0 q w)) ∙ e) (λ w. refl)
 
 begin-answered : (s : Setting) (h : History) (domains : List State) (dom : DomId) (at : ℕ) (x : State) (request : Request) (v : Verdict)
     → position (has_id dom.0) domains ≡ Some at → x ≡ get_or domains at x → is_some x.underway ≡ false

@@ -1,6 +1,6 @@
 -- An exchange that was taken keeps what a core stands for.
-use Rattle.gt_core.proofs.Words.{◌≡◌, ◌≢◌, ◌<◌, ◌≤◌, ◌+◌, ℕ, refl, Bool, true, false, List, ◌∷◌, length, Option, Some, None, cond, sym, ap, ◌∙◌, arith, subst, get_or, eqb-true, none-some, slice_get-get_or, option_map, ◌==◌, All, count_by, slice_get, fun_ext, DomId, GrantRef, Read, Write, TABLE_ENTRIES, LAST_GENERATION, Entry, Invalid, Control, Change, Publish, ToInvalid, ToReadOnly, ToWritable, Half, FirstHalf, SecondHalf, IsEntry, Exchange, Taken, Own, PinCounts, Open, Item, Answer, entry_in, generation_in, control_with, row_entry, row_generation, changed_at, State, state_of, changed_in, with_own, own_after, History, Setting, Pin, live, entry_at, raises_at, raise_of, generation_at, body_at, reads_at, writes_at, control_at, maps_answered_at, open_call, is_pin_on, change_of, entry_after, raise_after, or_else, one_if_mapped, IsSafeChange, IsSpelled, IsLawful, FitsTable, FitsWord, Agrees, DomainsStand, CallAgrees, GivenAgrees, append-nil, gather, by_mapping, changed_entry, with_ro, MAX_PINS}
-pub use Rattle.gt_core.proofs.Keeping.{slot-kept, own-each, stepped, SlotsAgree, same-number, counts-fit, get-changed, length-changed, kept-table, mappings-same}
+use Rattle.gt_core.proofs.Words.{◌≡◌, ◌≢◌, ◌<◌, ◌≤◌, ◌+◌, ℕ, refl, Bool, true, false, List, ◌∷◌, length, Option, Some, None, cond, sym, ap, ◌∙◌, arith, subst, get_or, eqb-true, none-some, slice_get-get_or, option_map, ◌==◌, All, count_by, slice_get, fun_ext, DomId, GrantRef, Read, Write, TABLE_ENTRIES, LAST_GENERATION, Entry, Invalid, Control, Change, Publish, ToInvalid, ToReadOnly, ToWritable, Half, FirstHalf, SecondHalf, IsEntry, Exchange, Taken, Own, PinCounts, Open, Item, Answer, entry_in, generation_in, control_with, row_entry, row_generation, changed_at, State, state_of, changed_in, with_own, own_after, History, Setting, Pin, live, entry_at, raises_at, raise_of, generation_at, body_at, reads_at, writes_at, control_at, open_call, is_pin_on, change_of, entry_after, raise_after, or_else, one_if_mapped, IsSafeChange, IsSpelled, IsLawful, FitsTable, FitsWord, Agrees, DomainsStand, CallAgrees, GivenAgrees, append-nil, gather, by_mapping, changed_entry, with_ro, MAX_PINS}
+pub use Rattle.gt_core.proofs.Keeping.{cond-same, answered-stays, slot-kept, own-each, stepped, SlotsAgree, same-number, counts-fit, get-changed, length-changed, kept-table, mappings-same}
 
 -- each number of the entry that is published fits its type
 abbrev pub FitsChange : Change → Type 0
@@ -21,26 +21,13 @@ exchanged-raises : (h : History) (i : Item) (t r : ℕ) → raises_at (i ∷ h) 
 unfolding raises_at
 exchanged-raises h i t r = refl
 
-nothing-stored : (b : Bool) (old : ℕ) → or_else (cond b None None) old ≡ old
-nothing-stored true old = refl
-nothing-stored false old = refl
-
 exchanged-body : (h : History) (d : DomId) (gref : GrantRef) (looked : ℕ) (change : Change) (answer : Option Answer) (t r : ℕ) (which : Half) → body_at (exchanged d gref looked change answer ∷ h) t r which ≡ body_at h t r which
 unfolding body_at
-exchanged-body h d gref looked change answer t r which = nothing-stored (d.0 == t) (body_at h t r which)
+exchanged-body h d gref looked change answer t r which = ap (λ (o : Option ℕ). or_else o (body_at h t r which)) (cond-same (d.0 == t) None)
 
 pub exchanged-live : (h : History) (d : DomId) (gref : GrantRef) (looked : ℕ) (change : Change) (answer : Option Answer) → live (exchanged d gref looked change answer ∷ h) ≡ live h
 unfolding live
 exchanged-live h d gref looked change answer = append-nil (live h)
-
-none-more : (b : Bool) (n m : ℕ) → m ≡ 0 → cond b m 0 + n ≡ n
-none-more true n m e = omega arith
-none-more false n m e = omega arith
-
-exchanged-maps : (h : History) (d : DomId) (gref : GrantRef) (looked : ℕ) (change : Change) (answer : Option Answer) (t : ℕ) → one_if_mapped answer ≡ 0
-    → maps_answered_at (exchanged d gref looked change answer ∷ h) t ≡ maps_answered_at h t
-unfolding maps_answered_at
-exchanged-maps h d gref looked change answer t m = none-more (d.0 == t) (maps_answered_at h t) (one_if_mapped answer) m
 
 -- the owner's rows
 
@@ -100,7 +87,7 @@ exchange-agrees s h x gref looked change answer o within room m a call given =
       generations = fun_ext (λ r. own-raised s h x gref looked change answer r within room a);
       room = a.room;
       slots = exchanged-slots h x.id gref looked change answer x.id.0 x.slots a.slots;
-      mappings = mappings-same x.mappings _ _ _ _ (ap (λ (ps : List Pin). gather by_mapping x.id.0 ps) (sym (exchanged-live h x.id gref looked change answer))) (sym (exchanged-maps h x.id gref looked change answer x.id.0 m)) a.mappings;
+      mappings = mappings-same x.mappings _ _ _ _ (ap (λ (ps : List Pin). gather by_mapping x.id.0 ps) (sym (exchanged-live h x.id gref looked change answer))) (sym (answered-stays h i x.id.0 m)) a.mappings;
       call = call;
       given = given;
     }

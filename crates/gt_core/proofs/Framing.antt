@@ -1,5 +1,5 @@
 -- The frames of a core: what a step of a call writes to them is by right, and leaves them as the history tells.
-use Rattle.gt_core.proofs.Words.{◌≡◌, ◌≤◌, ◌<◌, ◌+◌, ◌-◌, inl, inr, ℕ, refl, Bool, true, false, List, [], ◌∷◌, ◌++◌, replicate, length, take, drop, Option, Some, None, cond, sym, ap, ◌∙◌, arith, subst, reverse, eqb-true, eqb-false, eq-eqb, ne_eqb, lt-ltb, and_parts, and_from, false≢true, append-nil, map-append, length-append, length-drop, length-take-le, length-replicate, ◌==◌, ◌&&◌, nat_lt, nat_le, is_some, IsTrue, domain_of, DomId, Write, ForMap, ForCopy, DomainConfig, FRAME_SIZE, Entry, Page, Sub, Via, frame_of, permits, allows_direction, Handle, value_of, Held, Route, Direct, Through, End, Request, Asked, Store, Poke, Copy, Place, Seen, Step, ReadBytes, WriteBytes, CopyBytes, Makes, Call, Phase, CallerKnowledge, begun, frames_of, frames_in, is_dest_granted, dest_pair, opens, Rests, RestsOnRequest, RestsOnWays, IsReached, LeadsTo, pins_at, held_in, Patch, written, bytes_at, frame_counts, FrameSet, frame_at, has_range, all_zeros, AreKept, Open, Item, Answer, Begun, State, IsLoadOf, IsReadable, IsAdmitted, AccessedBy, History, Setting, patches_at, patches_by, contents_at, written_by, Writing, given_in, open_call, Underway, values, known_at, legs_at, IsInFrame, CopyIsJustified, grown, DomainsStand, FramesStand, Agrees, OpenAgrees, FitsGiven, numbered, begun_element, IsMapped, le-leb, leb-true, unwrap_or, leads_to, overlay, replay, zeros, FrameState, patch_of, patches, permits_writing, suffices, is_rightful, all_rightful, pool_number, frames_of_all, is_name, has_frame, admits, WritesTo, journal_in, name_of, ground_of, route_by, route_of, IsWritOf}
+use Rattle.gt_core.proofs.Words.{◌≡◌, ◌≤◌, ◌<◌, ◌+◌, ◌-◌, inl, inr, ℕ, refl, Bool, true, false, List, [], ◌∷◌, ◌++◌, replicate, length, take, drop, Option, Some, None, cond, sym, ap, ◌∙◌, arith, subst, reverse, eqb-true, eqb-false, eq-eqb, ne_eqb, lt-ltb, and_parts, and_from, false≢true, append-nil, map-append, length-append, length-drop, length-take-le, length-replicate, ◌==◌, ◌&&◌, nat_lt, nat_le, is_some, IsTrue, domain_of, DomId, Write, ForMap, ForCopy, DomainConfig, FRAME_SIZE, Entry, Page, Sub, Via, frame_of, permits, allows_direction, Handle, value_of, Held, Route, Direct, Through, End, Request, Asked, Store, Poke, Copy, Place, Seen, Step, ReadBytes, WriteBytes, CopyBytes, Makes, Call, Phase, CallerKnowledge, begun, frames_of, frames_in, is_dest_granted, dest_pair, opens, Rests, RestsOnRequest, RestsOnWays, IsReached, LeadsTo, pins_at, held_in, Patch, written, bytes_at, frame_counts, FrameSet, frame_at, has_range, all_zeros, AreKept, Open, Item, Answer, Begun, State, IsLoadOf, IsReadable, IsAdmitted, AccessedBy, History, Setting, patches_at, patches_by, contents_at, written_by, Writing, given_in, open_call, Underway, values, known_at, legs_at, IsInFrame, CopyIsJustified, grown, DomainsStand, FramesStand, Agrees, OpenAgrees, FitsGiven, numbered, begun_element, IsMapped, le-leb, leb-true, unwrap_or, leads_to, overlay, replay, zeros, FrameState, patch_of, patches, permits_writing, suffices, is_rightful, all_rightful, pool_number, frames_of_all, is_name, has_frame, admits, WritesTo, journal_in, name_of, ground_of, route_by, route_of, IsWritOf, and_right}
 use Rattle.gt_calls.specs.declared.held.Route.TheVariants.{Own}
 use Rattle.gt_calls.specs.Path.{place_of}
 use Rattle.gt_frames.specs.declared.places.FrameName.{FrameName}
@@ -22,13 +22,9 @@ bytes-held s h fs dom frame off len fr = let size : off + len - off ≡ len = om
 frame-numbered : (ds : List DomainConfig) (t : DomId) (f at : ℕ) → f < frames_of ds t → is_some (pool_number (frame_counts ds) t f at) ≡ true
 frame-numbered [] t f at below = absurd (omega arith)
 frame-numbered (d ∷ ds) t f at below = by (d.id.0 == t.0) below (λ b. frame-numbered ds t f (at + d.frames) b) where
-  there : (b : Bool) → b ≡ true → is_some (cond b (Some (at + f)) None) ≡ true
-  there true e = refl
-  there false e = e
-
   by : (b : Bool) → f < frames_in (cond b (Some d) (domain_of ds t)) → (f < frames_of ds t → is_some (pool_number (frame_counts ds) t f (at + d.frames)) ≡ true)
       → is_some (cond b (cond (nat_lt f d.frames) (Some (at + f)) None) (pool_number (frame_counts ds) t f (at + d.frames))) ≡ true
-  by true le rest = there (nat_lt f d.frames) (lt-ltb f d.frames le)
+  by true le rest = ap (λ (b : Bool). is_some (cond b (Some (at + f)) None)) (lt-ltb f d.frames le)
   by false le rest = rest le
 
 frame-there : (s : Setting) (h : History) (fs : FrameSet) (name : FrameName) → FramesStand s h fs → name.number < frames_of s.domains name.owner → has_frame fs name ≡ true
@@ -234,11 +230,7 @@ written-once s h fs gs i at w bytes wrote fr to kept = record { counts = to.doma
         → patches (frame_at gs name).journal ≡ patches_at h name.owner.0 name.number ++ cond (a && b) (patch ∷ []) []
     by name true is true same =
         subst (λ (z : FrameName). patches (frame_at gs z).journal ≡ patches_at h z.owner.0 z.number ++ patch ∷ []) (named name (eqb-true at.owner.0 name.owner.0 is) (eqb-true at.frame name.number same)) here
-    by name true is false other = elsewhere name (apart (name.owner.0 == at.owner.0) (name.number == at.frame) (turned at.frame name.number other))
-      where
-        apart : (a b : Bool) → b ≡ false → (a && b) ≡ false
-        apart true b e = e
-        apart false b e = refl
+    by name true is false other = elsewhere name (and_right (name.owner.0 == at.owner.0) (name.number == at.frame) (turned at.frame name.number other))
     by name false is b same = elsewhere name (apart (name.owner.0 == at.owner.0) (name.number == at.frame) (turned at.owner.0 name.owner.0 is))
       where
         apart : (a b : Bool) → a ≡ false → (a && b) ≡ false

@@ -1,5 +1,5 @@
 -- The handles that domains were answered: each serial once, and each mapping under one of them.
-use Rattle.gt_core.proofs.Words.{◌≡◌, ◌≤◌, ◌<◌, ◌+◌, inl, inr, ℕ, refl, Bool, true, false, List, [], ◌∷◌, ◌++◌, Option, Some, None, cond, sym, ap, ◌∙◌, subst, arith, ◌==◌, ◌&&◌, eqb-true, eq-eqb, none-some, DomId, Denial, Handle, END_OF_SERIALS, Asked, Holder, ByMapping, ByLeg, Held, Seen, Taken, Step, LookHeader, PinStep, Unpin, StoreHeader, Makes, Verdict, asked, begun_of, opens, CallerKnowledge, begun, Continuation, path, after_beginning, steps_of, IsMapping, Answer, Happened, Began, Stepped, Item, History, Setting, Underway, Pin, live, without, is_holder, same_handle, pinned_by, unpinned_by, open_call, underway_after, underway_with, maps_answered_at, one_if_mapped, known_at, values, IsRight, StepsRightIn, AnsweredBy, GivesValue, gives_back, verdict_in, stood, bare_handle, IsGiven, IsKnown, AsksKnown, HappensKnown, IsRun}
+use Rattle.gt_core.proofs.Words.{◌≡◌, ◌≤◌, ◌<◌, ◌+◌, inl, inr, ℕ, refl, Bool, true, false, List, [], ◌∷◌, ◌++◌, Option, Some, None, cond, sym, ap, ◌∙◌, subst, arith, ◌==◌, ◌&&◌, eqb-true, eq-eqb, none-some, DomId, Denial, Handle, END_OF_SERIALS, Asked, Holder, ByMapping, ByLeg, Held, Seen, Taken, Step, LookHeader, PinStep, Unpin, StoreHeader, Makes, Verdict, asked, begun_of, opens, CallerKnowledge, begun, Continuation, path, after_beginning, steps_of, IsMapping, Answer, Happened, Began, Stepped, Item, History, Setting, Underway, Pin, live, without, is_holder, same_handle, pinned_by, unpinned_by, open_call, underway_after, underway_with, maps_answered_at, one_if_mapped, known_at, values, IsRight, StepsRightIn, AnsweredBy, GivesValue, gives_back, verdict_in, stood, bare_handle, IsGiven, IsKnown, AsksKnown, HappensKnown, IsRun, cond_both}
 use Rattle.gt_calls.specs.declared.request.Asked.TheVariants as requests
 use Rattle.gt_core.specs.declared.trace.Answer.TheVariants as answers
 pub use Rattle.gt_core.proofs.Makers.{only-path, done-makes, NamesAsked}
@@ -163,11 +163,8 @@ pins-append h (p ∷ ps) qs f g = (f.0, pins-append h ps qs f.1 g)
 pins-without : (h : History) (d : ℕ) (holder : Holder) (ps : List Pin) → PinsGiven h ps → PinsGiven h (without d holder ps)
 unfolding without
 pins-without h d holder [] g = tt
-pins-without h d holder (p ∷ ps) g = by ((p.actor == d) && is_holder p.holder holder) (pins-without h d holder ps g.1)
-  where
-    by : (b : Bool) → PinsGiven h (without d holder ps) → PinsGiven h (cond b ps (p ∷ without d holder ps))
-    by true rest = g.1
-    by false rest = (g.0, rest)
+pins-without h d holder (p ∷ ps) g =
+    cond_both ((p.actor == d) && is_holder p.holder holder) ps (p ∷ without d holder ps) (PinsGiven h) (λ a. g.1) (λ a. (g.0, pins-without h d holder ps g.1))
 
 unpinned-given : (h : History) (d : DomId) (x : Happened) (ps : List Pin) → PinsGiven h ps → PinsGiven h (unpinned_by d x ps)
 unpinned-given h d (Stepped (Unpin p holder) seen) ps g = pins-without h d.0 holder ps g

@@ -1,6 +1,6 @@
 -- A header that its owner stores.
-use Rattle.gt_core.proofs.Words.{◌≡◌, ◌<◌, ◌+◌, ◌%◌, ℕ, refl, Bool, true, false, List, ◌∷◌, Option, Some, None, cond, sym, ap, ◌∙◌, arith, subst, mod-eq_of_lt, ◌==◌, All, count_by, fun_ext, DomId, Read, Write, Entry, Header, Half, FirstHalf, SecondHalf, IsEntry, StoreHeader, Nothing, control_with, PinCounts, Open, Item, Answer, State, state_of, changed_in, with_header, History, Setting, Pin, entry_at, generation_at, body_at, or_else, header_or, table_at, control_at, reads_at, writes_at, is_pin_on, one_if_mapped, open_call, IsSpelled, IsLawful, FitsTable, FitsWord, Agrees, DomainsStand, CallAgrees, GivenAgrees}
-use Rattle.gt_core.proofs.Keeping.{stepped, SlotsAgree, slot-kept, actor-agrees, kept-stands, own-each, mappings-stay, same-number, KeepsKnown, kept-live, other-table}
+use Rattle.gt_core.proofs.Words.{◌≡◌, ◌<◌, ◌%◌, ℕ, refl, Bool, true, false, List, ◌∷◌, Option, Some, None, cond, sym, ap, ◌∙◌, arith, subst, mod-eq_of_lt, ◌==◌, DomId, Header, Half, StoreHeader, Nothing, PinCounts, Open, Item, Answer, State, state_of, changed_in, with_header, History, Setting, Pin, body_at, or_else, header_or, table_at, one_if_mapped, open_call, FitsTable, Agrees, DomainsStand, CallAgrees, GivenAgrees}
+use Rattle.gt_core.proofs.Keeping.{cond-same, stepped, SlotsAgree, slot-kept, actor-agrees, kept-stands, own-each, mappings-stay, same-number, KeepsKnown, kept-live, other-table}
 
 -- the item of a header that is stored
 abbrev pub headed : DomId → ℕ → ℕ → Option Answer → Item
@@ -9,13 +9,9 @@ headed d version frames answer = stepped d (StoreHeader version frames) Nothing 
 headed-keeps : (d : DomId) (version frames : ℕ) (answer : Option Answer) → one_if_mapped answer ≡ 0 → KeepsKnown (headed d version frames answer)
 headed-keeps d version frames answer m = record { changes = λ r. refl; pins = λ before ps. refl; unpins = λ pins. refl; maps = m }
 
-nothing-stored : (b : Bool) (old : ℕ) → or_else (cond b None None) old ≡ old
-nothing-stored true old = refl
-nothing-stored false old = refl
-
 headed-body : (h : History) (d : DomId) (version frames : ℕ) (answer : Option Answer) (t r : ℕ) (which : Half) → body_at (headed d version frames answer ∷ h) t r which ≡ body_at h t r which
 unfolding body_at
-headed-body h d version frames answer t r which = nothing-stored (d.0 == t) (body_at h t r which)
+headed-body h d version frames answer t r which = ap (λ (o : Option ℕ). or_else o (body_at h t r which)) (cond-same (d.0 == t) None)
 
 headed-table : (s : Setting) (h : History) (d : DomId) (version frames : ℕ) (answer : Option Answer) (t : DomId) → (d.0 == t.0) ≡ true
     → table_at s (headed d version frames answer ∷ h) t ≡ record { version = version; frames = frames }

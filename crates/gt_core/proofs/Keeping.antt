@@ -1,8 +1,8 @@
 -- What stays of a core's agreement with a history after one item more.
-use Rattle.gt_core.proofs.Words.{◌≡◌, ◌≢◌, ◌<◌, ◌+◌, ℕ, refl, Bool, true, false, List, ◌∷◌, length, Option, Some, None, cond, sym, ap, ◌∙◌, arith, subst, reverse, eqb-true, eq-eqb, none-some, ◌==◌, ◌&&◌, All, count_by, slice_get, option_map, fun_ext, domain_of, DomId, Read, Write, TABLE_ENTRIES, Entry, Invalid, Header, Change, Half, FirstHalf, SecondHalf, IsEntry, Handle, Kept, value_of, count_of, Held, CallerKnowledge, control_with, knowledge_of, generation_in, StandsAt, pins_at, GoesOn, Rests, Makes, PinCounts, Open, Item, Answer, Stepped, Step, Seen, changed_at, State, state_of, changed_in, History, Setting, Pin, live, entry_at, raises_at, generation_at, body_at, table_at, reads_at, writes_at, control_at, known_at, mappings_at, mapping_of, maps_answered_at, is_pin_on, open_call, underway_after, Underway, values, change_of, change_at, entry_after, raise_after, or_else, stored_at, header_stored, IsSpelled, stood, first_of_item, IsLawful, FitsTable, FitsWord, SlotAgrees, MappingsAgree, Agrees, StateAgrees, DomainsStand, CallAgrees, OpenAgrees, GivenAgrees, Dir, gather, by_mapping, slot_after, with_slot, and_left, and_right, stood_with, MAX_PINS}
+use Rattle.gt_core.proofs.Words.{◌≡◌, ◌≢◌, ◌<◌, ◌+◌, ℕ, refl, Bool, true, false, List, ◌∷◌, length, Option, Some, None, cond, sym, ap, ◌∙◌, subst, reverse, eqb-true, eq-eqb, none-some, ◌==◌, ◌&&◌, All, count_by, slice_get, option_map, fun_ext, DomId, Read, Write, TABLE_ENTRIES, Entry, Invalid, Header, Change, Half, FirstHalf, SecondHalf, IsEntry, Kept, Held, CallerKnowledge, control_with, knowledge_of, StandsAt, pins_at, GoesOn, Rests, Makes, PinCounts, Open, Item, Answer, Stepped, Step, Seen, changed_at, State, state_of, changed_in, History, Setting, Pin, live, entry_at, generation_at, body_at, table_at, reads_at, writes_at, control_at, known_at, mappings_at, maps_answered_at, is_pin_on, open_call, underway_after, Underway, values, change_at, or_else, stored_at, header_stored, IsSpelled, stood, first_of_item, IsLawful, FitsTable, FitsWord, SlotAgrees, MappingsAgree, Agrees, StateAgrees, DomainsStand, CallAgrees, OpenAgrees, GivenAgrees, Dir, gather, by_mapping, slot_after, with_slot, and_left, and_right, stood_with, MAX_PINS, cond_both}
 pub use Rattle.gt_core.proofs.Rows.{get-changed, length-changed, state-changed}
 pub use Rattle.gt_core.proofs.Mappings.{mappings-same, mappings-added, less, mappings-taken, no-handles}
-pub use Rattle.gt_core.proofs.Quiet.{known-as, KeepsKnown, KeepsAll, cond-same, kept-table, kept-live, kept-maps_answered, kept-known, kept-legs, kept-entry, kept-raises, kept-generations}
+pub use Rattle.gt_core.proofs.Quiet.{known-as, KeepsKnown, KeepsAll, cond-same, kept-table, kept-live, answered-stays, kept-known, kept-legs, kept-entry, kept-raises, kept-generations}
 pub use Rattle.gt_core.proofs.Others.{other-entry, other-body, other-maps, other-mappings, other-legs, other-generations, other-table, other-known, gather-append}
 pub use Rattle.gt_core.proofs.Placing.{place-stays, IsStore, IsHere, makes-same, by-giving, placed, BodyStays, step-within, step-publishes, seen-fits, sees-agree, judged, dest-placed, of-run}
 use Rattle.gt_core.specs.declared.pin_counts.CountsChange.{CountsChange}
@@ -196,15 +196,10 @@ each-stands s i h xs zs x new t g st here becomes same keeps mine others dom = s
     picked false y = refl
 
     named : (c : Bool) (y : State) → (cond c (g y) y).id ≡ y.id
-    named true y = keeps y
-    named false y = refl
-
-    nobody : (c : Bool) → domain_of s.domains dom ≡ None → StateAgrees s (i ∷ h) dom (after_change c g None)
-    nobody true a = a
-    nobody false a = a
+    named c y = cond_both c (g y) y (λ (z : State). z.id ≡ y.id) (λ e. keeps y) (λ e. refl)
 
     bystander : (o : Option State) → (x.id.0 == dom.0) ≡ false → StateAgrees s h dom o → StateAgrees s (i ∷ h) dom (after_change (t == dom.0) g o)
-    bystander None apart a = nobody (t == dom.0) a
+    bystander None apart a = cond_both (t == dom.0) None None (StateAgrees s (i ∷ h) dom) (λ e. a) (λ e. a)
     bystander (Some y) apart a = subst (StateAgrees s (i ∷ h) dom) (sym (picked (t == dom.0) y))
         (a.0, named (t == dom.0) y ∙ a.1, subst (λ (n : DomId). Agrees s (i ∷ h) (cond (t == n.0) (g y) y)) a.1 (others y (ap (λ (z : DomId). x.id.0 == z.0) a.1 ∙ apart) a.2))
 
@@ -280,7 +275,7 @@ slots-stay i h q slots e k a = λ r slot at. slot-kept i h q r slot (kept-live i
 -- and its mappings
 pub mappings-stay : (i : Item) (h : History) (q : ℕ) (kept : Kept Held) → KeepsKnown i → MappingsAgree kept (mappings_at h q) (maps_answered_at h q) → MappingsAgree kept (mappings_at (i ∷ h) q) (maps_answered_at (i ∷ h) q)
 mappings-stay i h q kept k a =
-    mappings-same kept _ _ _ _ (ap (λ (ps : List Pin). gather by_mapping q ps) (sym (kept-live i h k))) (sym (kept-maps_answered i h q k)) a
+    mappings-same kept _ _ _ _ (ap (λ (ps : List Pin). gather by_mapping q ps) (sym (kept-live i h k))) (sym (answered-stays h i q k.maps)) a
 
 -- the domains stand for one item more that leaves all words and pins as they are
 pub quiet-stands : (s : Setting) (i : Item) (h : History) (xs zs : List State) (x : State) (o : Option Open) (given : List ℕ) → KeepsEntries i → KeepsKnown i → i.actor ≡ x.id → DomainsStand s h xs

@@ -1,5 +1,5 @@
 -- The handles of a domain, and its mappings as the history has them.
-use Rattle.gt_core.proofs.Words.{◌≡◌, ◌+◌, ℕ, zero, suc, refl, Bool, true, false, List, [], ◌∷◌, ◌++◌, length, Option, Some, None, cond, sym, ap, ◌∙◌, arith, subst, ◌==◌, ◌&&◌, fun_ext, eqb-true, eq-eqb, and_parts, and_from, true≢false, none-some, length-append, sum_by-cons, Handle, Kept, value_of, count_of, Held, mapping_of, same_handle, Adds, taken, MappingsAgree, slice_index_or, slice_set, under, AreApart}
+use Rattle.gt_core.proofs.Words.{◌≡◌, ◌+◌, ℕ, zero, suc, refl, Bool, true, false, List, [], ◌∷◌, ◌++◌, length, Option, Some, None, cond, sym, ap, ◌∙◌, arith, subst, ◌==◌, ◌&&◌, fun_ext, eqb-true, eq-eqb, and_parts, and_from, true≢false, none-some, length-append, sum_by-cons, Handle, Kept, value_of, count_of, Held, mapping_of, same_handle, Adds, taken, MappingsAgree, slice_index_or, slice_set, under, AreApart, cond_both}
 use Rattle.std.proofs.Common.{is_some, count_by}
 use Rattle.gt_handles.specs.declared.handles.Slot.{Slot}
 
@@ -30,10 +30,8 @@ none-both false = refl
 -- a list of mappings, and one more
 
 none-of : (x : Handle × Held) (ms : List (Handle × Held)) (handle : Handle) → mapping_of (x ∷ ms) handle ≡ None → (same_handle x.0 handle ≡ false) × (mapping_of ms handle ≡ None)
-none-of x ms handle e = by (same_handle x.0 handle) refl e where
-  by : (b : Bool) → same_handle x.0 handle ≡ b → cond b (Some x.1) (mapping_of ms handle) ≡ None → (same_handle x.0 handle ≡ false) × (mapping_of ms handle ≡ None)
-  by true is f = absurd (none-some x.1 (sym f))
-  by false is f = (is, f)
+none-of x ms handle e =
+    cond_both (same_handle x.0 handle) (Some x.1) (mapping_of ms handle) (λ o. o ≡ None → (same_handle x.0 handle ≡ false) × (mapping_of ms handle ≡ None)) (λ is f. absurd (none-some x.1 (sym f))) (λ is f. (is, f)) e
 
 push-of : (ms : List (Handle × Held)) (handle : Handle) (m : Held) (other : Handle) → mapping_of ms handle ≡ None
     → mapping_of (ms ++ (handle, m) ∷ []) other ≡ cond (same_handle other handle) (Some m) (mapping_of ms other)
@@ -110,10 +108,8 @@ less-none (x ∷ ms) handle other e = let n = none-of x ms other e in
 
 apart-less : (ms : List (Handle × Held)) (handle : Handle) → AreApart ms → AreApart (less handle ms)
 apart-less [] handle a = tt
-apart-less (x ∷ ms) handle a = by (same_handle x.0 handle) (apart-less ms handle a.1) where
-  by : (b : Bool) → AreApart (less handle ms) → AreApart (cond b ms (x ∷ less handle ms))
-  by true rest = a.1
-  by false rest = (less-none ms handle x.0 a.0, rest)
+apart-less (x ∷ ms) handle a =
+    cond_both (same_handle x.0 handle) ms (x ∷ less handle ms) AreApart (λ e. a.1) (λ e. (less-none ms handle x.0 a.0, apart-less ms handle a.1))
 
 -- the slots of the handles, and one less
 

@@ -1,14 +1,12 @@
 -- What an item leaves of the other domains.
-use Rattle.gt_core.proofs.Words.{◌≡◌, ◌+◌, ℕ, refl, Bool, true, false, List, [], ◌∷◌, ◌++◌, length, Option, None, cond, sym, ap, ◌∙◌, arith, Handle, ◌==◌, ◌&&◌, DomId, Entry, Header, Holder, Change, Half, PinStep, Unpin, Taken, Held, Item, Stepped, Answer, History, Setting, Pin, live, entry_at, raises_at, generation_at, body_at, header_stored, header_or, table_at, mappings_at, legs_at, gather, by_mapping, by_leg, maps_answered_at, known_at, without, is_holder, mapping_of, fun_ext, eqb-true, false≢true, append-nil, Happened, change_at, entry_after, raise_after, or_else, stored_at, pinned_by, unpinned_by, one_if_mapped, append_assoc}
+use Rattle.gt_core.proofs.Words.{◌≡◌, ◌+◌, ℕ, refl, Bool, true, false, List, [], ◌∷◌, ◌++◌, Option, None, cond, sym, ap, ◌∙◌, arith, ◌==◌, ◌&&◌, DomId, Header, Holder, Change, Half, PinStep, Unpin, Taken, Held, Item, Stepped, Answer, History, Setting, Pin, live, entry_at, raises_at, generation_at, body_at, header_stored, header_or, table_at, mappings_at, legs_at, gather, by_mapping, by_leg, maps_answered_at, known_at, without, is_holder, fun_ext, eqb-true, append-nil, Happened, change_at, entry_after, raise_after, or_else, stored_at, pinned_by, unpinned_by, one_if_mapped, append_assoc}
 use Rattle.gt_core.proofs.Quiet.{known-as}
 
 none-of : {A : Type 0} (b : Bool) (o : Option A) → b ≡ false → ◌≡◌ {A = Option A} (cond b o None) None
-none-of true o e = absurd (false≢true (sym e))
-none-of false o e = refl
+none-of b o e = ap (λ (z : Bool). cond z o None) e
 
 zero-of : (b : Bool) (n m : ℕ) → b ≡ false → cond b n 0 + m ≡ m
-zero-of true n m e = absurd (false≢true (sym e))
-zero-of false n m e = omega arith
+zero-of b n m e = ap (λ (z : Bool). cond z n 0 + m) e ∙ omega arith
 
 pub other-entry : (i : Item) (h : History) (t r : ℕ) → (i.actor.0 == t) ≡ false → entry_at (i ∷ h) t r ≡ entry_at h t r
 unfolding entry_at
@@ -35,8 +33,7 @@ gather-append give d (p ∷ ps) qs =
 
 -- another domain's pin gives nothing
 nothing-apart : {A : Type 0} (b : Bool) (l : List A) → b ≡ false → ◌≡◌ {A = List A} (cond b l []) []
-nothing-apart true l e = absurd (false≢true (sym e))
-nothing-apart false l e = refl
+nothing-apart b l e = ap (λ (z : Bool). cond z l []) e
 
 one-apart : {A : Type 0} (give : Holder → Held → List A) (d : ℕ) (p : Pin) → (p.actor == d) ≡ false → gather give d (p ∷ []) ≡ []
 unfolding gather

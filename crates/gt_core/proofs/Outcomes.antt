@@ -1,5 +1,5 @@
 -- Where a step leads a call: what it ends with, what it has left, and what its answer is.
-use Rattle.gt_core.proofs.Words.{◌≡◌, ◌⊎◌, inl, inr, ℕ, refl, Bool, true, false, List, [], ◌∷◌, ◌++◌, length, Option, Some, None, cond, sym, ap, ◌∙◌, subst, All-push, ◌==◌, All, DomId, GrantRef, Denial, Entry, Via, Change, Held, Direct, Through, Pins, Asked, ByMapping, ByLeg, Seen, Nothing, Taken, Missed, Verdict, Granted, Refused, Step, Unpin, StoreHeader, Exchange, ReadBytes, WriteBytes, CopyBytes, Makes, Done, Aim, Mapping, Source, Dest, Phase, Exchanging, Changing, Walking, Accessing, Last, Ending, Leg, LegPhase, AtHeader, LegNext, LegRefused, Pinned, last_first, pins_so_far, no_pins, CallerKnowledge, via_judged, is_dest_granted, source_pair, dest_pair, second_leg, end_leg, Continuation, phase_after, action_at, after_leg, leg_step, after_source_pin, after_dest_pin, where_via, next_to_give, HasShown, IsQuiet, History, Setting, word_at, known_at, seen_by, StepsSoFar, LeavesAll, refusal_in, PhaseStands, EndsAfter, IsClean, Place, Write}
+use Rattle.gt_core.proofs.Words.{◌≡◌, ◌⊎◌, inl, inr, ℕ, refl, Bool, true, false, List, [], ◌∷◌, ◌++◌, length, Option, Some, None, cond, sym, ap, ◌∙◌, subst, All-push, ◌==◌, All, DomId, GrantRef, Denial, Entry, Via, Change, Held, Direct, Through, Pins, Asked, ByMapping, ByLeg, Seen, Nothing, Taken, Missed, Verdict, Granted, Refused, Step, Unpin, StoreHeader, Exchange, ReadBytes, WriteBytes, CopyBytes, Makes, Done, Aim, Mapping, Source, Dest, Phase, Exchanging, Changing, Walking, Accessing, Last, Ending, Leg, LegPhase, AtHeader, LegNext, LegRefused, Pinned, last_first, pins_so_far, no_pins, CallerKnowledge, via_judged, is_dest_granted, source_pair, dest_pair, second_leg, end_leg, Continuation, phase_after, action_at, after_leg, leg_step, after_source_pin, after_dest_pin, where_via, next_to_give, HasShown, IsQuiet, History, Setting, word_at, known_at, seen_by, StepsSoFar, LeavesAll, refusal_in, PhaseStands, EndsAfter, IsClean, Place, Write, cond_both, CopyArgs, Route, at_dest}
 use Rattle.gt_calls.specs.declared.held.Route.TheVariants.{Own}
 use Rattle.gt_calls.specs.declared.action.Verdict.TheVariants.{Mapped}
 pub use Rattle.gt_core.proofs.Phases.{makes-same, by-giving, IsHere, words-of, turn-below, IsPublished, step-publishes, idle-here, idle-no-pins, word-shows, table-fits}
@@ -161,6 +161,16 @@ ends-so d (Ending pins verdict) v e = by (last_first pins) refl e where
   by (p ∷ ps) is f = cc
 ends-so d p v e = cc
 
+-- a call that goes on to its destination is not done
+dest-not : (k : CallerKnowledge) (d : DomId) (c : CopyArgs) (source : Route) (v : Verdict) → action_at d (at_dest k d c source) ≡ Done v → ⊥
+dest-not k d c source v e =
+    cond_both (is_dest_granted c) (Walking (Dest c source None) (end_leg k d c.dest Write c.len) AtHeader) (Accessing c source Own) (λ p. action_at d p ≡ Done v → ⊥) (λ b f. cc) (λ b f. cc) e
+
+-- nor one that is judged where a Via leads
+where-not : (d : DomId) (o : Option Verdict) (aim : Aim) (second : Leg) (v : Verdict) → ((w : Verdict) → next_to_give (last_first (pins_so_far aim)) w ≡ Done v → ⊥) → action_at d (where_via o aim second) ≡ Done v → ⊥
+where-not d None aim second v held e = cc
+where-not d (Some w) aim second v held e = held w e
+
 -- how a walk ends: refused, or with the pin of a map
 pub walk-done : (k : CallerKnowledge) (d : DomId) (aim : Aim) (l : Leg) (next : LegNext) (v : Verdict) → action_at d (after_leg k d aim l next) ≡ Done v
     → ((denial : Denial) × (v ≡ Refused denial)) ⊎ ((p : Held) × (v ≡ Mapped p) × (next ≡ Pinned p) × (aim ≡ Mapping))
@@ -170,27 +180,12 @@ walk-done k d aim l (LegRefused denial) v e = by (last_first (pins_so_far aim)) 
   by (q ∷ qs) f = cc
 walk-done k d Mapping l (Pinned p) v e = let w : v ≡ Mapped p = cc in inr (p, w, refl, refl)
 walk-done k d (Source c None) l (Pinned p) v e = absurd (by p.entry e) where
-  where-not : (o : Option Verdict) (second : Leg) → action_at d (where_via o (Source c (Some p)) second) ≡ Done v → ⊥
-  where-not None second f = cc
-  where-not (Some w) second f = cc
-
-  dest-not : (b : Bool) → action_at d (cond b (Walking (Dest c (Direct p) None) (end_leg k d c.dest Write c.len) AtHeader) (Accessing c (Direct p) Own)) ≡ Done v → ⊥
-  dest-not true f = cc
-  dest-not false f = cc
-
   by : (entry : Entry) → action_at d (after_source_pin k d c l p entry) ≡ Done v → ⊥
-  by (Via dom ro dom2 gref) f = where-not (via_judged k (source_pair d c dom2) dom2) (second_leg k l dom2 gref) f
-  by entry f = dest-not (is_dest_granted c) f
-walk-done k d (Source c (Some via)) l (Pinned p) v e = absurd (by (is_dest_granted c) e) where
-  by : (b : Bool) → action_at d (cond b (Walking (Dest c (Through via p) None) (end_leg k d c.dest Write c.len) AtHeader) (Accessing c (Through via p) Own)) ≡ Done v → ⊥
-  by true f = cc
-  by false f = cc
+  by (Via dom ro dom2 gref) f = where-not d (via_judged k (source_pair d c dom2) dom2) (Source c (Some p)) (second_leg k l dom2 gref) v (λ w g. cc) f
+  by entry f = dest-not k d c (Direct p) v f
+walk-done k d (Source c (Some via)) l (Pinned p) v e = absurd (dest-not k d c (Through via p) v e)
 walk-done k d (Dest c source None) l (Pinned p) v e = absurd (by p.entry e) where
-  where-not : (o : Option Verdict) (second : Leg) → action_at d (where_via o (Dest c source (Some p)) second) ≡ Done v → ⊥
-  where-not None second f = cc
-  where-not (Some w) second f = cc
-
   by : (entry : Entry) → action_at d (after_dest_pin k d c source l p entry) ≡ Done v → ⊥
-  by (Via dom ro dom2 gref) f = where-not (via_judged k (dest_pair d source dom2) dom2) (second_leg k l dom2 gref) f
+  by (Via dom ro dom2 gref) f = where-not d (via_judged k (dest_pair d source dom2) dom2) (Dest c source (Some p)) (second_leg k l dom2 gref) v (λ w g. cc) f
   by entry f = cc
 walk-done k d aim l next v e = cc

@@ -2,7 +2,7 @@
 use Rattle.gt_core.proofs.Words.{◌≡◌, ◌≢◌, ◌<◌, ◌+◌, ℕ, refl, Bool, true, false, List, [], ◌∷◌, ◌++◌, length, Option, Some, cond, sym, ap, ◌∙◌, arith, subst, ◌==◌, ◌&&◌, All, count_by, eqb-true, eq-eqb, and_parts, and_from, false≢true, true≢false, All-push, append-nil, DomId, Dir, Read, Write, MAX_PINS, Invalid, FirstHalf, SecondHalf, Kept, Handle, Held, Holder, ByLeg, PinStep, Taken, PinCounts, Open, Item, Answer, Mapped, changed_at, State, state_of, changed_in, with_slot, slot_after, Adds, History, Setting, Pin, live, entry_at, body_at, reads_at, writes_at, mappings_at, maps_answered_at, legs_at, open_call, is_pin_on, same_dir, gather, by_mapping, by_leg, holder_after, one_if_mapped, IsLawful, SlotAgrees, Agrees, DomainsStand, CallAgrees, GivenAgrees, MappingsAgree, sum_by_push}
 use Rattle.std.specs.Prelude.{min}
 use Rattle.gt_core.specs.declared.pin_counts.CountsChange.TheVariants.{Pinned}
-pub use Rattle.gt_core.proofs.Keeping.{stepped, SlotsAgree, KeepsEntries, same-body, slots-agree, counts-fit, becomes-changed, slots-stand, keeps-stands, same-number, open_call-own, quiet-stands, KeepsKnown, IsStore, IsHere, makes-same, by-giving, mappings-added, mappings-same, gather-append, after_change, Becomes, less, mappings-taken, state-changed}
+pub use Rattle.gt_core.proofs.Keeping.{answered-stays, stepped, SlotsAgree, KeepsEntries, same-body, slots-agree, counts-fit, becomes-changed, slots-stand, keeps-stands, same-number, open_call-own, quiet-stands, KeepsKnown, IsStore, IsHere, makes-same, by-giving, mappings-added, mappings-same, gather-append, after_change, Becomes, less, mappings-taken, state-changed}
 
 abbrev pub pins_at : History → ℕ → ℕ → Dir → ℕ
 pins_at h t r Read = reads_at h t r
@@ -149,13 +149,6 @@ answered-up h d p handle = by (d.0 == d.0) (maps_answered_at h d.0) (same-number
   by : (b : Bool) (was : ℕ) → b ≡ true → was + 1 ≡ cond b 1 0 + was
   by true was e = omega arith
   by false was e = absurd (false≢true e)
-
-pub answered-stays : (h : History) (i : Item) (d : ℕ) → one_if_mapped i.answer ≡ 0 → maps_answered_at (i ∷ h) d ≡ maps_answered_at h d
-unfolding maps_answered_at
-answered-stays h i d m = by (i.actor.0 == d) (one_if_mapped i.answer) (maps_answered_at h d) m where
-  by : (b : Bool) (n was : ℕ) → n ≡ 0 → cond b n 0 + was ≡ was
-  by true n was e = omega arith
-  by false n was e = omega arith
 
 -- a pin that is taken on a valid entry, and lawful, keeps what the core stands for, where the domain's mappings are those that it then has
 pub pin-stands : (s : Setting) (h : History) (xs ys : List State) (x : State) (p : Held) (answer : Option Answer) (kept : Kept Held) (o : Option Open) → DomainsStand s h xs → state_of xs x.id.0 ≡ Some x → Agrees s h x

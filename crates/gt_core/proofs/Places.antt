@@ -1,5 +1,5 @@
 -- The state of a domain among the states.
-use Rattle.gt_core.proofs.Words.{◌≡◌, ◌<◌, ◌≤◌, ℕ, zero, suc, refl, Bool, true, false, List, [], ◌∷◌, length, Option, Some, None, cond, ltb, sym, ap, ◌∙◌, arith, get_or, set, eqb-true, eq-eqb, true≢false, ltb-false, position-Some, slice_get_past, slice_get-get_or, Result, OnErr, position, slice_get, ◌==◌, position_or_len, State, find}
+use Rattle.gt_core.proofs.Words.{◌≡◌, ◌<◌, ◌≤◌, ℕ, zero, suc, refl, Bool, true, false, List, [], ◌∷◌, length, Option, Some, None, cond, ltb, sym, ap, ◌∙◌, arith, get_or, set, eqb-true, eq-eqb, true≢false, ltb-false, position-Some, slice_get_past, slice_get-get_or, Result, OnErr, position, slice_get, ◌==◌, position_or_len, State, find, cond_both}
 use Rattle.std.proofs.lemmas.List.Folds.{find_at}
 use Rattle.std.specs.Prelude.{Ok, Err}
 use Rattle.gt_core.specs.Standing.{state_of}
@@ -11,17 +11,11 @@ state_of-find : (xs : List State) (d : ℕ) → state_of xs d ≡ find (has_id d
 state_of-find [] d = refl
 state_of-find (x ∷ xs) d = ap (cond (x.id.0 == d) (Some x)) (state_of-find xs d)
 
-none-place : (n m : ℕ) → cond (ltb n m) (Some n) None ≡ None → m ≤ n
-none-place n m h = none (ltb n m) refl h where
-  none : (b : Bool) → ltb n m ≡ b → cond b (Some n) None ≡ None → m ≤ n
-  none true e k = cc
-  none false e k = ltb-false n m e
+pub none-place : (n m : ℕ) → cond (ltb n m) (Some n) None ≡ None → m ≤ n
+none-place n m h = cond_both (ltb n m) (Some n) None (λ o. o ≡ None → m ≤ n) (λ e k. cc) (λ e k. ltb-false n m e) h
 
 some-place : (n m i : ℕ) → cond (ltb n m) (Some n) None ≡ Some i → n ≡ i
-some-place n m i h = some (ltb n m) h where
-  some : (b : Bool) → cond b (Some n) None ≡ Some i → n ≡ i
-  some true k = cc
-  some false k = cc
+some-place n m i h = cond_both (ltb n m) (Some n) None (λ o. o ≡ Some i → n ≡ i) (λ e k. cc) (λ e k. cc) h
 
 -- no domain has the number
 pub not-found : (xs : List State) (d : ℕ) → position (has_id d) xs ≡ None → state_of xs d ≡ None

@@ -1,6 +1,6 @@
 -- A change of one element of a list, and of the first state with a number.
-use Rattle.gt_core.proofs.Words.{◌≡◌, ◌<◌, ◌≤◌, ◌+◌, ℕ, zero, suc, refl, Bool, true, false, List, [], ◌∷◌, length, Option, Some, None, cond, ltb, sym, ap, ◌∙◌, arith, get_or, set, eqb-true, ne_eqb, eq-eqb, false≢true, true≢false, ltb-false, position-Some, position, slice_get, ◌==◌, not, position_or_len, option_map, changed_at, State, state_of, changed_in}
-use Rattle.gt_core.proofs.Places.{has_id}
+use Rattle.gt_core.proofs.Words.{◌≡◌, ◌<◌, ◌≤◌, ◌+◌, ℕ, zero, suc, refl, Bool, true, false, List, [], ◌∷◌, length, Option, Some, None, cond, sym, ap, ◌∙◌, arith, get_or, set, eqb-true, ne_eqb, eq-eqb, false≢true, true≢false, position-Some, position, slice_get, ◌==◌, not, position_or_len, option_map, changed_at, State, state_of, changed_in}
+use Rattle.gt_core.proofs.Places.{has_id, none-place}
 
 -- a write of the changed element
 pub set-changed : {A : Type 0} (xs : List A) (r : ℕ) (f : A → A) (y x : A) → r < length xs → x ≡ get_or xs r x → y ≡ f x → set xs r y ≡ changed_at r f xs
@@ -58,12 +58,6 @@ pub set-state : (xs : List State) (d i : ℕ) (f : State → State) (x y : State
 set-state xs d i f x y p here s = let a = position-Some (has_id d) xs i x p in
     ap (λ (v : State). set xs i v) s ∙ changed-there xs d i f x a.0 here a.1 a.2
 
-past-place : (n m : ℕ) → cond (ltb n m) (Some n) None ≡ None → m ≤ n
-past-place n m h = none (ltb n m) refl h where
-  none : (b : Bool) → ltb n m ≡ b → cond b (Some n) None ≡ None → m ≤ n
-  none true e k = cc
-  none false e k = ltb-false n m e
-
 changed-none : (xs : List State) (d : ℕ) (f : State → State) → length xs ≤ position_or_len (has_id d) xs → changed_in d f xs ≡ xs
 changed-none [] d f past = refl
 changed-none (z ∷ zs) d f past = by (has_id d z) (λ k. changed-none zs d f k) past where
@@ -73,7 +67,7 @@ changed-none (z ∷ zs) d f past = by (has_id d z) (λ k. changed-none zs d f k)
 
 -- no state has the number
 pub changed-nowhere : (xs : List State) (d : ℕ) (f : State → State) → position (has_id d) xs ≡ None → changed_in d f xs ≡ xs
-changed-nowhere xs d f p = changed-none xs d f (past-place (position_or_len (has_id d) xs) (length xs) p)
+changed-nowhere xs d f p = changed-none xs d f (none-place (position_or_len (has_id d) xs) (length xs) p)
 
 pub length-changed_in : (xs : List State) (d : ℕ) (f : State → State) → length (changed_in d f xs) ≡ length xs
 length-changed_in [] d f = refl

@@ -1,5 +1,5 @@
 -- What the core shows of an entry is what the history left.
-use Rattle.gt_core.proofs.Words.{◌≡◌, ◌<◌, ◌≤◌, ℕ, zero, suc, refl, Bool, true, false, List, [], ◌∷◌, length, Option, Some, None, cond, sym, ap, ◌∙◌, arith, subst, get_or, lt-ltb, ltb-true, nat_lt, ◌&&◌, is_some, slice_get, position, domain_of, DomId, TABLE_ENTRIES, DomainConfig, Entry, Header, Own, PinCounts, size_of, row_entry, row_generation, State, History, Setting, entry_at, generation_at, reads_at, writes_at, table_at, shown_at, Agrees, DomainsStand, shown_in}
+use Rattle.gt_core.proofs.Words.{◌≡◌, ◌<◌, ◌≤◌, ℕ, zero, suc, refl, Bool, true, false, List, [], ◌∷◌, length, Option, Some, None, cond, sym, ap, ◌∙◌, arith, subst, get_or, lt-ltb, nat_lt, ◌&&◌, is_some, slice_get, position, domain_of, DomId, TABLE_ENTRIES, DomainConfig, Entry, Header, Own, PinCounts, size_of, row_entry, row_generation, State, History, Setting, entry_at, generation_at, reads_at, writes_at, table_at, shown_at, Agrees, DomainsStand, shown_in, le-ltb}
 use Rattle.gt_core.proofs.Fitting.{table-fits}
 use Rattle.gt_core.proofs.Beginning.{begin-nowhere, agrees-found, has_id}
 
@@ -20,17 +20,11 @@ shown-in-range s h dom r b some e =
     (some-domain (domain_of s.domains dom) some)
     ∙ ap (λ (c : Bool). cond c (Some (record { entry = entry_at h dom.0 r; generation = generation_at s h dom.0 r; reads = reads_at h dom.0 r; writes = writes_at h dom.0 r })) None) e
 
-not-below : (r n : ℕ) → n ≤ r → nat_lt r n ≡ false
-not-below r n le = by (nat_lt r n) refl where
-  by : (b : Bool) → nat_lt r n ≡ b → nat_lt r n ≡ false
-  by true e = absurd (let lt = ltb-true r n e in omega arith)
-  by false e = e
-
 -- the reference is past the table
 pub shown-past : (s : Setting) (h : History) (xs : List State) (dom : DomId) (r at : ℕ) (x : State) → position (has_id dom.0) xs ≡ Some at → x ≡ get_or xs at x → size_of x.header ≤ r → DomainsStand s h xs → None ≡ shown_at s h dom r
 shown-past s h xs dom r at x p here past st = let a = agrees-found s h xs dom at x p here st in
     let size : size_of (table_at s h dom) ≤ r = subst (λ (d : DomId). size_of (table_at s h d) ≤ r) a.1 (subst (λ (z : Header). size_of z ≤ r) a.2.header past) in
-    sym (shown-in-range s h dom r false a.0 (not-below r (size_of (table_at s h dom)) size))
+    sym (shown-in-range s h dom r false a.0 (le-ltb r (size_of (table_at s h dom)) size))
 
 some-at : {A : Type 0} (xs : List A) (r : ℕ) → r < length xs → (x : A) × (slice_get xs r ≡ Some x)
 some-at [] r within = absurd (omega arith)

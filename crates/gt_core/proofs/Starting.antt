@@ -1,5 +1,5 @@
 -- A core at rest stands for the empty history.
-use Rattle.gt_core.proofs.Words.{◌≡◌, ◌<◌, ◌≤◌, ◌+◌, ◌%◌, ℕ, refl, Bool, true, false, List, [], ◌∷◌, Option, Some, None, cond, ltb, sym, ap, ◌∙◌, arith, subst, map, replicate, min, get_or, eqb-true, ltb-false, ltb-true, none-some, same_Some, slice_get-get_or, slice_get_past, mod-eq_of_lt, length-replicate, All-tail, fun_ext, nat_lt, ◌==◌, slice_get, All, option_map, domain_of, DomId, TypeId, Perms, Config, DomainConfig, Header, Invalid, Own, PinCounts, ENTRIES, entry_in, generation_in, row_entry, row_generation, State, state_of, first_state, Setting, entry_at, raises_at, body_at, live, mappings_at, maps_answered_at, open_call, table_at, reads_at, writes_at, control_at, setting_of, Agrees, StateAgrees, SlotAgrees, CallAgrees, FitsTable, FitsWord, IsLawful, DomainsStand, Half, FirstHalf, SecondHalf, IsEntry, LAST_GENERATION, gather, legs_at, get_or-replicate, header_from, LAST_VERSION, MAX_TABLE_FRAMES}
+use Rattle.gt_core.proofs.Words.{◌≡◌, ◌<◌, ◌≤◌, ◌+◌, ◌%◌, ℕ, refl, Bool, true, false, List, [], ◌∷◌, Option, Some, None, cond, ltb, sym, ap, ◌∙◌, arith, subst, map, replicate, min, get_or, eqb-true, ltb-false, ltb-true, none-some, same_Some, slice_get-get_or, slice_get_past, mod-eq_of_lt, length-replicate, All-tail, fun_ext, ◌==◌, slice_get, All, option_map, domain_of, DomId, TypeId, Perms, Config, DomainConfig, Header, Invalid, Own, PinCounts, ENTRIES, entry_in, generation_in, row_entry, row_generation, State, state_of, first_state, Setting, entry_at, raises_at, body_at, live, mappings_at, maps_answered_at, open_call, table_at, reads_at, writes_at, control_at, setting_of, Agrees, StateAgrees, SlotAgrees, CallAgrees, FitsTable, FitsWord, IsLawful, DomainsStand, Half, FirstHalf, SecondHalf, IsEntry, LAST_GENERATION, gather, legs_at, get_or-replicate, header_from, LAST_VERSION, MAX_TABLE_FRAMES, cond_both}
 pub use Rattle.gt_core.proofs.Keeping.{given-none, stepped, same-number, mappings-same, no-handles}
 use Rattle.gt_types.specs.Config.{IsWithinLimits}
 
@@ -38,18 +38,12 @@ get-replicate {A} n r a = by (ltb r n) refl where
 -- rows of entries that are all alike
 
 rows-entry : (g r : ℕ) → entry_in (replicate ENTRIES (record { entry = Invalid; generation = g })) r ≡ Invalid
-rows-entry g r = ap row_entry (get-replicate ENTRIES r (record { entry = Invalid; generation = g })) ∙ by (ltb r ENTRIES)
-  where
-    by : (b : Bool) → row_entry (cond b (Some (record { entry = Invalid; generation = g })) None) ≡ Invalid
-    by true = refl
-    by false = refl
+rows-entry g r = let row : Own = record { entry = Invalid; generation = g } in
+    ap row_entry (get-replicate ENTRIES r row) ∙ cond_both (ltb r ENTRIES) (Some row) None (λ o. row_entry o ≡ Invalid) (λ e. refl) (λ e. refl)
 
 rows-generation : (g r : ℕ) → generation_in g (replicate ENTRIES (record { entry = Invalid; generation = min g LAST_GENERATION })) r ≡ min g LAST_GENERATION
-rows-generation g r = ap (row_generation g) (get-replicate ENTRIES r (record { entry = Invalid; generation = min g LAST_GENERATION })) ∙ by (nat_lt r ENTRIES)
-  where
-    by : (b : Bool) → row_generation g (cond b (Some (record { entry = Invalid; generation = min g LAST_GENERATION })) None) ≡ min g LAST_GENERATION
-    by true = refl
-    by false = refl
+rows-generation g r = let row : Own = record { entry = Invalid; generation = min g LAST_GENERATION } in
+    ap (row_generation g) (get-replicate ENTRIES r row) ∙ cond_both (ltb r ENTRIES) (Some row) None (λ o. row_generation g o ≡ min g LAST_GENERATION) (λ e. refl) (λ e. refl)
 
 -- what the empty history leaves
 
@@ -142,8 +136,8 @@ table-starts : (o : Option DomainConfig) → ((d : DomainConfig) → o ≡ Some 
 table-starts None f = record { version = omega arith; frames = omega arith }
 table-starts (Some d) f = record { version = (f d refl).0; frames = (f d refl).1 }
 
-fine-all : (ds : List DomainConfig) → All (λ d. (1 ≤ d.table_frames) × (d.table_frames ≤ 4)) ds → All (λ d. (1 ≤ d.version) × (d.version ≤ 2)) ds → All Fine ds
-fine-all ds a b = λ i d within. (let v = b i d within in (let h : (get_or ds i d).version ≤ 2 = v.1 in omega arith), (a i d within).1)
+fine-all : (ds : List DomainConfig) → All (λ d. (1 ≤ d.table_frames) × (d.table_frames ≤ MAX_TABLE_FRAMES)) ds → All (λ d. (1 ≤ d.version) × (d.version ≤ LAST_VERSION)) ds → All Fine ds
+fine-all ds a b = λ i d within. (let v = b i d within in (let h : (get_or ds i d).version ≤ LAST_VERSION = v.1 in omega arith), (a i d within).1)
 
 rest-word : (s : Setting) (t r : ℕ) → s.first_generation ≤ LAST_GENERATION → FitsWord (control_at s [] t r)
 unfolding entry_at raises_at live

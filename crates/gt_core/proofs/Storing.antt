@@ -1,5 +1,5 @@
 -- A body word stored on an invalid entry keeps what a core stands for.
-use Rattle.gt_core.proofs.Words.{◌≡◌, ◌≢◌, ◌+◌, ℕ, refl, Bool, true, false, List, ◌∷◌, Option, Some, None, cond, sym, ap, ◌∙◌, subst, eqb-true, eq-eqb, none-some, same_Some, ◌==◌, ◌&&◌, All, count_by, slice_get, option_map, fun_ext, DomId, GrantRef, Read, Write, Entry, Invalid, Half, FirstHalf, SecondHalf, IsEntry, StoreBody, Nothing, control_with, PinCounts, Stored, Open, Item, Stepped, changed_at, State, state_of, changed_in, with_slot, slot_after, History, Setting, Pin, entry_at, generation_at, body_at, reads_at, writes_at, control_at, or_else, stored_at, is_pin_on, open_call, IsSpelled, IsLawful, FitsTable, FitsWord, SlotAgrees, Agrees, DomainsStand, CallAgrees, GivenAgrees, same_half}
+use Rattle.gt_core.proofs.Words.{◌≡◌, ◌≢◌, ℕ, refl, Bool, true, false, List, ◌∷◌, Option, Some, None, cond, sym, ap, ◌∙◌, subst, eqb-true, eq-eqb, none-some, same_Some, ◌==◌, ◌&&◌, count_by, slice_get, option_map, DomId, GrantRef, Read, Write, Invalid, Half, FirstHalf, SecondHalf, StoreBody, Nothing, PinCounts, Stored, Open, Item, Stepped, changed_at, State, state_of, changed_in, with_slot, slot_after, History, Setting, Pin, entry_at, body_at, or_else, stored_at, is_pin_on, open_call, FitsTable, SlotAgrees, Agrees, DomainsStand, CallAgrees, GivenAgrees, same_half, and_right}
 pub use Rattle.gt_core.proofs.Keeping.{known-as, slot-kept, actor-agrees, kept-stands, own-each, stepped, SlotsAgree, mappings-stay, same-number, get-changed, length-changed, KeepsKnown, kept-entry, kept-raises, kept-live, kept-table, kept-generations, other-body, KeepsEntries, known-same, open_call-own, stood-own, cond-same, kept-known, kept-legs, IsStore, placed, place-stays, BodyStays, IsHere, makes-same, step-within, step-publishes, seen-fits, by-giving, sees-agree, judged}
 
 -- the item of a store
@@ -29,16 +29,12 @@ half-stored d gref half word h = own-stored d gref half word h gref.0 half
       by FirstHalf = refl
       by SecondHalf = refl
 
-and-false : (b : Bool) → (b && false) ≡ false
-and-false true = refl
-and-false false = refl
-
 -- the other half stays
 pub second-stays : (d : DomId) (gref : GrantRef) (word r : ℕ) (h : History) → body_at (stores d gref FirstHalf word ∷ h) d.0 r SecondHalf ≡ body_at h d.0 r SecondHalf
-second-stays d gref word r h = half-stays d gref FirstHalf word r SecondHalf h (and-false (gref.0 == r))
+second-stays d gref word r h = half-stays d gref FirstHalf word r SecondHalf h (and_right (gref.0 == r) false refl)
 
 pub first-stays : (d : DomId) (gref : GrantRef) (word r : ℕ) (h : History) → body_at (stores d gref SecondHalf word ∷ h) d.0 r FirstHalf ≡ body_at h d.0 r FirstHalf
-first-stays d gref word r h = half-stays d gref SecondHalf word r FirstHalf h (and-false (gref.0 == r))
+first-stays d gref word r h = half-stays d gref SecondHalf word r FirstHalf h (and_right (gref.0 == r) false refl)
 
 -- at another entry both stay
 elsewhere-stays : (d : DomId) (gref : GrantRef) (half : Half) (word r : ℕ) (which : Half) (h : History) → (gref.0 == r) ≡ false → body_at (stores d gref half word ∷ h) d.0 r which ≡ body_at h d.0 r which

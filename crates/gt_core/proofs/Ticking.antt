@@ -1,5 +1,5 @@
 -- A step of an open call is right, and the core stands for it.
-use Rattle.gt_core.proofs.Words.{◌≡◌, ◌≢◌, ◌<◌, ◌≤◌, ◌+◌, ◌⊎◌, inl, inr, ℕ, suc, refl, Bool, true, false, List, [], ◌∷◌, ◌++◌, length, Option, Some, None, cond, sym, ap, ◌∙◌, subst, reverse, arith, eqb-true, map-append, length-append, length-reverse, reverse_onto, none-some, same_Some, ◌==◌, All, DomId, GrantRef, Denial, Entry, Invalid, Sub, Header, Change, Half, FirstHalf, SecondHalf, Handle, Held, Pins, Asked, Demote, ByMapping, ByLeg, Seen, Nothing, Taken, Missed, Verdict, Granted, KeptPin, Step, PinStep, Unpin, StoreBody, StoreHeader, Exchange, ReadBytes, WriteBytes, CopyBytes, Action, Makes, Done, Call, Phase, Storing, StoringSecond, Walking, Last, Ending, last_first, no_pins, CallerKnowledge, knowledge_of, path, Rests, phase_after, action_at, next_to_give, after_store, StandsAt, HasShown, pins_at, held_in, Goes, GoesOn, most_of, steps_left, Open, Item, Answer, Stepped, State, state_of, sees, History, Setting, Pin, entry_at, generation_at, word_at, table_at, known_at, legs_at, mappings_at, mapping_of, maps_answered_at, seen_by, Underway, values, open_call, underway_after, holder_after, one_if_mapped, StepsSoFar, StepsRight, Justified, IsSafe, PinIsSound, AnsweredBy, GivesValue, LeavesAll, IsSpelled, gives_back, verdict_in, refusal_in, refusal_of, refusal_if, or_then, first_of_item, first_in_call, stood, most_steps, DomainsStand, Agrees, OpenAgrees, GivenAgrees, FitsGiven, PhaseStands, IsClean, phase_refusal, numbered, exchange_sees, gather, by_leg, header_stored, IsSubPage, Leg, LegPhase, leg_step, AtHeader, Continuation, body_at, second_body, publishing, RestsOnRequest, stored_at, or_else, first_body, reverse-append, FitsNext, HoldsAfter, IsCounted}
+use Rattle.gt_core.proofs.Words.{◌≡◌, ◌≢◌, ◌<◌, ◌≤◌, ◌+◌, ◌⊎◌, inl, inr, ℕ, suc, refl, true, List, [], ◌∷◌, ◌++◌, length, Option, Some, None, cond, sym, ap, ◌∙◌, subst, reverse, arith, eqb-true, map-append, length-append, length-reverse, reverse_onto, none-some, same_Some, ◌==◌, All, DomId, GrantRef, Denial, Entry, Invalid, Sub, Header, Change, Half, FirstHalf, SecondHalf, Held, Pins, Asked, Demote, ByMapping, ByLeg, Seen, Nothing, Taken, Missed, Verdict, Granted, KeptPin, Step, PinStep, Unpin, StoreBody, StoreHeader, Exchange, ReadBytes, WriteBytes, CopyBytes, Action, Makes, Done, Call, Phase, Storing, StoringSecond, Walking, Last, Ending, last_first, no_pins, CallerKnowledge, knowledge_of, path, Rests, phase_after, action_at, next_to_give, after_store, StandsAt, HasShown, pins_at, held_in, Goes, GoesOn, most_of, steps_left, Open, Item, Answer, Stepped, State, state_of, sees, History, Setting, Pin, entry_at, word_at, table_at, known_at, legs_at, mappings_at, maps_answered_at, seen_by, Underway, values, open_call, underway_after, holder_after, one_if_mapped, StepsSoFar, StepsRight, Justified, IsSafe, PinIsSound, AnsweredBy, GivesValue, LeavesAll, IsSpelled, gives_back, verdict_in, refusal_in, refusal_of, refusal_if, or_then, first_of_item, first_in_call, stood, most_steps, DomainsStand, Agrees, OpenAgrees, GivenAgrees, FitsGiven, PhaseStands, IsClean, phase_refusal, numbered, exchange_sees, gather, by_leg, header_stored, IsSubPage, Leg, LegPhase, leg_step, AtHeader, Continuation, body_at, second_body, publishing, RestsOnRequest, stored_at, or_else, first_body, reverse-append, FitsNext, HoldsAfter, IsCounted, cond_both}
 pub use Rattle.gt_core.proofs.Storing.{stores, half-stored, first-stays, store-stands, stepped, KeepsEntries, known-as, kept-entry, kept-raises, known-same, open_call-own, stood-own, cond-same, KeepsKnown, kept-known, kept-legs, kept-table, IsStore, placed, place-stays, BodyStays, IsHere, makes-same, step-within, step-publishes, seen-fits, by-giving, sees-agree, judged}
 pub use Rattle.gt_core.proofs.Unpinning.{unpins, leg-left, leg-mappings, mapping-legs, from-zero, Loses, unpin-stands, becomes-unpinned, loses-leg, loses-mapping, mapping-agrees, leg-agrees, pins, leg-grows, leg-maps, answered-stays}
 pub use Rattle.gt_core.proofs.Beginning.{is-at, to-come, pins-there, agrees-found, has_id, found, state_of-set}
@@ -104,10 +104,7 @@ known-from s i h d q table maps answered =
     known-as s h (i ∷ h) d (λ r. kept-entry i h d.0 r q.changes) (λ r. kept-raises i h d.0 r q.changes) table maps answered
 
 taken-word : (word looked : ℕ) → exchange_sees word looked ≡ Taken → word ≡ looked
-taken-word word looked e = by (word == looked) refl e where
-  by : (b : Bool) → (word == looked) ≡ b → cond b Taken (Missed word) ≡ Taken → word ≡ looked
-  by true is f = eqb-true word looked is
-  by false is f = cc
+taken-word word looked e = cond_both (word == looked) Taken (Missed word) (λ z. z ≡ Taken → word ≡ looked) (λ is f. eqb-true word looked is) (λ is f. cc) e
 
 numbered-push : (n : ℕ) (ps : List Held) (p : Held) → numbered n (ps ++ p ∷ []) ≡ numbered n ps ++ (n + length ps, p) ∷ []
 numbered-push n [] p = let e : n ≡ n + 0 = omega arith in ap (λ (m : ℕ). (m, p) ∷ []) e
@@ -305,23 +302,18 @@ step-justified s h xs d r shown so_far phase (Unpin p (ByMapping handle)) i = i.
 step-justified s h xs d r shown so_far phase step i = tt
 
 step-safe : (s : Setting) (h : History) (xs : List State) (d : DomId) (r : Asked) (shown : List Seen) (so_far : StepsSoFar) (phase : Phase) (step : Step) (answer : Option Answer) → IsHere s h xs d r shown so_far phase step → IsSafe s h (stepped d step (seen_by s h d step) answer)
-step-safe s h xs d r shown so_far phase (Exchange gref looked change) answer i = by (word_at s h d.0 gref.0 == looked) refl
-  where
-    by : (b : Bool) → (word_at s h d.0 gref.0 == looked) ≡ b → IsSafe s h (stepped d (Exchange gref looked change) (cond b Taken (Missed (word_at s h d.0 gref.0))) answer)
-    by true is = (can-change s h xs d r shown so_far phase gref looked change i (eqb-true (word_at s h d.0 gref.0) looked is)).safe
-    by false is = tt
+step-safe s h xs d r shown so_far phase (Exchange gref looked change) answer i =
+    cond_both (word_at s h d.0 gref.0 == looked) Taken (Missed (word_at s h d.0 gref.0)) (λ v. IsSafe s h (stepped d (Exchange gref looked change) v answer))
+    (λ is. (can-change s h xs d r shown so_far phase gref looked change i (eqb-true (word_at s h d.0 gref.0) looked is)).safe) (λ is. tt)
 step-safe s h xs d r shown so_far phase (StoreBody gref half word) answer i = store-invalid s h d r gref half word i.rests.0 i.rests.1
-step-safe s h xs d r shown so_far phase (PinStep p) answer i = by (word_at s h p.dom.0 p.gref.0 == p.word) where
-  by : (b : Bool) → IsSafe s h (stepped d (PinStep p) (cond b Taken (Missed (word_at s h p.dom.0 p.gref.0))) answer)
-  by true = tt
-  by false = tt
+step-safe s h xs d r shown so_far phase (PinStep p) answer i =
+    cond_both (word_at s h p.dom.0 p.gref.0 == p.word) Taken (Missed (word_at s h p.dom.0 p.gref.0)) (λ v. IsSafe s h (stepped d (PinStep p) v answer)) (λ is. tt) (λ is. tt)
 step-safe s h xs d r shown so_far phase step answer i = tt
 
 step-sound : (s : Setting) (h : History) (xs : List State) (d : DomId) (r : Asked) (shown : List Seen) (so_far : StepsSoFar) (phase : Phase) (step : Step) → IsHere s h xs d r shown so_far phase step → PinIsSound s h d r step (seen_by s h d step)
-step-sound s h xs d r shown so_far phase (PinStep p) i = by (word_at s h p.dom.0 p.gref.0 == p.word) refl where
-  by : (b : Bool) → (word_at s h p.dom.0 p.gref.0 == p.word) ≡ b → PinIsSound s h d r (PinStep p) (cond b Taken (Missed (word_at s h p.dom.0 p.gref.0)))
-  by true is = (can-pin s h xs d r shown so_far phase p i (eqb-true (word_at s h p.dom.0 p.gref.0) p.word is)).sound
-  by false is = tt
+step-sound s h xs d r shown so_far phase (PinStep p) i =
+    cond_both (word_at s h p.dom.0 p.gref.0 == p.word) Taken (Missed (word_at s h p.dom.0 p.gref.0)) (PinIsSound s h d r (PinStep p))
+    (λ is. (can-pin s h xs d r shown so_far phase p i (eqb-true (word_at s h p.dom.0 p.gref.0) p.word is)).sound) (λ is. tt)
 step-sound s h xs d r shown so_far phase step i = tt
 
 most-fits : (r : Asked) → most_of r ≤ most_steps r

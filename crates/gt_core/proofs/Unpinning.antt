@@ -1,5 +1,5 @@
 -- An unpin keeps what a core stands for.
-use Rattle.gt_core.proofs.Words.{◌≡◌, ◌<◌, ◌≤◌, ◌+◌, ◌-◌, ◌⊎◌, inl, inr, ℕ, suc, refl, Bool, true, false, List, [], ◌∷◌, ◌++◌, length, Option, Some, None, cond, sym, ap, ◌∙◌, arith, subst, ◌==◌, ◌&&◌, All, count_by, eqb-true, eq-eqb, and_from, false≢true, true≢false, none-some, same_Some, append-nil, sum_by-cons, All-tail, DomId, Dir, Read, Write, FirstHalf, SecondHalf, Handle, Kept, Held, Holder, ByMapping, ByLeg, Unpin, Seen, PinCounts, Open, Unpinned, Item, Answer, changed_at, State, state_of, changed_in, with_slot, without_mapping, slot_after, taken, History, Setting, Pin, live, body_at, reads_at, writes_at, mappings_at, maps_answered_at, legs_at, open_call, is_pin_on, without, is_holder, same_handle, same_dir, gather, by_mapping, by_leg, mapping_of, one_if_mapped, IsLawful, SlotAgrees, Agrees, DomainsStand, CallAgrees, GivenAgrees, MappingsAgree, numbered, sum_by-append, All-cons, All-head, MAX_PINS}
+use Rattle.gt_core.proofs.Words.{◌≡◌, ◌<◌, ◌≤◌, ◌+◌, ◌-◌, ◌⊎◌, inl, inr, ℕ, suc, refl, Bool, true, false, List, [], ◌∷◌, ◌++◌, length, Option, Some, None, cond, sym, ap, ◌∙◌, arith, subst, ◌==◌, ◌&&◌, All, count_by, eq-eqb, and_from, false≢true, true≢false, none-some, same_Some, append-nil, sum_by-cons, All-tail, DomId, Dir, Read, Write, FirstHalf, SecondHalf, Handle, Kept, Held, Holder, ByMapping, ByLeg, Unpin, Seen, PinCounts, Open, Unpinned, Item, Answer, changed_at, State, state_of, changed_in, with_slot, without_mapping, slot_after, taken, History, Setting, Pin, live, body_at, reads_at, writes_at, mappings_at, maps_answered_at, legs_at, open_call, is_pin_on, without, is_holder, same_handle, same_dir, gather, by_mapping, by_leg, mapping_of, one_if_mapped, IsLawful, SlotAgrees, Agrees, DomainsStand, CallAgrees, GivenAgrees, MappingsAgree, numbered, sum_by-append, All-cons, All-head, MAX_PINS, ne_eqb}
 pub use Rattle.gt_core.proofs.Pinning.{answered-stays, stepped, SlotsAgree, KeepsEntries, same-body, slots-agree, counts-fit, after_change, Becomes, becomes-changed, slots-stand, keeps-stands, less, mappings-taken, mappings-same, state-changed, pins, leg-grows, leg-maps}
 
 -- what an unpin takes from the live pins
@@ -161,10 +161,7 @@ mapping-agrees h d p handle seen answer kept m found a =
 -- by the place of a call's own pin, the last one
 
 later : (m n : ℕ) → (m == m + suc n) ≡ false
-later m n = by (m == m + suc n) refl where
-  by : (b : Bool) → (m == m + suc n) ≡ b → (m == m + suc n) ≡ false
-  by true e = absurd (let f : m ≡ m + suc n = eqb-true m (m + suc n) e in omega arith)
-  by false e = e
+later m n = ne_eqb m (m + suc n) (λ e. (omega arith))
 
 last-one : (m : ℕ) (ps : List Held) (p : Held) → one_of (λ (k : ℕ). k == m + length ps) (numbered m (ps ++ p ∷ [])) ≡ Some p
 last-one m [] p = ap (λ (b : Bool). cond b (Some p) None) (eq-eqb m (m + 0) (omega arith))

@@ -1,4 +1,4 @@
-use Rattle.gt_core.proofs.Words.{sym, ◌∙◌, ap, Some, ◌≡◌, List, None, subst, ◌∷◌, length, position, slice_get, same_Some, sees, State, IsAdmitted, AccessedBy, FrameSet, setting_of}
+use Rattle.gt_core.proofs.Words.{sym, ◌∙◌, ap, Some, ◌≡◌, List, None, subst, length, position, slice_get, same_Some, sees, State, IsAdmitted, AccessedBy, FrameSet, setting_of}
 use Rattle.gt_core.proofs.Beginning.{begin-nowhere, tick-idle, place-at, has_id, on-err}
 use Rattle.gt_core.proofs.Applying.{slice-after}
 use Rattle.gt_core.proofs.Stepping.{Begins, tick-does, room-asked, tick-wants, tick-admitted, tick-readable, readable-after}
