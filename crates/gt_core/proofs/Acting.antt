@@ -1,7 +1,7 @@
 -- What each step of an open call rests on, by the history.
 use Rattle.gt_core.proofs.Words.{◌≡◌, ◌≢◌, ◌<◌, ◌≤◌, ◌+◌, ◌⊎◌, inl, inr, ℕ, refl, Bool, true, false, List, [], ◌∷◌, Option, None, sym, ap, ◌∙◌, subst, reverse, arith, eqb-false, leb-false, ltb-false, false≢true, ◌==◌, nat_lt, domain_of, resolved, DomId, GrantRef, Dir, Read, Write, ForMap, TABLE_ENTRIES, LAST_GENERATION, MAX_TABLE_FRAMES, MAX_PINS, Rule, N16, Entry, Invalid, Page, Sub, Via, Change, Publish, ToInvalid, ToReadOnly, ToWritable, Half, FirstHalf, SecondHalf, frame_of, permits, control_of, Held, Asked, Grant, Map, Copy, SetVersion, SetupTable, Seen, PinStep, StoreHeader, Exchange, Makes, Aim, Mapping, Source, Dest, Phase, Exchanging, Changing, Walking, Last, Ending, Leg, LegPhase, AtHeader, Pinning, last_first, CallerKnowledge, begun, stands, first, first_look, before_pin, frames_of, path, held_of, map_leg, Continuation, opens, RestsOnRequest, IsFor, action_at, leg_step, HasShown, IsQuiet, State, History, Setting, entry_at, generation_at, body_at, reads_at, writes_at, control_at, word_at, known_at, legs_at, raise_of, IsSafeChange, IsSpelled, MayUse, leg_at, rule_before_pin, StepsSoFar, DomainsStand, FitsAsked, FitsTable, PhaseStands, numbered, Demote, Promote, pins_so_far, map_dir, Pins, Step, LAST_VERSION, N14, N17, pins_of, is_outside, is_past_owner, RestsOnTry, RestsOnGrant, Lets, NoneStands}
 use Rattle.gt_core.proofs.Phases.{none-of, IsHere, makes-same, words-of, word-below, grant-invalid, idle-no-pins, of-run, by-giving, word-shows}
-use Rattle.gt_core.proofs.Judging.{writes-shown, leg-here, IsAsTried, as-tried, still-judged, control-generation, control-reads, control-writes}
+use Rattle.gt_core.proofs.Judging.{writes-shown, leg-here, IsAsTried, as-tried, still-judged, control-parts}
 pub use Rattle.gt_core.proofs.Exchanging.{FitsChange, exchanged-live, exchange-stands, counts-fit}
 use Rattle.gt_core.proofs.Pinning.{pins_at}
 
@@ -33,7 +33,7 @@ publish-spelled s h d r way shown so_far p gref looked entry a b acts = cc
 -- a generation has room in its word
 generation-fits : (s : Setting) (h : History) (xs : List State) (t r : ℕ) → DomainsStand s h xs → r < TABLE_ENTRIES → generation_at s h t r ≤ LAST_GENERATION
 generation-fits s h xs t r st within = let f = (st.words t r within).in_range.generation in
-    let e = control-generation (entry_at h t r) (generation_at s h t r) (reads_at h t r) (writes_at h t r) in
+    let e = (control-parts (entry_at h t r) (generation_at s h t r) (reads_at h t r) (writes_at h t r)).0 in
     (omega arith)
 
 not-last : (g : ℕ) → g ≤ LAST_GENERATION → g ≢ LAST_GENERATION → g + 1 ≤ LAST_GENERATION
@@ -114,8 +114,8 @@ pins-left l e pins none = let a = stands-not (is_outside l e) N14 _ none in
     eqb-false pins MAX_PINS (stands-not (pins == MAX_PINS) N17 [] b.1).0
 
 pins-shown : (s : Setting) (h : History) (t r : ℕ) (dir : Dir) → pins_of dir (control_at s h t r) ≡ pins_at h t r dir
-pins-shown s h t r Read = control-reads (entry_at h t r) (generation_at s h t r) (reads_at h t r) (writes_at h t r)
-pins-shown s h t r Write = control-writes (entry_at h t r) (generation_at s h t r) (reads_at h t r) (writes_at h t r)
+pins-shown s h t r Read = (control-parts (entry_at h t r) (generation_at s h t r) (reads_at h t r) (writes_at h t r)).1
+pins-shown s h t r Write = (control-parts (entry_at h t r) (generation_at s h t r) (reads_at h t r) (writes_at h t r)).2
 
 few-pins : (h : History) (t r : ℕ) (dir : Dir) → (reads_at h t r < MAX_PINS + 1) × (writes_at h t r < MAX_PINS + 1) → pins_at h t r dir < MAX_PINS + 1
 few-pins h t r Read a = a.0

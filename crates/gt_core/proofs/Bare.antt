@@ -44,10 +44,9 @@ header-bare (Stepped (Unpin p (ByMapping handle)) seen) = refl
 header-bare x = refl
 
 pub mapped-bare : (a : Option Answer) → one_if_mapped (option_map answer_from (option_map told a)) ≡ one_if_mapped a
-mapped-bare None = refl
 mapped-bare (Some (Mapped handle)) = refl
 mapped-bare (Some (Bytes b)) = refl
-mapped-bare (Some answer) = refl
+mapped-bare a = refl
 
 pub entry-bare : (h : History) (t r : ℕ) → entry_at (bare h) t r ≡ entry_at h t r
 unfolding entry_at bare

@@ -1,8 +1,8 @@
 -- The refusal that a step leads to is the first rule that stands, and where the call stands then.
-use Rattle.gt_core.proofs.Words.{◌≡◌, ◌+◌, ◌-◌, ℕ, zero, suc, refl, Bool, true, false, List, [], ◌∷◌, Option, Some, None, cond, sym, ap, ◌∙◌, subst, reverse, arith, nat_lt, nat_le, ◌==◌, ◌&&◌, ◌||◌, not, lt-ltb, eqb-true, eq-eqb, true≢false, false≢true, DomId, GrantRef, Rule, N10, N18, N19, Denial, MAX_TRIES, Entry, Invalid, Via, Control, Change, Publish, ToInvalid, ToReadOnly, ToWritable, allows_direction, control_of, MORE_TRIES, Held, Route, Direct, Through, Asked, CopyArgs, ByMapping, Verdict, Step, LookHeader, LookControl, Unpin, StoreBody, StoreHeader, Exchange, ReadBytes, WriteBytes, Seen, Taken, Missed, Action, Makes, Done, Aim, Mapping, Source, Dest, Question, AsksSize, AsksVersion, Phase, Storing, Exchanging, Looking, Changing, Walking, Accessing, Asking, Last, Ending, Leg, LegPhase, AtHeader, Look, Body, Second, Pinning, Relook, LegNext, Going, LegRefused, Pinned, last_first, CallerKnowledge, first, stands, first_look, is_kind, size_of, via_judged, is_dest_granted, Continuation, path, entry_refusal, held_of, rule_of_try, source_pair, dest_pair, end_leg, second_leg, IsFor, IsOnFrom, RestsOnWord, phase_after, action_at, after_leg, leg_after, leg_step, after_miss, after_pin_of, after_source_pin, after_dest_pin, at_dest, where_via, after_store, refused_as, next_to_give, IsTurn, IsQuiet, HasShown, State, History, Setting, word_at, control_at, table_at, entry_at, generation_at, body_at, reads_at, writes_at, known_at, seen_by, legs_at, StepsSoFar, LegNow, misses, is_demote, at_entry, first_at, refusal_in, or_then, PhaseStands, LegStands, Asks, phase_refusal, numbered, header_of, header_word, denial_of, N9, after_look, KindSub, FirstHalf, after_words, SecondHalf, Write, Read, Pins, pins_at, N11, N12, N13, N15, KindPage, KindVia, is_copying, after_own_miss, rule_at_via, rule_at_pin, cond_both}
+use Rattle.gt_core.proofs.Words.{◌≡◌, ◌+◌, ◌-◌, ℕ, zero, suc, refl, Bool, true, false, List, [], ◌∷◌, Option, Some, None, cond, sym, ap, ◌∙◌, subst, reverse, arith, nat_lt, nat_le, ◌==◌, ◌&&◌, ◌||◌, not, lt-ltb, eqb-true, eq-eqb, true≢false, false≢true, DomId, GrantRef, Rule, N10, N18, N19, Denial, MAX_TRIES, Entry, Invalid, Via, Control, Change, Publish, ToInvalid, ToReadOnly, ToWritable, allows_direction, control_of, MORE_TRIES, Held, Route, Direct, Through, Asked, CopyArgs, Verdict, Step, LookHeader, LookControl, Exchange, Seen, Taken, Missed, Action, Makes, Done, Aim, Mapping, Source, Dest, Question, AsksSize, AsksVersion, Phase, Storing, Exchanging, Looking, Changing, Walking, Accessing, Asking, Last, Ending, Leg, LegPhase, AtHeader, Look, Body, Second, Pinning, Relook, LegNext, Going, LegRefused, Pinned, last_first, CallerKnowledge, first, stands, first_look, is_kind, size_of, via_judged, is_dest_granted, Continuation, path, entry_refusal, held_of, rule_of_try, source_pair, dest_pair, end_leg, second_leg, IsFor, IsOnFrom, RestsOnWord, phase_after, action_at, after_leg, leg_after, leg_step, after_miss, after_pin_of, after_source_pin, after_dest_pin, at_dest, where_via, after_store, refused_as, next_to_give, IsTurn, IsQuiet, HasShown, State, History, Setting, word_at, control_at, table_at, entry_at, generation_at, body_at, reads_at, writes_at, known_at, seen_by, legs_at, StepsSoFar, LegNow, misses, is_demote, at_entry, first_at, refusal_in, or_then, PhaseStands, LegStands, Asks, phase_refusal, numbered, header_of, header_word, denial_of, N9, after_look, KindSub, FirstHalf, after_words, SecondHalf, Write, Read, Pins, pins_at, N11, N12, N13, N15, KindPage, KindVia, is_copying, after_own_miss, rule_at_via, rule_at_pin, cond_both}
 use Rattle.gt_entry.specs.Spelling.{control_with}
-pub use Rattle.gt_core.proofs.Aims.{pair_of, leg-here, Words, IsAsTried, as-tried, TakesNone, leg-judged, refusal_next, IsLegOf, control-writes, misses-look, misses-exchange, misses-exchanged, few, miss-late, still-judged, control-generation, control-reads}
-pub use Rattle.gt_core.proofs.Outcomes.{after-plain, IsHere, makes-same, words-of, turn-below, IsPublished, step-publishes, idle-here, idle-no-pins, word-shows, next_of, walk-done, ends-so, table-fits}
+pub use Rattle.gt_core.proofs.Aims.{pair_of, leg-here, Words, IsAsTried, as-tried, TakesNone, leg-judged, refusal_next, IsLegOf, control-parts, misses-look, misses-exchange, misses-exchanged, few, miss-late, still-judged}
+pub use Rattle.gt_core.proofs.Outcomes.{after-plain, IsHere, makes-same, words-of, turn-below, IsPublished, step-publishes, idle-here, idle-no-pins, word-shows, next_of, walk-done, ends-so, table-fits, by-quiet}
 
 -- the first rule that stands at this step, or before it, is the refusal that the call comes to
 abbrev pub Judged : Setting → History → DomId → Asked → StepsSoFar → Phase → Step → Type 0
@@ -42,7 +42,7 @@ once-judged s h d r way shown so_far gref looked change published rests place = 
 -- what a look shows of the write pins
 pub writes-shown : (s : Setting) (h : History) (t r : ℕ) → control_of (word_at s h t r) ≡ control_at s h t r → (control_of (word_at s h t r)).writes ≡ writes_at h t r
 writes-shown s h t r round =
-    ap (λ (c : Control). c.writes) round ∙ control-writes (entry_at h t r) (generation_at s h t r) (reads_at h t r) (writes_at h t r)
+    ap (λ (c : Control). c.writes) round ∙ (control-parts (entry_at h t r) (generation_at s h t r) (reads_at h t r) (writes_at h t r)).2
 
 look-refusal : (d : DomId) (gref : GrantRef) (change : Change) (more w : ℕ) (b late : Bool) → late ≡ false
     → at_entry d gref w (first (stands b N19 ∷ None ∷ stands late N18 ∷ [])) ≡ phase_refusal (cond b (refused_as d gref N19 w) (Changing gref change more w))
@@ -243,12 +243,8 @@ asked-judged s h d r so_far dom AsksSize a = subst (λ (z : Asked). Judged s h d
 asked-judged s h d r so_far dom AsksVersion a = subst (λ (z : Asked). Judged s h d z so_far (Asking dom AsksVersion) (LookHeader dom)) (sym a.1) refl
 
 last-judged : (s : Setting) (h : History) (d : DomId) (r : Asked) (so_far : StepsSoFar) (step : Step) (verdict : Verdict) → IsQuiet step → refusal_in (Some verdict) ≡ None → Judged s h d r so_far (Last step verdict) step
-last-judged s h d r so_far (Unpin p (ByMapping handle)) verdict q plain = sym plain
-last-judged s h d r so_far (StoreBody gref half word) verdict q plain = sym plain
-last-judged s h d r so_far (StoreHeader version frames) verdict q plain = sym plain
-last-judged s h d r so_far (ReadBytes dom frame off len) verdict q plain = sym plain
-last-judged s h d r so_far (WriteBytes dom frame off len) verdict q plain = sym plain
-last-judged s h d r so_far step verdict q plain = absurd q
+last-judged s h d r so_far step verdict q plain =
+    by-quiet (λ z. Judged s h d r so_far (Last z verdict) z) (λ p handle. sym plain) (λ gref half word. sym plain) (λ version frames. sym plain) (λ dom frame off len. (sym plain, sym plain)) step q
 
 pub then-none : (o : Option Denial) → or_then o None ≡ o
 then-none None = refl

@@ -1,5 +1,5 @@
 -- Each step of an open call: it is on words that there are, its refusal is the first rule that stands, and where the call stands after it.
-use Rattle.gt_core.proofs.Words.{◌≡◌, ◌≢◌, ◌<◌, ◌≤◌, ◌+◌, ℕ, refl, Bool, true, false, List, [], ◌∷◌, Option, Some, None, cond, sym, ap, ◌∙◌, subst, reverse, arith, ◌==◌, is_none, eq-eqb, true≢false, false≢true, none-some, domain_of, resolved, DomId, GrantRef, DomainConfig, TABLE_ENTRIES, Entry, Invalid, Change, Publish, ToInvalid, ToReadOnly, ToWritable, control_word, Held, Asked, Grant, Revoke, Demote, Promote, QuerySize, GetVersion, Verdict, Step, LookHeader, LookControl, LookBody, PinStep, Unpin, StoreBody, StoreHeader, Exchange, ReadBytes, WriteBytes, CopyBytes, Seen, Taken, Missed, Action, Makes, Done, Question, AsksSize, AsksVersion, Phase, Exchanging, Looking, Changing, Walking, Asking, Last, Ending, Leg, LegPhase, AtHeader, Look, Body, last_first, begun, size_of, opens, Continuation, FitsStep, path, RestsOnWord, action_at, leg_step, next_to_give, IsTurn, IsQuiet, HasShown, StandsAt, State, state_of, History, Setting, word_at, table_at, entry_at, generation_at, reads_at, writes_at, known_at, seen_by, legs_at, StepsSoFar, DomainsStand, StateAgrees, PhaseStands, LegStands, Asks, numbered, pins_at, Rests, FitsAsked, length, ByLeg, is_invalid, IsExchanged, IsChanged, idle_word, CallerKnowledge}
+use Rattle.gt_core.proofs.Words.{◌≡◌, ◌≢◌, ◌<◌, ◌≤◌, ◌+◌, ℕ, refl, Bool, true, false, List, [], ◌∷◌, Option, Some, None, cond, sym, ap, ◌∙◌, subst, reverse, arith, ◌==◌, is_none, eq-eqb, true≢false, false≢true, none-some, domain_of, resolved, DomId, GrantRef, DomainConfig, TABLE_ENTRIES, Entry, Invalid, Change, Publish, ToInvalid, ToReadOnly, ToWritable, control_word, Held, Asked, Grant, Revoke, Demote, Promote, QuerySize, GetVersion, Verdict, Step, LookHeader, LookControl, LookBody, PinStep, Unpin, StoreBody, StoreHeader, Exchange, ReadBytes, WriteBytes, Seen, Taken, Missed, Action, Makes, Done, Question, AsksSize, AsksVersion, Phase, Exchanging, Looking, Changing, Walking, Asking, Last, Ending, Leg, LegPhase, AtHeader, Look, Body, last_first, begun, size_of, opens, Continuation, FitsStep, path, RestsOnWord, action_at, leg_step, next_to_give, IsTurn, IsQuiet, HasShown, StandsAt, State, state_of, History, Setting, word_at, table_at, entry_at, generation_at, reads_at, writes_at, known_at, seen_by, legs_at, StepsSoFar, DomainsStand, StateAgrees, PhaseStands, LegStands, Asks, numbered, pins_at, Rests, FitsAsked, length, ByLeg, is_invalid, IsExchanged, IsChanged, idle_word, CallerKnowledge, Handle, ByMapping, Half}
 use Rattle.gt_entry.specs.Spelling.{control_with}
 pub use Rattle.gt_core.proofs.Fitting.{word-shows, table-fits}
 pub use Rattle.gt_core.proofs.Seeing.{IsWithin, sees-agree}
@@ -73,14 +73,18 @@ leg-within s h xs d l so_far (Look more) some a = (some, a.0)
 leg-within s h xs d l so_far (Body more word) some a = (some, a.within)
 leg-within s h xs d l so_far p some a = (some, a.0.within)
 
+-- what holds of each step that a call makes alone
+pub by-quiet : (P : Step → Type 0) → ((p : Held) (handle : Handle) → P (Unpin p (ByMapping handle))) → ((gref : GrantRef) (half : Half) (word : ℕ) → P (StoreBody gref half word)) → ((version frames : ℕ) → P (StoreHeader version frames))
+    → ((dom : DomId) (frame off len : ℕ) → P (ReadBytes dom frame off len) × P (WriteBytes dom frame off len)) → (step : Step) → IsQuiet step → P step
+by-quiet P unpins bodies headers accesses (Unpin p (ByMapping handle)) q = unpins p handle
+by-quiet P unpins bodies headers accesses (StoreBody gref half word) q = bodies gref half word
+by-quiet P unpins bodies headers accesses (StoreHeader version frames) q = headers version frames
+by-quiet P unpins bodies headers accesses (ReadBytes dom frame off len) q = (accesses dom frame off len).0
+by-quiet P unpins bodies headers accesses (WriteBytes dom frame off len) q = (accesses dom frame off len).1
+by-quiet P unpins bodies headers accesses step q = absurd q
+
 quiet-within : (xs : List State) (d : DomId) (step : Step) → IsQuiet step → IsWithin xs d step
-quiet-within xs d (Unpin p holder) q = tt
-quiet-within xs d (StoreBody gref half word) q = tt
-quiet-within xs d (StoreHeader version frames) q = tt
-quiet-within xs d (ReadBytes dom frame off len) q = tt
-quiet-within xs d (WriteBytes dom frame off len) q = tt
-quiet-within xs d (CopyBytes from to len) q = tt
-quiet-within xs d step q = absurd q
+quiet-within xs d = by-quiet (IsWithin xs d) (λ p handle. tt) (λ gref half word. tt) (λ version frames. tt) (λ dom frame off len. (tt, tt))
 
 asks-run : (s : Setting) (h : History) (d : DomId) (r : Asked) (dom : DomId) (question : Question) → begun (known_at s h d) d r ≡ None → Asks d r dom question → domain_of s.domains dom ≢ None
 asks-run s h d r dom AsksSize none a = subst (λ (z : DomId). domain_of s.domains z ≢ None) (sym a.2)

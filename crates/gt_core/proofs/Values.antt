@@ -1,7 +1,7 @@
 -- What an answer of a call is, by its last step.
 use Rattle.gt_core.proofs.Words.{◌≡◌, ◌⊎◌, inl, inr, ℕ, refl, Bool, true, false, List, [], ◌∷◌, length, Option, Some, cond, sym, ap, ◌∙◌, subst, eqb-true, ◌==◌, nat_lt, DomId, GrantRef, Denial, N18, N19, Entry, Invalid, Header, Change, Publish, ToReadOnly, ToWritable, control_of, header_of, header_word, Held, Asked, Map, SetupTable, QuerySize, GetVersion, ByMapping, ByLeg, Seen, Taken, Missed, Verdict, Granted, Given, Refused, Value, FramesTold, SizeTold, VersionTold, Step, LookHeader, PinStep, Unpin, StoreBody, StoreHeader, Exchange, ReadBytes, WriteBytes, Action, Makes, Done, Aim, Mapping, Question, AsksSize, AsksVersion, Phase, Storing, StoringSecond, Exchanging, Looking, Changing, Walking, Accessing, Asking, Last, Ending, Leg, LegPhase, Pinning, LegNext, Pinned, last_first, pins_so_far, CallerKnowledge, path, held_of, is_stopped, Continuation, IsFor, RestsOnWord, RestsOnRequest, phase_after, action_at, after_leg, leg_after, leg_step, after_store, refused_as, next_to_give, HasShown, IsQuiet, IsTurn, held_in, AnswerDone, State, History, Setting, word_at, table_at, known_at, seen_by, StepsSoFar, GivesValue, DomainsStand, PhaseStands, EndsAfter, EndsCopy, Asks, answer_with, MAX_TABLE_FRAMES, ◌-◌, without_last, Size, Version}
 use Rattle.gt_calls.specs.declared.action.Verdict.TheVariants.{Mapped}
-pub use Rattle.gt_core.proofs.Judging.{not-pinned, next_of, walk-done, ends-so, IsHere, makes-same, table-fits}
+pub use Rattle.gt_core.proofs.Judging.{not-pinned, next_of, walk-done, ends-so, IsHere, makes-same, table-fits, by-quiet}
 use Rattle.gt_calls.specs.Path.{told}
 
 -- the next phase of a call that stands at a question
@@ -25,12 +25,8 @@ granted-last s h d r (StoreBody gref half word) verdict q a b g read = absurd a
 granted-last s h d r last verdict q a b g read = absurd q
 
 last-next : (s : Setting) (h : History) (d : DomId) (last : Step) (verdict v : Verdict) → IsQuiet last → Next s h d (Last last verdict) last v → verdict ≡ v
-last-next s h d (Unpin p (ByMapping handle)) verdict v q e = cc
-last-next s h d (StoreHeader version frames) verdict v q e = cc
-last-next s h d (ReadBytes dom frame off len) verdict v q e = cc
-last-next s h d (WriteBytes dom frame off len) verdict v q e = cc
-last-next s h d (StoreBody gref half word) verdict v q e = cc
-last-next s h d last verdict v q e = absurd q
+last-next s h d last verdict v q =
+    by-quiet (λ z. Next s h d (Last z verdict) z v → verdict ≡ v) (λ p handle e. cc) (λ gref half word e. cc) (λ version frames e. cc) (λ dom frame off len. (λ e. cc, λ e. cc)) last q
 
 turn-value : (s : Setting) (h : History) (d : DomId) (r : Asked) (gref : GrantRef) (change : Change) (step : Option Step) → IsTurn r gref change → GivesValue s h d r step AnswerDone
 turn-value s h d r gref ToReadOnly step a = subst (λ (z : Asked). GivesValue s h d z step AnswerDone) (sym a) refl
@@ -90,11 +86,7 @@ given-last s h d r (StoreHeader version frames) verdict value q (inr b) g =
     let f : Given (FramesTold frames) ≡ Given value = sym b.1 ∙ g in let v : FramesTold frames ≡ value = cc in
     subst (λ (z : Asked). GivesValue s h d z (Some (StoreHeader version frames)) (answer_with value)) (sym b.0)
     (subst (λ (x : Value). GivesValue s h d (SetupTable frames) (Some (StoreHeader version frames)) (answer_with x)) v refl)
-given-last s h d r (Unpin p holder) verdict value q b g = absurd (let f : Granted ≡ Given value = sym b ∙ g in cc)
-given-last s h d r (ReadBytes dom frame off len) verdict value q b g = absurd (let f : Granted ≡ Given value = sym b ∙ g in cc)
-given-last s h d r (WriteBytes dom frame off len) verdict value q b g = absurd (let f : Granted ≡ Given value = sym b ∙ g in cc)
-given-last s h d r (StoreBody gref half word) verdict value q b g = absurd (let f : Granted ≡ Given value = sym b ∙ g in cc)
-given-last s h d r last verdict value q b g = absurd q
+given-last s h d r last verdict value q b g = absurd (let f : Granted ≡ Given value = sym b ∙ g in cc)
 
 -- what is so of the end of a phase, if it is one
 abbrev AtEnd : (Verdict → Type 0) → Action → Type 0
@@ -231,11 +223,7 @@ mapped-ends s h xs d r shown so_far phase step m i next =
           by : (z : Step) (v : Verdict) → IsQuiet z → EndsAfter r z v → v ≡ Mapped m → ⊥
           by (StoreHeader version frames) v q (inl b) g = let f : Granted ≡ Mapped m = sym b.1 ∙ g in cc
           by (StoreHeader version frames) v q (inr b) g = let f : Given (FramesTold frames) ≡ Mapped m = sym b.1 ∙ g in cc
-          by (Unpin p holder) v q b g = let f : Granted ≡ Mapped m = sym b ∙ g in cc
-          by (ReadBytes dom frame off len) v q b g = let f : Granted ≡ Mapped m = sym b ∙ g in cc
-          by (WriteBytes dom frame off len) v q b g = let f : Granted ≡ Mapped m = sym b ∙ g in cc
-          by (StoreBody gref half word) v q b g = let f : Granted ≡ Mapped m = sym b ∙ g in cc
-          by z v q b g = q
+          by z v q b g = let f : Granted ≡ Mapped m = sym b ∙ g in cc
 
       of_map : (aim : Aim) (l : Leg) → IsFor (known_at s h d) d r aim l → aim ≡ Mapping → (dom : DomId) × (gref : GrantRef) × (flags : ℕ) × (r ≡ Map dom gref flags)
       of_map Mapping l a is = (a.dom, a.gref, a.flags, a.of_map)
