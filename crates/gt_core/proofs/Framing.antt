@@ -8,7 +8,7 @@ use Rattle.gt_frames.specs.declared.writ.Writ.{Writ}
 use Rattle.gt_frames.specs.declared.writ.Record.{Record}
 use Rattle.gt_core.specs.declared.core_state.Begun.TheVariants.{Busy as BegunBusy, NoDomain as BegunNoDomain}
 use Rattle.gt_core.proofs.Starting.{get-replicate, stepped, same-number}
-use Rattle.gt_core.proofs.Accessing.{permits-as, mapping-pin, none-of, same-held, read-justified, copy-justified}
+use Rattle.gt_core.proofs.Accessing.{call-is, permits-as, mapping-pin, none-of, same-held, read-justified, copy-justified}
 
 -- what a frame holds, and which frames there are
 
@@ -118,16 +118,11 @@ copy-admitted s h fs x r phase from to len fr none held a = let c = a.copy in
     let by : route_of x.mappings (record { caller = x.id; request = r; phase = Some phase }) ≡ route = ap (λ (q : Asked). route_of x.mappings (record { caller = x.id; request = q; phase = Some phase })) a.of_copy in
     (range-there s h fs from len fr inside.0, admitted-by fs x (record { caller = x.id; request = r; phase = Some phase }) (name_of to) to.off len route (frame-there s h fs (name_of to) fr inside.1.0) inside.1.1 by right_to)
 
-call-by : (s : Setting) (h : History) (d : DomId) (o : Open) (c : Underway) → (a : OpenAgrees s h d o c) → o.call ≡ record { caller = d; request = c.request; phase = Some a.phase }
-call-by s h d o c a = ap (λ (z : DomId). record { caller = z; request = o.call.request; phase = o.call.phase }) a.caller
-    ∙ ap (λ (z : Asked). record { caller = d; request = z; phase = o.call.phase }) a.asks
-    ∙ ap (λ (z : Option Phase). record { caller = d; request = c.request; phase = z }) a.here
-
 -- what the next step of an open call writes is by right
 pub open-admitted : (s : Setting) (h : History) (xs : List State) (fs : FrameSet) (x : State) (o : Open) (c : Underway) → DomainsStand s h xs → FramesStand s h fs → Agrees s h x → open_call h x.id.0 ≡ Some c → OpenAgrees s h x.id o c
     → IsAdmitted fs x o.call o.step
 open-admitted s h xs fs x o c st fr a call here =
-    subst (λ (z : Call). IsAdmitted fs x z o.step) (sym (call-by s h x.id o c here)) (by o.step here.rests) where
+    subst (λ (z : Call). IsAdmitted fs x z o.step) (sym (call-is o.call x.id c.request here.phase here.caller here.asks here.here)) (by o.step here.rests) where
       given : FitsGiven c.request x.given
       given = let g = a.given c call in subst (FitsGiven c.request) (sym g.0) g.1
 

@@ -28,7 +28,7 @@ headed-slots h d version frames answer t slots k a = λ r slot e.
     let i = headed d version frames answer in slot-kept i h t r slot (kept-live i h k) (λ which. headed-body h d version frames answer t r which) (a r slot e)
 
 -- a header within the limits has room in its word
-room-there : (version frames : ℕ) → FitsTable (record { version = version; frames = frames }) → ◌≡◌ {A = Header} (record { version = version % 4; frames = frames % 256 }) (record { version = version; frames = frames })
+pub room-there : (version frames : ℕ) → FitsTable (record { version = version; frames = frames }) → ◌≡◌ {A = Header} (record { version = version % 4; frames = frames % 256 }) (record { version = version; frames = frames })
 room-there version frames f = let low : version < 4 = let a = f.version in omega arith in
     let few : frames < 256 = let a = f.frames in omega arith in
     ap (λ (n : ℕ). record { version = n; frames = frames % 256 }) (mod-eq_of_lt low) ∙ ap (λ (n : ℕ). record { version = version; frames = n }) (mod-eq_of_lt few)

@@ -1,5 +1,5 @@
 -- The only step that names the handle of a mapping is that of an unmap, and it names the handle asked.
-use Rattle.gt_core.proofs.Words.{◌≡◌, ℕ, zero, suc, refl, Bool, true, false, List, [], ◌∷◌, ◌++◌, length, Option, Some, None, cond, subst, nat_lt, ◌==◌, none-some, same_Some, DomId, GrantRef, Rule, Denial, Entry, Sub, Via, KindSub, control_of, header_of, Change, Publish, ToInvalid, ToReadOnly, ToWritable, MORE_TRIES, Leg, Held, Route, Through, CopyArgs, Asked, ByMapping, ByLeg, Seen, Nothing, Word, Taken, Missed, Step, LookHeader, LookControl, Unpin, Exchange, Makes, Done, Verdict, Granted, Refused, held_by, CallerKnowledge, begun, first_look, is_kind, size_of, via_judged, is_source_granted, is_dest_granted, Continuation, ended, makes, held_of, rule_of_try, entry_refusal, is_stopped, steps_of, after_beginning, path, second_leg, map_leg, source_pair, dest_pair, AfterRefusal, AfterPin, nowhere, looks, exchanges, give_back, at_first_look, last_step, reads_second, reads_body, try_pin, tries, leg, unless_refused, beyond, reaches, accesses, to_dest, copies, turn, turns, busy, exchanges_once, after_first, refused_holding}
+use Rattle.gt_core.proofs.Words.{◌≡◌, ℕ, zero, suc, refl, Bool, true, false, List, [], ◌∷◌, ◌++◌, length, Option, Some, None, cond, subst, nat_lt, ◌==◌, none-some, same_Some, DomId, GrantRef, Rule, Denial, Entry, Sub, Via, KindSub, control_of, header_of, Change, Publish, ToInvalid, ToReadOnly, ToWritable, MORE_TRIES, Leg, Held, Route, Through, CopyArgs, Asked, ByMapping, ByLeg, Seen, Nothing, Word, Taken, Missed, Step, LookHeader, LookControl, Unpin, Exchange, Makes, Done, Verdict, Granted, Refused, held_by, CallerKnowledge, begun, first_look, is_kind, size_of, via_judged, is_source_granted, is_dest_granted, Continuation, ended, makes, held_of, rule_of_try, entry_refusal, is_stopped, steps_of, after_beginning, path, second_leg, map_leg, source_pair, dest_pair, AfterRefusal, AfterPin, nowhere, looks, exchanges, give_back, at_first_look, last_step, reads_second, reads_body, try_pin, tries, leg, unless_refused, beyond, reaches, accesses, to_dest, copies, turn, turns, busy, exchanges_once, after_first, refused_holding, cond_both}
 use Rattle.gt_calls.specs.declared.request.Asked.TheVariants as requests
 use Rattle.gt_calls.specs.declared.action.Step.TheVariants.{Pin}
 use Rattle.gt_calls.specs.declared.action.Verdict.TheVariants.{Mapped}
@@ -46,10 +46,6 @@ only-cond : (r : Asked) (b : Bool) (c e : Continuation) (vs : List Seen) → Onl
 only-cond r true c e vs one other step is = one vs step is
 only-cond r false c e vs one other step is = other vs step is
 
-only-either : (r : Asked) (b : Bool) (c e : Continuation) → Only r c → Only r e → Only r (cond b c e)
-only-either r true c e one other = one
-only-either r false c e one other = other
-
 only-exchanges : (r : Asked) (a : Step) (looked : ℕ) (taken : Continuation) (missed : ℕ → Continuation) → NamesAsked r a → Only r taken → ((w : ℕ) → Only r (missed w)) → Only r (exchanges a looked taken missed)
 only-exchanges r a looked taken missed n one other [] step e = only-step r a step n e
 only-exchanges r a looked taken missed n one other (Taken ∷ vs) step e = one vs step e
@@ -71,16 +67,14 @@ only-last : (r : Asked) (l : Leg) (p : Held) (rule : Option Rule) (refused : Aft
 only-last r l p None refused missed pinned refuses miss takes = only-exchanges r (Pin p) p.word (pinned p) missed tt (takes p) miss
 only-last r l p (Some rule) refused missed pinned refuses miss takes =
     only-looks r (LookControl l.dom l.gref) (λ found. cond (found == p.word) (refused (entry_refusal l.dom l.gref rule p.word)) (missed found)) tt
-    (λ found. only-either r (found == p.word) (refused (entry_refusal l.dom l.gref rule p.word)) (missed found) (refuses (entry_refusal l.dom l.gref rule p.word)) (miss found))
+    (λ found. cond_both (found == p.word) (refused (entry_refusal l.dom l.gref rule p.word)) (missed found) (Only r) (λ z. refuses (entry_refusal l.dom l.gref rule p.word)) (λ z. miss found))
 
 only-body : (r : Asked) (l : Leg) (w : ℕ) (refused : AfterRefusal) (missed : ℕ → Continuation) (pinned : AfterPin)
     → OnlyAfterRefusal r refused → ((w : ℕ) → Only r (missed w)) → ((q : Held) → Only r (pinned q)) → Only r (reads_body l w refused missed pinned)
 only-body r l w refused missed pinned refuses miss takes =
     only-looks r _ (λ body. cond (is_kind (control_of w).kind KindSub) (reads_second l w body refused missed pinned) (last_step l (held_of l w body 0) (rule_of_try l w body 0) refused missed pinned)) tt
-    (λ body. only-either r (is_kind (control_of w).kind KindSub) (reads_second l w body refused missed pinned) (last_step l (held_of l w body 0) (rule_of_try l w body 0) refused missed pinned)
-    (only-looks r _ (λ second. last_step l (held_of l w body second) (rule_of_try l w body second) refused missed pinned) tt
-    (λ second. only-last r l (held_of l w body second) (rule_of_try l w body second) refused missed pinned refuses miss takes))
-    (only-last r l (held_of l w body 0) (rule_of_try l w body 0) refused missed pinned refuses miss takes))
+    (λ body. cond_both (is_kind (control_of w).kind KindSub) (reads_second l w body refused missed pinned) (last_step l (held_of l w body 0) (rule_of_try l w body 0) refused missed pinned) (Only r) (λ z. only-looks r _ (λ second. last_step l (held_of l w body second) (rule_of_try l w body second) refused missed pinned) tt
+    (λ second. only-last r l (held_of l w body second) (rule_of_try l w body second) refused missed pinned refuses miss takes)) (λ z. only-last r l (held_of l w body 0) (rule_of_try l w body 0) refused missed pinned refuses miss takes))
 
 only-try : (r : Asked) (l : Leg) (refused : AfterRefusal) (missed : ℕ → Continuation) (pinned : AfterPin)
     → OnlyAfterRefusal r refused → ((w : ℕ) → Only r (missed w)) → ((q : Held) → Only r (pinned q)) → Only r (try_pin l refused missed pinned)
@@ -95,7 +89,7 @@ only-tries r l (suc n) refused pinned refuses takes = only-try r l refused (λ f
 
 only-leg : (r : Asked) (l : Leg) (refused : AfterRefusal) (pinned : AfterPin) → OnlyAfterRefusal r refused → ((q : Held) → Only r (pinned q)) → Only r (leg l refused pinned)
 only-leg r l refused pinned refuses takes = only-looks r (LookHeader l.dom) _ tt
-    (λ w. only-either r (nat_lt l.gref.0 (size_of (header_of w))) (tries l MORE_TRIES refused pinned) _ (only-tries r l MORE_TRIES refused pinned refuses takes) (refuses _))
+    (λ w. cond_both (nat_lt l.gref.0 (size_of (header_of w))) (tries l MORE_TRIES refused pinned) _ (Only r) (λ z. only-tries r l MORE_TRIES refused pinned refuses takes) (λ z. refuses _))
 
 -- copies
 
@@ -132,8 +126,7 @@ only-once r d gref looked change = only-exchanges r (Exchange gref looked change
 
 only-turn : (r : Asked) (change : Change) (d : DomId) (gref : GrantRef) (missed : ℕ → Continuation) → ((w : ℕ) → Only r (missed w)) → Only r (turn change d gref missed)
 only-turn r change d gref missed miss = only-looks r (LookControl d gref) _ tt
-    (λ w. only-either r (is_stopped change (control_of w)) _ (exchanges (Exchange gref w change) w (ended Granted) missed) (only-ended r _)
-    (only-exchanges r (Exchange gref w change) w (ended Granted) missed tt (only-ended r Granted) miss))
+    (λ w. cond_both (is_stopped change (control_of w)) _ (exchanges (Exchange gref w change) w (ended Granted) missed) (Only r) (λ z. only-ended r _) (λ z. only-exchanges r (Exchange gref w change) w (ended Granted) missed tt (only-ended r Granted) miss))
 
 only-turns : (r : Asked) (change : Change) (d : DomId) (gref : GrantRef) (n : ℕ) → Only r (turns change d gref n)
 unfolding turns

@@ -1,7 +1,8 @@
 -- A core at rest stands for the empty history.
-use Rattle.gt_core.proofs.Words.{◌≡◌, ◌<◌, ◌≤◌, ◌+◌, ◌%◌, ℕ, refl, Bool, true, false, List, [], ◌∷◌, Option, Some, None, cond, ltb, sym, ap, ◌∙◌, arith, subst, map, replicate, min, get_or, eqb-true, ltb-false, ltb-true, none-some, same_Some, slice_get-get_or, slice_get_past, mod-eq_of_lt, length-replicate, All-tail, fun_ext, ◌==◌, slice_get, All, option_map, domain_of, DomId, TypeId, Perms, Config, DomainConfig, Header, Invalid, Own, PinCounts, ENTRIES, entry_in, generation_in, row_entry, row_generation, State, state_of, first_state, Setting, entry_at, raises_at, body_at, live, mappings_at, maps_answered_at, open_call, table_at, reads_at, writes_at, control_at, setting_of, Agrees, StateAgrees, SlotAgrees, CallAgrees, FitsTable, FitsWord, IsLawful, DomainsStand, Half, FirstHalf, SecondHalf, IsEntry, LAST_GENERATION, gather, legs_at, get_or-replicate, header_from, LAST_VERSION, MAX_TABLE_FRAMES, cond_both}
+use Rattle.gt_core.proofs.Words.{◌≡◌, ◌<◌, ◌≤◌, ◌+◌, ◌%◌, ℕ, refl, Bool, true, false, List, [], ◌∷◌, Option, Some, None, cond, ltb, sym, ap, ◌∙◌, arith, subst, map, replicate, min, get_or, eqb-true, ltb-false, ltb-true, none-some, same_Some, slice_get-get_or, slice_get_past, length-replicate, All-tail, fun_ext, ◌==◌, slice_get, All, option_map, domain_of, DomId, TypeId, Perms, Config, DomainConfig, Header, Invalid, Own, PinCounts, ENTRIES, entry_in, generation_in, row_entry, row_generation, State, state_of, first_state, Setting, entry_at, raises_at, body_at, live, mappings_at, maps_answered_at, open_call, table_at, reads_at, writes_at, control_at, setting_of, Agrees, StateAgrees, SlotAgrees, CallAgrees, FitsTable, FitsWord, IsLawful, DomainsStand, Half, FirstHalf, SecondHalf, IsEntry, LAST_GENERATION, gather, legs_at, get_or-replicate, header_from, LAST_VERSION, MAX_TABLE_FRAMES, cond_both}
 pub use Rattle.gt_core.proofs.Keeping.{given-none, stepped, same-number, mappings-same, no-handles}
 use Rattle.gt_types.specs.Config.{IsWithinLimits}
+use Rattle.gt_core.proofs.Headers.{room-there}
 
 state-of-map : (g : ℕ) (ds : List DomainConfig) (dom : DomId) → state_of (map (first_state g) ds) dom.0 ≡ option_map (first_state g) (domain_of ds dom)
 state-of-map g [] dom = refl
@@ -97,9 +98,7 @@ abbrev Fine : DomainConfig → Type 0
 Fine d = (d.version ≤ LAST_VERSION) × (d.table_frames ≤ MAX_TABLE_FRAMES)
 
 header-kept : (d : DomainConfig) → Fine d → ◌≡◌ {A = Header} (record { version = d.version % 4; frames = d.table_frames % 256 }) (record { version = d.version; frames = d.table_frames })
-header-kept d f = let small : d.table_frames < 256 = let le = f.1 in omega arith in
-    let low : d.version < 4 = let le = f.0 in omega arith in
-    ap (λ (n : ℕ). record { version = n; frames = d.table_frames % 256 }) (mod-eq_of_lt low) ∙ ap (λ (n : ℕ). record { version = d.version; frames = n }) (mod-eq_of_lt small)
+header-kept d f = room-there d.version d.table_frames (record { version = f.0; frames = f.1 })
 
 slot-starts : (t n r : ℕ) (slot : PinCounts) → slice_get (replicate n (record { reads = 0; writes = 0; first = 0; second = 0 })) r ≡ Some slot → SlotAgrees [] t r slot
 slot-starts t n r slot e = by (ltb r n) (sym (get-replicate n r (record { reads = 0; writes = 0; first = 0; second = 0 })) ∙ e)

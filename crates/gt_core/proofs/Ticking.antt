@@ -4,7 +4,7 @@ pub use Rattle.gt_core.proofs.Storing.{stores, half-stored, first-stays, store-s
 pub use Rattle.gt_core.proofs.Unpinning.{unpins, leg-left, leg-mappings, mapping-legs, from-zero, Loses, unpin-stands, becomes-unpinned, loses-leg, loses-mapping, mapping-agrees, leg-agrees, pins, leg-grows, leg-maps, answered-stays}
 pub use Rattle.gt_core.proofs.Beginning.{is-at, to-come, pins-there, agrees-found, has_id, found, state_of-set}
 pub use Rattle.gt_core.proofs.Acting.{can-change, can-pin, store-invalid, header-fits, map-lawful, CanPin, exchanged-live, exchange-stands}
-use Rattle.gt_core.proofs.Accessing.{read-justified, write-justified, copy-justified}
+use Rattle.gt_core.proofs.Accessing.{call-is, read-justified, write-justified, copy-justified}
 use Rattle.gt_core.proofs.Outcomes.{next_of, IsSingle, single-ends, taken-ends, clean-next, ends-so}
 
 -- what is known of a step of an open call, which saw what the history left
@@ -29,12 +29,6 @@ pub here-of : (s : Setting) (h : History) (xs : List State) (x : State) (o : Ope
     → IsHere s h xs x.id c.request (values c) (reverse c.steps) a.phase o.step
 here-of s h xs x o c st here a =
     record { st = st; own = λ e. none-some x (sym e ∙ here); at = a.at; acts = a.acts; place = a.place; held = a.held; rests = a.rests; fits = a.fits }
-
--- the call by its parts
-call-is : (call : Call) (d : DomId) (r : Asked) (p : Phase) → call.caller ≡ d → call.request ≡ r → call.phase ≡ Some p → call ≡ record { caller = d; request = r; phase = Some p }
-call-is call d r p a b e = ap (λ (z : DomId). record { caller = z; request = call.request; phase = call.phase }) a
-    ∙ ap (λ (z : Asked). record { caller = d; request = z; phase = call.phase }) b
-    ∙ ap (λ (z : Option Phase). record { caller = d; request = r; phase = z }) e
 
 pub ticks : (s : Setting) (h : History) (xs : List State) (x : State) (o : Open) (c : Underway) (seen : Seen) (new : Call) (action : Action) → DomainsStand s h xs → state_of xs x.id.0 ≡ Some x → Agrees s h x → open_call h x.id.0 ≡ Some c
     → OpenAgrees s h x.id o c → seen ≡ sees xs x.id o.step → new.caller ≡ o.call.caller → new.request ≡ o.call.request
