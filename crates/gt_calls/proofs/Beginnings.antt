@@ -1,5 +1,5 @@
 -- A call before its first step: what is so of each, by what it asks.
-use Rattle.gt_calls.proofs.Words.{◌≡◌, ◌≤◌, ◌*◌, ℕ, refl, Bool, true, false, [], Option, Some, None, cond, sym, ap, ◌∙◌, subst, inl, inr, arith, DomId, Read, Write, MAX_TRIES, frame_of, GrantRef, Request, bytes_of, Asked, Grant, Revoke, Demote, Promote, Map, Unmap, Load, SetVersion, SetupTable, QuerySize, GetVersion, Store, Peek, Poke, Copy, CopyArgs, ByHandle, Held, Own, Source, Dest, Verdict, Step, Unpin, StoreHeader, ReadBytes, WriteBytes, Phase, Storing, StoringSecond, Exchanging, Looking, Changing, Walking, Accessing, Asking, Last, Ending, Header, CallerKnowledge, begun, is_source_granted, is_dest_granted, opens, Continuation, path, after_beginning, steps_of, makes, ended, by_mapping, end_leg, RestsOnRequest, remains, first_phase, mapped_phase, at_source, at_dest, action_at, IsQuiet, HasShown, held_in, steps_left, MakesStep}
+use Rattle.gt_calls.proofs.Words.{◌≡◌, ◌≤◌, ◌*◌, ℕ, refl, [], Option, Some, None, cond, sym, ap, ◌∙◌, subst, inl, inr, arith, DomId, Read, Write, MAX_TRIES, frame_of, GrantRef, Request, bytes_of, Asked, Grant, Revoke, Demote, Promote, Map, Unmap, Load, SetVersion, SetupTable, QuerySize, GetVersion, Store, Peek, Poke, Copy, CopyArgs, ByHandle, Held, Own, Source, Dest, Verdict, Step, Unpin, StoreHeader, ReadBytes, WriteBytes, Phase, Storing, StoringSecond, Exchanging, Looking, Changing, Walking, Accessing, Asking, Last, Ending, Header, CallerKnowledge, begun, is_source_granted, is_dest_granted, opens, Continuation, path, after_beginning, steps_of, makes, ended, by_mapping, end_leg, RestsOnRequest, remains, first_phase, mapped_phase, at_source, at_dest, action_at, IsQuiet, HasShown, held_in, steps_left, MakesStep, cond_both}
 use Rattle.gt_calls.specs.declared.request.Request.TheVariants as requests
 use Rattle.gt_calls.specs.declared.action.Verdict.TheVariants.{Granted, Given}
 use Rattle.gt_calls.specs.declared.action.Value.TheVariants.{Frames}
@@ -37,14 +37,10 @@ mapped : (k : CallerKnowledge) (grammar : Continuation) (caller : DomId) (reques
 mapped k grammar caller request step o m found quiet rests =
     subst (λ (x : Option Held). Begins k grammar caller request (by_mapping x step) (mapped_phase x step) 1) (sym found) (once k grammar caller request (step m) Granted quiet rests)
 
-moves-either : (b : Bool) (x y : Phase) → IsMoving x → IsMoving y → IsMoving (cond b x y)
-moves-either true x y hx hy = hx
-moves-either false x y hx hy = hy
-
 copy-moves : (k : CallerKnowledge) (caller : DomId) (c : CopyArgs) → IsMoving (at_source k caller c)
 copy-moves k caller c =
-    moves-either (is_source_granted c) (Walking (Source c None) (end_leg k caller c.source Read c.len) Header) (at_dest k caller c Own) tt
-    (moves-either (is_dest_granted c) (Walking (Dest c Own None) (end_leg k caller c.dest Write c.len) Header) (Accessing c Own Own) tt tt)
+    cond_both (is_source_granted c) (Walking (Source c None) (end_leg k caller c.source Read c.len) Header) (at_dest k caller c Own) IsMoving (λ e. tt)
+    (λ e. cond_both (is_dest_granted c) (Walking (Dest c Own None) (end_leg k caller c.dest Write c.len) Header) (Accessing c Own Own) IsMoving (λ f. tt) (λ f. tt))
 
 -- each call that no rule answers at its beginning
 pub begins : (k : CallerKnowledge) (grammar : Continuation) (caller : DomId) (r : Asked) → begun k caller r ≡ None → Begins k grammar caller r (steps_of k caller r) (first_phase k caller r) (most_steps r)

@@ -1,5 +1,5 @@
 -- A map goes on as its call does.
-use Rattle.gt_calls.proofs.Words.{◌≡◌, ℕ, refl, ap, Some, None, DomId, GrantRef, Seen, Nothing, Phase, Walking, Mapping, Leg, LegNext, Going, Refused, Pinned, Header, Map, after_leg, leg_after, leg_step, map_leg, CallerKnowledge}
+use Rattle.gt_calls.proofs.Words.{◌≡◌, ℕ, refl, ap, Some, None, DomId, GrantRef, Seen, Nothing, Walking, Mapping, Leg, LegNext, Going, Refused, Pinned, Header, Map, after_leg, leg_after, map_leg, CallerKnowledge}
 use Rattle.gt_calls.specs.declared.mapping.MapCall.{MapCall}
 use Rattle.gt_calls.specs.MapCalls.{BeginsAs, GoesOnAs}
 use Rattle.gt_calls.proofs.Advancing.{goes}

@@ -1,6 +1,6 @@
 -- The words that these proofs use, from the crates below and from the definitions of this one.
 pub use Rattle.std.proofs.Common.{Bool, List, None, Option, Some, [], ap, arith, cond, drop, false, inl, inr, length, ltb, refl, subst, suc, sym, true, zero, ℕ, ◌%◌, ◌*◌, ◌++◌, ◌+◌, ◌-◌, ◌/◌, ◌<◌, ◌∙◌, ◌∷◌, ◌≡◌, ◌≤◌}
-pub use Rattle.std.proofs.lemmas.Bool.{eqb-true, lt-leb, lt-ltb, ltb-true, ne_eqb, true≢false}
+pub use Rattle.std.proofs.lemmas.Bool.{cond_both, eqb-true, le-ltb, lt-leb, lt-ltb, ltb-true, ne_eqb, true≢false}
 pub use Rattle.std.proofs.lemmas.List.{append-nil, append_assoc}
 pub use Rattle.std.proofs.lemmas.Option.{none-some, same_Some}
 pub use Rattle.std.specs.Prelude.{All, MatchBool, is_none, nat_le, nat_lt, not, ◌&&◌, ◌==◌, ◌||◌}
