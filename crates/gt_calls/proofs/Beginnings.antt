@@ -1,5 +1,5 @@
 -- A call before its first step: what is so of each, by what it asks.
-use Rattle.gt_calls.proofs.Words.{◌≡◌, ◌≤◌, ◌*◌, ℕ, refl, [], Option, Some, None, cond, sym, ap, ◌∙◌, subst, inl, inr, arith, DomId, Read, Write, MAX_TRIES, frame_of, GrantRef, Request, bytes_of, Asked, Grant, Revoke, Demote, Promote, Map, Unmap, Load, SetVersion, SetupTable, QuerySize, GetVersion, Store, Peek, Poke, Copy, CopyArgs, ByHandle, Held, Own, Source, Dest, Verdict, Step, Unpin, StoreHeader, ReadBytes, WriteBytes, Phase, Storing, StoringSecond, Exchanging, Looking, Changing, Walking, Accessing, Asking, Last, Ending, Header, CallerKnowledge, begun, is_source_granted, is_dest_granted, opens, Continuation, path, after_beginning, steps_of, makes, ended, by_mapping, end_leg, RestsOnRequest, remains, first_phase, mapped_phase, at_source, at_dest, action_at, IsQuiet, HasShown, held_in, steps_left, MakesStep, cond_both}
+use Rattle.gt_calls.proofs.Words.{◌≡◌, ◌≤◌, ◌*◌, ℕ, refl, [], Option, Some, None, cond, sym, ap, ◌∙◌, subst, inl, inr, arith, DomId, Read, Write, MAX_TRIES, frame_of, GrantRef, Request, bytes_of, Asked, Grant, Revoke, Demote, Promote, Map, Unmap, Load, SetVersion, SetupTable, QuerySize, GetVersion, Store, Peek, Poke, Copy, CopyArgs, ByHandle, Held, Own, Source, Dest, Verdict, Step, Unpin, StoreHeader, ReadBytes, WriteBytes, Phase, Walking, Accessing, Last, Ending, Header, CallerKnowledge, begun, is_source_granted, is_dest_granted, opens, Continuation, path, after_beginning, steps_of, makes, ended, by_mapping, end_leg, RestsOnRequest, remains, first_phase, mapped_phase, at_source, at_dest, action_at, IsQuiet, HasShown, held_in, steps_left, MakesStep, cond_both}
 use Rattle.gt_calls.specs.declared.request.Request.TheVariants as requests
 use Rattle.gt_calls.specs.declared.action.Verdict.TheVariants.{Granted, Given}
 use Rattle.gt_calls.specs.declared.action.Value.TheVariants.{Frames}
@@ -76,16 +76,8 @@ begins k grammar caller (GetVersion dom) none = record { same = refl; shown = (o
 
 -- a call makes a step where it doesn't give its pins back
 moving-step : (caller : DomId) (phase : Phase) → IsMoving phase → MakesStep (Some (action_at caller phase))
-moving-step caller (Storing gref entry) m = tt
-moving-step caller (StoringSecond gref entry) m = tt
-moving-step caller (Exchanging gref looked change) m = tt
-moving-step caller (Looking gref change more) m = tt
-moving-step caller (Changing gref change more looked) m = tt
-moving-step caller (Walking aim l at) m = tt
-moving-step caller (Accessing c source dest) m = tt
-moving-step caller (Asking dom question) m = tt
-moving-step caller (Last step verdict) m = tt
 moving-step caller (Ending pins verdict) m = absurd m
+moving-step caller phase m = tt
 
 pub makes-step : (k : CallerKnowledge) (caller : DomId) (r : Asked) → begun k caller r ≡ None → MakesStep (path k caller r [])
 makes-step k caller r none = let b = begins k (path k caller r) caller r none in
@@ -98,19 +90,5 @@ abbrev pub HasNoBytes : Request → Type 0
 HasNoBytes request = (gref : GrantRef) (bytes : _) → request ≡ requests.GrantBytes gref bytes → ⊥
 
 pub no-bytes : (request : Request) → HasNoBytes request → bytes_of request ≡ None
-no-bytes (requests.Grant gref entry) n = refl
 no-bytes (requests.GrantBytes gref bytes) n = absurd (n gref bytes refl)
-no-bytes (requests.Revoke gref) n = refl
-no-bytes (requests.Demote gref) n = refl
-no-bytes (requests.Promote gref) n = refl
-no-bytes (requests.Map dom gref flags) n = refl
-no-bytes (requests.Unmap handle) n = refl
-no-bytes (requests.Load handle off len) n = refl
-no-bytes (requests.Store handle off bytes) n = refl
-no-bytes (requests.Peek frame off len) n = refl
-no-bytes (requests.Poke frame off bytes) n = refl
-no-bytes (requests.Copy c) n = refl
-no-bytes (requests.SetVersion version) n = refl
-no-bytes (requests.SetupTable frames) n = refl
-no-bytes (requests.QuerySize dom) n = refl
-no-bytes (requests.GetVersion dom) n = refl
+no-bytes request n = refl

@@ -1,14 +1,10 @@
-use Rattle.gt_calls.proofs.Words.{◌≡◌, refl, [], ◌∷◌, Option, Some, None, ap, ◌∙◌, DomId, resolved, Verdict, first, knows, copy_denied}
+use Rattle.gt_calls.proofs.Words.{◌≡◌, refl, [], ◌∷◌, Option, None, ap, ◌∙◌, DomId, resolved, Verdict, first, knows, copy_denied}
 use Rattle.std.specs.Option.{option_or}
 use Rattle.gt_calls.proofs.judging.begin_copy.Goals as goal
 
 first-of-five : (a b c d e : Option Verdict) → option_or (option_or (option_or (option_or a b) c) d) e ≡ first (a ∷ b ∷ c ∷ d ∷ e ∷ [])
-first-of-five (Some v) b c d e = refl
-first-of-five None (Some v) c d e = refl
-first-of-five None None (Some v) d e = refl
-first-of-five None None None (Some v) e = refl
-first-of-five None None None None (Some v) = refl
 first-of-five None None None None None = refl
+first-of-five a b c d e = refl
 
 same-five : {a A b B c C d D e E : Option Verdict} → a ≡ A → b ≡ B → c ≡ C → d ≡ D → e ≡ E → first (a ∷ b ∷ c ∷ d ∷ e ∷ []) ≡ first (A ∷ B ∷ C ∷ D ∷ E ∷ [])
 same-five p q r s t = λ i. first (p i ∷ q i ∷ r i ∷ s i ∷ t i ∷ [])
