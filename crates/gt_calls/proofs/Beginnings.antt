@@ -1,36 +1,9 @@
 -- A call before its first step: what is so of each, by what it asks.
-use Rattle.std.proofs.Common.{◌≡◌, ◌≤◌, ◌*◌, ℕ, refl, Bool, true, false, [], Option, Some, None, cond, sym, ap, ◌∙◌, subst, inl, inr, arith}
-use Rattle.gt_types.specs.declared.DomId.{DomId}
-use Rattle.gt_types.specs.declared.Dir.TheVariants.{Read, Write}
-use Rattle.gt_types.specs.declared.limits.TheConstants.{MAX_TRIES}
-use Rattle.gt_entry.specs.Entries.{frame_of}
-use Rattle.gt_types.specs.declared.GrantRef.{GrantRef}
-use Rattle.gt_calls.specs.declared.request.Request.{Request}
+use Rattle.gt_calls.proofs.Words.{◌≡◌, ◌≤◌, ◌*◌, ℕ, refl, [], Option, Some, None, cond, sym, ap, ◌∙◌, subst, inl, inr, arith, DomId, Read, Write, MAX_TRIES, frame_of, GrantRef, Request, bytes_of, Asked, Grant, Revoke, Demote, Promote, Map, Unmap, Load, SetVersion, SetupTable, QuerySize, GetVersion, Store, Peek, Poke, Copy, CopyArgs, ByHandle, Held, Own, Source, Dest, Verdict, Step, Unpin, StoreHeader, ReadBytes, WriteBytes, Phase, Walking, Accessing, Last, Ending, Header, CallerKnowledge, begun, is_source_granted, is_dest_granted, opens, Continuation, path, after_beginning, steps_of, makes, ended, by_mapping, end_leg, RestsOnRequest, remains, first_phase, mapped_phase, at_source, at_dest, action_at, IsQuiet, HasShown, held_in, steps_left, MakesStep, cond_both}
 use Rattle.gt_calls.specs.declared.request.Request.TheVariants as requests
-use Rattle.gt_calls.specs.Asking.{bytes_of}
-use Rattle.gt_calls.specs.declared.request.Asked.{Asked}
-use Rattle.gt_calls.specs.declared.request.Asked.TheVariants.{Grant, Revoke, Demote, Promote, Map, Unmap, Load, SetVersion, SetupTable, QuerySize, GetVersion, Store, Peek, Poke, Copy}
-use Rattle.gt_calls.specs.declared.request.CopyArgs.{CopyArgs}
-use Rattle.gt_calls.specs.declared.request.Holder.TheVariants.{Mapping as ByHandle}
-use Rattle.gt_calls.specs.declared.held.Held.{Held}
-use Rattle.gt_calls.specs.declared.held.Route.TheVariants.{Own}
-use Rattle.gt_calls.specs.declared.copying.Aim.TheVariants.{Source, Dest}
-use Rattle.gt_calls.specs.declared.action.Verdict.{Verdict}
 use Rattle.gt_calls.specs.declared.action.Verdict.TheVariants.{Granted, Given}
 use Rattle.gt_calls.specs.declared.action.Value.TheVariants.{Frames}
-use Rattle.gt_calls.specs.declared.action.Step.{Step}
-use Rattle.gt_calls.specs.declared.action.Step.TheVariants.{Unpin, StoreHeader, Read as ReadBytes, Write as WriteBytes}
-use Rattle.gt_calls.specs.declared.call.Phase.{Phase}
-use Rattle.gt_calls.specs.declared.call.Phase.TheVariants.{Storing, StoringSecond, Exchanging, Looking, Changing, Walking, Accessing, Asking, Last, Ending}
-use Rattle.gt_calls.specs.declared.leg.LegPhase.TheVariants.{Header}
-use Rattle.gt_calls.specs.Rules.{CallerKnowledge, begun, is_source_granted, is_dest_granted}
-use Rattle.gt_calls.specs.Opening.{opens}
-use Rattle.gt_calls.specs.Path.{Continuation, path, after_beginning, steps_of, makes, ended, by_mapping, end_leg, leg_steps, most_steps}
-use Rattle.gt_calls.specs.Resting.{RestsOnRequest}
-use Rattle.gt_calls.specs.Machine.{remains, first_phase, mapped_phase, at_source, at_dest, action_at}
-use Rattle.gt_calls.specs.Standing.{IsQuiet, HasShown, held_in}
-use Rattle.gt_calls.specs.Counting.{steps_left}
-use Rattle.gt_calls.specs.Following.{MakesStep}
+use Rattle.gt_calls.specs.Path.{leg_steps, most_steps}
 use Rattle.gt_calls.proofs.Walks.{at-source}
 use Rattle.gt_calls.proofs.Calls.{wants-action}
 use Rattle.gt_calls.proofs.Shown.{shown-source}
@@ -64,14 +37,10 @@ mapped : (k : CallerKnowledge) (grammar : Continuation) (caller : DomId) (reques
 mapped k grammar caller request step o m found quiet rests =
     subst (λ (x : Option Held). Begins k grammar caller request (by_mapping x step) (mapped_phase x step) 1) (sym found) (once k grammar caller request (step m) Granted quiet rests)
 
-moves-either : (b : Bool) (x y : Phase) → IsMoving x → IsMoving y → IsMoving (cond b x y)
-moves-either true x y hx hy = hx
-moves-either false x y hx hy = hy
-
 copy-moves : (k : CallerKnowledge) (caller : DomId) (c : CopyArgs) → IsMoving (at_source k caller c)
 copy-moves k caller c =
-    moves-either (is_source_granted c) (Walking (Source c None) (end_leg k caller c.source Read c.len) Header) (at_dest k caller c Own) tt
-    (moves-either (is_dest_granted c) (Walking (Dest c Own None) (end_leg k caller c.dest Write c.len) Header) (Accessing c Own Own) tt tt)
+    cond_both (is_source_granted c) (Walking (Source c None) (end_leg k caller c.source Read c.len) Header) (at_dest k caller c Own) IsMoving (λ e. tt)
+    (λ e. cond_both (is_dest_granted c) (Walking (Dest c Own None) (end_leg k caller c.dest Write c.len) Header) (Accessing c Own Own) IsMoving (λ f. tt) (λ f. tt))
 
 -- each call that no rule answers at its beginning
 pub begins : (k : CallerKnowledge) (grammar : Continuation) (caller : DomId) (r : Asked) → begun k caller r ≡ None → Begins k grammar caller r (steps_of k caller r) (first_phase k caller r) (most_steps r)
@@ -81,27 +50,23 @@ begins k grammar caller (Demote gref) none = record { same = refl; shown = refl;
 begins k grammar caller (Promote gref) none = record { same = refl; shown = refl; none_held = refl; bounded = exactly (2 * MAX_TRIES); moves = tt }
 begins k grammar caller (Map dom gref flags) none =
     record { same = refl; shown = (tt, record { dom = dom; gref = gref; flags = flags; of_map = refl; leg_is = refl }); none_held = refl; bounded = exactly leg_steps; moves = tt }
-begins k grammar caller (Unmap handle) none =
-    let o = opens k caller (Unmap handle) none in
+begins k grammar caller (Unmap handle) none = let o = opens k caller (Unmap handle) none in
     mapped k grammar caller (Unmap handle) (λ m. Unpin m (ByHandle handle)) (k.mapping handle) o.mapping o.found tt (refl, o.found)
-begins k grammar caller (Load handle off len) none =
-    let o = opens k caller (Load handle off len) none in
+begins k grammar caller (Load handle off len) none = let o = opens k caller (Load handle off len) none in
     mapped k grammar caller (Load handle off len) (λ m. ReadBytes m.dom (frame_of m.entry) off len) (k.mapping handle) o.mapping o.found tt
     (inl (handle, refl, record { mapping = o.mapping; found = o.found; of_dom = refl; of_frame = refl }))
-begins k grammar caller (Store handle off len) none =
-    let o = opens k caller (Store handle off len) none in
+begins k grammar caller (Store handle off len) none = let o = opens k caller (Store handle off len) none in
     mapped k grammar caller (Store handle off len) (λ m. WriteBytes m.dom (frame_of m.entry) off len) (k.mapping handle) o.mapping o.found tt
     (inl (handle, refl, record { mapping = o.mapping; found = o.found; of_dom = refl; of_frame = refl }))
 begins k grammar caller (Peek frame off len) none = once k grammar caller (Peek frame off len) (ReadBytes caller frame off len) Granted tt (inr (refl, refl))
 begins k grammar caller (Poke frame off len) none = once k grammar caller (Poke frame off len) (WriteBytes caller frame off len) Granted tt (inr (refl, refl))
-begins k grammar caller (Copy c) none =
-    record {
-      same = at-source k caller c;
-      shown = shown-source k grammar caller (Copy c) [] none c refl;
-      none_held = held-source k caller c;
-      bounded = let h = at-source-left k caller c in let g : steps_left (at_source k caller c) ≤ most_steps (Copy c) = omega arith in g;
-      moves = copy-moves k caller c;
-    }
+begins k grammar caller (Copy c) none = record {
+  same = at-source k caller c;
+  shown = shown-source k grammar caller (Copy c) [] none c refl;
+  none_held = held-source k caller c;
+  bounded = let h = at-source-left k caller c in let g : steps_left (at_source k caller c) ≤ most_steps (Copy c) = omega arith in g;
+  moves = copy-moves k caller c;
+}
 begins k grammar caller (SetVersion version) none =
     once k grammar caller (SetVersion version) (StoreHeader version k.header.frames) Granted tt (inl (refl, refl))
 begins k grammar caller (SetupTable frames) none =
@@ -111,20 +76,11 @@ begins k grammar caller (GetVersion dom) none = record { same = refl; shown = (o
 
 -- a call makes a step where it doesn't give its pins back
 moving-step : (caller : DomId) (phase : Phase) → IsMoving phase → MakesStep (Some (action_at caller phase))
-moving-step caller (Storing gref entry) m = tt
-moving-step caller (StoringSecond gref entry) m = tt
-moving-step caller (Exchanging gref looked change) m = tt
-moving-step caller (Looking gref change more) m = tt
-moving-step caller (Changing gref change more looked) m = tt
-moving-step caller (Walking aim l at) m = tt
-moving-step caller (Accessing c source dest) m = tt
-moving-step caller (Asking dom question) m = tt
-moving-step caller (Last step verdict) m = tt
 moving-step caller (Ending pins verdict) m = absurd m
+moving-step caller phase m = tt
 
 pub makes-step : (k : CallerKnowledge) (caller : DomId) (r : Asked) → begun k caller r ≡ None → MakesStep (path k caller r [])
-makes-step k caller r none =
-    let b = begins k (path k caller r) caller r none in
+makes-step k caller r none = let b = begins k (path k caller r) caller r none in
     let steps : steps_of k caller r [] ≡ Some (action_at caller (first_phase k caller r)) =
     sym (ap (λ (t : Continuation). t []) b.same) ∙ wants-action k caller (first_phase k caller r) in
     subst MakesStep (sym (ap (λ (o : Option Verdict). after_beginning o (steps_of k caller r) []) none ∙ steps)) (moving-step caller (first_phase k caller r) b.moves)
@@ -134,19 +90,5 @@ abbrev pub HasNoBytes : Request → Type 0
 HasNoBytes request = (gref : GrantRef) (bytes : _) → request ≡ requests.GrantBytes gref bytes → ⊥
 
 pub no-bytes : (request : Request) → HasNoBytes request → bytes_of request ≡ None
-no-bytes (requests.Grant gref entry) n = refl
 no-bytes (requests.GrantBytes gref bytes) n = absurd (n gref bytes refl)
-no-bytes (requests.Revoke gref) n = refl
-no-bytes (requests.Demote gref) n = refl
-no-bytes (requests.Promote gref) n = refl
-no-bytes (requests.Map dom gref flags) n = refl
-no-bytes (requests.Unmap handle) n = refl
-no-bytes (requests.Load handle off len) n = refl
-no-bytes (requests.Store handle off bytes) n = refl
-no-bytes (requests.Peek frame off len) n = refl
-no-bytes (requests.Poke frame off bytes) n = refl
-no-bytes (requests.Copy c) n = refl
-no-bytes (requests.SetVersion version) n = refl
-no-bytes (requests.SetupTable frames) n = refl
-no-bytes (requests.QuerySize dom) n = refl
-no-bytes (requests.GetVersion dom) n = refl
+no-bytes request n = refl

@@ -1,22 +1,7 @@
 -- A map goes on as its call does.
-use Rattle.std.proofs.Common.{◌≡◌, ℕ, refl, ap, Some, None}
-use Rattle.gt_types.specs.declared.DomId.{DomId}
-use Rattle.gt_types.specs.declared.GrantRef.{GrantRef}
-use Rattle.gt_calls.specs.declared.action.Seen.{Seen}
-use Rattle.gt_calls.specs.declared.action.Seen.TheVariants.{Nothing}
-use Rattle.gt_calls.specs.declared.call.Phase.{Phase}
-use Rattle.gt_calls.specs.declared.call.Phase.TheVariants.{Walking}
-use Rattle.gt_calls.specs.declared.copying.Aim.TheVariants.{Mapping}
-use Rattle.gt_calls.specs.declared.leg.Leg.{Leg}
-use Rattle.gt_calls.specs.declared.leg.LegNext.{LegNext}
-use Rattle.gt_calls.specs.declared.leg.LegNext.TheVariants.{Going, Refused, Pinned}
-use Rattle.gt_calls.specs.declared.leg.LegPhase.TheVariants.{Header}
+use Rattle.gt_calls.proofs.Words.{◌≡◌, ℕ, refl, ap, Some, None, DomId, GrantRef, Seen, Nothing, Walking, Mapping, Leg, LegNext, Going, Refused, Pinned, Header, Map, after_leg, leg_after, map_leg, CallerKnowledge}
 use Rattle.gt_calls.specs.declared.mapping.MapCall.{MapCall}
-use Rattle.gt_calls.specs.declared.request.Asked.TheVariants.{Map}
-use Rattle.gt_calls.specs.Machine.{after_leg, leg_after, leg_step}
 use Rattle.gt_calls.specs.MapCalls.{BeginsAs, GoesOnAs}
-use Rattle.gt_calls.specs.Path.{map_leg}
-use Rattle.gt_calls.specs.Rules.{CallerKnowledge}
 use Rattle.gt_calls.proofs.Advancing.{goes}
 
 pub map-begins : (k : CallerKnowledge) (caller dom : DomId) (gref : GrantRef) (flags : ℕ) (leg : Leg)
@@ -28,12 +13,10 @@ map-begins k caller dom gref flags leg e =
 
 pub map-goes : (k : CallerKnowledge) (m : MapCall) (seen : Seen) (next : LegNext)
     → next ≡ leg_after m.leg m.at seen → GoesOnAs k m seen next
-map-goes k m seen (Going at) e =
-    goes k m.caller (Map m.dom m.gref m.flags) (Some (Walking Mapping m.leg m.at)) seen _ _
+map-goes k m seen (Going at) e = goes k m.caller (Map m.dom m.gref m.flags) (Some (Walking Mapping m.leg m.at)) seen _ _
     (ap (λ (n : LegNext). after_leg k m.caller Mapping m.leg n) e) refl
 map-goes k m seen (Refused denial) e =
     goes k m.caller (Map m.dom m.gref m.flags) (Some (Walking Mapping m.leg m.at)) seen _ _
     (ap (λ (n : LegNext). after_leg k m.caller Mapping m.leg n) e) refl
-map-goes k m seen (Pinned p) e =
-    goes k m.caller (Map m.dom m.gref m.flags) (Some (Walking Mapping m.leg m.at)) seen _ _
+map-goes k m seen (Pinned p) e = goes k m.caller (Map m.dom m.gref m.flags) (Some (Walking Mapping m.leg m.at)) seen _ _
     (ap (λ (n : LegNext). after_leg k m.caller Mapping m.leg n) e) refl

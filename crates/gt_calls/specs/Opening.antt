@@ -98,7 +98,8 @@ pub record IsOwnEnd (k : CallerKnowledge) (caller : DomId) (end : End) : Type 0 
   pub owned : (resolved caller end.domid).0 ≡ caller.0
   pub framed : end.ptr < frames_of k.domains caller
 
--- a copy: its domains are of the run, its flags are known, its ranges are inside frames, its frame numbers are the caller's, and the policy allows it for the domains named (own)
+-- a copy: its domains are of the run, its flags are known, its ranges are inside frames, its frame numbers are the
+-- caller's, and the policy allows it for the domains named (own)
 pub record OpensCopy (k : CallerKnowledge) (caller : DomId) (c : CopyArgs) : Type 0 where
   pub source_of_run : IsOfRun k (resolved caller c.source.domid)
   pub dest_of_run : IsOfRun k (resolved caller c.dest.domid)
@@ -167,11 +168,13 @@ not-given true value h = cc
 not-given false value h = refl
 
 -- the first rule of a list does not stand
-pub holds-first : (b : Bool) (rule : Rule) (rest : List (Option Verdict)) → first (refused_when b rule ∷ rest) ≡ None → b ≡ false
+pub holds-first : (b : Bool) (rule : Rule) (rest : List (Option Verdict)) → first (refused_when b rule ∷ rest) ≡ None
+    → b ≡ false
 holds-first b rule rest h = not-refused b rule (head-none (refused_when b rule) rest h)
 
 -- nor do those after it
-after-first : (b : Bool) (rule : Rule) (rest : List (Option Verdict)) → first (refused_when b rule ∷ rest) ≡ None → first rest ≡ None
+after-first : (b : Bool) (rule : Rule) (rest : List (Option Verdict)) → first (refused_when b rule ∷ rest) ≡ None
+    → first rest ≡ None
 after-first b rule rest h = rest-none (refused_when b rule) rest h
 
 is-so : (b : Bool) → not b ≡ false → b ≡ true
@@ -198,16 +201,19 @@ allowed : (may : TypeId → TypeId → Perms → Bool) (ts : List Triple) → de
 allowed may [] h = tt
 allowed may (t ∷ ts) h = by (may t.source t.target t.perm) refl h (allowed may ts)
   where
-    by : (b : Bool) → may t.source t.target t.perm ≡ b → cond b (denied may ts) (Some (Refused (denial_of N5 (Policy t.source t.target t.perm)))) ≡ None
+    by : (b : Bool) → may t.source t.target t.perm ≡ b
+        → cond b (denied may ts) (Some (Refused (denial_of N5 (Policy t.source t.target t.perm)))) ≡ None
         → (denied may ts ≡ None → IsAllowed may ts) → IsAllowed may (t ∷ ts)
     by true e g more = (e, more g)
     by false e g more = cc
 
 -- the reference of an owner's call is in its table
-within : (k : CallerKnowledge) (gref : GrantRef) (rest : List (Option Verdict)) → first (refused_when (nat_le (size_of k.header) gref.0) N9 ∷ rest) ≡ None → gref.0 < size_of k.header
+within : (k : CallerKnowledge) (gref : GrantRef) (rest : List (Option Verdict))
+    → first (refused_when (nat_le (size_of k.header) gref.0) N9 ∷ rest) ≡ None → gref.0 < size_of k.header
 within k gref rest h = leb-false (size_of k.header) gref.0 (holds-first (nat_le (size_of k.header) gref.0) N9 rest h)
 
-past-table : (k : CallerKnowledge) (gref : GrantRef) (rest : List (Option Verdict)) → first (refused_when (nat_le (size_of k.header) gref.0) N9 ∷ rest) ≡ None → first rest ≡ None
+past-table : (k : CallerKnowledge) (gref : GrantRef) (rest : List (Option Verdict))
+    → first (refused_when (nat_le (size_of k.header) gref.0) N9 ∷ rest) ≡ None → first rest ≡ None
 past-table k gref rest h = after-first (nat_le (size_of k.header) gref.0) N9 rest h
 
 stands-valid : (entry : Entry) (version : ℕ) → cannot_stand entry version ≡ false → is_invalid entry ≡ false
@@ -216,7 +222,8 @@ stands-valid (Page dom ro frame) version e = refl
 stands-valid (Sub dom ro frame off len) version e = refl
 stands-valid (Via dom ro dom2 gref) version e = refl
 
-opens-grant : (k : CallerKnowledge) (caller : DomId) (gref : GrantRef) (entry : Entry) → begun k caller (Grant gref entry) ≡ None → OpensGrant k gref entry
+opens-grant : (k : CallerKnowledge) (caller : DomId) (gref : GrantRef) (entry : Entry)
+    → begun k caller (Grant gref entry) ≡ None → OpensGrant k gref entry
 opens-grant k caller gref entry h =
     let held = not (is_invalid (k.entry gref.0)) in
     let old = past-table k gref _ h in
@@ -227,13 +234,21 @@ opens-grant k caller gref entry h =
       free = is-so (is_invalid (k.entry gref.0)) (holds-first held N20 _ old);
       valid = stands-valid entry k.header.version stands;
       may_stand = stands;
-      not_worn = eqb-false (k.generation gref.0) LAST_GENERATION (holds-first (k.generation gref.0 == LAST_GENERATION) N22 _ (after-first (cannot_stand entry k.header.version) N21 _ given));
+      not_worn = eqb-false (k.generation gref.0) LAST_GENERATION
+          (holds-first (k.generation gref.0 == LAST_GENERATION) N22 _
+          (after-first (cannot_stand entry k.header.version) N21 _ given));
     }
 
-opens-revoke : (k : CallerKnowledge) (caller : DomId) (gref : GrantRef) → begun k caller (Revoke gref) ≡ None → OpensRevoke k gref
-opens-revoke k caller gref h = record { in_table = within k gref _ h; valid = holds-first (is_invalid (k.entry gref.0)) N10 _ (past-table k gref _ h) }
+opens-revoke : (k : CallerKnowledge) (caller : DomId) (gref : GrantRef) → begun k caller (Revoke gref) ≡ None
+    → OpensRevoke k gref
+opens-revoke k caller gref h =
+    record {
+      in_table = within k gref _ h;
+      valid = holds-first (is_invalid (k.entry gref.0)) N10 _ (past-table k gref _ h);
+    }
 
-opens-turn : (k : CallerKnowledge) (change : Change) (gref : GrantRef) → change_begun change k.header (k.entry gref.0) (k.generation gref.0) gref.0 ≡ None → OpensTurn k change gref
+opens-turn : (k : CallerKnowledge) (change : Change) (gref : GrantRef)
+    → change_begun change k.header (k.entry gref.0) (k.generation gref.0) gref.0 ≡ None → OpensTurn k change gref
 opens-turn k change gref h =
     let old = past-table k gref _ h in
     let turned = after-first (is_invalid (k.entry gref.0)) N10 _ old in
@@ -241,41 +256,56 @@ opens-turn k change gref h =
     record {
       in_table = within k gref _ h;
       valid = holds-first (is_invalid (k.entry gref.0)) N10 _ old;
-      not_already = not-granted (is_already change (k.entry gref.0)) (head-none (granted_when (is_already change (k.entry gref.0))) _ turned);
-      not_worn = eqb-false (k.generation gref.0) LAST_GENERATION (holds-first (k.generation gref.0 == LAST_GENERATION) N22 _ worn);
+      not_already = not-granted (is_already change (k.entry gref.0))
+          (head-none (granted_when (is_already change (k.entry gref.0))) _ turned);
+      not_worn = eqb-false (k.generation gref.0) LAST_GENERATION
+          (holds-first (k.generation gref.0 == LAST_GENERATION) N22 _ worn);
     }
 
-opens-map : (k : CallerKnowledge) (caller dom : DomId) (gref : GrantRef) (flags : ℕ) → begun k caller (Map dom gref flags) ≡ None → OpensMap k caller dom flags
+opens-map : (k : CallerKnowledge) (caller dom : DomId) (gref : GrantRef) (flags : ℕ)
+    → begun k caller (Map dom gref flags) ≡ None → OpensMap k caller dom flags
 opens-map k caller dom gref flags h =
     let absent = is_none (domain_of k.domains (resolved caller dom)) in
     let asked = denied k.may (rights_to_map k caller (resolved caller dom) (map_dir flags)) in
     let named = after-first absent N1 _ h in
     let known = after-first (not ((flags == 2) || (flags == 6))) N2 _ named in
     let full = neither-so (nat_le MAX_MAPPINGS k.in_use) (nat_le END_OF_SERIALS k.maps_answered)
-    (holds-first (nat_le MAX_MAPPINGS k.in_use || nat_le END_OF_SERIALS k.maps_answered) N8 _ (rest-none asked _ known)) in
+    (holds-first (nat_le MAX_MAPPINGS k.in_use || nat_le END_OF_SERIALS k.maps_answered) N8 _
+    (rest-none asked _ known)) in
     record {
       of_run = holds-first absent N1 _ h;
-      flags_known = one-of flags 2 6 (is-so ((flags == 2) || (flags == 6)) (holds-first (not ((flags == 2) || (flags == 6))) N2 _ named));
+      flags_known = one-of flags 2 6
+          (is-so ((flags == 2) || (flags == 6)) (holds-first (not ((flags == 2) || (flags == 6))) N2 _ named));
       allowed = allowed k.may (rights_to_map k caller (resolved caller dom) (map_dir flags)) (head-none asked _ known);
       room = leb-false MAX_MAPPINGS k.in_use full.0;
       serials_left = leb-false END_OF_SERIALS k.maps_answered full.1;
     }
 
-opens-unmap : (k : CallerKnowledge) (caller : DomId) (handle : Handle) → begun k caller (Unmap handle) ≡ None → OpensUnmap k caller handle
+opens-unmap : (k : CallerKnowledge) (caller : DomId) (handle : Handle) → begun k caller (Unmap handle) ≡ None
+    → OpensUnmap k caller handle
 opens-unmap k caller handle h = by (k.mapping handle) refl h
   where
-    by : (m : Option Held) → k.mapping handle ≡ m → first (refused_when (is_none m) N6 ∷ unmap_denied k caller m ∷ []) ≡ None → OpensUnmap k caller handle
+    by : (m : Option Held) → k.mapping handle ≡ m
+        → first (refused_when (is_none m) N6 ∷ unmap_denied k caller m ∷ []) ≡ None → OpensUnmap k caller handle
     by None e g = cc
     by (Some m) e g =
-        record { mapping = m; found = e; allowed = allowed k.may (rights_to_unmap k caller m.dom) (head-none (denied k.may (rights_to_unmap k caller m.dom)) [] g) }
+        record {
+          mapping = m;
+          found = e;
+          allowed = allowed k.may (rights_to_unmap k caller m.dom)
+              (head-none (denied k.may (rights_to_unmap k caller m.dom)) [] g);
+        }
 
-range : (off len : ℕ) (rest : List (Option Verdict)) → first (refused_when (nat_lt FRAME_SIZE (off + len)) N3 ∷ rest) ≡ None → off + len ≤ FRAME_SIZE
+range : (off len : ℕ) (rest : List (Option Verdict))
+    → first (refused_when (nat_lt FRAME_SIZE (off + len)) N3 ∷ rest) ≡ None → off + len ≤ FRAME_SIZE
 range off len rest h = ltb-false FRAME_SIZE (off + len) (holds-first (nat_lt FRAME_SIZE (off + len)) N3 rest h)
 
-opens-load : (k : CallerKnowledge) (caller : DomId) (handle : Handle) (off len : ℕ) → begun k caller (Load handle off len) ≡ None → OpensLoad k handle off len
+opens-load : (k : CallerKnowledge) (caller : DomId) (handle : Handle) (off len : ℕ)
+    → begun k caller (Load handle off len) ≡ None → OpensLoad k handle off len
 opens-load k caller handle off len h = by (k.mapping handle) refl (after-first (nat_lt FRAME_SIZE (off + len)) N3 _ h)
   where
-    by : (m : Option Held) → k.mapping handle ≡ m → first (refused_when (is_none m) N6 ∷ []) ≡ None → OpensLoad k handle off len
+    by : (m : Option Held) → k.mapping handle ≡ m → first (refused_when (is_none m) N6 ∷ []) ≡ None
+        → OpensLoad k handle off len
     by None e g = cc
     by (Some m) e g = record { mapping = m; found = e; range = range off len _ h }
 
@@ -283,18 +313,30 @@ writes : (m : Held) (dir : Dir) → m.dir ≡ dir → is_for_reading (Some m) �
 writes m Write e f = e
 writes m Read e f = let g : is_for_reading (Some m) ≡ true = ap (λ (d : Dir). not (writes_by d)) e in cc
 
-opens-store : (k : CallerKnowledge) (caller : DomId) (handle : Handle) (off len : ℕ) → begun k caller (Store handle off len) ≡ None → OpensStore k handle off len
+opens-store : (k : CallerKnowledge) (caller : DomId) (handle : Handle) (off len : ℕ)
+    → begun k caller (Store handle off len) ≡ None → OpensStore k handle off len
 opens-store k caller handle off len h = by (k.mapping handle) refl (after-first (nat_lt FRAME_SIZE (off + len)) N3 _ h)
   where
-    by : (m : Option Held) → k.mapping handle ≡ m → first (refused_when (is_none m) N6 ∷ refused_when (is_for_reading m) N7 ∷ []) ≡ None → OpensStore k handle off len
+    by : (m : Option Held) → k.mapping handle ≡ m
+        → first (refused_when (is_none m) N6 ∷ refused_when (is_for_reading m) N7 ∷ []) ≡ None
+        → OpensStore k handle off len
     by None e g = cc
-    by (Some m) e g = record { mapping = m; found = e; writable = writes m m.dir refl (holds-first (is_for_reading (Some m)) N7 [] g); range = range off len _ h }
+    by (Some m) e g =
+        record {
+          mapping = m;
+          found = e;
+          writable = writes m m.dir refl (holds-first (is_for_reading (Some m)) N7 [] g);
+          range = range off len _ h;
+        }
 
-opens-own : (k : CallerKnowledge) (caller : DomId) (frame off len : ℕ) → own_access_begun k.domains caller frame off len ≡ None → OpensOwn k caller frame off len
+opens-own : (k : CallerKnowledge) (caller : DomId) (frame off len : ℕ)
+    → own_access_begun k.domains caller frame off len ≡ None → OpensOwn k caller frame off len
 opens-own k caller frame off len h =
     record {
       range = range off len _ h;
-      framed = leb-false (frames_of k.domains caller) frame (holds-first (nat_le (frames_of k.domains caller) frame) N16 _ (after-first (nat_lt FRAME_SIZE (off + len)) N3 _ h));
+      framed = leb-false (frames_of k.domains caller) frame
+          (holds-first (nat_le (frames_of k.domains caller) frame) N16 _
+          (after-first (nat_lt FRAME_SIZE (off + len)) N3 _ h));
     }
 
 -- a frame number that is given is the caller's, and of a frame that it has
@@ -302,14 +344,19 @@ not-and : (granted b : Bool) → (not granted && b) ≡ false → granted ≡ fa
 not-and true b h g = cc
 not-and false b h g = h
 
-own-end : (k : CallerKnowledge) (caller : DomId) (granted : Bool) (end : End) → is_foreign caller granted end ≡ false → is_past_frames k caller granted end ≡ false → granted ≡ false → IsOwnEnd k caller end
+own-end : (k : CallerKnowledge) (caller : DomId) (granted : Bool) (end : End) → is_foreign caller granted end ≡ false
+    → is_past_frames k caller granted end ≡ false → granted ≡ false → IsOwnEnd k caller end
 own-end k caller granted end foreign past g =
     record {
-      owned = eqb-true (resolved caller end.domid).0 caller.0 (is-so ((resolved caller end.domid).0 == caller.0) (not-and granted (not ((resolved caller end.domid).0 == caller.0)) foreign g));
-      framed = leb-false (frames_of k.domains caller) end.ptr (not-and granted (nat_le (frames_of k.domains caller) end.ptr) past g);
+      owned = eqb-true (resolved caller end.domid).0 caller.0
+          (is-so ((resolved caller end.domid).0 == caller.0)
+          (not-and granted (not ((resolved caller end.domid).0 == caller.0)) foreign g));
+      framed = leb-false (frames_of k.domains caller) end.ptr
+          (not-and granted (nat_le (frames_of k.domains caller) end.ptr) past g);
     }
 
-opens-copy : (k : CallerKnowledge) (caller : DomId) (c : CopyArgs) → begun k caller (Copy c) ≡ None → OpensCopy k caller c
+opens-copy : (k : CallerKnowledge) (caller : DomId) (c : CopyArgs) → begun k caller (Copy c) ≡ None
+    → OpensCopy k caller c
 opens-copy k caller c h =
     let no_source = is_none (domain_of k.domains (resolved caller c.source.domid)) in
     let no_dest = is_none (domain_of k.domains (resolved caller c.dest.domid)) in
@@ -333,50 +380,68 @@ opens-copy k caller c h =
       flags_known = ltb-false 3 c.flags (holds-first (nat_lt 3 c.flags) N2 _ (after-first no_dest N1 _ beyond_source));
       source_range = range c.source.offset c.len _ ranged;
       dest_range = range c.dest.offset c.len _ (after-first long_source N3 _ ranged);
-      own_source = own-end k caller (is_source_granted c) c.source (holds-first foreign_source N4 _ owned) (holds-first past_source N16 _ framed);
-      own_dest = own-end k caller (is_dest_granted c) c.dest (holds-first foreign_dest N4 _ (after-first foreign_source N4 _ owned)) (holds-first past_dest N16 _ (after-first past_source N16 _ framed));
-      allowed = allowed k.may (rights_to_copy k (resolved caller c.source.domid) (resolved caller c.dest.domid)) (head-none asked _ asking);
+      own_source = own-end k caller (is_source_granted c) c.source (holds-first foreign_source N4 _ owned)
+          (holds-first past_source N16 _ framed);
+      own_dest = own-end k caller (is_dest_granted c) c.dest
+          (holds-first foreign_dest N4 _ (after-first foreign_source N4 _ owned))
+          (holds-first past_dest N16 _ (after-first past_source N16 _ framed));
+      allowed = allowed k.may (rights_to_copy k (resolved caller c.source.domid) (resolved caller c.dest.domid))
+          (head-none asked _ asking);
     }
 
 -- a table without a valid entry
 none-valid : (entry : ℕ → Entry) (n r : ℕ) → has_valid entry n ≡ false → r < n → is_invalid (entry r) ≡ true
 unfolding has_valid
 none-valid entry zero r h lt = absurd (omega arith)
-none-valid entry (suc n) r h lt = by (r == n) refl (neither-so (not (is_invalid (entry n))) (has_valid entry n) h) (none-valid entry n r)
+none-valid entry (suc n) r h lt =
+    by (r == n) refl (neither-so (not (is_invalid (entry n))) (has_valid entry n) h) (none-valid entry n r)
   where
-    by : (b : Bool) → (r == n) ≡ b → (not (is_invalid (entry n)) ≡ false) × (has_valid entry n ≡ false) → (has_valid entry n ≡ false → r < n → is_invalid (entry r) ≡ true) → is_invalid (entry r) ≡ true
-    by true e neither before = ap (λ (m : ℕ). is_invalid (entry m)) (eqb-true r n e) ∙ is-so (is_invalid (entry n)) neither.0
+    by : (b : Bool) → (r == n) ≡ b → (not (is_invalid (entry n)) ≡ false) × (has_valid entry n ≡ false)
+        → (has_valid entry n ≡ false → r < n → is_invalid (entry r) ≡ true) → is_invalid (entry r) ≡ true
+    by true e neither before =
+        ap (λ (m : ℕ). is_invalid (entry m)) (eqb-true r n e) ∙ is-so (is_invalid (entry n)) neither.0
     by false e neither before = let ne = eqb-false r n e in before neither.1 (omega arith)
 
-opens-version : (k : CallerKnowledge) (caller : DomId) (version : ℕ) → begun k caller (SetVersion version) ≡ None → OpensVersion k version
+opens-version : (k : CallerKnowledge) (caller : DomId) (version : ℕ) → begun k caller (SetVersion version) ≡ None
+    → OpensVersion k version
 opens-version k caller version h =
     let present = granted_when (version == k.header.version) in
     let known = after-first (not (is_version version)) N2 _ h in
     record {
       version_known = one-of version 1 2 (is-so (is_version version) (holds-first (not (is_version version)) N2 _ h));
-      another = eqb-false version k.header.version (not-granted (version == k.header.version) (head-none present _ known));
-      empty = λ r lt. none-valid k.entry (size_of k.header) r (holds-first (has_valid k.entry (size_of k.header)) N24 _ (rest-none present _ known)) lt;
+      another = eqb-false version k.header.version
+          (not-granted (version == k.header.version) (head-none present _ known));
+      empty = λ r lt. none-valid k.entry (size_of k.header) r
+          (holds-first (has_valid k.entry (size_of k.header)) N24 _ (rest-none present _ known)) lt;
     }
 
-opens-setup : (k : CallerKnowledge) (caller : DomId) (frames : ℕ) → begun k caller (SetupTable frames) ≡ None → OpensSetup k caller frames
+opens-setup : (k : CallerKnowledge) (caller : DomId) (frames : ℕ) → begun k caller (SetupTable frames) ≡ None
+    → OpensSetup k caller frames
 opens-setup k caller frames h =
     let asked = denied k.may (rights_to_setup k caller) in
     let present = given_when (nat_le frames k.header.frames) (Frames k.header.frames) in
     let growing = rest-none asked _ h in
     record {
       allowed = allowed k.may (rights_to_setup k caller) (head-none asked _ h);
-      larger = leb-false frames k.header.frames (not-given (nat_le frames k.header.frames) (Frames k.header.frames) (head-none present _ growing));
-      within = ltb-false MAX_TABLE_FRAMES frames (holds-first (nat_lt MAX_TABLE_FRAMES frames) N23 _ (rest-none present _ growing));
+      larger = leb-false frames k.header.frames
+          (not-given (nat_le frames k.header.frames) (Frames k.header.frames) (head-none present _ growing));
+      within = ltb-false MAX_TABLE_FRAMES frames
+          (holds-first (nat_lt MAX_TABLE_FRAMES frames) N23 _ (rest-none present _ growing));
     }
 
 opens-query : (k : CallerKnowledge) (caller dom : DomId) → query_begun k caller dom ≡ None → OpensQuery k caller dom
 opens-query k caller dom h =
     let absent = is_none (domain_of k.domains (resolved caller dom)) in
     let asked = denied k.may (rights_to_query k caller (resolved caller dom)) in
-    record { of_run = holds-first absent N1 _ h; allowed = allowed k.may (rights_to_query k caller (resolved caller dom)) (head-none asked _ (after-first absent N1 _ h)) }
+    record {
+      of_run = holds-first absent N1 _ h;
+      allowed = allowed k.may (rights_to_query k caller (resolved caller dom))
+          (head-none asked _ (after-first absent N1 _ h));
+    }
 
 -- what is so of a call that no rule answers at its beginning
-pub opens : (k : CallerKnowledge) (caller : DomId) (request : Asked) → begun k caller request ≡ None → Opens k caller request
+pub opens : (k : CallerKnowledge) (caller : DomId) (request : Asked) → begun k caller request ≡ None
+    → Opens k caller request
 opens k caller (Grant gref entry) h = opens-grant k caller gref entry h
 opens k caller (Revoke gref) h = opens-revoke k caller gref h
 opens k caller (Demote gref) h = opens-turn k ToReadOnly gref h

@@ -1,4 +1,4 @@
-use Rattle.gt_calls.specs.Opening.{opens}
+use Rattle.gt_calls.proofs.Words.{opens}
 use Rattle.gt_calls.proofs.judging.every_open_call_is_in_order.Goals as goal
 
 pub returns : goal.returns

@@ -1,4 +1,4 @@
-use Rattle.gt_calls.specs.Rules.{CallerKnowledge}
+use Rattle.gt_calls.proofs.Words.{CallerKnowledge}
 use Rattle.gt_calls.proofs.MapCalls.{map-goes}
 use Rattle.gt_calls.proofs.mapping.MapCall.next.Goals as goal
 
