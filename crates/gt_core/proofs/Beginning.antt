@@ -34,41 +34,26 @@ call-some s h id (Some o) (Some c) e a n = cc
 
 -- an opened call
 
-held-by : (k : CallerKnowledge) (d : DomId) (r : Asked) → held_in (first_phase k d r) ≡ []
-held-by k d (Unmap handle) = by (k.mapping handle) where
-  by : (o : Option Held) → held_in (unmap_phase handle o) ≡ []
-  by None = refl
-  by (Some m) = refl
-held-by k d (Load handle off len) = by (k.mapping handle) where
-  by : (o : Option Held) → held_in (load_phase o off len) ≡ []
-  by None = refl
-  by (Some m) = refl
-held-by k d (Store handle off len) = by (k.mapping handle) where
-  by : (o : Option Held) → held_in (store_phase o off len) ≡ []
-  by None = refl
-  by (Some m) = refl
-held-by k d (Copy c) =
+held-by : (k : CallerKnowledge) (d : DomId) (r : Asked) → begun k d r ≡ None → held_in (first_phase k d r) ≡ []
+held-by k d (Unmap handle) e = ap (λ (o : Option Held). held_in (unmap_phase handle o)) (opens k d (Unmap handle) e).found
+held-by k d (Load handle off len) e = ap (λ (o : Option Held). held_in (load_phase o off len)) (opens k d (Load handle off len) e).found
+held-by k d (Store handle off len) e = ap (λ (o : Option Held). held_in (store_phase o off len)) (opens k d (Store handle off len) e).found
+held-by k d (Copy c) e =
     cond_both (is_source_granted c) (Walking (Source c None) (end_leg k d c.source Read c.len) AtHeader) (at_dest k d c Own) (λ p. held_in p ≡ [])
     (λ a. refl) (λ a. cond_both (is_dest_granted c) (Walking (Dest c Own None) (end_leg k d c.dest Write c.len) AtHeader) (Accessing c Own Own) (λ p. held_in p ≡ []) (λ b. refl) (λ b. refl))
-held-by k d r = refl
+held-by k d r e = refl
 
 first-place : (s : Setting) (h : History) (d : DomId) (r : Asked) → begun (known_at s h d) d r ≡ None → PhaseStands s h d r [] (first_phase (known_at s h d) d r)
 unfolding misses
 first-place s h d (Demote gref) e = (refl, refl)
 first-place s h d (Promote gref) e = (refl, refl)
 first-place s h d (Map dom gref flags) e = (of-run (domain_of s.domains (resolved d dom)) (opens (known_at s h d) d (Map dom gref flags) e).of_run, tt)
-first-place s h d (Unmap handle) e = by ((known_at s h d).mapping handle) where
-  by : (o : Option Held) → PhaseStands s h d (Unmap handle) [] (unmap_phase handle o)
-  by None = inl refl
-  by (Some m) = refl
-first-place s h d (Load handle off len) e = by ((known_at s h d).mapping handle) where
-  by : (o : Option Held) → PhaseStands s h d (Load handle off len) [] (load_phase o off len)
-  by None = inl refl
-  by (Some m) = refl
-first-place s h d (Store handle off len) e = by ((known_at s h d).mapping handle) where
-  by : (o : Option Held) → PhaseStands s h d (Store handle off len) [] (store_phase o off len)
-  by None = inl refl
-  by (Some m) = refl
+first-place s h d (Unmap handle) e =
+    subst (λ (o : Option Held). PhaseStands s h d (Unmap handle) [] (unmap_phase handle o)) (sym (opens (known_at s h d) d (Unmap handle) e).found) refl
+first-place s h d (Load handle off len) e =
+    subst (λ (o : Option Held). PhaseStands s h d (Load handle off len) [] (load_phase o off len)) (sym (opens (known_at s h d) d (Load handle off len) e).found) refl
+first-place s h d (Store handle off len) e =
+    subst (λ (o : Option Held). PhaseStands s h d (Store handle off len) [] (store_phase o off len)) (sym (opens (known_at s h d) d (Store handle off len) e).found) refl
 first-place s h d (Peek frame off len) e = refl
 first-place s h d (Poke frame off len) e = refl
 first-place s h d (Copy c) e =
@@ -151,7 +136,7 @@ begin-opens s h d request o fits a closed op = let i = began d.id request None i
       fair = fair ∙ sym (first-plain k d.id r none);
       fits = subst FitsAsked op.asks fits;
       clean = clean-nothing (first_phase k d.id r);
-      held = kept-legs i h d.id.0 keeps ∙ empty.1 ∙ sym (ap (λ (l : List Held). numbered 0 (reverse l)) (held-by k d.id r));
+      held = kept-legs i h d.id.0 keeps ∙ empty.1 ∙ sym (ap (λ (l : List Held). numbered 0 (reverse l)) (held-by k d.id r none));
       few = (omega arith);
     } in (
       (empty.0, subst (λ (v : Option Verdict). AnsweredBy s h d.id r None false v None (stood s (i ∷ h) d.id.0)) (sym unanswered) (inl fair), λ e. said),

@@ -120,10 +120,7 @@ control_after s h t r c = control_with (entry_after c (entry_at h t r)) (s.first
 exchanged-control : (s : Setting) (h : History) (d : DomId) (gref : GrantRef) (looked : ℕ) (change : Change) (answer : Option Answer) (t r : ℕ)
     → control_at s (exchanged d gref looked change answer ∷ h) t r ≡ control_after s h t r (change_of (exchanged d gref looked change answer) t r)
 exchanged-control s h d gref looked change answer t r = let i = exchanged d gref looked change answer in
-    let c = change_of i t r in
-    ap (λ (e : Entry). control_with e (generation_at s (i ∷ h) t r) (reads_at (i ∷ h) t r) (writes_at (i ∷ h) t r)) (exchanged-entry h i t r)
-    ∙ ap (λ (n : ℕ). control_with (entry_after c (entry_at h t r)) (s.first_generation + n) (reads_at (i ∷ h) t r) (writes_at (i ∷ h) t r)) (exchanged-raises h i t r)
-    ∙ ap (λ (ps : List Pin). control_with (entry_after c (entry_at h t r)) (s.first_generation + (raises_at h t r + raise_after c)) (count_by (is_pin_on t r Read) ps) (count_by (is_pin_on t r Write) ps)) (exchanged-live h d gref looked change answer)
+    let e = exchanged-entry h i t r in let n = exchanged-raises h i t r in let l = exchanged-live h d gref looked change answer in cc
 
 kept-fits : (e : Entry) (first raises r w : ℕ) → FitsWord (control_with e (first + raises) r w) → FitsWord (control_with e (first + (raises + 0)) r w)
 kept-fits e first raises r w a = let z : raises ≡ raises + 0 = omega arith in subst (λ (n : ℕ). FitsWord (control_with e (first + n) r w)) z a

@@ -99,10 +99,6 @@ abbrev IsPinned : LegNext → Type 0
 IsPinned (Pinned p) = Unit {0}
 IsPinned next = ⊥
 
-neither : (b : Bool) (x y : LegNext) → (IsPinned x → ⊥) → (IsPinned y → ⊥) → IsPinned (cond b x y) → ⊥
-neither true x y f g a = f a
-neither false x y f g a = g a
-
 look-pins-none : (l : Leg) (more word : ℕ) (o : Option Rule) → IsPinned (after_look l more word o) → ⊥
 look-pins-none l more word None a = a
 look-pins-none l more word (Some rule) a = a
@@ -112,20 +108,20 @@ words-pin-none more word body second None a = a
 words-pin-none more word body second (Some rule) a = a
 
 miss-pins-none : (l : Leg) (more found : ℕ) → IsPinned (after_miss l more found) → ⊥
-miss-pins-none l more found a = neither (nat_lt 0 more) (Going (Look (more - 1))) (LegRefused (entry_refusal l.dom l.gref N18 found)) (λ n. n) (λ n. n) a
+miss-pins-none l more found a = cond_both (nat_lt 0 more) (Going (Look (more - 1))) (LegRefused (entry_refusal l.dom l.gref N18 found)) (λ z. IsPinned z → ⊥) (λ e n. n) (λ e n. n) a
 
 pins-none : (s : Setting) (h : History) (d : DomId) (l : Leg) (at : LegPhase) → TakesNone s h d l at → IsPinned (leg_after l at (seen_by s h d (leg_step l at))) → ⊥
 pins-none s h d l AtHeader none a =
-    neither (nat_lt l.gref.0 (size_of (header_of (header_word (table_at s h l.dom))))) (Going (Look MORE_TRIES)) (LegRefused (denial_of N9 (Rattle.gt_types.specs.declared.denial.Facts.TheVariants.Header l.dom (header_word (table_at s h l.dom))))) (λ n. n) (λ n. n) a
+    cond_both (nat_lt l.gref.0 (size_of (header_of (header_word (table_at s h l.dom))))) (Going (Look MORE_TRIES)) (LegRefused (denial_of N9 (Rattle.gt_types.specs.declared.denial.Facts.TheVariants.Header l.dom (header_word (table_at s h l.dom))))) (λ z. IsPinned z → ⊥) (λ e n. n) (λ e n. n) a
 pins-none s h d l (Look more) none a = look-pins-none l more (word_at s h l.dom.0 l.gref.0) (first_look l (control_of (word_at s h l.dom.0 l.gref.0))) a
 pins-none s h d l (Body more word) none a = let body = body_at h l.dom.0 l.gref.0 FirstHalf in
-    neither (is_kind (control_of word).kind KindSub) (Going (Second more word body)) (after_words more word body 0 (rule_of_try l word body 0)) (λ n. n) (words-pin-none more word body 0 (rule_of_try l word body 0)) a
+    cond_both (is_kind (control_of word).kind KindSub) (Going (Second more word body)) (after_words more word body 0 (rule_of_try l word body 0)) (λ z. IsPinned z → ⊥) (λ e n. n) (λ e. words-pin-none more word body 0 (rule_of_try l word body 0)) a
 pins-none s h d l (Second more word body) none a =
     let second = body_at h l.dom.0 l.gref.0 SecondHalf in words-pin-none more word body second (rule_of_try l word body second) a
 pins-none s h d l (Pinning more word body second) none a =
     miss-pins-none l more (word_at s h l.dom.0 l.gref.0) (subst (λ (b : Bool). IsPinned (leg_after l (Pinning more word body second) (cond b Taken (Missed (word_at s h l.dom.0 l.gref.0))))) none a)
 pins-none s h d l (Relook more word rule) none a = let found = word_at s h l.dom.0 l.gref.0 in
-    neither (found == word) (LegRefused (entry_refusal l.dom l.gref rule word)) (after_miss l more found) (λ n. n) (miss-pins-none l more found) a
+    cond_both (found == word) (LegRefused (entry_refusal l.dom l.gref rule word)) (after_miss l more found) (λ z. IsPinned z → ⊥) (λ e n. n) (λ e. miss-pins-none l more found) a
 
 pub not-pinned : (s : Setting) (h : History) (d : DomId) (l : Leg) (at : LegPhase) → TakesNone s h d l at → (p : Held) → leg_after l at (seen_by s h d (leg_step l at)) ≡ Pinned p → ⊥
 not-pinned s h d l at none p e = pins-none s h d l at none (subst IsPinned (sym e) tt)

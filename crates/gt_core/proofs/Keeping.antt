@@ -258,9 +258,7 @@ kept-stands s i h xs zs k st each tables bodies = record {
   count t r dir = ap (count_by (is_pin_on t r dir)) (kept-live i h k)
 
   control : (t r : ℕ) → control_at s (i ∷ h) t r ≡ control_at s h t r
-  control t r = ap (λ (e : Entry). control_with e (generation_at s (i ∷ h) t r) (reads_at (i ∷ h) t r) (writes_at (i ∷ h) t r)) (entry t r)
-      ∙ ap (λ (n : ℕ). control_with (entry_at h t r) (s.first_generation + n) (reads_at (i ∷ h) t r) (writes_at (i ∷ h) t r)) (kept-raises i h t r k.changes)
-      ∙ ap (λ (ps : List Pin). control_with (entry_at h t r) (generation_at s h t r) (count_by (is_pin_on t r Read) ps) (count_by (is_pin_on t r Write) ps)) (kept-live i h k)
+  control t r = let e = entry t r in let n = kept-raises i h t r k.changes in let l = kept-live i h k in cc
 
 -- the same, where no header and no body word is stored either
 pub pins-stand : (s : Setting) (i : Item) (h : History) (xs zs : List State) → KeepsEntries i → KeepsKnown i → DomainsStand s h xs → ((dom : DomId) → StateAgrees s (i ∷ h) dom (state_of zs dom.0))

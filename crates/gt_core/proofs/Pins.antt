@@ -1,6 +1,5 @@
 -- The live pins and the mappings are the same without keys, where each handle that is named is told by its serial.
-use Rattle.gt_core.proofs.Words.{◌≡◌, ◌+◌, ℕ, suc, refl, Bool, true, false, List, [], ◌∷◌, ◌++◌, length, Option, Some, None, cond, sym, ap, ◌∙◌, subst, ◌==◌, ◌&&◌, count_by, is_some, nat_lt, option_map, eqb-true, sum_by-cons, fun_ext, DomId, Dir, Read, Write, Entry, Header, control_word, Handle, CallerKnowledge, control_with, size_of, Holder, ByMapping, ByLeg, Held, Seen, Taken, PinStep, Unpin, Answer, Mapped, Happened, Stepped, History, Setting, Pin, live, without, is_holder, same_handle, holder_after, gather, by_leg, by_mapping, pinned_by, unpinned_by, is_pin_on, reads_at, writes_at, mappings_at, mapping_of, entry_at, generation_at, table_at, word_at, maps_answered_at, known_at, domain_of, shown_at, subject_at, place_of, bare_handle, bare_happened, told, IsGiven, IsKnown, IsRun, AreAlike}
-use Rattle.gt_core.specs.declared.core_state.Shown.{Shown}
+use Rattle.gt_core.proofs.Words.{◌≡◌, ◌+◌, ℕ, refl, Bool, true, false, List, [], ◌∷◌, ◌++◌, length, Option, Some, None, cond, sym, ap, ◌∙◌, subst, ◌==◌, ◌&&◌, count_by, is_some, option_map, eqb-true, sum_by-cons, fun_ext, DomId, Dir, Read, Write, Entry, Handle, Holder, ByMapping, ByLeg, Held, Seen, Taken, PinStep, Unpin, Answer, Mapped, Happened, Stepped, History, Setting, Pin, live, without, is_holder, same_handle, holder_after, gather, by_leg, by_mapping, pinned_by, unpinned_by, is_pin_on, reads_at, writes_at, mappings_at, mapping_of, entry_at, generation_at, word_at, known_at, domain_of, shown_at, subject_at, place_of, bare_handle, bare_happened, told, IsGiven, IsKnown, IsRun, AreAlike, map, map-append, length-map}
 pub use Rattle.gt_core.proofs.Bare.{bare-same, answer_from, bare, entry-bare, raises-bare, table-bare, maps-bare, bare_asked, bare_call, asked-bare, open-bare, values-bare, body-bare, contents-bare}
 pub use Rattle.gt_core.proofs.Given.{HeldGiven, PinsGiven, pins-given, known-tells, unpin-known, CallKnown, open-known, NamesAsked, only-path}
 
@@ -12,12 +11,7 @@ abbrev pub bare_pin : Pin → Pin
 bare_pin p = record { actor = p.actor; holder = bare_holder p.holder; held = p.held }
 
 abbrev pub bare_pins : List Pin → List Pin
-bare_pins [] = []
-bare_pins (p ∷ ps) = bare_pin p ∷ bare_pins ps
-
-pins-more : (ps qs : List Pin) → bare_pins ps ++ bare_pins qs ≡ bare_pins (ps ++ qs)
-pins-more [] qs = refl
-pins-more (p ∷ ps) qs = ap (λ (l : List Pin). bare_pin p ∷ l) (pins-more ps qs)
+bare_pins ps = map bare_pin ps
 
 -- pins that are given back
 
@@ -82,9 +76,7 @@ holder-bare a n = refl
 pinned-bare : (d : DomId) (x : Happened) (a : Option Answer) (h : History) (ps : List Pin)
     → pinned_by d (bare_happened x) (option_map answer_from (option_map told a)) (bare h) (bare_pins ps) ≡ bare_pins (pinned_by d x a h ps)
 pinned-bare d (Stepped (PinStep p) Taken) a h ps =
-    ap (λ (l : List (ℕ × Held)). record { actor = d.0; holder = holder_after (option_map answer_from (option_map told a)) (length l); held = record p { entry = entry_at (bare h) p.dom.0 p.gref.0 } } ∷ []) (legs-bare d.0 ps)
-    ∙ ap (λ (x : Holder). record { actor = d.0; holder = x; held = record p { entry = entry_at (bare h) p.dom.0 p.gref.0 } } ∷ []) (holder-bare a (length (gather by_leg d.0 ps)))
-    ∙ ap (λ (e : Entry). record { actor = d.0; holder = bare_holder (holder_after a (length (gather by_leg d.0 ps))); held = record p { entry = e } } ∷ []) (entry-bare h p.dom.0 p.gref.0)
+    let l = legs-bare d.0 ps in let b = holder-bare a (length (gather by_leg d.0 ps)) in let e = entry-bare h p.dom.0 p.gref.0 in cc
 pinned-bare d (Stepped (Unpin p (ByMapping b)) seen) a h ps = refl
 pinned-bare d x a h ps = refl
 
@@ -98,7 +90,7 @@ live-bare s (i ∷ h) run = let a = option_map answer_from (option_map told i.an
     ∙ ap (λ (ps : List Pin). ps ++ pinned_by i.actor (bare_happened i.happened) a (bare h) (bare_pins (live h)))
     (unpinned-bare s h i.actor i.happened (live h) run.2 (λ p b seen e. unpin-known s h i p b seen e run.0 run.2) (pins-given h))
     ∙ ap (λ (ps : List Pin). bare_pins (unpinned_by i.actor i.happened (live h)) ++ ps) (pinned-bare i.actor i.happened i.answer h (live h))
-    ∙ pins-more (unpinned_by i.actor i.happened (live h)) (pinned_by i.actor i.happened i.answer h (live h))
+    ∙ sym (map-append bare_pin (unpinned_by i.actor i.happened (live h)) (pinned_by i.actor i.happened i.answer h (live h)))
 
 -- how many pins
 
@@ -116,16 +108,12 @@ writes-bare s h t r run = ap (λ (ps : List Pin). count_by (is_pin_on t r Write)
 
 pub word-bare : (s : Setting) (h : History) (t r : ℕ) → IsRun s h → word_at s (bare h) t r ≡ word_at s h t r
 word-bare s h t r run =
-    ap (λ (e : Entry). control_word (control_with e (generation_at s (bare h) t r) (reads_at (bare h) t r) (writes_at (bare h) t r))) (entry-bare h t r)
-    ∙ ap (λ (n : ℕ). control_word (control_with (entry_at h t r) (s.first_generation + n) (reads_at (bare h) t r) (writes_at (bare h) t r))) (raises-bare h t r)
-    ∙ ap (λ (n : ℕ). control_word (control_with (entry_at h t r) (generation_at s h t r) n (writes_at (bare h) t r))) (reads-bare s h t r run)
-    ∙ ap (λ (n : ℕ). control_word (control_with (entry_at h t r) (generation_at s h t r) (reads_at h t r) n)) (writes-bare s h t r run)
+    let e = entry-bare h t r in let g = raises-bare h t r in let n = reads-bare s h t r run in let m = writes-bare s h t r run in cc
 
 -- mappings
 
 abbrev pub bare_mappings : List (Handle × Held) → List (Handle × Held)
-bare_mappings [] = []
-bare_mappings (m ∷ ms) = (bare_handle m.0, m.1) ∷ bare_mappings ms
+bare_mappings ms = map (λ (m : Handle × Held). (bare_handle m.0, m.1)) ms
 
 gather-bare : (d : ℕ) (ps : List Pin) → gather by_mapping d (bare_pins ps) ≡ bare_mappings (gather by_mapping d ps)
 unfolding gather
@@ -138,10 +126,6 @@ gather-bare d (p ∷ ps) = by (p.actor == d) p.holder (gather-bare d ps) where
 
 pub mappings-bare : (s : Setting) (h : History) (d : ℕ) → IsRun s h → mappings_at (bare h) d ≡ bare_mappings (mappings_at h d)
 mappings-bare s h d run = ap (λ (ps : List Pin). gather by_mapping d ps) (live-bare s h run) ∙ gather-bare d (live h)
-
-length-bare : (ms : List (Handle × Held)) → length (bare_mappings ms) ≡ length ms
-length-bare [] = refl
-length-bare (m ∷ ms) = ap (λ (n : ℕ). suc n) (length-bare ms)
 
 abbrev AreGiven : History → ℕ → List (Handle × Held) → Type 0
 AreGiven h d [] = Unit {0}
@@ -168,23 +152,15 @@ mapping-bare s h d a run k = ap (λ (ms : List (Handle × Held)). mapping_of ms 
 
 -- what a domain knows by itself is the same, but for the keys of its mappings
 pub known-bare : (s : Setting) (h : History) (d : DomId) → IsRun s h → known_at s (bare h) d ≡ record (known_at s h d) { mapping = mapping_of (mappings_at (bare h) d.0) }
-known-bare s h d run = let found = mapping_of (mappings_at (bare h) d.0) in
-    let kept : (ℕ → Entry) → (ℕ → ℕ) → Header → ℕ → ℕ → CallerKnowledge = λ e g x n m. record { domains = s.domains; may = s.may; entry = e; generation = g; header = x; mapping = found; in_use = n; maps_answered = m } in
-    ap (λ (e : ℕ → Entry). kept e (λ r. generation_at s (bare h) d.0 r) (table_at s (bare h) d) (length (mappings_at (bare h) d.0)) (maps_answered_at (bare h) d.0)) (fun_ext (λ r. entry-bare h d.0 r))
-    ∙ ap (λ (g : ℕ → ℕ). kept (λ r. entry_at h d.0 r) g (table_at s (bare h) d) (length (mappings_at (bare h) d.0)) (maps_answered_at (bare h) d.0)) (fun_ext (λ r. ap (λ (n : ℕ). s.first_generation + n) (raises-bare h d.0 r)))
-    ∙ ap (λ (x : Header). kept (λ r. entry_at h d.0 r) (λ r. generation_at s h d.0 r) x (length (mappings_at (bare h) d.0)) (maps_answered_at (bare h) d.0)) (table-bare s h d)
-    ∙ ap (λ (n : ℕ). kept (λ r. entry_at h d.0 r) (λ r. generation_at s h d.0 r) (table_at s h d) n (maps_answered_at (bare h) d.0)) (ap length (mappings-bare s h d.0 run) ∙ length-bare (mappings_at h d.0))
-    ∙ ap (λ (n : ℕ). kept (λ r. entry_at h d.0 r) (λ r. generation_at s h d.0 r) (table_at s h d) (length (mappings_at h d.0)) n) (maps-bare h d.0)
+known-bare s h d run = let e : ◌≡◌ {A = ℕ → Entry} (λ r. entry_at (bare h) d.0 r) (λ r. entry_at h d.0 r) = fun_ext (λ r. entry-bare h d.0 r) in
+    let g : ◌≡◌ {A = ℕ → ℕ} (λ r. generation_at s (bare h) d.0 r) (λ r. generation_at s h d.0 r) = fun_ext (λ r. ap (λ (n : ℕ). s.first_generation + n) (raises-bare h d.0 r)) in
+    let t = table-bare s h d in let m = maps-bare h d.0 in
+    let n : length (mappings_at (bare h) d.0) ≡ length (mappings_at h d.0) = ap length (mappings-bare s h d.0 run) ∙ length-map (mappings_at h d.0) (λ (m : Handle × Held). (bare_handle m.0, m.1)) in cc
 
 -- what an entry shows is the same
 shown-bare : (s : Setting) (h : History) (dom : DomId) (r : ℕ) → IsRun s h → shown_at s (bare h) dom r ≡ shown_at s h dom r
-shown-bare s h dom r run = let shows : Header → Entry → ℕ → ℕ → ℕ → Option Shown = λ x e g n m.
-    cond (is_some (domain_of s.domains dom) && nat_lt r (size_of x)) (Some (record { entry = e; generation = g; reads = n; writes = m })) None in
-    ap (λ (x : Header). shows x (entry_at (bare h) dom.0 r) (generation_at s (bare h) dom.0 r) (reads_at (bare h) dom.0 r) (writes_at (bare h) dom.0 r)) (table-bare s h dom)
-    ∙ ap (λ (e : Entry). shows (table_at s h dom) e (generation_at s (bare h) dom.0 r) (reads_at (bare h) dom.0 r) (writes_at (bare h) dom.0 r)) (entry-bare h dom.0 r)
-    ∙ ap (λ (n : ℕ). shows (table_at s h dom) (entry_at h dom.0 r) (s.first_generation + n) (reads_at (bare h) dom.0 r) (writes_at (bare h) dom.0 r)) (raises-bare h dom.0 r)
-    ∙ ap (λ (n : ℕ). shows (table_at s h dom) (entry_at h dom.0 r) (generation_at s h dom.0 r) n (writes_at (bare h) dom.0 r)) (reads-bare s h dom.0 r run)
-    ∙ ap (λ (n : ℕ). shows (table_at s h dom) (entry_at h dom.0 r) (generation_at s h dom.0 r) (reads_at h dom.0 r) n) (writes-bare s h dom.0 r run)
+shown-bare s h dom r run = let x = table-bare s h dom in let e = entry-bare h dom.0 r in let g = raises-bare h dom.0 r in
+    let n = reads-bare s h dom.0 r run in let m = writes-bare s h dom.0 r run in cc
 
 pub shown-alike : (s : Setting) (g h : History) (dom : DomId) (r : ℕ) → AreAlike s g h → shown_at s g dom r ≡ shown_at s h dom r
 shown-alike s g h dom r alike =

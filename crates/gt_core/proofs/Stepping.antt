@@ -1,5 +1,5 @@
 -- What the core does for a step of an open call: it is right, and the core stands for it.
-use Rattle.gt_core.proofs.Words.{◌≡◌, ◌≢◌, inl, inr, ℕ, refl, Bool, true, false, List, [], ◌∷◌, ◌++◌, length, Option, Some, None, cond, sym, ap, ◌∙◌, subst, reverse, eqb-true, eq-eqb, length-reverse, reverse_onto, same_Some, ◌==◌, DomId, GrantRef, Denial, Entry, Invalid, Half, Handle, Held, Asked, ByMapping, ByLeg, Seen, Nothing, Taken, Missed, Verdict, Granted, Given, KeptPin, Refused, Step, PinStep, Unpin, StoreBody, StoreHeader, Exchange, ReadBytes, WriteBytes, CopyBytes, Action, Makes, Done, Call, Phase, Storing, Walking, Last, Ending, last_first, knowledge_of, path, phase_after, action_at, after_store, HasShown, pins_at, held_in, Goes, Open, Item, Answer, Denied, AnswerDone, Mapped, State, state_of, sees, History, Setting, live, word_at, known_at, legs_at, mappings_at, mapping_of, seen_by, Underway, values, open_call, underway_after, holder_after, one_if_mapped, StepsRight, GivesValue, refusal_in, refusal_of, DomainsStand, Agrees, CallAgrees, OpenAgrees, numbered, position, get_or, set, position-Some, domain_of, Value, FramesTold, BytesAnswer, Kept, applied, with_underway, with_mapping, Adds, IsReadable, IsAdmitted, AccessedBy, bytes_at, FrameSet, frame_at, contents_at, IsRight, StepsRightIn, CoreStands, FramesStand, core_of, Settled, IsLawful, IsLawfullyHeld, answer_with, Closed, IsRoomFor, IsMapping, ticked_with, ticked_element, Element, Tick, MayDo, Does, Did, grown, without, RestsOnRequest, WantsMemoryNow, IsWritingNext, TickTold, IsWriting}
+use Rattle.gt_core.proofs.Words.{◌≡◌, ◌≢◌, inl, inr, ℕ, refl, Bool, true, List, [], ◌∷◌, ◌++◌, length, Option, Some, None, cond, sym, ap, ◌∙◌, subst, reverse, eqb-true, eq-eqb, length-reverse, reverse_onto, same_Some, ◌==◌, DomId, GrantRef, Denial, Entry, Invalid, Half, Handle, Held, Asked, ByMapping, ByLeg, Seen, Nothing, Taken, Missed, Verdict, Granted, Given, KeptPin, Refused, Step, PinStep, Unpin, StoreBody, StoreHeader, Exchange, ReadBytes, WriteBytes, CopyBytes, Action, Makes, Done, Call, Phase, Storing, Walking, Last, Ending, last_first, knowledge_of, path, phase_after, action_at, after_store, HasShown, pins_at, held_in, Goes, Open, Item, Answer, Denied, AnswerDone, Mapped, State, state_of, sees, History, Setting, live, word_at, known_at, legs_at, mappings_at, mapping_of, seen_by, Underway, values, open_call, underway_after, holder_after, one_if_mapped, StepsRight, GivesValue, refusal_in, refusal_of, DomainsStand, Agrees, CallAgrees, OpenAgrees, numbered, position, get_or, set, position-Some, domain_of, Value, FramesTold, BytesAnswer, Kept, applied, with_underway, with_mapping, Adds, IsReadable, IsAdmitted, AccessedBy, bytes_at, FrameSet, frame_at, contents_at, IsRight, StepsRightIn, CoreStands, FramesStand, core_of, Settled, IsLawful, IsLawfullyHeld, answer_with, Closed, IsRoomFor, IsMapping, ticked_with, ticked_element, Element, Tick, MayDo, Does, Did, grown, without, RestsOnRequest, WantsMemoryNow, IsWritingNext, TickTold, IsWriting, cond_both}
 use Rattle.std.specs.Prelude.{take, drop}
 use Rattle.gt_core.proofs.Pinning.{pins, map-legs, new_pin, pin-stands, map-agrees, leg-agrees as pin-agrees, stepped, KeepsEntries, open_call-own, quiet-stands, KeepsKnown, IsStore, IsHere, makes-same, by-giving}
 use Rattle.gt_core.proofs.Headers.{header-stands}
@@ -25,32 +25,19 @@ pub step-stands : (s : Setting) (h : History) (xs ys : List State) (x : State) (
     → state_of xs x.id.0 ≡ Some x → Agrees s h x → Replaced xs ys x (record x { underway = o' }) → one_if_mapped answer ≡ 0 → ((n : ℕ) → holder_after answer n ≡ ByLeg n) → (IsStore step → answer ≡ None)
     → CallAgrees s (stepped x.id step (seen_by s h x.id step) answer ∷ h) x.id o' (open_call (stepped x.id step (seen_by s h x.id step) answer ∷ h) x.id.0)
     → DomainsStand s (stepped x.id step (seen_by s h x.id step) answer ∷ h) (applied x.id step (seen_by s h x.id step) ys)
-step-stands s h xs ys x c phase (PinStep p) answer o' i last here a r m leg store call = by (word_at s h p.dom.0 p.gref.0 == p.word) refl call
-  where
-    seen : Bool → Seen
-    seen b = cond b Taken (Missed (word_at s h p.dom.0 p.gref.0))
-
-    by : (b : Bool) → (word_at s h p.dom.0 p.gref.0 == p.word) ≡ b → CallAgrees s (stepped x.id (PinStep p) (seen b) answer ∷ h) x.id o' (open_call (stepped x.id (PinStep p) (seen b) answer ∷ h) x.id.0)
-        → DomainsStand s (stepped x.id (PinStep p) (seen b) answer ∷ h) (applied x.id (PinStep p) (seen b) ys)
-    by true is call =
-        let can = can-pin s h xs x.id c.request (values c) (reverse c.steps) phase p i (eqb-true (word_at s h p.dom.0 p.gref.0) p.word is) in
-        pin-stands s h xs ys x p answer x.mappings o' i.st here a r can.valid can.few
-        (subst (IsLawfullyHeld s (new_pin h x.id p answer)) (sym (leg (length (legs_at h x.id.0)))) tt)
-        (pin-agrees h x.id p answer x.mappings (leg (length (legs_at h x.id.0))) m a.mappings) call (given-goes-on x.id (PinStep p) Taken answer h x.given a.given)
-    by false is call =
-        calm s h xs ys x o' (PinStep p) (seen false) answer (record { changes = λ r. refl; stores = λ r which. refl; header = refl }) (record { changes = λ r. refl; pins = λ before ps. refl; unpins = λ pins. refl; maps = m }) i.st here a r call
-step-stands s h xs ys x c phase (Exchange gref looked change) answer o' i last here a r m leg store call = by (word_at s h x.id.0 gref.0 == looked) refl call
-  where
-    seen : Bool → Seen
-    seen b = cond b Taken (Missed (word_at s h x.id.0 gref.0))
-
-    by : (b : Bool) → (word_at s h x.id.0 gref.0 == looked) ≡ b → CallAgrees s (stepped x.id (Exchange gref looked change) (seen b) answer ∷ h) x.id o' (open_call (stepped x.id (Exchange gref looked change) (seen b) answer ∷ h) x.id.0)
-        → DomainsStand s (stepped x.id (Exchange gref looked change) (seen b) answer ∷ h) (applied x.id (Exchange gref looked change) (seen b) ys)
-    by true is call =
-        let can = can-change s h xs x.id c.request (values c) (reverse c.steps) phase gref looked change i (eqb-true (word_at s h x.id.0 gref.0) looked is) in
-        exchange-stands s h xs ys x gref looked change answer o' i.st here a r can.within can.safe can.fits can.room m call (given-goes-on x.id (Exchange gref looked change) Taken answer h x.given a.given)
-    by false is call =
-        calm s h xs ys x o' (Exchange gref looked change) (seen false) answer (record { changes = λ r. refl; stores = λ r which. refl; header = refl }) (record { changes = λ r. refl; pins = λ before ps. refl; unpins = λ pins. refl; maps = m }) i.st here a r call
+step-stands s h xs ys x c phase (PinStep p) answer o' i last here a r m leg store call =
+    cond_both (word_at s h p.dom.0 p.gref.0 == p.word) Taken (Missed (word_at s h p.dom.0 p.gref.0))
+    (λ seen. CallAgrees s (stepped x.id (PinStep p) seen answer ∷ h) x.id o' (open_call (stepped x.id (PinStep p) seen answer ∷ h) x.id.0) → DomainsStand s (stepped x.id (PinStep p) seen answer ∷ h) (applied x.id (PinStep p) seen ys))
+    (λ is now. let can = can-pin s h xs x.id c.request (values c) (reverse c.steps) phase p i (eqb-true (word_at s h p.dom.0 p.gref.0) p.word is) in
+    pin-stands s h xs ys x p answer x.mappings o' i.st here a r can.valid can.few (subst (IsLawfullyHeld s (new_pin h x.id p answer)) (sym (leg (length (legs_at h x.id.0)))) tt)
+    (pin-agrees h x.id p answer x.mappings (leg (length (legs_at h x.id.0))) m a.mappings) now (given-goes-on x.id (PinStep p) Taken answer h x.given a.given))
+    (λ is now. calm s h xs ys x o' (PinStep p) (Missed (word_at s h p.dom.0 p.gref.0)) answer (record { changes = λ r. refl; stores = λ r which. refl; header = refl }) (record { changes = λ r. refl; pins = λ before ps. refl; unpins = λ pins. refl; maps = m }) i.st here a r now) call
+step-stands s h xs ys x c phase (Exchange gref looked change) answer o' i last here a r m leg store call =
+    cond_both (word_at s h x.id.0 gref.0 == looked) Taken (Missed (word_at s h x.id.0 gref.0))
+    (λ seen. CallAgrees s (stepped x.id (Exchange gref looked change) seen answer ∷ h) x.id o' (open_call (stepped x.id (Exchange gref looked change) seen answer ∷ h) x.id.0) → DomainsStand s (stepped x.id (Exchange gref looked change) seen answer ∷ h) (applied x.id (Exchange gref looked change) seen ys))
+    (λ is now. let can = can-change s h xs x.id c.request (values c) (reverse c.steps) phase gref looked change i (eqb-true (word_at s h x.id.0 gref.0) looked is) in
+    exchange-stands s h xs ys x gref looked change answer o' i.st here a r can.within can.safe can.fits can.room m now (given-goes-on x.id (Exchange gref looked change) Taken answer h x.given a.given))
+    (λ is now. calm s h xs ys x o' (Exchange gref looked change) (Missed (word_at s h x.id.0 gref.0)) answer (record { changes = λ r. refl; stores = λ r which. refl; header = refl }) (record { changes = λ r. refl; pins = λ before ps. refl; unpins = λ pins. refl; maps = m }) i.st here a r now) call
 step-stands s h xs ys x c phase (Unpin p (ByLeg place)) answer o' i last here a r m leg store call =
     let l = last p place refl in
     let legs : legs_at h x.id.0 ≡ numbered 0 (reverse l.0 ++ p ∷ []) = i.held ∙ ap (λ (z : List Held). numbered 0 (reverse z)) l.1 ∙ ap (numbered 0) (reverse_onto l.0 p []) in

@@ -1,5 +1,5 @@
 -- What an answer of a call is, by its last step.
-use Rattle.gt_core.proofs.Words.{◌≡◌, ◌⊎◌, inl, inr, ℕ, refl, Bool, true, false, List, [], ◌∷◌, length, Option, Some, cond, sym, ap, ◌∙◌, subst, eqb-true, ◌==◌, nat_lt, DomId, GrantRef, Denial, N18, N19, Entry, Invalid, Header, Change, Publish, ToReadOnly, ToWritable, control_of, header_of, header_word, Held, Asked, Map, SetupTable, QuerySize, GetVersion, ByMapping, ByLeg, Seen, Taken, Missed, Verdict, Granted, Given, Refused, Value, FramesTold, SizeTold, VersionTold, Step, LookHeader, PinStep, Unpin, StoreBody, StoreHeader, Exchange, ReadBytes, WriteBytes, Action, Makes, Done, Aim, Mapping, Question, AsksSize, AsksVersion, Phase, Storing, StoringSecond, Exchanging, Looking, Changing, Walking, Accessing, Asking, Last, Ending, Leg, LegPhase, Pinning, LegNext, Pinned, last_first, pins_so_far, CallerKnowledge, path, held_of, is_stopped, Continuation, IsFor, RestsOnWord, RestsOnRequest, phase_after, action_at, after_leg, leg_after, leg_step, after_store, refused_as, next_to_give, HasShown, IsQuiet, IsTurn, held_in, AnswerDone, State, History, Setting, word_at, table_at, known_at, seen_by, StepsSoFar, GivesValue, DomainsStand, PhaseStands, EndsAfter, EndsCopy, Asks, answer_with, MAX_TABLE_FRAMES, ◌-◌, without_last, Size, Version}
+use Rattle.gt_core.proofs.Words.{◌≡◌, ◌⊎◌, inl, inr, ℕ, refl, Bool, true, false, List, [], ◌∷◌, length, Option, Some, cond, sym, ap, ◌∙◌, subst, eqb-true, ◌==◌, nat_lt, DomId, GrantRef, Denial, N18, N19, Entry, Invalid, Header, Change, Publish, ToReadOnly, ToWritable, control_of, header_of, header_word, Held, Asked, Map, SetupTable, QuerySize, GetVersion, ByMapping, ByLeg, Seen, Taken, Missed, Verdict, Granted, Given, Refused, Value, FramesTold, SizeTold, VersionTold, Step, LookHeader, PinStep, Unpin, StoreBody, StoreHeader, Exchange, ReadBytes, WriteBytes, Action, Makes, Done, Aim, Mapping, Question, AsksSize, AsksVersion, Phase, Storing, StoringSecond, Exchanging, Looking, Changing, Walking, Accessing, Asking, Last, Ending, Leg, LegPhase, Pinning, LegNext, Pinned, last_first, pins_so_far, CallerKnowledge, path, held_of, is_stopped, Continuation, IsFor, RestsOnWord, RestsOnRequest, phase_after, action_at, after_leg, leg_after, leg_step, after_store, refused_as, next_to_give, HasShown, IsQuiet, IsTurn, held_in, AnswerDone, State, History, Setting, word_at, table_at, known_at, seen_by, StepsSoFar, GivesValue, DomainsStand, PhaseStands, EndsAfter, EndsCopy, Asks, answer_with, MAX_TABLE_FRAMES, ◌-◌, without_last, Size, Version, cond_both}
 use Rattle.gt_calls.specs.declared.action.Verdict.TheVariants.{Mapped}
 pub use Rattle.gt_core.proofs.Judging.{not-pinned, next_of, walk-done, ends-so, IsHere, makes-same, table-fits, by-quiet}
 use Rattle.gt_calls.specs.Path.{told}
@@ -105,21 +105,6 @@ give-end : (Q : Verdict → Type 0) (held : List Held) (v : Verdict) → Q v →
 give-end Q [] v a = a
 give-end Q (p ∷ ps) v a = tt
 
-exchange-end : (Q : Verdict → Type 0) (k : CallerKnowledge) (d : DomId) (gref : GrantRef) (looked w : ℕ) (change : Change) (b : Bool) → Plain Q → AtEnd Q (action_at d (phase_after k d (Exchanging gref looked change) (cond b Taken (Missed w))))
-exchange-end Q k d gref looked w change true plain = plain.0
-exchange-end Q k d gref looked w change false plain = plain.1 _
-
-look-end : (Q : Verdict → Type 0) (d : DomId) (gref : GrantRef) (change : Change) (more w : ℕ) (b : Bool) → Plain Q → AtEnd Q (action_at d (cond b (refused_as d gref N19 w) (Changing gref change more w)))
-look-end Q d gref change more w true plain = plain.1 _
-look-end Q d gref change more w false plain = tt
-
-change-end : (Q : Verdict → Type 0) (k : CallerKnowledge) (d : DomId) (gref : GrantRef) (change : Change) (more looked w : ℕ) (b : Bool) → Plain Q → AtEnd Q (action_at d (phase_after k d (Changing gref change more looked) (cond b Taken (Missed w))))
-change-end Q k d gref change more looked w true plain = plain.0
-change-end Q k d gref change more looked w false plain = by (nat_lt 0 more) where
-  by : (c : Bool) → AtEnd Q (action_at d (cond c (Looking gref change (◌-◌ more 1)) (refused_as d gref N18 w)))
-  by true = tt
-  by false = plain.1 _
-
 at-end : (Q : Verdict → Type 0) (a : Action) (v : Verdict) → AtEnd Q a → a ≡ Done v → Q v
 at-end Q a v q e = subst (AtEnd Q) e q
 
@@ -136,11 +121,12 @@ plain-end Q s h d r so_far (Storing gref entry) step v plain b e n asking last w
 plain-end Q s h d r so_far (StoringSecond gref entry) step v plain b e n asking last walking =
     at-end Q (Makes (Exchange gref _ (Publish entry))) v tt (subst (λ (z : Step). Next s h d (StoringSecond gref entry) z v) (sym (makes-same _ _ e)) n)
 plain-end Q s h d r so_far (Exchanging gref looked change) step v plain b e n asking last walking =
-    at-end Q _ v (exchange-end Q (known_at s h d) d gref looked (word_at s h d.0 gref.0) change (word_at s h d.0 gref.0 == looked) plain) (subst (λ (z : Step). Next s h d (Exchanging gref looked change) z v) (sym (makes-same _ _ e)) n)
+    at-end Q _ v (cond_both (word_at s h d.0 gref.0 == looked) Taken (Missed (word_at s h d.0 gref.0)) (λ w. AtEnd Q (action_at d (phase_after (known_at s h d) d (Exchanging gref looked change) w))) (λ z. plain.0) (λ z. plain.1 _)) (subst (λ (z : Step). Next s h d (Exchanging gref looked change) z v) (sym (makes-same _ _ e)) n)
 plain-end Q s h d r so_far (Looking gref change more) step v plain b e n asking last walking =
-    at-end Q _ v (look-end Q d gref change more (word_at s h d.0 gref.0) (is_stopped change (control_of (word_at s h d.0 gref.0))) plain) (subst (λ (z : Step). Next s h d (Looking gref change more) z v) (sym (makes-same _ _ e)) n)
+    at-end Q _ v (cond_both (is_stopped change (control_of (word_at s h d.0 gref.0))) (refused_as d gref N19 (word_at s h d.0 gref.0)) (Changing gref change more (word_at s h d.0 gref.0)) (λ p. AtEnd Q (action_at d p)) (λ z. plain.1 _) (λ z. tt)) (subst (λ (z : Step). Next s h d (Looking gref change more) z v) (sym (makes-same _ _ e)) n)
 plain-end Q s h d r so_far (Changing gref change more looked) step v plain b e n asking last walking =
-    at-end Q _ v (change-end Q (known_at s h d) d gref change more looked (word_at s h d.0 gref.0) (word_at s h d.0 gref.0 == looked) plain) (subst (λ (z : Step). Next s h d (Changing gref change more looked) z v) (sym (makes-same _ _ e)) n)
+    at-end Q _ v (cond_both (word_at s h d.0 gref.0 == looked) Taken (Missed (word_at s h d.0 gref.0)) (λ w. AtEnd Q (action_at d (phase_after (known_at s h d) d (Changing gref change more looked) w))) (λ z. plain.0)
+    (λ z. cond_both (nat_lt 0 more) (Looking gref change (◌-◌ more 1)) (refused_as d gref N18 (word_at s h d.0 gref.0)) (λ p. AtEnd Q (action_at d p)) (λ y. tt) (λ y. plain.1 _))) (subst (λ (z : Step). Next s h d (Changing gref change more looked) z v) (sym (makes-same _ _ e)) n)
 plain-end Q s h d r so_far (Walking aim l at) step v plain b e n asking last walking = walking aim l at refl
 plain-end Q s h d r so_far (Accessing c source dest) step v plain b e n asking last walking =
     at-end Q _ v (give-end Q (last_first (record { source = source; dest = dest })) Granted plain.0) (subst (λ (z : Step). Next s h d (Accessing c source dest) z v) (sym (makes-same _ _ e)) n)

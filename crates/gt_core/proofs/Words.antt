@@ -3,7 +3,7 @@ pub use Rattle.std.proofs.Common.{Bool, Bor, Err, List, None, Ok, Option, Some, 
 pub use Rattle.std.proofs.Math.Nat.{mod-eq_of_lt}
 pub use Rattle.std.proofs.lemmas.Bool.{and_from, and_left, and_parts, and_right, cond_both, eq-eqb, eqb-false, eqb-true, false≢true, le-leb, le-ltb, leb-false, leb-true, lt-leb, lt-ltb, ltb-false, ltb-true, ne_eqb, true≢false}
 pub use Rattle.std.proofs.lemmas.Grind.{reverse_onto}
-pub use Rattle.std.proofs.lemmas.List.{append-nil, append_assoc, drop_all, get_or-replicate, get_or_default, length-append, length-drop, length-replicate, length-reverse, length-take-le, map-append, reverse-append, take_all, take_more}
+pub use Rattle.std.proofs.lemmas.List.{append-nil, append_assoc, drop_all, get_or-replicate, get_or_default, length-append, length-drop, length-map, length-replicate, length-reverse, length-take-le, map-append, reverse-append, take_all, take_more}
 pub use Rattle.std.proofs.lemmas.List.Elements.{All-cons, All-head, All-nil, All-push, All-tail}
 pub use Rattle.std.proofs.lemmas.List.Quantifiers.{position-Some}
 pub use Rattle.std.proofs.lemmas.List.Sums.{sum_by-append, sum_by-cons, sum_by_push}
