@@ -259,10 +259,6 @@ value-fits s h k d (requests.SetupTable frames) same = setup-fits s h k d frames
 value-fits s h k d (requests.QuerySize dom) same = query-fits s h k d (QuerySize dom) dom
 value-fits s h k d (requests.GetVersion dom) same = query-fits s h k d (GetVersion dom) dom
 
-gives-value : (s : Setting) (h : History) (k : CallerKnowledge) (d : DomId) (request : Request) (v : Verdict) → k.header ≡ table_at s h d → begun_of k d request ≡ Some v
-    → GivesValue s h d (asked request) None (answer_of v)
-gives-value s h k d request v same e = subst (OnVerdict (Fits s h d (asked request))) e (value-fits s h k d request same)
-
 begin-done : (s : Setting) (h : History) (d : State) (request : Request) (v : Verdict) → Agrees s h d → d.underway ≡ None
     → begun_of (knowledge_of s.domains s.first_generation s.may d.own d.header d.mappings) d.id request ≡ Some v
     → IsRight s h (began d.id request (Some (answer_of v)))
@@ -277,7 +273,7 @@ begin-done s h d request v a closed op = let i = began d.id request (Some (answe
       (
         empty.0,
         subst (λ (x : Option Verdict). AnsweredBy s h d.id (asked request) None false x (Some (answer_of v)) (stood s (i ∷ h) d.id.0)) (sym at_once)
-            (plain-refusal v, plain-refusal v ∙ sym against, gives-value s h (known_at s h d.id) d.id request v refl at_once),
+            (plain-refusal v, plain-refusal v ∙ sym against, (subst (OnVerdict (Fits s h d.id (asked request))) at_once (value-fits s h (known_at s h d.id) d.id request refl))),
         λ e. let f : Some (answer_of v) ≡ None = e in cc,
       ),
       subst (λ (o : Option Open). CallAgrees s (i ∷ h) d.id o (open_call (i ∷ h) d.id.0)) (sym closed)
@@ -304,11 +300,6 @@ pub closed-from : (o : Option Open) → is_some o ≡ false → o ≡ None
 closed-from None e = refl
 closed-from (Some o) e = absurd (true≢false e)
 
--- the states with the actor's own one new
-same-state : (domains : List State) (x : State) (q : ℕ) → state_of domains x.id.0 ≡ Some x → state_of domains q ≡ cond (x.id.0 == q) (Some x) (state_of domains q)
-same-state domains x q e =
-    cond_both (x.id.0 == q) (Some x) (state_of domains q) (λ o. state_of domains q ≡ o) (λ w. ap (state_of domains) (sym (eqb-true x.id.0 q w)) ∙ e) (λ w. refl)
-
 begin-answered : (s : Setting) (h : History) (domains : List State) (dom : DomId) (at : ℕ) (x : State) (request : Request) (v : Verdict)
     → position (has_id dom.0) domains ≡ Some at → x ≡ get_or domains at x → is_some x.underway ≡ false
     → begun_of (knowledge_of s.domains s.first_generation s.may x.own x.header x.mappings) dom request ≡ Some v → DomainsStand s h domains
@@ -320,7 +311,7 @@ begin-answered s h domains dom at x request v p here idle op st = let a = agrees
     (λ op g. let b = begin-done s h x request v a.2 (closed-from x.underway idle) op in (
       b.0,
       quiet-stands s (began x.id request (Some (answer_of v))) h domains domains x x.underway x.given (began-entries x.id request (Some (answer_of v))) (began-keeps x.id request (Some (answer_of v)) (plain-unmapped v))
-          refl st g a.2 (λ q. same-state domains x q g) b.1 b.2,
+          refl st g a.2 (λ q. (cond_both (x.id.0 == q) (Some x) (state_of domains q) (λ o. state_of domains q ≡ o) (λ w. ap (state_of domains) (sym (eqb-true x.id.0 q w)) ∙ g) (λ w. refl))) b.1 b.2,
     )) op f in (a.0, both.0, both.1)
 
 pub begin-opened : (s : Setting) (h : History) (domains : List State) (dom : DomId) (at : ℕ) (x : State) (request : Request) (o : Open)

@@ -1,12 +1,9 @@
 -- A control that has room in its word is what the word says.
-use Rattle.gt_core.proofs.Words.{◌≡◌, ◌<◌, ◌≤◌, ◌+◌, ◌%◌, ℕ, Bool, true, false, cond, List, ap, ◌∙◌, arith, ◌==◌, TABLE_ENTRIES, control_word, control_of, header_word, header_of, Control, Header, State, History, Setting, word_at, control_at, DomainsStand, FitsTable, FitsWord, ◌*◌, ◌/◌, control-round, MAX_TABLE_FRAMES, ENTRIES_V1, ENTRIES_V2}
+use Rattle.gt_core.proofs.Words.{◌≡◌, ◌<◌, ◌≤◌, ◌+◌, ◌%◌, ℕ, Bool, true, false, cond, List, ap, ◌∙◌, arith, ◌==◌, TABLE_ENTRIES, control_of, header_word, header_of, Header, State, History, Setting, word_at, control_at, DomainsStand, FitsTable, ◌*◌, ◌/◌, control-round, MAX_TABLE_FRAMES, ENTRIES_V1, ENTRIES_V2}
 use Rattle.gt_entry.specs.Words.{size_of}
 
-pub fits-word : (c : Control) → FitsWord c → control_of (control_word c) ≡ c
-fits-word c f = control-round c f.in_range f.domain
-
 pub word-shows : (s : Setting) (h : History) (xs : List State) (t r : ℕ) → DomainsStand s h xs → r < TABLE_ENTRIES → control_of (word_at s h t r) ≡ control_at s h t r
-word-shows s h xs t r st within = fits-word (control_at s h t r) (st.words t r within)
+word-shows s h xs t r st within = control-round (control_at s h t r) (st.words t r within).in_range (st.words t r within).domain
 
 -- a header within the limits has room in its word, and its table has at most 2,048 entries
 pub table-fits : (x : Header) → FitsTable x → (size_of x ≤ TABLE_ENTRIES) × (header_of (header_word x) ≡ x)

@@ -51,9 +51,6 @@ none-begun None c vs step e = refl
 none-begun (Some v) c [] step e = absurd (done-makes v step e)
 none-begun (Some v) c (x ∷ vs) step e = absurd (none-some _ e)
 
-pub begun-none : (k : CallerKnowledge) (d : DomId) (r : Asked) (vs : List Seen) (step : Step) → path k d r vs ≡ Some (Makes step) → begun k d r ≡ None
-begun-none k d r vs step e = none-begun (begun k d r) (steps_of k d r) vs step e
-
 few-answered : (k : CallerKnowledge) (d : DomId) (r : Asked) → begun k d r ≡ None → IsMapping (Some r) → k.maps_answered < END_OF_SERIALS
 few-answered k d (requests.Map dom gref flags) e m = (opens k d (requests.Map dom gref flags) e).serials_left
 few-answered k d r e m = absurd m
@@ -68,7 +65,7 @@ fresh-step s h i step seen handle (Some c) right e =
     let o = path (known_at s h i.actor) i.actor c.request (values c ++ seen ∷ []) in
     let next = answered-next s h i.actor c.request step (gives_back o) (verdict_in o) (stood s (i ∷ h) i.actor.0) handle
     (subst (λ (a : Option Answer). AnsweredBy s h i.actor c.request (Some step) (gives_back o) (verdict_in o) a (stood s (i ∷ h) i.actor.0)) e right.answered) in
-    let few : maps_answered_at h i.actor.0 < END_OF_SERIALS = few-answered (known_at s h i.actor) i.actor c.request (begun-none (known_at s h i.actor) i.actor c.request (values c) step right.continues) next.is_map in
+    let few : maps_answered_at h i.actor.0 < END_OF_SERIALS = few-answered (known_at s h i.actor) i.actor c.request (none-begun (begun (known_at s h i.actor) i.actor c.request) (steps_of (known_at s h i.actor) i.actor c.request) (values c) step right.continues) next.is_map in
     let same : handle.serial ≡ maps_answered_at h i.actor.0 = next.serial in (same, omega arith)
 
 fresh : (s : Setting) (h : History) (i : Item) (handle : Handle) → IsRight s h i → i.answer ≡ Some (answers.Mapped handle) → IsFresh h i.actor handle
@@ -223,11 +220,10 @@ after-known i h c asks k = by i.answer where
 pub open-known : (s : Setting) (h : History) (d : ℕ) → IsRun s h → CallKnown h d (open_call h d)
 unfolding IsRun open_call
 open-known s [] d run = tt
-open-known s (i ∷ h) d run = by (i.actor.0 == d) refl (open-known s h d run.2) where
-  by : (b : Bool) → (i.actor.0 == d) ≡ b → CallKnown h d (open_call h d) → CallKnown (i ∷ h) d (cond b (underway_after i (open_call h d)) (open_call h d))
-  by true e k = subst (λ (n : ℕ). CallKnown (i ∷ h) n (underway_after i (open_call h n))) (eqb-true i.actor.0 d e)
-      (after-known i h (open_call h i.actor.0) run.1 (subst (λ (n : ℕ). CallKnown h n (open_call h n)) (sym (eqb-true i.actor.0 d e)) k))
-  by false e k = call-later i h d (open_call h d) k
+open-known s (i ∷ h) d run = cond_both (i.actor.0 == d) (underway_after i (open_call h d)) (open_call h d) (CallKnown (i ∷ h) d)
+    (λ e. subst (λ (n : ℕ). CallKnown (i ∷ h) n (underway_after i (open_call h n))) (eqb-true i.actor.0 d e)
+    (after-known i h (open_call h i.actor.0) run.1 (subst (λ (n : ℕ). CallKnown h n (open_call h n)) (sym (eqb-true i.actor.0 d e)) (open-known s h d run.2))))
+    (λ e. call-later i h d (open_call h d) (open-known s h d run.2))
 
 unpin-in : (s : Setting) (h : History) (i : Item) (p : Held) (handle : Handle) (seen : Seen) (c : Option Underway) → StepsRightIn s h i (Unpin p (ByMapping handle)) seen c → CallKnown h i.actor.0 c → IsKnown h i.actor.0 handle
 unpin-in s h i p handle seen None right k = absurd right

@@ -34,10 +34,6 @@ unfolding stood
 stood-own s i h =
     ap (λ (b : Bool). cond b (stood_with i.happened (stood s h i.actor.0) (first_of_item s h i)) (stood s h i.actor.0)) (same-number i.actor.0)
 
--- the bytes given to a call stay, whatever another domain does
-pub given-other : (i : Item) (h : History) (d : ℕ) (given : List ℕ) → (i.actor.0 == d) ≡ false → GivenAgrees h d given → GivenAgrees (i ∷ h) d given
-given-other i h d given e a = λ c call. a c (sym (open_call-other i h d e) ∙ call)
-
 -- there is none to have bytes
 pub given-none : (h : History) (d : ℕ) (given : List ℕ) → open_call h d ≡ None → GivenAgrees h d given
 given-none h d given none = λ c call. absurd (none-some c (sym none ∙ call))
@@ -65,10 +61,6 @@ call-stays : (s : Setting) (i : Item) (h : History) (d : DomId) (o : Option Open
 call-stays s i h d None None apart a = other-legs i h d.0 apart ∙ a
 call-stays s i h d (Some o) (Some c) apart a = open-stays s i h d o c apart a
 call-stays s i h d o c apart a = a
-
-call-of-other : (s : Setting) (i : Item) (h : History) (d : DomId) (o : Option Open) → (i.actor.0 == d.0) ≡ false → CallAgrees s h d o (open_call h d.0) → CallAgrees s (i ∷ h) d o (open_call (i ∷ h) d.0)
-call-of-other s i h d o apart a =
-    subst (λ (c : Option Underway). CallAgrees s (i ∷ h) d o c) (sym (open_call-other i h d.0 apart)) (call-stays s i h d o (open_call h d.0) apart a)
 
 -- slots
 
@@ -109,8 +101,8 @@ other-agrees s i h x slots apart a len agree = record {
   room = len;
   slots = agree;
   mappings = mappings-same x.mappings _ _ _ _ (sym (other-mappings i h x.id.0 apart)) (sym (other-maps i h x.id.0 apart)) a.mappings;
-  given = given-other i h x.id.0 x.given apart a.given;
-  call = call-of-other s i h x.id x.underway apart a.call;
+  given = λ c call. a.given c (sym (open_call-other i h x.id.0 apart) ∙ call);
+  call = subst (λ (c : Option Underway). CallAgrees s (i ∷ h) x.id x.underway c) (sym (open_call-other i h x.id.0 apart)) (call-stays s i h x.id x.underway (open_call h x.id.0) apart a.call);
 }
 
 -- items that change no entry, and store no word
@@ -260,12 +252,6 @@ kept-stands s i h xs zs k st each tables bodies = record {
   control : (t r : ℕ) → control_at s (i ∷ h) t r ≡ control_at s h t r
   control t r = let e = entry t r in let n = kept-raises i h t r k.changes in let l = kept-live i h k in cc
 
--- the same, where no header and no body word is stored either
-pub pins-stand : (s : Setting) (i : Item) (h : History) (xs zs : List State) → KeepsEntries i → KeepsKnown i → DomainsStand s h xs → ((dom : DomId) → StateAgrees s (i ∷ h) dom (state_of zs dom.0))
-    → DomainsStand s (i ∷ h) zs
-pins-stand s i h xs zs q k st each =
-    kept-stands s i h xs zs k st each (λ dom. subst FitsTable (sym (kept-table s i h dom q.header)) (st.tables dom)) (λ t r valid which. same-body i h t r which q)
-
 -- the slots of a domain stay, where no pin is taken or given back and no body word stored
 pub slots-stay : (i : Item) (h : History) (q : ℕ) (slots : List PinCounts) → KeepsEntries i → KeepsKnown i → SlotsAgree h q slots → SlotsAgree (i ∷ h) q slots
 slots-stay i h q slots e k a = λ r slot at. slot-kept i h q r slot (kept-live i h k) (λ which. same-body i h q r which e) (a r slot at)
@@ -279,10 +265,9 @@ mappings-stay i h q kept k a =
 pub quiet-stands : (s : Setting) (i : Item) (h : History) (xs zs : List State) (x : State) (o : Option Open) (given : List ℕ) → KeepsEntries i → KeepsKnown i → i.actor ≡ x.id → DomainsStand s h xs
     → state_of xs x.id.0 ≡ Some x → Agrees s h x → ((q : ℕ) → state_of zs q ≡ cond (x.id.0 == q) (Some (record x { underway = o; given = given })) (state_of xs q))
     → CallAgrees s (i ∷ h) x.id o (open_call (i ∷ h) x.id.0) → GivenAgrees (i ∷ h) x.id.0 given → DomainsStand s (i ∷ h) zs
-quiet-stands s i h xs zs x o given e k own st here a becomes call bytes = pins-stand s i h xs zs e k st
-    (each-stays s i h xs zs x (record x { underway = o; given = given }) st here own k becomes refl
+quiet-stands s i h xs zs x o given e k own st here a becomes call bytes = kept-stands s i h xs zs k st (each-stays s i h xs zs x (record x { underway = o; given = given }) st here own k becomes refl
     (actor-agrees s i h x x.header x.slots x.mappings o given e.changes a (a.header ∙ sym (kept-table s i h x.id e.header)) a.room (slots-stay i h x.id.0 x.slots e k a.slots) (mappings-stay i h x.id.0 x.mappings k a.mappings) call bytes)
-    (λ y apart b. slots-stay i h y.id.0 y.slots e k b))
+    (λ y apart b. slots-stay i h y.id.0 y.slots e k b)) (λ dom. subst FitsTable (sym (kept-table s i h dom e.header)) (st.tables dom)) (λ t r valid which. same-body i h t r which e)
 
 -- the item of a step
 abbrev pub stepped : DomId → Step → Seen → Option Answer → Item

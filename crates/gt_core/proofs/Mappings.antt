@@ -23,10 +23,6 @@ swap-handles a b = by (same_handle a b) refl where
   by true e = e ∙ sym (handle-same a) ∙ ap (λ (x : Handle). same_handle x a) (same-handle a b e)
   by false e = e ∙ sym (apart-back a b e)
 
-none-both : (b : Bool) → ◌≡◌ {A = Option Held} (cond b None None) None
-none-both true = refl
-none-both false = refl
-
 -- a list of mappings, and one more
 
 none-of : (x : Handle × Held) (ms : List (Handle × Held)) (handle : Handle) → mapping_of (x ∷ ms) handle ≡ None → (same_handle x.0 handle ≡ false) × (mapping_of ms handle ≡ None)
@@ -70,7 +66,7 @@ less handle [] = []
 less handle (m ∷ ms) = cond (same_handle m.0 handle) ms (m ∷ less handle ms)
 
 less-of : (ms : List (Handle × Held)) (handle other : Handle) → AreApart ms → mapping_of (less handle ms) other ≡ cond (same_handle other handle) None (mapping_of ms other)
-less-of [] handle other a = sym (none-both (same_handle other handle))
+less-of [] handle other a = sym (cond_both (same_handle other handle) None None (λ o. o ≡ None) (λ e. refl) (λ e. refl))
 less-of (x ∷ ms) handle other a = by (same_handle x.0 handle) refl (less-of ms handle other a.1) where
   gone : x.0 ≡ handle → (c : Bool) → same_handle other handle ≡ c → mapping_of ms other ≡ cond c None (cond (same_handle x.0 other) (Some x.1) (mapping_of ms other))
   gone here true e = ap (mapping_of ms) (same-handle other handle e ∙ sym here) ∙ a.0
@@ -123,10 +119,9 @@ set-there (x ∷ xs) (suc key) (suc at) apart = set-there xs key at (λ e. apart
 set-there slots key at apart = refl
 
 set-none : (slots : List (Option (Slot Held))) (key at : ℕ) → slice_index_or (slice_set slots key None) at None ≡ cond (at == key) None (slice_index_or slots at None)
-set-none slots key at = by (at == key) refl where
-  by : (b : Bool) → (at == key) ≡ b → slice_index_or (slice_set slots key None) at None ≡ cond b None (slice_index_or slots at None)
-  by true is = ap (λ (n : ℕ). slice_index_or (slice_set slots key None) n None) (eqb-true at key is) ∙ set-here slots key
-  by false is = set-there slots key at (λ e. true≢false (sym (eq-eqb at key e) ∙ is))
+set-none slots key at =
+    cond_both (at == key) None (slice_index_or slots at None) (λ o. slice_index_or (slice_set slots key None) at None ≡ o) (λ is. ap (λ (n : ℕ). slice_index_or (slice_set slots key None) n None) (eqb-true at key is) ∙ set-here slots key)
+    (λ is. set-there slots key at (λ e. true≢false (sym (eq-eqb at key e) ∙ is)))
 
 under-other : (o : Option (Slot Held)) (other serial : ℕ) (m : Held) → (other == serial) ≡ false → under serial o ≡ Some m → under other o ≡ None
 under-other None other serial m apart e = refl

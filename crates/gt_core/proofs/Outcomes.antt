@@ -1,5 +1,5 @@
 -- Where a step leads a call: what it ends with, what it has left, and what its answer is.
-use Rattle.gt_core.proofs.Words.{◌≡◌, ◌⊎◌, inl, inr, ℕ, refl, Bool, true, false, List, [], ◌∷◌, ◌++◌, length, Option, Some, None, cond, sym, ap, ◌∙◌, subst, All-push, ◌==◌, All, DomId, GrantRef, Denial, Entry, Via, Change, Held, Direct, Through, Pins, Asked, ByMapping, ByLeg, Seen, Nothing, Taken, Missed, Verdict, Granted, Refused, Step, Unpin, StoreHeader, Exchange, ReadBytes, WriteBytes, CopyBytes, Makes, Done, Aim, Mapping, Source, Dest, Phase, Exchanging, Changing, Walking, Accessing, Last, Ending, Leg, LegPhase, AtHeader, LegNext, LegRefused, Pinned, last_first, pins_so_far, no_pins, CallerKnowledge, via_judged, is_dest_granted, source_pair, dest_pair, second_leg, end_leg, Continuation, phase_after, action_at, after_leg, leg_step, after_source_pin, after_dest_pin, where_via, next_to_give, HasShown, IsQuiet, History, Setting, word_at, known_at, seen_by, StepsSoFar, LeavesAll, refusal_in, PhaseStands, EndsAfter, IsClean, Place, Write, cond_both, CopyArgs, Route, at_dest}
+use Rattle.gt_core.proofs.Words.{◌≡◌, ◌⊎◌, inl, inr, ℕ, refl, List, [], ◌∷◌, ◌++◌, length, Option, Some, None, cond, sym, ap, ◌∙◌, subst, All-push, ◌==◌, All, DomId, GrantRef, Denial, Entry, Via, Change, Held, Direct, Through, Pins, Asked, ByMapping, ByLeg, Seen, Nothing, Taken, Missed, Verdict, Granted, Refused, Step, Unpin, StoreHeader, Exchange, ReadBytes, WriteBytes, CopyBytes, Makes, Done, Aim, Mapping, Source, Dest, Phase, Exchanging, Changing, Walking, Accessing, Last, Ending, Leg, LegPhase, AtHeader, LegNext, LegRefused, Pinned, last_first, pins_so_far, no_pins, CallerKnowledge, via_judged, is_dest_granted, source_pair, dest_pair, second_leg, end_leg, Continuation, phase_after, action_at, after_leg, leg_step, after_source_pin, after_dest_pin, where_via, next_to_give, HasShown, IsQuiet, History, Setting, word_at, known_at, seen_by, StepsSoFar, LeavesAll, refusal_in, PhaseStands, EndsAfter, IsClean, Place, Write, cond_both, CopyArgs, Route, at_dest}
 use Rattle.gt_calls.specs.declared.held.Route.TheVariants.{Own}
 use Rattle.gt_calls.specs.declared.action.Verdict.TheVariants.{Mapped}
 pub use Rattle.gt_core.proofs.Phases.{makes-same, by-giving, IsHere, words-of, turn-below, IsPublished, step-publishes, idle-here, idle-no-pins, word-shows, table-fits, by-quiet}
@@ -125,11 +125,9 @@ step-ends s h way d r shown so_far phase (Unpin p (ByMapping handle)) a e b = si
 step-ends s h way d r shown so_far phase (StoreHeader version frames) a e b = single-clean s h d r so_far phase (StoreHeader version frames) e b tt
 step-ends s h way d r shown so_far phase (WriteBytes dom frame off len) a e b = single-clean s h d r so_far phase (WriteBytes dom frame off len) e b tt
 step-ends s h way d r shown so_far phase (CopyBytes from to len) a e b = inr (copy-over s h way d r shown phase from to len a e)
-step-ends s h way d r shown so_far phase (Exchange gref looked change) a e b = by (word_at s h d.0 gref.0 == looked) refl
-  where
-    by : (c : Bool) → (word_at s h d.0 gref.0 == looked) ≡ c → LeavesAll (Exchange gref looked change, cond c Taken (Missed (word_at s h d.0 gref.0))) ⊎ ((steps : List (Step × Seen)) → IsClean (phase_after (known_at s h d) d phase (cond c Taken (Missed (word_at s h d.0 gref.0)))) steps)
-    by true is = inr (λ steps. subst (λ (p : Phase). IsClean p steps) (sym (taken-ends (known_at s h d) way d r shown phase gref looked change a e)) (inl refl))
-    by false is = inl tt
+step-ends s h way d r shown so_far phase (Exchange gref looked change) a e b =
+    cond_both (word_at s h d.0 gref.0 == looked) Taken (Missed (word_at s h d.0 gref.0)) (λ v. LeavesAll (Exchange gref looked change, v) ⊎ ((steps : List (Step × Seen)) → IsClean (phase_after (known_at s h d) d phase v) steps))
+    (λ is. inr (λ steps. subst (λ (p : Phase). IsClean p steps) (sym (taken-ends (known_at s h d) way d r shown phase gref looked change a e)) (inl refl))) (λ is. inl tt)
 step-ends s h way d r shown so_far phase step a e b = inl tt
 
 pub clean-next : (s : Setting) (h : History) (way : Continuation) (d : DomId) (r : Asked) (shown : List Seen) (so_far : StepsSoFar) (phase : Phase) (step : Step) (steps : List (Step × Seen)) → HasShown (known_at s h d) way d r shown phase → action_at d phase ≡ Makes step → PhaseStands s h d r so_far phase

@@ -89,9 +89,6 @@ by-quiet P unpins bodies headers accesses (ReadBytes dom frame off len) q = (acc
 by-quiet P unpins bodies headers accesses (WriteBytes dom frame off len) q = (accesses dom frame off len).1
 by-quiet P unpins bodies headers accesses step q = absurd q
 
-quiet-within : (xs : List State) (d : DomId) (step : Step) → IsQuiet step → IsWithin xs d step
-quiet-within xs d = by-quiet (IsWithin xs d) (λ p handle. tt) (λ gref half word. tt) (λ version frames. tt) (λ dom frame off len. (tt, tt))
-
 asks-run : (s : Setting) (h : History) (d : DomId) (r : Asked) (dom : DomId) (question : Question) → begun (known_at s h d) d r ≡ None → Asks d r dom question → domain_of s.domains dom ≢ None
 asks-run s h d r dom AsksSize none a = subst (λ (z : DomId). domain_of s.domains z ≢ None) (sym a.2)
     (of-run (domain_of s.domains (resolved d a.0)) (opens (known_at s h d) d (QuerySize a.0) (subst (λ (z : Asked). begun (known_at s h d) d z ≡ None) a.1 none)).of_run)
@@ -111,7 +108,7 @@ step-within s h xs d r shown so_far phase step i = subst (λ (a : Action). OfAct
     by (Changing gref change more looked) a b e = (i.own, turn-below s h xs d r gref change i.st i.at.unanswered a.1)
     by (Walking aim l at) a b e = leg-within s h xs d l so_far at (state-some s h xs l.dom i.st b.0) b.1
     by (Asking dom question) a b e = state-some s h xs dom i.st (asks-run s h d r dom question i.at.unanswered b)
-    by (Last last verdict) a b e = quiet-within xs d last a.0
+    by (Last last verdict) a b e = by-quiet (IsWithin xs d) (λ p handle. tt) (λ gref half word. tt) (λ version frames. tt) (λ dom frame off len. (tt, tt)) last a.0
     by (Ending pins verdict) a b e = subst (λ (x : Action). OfAction x) (sym e) (by-giving (IsWithin xs d) (λ p n. tt) (last_first pins) verdict step e)
     by p a b e = tt
 

@@ -111,9 +111,6 @@ not-there : (h : History) (p : Pin) (t r : ℕ) (k : Dir) → entry_at h p.held.
 not-there h p t r k valid none e = let at = place-of p t r k e in
     valid (ap (λ (n : ℕ). entry_at h n p.held.gref.0) at.on_dom ∙ ap (λ (n : ℕ). entry_at h t n) at.on_gref ∙ none)
 
-pins-keeps : (d : DomId) (p : Held) (answer : Option Answer) → KeepsEntries (pins d p answer)
-pins-keeps d p answer = record { changes = λ r. refl; stores = λ r which. refl; header = refl }
-
 pub pinned-live : (h : History) (d : DomId) (p : Held) (answer : Option Answer) → live (pins d p answer ∷ h) ≡ live h ++ new_pin h d p answer ∷ []
 unfolding live
 pinned-live h d p answer = refl
@@ -136,10 +133,6 @@ pub leg-maps : (h : History) (d : DomId) (p : Held) (answer : Option Answer) →
 leg-maps h d p answer leg =
     gathered by_mapping h d p answer ∙ ap (λ (x : Holder). mappings_at h d.0 ++ by_mapping x (record p { entry = entry_at h p.dom.0 p.gref.0 })) leg ∙ append-nil (mappings_at h d.0)
 
--- a pin of a map is a mapping, and no leg's
-map-grows : (h : History) (d : DomId) (p : Held) (handle : Handle) → mappings_at (pins d p (Some (Mapped handle)) ∷ h) d.0 ≡ mappings_at h d.0 ++ (handle, record p { entry = entry_at h p.dom.0 p.gref.0 }) ∷ []
-map-grows h d p handle = gathered by_mapping h d p (Some (Mapped handle))
-
 pub map-legs : (h : History) (d : DomId) (p : Held) (handle : Handle) → legs_at (pins d p (Some (Mapped handle)) ∷ h) d.0 ≡ legs_at h d.0
 map-legs h d p handle = gathered by_leg h d p (Some (Mapped handle)) ∙ append-nil (legs_at h d.0)
 
@@ -159,7 +152,7 @@ pub pin-stands : (s : Setting) (h : History) (xs ys : List State) (x : State) (p
     → DomainsStand s (pins x.id p answer ∷ h) (changed_in p.dom.0 (with_slot p.gref.0 (Pinned p.dir)) ys)
 pin-stands s h xs ys x p answer kept o st here a becomes valid few lawful maps call given =
     let i : Item = pins x.id p answer in let q : Pin = new_pin h x.id p answer in
-    let keeps = pins-keeps x.id p answer in let grows : Grows h i q = pinned-live h x.id p answer in
+    let keeps : KeepsEntries i = record { changes = λ r. refl; stores = λ r which. refl; header = refl } in let grows : Grows h i q = pinned-live h x.id p answer in
     keeps-stands s i h xs _ keeps st
     (slots-stand s i h xs _ x kept o p.dom.0 p.gref.0 (Pinned p.dir) keeps refl st here a (becomes-changed xs ys x (record x { mappings = kept; underway = o }) p.dom.0 (with_slot p.gref.0 (Pinned p.dir)) (λ y. refl) becomes)
     (λ z slots b is was. pinned-slots h i q z slots b keeps grows few is was) maps call given)
@@ -176,7 +169,7 @@ pin-stands s h xs ys x p answer kept o st here a becomes valid few lawful maps c
 pub map-agrees : (h : History) (d : DomId) (p : Held) (handle : Handle) (old kept : Kept Held) → Adds old kept handle (record p { entry = entry_at h p.dom.0 p.gref.0 }) → MappingsAgree old (mappings_at h d.0) (maps_answered_at h d.0)
     → MappingsAgree kept (mappings_at (pins d p (Some (Mapped handle)) ∷ h) d.0) (maps_answered_at (pins d p (Some (Mapped handle)) ∷ h) d.0)
 map-agrees h d p handle old kept adds a =
-    mappings-same kept _ _ _ _ (sym (map-grows h d p handle)) (answered-up h d p handle)
+    mappings-same kept _ _ _ _ (sym (gathered by_mapping h d p (Some (Mapped handle)))) (answered-up h d p handle)
     (mappings-added old kept handle (record p { entry = entry_at h p.dom.0 p.gref.0 }) (mappings_at h d.0) (maps_answered_at h d.0) adds a)
 
 -- and after the pin of a leg

@@ -1,5 +1,6 @@
 -- A change of one element of a list, and of the first state with a number.
-use Rattle.gt_core.proofs.Words.{◌≡◌, ◌<◌, ◌≤◌, ◌+◌, ℕ, zero, suc, refl, Bool, true, false, List, [], ◌∷◌, length, Option, Some, None, cond, sym, ap, ◌∙◌, arith, get_or, set, eqb-true, ne_eqb, eq-eqb, false≢true, true≢false, position-Some, position, slice_get, ◌==◌, not, position_or_len, option_map, changed_at, State, state_of, changed_in}
+use Rattle.gt_core.proofs.Words.{◌≡◌, ◌<◌, ◌≤◌, ◌+◌, ℕ, zero, suc, refl, Bool, true, false, List, [], ◌∷◌, length, Option, Some, None, cond, sym, ap, ◌∙◌, arith, get_or, set, eqb-true, eq-eqb, true≢false, position-Some, position, slice_get, ◌==◌, not, position_or_len, option_map, changed_at, State, state_of, changed_in, cond_both}
+use Rattle.std.proofs.Math.Dec.{eqb-suc-suc, eqb-suc-zero, eqb-zero-suc}
 use Rattle.gt_core.proofs.Places.{has_id, none-place}
 
 -- a write of the changed element
@@ -18,29 +19,16 @@ pub length-changed : {A : Type 0} (xs : List A) (r : ℕ) (f : A → A) → leng
 length-changed (z ∷ zs) (suc r) f = ap suc (length-changed zs r f)
 length-changed xs r f = refl
 
-suc-eqb : (r q : ℕ) → (suc r == suc q) ≡ (r == q)
-suc-eqb r q = by (r == q) refl where
-  by : (b : Bool) → (r == q) ≡ b → (suc r == suc q) ≡ b
-  by true e = eq-eqb (suc r) (suc q) (ap suc (eqb-true r q e))
-  by false e = ne_eqb (suc r) (suc q) (λ s. false≢true (sym e ∙ eq-eqb r q (let t : suc r ≡ suc q = s in omega arith)))
-
-zero-suc-eqb : (q : ℕ) → (zero == suc q) ≡ false
-zero-suc-eqb q = ne_eqb zero (suc q) (λ s. absurd (let t : zero ≡ suc q = s in omega arith))
-
-suc-zero-eqb : (r : ℕ) → (suc r == zero) ≡ false
-suc-zero-eqb r = ne_eqb (suc r) zero (λ s. absurd (let t : suc r ≡ zero = s in omega arith))
-
 cond-none : {A : Type 0} (b : Bool) → ◌≡◌ {A = Option A} (cond b None None) None
-cond-none true = refl
-cond-none false = refl
+cond-none b = cond_both b None None (λ o. o ≡ None) (λ e. refl) (λ e. refl)
 
 -- what stands at a place after the change
 pub get-changed : {A : Type 0} (xs : List A) (r q : ℕ) (f : A → A) → slice_get (changed_at r f xs) q ≡ cond (r == q) (option_map f (slice_get xs q)) (slice_get xs q)
 get-changed [] r q f = sym (cond-none (r == q))
 get-changed (z ∷ zs) zero zero f = refl
-get-changed (z ∷ zs) zero (suc q) f = sym (ap (λ b. cond b (option_map f (slice_get zs q)) (slice_get zs q)) (zero-suc-eqb q))
-get-changed (z ∷ zs) (suc r) zero f = sym (ap (λ b. cond b (Some (f z)) (Some z)) (suc-zero-eqb r))
-get-changed (z ∷ zs) (suc r) (suc q) f = get-changed zs r q f ∙ sym (ap (λ b. cond b (option_map f (slice_get zs q)) (slice_get zs q)) (suc-eqb r q))
+get-changed (z ∷ zs) zero (suc q) f = sym (ap (λ b. cond b (option_map f (slice_get zs q)) (slice_get zs q)) (eqb-zero-suc q))
+get-changed (z ∷ zs) (suc r) zero f = sym (ap (λ b. cond b (Some (f z)) (Some z)) (eqb-suc-zero r))
+get-changed (z ∷ zs) (suc r) (suc q) f = get-changed zs r q f ∙ sym (ap (λ b. cond b (option_map f (slice_get zs q)) (slice_get zs q)) (eqb-suc-suc r q))
 
 -- states
 
@@ -71,10 +59,7 @@ changed-nowhere xs d f p = changed-none xs d f (none-place (position_or_len (has
 
 pub length-changed_in : (xs : List State) (d : ℕ) (f : State → State) → length (changed_in d f xs) ≡ length xs
 length-changed_in [] d f = refl
-length-changed_in (z ∷ zs) d f = by (z.id.0 == d) (length-changed_in zs d f) where
-  by : (b : Bool) → length (changed_in d f zs) ≡ length zs → length (cond b (f z ∷ zs) (z ∷ changed_in d f zs)) ≡ length (z ∷ zs)
-  by true e = refl
-  by false e = ap suc e
+length-changed_in (z ∷ zs) d f = cond_both (z.id.0 == d) (f z ∷ zs) (z ∷ changed_in d f zs) (λ l. length l ≡ length (z ∷ zs)) (λ e. refl) (λ e. ap suc (length-changed_in zs d f))
 
 -- the first state with a number, after the change of the one with number d
 pub state-changed : (xs : List State) (d q : ℕ) (f : State → State) → ((x : State) → (f x).id ≡ x.id) → state_of (changed_in d f xs) q ≡ cond (d == q) (option_map f (state_of xs q)) (state_of xs q)

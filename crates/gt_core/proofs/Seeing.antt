@@ -1,5 +1,5 @@
 -- What the core's steps see is what the history left.
-use Rattle.gt_core.proofs.Words.{◌≡◌, ◌≢◌, ◌<◌, ℕ, zero, suc, refl, Bool, true, false, List, [], ◌∷◌, length, Option, Some, None, cond, sym, ap, ◌∙◌, arith, none-some, same_Some, ◌==◌, slice_get, DomId, Entry, control_word, header_word, PinCounts, Own, State, Step, LookHeader, LookControl, LookBody, Exchange, Word, control_with, generation_in, Half, FirstHalf, SecondHalf, TABLE_ENTRIES, History, Setting, entry_at, generation_at, reads_at, body_at, table_at, word_at, seen_by, exchange_sees, Agrees, StateAgrees, DomainsStand, control_seen, header_seen, body_seen, sees, reads_in, writes_in, body_in, slot_reads, slot_writes, slot_body, control_in}
+use Rattle.gt_core.proofs.Words.{◌≡◌, ◌≢◌, ◌<◌, ℕ, zero, suc, refl, Bool, true, false, List, [], ◌∷◌, length, Option, Some, None, cond, ap, ◌∙◌, arith, same_Some, ◌==◌, slice_get, DomId, Entry, control_word, header_word, PinCounts, Own, State, Step, LookHeader, LookControl, LookBody, Exchange, Word, control_with, generation_in, Half, FirstHalf, SecondHalf, TABLE_ENTRIES, History, Setting, entry_at, generation_at, reads_at, body_at, table_at, word_at, seen_by, exchange_sees, Agrees, StateAgrees, DomainsStand, control_seen, header_seen, body_seen, sees, reads_in, writes_in, body_in, slot_reads, slot_writes, slot_body, control_in, get_or, slice_get-get_or}
 use Rattle.gt_calls.specs.declared.action.Step.TheVariants.{Pin}
 use Rattle.gt_core.specs.Standing.{state_of}
 
@@ -26,16 +26,9 @@ body_seen-state (y ∷ ys) d r which x e = by (y.id.0 == d) e (body_seen-state y
   by true k t = ap (λ (z : State). body_in z.slots r which) (same_Some y x k)
   by false k t = t k
 
-past-none : (xs : List PinCounts) (r : ℕ) → r < length xs → slice_get xs r ≡ None → ⊥
-past-none [] r within e = absurd (omega arith)
-past-none (x ∷ xs) zero within e = none-some x (sym e)
-past-none (x ∷ xs) (suc r) within e = past-none xs r (omega arith) e
-
 slot-here : (s : Setting) (h : History) (x : State) (r : ℕ) → Agrees s h x → r < TABLE_ENTRIES → (slot : PinCounts) × (slice_get x.slots r ≡ Some slot)
-slot-here s h x r a within = some (slice_get x.slots r) refl where
-  some : (o : Option PinCounts) → slice_get x.slots r ≡ o → (slot : PinCounts) × (slice_get x.slots r ≡ Some slot)
-  some (Some slot) e = (slot, e)
-  some None e = absurd (past-none x.slots r (let room : length x.slots ≡ TABLE_ENTRIES = a.room in omega arith) e)
+slot-here s h x r a within = let row : PinCounts = record { reads = 0; writes = 0; first = 0; second = 0 } in
+    (get_or x.slots r row, slice_get-get_or x.slots r row (let room : length x.slots ≡ TABLE_ENTRIES = a.room in omega arith))
 
 -- where there is a row, its generation is the entry's
 generation-there : (a b : ℕ) (own : List Own) (r : ℕ) → r < length own → generation_in a own r ≡ generation_in b own r

@@ -29,10 +29,6 @@ half-stored d gref half word h = own-stored d gref half word h gref.0 half
       by FirstHalf = refl
       by SecondHalf = refl
 
--- the other half stays
-pub second-stays : (d : DomId) (gref : GrantRef) (word r : ℕ) (h : History) → body_at (stores d gref FirstHalf word ∷ h) d.0 r SecondHalf ≡ body_at h d.0 r SecondHalf
-second-stays d gref word r h = half-stays d gref FirstHalf word r SecondHalf h (and_right (gref.0 == r) false refl)
-
 pub first-stays : (d : DomId) (gref : GrantRef) (word r : ℕ) (h : History) → body_at (stores d gref SecondHalf word ∷ h) d.0 r FirstHalf ≡ body_at h d.0 r FirstHalf
 first-stays d gref word r h = half-stays d gref SecondHalf word r FirstHalf h (and_right (gref.0 == r) false refl)
 
@@ -55,7 +51,7 @@ slot-stored d gref FirstHalf word h slot a =
       reads = a.reads ∙ ap (λ (ps : List Pin). count_by (is_pin_on d.0 gref.0 Read) ps) (sym k);
       writes = a.writes ∙ ap (λ (ps : List Pin). count_by (is_pin_on d.0 gref.0 Write) ps) (sym k);
       first = sym (half-stored d gref FirstHalf word h);
-      second = a.second ∙ sym (second-stays d gref word gref.0 h);
+      second = a.second ∙ sym (half-stays d gref FirstHalf word gref.0 SecondHalf h (and_right (gref.0 == gref.0) false refl));
     }
 
 slot-same : (d : DomId) (gref : GrantRef) (half : Half) (word t r : ℕ) (h : History) (slot : PinCounts) → ((which : Half) → body_at (stores d gref half word ∷ h) t r which ≡ body_at h t r which)

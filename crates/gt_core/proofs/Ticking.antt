@@ -69,9 +69,6 @@ ticks s h xs x o c seen new action st here agrees call a saw caller asks goes = 
 
 -- the call with one step more
 
-values-more : (c : Underway) (step : Step) (seen : Seen) → values (record { request = c.request; given = c.given; steps = c.steps ++ (step, seen) ∷ [] }) ≡ values c ++ seen ∷ []
-values-more c step seen = map-append (λ (p : Step × Seen). p.1) c.steps ((step, seen) ∷ [])
-
 steps-more : (c : Underway) (step : Step) (seen : Seen) → reverse (c.steps ++ (step, seen) ∷ []) ≡ (step, seen) ∷ reverse c.steps
 steps-more c step seen = reverse-append c.steps ((step, seen) ∷ [])
 
@@ -267,7 +264,7 @@ pub open-after : (s : Setting) (h : History) (xs : List State) (x : State) (o : 
 open-after s h xs x o c new z t = let d = x.id in let r = c.request in let seen = seen_by s h d o.step in
     let i = stepped d o.step seen None in let next = next_of s h d t.stands.phase o.step in
     let same = known-after s h xs x o c new z t in
-    let shown : values c ++ seen ∷ [] ≡ values (record { request = c.request; given = c.given; steps = c.steps ++ (o.step, seen) ∷ [] }) = sym (values-more c o.step seen) in
+    let shown : values c ++ seen ∷ [] ≡ values (record { request = c.request; given = c.given; steps = c.steps ++ (o.step, seen) ∷ [] }) = sym (map-append (λ (p : Step × Seen). p.1) c.steps ((o.step, seen) ∷ [])) in
     let longer : length (c.steps ++ (o.step, seen) ∷ []) ≡ length c.steps + 1 = length-append c.steps ((o.step, seen) ∷ []) in
     let few = t.stands.few in let fewer = t.fewer in record {
       caller = t.caller;

@@ -1,5 +1,5 @@
 -- Runs that are alike stay so.
-use Rattle.gt_core.proofs.Words.{◌≡◌, ◌⊎◌, inl, inr, List, ◌∷◌, Option, sym, ap, ◌∙◌, subst, DomId, asked, Answer, Event, Begin, Tick, Happened, Began, Stepped, Item, Element, Busy, Idle, NoDomain, Did, History, Setting, MayDo, IsRight, grown, bare_event, told_item, told_items, ToldItem, SameHistory, AsksKnown, IsOfKnown, HappensKnown, IsRun, AreAlike, IsOf, SameEvent, SameElement}
+use Rattle.gt_core.proofs.Words.{◌≡◌, ◌⊎◌, inl, inr, List, ◌∷◌, Option, sym, ap, ◌∙◌, subst, DomId, asked, Answer, Event, Begin, Tick, Happened, Began, Stepped, Item, Element, Did, History, Setting, MayDo, IsRight, grown, bare_event, told_item, told_items, ToldItem, SameHistory, AsksKnown, IsOfKnown, HappensKnown, IsRun, AreAlike, IsOf, SameEvent, SameElement}
 use Rattle.gt_core.proofs.Bare.{bare, bare-same}
 pub use Rattle.gt_core.proofs.Doing.{element_told, doing, does, does-bare}
 
@@ -9,17 +9,10 @@ inr-same a b e = cc
 inl-same : (x y : Element) → ◌≡◌ {A = Element ⊎ ToldItem} (inl x) (inl y) → x ≡ y
 inl-same x y e = cc
 
-apart : (x : Element) (t : ToldItem) → ◌≡◌ {A = Element ⊎ ToldItem} (inl x) (inr t) → ⊥
-apart x t e = cc
-
 pub same-element : (x y : Element) → element_told x ≡ element_told y → SameElement x y
 same-element (Did i) (Did j) e = inr-same (told_item i) (told_item j) e
-same-element (Did i) Busy e = absurd (apart Busy (told_item i) (sym e))
-same-element (Did i) Idle e = absurd (apart Idle (told_item i) (sym e))
-same-element (Did i) NoDomain e = absurd (apart NoDomain (told_item i) (sym e))
-same-element Busy (Did j) e = absurd (apart Busy (told_item j) e)
-same-element Idle (Did j) e = absurd (apart Idle (told_item j) e)
-same-element NoDomain (Did j) e = absurd (apart NoDomain (told_item j) e)
+same-element (Did i) y e = absurd (cc)
+same-element x (Did j) e = absurd (cc)
 same-element x y e = inl-same x y e
 
 -- what alike events do in runs that are alike

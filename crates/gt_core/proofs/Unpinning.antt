@@ -17,9 +17,6 @@ loses-later : (m : Held) (p : Pin) (whole less : List Pin) → Loses m whole les
 loses-later m p whole less l =
     record { front = p ∷ l.front; pin = l.pin; back = l.back; is = ap (λ (ps : List Pin). p ∷ ps) l.is; left = ap (λ (ps : List Pin). p ∷ ps) l.left; of = l.of }
 
-loses-first : (m : Held) (p : Pin) (ps : List Pin) → p.held ≡ m → Loses m (p ∷ ps) ps
-loses-first m p ps e = record { front = []; pin = p; back = ps; is = refl; left = refl; of = e }
-
 -- the one under a key, by a test of keys, and the list without it
 abbrev pub one_of : {K : Type 0} → (K → Bool) → List (K × Held) → Option Held
 one_of test [] = None
@@ -38,7 +35,7 @@ loses-one : {K : Type 0} (give : Holder → Held → List (K × Held)) (test : K
 unfolding gather
 loses-one {K} give test holder d m p ps less t rest e = by (p.actor == d) (t.tells p.holder) e where
   at : (b : Bool) (k : K) → test k ≡ b → cond b (Some p.held) (one_of test (gather give d ps)) ≡ Some m → Loses m (p ∷ ps) (cond b ps (p ∷ less))
-  at true k is f = loses-first m p ps (same_Some _ _ f)
+  at true k is f = record { front = []; pin = p; back = ps; is = refl; left = refl; of = (same_Some _ _ f) }
   at false k is f = loses-later m p ps less (rest f)
 
   by : (b : Bool) → ((k : K) × ((q : Held) → give p.holder q ≡ (k, q) ∷ []) × (is_holder p.holder holder ≡ test k)) ⊎ (((q : Held) → give p.holder q ≡ []) × (is_holder p.holder holder ≡ false))
@@ -203,9 +200,6 @@ leg-agrees h d p number seen answer kept m a = mappings-same kept _ _ _ _ (sym (
 count-append : (f : Pin → Bool) (front back : List Pin) → count_by f (front ++ back) ≡ count_by f front + count_by f back
 count-append f front back = sum_by-append (λ (p : Pin). cond (f p) 1 0) front back
 
-count-cons : (f : Pin → Bool) (p : Pin) (ps : List Pin) → count_by f (p ∷ ps) ≡ cond (f p) 1 0 + count_by f ps
-count-cons f p ps = sum_by-cons (λ (p : Pin). cond (f p) 1 0) p ps
-
 abbrev pub hits : Held → ℕ → ℕ → Dir → Bool
 hits m t r k = (m.dom.0 == t) && (m.gref.0 == r) && same_dir m.dir k
 
@@ -215,7 +209,7 @@ count-less m whole less t r k l = let f : Pin → Bool = is_pin_on t r k in
     let one : cond (f l.pin) 1 0 ≡ cond (hits m t r k) 1 0 = ap (λ (p : Held). cond (hits p t r k) 1 0) l.of in
     let all : count_by f whole ≡ count_by f l.front + count_by f (l.pin ∷ l.back) = ap (count_by f) l.is ∙ count-append f l.front (l.pin ∷ l.back) in
     let some : count_by f less ≡ count_by f l.front + count_by f l.back = ap (count_by f) l.left ∙ count-append f l.front l.back in
-    let first : count_by f (l.pin ∷ l.back) ≡ cond (f l.pin) 1 0 + count_by f l.back = count-cons f l.pin l.back in
+    let first : count_by f (l.pin ∷ l.back) ≡ cond (f l.pin) 1 0 + count_by f l.back = sum_by-cons (λ (p : Pin). cond (f p) 1 0) l.pin l.back in
     sums (count_by f whole) (count_by f less) (count_by f l.front) (count_by f l.back) (count_by f (l.pin ∷ l.back)) (cond (f l.pin) 1 0) (cond (hits m t r k) 1 0) one all some first
   where
     sums : (whole less front back more one hit : ℕ) → one ≡ hit → whole ≡ front + more → less ≡ front + back → more ≡ one + back → whole ≡ hit + less
@@ -224,10 +218,6 @@ count-less m whole less t r k l = let f : Pin → Bool = is_pin_on t r k in
 all-drop : (P : Pin → Type 0) (front : List Pin) (p : Pin) (back : List Pin) → All P (front ++ p ∷ back) → All P (front ++ back)
 all-drop P [] p back a = All-tail P p back a
 all-drop P (x ∷ front) p back a = All-cons P x (front ++ back) (All-head P x (front ++ p ∷ back) a) (all-drop P front p back (All-tail P x (front ++ p ∷ back) a))
-
--- what holds of all pins holds of those that are left
-all-less : (P : Pin → Type 0) (m : Held) (whole less : List Pin) → Loses m whole less → All P whole → All P less
-all-less P m whole less l a = subst (All P) (sym l.left) (all-drop P l.front l.pin l.back (subst (All P) l.is a))
 
 -- an item after which one pin less is live
 abbrev Shrinks : History → Item → Held → Type 0
@@ -280,9 +270,6 @@ unpinned-slots h i p q slots b keeps shrinks is was =
     slots-agree h (i ∷ h) p.dom.0 q p.gref.0 (slot_after (Unpinned p.dir)) slots b is was
     (λ on old a. slot-down h i p q old keeps shrinks on a) (λ k old off a. slot-stays h i p q k old keeps shrinks off a)
 
-unpins-keeps : (d : DomId) (p : Held) (holder : Holder) (seen : Seen) (answer : Option Answer) → KeepsEntries (unpins d p holder seen answer)
-unpins-keeps d p holder seen answer = record { changes = λ r. refl; stores = λ r which. refl; header = refl }
-
 le-lt : (a b n : ℕ) → a ≤ b → b < n → a < n
 le-lt a b n e f = omega arith
 
@@ -298,7 +285,7 @@ pub unpin-stands : (s : Setting) (h : History) (xs zs : List State) (x : State) 
 unpin-stands s h xs zs x p holder seen answer kept o st here a becomes loses maps call given =
     keeps-stands s i h xs zs keeps st
     (slots-stand s i h xs zs x kept o p.dom.0 p.gref.0 (Unpinned p.dir) keeps refl st here a becomes (λ z slots b is was. unpinned-slots h i p z slots b keeps shrinks is was) maps call given)
-    (subst (All (IsLawful s)) (sym (unpinned-live h x.id p holder seen answer)) (all-less (IsLawful s) p (live h) (without x.id.0 holder (live h)) loses st.lawful))
+    (subst (All (IsLawful s)) (sym (unpinned-live h x.id p holder seen answer)) (subst (All (IsLawful s)) (sym loses.left) (all-drop (IsLawful s) loses.front loses.pin loses.back (subst (All (IsLawful s)) loses.is st.lawful))))
     (λ t r within. let was = counts-fit s h t r (st.words t r within) in
     (le-lt (reads_at (i ∷ h) t r) (reads_at h t r) (MAX_PINS + 1) (shrunk-le h i p t r Read shrinks) was.0, le-lt (writes_at (i ∷ h) t r) (writes_at h t r) (MAX_PINS + 1) (shrunk-le h i p t r Write shrinks) was.1))
     (λ t r none. let was = st.free t r none in
@@ -308,7 +295,7 @@ unpin-stands s h xs zs x p holder seen answer kept o st here a becomes loses map
     i = unpins x.id p holder seen answer
 
     keeps : KeepsEntries i
-    keeps = unpins-keeps x.id p holder seen answer
+    keeps = record { changes = λ r. refl; stores = λ r which. refl; header = refl }
 
     shrinks : Shrinks h i p
     shrinks = subst (Loses p (live h)) (sym (unpinned-live h x.id p holder seen answer)) loses
