@@ -57,7 +57,7 @@ fn says_itself(set: &[Element]) -> bool
 }
 
 /// The types of each attribute, by its number.
-#[derive(Debug, Drop)]
+#[derive(Drop)]
 pub struct Members {
     sets: [TypeSet; 256],
 }

@@ -32,6 +32,20 @@ pub fn push_type<N: AsSlice<u8>>(
     Ok(())
 }
 
+// Appends a word and the name of a type.
+fn push_called<N: AsSlice<u8>>(
+    out: &mut Vec<u8>,
+    before: &str,
+    names: &[N],
+    id: TypeId,
+) -> Result<(), AllocError>
+    ensures text { OnOk result (out.new.items ≡ out.old.items ++ before.now ++ type_text N.items names.now id) }
+    ensures stays { OnOk result (AreTexts N.items names.now → StaysText out.old.items out.new.items) }
+{
+    push_text(out, before)?;
+    push_type(out, names, id)
+}
+
 /// Appends what a refusal rests on, where its line names that. After an Err a part of it may be there.
 pub fn push_facts<N: AsSlice<u8>>(
     out: &mut Vec<u8>,
@@ -47,10 +61,8 @@ pub fn push_facts<N: AsSlice<u8>>(
             target,
             perm,
         } => {
-            push_text(out, " source=")?;
-            push_type(out, names, source)?;
-            push_text(out, " target=")?;
-            push_type(out, names, target)?;
+            push_called(out, " source=", names, source)?;
+            push_called(out, " target=", names, target)?;
             push_text(out, " perm=")?;
             push_text(out, perm.name())
         }
