@@ -210,88 +210,58 @@ fn writes_what_it_reads(rt: HostRuntime) {
     }
 }
 
-/// How many flags a decoder takes, and how many it refuses by each field.
-#[derive(Clone, Copy, Debug, Default, PartialEq, Eq)]
-struct Counts {
-    taken: u32,
-    length: u32,
-    kind: u32,
-    reading: u32,
-    writing: u32,
-    pwt: u32,
-    pcd: u32,
-    pat: u32,
-    sub_page: u32,
-    reserved: u32,
-}
-
-impl Counts {
-    fn add(&mut self, read: Result<Entry, Field>) {
-        let count = match read {
-            Ok(_) => &mut self.taken,
-            Err(Field::Length) => &mut self.length,
-            Err(Field::Kind) => &mut self.kind,
-            Err(Field::Reading) => &mut self.reading,
-            Err(Field::Writing) => &mut self.writing,
-            Err(Field::Pwt) => &mut self.pwt,
-            Err(Field::Pcd) => &mut self.pcd,
-            Err(Field::Pat) => &mut self.pat,
-            Err(Field::SubPage) => &mut self.sub_page,
-            Err(Field::Reserved) => &mut self.reserved,
-        };
-        *count = count.wrapping_add(1);
+// What is read of an entry with these flags: in version 1 a page, and in version 2 words that fit each kind.
+fn of_flags(version: u32, flags: u16) -> Result<Entry, Field> {
+    let [low, high] = flags.to_le_bytes();
+    if version == 1 {
+        decode_v1(&[low, high, 2, 0, 5, 0, 0, 0])
+    } else {
+        decode_v2(&[low, high, 2, 0, 3, 0, 0, 0, 7, 0, 0, 0, 0, 0, 0, 0])
     }
 }
 
-// Counted by hand: three of four flags have another type, and of those that are left half have the reading bit, half of
-// the rest the writing bit, and so on to the sub-page bit. 256 have none of these, and two of them no bit from 9 to 15.
-#[test]
-fn takes_two_flags_in_version_1(rt: HostRuntime) {
-    let mut counts = Counts::default();
+// How many flags are refused by a field.
+fn refused(version: u32, field: Field) -> u32 {
+    let mut count: u32 = 0;
     for flags in 0..=u16::MAX {
-        let [low, high] = flags.to_le_bytes();
-        let read = decode_v1(&[low, high, 2, 0, 5, 0, 0, 0]);
-        assert_eq!(rt; read.is_ok(), flags == 1 || flags == 5, "at {flags}");
-        counts.add(read);
+        if of_flags(version, flags) == Err(field) {
+            count = count.wrapping_add(1);
+        }
     }
-    let wanted = Counts {
-        taken: 2,
-        length: 0,
-        kind: 49_152,
-        reading: 8_192,
-        writing: 4_096,
-        pwt: 2_048,
-        pcd: 1_024,
-        pat: 512,
-        sub_page: 256,
-        reserved: 254,
-    };
-    assert_eq!(rt; counts, wanted);
+    count
 }
 
-// Counted by hand: half of the flags have another type, and of those that are left each bit up to PAT takes half. 1,024
-// have none of these: 256 are of type 3 with the sub-page bit, and 6 of the others have no bit from 9 to 15.
+// Counted by hand. In version 1 three of four flags have another type, and of those that are left half have the reading
+// bit, half of the rest the writing bit, and so on to the sub-page bit. 256 have none of these, and two of them no bit
+// from 9 to 15. In version 2 half of the flags have another type, and of those that are left each bit up to PAT takes
+// half. 1,024 have none of these: 256 are of type 3 with the sub-page bit, and 6 of the others have no bit from 9 to 15.
 #[test]
-fn takes_six_flags_in_version_2(rt: HostRuntime) {
-    let mut counts = Counts::default();
-    for flags in 0..=u16::MAX {
-        let [low, high] = flags.to_le_bytes();
-        let read = decode_v2(&[low, high, 2, 0, 3, 0, 0, 0, 7, 0, 0, 0, 0, 0, 0, 0]);
-        let is_taken = matches!(flags, 1 | 3 | 5 | 7 | 257 | 261);
-        assert_eq!(rt; read.is_ok(), is_taken, "at {flags}");
-        counts.add(read);
+fn counts_the_flags_that_are_refused(rt: HostRuntime) {
+    for (field, of_version_1, of_version_2) in [
+        (Field::Length, 0, 0),
+        (Field::Kind, 49_152, 32_768),
+        (Field::Reading, 8_192, 16_384),
+        (Field::Writing, 4_096, 8_192),
+        (Field::Pwt, 2_048, 4_096),
+        (Field::Pcd, 1_024, 2_048),
+        (Field::Pat, 512, 1_024),
+        (Field::SubPage, 256, 256),
+        (Field::Reserved, 254, 762),
+    ] {
+        let told = (refused(1, field), refused(2, field));
+        assert_eq!(rt; told, (of_version_1, of_version_2), "{field:?}");
     }
-    let wanted = Counts {
-        taken: 6,
-        length: 0,
-        kind: 32_768,
-        reading: 16_384,
-        writing: 8_192,
-        pwt: 4_096,
-        pcd: 2_048,
-        pat: 1_024,
-        sub_page: 256,
-        reserved: 762,
-    };
-    assert_eq!(rt; counts, wanted);
+}
+
+// The flags that are taken are two in version 1, and six in version 2.
+#[test]
+fn takes_two_flags_and_six(rt: HostRuntime) {
+    for flags in 0..=u16::MAX {
+        let told = (of_flags(1, flags).is_ok(), of_flags(2, flags).is_ok());
+        let wanted = (
+            matches!(flags, 1 | 5),
+            matches!(flags, 1 | 3 | 5 | 7 | 257 | 261),
+        );
+        assert_eq!(rt; told, wanted, "at {flags}");
+    }
 }

@@ -92,17 +92,24 @@ fn writes_go_on_until_all_is_out(rt: HostRuntime) -> Result<(), Fail> {
     Ok(())
 }
 
+// So many bytes, how many of them go out, and how many still wait.
 #[test]
 fn lines_wait_for_enough_of_them(rt: HostRuntime) -> Result<(), Fail> {
-    let mut writer = Vec::new(rt.alloc());
-    let mut waiting = vec![in rt.alloc(); b'.'; 65_535]?;
-    assert_eq!(rt; send(&mut writer, &mut waiting), Ok(()));
-    assert_eq!(rt; (writer.len(), waiting.len()), (0, 65_535));
-    waiting.push(b'\n')?;
-    assert_eq!(rt; send(&mut writer, &mut waiting), Ok(()));
-    assert_eq!(rt; (writer.len(), waiting.len()), (65_536, 0));
-    assert_eq!(rt; finish(&mut writer, b"end\n"), Ok(()));
-    assert!(rt; writer.as_slice().ends_with(b".\nend\n"));
+    for (length, written, left) in [(65_535, 0, 65_535), (65_536, 65_536, 0)] {
+        let mut writer = Vec::new(rt.alloc());
+        let mut waiting = vec![in rt.alloc(); b'.'; length]?;
+        let sent = send(&mut writer, &mut waiting);
+        let told = (sent, writer.len(), waiting.len());
+        assert_eq!(rt; told, (Ok(()), written, left));
+    }
+    Ok(())
+}
+
+#[test]
+fn last_lines_go_out(rt: HostRuntime) -> Result<(), Fail> {
+    let mut writer = vec![in rt.alloc(); b'.'; 2]?;
+    let ended = finish(&mut writer, b"end\n");
+    assert_eq!(rt; (ended, writer.as_slice()), (Ok(()), b"..end\n".as_slice()));
     Ok(())
 }
 

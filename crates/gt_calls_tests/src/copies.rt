@@ -1,348 +1,593 @@
-//! Copies, as scripts of what their steps see.
-use crate::script::{
-    CALLER, HEADER, MIDDLE, OWNER, Script, goes, known, page, pin, refused, refused_at, rights,
-    three_domains, via,
+//! Copies: what is asked, and the parts of each call.
+use crate::script::Part::{
+    Body, Control, Ends, Header, Leg, LongLeg, Refused, RefusedAt, Step, Try, Unpin,
 };
-use gt_calls::{CopyArgs, End, Handles, Held, Place, Request, Seen, Step, Verdict};
+use crate::script::{CALLER, HEADER, MIDDLE, OWNER, Part, Row};
+use gt_calls::{CopyArgs, End, Held, Place, Request, Seen, Step as CallStep, Verdict};
 use gt_entry::Entry;
-use gt_types::{Dir, DomId, Facts, GrantRef, Memory, Perms, Rule, TypeId};
-use std::alloc::Global;
-use std::test::Fail;
+use gt_types::{Dir, DomId, Facts, GrantRef, Perms, Rule, TypeId};
 
 const SELF: DomId = DomId(0x7FF0);
 
-fn end(ptr: u64, domid: DomId) -> End {
-    End {
-        ptr,
-        domid,
-        offset: 0,
-    }
-}
+// The ends of most copies: the owner's entry 0, the middle domain's entries 0 and 1, and frames of the caller's own.
+const OWNER_0: End = End {
+    ptr: 0,
+    domid: OWNER,
+    offset: 0,
+};
 
-fn copy(source: End, dest: End, flags: u16) -> Request<'static> {
-    Request::Copy(CopyArgs {
-        source,
-        dest,
-        len: 4,
-        flags,
-    })
-}
+const MIDDLE_0: End = End {
+    ptr: 0,
+    domid: MIDDLE,
+    offset: 0,
+};
+
+const MIDDLE_1: End = End { ptr: 1, ..MIDDLE_0 };
+
+const FRAME_3: End = End {
+    ptr: 3,
+    domid: SELF,
+    offset: 0,
+};
+
+const FRAME_4: End = End { ptr: 4, ..FRAME_3 };
+
+const FROM_OWNER: CopyArgs = CopyArgs {
+    source: OWNER_0,
+    dest: FRAME_3,
+    len: 4,
+    flags: 1,
+};
 
 // A copy from an entry of the middle domain to frame 3 of the caller's own.
-fn from_middle() -> Request<'static> {
-    copy(end(0, MIDDLE), end(3, SELF), 1)
-}
+const FROM_MIDDLE: Request = Request::Copy(CopyArgs {
+    source: MIDDLE_0,
+    ..FROM_OWNER
+});
 
 // A copy from one entry of the middle domain to the next.
-fn through_middle() -> Request<'static> {
-    copy(end(0, MIDDLE), end(1, MIDDLE), 3)
-}
+const THROUGH_MIDDLE: Request = Request::Copy(CopyArgs {
+    source: MIDDLE_0,
+    dest: MIDDLE_1,
+    len: 4,
+    flags: 3,
+});
 
-fn place(owner: DomId, frame: u64) -> Place {
-    Place {
-        owner,
-        frame,
-        off: 0,
-    }
-}
+const CALLERS_3: Place = Place {
+    owner: CALLER,
+    frame: 3,
+    off: 0,
+};
 
-fn sub_page(dom: DomId) -> Entry {
-    Entry::Sub {
-        dom,
+const OWNERS_6: Place = Place {
+    owner: OWNER,
+    frame: 6,
+    off: 0,
+};
+
+// A read pin of the owner's page.
+const PAGE: Held = Held {
+    dom: OWNER,
+    gref: GrantRef(0),
+    dir: Dir::Read,
+    entry: Entry::Page {
+        dom: CALLER,
         ro: false,
-        frame: 6,
-        off: 0,
-        len: 8,
-    }
-}
+        frame: 5,
+    },
+    word: 0x1000_3000_0001,
+};
+
+const READ_ONLY_PAGE: Held = Held {
+    entry: Entry::Page {
+        dom: CALLER,
+        ro: true,
+        frame: 5,
+    },
+    word: 0x1000_3000_0005,
+    ..PAGE
+};
+
+// The same page with as many read pins as there can be.
+const FULL_PAGE: Held = Held {
+    word: 0x1000_3000_fff1,
+    ..PAGE
+};
+
+const SUB_FOR_CALLER: Entry = Entry::Sub {
+    dom: CALLER,
+    ro: false,
+    frame: 6,
+    off: 0,
+    len: 8,
+};
+
+const SUB_FOR_MIDDLE: Entry = Entry::Sub {
+    dom: MIDDLE,
+    ro: false,
+    frame: 6,
+    off: 0,
+    len: 8,
+};
+
+const SUB_PAGE: Held = Held {
+    entry: SUB_FOR_CALLER,
+    word: 0x1000_3000_0009,
+    ..PAGE
+};
 
 // The pins of a source through the middle domain: the Via's, and of what it leads to.
-fn source_pins() -> [Held; 2] {
-    [
-        pin(MIDDLE, 0, Dir::Read, via(CALLER, OWNER, 4)),
-        pin(OWNER, 4, Dir::Read, page(MIDDLE, false, 6)),
-    ]
-}
+const SOURCE_VIA: Held = Held {
+    dom: MIDDLE,
+    gref: GrantRef(0),
+    dir: Dir::Read,
+    entry: Entry::Via {
+        dom: CALLER,
+        ro: false,
+        dom2: OWNER,
+        gref: GrantRef(4),
+    },
+    word: 0x1000_3000_0003,
+};
 
-fn dest_pins() -> [Held; 2] {
-    [
-        pin(MIDDLE, 1, Dir::Write, via(CALLER, OWNER, 5)),
-        pin(OWNER, 5, Dir::Write, page(MIDDLE, false, 7)),
-    ]
-}
+const BEHIND_SOURCE: Held = Held {
+    dom: OWNER,
+    gref: GrantRef(4),
+    dir: Dir::Read,
+    entry: Entry::Page {
+        dom: MIDDLE,
+        ro: false,
+        frame: 6,
+    },
+    word: 0x1000_2000_0001,
+};
 
-// The access, and the pins given back, the last one first.
-fn accesses(script: &mut Script, from: Place, to: Place, pins: &[Held]) -> Result<(), Memory> {
-    script.step(Step::Copy { from, to, len: 4 }, Seen::Nothing)?;
-    script.unpin(pins)?;
-    script.ends(Verdict::Granted)
-}
+// Those of a destination.
+const DEST_VIA: Held = Held {
+    dom: MIDDLE,
+    gref: GrantRef(1),
+    dir: Dir::Write,
+    entry: Entry::Via {
+        dom: CALLER,
+        ro: false,
+        dom2: OWNER,
+        gref: GrantRef(5),
+    },
+    word: 0x1000_3000_0003,
+};
 
-type Row = (Request<'static>, Script);
+const BEHIND_DEST: Held = Held {
+    dom: OWNER,
+    gref: GrantRef(5),
+    dir: Dir::Write,
+    entry: Entry::Page {
+        dom: MIDDLE,
+        ro: false,
+        frame: 7,
+    },
+    word: 0x1000_2000_0001,
+};
 
-fn entries_are_copied(alloc: Global) -> Result<Row, Memory> {
-    let mut script = Script::new(alloc);
-    let source = pin(OWNER, 0, Dir::Read, page(CALLER, true, 5));
-    script.leg(source)?;
-    accesses(&mut script, place(OWNER, 5), place(CALLER, 3), &[source])?;
-    Ok((copy(end(0, OWNER), end(3, CALLER), 1), script))
-}
+// In an entry the number of the caller's own domain is no domain, and not the caller.
+const VIA_TO_SELF: Held = Held {
+    entry: Entry::Via {
+        dom: CALLER,
+        ro: false,
+        dom2: SELF,
+        gref: GrantRef(4),
+    },
+    ..SOURCE_VIA
+};
 
-fn own_frames_need_no_leg(alloc: Global) -> Result<Row, Memory> {
-    let mut script = Script::new(alloc);
-    accesses(&mut script, place(CALLER, 3), place(CALLER, 4), &[])?;
-    Ok((copy(end(3, CALLER), end(4, SELF), 0), script))
-}
+const VIA_TO_CALLER: Held = Held {
+    entry: Entry::Via {
+        dom: CALLER,
+        ro: false,
+        dom2: CALLER,
+        gref: GrantRef(4),
+    },
+    ..SOURCE_VIA
+};
 
-fn no_bytes_are_copied_at_the_end_of_a_frame(alloc: Global) -> Result<Row, Memory> {
-    let mut script = Script::new(alloc);
-    let source = pin(OWNER, 0, Dir::Read, page(CALLER, false, 5));
-    script.leg(source)?;
-    let from = Place {
-        owner: OWNER,
-        frame: 5,
-        off: 4_096,
-    };
-    let to = place(CALLER, 3);
-    script.step(Step::Copy { from, to, len: 0 }, Seen::Nothing)?;
-    script.unpin(&[source])?;
-    script.ends(Verdict::Granted)?;
-    let request = Request::Copy(CopyArgs {
-        source: End {
-            ptr: 0,
-            domid: OWNER,
-            offset: 4_096,
+const PAGE_OF_CALLER: Held = Held {
+    dom: CALLER,
+    ..BEHIND_SOURCE
+};
+
+const VIA_BEHIND_SOURCE: Held = Held {
+    entry: Entry::Via {
+        dom: MIDDLE,
+        ro: false,
+        dom2: CALLER,
+        gref: GrantRef(0),
+    },
+    word: 0x1000_2000_0003,
+    ..BEHIND_SOURCE
+};
+
+const PAGE_FOR_CALLER: Held = Held {
+    entry: Entry::Page {
+        dom: CALLER,
+        ro: false,
+        frame: 6,
+    },
+    word: 0x1000_3000_0001,
+    ..BEHIND_SOURCE
+};
+
+const READ_ONLY_BEHIND_DEST: Held = Held {
+    entry: Entry::Page {
+        dom: MIDDLE,
+        ro: true,
+        frame: 7,
+    },
+    word: 0x1000_2000_0005,
+    ..BEHIND_DEST
+};
+
+const SUB_AT_SOURCE: Held = Held {
+    entry: SUB_FOR_CALLER,
+    word: 0x1000_3000_0009,
+    ..SOURCE_VIA
+};
+
+const SUB_BEHIND_SOURCE: Held = Held {
+    entry: SUB_FOR_MIDDLE,
+    word: 0x1000_2000_0009,
+    ..BEHIND_SOURCE
+};
+
+const SUB_AT_DEST: Held = Held {
+    entry: SUB_FOR_CALLER,
+    word: 0x1000_3000_0009,
+    ..DEST_VIA
+};
+
+const SUB_BEHIND_DEST: Held = Held {
+    entry: SUB_FOR_MIDDLE,
+    word: 0x1000_2000_0009,
+    ..BEHIND_DEST
+};
+
+// The access.
+const COPIES_PAGE: Part = Step(
+    CallStep::Copy {
+        from: Place {
+            owner: OWNER,
+            frame: 5,
+            off: 0,
         },
-        dest: end(3, SELF),
-        len: 0,
-        flags: 1,
-    });
-    Ok((request, script))
-}
+        to: CALLERS_3,
+        len: 4,
+    },
+    Seen::Nothing,
+);
 
-fn range_past_a_frame_is_refused(alloc: Global) -> Result<Row, Memory> {
-    let mut script = Script::new(alloc);
-    script.ends(refused(Rule::N3, Facts::None))?;
-    let request = Request::Copy(CopyArgs {
-        source: End {
-            ptr: 0,
-            domid: OWNER,
-            offset: 1,
-        },
-        dest: end(3, SELF),
-        len: 4_096,
-        flags: 1,
-    });
-    Ok((request, script))
-}
+const COPIES_OWNERS_6: Part = Step(
+    CallStep::Copy {
+        from: OWNERS_6,
+        to: CALLERS_3,
+        len: 4,
+    },
+    Seen::Nothing,
+);
 
-fn frame_of_another_domain_is_refused(alloc: Global) -> Result<Row, Memory> {
-    let mut script = Script::new(alloc);
-    script.ends(refused(Rule::N4, Facts::None))?;
-    Ok((copy(end(3, SELF), end(4, OWNER), 0), script))
-}
+const GRANTED: Part = Ends(Verdict::Granted);
 
-fn large_number_is_no_reference(alloc: Global) -> Result<Row, Memory> {
-    let mut script = Script::new(alloc);
-    script.header(OWNER)?;
-    let facts = Facts::Header {
-        dom: OWNER,
-        word: HEADER,
-    };
-    script.ends(refused(Rule::N9, facts))?;
-    Ok((copy(end(4_294_967_296, OWNER), end(3, SELF), 1), script))
-}
+/// The domains that are copied from and to.
+pub const PAIRS: [(DomId, DomId); 7] = [
+    (OWNER, CALLER),
+    (OWNER, MIDDLE),
+    (MIDDLE, CALLER),
+    (MIDDLE, MIDDLE),
+    (CALLER, CALLER),
+    (CALLER, OWNER),
+    (OWNER, OWNER),
+];
 
-// The page that was looked at first is a sub-page at the next try.
-fn missed_try_meets_another_kind(alloc: Global) -> Result<Row, Memory> {
-    let mut script = Script::new(alloc);
-    let missed = pin(OWNER, 0, Dir::Read, page(CALLER, false, 5));
-    let source = pin(OWNER, 0, Dir::Read, sub_page(CALLER));
-    script.header(OWNER)?;
-    script.try_pin(missed, Seen::Missed(source.word))?;
-    script.try_pin(source, Seen::Taken)?;
-    accesses(&mut script, place(OWNER, 6), place(CALLER, 3), &[source])?;
-    Ok((copy(end(0, OWNER), end(3, SELF), 1), script))
-}
+/// Copies that all these pairs may make.
+pub const COPIES: [Row; 15] = [
+    // Entries are copied.
+    (
+        CALLER,
+        Request::Copy(CopyArgs {
+            dest: End {
+                domid: CALLER,
+                ..FRAME_3
+            },
+            ..FROM_OWNER
+        }),
+        7,
+        &[
+            Leg(READ_ONLY_PAGE),
+            COPIES_PAGE,
+            Unpin(&[READ_ONLY_PAGE]),
+            GRANTED,
+        ],
+    ),
+    // Own frames need no leg.
+    (
+        CALLER,
+        Request::Copy(CopyArgs {
+            source: End {
+                domid: CALLER,
+                ..FRAME_3
+            },
+            dest: FRAME_4,
+            len: 4,
+            flags: 0,
+        }),
+        2,
+        &[
+            Step(
+                CallStep::Copy {
+                    from: CALLERS_3,
+                    to: Place {
+                        frame: 4,
+                        ..CALLERS_3
+                    },
+                    len: 4,
+                },
+                Seen::Nothing,
+            ),
+            GRANTED,
+        ],
+    ),
+    // No bytes are copied at the end of a frame.
+    (
+        CALLER,
+        Request::Copy(CopyArgs {
+            source: End {
+                offset: 4_096,
+                ..OWNER_0
+            },
+            len: 0,
+            ..FROM_OWNER
+        }),
+        7,
+        &[
+            Leg(PAGE),
+            Step(
+                CallStep::Copy {
+                    from: Place {
+                        owner: OWNER,
+                        frame: 5,
+                        off: 4_096,
+                    },
+                    to: CALLERS_3,
+                    len: 0,
+                },
+                Seen::Nothing,
+            ),
+            Unpin(&[PAGE]),
+            GRANTED,
+        ],
+    ),
+    // A range past a frame is refused.
+    (
+        CALLER,
+        Request::Copy(CopyArgs {
+            source: End {
+                offset: 1,
+                ..OWNER_0
+            },
+            len: 4_096,
+            ..FROM_OWNER
+        }),
+        1,
+        &[Refused(Rule::N3, Facts::None)],
+    ),
+    // A frame of another domain is refused.
+    (
+        CALLER,
+        Request::Copy(CopyArgs {
+            source: FRAME_3,
+            dest: End {
+                domid: OWNER,
+                ..FRAME_4
+            },
+            len: 4,
+            flags: 0,
+        }),
+        1,
+        &[Refused(Rule::N4, Facts::None)],
+    ),
+    // A large number is no reference.
+    (
+        CALLER,
+        Request::Copy(CopyArgs {
+            source: End {
+                ptr: 4_294_967_296,
+                ..OWNER_0
+            },
+            ..FROM_OWNER
+        }),
+        2,
+        &[
+            Header(OWNER),
+            Refused(
+                Rule::N9,
+                Facts::Header {
+                    dom: OWNER,
+                    word: HEADER,
+                },
+            ),
+        ],
+    ),
+    // The page that was looked at first is a sub-page at the next try.
+    (
+        CALLER,
+        Request::Copy(FROM_OWNER),
+        11,
+        &[
+            Header(OWNER),
+            Try(PAGE, Seen::Missed(0x1000_3000_0009)),
+            Try(SUB_PAGE, Seen::Taken),
+            COPIES_OWNERS_6,
+            Unpin(&[SUB_PAGE]),
+            GRANTED,
+        ],
+    ),
+    // A word with all pins is looked at twice: the first time it is another then, the second time not.
+    (
+        CALLER,
+        Request::Copy(FROM_OWNER),
+        8,
+        &[
+            Header(OWNER),
+            Control(FULL_PAGE),
+            Body(FULL_PAGE),
+            Control(PAGE),
+            Control(FULL_PAGE),
+            Body(FULL_PAGE),
+            Control(FULL_PAGE),
+            RefusedAt(Rule::N17, FULL_PAGE),
+        ],
+    ),
+    // A Via to no domain is refused.
+    (
+        CALLER,
+        FROM_MIDDLE,
+        6,
+        &[
+            Leg(VIA_TO_SELF),
+            Unpin(&[VIA_TO_SELF]),
+            Refused(Rule::N1, Facts::None),
+        ],
+    ),
+    // A Via leads to the caller.
+    (
+        CALLER,
+        FROM_MIDDLE,
+        12,
+        &[
+            Leg(VIA_TO_CALLER),
+            Leg(PAGE_OF_CALLER),
+            Step(
+                CallStep::Copy {
+                    from: Place {
+                        frame: 6,
+                        ..CALLERS_3
+                    },
+                    to: CALLERS_3,
+                    len: 4,
+                },
+                Seen::Nothing,
+            ),
+            Unpin(&[PAGE_OF_CALLER, VIA_TO_CALLER]),
+            GRANTED,
+        ],
+    ),
+    // A Via to a Via is refused.
+    (
+        CALLER,
+        FROM_MIDDLE,
+        8,
+        &[
+            Leg(SOURCE_VIA),
+            Header(OWNER),
+            Control(VIA_BEHIND_SOURCE),
+            Unpin(&[SOURCE_VIA]),
+            RefusedAt(Rule::N15, VIA_BEHIND_SOURCE),
+        ],
+    ),
+    // Beyond a Via the entry must name the owner of the Via, and not the caller.
+    (
+        CALLER,
+        FROM_MIDDLE,
+        8,
+        &[
+            Leg(SOURCE_VIA),
+            Header(OWNER),
+            Control(PAGE_FOR_CALLER),
+            Unpin(&[SOURCE_VIA]),
+            RefusedAt(Rule::N11, PAGE_FOR_CALLER),
+        ],
+    ),
+    // Both ends go through Vias.
+    (
+        CALLER,
+        THROUGH_MIDDLE,
+        22,
+        &[
+            Leg(SOURCE_VIA),
+            Leg(BEHIND_SOURCE),
+            Leg(DEST_VIA),
+            Leg(BEHIND_DEST),
+            Step(
+                CallStep::Copy {
+                    from: OWNERS_6,
+                    to: Place {
+                        frame: 7,
+                        ..OWNERS_6
+                    },
+                    len: 4,
+                },
+                Seen::Nothing,
+            ),
+            Unpin(&[BEHIND_DEST, DEST_VIA, BEHIND_SOURCE, SOURCE_VIA]),
+            GRANTED,
+        ],
+    ),
+    // The last leg is refused.
+    (
+        CALLER,
+        THROUGH_MIDDLE,
+        18,
+        &[
+            Leg(SOURCE_VIA),
+            Leg(BEHIND_SOURCE),
+            Leg(DEST_VIA),
+            Header(OWNER),
+            Control(READ_ONLY_BEHIND_DEST),
+            Unpin(&[DEST_VIA, BEHIND_SOURCE, SOURCE_VIA]),
+            RefusedAt(Rule::N13, READ_ONLY_BEHIND_DEST),
+        ],
+    ),
+    // The longest copy: each first leg misses a sub-page three times, and each second leg takes one in its last try.
+    (
+        CALLER,
+        THROUGH_MIDDLE,
+        72,
+        &[
+            LongLeg(SUB_AT_SOURCE, SOURCE_VIA),
+            LongLeg(SUB_BEHIND_SOURCE, SUB_BEHIND_SOURCE),
+            LongLeg(SUB_AT_DEST, DEST_VIA),
+            LongLeg(SUB_BEHIND_DEST, SUB_BEHIND_DEST),
+            Step(
+                CallStep::Copy {
+                    from: OWNERS_6,
+                    to: OWNERS_6,
+                    len: 4,
+                },
+                Seen::Nothing,
+            ),
+            Unpin(&[SUB_BEHIND_DEST, DEST_VIA, SUB_BEHIND_SOURCE, SOURCE_VIA]),
+            GRANTED,
+        ],
+    ),
+];
 
-// A word with all pins is looked at twice: the first time it is another then, the second time not.
-fn second_look_finds_all_pins(alloc: Global) -> Result<Row, Memory> {
-    let mut script = Script::new(alloc);
-    let idle = pin(OWNER, 0, Dir::Read, page(CALLER, false, 5));
-    let full = Held {
-        word: idle.word | 0xfff0,
-        ..idle
-    };
-    script.header(OWNER)?;
-    script.control(full)?;
-    script.body(full)?;
-    script.control(idle)?;
-    script.control(full)?;
-    script.body(full)?;
-    script.control(full)?;
-    script.ends(refused_at(Rule::N17, full))?;
-    Ok((copy(end(0, OWNER), end(3, SELF), 1), script))
-}
-
-fn via_to_no_domain_is_refused(alloc: Global) -> Result<Row, Memory> {
-    let mut script = Script::new(alloc);
-    // In an entry this number is no domain, and not the caller.
-    let source = pin(MIDDLE, 0, Dir::Read, via(CALLER, SELF, 4));
-    script.leg(source)?;
-    script.unpin(&[source])?;
-    script.ends(refused(Rule::N1, Facts::None))?;
-    Ok((from_middle(), script))
-}
-
-fn via_leads_to_the_caller(alloc: Global) -> Result<Row, Memory> {
-    let mut script = Script::new(alloc);
-    let first = pin(MIDDLE, 0, Dir::Read, via(CALLER, CALLER, 4));
-    let second = pin(CALLER, 4, Dir::Read, page(MIDDLE, false, 6));
-    script.leg(first)?;
-    script.leg(second)?;
-    accesses(
-        &mut script,
-        place(CALLER, 6),
-        place(CALLER, 3),
-        &[second, first],
-    )?;
-    Ok((from_middle(), script))
-}
-
-fn via_to_a_via_is_refused(alloc: Global) -> Result<Row, Memory> {
-    let mut script = Script::new(alloc);
-    let [first, _] = source_pins();
-    let second = pin(OWNER, 4, Dir::Read, via(MIDDLE, CALLER, 0));
-    script.leg(first)?;
-    script.header(OWNER)?;
-    script.control(second)?;
-    script.unpin(&[first])?;
-    script.ends(refused_at(Rule::N15, second))?;
-    Ok((from_middle(), script))
-}
-
-// Beyond a Via the entry must name the owner of the Via, and not the caller.
-fn second_entry_names_another_domain(alloc: Global) -> Result<Row, Memory> {
-    let mut script = Script::new(alloc);
-    let [first, _] = source_pins();
-    let second = pin(OWNER, 4, Dir::Read, page(CALLER, false, 6));
-    script.leg(first)?;
-    script.header(OWNER)?;
-    script.control(second)?;
-    script.unpin(&[first])?;
-    script.ends(refused_at(Rule::N11, second))?;
-    Ok((from_middle(), script))
-}
-
-fn both_ends_go_through_vias(alloc: Global) -> Result<Row, Memory> {
-    let mut script = Script::new(alloc);
-    let [first, second] = source_pins();
-    let [third, fourth] = dest_pins();
-    for held in [first, second, third, fourth] {
-        script.leg(held)?;
-    }
-    let pins = [fourth, third, second, first];
-    accesses(&mut script, place(OWNER, 6), place(OWNER, 7), &pins)?;
-    Ok((through_middle(), script))
-}
-
-fn last_leg_is_refused(alloc: Global) -> Result<Row, Memory> {
-    let mut script = Script::new(alloc);
-    let [first, second] = source_pins();
-    let [third, _] = dest_pins();
-    for held in [first, second, third] {
-        script.leg(held)?;
-    }
-    let fourth = pin(OWNER, 5, Dir::Write, page(MIDDLE, true, 7));
-    script.header(OWNER)?;
-    script.control(fourth)?;
-    script.unpin(&[third, second, first])?;
-    script.ends(refused_at(Rule::N13, fourth))?;
-    Ok((through_middle(), script))
-}
-
-// Each first leg misses a sub-page three times, and each second leg takes one in its last try.
-fn longest_copy(alloc: Global) -> Result<Row, Memory> {
-    let mut script = Script::new(alloc);
-    let [first, _] = source_pins();
-    let [third, _] = dest_pins();
-    let second = pin(OWNER, 4, Dir::Read, sub_page(MIDDLE));
-    let fourth = pin(OWNER, 5, Dir::Write, sub_page(MIDDLE));
-    script.long_leg(pin(MIDDLE, 0, Dir::Read, sub_page(CALLER)), first)?;
-    script.long_leg(second, second)?;
-    script.long_leg(pin(MIDDLE, 1, Dir::Write, sub_page(CALLER)), third)?;
-    script.long_leg(fourth, fourth)?;
-    let pins = [fourth, third, second, first];
-    accesses(&mut script, place(OWNER, 6), place(OWNER, 6), &pins)?;
-    Ok((through_middle(), script))
-}
-
-fn rows(alloc: Global) -> Result<Vec<Row>, Memory> {
-    Ok(vec![in alloc;
-        entries_are_copied(alloc)?,
-        own_frames_need_no_leg(alloc)?,
-        no_bytes_are_copied_at_the_end_of_a_frame(alloc)?,
-        range_past_a_frame_is_refused(alloc)?,
-        frame_of_another_domain_is_refused(alloc)?,
-        large_number_is_no_reference(alloc)?,
-        missed_try_meets_another_kind(alloc)?,
-        second_look_finds_all_pins(alloc)?,
-        via_to_no_domain_is_refused(alloc)?,
-        via_leads_to_the_caller(alloc)?,
-        via_to_a_via_is_refused(alloc)?,
-        second_entry_names_another_domain(alloc)?,
-        both_ends_go_through_vias(alloc)?,
-        last_leg_is_refused(alloc)?,
-    ]?)
-}
-
-#[test]
-fn copies_go_by_their_legs(rt: HostRuntime) -> Result<(), Fail> {
-    let alloc = rt.alloc();
-    let config = three_domains(alloc)?;
-    let pairs = [
-        (OWNER, CALLER),
-        (OWNER, MIDDLE),
-        (MIDDLE, CALLER),
-        (MIDDLE, MIDDLE),
-        (CALLER, CALLER),
-        (CALLER, OWNER),
-        (OWNER, OWNER),
-    ];
-    let rights = rights(alloc, &[Perms::COPY], &pairs)?;
-    let none = Handles::new(alloc);
-    let known = known(&config, &rights, &[], &none);
-    for row in &rows(alloc)? {
-        assert!(rt;
-            goes(&known, CALLER, row.0, &row.1),
-            "row {}",
-            row.1.lines.len()
-        );
-    }
-    let (request, script) = longest_copy(alloc)?;
-    assert_eq!(rt; script.lines.len(), 72);
-    assert!(rt; goes(&known, CALLER, request, &script));
-    Ok(())
-}
-
-#[test]
-fn via_asks_for_the_owners_of_both_frames(rt: HostRuntime) -> Result<(), Fail> {
-    let alloc = rt.alloc();
-    let config = three_domains(alloc)?;
-    let rights = rights(alloc, &[Perms::COPY], &[(CALLER, MIDDLE)])?;
-    let none = Handles::new(alloc);
-    let known = known(&config, &rights, &[], &none);
-    let mut script = Script::new(alloc);
-    let [third, _] = dest_pins();
-    script.leg(third)?;
-    script.unpin(&[third])?;
-    let facts = Facts::Policy {
-        source: TypeId(CALLER.0),
-        target: TypeId(OWNER.0),
-        perm: Perms::COPY,
-    };
-    script.ends(refused(Rule::N5, facts))?;
-    let request = copy(end(3, SELF), end(1, MIDDLE), 2);
-    assert!(rt; goes(&known, CALLER, request, &script));
-    Ok(())
-}
+/// Where the caller may copy to the middle domain alone: a Via asks for the owners of both frames.
+pub const TO_MIDDLE: [Row; 1] = [(
+    CALLER,
+    Request::Copy(CopyArgs {
+        source: FRAME_3,
+        dest: MIDDLE_1,
+        len: 4,
+        flags: 2,
+    }),
+    6,
+    &[
+        Leg(DEST_VIA),
+        Unpin(&[DEST_VIA]),
+        Refused(
+            Rule::N5,
+            Facts::Policy {
+                source: TypeId(3),
+                target: TypeId(1),
+                perm: Perms::COPY,
+            },
+        ),
+    ],
+)];

@@ -1,126 +1,161 @@
-//! Owners' calls, as scripts of what their steps see.
-use crate::script::{
-    CALLER, OWNER, Script, busy, goes, known, page, pin, refused, refused_at, rights, three_domains,
+//! Maps, owners' calls and calls by a handle: what is asked, and the parts of each call.
+use crate::script::Part::{Ends, Header, Leg, Refused, RefusedAt, Step, Try};
+use crate::script::{CALLER, OWNER, Row};
+use gt_calls::{Change, Half, Handle, Held, Holder, Request, Seen, Step as CallStep, Verdict};
+use gt_entry::Entry;
+use gt_types::{Dir, Facts, GrantRef, Rule};
+
+/// The entry of the owner's page.
+pub const PAGE: Entry = Entry::Page {
+    dom: CALLER,
+    ro: false,
+    frame: 5,
 };
-use gt_calls::{Change, Half, Handles, Held, Holder, Own, Request, Seen, Step, Verdict};
-use gt_types::{Dir, Facts, GrantRef, Perms, Rule};
-use std::test::Fail;
 
-const GREF: GrantRef = GrantRef(0);
+/// The pin of a map of it.
+pub const MAPPING: Held = Held {
+    dom: OWNER,
+    gref: GrantRef(0),
+    dir: Dir::Write,
+    entry: PAGE,
+    word: 0x1000_3000_0001,
+};
 
-// The pin of a map of the owner's page.
-fn mapping() -> Held {
-    pin(OWNER, 0, Dir::Write, page(CALLER, false, 5))
-}
+// The same pin where the entry has one read pin more.
+const BUSY: Held = Held {
+    word: 0x1000_3000_0011,
+    ..MAPPING
+};
 
-fn map() -> Request<'static> {
-    Request::Map {
-        dom: OWNER,
-        gref: GREF,
-        flags: 2,
-    }
-}
+const MAP: Request = Request::Map {
+    dom: OWNER,
+    gref: GrantRef(0),
+    flags: 2,
+};
 
-#[test]
-fn map_pins_what_it_looked_at(rt: HostRuntime) -> Result<(), Fail> {
-    let alloc = rt.alloc();
-    let config = three_domains(alloc)?;
-    let asked = [Perms::MAP_READ, Perms::MAP_WRITE];
-    let rights = rights(alloc, &asked, &[(CALLER, OWNER)])?;
-    let none = Handles::new(alloc);
-    let known = known(&config, &rights, &[], &none);
-    let mut taken = Script::new(alloc);
-    taken.leg(mapping())?;
-    taken.ends(Verdict::Mapped(mapping()))?;
-    let mut missed = Script::new(alloc);
-    missed.header(OWNER)?;
-    let found = busy(mapping());
-    for _ in 0..4 {
-        missed.try_pin(mapping(), Seen::Missed(found.word))?;
-    }
-    missed.ends(refused_at(Rule::N18, found))?;
-    for script in [taken, missed] {
-        assert!(rt; goes(&known, CALLER, map(), &script));
-    }
-    Ok(())
-}
+/// A map pins what it looked at, or misses it four times.
+pub const MAPS: [Row; 2] = [
+    (
+        CALLER,
+        MAP,
+        5,
+        &[Leg(MAPPING), Ends(Verdict::Mapped(MAPPING))],
+    ),
+    (
+        CALLER,
+        MAP,
+        14,
+        &[
+            Header(OWNER),
+            Try(MAPPING, Seen::Missed(0x1000_3000_0011)),
+            Try(MAPPING, Seen::Missed(0x1000_3000_0011)),
+            Try(MAPPING, Seen::Missed(0x1000_3000_0011)),
+            Try(MAPPING, Seen::Missed(0x1000_3000_0011)),
+            RefusedAt(Rule::N18, BUSY),
+        ],
+    ),
+];
 
-#[test]
-fn owners_look_at_nothing(rt: HostRuntime) -> Result<(), Fail> {
-    let alloc = rt.alloc();
-    let config = three_domains(alloc)?;
-    let rights = rights(alloc, &[], &[])?;
-    let none = Handles::new(alloc);
-    let entry = page(CALLER, false, 5);
-    let before = [Own::new(0)];
-    let mut grant = Script::new(alloc);
-    let stores = Step::StoreBody {
-        gref: GREF,
-        half: Half::First,
-        word: 5,
-    };
-    grant.step(stores, Seen::Nothing)?;
-    let publishes = Step::Exchange {
-        gref: GREF,
-        looked: 0,
-        change: Change::Publish(entry),
-    };
-    grant.step(publishes, Seen::Taken)?;
-    grant.ends(Verdict::Granted)?;
-    let bare = known(&config, &rights, &before, &none);
-    assert!(rt; goes(&bare, OWNER, Request::Grant { gref: GREF, entry }, &grant));
-    let after = [Own::new(0).after(Change::Publish(entry))];
-    let found = busy(mapping());
-    let mut revoke = Script::new(alloc);
-    let clears = Step::Exchange {
-        gref: GREF,
-        looked: mapping().word,
-        change: Change::Revoke,
-    };
-    revoke.step(clears, Seen::Missed(found.word))?;
-    revoke.ends(refused_at(Rule::N19, found))?;
-    let known = known(&config, &rights, &after, &none);
-    assert!(rt; goes(&known, OWNER, Request::Revoke { gref: GREF }, &revoke));
-    Ok(())
-}
+/// An owner looks at nothing: its entry 0 was never granted, and its entry 1 is of the page.
+pub const OWNERS: [Row; 2] = [
+    (
+        OWNER,
+        Request::Grant {
+            gref: GrantRef(0),
+            entry: PAGE,
+        },
+        3,
+        &[
+            Step(
+                CallStep::StoreBody {
+                    gref: GrantRef(0),
+                    half: Half::First,
+                    word: 5,
+                },
+                Seen::Nothing,
+            ),
+            Step(
+                CallStep::Exchange {
+                    gref: GrantRef(0),
+                    looked: 0,
+                    change: Change::Publish(PAGE),
+                },
+                Seen::Taken,
+            ),
+            Ends(Verdict::Granted),
+        ],
+    ),
+    (
+        OWNER,
+        Request::Revoke { gref: GrantRef(1) },
+        2,
+        &[
+            Step(
+                CallStep::Exchange {
+                    gref: GrantRef(1),
+                    looked: 0x1000_3000_0001,
+                    change: Change::Revoke,
+                },
+                Seen::Missed(0x1000_3000_0011),
+            ),
+            RefusedAt(
+                Rule::N19,
+                Held {
+                    gref: GrantRef(1),
+                    ..BUSY
+                },
+            ),
+        ],
+    ),
+];
 
-#[test]
-fn mappings_are_named_by_their_handles(rt: HostRuntime) -> Result<(), Fail> {
-    let alloc = rt.alloc();
-    let config = three_domains(alloc)?;
-    let rights = rights(alloc, &[Perms::UNMAP], &[(CALLER, OWNER)])?;
-    let mut mappings = Handles::new(alloc);
-    mappings.reserve()?;
-    let older = mappings.insert(mapping());
-    let _ = mappings.take(older);
-    let handle = mappings.insert(mapping());
-    assert_eq!(rt; handle.key, older.key);
-    let known = known(&config, &rights, &[], &mappings);
-    let mut load = Script::new(alloc);
-    let reads = Step::Read {
-        dom: OWNER,
-        frame: 5,
-        off: 9,
-        len: 2,
-    };
-    load.step(reads, Seen::Nothing)?;
-    load.ends(Verdict::Granted)?;
-    let request = Request::Load {
-        handle,
-        off: 9,
-        len: 2,
-    };
-    assert!(rt; goes(&known, CALLER, request, &load));
-    let mut unmap = Script::new(alloc);
-    let unpins = Step::Unpin {
-        held: mapping(),
-        holder: Holder::Mapping(handle),
-    };
-    unmap.step(unpins, Seen::Nothing)?;
-    unmap.ends(Verdict::Granted)?;
-    assert!(rt; goes(&known, CALLER, Request::Unmap { handle }, &unmap));
-    let mut spent = Script::new(alloc);
-    spent.ends(refused(Rule::N6, Facts::None))?;
-    assert!(rt; goes(&known, CALLER, Request::Unmap { handle: older }, &spent));
-    Ok(())
-}
+// A handle that was taken, and the one that has its key now.
+pub const OLDER: Handle = Handle { serial: 0, key: 0 };
+
+pub const HANDLE: Handle = Handle { serial: 1, key: 0 };
+
+/// Mappings are named by their handles.
+pub const BY_HANDLE: [Row; 3] = [
+    (
+        CALLER,
+        Request::Load {
+            handle: HANDLE,
+            off: 9,
+            len: 2,
+        },
+        2,
+        &[
+            Step(
+                CallStep::Read {
+                    dom: OWNER,
+                    frame: 5,
+                    off: 9,
+                    len: 2,
+                },
+                Seen::Nothing,
+            ),
+            Ends(Verdict::Granted),
+        ],
+    ),
+    (
+        CALLER,
+        Request::Unmap { handle: HANDLE },
+        2,
+        &[
+            Step(
+                CallStep::Unpin {
+                    held: MAPPING,
+                    holder: Holder::Mapping(HANDLE),
+                },
+                Seen::Nothing,
+            ),
+            Ends(Verdict::Granted),
+        ],
+    ),
+    (
+        CALLER,
+        Request::Unmap { handle: OLDER },
+        1,
+        &[Refused(Rule::N6, Facts::None)],
+    ),
+];

@@ -4,8 +4,8 @@ use gt_calls::{
 };
 use gt_entry::{Entry, Header};
 use gt_types::{
-    Config, Denial, Dir, DomId, DomainConfig, Facts, GrantRef, Memory, Perms, Rule, Triple,
-    Triples, TypeId,
+    Config, Denial, DomId, DomainConfig, Facts, GrantRef, Memory, Perms, Rule, Triple, Triples,
+    TypeId,
 };
 use std::alloc::Global;
 
@@ -18,38 +18,95 @@ pub const CALLER: DomId = DomId(3);
 /// The header word of a table of version 2 and one frame.
 pub const HEADER: u64 = 6;
 
+/// The caller, what it asks, how many actions its call gives, and the parts of the call.
+pub type Row = (DomId, Request<'static>, usize, &'static [Part]);
+
+/// A part of a call: some of its steps with what they see, or its end.
+#[derive(Clone, Copy)]
+pub enum Part {
+    /// This step, which sees this.
+    Step(Step, Seen),
+    /// A look at the header of a domain.
+    Header(DomId),
+    /// A look at the control word of the entry of this pin, which is the word that the pin is taken from.
+    Control(Held),
+    /// The looks at the body words of the entry of this pin.
+    Body(Held),
+    /// A try of this pin: the looks at its entry, and the pin, which sees this.
+    Try(Held, Seen),
+    /// A leg whose first try takes this pin.
+    Leg(Held),
+    /// A leg that misses the first pin three times, since there is a read pin more, before it takes the other.
+    LongLeg(Held, Held),
+    /// These pins are given back, the last one first.
+    Unpin(&'static [Held]),
+    Ends(Verdict),
+    Refused(Rule, Facts),
+    /// A refusal by the word found in the entry of this pin.
+    RefusedAt(Rule, Held),
+}
+
 /// A driver's part of a call: what each step sees, and the action that the call then gives.
 #[derive(Drop)]
 pub struct Script {
     pub lines: Vec<(Seen, Action)>,
-    pub seen: Seen,
+    seen: Seen,
 }
 
 impl Script {
-    pub fn new(alloc: Global) -> Script {
-        Script {
+    /// The script of these parts.
+    pub fn new(alloc: Global, parts: &[Part]) -> Result<Script, Memory> {
+        let mut script = Script {
             lines: Vec::new(alloc),
             seen: Seen::Nothing,
+        };
+        for part in parts {
+            script.add(*part)?;
+        }
+        Ok(script)
+    }
+
+    fn add(&mut self, part: Part) -> Result<(), Memory> {
+        match part {
+            Part::Step(step, seen) => self.step(step, seen),
+            Part::Header(dom) => self.header(dom),
+            Part::Control(held) => self.control(held),
+            Part::Body(held) => self.body(held),
+            Part::Try(held, seen) => self.try_pin(held, seen),
+            Part::Leg(held) => self.leg(held),
+            Part::LongLeg(missed, held) => self.long_leg(missed, held),
+            Part::Unpin(pins) => self.unpin(pins),
+            Part::Ends(verdict) => self.ends(verdict),
+            Part::Refused(rule, facts) => self.ends(Verdict::Refused(Denial::new(rule, facts))),
+            Part::RefusedAt(rule, held) => {
+                let Held {
+                    dom,
+                    gref,
+                    word,
+                    ..
+                } = held;
+                let facts = Facts::Entry { dom, gref, word };
+                self.ends(Verdict::Refused(Denial::new(rule, facts)))
+            }
         }
     }
 
-    /// The call makes this step, which sees this.
-    pub fn step(&mut self, step: Step, seen: Seen) -> Result<(), Memory> {
+    fn step(&mut self, step: Step, seen: Seen) -> Result<(), Memory> {
         self.lines.push((self.seen, Action::Step(step)))?;
         self.seen = seen;
         Ok(())
     }
 
-    pub fn ends(&mut self, verdict: Verdict) -> Result<(), Memory> {
+    fn ends(&mut self, verdict: Verdict) -> Result<(), Memory> {
         self.lines.push((self.seen, Action::Done(verdict)))?;
         Ok(())
     }
 
-    pub fn header(&mut self, dom: DomId) -> Result<(), Memory> {
+    fn header(&mut self, dom: DomId) -> Result<(), Memory> {
         self.step(Step::LookHeader { dom }, Seen::Word(HEADER))
     }
 
-    pub fn control(&mut self, held: Held) -> Result<(), Memory> {
+    fn control(&mut self, held: Held) -> Result<(), Memory> {
         let step = Step::LookControl {
             dom: held.dom,
             gref: held.gref,
@@ -57,8 +114,7 @@ impl Script {
         self.step(step, Seen::Word(held.word))
     }
 
-    /// The body words of the entry that is tried.
-    pub fn body(&mut self, held: Held) -> Result<(), Memory> {
+    fn body(&mut self, held: Held) -> Result<(), Memory> {
         self.half(held, Half::First, first_body(held.entry))?;
         match held.entry {
             Entry::Sub { off, len, .. } => {
@@ -77,53 +133,37 @@ impl Script {
         self.step(step, Seen::Word(word))
     }
 
-    /// A try of this pin.
-    pub fn try_pin(&mut self, held: Held, seen: Seen) -> Result<(), Memory> {
+    fn try_pin(&mut self, held: Held, seen: Seen) -> Result<(), Memory> {
         self.control(held)?;
         self.body(held)?;
         self.step(Step::Pin { held }, seen)
     }
 
-    /// A leg whose first try takes this pin.
-    pub fn leg(&mut self, held: Held) -> Result<(), Memory> {
+    fn leg(&mut self, held: Held) -> Result<(), Memory> {
         self.header(held.dom)?;
         self.try_pin(held, Seen::Taken)
     }
 
-    /// A leg that misses this pin three times before it takes the other.
-    pub fn long_leg(&mut self, missed: Held, held: Held) -> Result<(), Memory> {
+    fn long_leg(&mut self, missed: Held, held: Held) -> Result<(), Memory> {
         self.header(held.dom)?;
         for _ in 0..3 {
-            self.try_pin(missed, Seen::Missed(busy(missed).word))?;
+            self.try_pin(missed, Seen::Missed(missed.word ^ 16))?;
         }
         self.try_pin(held, Seen::Taken)
     }
 
-    /// These pins are given back, the last one first.
-    pub fn unpin(&mut self, held: &[Held]) -> Result<(), Memory> {
-        let mut number = u8::try_from(held.len()).unwrap_or(0);
-        for pin in held {
+    fn unpin(&mut self, pins: &[Held]) -> Result<(), Memory> {
+        let mut number = u8::try_from(pins.len()).unwrap_or(0);
+        for held in pins {
             number = number.wrapping_sub(1);
             let step = Step::Unpin {
-                held: *pin,
+                held: *held,
                 holder: Holder::Leg(number),
             };
             self.step(step, Seen::Nothing)?;
         }
         Ok(())
     }
-}
-
-/// The idle control word of the entry, of generation 1.
-fn word_of(entry: Entry) -> u64 {
-    let (low, dom, ro) = match entry {
-        Entry::Invalid => (0, DomId(0), false),
-        Entry::Page { dom, ro, .. } => (1, dom, ro),
-        Entry::Sub { dom, ro, .. } => (9, dom, ro),
-        Entry::Via { dom, ro, .. } => (3, dom, ro),
-    };
-    let readonly = if ro { 4 } else { 0 };
-    0x0000_1000_0000_0000 + u64::from(dom.0) * 0x1000_0000 + low + readonly
 }
 
 fn first_body(entry: Entry) -> u64 {
@@ -134,67 +174,32 @@ fn first_body(entry: Entry) -> u64 {
     }
 }
 
-/// A pin taken from the idle word of this entry.
-pub fn pin(dom: DomId, gref: u32, dir: Dir, entry: Entry) -> Held {
-    Held {
-        dom,
-        gref: GrantRef(gref),
-        dir,
-        entry,
-        word: word_of(entry),
-    }
-}
+const DOMAIN: DomainConfig = DomainConfig {
+    id: OWNER,
+    label: TypeId(1),
+    frames: 8,
+    table_frames: 1,
+    version: 2,
+};
 
-/// The same pin of an entry that has one read pin more.
-pub fn busy(held: Held) -> Held {
-    Held {
-        word: held.word ^ 16,
-        ..held
-    }
-}
-
-pub fn page(dom: DomId, ro: bool, frame: u64) -> Entry {
-    Entry::Page { dom, ro, frame }
-}
-
-pub fn via(dom: DomId, dom2: DomId, gref: u32) -> Entry {
-    Entry::Via {
-        dom,
-        ro: false,
-        dom2,
-        gref: GrantRef(gref),
-    }
-}
-
-pub fn refused(rule: Rule, facts: Facts) -> Verdict {
-    Verdict::Refused(Denial::new(rule, facts))
-}
-
-/// A refusal by the word found in the entry of this pin.
-pub fn refused_at(rule: Rule, held: Held) -> Verdict {
-    refused(
-        rule,
-        Facts::Entry {
-            dom: held.dom,
-            gref: held.gref,
-            word: held.word,
-        },
-    )
-}
-
-fn domain(id: DomId) -> DomainConfig {
+const DOMAINS: [DomainConfig; 3] = [
+    DOMAIN,
     DomainConfig {
-        id,
-        label: TypeId(id.0),
-        frames: 8,
-        table_frames: 1,
-        version: 2,
-    }
-}
+        id: MIDDLE,
+        label: TypeId(2),
+        ..DOMAIN
+    },
+    DomainConfig {
+        id: CALLER,
+        label: TypeId(3),
+        ..DOMAIN
+    },
+];
 
+/// Three domains whose labels are numbered as they are.
 pub fn three_domains(alloc: Global) -> Result<Config, Memory> {
     Ok(Config {
-        domains: vec![in alloc; domain(OWNER), domain(MIDDLE), domain(CALLER)]?,
+        domains: DOMAINS.to_vec(alloc)?,
         first_gen: 0,
     })
 }
@@ -214,6 +219,7 @@ pub fn rights(alloc: Global, perms: &[Perms], pairs: &[(DomId, DomId)]) -> Resul
     Ok(Triples { allowed })
 }
 
+/// What a domain with a table of version 2 and one frame knows.
 pub fn known<'a>(
     config: &'a Config,
     rights: &'a Triples,

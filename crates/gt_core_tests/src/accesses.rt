@@ -1,7 +1,7 @@
 //! Accesses to bytes: loads, stores, peeks and pokes.
 use crate::doing::Doing::{self, Begin, Do, Tick};
 use crate::doing::{OWNER, PEER};
-use crate::runs::{FIRST_HANDLE, GRANT, MAP_RO, MAP_RW, REVOKE, SECOND_HANDLE, STRANGE};
+use crate::runs::{FIRST_HANDLE, GRANT, MAP_RO, MAP_RW, REVOKE, SECOND_HANDLE, STRANGE, UNMAP};
 use gt_core::Request;
 
 // What one domain stores the other peeks.
@@ -42,15 +42,7 @@ pub const SHARED_PAGE: [(Doing, &str); 10] = [
         "ok [0, 192, 255, 238, 0]",
     ),
     (Do(OWNER, REVOKE), "N19 100020010001"),
-    (
-        Do(
-            PEER,
-            Request::Unmap {
-                handle: FIRST_HANDLE,
-            },
-        ),
-        "ok",
-    ),
+    (Do(PEER, UNMAP), "ok"),
     (Do(OWNER, REVOKE), "ok"),
     (
         Do(
@@ -207,24 +199,8 @@ pub const ORDER_OF_ACCESSES: [(Doing, &str); 13] = [
 pub const STORE_BY_A_TAKEN_HANDLE: [(Doing, &str); 7] = [
     (Do(OWNER, GRANT), "ok"),
     (Do(PEER, MAP_RW), "ok 0.0"),
-    (
-        Do(
-            PEER,
-            Request::Unmap {
-                handle: FIRST_HANDLE,
-            },
-        ),
-        "ok",
-    ),
-    (
-        Do(
-            PEER,
-            Request::Unmap {
-                handle: FIRST_HANDLE,
-            },
-        ),
-        "N6",
-    ),
+    (Do(PEER, UNMAP), "ok"),
+    (Do(PEER, UNMAP), "N6"),
     (Do(PEER, MAP_RO), "ok 1.0"),
     (
         Do(

@@ -1,7 +1,8 @@
 //! Copies: by pages, by parts of pages and through transitive entries, with the steps of their paths.
 use crate::doing::Doing::{self, Begin, Do, Path, Tick};
-use crate::doing::{OTHER, OWNER, PEER, start_to_copy};
-use crate::runs::{GRANT, GRANT_RO, REVOKE, goes};
+use crate::doing::{OTHER, OWNER, PEER};
+use crate::runs::{GRANT, GRANT_RO, REVOKE, Run};
+use crate::tables::GRANT_PART;
 use crate::via::{
     OWNERS_MAY, REVOKED_BEFORE_THE_PIN, REVOKED_BEHIND_A_COPY, VIA_TO_A_VIA, VIA_TO_ANOTHERS_PAGE,
     VIA_TO_NO_DOMAIN,
@@ -9,7 +10,6 @@ use crate::via::{
 use gt_core::{CopyArgs, End, Request};
 use gt_entry::Entry;
 use gt_types::{DomId, GrantRef};
-use std::test::Fail;
 
 // The caller's own domain, in a request.
 pub const SELF: DomId = DomId(0x7FF0);
@@ -124,22 +124,7 @@ const PAGE: [(Doing, &str); 7] = [
 
 // Part of a page is copied inside its bytes alone.
 const SUB_PAGE: [(Doing, &str); 6] = [
-    (
-        Do(
-            OWNER,
-            Request::Grant {
-                gref: GrantRef(0),
-                entry: Entry::Sub {
-                    dom: PEER,
-                    ro: false,
-                    frame: 5,
-                    off: 100,
-                    len: 50,
-                },
-            },
-        ),
-        "ok",
-    ),
+    (Do(OWNER, GRANT_PART), "ok"),
     (
         Path(
             PEER,
@@ -377,8 +362,8 @@ const ALL: [(DomId, DomId); 9] = [
     (OTHER, OTHER),
 ];
 
-// Each run with the version of the tables and the pairs of domains that may be copied from and to.
-const COPIES: [(u32, &[(DomId, DomId)], &[(Doing, &str)]); 12] = [
+/// All runs with copies.
+pub const COPIES: [Run; 12] = [
     (1, &ALL, &PAGE),
     (2, &ALL, &SUB_PAGE),
     (1, &ALL, &READ_ONLY_DEST),
@@ -392,13 +377,3 @@ const COPIES: [(u32, &[(DomId, DomId)], &[(Doing, &str)]); 12] = [
     (2, &ALL, &VIA_TO_NO_DOMAIN),
     (2, &ALL, &VIA_TO_ANOTHERS_PAGE),
 ];
-
-#[test]
-fn copies_go_as_they_must(rt: HostRuntime) -> Result<(), Fail> {
-    let alloc = rt.alloc();
-    for (version, pairs, rows) in COPIES {
-        let mut core = start_to_copy(alloc, version, pairs)?;
-        goes(&rt, &mut core, alloc, rows)?;
-    }
-    Ok(())
-}

@@ -26,7 +26,7 @@ pub const READ_ONLY: u32 = 6;
 const MOST_STEPS: u32 = 71;
 
 /// Three domains whose labels are numbered as they are, with 8 frames and one table frame each.
-pub fn three_domains(alloc: Global, version: u32, first_gen: u32) -> Result<Config, Memory> {
+pub fn three_domains(alloc: Global, version: u32) -> Result<Config, Memory> {
     let domain = DomainConfig {
         id: OWNER,
         label: TypeId(1),
@@ -46,7 +46,7 @@ pub fn three_domains(alloc: Global, version: u32, first_gen: u32) -> Result<Conf
     };
     Ok(Config {
         domains: vec![in alloc; domain, peer, other]?,
-        first_gen,
+        first_gen: 0,
     })
 }
 
@@ -75,17 +75,9 @@ pub fn rights(alloc: Global) -> Result<Triples, Memory> {
     Ok(Triples { allowed })
 }
 
-/// A machine of the three domains.
-pub fn start(alloc: Global, version: u32, first_gen: u32) -> Result<Core<Triples>, StartFault> {
-    Core::new(
-        alloc,
-        three_domains(alloc, version, first_gen)?,
-        rights(alloc)?,
-    )
-}
-
-/// A machine of the three domains, in which besides bytes may be copied from the first domain of each pair to the second.
-pub fn start_to_copy(
+/// A machine of the three domains, in which besides bytes may be copied from the first domain of each pair to the
+/// second.
+pub fn start(
     alloc: Global,
     version: u32,
     pairs: &[(DomId, DomId)],
@@ -98,7 +90,7 @@ pub fn start_to_copy(
             perm: Perms::COPY,
         })?;
     }
-    Core::new(alloc, three_domains(alloc, version, 0)?, rights)
+    Core::new(alloc, three_domains(alloc, version)?, rights)
 }
 
 /// What is done to a machine.

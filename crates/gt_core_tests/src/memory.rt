@@ -1,7 +1,7 @@
 //! Runs in which a request for memory is refused. With bench/refused.sh, which refuses each in turn: what is asked
 //! again is answered as it is without a refusal, a tick as well as a beginning.
-use crate::doing::{OWNER, PEER, rights, start, start_to_copy, three_domains};
-use crate::runs::{GRANT, MAP_RO, MAP_RW, REVOKE};
+use crate::doing::{OWNER, PEER, rights, start, three_domains};
+use crate::runs::{FIRST_HANDLE, GRANT, MAP_RO, MAP_RW, REVOKE};
 use gt_core::{
     Answer, Begun, CopyArgs, Core, Element, End, Event, Handle, Item, Request, Ticked, play,
 };
@@ -10,13 +10,17 @@ use std::alloc::Global;
 use std::process::Abort;
 use std::test::Fail;
 
-// A machine of three domains, asked for twice where memory was refused.
-fn started(rt: &impl Abort, alloc: Global) -> Result<Core<Triples>, StartFault> {
-    match start(alloc, 1, 0) {
+// A machine of three domains in which bytes may be copied between these pairs, asked for twice where memory was refused.
+fn started(
+    rt: &impl Abort,
+    alloc: Global,
+    pairs: &[(DomId, DomId)],
+) -> Result<Core<Triples>, StartFault> {
+    match start(alloc, 1, pairs) {
         Ok(core) => Ok(core),
         Err(fault) => {
             assert_eq!(rt; fault, StartFault::Memory);
-            start(alloc, 1, 0)
+            start(alloc, 1, pairs)
         }
     }
 }
@@ -66,124 +70,176 @@ fn ask(
     Ok(answer.ok_or("the call is still open")?)
 }
 
-fn is_bytes(answer: &Answer, bytes: &[u8]) -> bool {
-    matches!(answer, Answer::Bytes(b) if b.bytes.as_slice() == bytes)
+// What a call is answered.
+#[derive(Clone, Copy)]
+enum Told<'a> {
+    Done,
+    Mapped(Handle),
+    Bytes(&'a [u8]),
+    Refused(Rule),
 }
 
-fn is_refused(answer: &Answer, rule: Rule) -> bool {
-    matches!(answer, Answer::Denied(denial) if denial.rule == rule)
+fn is_told(answer: &Answer, told: Told<'_>) -> bool {
+    match told {
+        Told::Done => matches!(answer, Answer::Done),
+        Told::Mapped(handle) => matches!(answer, Answer::Mapped(given) if *given == handle),
+        Told::Bytes(bytes) => matches!(answer, Answer::Bytes(b) if b.bytes.as_slice() == bytes),
+        Told::Refused(rule) => matches!(answer, Answer::Denied(denial) if denial.rule == rule),
+    }
 }
+
+// Whole calls, with what each is answered.
+fn goes(
+    rt: &impl Abort,
+    core: &mut Core<Triples>,
+    calls: &[(DomId, Request<'_>, Told<'_>)],
+) -> Result<(), Fail> {
+    for (dom, request, told) in calls {
+        let answer = ask(rt, core, *dom, *request)?;
+        assert!(rt; is_told(&answer, *told));
+    }
+    Ok(())
+}
+
+// The read pins of the owner's entry 0.
+fn reads(core: &Core<Triples>) -> Option<u16> {
+    match core.show(OWNER, GrantRef(0)) {
+        Some(shown) => Some(shown.reads),
+        None => None,
+    }
+}
+
+const GRANTED: [(DomId, Request, Told); 1] = [(OWNER, GRANT, Told::Done)];
+
+const LAST_CALLS: [(DomId, Request, Told); 2] = [
+    (
+        PEER,
+        MAP_RW,
+        Told::Mapped(Handle {
+            serial: 20,
+            key: 20,
+        }),
+    ),
+    (OWNER, REVOKE, Told::Refused(Rule::N19)),
+];
 
 #[test]
 fn calls_with_memory_refused(rt: HostRuntime) -> Result<(), Fail> {
-    let mut core = started(&rt, rt.alloc())?;
-    let granted = ask(&rt, &mut core, OWNER, GRANT)?;
-    assert!(rt; matches!(granted, Answer::Done));
-    for serial in 0..20 {
-        let mapped = ask(&rt, &mut core, PEER, MAP_RO)?;
-        let Answer::Mapped(handle) = mapped else {
-            return Err(Fail::from("no mapping"));
+    let mut core = started(&rt, rt.alloc(), &[])?;
+    goes(&rt, &mut core, &GRANTED)?;
+    for key in 0..20usize {
+        let handle = Handle {
+            serial: key as u64,
+            key,
         };
         let load = Request::Load {
             handle,
             off: 4_094,
             len: 2,
         };
-        let loaded = ask(&rt, &mut core, PEER, load)?;
-        assert!(rt; handle.serial == serial && is_bytes(&loaded, &[0, 0]));
+        let calls = [
+            (PEER, MAP_RO, Told::Mapped(handle)),
+            (PEER, load, Told::Bytes(&[0, 0])),
+        ];
+        goes(&rt, &mut core, &calls)?;
     }
-    let mapped = ask(&rt, &mut core, PEER, MAP_RW)?;
-    let revoked = ask(&rt, &mut core, OWNER, REVOKE)?;
-    let is_pinned = matches!(core.show(OWNER, GrantRef(0)), Some(shown) if shown.reads == 20);
-    assert!(rt;
-        matches!(mapped, Answer::Mapped(_)) && is_pinned && is_refused(&revoked, Rule::N19)
-    );
+    goes(&rt, &mut core, &LAST_CALLS)?;
+    assert_eq!(rt; reads(&core), Some(20));
     Ok(())
 }
+
+const MAPPED: [(DomId, Request, Told); 2] = [
+    (OWNER, GRANT, Told::Done),
+    (PEER, MAP_RW, Told::Mapped(FIRST_HANDLE)),
+];
+
+const LAST_LOAD: [(DomId, Request, Told); 1] = [(
+    PEER,
+    Request::Load {
+        handle: FIRST_HANDLE,
+        off: 0,
+        len: 9,
+    },
+    Told::Bytes(&[8, 1, 2, 3, 4, 5, 6, 7, 8]),
+)];
 
 #[test]
 fn accesses_with_memory_refused(rt: HostRuntime) -> Result<(), Fail> {
-    let mut core = started(&rt, rt.alloc())?;
-    let handle = Handle { serial: 0, key: 0 };
-    let granted = ask(&rt, &mut core, OWNER, GRANT)?;
-    let mapped = ask(&rt, &mut core, PEER, MAP_RW)?;
-    let is_mapped = matches!(mapped, Answer::Mapped(given) if given == handle);
-    assert!(rt; matches!(granted, Answer::Done) && is_mapped);
+    let mut core = started(&rt, rt.alloc(), &[])?;
+    goes(&rt, &mut core, &MAPPED)?;
     for byte in 1..9u8 {
+        let bytes = [byte];
         let store = Request::Store {
-            handle,
+            handle: FIRST_HANDLE,
             off: u16::from(byte),
-            bytes: &[byte],
+            bytes: &bytes,
         };
-        let poke = Request::Poke {
-            frame: 5,
-            off: 0,
-            bytes: &[byte],
-        };
-        let peek = Request::Peek {
-            frame: 5,
-            off: 0,
-            len: 1,
-        };
-        let stored = ask(&rt, &mut core, PEER, store)?;
-        let poked = ask(&rt, &mut core, OWNER, poke)?;
-        let peeked = ask(&rt, &mut core, OWNER, peek)?;
-        let is_written = matches!((&stored, &poked), (Answer::Done, Answer::Done));
-        assert!(rt; is_written && is_bytes(&peeked, &[byte]));
+        let calls = [
+            (PEER, store, Told::Done),
+            (OWNER, poke(&bytes), Told::Done),
+            (OWNER, PEEK, Told::Bytes(&bytes)),
+        ];
+        goes(&rt, &mut core, &calls)?;
     }
-    let load = Request::Load {
-        handle,
-        off: 0,
-        len: 9,
-    };
-    let loaded = ask(&rt, &mut core, PEER, load)?;
-    assert!(rt; is_bytes(&loaded, &[8, 1, 2, 3, 4, 5, 6, 7, 8]));
-    Ok(())
+    goes(&rt, &mut core, &LAST_LOAD)
 }
 
-#[test]
-fn copies_with_memory_refused(rt: HostRuntime) -> Result<(), Fail> {
-    let mut core = match start_to_copy(rt.alloc(), 1, &[(OWNER, PEER)]) {
-        Ok(core) => core,
-        Err(fault) => {
-            assert_eq!(rt; fault, StartFault::Memory);
-            start_to_copy(rt.alloc(), 1, &[(OWNER, PEER)])?
-        }
-    };
-    let granted = ask(&rt, &mut core, OWNER, GRANT)?;
-    assert!(rt; matches!(granted, Answer::Done));
-    for byte in 1..9u8 {
-        let poke = Request::Poke {
-            frame: 5,
-            off: 0,
-            bytes: &[byte],
-        };
-        let copy = Request::Copy(CopyArgs {
-            source: End {
-                ptr: 0,
-                domid: OWNER,
-                offset: 0,
-            },
-            dest: End {
-                ptr: 3,
-                domid: PEER,
-                offset: u16::from(byte),
-            },
-            len: 1,
-            flags: 1,
-        });
-        let poked = ask(&rt, &mut core, OWNER, poke)?;
-        let copied = ask(&rt, &mut core, PEER, copy)?;
-        assert!(rt; matches!((&poked, &copied), (Answer::Done, Answer::Done)));
+const PEEK: Request = Request::Peek {
+    frame: 5,
+    off: 0,
+    len: 1,
+};
+
+fn poke(bytes: &[u8]) -> Request<'_> {
+    Request::Poke {
+        frame: 5,
+        off: 0,
+        bytes,
     }
-    let peek = Request::Peek {
+}
+
+// A copy of one byte of the owner's page to this offset of a frame of the peer's own.
+fn copy(offset: u16) -> Request<'static> {
+    Request::Copy(CopyArgs {
+        source: End {
+            ptr: 0,
+            domid: OWNER,
+            offset: 0,
+        },
+        dest: End {
+            ptr: 3,
+            domid: PEER,
+            offset,
+        },
+        len: 1,
+        flags: 1,
+    })
+}
+
+const LAST_PEEK: [(DomId, Request, Told); 1] = [(
+    PEER,
+    Request::Peek {
         frame: 3,
         off: 0,
         len: 10,
-    };
-    let peeked = ask(&rt, &mut core, PEER, peek)?;
-    let is_unpinned = matches!(core.show(OWNER, GrantRef(0)), Some(shown) if shown.reads == 0);
-    assert!(rt; is_unpinned && is_bytes(&peeked, &[0, 1, 2, 3, 4, 5, 6, 7, 8, 0]));
+    },
+    Told::Bytes(&[0, 1, 2, 3, 4, 5, 6, 7, 8, 0]),
+)];
+
+#[test]
+fn copies_with_memory_refused(rt: HostRuntime) -> Result<(), Fail> {
+    let mut core = started(&rt, rt.alloc(), &[(OWNER, PEER)])?;
+    goes(&rt, &mut core, &GRANTED)?;
+    for byte in 1..9u8 {
+        let bytes = [byte];
+        let calls = [
+            (OWNER, poke(&bytes), Told::Done),
+            (PEER, copy(u16::from(byte)), Told::Done),
+        ];
+        goes(&rt, &mut core, &calls)?;
+    }
+    goes(&rt, &mut core, &LAST_PEEK)?;
+    assert_eq!(rt; reads(&core), Some(0));
     Ok(())
 }
 
@@ -216,9 +272,9 @@ fn ends_ok(element: Option<&Element>) -> bool {
 #[test]
 fn play_with_memory_refused(rt: HostRuntime) -> Result<(), Fail> {
     let alloc = rt.alloc();
-    let config = match three_domains(alloc, 1, 0) {
+    let config = match three_domains(alloc, 1) {
         Ok(config) => config,
-        Err(Memory) => three_domains(alloc, 1, 0)?,
+        Err(Memory) => three_domains(alloc, 1)?,
     };
     let allowed = match rights(alloc) {
         Ok(allowed) => allowed,
@@ -228,7 +284,7 @@ fn play_with_memory_refused(rt: HostRuntime) -> Result<(), Fail> {
         Ok(trace) => trace,
         Err(fault) => {
             assert_eq!(rt; fault, StartFault::Memory);
-            play(alloc, three_domains(alloc, 1, 0)?, rights(alloc)?, &EVENTS)?
+            play(alloc, three_domains(alloc, 1)?, rights(alloc)?, &EVENTS)?
         }
     };
     assert!(rt; trace.len() == 8 && ends_ok(trace.get(2)) && ends_ok(trace.get(7)));

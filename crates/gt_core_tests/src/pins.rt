@@ -1,40 +1,48 @@
 //! As many pins on one entry as it can have, and the trace of a try that is missed.
-use crate::doing::Doing::{Do, Show};
-use crate::doing::{OWNER, PEER, add_call, rights, said, start, three_domains, trace_said};
-use crate::runs::{DEMOTE, GRANT, MAP_RO, MAP_RW, REVOKE};
-use gt_core::{Event, Request, play};
-use gt_entry::Entry;
-use gt_types::GrantRef;
+use crate::doing::Doing::{self, Do, Show};
+use crate::doing::{OWNER, PEER, add_call, rights, start, three_domains, trace_said};
+use crate::runs::{DEMOTE, GRANT, GRANT_ANOTHER, MAP_RO, MAP_RW, REVOKE, goes};
+use gt_core::{Event, play};
+use std::alloc::Global;
 use std::test::Fail;
+
+const GRANTED: [(Doing, &str); 1] = [(Do(OWNER, GRANT), "ok")];
+
+const BEHIND_ALL_READ_PINS: [(Doing, &str); 5] = [
+    (Do(PEER, MAP_RO), "N17 10002000fff1"),
+    (
+        Show(0),
+        "Page { dom: DomId(2), ro: false, frame: 5 } gen=1 reads=4095 writes=0 status=8",
+    ),
+    (Do(PEER, MAP_RW), "ok 4095.4095"),
+    (
+        Show(0),
+        "Page { dom: DomId(2), ro: false, frame: 5 } gen=1 reads=4095 writes=1 status=18",
+    ),
+    (Do(OWNER, DEMOTE), "N19 10002001fff1"),
+];
 
 #[test]
 fn all_read_pins_and_one_write_pin(rt: HostRuntime) -> Result<(), Fail> {
     let alloc = rt.alloc();
-    let mut core = start(alloc, 1, 0)?;
-    let mut wanted = String::from_str(alloc, "ok")?;
-    let mut text = said(alloc, &mut core, Do(OWNER, GRANT))?;
+    let mut core = start(alloc, 1, &[])?;
+    goes(&rt, &mut core, alloc, &GRANTED)?;
     for i in 0..4095 {
-        text.push_str(said(alloc, &mut core, Do(PEER, MAP_RO))?.as_str())?;
-        wanted.push_str(format!(in alloc; "ok {i}.{i}")?.as_str())?;
+        let wanted = format!(in alloc; "ok {i}.{i}")?;
+        goes(
+            &rt,
+            &mut core,
+            alloc,
+            &[(Do(PEER, MAP_RO), wanted.as_str())],
+        )?;
     }
-    for (doing, last) in [
-        (Do(PEER, MAP_RO), "N17 10002000fff1"),
-        (
-            Show(0),
-            "Page { dom: DomId(2), ro: false, frame: 5 } gen=1 reads=4095 writes=0 status=8",
-        ),
-        (Do(PEER, MAP_RW), "ok 4095.4095"),
-        (
-            Show(0),
-            "Page { dom: DomId(2), ro: false, frame: 5 } gen=1 reads=4095 writes=1 status=18",
-        ),
-        (Do(OWNER, DEMOTE), "N19 10002001fff1"),
-    ] {
-        text.push_str(said(alloc, &mut core, doing)?.as_str())?;
-        wanted.push_str(last)?;
-    }
-    assert_eq!(rt; text.as_str(), wanted.as_str());
-    Ok(())
+    goes(&rt, &mut core, alloc, &BEHIND_ALL_READ_PINS)
+}
+
+// The trace of these events on a machine of the three domains.
+fn played(alloc: Global, events: &[Event<'_>]) -> Result<String, Fail> {
+    let trace = play(alloc, three_domains(alloc, 1)?, rights(alloc)?, events)?;
+    Ok(trace_said(alloc, &trace)?)
 }
 
 #[test]
@@ -52,13 +60,34 @@ fn trace_of_all_read_pins_and_one_write_pin(rt: HostRuntime) -> Result<(), Fail>
     }
     add_call(&mut events, PEER, MAP_RW, 4)?;
     add_call(&mut events, OWNER, DEMOTE, 1)?;
-    wanted.push_str("2 begins\n2 5\n2 10002000fff1\n2 5\n2 taken ok 4095.4095\n")?;
-    wanted.push_str("1 begins\n1 10002001fff1 N19 10002001fff1\n")?;
-    let trace = play(alloc, three_domains(alloc, 1, 0)?, rights(alloc)?, &events)?;
-    let text = trace_said(alloc, &trace)?;
+    wanted.push_str(
+        "2 begins\n2 5\n2 10002000fff1\n2 5\n2 taken ok 4095.4095\n\
+1 begins\n1 10002001fff1 N19 10002001fff1\n",
+    )?;
+    let text = played(alloc, events.as_slice())?;
     assert_eq!(rt; text.as_str(), wanted.as_str());
     Ok(())
 }
+
+// Another page is granted between the look and the pin of a map.
+const MISSED_TRY: [Event; 16] = [
+    Event::Begin(OWNER, GRANT),
+    Event::Tick(OWNER),
+    Event::Tick(OWNER),
+    Event::Begin(PEER, MAP_RO),
+    Event::Tick(PEER),
+    Event::Tick(PEER),
+    Event::Tick(PEER),
+    Event::Begin(OWNER, REVOKE),
+    Event::Tick(OWNER),
+    Event::Begin(OWNER, GRANT_ANOTHER),
+    Event::Tick(OWNER),
+    Event::Tick(OWNER),
+    Event::Tick(PEER),
+    Event::Tick(PEER),
+    Event::Tick(PEER),
+    Event::Tick(PEER),
+];
 
 const MISSED: &str = "1 begins\n1 -\n1 taken ok\n\
 2 begins\n2 5\n2 100020000001\n2 5\n\
@@ -68,25 +97,7 @@ const MISSED: &str = "1 begins\n1 -\n1 taken ok\n\
 
 #[test]
 fn trace_of_a_missed_try(rt: HostRuntime) -> Result<(), Fail> {
-    let alloc = rt.alloc();
-    let other = Request::Grant {
-        gref: GrantRef(0),
-        entry: Entry::Page {
-            dom: PEER,
-            ro: false,
-            frame: 6,
-        },
-    };
-    let mut events = Vec::new(alloc);
-    add_call(&mut events, OWNER, GRANT, 2)?;
-    add_call(&mut events, PEER, MAP_RO, 3)?;
-    add_call(&mut events, OWNER, REVOKE, 1)?;
-    add_call(&mut events, OWNER, other, 2)?;
-    for _ in 0..4 {
-        events.push(Event::Tick(PEER))?;
-    }
-    let trace = play(alloc, three_domains(alloc, 1, 0)?, rights(alloc)?, &events)?;
-    let text = trace_said(alloc, &trace)?;
+    let text = played(rt.alloc(), &MISSED_TRY)?;
     assert_eq!(rt; text.as_str(), MISSED);
     Ok(())
 }

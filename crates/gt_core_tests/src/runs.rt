@@ -2,6 +2,7 @@
 use crate::accesses::{
     ORDER_OF_ACCESSES, SHARED_PAGE, STORE_BY_A_TAKEN_HANDLE, STORE_WITH_ITS_STEP,
 };
+use crate::copies::COPIES;
 use crate::doing::Doing::{self, Begin, Do, Show, Steps, Tick};
 use crate::doing::{OTHER, OWNER, PEER, READ_ONLY, WRITABLE, said, start};
 use crate::tables::{
@@ -14,6 +15,13 @@ use gt_types::{DomId, GrantRef, Triples};
 use std::alloc::Global;
 use std::process::Abort;
 use std::test::Fail;
+
+/// The version of the tables, the pairs of domains that may be copied from and to, and what is done.
+pub type Run = (
+    u32,
+    &'static [(DomId, DomId)],
+    &'static [(Doing<'static>, &'static str)],
+);
 
 // The calls on the owner's entry 0, where nothing else is said; the page is of frame 5 and for the peer.
 pub const GRANT: Request = Request::Grant {
@@ -63,19 +71,25 @@ pub const STRANGE: Handle = Handle {
     key: 0,
 };
 
+pub const UNMAP: Request = Request::Unmap {
+    handle: FIRST_HANDLE,
+};
+
+// Another page in its place.
+pub const GRANT_ANOTHER: Request = Request::Grant {
+    gref: GrantRef(0),
+    entry: Entry::Page {
+        dom: PEER,
+        ro: false,
+        frame: 6,
+    },
+};
+
 // A revocation between the beginning and the unpin of an unmap.
 const REVOKE_BEFORE_THE_UNPIN: [(Doing, &str); 6] = [
     (Do(OWNER, GRANT), "ok"),
     (Do(PEER, MAP_RW), "ok 0.0"),
-    (
-        Begin(
-            PEER,
-            Request::Unmap {
-                handle: FIRST_HANDLE,
-            },
-        ),
-        "open",
-    ),
+    (Begin(PEER, UNMAP), "open"),
     (Do(OWNER, REVOKE), "N19 100020010001"),
     (Tick(PEER, 1), "ok"),
     (Do(OWNER, REVOKE), "ok"),
@@ -87,20 +101,7 @@ const ANOTHER_GRANT_BEFORE_THE_PIN: [(Doing, &str); 8] = [
     (Begin(PEER, MAP_RO), "open"),
     (Tick(PEER, 3), "open"),
     (Do(OWNER, REVOKE), "ok"),
-    (
-        Do(
-            OWNER,
-            Request::Grant {
-                gref: GrantRef(0),
-                entry: Entry::Page {
-                    dom: PEER,
-                    ro: false,
-                    frame: 6,
-                },
-            },
-        ),
-        "ok",
-    ),
+    (Do(OWNER, GRANT_ANOTHER), "ok"),
     (Tick(PEER, 3), "open"),
     (Tick(PEER, 1), "ok 0.0"),
     (
@@ -180,17 +181,7 @@ const PAST_THE_LAST: [(Doing, &str); 5] = [
         ),
         "ok",
     ),
-    (
-        Do(
-            PEER,
-            Request::Map {
-                dom: OWNER,
-                gref: GrantRef(0),
-                flags: READ_ONLY,
-            },
-        ),
-        "N16 100020000001",
-    ),
+    (Do(PEER, MAP_RO), "N16 100020000001"),
     (
         Do(
             PEER,
@@ -244,15 +235,7 @@ const DEMOTED_UNDER_A_PIN: [(Doing, &str); 7] = [
 const TAKEN_HANDLE: [(Doing, &str); 9] = [
     (Do(OWNER, GRANT), "ok"),
     (Do(PEER, MAP_RO), "ok 0.0"),
-    (
-        Do(
-            PEER,
-            Request::Unmap {
-                handle: FIRST_HANDLE,
-            },
-        ),
-        "ok",
-    ),
+    (Do(PEER, UNMAP), "ok"),
     (Do(PEER, MAP_RO), "ok 1.0"),
     (
         Do(
@@ -265,15 +248,7 @@ const TAKEN_HANDLE: [(Doing, &str); 9] = [
         ),
         "N6",
     ),
-    (
-        Do(
-            PEER,
-            Request::Unmap {
-                handle: FIRST_HANDLE,
-            },
-        ),
-        "N6",
-    ),
+    (Do(PEER, UNMAP), "N6"),
     (
         Do(
             PEER,
@@ -304,27 +279,27 @@ const TAKEN_HANDLE: [(Doing, &str); 9] = [
         "N6",
     ),
 ];
-// Each run with the version of the tables and the first generation.
-const RUNS: [(u32, u32, &[(Doing, &str)]); 19] = [
-    (1, 0, &REVOKE_BEFORE_THE_UNPIN),
-    (1, 0, &ANOTHER_GRANT_BEFORE_THE_PIN),
-    (1, 0, &READ_ONLY_PAGE),
-    (1, 0, &ANOTHER_DOMAIN),
-    (1, 0, &FOUR_MISSED_TRIES),
-    (1, 0, &FOURTH_TRY),
-    (1, 0, &PAST_THE_LAST),
-    (1, 0, &DEMOTED_UNDER_A_PIN),
-    (1, 0, &TAKEN_HANDLE),
-    (1, 0, &SHARED_PAGE),
-    (1, 0, &ORDER_OF_ACCESSES),
-    (1, 0, &STORE_BY_A_TAKEN_HANDLE),
-    (1, 0, &STORE_WITH_ITS_STEP),
-    (1, 0, &VERSION_IN_A_MAP),
-    (2, 0, &SIZES),
-    (2, 0, &NOT_MAPPED),
-    (1, 0, &SUB_PAGE_BEHIND_AN_OLDER_HEADER),
-    (1, 0, &STEPS_ON_HEADERS),
-    (2, 0, &STEPS_OF_GRANTS),
+// Each run with the version of the tables; no bytes may be copied from one domain to another.
+const RUNS: [Run; 19] = [
+    (1, &[], &REVOKE_BEFORE_THE_UNPIN),
+    (1, &[], &ANOTHER_GRANT_BEFORE_THE_PIN),
+    (1, &[], &READ_ONLY_PAGE),
+    (1, &[], &ANOTHER_DOMAIN),
+    (1, &[], &FOUR_MISSED_TRIES),
+    (1, &[], &FOURTH_TRY),
+    (1, &[], &PAST_THE_LAST),
+    (1, &[], &DEMOTED_UNDER_A_PIN),
+    (1, &[], &TAKEN_HANDLE),
+    (1, &[], &SHARED_PAGE),
+    (1, &[], &ORDER_OF_ACCESSES),
+    (1, &[], &STORE_BY_A_TAKEN_HANDLE),
+    (1, &[], &STORE_WITH_ITS_STEP),
+    (1, &[], &VERSION_IN_A_MAP),
+    (2, &[], &SIZES),
+    (2, &[], &NOT_MAPPED),
+    (1, &[], &SUB_PAGE_BEHIND_AN_OLDER_HEADER),
+    (1, &[], &STEPS_ON_HEADERS),
+    (2, &[], &STEPS_OF_GRANTS),
 ];
 
 /// A run: beside each thing done is what comes of it.
@@ -344,8 +319,18 @@ pub fn goes(
 #[test]
 fn runs_go_as_they_must(rt: HostRuntime) -> Result<(), Fail> {
     let alloc = rt.alloc();
-    for (version, first_gen, rows) in RUNS {
-        let mut core = start(alloc, version, first_gen)?;
+    for (version, pairs, rows) in RUNS {
+        let mut core = start(alloc, version, pairs)?;
+        goes(&rt, &mut core, alloc, rows)?;
+    }
+    Ok(())
+}
+
+#[test]
+fn copies_go_as_they_must(rt: HostRuntime) -> Result<(), Fail> {
+    let alloc = rt.alloc();
+    for (version, pairs, rows) in COPIES {
+        let mut core = start(alloc, version, pairs)?;
         goes(&rt, &mut core, alloc, rows)?;
     }
     Ok(())

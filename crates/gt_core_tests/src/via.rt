@@ -7,60 +7,47 @@ use gt_core::{CopyArgs, End, Request};
 use gt_entry::Entry;
 use gt_types::{DomId, GrantRef};
 
+// The owner's entry 4.
+const GRANT_PAGE: Request = Request::Grant {
+    gref: GrantRef(4),
+    entry: Entry::Page {
+        dom: PEER,
+        ro: false,
+        frame: 6,
+    },
+};
+
+const POKE: Request = Request::Poke {
+    frame: 6,
+    off: 0,
+    bytes: &[0x5a],
+};
+
+// The peer's entry 0, which leads to the owner's entry 4.
+const GRANT_VIA: Request = Request::Grant {
+    gref: GrantRef(0),
+    entry: Entry::Via {
+        dom: OTHER,
+        ro: true,
+        dom2: OWNER,
+        gref: GrantRef(4),
+    },
+};
+
+// A copy of one byte through the peer's entry 0.
+const COPY: Request = Request::Copy(CopyArgs {
+    source: PEER_0,
+    dest: FRAME_0,
+    len: 1,
+    flags: SOURCE,
+});
+
 // A transitive entry is pinned until its copy has given its pins back.
 pub const REVOKED_BEHIND_A_COPY: [(Doing, &str); 12] = [
-    (
-        Do(
-            OWNER,
-            Request::Grant {
-                gref: GrantRef(4),
-                entry: Entry::Page {
-                    dom: PEER,
-                    ro: false,
-                    frame: 6,
-                },
-            },
-        ),
-        "ok",
-    ),
-    (
-        Do(
-            OWNER,
-            Request::Poke {
-                frame: 6,
-                off: 0,
-                bytes: &[0x5a],
-            },
-        ),
-        "ok",
-    ),
-    (
-        Do(
-            PEER,
-            Request::Grant {
-                gref: GrantRef(0),
-                entry: Entry::Via {
-                    dom: OTHER,
-                    ro: true,
-                    dom2: OWNER,
-                    gref: GrantRef(4),
-                },
-            },
-        ),
-        "ok",
-    ),
-    (
-        Begin(
-            OTHER,
-            Request::Copy(CopyArgs {
-                source: PEER_0,
-                dest: FRAME_0,
-                len: 1,
-                flags: SOURCE,
-            }),
-        ),
-        "open",
-    ),
+    (Do(OWNER, GRANT_PAGE), "ok"),
+    (Do(OWNER, POKE), "ok"),
+    (Do(PEER, GRANT_VIA), "ok"),
+    (Begin(OTHER, COPY), "open"),
     (Tick(OTHER, 4), "open"),
     (Do(PEER, REVOKE), "N19 100030000017"),
     (Tick(OTHER, 5), "open"),
@@ -78,74 +65,15 @@ pub const REVOKED_BEHIND_A_COPY: [(Doing, &str); 12] = [
         "ok [90]",
     ),
     (Do(PEER, REVOKE), "ok"),
-    (
-        Do(
-            OTHER,
-            Request::Copy(CopyArgs {
-                source: PEER_0,
-                dest: FRAME_0,
-                len: 1,
-                flags: SOURCE,
-            }),
-        ),
-        "N10 100000000000",
-    ),
+    (Do(OTHER, COPY), "N10 100000000000"),
 ];
 
 // A transitive entry is revoked between the look and the pin of a copy.
 pub const REVOKED_BEFORE_THE_PIN: [(Doing, &str); 9] = [
-    (
-        Do(
-            OWNER,
-            Request::Grant {
-                gref: GrantRef(4),
-                entry: Entry::Page {
-                    dom: PEER,
-                    ro: false,
-                    frame: 6,
-                },
-            },
-        ),
-        "ok",
-    ),
-    (
-        Do(
-            OWNER,
-            Request::Poke {
-                frame: 6,
-                off: 0,
-                bytes: &[0x5a],
-            },
-        ),
-        "ok",
-    ),
-    (
-        Do(
-            PEER,
-            Request::Grant {
-                gref: GrantRef(0),
-                entry: Entry::Via {
-                    dom: OTHER,
-                    ro: true,
-                    dom2: OWNER,
-                    gref: GrantRef(4),
-                },
-            },
-        ),
-        "ok",
-    ),
-    (
-        Begin(
-            OTHER,
-            Request::Copy(CopyArgs {
-                source: PEER_0,
-                dest: FRAME_0,
-                len: 1,
-                flags: SOURCE,
-            }),
-        ),
-        "open",
-    ),
+    (Do(OWNER, GRANT_PAGE), "ok"),
+    (Do(OWNER, POKE), "ok"),
+    (Do(PEER, GRANT_VIA), "ok"),
+    (Begin(OTHER, COPY), "open"),
     (Tick(OTHER, 2), "open"),
     (Do(PEER, REVOKE), "ok"),
     (Tick(OTHER, 2), "open"),
@@ -196,15 +124,7 @@ pub const VIA_TO_A_VIA: [(Doing, &str); 5] = [
         "ok",
     ),
     (
-        Path(
-            OTHER,
-            Request::Copy(CopyArgs {
-                source: PEER_0,
-                dest: FRAME_0,
-                len: 1,
-                flags: SOURCE,
-            }),
-        ),
+        Path(OTHER, COPY),
         "H 2 6\n\
 C 2 0 100030000003\n\
 B 2 0 First 40001\n\
@@ -234,31 +154,9 @@ pub const OWNERS_MAY: [(Doing, &str); 4] = [
         ),
         "ok",
     ),
+    (Do(PEER, GRANT_VIA), "ok"),
     (
-        Do(
-            PEER,
-            Request::Grant {
-                gref: GrantRef(0),
-                entry: Entry::Via {
-                    dom: OTHER,
-                    ro: true,
-                    dom2: OWNER,
-                    gref: GrantRef(4),
-                },
-            },
-        ),
-        "ok",
-    ),
-    (
-        Path(
-            OTHER,
-            Request::Copy(CopyArgs {
-                source: PEER_0,
-                dest: FRAME_0,
-                len: 1,
-                flags: SOURCE,
-            }),
-        ),
+        Path(OTHER, COPY),
         "H 2 6\n\
 C 2 0 100030000007\n\
 B 2 0 First 40001\n\
@@ -332,31 +230,6 @@ pub const VIA_TO_ANOTHERS_PAGE: [(Doing, &str); 3] = [
         ),
         "ok",
     ),
-    (
-        Do(
-            PEER,
-            Request::Grant {
-                gref: GrantRef(0),
-                entry: Entry::Via {
-                    dom: OTHER,
-                    ro: true,
-                    dom2: OWNER,
-                    gref: GrantRef(4),
-                },
-            },
-        ),
-        "ok",
-    ),
-    (
-        Do(
-            OTHER,
-            Request::Copy(CopyArgs {
-                source: PEER_0,
-                dest: FRAME_0,
-                len: 1,
-                flags: SOURCE,
-            }),
-        ),
-        "N11 100030000005",
-    ),
+    (Do(PEER, GRANT_VIA), "ok"),
+    (Do(OTHER, COPY), "N11 100030000005"),
 ];

@@ -1,49 +1,53 @@
-//! Plays worked scripts and prints what each prints, under its name.
+//! Plays worked scripts and lists worked policies, and prints what each prints, under its name.
 //!
-//! The words of the command line are the names. The script `x` is `data/x.gt`, as the program
-//! `gthost` plays it. `args` names them all, and `stdout` has what they must print: the answers of the
-//! calls, line by line, or the script's first fault. Each is played once more with its audit, and where
-//! that changes an answer, or adds a line of no record, a line says so. A script is added by its
-//! file, its name in `args` and its lines in `stdout`; that costs no proof.
+//! The words of the command line are the names. The script `x` is `data/x.gt`, as the program `gthost` plays it.
+//! Those after the word `--audit` are printed with their records. `args` names them all, and `stdout` has what they must
+//! print: the answers of the calls, line by line, or the script's first fault. Each is played with its audit and without,
+//! and where that changes an answer, or adds a line of no record, a line says so. After the word `--policy` come policies:
+//! `x` is `data/x.te`, as `gthost` lists it. A script or policy is added by its file, its name in `args` and its lines in
+//! `stdout`; that costs no proof.
 #![tactic(auto)]
 
-use gt_host::play;
-use std::alloc::Global;
-use std::fs::File;
-use std::rt::Runtime;
+mod policies;
+mod scripts;
 
-// What a script prints, with its fault if it has one.
-fn played<R: Runtime>(rt: &R, alloc: Global, name: &str, audit: bool) -> anyhow::Result<String> {
-    let path = format!(in alloc; "{name}.gt")?;
-    let mut script = File::open(rt, path.as_str())?;
-    let mut written = Vec::new(alloc);
-    let outcome = play(alloc, &mut script, &mut written, audit);
-    let mut text = String::from_utf8(written)?;
-    if let Err(fault) = outcome {
-        text.push_str(format!(in alloc; "{fault}\n")?.as_str())?;
-    }
-    Ok(text)
+use policies::policy_said;
+use scripts::script_said;
+
+// What is done with the names that follow.
+#[derive(Clone, Copy)]
+enum Mode {
+    Play,
+    Audit,
+    Policy,
 }
 
-// The text, and then lines of records.
-fn adds_records(text: &str, audited: &str) -> bool {
-    match audited.strip_prefix(text) {
-        Some(rest) => rest.lines().all(|line| line.starts_with("audit ")),
-        None => false,
+// The mode that a word names, if it is no name of a file.
+fn mode_named(word: &str) -> Option<Mode> {
+    if word == "--audit" {
+        Some(Mode::Audit)
+    } else if word == "--policy" {
+        Some(Mode::Policy)
+    } else {
+        None
     }
 }
 
 fn main(rt: HostRuntime) -> anyhow::Result<()> {
     let alloc = rt.alloc();
     let words: Vec<String> = std::env::args(&rt)?.collect(alloc)?;
-    for name in words.iter().skip(1) {
-        println!(rt; "== {name}")?;
-        let text = played(&rt, alloc, name, false)?;
-        print!(rt; "{text}")?;
-        let audited = played(&rt, alloc, name, true)?;
-        if !adds_records(text.as_str(), audited.as_str()) {
-            println!(rt; "with its audit it prints other lines")?;
+    let mut mode = Mode::Play;
+    for word in words.iter().skip(1) {
+        if let Some(named) = mode_named(word.as_str()) {
+            mode = named;
+            continue;
         }
+        let said = match mode {
+            Mode::Play => script_said(&rt, alloc, word.as_str(), false)?,
+            Mode::Audit => script_said(&rt, alloc, word.as_str(), true)?,
+            Mode::Policy => policy_said(&rt, alloc, word.as_str())?,
+        };
+        print!(rt; "== {word}\n{said}")?;
     }
     Ok(())
 }

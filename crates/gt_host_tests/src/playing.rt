@@ -1,5 +1,5 @@
-//! Runs that no worked script shows: as many pins as there can be, and scripts that are cut off or none.
-use crate::scripts::{HEAD, POLICY};
+//! Runs that no worked script shows: as many pins as there can be, and a text that is too long.
+use crate::scripts::HEAD;
 use gt_host::play;
 use std::alloc::Global;
 use std::test::Fail;
@@ -42,12 +42,9 @@ fn as_many_pins_as_there_can_be(rt: HostRuntime) -> Result<(), Fail> {
 }
 
 #[test]
-fn bytes_that_are_no_script(rt: HostRuntime) -> Result<(), Fail> {
-    let bad = b"triple b_t a_t map_read\ntriple b_t a_t map_write\ntr\xff".as_slice();
+fn a_text_that_is_too_long(rt: HostRuntime) -> Result<(), Fail> {
     let long = vec![in rt.alloc(); b' '; 1_048_577]?;
-    for (script, wanted) in [(bad, "line 3: utf8"), (long.as_slice(), "line 1: limit")] {
-        let text = played(rt.alloc(), script)?;
-        assert_eq!(rt; text.as_str(), wanted);
-    }
+    let text = played(rt.alloc(), long.as_slice())?;
+    assert_eq!(rt; text.as_str(), "line 1: limit");
     Ok(())
 }

@@ -1,8 +1,8 @@
 //! Tests of policies, of their tables and of the listing of what they allow, over what their crates make
 //! public.
 //!
-//! They say what no contract says: worked texts with what they allow, printed faults, texts at the limits,
-//! and readers and writers that fail.
+//! They say what no contract says: names and numbers of types, texts at the limits and texts that are cut off,
+//! and readers and writers that fail. Worked texts with what they allow are in `gt_host_cases`.
 #![tactic(auto)]
 
 #[cfg(test)]

@@ -1,8 +1,7 @@
-//! Whole listings over a reader and a writer in memory, and over ones that fail.
-use crate::texts::{GUESTS, TAKEN_OUT};
+//! Listings of texts at the limits and of texts that are cut off, and over readers and writers that fail.
+use crate::texts::{GUESTS, TAKEN_OUT, declarations};
 use gt_failing::{FailingReader, FailingWriter};
 use gt_listing::{Fault, policy};
-use gt_policy::{FaultKind, PolicyFault};
 use std::alloc::Global;
 use std::process::Abort;
 use std::test::Fail;
@@ -27,60 +26,6 @@ fn listed(alloc: Global, mut text: &[u8]) -> Result<String, Fail> {
     Ok(out)
 }
 
-#[test]
-fn lists_what_a_policy_allows(rt: HostRuntime) -> Result<(), Fail> {
-    for (text, wanted) in [
-        (TAKEN_OUT, TAKEN_OUT_LINES),
-        (GUESTS, GUESTS_LINES),
-        (
-            "attribute domain;\n\
-type dom0_t, domain;\n\
-type domU_t, domain;\n\
-allow { -dom0_t domain } domain:grant { map_read copy };\n",
-            GUESTS_LINES,
-        ),
-        ("", ""),
-        // A word beside class `grant` is a permission of the other class.
-        ("type a_t;\nallow a_t a_t:{ grant file } map_red;\n", ""),
-        // Types come in the order of their names, whatever the order of their declarations, and
-        // permissions in their own; capital letters and digits come before small letters.
-        (
-            "type b_t;\ntype a_t;\ntype B_t;\n\
-allow { a_t B_t } { b_t a_t }:grant { query unmap };\n\
-allow b_t self:grant *;\n",
-            "B_t a_t unmap\nB_t a_t query\nB_t b_t unmap\nB_t b_t query\n\
-a_t a_t unmap\na_t a_t query\na_t b_t unmap\na_t b_t query\n\
-b_t b_t map_read\nb_t b_t map_write\nb_t b_t unmap\nb_t b_t transfer\n\
-b_t b_t setup\nb_t b_t copy\nb_t b_t query\n",
-        ),
-        // A text with a fault lists nothing.
-        (
-            "type a_t;\nallow a_t a_t:grant map_red;\n",
-            "line 2: policy permission map_red",
-        ),
-        (
-            "allow a_t b_t:grant copy;\ntype a_t;\n",
-            "line 1: policy unknown b_t",
-        ),
-        (
-            "type a_t;\nneverallow a_t a_t:grant copy;\n",
-            "line 2: policy outside neverallow",
-        ),
-        ("type a_t\n", "line 2: policy syntax"),
-        ("type a_t;\ntype a_t;\n", "line 2: policy twice a_t"),
-        ("type a_t alias b_t;\n", "line 1: policy outside alias"),
-        ("allow ~a_t a_t:grant copy;\n", "line 1: policy outside ~"),
-        (
-            "allow a_t b_t:grant map_red;\n",
-            "line 1: policy permission map_red",
-        ),
-    ] {
-        let lines = listed(rt.alloc(), text.as_bytes())?;
-        assert_eq!(rt; lines.as_str(), wanted, "{text}");
-    }
-    Ok(())
-}
-
 // Where a text was cut off, it is listed or has one fault of a policy.
 #[test]
 fn every_beginning_is_listed_or_refused(rt: HostRuntime) -> Result<(), Fail> {
@@ -97,21 +42,56 @@ fn every_beginning_is_listed_or_refused(rt: HostRuntime) -> Result<(), Fail> {
     Ok(())
 }
 
+// A beginning, a text so many times behind it, and what is listed or the fault: too many bytes come before bad ones.
+const MANY: [(&str, &[u8], usize, &str); 7] = [
+    ("type a;", b"allow a a:c d;\n", 65_536, ""),
+    (
+        "type a;",
+        b"allow a a:c d;\n",
+        65_537,
+        "line 65537: policy limit",
+    ),
+    ("type a;", b"\n", 1_048_569, ""),
+    ("type a;", b"\n", 1_048_570, "line 1: policy limit"),
+    ("", b" ", 1_048_576, ""),
+    ("", b" ", 1_048_577, "line 1: policy limit"),
+    ("", b"\xff", 1_048_577, "line 1: policy limit"),
+];
+
 #[test]
-fn bytes_that_are_no_text(rt: HostRuntime) -> Result<(), Fail> {
+fn takes_the_most_statements_and_bytes(rt: HostRuntime) -> Result<(), Fail> {
     let alloc = rt.alloc();
-    let long = vec![in alloc; b' '; 1_048_577]?;
-    let bad = vec![in alloc; 0xff; 1_048_577]?;
-    for (text, wanted) in [
-        (b"type a_t;\ntype b_t;\nty\xff".as_slice(), "line 3: utf8"),
-        // A text with a fault and a bad byte after it is no text.
-        (b"type a_t\n}\xc3(".as_slice(), "line 2: utf8"),
-        // Too many bytes come before bad ones.
-        (long.as_slice(), "line 1: policy limit"),
-        (bad.as_slice(), "line 1: policy limit"),
-        (&long[1..], ""),
+    for (head, each, count, wanted) in MANY {
+        let mut text = head.as_bytes().to_vec(alloc)?;
+        for _ in 0..count {
+            text.extend_from_slice(each)?;
+        }
+        let lines = listed(alloc, text.as_slice())?;
+        assert_eq!(rt; lines.as_str(), wanted, "{count}");
+    }
+    Ok(())
+}
+
+// Behind 256 declarations, a line each.
+#[test]
+fn takes_256_types_and_256_attributes(rt: HostRuntime) -> Result<(), Fail> {
+    let alloc = rt.alloc();
+    for (word, behind, wanted) in [
+        ("type", "", ""),
+        ("type", "type n256;", "line 257: policy limit"),
+        ("type", "type n255;", "line 257: policy twice n255"),
+        ("attribute", "", ""),
+        ("attribute", "attribute n256;", "line 257: policy limit"),
+        (
+            "attribute",
+            "attribute n255;",
+            "line 257: policy twice n255",
+        ),
     ] {
-        assert_eq!(rt; listed(alloc, text)?.as_str(), wanted);
+        let most = declarations(alloc, word, 256)?;
+        let text = format!(in alloc; "{most}{behind}")?;
+        let lines = listed(alloc, text.as_bytes())?;
+        assert_eq!(rt; lines.as_str(), wanted, "{behind}");
     }
     Ok(())
 }

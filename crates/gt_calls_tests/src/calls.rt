@@ -1,0 +1,51 @@
+//! All calls, by what is allowed.
+use crate::copies::{COPIES, PAIRS, TO_MIDDLE};
+use crate::owners::{BY_HANDLE, HANDLE, MAPPING, MAPS, OLDER, OWNERS, PAGE};
+use crate::script::{CALLER, MIDDLE, OWNER, Part, Row, Script, goes, known, rights, three_domains};
+use gt_calls::{Change, Handles, Held, Own};
+use gt_types::{DomId, Memory, Perms};
+use std::alloc::Global;
+use std::process::Abort;
+use std::test::Fail;
+
+// What each of these pairs of domains may do, and the calls.
+const GROUPS: [(&[Perms], &[(DomId, DomId)], &[Row]); 5] = [
+    (&[Perms::COPY], &PAIRS, &COPIES),
+    (&[Perms::COPY], &[(CALLER, MIDDLE)], &TO_MIDDLE),
+    (
+        &[Perms::MAP_READ, Perms::MAP_WRITE],
+        &[(CALLER, OWNER)],
+        &MAPS,
+    ),
+    (&[], &[], &OWNERS),
+    (&[Perms::UNMAP], &[(CALLER, OWNER)], &BY_HANDLE),
+];
+
+// The mappings of the caller: one was taken, and the next has its key.
+fn mappings(rt: &impl Abort, alloc: Global) -> Result<Handles<Held>, Memory> {
+    let mut mappings = Handles::new(alloc);
+    mappings.reserve()?;
+    let older = mappings.insert(MAPPING);
+    let _ = mappings.take(older);
+    let handle = mappings.insert(MAPPING);
+    assert_eq!(rt; (older, handle), (OLDER, HANDLE));
+    Ok(mappings)
+}
+
+#[test]
+fn calls_go_by_their_scripts(rt: HostRuntime) -> Result<(), Fail> {
+    let alloc = rt.alloc();
+    let config = three_domains(alloc)?;
+    let mappings = mappings(&rt, alloc)?;
+    let own = [Own::new(0), Own::new(0).after(Change::Publish(PAGE))];
+    for (perms, pairs, rows) in GROUPS {
+        let rights = rights(alloc, perms, pairs)?;
+        let known = known(&config, &rights, &own, &mappings);
+        for (caller, request, actions, parts) in rows {
+            let script = Script::new(alloc, parts)?;
+            let told = (goes(&known, *caller, *request, &script), script.lines.len());
+            assert_eq!(rt; told, (true, *actions), "{request:?}");
+        }
+    }
+    Ok(())
+}

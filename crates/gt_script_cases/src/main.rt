@@ -1,0 +1,53 @@
+//! Reads worked scripts and prints what each is read as, or its first fault, under its name.
+//!
+//! The words of the command line are the names. The script `x` is `data/x.gt`, read for `play`; those after the word
+//! `--run` are read for `run`. A file with a line `====` has a script above it, and below it lines that are tried in the
+//! place of the script's `@`, one after the other: each is printed behind what comes of it. `args` names all files, and
+//! `stdout` has what they must print. A script is added by its file, its name in `args` and its lines in `stdout`, and a
+//! line that is tried by itself and its line in `stdout`; that costs no proof.
+#![tactic(auto)]
+
+mod said;
+
+use said::{play_said, run_said};
+use std::alloc::{AllocError, Global};
+use std::fs;
+
+// What comes of each line in the place of the `@`, with the line.
+fn tried(alloc: Global, script: &str, lines: &str) -> Result<String, AllocError> {
+    let mut out = String::new(alloc);
+    for line in lines.lines() {
+        let text = script.replace(alloc, "@", line)?;
+        let said = play_said(alloc, text.as_bytes())?;
+        let said = said.trim_end();
+        out.push_str(format!(in alloc; "{said} | {line}\n")?.as_str())?;
+    }
+    Ok(out)
+}
+
+fn told(alloc: Global, text: &str, is_run: bool) -> Result<String, AllocError> {
+    if is_run {
+        return run_said(alloc, text.as_bytes());
+    }
+    match text.split_once("====\n") {
+        Some((script, lines)) => tried(alloc, script, lines),
+        None => play_said(alloc, text.as_bytes()),
+    }
+}
+
+fn main(rt: HostRuntime) -> anyhow::Result<()> {
+    let alloc = rt.alloc();
+    let words: Vec<String> = std::env::args(&rt)?.collect(alloc)?;
+    let mut is_run = false;
+    for word in words.iter().skip(1) {
+        if word.as_str() == "--run" {
+            is_run = true;
+        } else {
+            let path = format!(in alloc; "{word}.gt")?;
+            let text = fs::read_to_string(&rt, path.as_str())?;
+            let said = told(alloc, text.as_str(), is_run)?;
+            print!(rt; "== {word}\n{said}")?;
+        }
+    }
+    Ok(())
+}

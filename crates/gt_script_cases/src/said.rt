@@ -1,0 +1,120 @@
+//! What scripts are read as, in words.
+use gt_policy::Policy;
+use gt_script::{
+    AccessCall, Action, Call, RunScript, Script, Step, TableCall, Text, hex_bytes, parse, parse_run,
+};
+use gt_types::{Allows, DomId, DomainConfig, Perms, Triple, TypeId};
+use std::alloc::{AllocError, Global};
+
+/// What a text is read as for `play`, or its fault: the names of its types, its triples, its domains, its first
+/// generation, its policy and its steps, a line each.
+pub fn play_said(alloc: Global, text: &[u8]) -> Result<String, AllocError> {
+    match parse(alloc, text) {
+        Ok(script) => script_said(alloc, &script),
+        Err(error) => format!(in alloc; "{error}\n"),
+    }
+}
+
+fn script_said(alloc: Global, script: &Script<'_>) -> Result<String, AllocError> {
+    let types = script.type_names(alloc)?;
+    let names = names_said(alloc, types.as_slice())?;
+    let triples = triples_said(alloc, script.triples())?;
+    let domains = domains_said(alloc, script.domains())?;
+    let first = script.first_gen();
+    let policy = policy_said(alloc, script.policy())?;
+    let steps = steps_said(alloc, script.steps())?;
+    format!(in alloc; "{names}{triples}{domains}first generation {first}\n{policy}{steps}")
+}
+
+fn names_said(alloc: Global, names: &[Text<'_>]) -> Result<String, AllocError> {
+    let mut out = String::new(alloc);
+    for name in names {
+        for byte in name.as_bytes() {
+            out.push(char::from(*byte))?;
+        }
+        out.push('\n')?;
+    }
+    Ok(out)
+}
+
+fn triples_said(alloc: Global, triples: &[Triple]) -> Result<String, AllocError> {
+    let mut out = String::new(alloc);
+    for triple in triples {
+        out.push_str(format!(in alloc; "{triple:?}\n")?.as_str())?;
+    }
+    Ok(out)
+}
+
+fn domains_said(alloc: Global, domains: &[DomainConfig]) -> Result<String, AllocError> {
+    let mut out = String::new(alloc);
+    for domain in domains {
+        out.push_str(format!(in alloc; "{domain:?}\n")?.as_str())?;
+    }
+    Ok(out)
+}
+
+// Whether the policy lets type 1 read type 0, set up itself, and set up type 0; nothing where there is none.
+fn policy_said(alloc: Global, policy: Option<&Policy>) -> Result<String, AllocError> {
+    let Some(policy) = policy else {
+        return Ok(String::new(alloc));
+    };
+    let read = policy.allows(TypeId(1), TypeId(0), Perms::MAP_READ);
+    let itself = policy.allows(TypeId(1), TypeId(1), Perms::SETUP);
+    let other = policy.allows(TypeId(1), TypeId(0), Perms::SETUP);
+    format!(in alloc; "policy {read} {itself} {other}\n")
+}
+
+// The steps: the number of the line, the domain, what it asks, and the bytes of its hexadecimal text.
+fn steps_said(alloc: Global, steps: &[Step<'_>]) -> Result<String, AllocError> {
+    let mut out = String::new(alloc);
+    for step in steps {
+        let action = &step.action;
+        let bytes = bytes_said(alloc, action)?;
+        let said = format!(in alloc; "{} {} {action:?}{bytes}\n", step.line, step.dom.0)?;
+        out.push_str(said.as_str())?;
+    }
+    Ok(out)
+}
+
+fn bytes_said(alloc: Global, action: &Action<'_>) -> Result<String, AllocError> {
+    match hex_in(action) {
+        Some(hex) => {
+            let bytes = hex_bytes(alloc, hex)?;
+            format!(in alloc; " = {bytes:?}")
+        }
+        None => Ok(String::new(alloc)),
+    }
+}
+
+// The hexadecimal text of a call with one.
+fn hex_in<'b, 'a>(action: &'b Action<'a>) -> Option<&'b Text<'a>> {
+    let (Action::Do(call) | Action::Begin(call)) = action else {
+        return None;
+    };
+    match call {
+        Call::Table(TableCall::GrantBytes { hex, .. })
+        | Call::Access(AccessCall::Store { hex, .. } | AccessCall::Poke { hex, .. }) => Some(hex),
+        _ => None,
+    }
+}
+
+/// What a text is read as for `run`, or its fault: the lines of domains 1 and 2, a line each, and the number of flags.
+pub fn run_said(alloc: Global, text: &[u8]) -> Result<String, AllocError> {
+    match parse_run(alloc, text) {
+        Ok(script) => lists_said(alloc, &script),
+        Err(error) => format!(in alloc; "{error}\n"),
+    }
+}
+
+fn lists_said(alloc: Global, script: &RunScript<'_>) -> Result<String, AllocError> {
+    let mut out = String::new(alloc);
+    for id in 1..3 {
+        for task in script.list_of(alloc, DomId(id))? {
+            let deed = &task.deed;
+            let said = format!(in alloc; "{} {} {deed:?}\n", task.line, task.dom.0)?;
+            out.push_str(said.as_str())?;
+        }
+    }
+    out.push_str(format!(in alloc; "{} flags\n", script.flags())?.as_str())?;
+    Ok(out)
+}

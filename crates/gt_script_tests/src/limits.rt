@@ -1,0 +1,128 @@
+//! Texts at the limits, texts that are cut off, and how a fault prints.
+use gt_script::{Fault, FaultKind, parse, parse_run};
+use std::alloc::{AllocError, Global};
+use std::test::Fail;
+
+const HEAD: &str = "triple a_t a_t copy\n\
+domain 1 u:r:a_t 8 1 1\n\
+domain 2 u:r:a_t 8 1 1\n";
+
+// Three triples, two domains and five steps.
+const FIRST: &str = "triple b_t a_t map_read\n\
+triple b_t a_t map_write\n\
+triple b_t a_t unmap\n\
+domain 1 u:r:a_t 8 1 1\n\
+domain 2 u:r:b_t 8 1 1\n\
+do 1 grant 0 page 2 rw 5\n\
+do 2 map h 1 0 rw\n\
+do 2 load h 0 2\n\
+do 2 unmap h\n\
+do 1 revoke 0\n";
+
+// A policy block, with three types of one attribute, and a domain of each.
+const BLOCK: &str = "policy\n\
+attribute dom;\n\
+type a_t, dom;\n\
+type b_t, dom;\n\
+type c_t, dom;\n\
+allow dom dom:grant { map_read map_write unmap copy query };\n\
+allow dom self:grant setup;\n\
+end\n\
+domain 1 u:r:a_t 8 1 1\n\
+domain 2 u:r:b_t 8 1 1\n\
+domain 3 u:r:c_t 8 1 1\n";
+
+// The fault of a text, as it prints; nothing where the text is a script.
+fn fault_text(alloc: Global, text: &[u8]) -> Result<String, AllocError> {
+    match parse(alloc, text) {
+        Ok(_) => Ok(String::new(alloc)),
+        Err(error) => error.to_string(alloc),
+    }
+}
+
+// How many flags and tasks a text for `run` has, or its fault.
+fn run_said(alloc: Global, text: &[u8]) -> Result<String, AllocError> {
+    match parse_run(alloc, text) {
+        Ok(script) => format!(in alloc; "{} {}", script.flags(), script.tasks().len()),
+        Err(error) => error.to_string(alloc),
+    }
+}
+
+// A script with a line of so many digits, and the fault of it.
+#[test]
+fn takes_8192_digits(rt: HostRuntime) -> Result<(), Fail> {
+    let alloc = rt.alloc();
+    for (call, byte, behind, wanted) in [
+        ("bytes 0", "a5", "", ""),
+        ("bytes 0", "a5", "a5", "line 4: syntax"),
+        ("store h 0", "5A", "", ""),
+        ("store h 0", "5A", "5A", "line 4: syntax"),
+        ("poke 0 0", "5A", "", ""),
+        ("poke 0 0", "5A", "5A", "line 4: syntax"),
+    ] {
+        let digits = byte.repeat(alloc, 4096)?;
+        let text = format!(in alloc; "{HEAD}do 1 {call} {digits}{behind}")?;
+        let fault = fault_text(alloc, text.as_bytes())?;
+        assert_eq!(rt; fault.as_str(), wanted, "{call}");
+    }
+    Ok(())
+}
+
+#[test]
+fn takes_1048576_bytes(rt: HostRuntime) -> Result<(), Fail> {
+    let alloc = rt.alloc();
+    for (length, wanted) in [(1_048_577, "line 1: limit"), (1_048_576, "line 2: syntax")] {
+        let spaces = vec![in alloc; b' '; length]?;
+        let fault = fault_text(alloc, spaces.as_slice())?;
+        assert_eq!(rt; fault.as_str(), wanted);
+    }
+    Ok(())
+}
+
+// Where a script was cut off, it is one, or has one fault: no want of memory.
+#[test]
+fn every_beginning_is_a_script_or_has_a_fault(rt: HostRuntime) -> Result<(), Fail> {
+    let alloc = rt.alloc();
+    for (text, is_policy) in [(FIRST.as_bytes(), false), (BLOCK.as_bytes(), true)] {
+        for end in 0..text.len() {
+            let fault = fault_text(alloc, &text[..end])?;
+            let is_read = is_policy || !fault.contains("policy");
+            assert!(rt; is_read && fault.as_str() != "memory", "{end} bytes");
+        }
+    }
+    Ok(())
+}
+
+// Two domains take turns, flag by flag, so each turn of the reader tells one flag more. Then one waits for ever.
+#[test]
+fn a_long_way_round_ends(rt: HostRuntime) -> Result<(), Fail> {
+    let alloc = rt.alloc();
+    let mut text = String::from_str(alloc, HEAD)?;
+    for turn in 0..5_000 {
+        let (here, there) = if turn % 2 == 0 { (1, 2) } else { (2, 1) };
+        let lines = format!(in alloc; "tell {here} f{turn}\nawait {there} f{turn}\n")?;
+        text.push_str(lines.as_str())?;
+    }
+    for (behind, wanted) in [("", "5000 10000"), ("await 1 f5000\n", "line 10004: stuck")] {
+        let text = format!(in alloc; "{text}{behind}")?;
+        let said = run_said(alloc, text.as_bytes())?;
+        assert_eq!(rt; said.as_str(), wanted);
+    }
+    Ok(())
+}
+
+#[test]
+fn prints_a_fault(rt: HostRuntime) -> Result<(), Fail> {
+    for (kind, text) in [
+        (FaultKind::Limit, "line 6: limit"),
+        (FaultKind::Utf8, "line 6: utf8"),
+        (FaultKind::Syntax, "line 6: syntax"),
+        (FaultKind::Config, "line 6: config"),
+        (FaultKind::Mode, "line 6: mode"),
+        (FaultKind::Stuck, "line 6: stuck"),
+    ] {
+        let fault = Fault { line: 6, kind };
+        assert_eq!(rt; format!(in rt.alloc(); "{fault}")?.as_str(), text);
+    }
+    Ok(())
+}
