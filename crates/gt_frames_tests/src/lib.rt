@@ -1,14 +1,20 @@
-//! Tests of `gt_frames` over the frames of a run, plain and under locks.
+//! Tests of the frames of a run: plain (`gt_frames`), under locks, and by a seat of a domain (`gt_access`).
 //!
-//! They say what no contract says: that a call which could always answer `None` or want of memory
-//! does its work where there is memory, and what bytes a reader then finds. Each is a table of steps
-//! with the texts wanted after them.
+//! They say what no contract says: that a call which could always answer `None`, `false` or want of memory does its work
+//! where there is memory, and what bytes a reader then finds. Each is a table of copies with the text of the frame
+//! that was written; two threads also copy between the same two frames.
 //!
-//! The tests of a single frame are in `gt_base_tests`. This crate holds no code of its own, and
-//! uses `gt_frames` and `gt_types`.
+//! The domain with the seat meets the conditions of an access by what the calls of its seat ensured.
+//!
+//! The tests of a single frame are in `gt_base_tests`. This crate holds no code of its own. It stands on `gt_frames`,
+//! `gt_access` and what these name: `gt_calls`, `gt_types` and `gt_words`.
 #![tactic(auto)]
 
 #[cfg(test)]
+mod accesses;
+#[cfg(test)]
 mod frames;
+#[cfg(test)]
+mod places;
 #[cfg(test)]
 mod pool;

@@ -1,99 +1,90 @@
 //! Frames under locks, in threads.
-use crate::frames::{config, name};
-use gt_frames::{FrameName, Ground, Pool, Writ};
-use std::alloc::Global;
+use crate::places::{BYTES, config, spot, text};
+use gt_frames::{FrameName, Ground, Pool, Read, Spot, Writ};
+use gt_types::DomId;
+use std::alloc::{AllocError, Global};
 use std::sync::Wait;
 use std::test::Fail;
 use std::thread;
 use std::thread::Threads;
 
-/// The first six bytes of a frame, or that there is none.
-fn shown<R: Wait>(rt: &R, alloc: Global, pool: &Pool, frame: FrameName) -> Result<String, Fail> {
+// The first six bytes of a frame.
+fn first_bytes<R: Wait>(
+    rt: &R,
+    alloc: Global,
+    pool: &Pool,
+    frame: FrameName,
+) -> Result<Option<Read>, AllocError> {
     let out = vec![in alloc; 7u8; 6]?;
-    let text = match pool.lock(rt, frame) {
-        Some(locked) => {
-            let bytes = locked.read(0, out).into_bytes();
-            format!(in alloc; "{:?}", bytes.as_slice())?
-        }
-        None => format!(in alloc; "none")?,
-    };
-    Ok(text)
+    match pool.lock(rt, frame) {
+        Some(locked) => Ok(Some(locked.read(0, out))),
+        None => Ok(None),
+    }
 }
 
-/// Writes four bytes as the owner, where there is such a frame.
-fn wrote<R: Wait>(rt: &R, pool: &Pool, to: FrameName, off: u16) -> bool {
+// Writes these bytes as the owner, where there is such a frame.
+fn wrote<R: Wait>(rt: &R, pool: &Pool, to: FrameName, bytes: &[u8]) -> bool {
     let writ = Writ {
         writer: to.owner,
         basis: Ground::Owned,
     };
     match pool.lock(rt, to) {
         Some(mut frame) => {
-            off <= 4092
-                && frame.owner() == to.owner
-                && frame.write(&writ, off, &[1, 2, 3, 4]).is_ok()
+            bytes.len() <= 4096 && frame.owner() == to.owner && frame.write(&writ, 0, bytes).is_ok()
         }
         None => false,
     }
 }
 
-/// Copies four bytes as the owner of the second frame, where there are such frames.
-fn copied<R: Wait>(
-    rt: &R,
-    pool: &Pool,
-    from: FrameName,
-    from_off: u16,
-    to: FrameName,
-    to_off: u16,
-) -> bool {
+// Copies four bytes as the owner of the second frame, where there are such frames.
+fn copied<R: Wait>(rt: &R, pool: &Pool, from: Spot, to: Spot) -> bool {
     let writ = Writ {
-        writer: to.owner,
+        writer: to.frame.owner,
         basis: Ground::Owned,
     };
-    match pool.lock_both(rt, from, to) {
-        Some(mut ends) => from_off <= 4092
-            && to_off <= 4092
-            && ends.copy(&writ, from_off, to_off, 4).is_ok(),
+    match pool.lock_both(rt, from.frame, to.frame) {
+        Some(mut ends) => {
+            from.off <= 4092 && to.off <= 4092 && ends.copy(&writ, from.off, to.off, 4).is_ok()
+        }
         None => false,
     }
 }
 
-// Each line copies, and then looks at the frame that was written: both ends one frame, upwards and
-// downwards over itself, two frames of a domain and of two domains, the lower pool number as source
-// and as destination, and frames that are not there.
+// Where a copy begins and ends, whether it is made, and the first bytes of the frame written then: both ends one frame,
+// upwards and downwards over itself, two frames of a domain and of two domains, the lower pool number as source and as
+// destination, and frames that are not there.
+const COPIES: [(Spot, Spot, bool, &str); 7] = [
+    (spot!(1, 0, 0), spot!(1, 0, 1), true, "[1, 1, 2, 3, 4, 0]"),
+    (spot!(1, 0, 1), spot!(1, 0, 0), true, "[1, 2, 3, 4, 4, 0]"),
+    (spot!(1, 0, 0), spot!(1, 1, 2), true, "[0, 0, 1, 2, 3, 4]"),
+    (spot!(1, 1, 2), spot!(2, 1, 0), true, "[1, 2, 3, 4, 0, 0]"),
+    (spot!(2, 1, 1), spot!(1, 0, 0), true, "[2, 3, 4, 0, 4, 0]"),
+    (spot!(1, 0, 0), spot!(2, 2, 0), false, "none"),
+    (spot!(3, 0, 0), spot!(1, 0, 0), false, "[2, 3, 4, 0, 4, 0]"),
+];
+
 #[test]
 fn frames_are_copied_under_locks(rt: HostRuntime) -> Result<(), Fail> {
     let alloc = rt.alloc();
     let pool = Pool::new(alloc, &config(alloc)?)?;
-    assert!(rt; wrote(&rt, &pool, name(1, 0), 0));
-    let steps = [
-        (
-            name(1, 0),
-            0u16,
-            name(1, 0),
-            1u16,
-            true,
-            "[1, 1, 2, 3, 4, 0]",
-        ),
-        (name(1, 0), 1, name(1, 0), 0, true, "[1, 2, 3, 4, 4, 0]"),
-        (name(1, 0), 0, name(1, 1), 2, true, "[0, 0, 1, 2, 3, 4]"),
-        (name(1, 1), 2, name(2, 1), 0, true, "[1, 2, 3, 4, 0, 0]"),
-        (name(2, 1), 1, name(1, 0), 0, true, "[2, 3, 4, 0, 4, 0]"),
-        (name(1, 0), 0, name(2, 2), 0, false, "none"),
-        (name(3, 0), 0, name(1, 0), 0, false, "[2, 3, 4, 0, 4, 0]"),
-    ];
-    for (from, from_off, to, to_off, done, text) in steps {
-        let answer = copied(&rt, &pool, from, from_off, to, to_off);
-        let shown = shown(&rt, alloc, &pool, to)?;
-        assert_eq!(rt; (answer, shown.as_str()), (done, text));
+    let begun = wrote(&rt, &pool, HERE.frame, &BYTES);
+    for (from, to, done, bytes) in COPIES {
+        let answer = copied(&rt, &pool, from, to);
+        let text = text(alloc, first_bytes(&rt, alloc, &pool, to.frame)?)?;
+        assert_eq!(rt; (begun, answer, text.as_str()), (true, done, bytes));
     }
     Ok(())
 }
 
-/// Copies forth a thousand times, and counts the copies that were made.
-fn copies<R: Wait>(rt: &R, pool: &Pool, from: FrameName, to: FrameName) -> usize {
+const HERE: Spot = spot!(1, 0, 0);
+
+const THERE: Spot = spot!(2, 1, 0);
+
+// Copies a thousand times, and counts the copies that were made.
+fn copies<R: Wait>(rt: &R, pool: &Pool, from: Spot, to: Spot) -> usize {
     let mut done: usize = 0;
     for _ in 0..1000u32 {
-        if copied(rt, pool, from, 0, to, 0) {
+        if copied(rt, pool, from, to) {
             done = done.wrapping_add(1);
         }
     }
@@ -103,8 +94,8 @@ fn copies<R: Wait>(rt: &R, pool: &Pool, from: FrameName, to: FrameName) -> usize
 fn forth_and_back<R: Threads + Wait + Sync>(rt: &R, pool: &Pool) -> (usize, usize) {
     thread::join(
         rt,
-        || copies(rt, pool, name(1, 0), name(2, 1)),
-        || copies(rt, pool, name(2, 1), name(1, 0)),
+        || copies(rt, pool, HERE, THERE),
+        || copies(rt, pool, THERE, HERE),
     )
 }
 
@@ -113,10 +104,12 @@ fn forth_and_back<R: Threads + Wait + Sync>(rt: &R, pool: &Pool) -> (usize, usiz
 fn two_threads_copy_forth_and_back(rt: HostRuntime) -> Result<(), Fail> {
     let alloc = rt.alloc();
     let pool = Pool::new(alloc, &config(alloc)?)?;
-    assert!(rt; wrote(&rt, &pool, name(1, 0), 0));
-    assert!(rt; wrote(&rt, &pool, name(2, 1), 0));
-    assert_eq!(rt; forth_and_back(&rt, &pool), (1000, 1000));
-    let shown = shown(&rt, alloc, &pool, name(2, 1))?;
-    assert_eq!(rt; shown.as_str(), "[1, 2, 3, 4, 0, 0]");
+    let begun = wrote(&rt, &pool, HERE.frame, &BYTES) && wrote(&rt, &pool, THERE.frame, &BYTES);
+    let counts = forth_and_back(&rt, &pool);
+    let text = text(alloc, first_bytes(&rt, alloc, &pool, THERE.frame)?)?;
+    assert_eq!(rt;
+        (begun, counts, text.as_str()),
+        (true, (1000, 1000), "[1, 2, 3, 4, 0, 0]")
+    );
     Ok(())
 }

@@ -1,20 +1,40 @@
 //! Tests of `gt_live`, over what it makes public.
 //!
-//! They say what no contract says: that a run starts where memory is ample, the worked rows of calls with the words
-//! that their refusals tell, the records that a domain leaves behind, and domains beside each other in threads: how
-//! two of them share a page, and a storm of four that leaves every word idle.
+//! They say what no contract says: that a run starts where memory is ample; the worked rows of calls with the bytes
+//! that they read and the words that their refusals tell (`rows.rt`); and whole runs (`runs.rt`): the records that a
+//! domain leaves behind, calls that are refused memory (with bench/refused.sh), and domains beside each other in
+//! threads. Two of those share a page, a storm of four leaves every word idle, and three access the same frames.
 //!
-//! A domain can't be let go before it has left, and a closure that holds such a value goes into no thread. So the tests
-//! keep each domain beside its monitor in a value that leaves the run when it is let go (`running.rt`).
+//! One function plays all rows (`playing.rt`), since each function that starts a run costs as much proof as all tables.
+//! What a domain does in its thread is `working.rt`. The domains and their calls as values are those of `gt_running`.
 #![tactic(auto)]
 
+// A copy from a grant of a domain to a frame of the caller's own: domain, reference, offset; frame, offset; and length.
 #[cfg(test)]
-mod asking;
+macro_rules! fetch {
+    ($dom:expr, $gref:expr, $off:expr, $frame:expr, $to:expr, $len:expr) => {
+        Asks::Copy(CopyArgs {
+            source: End {
+                ptr: $gref,
+                domid: DomId($dom),
+                offset: $off,
+            },
+            dest: End {
+                ptr: $frame,
+                domid: DomId(DOMID_SELF),
+                offset: $to,
+            },
+            len: $len,
+            flags: 1,
+        })
+    };
+}
+
+#[cfg(test)]
+mod playing;
 #[cfg(test)]
 mod rows;
 #[cfg(test)]
-mod running;
+mod runs;
 #[cfg(test)]
-mod share;
-#[cfg(test)]
-mod storm;
+mod working;

@@ -1,358 +1,366 @@
 //! Worked rows, each a list of lines with their answers. A refusal carries the word that decided it, so that what the
 //! entry is, its counts and its generation are compared too.
-use crate::asking::{Asks, READ_ONLY, WRITABLE, numbered, rights, start, text};
-use crate::running::{Running, all_running};
-use gt_calls::Handle;
+use crate::playing::{Line, ONE, Row, Step, THREE, TWO, play_row};
+use gt_calls::{CopyArgs, End};
 use gt_entry::Entry;
-use gt_live::Monitor;
-use gt_types::{Allows, Config, ConfigFault, DomId, GrantRef, StartFault};
-use std::alloc::{AllocError, Global};
-use std::process::Abort;
+use gt_running::Asks::{
+    self, Bytes, Copy, Demote, GetVersion, Grant, Load, Map, Peek, Poke, Promote, Revoke, Setup,
+    Size, Store, Unmap, Version,
+};
+use gt_running::{READ_ONLY, WRITABLE, all_running, rights, start};
+use gt_types::{DOMID_SELF, DomId, GrantRef};
 use std::test::Fail;
 
-// Who asks, counted from 0, what, and the answer.
-#[derive(Clone, Copy)]
-struct Turn<'a> {
-    by: usize,
-    asks: Asks<'a>,
-    said: &'a str,
-}
+// The writable page with frame 5, for domain 2.
+const PAGE: Entry = Entry::Page {
+    dom: DomId(2),
+    ro: false,
+    frame: 5,
+};
 
-// The places of the domains 1, 2 and 3.
-const ONE: usize = 0;
+// The same, read-only.
+const READ_ONLY_PAGE: Entry = Entry::Page {
+    dom: DomId(2),
+    ro: true,
+    frame: 5,
+};
 
-const TWO: usize = 1;
+// The pages with frame 6 and frame 8, for domain 2. No domain has frame 8.
+const PAGE_6: Entry = Entry::Page {
+    dom: DomId(2),
+    ro: false,
+    frame: 6,
+};
 
-const THREE: usize = 2;
+const PAGE_8: Entry = Entry::Page {
+    dom: DomId(2),
+    ro: false,
+    frame: 8,
+};
 
-// The page with this frame, for domain 2.
-const fn page(ro: bool, frame: u64) -> Entry {
-    Entry::Page {
-        dom: DomId(2),
-        ro,
-        frame,
-    }
-}
+// Parts of frame 5, for domain 2: its first byte, the whole, and 50 bytes from byte 100 on.
+const FIRST_BYTE: Entry = Entry::Sub {
+    dom: DomId(2),
+    ro: false,
+    frame: 5,
+    off: 0,
+    len: 1,
+};
 
-// The part of frame 5 from its beginning, for domain 2.
-const fn part(len: u16) -> Entry {
-    Entry::Sub {
-        dom: DomId(2),
-        ro: false,
-        frame: 5,
-        off: 0,
-        len,
-    }
-}
+const WHOLE: Entry = Entry::Sub {
+    dom: DomId(2),
+    ro: false,
+    frame: 5,
+    off: 0,
+    len: 4096,
+};
 
-const fn line<'a>(by: usize, asks: Asks<'a>, said: &'a str) -> Turn<'a> {
-    Turn { by, asks, said }
-}
+const PART: Entry = Entry::Sub {
+    dom: DomId(2),
+    ro: false,
+    frame: 5,
+    off: 100,
+    len: 50,
+};
 
-// What a domain answers, as a text; a place without a domain is none.
-fn answer<P: Allows>(
-    alloc: Global,
-    domains: &mut [Running<'_, P>],
-    by: usize,
-    asks: Asks<'_>,
-    last: &mut Option<Handle>,
-) -> Result<String, AllocError> {
-    match domains.get_mut(by) {
-        Some(domain) => text(alloc, domain.ask(asks, last)),
-        None => format!(in alloc; "no domain"),
-    }
-}
+// Transitive entries: for domain 2 to an entry of domain 3 that nobody made, read-only or writable to one of domain 1
+// for domain 3, and for domain 2 to the first of domain 3.
+const VIA_7_OF_THREE: Entry = Entry::Via {
+    dom: DomId(2),
+    ro: false,
+    dom2: DomId(3),
+    gref: GrantRef(7),
+};
 
-// Compares each line's answer.
-fn play<P: Allows>(
-    rt: &impl Abort,
-    alloc: Global,
-    domains: &mut [Running<'_, P>],
-    lines: &[Turn<'_>],
-) -> Result<(), AllocError> {
-    let mut last = None;
-    'lines: for (at, line) in lines.iter().enumerate() {
-        let answer = answer(alloc, domains, line.by, line.asks, &mut last)?;
-        assert_eq!(rt; answer.as_str(), line.said, "line {at}");
-    }
-    Ok(())
-}
+const READ_ONLY_VIA_4_OF_ONE: Entry = Entry::Via {
+    dom: DomId(3),
+    ro: true,
+    dom2: DomId(1),
+    gref: GrantRef(4),
+};
 
-// Plays a row over tables of this version, whose entries begin at this generation.
-fn play_row(
-    rt: &impl Abort,
-    alloc: Global,
-    version: u32,
-    first_gen: u32,
-    lines: &[Turn<'_>],
-) -> Result<(), Fail> {
-    let (monitor, domains) = start(alloc, rights(alloc)?, version, first_gen)?;
-    let mut domains = all_running(alloc, &monitor, domains)?;
-    play(rt, alloc, domains.as_mut_slice(), lines)?;
-    Ok(())
-}
+const VIA_4_OF_ONE: Entry = Entry::Via {
+    dom: DomId(3),
+    ro: false,
+    dom2: DomId(1),
+    gref: GrantRef(4),
+};
 
-// How many domains a run of so many has.
-fn started(alloc: Global, count: u16) -> Result<usize, StartFault> {
-    let config = Config {
-        domains: numbered(alloc, count, 1)?,
-        first_gen: 0,
-    };
-    let (monitor, domains) = Monitor::new(alloc, config, rights(alloc)?)?;
-    let domains = all_running(alloc, &monitor, domains)?;
-    Ok(domains.len())
-}
+const VIA_0_OF_THREE: Entry = Entry::Via {
+    dom: DomId(2),
+    ro: false,
+    dom2: DomId(3),
+    gref: GrantRef(0),
+};
+
+// Four bytes of a frame of the caller's own, one byte on.
+const OVERLAP: CopyArgs = CopyArgs {
+    source: End {
+        ptr: 0,
+        domid: DomId(DOMID_SELF),
+        offset: 0,
+    },
+    dest: End {
+        ptr: 0,
+        domid: DomId(DOMID_SELF),
+        offset: 1,
+    },
+    len: 4,
+    flags: 0,
+};
+
+const A_MAPPING_IS_COUNTED_AND_GIVEN_UP: [Line; 13] = [
+    (TWO, Map(1, 0, READ_ONLY), "N10 -1 entry 1 0 0"),
+    (ONE, Grant(0, READ_ONLY_PAGE), "ok"),
+    (TWO, Map(1, 0, READ_ONLY), "ok"),
+    (ONE, Revoke(0), "N19 -1 entry 1 0 100020000015"),
+    (TWO, Unmap, "ok"),
+    (TWO, Unmap, "N6 -4"),
+    (ONE, Revoke(0), "ok"),
+    (ONE, Revoke(0), "N10 -1"),
+    (TWO, Map(1, 0, READ_ONLY), "N10 -1 entry 1 0 100000000000"),
+    (ONE, Grant(0, PAGE_6), "ok"),
+    (THREE, Map(1, 0, READ_ONLY), "N11 -1 entry 1 0 200020000001"),
+    (TWO, Map(9, 0, READ_ONLY), "N1 -2"),
+    (TWO, Map(1, 0, 3), "N2 -1"),
+];
+
+const THE_FIRST_RULE_REFUSES: [Line; 7] = [
+    (ONE, Grant(0, READ_ONLY_PAGE), "ok"),
+    (THREE, Map(1, 0, WRITABLE), "N11 -1 entry 1 0 100020000005"),
+    (TWO, Map(1, 0, WRITABLE), "N13 -1 entry 1 0 100020000005"),
+    (ONE, Grant(1, PAGE_8), "ok"),
+    (TWO, Map(1, 1, READ_ONLY), "N16 -9 entry 1 1 100020000001"),
+    (TWO, Map(1, 512, READ_ONLY), "N9 -3 domain 1 5"),
+    (TWO, Map(1, 511, READ_ONLY), "N10 -1 entry 1 511 0"),
+];
+
+const A_DEMOTION_LEAVES_A_READ_PIN: [Line; 12] = [
+    (ONE, Grant(0, PAGE), "ok"),
+    (TWO, Map(1, 0, READ_ONLY), "ok"),
+    (ONE, Demote(0), "ok"),
+    (ONE, Demote(0), "ok"),
+    (TWO, Map(1, 0, WRITABLE), "N13 -1 entry 1 0 200020000015"),
+    (ONE, Revoke(0), "N19 -1 entry 1 0 200020000015"),
+    (ONE, Promote(0), "ok"),
+    (ONE, Revoke(0), "N19 -1 entry 1 0 300020000011"),
+    (TWO, Unmap, "ok"),
+    (TWO, Map(1, 0, WRITABLE), "ok"),
+    (ONE, Demote(0), "N19 -1 entry 1 0 300020010001"),
+    (ONE, Promote(0), "ok"),
+];
+
+const A_PART_OR_A_VIA_IS_NOT_MAPPED: [Line; 4] = [
+    (ONE, Grant(0, WHOLE), "ok"),
+    (ONE, Grant(1, VIA_7_OF_THREE), "ok"),
+    (TWO, Map(1, 0, READ_ONLY), "N12 -1 entry 1 0 100020000009"),
+    (TWO, Map(1, 1, READ_ONLY), "N12 -1 entry 1 1 100020000003"),
+];
+
+const AN_ENTRY_WEARS_OUT: [Line; 5] = [
+    (ONE, Grant(0, PAGE), "ok"),
+    (ONE, Demote(0), "N22 -1"),
+    (ONE, Revoke(0), "ok"),
+    (ONE, Grant(0, PAGE), "N22 -1"),
+    (
+        TWO,
+        Map(1, 0, READ_ONLY),
+        "N10 -1 entry 1 0 fffff00000000000",
+    ),
+];
+
+const A_TABLE_GROWS_AND_CHANGES_ITS_VERSION: [Line; 14] = [
+    (ONE, Grant(0, FIRST_BYTE), "N21 -1"),
+    (ONE, Grant(0, PAGE), "ok"),
+    (ONE, Grant(0, PAGE), "N20 -1"),
+    (ONE, Version(2), "N24 -1"),
+    (ONE, Version(1), "ok"),
+    (ONE, Revoke(0), "ok"),
+    (ONE, Version(2), "ok"),
+    (TWO, GetVersion(1), "ok version=2"),
+    (TWO, Map(1, 256, READ_ONLY), "N9 -3 domain 1 6"),
+    (ONE, Setup(2), "ok frames=2"),
+    (TWO, Size(1), "ok frames=2 max=4"),
+    (TWO, Map(1, 256, READ_ONLY), "N10 -1 entry 1 256 0"),
+    (ONE, Setup(5), "N23 -1"),
+    (ONE, Version(3), "N2 -1"),
+];
+
+const BYTES_ARE_GRANTED: [Line; 7] = [
+    (ONE, Bytes(0, &[9, 0, 2, 0, 5, 0, 0, 0]), "N25 -1 reading"),
+    (ONE, Bytes(0, &[1, 0, 2, 0, 5, 0, 0, 0]), "ok"),
+    (ONE, Bytes(1, &[1, 0, 2, 0, 5, 0, 0]), "N25 -1 length"),
+    (ONE, Bytes(1, &[1, 1, 2, 0, 5, 0, 0, 0]), "N25 -1 sub_page"),
+    (ONE, Bytes(1, &[3, 0, 2, 0, 5, 0, 0, 0]), "N25 -1 type"),
+    (TWO, Map(1, 0, WRITABLE), "ok"),
+    (ONE, Revoke(0), "N19 -1 entry 1 0 100020010001"),
+];
+
+const BYTES_GO_THROUGH_A_MAPPING: [Line; 14] = [
+    (ONE, Grant(0, PAGE), "ok"),
+    (TWO, Map(1, 0, WRITABLE), "ok"),
+    (TWO, Store(10, &[0xc0, 0xff, 0xee]), "ok"),
+    (ONE, Peek(5, 9, 5), "ok [0, 192, 255, 238, 0]"),
+    (TWO, Load(9, 5), "ok [0, 192, 255, 238, 0]"),
+    (TWO, Peek(5, 9, 5), "ok [0, 0, 0, 0, 0]"),
+    (TWO, Load(4096, 0), "ok []"),
+    (TWO, Load(4096, 1), "N3 -10"),
+    (TWO, Peek(8, 0, 1), "N16 -9"),
+    (TWO, Poke(8, 0, &[1]), "N16 -9"),
+    (ONE, Revoke(0), "N19 -1 entry 1 0 100020010001"),
+    (TWO, Unmap, "ok"),
+    (ONE, Revoke(0), "ok"),
+    (ONE, Revoke(0), "N10 -1"),
+];
+
+const A_PAGE_IS_COPIED: [Line; 7] = [
+    (ONE, Grant(0, PAGE), "ok"),
+    (ONE, Poke(5, 4094, &[0xab, 0xcd]), "ok"),
+    (TWO, fetch!(1, 0, 0, 3, 0, 4096), "ok"),
+    (TWO, Peek(3, 4093, 3), "ok [0, 171, 205]"),
+    (TWO, fetch!(1, 0, 1, 3, 0, 4096), "N3 -10"),
+    (TWO, fetch!(1, 0, 4096, 3, 4096, 0), "ok"),
+    (ONE, Revoke(0), "ok"),
+];
+
+const A_PART_OF_A_PAGE_IS_COPIED: [Line; 7] = [
+    (ONE, Grant(0, PART), "ok"),
+    (TWO, fetch!(1, 0, 100, 3, 0, 50), "ok"),
+    (
+        TWO,
+        fetch!(1, 0, 149, 3, 0, 2),
+        "N14 -1 entry 1 0 100020000009",
+    ),
+    (TWO, fetch!(1, 0, 150, 3, 0, 0), "ok"),
+    (
+        TWO,
+        fetch!(1, 0, 151, 3, 0, 0),
+        "N14 -1 entry 1 0 100020000009",
+    ),
+    (
+        TWO,
+        fetch!(1, 0, 99, 3, 0, 0),
+        "N14 -1 entry 1 0 100020000009",
+    ),
+    (ONE, Revoke(0), "ok"),
+];
+
+const A_TRANSITIVE_COPY_TAKES_ONE_STEP_MORE: [Line; 13] = [
+    (ONE, Grant(4, PAGE_6), "ok"),
+    (ONE, Poke(6, 0, &[0x5a]), "ok"),
+    (TWO, Grant(0, READ_ONLY_VIA_4_OF_ONE), "ok"),
+    (THREE, fetch!(2, 0, 0, 0, 0, 1), "ok"),
+    (THREE, Peek(0, 0, 1), "ok [90]"),
+    (TWO, Revoke(0), "ok"),
+    (
+        THREE,
+        fetch!(2, 0, 0, 0, 0, 1),
+        "N10 -1 entry 2 0 100000000000",
+    ),
+    (ONE, Revoke(4), "ok"),
+    (ONE, Grant(4, VIA_0_OF_THREE), "ok"),
+    (TWO, Grant(0, VIA_4_OF_ONE), "ok"),
+    (
+        THREE,
+        fetch!(2, 0, 0, 0, 0, 1),
+        "N15 -1 entry 1 4 200020000003",
+    ),
+    (TWO, Revoke(0), "ok"),
+    (ONE, Revoke(4), "ok"),
+];
+
+const A_MAPPING_GIVEN_UP_MOVES_NO_BYTES: [Line; 12] = [
+    (ONE, Grant(0, PAGE), "ok"),
+    (TWO, Load(0, 1), "N6 -4"),
+    (TWO, Map(1, 0, READ_ONLY), "ok"),
+    (TWO, Unmap, "ok"),
+    (TWO, Unmap, "N6 -4"),
+    (TWO, Load(0, 1), "N6 -4"),
+    (TWO, Map(1, 0, READ_ONLY), "ok"),
+    (TWO, Store(0, &[1]), "N7 -8"),
+    (ONE, Demote(0), "ok"),
+    (ONE, Demote(0), "ok"),
+    (TWO, Load(0, 1), "ok [0]"),
+    (TWO, Map(1, 0, WRITABLE), "N13 -1 entry 1 0 200020000015"),
+];
+
+const A_COPY_OVERLAPS_ITSELF: [Line; 3] = [
+    (ONE, Poke(0, 0, &[1, 2, 3, 4]), "ok"),
+    (ONE, Copy(OVERLAP), "ok"),
+    (ONE, Peek(0, 0, 6), "ok [1, 1, 2, 3, 4, 0]"),
+];
+
+// Each row with its name, the version of the tables and the first generation of their entries.
+const ROWS: [(&str, u32, u32, &[Line]); 13] = [
+    (
+        "a mapping is counted and given up",
+        1,
+        0,
+        &A_MAPPING_IS_COUNTED_AND_GIVEN_UP,
+    ),
+    ("the first rule refuses", 1, 0, &THE_FIRST_RULE_REFUSES),
+    (
+        "a demotion leaves a read pin",
+        1,
+        0,
+        &A_DEMOTION_LEAVES_A_READ_PIN,
+    ),
+    (
+        "a part or a via is not mapped",
+        2,
+        0,
+        &A_PART_OR_A_VIA_IS_NOT_MAPPED,
+    ),
+    ("an entry wears out", 1, 1_048_574, &AN_ENTRY_WEARS_OUT),
+    (
+        "a table grows and changes its version",
+        1,
+        0,
+        &A_TABLE_GROWS_AND_CHANGES_ITS_VERSION,
+    ),
+    ("bytes are granted", 1, 0, &BYTES_ARE_GRANTED),
+    (
+        "bytes go through a mapping",
+        1,
+        0,
+        &BYTES_GO_THROUGH_A_MAPPING,
+    ),
+    ("a page is copied", 1, 0, &A_PAGE_IS_COPIED),
+    (
+        "a part of a page is copied",
+        2,
+        0,
+        &A_PART_OF_A_PAGE_IS_COPIED,
+    ),
+    (
+        "a transitive copy takes one step more",
+        2,
+        0,
+        &A_TRANSITIVE_COPY_TAKES_ONE_STEP_MORE,
+    ),
+    (
+        "a mapping given up moves no bytes",
+        1,
+        0,
+        &A_MAPPING_GIVEN_UP_MOVES_NO_BYTES,
+    ),
+    ("a copy overlaps itself", 1, 0, &A_COPY_OVERLAPS_ITSELF),
+];
 
 #[test]
-fn sixteen_domains_start(rt: HostRuntime) {
-    let one_more = StartFault::Config(ConfigFault::TooMany(DomId(17)));
-    let counts = [(1, Ok(1)), (16, Ok(16)), (17, Err(one_more))];
-    for (count, answer) in counts {
-        assert_eq!(rt; started(rt.alloc(), count), answer);
-    }
-}
-
-#[test]
-fn a_mapping_is_counted_and_given_up(rt: HostRuntime) -> Result<(), Fail> {
-    let lines = [
-        line(TWO, Asks::Map(1, 0, READ_ONLY), "N10 -1 entry 1 0 0"),
-        line(ONE, Asks::Grant(0, page(true, 5)), "ok"),
-        line(TWO, Asks::Map(1, 0, READ_ONLY), "ok"),
-        line(ONE, Asks::Revoke(0), "N19 -1 entry 1 0 100020000015"),
-        line(TWO, Asks::Unmap, "ok"),
-        line(TWO, Asks::Unmap, "N6 -4"),
-        line(ONE, Asks::Revoke(0), "ok"),
-        line(ONE, Asks::Revoke(0), "N10 -1"),
-        line(
-            TWO,
-            Asks::Map(1, 0, READ_ONLY),
-            "N10 -1 entry 1 0 100000000000",
-        ),
-        line(ONE, Asks::Grant(0, page(false, 6)), "ok"),
-        line(
-            THREE,
-            Asks::Map(1, 0, READ_ONLY),
-            "N11 -1 entry 1 0 200020000001",
-        ),
-        line(TWO, Asks::Map(9, 0, READ_ONLY), "N1 -2"),
-        line(TWO, Asks::Map(1, 0, 3), "N2 -1"),
-    ];
-    play_row(&rt, rt.alloc(), 1, 0, &lines)
-}
-
-#[test]
-fn the_first_rule_refuses(rt: HostRuntime) -> Result<(), Fail> {
-    let lines = [
-        line(ONE, Asks::Grant(0, page(true, 5)), "ok"),
-        line(
-            THREE,
-            Asks::Map(1, 0, WRITABLE),
-            "N11 -1 entry 1 0 100020000005",
-        ),
-        line(
-            TWO,
-            Asks::Map(1, 0, WRITABLE),
-            "N13 -1 entry 1 0 100020000005",
-        ),
-        line(ONE, Asks::Grant(1, page(false, 8)), "ok"),
-        line(
-            TWO,
-            Asks::Map(1, 1, READ_ONLY),
-            "N16 -9 entry 1 1 100020000001",
-        ),
-        line(TWO, Asks::Map(1, 512, READ_ONLY), "N9 -3 domain 1 5"),
-        line(TWO, Asks::Map(1, 511, READ_ONLY), "N10 -1 entry 1 511 0"),
-    ];
-    play_row(&rt, rt.alloc(), 1, 0, &lines)
-}
-
-#[test]
-fn a_demotion_leaves_a_read_pin(rt: HostRuntime) -> Result<(), Fail> {
-    let lines = [
-        line(ONE, Asks::Grant(0, page(false, 5)), "ok"),
-        line(TWO, Asks::Map(1, 0, READ_ONLY), "ok"),
-        line(ONE, Asks::Demote(0), "ok"),
-        line(ONE, Asks::Demote(0), "ok"),
-        line(
-            TWO,
-            Asks::Map(1, 0, WRITABLE),
-            "N13 -1 entry 1 0 200020000015",
-        ),
-        line(ONE, Asks::Revoke(0), "N19 -1 entry 1 0 200020000015"),
-        line(ONE, Asks::Promote(0), "ok"),
-        line(ONE, Asks::Revoke(0), "N19 -1 entry 1 0 300020000011"),
-        line(TWO, Asks::Unmap, "ok"),
-        line(TWO, Asks::Map(1, 0, WRITABLE), "ok"),
-        line(ONE, Asks::Demote(0), "N19 -1 entry 1 0 300020010001"),
-        line(ONE, Asks::Promote(0), "ok"),
-    ];
-    play_row(&rt, rt.alloc(), 1, 0, &lines)
-}
-
-#[test]
-fn a_part_or_a_via_is_not_mapped(rt: HostRuntime) -> Result<(), Fail> {
-    let via = Entry::Via {
-        dom: DomId(2),
-        ro: false,
-        dom2: DomId(3),
-        gref: GrantRef(7),
-    };
-    let lines = [
-        line(ONE, Asks::Grant(0, part(4096)), "ok"),
-        line(ONE, Asks::Grant(1, via), "ok"),
-        line(
-            TWO,
-            Asks::Map(1, 0, READ_ONLY),
-            "N12 -1 entry 1 0 100020000009",
-        ),
-        line(
-            TWO,
-            Asks::Map(1, 1, READ_ONLY),
-            "N12 -1 entry 1 1 100020000003",
-        ),
-    ];
-    play_row(&rt, rt.alloc(), 2, 0, &lines)
-}
-
-#[test]
-fn an_entry_wears_out(rt: HostRuntime) -> Result<(), Fail> {
-    let lines = [
-        line(ONE, Asks::Grant(0, page(false, 5)), "ok"),
-        line(ONE, Asks::Demote(0), "N22 -1"),
-        line(ONE, Asks::Revoke(0), "ok"),
-        line(ONE, Asks::Grant(0, page(false, 5)), "N22 -1"),
-        line(
-            TWO,
-            Asks::Map(1, 0, READ_ONLY),
-            "N10 -1 entry 1 0 fffff00000000000",
-        ),
-    ];
-    play_row(&rt, rt.alloc(), 1, 1_048_574, &lines)
-}
-
-#[test]
-fn a_table_grows_and_changes_its_version(rt: HostRuntime) -> Result<(), Fail> {
-    let lines = [
-        line(ONE, Asks::Grant(0, part(1)), "N21 -1"),
-        line(ONE, Asks::Grant(0, page(false, 5)), "ok"),
-        line(ONE, Asks::Grant(0, page(false, 5)), "N20 -1"),
-        line(ONE, Asks::Version(2), "N24 -1"),
-        line(ONE, Asks::Version(1), "ok"),
-        line(ONE, Asks::Revoke(0), "ok"),
-        line(ONE, Asks::Version(2), "ok"),
-        line(TWO, Asks::GetVersion(1), "ok version=2"),
-        line(TWO, Asks::Map(1, 256, READ_ONLY), "N9 -3 domain 1 6"),
-        line(ONE, Asks::Setup(2), "ok frames=2"),
-        line(TWO, Asks::Size(1), "ok frames=2 max=4"),
-        line(TWO, Asks::Map(1, 256, READ_ONLY), "N10 -1 entry 1 256 0"),
-        line(ONE, Asks::Setup(5), "N23 -1"),
-        line(ONE, Asks::Version(3), "N2 -1"),
-    ];
-    play_row(&rt, rt.alloc(), 1, 0, &lines)
-}
-
-#[test]
-fn bytes_are_granted(rt: HostRuntime) -> Result<(), Fail> {
-    let lines = [
-        line(
-            ONE,
-            Asks::Bytes(0, &[9, 0, 2, 0, 5, 0, 0, 0]),
-            "N25 -1 reading",
-        ),
-        line(ONE, Asks::Bytes(0, &[1, 0, 2, 0, 5, 0, 0, 0]), "ok"),
-        line(ONE, Asks::Bytes(1, &[1, 0, 2, 0, 5, 0, 0]), "N25 -1 length"),
-        line(
-            ONE,
-            Asks::Bytes(1, &[1, 1, 2, 0, 5, 0, 0, 0]),
-            "N25 -1 sub_page",
-        ),
-        line(
-            ONE,
-            Asks::Bytes(1, &[3, 0, 2, 0, 5, 0, 0, 0]),
-            "N25 -1 type",
-        ),
-        line(TWO, Asks::Map(1, 0, WRITABLE), "ok"),
-        line(ONE, Asks::Revoke(0), "N19 -1 entry 1 0 100020010001"),
-    ];
-    play_row(&rt, rt.alloc(), 1, 0, &lines)
-}
-
-// Two maps hold a revocation back until their domain has left. What it leaves are the records of its own calls.
-#[test]
-fn a_domain_that_leaves_gives_its_pins_back(rt: HostRuntime) -> Result<(), Fail> {
+fn rows_are_answered(rt: HostRuntime) -> Result<(), Fail> {
     let alloc = rt.alloc();
-    let (monitor, domains) = start(alloc, rights(alloc)?, 1, 0)?;
-    let mut domains = all_running(alloc, &monitor, domains)?;
-    let lines = [
-        line(ONE, Asks::Grant(0, page(false, 5)), "ok"),
-        line(TWO, Asks::Map(1, 0, READ_ONLY), "ok"),
-        line(TWO, Asks::Map(1, 0, WRITABLE), "ok"),
-        line(TWO, Asks::Unmap, "ok"),
-        line(TWO, Asks::Unmap, "N6 -4"),
-        line(TWO, Asks::Map(1, 0, WRITABLE), "ok"),
-        line(TWO, Asks::Map(9, 0, READ_ONLY), "N1 -2"),
-        line(TWO, Asks::GetVersion(1), "ok version=1"),
-        line(ONE, Asks::Revoke(0), "N19 -1 entry 1 0 100020010011"),
-    ];
-    play(&rt, alloc, domains.as_mut_slice(), &lines)?;
-    assert!(rt; domains.len() == 4);
-    let left = domains.remove(TWO).finish();
-    let after = [line(ONE, Asks::Revoke(0), "ok")];
-    play(&rt, alloc, domains.as_mut_slice(), &after)?;
-    let records = format!(in alloc; "{:?} {}", left.records(), left.lost())?;
-    assert_eq!(rt; records.as_str(), RECORDS);
-    Ok(())
-}
-
-const RECORDS: &str = "[\
-    Record { dom: DomId(2), call: Map { dom: DomId(1), gref: GrantRef(0), flags: 6 }, reply: Done }, \
-    Record { dom: DomId(2), call: Map { dom: DomId(1), gref: GrantRef(0), flags: 2 }, reply: Done }, \
-    Record { dom: DomId(2), call: Unmap { subject: Some((DomId(1), GrantRef(0))) }, reply: Done }, \
-    Record { dom: DomId(2), call: Unmap { subject: None }, \
-    reply: Denied(Denial { rule: N6, status: BadHandle, facts: None }) }, \
-    Record { dom: DomId(2), call: Map { dom: DomId(1), gref: GrantRef(0), flags: 2 }, reply: Done }, \
-    Record { dom: DomId(2), call: Map { dom: DomId(9), gref: GrantRef(0), flags: 6 }, \
-    reply: Denied(Denial { rule: N1, status: BadDomain, facts: None }) }, \
-    Record { dom: DomId(2), call: GetVersion { dom: DomId(1) }, reply: Version(1) }] 0";
-
-// Maps the first entry of domain 1 for reading so often. Answers how often that was Ok.
-fn map_often<P: Allows>(domain: &mut Running<'_, P>, times: u32) -> u32 {
-    let mut done = 0u32;
-    'maps: for _ in 0..times {
-        if domain.map(1, 0, READ_ONLY).is_ok() {
-            done = done.saturating_add(1);
-        }
+    for (name, version, first_gen, lines) in ROWS {
+        let row = Row {
+            name,
+            count: 4,
+            version,
+            first_gen,
+            steps: &[Step::Asked(lines)],
+            parts: &[],
+            behind: &[],
+        };
+        play_row(&rt, alloc, &row)?;
     }
-    done
-}
-
-// One mapping for each pin that a word has room for, and one more.
-#[test]
-fn a_word_has_room_for_4095_pins(rt: HostRuntime) -> Result<(), Fail> {
-    let alloc = rt.alloc();
-    let (monitor, domains) = start(alloc, rights(alloc)?, 1, 0)?;
-    let mut domains = all_running(alloc, &monitor, domains)?;
-    let granted = [line(ONE, Asks::Grant(0, page(false, 5)), "ok")];
-    play(&rt, alloc, domains.as_mut_slice(), &granted)?;
-    assert_eq!(rt;
-        domains.get_mut(TWO).map(|two| map_often(two, 4095)),
-        Some(4095)
-    );
-    let after = [
-        line(
-            TWO,
-            Asks::Map(1, 0, READ_ONLY),
-            "N17 -1 entry 1 0 10002000fff1",
-        ),
-        line(TWO, Asks::Map(1, 0, WRITABLE), "ok"),
-        line(ONE, Asks::Demote(0), "N19 -1 entry 1 0 10002001fff1"),
-        line(ONE, Asks::Revoke(0), "N19 -1 entry 1 0 10002001fff1"),
-    ];
-    play(&rt, alloc, domains.as_mut_slice(), &after)?;
-    assert!(rt; domains.len() == 4);
-    let left = domains.remove(TWO).finish();
-    assert_eq!(rt; left.records().len(), 4097);
-    let last = [line(ONE, Asks::Revoke(0), "ok")];
-    play(&rt, alloc, domains.as_mut_slice(), &last)?;
     Ok(())
 }

@@ -7,136 +7,28 @@ use std::sync::atomic::{AtomicBool, AtomicU64, Ordering};
 
 const TURNS: u64 = 100_000_000;
 
-/// A gate that lets a domain on once the flag is told, and gives up after so many turns.
-#[derive(Drop)]
-pub struct Turns {
-    told: [AtomicBool; 4],
+// Whom a gate lets on.
+#[derive(Clone, Copy, PartialEq, Eq)]
+enum Way {
+    /// Nobody, and it says so at once.
+    Closed,
+    /// Nobody, after all turns.
+    Deaf,
+    /// Whoever comes, whatever flag it waits for, once so many callers are there.
+    Meeting(u64),
+    /// A domain whose flag is told.
+    Flags,
 }
 
-impl Turns {
-    pub fn new() -> Turns {
-        Turns {
-            told: [
-                AtomicBool::new(false),
-                AtomicBool::new(false),
-                AtomicBool::new(false),
-                AtomicBool::new(false),
-            ],
-        }
-    }
-}
-
-impl Gate for Turns {
-    fn tell(&self, flag: usize) {
-        if let Some(it) = self.told.get(flag) {
-            it.store(true, Ordering::SeqCst);
-        }
-    }
-
-    fn pass(&self, flag: usize) -> bool {
-        let Some(it) = self.told.get(flag) else {
-            return false;
-        };
-        for _ in 0..TURNS {
-            if it.load(Ordering::SeqCst) {
-                return true;
-            }
-            spin_loop();
-        }
-        false
-    }
-}
-
-/// A gate that lets nobody on.
-#[derive(Drop)]
-pub struct Closed;
-
-impl Gate for Closed {
-    fn tell(&self, _flag: usize) {}
-
-    fn pass(&self, _flag: usize) -> bool {
-        false
-    }
-}
-
-/// A gate that hears nobody: it gives up after so many turns.
-#[derive(Drop)]
-pub struct Deaf;
-
-impl Gate for Deaf {
-    fn tell(&self, _flag: usize) {}
-
-    fn pass(&self, _flag: usize) -> bool {
-        for _ in 0..TURNS {
-            spin_loop();
-        }
-        false
-    }
-}
-
-/// A gate at which so many callers meet, whatever they wait for.
-#[derive(Drop)]
-pub struct Meeting {
-    wanted: u64,
-    callers: AtomicU64,
-}
-
-impl Meeting {
-    pub fn of(wanted: u64) -> Meeting {
-        Meeting {
-            wanted,
-            callers: AtomicU64::new(0),
-        }
-    }
-}
-
-impl Gate for Meeting {
-    fn tell(&self, _flag: usize) {}
-
-    fn pass(&self, _flag: usize) -> bool {
-        self.callers.fetch_add(1, Ordering::SeqCst);
-        for _ in 0..TURNS {
-            if self.callers.load(Ordering::SeqCst) >= self.wanted {
-                return true;
-            }
-            spin_loop();
-        }
-        false
-    }
-}
-
-/// A gate of limited turns that looks into the log where a flag is told and where one is awaited.
-#[derive(Drop)]
-pub struct Looking<'l> {
-    turns: Turns,
+// Records of a domain in a log: all below this number are there, and no more.
+#[derive(Clone, Copy)]
+struct Look<'l> {
     log: &'l SharedLog,
     dom: DomId,
     wanted: u64,
-    at_tell: AtomicBool,
-    at_pass: AtomicBool,
 }
 
-impl<'l> Looking<'l> {
-    /// It looks whether all records below this number are there, of this domain.
-    pub fn at(log: &'l SharedLog, dom: DomId, wanted: u64) -> Looking<'l> {
-        Looking {
-            turns: Turns::new(),
-            log,
-            dom,
-            wanted,
-            at_tell: AtomicBool::new(false),
-            at_pass: AtomicBool::new(false),
-        }
-    }
-
-    /// Whether a look found them, where a flag was told and where one was awaited.
-    pub fn found(&self) -> (bool, bool) {
-        (
-            self.at_tell.load(Ordering::SeqCst),
-            self.at_pass.load(Ordering::SeqCst),
-        )
-    }
-
+impl<'l> Look<'l> {
     fn has_all(&self) -> bool {
         for number in 0..self.wanted {
             if self.log.find(self.dom, number).is_none() {
@@ -147,18 +39,103 @@ impl<'l> Looking<'l> {
     }
 }
 
-impl<'l> Gate for Looking<'l> {
-    fn tell(&self, flag: usize) {
-        if self.has_all() {
-            self.at_tell.store(true, Ordering::SeqCst);
+/// A gate that gives up after so many turns. It may look into a log where a flag is told and where one is awaited.
+#[derive(Drop)]
+pub struct Turns<'l> {
+    way: Way,
+    look: Option<Look<'l>>,
+    told: [AtomicBool; 4],
+    callers: AtomicU64,
+    at_tell: AtomicBool,
+    at_pass: AtomicBool,
+}
+
+impl<'l> Turns<'l> {
+    fn new(way: Way, look: Option<Look<'l>>) -> Turns<'l> {
+        Turns {
+            way,
+            look,
+            told: [
+                AtomicBool::new(false),
+                AtomicBool::new(false),
+                AtomicBool::new(false),
+                AtomicBool::new(false),
+            ],
+            callers: AtomicU64::new(0),
+            at_tell: AtomicBool::new(false),
+            at_pass: AtomicBool::new(false),
         }
-        self.turns.tell(flag);
+    }
+
+    /// A gate that lets nobody on.
+    pub fn closed() -> Turns<'l> {
+        Turns::new(Way::Closed, None)
+    }
+
+    /// A gate that hears nobody: it lets nobody on after all turns.
+    pub fn deaf() -> Turns<'l> {
+        Turns::new(Way::Deaf, None)
+    }
+
+    /// A gate at which so many callers meet, whatever they wait for.
+    pub fn meeting(callers: u64) -> Turns<'l> {
+        Turns::new(Way::Meeting(callers), None)
+    }
+
+    /// A gate that lets a domain on once its flag is told. It looks whether all records below this number are there, of
+    /// this domain, and no more.
+    pub fn looking(log: &'l SharedLog, dom: DomId, wanted: u64) -> Turns<'l> {
+        Turns::new(Way::Flags, Some(Look { log, dom, wanted }))
+    }
+
+    /// Whether a look found them, where a flag was told and where one was awaited.
+    pub fn found(&self) -> (bool, bool) {
+        (
+            self.at_tell.load(Ordering::SeqCst),
+            self.at_pass.load(Ordering::SeqCst),
+        )
+    }
+
+    // Notes where the look finds what it looks for.
+    fn note(&self, at: &AtomicBool) {
+        if self.look.is_some_and(|look| look.has_all()) {
+            at.store(true, Ordering::SeqCst);
+        }
+    }
+
+    // Whether it lets the domain on now.
+    fn lets_on(&self, flag: usize) -> bool {
+        match self.way {
+            Way::Closed | Way::Deaf => false,
+            Way::Meeting(callers) => self.callers.load(Ordering::SeqCst) >= callers,
+            Way::Flags => match self.told.get(flag) {
+                Some(told) => told.load(Ordering::SeqCst),
+                None => false,
+            },
+        }
+    }
+}
+
+impl<'l> Gate for Turns<'l> {
+    fn tell(&self, flag: usize) {
+        self.note(&self.at_tell);
+        if let Some(told) = self.told.get(flag) {
+            told.store(true, Ordering::SeqCst);
+        }
     }
 
     fn pass(&self, flag: usize) -> bool {
-        if self.has_all() {
-            self.at_pass.store(true, Ordering::SeqCst);
+        self.note(&self.at_pass);
+        self.callers.fetch_add(1, Ordering::SeqCst);
+        if self.way == Way::Closed {
+            return false;
         }
-        self.turns.pass(flag)
+        for _ in 0..TURNS {
+            if self.lets_on(flag) {
+                return true;
+            }
+            spin_loop();
+        }
+        false
     }
 }

@@ -1,5 +1,5 @@
 //! Many domains with long lists.
-use crate::gates::Meeting;
+use crate::gates::Turns;
 use crate::scripts::run_text;
 use std::alloc::{AllocError, Global};
 use std::fmt::Write;
@@ -52,9 +52,9 @@ fn sixteen_domains_print_the_same_in_each_run(rt: HostRuntime) -> Result<(), Fai
     let script = script(alloc)?;
     let wanted = answers(alloc)?;
     for _ in 0..2 {
-        let gate = Meeting::of(u64::from(DOMAINS));
+        let gate = Turns::meeting(u64::from(DOMAINS));
         let out = run_text(&rt, alloc, script.as_str(), None, &gate)?;
-        assert!(rt; out.as_slice() == wanted.as_bytes());
+        assert!(rt; out.is(wanted.as_bytes(), ""));
     }
     Ok(())
 }

@@ -1,35 +1,62 @@
 //! Worked rows.
-use crate::gates::{Closed, Looking, Meeting};
+use crate::gates::Turns;
 use crate::scripts::run_body;
 use gt_audit::SharedLog;
-use gt_run::{Flags, RunFault};
+use gt_run::Flags;
 use gt_types::DomId;
 use std::test::Fail;
 
+const MEET: &str = "tell 1 x
+await 1 y
+tell 2 y
+await 2 x
+";
+
+// Domains that all wait for each other before one goes on, so that none of them can be served after another.
+const MEETINGS: [(u64, &str); 2] = [
+    (2, MEET),
+    (
+        3,
+        "tell 1 x
+await 1 y
+tell 2 y
+await 2 x
+tell 3 z
+await 3 x
+",
+    ),
+];
+
 #[test]
-fn two_domains_meet(rt: HostRuntime) -> Result<(), Fail> {
-    let body = "tell 1 x\nawait 1 y\ntell 2 y\nawait 2 x\n";
-    let out = run_body(&rt, rt.alloc(), body, None, &Meeting::of(2))?;
-    assert_eq!(rt; out.as_slice(), "".as_bytes());
+fn domains_meet(rt: HostRuntime) -> Result<(), Fail> {
+    for (count, body) in MEETINGS {
+        let out = run_body(&rt, rt.alloc(), body, None, &Turns::meeting(count))?;
+        assert!(rt; out.is("".as_bytes(), ""), "{count} domains");
+    }
     Ok(())
 }
 
-#[test]
-fn three_domains_meet(rt: HostRuntime) -> Result<(), Fail> {
-    let body = "tell 1 x\nawait 1 y\ntell 2 y\nawait 2 x\ntell 3 z\nawait 3 x\n";
-    let out = run_body(&rt, rt.alloc(), body, None, &Meeting::of(3))?;
-    assert_eq!(rt; out.as_slice(), "".as_bytes());
-    Ok(())
-}
+const ONE_WAITS: &str = "do 1 grant 0 page 2 rw 5
+await 1 x
+do 1 revoke 0
+do 2 map h 1 1 ro
+tell 2 x
+do 2 peek 0 0 1
+";
 
+const ONE_WAITED: &str = "12 1 ok
+13 1 gate
+15 2 N10 -1
+17 2 ok 00
+";
+
+// What a gate answers stops the one domain that asked it, at once and after all its turns.
 #[test]
-fn a_false_gate_stops_its_domain(rt: HostRuntime) -> Result<(), Fail> {
-    let body = "do 1 grant 0 page 2 rw 5\nawait 1 x\ndo 1 revoke 0\ndo 2 map h 1 1 ro\ntell 2 x\n";
-    let out = run_body(&rt, rt.alloc(), body, None, &Closed)?;
-    assert_eq!(rt;
-        out.as_slice(),
-        "12 1 ok\n13 1 gate\n15 2 N10 -1\n".as_bytes()
-    );
+fn a_gate_gives_up(rt: HostRuntime) -> Result<(), Fail> {
+    for gate in [Turns::closed(), Turns::deaf()] {
+        let out = run_body(&rt, rt.alloc(), ONE_WAITS, None, &gate)?;
+        assert!(rt; out.is(ONE_WAITED.as_bytes(), ""));
+    }
     Ok(())
 }
 
@@ -44,6 +71,12 @@ await 1 b
 do 1 revoke 0
 ";
 
+const SHARED: &str = "12 1 ok
+19 1 ok
+15 2 ok
+16 2 ok
+";
+
 /// What it prints with its audit lines.
 pub const SHARING_AUDITED: &str = "12 1 ok
 19 1 ok
@@ -52,27 +85,6 @@ pub const SHARING_AUDITED: &str = "12 1 ok
 audit 2 map 1 0 2 : ok
 audit 2 unmap 1 0 : ok
 ";
-
-#[test]
-fn a_page_is_shared(rt: HostRuntime) -> Result<(), Fail> {
-    let gate = Flags::new(&rt, rt.alloc())?;
-    let out = run_body(&rt, rt.alloc(), SHARING, None, &gate)?;
-    assert_eq!(rt;
-        out.as_slice(),
-        "12 1 ok\n19 1 ok\n15 2 ok\n16 2 ok\n".as_bytes()
-    );
-    Ok(())
-}
-
-#[test]
-fn records_are_told_before_the_next_line(rt: HostRuntime) -> Result<(), Fail> {
-    let log = SharedLog::new(rt.alloc())?;
-    let gate = Looking::at(&log, DomId(2), 2);
-    let out = run_body(&rt, rt.alloc(), SHARING, Some(&log), &gate)?;
-    assert_eq!(rt; out.as_slice(), SHARING_AUDITED.as_bytes());
-    assert_eq!(rt; gate.found().0, true);
-    Ok(())
-}
 
 const AWAITING: &str = "do 1 grant 0 page 2 rw 5
 tell 1 a
@@ -83,16 +95,31 @@ do 2 unmap h
 await 2 b
 ";
 
+const AWAITING_AUDITED: &str = "12 1 ok
+16 2 ok
+17 2 ok
+audit 2 map 1 0 2 : ok
+audit 2 unmap 1 0 : ok
+";
+
+// Each body with what it prints, and whether a gate finds both records of domain 2 where a flag is told and where one
+// is awaited; how far domain 2 has come where domain 1 waits is not said.
+const RECORDED: [(&str, &str, bool, Option<bool>); 2] = [
+    (SHARING, SHARING_AUDITED, true, None),
+    (AWAITING, AWAITING_AUDITED, false, Some(true)),
+];
+
 #[test]
-fn records_are_told_before_an_await(rt: HostRuntime) -> Result<(), Fail> {
-    let log = SharedLog::new(rt.alloc())?;
-    let gate = Looking::at(&log, DomId(2), 2);
-    let out = run_body(&rt, rt.alloc(), AWAITING, Some(&log), &gate)?;
-    assert_eq!(rt;
-        out.as_slice(),
-        "12 1 ok\n16 2 ok\n17 2 ok\naudit 2 map 1 0 2 : ok\naudit 2 unmap 1 0 : ok\n".as_bytes()
-    );
-    assert_eq!(rt; gate.found(), (false, true));
+fn records_are_told_before_the_next_line(rt: HostRuntime) -> Result<(), Fail> {
+    for (body, printed, at_tell, at_pass) in RECORDED {
+        let log = SharedLog::new(rt.alloc())?;
+        let gate = Turns::looking(&log, DomId(2), 2);
+        let out = run_body(&rt, rt.alloc(), body, Some(&log), &gate)?;
+        let (told, passed) = gate.found();
+        let found = (told, at_pass.map(|_| passed));
+        let is_printed = out.is(printed.as_bytes(), "");
+        assert_eq!(rt; (is_printed, found), (true, (at_tell, at_pass)));
+    }
     Ok(())
 }
 
@@ -108,16 +135,13 @@ do 1 peek 5 0 1
 do 1 revoke 0
 ";
 
-#[test]
-fn bytes_go_through_a_page(rt: HostRuntime) -> Result<(), Fail> {
-    let gate = Flags::new(&rt, rt.alloc())?;
-    let out = run_body(&rt, rt.alloc(), BYTES, None, &gate)?;
-    assert_eq!(rt;
-        out.as_slice(),
-        "12 1 ok\n20 1 ok 77\n21 1 ok\n15 2 ok\n16 2 ok\n17 2 ok\n".as_bytes()
-    );
-    Ok(())
-}
+const BYTES_READ: &str = "12 1 ok
+20 1 ok 77
+21 1 ok
+15 2 ok
+16 2 ok
+17 2 ok
+";
 
 // Each call once, with what it answers, on one domain and as seen by another.
 const EACH_CALL: &str = "do 1 grant 0 page 2 rw 5
@@ -184,27 +208,21 @@ const EACH_ANSWER: &str = "12 1 ok
 44 2 N16 -9
 ";
 
-#[test]
-fn each_call_is_answered(rt: HostRuntime) -> Result<(), Fail> {
-    let gate = Flags::new(&rt, rt.alloc())?;
-    let out = run_body(&rt, rt.alloc(), EACH_CALL, None, &gate)?;
-    assert_eq!(rt; out.as_slice(), EACH_ANSWER.as_bytes());
-    Ok(())
-}
+// Each body with what it prints, and its fault.
+const BODIES: [(&str, &str, &str); 5] = [
+    (MEET, "", ""),
+    (SHARING, SHARED, ""),
+    (BYTES, BYTES_READ, ""),
+    (EACH_CALL, EACH_ANSWER, ""),
+    ("await 1 x\ntell 2 y\n", "", "line 12: stuck"),
+];
 
 #[test]
-fn a_script_that_is_stuck_writes_nothing(rt: HostRuntime) -> Result<(), Fail> {
-    let gate = Flags::new(&rt, rt.alloc())?;
-    let stuck = run_body(&rt, rt.alloc(), "await 1 x\ntell 2 y\n", None, &gate);
-    assert!(rt; matches!(stuck, Err(RunFault::Play(_))));
-    Ok(())
-}
-
-#[test]
-fn two_domains_wait_for_each_other(rt: HostRuntime) -> Result<(), Fail> {
-    let gate = Flags::new(&rt, rt.alloc())?;
-    let body = "tell 1 x\nawait 1 y\ntell 2 y\nawait 2 x\n";
-    let out = run_body(&rt, rt.alloc(), body, None, &gate)?;
-    assert_eq!(rt; out.as_slice(), "".as_bytes());
+fn bodies_are_run(rt: HostRuntime) -> Result<(), Fail> {
+    for (body, printed, fault) in BODIES {
+        let gate = Flags::new(&rt, rt.alloc())?;
+        let out = run_body(&rt, rt.alloc(), body, None, &gate)?;
+        assert!(rt; out.is(printed.as_bytes(), fault), "{body}");
+    }
     Ok(())
 }

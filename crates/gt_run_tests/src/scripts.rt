@@ -1,7 +1,8 @@
 //! Scripts of worked runs.
 use gt_audit::SharedLog;
+use gt_failing::{FailingReader, FailingWriter};
 use gt_run::{Gate, RunFault, run};
-use std::alloc::Global;
+use std::alloc::{AllocError, Global};
 use std::sync::Wait;
 use std::thread::Threads;
 
@@ -19,27 +20,65 @@ domain 2 u:r:b_t 8 1 1
 domain 3 u:r:c_t 8 1 1
 ";
 
-/// Runs a script, and answers what it prints.
+/// What a run wrote, and its fault as a text, which is empty where there was none.
+#[derive(Drop)]
+pub struct Ended {
+    pub out: Vec<u8>,
+    pub fault: String,
+}
+
+impl Ended {
+    /// Whether just this was written, with this fault.
+    pub fn is(&self, out: &[u8], fault: &str) -> bool {
+        self.out.as_slice() == out && self.fault.as_str() == fault
+    }
+}
+
+/// Runs a script. Each read fails behind so many bytes of it, each write behind so many bytes of what is printed.
+pub fn run_failing<R: Threads + Wait + Sync, G: Gate + Sync>(
+    rt: &R,
+    alloc: Global,
+    script: &str,
+    limits: (usize, usize),
+    log: Option<&SharedLog>,
+    gate: &G,
+) -> Result<Ended, AllocError> {
+    let (reads, writes) = limits;
+    let mut reader = FailingReader::new(script.as_bytes(), reads);
+    let mut writer = FailingWriter::new(Vec::new(alloc), writes);
+    let ended = run(rt, alloc, &mut reader, &mut writer, log, gate);
+    Ok(Ended {
+        out: writer.taken,
+        fault: fault_text(alloc, &ended)?,
+    })
+}
+
+fn fault_text(alloc: Global, ended: &Result<(), RunFault>) -> Result<String, AllocError> {
+    match ended {
+        Ok(()) => Ok(String::new(alloc)),
+        Err(fault) => format!(in alloc; "{fault}"),
+    }
+}
+
+/// Runs a script of which all is read and written.
 pub fn run_text<R: Threads + Wait + Sync, G: Gate + Sync>(
     rt: &R,
     alloc: Global,
     script: &str,
     log: Option<&SharedLog>,
     gate: &G,
-) -> Result<Vec<u8>, RunFault> {
-    let mut out = Vec::new(alloc);
-    run(rt, alloc, &mut script.as_bytes(), &mut out, log, gate)?;
-    Ok(out)
+) -> Result<Ended, AllocError> {
+    run_failing(rt, alloc, script, (usize::MAX, usize::MAX), log, gate)
 }
 
-/// Runs a body after the head, and answers what it prints.
+/// Runs a body after the head.
 pub fn run_body<R: Threads + Wait + Sync, G: Gate + Sync>(
     rt: &R,
     alloc: Global,
     body: &str,
     log: Option<&SharedLog>,
     gate: &G,
-) -> Result<Vec<u8>, RunFault> {
+) -> Result<Ended, AllocError> {
     let script = format!(in alloc; "{HEAD}{body}")?;
     run_text(rt, alloc, script.as_str(), log, gate)
 }

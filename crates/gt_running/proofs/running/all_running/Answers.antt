@@ -3,7 +3,7 @@ use Rattle.std.proofs.lemmas.List.Elements.{All-head, All-tail}
 use Rattle.std.specs.Vec.Iter.{into_iter_items}
 use Rattle.gt_live.specs.Domains.{IsOf}
 use Rattle.gt_live.specs.declared.domain.Domain.{Domain}
-use Rattle.gt_live_tests.proofs.running.all_running.Goals as goal
+use Rattle.gt_running.proofs.running.all_running.Goals as goal
 
 pub new-requires : goal.new-requires
 new-requires g c =

@@ -2,7 +2,7 @@ use Rattle.std.proofs.Common.{◌+◌, ◌≤◌, vec_len, All}
 use Rattle.std.specs.Prelude.{vec_capacity}
 use Rattle.std.specs.Vec.Iter.{into_iter_items, into_iter_len}
 use Rattle.gt_live.specs.Domains.{IsOf}
-use Rattle.gt_waiting_tests.proofs.running.all_running.Given as goal
+use Rattle.gt_running.proofs.running.all_running.Given as goal
 
 abbrev pub invariant-rest : goal.invariant-rest
 invariant-rest g l =

@@ -1,0 +1,133 @@
+//! Accesses by a seat to frames of its own domain.
+ghost use Rattle.std.specs.Prelude.{◌≡◌, IfOk};
+ghost use Rattle.gt_words.specs.Conditions.{IsSeatOf};
+
+use crate::places::{BYTES, config, text};
+use gt_access::{Run, copy_by, read_by, write_by};
+use gt_calls::{Pins, Route};
+use gt_frames::{FrameName, Pool, Read, Spot};
+use gt_types::{Allows, Config, Perms, Range, StartFault, TypeId};
+use gt_words::{Seat, Words};
+use std::alloc::{AllocError, Global};
+use std::process::Abort;
+use std::sync::Wait;
+use std::test::Fail;
+
+// A policy that allows everything.
+struct Everything;
+
+impl Allows for Everything {
+    ghost use Rattle.std.specs.Prelude.{true};
+
+    ghost may = { λ _ _ _ _. true };
+
+    fn allows(&self, _source: TypeId, _target: TypeId, _perm: Perms) -> bool {
+        true
+    }
+}
+
+// The words of two domains, and the seat of the first.
+fn start(rt: &impl Abort, alloc: Global, config: &Config) -> Result<(Words, Seat), StartFault>
+    ensures { IfOk result (λ r. IsSeatOf r.0 r.1) }
+{
+    let (words, mut seats) = Words::new(alloc, config)?;
+    if seats.is_empty() {
+        panic!(rt; "no seats");
+    }
+    let first = seats.remove(0);
+    Ok((words, first))
+}
+
+// Writes four bytes to a frame of its own.
+fn wrote<R: Wait>(rt: &R, run: &Run<'_, Everything>, seat: &Seat, number: u64) -> bool
+    requires { IsSeatOf run.now.words.now seat.now }
+{
+    let name = FrameName {
+        owner: seat.dom(),
+        number,
+    };
+    write_by(rt, run, seat, Route::Own, name, 0, &BYTES).is_ok()
+}
+
+// The place with this number and offset in a frame of its own.
+fn own(seat: &Seat, place: (u64, u16)) -> Spot
+    ensures { result ≡ record { frame = record { owner = seat.now.dom; number = place.0 }; off = place.1 } }
+{
+    Spot {
+        frame: FrameName {
+            owner: seat.dom(),
+            number: place.0,
+        },
+        off: place.1,
+    }
+}
+
+// Copies four bytes between two frames of its own.
+fn copied<R: Wait>(
+    rt: &R,
+    run: &Run<'_, Everything>,
+    seat: &Seat,
+    from: (u64, u16),
+    to: (u64, u16),
+) -> bool
+    requires { IsSeatOf run.now.words.now seat.now }
+{
+    let (source, dest) = (own(seat, from), own(seat, to));
+    let routes = Pins {
+        source: Route::Own,
+        dest: Route::Own,
+    };
+    source.off <= 4092
+        && dest.off <= 4092
+        && copy_by(rt, run, seat, routes, source, dest, 4).is_ok()
+}
+
+// The first six bytes of a frame of its own.
+fn first_bytes<R: Wait>(
+    rt: &R,
+    alloc: Global,
+    run: &Run<'_, Everything>,
+    seat: &Seat,
+    number: u64,
+) -> Result<Option<Read>, AllocError>
+    requires { IsSeatOf run.now.words.now seat.now }
+{
+    let room = Vec::with_capacity(alloc, 6)?;
+    let name = FrameName {
+        owner: seat.dom(),
+        number,
+    };
+    let range = Range { off: 0, len: 6 };
+    Ok(read_by(rt, run, seat, Route::Own, name, range, room))
+}
+
+// Where a copy of four bytes begins and ends, frame and offset, whether it is made, and the first bytes of the frame
+// written then.
+const COPIES: [((u64, u16), (u64, u16), bool, &str); 5] = [
+    ((0, 0), (0, 1), true, "[1, 1, 2, 3, 4, 0]"),
+    ((0, 1), (1, 2), true, "[0, 0, 1, 2, 3, 4]"),
+    ((1, 2), (0, 0), true, "[1, 2, 3, 4, 4, 0]"),
+    ((1, 0), (2, 0), false, "none"),
+    ((2, 0), (1, 0), false, "[0, 0, 1, 2, 3, 4]"),
+];
+
+#[test]
+fn own_frames_are_written_copied_and_read(rt: HostRuntime) -> Result<(), Fail> {
+    let alloc = rt.alloc();
+    let config = config(alloc)?;
+    let (words, seat) = start(&rt, alloc, &config)?;
+    let pool = Pool::new(alloc, &config)?;
+    let run = Run {
+        words: &words,
+        config: &config,
+        rights: &Everything,
+        pool: &pool,
+    };
+    let begun = wrote(&rt, &run, &seat, 0);
+    for (from, to, done, bytes) in COPIES {
+        let answer = copied(&rt, &run, &seat, from, to);
+        let text = text(alloc, first_bytes(&rt, alloc, &run, &seat, to.0)?)?;
+        assert_eq!(rt; (begun, answer, text.as_str()), (true, done, bytes));
+    }
+    Ok(())
+}

@@ -1,0 +1,161 @@
+//! Runs of a table: lines that domains are asked, with what they must answer, and then threads.
+use crate::working::{Behind, Part, work_at_once};
+use gt_running::{Asks, READ_ONLY, Running, Said, all_running, rights, start, text};
+use gt_types::{Allows, Memory, Rule, StartFault};
+use std::alloc::Global;
+use std::process::Abort;
+use std::sync::Wait;
+use std::thread::Threads;
+
+/// Who asks, counted from 0, what, and the answer.
+pub type Line<'a> = (usize, Asks<'a>, &'a str);
+
+/// The places of the domains 1, 2 and 3.
+pub const ONE: usize = 0;
+
+pub const TWO: usize = 1;
+
+pub const THREE: usize = 2;
+
+/// What is done in a run.
+#[derive(Clone, Copy)]
+pub enum Step<'a> {
+    /// Lines, each with its answer.
+    Asked(&'a [Line<'a>]),
+    /// The same, where a line that is refused memory is asked again.
+    Insisted(&'a [Line<'a>]),
+    /// The last domain maps the first entry of domain 1 for reading, so often.
+    MapsOften(u32),
+    /// The last domain leaves, with these records, and so many lost ones.
+    Leaves(&'a str),
+    /// The last domain leaves, with so many records.
+    LeavesMany(usize),
+}
+
+/// A run: its name, how many domains, the version of their tables, the first generation of their entries, and what is
+/// done step by step. Then the last domains do their parts for so many rounds, each in a thread of its own, and leave
+/// these entries idle behind.
+#[derive(Clone, Copy)]
+pub struct Row<'a> {
+    pub name: &'a str,
+    pub count: u16,
+    pub version: u32,
+    pub first_gen: u32,
+    pub steps: &'a [Step<'a>],
+    pub parts: &'a [(Part, u32)],
+    pub behind: &'a [Behind],
+}
+
+// What the domain at this place answers.
+fn said<R: Wait + Abort, P: Allows>(
+    rt: &R,
+    domains: &mut [Running<'_, P>],
+    by: usize,
+    asks: Asks<'_>,
+) -> Said {
+    match domains.get_mut(by) {
+        Some(domain) => domain.ask(rt, asks),
+        None => panic!(rt; "no such domain"),
+    }
+}
+
+fn is_of_memory(said: &Said) -> bool {
+    match said {
+        Said::Denied(denial) => denial.rule == Rule::N26,
+        _ => false,
+    }
+}
+
+// Compares each line's answer.
+fn play<R: Wait + Abort, P: Allows>(
+    rt: &R,
+    alloc: Global,
+    domains: &mut [Running<'_, P>],
+    lines: &[Line<'_>],
+    insists: bool,
+) -> Result<(), Memory> {
+    'lines: for (at, (by, asks, wanted)) in lines.iter().enumerate() {
+        let mut answer = said(rt, domains, *by, *asks);
+        if insists && is_of_memory(&answer) {
+            answer = said(rt, domains, *by, *asks);
+        }
+        let text = text(alloc, &answer)?;
+        assert_eq!(rt; text.as_str(), *wanted, "line {at}");
+    }
+    Ok(())
+}
+
+// Maps the first entry of domain 1 for reading so often. Answers how often that was Ok.
+fn map_often<P: Allows>(domain: Option<&mut Running<'_, P>>, times: u32) -> u32 {
+    let Some(domain) = domain else {
+        return 0;
+    };
+    let mut done = 0u32;
+    'maps: for _ in 0..times {
+        if domain.map(1, 0, READ_ONLY).is_ok() {
+            done = done.saturating_add(1);
+        }
+    }
+    done
+}
+
+// What a domain leaves, as a text: its records and how many were lost.
+fn left<P: Allows>(alloc: Global, domain: Option<Running<'_, P>>) -> Result<String, Memory> {
+    let Some(domain) = domain else {
+        return Ok(String::new(alloc));
+    };
+    let left = domain.finish();
+    Ok(format!(in alloc; "{:?} {}", left.records(), left.lost())?)
+}
+
+// How many records a domain leaves.
+fn count_left<P: Allows>(domain: Option<Running<'_, P>>) -> usize {
+    match domain {
+        Some(domain) => domain.finish().records().len(),
+        None => 0,
+    }
+}
+
+// Makes a step, and compares what comes of it.
+fn make<R: Wait + Abort, P: Allows>(
+    rt: &R,
+    alloc: Global,
+    domains: &mut Vec<Running<'_, P>>,
+    step: Step<'_>,
+) -> Result<(), Memory> {
+    match step {
+        Step::Asked(lines) => play(rt, alloc, domains.as_mut_slice(), lines, false)?,
+        Step::Insisted(lines) => play(rt, alloc, domains.as_mut_slice(), lines, true)?,
+        Step::MapsOften(times) => {
+            let done = map_often(domains.last_mut(), times);
+            assert_eq!(rt; done, times);
+        }
+        Step::Leaves(records) => {
+            let text = left(alloc, domains.pop())?;
+            assert_eq!(rt; text.as_str(), records);
+        }
+        Step::LeavesMany(records) => {
+            let count = count_left(domains.pop());
+            assert_eq!(rt; count, records);
+        }
+    }
+    Ok(())
+}
+
+/// Plays a row. Answers how many domains it had at the beginning.
+pub fn play_row<R: Threads + Wait + Abort + Sync>(
+    rt: &R,
+    alloc: Global,
+    row: &Row<'_>,
+) -> Result<usize, StartFault> {
+    let rights = rights(alloc)?;
+    let (monitor, domains) = start(alloc, rights, row.count, row.version, row.first_gen)?;
+    let mut domains = all_running(alloc, &monitor, domains)?;
+    let count = domains.len();
+    'steps: for step in row.steps.iter() {
+        make(rt, alloc, &mut domains, *step)?;
+    }
+    let fair = work_at_once(rt, alloc, domains, row.parts, row.behind)?;
+    assert!(rt; fair, "{}", row.name);
+    Ok(count)
+}

@@ -1,0 +1,340 @@
+//! What domains do at once, each in a thread of its own.
+use gt_entry::{Control, Entry, Kind};
+use gt_running::{Asks, READ_ONLY, Running, Said, WRITABLE};
+use gt_types::{Allows, Denial, DomId, Facts, Memory, Rule};
+use std::alloc::{AllocError, Global};
+use std::sync::Wait;
+use std::thread::{self, Threads};
+
+/// So many bytes go with one access.
+pub const LEN: u16 = 64;
+
+/// What an owner knows of its entry from its own calls.
+#[derive(Clone, Copy)]
+pub struct Kept {
+    valid: bool,
+    ro: bool,
+    generation: u32,
+}
+
+/// What it knows at the beginning.
+pub const UNUSED: Kept = Kept {
+    valid: false,
+    ro: false,
+    generation: 0,
+};
+
+/// A call that writes bytes which are all alike, and one that reads as many, which must be alike.
+#[derive(Clone, Copy)]
+pub struct Access {
+    pub write: Asks<'static>,
+    pub read: Asks<'static>,
+}
+
+/// What a domain does, round by round.
+#[derive(Clone, Copy)]
+pub enum Part {
+    /// Grants its entry 0 to domain 2, and takes it back once it is not in use.
+    Lends,
+    /// Maps the entry 0 of domain 1 and unmaps it. It may be refused where that is not granted yet, or no more.
+    Borrows,
+    /// Grants, demotes, promotes and revokes by turns its entry 0, which names domain 3, and its entry 1, for domain 4.
+    Owns { first: Kept, second: Kept },
+    /// Maps this entry of the domains 1 and 2 by turns, for reading and for writing.
+    Maps(u32),
+    /// Grants its entry 0 to domain 2 and revokes it.
+    Toggles(Kept),
+    /// Maps the entry 0 of domain 1 for reading and unmaps it.
+    Churns,
+    Accesses(Access),
+}
+
+/// A domain in a thread, and whether all its calls so far were answered as the rules allow.
+#[derive(Drop)]
+struct Worker<'m, P: Allows> {
+    domain: Running<'m, P>,
+    part: Part,
+    rounds: u32,
+    fair: bool,
+}
+
+fn page(dom: u16, ro: bool) -> Entry {
+    Entry::Page {
+        dom: DomId(dom),
+        ro,
+        frame: 5,
+    }
+}
+
+// The control of the word that a refusal carries, where it carries that of an entry.
+fn control_of(denial: Denial) -> Option<Control> {
+    match denial.facts {
+        Facts::Entry { word, .. } => Some(Control::unpack(word)),
+        _ => None,
+    }
+}
+
+// Whether the rule stands by the word that the refusal carries.
+fn stands(denial: Denial) -> bool {
+    let Some(control) = control_of(denial) else {
+        return false;
+    };
+    match denial.rule {
+        Rule::N10 => control.kind == Kind::Invalid && control.reads == 0 && control.writes == 0,
+        Rule::N13 => control.kind == Kind::Page && control.ro,
+        Rule::N19 => control.kind == Kind::Page && (control.reads > 0 || control.writes > 0),
+        Rule::N18 => true,
+        _ => false,
+    }
+}
+
+// Whether the call is Ok, or refused by one of these two rules with a word by which it stands.
+fn is_fair(answer: Result<(), Denial>, one: Rule, other: Rule) -> bool {
+    match answer {
+        Ok(()) => true,
+        Err(denial) => (denial.rule == one || denial.rule == other) && stands(denial),
+    }
+}
+
+fn lend<P: Allows>(domain: &mut Running<'_, P>) -> bool {
+    if domain.grant(0, &page(2, true)).is_err() {
+        return false;
+    }
+    for _ in 0..u64::MAX {
+        if domain.revoke(0).is_ok() {
+            return true;
+        }
+    }
+    false
+}
+
+fn borrow<P: Allows>(domain: &mut Running<'_, P>) -> bool {
+    match domain.map(1, 0, READ_ONLY) {
+        Ok(()) => domain.unmap().is_ok(),
+        Err(denial) => denial.rule == Rule::N10 || denial.rule == Rule::N18,
+    }
+}
+
+// Grants an entry where it is not granted, and keeps what the owner then knows.
+fn grant_once<P: Allows>(
+    domain: &mut Running<'_, P>,
+    gref: u32,
+    named: u16,
+    kept: &mut Kept,
+) -> bool {
+    let was_valid = kept.valid;
+    let granted = domain.grant(gref, &page(named, false)).is_ok();
+    if granted {
+        *kept = Kept {
+            valid: true,
+            ro: false,
+            generation: kept.generation.saturating_add(1),
+        };
+    }
+    granted != was_valid
+}
+
+// Revokes an entry, and keeps what the owner then knows.
+fn revoke_once<P: Allows>(domain: &mut Running<'_, P>, gref: u32, kept: &mut Kept) -> bool {
+    let revoked = domain.revoke(gref);
+    if revoked.is_ok() {
+        kept.valid = false;
+    }
+    is_fair(revoked, Rule::N19, Rule::N19)
+}
+
+// Makes an entry read-only and writable again.
+fn turn_once<P: Allows>(domain: &mut Running<'_, P>, gref: u32, kept: &mut Kept) -> bool {
+    let demoted = domain.demote(gref);
+    if demoted.is_ok() && !kept.ro {
+        kept.ro = true;
+        kept.generation = kept.generation.saturating_add(1);
+    }
+    let promoted = domain.promote(gref);
+    if promoted.is_ok() && kept.ro {
+        kept.ro = false;
+        kept.generation = kept.generation.saturating_add(1);
+    }
+    is_fair(demoted, Rule::N18, Rule::N19) && is_fair(promoted, Rule::N18, Rule::N18)
+}
+
+// One round of an owner: its entry is granted where it is not, made read-only and writable again, and revoked.
+fn own_once<P: Allows>(
+    domain: &mut Running<'_, P>,
+    gref: u32,
+    named: u16,
+    kept: &mut Kept,
+) -> bool {
+    let granted = grant_once(domain, gref, named, kept);
+    let turned = turn_once(domain, gref, kept);
+    let revoked = revoke_once(domain, gref, kept);
+    granted && turned && revoked
+}
+
+// One round of a mapper.
+fn map_once<P: Allows>(domain: &mut Running<'_, P>, owner: u16, gref: u32, flags: u32) -> bool {
+    match domain.map(owner, gref, flags) {
+        Ok(()) => domain.unmap().is_ok(),
+        Err(denial) => match denial.rule {
+            Rule::N10 | Rule::N18 => stands(denial),
+            Rule::N13 => flags == WRITABLE && stands(denial),
+            _ => false,
+        },
+    }
+}
+
+// Whether so many bytes were read, all alike: so no write came in between.
+fn is_even(said: &Said) -> bool {
+    let Said::Bytes(bytes) = said else {
+        return false;
+    };
+    let Some(first) = bytes.first() else {
+        return false;
+    };
+    'bytes: for byte in bytes.iter() {
+        if byte != first {
+            return false;
+        }
+    }
+    bytes.len() == usize::from(LEN)
+}
+
+fn access_once<R: Wait, P: Allows>(rt: &R, domain: &mut Running<'_, P>, access: Access) -> bool {
+    let wrote = matches!(domain.ask(rt, access.write), Said::Done);
+    is_even(&domain.ask(rt, access.read)) && wrote
+}
+
+// One round of a domain, and whether it was answered as the rules allow.
+fn round_of<R: Wait, P: Allows>(
+    rt: &R,
+    domain: &mut Running<'_, P>,
+    part: &mut Part,
+    round: u32,
+) -> bool {
+    let odd = round % 2 == 1;
+    match part {
+        Part::Lends => lend(domain),
+        Part::Borrows => borrow(domain),
+        Part::Owns { second, .. } if odd => own_once(domain, 1, 4, second),
+        Part::Owns { first, .. } => own_once(domain, 0, 3, first),
+        Part::Maps(gref) => {
+            let flags = if round % 4 < 2 { READ_ONLY } else { WRITABLE };
+            map_once(domain, if odd { 2 } else { 1 }, *gref, flags)
+        }
+        Part::Toggles(kept) => {
+            let granted = grant_once(domain, 0, 2, kept);
+            revoke_once(domain, 0, kept) && granted
+        }
+        Part::Churns => map_once(domain, 1, 0, READ_ONLY),
+        Part::Accesses(access) => access_once(rt, domain, *access),
+    }
+}
+
+fn work<'m, R: Wait, P: Allows>(rt: &R, worker: Worker<'m, P>) -> Worker<'m, P> {
+    let Worker {
+        mut domain,
+        mut part,
+        rounds,
+        mut fair,
+    } = worker;
+    'rounds: for round in 0..rounds {
+        fair = round_of(rt, &mut domain, &mut part, round) && fair;
+    }
+    Worker {
+        domain,
+        part,
+        rounds,
+        fair,
+    }
+}
+
+// All of them at once, each in a thread of its own.
+fn at_once<'m, P: Allows + Sync, R: Threads + Wait + Sync>(
+    rt: &R,
+    workers: Vec<Worker<'m, P>>,
+) -> Result<Vec<Worker<'m, P>>, AllocError> {
+    thread::map_vec(rt, workers, &|worker| work(rt, worker))
+}
+
+// What the owner knows of this entry.
+fn kept_of(part: Part, gref: u32) -> Kept {
+    match part {
+        Part::Owns { first, second } => { if gref == 0 { first } else { second } }
+        Part::Toggles(kept) => kept,
+        _ => UNUSED,
+    }
+}
+
+// Whether a map is refused by the word of an entry that is invalid and has no pins, at this generation.
+fn finds_idle<P: Allows>(
+    mapper: &mut Running<'_, P>,
+    dom: u16,
+    gref: u32,
+    generation: u32,
+) -> bool {
+    let idle = Control {
+        kind: Kind::Invalid,
+        ro: false,
+        reads: 0,
+        writes: 0,
+        dom: DomId(0),
+        generation,
+    };
+    match mapper.map(dom, gref, READ_ONLY) {
+        Err(denial) => denial.rule == Rule::N10 && control_of(denial) == Some(idle),
+        Ok(()) => false,
+    }
+}
+
+/// An entry that the threads leave behind: the places of its owner and of who may map it, the owner's number, and its
+/// reference.
+pub type Behind = (usize, usize, u16, u32);
+
+// Whether the entry is idle at the generation that its owner counts, once the owner has revoked it.
+fn is_idle<P: Allows>(workers: &mut [Worker<'_, P>], behind: Behind) -> bool {
+    let (owner, mapper, dom, gref) = behind;
+    let Some(one) = workers.get_mut(owner) else {
+        return false;
+    };
+    let kept = kept_of(one.part, gref);
+    if one.domain.revoke(gref).is_ok() != kept.valid {
+        return false;
+    }
+    match workers.get_mut(mapper) {
+        Some(other) => finds_idle(&mut other.domain, dom, gref, kept.generation),
+        None => false,
+    }
+}
+
+/// Has the domains do their parts, each in a thread of its own, for so many rounds. Answers whether all calls were
+/// answered as the rules allow, and these entries are idle then.
+pub fn work_at_once<P: Allows + Sync, R: Threads + Wait + Sync>(
+    rt: &R,
+    alloc: Global,
+    domains: Vec<Running<'_, P>>,
+    parts: &[(Part, u32)],
+    behind: &[Behind],
+) -> Result<bool, Memory> {
+    let mut domains = domains;
+    let mut workers = Vec::new(alloc);
+    'parts: for (part, rounds) in parts.iter().rev() {
+        if let Some(domain) = domains.pop() {
+            workers.push(Worker {
+                domain,
+                part: *part,
+                rounds: *rounds,
+                fair: true,
+            })?;
+        }
+    }
+    workers.reverse();
+    let mut workers = at_once(rt, workers)?;
+    let mut fair = workers.len() == parts.len();
+    'workers: for worker in workers.iter() {
+        fair = worker.fair && fair;
+    }
+    'behind: for entry in behind.iter() {
+        fair = is_idle(workers.as_mut_slice(), *entry) && fair;
+    }
+    Ok(fair)
+}

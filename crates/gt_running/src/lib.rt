@@ -1,0 +1,19 @@
+//! Monitors and running domains for tests: a call written as a value, and its answer said as a text.
+//!
+//! [`start`] makes a run of four domains, and [`all_running`] keeps each of them beside its monitor ([`Running`]), so
+//! that it may be let go and may move into a thread. [`Running::ask`] makes the call that an [`Asks`] names, and
+//! [`text`] says its answer in words, with the word that a refusal carries.
+//!
+//! What holds: a domain that is let go has left its run, so none keeps a pin; and calls that access no bytes wait for
+//! nobody. What a call answers is left to the tests, which compare it.
+//!
+//! It stands on `gt_live`, and on what that names: `gt_calls`, `gt_entry`, `gt_frames` and `gt_types`.
+#![tactic(auto)]
+
+mod asking;
+mod running;
+mod starting;
+
+pub use asking::{Asks, READ_ONLY, Said, WRITABLE, text};
+pub use running::{Running, all_running};
+pub use starting::{numbered, rights, start};

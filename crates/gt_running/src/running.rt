@@ -1,0 +1,206 @@
+//! Domains beside the monitor that they came with.
+ghost use Rattle.std.specs.Prelude.{All};
+ghost use Rattle.gt_live.specs.Domains.{IsOf};
+
+use crate::asking::{Asks, Said};
+use gt_audit::Record;
+use gt_calls::Handle;
+use gt_entry::Entry;
+use gt_frames::Read;
+use gt_live::{Domain, Left, Monitor};
+use gt_types::{Allows, Denial, DomId, GrantRef, Memory, Size};
+use std::alloc::Global;
+use std::marker::Model;
+use std::sync::Wait;
+
+/// A domain beside its monitor, which leaves the run when it is let go.
+pub struct Running<'m, P: Allows> {
+    monitor: &'m Monitor<P>,
+    domain: Domain,
+    last: Handle,
+}
+
+impl<'m, P: Allows> Model for Running<'m, P> {
+    ghost use Rattle.gt_types.specs.declared.DomId.{DomId};
+    ghost use Rattle.gt_live.specs.Domains.{IsOf};
+
+    ghost Value = { DomId };
+
+    ghost view = { λ r. r.domain.seat.dom };
+
+    ghost invariant = { λ r. IsOf P.may r.monitor.now r.domain };
+}
+
+impl<'m, P: Allows> Drop for Running<'m, P> {
+    fn drop(self) {
+        let Running {
+            monitor,
+            domain,
+            last: _last,
+        } = self;
+        let _ = domain.finish(monitor);
+    }
+}
+
+// The name of no mapping.
+const NEVER_GIVEN: Handle = Handle {
+    serial: u64::MAX,
+    key: 0,
+};
+
+fn done<T: Drop>(answer: Result<T, Denial>) -> Said {
+    match answer {
+        Ok(_) => Said::Done,
+        Err(denial) => Said::Denied(denial),
+    }
+}
+
+fn frames(answer: Result<u32, Denial>) -> Said {
+    match answer {
+        Ok(frames) => Said::Frames(frames),
+        Err(denial) => Said::Denied(denial),
+    }
+}
+
+fn size(answer: Result<Size, Denial>) -> Said {
+    match answer {
+        Ok(size) => Said::Size(size),
+        Err(denial) => Said::Denied(denial),
+    }
+}
+
+fn version(answer: Result<u32, Denial>) -> Said {
+    match answer {
+        Ok(version) => Said::Version(version),
+        Err(denial) => Said::Denied(denial),
+    }
+}
+
+fn read(answer: Result<Read, Denial>) -> Said {
+    match answer {
+        Ok(read) => Said::Bytes(read.into_bytes()),
+        Err(denial) => Said::Denied(denial),
+    }
+}
+
+impl<'m, P: Allows> Running<'m, P> {
+    ghost use Rattle.gt_live.specs.Domains.{IsOf};
+
+    pub fn new(monitor: &'m Monitor<P>, domain: Domain) -> Self
+        requires { IsOf P.may monitor.now domain }
+    {
+        Running {
+            monitor,
+            domain,
+            last: NEVER_GIVEN,
+        }
+    }
+
+    pub fn grant(&mut self, gref: u32, entry: &Entry) -> Result<(), Denial> {
+        self.domain.grant(self.monitor, GrantRef(gref), entry)
+    }
+
+    pub fn revoke(&mut self, gref: u32) -> Result<(), Denial> {
+        self.domain.revoke(self.monitor, GrantRef(gref))
+    }
+
+    pub fn demote(&mut self, gref: u32) -> Result<(), Denial> {
+        self.domain.demote(self.monitor, GrantRef(gref))
+    }
+
+    pub fn promote(&mut self, gref: u32) -> Result<(), Denial> {
+        self.domain.promote(self.monitor, GrantRef(gref))
+    }
+
+    /// Maps an entry, and keeps its handle as that of the last mapping.
+    pub fn map(&mut self, dom: u16, gref: u32, flags: u32) -> Result<(), Denial> {
+        let answer = self
+            .domain
+            .map(self.monitor, DomId(dom), GrantRef(gref), flags);
+        match answer {
+            Ok(handle) => {
+                self.last = handle;
+                Ok(())
+            }
+            Err(denial) => Err(denial),
+        }
+    }
+
+    /// Gives up the last mapping.
+    pub fn unmap(&mut self) -> Result<(), Denial> {
+        self.domain.unmap(self.monitor, self.last)
+    }
+
+    /// Makes the call that is asked, and says its answer.
+    pub fn ask<R: Wait>(&mut self, rt: &R, asks: Asks<'_>) -> Said {
+        let (monitor, last) = (self.monitor, self.last);
+        match asks {
+            Asks::Grant(gref, entry) => done(self.grant(gref, &entry)),
+            Asks::Bytes(gref, bytes) => {
+                done(self.domain.grant_bytes(monitor, GrantRef(gref), bytes))
+            }
+            Asks::Revoke(gref) => done(self.revoke(gref)),
+            Asks::Demote(gref) => done(self.demote(gref)),
+            Asks::Promote(gref) => done(self.promote(gref)),
+            Asks::Map(dom, gref, flags) => done(self.map(dom, gref, flags)),
+            Asks::Unmap => done(self.unmap()),
+            Asks::Version(version) => done(self.domain.set_version(monitor, version)),
+            Asks::Setup(count) => frames(self.domain.setup_table(monitor, count)),
+            Asks::Size(dom) => size(self.domain.query_size(monitor, DomId(dom))),
+            Asks::GetVersion(dom) => version(self.domain.get_version(monitor, DomId(dom))),
+            Asks::Load(off, len) => read(self.domain.load(rt, monitor, last, off, len)),
+            Asks::Store(off, bytes) => done(self.domain.store(rt, monitor, last, off, bytes)),
+            Asks::Peek(frame, off, len) => read(self.domain.peek(rt, monitor, frame, off, len)),
+            Asks::Poke(frame, off, bytes) => {
+                done(self.domain.poke(rt, monitor, frame, off, bytes))
+            }
+            Asks::Copy(copy) => done(self.domain.copy(rt, monitor, &copy)),
+        }
+    }
+
+    /// Its records so far.
+    pub fn told(&self) -> &[Record] {
+        self.domain.trail().records()
+    }
+
+    pub fn finish(self) -> Left {
+        let Running {
+            monitor,
+            domain,
+            last: _last,
+        } = self;
+        domain.finish(monitor)
+    }
+}
+
+// Lets domains leave that nothing is asked of.
+fn finish_all<P: Allows>(monitor: &Monitor<P>, domains: Vec<Domain>)
+    requires { All (λ d. IsOf P.may monitor.now d) domains.items }
+{
+    let mut rest = domains.into_iter();
+    'rest: while let Some(domain) = rest.next() {
+        let _ = domain.finish(monitor);
+    }
+    rest.destroy_empty();
+}
+
+/// Each domain beside its monitor.
+pub fn all_running<'m, P: Allows>(
+    alloc: Global,
+    monitor: &'m Monitor<P>,
+    domains: Vec<Domain>,
+) -> Result<Vec<Running<'m, P>>, Memory>
+    requires { All (λ d. IsOf P.may monitor.now d) domains.items }
+{
+    let Ok(room) = Vec::with_capacity(alloc, domains.len()) else {
+        finish_all(monitor, domains);
+        return Err(Memory);
+    };
+    let mut all: Vec<Running<'m, P>> = room;
+    let mut rest = domains.into_iter();
+    'rest: while let Some(domain) = rest.next() {
+        all.push_reserved(Running::new(monitor, domain));
+    }
+    rest.destroy_empty();
+    Ok(all)
+}
