@@ -11,6 +11,8 @@
 #[cfg(test)]
 mod asking;
 #[cfg(test)]
+mod keeping;
+#[cfg(test)]
 mod rows;
 #[cfg(test)]
 mod running;

@@ -88,6 +88,14 @@ impl<'m, P: Allows> Running<'m, P> {
         self.domain.get_version(self.monitor, DomId(dom))
     }
 
+    pub fn keep_at_most(&mut self, records: usize) {
+        self.domain.keep_at_most(records);
+    }
+
+    pub fn reserve_records(&mut self, records: usize) -> Result<(), Memory> {
+        self.domain.reserve_records(records)
+    }
+
     /// Its records so far.
     pub fn told(&self) -> usize {
         self.domain.trail().records().len()
