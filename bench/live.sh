@@ -1,9 +1,10 @@
 #!/usr/bin/env bash
 # Times the loads of `live_bench`, whole calls on a running monitor, beside the bare words (`gt_bench`) and beside a
-# program in C that keeps its entries as Xen keeps them, under a lock for the table and one for each entry. Prints millions
-# of operations a second (a map or an unmap is one), how many times longer a round of whole calls takes than one of bare
-# words, and the ratios of `live_bench` to the programs in C: the table's lock with its readers in one word, and spread over a
-# word for each thread. Below the table stand the instructions of a round on one thread, as valgrind counts them.
+# program in C that keeps its entries as Xen keeps them, under a lock for the table and one for each entry: the table's lock
+# with its readers in one word, or spread over a word for each thread. Whole calls are recorded (`on`), recorded into room
+# that was made before the first call (`ahead`), or not recorded (`off`). Prints millions of operations a second (a map or
+# an unmap is one), how many times longer a round of each kind of whole calls takes than one of bare words, and the ratios
+# of each kind to C with one word. Below the table stand the instructions of a round on one thread, as valgrind counts them.
 #
 # A second table has the loads of bytes: thousands of loads, stores and copies a second, beside a program in C with a mutex
 # for each frame (`live_bytes.c`), without a journal and with one, and the ratio to each. What C loses by its journal is what
@@ -31,7 +32,7 @@ done
 "${CC:-clang}" -O2 -pthread -o "$work/plain" "$top/bench/live_bytes.c"
 "${CC:-clang}" -O2 -pthread -DJOURNAL -o "$work/journal" "$top/bench/live_bytes.c"
 
-programs=(live_bench gt_bench counted spread)
+programs=(live_bench-on live_bench-ahead live_bench-off gt_bench counted spread)
 movers=(live_bench plain journal)
 
 # How often each thread of a program does what it does, in a run that is long enough to be timed. A journal keeps what is
@@ -41,8 +42,15 @@ rounds_of() {
     *" load-"* | plain*) echo 500000 ;;
     *" "*-64) echo 100000 ;;
     *" "*-4096) echo 10000 ;;
-    live_bench*) echo 200000 ;;
+    live_bench*) echo 200000 ;; # 400,000 records, for as many of which `live_bench` makes room ahead
     *) echo 3000000 ;;
+  esac
+}
+
+# The word that says how a program's calls are recorded, where it has one behind its name.
+audit_of() {
+  case "$1" in
+    *-*) echo "${1##*-}" ;;
   esac
 }
 
@@ -50,7 +58,7 @@ rounds_of() {
 nanoseconds() {
   local from to
   from="$(date +%s%N)"
-  "${priority[@]}" "$work/$1" "$2" "$3" "$4" >"$work/$1.out"
+  "${priority[@]}" "$work/${1%-*}" "$2" "$3" "$4" $(audit_of "$1") >"$work/$1.out"
   to="$(date +%s%N)"
   echo "$((to - from))"
 }
@@ -77,9 +85,11 @@ least_times() {
 # One line of the table.
 compare() {
   least_times "$1" "$2" "${programs[@]}" | awk -v load="$1" -v threads="$2" '{
-    for (i = 1; i <= 4; i++) speed[i] = 2000 * threads / $i
-    printf "%-9s %7d %8.1f %8.1f %8.1f %8.1f %8.2f %9.2f %8.2f\n", load, threads, speed[1], speed[2], speed[3], speed[4],
-      speed[2] / speed[1], speed[1] / speed[3], speed[1] / speed[4]
+    printf "%-8s %7d", load, threads
+    for (i = 1; i <= 6; i++) printf " %7.1f", speed[i] = 2000 * threads / $i
+    for (i = 1; i <= 3; i++) printf " %7.2f", speed[4] / speed[i]
+    for (i = 1; i <= 3; i++) printf " %7.2f", speed[i] / speed[5]
+    printf "\n"
   }'
 }
 
@@ -102,14 +112,15 @@ instructions() {
 
 counted() {
   valgrind --tool=cachegrind --cache-sim=no --cachegrind-out-file="$work/cachegrind" --log-file="$work/log" \
-    "$work/$1" "$2" 1 "$3" >/dev/null
+    "$work/${1%-*}" "$2" 1 "$3" $(audit_of "$1") >/dev/null
   sed -n 's/.*I *refs: *//p' "$work/log" | tr -d ,
 }
 
 moves=(load-64 load-4096 store-64 store-4096 copy-64 copy-4096)
 if [ "$table" != bytes ]; then
   if [ "$runs" -gt 0 ]; then
-    printf '%-9s %7s %8s %8s %8s %8s %8s %9s %8s\n' load threads calls words counted spread words/ /counted /spread
+    printf '%-8s %7s %7s %7s %7s %7s %7s %7s %7s %7s %7s %7s %7s %7s\n' load threads on ahead off words counted spread \
+      w/on w/ahead w/off on/c ahead/c off/c
     for load in apart adjacent; do
       for threads in 1 2 3 4; do
         compare "$load" "$threads"

@@ -1,24 +1,38 @@
 -- The records that were pushed, and those that were lost.
-use Rattle.std.specs.Prelude.{◌≡◌, ℕ, ◌+◌, ◌-◌, ◌^◌, min, ◌⊎◌, List, [], ◌∷◌, ◌++◌}
+use Rattle.std.specs.Prelude.{◌≡◌, ℕ, ◌+◌, ◌-◌, ◌^◌, ◌<◌, ◌≤◌, min, ◌⊎◌, List, [], ◌∷◌, ◌++◌, length}
 use Rattle.gt_types.specs.declared.DomId.{DomId}
 use Rattle.gt_audit.specs.declared.record.Record.{Record}
 
--- the records that are kept, in order, and how many were lost (own)
+-- the records that are kept, in order, how many were lost, how many may be kept, and for how many more there is room (own)
 pub record Telling : Type 0 where
   pub records : List Record
   pub lost : ℕ
+  pub most : ℕ
+  pub room : ℕ
 
 -- nothing was told yet (own)
 abbrev pub silent : Telling
-silent = record { records = []; lost = 0 }
+silent = record { records = []; lost = 0; most = 2 ^ 64 - 1; room = 0 }
 
 -- one more is lost; the count stays at the largest number of 64 bits (own)
 abbrev pub one_more_lost : ℕ → ℕ
 one_more_lost lost = min (lost + 1) (2 ^ 64 - 1)
 
--- the record is kept behind all others, or it is lost and the others stay (own)
-abbrev pub Tells : Telling → Record → Telling → Type 0
-Tells old r new = ((new.records ≡ old.records ++ r ∷ []) × (new.lost ≡ old.lost)) ⊎ ((new.records ≡ old.records) × (new.lost ≡ one_more_lost old.lost))
+-- the record is kept behind all others (own)
+abbrev pub IsToldBehind : Telling → Record → Telling → Type 0
+IsToldBehind old r new = (new.records ≡ old.records ++ r ∷ []) × (new.lost ≡ old.lost)
+
+-- the record is lost, and the others stay (own)
+abbrev pub IsLost : Telling → Telling → Type 0
+IsLost old new = (new.records ≡ old.records) × (new.lost ≡ one_more_lost old.lost)
+
+-- the record is kept behind all others, or it is lost and the others stay; no more are kept than may be, and where there is room for one that may be kept it is (own)
+pub record Tells (old : Telling) (r : Record) (new : Telling) : Type 0 where
+  pub told : IsToldBehind old r new ⊎ IsLost old new
+  pub full : old.most ≤ length old.records → IsLost old new
+  pub kept : length old.records < old.most → 1 ≤ old.room → IsToldBehind old r new
+  pub most : new.most ≡ old.most
+  pub room : old.room ≤ new.room + 1
 
 -- what a domain told to a shared log: its records, each under its number, in order, and how many were lost (own)
 pub record Account : Type 0 where

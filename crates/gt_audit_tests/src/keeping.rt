@@ -31,6 +31,23 @@ fn a_trail_keeps_each_record(rt: HostRuntime) -> Result<(), Fail> {
     Ok(())
 }
 
+#[test]
+fn a_trail_keeps_no_more_than_it_may(rt: HostRuntime) -> Result<(), Fail> {
+    let mut trail = Trail::new(rt.alloc());
+    assert!(rt; trail.reserve(4).is_ok());
+    trail.push(record(1, 0));
+    trail.keep_at_most(2);
+    for number in 1..5 {
+        trail.push(record(1, number));
+    }
+    let wanted = [record(1, 0), record(1, 1)];
+    assert_eq!(rt; (trail.records(), trail.lost()), (wanted.as_slice(), 3));
+    trail.keep_at_most(3);
+    trail.push(record(1, 5));
+    assert_eq!(rt; (trail.records().len(), trail.lost()), (3, 3));
+    Ok(())
+}
+
 // Pushes records, and counts those that their token and a look under their number give back.
 fn pushes<R: Wait>(rt: &R, log: &SharedLog, dom: u16) -> u64 {
     let mut same: u64 = 0;

@@ -15,7 +15,7 @@
 //! number, changes just the one written, and leaves all others as they were. A [`Pool`] has each of
 //! them under a lock of its own: a frame that is handed out has the name that was asked for.
 //!
-//! It uses `gt_types` (names) and `gt_entry` (entries, and what they permit).
+//! It uses `gt_types` (names), `gt_entry` (entries, and what they permit) and `crossbeam_utils` (room beside a lock).
 #![tactic(auto)]
 
 mod bytes;

@@ -9,6 +9,7 @@ ghost use Rattle.gt_frames.specs.Sets.{name_of};
 
 use crate::places::{find, frame_counts};
 use crate::{Copied, Frame, FrameCount, FrameName, Writ};
+use crossbeam_utils::CachePadded;
 use gt_types::{Config, FRAME_SIZE, Memory};
 use std::alloc::Global;
 use std::marker::Model;
@@ -19,7 +20,9 @@ use std::sync::{Mutex, MutexGuard, Wait};
 #[derive(Drop)]
 pub struct Pool {
     domains: Vec<FrameCount>,
-    frames: Vec<Mutex<Frame>>,
+    // A lock's word lies on no cache line with another frame, so domains that lock different frames don't wait for one
+    // another's lines.
+    frames: Vec<CachePadded<Mutex<Frame>>>,
 }
 
 impl Model for Pool {
@@ -45,15 +48,15 @@ pub struct Ends<'p> {
 // These frames, and then those of one domain more, all zeros and each under a lock.
 fn with_locks(
     alloc: Global,
-    frames: Vec<Mutex<Frame>>,
+    frames: Vec<CachePadded<Mutex<Frame>>>,
     domain: FrameCount,
-) -> Result<Vec<Mutex<Frame>>, Memory>
+) -> Result<Vec<CachePadded<Mutex<Frame>>>, Memory>
     ensures { IfOk result (λ all. length all.items ≡ length frames.items + domain.frames) }
 {
     let mut all = frames;
     'frames: for number in 0..domain.frames {
         let frame = Frame::new(alloc, domain.owner, u64::from(number))?;
-        all.push(Mutex::new(frame))?;
+        all.push(CachePadded::new(Mutex::new(frame)))?;
     }
     Ok(all)
 }

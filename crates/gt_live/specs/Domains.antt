@@ -146,6 +146,10 @@ pub record IsUnsettled (d e : Domain) : Type 0 where
   pub mappings : e.mappings ≡ d.mappings
   pub trail : e.trail ≡ d.trail
 
+-- a domain of a run stays one of it (own)
+abbrev pub StaysOfRun : Domain → Domain → Type 0
+StaysOfRun d e = (b : Board) (c : Config) (may : Rights) → IsDomainOf b c may d → IsDomainOf b c may e
+
 -- Ok, or the refusal (own)
 abbrev pub done_by : Verdict → Result (Unit {0}) Denial
 done_by (Refused denial) = Err denial

@@ -24,7 +24,7 @@ use gt_calls::{
     judge_unmap,
 };
 use gt_entry::{Change, Entry};
-use gt_types::{Allows, Denial, DomId, Facts, GrantRef, Rule, Size};
+use gt_types::{Allows, Denial, DomId, Facts, GrantRef, Memory, Rule, Size};
 use gt_words::Seat;
 use std::alloc::Global;
 
@@ -154,7 +154,8 @@ impl Domain {
     ghost use Rattle.std.specs.Prelude.{◌≡◌, ◌≤◌, ℕ, List, [], OnOk, OnErr, IfOk, IfErr, IfSome, None, Some};
     ghost use Rattle.gt_audit.specs.Telling.{Tells};
     ghost use Rattle.gt_live.specs.Domains.{mapping_reply, subject_of, told_of, Answered, HasLeft, IsOf};
-    ghost use Rattle.gt_live.specs.Domains.{IsOpened, IsUnsettled, KeepsPinned, MapAnswered, Released};
+    ghost use Rattle.gt_live.specs.Domains.{IsOpened, IsUnsettled, KeepsPinned, MapAnswered};
+    ghost use Rattle.gt_live.specs.Domains.{Released, StaysOfRun};
     ghost use Rattle.gt_live.specs.Maps.{pin_effect, pin_verdict};
     ghost use Rattle.gt_calls.specs.Rules.{knows, map_begun, unmap_begun};
     ghost use Rattle.gt_calls.specs.declared.request.Asked.TheVariants as asks;
@@ -192,6 +193,29 @@ impl Domain {
         ensures { result.now ≡ self.now.trail }
     {
         &self.trail
+    }
+
+    /// From now on it keeps a record only while it has fewer than so many; each further one counts as lost. With 0 its
+    /// calls are not recorded at all. None of the records that it has goes.
+    pub fn keep_at_most(&mut self, records: usize)
+        ensures bound { self.new ≡ record self.old { trail = record self.old.trail { most = records } } }
+        ensures mine { StaysOfRun self.old self.new }
+    {
+        self.trail.keep_at_most(records);
+    }
+
+    /// Makes room for so many more records, which then take no memory. What it keeps stays, also where memory is
+    /// refused.
+    ///
+    /// # Errors
+    /// `Memory`.
+    pub fn reserve_records(&mut self, records: usize) -> Result<(), Memory>
+        ensures room { OnOk result (records ≤ self.new.trail.room) }
+        ensures grows { self.old.trail.room ≤ self.new.trail.room }
+        ensures kept { self.new ≡ record self.old { trail = record self.old.trail { room = self.new.trail.room } } }
+        ensures mine { StaysOfRun self.old self.new }
+    {
+        self.trail.reserve(records)
     }
 
     /// Its seat, whose pins an access to a locked frame rests on.

@@ -26,6 +26,8 @@ pub enum Step<'a> {
     Insisted(&'a [Line<'a>]),
     /// The last domain maps the first entry of domain 1 for reading, so often.
     MapsOften(u32),
+    /// The last domain makes room for so many records, and keeps no more.
+    KeepsAtMost(usize),
     /// The last domain leaves, with these records, and so many lost ones.
     Leaves(&'a str),
     /// The last domain leaves, with so many records.
@@ -99,6 +101,19 @@ fn map_often<P: Allows>(domain: Option<&mut Running<'_, P>>, times: u32) -> u32 
     done
 }
 
+// The domain makes room for so many records, and keeps no more.
+fn keep_at_most<P: Allows>(
+    domain: Option<&mut Running<'_, P>>,
+    records: usize,
+) -> Result<(), Memory> {
+    let Some(domain) = domain else {
+        return Ok(());
+    };
+    domain.reserve_records(records)?;
+    domain.keep_at_most(records);
+    Ok(())
+}
+
 // What a domain leaves, as a text: its records and how many were lost.
 fn left<P: Allows>(alloc: Global, domain: Option<Running<'_, P>>) -> Result<String, Memory> {
     let Some(domain) = domain else {
@@ -130,6 +145,7 @@ fn make<R: Wait + Abort, P: Allows>(
             let done = map_often(domains.last_mut(), times);
             assert_eq!(rt; done, times);
         }
+        Step::KeepsAtMost(records) => keep_at_most(domains.last_mut(), records)?,
         Step::Leaves(records) => {
             let text = left(alloc, domains.pop())?;
             assert_eq!(rt; text.as_str(), records);

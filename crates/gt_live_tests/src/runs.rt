@@ -70,6 +70,13 @@ const RECORDS: &str = "[\
     reply: Denied(Denial { rule: N1, status: BadDomain, facts: None }) }, \
     Record { dom: DomId(2), call: GetVersion { dom: DomId(1) }, reply: Version(1) }] 0";
 
+// Four queries, of which a trail keeps two.
+const QUERIES: [Line; 4] = [(TWO, GetVersion(1), "ok version=1"); 4];
+
+const TWO_RECORDS: &str = "[\
+    Record { dom: DomId(2), call: GetVersion { dom: DomId(1) }, reply: Version(1) }, \
+    Record { dom: DomId(2), call: GetVersion { dom: DomId(1) }, reply: Version(1) }] 2";
+
 // One mapping for each pin that a word has room for, and one more.
 const FULL: [Line; 4] = [
     (TWO, Map(1, 0, READ_ONLY), "N17 -1 entry 1 0 10002000fff1"),
@@ -141,13 +148,22 @@ const STORM: [(Part, u32); 4] = [
     (Part::Maps(1), 25_000),
 ];
 
-const ROWS: [Row; 7] = [
+const ROWS: [Row; 8] = [
     Row {
         name: "a domain that leaves gives its pins back",
         steps: &[
             Step::Asked(&PINS_HELD),
             Step::Leaves(RECORDS),
             Step::Asked(&REVOKED),
+        ],
+        ..QUIET
+    },
+    Row {
+        name: "a trail keeps no more records than it may, and counts the others",
+        steps: &[
+            Step::KeepsAtMost(2),
+            Step::Asked(&QUERIES),
+            Step::Leaves(TWO_RECORDS),
         ],
         ..QUIET
     },

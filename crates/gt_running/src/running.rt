@@ -158,6 +158,20 @@ impl<'m, P: Allows> Running<'m, P> {
         }
     }
 
+    /// From now on it keeps a record only while it has fewer than so many.
+    pub fn keep_at_most(&mut self, records: usize) {
+        self.domain.keep_at_most(records);
+    }
+
+    /// Makes room for so many more records.
+    ///
+    /// # Errors
+    ///
+    /// `Memory`, and it has what it had.
+    pub fn reserve_records(&mut self, records: usize) -> Result<(), Memory> {
+        self.domain.reserve_records(records)
+    }
+
     /// Its records so far.
     pub fn told(&self) -> &[Record] {
         self.domain.trail().records()

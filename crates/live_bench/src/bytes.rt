@@ -1,6 +1,6 @@
 //! The loads of bytes: loads and stores through mappings, and copies by reference.
 use crate::loads::{FIRST_MAPPER, MOST, OWNER, POLICY, six_domains};
-use crate::running::{Running, all_running};
+use crate::running::{Audit, Running, all_running};
 use anyhow::{Result, bail};
 use gt_allow::AllowTable;
 use gt_calls::{CopyArgs, End, Handle};
@@ -94,12 +94,16 @@ fn copy_often<R: Wait, P: Allows>(
 fn work<R: Wait, P: Allows>(
     rt: &R,
     worker: Worker<'_, P>,
+    audit: Audit,
     moves: Moves,
     bytes: &[u8],
     len: u16,
     rounds: u32,
 ) -> u32 {
     let Worker { mut domain, gref } = worker;
+    if !domain.record_calls(audit) {
+        return 0;
+    }
     if moves == Moves::Copies {
         return copy_often(rt, &mut domain, gref, len, rounds);
     }
@@ -148,6 +152,7 @@ pub(crate) fn run_moves<R: Threads + Wait + Sync>(
     alloc: Global,
     moves: Moves,
     len: u16,
+    audit: Audit,
     threads: usize,
     rounds: u32,
 ) -> Result<u64> {
@@ -162,7 +167,7 @@ pub(crate) fn run_moves<R: Threads + Wait + Sync>(
     let done = thread::map_vec(
         rt,
         workers,
-        &|worker| { work(rt, worker, moves, &bytes, len, rounds) },
+        &|worker| { work(rt, worker, audit, moves, &bytes, len, rounds) },
     )?;
     Ok(
         done.iter()

@@ -1,5 +1,5 @@
 //! The loads, and the run that they are of.
-use crate::running::{Running, all_running};
+use crate::running::{Audit, Running, all_running};
 use anyhow::{Result, bail};
 use gt_allow::AllowTable;
 use gt_entry::Entry;
@@ -149,8 +149,11 @@ fn map_and_unmap<P: Allows>(domain: &mut Running<'_, P>, gref: GrantRef, rounds:
     done
 }
 
-fn work<P: Allows>(worker: Worker<'_, P>, rounds: u32) -> u32 {
+fn work<P: Allows>(worker: Worker<'_, P>, audit: Audit, rounds: u32) -> u32 {
     let Worker { mut domain, part } = worker;
+    if !domain.record_calls(audit) {
+        return 0;
+    }
     match part {
         Part::Maps(gref) => map_and_unmap(&mut domain, gref, rounds),
         Part::Grants { count, stride } => revoke_and_grant(&mut domain, count, stride, rounds),
@@ -208,6 +211,7 @@ pub(crate) fn run<R: Threads + Sync>(
     rt: &R,
     alloc: Global,
     load: Load,
+    audit: Audit,
     threads: usize,
     rounds: u32,
 ) -> Result<u64> {
@@ -218,7 +222,7 @@ pub(crate) fn run<R: Threads + Sync>(
     let (monitor, domains) = Monitor::new(alloc, six_domains(alloc)?, rights)?;
     let domains = all_running(alloc, &monitor, domains)?;
     let workers = workers(alloc, domains, load, threads as u32)?;
-    let done = thread::map_vec(rt, workers, &|worker| work(worker, rounds))?;
+    let done = thread::map_vec(rt, workers, &|worker| work(worker, audit, rounds))?;
     Ok(
         done.iter()
             .fold(0, |all, &more| all.saturating_add(u64::from(more))),

@@ -9,6 +9,9 @@
 //! page of its own that the owner granted to it, and a round is one access of so many bytes, through its mapping or as a
 //! copy by reference to a frame of its own.
 //!
+//! The calls are recorded; with a fourth word `off` they are not, and with `ahead` each domain makes room for its records
+//! before its first call.
+//!
 //! It promises nothing beyond the calls that it makes, and uses `gt_live`. The script `bench/live.sh` runs and times
 //! it beside the bare words and a program in C.
 #![tactic(auto)]
@@ -19,6 +22,7 @@ mod running;
 
 use crate::bytes::{Moves, run_moves};
 use crate::loads::{Load, run};
+use crate::running::Audit;
 use anyhow::{Result, bail};
 use std::env;
 
@@ -44,11 +48,27 @@ fn work_of(name: &str) -> Option<Work> {
     }
 }
 
+fn audit_of(name: &str) -> Option<Audit> {
+    match name {
+        "on" => Some(Audit::On),
+        "ahead" => Some(Audit::Ahead),
+        "off" => Some(Audit::Off),
+        _ => None,
+    }
+}
+
 fn main(rt: HostRuntime) -> Result<()> {
     let mut words = env::args(&rt)?.skip(1);
     let (Some(name), Some(threads), Some(rounds)) = (words.next(), words.next(), words.next())
     else {
-        bail!("wanted: LOAD THREADS ROUNDS");
+        bail!("wanted: LOAD THREADS ROUNDS [AUDIT]");
+    };
+    let audit = match words.next() {
+        Some(word) => audit_of(word.as_str()),
+        None => Some(Audit::On),
+    };
+    let Some(audit) = audit else {
+        bail!("AUDIT is on, ahead or off");
     };
     let Some(work) = work_of(name.as_str()) else {
         bail!("no such load: {}", name.as_str());
@@ -56,8 +76,8 @@ fn main(rt: HostRuntime) -> Result<()> {
     let threads = threads.as_str().parse::<usize>()?;
     let rounds = rounds.as_str().parse::<u32>()?;
     let done = match work {
-        Work::Calls(load) => run(&rt, rt.alloc(), load, threads, rounds)?,
-        Work::Bytes(moves, len) => run_moves(&rt, rt.alloc(), moves, len, threads, rounds)?,
+        Work::Calls(load) => run(&rt, rt.alloc(), load, audit, threads, rounds)?,
+        Work::Bytes(moves, len) => run_moves(&rt, rt.alloc(), moves, len, audit, threads, rounds)?,
     };
     println!(rt; "{} {threads} {done}", name.as_str())?;
     Ok(())

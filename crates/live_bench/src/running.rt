@@ -10,6 +10,20 @@ use std::alloc::Global;
 use std::marker::Model;
 use std::sync::Wait;
 
+/// How the calls of a domain are recorded.
+#[derive(Clone, Copy, PartialEq, Eq)]
+pub enum Audit {
+    /// Each record takes its memory as it comes.
+    On,
+    /// There is room for all records before the first call.
+    Ahead,
+    /// No record is kept.
+    Off,
+}
+
+/// For how many records room is made ahead: more than a load of a timed run has.
+const RECORDS_AHEAD: usize = 400_000;
+
 /// A domain beside its monitor, which leaves the run when it is let go. So a thread can take it.
 pub struct Running<'m, P: Allows> {
     monitor: &'m Monitor<P>,
@@ -42,6 +56,18 @@ impl<'m, P: Allows> Running<'m, P> {
         requires { IsOf P.may monitor.now domain }
     {
         Running { monitor, domain }
+    }
+
+    /// Has its calls recorded so. Answers whether it could.
+    pub fn record_calls(&mut self, audit: Audit) -> bool {
+        match audit {
+            Audit::On => true,
+            Audit::Ahead => self.domain.reserve_records(RECORDS_AHEAD).is_ok(),
+            Audit::Off => {
+                self.domain.keep_at_most(0);
+                true
+            }
+        }
     }
 
     /// Publishes an entry, and answers whether it did.
