@@ -4,7 +4,7 @@ ghost use Rattle.gt_types.specs.declared.perms.Perms.{Perms};
 ghost use Rattle.gt_allow.specs.Looking.{IsRow};
 
 use bitflags::Flags;
-use gt_policy::{Policy, Row};
+use gt_policy::{Policy, TypeRow};
 use gt_types::{Allows, Memory, Perms, TypeId};
 use std::alloc::{AllocError, Global};
 use std::marker::Model;
@@ -29,7 +29,7 @@ impl Model for AllowTable {
 }
 
 // Appends the sets of one source, for each type as the target.
-fn push_row(sets: &mut Vec<Perms>, count: u16, row: &Row) -> Result<(), AllocError>
+fn push_row(sets: &mut Vec<Perms>, count: u16, row: &TypeRow) -> Result<(), AllocError>
     ensures { OnOk result ((added : List Perms)
         × (sets.new.items ≡ sets.old.items ++ added) × IsRow row.now count added) }
 {

@@ -7,7 +7,7 @@ use std::sync::Wait;
 
 // A record as the log has it.
 #[derive(Drop)]
-struct Entry {
+struct LogEntry {
     dom: DomId,
     number: u64,
     told: Record,
@@ -16,13 +16,13 @@ struct Entry {
 /// Records of domains, each with its number among its domain's. Threads push and read it side by side.
 #[derive(Drop)]
 pub struct SharedLog {
-    entries: Vec<Entry>,
+    entries: Vec<LogEntry>,
 }
 
 /// What shows that a log has a record.
 #[derive(Drop)]
 pub struct Pushed {
-    token: boxcar::Pushed<Entry>,
+    token: boxcar::Pushed<LogEntry>,
 }
 
 impl SharedLog {
@@ -49,7 +49,7 @@ impl SharedLog {
         ensures token { IfOk result (λ p. IsIn self.now p × IsFor p dom number told) }
         ensures back { IfErr result (λ r. r ≡ told) }
     {
-        match self.entries.push_shown(rt, Entry { dom, number, told }) {
+        match self.entries.push_shown(rt, LogEntry { dom, number, told }) {
             Ok(token) => Ok(Pushed { token }),
             Err(entry) => Err(entry.told),
         }

@@ -5,7 +5,7 @@ use Rattle.gt_calls.specs.Path.{place_of}
 use Rattle.gt_frames.specs.declared.places.FrameName.{FrameName}
 use Rattle.gt_frames.specs.declared.writ.Ground.{Ground}
 use Rattle.gt_frames.specs.declared.writ.Writ.{Writ}
-use Rattle.gt_frames.specs.declared.writ.Record.{Record}
+use Rattle.gt_frames.specs.declared.writ.WriteRecord.{WriteRecord}
 use Rattle.gt_core.specs.declared.core_state.Begun.TheVariants.{Busy as BegunBusy, NoDomain as BegunNoDomain}
 use Rattle.gt_core.proofs.Starting.{get-replicate, stepped, same-number}
 use Rattle.gt_core.proofs.Accessing.{call-is, permits-as, mapping-pin, none-of, same-held, read-justified, copy-justified}
@@ -165,7 +165,7 @@ length-overlay xs off ys within = let back = drop (off + length ys) xs in
     let d : length (take off xs) ≡ off = length-take-le off xs (omega arith) in
     let whole : length ((take off xs ++ ys) ++ back) ≡ length xs = omega arith in whole
 
-length-replay : (owner : DomId) (number : ℕ) (rs : List Record) (xs : List ℕ) → length xs ≡ FRAME_SIZE → IsTrue (all_rightful owner number rs) → length (replay xs (patches rs)) ≡ FRAME_SIZE
+length-replay : (owner : DomId) (number : ℕ) (rs : List WriteRecord) (xs : List ℕ) → length xs ≡ FRAME_SIZE → IsTrue (all_rightful owner number rs) → length (replay xs (patches rs)) ≡ FRAME_SIZE
 length-replay owner number [] xs full a = full
 length-replay owner number (r ∷ rs) xs full a =
     let parts = and_parts (is_rightful owner number r) (all_rightful owner number rs) a in
@@ -267,13 +267,13 @@ no-patches t f = refl
 pub frames-start : (s : Setting) (fs : FrameSet) → fs ≡ all_zeros (frame_counts s.domains) → AreKept fs → FramesStand s [] fs
 frames-start s fs same kept = record { counts = ap (λ (z : FrameSet). z.domains) same; writes = writes; kept = kept; filled = filled-by [] fs writes kept }
   where
-    picked : (b : Bool) → ◌≡◌ {A = List Record} (unwrap_or (cond b (Some []) None) []) []
+    picked : (b : Bool) → ◌≡◌ {A = List WriteRecord} (unwrap_or (cond b (Some []) None) []) []
     picked true = refl
     picked false = refl
 
     by : (place : Option ℕ) → journal_in place (replicate (frames_of_all (frame_counts s.domains)) []) ≡ []
     by None = refl
-    by (Some n) = ap (λ (o : Option (List Record)). unwrap_or o []) (get-replicate (frames_of_all (frame_counts s.domains)) n []) ∙ picked (nat_lt n (frames_of_all (frame_counts s.domains)))
+    by (Some n) = ap (λ (o : Option (List WriteRecord)). unwrap_or o []) (get-replicate (frames_of_all (frame_counts s.domains)) n []) ∙ picked (nat_lt n (frames_of_all (frame_counts s.domains)))
 
     writes : (name : FrameName) → patches (frame_at fs name).journal ≡ patches_at [] name.owner.0 name.number
     writes name = ap (λ (z : FrameSet). patches (frame_at z name).journal) same ∙ ap patches (by (pool_number (frame_counts s.domains) name.owner name.number 0)) ∙ sym (no-patches name.owner.0 name.number)

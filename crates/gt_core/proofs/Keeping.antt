@@ -1,5 +1,5 @@
 -- What stays of a core's agreement with a history after one item more.
-use Rattle.gt_core.proofs.Words.{◌≡◌, ◌≢◌, ◌<◌, ◌+◌, ℕ, refl, Bool, true, false, List, ◌∷◌, length, Option, Some, None, cond, sym, ap, ◌∙◌, subst, reverse, eqb-true, eq-eqb, none-some, ◌==◌, ◌&&◌, All, count_by, slice_get, option_map, fun_ext, DomId, Read, Write, TABLE_ENTRIES, Entry, Invalid, Header, Change, Half, FirstHalf, SecondHalf, IsEntry, Kept, Held, CallerKnowledge, control_with, knowledge_of, StandsAt, pins_at, GoesOn, Rests, Makes, PinCounts, Open, Item, Answer, Stepped, Step, Seen, changed_at, State, state_of, changed_in, History, Setting, Pin, live, entry_at, generation_at, body_at, table_at, reads_at, writes_at, control_at, known_at, mappings_at, maps_answered_at, is_pin_on, open_call, underway_after, Underway, values, change_at, or_else, stored_at, header_stored, IsSpelled, stood, first_of_item, IsLawful, FitsTable, FitsWord, SlotAgrees, MappingsAgree, Agrees, StateAgrees, DomainsStand, CallAgrees, OpenAgrees, GivenAgrees, Dir, gather, by_mapping, slot_after, with_slot, and_left, and_right, stood_with, MAX_PINS, cond_both}
+use Rattle.gt_core.proofs.Words.{◌≡◌, ◌≢◌, ◌<◌, ◌+◌, ℕ, refl, Bool, true, false, List, ◌∷◌, length, Option, Some, None, cond, sym, ap, ◌∙◌, subst, reverse, eqb-true, eq-eqb, none-some, ◌==◌, ◌&&◌, All, count_by, slice_get, option_map, fun_ext, DomId, Read, Write, TABLE_ENTRIES, Entry, Invalid, Header, Change, Half, FirstHalf, SecondHalf, IsEntry, HandleMap, Held, CallerKnowledge, control_with, knowledge_of, StandsAt, pins_at, GoesOn, Rests, Makes, PinCounts, Open, Item, Answer, Stepped, Step, Seen, changed_at, State, state_of, changed_in, History, Setting, Pin, live, entry_at, generation_at, body_at, table_at, reads_at, writes_at, control_at, known_at, mappings_at, maps_answered_at, is_pin_on, open_call, underway_after, Underway, values, change_at, or_else, stored_at, header_stored, IsSpelled, stood, first_of_item, IsLawful, FitsTable, FitsWord, SlotAgrees, MappingsAgree, Agrees, StateAgrees, DomainsStand, CallAgrees, OpenAgrees, GivenAgrees, Dir, gather, by_mapping, slot_after, with_slot, and_left, and_right, stood_with, MAX_PINS, cond_both}
 pub use Rattle.gt_core.proofs.Rows.{get-changed, length-changed, state-changed}
 pub use Rattle.gt_core.proofs.Mappings.{mappings-same, mappings-added, less, mappings-taken, no-handles}
 pub use Rattle.gt_core.proofs.Quiet.{known-as, KeepsKnown, KeepsAll, cond-same, kept-table, kept-live, answered-stays, kept-known, kept-legs, kept-entry, kept-raises, kept-generations}
@@ -130,7 +130,7 @@ slot-kept i h t r slot same bodies a = record {
 }
 
 -- the domain that acts: its header, pins, mappings and call may have changed
-pub actor-agrees : (s : Setting) (i : Item) (h : History) (x : State) (header : Header) (slots : List PinCounts) (mappings : Kept Held) (o : Option Open) (given : List ℕ) → KeepsAll i → Agrees s h x
+pub actor-agrees : (s : Setting) (i : Item) (h : History) (x : State) (header : Header) (slots : List PinCounts) (mappings : HandleMap Held) (o : Option Open) (given : List ℕ) → KeepsAll i → Agrees s h x
     → header ≡ table_at s (i ∷ h) x.id → length slots ≡ TABLE_ENTRIES → SlotsAgree (i ∷ h) x.id.0 slots → MappingsAgree mappings (mappings_at (i ∷ h) x.id.0) (maps_answered_at (i ∷ h) x.id.0)
     → CallAgrees s (i ∷ h) x.id o (open_call (i ∷ h) x.id.0) → GivenAgrees (i ∷ h) x.id.0 given
     → Agrees s (i ∷ h) (record x { header = header; slots = slots; mappings = mappings; underway = o; given = given })
@@ -257,7 +257,7 @@ pub slots-stay : (i : Item) (h : History) (q : ℕ) (slots : List PinCounts) →
 slots-stay i h q slots e k a = λ r slot at. slot-kept i h q r slot (kept-live i h k) (λ which. same-body i h q r which e) (a r slot at)
 
 -- and its mappings
-pub mappings-stay : (i : Item) (h : History) (q : ℕ) (kept : Kept Held) → KeepsKnown i → MappingsAgree kept (mappings_at h q) (maps_answered_at h q) → MappingsAgree kept (mappings_at (i ∷ h) q) (maps_answered_at (i ∷ h) q)
+pub mappings-stay : (i : Item) (h : History) (q : ℕ) (kept : HandleMap Held) → KeepsKnown i → MappingsAgree kept (mappings_at h q) (maps_answered_at h q) → MappingsAgree kept (mappings_at (i ∷ h) q) (maps_answered_at (i ∷ h) q)
 mappings-stay i h q kept k a =
     mappings-same kept _ _ _ _ (ap (λ (ps : List Pin). gather by_mapping q ps) (sym (kept-live i h k))) (sym (answered-stays h i q k.maps)) a
 
@@ -289,7 +289,7 @@ own-each s i h xs ys x o g own st here becomes keeps mine slots =
     (other-agrees s i h y y.slots (ap (λ (z : DomId). z.0 == y.id.0) own ∙ apart) a a.room (slots y apart a.slots)))
 
 -- each domain agrees after an item that changes the pins of one entry, where the slots of each do
-pub slots-stand : (s : Setting) (i : Item) (h : History) (xs zs : List State) (x : State) (kept : Kept Held) (o : Option Open) (t r : ℕ) (change : CountsChange) → KeepsEntries i → i.actor ≡ x.id → DomainsStand s h xs → state_of xs x.id.0 ≡ Some x → Agrees s h x
+pub slots-stand : (s : Setting) (i : Item) (h : History) (xs zs : List State) (x : State) (kept : HandleMap Held) (o : Option Open) (t r : ℕ) (change : CountsChange) → KeepsEntries i → i.actor ≡ x.id → DomainsStand s h xs → state_of xs x.id.0 ≡ Some x → Agrees s h x
     → Becomes xs zs x (record x { mappings = kept; underway = o }) t (with_slot r change)
     → ((q : ℕ) (slots : List PinCounts) (b : Bool) → (t == q) ≡ b → SlotsAgree h q slots → SlotsAgree (i ∷ h) q (cond b (changed_at r (slot_after change) slots) slots))
     → MappingsAgree kept (mappings_at (i ∷ h) x.id.0) (maps_answered_at (i ∷ h) x.id.0) → CallAgrees s (i ∷ h) x.id o (open_call (i ∷ h) x.id.0) → GivenAgrees (i ∷ h) x.id.0 x.given

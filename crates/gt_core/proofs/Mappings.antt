@@ -1,5 +1,5 @@
 -- The handles of a domain, and its mappings as the history has them.
-use Rattle.gt_core.proofs.Words.{◌≡◌, ◌+◌, ℕ, zero, suc, refl, Bool, true, false, List, [], ◌∷◌, ◌++◌, length, Option, Some, None, cond, sym, ap, ◌∙◌, arith, subst, ◌==◌, ◌&&◌, fun_ext, eqb-true, eq-eqb, and_parts, and_from, true≢false, none-some, length-append, sum_by-cons, Handle, Kept, value_of, count_of, Held, mapping_of, same_handle, Adds, taken, MappingsAgree, slice_index_or, slice_set, under, AreApart, cond_both}
+use Rattle.gt_core.proofs.Words.{◌≡◌, ◌+◌, ℕ, zero, suc, refl, Bool, true, false, List, [], ◌∷◌, ◌++◌, length, Option, Some, None, cond, sym, ap, ◌∙◌, arith, subst, ◌==◌, ◌&&◌, fun_ext, eqb-true, eq-eqb, and_parts, and_from, true≢false, none-some, length-append, sum_by-cons, Handle, HandleMap, value_of, count_of, Held, mapping_of, same_handle, Adds, taken, MappingsAgree, slice_index_or, slice_set, under, AreApart, cond_both}
 use Rattle.std.proofs.Common.{is_some, count_by}
 use Rattle.gt_handles.specs.declared.handles.Slot.{Slot}
 
@@ -47,7 +47,7 @@ apart-push (x ∷ ms) handle m a none = let n = none-of x ms handle none in
     (push-of ms handle m x.0 n.1 ∙ ap (λ (b : Bool). cond b (Some m) (mapping_of ms x.0)) n.0 ∙ a.0, apart-push ms handle m a.1 n.1)
 
 -- the handles with one mapping more are those of the mappings with one more
-pub mappings-added : (old new : Kept Held) (handle : Handle) (m : Held) (ms : List (Handle × Held)) (n : ℕ) → Adds old new handle m → MappingsAgree old ms n
+pub mappings-added : (old new : HandleMap Held) (handle : Handle) (m : Held) (ms : List (Handle × Held)) (n : ℕ) → Adds old new handle m → MappingsAgree old ms n
     → MappingsAgree new (ms ++ (handle, m) ∷ []) (n + 1)
 mappings-added old new handle m ms n d a =
     let none : mapping_of ms handle ≡ None = ap (λ (f : Handle → Option Held). f handle) (sym a.named) ∙ d.fresh in
@@ -131,7 +131,7 @@ under-other (Some slot) other serial m apart e = by (slot.serial == serial) (slo
   by true false is at f = refl
   by false c is at f = absurd (none-some m f)
 
-taken-of : (kept : Kept Held) (handle other : Handle) (m : Held) → value_of kept handle ≡ Some m → value_of (taken handle kept) other ≡ cond (same_handle other handle) None (value_of kept other)
+taken-of : (kept : HandleMap Held) (handle other : Handle) (m : Held) → value_of kept handle ≡ Some m → value_of (taken handle kept) other ≡ cond (same_handle other handle) None (value_of kept other)
 taken-of kept handle other m has =
     ap (λ (o : Option Held). value_of (cond (is_some o) (record kept { slots = slice_set kept.slots handle.key None }) kept) other) has
     ∙ ap (under other.serial) (set-none kept.slots handle.key other.key)
@@ -154,7 +154,7 @@ count-set (Some x ∷ os) (suc key) slot e =
     omega (arith, count-set os key slot e, sum_by-cons (λ (o : Option (Slot Held)). cond (is_some o) 1 0) (Some x) os, sum_by-cons (λ (o : Option (Slot Held)). cond (is_some o) 1 0) (Some x) (slice_set os key None))
 count-set slots key slot e = absurd (none-some slot e)
 
-count-taken : (kept : Kept Held) (handle : Handle) (m : Held) → value_of kept handle ≡ Some m → count_of (taken handle kept) + 1 ≡ count_of kept
+count-taken : (kept : HandleMap Held) (handle : Handle) (m : Held) → value_of kept handle ≡ Some m → count_of (taken handle kept) + 1 ≡ count_of kept
 count-taken kept handle m has =
     ap (λ (o : Option Held). count_of (cond (is_some o) (record kept { slots = slice_set kept.slots handle.key None }) kept) + 1) has
     ∙ by (slice_index_or kept.slots handle.key None) refl has where
@@ -163,7 +163,7 @@ count-taken kept handle m has =
       by (Some slot) is f = count-set kept.slots handle.key slot is
 
 -- the handles without one mapping are those of the mappings without it
-pub mappings-taken : (kept : Kept Held) (handle : Handle) (m : Held) (ms : List (Handle × Held)) (n : ℕ) → mapping_of ms handle ≡ Some m → MappingsAgree kept ms n
+pub mappings-taken : (kept : HandleMap Held) (handle : Handle) (m : Held) (ms : List (Handle × Held)) (n : ℕ) → mapping_of ms handle ≡ Some m → MappingsAgree kept ms n
     → MappingsAgree (taken handle kept) (less handle ms) n
 mappings-taken kept handle m ms n found a =
     let has : value_of kept handle ≡ Some m = ap (λ (f : Handle → Option Held). f handle) a.named ∙ found in record {
@@ -176,7 +176,7 @@ mappings-taken kept handle m ms n found a =
       sums now was all left a b c = omega arith
 
 -- the same handles stand for the same mappings
-pub mappings-same : (kept : Kept Held) (ms ms' : List (Handle × Held)) (n n' : ℕ) → ms ≡ ms' → n ≡ n' → MappingsAgree kept ms n → MappingsAgree kept ms' n'
+pub mappings-same : (kept : HandleMap Held) (ms ms' : List (Handle × Held)) (n n' : ℕ) → ms ≡ ms' → n ≡ n' → MappingsAgree kept ms n → MappingsAgree kept ms' n'
 mappings-same kept ms ms' n n' e f a = subst (λ (l : List (Handle × Held)). MappingsAgree kept l n') e (subst (λ (k : ℕ). MappingsAgree kept ms k) f a)
 
 -- no handles yet

@@ -1,5 +1,5 @@
 -- A pin that was taken keeps what a core stands for.
-use Rattle.gt_core.proofs.Words.{◌≡◌, ◌≢◌, ◌<◌, ◌+◌, ℕ, refl, Bool, true, false, List, [], ◌∷◌, ◌++◌, length, Option, Some, cond, sym, ap, ◌∙◌, arith, subst, ◌==◌, ◌&&◌, All, count_by, eqb-true, eq-eqb, and_parts, and_from, false≢true, true≢false, All-push, append-nil, DomId, Dir, Read, Write, MAX_PINS, Invalid, FirstHalf, SecondHalf, Kept, Handle, Held, Holder, ByLeg, PinStep, Taken, PinCounts, Open, Item, Answer, Mapped, changed_at, State, state_of, changed_in, with_slot, slot_after, Adds, History, Setting, Pin, live, entry_at, body_at, reads_at, writes_at, mappings_at, maps_answered_at, legs_at, open_call, is_pin_on, same_dir, gather, by_mapping, by_leg, holder_after, one_if_mapped, IsLawful, SlotAgrees, Agrees, DomainsStand, CallAgrees, GivenAgrees, MappingsAgree, sum_by_push}
+use Rattle.gt_core.proofs.Words.{◌≡◌, ◌≢◌, ◌<◌, ◌+◌, ℕ, refl, Bool, true, false, List, [], ◌∷◌, ◌++◌, length, Option, Some, cond, sym, ap, ◌∙◌, arith, subst, ◌==◌, ◌&&◌, All, count_by, eqb-true, eq-eqb, and_parts, and_from, false≢true, true≢false, All-push, append-nil, DomId, Dir, Read, Write, MAX_PINS, Invalid, FirstHalf, SecondHalf, HandleMap, Handle, Held, Holder, ByLeg, PinStep, Taken, PinCounts, Open, Item, Answer, Mapped, changed_at, State, state_of, changed_in, with_slot, slot_after, Adds, History, Setting, Pin, live, entry_at, body_at, reads_at, writes_at, mappings_at, maps_answered_at, legs_at, open_call, is_pin_on, same_dir, gather, by_mapping, by_leg, holder_after, one_if_mapped, IsLawful, SlotAgrees, Agrees, DomainsStand, CallAgrees, GivenAgrees, MappingsAgree, sum_by_push}
 use Rattle.std.specs.Prelude.{min}
 use Rattle.gt_core.specs.declared.pin_counts.CountsChange.TheVariants.{Pinned}
 pub use Rattle.gt_core.proofs.Keeping.{answered-stays, stepped, SlotsAgree, KeepsEntries, same-body, slots-agree, counts-fit, becomes-changed, slots-stand, keeps-stands, same-number, open_call-own, quiet-stands, KeepsKnown, IsStore, IsHere, makes-same, by-giving, mappings-added, mappings-same, gather-append, after_change, Becomes, less, mappings-taken, state-changed}
@@ -144,7 +144,7 @@ answered-up h d p handle = by (d.0 == d.0) (maps_answered_at h d.0) (same-number
   by false was e = absurd (false≢true e)
 
 -- a pin that is taken on a valid entry, and lawful, keeps what the core stands for, where the domain's mappings are those that it then has
-pub pin-stands : (s : Setting) (h : History) (xs ys : List State) (x : State) (p : Held) (answer : Option Answer) (kept : Kept Held) (o : Option Open) → DomainsStand s h xs → state_of xs x.id.0 ≡ Some x → Agrees s h x
+pub pin-stands : (s : Setting) (h : History) (xs ys : List State) (x : State) (p : Held) (answer : Option Answer) (kept : HandleMap Held) (o : Option Open) → DomainsStand s h xs → state_of xs x.id.0 ≡ Some x → Agrees s h x
     → ((q : ℕ) → state_of ys q ≡ cond (x.id.0 == q) (Some (record x { mappings = kept; underway = o })) (state_of xs q))
     → entry_at h p.dom.0 p.gref.0 ≢ Invalid → IsFew h (new_pin h x.id p answer) → IsLawful s (new_pin h x.id p answer)
     → MappingsAgree kept (mappings_at (pins x.id p answer ∷ h) x.id.0) (maps_answered_at (pins x.id p answer ∷ h) x.id.0)
@@ -166,13 +166,13 @@ pin-stands s h xs ys x p answer kept o st here a becomes valid few lawful maps c
     ))
 
 -- the mappings after the pin of a map
-pub map-agrees : (h : History) (d : DomId) (p : Held) (handle : Handle) (old kept : Kept Held) → Adds old kept handle (record p { entry = entry_at h p.dom.0 p.gref.0 }) → MappingsAgree old (mappings_at h d.0) (maps_answered_at h d.0)
+pub map-agrees : (h : History) (d : DomId) (p : Held) (handle : Handle) (old kept : HandleMap Held) → Adds old kept handle (record p { entry = entry_at h p.dom.0 p.gref.0 }) → MappingsAgree old (mappings_at h d.0) (maps_answered_at h d.0)
     → MappingsAgree kept (mappings_at (pins d p (Some (Mapped handle)) ∷ h) d.0) (maps_answered_at (pins d p (Some (Mapped handle)) ∷ h) d.0)
 map-agrees h d p handle old kept adds a =
     mappings-same kept _ _ _ _ (sym (gathered by_mapping h d p (Some (Mapped handle)))) (answered-up h d p handle)
     (mappings-added old kept handle (record p { entry = entry_at h p.dom.0 p.gref.0 }) (mappings_at h d.0) (maps_answered_at h d.0) adds a)
 
 -- and after the pin of a leg
-pub leg-agrees : (h : History) (d : DomId) (p : Held) (answer : Option Answer) (kept : Kept Held) → holder_after answer (length (legs_at h d.0)) ≡ ByLeg (length (legs_at h d.0)) → one_if_mapped answer ≡ 0
+pub leg-agrees : (h : History) (d : DomId) (p : Held) (answer : Option Answer) (kept : HandleMap Held) → holder_after answer (length (legs_at h d.0)) ≡ ByLeg (length (legs_at h d.0)) → one_if_mapped answer ≡ 0
     → MappingsAgree kept (mappings_at h d.0) (maps_answered_at h d.0) → MappingsAgree kept (mappings_at (pins d p answer ∷ h) d.0) (maps_answered_at (pins d p answer ∷ h) d.0)
 leg-agrees h d p answer kept leg m a = mappings-same kept _ _ _ _ (sym (leg-maps h d p answer leg)) (sym (answered-stays h (pins d p answer) d.0 m)) a

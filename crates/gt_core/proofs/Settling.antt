@@ -1,5 +1,5 @@
 -- How a call that nothing stood against is over.
-use Rattle.gt_core.proofs.Words.{take_more, map-append, ◌≡◌, ◌<◌, ◌+◌, ◌++◌, ◌%◌, map, get_or, ℕ, List, [], ◌∷◌, length, take, Some, None, refl, sym, ap, ◌∙◌, set, replicate, min, Kept, DomId, DomainConfig, Invalid, Header, ENTRIES, LAST_GENERATION, Own, Held, PinCounts, Asked, Load, Peek, Step, ReadBytes, State, first_state, IsLoading, with_underway, AnswerDone, Closed, IsLoadOf, FrameSet}
+use Rattle.gt_core.proofs.Words.{take_more, map-append, ◌≡◌, ◌<◌, ◌+◌, ◌++◌, ◌%◌, map, get_or, ℕ, List, [], ◌∷◌, length, take, Some, None, refl, sym, ap, ◌∙◌, set, replicate, min, HandleMap, DomId, DomainConfig, Invalid, Header, ENTRIES, LAST_GENERATION, Own, Held, PinCounts, Asked, Load, Peek, Step, ReadBytes, State, first_state, IsLoading, with_underway, AnswerDone, Closed, IsLoadOf, FrameSet}
 
 -- the room of a load is as long as what it asks
 pub loaded : (r : Asked) (m n : ℕ) → IsLoading (Some r) m → IsLoadOf r n → m ≡ n
@@ -8,7 +8,7 @@ loaded (Peek frame off len) m n a b = a ∙ b
 loaded r m n a b = absurd b
 
 -- a domain at rest, by its parts
-pub at-rest : (d : DomainConfig) (first_gen n : ℕ) (own : List Own) (slots : List PinCounts) (mappings : Kept Held) (given : List ℕ)
+pub at-rest : (d : DomainConfig) (first_gen n : ℕ) (own : List Own) (slots : List PinCounts) (mappings : HandleMap Held) (given : List ℕ)
     → n ≡ ENTRIES → own ≡ replicate n (record { entry = Invalid; generation = min first_gen LAST_GENERATION })
     → slots ≡ replicate n (record { reads = 0; writes = 0; first = 0; second = 0 }) → mappings ≡ record { slots = []; given = 0; room = 0 } → given ≡ []
     → ◌≡◌ {A = State} (record { id = d.id; header = record { version = d.version % 4; frames = d.table_frames % 256 }; own = own; slots = slots; mappings = mappings; underway = None; given = given }) (first_state first_gen d)
@@ -19,7 +19,7 @@ at-rest d first_gen n own slots mappings given en eo es ep eg =
     ap (λ (l : List ℕ). record { id = d.id; header = h; own = own; slots = slots; mappings = mappings; underway = None; given = l }) eg
     ∙ ap (λ (l : List Own). record { id = d.id; header = h; own = l; slots = slots; mappings = mappings; underway = None; given = [] }) o
     ∙ ap (λ (l : List PinCounts). record { id = d.id; header = h; own = replicate ENTRIES (record { entry = Invalid; generation = min first_gen LAST_GENERATION }); slots = l; mappings = mappings; underway = None; given = [] }) s
-    ∙ ap (λ (l : Kept Held). record { id = d.id; header = h; own = replicate ENTRIES (record { entry = Invalid; generation = min first_gen LAST_GENERATION }); slots = replicate ENTRIES (record { reads = 0; writes = 0; first = 0; second = 0 }); mappings = l; underway = None; given = [] }) ep
+    ∙ ap (λ (l : HandleMap Held). record { id = d.id; header = h; own = replicate ENTRIES (record { entry = Invalid; generation = min first_gen LAST_GENERATION }); slots = replicate ENTRIES (record { reads = 0; writes = 0; first = 0; second = 0 }); mappings = l; underway = None; given = [] }) ep
 
 -- one domain more at rest
 pub rest-more : (first_gen : ℕ) (items : List DomainConfig) (i : ℕ) (d : DomainConfig) (old new : List State) (x : State) → i < length items

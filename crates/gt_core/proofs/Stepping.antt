@@ -1,5 +1,5 @@
 -- What the core does for a step of an open call: it is right, and the core stands for it.
-use Rattle.gt_core.proofs.Words.{◌≡◌, ◌≢◌, inl, inr, ℕ, refl, Bool, true, List, [], ◌∷◌, ◌++◌, length, Option, Some, None, cond, sym, ap, ◌∙◌, subst, reverse, eqb-true, eq-eqb, length-reverse, reverse_onto, same_Some, ◌==◌, DomId, GrantRef, Denial, Entry, Invalid, Half, Handle, Held, Asked, ByMapping, ByLeg, Seen, Nothing, Taken, Missed, Verdict, Granted, Given, KeptPin, Refused, Step, PinStep, Unpin, StoreBody, StoreHeader, Exchange, ReadBytes, WriteBytes, CopyBytes, Action, Makes, Done, Call, Phase, Storing, Walking, Last, Ending, last_first, knowledge_of, path, phase_after, action_at, after_store, HasShown, pins_at, held_in, Goes, Open, Item, Answer, Denied, AnswerDone, Mapped, State, state_of, sees, History, Setting, live, word_at, known_at, legs_at, mappings_at, mapping_of, seen_by, Underway, values, open_call, underway_after, holder_after, one_if_mapped, StepsRight, GivesValue, refusal_in, refusal_of, DomainsStand, Agrees, CallAgrees, OpenAgrees, numbered, position, get_or, set, position-Some, domain_of, Value, FramesTold, BytesAnswer, Kept, applied, with_underway, with_mapping, Adds, IsReadable, IsAdmitted, AccessedBy, bytes_at, FrameSet, frame_at, contents_at, IsRight, StepsRightIn, CoreStands, FramesStand, core_of, Settled, IsLawful, IsLawfullyHeld, answer_with, Closed, IsRoomFor, IsMapping, ticked_with, ticked_element, Element, Tick, MayDo, Does, Did, grown, without, RestsOnRequest, WantsMemoryNow, IsWritingNext, TickTold, IsWriting, cond_both}
+use Rattle.gt_core.proofs.Words.{◌≡◌, ◌≢◌, inl, inr, ℕ, refl, Bool, true, List, [], ◌∷◌, ◌++◌, length, Option, Some, None, cond, sym, ap, ◌∙◌, subst, reverse, eqb-true, eq-eqb, length-reverse, reverse_onto, same_Some, ◌==◌, DomId, GrantRef, Denial, Entry, Invalid, Half, Handle, Held, Asked, ByMapping, ByLeg, Seen, Nothing, Taken, Missed, Verdict, Granted, Given, KeptPin, Refused, Step, PinStep, Unpin, StoreBody, StoreHeader, Exchange, ReadBytes, WriteBytes, CopyBytes, Action, Makes, Done, Call, Phase, Storing, Walking, Last, Ending, last_first, knowledge_of, path, phase_after, action_at, after_store, HasShown, pins_at, held_in, Goes, Open, Item, Answer, Denied, AnswerDone, Mapped, State, state_of, sees, History, Setting, live, word_at, known_at, legs_at, mappings_at, mapping_of, seen_by, Underway, values, open_call, underway_after, holder_after, one_if_mapped, StepsRight, GivesValue, refusal_in, refusal_of, DomainsStand, Agrees, CallAgrees, OpenAgrees, numbered, position, get_or, set, position-Some, domain_of, Value, FramesTold, BytesAnswer, HandleMap, applied, with_underway, with_mapping, Adds, IsReadable, IsAdmitted, AccessedBy, bytes_at, FrameSet, frame_at, contents_at, IsRight, StepsRightIn, CoreStands, FramesStand, core_of, Settled, IsLawful, IsLawfullyHeld, answer_with, Closed, IsRoomFor, IsMapping, ticked_with, ticked_element, Element, Tick, MayDo, Does, Did, grown, without, RestsOnRequest, WantsMemoryNow, IsWritingNext, TickTold, IsWriting, cond_both}
 use Rattle.std.specs.Prelude.{take, drop}
 use Rattle.gt_core.proofs.Pinning.{pins, map-legs, new_pin, pin-stands, map-agrees, leg-agrees as pin-agrees, stepped, KeepsEntries, open_call-own, quiet-stands, KeepsKnown, IsStore, IsHere, makes-same, by-giving}
 use Rattle.gt_core.proofs.Headers.{header-stands}
@@ -154,7 +154,7 @@ refused-core s h xs ys x o c new denial t r =
     ends-core s h xs ys x o c new (Refused denial) (Denied denial) t r tt (λ m e. cc) refl tt
 
 -- a map with its pin
-pub mapped-core : (s : Setting) (h : History) (xs ys : List State) (x : State) (o : Open) (c : Underway) (new : Call) (held : Held) (handle : Handle) (kept : Kept Held) → Ticks s h xs x o c new (Done (KeptPin held)) → Replaced xs ys x (record x { mappings = kept; underway = None })
+pub mapped-core : (s : Setting) (h : History) (xs ys : List State) (x : State) (o : Open) (c : Underway) (new : Call) (held : Held) (handle : Handle) (kept : HandleMap Held) → Ticks s h xs x o c new (Done (KeptPin held)) → Replaced xs ys x (record x { mappings = kept; underway = None })
     → Adds x.mappings kept handle held → Ticked s h x.id o.step (seen_by s h x.id o.step) (Some (Mapped handle)) (applied x.id o.step (seen_by s h x.id o.step) ys)
 mapped-core s h xs ys x o c new held handle kept t r adds = by (seen_by s h x.id o.step) refl where
   d : DomId

@@ -1,5 +1,5 @@
 -- An unpin keeps what a core stands for.
-use Rattle.gt_core.proofs.Words.{◌≡◌, ◌<◌, ◌≤◌, ◌+◌, ◌-◌, ◌⊎◌, inl, inr, ℕ, suc, refl, Bool, true, false, List, [], ◌∷◌, ◌++◌, length, Option, Some, None, cond, sym, ap, ◌∙◌, arith, subst, ◌==◌, ◌&&◌, All, count_by, eq-eqb, and_from, false≢true, true≢false, none-some, same_Some, append-nil, sum_by-cons, All-tail, DomId, Dir, Read, Write, FirstHalf, SecondHalf, Handle, Kept, Held, Holder, ByMapping, ByLeg, Unpin, Seen, PinCounts, Open, Unpinned, Item, Answer, changed_at, State, state_of, changed_in, with_slot, without_mapping, slot_after, taken, History, Setting, Pin, live, body_at, reads_at, writes_at, mappings_at, maps_answered_at, legs_at, open_call, is_pin_on, without, is_holder, same_handle, same_dir, gather, by_mapping, by_leg, mapping_of, one_if_mapped, IsLawful, SlotAgrees, Agrees, DomainsStand, CallAgrees, GivenAgrees, MappingsAgree, numbered, sum_by-append, All-cons, All-head, MAX_PINS, ne_eqb}
+use Rattle.gt_core.proofs.Words.{◌≡◌, ◌<◌, ◌≤◌, ◌+◌, ◌-◌, ◌⊎◌, inl, inr, ℕ, suc, refl, Bool, true, false, List, [], ◌∷◌, ◌++◌, length, Option, Some, None, cond, sym, ap, ◌∙◌, arith, subst, ◌==◌, ◌&&◌, All, count_by, eq-eqb, and_from, false≢true, true≢false, none-some, same_Some, append-nil, sum_by-cons, All-tail, DomId, Dir, Read, Write, FirstHalf, SecondHalf, Handle, HandleMap, Held, Holder, ByMapping, ByLeg, Unpin, Seen, PinCounts, Open, Unpinned, Item, Answer, changed_at, State, state_of, changed_in, with_slot, without_mapping, slot_after, taken, History, Setting, Pin, live, body_at, reads_at, writes_at, mappings_at, maps_answered_at, legs_at, open_call, is_pin_on, without, is_holder, same_handle, same_dir, gather, by_mapping, by_leg, mapping_of, one_if_mapped, IsLawful, SlotAgrees, Agrees, DomainsStand, CallAgrees, GivenAgrees, MappingsAgree, numbered, sum_by-append, All-cons, All-head, MAX_PINS, ne_eqb}
 pub use Rattle.gt_core.proofs.Pinning.{answered-stays, stepped, SlotsAgree, KeepsEntries, same-body, slots-agree, counts-fit, after_change, Becomes, becomes-changed, slots-stand, keeps-stands, less, mappings-taken, mappings-same, state-changed, pins, leg-grows, leg-maps}
 
 -- what an unpin takes from the live pins
@@ -148,7 +148,7 @@ pub mapping-legs : (h : History) (d : DomId) (p : Held) (handle : Handle) (seen 
 mapping-legs h d p handle seen answer =
     ap (gather by_leg d.0) (unpinned-live h d p (ByMapping handle) seen answer) ∙ other-gather by_leg (ByMapping handle) d.0 (live h) (mapping-none handle)
 
-pub mapping-agrees : (h : History) (d : DomId) (p : Held) (handle : Handle) (seen : Seen) (answer : Option Answer) (kept : Kept Held) → one_if_mapped answer ≡ 0 → mapping_of (mappings_at h d.0) handle ≡ Some p
+pub mapping-agrees : (h : History) (d : DomId) (p : Held) (handle : Handle) (seen : Seen) (answer : Option Answer) (kept : HandleMap Held) → one_if_mapped answer ≡ 0 → mapping_of (mappings_at h d.0) handle ≡ Some p
     → MappingsAgree kept (mappings_at h d.0) (maps_answered_at h d.0)
     → MappingsAgree (taken handle kept) (mappings_at (unpins d p (ByMapping handle) seen answer ∷ h) d.0) (maps_answered_at (unpins d p (ByMapping handle) seen answer ∷ h) d.0)
 mapping-agrees h d p handle seen answer kept m found a =
@@ -191,7 +191,7 @@ pub leg-mappings : (h : History) (d : DomId) (p : Held) (number : ℕ) (seen : S
 leg-mappings h d p number seen answer =
     ap (gather by_mapping d.0) (unpinned-live h d p (ByLeg number) seen answer) ∙ other-gather by_mapping (ByLeg number) d.0 (live h) (leg-none number)
 
-pub leg-agrees : (h : History) (d : DomId) (p : Held) (number : ℕ) (seen : Seen) (answer : Option Answer) (kept : Kept Held) → one_if_mapped answer ≡ 0
+pub leg-agrees : (h : History) (d : DomId) (p : Held) (number : ℕ) (seen : Seen) (answer : Option Answer) (kept : HandleMap Held) → one_if_mapped answer ≡ 0
     → MappingsAgree kept (mappings_at h d.0) (maps_answered_at h d.0) → MappingsAgree kept (mappings_at (unpins d p (ByLeg number) seen answer ∷ h) d.0) (maps_answered_at (unpins d p (ByLeg number) seen answer ∷ h) d.0)
 leg-agrees h d p number seen answer kept m a = mappings-same kept _ _ _ _ (sym (leg-mappings h d p number seen answer)) (sym (answered-stays h (unpins d p (ByLeg number) seen answer) d.0 m)) a
 
@@ -277,7 +277,7 @@ le-zero : (a b : ℕ) → a ≤ b → b ≡ 0 → a ≡ 0
 le-zero a b e f = omega arith
 
 -- a live pin that is given back keeps what the core stands for, where the domain's mappings are those that it then has
-pub unpin-stands : (s : Setting) (h : History) (xs zs : List State) (x : State) (p : Held) (holder : Holder) (seen : Seen) (answer : Option Answer) (kept : Kept Held) (o : Option Open) → DomainsStand s h xs
+pub unpin-stands : (s : Setting) (h : History) (xs zs : List State) (x : State) (p : Held) (holder : Holder) (seen : Seen) (answer : Option Answer) (kept : HandleMap Held) (o : Option Open) → DomainsStand s h xs
     → state_of xs x.id.0 ≡ Some x → Agrees s h x → Becomes xs zs x (record x { mappings = kept; underway = o }) p.dom.0 (with_slot p.gref.0 (Unpinned p.dir)) → Loses p (live h) (without x.id.0 holder (live h))
     → MappingsAgree kept (mappings_at (unpins x.id p holder seen answer ∷ h) x.id.0) (maps_answered_at (unpins x.id p holder seen answer ∷ h) x.id.0)
     → CallAgrees s (unpins x.id p holder seen answer ∷ h) x.id o (open_call (unpins x.id p holder seen answer ∷ h) x.id.0) → GivenAgrees (unpins x.id p holder seen answer ∷ h) x.id.0 x.given

@@ -42,7 +42,7 @@ pub use Rattle.gt_entry.specs.declared.control.Kind.TheVariants.{Page as KindPag
 pub use Rattle.gt_entry.specs.declared.entry.Entry.{Entry}
 pub use Rattle.gt_entry.specs.declared.entry.Entry.TheVariants.{Invalid, Page, Sub, Via}
 pub use Rattle.gt_entry.specs.declared.header.Header.{Header}
-pub use Rattle.gt_handles.specs.Handles.{Kept, count_of, under, value_of}
+pub use Rattle.gt_handles.specs.Handles.{HandleMap, count_of, under, value_of}
 pub use Rattle.gt_handles.specs.declared.handles.Handle.{Handle}
 pub use Rattle.gt_frames.specs.Bytes.{Patch, overlay, replay, written}
 unfoldable pub use Rattle.gt_frames.specs.Bytes.{zeros}

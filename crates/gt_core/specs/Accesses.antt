@@ -1,7 +1,7 @@
 -- How a call reads and writes bytes in frames: the code's own representation.
 -- It is in specs/ because private contracts cite it.
 use Rattle.std.specs.Prelude.{◌≡◌, ℕ, List, length, Option, Some, None, IsTrue}
-use Rattle.gt_handles.specs.Handles.{Kept, value_of}
+use Rattle.gt_handles.specs.Handles.{HandleMap, value_of}
 use Rattle.gt_calls.specs.declared.held.Held.{Held}
 use Rattle.gt_calls.specs.declared.held.Route.{Route}
 use Rattle.gt_calls.specs.declared.held.Route.TheVariants.{Own, Direct, Through}
@@ -37,7 +37,7 @@ route_by (Some m) = Direct m
 
 -- the route by which a call writes: by the pin of a store's mapping, or by those of a copy's destination; else to the
 -- caller's own frame (own)
-abbrev pub route_of : Kept Held → Call → Route
+abbrev pub route_of : HandleMap Held → Call → Route
 route_of mappings call = by call.request
   where
     by : Asked → Route

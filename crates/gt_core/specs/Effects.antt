@@ -21,7 +21,7 @@ use Rattle.gt_core.specs.declared.underway.Open.{Open}
 use Rattle.gt_core.specs.Rows.{changed_at}
 use Rattle.gt_core.specs.States.{State, changed_in}
 pub use Rattle.gt_calls.specs.Changes.{own_after}
-use Rattle.gt_handles.specs.Handles.{Kept, value_of, count_of, Updates}
+use Rattle.gt_handles.specs.Handles.{HandleMap, value_of, count_of, Updates}
 
 -- one pin more or less of a kind, or another body word (own)
 abbrev pub slot_after : CountsChange → PinCounts → PinCounts
@@ -53,7 +53,7 @@ abbrev pub with_call : Open → List ℕ → State → State
 with_call call given x = record x { underway = Some call; given = given }
 
 -- these handles are the old ones and a new one, under the next serial, which names this mapping (own)
-pub record Adds (old new : Kept Held) (handle : Handle) (m : Held) : Type 0 where
+pub record Adds (old new : HandleMap Held) (handle : Handle) (m : Held) : Type 0 where
   pub serial : handle.serial ≡ old.given
   pub fresh : value_of old handle ≡ None
   pub given : new.given ≡ old.given + 1
@@ -61,11 +61,11 @@ pub record Adds (old new : Kept Held) (handle : Handle) (m : Held) : Type 0 wher
   pub count : count_of new ≡ count_of old + 1
 
 -- the state with these mappings, after the call that made one is answered (own)
-abbrev pub with_mapping : Kept Held → State → State
+abbrev pub with_mapping : HandleMap Held → State → State
 with_mapping mappings x = record x { mappings = mappings; underway = None }
 
 -- the mapping under this handle goes, if there is one (own)
-abbrev pub taken : Handle → Kept Held → Kept Held
+abbrev pub taken : Handle → HandleMap Held → HandleMap Held
 taken handle mappings =
     if is_some (value_of mappings handle) then record mappings { slots = slice_set mappings.slots handle.key None }
     else mappings

@@ -43,7 +43,7 @@ use Rattle.gt_frames.specs.declared.places.FrameName.{FrameName}
 use Rattle.gt_frames.specs.Frames.{patches, bytes_at}
 use Rattle.gt_frames.specs.Places.{frame_counts}
 use Rattle.gt_frames.specs.Sets.{FrameSet, frame_at, AreKept}
-use Rattle.gt_handles.specs.Handles.{Kept, value_of as mapping_under, count_of}
+use Rattle.gt_handles.specs.Handles.{HandleMap, value_of as mapping_under, count_of}
 use Rattle.gt_calls.specs.declared.held.Held.{Held}
 use Rattle.std.proofs.Math.ListN.{set}
 use Rattle.gt_core.specs.declared.trace.Happened.TheVariants.{Began, Stepped}
@@ -172,7 +172,7 @@ Closed fs xs at d step answer new = (answer ≡ AnswerDone) × (new ≡ set xs a
 abbrev pub Ended : FrameSet → List State → ℕ → State → Step → Verdict → Answer → List State → Type 0
 Ended fs xs at d step Granted answer new = Closed fs xs at d step answer new
 Ended fs xs at d step (KeptPin held) answer new =
-    (handle : Handle) × (kept : Kept Held) × (answer ≡ MappedAnswer handle) × Adds d.mappings kept handle held
+    (handle : Handle) × (kept : HandleMap Held) × (answer ≡ MappedAnswer handle) × Adds d.mappings kept handle held
     × (new ≡ set xs at (with_mapping kept d))
 Ended fs xs at d step (Given value) answer new =
     (answer ≡ answer_with value) × (new ≡ set xs at (with_underway None d))
@@ -360,7 +360,7 @@ AreApart [] = Unit {0}
 AreApart (m ∷ ms) = (mapping_of ms m.0 ≡ None) × AreApart ms
 
 -- the handles name just these mappings, after so many maps were answered Ok (own)
-pub record MappingsAgree (kept : Kept Held) (ms : List (Handle × Held)) (answered : ℕ) : Type 0 where
+pub record MappingsAgree (kept : HandleMap Held) (ms : List (Handle × Held)) (answered : ℕ) : Type 0 where
   pub named : mapping_under kept ≡ mapping_of ms
   pub count : count_of kept ≡ length ms
   pub given : kept.given ≡ answered

@@ -10,7 +10,7 @@ use Rattle.gt_calls.specs.declared.request.Asked.TheVariants.{Map, Load, Store, 
 use Rattle.gt_types.specs.declared.DomId.{DomId}
 use Rattle.gt_entry.specs.declared.header.Header.{Header}
 use Rattle.gt_calls.specs.declared.known.Own.{Own}
-use Rattle.gt_handles.specs.Handles.{Kept}
+use Rattle.gt_handles.specs.Handles.{HandleMap}
 use Rattle.gt_calls.specs.declared.held.Held.{Held}
 use Rattle.gt_core.specs.declared.pin_counts.PinCounts.{PinCounts}
 use Rattle.gt_core.specs.declared.underway.Open.{Open}
@@ -23,7 +23,7 @@ pub record State : Type 0 where
   pub header : Header
   pub own : List Own
   pub slots : List PinCounts
-  pub mappings : Kept Held
+  pub mappings : HandleMap Held
   pub underway : Option Open
   pub given : List ℕ
 
@@ -70,7 +70,7 @@ IsLoading _ n = Unit {0}
 
 -- the room that a call's answer wants was made when it began: for one more mapping, under a serial that is left, or for
 -- the bytes of a load or peek (own)
-abbrev pub HasRoom : Option Asked → Kept Held → Option ℕ → Type 0
+abbrev pub HasRoom : Option Asked → HandleMap Held → Option ℕ → Type 0
 HasRoom (Some (Map dom gref flags)) mappings bytes = (1 ≤ mappings.room) × (mappings.given + 1 < 2 ^ 64)
 HasRoom (Some (Load handle off len)) mappings bytes = bytes ≡ Some len
 HasRoom (Some (Peek frame off len)) mappings bytes = bytes ≡ Some len

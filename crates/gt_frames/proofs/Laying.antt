@@ -13,7 +13,7 @@ use Rattle.gt_types.specs.declared.DomId.{DomId}
 use Rattle.gt_frames.specs.declared.places.FrameCount.{FrameCount}
 use Rattle.gt_frames.specs.declared.places.FrameName.{FrameName}
 use Rattle.gt_frames.specs.declared.writ.Writ.{Writ}
-use Rattle.gt_frames.specs.declared.writ.Record.{Record}
+use Rattle.gt_frames.specs.declared.writ.WriteRecord.{WriteRecord}
 use Rattle.gt_frames.specs.Receipts.{Copying, copying_of}
 use Rattle.gt_frames.specs.Frames.{FrameState, bytes_at, all_rightful, IsKept, IsWrite}
 use Rattle.gt_frames.specs.Places.{pool_number, frames_of, name_in, names_of, is_name}
@@ -69,7 +69,7 @@ module _ (ds : List FrameCount) (fs : List FrameState) (out : AreLaidOut ds fs) 
     journal_here : journal_in (place_in (seen ds fs) name) (map journal_of fs) ≡ f.journal
     journal_here =
         let at : slice_get (map journal_of fs) place ≡ Some f.journal = slice_get-map journal_of fs place ∙ ap (λ o. option_map journal_of o) here in
-        ap (λ (o : Option ℕ). journal_in o (map journal_of fs)) is ∙ ap (λ (o : Option (List Record)). unwrap_or o []) at
+        ap (λ (o : Option ℕ). journal_in o (map journal_of fs)) is ∙ ap (λ (o : Option (List WriteRecord)). unwrap_or o []) at
 
     -- the frame that stands there is the one of this name
     pub found : f ≡ frame_at (seen ds fs) name
@@ -114,7 +114,7 @@ module _
     elsewhere None apart = refl
     elsewhere (Some at) apart =
         let away : at ≢ place = λ e. apart (ap (λ (n : ℕ). Some n) e) in
-        ap (λ (js : List (List Record)). unwrap_or (slice_get js at) []) (map-set journal_of fs place g)
+        ap (λ (js : List (List WriteRecord)). unwrap_or (slice_get js at) []) (map-set journal_of fs place g)
         ∙ unwrap_or-slice_get (set (map journal_of fs) place g.journal) at []
         ∙ get_or-set_other (map journal_of fs) place at g.journal [] away
         ∙ sym (unwrap_or-slice_get (map journal_of fs) at [])
@@ -125,7 +125,7 @@ module _
         let old : f ≡ frame_at (seen ds fs) name = found ds fs out name place f is here in
         let new : g ≡ frame_at (seen ds (set fs place g)) name = found ds (set fs place g) laid_after name place g is stands in
         let others : (other : FrameName) → is_name other name ≡ false → frame_at (seen ds (set fs place g)) other ≡ frame_at (seen ds fs) other = λ other differs.
-        ap (λ (j : List Record). record { owner = other.owner; number = other.number; journal = j })
+        ap (λ (j : List WriteRecord). record { owner = other.owner; number = other.number; journal = j })
         (elsewhere (pool_number ds other.owner other.number 0) (λ same. both_ways (is_name other name) differs (same_name other name (one_name ds other name place same is)))) in
         record {
           domains = refl;
@@ -153,31 +153,31 @@ names_new (d ∷ ds) =
 
 no_writes : (d : FrameCount) (a n : ℕ) → map journal_of (map (zero_in d) (range_with_len a n)) ≡ replicate n []
 no_writes d a zero = refl
-no_writes d a (suc n) = ap (λ (l : List (List Record)). [] ∷ l) (no_writes d (a + 1) n)
+no_writes d a (suc n) = ap (λ (l : List (List WriteRecord)). [] ∷ l) (no_writes d (a + 1) n)
 
 pub journals_new : (ds : List FrameCount) → map journal_of (flat_map zero_frames ds) ≡ replicate (frames_of ds) []
 journals_new [] = refl
 journals_new (d ∷ ds) =
     map-append journal_of (zero_frames d) (flat_map zero_frames ds)
-    ∙ ap (λ (l : List (List Record)). l ++ map journal_of (flat_map zero_frames ds)) (no_writes d 0 d.frames)
-    ∙ ap (λ (l : List (List Record)). replicate d.frames [] ++ l) (journals_new ds)
+    ∙ ap (λ (l : List (List WriteRecord)). l ++ map journal_of (flat_map zero_frames ds)) (no_writes d 0 d.frames)
+    ∙ ap (λ (l : List (List WriteRecord)). replicate d.frames [] ++ l) (journals_new ds)
     ∙ replicate-append-replicate d.frames (frames_of ds) []
 
-in_replicate : (n k : ℕ) (x y : List Record) → slice_get (replicate n x) k ≡ Some y → y ≡ x
+in_replicate : (n k : ℕ) (x y : List WriteRecord) → slice_get (replicate n x) k ≡ Some y → y ≡ x
 in_replicate zero k x y h = absurd (none-some y h)
 in_replicate (suc n) zero x y h = sym (same_Some x y h)
 in_replicate (suc n) (suc k) x y h = in_replicate n k x y h
 
 pub laid_new : (ds : List FrameCount) → AreLaidOut ds (flat_map zero_frames ds)
 laid_new ds =
-    let all : length (map journal_of (flat_map zero_frames ds)) ≡ frames_of ds = ap (λ (l : List (List Record)). length l) (journals_new ds) ∙ length-replicate {A = List Record} (frames_of ds) [] in
+    let all : length (map journal_of (flat_map zero_frames ds)) ≡ frames_of ds = ap (λ (l : List (List WriteRecord)). length l) (journals_new ds) ∙ length-replicate {A = List WriteRecord} (frames_of ds) [] in
     record {
       count = sym (length-map (flat_map zero_frames ds) journal_of) ∙ all;
       names = names_new ds;
       kept = λ place f here.
           let at : slice_get (map journal_of (flat_map zero_frames ds)) place ≡ Some f.journal = slice_get-map journal_of (flat_map zero_frames ds) place ∙ ap (λ o. option_map journal_of o) here in
-          let none : f.journal ≡ [] = in_replicate (frames_of ds) place [] f.journal (ap (λ (l : List (List Record)). slice_get l place) (sym (journals_new ds)) ∙ at) in
-          subst (λ (j : List Record). IsTrue (all_rightful f.owner f.number j)) (sym none) refl;
+          let none : f.journal ≡ [] = in_replicate (frames_of ds) place [] f.journal (ap (λ (l : List (List WriteRecord)). slice_get l place) (sym (journals_new ds)) ∙ at) in
+          subst (λ (j : List WriteRecord). IsTrue (all_rightful f.owner f.number j)) (sym none) refl;
     }
 
 -- two frames of a list that is cut in two

@@ -9,23 +9,23 @@ use Rattle.gt_entry.specs.Permits.{permits, forwards, leads_to, is_of_frame}
 use Rattle.gt_frames.specs.declared.writ.Ground.{Ground}
 use Rattle.gt_frames.specs.declared.writ.Ground.TheVariants.{Owned, Granted, Forwarded}
 use Rattle.gt_frames.specs.declared.writ.Writ.{Writ}
-use Rattle.gt_frames.specs.declared.writ.Record.{Record}
+use Rattle.gt_frames.specs.declared.writ.WriteRecord.{WriteRecord}
 use Rattle.gt_frames.specs.Bytes.{overlay, IsLaidOver, Patch, written}
 
 -- a frame: its owner, its number among the owner's frames, and its writes, the oldest first (own)
 pub record FrameState : Type 0 where
   pub owner : DomId
   pub number : ℕ
-  pub journal : List Record
+  pub journal : List WriteRecord
 
 -- bytes
 
 -- the write of a record (own)
-abbrev pub patch_of : Record → Patch
+abbrev pub patch_of : WriteRecord → Patch
 patch_of r = record { off = r.off; bytes = r.bytes }
 
 -- the writes of a journal, the oldest first (own)
-abbrev pub patches : List Record → List Patch
+abbrev pub patches : List WriteRecord → List Patch
 patches rs = map patch_of rs
 
 -- the bytes of a frame: the writes of its journal over zeros (own)
@@ -54,11 +54,11 @@ abbrev pub covers : Writ → DomId → ℕ → ℕ → ℕ → Bool
 covers w owner number off len = suffices w.basis w.writer owner number off len
 
 -- the record lies in the frame, and its writ is for its range (own)
-abbrev pub is_rightful : DomId → ℕ → Record → Bool
+abbrev pub is_rightful : DomId → ℕ → WriteRecord → Bool
 is_rightful owner number r = nat_le (r.off + length r.bytes) FRAME_SIZE && covers r.writ owner number r.off (length r.bytes)
 
 -- each record of the list lies in the frame, and its writ is for its range (own)
-abbrev pub all_rightful : DomId → ℕ → List Record → Bool
+abbrev pub all_rightful : DomId → ℕ → List WriteRecord → Bool
 all_rightful owner number [] = true
 all_rightful owner number (r ∷ rs) = is_rightful owner number r && all_rightful owner number rs
 
@@ -67,7 +67,7 @@ abbrev pub IsKept : FrameState → Type 0
 IsKept f = IsTrue (all_rightful f.owner f.number f.journal)
 
 -- these bytes are the journal's replay over zeros, and each write was by right (own)
-pub record IsSound (owner : DomId) (number : ℕ) (bytes : List ℕ) (journal : List Record) : Type 0 where
+pub record IsSound (owner : DomId) (number : ℕ) (bytes : List ℕ) (journal : List WriteRecord) : Type 0 where
   pub replayed : bytes ≡ written (patches journal)
   pub len : length bytes ≡ FRAME_SIZE
   pub rightful : IsTrue (all_rightful owner number journal)
@@ -75,7 +75,7 @@ pub record IsSound (owner : DomId) (number : ℕ) (bytes : List ℕ) (journal : 
 -- changes
 
 -- the journal with one more write (own)
-abbrev pub recorded : List Record → Writ → ℕ → List ℕ → List Record
+abbrev pub recorded : List WriteRecord → Writ → ℕ → List ℕ → List WriteRecord
 recorded rs w off ys = rs ++ record { writ = w; off = off; bytes = ys } ∷ []
 
 -- the frame after one more write (own)

@@ -5,21 +5,21 @@ use Rattle.gt_types.specs.declared.limits.TheConstants.{FRAME_SIZE}
 use Rattle.gt_frames.specs.declared.places.FrameCount.{FrameCount}
 use Rattle.gt_frames.specs.declared.places.FrameName.{FrameName}
 use Rattle.gt_frames.specs.declared.writ.Writ.{Writ}
-use Rattle.gt_frames.specs.declared.writ.Record.{Record}
+use Rattle.gt_frames.specs.declared.writ.WriteRecord.{WriteRecord}
 use Rattle.gt_frames.specs.Frames.{FrameState, bytes_at, covers, IsKept, IsWrite}
 use Rattle.gt_frames.specs.Places.{pool_number, frames_of, name_in, names_of, is_name}
 
 -- the frames of a run: how many each domain has, and the writes to each frame by its pool number, the oldest first (own)
 pub record FrameSet : Type 0 where
   pub domains : List FrameCount
-  pub journals : List (List Record)
+  pub journals : List (List WriteRecord)
 
 -- the frame's pool number, if there is such a frame (own)
 abbrev pub place_in : FrameSet → FrameName → Option ℕ
 place_in fs name = pool_number fs.domains name.owner name.number 0
 
 -- the writes at this place, none where there is no such place (own)
-abbrev pub journal_in : Option ℕ → List (List Record) → List Record
+abbrev pub journal_in : Option ℕ → List (List WriteRecord) → List WriteRecord
 journal_in None journals = []
 journal_in (Some place) journals = unwrap_or (slice_get journals place) []
 
@@ -58,7 +58,7 @@ abbrev pub name_of : FrameState → FrameName
 name_of f = record { owner = f.owner; number = f.number }
 
 -- the writes to a frame (own)
-abbrev pub journal_of : FrameState → List Record
+abbrev pub journal_of : FrameState → List WriteRecord
 journal_of f = f.journal
 
 -- each frame of the list is at the place of its name, and is kept (own)

@@ -5,11 +5,11 @@ use std::marker::Model;
 
 /// Bytes on the heap, which contracts see as a list.
 #[derive(Drop)]
-pub struct Bytes {
+pub struct FrameBytes {
     items: Vec<u8>,
 }
 
-impl Model for Bytes {
+impl Model for FrameBytes {
     ghost use Rattle.std.specs.Prelude.{List, ℕ};
 
     ghost Value = { List ℕ };
@@ -17,15 +17,15 @@ impl Model for Bytes {
     ghost view = { λ b. b.items.items };
 }
 
-impl From<Vec<u8>> for Bytes {
+impl From<Vec<u8>> for FrameBytes {
     ghost from_gives = { λ v b. b ≡ v.items };
 
     fn from(items: Vec<u8>) -> Self {
-        Bytes { items }
+        FrameBytes { items }
     }
 }
 
-impl Bytes {
+impl FrameBytes {
     /// Gives the bytes back.
     pub(crate) fn into_vec(self) -> Vec<u8>
         ensures { result.items ≡ self }

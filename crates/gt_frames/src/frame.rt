@@ -4,8 +4,8 @@ ghost use Rattle.std.specs.Prelude.{OnOk, OnErr};
 ghost use Rattle.gt_frames.specs.Bytes.{overlay};
 ghost use Rattle.gt_frames.specs.Frames.{recorded};
 
-use crate::receipts::CopyEnd;
-use crate::{Bytes, Copied, Read, Record, Writ, Written};
+use crate::receipts::CopiedEnd;
+use crate::{Copied, FrameBytes, Read, Writ, WriteRecord, Written};
 use gt_types::{DomId, FRAME_SIZE, Memory};
 use std::alloc::Global;
 use std::marker::Model;
@@ -17,7 +17,7 @@ pub struct Frame {
     owner: DomId,
     number: u64,
     bytes: Vec<u8>,
-    journal: Vec<Record>,
+    journal: Vec<WriteRecord>,
 }
 
 impl Model for Frame {
@@ -33,7 +33,7 @@ impl Model for Frame {
 // Adds a record to the journal, and lays its bytes over the contents. The bytes are the record's
 // own, so a source that overlaps the range written was read before it.
 fn store(
-    journal: &mut Vec<Record>,
+    journal: &mut Vec<WriteRecord>,
     contents: &mut Vec<u8>,
     writ: &Writ,
     off: u16,
@@ -49,10 +49,10 @@ fn store(
     let start = usize::from(off);
     let end = start + bytes.len();
     contents[start..end].copy_from_slice(&bytes);
-    journal.push_reserved(Record {
+    journal.push_reserved(WriteRecord {
         writ: *writ,
         off,
-        bytes: Bytes::from(bytes),
+        bytes: FrameBytes::from(bytes),
     });
     Ok(())
 }
@@ -116,7 +116,7 @@ impl Frame {
             owner: self.owner,
             number: self.number,
             off,
-            bytes: Bytes::from(room),
+            bytes: FrameBytes::from(room),
         }
     }
 
@@ -215,12 +215,12 @@ impl Frame {
         })
     }
 
-    fn end(&self, off: u16) -> CopyEnd
+    fn end(&self, off: u16) -> CopiedEnd
         ensures owner { result.owner ≡ self.now.owner }
         ensures number { result.number ≡ self.now.number }
         ensures off { result.off ≡ off }
     {
-        CopyEnd {
+        CopiedEnd {
             owner: self.owner,
             number: self.number,
             off,

@@ -1,6 +1,6 @@
 //! Frames: the bytes that domains share, each frame with a journal of its writes.
 //!
-//! A [`Frame`] holds 4,096 bytes, all zero at first, and keeps a [`Record`] of each write to it. Its
+//! A [`Frame`] holds 4,096 bytes, all zero at first, and keeps a [`WriteRecord`] of each write to it. Its
 //! type promises that the bytes are the replay of the journal over zeros, and that each record lies in
 //! the frame and is by right: the writer owns the frame, or an entry of the owner's permits it that
 //! range for writing, or it goes through an entry that forwards it and one that permits the owner of
@@ -26,10 +26,10 @@ mod pool;
 mod receipts;
 mod writ;
 
-pub use bytes::Bytes;
+pub use bytes::FrameBytes;
 pub use frame::Frame;
 pub use frames::Frames;
 pub use places::{FrameCount, FrameName, Spot};
 pub use pool::{Ends, Pool};
 pub use receipts::{Copied, Read, Written};
-pub use writ::{Ground, Record, Writ};
+pub use writ::{Ground, Writ, WriteRecord};

@@ -1,7 +1,7 @@
 //! Receipts of accesses. Only the calls of a frame make them, and none can be cloned.
 ghost use Rattle.std.specs.Prelude.{◌≡◌};
 
-use crate::Bytes;
+use crate::FrameBytes;
 use gt_types::DomId;
 use std::marker::Model;
 
@@ -11,7 +11,7 @@ pub struct Read {
     pub(crate) owner: DomId,
     pub(crate) number: u64,
     pub(crate) off: u16,
-    pub(crate) bytes: Bytes,
+    pub(crate) bytes: FrameBytes,
 }
 
 impl Model for Read {
@@ -58,7 +58,7 @@ impl<'a> Model for Written<'a> {
 
 /// One end of a copy.
 #[derive(Clone, Copy, Debug)]
-pub(crate) struct CopyEnd {
+pub(crate) struct CopiedEnd {
     pub(crate) owner: DomId,
     pub(crate) number: u64,
     pub(crate) off: u16,
@@ -67,8 +67,8 @@ pub(crate) struct CopyEnd {
 /// Bytes that were copied: the frame and offset of each end, how many bytes, and the writer.
 #[derive(Drop)]
 pub struct Copied {
-    pub(crate) source: CopyEnd,
-    pub(crate) dest: CopyEnd,
+    pub(crate) source: CopiedEnd,
+    pub(crate) dest: CopiedEnd,
     pub(crate) len: u16,
     pub(crate) writer: DomId,
 }

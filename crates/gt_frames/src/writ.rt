@@ -3,7 +3,7 @@ ghost use Rattle.std.specs.Prelude.{◌≡◌};
 ghost use Rattle.gt_entry.specs.Permits.{is_of_frame, leads_to};
 ghost use Rattle.gt_frames.specs.Frames.{permits_writing, covers};
 
-use crate::Bytes;
+use crate::FrameBytes;
 use gt_entry::Entry;
 use gt_types::{Dir, DomId, Range, Use};
 
@@ -33,10 +33,10 @@ pub struct Writ {
 
 /// One write to a frame: these bytes from the offset `off` on, by this writ.
 #[derive(Drop)]
-pub struct Record {
+pub struct WriteRecord {
     pub writ: Writ,
     pub off: u16,
-    pub bytes: Bytes,
+    pub bytes: FrameBytes,
 }
 
 // Whether the entry is of this frame of its owner.

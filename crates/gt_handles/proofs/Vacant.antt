@@ -4,7 +4,7 @@ use Rattle.std.proofs.lemmas.List.Sums.{sum_by-cons}
 use Rattle.std.proofs.lemmas.Bool.{cases_eq}
 use Rattle.std.proofs.lemmas.Bool.Decides.{nat_tests}
 use Rattle.gt_handles.specs.declared.handles.Slot.{Slot}
-use Rattle.gt_handles.specs.Handles.{Kept, count_of, under, IsEmpty, IsLeast, IsInOrder}
+use Rattle.gt_handles.specs.Handles.{HandleMap, count_of, under, IsEmpty, IsLeast, IsInOrder}
 
 module _ {X : Type 0} where
   -- where none is counted, no key has a value
@@ -23,11 +23,11 @@ module _ {X : Type 0} where
 
 module _ {T : Type 0} where
   -- a map of which no value is counted is empty
-  pub empty_of_count : (s : Kept T) → count_of s ≡ 0 → IsEmpty s
+  pub empty_of_count : (s : HandleMap T) → count_of s ≡ 0 → IsEmpty s
   empty_of_count s count = record { count = count; none = λ h. ap (under h.serial) (none_of_count s.slots count h.key) }
 
   -- a map of which no slot has a value is empty
-  pub empty_of_none : (s : Kept T) → ((key : ℕ) → key < length s.slots → slice_index_or s.slots key None ≡ None) → IsEmpty s
+  pub empty_of_none : (s : HandleMap T) → ((key : ℕ) → key < length s.slots → slice_index_or s.slots key None ≡ None) → IsEmpty s
   empty_of_none s none = empty_of_count s (count_of_none s.slots none)
 
   vacant_of_none : (slot : Option (Slot T)) → ((serial : ℕ) → under serial slot ≡ None) → slot ≡ None
@@ -35,7 +35,7 @@ module _ {T : Type 0} where
   vacant_of_none (Some slot) none = absurd (grind (arith, nat_tests, none slot.serial))
 
   -- below the least key no slot has a value
-  pub none_below : (s : Kept T) (key : ℕ) → IsLeast s key → (below : ℕ) → below < key → slice_index_or s.slots below None ≡ None
+  pub none_below : (s : HandleMap T) (key : ℕ) → IsLeast s key → (below : ℕ) → below < key → slice_index_or s.slots below None ≡ None
   none_below s key least below lower =
       vacant_of_none (slice_index_or s.slots below None) (λ serial. least (record { serial = serial; key = below }) lower)
 

@@ -5,7 +5,7 @@ use Rattle.gt_handles.specs.declared.handles.Handle.{Handle}
 use Rattle.gt_handles.specs.declared.handles.Slot.{Slot}
 
 -- what is at each key, how many serials were given, and how many more values fit with no allocation (own)
-pub record Kept (T : Type 0) : Type 0 where
+pub record HandleMap (T : Type 0) : Type 0 where
   pub slots : List (Option (Slot T))
   pub given : ℕ
   pub room : ℕ
@@ -15,7 +15,7 @@ abbrev pub slot_code : {T : Type 0} → Coded T → Coded (Slot T)
 slot_code {T} code = code_by (ℕ × T) (coded× coded_ℕ code) (λ s. (s.serial, s.value)) (λ p. record { serial = p.0; value = p.1 }) (λ _. refl)
 
 -- the map is stored as the tuple of its fields (own)
-abbrev pub kept_code : {T : Type 0} → Coded T → Coded (Kept T)
+abbrev pub kept_code : {T : Type 0} → Coded T → Coded (HandleMap T)
 kept_code {T} code =
     code_by
     (List (Option (Slot T)) × (ℕ × ℕ))
@@ -35,37 +35,37 @@ module _ {T : Type 0} where
   under serial (Some slot) = if slot.serial == serial then Some slot.value else None
 
   -- the value under a handle (own)
-  abbrev pub value_of : Kept T → Handle → Option T
+  abbrev pub value_of : HandleMap T → Handle → Option T
   value_of s h = under h.serial (slice_index_or s.slots h.key None)
 
   -- how many handles have a value (own)
-  abbrev pub count_of : Kept T → ℕ
+  abbrev pub count_of : HandleMap T → ℕ
   count_of s = count_by is_some s.slots
 
   -- the new map has this under the handle, and every other handle keeps what it had (own)
-  abbrev pub Updates : Kept T → Kept T → Handle → Option T → Type 0
+  abbrev pub Updates : HandleMap T → HandleMap T → Handle → Option T → Type 0
   Updates old new h what = (other : Handle) → value_of new other ≡ (if same_handle other h then what else value_of old other)
 
   -- the handle was given, and has no value: it has none for good (own)
-  pub record IsSpent (s : Kept T) (h : Handle) : Type 0 where
+  pub record IsSpent (s : HandleMap T) (h : Handle) : Type 0 where
     pub given : h.serial < s.given
     pub gone : value_of s h ≡ None
 
   -- what was spent stays so (own)
-  abbrev pub KeepsSpent : Kept T → Kept T → Type 0
+  abbrev pub KeepsSpent : HandleMap T → HandleMap T → Type 0
   KeepsSpent old new = (h : Handle) → IsSpent old h → IsSpent new h
 
   -- no handle of a lower key has a value (own)
-  abbrev pub IsLeast : Kept T → ℕ → Type 0
+  abbrev pub IsLeast : HandleMap T → ℕ → Type 0
   IsLeast s key = (lower : Handle) → lower.key < key → value_of s lower ≡ None
 
   -- no handle has a value (own)
-  pub record IsEmpty (s : Kept T) : Type 0 where
+  pub record IsEmpty (s : HandleMap T) : Type 0 where
     pub count : count_of s ≡ 0
     pub none : (h : Handle) → value_of s h ≡ None
 
   -- each handle with a value has a serial that was given, and that no other such handle has (own)
-  pub record IsSound (s : Kept T) : Type 0 where
+  pub record IsSound (s : HandleMap T) : Type 0 where
     pub given : (h : Handle) (x : T) → value_of s h ≡ Some x → h.serial < s.given
     pub one : (a b : Handle) (x y : T) → value_of s a ≡ Some x → value_of s b ≡ Some y → a.serial ≡ b.serial → a.key ≡ b.key
 

@@ -8,7 +8,7 @@ use Rattle.std.proofs.lemmas.List.{length-append}
 use Rattle.std.proofs.lemmas.List.Sums.{sum_by-cons}
 use Rattle.gt_handles.specs.declared.handles.Handle.{Handle}
 use Rattle.gt_handles.specs.declared.handles.Slot.{Slot}
-use Rattle.gt_handles.specs.Handles.{Kept, Updates, value_of, count_of, same_handle, under}
+use Rattle.gt_handles.specs.Handles.{HandleMap, Updates, value_of, count_of, same_handle, under}
 use Rattle.gt_handles.specs.Listing.{AreApart, HasJust, IsInserted, IsTaken, count_passing, has_passing, listed, unlisted}
 
 pub same-handle : (a b : Handle) → same_handle a b ≡ true → a ≡ b
@@ -118,7 +118,7 @@ module _ {T : Type 0} where
       by false rest = (unlisted-none ms handle x.0 a.0, rest)
 
   -- one more value is one more of the list
-  pub inserted-listed : (old new : Kept T) (handle : Handle) (m : T) (ms : List (Handle × T)) (n : ℕ) → IsInserted old new handle m → HasJust old ms n
+  pub inserted-listed : (old new : HandleMap T) (handle : Handle) (m : T) (ms : List (Handle × T)) (n : ℕ) → IsInserted old new handle m → HasJust old ms n
       → HasJust new (ms ++ (handle, m) ∷ []) (n + 1)
   inserted-listed old new handle m ms n ins a =
       let none : listed ms handle ≡ None = ap (λ (f : Handle → Option T). f handle) (sym a.named) ∙ ins.fresh in
@@ -130,7 +130,7 @@ module _ {T : Type 0} where
       }
 
   -- one value less is one less of the list
-  pub taken-listed : (old new : Kept T) (handle : Handle) (m : T) (ms : List (Handle × T)) (n : ℕ) → IsTaken old new handle m → HasJust old ms n
+  pub taken-listed : (old new : HandleMap T) (handle : Handle) (m : T) (ms : List (Handle × T)) (n : ℕ) → IsTaken old new handle m → HasJust old ms n
       → HasJust new (unlisted handle ms) n
   taken-listed old new handle m ms n out a =
       let found : listed ms handle ≡ Some m = ap (λ (f : Handle → Option T). f handle) (sym a.named) ∙ out.value in
@@ -220,7 +220,7 @@ module _ {T : Type 0} where
     and-false false = refl
 
     -- no value stood where one was inserted
-    vacant : (old new : Kept T) (h : Handle) (v : T) → value_of old h ≡ None → Updates old new h (Some v) → Under h.serial (slice_index_or new.slots h.key None) v → (o : Option (Slot T)) → slice_index_or old.slots h.key None ≡ o → p (slice_index_or old.slots h.key None) ≡ false
+    vacant : (old new : HandleMap T) (h : Handle) (v : T) → value_of old h ≡ None → Updates old new h (Some v) → Under h.serial (slice_index_or new.slots h.key None) v → (o : Option (Slot T)) → slice_index_or old.slots h.key None ≡ o → p (slice_index_or old.slots h.key None) ≡ false
     vacant old new h v fresh updates u None e = ap p e ∙ none
     vacant old new h v fresh updates u (Some s) e =
         let other : Handle = record { serial = s.serial; key = h.key } in
@@ -236,7 +236,7 @@ module _ {T : Type 0} where
         ]
 
     -- one more value that passes, or none
-    pub inserted : (old new : Kept T) (h : Handle) (v : T) → value_of old h ≡ None → Updates old new h (Some v) → count_by p new.slots ≡ count_by p old.slots + cond (q v) 1 0
+    pub inserted : (old new : HandleMap T) (h : Handle) (v : T) → value_of old h ≡ None → Updates old new h (Some v) → count_by p new.slots ≡ count_by p old.slots + cond (q v) 1 0
     inserted old new h v fresh updates =
         let key = h.key in
         let self : same_handle h h ≡ true = ap (λ (b : Bool). b && (h.key == h.key)) (eq-eqb h.serial h.serial refl) ∙ eq-eqb h.key h.key refl in
@@ -253,7 +253,7 @@ module _ {T : Type 0} where
         omega (arith, count, w)
 
     -- one value less is one that passes less, or none
-    pub taken : (old new : Kept T) (h : Handle) (v : T) → value_of old h ≡ Some v → Updates old new h None → count_by p new.slots + cond (q v) 1 0 ≡ count_by p old.slots
+    pub taken : (old new : HandleMap T) (h : Handle) (v : T) → value_of old h ≡ Some v → Updates old new h None → count_by p new.slots + cond (q v) 1 0 ≡ count_by p old.slots
     taken old new h v has updates =
         let self : same_handle h h ≡ true = ap (λ (b : Bool). b && (h.key == h.key)) (eq-eqb h.serial h.serial refl) ∙ eq-eqb h.key h.key refl in
         let gone : value_of new h ≡ None = updates h ∙ ap (λ (b : Bool). cond b None (value_of old h)) self in
@@ -264,11 +264,11 @@ module _ {T : Type 0} where
         by other false e = sym (ap (λ (b : Bool). cond b (Some v) (value_of new other)) e ∙ (updates other ∙ ap (λ (b : Bool). cond b None (value_of old other)) e))
 
   -- of the values that pass a test there is one more after an insertion of one that passes, and as many else
-  pub inserted-counted : (passes : T → Bool) (old new : Kept T) (h : Handle) (v : T) → IsInserted old new h v → count_passing passes new ≡ count_passing passes old + cond (passes v) 1 0
+  pub inserted-counted : (passes : T → Bool) (old new : HandleMap T) (h : Handle) (v : T) → IsInserted old new h v → count_passing passes new ≡ count_passing passes old + cond (passes v) 1 0
   inserted-counted passes old new h v ins = inserted (has_passing passes) passes refl (λ s. refl) old new h v ins.fresh ins.updates
 
   -- there is one less after one that passes was taken out, and as many else
-  pub taken-counted : (passes : T → Bool) (old new : Kept T) (h : Handle) (v : T) → IsTaken old new h v → count_passing passes new + cond (passes v) 1 0 ≡ count_passing passes old
+  pub taken-counted : (passes : T → Bool) (old new : HandleMap T) (h : Handle) (v : T) → IsTaken old new h v → count_passing passes new + cond (passes v) 1 0 ≡ count_passing passes old
   taken-counted passes old new h v out = taken (has_passing passes) passes refl (λ s. refl) old new h v out.value out.updates
 
   fewer : (passes : T → Bool) (slots : List (Option (Slot T))) → count_by (has_passing passes) slots ≤ count_by is_some slots
@@ -282,5 +282,5 @@ module _ {T : Type 0} where
       by false a b l = omega arith
 
   -- no more values pass a test than there are
-  pub counted-most : (passes : T → Bool) (kept : Kept T) → count_passing passes kept ≤ count_of kept
+  pub counted-most : (passes : T → Bool) (kept : HandleMap T) → count_passing passes kept ≤ count_of kept
   counted-most passes kept = fewer passes kept.slots

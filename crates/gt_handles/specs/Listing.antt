@@ -1,6 +1,6 @@
 -- The values of a map as a list, each with its handle.
 use Rattle.std.specs.Prelude.{◌≡◌, ◌+◌, ◌++◌, ◌≤◌, ℕ, Bool, false, List, [], ◌∷◌, length, Option, Some, None, if◌then◌else◌, cond, count_by}
-use Rattle.gt_handles.specs.Handles.{Kept, Updates, count_of, same_handle, value_of}
+use Rattle.gt_handles.specs.Handles.{HandleMap, Updates, count_of, same_handle, value_of}
 use Rattle.gt_handles.specs.declared.handles.Handle.{Handle}
 use Rattle.gt_handles.specs.declared.handles.Slot.{Slot}
 
@@ -21,7 +21,7 @@ module _ {T : Type 0} where
   AreApart (m ∷ ms) = (listed ms m.0 ≡ None) × AreApart ms
 
   -- the handles have just the values of this list, after so many serials were given (own)
-  pub record HasJust (kept : Kept T) (ms : List (Handle × T)) (given : ℕ) : Type 0 where
+  pub record HasJust (kept : HandleMap T) (ms : List (Handle × T)) (given : ℕ) : Type 0 where
     pub named : value_of kept ≡ listed ms
     pub count : count_of kept ≡ length ms
     pub given_is : kept.given ≡ given
@@ -33,18 +33,18 @@ module _ {T : Type 0} where
   has_passing passes (Some slot) = passes slot.value
 
   -- how many values pass the test (own)
-  abbrev pub count_passing : (T → Bool) → Kept T → ℕ
+  abbrev pub count_passing : (T → Bool) → HandleMap T → ℕ
   count_passing passes kept = count_by (has_passing passes) kept.slots
 
   -- the new map has one value more, under this handle, which had none (own)
-  pub record IsInserted (old new : Kept T) (h : Handle) (x : T) : Type 0 where
+  pub record IsInserted (old new : HandleMap T) (h : Handle) (x : T) : Type 0 where
     pub fresh : value_of old h ≡ None
     pub updates : Updates old new h (Some x)
     pub count : count_of new ≡ count_of old + 1
     pub given : new.given ≡ old.given + 1
 
   -- the new map lacks the value that was under this handle (own)
-  pub record IsTaken (old new : Kept T) (h : Handle) (x : T) : Type 0 where
+  pub record IsTaken (old new : HandleMap T) (h : Handle) (x : T) : Type 0 where
     pub value : value_of old h ≡ Some x
     pub updates : Updates old new h None
     pub count : count_of new + 1 ≡ count_of old
@@ -56,20 +56,20 @@ NothingIsListed T = HasJust {T = T} (record { slots = []; given = 0; room = 0 })
 
 -- a value inserted is one more of the list (own)
 abbrev pub InsertedIsListed : Type 0 → Type 0
-InsertedIsListed T = (old new : Kept T) (h : Handle) (x : T) (xs : List (Handle × T)) (n : ℕ) → IsInserted old new h x → HasJust old xs n → HasJust new (xs ++ (h, x) ∷ []) (n + 1)
+InsertedIsListed T = (old new : HandleMap T) (h : Handle) (x : T) (xs : List (Handle × T)) (n : ℕ) → IsInserted old new h x → HasJust old xs n → HasJust new (xs ++ (h, x) ∷ []) (n + 1)
 
 -- a value taken out is one less of the list (own)
 abbrev pub TakenIsUnlisted : Type 0 → Type 0
-TakenIsUnlisted T = (old new : Kept T) (h : Handle) (x : T) (xs : List (Handle × T)) (n : ℕ) → IsTaken old new h x → HasJust old xs n → HasJust new (unlisted h xs) n
+TakenIsUnlisted T = (old new : HandleMap T) (h : Handle) (x : T) (xs : List (Handle × T)) (n : ℕ) → IsTaken old new h x → HasJust old xs n → HasJust new (unlisted h xs) n
 
 -- of the values that pass a test there is one more where one that passes is inserted, and as many else (own)
 abbrev pub InsertedIsCounted : Type 0 → Type 0
-InsertedIsCounted T = (passes : T → Bool) (old new : Kept T) (h : Handle) (x : T) → IsInserted old new h x → count_passing passes new ≡ count_passing passes old + cond (passes x) 1 0
+InsertedIsCounted T = (passes : T → Bool) (old new : HandleMap T) (h : Handle) (x : T) → IsInserted old new h x → count_passing passes new ≡ count_passing passes old + cond (passes x) 1 0
 
 -- of the values that pass a test there is one less where one that passes is taken out, and as many else (own)
 abbrev pub TakenIsCounted : Type 0 → Type 0
-TakenIsCounted T = (passes : T → Bool) (old new : Kept T) (h : Handle) (x : T) → IsTaken old new h x → count_passing passes new + cond (passes x) 1 0 ≡ count_passing passes old
+TakenIsCounted T = (passes : T → Bool) (old new : HandleMap T) (h : Handle) (x : T) → IsTaken old new h x → count_passing passes new + cond (passes x) 1 0 ≡ count_passing passes old
 
 -- no more values pass a test than there are (own)
 abbrev pub NoMorePass : Type 0 → Type 0
-NoMorePass T = (passes : T → Bool) (kept : Kept T) → count_passing passes kept ≤ count_of kept
+NoMorePass T = (passes : T → Bool) (kept : HandleMap T) → count_passing passes kept ≤ count_of kept

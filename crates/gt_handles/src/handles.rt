@@ -33,9 +33,9 @@ pub struct Handles<T> {
 impl<T> Model for Handles<T> {
     ghost use Rattle.std.specs.Prelude.{◌-◌};
     ghost use Rattle.slab.specs.Slab.{slab_len};
-    ghost use Rattle.gt_handles.specs.Handles.{Kept, kept_code, IsInOrder};
+    ghost use Rattle.gt_handles.specs.Handles.{HandleMap, kept_code, IsInOrder};
 
-    ghost Value = { Kept T };
+    ghost Value = { HandleMap T };
 
     ghost coded = { kept_code T.code };
 

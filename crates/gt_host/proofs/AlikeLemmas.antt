@@ -11,9 +11,9 @@ use Rattle.gt_lines.specs.declared.calls.TableCall.{TableCall}
 use Rattle.gt_lines.specs.declared.calls.TableCall.TheVariants as tables
 use Rattle.gt_lines.specs.declared.calls.AccessCall.{AccessCall}
 use Rattle.gt_lines.specs.declared.calls.AccessCall.TheVariants as accesses
-use Rattle.gt_lines.specs.declared.calls.Call.{Call}
-use Rattle.gt_lines.specs.declared.calls.Call.TheVariants as calls
-use Rattle.gt_script.specs.declared.script.Step.{Step}
+use Rattle.gt_lines.specs.declared.calls.ScriptCall.{ScriptCall}
+use Rattle.gt_lines.specs.declared.calls.ScriptCall.TheVariants as calls
+use Rattle.gt_script.specs.declared.script.ScriptStep.{ScriptStep}
 use Rattle.gt_handles.specs.declared.handles.Handle.{Handle}
 use Rattle.gt_calls.specs.Asking.{asked}
 use Rattle.gt_calls.specs.declared.request.Request.{Request}
@@ -92,12 +92,12 @@ access-same f g a b (accesses.Peek frame off len) same e = refl
 access-same f g a b (accesses.Copy source dest len) same e = refl
 access-same f g a b (accesses.Poke frame off hex) same e = ap (λ (l : Bor (List ℕ)). requests.Poke frame off l) (bytes-same a b e)
 
-request-same : (one other : List Named) (dom : DomId) (a b : Bor (List ℕ)) (call : Call) → bare_names one ≡ bare_names other → a.now ≡ b.now → bare_request (request_of one dom a call) ≡ bare_request (request_of other dom b call)
+request-same : (one other : List Named) (dom : DomId) (a b : Bor (List ℕ)) (call : ScriptCall) → bare_names one ≡ bare_names other → a.now ≡ b.now → bare_request (request_of one dom a call) ≡ bare_request (request_of other dom b call)
 request-same one other dom a b (calls.Table call) same e = table-same a b call e
 request-same one other dom a b (calls.Map label to gref flags) same e = refl
 request-same one other dom a b (calls.Access call) same e = access-same (handle_of one dom) (handle_of other dom) a b call (λ label. handle-same one other dom label same) e
 
-pub asks-same : (one other : List Named) (dom : DomId) (call : Call) (q r : Request) → bare_names one ≡ bare_names other → Asks one dom call q → Asks other dom call r → bare_request q ≡ bare_request r
+pub asks-same : (one other : List Named) (dom : DomId) (call : ScriptCall) (q r : Request) → bare_names one ≡ bare_names other → Asks one dom call q → Asks other dom call r → bare_request q ≡ bare_request r
 asks-same one other dom call q r same x y =
     ap bare_request x.2 ∙ request-same one other dom x.0 y.0 call same (x.1 ∙ sym y.1) ∙ ap bare_request (sym y.2)
 
@@ -115,12 +115,12 @@ access-known h d f a (accesses.Peek frame off len) k = tt
 access-known h d f a (accesses.Poke frame off hex) k = tt
 access-known h d f a (accesses.Copy source dest len) k = tt
 
-request-known : (h : History) (named : List Named) (dom : DomId) (a : Bor (List ℕ)) (call : Call) → NamesGiven h named → AsksKnown h dom.0 (asked (request_of named dom a call))
+request-known : (h : History) (named : List Named) (dom : DomId) (a : Bor (List ℕ)) (call : ScriptCall) → NamesGiven h named → AsksKnown h dom.0 (asked (request_of named dom a call))
 request-known h named dom a (calls.Table call) g = table-known h dom.0 a call
 request-known h named dom a (calls.Map label to gref flags) g = tt
 request-known h named dom a (calls.Access call) g = access-known h dom.0 (handle_of named dom) a call (λ label. found-given h named dom.0 label g)
 
-pub asks-known : (h : History) (named : List Named) (dom : DomId) (call : Call) (q : Request) → NamesGiven h named → Asks named dom call q → AsksKnown h dom.0 (asked q)
+pub asks-known : (h : History) (named : List Named) (dom : DomId) (call : ScriptCall) (q : Request) → NamesGiven h named → Asks named dom call q → AsksKnown h dom.0 (asked q)
 asks-known h named dom call q g x = subst (λ (z : Request). AsksKnown h dom.0 (asked z)) (sym x.2) (request-known h named dom x.0 call g)
 
 -- answers
@@ -151,7 +151,7 @@ with-name-bare named dom (Some label) (Some handle) = refl
 with-name-bare named dom (Some label) None = refl
 with-name-bare named dom None o = refl
 
-pub named-same : (one other : List Named) (dom : DomId) (s : Step) (a b : Answer) → bare_names one ≡ bare_names other → told a ≡ told b → bare_names (named_after one dom s a) ≡ bare_names (named_after other dom s b)
+pub named-same : (one other : List Named) (dom : DomId) (s : ScriptStep) (a b : Answer) → bare_names one ≡ bare_names other → told a ≡ told b → bare_names (named_after one dom s a) ≡ bare_names (named_after other dom s b)
 named-same one other dom s a b same e =
     with-name-bare one dom (label_in s.action) (handle_given a)
     ∙ ap (λ (l : List Named). with_name l dom (label_in s.action) (option_map bare_handle (handle_given a))) same
@@ -171,7 +171,7 @@ mapped-of : (a : Answer) (handle : Handle) → handle_given a ≡ Some handle �
 mapped-of (answers.Mapped x) handle e = ap (λ (z : Handle). answers.Mapped z) (same_Some x handle e)
 mapped-of a handle e = absurd (none-some handle e)
 
-pub named-given : (h : History) (named : List Named) (dom : DomId) (s : Step) (a : Answer) → NamesGiven h named → AnswerGiven h dom.0 a → NamesGiven h (named_after named dom s a)
+pub named-given : (h : History) (named : List Named) (dom : DomId) (s : ScriptStep) (a : Answer) → NamesGiven h named → AnswerGiven h dom.0 a → NamesGiven h (named_after named dom s a)
 named-given h named dom s a g k = with-name-given h named dom (label_in s.action) (handle_given a) g (λ handle e. k handle (mapped-of a handle e))
 
 -- what was answered stays so

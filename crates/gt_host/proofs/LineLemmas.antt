@@ -5,8 +5,8 @@ use Rattle.std.proofs.lemmas.Bool.{eq-eqb, ne_eqb}
 use Rattle.std.specs.Prelude.{◌==◌, is_some}
 use Rattle.gt_types.specs.Names.{domain_of}
 use Rattle.gt_types.specs.declared.GrantRef.{GrantRef}
-use Rattle.gt_lines.specs.declared.calls.Call.{Call}
-use Rattle.gt_script.specs.declared.script.Step.{Step}
+use Rattle.gt_lines.specs.declared.calls.ScriptCall.{ScriptCall}
+use Rattle.gt_script.specs.declared.script.ScriptStep.{ScriptStep}
 use Rattle.gt_core.specs.History.{History, Setting, open_call}
 use Rattle.gt_core.specs.Legal.{MayDo, grown, LegalAfter, history_after}
 use Rattle.gt_core.specs.Shown.{shown_at}
@@ -46,17 +46,17 @@ use Rattle.gt_host.proofs.RunLemmas.{LegalAfter-append, history_after-append, ha
 -- which domains have a call open
 
 -- only one domain's call changed
-knows_next : (old new : ℕ → Option Step) (h g : History) (d : ℕ) → ((n : ℕ) → is_some (old n) ≡ is_some (open_call h n)) → ((n : ℕ) → (d ≡ n → ⊥) → new n ≡ old n) → ((n : ℕ) → (d ≡ n → ⊥) → open_call g n ≡ open_call h n)
+knows_next : (old new : ℕ → Option ScriptStep) (h g : History) (d : ℕ) → ((n : ℕ) → is_some (old n) ≡ is_some (open_call h n)) → ((n : ℕ) → (d ≡ n → ⊥) → new n ≡ old n) → ((n : ℕ) → (d ≡ n → ⊥) → open_call g n ≡ open_call h n)
     → is_some (new d) ≡ is_some (open_call g d) → (n : ℕ) → is_some (new n) ≡ is_some (open_call g n)
 knows_next old new h g d knows kept stays here n = elim (same_or_apart d n) [
   | inl same ↦ subst (λ (m : ℕ). is_some (new m) ≡ is_some (open_call g m)) same here
   | inr apart ↦ ap is_some (kept n apart) ∙ knows n ∙ ap is_some (sym (stays n apart))
 ]
 
-pick_other : (calls : ℕ → Option Step) (call : Option Step) (d n : ℕ) → (d ≡ n → ⊥) → cond (n == d) call (calls n) ≡ calls n
+pick_other : (calls : ℕ → Option ScriptStep) (call : Option ScriptStep) (d n : ℕ) → (d ≡ n → ⊥) → cond (n == d) call (calls n) ≡ calls n
 pick_other calls call d n apart = ap (λ (b : Bool). cond b call (calls n)) (ne_eqb n d (λ e. apart (sym e)))
 
-pick_own : (calls : ℕ → Option Step) (call : Option Step) (d : ℕ) → cond (d == d) call (calls d) ≡ call
+pick_own : (calls : ℕ → Option ScriptStep) (call : Option ScriptStep) (d : ℕ) → cond (d == d) call (calls d) ≡ call
 pick_own calls call d = ap (λ (b : Bool). cond b call (calls d)) (eq-eqb d d refl)
 
 none_known : {A : Type 0} (o : Option A) → is_some o ≡ false → o ≡ None
@@ -68,7 +68,7 @@ some_known None e = cc
 some_known (Some x) e = (x, refl)
 
 -- more has happened
-came : (s : Setting) (audit : Bool) (p : Progress) (events : List Event) (trace : List Element) (named : List Named) (calls : ℕ → Option Step) (text : List ℕ) (old new : CoreState) (kept next : Kept) → HasCome s audit p old kept → Happens s (history_of p) events trace new
+came : (s : Setting) (audit : Bool) (p : Progress) (events : List Event) (trace : List Element) (named : List Named) (calls : ℕ → Option ScriptStep) (text : List ℕ) (old new : CoreState) (kept next : Kept) → HasCome s audit p old kept → Happens s (history_of p) events trace new
     → IsKept next (record { events = p.events ++ events; trace = p.trace ++ trace; named = named; open_steps = calls; text = text })
     → ((n : ℕ) → is_some (calls n) ≡ is_some (open_call (history_after (history_of p) trace) n))
     → next.audit.is_on ≡ kept.audit.is_on
@@ -96,7 +96,7 @@ lined s audit p line domains kept come = record {
 
 -- `do ID CALL`
 
-pub do_answered : (s : Setting) (audit : Bool) (types : List (List ℕ)) (st : Step) (call : Call) (p : Progress) (old new : CoreState) (kept next : Kept) (before after : List ℕ) (request : Request) (said : Outcome) (a : Answer) (told : Option Hypercall)
+pub do_answered : (s : Setting) (audit : Bool) (types : List (List ℕ)) (st : ScriptStep) (call : ScriptCall) (p : Progress) (old new : CoreState) (kept next : Kept) (before after : List ℕ) (request : Request) (said : Outcome) (a : Answer) (told : Option Hypercall)
     → Asks p.named st.dom call request → said ≡ Answered a → HasCome s audit p old kept → Calls s (history_of p) st.dom request new said
     → (kept.audit.is_on ≡ true → IsAbout s old st.dom request told) → AddsRecord kept next st.dom told a
     → AreNamed next.labels (named_after p.named st.dom st a) → next.calls ≡ kept.calls → after ≡ before ++ answer_line types st.line st.dom a
@@ -121,7 +121,7 @@ do_answered s audit types st call p old new kept next before after request said 
       (answer_line types st.line st.dom a, refl, line),
     )
 
-pub do_busy : (s : Setting) (audit : Bool) (types : List (List ℕ)) (st : Step) (call : Call) (p : Progress) (old new : CoreState) (kept : Kept) (before after : List ℕ) (request : Request) (said : Outcome)
+pub do_busy : (s : Setting) (audit : Bool) (types : List (List ℕ)) (st : ScriptStep) (call : ScriptCall) (p : Progress) (old new : CoreState) (kept : Kept) (before after : List ℕ) (request : Request) (said : Outcome)
     → Asks p.named st.dom call request → said ≡ IsBusy → HasCome s audit p old kept → Calls s (history_of p) st.dom request new said → after ≡ before ++ busy_line st.line st.dom
     → (q : Progress) × DoLine types st call p q × HasCome s audit q new kept × IsAppended p.text q.text before after
 do_busy s audit types st call p old new kept before after request said asks is come made line =
@@ -139,7 +139,7 @@ do_busy s audit types st call p old new kept before after request said asks is c
 -- `begin ID CALL`
 
 -- one event of the domain
-begun_once : (s : Setting) (audit : Bool) (types : List (List ℕ)) (st : Step) (call : Call) (p : Progress) (request : Request) (x : Element) (named : List Named) (calls : ℕ → Option Step) (text : List ℕ) (old new : CoreState) (kept next : Kept) (before after : List ℕ)
+begun_once : (s : Setting) (audit : Bool) (types : List (List ℕ)) (st : ScriptStep) (call : ScriptCall) (p : Progress) (request : Request) (x : Element) (named : List Named) (calls : ℕ → Option ScriptStep) (text : List ℕ) (old new : CoreState) (kept next : Kept) (before after : List ℕ)
     → Asks p.named st.dom call request → HasCome s audit p old kept → MayDo s (history_of p) (Begin st.dom request) x × CoreStands s (grown (history_of p) x) new
     → after_beginning types (with_events p (Begin st.dom request ∷ []) (x ∷ [])) st x
     ≡ record { events = p.events ++ Begin st.dom request ∷ []; trace = p.trace ++ x ∷ []; named = named; open_steps = calls; text = p.text ++ text }
@@ -157,7 +157,7 @@ begun_once s audit types st call p request x named calls text old new kept next 
       (text, refl, line),
     )
 
-pub begin_answered : (s : Setting) (audit : Bool) (types : List (List ℕ)) (st : Step) (call : Call) (p : Progress) (old new : CoreState) (kept next : Kept) (before after : List ℕ) (request : Request) (said : Begun) (a : Answer) (hyper : Option Hypercall)
+pub begin_answered : (s : Setting) (audit : Bool) (types : List (List ℕ)) (st : ScriptStep) (call : ScriptCall) (p : Progress) (old new : CoreState) (kept next : Kept) (before after : List ℕ) (request : Request) (said : Begun) (a : Answer) (hyper : Option Hypercall)
     → Asks p.named st.dom call request → said ≡ begun.Done a → HasCome s audit p old kept → (kept.audit.is_on ≡ true → IsAbout s old st.dom request hyper) → AddsRecord kept next st.dom hyper a → MayDo s (history_of p) (Begin st.dom request) (begun_element st.dom request said) × CoreStands s (grown (history_of p) (begun_element st.dom request said)) new
     → AreNamed next.labels (named_after p.named st.dom st a) → next.calls ≡ kept.calls → after ≡ before ++ answer_line types st.line st.dom a
     → (q : Progress) × BeginLine types st call p q × HasCome s audit q new next × IsAppended p.text q.text before after
@@ -172,7 +172,7 @@ begin_answered s audit types st call p old new kept next before after request sa
     (about on (history_of p) come.stands) adds.records (subst (λ (c : OpenCalls). AreTold s (history_of p) (told_in c)) (sym same) known))
     line
 
-pub begin_busy : (s : Setting) (audit : Bool) (types : List (List ℕ)) (st : Step) (call : Call) (p : Progress) (old new : CoreState) (kept : Kept) (before after : List ℕ) (request : Request) (said : Begun)
+pub begin_busy : (s : Setting) (audit : Bool) (types : List (List ℕ)) (st : ScriptStep) (call : ScriptCall) (p : Progress) (old new : CoreState) (kept : Kept) (before after : List ℕ) (request : Request) (said : Begun)
     → Asks p.named st.dom call request → said ≡ begun.Busy → HasCome s audit p old kept → MayDo s (history_of p) (Begin st.dom request) (begun_element st.dom request said) × CoreStands s (grown (history_of p) (begun_element st.dom request said)) new
     → after ≡ before ++ busy_line st.line st.dom → (q : Progress) × BeginLine types st call p q × HasCome s audit q new kept × IsAppended p.text q.text before after
 begin_busy s audit types st call p old new kept before after request said asks is come told line =
@@ -180,7 +180,7 @@ begin_busy s audit types st call p old new kept before after request said asks i
     begun_once s audit types st call p request Busy p.named p.open_steps (busy_line st.line st.dom) old new kept kept before after asks come told_so refl come.keeps.names come.keeps.calls (λ n apart. refl) (come.knows st.dom.0) refl
     (λ on known. audited_busy s (history_of p) (Busy ∷ []) kept.audit.records.items (told_in kept.calls) refl known) line
 
-begun_open : (s : Setting) (audit : Bool) (types : List (List ℕ)) (st : Step) (call : Call) (p : Progress) (old new : CoreState) (kept next : Kept) (before after : List ℕ) (request : Request) (hyper : Option Hypercall)
+begun_open : (s : Setting) (audit : Bool) (types : List (List ℕ)) (st : ScriptStep) (call : ScriptCall) (p : Progress) (old new : CoreState) (kept next : Kept) (before after : List ℕ) (request : Request) (hyper : Option Hypercall)
     → Asks p.named st.dom call request → HasCome s audit p old kept → (kept.audit.is_on ≡ true → IsAbout s old st.dom request hyper) → next.audit ≡ kept.audit → ((n : ℕ) → told_in next.calls n ≡ cond (n == st.dom.0) hyper (told_in kept.calls n))
     → MayDo s (history_of p) (Begin st.dom request) (Did (record { actor = st.dom; happened = Began request; answer = None }))
     × CoreStands s (record { actor = st.dom; happened = Began request; answer = None } ∷ history_of p) new
@@ -188,18 +188,18 @@ begun_open : (s : Setting) (audit : Bool) (types : List (List ℕ)) (st : Step) 
     → (q : Progress) × BeginLine types st call p q × HasCome s audit q new next × IsAppended p.text q.text before after
 begun_open s audit types st call p old new kept next before after request hyper asks come about was_so picked told same known line =
     let i : Item = record { actor = st.dom; happened = Began request; answer = None } in
-    let calls : ℕ → Option Step = λ n. cond (n == st.dom.0) (Some st) (p.open_steps n) in
+    let calls : ℕ → Option ScriptStep = λ n. cond (n == st.dom.0) (Some st) (p.open_steps n) in
     let now : open_call (i ∷ history_of p) st.dom.0 ≡ Some (record { request = asked request; given = given_by request; steps = [] }) = own_call i (history_of p) st.dom.0 refl in
     begun_once s audit types st call p request (Did i) p.named calls [] old new kept next before after asks come told
     (ap (λ (text : List ℕ). record { events = p.events ++ Begin st.dom request ∷ []; trace = p.trace ++ Did i ∷ []; named = p.named; open_steps = calls; text = text }) (sym (append-nil p.text)))
     (subst (λ (l : Labels). AreNamed l p.named) (sym same) come.keeps.names)
-    (λ n. known n ∙ ap (λ (o : Option Step). cond (n == st.dom.0) (Some st) o) (come.keeps.calls n))
+    (λ n. known n ∙ ap (λ (o : Option ScriptStep). cond (n == st.dom.0) (Some st) o) (come.keeps.calls n))
     (pick_other p.open_steps (Some st) st.dom.0) (ap is_some (pick_own p.open_steps (Some st) st.dom.0) ∙ sym (ap is_some now)) (ap (λ (a : Audit). a.is_on) was_so)
     (λ on knew. subst (λ (a : Audit). Records s (history_of p) (Did i ∷ []) kept.audit.records.items a.records.items (told_in next.calls)) (sym was_so)
     (audited_begun s (history_of p) st.dom request kept.audit.records.items (told_in kept.calls) (told_in next.calls) hyper told.0 (about on (history_of p) come.stands) picked knew))
     (line ∙ sym (append-nil before))
 
-pub begin_open : (s : Setting) (audit : Bool) (types : List (List ℕ)) (st : Step) (call : Call) (p : Progress) (old new : CoreState) (kept next : Kept) (before after : List ℕ) (request : Request) (said : Begun) (hyper : Option Hypercall)
+pub begin_open : (s : Setting) (audit : Bool) (types : List (List ℕ)) (st : ScriptStep) (call : ScriptCall) (p : Progress) (old new : CoreState) (kept next : Kept) (before after : List ℕ) (request : Request) (said : Begun) (hyper : Option Hypercall)
     → Asks p.named st.dom call request → domain_of s.domains st.dom ≢ None → (said ≡ begun.Open) ⊎ (said ≡ begun.NoDomain) → HasCome s audit p old kept
     → (kept.audit.is_on ≡ true → IsAbout s old st.dom request hyper) → next.audit ≡ kept.audit → ((n : ℕ) → told_in next.calls n ≡ cond (n == st.dom.0) hyper (told_in kept.calls n))
     → MayDo s (history_of p) (Begin st.dom request) (begun_element st.dom request said) × CoreStands s (grown (history_of p) (begun_element st.dom request said)) new
@@ -214,7 +214,7 @@ begin_open s audit types st call p old new kept next before after request said h
 
 -- `tick ID N`
 
-pub ticks_answered : (s : Setting) (audit : Bool) (types : List (List ℕ)) (st : Step) (most : ℕ) (begun : Step) (p : Progress) (old new : CoreState) (kept next : Kept) (before after : List ℕ) (said : Option Answer) (a : Answer) (hyper : Option Hypercall)
+pub ticks_answered : (s : Setting) (audit : Bool) (types : List (List ℕ)) (st : ScriptStep) (most : ℕ) (begun : ScriptStep) (p : Progress) (old new : CoreState) (kept next : Kept) (before after : List ℕ) (said : Option Answer) (a : Answer) (hyper : Option Hypercall)
     → hyper ≡ told_in kept.calls st.dom.0 → AddsRecord kept next st.dom hyper a → ((n : ℕ) → told_in next.calls n ≡ cond (n == st.dom.0) None (told_in kept.calls n))
     → call_in kept.calls st.dom.0 ≡ Some begun → said ≡ Some a → HasCome s audit p old kept → TicksTo s (history_of p) st.dom most new said
     → AreNamed next.labels (named_after p.named st.dom begun a) → ((n : ℕ) → call_in next.calls n ≡ cond (n == st.dom.0) None (call_in kept.calls n)) → after ≡ before ++ answer_line types begun.line st.dom a
@@ -224,15 +224,15 @@ ticks_answered s audit types st most begun p old new kept next before after said
     let events : List Event = replicate made.ticks (Tick st.dom) in
     let own : AreOf st.dom events = ticks_of st.dom made.ticks in
     let ends = made.comes.0 in
-    let calls : ℕ → Option Step = λ n. cond (n == st.dom.0) None (p.open_steps n) in
+    let calls : ℕ → Option ScriptStep = λ n. cond (n == st.dom.0) None (p.open_steps n) in
     let q : Progress = after_ticks types (with_events p events made.trace) st.dom begun (Some a) in
     let ended : open_call (history_after (history_of p) (ends.before ++ ends.last ∷ [])) st.dom.0 ≡ None =
     events_close s (history_of p) events ends.before ends.last st.dom a own (subst (λ (l : List Element). LegalAfter s (history_of p) events l) ends.order made.happens.legal) ends.answers in
     let now : open_call (history_after (history_of p) made.trace) st.dom.0 ≡ None = subst (λ (l : List Element). open_call (history_after (history_of p) l) st.dom.0 ≡ None) (sym ends.order) ended in (
       q,
-      subst (λ (o : Option Step). TickLine types st most o p q) (sym begins ∙ come.keeps.calls st.dom.0) (made.ticks, made.trace, Some a, made.length_of, made.comes, refl),
+      subst (λ (o : Option ScriptStep). TickLine types st most o p q) (sym begins ∙ come.keeps.calls st.dom.0) (made.ticks, made.trace, Some a, made.length_of, made.comes, refl),
       came s audit p events made.trace (named_after p.named st.dom begun a) calls (p.text ++ answer_line types begun.line st.dom a) old new kept next come made.happens
-          (record { names = names; calls = λ n. known n ∙ ap (λ (o : Option Step). cond (n == st.dom.0) None o) (come.keeps.calls n) })
+          (record { names = names; calls = λ n. known n ∙ ap (λ (o : Option ScriptStep). cond (n == st.dom.0) None o) (come.keeps.calls n) })
           (knows_next p.open_steps calls (history_of p) (history_after (history_of p) made.trace) st.dom.0 come.knows (pick_other p.open_steps None st.dom.0)
           (λ n apart. events_other s (history_of p) events made.trace st.dom n own made.happens.legal apart) (ap is_some (pick_own p.open_steps None st.dom.0) ∙ sym (ap is_some now))) adds.is_on
           (λ on knew. audited_ticks s (history_of p) st.dom made.ticks made.trace ends.before ends.last a kept.audit.records.items next.audit.records.items (told_in kept.calls) (told_in next.calls) hyper
@@ -240,7 +240,7 @@ ticks_answered s audit types st most begun p old new kept next before after said
       (answer_line types begun.line st.dom a, refl, line),
     )
 
-pub ticks_open : (s : Setting) (audit : Bool) (types : List (List ℕ)) (st : Step) (most : ℕ) (begun : Step) (p : Progress) (old new : CoreState) (kept : Kept) (before after : List ℕ) (said : Option Answer)
+pub ticks_open : (s : Setting) (audit : Bool) (types : List (List ℕ)) (st : ScriptStep) (most : ℕ) (begun : ScriptStep) (p : Progress) (old new : CoreState) (kept : Kept) (before after : List ℕ) (said : Option Answer)
     → domain_of s.domains st.dom ≢ None → call_in kept.calls st.dom.0 ≡ Some begun → said ≡ None → HasCome s audit p old kept → TicksTo s (history_of p) st.dom most new said → after ≡ before
     → (q : Progress) × TickLine types st most (p.open_steps st.dom.0) p q × HasCome s audit q new kept × IsAppended p.text q.text before after
 ticks_open s audit types st most begun p old new kept before after said configured begins is come ticks line =
@@ -253,7 +253,7 @@ ticks_open s audit types st most begun p old new kept before after said configur
     let open_now : HasOpen (history_of p) st.dom.0 was.0.request (length was.0.steps) = record { call = was.0; is = was.1; asks = refl; made = refl } in
     let stays = ticks_stay s (history_of p) st.dom made.ticks made.trace was.0.request (length was.0.steps) configured open_now made.comes.0 made.happens.legal in (
       q,
-      subst (λ (o : Option Step). TickLine types st most o p q) (sym has) (made.ticks, made.trace, None, made.length_of, made.comes, refl),
+      subst (λ (o : Option ScriptStep). TickLine types st most o p q) (sym has) (made.ticks, made.trace, None, made.length_of, made.comes, refl),
       came s audit p events made.trace p.named p.open_steps p.text old new kept kept come made.happens (record { names = come.keeps.names; calls = come.keeps.calls })
           (knows_next p.open_steps p.open_steps (history_of p) (history_after (history_of p) made.trace) st.dom.0 come.knows (λ n apart. refl)
           (λ n apart. events_other s (history_of p) events made.trace st.dom n own made.happens.legal apart) (ap is_some has ∙ sym (ap is_some stays.0.is))) refl
@@ -261,7 +261,7 @@ ticks_open s audit types st most begun p old new kept before after said configur
       ([], sym (append-nil p.text), line ∙ sym (append-nil before)),
     )
 
-pub ticks_idle : (s : Setting) (audit : Bool) (types : List (List ℕ)) (st : Step) (most : ℕ) (p : Progress) (domains : CoreState) (kept : Kept) (before after : List ℕ)
+pub ticks_idle : (s : Setting) (audit : Bool) (types : List (List ℕ)) (st : ScriptStep) (most : ℕ) (p : Progress) (domains : CoreState) (kept : Kept) (before after : List ℕ)
     → call_in kept.calls st.dom.0 ≡ None → HasCome s audit p domains kept → after ≡ before ++ idle_line st.line st.dom
     → (q : Progress) × TickLine types st most (p.open_steps st.dom.0) p q × HasCome s audit q domains kept × IsAppended p.text q.text before after
 ticks_idle s audit types st most p domains kept before after none come line =
@@ -269,14 +269,14 @@ ticks_idle s audit types st most p domains kept before after none come line =
     let has : p.open_steps st.dom.0 ≡ None = sym (come.keeps.calls st.dom.0) ∙ none in
     let free : open_call (history_of p) st.dom.0 ≡ None = none_known (open_call (history_of p) st.dom.0) (sym (come.knows st.dom.0) ∙ ap is_some has) in (
       q,
-      subst (λ (o : Option Step). TickLine types st most o p q) (sym has) (free, refl),
+      subst (λ (o : Option ScriptStep). TickLine types st most o p q) (sym has) (free, refl),
       lined s audit p (idle_line st.line st.dom) domains kept come,
       (idle_line st.line st.dom, refl, line),
     )
 
 -- `show ID REF`
 
-pub shows : (s : Setting) (audit : Bool) (st : Step) (gref : GrantRef) (p : Progress) (domains : CoreState) (kept : Kept) (before after : List ℕ) (shown : Option Shown)
+pub shows : (s : Setting) (audit : Bool) (st : ScriptStep) (gref : GrantRef) (p : Progress) (domains : CoreState) (kept : Kept) (before after : List ℕ) (shown : Option Shown)
     → HasCome s audit p domains kept → ((h : History) → CoreStands s h domains → shown ≡ shown_at s h st.dom gref.0) → after ≡ before ++ show_line st.line st.dom gref shown
     → (q : Progress) × ShowLine s st gref p q × HasCome s audit q domains kept × IsAppended p.text q.text before after
 shows s audit st gref p domains kept before after shown come told line =

@@ -6,12 +6,12 @@ use Rattle.std.proofs.lemmas.Option.{none-some, same_Some}
 use Rattle.std.proofs.lemmas.List.{append-nil, length-replicate}
 use Rattle.gt_types.specs.declared.DomId.{DomId}
 use Rattle.gt_types.specs.declared.GrantRef.{GrantRef}
-use Rattle.gt_lines.specs.declared.calls.Call.{Call}
-use Rattle.gt_lines.specs.declared.calls.Action.{Action}
-use Rattle.gt_lines.specs.declared.calls.Action.TheVariants as actions
+use Rattle.gt_lines.specs.declared.calls.ScriptCall.{ScriptCall}
+use Rattle.gt_lines.specs.declared.calls.ScriptAction.{ScriptAction}
+use Rattle.gt_lines.specs.declared.calls.ScriptAction.TheVariants as actions
 use Rattle.gt_script.specs.Contents.{Contents, type_names}
 use Rattle.gt_script.specs.Script.{Tells, Wrong}
-use Rattle.gt_script.specs.declared.script.Step.{Step}
+use Rattle.gt_script.specs.declared.script.ScriptStep.{ScriptStep}
 use Rattle.gt_calls.specs.declared.request.Request.{Request}
 use Rattle.gt_core.specs.declared.trace.Answer.{Answer}
 use Rattle.gt_core.specs.declared.trace.Item.{Item}
@@ -111,7 +111,7 @@ with-line t p q one other e w =
       text = ap (λ (l : List ℕ). p.text ++ l) e ∙ ap (λ (l : List ℕ). l ++ other) w.text;
     }
 
-with-call : (t : Setting) (p q : Progress) (dom : DomId) (s : Option Step) → Together t p q → Together t (with_call p dom s) (with_call q dom s)
+with-call : (t : Setting) (p q : Progress) (dom : DomId) (s : Option ScriptStep) → Together t p q → Together t (with_call p dom s) (with_call q dom s)
 with-call t p q dom s w =
     record {
       legal = w.legal;
@@ -121,13 +121,13 @@ with-call t p q dom s w =
       given = w.given;
       known = w.known;
       text = w.text;
-      opens = ap (λ (f : ℕ → Option Step). λ (d : ℕ). cond (d == dom.0) s (f d)) w.opens;
+      opens = ap (λ (f : ℕ → Option ScriptStep). λ (d : ℕ). cond (d == dom.0) s (f d)) w.opens;
     }
 
 line-same : (types : List (List ℕ)) (line : ℕ) (dom : DomId) (a b : Answer) → answer_text types a ≡ answer_text types b → answer_line types line dom a ≡ answer_line types line dom b
 line-same types line dom a b e = ap (λ (l : List ℕ). call_text line dom ++ l ++ codes "\n") e
 
-with-answer : (t : Setting) (types : List (List ℕ)) (p q : Progress) (dom : DomId) (s : Step) (a b : Answer) → told a ≡ told b → AnswerGiven (history_of p) dom.0 a → AnswerGiven (history_of q) dom.0 b → Together t p q
+with-answer : (t : Setting) (types : List (List ℕ)) (p q : Progress) (dom : DomId) (s : ScriptStep) (a b : Answer) → told a ≡ told b → AnswerGiven (history_of p) dom.0 a → AnswerGiven (history_of q) dom.0 b → Together t p q
     → Together t (answered types p dom s a) (answered types q dom s b)
 with-answer t types p q dom s a b e one other w =
     record {
@@ -143,7 +143,7 @@ with-answer t types p q dom s a b e one other w =
 
 -- a whole call
 
-call-legal : (t : Setting) (types : List (List ℕ)) (p : Progress) (s : Step) (o : Outcome) → Legal t (after_call types p s o).events (after_call types p s o).trace → Legal t p.events p.trace
+call-legal : (t : Setting) (types : List (List ℕ)) (p : Progress) (s : ScriptStep) (o : Outcome) → Legal t (after_call types p s o).events (after_call types p s o).trace → Legal t p.events p.trace
 call-legal t types p s (Answered a) legal = legal
 call-legal t types p s Busy legal = legal
 
@@ -178,7 +178,7 @@ swapped-calls t p q d one other n m xs ys c =
       lawful = c.legal;
     }
 
-calls-together : StaysAlike → (t : Setting) (types : List (List ℕ)) (s : Step) (p q : Progress) (one other : Request) (n m : ℕ) (xs ys : List Element) (o r : Outcome) → Calls t p q s.dom one other n m xs ys
+calls-together : StaysAlike → (t : Setting) (types : List (List ℕ)) (s : ScriptStep) (p q : Progress) (one other : Request) (n m : ℕ) (xs ys : List Element) (o r : Outcome) → Calls t p q s.dom one other n m xs ys
     → ComesTo xs o → ComesTo ys r → Together t (after_call types (with_events p (call_events s.dom one n) xs) s o) (after_call types (with_events q (call_events s.dom other m) ys) s r)
 calls-together law t types s p q one other n m xs ys (Answered a) (Answered b) c (i, more, first, x) (j, rest, second, y) =
     let d = s.dom in
@@ -202,7 +202,7 @@ calls-together law t types s p q one other n m xs ys Busy Busy c x y =
     (subst (λ (l : List Element). AreAlike t (history_after (history_of p) l) (history_after (history_of q) ys)) (sym x)
     (subst (λ (l : List Element). AreAlike t (history_of p) (history_after (history_of q) l)) (sym y) c.together.alike)))
 
-do-together : StaysAlike → (t : Setting) (types : List (List ℕ)) (s : Step) (call : Call) (p q one other : Progress) → Together t p q → DoLine types s call p one → DoLine types s call q other → Legal t one.events one.trace → Legal t other.events other.trace → Together t one other
+do-together : StaysAlike → (t : Setting) (types : List (List ℕ)) (s : ScriptStep) (call : ScriptCall) (p q one other : Progress) → Together t p q → DoLine types s call p one → DoLine types s call q other → Legal t one.events one.trace → Legal t other.events other.trace → Together t one other
 do-together law t types s call p q one other w (request, asks, n, xs, o, len, comes, is) (demand, seeks, m, ys, r, size, becomes, so) legal lawful =
     let l1 = call-legal t types (with_events p (call_events s.dom request n) xs) s o (subst (λ (z : Progress). Legal t z.events z.trace) is legal) in
     let l2 = call-legal t types (with_events q (call_events s.dom demand m) ys) s r (subst (λ (z : Progress). Legal t z.events z.trace) so lawful) in
@@ -220,24 +220,24 @@ do-together law t types s call p q one other w (request, asks, n, xs, o, len, co
 
 -- a beginning
 
-item-legal : (t : Setting) (types : List (List ℕ)) (p : Progress) (s : Step) (a : Option Answer) → Legal t (after_item types p s a).events (after_item types p s a).trace → Legal t p.events p.trace
+item-legal : (t : Setting) (types : List (List ℕ)) (p : Progress) (s : ScriptStep) (a : Option Answer) → Legal t (after_item types p s a).events (after_item types p s a).trace → Legal t p.events p.trace
 item-legal t types p s None legal = legal
 item-legal t types p s (Some a) legal = legal
 
-begin-legal : (t : Setting) (types : List (List ℕ)) (p : Progress) (s : Step) (x : Element) → Legal t (after_beginning types p s x).events (after_beginning types p s x).trace → Legal t p.events p.trace
+begin-legal : (t : Setting) (types : List (List ℕ)) (p : Progress) (s : ScriptStep) (x : Element) → Legal t (after_beginning types p s x).events (after_beginning types p s x).trace → Legal t p.events p.trace
 begin-legal t types p s (elements.Item i) legal = item-legal t types p s i.answer legal
 begin-legal t types p s elements.Busy legal = legal
 begin-legal t types p s elements.Idle legal = legal
 begin-legal t types p s elements.NoDomain legal = legal
 
-item-together : (t : Setting) (types : List (List ℕ)) (s : Step) (p q : Progress) (a b : Option Answer) → option_map told a ≡ option_map told b → ((x : Answer) → a ≡ Some x → AnswerGiven (history_of p) s.dom.0 x) → ((x : Answer) → b ≡ Some x → AnswerGiven (history_of q) s.dom.0 x)
+item-together : (t : Setting) (types : List (List ℕ)) (s : ScriptStep) (p q : Progress) (a b : Option Answer) → option_map told a ≡ option_map told b → ((x : Answer) → a ≡ Some x → AnswerGiven (history_of p) s.dom.0 x) → ((x : Answer) → b ≡ Some x → AnswerGiven (history_of q) s.dom.0 x)
     → Together t p q → Together t (after_item types p s a) (after_item types q s b)
 item-together t types s p q None None e one other w = with-call t p q s.dom (Some s) w
 item-together t types s p q None (Some b) e one other w = absurd (none-some (told b) e)
 item-together t types s p q (Some a) None e one other w = absurd (none-some (told a) (sym e))
 item-together t types s p q (Some a) (Some b) e one other w = with-answer t types p q s.dom s a b (same_Some (told a) (told b) e) (one a refl) (other b refl) w
 
-begun-together : (t : Setting) (types : List (List ℕ)) (s : Step) (p q : Progress) (x y : Element) → SameElement x y → ((a : Answer) → answer_in x ≡ Some a → AnswerGiven (history_of p) s.dom.0 a) → ((a : Answer) → answer_in y ≡ Some a → AnswerGiven (history_of q) s.dom.0 a)
+begun-together : (t : Setting) (types : List (List ℕ)) (s : ScriptStep) (p q : Progress) (x y : Element) → SameElement x y → ((a : Answer) → answer_in x ≡ Some a → AnswerGiven (history_of p) s.dom.0 a) → ((a : Answer) → answer_in y ≡ Some a → AnswerGiven (history_of q) s.dom.0 a)
     → Together t p q → Together t (after_beginning types p s x) (after_beginning types q s y)
 begun-together t types s p q (elements.Item i) (elements.Item j) e one other w = item-together t types s p q i.answer j.answer (answers-same (elements.Item i) (elements.Item j) e) one other w
 begun-together t types s p q (elements.Item i) y e one other w = absurd (cc)
@@ -247,7 +247,7 @@ begun-together t types s p q elements.Busy y e one other w = absurd (cc)
 begun-together t types s p q x elements.Busy e one other w = absurd (cc)
 begun-together t types s p q x y e one other w = w
 
-begin-together : StaysAlike → (t : Setting) (types : List (List ℕ)) (s : Step) (call : Call) (p q one other : Progress) → Together t p q → BeginLine types s call p one → BeginLine types s call q other → Legal t one.events one.trace → Legal t other.events other.trace → Together t one other
+begin-together : StaysAlike → (t : Setting) (types : List (List ℕ)) (s : ScriptStep) (call : ScriptCall) (p q one other : Progress) → Together t p q → BeginLine types s call p one → BeginLine types s call q other → Legal t one.events one.trace → Legal t other.events other.trace → Together t one other
 begin-together law t types s call p q one other w (request, asks, x, is) (demand, seeks, y, so) legal lawful =
     let d = s.dom in
     let l1 = begin-legal t types (with_events p (Begin d request ∷ []) (x ∷ [])) s x (subst (λ (z : Progress). Legal t z.events z.trace) is legal) in
@@ -266,7 +266,7 @@ begin-together law t types s call p q one other w (request, asks, x, is) (demand
 
 -- ticks
 
-tick-legal : (t : Setting) (types : List (List ℕ)) (p : Progress) (d : DomId) (s : Step) (a : Option Answer) → Legal t (after_ticks types p d s a).events (after_ticks types p d s a).trace → Legal t p.events p.trace
+tick-legal : (t : Setting) (types : List (List ℕ)) (p : Progress) (d : DomId) (s : ScriptStep) (a : Option Answer) → Legal t (after_ticks types p d s a).events (after_ticks types p d s a).trace → Legal t p.events p.trace
 tick-legal t types p d s None legal = legal
 tick-legal t types p d s (Some a) legal = legal
 
@@ -276,7 +276,7 @@ record Ticks (t : Setting) (p q : Progress) (d : DomId) (n m : ℕ) (xs ys : Lis
   pub legal : Legal t (p.events ++ replicate n (Tick d)) (p.trace ++ xs)
   pub lawful : Legal t (q.events ++ replicate m (Tick d)) (q.trace ++ ys)
 
-ended-together : StaysAlike → (t : Setting) (types : List (List ℕ)) (d : DomId) (s : Step) (p q : Progress) (n m : ℕ) (xs ys : List Element) (a b : Answer) → Ticks t p q d n m xs ys → EndsWith xs a → EndsWith ys b
+ended-together : StaysAlike → (t : Setting) (types : List (List ℕ)) (d : DomId) (s : ScriptStep) (p q : Progress) (n m : ℕ) (xs ys : List Element) (a b : Answer) → Ticks t p q d n m xs ys → EndsWith xs a → EndsWith ys b
     → Together t (after_ticks types (with_events p (replicate n (Tick d)) xs) d s (Some a)) (after_ticks types (with_events q (replicate m (Tick d)) ys) d s (Some b))
 ended-together law t types d s p q n m xs ys a b c x y =
     let j1 = subst (λ (l : List Element). LegalAfter t (history_of p) (replicate n (Tick d)) l) x.order (piece t p (replicate n (Tick d)) xs c.together.legal c.legal) in
@@ -302,7 +302,7 @@ ended-alone law t d p q n m most xs ys a alike j k x few quiet all =
     ticks-apart law t d (history_of p) (history_of q) n m x.before ys x.last a alike (subst (λ (l : List Element). LegalAfter t (history_of p) (replicate n (Tick d)) l) x.order j) k x.answers quiet
     (subst (λ (l : List Element). length l ≤ length ys) x.order (omega arith))
 
-ticks-together : StaysAlike → (t : Setting) (types : List (List ℕ)) (d : DomId) (s : Step) (most : ℕ) (p q : Progress) (n m : ℕ) (xs ys : List Element) (a b : Option Answer) → Ticks t p q d n m xs ys → TicksComeTo most xs a → TicksComeTo most ys b
+ticks-together : StaysAlike → (t : Setting) (types : List (List ℕ)) (d : DomId) (s : ScriptStep) (most : ℕ) (p q : Progress) (n m : ℕ) (xs ys : List Element) (a b : Option Answer) → Ticks t p q d n m xs ys → TicksComeTo most xs a → TicksComeTo most ys b
     → Together t (after_ticks types (with_events p (replicate n (Tick d)) xs) d s a) (after_ticks types (with_events q (replicate m (Tick d)) ys) d s b)
 ticks-together law t types d s most p q n m xs ys (Some a) (Some b) c x y = ended-together law t types d s p q n m xs ys a b c x.0 y.0
 ticks-together law t types d s most p q n m xs ys (Some a) None c x y =
@@ -313,7 +313,7 @@ ticks-together law t types d s most p q n m xs ys None None c x y =
     with-events t p q (replicate n (Tick d)) (replicate m (Tick d)) xs ys c.together c.legal c.lawful
     (ticks-alike law t d (history_of p) (history_of q) n m xs ys c.together.alike (piece t p (replicate n (Tick d)) xs c.together.legal c.legal) (piece t q (replicate m (Tick d)) ys c.together.lawful c.lawful) (x.1 ∙ sym y.1))
 
-tick-together : StaysAlike → (t : Setting) (types : List (List ℕ)) (s : Step) (most : ℕ) (begun : Option Step) (p q one other : Progress) → Together t p q → TickLine types s most begun p one → TickLine types s most begun q other → Legal t one.events one.trace → Legal t other.events other.trace → Together t one other
+tick-together : StaysAlike → (t : Setting) (types : List (List ℕ)) (s : ScriptStep) (most : ℕ) (begun : Option ScriptStep) (p q one other : Progress) → Together t p q → TickLine types s most begun p one → TickLine types s most begun q other → Legal t one.events one.trace → Legal t other.events other.trace → Together t one other
 tick-together law t types s most None p q one other w x y legal lawful =
     subst (λ (z : Progress). Together t z other) (sym x.1)
     (subst (λ (z : Progress). Together t (with_line p (idle_line s.line s.dom)) z) (sym y.1) (with-line t p q (idle_line s.line s.dom) (idle_line s.line s.dom) refl w))
@@ -328,7 +328,7 @@ tick-together law t types s most (Some begun) p q one other w (n, xs, a, len, co
 
 -- lines
 
-show-together : ShowsAlike → (t : Setting) (s : Step) (gref : GrantRef) (p q one other : Progress) → Together t p q → ShowLine t s gref p one → ShowLine t s gref q other → Together t one other
+show-together : ShowsAlike → (t : Setting) (s : ScriptStep) (gref : GrantRef) (p q one other : Progress) → Together t p q → ShowLine t s gref p one → ShowLine t s gref q other → Together t one other
 show-together shows t s gref p q one other w is so =
     let x = shown_at t (history_of p) s.dom gref.0 in
     let y = shown_at t (history_of q) s.dom gref.0 in
@@ -336,13 +336,13 @@ show-together shows t s gref p q one other w is so =
     (subst (λ (z : Progress). Together t (with_line p (show_line s.line s.dom gref x)) z) (sym so)
     (with-line t p q (show_line s.line s.dom gref x) (show_line s.line s.dom gref y) (ap (λ (o : Option Shown). show_line s.line s.dom gref o) (shows t (history_of p) (history_of q) s.dom gref.0 w.alike)) w))
 
-line-together : StaysAlike → ShowsAlike → (t : Setting) (types : List (List ℕ)) (s : Step) (action : Action) (p q one other : Progress) → Together t p q → RunsLine t types s action p one → RunsLine t types s action q other
+line-together : StaysAlike → ShowsAlike → (t : Setting) (types : List (List ℕ)) (s : ScriptStep) (action : ScriptAction) (p q one other : Progress) → Together t p q → RunsLine t types s action p one → RunsLine t types s action q other
     → Legal t one.events one.trace → Legal t other.events other.trace → Together t one other
 line-together law shows t types s (actions.Do call) p q one other w x y legal lawful = do-together law t types s call p q one other w x y legal lawful
 line-together law shows t types s (actions.Begin call) p q one other w x y legal lawful = begin-together law t types s call p q one other w x y legal lawful
 line-together law shows t types s (actions.Tick most) p q one other w x y legal lawful =
     tick-together law t types s most (q.open_steps s.dom.0) p q one other w
-    (subst (λ (f : ℕ → Option Step). TickLine types s most (f s.dom.0) p one) w.opens x) y legal lawful
+    (subst (λ (f : ℕ → Option ScriptStep). TickLine types s most (f s.dom.0) p one) w.opens x) y legal lawful
 line-together law shows t types s (actions.Show gref) p q one other w x y legal lawful = show-together shows t s gref p q one other w x y
 
 -- the front of a legal run is legal
@@ -353,7 +353,7 @@ calls-length d request n xs e =
     let whole : length (call_events d request n) ≡ suc (length (replicate n (Tick d))) = refl in
     omega arith
 
-line-legal : (t : Setting) (types : List (List ℕ)) (s : Step) (action : Action) (p q : Progress) → RunsLine t types s action p q → Legal t q.events q.trace → Legal t p.events p.trace
+line-legal : (t : Setting) (types : List (List ℕ)) (s : ScriptStep) (action : ScriptAction) (p q : Progress) → RunsLine t types s action p q → Legal t q.events q.trace → Legal t p.events p.trace
 line-legal t types s (actions.Do call) p q (request, asks, n, xs, o, len, comes, is) legal =
     legal-front t [] p.events p.trace (call_events s.dom request n) xs (calls-length s.dom request n xs len)
     (call-legal t types (with_events p (call_events s.dom request n) xs) s o (subst (λ (z : Progress). Legal t z.events z.trace) is legal))
@@ -362,20 +362,20 @@ line-legal t types s (actions.Begin call) p q (request, asks, x, is) legal =
     (begin-legal t types (with_events p (Begin s.dom request ∷ []) (x ∷ [])) s x (subst (λ (z : Progress). Legal t z.events z.trace) is legal))
 line-legal t types s (actions.Tick most) p q x legal = by (p.open_steps s.dom.0) x
   where
-    by : (o : Option Step) → TickLine types s most o p q → Legal t p.events p.trace
+    by : (o : Option ScriptStep) → TickLine types s most o p q → Legal t p.events p.trace
     by None x = subst (λ (z : Progress). Legal t z.events z.trace) x.1 legal
     by (Some begun) (n, xs, a, len, comes, is) =
         legal-front t [] p.events p.trace (replicate n (Tick s.dom)) xs (length-replicate n (Tick s.dom) ∙ sym len)
         (tick-legal t types (with_events p (replicate n (Tick s.dom)) xs) s.dom begun a (subst (λ (z : Progress). Legal t z.events z.trace) is legal))
 line-legal t types s (actions.Show gref) p q is legal = subst (λ (z : Progress). Legal t z.events z.trace) is legal
 
-leads-legal : (t : Setting) (types : List (List ℕ)) (steps : List Step) (p q : Progress) → LeadsTo t types p steps q → Legal t q.events q.trace → Legal t p.events p.trace
+leads-legal : (t : Setting) (types : List (List ℕ)) (steps : List ScriptStep) (p q : Progress) → LeadsTo t types p steps q → Legal t q.events q.trace → Legal t p.events p.trace
 leads-legal t types [] p q e legal = subst (λ (z : Progress). Legal t z.events z.trace) (sym e) legal
 leads-legal t types (s ∷ steps) p q (r, line, rest) legal = line-legal t types s s.action p r line (leads-legal t types steps r q rest legal)
 
 -- runs
 
-leads-together : StaysAlike → ShowsAlike → (t : Setting) (types : List (List ℕ)) (steps : List Step) (p q one other : Progress) → Together t p q → LeadsTo t types p steps one → LeadsTo t types q steps other
+leads-together : StaysAlike → ShowsAlike → (t : Setting) (types : List (List ℕ)) (steps : List ScriptStep) (p q one other : Progress) → Together t p q → LeadsTo t types p steps one → LeadsTo t types q steps other
     → Legal t one.events one.trace → Legal t other.events other.trace → Together t one other
 leads-together law shows t types [] p q one other w e f legal lawful =
     subst (λ (z : Progress). Together t z other) e (subst (λ (z : Progress). Together t p z) f w)
@@ -383,14 +383,14 @@ leads-together law shows t types (s ∷ steps) p q one other w (r, line, rest) (
     leads-together law shows t types steps r u one other
     (line-together law shows t types s s.action p q r u w line row (leads-legal t types steps r one rest legal) (leads-legal t types steps u other more lawful)) rest more legal lawful
 
-runs-together : StaysAlike → ShowsAlike → (c : Contents) (steps : List Step) (p q : Progress) → IsLegalRunOf c steps p → IsLegalRunOf c steps q → Together (setting_of_script c) p q
+runs-together : StaysAlike → ShowsAlike → (c : Contents) (steps : List ScriptStep) (p q : Progress) → IsLegalRunOf c steps p → IsLegalRunOf c steps q → Together (setting_of_script c) p q
 runs-together law shows c steps p q x y = leads-together law shows (setting_of_script c) (type_names c) steps at_start at_start p q (start-together (setting_of_script c)) x.0 y.0 x.1 y.1
 
 -- two runs of a script that have come to its end print one text
 pub one-text : StaysAlike → ShowsAlike → (c : Contents) (p q : Progress) → IsLegalRunOf c c.steps p → IsLegalRunOf c c.steps q → whole_text c p ≡ whole_text c q
 one-text law shows c p q x y =
     let w = runs-together law shows c c.steps p q x y in
-    ap (λ (l : List ℕ). l ++ open_lines c.domains p.open_steps) w.text ∙ ap (λ (f : ℕ → Option Step). q.text ++ open_lines c.domains f) w.opens
+    ap (λ (l : List ℕ). l ++ open_lines c.domains p.open_steps) w.text ∙ ap (λ (f : ℕ → Option ScriptStep). q.text ++ open_lines c.domains f) w.opens
 
 -- with their audit too
 pub audited-same : StaysAlike → ShowsAlike → HasOneSubject → (c : Contents) (audit : Bool) (p q : Progress) → IsLegalRunOf c c.steps p → IsLegalRunOf c c.steps q → audited_text c audit p ≡ audited_text c audit q
@@ -403,12 +403,12 @@ audited-same law shows tells c audit p q x y =
 -- beginnings
 
 -- a run goes on from the point to which its first steps led
-record Goes (t : Setting) (types : List (List ℕ)) (steps : List Step) (n : ℕ) (p q : Progress) : Type 0 where
+record Goes (t : Setting) (types : List (List ℕ)) (steps : List ScriptStep) (n : ℕ) (p q : Progress) : Type 0 where
   pub mid : Progress
   pub front : LeadsTo t types p (take n steps) mid
   pub back : LeadsTo t types mid (drop n steps) q
 
-goes-on : (t : Setting) (types : List (List ℕ)) (steps : List Step) (n : ℕ) (p q : Progress) → LeadsTo t types p steps q → Goes t types steps n p q
+goes-on : (t : Setting) (types : List (List ℕ)) (steps : List ScriptStep) (n : ℕ) (p q : Progress) → LeadsTo t types p steps q → Goes t types steps n p q
 goes-on t types steps zero p q run = record { mid = p; front = refl; back = run }
 goes-on t types [] (suc n) p q run = record { mid = p; front = refl; back = run }
 goes-on t types (s ∷ steps) (suc n) p q (r, line, rest) =
@@ -425,30 +425,30 @@ grows-none text = ([], sym (append-nil text))
 grows-both : (a b c : List ℕ) → Grows a b → Grows b c → Grows a c
 grows-both a b c (x, e) (y, f) = (x ++ y, f ∙ ap (λ (l : List ℕ). l ++ y) e ∙ append_assoc a x y)
 
-call-grows : (types : List (List ℕ)) (p : Progress) (s : Step) (o : Outcome) → Grows p.text (after_call types p s o).text
+call-grows : (types : List (List ℕ)) (p : Progress) (s : ScriptStep) (o : Outcome) → Grows p.text (after_call types p s o).text
 call-grows types p s (Answered a) = (answer_line types s.line s.dom a, refl)
 call-grows types p s Busy = (busy_line s.line s.dom, refl)
 
-item-grows : (types : List (List ℕ)) (p : Progress) (s : Step) (a : Option Answer) → Grows p.text (after_item types p s a).text
+item-grows : (types : List (List ℕ)) (p : Progress) (s : ScriptStep) (a : Option Answer) → Grows p.text (after_item types p s a).text
 item-grows types p s None = grows-none p.text
 item-grows types p s (Some a) = (answer_line types s.line s.dom a, refl)
 
-begin-grows : (types : List (List ℕ)) (p : Progress) (s : Step) (x : Element) → Grows p.text (after_beginning types p s x).text
+begin-grows : (types : List (List ℕ)) (p : Progress) (s : ScriptStep) (x : Element) → Grows p.text (after_beginning types p s x).text
 begin-grows types p s (elements.Item i) = item-grows types p s i.answer
 begin-grows types p s elements.Busy = (busy_line s.line s.dom, refl)
 begin-grows types p s elements.Idle = grows-none p.text
 begin-grows types p s elements.NoDomain = grows-none p.text
 
-ticks-grow : (types : List (List ℕ)) (p : Progress) (d : DomId) (s : Step) (a : Option Answer) → Grows p.text (after_ticks types p d s a).text
+ticks-grow : (types : List (List ℕ)) (p : Progress) (d : DomId) (s : ScriptStep) (a : Option Answer) → Grows p.text (after_ticks types p d s a).text
 ticks-grow types p d s None = grows-none p.text
 ticks-grow types p d s (Some a) = (answer_line types s.line d a, refl)
 
-tick-grows : (types : List (List ℕ)) (s : Step) (most : ℕ) (o : Option Step) (p q : Progress) → TickLine types s most o p q → Grows p.text q.text
+tick-grows : (types : List (List ℕ)) (s : ScriptStep) (most : ℕ) (o : Option ScriptStep) (p q : Progress) → TickLine types s most o p q → Grows p.text q.text
 tick-grows types s most None p q x = (idle_line s.line s.dom, ap (λ (z : Progress). z.text) x.1)
 tick-grows types s most (Some begun) p q (n, xs, a, len, comes, is) =
     subst (λ (z : Progress). Grows p.text z.text) (sym is) (ticks-grow types (with_events p (replicate n (Tick s.dom)) xs) s.dom begun a)
 
-line-grows : (t : Setting) (types : List (List ℕ)) (s : Step) (action : Action) (p q : Progress) → RunsLine t types s action p q → Grows p.text q.text
+line-grows : (t : Setting) (types : List (List ℕ)) (s : ScriptStep) (action : ScriptAction) (p q : Progress) → RunsLine t types s action p q → Grows p.text q.text
 line-grows t types s (actions.Do call) p q (request, asks, n, xs, o, len, comes, is) =
     subst (λ (z : Progress). Grows p.text z.text) (sym is) (call-grows types (with_events p (call_events s.dom request n) xs) s o)
 line-grows t types s (actions.Begin call) p q (request, asks, x, is) =
@@ -456,7 +456,7 @@ line-grows t types s (actions.Begin call) p q (request, asks, x, is) =
 line-grows t types s (actions.Tick most) p q x = tick-grows types s most (p.open_steps s.dom.0) p q x
 line-grows t types s (actions.Show gref) p q is = (show_line s.line s.dom gref (shown_at t (history_of p) s.dom gref.0), ap (λ (z : Progress). z.text) is)
 
-leads-grow : (t : Setting) (types : List (List ℕ)) (steps : List Step) (p q : Progress) → LeadsTo t types p steps q → Grows p.text q.text
+leads-grow : (t : Setting) (types : List (List ℕ)) (steps : List ScriptStep) (p q : Progress) → LeadsTo t types p steps q → Grows p.text q.text
 leads-grow t types [] p q e = subst (λ (z : Progress). Grows p.text z.text) e (grows-none p.text)
 leads-grow t types (s ∷ steps) p q (r, line, rest) = grows-both p.text r.text q.text (line-grows t types s s.action p r line) (leads-grow t types steps r q rest)
 

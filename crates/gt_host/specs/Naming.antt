@@ -3,7 +3,7 @@ use Rattle.std.specs.Prelude.{◌≡◌, ℕ, List}
 use Rattle.gt_host.specs.declared.labels.Labels.{Labels}
 use Rattle.gt_host.specs.Labels.{handle_in}
 use Rattle.gt_types.specs.declared.DomId.{DomId}
-use Rattle.gt_script.specs.declared.script.Step.{Step}
+use Rattle.gt_script.specs.declared.script.ScriptStep.{ScriptStep}
 use Rattle.gt_core.specs.declared.trace.Answer.{Answer}
 use Rattle.gt_host.specs.Runs.{Named, handle_named, named_after}
 
@@ -12,5 +12,5 @@ abbrev pub AreNamed : Labels → List Named → Type 0
 AreNamed labels named = (dom : ℕ) (label : List ℕ) → handle_in labels dom label ≡ handle_named named dom label
 
 -- the labels name what they named before, and what the answer to this line's call names (own)
-abbrev pub NamesMapping : Labels → Labels → DomId → Step → Answer → Type 0
+abbrev pub NamesMapping : Labels → Labels → DomId → ScriptStep → Answer → Type 0
 NamesMapping old new dom s answer = (named : List Named) → AreNamed old named → AreNamed new (named_after named dom s answer)

@@ -3,12 +3,12 @@ use Rattle.std.specs.Prelude.{ℕ, Option, option_and_then}
 use Rattle.std.specs.BTreeMap.{get}
 use Rattle.std.specs.Option.{option_map}
 use Rattle.std.specs.Ordering.{nat_cmp}
-use Rattle.gt_script.specs.declared.script.Step.{Step}
+use Rattle.gt_script.specs.declared.script.ScriptStep.{ScriptStep}
 use Rattle.gt_audit.specs.declared.record.Hypercall.{Hypercall}
 use Rattle.gt_host.specs.declared.open_calls.OpenCalls.{OpenCalls}
 
 -- the step whose call the domain has open, if it has one (own)
-abbrev pub call_in : OpenCalls → ℕ → Option Step
+abbrev pub call_in : OpenCalls → ℕ → Option ScriptStep
 call_in calls dom = option_map (λ o. o.step.now) (get nat_cmp calls.begun dom)
 
 -- what the call is told as that the domain has open (own)

@@ -3,11 +3,11 @@ use Rattle.std.specs.Prelude.{◌≡◌, ◌⊎◌, ◌++◌, ℕ, ◌≤◌, Bo
 use Rattle.std.specs.Io.KnownBytes.{Appends, Keeps}
 use Rattle.gt_types.specs.Config.{AreFaultless, is_taken}
 use Rattle.gt_types.specs.declared.limits.TheConstants.{LAST_GENERATION}
-use Rattle.gt_policy.specs.declared.fault.Fault as policy
+use Rattle.gt_policy.specs.declared.fault.TokenFault as policy
 use Rattle.gt_script.specs.Blocks.{block_fault_shown}
 use Rattle.gt_script.specs.Contents.{Contents, type_names, first_gen}
 use Rattle.gt_script.specs.Script.{Wrong, in_script, in_policy}
-use Rattle.gt_script.specs.declared.script.Step.{Step}
+use Rattle.gt_script.specs.declared.script.ScriptStep.{ScriptStep}
 use Rattle.gt_core.specs.History.{Setting}
 use Rattle.gt_core.specs.Legal.{Legal}
 use Rattle.gt_core.specs.Standing.{CoreModel, CoreStands, setting_of}
@@ -36,7 +36,7 @@ pub record StartsFor (c : Contents) (core : CoreModel Rights) : Type 0 where
 
 -- The steps lead here, what their events did is a legal trace, and the calls that are open are those of the trace. Asked of the last point, it holds at the
 -- earlier ones too, since a legal trace begins and answers calls one at a time. (own)
-abbrev pub IsLegalRunOf : Contents → List Step → Progress → Type 0
+abbrev pub IsLegalRunOf : Contents → List ScriptStep → Progress → Type 0
 IsLegalRunOf c steps p = IsRunOf (setting_of_script c) (type_names c) steps p × Legal (setting_of_script c) p.events p.trace × KnowsOpen p
 
 -- the text of a run that has come to the end of the script: the lines of its steps, and those of the calls that are open (own)
@@ -76,7 +76,7 @@ Begins Told audit old new = (c : Contents) × Told (Ok c) × BeginsRun c audit o
 abbrev pub Played : (Result Contents Wrong → Type 0) → Bool → Option (List ℕ) → Option (List ℕ) → Result (Unit {0}) PlayFault → Type 0
 Played Told audit old new (Ok done) = (c : Contents) × Told (Ok c) × WritesRun c audit old new
 Played Told audit old new (Err (Script fault)) = Told (Err (in_script fault)) × Keeps old new
-Played Told audit old new (Err (Policy fault)) = (g : policy.Fault) × (block_fault_shown fault ≡ Some g) × Told (Err (in_policy g)) × Keeps old new
+Played Told audit old new (Err (Policy fault)) = (g : policy.TokenFault) × (block_fault_shown fault ≡ Some g) × Told (Err (in_policy g)) × Keeps old new
 Played Told audit old new (Err Memory) = Keeps old new ⊎ Begins Told audit old new
 Played Told audit old new (Err Write) = Begins Told audit old new
 Played Told audit old new (Err Read) = Keeps old new

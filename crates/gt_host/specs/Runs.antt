@@ -14,11 +14,11 @@ use Rattle.gt_lines.specs.declared.calls.TableCall.{TableCall}
 use Rattle.gt_lines.specs.declared.calls.TableCall.TheVariants as tables
 use Rattle.gt_lines.specs.declared.calls.AccessCall.{AccessCall}
 use Rattle.gt_lines.specs.declared.calls.AccessCall.TheVariants as accesses
-use Rattle.gt_lines.specs.declared.calls.Call.{Call}
-use Rattle.gt_lines.specs.declared.calls.Call.TheVariants as calls
-use Rattle.gt_lines.specs.declared.calls.Action.{Action}
-use Rattle.gt_lines.specs.declared.calls.Action.TheVariants as actions
-use Rattle.gt_script.specs.declared.script.Step.{Step}
+use Rattle.gt_lines.specs.declared.calls.ScriptCall.{ScriptCall}
+use Rattle.gt_lines.specs.declared.calls.ScriptCall.TheVariants as calls
+use Rattle.gt_lines.specs.declared.calls.ScriptAction.{ScriptAction}
+use Rattle.gt_lines.specs.declared.calls.ScriptAction.TheVariants as actions
+use Rattle.gt_script.specs.declared.script.ScriptStep.{ScriptStep}
 use Rattle.gt_handles.specs.declared.handles.Handle.{Handle}
 use Rattle.gt_calls.specs.declared.request.Request.{Request}
 use Rattle.gt_calls.specs.declared.request.Request.TheVariants as requests
@@ -89,7 +89,7 @@ access_text (accesses.Poke frame off hex) = Some hex
 access_text (accesses.Copy source dest len) = None
 
 -- the hexadecimal text of a call (own)
-abbrev pub text_said : Call → Option (List ℕ)
+abbrev pub text_said : ScriptCall → Option (List ℕ)
 text_said (calls.Table call) = table_text call
 text_said (calls.Map label to gref flags) = None
 text_said (calls.Access call) = access_text call
@@ -100,7 +100,7 @@ bytes_of None = []
 bytes_of (Some hex) = hex_bytes hex
 
 -- the bytes that a call of a script says (own)
-abbrev pub bytes_said : Call → List ℕ
+abbrev pub bytes_said : ScriptCall → List ℕ
 bytes_said call = bytes_of (text_said call)
 
 -- what a call on a table asks of the core, where these are its bytes (own)
@@ -125,23 +125,23 @@ access_request handle bytes (accesses.Poke frame off hex) = requests.Poke frame 
 access_request handle bytes (accesses.Copy source dest len) = requests.Copy (copy_asked source dest len)
 
 -- what a call of a script asks of the core, where its labels stand for these handles and these are its bytes (own)
-abbrev pub request_of : List Named → DomId → Bor (List ℕ) → Call → Request
+abbrev pub request_of : List Named → DomId → Bor (List ℕ) → ScriptCall → Request
 request_of named dom bytes (calls.Table call) = table_request bytes call
 request_of named dom bytes (calls.Map label to gref flags) = requests.Map to gref flags
 request_of named dom bytes (calls.Access call) = access_request (handle_of named dom) bytes call
 
 -- a call of a script asks this of the core, where its labels stand for these handles (own)
-abbrev pub Asks : List Named → DomId → Call → Request → Type 0
+abbrev pub Asks : List Named → DomId → ScriptCall → Request → Type 0
 Asks named dom call request = (bytes : Bor (List ℕ)) × (bytes.now ≡ bytes_said call) × (request ≡ request_of named dom bytes call)
 
 -- the label to which a call gives its handle: that of a map (own)
-abbrev pub label_given : Call → Option (List ℕ)
+abbrev pub label_given : ScriptCall → Option (List ℕ)
 label_given (calls.Table call) = None
 label_given (calls.Map label to gref flags) = Some label
 label_given (calls.Access call) = None
 
 -- the label to which the call of a line gives its handle (own)
-abbrev pub label_in : Action → Option (List ℕ)
+abbrev pub label_in : ScriptAction → Option (List ℕ)
 label_in (actions.Do call) = label_given call
 label_in (actions.Begin call) = label_given call
 label_in (actions.Tick most) = None
@@ -159,7 +159,7 @@ with_name named dom (Some label) None = named
 with_name named dom None given = named
 
 -- the labels of the domain once its call of this line has its answer: a map answered Ok gives its handle to its label (own)
-abbrev pub named_after : List Named → DomId → Step → Answer → List Named
+abbrev pub named_after : List Named → DomId → ScriptStep → Answer → List Named
 named_after named dom s answer = with_name named dom (label_in s.action) (handle_given answer)
 
 -- answers
@@ -207,7 +207,7 @@ pub record Progress : Type 0 where
   pub events : List Event
   pub trace : List Element
   pub named : List Named
-  pub open_steps : ℕ → Option Step
+  pub open_steps : ℕ → Option ScriptStep
   pub text : List ℕ
 
 -- before the first line nothing has happened, no label stands for a handle, no call is open, and nothing is printed (own)
@@ -227,73 +227,73 @@ abbrev pub with_line : Progress → List ℕ → Progress
 with_line p line = record p { text = p.text ++ line }
 
 -- the domain has the call of this line open from now on, or none (own)
-abbrev pub with_call : Progress → DomId → Option Step → Progress
+abbrev pub with_call : Progress → DomId → Option ScriptStep → Progress
 with_call p dom step = record p { open_steps = λ d. if d == dom.0 then step else p.open_steps d }
 
 -- the domain's call of this line has its answer (own)
-abbrev pub answered : List (List ℕ) → Progress → DomId → Step → Answer → Progress
+abbrev pub answered : List (List ℕ) → Progress → DomId → ScriptStep → Answer → Progress
 answered types p dom s answer = record p { named = named_after p.named dom s answer; text = p.text ++ answer_line types s.line dom answer }
 
 -- a call from its beginning on came to this (own)
-abbrev pub after_call : List (List ℕ) → Progress → Step → Outcome → Progress
+abbrev pub after_call : List (List ℕ) → Progress → ScriptStep → Outcome → Progress
 after_call types p s (Answered answer) = answered types p s.dom s answer
 after_call types p s Busy = with_line p (busy_line s.line s.dom)
 
 -- a call was begun, and not answered or answered at once (own)
-abbrev pub after_item : List (List ℕ) → Progress → Step → Option Answer → Progress
+abbrev pub after_item : List (List ℕ) → Progress → ScriptStep → Option Answer → Progress
 after_item types p s None = with_call p s.dom (Some s)
 after_item types p s (Some answer) = answered types p s.dom s answer
 
 -- the beginning of a call did this; a domain of the run is not idle then (own)
-abbrev pub after_beginning : List (List ℕ) → Progress → Step → Element → Progress
+abbrev pub after_beginning : List (List ℕ) → Progress → ScriptStep → Element → Progress
 after_beginning types p s (elements.Item item) = after_item types p s item.answer
 after_beginning types p s elements.Busy = with_line p (busy_line s.line s.dom)
 after_beginning types p s elements.Idle = p
 after_beginning types p s elements.NoDomain = p
 
 -- ticks of the domain's call, which this line began, came to this (own)
-abbrev pub after_ticks : List (List ℕ) → Progress → DomId → Step → Option Answer → Progress
+abbrev pub after_ticks : List (List ℕ) → Progress → DomId → ScriptStep → Option Answer → Progress
 after_ticks types p dom begun (Some answer) = answered types (with_call p dom None) dom begun answer
 after_ticks types p dom begun None = p
 
 -- the line `do ID CALL` (own)
-abbrev pub DoLine : List (List ℕ) → Step → Call → Progress → Progress → Type 0
+abbrev pub DoLine : List (List ℕ) → ScriptStep → ScriptCall → Progress → Progress → Type 0
 DoLine types s call p q =
     (request : Request) × Asks p.named s.dom call request
     × (ticks : ℕ) × (trace : List Element) × (outcome : Outcome) × (length trace ≡ 1 + ticks) × ComesTo trace outcome
     × (q ≡ after_call types (with_events p (call_events s.dom request ticks) trace) s outcome)
 
 -- the line `begin ID CALL` (own)
-abbrev pub BeginLine : List (List ℕ) → Step → Call → Progress → Progress → Type 0
+abbrev pub BeginLine : List (List ℕ) → ScriptStep → ScriptCall → Progress → Progress → Type 0
 BeginLine types s call p q =
     (request : Request) × Asks p.named s.dom call request
     × (x : Element) × (q ≡ after_beginning types (with_events p (Begin s.dom request ∷ []) (x ∷ [])) s x)
 
 -- the line `tick ID N`: idle where the domain has no call open, and then nothing happens (own)
-abbrev pub TickLine : List (List ℕ) → Step → ℕ → Option Step → Progress → Progress → Type 0
+abbrev pub TickLine : List (List ℕ) → ScriptStep → ℕ → Option ScriptStep → Progress → Progress → Type 0
 TickLine types s most None p q = (open_call (history_of p) s.dom.0 ≡ None) × (q ≡ with_line p (idle_line s.line s.dom))
 TickLine types s most (Some begun) p q =
     (ticks : ℕ) × (trace : List Element) × (answer : Option Answer) × (length trace ≡ ticks) × TicksComeTo most trace answer
     × (q ≡ after_ticks types (with_events p (replicate ticks (Tick s.dom)) trace) s.dom begun answer)
 
 -- the line `show ID REF`: what the entry is after what happened so far (own)
-abbrev pub ShowLine : Setting → Step → GrantRef → Progress → Progress → Type 0
+abbrev pub ShowLine : Setting → ScriptStep → GrantRef → Progress → Progress → Type 0
 ShowLine t s gref p q = q ≡ with_line p (show_line s.line s.dom gref (shown_at t (history_of p) s.dom gref.0))
 
 -- what a line of the body asks for (own)
-abbrev pub RunsLine : Setting → List (List ℕ) → Step → Action → Progress → Progress → Type 0
+abbrev pub RunsLine : Setting → List (List ℕ) → ScriptStep → ScriptAction → Progress → Progress → Type 0
 RunsLine t types s (actions.Do call) p q = DoLine types s call p q
 RunsLine t types s (actions.Begin call) p q = BeginLine types s call p q
 RunsLine t types s (actions.Tick count) p q = TickLine types s count (p.open_steps s.dom.0) p q
 RunsLine t types s (actions.Show gref) p q = ShowLine t s gref p q
 
 -- the steps, one after the other, lead from one point of a run to another (own)
-abbrev pub LeadsTo : Setting → List (List ℕ) → Progress → List Step → Progress → Type 0
+abbrev pub LeadsTo : Setting → List (List ℕ) → Progress → List ScriptStep → Progress → Type 0
 LeadsTo t types p [] q = p ≡ q
 LeadsTo t types p (s ∷ steps) q = (r : Progress) × RunsLine t types s s.action p r × LeadsTo t types r steps q
 
 -- this is where the steps of a script lead (own)
-abbrev pub IsRunOf : Setting → List (List ℕ) → List Step → Progress → Type 0
+abbrev pub IsRunOf : Setting → List (List ℕ) → List ScriptStep → Progress → Type 0
 IsRunOf t types steps p = LeadsTo t types at_start steps p
 
 -- a domain has a line's call open exactly where it has one open by what happened (own)
@@ -303,11 +303,11 @@ KnowsOpen p = (dom : ℕ) → is_some (p.open_steps dom) ≡ is_some (open_call 
 -- the end
 
 -- the line of a call that is open at the end of the script (own)
-abbrev pub open_text : DomId → Option Step → List ℕ
+abbrev pub open_text : DomId → Option ScriptStep → List ℕ
 open_text dom None = []
 open_text dom (Some s) = open_line s.line dom
 
 -- the lines of the open calls, in the order of the domains (own)
-abbrev pub open_lines : List DomainConfig → (ℕ → Option Step) → List ℕ
+abbrev pub open_lines : List DomainConfig → (ℕ → Option ScriptStep) → List ℕ
 open_lines [] steps = []
 open_lines (d ∷ ds) steps = open_text d.id (steps d.id.0) ++ open_lines ds steps

@@ -1,5 +1,5 @@
 //! Why a run did not end well.
-use gt_script::{BlockFault, Fault as ScriptFault, ScriptError};
+use gt_script::{BlockFault, ScriptError, ScriptFault};
 use gt_streams::{ReadFault, WriteFault};
 use gt_types::Memory;
 use std::alloc::{AllocError, AllocFailed};

@@ -1,6 +1,6 @@
 //! The calls that have no answer yet.
 use gt_audit::Hypercall;
-use gt_script::Step;
+use gt_script::ScriptStep;
 use gt_types::DomId;
 use std::alloc::{AllocError, Global};
 use std::collections::BTreeMap;
@@ -8,7 +8,7 @@ use std::collections::BTreeMap;
 /// A call that has no answer yet: the step of the script that began it, and how it is recorded.
 #[derive(Clone, Copy)]
 pub struct Opened<'b, 'a> {
-    pub step: &'b Step<'a>,
+    pub step: &'b ScriptStep<'a>,
     pub told: Option<Hypercall>,
 }
 
@@ -45,7 +45,7 @@ impl<'b, 'a> OpenCalls<'b, 'a> {
     pub fn begin(
         &mut self,
         dom: DomId,
-        step: &'b Step<'a>,
+        step: &'b ScriptStep<'a>,
         told: Option<Hypercall>,
     ) -> Result<(), AllocError>
         ensures calls { OnOk result ((d : ℕ) →

@@ -22,8 +22,8 @@ use crate::outcome::{Outcome, TICKS_OF_A_CALL};
 use crate::showing::push_show_line;
 use gt_core::{Answer, Begun, Core, Request, Ticked};
 use gt_entry::Entry;
-use gt_lines::{AccessCall, Action, Call, Grant, TableCall, Text, hex_bytes};
-use gt_script::Step;
+use gt_lines::{AccessCall, Grant, ScriptAction, ScriptCall, TableCall, Text, hex_bytes};
+use gt_script::ScriptStep;
 use gt_types::{Allows, DomId, Memory};
 use std::alloc::{AllocError, Global};
 
@@ -99,18 +99,18 @@ fn access_text<'b, 'a>(call: &'b AccessCall<'a>) -> Option<&'b Text<'a>>
 }
 
 // The hexadecimal text of a call, if it has one.
-fn text_said<'b, 'a>(call: &'b Call<'a>) -> Option<&'b Text<'a>>
+fn text_said<'b, 'a>(call: &'b ScriptCall<'a>) -> Option<&'b Text<'a>>
     ensures { option_map (λ text. text.now) result ≡ text_said call.entry.now }
 {
     match call {
-        Call::Table(call) => table_text(call),
-        Call::Map { .. } => None,
-        Call::Access(call) => access_text(call),
+        ScriptCall::Table(call) => table_text(call),
+        ScriptCall::Map { .. } => None,
+        ScriptCall::Access(call) => access_text(call),
     }
 }
 
 /// The bytes that a call says: those of an entry, or those that it writes.
-pub fn bytes_said<'a>(alloc: Global, call: &Call<'a>) -> Result<Vec<u8>, AllocError>
+pub fn bytes_said<'a>(alloc: Global, call: &ScriptCall<'a>) -> Result<Vec<u8>, AllocError>
     ensures { IfOk result (λ bytes. bytes.items ≡ said_in call.now) }
 {
     match text_said(call) {
@@ -184,14 +184,14 @@ pub fn request_of<'a, 'c>(
     labels: &Labels<'a>,
     dom: DomId,
     bytes: &'c [u8],
-    call: &Call<'a>,
+    call: &ScriptCall<'a>,
 ) -> Request<'c>
     ensures { (named : List Named) → AreNamed labels.now named →
         result ≡ request_of named dom bytes.entry call.now }
 {
     match call {
-        Call::Table(call) => table_request(bytes, call),
-        Call::Map {
+        ScriptCall::Table(call) => table_request(bytes, call),
+        ScriptCall::Map {
             dom,
             gref,
             flags,
@@ -201,27 +201,27 @@ pub fn request_of<'a, 'c>(
             gref: *gref,
             flags: *flags,
         },
-        Call::Access(call) => access_request(labels, dom, bytes, call),
+        ScriptCall::Access(call) => access_request(labels, dom, bytes, call),
     }
 }
 
 /// The label to which a call gives its handle.
-pub fn label_given<'a>(call: &Call<'a>) -> Option<&'a [u8]>
+pub fn label_given<'a>(call: &ScriptCall<'a>) -> Option<&'a [u8]>
     ensures { option_map (λ l. l.now) result ≡ label_given call.now }
 {
     match call {
-        Call::Map { label, .. } => Some(label.as_bytes()),
-        Call::Table(_) | Call::Access(_) => None,
+        ScriptCall::Map { label, .. } => Some(label.as_bytes()),
+        ScriptCall::Table(_) | ScriptCall::Access(_) => None,
     }
 }
 
 // The label to which the call of a step gives its handle.
-fn label_in<'a>(action: &Action<'a>) -> Option<&'a [u8]>
+fn label_in<'a>(action: &ScriptAction<'a>) -> Option<&'a [u8]>
     ensures { option_map (λ l. l.now) result ≡ label_in action.now }
 {
     match action {
-        Action::Do(call) | Action::Begin(call) => label_given(call),
-        Action::Tick(_) | Action::Show(_) => None,
+        ScriptAction::Do(call) | ScriptAction::Begin(call) => label_given(call),
+        ScriptAction::Tick(_) | ScriptAction::Show(_) => None,
     }
 }
 
@@ -229,7 +229,7 @@ fn label_in<'a>(action: &Action<'a>) -> Option<&'a [u8]>
 fn name_mapping<'a>(
     labels: &mut Labels<'a>,
     dom: DomId,
-    step: &Step<'a>,
+    step: &ScriptStep<'a>,
     answer: &Answer,
 ) -> Result<(), AllocError>
     ensures { OnOk result (NamesMapping labels.old labels.new dom step.now answer.now) }
@@ -246,7 +246,7 @@ fn answer_call<'a>(
     labels: &mut Labels<'a>,
     types: &[Text<'a>],
     dom: DomId,
-    step: &Step<'a>,
+    step: &ScriptStep<'a>,
     answer: &Answer,
     out: &mut Vec<u8>,
 ) -> Result<(), AllocError>
@@ -304,8 +304,8 @@ fn run_do<'b, 'a, P: Allows>(
     core: &mut Core<P>,
     kept: &mut Kept<'b, 'a>,
     types: &[Text<'a>],
-    step: &Step<'a>,
-    call: &Call<'a>,
+    step: &ScriptStep<'a>,
+    call: &ScriptCall<'a>,
     bytes: &[u8],
     out: &mut Vec<u8>,
 ) -> Result<(), Fault>
@@ -335,8 +335,8 @@ fn run_begin<'b, 'a, P: Allows>(
     core: &mut Core<P>,
     kept: &mut Kept<'b, 'a>,
     types: &[Text<'a>],
-    step: &'b Step<'a>,
-    call: &Call<'a>,
+    step: &'b ScriptStep<'a>,
+    call: &ScriptCall<'a>,
     bytes: &[u8],
     out: &mut Vec<u8>,
 ) -> Result<(), Fault>
@@ -367,7 +367,7 @@ fn run_ticks<'b, 'a, P: Allows>(
     core: &mut Core<P>,
     kept: &mut Kept<'b, 'a>,
     types: &[Text<'a>],
-    step: &Step<'a>,
+    step: &ScriptStep<'a>,
     most: u32,
     out: &mut Vec<u8>,
 ) -> Result<(), Fault>
@@ -406,7 +406,7 @@ pub fn run_step<'b, 'a, P: Allows>(
     core: &mut Core<P>,
     kept: &mut Kept<'b, 'a>,
     types: &[Text<'a>],
-    step: &'b Step<'a>,
+    step: &'b ScriptStep<'a>,
     out: &mut Vec<u8>,
 ) -> Result<(), Fault>
     requires { IsReady (setting_in P.may core.old) step.now.dom core.old.state }
@@ -418,16 +418,16 @@ pub fn run_step<'b, 'a, P: Allows>(
     ensures errors { IfErr result (λ e. e ≡ faults.Memory) }
 {
     match &step.action {
-        Action::Do(call) => {
+        ScriptAction::Do(call) => {
             let bytes = bytes_said(alloc, call)?;
             run_do(alloc, core, kept, types, step, call, bytes.as_slice(), out)
         }
-        Action::Begin(call) => {
+        ScriptAction::Begin(call) => {
             let bytes = bytes_said(alloc, call)?;
             run_begin(alloc, core, kept, types, step, call, bytes.as_slice(), out)
         }
-        Action::Tick(most) => run_ticks(alloc, core, kept, types, step, *most, out),
-        Action::Show(gref) => {
+        ScriptAction::Tick(most) => run_ticks(alloc, core, kept, types, step, *most, out),
+        ScriptAction::Show(gref) => {
             let shown = core.show(step.dom, *gref);
             push_show_line(alloc, out, step.line, step.dom, *gref, shown)?;
             Ok(())

@@ -10,14 +10,14 @@ use Rattle.gt_lines.specs.declared.calls.Grant.{Grant}
 use Rattle.gt_lines.specs.declared.calls.Grant.TheVariants as grants
 use Rattle.gt_lines.specs.declared.calls.TableCall.{TableCall}
 use Rattle.gt_lines.specs.declared.calls.TableCall.TheVariants as tables
-use Rattle.gt_lines.specs.declared.calls.CopyEnd.{CopyEnd}
-use Rattle.gt_lines.specs.declared.calls.CopyEnd.TheVariants as ends
+use Rattle.gt_lines.specs.declared.calls.ScriptCopyEnd.{ScriptCopyEnd}
+use Rattle.gt_lines.specs.declared.calls.ScriptCopyEnd.TheVariants as ends
 use Rattle.gt_lines.specs.declared.calls.AccessCall.{AccessCall}
 use Rattle.gt_lines.specs.declared.calls.AccessCall.TheVariants as accesses
-use Rattle.gt_lines.specs.declared.calls.Call.{Call}
-use Rattle.gt_lines.specs.declared.calls.Call.TheVariants as calls
-use Rattle.gt_lines.specs.declared.calls.Action.{Action}
-use Rattle.gt_lines.specs.declared.calls.Action.TheVariants as actions
+use Rattle.gt_lines.specs.declared.calls.ScriptCall.{ScriptCall}
+use Rattle.gt_lines.specs.declared.calls.ScriptCall.TheVariants as calls
+use Rattle.gt_lines.specs.declared.calls.ScriptAction.{ScriptAction}
+use Rattle.gt_lines.specs.declared.calls.ScriptAction.TheVariants as actions
 
 -- a page: DOM MODE FRAME (own)
 unfoldable pub page_of : List (List ℕ) → Option Grant
@@ -72,7 +72,7 @@ bytes_of (gref ∷ digits ∷ []) = do
 bytes_of _ = None
 
 -- what stands after `map`: LABEL DOM REF FLAGS (own)
-unfoldable pub map_of : List (List ℕ) → Option Call
+unfoldable pub map_of : List (List ℕ) → Option ScriptCall
 map_of (label ∷ dom ∷ gref ∷ flags ∷ []) = do
   l ← text_where label_word label
   d ← domain_word dom
@@ -125,7 +125,7 @@ poke_of (frame ∷ off ∷ digits ∷ []) = do
 poke_of _ = None
 
 -- an end of a copy: `gref` DOM REF OFF, or `frame` DOM FRAME OFF (own)
-unfoldable pub end_of : List ℕ → List ℕ → List ℕ → List ℕ → Option CopyEnd
+unfoldable pub end_of : List ℕ → List ℕ → List ℕ → List ℕ → Option ScriptCopyEnd
 end_of kind dom place off = if bytes_eq kind (codes "gref") then (do
   d ← domain_word dom
   r ← reference_word place
@@ -187,21 +187,21 @@ is_access_word word = ((((bytes_eq word (codes "unmap") || bytes_eq word (codes 
     || bytes_eq word (codes "peek")) || bytes_eq word (codes "poke")) || bytes_eq word (codes "copy")
 
 -- a call word and its arguments (own)
-unfoldable pub call_of : List (List ℕ) → Option Call
+unfoldable pub call_of : List (List ℕ) → Option ScriptCall
 call_of [] = None
 call_of (word ∷ args) = if bytes_eq word (codes "map") then map_of args
     else (if is_access_word word then option_map calls.Access (access_of word args)
     else option_map calls.Table (table_of word args))
 
 -- what stands after `tick` and its domain: N (own)
-unfoldable pub tick_of : List (List ℕ) → Option Action
+unfoldable pub tick_of : List (List ℕ) → Option ScriptAction
 tick_of (count ∷ []) = do
   n ← tick_word count
   Some (actions.Tick n)
 tick_of _ = None
 
 -- what a body line's first word says together with the words after its domain (own)
-unfoldable pub action_of : List ℕ → List (List ℕ) → Option Action
+unfoldable pub action_of : List ℕ → List (List ℕ) → Option ScriptAction
 action_of word args = if bytes_eq word (codes "do") then option_map actions.Do (call_of args)
     else (if bytes_eq word (codes "begin") then option_map actions.Begin (call_of args)
     else (if bytes_eq word (codes "tick") then tick_of args

@@ -63,7 +63,7 @@ pub enum TableCall<'a> {
 
 /// An end of a copy: bytes from `off` on.
 #[derive(Clone, Copy, Debug, PartialEq, Eq)]
-pub enum CopyEnd {
+pub enum ScriptCopyEnd {
     /// `gref DOM REF OFF`: of what the entry `gref` of the domain's table grants.
     Granted {
         dom: DomId,
@@ -111,15 +111,15 @@ pub enum AccessCall<'a> {
     },
     /// `copy END END LEN`: `len` bytes from the source, which comes first, to the destination.
     Copy {
-        source: CopyEnd,
-        dest: CopyEnd,
+        source: ScriptCopyEnd,
+        dest: ScriptCopyEnd,
         len: u16,
     },
 }
 
 /// A call as it is written.
 #[derive(Debug, Drop)]
-pub enum Call<'a> {
+pub enum ScriptCall<'a> {
     Table(TableCall<'a>),
     /// `map LABEL DOM REF FLAGS`: the label names the handle that it answers.
     Map {
@@ -133,11 +133,11 @@ pub enum Call<'a> {
 
 /// What a line of the body asks of its domain.
 #[derive(Debug, Drop)]
-pub enum Action<'a> {
+pub enum ScriptAction<'a> {
     /// `do ID CALL`: the call from its beginning to its answer.
-    Do(Call<'a>),
+    Do(ScriptCall<'a>),
     /// `begin ID CALL`: the beginning of the call alone.
-    Begin(Call<'a>),
+    Begin(ScriptCall<'a>),
     /// `tick ID N`: up to N steps, from 1 to 100,000, of the call that the domain has open.
     Tick(u32),
     /// `show ID REF`: a line on the entry with this reference, which changes nothing.
@@ -231,11 +231,11 @@ fn read_bytes<'a>(args: &[&'a [u8]]) -> Option<TableCall<'a>>
 }
 
 #[tactic(auto, unfolding(crate::specs::Calls::map_of))]
-fn read_map<'a>(args: &[&'a [u8]]) -> Option<Call<'a>>
+fn read_map<'a>(args: &[&'a [u8]]) -> Option<ScriptCall<'a>>
     ensures { result ≡ map_of (map (λ word. word.now) args.now) }
 {
     match args {
-        [name, dom, gref, bits] => Some(Call::Map {
+        [name, dom, gref, bits] => Some(ScriptCall::Map {
             label: label(name)?,
             dom: domain(dom)?,
             gref: reference(gref)?,
@@ -314,17 +314,17 @@ fn read_poke<'a>(args: &[&'a [u8]]) -> Option<AccessCall<'a>>
 }
 
 #[tactic(auto, unfolding(crate::specs::Calls::end_of))]
-fn read_end(kind: &[u8], dom: &[u8], place: &[u8], off: &[u8]) -> Option<CopyEnd>
+fn read_end(kind: &[u8], dom: &[u8], place: &[u8], off: &[u8]) -> Option<ScriptCopyEnd>
     ensures { result ≡ end_of kind.now dom.now place.now off.now }
 {
     if is(kind, "gref") {
-        Some(CopyEnd::Granted {
+        Some(ScriptCopyEnd::Granted {
             dom: domain(dom)?,
             gref: reference(place)?,
             off: u16_of(off)?,
         })
     } else if is(kind, "frame") {
-        Some(CopyEnd::Frame {
+        Some(ScriptCopyEnd::Frame {
             dom: domain(dom)?,
             frame: u64_of(place)?,
             off: u16_of(off)?,
@@ -468,42 +468,42 @@ fn is_access_word(word: &[u8]) -> bool
 }
 
 #[tactic(auto, unfolding(crate::specs::Calls::call_of))]
-fn read_call<'a>(words: &[&'a [u8]]) -> Option<Call<'a>>
+fn read_call<'a>(words: &[&'a [u8]]) -> Option<ScriptCall<'a>>
     ensures { result ≡ call_of (map (λ word. word.now) words.now) }
 {
     let (word, args) = words.split_first()?;
     if is(word, "map") {
         read_map(args)
     } else if is_access_word(word) {
-        Some(Call::Access(read_access_call(word, args)?))
+        Some(ScriptCall::Access(read_access_call(word, args)?))
     } else {
-        Some(Call::Table(read_table_call(word, args)?))
+        Some(ScriptCall::Table(read_table_call(word, args)?))
     }
 }
 
 #[tactic(auto, unfolding(crate::specs::Calls::tick_of))]
-fn read_tick<'a>(args: &[&'a [u8]]) -> Option<Action<'a>>
+fn read_tick<'a>(args: &[&'a [u8]]) -> Option<ScriptAction<'a>>
     ensures { result ≡ tick_of (map (λ word. word.now) args.now) }
 {
     match args {
-        [count] => Some(Action::Tick(tick_count(count)?)),
+        [count] => Some(ScriptAction::Tick(tick_count(count)?)),
         _ => None,
     }
 }
 
 /// What a body line's first word says together with the words after its domain.
 #[tactic(auto, unfolding(crate::specs::Calls::action_of))]
-pub fn read_action<'a>(word: &[u8], args: &[&'a [u8]]) -> Option<Action<'a>>
+pub fn read_action<'a>(word: &[u8], args: &[&'a [u8]]) -> Option<ScriptAction<'a>>
     ensures { result ≡ action_of word.now (map (λ word. word.now) args.now) }
 {
     if is(word, "do") {
-        Some(Action::Do(read_call(args)?))
+        Some(ScriptAction::Do(read_call(args)?))
     } else if is(word, "begin") {
-        Some(Action::Begin(read_call(args)?))
+        Some(ScriptAction::Begin(read_call(args)?))
     } else if is(word, "tick") {
         read_tick(args)
     } else if is(word, "show") {
-        Some(Action::Show(only_reference(args)?))
+        Some(ScriptAction::Show(only_reference(args)?))
     } else {
         None
     }

@@ -2,7 +2,7 @@
 ghost use Rattle.std.specs.Prelude.{◌≡◌, map};
 ghost use Rattle.gt_lines.specs.Lines.{triple_of, wear_of, domain_of, asked_of, body_of, line_of};
 
-use crate::calls::{Action, read_action};
+use crate::calls::{ScriptAction, read_action};
 use crate::fields::{generation, is, label_type, name};
 use crate::numbers::{Number, decimal};
 use crate::signals::{Signal, is_signal_word, read_signal};
@@ -31,7 +31,7 @@ pub struct DomainLine<'a> {
 #[derive(Debug, Drop)]
 pub enum BodyLine<'a> {
     /// `do`, `begin`, `tick` or `show`.
-    Action(Action<'a>),
+    Action(ScriptAction<'a>),
     /// `tell` or `await`.
     Signal(Signal<'a>),
 }

@@ -20,7 +20,7 @@ use Rattle.gt_policy.specs.Spelling.{AreDistinct, declared_in, names_of, types_i
 use Rattle.gt_policy.specs.Names.{Names}
 use Rattle.gt_policy.specs.Resolving.{resolved, nothing_given}
 use Rattle.gt_policy.specs.Whole.{meaning_of}
-use Rattle.gt_policy.specs.declared.fault.Fault.{Fault}
+use Rattle.gt_policy.specs.declared.fault.TokenFault.{TokenFault}
 use Rattle.gt_policy.specs.declared.resolve.Draft.{Draft}
 use Rattle.gt_policy.specs.declared.statements.Statement.{Statement}
 use Rattle.gt_policy.specs.declared.statements.Statement.TheVariants.{DeclareType, DeclareAttribute, GiveAttributes, Allow}
@@ -190,8 +190,8 @@ distinct_types (DeclareAttribute w ∷ ss) h = distinct_types ss h.1
 distinct_types (GiveAttributes m ms ∷ ss) h = distinct_types ss h
 distinct_types (Allow a ∷ ss) h = distinct_types ss h
 
-types_meant : (names : Names) (r : Result Draft Fault) (m : Meaning) → meaning_of names r ≡ Ok m → names.types ≡ m.types
-types_meant names (Ok d) m e = ap (λ (o : Result Meaning Fault). elim o [ Ok x ↦ x.types | Err f ↦ [] ]) e
+types_meant : (names : Names) (r : Result Draft TokenFault) (m : Meaning) → meaning_of names r ≡ Ok m → names.types ≡ m.types
+types_meant names (Ok d) m e = ap (λ (o : Result Meaning TokenFault). elim o [ Ok x ↦ x.types | Err f ↦ [] ]) e
 types_meant names (Err f) m e = cc
 
 pub one_order : (m : Meaning) (one other : List ℕ) (ss : List Statement) {text : List ℕ} → IsWritten text ss → meant_by ss ≡ Ok m → IsListing m one → IsListing m other → one ≡ other

@@ -2,15 +2,15 @@
 use Rattle.std.specs.Prelude.{ℕ, List, ◌++◌, codes}
 use Rattle.std.specs.Fmt.{decimal}
 use Rattle.gt_policy.specs.Texts.{fault_text}
-use Rattle.gt_policy.specs.declared.parse.FaultKind.{FaultKind}
-use Rattle.gt_policy.specs.declared.parse.FaultKind.TheVariants as kinds
+use Rattle.gt_policy.specs.declared.parse.PolicyFaultKind.{PolicyFaultKind}
+use Rattle.gt_policy.specs.declared.parse.PolicyFaultKind.TheVariants as kinds
 use Rattle.gt_streams.specs.declared.fault.ReadFault.{ReadFault}
 use Rattle.gt_streams.specs.declared.fault.ReadFault.TheVariants as reads
-use Rattle.gt_listing.specs.declared.fault.Fault.{Fault}
-use Rattle.gt_listing.specs.declared.fault.Fault.TheVariants as faults
+use Rattle.gt_listing.specs.declared.fault.ListingFault.{ListingFault}
+use Rattle.gt_listing.specs.declared.fault.ListingFault.TheVariants as faults
 
 -- what ends a listing that has no policy (own)
-abbrev pub fault_of : ℕ → FaultKind → Fault
+abbrev pub fault_of : ℕ → PolicyFaultKind → ListingFault
 fault_of line kinds.Memory = faults.Memory
 fault_of line kinds.Syntax = faults.Policy (record { line = line; kind = kinds.Syntax })
 fault_of line (kinds.Unknown name) = faults.Policy (record { line = line; kind = kinds.Unknown name })
@@ -20,12 +20,12 @@ fault_of line (kinds.Outside word) = faults.Policy (record { line = line; kind =
 fault_of line kinds.Limit = faults.Policy (record { line = line; kind = kinds.Limit })
 
 -- what ends a listing that has no text (own)
-abbrev pub read_fault : ReadFault → Fault
+abbrev pub read_fault : ReadFault → ListingFault
 read_fault reads.Memory = faults.Memory
 read_fault reads.Read = faults.Read
 
 -- what ends a listing, as one line: a fault of the text with its line, or a word (own)
-abbrev pub listing_fault_text : Fault → List ℕ
+abbrev pub listing_fault_text : ListingFault → List ℕ
 listing_fault_text (faults.Utf8 line) = codes "line " ++ decimal line ++ codes ": utf8"
 listing_fault_text (faults.Policy fault) = fault_text fault.line fault.kind
 listing_fault_text faults.Memory = codes "memory"

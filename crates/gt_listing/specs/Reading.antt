@@ -6,11 +6,11 @@ use Rattle.gt_policy.specs.Allowing.{Meaning}
 use Rattle.gt_policy.specs.Grammar.{at}
 use Rattle.gt_policy.specs.Shown.{fault_shown}
 use Rattle.gt_policy.specs.Whole.{Says}
-use Rattle.gt_policy.specs.declared.fault.Fault as policy
-use Rattle.gt_policy.specs.declared.fault.Kind.TheVariants.{Limit}
+use Rattle.gt_policy.specs.declared.fault.TokenFault as policy
+use Rattle.gt_policy.specs.declared.fault.TokenFaultKind.TheVariants.{Limit}
 use Rattle.gt_streams.specs.Texts as texts
-use Rattle.gt_listing.specs.declared.fault.Fault.{Fault}
-use Rattle.gt_listing.specs.declared.fault.Fault.TheVariants.{Utf8, Policy, Memory, Read, Write}
+use Rattle.gt_listing.specs.declared.fault.ListingFault.{ListingFault}
+use Rattle.gt_listing.specs.declared.fault.ListingFault.TheVariants.{Utf8, Policy, Memory, Read, Write}
 
 -- the bytes are the text of a policy that means this (own)
 abbrev pub IsPolicy : List ℕ → Meaning → Type 0
@@ -21,11 +21,11 @@ abbrev pub IsBadAt : List ℕ → ℕ → Type 0
 IsBadAt bytes line = (length bytes ≤ LONGEST_TEXT) × texts.IsBadAt bytes line
 
 -- the first fault of the bytes is one of a policy: they are too many, or a text that has it (own)
-abbrev pub IsFaulty : List ℕ → policy.Fault → Type 0
+abbrev pub IsFaulty : List ℕ → policy.TokenFault → Type 0
 IsFaulty bytes f = ((LONGEST_TEXT < length bytes) ⊎ IsUtf8 bytes) × Says bytes (Err f)
 
 -- the bytes are too many, or no UTF-8, and this is their fault (own)
-abbrev pub IsNoText : List ℕ → Fault → Type 0
+abbrev pub IsNoText : List ℕ → ListingFault → Type 0
 IsNoText bytes (Utf8 line) = IsBadAt bytes line
 IsNoText bytes (Policy shown) = (LONGEST_TEXT < length bytes) × (fault_shown shown ≡ Some (at 1 Limit))
 IsNoText bytes Memory = ⊥

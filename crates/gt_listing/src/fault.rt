@@ -1,5 +1,5 @@
 //! Why a listing did not end well.
-use gt_policy::{FaultKind, PolicyFault};
+use gt_policy::{PolicyFault, PolicyFaultKind};
 use gt_streams::{ReadFault, WriteFault};
 use std::alloc::{AllocError, AllocFailed};
 use std::error::Error;
@@ -7,7 +7,7 @@ use std::fmt;
 
 /// Why a listing did not end well. It prints as one line, without its end.
 #[derive(Debug, Drop)]
-pub enum Fault {
+pub enum ListingFault {
     /// The bytes are no UTF-8, from a byte of this line on. Nothing was written.
     Utf8 { line: usize },
     /// The first fault of the text, with the number of its line. Nothing was written.
@@ -20,7 +20,7 @@ pub enum Fault {
     Write,
 }
 
-impl fmt::Display for Fault {
+impl fmt::Display for ListingFault {
     ghost use Rattle.std.specs.Prelude.{Some};
     ghost use Rattle.gt_listing.specs.Faults.{listing_fault_text};
 
@@ -28,75 +28,75 @@ impl fmt::Display for Fault {
 
     fn fmt<W: fmt::Write>(&self, f: &mut fmt::Formatter<W>) -> fmt::Result {
         match self {
-            Fault::Utf8 { line } => write!(f, "line {line}: utf8"),
-            Fault::Policy(fault) => write!(f, "{fault}"),
-            Fault::Memory => f.write_str("memory"),
-            Fault::Read => f.write_str("read"),
-            Fault::Write => f.write_str("write"),
+            ListingFault::Utf8 { line } => write!(f, "line {line}: utf8"),
+            ListingFault::Policy(fault) => write!(f, "{fault}"),
+            ListingFault::Memory => f.write_str("memory"),
+            ListingFault::Read => f.write_str("read"),
+            ListingFault::Write => f.write_str("write"),
         }
     }
 }
 
-impl Error for Fault {}
+impl Error for ListingFault {}
 
-impl From<AllocError> for Fault {
+impl From<AllocError> for ListingFault {
     ghost use Rattle.std.specs.Prelude.{◌≡◌};
-    ghost use Rattle.gt_listing.specs.declared.fault.Fault.TheVariants as faults;
+    ghost use Rattle.gt_listing.specs.declared.fault.ListingFault.TheVariants as faults;
 
     ghost from_gives = { λ _ e. e ≡ faults.Memory };
 
-    fn from(_error: AllocError) -> Fault {
-        Fault::Memory
+    fn from(_error: AllocError) -> ListingFault {
+        ListingFault::Memory
     }
 }
 
-impl<T: Drop> From<AllocFailed<T>> for Fault {
+impl<T: Drop> From<AllocFailed<T>> for ListingFault {
     ghost use Rattle.std.specs.Prelude.{◌≡◌};
-    ghost use Rattle.gt_listing.specs.declared.fault.Fault.TheVariants as faults;
+    ghost use Rattle.gt_listing.specs.declared.fault.ListingFault.TheVariants as faults;
 
     ghost from_gives = { λ _ e. e ≡ faults.Memory };
 
-    fn from(_error: AllocFailed<T>) -> Fault {
-        Fault::Memory
+    fn from(_error: AllocFailed<T>) -> ListingFault {
+        ListingFault::Memory
     }
 }
 
-impl From<PolicyFault> for Fault {
+impl From<PolicyFault> for ListingFault {
     ghost use Rattle.std.specs.Prelude.{◌≡◌};
     ghost use Rattle.gt_listing.specs.Faults.{fault_of};
 
     ghost from_gives = { λ error fault. fault ≡ fault_of error.line error.kind };
 
-    fn from(error: PolicyFault) -> Fault {
+    fn from(error: PolicyFault) -> ListingFault {
         let PolicyFault { line, kind } = error;
         match kind {
-            FaultKind::Memory => Fault::Memory,
-            kind => Fault::Policy(PolicyFault { line, kind }),
+            PolicyFaultKind::Memory => ListingFault::Memory,
+            kind => ListingFault::Policy(PolicyFault { line, kind }),
         }
     }
 }
 
-impl From<ReadFault> for Fault {
+impl From<ReadFault> for ListingFault {
     ghost use Rattle.std.specs.Prelude.{◌≡◌};
     ghost use Rattle.gt_listing.specs.Faults.{read_fault};
 
     ghost from_gives = { λ error fault. fault ≡ read_fault error };
 
-    fn from(error: ReadFault) -> Fault {
+    fn from(error: ReadFault) -> ListingFault {
         match error {
-            ReadFault::Memory => Fault::Memory,
-            ReadFault::Read => Fault::Read,
+            ReadFault::Memory => ListingFault::Memory,
+            ReadFault::Read => ListingFault::Read,
         }
     }
 }
 
-impl From<WriteFault> for Fault {
+impl From<WriteFault> for ListingFault {
     ghost use Rattle.std.specs.Prelude.{◌≡◌};
-    ghost use Rattle.gt_listing.specs.declared.fault.Fault.TheVariants as faults;
+    ghost use Rattle.gt_listing.specs.declared.fault.ListingFault.TheVariants as faults;
 
     ghost from_gives = { λ _ e. e ≡ faults.Write };
 
-    fn from(_error: WriteFault) -> Fault {
-        Fault::Write
+    fn from(_error: WriteFault) -> ListingFault {
+        ListingFault::Write
     }
 }

@@ -20,6 +20,6 @@ mod listing;
 mod sources;
 mod text;
 
-pub use fault::Fault;
+pub use fault::ListingFault;
 pub use laws::one_listing;
 pub use listing::policy;

@@ -6,9 +6,9 @@ ghost use Rattle.gt_listing.specs.Lines.{source_text};
 ghost use Rattle.gt_listing.specs.Listing.{listing};
 ghost use Rattle.gt_streams.specs.Streams.{AppendsBeginning, Sends};
 ghost use Rattle.gt_listing.specs.Writing.{Writes};
-ghost use Rattle.gt_listing.specs.declared.fault.Fault.TheVariants as faults;
+ghost use Rattle.gt_listing.specs.declared.fault.ListingFault.TheVariants as faults;
 
-use crate::fault::Fault;
+use crate::fault::ListingFault;
 use crate::lines::push_pair;
 use gt_allow::AllowTable;
 use gt_policy::Policy;
@@ -25,7 +25,7 @@ fn write_source<W: Write>(
     source: TypeId,
     waiting: &mut Vec<u8>,
     writer: &mut W,
-) -> Result<(), Fault>
+) -> Result<(), ListingFault>
     requires { length waiting.old.items < CHUNK }
     ensures ok { OnOk result (Sends (W.contents writer.old) (W.contents writer.new)
         (waiting.old.items ++ source_text policy.now.types (looks table.now) ids.now source) waiting.new.items) }
@@ -48,7 +48,7 @@ fn write_sources<W: Write>(
     table: &AllowTable,
     ids: &[TypeId],
     writer: &mut W,
-) -> Result<(), Fault>
+) -> Result<(), ListingFault>
     ensures whole { OnOk result (Appends (W.contents writer.old) (W.contents writer.new)
         (listing policy.now.types (looks table.now) ids.now)) }
     ensures beginning { OnErr result (AppendsBeginning (W.contents writer.old) (W.contents writer.new)
@@ -64,14 +64,18 @@ fn write_sources<W: Write>(
 }
 
 /// Writes the lines of all triples that the policy allows, by its table.
-pub fn write_policy<W: Write>(alloc: Global, policy: &Policy, writer: &mut W) -> Result<(), Fault>
+pub fn write_policy<W: Write>(
+    alloc: Global,
+    policy: &Policy,
+    writer: &mut W,
+) -> Result<(), ListingFault>
     ensures { Writes policy.now (W.contents writer.old) (W.contents writer.new) result }
 {
     let Ok(table) = AllowTable::compile(alloc, policy) else {
-        return Err(Fault::Memory);
+        return Err(ListingFault::Memory);
     };
     match policy.by_name(alloc) {
         Ok(ids) => write_sources(alloc, policy, &table, ids.as_slice(), writer),
-        Err(error) => Err(Fault::from(error)),
+        Err(error) => Err(ListingFault::from(error)),
     }
 }

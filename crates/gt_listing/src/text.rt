@@ -3,26 +3,26 @@ ghost use Rattle.std.specs.Prelude.{◌≡◌, ◌≤◌, length, IfOk, IfErr};
 ghost use Rattle.std.specs.Str.{IsUtf8};
 ghost use Rattle.gt_listing.specs.Reading.{IsNoText};
 
-use crate::fault::Fault;
-use gt_policy::{FaultKind, PolicyFault};
+use crate::fault::ListingFault;
+use gt_policy::{PolicyFault, PolicyFaultKind};
 use gt_streams::text_of;
 use gt_types::LONGEST_TEXT;
 
 /// The bytes as text, if they are not too many.
-pub fn policy_text<'a>(bytes: &'a [u8]) -> Result<&'a str, Fault>
+pub fn policy_text<'a>(bytes: &'a [u8]) -> Result<&'a str, ListingFault>
     ensures text { IfOk result (λ text. text.now ≡ bytes.entry.now) }
     ensures few { IfOk result (λ _. length bytes.entry.now ≤ LONGEST_TEXT) }
     ensures utf8 { IfOk result (λ _. IsUtf8 bytes.entry.now) }
     ensures fault { IfErr result (λ fault. IsNoText bytes.entry.now fault) }
 {
     if bytes.len() > LONGEST_TEXT {
-        return Err(Fault::Policy(PolicyFault {
+        return Err(ListingFault::Policy(PolicyFault {
             line: 1,
-            kind: FaultKind::Limit,
+            kind: PolicyFaultKind::Limit,
         }));
     }
     match text_of(bytes) {
         Ok(text) => Ok(text),
-        Err(line) => Err(Fault::Utf8 { line }),
+        Err(line) => Err(ListingFault::Utf8 { line }),
     }
 }

@@ -34,7 +34,7 @@ use Rattle.gt_calls.specs.Opening.{opens}
 use Rattle.gt_calls.specs.Path.{Continuation, after_beginning, by_mapping, ended, makes, path_of, steps_of}
 use Rattle.gt_calls.specs.Rules.{CallerKnowledge, begun}
 use Rattle.gt_live.specs.Accesses.{Accessed, AnsweredBy, IsAccess, IsOfAccess, frame_named}
-use Rattle.gt_live.specs.Domains.{IsRefused, Opens, Rights, refusal_of}
+use Rattle.gt_live.specs.Domains.{IsRefused, Opens, AllowRelation, refusal_of}
 use Rattle.gt_live.specs.Ending.{IsAccessing, IsWordless}
 use Rattle.gt_live.specs.Mappings.{IsMappingOf, ReachesItsFrame}
 use Rattle.gt_live.specs.Walks.{Called, CarriesFound}
@@ -71,7 +71,7 @@ serves p Read so = tt
 serves p Write so = so refl
 
 -- a mapping reaches any range of its frame, to write where its pin is a write pin
-pub reaches-mapped : (k : Layout) (ds : List DomainConfig) (may : Rights) (s : SeatOf) (p : Held) (dir : Dir) (number off len : ℕ) → IsMappingOf k ds may s.dom s.view p → (dir ≡ Write → p.dir ≡ Write) → number ≡ frame_of p.entry
+pub reaches-mapped : (k : Layout) (ds : List DomainConfig) (may : AllowRelation) (s : SeatOf) (p : Held) (dir : Dir) (number off len : ℕ) → IsMappingOf k ds may s.dom s.view p → (dir ≡ Write → p.dir ≡ Write) → number ≡ frame_of p.entry
     → IsPinnedFor k s s.dom dir ForMap (frame_named p.dom number) off len p
 reaches-mapped k ds may s p dir number off len is so frame =
     let some = any-range p.entry s.dom p.dir off len is.permitted in
@@ -83,7 +83,7 @@ reaches-mapped k ds may s p dir number off len is so frame =
       permitted = serving p.entry s.dom dir p.dir off len so some;
     }
 
-pub reaches-its-frame : (k : Layout) (ds : List DomainConfig) (may : Rights) (s : SeatOf) (p : Held) → IsMappingOf k ds may s.dom s.view p → ReachesItsFrame k s p
+pub reaches-its-frame : (k : Layout) (ds : List DomainConfig) (may : AllowRelation) (s : SeatOf) (p : Held) → IsMappingOf k ds may s.dom s.view p → ReachesItsFrame k s p
 reaches-its-frame k ds may s p is = record {
   reads = λ (off len : ℕ). reaches-mapped k ds may s p Read (frame_of p.entry) off len is (λ (e : Read ≡ Write). cc) refl;
   writes = λ (writes : p.dir ≡ Write) (off len : ℕ). reaches-mapped k ds may s p Write (frame_of p.entry) off len is (λ (e : Write ≡ Write). writes) refl;

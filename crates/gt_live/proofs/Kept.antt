@@ -20,7 +20,7 @@ use Rattle.gt_words.specs.declared.view.EntryRecord.{EntryRecord}
 use Rattle.gt_words.specs.declared.view.View.{View}
 use Rattle.gt_handles.specs.declared.handles.Handle.{Handle}
 use Rattle.gt_handles.specs.declared.handles.Slot.{Slot}
-use Rattle.gt_handles.specs.Handles.{Kept, count_of, same_handle, under, value_of}
+use Rattle.gt_handles.specs.Handles.{HandleMap, count_of, same_handle, under, value_of}
 use Rattle.gt_handles.specs.Laws.{counted-most, inserted-counted, taken-counted}
 use Rattle.gt_handles.specs.Listing.{IsInserted, IsTaken, has_passing}
 use Rattle.gt_calls.specs.declared.held.Held.{Held}
@@ -28,7 +28,7 @@ use Rattle.gt_calls.specs.declared.known.Own.{Own}
 use Rattle.gt_calls.specs.declared.request.Asked.{Asked}
 use Rattle.gt_calls.specs.Rules.{entry_in, generation_in, row_entry, row_generation}
 use Rattle.gt_live.specs.declared.domain.Domain.{Domain}
-use Rattle.gt_live.specs.Domains.{IsDomainOf, Rights, knowledge}
+use Rattle.gt_live.specs.Domains.{IsDomainOf, AllowRelation, knowledge}
 use Rattle.gt_live.specs.Driving.{ChangesBy, IsSame, MapsBy}
 use Rattle.gt_live.specs.Mappings.{IsMappingOf, PinsAreOf, is_mapping_of, record_of}
 use Rattle.gt_live.specs.Rows.{row_changed}
@@ -37,7 +37,7 @@ use Rattle.gt_live.proofs.Making.{still_seat}
 use Rattle.gt_live.proofs.RowsKept.{row-here, row-length, row-other, row-there}
 
 -- a mapping under a handle stands in a slot
-pub record InSlot (s : Kept Held) (h : Handle) (m : Held) : Type 0 where
+pub record InSlot (s : HandleMap Held) (h : Handle) (m : Held) : Type 0 where
   pub slot : Slot Held
   pub there : get_or s.slots h.key None ≡ Some slot
   pub value : slot.value ≡ m
@@ -51,7 +51,7 @@ slot-of serial (Some slot) m e = by (slot.serial == serial) e
     by true is = (slot, refl, cc)
     by false is = cc
 
-in-slot : (s : Kept Held) (h : Handle) (m : Held) → value_of s h ≡ Some m → InSlot s h m
+in-slot : (s : HandleMap Held) (h : Handle) (m : Held) → value_of s h ≡ Some m → InSlot s h m
 in-slot s h m e =
     let x = slot-of h.serial (get_or s.slots h.key None) m e in
     let inside : h.key < length s.slots = elim (cases_lt h.key (length s.slots)) [ inl lt ↦ lt | inr ge ↦ let none = get_or-eq_default s.slots None ge in let some = x.1 in absurd (cc) ] in
@@ -64,7 +64,7 @@ counts-itself k m =
     ∙ (ap (λ (b : Bool). b && (generation_of m.word == generation_of m.word)) (dir-self m.dir) ∙ eq-eqb (generation_of m.word) (generation_of m.word) refl))
 
 -- the pins of a mapping's kind and generation are some
-pub some-pins : (k : Layout) (v : View) (kept : Kept Held) → PinsAreOf k v kept → (h : Handle) (m : Held) → value_of kept h ≡ Some m → Holds (position_in k.ids m.dom) m.gref.0 m.dir (generation_of m.word) v
+pub some-pins : (k : Layout) (v : View) (kept : HandleMap Held) → PinsAreOf k v kept → (h : Handle) (m : Held) → value_of kept h ≡ Some m → Holds (position_in k.ids m.dom) m.gref.0 m.dir (generation_of m.word) v
 some-pins k v kept all h m e =
     let t = position_in k.ids m.dom in let g = generation_of m.word in
     let x = in-slot kept h m e in
@@ -73,14 +73,14 @@ some-pins k v kept all h m e =
     subst (λ (n : ℕ). 0 < n) (sym (all t m.gref.0 m.dir g)) (counted (has_passing (is_mapping_of k t m.gref.0 m.dir g)) kept.slots h.key None x.inside passes)
 
 -- a mapping whose pin is held in another view is one still
-moved : (k : Layout) (ds : List DomainConfig) (may : Rights) (dom dom' : DomId) (v w : View) (m : Held) → dom' ≡ dom
+moved : (k : Layout) (ds : List DomainConfig) (may : AllowRelation) (dom dom' : DomId) (v w : View) (m : Held) → dom' ≡ dom
     → (IsIn (m.dir, record_of m) (pins (steps_on (position_in k.ids m.dom) m.gref.0 v)) → IsIn (m.dir, record_of m) (pins (steps_on (position_in k.ids m.dom) m.gref.0 w)))
     → IsMappingOf k ds may dom v m → IsMappingOf k ds may dom' w m
 moved k ds may dom dom' v w m same on is =
     let here : IsMappingOf k ds may dom w m = record { pin = record { run = is.pin.run; inside = is.pin.inside; held = on is.pin.held }; permitted = is.permitted; in_frames = is.in_frames; allowed = is.allowed } in
     subst (λ (d : DomId). IsMappingOf k ds may d w m) (sym same) here
 
-same-slots : (old new : Kept Held) (h : Handle) → new.slots ≡ old.slots → value_of new h ≡ value_of old h
+same-slots : (old new : HandleMap Held) (h : Handle) → new.slots ≡ old.slots → value_of new h ≡ value_of old h
 same-slots old new h e = ap (λ (xs : List (Option (Slot Held))). under h.serial (slice_index_or xs h.key None)) e
 
 -- the seat after looks alone is of the same words
@@ -96,18 +96,18 @@ same-rows : (c : Config) (os os' : List Own) (r : ℕ) → os' ≡ os → ◌≡
 same-rows c os os' r e = ap (λ (xs : List Own). record { generation = generation_in c.first_gen xs r; entry = entry_in xs r }) (sym e)
 
 -- where all pins are those of before
-same-mapped : (b : Board) (c : Config) (may : Rights) (d e : Domain) → IsDomainOf b c may d → e.seat.dom ≡ d.seat.dom → e.mappings.slots ≡ d.mappings.slots → KeepsPins d.seat.view e.seat.view → (h : Handle) (m : Held) → value_of e.mappings h ≡ Some m
+same-mapped : (b : Board) (c : Config) (may : AllowRelation) (d e : Domain) → IsDomainOf b c may d → e.seat.dom ≡ d.seat.dom → e.mappings.slots ≡ d.mappings.slots → KeepsPins d.seat.view e.seat.view → (h : Handle) (m : Held) → value_of e.mappings h ≡ Some m
     → IsMappingOf b.layout c.domains.items may e.seat.dom e.seat.view m
 same-mapped b c may d e is dom slots same h m there =
     moved b.layout c.domains.items may d.seat.dom e.seat.dom d.seat.view e.seat.view m dom (λ x. subst (λ (ps : List LivePin). IsIn (m.dir, record_of m) ps) (sym (same (position_in b.layout.ids m.dom) m.gref.0)) x)
     (is.mapped h m (sym (same-slots d.mappings e.mappings h slots) ∙ there))
 
-same-pins : (b : Board) (c : Config) (may : Rights) (d e : Domain) → IsDomainOf b c may d → e.mappings.slots ≡ d.mappings.slots → KeepsPins d.seat.view e.seat.view → PinsAreOf b.layout e.seat.view e.mappings
+same-pins : (b : Board) (c : Config) (may : AllowRelation) (d e : Domain) → IsDomainOf b c may d → e.mappings.slots ≡ d.mappings.slots → KeepsPins d.seat.view e.seat.view → PinsAreOf b.layout e.seat.view e.mappings
 same-pins b c may d e is slots same t r a g =
     ap (λ (ps : List LivePin). pins_like a g ps) (same t r) ∙ (is.pins t r a g ∙ ap (λ xs. count_by (has_passing (is_mapping_of b.layout t r a g)) xs) (sym slots))
 
 -- after looks alone
-pub looked : (b : Board) (c : Config) (may : Rights) (d e : Domain) → IsDomainOf b c may d → IsSeatOf b e.seat → e.seat.dom ≡ d.seat.dom → e.own.items ≡ d.own.items → e.mappings.slots ≡ d.mappings.slots → IsSame d.seat.view e.seat.view → IsDomainOf b c may e
+pub looked : (b : Board) (c : Config) (may : AllowRelation) (d e : Domain) → IsDomainOf b c may d → IsSeatOf b e.seat → e.seat.dom ≡ d.seat.dom → e.own.items ≡ d.own.items → e.mappings.slots ≡ d.mappings.slots → IsSame d.seat.view e.seat.view → IsDomainOf b c may e
 looked b c may d e is seat dom own slots same = record {
   seat = seat;
   rows = λ r lt. same.records r ∙ (is.rows r lt ∙ same-rows c d.own.items e.own.items r own);
@@ -118,7 +118,7 @@ looked b c may d e is seat dom own slots same = record {
 }
 
 -- after an owner's change of one of its entries
-pub changed : (b : Board) (c : Config) (may : Rights) (d e : Domain) (request : Asked) (q : ℕ) (ch : Change) → IsDomainOf b c may d → IsSameSeat d.seat e.seat → e.mappings.slots ≡ d.mappings.slots → e.own.items ≡ row_changed d.own.items q ch
+pub changed : (b : Board) (c : Config) (may : AllowRelation) (d e : Domain) (request : Asked) (q : ℕ) (ch : Change) → IsDomainOf b c may d → IsSameSeat d.seat e.seat → e.mappings.slots ≡ d.mappings.slots → e.own.items ≡ row_changed d.own.items q ch
     → ChangesBy (knowledge c may d) b.layout request q ch d.seat.view e.seat.view → IsDomainOf b c may e
 changed b c may d e request q ch is seat slots own x =
     let u = x.before in let w = e.seat.view in let os = row_changed d.own.items q ch in
@@ -166,7 +166,7 @@ added true o m n P here old e = let same : m ≡ n = cc in subst (λ (z : Held).
 added false o m n P here old e = old e
 
 -- after an unmap that was Ok, and where a domain leaves
-pub unmapped : (b : Board) (c : Config) (may : Rights) (d e : Domain) (h : Handle) (m : Held) → IsDomainOf b c may d → IsSeatOf b e.seat → e.seat.dom ≡ d.seat.dom → e.own.items ≡ d.own.items
+pub unmapped : (b : Board) (c : Config) (may : AllowRelation) (d e : Domain) (h : Handle) (m : Held) → IsDomainOf b c may d → IsSeatOf b e.seat → e.seat.dom ≡ d.seat.dom → e.own.items ≡ d.own.items
     → IsTaken d.mappings e.mappings h m → Unpins b.layout (position_in b.layout.ids m.dom) m.gref.0 m.dir (generation_of m.word) d.seat.view e.seat.view → IsDomainOf b c may e
 unmapped b c may d e h m is seat dom own out u =
     let k = b.layout in let v = d.seat.view in let w = e.seat.view in
@@ -184,7 +184,7 @@ unmapped b c may d e h m is seat dom own out u =
     }
 
 -- after a map that was Ok
-pub mapped : (b : Board) (c : Config) (may : Rights) (d e : Domain) (h : Handle) (request : Asked) (m : Held) → IsDomainOf b c may d → IsSameSeat d.seat e.seat → e.own.items ≡ d.own.items
+pub mapped : (b : Board) (c : Config) (may : AllowRelation) (d e : Domain) (h : Handle) (request : Asked) (m : Held) → IsDomainOf b c may d → IsSameSeat d.seat e.seat → e.own.items ≡ d.own.items
     → MapsBy (knowledge c may d) b.layout d.seat.dom request m d.seat.view e.seat.view → IsInserted d.mappings e.mappings h m → IsDomainOf b c may e
 mapped b c may d e h request m is seat own x ins =
     let k = b.layout in let v = d.seat.view in let w = e.seat.view in
@@ -214,11 +214,11 @@ no-pin (p ∷ ps) h =
     let w : ◌≡◌ {A = ℕ} (cond (is_pin p.0 p.1.generation p) 1 0) 1 = ap {B = ℕ} (λ (x : Bool). cond x 1 0) here in absurd (omega (arith, one, nil, w))
 
 -- a domain without mappings has no pins
-pub without-pins : (b : Board) (c : Config) (may : Rights) (d : Domain) → IsDomainOf b c may d → count_of d.mappings ≡ 0 → (t r : ℕ) → pins (steps_on t r d.seat.view) ≡ []
+pub without-pins : (b : Board) (c : Config) (may : AllowRelation) (d : Domain) → IsDomainOf b c may d → count_of d.mappings ≡ 0 → (t r : ℕ) → pins (steps_on t r d.seat.view) ≡ []
 without-pins b c may d is none t r = no-pin _ (λ a g. let was = is.pins t r a g in let few = counted-most (is_mapping_of b.layout t r a g) d.mappings in omega (arith, was, few, none))
 
 -- whatever records a domain keeps
-pub retold : (b : Board) (c : Config) (may : Rights) (d e : Domain) → IsDomainOf b c may d → e.seat ≡ d.seat → e.own ≡ d.own → e.mappings ≡ d.mappings → IsDomainOf b c may e
+pub retold : (b : Board) (c : Config) (may : AllowRelation) (d e : Domain) → IsDomainOf b c may d → e.seat ≡ d.seat → e.own ≡ d.own → e.mappings ≡ d.mappings → IsDomainOf b c may e
 retold b c may d e is seat own mappings =
     let here : IsDomainOf b c may (record e { seat = d.seat; own = d.own; mappings = d.mappings }) =
     record { seat = is.seat; rows = is.rows; generations = is.generations; all_rows = is.all_rows; mapped = is.mapped; pins = is.pins } in

@@ -15,7 +15,7 @@ use Rattle.gt_words.specs.Rule.{IsKeptHeader, Layout, layout_of}
 use Rattle.gt_words.specs.Views.{own_table}
 use Rattle.gt_words.specs.declared.view.View.{View}
 use Rattle.gt_handles.specs.declared.handles.Handle.{Handle}
-use Rattle.gt_handles.specs.Handles.{Kept, KeepsSpent}
+use Rattle.gt_handles.specs.Handles.{HandleMap, KeepsSpent}
 use Rattle.gt_handles.specs.Listing.{IsInserted}
 use Rattle.gt_words.specs.Conditions.{KeepsPins, SeatOf}
 use Rattle.gt_types.specs.declared.GrantRef.{GrantRef}
@@ -31,7 +31,7 @@ use Rattle.gt_calls.specs.declared.request.Asked.{Asked}
 use Rattle.gt_calls.specs.declared.request.Asked.TheVariants as asks
 use Rattle.gt_calls.specs.Rules.{CallerKnowledge, knowledge_of}
 use Rattle.gt_live.specs.declared.domain.Domain.{Domain}
-use Rattle.gt_live.specs.Domains.{IsDomainOf, Rights, done_by, frames_told, knowledge, size_told, verdict_of, verdict_of_frames}
+use Rattle.gt_live.specs.Domains.{IsDomainOf, AllowRelation, done_by, frames_told, knowledge, size_told, verdict_of, verdict_of_frames}
 use Rattle.gt_live.specs.Domains.{verdict_of_size, verdict_of_version, version_told}
 use Rattle.gt_live.specs.Driving.{IsSame, Knows, Leaves}
 use Rattle.gt_live.specs.Walks.{CarriesFound, TellsSteps}
@@ -43,13 +43,13 @@ use Rattle.gt_entry.specs.declared.change.Change.{Change}
 use Rattle.gt_live.specs.declared.driving.Effect.TheVariants.{Nothing, Pinned, Unpinned, Changed, Stored}
 
 -- what is known by lent parts is what is known
-pub same-knowledge : (c : Config) (may : Rights) (d : Domain) (own : List Own) (h : Header) → own ≡ d.own.items → h ≡ own_table d.seat.view
+pub same-knowledge : (c : Config) (may : AllowRelation) (d : Domain) (own : List Own) (h : Header) → own ≡ d.own.items → h ≡ own_table d.seat.view
     → knowledge_of c.domains.items c.first_gen may own h d.mappings ≡ knowledge c may d
 same-knowledge c may d own h e f =
     ap (λ (os : List Own). knowledge_of c.domains.items c.first_gen may os h d.mappings) e ∙ ap (λ (x : Header). knowledge_of c.domains.items c.first_gen may d.own.items x d.mappings) f
 
 -- a domain knows its own
-pub knows-own : (b : Board) (c : Config) (may : Rights) (d : Domain) → IsWithinLimits c → b.layout ≡ layout_of c → IsDomainOf b c may d → IsKeptHeader (own_table d.seat.view) → Knows (knowledge c may d) b.layout d.seat.dom d.seat.view
+pub knows-own : (b : Board) (c : Config) (may : AllowRelation) (d : Domain) → IsWithinLimits c → b.layout ≡ layout_of c → IsDomainOf b c may d → IsKeptHeader (own_table d.seat.view) → Knows (knowledge c may d) b.layout d.seat.dom d.seat.view
 knows-own b c may d limits run is kept = record {
   named = is.seat.named;
   inside = is.seat.inside;
@@ -153,6 +153,6 @@ frames-back n _ a = absurd a
 
 -- a map's answer
 
-pub roomier-inserted : (old' old new : Kept Held) (h : Handle) (p : Held) → old' ≡ record old { room = old'.room } → IsInserted old' new h p → IsInserted old new h p
+pub roomier-inserted : (old' old new : HandleMap Held) (h : Handle) (p : Held) → old' ≡ record old { room = old'.room } → IsInserted old' new h p → IsInserted old new h p
 roomier-inserted old' old new h p room i =
-    let j = subst (λ (z : Kept Held). IsInserted z new h p) room i in record { fresh = j.fresh; updates = j.updates; count = j.count; given = j.given }
+    let j = subst (λ (z : HandleMap Held). IsInserted z new h p) room i in record { fresh = j.fresh; updates = j.updates; count = j.count; given = j.given }

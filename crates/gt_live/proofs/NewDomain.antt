@@ -9,7 +9,7 @@ use Rattle.gt_words.specs.Conditions.{Board, IsNewSeat}
 use Rattle.gt_words.specs.Rule.{Layout, layout_of}
 use Rattle.gt_words.specs.Views.{LivePin, pins_like, entry_steps, invalid_at, last_record, pins}
 use Rattle.gt_words.specs.declared.view.SeatStep.{SeatStep}
-use Rattle.gt_handles.specs.Handles.{Kept, under, value_of}
+use Rattle.gt_handles.specs.Handles.{HandleMap, under, value_of}
 use Rattle.gt_handles.specs.Listing.{has_passing}
 use Rattle.gt_handles.specs.declared.handles.Handle.{Handle}
 use Rattle.gt_handles.specs.declared.handles.Slot.{Slot}
@@ -17,7 +17,7 @@ use Rattle.gt_audit.specs.Telling.{silent}
 use Rattle.gt_calls.specs.declared.held.Held.{Held}
 use Rattle.gt_calls.specs.declared.known.Own.{Own}
 use Rattle.gt_calls.specs.Rules.{row_entry, row_generation}
-use Rattle.gt_live.specs.Domains.{Rights}
+use Rattle.gt_live.specs.Domains.{AllowRelation}
 use Rattle.gt_live.specs.Mappings.{is_mapping_of}
 use Rattle.gt_live.specs.Starting.{first_rows, IsNewDomain}
 use Rattle.gt_live.specs.declared.domain.Domain.{Domain}
@@ -39,15 +39,15 @@ rows-length : (first : ℕ) → length (first_rows first) ≡ 2048
 unfolding first_rows
 rows-length first = same-length 2048 (record { entry = Invalid; generation = first })
 
-nothing-there : (s : Kept Held) (h : Handle) (m : Held) → s.slots ≡ [] → value_of s h ≡ Some m → ⊥
+nothing-there : (s : HandleMap Held) (h : Handle) (m : Held) → s.slots ≡ [] → value_of s h ≡ Some m → ⊥
 nothing-there s h m e there = let none : value_of s h ≡ None = ap (λ (xs : List (Option (Slot Held))). under h.serial (get_or xs h.key None)) e in cc
 
-pub new-domain : (b : Board) (c : Config) (may : Rights) (i : ℕ) (d : Domain) → IsWithinLimits c → b.layout ≡ layout_of c → IsNewSeat b i d.seat → d.own.items ≡ first_rows c.first_gen → d.mappings ≡ record { slots = []; given = 0; room = 0 } → d.trail ≡ silent → IsNewDomain b c may i d
+pub new-domain : (b : Board) (c : Config) (may : AllowRelation) (i : ℕ) (d : Domain) → IsWithinLimits c → b.layout ≡ layout_of c → IsNewSeat b i d.seat → d.own.items ≡ first_rows c.first_gen → d.mappings ≡ record { slots = []; given = 0; room = 0 } → d.trail ≡ silent → IsNewDomain b c may i d
 new-domain b c may i d limits run new own mappings trail =
     let v = d.seat.view in
     let first : v.first ≡ c.first_gen = new.first ∙ ap (λ (k : Layout). k.first) run in
     let few = limits.generation in
-    let slots : d.mappings.slots ≡ [] = ap (λ (k : Kept Held). k.slots) mappings in
+    let slots : d.mappings.slots ≡ [] = ap (λ (k : HandleMap Held). k.slots) mappings in
     let none : (t r : ℕ) → pins (entry_steps t r v.steps) ≡ [] = λ t r. ap (λ (xs : List SeatStep). pins (entry_steps t r xs)) new.steps in
     record {
       domain = record {

@@ -22,7 +22,7 @@ use Rattle.gt_words.specs.Controls.{generation_of}
 use Rattle.gt_words.specs.Rule.{Layout, position_in}
 use Rattle.gt_words.specs.Views.{last_of, own_table, pins, steps_on}
 use Rattle.gt_words.specs.declared.view.View.{View}
-use Rattle.gt_handles.specs.Handles.{Kept, value_of}
+use Rattle.gt_handles.specs.Handles.{HandleMap, value_of}
 use Rattle.gt_handles.specs.declared.handles.Handle.{Handle}
 use Rattle.gt_calls.specs.declared.action.Verdict.{Verdict}
 use Rattle.gt_calls.specs.declared.action.Verdict.TheVariants.{Granted, Given, Mapped, Refused}
@@ -53,15 +53,15 @@ use Rattle.gt_live.specs.Ending.{IsWordless}
 use Rattle.gt_live.specs.Walks.{Called}
 
 -- whose type may do what to whose (XSM FLASK)
-abbrev pub Rights : Type 0
-Rights = TypeId → TypeId → Perms → Bool
+abbrev pub AllowRelation : Type 0
+AllowRelation = TypeId → TypeId → Perms → Bool
 
 -- what a domain knows by itself (own)
-abbrev pub knowledge : Config → Rights → Domain → CallerKnowledge
+abbrev pub knowledge : Config → AllowRelation → Domain → CallerKnowledge
 knowledge c may d = knowledge_of c.domains.items c.first_gen may d.own.items (own_table d.seat.view) d.mappings
 
 -- the domain is of the run of these words and knows its own entries, and its seat has just the pins of its mappings (own)
-pub record IsDomainOf (b : Board) (c : Config) (may : Rights) (d : Domain) : Type 0 where
+pub record IsDomainOf (b : Board) (c : Config) (may : AllowRelation) (d : Domain) : Type 0 where
   pub seat : IsSeatOf b d.seat
   pub rows : (r : ℕ) → r < TABLE_ENTRIES → last_of r d.seat.view ≡ record { generation = generation_in c.first_gen d.own.items r; entry = entry_in d.own.items r }
   pub generations : (r : ℕ) → r < TABLE_ENTRIES → generation_in c.first_gen d.own.items r < 1048576
@@ -70,19 +70,19 @@ pub record IsDomainOf (b : Board) (c : Config) (may : Rights) (d : Domain) : Typ
   pub pins : PinsAreOf b.layout d.seat.view d.mappings
 
 -- the domain came with this monitor (own)
-abbrev pub IsOf : {P : Type 0} → (P → Rights) → Monitor P → Domain → Type 0
+abbrev pub IsOf : {P : Type 0} → (P → AllowRelation) → Monitor P → Domain → Type 0
 IsOf may m d = IsDomainOf m.words m.config (may m.rights) d
 
 -- what the domain knows by itself, and what the monitor allows (own)
-abbrev pub known : {P : Type 0} → (P → Rights) → Monitor P → Domain → CallerKnowledge
+abbrev pub known : {P : Type 0} → (P → AllowRelation) → Monitor P → Domain → CallerKnowledge
 known may m d = knowledge m.config (may m.rights) d
 
 -- a call of the domain d asked this and was answered so, after which the domain is e: its steps are those of the call's path, each made as the words say, and the answer is the path's (own)
-abbrev pub Answered : {P : Type 0} → (P → Rights) → Monitor P → Domain → Request → Verdict → Domain → Type 0
+abbrev pub Answered : {P : Type 0} → (P → AllowRelation) → Monitor P → Domain → Request → Verdict → Domain → Type 0
 Answered may m d request verdict e = Called m.words.layout (path_of (known may m d) d.seat.dom request) verdict d.seat.view e.seat.view
 
 -- the same of a call with an access, whose answer says this of it (own)
-abbrev pub Accesses : {P R : Type 0} → (P → Rights) → Monitor P → Domain → Request → (Step → R → Type 0) → Result R Denial → Domain → Type 0
+abbrev pub Accesses : {P R : Type 0} → (P → AllowRelation) → Monitor P → Domain → Request → (Step → R → Type 0) → Result R Denial → Domain → Type 0
 Accesses may m d request tells result e = AnsweredBy m.words.layout (path_of (known may m d) d.seat.dom request) tells result d.seat.view e.seat.view
 
 -- the domain has the mappings and pins that it had (own)
@@ -114,7 +114,7 @@ verdict_of_frames (Ok frames) = Given (Frames frames)
 verdict_of_frames (Err denial) = Refused denial
 
 -- A map is answered so: by its path, which ends with the mapping that is kept under the handle answered; or, where no rule stood at its beginning and no memory was there, by N26 after no step (own)
-abbrev pub MapAnswered : {P : Type 0} → (P → Rights) → Monitor P → Domain → Request → Result Handle Denial → Domain → Type 0
+abbrev pub MapAnswered : {P : Type 0} → (P → AllowRelation) → Monitor P → Domain → Request → Result Handle Denial → Domain → Type 0
 MapAnswered may m d request (Ok handle) e = (p : Held) × Answered may m d request (Mapped p) e × Adds d.mappings e.mappings handle p
 MapAnswered may m d request (Err denial) e =
     (Answered may m d request (Refused denial) e
@@ -148,7 +148,7 @@ pub record IsUnsettled (d e : Domain) : Type 0 where
 
 -- a domain of a run stays one of it (own)
 abbrev pub StaysOfRun : Domain → Domain → Type 0
-StaysOfRun d e = (b : Board) (c : Config) (may : Rights) → IsDomainOf b c may d → IsDomainOf b c may e
+StaysOfRun d e = (b : Board) (c : Config) (may : AllowRelation) → IsDomainOf b c may d → IsDomainOf b c may e
 
 -- Ok, or the refusal (own)
 abbrev pub done_by : Verdict → Result (Unit {0}) Denial
@@ -174,16 +174,16 @@ frames_told (Given (Frames frames)) = Ok frames
 frames_told verdict = Ok 0
 
 -- the pins of the mappings under these handles were given back, one after another, the last handle first, and nothing else was done (own)
-abbrev pub Released : Layout → List Handle → Kept Held → View → Kept Held → View → Type 0
+abbrev pub Released : Layout → List Handle → HandleMap Held → View → HandleMap Held → View → Type 0
 Released k [] old v new w = (new ≡ old) × (w ≡ v)
 Released k (h ∷ hs) old v new w =
-    (m : Held) × (mid : Kept Held) × (u : View) × Released k hs old v mid u × Removes mid new h m
+    (m : Held) × (mid : HandleMap Held) × (u : View) × Released k hs old v mid u × Removes mid new h m
     × Unpins k (position_in k.ids m.dom) m.gref.0 m.dir (generation_of m.word) u w
 
 -- A domain has left: the pin of each of its mappings was given back, one after another and nothing else, and its seat has none (own)
 pub record HasLeft (k : Layout) (d : Domain) (l : Left) : Type 0 where
   pub handles : List Handle
-  pub rest : Kept Held
+  pub rest : HandleMap Held
   pub released : Released k handles d.mappings d.seat.view rest l.seat.view
   pub all_given : (h : Handle) → value_of rest h ≡ None
   pub seat : IsSameSeat d.seat l.seat

@@ -16,7 +16,7 @@ use Rattle.gt_words.specs.Rule.{Layout, position_in}
 use Rattle.gt_words.specs.Keeping.{held}
 use Rattle.gt_words.specs.Views.{is_same_dir}
 use Rattle.gt_words.specs.declared.view.View.{View}
-use Rattle.gt_handles.specs.Handles.{Kept, KeepsSpent}
+use Rattle.gt_handles.specs.Handles.{HandleMap, KeepsSpent}
 use Rattle.gt_handles.specs.Listing.{IsInserted, IsTaken, count_passing}
 use Rattle.gt_handles.specs.declared.handles.Handle.{Handle}
 use Rattle.gt_calls.specs.declared.held.Held.{Held}
@@ -47,21 +47,21 @@ abbrev pub is_mapping_of : Layout → ℕ → ℕ → Dir → ℕ → Held → B
 is_mapping_of k t r d g m = (position_in k.ids m.dom == t) && ((m.gref.0 == r) && (is_same_dir d m.dir && (g == generation_of m.word)))
 
 -- the pins of the view are just those of the mappings: of each kind and generation as many, on each entry (own)
-abbrev pub PinsAreOf : Layout → View → Kept Held → Type 0
+abbrev pub PinsAreOf : Layout → View → HandleMap Held → Type 0
 PinsAreOf k v kept = (t r : ℕ) (d : Dir) (g : ℕ) → held t r d g v ≡ count_passing (is_mapping_of k t r d g) kept
 
 -- the mappings under their handles, and the serials given, are as they were (own)
-pub record KeepsMappings (old new : Kept Held) : Type 0 where
+pub record KeepsMappings (old new : HandleMap Held) : Type 0 where
   pub slots : new.slots ≡ old.slots
   pub given : new.given ≡ old.given
 
 -- this mapping is kept under a new handle, and all else is as it was (own)
-pub record Adds (old new : Kept Held) (h : Handle) (p : Held) : Type 0 where
+pub record Adds (old new : HandleMap Held) (h : Handle) (p : Held) : Type 0 where
   pub serial : h.serial ≡ old.given
   pub inserted : IsInserted old new h p
   pub spent : KeepsSpent old new
 
 -- the mapping under this handle is gone, and all else is as it was (own)
-pub record Removes (old new : Kept Held) (h : Handle) (p : Held) : Type 0 where
+pub record Removes (old new : HandleMap Held) (h : Handle) (p : Held) : Type 0 where
   pub taken : IsTaken old new h p
   pub spent : KeepsSpent old new

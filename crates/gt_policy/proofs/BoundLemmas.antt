@@ -10,16 +10,16 @@ use Rattle.gt_types.specs.declared.perms.Perms.{Perms}
 use Rattle.gt_policy.specs.declared.symbols.Symbol.{Symbol}
 use Rattle.gt_policy.specs.declared.symbols.Symbol.TheVariants.{IsType, IsAttribute}
 use Rattle.gt_policy.specs.declared.statements.Mention.{Mention}
-use Rattle.gt_policy.specs.declared.statements.Item.{Item}
-use Rattle.gt_policy.specs.declared.statements.Item.TheVariants as item
+use Rattle.gt_policy.specs.declared.statements.SetElement.{SetElement}
+use Rattle.gt_policy.specs.declared.statements.SetElement.TheVariants as item
 use Rattle.gt_policy.specs.declared.statements.Statement.{Statement}
 use Rattle.gt_policy.specs.declared.statements.Statement.TheVariants.{DeclareType, DeclareAttribute, GiveAttributes, Allow}
-use Rattle.gt_policy.specs.declared.resolve.Element.{Element}
-use Rattle.gt_policy.specs.declared.resolve.Element.TheVariants.{With, Without, Itself}
-use Rattle.gt_policy.specs.declared.resolve.Given.{Given}
+use Rattle.gt_policy.specs.declared.resolve.DraftElement.{DraftElement}
+use Rattle.gt_policy.specs.declared.resolve.DraftElement.TheVariants.{With, Without, Itself}
+use Rattle.gt_policy.specs.declared.resolve.TypeAttribute.{TypeAttribute}
 use Rattle.gt_policy.specs.declared.resolve.DraftRule.{DraftRule}
 use Rattle.gt_policy.specs.declared.resolve.Draft.{Draft}
-use Rattle.gt_policy.specs.declared.rules.Rule.{Rule}
+use Rattle.gt_policy.specs.declared.rules.AllowRule.{AllowRule}
 use Rattle.gt_policy.specs.Names.{Names, symbol_of}
 use Rattle.gt_policy.specs.Resolving.{known, type_in, attribute_in, element_of, elements_of, given_by, with_statement, resolved, granted, nothing_given}
 use Rattle.gt_policy.specs.Allowing.{was_given, stands_for, is_with, holds_type, says_itself, is_granted_by, some_grants, AreWithin}
@@ -66,7 +66,7 @@ module _ (names : Names) where
       let next : ℕ → Draft = λ b. record { given = d.given ++ record { to = id; attribute = b } ∷ []; rules = d.rules } in
       let b = bind_ok (attribute_in names m.name m.line) (λ b. given_by names (next b) id ms) end e in
       let more : (c : ℕ) → Bounded (was_given (next b.0).given c) = λ c k is.
-      elim (one_more (λ (g : Given). (k == g.to) && (c == g.attribute)) d.given (record { to = id; attribute = b.0 }) is) [
+      elim (one_more (λ (g : TypeAttribute). (k == g.to) && (c == g.attribute)) d.given (record { to = id; attribute = b.0 }) is) [
         | inl old ↦ so_far c k old
         | inr here ↦ subst (λ (j : ℕ). j < length names.types) (sym (eqb-true k id (left (k == id) (c == b.0) here))) low
       ] in
@@ -83,7 +83,7 @@ module _ (names : Names) where
       give_bound ms d end b.0 (type_bound m.name b.0 (type_ok m.name m.line (symbol_of names m.name) b.0 b.1)) b.2 so_far a n h
   statement_bound (Allow r) d end e so_far a n h =
       let b = allow_read names d end r e in
-      so_far a n (ap (λ (g : List Given). was_given g a n) (sym b.4) ∙ h)
+      so_far a n (ap (λ (g : List TypeAttribute). was_given g a n) (sym b.4) ∙ h)
 
   statements_bound : (ss : List Statement) (d end : Draft) → resolved names d ss ≡ Ok end → ((a : ℕ) → Bounded (was_given d.given a)) → (a : ℕ) → Bounded (was_given end.given a)
   statements_bound [] d end e so_far a n h = so_far a n (ap (λ (q : Draft). was_given q.given a n) (ok_part d end e) ∙ h)
@@ -97,7 +97,7 @@ module _ (names : Names) where
     stands_bound w (IsType t) e n h = subst (λ (k : ℕ). k < length names.types) (sym (eqb-true n t h)) (type_bound w t e)
     stands_bound w (IsAttribute a) e n h = all a n h
 
-    item_bound : (i : Item) (x : Element) → element_of names i ≡ Ok x → Bounded (is_with has x)
+    item_bound : (i : SetElement) (x : DraftElement) → element_of names i ≡ Ok x → Bounded (is_with has x)
     unfolding element_of
     item_bound (item.With m) x e n h =
         let b = bind_ok (known names m.name m.line) (λ s. ok_of (With s)) x e in
@@ -107,15 +107,15 @@ module _ (names : Names) where
         absurd (false≢true (ap (λ y. is_with has y n) (ok_part (Without b.0) x b.2) ∙ h))
     item_bound item.Itself x e n h = absurd (false≢true (ap (λ y. is_with has y n) (ok_part Itself x e) ∙ h))
 
-    items_bound : (items : List Item) (set els : List Element) → elements_of names set items ≡ Ok els → Bounded (λ n. list_any (λ x. is_with has x n) set) → Bounded (λ n. list_any (λ x. is_with has x n) els)
-    items_bound [] set els e so_far n h = so_far n (ap (λ (xs : List Element). list_any (λ x. is_with has x n) xs) (ok_part set els e) ∙ h)
+    items_bound : (items : List SetElement) (set els : List DraftElement) → elements_of names set items ≡ Ok els → Bounded (λ n. list_any (λ x. is_with has x n) set) → Bounded (λ n. list_any (λ x. is_with has x n) els)
+    items_bound [] set els e so_far n h = so_far n (ap (λ (xs : List DraftElement). list_any (λ x. is_with has x n) xs) (ok_part set els e) ∙ h)
     items_bound (i ∷ items) set els e so_far n h =
         let b = bind_ok (element_of names i) (λ x. elements_of names (set ++ x ∷ []) items) els e in
         let more : Bounded (λ n. list_any (λ x. is_with has x n) (set ++ b.0 ∷ [])) = λ k is.
         elim (one_more (λ x. is_with has x k) set b.0 is) [ inl old ↦ so_far k old | inr here ↦ item_bound i b.0 b.1 k here ] in
         items_bound items (set ++ b.0 ∷ []) els b.2 more n h
 
-    set_bound : (items : List Item) (els : List Element) → elements_of names [] items ≡ Ok els → Bounded (holds_type has els)
+    set_bound : (items : List SetElement) (els : List DraftElement) → elements_of names [] items ≡ Ok els → Bounded (holds_type has els)
     set_bound items els e n h = items_bound items [] els e (λ k none. absurd (false≢true none)) n (left _ _ h)
 
     rule_between : (d end : Draft) (s : Statement) → with_statement names d s ≡ Ok end → Between has d.rules → Between has end.rules
@@ -156,7 +156,7 @@ module _ (names : Names) where
       rules_between (was_given d.given) (statements_bound ss nothing_given d e (λ a n none. absurd (false≢true none))) ss nothing_given d e (λ s t perm none. absurd (false≢true none))
 
 -- so do the kept rules of statements
-pub grants_within : {S : Type 0} (bytes : S → List ℕ) (items : List S) (seen : Names) (ss : List Statement) (d : Draft) (rules : List Rule) → map bytes items ≡ seen.types → resolved seen nothing_given ss ≡ Ok d
+pub grants_within : {S : Type 0} (bytes : S → List ℕ) (items : List S) (seen : Names) (ss : List Statement) (d : Draft) (rules : List AllowRule) → map bytes items ≡ seen.types → resolved seen nothing_given ss ≡ Ok d
     → ((s t : ℕ) (perm : Perms) → some_grants rules s t perm ≡ list_any (λ rule. is_granted_by (was_given d.given) s t perm rule) d.rules) → AreWithin (length items) rules
 grants_within {S = S} bytes items seen ss d rules named e same s t perm h =
     let count : length seen.types ≡ length items = ap (λ (ts : List (List ℕ)). length ts) (sym named) ∙ length-map items bytes in

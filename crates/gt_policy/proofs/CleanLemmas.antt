@@ -6,8 +6,8 @@ use Rattle.std.specs.Str.{bytes_eq}
 use Rattle.std.proofs.lemmas.Bool.Decides.{nat_tests}
 use Rattle.std.proofs.lemmas.Iterator.Adapters.{position_from-zero}
 use Rattle.std.proofs.lemmas.List.Folds.{list_any-append}
-use Rattle.gt_policy.specs.declared.fault.Fault.{Fault}
-use Rattle.gt_policy.specs.declared.fault.Kind.TheVariants.{Twice, Limit}
+use Rattle.gt_policy.specs.declared.fault.TokenFault.{TokenFault}
+use Rattle.gt_policy.specs.declared.fault.TokenFaultKind.TheVariants.{Twice, Limit}
 use Rattle.gt_policy.specs.declared.statements.Statement.{Statement}
 use Rattle.gt_policy.specs.declared.statements.Statement.TheVariants.{DeclareType, DeclareAttribute, GiveAttributes, Allow}
 use Rattle.gt_policy.specs.Names.{Names, no_names, symbol_at, is_declared, with_type, with_attribute, with_allow}
@@ -113,10 +113,10 @@ same_names : (t t' a a' : List (List ℕ)) (n n' : ℕ) → t ≡ t' → a ≡ a
 same_names t t' a a' n n' e f g = ap (λ x. names x a n) e ∙ ap (λ x. names t' x n) f ∙ ap (λ x. names t' a' x) g
 
 -- each statement by itself
-tests_pass : (v u : Bool) (f g : Fault) (x : Names) → v ≡ false → u ≡ true → (if v then Err f else (if u then ok_of x else Err g)) ≡ ok_of x
+tests_pass : (v u : Bool) (f g : TokenFault) (x : Names) → v ≡ false → u ≡ true → (if v then Err f else (if u then ok_of x else Err g)) ≡ ok_of x
 tests_pass v u f g x d e = rw (d, e) refl
 
-tests_passed : (v u : Bool) (f g : Fault) (x y : Names) → (if v then Err f else (if u then ok_of x else Err g)) ≡ ok_of y → (v ≡ false) × (u ≡ true) × (x ≡ y)
+tests_passed : (v u : Bool) (f g : TokenFault) (x y : Names) → (if v then Err f else (if u then ok_of x else Err g)) ≡ ok_of y → (v ≡ false) × (u ≡ true) × (x ≡ y)
 tests_passed true u f g x y e = absurd (cc)
 tests_passed false true f g x y e = (refl, refl, ok_part x y e)
 tests_passed false false f g x y e = absurd (cc)
@@ -169,14 +169,14 @@ room_added (DeclareType w ms ∷ ss) seen r =
     let longer = length-push seen.types w in
     let next : Names = plus_type seen w in
     let after : Room next ss = record { distinct = r.distinct.1; new = new_after seen next w (declared_in ss) (known_type seen w) r.new.1 r.distinct.0; types = omega arith; attributes = r.attributes; allows = r.allows } in
-    ap (λ (q : Result Names Fault). q >>= λ n. all_added n ss) (type_added seen w r.new.0 (omega arith)) ∙ room_added ss next after
+    ap (λ (q : Result Names TokenFault). q >>= λ n. all_added n ss) (type_added seen w r.new.0 (omega arith)) ∙ room_added ss next after
     ∙ ap (λ (xs : List (List ℕ)). ok_of (names xs (seen.attributes ++ attributes_in ss) (seen.allows + allows_in ss))) (append_assoc seen.types (w ∷ []) (types_in ss))
 room_added (DeclareAttribute w ∷ ss) seen r =
     let t = r.attributes in
     let longer = length-push seen.attributes w in
     let next : Names = plus_attribute seen w in
     let after : Room next ss = record { distinct = r.distinct.1; new = new_after seen next w (declared_in ss) (known_attribute seen w) r.new.1 r.distinct.0; types = r.types; attributes = omega arith; allows = r.allows } in
-    ap (λ (q : Result Names Fault). q >>= λ n. all_added n ss) (attribute_added seen w r.new.0 (omega arith)) ∙ room_added ss next after
+    ap (λ (q : Result Names TokenFault). q >>= λ n. all_added n ss) (attribute_added seen w r.new.0 (omega arith)) ∙ room_added ss next after
     ∙ ap (λ (xs : List (List ℕ)). ok_of (names (seen.types ++ types_in ss) xs (seen.allows + allows_in ss))) (append_assoc seen.attributes (w ∷ []) (attributes_in ss))
 room_added (GiveAttributes m ms ∷ ss) seen r =
     let after : Room seen ss = record { distinct = r.distinct; new = r.new; types = r.types; attributes = r.attributes; allows = r.allows } in
@@ -185,7 +185,7 @@ room_added (Allow a ∷ ss) seen r =
     let t = r.allows in
     let next : Names = plus_allow seen in
     let after : Room next ss = record { distinct = r.distinct; new = new_allow seen (declared_in ss) r.new; types = r.types; attributes = r.attributes; allows = omega arith } in
-    ap (λ (q : Result Names Fault). q >>= λ n. all_added n ss) (allow_added seen (omega arith)) ∙ room_added ss next after
+    ap (λ (q : Result Names TokenFault). q >>= λ n. all_added n ss) (allow_added seen (omega arith)) ∙ room_added ss next after
     ∙ ap (λ n. ok_of (names (seen.types ++ types_in ss) (seen.attributes ++ attributes_in ss) n)) (let e : seen.allows + 1 + allows_in ss ≡ seen.allows + (allows_in ss + 1) = omega arith in e)
   where
     new_allow : (seen : Names) (ws : List (List ℕ)) → AllNew seen ws → AllNew (plus_allow seen) ws

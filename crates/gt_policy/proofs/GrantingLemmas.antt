@@ -9,18 +9,18 @@ use Rattle.std.proofs.lemmas.List.Folds.{list_any-append}
 use Rattle.std.proofs.lemmas.List.Quantifiers.{position-Some}
 use Rattle.std.proofs.lemmas.Slice.Eq.{bytes_eq-Decides}
 use Rattle.gt_types.specs.declared.perms.Perms.{Perms}
-use Rattle.gt_policy.specs.declared.fault.Fault.{Fault}
+use Rattle.gt_policy.specs.declared.fault.TokenFault.{TokenFault}
 use Rattle.gt_policy.specs.declared.symbols.Symbol.{Symbol}
 use Rattle.gt_policy.specs.declared.symbols.Symbol.TheVariants.{IsType, IsAttribute}
 use Rattle.gt_policy.specs.declared.statements.Mention.{Mention}
-use Rattle.gt_policy.specs.declared.statements.Item.{Item}
-use Rattle.gt_policy.specs.declared.statements.Item.TheVariants as item
+use Rattle.gt_policy.specs.declared.statements.SetElement.{SetElement}
+use Rattle.gt_policy.specs.declared.statements.SetElement.TheVariants as item
 use Rattle.gt_policy.specs.declared.statements.Statement.{Statement}
 use Rattle.gt_policy.specs.declared.statements.Statement.TheVariants.{DeclareType, DeclareAttribute, GiveAttributes, Allow}
 use Rattle.gt_policy.specs.declared.statements.Allowance.{Allowance}
-use Rattle.gt_policy.specs.declared.resolve.Element.{Element}
-use Rattle.gt_policy.specs.declared.resolve.Element.TheVariants.{With, Without, Itself}
-use Rattle.gt_policy.specs.declared.resolve.Given.{Given}
+use Rattle.gt_policy.specs.declared.resolve.DraftElement.{DraftElement}
+use Rattle.gt_policy.specs.declared.resolve.DraftElement.TheVariants.{With, Without, Itself}
+use Rattle.gt_policy.specs.declared.resolve.TypeAttribute.{TypeAttribute}
 use Rattle.gt_policy.specs.declared.resolve.DraftRule.{DraftRule}
 use Rattle.gt_policy.specs.declared.resolve.Draft.{Draft}
 use Rattle.gt_types.specs.declared.TypeId.{TypeId}
@@ -133,7 +133,7 @@ give_read names aw a is (m ∷ ms) d end id n e =
     let b = bind_ok (attribute_in names m.name m.line) (λ b. given_by names (next b) id ms) end e in
     let here = attribute_ok m.name m.line (symbol_of names m.name) b.0 b.1 in
     give_read names aw a is ms (next b.0) end id n b.2
-    ∙ ap (λ x. x || ((n == id) && mentions ms aw)) (list_any-append (λ (g : Given). (n == g.to) && (a == g.attribute)) d.given (record { to = id; attribute = b.0 } ∷ []))
+    ∙ ap (λ x. x || ((n == id) && mentions ms aw)) (list_any-append (λ (g : TypeAttribute). (n == g.to) && (a == g.attribute)) d.given (record { to = id; attribute = b.0 } ∷ []))
     ∙ one_given (was_given d.given a n) (n == id) (a == b.0) (mentions ms aw)
     ∙ ap (λ x. was_given d.given a n || ((n == id) && (x || mentions ms aw))) (sym (same_attribute names m.name aw a b.0 here is))
 
@@ -154,14 +154,14 @@ give_none names w i is (m ∷ ms) d end id e =
     rw other (give_none names w i is ms (next b.0) end id b.2)
 
 -- an allow statement
-abbrev pub rule_of : List Element → List Element → Perms → DraftRule
+abbrev pub rule_of : List DraftElement → List DraftElement → Perms → DraftRule
 rule_of s t p = record { source = s; target = t; perms = p }
 
 pub allow_read : (names : Names) (d end : Draft) (a : Allowance) → allowed_by names d a ≡ Ok end
-    → (s : List Element) × (t : List Element) × (elements_of names [] a.source ≡ Ok s) × (elements_of names [] a.target ≡ Ok t) × (end.given ≡ d.given) × (end.rules ≡ d.rules ++ rule_of s t (granted a.classes a.perms) ∷ [])
+    → (s : List DraftElement) × (t : List DraftElement) × (elements_of names [] a.source ≡ Ok s) × (elements_of names [] a.target ≡ Ok t) × (end.given ≡ d.given) × (end.rules ≡ d.rules ++ rule_of s t (granted a.classes a.perms) ∷ [])
 unfolding allowed_by
 allow_read names d end a e =
-    let made : List Element → List Element → Draft = λ s t. record { given = d.given; rules = d.rules ++ rule_of s t (granted a.classes a.perms) ∷ [] } in
+    let made : List DraftElement → List DraftElement → Draft = λ s t. record { given = d.given; rules = d.rules ++ rule_of s t (granted a.classes a.perms) ∷ [] } in
     let b1 = bind_ok (elements_of names [] a.source) (λ s. elements_of names [] a.target >>= λ t. ok_of (made s t)) end e in
     let b2 = bind_ok (elements_of names [] a.target) (λ t. ok_of (made b1.0 t)) end b1.2 in
     let same = sym (ok_part (made b1.0 b2.0) end b2.2) in
@@ -182,7 +182,7 @@ statement_given names aw t a n is_a is_t (GiveAttributes m ms) d end e =
     give_read names aw a is_a ms d end b.0 n b.2 ∙ ap (λ x. was_given d.given a n || (x && mentions ms aw)) (sym (same_type names m.name t n b.0 here is_t))
 statement_given names aw t a n is_a is_t (Allow r) d end e =
     let b = allow_read names d end r e in
-    ap (λ (g : List Given). was_given g a n) b.4 ∙ or_false (was_given d.given a n)
+    ap (λ (g : List TypeAttribute). was_given g a n) b.4 ∙ or_false (was_given d.given a n)
 
 statements_given : (names : Names) (aw t : List ℕ) (a n : ℕ) → symbol_of names aw ≡ Some (IsAttribute a) → symbol_of names t ≡ Some (IsType n) → (ss : List Statement) (d end : Draft) → resolved names d ss ≡ Ok end
     → was_given end.given a n ≡ (was_given d.given a n || list_any (λ s. gives s aw t) ss)
@@ -219,7 +219,7 @@ module _ (names : Names) (ss : List Statement) (has : ℕ → ℕ → Bool) (kno
   stands_named w t n (IsType i) e is = sym (same_type names w t n i e is) ∙ or_false (bytes_eq w t) ∙ ap (λ x. bytes_eq w t || x) (sym (knows.none w t i e))
   stands_named w t n (IsAttribute a) e is = knows.given w t a n e is ∙ ap (λ x. x || list_any (λ s. gives s w t) ss) (sym (apart names w t n a e is))
 
-  item_with : (t : List ℕ) (n : ℕ) → symbol_of names t ≡ Some (IsType n) → (i : Item) (x : Element) → element_of names i ≡ Ok x → is_with has x n ≡ names_with ss i t
+  item_with : (t : List ℕ) (n : ℕ) → symbol_of names t ≡ Some (IsType n) → (i : SetElement) (x : DraftElement) → element_of names i ≡ Ok x → is_with has x n ≡ names_with ss i t
   unfolding element_of
   item_with t n is (item.With m) x e =
       let b = bind_ok (known names m.name m.line) (λ s. ok_of (With s)) x e in
@@ -229,7 +229,7 @@ module _ (names : Names) (ss : List Statement) (has : ℕ → ℕ → Bool) (kno
       ap (λ y. is_with has y n) (sym (ok_part (Without b.0) x b.2))
   item_with t n is item.Itself x e = ap (λ y. is_with has y n) (sym (ok_part Itself x e))
 
-  item_without : (t : List ℕ) (n : ℕ) → symbol_of names t ≡ Some (IsType n) → (i : Item) (x : Element) → element_of names i ≡ Ok x → is_without has x n ≡ names_without ss i t
+  item_without : (t : List ℕ) (n : ℕ) → symbol_of names t ≡ Some (IsType n) → (i : SetElement) (x : DraftElement) → element_of names i ≡ Ok x → is_without has x n ≡ names_without ss i t
   unfolding element_of
   item_without t n is (item.With m) x e =
       let b = bind_ok (known names m.name m.line) (λ s. ok_of (With s)) x e in
@@ -239,7 +239,7 @@ module _ (names : Names) (ss : List Statement) (has : ℕ → ℕ → Bool) (kno
       ap (λ y. is_without has y n) (sym (ok_part (Without b.0) x b.2)) ∙ stands_named m.name t n b.0 (known_ok m.name m.line (symbol_of names m.name) b.0 b.1) is
   item_without t n is item.Itself x e = ap (λ y. is_without has y n) (sym (ok_part Itself x e))
 
-  item_self : (i : Item) (x : Element) → element_of names i ≡ Ok x → is_itself x ≡ is_self i
+  item_self : (i : SetElement) (x : DraftElement) → element_of names i ≡ Ok x → is_itself x ≡ is_self i
   unfolding element_of
   item_self (item.With m) x e =
       let b = bind_ok (known names m.name m.line) (λ s. ok_of (With s)) x e in
@@ -249,16 +249,16 @@ module _ (names : Names) (ss : List Statement) (has : ℕ → ℕ → Bool) (kno
       ap (λ y. is_itself y) (sym (ok_part (Without b.0) x b.2))
   item_self item.Itself x e = ap (λ y. is_itself y) (sym (ok_part Itself x e))
 
-  items_any : (p : Element → Bool) (q : Item → Bool) → ((i : Item) (x : Element) → element_of names i ≡ Ok x → p x ≡ q i) → (items : List Item) (set els : List Element) → elements_of names set items ≡ Ok els
+  items_any : (p : DraftElement → Bool) (q : SetElement → Bool) → ((i : SetElement) (x : DraftElement) → element_of names i ≡ Ok x → p x ≡ q i) → (items : List SetElement) (set els : List DraftElement) → elements_of names set items ≡ Ok els
       → list_any p els ≡ (list_any p set || list_any q items)
-  items_any p q each [] set els e = ap (λ (xs : List Element). list_any p xs) (sym (ok_part set els e)) ∙ or_false (list_any p set)
+  items_any p q each [] set els e = ap (λ (xs : List DraftElement). list_any p xs) (sym (ok_part set els e)) ∙ or_false (list_any p set)
   items_any p q each (i ∷ items) set els e =
       let b = bind_ok (element_of names i) (λ x. elements_of names (set ++ x ∷ []) items) els e in
       items_any p q each items (set ++ b.0 ∷ []) els b.2
       ∙ ap (λ x. x || list_any q items) (list_any-append p set (b.0 ∷ []) ∙ ap (λ x. list_any p set || x) (sym (or_false (p b.0)) ∙ each i b.0 b.1))
       ∙ or_assoc (list_any p set) (q i) (list_any q items)
 
-  set_named : (t : List ℕ) (n : ℕ) → symbol_of names t ≡ Some (IsType n) → (items : List Item) (els : List Element) → elements_of names [] items ≡ Ok els → holds_type has els n ≡ set_holds ss items t
+  set_named : (t : List ℕ) (n : ℕ) → symbol_of names t ≡ Some (IsType n) → (items : List SetElement) (els : List DraftElement) → elements_of names [] items ≡ Ok els → holds_type has els n ≡ set_holds ss items t
   set_named t n is items els e =
       ap (λ x. x && not (list_any (λ y. is_without has y n) els)) (items_any (λ y. is_with has y n) (λ i. names_with ss i t) (item_with t n is) items [] els e)
       ∙ ap (λ x. list_any (λ i. names_with ss i t) items && not x) (items_any (λ y. is_without has y n) (λ i. names_without ss i t) (item_without t n is) items [] els e)
@@ -301,7 +301,7 @@ module _ (names : Names) (ss : List Statement) (has : ℕ → ℕ → Bool) (kno
       ∙ ap (λ y. y || list_any (λ x. statement_grants ss s t w x) xs) (statement_rules s t w i j perm is_s is_t is_w x d b.0 b.1)
       ∙ or_assoc (list_any (λ r. is_granted_by has i j perm r) d.rules) (statement_grants ss s t w x) (list_any (λ x. statement_grants ss s t w x) xs)
 
-meaning_ok : (names : Names) (r : Result Draft Fault) (m : Meaning) → meaning_of names r ≡ Ok m → (d : Draft) × (r ≡ Ok d) × (m.types ≡ names.types) × (m.given ≡ d.given) × (m.rules ≡ d.rules)
+meaning_ok : (names : Names) (r : Result Draft TokenFault) (m : Meaning) → meaning_of names r ≡ Ok m → (d : Draft) × (r ≡ Ok d) × (m.types ≡ names.types) × (m.given ≡ d.given) × (m.rules ≡ d.rules)
 meaning_ok names (Ok d) m e =
     let made : Meaning = record { types = names.types; given = d.given; rules = d.rules } in
     let same = sym (ok_part made m e) in
@@ -327,6 +327,6 @@ allowed_granted named_one ss m s t w i j perm e is_s is_t is_w =
       none = λ v u k is. statements_none names v u k is ss nothing_given r.0 r.1;
     } in
     ap (λ b. b && list_any (λ rule. is_granted_by (was_given m.given) i.0 j.0 perm rule) m.rules) (named_one w perm is_w)
-    ∙ ap (λ (g : List Given). list_any (λ rule. is_granted_by (was_given g) i.0 j.0 perm rule) m.rules) r.3
+    ∙ ap (λ (g : List TypeAttribute). list_any (λ rule. is_granted_by (was_given g) i.0 j.0 perm rule) m.rules) r.3
     ∙ ap (λ (rs : List DraftRule). list_any (λ rule. is_granted_by (was_given r.0.given) i.0 j.0 perm rule) rs) r.4
     ∙ statements_rules names ss (was_given r.0.given) knows s t w i.0 j.0 perm (types s i is_s) (types t j is_t) is_w ss nothing_given r.0 r.1

@@ -1,8 +1,8 @@
 -- What the definitions of whole texts come to.
 use Rattle.std.proofs.Common.{◌≡◌, ◌<◌, ◌≤◌, ◌⊎◌, inl, inr, ℕ, Bool, true, false, List, [], ◌∷◌, ◌++◌, length, Result, Ok, Err, refl, sym, ap, ◌∙◌, subst, arith, nat_lt}
 use Rattle.std.proofs.lemmas.Bool.Decides.{nat_tests}
-use Rattle.gt_policy.specs.declared.fault.Fault.{Fault}
-use Rattle.gt_policy.specs.declared.fault.Kind.TheVariants.{Limit}
+use Rattle.gt_policy.specs.declared.fault.TokenFault.{TokenFault}
+use Rattle.gt_policy.specs.declared.fault.TokenFaultKind.TheVariants.{Limit}
 use Rattle.gt_policy.specs.declared.statements.Statement.{Statement}
 use Rattle.gt_policy.specs.Lexing.{lexemes_of}
 use Rattle.gt_policy.specs.Names.{Names, no_names}
@@ -18,9 +18,9 @@ use Rattle.gt_policy.proofs.CleanLemmas.{clean_added, added_clean}
 use Rattle.gt_policy.proofs.UndeclaredLemmas.{meant_undeclared, undeclared_meant}
 
 abbrev says : List ℕ → Type 0
-says text = (said : Result Meaning Fault) × Says text said
+says text = (said : Result Meaning TokenFault) × Says text said
 
-said_by : (text : List ℕ) → length text ≤ 1048576 → (said : Result (Names × List Statement) Fault) → Follows no_names [] (lexemes_of text) said → says text
+said_by : (text : List ℕ) → length text ≤ 1048576 → (said : Result (Names × List Statement) TokenFault) → Follows no_names [] (lexemes_of text) said → says text
 said_by text short (Ok (names, ss)) h = (meaning_of names (resolved names nothing_given ss), clean text names ss short h)
 said_by text short (Err f) h = (Err f, faulty text f short h)
 
@@ -49,7 +49,7 @@ follows_written text names ss short h =
     let same : r.0 ≡ ss = sym r.1 in
     subst (λ (xs : List Statement). IsWritten text xs × (names_of xs ≡ names)) same (record { short = short; spelled = r.2; clean = c.0 }, c.1)
 
-pub says_written : (text : List ℕ) (said : Result Meaning Fault) → Says text said → (m : Meaning) → said ≡ Ok m → (ss : List Statement) × IsWritten text ss × (meant_by ss ≡ Ok m)
+pub says_written : (text : List ℕ) (said : Result Meaning TokenFault) → Says text said → (m : Meaning) → said ≡ Ok m → (ss : List Statement) × IsWritten text ss × (meant_by ss ≡ Ok m)
 says_written text said (too_long _ long) m e = absurd (cc)
 says_written text said (clean _ names ss short h) m e =
     let w = follows_written text names ss short h in
@@ -57,16 +57,16 @@ says_written text said (clean _ names ss short h) m e =
 says_written text said (faulty _ f short h) m e = absurd (cc)
 
 -- the statements in front of a fault
-follows_broken : (seen : Names) (ss : List Statement) (ls : Lexemes) (said : Result (Names × List Statement) Fault) → Follows seen ss ls said → (f : Fault) → said ≡ Err f
+follows_broken : (seen : Names) (ss : List Statement) (ls : Lexemes) (said : Result (Names × List Statement) TokenFault) → Follows seen ss ls said → (f : TokenFault) → said ≡ Err f
     → (names : Names) × (front : List Statement) × (rest : Lexemes) × SpellsFront front ls rest × (all_added seen front ≡ Ok names) × (statement names rest ≡ Err f)
 follows_broken seen ss ls said (ended _ _ _ rest e) f is = absurd (cc)
 follows_broken seen ss ls said (more _ next _ s _ rest _ e h) f is =
     let found = statement_read seen ls s next rest e in
     let r = follows_broken next (ss ++ s ∷ []) rest said h f is in
-    (r.0, s ∷ r.1, r.2, front_more s r.1 ls rest r.2 found.0 r.3, ap (λ (q : Result Names Fault). q >>= λ after. all_added after r.1) found.1 ∙ r.4, r.5)
+    (r.0, s ∷ r.1, r.2, front_more s r.1 ls rest r.2 found.0 r.3, ap (λ (q : Result Names TokenFault). q >>= λ after. all_added after r.1) found.1 ∙ r.4, r.5)
 follows_broken seen ss ls said (wrong _ _ _ g e) f is = (seen, [], ls, front_end ls, refl, e ∙ cc)
 
-broken_follows : (front : List Statement) (ls rest : Lexemes) → SpellsFront front ls rest → (seen names : Names) (ss : List Statement) (f : Fault) → all_added seen front ≡ Ok names → statement names rest ≡ Err f → Follows seen ss ls (Err f)
+broken_follows : (front : List Statement) (ls rest : Lexemes) → SpellsFront front ls rest → (seen names : Names) (ss : List Statement) (f : TokenFault) → all_added seen front ≡ Ok names → statement names rest ≡ Err f → Follows seen ss ls (Err f)
 broken_follows front ls rest (front_end _) seen names ss f fits e =
     let same : seen ≡ names = cc in
     wrong seen ss rest f (ap (λ q. statement q rest) same ∙ e)
@@ -74,10 +74,10 @@ broken_follows front ls rest (front_more s others _ behind _ h t) seen names ss 
     let b = bind_ok (added seen s) (λ next. all_added next others) names fits in
     more seen b.0 ss s ls behind (Err f) (statement_spelled seen b.0 s ls behind h b.1) (broken_follows others behind rest t b.0 names (ss ++ s ∷ []) f b.2 e)
 
-pub broken_says : (text : List ℕ) (f : Fault) → IsBroken text f → Says text (Err f)
+pub broken_says : (text : List ℕ) (f : TokenFault) → IsBroken text f → Says text (Err f)
 broken_says text f b = faulty text f b.short (broken_follows b.before (lexemes_of text) b.rest b.spelled no_names (names_of b.before) [] f (clean_added b.before b.clean) b.fault)
 
-says_faulty : (text : List ℕ) (said : Result Meaning Fault) → Says text said → (f : Fault) → said ≡ Err f
+says_faulty : (text : List ℕ) (said : Result Meaning TokenFault) → Says text said → (f : TokenFault) → said ≡ Err f
     → ((1048576 < length text) × (at 1 Limit ≡ f)) ⊎ (IsBroken text f ⊎ ((ss : List Statement) × IsWritten text ss × (meant_by ss ≡ Err f)))
 says_faulty text said (too_long _ long) f e = inl (long, cc)
 says_faulty text said (clean _ names ss short h) f e =
@@ -85,19 +85,19 @@ says_faulty text said (clean _ names ss short h) f e =
     inr (inr (ss, w.0, ap (λ q. meaning_of q (resolved q nothing_given ss)) w.1 ∙ e))
 says_faulty text said (faulty _ g short h) f e =
     let same : g ≡ f = cc in
-    let fault : Fault → Result (Names × List Statement) Fault = λ q. Err q in
+    let fault : TokenFault → Result (Names × List Statement) TokenFault = λ q. Err q in
     let r = follows_broken no_names [] (lexemes_of text) (Err g) h f (ap fault same) in
     let c = added_clean r.1 r.0 r.4 in
     inr (inl (record { before = r.1; rest = r.2; short = short; spelled = r.3; clean = c.0; fault = ap (λ q. statement q r.2) c.1 ∙ r.5 }))
 
-first_fault : (text : List ℕ) (f : Fault) → ((1048576 < length text) × (at 1 Limit ≡ f)) ⊎ (IsBroken text f ⊎ ((ss : List Statement) × IsWritten text ss × (meant_by ss ≡ Err f)))
+first_fault : (text : List ℕ) (f : TokenFault) → ((1048576 < length text) × (at 1 Limit ≡ f)) ⊎ (IsBroken text f ⊎ ((ss : List Statement) × IsWritten text ss × (meant_by ss ≡ Err f)))
     → ((1048576 < length text) × (at 1 Limit ≡ f)) ⊎ (IsBroken text f ⊎ ((ss : List Statement) × IsWritten text ss × IsFirstUndeclared ss (uses_of ss) f))
 first_fault text f (inl long) = inl long
 first_fault text f (inr (inl broken)) = inr (inl broken)
 first_fault text f (inr (inr w)) = inr (inr (w.0, w.1, meant_undeclared w.0 f w.1.clean w.2))
 
-pub says_first_fault : (text : List ℕ) (f : Fault) → Says text (Err f) → ((1048576 < length text) × (at 1 Limit ≡ f)) ⊎ (IsBroken text f ⊎ ((ss : List Statement) × IsWritten text ss × IsFirstUndeclared ss (uses_of ss) f))
+pub says_first_fault : (text : List ℕ) (f : TokenFault) → Says text (Err f) → ((1048576 < length text) × (at 1 Limit ≡ f)) ⊎ (IsBroken text f ⊎ ((ss : List Statement) × IsWritten text ss × IsFirstUndeclared ss (uses_of ss) f))
 says_first_fault text f h = first_fault text f (says_faulty text (Err f) h f refl)
 
-pub undeclared_says : (text : List ℕ) (ss : List Statement) (f : Fault) → IsWritten text ss → IsFirstUndeclared ss (uses_of ss) f → Says text (Err f)
-undeclared_says text ss f w first = subst (λ (r : Result Meaning Fault). Says text r) (undeclared_meant ss f w.clean first) (written_says text ss w)
+pub undeclared_says : (text : List ℕ) (ss : List Statement) (f : TokenFault) → IsWritten text ss → IsFirstUndeclared ss (uses_of ss) f → Says text (Err f)
+undeclared_says text ss f w first = subst (λ (r : Result Meaning TokenFault). Says text r) (undeclared_meant ss f w.clean first) (written_says text ss w)

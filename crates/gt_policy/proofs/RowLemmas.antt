@@ -8,7 +8,7 @@ use Rattle.std.proofs.lemmas.List.Folds.{list_any_more}
 use Rattle.gt_types.specs.declared.perms.Perms.{Perms}
 use Rattle.gt_types.specs.Names as names
 use Rattle.gt_types.specs.Names.{is_permission, every_permission}
-use Rattle.gt_policy.specs.declared.rules.Rule.{Rule}
+use Rattle.gt_policy.specs.declared.rules.AllowRule.{AllowRule}
 use Rattle.gt_policy.specs.declared.types.TypeSet.{TypeSet}
 use Rattle.gt_policy.specs.TypeSets.{holds}
 use Rattle.gt_policy.specs.Allowing.{lists_perm, grants, some_grants}
@@ -47,7 +47,7 @@ and_assoc true b c = refl
 and_assoc false b c = refl
 
 -- a row and one more statement
-pub grown_row : (rule : Rule) (s : ℕ) (old new : List Lane) → ((perm : Perms) → list_any (λ l. l.0.0 == perm.0) old ≡ is_permission perm) → AreGrown rule.perms (is_reached rule s) old new
+pub grown_row : (rule : AllowRule) (s : ℕ) (old new : List Lane) → ((perm : Perms) → list_any (λ l. l.0.0 == perm.0) old ≡ is_permission perm) → AreGrown rule.perms (is_reached rule s) old new
     → (t : ℕ) (perm : Perms) → reaches new t perm ≡ (reaches old t perm || (is_permission perm && grants rule s t perm))
 grown_row rule s old new one h t perm =
     grown_lanes rule.perms (is_reached rule s) old new h t perm
@@ -60,7 +60,7 @@ no_grant true false h r e = refl
 no_grant false l h r e = refl
 
 -- a statement whose sources the type is not among adds nothing
-pub nothing_grown : (rule : Rule) (s t : ℕ) (perm : Perms) (b : Bool) → holds rule.source s ≡ false → b ≡ (b || (is_permission perm && grants rule s t perm))
+pub nothing_grown : (rule : AllowRule) (s t : ℕ) (perm : Perms) (b : Bool) → holds rule.source s ≡ false → b ≡ (b || (is_permission perm && grants rule s t perm))
 nothing_grown rule s t perm b e = or_false b ∙ ap (λ (x : Bool). b || x) (no_grant (is_permission perm) (lists_perm rule.perms perm) (holds rule.source s) _ e)
 
 -- a permission that has no lane
@@ -77,7 +77,7 @@ and_or true b c = refl
 and_or false b c = refl
 
 -- one more statement of a walk
-pub row_more : (rules : List Rule) (d : Rule) (i s t : ℕ) (perm : Perms) (b c : Bool) → i < length rules → c ≡ (b || (is_permission perm && grants (get_or rules i d) s t perm)) → b ≡ (is_permission perm && some_grants (take i rules) s t perm)
+pub row_more : (rules : List AllowRule) (d : AllowRule) (i s t : ℕ) (perm : Perms) (b c : Bool) → i < length rules → c ≡ (b || (is_permission perm && grants (get_or rules i d) s t perm)) → b ≡ (is_permission perm && some_grants (take i rules) s t perm)
     → c ≡ (is_permission perm && some_grants (take (i + 1) rules) s t perm)
 row_more rules d i s t perm b c within now so_far =
     now ∙ ap (λ (x : Bool). x || (is_permission perm && grants (get_or rules i d) s t perm)) so_far ∙ and_or (is_permission perm) _ _

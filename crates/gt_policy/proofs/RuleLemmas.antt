@@ -8,7 +8,7 @@ use Rattle.std.proofs.lemmas.List.{get_or-set_same, get_or-set_other, get_or-rep
 use Rattle.std.proofs.lemmas.Nat.Bits.{bit_at-zero}
 use Rattle.std.proofs.lemmas.List.Folds.{list_any_more}
 use Rattle.gt_policy.specs.declared.types.TypeSet.{TypeSet}
-use Rattle.gt_policy.specs.declared.resolve.Given.{Given}
+use Rattle.gt_policy.specs.declared.resolve.TypeAttribute.{TypeAttribute}
 use Rattle.gt_policy.specs.declared.resolve.DraftRule.{DraftRule}
 use Rattle.gt_types.specs.declared.perms.Perms.{Perms}
 use Rattle.std.proofs.Math.Path.{fun_ext}
@@ -32,7 +32,7 @@ or_yes false true = refl
 or_yes false false = refl
 
 -- one more attribute that was given to a type
-pub gives_more : (given : List Given) (i : ℕ) (d : Given) (sets : List TypeSet) (v : TypeSet) → i < length given → (get_or given i d).attribute < length sets
+pub gives_more : (given : List TypeAttribute) (i : ℕ) (d : TypeAttribute) (sets : List TypeSet) (v : TypeSet) → i < length given → (get_or given i d).attribute < length sets
     → ((a n : ℕ) → holds (get_or sets a no_types) n ≡ was_given (take i given) a n) → ((n : ℕ) → holds v n ≡ (holds (get_or sets (get_or given i d).attribute no_types) n || (n == (get_or given i d).to)))
     → (a n : ℕ) → holds (get_or (set sets (get_or given i d).attribute v) a no_types) n ≡ was_given (take (i + 1) given) a n
 gives_more given i d sets v within fits so_far added a n = go (a == (get_or given i d).attribute) refl ∙ sym (list_any_more (λ g. (n == g.to) && (a == g.attribute)) given i d within)
@@ -68,8 +68,8 @@ set_end p q xs i b all so_far =
     ap (λ x. list_any p (take i xs) && not x) so_far ∙ ap (λ ys. list_any p ys && not (list_any q ys)) whole
 
 -- the rules of statements, once their sets are sets of types
-pub rules_same : (has : ℕ → ℕ → Bool) (lent given : List Given) (drafts rules : List DraftRule) (s t : ℕ) (perm : Perms) (b : Bool) → ((a n : ℕ) → has a n ≡ was_given lent a n) → lent ≡ given → drafts ≡ rules
+pub rules_same : (has : ℕ → ℕ → Bool) (lent given : List TypeAttribute) (drafts rules : List DraftRule) (s t : ℕ) (perm : Perms) (b : Bool) → ((a n : ℕ) → has a n ≡ was_given lent a n) → lent ≡ given → drafts ≡ rules
     → b ≡ list_any (λ rule. is_granted_by has s t perm rule) drafts → b ≡ list_any (λ rule. is_granted_by (was_given given) s t perm rule) rules
 rules_same has lent given drafts rules s t perm b shown same_given same_rules is =
-    let members : has ≡ was_given given = fun_ext (λ a. fun_ext (λ n. shown a n ∙ ap (λ (g : List Given). was_given g a n) same_given)) in
+    let members : has ≡ was_given given = fun_ext (λ a. fun_ext (λ n. shown a n ∙ ap (λ (g : List TypeAttribute). was_given g a n) same_given)) in
     is ∙ ap (λ (h : ℕ → ℕ → Bool). list_any (λ rule. is_granted_by h s t perm rule) drafts) members ∙ ap (λ (rs : List DraftRule). list_any (λ rule. is_granted_by (was_given given) s t perm rule) rs) same_rules

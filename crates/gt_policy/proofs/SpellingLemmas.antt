@@ -3,31 +3,31 @@ use Rattle.std.proofs.Common.{◌≡◌, ◌<◌, ℕ, Bool, true, false, List, 
 use Rattle.std.specs.Prelude.{if◌then◌else◌}
 use Rattle.std.specs.List.{list_any}
 use Rattle.gt_policy.specs.declared.lexer.Token.TheVariants.{Name, SelfWord, Open, Close, Semicolon, Comma, Minus, Star}
-use Rattle.gt_policy.specs.declared.fault.Fault.{Fault}
-use Rattle.gt_policy.specs.declared.fault.Kind.TheVariants.{Syntax, Outside, Permission}
+use Rattle.gt_policy.specs.declared.fault.TokenFault.{TokenFault}
+use Rattle.gt_policy.specs.declared.fault.TokenFaultKind.TheVariants.{Syntax, Outside, Permission}
 use Rattle.gt_policy.specs.declared.statements.Mention.{Mention}
-use Rattle.gt_policy.specs.declared.statements.Item.{Item}
-use Rattle.gt_policy.specs.declared.statements.Item.TheVariants.{With, Without, Itself}
+use Rattle.gt_policy.specs.declared.statements.SetElement.{SetElement}
+use Rattle.gt_policy.specs.declared.statements.SetElement.TheVariants.{With, Without, Itself}
 use Rattle.gt_policy.specs.declared.statements.Permissions.{Permissions}
 use Rattle.gt_policy.specs.declared.statements.Permissions.TheVariants.{Every, Named}
-use Rattle.gt_policy.specs.Grammar.{Lexemes, Reading, at, before, excluded, attributes, set_in_braces, set_of, classes_in_braces, classes_of, is_refused, perms_in_braces, as_named, perms_of}
+use Rattle.gt_policy.specs.Grammar.{Lexemes, LexerState, at, before, excluded, attributes, set_in_braces, set_of, classes_in_braces, classes_of, is_refused, perms_in_braces, as_named, perms_of}
 use Rattle.gt_policy.specs.Spelling.{SpellsNames, no_more, one_more, a_name, SpellsItems, items_end, with, without, itself, SpellsSet, one_name, one_self, set_in, SpellsWords, words_end, a_word, SpellsList, one_word, list_in, SpellsPerms, every, names}
 use Rattle.std.proofs.lemmas.Bool.{or_from, or_parts}
 
-abbrev pub ok_of : {A : Type 0} → A → Result A Fault
+abbrev pub ok_of : {A : Type 0} → A → Result A TokenFault
 ok_of a = Ok a
 
 pub ok_part : {A : Type 0} (a b : A) → ok_of a ≡ ok_of b → a ≡ b
 ok_part a b e = cc
 
-abbrev done : {X : Type 0} → X → Lexemes → Reading X
+abbrev done : {X : Type 0} → X → Lexemes → LexerState X
 done x ls = Ok (x, ls)
 
 -- what was read, moved along an equation
 moved : {X : Type 0} (P : X → Lexemes → Type 0) (a b : X) (ls rest : Lexemes) → done a ls ≡ done b rest → P a ls → P b rest
 moved {X} P a b ls rest e h = subst (λ (r : X × Lexemes). P r.0 r.1) (ok_part (a, ls) (b, rest) e) h
 
-before_ok : {X : Type 0} (x : X) (r : Reading (List X)) (ys : List X) (rest : Lexemes) → before x r ≡ Ok (ys, rest) → (zs : List X) × (ys ≡ x ∷ zs) × (r ≡ Ok (zs, rest))
+before_ok : {X : Type 0} (x : X) (r : LexerState (List X)) (ys : List X) (rest : Lexemes) → before x r ≡ Ok (ys, rest) → (zs : List X) × (ys ≡ x ∷ zs) × (r ≡ Ok (zs, rest))
 before_ok x (Ok r) ys rest e =
     let same = ok_part (x ∷ r.0, r.1) (ys, rest) e in
     (r.0, sym (ap (λ q. q.0) same), ap (λ ls. Ok (r.0, ls)) (ap (λ q. q.1) same))
@@ -61,51 +61,51 @@ names_shorter t must ms ls rest (one_more n _ more _ h) = let less = names_short
 names_shorter t must ms ls rest (a_name m others more _ x h) = let less = names_shorter t false others more rest h in omega arith
 
 -- sets
-pub items_read : (target some : Bool) (ls : Lexemes) (items : List Item) (rest : Lexemes) → set_in_braces target some ls ≡ Ok (items, rest) → SpellsItems target items ls rest
+pub items_read : (target some : Bool) (ls : Lexemes) (items : List SetElement) (rest : Lexemes) → set_in_braces target some ls ≡ Ok (items, rest) → SpellsItems target items ls rest
 items_read target some [] items rest e = absurd (cc)
 items_read target some ((Close, n) ∷ ls) items rest e = go some e
   where
-    go : (v : Bool) → (if v then done {X = List Item} [] ls else Err (at n Syntax)) ≡ Ok (items, rest) → SpellsItems target items ((Close, n) ∷ ls) rest
+    go : (v : Bool) → (if v then done {X = List SetElement} [] ls else Err (at n Syntax)) ≡ Ok (items, rest) → SpellsItems target items ((Close, n) ∷ ls) rest
     go true h = moved (λ xs more. SpellsItems target xs ((Close, n) ∷ ls) more) [] items ls rest h (items_end n ls)
     go false h = absurd (cc)
 items_read target some ((Name w, n) ∷ ls) items rest e =
     let m : Mention = record { name = w; line = n } in
     let r = before_ok (With m) (set_in_braces target true ls) items rest e in
-    subst (λ (xs : List Item). SpellsItems target xs ((Name w, n) ∷ ls) rest) (sym r.1) (with m r.0 ls rest (items_read target true ls r.0 rest r.2))
+    subst (λ (xs : List SetElement). SpellsItems target xs ((Name w, n) ∷ ls) rest) (sym r.1) (with m r.0 ls rest (items_read target true ls r.0 rest r.2))
 items_read target some ((Minus, n) ∷ (Name w, k) ∷ ls) items rest e =
     let m : Mention = record { name = w; line = k } in
     let r = before_ok (Without m) (set_in_braces target true ls) items rest e in
-    subst (λ (xs : List Item). SpellsItems target xs ((Minus, n) ∷ (Name w, k) ∷ ls) rest) (sym r.1) (without n m r.0 ls rest (items_read target true ls r.0 rest r.2))
+    subst (λ (xs : List SetElement). SpellsItems target xs ((Minus, n) ∷ (Name w, k) ∷ ls) rest) (sym r.1) (without n m r.0 ls rest (items_read target true ls r.0 rest r.2))
 items_read target some ((Minus, n) ∷ (token, k) ∷ ls) items rest e = absurd (cc)
 items_read target some ((Minus, n) ∷ []) items rest e = absurd (cc)
 items_read target some ((SelfWord, n) ∷ ls) items rest e = go target refl e (items_read target true ls)
   where
     go : (v : Bool) → target ≡ v → (if v then before Itself (set_in_braces target true ls) else Err (at n Syntax)) ≡ Ok (items, rest)
-        → ((zs : List Item) (more : Lexemes) → set_in_braces target true ls ≡ Ok (zs, more) → SpellsItems target zs ls more) → SpellsItems target items ((SelfWord, n) ∷ ls) rest
+        → ((zs : List SetElement) (more : Lexemes) → set_in_braces target true ls ≡ Ok (zs, more) → SpellsItems target zs ls more) → SpellsItems target items ((SelfWord, n) ∷ ls) rest
     go true x h ih =
         let r = before_ok Itself (set_in_braces target true ls) items rest h in
-        subst (λ (xs : List Item). SpellsItems target xs ((SelfWord, n) ∷ ls) rest) (sym r.1) (itself n r.0 ls rest x (ih r.0 rest r.2))
+        subst (λ (xs : List SetElement). SpellsItems target xs ((SelfWord, n) ∷ ls) rest) (sym r.1) (itself n r.0 ls rest x (ih r.0 rest r.2))
     go false x h ih = absurd (cc)
 items_read target some ((token, n) ∷ ls) items rest e = absurd (cc)
 
 -- where some items came before
-pub items_spelled : (target : Bool) (items : List Item) (ls rest : Lexemes) → SpellsItems target items ls rest → set_in_braces target true ls ≡ Ok (items, rest)
+pub items_spelled : (target : Bool) (items : List SetElement) (ls rest : Lexemes) → SpellsItems target items ls rest → set_in_braces target true ls ≡ Ok (items, rest)
 items_spelled target items ls rest (items_end n _) = refl
 items_spelled target items ls rest (with m others more _ h) = ap (λ r. before (With m) r) (items_spelled target others more rest h)
 items_spelled target items ls rest (without n m others more _ h) = ap (λ r. before (Without m) r) (items_spelled target others more rest h)
-items_spelled target items ls rest (itself n others more _ x h) = ap (λ (v : Bool). let r : Reading (List Item) = (if v then before Itself (set_in_braces target true more) else Err (at n Syntax)) in r) x ∙ ap (λ r. before Itself r) (items_spelled target others more rest h)
+items_spelled target items ls rest (itself n others more _ x h) = ap (λ (v : Bool). let r : LexerState (List SetElement) = (if v then before Itself (set_in_braces target true more) else Err (at n Syntax)) in r) x ∙ ap (λ r. before Itself r) (items_spelled target others more rest h)
 
-pub items_shorter : (target : Bool) (items : List Item) (ls rest : Lexemes) → SpellsItems target items ls rest → length rest < length ls
+pub items_shorter : (target : Bool) (items : List SetElement) (ls rest : Lexemes) → SpellsItems target items ls rest → length rest < length ls
 items_shorter target items ls rest (items_end n _) = omega arith
 items_shorter target items ls rest (with m others more _ h) = let less = items_shorter target others more rest h in omega arith
 items_shorter target items ls rest (without n m others more _ h) = let less = items_shorter target others more rest h in omega arith
 items_shorter target items ls rest (itself n others more _ x h) = let less = items_shorter target others more rest h in omega arith
 
-braces_read : (target : Bool) (n : ℕ) (ls : Lexemes) (items : List Item) (rest : Lexemes) → set_in_braces target false ls ≡ Ok (items, rest) → SpellsItems target items ls rest → SpellsSet target items ((Open, n) ∷ ls) rest
+braces_read : (target : Bool) (n : ℕ) (ls : Lexemes) (items : List SetElement) (rest : Lexemes) → set_in_braces target false ls ≡ Ok (items, rest) → SpellsItems target items ls rest → SpellsSet target items ((Open, n) ∷ ls) rest
 braces_read target n ls [] rest e (items_end k _) = absurd (cc)
 braces_read target n ls (i ∷ items) rest e h = set_in n i items ls rest h
 
-pub set_read : (target : Bool) (ls : Lexemes) (items : List Item) (rest : Lexemes) → set_of target ls ≡ Ok (items, rest) → SpellsSet target items ls rest
+pub set_read : (target : Bool) (ls : Lexemes) (items : List SetElement) (rest : Lexemes) → set_of target ls ≡ Ok (items, rest) → SpellsSet target items ls rest
 unfolding set_of
 set_read target [] items rest e = absurd (cc)
 set_read target ((Open, n) ∷ ls) items rest e = braces_read target n ls items rest e (items_read target false ls items rest e)
@@ -119,18 +119,18 @@ set_read target ((SelfWord, n) ∷ ls) items rest e = go target refl e
     go false x h = absurd (cc)
 set_read target ((token, n) ∷ ls) items rest e = absurd (cc)
 
-first_item : (target : Bool) (i : Item) (items : List Item) (ls rest : Lexemes) → SpellsItems target (i ∷ items) ls rest → set_in_braces target false ls ≡ Ok (i ∷ items, rest)
+first_item : (target : Bool) (i : SetElement) (items : List SetElement) (ls rest : Lexemes) → SpellsItems target (i ∷ items) ls rest → set_in_braces target false ls ≡ Ok (i ∷ items, rest)
 first_item target i items ls rest (with m others more _ h) = ap (λ r. before (With m) r) (items_spelled target others more rest h)
 first_item target i items ls rest (without n m others more _ h) = ap (λ r. before (Without m) r) (items_spelled target others more rest h)
-first_item target i items ls rest (itself n others more _ x h) = ap (λ (v : Bool). let r : Reading (List Item) = (if v then before Itself (set_in_braces target true more) else Err (at n Syntax)) in r) x ∙ ap (λ r. before Itself r) (items_spelled target others more rest h)
+first_item target i items ls rest (itself n others more _ x h) = ap (λ (v : Bool). let r : LexerState (List SetElement) = (if v then before Itself (set_in_braces target true more) else Err (at n Syntax)) in r) x ∙ ap (λ r. before Itself r) (items_spelled target others more rest h)
 
-pub set_spelled : (target : Bool) (items : List Item) (ls rest : Lexemes) → SpellsSet target items ls rest → set_of target ls ≡ Ok (items, rest)
+pub set_spelled : (target : Bool) (items : List SetElement) (ls rest : Lexemes) → SpellsSet target items ls rest → set_of target ls ≡ Ok (items, rest)
 unfolding set_of
 set_spelled target items ls rest (one_name m _) = refl
 set_spelled target items ls rest (one_self n _ x) = rw x refl
 set_spelled target items ls rest (set_in n i others more _ h) = first_item target i others more rest h
 
-pub set_shorter : (target : Bool) (items : List Item) (ls rest : Lexemes) → SpellsSet target items ls rest → length rest < length ls
+pub set_shorter : (target : Bool) (items : List SetElement) (ls rest : Lexemes) → SpellsSet target items ls rest → length rest < length ls
 set_shorter target items ls rest (one_name m _) = omega arith
 set_shorter target items ls rest (one_self n _ x) = omega arith
 set_shorter target items ls rest (set_in n i others more _ h) = let less = items_shorter target (i ∷ others) more rest h in omega arith
@@ -215,7 +215,7 @@ perm_braces_read : (alone : Bool) (n : ℕ) (ls : Lexemes) (ws : List (List ℕ)
 perm_braces_read alone n ls [] rest e (words_end k _) = absurd (cc)
 perm_braces_read alone n ls (w ∷ ws) rest e h = list_in n w ws ls rest h
 
-as_named_ok : (r : Reading (List (List ℕ))) (p : Permissions) (rest : Lexemes) → as_named r ≡ Ok (p, rest) → (ws : List (List ℕ)) × (p ≡ Named ws) × (r ≡ Ok (ws, rest))
+as_named_ok : (r : LexerState (List (List ℕ))) (p : Permissions) (rest : Lexemes) → as_named r ≡ Ok (p, rest) → (ws : List (List ℕ)) × (p ≡ Named ws) × (r ≡ Ok (ws, rest))
 as_named_ok (Ok r) p rest e =
     let named : Permissions = Named r.0 in
     let same = ok_part (named, r.1) (p, rest) e in

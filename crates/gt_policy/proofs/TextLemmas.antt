@@ -3,22 +3,22 @@ use Rattle.std.proofs.Common.{◌≡◌, ◌<◌, ◌≤◌, ℕ, zero, suc, Boo
 use Rattle.std.specs.Prelude.{if◌then◌else◌}
 use Rattle.std.proofs.lemmas.Option.{same_Some}
 use Rattle.gt_policy.specs.declared.lexer.Token.TheVariants.{Name, TypeWord, AttributeWord, TypeattributeWord, AllowWord, Colon, Semicolon, End}
-use Rattle.gt_policy.specs.declared.fault.Fault.{Fault}
-use Rattle.gt_policy.specs.declared.fault.Kind.TheVariants.{Outside}
+use Rattle.gt_policy.specs.declared.fault.TokenFault.{TokenFault}
+use Rattle.gt_policy.specs.declared.fault.TokenFaultKind.TheVariants.{Outside}
 use Rattle.gt_policy.specs.declared.statements.Mention.{Mention}
-use Rattle.gt_policy.specs.declared.statements.Item.{Item}
+use Rattle.gt_policy.specs.declared.statements.SetElement.{SetElement}
 use Rattle.gt_policy.specs.declared.statements.Permissions.{Permissions}
 use Rattle.gt_policy.specs.declared.statements.Allowance.{Allowance}
 use Rattle.gt_policy.specs.declared.statements.Statement.{Statement}
 use Rattle.gt_policy.specs.declared.statements.Statement.TheVariants.{DeclareType, DeclareAttribute, GiveAttributes, Allow}
 use Rattle.gt_policy.specs.Names.{Names, with_type, with_attribute, with_allow}
-use Rattle.gt_policy.specs.Grammar.{Lexemes, Reading, ◌>>=◌, at, excluded, type_name, attribute_name, attributes, set_of, colon, semicolon, classes_of, is_grant_alone, perms_of, allow_statement, typeattribute_statement, type_statement, attribute_statement, beside, next_one, statement}
+use Rattle.gt_policy.specs.Grammar.{Lexemes, LexerState, ◌>>=◌, at, excluded, type_name, attribute_name, attributes, set_of, colon, semicolon, classes_of, is_grant_alone, perms_of, allow_statement, typeattribute_statement, type_statement, attribute_statement, beside, next_one, statement}
 use Rattle.gt_policy.specs.Spelling.{SpellsSet, SpellsPerms, SpellsStatement, type_of, attribute_of, attributes_of, allow_of, SpellsText, text_end, statement_of}
 use Rattle.gt_policy.specs.Whole.{Follows, ended, more, wrong}
 use Rattle.gt_policy.proofs.SpellingLemmas.{ok_of, ok_part, names_read, names_spelled, names_shorter, set_read, set_spelled, set_shorter, classes_read, classes_spelled, list_shorter, perms_read, perms_spelled, perms_shorter}
 use Rattle.std.proofs.lemmas.List.{append-nil}
 
-pub bind_ok : {A B : Type 0} (m : Result A Fault) (f : A → Result B Fault) (y : B) → (m >>= f) ≡ ok_of y → (x : A) × (m ≡ ok_of x) × (f x ≡ ok_of y)
+pub bind_ok : {A B : Type 0} (m : Result A TokenFault) (f : A → Result B TokenFault) (y : B) → (m >>= f) ≡ ok_of y → (x : A) × (m ≡ ok_of x) × (f x ≡ ok_of y)
 bind_ok (Ok x) f y e = (x, refl, e)
 bind_ok (Err g) f y e = absurd (cc)
 
@@ -56,13 +56,13 @@ semicolon_read ((Semicolon, n) ∷ ls) rest e = (n, ap (λ l. (Semicolon, n) ∷
 semicolon_read ((token, n) ∷ ls) rest e = absurd (cc)
 
 -- what a statement adds to the names
-abbrev pub added : Names → Statement → Result Names Fault
+abbrev pub added : Names → Statement → Result Names TokenFault
 added seen (DeclareType w ms) = with_type seen w 0
 added seen (DeclareAttribute w) = with_attribute seen w 0
 added seen (GiveAttributes m ms) = Ok seen
 added seen (Allow a) = with_allow seen 0
 
-at_line : (v u : Bool) (f g h i : Fault) (x y : Names) → (if v then Err f else (if u then ok_of x else Err g)) ≡ Ok y → (if v then Err h else (if u then ok_of x else Err i)) ≡ ok_of y
+at_line : (v u : Bool) (f g h i : TokenFault) (x y : Names) → (if v then Err f else (if u then ok_of x else Err g)) ≡ Ok y → (if v then Err h else (if u then ok_of x else Err i)) ≡ ok_of y
 at_line true u f g h i x y e = absurd (cc)
 at_line false true f g h i x y e = e
 at_line false false f g h i x y e = absurd (cc)
@@ -80,10 +80,10 @@ unfolding with_allow
 allow_at_line seen next n k e = at_line false _ (at n (Outside [])) _ (at n (Outside [])) _ _ _ e
 
 -- "type" ..
-abbrev type_end : List ℕ → Names → List Mention × Lexemes → Reading (Statement × Names)
+abbrev type_end : List ℕ → Names → List Mention × Lexemes → LexerState (Statement × Names)
 type_end w seen ms = Ok ((DeclareType w ms.0, seen), ms.1)
 
-abbrev type_more : Mention × Lexemes → Names → Reading (Statement × Names)
+abbrev type_more : Mention × Lexemes → Names → LexerState (Statement × Names)
 type_more name seen = attributes true false name.1 >>= λ ms. type_end name.0.name seen ms
 
 type_read : (n : ℕ) (seen : Names) (ls : Lexemes) (s : Statement) (next : Names) (rest : Lexemes) → type_statement seen ls ≡ Ok ((s, next), rest) → SpellsStatement s ((TypeWord, n) ∷ ls) rest × (added seen s ≡ Ok next)
@@ -101,10 +101,10 @@ type_read n seen ls s next rest e =
     (spelled, type_at_line seen b2.0 m.name m.line 0 b2.1)
 
 -- "attribute" ..
-abbrev attribute_end : List ℕ → Names → Lexemes → Reading (Statement × Names)
+abbrev attribute_end : List ℕ → Names → Lexemes → LexerState (Statement × Names)
 attribute_end w seen ls = Ok ((DeclareAttribute w, seen), ls)
 
-abbrev attribute_more : Mention × Lexemes → Names → Reading (Statement × Names)
+abbrev attribute_more : Mention × Lexemes → Names → LexerState (Statement × Names)
 attribute_more name seen = semicolon false name.1 >>= λ ls. attribute_end name.0.name seen ls
 
 attribute_read : (n : ℕ) (seen : Names) (ls : Lexemes) (s : Statement) (next : Names) (rest : Lexemes) → attribute_statement seen ls ≡ Ok ((s, next), rest) → SpellsStatement s ((AttributeWord, n) ∷ ls) rest × (added seen s ≡ Ok next)
@@ -122,7 +122,7 @@ attribute_read n seen ls s next rest e =
     (spelled, attribute_at_line seen b2.0 m.name m.line 0 b2.1)
 
 -- "typeattribute" ..
-abbrev attributes_end : Mention → List Mention × Lexemes → Reading Statement
+abbrev attributes_end : Mention → List Mention × Lexemes → LexerState Statement
 attributes_end m ms = Ok (GiveAttributes m ms.0, ms.1)
 
 attributes_read : (n : ℕ) (seen : Names) (ls : Lexemes) (s : Statement) (rest : Lexemes) → typeattribute_statement ls ≡ Ok (s, rest) → SpellsStatement s ((TypeattributeWord, n) ∷ ls) rest × (added seen s ≡ Ok seen)
@@ -137,22 +137,22 @@ attributes_read n seen ls s rest e =
     subst (λ (q : Statement × Lexemes). SpellsStatement q.0 ((TypeattributeWord, n) ∷ ls) q.1 × (added seen q.0 ≡ Ok seen)) (ok_part (GiveAttributes m b2.0.0, b2.0.1) (s, rest) b2.2) (spelled, refl)
 
 -- "allow" ..
-abbrev allowance : List Item → List Item → List (List ℕ) → Permissions → Allowance
+abbrev allowance : List SetElement → List SetElement → List (List ℕ) → Permissions → Allowance
 allowance source target classes perms = record { source = source; target = target; classes = classes; perms = perms }
 
-abbrev allow_end : List Item → List Item → List (List ℕ) → Permissions → Lexemes → Reading Statement
+abbrev allow_end : List SetElement → List SetElement → List (List ℕ) → Permissions → Lexemes → LexerState Statement
 allow_end source target classes perms ls = Ok (Allow (allowance source target classes perms), ls)
 
-abbrev allow_perms : List Item → List Item → List (List ℕ) → Permissions × Lexemes → Reading Statement
+abbrev allow_perms : List SetElement → List SetElement → List (List ℕ) → Permissions × Lexemes → LexerState Statement
 allow_perms source target classes perms = semicolon false perms.1 >>= λ ls. allow_end source target classes perms.0 ls
 
-abbrev allow_classes : List Item → List Item → List (List ℕ) × Lexemes → Reading Statement
+abbrev allow_classes : List SetElement → List SetElement → List (List ℕ) × Lexemes → LexerState Statement
 allow_classes source target classes = perms_of (is_grant_alone classes.0) classes.1 >>= λ perms. allow_perms source target classes.0 perms
 
-abbrev allow_colon : List Item → List Item → Lexemes → Reading Statement
+abbrev allow_colon : List SetElement → List SetElement → Lexemes → LexerState Statement
 allow_colon source target ls = classes_of ls >>= λ classes. allow_classes source target classes
 
-abbrev allow_target : List Item → List Item × Lexemes → Reading Statement
+abbrev allow_target : List SetElement → List SetElement × Lexemes → LexerState Statement
 allow_target source target = colon target.1 >>= λ ls. allow_colon source target.0 ls
 
 allow_read : (n : ℕ) (ls : Lexemes) (s : Statement) (rest : Lexemes) → allow_statement ls ≡ Ok (s, rest) → (a : Allowance) × (s ≡ Allow a) × SpellsStatement (Allow a) ((AllowWord, n) ∷ ls) rest
@@ -174,26 +174,26 @@ allow_read n ls s rest e =
     let spelled : SpellsStatement (Allow a) ((AllowWord, n) ∷ ls) b6.0 = allow_of a n mark.0 last.0 ls b1.0.1 b3.0 b4.0.1 b6.0 (set_read false ls b1.0.0 b1.0.1 b1.1) target (classes_read b3.0 b4.0.0 b4.0.1 b4.1) perms in
     (a, sym (ap (λ q. q.0) same), subst (λ (l : Lexemes). SpellsStatement (Allow a) ((AllowWord, n) ∷ ls) l) (ap (λ q. q.1) same) spelled)
 
-next_one_ok : (r : Reading (Statement × Names)) (s : Statement) (next : Names) (rest : Lexemes) → next_one r ≡ Ok (Some (s, next), rest) → r ≡ Ok ((s, next), rest)
+next_one_ok : (r : LexerState (Statement × Names)) (s : Statement) (next : Names) (rest : Lexemes) → next_one r ≡ Ok (Some (s, next), rest) → r ≡ Ok ((s, next), rest)
 next_one_ok (Ok q) s next rest e =
     let found : Option (Statement × Names) = Some q.0 in
     let same = ok_part (found, q.1) (Some (s, next), rest) e in
     ap (λ x. Ok (x, q.1)) (same_Some q.0 (s, next) (ap (λ x. x.0) same)) ∙ ap (λ l. Ok ((s, next), l)) (ap (λ x. x.1) same)
 next_one_ok (Err f) s next rest e = absurd (cc)
 
-next_one_some : (r : Reading (Statement × Names)) (rest : Lexemes) → next_one r ≡ Ok (None, rest) → ⊥
+next_one_some : (r : LexerState (Statement × Names)) (rest : Lexemes) → next_one r ≡ Ok (None, rest) → ⊥
 next_one_some (Ok q) rest e =
     let found : Option (Statement × Names) = Some q.0 in
     let same = ap (λ x. x.0) (ok_part (found, q.1) (None, rest) e) in cc
 next_one_some (Err f) rest e = cc
 
-beside_ok : (seen : Names) (r : Reading Statement) (s : Statement) (next : Names) (rest : Lexemes) → beside seen r ≡ Ok ((s, next), rest) → (r ≡ Ok (s, rest)) × (seen ≡ next)
+beside_ok : (seen : Names) (r : LexerState Statement) (s : Statement) (next : Names) (rest : Lexemes) → beside seen r ≡ Ok ((s, next), rest) → (r ≡ Ok (s, rest)) × (seen ≡ next)
 beside_ok seen (Ok q) s next rest e =
     let same = ok_part ((q.0, seen), q.1) ((s, next), rest) e in
     (ap (λ x. Ok (x, q.1)) (ap (λ x. x.0.0) same) ∙ ap (λ l. Ok (s, l)) (ap (λ x. x.1) same), ap (λ x. x.0.1) same)
 beside_ok seen (Err f) s next rest e = absurd (cc)
 
-count_ok : {B : Type 0} (r : Result Names Fault) (f : Names → Result B Fault) (y : B) → (elim r [ Ok counted ↦ f counted | Err g ↦ Err g ]) ≡ ok_of y → (x : Names) × (r ≡ ok_of x) × (f x ≡ ok_of y)
+count_ok : {B : Type 0} (r : Result Names TokenFault) (f : Names → Result B TokenFault) (y : B) → (elim r [ Ok counted ↦ f counted | Err g ↦ Err g ]) ≡ ok_of y → (x : Names) × (r ≡ ok_of x) × (f x ≡ ok_of y)
 count_ok (Ok x) f y e = (x, refl, e)
 count_ok (Err g) f y e = absurd (cc)
 
@@ -245,7 +245,7 @@ statement_spelled seen next s ls rest (attribute_of w n k j _) fits =
 statement_spelled seen next s ls rest (attributes_of m ms n behind _ h) fits =
     ap (λ r. next_one (beside seen r)) (ap (λ r. r >>= λ found. attributes_end m found) (names_spelled false true ms behind rest h)) ∙ ap (λ (q : Names). ok_of (Some (s, q), rest)) (ok_part seen next fits)
 statement_spelled seen next s ls rest (allow_of a n k j source target classes perms _ h1 h2 h3 h4) fits =
-    ap (λ (r : Result Names Fault). let read : Reading (Option (Statement × Names)) = elim r [ Ok counted ↦ next_one (beside counted (allow_statement source)) | Err g ↦ Err g ] in read) (allow_at_line seen next 0 n fits)
+    ap (λ (r : Result Names TokenFault). let read : LexerState (Option (Statement × Names)) = elim r [ Ok counted ↦ next_one (beside counted (allow_statement source)) | Err g ↦ Err g ] in read) (allow_at_line seen next 0 n fits)
     ∙ ap (λ r. next_one (beside next r))
     (ap (λ r. r >>= λ source. set_of true source.1 >>= λ target. allow_target source.0 target) (set_spelled false a.source source target h1)
     ∙ ap (λ r. r >>= λ target. allow_target a.source target) (set_spelled true a.target target ((Colon, k) ∷ classes) h2)
@@ -263,11 +263,11 @@ statement_shorter s ls rest (allow_of a n k j source target classes perms _ h1 h
     let l4 = perms_shorter (is_grant_alone a.classes) a.perms perms ((Semicolon, j) ∷ rest) h4 in omega arith
 
 -- whole texts
-abbrev pub all_added : Names → List Statement → Result Names Fault
+abbrev pub all_added : Names → List Statement → Result Names TokenFault
 all_added seen [] = Ok seen
 all_added seen (s ∷ ss) = added seen s >>= λ next. all_added next ss
 
-pub text_read : (seen : Names) (ss : List Statement) (ls : Lexemes) (said : Result (Names × List Statement) Fault) → Follows seen ss ls said → (names : Names) (all : List Statement) → said ≡ Ok (names, all)
+pub text_read : (seen : Names) (ss : List Statement) (ls : Lexemes) (said : Result (Names × List Statement) TokenFault) → Follows seen ss ls said → (names : Names) (all : List Statement) → said ≡ Ok (names, all)
     → (others : List Statement) × (all ≡ ss ++ others) × SpellsText others ls × (all_added seen others ≡ Ok names)
 text_read seen ss ls said (ended _ _ _ rest e) names all is =
     let same = ok_part (seen, ss) (names, all) is in
@@ -275,7 +275,7 @@ text_read seen ss ls said (ended _ _ _ rest e) names all is =
 text_read seen ss ls said (more _ next _ s _ rest _ e h) names all is =
     let found = statement_read seen ls s next rest e in
     let r = text_read next (ss ++ s ∷ []) rest said h names all is in
-    (s ∷ r.0, r.1 ∙ append_assoc ss (s ∷ []) r.0, statement_of s r.0 ls rest found.0 r.2, ap (λ (q : Result Names Fault). q >>= λ after. all_added after r.0) found.1 ∙ r.3)
+    (s ∷ r.0, r.1 ∙ append_assoc ss (s ∷ []) r.0, statement_of s r.0 ls rest found.0 r.2, ap (λ (q : Result Names TokenFault). q >>= λ after. all_added after r.0) found.1 ∙ r.3)
 text_read seen ss ls said (wrong _ _ _ f e) names all is = absurd (cc)
 
 pub text_spelled : (others : List Statement) (ls : Lexemes) → SpellsText others ls → (seen names : Names) (ss : List Statement) → all_added seen others ≡ Ok names → Follows seen ss ls (Ok (names, ss ++ others))
@@ -289,17 +289,17 @@ text_spelled others ls (statement_of s after _ rest h t) seen names ss fits =
     (subst (λ (xs : List Statement). Follows b.0 (ss ++ s ∷ []) rest (Ok (names, xs))) (append_assoc ss (s ∷ []) after) (text_spelled after rest t b.0 names (ss ++ s ∷ []) b.2))
 
 -- tokens say something
-pub follows_some : (n : ℕ) (seen : Names) (ss : List Statement) (ls : Lexemes) → length ls ≤ n → (said : Result (Names × List Statement) Fault) × Follows seen ss ls said
+pub follows_some : (n : ℕ) (seen : Names) (ss : List Statement) (ls : Lexemes) → length ls ≤ n → (said : Result (Names × List Statement) TokenFault) × Follows seen ss ls said
 follows_some zero seen ss ls few = go (statement seen ls) refl
   where
-    go : (r : Reading (Option (Statement × Names))) → statement seen ls ≡ r → (said : Result (Names × List Statement) Fault) × Follows seen ss ls said
+    go : (r : LexerState (Option (Statement × Names))) → statement seen ls ≡ r → (said : Result (Names × List Statement) TokenFault) × Follows seen ss ls said
     go (Err f) e = (Err f, wrong seen ss ls f e)
     go (Ok (None, rest)) e = (Ok (seen, ss), ended seen ss ls rest e)
     go (Ok (Some (s, next), rest)) e = let less = statement_shorter s ls rest (statement_read seen ls s next rest e).0 in absurd (omega arith)
 follows_some (suc n) seen ss ls few = go (statement seen ls) refl (follows_some n)
   where
-    go : (r : Reading (Option (Statement × Names))) → statement seen ls ≡ r → ((next : Names) (xs : List Statement) (rest : Lexemes) → length rest ≤ n → (said : Result (Names × List Statement) Fault) × Follows next xs rest said)
-        → (said : Result (Names × List Statement) Fault) × Follows seen ss ls said
+    go : (r : LexerState (Option (Statement × Names))) → statement seen ls ≡ r → ((next : Names) (xs : List Statement) (rest : Lexemes) → length rest ≤ n → (said : Result (Names × List Statement) TokenFault) × Follows next xs rest said)
+        → (said : Result (Names × List Statement) TokenFault) × Follows seen ss ls said
     go (Err f) e ih = (Err f, wrong seen ss ls f e)
     go (Ok (None, rest)) e ih = (Ok (seen, ss), ended seen ss ls rest e)
     go (Ok (Some (s, next), rest)) e ih =

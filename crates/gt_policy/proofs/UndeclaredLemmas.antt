@@ -5,17 +5,17 @@ use Rattle.std.specs.Str.{bytes_eq}
 use Rattle.std.proofs.lemmas.List.Folds.{list_all-append}
 use Rattle.std.proofs.lemmas.Bool.{false≢true}
 use Rattle.std.proofs.lemmas.Slice.Eq.{bytes_eq-Decides}
-use Rattle.gt_policy.specs.declared.fault.Fault.{Fault}
-use Rattle.gt_policy.specs.declared.fault.Kind.TheVariants.{Unknown}
+use Rattle.gt_policy.specs.declared.fault.TokenFault.{TokenFault}
+use Rattle.gt_policy.specs.declared.fault.TokenFaultKind.TheVariants.{Unknown}
 use Rattle.gt_policy.specs.declared.symbols.Symbol.{Symbol}
 use Rattle.gt_policy.specs.declared.statements.Mention.{Mention}
-use Rattle.gt_policy.specs.declared.statements.Item.{Item}
-use Rattle.gt_policy.specs.declared.statements.Item.TheVariants as item
+use Rattle.gt_policy.specs.declared.statements.SetElement.{SetElement}
+use Rattle.gt_policy.specs.declared.statements.SetElement.TheVariants as item
 use Rattle.gt_policy.specs.declared.statements.Statement.{Statement}
 use Rattle.gt_policy.specs.declared.statements.Statement.TheVariants.{DeclareType, DeclareAttribute, GiveAttributes, Allow}
 use Rattle.gt_policy.specs.declared.statements.Allowance.{Allowance}
-use Rattle.gt_policy.specs.declared.resolve.Element.{Element}
-use Rattle.gt_policy.specs.declared.resolve.Element.TheVariants.{With, Without}
+use Rattle.gt_policy.specs.declared.resolve.DraftElement.{DraftElement}
+use Rattle.gt_policy.specs.declared.resolve.DraftElement.TheVariants.{With, Without}
 use Rattle.gt_policy.specs.declared.resolve.Draft.{Draft}
 use Rattle.gt_policy.specs.Names.{symbol_at, symbol_of}
 use Rattle.gt_policy.specs.Grammar.{◌>>=◌, at}
@@ -30,7 +30,7 @@ use Rattle.gt_policy.proofs.GrantingLemmas.{bytes_eq_swap}
 use Rattle.gt_policy.proofs.SpellingLemmas.{ok_of}
 
 -- a walk over these names ends well where all are declared, and else with the fault of the first that is not
-abbrev Tells : {X : Type 0} → List Statement → List Use → Result X Fault → Type 0
+abbrev Tells : {X : Type 0} → List Statement → List Use → Result X TokenFault → Type 0
 Tells ss us (Ok x) = list_all (is_met ss) us ≡ true
 Tells ss us (Err f) = IsFirstUndeclared ss us f
 
@@ -52,7 +52,7 @@ or_true false b e = e
 both_declared : (ss : List Statement) (us vs : List Use) → list_all (is_met ss) us ≡ true → list_all (is_met ss) vs ≡ true → list_all (is_met ss) (us ++ vs) ≡ true
 both_declared ss us vs a b = list_all-append (is_met ss) us vs ∙ and_true (list_all (is_met ss) us) (list_all (is_met ss) vs) a b
 
-first_in_front : (ss : List Statement) (us vs : List Use) (f : Fault) → IsFirstUndeclared ss us f → IsFirstUndeclared ss (us ++ vs) f
+first_in_front : (ss : List Statement) (us vs : List Use) (f : TokenFault) → IsFirstUndeclared ss us f → IsFirstUndeclared ss (us ++ vs) f
 first_in_front ss us vs f r = record {
   before = r.before;
   here = r.here;
@@ -63,7 +63,7 @@ first_in_front ss us vs f r = record {
   fault = r.fault;
 }
 
-first_behind : (ss : List Statement) (us vs : List Use) (f : Fault) → list_all (is_met ss) us ≡ true → IsFirstUndeclared ss vs f → IsFirstUndeclared ss (us ++ vs) f
+first_behind : (ss : List Statement) (us vs : List Use) (f : TokenFault) → list_all (is_met ss) us ≡ true → IsFirstUndeclared ss vs f → IsFirstUndeclared ss (us ++ vs) f
 first_behind ss us vs f all r = record {
   before = us ++ r.before;
   here = r.here;
@@ -74,16 +74,16 @@ first_behind ss us vs f all r = record {
   fault = r.fault;
 }
 
-tells_behind : {B : Type 0} (ss : List Statement) (us vs : List Use) (r : Result B Fault) → list_all (is_met ss) us ≡ true → Tells ss vs r → Tells ss (us ++ vs) r
+tells_behind : {B : Type 0} (ss : List Statement) (us vs : List Use) (r : Result B TokenFault) → list_all (is_met ss) us ≡ true → Tells ss vs r → Tells ss (us ++ vs) r
 tells_behind ss us vs (Ok y) all t = both_declared ss us vs all t
 tells_behind ss us vs (Err f) all t = first_behind ss us vs f all t
 
 -- one walk after the other
-tells_bind : {A B : Type 0} (ss : List Statement) (us vs : List Use) (m : Result A Fault) (k : A → Result B Fault) → Tells ss us m → ((x : A) → Tells ss vs (k x)) → Tells ss (us ++ vs) (m >>= k)
+tells_bind : {A B : Type 0} (ss : List Statement) (us vs : List Use) (m : Result A TokenFault) (k : A → Result B TokenFault) → Tells ss us m → ((x : A) → Tells ss vs (k x)) → Tells ss (us ++ vs) (m >>= k)
 tells_bind ss us vs (Ok x) k t step = tells_behind ss us vs (k x) t (step x)
 tells_bind ss us vs (Err f) k t step = first_in_front ss us vs f t
 
-tells_made : {A B : Type 0} (ss : List Statement) (us : List Use) (m : Result A Fault) (g : A → B) → Tells ss us m → Tells ss us (m >>= λ x. Ok (g x))
+tells_made : {A B : Type 0} (ss : List Statement) (us : List Use) (m : Result A TokenFault) (g : A → B) → Tells ss us m → Tells ss us (m >>= λ x. Ok (g x))
 tells_made ss us (Ok x) g t = t
 tells_made ss us (Err f) g t = t
 
@@ -170,18 +170,18 @@ attribute_tells ss d m = go (position (λ t. bytes_eq t m.name) (types_in ss)) (
     go None None e f = undeclared ss OfAttribute m (sym f)
 
 -- a set
-element_tells : (ss : List Statement) (i : Item) → Tells ss (set_uses (i ∷ [])) (element_of (names_of ss) i)
+element_tells : (ss : List Statement) (i : SetElement) → Tells ss (set_uses (i ∷ [])) (element_of (names_of ss) i)
 unfolding element_of
 element_tells ss (item.With m) = tells_made ss ((InSet, m) ∷ []) (known (names_of ss) m.name m.line) (λ s. With s) (known_tells ss m)
 element_tells ss (item.Without m) = tells_made ss ((InSet, m) ∷ []) (known (names_of ss) m.name m.line) (λ s. Without s) (known_tells ss m)
 element_tells ss item.Itself = refl
 
-uses_more : (i : Item) (items : List Item) → set_uses (i ∷ []) ++ set_uses items ≡ set_uses (i ∷ items)
+uses_more : (i : SetElement) (items : List SetElement) → set_uses (i ∷ []) ++ set_uses items ≡ set_uses (i ∷ items)
 uses_more (item.With m) items = refl
 uses_more (item.Without m) items = refl
 uses_more item.Itself items = refl
 
-elements_tell : (ss : List Statement) (items : List Item) (set : List Element) → Tells ss (set_uses items) (elements_of (names_of ss) set items)
+elements_tell : (ss : List Statement) (items : List SetElement) (set : List DraftElement) → Tells ss (set_uses items) (elements_of (names_of ss) set items)
 elements_tell ss [] set = refl
 elements_tell ss (i ∷ items) set =
     subst (λ (us : List Use). Tells ss us (elements_of (names_of ss) set (i ∷ items))) (uses_more i items)
@@ -198,7 +198,7 @@ given_tells ss distinct (m ∷ ms) d id =
 allow_tells : (ss : List Statement) (d : Draft) (a : Allowance) → Tells ss (set_uses a.source ++ set_uses a.target) (allowed_by (names_of ss) d a)
 unfolding allowed_by
 allow_tells ss d a =
-    let made : List Element → List Element → Draft = λ s t. record { given = d.given; rules = d.rules ++ record { source = s; target = t; perms = granted a.classes a.perms } ∷ [] } in
+    let made : List DraftElement → List DraftElement → Draft = λ s t. record { given = d.given; rules = d.rules ++ record { source = s; target = t; perms = granted a.classes a.perms } ∷ [] } in
     tells_bind ss (set_uses a.source) (set_uses a.target) (elements_of (names_of ss) [] a.source) (λ s. elements_of (names_of ss) [] a.target >>= λ t. ok_of (made s t)) (elements_tell ss a.source [])
     (λ s. tells_made ss (set_uses a.target) (elements_of (names_of ss) [] a.target) (λ t. made s t) (elements_tell ss a.target []))
 
@@ -219,7 +219,7 @@ statement_tells : (ss : List Statement) → AreDistinct (declared_in ss) → (s 
 unfolding with_statement
 statement_tells ss distinct (DeclareType w ms) d is =
     let own = own_type ss w is in
-    subst (λ (r : Result ℕ Fault). Tells ss (all_used OfAttribute ms) (r >>= λ id. given_by (names_of ss) d id ms)) (sym own.1) (given_tells ss distinct ms d own.0)
+    subst (λ (r : Result ℕ TokenFault). Tells ss (all_used OfAttribute ms) (r >>= λ id. given_by (names_of ss) d id ms)) (sym own.1) (given_tells ss distinct ms d own.0)
 statement_tells ss distinct (DeclareAttribute w) d is = refl
 statement_tells ss distinct (GiveAttributes m ms) d is =
     tells_bind ss ((OfType, m) ∷ []) (all_used OfAttribute ms) (type_in (names_of ss) m.name m.line) (λ id. given_by (names_of ss) d id ms) (type_tells ss m) (λ id. given_tells ss distinct ms d id)
@@ -263,44 +263,44 @@ one_first ss (u ∷ before) (v ∷ others) behind rest here there e a b x y =
     let more : before ++ here ∷ behind ≡ others ++ there ∷ rest = cc in
     one_first ss before others behind rest here there more (right_true (is_met ss u) (list_all (is_met ss) before) a) (right_true (is_met ss v) (list_all (is_met ss) others) b) x y
 
-same_fault : (ss : List Statement) (us : List Use) (f g : Fault) → IsFirstUndeclared ss us f → IsFirstUndeclared ss us g → f ≡ g
+same_fault : (ss : List Statement) (us : List Use) (f g : TokenFault) → IsFirstUndeclared ss us f → IsFirstUndeclared ss us g → f ≡ g
 same_fault ss us f g r q =
     sym r.fault ∙ ap (λ (u : Use). at u.1.line (Unknown u.1.name)) (one_first ss r.before q.before r.behind q.behind r.here q.here (sym r.place ∙ q.place) r.declared q.declared r.undeclared q.undeclared) ∙ q.fault
 
-none_first : (ss : List Statement) (us : List Use) (f : Fault) → list_all (is_met ss) us ≡ true → IsFirstUndeclared ss us f → ⊥
+none_first : (ss : List Statement) (us : List Use) (f : TokenFault) → list_all (is_met ss) us ≡ true → IsFirstUndeclared ss us f → ⊥
 none_first ss us f all r =
     let parts : (list_all (is_met ss) r.before && list_all (is_met ss) (r.here ∷ r.behind)) ≡ true = sym (list_all-append (is_met ss) r.before (r.here ∷ r.behind)) ∙ ap (λ (xs : List Use). list_all (is_met ss) xs) (sym r.place) ∙ all in
     let here : is_met ss r.here ≡ true = left_true (is_met ss r.here) (list_all (is_met ss) r.behind) (right_true (list_all (is_met ss) r.before) (list_all (is_met ss) (r.here ∷ r.behind)) parts) in
     false≢true (sym r.undeclared ∙ here)
 
 -- the fault of clean statements names the first that is not declared
-pub meant_undeclared : (ss : List Statement) (f : Fault) → AreClean ss → meant_by ss ≡ Err f → IsFirstUndeclared ss (uses_of ss) f
+pub meant_undeclared : (ss : List Statement) (f : TokenFault) → AreClean ss → meant_by ss ≡ Err f → IsFirstUndeclared ss (uses_of ss) f
 meant_undeclared ss f clean e = go (resolved (names_of ss) nothing_given ss) (all_tell ss clean) e
   where
-    go : (r : Result Draft Fault) → Tells ss (uses_of ss) r → meaning_of (names_of ss) r ≡ Err f → IsFirstUndeclared ss (uses_of ss) f
+    go : (r : Result Draft TokenFault) → Tells ss (uses_of ss) r → meaning_of (names_of ss) r ≡ Err f → IsFirstUndeclared ss (uses_of ss) f
     go (Ok d) t h = absurd (cc)
     go (Err g) t h =
         let same : g ≡ f = cc in
-        subst (λ (q : Fault). IsFirstUndeclared ss (uses_of ss) q) same t
+        subst (λ (q : TokenFault). IsFirstUndeclared ss (uses_of ss) q) same t
 
-pub undeclared_meant : (ss : List Statement) (f : Fault) → AreClean ss → IsFirstUndeclared ss (uses_of ss) f → meant_by ss ≡ Err f
+pub undeclared_meant : (ss : List Statement) (f : TokenFault) → AreClean ss → IsFirstUndeclared ss (uses_of ss) f → meant_by ss ≡ Err f
 undeclared_meant ss f clean first = go (resolved (names_of ss) nothing_given ss) (all_tell ss clean)
   where
-    go : (r : Result Draft Fault) → Tells ss (uses_of ss) r → meaning_of (names_of ss) r ≡ Err f
+    go : (r : Result Draft TokenFault) → Tells ss (uses_of ss) r → meaning_of (names_of ss) r ≡ Err f
     go (Ok d) t = absurd (none_first ss (uses_of ss) f t first)
-    go (Err g) t = ap (λ (q : Fault). let r : Result Meaning Fault = Err q in r) (same_fault ss (uses_of ss) g f t first)
+    go (Err g) t = ap (λ (q : TokenFault). let r : Result Meaning TokenFault = Err q in r) (same_fault ss (uses_of ss) g f t first)
 
 -- where all names are declared there is a meaning, and only there
 pub meant_declared : (ss : List Statement) (m : Meaning) → AreClean ss → meant_by ss ≡ Ok m → AreDeclared ss
 meant_declared ss m clean e = go (resolved (names_of ss) nothing_given ss) (all_tell ss clean) e
   where
-    go : (r : Result Draft Fault) → Tells ss (uses_of ss) r → meaning_of (names_of ss) r ≡ Ok m → AreDeclared ss
+    go : (r : Result Draft TokenFault) → Tells ss (uses_of ss) r → meaning_of (names_of ss) r ≡ Ok m → AreDeclared ss
     go (Ok d) t h = t
     go (Err g) t h = absurd (cc)
 
 pub declared_meant : (ss : List Statement) → AreClean ss → AreDeclared ss → (m : Meaning) × (meant_by ss ≡ Ok m)
 declared_meant ss clean all = go (resolved (names_of ss) nothing_given ss) (all_tell ss clean)
   where
-    go : (r : Result Draft Fault) → Tells ss (uses_of ss) r → (m : Meaning) × (meaning_of (names_of ss) r ≡ Ok m)
+    go : (r : Result Draft TokenFault) → Tells ss (uses_of ss) r → (m : Meaning) × (meaning_of (names_of ss) r ≡ Ok m)
     go (Ok d) t = (record { types = types_in ss; given = d.given; rules = d.rules }, refl)
     go (Err g) t = absurd (none_first ss (uses_of ss) g all t)

@@ -1,7 +1,7 @@
 -- Which texts are policies, and what they mean, without a reader.
 use Rattle.std.specs.Prelude.{◌≡◌, ℕ, ◌≤◌, List, [], ◌∷◌, length, Result, Err}
 use Rattle.gt_types.specs.declared.limits.TheConstants.{LONGEST_TEXT}
-use Rattle.gt_policy.specs.declared.fault.Fault.{Fault}
+use Rattle.gt_policy.specs.declared.fault.TokenFault.{TokenFault}
 use Rattle.gt_policy.specs.declared.statements.Statement.{Statement}
 use Rattle.gt_policy.specs.Lexing.{lexemes_of}
 use Rattle.gt_policy.specs.Grammar.{Lexemes, statement}
@@ -17,7 +17,7 @@ pub record IsWritten (text : List ℕ) (ss : List Statement) : Type 0 where
   pub clean : AreClean ss
 
 -- what such statements mean: a policy, or the first name in them that stands for nothing (own)
-abbrev pub meant_by : List Statement → Result Meaning Fault
+abbrev pub meant_by : List Statement → Result Meaning TokenFault
 meant_by ss = meaning_of (names_of ss) (resolved (names_of ss) nothing_given ss)
 
 -- statements up to a token, with what is behind them (SELinux policy language)
@@ -26,7 +26,7 @@ pub data SpellsFront : List Statement → Lexemes → Lexemes → Type 0 where
   front_more : (s : Statement) (ss : List Statement) (ls behind rest : Lexemes) → SpellsStatement s ls behind → SpellsFront ss behind rest → SpellsFront (s ∷ ss) ls rest
 
 -- The first statement that is none: clean statements stand before it, and it has this fault at its first token that fits nowhere. (own)
-pub record IsBroken (text : List ℕ) (f : Fault) : Type 0 where
+pub record IsBroken (text : List ℕ) (f : TokenFault) : Type 0 where
   pub before : List Statement
   pub rest : Lexemes
   pub short : length text ≤ LONGEST_TEXT

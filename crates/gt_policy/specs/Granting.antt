@@ -3,8 +3,8 @@ use Rattle.std.specs.Prelude.{ℕ, Bool, true, false, ◌&&◌, ◌||◌, not, L
 use Rattle.std.specs.List.{list_any}
 use Rattle.std.specs.Str.{bytes_eq}
 use Rattle.gt_policy.specs.declared.statements.Mention.{Mention}
-use Rattle.gt_policy.specs.declared.statements.Item.{Item}
-use Rattle.gt_policy.specs.declared.statements.Item.TheVariants.{With, Without, Itself}
+use Rattle.gt_policy.specs.declared.statements.SetElement.{SetElement}
+use Rattle.gt_policy.specs.declared.statements.SetElement.TheVariants.{With, Without, Itself}
 use Rattle.gt_policy.specs.declared.statements.Permissions.{Permissions}
 use Rattle.gt_policy.specs.declared.statements.Permissions.TheVariants.{Every, Named}
 use Rattle.gt_policy.specs.declared.statements.Statement.{Statement}
@@ -32,23 +32,23 @@ abbrev pub is_named : List Statement → List ℕ → List ℕ → Bool
 is_named ss w t = bytes_eq w t || list_any (λ s. gives s w t) ss
 
 -- an item of a set names the type, or an attribute that it has (SELinux policy language)
-abbrev pub names_with : List Statement → Item → List ℕ → Bool
+abbrev pub names_with : List Statement → SetElement → List ℕ → Bool
 names_with ss (With m) t = is_named ss m.name t
 names_with ss (Without m) t = false
 names_with ss Itself t = false
 
 -- an item of a set names the type, or an attribute that it has, behind `-` (SELinux policy language)
-abbrev pub names_without : List Statement → Item → List ℕ → Bool
+abbrev pub names_without : List Statement → SetElement → List ℕ → Bool
 names_without ss (With m) t = false
 names_without ss (Without m) t = is_named ss m.name t
 names_without ss Itself t = false
 
 -- A set holds the types named in it and those of the attributes named in it, less those named behind `-`, in whatever order they stand. (SELinux policy language)
-abbrev pub set_holds : List Statement → List Item → List ℕ → Bool
+abbrev pub set_holds : List Statement → List SetElement → List ℕ → Bool
 set_holds ss items t = list_any (λ i. names_with ss i t) items && not (list_any (λ i. names_without ss i t) items)
 
 -- an item is `self` (SELinux policy language)
-abbrev pub is_self : Item → Bool
+abbrev pub is_self : SetElement → Bool
 is_self (With m) = false
 is_self (Without m) = false
 is_self Itself = true

@@ -2,12 +2,12 @@
 use Rattle.std.specs.Prelude.{ℕ, ◌==◌, ◌&&◌, ◌||◌, Bool, false, List, [], ◌∷◌, if◌then◌else◌}
 use Rattle.gt_types.specs.Names as names
 use Rattle.gt_types.specs.declared.perms.Perms.{Perms}
-use Rattle.gt_policy.specs.declared.rules.Rule.{Rule}
+use Rattle.gt_policy.specs.declared.rules.AllowRule.{AllowRule}
 use Rattle.gt_policy.specs.declared.types.TypeSet.{TypeSet}
 use Rattle.gt_policy.specs.TypeSets.{holds}
 
 -- what a statement lists, it grants to this source on this target (own)
-abbrev pub is_reached : Rule → ℕ → ℕ → Bool
+abbrev pub is_reached : AllowRule → ℕ → ℕ → Bool
 is_reached rule s t = holds rule.source s && (holds rule.target t || (rule.itself && (t == s)))
 
 -- a permission, and the types on which a source has it (own)

@@ -4,8 +4,8 @@ use Rattle.std.specs.List.{list_any}
 use Rattle.std.specs.Str.{bytes_eq}
 use Rattle.gt_policy.specs.declared.lexer.Token.TheVariants.{Name, TypeWord, AttributeWord, TypeattributeWord, AllowWord, SelfWord, Open, Close, Colon, Semicolon, Comma, Minus, Star, End}
 use Rattle.gt_policy.specs.declared.statements.Mention.{Mention}
-use Rattle.gt_policy.specs.declared.statements.Item.{Item}
-use Rattle.gt_policy.specs.declared.statements.Item.TheVariants.{With, Without, Itself}
+use Rattle.gt_policy.specs.declared.statements.SetElement.{SetElement}
+use Rattle.gt_policy.specs.declared.statements.SetElement.TheVariants.{With, Without, Itself}
 use Rattle.gt_policy.specs.declared.statements.Permissions.{Permissions}
 use Rattle.gt_policy.specs.declared.statements.Permissions.TheVariants.{Every, Named}
 use Rattle.gt_policy.specs.declared.statements.Allowance.{Allowance}
@@ -21,17 +21,17 @@ pub data SpellsNames (in_type : Bool) : Bool → List Mention → Lexemes → Le
   a_name : (m : Mention) (ms : List Mention) (ls rest : Lexemes) → excluded in_type m.name ≡ false → SpellsNames in_type false ms ls rest → SpellsNames in_type true (m ∷ ms) ((Name m.name, m.line) ∷ ls) rest
 
 -- ("self" | "-"? NAME)* "}", with `self` in a target alone (SELinux policy language)
-pub data SpellsItems (target : Bool) : List Item → Lexemes → Lexemes → Type 0 where
+pub data SpellsItems (target : Bool) : List SetElement → Lexemes → Lexemes → Type 0 where
   items_end : (n : ℕ) (rest : Lexemes) → SpellsItems target [] ((Close, n) ∷ rest) rest
-  with : (m : Mention) (items : List Item) (ls rest : Lexemes) → SpellsItems target items ls rest → SpellsItems target (With m ∷ items) ((Name m.name, m.line) ∷ ls) rest
-  without : (n : ℕ) (m : Mention) (items : List Item) (ls rest : Lexemes) → SpellsItems target items ls rest → SpellsItems target (Without m ∷ items) ((Minus, n) ∷ (Name m.name, m.line) ∷ ls) rest
-  itself : (n : ℕ) (items : List Item) (ls rest : Lexemes) → target ≡ true → SpellsItems target items ls rest → SpellsItems target (Itself ∷ items) ((SelfWord, n) ∷ ls) rest
+  with : (m : Mention) (items : List SetElement) (ls rest : Lexemes) → SpellsItems target items ls rest → SpellsItems target (With m ∷ items) ((Name m.name, m.line) ∷ ls) rest
+  without : (n : ℕ) (m : Mention) (items : List SetElement) (ls rest : Lexemes) → SpellsItems target items ls rest → SpellsItems target (Without m ∷ items) ((Minus, n) ∷ (Name m.name, m.line) ∷ ls) rest
+  itself : (n : ℕ) (items : List SetElement) (ls rest : Lexemes) → target ≡ true → SpellsItems target items ls rest → SpellsItems target (Itself ∷ items) ((SelfWord, n) ∷ ls) rest
 
 -- NAME | "{" ("-"? NAME)+ "}", and for a target "self" | NAME | "{" ("self" | "-"? NAME)+ "}" (SELinux policy language)
-pub data SpellsSet (target : Bool) : List Item → Lexemes → Lexemes → Type 0 where
+pub data SpellsSet (target : Bool) : List SetElement → Lexemes → Lexemes → Type 0 where
   one_name : (m : Mention) (rest : Lexemes) → SpellsSet target (With m ∷ []) ((Name m.name, m.line) ∷ rest) rest
   one_self : (n : ℕ) (rest : Lexemes) → target ≡ true → SpellsSet target (Itself ∷ []) ((SelfWord, n) ∷ rest) rest
-  set_in : (n : ℕ) (i : Item) (items : List Item) (ls rest : Lexemes) → SpellsItems target (i ∷ items) ls rest → SpellsSet target (i ∷ items) ((Open, n) ∷ ls) rest
+  set_in : (n : ℕ) (i : SetElement) (items : List SetElement) (ls rest : Lexemes) → SpellsItems target (i ∷ items) ls rest → SpellsSet target (i ∷ items) ((Open, n) ∷ ls) rest
 
 -- NAME* "}" (SELinux policy language)
 pub data SpellsWords : List (List ℕ) → Lexemes → Lexemes → Type 0 where

@@ -1,11 +1,11 @@
 -- The texts of faults.
 use Rattle.std.specs.Prelude.{ℕ, List, ◌++◌, codes, string_bytes}
 use Rattle.std.specs.Fmt.{decimal}
-use Rattle.gt_policy.specs.declared.parse.FaultKind.{FaultKind}
-use Rattle.gt_policy.specs.declared.parse.FaultKind.TheVariants.{Syntax, Unknown, Twice, Permission, Outside, Limit, Memory}
+use Rattle.gt_policy.specs.declared.parse.PolicyFaultKind.{PolicyFaultKind}
+use Rattle.gt_policy.specs.declared.parse.PolicyFaultKind.TheVariants.{Syntax, Unknown, Twice, Permission, Outside, Limit, Memory}
 
 -- the text of a kind of fault: its word, and the name or mark that is at fault (own)
-abbrev pub kind_text : FaultKind → List ℕ
+abbrev pub kind_text : PolicyFaultKind → List ℕ
 kind_text Syntax = codes "syntax"
 kind_text (Unknown name) = codes "unknown " ++ string_bytes name
 kind_text (Twice name) = codes "twice " ++ string_bytes name
@@ -15,5 +15,5 @@ kind_text Limit = codes "limit"
 kind_text Memory = codes "memory"
 
 -- the text of a fault of this kind on this line: `line L: policy KIND` (own)
-abbrev pub fault_text : ℕ → FaultKind → List ℕ
+abbrev pub fault_text : ℕ → PolicyFaultKind → List ℕ
 fault_text line kind = codes "line " ++ decimal line ++ codes ": policy " ++ kind_text kind

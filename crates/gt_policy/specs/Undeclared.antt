@@ -2,11 +2,11 @@
 use Rattle.std.specs.Prelude.{◌≡◌, ℕ, ◌||◌, Bool, true, false, List, [], ◌∷◌, ◌++◌}
 use Rattle.std.specs.List.{list_any, list_all}
 use Rattle.std.specs.Str.{bytes_eq}
-use Rattle.gt_policy.specs.declared.fault.Fault.{Fault}
-use Rattle.gt_policy.specs.declared.fault.Kind.TheVariants.{Unknown}
+use Rattle.gt_policy.specs.declared.fault.TokenFault.{TokenFault}
+use Rattle.gt_policy.specs.declared.fault.TokenFaultKind.TheVariants.{Unknown}
 use Rattle.gt_policy.specs.declared.statements.Mention.{Mention}
-use Rattle.gt_policy.specs.declared.statements.Item.{Item}
-use Rattle.gt_policy.specs.declared.statements.Item.TheVariants.{With, Without, Itself}
+use Rattle.gt_policy.specs.declared.statements.SetElement.{SetElement}
+use Rattle.gt_policy.specs.declared.statements.SetElement.TheVariants.{With, Without, Itself}
 use Rattle.gt_policy.specs.declared.statements.Statement.{Statement}
 use Rattle.gt_policy.specs.declared.statements.Statement.TheVariants.{DeclareType, DeclareAttribute, GiveAttributes, Allow}
 use Rattle.gt_policy.specs.Grammar.{at}
@@ -28,7 +28,7 @@ all_used role [] = []
 all_used role (m ∷ ms) = (role, m) ∷ all_used role ms
 
 -- the names of a set, those behind `-` too (own)
-abbrev pub set_uses : List Item → List Use
+abbrev pub set_uses : List SetElement → List Use
 set_uses [] = []
 set_uses (With m ∷ items) = (InSet, m) ∷ set_uses items
 set_uses (Without m ∷ items) = (InSet, m) ∷ set_uses items
@@ -65,7 +65,7 @@ abbrev pub AreDeclared : List Statement → Type 0
 AreDeclared ss = list_all (is_met ss) (uses_of ss) ≡ true
 
 -- Of these names the first that the statements do not declare so is named by the fault, with its line: all before it are declared. (own)
-pub record IsFirstUndeclared (ss : List Statement) (uses : List Use) (f : Fault) : Type 0 where
+pub record IsFirstUndeclared (ss : List Statement) (uses : List Use) (f : TokenFault) : Type 0 where
   pub before : List Use
   pub here : Use
   pub behind : List Use

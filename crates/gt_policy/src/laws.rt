@@ -7,8 +7,8 @@ ghost use Rattle.gt_policy.specs.Granting.{is_granted, lists_word};
 ghost use Rattle.gt_policy.specs.Resolving.{granted, has_grant};
 ghost use Rattle.gt_policy.specs.Undeclared.{AreDeclared, IsFirstUndeclared, uses_of};
 ghost use Rattle.gt_policy.specs.Whole.{Says};
-ghost use Rattle.gt_policy.specs.declared.fault.Fault.{Fault};
-ghost use Rattle.gt_policy.specs.declared.fault.Kind.{Kind};
+ghost use Rattle.gt_policy.specs.declared.fault.TokenFault.{TokenFault};
+ghost use Rattle.gt_policy.specs.declared.fault.TokenFaultKind.{TokenFaultKind};
 ghost use Rattle.gt_policy.specs.declared.statements.Permissions.{Permissions};
 ghost use Rattle.gt_policy.specs.declared.statements.Statement.{Statement};
 ghost use Rattle.gt_types.specs.declared.TypeId.{TypeId};
@@ -19,12 +19,12 @@ use gt_types::{LONGEST_TEXT, the_permissions};
 
 /// Every text says something: a policy or a fault.
 pub fn every_text_says_something()
-    ensures { (text : List ℕ) → (said : Result Meaning Fault) × Says text said }
+    ensures { (text : List ℕ) → (said : Result Meaning TokenFault) × Says text said }
 {}
 
 /// A text says one thing: a policy or a fault, and one alone.
 pub fn one_meaning()
-    ensures { (text : List ℕ) (one other : Result Meaning Fault) →
+    ensures { (text : List ℕ) (one other : Result Meaning TokenFault) →
         Says text one → Says text other → one ≡ other }
 {}
 
@@ -42,12 +42,12 @@ pub fn written_texts()
 /// The fault of a text is that it is too long, or that of its first statement that is none, or that
 /// of the first name that is not declared in a text of clean statements.
 pub fn first_faults()
-    ensures faulty { (text : List ℕ) (f : Fault) → Says text (Err f) →
-        ((LONGEST_TEXT < length text) × (at 1 Kind.Limit ≡ f))
+    ensures faulty { (text : List ℕ) (f : TokenFault) → Says text (Err f) →
+        ((LONGEST_TEXT < length text) × (at 1 TokenFaultKind.Limit ≡ f))
         ⊎ (IsBroken text f
         ⊎ ((ss : List Statement) × IsWritten text ss × IsFirstUndeclared ss (uses_of ss) f)) }
-    ensures broken { (text : List ℕ) (f : Fault) → IsBroken text f → Says text (Err f) }
-    ensures undeclared { (text : List ℕ) (ss : List Statement) (f : Fault) →
+    ensures broken { (text : List ℕ) (f : TokenFault) → IsBroken text f → Says text (Err f) }
+    ensures undeclared { (text : List ℕ) (ss : List Statement) (f : TokenFault) →
         IsWritten text ss → IsFirstUndeclared ss (uses_of ss) f → Says text (Err f) }
 {}
 

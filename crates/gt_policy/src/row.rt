@@ -6,7 +6,7 @@ ghost use Rattle.gt_policy.specs.Allowing.{grants, lists_perm};
 ghost use Rattle.gt_policy.specs.Rows.{reaches};
 ghost use Rattle.gt_policy.specs.TypeSets.{holds};
 
-use crate::rules::Rule;
+use crate::rules::AllowRule;
 use crate::types::TypeSet;
 use bitflags::Flags;
 use gt_types::{Perms, TypeId};
@@ -15,7 +15,7 @@ use std::marker::Model;
 /// What one type may do to each type. A contract sees a lane for each permission: the types on which it
 /// has it.
 #[derive(Debug, Drop)]
-pub struct Row {
+pub struct TypeRow {
     map_read: TypeSet,
     map_write: TypeSet,
     unmap: TypeSet,
@@ -25,7 +25,7 @@ pub struct Row {
     query: TypeSet,
 }
 
-impl Model for Row {
+impl Model for TypeRow {
     ghost use Rattle.std.specs.Prelude.{List};
     ghost use Rattle.gt_policy.specs.Rows.{Lane, lanes};
 
@@ -35,7 +35,7 @@ impl Model for Row {
 }
 
 // The types on which a source has a permission, and those that one more statement adds.
-fn grown(so_far: TypeSet, rule: &Rule, perm: Perms, targets: TypeSet) -> TypeSet
+fn grown(so_far: TypeSet, rule: &AllowRule, perm: Perms, targets: TypeSet) -> TypeSet
     ensures { (t : ℕ) → holds result t ≡ (holds so_far t || (lists_perm rule.now.perms perm && holds targets t)) }
 {
     if rule.perms.contains(perm) {
@@ -45,13 +45,13 @@ fn grown(so_far: TypeSet, rule: &Rule, perm: Perms, targets: TypeSet) -> TypeSet
     }
 }
 
-impl Row {
+impl TypeRow {
     /// Of a type that may do nothing.
-    pub(crate) fn empty() -> Row
+    pub(crate) fn empty() -> TypeRow
         ensures { (t : ℕ) (perm : Perms) → reaches result t perm ≡ false }
     {
         let none = TypeSet::empty();
-        Row {
+        TypeRow {
             map_read: none,
             map_write: none,
             unmap: none,
@@ -63,7 +63,7 @@ impl Row {
     }
 
     /// The same, and what one more statement grants to the source.
-    pub(crate) fn with(self, rule: &Rule, source: TypeId) -> Row
+    pub(crate) fn with(self, rule: &AllowRule, source: TypeId) -> TypeRow
         ensures { (t : ℕ) (perm : Perms) →
             reaches result t perm ≡ (reaches self t perm || (is_permission perm && grants rule.now source.0 t perm)) }
     {
@@ -71,7 +71,7 @@ impl Row {
             return self;
         }
         let targets = rule.targets(source);
-        Row {
+        TypeRow {
             map_read: grown(self.map_read, rule, Perms::MAP_READ, targets),
             map_write: grown(self.map_write, rule, Perms::MAP_WRITE, targets),
             unmap: grown(self.unmap, rule, Perms::UNMAP, targets),

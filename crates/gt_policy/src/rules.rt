@@ -8,7 +8,7 @@ ghost use Rattle.gt_policy.specs.Members.{has};
 ghost use Rattle.gt_policy.specs.Rows.{is_reached};
 ghost use Rattle.gt_policy.specs.TypeSets.{holds};
 
-use crate::resolve::{DraftRule, Element, Given};
+use crate::resolve::{DraftElement, DraftRule, TypeAttribute};
 use crate::symbols::Symbol;
 use crate::types::TypeSet;
 use bitflags::Flags;
@@ -17,7 +17,7 @@ use std::alloc::{AllocError, Global};
 
 /// The permissions that the types of a set have on those of another.
 #[derive(Clone, Copy, Debug, PartialEq, Eq)]
-pub struct Rule {
+pub struct AllowRule {
     pub source: TypeSet,
     pub target: TypeSet,
     /// Whether each source has them on itself too.
@@ -25,7 +25,7 @@ pub struct Rule {
     pub perms: Perms,
 }
 
-impl Rule {
+impl AllowRule {
     /// Whether the source has the permission on the target.
     pub(crate) fn grants(&self, source: TypeId, target: TypeId, perm: Perms) -> bool
         ensures { result ≡ grants self.now source.0 target.0 perm }
@@ -50,10 +50,10 @@ impl Rule {
     }
 }
 
-fn says_itself(set: &[Element]) -> bool
+fn says_itself(set: &[DraftElement]) -> bool
     ensures { result ≡ says_itself set.now }
 {
-    set.iter().any(|e| matches!(e, Element::Itself))
+    set.iter().any(|e| matches!(e, DraftElement::Itself))
 }
 
 /// The types of each attribute, by its number.
@@ -64,7 +64,7 @@ pub struct Members {
 
 impl Members {
     /// The types that were given each attribute.
-    pub(crate) fn new(given: &[Given]) -> Members
+    pub(crate) fn new(given: &[TypeAttribute]) -> Members
         ensures { (a n : ℕ) → has result a n ≡ was_given given.now a n }
     {
         let mut sets = [TypeSet::empty(); 256];
@@ -86,29 +86,29 @@ impl Members {
     }
 
     // The types that an item of a set adds to it.
-    fn included(&self, element: Element) -> TypeSet
+    fn included(&self, element: DraftElement) -> TypeSet
         ensures { (n : ℕ) → holds result n ≡ is_with (has self.now) element n }
     {
         match element {
-            Element::With(symbol) => self.named(symbol),
-            Element::Without(_) => TypeSet::empty(),
-            Element::Itself => TypeSet::empty(),
+            DraftElement::With(symbol) => self.named(symbol),
+            DraftElement::Without(_) => TypeSet::empty(),
+            DraftElement::Itself => TypeSet::empty(),
         }
     }
 
     // The types that an item of a set takes from it.
-    fn excluded(&self, element: Element) -> TypeSet
+    fn excluded(&self, element: DraftElement) -> TypeSet
         ensures { (n : ℕ) → holds result n ≡ is_without (has self.now) element n }
     {
         match element {
-            Element::With(_) => TypeSet::empty(),
-            Element::Without(symbol) => self.named(symbol),
-            Element::Itself => TypeSet::empty(),
+            DraftElement::With(_) => TypeSet::empty(),
+            DraftElement::Without(symbol) => self.named(symbol),
+            DraftElement::Itself => TypeSet::empty(),
         }
     }
 
     // The types of a set: what is taken is taken from all, whatever the order of the items.
-    fn types_of(&self, set: &[Element]) -> TypeSet
+    fn types_of(&self, set: &[DraftElement]) -> TypeSet
         ensures { (n : ℕ) → holds result n ≡ holds_type (has self.now) set.now n }
     {
         let mut with = TypeSet::empty();
@@ -120,11 +120,11 @@ impl Members {
         with.without(without)
     }
 
-    fn rule(&self, draft: &DraftRule) -> Rule
+    fn rule(&self, draft: &DraftRule) -> AllowRule
         ensures { (s t : ℕ) (perm : Perms) →
             grants result s t perm ≡ is_granted_by (has self.now) s t perm draft.now }
     {
-        Rule {
+        AllowRule {
             source: self.types_of(draft.source.as_slice()),
             target: self.types_of(draft.target.as_slice()),
             itself: says_itself(draft.target.as_slice()),
@@ -133,7 +133,11 @@ impl Members {
     }
 
     /// The allow statements, with their sets as sets of types.
-    pub(crate) fn rules(&self, alloc: Global, drafts: &[DraftRule]) -> Result<Vec<Rule>, AllocError>
+    pub(crate) fn rules(
+        &self,
+        alloc: Global,
+        drafts: &[DraftRule],
+    ) -> Result<Vec<AllowRule>, AllocError>
         ensures { IfOk result (λ rules. (s t : ℕ) (perm : Perms) →
             some_grants rules.items s t perm
             ≡ list_any (λ draft. is_granted_by (has self.now) s t perm draft) drafts.now) }

@@ -1,7 +1,7 @@
 //! Listings of texts at the limits and of texts that are cut off, and over readers and writers that fail.
 use crate::texts::{GUESTS, TAKEN_OUT, declarations};
 use gt_failing::{FailingReader, FailingWriter};
-use gt_listing::{Fault, policy};
+use gt_listing::{ListingFault, policy};
 use std::alloc::Global;
 use std::process::Abort;
 use std::test::Fail;
@@ -34,7 +34,7 @@ fn every_beginning_is_listed_or_refused(rt: HostRuntime) -> Result<(), Fail> {
         let mut writer = Vec::new(rt.alloc());
         let is_told = match policy(rt.alloc(), &mut reader, &mut writer) {
             Ok(()) if length + 1 == GUESTS.len() => writer.as_slice() == GUESTS_LINES.as_bytes(),
-            Ok(()) | Err(Fault::Policy(_)) => writer.is_empty(),
+            Ok(()) | Err(ListingFault::Policy(_)) => writer.is_empty(),
             Err(_) => false,
         };
         assert!(rt; is_told, "{length} bytes");
@@ -102,7 +102,7 @@ fn a_reader_that_fails(rt: HostRuntime) -> Result<(), Fail> {
         let mut reader = FailingReader::new(GUESTS.as_bytes(), left);
         let mut writer = Vec::new(rt.alloc());
         let outcome = policy(rt.alloc(), &mut reader, &mut writer);
-        let is_told = matches!(outcome, Err(Fault::Read)) && writer.is_empty();
+        let is_told = matches!(outcome, Err(ListingFault::Read)) && writer.is_empty();
         assert!(rt; is_told, "after {left} bytes");
     }
     Ok(())
@@ -114,7 +114,7 @@ fn a_writer_that_fails(rt: HostRuntime) -> Result<(), Fail> {
         let mut writer = FailingWriter::new(Vec::new(rt.alloc()), left);
         let outcome = policy(rt.alloc(), &mut GUESTS.as_bytes(), &mut writer);
         let is_beginning = writer.taken.as_slice() == &GUESTS_LINES.as_bytes()[..left];
-        let is_told = matches!(outcome, Err(Fault::Write)) && is_beginning;
+        let is_told = matches!(outcome, Err(ListingFault::Write)) && is_beginning;
         assert!(rt; is_told, "after {left} bytes");
     }
     Ok(())
@@ -137,7 +137,7 @@ fn refused_at_most_once(
     match policy(alloc, &mut reader, &mut writer) {
         Ok(()) => assert_eq!(rt; writer.taken.as_slice(), lines.as_bytes()),
         Err(fault) => {
-            assert!(rt; matches!(fault, Fault::Memory));
+            assert!(rt; matches!(fault, ListingFault::Memory));
             assert!(rt; lines.as_bytes().starts_with(writer.taken.as_slice()));
         }
     }

@@ -1,7 +1,7 @@
 //! Names and numbers of types, what a source may do, and every beginning of a text.
 use crate::texts::{GUESTS, declarations};
 use bitflags::Flags;
-use gt_policy::{FaultKind, Policy};
+use gt_policy::{Policy, PolicyFaultKind};
 use gt_types::{Allows, Perms, TypeId};
 use std::alloc::{AllocError, Global};
 use std::test::Fail;
@@ -16,7 +16,7 @@ fn ends_each_beginning_of_a_text(rt: HostRuntime) -> Result<(), Fail> {
         let is_end = c == ';' || c == '\n';
         let is_told = match Policy::parse(alloc, text.as_str()) {
             Ok(_) => is_end,
-            Err(fault) => !is_end && !matches!(&fault.kind, FaultKind::Memory),
+            Err(fault) => !is_end && !matches!(&fault.kind, PolicyFaultKind::Memory),
         };
         assert!(rt; is_told, "{text}");
     }
@@ -105,6 +105,6 @@ fn memory(rt: HostRuntime) {
             );
             assert_eq!(rt; told, (2, true, true, false));
         }
-        Err(fault) => assert!(rt; matches!(&fault.kind, FaultKind::Memory)),
+        Err(fault) => assert!(rt; matches!(&fault.kind, PolicyFaultKind::Memory)),
     }
 }

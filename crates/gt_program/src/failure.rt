@@ -3,7 +3,7 @@ ghost use Rattle.std.specs.Prelude.{◌≡◌};
 ghost use Rattle.gt_program.specs.Obeying.{status_of};
 
 use gt_host::PlayFault;
-use gt_listing::Fault;
+use gt_listing::ListingFault;
 use gt_run::RunFault;
 use gt_streams::{ReadFault, WriteFault};
 use std::error::Error;
@@ -17,7 +17,7 @@ pub enum Failure {
     /// The domains of a script were not run to their end.
     Run(RunFault),
     /// A policy was not listed to its end.
-    List(Fault),
+    List(ListingFault),
     /// The file can't be opened. Nothing was written.
     File(ReadFault),
     /// The help was not written whole.

@@ -5,7 +5,7 @@ use Rattle.std.proofs.Math.Seq.{take-suc}
 use Rattle.std.proofs.lemmas.List.{append-nil}
 use Rattle.std.proofs.lemmas.Option.{slice_get_read}
 use Rattle.gt_types.specs.declared.DomId.{DomId}
-use Rattle.gt_lines.specs.declared.calls.Call.{Call}
+use Rattle.gt_lines.specs.declared.calls.ScriptCall.{ScriptCall}
 use Rattle.gt_script.specs.declared.tasks.Deed.{Deed}
 use Rattle.gt_script.specs.declared.tasks.Deed.TheVariants.{Do, Tell, Await}
 use Rattle.gt_script.specs.declared.tasks.Task.{Task}
@@ -53,7 +53,7 @@ await_more whole names dom list i l text flag within is own awaits g =
     quiet_more whole names dom list i l text within is (own_prints names dom l [] own (subst (λ (d : Deed). PrintsDeed names dom l.line d []) (sym awaits) refl)) g
 
 -- a line that makes a call
-pub do_more : {V E : Type 0} (items : V → List ℕ) (whole r : Bool) (names : List (List ℕ)) (dom : DomId) (list : List Task) (i : ℕ) (l : Task) (line : Result V E) (old new : List ℕ) (call : Call)
+pub do_more : {V E : Type 0} (items : V → List ℕ) (whole r : Bool) (names : List (List ℕ)) (dom : DomId) (list : List Task) (i : ℕ) (l : Task) (line : Result V E) (old new : List ℕ) (call : ScriptCall)
     → i < length list → l ≡ get_or list i l → (l.dom.0 == dom.0) ≡ true → l.deed ≡ Do call → IfOk line (λ v. IsAnswerLine names l.line dom (items v)) → Gone whole names dom list i old
     → (IsTrue r → IsTrue whole × IsOk line × IfOk line (λ v. new ≡ old ++ items v)) → (r ≡ false → new ≡ old) → Gone r names dom list (i + 1) new
 unfolding PrintsDeed

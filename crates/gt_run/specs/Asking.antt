@@ -17,7 +17,7 @@ use Rattle.gt_core.specs.declared.trace.Answer.TheVariants as answers
 use Rattle.gt_live.specs.declared.domain.Domain.{Domain}
 use Rattle.gt_live.specs.declared.monitor.Monitor.{Monitor}
 use Rattle.gt_live.specs.Accesses.{IsCopiedBy, IsReadBy, IsWrittenBy}
-use Rattle.gt_live.specs.Domains.{Accesses, Answered, KeepsPinned, MapAnswered, Rights, mapping_reply, subject_of}
+use Rattle.gt_live.specs.Domains.{Accesses, Answered, KeepsPinned, MapAnswered, AllowRelation, mapping_reply, subject_of}
 use Rattle.gt_live.specs.Domains.{told_copy, told_of, verdict_of, verdict_of_frames, verdict_of_size}
 use Rattle.gt_live.specs.Domains.{verdict_of_version}
 use Rattle.gt_live.specs.Mappings.{Removes}
@@ -63,26 +63,26 @@ IsReadAnswer (Ok r) answer = HasBytes r.bytes answer
 IsReadAnswer (Err denial) answer = answer ≡ answers.Denied denial
 
 -- A call that is not recorded was answered so: the domain has the mappings, pins and records that it had. (own)
-abbrev pub AnswersQuietly : {P : Type 0} → (P → Rights) → Monitor P → Domain → Request → Verdict → Domain → Type 0
+abbrev pub AnswersQuietly : {P : Type 0} → (P → AllowRelation) → Monitor P → Domain → Request → Verdict → Domain → Type 0
 AnswersQuietly may m d request verdict e =
     Answered may m d request verdict e × KeepsPinned d e × (e.trail ≡ d.trail)
 
 -- a call that is recorded was answered so: the domain has the mappings and pins that it had, and this call is the one
 -- record more, which is kept or counted as lost (own)
-abbrev pub AnswersTold : {P : Type 0} → (P → Rights) → Monitor P → Domain → Request → Hypercall → Verdict → Domain
+abbrev pub AnswersTold : {P : Type 0} → (P → AllowRelation) → Monitor P → Domain → Request → Hypercall → Verdict → Domain
     → Type 0
 AnswersTold may m d request call verdict e =
     Answered may m d request verdict e × KeepsPinned d e × Tells d.trail (told_of d call verdict) e.trail
 
 -- an access to one frame was answered so: the domain has the mappings, pins and records that it had (own)
-abbrev pub AccessesQuietly : {P R : Type 0} → (P → Rights) → Monitor P → Domain → Request → (Step → R → Type 0)
+abbrev pub AccessesQuietly : {P R : Type 0} → (P → AllowRelation) → Monitor P → Domain → Request → (Step → R → Type 0)
     → Result R Denial → Domain → Type 0
 AccessesQuietly may m d request tells result e =
     Accesses may m d request tells result e × KeepsPinned d e × (e.trail ≡ d.trail)
 
 -- The domain d was asked this, answered so, and is e after it: the answer tells how its own call of that name was
 -- answered, and so what that call did, to its mappings and its records too. (own)
-abbrev pub AnswersCall : {P : Type 0} → (P → Rights) → Monitor P → Domain → Request → Answer → Domain → Type 0
+abbrev pub AnswersCall : {P : Type 0} → (P → AllowRelation) → Monitor P → Domain → Request → Answer → Domain → Type 0
 AnswersCall may m d (requests.Map dom gref flags) answer e =
     (r : Result Handle Denial) × (answer ≡ mapped_answer r)
     × MapAnswered may m d (requests.Map dom gref flags) r e
@@ -124,5 +124,5 @@ AnswersCall may m d request answer e =
     (r : Result (Unit {0}) Denial) × (answer ≡ plain_answer r) × AnswersQuietly may m d request (verdict_of r) e
 
 -- the same of a domain that keeps its number (own)
-abbrev pub Asks : {P : Type 0} → (P → Rights) → Monitor P → Domain → Request → Answer → Domain → Type 0
+abbrev pub Asks : {P : Type 0} → (P → AllowRelation) → Monitor P → Domain → Request → Answer → Domain → Type 0
 Asks may m d request answer e = (e.seat.dom ≡ d.seat.dom) × AnswersCall may m d request answer e

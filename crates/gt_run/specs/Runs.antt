@@ -2,7 +2,7 @@
 use Rattle.std.specs.Prelude.{◌≡◌, ◌⊎◌, ◌++◌, ℕ, List, map, All, Option, Some, Result, Ok, Err}
 use Rattle.std.specs.Io.KnownBytes.{Keeps}
 use Rattle.gt_types.specs.declared.config.DomainConfig.{DomainConfig}
-use Rattle.gt_policy.specs.declared.fault.Fault as policy
+use Rattle.gt_policy.specs.declared.fault.TokenFault as policy
 use Rattle.gt_audit.specs.Lines.{lost_text}
 use Rattle.gt_script.specs.Blocks.{block_fault_shown}
 use Rattle.gt_script.specs.Contents.{type_names}
@@ -76,7 +76,7 @@ abbrev pub Ran : (Result RunContents Wrong → Type 0) → Option (List ℕ) →
 Ran Told old new (Ok done) = OfScript Told (λ c. WritesScript c old new)
 Ran Told old new (Err Thread) = OfScript Told (λ c. Keeps old new)
 Ran Told old new (Err (Play (Script fault))) = Told (Err (in_script fault)) × Keeps old new
-Ran Told old new (Err (Play (Policy fault))) = (g : policy.Fault) × (block_fault_shown fault ≡ Some g) × Told (Err (in_policy g)) × Keeps old new
+Ran Told old new (Err (Play (Policy fault))) = (g : policy.TokenFault) × (block_fault_shown fault ≡ Some g) × Told (Err (in_policy g)) × Keeps old new
 Ran Told old new (Err (Play Memory)) = Keeps old new ⊎ OfScript Told (λ c. BeginsScript c old new)
 Ran Told old new (Err (Play Write)) = OfScript Told (λ c. BeginsScript c old new)
 Ran Told old new (Err (Play Read)) = Keeps old new

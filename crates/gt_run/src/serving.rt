@@ -9,7 +9,7 @@ use crate::telling::Teller;
 use gt_audit::SharedLog;
 use gt_core::Answer;
 use gt_host::{Labels, bytes_said, label_given, push_answer_line, request_of};
-use gt_lines::Call;
+use gt_lines::ScriptCall;
 use gt_script::Deed;
 use gt_texts::{push_number, push_text};
 use gt_types::{Allows, DomId, Memory};
@@ -36,7 +36,7 @@ fn make_call<'a, R: Wait, P: Allows>(
     domain: &mut Running<'_, P>,
     labels: &mut Labels<'a>,
     dom: DomId,
-    call: &Call<'a>,
+    call: &ScriptCall<'a>,
 ) -> Result<Answer, AllocError> {
     let bytes = bytes_said(alloc, call)?;
     let answer = domain.ask(rt, request_of(labels, dom, bytes.as_slice(), call));
@@ -55,7 +55,7 @@ fn call_line<'a, R: Wait, P: Allows>(
     teller: &mut Option<Teller<'_>>,
     part: Part<'_, 'a>,
     line: usize,
-    call: &Call<'a>,
+    call: &ScriptCall<'a>,
 ) -> Result<Vec<u8>, AllocError>
     ensures { IfOk result (λ text. IsAnswerLine part.entry.types.now line part.entry.dom text.items) }
 {

@@ -12,9 +12,9 @@ use Rattle.gt_types.specs.declared.rights.Triple.{Triple}
 use Rattle.gt_policy.specs.Allowing.{Allowed}
 use Rattle.gt_policy.specs.Shown.{fault_shown}
 use Rattle.gt_policy.specs.Whole as policies
-use Rattle.gt_policy.specs.declared.fault.Fault as policy
-use Rattle.gt_policy.specs.declared.parse.FaultKind as kinds
-use Rattle.gt_policy.specs.declared.parse.FaultKind.TheVariants as kind
+use Rattle.gt_policy.specs.declared.fault.TokenFault as policy
+use Rattle.gt_policy.specs.declared.parse.PolicyFaultKind as kinds
+use Rattle.gt_policy.specs.declared.parse.PolicyFaultKind.TheVariants as kind
 use Rattle.gt_lines.specs.Words.{words}
 use Rattle.gt_script.specs.Faults.{error_in_block}
 use Rattle.gt_script.specs.Blocks.{opening, closing, block_text, Means, IsFaulty, IsPolicyOf}
@@ -26,9 +26,9 @@ use Rattle.gt_script.specs.declared.command.Command.{Command}
 use Rattle.gt_script.specs.declared.script.Script.{Script}
 use Rattle.gt_script.specs.declared.faults.ScriptError.{ScriptError}
 use Rattle.gt_script.specs.declared.faults.ScriptError.TheVariants as errors
-use Rattle.gt_script.specs.declared.faults.FaultKind.{FaultKind}
-use Rattle.gt_script.specs.declared.faults.FaultKind.TheVariants.{Syntax, Config}
-use Rattle.gt_script.specs.declared.faults.Fault.{Fault}
+use Rattle.gt_script.specs.declared.faults.ScriptFaultKind.{ScriptFaultKind}
+use Rattle.gt_script.specs.declared.faults.ScriptFaultKind.TheVariants.{Syntax, Config}
+use Rattle.gt_script.specs.declared.faults.ScriptFault.{ScriptFault}
 use Rattle.gt_streams.specs.Laws.{take_whole}
 use Rattle.gt_script.proofs.BlockLemmas.{OpensAt, opens_at, none_opens, ClosesAt, closes_at, none_closes}
 use Rattle.gt_script.proofs.ScriptLemmas.{texts}
@@ -39,9 +39,9 @@ use Rattle.gt_script.proofs.WearLemmas.{first_gen-small}
 -- the first line with a fault
 
 with_lines-first : (n : ℕ) (l : List ℕ) (ls : List (List ℕ)) (c d : Contents) → with_words c n (words l) ≡ Ok d → with_lines c n (l ∷ ls) ≡ with_lines d (n + 1) ls
-with_lines-first n l ls c d p = ap (λ (r : Result Contents FaultKind). let whole : Result Contents Fault = elim r [ Ok e ↦ with_lines e (n + 1) ls | Err kind ↦ Err (record { line = n; kind = kind }) ] in whole) p
+with_lines-first n l ls c d p = ap (λ (r : Result Contents ScriptFaultKind). let whole : Result Contents ScriptFault = elim r [ Ok e ↦ with_lines e (n + 1) ls | Err kind ↦ Err (record { line = n; kind = kind }) ] in whole) p
 
-fault-later : (n : ℕ) (l : List ℕ) (ls : List (List ℕ)) (c d : Contents) (f : Fault) → with_words c n (words l) ≡ Ok d → IsFaultOfLine (n + 1) ls d f → IsFaultOfLine n (l ∷ ls) c f
+fault-later : (n : ℕ) (l : List ℕ) (ls : List (List ℕ)) (c d : Contents) (f : ScriptFault) → with_words c n (words l) ≡ Ok d → IsFaultOfLine (n + 1) ls d f → IsFaultOfLine n (l ∷ ls) c f
 fault-later n l ls c d f p x = record {
   place = suc x.place;
   line = x.line;
@@ -52,15 +52,15 @@ fault-later n l ls c d f p x = record {
   here = x.here;
 }
 
-fault-line : (n : ℕ) (l : List ℕ) (ls : List (List ℕ)) (c : Contents) (f : Fault) (r : Result Contents FaultKind) → with_words c n (words l) ≡ r
+fault-line : (n : ℕ) (l : List ℕ) (ls : List (List ℕ)) (c : Contents) (f : ScriptFault) (r : Result Contents ScriptFaultKind) → with_words c n (words l) ≡ r
     → ((d : Contents) → with_lines d (n + 1) ls ≡ Err f → IsFaultOfLine (n + 1) ls d f)
-    → (let whole : Result Contents Fault = elim r [ Ok d ↦ with_lines d (n + 1) ls | Err kind ↦ Err (record { line = n; kind = kind }) ] in whole ≡ Err f) → IsFaultOfLine n (l ∷ ls) c f
+    → (let whole : Result Contents ScriptFault = elim r [ Ok d ↦ with_lines d (n + 1) ls | Err kind ↦ Err (record { line = n; kind = kind }) ] in whole ≡ Err f) → IsFaultOfLine n (l ∷ ls) c f
 fault-line n l ls c f (Ok d) p rest h = fault-later n l ls c d f p (rest d h)
 fault-line n l ls c f (Err kind) p rest h =
     let same : record { line = n; kind = kind } ≡ f = cc in
-    subst (λ (g : Fault). IsFaultOfLine n (l ∷ ls) c g) same (record { place = 0; line = l; before = c; number = omega arith; there = refl; earlier = refl; here = p })
+    subst (λ (g : ScriptFault). IsFaultOfLine n (l ∷ ls) c g) same (record { place = 0; line = l; before = c; number = omega arith; there = refl; earlier = refl; here = p })
 
-fault-at : (n : ℕ) (ls : List (List ℕ)) (c : Contents) (f : Fault) → with_lines c n ls ≡ Err f → IsFaultOfLine n ls c f
+fault-at : (n : ℕ) (ls : List (List ℕ)) (c : Contents) (f : ScriptFault) → with_lines c n ls ≡ Err f → IsFaultOfLine n ls c f
 fault-at n [] c f h = absurd cc
 fault-at n (l ∷ ls) c f h = fault-line n l ls c f (with_words c n (words l)) refl (λ d. fault-at (n + 1) ls d f) h
 
@@ -100,20 +100,20 @@ unfolding has_no_rights
 some_rights c h = some-rights c.policy c.triples h
 
 -- what the end of a script says, by whether it has rights and domains
-abbrev at_end : ℕ → Contents → Bool → Bool → Result Contents Fault
+abbrev at_end : ℕ → Contents → Bool → Bool → Result Contents ScriptFault
 at_end count c rights domains = cond rights (Err (record { line = count + 1; kind = Syntax })) (cond domains (Err (record { line = count + 1; kind = Config })) (Ok c))
 
-end-fault : (count n : ℕ) (ls : List (List ℕ)) (start c : Contents) (f : Fault) (r d : Bool) → with_lines start n ls ≡ Ok c → has_no_rights c ≡ r → is_empty c.domains ≡ d → at_end count c r d ≡ Err f
+end-fault : (count n : ℕ) (ls : List (List ℕ)) (start c : Contents) (f : ScriptFault) (r d : Bool) → with_lines start n ls ≡ Ok c → has_no_rights c ≡ r → is_empty c.domains ≡ d → at_end count c r d ≡ Err f
     → IsFaultOfEnd count n ls start f
 end-fault count n ls start c f true d h p q e =
     let same : record { line = count + 1; kind = Syntax } ≡ f = cc in
-    let kind : Syntax ≡ f.kind = ap (λ (g : Fault). g.kind) same in
+    let kind : Syntax ≡ f.kind = ap (λ (g : ScriptFault). g.kind) same in
     let lacks = no_rights c p in
-    record { all = c; earlier = h; number = sym (ap (λ (g : Fault). g.line) same); lacks = inl (lacks.0, lacks.1, sym kind) }
+    record { all = c; earlier = h; number = sym (ap (λ (g : ScriptFault). g.line) same); lacks = inl (lacks.0, lacks.1, sym kind) }
 end-fault count n ls start c f false true h p q e =
     let same : record { line = count + 1; kind = Config } ≡ f = cc in
-    let kind : Config ≡ f.kind = ap (λ (g : Fault). g.kind) same in
-    record { all = c; earlier = h; number = sym (ap (λ (g : Fault). g.line) same); lacks = inr (some_rights c p, empty-true c.domains q, sym kind) }
+    let kind : Config ≡ f.kind = ap (λ (g : ScriptFault). g.kind) same in
+    record { all = c; earlier = h; number = sym (ap (λ (g : ScriptFault). g.line) same); lacks = inr (some_rights c p, empty-true c.domains q, sym kind) }
 end-fault count n ls start c f false false h p q e = absurd cc
 
 -- a script that the lines make whole
@@ -129,25 +129,25 @@ end-whole count n ls start c s false false h p q e =
     let same : c ≡ s = cc in
     subst (λ (k : Contents). Whole n ls start k) same (record { made = h; rights = p; domains = q })
 
-whole-by : (count n : ℕ) (ls : List (List ℕ)) (start s : Contents) (r : Result Contents Fault) → with_lines start n ls ≡ r → completed_if_ok count r ≡ Ok s → Whole n ls start s
+whole-by : (count n : ℕ) (ls : List (List ℕ)) (start s : Contents) (r : Result Contents ScriptFault) → with_lines start n ls ≡ r → completed_if_ok count r ≡ Ok s → Whole n ls start s
 unfolding completed
 whole-by count n ls start s (Ok c) h e = end-whole count n ls start c s (has_no_rights c) (is_empty c.domains) h refl refl e
 whole-by count n ls start s (Err f) h e = absurd cc
 
-fault-by : (count n : ℕ) (ls : List (List ℕ)) (start : Contents) (f : Fault) (r : Result Contents Fault) → with_lines start n ls ≡ r → completed_if_ok count r ≡ Err f → IsFirstFault count start n ls f
+fault-by : (count n : ℕ) (ls : List (List ℕ)) (start : Contents) (f : ScriptFault) (r : Result Contents ScriptFault) → with_lines start n ls ≡ r → completed_if_ok count r ≡ Err f → IsFirstFault count start n ls f
 unfolding completed
 fault-by count n ls start f (Ok c) h e = inr (end-fault count n ls start c f (has_no_rights c) (is_empty c.domains) h refl refl e)
 fault-by count n ls start f (Err g) h e = let same : g ≡ f = cc in inl (fault-at n ls start f (h ∙ ap Err same))
 
-in_result-Ok : (r : Result Contents Fault) (s : Contents) → Ok s ≡ in_result r → r ≡ Ok s
+in_result-Ok : (r : Result Contents ScriptFault) (s : Contents) → Ok s ≡ in_result r → r ≡ Ok s
 in_result-Ok (Ok c) s e = let same : c ≡ s = cc in ap Ok same
 in_result-Ok (Err f) s e = absurd cc
 
-in_result-script : (r : Result Contents Fault) (f : Fault) → Err (in_script f) ≡ in_result r → r ≡ Err f
+in_result-script : (r : Result Contents ScriptFault) (f : ScriptFault) → Err (in_script f) ≡ in_result r → r ≡ Err f
 in_result-script (Ok c) f e = absurd cc
 in_result-script (Err g) f e = let same : g ≡ f = cc in ap Err same
 
-in_result-policy : (r : Result Contents Fault) (g : policy.Fault) → Err (in_policy g) ≡ in_result r → ⊥
+in_result-policy : (r : Result Contents ScriptFault) (g : policy.TokenFault) → Err (in_policy g) ≡ in_result r → ⊥
 in_result-policy (Ok c) g e = cc
 in_result-policy (Err f) g e = cc
 
@@ -278,7 +278,7 @@ open-with ls place o none = record {
   inside = none_closes (drop (place + 1) ls) none;
 }
 
-closed-script : (command : Command) (ls : List (List ℕ)) (first end : ℕ) (f : Fault) → Block ls first end → ClosedSays command (length ls) first (drop first ls) end (Err (in_script f)) → IsFaultBehind command ls f
+closed-script : (command : Command) (ls : List (List ℕ)) (first end : ℕ) (f : ScriptFault) → Block ls first end → ClosedSays command (length ls) first (drop first ls) end (Err (in_script f)) → IsFaultBehind command ls f
 closed-script command ls first end f b (inl (p, means, e)) =
     let r = fault-by (length ls) (first + end + 1 + 1) (drop (end + 1) (drop first ls)) (with_policy command p) f (with_lines (with_policy command p) (first + end + 1 + 1) (drop (end + 1) (drop first ls))) refl (in_result-script _ f e) in
     record {
@@ -291,15 +291,15 @@ closed-script command ls first end f b (inl (p, means, e)) =
     }
 closed-script command ls first end f b (inr (g, faulty, e)) = absurd cc
 
-block-script : (command : Command) (ls : List (List ℕ)) (place : ℕ) (o : Option ℕ) (f : Fault) → opening ls ≡ Some place → closing (drop (place + 1) ls) ≡ o → BlockSays command (length ls) (place + 1) (drop (place + 1) ls) o (Err (in_script f)) → IsFaultOfLines command ls f
+block-script : (command : Command) (ls : List (List ℕ)) (place : ℕ) (o : Option ℕ) (f : ScriptFault) → opening ls ≡ Some place → closing (drop (place + 1) ls) ≡ o → BlockSays command (length ls) (place + 1) (drop (place + 1) ls) o (Err (in_script f)) → IsFaultOfLines command ls f
 block-script command ls place None f opens closes e = inr (inl (open-with ls place (opens_at ls place opens) closes, cc))
 block-script command ls place (Some end) f opens closes e = inr (inr (closed-script command ls (place + 1) end f (block-at ls place end opens closes) e))
 
-lines-script : (command : Command) (ls : List (List ℕ)) (o : Option ℕ) (f : Fault) → opening ls ≡ o → LinesSay command ls o (Err (in_script f)) → IsFaultOfLines command ls f
+lines-script : (command : Command) (ls : List (List ℕ)) (o : Option ℕ) (f : ScriptFault) → opening ls ≡ o → LinesSay command ls o (Err (in_script f)) → IsFaultOfLines command ls f
 lines-script command ls None f opens e = inl (none_opens ls opens, fault-by (length ls) 1 ls (empty command) f (with_lines (empty command) 1 ls) refl (in_result-script _ f e))
 lines-script command ls (Some place) f opens e = block-script command ls place (closing (drop (place + 1) ls)) f opens refl e
 
-closed-policy : (command : Command) (bytes : List ℕ) (first end : ℕ) (g : policy.Fault) → length bytes ≤ 1048576 → IsUtf8 bytes → Block (lines_in bytes) first end → ClosedSays command (length (lines_in bytes)) first (drop first (lines_in bytes)) end (Err (in_policy g)) → IsFaultOfBlock bytes g
+closed-policy : (command : Command) (bytes : List ℕ) (first end : ℕ) (g : policy.TokenFault) → length bytes ≤ 1048576 → IsUtf8 bytes → Block (lines_in bytes) first end → ClosedSays command (length (lines_in bytes)) first (drop first (lines_in bytes)) end (Err (in_policy g)) → IsFaultOfBlock bytes g
 closed-policy command bytes first end g short text b (inl (p, means, e)) = absurd (in_result-policy _ g e)
 closed-policy command bytes first end g short text b (inr (h, faulty, e)) =
     let same : h ≡ g = cc in
@@ -309,15 +309,15 @@ closed-policy command bytes first end g short text b (inr (h, faulty, e)) =
       block = take end (drop first (lines_in bytes));
       rest = drop (end + 1) (drop first (lines_in bytes));
       has = b.has;
-      faulty = subst (λ (k : ℕ). IsFaulty k (take end (drop first (lines_in bytes))) g) (sym b.before) (subst (λ (x : policy.Fault). IsFaulty first (take end (drop first (lines_in bytes))) x) same faulty);
+      faulty = subst (λ (k : ℕ). IsFaulty k (take end (drop first (lines_in bytes))) g) (sym b.before) (subst (λ (x : policy.TokenFault). IsFaulty first (take end (drop first (lines_in bytes))) x) same faulty);
     }
 
-block-policy : (command : Command) (bytes : List ℕ) (place : ℕ) (o : Option ℕ) (g : policy.Fault) → length bytes ≤ 1048576 → IsUtf8 bytes → opening (lines_in bytes) ≡ Some place → closing (drop (place + 1) (lines_in bytes)) ≡ o
+block-policy : (command : Command) (bytes : List ℕ) (place : ℕ) (o : Option ℕ) (g : policy.TokenFault) → length bytes ≤ 1048576 → IsUtf8 bytes → opening (lines_in bytes) ≡ Some place → closing (drop (place + 1) (lines_in bytes)) ≡ o
     → BlockSays command (length (lines_in bytes)) (place + 1) (drop (place + 1) (lines_in bytes)) o (Err (in_policy g)) → IsFaultOfBlock bytes g
 block-policy command bytes place None g short text opens closes e = absurd cc
 block-policy command bytes place (Some end) g short text opens closes e = closed-policy command bytes (place + 1) end g short text (block-at (lines_in bytes) place end opens closes) e
 
-lines-policy : (command : Command) (bytes : List ℕ) (o : Option ℕ) (g : policy.Fault) → length bytes ≤ 1048576 → IsUtf8 bytes → opening (lines_in bytes) ≡ o → LinesSay command (lines_in bytes) o (Err (in_policy g)) → IsFaultOfBlock bytes g
+lines-policy : (command : Command) (bytes : List ℕ) (o : Option ℕ) (g : policy.TokenFault) → length bytes ≤ 1048576 → IsUtf8 bytes → opening (lines_in bytes) ≡ o → LinesSay command (lines_in bytes) o (Err (in_policy g)) → IsFaultOfBlock bytes g
 lines-policy command bytes None g short text opens e = absurd (in_result-policy _ g e)
 lines-policy command bytes (Some place) g short text opens e = block-policy command bytes place (closing (drop (place + 1) (lines_in bytes))) g short text opens refl e
 
@@ -328,12 +328,12 @@ tells-Ok command bytes s (inl (long, e)) = absurd cc
 tells-Ok command bytes s (inr (inl (short, bad, e))) = absurd cc
 tells-Ok command bytes s (inr (inr (short, text, says))) = lines-Ok command (lines_in bytes) (opening (lines_in bytes)) s refl says
 
-tells-script : (command : Command) (bytes : List ℕ) (f : Fault) → TellsFor command bytes (Err (in_script f)) → IsFaultOf command bytes f
+tells-script : (command : Command) (bytes : List ℕ) (f : ScriptFault) → TellsFor command bytes (Err (in_script f)) → IsFaultOf command bytes f
 tells-script command bytes f (inl (long, e)) = inl (inl (long, cc))
 tells-script command bytes f (inr (inl (short, bad, e))) = inl (inr (short, bad, cc))
 tells-script command bytes f (inr (inr (short, text, says))) = inr (short, text, lines-script command (lines_in bytes) (opening (lines_in bytes)) f refl says)
 
-tells-policy : (command : Command) (bytes : List ℕ) (g : policy.Fault) → TellsFor command bytes (Err (in_policy g)) → IsFaultOfBlock bytes g
+tells-policy : (command : Command) (bytes : List ℕ) (g : policy.TokenFault) → TellsFor command bytes (Err (in_policy g)) → IsFaultOfBlock bytes g
 tells-policy command bytes g (inl (long, e)) = absurd cc
 tells-policy command bytes g (inr (inl (short, bad, e))) = absurd cc
 tells-policy command bytes g (inr (inr (short, text, says))) = lines-policy command bytes (opening (lines_in bytes)) g short text refl says
@@ -366,7 +366,7 @@ answers-all command bytes all (Err (errors.Policy fault)) e (g, shown, h) = (g, 
 
 -- from the answers of the parts to those of the whole
 
-pub answers-lines : (r : Result Script ScriptError) (all : Result Contents Fault) → Says r all → Answers r (λ w. w ≡ in_result all)
+pub answers-lines : (r : Result Script ScriptError) (all : Result Contents ScriptFault) → Says r all → Answers r (λ w. w ≡ in_result all)
 answers-lines (Ok s) all h = ap in_result (sym h)
 answers-lines (Err errors.Memory) all h = tt
 answers-lines (Err (errors.Fault f)) all h = ap in_result (sym h)
@@ -379,9 +379,9 @@ answers-weaker (Err (errors.Fault g)) P Q f h = f (Err (in_script g)) h
 answers-weaker (Err (errors.Policy e)) P Q f (g, shown, h) = (g, shown, f (Err (in_policy g)) h)
 
 -- a text that is none
-pub answers-unread : (command : Command) (bytes : List ℕ) (f : Fault) → IsUnread bytes f → TellsFor command bytes (Err (in_script f))
-answers-unread command bytes f (inl (long, e)) = inl (long, ap (λ (g : Fault). Err (in_script g)) e)
-answers-unread command bytes f (inr (short, bad, e)) = inr (inl (short, bad, ap (λ (g : Fault). Err (in_script g)) e))
+pub answers-unread : (command : Command) (bytes : List ℕ) (f : ScriptFault) → IsUnread bytes f → TellsFor command bytes (Err (in_script f))
+answers-unread command bytes f (inl (long, e)) = inl (long, ap (λ (g : ScriptFault). Err (in_script g)) e)
+answers-unread command bytes f (inr (short, bad, e)) = inr (inl (short, bad, ap (λ (g : ScriptFault). Err (in_script g)) e))
 
 -- a text
 pub answers-text : (command : Command) (bytes text : List ℕ) (r : Result Script ScriptError) → text ≡ bytes → length bytes ≤ 1048576 → IsUtf8 bytes → Answers r (TextSays command text) → Answers r (TellsFor command bytes)
@@ -448,7 +448,7 @@ lines_none command lines c o r opens none starts h =
 
 -- the policy of a block's text
 
-shown-fault : (before line : ℕ) (kind : kinds.FaultKind) (lines : List (List ℕ)) → ((f : policy.Fault) → fault_shown (record { line = line; kind = kind }) ≡ Some f → policies.Says (block_text lines) (Err f))
+shown-fault : (before line : ℕ) (kind : kinds.PolicyFaultKind) (lines : List (List ℕ)) → ((f : policy.TokenFault) → fault_shown (record { line = line; kind = kind }) ≡ Some f → policies.Says (block_text lines) (Err f))
     → IsPolicyOf before lines (Err (error_in_block (before + line) kind))
 shown-fault before line kind.Memory lines says = tt
 shown-fault before line kind.Syntax lines says = (_, refl, (_, says _ refl, refl))
@@ -458,8 +458,8 @@ shown-fault before line (kind.Permission name) lines says = (_, refl, (_, says _
 shown-fault before line (kind.Outside word) lines says = (_, refl, (_, says _ refl, refl))
 shown-fault before line kind.Limit lines says = (_, refl, (_, says _ refl, refl))
 
-pub policy_faulty : (before line : ℕ) (kind : kinds.FaultKind) (lines : List (List ℕ)) (text : List ℕ) (error : ScriptError) → text ≡ block_text lines
-    → ((f : policy.Fault) → fault_shown (record { line = line; kind = kind }) ≡ Some f → policies.Says text (Err f)) → error ≡ error_in_block (before + line) kind → IsPolicyOf before lines (Err error)
+pub policy_faulty : (before line : ℕ) (kind : kinds.PolicyFaultKind) (lines : List (List ℕ)) (text : List ℕ) (error : ScriptError) → text ≡ block_text lines
+    → ((f : policy.TokenFault) → fault_shown (record { line = line; kind = kind }) ≡ Some f → policies.Says text (Err f)) → error ≡ error_in_block (before + line) kind → IsPolicyOf before lines (Err error)
 policy_faulty before line kind lines text error same says is =
     subst (λ (e : ScriptError). IsPolicyOf before lines (Err e)) (sym is) (shown-fault before line kind lines (λ f shown. subst (λ (t : List ℕ). policies.Says t (Err f)) same (says f shown)))
 

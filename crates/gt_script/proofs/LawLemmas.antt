@@ -23,7 +23,7 @@ use Rattle.gt_script.specs.Contents.{Contents, names_with}
 use Rattle.gt_script.specs.Script.{is_empty, is_misplaced, has_no_rights, or_config, or_mode, configured, domain_written, with_triple, type_in, with_domain, with_step, with_order, with_asked, with_body, with_placed, with_line, with_words, with_lines}
 use Rattle.gt_script.specs.Laws.{said, triple_in, wear_in, domain_in, step_for, step_on, order_for, order_on, asks_for, is_for, IsLine}
 use Rattle.gt_lines.specs.declared.numbers.Number.{Number}
-use Rattle.gt_lines.specs.declared.calls.Action.{Action}
+use Rattle.gt_lines.specs.declared.calls.ScriptAction.{ScriptAction}
 use Rattle.gt_lines.specs.declared.lines.TripleLine.{TripleLine}
 use Rattle.gt_lines.specs.declared.lines.DomainLine.{DomainLine}
 use Rattle.gt_lines.specs.declared.lines.Line.{Line}
@@ -33,10 +33,10 @@ use Rattle.gt_script.specs.declared.command.Command.{Command}
 use Rattle.gt_script.specs.declared.command.Command.TheVariants.{Play, Run}
 use Rattle.gt_script.specs.declared.orders.Order.{Order}
 use Rattle.gt_script.specs.declared.orders.RunLine.{RunLine}
-use Rattle.gt_script.specs.declared.script.Step.{Step}
-use Rattle.gt_script.specs.declared.faults.FaultKind.{FaultKind}
-use Rattle.gt_script.specs.declared.faults.FaultKind.TheVariants.{Syntax, Config}
-use Rattle.gt_script.specs.declared.faults.Fault.{Fault}
+use Rattle.gt_script.specs.declared.script.ScriptStep.{ScriptStep}
+use Rattle.gt_script.specs.declared.faults.ScriptFaultKind.{ScriptFaultKind}
+use Rattle.gt_script.specs.declared.faults.ScriptFaultKind.TheVariants.{Syntax, Config}
+use Rattle.gt_script.specs.declared.faults.ScriptFault.{ScriptFault}
 use Rattle.gt_script.proofs.TypeLemmas.{Grown, Grown-refl, Grown-trans, with_type-Typed}
 
 -- taking apart what gave a value
@@ -108,7 +108,7 @@ record Adds (n : ℕ) (l : Option Line) (c d : Contents) : Type 0 where
   orders : d.orders ≡ c.orders ++ option_to_list (l >>= order_on c.command n)
   suited : Suits c.command l
   faultless : AreFaultless c.domains → AreFaultless d.domains
-  configured : All (λ (s : Step). IsTrue (is_taken c.domains s.dom)) c.steps → All (λ (s : Step). IsTrue (is_taken d.domains s.dom)) d.steps
+  configured : All (λ (s : ScriptStep). IsTrue (is_taken c.domains s.dom)) c.steps → All (λ (s : ScriptStep). IsTrue (is_taken d.domains s.dom)) d.steps
   ordered : All (λ (o : Order). IsTrue (is_taken c.domains o.dom)) c.orders → All (λ (o : Order). IsTrue (is_taken d.domains o.dom)) d.orders
 
 adds-nothing : (n : ℕ) (c : Contents) → Adds n None c c
@@ -232,13 +232,13 @@ adds-step n c d number asks dom play small taken e =
       steps =
           let said : step_on c.command n (line.Body number asks) ≡ Some (record { line = n; dom = dom; action = p.0 }) =
           ap (λ (k : Command). step_for k n number asks) play ∙ bind-at _ _ _ small ∙ bind-at _ _ _ p.1 in
-          ap (λ (o : Option Step). c.steps ++ option_to_list o) (sym said);
+          ap (λ (o : Option ScriptStep). c.steps ++ option_to_list o) (sym said);
       orders =
           let said : order_on c.command n (line.Body number asks) ≡ None = ap (λ (k : Command). order_for k n number asks) play in
           sym (append-nil c.orders) ∙ ap (λ (o : Option Order). c.orders ++ option_to_list o) (sym said);
-      suited = ap (λ (k : Command). asks_for k asks) play ∙ ap (λ (o : Option Action). is_some o) p.1;
+      suited = ap (λ (k : Command). asks_for k asks) play ∙ ap (λ (o : Option ScriptAction). is_some o) p.1;
       faultless = λ h. h;
-      configured = λ h. All-push (λ (s : Step). IsTrue (is_taken c.domains s.dom)) c.steps _ h taken;
+      configured = λ h. All-push (λ (s : ScriptStep). IsTrue (is_taken c.domains s.dom)) c.steps _ h taken;
       ordered = λ h. h;
     })
 
@@ -257,7 +257,7 @@ adds-order n c d number asks dom run small taken e =
       command = refl;
       steps =
           let said : step_on c.command n (line.Body number asks) ≡ None = ap (λ (k : Command). step_for k n number asks) run in
-          sym (append-nil c.steps) ∙ ap (λ (o : Option Step). c.steps ++ option_to_list o) (sym said);
+          sym (append-nil c.steps) ∙ ap (λ (o : Option ScriptStep). c.steps ++ option_to_list o) (sym said);
       orders =
           let said : order_on c.command n (line.Body number asks) ≡ Some (record { line = n; dom = dom; asks = p.0 }) =
           ap (λ (k : Command). order_for k n number asks) run ∙ bind-at _ _ _ small ∙ bind-at _ _ _ p.1 in
@@ -274,7 +274,7 @@ adds-asked n c d number asks dom Play is small taken e = adds-step n c d number 
 adds-asked n c d number asks dom Run is small taken e = adds-order n c d number asks dom is small taken e
 
 adds-known : (n : ℕ) (c d : Contents) (number : Number) (asks : BodyLine) (known : Option DomId) → configured c.domains number ≡ known
-    → (let r : Result Contents FaultKind = elim known [ None ↦ Err Config | Some dom ↦ with_asked c.command c n dom asks ] in r ≡ Ok d) → Adds n (Some (line.Body number asks)) c d
+    → (let r : Result Contents ScriptFaultKind = elim known [ None ↦ Err Config | Some dom ↦ with_asked c.command c n dom asks ] in r ≡ Ok d) → Adds n (Some (line.Body number asks)) c d
 adds-known n c d number asks None p e = absurd cc
 adds-known n c d number asks (Some dom) p e =
     let is = configured-Some c.domains number dom p in
@@ -336,7 +336,7 @@ record Said (n : ℕ) (ws : List (List ℕ)) (c d : Contents) : Type 0 where
   readable : (ws ≡ []) ⊎ IsSome (line_of ws)
   adds : Adds n (line_of ws) c d
 
-said-some : (n : ℕ) (w : List ℕ) (ws : List (List ℕ)) (c d : Contents) (o : Option Line) → line_of (w ∷ ws) ≡ o → (let r : Result Contents FaultKind = elim o [ None ↦ Err Syntax | Some l ↦ with_line c n l ] in r ≡ Ok d) → Said n (w ∷ ws) c d
+said-some : (n : ℕ) (w : List ℕ) (ws : List (List ℕ)) (c d : Contents) (o : Option Line) → line_of (w ∷ ws) ≡ o → (let r : Result Contents ScriptFaultKind = elim o [ None ↦ Err Syntax | Some l ↦ with_line c n l ] in r ≡ Ok d) → Said n (w ∷ ws) c d
 said-some n w ws c d None p e = absurd cc
 said-some n w ws c d (Some l) p e = record {
   readable = inr (subst IsSome (sym p) refl);
@@ -362,7 +362,7 @@ pub record Extends (n : ℕ) (ls : List (List ℕ)) (c d : Contents) : Type 0 wh
   pub orders : d.orders ≡ c.orders ++ filter_map (λ l. order_on c.command l.0 l.1) (said n ls)
   pub suited : All (λ l. IsTrue (is_for c.command l.1)) (said n ls)
   pub faultless : AreFaultless c.domains → AreFaultless d.domains
-  pub configured : All (λ (s : Step). IsTrue (is_taken c.domains s.dom)) c.steps → All (λ (s : Step). IsTrue (is_taken d.domains s.dom)) d.steps
+  pub configured : All (λ (s : ScriptStep). IsTrue (is_taken c.domains s.dom)) c.steps → All (λ (s : ScriptStep). IsTrue (is_taken d.domains s.dom)) d.steps
   pub ordered : All (λ (o : Order). IsTrue (is_taken c.domains o.dom)) c.orders → All (λ (o : Order). IsTrue (is_taken d.domains o.dom)) d.orders
 
 cons-list : {X : Type 0} (o : Option X) (xs : List X) → cons_option o xs ≡ option_to_list o ++ xs
@@ -399,7 +399,7 @@ extends-cons n l ls c d e a x =
           ∙ ap (λ (ds : List DomainConfig). c.domains ++ ds) (sym (filter-cons (λ _ y. domain_in (names_with c.policy types) y) n (line_of (words l)) (said (n + 1) ls)));
       command = x.command ∙ here.command;
       steps = joined c.steps d.steps e.steps _ _ here.steps (subst (λ (k : Command). e.steps ≡ d.steps ++ filter_map (λ l. step_on k l.0 l.1) (said (n + 1) ls)) here.command x.steps)
-          ∙ ap (λ (ss : List Step). c.steps ++ ss) (sym (filter-cons (step_on c.command) n (line_of (words l)) (said (n + 1) ls)));
+          ∙ ap (λ (ss : List ScriptStep). c.steps ++ ss) (sym (filter-cons (step_on c.command) n (line_of (words l)) (said (n + 1) ls)));
       orders = joined c.orders d.orders e.orders _ _ here.orders (subst (λ (k : Command). e.orders ≡ d.orders ++ filter_map (λ l. order_on k l.0 l.1) (said (n + 1) ls)) here.command x.orders)
           ∙ ap (λ (os : List Order). c.orders ++ os) (sym (filter-cons (order_on c.command) n (line_of (words l)) (said (n + 1) ls)));
       suited = suits-cons c.command n (line_of (words l)) (said (n + 1) ls) here.suited (subst (λ (k : Command). All (λ l. IsTrue (is_for k l.1)) (said (n + 1) ls)) here.command x.suited);
@@ -408,9 +408,9 @@ extends-cons n l ls c d e a x =
       ordered = λ h. x.ordered (here.ordered h);
     }
 
-extends-line : (n : ℕ) (l : List ℕ) (ls : List (List ℕ)) (c e : Contents) (r : Result Contents FaultKind) → with_words c n (words l) ≡ r
+extends-line : (n : ℕ) (l : List ℕ) (ls : List (List ℕ)) (c e : Contents) (r : Result Contents ScriptFaultKind) → with_words c n (words l) ≡ r
     → ((d : Contents) → with_lines d (n + 1) ls ≡ Ok e → Extends (n + 1) ls d e)
-    → (let whole : Result Contents Fault = elim r [ Ok d ↦ with_lines d (n + 1) ls | Err kind ↦ Err (record { line = n; kind = kind }) ] in whole ≡ Ok e) → Extends n (l ∷ ls) c e
+    → (let whole : Result Contents ScriptFault = elim r [ Ok d ↦ with_lines d (n + 1) ls | Err kind ↦ Err (record { line = n; kind = kind }) ] in whole ≡ Ok e) → Extends n (l ∷ ls) c e
 extends-line n l ls c e (Ok d) p rest h = extends-cons n l ls c d e (said-words n (words l) c d p) (rest d h)
 extends-line n l ls c e (Err kind) p rest h = absurd cc
 

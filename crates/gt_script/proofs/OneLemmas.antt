@@ -3,7 +3,7 @@ use Rattle.std.proofs.Common.{◌≡◌, ℕ, ◌+◌, ◌<◌, ◌≤◌, List,
 use Rattle.std.specs.Str.Lines.{lines as lines_in}
 use Rattle.gt_policy.specs.Allowing.{Allowed, Meaning, allowed_by}
 use Rattle.gt_policy.specs.Whole.{Says}
-use Rattle.gt_policy.specs.declared.fault.Fault as policy
+use Rattle.gt_policy.specs.declared.fault.TokenFault as policy
 use Rattle.gt_script.specs.Blocks.{Means, IsFaulty, behind, block_text, opening, closing}
 use Rattle.gt_script.specs.Contents.{Contents, with_policy}
 use Rattle.gt_script.specs.declared.command.Command.{Command}
@@ -11,24 +11,24 @@ use Rattle.gt_script.specs.Script.{Wrong, in_policy, in_result, whole, ClosedSay
 
 -- a text of a policy says one thing alone
 abbrev pub OneMeaning : Type 0
-OneMeaning = (text : List ℕ) (one other : Result Meaning policy.Fault) → Says text one → Says text other → one ≡ other
+OneMeaning = (text : List ℕ) (one other : Result Meaning policy.TokenFault) → Says text one → Says text other → one ≡ other
 
-same_meaning : (m n : Meaning) → (let x : Result Meaning policy.Fault = Ok m in x ≡ Ok n) → m ≡ n
+same_meaning : (m n : Meaning) → (let x : Result Meaning policy.TokenFault = Ok m in x ≡ Ok n) → m ≡ n
 same_meaning m n e = cc
 
-same_fault : (f g : policy.Fault) → (let x : Result Meaning policy.Fault = Err f in x ≡ Err g) → f ≡ g
+same_fault : (f g : policy.TokenFault) → (let x : Result Meaning policy.TokenFault = Err f in x ≡ Err g) → f ≡ g
 same_fault f g e = cc
 
-never_both : (m : Meaning) (f : policy.Fault) → (let x : Result Meaning policy.Fault = Ok m in x ≡ Err f) → ⊥
+never_both : (m : Meaning) (f : policy.TokenFault) → (let x : Result Meaning policy.TokenFault = Ok m in x ≡ Err f) → ⊥
 never_both m f e = cc
 
 means_one : OneMeaning → (lines : List (List ℕ)) (a b : Allowed) → Means lines a → Means lines b → a ≡ b
 means_one one lines a b (m, says, is) (n, said, other) = is ∙ ap allowed_by (same_meaning m n (one (block_text lines) (Ok m) (Ok n) says said)) ∙ sym other
 
-faulty_one : OneMeaning → (before : ℕ) (lines : List (List ℕ)) (f g : policy.Fault) → IsFaulty before lines f → IsFaulty before lines g → f ≡ g
+faulty_one : OneMeaning → (before : ℕ) (lines : List (List ℕ)) (f g : policy.TokenFault) → IsFaulty before lines f → IsFaulty before lines g → f ≡ g
 faulty_one one before lines f g (k, says, is) (l, said, other) = is ∙ ap (behind before) (same_fault k l (one (block_text lines) (Err k) (Err l) says said)) ∙ sym other
 
-means_or_faulty : OneMeaning → (before : ℕ) (lines : List (List ℕ)) (a : Allowed) (g : policy.Fault) → Means lines a → IsFaulty before lines g → ⊥
+means_or_faulty : OneMeaning → (before : ℕ) (lines : List (List ℕ)) (a : Allowed) (g : policy.TokenFault) → Means lines a → IsFaulty before lines g → ⊥
 means_or_faulty one before lines a g (m, says, is) (f, said, other) = never_both m f (one (block_text lines) (Ok m) (Err f) says said)
 
 closed_one : (command : Command) → OneMeaning → (count first : ℕ) (lines : List (List ℕ)) (end : ℕ) (x y : Result Contents Wrong) → ClosedSays command count first lines end x → ClosedSays command count first lines end y → x ≡ y
@@ -37,7 +37,7 @@ closed_one command one count first lines end x y (inl (a, means, is)) (inl (b, m
 closed_one command one count first lines end x y (inl (a, means, is)) (inr (g, faulty, other)) = absurd (means_or_faulty one first (take end lines) a g means faulty)
 closed_one command one count first lines end x y (inr (g, faulty, is)) (inl (a, means, other)) = absurd (means_or_faulty one first (take end lines) a g means faulty)
 closed_one command one count first lines end x y (inr (f, faulty, is)) (inr (g, also, other)) =
-    is ∙ ap (λ (p : policy.Fault). Err (in_policy p)) (faulty_one one first (take end lines) f g faulty also) ∙ sym other
+    is ∙ ap (λ (p : policy.TokenFault). Err (in_policy p)) (faulty_one one first (take end lines) f g faulty also) ∙ sym other
 
 block_one : (command : Command) → OneMeaning → (count first : ℕ) (lines : List (List ℕ)) (o : Option ℕ) (x y : Result Contents Wrong) → BlockSays command count first lines o x → BlockSays command count first lines o y → x ≡ y
 block_one command one count first lines None x y is other = is ∙ sym other

@@ -12,8 +12,8 @@ use Rattle.gt_script.specs.Script.{Wrong, in_script, TellsFor}
 use Rattle.gt_script.specs.Stuck.{AreNumbered, IsTold, IsJudged}
 use Rattle.gt_script.specs.Tasks.{tasks_for, tasks_of}
 use Rattle.gt_script.specs.declared.command.Command.TheVariants.{Run}
-use Rattle.gt_script.specs.declared.faults.Fault.{Fault}
-use Rattle.gt_script.specs.declared.faults.FaultKind.TheVariants.{Stuck}
+use Rattle.gt_script.specs.declared.faults.ScriptFault.{ScriptFault}
+use Rattle.gt_script.specs.declared.faults.ScriptFaultKind.TheVariants.{Stuck}
 use Rattle.gt_script.specs.declared.faults.ScriptError.{ScriptError}
 use Rattle.gt_script.specs.declared.faults.ScriptError.TheVariants as errors
 use Rattle.gt_script.specs.declared.orders.Order.{Order}

@@ -11,42 +11,42 @@ use Rattle.std.proofs.lemmas.Slice.Eq.{bytes_eq-Decides}
 use Rattle.std.proofs.Math.Seq.{drop-append-add, take-append_seam}
 use Rattle.gt_types.specs.declared.rights.Triple.{Triple}
 use Rattle.gt_policy.specs.Allowing.{Allowed}
-use Rattle.gt_policy.specs.declared.fault.Fault as policy
+use Rattle.gt_policy.specs.declared.fault.TokenFault as policy
 use Rattle.gt_lines.specs.Words.{words}
 use Rattle.gt_script.specs.Blocks.{is_just, opening, closing, Means, IsFaulty}
 use Rattle.gt_script.specs.declared.command.Command.{Command}
 use Rattle.gt_script.specs.Contents.{Contents, empty, with_policy}
 use Rattle.gt_script.specs.Script.{is_empty, has_no_rights, with_words, with_lines, completed, completed_if_ok, whole, in_result, in_script, in_policy, BlockSays, LinesSay, TellsFor, Wrong}
 use Rattle.gt_script.specs.Laws.{HasBlock, lines_before, IsFirstFault, IsFaultOfLines, IsFaultOf, IsFaultOfBlock}
-use Rattle.gt_script.specs.declared.faults.FaultKind.{FaultKind}
-use Rattle.gt_script.specs.declared.faults.FaultKind.TheVariants.{Syntax, Config}
-use Rattle.gt_script.specs.declared.faults.Fault.{Fault}
+use Rattle.gt_script.specs.declared.faults.ScriptFaultKind.{ScriptFaultKind}
+use Rattle.gt_script.specs.declared.faults.ScriptFaultKind.TheVariants.{Syntax, Config}
+use Rattle.gt_script.specs.declared.faults.ScriptFault.{ScriptFault}
 use Rattle.gt_script.proofs.BlockLemmas.{opening-blank, opening-words, closing-here, closing-later}
 
 -- the first line with a fault
 
-made : (n : ℕ) (kind : FaultKind) (f : Fault) → f.line ≡ n → f.kind ≡ kind → record { line = n; kind = kind } ≡ f
+made : (n : ℕ) (kind : ScriptFaultKind) (f : ScriptFault) → f.line ≡ n → f.kind ≡ kind → record { line = n; kind = kind } ≡ f
 made n kind f p q = λ i. record { line = sym p i; kind = sym q i }
 
-line-fault : (n : ℕ) (ls : List (List ℕ)) (c : Contents) (f : Fault) (place : ℕ) (line : List ℕ) (before : Contents) → f.line ≡ n + place → slice_get ls place ≡ Some line → with_lines c n (take place ls) ≡ Ok before
+line-fault : (n : ℕ) (ls : List (List ℕ)) (c : Contents) (f : ScriptFault) (place : ℕ) (line : List ℕ) (before : Contents) → f.line ≡ n + place → slice_get ls place ≡ Some line → with_lines c n (take place ls) ≡ Ok before
     → with_words before f.line (words line) ≡ Err f.kind → with_lines c n ls ≡ Err f
 line-fault n [] c f place line before number there earlier here = absurd cc
 line-fault n (l ∷ ls) c f zero line before number there earlier here =
     let same : l ≡ line = same_Some l line there in let start : c ≡ before = cc in let at : f.line ≡ n = number ∙ omega arith in
     let e : with_words c n (words l) ≡ Err f.kind = (λ i. with_words (start i) (sym at i) (words (same i))) ∙ here in
-    ap (λ (r : Result Contents FaultKind). let whole : Result Contents Fault = elim r [ Ok d ↦ with_lines d (n + 1) ls | Err kind ↦ Err (record { line = n; kind = kind }) ] in whole) e ∙ ap Err (made n f.kind f at refl)
+    ap (λ (r : Result Contents ScriptFaultKind). let whole : Result Contents ScriptFault = elim r [ Ok d ↦ with_lines d (n + 1) ls | Err kind ↦ Err (record { line = n; kind = kind }) ] in whole) e ∙ ap Err (made n f.kind f at refl)
 line-fault n (l ∷ ls) c f (suc place) line before number there earlier here =
     by (with_words c n (words l)) (λ d e. line-fault (n + 1) ls d f place line before (number ∙ omega arith) there e here) earlier
   where
-    by : (r : Result Contents FaultKind) → ((d : Contents) → with_lines d (n + 1) (take place ls) ≡ Ok before → with_lines d (n + 1) ls ≡ Err f)
-        → (let whole : Result Contents Fault = elim r [ Ok d ↦ with_lines d (n + 1) (take place ls) | Err kind ↦ Err (record { line = n; kind = kind }) ] in whole ≡ Ok before)
-        → (let whole : Result Contents Fault = elim r [ Ok d ↦ with_lines d (n + 1) ls | Err kind ↦ Err (record { line = n; kind = kind }) ] in whole ≡ Err f)
+    by : (r : Result Contents ScriptFaultKind) → ((d : Contents) → with_lines d (n + 1) (take place ls) ≡ Ok before → with_lines d (n + 1) ls ≡ Err f)
+        → (let whole : Result Contents ScriptFault = elim r [ Ok d ↦ with_lines d (n + 1) (take place ls) | Err kind ↦ Err (record { line = n; kind = kind }) ] in whole ≡ Ok before)
+        → (let whole : Result Contents ScriptFault = elim r [ Ok d ↦ with_lines d (n + 1) ls | Err kind ↦ Err (record { line = n; kind = kind }) ] in whole ≡ Err f)
     by (Ok d) rest e = rest d e
     by (Err kind) rest e = absurd cc
 
 -- the end of a script
 
-abbrev at_end : ℕ → Contents → Bool → Bool → Result Contents Fault
+abbrev at_end : ℕ → Contents → Bool → Bool → Result Contents ScriptFault
 at_end count c rights domains = cond rights (Err (record { line = count + 1; kind = Syntax })) (cond domains (Err (record { line = count + 1; kind = Config })) (Ok c))
 
 some-rights : (o : Option Allowed) (t : List Triple) → (1 ≤ length t) ⊎ IsSome o → (is_none o && is_empty t) ≡ false
@@ -55,7 +55,7 @@ some-rights None [] (inl h) = absurd (omega arith)
 some-rights None [] (inr h) = absurd cc
 some-rights None (x ∷ xs) h = grind (arith, nat_tests)
 
-end-fault : (count : ℕ) (c : Contents) (f : Fault) → f.line ≡ count + 1
+end-fault : (count : ℕ) (c : Contents) (f : ScriptFault) → f.line ≡ count + 1
     → ((c.policy ≡ None) × (c.triples ≡ []) × (f.kind ≡ Syntax)) ⊎ (((1 ≤ length c.triples) ⊎ IsSome c.policy) × (c.domains ≡ []) × (f.kind ≡ Config)) → completed count c ≡ Err f
 unfolding completed has_no_rights
 end-fault count c f number (inl (free, none, kind)) =
@@ -65,7 +65,7 @@ end-fault count c f number (inr (some, none, kind)) =
     let domains : is_empty c.domains ≡ true = λ i. is_empty (none i) in
     ap (λ (b : Bool). at_end count c b (is_empty c.domains)) (some-rights c.policy c.triples some) ∙ ap (at_end count c false) domains ∙ ap Err (made (count + 1) Config f number kind)
 
-first-fault : (count : ℕ) (c : Contents) (n : ℕ) (ls : List (List ℕ)) (f : Fault) → IsFirstFault count c n ls f → whole count c n ls ≡ Err f
+first-fault : (count : ℕ) (c : Contents) (n : ℕ) (ls : List (List ℕ)) (f : ScriptFault) → IsFirstFault count c n ls f → whole count c n ls ≡ Err f
 first-fault count c n ls f (inl x) = ap (completed_if_ok count) (line-fault n ls c f x.place x.line x.before x.number x.there x.earlier x.here)
 first-fault count c n ls f (inr x) = ap (completed_if_ok count) x.earlier ∙ end-fault count x.all f x.number x.lacks
 
@@ -118,32 +118,32 @@ opened-say command lines front opener tail said parts nothing opens says =
 -- what lines with a block say
 block-say : (command : Command) (lines block rest : List (List ℕ)) (b : HasBlock lines block rest) (said : Result Contents Wrong)
     → (((p : Allowed) × Means block p × (said ≡ in_result (whole (length lines) (with_policy command p) (length b.front + 1 + length block + 1 + 1) rest)))
-    ⊎ ((g : policy.Fault) × IsFaulty (length b.front + 1) block g × (said ≡ Err (in_policy g)))) → LinesSay command lines (opening lines) said
+    ⊎ ((g : policy.TokenFault) × IsFaulty (length b.front + 1) block g × (said ≡ Err (in_policy g)))) → LinesSay command lines (opening lines) said
 block-say command lines block rest b said says =
     let tail : List (List ℕ) = block ++ b.closer ∷ rest in
     opened-say command lines b.front b.opener tail said b.parts b.nothing b.opens
     (subst (λ (o : Option ℕ). BlockSays command (length lines) (length b.front + 1) tail o said) (sym (closing-at block b.closer rest b.inside b.closes))
     (subst (λ (u : List (List ℕ) × List (List ℕ)). ((p : Allowed) × Means u.0 p × (said ≡ in_result (whole (length lines) (with_policy command p) (length b.front + 1 + length block + 1 + 1) u.1)))
-    ⊎ ((g : policy.Fault) × IsFaulty (length b.front + 1) u.0 g × (said ≡ Err (in_policy g))))
+    ⊎ ((g : policy.TokenFault) × IsFaulty (length b.front + 1) u.0 g × (said ≡ Err (in_policy g))))
     (λ i. (sym (take-append_seam block (b.closer ∷ rest)) i, sym (drop-append-add block (b.closer ∷ rest) 1) i)) says))
 
-fault-of-lines : (command : Command) (lines : List (List ℕ)) (f : Fault) → IsFaultOfLines command lines f → LinesSay command lines (opening lines) (Err (in_script f))
+fault-of-lines : (command : Command) (lines : List (List ℕ)) (f : ScriptFault) → IsFaultOfLines command lines f → LinesSay command lines (opening lines) (Err (in_script f))
 fault-of-lines command lines f (inl (none, first)) =
     subst (λ (o : Option ℕ). LinesSay command lines o (Err (in_script f))) (sym (ap opening none.parts ∙ none-opens none.front none.others none.nothing none.another)) (sym (ap in_result (first-fault (length lines) (empty command) 1 lines f first)))
 fault-of-lines command lines f (inr (inl (x, is))) =
     opened-say command lines x.front x.opener x.block (Err (in_script f)) x.parts x.nothing x.opens
-    (subst (λ (o : Option ℕ). BlockSays command (length lines) (length x.front + 1) x.block o (Err (in_script f))) (sym (none-closes x.block x.inside)) (ap (λ (g : Fault). Err (in_script g)) is))
+    (subst (λ (o : Option ℕ). BlockSays command (length lines) (length x.front + 1) x.block o (Err (in_script f))) (sym (none-closes x.block x.inside)) (ap (λ (g : ScriptFault). Err (in_script g)) is))
 fault-of-lines command lines f (inr (inr x)) =
     let here : lines_before x.has + length x.block + 2 ≡ length x.has.front + 1 + length x.block + 1 + 1 = omega arith in
     let first = subst (λ (n : ℕ). IsFirstFault (length lines) (with_policy command x.rights) n x.rest f) here x.first in
     block-say command lines x.block x.rest x.has (Err (in_script f)) (inl (x.rights, x.means, sym (ap in_result (first-fault (length lines) (with_policy command x.rights) (length x.has.front + 1 + length x.block + 1 + 1) x.rest f first))))
 
 -- a fault that stands is told
-pub fault-told : (command : Command) (bytes : List ℕ) (f : Fault) → IsFaultOf command bytes f → TellsFor command bytes (Err (in_script f))
-fault-told command bytes f (inl (inl (long, is))) = inl (long, ap (λ (g : Fault). Err (in_script g)) is)
-fault-told command bytes f (inl (inr (short, bad, is))) = inr (inl (short, bad, ap (λ (g : Fault). Err (in_script g)) is))
+pub fault-told : (command : Command) (bytes : List ℕ) (f : ScriptFault) → IsFaultOf command bytes f → TellsFor command bytes (Err (in_script f))
+fault-told command bytes f (inl (inl (long, is))) = inl (long, ap (λ (g : ScriptFault). Err (in_script g)) is)
+fault-told command bytes f (inl (inr (short, bad, is))) = inr (inl (short, bad, ap (λ (g : ScriptFault). Err (in_script g)) is))
 fault-told command bytes f (inr (short, text, x)) = inr (inr (short, text, fault-of-lines command (lines_in bytes) f x))
 
 -- a fault of a block that stands is told
-pub block-fault-told : (command : Command) (bytes : List ℕ) (g : policy.Fault) → IsFaultOfBlock bytes g → TellsFor command bytes (Err (in_policy g))
+pub block-fault-told : (command : Command) (bytes : List ℕ) (g : policy.TokenFault) → IsFaultOfBlock bytes g → TellsFor command bytes (Err (in_policy g))
 block-fault-told command bytes g x = inr (inr (x.short, x.text, block-say command (lines_in bytes) x.block x.rest x.has (Err (in_policy g)) (inr (g, x.faulty, refl))))

@@ -2,10 +2,10 @@
 use Rattle.std.specs.Prelude.{◌≡◌, ◌+◌, ℕ, suc, Bool, false, List, [], ◌∷◌, ◌++◌, length, Option, Some, None, Result, Ok, Err, codes, flat_map, if◌then◌else◌, ◌==◌}
 use Rattle.std.specs.Option.{option_map}
 use Rattle.std.specs.Str.{bytes_eq}
-use Rattle.gt_policy.specs.Allowing.{Meaning, Rights, Allowed, allowed_of, allowed_by}
+use Rattle.gt_policy.specs.Allowing.{Meaning, KeptPolicy, Allowed, allowed_of, allowed_by}
 use Rattle.gt_policy.specs.Shown.{kind_shown}
 use Rattle.gt_policy.specs.Whole.{Says}
-use Rattle.gt_policy.specs.declared.fault.Fault as policy
+use Rattle.gt_policy.specs.declared.fault.TokenFault as policy
 use Rattle.gt_lines.specs.Words.{words}
 use Rattle.gt_script.specs.declared.faults.BlockFault.{BlockFault}
 use Rattle.gt_script.specs.declared.faults.ScriptError.{ScriptError}
@@ -37,11 +37,11 @@ abbrev pub block_text : List (List ℕ) → List ℕ
 block_text lines = flat_map ended lines
 
 -- a fault of a policy, on a line that has others in front of its text (own)
-abbrev pub behind : ℕ → policy.Fault → policy.Fault
+abbrev pub behind : ℕ → policy.TokenFault → policy.TokenFault
 behind before f = record { line = before + f.line; kind = f.kind }
 
 -- the fault in the text that a fault of a block shows; none where memory ran out (own)
-abbrev pub block_fault_shown : BlockFault → Option policy.Fault
+abbrev pub block_fault_shown : BlockFault → Option policy.TokenFault
 block_fault_shown e = option_map (λ k. record { line = e.line; kind = k }) (kind_shown e.kind)
 
 -- the block tells these types and what they may do to one another: those of its meaning (own)
@@ -49,12 +49,12 @@ abbrev pub Means : List (List ℕ) → Allowed → Type 0
 Means lines a = (m : Meaning) × Says (block_text lines) (Ok m) × (a ≡ allowed_by m)
 
 -- the block, behind so many lines, has this fault, which is its first (own)
-abbrev pub IsFaulty : ℕ → List (List ℕ) → policy.Fault → Type 0
-IsFaulty before lines g = (f : policy.Fault) × Says (block_text lines) (Err f) × (g ≡ behind before f)
+abbrev pub IsFaulty : ℕ → List (List ℕ) → policy.TokenFault → Type 0
+IsFaulty before lines g = (f : policy.TokenFault) × Says (block_text lines) (Err f) × (g ≡ behind before f)
 
 -- the policy of a block or its fault, unless memory ran out (own)
-abbrev pub IsPolicyOf : ℕ → List (List ℕ) → Result Rights ScriptError → Type 0
+abbrev pub IsPolicyOf : ℕ → List (List ℕ) → Result KeptPolicy ScriptError → Type 0
 IsPolicyOf before lines (Ok p) = Means lines (allowed_of p)
 IsPolicyOf before lines (Err errors.Memory) = Unit {0}
 IsPolicyOf before lines (Err (errors.Fault f)) = ⊥
-IsPolicyOf before lines (Err (errors.Policy e)) = (g : policy.Fault) × (block_fault_shown e ≡ Some g) × IsFaulty before lines g
+IsPolicyOf before lines (Err (errors.Policy e)) = (g : policy.TokenFault) × (block_fault_shown e ≡ Some g) × IsFaulty before lines g

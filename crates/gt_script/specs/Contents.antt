@@ -3,10 +3,10 @@ use Rattle.std.specs.Prelude.{ℕ, List, [], Option, Some, None}
 use Rattle.std.specs.Option.{unwrap_or, option_map}
 use Rattle.gt_types.specs.declared.rights.Triple.{Triple}
 use Rattle.gt_types.specs.declared.config.DomainConfig.{DomainConfig}
-use Rattle.gt_policy.specs.Allowing.{Rights, Allowed, allowed_of}
+use Rattle.gt_policy.specs.Allowing.{KeptPolicy, Allowed, allowed_of}
 use Rattle.gt_script.specs.declared.command.Command.{Command}
 use Rattle.gt_script.specs.declared.orders.Order.{Order}
-use Rattle.gt_script.specs.declared.script.Step.{Step}
+use Rattle.gt_script.specs.declared.script.ScriptStep.{ScriptStep}
 
 -- the command that it is for; what the policy of its block tells, where it has one; else the names of its types, by their numbers, and its triples; its domains; the lines of its body, which are steps for `play` and orders for `run`; all in the order of their lines; and the number of its line `wear`, where it has one (own)
 pub record Contents : Type 0 where
@@ -16,22 +16,22 @@ pub record Contents : Type 0 where
   pub triples : List Triple
   pub wear : Option ℕ
   pub domains : List DomainConfig
-  pub steps : List Step
+  pub steps : List ScriptStep
   pub orders : List Order
 
 -- the same, with the policy as it is kept (own)
-pub record Kept : Type 0 where
+pub record KeptContents : Type 0 where
   pub command : Command
-  pub policy : Option Rights
+  pub policy : Option KeptPolicy
   pub types : List (List ℕ)
   pub triples : List Triple
   pub wear : Option ℕ
   pub domains : List DomainConfig
-  pub steps : List Step
+  pub steps : List ScriptStep
   pub orders : List Order
 
 -- what a script holds that is kept so (own)
-abbrev pub told : Kept → Contents
+abbrev pub told : KeptContents → Contents
 told k = record { command = k.command; policy = option_map allowed_of k.policy; types = k.types; triples = k.triples; wear = k.wear; domains = k.domains; steps = k.steps; orders = k.orders }
 
 -- a script of no line, for this command (own)

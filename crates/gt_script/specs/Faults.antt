@@ -1,18 +1,18 @@
 -- The texts of faults (own).
 use Rattle.std.specs.Prelude.{ℕ, List, ◌++◌, codes}
 use Rattle.std.specs.Fmt.{decimal}
-use Rattle.gt_policy.specs.declared.parse.FaultKind as policy
-use Rattle.gt_policy.specs.declared.parse.FaultKind.TheVariants as kinds
+use Rattle.gt_policy.specs.declared.parse.PolicyFaultKind as policy
+use Rattle.gt_policy.specs.declared.parse.PolicyFaultKind.TheVariants as kinds
 use Rattle.gt_policy.specs.Texts.{fault_text as policy_fault_text}
-use Rattle.gt_script.specs.declared.faults.FaultKind.{FaultKind}
-use Rattle.gt_script.specs.declared.faults.FaultKind.TheVariants.{Limit, Utf8, Syntax, Config, Mode, Stuck}
-use Rattle.gt_script.specs.declared.faults.Fault.{Fault}
+use Rattle.gt_script.specs.declared.faults.ScriptFaultKind.{ScriptFaultKind}
+use Rattle.gt_script.specs.declared.faults.ScriptFaultKind.TheVariants.{Limit, Utf8, Syntax, Config, Mode, Stuck}
+use Rattle.gt_script.specs.declared.faults.ScriptFault.{ScriptFault}
 use Rattle.gt_script.specs.declared.faults.ScriptError.{ScriptError}
 use Rattle.gt_script.specs.declared.faults.ScriptError.TheVariants.{Memory}
 use Rattle.gt_script.specs.declared.faults.ScriptError.TheVariants as errors
 
 -- the word of a fault (own)
-abbrev pub fault_word : FaultKind → List ℕ
+abbrev pub fault_word : ScriptFaultKind → List ℕ
 fault_word Limit = codes "limit"
 fault_word Utf8 = codes "utf8"
 fault_word Syntax = codes "syntax"
@@ -21,7 +21,7 @@ fault_word Mode = codes "mode"
 fault_word Stuck = codes "stuck"
 
 -- a fault with the number of its line (own)
-abbrev pub fault_text : Fault → List ℕ
+abbrev pub fault_text : ScriptFault → List ℕ
 fault_text f = codes "line " ++ decimal f.line ++ codes ": " ++ fault_word f.kind
 
 -- why there is no script: a fault of its policy block is told as one of a policy, with its line in the script (own)
@@ -31,7 +31,7 @@ error_text (errors.Fault f) = fault_text f
 error_text (errors.Policy f) = policy_fault_text f.line f.kind
 
 -- a kind of fault of a policy on this line of a script, where it is not want of memory (own)
-abbrev pub error_in_block : ℕ → policy.FaultKind → ScriptError
+abbrev pub error_in_block : ℕ → policy.PolicyFaultKind → ScriptError
 error_in_block line kinds.Memory = Memory
 error_in_block line kinds.Syntax = errors.Policy (record { line = line; kind = kinds.Syntax })
 error_in_block line (kinds.Unknown name) = errors.Policy (record { line = line; kind = kinds.Unknown name })

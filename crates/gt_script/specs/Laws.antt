@@ -11,7 +11,7 @@ use Rattle.gt_types.specs.declared.limits.TheConstants.{LAST_GENERATION, LONGEST
 use Rattle.gt_types.specs.declared.rights.Triple.{Triple}
 use Rattle.gt_types.specs.declared.config.DomainConfig.{DomainConfig}
 use Rattle.gt_policy.specs.Allowing.{Allowed, type_named}
-use Rattle.gt_policy.specs.declared.fault.Fault as policy
+use Rattle.gt_policy.specs.declared.fault.TokenFault as policy
 use Rattle.gt_script.specs.Blocks.{Means, IsFaulty, block_fault_shown}
 use Rattle.gt_lines.specs.Words.{words}
 use Rattle.gt_lines.specs.Numbers.{number_below}
@@ -26,9 +26,9 @@ use Rattle.gt_lines.specs.declared.lines.BodyLine.{BodyLine}
 use Rattle.gt_script.specs.declared.command.Command.{Command}
 use Rattle.gt_script.specs.declared.command.Command.TheVariants.{Play, Run}
 use Rattle.gt_script.specs.declared.orders.Order.{Order}
-use Rattle.gt_script.specs.declared.script.Step.{Step}
-use Rattle.gt_script.specs.declared.faults.Fault.{Fault}
-use Rattle.gt_script.specs.declared.faults.FaultKind.TheVariants.{Limit, Utf8, Syntax, Config}
+use Rattle.gt_script.specs.declared.script.ScriptStep.{ScriptStep}
+use Rattle.gt_script.specs.declared.faults.ScriptFault.{ScriptFault}
+use Rattle.gt_script.specs.declared.faults.ScriptFaultKind.TheVariants.{Limit, Utf8, Syntax, Config}
 use Rattle.gt_script.specs.declared.faults.ScriptError.{ScriptError}
 use Rattle.gt_script.specs.declared.faults.ScriptError.TheVariants.{Memory}
 use Rattle.gt_script.specs.declared.faults.ScriptError.TheVariants as errors
@@ -64,7 +64,7 @@ domain_in types (line.Domain d) = do
 domain_in types (line.Body id asks) = None
 
 -- the step that line n is in a script for this command, if it is one (own)
-abbrev pub step_for : Command → ℕ → Number → BodyLine → Option Step
+abbrev pub step_for : Command → ℕ → Number → BodyLine → Option ScriptStep
 step_for Play n number asks = do
   id ← number_below (2 ^ 16) number
   action ← action_in asks
@@ -80,7 +80,7 @@ order_for Run n number asks = do
   Some (record { line = n; dom = record { 0 = id }; asks = order })
 
 -- the step of line n, if it is one of the body of a script for `play` (own)
-abbrev pub step_on : Command → ℕ → Line → Option Step
+abbrev pub step_on : Command → ℕ → Line → Option ScriptStep
 step_on command n (line.Triple t) = None
 step_on command n (line.Wear first) = None
 step_on command n (line.Domain d) = None
@@ -169,7 +169,7 @@ abbrev pub IsScriptOf : List (List ℕ) → Contents → Type 0
 IsScriptOf lines c = IsScriptFor Play lines c
 
 -- the fault is that of the line at this place, counted from 0, of lines from number n on that are added to a script, and the lines before it have none (own)
-pub record IsFaultOfLine (n : ℕ) (lines : List (List ℕ)) (c : Contents) (f : Fault) : Type 0 where
+pub record IsFaultOfLine (n : ℕ) (lines : List (List ℕ)) (c : Contents) (f : ScriptFault) : Type 0 where
   pub place : ℕ
   pub line : List ℕ
   pub before : Contents
@@ -179,14 +179,14 @@ pub record IsFaultOfLine (n : ℕ) (lines : List (List ℕ)) (c : Contents) (f :
   pub here : with_words before f.line (words line) ≡ Err f.kind
 
 -- no line has a fault, and what the script of `count` lines lacks is named behind the last: syntax where nothing is allowed, config where something is allowed and no domain is configured (own)
-pub record IsFaultOfEnd (count n : ℕ) (lines : List (List ℕ)) (c : Contents) (f : Fault) : Type 0 where
+pub record IsFaultOfEnd (count n : ℕ) (lines : List (List ℕ)) (c : Contents) (f : ScriptFault) : Type 0 where
   pub all : Contents
   pub earlier : with_lines c n lines ≡ Ok all
   pub number : f.line ≡ count + 1
   pub lacks : ((all.policy ≡ None) × (all.triples ≡ []) × (f.kind ≡ Syntax)) ⊎ (((1 ≤ length all.triples) ⊎ IsSome all.policy) × (all.domains ≡ []) × (f.kind ≡ Config))
 
 -- the first fault of lines from number n on that are added to a script of `count` lines (own)
-abbrev pub IsFirstFault : ℕ → Contents → ℕ → List (List ℕ) → Fault → Type 0
+abbrev pub IsFirstFault : ℕ → Contents → ℕ → List (List ℕ) → ScriptFault → Type 0
 IsFirstFault count c n lines f = IsFaultOfLine n lines c f ⊎ IsFaultOfEnd count n lines c f
 
 -- a line `policy` opens a block that no line `end` closes (own)
@@ -208,7 +208,7 @@ pub record HasNone (lines : List (List ℕ)) : Type 0 where
   pub another : (l : List ℕ) (ls : List (List ℕ)) → others ≡ l ∷ ls → (words l ≢ []) × (words l ≢ codes "policy" ∷ [])
 
 -- the first fault behind a policy block (own)
-pub record IsFaultBehind (command : Command) (lines : List (List ℕ)) (f : Fault) : Type 0 where
+pub record IsFaultBehind (command : Command) (lines : List (List ℕ)) (f : ScriptFault) : Type 0 where
   pub block : List (List ℕ)
   pub rest : List (List ℕ)
   pub has : HasBlock lines block rest
@@ -217,24 +217,24 @@ pub record IsFaultBehind (command : Command) (lines : List (List ℕ)) (f : Faul
   pub first : IsFirstFault (length lines) (with_policy command rights) (lines_before has + length block + 2) rest f
 
 -- the first fault of the lines, where it is none of a policy (own)
-abbrev pub IsFaultOfLines : Command → List (List ℕ) → Fault → Type 0
+abbrev pub IsFaultOfLines : Command → List (List ℕ) → ScriptFault → Type 0
 IsFaultOfLines command lines f =
     (HasNone lines × IsFirstFault (length lines) (empty command) 1 lines f)
     ⊎ ((IsOpen lines × (f ≡ record { line = length lines + 1; kind = Syntax }))
     ⊎ IsFaultBehind command lines f)
 
 -- the bytes are too many, or no text, and this is their fault (own)
-abbrev pub IsUnread : List ℕ → Fault → Type 0
+abbrev pub IsUnread : List ℕ → ScriptFault → Type 0
 IsUnread bytes f =
     ((LONGEST_TEXT < length bytes) × (f ≡ record { line = 1; kind = Limit }))
     ⊎ ((length bytes ≤ LONGEST_TEXT) × (¬ IsUtf8 bytes) × (f ≡ record { line = line_after (take (utf8_valid_len bytes) bytes); kind = Utf8 }))
 
 -- the first fault of the bytes, where it is none of a policy: too many, no text, or the first fault of the lines (own)
-abbrev pub IsFaultOf : Command → List ℕ → Fault → Type 0
+abbrev pub IsFaultOf : Command → List ℕ → ScriptFault → Type 0
 IsFaultOf command bytes f = IsUnread bytes f ⊎ ((length bytes ≤ LONGEST_TEXT) × IsUtf8 bytes × IsFaultOfLines command (lines_in bytes) f)
 
 -- the first fault of the bytes is that of their policy block, on its own line of them (own)
-pub record IsFaultOfBlock (bytes : List ℕ) (g : policy.Fault) : Type 0 where
+pub record IsFaultOfBlock (bytes : List ℕ) (g : policy.TokenFault) : Type 0 where
   pub short : length bytes ≤ LONGEST_TEXT
   pub text : IsUtf8 bytes
   pub block : List (List ℕ)
@@ -246,7 +246,7 @@ pub record IsFaultOfBlock (bytes : List ℕ) (g : policy.Fault) : Type 0 where
 abbrev pub StandsFor : Command → List ℕ → ScriptError → Type 0
 StandsFor command bytes Memory = Unit {0}
 StandsFor command bytes (errors.Fault f) = IsFaultOf command bytes f
-StandsFor command bytes (errors.Policy e) = (g : policy.Fault) × (block_fault_shown e ≡ Some g) × IsFaultOfBlock bytes g
+StandsFor command bytes (errors.Policy e) = (g : policy.TokenFault) × (block_fault_shown e ≡ Some g) × IsFaultOfBlock bytes g
 
 -- memory ran out, or this is the first fault of a script for `play` (own)
 abbrev pub Stands : List ℕ → ScriptError → Type 0

@@ -1,6 +1,6 @@
 -- What a script for `run` holds.
 use Rattle.std.specs.Prelude.{ℕ, List}
-use Rattle.gt_script.specs.Contents.{Contents, Kept, told}
+use Rattle.gt_script.specs.Contents.{Contents, KeptContents, told}
 use Rattle.gt_script.specs.declared.tasks.Task.{Task}
 
 -- what stands in front of the body, as a script without lines of a body; what each line of the body has its domain do, in order; and how many flags there are (own)
@@ -11,7 +11,7 @@ pub record RunContents : Type 0 where
 
 -- the same, with the policy as it is kept (own)
 pub record RunKept : Type 0 where
-  pub head : Kept
+  pub head : KeptContents
   pub tasks : List Task
   pub flags : ℕ
 

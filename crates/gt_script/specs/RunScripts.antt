@@ -3,7 +3,7 @@ use Rattle.std.specs.Prelude.{◌≡◌, ◌⊎◌, ◌≤◌, ℕ, ◌==◌, Li
 use Rattle.gt_types.specs.Config.{AreFaultless}
 use Rattle.gt_types.specs.declared.DomId.{DomId}
 use Rattle.gt_types.specs.declared.limits.TheConstants.{LAST_GENERATION}
-use Rattle.gt_policy.specs.declared.fault.Fault as policy
+use Rattle.gt_policy.specs.declared.fault.TokenFault as policy
 use Rattle.gt_script.specs.Blocks.{block_fault_shown}
 use Rattle.gt_script.specs.Contents.{Contents, without_orders, first_gen}
 use Rattle.gt_script.specs.Flags.{flags_of}
@@ -12,7 +12,7 @@ use Rattle.gt_script.specs.Script.{Wrong, in_script, in_policy, TellsFor}
 use Rattle.gt_script.specs.Stuck.{IsTold, AllEnd, IsStuckAt}
 use Rattle.gt_script.specs.Tasks.{tasks_of}
 use Rattle.gt_script.specs.declared.command.Command.TheVariants.{Run}
-use Rattle.gt_script.specs.declared.faults.FaultKind.TheVariants.{Stuck}
+use Rattle.gt_script.specs.declared.faults.ScriptFaultKind.TheVariants.{Stuck}
 use Rattle.gt_script.specs.declared.faults.ScriptError.{ScriptError}
 use Rattle.gt_script.specs.declared.faults.ScriptError.TheVariants as errors
 use Rattle.gt_script.specs.declared.run_script.RunScript.{RunScript}
@@ -46,4 +46,4 @@ abbrev pub RunAnswers : Result RunScript ScriptError → (Result RunContents Wro
 RunAnswers (Ok script) Told = Told (Ok (run_told script))
 RunAnswers (Err errors.Memory) Told = Unit {0}
 RunAnswers (Err (errors.Fault fault)) Told = Told (Err (in_script fault))
-RunAnswers (Err (errors.Policy fault)) Told = (g : policy.Fault) × (block_fault_shown fault ≡ Some g) × Told (Err (in_policy g))
+RunAnswers (Err (errors.Policy fault)) Told = (g : policy.TokenFault) × (block_fault_shown fault ≡ Some g) × Told (Err (in_policy g))

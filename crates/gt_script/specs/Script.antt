@@ -11,7 +11,7 @@ use Rattle.gt_types.specs.declared.DomId.{DomId}
 use Rattle.gt_types.specs.declared.TypeId.{TypeId}
 use Rattle.gt_types.specs.declared.config.DomainConfig.{DomainConfig}
 use Rattle.gt_policy.specs.Allowing.{Allowed, type_named}
-use Rattle.gt_policy.specs.declared.fault.Fault as policy
+use Rattle.gt_policy.specs.declared.fault.TokenFault as policy
 use Rattle.gt_script.specs.Blocks.{opening, closing, Means, IsFaulty}
 use Rattle.gt_lines.specs.Words.{words}
 use Rattle.gt_lines.specs.Numbers.{number_below}
@@ -20,8 +20,8 @@ use Rattle.gt_lines.specs.Lines.{line_of}
 use Rattle.gt_script.specs.Types.{with_type}
 use Rattle.gt_script.specs.Contents.{Contents, empty, with_policy}
 use Rattle.gt_lines.specs.declared.numbers.Number.{Number}
-use Rattle.gt_lines.specs.declared.calls.Action.{Action}
-use Rattle.gt_lines.specs.declared.calls.Action.TheVariants as actions
+use Rattle.gt_lines.specs.declared.calls.ScriptAction.{ScriptAction}
+use Rattle.gt_lines.specs.declared.calls.ScriptAction.TheVariants as actions
 use Rattle.gt_lines.specs.declared.lines.BodyLine.{BodyLine}
 use Rattle.gt_lines.specs.declared.lines.BodyLine.TheVariants as bodies
 use Rattle.gt_script.specs.declared.command.Command.{Command}
@@ -32,9 +32,9 @@ use Rattle.gt_lines.specs.declared.lines.TripleLine.{TripleLine}
 use Rattle.gt_lines.specs.declared.lines.DomainLine.{DomainLine}
 use Rattle.gt_lines.specs.declared.lines.Line.{Line}
 use Rattle.gt_lines.specs.declared.lines.Line.TheVariants as line
-use Rattle.gt_script.specs.declared.faults.FaultKind.{FaultKind}
-use Rattle.gt_script.specs.declared.faults.FaultKind.TheVariants.{Limit, Utf8, Syntax, Config, Mode}
-use Rattle.gt_script.specs.declared.faults.Fault.{Fault}
+use Rattle.gt_script.specs.declared.faults.ScriptFaultKind.{ScriptFaultKind}
+use Rattle.gt_script.specs.declared.faults.ScriptFaultKind.TheVariants.{Limit, Utf8, Syntax, Config, Mode}
+use Rattle.gt_script.specs.declared.faults.ScriptFault.{ScriptFault}
 
 -- a list without elements (own)
 abbrev pub is_empty : {X : Type 0} → List X → Bool
@@ -65,12 +65,12 @@ is_misplaced c (line.Domain d) = has_no_rights c || has_body c
 is_misplaced c (line.Body id asks) = is_empty c.domains
 
 -- what a line adds, or that it is past a limit (own)
-abbrev pub or_config : Option Contents → Result Contents FaultKind
+abbrev pub or_config : Option Contents → Result Contents ScriptFaultKind
 or_config (Some c) = Ok c
 or_config None = Err Config
 
 -- a script with one triple more (own)
-unfoldable pub with_triple : Contents → TripleLine → Result Contents FaultKind
+unfoldable pub with_triple : Contents → TripleLine → Result Contents ScriptFaultKind
 with_triple c t = or_config (do
   source ← with_type c.types t.source
   target ← with_type source.0 t.target
@@ -91,7 +91,7 @@ GivesTypeNumber old new name number =
     option_map (λ id. (new, id)) number ≡ option_map (with_names old) (type_in old.policy old.types name)
 
 -- a script with one domain more, which has no fault behind those before it (own)
-unfoldable pub with_domain : Contents → DomainLine → Result Contents FaultKind
+unfoldable pub with_domain : Contents → DomainLine → Result Contents ScriptFaultKind
 with_domain c d = or_config (do
   label ← type_in c.policy c.types d.type_name
   domain ← domain_written d label.1
@@ -105,7 +105,7 @@ configured domains number = do
   if is_taken domains (record { 0 = id }) then Some (record { 0 = id }) else None
 
 -- what a line of the body is for `play`: an action (own)
-unfoldable pub action_in : BodyLine → Option Action
+unfoldable pub action_in : BodyLine → Option ScriptAction
 action_in (bodies.Action a) = Some a
 action_in (bodies.Signal s) = None
 
@@ -118,49 +118,49 @@ run_line_in (bodies.Action (actions.Show gref)) = None
 run_line_in (bodies.Signal s) = Some (runs.Signal s)
 
 -- what a line adds, or that it is for the other command (own)
-abbrev pub or_mode : Option Contents → Result Contents FaultKind
+abbrev pub or_mode : Option Contents → Result Contents ScriptFaultKind
 or_mode (Some c) = Ok c
 or_mode None = Err Mode
 
 -- a script for `play` with one step more, on line n (own)
-unfoldable pub with_step : Contents → ℕ → DomId → BodyLine → Result Contents FaultKind
+unfoldable pub with_step : Contents → ℕ → DomId → BodyLine → Result Contents ScriptFaultKind
 with_step c n dom asks = or_mode (do
   action ← action_in asks
   Some (record c { steps = c.steps ++ record { line = n; dom = dom; action = action } ∷ [] }))
 
 -- a script for `run` with one order more, on line n (own)
-unfoldable pub with_order : Contents → ℕ → DomId → BodyLine → Result Contents FaultKind
+unfoldable pub with_order : Contents → ℕ → DomId → BodyLine → Result Contents ScriptFaultKind
 with_order c n dom asks = or_mode (do
   order ← run_line_in asks
   Some (record c { orders = c.orders ++ record { line = n; dom = dom; asks = order } ∷ [] }))
 
 -- a script for this command with a line of the body more (own)
-abbrev pub with_asked : Command → Contents → ℕ → DomId → BodyLine → Result Contents FaultKind
+abbrev pub with_asked : Command → Contents → ℕ → DomId → BodyLine → Result Contents ScriptFaultKind
 with_asked Play c n dom asks = with_step c n dom asks
 with_asked Run c n dom asks = with_order c n dom asks
 
 -- a script with a line of the body more, of a domain that is configured (own)
-unfoldable pub with_body : Contents → ℕ → Number → BodyLine → Result Contents FaultKind
+unfoldable pub with_body : Contents → ℕ → Number → BodyLine → Result Contents ScriptFaultKind
 with_body c n number asks = elim (configured c.domains number) [ None ↦ Err Config | Some dom ↦ with_asked c.command c n dom asks ]
 
 -- a script with line n more, which is in its place (own)
-abbrev pub with_placed : Contents → ℕ → Line → Result Contents FaultKind
+abbrev pub with_placed : Contents → ℕ → Line → Result Contents ScriptFaultKind
 with_placed c n (line.Triple t) = with_triple c t
 with_placed c n (line.Wear first) = Ok (record c { wear = Some first })
 with_placed c n (line.Domain d) = with_domain c d
 with_placed c n (line.Body id asks) = with_body c n id asks
 
 -- a script with line n more (own)
-unfoldable pub with_line : Contents → ℕ → Line → Result Contents FaultKind
+unfoldable pub with_line : Contents → ℕ → Line → Result Contents ScriptFaultKind
 with_line c n l = if is_misplaced c l then Err Syntax else with_placed c n l
 
 -- the words of line n: none change nothing (own)
-unfoldable pub with_words : Contents → ℕ → List (List ℕ) → Result Contents FaultKind
+unfoldable pub with_words : Contents → ℕ → List (List ℕ) → Result Contents ScriptFaultKind
 with_words c n [] = Ok c
 with_words c n (w ∷ ws) = elim (line_of (w ∷ ws)) [ None ↦ Err Syntax | Some l ↦ with_line c n l ]
 
 -- lines from number n on: the first that adds nothing but a fault gives the fault (own)
-abbrev pub with_lines : Contents → ℕ → List (List ℕ) → Result Contents Fault
+abbrev pub with_lines : Contents → ℕ → List (List ℕ) → Result Contents ScriptFault
 with_lines c n [] = Ok c
 with_lines c n (l ∷ ls) = elim (with_words c n (words l)) [
   | Ok d ↦ with_lines d (n + 1) ls
@@ -168,26 +168,26 @@ with_lines c n (l ∷ ls) = elim (with_words c n (words l)) [
 ]
 
 -- syntax where nothing is allowed (no policy and no triple), config where no domain is configured (own)
-unfoldable pub completed : ℕ → Contents → Result Contents Fault
+unfoldable pub completed : ℕ → Contents → Result Contents ScriptFault
 completed count c = if has_no_rights c then Err (record { line = count + 1; kind = Syntax })
     else (if is_empty c.domains then Err (record { line = count + 1; kind = Config }) else Ok c)
 
 -- the same of a script that may have a fault already (own)
-abbrev pub completed_if_ok : ℕ → Result Contents Fault → Result Contents Fault
+abbrev pub completed_if_ok : ℕ → Result Contents ScriptFault → Result Contents ScriptFault
 completed_if_ok count (Ok c) = completed count c
 completed_if_ok count (Err f) = Err f
 
 -- a script with lines from number n on, behind which the whole of `count` lines ends (own)
-abbrev pub whole : ℕ → Contents → ℕ → List (List ℕ) → Result Contents Fault
+abbrev pub whole : ℕ → Contents → ℕ → List (List ℕ) → Result Contents ScriptFault
 whole count c n lines = completed_if_ok count (with_lines c n lines)
 
 -- a fault: of the script, or of its policy block (own)
 pub data Wrong : Type 0 where
-  in_script : Fault → Wrong
-  in_policy : policy.Fault → Wrong
+  in_script : ScriptFault → Wrong
+  in_policy : policy.TokenFault → Wrong
 
 -- a script, or a fault that is none of a policy (own)
-abbrev pub in_result : Result Contents Fault → Result Contents Wrong
+abbrev pub in_result : Result Contents ScriptFault → Result Contents Wrong
 in_result (Ok c) = Ok c
 in_result (Err f) = Err (in_script f)
 
@@ -195,7 +195,7 @@ in_result (Err f) = Err (in_script f)
 abbrev pub ClosedSays : Command → ℕ → ℕ → List (List ℕ) → ℕ → Result Contents Wrong → Type 0
 ClosedSays command count first lines end said =
     ((p : Allowed) × Means (take end lines) p × (said ≡ in_result (whole count (with_policy command p) (first + end + 1 + 1) (drop (end + 1) lines))))
-    ⊎ ((g : policy.Fault) × IsFaulty first (take end lines) g × (said ≡ Err (in_policy g)))
+    ⊎ ((g : policy.TokenFault) × IsFaulty first (take end lines) g × (said ≡ Err (in_policy g)))
 
 -- the same, where a line `end` may be missing (own)
 abbrev pub BlockSays : Command → ℕ → ℕ → List (List ℕ) → Option ℕ → Result Contents Wrong → Type 0

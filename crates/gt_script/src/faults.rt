@@ -6,7 +6,7 @@ use std::fmt;
 
 /// What is wrong, in the order in which faults of one script are judged.
 #[derive(Clone, Copy, Debug, PartialEq, Eq)]
-pub enum FaultKind {
+pub enum ScriptFaultKind {
     /// The script is too long.
     Limit,
     /// A byte that is no UTF-8.
@@ -25,10 +25,10 @@ pub enum FaultKind {
 
 /// The first fault of a script.
 #[derive(Clone, Copy, Debug, PartialEq, Eq)]
-pub struct Fault {
+pub struct ScriptFault {
     /// The number of its line, from 1 on; a fault at the end is one past the last line.
     pub line: usize,
-    pub kind: FaultKind,
+    pub kind: ScriptFaultKind,
 }
 
 /// The first fault of a script's policy block.
@@ -38,14 +38,14 @@ pub struct BlockFault {
     /// line `end`.
     pub line: usize,
     /// What is wrong with the policy; never want of memory.
-    pub kind: gt_policy::FaultKind,
+    pub kind: gt_policy::PolicyFaultKind,
 }
 
 /// Why there is no script: its first fault, or want of memory.
 #[derive(Debug, Drop)]
 pub enum ScriptError {
     Memory,
-    Fault(Fault),
+    Fault(ScriptFault),
     Policy(BlockFault),
 }
 
@@ -61,13 +61,13 @@ impl ScriptError {
         let PolicyFault { line, kind } = fault;
         let line = before + line as usize;
         match kind {
-            gt_policy::FaultKind::Memory => ScriptError::Memory,
+            gt_policy::PolicyFaultKind::Memory => ScriptError::Memory,
             kind => ScriptError::Policy(BlockFault { line, kind }),
         }
     }
 }
 
-impl Error for Fault {}
+impl Error for ScriptFault {}
 
 impl fmt::Display for BlockFault {
     ghost use Rattle.std.specs.Prelude.{Some};
@@ -110,7 +110,7 @@ impl From<AllocError> for ScriptError {
     }
 }
 
-impl fmt::Display for FaultKind {
+impl fmt::Display for ScriptFaultKind {
     ghost use Rattle.std.specs.Prelude.{Some};
     ghost use Rattle.gt_script.specs.Faults.{fault_word};
 
@@ -118,17 +118,17 @@ impl fmt::Display for FaultKind {
 
     fn fmt<W: fmt::Write>(&self, f: &mut fmt::Formatter<W>) -> fmt::Result {
         f.write_str(match self {
-            FaultKind::Limit => "limit",
-            FaultKind::Utf8 => "utf8",
-            FaultKind::Syntax => "syntax",
-            FaultKind::Config => "config",
-            FaultKind::Mode => "mode",
-            FaultKind::Stuck => "stuck",
+            ScriptFaultKind::Limit => "limit",
+            ScriptFaultKind::Utf8 => "utf8",
+            ScriptFaultKind::Syntax => "syntax",
+            ScriptFaultKind::Config => "config",
+            ScriptFaultKind::Mode => "mode",
+            ScriptFaultKind::Stuck => "stuck",
         })
     }
 }
 
-impl fmt::Display for Fault {
+impl fmt::Display for ScriptFault {
     ghost use Rattle.std.specs.Prelude.{Some};
     ghost use Rattle.gt_script.specs.Faults.{fault_text};
 

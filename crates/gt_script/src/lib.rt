@@ -23,9 +23,9 @@ mod stuck;
 mod tasks;
 mod types;
 
-pub use faults::{BlockFault, Fault, FaultKind, ScriptError};
-pub use gt_lines::{AccessCall, Action, Call, Grant, TableCall, Text, hex_bytes};
+pub use faults::{BlockFault, ScriptError, ScriptFault, ScriptFaultKind};
+pub use gt_lines::{AccessCall, Grant, ScriptAction, ScriptCall, TableCall, Text, hex_bytes};
 pub use laws::{every_fault_that_stands_is_told, every_text_tells_one_thing};
 pub use run_script::{RunScript, parse_run};
-pub use script::{Script, Step, parse};
+pub use script::{Script, ScriptStep, parse};
 pub use tasks::{Deed, Task};

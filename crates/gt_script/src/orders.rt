@@ -1,13 +1,13 @@
 //! The lines of the body of a script for `run`.
 
-use gt_lines::{Call, Signal};
+use gt_lines::{ScriptCall, Signal};
 use gt_types::DomId;
 
 /// What such a line asks.
 #[derive(Debug, Drop)]
 pub enum RunLine<'a> {
     /// `do ID CALL`
-    Do(Call<'a>),
+    Do(ScriptCall<'a>),
     /// `tell ID FLAG` or `await ID FLAG`
     Signal(Signal<'a>),
 }

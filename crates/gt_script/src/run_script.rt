@@ -6,7 +6,7 @@ ghost use Rattle.gt_script.specs.Contents.{told};
 ghost use Rattle.gt_script.specs.RunScripts.{CanConfigure, RunSays, RunTells, RunAnswers, list_of as list_in};
 
 use crate::command::Command;
-use crate::faults::{Fault, FaultKind, ScriptError};
+use crate::faults::{ScriptError, ScriptFault, ScriptFaultKind};
 use crate::flags::flags_of;
 use crate::script::{Script, parse_for};
 use crate::stuck::stuck_line;
@@ -78,8 +78,8 @@ fn of_script<'a>(alloc: Global, script: Script<'a>) -> Result<RunScript<'a>, Scr
     let tasks = tasks_for(alloc, &flags, orders)?;
     let stuck = stuck_line(alloc, tasks.as_slice(), head.domains(), count)?;
     if let Some(line) = stuck {
-        let kind = FaultKind::Stuck;
-        return Err(ScriptError::Fault(Fault { line, kind }));
+        let kind = ScriptFaultKind::Stuck;
+        return Err(ScriptError::Fault(ScriptFault { line, kind }));
     }
     Ok(RunScript {
         head,

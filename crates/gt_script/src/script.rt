@@ -12,11 +12,12 @@ ghost use Rattle.gt_script.specs.Laws.{IsScriptFor, IsScriptOf, StandsFor, Stand
 
 use crate::blocks::{closing, opening, read_policy};
 use crate::command::Command;
-use crate::faults::{Fault, FaultKind, ScriptError};
+use crate::faults::{ScriptError, ScriptFault, ScriptFaultKind};
 use crate::orders::{Order, RunLine};
 use crate::types::TypeNames;
 use gt_lines::{
-    Action, BodyLine, DomainLine, Line, Number, Text, TripleLine, line_words, read_line, text_lines,
+    BodyLine, DomainLine, Line, Number, ScriptAction, Text, TripleLine, line_words, read_line,
+    text_lines,
 };
 use gt_policy::Policy;
 use gt_types::{DomId, DomainConfig, LONGEST_TEXT, Triple, TypeId};
@@ -26,10 +27,10 @@ use std::mem;
 
 /// What a line of the body asks, with the number of that line and its domain.
 #[derive(Debug, Drop)]
-pub struct Step<'a> {
+pub struct ScriptStep<'a> {
     pub line: usize,
     pub dom: DomId,
-    pub action: Action<'a>,
+    pub action: ScriptAction<'a>,
 }
 
 /// A script without fault. With a policy block it has neither triples nor types of its own.
@@ -41,14 +42,14 @@ pub struct Script<'a> {
     triples: Vec<Triple>,
     wear: Option<u32>,
     domains: Vec<DomainConfig>,
-    steps: Vec<Step<'a>>,
+    steps: Vec<ScriptStep<'a>>,
     orders: Vec<Order<'a>>,
 }
 
 impl<'a> Model for Script<'a> {
-    ghost use Rattle.gt_script.specs.Contents.{Kept};
+    ghost use Rattle.gt_script.specs.Contents.{KeptContents};
 
-    ghost Value = { Kept };
+    ghost Value = { KeptContents };
 
     ghost view = { λ s. record {
       command = s.command;
@@ -66,7 +67,7 @@ impl<'a> Model for Script<'a> {
 #[derive(Clone, Copy, Debug, PartialEq, Eq)]
 enum AddError {
     Memory,
-    Fault(FaultKind),
+    Fault(ScriptFaultKind),
 }
 
 impl From<AllocError> for AddError {
@@ -89,7 +90,7 @@ impl AddError {
     {
         match self {
             AddError::Memory => ScriptError::Memory,
-            AddError::Fault(kind) => ScriptError::Fault(Fault { line, kind }),
+            AddError::Fault(kind) => ScriptError::Fault(ScriptFault { line, kind }),
         }
     }
 }
@@ -115,7 +116,7 @@ fn configured(domains: &[DomainConfig], number: Number) -> Option<DomId>
 
 // What a line of the body is for `play`.
 #[tactic(auto, unfolding(crate::specs::Script::action_in))]
-fn action_in<'a>(asks: BodyLine<'a>) -> Option<Action<'a>>
+fn action_in<'a>(asks: BodyLine<'a>) -> Option<ScriptAction<'a>>
     ensures { result ≡ action_in asks.entry }
 {
     match asks {
@@ -130,8 +131,9 @@ fn run_line_in<'a>(asks: BodyLine<'a>) -> Option<RunLine<'a>>
     ensures { result ≡ run_line_in asks.entry }
 {
     match asks {
-        BodyLine::Action(Action::Do(call)) => Some(RunLine::Do(call)),
-        BodyLine::Action(Action::Begin(_) | Action::Tick(_) | Action::Show(_)) => None,
+        BodyLine::Action(ScriptAction::Do(call)) => Some(RunLine::Do(call)),
+        BodyLine::Action(ScriptAction::Begin(_) | ScriptAction::Tick(_) | ScriptAction::Show(_)) =>
+            None,
         BodyLine::Signal(signal) => Some(RunLine::Signal(signal)),
     }
 }
@@ -258,7 +260,7 @@ impl<'a> Script<'a> {
     }
 
     /// The steps of the body, in their order.
-    pub fn steps(&self) -> &[Step<'a>]
+    pub fn steps(&self) -> &[ScriptStep<'a>]
         ensures { result.now ≡ self.now.steps }
     {
         self.steps.as_slice()
@@ -269,10 +271,10 @@ impl<'a> Script<'a> {
         ensures { Adds result (with_triple (told self.entry) triple.entry) }
     {
         let Some(source) = self.types.number(triple.source.as_bytes())? else {
-            return Err(AddError::Fault(FaultKind::Config));
+            return Err(AddError::Fault(ScriptFaultKind::Config));
         };
         let Some(target) = self.types.number(triple.target.as_bytes())? else {
-            return Err(AddError::Fault(FaultKind::Config));
+            return Err(AddError::Fault(ScriptFaultKind::Config));
         };
         let perm = triple.perm;
         self.triples
@@ -300,13 +302,13 @@ impl<'a> Script<'a> {
         ensures { Adds result (with_domain (told self.entry) line.entry) }
     {
         let Some(label) = self.type_number(line.type_name.as_bytes())? else {
-            return Err(AddError::Fault(FaultKind::Config));
+            return Err(AddError::Fault(ScriptFaultKind::Config));
         };
         let Some(domain) = domain_written(&line, label) else {
-            return Err(AddError::Fault(FaultKind::Config));
+            return Err(AddError::Fault(ScriptFaultKind::Config));
         };
         if domain.fault(&self.domains).is_some() {
-            return Err(AddError::Fault(FaultKind::Config));
+            return Err(AddError::Fault(ScriptFaultKind::Config));
         }
         self.domains.push(domain).map_err(AllocError::from)?;
         Ok(self)
@@ -322,10 +324,10 @@ impl<'a> Script<'a> {
         ensures { Adds result (with_step (told self.entry) line dom asks.entry) }
     {
         let Some(action) = action_in(asks) else {
-            return Err(AddError::Fault(FaultKind::Mode));
+            return Err(AddError::Fault(ScriptFaultKind::Mode));
         };
         self.steps
-            .push(Step { line, dom, action })
+            .push(ScriptStep { line, dom, action })
             .map_err(AllocError::from)?;
         Ok(self)
     }
@@ -340,7 +342,7 @@ impl<'a> Script<'a> {
         ensures { Adds result (with_order (told self.entry) line dom asks.entry) }
     {
         let Some(asks) = run_line_in(asks) else {
-            return Err(AddError::Fault(FaultKind::Mode));
+            return Err(AddError::Fault(ScriptFaultKind::Mode));
         };
         self.orders
             .push(Order { line, dom, asks })
@@ -353,7 +355,7 @@ impl<'a> Script<'a> {
         ensures { Adds result (with_body (told self.entry) line id asks.entry) }
     {
         let Some(dom) = configured(&self.domains, id) else {
-            return Err(AddError::Fault(FaultKind::Config));
+            return Err(AddError::Fault(ScriptFaultKind::Config));
         };
         match self.command {
             Command::Play => self.with_step(line, dom, asks),
@@ -396,7 +398,7 @@ impl<'a> Script<'a> {
         ensures { Adds result (with_line (told self.entry) number line.entry) }
     {
         if self.is_misplaced(&line) {
-            return Err(AddError::Fault(FaultKind::Syntax));
+            return Err(AddError::Fault(ScriptFaultKind::Syntax));
         }
         match line {
             Line::Triple(triple) => self.with_triple(triple),
@@ -418,7 +420,7 @@ impl<'a> Script<'a> {
         }
         match read_line(words) {
             Some(line) => self.with_line(number, line),
-            None => Err(AddError::Fault(FaultKind::Syntax)),
+            None => Err(AddError::Fault(ScriptFaultKind::Syntax)),
         }
     }
 
@@ -462,14 +464,14 @@ impl<'a> Script<'a> {
         ensures { Says result (completed count (told self.entry)) }
     {
         let kind = if self.has_no_rights() {
-            FaultKind::Syntax
+            ScriptFaultKind::Syntax
         } else if self.domains.is_empty() {
-            FaultKind::Config
+            ScriptFaultKind::Config
         } else {
             return Ok(self);
         };
         let line = count + 1;
-        Err(ScriptError::Fault(Fault { line, kind }))
+        Err(ScriptError::Fault(ScriptFault { line, kind }))
     }
 
     // This script with the lines after so many others, up to the end of a script of `count` lines.
@@ -502,9 +504,9 @@ fn of_block<'a>(
         Answers result (BlockSays command count first said (closing_in said)) }
 {
     let Some(end) = closing(alloc, lines)? else {
-        return Err(ScriptError::Fault(Fault {
+        return Err(ScriptError::Fault(ScriptFault {
             line: count + 1,
-            kind: FaultKind::Syntax,
+            kind: ScriptFaultKind::Syntax,
         }));
     };
     match read_policy(alloc, first, &lines[..end]) {
@@ -538,23 +540,23 @@ fn of_text<'a>(alloc: Global, command: Command, text: &'a str) -> Result<Script<
 }
 
 // The bytes as text, if they are not too many.
-fn script_text<'a>(bytes: &'a [u8]) -> Result<&'a str, Fault>
+fn script_text<'a>(bytes: &'a [u8]) -> Result<&'a str, ScriptFault>
     ensures text { IfOk result (λ text. text.now ≡ bytes.entry.now) }
     ensures few { IfOk result (λ _. length bytes.entry.now ≤ LONGEST_TEXT) }
     ensures utf8 { IfOk result (λ _. IsUtf8 bytes.entry.now) }
     ensures fault { IfErr result (λ fault. IsUnread bytes.entry.now fault) }
 {
     if bytes.len() > LONGEST_TEXT {
-        return Err(Fault {
+        return Err(ScriptFault {
             line: 1,
-            kind: FaultKind::Limit,
+            kind: ScriptFaultKind::Limit,
         });
     }
     match gt_streams::text_of(bytes) {
         Ok(text) => Ok(text),
-        Err(line) => Err(Fault {
+        Err(line) => Err(ScriptFault {
             line,
-            kind: FaultKind::Utf8,
+            kind: ScriptFaultKind::Utf8,
         }),
     }
 }

@@ -4,7 +4,7 @@ ghost use Rattle.gt_script.specs.Tasks.{deed_of, task_of, tasks_for};
 
 use crate::flags::FlagNames;
 use crate::orders::{Order, RunLine};
-use gt_lines::{Call, Signal};
+use gt_lines::{ScriptCall, Signal};
 use gt_types::DomId;
 use std::alloc::{AllocError, Global};
 
@@ -12,7 +12,7 @@ use std::alloc::{AllocError, Global};
 #[derive(Debug, Drop)]
 pub enum Deed<'a> {
     /// The call, from its beginning to its answer.
-    Do(Call<'a>),
+    Do(ScriptCall<'a>),
     /// Tells the flag.
     Tell(usize),
     /// Goes on once some domain has told the flag.

@@ -1,7 +1,8 @@
 //! What scripts are read as, in words.
 use gt_policy::Policy;
 use gt_script::{
-    AccessCall, Action, Call, RunScript, Script, Step, TableCall, Text, hex_bytes, parse, parse_run,
+    AccessCall, RunScript, Script, ScriptAction, ScriptCall, ScriptStep, TableCall, Text,
+    hex_bytes, parse, parse_run,
 };
 use gt_types::{Allows, DomId, DomainConfig, Perms, Triple, TypeId};
 use std::alloc::{AllocError, Global};
@@ -65,7 +66,7 @@ fn policy_said(alloc: Global, policy: Option<&Policy>) -> Result<String, AllocEr
 }
 
 // The steps: the number of the line, the domain, what it asks, and the bytes of its hexadecimal text.
-fn steps_said(alloc: Global, steps: &[Step<'_>]) -> Result<String, AllocError> {
+fn steps_said(alloc: Global, steps: &[ScriptStep<'_>]) -> Result<String, AllocError> {
     let mut out = String::new(alloc);
     for step in steps {
         let action = &step.action;
@@ -76,7 +77,7 @@ fn steps_said(alloc: Global, steps: &[Step<'_>]) -> Result<String, AllocError> {
     Ok(out)
 }
 
-fn bytes_said(alloc: Global, action: &Action<'_>) -> Result<String, AllocError> {
+fn bytes_said(alloc: Global, action: &ScriptAction<'_>) -> Result<String, AllocError> {
     match hex_in(action) {
         Some(hex) => {
             let bytes = hex_bytes(alloc, hex)?;
@@ -87,13 +88,15 @@ fn bytes_said(alloc: Global, action: &Action<'_>) -> Result<String, AllocError> 
 }
 
 // The hexadecimal text of a call with one.
-fn hex_in<'b, 'a>(action: &'b Action<'a>) -> Option<&'b Text<'a>> {
-    let (Action::Do(call) | Action::Begin(call)) = action else {
+fn hex_in<'b, 'a>(action: &'b ScriptAction<'a>) -> Option<&'b Text<'a>> {
+    let (ScriptAction::Do(call) | ScriptAction::Begin(call)) = action else {
         return None;
     };
     match call {
-        Call::Table(TableCall::GrantBytes { hex, .. })
-        | Call::Access(AccessCall::Store { hex, .. } | AccessCall::Poke { hex, .. }) => Some(hex),
+        ScriptCall::Table(TableCall::GrantBytes { hex, .. })
+        | ScriptCall::Access(AccessCall::Store { hex, .. } | AccessCall::Poke { hex, .. }) => Some(
+            hex,
+        ),
         _ => None,
     }
 }

@@ -1,5 +1,5 @@
 //! Texts at the limits, texts that are cut off, and how a fault prints.
-use gt_script::{Fault, FaultKind, parse, parse_run};
+use gt_script::{ScriptFault, ScriptFaultKind, parse, parse_run};
 use std::alloc::{AllocError, Global};
 use std::test::Fail;
 
@@ -114,14 +114,14 @@ fn a_long_way_round_ends(rt: HostRuntime) -> Result<(), Fail> {
 #[test]
 fn prints_a_fault(rt: HostRuntime) -> Result<(), Fail> {
     for (kind, text) in [
-        (FaultKind::Limit, "line 6: limit"),
-        (FaultKind::Utf8, "line 6: utf8"),
-        (FaultKind::Syntax, "line 6: syntax"),
-        (FaultKind::Config, "line 6: config"),
-        (FaultKind::Mode, "line 6: mode"),
-        (FaultKind::Stuck, "line 6: stuck"),
+        (ScriptFaultKind::Limit, "line 6: limit"),
+        (ScriptFaultKind::Utf8, "line 6: utf8"),
+        (ScriptFaultKind::Syntax, "line 6: syntax"),
+        (ScriptFaultKind::Config, "line 6: config"),
+        (ScriptFaultKind::Mode, "line 6: mode"),
+        (ScriptFaultKind::Stuck, "line 6: stuck"),
     ] {
-        let fault = Fault { line: 6, kind };
+        let fault = ScriptFault { line: 6, kind };
         assert_eq!(rt; format!(in rt.alloc(); "{fault}")?.as_str(), text);
     }
     Ok(())

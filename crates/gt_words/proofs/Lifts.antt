@@ -1,5 +1,5 @@
 -- A step on one entry keeps the rule of the table, where it keeps the rule of that entry.
-use Rattle.gt_words.specs.declared.board.TheConstants.{DOMAIN_WORDS}
+use Rattle.gt_words.specs.declared.word_table.TheConstants.{DOMAIN_WORDS}
 use Rattle.std.proofs.Common.{◌≡◌, ◌≢◌, ⊎_elim, ℕ, ◌*◌, ◌<◌, ◌≤◌, Bool, true, false, cond, ◌==◌, ◌&&◌, List, [], ◌∷◌, map, get_or, set, length, sym, refl, ap, ◌∙◌, subst, arith, length-set, get_or-set_other, eq-eqb, ne_eqb}
 use mathlib.Core.Option.{some}
 use mathlib.Core.Logic.{dite}

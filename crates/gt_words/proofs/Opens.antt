@@ -1,5 +1,5 @@
 -- The rule at the start, and when a seat is dealt.
-use Rattle.gt_words.specs.declared.board.TheConstants.{DOMAIN_WORDS, ENTRY_WORDS}
+use Rattle.gt_words.specs.declared.word_table.TheConstants.{DOMAIN_WORDS, ENTRY_WORDS}
 use Rattle.std.proofs.Common.{◌≡◌, ◌≢◌, ◌⊎◌, inl, inr, ⊎_elim, ℕ, zero, suc, ◌+◌, ◌*◌, ◌/◌, ◌%◌, ◌<◌, ◌≤◌, Bool, false, cond, ◌==◌, List, [], ◌∷◌, ◌++◌, map, length, get_or, set, sym, refl, ap, ◌∙◌, subst, arith, length-append, eq-eqb, ne_eqb, All, IfSome, Option, Some, None}
 use mathlib.Core.Option.{some, some-injective, some-ne-none}
 use mathlib.Core.List.{map-append}

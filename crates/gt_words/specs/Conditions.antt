@@ -24,7 +24,7 @@ pub use Rattle.gt_words.specs.Keeping.{Holds, HoldsOneMore, Keeps, KeepsOtherRow
 use Rattle.gt_words.specs.Rule.{IsKeptHeader, Layout, Shows, header_place, id_at, place, position_in}
 use Rattle.gt_words.specs.Steps.{TakesStep, changed, changed_word, half_index, on_entry, on_header}
 use Rattle.gt_words.specs.Views.{HasBody, IsIn, LivePin, last_of, last_seen, own_body, own_header, own_list, pin_count, pins, record_seen, seen, steps_on, steps_on_header, with_step}
-use Rattle.gt_words.specs.declared.board.TheConstants.{DOMAIN_WORDS, ENTRY_WORDS}
+use Rattle.gt_words.specs.declared.word_table.TheConstants.{DOMAIN_WORDS, ENTRY_WORDS}
 use Rattle.gt_entry.specs.declared.change.Change.{Change}
 use Rattle.gt_words.specs.declared.view.EntryStep.{EntryStep}
 use Rattle.gt_words.specs.declared.view.EntryStep.TheVariants.{ChangeMissed, Changed, Looked, PinMissed, Pinned, ReadBody, StoredBody, Unpinned}

@@ -12,10 +12,10 @@
 //! It uses `atomic_table`, whose rule is `Shows` of specs/Rule.antt, and the words of `gt_entry`.
 #![tactic(auto)]
 
-mod board;
 mod laws;
 mod start;
 mod view;
+mod word_table;
 mod words;
 
 pub use laws::{

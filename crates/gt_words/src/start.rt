@@ -5,8 +5,8 @@ ghost use Rattle.gt_words.specs.Rule.{layout_of, first_header};
 ghost use Rattle.gt_words.specs.Conditions.{Board, IsNewSeat, initial};
 ghost use Rattle.gt_words.specs.Places.{IsNewPlace, dealer_after, dealt_to};
 
-use crate::board::{DOMAIN_WORDS, ENTRY_WORDS, Place, WordTable, idle_word};
 use crate::view::View;
+use crate::word_table::{DOMAIN_WORDS, ENTRY_WORDS, TableSeat, WordTable, idle_word};
 use crate::words::{Found, Seat};
 use atomic_table::Split;
 use gt_entry::{Entry, Header};
@@ -68,7 +68,7 @@ pub(crate) fn first_words(alloc: Global, config: &Config) -> Result<Vec<u64>, Al
 }
 
 // The seat of the domain at a position, which has done nothing.
-fn new_seat(config: &Config, place: Place, at: usize) -> Seat
+fn new_seat(config: &Config, place: TableSeat, at: usize) -> Seat
     requires config { IsWithinLimits config.now × (at < length config.now.domains.items) }
     requires place { IsNewPlace place.table_id (layout_of config.now) at place }
     ensures { IsNewSeat (record { table = place.table_id; layout = layout_of config.now }) at result }
@@ -91,7 +91,7 @@ pub(crate) fn deal_seats(
     alloc: Global,
     words: &WordTable,
     config: &Config,
-    mut first: Place,
+    mut first: TableSeat,
 ) -> Result<Vec<Seat>, AllocError>
     requires config { IsWithinLimits config.now × (words.now.table.shared.key ≡ config.now) }
     requires first { IsNewPlace words.now.table.shared.table_id (layout_of config.now) 0 first

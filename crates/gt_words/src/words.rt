@@ -14,8 +14,8 @@ ghost use Rattle.gt_words.specs.Conditions.{LooksAtHeader, LooksAtControl, Looks
 ghost use Rattle.gt_words.specs.Conditions.{UnpinsPin, Pins, MissesPin, Changes, MissesChange, MissesBusy, Revokes};
 ghost use Rattle.gt_words.specs.Conditions.{Demotes};
 
-use crate::board::{Place, WordTable};
 use crate::start::{deal_seats, domain_ids, first_words};
+use crate::word_table::{TableSeat, WordTable};
 use atomic_table::Table;
 use gt_entry::{Change, Control, Entry, Half, Header};
 use gt_types::{Config, Dir, DomId, GrantRef, MAX_TABLE_FRAMES, StartFault, TABLE_ENTRIES};
@@ -32,7 +32,7 @@ pub(crate) struct Found {
 /// A domain's right to step on the words. There is one for each domain of the run.
 #[derive(Drop)]
 pub struct Seat {
-    pub(crate) place: Place,
+    pub(crate) place: TableSeat,
     pub(crate) dom: DomId,
     pub(crate) position: usize,
     pub(crate) header: Header,

@@ -1,6 +1,6 @@
 use Rattle.std.proofs.Common.{ap, ◌∙◌}
 use Rattle.std.proofs.lemmas.Result.{err_from_is_err_and}
-use Rattle.gt_script.specs.Contents.{Kept, told, type_names}
+use Rattle.gt_script.specs.Contents.{KeptContents, told, type_names}
 use Rattle.gt_script.specs.RunContents.{run_told}
 use Rattle.gt_run.proofs.RanLemmas.{wrote_nothing, wrote_script}
 use Rattle.gt_run.proofs.reading.run_script.Goals as goal
@@ -28,5 +28,5 @@ returns-in_err-parts g c =
 pub returns : goal.returns
 returns g c =
     wrote_script (run_told c.args.script.now) c.in_ok-parts.parts.items c.as_slice-2.result.now c.run_lists.result _ _ c.domains-2.result.now c.tasks.result.now c.as_slice.result.now
-    c.in_ok-parts.ensures (c.domains-2.ensures ∙ ap (λ (k : Kept). k.domains) c.head-head.ensures) c.tasks.ensures
-    (c.as_slice.ensures.value ∙ c.in_ok-types.ensures ∙ ap (λ (k : Kept). type_names (told k)) c.head-head.ensures) c.as_slice-2.ensures.value c.run_lists.ensures
+    c.in_ok-parts.ensures (c.domains-2.ensures ∙ ap (λ (k : KeptContents). k.domains) c.head-head.ensures) c.tasks.ensures
+    (c.as_slice.ensures.value ∙ c.in_ok-types.ensures ∙ ap (λ (k : KeptContents). type_names (told k)) c.head-head.ensures) c.as_slice-2.ensures.value c.run_lists.ensures

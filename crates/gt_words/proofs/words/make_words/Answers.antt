@@ -5,7 +5,7 @@ use Rattle.gt_types.specs.declared.config.Config.{Config}
 use Rattle.atomic_table.specs.Table.{Me}
 use Rattle.gt_words.specs.Conditions.{IsNewSeat, SeatOf}
 use Rattle.gt_words.specs.Rule.{Layout, layout_of}
-use Rattle.gt_words.specs.declared.board.TheConstants.{DOMAIN_WORDS}
+use Rattle.gt_words.specs.declared.word_table.TheConstants.{DOMAIN_WORDS}
 use Rattle.gt_words.specs.declared.view.View.{View}
 use Rattle.gt_words.proofs.Dealt.{first_is_new}
 use Rattle.gt_words.proofs.Opens.{opens, headers_ok}

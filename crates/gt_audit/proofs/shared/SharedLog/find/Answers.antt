@@ -1,7 +1,7 @@
 use Rattle.std.proofs.Common.{◌≡◌, ℕ, ap, sym, ◌∙◌}
 use Rattle.std.proofs.lemmas.Bool.{eqb-true}
 use Rattle.gt_types.specs.declared.DomId.{DomId}
-use Rattle.gt_audit.specs.declared.shared.Entry.{Entry}
+use Rattle.gt_audit.specs.declared.shared.LogEntry.{LogEntry}
 use Rattle.gt_audit.proofs.shared.SharedLog.find.Goals as goal
 
 -- two domains of one number are one
@@ -15,8 +15,8 @@ returns-then-entry-number c =
       record { token = token.token },
       token.ensures.0,
       record {
-        dom = ap (λ (e : Entry). e.dom) is ∙ one_domain _ _ (eqb-true _ _ (sym (c.if-eq.ensures)));
-        number = ap (λ (e : Entry). e.number) is ∙ c.if-entry-number.true;
-        told = ap (λ (e : Entry). e.told) is;
+        dom = ap (λ (e : LogEntry). e.dom) is ∙ one_domain _ _ (eqb-true _ _ (sym (c.if-eq.ensures)));
+        number = ap (λ (e : LogEntry). e.number) is ∙ c.if-entry-number.true;
+        told = ap (λ (e : LogEntry). e.told) is;
       },
     )

@@ -4,7 +4,7 @@ use Rattle.gt_types.specs.declared.DomId.{DomId}
 use Rattle.std.specs.Option.{IsSome}
 use Rattle.std.specs.Prelude.{OnSome}
 use Rattle.gt_handles.specs.declared.handles.Handle.{Handle}
-use Rattle.gt_handles.specs.Handles.{Kept, Updates, count_of, value_of}
+use Rattle.gt_handles.specs.Handles.{HandleMap, Updates, count_of, value_of}
 use Rattle.gt_handles.specs.Listing.{IsTaken}
 use Rattle.gt_words.specs.Conditions.{HasDomain, Holds, Unpins}
 use Rattle.gt_words.specs.Controls.{generation_of}
@@ -30,7 +30,7 @@ use Rattle.gt_live.proofs.Once.{mapping-refused}
 use Rattle.gt_live.proofs.domain.Domain.give_up.Goals as goal
 
 -- what was taken out under this handle
-taken-out : (old new : Kept Held) (h : Handle) (m : Held) (r : Option Held) → value_of old h ≡ Some m → r ≡ value_of old h
+taken-out : (old new : HandleMap Held) (h : Handle) (m : Held) (r : Option Held) → value_of old h ≡ Some m → r ≡ value_of old h
     → Updates old new h None → OnSome r (count_of new + 1 ≡ count_of old) → new.given ≡ old.given → IsTaken old new h m
 taken-out old new h m r there value updates count given = record {
   value = there;

@@ -16,7 +16,7 @@ use Rattle.gt_calls.specs.Path.{path, path_of}
 use Rattle.gt_calls.specs.Resting.{RestsOnWays}
 use Rattle.gt_calls.specs.Rules.{begun}
 use Rattle.gt_calls.specs.Standing.{pins_by_call}
-use Rattle.gt_handles.specs.Handles.{Kept}
+use Rattle.gt_handles.specs.Handles.{HandleMap}
 use Rattle.gt_live.specs.declared.domain.Domain.{Domain}
 use Rattle.gt_live.specs.Accesses.{frame_named, spot_of}
 use Rattle.gt_live.specs.Domains.{knowledge}
@@ -60,14 +60,14 @@ copy_through-copied-requires-clause-may g c =
 pub returns-in-Done-clause-mine : goal.returns-in-Done-clause-mine
 returns-in-Done-clause-mine g c =
     let m = c.args.monitor.now in let d = c.args.self.now in let may = g.P.Allows.may m.rights in let f = c.walk.new.self in let kept = c.walk.ensures.kept in
-    looked m.words m.config may d f c.requires.mine (still_seat m.words d.seat f.seat c.requires.mine.seat kept.seat) kept.seat.dom (ap (λ v. v.items) kept.own) (ap (λ (z : Kept Held). z.slots) kept.mappings) c.in-Done.ensures.stops.same
+    looked m.words m.config may d f c.requires.mine (still_seat m.words d.seat f.seat c.requires.mine.seat kept.seat) kept.seat.dom (ap (λ v. v.items) kept.own) (ap (λ (z : HandleMap Held). z.slots) kept.mappings) c.in-Done.ensures.stops.same
 
 pub returns-in-Access-clause-mine : goal.returns-in-Access-clause-mine
 returns-in-Access-clause-mine g c =
     let m = c.args.monitor.now in let d = c.args.self.now in let may = g.P.Allows.may m.rights in let f = c.walk.new.self in let e = c.give_back.new.self in let one = c.walk.ensures.kept in let two = c.give_back.ensures.kept in
     let same = all-back m.words.layout d.seat.view e.seat.view (c.give_back.ensures.gives.back d.seat.view c.in-Access.ensures.stops.taken) in
     let seat = same_seat-then d.seat f.seat e.seat one.seat two.seat in
-    looked m.words m.config may d e c.requires.mine (still_seat m.words d.seat e.seat c.requires.mine.seat seat) seat.dom (ap (λ v. v.items) (two.own ∙ one.own)) (ap (λ (z : Kept Held). z.slots) (two.mappings ∙ one.mappings)) same
+    looked m.words m.config may d e c.requires.mine (still_seat m.words d.seat e.seat c.requires.mine.seat seat) seat.dom (ap (λ v. v.items) (two.own ∙ one.own)) (ap (λ (z : HandleMap Held). z.slots) (two.mappings ∙ one.mappings)) same
 
 pub returns-in-Access-clause-answered : goal.returns-in-Access-clause-answered
 returns-in-Access-clause-answered g c =
@@ -83,4 +83,4 @@ pub returns-in-Access-clause-kept : goal.returns-in-Access-clause-kept
 returns-in-Access-clause-kept g c =
     let d = c.args.self.now in let e = c.give_back.new.self in let one = c.walk.ensures.kept in let two = c.give_back.ensures.kept in
     let same = all-back c.args.monitor.now.words.layout d.seat.view e.seat.view (c.give_back.ensures.gives.back d.seat.view c.in-Access.ensures.stops.taken) in
-    (record { slots = ap (λ (z : Kept Held). z.slots) (two.mappings ∙ one.mappings); given = ap (λ (z : Kept Held). z.given) (two.mappings ∙ one.mappings) }, same.pins)
+    (record { slots = ap (λ (z : HandleMap Held). z.slots) (two.mappings ∙ one.mappings); given = ap (λ (z : HandleMap Held). z.given) (two.mappings ∙ one.mappings) }, same.pins)

@@ -11,7 +11,7 @@ use Rattle.gt_calls.specs.declared.request.Request.{Request}
 use Rattle.gt_calls.specs.declared.request.Request.TheVariants as requests
 use Rattle.gt_live.specs.declared.domain.Domain.{Domain}
 use Rattle.gt_live.specs.declared.monitor.Monitor.{Monitor}
-use Rattle.gt_live.specs.Domains.{MapAnswered, Rights, mapping_reply}
+use Rattle.gt_live.specs.Domains.{MapAnswered, AllowRelation, mapping_reply}
 use Rattle.gt_live.proofs.Kept.{retold}
 use Rattle.gt_live.proofs.domain.Domain.map.Goals as goal
 
@@ -30,7 +30,7 @@ returns-clause-told g c =
     ∙ ap (λ (x : Reply). record { dom = d.seat.dom; call = call; reply = x }) c.outcome_reply-reply.ensures.reply in
     subst (λ (t : Telling). Tells t wanted new) e.silent (subst (λ (r : Record). Tells c.make_mapping-result.new.self.trail r new) same c.push.ensures)
 
-map-retold : {P : Type 0} (may : P → Rights) (m : Monitor P) (d f : Domain) (request : Request) (result : Result Handle Denial) (t : Telling) → MapAnswered may m d request result f → MapAnswered may m d request result (record f { trail = t })
+map-retold : {P : Type 0} (may : P → AllowRelation) (m : Monitor P) (d f : Domain) (request : Request) (result : Result Handle Denial) (t : Telling) → MapAnswered may m d request result f → MapAnswered may m d request result (record f { trail = t })
 map-retold may m d f request (Ok handle) t x = x
 map-retold may m d f request (Err denial) t x = x
 

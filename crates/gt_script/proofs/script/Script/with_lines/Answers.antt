@@ -1,16 +1,16 @@
 use Rattle.std.proofs.Common.{◌≡◌, ℕ, ◌+◌, Result, Err, sym, ◌∙◌}
 use Rattle.gt_script.specs.Outcomes.{Adds, Says, on_line}
 use Rattle.gt_script.specs.Contents.{Contents, told}
-use Rattle.gt_script.specs.declared.faults.Fault.{Fault}
-use Rattle.gt_script.specs.declared.faults.FaultKind.{FaultKind}
+use Rattle.gt_script.specs.declared.faults.ScriptFault.{ScriptFault}
+use Rattle.gt_script.specs.declared.faults.ScriptFaultKind.{ScriptFaultKind}
 use Rattle.gt_script.specs.declared.script.AddError.{AddError}
 use Rattle.gt_script.specs.declared.script.AddError.TheVariants as add
 use Rattle.gt_script.proofs.ScriptLemmas.{step_ok, step_err}
 use Rattle.gt_script.proofs.script.Script.with_lines.Goals as goal
 
 -- an error on line n is what all of the lines say, where it is what they say from line n on
-err_said : (e : AddError) (n : ℕ) (here : Result Contents FaultKind) (all rest : Result Contents Fault) → all ≡ rest → Adds (Err e) here
-    → ((kind : FaultKind) → here ≡ Err kind → rest ≡ Err (record { line = n; kind = kind })) → Says (Err (on_line n e)) all
+err_said : (e : AddError) (n : ℕ) (here : Result Contents ScriptFaultKind) (all rest : Result Contents ScriptFault) → all ≡ rest → Adds (Err e) here
+    → ((kind : ScriptFaultKind) → here ≡ Err kind → rest ≡ Err (record { line = n; kind = kind })) → Says (Err (on_line n e)) all
 err_said add.Memory n here all rest same h step = tt
 err_said (add.Fault kind) n here all rest same h step = same ∙ step kind h
 

@@ -1,0 +1,51 @@
+use Rattle.std.proofs.Common.{subst, ◌≡◌, ℕ, ◌+◌, ap, ◌∙◌, arith}
+use Rattle.gt_words.proofs.word_table.WordTable.grant.Goals as goal
+use Rattle.gt_entry.specs.Spelling.{IsSpelled, idle_word_of}
+use Rattle.gt_entry.specs.declared.change.Half.TheVariants.{First, Second}
+use Rattle.gt_words.specs.declared.view.View.{View}
+use Rattle.gt_entry.specs.Words.{control_of}
+use Rattle.gt_entry.specs.declared.control.Control.{Control}
+use Rattle.gt_entry.specs.declared.entry.Entry.{Entry}
+use Rattle.gt_entry.specs.declared.entry.Entry.TheVariants.{Invalid}
+use Rattle.gt_words.proofs.Owed.{grant_owes}
+use Rattle.gt_words.proofs.Told.{exchange_missed, exchange_taken, finds_pins, still_idle, takes_change}
+use Rattle.gt_words.specs.Conditions.{IsIdleOf}
+use Rattle.gt_words.specs.Rule.{layout_of}
+use Rattle.gt_words.specs.Steps.{changed_word}
+use Rattle.gt_words.specs.Views.{last_of, own_body, steps_on, stored_body}
+use Rattle.gt_words.specs.declared.view.EntryStep.TheVariants.{ChangeMissed}
+use Rattle.gt_words.specs.declared.view.EntryRecord.{EntryRecord}
+use Rattle.gt_entry.specs.declared.change.Change.TheVariants as change
+use Rattle.gt_words.specs.declared.view.Purpose.TheVariants as purpose
+
+-- the generation that the word has
+generation : (c : Control) (x : EntryRecord) (word : ℕ) → c ≡ control_of word → IsIdleOf x word → x.entry ≡ Invalid → c.generation ≡ x.generation
+generation c x word is idle none_yet = let e : word ≡ idle_word_of Invalid x.generation = idle ∙ ap (λ (y : Entry). idle_word_of y x.generation) none_yet in let g = ap (λ (u : Control). u.generation) is in omega arith
+
+-- the body words stand at the seat's position
+at_home : (e : Entry) (v : View) (t r : ℕ) → v.position ≡ t → IsSpelled e (own_body r First v) (own_body r Second v) → IsSpelled e (stored_body First (steps_on t r v)) (stored_body Second (steps_on t r v))
+at_home e v t r own s = subst (λ (u : ℕ). IsSpelled e (stored_body First (steps_on u r v)) (stored_body Second (steps_on u r v))) own s
+
+-- the word to be stored
+stored : (c : Control) (x : EntryRecord) (word : ℕ) (e : Entry) → c ≡ control_of word → IsIdleOf x word → x.entry ≡ Invalid → (new : ℕ) → new ≡ idle_word_of e (c.generation + 1) → new ≡ changed_word (change.Publish e) x word
+stored c x word e is idle none_yet new made = made ∙ ap (λ (g : ℕ). idle_word_of e (g + 1)) (generation c x word is idle none_yet)
+
+pub exchange_word-found-requires-clause-allowed : goal.exchange_word-found-requires-clause-allowed
+exchange_word-found-requires-clause-allowed c = let b = c.args.self.now.table.shared in let x = last_of c.args.gref c.args.seat.now.me.0 in
+    grant_owes (layout_of b.key) b.table_id.slots c.args.seat.now.id c.args.seat.now.me c.args.at c.args.gref c.requires.entry.0 c.requires.entry.1 c.requires.mine.1 c.args.entry c.args.word _ c.requires.can.idle
+    (stored _ x c.args.word c.args.entry c.unpack.ensures.holds c.requires.can.idle c.requires.can.none_yet _ c.idle_word-new.ensures) c.requires.can.none_yet c.requires.given c.requires.can.some c.requires.can.room (at_home c.args.entry c.args.seat.now.me.0 c.args.at c.args.gref c.requires.mine.1 c.requires.can.spelled)
+
+pub returns-then-found-word-clause-step : goal.returns-then-found-word-clause-step
+returns-then-found-word-clause-step c = let k = layout_of c.args.self.now.table.shared.key in let v = c.args.seat.now.me.0 in let w = c.exchange_word-found.new.seat.me.0 in let n : ℕ = c.exchange_word-found.result in let e = c.exchange_word-found.ensures.2 in
+    let z = exchange_taken k c.args.at c.args.gref v (purpose.Change (change.Publish c.args.entry)) c.args.word c.idle_word-new.result n w c.if-found-word.true e.1 e.2 in
+    takes_change k c.args.at c.args.gref c.args.word v w c.requires.entry.0 c.requires.entry.1 c.requires.mine.1 (change.Publish c.args.entry) c.idle_word-new.result (stored _ (last_of c.args.gref v) c.args.word c.args.entry c.unpack.ensures.holds c.requires.can.idle c.requires.can.none_yet _ c.idle_word-new.ensures) z
+
+pub returns-else-found-word-clause-step : goal.returns-else-found-word-clause-step
+returns-else-found-word-clause-step c = let k = layout_of c.args.self.now.table.shared.key in let v = c.args.seat.now.me.0 in let w = c.exchange_word-found.new.seat.me.0 in let n : ℕ = c.exchange_word-found.result in let e = c.exchange_word-found.ensures.2 in
+    let z = exchange_missed k c.args.at c.args.gref v (purpose.Change (change.Publish c.args.entry)) c.args.word c.idle_word-new.result n w c.if-found-word.false e.1 e.2 in
+    finds_pins k c.args.at c.args.gref c.args.word v w c.requires.entry.0 c.requires.entry.1 c.requires.mine.1 (change.Publish c.args.entry) c.idle_word-new.result n (stored _ (last_of c.args.gref v) c.args.word c.args.entry c.unpack.ensures.holds c.requires.can.idle c.requires.can.none_yet _ c.idle_word-new.ensures) c.requires.can.idle c.if-found-word.false z
+
+pub returns-else-found-word-clause-taken : goal.returns-else-found-word-clause-taken
+returns-else-found-word-clause-taken c = let k = layout_of c.args.self.now.table.shared.key in let v = c.args.seat.now.me.0 in let w = c.exchange_word-found.new.seat.me.0 in let n : ℕ = c.exchange_word-found.result in let e = c.exchange_word-found.ensures.2 in
+    let z = exchange_missed k c.args.at c.args.gref v (purpose.Change (change.Publish c.args.entry)) c.args.word c.idle_word-new.result n w c.if-found-word.false e.1 e.2 in
+    absurd (c.if-found-word.false (still_idle k c.args.at c.args.gref (ChangeMissed (change.Publish c.args.entry) c.args.word c.idle_word-new.result n) n n v w c.requires.entry.0 c.requires.entry.1 z c.requires.mine.1 c.args.word c.requires.can.idle c.requires.can.none_yet))
