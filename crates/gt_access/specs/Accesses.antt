@@ -14,7 +14,8 @@ pub record IsReadOf (r : Reading) (name : FrameName) (off len : ℕ) : Type 0 wh
 
 -- these bytes, written to the frame of this name from off on by this writer (own)
 abbrev pub writing_at : FrameName → ℕ → List ℕ → DomId → Writing
-writing_at name off ys writer = record { owner = name.owner; number = name.number; off = off; bytes = ys; writer = writer }
+writing_at name off ys writer =
+    record { owner = name.owner; number = name.number; off = off; bytes = ys; writer = writer }
 
 -- a copy's end at this byte (own)
 abbrev pub end_at : Spot → End

@@ -46,22 +46,26 @@ abbrev pub Serves : Dir → Held → Type 0
 Serves Read p = Unit {0}
 Serves Write p = p.dir ≡ Write
 
--- the seat has this pin, of an entry of this frame which permitted the domain this direction, use and range (own, after grant_table.h)
-pub record IsPinnedFor (k : Layout) (s : SeatOf) (grantee : DomId) (dir : Dir) (purpose : Use) (name : FrameName) (off len : ℕ) (p : Held) : Type 0 where
+-- the seat has this pin, of an entry of this frame which permitted the domain
+-- this direction, use and range (own, after grant_table.h)
+pub record IsPinnedFor (k : Layout) (s : SeatOf) (grantee : DomId) (dir : Dir) (purpose : Use) (name : FrameName)
+    (off len : ℕ) (p : Held) : Type 0 where
   pub pin : HasPin k s.view p
   pub serves : Serves dir p
   pub owner_is : p.dom ≡ name.owner
   pub of_frame : is_of_frame p.entry name.number ≡ true
   pub permitted : permits p.entry grantee dir purpose off len ≡ true
 
--- the seat has this pin, of a transitive entry which forwarded its domain in this direction to the entry of the other pin (own, after grant_table.h, transitive)
+-- the seat has this pin, of a transitive entry which forwarded its domain in this direction
+-- to the entry of the other pin (own, after grant_table.h, transitive)
 pub record IsPinnedOn (k : Layout) (s : SeatOf) (dir : Dir) (via p : Held) : Type 0 where
   pub pin : HasPin k s.view via
   pub serves : Serves dir via
   pub forwarded : forwards via.entry s.dom dir ≡ true
   pub leads : LeadsTo via.entry p
 
--- the seat's domain reaches this range of the frame by the route: the frame is its own, or a pin of the frame's owner permits it, or, for a copy, a pin of a transitive entry forwards it to one that permits the domain between (own)
+-- the seat's domain reaches this range of the frame by the route: the frame is its own, or a pin of the frame's owner
+-- permits it, or, for a copy, a pin of a transitive entry forwards it to one that permits the domain between (own)
 abbrev pub Reaches : Layout → SeatOf → Dir → Use → FrameName → ℕ → ℕ → Route → Type 0
 Reaches k s dir purpose name off len Own = s.dom ≡ name.owner
 Reaches k s dir purpose name off len (Direct p) = IsPinnedFor k s s.dom dir purpose name off len p
@@ -73,7 +77,8 @@ Reaches k s dir purpose name off len (Through via p) =
 -- the access goes through no mapping, or the policy allows what the mapping's map asked (own)
 abbrev pub MayAccess : List DomainConfig → (TypeId → TypeId → Perms → Bool) → DomId → Route → Type 0
 MayAccess domains may caller Own = Unit {0}
-MayAccess domains may caller (Direct p) = IsAllowed may (triples (label_of domains caller) (label_of domains p.dom) (map_perms p.dir))
+MayAccess domains may caller (Direct p) =
+    IsAllowed may (triples (label_of domains caller) (label_of domains p.dom) (map_perms p.dir))
 MayAccess domains may caller (Through via p) = ⊥
 
 -- the domain that an end of a copy names (own)
@@ -88,7 +93,8 @@ pair_beyond Own pair = []
 pair_beyond (Direct p) pair = []
 pair_beyond (Through via p) pair = pair ∷ []
 
--- the pairs for which a copy asks: the domains named; past a transitive source its frame's owner and the destination named; past a transitive destination the owners of both frames (own)
+-- the pairs for which a copy asks: the domains named; past a transitive source its frame's owner and the
+-- destination named; past a transitive destination the owners of both frames (own)
 abbrev pub pairs_asked : DomId → Pins → List (DomId × DomId)
 pairs_asked caller p =
     (named_by caller p.source, named_by caller p.dest)
@@ -99,7 +105,8 @@ pairs_asked caller p =
 abbrev pub MayCopyEach : List DomainConfig → (TypeId → TypeId → Perms → Bool) → List (DomId × DomId) → Type 0
 MayCopyEach domains may [] = Unit {0}
 MayCopyEach domains may (pair ∷ pairs) =
-    IsAllowed may (triples (label_of domains pair.0) (label_of domains pair.1) (copy ∷ [])) × MayCopyEach domains may pairs
+    IsAllowed may (triples (label_of domains pair.0) (label_of domains pair.1) (copy ∷ []))
+    × MayCopyEach domains may pairs
 
 -- the policy allows the copy by these routes (own)
 abbrev pub MayCopy : List DomainConfig → (TypeId → TypeId → Perms → Bool) → DomId → Pins → Type 0

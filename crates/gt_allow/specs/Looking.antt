@@ -6,7 +6,8 @@ use Rattle.gt_types.specs.declared.perms.Perms.{Perms}
 use Rattle.gt_policy.specs.Allowing.{lists_perm}
 use Rattle.gt_policy.specs.Rows.{Lane, reaches}
 
--- the number of types, and for each pair of them the permissions that the source has on the target: source by source, and in each by target (own)
+-- the number of types, and for each pair of them the permissions that the source has
+-- on the target: source by source, and in each by target (own)
 pub record Table : Type 0 where
   pub count : ℕ
   pub sets : List Perms
@@ -25,8 +26,11 @@ looks table s t perm = (nat_lt s table.count && nat_lt t table.count) && holds_a
 
 -- the sets of one source, for so many targets (own)
 abbrev pub IsRow : List Lane → ℕ → List Perms → Type 0
-IsRow row count sets = (length sets ≡ count) × ((t : ℕ) (perm : Perms) → t < count → holds_at sets t perm ≡ reaches row t perm)
+IsRow row count sets =
+    (length sets ≡ count) × ((t : ℕ) (perm : Perms) → t < count → holds_at sets t perm ≡ reaches row t perm)
 
 -- the sets of so many sources, each for as many targets as there are types (own)
 abbrev pub AreRows : (ℕ → ℕ → Perms → Bool) → ℕ → ℕ → List Perms → Type 0
-AreRows may count sources sets = (length sets ≡ sources * count) × ((s t : ℕ) (perm : Perms) → s < sources → t < count → holds_at sets (s * count + t) perm ≡ may s t perm)
+AreRows may count sources sets =
+    (length sets ≡ sources * count)
+    × ((s t : ℕ) (perm : Perms) → s < sources → t < count → holds_at sets (s * count + t) perm ≡ may s t perm)

@@ -7,7 +7,8 @@ use Rattle.gt_types.specs.Names.{resolved}
 use Rattle.gt_texts.specs.Printing.{denial_text, frames_text, size_text, version_text}
 use Rattle.gt_audit.specs.declared.record.CopyEnd.{CopyEnd}
 use Rattle.gt_audit.specs.declared.record.Hypercall.{Hypercall}
-use Rattle.gt_audit.specs.declared.record.Hypercall.TheVariants.{Map, Unmap, Copy, QuerySize, GetVersion, SetVersion, SetupTable}
+use Rattle.gt_audit.specs.declared.record.Hypercall.TheVariants.{Map, Unmap, Copy, QuerySize, GetVersion, SetVersion}
+use Rattle.gt_audit.specs.declared.record.Hypercall.TheVariants.{SetupTable}
 use Rattle.gt_audit.specs.declared.record.Reply.{Reply}
 use Rattle.gt_audit.specs.declared.record.Reply.TheVariants.{Done, Frames, Size, Version, Denied}
 use Rattle.gt_audit.specs.declared.record.Record.{Record}
@@ -27,9 +28,11 @@ kind_text is_reference = if is_reference then codes "gref" else codes "frame"
 -- ` KIND DOM PTR OFF` (own)
 abbrev pub end_text : DomId → Bool → CopyEnd → List ℕ
 end_text caller is_reference end =
-    codes " " ++ kind_text is_reference ++ codes " " ++ domain_text caller end.dom ++ codes " " ++ decimal end.ptr ++ codes " " ++ decimal end.off
+    codes " " ++ kind_text is_reference ++ codes " " ++ domain_text caller end.dom ++ codes " " ++ decimal end.ptr
+    ++ codes " " ++ decimal end.off
 
--- `copy`, its ends, source first, its length and its flags: bit 0 is the source's kind, bit 1 the destination's (GNTCOPY of grant_table.h)
+-- `copy`, its ends, source first, its length and its flags: bit 0 is the
+-- source's kind, bit 1 the destination's (GNTCOPY of grant_table.h)
 abbrev pub copy_text : DomId → CopyEnd → CopyEnd → ℕ → ℕ → List ℕ
 copy_text caller source dest len flags =
     codes "copy" ++ end_text caller (bit_and flags 1 == 1) source ++ end_text caller (bit_and flags 2 == 2) dest

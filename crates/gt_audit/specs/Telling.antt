@@ -3,7 +3,8 @@ use Rattle.std.specs.Prelude.{◌≡◌, ℕ, ◌+◌, ◌-◌, ◌^◌, ◌<◌
 use Rattle.gt_types.specs.declared.DomId.{DomId}
 use Rattle.gt_audit.specs.declared.record.Record.{Record}
 
--- the records that are kept, in order, how many were lost, how many may be kept, and for how many more there is room (own)
+-- the records that are kept, in order, how many were lost, how many may
+-- be kept, and for how many more there is room (own)
 pub record Telling : Type 0 where
   pub records : List Record
   pub lost : ℕ
@@ -26,7 +27,8 @@ IsToldBehind old r new = (new.records ≡ old.records ++ r ∷ []) × (new.lost 
 abbrev pub IsLost : Telling → Telling → Type 0
 IsLost old new = (new.records ≡ old.records) × (new.lost ≡ one_more_lost old.lost)
 
--- the record is kept behind all others, or it is lost and the others stay; no more are kept than may be, and where there is room for one that may be kept it is (own)
+-- the record is kept behind all others, or it is lost and the others stay; no more are kept
+-- than may be, and where there is room for one that may be kept it is (own)
 pub record Tells (old : Telling) (r : Record) (new : Telling) : Type 0 where
   pub told : IsToldBehind old r new ⊎ IsLost old new
   pub full : old.most ≤ length old.records → IsLost old new
@@ -48,4 +50,5 @@ nothing_told d = record { dom = d; told = []; lost = 0 }
 abbrev pub TellsUnder : Account → ℕ → Record → Account → Type 0
 TellsUnder old number r new =
     (new.dom ≡ old.dom)
-    × (((new.told ≡ old.told ++ (number, r) ∷ []) × (new.lost ≡ old.lost)) ⊎ ((new.told ≡ old.told) × (new.lost ≡ one_more_lost old.lost)))
+    × (((new.told ≡ old.told ++ (number, r) ∷ []) × (new.lost ≡ old.lost))
+    ⊎ ((new.told ≡ old.told) × (new.lost ≡ one_more_lost old.lost)))

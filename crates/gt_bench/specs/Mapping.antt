@@ -14,7 +14,8 @@ use Rattle.gt_bench.specs.declared.mapper.Target.{Target}
 abbrev pub IsUnusedFrom : ℕ → View → Type 0
 IsUnusedFrom n v = (r : ℕ) → n ≤ r → last_of r v ≡ record { generation = 0; entry = Invalid }
 
--- the view has a read pin of a transitive entry of the domain m, another one than t, which forwarded the seat's domain and leads to the entry r of the domain t (own, after grant_table.h, transitive)
+-- the view has a read pin of a transitive entry of the domain m, another one than t, which forwarded the
+-- seat's domain and leads to the entry r of the domain t (own, after grant_table.h, transitive)
 pub record KeepsVia (k : Layout) (t r : ℕ) (m : DomId) (v : View) : Type 0 where
   pub owner : ℕ
   pub reference : ℕ
@@ -26,9 +27,12 @@ pub record KeepsVia (k : Layout) (t r : ℕ) (m : DomId) (v : View) : Type 0 whe
   pub named : id_at k.ids owner ≡ m
   pub apart : t ≢ owner
 
--- the target names the seat's own domain, or one whose transitive entry to the target is kept pinned (own, after grant_table.h, transitive)
+-- the target names the seat's own domain, or one whose transitive entry to the
+-- target is kept pinned (own, after grant_table.h, transitive)
 abbrev pub MayMap : Board → Target → View → Type 0
-MayMap b x v = (id_at b.layout.ids v.position ≡ x.named) ⊎ KeepsVia b.layout (position_in b.layout.ids x.granter) x.gref.0 x.named v
+MayMap b x v =
+    (id_at b.layout.ids v.position ≡ x.named)
+    ⊎ KeepsVia b.layout (position_in b.layout.ids x.granter) x.gref.0 x.named v
 
 -- the seat has the pins that it had, but for those of entries of the domain t (own)
 abbrev pub KeepsPinsBeyond : ℕ → View → View → Type 0

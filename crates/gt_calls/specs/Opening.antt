@@ -1,5 +1,6 @@
 -- What is so of a call that no rule answers at its beginning.
-use Rattle.std.specs.Prelude.{◌≡◌, ◌≢◌, ◌⊎◌, ◌+◌, ◌<◌, ◌≤◌, ℕ, Bool, true, false, List, [], ◌∷◌, Some, ◌==◌, ◌&&◌, ◌||◌, not, nat_lt, nat_le, is_none, zero, suc, refl, Option, None, cond}
+use Rattle.std.specs.Prelude.{◌≡◌, ◌≢◌, ◌⊎◌, ◌+◌, ◌<◌, ◌≤◌, ℕ, Bool, true, false, List, [], ◌∷◌, Some, ◌==◌, ◌&&◌, ◌||◌}
+use Rattle.std.specs.Prelude.{not, nat_lt, nat_le, is_none, zero, suc, refl, Option, None, cond}
 use Rattle.std.proofs.Common.{arith, ap, ◌∙◌, inl, inr}
 use Rattle.std.proofs.lemmas.Bool.{ltb-false, leb-false, eqb-true, eqb-false}
 use Rattle.gt_types.specs.declared.limits.TheConstants.{FRAME_SIZE, LAST_GENERATION, MAX_MAPPINGS, MAX_TABLE_FRAMES}
@@ -16,21 +17,29 @@ use Rattle.gt_entry.specs.declared.change.Change.{Change}
 use Rattle.gt_entry.specs.declared.change.Change.TheVariants.{Demote as ToReadOnly, Promote as ToWritable}
 use Rattle.gt_handles.specs.declared.handles.Handle.{Handle}
 use Rattle.gt_calls.specs.declared.request.Asked.{Asked}
-use Rattle.gt_calls.specs.declared.request.Asked.TheVariants.{Grant, Revoke, Demote, Promote, Map, Unmap, Load, SetVersion, SetupTable, QuerySize, GetVersion, Store, Peek, Poke, Copy}
+use Rattle.gt_calls.specs.declared.request.Asked.TheVariants.{Grant, Revoke, Demote, Promote, Map, Unmap, Load}
+use Rattle.gt_calls.specs.declared.request.Asked.TheVariants.{SetVersion, SetupTable, QuerySize, GetVersion, Store}
+use Rattle.gt_calls.specs.declared.request.Asked.TheVariants.{Peek, Poke, Copy}
 use Rattle.gt_calls.specs.declared.judging.TheConstants.{END_OF_SERIALS}
 use Rattle.gt_calls.specs.declared.held.Held.{Held}
 use Rattle.gt_calls.specs.declared.request.CopyArgs.{CopyArgs}
 use Rattle.gt_calls.specs.declared.request.End.{End}
 use Rattle.gt_types.specs.declared.Dir.{Dir}
 use Rattle.gt_types.specs.declared.denial.Rule.{Rule}
-use Rattle.gt_types.specs.declared.denial.Rule.TheVariants.{N1, N2, N3, N4, N5, N6, N7, N8, N9, N10, N16, N20, N21, N22, N23, N24}
+use Rattle.gt_types.specs.declared.denial.Rule.TheVariants.{N1, N2, N3, N4, N5, N6, N7, N8, N9, N10, N16, N20, N21, N22}
+use Rattle.gt_types.specs.declared.denial.Rule.TheVariants.{N23, N24}
 use Rattle.gt_types.specs.Denial.{denial_of}
 use Rattle.gt_types.specs.declared.denial.Facts.TheVariants.{Policy}
 use Rattle.gt_calls.specs.declared.action.Verdict.{Verdict}
 use Rattle.gt_calls.specs.declared.action.Verdict.TheVariants.{Refused}
 use Rattle.gt_calls.specs.declared.action.Value.{Value}
 use Rattle.gt_calls.specs.declared.action.Value.TheVariants.{Frames}
-use Rattle.gt_calls.specs.Rules.{CallerKnowledge, IsOfRun, is_already, cannot_stand, frames_of, is_invalid, size_of, map_dir, rights_to_map, rights_to_unmap, rights_to_copy, rights_to_setup, rights_to_query, is_source_granted, is_dest_granted, begun, first, refused_when, granted_when, given_when, denied, unmap_denied, writes_by, is_for_reading, is_version, has_valid, ends_named, ends_ranged, ends_owned, ends_framed, is_foreign, is_past_frames, change_begun, own_access_begun, query_begun}
+use Rattle.gt_calls.specs.Rules.{CallerKnowledge, IsOfRun, is_already, cannot_stand, frames_of, is_invalid, size_of}
+use Rattle.gt_calls.specs.Rules.{map_dir, rights_to_map, rights_to_unmap, rights_to_copy, rights_to_setup}
+use Rattle.gt_calls.specs.Rules.{rights_to_query, is_source_granted, is_dest_granted, begun, first, refused_when}
+use Rattle.gt_calls.specs.Rules.{granted_when, given_when, denied, unmap_denied, writes_by, is_for_reading, is_version}
+use Rattle.gt_calls.specs.Rules.{has_valid, ends_named, ends_ranged, ends_owned, ends_framed, is_foreign}
+use Rattle.gt_calls.specs.Rules.{is_past_frames, change_begun, own_access_begun, query_begun}
 
 -- the policy allows each of these (XSM FLASK)
 abbrev pub IsAllowed : (TypeId → TypeId → Perms → Bool) → List Triple → Type 0

@@ -1,6 +1,7 @@
 -- When a core stands for a history. The upper half, up to `IsRoomFor`, describes the code's own representation. It is
 -- in specs/ because private contracts cite it.
-use Rattle.std.specs.Prelude.{◌≡◌, ◌≢◌, ◌<◌, ◌≤◌, ◌+◌, ◌⊎◌, reverse, ℕ, Bool, true, false, List, [], ◌∷◌, Option, Some, None, slice_get, length, All}
+use Rattle.std.specs.Prelude.{◌≡◌, ◌≢◌, ◌<◌, ◌≤◌, ◌+◌, ◌⊎◌, reverse, ℕ, Bool, true, false, List, [], ◌∷◌, Option, Some}
+use Rattle.std.specs.Prelude.{None, slice_get, length, All}
 use Rattle.gt_types.specs.Names.{domain_of}
 use Rattle.gt_types.specs.declared.DomId.{DomId}
 use Rattle.gt_types.specs.declared.Dir.{Dir}
@@ -32,7 +33,9 @@ use Rattle.gt_calls.specs.declared.action.Action.{Action}
 use Rattle.gt_calls.specs.declared.action.Action.TheVariants.{Step as Makes, Done as Ends}
 use Rattle.gt_calls.specs.declared.call.Call.{Call}
 use Rattle.gt_core.specs.declared.trace.Answer.{Answer}
-use Rattle.gt_core.specs.declared.trace.Answer.TheVariants.{Denied, Mapped as MappedAnswer, Done as AnswerDone, Bytes as BytesAnswer, Frames as FramesAnswer, Size as SizeAnswer, Version as VersionAnswer}
+use Rattle.gt_core.specs.declared.trace.Answer.TheVariants.{Denied, Mapped as MappedAnswer, Done as AnswerDone}
+use Rattle.gt_core.specs.declared.trace.Answer.TheVariants.{Bytes as BytesAnswer, Frames as FramesAnswer}
+use Rattle.gt_core.specs.declared.trace.Answer.TheVariants.{Size as SizeAnswer, Version as VersionAnswer}
 use Rattle.gt_core.specs.declared.trace.Bytes.{Bytes}
 use Rattle.gt_handles.specs.declared.handles.Handle.{Handle}
 use Rattle.gt_calls.specs.declared.action.Step.{Step}
@@ -50,17 +53,21 @@ use Rattle.gt_core.specs.declared.trace.Happened.TheVariants.{Began, Stepped}
 use Rattle.gt_core.specs.declared.trace.Event.{Event}
 use Rattle.gt_core.specs.declared.trace.Element.{Element}
 use Rattle.gt_core.specs.declared.trace.Element.TheVariants.{Busy, Idle, NoDomain, Item as Did}
-pub use Rattle.gt_core.specs.States.{State, CoreState, core_of, state_of, first_state, changed_in, asks_memory, IsMapping}
+pub use Rattle.gt_core.specs.States.{State, CoreState, core_of, state_of, first_state, changed_in, asks_memory}
+pub use Rattle.gt_core.specs.States.{IsMapping}
 use Rattle.gt_core.specs.declared.pin_counts.PinCounts.{PinCounts}
 use Rattle.gt_core.specs.declared.underway.Open.{Open}
 use Rattle.gt_core.specs.declared.core_state.Begun.{Begun}
-use Rattle.gt_core.specs.declared.core_state.Begun.TheVariants.{Open as BegunOpen, Done as BegunDone, Busy as BegunBusy, NoDomain as BegunNoDomain}
+use Rattle.gt_core.specs.declared.core_state.Begun.TheVariants.{Open as BegunOpen, Done as BegunDone, Busy as BegunBusy}
+use Rattle.gt_core.specs.declared.core_state.Begun.TheVariants.{NoDomain as BegunNoDomain}
 use Rattle.gt_core.specs.declared.core_state.Ticked.{Ticked}
-use Rattle.gt_core.specs.declared.core_state.Ticked.TheVariants.{Step as TickedStep, Done as TickedDone, Idle as TickedIdle, NoDomain as TickedNoDomain}
+use Rattle.gt_core.specs.declared.core_state.Ticked.TheVariants.{Step as TickedStep, Done as TickedDone}
+use Rattle.gt_core.specs.declared.core_state.Ticked.TheVariants.{Idle as TickedIdle, NoDomain as TickedNoDomain}
 use Rattle.gt_core.specs.declared.machine.Machine.{Machine}
 use Rattle.gt_core.specs.declared.machine.Opening.{Opening}
 use Rattle.gt_core.specs.declared.machine.Opening.TheVariants.{Open as OpeningOpen, Done as OpeningDone}
-use Rattle.gt_calls.specs.Rules.{CallerKnowledge, knowledge_of, begun, entry_in, generation_in, first_look, first_body, is_kind, frames_of, control_with}
+use Rattle.gt_calls.specs.Rules.{CallerKnowledge, knowledge_of, begun, entry_in, generation_in, first_look, first_body}
+use Rattle.gt_calls.specs.Rules.{is_kind, frames_of, control_with}
 use Rattle.gt_calls.specs.Path.{path, rule_of_try}
 use Rattle.gt_calls.specs.declared.leg.TheConstants.{MORE_TRIES}
 use Rattle.gt_entry.specs.Spelling.{entry_of}
@@ -77,7 +84,8 @@ use Rattle.gt_entry.specs.declared.control.Kind.TheVariants.{Sub as KindSub}
 use Rattle.gt_entry.specs.Words.{IsInRange, control_of}
 use Rattle.gt_entry.specs.Entries.{IsEntry}
 use Rattle.gt_entry.specs.Permits.{permits}
-use Rattle.gt_calls.specs.declared.request.Asked.TheVariants.{Store, Poke, Copy, SetVersion, SetupTable, QuerySize, GetVersion}
+use Rattle.gt_calls.specs.declared.request.Asked.TheVariants.{Store, Poke, Copy, SetVersion, SetupTable, QuerySize}
+use Rattle.gt_calls.specs.declared.request.Asked.TheVariants.{GetVersion}
 use Rattle.gt_calls.specs.Holding.{last_first}
 use Rattle.gt_types.specs.Names.{resolved}
 use Rattle.gt_calls.specs.declared.call.Question.{Question}
@@ -86,9 +94,13 @@ use Rattle.gt_calls.specs.declared.leg.Leg.{Leg}
 use Rattle.gt_calls.specs.declared.leg.LegPhase.{LegPhase}
 use Rattle.gt_calls.specs.declared.leg.LegPhase.TheVariants.{Header as AtHeader, Look, Body, Second, Pinning, Relook}
 use Rattle.gt_calls.specs.declared.call.Phase.{Phase}
-use Rattle.gt_calls.specs.declared.call.Phase.TheVariants.{Storing, StoringSecond, Exchanging, Looking, Changing, Walking, Accessing, Asking, Last, Ending}
-use Rattle.gt_core.specs.History.{History, Setting, Pin, live, entry_at, generation_at, body_at, table_at, reads_at, writes_at, control_at, patches_at, contents_at, known_at, maps_answered_at, mappings_at, mapping_of, legs_at, frame_of, Underway, open_call, values}
-use Rattle.gt_core.specs.Legal.{MayDo, grown, LeavesAll, MayUse, IsSpelled, stood, StepsSoFar, misses, looked_at, is_in_body, refusal_in}
+use Rattle.gt_calls.specs.declared.call.Phase.TheVariants.{Storing, StoringSecond, Exchanging, Looking, Changing}
+use Rattle.gt_calls.specs.declared.call.Phase.TheVariants.{Walking, Accessing, Asking, Last, Ending}
+use Rattle.gt_core.specs.History.{History, Setting, Pin, live, entry_at, generation_at, body_at, table_at, reads_at}
+use Rattle.gt_core.specs.History.{writes_at, control_at, patches_at, contents_at, known_at, maps_answered_at}
+use Rattle.gt_core.specs.History.{mappings_at, mapping_of, legs_at, frame_of, Underway, open_call, values}
+use Rattle.gt_core.specs.Legal.{MayDo, grown, LeavesAll, MayUse, IsSpelled, stood, StepsSoFar, misses, looked_at}
+use Rattle.gt_core.specs.Legal.{is_in_body, refusal_in}
 
 -- a call opens so: no rule stands at its beginning, and it is about to make its first step (own)
 pub record IsOpened (k : CallerKnowledge) (dom : DomId) (request : Request) (o : Open) : Type 0 where

@@ -1,5 +1,6 @@
 //! The words and frames of a core, and what its calls do to them.
-ghost use Rattle.std.specs.Prelude.{◌≡◌, ◌<◌, List, [], length, slice_get, set, map, IfOk, IfErr, OnOk, OnErr, IsOk, Option, Some, None};
+ghost use Rattle.std.specs.Prelude.{◌≡◌, ◌<◌, List, [], length, slice_get, set, map, IfOk, IfErr, OnOk, OnErr, IsOk};
+ghost use Rattle.std.specs.Prelude.{Option, Some, None};
 ghost use Rattle.gt_types.specs.Config.{IsWithinLimits};
 ghost use Rattle.gt_calls.specs.Rules.{knows};
 ghost use Rattle.gt_calls.specs.Following.{Goes};
@@ -10,10 +11,12 @@ ghost use Rattle.gt_core.specs.History.{History};
 ghost use Rattle.gt_core.specs.States.{State};
 ghost use Rattle.gt_core.specs.Accesses.{IsReadable};
 ghost use Rattle.gt_core.specs.Shown.{shown_at};
-ghost use Rattle.gt_core.specs.Standing.{Opens, DomainsStand, StandsForSome, Does, DoesAlone, IsStartFaultOf, Closed, Settled};
+ghost use Rattle.gt_core.specs.Standing.{Opens, DomainsStand, StandsForSome, Does, DoesAlone, IsStartFaultOf, Closed};
+ghost use Rattle.gt_core.specs.Standing.{Settled};
 ghost use Rattle.gt_core.specs.Standing.{IsRoomFor};
 ghost use Rattle.gt_core.specs.Standing.{WantsMemory, WantsMemoryNow, setting_of, setting_by, state_by, known_by};
-ghost use Rattle.gt_core.specs.Standing.{begun_element, ticked_element, ticked_with, answer_with, answer_of, first_state};
+ghost use Rattle.gt_core.specs.Standing.{begun_element, ticked_element, ticked_with, answer_with, answer_of};
+ghost use Rattle.gt_core.specs.Standing.{first_state};
 ghost use Rattle.gt_core.specs.declared.trace.Event.TheVariants.{Begin, Tick};
 
 use crate::accesses::{read_bytes, write_bytes};

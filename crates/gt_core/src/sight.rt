@@ -1,6 +1,7 @@
 //! What steps see, over plain lists.
 ghost use Rattle.std.specs.Prelude.{◌≡◌, true, false};
-ghost use Rattle.gt_core.specs.Sight.{reads_in, writes_in, control_in, body_in, control_seen, header_seen, body_seen, exchange_sees, sees};
+ghost use Rattle.gt_core.specs.Sight.{reads_in, writes_in, control_in, body_in, control_seen, header_seen, body_seen};
+ghost use Rattle.gt_core.specs.Sight.{exchange_sees, sees};
 
 use crate::pin_counts::PinCounts;
 use crate::state::DomainState;

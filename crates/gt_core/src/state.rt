@@ -87,7 +87,8 @@ impl DomainState {
     ghost use Rattle.gt_core.specs.Accesses.{route_of, IsWritOf};
     ghost use Rattle.gt_core.specs.States.{first_state, asked_in, asks_memory, kept_by, IsMapping, IsLoading};
     ghost use Rattle.gt_core.specs.Shown.{shown_in};
-    ghost use Rattle.gt_core.specs.Effects.{Adds, with_slot, with_own, with_header, with_underway, with_call, with_mapping, without_mapping};
+    ghost use Rattle.gt_core.specs.Effects.{Adds, with_slot, with_own, with_header, with_underway, with_call};
+    ghost use Rattle.gt_core.specs.Effects.{with_mapping, without_mapping};
 
     /// A domain at rest: all entries invalid and of the first generation.
     pub fn new(alloc: Global, domain: DomainConfig, first_gen: u32) -> Result<DomainState, Memory>

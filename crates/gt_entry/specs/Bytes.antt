@@ -1,8 +1,10 @@
 -- The bytes that spell an entry, and the field that is refused of bytes that spell none.
-use Rattle.std.specs.Prelude.{◌≡◌, ℕ, ◌+◌, ◌/◌, ◌%◌, ◌<◌, Bool, ◌&&◌, ◌||◌, not, ◌==◌, nat_lt, if◌then◌else◌, List, [], ◌∷◌, ◌++◌, length, take, drop, All, find, Option, MatchBool}
+use Rattle.std.specs.Prelude.{◌≡◌, ℕ, ◌+◌, ◌/◌, ◌%◌, ◌<◌, Bool, ◌&&◌, ◌||◌, not, ◌==◌, nat_lt, if◌then◌else◌, List, []}
+use Rattle.std.specs.Prelude.{◌∷◌, ◌++◌, length, take, drop, All, find, Option, MatchBool}
 use Rattle.byteorder.specs.Endian.{little_number, little_bytes}
 use Rattle.gt_types.specs.declared.denial.Field.{Field}
-use Rattle.gt_types.specs.declared.denial.Field.TheVariants.{Length, Kind, Reading, Writing, Pwt, Pcd, Pat, SubPage, Reserved}
+use Rattle.gt_types.specs.declared.denial.Field.TheVariants.{Length, Kind, Reading, Writing, Pwt, Pcd, Pat, SubPage}
+use Rattle.gt_types.specs.declared.denial.Field.TheVariants.{Reserved}
 use Rattle.gt_entry.specs.declared.entry.Entry.{Entry}
 use Rattle.gt_entry.specs.declared.entry.Entry.TheVariants.{Invalid, Page, Sub, Via}
 use Rattle.gt_entry.specs.Words.{flag}
@@ -26,17 +28,22 @@ AreBytes n bytes = (length bytes ≡ n) × All (λ byte. byte < 256) bytes
 -- version 1: flags, domain, frame (grant_table.h, grant_entry_v1)
 abbrev pub IsLaidOutV1 : List ℕ → Entry → Type 0
 IsLaidOutV1 bytes Invalid = ⊥
-IsLaidOutV1 bytes (Page dom ro frame) = (flags_of bytes ≡ 1 + flag ro) × (field bytes 2 2 ≡ dom.0) × (field bytes 4 4 ≡ frame)
+IsLaidOutV1 bytes (Page dom ro frame) =
+    (flags_of bytes ≡ 1 + flag ro) × (field bytes 2 2 ≡ dom.0) × (field bytes 4 4 ≡ frame)
 IsLaidOutV1 bytes (Sub dom ro frame off len) = ⊥
 IsLaidOutV1 bytes (Via dom ro dom2 gref) = ⊥
 
--- version 2: a full page has flags, domain, padding, frame; a sub-page flags, domain, start, length, frame; a transitive entry flags, domain, next domain, padding, reference, padding (grant_table.h, grant_entry_v2)
+-- version 2: a full page has flags, domain, padding, frame; a sub-page flags, domain, start, length, frame; a
+-- transitive entry flags, domain, next domain, padding, reference, padding (grant_table.h, grant_entry_v2)
 abbrev pub IsLaidOutV2 : List ℕ → Entry → Type 0
 IsLaidOutV2 bytes Invalid = ⊥
-IsLaidOutV2 bytes (Page dom ro frame) = (flags_of bytes ≡ 1 + flag ro) × (field bytes 2 2 ≡ dom.0) × (field bytes 8 8 ≡ frame)
+IsLaidOutV2 bytes (Page dom ro frame) =
+    (flags_of bytes ≡ 1 + flag ro) × (field bytes 2 2 ≡ dom.0) × (field bytes 8 8 ≡ frame)
 IsLaidOutV2 bytes (Sub dom ro frame off len) =
-    (flags_of bytes ≡ 257 + flag ro) × (field bytes 2 2 ≡ dom.0) × (field bytes 4 2 ≡ off) × (field bytes 6 2 ≡ len) × (field bytes 8 8 ≡ frame)
-IsLaidOutV2 bytes (Via dom ro dom2 gref) = (flags_of bytes ≡ 3 + flag ro) × (field bytes 2 2 ≡ dom.0) × (field bytes 4 2 ≡ dom2.0) × (field bytes 8 4 ≡ gref.0)
+    (flags_of bytes ≡ 257 + flag ro) × (field bytes 2 2 ≡ dom.0) × (field bytes 4 2 ≡ off) × (field bytes 6 2 ≡ len)
+    × (field bytes 8 8 ≡ frame)
+IsLaidOutV2 bytes (Via dom ro dom2 gref) =
+    (flags_of bytes ≡ 3 + flag ro) × (field bytes 2 2 ≡ dom.0) × (field bytes 4 2 ≡ dom2.0) × (field bytes 8 4 ≡ gref.0)
 
 -- the padding of version 2 is zero (own)
 abbrev pub IsZeroPadded : List ℕ → Entry → Type 0
@@ -71,7 +78,10 @@ is_table_version version = (version == 1) || (version == 2)
 abbrev pub entry_size : ℕ → ℕ
 entry_size version = if version == 2 then 16 else 8
 
--- the field is refused of so many bytes with these flags in a table of this version: a length that is not the version's, as is any in a version that no table has; a type that is no page or, in version 2, no transitive entry; a bit of the hypervisor's or of the cache's; the sub-page bit in version 1 or of a transitive entry; a bit that is not defined (own)
+-- the field is refused of so many bytes with these flags in a table of this version: a length that
+-- is not the version's, as is any in a version that no table has; a type that is no page or, in
+-- version 2, no transitive entry; a bit of the hypervisor's or of the cache's; the sub-page bit in
+-- version 1 or of a transitive entry; a bit that is not defined (own)
 abbrev pub is_refused : ℕ → ℕ → ℕ → Field → Bool
 is_refused version size flags Length = not (is_table_version version && (size == entry_size version))
 is_refused version size flags Kind = (flags % 4 == 0) || (flags % 4 == 2) || ((flags % 4 == 3) && not (version == 2))

@@ -18,12 +18,14 @@ abbrev pub is_copying : Use → Bool
 is_copying ForMap = false
 is_copying ForCopy = true
 
--- the entry permits the domain this direction and use of the len bytes from off on: a page any of its bytes, a sub-page the copying of its own (grant_table.h)
+-- the entry permits the domain this direction and use of the len bytes from off on: a page
+-- any of its bytes, a sub-page the copying of its own (grant_table.h)
 abbrev pub permits : Entry → DomId → Dir → Use → ℕ → ℕ → Bool
 permits Invalid d dir purpose off len = false
 permits (Page dom ro frame) d dir purpose off len = (dom.0 == d.0) && allows_direction ro dir
 permits (Sub dom ro frame start size) d dir purpose off len =
-    (dom.0 == d.0) && allows_direction ro dir && is_copying purpose && nat_le start off && nat_le (off + len) (start + size)
+    (dom.0 == d.0) && allows_direction ro dir && is_copying purpose && nat_le start off
+    && nat_le (off + len) (start + size)
 permits (Via dom ro dom2 gref) d dir purpose off len = false
 
 -- the entry lets the domain copy by the grant that it leads to (grant_table.h)

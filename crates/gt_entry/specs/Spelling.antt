@@ -3,7 +3,8 @@ use Rattle.std.specs.Prelude.{◌≡◌, ℕ, ◌+◌, ◌*◌, ◌/◌, ◌%◌
 use Rattle.gt_entry.specs.declared.entry.Entry.{Entry}
 use Rattle.gt_entry.specs.declared.entry.Entry.TheVariants.{Invalid, Page, Sub, Via}
 use Rattle.gt_entry.specs.declared.control.Kind.{Kind}
-use Rattle.gt_entry.specs.declared.control.Kind.TheVariants.{Invalid as KindInvalid, Page as KindPage, Sub as KindSub, Via as KindVia}
+use Rattle.gt_entry.specs.declared.control.Kind.TheVariants.{Invalid as KindInvalid, Page as KindPage, Sub as KindSub}
+use Rattle.gt_entry.specs.declared.control.Kind.TheVariants.{Via as KindVia}
 use Rattle.gt_entry.specs.declared.control.Control.{Control}
 use Rattle.gt_entry.specs.Words.{flag}
 
@@ -31,10 +32,21 @@ word_of e generation reads writes = idle_word_of e generation + 16 * reads + 655
 
 -- the parts of that word (own)
 abbrev pub control_with : Entry → ℕ → ℕ → ℕ → Control
-control_with Invalid generation reads writes = record { kind = KindInvalid; ro = false; reads = reads; writes = writes; dom = record { 0 = 0 }; generation = generation }
-control_with (Page dom ro frame) generation reads writes = record { kind = KindPage; ro = ro; reads = reads; writes = writes; dom = dom; generation = generation }
-control_with (Sub dom ro frame off len) generation reads writes = record { kind = KindSub; ro = ro; reads = reads; writes = writes; dom = dom; generation = generation }
-control_with (Via dom ro dom2 gref) generation reads writes = record { kind = KindVia; ro = ro; reads = reads; writes = writes; dom = dom; generation = generation }
+control_with Invalid generation reads writes =
+    record {
+      kind = KindInvalid;
+      ro = false;
+      reads = reads;
+      writes = writes;
+      dom = record { 0 = 0 };
+      generation = generation;
+    }
+control_with (Page dom ro frame) generation reads writes =
+    record { kind = KindPage; ro = ro; reads = reads; writes = writes; dom = dom; generation = generation }
+control_with (Sub dom ro frame off len) generation reads writes =
+    record { kind = KindSub; ro = ro; reads = reads; writes = writes; dom = dom; generation = generation }
+control_with (Via dom ro dom2 gref) generation reads writes =
+    record { kind = KindVia; ro = ro; reads = reads; writes = writes; dom = dom; generation = generation }
 
 -- body word 0: the frame number, or in bits 0 to 15 the next domain and in 16 to 47 its reference (own)
 abbrev pub first_body : Entry → ℕ
@@ -62,7 +74,8 @@ abbrev pub entry_with : Kind → Control → ℕ → ℕ → Entry
 entry_with KindInvalid c first second = Invalid
 entry_with KindPage c first second = Page c.dom c.ro first
 entry_with KindSub c first second = Sub c.dom c.ro first (second % 65536) (second / 65536 % 65536)
-entry_with KindVia c first second = Via c.dom c.ro (record { 0 = first % 65536 }) (record { 0 = first / 65536 % 2 ^ 32 })
+entry_with KindVia c first second =
+    Via c.dom c.ro (record { 0 = first % 65536 }) (record { 0 = first / 65536 % 2 ^ 32 })
 
 -- the entry that a control and two body words spell (own)
 abbrev pub entry_of : Control → ℕ → ℕ → Entry

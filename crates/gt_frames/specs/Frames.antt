@@ -1,5 +1,6 @@
 -- What a frame holds, and by what right each of its bytes was written.
-use Rattle.std.specs.Prelude.{◌≡◌, ℕ, ◌+◌, ◌==◌, Bool, true, ◌&&◌, nat_le, IsTrue, List, [], ◌∷◌, ◌++◌, map, length, slice_range}
+use Rattle.std.specs.Prelude.{◌≡◌, ℕ, ◌+◌, ◌==◌, Bool, true, ◌&&◌, nat_le, IsTrue, List, [], ◌∷◌, ◌++◌, map, length}
+use Rattle.std.specs.Prelude.{slice_range}
 use Rattle.gt_types.specs.declared.DomId.{DomId}
 use Rattle.gt_types.specs.declared.limits.TheConstants.{FRAME_SIZE}
 use Rattle.gt_types.specs.declared.Dir.TheVariants.{Write}
@@ -55,7 +56,8 @@ covers w owner number off len = suffices w.basis w.writer owner number off len
 
 -- the record lies in the frame, and its writ is for its range (own)
 abbrev pub is_rightful : DomId → ℕ → WriteRecord → Bool
-is_rightful owner number r = nat_le (r.off + length r.bytes) FRAME_SIZE && covers r.writ owner number r.off (length r.bytes)
+is_rightful owner number r =
+    nat_le (r.off + length r.bytes) FRAME_SIZE && covers r.writ owner number r.off (length r.bytes)
 
 -- each record of the list lies in the frame, and its writ is for its range (own)
 abbrev pub all_rightful : DomId → ℕ → List WriteRecord → Bool

@@ -10,7 +10,8 @@ use Rattle.gt_frames.specs.declared.places.FrameName.{FrameName}
 abbrev pub frame_counts : List DomainConfig → List FrameCount
 frame_counts ds = map (λ (d : DomainConfig). record { owner = d.id; frames = d.frames }) ds
 
--- the pool number of a frame, where the frames of these domains begin at this one: they run over the frames of the first domain, then of the second, and so on (own)
+-- the pool number of a frame, where the frames of these domains begin at this one: they run
+-- over the frames of the first domain, then of the second, and so on (own)
 abbrev pub pool_number : List FrameCount → DomId → ℕ → ℕ → Option ℕ
 pool_number [] owner number at = None
 pool_number (d ∷ ds) owner number at =

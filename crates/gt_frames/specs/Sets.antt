@@ -1,5 +1,6 @@
 -- The frames of a run.
-use Rattle.std.specs.Prelude.{◌≡◌, ℕ, ◌+◌, Bool, false, ◌&&◌, nat_le, List, [], map, length, replicate, set, slice_get, unwrap_or, is_some, Option, Some, None}
+use Rattle.std.specs.Prelude.{◌≡◌, ℕ, ◌+◌, Bool, false, ◌&&◌, nat_le, List, [], map, length, replicate, set, slice_get}
+use Rattle.std.specs.Prelude.{unwrap_or, is_some, Option, Some, None}
 use Rattle.std.specs.List.{range_with_len}
 use Rattle.gt_types.specs.declared.limits.TheConstants.{FRAME_SIZE}
 use Rattle.gt_frames.specs.declared.places.FrameCount.{FrameCount}
@@ -9,7 +10,8 @@ use Rattle.gt_frames.specs.declared.writ.WriteRecord.{WriteRecord}
 use Rattle.gt_frames.specs.Frames.{FrameState, bytes_at, covers, IsKept, IsWrite}
 use Rattle.gt_frames.specs.Places.{pool_number, frames_of, name_in, names_of, is_name}
 
--- the frames of a run: how many each domain has, and the writes to each frame by its pool number, the oldest first (own)
+-- the frames of a run: how many each domain has, and the writes to each
+-- frame by its pool number, the oldest first (own)
 pub record FrameSet : Type 0 where
   pub domains : List FrameCount
   pub journals : List (List WriteRecord)
@@ -25,7 +27,8 @@ journal_in (Some place) journals = unwrap_or (slice_get journals place) []
 
 -- the frame of this name: its writes, none where there is no such frame (own)
 abbrev pub frame_at : FrameSet → FrameName → FrameState
-frame_at fs name = record { owner = name.owner; number = name.number; journal = journal_in (place_in fs name) fs.journals }
+frame_at fs name =
+    record { owner = name.owner; number = name.number; journal = journal_in (place_in fs name) fs.journals }
 
 -- there is a frame of this name (own)
 abbrev pub has_frame : FrameSet → FrameName → Bool
@@ -79,8 +82,10 @@ zero_in d number = zero_frame (name_in d number)
 abbrev pub zero_frames : FrameCount → List FrameState
 zero_frames d = map (zero_in d) (range_with_len 0 d.frames)
 
--- between two of these frames so many bytes were copied by this writ: the one written to is changed, in its place, and no other (own)
+-- between two of these frames so many bytes were copied by this writ: the one
+-- written to is changed, in its place, and no other (own)
 abbrev pub CopiesAmong : List FrameState → List FrameState → ℕ → ℕ → Writ → ℕ → ℕ → ℕ → Type 0
 CopiesAmong old new source dest w from_off to_off len =
     (from to : FrameState) → slice_get old source ≡ Some from → slice_get old dest ≡ Some to
-    → (after : FrameState) × IsWrite to after w to_off (bytes_at from from_off len) × IsKept after × (new ≡ set old dest after)
+    → (after : FrameState) × IsWrite to after w to_off (bytes_at from from_off len) × IsKept after
+    × (new ≡ set old dest after)

@@ -1,5 +1,6 @@
 -- What a contract sees of handles: a finite map from serial and key to values.
-use Rattle.std.specs.Prelude.{◌≡◌, ℕ, ◌<◌, ◌==◌, ◌&&◌, Bool, List, Option, Some, None, if◌then◌else◌, is_some, count_by, slice_index_or, refl}
+use Rattle.std.specs.Prelude.{◌≡◌, ℕ, ◌<◌, ◌==◌, ◌&&◌, Bool, List, Option, Some, None, if◌then◌else◌, is_some, count_by}
+use Rattle.std.specs.Prelude.{slice_index_or, refl}
 use Rattle.std.specs.Coded.{Coded, code_by, coded×, coded_ℕ, coded_list, coded_option}
 use Rattle.gt_handles.specs.declared.handles.Handle.{Handle}
 use Rattle.gt_handles.specs.declared.handles.Slot.{Slot}
@@ -12,7 +13,9 @@ pub record HandleMap (T : Type 0) : Type 0 where
 
 -- a slot is stored as the pair of its fields (own)
 abbrev pub slot_code : {T : Type 0} → Coded T → Coded (Slot T)
-slot_code {T} code = code_by (ℕ × T) (coded× coded_ℕ code) (λ s. (s.serial, s.value)) (λ p. record { serial = p.0; value = p.1 }) (λ _. refl)
+slot_code {T} code =
+    code_by (ℕ × T) (coded× coded_ℕ code) (λ s. (s.serial, s.value)) (λ p. record { serial = p.0; value = p.1 })
+    (λ _. refl)
 
 -- the map is stored as the tuple of its fields (own)
 abbrev pub kept_code : {T : Type 0} → Coded T → Coded (HandleMap T)
@@ -44,7 +47,8 @@ module _ {T : Type 0} where
 
   -- the new map has this under the handle, and every other handle keeps what it had (own)
   abbrev pub Updates : HandleMap T → HandleMap T → Handle → Option T → Type 0
-  Updates old new h what = (other : Handle) → value_of new other ≡ (if same_handle other h then what else value_of old other)
+  Updates old new h what =
+      (other : Handle) → value_of new other ≡ (if same_handle other h then what else value_of old other)
 
   -- the handle was given, and has no value: it has none for good (own)
   pub record IsSpent (s : HandleMap T) (h : Handle) : Type 0 where
@@ -67,10 +71,12 @@ module _ {T : Type 0} where
   -- each handle with a value has a serial that was given, and that no other such handle has (own)
   pub record IsSound (s : HandleMap T) : Type 0 where
     pub given : (h : Handle) (x : T) → value_of s h ≡ Some x → h.serial < s.given
-    pub one : (a b : Handle) (x y : T) → value_of s a ≡ Some x → value_of s b ≡ Some y → a.serial ≡ b.serial → a.key ≡ b.key
+    pub one : (a b : Handle) (x y : T) → value_of s a ≡ Some x → value_of s b ≡ Some y → a.serial ≡ b.serial
+        → a.key ≡ b.key
 
   -- each slot has a serial that was given and that no other slot has, and no key below the lowest has a value (own)
   pub record IsInOrder (slots : List (Option (Slot T))) (next lowest : ℕ) : Type 0 where
     pub given : (key : ℕ) (slot : Slot T) → slice_index_or slots key None ≡ Some slot → slot.serial < next
-    pub one : (a b : ℕ) (x y : Slot T) → slice_index_or slots a None ≡ Some x → slice_index_or slots b None ≡ Some y → x.serial ≡ y.serial → a ≡ b
+    pub one : (a b : ℕ) (x y : Slot T) → slice_index_or slots a None ≡ Some x → slice_index_or slots b None ≡ Some y
+        → x.serial ≡ y.serial → a ≡ b
     pub none : (key : ℕ) → key < lowest → slice_index_or slots key None ≡ None

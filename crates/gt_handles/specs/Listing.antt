@@ -1,5 +1,6 @@
 -- The values of a map as a list, each with its handle.
-use Rattle.std.specs.Prelude.{◌≡◌, ◌+◌, ◌++◌, ◌≤◌, ℕ, Bool, false, List, [], ◌∷◌, length, Option, Some, None, if◌then◌else◌, cond, count_by}
+use Rattle.std.specs.Prelude.{◌≡◌, ◌+◌, ◌++◌, ◌≤◌, ℕ, Bool, false, List, [], ◌∷◌, length, Option, Some, None}
+use Rattle.std.specs.Prelude.{if◌then◌else◌, cond, count_by}
 use Rattle.gt_handles.specs.Handles.{HandleMap, Updates, count_of, same_handle, value_of}
 use Rattle.gt_handles.specs.declared.handles.Handle.{Handle}
 use Rattle.gt_handles.specs.declared.handles.Slot.{Slot}
@@ -56,19 +57,27 @@ NothingIsListed T = HasJust {T = T} (record { slots = []; given = 0; room = 0 })
 
 -- a value inserted is one more of the list (own)
 abbrev pub InsertedIsListed : Type 0 → Type 0
-InsertedIsListed T = (old new : HandleMap T) (h : Handle) (x : T) (xs : List (Handle × T)) (n : ℕ) → IsInserted old new h x → HasJust old xs n → HasJust new (xs ++ (h, x) ∷ []) (n + 1)
+InsertedIsListed T =
+    (old new : HandleMap T) (h : Handle) (x : T) (xs : List (Handle × T)) (n : ℕ) → IsInserted old new h x
+    → HasJust old xs n → HasJust new (xs ++ (h, x) ∷ []) (n + 1)
 
 -- a value taken out is one less of the list (own)
 abbrev pub TakenIsUnlisted : Type 0 → Type 0
-TakenIsUnlisted T = (old new : HandleMap T) (h : Handle) (x : T) (xs : List (Handle × T)) (n : ℕ) → IsTaken old new h x → HasJust old xs n → HasJust new (unlisted h xs) n
+TakenIsUnlisted T =
+    (old new : HandleMap T) (h : Handle) (x : T) (xs : List (Handle × T)) (n : ℕ) → IsTaken old new h x
+    → HasJust old xs n → HasJust new (unlisted h xs) n
 
 -- of the values that pass a test there is one more where one that passes is inserted, and as many else (own)
 abbrev pub InsertedIsCounted : Type 0 → Type 0
-InsertedIsCounted T = (passes : T → Bool) (old new : HandleMap T) (h : Handle) (x : T) → IsInserted old new h x → count_passing passes new ≡ count_passing passes old + cond (passes x) 1 0
+InsertedIsCounted T =
+    (passes : T → Bool) (old new : HandleMap T) (h : Handle) (x : T) → IsInserted old new h x
+    → count_passing passes new ≡ count_passing passes old + cond (passes x) 1 0
 
 -- of the values that pass a test there is one less where one that passes is taken out, and as many else (own)
 abbrev pub TakenIsCounted : Type 0 → Type 0
-TakenIsCounted T = (passes : T → Bool) (old new : HandleMap T) (h : Handle) (x : T) → IsTaken old new h x → count_passing passes new + cond (passes x) 1 0 ≡ count_passing passes old
+TakenIsCounted T =
+    (passes : T → Bool) (old new : HandleMap T) (h : Handle) (x : T) → IsTaken old new h x
+    → count_passing passes new + cond (passes x) 1 0 ≡ count_passing passes old
 
 -- no more values pass a test than there are (own)
 abbrev pub NoMorePass : Type 0 → Type 0

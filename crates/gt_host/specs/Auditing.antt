@@ -1,5 +1,6 @@
 -- The audit of a run, as its trace has it.
-use Rattle.std.specs.Prelude.{◌≡◌, ◌==◌, ◌++◌, ℕ, Bool, true, false, List, [], ◌∷◌, Option, None, Some, if◌then◌else◌, option_to_list}
+use Rattle.std.specs.Prelude.{◌≡◌, ◌==◌, ◌++◌, ℕ, Bool, true, false, List, [], ◌∷◌, Option, None, Some, if◌then◌else◌}
+use Rattle.std.specs.Prelude.{option_to_list}
 use Rattle.gt_types.specs.declared.DomId.{DomId}
 use Rattle.gt_types.specs.declared.GrantRef.{GrantRef}
 use Rattle.gt_handles.specs.declared.handles.Handle.{Handle}
@@ -86,7 +87,8 @@ before_begun (Stepped step seen) before earlier = earlier
 -- the items before the domain's last call began (own)
 unfoldable pub before_call : History → ℕ → History
 before_call [] d = []
-before_call (i ∷ before) d = if i.actor.0 == d then before_begun i.happened before (before_call before d) else before_call before d
+before_call (i ∷ before) d =
+    if i.actor.0 == d then before_begun i.happened before (before_call before d) else before_call before d
 
 -- what a call under way is told as, that began after these items (own)
 abbrev pub underway_told : Setting → DomId → History → Option Underway → Option Hypercall

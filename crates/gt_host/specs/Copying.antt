@@ -15,7 +15,8 @@ unfoldable pub flag_of : ℕ → ScriptCopyEnd → ℕ
 flag_of flag (Granted dom gref off) = flag
 flag_of flag (Frame dom frame off) = 0
 
--- a copy from the source to the destination: flag 1 says that the source is given by a reference, flag 2 the same of the destination (grant_table.h)
+-- a copy from the source to the destination: flag 1 says that the source is given by
+-- a reference, flag 2 the same of the destination (grant_table.h)
 unfoldable pub copy_asked : ScriptCopyEnd → ScriptCopyEnd → ℕ → CopyArgs
 copy_asked source dest len =
     record { source = end_asked source; dest = end_asked dest; len = len; flags = flag_of 1 source + flag_of 2 dest }

@@ -13,4 +13,5 @@ AreNamed labels named = (dom : ℕ) (label : List ℕ) → handle_in labels dom 
 
 -- the labels name what they named before, and what the answer to this line's call names (own)
 abbrev pub NamesMapping : Labels → Labels → DomId → ScriptStep → Answer → Type 0
-NamesMapping old new dom s answer = (named : List Named) → AreNamed old named → AreNamed new (named_after named dom s answer)
+NamesMapping old new dom s answer =
+    (named : List Named) → AreNamed old named → AreNamed new (named_after named dom s answer)

@@ -1,5 +1,6 @@
 -- What is written for what is read.
-use Rattle.std.specs.Prelude.{◌≡◌, ◌⊎◌, ◌++◌, ℕ, ◌≤◌, Bool, List, [], length, take, Option, Some, Result, Ok, Err, All, IsTrue}
+use Rattle.std.specs.Prelude.{◌≡◌, ◌⊎◌, ◌++◌, ℕ, ◌≤◌, Bool, List, [], length, take, Option, Some, Result, Ok, Err, All}
+use Rattle.std.specs.Prelude.{IsTrue}
 use Rattle.std.specs.Io.KnownBytes.{Appends, Keeps}
 use Rattle.gt_types.specs.Config.{AreFaultless, is_taken}
 use Rattle.gt_types.specs.declared.limits.TheConstants.{LAST_GENERATION}
@@ -19,11 +20,15 @@ use Rattle.gt_host.specs.Rights.{may_by, may_in}
 use Rattle.gt_host.specs.Runs.{Progress, IsRunOf, KnowsOpen, open_lines}
 use Rattle.gt_streams.specs.Streams.{AppendsBeginning}
 
--- the domains of the script and its first generation are within the limits of a run, and each step is one of a domain of it (own)
+-- the domains of the script and its first generation are within the limits
+-- of a run, and each step is one of a domain of it (own)
 abbrev pub CanStart : Contents → Type 0
-CanStart c = AreFaultless c.domains × (1 ≤ length c.domains) × (first_gen c ≤ LAST_GENERATION) × All (λ s. IsTrue (is_taken c.domains s.dom)) c.steps
+CanStart c =
+    AreFaultless c.domains × (1 ≤ length c.domains) × (first_gen c ≤ LAST_GENERATION)
+    × All (λ s. IsTrue (is_taken c.domains s.dom)) c.steps
 
--- what is fixed for the run of a script: its domains, what its policy or its triples allow, and the first generation (own)
+-- what is fixed for the run of a script: its domains, what its policy or
+-- its triples allow, and the first generation (own)
 abbrev pub setting_of_script : Contents → Setting
 setting_of_script c = record { domains = c.domains; first_generation = first_gen c; may = may_in c }
 
@@ -34,12 +39,15 @@ pub record StartsFor (c : Contents) (core : CoreModel Rights) : Type 0 where
   pub rights : may_by core.rights ≡ may_in c
   pub stands : CoreStands (setting_of core.config (may_by core.rights)) [] core.state
 
--- The steps lead here, what their events did is a legal trace, and the calls that are open are those of the trace. Asked of the last point, it holds at the
+-- The steps lead here, what their events did is a legal trace, and the calls that are
+-- open are those of the trace. Asked of the last point, it holds at the
 -- earlier ones too, since a legal trace begins and answers calls one at a time. (own)
 abbrev pub IsLegalRunOf : Contents → List ScriptStep → Progress → Type 0
-IsLegalRunOf c steps p = IsRunOf (setting_of_script c) (type_names c) steps p × Legal (setting_of_script c) p.events p.trace × KnowsOpen p
+IsLegalRunOf c steps p =
+    IsRunOf (setting_of_script c) (type_names c) steps p × Legal (setting_of_script c) p.events p.trace × KnowsOpen p
 
--- the text of a run that has come to the end of the script: the lines of its steps, and those of the calls that are open (own)
+-- the text of a run that has come to the end of the script: the lines of
+-- its steps, and those of the calls that are open (own)
 abbrev pub whole_text : Contents → Progress → List ℕ
 whole_text c p = p.text ++ open_lines c.domains p.open_steps
 
@@ -53,11 +61,13 @@ WritesRun c audit old new = (p : Progress) × IsLegalRunOf c c.steps p × Append
 
 -- a beginning of the text went out, of a run that came some way (own)
 abbrev pub BeginsSome : Contents → Option (List ℕ) → Option (List ℕ) → Type 0
-BeginsSome c old new = (steps : ℕ) × (p : Progress) × IsLegalRunOf c (take steps c.steps) p × AppendsBeginning old new p.text
+BeginsSome c old new =
+    (steps : ℕ) × (p : Progress) × IsLegalRunOf c (take steps c.steps) p × AppendsBeginning old new p.text
 
 -- a beginning of the text went out, of a run that came to the end (own)
 abbrev pub BeginsWhole : Contents → Bool → Option (List ℕ) → Option (List ℕ) → Type 0
-BeginsWhole c audit old new = (p : Progress) × IsLegalRunOf c c.steps p × AppendsBeginning old new (audited_text c audit p)
+BeginsWhole c audit old new =
+    (p : Progress) × IsLegalRunOf c c.steps p × AppendsBeginning old new (audited_text c audit p)
 
 -- a beginning of the text went out (own)
 abbrev pub BeginsRun : Contents → Bool → Option (List ℕ) → Option (List ℕ) → Type 0
@@ -65,18 +75,24 @@ BeginsRun c audit old new = BeginsSome c old new ⊎ BeginsWhole c audit old new
 
 -- what went out is a beginning of the text of each run that comes to the end (own)
 abbrev pub BeginsEvery : Contents → Bool → Option (List ℕ) → Option (List ℕ) → Type 0
-BeginsEvery c audit old new = (p : Progress) → IsLegalRunOf c c.steps p → AppendsBeginning old new (audited_text c audit p)
+BeginsEvery c audit old new =
+    (p : Progress) → IsLegalRunOf c c.steps p → AppendsBeginning old new (audited_text c audit p)
 
--- what the bytes say is a script, and a beginning of its text went out: of a run of it, and of each one that comes to the end (own)
+-- what the bytes say is a script, and a beginning of its text went out: of a
+-- run of it, and of each one that comes to the end (own)
 abbrev pub Begins : (Result Contents Wrong → Type 0) → Bool → Option (List ℕ) → Option (List ℕ) → Type 0
 Begins Told audit old new = (c : Contents) × Told (Ok c) × BeginsRun c audit old new × BeginsEvery c audit old new
 
--- what `play` wrote, where it answers so for bytes of which this is told: at Ok the text of the run, whole, and its audit where that is asked for;
--- at a fault of the script nothing, and the fault is the script's first; after a failed write a beginning, and so for want of memory, unless nothing (own)
-abbrev pub Played : (Result Contents Wrong → Type 0) → Bool → Option (List ℕ) → Option (List ℕ) → Result (Unit {0}) PlayFault → Type 0
+-- what `play` wrote, where it answers so for bytes of which this is told: at Ok the
+-- text of the run, whole, and its audit where that is asked for;
+-- at a fault of the script nothing, and the fault is the script's first; after a failed
+-- write a beginning, and so for want of memory, unless nothing (own)
+abbrev pub Played : (Result Contents Wrong → Type 0) → Bool → Option (List ℕ) → Option (List ℕ)
+    → Result (Unit {0}) PlayFault → Type 0
 Played Told audit old new (Ok done) = (c : Contents) × Told (Ok c) × WritesRun c audit old new
 Played Told audit old new (Err (Script fault)) = Told (Err (in_script fault)) × Keeps old new
-Played Told audit old new (Err (Policy fault)) = (g : policy.TokenFault) × (block_fault_shown fault ≡ Some g) × Told (Err (in_policy g)) × Keeps old new
+Played Told audit old new (Err (Policy fault)) =
+    (g : policy.TokenFault) × (block_fault_shown fault ≡ Some g) × Told (Err (in_policy g)) × Keeps old new
 Played Told audit old new (Err Memory) = Keeps old new ⊎ Begins Told audit old new
 Played Told audit old new (Err Write) = Begins Told audit old new
 Played Told audit old new (Err Read) = Keeps old new

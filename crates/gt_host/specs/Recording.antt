@@ -16,7 +16,8 @@ use Rattle.gt_host.specs.Auditing.{call_told, open_told, records_of}
 
 -- the domain's request is told so, after the items for which the core stands (own)
 abbrev pub IsAbout : Setting → CoreState → DomId → Request → Option Hypercall → Type 0
-IsAbout s domains dom request told = (h : History) → CoreStands s h domains → told ≡ call_told (subject_at s h dom) (asked request)
+IsAbout s domains dom request told =
+    (h : History) → CoreStands s h domains → told ≡ call_told (subject_at s h dom) (asked request)
 
 -- nothing is recorded, and no open call is told (own)
 pub record RecordsNothing (kept : Kept) : Type 0 where

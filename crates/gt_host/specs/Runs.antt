@@ -1,5 +1,6 @@
 -- What a run of a script does and prints.
-use Rattle.std.specs.Prelude.{◌≡◌, ◌≤◌, ℕ, ◌+◌, ◌-◌, ◌^◌, ◌==◌, ◌&&◌, List, [], ◌∷◌, ◌++◌, length, replicate, Option, Some, None, unwrap_or, is_some, if◌then◌else◌}
+use Rattle.std.specs.Prelude.{◌≡◌, ◌≤◌, ℕ, ◌+◌, ◌-◌, ◌^◌, ◌==◌, ◌&&◌, List, [], ◌∷◌, ◌++◌, length, replicate, Option}
+use Rattle.std.specs.Prelude.{Some, None, unwrap_or, is_some, if◌then◌else◌}
 use Rattle.std.specs.Borrow.{Bor}
 use Rattle.std.specs.Str.{bytes_eq}
 use Rattle.gt_types.specs.declared.DomId.{DomId}
@@ -49,7 +50,8 @@ pub record Named : Type 0 where
 -- the handle that a label names for its domain: that of its last map that was answered Ok, which comes first (own)
 abbrev pub handle_named : List Named → ℕ → List ℕ → Option Handle
 handle_named [] dom label = None
-handle_named (n ∷ more) dom label = if (n.dom.0 == dom) && bytes_eq n.label label then Some n.handle else handle_named more dom label
+handle_named (n ∷ more) dom label =
+    if (n.dom.0 == dom) && bytes_eq n.label label then Some n.handle else handle_named more dom label
 
 -- the handle that no map answers (own)
 abbrev pub never_given : Handle
@@ -115,7 +117,8 @@ table_request bytes (tables.SetupTable frames) = requests.SetupTable frames
 table_request bytes (tables.QuerySize to) = requests.QuerySize to
 table_request bytes (tables.GetVersion to) = requests.GetVersion to
 
--- what a call asks of the core that ends a mapping or reaches bytes, where its label stands for this handle and these are its bytes (own)
+-- what a call asks of the core that ends a mapping or reaches bytes, where its
+-- label stands for this handle and these are its bytes (own)
 unfoldable pub access_request : (List ℕ → Handle) → Bor (List ℕ) → AccessCall → Request
 access_request handle bytes (accesses.Unmap label) = requests.Unmap (handle label)
 access_request handle bytes (accesses.Load label off len) = requests.Load (handle label) off len
@@ -132,7 +135,8 @@ request_of named dom bytes (calls.Access call) = access_request (handle_of named
 
 -- a call of a script asks this of the core, where its labels stand for these handles (own)
 abbrev pub Asks : List Named → DomId → ScriptCall → Request → Type 0
-Asks named dom call request = (bytes : Bor (List ℕ)) × (bytes.now ≡ bytes_said call) × (request ≡ request_of named dom bytes call)
+Asks named dom call request =
+    (bytes : Bor (List ℕ)) × (bytes.now ≡ bytes_said call) × (request ≡ request_of named dom bytes call)
 
 -- the label to which a call gives its handle: that of a map (own)
 abbrev pub label_given : ScriptCall → Option (List ℕ)
@@ -158,7 +162,8 @@ with_name named dom (Some label) (Some handle) = record { dom = dom; label = lab
 with_name named dom (Some label) None = named
 with_name named dom None given = named
 
--- the labels of the domain once its call of this line has its answer: a map answered Ok gives its handle to its label (own)
+-- the labels of the domain once its call of this line has its answer: a
+-- map answered Ok gives its handle to its label (own)
 abbrev pub named_after : List Named → DomId → ScriptStep → Answer → List Named
 named_after named dom s answer = with_name named dom (label_in s.action) (handle_given answer)
 
@@ -187,7 +192,8 @@ pub record EndsWith (trace : List Element) (answer : Answer) : Type 0 where
 -- what came of a call, by the elements of its beginning and its ticks: it begins, and goes on up to its answer;
 -- one that its domain can't begin has no tick (own)
 abbrev pub ComesTo : List Element → Outcome → Type 0
-ComesTo trace (Answered answer) = (first : Item) × (more : List Element) × (trace ≡ elements.Item first ∷ more) × EndsWith trace answer
+ComesTo trace (Answered answer) =
+    (first : Item) × (more : List Element) × (trace ≡ elements.Item first ∷ more) × EndsWith trace answer
 ComesTo trace Busy = trace ≡ elements.Busy ∷ []
 
 -- what so many ticks of a domain come to: the last one answers its call, or none of them all does (own)
@@ -210,7 +216,8 @@ pub record Progress : Type 0 where
   pub open_steps : ℕ → Option ScriptStep
   pub text : List ℕ
 
--- before the first line nothing has happened, no label stands for a handle, no call is open, and nothing is printed (own)
+-- before the first line nothing has happened, no label stands for a
+-- handle, no call is open, and nothing is printed (own)
 abbrev pub at_start : Progress
 at_start = record { events = []; trace = []; named = []; open_steps = λ dom. None; text = [] }
 
@@ -232,7 +239,8 @@ with_call p dom step = record p { open_steps = λ d. if d == dom.0 then step els
 
 -- the domain's call of this line has its answer (own)
 abbrev pub answered : List (List ℕ) → Progress → DomId → ScriptStep → Answer → Progress
-answered types p dom s answer = record p { named = named_after p.named dom s answer; text = p.text ++ answer_line types s.line dom answer }
+answered types p dom s answer =
+    record p { named = named_after p.named dom s answer; text = p.text ++ answer_line types s.line dom answer }
 
 -- a call from its beginning on came to this (own)
 abbrev pub after_call : List (List ℕ) → Progress → ScriptStep → Outcome → Progress
@@ -273,7 +281,8 @@ BeginLine types s call p q =
 abbrev pub TickLine : List (List ℕ) → ScriptStep → ℕ → Option ScriptStep → Progress → Progress → Type 0
 TickLine types s most None p q = (open_call (history_of p) s.dom.0 ≡ None) × (q ≡ with_line p (idle_line s.line s.dom))
 TickLine types s most (Some begun) p q =
-    (ticks : ℕ) × (trace : List Element) × (answer : Option Answer) × (length trace ≡ ticks) × TicksComeTo most trace answer
+    (ticks : ℕ) × (trace : List Element) × (answer : Option Answer) × (length trace ≡ ticks)
+    × TicksComeTo most trace answer
     × (q ≡ after_ticks types (with_events p (replicate ticks (Tick s.dom)) trace) s.dom begun answer)
 
 -- the line `show ID REF`: what the entry is after what happened so far (own)

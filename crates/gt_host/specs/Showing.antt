@@ -30,7 +30,8 @@ entry_text entries.Invalid = codes "invalid"
 entry_text (entries.Page dom ro frame) = kind_text (codes "page") dom ro ++ part_text (codes "frame") frame
 entry_text (entries.Sub dom ro frame off len) =
     kind_text (codes "sub") dom ro ++ part_text (codes "frame") frame ++ range_text off len
-entry_text (entries.Via dom ro to gref) = kind_text (codes "via") dom ro ++ part_text (codes "to") to.0 ++ part_text (codes "ref") gref.0
+entry_text (entries.Via dom ro to gref) =
+    kind_text (codes "via") dom ro ++ part_text (codes "to") to.0 ++ part_text (codes "ref") gref.0
 
 -- a status word: four lower-case hexadecimal digits (own)
 abbrev pub status_text : ℕ → List ℕ
@@ -38,9 +39,11 @@ status_text status = encode_lower (to_be_bytes w16 status)
 
 -- a generation, and the live pins of each kind (own)
 abbrev pub counts_text : ℕ → ℕ → ℕ → List ℕ
-counts_text generation reads writes = part_text (codes "gen") generation ++ part_text (codes "reads") reads ++ part_text (codes "writes") writes
+counts_text generation reads writes =
+    part_text (codes "gen") generation ++ part_text (codes "reads") reads ++ part_text (codes "writes") writes
 
--- what an entry shows: the entry, its generation, its live pins of each kind, and its status word; or that there is none (own)
+-- what an entry shows: the entry, its generation, its live pins of each
+-- kind, and its status word; or that there is none (own)
 abbrev pub shown_text : Option Shown → List ℕ
 shown_text None = codes "none"
 shown_text (Some shown) =
@@ -50,4 +53,5 @@ shown_text (Some shown) =
 -- `LINE show ID REF SHOWN` (own)
 abbrev pub show_line : ℕ → DomId → GrantRef → Option Shown → List ℕ
 show_line line dom gref shown =
-    decimal line ++ codes " show " ++ decimal dom.0 ++ codes " " ++ decimal gref.0 ++ codes " " ++ shown_text shown ++ codes "\n"
+    decimal line ++ codes " show " ++ decimal dom.0 ++ codes " " ++ decimal gref.0 ++ codes " " ++ shown_text shown
+    ++ codes "\n"

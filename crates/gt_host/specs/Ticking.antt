@@ -19,12 +19,14 @@ use Rattle.gt_host.specs.Recording.{IsAudited}
 use Rattle.gt_host.specs.Runs.{Progress, ComesTo, TicksComeTo, KnowsOpen, call_events, history_of}
 
 -- the events did what they may after the history, and the core stands for what they leave (own)
-pub record Happens (s : Setting) (h : History) (events : List Event) (trace : List Element) (core : CoreState) : Type 0 where
+pub record Happens (s : Setting) (h : History) (events : List Event) (trace : List Element)
+    (core : CoreState) : Type 0 where
   pub legal : LegalAfter s h events trace
   pub stands : CoreStands s (history_after h trace) core
 
 -- a call comes to this, by its beginning and some ticks (own)
-pub record Calls (s : Setting) (h : History) (dom : DomId) (request : Request) (core : CoreState) (outcome : Outcome) : Type 0 where
+pub record Calls (s : Setting) (h : History) (dom : DomId) (request : Request) (core : CoreState)
+    (outcome : Outcome) : Type 0 where
   pub ticks : ℕ
   pub trace : List Element
   pub length_of : length trace ≡ 1 + ticks
@@ -32,7 +34,8 @@ pub record Calls (s : Setting) (h : History) (dom : DomId) (request : Request) (
   pub happens : Happens s h (call_events dom request ticks) trace core
 
 -- at most so many ticks of a domain come to this (own)
-pub record TicksTo (s : Setting) (h : History) (dom : DomId) (most : ℕ) (core : CoreState) (answer : Option Answer) : Type 0 where
+pub record TicksTo (s : Setting) (h : History) (dom : DomId) (most : ℕ) (core : CoreState)
+    (answer : Option Answer) : Type 0 where
   pub ticks : ℕ
   pub trace : List Element
   pub length_of : length trace ≡ ticks
@@ -50,7 +53,8 @@ pub record IsKept (kept : Kept) (p : Progress) : Type 0 where
   pub names : AreNamed kept.labels p.named
   pub calls : (dom : ℕ) → call_in kept.calls dom ≡ p.open_steps dom
 
--- the run has come to this point: what it did is legal, and the core and what is kept stand for it; it is recorded, where that is asked for (own)
+-- the run has come to this point: what it did is legal, and the core and what is
+-- kept stand for it; it is recorded, where that is asked for (own)
 pub record HasCome (s : Setting) (audit : Bool) (p : Progress) (core : CoreState) (kept : Kept) : Type 0 where
   pub legal : Legal s p.events p.trace
   pub stands : CoreStands s (history_of p) core
@@ -63,7 +67,8 @@ abbrev pub IsAppended : List ℕ → List ℕ → List ℕ → List ℕ → Type
 IsAppended was is before after = (text : List ℕ) × (is ≡ was ++ text) × (after ≡ before ++ text)
 
 -- from each point that the run may have come to, this leads to a next one (own)
-abbrev pub Leads : Setting → (Progress → Progress → Type 0) → CoreState → CoreState → Kept → Kept → List ℕ → List ℕ → Type 0
+abbrev pub Leads : Setting → (Progress → Progress → Type 0) → CoreState → CoreState → Kept → Kept → List ℕ → List ℕ
+    → Type 0
 Leads s ToNext old_core new_core old_kept new_kept before after =
     (p : Progress) (audit : Bool) → HasCome s audit p old_core old_kept
     → (q : Progress) × ToNext p q × HasCome s audit q new_core new_kept × IsAppended p.text q.text before after

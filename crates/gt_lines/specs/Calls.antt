@@ -4,7 +4,8 @@ use Rattle.std.specs.Option.{option_map}
 use Rattle.std.specs.Str.{bytes_eq}
 use Rattle.gt_types.specs.declared.DomId.{DomId}
 use Rattle.gt_types.specs.declared.GrantRef.{GrantRef}
-use Rattle.gt_lines.specs.Fields.{◌>>=◌, u16_word, u32_word, u64_word, reference_word, domain_word, mode_word, flags_word, tick_word, label_word, text_where}
+use Rattle.gt_lines.specs.Fields.{◌>>=◌, u16_word, u32_word, u64_word, reference_word, domain_word, mode_word}
+use Rattle.gt_lines.specs.Fields.{flags_word, tick_word, label_word, text_where}
 use Rattle.gt_lines.specs.Hexadecimal.{hex_word}
 use Rattle.gt_lines.specs.declared.calls.Grant.{Grant}
 use Rattle.gt_lines.specs.declared.calls.Grant.TheVariants as grants
@@ -183,7 +184,8 @@ access_of word args = if bytes_eq word (codes "unmap") then unmap_of args
 
 -- the word of a call that ends a mapping or reaches bytes (own)
 abbrev pub is_access_word : List ℕ → Bool
-is_access_word word = ((((bytes_eq word (codes "unmap") || bytes_eq word (codes "load")) || bytes_eq word (codes "store"))
+is_access_word word =
+    ((((bytes_eq word (codes "unmap") || bytes_eq word (codes "load")) || bytes_eq word (codes "store"))
     || bytes_eq word (codes "peek")) || bytes_eq word (codes "poke")) || bytes_eq word (codes "copy")
 
 -- a call word and its arguments (own)

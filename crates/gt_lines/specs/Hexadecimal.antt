@@ -1,5 +1,6 @@
 -- Bytes written as hexadecimal text.
-use Rattle.std.specs.Prelude.{◌≡◌, ◌⊎◌, ℕ, ◌%◌, ◌==◌, ◌||◌, ◌&&◌, nat_le, Bool, true, List, [], length, codes, Ok, if◌then◌else◌}
+use Rattle.std.specs.Prelude.{◌≡◌, ◌⊎◌, ℕ, ◌%◌, ◌==◌, ◌||◌, ◌&&◌, nat_le, Bool, true, List, [], length, codes, Ok}
+use Rattle.std.specs.Prelude.{if◌then◌else◌}
 use Rattle.std.specs.Char.{is_ascii_hexdigit}
 use Rattle.std.specs.List.{list_all}
 use Rattle.std.specs.Result.{result_unwrap_or}
@@ -8,7 +9,9 @@ use Rattle.hex.specs.Hex.{decode_of}
 
 -- an even number of hexadecimal digits of either case, at most 8,192, or `-` for no bytes (own)
 unfoldable pub hex_word : List ℕ → Bool
-hex_word word = bytes_eq word (codes "-") || ((length word % 2 == 0 && nat_le (length word) 8192) && list_all is_ascii_hexdigit word)
+hex_word word =
+    bytes_eq word (codes "-")
+    || ((length word % 2 == 0 && nat_le (length word) 8192) && list_all is_ascii_hexdigit word)
 
 -- the bytes of such a word, two digits for each, the high four bits first (own)
 unfoldable pub hex_bytes : List ℕ → List ℕ

@@ -12,7 +12,8 @@ triple_text types may x = if is_one may x then line_of types x else []
 
 -- the lines of a source and a target, one for each permission (own)
 abbrev pub pair_text : List (List ℕ) → (ℕ → ℕ → Perms → Bool) → TypeId → TypeId → List ℕ
-pair_text types may source target = flat_map (λ perm. triple_text types may (record { source = source; target = target; perm = perm })) every_permission
+pair_text types may source target =
+    flat_map (λ perm. triple_text types may (record { source = source; target = target; perm = perm })) every_permission
 
 -- the lines of a source, with each target in turn (own)
 abbrev pub source_text : List (List ℕ) → (ℕ → ℕ → Perms → Bool) → List TypeId → TypeId → List ℕ

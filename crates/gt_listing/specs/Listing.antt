@@ -16,7 +16,8 @@ line_of types x = triple_line (name_of types x.source.0) (name_of types x.target
 
 -- all triples of a source and a target, by permission (own)
 abbrev pub pair_triples : TypeId → TypeId → List Triple
-pair_triples source target = map (λ perm. record { source = source; target = target; perm = perm }) names.every_permission
+pair_triples source target =
+    map (λ perm. record { source = source; target = target; perm = perm }) names.every_permission
 
 -- all triples of these types: by source, then by target, then by permission (own)
 abbrev pub triples_of : List TypeId → List Triple

@@ -25,12 +25,15 @@ WritesListing m old new = (text : List ℕ) × IsListing m text × Appends old n
 abbrev pub BeginsListing : Meaning → Option (List ℕ) → Option (List ℕ) → Type 0
 BeginsListing m old new = (text : List ℕ) × IsListing m text × AppendsBeginning old new text
 
--- what `policy` wrote for these bytes, where it answers so: at Ok the text of the policy that they are, whole; at a fault
--- of the bytes nothing, and the fault is their first; after a failed write a beginning of that text, and so for want of memory, unless nothing (own)
+-- what `policy` wrote for these bytes, where it answers so: at Ok the
+-- text of the policy that they are, whole; at a fault
+-- of the bytes nothing, and the fault is their first; after a failed write a
+-- beginning of that text, and so for want of memory, unless nothing (own)
 abbrev pub Listed : List ℕ → Option (List ℕ) → Option (List ℕ) → Result (Unit {0}) ListingFault → Type 0
 Listed bytes old new (Ok done) = (m : Meaning) × IsPolicy bytes m × WritesListing m old new
 Listed bytes old new (Err (Utf8 line)) = IsBadAt bytes line × Keeps old new
-Listed bytes old new (Err (Policy shown)) = (f : policy.TokenFault) × (fault_shown shown ≡ Some f) × IsFaulty bytes f × Keeps old new
+Listed bytes old new (Err (Policy shown)) =
+    (f : policy.TokenFault) × (fault_shown shown ≡ Some f) × IsFaulty bytes f × Keeps old new
 Listed bytes old new (Err Write) = (m : Meaning) × IsPolicy bytes m × BeginsListing m old new
 Listed bytes old new (Err Memory) = Keeps old new ⊎ ((m : Meaning) × IsPolicy bytes m × BeginsListing m old new)
 Listed bytes old new (Err Read) = Keeps old new
@@ -39,7 +42,8 @@ Listed bytes old new (Err Read) = Keeps old new
 abbrev pub Parsed : List ℕ → Option (List ℕ) → Option (List ℕ) → Result (Unit {0}) ListingFault → Type 0
 Parsed text old new (Ok done) = (m : Meaning) × Says text (Ok m) × WritesListing m old new
 Parsed text old new (Err (Utf8 line)) = ⊥
-Parsed text old new (Err (Policy shown)) = (f : policy.TokenFault) × (fault_shown shown ≡ Some f) × Says text (Err f) × Keeps old new
+Parsed text old new (Err (Policy shown)) =
+    (f : policy.TokenFault) × (fault_shown shown ≡ Some f) × Says text (Err f) × Keeps old new
 Parsed text old new (Err Write) = (m : Meaning) × Says text (Ok m) × BeginsListing m old new
 Parsed text old new (Err Memory) = Keeps old new ⊎ ((m : Meaning) × Says text (Ok m) × BeginsListing m old new)
 Parsed text old new (Err Read) = ⊥
@@ -48,11 +52,13 @@ Parsed text old new (Err Read) = ⊥
 abbrev pub text_with : KeptPolicy → List TypeId → List ℕ
 text_with p ids = listing p.types (may_of p) ids
 
--- what went out of that text: at Ok all of it; after a failed write a beginning, and so for want of memory, unless nothing (own)
+-- what went out of that text: at Ok all of it; after a failed write a
+-- beginning, and so for want of memory, unless nothing (own)
 abbrev pub Writes : KeptPolicy → Option (List ℕ) → Option (List ℕ) → Result (Unit {0}) ListingFault → Type 0
 Writes p old new (Ok done) = (ids : List TypeId) × AreByName p.types ids × Appends old new (text_with p ids)
 Writes p old new (Err Write) = (ids : List TypeId) × AreByName p.types ids × AppendsBeginning old new (text_with p ids)
-Writes p old new (Err Memory) = Keeps old new ⊎ ((ids : List TypeId) × AreByName p.types ids × AppendsBeginning old new (text_with p ids))
+Writes p old new (Err Memory) =
+    Keeps old new ⊎ ((ids : List TypeId) × AreByName p.types ids × AppendsBeginning old new (text_with p ids))
 Writes p old new (Err Read) = ⊥
 Writes p old new (Err (Utf8 line)) = ⊥
 Writes p old new (Err (Policy shown)) = ⊥

@@ -33,7 +33,8 @@ IsAccess step = ⊥
 abbrev pub onward : Continuation → List Seen → Continuation
 onward way values vs = way (values ++ vs)
 
--- A call came to this access: the steps that took its seat's view from v to w are those of its way, one after another, and the access is what comes next (own)
+-- A call came to this access: the steps that took its seat's view from v to w are those of
+-- its way, one after another, and the access is what comes next (own)
 pub record ComesTo (k : Layout) (way : Continuation) (access : Step) (v w : View) : Type 0 where
   pub steps : List SeatStep
   pub view : w ≡ after steps v
@@ -41,20 +42,26 @@ pub record ComesTo (k : Layout) (way : Continuation) (access : Step) (v w : View
   pub next : way (shown steps) ≡ Some (Makes access)
   pub is_access : IsAccess access
 
--- A call with this access was made whole: it came to the access, which shows nothing, and went on from there to its end, at which its way is Ok (own)
+-- A call with this access was made whole: it came to the access, which shows nothing,
+-- and went on from there to its end, at which its way is Ok (own)
 pub record Accessed (k : Layout) (way : Continuation) (access : Step) (v w : View) : Type 0 where
   pub at : View
   pub comes : ComesTo k way access v at
   pub ends : Called k (onward way (shown comes.steps ++ Nothing ∷ [])) Granted at w
 
--- an access that was not made, for want of memory or because a frame of another name was in the place of the one wanted (own)
+-- an access that was not made, for want of memory or because a frame of
+-- another name was in the place of the one wanted (own)
 abbrev pub IsOfAccess : Denial → Type 0
 IsOfAccess denial = (denial ≡ denial_of N26 NoFacts) ⊎ (denial ≡ denial_of N16 NoFacts)
 
--- A call with an access was answered so. Ok: by its whole way, and what it answers is of the access. A refusal: the way's own; or the access could not be made, and the call went on to its end all the same, which gives its pins back (own)
-abbrev pub AnsweredBy : {R : Type 0} → Layout → Continuation → (Step → R → Type 0) → Result R Denial → View → View → Type 0
+-- A call with an access was answered so. Ok: by its whole way, and what it answers is of
+-- the access. A refusal: the way's own; or the access could not be made, and the call went
+-- on to its end all the same, which gives its pins back (own)
+abbrev pub AnsweredBy : {R : Type 0} → Layout → Continuation → (Step → R → Type 0) → Result R Denial → View → View
+    → Type 0
 AnsweredBy k way tells (Ok r) v w = (access : Step) × Accessed k way access v w × tells access r
-AnsweredBy k way tells (Err denial) v w = Called k way (Refused denial) v w ⊎ ((access : Step) × Accessed k way access v w × IsOfAccess denial)
+AnsweredBy k way tells (Err denial) v w =
+    Called k way (Refused denial) v w ⊎ ((access : Step) × Accessed k way access v w × IsOfAccess denial)
 
 -- the frame of this owner with this number (own)
 abbrev pub frame_named : DomId → ℕ → FrameName

@@ -60,13 +60,16 @@ AllowRelation = TypeId → TypeId → Perms → Bool
 abbrev pub knowledge : Config → AllowRelation → Domain → CallerKnowledge
 knowledge c may d = knowledge_of c.domains.items c.first_gen may d.own.items (own_table d.seat.view) d.mappings
 
--- the domain is of the run of these words and knows its own entries, and its seat has just the pins of its mappings (own)
+-- the domain is of the run of these words and knows its own entries, and
+-- its seat has just the pins of its mappings (own)
 pub record IsDomainOf (b : Board) (c : Config) (may : AllowRelation) (d : Domain) : Type 0 where
   pub seat : IsSeatOf b d.seat
-  pub rows : (r : ℕ) → r < TABLE_ENTRIES → last_of r d.seat.view ≡ record { generation = generation_in c.first_gen d.own.items r; entry = entry_in d.own.items r }
+  pub rows : (r : ℕ) → r < TABLE_ENTRIES → last_of r d.seat.view
+      ≡ record { generation = generation_in c.first_gen d.own.items r; entry = entry_in d.own.items r }
   pub generations : (r : ℕ) → r < TABLE_ENTRIES → generation_in c.first_gen d.own.items r < 1048576
   pub all_rows : length d.own.items ≡ TABLE_ENTRIES
-  pub mapped : (h : Handle) (m : Held) → value_of d.mappings h ≡ Some m → IsMappingOf b.layout c.domains.items may d.seat.dom d.seat.view m
+  pub mapped : (h : Handle) (m : Held) → value_of d.mappings h ≡ Some m
+      → IsMappingOf b.layout c.domains.items may d.seat.dom d.seat.view m
   pub pins : PinsAreOf b.layout d.seat.view d.mappings
 
 -- the domain came with this monitor (own)
@@ -77,13 +80,17 @@ IsOf may m d = IsDomainOf m.words m.config (may m.rights) d
 abbrev pub known : {P : Type 0} → (P → AllowRelation) → Monitor P → Domain → CallerKnowledge
 known may m d = knowledge m.config (may m.rights) d
 
--- a call of the domain d asked this and was answered so, after which the domain is e: its steps are those of the call's path, each made as the words say, and the answer is the path's (own)
+-- a call of the domain d asked this and was answered so, after which the domain is e: its steps are those
+-- of the call's path, each made as the words say, and the answer is the path's (own)
 abbrev pub Answered : {P : Type 0} → (P → AllowRelation) → Monitor P → Domain → Request → Verdict → Domain → Type 0
-Answered may m d request verdict e = Called m.words.layout (path_of (known may m d) d.seat.dom request) verdict d.seat.view e.seat.view
+Answered may m d request verdict e =
+    Called m.words.layout (path_of (known may m d) d.seat.dom request) verdict d.seat.view e.seat.view
 
 -- the same of a call with an access, whose answer says this of it (own)
-abbrev pub Accesses : {P R : Type 0} → (P → AllowRelation) → Monitor P → Domain → Request → (Step → R → Type 0) → Result R Denial → Domain → Type 0
-Accesses may m d request tells result e = AnsweredBy m.words.layout (path_of (known may m d) d.seat.dom request) tells result d.seat.view e.seat.view
+abbrev pub Accesses : {P R : Type 0} → (P → AllowRelation) → Monitor P → Domain → Request → (Step → R → Type 0)
+    → Result R Denial → Domain → Type 0
+Accesses may m d request tells result e =
+    AnsweredBy m.words.layout (path_of (known may m d) d.seat.dom request) tells result d.seat.view e.seat.view
 
 -- the domain has the mappings and pins that it had (own)
 abbrev pub KeepsPinned : Domain → Domain → Type 0
@@ -113,12 +120,16 @@ abbrev pub verdict_of_frames : Result ℕ Denial → Verdict
 verdict_of_frames (Ok frames) = Given (Frames frames)
 verdict_of_frames (Err denial) = Refused denial
 
--- A map is answered so: by its path, which ends with the mapping that is kept under the handle answered; or, where no rule stood at its beginning and no memory was there, by N26 after no step (own)
-abbrev pub MapAnswered : {P : Type 0} → (P → AllowRelation) → Monitor P → Domain → Request → Result Handle Denial → Domain → Type 0
-MapAnswered may m d request (Ok handle) e = (p : Held) × Answered may m d request (Mapped p) e × Adds d.mappings e.mappings handle p
+-- A map is answered so: by its path, which ends with the mapping that is kept under the handle answered; or,
+-- where no rule stood at its beginning and no memory was there, by N26 after no step (own)
+abbrev pub MapAnswered : {P : Type 0} → (P → AllowRelation) → Monitor P → Domain → Request → Result Handle Denial
+    → Domain → Type 0
+MapAnswered may m d request (Ok handle) e =
+    (p : Held) × Answered may m d request (Mapped p) e × Adds d.mappings e.mappings handle p
 MapAnswered may m d request (Err denial) e =
     (Answered may m d request (Refused denial) e
-    ⊎ ((denial ≡ denial_of N26 NoFacts) × (begun_of (known may m d) d.seat.dom request ≡ None) × (e.seat.view ≡ d.seat.view)))
+    ⊎ ((denial ≡ denial_of N26 NoFacts) × (begun_of (known may m d) d.seat.dom request ≡ None)
+    × (e.seat.view ≡ d.seat.view)))
     × KeepsPinned d e
 
 -- a call is open, has made no step, and begins with one (own)
@@ -173,14 +184,16 @@ frames_told (Refused denial) = Err denial
 frames_told (Given (Frames frames)) = Ok frames
 frames_told verdict = Ok 0
 
--- the pins of the mappings under these handles were given back, one after another, the last handle first, and nothing else was done (own)
+-- the pins of the mappings under these handles were given back, one after
+-- another, the last handle first, and nothing else was done (own)
 abbrev pub Released : Layout → List Handle → HandleMap Held → View → HandleMap Held → View → Type 0
 Released k [] old v new w = (new ≡ old) × (w ≡ v)
 Released k (h ∷ hs) old v new w =
     (m : Held) × (mid : HandleMap Held) × (u : View) × Released k hs old v mid u × Removes mid new h m
     × Unpins k (position_in k.ids m.dom) m.gref.0 m.dir (generation_of m.word) u w
 
--- A domain has left: the pin of each of its mappings was given back, one after another and nothing else, and its seat has none (own)
+-- A domain has left: the pin of each of its mappings was given back, one
+-- after another and nothing else, and its seat has none (own)
 pub record HasLeft (k : Layout) (d : Domain) (l : Left) : Type 0 where
   pub handles : List Handle
   pub rest : HandleMap Held
@@ -250,4 +263,8 @@ told_end end = record { ptr = end.ptr; dom = end.domid; off = end.offset }
 -- the record of a copy that this domain asked, and that was answered so (own)
 abbrev pub told_copy : Domain → CopyArgs → Result Copying Denial → Record
 told_copy d c result =
-    record { dom = d.seat.dom; call = hypercalls.Copy (told_end c.source) (told_end c.dest) c.len c.flags; reply = copy_reply result }
+    record {
+      dom = d.seat.dom;
+      call = hypercalls.Copy (told_end c.source) (told_end c.dest) c.len c.flags;
+      reply = copy_reply result;
+    }

@@ -1,4 +1,5 @@
--- What a call needs of its seat where it is, and how it leaves it: the code's own representation. It is in specs/ because contracts cite it.
+-- What a call needs of its seat where it is, and how it leaves it: the code's own
+-- representation. It is in specs/ because contracts cite it.
 use Rattle.std.specs.Prelude.{◌≡◌, ℕ, ◌+◌, ◌^◌, ◌<◌, List, [], length, Some, None}
 use Rattle.gt_types.specs.declared.DomId.{DomId}
 use Rattle.gt_types.specs.declared.config.DomainConfig.{DomainConfig}
@@ -7,7 +8,8 @@ use Rattle.gt_types.specs.Names.{domain_of}
 use Rattle.gt_entry.specs.declared.entry.Entry.TheVariants.{Invalid}
 use Rattle.gt_words.specs.declared.view.View.{View}
 use Rattle.gt_words.specs.Controls.{generation_of}
-use Rattle.gt_words.specs.Conditions.{CanChange, CanPin, Changes, HasDomain, Holds, KeepsPins, Pins, SeesNoEarlier, Unpins}
+use Rattle.gt_words.specs.Conditions.{CanChange, CanPin, Changes, HasDomain, Holds, KeepsPins, Pins, SeesNoEarlier}
+use Rattle.gt_words.specs.Conditions.{Unpins}
 use Rattle.gt_words.specs.Rule.{IsKeptHeader, Layout, id_at, position_in}
 use Rattle.gt_words.specs.Views.{last_seen, record_seen, last_of}
 use Rattle.gt_words.specs.declared.view.SeatStep.{SeatStep}
@@ -15,7 +17,8 @@ use Rattle.gt_calls.specs.declared.action.Action.{Action}
 use Rattle.gt_calls.specs.declared.action.Action.TheVariants.{Step as Makes, Done}
 use Rattle.gt_entry.specs.declared.change.Change.{Change}
 use Rattle.gt_calls.specs.declared.action.Step.{Step}
-use Rattle.gt_calls.specs.declared.action.Step.TheVariants.{LookHeader, LookControl, LookBody, Pin, Unpin, StoreBody, StoreHeader, Exchange}
+use Rattle.gt_calls.specs.declared.action.Step.TheVariants.{LookHeader, LookControl, LookBody, Pin, Unpin, StoreBody}
+use Rattle.gt_calls.specs.declared.action.Step.TheVariants.{StoreHeader, Exchange}
 use Rattle.gt_calls.specs.declared.request.Asked.{Asked}
 use Rattle.gt_calls.specs.declared.request.Asked.TheVariants as asks
 use Rattle.gt_calls.specs.declared.call.Call.{Call}
@@ -39,9 +42,11 @@ abbrev pub CanMake : Layout → View → Step → Type 0
 CanMake k v (LookHeader d) = HasDomain k d
 CanMake k v (LookControl d q) = HasDomain k d × (q.0 < TABLE_ENTRIES)
 CanMake k v (LookBody d q half) = HasDomain k d × (q.0 < TABLE_ENTRIES)
-CanMake k v (Pin p) = HasDomain k p.dom × (p.gref.0 < TABLE_ENTRIES) × CanPin k (position_in k.ids p.dom) p.gref.0 p.dir p.word v
+CanMake k v (Pin p) =
+    HasDomain k p.dom × (p.gref.0 < TABLE_ENTRIES) × CanPin k (position_in k.ids p.dom) p.gref.0 p.dir p.word v
 CanMake k v (Unpin p holder) =
-    HasDomain k p.dom × (p.gref.0 < TABLE_ENTRIES) × Holds (position_in k.ids p.dom) p.gref.0 p.dir (generation_of p.word) v
+    HasDomain k p.dom × (p.gref.0 < TABLE_ENTRIES)
+    × Holds (position_in k.ids p.dom) p.gref.0 p.dir (generation_of p.word) v
 CanMake k v (StoreBody q half n) = (q.0 < TABLE_ENTRIES) × ((last_of q.0 v).entry ≡ Invalid)
 CanMake k v (StoreHeader version frames) = IsKeptHeader (record { version = version; frames = frames })
 CanMake k v (Exchange q looked change) = (q.0 < TABLE_ENTRIES) × CanChange change q.0 looked v
@@ -66,8 +71,10 @@ pub record Knows (c : CallerKnowledge) (k : Layout) (caller : DomId) (v : View) 
   pub generations : (r : ℕ) → r < TABLE_ENTRIES → c.generation r < 1048576
   pub mapped : (h : Handle) (m : Held) → c.mapping h ≡ Some m → HasPin k v m
 
--- a map took this pin, after looks alone: of the entry and in the direction that it was asked, which its caller may (own)
-pub record MapsBy (c : CallerKnowledge) (k : Layout) (caller : DomId) (request : Asked) (p : Held) (v w : View) : Type 0 where
+-- a map took this pin, after looks alone: of the entry and in the
+-- direction that it was asked, which its caller may (own)
+pub record MapsBy (c : CallerKnowledge) (k : Layout) (caller : DomId) (request : Asked) (p : Held)
+    (v w : View) : Type 0 where
   pub asked : IsMap request
   pub before : View
   pub same : IsSame v before
@@ -77,7 +84,8 @@ pub record MapsBy (c : CallerKnowledge) (k : Layout) (caller : DomId) (request :
   pub serial : c.maps_answered + 1 < 2 ^ 64
 
 -- the owner's change of its entry q was made, after looks alone (own)
-pub record ChangesBy (c : CallerKnowledge) (k : Layout) (request : Asked) (q : ℕ) (change : Change) (v w : View) : Type 0 where
+pub record ChangesBy (c : CallerKnowledge) (k : Layout) (request : Asked) (q : ℕ) (change : Change)
+    (v w : View) : Type 0 where
   pub asked : IsOwnChange request
   pub before : View
   pub same : IsSame v before
@@ -113,8 +121,10 @@ abbrev pub ActionTells : Layout → View → List SeatStep → Action → Type 0
 ActionTells k v steps (Makes step) = Unit {0}
 ActionTells k v steps (Done verdict) = TellsSteps k v steps verdict
 
--- a call under way: it added steps to its seat's view, which are those of its path, and the action is what comes next (own)
-pub record Going (c : CallerKnowledge) (k : Layout) (effect : Effect) (v w : View) (call : Call) (action : Action) : Type 0 where
+-- a call under way: it added steps to its seat's view, which are those of
+-- its path, and the action is what comes next (own)
+pub record Going (c : CallerKnowledge) (k : Layout) (effect : Effect) (v w : View) (call : Call)
+    (action : Action) : Type 0 where
   pub steps : List SeatStep
   pub view : w ≡ after steps v
   pub walked : IsWalk k (path c call.caller call.request) v steps

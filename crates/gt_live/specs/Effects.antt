@@ -58,7 +58,8 @@ abbrev pub TellsFound : DomId → Step → Seen → Verdict → Type 0
 TellsFound caller step seen (Refused denial) = IsFound caller step seen denial.facts
 TellsFound caller step seen verdict = Unit {0}
 
--- what follows a step that saw this: a step that did more than look is the last one, and the call is answered by what its last step did and found (own)
+-- what follows a step that saw this: a step that did more than look is the last one,
+-- and the call is answered by what its last step did and found (own)
 abbrev pub EndsSo : DomId → Step → Seen → Action → Type 0
 EndsSo caller step seen (Makes next) = effect_of step seen ≡ Nothing
 EndsSo caller step seen (Done verdict) = Answers (effect_of step seen) verdict × TellsFound caller step seen verdict

@@ -26,8 +26,10 @@ use Rattle.gt_calls.specs.Rules.{frames_of, label_of, map_perms, triples}
 use Rattle.gt_types.specs.declared.TypeId.{TypeId}
 use Rattle.gt_types.specs.declared.config.DomainConfig.{DomainConfig}
 
--- a mapping: its pin is held, of an entry that permits the caller, of a frame of its owner's, and what its map asked is allowed (own)
-pub record IsMappingOf (k : Layout) (domains : List DomainConfig) (may : TypeId → TypeId → Perms → Bool) (caller : DomId) (v : View) (p : Held) : Type 0 where
+-- a mapping: its pin is held, of an entry that permits the caller, of a frame
+-- of its owner's, and what its map asked is allowed (own)
+pub record IsMappingOf (k : Layout) (domains : List DomainConfig) (may : TypeId → TypeId → Perms → Bool)
+    (caller : DomId) (v : View) (p : Held) : Type 0 where
   pub pin : HasPin k v p
   pub permitted : permits p.entry caller p.dir ForMap 0 0 ≡ true
   pub in_frames : nat_le (frames_of domains p.dom) (frame_of p.entry) ≡ false
@@ -44,7 +46,8 @@ pub record ReachesItsFrame (k : Layout) (s : SeatOf) (p : Held) : Type 0 where
 
 -- the mapping has a pin of this kind and generation of the entry r of the domain t (own)
 abbrev pub is_mapping_of : Layout → ℕ → ℕ → Dir → ℕ → Held → Bool
-is_mapping_of k t r d g m = (position_in k.ids m.dom == t) && ((m.gref.0 == r) && (is_same_dir d m.dir && (g == generation_of m.word)))
+is_mapping_of k t r d g m =
+    (position_in k.ids m.dom == t) && ((m.gref.0 == r) && (is_same_dir d m.dir && (g == generation_of m.word)))
 
 -- the pins of the view are just those of the mappings: of each kind and generation as many, on each entry (own)
 abbrev pub PinsAreOf : Layout → View → HandleMap Held → Type 0

@@ -16,7 +16,8 @@ unfoldable pub first_rows : ℕ → List Own
 first_rows first = replicate TABLE_ENTRIES (record { entry = Invalid; generation = first })
 
 -- the domain at the position i, which has done nothing: no step, no mapping, no map answered Ok, and no record (own)
-pub record IsNewDomain (b : Board) (c : Config) (may : TypeId → TypeId → Perms → Bool) (i : ℕ) (d : Domain) : Type 0 where
+pub record IsNewDomain (b : Board) (c : Config) (may : TypeId → TypeId → Perms → Bool) (i : ℕ)
+    (d : Domain) : Type 0 where
   pub domain : IsDomainOf b c may d
   pub seat : IsNewSeat b i d.seat
   pub mappings : d.mappings ≡ record { slots = []; given = 0; room = 0 }

@@ -1,4 +1,5 @@
--- A copy under way: the pins that it holds, and where it stops. The code's own representation. It is in specs/ because contracts cite it.
+-- A copy under way: the pins that it holds, and where it stops. The code's own
+-- representation. It is in specs/ because contracts cite it.
 use Rattle.std.specs.Prelude.{◌≡◌, ℕ, ◌+◌, ◌<◌, ◌==◌, ◌&&◌, Bool, cond, List, [], ◌∷◌, ◌++◌, Option, Some, None}
 use Rattle.gt_types.specs.declared.DomId.{DomId}
 use Rattle.gt_types.specs.declared.denial.Denial.{Denial}
@@ -62,7 +63,8 @@ abbrev pub AreOfRun : Layout → List Held → Type 0
 AreOfRun k [] = Unit {0}
 AreOfRun k (p ∷ ps) = (HasDomain k p.dom × (p.gref.0 < TABLE_ENTRIES)) × AreOfRun k ps
 
--- where a copy is: on a leg to one of its ends, at its access, or at the end after a refusal, whose word its steps found (own)
+-- where a copy is: on a leg to one of its ends, at its access, or at the
+-- end after a refusal, whose word its steps found (own)
 abbrev pub StandsInCopy : Layout → View → List SeatStep → Phase → Type 0
 StandsInCopy k v steps (Walking (Source c via) l at) = Unit {0}
 StandsInCopy k v steps (Walking (Dest c source via) l at) = Unit {0}
@@ -76,7 +78,8 @@ pub record StandsWell (k : Layout) (v w : View) (steps : List SeatStep) (phase :
   pub taken : HasTaken k (held_in phase) v w
   pub of_run : AreOfRun k (held_in phase)
 
--- a copy under way: it added steps to its seat's view, which are those of its path, and the action is what comes next (own)
+-- a copy under way: it added steps to its seat's view, which are those of
+-- its path, and the action is what comes next (own)
 pub record Underway (c : CallerKnowledge) (k : Layout) (v w : View) (call : Call) (action : Action) : Type 0 where
   pub steps : List SeatStep
   pub view : w ≡ after steps v
@@ -91,15 +94,18 @@ pub record Underway (c : CallerKnowledge) (k : Layout) (v w : View) (call : Call
   pub acts : action ≡ action_at call.caller phase
   pub stands : StandsWell k v w steps phase
 
--- a copy came to its access: it holds the pins of the routes to its ends, which the access rests on, and gives them back on the way from there to its end (own)
-pub record AtAccess (c : CallerKnowledge) (k : Layout) (call : Call) (from to : Place) (len : ℕ) (v w : View) : Type 0 where
+-- a copy came to its access: it holds the pins of the routes to its ends, which the access
+-- rests on, and gives them back on the way from there to its end (own)
+pub record AtAccess (c : CallerKnowledge) (k : Layout) (call : Call) (from to : Place) (len : ℕ)
+    (v w : View) : Type 0 where
   pub comes : ComesTo k (path c call.caller call.request) (CopyBytes from to len) v w
   pub copy : CopyArgs
   pub there : call.phase ≡ Some (Accessing copy (pins_by_call call).source (pins_by_call call).dest)
   pub rests : RestsOnWays c call.caller call.request (pins_by_call call) from to len
   pub taken : HasTaken k (held_by_call call) v w
   pub of_run : AreOfRun k (held_by_call call)
-  pub ends : onward (path c call.caller call.request) (shown comes.steps ++ Nothing ∷ []) ≡ give_back (held_by_call call) Granted
+  pub ends : onward (path c call.caller call.request) (shown comes.steps ++ Nothing ∷ [])
+      ≡ give_back (held_by_call call) Granted
 
 -- a copy ended without its access: it was refused, and its seat has the pins and records that it had (own)
 pub record EndsRefused (c : CallerKnowledge) (k : Layout) (call : Call) (verdict : Verdict) (v w : View) : Type 0 where
@@ -121,7 +127,8 @@ pub record GivesBack (k : Layout) (routes : Pins) (v w : View) : Type 0 where
   pub ended : give_back (last_first routes) Granted (shown steps) ≡ Some (actions.Done Granted)
   pub back : (base : View) → HasTaken k (last_first routes) base v → HasTaken k [] base w
 
--- pins that a copy held at its access are being given back: those given back are of the way, and the rest is what is left (own)
+-- pins that a copy held at its access are being given back: those given
+-- back are of the way, and the rest is what is left (own)
 pub record Returning (k : Layout) (routes : Pins) (v w : View) (call : Call) (action : Action) : Type 0 where
   pub steps : List SeatStep
   pub view : w ≡ after steps v
@@ -129,6 +136,7 @@ pub record Returning (k : Layout) (routes : Pins) (v w : View) (call : Call) (ac
   pub left : Pins
   pub there : call.phase ≡ Some (Ending left Granted)
   pub acts : action ≡ next_to_give (last_first left) Granted
-  pub leads : (vs : List Seen) → give_back (last_first routes) Granted (shown steps ++ vs) ≡ give_back (last_first left) Granted vs
+  pub leads : (vs : List Seen) → give_back (last_first routes) Granted (shown steps ++ vs)
+      ≡ give_back (last_first left) Granted vs
   pub back : (base : View) → HasTaken k (last_first routes) base v → HasTaken k (last_first left) base w
   pub of_run : AreOfRun k (last_first left)

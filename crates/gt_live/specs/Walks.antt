@@ -1,7 +1,9 @@
 -- What a call adds to the steps of its seat: the actions of its path, one after another.
 use Rattle.std.specs.Prelude.{◌≡◌, ℕ, List, [], ◌∷◌, ◌++◌, Option, Some, None}
 use Rattle.gt_words.specs.Controls.{generation_of}
-use Rattle.gt_words.specs.Conditions.{IsNotEarlier, LooksAtHeader, LooksAtControl, LooksAtBody, IsWordOf, Pins, MissesPin, Unpins, StoresBody, StoresHeader, Changes, MissesChange, MissesBusy, Revokes, Demotes}
+use Rattle.gt_words.specs.Conditions.{IsNotEarlier, LooksAtHeader, LooksAtControl, LooksAtBody, IsWordOf, Pins}
+use Rattle.gt_words.specs.Conditions.{MissesPin, Unpins, StoresBody, StoresHeader, Changes, MissesChange, MissesBusy}
+use Rattle.gt_words.specs.Conditions.{Revokes, Demotes}
 use Rattle.gt_words.specs.Rule.{Layout, id_at, position_in}
 use Rattle.gt_words.specs.Steps.{on_entry, on_header}
 use Rattle.gt_words.specs.Views.{IsIn, last_of}
@@ -10,7 +12,8 @@ use Rattle.gt_types.specs.declared.DomId.{DomId}
 use Rattle.gt_types.specs.declared.GrantRef.{GrantRef}
 use Rattle.gt_types.specs.declared.denial.Facts.{Facts}
 use Rattle.gt_types.specs.declared.denial.Facts.TheVariants as facts
-use Rattle.gt_words.specs.declared.view.EntryStep.TheVariants.{Looked, ReadBody, Pinned, PinMissed, Unpinned, StoredBody, Changed, ChangeMissed}
+use Rattle.gt_words.specs.declared.view.EntryStep.TheVariants.{Looked, ReadBody, Pinned, PinMissed, Unpinned}
+use Rattle.gt_words.specs.declared.view.EntryStep.TheVariants.{StoredBody, Changed, ChangeMissed}
 use Rattle.gt_words.specs.declared.view.HeaderStep.TheVariants as header
 use Rattle.gt_words.specs.declared.view.SeatStep.{SeatStep}
 use Rattle.gt_words.specs.declared.view.SeatStep.TheVariants.{Entry, Header}
@@ -21,7 +24,8 @@ use Rattle.gt_entry.specs.declared.change.Change.TheVariants.{Publish, Revoke, D
 use Rattle.gt_calls.specs.declared.action.Seen.{Seen}
 use Rattle.gt_calls.specs.declared.action.Seen.TheVariants.{Nothing, Word, Taken, Missed}
 use Rattle.gt_calls.specs.declared.action.Step.{Step}
-use Rattle.gt_calls.specs.declared.action.Step.TheVariants.{LookHeader, LookControl, LookBody, Pin, Unpin, StoreBody, StoreHeader, Exchange}
+use Rattle.gt_calls.specs.declared.action.Step.TheVariants.{LookHeader, LookControl, LookBody, Pin, Unpin, StoreBody}
+use Rattle.gt_calls.specs.declared.action.Step.TheVariants.{StoreHeader, Exchange}
 use Rattle.gt_calls.specs.declared.action.Verdict.{Verdict}
 use Rattle.gt_calls.specs.declared.action.Verdict.TheVariants.{Refused}
 use Rattle.gt_calls.specs.Path.{Continuation}
@@ -48,7 +52,8 @@ shown (x ∷ xs) = shown xs ++ shown_by x ∷ []
 abbrev pub after : List SeatStep → View → View
 after xs v = record v { steps = xs ++ v.steps }
 
--- The step of a call was made on the words, by a seat whose view it took from v to w, and showed this: what each of the words' own calls promises of it (own)
+-- The step of a call was made on the words, by a seat whose view it took from v to w, and
+-- showed this: what each of the words' own calls promises of it (own)
 abbrev pub Made : Layout → Step → Seen → View → View → Type 0
 Made k (LookHeader d) (Word n) v w = LooksAtHeader k (position_in k.ids d) n v w
 Made k (LookControl d q) (Word n) v w =
@@ -73,7 +78,8 @@ abbrev pub MakesStep : Layout → Option Action → Seen → View → View → T
 MakesStep k (Some (Makes s)) seen v w = Made k s seen v w
 MakesStep k _ seen v w = ⊥
 
--- each of these steps from the view v on, the last first, is what comes next on this way after what the steps before it showed (own)
+-- each of these steps from the view v on, the last first, is what comes next
+-- on this way after what the steps before it showed (own)
 abbrev pub IsWalk : Layout → Continuation → View → List SeatStep → Type 0
 IsWalk k way v [] = Unit {0}
 IsWalk k way v (x ∷ xs) = MakesStep k (way (shown xs)) (shown_by x) (after xs v) (after (x ∷ xs) v) × IsWalk k way v xs
@@ -86,7 +92,8 @@ found_by (ChangeMissed c e y n) = Some n
 found_by m = None
 
 -- one of these steps found this word in this entry, and it is no earlier than what the view v had seen of it (own)
-pub record FindsWord (k : Layout) (v : View) (steps : List SeatStep) (dom : DomId) (gref : GrantRef) (word : ℕ) : Type 0 where
+pub record FindsWord (k : Layout) (v : View) (steps : List SeatStep) (dom : DomId) (gref : GrantRef)
+    (word : ℕ) : Type 0 where
   pub step : EntryStep
   pub taken : IsIn (on_entry (position_in k.ids dom) gref.0 step) steps
   pub found : found_by step ≡ Some word
@@ -103,7 +110,8 @@ abbrev pub TellsSteps : Layout → View → List SeatStep → Verdict → Type 0
 TellsSteps k v steps (Refused denial) = CarriesFound k v steps denial.facts
 TellsSteps k v steps verdict = Unit {0}
 
--- A call took its seat's view from v to w: it added steps, which are those of its way, one after another, and after what they showed the way ends with this answer; a word that the answer carries is one that they found (own)
+-- A call took its seat's view from v to w: it added steps, which are those of its way, one after another, and after
+-- what they showed the way ends with this answer; a word that the answer carries is one that they found (own)
 pub record Called (k : Layout) (way : Continuation) (verdict : Verdict) (v w : View) : Type 0 where
   pub steps : List SeatStep
   pub view : w ≡ after steps v

@@ -10,7 +10,8 @@ use Rattle.gt_policy.specs.Allowing.{Meaning}
 use Rattle.gt_policy.specs.Resolving.{resolved, nothing_given}
 use Rattle.gt_policy.specs.Whole.{meaning_of}
 
--- The text is no longer than a policy may be, and its tokens are the spellings of these statements, which declare no name twice and stay within the limits. (SELinux policy language; limits own)
+-- The text is no longer than a policy may be, and its tokens are the spellings of these statements, which
+-- declare no name twice and stay within the limits. (SELinux policy language; limits own)
 pub record IsWritten (text : List ℕ) (ss : List Statement) : Type 0 where
   pub short : length text ≤ LONGEST_TEXT
   pub spelled : SpellsText ss (lexemes_of text)
@@ -23,9 +24,11 @@ meant_by ss = meaning_of (names_of ss) (resolved (names_of ss) nothing_given ss)
 -- statements up to a token, with what is behind them (SELinux policy language)
 pub data SpellsFront : List Statement → Lexemes → Lexemes → Type 0 where
   front_end : (rest : Lexemes) → SpellsFront [] rest rest
-  front_more : (s : Statement) (ss : List Statement) (ls behind rest : Lexemes) → SpellsStatement s ls behind → SpellsFront ss behind rest → SpellsFront (s ∷ ss) ls rest
+  front_more : (s : Statement) (ss : List Statement) (ls behind rest : Lexemes) → SpellsStatement s ls behind
+      → SpellsFront ss behind rest → SpellsFront (s ∷ ss) ls rest
 
--- The first statement that is none: clean statements stand before it, and it has this fault at its first token that fits nowhere. (own)
+-- The first statement that is none: clean statements stand before it, and it
+-- has this fault at its first token that fits nowhere. (own)
 pub record IsBroken (text : List ℕ) (f : TokenFault) : Type 0 where
   pub before : List Statement
   pub rest : Lexemes

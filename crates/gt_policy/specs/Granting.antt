@@ -8,7 +8,8 @@ use Rattle.gt_policy.specs.declared.statements.SetElement.TheVariants.{With, Wit
 use Rattle.gt_policy.specs.declared.statements.Permissions.{Permissions}
 use Rattle.gt_policy.specs.declared.statements.Permissions.TheVariants.{Every, Named}
 use Rattle.gt_policy.specs.declared.statements.Statement.{Statement}
-use Rattle.gt_policy.specs.declared.statements.Statement.TheVariants.{DeclareType, DeclareAttribute, GiveAttributes, Allow}
+use Rattle.gt_policy.specs.declared.statements.Statement.TheVariants.{DeclareType, DeclareAttribute, GiveAttributes}
+use Rattle.gt_policy.specs.declared.statements.Statement.TheVariants.{Allow}
 use Rattle.gt_policy.specs.Resolving.{has_grant}
 
 -- a statement lists the permission, or `*` (SELinux policy language: allow)
@@ -43,7 +44,8 @@ names_without ss (With m) t = false
 names_without ss (Without m) t = is_named ss m.name t
 names_without ss Itself t = false
 
--- A set holds the types named in it and those of the attributes named in it, less those named behind `-`, in whatever order they stand. (SELinux policy language)
+-- A set holds the types named in it and those of the attributes named in it, less those
+-- named behind `-`, in whatever order they stand. (SELinux policy language)
 abbrev pub set_holds : List Statement → List SetElement → List ℕ → Bool
 set_holds ss items t = list_any (λ i. names_with ss i t) items && not (list_any (λ i. names_without ss i t) items)
 
@@ -53,12 +55,15 @@ is_self (With m) = false
 is_self (Without m) = false
 is_self Itself = true
 
--- An allow statement whose classes hold `grant` lists the permission, its source set holds the source, and its target set holds the target, or says `self` and the two are one. (SELinux policy language: allow)
+-- An allow statement whose classes hold `grant` lists the permission, its source set holds the source, and its
+-- target set holds the target, or says `self` and the two are one. (SELinux policy language: allow)
 abbrev pub statement_grants : List Statement → List ℕ → List ℕ → List ℕ → Statement → Bool
 statement_grants ss s t w (DeclareType v ms) = false
 statement_grants ss s t w (DeclareAttribute v) = false
 statement_grants ss s t w (GiveAttributes m ms) = false
-statement_grants ss s t w (Allow r) = ((has_grant r.classes && lists_word r.perms w) && set_holds ss r.source s) && (set_holds ss r.target t || (list_any is_self r.target && bytes_eq s t))
+statement_grants ss s t w (Allow r) =
+    ((has_grant r.classes && lists_word r.perms w) && set_holds ss r.source s)
+    && (set_holds ss r.target t || (list_any is_self r.target && bytes_eq s t))
 
 -- some statement grants it (SELinux policy language)
 abbrev pub is_granted : List Statement → List ℕ → List ℕ → List ℕ → Bool

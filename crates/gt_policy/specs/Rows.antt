@@ -22,4 +22,5 @@ reaches (lane ∷ lanes) t perm = if lane.0.0 == perm.0 then holds lane.1 t else
 -- one lane for each permission (own)
 abbrev pub lanes : TypeSet → TypeSet → TypeSet → TypeSet → TypeSet → TypeSet → TypeSet → List Lane
 lanes map_read map_write unmap transfer setup copy query =
-    (names.map_read, map_read) ∷ (names.map_write, map_write) ∷ (names.unmap, unmap) ∷ (names.transfer, transfer) ∷ (names.setup, setup) ∷ (names.copy, copy) ∷ (names.query, query) ∷ []
+    (names.map_read, map_read) ∷ (names.map_write, map_write) ∷ (names.unmap, unmap) ∷ (names.transfer, transfer) ∷
+    (names.setup, setup) ∷ (names.copy, copy) ∷ (names.query, query) ∷ []

@@ -1,8 +1,11 @@
--- The grammar of a policy text: how statements are spelled. `Spells.. x ls rest` says that the tokens ls begin with a spelling of x and go on with rest.
+-- The grammar of a policy text: how statements are spelled. `Spells.. x ls rest` says
+-- that the tokens ls begin with a spelling of x and go on with rest.
 use Rattle.std.specs.Prelude.{◌≡◌, ◌≤◌, ℕ, ◌+◌, Bool, true, false, List, [], ◌∷◌, length}
 use Rattle.std.specs.List.{list_any}
 use Rattle.std.specs.Str.{bytes_eq}
-use Rattle.gt_policy.specs.declared.lexer.Token.TheVariants.{Name, TypeWord, AttributeWord, TypeattributeWord, AllowWord, SelfWord, Open, Close, Colon, Semicolon, Comma, Minus, Star, End}
+use Rattle.gt_policy.specs.declared.lexer.Token.TheVariants.{Name, TypeWord, AttributeWord, TypeattributeWord}
+use Rattle.gt_policy.specs.declared.lexer.Token.TheVariants.{AllowWord, SelfWord, Open, Close, Colon, Semicolon, Comma}
+use Rattle.gt_policy.specs.declared.lexer.Token.TheVariants.{Minus, Star, End}
 use Rattle.gt_policy.specs.declared.statements.Mention.{Mention}
 use Rattle.gt_policy.specs.declared.statements.SetElement.{SetElement}
 use Rattle.gt_policy.specs.declared.statements.SetElement.TheVariants.{With, Without, Itself}
@@ -10,58 +13,76 @@ use Rattle.gt_policy.specs.declared.statements.Permissions.{Permissions}
 use Rattle.gt_policy.specs.declared.statements.Permissions.TheVariants.{Every, Named}
 use Rattle.gt_policy.specs.declared.statements.Allowance.{Allowance}
 use Rattle.gt_policy.specs.declared.statements.Statement.{Statement}
-use Rattle.gt_policy.specs.declared.statements.Statement.TheVariants.{DeclareType, DeclareAttribute, GiveAttributes, Allow}
+use Rattle.gt_policy.specs.declared.statements.Statement.TheVariants.{DeclareType, DeclareAttribute, GiveAttributes}
+use Rattle.gt_policy.specs.declared.statements.Statement.TheVariants.{Allow}
 use Rattle.gt_policy.specs.Names.{Names}
 use Rattle.gt_policy.specs.Grammar.{Lexemes, excluded, is_grant_alone, is_refused}
 
--- ("," NAME)* ";", or with a name to come NAME ("," NAME)* ";". In a type statement no name is `alias`. (SELinux policy language)
+-- ("," NAME)* ";", or with a name to come NAME ("," NAME)* ";". In a type
+-- statement no name is `alias`. (SELinux policy language)
 pub data SpellsNames (in_type : Bool) : Bool → List Mention → Lexemes → Lexemes → Type 0 where
   no_more : (n : ℕ) (rest : Lexemes) → SpellsNames in_type false [] ((Semicolon, n) ∷ rest) rest
-  one_more : (n : ℕ) (ms : List Mention) (ls rest : Lexemes) → SpellsNames in_type true ms ls rest → SpellsNames in_type false ms ((Comma, n) ∷ ls) rest
-  a_name : (m : Mention) (ms : List Mention) (ls rest : Lexemes) → excluded in_type m.name ≡ false → SpellsNames in_type false ms ls rest → SpellsNames in_type true (m ∷ ms) ((Name m.name, m.line) ∷ ls) rest
+  one_more : (n : ℕ) (ms : List Mention) (ls rest : Lexemes) → SpellsNames in_type true ms ls rest
+      → SpellsNames in_type false ms ((Comma, n) ∷ ls) rest
+  a_name : (m : Mention) (ms : List Mention) (ls rest : Lexemes) → excluded in_type m.name ≡ false
+      → SpellsNames in_type false ms ls rest → SpellsNames in_type true (m ∷ ms) ((Name m.name, m.line) ∷ ls) rest
 
 -- ("self" | "-"? NAME)* "}", with `self` in a target alone (SELinux policy language)
 pub data SpellsItems (target : Bool) : List SetElement → Lexemes → Lexemes → Type 0 where
   items_end : (n : ℕ) (rest : Lexemes) → SpellsItems target [] ((Close, n) ∷ rest) rest
-  with : (m : Mention) (items : List SetElement) (ls rest : Lexemes) → SpellsItems target items ls rest → SpellsItems target (With m ∷ items) ((Name m.name, m.line) ∷ ls) rest
-  without : (n : ℕ) (m : Mention) (items : List SetElement) (ls rest : Lexemes) → SpellsItems target items ls rest → SpellsItems target (Without m ∷ items) ((Minus, n) ∷ (Name m.name, m.line) ∷ ls) rest
-  itself : (n : ℕ) (items : List SetElement) (ls rest : Lexemes) → target ≡ true → SpellsItems target items ls rest → SpellsItems target (Itself ∷ items) ((SelfWord, n) ∷ ls) rest
+  with : (m : Mention) (items : List SetElement) (ls rest : Lexemes) → SpellsItems target items ls rest
+      → SpellsItems target (With m ∷ items) ((Name m.name, m.line) ∷ ls) rest
+  without : (n : ℕ) (m : Mention) (items : List SetElement) (ls rest : Lexemes) → SpellsItems target items ls rest
+      → SpellsItems target (Without m ∷ items) ((Minus, n) ∷ (Name m.name, m.line) ∷ ls) rest
+  itself : (n : ℕ) (items : List SetElement) (ls rest : Lexemes) → target ≡ true → SpellsItems target items ls rest
+      → SpellsItems target (Itself ∷ items) ((SelfWord, n) ∷ ls) rest
 
 -- NAME | "{" ("-"? NAME)+ "}", and for a target "self" | NAME | "{" ("self" | "-"? NAME)+ "}" (SELinux policy language)
 pub data SpellsSet (target : Bool) : List SetElement → Lexemes → Lexemes → Type 0 where
   one_name : (m : Mention) (rest : Lexemes) → SpellsSet target (With m ∷ []) ((Name m.name, m.line) ∷ rest) rest
   one_self : (n : ℕ) (rest : Lexemes) → target ≡ true → SpellsSet target (Itself ∷ []) ((SelfWord, n) ∷ rest) rest
-  set_in : (n : ℕ) (i : SetElement) (items : List SetElement) (ls rest : Lexemes) → SpellsItems target (i ∷ items) ls rest → SpellsSet target (i ∷ items) ((Open, n) ∷ ls) rest
+  set_in : (n : ℕ) (i : SetElement) (items : List SetElement) (ls rest : Lexemes)
+      → SpellsItems target (i ∷ items) ls rest → SpellsSet target (i ∷ items) ((Open, n) ∷ ls) rest
 
 -- NAME* "}" (SELinux policy language)
 pub data SpellsWords : List (List ℕ) → Lexemes → Lexemes → Type 0 where
   words_end : (n : ℕ) (rest : Lexemes) → SpellsWords [] ((Close, n) ∷ rest) rest
-  a_word : (w : List ℕ) (n : ℕ) (ws : List (List ℕ)) (ls rest : Lexemes) → SpellsWords ws ls rest → SpellsWords (w ∷ ws) ((Name w, n) ∷ ls) rest
+  a_word : (w : List ℕ) (n : ℕ) (ws : List (List ℕ)) (ls rest : Lexemes) → SpellsWords ws ls rest
+      → SpellsWords (w ∷ ws) ((Name w, n) ∷ ls) rest
 
 -- NAME | "{" NAME+ "}" (SELinux policy language)
 pub data SpellsList : List (List ℕ) → Lexemes → Lexemes → Type 0 where
   one_word : (w : List ℕ) (n : ℕ) (rest : Lexemes) → SpellsList (w ∷ []) ((Name w, n) ∷ rest) rest
-  list_in : (n : ℕ) (w : List ℕ) (ws : List (List ℕ)) (ls rest : Lexemes) → SpellsWords (w ∷ ws) ls rest → SpellsList (w ∷ ws) ((Open, n) ∷ ls) rest
+  list_in : (n : ℕ) (w : List ℕ) (ws : List (List ℕ)) (ls rest : Lexemes) → SpellsWords (w ∷ ws) ls rest
+      → SpellsList (w ∷ ws) ((Open, n) ∷ ls) rest
 
--- "*" | NAME | "{" NAME+ "}". Where class `grant` is alone each name is one of its permissions. (SELinux policy language; the seven permissions of XSM FLASK)
+-- "*" | NAME | "{" NAME+ "}". Where class `grant` is alone each name is one of its
+-- permissions. (SELinux policy language; the seven permissions of XSM FLASK)
 pub data SpellsPerms (alone : Bool) : Permissions → Lexemes → Lexemes → Type 0 where
   every : (n : ℕ) (rest : Lexemes) → SpellsPerms alone Every ((Star, n) ∷ rest) rest
-  names : (ws : List (List ℕ)) (ls rest : Lexemes) → list_any (λ w. is_refused alone w) ws ≡ false → SpellsList ws ls rest → SpellsPerms alone (Named ws) ls rest
+  names : (ws : List (List ℕ)) (ls rest : Lexemes) → list_any (λ w. is_refused alone w) ws ≡ false
+      → SpellsList ws ls rest → SpellsPerms alone (Named ws) ls rest
 
 -- The four statements. (SELinux policy language)
 pub data SpellsStatement : Statement → Lexemes → Lexemes → Type 0 where
-  type_of : (w : List ℕ) (ms : List Mention) (n k : ℕ) (ls rest : Lexemes) → excluded true w ≡ false → SpellsNames true false ms ls rest
+  type_of : (w : List ℕ) (ms : List Mention) (n k : ℕ) (ls rest : Lexemes) → excluded true w ≡ false
+      → SpellsNames true false ms ls rest
       → SpellsStatement (DeclareType w ms) ((TypeWord, n) ∷ (Name w, k) ∷ ls) rest
-  attribute_of : (w : List ℕ) (n k j : ℕ) (rest : Lexemes) → SpellsStatement (DeclareAttribute w) ((AttributeWord, n) ∷ (Name w, k) ∷ (Semicolon, j) ∷ rest) rest
+  attribute_of : (w : List ℕ) (n k j : ℕ) (rest : Lexemes)
+      → SpellsStatement (DeclareAttribute w) ((AttributeWord, n) ∷ (Name w, k) ∷ (Semicolon, j) ∷ rest) rest
   attributes_of : (m : Mention) (ms : List Mention) (n : ℕ) (ls rest : Lexemes) → SpellsNames false true ms ls rest
       → SpellsStatement (GiveAttributes m ms) ((TypeattributeWord, n) ∷ (Name m.name, m.line) ∷ ls) rest
-  allow_of : (a : Allowance) (n k j : ℕ) (source target classes perms rest : Lexemes) → SpellsSet false a.source source target → SpellsSet true a.target target ((Colon, k) ∷ classes)
-      → SpellsList a.classes classes perms → SpellsPerms (is_grant_alone a.classes) a.perms perms ((Semicolon, j) ∷ rest) → SpellsStatement (Allow a) ((AllowWord, n) ∷ source) rest
+  allow_of : (a : Allowance) (n k j : ℕ) (source target classes perms rest : Lexemes)
+      → SpellsSet false a.source source target → SpellsSet true a.target target ((Colon, k) ∷ classes)
+      → SpellsList a.classes classes perms
+      → SpellsPerms (is_grant_alone a.classes) a.perms perms ((Semicolon, j) ∷ rest)
+      → SpellsStatement (Allow a) ((AllowWord, n) ∷ source) rest
 
 -- statement* up to the end of the text (SELinux policy language)
 pub data SpellsText : List Statement → Lexemes → Type 0 where
   text_end : (n : ℕ) (ls : Lexemes) → SpellsText [] ((End, n) ∷ ls)
-  statement_of : (s : Statement) (ss : List Statement) (ls rest : Lexemes) → SpellsStatement s ls rest → SpellsText ss rest → SpellsText (s ∷ ss) ls
+  statement_of : (s : Statement) (ss : List Statement) (ls rest : Lexemes) → SpellsStatement s ls rest
+      → SpellsText ss rest → SpellsText (s ∷ ss) ls
 
 -- the types that the statements declare, in their order (own)
 abbrev pub types_in : List Statement → List (List ℕ)

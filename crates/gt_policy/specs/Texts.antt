@@ -2,7 +2,8 @@
 use Rattle.std.specs.Prelude.{ℕ, List, ◌++◌, codes, string_bytes}
 use Rattle.std.specs.Fmt.{decimal}
 use Rattle.gt_policy.specs.declared.parse.PolicyFaultKind.{PolicyFaultKind}
-use Rattle.gt_policy.specs.declared.parse.PolicyFaultKind.TheVariants.{Syntax, Unknown, Twice, Permission, Outside, Limit, Memory}
+use Rattle.gt_policy.specs.declared.parse.PolicyFaultKind.TheVariants.{Syntax, Unknown, Twice, Permission, Outside}
+use Rattle.gt_policy.specs.declared.parse.PolicyFaultKind.TheVariants.{Limit, Memory}
 
 -- the text of a kind of fault: its word, and the name or mark that is at fault (own)
 abbrev pub kind_text : PolicyFaultKind → List ℕ

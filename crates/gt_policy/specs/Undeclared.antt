@@ -8,11 +8,13 @@ use Rattle.gt_policy.specs.declared.statements.Mention.{Mention}
 use Rattle.gt_policy.specs.declared.statements.SetElement.{SetElement}
 use Rattle.gt_policy.specs.declared.statements.SetElement.TheVariants.{With, Without, Itself}
 use Rattle.gt_policy.specs.declared.statements.Statement.{Statement}
-use Rattle.gt_policy.specs.declared.statements.Statement.TheVariants.{DeclareType, DeclareAttribute, GiveAttributes, Allow}
+use Rattle.gt_policy.specs.declared.statements.Statement.TheVariants.{DeclareType, DeclareAttribute, GiveAttributes}
+use Rattle.gt_policy.specs.declared.statements.Statement.TheVariants.{Allow}
 use Rattle.gt_policy.specs.Grammar.{at}
 use Rattle.gt_policy.specs.Spelling.{types_in, attributes_in}
 
--- What a name has to be declared as where it stands: as either in a set, as a type in front of the attributes of `typeattribute`, as an attribute in a list of attributes. (SELinux policy language)
+-- What a name has to be declared as where it stands: as either in a set, as a type in front of the attributes
+-- of `typeattribute`, as an attribute in a list of attributes. (SELinux policy language)
 pub data Role : Type 0 where
   InSet : Role
   OfType : Role
@@ -34,7 +36,8 @@ set_uses (With m ∷ items) = (InSet, m) ∷ set_uses items
 set_uses (Without m ∷ items) = (InSet, m) ∷ set_uses items
 set_uses (Itself ∷ items) = set_uses items
 
--- The names that a statement uses, in the order of the text. The name that it declares is none of them, nor is a class or a permission. (own)
+-- The names that a statement uses, in the order of the text. The name that it
+-- declares is none of them, nor is a class or a permission. (own)
 abbrev pub statement_uses : Statement → List Use
 statement_uses (DeclareType w ms) = all_used OfAttribute ms
 statement_uses (DeclareAttribute w) = []
@@ -64,7 +67,8 @@ is_met ss (OfAttribute, m) = is_attribute ss m.name
 abbrev pub AreDeclared : List Statement → Type 0
 AreDeclared ss = list_all (is_met ss) (uses_of ss) ≡ true
 
--- Of these names the first that the statements do not declare so is named by the fault, with its line: all before it are declared. (own)
+-- Of these names the first that the statements do not declare so is named by
+-- the fault, with its line: all before it are declared. (own)
 pub record IsFirstUndeclared (ss : List Statement) (uses : List Use) (f : TokenFault) : Type 0 where
   pub before : List Use
   pub here : Use

@@ -1,14 +1,18 @@
 -- The command line, and what its words ask for.
-use Rattle.std.specs.Prelude.{◌≡◌, ◌==◌, ◌&&◌, Bool, true, false, not, ℕ, List, [], ◌∷◌, Option, Some, None, Result, MatchResult, codes, option_map, if◌then◌else◌, is_some, slice_get}
+use Rattle.std.specs.Prelude.{◌≡◌, ◌==◌, ◌&&◌, Bool, true, false, not, ℕ, List, [], ◌∷◌, Option, Some, None, Result}
+use Rattle.std.specs.Prelude.{MatchResult, codes, option_map, if◌then◌else◌, is_some, slice_get}
 use Rattle.std.specs.Str.{bytes_eq, chars}
 use Rattle.std.specs.Option.{option_map_or}
 use Rattle.clap.specs.Lexer.{long_of, short_of}
 use Rattle.clap.specs.Kinds.{HasKind, Kinds}
-use Rattle.clap.specs.Words.{App, Row, Rule, Text, new_app, new_rule, with_rule, with_subcommand, first_of, rows_of, found_of}
+use Rattle.clap.specs.Words.{App, Row, Rule, Text, new_app, new_rule, with_rule, with_subcommand, first_of, rows_of}
+use Rattle.clap.specs.Words.{found_of}
 use Rattle.clap.specs.declared.builder.action.ArgAction.TheVariants.{SetTrue}
 use Rattle.clap.specs.Simple.{on_top}
 use Rattle.clap.specs.declared.error.Error.{Error}
-use Rattle.clap.specs.declared.error.kind.ErrorKind.TheVariants.{ArgumentConflict, DisplayHelp, DisplayVersion, InvalidSubcommand, MissingSubcommand, TooManyValues, UnknownArgument}
+use Rattle.clap.specs.declared.error.kind.ErrorKind.TheVariants.{ArgumentConflict, DisplayHelp, DisplayVersion}
+use Rattle.clap.specs.declared.error.kind.ErrorKind.TheVariants.{InvalidSubcommand, MissingSubcommand, TooManyValues}
+use Rattle.clap.specs.declared.error.kind.ErrorKind.TheVariants.{UnknownArgument}
 use Rattle.clap.specs.declared.parser.matches.ArgMatches.{ArgMatches}
 use Rattle.gt_program.specs.declared.plan.Invocation.{Invocation}
 use Rattle.gt_program.specs.declared.plan.Mode.{Mode}
@@ -51,11 +55,13 @@ bare_app = on_top (λ s. record s { has_version = true; subcommand_required = tr
 
 -- gthost COMMAND, of the two commands that run a script (own)
 abbrev pub runners_app : App
-runners_app = with_subcommand (with_subcommand bare_app (audited_app (codes "play")).top) (audited_app (codes "run")).top
+runners_app =
+    with_subcommand (with_subcommand bare_app (audited_app (codes "play")).top) (audited_app (codes "run")).top
 
 -- gthost COMMAND, of four commands; there is no command `help` (own)
 abbrev pub gthost_app : App
-gthost_app = with_subcommand (with_subcommand runners_app (command_app (codes "policy")).top) (command_app (codes "rules")).top
+gthost_app =
+    with_subcommand (with_subcommand runners_app (command_app (codes "policy")).top) (command_app (codes "rules")).top
 
 -- the flag is set by these rows (own)
 abbrev pub is_set : Text → List Row → Bool
@@ -76,7 +82,8 @@ IsPlanOf p (Some (name, rows)) = (name ≡ command_name p.mode) × Reads p rows
 
 -- what a word is
 
--- the mark `--`, behind which no word is a flag; a flag that asks for help, or for the version; `--audit`; another flag; or a plain word (own)
+-- the mark `--`, behind which no word is a flag; a flag that asks for help, or for
+-- the version; `--audit`; another flag; or a plain word (own)
 pub data Word : Type 0 where
   mark : Word
   help : Word
@@ -109,7 +116,8 @@ word_of word = if bytes_eq word (codes "--") then mark else word_with (long_of w
 
 -- what the words ask for
 
--- to do this, audited or not, with the text in the FILE, or on standard input; help; the version; or nothing that the program does (own)
+-- to do this, audited or not, with the text in the FILE, or on standard input;
+-- help; the version; or nothing that the program does (own)
 pub data Request : Type 0 where
   to_do : Mode → Bool → Option Text → Request
   for_help : Request
@@ -126,7 +134,8 @@ asked_behind_mark mode audited (Some file) (word ∷ rest) = nothing
 abbrev pub asked_by_audit : Mode → Bool → Request → Request
 asked_by_audit mode audited later = if takes_audit mode && not audited then later else nothing
 
--- what a word behind a command asks for: `filed` is what the words behind it ask for where it is the FILE, and `noted` where it is `--audit` (own)
+-- what a word behind a command asks for: `filed` is what the words behind it ask for
+-- where it is the FILE, and `noted` where it is `--audit` (own)
 abbrev pub asked_by : Mode → Word → Bool → Option Text → List Text → Request → Request → Request
 asked_by mode mark audited file rest filed noted = asked_behind_mark mode audited file rest
 asked_by mode help audited file rest filed noted = for_help
@@ -148,7 +157,8 @@ asked_of_none help = for_help
 asked_of_none version = for_version
 asked_of_none _ = nothing
 
--- the words behind the program's name: a command and what is behind it, or a flag that asks for help or for the version (own)
+-- the words behind the program's name: a command and what is behind it, or
+-- a flag that asks for help or for the version (own)
 abbrev pub asked : List Text → Request
 asked [] = nothing
 asked (word ∷ rest) = if bytes_eq (codes "play") word then asked_of Play false None rest

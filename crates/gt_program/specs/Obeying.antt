@@ -64,7 +64,8 @@ IsUnopened old new (Err failures.Memory) = ⊥
 abbrev pub Runs : Work → List ℕ → Option (List ℕ) → Option (List ℕ) → Result (Unit {0}) Failure → Type 0
 Runs work input old new r = Performs work input old new r ⊎ IsUnopened old new r
 
--- what `run` wrote that ended so, where these are the bytes of its text; nothing where memory was refused before it read them (own)
+-- what `run` wrote that ended so, where these are the bytes of its text;
+-- nothing where memory was refused before it read them (own)
 abbrev pub PerformsRun : List ℕ → Option (List ℕ) → Option (List ℕ) → Result (Unit {0}) Failure → Type 0
 PerformsRun input old new (Ok done) = Ran (RunTells input) old new (Ok done)
 PerformsRun input old new (Err (failures.Run fault)) = Ran (RunTells input) old new (Err fault)
@@ -83,7 +84,8 @@ abbrev pub known_text : (List ℕ → Option (List ℕ)) → Option (List ℕ) �
 known_text file input None = input
 known_text file input (Some name) = file name
 
--- a command line that is not obeyed: the exit status is 1 for want of memory, 0 or 1 for help and the version, as they were written or not, and else 2; nothing is written but help and the version (own)
+-- a command line that is not obeyed: the exit status is 1 for want of memory, 0 or 1 for help and the version,
+-- as they were written or not, and else 2; nothing is written but help and the version (own)
 pub record FitsKind (kind : ErrorKind) (old new : Option (List ℕ)) (status : ℕ) : Type 0 where
   pub memory : kind ≡ OutOfMemory → status ≡ 1
   pub help : kind ≡ DisplayHelp → status ≤ 1
@@ -91,23 +93,34 @@ pub record FitsKind (kind : ErrorKind) (old new : Option (List ℕ)) (status : �
   pub wrong : (kind ≡ OutOfMemory → ⊥) → (kind ≡ DisplayHelp → ⊥) → (kind ≡ DisplayVersion → ⊥) → status ≡ 2
   pub silent : (kind ≡ DisplayHelp → ⊥) → (kind ≡ DisplayVersion → ⊥) → Keeps old new
 
--- the exit status fits what the work did on the text that is named, where its bytes are known; for want of memory it is 1, and nothing was written (own)
+-- the exit status fits what the work did on the text that is named, where its bytes are
+-- known; for want of memory it is 1, and nothing was written (own)
 abbrev pub Works : Work → Option (List ℕ) → Option (List ℕ) → Option (List ℕ) → ℕ → Type 0
 Works work known old new status =
-    IfSome known (λ bytes. (r : Result (Unit {0}) Failure) × (status ≡ status_of r) × (Runs work bytes old new r ⊎ ((r ≡ Err failures.Memory) × Keeps old new)))
+    IfSome known
+    (λ bytes. (r : Result (Unit {0}) Failure) × (status ≡ status_of r)
+    × (Runs work bytes old new r ⊎ ((r ≡ Err failures.Memory) × Keeps old new)))
 
--- the exit status fits what the run of the text's domains wrote, where its bytes are known; for want of memory it is 1, and nothing was written (own)
+-- the exit status fits what the run of the text's domains wrote, where its bytes are
+-- known; for want of memory it is 1, and nothing was written (own)
 abbrev pub WorksRun : Option (List ℕ) → Option (List ℕ) → Option (List ℕ) → ℕ → Type 0
 WorksRun known old new status =
-    IfSome known (λ bytes. (r : Result (Unit {0}) Failure) × (status ≡ status_of r) × (RunsDomains bytes old new r ⊎ ((r ≡ Err failures.Memory) × Keeps old new)))
+    IfSome known
+    (λ bytes. (r : Result (Unit {0}) Failure) × (status ≡ status_of r)
+    × (RunsDomains bytes old new r ⊎ ((r ≡ Err failures.Memory) × Keeps old new)))
 
--- The exit status fits what was asked for, and what was written does: work that was done, the domains of a script that were run, the rules, where the status is 2
--- for the name of none, help, the version, or nothing for words that ask for nothing, whose status is 2 and for which nothing is written. Want of memory is
+-- The exit status fits what was asked for, and what was written does: work that was done,
+-- the domains of a script that were run, the rules, where the status is 2
+-- for the name of none, help, the version, or nothing for words that ask for nothing,
+-- whose status is 2 and for which nothing is written. Want of memory is
 -- 1 for all of them. (own)
-abbrev pub Obeys : Request → (List ℕ → Option (List ℕ)) → Option (List ℕ) → Option (List ℕ) → Option (List ℕ) → ℕ → Type 0
-Obeys (to_do modes.Play audited name) file input old new status = Works (Play audited) (known_text file input name) old new status
+abbrev pub Obeys : Request → (List ℕ → Option (List ℕ)) → Option (List ℕ) → Option (List ℕ) → Option (List ℕ) → ℕ
+    → Type 0
+Obeys (to_do modes.Play audited name) file input old new status =
+    Works (Play audited) (known_text file input name) old new status
 Obeys (to_do modes.Run audited name) file input old new status = WorksRun (known_text file input name) old new status
-Obeys (to_do modes.Policy audited name) file input old new status = Works ListPolicy (known_text file input name) old new status
+Obeys (to_do modes.Policy audited name) file input old new status =
+    Works ListPolicy (known_text file input name) old new status
 Obeys (to_do modes.Rules audited name) file input old new status = status ≤ 2
 Obeys for_help file input old new status = status ≤ 1
 Obeys for_version file input old new status = status ≤ 1

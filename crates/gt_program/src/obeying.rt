@@ -4,7 +4,8 @@ ghost use Rattle.std.specs.Option.{option_map};
 ghost use Rattle.clap.specs.Words.{kind_of};
 ghost use Rattle.gt_streams.specs.Streams.{OfInput};
 ghost use Rattle.gt_program.specs.CommandLine.{asked, asked_by_plan};
-ghost use Rattle.gt_program.specs.Obeying.{status_of, known_text, FitsKind, Obeys, Performs, PerformsRun, Runs, RunsDomains};
+ghost use Rattle.gt_program.specs.Obeying.{status_of, known_text, FitsKind, Obeys, Performs, PerformsRun, Runs};
+ghost use Rattle.gt_program.specs.Obeying.{RunsDomains};
 
 use crate::failure::{Failure, exit_status};
 use crate::plan::{Invocation, Mode, plan};

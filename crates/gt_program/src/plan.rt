@@ -2,7 +2,8 @@
 ghost use Rattle.std.specs.Prelude.{◌≡◌, IfOk, false, map, drop, string_bytes, codes};
 ghost use Rattle.clap.specs.Words.{subcommand_of, app_of, rows_of, rule_of, found_of};
 ghost use Rattle.clap.specs.declared.builder.command.Command.TheViews.{out-Command as fields_of};
-ghost use Rattle.gt_program.specs.CommandLine.{audit_rule, audited_app, bare_app, command_app, runners_app, gthost_app, asked, is_set, IsAnswerTo, IsPlanOf, IsRead};
+ghost use Rattle.gt_program.specs.CommandLine.{audit_rule, audited_app, bare_app, command_app, runners_app, gthost_app};
+ghost use Rattle.gt_program.specs.CommandLine.{asked, is_set, IsAnswerTo, IsPlanOf, IsRead};
 
 use clap::{Arg, ArgAction, ArgMatches, Command, Error};
 use std::alloc::{AllocError, Global};

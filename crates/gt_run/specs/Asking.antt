@@ -17,7 +17,8 @@ use Rattle.gt_core.specs.declared.trace.Answer.TheVariants as answers
 use Rattle.gt_live.specs.declared.domain.Domain.{Domain}
 use Rattle.gt_live.specs.declared.monitor.Monitor.{Monitor}
 use Rattle.gt_live.specs.Accesses.{IsCopiedBy, IsReadBy, IsWrittenBy}
-use Rattle.gt_live.specs.Domains.{Accesses, Answered, KeepsPinned, MapAnswered, AllowRelation, mapping_reply, subject_of}
+use Rattle.gt_live.specs.Domains.{Accesses, Answered, KeepsPinned, MapAnswered, AllowRelation, mapping_reply}
+use Rattle.gt_live.specs.Domains.{subject_of}
 use Rattle.gt_live.specs.Domains.{told_copy, told_of, verdict_of, verdict_of_frames, verdict_of_size}
 use Rattle.gt_live.specs.Domains.{verdict_of_version}
 use Rattle.gt_live.specs.Mappings.{Removes}
@@ -63,13 +64,15 @@ IsReadAnswer (Ok r) answer = HasBytes r.bytes answer
 IsReadAnswer (Err denial) answer = answer ≡ answers.Denied denial
 
 -- A call that is not recorded was answered so: the domain has the mappings, pins and records that it had. (own)
-abbrev pub AnswersQuietly : {P : Type 0} → (P → AllowRelation) → Monitor P → Domain → Request → Verdict → Domain → Type 0
+abbrev pub AnswersQuietly : {P : Type 0} → (P → AllowRelation) → Monitor P → Domain → Request → Verdict → Domain
+    → Type 0
 AnswersQuietly may m d request verdict e =
     Answered may m d request verdict e × KeepsPinned d e × (e.trail ≡ d.trail)
 
 -- a call that is recorded was answered so: the domain has the mappings and pins that it had, and this call is the one
 -- record more, which is kept or counted as lost (own)
-abbrev pub AnswersTold : {P : Type 0} → (P → AllowRelation) → Monitor P → Domain → Request → Hypercall → Verdict → Domain
+abbrev pub AnswersTold : {P : Type 0} → (P → AllowRelation) → Monitor P → Domain → Request → Hypercall → Verdict
+    → Domain
     → Type 0
 AnswersTold may m d request call verdict e =
     Answered may m d request verdict e × KeepsPinned d e × Tells d.trail (told_of d call verdict) e.trail

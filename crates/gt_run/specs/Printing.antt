@@ -1,5 +1,6 @@
 -- What the lists of a run print.
-use Rattle.std.specs.Prelude.{◌≡◌, ◌⊎◌, ◌++◌, ◌==◌, ℕ, Bool, true, false, List, [], ◌∷◌, take, map, codes, Option, Some, IfOk, slice_get}
+use Rattle.std.specs.Prelude.{◌≡◌, ◌⊎◌, ◌++◌, ◌==◌, ℕ, Bool, true, false, List, [], ◌∷◌, take, map, codes, Option, Some}
+use Rattle.std.specs.Prelude.{IfOk, slice_get}
 use Rattle.std.specs.List.{flat_map}
 use Rattle.std.specs.Io.KnownBytes.{Appends}
 use Rattle.std.specs.declared.thread.PromisedHandle.{PromisedHandle}
@@ -75,7 +76,8 @@ IsAudit names text = (records : List Record) × (text ≡ flat_map (line_text (t
 
 -- what comes of a domain's part of a run (own)
 abbrev pub CameOf : Part → Output → Type 0
-CameOf p o = Printed o.whole p.types.now p.dom p.tasks.now o.text.items × IfOk o.audit (λ audit. IsAudit p.types.now audit.items)
+CameOf p o =
+    Printed o.whole p.types.now p.dom p.tasks.now o.text.items × IfOk o.audit (λ audit. IsAudit p.types.now audit.items)
 
 -- what the domains print, in their order (own)
 abbrev pub PrintsParts : List Part → List ℕ → Type 0
@@ -92,7 +94,8 @@ WritesParts parts old new = (text : List ℕ) × PrintsParts parts text × Appen
 -- the lines of all domains went out, and behind them their audit lines and how many records were lost (own)
 abbrev pub WritesAll : List Part → Option (List ℕ) → Option (List ℕ) → Type 0
 WritesAll parts old new =
-    (text : List ℕ) × (audit : List ℕ) × (lost : ℕ) × PrintsParts parts text × AuditsParts parts audit × Appends old new (text ++ (audit ++ lost_text lost))
+    (text : List ℕ) × (audit : List ℕ) × (lost : ℕ) × PrintsParts parts text × AuditsParts parts audit
+    × Appends old new (text ++ (audit ++ lost_text lost))
 
 -- the parts that were promised (own)
 abbrev pub promised : List (PromisedHandle Output Part) → List Part

@@ -20,12 +20,15 @@ use Rattle.gt_run.specs.Printing.{AuditsParts, PrintsParts, WritesAll}
 abbrev pub BeginsParts : List Part → Option (List ℕ) → Option (List ℕ) → Type 0
 BeginsParts parts old new = (text : List ℕ) × PrintsParts parts text × AppendsBeginning old new text
 
--- a beginning of a whole text that these parts may write went out: of their lines, their audit lines, and how many records were lost (own)
+-- a beginning of a whole text that these parts may write went out: of their
+-- lines, their audit lines, and how many records were lost (own)
 abbrev pub BeginsAll : List Part → Option (List ℕ) → Option (List ℕ) → Type 0
 BeginsAll parts old new =
-    (text : List ℕ) × (audit : List ℕ) × (lost : ℕ) × PrintsParts parts text × AuditsParts parts audit × AppendsBeginning old new (text ++ (audit ++ lost_text lost))
+    (text : List ℕ) × (audit : List ℕ) × (lost : ℕ) × PrintsParts parts text × AuditsParts parts audit
+    × AppendsBeginning old new (text ++ (audit ++ lost_text lost))
 
--- What parts wrote whose run ended so: at Ok their whole text; where a thread was refused nothing; after a failed write or for want of memory a beginning of a whole text.
+-- What parts wrote whose run ended so: at Ok their whole text; where a thread was refused
+-- nothing; after a failed write or for want of memory a beginning of a whole text.
 -- No other fault is one of parts. (own)
 abbrev pub Wrote : List Part → Option (List ℕ) → Option (List ℕ) → Result (Unit {0}) RunFault → Type 0
 Wrote parts old new (Ok done) = WritesAll parts old new
@@ -70,13 +73,17 @@ WroteScript c old new (Err (Play (Policy fault))) = ⊥
 abbrev pub OfScript : (Result RunContents Wrong → Type 0) → (RunContents → Type 0) → Type 0
 OfScript Told P = (c : RunContents) × Told (Ok c) × P c
 
--- what `run` wrote, where it answers so for bytes of which this is told: at Ok the text of the script, whole; at a fault of the script nothing, and the fault is
--- the script's first; nothing where a thread was refused; after a failed write a beginning of a text of the script, and so for want of memory, unless nothing (own)
-abbrev pub Ran : (Result RunContents Wrong → Type 0) → Option (List ℕ) → Option (List ℕ) → Result (Unit {0}) RunFault → Type 0
+-- what `run` wrote, where it answers so for bytes of which this is told: at Ok the text of
+-- the script, whole; at a fault of the script nothing, and the fault is
+-- the script's first; nothing where a thread was refused; after a failed write a beginning of
+-- a text of the script, and so for want of memory, unless nothing (own)
+abbrev pub Ran : (Result RunContents Wrong → Type 0) → Option (List ℕ) → Option (List ℕ) → Result (Unit {0}) RunFault
+    → Type 0
 Ran Told old new (Ok done) = OfScript Told (λ c. WritesScript c old new)
 Ran Told old new (Err Thread) = OfScript Told (λ c. Keeps old new)
 Ran Told old new (Err (Play (Script fault))) = Told (Err (in_script fault)) × Keeps old new
-Ran Told old new (Err (Play (Policy fault))) = (g : policy.TokenFault) × (block_fault_shown fault ≡ Some g) × Told (Err (in_policy g)) × Keeps old new
+Ran Told old new (Err (Play (Policy fault))) =
+    (g : policy.TokenFault) × (block_fault_shown fault ≡ Some g) × Told (Err (in_policy g)) × Keeps old new
 Ran Told old new (Err (Play Memory)) = Keeps old new ⊎ OfScript Told (λ c. BeginsScript c old new)
 Ran Told old new (Err (Play Write)) = OfScript Told (λ c. BeginsScript c old new)
 Ran Told old new (Err (Play Read)) = Keeps old new

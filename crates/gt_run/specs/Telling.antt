@@ -4,7 +4,8 @@ use Rattle.gt_audit.specs.Telling.{TellsUnder}
 use Rattle.gt_audit.specs.declared.record.Record.{Record}
 use Rattle.gt_run.specs.declared.telling.Teller.{Teller}
 
--- the record that the trail has beyond those told, if it has one, is told under its place there, and then all of the trail's are told, so many (own)
+-- the record that the trail has beyond those told, if it has one, is told under its
+-- place there, and then all of the trail's are told, so many (own)
 abbrev pub TellsNext : Option Record → ℕ → Teller → Teller → Type 0
 TellsNext None count old new = new ≡ old
 TellsNext (Some r) count old new = TellsUnder old.told old.next r new.told × (new.next ≡ count)

@@ -1,6 +1,7 @@
 //! A domain beside the monitor that it came with, so that it can move into a thread.
 ghost use Rattle.std.specs.Prelude.{◌≡◌};
-ghost use Rattle.gt_run.specs.Asking.{IsReadAnswer, frames_answer, mapped_answer, plain_answer, size_answer, version_answer};
+ghost use Rattle.gt_run.specs.Asking.{IsReadAnswer, frames_answer, mapped_answer, plain_answer, size_answer};
+ghost use Rattle.gt_run.specs.Asking.{version_answer};
 
 use gt_audit::Trail;
 use gt_core::{Answer, Bytes, Handle, Request};

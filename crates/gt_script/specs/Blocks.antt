@@ -1,5 +1,6 @@
 -- The policy block of a script (own).
-use Rattle.std.specs.Prelude.{◌≡◌, ◌+◌, ℕ, suc, Bool, false, List, [], ◌∷◌, ◌++◌, length, Option, Some, None, Result, Ok, Err, codes, flat_map, if◌then◌else◌, ◌==◌}
+use Rattle.std.specs.Prelude.{◌≡◌, ◌+◌, ℕ, suc, Bool, false, List, [], ◌∷◌, ◌++◌, length, Option, Some, None, Result}
+use Rattle.std.specs.Prelude.{Ok, Err, codes, flat_map, if◌then◌else◌, ◌==◌}
 use Rattle.std.specs.Option.{option_map}
 use Rattle.std.specs.Str.{bytes_eq}
 use Rattle.gt_policy.specs.Allowing.{Meaning, KeptPolicy, Allowed, allowed_of, allowed_by}
@@ -57,4 +58,5 @@ abbrev pub IsPolicyOf : ℕ → List (List ℕ) → Result KeptPolicy ScriptErro
 IsPolicyOf before lines (Ok p) = Means lines (allowed_of p)
 IsPolicyOf before lines (Err errors.Memory) = Unit {0}
 IsPolicyOf before lines (Err (errors.Fault f)) = ⊥
-IsPolicyOf before lines (Err (errors.Policy e)) = (g : policy.TokenFault) × (block_fault_shown e ≡ Some g) × IsFaulty before lines g
+IsPolicyOf before lines (Err (errors.Policy e)) =
+    (g : policy.TokenFault) × (block_fault_shown e ≡ Some g) × IsFaulty before lines g

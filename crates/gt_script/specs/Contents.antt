@@ -8,7 +8,9 @@ use Rattle.gt_script.specs.declared.command.Command.{Command}
 use Rattle.gt_script.specs.declared.orders.Order.{Order}
 use Rattle.gt_script.specs.declared.script.ScriptStep.{ScriptStep}
 
--- the command that it is for; what the policy of its block tells, where it has one; else the names of its types, by their numbers, and its triples; its domains; the lines of its body, which are steps for `play` and orders for `run`; all in the order of their lines; and the number of its line `wear`, where it has one (own)
+-- the command that it is for; what the policy of its block tells, where it has one; else the names of its types, by
+-- their numbers, and its triples; its domains; the lines of its body, which are steps for `play` and orders for `run`;
+-- all in the order of their lines; and the number of its line `wear`, where it has one (own)
 pub record Contents : Type 0 where
   pub command : Command
   pub policy : Option Allowed
@@ -32,11 +34,30 @@ pub record KeptContents : Type 0 where
 
 -- what a script holds that is kept so (own)
 abbrev pub told : KeptContents → Contents
-told k = record { command = k.command; policy = option_map allowed_of k.policy; types = k.types; triples = k.triples; wear = k.wear; domains = k.domains; steps = k.steps; orders = k.orders }
+told k = record {
+  command = k.command;
+  policy = option_map allowed_of k.policy;
+  types = k.types;
+  triples = k.triples;
+  wear = k.wear;
+  domains = k.domains;
+  steps = k.steps;
+  orders = k.orders;
+}
 
 -- a script of no line, for this command (own)
 abbrev pub empty : Command → Contents
-empty command = record { command = command; policy = None; types = []; triples = []; wear = None; domains = []; steps = []; orders = [] }
+empty command =
+    record {
+      command = command;
+      policy = None;
+      types = [];
+      triples = [];
+      wear = None;
+      domains = [];
+      steps = [];
+      orders = [];
+    }
 
 -- a script of a policy block alone (own)
 abbrev pub with_policy : Command → Allowed → Contents

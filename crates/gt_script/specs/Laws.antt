@@ -1,5 +1,6 @@
 -- What the parts of a script are, said without the order of reading (own).
-use Rattle.std.specs.Prelude.{◌≡◌, ◌≢◌, ◌≤◌, ◌<◌, ◌+◌, ◌^◌, ◌⊎◌, ℕ, Bool, true, List, [], ◌∷◌, ◌++◌, length, take, Option, Some, None, Ok, Err, IsSome, IsTrue, All, AllPairs, slice_get, codes}
+use Rattle.std.specs.Prelude.{◌≡◌, ◌≢◌, ◌≤◌, ◌<◌, ◌+◌, ◌^◌, ◌⊎◌, ℕ, Bool, true, List, [], ◌∷◌, ◌++◌, length, take}
+use Rattle.std.specs.Prelude.{Option, Some, None, Ok, Err, IsSome, IsTrue, All, AllPairs, slice_get, codes}
 use Rattle.std.specs.Option.{option_map, option_to_list, is_some}
 use Rattle.std.specs.List.{filter_map, enumerate_from}
 use Rattle.std.specs.Str.{IsUtf8}
@@ -109,7 +110,8 @@ is_for command (line.Body number asks) = asks_for command asks
 abbrev pub IsLine : List ℕ → Type 0
 IsLine line = (words line ≡ []) ⊎ IsSome (line_of (words line))
 
--- what the lines from number n on say of a script: each part holds what they say of it, in their order; so at most one of them is a line `wear` (own)
+-- what the lines from number n on say of a script: each part holds what they say of
+-- it, in their order; so at most one of them is a line `wear` (own)
 pub record SayParts (n : ℕ) (lines : List (List ℕ)) (c : Contents) : Type 0 where
   pub readable : All IsLine lines
   pub triples : c.triples ≡ filter_map (λ l. triple_in c.types l.1) (said n lines)
@@ -124,7 +126,8 @@ pub record SayParts (n : ℕ) (lines : List (List ℕ)) (c : Contents) : Type 0 
   pub ordered : All (λ o. IsTrue (is_taken c.domains o.dom)) c.orders
   pub some_domain : 1 ≤ length c.domains
 
--- the lines are those of this script for the command, which says by triples what is allowed: any name is a type, and each has one number (own)
+-- the lines are those of this script for the command, which says by triples what
+-- is allowed: any name is a type, and each has one number (own)
 pub record IsTripleScript (command : Command) (lines : List (List ℕ)) (c : Contents) : Type 0 where
   pub for_command : c.command ≡ command
   pub parts : SayParts 1 lines c
@@ -133,7 +136,8 @@ pub record IsTripleScript (command : Command) (lines : List (List ℕ)) (c : Con
   pub few_types : length c.types ≤ 256
   pub some_triple : 1 ≤ length c.triples
 
--- the lines have a policy block: in front of it stand lines without words and a line `policy`, then the lines of the block, of which none says just `end`, then a line `end` and the others (own)
+-- the lines have a policy block: in front of it stand lines without words and a line `policy`, then the
+-- lines of the block, of which none says just `end`, then a line `end` and the others (own)
 pub record HasBlock (lines block rest : List (List ℕ)) : Type 0 where
   pub front : List (List ℕ)
   pub opener : List ℕ
@@ -148,7 +152,8 @@ pub record HasBlock (lines block rest : List (List ℕ)) : Type 0 where
 abbrev pub lines_before : {lines block rest : List (List ℕ)} → HasBlock lines block rest → ℕ
 lines_before b = length b.front + 1
 
--- the lines are those of this script for the command, whose policy is that of its block; the lines behind the block say the rest, and no triple is one of them (own)
+-- the lines are those of this script for the command, whose policy is that of its block; the
+-- lines behind the block say the rest, and no triple is one of them (own)
 pub record IsPolicyScript (command : Command) (lines : List (List ℕ)) (c : Contents) : Type 0 where
   pub for_command : c.command ≡ command
   pub block : List (List ℕ)
@@ -168,7 +173,8 @@ IsScriptFor command lines c = IsTripleScript command lines c ⊎ IsPolicyScript 
 abbrev pub IsScriptOf : List (List ℕ) → Contents → Type 0
 IsScriptOf lines c = IsScriptFor Play lines c
 
--- the fault is that of the line at this place, counted from 0, of lines from number n on that are added to a script, and the lines before it have none (own)
+-- the fault is that of the line at this place, counted from 0, of lines from number n on
+-- that are added to a script, and the lines before it have none (own)
 pub record IsFaultOfLine (n : ℕ) (lines : List (List ℕ)) (c : Contents) (f : ScriptFault) : Type 0 where
   pub place : ℕ
   pub line : List ℕ
@@ -178,12 +184,14 @@ pub record IsFaultOfLine (n : ℕ) (lines : List (List ℕ)) (c : Contents) (f :
   pub earlier : with_lines c n (take place lines) ≡ Ok before
   pub here : with_words before f.line (words line) ≡ Err f.kind
 
--- no line has a fault, and what the script of `count` lines lacks is named behind the last: syntax where nothing is allowed, config where something is allowed and no domain is configured (own)
+-- no line has a fault, and what the script of `count` lines lacks is named behind the last: syntax where
+-- nothing is allowed, config where something is allowed and no domain is configured (own)
 pub record IsFaultOfEnd (count n : ℕ) (lines : List (List ℕ)) (c : Contents) (f : ScriptFault) : Type 0 where
   pub all : Contents
   pub earlier : with_lines c n lines ≡ Ok all
   pub number : f.line ≡ count + 1
-  pub lacks : ((all.policy ≡ None) × (all.triples ≡ []) × (f.kind ≡ Syntax)) ⊎ (((1 ≤ length all.triples) ⊎ IsSome all.policy) × (all.domains ≡ []) × (f.kind ≡ Config))
+  pub lacks : ((all.policy ≡ None) × (all.triples ≡ []) × (f.kind ≡ Syntax))
+      ⊎ (((1 ≤ length all.triples) ⊎ IsSome all.policy) × (all.domains ≡ []) × (f.kind ≡ Config))
 
 -- the first fault of lines from number n on that are added to a script of `count` lines (own)
 abbrev pub IsFirstFault : ℕ → Contents → ℕ → List (List ℕ) → ScriptFault → Type 0
@@ -199,7 +207,8 @@ pub record IsOpen (lines : List (List ℕ)) : Type 0 where
   pub opens : words opener ≡ codes "policy" ∷ []
   pub inside : All (λ l. words l ≢ codes "end" ∷ []) block
 
--- the lines open no block: they are all without words, or the first with words says something else than just `policy` (own)
+-- the lines open no block: they are all without words, or the first with
+-- words says something else than just `policy` (own)
 pub record HasNone (lines : List (List ℕ)) : Type 0 where
   pub front : List (List ℕ)
   pub others : List (List ℕ)
@@ -227,11 +236,13 @@ IsFaultOfLines command lines f =
 abbrev pub IsUnread : List ℕ → ScriptFault → Type 0
 IsUnread bytes f =
     ((LONGEST_TEXT < length bytes) × (f ≡ record { line = 1; kind = Limit }))
-    ⊎ ((length bytes ≤ LONGEST_TEXT) × (¬ IsUtf8 bytes) × (f ≡ record { line = line_after (take (utf8_valid_len bytes) bytes); kind = Utf8 }))
+    ⊎ ((length bytes ≤ LONGEST_TEXT) × (¬ IsUtf8 bytes)
+    × (f ≡ record { line = line_after (take (utf8_valid_len bytes) bytes); kind = Utf8 }))
 
 -- the first fault of the bytes, where it is none of a policy: too many, no text, or the first fault of the lines (own)
 abbrev pub IsFaultOf : Command → List ℕ → ScriptFault → Type 0
-IsFaultOf command bytes f = IsUnread bytes f ⊎ ((length bytes ≤ LONGEST_TEXT) × IsUtf8 bytes × IsFaultOfLines command (lines_in bytes) f)
+IsFaultOf command bytes f =
+    IsUnread bytes f ⊎ ((length bytes ≤ LONGEST_TEXT) × IsUtf8 bytes × IsFaultOfLines command (lines_in bytes) f)
 
 -- the first fault of the bytes is that of their policy block, on its own line of them (own)
 pub record IsFaultOfBlock (bytes : List ℕ) (g : policy.TokenFault) : Type 0 where
@@ -246,7 +257,8 @@ pub record IsFaultOfBlock (bytes : List ℕ) (g : policy.TokenFault) : Type 0 wh
 abbrev pub StandsFor : Command → List ℕ → ScriptError → Type 0
 StandsFor command bytes Memory = Unit {0}
 StandsFor command bytes (errors.Fault f) = IsFaultOf command bytes f
-StandsFor command bytes (errors.Policy e) = (g : policy.TokenFault) × (block_fault_shown e ≡ Some g) × IsFaultOfBlock bytes g
+StandsFor command bytes (errors.Policy e) =
+    (g : policy.TokenFault) × (block_fault_shown e ≡ Some g) × IsFaultOfBlock bytes g
 
 -- memory ran out, or this is the first fault of a script for `play` (own)
 abbrev pub Stands : List ℕ → ScriptError → Type 0

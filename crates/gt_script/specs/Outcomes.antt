@@ -30,7 +30,8 @@ abbrev pub Answers : Result Script ScriptError → (Result Contents Wrong → Ty
 Answers (Ok script) Told = Told (Ok (told script))
 Answers (Err errors.Memory) Told = Unit {0}
 Answers (Err (errors.Fault fault)) Told = Told (Err (in_script fault))
-Answers (Err (errors.Policy fault)) Told = (g : policy.TokenFault) × (block_fault_shown fault ≡ Some g) × Told (Err (in_policy g))
+Answers (Err (errors.Policy fault)) Told =
+    (g : policy.TokenFault) × (block_fault_shown fault ≡ Some g) × Told (Err (in_policy g))
 
 -- an error with the number of its line (own)
 abbrev pub on_line : ℕ → AddError → ScriptError

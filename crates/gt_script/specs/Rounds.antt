@@ -1,5 +1,6 @@
 -- How domains go on in turn, while flags are told (own).
-use Rattle.std.specs.Prelude.{◌≡◌, ◌≤◌, ◌<◌, ℕ, Bool, true, false, not, List, length, take, Option, Some, None, slice_get, slice_set, get_or, All, IsTrue}
+use Rattle.std.specs.Prelude.{◌≡◌, ◌≤◌, ◌<◌, ℕ, Bool, true, false, not, List, length, take, Option, Some, None}
+use Rattle.std.specs.Prelude.{slice_get, slice_set, get_or, All, IsTrue}
 use Rattle.std.specs.List.{sum_by}
 use Rattle.gt_types.specs.declared.DomId.{DomId}
 use Rattle.gt_types.specs.declared.config.DomainConfig.{DomainConfig}
@@ -73,7 +74,8 @@ WaitsFor tasks dom place told = (task : Task) → slice_get tasks place ≡ Some
 
 -- a domain went on as far as told flags let it (own)
 abbrev pub GoesOn : List Task → DomId → List Bool → List Bool → ℕ → Bool → Type 0
-GoesOn tasks dom old new place is_news = (place ≤ length tasks) × WayTo tasks dom old new place is_news × WaitsFor tasks dom place new
+GoesOn tasks dom old new place is_news =
+    (place ≤ length tasks) × WayTo tasks dom old new place is_news × WaitsFor tasks dom place new
 
 -- each domain has come to its place (own)
 abbrev pub HaveCome : List Task → List DomainConfig → List ℕ → List Bool → Type 0
@@ -81,13 +83,15 @@ HaveCome tasks domains places told = (i : ℕ) (d : DomainConfig) → slice_get 
     → (get_or places i 0 ≤ length tasks) × Comes tasks d.id (get_or places i 0) told
 
 -- the first of the domains went on in turn, up to this one (own)
-pub record Turning (tasks : List Task) (domains : List DomainConfig) (places : List ℕ) (old new : List Bool) (upto : ℕ) (is_news : Bool) : Type 0 where
+pub record Turning (tasks : List Task) (domains : List DomainConfig) (places : List ℕ) (old new : List Bool) (upto : ℕ)
+    (is_news : Bool) : Type 0 where
   pub have : HaveCome tasks domains places new
   pub sound : (set : ℕ → Bool) → IsClosed tasks set → Within old set → Within new set
   pub many : length new ≡ length old
   pub quiet : is_news ≡ false → new ≡ old
   pub loud : is_news ≡ true → untold new < untold old
-  pub rest : is_news ≡ false → (i : ℕ) (d : DomainConfig) → i < upto → slice_get domains i ≡ Some d → WaitsFor tasks d.id (get_or places i 0) new
+  pub rest : is_news ≡ false → (i : ℕ) (d : DomainConfig) → i < upto → slice_get domains i ≡ Some d
+      → WaitsFor tasks d.id (get_or places i 0) new
 
 -- the line where a domain waits, where these flags are told; none where it comes to its end (own)
 abbrev pub WaitsIn : List Bool → List Task → DomId → Option ℕ → Type 0

@@ -1,5 +1,6 @@
 -- The script that bytes say, its policy block and then line by line, or their first fault (own).
-use Rattle.std.specs.Prelude.{◌≡◌, ◌⊎◌, ◌<◌, ◌≤◌, ℕ, ◌+◌, ◌==◌, ◌&&◌, ◌||◌, not, Bool, List, [], ◌∷◌, ◌++◌, length, Option, Some, None, Result, Ok, Err, take, drop, is_none, is_some, ◌^◌, if◌then◌else◌}
+use Rattle.std.specs.Prelude.{◌≡◌, ◌⊎◌, ◌<◌, ◌≤◌, ℕ, ◌+◌, ◌==◌, ◌&&◌, ◌||◌, not, Bool, List, [], ◌∷◌, ◌++◌, length}
+use Rattle.std.specs.Prelude.{Option, Some, None, Result, Ok, Err, take, drop, is_none, is_some, ◌^◌, if◌then◌else◌}
 use Rattle.std.specs.Option.{option_map}
 use Rattle.std.specs.Str.{IsUtf8}
 use Rattle.std.specs.Str.Lossy.{utf8_valid_len}
@@ -74,7 +75,11 @@ unfoldable pub with_triple : Contents → TripleLine → Result Contents ScriptF
 with_triple c t = or_config (do
   source ← with_type c.types t.source
   target ← with_type source.0 t.target
-  Some (record c { types = target.0; triples = c.triples ++ record { source = source.1; target = target.1; perm = t.perm } ∷ [] }))
+  Some (record c {
+    types = target.0;
+    triples = c.triples
+        ++ record { source = source.1; target = target.1; perm = t.perm } ∷ [];
+  }))
 
 -- the number of a domain's type, which the policy has to declare; where there is none, any name is a type (own)
 abbrev pub type_in : Option Allowed → List (List ℕ) → List ℕ → Option (List (List ℕ) × TypeId)
@@ -85,7 +90,8 @@ type_in (Some p) types name = option_map (λ id. (types, id)) (type_named p.type
 abbrev pub with_names : Contents → List (List ℕ) × TypeId → Contents × TypeId
 with_names c named = (record c { types = named.0 }, named.1)
 
--- a name has this number as that of a domain's type, and the script takes in the name where it is new; none where the name is no type (own)
+-- a name has this number as that of a domain's type, and the script takes in the
+-- name where it is new; none where the name is no type (own)
 abbrev pub GivesTypeNumber : Contents → Contents → List ℕ → Option TypeId → Type 0
 GivesTypeNumber old new name number =
     option_map (λ id. (new, id)) number ≡ option_map (with_names old) (type_in old.policy old.types name)
@@ -141,7 +147,8 @@ with_asked Run c n dom asks = with_order c n dom asks
 
 -- a script with a line of the body more, of a domain that is configured (own)
 unfoldable pub with_body : Contents → ℕ → Number → BodyLine → Result Contents ScriptFaultKind
-with_body c n number asks = elim (configured c.domains number) [ None ↦ Err Config | Some dom ↦ with_asked c.command c n dom asks ]
+with_body c n number asks =
+    elim (configured c.domains number) [ None ↦ Err Config | Some dom ↦ with_asked c.command c n dom asks ]
 
 -- a script with line n more, which is in its place (own)
 abbrev pub with_placed : Contents → ℕ → Line → Result Contents ScriptFaultKind
@@ -191,10 +198,12 @@ abbrev pub in_result : Result Contents ScriptFault → Result Contents Wrong
 in_result (Ok c) = Ok c
 in_result (Err f) = Err (in_script f)
 
--- the lines behind a line `policy` of this number, of which the one at this place is `end`, say this: the rest of a script of `count` lines for this command with the policy of the block, or its fault (own)
+-- the lines behind a line `policy` of this number, of which the one at this place is `end`, say this: the rest of
+-- a script of `count` lines for this command with the policy of the block, or its fault (own)
 abbrev pub ClosedSays : Command → ℕ → ℕ → List (List ℕ) → ℕ → Result Contents Wrong → Type 0
 ClosedSays command count first lines end said =
-    ((p : Allowed) × Means (take end lines) p × (said ≡ in_result (whole count (with_policy command p) (first + end + 1 + 1) (drop (end + 1) lines))))
+    ((p : Allowed) × Means (take end lines) p
+    × (said ≡ in_result (whole count (with_policy command p) (first + end + 1 + 1) (drop (end + 1) lines))))
     ⊎ ((g : policy.TokenFault) × IsFaulty first (take end lines) g × (said ≡ Err (in_policy g)))
 
 -- the same, where a line `end` may be missing (own)
@@ -205,17 +214,20 @@ BlockSays command count first lines (Some end) said = ClosedSays command count f
 -- the lines say this: they begin with a policy block, or have none (own)
 abbrev pub LinesSay : Command → List (List ℕ) → Option ℕ → Result Contents Wrong → Type 0
 LinesSay command lines None said = said ≡ in_result (whole (length lines) (empty command) 1 lines)
-LinesSay command lines (Some place) said = BlockSays command (length lines) (place + 1) (drop (place + 1) lines) (closing (drop (place + 1) lines)) said
+LinesSay command lines (Some place) said =
+    BlockSays command (length lines) (place + 1) (drop (place + 1) lines) (closing (drop (place + 1) lines)) said
 
 -- the text says this (own)
 abbrev pub TextSays : Command → List ℕ → Result Contents Wrong → Type 0
 TextSays command text said = LinesSay command (lines_in text) (opening (lines_in text)) said
 
--- the bytes say this script for the command, or have this fault, which is their first: they are too many, or no text, or it is that of the text (own)
+-- the bytes say this script for the command, or have this fault, which is their first:
+-- they are too many, or no text, or it is that of the text (own)
 abbrev pub TellsFor : Command → List ℕ → Result Contents Wrong → Type 0
 TellsFor command bytes said =
     ((LONGEST_TEXT < length bytes) × (said ≡ Err (in_script (record { line = 1; kind = Limit }))))
-    ⊎ (((length bytes ≤ LONGEST_TEXT) × (¬ IsUtf8 bytes) × (said ≡ Err (in_script (record { line = line_after (take (utf8_valid_len bytes) bytes); kind = Utf8 }))))
+    ⊎ (((length bytes ≤ LONGEST_TEXT) × (¬ IsUtf8 bytes)
+    × (said ≡ Err (in_script (record { line = line_after (take (utf8_valid_len bytes) bytes); kind = Utf8 }))))
     ⊎ ((length bytes ≤ LONGEST_TEXT) × IsUtf8 bytes × TextSays command bytes said))
 
 -- the bytes say this script for `play`, or have this fault, which is their first (own)

@@ -16,7 +16,8 @@ IsBelow count (Await flag) = flag < count
 abbrev pub AreNumbered : ℕ → List Task → Type 0
 AreNumbered count tasks = All (λ t. IsBelow count t.deed) tasks
 
--- a domain goes past a task where the flags that have this are told: it waits at no other task than one that awaits another flag (own)
+-- a domain goes past a task where the flags that have this are told: it waits
+-- at no other task than one that awaits another flag (own)
 abbrev pub IsPassed : (ℕ → Type 0) → Deed → Type 0
 IsPassed Told (Do call) = Unit {0}
 IsPassed Told (Tell flag) = Unit {0}
@@ -26,7 +27,8 @@ IsPassed Told (Await flag) = Told flag
 abbrev pub PassesAll : (ℕ → Type 0) → DomId → List Task → Type 0
 PassesAll Told dom tasks = All (λ t. t.dom.0 ≡ dom.0 → IsPassed Told t.deed) tasks
 
--- a set of flags is closed: it has each flag that a task tells, where the task's domain goes past all that it has to do before it (own)
+-- a set of flags is closed: it has each flag that a task tells, where the
+-- task's domain goes past all that it has to do before it (own)
 abbrev pub IsClosed : List Task → (ℕ → Bool) → Type 0
 IsClosed tasks set = (at : ℕ) (task : Task) (flag : ℕ) → slice_get tasks at ≡ Some task → task.deed ≡ Tell flag
     → PassesAll (λ f. IsTrue (set f)) task.dom (take at tasks) → IsTrue (set flag)

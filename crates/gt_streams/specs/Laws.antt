@@ -1,5 +1,6 @@
 -- What writes come to, one after the other.
-use Rattle.std.proofs.Common.{◌≡◌, ◌≤◌, IfSome, ℕ, ◌+◌, List, [], ◌++◌, length, take, Option, None, Some, Result, Ok, Err, min, refl, ap, sym, subst, ◌∙◌, append_assoc, length-append, arith}
+use Rattle.std.proofs.Common.{◌≡◌, ◌≤◌, IfSome, ℕ, ◌+◌, List, [], ◌++◌, length, take, Option, None, Some, Result, Ok}
+use Rattle.std.proofs.Common.{Err, min, refl, ap, sym, subst, ◌∙◌, append_assoc, length-append, arith}
 use Rattle.std.proofs.Math.Seq.{take-append-add}
 use Rattle.std.proofs.lemmas.List.{append-nil, length-take, take-append-le, take_all}
 use Rattle.std.specs.Result.{OnErr}
@@ -23,17 +24,25 @@ appends_both (Some x) (Some y) None xs ys p q = absurd q
 appends_both (Some x) (Some y) (Some z) xs ys p q = q ∙ ap (λ (l : List ℕ). l ++ ys) p ∙ append_assoc x xs ys
 
 -- a text went out, and then a beginning of another
-pub begins_after : (a b c : Option (List ℕ)) (xs ys : List ℕ) → Appends a b xs → AppendsBeginning b c ys → AppendsBeginning a c (xs ++ ys)
-begins_after a b c xs ys p (n, few, q) =
-    (length xs + n, rw length-append (omega (arith, few)), subst (λ (l : List ℕ). Appends a c l) (sym (take-append-add xs ys n)) (appends_both a b c xs (take n ys) p q))
+pub begins_after : (a b c : Option (List ℕ)) (xs ys : List ℕ) → Appends a b xs → AppendsBeginning b c ys
+    → AppendsBeginning a c (xs ++ ys)
+begins_after a b c xs ys p (n, few, q) = (
+  length xs + n,
+  rw length-append (omega (arith, few)),
+  subst (λ (l : List ℕ). Appends a c l) (sym (take-append-add xs ys n)) (appends_both a b c xs (take n ys) p q),
+)
 
 -- a beginning of a text is one of a longer text
 pub begins_longer : (a c : Option (List ℕ)) (xs ys : List ℕ) → AppendsBeginning a c xs → AppendsBeginning a c (xs ++ ys)
-begins_longer a c xs ys (n, few, q) =
-    (n, rw length-append (omega (arith, few)), subst (λ (l : List ℕ). Appends a c l) (sym (take-append-le n xs ys few)) q)
+begins_longer a c xs ys (n, few, q) = (
+  n,
+  rw length-append (omega (arith, few)),
+  subst (λ (l : List ℕ). Appends a c l) (sym (take-append-le n xs ys few)) q,
+)
 
 -- what holds of all bytes that begin with those that were read holds of the input
-pub of_input : (known : Option (List ℕ)) (bytes : List ℕ) (P : List ℕ → Type 0) → length bytes ≤ 1048577 → IfSome known (λ all. bytes ≡ take 1048577 all)
+pub of_input : (known : Option (List ℕ)) (bytes : List ℕ) (P : List ℕ → Type 0) → length bytes ≤ 1048577
+    → IfSome known (λ all. bytes ≡ take 1048577 all)
     → ((all : List ℕ) → bytes ≡ take 1048577 all → P all) → OfInput known P
 of_input None bytes P few e h = (bytes, few, h bytes (sym (take_all 1048577 bytes few)))
 of_input (Some all) bytes P few e h = h all e

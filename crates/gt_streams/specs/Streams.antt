@@ -6,12 +6,14 @@ use Rattle.std.specs.Io.KnownBytes.{Appends, Consumes, IsAtEnd}
 abbrev pub ConsumesAtMost : ℕ → Option (List ℕ) → Option (List ℕ) → Type 0
 ConsumesAtMost most old new = (read : List ℕ) × (length read ≤ most) × Consumes old new read
 
--- this holds of the bytes that the reader has left; where those are not known, of some that it may have given, 1,048,577 at most (own)
+-- this holds of the bytes that the reader has left; where those are not known,
+-- of some that it may have given, 1,048,577 at most (own)
 abbrev pub OfInput : Option (List ℕ) → (List ℕ → Type 0) → Type 0
 OfInput None P = (input : List ℕ) × (length input ≤ 1048577) × P input
 OfInput (Some all) P = P all
 
--- the bytes grew by those that the reader lost, so many at most; where no more may follow, the reader has none left (own)
+-- the bytes grew by those that the reader lost, so many at most; where
+-- no more may follow, the reader has none left (own)
 pub record ReadsOn (room : ℕ) (more : Bool) (old new : Option (List ℕ)) (before after : List ℕ) : Type 0 where
   pub read : List ℕ
   pub grown : after ≡ before ++ read

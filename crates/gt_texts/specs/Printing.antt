@@ -25,7 +25,8 @@ facts_text called (facts.Entry dom gref word) = []
 
 -- a refusal: its rule, its status, and what it rests on (own)
 abbrev pub denial_text : (TypeId → List ℕ) → Denial → List ℕ
-denial_text called d = rule_text d.rule ++ codes " " ++ signed_decimal (status_number d.status) ++ facts_text called d.facts
+denial_text called d =
+    rule_text d.rule ++ codes " " ++ signed_decimal (status_number d.status) ++ facts_text called d.facts
 
 -- ` NAME=NUMBER` (own)
 abbrev pub part_text : List ℕ → ℕ → List ℕ

@@ -1,15 +1,19 @@
 -- The limits of a configuration, and its first fault.
-use Rattle.std.specs.Prelude.{◌≡◌, ◌≢◌, ◌⊎◌, ◌≤◌, ◌<◌, ℕ, Bool, true, false, not, ◌&&◌, nat_le, ◌==◌, List, [], length, take, slice_get, Option, Some, None, All, AllPairs}
+use Rattle.std.specs.Prelude.{◌≡◌, ◌≢◌, ◌⊎◌, ◌≤◌, ◌<◌, ℕ, Bool, true, false, not, ◌&&◌, nat_le, ◌==◌, List, [], length}
+use Rattle.std.specs.Prelude.{take, slice_get, Option, Some, None, All, AllPairs}
 use Rattle.std.specs.List.{list_any}
 use Rattle.std.specs.Option.{option_or}
 use Rattle.gt_types.specs.declared.DomId.{DomId}
 use Rattle.gt_types.specs.declared.config.Config.{Config}
 use Rattle.gt_types.specs.declared.config.DomainConfig.{DomainConfig}
 use Rattle.gt_types.specs.declared.config.ConfigFault.{ConfigFault}
-use Rattle.gt_types.specs.declared.config.ConfigFault.TheVariants.{NoDomains, TooMany, Id, Repeated, Frames, TableFrames, Version, Generation}
-use Rattle.gt_types.specs.declared.limits.TheConstants.{DOMID_SELF, MAX_DOMAINS, MAX_FRAMES, MAX_TABLE_FRAMES, LAST_VERSION, LAST_GENERATION}
+use Rattle.gt_types.specs.declared.config.ConfigFault.TheVariants.{NoDomains, TooMany, Id, Repeated, Frames}
+use Rattle.gt_types.specs.declared.config.ConfigFault.TheVariants.{TableFrames, Version, Generation}
+use Rattle.gt_types.specs.declared.limits.TheConstants.{DOMID_SELF, MAX_DOMAINS, MAX_FRAMES, MAX_TABLE_FRAMES}
+use Rattle.gt_types.specs.declared.limits.TheConstants.{LAST_VERSION, LAST_GENERATION}
 
--- the limits of a run (own): 1 to MAX_DOMAINS domains with distinct numbers below DOMID_SELF, 1 to MAX_FRAMES frames and 1 to MAX_TABLE_FRAMES table frames each, and a first generation that there is
+-- the limits of a run (own): 1 to MAX_DOMAINS domains with distinct numbers below DOMID_SELF, 1 to MAX_FRAMES
+-- frames and 1 to MAX_TABLE_FRAMES table frames each, and a first generation that there is
 pub record IsWithinLimits (c : Config) : Type 0 where
   pub some : 1 ≤ length c.domains.items
   pub few : length c.domains.items ≤ MAX_DOMAINS
@@ -33,7 +37,8 @@ is_outside last n = not (nat_le 1 n && nat_le n last)
 abbrev pub is_taken : List DomainConfig → DomId → Bool
 is_taken domains id = list_any (λ d. d.id.0 == id.0) domains
 
--- the first fault of a domain after those before it, in the order: one domain too many, number, repetition, frames, table frames, version (own)
+-- the first fault of a domain after those before it, in the order: one domain too
+-- many, number, repetition, frames, table frames, version (own)
 unfoldable pub domain_fault : List DomainConfig → DomainConfig → Option ConfigFault
 domain_fault before d =
     option_or (fault_when (nat_le MAX_DOMAINS (length before)) (TooMany d.id))
@@ -45,7 +50,8 @@ domain_fault before d =
 
 -- no domain has a fault after those before it (own)
 pub record AreFaultless (domains : List DomainConfig) : Type 0 where
-  pub each : (at : ℕ) (domain : DomainConfig) → slice_get domains at ≡ Some domain → domain_fault (take at domains) domain ≡ None
+  pub each : (at : ℕ) (domain : DomainConfig) → slice_get domains at ≡ Some domain
+      → domain_fault (take at domains) domain ≡ None
 
 -- the fault is that of the first domain that has one (own)
 pub record IsFirstDomainFault (domains : List DomainConfig) (fault : ConfigFault) : Type 0 where
@@ -55,7 +61,8 @@ pub record IsFirstDomainFault (domains : List DomainConfig) (fault : ConfigFault
   pub earlier : AreFaultless (take at domains)
   pub here : domain_fault (take at domains) domain ≡ Some fault
 
--- the first fault of a configuration: no domain at all comes first, then the first domain with a fault, and the first generation last (own)
+-- the first fault of a configuration: no domain at all comes first, then the
+-- first domain with a fault, and the first generation last (own)
 abbrev pub IsFirstFault : Config → ConfigFault → Type 0
 IsFirstFault c fault =
     ((fault ≡ NoDomains) × (c.domains.items ≡ []))

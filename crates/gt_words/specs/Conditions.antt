@@ -1,5 +1,6 @@
 -- What calls ask of their caller, and what their answers say.
-use Rattle.std.specs.Prelude.{◌≡◌, ◌≢◌, ◌⊎◌, ℕ, ◌+◌, ◌-◌, ◌*◌, ◌<◌, ◌≤◌, Bool, true, false, [], ◌∷◌, length, Some, cond, ◌==◌, ◌/◌, ◌%◌, slice_index}
+use Rattle.std.specs.Prelude.{◌≡◌, ◌≢◌, ◌⊎◌, ℕ, ◌+◌, ◌-◌, ◌*◌, ◌<◌, ◌≤◌, Bool, true, false, [], ◌∷◌, length, Some, cond}
+use Rattle.std.specs.Prelude.{◌==◌, ◌/◌, ◌%◌, slice_index}
 use mathlib.Core.Option.{some}
 use lib.ListN.{get_elem?}
 use Rattle.atomic_table.specs.Table.{State}
@@ -20,14 +21,17 @@ use Rattle.gt_types.specs.declared.config.StartFault.{StartFault}
 use Rattle.gt_types.specs.declared.limits.TheConstants.{LAST_GENERATION, MAX_DOMAINS, MAX_PINS, TABLE_ENTRIES}
 use Rattle.gt_words.specs.Controls.{ForwardsPin, IsValid, LeadsTo, PermitsPin, generation_of, pins_in}
 use Rattle.gt_words.specs.Events.{shown_entry}
-pub use Rattle.gt_words.specs.Keeping.{Holds, HoldsOneMore, Keeps, KeepsOtherRows, KeepsPins, KeepsRecords, KeepsRows, SeesNoEarlier, seen_generation}
+pub use Rattle.gt_words.specs.Keeping.{Holds, HoldsOneMore, Keeps, KeepsOtherRows, KeepsPins, KeepsRecords, KeepsRows}
+pub use Rattle.gt_words.specs.Keeping.{SeesNoEarlier, seen_generation}
 use Rattle.gt_words.specs.Rule.{IsKeptHeader, Layout, Shows, header_place, id_at, place, position_in}
 use Rattle.gt_words.specs.Steps.{TakesStep, changed, changed_word, half_index, on_entry, on_header}
-use Rattle.gt_words.specs.Views.{HasBody, IsIn, LivePin, last_of, last_seen, own_body, own_header, own_list, pin_count, pins, record_seen, seen, steps_on, steps_on_header, with_step}
+use Rattle.gt_words.specs.Views.{HasBody, IsIn, LivePin, last_of, last_seen, own_body, own_header, own_list, pin_count}
+use Rattle.gt_words.specs.Views.{pins, record_seen, seen, steps_on, steps_on_header, with_step}
 use Rattle.gt_words.specs.declared.word_table.TheConstants.{DOMAIN_WORDS, ENTRY_WORDS}
 use Rattle.gt_entry.specs.declared.change.Change.{Change}
 use Rattle.gt_words.specs.declared.view.EntryStep.{EntryStep}
-use Rattle.gt_words.specs.declared.view.EntryStep.TheVariants.{ChangeMissed, Changed, Looked, PinMissed, Pinned, ReadBody, StoredBody, Unpinned}
+use Rattle.gt_words.specs.declared.view.EntryStep.TheVariants.{ChangeMissed, Changed, Looked, PinMissed, Pinned}
+use Rattle.gt_words.specs.declared.view.EntryStep.TheVariants.{ReadBody, StoredBody, Unpinned}
 use Rattle.gt_entry.specs.declared.change.Half.{Half}
 use Rattle.gt_entry.specs.declared.change.Half.TheVariants.{First, Second}
 use Rattle.gt_words.specs.declared.view.HeaderStep.{HeaderStep}
@@ -89,7 +93,8 @@ pub record IsSameSeat (s s' : SeatOf) : Type 0 where
 abbrev pub IsWide : ℕ → Layout → Type 0
 IsWide words k = (words ≡ k.domains * DOMAIN_WORDS) × (k.domains ≤ MAX_DOMAINS)
 
--- the word has the owner's part and the generation of this record, and some pins: so it says kind, readonly, domain, generation and counts (own)
+-- the word has the owner's part and the generation of this record, and some pins:
+-- so it says kind, readonly, domain, generation and counts (own)
 pub record IsWordOf (x : EntryRecord) (word : ℕ) : Type 0 where
   pub reads : ℕ
   pub writes : ℕ
@@ -108,9 +113,11 @@ pub record IsBusyOf (x : EntryRecord) (word : ℕ) : Type 0 where
 
 -- the seat's last look at the entry r of the domain t found this word, and it read the body words since (own)
 abbrev pub HasLooked : ℕ → ℕ → View → ℕ → Type 0
-HasLooked t r v word = (seen (steps_on t r v) ≡ Some (last_seen t r v)) × ((last_seen t r v).word ≡ word) × HasBody (last_seen t r v)
+HasLooked t r v word =
+    (seen (steps_on t r v) ≡ Some (last_seen t r v)) × ((last_seen t r v).word ≡ word) × HasBody (last_seen t r v)
 
--- the view has a pin of that kind of a Via to the entry r of the domain t, which forwarded the seat's domain, and the record x permits the owner of that Via (own, after grant_table.h, transitive)
+-- the view has a pin of that kind of a Via to the entry r of the domain t, which forwarded the seat's domain,
+-- and the record x permits the owner of that Via (own, after grant_table.h, transitive)
 pub record PermitsOwnerOfVia (k : Layout) (t r : ℕ) (v : View) (d : Dir) (x : EntryRecord) : Type 0 where
   pub owner : ℕ
   pub reference : ℕ
@@ -121,18 +128,23 @@ pub record PermitsOwnerOfVia (k : Layout) (t r : ℕ) (v : View) (d : Dir) (x : 
   pub leads : LeadsTo via.1.entry (id_at k.ids t) r
   pub permits : PermitsPin x.entry (id_at k.ids owner) d
 
--- the entry r of the domain t, as the record x has it, permits or forwards the seat's domain for that kind, or permits the owner of a Via to it that the view has pinned for that kind (own)
+-- the entry r of the domain t, as the record x has it, permits or forwards the seat's domain for that
+-- kind, or permits the owner of a Via to it that the view has pinned for that kind (own)
 abbrev pub MayPin : Layout → ℕ → ℕ → View → Dir → EntryRecord → Type 0
-MayPin k t r v d x = PermitsPin x.entry (id_at k.ids v.position) d ⊎ (ForwardsPin x.entry (id_at k.ids v.position) d ⊎ PermitsOwnerOfVia k t r v d x)
+MayPin k t r v d x =
+    PermitsPin x.entry (id_at k.ids v.position) d
+    ⊎ (ForwardsPin x.entry (id_at k.ids v.position) d ⊎ PermitsOwnerOfVia k t r v d x)
 
--- the seat may pin the entry r of the domain t from this word: it looked at it last, read the body words since, and the word is not invalid, has room and permits it (own, after grant_table.h)
+-- the seat may pin the entry r of the domain t from this word: it looked at it last, read the body words
+-- since, and the word is not invalid, has room and permits it (own, after grant_table.h)
 pub record CanPin (k : Layout) (t r : ℕ) (d : Dir) (word : ℕ) (v : View) : Type 0 where
   pub looked : HasLooked t r v word
   pub valid : IsValid word
   pub room : pins_in d word < MAX_PINS
   pub permitted : MayPin k t r v d (record_seen (last_seen t r v))
 
--- the word is the idle one of the owner's last record, which is invalid and not worn, and the seat stored the entry's body words (own, after grant_table.h)
+-- the word is the idle one of the owner's last record, which is invalid and not worn, and
+-- the seat stored the entry's body words (own, after grant_table.h)
 pub record CanPublish (e : Entry) (r word : ℕ) (v : View) : Type 0 where
   pub idle : IsIdleOf (last_of r v) word
   pub none_yet : (last_of r v).entry ≡ Invalid
@@ -145,7 +157,8 @@ pub record CanRevoke (r word : ℕ) (v : View) : Type 0 where
   pub idle : IsIdleOf (last_of r v) word
   pub some : (last_of r v).entry ≢ Invalid
 
--- the word is one of the owner's last record, which is an entry with this readonly, and not worn (own, after grant_table.h)
+-- the word is one of the owner's last record, which is an entry with this
+-- readonly, and not worn (own, after grant_table.h)
 pub record CanTurn (ro : Bool) (r word : ℕ) (v : View) : Type 0 where
   pub word_is : IsWordOf (last_of r v) word
   pub some : (last_of r v).entry ≢ Invalid
@@ -171,9 +184,12 @@ HasNoPins t r s = (i : ℕ) (v : View) → get_elem? s.views i ≡ some v → pi
 abbrev pub HasNoWritePins : {S : Type 0} → ℕ → ℕ → State S View → Type 0
 HasNoWritePins t r s = (i : ℕ) (v : View) → get_elem? s.views i ≡ some v → pin_count Write (pins (steps_on t r v)) ≡ 0
 
--- in each state that words and views show, the control word of the entry counts the pins of that kind that a view has of it (own)
+-- in each state that words and views show, the control word of the entry
+-- counts the pins of that kind that a view has of it (own)
 abbrev pub CountsPins : Layout → ℕ → ℕ → Dir → Type 0
-CountsPins k t r d = (s : State (Unit {0}) View) (i : ℕ) (v : View) → Shows k s → get_elem? s.views i ≡ some v → pin_count d (pins (steps_on t r v)) ≤ pins_in d (slice_index s.words (place t r 0))
+CountsPins k t r d =
+    (s : State (Unit {0}) View) (i : ℕ) (v : View) → Shows k s → get_elem? s.views i ≡ some v
+    → pin_count d (pins (steps_on t r v)) ≤ pins_in d (slice_index s.words (place t r 0))
 
 -- the word is of no earlier generation than the one that the view saw last of the entry, if it saw one (own)
 abbrev pub IsNotEarlier : ℕ → ℕ → View → ℕ → Type 0
@@ -208,7 +224,8 @@ pub record StepsOnHeader (k : Layout) (t : ℕ) (m : HeaderStep) (found left : �
   pub adds : AddsToHeader t m v w
   pub step : TakesStep (Unit {0}) k v (on_header t m) (header_place t) found left
 
--- a look at the header of the domain t found this word: that of a header within the limits, whose table has no more entries than there is room for (own)
+-- a look at the header of the domain t found this word: that of a header within the
+-- limits, whose table has no more entries than there is room for (own)
 pub record LooksAtHeader (k : Layout) (t n : ℕ) (v w : View) : Type 0 where
   pub steps : StepsOnHeader k t (header.Looked n) n n v w
   pub word : n ≡ header_word (header_of n)
@@ -264,7 +281,8 @@ pub record Unpins (k : Layout) (t r : ℕ) (d : Dir) (g : ℕ) (v w : View) : Ty
 abbrev pub UnpinsPin : Board → Pin → View → View → Type 0
 UnpinsPin b p v w = Unpins b.layout (position_at b p.dom) p.gref.0 p.dir (generation_of p.word) v w
 
--- a pin was taken by one step: of the entry as it was last seen, which was then the last record of its owner's list, and which the seat may pin (own)
+-- a pin was taken by one step: of the entry as it was last seen, which was then the
+-- last record of its owner's list, and which the seat may pin (own)
 pub record Pins (k : Layout) (t r : ℕ) (d : Dir) (word : ℕ) (v w : View) : Type 0 where
   pub steps : StepsOnControl k t r (Pinned d word (record_seen (last_seen t r v))) word (word + unit_of d) v w
   pub current : (shown_entry k t r steps.step.before).current ≡ record_seen (last_seen t r v)
@@ -286,7 +304,9 @@ pub record MissesPin (k : Layout) (t r : ℕ) (d : Dir) (word found : ℕ) (v w 
 
 -- the owner's exchange was taken, and its last record of the entry r is what the change makes of the one before (own)
 pub record Changes (k : Layout) (r : ℕ) (c : Change) (word : ℕ) (v w : View) : Type 0 where
-  pub steps : StepsOnControl k v.position r (Changed c word (changed_word c (last_of r v) word) (changed c (last_of r v))) word (changed_word c (last_of r v) word) v w
+  pub steps : StepsOnControl k v.position r
+      (Changed c word (changed_word c (last_of r v) word) (changed c (last_of r v))) word
+      (changed_word c (last_of r v) word) v w
   pub last : last_of r w ≡ changed c (last_of r v)
   pub bodies : (h : Half) → own_body r h w ≡ own_body r h v
   pub rows : KeepsOtherRows r v w
@@ -298,7 +318,8 @@ pub record Changes (k : Layout) (r : ℕ) (c : Change) (word : ℕ) (v w : View)
 pub record MissesChange (k : Layout) (r : ℕ) (c : Change) (word found : ℕ) (v w : View) : Type 0 where
   pub another : found ≢ word
   pub same_record : IsWordOf (last_of r v) found
-  pub steps : StepsOnControl k v.position r (ChangeMissed c word (changed_word c (last_of r v) word) found) found found v w
+  pub steps : StepsOnControl k v.position r
+      (ChangeMissed c word (changed_word c (last_of r v) word) found) found found v w
   pub not_earlier : IsNotEarlier v.position r v found
   pub keeps : Keeps v w
 
@@ -330,6 +351,9 @@ pub record IsNewSeat (b : Board) (i : ℕ) (s : SeatOf) : Type 0 where
   pub headers : s.view.headers ≡ b.layout.headers
   pub steps : s.view.steps ≡ []
 
--- the words at the start: the first header of each domain, the invalid word of the first generation for each entry, and zeros (own)
+-- the words at the start: the first header of each domain, the invalid word
+-- of the first generation for each entry, and zeros (own)
 abbrev pub initial : Layout → ℕ → ℕ
-initial k i = cond (i % DOMAIN_WORDS == 0) (slice_index k.headers (i / DOMAIN_WORDS)) (cond (i % DOMAIN_WORDS % ENTRY_WORDS == 0) (17592186044416 * k.first) 0)
+initial k i =
+    cond (i % DOMAIN_WORDS == 0) (slice_index k.headers (i / DOMAIN_WORDS))
+    (cond (i % DOMAIN_WORDS % ENTRY_WORDS == 0) (17592186044416 * k.first) 0)

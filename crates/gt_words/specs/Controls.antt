@@ -42,7 +42,8 @@ turned_word false word = promoted_word word
 
 -- the word is that of an entry that has the other readonly (own)
 abbrev pub IsTurnable : Bool → ℕ → Type 0
-IsTurnable o word = (e : Entry) × (rest : ℕ) × (e ≢ Invalid) × (is_read_only e ≡ not o) × (word ≡ low_bits e + 16 * rest)
+IsTurnable o word =
+    (e : Entry) × (rest : ℕ) × (e ≢ Invalid) × (is_read_only e ≡ not o) × (word ≡ low_bits e + 16 * rest)
 
 -- the entry permits the domain some use and range in this direction (grant_table.h)
 abbrev pub PermitsPin : Entry → DomId → Dir → Type 0

@@ -4,7 +4,8 @@ use Rattle.atomic_table.specs.Table.{State}
 use Rattle.gt_entry.specs.declared.change.Half.TheVariants.{First, Second}
 use Rattle.gt_words.specs.declared.view.EntryRecord.{EntryRecord}
 use Rattle.gt_words.specs.declared.view.EntryStep.{EntryStep}
-use Rattle.gt_words.specs.declared.view.EntryStep.TheVariants.{Looked, ReadBody, Pinned, PinMissed, Unpinned, StoredBody, Changed, ChangeMissed}
+use Rattle.gt_words.specs.declared.view.EntryStep.TheVariants.{Looked, ReadBody, Pinned, PinMissed, Unpinned}
+use Rattle.gt_words.specs.declared.view.EntryStep.TheVariants.{StoredBody, Changed, ChangeMissed}
 use Rattle.gt_words.specs.declared.view.HeaderStep.{HeaderStep}
 use Rattle.gt_words.specs.declared.view.HeaderStep.TheVariants as header
 use Rattle.gt_words.specs.declared.view.SeatStep.{SeatStep}
@@ -22,7 +23,13 @@ pub record EntryState : Type 0 where
 
 -- an entry of the domain t as the steps of each seat on it leave it, from the first generation g (own)
 abbrev pub entry_by : ℕ → ℕ → List (List EntryStep) → EntryState
-entry_by g t hs = record { current = last_record g (owner_steps t hs); first = stored_body First (owner_steps t hs); second = stored_body Second (owner_steps t hs); live = map pins hs }
+entry_by g t hs =
+    record {
+      current = last_record g (owner_steps t hs);
+      first = stored_body First (owner_steps t hs);
+      second = stored_body Second (owner_steps t hs);
+      live = map pins hs;
+    }
 
 -- the entry r of the domain t that the state shows (own)
 abbrev pub shown_entry : {S : Type 0} → Layout → ℕ → ℕ → State S View → EntryState
@@ -36,7 +43,8 @@ shown_header k t s = header_now k t (map (steps_on_header t) s.views)
 abbrev pub live_of : ℕ → EntryState → List LivePin
 live_of i x = slice_index_or x.live i []
 
--- what a step of the domain i on an entry makes of it: a taken pin is one more, an unpin takes it away, a store sets a body word, a taken exchange sets the record, and all else leaves it (own)
+-- what a step of the domain i on an entry makes of it: a taken pin is one more, an unpin takes it away, a
+-- store sets a body word, a taken exchange sets the record, and all else leaves it (own)
 abbrev pub entry_after : ℕ → EntryStep → EntryState → EntryState
 entry_after i (Looked n) x = x
 entry_after i (ReadBody h n) x = x

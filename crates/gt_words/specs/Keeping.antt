@@ -3,7 +3,8 @@ use Rattle.std.specs.Prelude.{◌≡◌, ◌≢◌, ℕ, ◌+◌, ◌≤◌, ◌
 use Rattle.gt_entry.specs.declared.change.Half.{Half}
 use Rattle.gt_types.specs.declared.Dir.{Dir}
 use Rattle.gt_words.specs.Controls.{generation_of}
-use Rattle.gt_words.specs.Views.{IsIn, LivePin, Seen, is_same_dir, last_of, own_body, own_header, own_list, pins, pins_like, seen, steps_on}
+use Rattle.gt_words.specs.Views.{IsIn, LivePin, Seen, is_same_dir, last_of, own_body, own_header, own_list, pins}
+use Rattle.gt_words.specs.Views.{pins_like, seen, steps_on}
 use Rattle.gt_words.specs.declared.view.View.{View}
 
 -- how many pins of this kind and generation the view has of the entry r of the domain t (own)
@@ -20,11 +21,15 @@ is_pin_of t r d g t' r' d' g' = (t == t') && ((r == r') && (is_same_dir d' d && 
 
 -- the view w has one pin more of this kind and generation of this entry than the view v, and as many of any other (own)
 abbrev pub HoldsOneMore : ℕ → ℕ → Dir → ℕ → View → View → Type 0
-HoldsOneMore t r d g v w = (t' r' : ℕ) (d' : Dir) (g' : ℕ) → held t' r' d' g' w ≡ held t' r' d' g' v + cond (is_pin_of t r d g t' r' d' g') 1 0
+HoldsOneMore t r d g v w =
+    (t' r' : ℕ) (d' : Dir) (g' : ℕ) → held t' r' d' g' w ≡ held t' r' d' g' v + cond (is_pin_of t r d g t' r' d' g') 1 0
 
--- each pin that the view v had is one of the view w, with its record, if that still has a pin of its kind and generation (own)
+-- each pin that the view v had is one of the view w, with its record, if
+-- that still has a pin of its kind and generation (own)
 abbrev pub KeepsRecords : View → View → Type 0
-KeepsRecords v w = (t r : ℕ) (p : LivePin) → IsIn p (pins (steps_on t r v)) → Holds t r p.0 p.1.generation w → IsIn p (pins (steps_on t r w))
+KeepsRecords v w =
+    (t r : ℕ) (p : LivePin) → IsIn p (pins (steps_on t r v)) → Holds t r p.0 p.1.generation w
+    → IsIn p (pins (steps_on t r w))
 
 -- the seat has the pins that it had (own)
 abbrev pub KeepsPins : View → View → Type 0

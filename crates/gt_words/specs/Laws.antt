@@ -1,5 +1,7 @@
 -- What follows from the definitions, for callers.
-use Rattle.std.specs.Prelude.{◌≡◌, ◌≢◌, ℕ, ◌+◌, ◌<◌, ◌≤◌, AllPairs, ◌==◌, not, cond, Bool, true, false, List, [], ◌∷◌, map, length, zero, suc, Option, Some, None, position, unwrap_or, nat_lt, IsSome, slice_index}
+use Rattle.std.specs.Prelude.{◌≡◌, ◌≢◌, ℕ, ◌+◌, ◌<◌, ◌≤◌, AllPairs, ◌==◌, not, cond, Bool, true, false, List, [], ◌∷◌}
+use Rattle.std.specs.Prelude.{map, length, zero, suc, Option, Some, None, position, unwrap_or, nat_lt, IsSome}
+use Rattle.std.specs.Prelude.{slice_index}
 use Rattle.std.proofs.Common.{arith, inl, inr, ⊎_elim, get_or, eq-eqb, ne_eqb, refl, sym, ap, ◌∙◌, subst}
 use Rattle.std.specs.List.{position_or_len}
 use Rattle.std.proofs.lemmas.Bool.{lt-ltb}
@@ -18,7 +20,8 @@ use Rattle.gt_types.specs.declared.config.DomainConfig.{DomainConfig}
 use Rattle.gt_types.specs.declared.limits.TheConstants.{TABLE_ENTRIES}
 use Rattle.gt_words.specs.Conditions.{Board, HasDomain, IsSeatOf, SeatOf, position_at}
 use Rattle.gt_words.specs.Controls.{generation_of, pins_in}
-use Rattle.gt_words.specs.Rule.{IsLawful, IsNextEntry, IsRevocation, Layout, Shows, header_place, id_at, layout_of, owner_steps, place, position_in, total_until}
+use Rattle.gt_words.specs.Rule.{IsLawful, IsNextEntry, IsRevocation, Layout, Shows, header_place, id_at, layout_of}
+use Rattle.gt_words.specs.Rule.{owner_steps, place, position_in, total_until}
 use Rattle.gt_words.specs.Steps.{on_entry}
 use Rattle.gt_words.specs.Views.{IsIn, LivePin, exchanged, pins, steps_on, with_step}
 use Rattle.gt_types.specs.declared.Dir.{Dir}
@@ -28,7 +31,9 @@ use Rattle.gt_words.specs.declared.view.View.{View}
 
 -- a domain is one of the run exactly where the configuration has it (own)
 abbrev pub DomainsAreOfRun : Type 0
-DomainsAreOfRun = (c : Config) (d : DomId) → (IsSome (domain_of c.domains.items d) → HasDomain (layout_of c) d) × (HasDomain (layout_of c) d → IsSome (domain_of c.domains.items d))
+DomainsAreOfRun =
+    (c : Config) (d : DomId) → (IsSome (domain_of c.domains.items d) → HasDomain (layout_of c) d)
+    × (HasDomain (layout_of c) d → IsSome (domain_of c.domains.items d))
 
 -- a domain of the run is at its position (own)
 abbrev pub DomainsStandThere : Type 0
@@ -36,45 +41,66 @@ DomainsStandThere = (k : Layout) (d : DomId) → HasDomain k d → id_at k.ids (
 
 -- a seat is at the position of its domain (own)
 abbrev pub SeatsStandThere : Type 0
-SeatsStandThere = (c : Config) (b : Board) (s : SeatOf) → IsWithinLimits c → b.layout ≡ layout_of c → IsSeatOf b s → s.view.position ≡ position_at b s.dom
+SeatsStandThere =
+    (c : Config) (b : Board) (s : SeatOf) → IsWithinLimits c → b.layout ≡ layout_of c → IsSeatOf b s
+    → s.view.position ≡ position_at b s.dom
 
 -- in each state that words and views show, pins of one entry and generation have one record, whoever has them (own)
 abbrev pub PinsHaveOneRecord : Type 0
-PinsHaveOneRecord = (k : Layout) (s : State (Unit {0}) View) (i j : ℕ) (v w : View) (t r : ℕ) (p q : LivePin) → Shows k s → get_elem? s.views i ≡ some v → get_elem? s.views j ≡ some w → t < k.domains → r < TABLE_ENTRIES
+PinsHaveOneRecord =
+    (k : Layout) (s : State (Unit {0}) View) (i j : ℕ) (v w : View) (t r : ℕ) (p q : LivePin) → Shows k s
+    → get_elem? s.views i ≡ some v → get_elem? s.views j ≡ some w → t < k.domains → r < TABLE_ENTRIES
     → IsIn p (pins (steps_on t r v)) → IsIn q (pins (steps_on t r w)) → p.1.generation ≡ q.1.generation → p.1 ≡ q.1
 
 -- in each state that words and views show, each pin is of an entry, and not of an invalid record (own)
 abbrev pub PinsAreOfEntries : Type 0
-PinsAreOfEntries = (k : Layout) (s : State (Unit {0}) View) (i : ℕ) (v : View) (t r : ℕ) (p : LivePin) → Shows k s → get_elem? s.views i ≡ some v → t < k.domains → r < TABLE_ENTRIES → IsIn p (pins (steps_on t r v)) → p.1.entry ≢ Invalid
+PinsAreOfEntries =
+    (k : Layout) (s : State (Unit {0}) View) (i : ℕ) (v : View) (t r : ℕ) (p : LivePin) → Shows k s
+    → get_elem? s.views i ≡ some v → t < k.domains → r < TABLE_ENTRIES → IsIn p (pins (steps_on t r v))
+    → p.1.entry ≢ Invalid
 
--- in each state that words and views show, a pin that is left of a record is counted by each word of that record or of a later one that the owner exchanged from: so none is left of a record that was revoked (own)
+-- in each state that words and views show, a pin that is left of a record is counted by each word of that record or
+-- of a later one that the owner exchanged from: so none is left of a record that was revoked (own)
 abbrev pub PinsLeftAreCounted : Type 0
-PinsLeftAreCounted = (k : Layout) (s : State (Unit {0}) View) (i : ℕ) (v : View) (t r e : ℕ) (p : LivePin) → Shows k s → get_elem? s.views i ≡ some v → t < k.domains → r < TABLE_ENTRIES
-    → IsIn p (pins (steps_on t r v)) → IsIn e (exchanged (owner_steps t (map (steps_on t r) s.views))) → p.1.generation ≤ generation_of e → 0 < pins_in p.0 e
+PinsLeftAreCounted =
+    (k : Layout) (s : State (Unit {0}) View) (i : ℕ) (v : View) (t r e : ℕ) (p : LivePin) → Shows k s
+    → get_elem? s.views i ≡ some v → t < k.domains → r < TABLE_ENTRIES
+    → IsIn p (pins (steps_on t r v)) → IsIn e (exchanged (owner_steps t (map (steps_on t r) s.views)))
+    → p.1.generation ≤ generation_of e → 0 < pins_in p.0 e
 
--- where the owner exchanged from the word e, and no pin of its record or of an earlier one was given back since, no step that takes such a pin leads to a state that words and views show (own)
+-- where the owner exchanged from the word e, and no pin of its record or of an earlier one was given back
+-- since, no step that takes such a pin leads to a state that words and views show (own)
 abbrev pub PastPinsAreRefused : Type 0
-PastPinsAreRefused = (k : Layout) (s : State (Unit {0}) View) (i : ℕ) (v : View) (t r e at expected left : ℕ) (d : Dir) (y : EntryRecord) → get_elem? s.views i ≡ some v → t < k.domains → r < TABLE_ENTRIES
-    → IsIn e (exchanged (owner_steps t (map (steps_on t r) s.views))) → y.generation ≤ generation_of e → total_until d (generation_of e) (map (steps_on t r) s.views) ≡ pins_in d e
+PastPinsAreRefused =
+    (k : Layout) (s : State (Unit {0}) View) (i : ℕ) (v : View) (t r e at expected left : ℕ) (d : Dir) (y : EntryRecord)
+    → get_elem? s.views i ≡ some v → t < k.domains → r < TABLE_ENTRIES
+    → IsIn e (exchanged (owner_steps t (map (steps_on t r) s.views))) → y.generation ≤ generation_of e
+    → total_until d (generation_of e) (map (steps_on t r) s.views) ≡ pins_in d e
     → ¬ Shows k (stepped s at left i [] (with_step (on_entry t r (Pinned d expected y)) v) keeps)
 
--- two states that words and views show, with the same views, have the same words: so no step leaves another word than what it adds to its view says (own)
+-- two states that words and views show, with the same views, have the same words: so no
+-- step leaves another word than what it adds to its view says (own)
 abbrev pub WordsFollowViews : Type 0
 WordsFollowViews = (k : Layout) (s z : State (Unit {0}) View) → Shows k s → Shows k z → s.views ≡ z.views
-    → ((t r j : ℕ) → t < k.domains → r < TABLE_ENTRIES → j < 3 → slice_index s.words (place t r j) ≡ slice_index z.words (place t r j))
+    → ((t r j : ℕ) → t < k.domains → r < TABLE_ENTRIES → j < 3
+    → slice_index s.words (place t r j) ≡ slice_index z.words (place t r j))
     × ((t : ℕ) → t < k.domains → slice_index s.words (header_place t) ≡ slice_index z.words (header_place t))
 
 -- the list of records
 
-pub bounded : (x : EntryRecord) (xs : List EntryRecord) (y : EntryRecord) → IsLawful x xs → IsIn y (x ∷ xs) → y.generation ≤ x.generation
+pub bounded : (x : EntryRecord) (xs : List EntryRecord) (y : EntryRecord) → IsLawful x xs → IsIn y (x ∷ xs)
+    → y.generation ≤ x.generation
 bounded x [] y l (inl e) = let g : y.generation ≡ x.generation = ap (λ (z : EntryRecord). z.generation) e in omega arith
 bounded x [] y l (inr h) = absurd h
-bounded x (z ∷ zs) y l (inl e) = let g : y.generation ≡ x.generation = ap (λ (w : EntryRecord). w.generation) e in omega arith
-bounded x (z ∷ zs) y l (inr h) = let r = bounded z zs y l.2 h in ⊎_elim (λ (t : IsRevocation x z). let e = t.1 in omega arith)
+bounded x (z ∷ zs) y l (inl e) = let g : y.generation ≡ x.generation = ap (λ (w : EntryRecord). w.generation) e in
+    omega arith
+bounded x (z ∷ zs) y l (inr h) = let r = bounded z zs y l.2 h in
+    ⊎_elim (λ (t : IsRevocation x z). let e = t.1 in omega arith)
     (λ (t : IsNextEntry x z). let e = t.0 in omega arith) l.1
 
 -- where the last record is an entry, no other has its generation
-pub alone : (x : EntryRecord) (xs : List EntryRecord) (y : EntryRecord) → IsLawful x xs → x.entry ≢ Invalid → IsIn y (x ∷ xs) → y.generation ≡ x.generation → y ≡ x
+pub alone : (x : EntryRecord) (xs : List EntryRecord) (y : EntryRecord) → IsLawful x xs → x.entry ≢ Invalid
+    → IsIn y (x ∷ xs) → y.generation ≡ x.generation → y ≡ x
 alone x [] y l n (inl e) g = e
 alone x [] y l n (inr h) g = absurd h
 alone x (z ∷ zs) y l n (inl e) g = e
@@ -82,23 +108,34 @@ alone x (z ∷ zs) y l n (inr h) g = let r = bounded z zs y l.2 h in absurd (⊎
     (λ (t : IsNextEntry x z). let e = t.0 in omega arith) l.1)
 
 -- entries of one generation are one record
-pub one_record : (x : EntryRecord) (xs : List EntryRecord) (y z : EntryRecord) → IsLawful x xs → IsIn y (x ∷ xs) → IsIn z (x ∷ xs) → y.entry ≢ Invalid → z.entry ≢ Invalid → y.generation ≡ z.generation → y ≡ z
+pub one_record : (x : EntryRecord) (xs : List EntryRecord) (y z : EntryRecord) → IsLawful x xs → IsIn y (x ∷ xs)
+    → IsIn z (x ∷ xs) → y.entry ≢ Invalid → z.entry ≢ Invalid → y.generation ≡ z.generation → y ≡ z
 one_record x xs y z l (inl e) (inl f) a b g = e ∙ sym f
-one_record x xs y z l (inl e) (inr h) a b g = e ∙ sym (alone x xs z l (subst (λ (u : EntryRecord). u.entry ≢ Invalid) e a) (inr h) (sym g ∙ ap (λ (u : EntryRecord). u.generation) e))
-one_record x xs y z l (inr h) (inl f) a b g = alone x xs y l (subst (λ (u : EntryRecord). u.entry ≢ Invalid) f b) (inr h) (g ∙ ap (λ (u : EntryRecord). u.generation) f) ∙ sym f
+one_record x xs y z l (inl e) (inr h) a b g =
+    e ∙ sym (alone x xs z l (subst (λ (u : EntryRecord). u.entry ≢ Invalid) e a) (inr h)
+    (sym g ∙ ap (λ (u : EntryRecord). u.generation) e))
+one_record x xs y z l (inr h) (inl f) a b g =
+    alone x xs y l (subst (λ (u : EntryRecord). u.entry ≢ Invalid) f b) (inr h)
+    (g ∙ ap (λ (u : EntryRecord). u.generation) f) ∙ sym f
 one_record x [] y z l (inr h) (inr j) a b g = absurd h
 one_record x (u ∷ us) y z l (inr h) (inr j) a b g = one_record u us y z l.2 h j a b g
 
 -- domains and positions
 
 -- a number is found where it stands, if it does not stand before
-position_or_len-id : (xs : List DomId) (at : ℕ) → at < length xs → ((i : ℕ) → i < at → (id_at xs i).0 ≢ (id_at xs at).0) → position_or_len (λ (x : DomId). x.0 == (id_at xs at).0) xs ≡ at
+position_or_len-id : (xs : List DomId) (at : ℕ) → at < length xs → ((i : ℕ) → i < at → (id_at xs i).0 ≢ (id_at xs at).0)
+    → position_or_len (λ (x : DomId). x.0 == (id_at xs at).0) xs ≡ at
 position_or_len-id [] at inside apart = absurd (omega arith)
-position_or_len-id (x ∷ xs) zero inside apart = ap (λ (b : Bool). cond (not b) (1 + position_or_len (λ (y : DomId). y.0 == x.0) xs) 0) (eq-eqb x.0 x.0 refl)
-position_or_len-id (x ∷ xs) (suc at) inside apart = let n = apart 0 (omega arith) in let rest = position_or_len-id xs at (omega arith) (λ i l. apart (suc i) (omega arith)) in
-    ap (λ (b : Bool). cond (not b) (1 + position_or_len (λ (y : DomId). y.0 == (id_at xs at).0) xs) 0) (ne_eqb x.0 (id_at xs at).0 n) ∙ (let e : 1 + position_or_len (λ (y : DomId). y.0 == (id_at xs at).0) xs ≡ suc at = omega arith in e)
+position_or_len-id (x ∷ xs) zero inside apart =
+    ap (λ (b : Bool). cond (not b) (1 + position_or_len (λ (y : DomId). y.0 == x.0) xs) 0) (eq-eqb x.0 x.0 refl)
+position_or_len-id (x ∷ xs) (suc at) inside apart = let n = apart 0 (omega arith) in
+    let rest = position_or_len-id xs at (omega arith) (λ i l. apart (suc i) (omega arith)) in
+    ap (λ (b : Bool). cond (not b) (1 + position_or_len (λ (y : DomId). y.0 == (id_at xs at).0) xs) 0)
+    (ne_eqb x.0 (id_at xs at).0 n)
+    ∙ (let e : 1 + position_or_len (λ (y : DomId). y.0 == (id_at xs at).0) xs ≡ suc at = omega arith in e)
 
-id_at-map : (xs : List DomainConfig) (i : ℕ) (d : DomainConfig) → i < length xs → id_at (map (λ y. y.id) xs) i ≡ (get_or xs i d).id
+id_at-map : (xs : List DomainConfig) (i : ℕ) (d : DomainConfig) → i < length xs
+    → id_at (map (λ y. y.id) xs) i ≡ (get_or xs i d).id
 id_at-map [] i d inside = absurd (omega arith)
 id_at-map (x ∷ xs) zero d inside = refl
 id_at-map (x ∷ xs) (suc i) d inside = id_at-map xs i d (omega arith)
@@ -107,24 +144,36 @@ length-ids : (xs : List DomainConfig) → length (map (λ y. y.id) xs) ≡ lengt
 length-ids [] = refl
 length-ids (x ∷ xs) = ap suc (length-ids xs)
 
-distinct_ids : (xs : List DomainConfig) → AllPairs (λ d e. d.id.0 ≢ e.id.0) xs → (i j : ℕ) → i < j → j < length xs → (id_at (map (λ y. y.id) xs) i).0 ≢ (id_at (map (λ y. y.id) xs) j).0
+distinct_ids : (xs : List DomainConfig) → AllPairs (λ d e. d.id.0 ≢ e.id.0) xs → (i j : ℕ) → i < j → j < length xs
+    → (id_at (map (λ y. y.id) xs) i).0 ≢ (id_at (map (λ y. y.id) xs) j).0
 distinct_ids [] distinct i j below inside = absurd (omega arith)
-distinct_ids (x ∷ xs) distinct i j below inside = λ e. distinct i j x below inside (ap (λ (u : DomId). u.0) (sym (id_at-map (x ∷ xs) i x (omega arith))) ∙ (e ∙ ap (λ (u : DomId). u.0) (id_at-map (x ∷ xs) j x inside)))
+distinct_ids (x ∷ xs) distinct i j below inside =
+    λ e. distinct i j x below inside
+    (ap (λ (u : DomId). u.0) (sym (id_at-map (x ∷ xs) i x (omega arith)))
+    ∙ (e ∙ ap (λ (u : DomId). u.0) (id_at-map (x ∷ xs) j x inside)))
 
 found_there : (n len : ℕ) → n < len → unwrap_or (cond (nat_lt n len) (Some n) None) len ≡ n
 found_there n len inside = grind (arith, nat_tests)
 
 -- a seat's domain is found at the seat's position
-pub own_position : (key : Config) (k : Layout) (ids : List DomId) (p : ℕ) (dom : DomId) → layout_of key ≡ k → IsWithinLimits key → ids ≡ (layout_of key).ids → p < length k.ids → id_at k.ids p ≡ dom → p ≡ position_in ids dom
-own_position key k ids p dom is limits same inside named = let xs : List DomId = (layout_of key).ids in let all : List DomainConfig = key.domains.items in
-    let inside' : p < length xs = subst (λ (u : Layout). p < length u.ids) (sym is) inside in let named' : id_at xs p ≡ dom = subst (λ (u : Layout). id_at u.ids p ≡ dom) (sym is) named in
-    let l = length-ids all in let found = position_or_len-id xs p inside' (λ i below. distinct_ids all limits.distinct i p below (omega arith)) in
-    let at : position_in xs (id_at xs p) ≡ p = ap (λ (n : ℕ). unwrap_or (cond (nat_lt n (length xs)) (Some n) None) (length xs)) found ∙ found_there p (length xs) inside' in
+pub own_position : (key : Config) (k : Layout) (ids : List DomId) (p : ℕ) (dom : DomId) → layout_of key ≡ k
+    → IsWithinLimits key → ids ≡ (layout_of key).ids → p < length k.ids → id_at k.ids p ≡ dom → p ≡ position_in ids dom
+own_position key k ids p dom is limits same inside named = let xs : List DomId = (layout_of key).ids in
+    let all : List DomainConfig = key.domains.items in
+    let inside' : p < length xs = subst (λ (u : Layout). p < length u.ids) (sym is) inside in
+    let named' : id_at xs p ≡ dom = subst (λ (u : Layout). id_at u.ids p ≡ dom) (sym is) named in
+    let l = length-ids all in let found =
+    position_or_len-id xs p inside' (λ i below. distinct_ids all limits.distinct i p below (omega arith)) in
+    let at : position_in xs (id_at xs p) ≡ p =
+    ap (λ (n : ℕ). unwrap_or (cond (nat_lt n (length xs)) (Some n) None) (length xs)) found
+    ∙ found_there p (length xs) inside' in
     sym at ∙ ((λ i. position_in xs (named' i)) ∙ (λ i. position_in (sym same i) dom))
 
-found_at : (xs : List DomId) (d : DomId) (o : Option ℕ) → position (λ (x : DomId). x.0 == d.0) xs ≡ o → unwrap_or o (length xs) < length xs → (id_at xs (unwrap_or o (length xs))).0 ≡ d.0
+found_at : (xs : List DomId) (d : DomId) (o : Option ℕ) → position (λ (x : DomId). x.0 == d.0) xs ≡ o
+    → unwrap_or o (length xs) < length xs → (id_at xs (unwrap_or o (length xs))).0 ≡ d.0
 found_at xs d None is inside = absurd (omega arith)
-found_at xs d (Some i) is inside = let passes = (position-Some (λ (x : DomId). x.0 == d.0) xs i (record { 0 = 0 }) is).1 in grind (arith, nat_tests)
+found_at xs d (Some i) is inside =
+    let passes = (position-Some (λ (x : DomId). x.0 == d.0) xs i (record { 0 = 0 }) is).1 in grind (arith, nat_tests)
 
 abbrev numbered : ℕ → DomId
 numbered n = record { 0 = n }
@@ -137,21 +186,29 @@ id_of : DomainConfig → DomId
 id_of x = x.id
 
 -- where the list of a configuration has a domain, and where it has not
-among : (ds : List DomainConfig) (d : DomId) → IsSome (domain_of ds d) → position_or_len (λ (y : DomId). y.0 == d.0) (map (λ z. z.id) ds) < length (map (λ z. z.id) ds)
+among : (ds : List DomainConfig) (d : DomId) → IsSome (domain_of ds d)
+    → position_or_len (λ (y : DomId). y.0 == d.0) (map (λ z. z.id) ds) < length (map (λ z. z.id) ds)
 among [] d e = cc
 among (c ∷ ds) d e = by (λ z. among ds d z) (c.id.0 == d.0) e
   where
-    by : (IsSome (domain_of ds d) → position_or_len (λ (y : DomId). y.0 == d.0) (map (λ z. z.id) ds) < length (map (λ z. z.id) ds)) → (b : Bool) → IsSome (cond b (Some c) (domain_of ds d))
-        → cond (not b) (1 + position_or_len (λ (y : DomId). y.0 == d.0) (map (λ z. z.id) ds)) 0 < suc (length (map (λ z. z.id) ds))
+    by : (IsSome (domain_of ds d)
+        → position_or_len (λ (y : DomId). y.0 == d.0) (map (λ z. z.id) ds) < length (map (λ z. z.id) ds)) → (b : Bool)
+        → IsSome (cond b (Some c) (domain_of ds d))
+        → cond (not b) (1 + position_or_len (λ (y : DomId). y.0 == d.0) (map (λ z. z.id) ds)) 0 < suc
+        (length (map (λ z. z.id) ds))
     by rest true is = omega arith
     by rest false is = let more = rest is in omega (arith, more)
 
-named : (ds : List DomainConfig) (d : DomId) → position_or_len (λ (y : DomId). y.0 == d.0) (map (λ z. z.id) ds) < length (map (λ z. z.id) ds) → IsSome (domain_of ds d)
+named : (ds : List DomainConfig) (d : DomId)
+    → position_or_len (λ (y : DomId). y.0 == d.0) (map (λ z. z.id) ds) < length (map (λ z. z.id) ds)
+    → IsSome (domain_of ds d)
 named [] d e = absurd (omega arith)
 named (c ∷ ds) d e = by (λ z. named ds d z) (c.id.0 == d.0) e
   where
-    by : (position_or_len (λ (y : DomId). y.0 == d.0) (map (λ z. z.id) ds) < length (map (λ z. z.id) ds) → IsSome (domain_of ds d)) → (b : Bool)
-        → cond (not b) (1 + position_or_len (λ (y : DomId). y.0 == d.0) (map (λ z. z.id) ds)) 0 < suc (length (map (λ z. z.id) ds)) → IsSome (cond b (Some c) (domain_of ds d))
+    by : (position_or_len (λ (y : DomId). y.0 == d.0) (map (λ z. z.id) ds) < length (map (λ z. z.id) ds)
+        → IsSome (domain_of ds d)) → (b : Bool)
+        → cond (not b) (1 + position_or_len (λ (y : DomId). y.0 == d.0) (map (λ z. z.id) ds)) 0 < suc
+        (length (map (λ z. z.id) ds)) → IsSome (cond b (Some c) (domain_of ds d))
     by rest true is = refl
     by rest false is = rest (omega arith)
 
@@ -171,14 +228,18 @@ domain_of_run c d = (λ e. unwrapped _ _ (among c.domains.items d e), λ lt. nam
 
 -- a seat is at the position of its domain
 pub seat_at : SeatsStandThere
-seat_at c b s limits layout is = own_position c b.layout b.layout.ids s.view.position s.dom (sym layout) limits (ap (λ (k : Layout). k.ids) layout) is.inside is.named
+seat_at c b s limits layout is =
+    own_position c b.layout b.layout.ids s.view.position s.dom (sym layout) limits
+    (ap (λ (k : Layout). k.ids) layout) is.inside is.named
 
 -- pins of one entry and generation have one record
 pub pins_alike : PinsHaveOneRecord
 pins_alike k s i j v w t r p q shown at_v at_w tn rn p_in q_in same = let f = (shown.entries t r tn rn).record_shown in
-    let a = f.pinned i (steps_on t r v) (at_map (steps_on t r) s.views i v at_v) p p_in in let b = f.pinned j (steps_on t r w) (at_map (steps_on t r) s.views j w at_w) q q_in in
+    let a = f.pinned i (steps_on t r v) (at_map (steps_on t r) s.views i v at_v) p p_in in
+    let b = f.pinned j (steps_on t r w) (at_map (steps_on t r) s.views j w at_w) q q_in in
     one_record _ _ p.1 q.1 f.lawful a.0 b.0 a.1 b.1 same
 
 -- each pin is of an entry
 pub pin_entry : PinsAreOfEntries
-pin_entry k s i v t r p shown at tn rn p_in = ((shown.entries t r tn rn).record_shown.pinned i (steps_on t r v) (at_map (steps_on t r) s.views i v at) p p_in).1
+pin_entry k s i v t r p shown at tn rn p_in =
+    ((shown.entries t r tn rn).record_shown.pinned i (steps_on t r v) (at_map (steps_on t r) s.views i v at) p p_in).1

@@ -20,7 +20,9 @@ dealt_to v = new_view v.first v.headers v.ids v.dealt
 
 -- the same seat of the table underneath, whatever it knows by now (own)
 abbrev pub IsSamePlace : Seat (Unit {0}) View → Seat (Unit {0}) View → Type 0
-IsSamePlace s t = (t.table_id ≡ s.table_id) × (t.id ≡ s.id) × (t.me.1 ≡ s.me.1) × (t.me.0.position ≡ s.me.0.position) × (t.me.0.first ≡ s.me.0.first) × (t.me.0.headers ≡ s.me.0.headers) × (t.me.0.ids ≡ s.me.0.ids)
+IsSamePlace s t =
+    (t.table_id ≡ s.table_id) × (t.id ≡ s.id) × (t.me.1 ≡ s.me.1) × (t.me.0.position ≡ s.me.0.position)
+    × (t.me.0.first ≡ s.me.0.first) × (t.me.0.headers ≡ s.me.0.headers) × (t.me.0.ids ≡ s.me.0.ids)
 
 -- the seat of the table underneath for the position i, which has done nothing (own)
 pub record IsNewPlace (z : TableId) (k : Layout) (i : ℕ) (s : Seat (Unit {0}) View) : Type 0 where

@@ -1,5 +1,6 @@
 -- The rule of the table: between any two steps words and views show a state of the core.
-use Rattle.std.specs.Prelude.{◌≡◌, ◌≢◌, ◌⊎◌, ℕ, ◌+◌, ◌*◌, ◌<◌, ◌≤◌, true, not, ◌==◌, List, [], ◌∷◌, map, length, slice_index, slice_index_or, Option, Some, None, IfSome, position, unwrap_or}
+use Rattle.std.specs.Prelude.{◌≡◌, ◌≢◌, ◌⊎◌, ℕ, ◌+◌, ◌*◌, ◌<◌, ◌≤◌, true, not, ◌==◌, List, [], ◌∷◌, map, length}
+use Rattle.std.specs.Prelude.{slice_index, slice_index_or, Option, Some, None, IfSome, position, unwrap_or}
 use mathlib.Core.Option.{some}
 use lib.ListN.{get_elem?}
 use Rattle.atomic_table.specs.Table.{State}
@@ -17,14 +18,17 @@ use Rattle.gt_types.specs.declared.config.DomainConfig.{DomainConfig}
 use Rattle.gt_types.specs.declared.limits.TheConstants.{MAX_TABLE_FRAMES, TABLE_ENTRIES}
 use Rattle.gt_words.specs.declared.word_table.TheConstants.{DOMAIN_WORDS, ENTRY_WORDS}
 use Rattle.gt_words.specs.Controls.{generation_of, pins_in}
-use Rattle.gt_words.specs.Views.{IsIn, LivePin, Seen, earlier_records, exchanged, last_record, pin_count, pins, pins_until, seen, seen_header, steps_on, steps_on_header, stored_body, stored_header, stored_headers, taken_count}
+use Rattle.gt_words.specs.Views.{IsIn, LivePin, Seen, earlier_records, exchanged, last_record, pin_count, pins}
+use Rattle.gt_words.specs.Views.{pins_until, seen, seen_header, steps_on, steps_on_header, stored_body, stored_header}
+use Rattle.gt_words.specs.Views.{stored_headers, taken_count}
 use Rattle.gt_words.specs.declared.view.EntryStep.{EntryStep}
 use Rattle.gt_entry.specs.declared.change.Half.TheVariants.{First, Second}
 use Rattle.gt_words.specs.declared.view.HeaderStep.{HeaderStep}
 use Rattle.gt_words.specs.declared.view.EntryRecord.{EntryRecord}
 use Rattle.gt_words.specs.declared.view.View.{View}
 
--- the run as the words need it: the domains in order, their number, the first generation of all entries, and the first header of each domain (own)
+-- the run as the words need it: the domains in order, their number, the first
+-- generation of all entries, and the first header of each domain (own)
 pub record Layout : Type 0 where
   pub ids : List DomId
   pub domains : ℕ
@@ -37,7 +41,13 @@ first_header d = record { version = d.version; frames = d.table_frames }
 
 -- the run of a configuration (own)
 abbrev pub layout_of : Config → Layout
-layout_of c = record { ids = map (λ d. d.id) c.domains.items; domains = length c.domains.items; first = c.first_gen; headers = map (λ d. header_word (first_header d)) c.domains.items }
+layout_of c =
+    record {
+      ids = map (λ d. d.id) c.domains.items;
+      domains = length c.domains.items;
+      first = c.first_gen;
+      headers = map (λ d. header_word (first_header d)) c.domains.items;
+    }
 
 -- the position of a domain among those of the run, or their number where it is none of them (own)
 abbrev pub position_in : List DomId → DomId → ℕ
@@ -47,7 +57,8 @@ position_in xs d = unwrap_or (position (λ x. x.0 == d.0) xs) (length xs)
 abbrev pub id_at : List DomId → ℕ → DomId
 id_at xs t = slice_index_or xs t (record { 0 = 0 })
 
--- the place of the word j of the entry r of the domain t: after the header of its domain, each entry at a stride of its own (own)
+-- the place of the word j of the entry r of the domain t: after the header
+-- of its domain, each entry at a stride of its own (own)
 abbrev pub place : ℕ → ℕ → ℕ → ℕ
 place t r j = t * DOMAIN_WORDS + (ENTRY_WORDS * r + (ENTRY_WORDS + j))
 
@@ -63,15 +74,19 @@ IsRecord x = IsEntry x.entry × (x.generation < 1048576)
 abbrev pub IsRevocation : EntryRecord → EntryRecord → Type 0
 IsRevocation x y = (x.entry ≡ Invalid) × (x.generation ≡ y.generation)
 
--- x is an entry of the next generation: a publication after an invalid record, or the record before with the other readonly (own)
+-- x is an entry of the next generation: a publication after an invalid
+-- record, or the record before with the other readonly (own)
 abbrev pub IsNextEntry : EntryRecord → EntryRecord → Type 0
-IsNextEntry x y = (x.generation ≡ y.generation + 1) × (x.entry ≢ Invalid) × ((y.entry ≡ Invalid) ⊎ (x.entry ≡ with_ro (not (is_read_only y.entry)) y.entry))
+IsNextEntry x y =
+    (x.generation ≡ y.generation + 1) × (x.entry ≢ Invalid)
+    × ((y.entry ≡ Invalid) ⊎ (x.entry ≡ with_ro (not (is_read_only y.entry)) y.entry))
 
 -- the record x may come next after y (own)
 abbrev pub MayFollow : EntryRecord → EntryRecord → Type 0
 MayFollow x y = IsRevocation x y ⊎ IsNextEntry x y
 
--- the owner's list, x the last record and after it the earlier ones: the first is invalid, and each other may come next after the one before it (own)
+-- the owner's list, x the last record and after it the earlier ones: the first is
+-- invalid, and each other may come next after the one before it (own)
 abbrev pub IsLawful : EntryRecord → List EntryRecord → Type 0
 IsLawful x [] = IsRecord x × (x.entry ≡ Invalid)
 IsLawful x (y ∷ ys) = IsRecord x × MayFollow x y × IsLawful y ys
@@ -102,7 +117,8 @@ Agrees (Page d o f) a b = IfSome a (λ x. x ≡ f)
 Agrees (Sub d o f y n) a b = IfSome a (λ x. x ≡ f) × IfSome b (λ x. x ≡ y + n * 65536)
 Agrees (Via d o t r) a b = IfSome a (λ x. x ≡ t.0 + r.0 * 65536)
 
--- the word seen spells a record of the owner's list x ∷ xs, and so do the body values read since, if that record is still the last one (own)
+-- the word seen spells a record of the owner's list x ∷ xs, and so do the body
+-- values read since, if that record is still the last one (own)
 pub record IsSeenOf (x : EntryRecord) (xs : List EntryRecord) (s : Seen) : Type 0 where
   pub at : EntryRecord
   pub reads : ℕ
@@ -118,7 +134,8 @@ SawRecord x xs None = Unit {0}
 SawRecord x xs (Some s) = IsSeenOf x xs s
 
 -- the words of one entry and the steps of each seat on it show the last record x, after the records xs (own)
-pub record ShowsRecord (x : EntryRecord) (xs : List EntryRecord) (word a b : ℕ) (hs : List (List EntryStep)) : Type 0 where
+pub record ShowsRecord (x : EntryRecord) (xs : List EntryRecord) (word a b : ℕ)
+    (hs : List (List EntryStep)) : Type 0 where
   -- owner part and generation of the control word spell the last record, and its counts are the sums of the views' pins
   pub spelled : word ≡ word_of x.entry x.generation (total_pins Read hs) (total_pins Write hs)
   pub in_range : (total_pins Read hs < 4096) × (total_pins Write hs < 4096)
@@ -129,11 +146,13 @@ pub record ShowsRecord (x : EntryRecord) (xs : List EntryRecord) (word a b : ℕ
   -- a read-only last record has no write pins in any view
   pub unwritten : is_read_only x.entry ≡ true → total_pins Write hs ≡ 0
   -- each pin is of a record of the owner's list, which is an entry
-  pub pinned : (i : ℕ) (h : List EntryStep) → get_elem? hs i ≡ some h → (p : LivePin) → IsIn p (pins h) → IsIn p.1 (x ∷ xs) × (p.1.entry ≢ Invalid)
+  pub pinned : (i : ℕ) (h : List EntryStep) → get_elem? hs i ≡ some h → (p : LivePin) → IsIn p (pins h)
+      → IsIn p.1 (x ∷ xs) × (p.1.entry ≢ Invalid)
   pub saw : (i : ℕ) (h : List EntryStep) → get_elem? hs i ≡ some h → SawRecord x xs (seen h)
   pub counted : (i : ℕ) (h : List EntryStep) → get_elem? hs i ≡ some h → CountsTaken hs (seen h)
 
--- the owner's list has gone on from the word e to the last record x: no pin is taken any more of the record of that word or of an earlier one, so of those no more are left than it counts (own)
+-- the owner's list has gone on from the word e to the last record x: no pin is taken any more of the record
+-- of that word or of an earlier one, so of those no more are left than it counts (own)
 pub record HasGoneOn (x : EntryRecord) (hs : List (List EntryStep)) (e : ℕ) : Type 0 where
   pub not_later : generation_of e ≤ x.generation
   pub earlier : x.entry ≢ Invalid → generation_of e < x.generation
@@ -144,7 +163,8 @@ pub record HasGoneOn (x : EntryRecord) (hs : List (List EntryStep)) (e : ℕ) : 
 abbrev pub owner_steps : ℕ → List (List EntryStep) → List EntryStep
 owner_steps t hs = slice_index_or hs t []
 
--- words and steps show the last record of the owner t, after its earlier ones, and the body words are those that it stored last (own)
+-- words and steps show the last record of the owner t, after its earlier ones,
+-- and the body words are those that it stored last (own)
 pub record ShowsEntry (g t word a b : ℕ) (hs : List (List EntryStep)) : Type 0 where
   pub record_shown : ShowsRecord (last_record g (owner_steps t hs)) (earlier_records g (owner_steps t hs)) word a b hs
   pub first : a ≡ stored_body First (owner_steps t hs)
@@ -152,7 +172,8 @@ pub record ShowsEntry (g t word a b : ℕ) (hs : List (List EntryStep)) : Type 0
   -- each word that the owner exchanged from counts the pins that are left of its record and of earlier ones
   pub gone_on : (e : ℕ) → IsIn e (exchanged (owner_steps t hs)) → HasGoneOn (last_record g (owner_steps t hs)) hs e
 
--- the header has version 1 or 2, and a number of table frames within the limit (versions: grant_table.h; the limit: own)
+-- the header has version 1 or 2, and a number of table frames within
+-- the limit (versions: grant_table.h; the limit: own)
 pub record IsKeptHeader (h : Header) : Type 0 where
   pub version : (h.version ≡ 1) ⊎ (h.version ≡ 2)
   pub some : 0 < h.frames
@@ -172,17 +193,23 @@ headers_of k t hs = stored_headers (slice_index k.headers t) (slice_index_or hs 
 
 -- the header of the domain t that each seat saw last, if any, is one of the owner's list (own)
 abbrev pub SawHeaders : Layout → ℕ → List (List HeaderStep) → Type 0
-SawHeaders k t hs = (i : ℕ) (h : List HeaderStep) → get_elem? hs i ≡ some h → IfSome (seen_header h) (λ n. IsIn n (headers_of k t hs))
+SawHeaders k t hs =
+    (i : ℕ) (h : List HeaderStep) → get_elem? hs i ≡ some h → IfSome (seen_header h) (λ n. IsIn n (headers_of k t hs))
 
 module _ {S : Type 0} where
   -- words and views show a state of the core (own)
   pub record Shows (k : Layout) (s : State S View) : Type 0 where
     pub wide : length s.words ≡ k.domains * DOMAIN_WORDS
     -- the first seat deals the others, and counts them
-    pub dealt : ((v : View) → get_elem? s.views 0 ≡ some v → v.dealt ≡ length s.views) × (length s.views ≤ k.domains) × (0 < length s.views)
+    pub dealt : ((v : View) → get_elem? s.views 0 ≡ some v → v.dealt ≡ length s.views) × (length s.views ≤ k.domains)
+        × (0 < length s.views)
     -- the seat of each domain stands at its position
-    pub seats : (j : ℕ) (v : View) → get_elem? s.views j ≡ some v → (v.position ≡ j) × (v.first ≡ k.first) × (v.headers ≡ k.headers)
+    pub seats : (j : ℕ) (v : View) → get_elem? s.views j ≡ some v
+        → (v.position ≡ j) × (v.first ≡ k.first) × (v.headers ≡ k.headers)
     pub entries : (t r : ℕ) → t < k.domains → r < TABLE_ENTRIES
-        → ShowsEntry k.first t (slice_index s.words (place t r 0)) (slice_index s.words (place t r 1)) (slice_index s.words (place t r 2)) (map (steps_on t r) s.views)
-    pub headers : (t : ℕ) → t < k.domains → (slice_index s.words (header_place t) ≡ header_now k t (map (steps_on_header t) s.views)) × IsHeader (slice_index s.words (header_place t))
+        → ShowsEntry k.first t (slice_index s.words (place t r 0)) (slice_index s.words (place t r 1))
+        (slice_index s.words (place t r 2)) (map (steps_on t r) s.views)
+    pub headers : (t : ℕ) → t < k.domains
+        → (slice_index s.words (header_place t) ≡ header_now k t (map (steps_on_header t) s.views))
+        × IsHeader (slice_index s.words (header_place t))
     pub saw_headers : (t : ℕ) → t < k.domains → SawHeaders k t (map (steps_on_header t) s.views)

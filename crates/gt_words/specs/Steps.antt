@@ -14,7 +14,8 @@ use Rattle.gt_words.specs.Events.{Happens}
 use Rattle.gt_words.specs.Rule.{Layout, Shows}
 use Rattle.gt_words.specs.Views.{last_of, last_seen, record_seen, with_step}
 use Rattle.gt_words.specs.declared.view.EntryStep.{EntryStep}
-use Rattle.gt_words.specs.declared.view.EntryStep.TheVariants.{ChangeMissed, Changed, Looked, PinMissed, Pinned, ReadBody, StoredBody, Unpinned}
+use Rattle.gt_words.specs.declared.view.EntryStep.TheVariants.{ChangeMissed, Changed, Looked, PinMissed, Pinned}
+use Rattle.gt_words.specs.declared.view.EntryStep.TheVariants.{ReadBody, StoredBody, Unpinned}
 use Rattle.gt_entry.specs.declared.change.Half.{Half}
 use Rattle.gt_entry.specs.declared.change.Half.TheVariants.{First, Second}
 use Rattle.gt_words.specs.declared.view.HeaderStep.{HeaderStep}
@@ -27,7 +28,8 @@ use Rattle.gt_words.specs.declared.view.Purpose.TheVariants as purpose
 use Rattle.gt_words.specs.declared.view.HeaderStep.TheVariants as header
 use Rattle.gt_words.specs.declared.view.SeatStep.TheVariants as step_of
 
--- the seat with the view v takes the step x on this word, where it finds and leaves these numbers: words and views show a state before it and after it, and it takes the one to what the core's event makes of it (own)
+-- the seat with the view v takes the step x on this word, where it finds and leaves these numbers: words and views show
+-- a state before it and after it, and it takes the one to what the core's event makes of it (own)
 pub record TakesStep (S : Type 0) (k : Layout) (v : View) (x : SeatStep) (word found left : ℕ) : Type 0 where
   pub before : State S View
   pub shown : Shows k before
@@ -50,9 +52,11 @@ pub record StepKind : Type 0 where
   pub step : ℕ → SeatStep
   pub leaves : ℕ → ℕ
 
--- what a step of this kind promises its caller: its view gained the step, which was taken on words and views that show a state (own)
+-- what a step of this kind promises its caller: its view gained the step,
+-- which was taken on words and views that show a state (own)
 abbrev pub tells : {S : Type 0} → StepKind → TableStep S → Me S View → ℕ → Me S View → Type 0
-tells {S} d st m n m' = (m'.1 ≡ m.1) × (m'.0 ≡ with_step (d.step n) m.0) × TakesStep S d.layout m.0 (d.step n) st.word n (d.leaves n)
+tells {S} d st m n m' =
+    (m'.1 ≡ m.1) × (m'.0 ≡ with_step (d.step n) m.0) × TakesStep S d.layout m.0 (d.step n) st.word n (d.leaves n)
 
 -- the same of a store, which does not say what it found (own)
 abbrev pub tells_stored : {S : Type 0} → StepKind → TableStep S → Me S View → Me S View → Type 0
@@ -92,7 +96,9 @@ storing_header k t w = record { layout = k; step = λ n. on_header t (header.Sto
 abbrev pub changed : Change → EntryRecord → EntryRecord
 changed c x = record { generation = x.generation + raise_of c; entry = changed_entry c x.entry }
 
--- the word that an owner's exchange stores in place of this one, where the last record is x: the idle word of the entry published, at the next generation; the invalid one of the same generation; or the same with the other readonly, at the next generation (own)
+-- the word that an owner's exchange stores in place of this one, where the last record is x: the
+-- idle word of the entry published, at the next generation; the invalid one of the same
+-- generation; or the same with the other readonly, at the next generation (own)
 abbrev pub changed_word : Change → EntryRecord → ℕ → ℕ
 changed_word (change.Publish e) x word = idle_word_of e (x.generation + 1)
 changed_word change.Revoke x word = invalid_word word
@@ -109,9 +115,11 @@ abbrev pub missed : Purpose → ℕ → ℕ → ℕ → EntryStep
 missed (purpose.Pin d) old new n = PinMissed d old new n
 missed (purpose.Change c) old new n = ChangeMissed c old new n
 
--- an exchange of a control word: taken, and the word is the new one, exactly where the one expected is found (C11 atomics: atomic_compare_exchange_strong)
+-- an exchange of a control word: taken, and the word is the new one, exactly where the
+-- one expected is found (C11 atomics: atomic_compare_exchange_strong)
 abbrev pub exchanging : Layout → ℕ → ℕ → View → Purpose → ℕ → ℕ → StepKind
-exchanging k t r v p old new = entry_kind k t r (λ n. cond (n == old) (taken t r v p old new) (missed p old new n)) (λ n. either (n == old) new n)
+exchanging k t r v p old new =
+    entry_kind k t r (λ n. cond (n == old) (taken t r v p old new) (missed p old new n)) (λ n. either (n == old) new n)
 
 -- the index of a body word among the words of an entry (own)
 abbrev pub half_index : Half → ℕ

@@ -1,5 +1,6 @@
 -- What follows from the steps of one seat. Lists begin with what came last.
-use Rattle.std.specs.Prelude.{◌≡◌, ◌⊎◌, ℕ, ◌+◌, Bool, true, false, cond, IsSome, ◌==◌, ◌&&◌, List, [], ◌∷◌, Option, Some, None, slice_index, count_by, nat_le}
+use Rattle.std.specs.Prelude.{◌≡◌, ◌⊎◌, ℕ, ◌+◌, Bool, true, false, cond, IsSome, ◌==◌, ◌&&◌, List, [], ◌∷◌, Option}
+use Rattle.std.specs.Prelude.{Some, None, slice_index, count_by, nat_le}
 use Rattle.gt_types.specs.declared.Dir.{Dir}
 use Rattle.gt_types.specs.declared.Dir.TheVariants.{Read, Write}
 use Rattle.gt_entry.specs.declared.entry.Entry.TheVariants as entries
@@ -7,7 +8,8 @@ use Rattle.gt_entry.specs.declared.change.Half.{Half}
 use Rattle.gt_entry.specs.declared.change.Half.TheVariants.{First, Second}
 use Rattle.gt_words.specs.declared.view.EntryRecord.{EntryRecord}
 use Rattle.gt_words.specs.declared.view.EntryStep.{EntryStep}
-use Rattle.gt_words.specs.declared.view.EntryStep.TheVariants.{Looked, ReadBody, Pinned, PinMissed, Unpinned, StoredBody, Changed, ChangeMissed}
+use Rattle.gt_words.specs.declared.view.EntryStep.TheVariants.{Looked, ReadBody, Pinned, PinMissed, Unpinned}
+use Rattle.gt_words.specs.declared.view.EntryStep.TheVariants.{StoredBody, Changed, ChangeMissed}
 use Rattle.gt_words.specs.declared.view.HeaderStep.{HeaderStep}
 use Rattle.gt_words.specs.declared.view.HeaderStep.TheVariants as header
 use Rattle.gt_words.specs.declared.view.SeatStep.{SeatStep}
@@ -172,7 +174,8 @@ with_body h v None = None
 with_body First v (Some s) = Some (record s { first = Some v })
 with_body Second v (Some s) = Some (record s { second = Some v })
 
--- what a seat saw of an entry: the last control word that a look or a missed exchange found, and the body values read since (own)
+-- what a seat saw of an entry: the last control word that a look or a missed
+-- exchange found, and the body values read since (own)
 abbrev pub seen : List EntryStep → Option Seen
 seen [] = None
 seen (Looked w ∷ ms) = seen_word w
@@ -188,7 +191,11 @@ value_or_zero (Some x) = x
 
 -- the record that was seen: the generation and entry that the words spell (own)
 abbrev pub record_seen : Seen → EntryRecord
-record_seen s = record { generation = generation_of s.word; entry = entry_of (control_of s.word) (value_or_zero s.first) (value_or_zero s.second) }
+record_seen s =
+    record {
+      generation = generation_of s.word;
+      entry = entry_of (control_of s.word) (value_or_zero s.first) (value_or_zero s.second);
+    }
 
 -- the body words were read since the look, both for a sub-page (own)
 abbrev pub HasBody : Seen → Type 0

@@ -3,7 +3,8 @@ ghost use Rattle.std.specs.Prelude.{◌≡◌, ◌≢◌, ◌+◌, ◌<◌, [], 
 ghost use Rattle.gt_words.specs.Views.{last_of, last_seen, record_seen};
 ghost use Rattle.gt_words.specs.Rule.{layout_of};
 ghost use Rattle.gt_words_tests.specs.Pinned.{IsPinned};
-ghost use Rattle.gt_words.specs.Conditions.{KeepsPins, IsSeatOf, IsSameSeat, HasLooked, HasDomain, IsEntryOf, position_at};
+ghost use Rattle.gt_words.specs.Conditions.{KeepsPins, IsSeatOf, IsSameSeat, HasLooked, HasDomain, IsEntryOf};
+ghost use Rattle.gt_words.specs.Conditions.{position_at};
 
 use gt_entry::{Control, Entry, Half, Kind};
 use gt_types::{
