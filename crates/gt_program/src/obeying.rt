@@ -38,7 +38,8 @@ fn perform<R: Read, W: Write>(
     reader: &mut R,
     out: &mut W,
 ) -> Result<(), Failure>
-    ensures { OfInput (R.remaining reader.old) (λ input. Performs work input (W.contents out.old) (W.contents out.new) result) }
+    ensures { OfInput (R.remaining reader.old) (λ input.
+        Performs work input (W.contents out.old) (W.contents out.new) result) }
 {
     match work {
         Work::Play { audit } => match gt_host::play(alloc, reader, out, audit) {
@@ -113,7 +114,8 @@ fn run_script<R: Threads + Wait + Sync, I: Read, W: Write>(
     reader: &mut I,
     out: &mut W,
 ) -> Result<(), Failure>
-    ensures { OfInput (I.remaining reader.old) (λ input. PerformsRun input (W.contents out.old) (W.contents out.new) result) }
+    ensures { OfInput (I.remaining reader.old) (λ input.
+        PerformsRun audit input (W.contents out.old) (W.contents out.new) result) }
 {
     let Ok(gate) = Flags::new(rt, alloc) else {
         return Err(Failure::Memory);
@@ -137,7 +139,7 @@ fn run_on<R: Threads + Wait + Sync, T: Texts, W: Write>(
     out: &mut W,
 ) -> Result<(), Failure>
     ensures { IfSome (known_text (T.file texts.now) (T.input texts.now) (option_map (λ f. f.now) invocation.now.file))
-        (λ input. RunsDomains input (W.contents out.old) (W.contents out.new) result) }
+        (λ input. RunsDomains invocation.now.audit input (W.contents out.old) (W.contents out.new) result) }
 {
     let audit = invocation.audit;
     let Some(name) = invocation.file else {
