@@ -19,7 +19,7 @@ pub enum ScriptFaultKind {
     Config,
     /// A line that is for the other of the commands `play` and `run`.
     Mode,
-    /// A list that waits for a flag that is never told.
+    /// A list that waits for a flag that is never raised.
     Stuck,
 }
 

@@ -93,7 +93,7 @@ fn every_beginning_is_a_script_or_has_a_fault(rt: HostRuntime) -> Result<(), Fai
     Ok(())
 }
 
-// Two domains take turns, flag by flag, so each turn of the reader tells one flag more. Then one waits for ever.
+// Two domains take turns, flag by flag, so each turn of the reader raises one flag more. Then one waits for ever.
 #[test]
 fn a_long_way_round_ends(rt: HostRuntime) -> Result<(), Fail> {
     let alloc = rt.alloc();
