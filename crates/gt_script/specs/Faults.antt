@@ -24,7 +24,7 @@ fault_word Stuck = codes "stuck"
 abbrev pub fault_text : ScriptFault → List ℕ
 fault_text f = codes "line " ++ decimal f.line ++ codes ": " ++ fault_word f.kind
 
--- why there is no script: a fault of its policy block is told as one of a policy, with its line in the script (own)
+-- why there is no script: a fault of its policy block is reported as one of a policy, with its line in the script (own)
 abbrev pub error_text : ScriptError → List ℕ
 error_text Memory = codes "memory"
 error_text (errors.Fault f) = fault_text f
