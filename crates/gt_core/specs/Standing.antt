@@ -204,7 +204,7 @@ abbrev pub IsRoomFor : Asked → Action → Type 0
 IsRoomFor request (Ends (KeptPin held)) = IsMapping (Some request)
 IsRoomFor request action = Unit {0}
 
--- a run can't start for this reason: the first fault of its configuration, or want of memory where that has none (own)
+-- a run can't start for this reason: the first fault of its configuration, or, where that has none, refused memory (own)
 abbrev pub IsStartFaultOf : Config → StartFault → Type 0
 IsStartFaultOf config (ConfigFault fault) = IsFirstFault config fault
 IsStartFaultOf config NoMemory = IsWithinLimits config

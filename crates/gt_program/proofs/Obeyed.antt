@@ -9,6 +9,9 @@ use Rattle.clap.specs.Words.{kind_of}
 use Rattle.clap.specs.declared.error.Error.{Error}
 use Rattle.clap.specs.declared.error.kind.ErrorKind.{ErrorKind}
 use Rattle.clap.specs.declared.error.kind.ErrorKind.TheVariants.{ArgumentConflict, DisplayHelp, DisplayVersion, OutOfMemory, InvalidSubcommand, MissingSubcommand, TooManyValues, UnknownArgument}
+use Rattle.gt_script.specs.RunScripts.{RunTells}
+use Rattle.gt_run.specs.Runs.{Ran}
+use Rattle.gt_run.specs.declared.fault.RunFault.{RunFault}
 use Rattle.gt_program.specs.CommandLine.{Request, to_do, for_help, for_version, nothing, asked_by_plan, refusals, IsPlanFor}
 use Rattle.gt_program.specs.Obeying.{FitsKind, Obeys, PerformsRun, Runs, RunsDomains, Works, WorksRun, known_text, status_of}
 use Rattle.gt_program.specs.declared.failure.Failure.{Failure}
@@ -50,6 +53,11 @@ ran_plan p file input old new r status mode run is =
     subst (λ (m : Mode). Obeys (to_do m p.audit (option_map (λ f. f.now) p.file)) file input old new status) (sym mode)
     (ran p.audit (known_text file input (option_map (λ f. f.now) p.file)) old new r status run is)
 
+-- a run with a log or without, as was asked for
+pub ran_as_asked : (logged audited : Bool) (known old new : Option (List ℕ)) (r : Result (Unit {0}) RunFault) → audited ≡ logged → OfInput known (λ input. Ran logged (RunTells input) old new r)
+    → OfInput known (λ input. Ran audited (RunTells input) old new r)
+ran_as_asked logged audited known old new r is ran = subst (λ (b : Bool). OfInput known (λ input. Ran b (RunTells input) old new r)) (sym is) ran
+
 -- no memory was there before the text was read
 pub unread_run : (audited : Bool) (known old : Option (List ℕ)) → OfInput known (λ input. PerformsRun audited input old old (Err failures.Memory))
 unread_run audited known old = of_any_input known (λ (input : List ℕ). PerformsRun audited input old old (Err failures.Memory)) (λ (input : List ℕ). keeps_same old)
@@ -73,7 +81,7 @@ wrong : (kind other : ErrorKind) (old new : Option (List ℕ)) (status : ℕ) �
 wrong kind other old new status fits is memory help version =
     fits.wrong (λ (e : kind ≡ OutOfMemory). memory (sym is ∙ e)) (λ (e : kind ≡ DisplayHelp). help (sym is ∙ e)) (λ (e : kind ≡ DisplayVersion). version (sym is ∙ e))
 
--- want of memory
+-- memory was refused
 out_of_memory : (mode : Mode) (audited : Bool) (name : Option (List ℕ)) (file : List ℕ → Option (List ℕ)) (input old new : Option (List ℕ)) (status : ℕ) → status ≡ 1 → Keeps old new
     → Obeys (to_do mode audited name) file input old new status
 out_of_memory modes.Play audited name file input old new status is kept = no_memory (known_text file input name) old new (Play audited) status is kept

@@ -84,7 +84,7 @@ abbrev pub known_text : (List ℕ → Option (List ℕ)) → Option (List ℕ) �
 known_text file input None = input
 known_text file input (Some name) = file name
 
--- a command line that is not obeyed: the exit status is 1 for want of memory, 0 or 1 for help and the version,
+-- a command line that is not obeyed: the exit status is 1 where memory is refused, 0 or 1 for help and the version,
 -- as they were written or not, and else 2; nothing is written but help and the version (own)
 pub record FitsKind (kind : ErrorKind) (old new : Option (List ℕ)) (status : ℕ) : Type 0 where
   pub memory : kind ≡ OutOfMemory → status ≡ 1
@@ -94,7 +94,7 @@ pub record FitsKind (kind : ErrorKind) (old new : Option (List ℕ)) (status : �
   pub silent : (kind ≡ DisplayHelp → ⊥) → (kind ≡ DisplayVersion → ⊥) → Keeps old new
 
 -- the exit status fits what the work did on the text that is named, where its bytes are
--- known; for want of memory it is 1, and nothing was written (own)
+-- known; where memory is refused it is 1, and nothing was written (own)
 abbrev pub Works : Work → Option (List ℕ) → Option (List ℕ) → Option (List ℕ) → ℕ → Type 0
 Works work known old new status =
     IfSome known
@@ -102,7 +102,7 @@ Works work known old new status =
     × (Runs work bytes old new r ⊎ ((r ≡ Err failures.Memory) × Keeps old new)))
 
 -- the exit status fits what the run of the text's domains wrote, with audit lines or
--- without, where its bytes are known; for want of memory it is 1, and nothing was written (own)
+-- without, where its bytes are known; where memory is refused it is 1, and nothing was written (own)
 abbrev pub WorksRun : Bool → Option (List ℕ) → Option (List ℕ) → Option (List ℕ) → ℕ → Type 0
 WorksRun audited known old new status =
     IfSome known
@@ -112,8 +112,8 @@ WorksRun audited known old new status =
 -- The exit status fits what was asked for, and what was written does: work that was done,
 -- the domains of a script that were run, the rules, where the status is 2
 -- for the name of none, help, the version, or nothing for words that ask for nothing,
--- whose status is 2 and for which nothing is written. Want of memory is
--- 1 for all of them. (own)
+-- whose status is 2 and for which nothing is written. Where memory is
+-- refused, the status is 1 for all of them. (own)
 abbrev pub Obeys : Request → (List ℕ → Option (List ℕ)) → Option (List ℕ) → Option (List ℕ) → Option (List ℕ) → ℕ
     → Type 0
 Obeys (to_do modes.Play audited name) file input old new status =

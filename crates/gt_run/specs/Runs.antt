@@ -43,7 +43,7 @@ abbrev pub BeginsToWrite : {P : Type 0} → (P → AllowRelation) → (List (Dut
     → Option (List ℕ) → Type 0
 BeginsToWrite {P} may Are old new = (duties : List (Duty P)) × Are duties × BeginsAll may duties old new
 
--- the same of duties of which this is known; for want of memory it may
+-- the same of duties of which this is known; where memory is refused, it may
 -- be that none began, and nothing was written (own)
 abbrev pub Wrote : {P : Type 0} → (P → AllowRelation) → (List (Duty P) → Type 0) → Option (List ℕ) → Option (List ℕ)
     → Result (Unit {0}) RunFault → Type 0

@@ -95,12 +95,12 @@ fn run_bytes<R: Threads + Wait + Sync, G: Gate + Sync, W: Write>(
 /// Where a log is given, calls are recorded in it, and after all other lines come the audit lines of each domain and
 /// how many records were lost.
 ///
-/// Of the reader at most 1,048,577 bytes are read. A script with a fault writes nothing. After a failed write, or for
-/// want of memory, a beginning of a text of the script was written.
+/// Of the reader at most 1,048,577 bytes are read. A script with a fault writes nothing. After a failed write, or
+/// where memory is refused, a beginning of a text of the script was written.
 ///
 /// # Errors
-/// The script's first fault; a thread that was refused, and then no list ran; or want of memory, or a read or a write
-/// that failed.
+/// The script's first fault; a thread that was refused, and then no list ran; memory that was refused; or a read or a
+/// write that failed.
 pub fn run<R: Threads + Wait + Sync, I: Read, W: Write, G: Gate + Sync>(
     rt: &R,
     alloc: Global,

@@ -123,8 +123,8 @@ fn has_appended(text: &mut Vec<u8>, whole: bool, line: Result<Vec<u8>, AllocErro
     }
 }
 
-// Serves the lines of a domain, and answers whether all were written. It goes on where a line finds no memory, since other
-// domains may wait for what this one tells; nothing is written after that line.
+// Serves the lines of a domain, and answers whether all were written. It goes on where memory is refused for a line,
+// since other domains may wait for a flag of this one. Nothing is written after that line.
 fn serve<'a, R: Wait, P: Allows, G: Gate>(
     rt: &R,
     alloc: Global,

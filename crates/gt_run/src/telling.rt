@@ -62,7 +62,7 @@ impl<'l> Teller<'l> {
         Ok(text)
     }
 
-    /// How many records were lost, of those of a domain that has left: for want of memory in its trail, or in the log.
+    /// How many records of a domain that has left were lost: memory was refused for them in its trail, or in the log.
     pub fn lost(&self, left: &Left) -> u64
         ensures { result ≡ counted (left.now.trail.lost + self.now.told.lost) }
     {

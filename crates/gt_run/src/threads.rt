@@ -1,5 +1,6 @@
 //! A thread for each domain.
-ghost use Rattle.std.specs.Prelude.{◌≡◌, ◌≤◌, ◌++◌, All, length, map, is_some, ◌⊎◌, Err, IfOk, IfErr, IsOk, OnOk};
+ghost use Rattle.std.specs.Prelude.{◌≡◌, ◌≤◌, ◌++◌, ◌⊎◌, All, length, map, is_some};
+ghost use Rattle.std.specs.Prelude.{Err, IfOk, IfErr, IsOk, OnOk};
 ghost use Rattle.std.specs.Prelude.{IsTrue};
 ghost use Rattle.std.specs.Io.KnownBytes.{Appends};
 ghost use Rattle.gt_types.specs.Config.{AreFaultless};
@@ -68,8 +69,8 @@ struct Started<'s, 'a, P: Allows> {
     all: bool,
 }
 
-// Starts a thread for each domain, with its part. It waits for the start before it does anything. Behind a thread that is
-// refused none is started, and the domains that are left are finished.
+// Starts a thread for each domain, with its part. It waits for the start before it does anything. Behind a thread that
+// is refused none is started, and the domains that are left are finished.
 fn start_each<'s, 'a, E, R: Wait + Sync, P: Allows + Sync, G: Gate + Sync>(
     scope: &'s Scope<'s, E>,
     rt: &'s R,
@@ -161,7 +162,8 @@ fn keep_audit(
     Ok(())
 }
 
-// Joins all threads in their order. The lines of each domain are written as it is joined, unless something failed before.
+// Joins all threads in their order. The lines of each domain are written as it is joined, unless something failed
+// before.
 fn join_each<'s, 'a, R: Threads, P: Allows, W: Write>(
     rt: &R,
     alloc: Global,
@@ -252,8 +254,8 @@ fn write_each<'s, 'a, R: Threads, P: Allows, W: Write>(
 }
 
 /// Gives each domain a thread of its own, with its part, and writes what they print: the lines of each domain as it is
-/// joined, in their order, and then their audit lines. No list begins before all threads are there; where one is refused no
-/// list runs.
+/// joined, in their order, and then their audit lines. No list begins before all threads are there. Where one is
+/// refused, no list runs.
 pub fn run_each<'a, R: Threads + Wait + Sync, P: Allows + Sync, G: Gate + Sync, W: Write>(
     rt: &R,
     alloc: Global,
