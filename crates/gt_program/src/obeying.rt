@@ -108,7 +108,6 @@ fn refuse<W: Write, E: Eprint>(out: &mut W, err: &E, error: &Error) -> u8
 }
 
 // Runs the script of a reader, with its calls in the log or without.
-#[tactic(auto, using(crate::proofs::Obeyed::ran_as_asked))]
 fn run_logged<R: Threads + Wait + Sync, I: Read, W: Write, G: Gate + Sync>(
     rt: &R,
     alloc: Global,
