@@ -73,7 +73,7 @@ for crate in "${order[@]}"; do
     total=$((total + all))
     echo "| $crate | $functions | $proof | $tests | $count | $edits | $all |"
   fi
-  # what stands above it is timed over the library
+  # the crates above it are timed over its library
   if [ ! -e out/rlib ] && grep -Eq ":.* $crate( |\$)" "$work/crates.txt"; then rt lib --jobs 1 >"$work/said" 2>&1; fi
   rm -rf out/incremental
 done

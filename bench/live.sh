@@ -4,7 +4,7 @@
 # with its readers in one word, or spread over a word for each thread. Whole calls are recorded (`on`), recorded into room
 # that was made before the first call (`ahead`), or not recorded (`off`). Prints millions of operations a second (a map or
 # an unmap is one), how many times longer a round of each kind of whole calls takes than one of bare words, and the ratios
-# of each kind to C with one word. Below the table stand the instructions of a round on one thread, as valgrind counts them.
+# of each kind to C with one word. Below the table are the instructions of a round on one thread, as valgrind counts them.
 #
 # A second table has the loads of bytes: thousands of loads, stores and copies a second, beside a program in C with a mutex
 # for each frame (`live_bytes.c`), without a journal and with one, and the ratio to each. What C loses by its journal is what

@@ -1,7 +1,7 @@
 #!/usr/bin/env bash
 # Runs a test once for each of its requests for memory, with that one refused.
 # It is no part of the gate. `rt test` in the crate builds the tests first.
-# usage: bench/refused.sh CRATE TEST..      as: bench/refused.sh gt_core_tests calls::calls_with_memory_refused
+# usage: bench/refused.sh CRATE TEST..      as: bench/refused.sh gt_core_tests memory::calls_with_memory_refused
 set -euo pipefail
 cd "$(dirname "$0")/.."
 crate=$1

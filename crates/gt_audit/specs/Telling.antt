@@ -11,7 +11,7 @@ pub record Telling : Type 0 where
   pub most : ℕ
   pub room : ℕ
 
--- nothing was told yet (own)
+-- nothing was pushed yet (own)
 abbrev pub silent : Telling
 silent = record { records = []; lost = 0; most = 2 ^ 64 - 1; room = 0 }
 
@@ -36,17 +36,17 @@ pub record Tells (old : Telling) (r : Record) (new : Telling) : Type 0 where
   pub most : new.most ≡ old.most
   pub room : old.room ≤ new.room + 1
 
--- what a domain told to a shared log: its records, each under its number, in order, and how many were lost (own)
+-- what a domain pushed into a shared log: its records, each under its number, in order, and how many were lost (own)
 pub record Account : Type 0 where
   pub dom : DomId
   pub told : List (ℕ × Record)
   pub lost : ℕ
 
--- the domain told nothing yet (own)
+-- the domain pushed nothing yet (own)
 abbrev pub nothing_told : DomId → Account
 nothing_told d = record { dom = d; told = []; lost = 0 }
 
--- the record is told under its number behind all others, or it is lost and the others stay (own)
+-- the record is pushed under its number behind all others, or it is lost and the others stay (own)
 abbrev pub TellsUnder : Account → ℕ → Record → Account → Type 0
 TellsUnder old number r new =
     (new.dom ≡ old.dom)

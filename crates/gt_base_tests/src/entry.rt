@@ -234,7 +234,8 @@ fn refused(version: u32, field: Field) -> u32 {
 // Counted by hand. In version 1 three of four flags have another type, and of those that are left half have the reading
 // bit, half of the rest the writing bit, and so on to the sub-page bit. 256 have none of these, and two of them no bit
 // from 9 to 15. In version 2 half of the flags have another type, and of those that are left each bit up to PAT takes
-// half. 1,024 have none of these: 256 are of type 3 with the sub-page bit, and 6 of the others have no bit from 9 to 15.
+// half. 1,024 have none of these: 256 are of type 3 with the sub-page bit, and 6 of the others have no bit from 9 to
+// 15.
 #[test]
 fn counts_the_flags_that_are_refused(rt: HostRuntime) {
     for (field, of_version_1, of_version_2) in [

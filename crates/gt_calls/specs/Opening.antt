@@ -50,7 +50,7 @@ IsAllowed may (t ∷ ts) = (may t.source t.target t.perm ≡ true) × IsAllowed 
 abbrev pub IsInTable : CallerKnowledge → GrantRef → Type 0
 IsInTable k gref = gref.0 < size_of k.header
 
--- a grant: the reference holds no entry and is not worn, and the entry given is one that may stand in the table (own)
+-- a grant: the reference holds no entry and is not worn, and the table may have the entry given (own)
 pub record OpensGrant (k : CallerKnowledge) (gref : GrantRef) (entry : Entry) : Type 0 where
   pub in_table : IsInTable k gref
   pub free : is_invalid (k.entry gref.0) ≡ true

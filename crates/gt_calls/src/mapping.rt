@@ -10,8 +10,8 @@ use crate::leg::{Leg, LegNext, LegPhase, leg_next};
 use crate::request::Asked;
 use gt_types::{Allows, DomId, GrantRef};
 
-/// A map under way: what it asks, and where its leg is. It goes on just as a [`Call`](crate::Call) of this request does,
-/// and has no room for what other calls need. (own)
+/// A map under way: what it asks, and where its leg is. It goes on just as a [`Call`](crate::Call) of this request
+/// does, and has no room for what other calls need. (own)
 #[derive(Clone, Copy)]
 pub struct MapCall {
     pub caller: DomId,

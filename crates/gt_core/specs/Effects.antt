@@ -1,4 +1,4 @@
--- What a step does to the states of the domains: the code's own representation, which stands here since private
+-- What a step does to the states of the domains: the code's own representation, which is here since private
 -- contracts cite it.
 use Rattle.std.specs.Prelude.{ℕ, List, Option, Some, None, if◌then◌else◌, ◌+◌, ◌-◌, ◌%◌, min, is_some, ◌≡◌, slice_set}
 use Rattle.gt_types.specs.declared.DomId.{DomId}

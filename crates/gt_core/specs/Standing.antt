@@ -150,7 +150,7 @@ ticked_element dom (TickedDone step seen answer) =
 ticked_element dom TickedIdle = Idle
 ticked_element dom TickedNoDomain = NoDomain
 
--- what a tick tells of a step: with the answer, where there is one (own)
+-- what a tick answers for a step: with the call's answer, where there is one (own)
 abbrev pub ticked_with : Step → Seen → Option Answer → Ticked
 ticked_with step seen None = TickedStep step seen
 ticked_with step seen (Some answer) = TickedDone step seen answer
@@ -172,7 +172,7 @@ abbrev pub known_by : {P : Type 0} → (P → TypeId → TypeId → Perms → Bo
     → Machine P → State → CallerKnowledge
 known_by may m d = knowledge_of m.config.domains.items m.config.first_gen (may m.rights) d.own d.header d.mappings
 
--- a call that nothing stood against is over after this last step: its answer, and the states; a read gives what the
+-- a call that is Ok is over after this last step: its answer, and the states; a read gives what the
 -- frame holds (own)
 abbrev pub Closed : FrameSet → List State → ℕ → State → Step → Answer → List State → Type 0
 Closed fs xs at d (ReadBytes dom frame off len) answer new =
@@ -204,7 +204,7 @@ abbrev pub IsRoomFor : Asked → Action → Type 0
 IsRoomFor request (Ends (KeptPin held)) = IsMapping (Some request)
 IsRoomFor request action = Unit {0}
 
--- a run can't start for this reason: the first fault of its configuration, or want of memory where that has none (own)
+-- a run can't start for this reason: the first fault of its configuration, or, where that has none, refused memory (own)
 abbrev pub IsStartFaultOf : Config → StartFault → Type 0
 IsStartFaultOf config (ConfigFault fault) = IsFirstFault config fault
 IsStartFaultOf config NoMemory = IsWithinLimits config
@@ -255,7 +255,7 @@ pub record HasRead (s : Setting) (h : History) (l : Leg) (so_far : StepsSoFar) (
   pub judged : rule_of_try l word body second ≡ rule
   pub spelled : WhileSame s h l word (λ entry. entry_of (control_of word) body second ≡ entry)
 
--- where a leg stands, by the steps so far (own)
+-- a leg is in this phase, by the steps so far (own)
 abbrev pub LegStands : Setting → History → Leg → StepsSoFar → LegPhase → Type 0
 LegStands s h l so_far AtHeader = Unit {0}
 LegStands s h l so_far (Look more) =
@@ -288,7 +288,7 @@ EndsCopy Granted = Unit {0}
 EndsCopy (Refused denial) = Unit {0}
 EndsCopy verdict = ⊥
 
--- where a call stands, by the steps so far, the newest first (own)
+-- a call is in this phase, by the steps so far, the newest first (own)
 abbrev pub PhaseStands : Setting → History → DomId → Asked → StepsSoFar → Phase → Type 0
 PhaseStands s h d request so_far (Storing gref entry) = Unit {0}
 PhaseStands s h d request so_far (StoringSecond gref entry) = body_at h d.0 gref.0 FirstHalf ≡ first_body entry
@@ -433,7 +433,7 @@ pub record DomainsStand (s : Setting) (h : History) (domains : List State) : Typ
   pub spelled : (t r : ℕ) → entry_at h t r ≢ Invalid
       → IsSpelled (entry_at h t r) (body_at h t r FirstHalf) (body_at h t r SecondHalf)
 
--- there are the frames of the run; each was written as the history tells, so that it holds what the history left in it,
+-- there are the frames of the run; each was written as in the history, so that it holds what the history left in it,
 -- and has its size; and each write to it was by right (own)
 pub record FramesStand (s : Setting) (h : History) (fs : FrameSet) : Type 0 where
   pub counts : fs.domains ≡ frame_counts s.domains

@@ -70,12 +70,12 @@ impl<P: Allows> Core<P> {
     ghost use Rattle.gt_core.specs.Standing.{begun_element, ticked_element};
     ghost use Rattle.gt_core.specs.declared.trace.Event.TheVariants.{Begin, Tick};
 
-    /// Begins a call of the domain: judges it, and makes the room that its answer wants. Its steps are made by `tick`.
+    /// Begins a call of the domain: judges it, and makes the room that its answer needs. `tick` makes its steps.
     ///
     /// # Errors
     ///
-    /// `Memory`, only for a map, a load, a store, a peek or a poke of a domain of the run, at rest, against which no
-    /// rule stands. The core is as it was then.
+    /// `Memory`, only for a map, a load, a store, a peek or a poke against which no rule stands, of a domain of the run
+    /// that has no call open. The core is as it was then.
     pub fn begin(&mut self, dom: DomId, request: Request<'_>) -> Result<Begun, Memory>
         ensures stands { IfOk result (λ b. Does (setting_in P.may self.old) self.old.state
             (Begin dom request.entry) (begun_element dom request.entry b) self.new.state) }
@@ -117,8 +117,8 @@ impl<P: Allows> Core<P> {
         self.machine.show(dom, gref)
     }
 
-    /// The domain and the reference of the entry that the domain has mapped under this handle: None where the
-    /// handle names no mapping of it, as one that was given up, or for no domain of the run.
+    /// The domain and the reference of the entry that the domain has mapped under this handle: None where the handle
+    /// names no mapping of it (one that was given up, for example), or for no domain of the run.
     pub fn subject(&self, dom: DomId, handle: Handle) -> Option<(DomId, GrantRef)>
         ensures { (h : History) → CoreStands (setting_in P.may self.now) h self.now.state →
             result ≡ subject_at (setting_in P.may self.now) h dom handle }

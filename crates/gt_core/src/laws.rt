@@ -11,14 +11,14 @@ ghost use Rattle.gt_handles.specs.declared.handles.Handle.{Handle};
 ghost use Rattle.gt_core.specs.declared.trace.Event.{Event};
 ghost use Rattle.gt_core.specs.declared.trace.Element.{Element};
 
-/// What an event does after a history is one thing, but for the key of a handle that is answered.
+/// An event can do only one thing after a history, but for the key of a handle that is answered.
 pub fn every_event_does_one_thing()
     ensures { (s : Setting) (h : History) (e : Event) (one other : Element) →
         MayDo s h e one → MayDo s h e other → SameElement one other }
 {}
 
-/// Where two runs have come to the same but for keys, events that are the same but for keys, and ask
-/// for handles that their domains were answered, do the same but for keys.
+/// In two runs that are the same but for keys, two events that are the same but for keys do the same but for keys. The
+/// handles that they ask for have to be ones that their domains were answered.
 pub fn every_alike_event_does_one_thing()
     ensures { (s : Setting) (g h : History) (e f : Event) (one other : Element) →
         AreAlike s g h → SameEvent e f → IsOfKnown g e → IsOfKnown h f →
@@ -26,14 +26,14 @@ pub fn every_alike_event_does_one_thing()
         SameElement one other × AreAlike s (grown g one) (grown h other) }
 {}
 
-/// Where two runs have come to the same but for keys, an entry shows the same.
+/// In two runs that are the same but for keys, an entry shows the same.
 pub fn every_alike_run_shows_one_thing()
     ensures { (s : Setting) (g h : History) (dom : DomId) (r : ℕ) →
         AreAlike s g h → shown_at s g dom r ≡ shown_at s h dom r }
 {}
 
-/// Where two runs have come to the same but for keys, handles that are the same but for keys, and that
-/// their domain was answered, are of mappings of the same entry.
+/// In two runs that are the same but for keys, two handles that are the same but for keys are of mappings of the same
+/// entry. They have to be handles that their domain was answered.
 pub fn every_known_handle_has_one_subject()
     ensures { (s : Setting) (g h : History) (dom : DomId) (a b : Handle) →
         AreAlike s g h → bare_handle a ≡ bare_handle b → IsKnown g dom.0 a → IsKnown h dom.0 b →

@@ -85,7 +85,7 @@ fn answer_of(verdict: Verdict) -> Answer
     }
 }
 
-// What a tick tells of a step that saw this: with the answer, where the call is over.
+// What a tick answers for a step that saw this: with the call's answer, where the call is over.
 fn told(step: Step, seen: Seen, answer: Option<Answer>) -> Ticked
     ensures { result ≡ ticked_with step seen answer }
 {
@@ -174,8 +174,7 @@ impl<P: Allows> Machine<P> {
         (call, action)
     }
 
-    // The answer of a call that nothing stood against, and that gives no value: what its last step read, or
-    // nothing. The call is over.
+    // The answer of a call that is Ok and gives no value: what its last step read, or nothing. The call is over.
     fn close(&mut self, at: usize, last: Open) -> Answer
         requires there { at < length self.old.domains.items }
         requires under { (d : State) → slice_get self.old.domains.items at ≡ Some d → d.underway ≡ Some last }
@@ -208,7 +207,7 @@ impl<P: Allows> Machine<P> {
         }
     }
 
-    // What the domain's call comes to by this action: its next step, or its answer, with which it is over.
+    // What the domain's call does by this action: its next step, or its answer, which ends it.
     fn go_on_or_end(&mut self, at: usize, last: Open, call: Call, action: Action) -> Option<Answer>
         requires there { at < length self.old.domains.items }
         requires under { (d : State) → slice_get self.old.domains.items at ≡ Some d → d.underway ≡ Some last }

@@ -119,8 +119,8 @@ impl DomainState {
         self.underway
     }
 
-    /// A call begins, with the bytes that are to be written. They are copied, and the room that its answer wants is
-    /// made, now; for a map a serial is left.
+    /// A call begins, with the bytes that are to be written. It copies them, and makes the room that its answer needs.
+    /// For a map a serial is left.
     pub fn begin(&mut self, alloc: Global, call: Open, bytes: &[u8]) -> Result<(), Memory>
         requires { IsMapping (Some call.call.request) → self.old.mappings.given + 1 < 2 ^ 64 }
         ensures opened { OnOk result (self.new ≡ with_call call (kept_by call.call.request bytes.now) self.old) }

@@ -234,8 +234,8 @@ fn step_said(
     }
 }
 
-// A step of a copy by its letter: a look at a header (H), a control word (C) or a body word (B), a pin (P), an unpin (U)
-// and the access (A), each with the numbers of its domain and entry or frame.
+// A step of a copy by its letter, with the numbers of its domain and entry or frame. A look at a header is H, at a
+// control word C, at a body word B; a pin is P, an unpin U, and the access A.
 fn letter_said(alloc: Global, step: Step) -> Result<String, AllocError> {
     match step {
         Step::LookHeader { dom } => format!(in alloc; "H {}", dom.0),

@@ -10,7 +10,8 @@ use std::alloc::Global;
 use std::process::Abort;
 use std::test::Fail;
 
-// A machine of three domains in which bytes may be copied between these pairs, asked for twice where memory was refused.
+// A machine of three domains in which bytes may be copied between these pairs. It is asked for twice where memory was
+// refused.
 fn started(
     rt: &impl Abort,
     alloc: Global,

@@ -147,11 +147,18 @@ pub const STEPS_ON_HEADERS: [(Doing, &str); 10] = [
 pub const STEPS_OF_GRANTS: [(Doing, &str); 3] = [
     (
         Steps(OWNER, GRANT_PART),
-        "StoreBody { gref: GrantRef(0), half: First, word: 5 } -\nStoreBody { gref: GrantRef(0), half: Second, word: 3276900 } -\nExchange { gref: GrantRef(0), looked: 0, change: Publish(Sub { dom: DomId(2), ro: false, frame: 5, off: 100, len: 50 }) } taken\nok",
+        "StoreBody { gref: GrantRef(0), half: First, word: 5 } -\n\
+StoreBody { gref: GrantRef(0), half: Second, word: 3276900 } -\n\
+Exchange { gref: GrantRef(0), looked: 0, \
+change: Publish(Sub { dom: DomId(2), ro: false, frame: 5, off: 100, len: 50 }) } taken\n\
+ok",
     ),
     (
         Steps(OWNER, GRANT_VIA),
-        "StoreBody { gref: GrantRef(1), half: First, word: 458755 } -\nExchange { gref: GrantRef(1), looked: 0, change: Publish(Via { dom: DomId(2), ro: false, dom2: DomId(3), gref: GrantRef(7) }) } taken\nok",
+        "StoreBody { gref: GrantRef(1), half: First, word: 458755 } -\n\
+Exchange { gref: GrantRef(1), looked: 0, \
+change: Publish(Via { dom: DomId(2), ro: false, dom2: DomId(3), gref: GrantRef(7) }) } taken\n\
+ok",
     ),
     (
         Steps(
@@ -161,6 +168,10 @@ pub const STEPS_OF_GRANTS: [(Doing, &str); 3] = [
                 bytes: &[1, 1, 2, 0, 100, 0, 50, 0, 5, 0, 0, 0, 0, 0, 0, 0],
             },
         ),
-        "StoreBody { gref: GrantRef(2), half: First, word: 5 } -\nStoreBody { gref: GrantRef(2), half: Second, word: 3276900 } -\nExchange { gref: GrantRef(2), looked: 0, change: Publish(Sub { dom: DomId(2), ro: false, frame: 5, off: 100, len: 50 }) } taken\nok",
+        "StoreBody { gref: GrantRef(2), half: First, word: 5 } -\n\
+StoreBody { gref: GrantRef(2), half: Second, word: 3276900 } -\n\
+Exchange { gref: GrantRef(2), looked: 0, \
+change: Publish(Sub { dom: DomId(2), ro: false, frame: 5, off: 100, len: 50 }) } taken\n\
+ok",
     ),
 ];

@@ -1,7 +1,6 @@
-//! Readers and writers in memory that fail behind so many bytes, for the tests of crates that read and
-//! write.
+//! Readers and writers in memory that fail after so many bytes, for the tests of crates that read and write.
 //!
-//! It promises nothing beyond the traits, and stands on no other crate.
+//! It promises nothing beyond the traits, and uses no other crate.
 #![tactic(auto)]
 
 mod reader;

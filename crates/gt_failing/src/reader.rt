@@ -25,8 +25,8 @@ impl<'a> FailingReader<'a> {
         }
     }
 
-    /// Gives at most `most` bytes a read, with an interruption before each read. Behind `left` bytes
-    /// each read fails as `end` says.
+    /// Gives at most `most` bytes a read, with an interruption before each read. After `left` bytes each read fails as
+    /// `end` says.
     pub fn interrupted(
         bytes: &'a [u8],
         left: usize,

@@ -14,7 +14,7 @@ pub struct FailingWriter {
 }
 
 impl FailingWriter {
-    /// Takes `left` bytes behind those of `taken`, three at a time. Then the pipe is broken.
+    /// Takes `left` bytes after those of `taken`, three at a time. Then the pipe is broken.
     pub fn new(taken: Vec<u8>, left: usize) -> FailingWriter {
         FailingWriter {
             taken,

@@ -1,10 +1,9 @@
 //! Frames: the bytes that domains share, each frame with a journal of its writes.
 //!
-//! A [`Frame`] holds 4,096 bytes, all zero at first, and keeps a [`WriteRecord`] of each write to it. Its
-//! type promises that the bytes are the replay of the journal over zeros, and that each record lies in
-//! the frame and is by right: the writer owns the frame, or an entry of the owner's permits it that
-//! range for writing, or it goes through an entry that forwards it and one that permits the owner of
-//! the first. A [`Writ`] names the writer and that basis.
+//! A [`Frame`] holds 4,096 bytes, all zero at first, and keeps a [`WriteRecord`] of each write to it. Its type promises
+//! that the bytes are the replay of the journal over zeros, and that each record lies in the frame and is by right. The
+//! writer owns the frame. Or an entry of the owner's permits it that range for writing. Or it goes through an entry
+//! that forwards it and one that permits the owner of the first. A [`Writ`] names the writer and that basis.
 //!
 //! [`Frame::read`], [`Frame::write`], [`Frame::copy_between`] and [`Frame::copy_within`] do exactly
 //! what their receipts [`Read`], [`Written`] and [`Copied`] say, overlap included. Nothing else makes a

@@ -8,7 +8,7 @@
 //! one handle only and says so. Once [`Handles::reserve`] has made room the next [`Handles::insert`]
 //! can't fail, and no other call takes memory.
 //!
-//! It uses `slab`, which picks the keys, and `gt_types` (want of memory).
+//! It uses `slab`, which picks the keys, and `gt_types` (the error `Memory`).
 #![tactic(auto)]
 
 mod handles;

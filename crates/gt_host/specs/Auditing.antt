@@ -28,13 +28,13 @@ use Rattle.gt_core.specs.declared.trace.Happened.TheVariants.{Began, Stepped}
 use Rattle.gt_core.specs.declared.trace.Item.{Item}
 use Rattle.gt_host.specs.Printing.{answer_text}
 
--- what a call is told as
+-- what a call is recorded as
 
 -- an end of a copy (own)
 abbrev pub end_told : End → CopyEnd
 end_told e = record { ptr = e.ptr; dom = e.domid; off = e.offset }
 
--- what a call is told as, where calls of its kind are audited: an unmap by the entry that its handle names (own)
+-- what a call is recorded as, where calls of its kind are audited: an unmap by the entry that its handle names (own)
 abbrev pub call_told : (Handle → Option (DomId × GrantRef)) → Asked → Option Hypercall
 call_told subject (asks.Map dom gref flags) = Some (calls.Map dom gref flags)
 call_told subject (asks.Unmap handle) = Some (calls.Unmap (subject handle))
@@ -52,7 +52,7 @@ call_told subject (asks.Store handle off len) = None
 call_told subject (asks.Peek frame off len) = None
 call_told subject (asks.Poke frame off len) = None
 
--- what is told of an answer: a map's handle is not (own)
+-- what is recorded of an answer: a map's handle is not (own)
 abbrev pub reply_told : Answer → Reply
 reply_told (answers.Denied denial) = replies.Denied denial
 reply_told answers.Done = replies.Done
@@ -62,12 +62,12 @@ reply_told (answers.Frames frames) = replies.Frames frames
 reply_told (answers.Size size) = replies.Size size
 reply_told (answers.Version version) = replies.Version version
 
--- the reply prints as the answer does; bytes, which no audited call answers, are not told (own)
+-- the reply prints as the answer does; bytes, which no audited call answers, are not recorded (own)
 abbrev pub PrintsAs : List (List ℕ) → Answer → Reply → Type 0
 PrintsAs names (answers.Bytes bytes) reply = Unit {0}
 PrintsAs names answer reply = reply_text (type_text (λ name. name) names) reply ≡ answer_text names answer
 
--- the record of a call of this domain that is told so, with its answer: none of a call that is not audited (own)
+-- the record of a call of this domain that is recorded so, with its answer: none of a call that is not audited (own)
 abbrev pub record_told : DomId → Option Hypercall → Answer → Option Record
 record_told dom None answer = None
 record_told dom (Some call) answer = Some (record { dom = dom; call = call; reply = reply_told answer })
@@ -77,7 +77,7 @@ abbrev pub record_with : DomId → Option Hypercall → Option Answer → Option
 record_with dom told None = None
 record_with dom told (Some answer) = record_told dom told answer
 
--- what a trace is told as
+-- what a trace is recorded as
 
 -- the items before a call began, where it began with this item or earlier (own)
 abbrev pub before_begun : Happened → History → History → History
@@ -90,16 +90,16 @@ before_call [] d = []
 before_call (i ∷ before) d =
     if i.actor.0 == d then before_begun i.happened before (before_call before d) else before_call before d
 
--- what a call under way is told as, that began after these items (own)
+-- what a call under way is recorded as, where it began after these items (own)
 abbrev pub underway_told : Setting → DomId → History → Option Underway → Option Hypercall
 underway_told s d begun None = None
 underway_told s d begun (Some c) = call_told (subject_at s begun d) c.request
 
--- what the call is told as that the domain has open: an unmap by the entry that its handle named when it began (own)
+-- what the domain's open call is recorded as: an unmap by the entry that its handle named when it began (own)
 abbrev pub open_told : Setting → History → DomId → Option Hypercall
 open_told s h d = underway_told s d (before_call h d.0) (open_call h d.0)
 
--- what the call of an item is told as, where the item came after these (own)
+-- what the call of an item is recorded as, where the item came after these (own)
 abbrev pub item_told : Setting → History → DomId → Happened → Option Hypercall
 item_told s h d (Began request) = call_told (subject_at s h d) (asked request)
 item_told s h d (Stepped step seen) = open_told s h d

@@ -7,7 +7,7 @@ use Rattle.gt_script.specs.declared.script.ScriptStep.{ScriptStep}
 use Rattle.gt_core.specs.declared.trace.Answer.{Answer}
 use Rattle.gt_host.specs.Runs.{Named, handle_named, named_after}
 
--- each label names what it stands for (own)
+-- each label has the handle that it names (own)
 abbrev pub AreNamed : Labels → List Named → Type 0
 AreNamed labels named = (dom : ℕ) (label : List ℕ) → handle_in labels dom label ≡ handle_named named dom label
 

@@ -11,6 +11,6 @@ use Rattle.gt_host.specs.declared.open_calls.OpenCalls.{OpenCalls}
 abbrev pub call_in : OpenCalls → ℕ → Option ScriptStep
 call_in calls dom = option_map (λ o. o.step.now) (get nat_cmp calls.begun dom)
 
--- what the call is told as that the domain has open (own)
+-- what the domain's open call is recorded as (own)
 abbrev pub told_in : OpenCalls → ℕ → Option Hypercall
 told_in calls dom = option_and_then (λ o. o.told) (get nat_cmp calls.begun dom)

@@ -83,10 +83,10 @@ BeginsEvery c audit old new =
 abbrev pub Begins : (Result Contents Wrong → Type 0) → Bool → Option (List ℕ) → Option (List ℕ) → Type 0
 Begins Told audit old new = (c : Contents) × Told (Ok c) × BeginsRun c audit old new × BeginsEvery c audit old new
 
--- what `play` wrote, where it answers so for bytes of which this is told: at Ok the
+-- what `play` wrote, where it answers so for bytes that say this: at Ok the
 -- text of the run, whole, and its audit where that is asked for;
 -- at a fault of the script nothing, and the fault is the script's first; after a failed
--- write a beginning, and so for want of memory, unless nothing (own)
+-- write a beginning, and where memory is refused that or nothing (own)
 abbrev pub Played : (Result Contents Wrong → Type 0) → Bool → Option (List ℕ) → Option (List ℕ)
     → Result (Unit {0}) PlayFault → Type 0
 Played Told audit old new (Ok done) = (c : Contents) × Told (Ok c) × WritesRun c audit old new

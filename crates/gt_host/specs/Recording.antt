@@ -14,17 +14,17 @@ use Rattle.gt_host.specs.declared.kept.Kept.{Kept}
 use Rattle.gt_host.specs.OpenCalls.{told_in}
 use Rattle.gt_host.specs.Auditing.{call_told, open_told, records_of}
 
--- the domain's request is told so, after the items for which the core stands (own)
+-- the domain's request is recorded so, after the items for which the core stands (own)
 abbrev pub IsAbout : Setting → CoreState → DomId → Request → Option Hypercall → Type 0
 IsAbout s domains dom request told =
     (h : History) → CoreStands s h domains → told ≡ call_told (subject_at s h dom) (asked request)
 
--- nothing is recorded, and no open call is told (own)
+-- nothing is recorded, and no open call is recorded (own)
 pub record RecordsNothing (kept : Kept) : Type 0 where
   pub records : kept.audit.records.items ≡ []
   pub calls : (d : ℕ) → told_in kept.calls d ≡ None
 
--- the records are those of the trace, and the open calls are told as it has them (own)
+-- the records are those of the trace, and the open calls are recorded as it has them (own)
 pub record IsRecorded (s : Setting) (trace : List Element) (kept : Kept) : Type 0 where
   pub records : kept.audit.records.items ≡ records_of s [] trace
   pub calls : (d : ℕ) → told_in kept.calls d ≡ open_told s (history_after [] trace) (record { 0 = d })

@@ -57,7 +57,7 @@ handle_named (n ∷ more) dom label =
 abbrev pub never_given : Handle
 never_given = record { serial = 2 ^ 64 - 1; key = 0 }
 
--- the handle that a label stands for (own)
+-- the handle that a label names (own)
 abbrev pub handle_of : List Named → DomId → List ℕ → Handle
 handle_of named dom label = unwrap_or (handle_named named dom.0 label) never_given
 
@@ -118,7 +118,7 @@ table_request bytes (tables.QuerySize to) = requests.QuerySize to
 table_request bytes (tables.GetVersion to) = requests.GetVersion to
 
 -- what a call asks of the core that ends a mapping or reaches bytes, where its
--- label stands for this handle and these are its bytes (own)
+-- label names this handle and these are its bytes (own)
 unfoldable pub access_request : (List ℕ → Handle) → Bor (List ℕ) → AccessCall → Request
 access_request handle bytes (accesses.Unmap label) = requests.Unmap (handle label)
 access_request handle bytes (accesses.Load label off len) = requests.Load (handle label) off len
@@ -127,13 +127,13 @@ access_request handle bytes (accesses.Peek frame off len) = requests.Peek frame 
 access_request handle bytes (accesses.Poke frame off hex) = requests.Poke frame off bytes
 access_request handle bytes (accesses.Copy source dest len) = requests.Copy (copy_asked source dest len)
 
--- what a call of a script asks of the core, where its labels stand for these handles and these are its bytes (own)
+-- what a call of a script asks of the core, where its labels name these handles and these are its bytes (own)
 abbrev pub request_of : List Named → DomId → Bor (List ℕ) → ScriptCall → Request
 request_of named dom bytes (calls.Table call) = table_request bytes call
 request_of named dom bytes (calls.Map label to gref flags) = requests.Map to gref flags
 request_of named dom bytes (calls.Access call) = access_request (handle_of named dom) bytes call
 
--- a call of a script asks this of the core, where its labels stand for these handles (own)
+-- a call of a script asks this of the core, where its labels name these handles (own)
 abbrev pub Asks : List Named → DomId → ScriptCall → Request → Type 0
 Asks named dom call request =
     (bytes : Bor (List ℕ)) × (bytes.now ≡ bytes_said call) × (request ≡ request_of named dom bytes call)
@@ -207,7 +207,7 @@ call_events dom request ticks = Begin dom request ∷ replicate ticks (Tick dom)
 
 -- runs
 
--- how far a run has come: the events so far, what each of them did, what the labels stand for,
+-- how far a run has come: the events so far, what each of them did, what the labels name,
 -- the lines whose calls the domains have open, and the text (own)
 pub record Progress : Type 0 where
   pub events : List Event
@@ -216,7 +216,7 @@ pub record Progress : Type 0 where
   pub open_steps : ℕ → Option ScriptStep
   pub text : List ℕ
 
--- before the first line nothing has happened, no label stands for a
+-- before the first line nothing has happened, no label names a
 -- handle, no call is open, and nothing is printed (own)
 abbrev pub at_start : Progress
 at_start = record { events = []; trace = []; named = []; open_steps = λ dom. None; text = [] }

@@ -12,8 +12,8 @@ use gt_core::{
 };
 use gt_script::every_text_tells_one_thing;
 
-/// A law: a script prints one text. Whatever two runs of it, both legal, come to its end, they print
-/// the same, with the audit and without; so the same bytes, played twice to the end, write the same.
+/// A law: a script prints one text. Any two legal runs of it that come to its end print the same, with the audit and
+/// without. So the same bytes, played twice to the end, write the same.
 pub fn every_script_prints_one_text()
     ensures run { (c : Contents) (audit : Bool) (p q : Progress) →
         IsLegalRunOf c c.steps p → IsLegalRunOf c c.steps q → audited_text c audit p ≡ audited_text c audit q }
@@ -27,8 +27,7 @@ pub fn every_script_prints_one_text()
     every_text_tells_one_thing();
 }
 
-/// A law: what a run wrote that stopped early is a beginning of what each run writes that comes to
-/// the end.
+/// A law: where a run stopped early, what it wrote is a beginning of what each run writes that comes to the end.
 pub fn every_beginning_is_of_the_text()
     ensures { (c : Contents) (audit : Bool) (old new : Option (List ℕ)) →
         BeginsRun c audit old new → BeginsEvery c audit old new }

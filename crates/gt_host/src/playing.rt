@@ -130,11 +130,11 @@ fn play_bytes<W: Write>(
     }
 }
 
-/// Plays the script that the reader has: runs its lines on the core, one after the other, and
-/// writes a line for each answer, for what a line shows, and at the end for each call that is open.
+/// Plays the script that the reader has. It runs the lines on the core, one after the other. It writes a line for each
+/// answer, for what a line shows, and at the end for each call that is open.
 ///
-/// Of the reader at most 1,048,577 bytes are read. A script with a fault writes nothing. After a
-/// failed write, or for want of memory, a beginning of the text was written.
+/// It reads at most 1,048,577 bytes. A script with a fault writes nothing. After a failed write, or where memory is
+/// refused, a beginning of the text was written.
 ///
 /// With `audit` a line for each answer of an audited call follows, in the order of the answers; no other
 /// line changes. Audited are map, unmap, copy, and those that set or answer a table's version or frames.

@@ -1,11 +1,11 @@
 //! Plays worked scripts and lists worked policies, and prints what each prints, under its name.
 //!
-//! The words of the command line are the names. The script `x` is `data/x.gt`, as the program `gthost` plays it.
-//! Those after the word `--audit` are printed with their records. `args` names them all, and `stdout` has what they must
-//! print: the answers of the calls, line by line, or the script's first fault. Each is played with its audit and without,
-//! and where that changes an answer, or adds a line of no record, a line says so. After the word `--policy` come policies:
-//! `x` is `data/x.te`, as `gthost` lists it. A script or policy is added by its file, its name in `args` and its lines in
-//! `stdout`; that costs no proof.
+//! The words of the command line are the names. The script `x` is `data/x.gt`, as the program `gthost` plays it. Those
+//! after the word `--audit` are printed with their records. `args` names them all, and `stdout` has what they must
+//! print: the answers of the calls, line by line, or the script's first fault. Each is played with its audit and
+//! without, and where that changes an answer, or adds a line of no record, a line says so. After the word `--policy`
+//! come policies: `x` is `data/x.te`, as `gthost` lists it. A script or policy is added by its file, its name in `args`
+//! and its lines in `stdout`; that costs no proof.
 #![tactic(auto)]
 
 mod policies;

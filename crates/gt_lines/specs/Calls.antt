@@ -56,7 +56,7 @@ granted kind args = if bytes_eq kind (codes "page") then page_of args
     else (if bytes_eq kind (codes "sub") then sub_of args
     else (if bytes_eq kind (codes "via") then via_of args else None))
 
--- what stands after `grant`: REF and an entry (own)
+-- what follows `grant`: REF and an entry (own)
 unfoldable pub grant_of : List (List ℕ) → Option TableCall
 grant_of (gref ∷ kind ∷ args) = do
   r ← reference_word gref
@@ -64,7 +64,7 @@ grant_of (gref ∷ kind ∷ args) = do
   Some (tables.Grant r e)
 grant_of _ = None
 
--- what stands after `bytes`: REF HEX (own)
+-- what follows `bytes`: REF HEX (own)
 unfoldable pub bytes_of : List (List ℕ) → Option TableCall
 bytes_of (gref ∷ digits ∷ []) = do
   r ← reference_word gref
@@ -72,7 +72,7 @@ bytes_of (gref ∷ digits ∷ []) = do
   Some (tables.GrantBytes r h)
 bytes_of _ = None
 
--- what stands after `map`: LABEL DOM REF FLAGS (own)
+-- what follows `map`: LABEL DOM REF FLAGS (own)
 unfoldable pub map_of : List (List ℕ) → Option ScriptCall
 map_of (label ∷ dom ∷ gref ∷ flags ∷ []) = do
   l ← text_where label_word label
@@ -82,14 +82,14 @@ map_of (label ∷ dom ∷ gref ∷ flags ∷ []) = do
   Some (calls.Map l d r f)
 map_of _ = None
 
--- what stands after `unmap`: LABEL (own)
+-- what follows `unmap`: LABEL (own)
 unfoldable pub unmap_of : List (List ℕ) → Option AccessCall
 unmap_of (label ∷ []) = do
   l ← text_where label_word label
   Some (accesses.Unmap l)
 unmap_of _ = None
 
--- what stands after `load`: LABEL OFF LEN (own)
+-- what follows `load`: LABEL OFF LEN (own)
 unfoldable pub load_of : List (List ℕ) → Option AccessCall
 load_of (label ∷ off ∷ len ∷ []) = do
   l ← text_where label_word label
@@ -98,7 +98,7 @@ load_of (label ∷ off ∷ len ∷ []) = do
   Some (accesses.Load l o n)
 load_of _ = None
 
--- what stands after `store`: LABEL OFF HEX (own)
+-- what follows `store`: LABEL OFF HEX (own)
 unfoldable pub store_of : List (List ℕ) → Option AccessCall
 store_of (label ∷ off ∷ digits ∷ []) = do
   l ← text_where label_word label
@@ -107,7 +107,7 @@ store_of (label ∷ off ∷ digits ∷ []) = do
   Some (accesses.Store l o h)
 store_of _ = None
 
--- what stands after `peek`: FRAME OFF LEN (own)
+-- what follows `peek`: FRAME OFF LEN (own)
 unfoldable pub peek_of : List (List ℕ) → Option AccessCall
 peek_of (frame ∷ off ∷ len ∷ []) = do
   f ← u64_word frame
@@ -116,7 +116,7 @@ peek_of (frame ∷ off ∷ len ∷ []) = do
   Some (accesses.Peek f o n)
 peek_of _ = None
 
--- what stands after `poke`: FRAME OFF HEX (own)
+-- what follows `poke`: FRAME OFF HEX (own)
 unfoldable pub poke_of : List (List ℕ) → Option AccessCall
 poke_of (frame ∷ off ∷ digits ∷ []) = do
   f ← u64_word frame
@@ -137,7 +137,7 @@ end_of kind dom place off = if bytes_eq kind (codes "gref") then (do
     o ← u16_word off
     Some (ends.Frame d f o)) else None)
 
--- what stands after `copy`: END END LEN, the source first (own)
+-- what follows `copy`: END END LEN, the source first (own)
 unfoldable pub copy_of : List (List ℕ) → Option AccessCall
 copy_of (from_kind ∷ from_dom ∷ from ∷ from_off ∷ to_kind ∷ to_dom ∷ to ∷ to_off ∷ len ∷ []) = do
   s ← end_of from_kind from_dom from from_off
@@ -146,17 +146,17 @@ copy_of (from_kind ∷ from_dom ∷ from ∷ from_off ∷ to_kind ∷ to_dom ∷
   Some (accesses.Copy s d n)
 copy_of _ = None
 
--- what stands after `revoke`, `demote`, `promote`, and `show` and its domain: REF (own)
+-- what follows `revoke`, `demote`, `promote`, and `show` and its domain: REF (own)
 unfoldable pub only_reference : List (List ℕ) → Option GrantRef
 only_reference (gref ∷ []) = reference_word gref
 only_reference _ = None
 
--- what stands after `version` and `setup`: V and N, of 32 bits (grant_table.h)
+-- what follows `version` and `setup`: V and N, of 32 bits (grant_table.h)
 unfoldable pub only_number : List (List ℕ) → Option ℕ
 only_number (number ∷ []) = u32_word number
 only_number _ = None
 
--- what stands after `size` and `getversion`: DOM (own)
+-- what follows `size` and `getversion`: DOM (own)
 unfoldable pub only_domain : List (List ℕ) → Option DomId
 only_domain (dom ∷ []) = domain_word dom
 only_domain _ = None
@@ -195,7 +195,7 @@ call_of (word ∷ args) = if bytes_eq word (codes "map") then map_of args
     else (if is_access_word word then option_map calls.Access (access_of word args)
     else option_map calls.Table (table_of word args))
 
--- what stands after `tick` and its domain: N (own)
+-- what follows `tick` and its domain: N (own)
 unfoldable pub tick_of : List (List ℕ) → Option ScriptAction
 tick_of (count ∷ []) = do
   n ← tick_word count

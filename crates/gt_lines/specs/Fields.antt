@@ -86,7 +86,7 @@ generation_word word = number_word (LAST_GENERATION + 1) word
 abbrev pub text_where : (List ℕ → Bool) → List ℕ → Option (List ℕ)
 text_where test word = if test word then Some word else None
 
--- what stands before the first colon, and what stands after it (own)
+-- what is before the first colon, and what follows it (own)
 unfoldable pub at_colon : List ℕ → Option (List ℕ × List ℕ)
 at_colon [] = None
 at_colon (b ∷ bs) = if b == 58 then Some ([], bs) else option_map (λ parts. (b ∷ parts.0, parts.1)) (at_colon bs)

@@ -14,7 +14,7 @@ use Rattle.gt_lines.specs.declared.lines.DomainLine.{DomainLine}
 use Rattle.gt_lines.specs.declared.lines.Line.{Line}
 use Rattle.gt_lines.specs.declared.lines.Line.TheVariants as lines
 
--- what stands after `triple`: SOURCE TARGET PERMISSION (own)
+-- what follows `triple`: SOURCE TARGET PERMISSION (own)
 unfoldable pub triple_of : List (List ℕ) → Option TripleLine
 triple_of (source ∷ target ∷ permission ∷ []) = do
   s ← text_where name_word source
@@ -23,12 +23,12 @@ triple_of (source ∷ target ∷ permission ∷ []) = do
   Some (record { source = s; target = t; perm = p })
 triple_of _ = None
 
--- what stands after `wear`: N (own)
+-- what follows `wear`: N (own)
 unfoldable pub wear_of : List (List ℕ) → Option ℕ
 wear_of (first ∷ []) = generation_word first
 wear_of _ = None
 
--- what stands after `domain`: ID USER:ROLE:TYPE FRAMES TABLEFRAMES VERSION (own)
+-- what follows `domain`: ID USER:ROLE:TYPE FRAMES TABLEFRAMES VERSION (own)
 unfoldable pub domain_of : List (List ℕ) → Option DomainLine
 domain_of (id ∷ label ∷ frames ∷ table_frames ∷ version ∷ []) = do
   i ← decimal_number id
@@ -39,7 +39,7 @@ domain_of (id ∷ label ∷ frames ∷ table_frames ∷ version ∷ []) = do
   Some (record { id = i; type_name = t; frames = f; table_frames = n; version = v })
 domain_of _ = None
 
--- what a line of the body asks, by its word and what stands after its domain (own)
+-- what a line of the body asks, by its word and what follows its domain (own)
 unfoldable pub asked_of : List ℕ → List (List ℕ) → Option BodyLine
 asked_of word args = if is_signal_word word then option_map bodies.Signal (signal_of word args)
     else option_map bodies.Action (action_of word args)

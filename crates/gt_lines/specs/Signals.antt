@@ -6,7 +6,7 @@ use Rattle.gt_lines.specs.Fields.{label_word, text_where}
 use Rattle.gt_lines.specs.declared.signals.Signal.{Signal}
 use Rattle.gt_lines.specs.declared.signals.Signal.TheVariants.{Tell, Await}
 
--- what stands after `tell` or `await` and its domain: FLAG, of the form of a label (own)
+-- what follows `tell` or `await` and its domain: FLAG, of the form of a label (own)
 unfoldable pub flag_of : List (List ℕ) → Option (List ℕ)
 flag_of (flag ∷ []) = text_where label_word flag
 flag_of _ = None

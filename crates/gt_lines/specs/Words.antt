@@ -14,6 +14,6 @@ is_blank b = (b == 32) || (b == 9)
 abbrev pub is_nonempty : List ℕ → Bool
 is_nonempty word = not (length word == 0)
 
--- the words of a line: what stands between its blanks, up to its comment (own)
+-- the words of a line: what is between its blanks, up to its comment (own)
 abbrev pub words : List ℕ → List (List ℕ)
 words line = filter is_nonempty (slice_split is_blank (uncommented line))

@@ -1,13 +1,13 @@
 //! What one line of a script says.
 //!
-//! A text is parted into lines and a line into words. `read_line` answers what the words say: a triple, a
-//! first generation, a domain, or what a line of the body asks of its domain. That is an action, or that the
-//! domain tells or awaits a flag. Names, labels and hexadecimal texts are borrowed from the script's bytes,
-//! so reading a line takes no memory but for the list of its words.
+//! A text is parted into lines and a line into words. `read_line` answers what the words say: a triple, a first
+//! generation, a domain, or what a line of the body asks of its domain. That is an action, or that the domain raises or
+//! awaits a flag. Names, labels and hexadecimal texts are borrowed from the script's bytes, so reading a line takes no
+//! memory but for the list of its words.
 //!
-//! What the words mean is defined by patterns on them, in `specs/`, word by word; each function here
-//! answers exactly that. Whether a line may stand where it does is not judged here. The crate stands on
-//! `gt_types`, whose names and numbers the words spell, and on `hex`.
+//! What the words mean is defined by patterns on them, in `specs/`, word by word; each function here answers exactly
+//! that. Whether a line is in its place is not judged here. The crate uses `gt_types`, whose names and numbers the
+//! words spell, and `hex`.
 #![tactic(auto)]
 
 mod calls;

@@ -1,4 +1,4 @@
-//! What a line says of a flag, which domains tell one another.
+//! What a line says of a flag, by which domains wait for one another.
 ghost use Rattle.std.specs.Prelude.{◌≡◌, map};
 ghost use Rattle.gt_lines.specs.Signals.{flag_of, is_signal_word, signal_of};
 
@@ -8,9 +8,9 @@ use crate::texts::Text;
 /// What a line says of a flag. A flag has the form of a label.
 #[derive(Debug, Drop)]
 pub enum Signal<'a> {
-    /// `tell ID FLAG`: the domain tells the flag.
+    /// `tell ID FLAG`: the domain raises the flag.
     Tell(Text<'a>),
-    /// `await ID FLAG`: the domain goes on once some domain has told the flag.
+    /// `await ID FLAG`: the domain goes on once some domain has raised the flag.
     Await(Text<'a>),
 }
 

@@ -28,7 +28,7 @@ BeginsListing m old new = (text : List ℕ) × IsListing m text × AppendsBeginn
 -- what `policy` wrote for these bytes, where it answers so: at Ok the
 -- text of the policy that they are, whole; at a fault
 -- of the bytes nothing, and the fault is their first; after a failed write a
--- beginning of that text, and so for want of memory, unless nothing (own)
+-- beginning of that text; where memory is refused that or nothing (own)
 abbrev pub Listed : List ℕ → Option (List ℕ) → Option (List ℕ) → Result (Unit {0}) ListingFault → Type 0
 Listed bytes old new (Ok done) = (m : Meaning) × IsPolicy bytes m × WritesListing m old new
 Listed bytes old new (Err (Utf8 line)) = IsBadAt bytes line × Keeps old new
@@ -53,7 +53,7 @@ abbrev pub text_with : KeptPolicy → List TypeId → List ℕ
 text_with p ids = listing p.types (may_of p) ids
 
 -- what went out of that text: at Ok all of it; after a failed write a
--- beginning, and so for want of memory, unless nothing (own)
+-- beginning; where memory is refused that or nothing (own)
 abbrev pub Writes : KeptPolicy → Option (List ℕ) → Option (List ℕ) → Result (Unit {0}) ListingFault → Type 0
 Writes p old new (Ok done) = (ids : List TypeId) × AreByName p.types ids × Appends old new (text_with p ids)
 Writes p old new (Err Write) = (ids : List TypeId) × AreByName p.types ids × AppendsBeginning old new (text_with p ids)

@@ -37,8 +37,8 @@ fn list_bytes<W: Write>(alloc: Global, input: &[u8], writer: &mut W) -> Result<(
 /// PERMISSION` each, by the name of the source, then of the target, in the order of their bytes, then
 /// by permission: map_read, map_write, unmap, transfer, setup, copy, query.
 ///
-/// Of the reader at most 1,048,577 bytes are read. A text with a fault writes nothing. After a failed
-/// write, or for want of memory, a beginning of the lines was written.
+/// It reads at most 1,048,577 bytes. A text with a fault writes nothing. After a failed write, or where memory is
+/// refused, a beginning of the lines was written.
 pub fn policy<R: Read, W: Write>(
     alloc: Global,
     reader: &mut R,

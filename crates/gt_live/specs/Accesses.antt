@@ -49,7 +49,7 @@ pub record Accessed (k : Layout) (way : Continuation) (access : Step) (v w : Vie
   pub comes : ComesTo k way access v at
   pub ends : Called k (onward way (shown comes.steps ++ Nothing ∷ [])) Granted at w
 
--- an access that was not made, for want of memory or because a frame of
+-- an access that was not made, since memory was refused or a frame of
 -- another name was in the place of the one wanted (own)
 abbrev pub IsOfAccess : Denial → Type 0
 IsOfAccess denial = (denial ≡ denial_of N26 NoFacts) ⊎ (denial ≡ denial_of N16 NoFacts)

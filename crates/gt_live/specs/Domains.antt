@@ -226,7 +226,7 @@ reply_of (Refused denial) = replies.Denied denial
 abbrev pub mapping_reply : Result Handle Denial → Reply
 mapping_reply result = reply_of (outcome_of result)
 
--- the answer that a reply tells (own)
+-- the answer that a reply says (own)
 abbrev pub told_by : Reply → Verdict
 told_by replies.Done = Granted
 told_by (replies.Frames frames) = Given (Frames frames)
@@ -234,7 +234,7 @@ told_by (replies.Size size) = Given (SizeTold size)
 told_by (replies.Version version) = Given (Version version)
 told_by (replies.Denied denial) = Refused denial
 
--- an answer without the mapping that a map is given, which no record tells (own)
+-- an answer without the mapping that a map is given, which no record has (own)
 abbrev pub without_mapping : Verdict → Verdict
 without_mapping (Mapped p) = Granted
 without_mapping verdict = verdict

@@ -591,8 +591,8 @@ impl Domain {
     /// Maps an entry of a domain, for reading and writing (flags 2) or for reading (flags 6).
     ///
     /// # Errors
-    /// The first rule that stands, or N26 where none does at the beginning and memory is refused; mappings
-    /// and pins are as they were.
+    /// The first rule that stands; or N26, where none stands at the beginning and memory is refused. Mappings and pins
+    /// are as they were.
     pub fn map<P: Allows>(
         &mut self,
         monitor: &Monitor<P>,

@@ -79,7 +79,7 @@ pub(crate) fn pin_of(held: Held) -> Pin
     }
 }
 
-// Makes a step of a call on the words. It stands apart, so that the step is not taken out of its place.
+// Makes a step of a call on the words. It is a function of its own, so that the step is not copied out of its place.
 #[inline(never)]
 fn perform(words: &Words, seat: &mut Seat, step: &Step) -> Seen
     requires seat { IsSeatOf words.now seat.old }
@@ -135,7 +135,7 @@ fn exchange(words: &Words, seat: &mut Seat, gref: GrantRef, looked: u64, change:
     }
 }
 
-// Tells what a step that saw this did.
+// What a step that saw this did.
 #[inline(never)]
 fn tell_effect(step: &Step, seen: Seen, effect: &mut Effect)
     ensures { effect.new ≡ effect_of step.now seen }

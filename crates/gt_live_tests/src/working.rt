@@ -74,7 +74,7 @@ fn control_of(denial: Denial) -> Option<Control> {
     }
 }
 
-// Whether the rule stands by the word that the refusal carries.
+// Whether the word that the refusal carries bears out its rule.
 fn stands(denial: Denial) -> bool {
     let Some(control) = control_of(denial) else {
         return false;
@@ -88,7 +88,7 @@ fn stands(denial: Denial) -> bool {
     }
 }
 
-// Whether the call is Ok, or refused by one of these two rules with a word by which it stands.
+// Whether the call is Ok, or refused by one of these two rules with a word that bears the rule out.
 fn is_fair(answer: Result<(), Denial>, one: Rule, other: Rule) -> bool {
     match answer {
         Ok(()) => true,

@@ -27,7 +27,7 @@ pub data SpellsFront : List Statement → Lexemes → Lexemes → Type 0 where
   front_more : (s : Statement) (ss : List Statement) (ls behind rest : Lexemes) → SpellsStatement s ls behind
       → SpellsFront ss behind rest → SpellsFront (s ∷ ss) ls rest
 
--- The first statement that is none: clean statements stand before it, and it
+-- The first statement that is none: clean statements come before it, and it
 -- has this fault at its first token that fits nowhere. (own)
 pub record IsBroken (text : List ℕ) (f : TokenFault) : Type 0 where
   pub before : List Statement

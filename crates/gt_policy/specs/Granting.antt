@@ -45,7 +45,7 @@ names_without ss (Without m) t = is_named ss m.name t
 names_without ss Itself t = false
 
 -- A set holds the types named in it and those of the attributes named in it, less those
--- named behind `-`, in whatever order they stand. (SELinux policy language)
+-- named behind `-`, in whatever order they come. (SELinux policy language)
 abbrev pub set_holds : List Statement → List SetElement → List ℕ → Bool
 set_holds ss items t = list_any (λ i. names_with ss i t) items && not (list_any (λ i. names_without ss i t) items)
 

@@ -10,7 +10,7 @@ use Rattle.gt_types.specs.declared.TypeId.{TypeId}
 abbrev pub name_of : List (List ℕ) → ℕ → List ℕ
 name_of types n = slice_index_or types n []
 
--- Each type stands in the list once, and no name comes before one that is less in the order of bytes. (own)
+-- Each type is in the list once, and no name comes before one that is less in the order of bytes. (own)
 pub record AreByName (types : List (List ℕ)) (ids : List TypeId) : Type 0 where
   pub all : IsPermutation (range_with_len 0 (length types)) (map (λ id. id.0) ids)
   pub ordered : IsSortedBy (λ a b. is_lt (slice_cmp nat_cmp (name_of types a.0) (name_of types b.0))) ids

@@ -109,7 +109,7 @@ allows_in [] = 0
 allows_in (Allow a ∷ ss) = allows_in ss + 1
 allows_in (s ∷ ss) = allows_in ss
 
--- no name stands twice (own)
+-- no name is there twice (own)
 abbrev pub AreDistinct : List (List ℕ) → Type 0
 AreDistinct [] = Unit {0}
 AreDistinct (w ∷ ws) = (list_any (λ v. bytes_eq w v) ws ≡ false) × AreDistinct ws

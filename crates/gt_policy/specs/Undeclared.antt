@@ -13,7 +13,7 @@ use Rattle.gt_policy.specs.declared.statements.Statement.TheVariants.{Allow}
 use Rattle.gt_policy.specs.Grammar.{at}
 use Rattle.gt_policy.specs.Spelling.{types_in, attributes_in}
 
--- What a name has to be declared as where it stands: as either in a set, as a type in front of the attributes
+-- What a name has to be declared as where it is used: as either in a set, as a type in front of the attributes
 -- of `typeattribute`, as an attribute in a list of attributes. (SELinux policy language)
 pub data Role : Type 0 where
   InSet : Role

@@ -39,8 +39,8 @@ pub fn written_texts()
         IsWritten text ss → AreDeclared ss → (m : Meaning) × (meant_by ss ≡ Ok m) }
 {}
 
-/// The fault of a text is that it is too long, or that of its first statement that is none, or that
-/// of the first name that is not declared in a text of clean statements.
+/// The fault of a text is one of three. The text is too long. Or it is the fault of the first statement that is none.
+/// Or all statements are clean, and it is the fault of the first name that is not declared.
 pub fn first_faults()
     ensures faulty { (text : List ℕ) (f : TokenFault) → Says text (Err f) →
         ((LONGEST_TEXT < length text) × (at 1 TokenFaultKind.Limit ≡ f))
@@ -51,10 +51,9 @@ pub fn first_faults()
         IsWritten text ss → IsFirstUndeclared ss (uses_of ss) f → Says text (Err f) }
 {}
 
-/// A policy allows what the statements of its text grant, by the names in them: some allow
-/// statement whose classes hold `grant` lists the permission or `*`, its source set holds the source,
-/// and its target set holds the target, or says `self` and the two are one. The bits that a statement
-/// grants are those of the words that it lists.
+/// A policy allows what the statements of its text grant, by the names in them. Some allow statement whose classes hold
+/// `grant` lists the permission or `*`. Its source set holds the source, and its target set holds the target, or says
+/// `self` and the two are one. The bits that a statement grants are those of the words that it lists.
 pub fn granted_by_statements()
     ensures allowed { (ss : List Statement) (m : Meaning) (s t w : List ℕ) (i j : TypeId) (perm : Perms) →
         meant_by ss ≡ Ok m → type_named m.types s ≡ Some i → type_named m.types t ≡ Some j →

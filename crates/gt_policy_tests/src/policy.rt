@@ -91,8 +91,8 @@ fn says_what_a_source_may_do(rt: HostRuntime) -> Result<(), Fail> {
     Ok(())
 }
 
-// With bench/refused.sh, which refuses each request for memory in turn: the answer is the
-// same, or the text was refused for want of memory.
+// With bench/refused.sh, which refuses each request for memory in turn: the answer is the same, or the fault is
+// `Memory`.
 #[test]
 fn memory(rt: HostRuntime) {
     match Policy::parse(rt.alloc(), COPY_AND_QUERY) {

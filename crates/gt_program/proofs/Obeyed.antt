@@ -9,6 +9,9 @@ use Rattle.clap.specs.Words.{kind_of}
 use Rattle.clap.specs.declared.error.Error.{Error}
 use Rattle.clap.specs.declared.error.kind.ErrorKind.{ErrorKind}
 use Rattle.clap.specs.declared.error.kind.ErrorKind.TheVariants.{ArgumentConflict, DisplayHelp, DisplayVersion, OutOfMemory, InvalidSubcommand, MissingSubcommand, TooManyValues, UnknownArgument}
+use Rattle.gt_script.specs.RunScripts.{RunTells}
+use Rattle.gt_run.specs.Runs.{Ran}
+use Rattle.gt_run.specs.declared.fault.RunFault.{RunFault}
 use Rattle.gt_program.specs.CommandLine.{Request, to_do, for_help, for_version, nothing, asked_by_plan, refusals, IsPlanFor}
 use Rattle.gt_program.specs.Obeying.{FitsKind, Obeys, PerformsRun, Runs, RunsDomains, Works, WorksRun, known_text, status_of}
 use Rattle.gt_program.specs.declared.failure.Failure.{Failure}
@@ -34,24 +37,30 @@ pub worked : (name : Option (Bor (List ℕ))) (file : List ℕ → Option (List 
     → Works work (known_text file input (option_map (λ f. f.now) name)) old new status
 worked name file input old new work r status ran is = runs (known_text file input (option_map (λ f. f.now) name)) old new work r status ran is
 
-ran : (known old new : Option (List ℕ)) (r : Result (Unit {0}) Failure) (status : ℕ) → IfSome known (λ bytes. RunsDomains bytes old new r) → status ≡ status_of r → WorksRun known old new status
-ran None old new r status run is = tt
-ran (Some bytes) old new r status run is = (r, is, inl run)
+ran : (audited : Bool) (known old new : Option (List ℕ)) (r : Result (Unit {0}) Failure) (status : ℕ) → IfSome known (λ bytes. RunsDomains audited bytes old new r) → status ≡ status_of r
+    → WorksRun audited known old new status
+ran audited None old new r status run is = tt
+ran audited (Some bytes) old new r status run is = (r, is, inl run)
 
-no_memory_run : (known old new : Option (List ℕ)) (status : ℕ) → status ≡ 1 → Keeps old new → WorksRun known old new status
-no_memory_run None old new status is kept = tt
-no_memory_run (Some bytes) old new status is kept = (Err failures.Memory, is, inr (refl, kept))
+no_memory_run : (audited : Bool) (known old new : Option (List ℕ)) (status : ℕ) → status ≡ 1 → Keeps old new → WorksRun audited known old new status
+no_memory_run audited None old new status is kept = tt
+no_memory_run audited (Some bytes) old new status is kept = (Err failures.Memory, is, inr (refl, kept))
 
 -- the domains of the text that is named were run, as the plan asks
 pub ran_plan : (p : Invocation) (file : List ℕ → Option (List ℕ)) (input old new : Option (List ℕ)) (r : Result (Unit {0}) Failure) (status : ℕ) → p.mode ≡ modes.Run
-    → IfSome (known_text file input (option_map (λ f. f.now) p.file)) (λ bytes. RunsDomains bytes old new r) → status ≡ status_of r → Obeys (asked_by_plan p) file input old new status
+    → IfSome (known_text file input (option_map (λ f. f.now) p.file)) (λ bytes. RunsDomains p.audit bytes old new r) → status ≡ status_of r → Obeys (asked_by_plan p) file input old new status
 ran_plan p file input old new r status mode run is =
     subst (λ (m : Mode). Obeys (to_do m p.audit (option_map (λ f. f.now) p.file)) file input old new status) (sym mode)
-    (ran (known_text file input (option_map (λ f. f.now) p.file)) old new r status run is)
+    (ran p.audit (known_text file input (option_map (λ f. f.now) p.file)) old new r status run is)
+
+-- a run with a log or without, as was asked for
+pub ran_as_asked : (logged audited : Bool) (known old new : Option (List ℕ)) (r : Result (Unit {0}) RunFault) → audited ≡ logged → OfInput known (λ input. Ran logged (RunTells input) old new r)
+    → OfInput known (λ input. Ran audited (RunTells input) old new r)
+ran_as_asked logged audited known old new r is ran = subst (λ (b : Bool). OfInput known (λ input. Ran b (RunTells input) old new r)) (sym is) ran
 
 -- no memory was there before the text was read
-pub unread_run : (known old : Option (List ℕ)) → OfInput known (λ input. PerformsRun input old old (Err failures.Memory))
-unread_run known old = of_any_input known (λ (input : List ℕ). PerformsRun input old old (Err failures.Memory)) (λ (input : List ℕ). keeps_same old)
+pub unread_run : (audited : Bool) (known old : Option (List ℕ)) → OfInput known (λ input. PerformsRun audited input old old (Err failures.Memory))
+unread_run audited known old = of_any_input known (λ (input : List ℕ). PerformsRun audited input old old (Err failures.Memory)) (λ (input : List ℕ). keeps_same old)
 
 same_request : (mode other : Mode) (audited also : Bool) (name same : Option (List ℕ)) → mode ≡ other → audited ≡ also → name ≡ same → to_do mode audited name ≡ to_do other also same
 same_request mode other audited also name same m a n = cc (m, a, n)
@@ -72,12 +81,12 @@ wrong : (kind other : ErrorKind) (old new : Option (List ℕ)) (status : ℕ) �
 wrong kind other old new status fits is memory help version =
     fits.wrong (λ (e : kind ≡ OutOfMemory). memory (sym is ∙ e)) (λ (e : kind ≡ DisplayHelp). help (sym is ∙ e)) (λ (e : kind ≡ DisplayVersion). version (sym is ∙ e))
 
--- want of memory
+-- memory was refused
 out_of_memory : (mode : Mode) (audited : Bool) (name : Option (List ℕ)) (file : List ℕ → Option (List ℕ)) (input old new : Option (List ℕ)) (status : ℕ) → status ≡ 1 → Keeps old new
     → Obeys (to_do mode audited name) file input old new status
 out_of_memory modes.Play audited name file input old new status is kept = no_memory (known_text file input name) old new (Play audited) status is kept
 out_of_memory modes.Policy audited name file input old new status is kept = no_memory (known_text file input name) old new ListPolicy status is kept
-out_of_memory modes.Run audited name file input old new status is kept = no_memory_run (known_text file input name) old new status is kept
+out_of_memory modes.Run audited name file input old new status is kept = no_memory_run audited (known_text file input name) old new status is kept
 out_of_memory modes.Rules audited name file input old new status is kept = omega arith
 
 -- it was refused

@@ -168,7 +168,7 @@ asked (word ∷ rest) = if bytes_eq (codes "play") word then asked_of Play false
 
 -- what is answered
 
--- the kinds of error that answer it, beside want of memory (own)
+-- the kinds of error that answer it, beside refused memory (own)
 abbrev pub refusals : Request → Kinds
 refusals (to_do mode audited file) = []
 refusals for_help = DisplayHelp ∷ []
@@ -182,7 +182,7 @@ IsPlanFor for_help p = ⊥
 IsPlanFor for_version p = ⊥
 IsPlanFor nothing p = ⊥
 
--- the plan, or an error that fits what was asked for; a plan is refused for want of memory alone (own)
+-- the plan, or an error that fits what was asked for; a plan is refused only where memory is (own)
 abbrev pub IsAnswerTo : Request → Result Invocation Error → Type 0
 IsAnswerTo request r = MatchResult r (IsPlanFor request) (HasKind (refusals request))
 

@@ -1,5 +1,5 @@
 -- What a command line comes to: what is written, and the exit status.
-use Rattle.std.specs.Prelude.{◌≡◌, ◌⊎◌, ℕ, ◌≤◌, ◌++◌, false, List, Option, Some, None, Result, Ok, Err, IfSome, codes}
+use Rattle.std.specs.Prelude.{◌≡◌, ◌⊎◌, ℕ, ◌≤◌, ◌++◌, Bool, false, List, Option, Some, None, Result, Ok, Err, IfSome, codes}
 use Rattle.std.specs.Io.KnownBytes.{Keeps}
 use Rattle.clap.specs.declared.error.kind.ErrorKind.{ErrorKind}
 use Rattle.clap.specs.declared.error.kind.ErrorKind.TheVariants.{DisplayHelp, DisplayVersion, OutOfMemory}
@@ -64,27 +64,27 @@ IsUnopened old new (Err failures.Memory) = ⊥
 abbrev pub Runs : Work → List ℕ → Option (List ℕ) → Option (List ℕ) → Result (Unit {0}) Failure → Type 0
 Runs work input old new r = Performs work input old new r ⊎ IsUnopened old new r
 
--- what `run` wrote that ended so, where these are the bytes of its text;
--- nothing where memory was refused before it read them (own)
-abbrev pub PerformsRun : List ℕ → Option (List ℕ) → Option (List ℕ) → Result (Unit {0}) Failure → Type 0
-PerformsRun input old new (Ok done) = Ran (RunTells input) old new (Ok done)
-PerformsRun input old new (Err (failures.Run fault)) = Ran (RunTells input) old new (Err fault)
-PerformsRun input old new (Err failures.Memory) = Keeps old new
-PerformsRun input old new (Err (failures.Play fault)) = ⊥
-PerformsRun input old new (Err (failures.List fault)) = ⊥
-PerformsRun input old new (Err (failures.File fault)) = ⊥
-PerformsRun input old new (Err (failures.Help fault)) = ⊥
+-- what `run` wrote that ended so, with audit lines or without, where these are the bytes
+-- of its text; nothing where memory was refused before it read them (own)
+abbrev pub PerformsRun : Bool → List ℕ → Option (List ℕ) → Option (List ℕ) → Result (Unit {0}) Failure → Type 0
+PerformsRun audited input old new (Ok done) = Ran audited (RunTells input) old new (Ok done)
+PerformsRun audited input old new (Err (failures.Run fault)) = Ran audited (RunTells input) old new (Err fault)
+PerformsRun audited input old new (Err failures.Memory) = Keeps old new
+PerformsRun audited input old new (Err (failures.Play fault)) = ⊥
+PerformsRun audited input old new (Err (failures.List fault)) = ⊥
+PerformsRun audited input old new (Err (failures.File fault)) = ⊥
+PerformsRun audited input old new (Err (failures.Help fault)) = ⊥
 
 -- the domains of the script that these bytes say were run, or its file could not be opened (own)
-abbrev pub RunsDomains : List ℕ → Option (List ℕ) → Option (List ℕ) → Result (Unit {0}) Failure → Type 0
-RunsDomains input old new r = PerformsRun input old new r ⊎ IsUnopened old new r
+abbrev pub RunsDomains : Bool → List ℕ → Option (List ℕ) → Option (List ℕ) → Result (Unit {0}) Failure → Type 0
+RunsDomains audited input old new r = PerformsRun audited input old new r ⊎ IsUnopened old new r
 
 -- the bytes that are known of the file that is named, or of the standard input where none is (own)
 abbrev pub known_text : (List ℕ → Option (List ℕ)) → Option (List ℕ) → Option (List ℕ) → Option (List ℕ)
 known_text file input None = input
 known_text file input (Some name) = file name
 
--- a command line that is not obeyed: the exit status is 1 for want of memory, 0 or 1 for help and the version,
+-- a command line that is not obeyed: the exit status is 1 where memory is refused, 0 or 1 for help and the version,
 -- as they were written or not, and else 2; nothing is written but help and the version (own)
 pub record FitsKind (kind : ErrorKind) (old new : Option (List ℕ)) (status : ℕ) : Type 0 where
   pub memory : kind ≡ OutOfMemory → status ≡ 1
@@ -94,31 +94,32 @@ pub record FitsKind (kind : ErrorKind) (old new : Option (List ℕ)) (status : �
   pub silent : (kind ≡ DisplayHelp → ⊥) → (kind ≡ DisplayVersion → ⊥) → Keeps old new
 
 -- the exit status fits what the work did on the text that is named, where its bytes are
--- known; for want of memory it is 1, and nothing was written (own)
+-- known; where memory is refused it is 1, and nothing was written (own)
 abbrev pub Works : Work → Option (List ℕ) → Option (List ℕ) → Option (List ℕ) → ℕ → Type 0
 Works work known old new status =
     IfSome known
     (λ bytes. (r : Result (Unit {0}) Failure) × (status ≡ status_of r)
     × (Runs work bytes old new r ⊎ ((r ≡ Err failures.Memory) × Keeps old new)))
 
--- the exit status fits what the run of the text's domains wrote, where its bytes are
--- known; for want of memory it is 1, and nothing was written (own)
-abbrev pub WorksRun : Option (List ℕ) → Option (List ℕ) → Option (List ℕ) → ℕ → Type 0
-WorksRun known old new status =
+-- the exit status fits what the run of the text's domains wrote, with audit lines or
+-- without, where its bytes are known; where memory is refused it is 1, and nothing was written (own)
+abbrev pub WorksRun : Bool → Option (List ℕ) → Option (List ℕ) → Option (List ℕ) → ℕ → Type 0
+WorksRun audited known old new status =
     IfSome known
     (λ bytes. (r : Result (Unit {0}) Failure) × (status ≡ status_of r)
-    × (RunsDomains bytes old new r ⊎ ((r ≡ Err failures.Memory) × Keeps old new)))
+    × (RunsDomains audited bytes old new r ⊎ ((r ≡ Err failures.Memory) × Keeps old new)))
 
 -- The exit status fits what was asked for, and what was written does: work that was done,
 -- the domains of a script that were run, the rules, where the status is 2
 -- for the name of none, help, the version, or nothing for words that ask for nothing,
--- whose status is 2 and for which nothing is written. Want of memory is
--- 1 for all of them. (own)
+-- whose status is 2 and for which nothing is written. Where memory is
+-- refused, the status is 1 for all of them. (own)
 abbrev pub Obeys : Request → (List ℕ → Option (List ℕ)) → Option (List ℕ) → Option (List ℕ) → Option (List ℕ) → ℕ
     → Type 0
 Obeys (to_do modes.Play audited name) file input old new status =
     Works (Play audited) (known_text file input name) old new status
-Obeys (to_do modes.Run audited name) file input old new status = WorksRun (known_text file input name) old new status
+Obeys (to_do modes.Run audited name) file input old new status =
+    WorksRun audited (known_text file input name) old new status
 Obeys (to_do modes.Policy audited name) file input old new status =
     Works ListPolicy (known_text file input name) old new status
 Obeys (to_do modes.Rules audited name) file input old new status = status ≤ 2

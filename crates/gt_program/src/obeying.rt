@@ -2,7 +2,9 @@
 ghost use Rattle.std.specs.Prelude.{◌≡◌, ◌≤◌, ℕ, List, IfSome, OnOk, drop, map, string_bytes};
 ghost use Rattle.std.specs.Option.{option_map};
 ghost use Rattle.clap.specs.Words.{kind_of};
+ghost use Rattle.gt_script.specs.RunScripts.{RunTells};
 ghost use Rattle.gt_streams.specs.Streams.{OfInput};
+ghost use Rattle.gt_run.specs.Runs.{Ran};
 ghost use Rattle.gt_program.specs.CommandLine.{asked, asked_by_plan};
 ghost use Rattle.gt_program.specs.Obeying.{status_of, known_text, FitsKind, Obeys, Performs, PerformsRun, Runs};
 ghost use Rattle.gt_program.specs.Obeying.{RunsDomains};
@@ -15,7 +17,7 @@ use clap::Error;
 use clap::error::ErrorKind;
 use gt_audit::SharedLog;
 use gt_listing::policy;
-use gt_run::{Flags, run};
+use gt_run::{Flags, Gate, RunFault, run};
 use gt_streams::WriteFault;
 use std::alloc::Global;
 use std::io::{Read, Write};
@@ -38,7 +40,8 @@ fn perform<R: Read, W: Write>(
     reader: &mut R,
     out: &mut W,
 ) -> Result<(), Failure>
-    ensures { OfInput (R.remaining reader.old) (λ input. Performs work input (W.contents out.old) (W.contents out.new) result) }
+    ensures { OfInput (R.remaining reader.old) (λ input.
+        Performs work input (W.contents out.old) (W.contents out.new) result) }
 {
     match work {
         Work::Play { audit } => match gt_host::play(alloc, reader, out, audit) {
@@ -90,7 +93,7 @@ fn show_help<W: Write, E: Eprint>(out: &mut W, err: &E, help: &Error) -> u8
     }
 }
 
-// Tells why a command line is not obeyed, or writes the help or the version that it asks for.
+// Says why a command line is not obeyed, or writes the help or the version that it asks for.
 fn refuse<W: Write, E: Eprint>(out: &mut W, err: &E, error: &Error) -> u8
     ensures { FitsKind (kind_of error.now) (W.contents out.old) (W.contents out.new) result }
 {
@@ -104,6 +107,26 @@ fn refuse<W: Write, E: Eprint>(out: &mut W, err: &E, error: &Error) -> u8
     2
 }
 
+// Runs the script of a reader, with its calls in the log or without.
+fn run_logged<R: Threads + Wait + Sync, I: Read, W: Write, G: Gate + Sync>(
+    rt: &R,
+    alloc: Global,
+    audit: bool,
+    reader: &mut I,
+    out: &mut W,
+    log: &SharedLog,
+    gate: &G,
+) -> Result<(), RunFault>
+    ensures { OfInput (I.remaining reader.old) (λ input.
+        Ran audit (RunTells input) (W.contents out.old) (W.contents out.new) result) }
+{
+    if audit {
+        run(rt, alloc, reader, out, Some(log), gate)
+    } else {
+        run(rt, alloc, reader, out, None, gate)
+    }
+}
+
 // Runs the script of a reader, its domains in threads.
 #[tactic(auto, using(crate::proofs::Obeyed::unread_run))]
 fn run_script<R: Threads + Wait + Sync, I: Read, W: Write>(
@@ -113,7 +136,8 @@ fn run_script<R: Threads + Wait + Sync, I: Read, W: Write>(
     reader: &mut I,
     out: &mut W,
 ) -> Result<(), Failure>
-    ensures { OfInput (I.remaining reader.old) (λ input. PerformsRun input (W.contents out.old) (W.contents out.new) result) }
+    ensures { OfInput (I.remaining reader.old) (λ input.
+        PerformsRun audit input (W.contents out.old) (W.contents out.new) result) }
 {
     let Ok(gate) = Flags::new(rt, alloc) else {
         return Err(Failure::Memory);
@@ -121,8 +145,7 @@ fn run_script<R: Threads + Wait + Sync, I: Read, W: Write>(
     let Ok(log) = SharedLog::new(alloc) else {
         return Err(Failure::Memory);
     };
-    let shared = if audit { Some(&log) } else { None };
-    match run(rt, alloc, reader, out, shared, &gate) {
+    match run_logged(rt, alloc, audit, reader, out, &log, &gate) {
         Ok(()) => Ok(()),
         Err(fault) => Err(Failure::Run(fault)),
     }
@@ -137,7 +160,7 @@ fn run_on<R: Threads + Wait + Sync, T: Texts, W: Write>(
     out: &mut W,
 ) -> Result<(), Failure>
     ensures { IfSome (known_text (T.file texts.now) (T.input texts.now) (option_map (λ f. f.now) invocation.now.file))
-        (λ input. RunsDomains input (W.contents out.old) (W.contents out.new) result) }
+        (λ input. RunsDomains invocation.now.audit input (W.contents out.old) (W.contents out.new) result) }
 {
     let audit = invocation.audit;
     let Some(name) = invocation.file else {

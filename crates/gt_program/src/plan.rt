@@ -17,7 +17,7 @@ pub enum Mode {
     Run,
     /// List what a policy allows.
     Policy,
-    /// Tell the rules by which calls are refused.
+    /// List the rules by which calls are refused.
     Rules,
 }
 
@@ -158,7 +158,7 @@ fn plan_of<'a>(mode: Mode, matches: &ArgMatches<'a>) -> Invocation<'a>
 }
 
 /// What the words of a command line, the program's name first, ask for: a command, its FILE, and whether it is audited.
-/// A line that asks for a command is refused for want of memory alone. Any other error prints as
+/// A line that asks for a command is refused only where memory is refused. Any other error prints as
 /// the help that was asked for, or as the text for standard error.
 pub fn plan<'a>(alloc: Global, words: &'a [String]) -> Result<Invocation<'a>, Error>
     ensures answers { IsAnswerTo (asked (drop 1 (map string_bytes words.entry.now))) result }

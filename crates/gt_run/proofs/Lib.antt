@@ -1,3 +1,4 @@
+pub mod CallLemmas
+pub mod DutyLemmas
 pub mod ListLemmas
-pub mod PartLemmas
 pub mod RanLemmas

@@ -1,92 +1,162 @@
 -- What the lines of a list come to, one after the other.
-use Rattle.std.proofs.Common.{◌≡◌, ◌++◌, ◌==◌, ℕ, ◌+◌, ◌<◌, Bool, true, false, List, [], ◌∷◌, take, length, get_or, Option, Some, Result, Ok, Err, IfOk, IsTrue, refl, sym, subst, ap, ◌∙◌, add-one, inl, inr}
-use Rattle.std.specs.Prelude.{IsOk}
+use Rattle.std.proofs.Common.{◌≡◌, ◌⊎◌, ◌++◌, ◌==◌, ℕ, ◌+◌, ◌<◌, Bool, true, false, List, [], ◌∷◌, take, length, map, get_or, Option, None, Some, Result, Ok, Err, IfOk, IsTrue, refl, sym, subst, ap, ◌∙◌, add-one, inl, inr}
+use Rattle.std.specs.Prelude.{IsOk, is_some}
+use Rattle.std.specs.Option.{option_map}
+use Rattle.gt_host.specs.Naming.{AreNamed}
 use Rattle.std.proofs.Math.Seq.{take-suc}
 use Rattle.std.proofs.lemmas.List.{append-nil}
 use Rattle.std.proofs.lemmas.Option.{slice_get_read}
+use Rattle.gt_audit.specs.Telling.{Telling, nothing_told, silent}
 use Rattle.gt_types.specs.declared.DomId.{DomId}
+use Rattle.gt_host.specs.declared.labels.Labels.{Labels}
 use Rattle.gt_lines.specs.declared.calls.ScriptCall.{ScriptCall}
+use Rattle.gt_live.specs.Domains.{AllowRelation}
+use Rattle.gt_live.specs.declared.domain.Domain.{Domain}
 use Rattle.gt_script.specs.declared.tasks.Deed.{Deed}
 use Rattle.gt_script.specs.declared.tasks.Deed.TheVariants.{Do, Tell, Await}
 use Rattle.gt_script.specs.declared.tasks.Task.{Task}
-use Rattle.gt_run.specs.Printing.{Gone, IsAnswerLine, IsAwait, Printed, Prints, PrintsDeed, PrintsWhere, gate_line}
-use Rattle.gt_run.proofs.PartLemmas.{each_snoc}
+use Rattle.gt_run.specs.Serving.{Calls, DoesDeed, DoesWhere, HasCome, IsAwait, IsKept, IsReady, IsTold, LeadsTo, Progress, Serves, ServesSome, StartsTold, answer_lines, at_start, counted, gate_line}
+use Rattle.gt_run.specs.Asking.{Stand}
+use Rattle.gt_run.specs.declared.lists.Duty.{Duty}
+use Rattle.gt_run.specs.declared.telling.Teller.{Teller}
 
--- one line more was served
+-- one line more leads on
+leads_behind : {P : Type 0} (may : P → AllowRelation) (duty : Duty P) (p : Progress) (tasks : List Task) (task : Task) (q r : Progress)
+    → LeadsTo may duty p tasks q → DoesWhere (task.dom.0 == duty.part.dom.0) may duty task q r → LeadsTo may duty p (tasks ++ task ∷ []) r
+leads_behind may duty p [] task q r leads does =
+    (r, subst (λ (x : Progress). DoesWhere (task.dom.0 == duty.part.dom.0) may duty task x r) leads does, refl)
+leads_behind may duty p (first ∷ tasks) task q r leads does = (leads.0, leads.1, leads_behind may duty leads.0 tasks task q r leads.2 does)
+
 take_more : (list : List Task) (i : ℕ) (l : Task) → i < length list → l ≡ get_or list i l → take (i + 1) list ≡ take i list ++ l ∷ []
 take_more list i l within is = rw add-one (take-suc list i l within ∙ ap (λ (x : Task). take i list ++ x ∷ []) (sym is))
 
-prints_more : (names : List (List ℕ)) (dom : DomId) (list : List Task) (i : ℕ) (l : Task) (t u : List ℕ) → i < length list → l ≡ get_or list i l
-    → Prints names dom (take i list) t → PrintsWhere (l.dom.0 == dom.0) names dom l u → Prints names dom (take (i + 1) list) (t ++ u)
-prints_more names dom list i l t u within is ts p =
-    subst (λ (ls : List Task). Prints names dom ls (t ++ u)) (sym (take_more list i l within is)) (each_snoc _ (take i list) l t u ts p)
+leads_more : {P : Type 0} (may : P → AllowRelation) (duty : Duty P) (p : Progress) (list : List Task) (i : ℕ) (l : Task) (q r : Progress) → i < length list → l ≡ get_or list i l
+    → LeadsTo may duty p (take i list) q → DoesWhere (l.dom.0 == duty.part.dom.0) may duty l q r → LeadsTo may duty p (take (i + 1) list) r
+leads_more may duty p list i l q r within is leads does =
+    subst (λ (ls : List Task). LeadsTo may duty p ls r) (sym (take_more list i l within is)) (leads_behind may duty p (take i list) l q r leads does)
 
--- a line that prints nothing
-quiet_more : (whole : Bool) (names : List (List ℕ)) (dom : DomId) (list : List Task) (i : ℕ) (l : Task) (text : List ℕ) → i < length list → l ≡ get_or list i l
-    → PrintsWhere (l.dom.0 == dom.0) names dom l [] → Gone whole names dom list i text → Gone whole names dom list (i + 1) text
-quiet_more true names dom list i l text within is p g =
-    subst (λ (t : List ℕ). Prints names dom (take (i + 1) list) t) (append-nil text) (prints_more names dom list i l text [] within is g p)
-quiet_more false names dom list i l text within is p g = g
+-- a line after which all is as it was
+quiet_more : {P : Type 0} (may : P → AllowRelation) (duty : Duty P) (d : Domain) (whole : Bool) (i : ℕ) (l : Task) (text : List ℕ) (e : Domain) (labels : Labels) (t : Option Teller)
+    → i < length duty.part.tasks.now → l ≡ get_or duty.part.tasks.now i l → ((q : Progress) → DoesWhere (l.dom.0 == duty.part.dom.0) may duty l q q)
+    → HasCome may duty d whole i text e labels t → HasCome may duty d whole (i + 1) text e labels t
+quiet_more may duty d true i l text e labels t within is does (q, leads, kept, prints) =
+    (q, leads_more may duty (at_start d) duty.part.tasks.now i l q q within is leads (does q), kept, prints)
+quiet_more may duty d false i l text e labels t within is does come = come
 
--- what a line of the domain prints
-own_prints : (names : List (List ℕ)) (dom : DomId) (l : Task) (u : List ℕ) → (l.dom.0 == dom.0) ≡ true → PrintsDeed names dom l.line l.deed u → PrintsWhere (l.dom.0 == dom.0) names dom l u
-own_prints names dom l u own p = subst (λ b. PrintsWhere b names dom l u) (sym own) p
+-- what a line of the domain does
+own_does : {P : Type 0} (may : P → AllowRelation) (duty : Duty P) (l : Task) (deed : Deed) (q r : Progress) → (l.dom.0 == duty.part.dom.0) ≡ true → l.deed ≡ deed
+    → DoesDeed may duty l.line deed q r → DoesWhere (l.dom.0 == duty.part.dom.0) may duty l q r
+own_does may duty l deed q r own is does =
+    subst (λ (b : Bool). DoesWhere b may duty l q r) (sym own) (subst (λ (x : Deed). DoesDeed may duty l.line x q r) (sym is) does)
 
 -- a line of another domain
-pub other_more : (whole : Bool) (names : List (List ℕ)) (dom : DomId) (list : List Task) (i : ℕ) (l : Task) (text : List ℕ) → i < length list → l ≡ get_or list i l
-    → (l.dom.0 == dom.0) ≡ false → Gone whole names dom list i text → Gone whole names dom list (i + 1) text
-other_more whole names dom list i l text within is other g =
-    quiet_more whole names dom list i l text within is (subst (λ b. PrintsWhere b names dom l []) (sym other) refl) g
+pub other_more : {P : Type 0} (may : P → AllowRelation) (duty : Duty P) (d : Domain) (whole : Bool) (i : ℕ) (l : Task) (text : List ℕ) (e : Domain) (labels : Labels) (t : Option Teller)
+    → i < length duty.part.tasks.now → l ≡ get_or duty.part.tasks.now i l → (l.dom.0 == duty.part.dom.0) ≡ false
+    → HasCome may duty d whole i text e labels t → HasCome may duty d whole (i + 1) text e labels t
+other_more may duty d whole i l text e labels t within is other come =
+    quiet_more may duty d whole i l text e labels t within is (λ q. subst (λ (b : Bool). DoesWhere b may duty l q q) (sym other) refl) come
 
 -- a line that tells a flag
-pub tell_more : (whole : Bool) (names : List (List ℕ)) (dom : DomId) (list : List Task) (i : ℕ) (l : Task) (text : List ℕ) (flag : ℕ) → i < length list → l ≡ get_or list i l
-    → (l.dom.0 == dom.0) ≡ true → l.deed ≡ Tell flag → Gone whole names dom list i text → Gone whole names dom list (i + 1) text
-unfolding PrintsDeed
-tell_more whole names dom list i l text flag within is own tells g =
-    quiet_more whole names dom list i l text within is (own_prints names dom l [] own (subst (λ (d : Deed). PrintsDeed names dom l.line d []) (sym tells) refl)) g
+pub tell_more : {P : Type 0} (may : P → AllowRelation) (duty : Duty P) (d : Domain) (whole : Bool) (i : ℕ) (l : Task) (text : List ℕ) (e : Domain) (labels : Labels) (t : Option Teller) (flag : ℕ)
+    → i < length duty.part.tasks.now → l ≡ get_or duty.part.tasks.now i l → (l.dom.0 == duty.part.dom.0) ≡ true → l.deed ≡ Tell flag
+    → HasCome may duty d whole i text e labels t → HasCome may duty d whole (i + 1) text e labels t
+unfolding DoesDeed
+tell_more may duty d whole i l text e labels t flag within is own tells come =
+    quiet_more may duty d whole i l text e labels t within is (λ q. own_does may duty l (Tell flag) q q own tells refl) come
 
 -- a line that awaits a flag
-pub await_more : (whole : Bool) (names : List (List ℕ)) (dom : DomId) (list : List Task) (i : ℕ) (l : Task) (text : List ℕ) (flag : ℕ) → i < length list → l ≡ get_or list i l
-    → (l.dom.0 == dom.0) ≡ true → l.deed ≡ Await flag → Gone whole names dom list i text → Gone whole names dom list (i + 1) text
-unfolding PrintsDeed
-await_more whole names dom list i l text flag within is own awaits g =
-    quiet_more whole names dom list i l text within is (own_prints names dom l [] own (subst (λ (d : Deed). PrintsDeed names dom l.line d []) (sym awaits) refl)) g
+pub await_more : {P : Type 0} (may : P → AllowRelation) (duty : Duty P) (d : Domain) (whole : Bool) (i : ℕ) (l : Task) (text : List ℕ) (e : Domain) (labels : Labels) (t : Option Teller) (flag : ℕ)
+    → i < length duty.part.tasks.now → l ≡ get_or duty.part.tasks.now i l → (l.dom.0 == duty.part.dom.0) ≡ true → l.deed ≡ Await flag
+    → HasCome may duty d whole i text e labels t → HasCome may duty d whole (i + 1) text e labels t
+unfolding DoesDeed
+await_more may duty d whole i l text e labels t flag within is own awaits come =
+    quiet_more may duty d whole i l text e labels t within is (λ q. own_does may duty l (Await flag) q q own awaits refl) come
+
+-- a text that breaks off
+breaks_off : {P : Type 0} (may : P → AllowRelation) (duty : Duty P) (d : Domain) (whole : Bool) (i : ℕ) (old new : List ℕ) (e : Domain) (labels : Labels) (t : Option Teller)
+    → HasCome may duty d whole i old e labels t → new ≡ old → ServesSome may duty d new
+breaks_off may duty d true i old new e labels t (q, leads, kept, prints) same = record { left = q; number = i; leads = leads; prints = same ∙ prints }
+breaks_off may duty d false i old new e labels t come same = subst (λ (l : List ℕ). ServesSome may duty d l) (sym same) come
 
 -- a line that makes a call
-pub do_more : {V E : Type 0} (items : V → List ℕ) (whole r : Bool) (names : List (List ℕ)) (dom : DomId) (list : List Task) (i : ℕ) (l : Task) (line : Result V E) (old new : List ℕ) (call : ScriptCall)
-    → i < length list → l ≡ get_or list i l → (l.dom.0 == dom.0) ≡ true → l.deed ≡ Do call → IfOk line (λ v. IsAnswerLine names l.line dom (items v)) → Gone whole names dom list i old
-    → (IsTrue r → IsTrue whole × IsOk line × IfOk line (λ v. new ≡ old ++ items v)) → (r ≡ false → new ≡ old) → Gone r names dom list (i + 1) new
-unfolding PrintsDeed
-do_more items true true names dom list i l (Ok v) old new call within is own does a g more kept =
-    subst (λ (t : List ℕ). Prints names dom (take (i + 1) list) t) (sym (more refl).2)
-    (prints_more names dom list i l old (items v) within is g
-    (own_prints names dom l (items v) own (subst (λ (d : Deed). PrintsDeed names dom l.line d (items v)) (sym does) a)))
-do_more items true true names dom list i l (Err e) old new call within is own does a g more kept = let m = more refl in cc
-do_more items false true names dom list i l line old new call within is own does a g more kept = let m = more refl in cc
-do_more items true false names dom list i l line old new call within is own does a g more kept =
-    (i, subst (λ (t : List ℕ). Prints names dom (take i list) t) (sym (kept refl)) g)
-do_more items false false names dom list i l line old new call within is own does a g more kept =
-    (g.0, subst (λ (t : List ℕ). Prints names dom (take g.0 list) t) (sym (kept refl)) g.1)
+pub do_more : {P V E : Type 0} (may : P → AllowRelation) (items : V → List ℕ) (duty : Duty P) (d : Domain) (whole r : Bool) (i : ℕ) (l : Task) (line : Result V E) (old new : List ℕ) (e f : Domain)
+    (before after : Labels) (t u : Option Teller) (call : ScriptCall)
+    → i < length duty.part.tasks.now → l ≡ get_or duty.part.tasks.now i l → (l.dom.0 == duty.part.dom.0) ≡ true → l.deed ≡ Do call
+    → IfOk line (λ v. Calls may duty l.line call e f before after t u (items v)) → HasCome may duty d whole i old e before t
+    → (IsTrue r → IsTrue whole × IsOk line × IfOk line (λ v. new ≡ old ++ items v)) → (r ≡ false → new ≡ old) → HasCome may duty d r (i + 1) new f after u
+unfolding DoesDeed
+do_more may items duty d true true i l (Ok v) old new e f before after t u call within is own does calls (q, leads, kept, prints) more same =
+    let next = calls q kept in (
+      next.0,
+      leads_more may duty (at_start d) duty.part.tasks.now i l q next.0 within is leads (own_does may duty l (Do call) q next.0 own does next.1),
+      next.2,
+      (more refl).2 ∙ ap (λ (x : List ℕ). x ++ items v) prints ∙ sym next.3,
+    )
+do_more may items duty d true true i l (Err x) old new e f before after t u call within is own does calls come more same = let m = more refl in cc
+do_more may items duty d false true i l line old new e f before after t u call within is own does calls come more same = let m = more refl in cc
+do_more may items duty d whole false i l line old new e f before after t u call within is own does calls come more same =
+    breaks_off may duty d whole i old new e before t come (same refl)
 
 -- the gate answers false at a line
-pub gate_stops : {V E : Type 0} (items : V → List ℕ) (whole r : Bool) (names : List (List ℕ)) (dom : DomId) (list : List Task) (i : ℕ) (l : Task) (line : Result V E) (old new : List ℕ) (flag : ℕ)
-    → i < length list → l ≡ get_or list i l → (l.dom.0 == dom.0) ≡ true → l.deed ≡ Await flag → IfOk line (λ v. items v ≡ gate_line l.line dom) → Gone whole names dom list i old
-    → (IsTrue r → IsTrue whole × IsOk line × IfOk line (λ v. new ≡ old ++ items v)) → (r ≡ false → new ≡ old) → Printed r names dom list new
+pub gate_stops : {P V E : Type 0} (may : P → AllowRelation) (items : V → List ℕ) (duty : Duty P) (d : Domain) (whole r : Bool) (i : ℕ) (l : Task) (line : Result V E) (old new : List ℕ) (e : Domain)
+    (labels : Labels) (t : Option Teller) (flag : ℕ)
+    → i < length duty.part.tasks.now → l ≡ get_or duty.part.tasks.now i l → (l.dom.0 == duty.part.dom.0) ≡ true → l.deed ≡ Await flag
+    → IfOk line (λ v. items v ≡ gate_line l.line duty.part.dom) → HasCome may duty d whole i old e labels t
+    → (IsTrue r → IsTrue whole × IsOk line × IfOk line (λ v. new ≡ old ++ items v)) → (r ≡ false → new ≡ old) → Serves may duty d r new e t
 unfolding IsAwait
-gate_stops items true true names dom list i l (Ok v) old new flag within is own awaits a g more kept =
-    inr (record {
+gate_stops may items duty d true true i l (Ok v) old new e labels t flag within is own awaits line_is (q, leads, kept, prints) more same =
+    record {
+      left = q;
       number = i;
-      at = l;
-      own = own;
-      before = old;
-      stands = slice_get_read list (length list) i l refl within is;
-      awaits = subst IsAwait (sym awaits) tt;
-      printed = g;
-      text_is = (more refl).2 ∙ ap (λ (t : List ℕ). old ++ t) a;
-    })
-gate_stops items true true names dom list i l (Err e) old new flag within is own awaits a g more kept = let m = more refl in cc
-gate_stops items false true names dom list i l line old new flag within is own awaits a g more kept = let m = more refl in cc
-gate_stops items true false names dom list i l line old new flag within is own awaits a g more kept =
-    (i, subst (λ (t : List ℕ). Prints names dom (take i list) t) (sym (kept refl)) g)
-gate_stops items false false names dom list i l line old new flag within is own awaits a g more kept =
-    (g.0, subst (λ (t : List ℕ). Prints names dom (take g.0 list) t) (sym (kept refl)) g.1)
+      leads = leads;
+      last = gate_line l.line duty.part.dom;
+      ends = inr (record {
+        at = l;
+        own = own;
+        stands = slice_get_read duty.part.tasks.now (length duty.part.tasks.now) i l refl within is;
+        awaits = subst IsAwait (sym awaits) tt;
+        last_is = refl;
+      });
+      prints = (more refl).2 ∙ cc (prints, line_is);
+      asked = kept.asked;
+      told = kept.told;
+    }
+gate_stops may items duty d true true i l (Err x) old new e labels t flag within is own awaits line_is come more same = let m = more refl in cc
+gate_stops may items duty d false true i l line old new e labels t flag within is own awaits line_is come more same = let m = more refl in cc
+gate_stops may items duty d whole false i l line old new e labels t flag within is own awaits line_is come more same =
+    breaks_off may duty d whole i old new e labels t come (same refl)
+
+-- all lines were served
+pub list_ends : {P : Type 0} (may : P → AllowRelation) (duty : Duty P) (d : Domain) (whole : Bool) (i : ℕ) (text : List ℕ) (e : Domain) (labels : Labels) (t : Option Teller)
+    → i ≡ length duty.part.tasks.now → HasCome may duty d whole i text e labels t → Serves may duty d whole text e t
+list_ends may duty d true i text e labels t all (q, leads, kept, prints) =
+    record {
+      left = q;
+      number = i;
+      leads = leads;
+      last = [];
+      ends = inl (all, refl);
+      prints = prints ∙ sym (append-nil (answer_lines duty.part.types.now duty.part.dom q.outcomes));
+      asked = kept.asked;
+      told = kept.told;
+    }
+list_ends may duty d false i text e labels t all come = come
+
+-- before the first line
+pub come_none : {P : Type 0} (may : P → AllowRelation) (duty : Duty P) (d : Domain) (text : List ℕ) (labels : Labels) (t : Option Teller) → text ≡ [] → StartsTold duty d t → AreNamed labels []
+    → HasCome may duty d true 0 text d labels t
+come_none may duty d text labels t none starts names =
+    (at_start d, refl, record { domain = refl; own = starts.0; names = names; asked = starts.1; told = starts.2 }, none)
+
+told_none : {A : Type 0} (dom : DomId) (log : Option A) (t : Option Teller) (trail : Telling) → trail ≡ silent → t ≡ option_map (λ l. record { told = nothing_told dom; next = 0 }) log
+    → (is_some t ≡ is_some log) × IsTold trail t []
+told_none dom None t trail fresh is = (ap is_some is, subst (λ (x : Option Teller). IsTold trail x []) (sym is) (refl, refl))
+told_none dom (Some log) t trail fresh is =
+    (ap is_some is, subst (λ (x : Option Teller). IsTold trail x []) (sym is) (sym (ap (λ (x : Telling). length x.records) fresh), refl, ap (λ (x : Telling). counted (x.lost + 0)) fresh))
+
+-- nothing was pushed for a domain that has made no call
+pub starts_told : {P : Type 0} (may : P → AllowRelation) (duty : Duty P) (s : Stand P) (t : Option Teller) → IsReady may duty.monitor.now duty.part.dom s
+    → t ≡ option_map (λ l. record { told = nothing_told duty.part.dom; next = 0 }) duty.log → StartsTold duty s.domain t
+starts_told may duty s t ready is =
+    let told = told_none duty.part.dom duty.log t s.domain.trail ready.1.fresh.trail is in
+    (ready.1.own, told.0, told.1)

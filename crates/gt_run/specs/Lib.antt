@@ -3,4 +3,5 @@ pub mod Faults
 pub mod Joining
 pub mod Printing
 pub mod Runs
+pub mod Serving
 pub mod Telling

@@ -1,107 +1,97 @@
--- What the lists of a run print.
-use Rattle.std.specs.Prelude.{◌≡◌, ◌⊎◌, ◌++◌, ◌==◌, ℕ, Bool, true, false, List, [], ◌∷◌, take, map, codes, Option, Some}
-use Rattle.std.specs.Prelude.{IfOk, slice_get}
-use Rattle.std.specs.List.{flat_map}
+-- What the lists of a run print, together.
+use Rattle.std.specs.Prelude.{◌≡◌, ◌⊎◌, ◌++◌, ℕ, Bool, true, false, List, [], ◌∷◌, map, All, Option, IfOk, is_some}
+use Rattle.std.specs.List.{flat_map, sum_by}
 use Rattle.std.specs.Io.KnownBytes.{Appends}
 use Rattle.std.specs.declared.thread.PromisedHandle.{PromisedHandle}
-use Rattle.gt_types.specs.declared.DomId.{DomId}
-use Rattle.gt_texts.specs.Printing.{type_text}
-use Rattle.gt_audit.specs.Lines.{line_text, lost_text}
-use Rattle.gt_audit.specs.declared.record.Record.{Record}
-use Rattle.gt_core.specs.declared.trace.Answer.{Answer}
-use Rattle.gt_host.specs.Printing.{answer_line, call_text}
-use Rattle.gt_script.specs.declared.tasks.Deed.{Deed}
-use Rattle.gt_script.specs.declared.tasks.Deed.TheVariants.{Do, Tell, Await}
-use Rattle.gt_script.specs.declared.tasks.Task.{Task}
+use Rattle.gt_audit.specs.Lines.{lost_text}
+use Rattle.gt_live.specs.Domains.{AllowRelation}
+use Rattle.gt_live.specs.declared.monitor.Monitor.{Monitor}
+use Rattle.gt_streams.specs.Streams.{AppendsBeginning}
+use Rattle.gt_run.specs.declared.lists.Duty.{Duty}
 use Rattle.gt_run.specs.declared.lists.Part.{Part}
 use Rattle.gt_run.specs.declared.serving.Output.{Output}
+use Rattle.gt_run.specs.Serving.{IsBegun, IsServed, Outcome, audit_lines, counted, lost_in}
 
--- `LINE ID gate`: the gate answered false at that line (own)
-abbrev pub gate_line : ℕ → DomId → List ℕ
-gate_line line dom = call_text line dom ++ codes "gate\n"
+-- a list that was served, what its calls came to, and what it printed (own)
+pub record Served (P : Type 0) : Type 0 where
+  pub duty : Duty P
+  pub outcomes : List Outcome
+  pub text : List ℕ
 
--- the texts of these, one after the other (own)
-abbrev pub Each : {A : Type 0} → (A → List ℕ → Type 0) → List A → List ℕ → Type 0
-Each P [] text = text ≡ []
-Each P (x ∷ xs) text = (first : List ℕ) × (more : List ℕ) × P x first × Each P xs more × (text ≡ first ++ more)
+-- each of these lists was served so (own)
+abbrev pub AreServed : {P : Type 0} → (P → AllowRelation) → List (Served P) → Type 0
+AreServed may all = All (λ s. IsServed may s.duty s.outcomes s.text) all
 
--- the line of some answer (own)
-abbrev pub IsAnswerLine : List (List ℕ) → ℕ → DomId → List ℕ → Type 0
-IsAnswerLine names line dom text = (answer : Answer) × (text ≡ answer_line names line dom answer)
+-- whose lists they are (own)
+abbrev pub duties_in : {P : Type 0} → List (Served P) → List (Duty P)
+duties_in all = map (λ s. s.duty) all
 
--- what a line prints that asks this of its domain: a call the line of its answer, and the others nothing (own)
-unfoldable pub PrintsDeed : List (List ℕ) → DomId → ℕ → Deed → List ℕ → Type 0
-PrintsDeed names dom line (Do call) text = IsAnswerLine names line dom text
-PrintsDeed names dom line (Tell flag) text = text ≡ []
-PrintsDeed names dom line (Await flag) text = text ≡ []
+-- what they printed, in their order (own)
+abbrev pub texts_in : {P : Type 0} → List (Served P) → List ℕ
+texts_in all = flat_map (λ s. s.text) all
 
--- what a line prints as a domain's, which it is or is not: nothing where it is another's (own)
-abbrev pub PrintsWhere : Bool → List (List ℕ) → DomId → Task → List ℕ → Type 0
-PrintsWhere true names dom task text = PrintsDeed names dom task.line task.deed text
-PrintsWhere false names dom task text = text ≡ []
+-- the audit lines of their calls, in their order (own)
+abbrev pub audits_in : {P : Type 0} → List (Served P) → List ℕ
+audits_in all = flat_map (λ s. audit_lines s.duty.part.types.now s.outcomes) all
 
--- what the lines of a domain print, one after the other, among those of all domains (own)
-abbrev pub Prints : List (List ℕ) → DomId → List Task → List ℕ → Type 0
-Prints names dom tasks text = Each (λ task t. PrintsWhere (task.dom.0 == dom.0) names dom task t) tasks text
+-- how many records of their calls were lost (own)
+abbrev pub all_lost : {P : Type 0} → List (Served P) → ℕ
+all_lost all = sum_by (λ s. lost_in s.outcomes) all
 
--- the line awaits a flag (own)
-unfoldable pub IsAwait : Deed → Type 0
-IsAwait (Do call) = ⊥
-IsAwait (Tell flag) = ⊥
-IsAwait (Await flag) = Unit {0}
+-- the whole text of a run: what the lists printed, behind that their audit lines, and how many records were lost (own)
+abbrev pub whole_text : {P : Type 0} → List (Served P) → List ℕ
+whole_text all = texts_in all ++ (audits_in all ++ lost_text (counted (all_lost all)))
 
--- what a list prints whose gate answers false at a line: the lines before it, and that (own)
-pub record Stops (names : List (List ℕ)) (dom : DomId) (tasks : List Task) (text : List ℕ) : Type 0 where
-  pub number : ℕ
-  pub at : Task
-  pub own : (at.dom.0 == dom.0) ≡ true
-  pub before : List ℕ
-  pub stands : slice_get tasks number ≡ Some at
-  pub awaits : IsAwait at.deed
-  pub printed : Prints names dom (take number tasks) before
-  pub text_is : text ≡ before ++ gate_line at.line dom
+-- what came of a duty, whose list printed all or did not: what its calls came to is
+-- what its text, its audit lines and its count of lost records tell;
+-- or its text is that of some first lines (own)
+abbrev pub CameBy : {P : Type 0} → Bool → (P → AllowRelation) → Duty P → Output → Type 0
+CameBy true may duty o =
+    (outcomes : List Outcome) × IsServed may duty outcomes o.text.items
+    × IfOk o.audit (λ audit. audit.items ≡ audit_lines duty.part.types.now outcomes)
+    × (o.lost ≡ counted (lost_in outcomes))
+CameBy false may duty o = IsBegun may duty o.text.items
 
--- what a list prints: all its lines, or those up to where its gate answers false (own)
-abbrev pub PrintsList : List (List ℕ) → DomId → List Task → List ℕ → Type 0
-PrintsList names dom list text = Prints names dom list text ⊎ Stops names dom list text
+abbrev pub CameOf : {P : Type 0} → (P → AllowRelation) → Duty P → Output → Type 0
+CameOf may duty o = CameBy o.whole may duty o
 
--- what a list printed: whole, or a beginning of its lines (own)
-abbrev pub Printed : Bool → List (List ℕ) → DomId → List Task → List ℕ → Type 0
-Printed true names dom list text = PrintsList names dom list text
-Printed false names dom list text = (number : ℕ) × Prints names dom (take number list) text
+-- the duties of these parts, in their order, all over this monitor, and with a log or without (own)
+abbrev pub AreDuties : {P : Type 0} → Monitor P → Bool → List Part → List (Duty P) → Type 0
+AreDuties m logged parts duties =
+    (map (λ d. d.part) duties ≡ parts) × All (λ d. (d.monitor.now ≡ m) × (is_some d.log ≡ logged)) duties
 
--- the audit lines of some records, one after the other (own)
-abbrev pub IsAudit : List (List ℕ) → List ℕ → Type 0
-IsAudit names text = (records : List Record) × (text ≡ flat_map (line_text (type_text (λ name. name) names)) records)
+-- the lists of these duties were served, and what they printed went out (own)
+abbrev pub WritesLists : {P : Type 0} → (P → AllowRelation) → List (Duty P) → List (Served P) → Option (List ℕ)
+    → Option (List ℕ) → Type 0
+WritesLists may duties all old new = (duties_in all ≡ duties) × AreServed may all × Appends old new (texts_in all)
 
--- what comes of a domain's part of a run (own)
-abbrev pub CameOf : Part → Output → Type 0
-CameOf p o =
-    Printed o.whole p.types.now p.dom p.tasks.now o.text.items × IfOk o.audit (λ audit. IsAudit p.types.now audit.items)
+-- the lists of these duties were served, and their whole text went out (own)
+abbrev pub WritesAll : {P : Type 0} → (P → AllowRelation) → List (Duty P) → Option (List ℕ) → Option (List ℕ) → Type 0
+WritesAll {P} may duties old new =
+    (all : List (Served P)) × (duties_in all ≡ duties) × AreServed may all × Appends old new (whole_text all)
 
--- what the domains print, in their order (own)
-abbrev pub PrintsParts : List Part → List ℕ → Type 0
-PrintsParts parts text = Each (λ p t. PrintsList p.types.now p.dom p.tasks.now t) parts text
+-- what goes on behind those lists that printed all: nothing, or what some first lines of the next list printed (own)
+abbrev pub GoesOn : {P : Type 0} → (P → AllowRelation) → List (Duty P) → List ℕ → Type 0
+GoesOn may [] text = text ≡ []
+GoesOn may (next ∷ rest) text = (text ≡ []) ⊎ IsBegun may next text
 
--- the audit lines of the domains, in their order (own)
-abbrev pub AuditsParts : List Part → List ℕ → Type 0
-AuditsParts parts text = Each (λ p t. IsAudit p.types.now t) parts text
+-- a beginning of what these lists print went out: the first ones were served, and behind
+-- what they printed goes nothing, or the beginning of the next one (own)
+abbrev pub BeginsLists : {P : Type 0} → (P → AllowRelation) → List (Duty P) → Option (List ℕ) → Option (List ℕ) → Type 0
+BeginsLists {P} may duties old new =
+    (all : List (Served P)) × (rest : List (Duty P)) × (text : List ℕ)
+    × (duties_in all ++ rest ≡ duties) × AreServed may all × GoesOn may rest text
+    × AppendsBeginning old new (texts_in all ++ text)
 
--- the lines of all domains went out (own)
-abbrev pub WritesParts : List Part → Option (List ℕ) → Option (List ℕ) → Type 0
-WritesParts parts old new = (text : List ℕ) × PrintsParts parts text × Appends old new text
+-- a beginning of the whole text of these lists went out (own)
+abbrev pub BeginsWhole : {P : Type 0} → (P → AllowRelation) → List (Duty P) → Option (List ℕ) → Option (List ℕ) → Type 0
+BeginsWhole {P} may duties old new =
+    (all : List (Served P)) × (duties_in all ≡ duties) × AreServed may all × AppendsBeginning old new (whole_text all)
 
--- the lines of all domains went out, and behind them their audit lines and how many records were lost (own)
-abbrev pub WritesAll : List Part → Option (List ℕ) → Option (List ℕ) → Type 0
-WritesAll parts old new =
-    (text : List ℕ) × (audit : List ℕ) × (lost : ℕ) × PrintsParts parts text × AuditsParts parts audit
-    × Appends old new (text ++ (audit ++ lost_text lost))
+-- a beginning of a whole text that these lists may print went out, where they were served so far (own)
+abbrev pub BeginsAll : {P : Type 0} → (P → AllowRelation) → List (Duty P) → Option (List ℕ) → Option (List ℕ) → Type 0
+BeginsAll may duties old new = BeginsLists may duties old new ⊎ BeginsWhole may duties old new
 
--- the parts that were promised (own)
-abbrev pub promised : List (PromisedHandle Output Part) → List Part
+-- the duties that were promised (own)
+abbrev pub promised : {P : Type 0} → List (PromisedHandle Output (Duty P)) → List (Duty P)
 promised handles = map (λ h. h.promise) handles
-
--- what the first lines of a list printed, so many: whole, or a beginning of its lines (own)
-abbrev pub Gone : Bool → List (List ℕ) → DomId → List Task → ℕ → List ℕ → Type 0
-Gone true names dom list count text = Prints names dom (take count list) text
-Gone false names dom list count text = (number : ℕ) × Prints names dom (take number list) text

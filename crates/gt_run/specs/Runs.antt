@@ -1,43 +1,64 @@
 -- What a run writes for what is read.
-use Rattle.std.specs.Prelude.{◌≡◌, ◌⊎◌, ◌++◌, ℕ, List, map, All, Option, Some, Result, Ok, Err}
+use Rattle.std.specs.Prelude.{◌≡◌, ◌⊎◌, ℕ, Bool, List, map, All, Option, Some, Result, Ok, Err}
 use Rattle.std.specs.Io.KnownBytes.{Keeps}
+use Rattle.gt_types.specs.declared.config.Config.{Config}
 use Rattle.gt_types.specs.declared.config.DomainConfig.{DomainConfig}
 use Rattle.gt_policy.specs.declared.fault.TokenFault as policy
-use Rattle.gt_audit.specs.Lines.{lost_text}
 use Rattle.gt_script.specs.Blocks.{block_fault_shown}
-use Rattle.gt_script.specs.Contents.{type_names}
+use Rattle.gt_script.specs.Contents.{first_gen, type_names}
 use Rattle.gt_script.specs.RunContents.{RunContents}
 use Rattle.gt_script.specs.Script.{Wrong, in_script, in_policy}
 use Rattle.gt_script.specs.declared.tasks.Task.{Task}
-use Rattle.gt_streams.specs.Streams.{AppendsBeginning}
+use Rattle.gt_host.specs.Rights.{may_by, may_in}
 use Rattle.gt_host.specs.declared.fault.PlayFault.TheVariants.{Memory, Read, Write, Script, Policy}
+use Rattle.gt_host.specs.declared.rights.Rights.{Rights as ScriptRights}
+use Rattle.gt_live.specs.Domains.{AllowRelation}
+use Rattle.gt_live.specs.declared.monitor.Monitor.{Monitor}
 use Rattle.gt_run.specs.declared.fault.RunFault.{RunFault}
 use Rattle.gt_run.specs.declared.fault.RunFault.TheVariants.{Play, Thread}
+use Rattle.gt_run.specs.declared.lists.Duty.{Duty}
 use Rattle.gt_run.specs.declared.lists.Part.{Part}
-use Rattle.gt_run.specs.Printing.{AuditsParts, PrintsParts, WritesAll}
+use Rattle.gt_run.specs.Printing.{AreDuties, BeginsAll, WritesAll}
 
--- a beginning of the lines that these parts print went out (own)
-abbrev pub BeginsParts : List Part → Option (List ℕ) → Option (List ℕ) → Type 0
-BeginsParts parts old new = (text : List ℕ) × PrintsParts parts text × AppendsBeginning old new text
+-- What these duties wrote that ended so: at Ok the whole text of their lists; where a
+-- thread was refused nothing; after a failed write or for want of
+-- memory a beginning of it. No other fault is one of theirs. (own)
+abbrev pub WroteLists : {P : Type 0} → (P → AllowRelation) → List (Duty P) → Option (List ℕ) → Option (List ℕ)
+    → Result (Unit {0}) RunFault → Type 0
+WroteLists may duties old new (Ok done) = WritesAll may duties old new
+WroteLists may duties old new (Err Thread) = Keeps old new
+WroteLists may duties old new (Err (Play Memory)) = BeginsAll may duties old new
+WroteLists may duties old new (Err (Play Write)) = BeginsAll may duties old new
+WroteLists may duties old new (Err (Play Read)) = ⊥
+WroteLists may duties old new (Err (Play (Script fault))) = ⊥
+WroteLists may duties old new (Err (Play (Policy fault))) = ⊥
 
--- a beginning of a whole text that these parts may write went out: of their
--- lines, their audit lines, and how many records were lost (own)
-abbrev pub BeginsAll : List Part → Option (List ℕ) → Option (List ℕ) → Type 0
-BeginsAll parts old new =
-    (text : List ℕ) × (audit : List ℕ) × (lost : ℕ) × PrintsParts parts text × AuditsParts parts audit
-    × AppendsBeginning old new (text ++ (audit ++ lost_text lost))
+-- such duties wrote their whole text (own)
+abbrev pub Writes : {P : Type 0} → (P → AllowRelation) → (List (Duty P) → Type 0) → Option (List ℕ) → Option (List ℕ)
+    → Type 0
+Writes {P} may Are old new = (duties : List (Duty P)) × Are duties × WritesAll may duties old new
 
--- What parts wrote whose run ended so: at Ok their whole text; where a thread was refused
--- nothing; after a failed write or for want of memory a beginning of a whole text.
--- No other fault is one of parts. (own)
-abbrev pub Wrote : List Part → Option (List ℕ) → Option (List ℕ) → Result (Unit {0}) RunFault → Type 0
-Wrote parts old new (Ok done) = WritesAll parts old new
-Wrote parts old new (Err Thread) = Keeps old new
-Wrote parts old new (Err (Play Memory)) = BeginsAll parts old new
-Wrote parts old new (Err (Play Write)) = BeginsAll parts old new
-Wrote parts old new (Err (Play Read)) = ⊥
-Wrote parts old new (Err (Play (Script fault))) = ⊥
-Wrote parts old new (Err (Play (Policy fault))) = ⊥
+-- such duties wrote a beginning of their whole text (own)
+abbrev pub BeginsToWrite : {P : Type 0} → (P → AllowRelation) → (List (Duty P) → Type 0) → Option (List ℕ)
+    → Option (List ℕ) → Type 0
+BeginsToWrite {P} may Are old new = (duties : List (Duty P)) × Are duties × BeginsAll may duties old new
+
+-- the same of duties of which this is known; where memory is refused, it may
+-- be that none began, and nothing was written (own)
+abbrev pub Wrote : {P : Type 0} → (P → AllowRelation) → (List (Duty P) → Type 0) → Option (List ℕ) → Option (List ℕ)
+    → Result (Unit {0}) RunFault → Type 0
+Wrote may Are old new (Ok done) = Writes may Are old new
+Wrote may Are old new (Err Thread) = Keeps old new
+Wrote may Are old new (Err (Play Memory)) = Keeps old new ⊎ BeginsToWrite may Are old new
+Wrote may Are old new (Err (Play Write)) = BeginsToWrite may Are old new
+Wrote may Are old new (Err (Play Read)) = ⊥
+Wrote may Are old new (Err (Play (Script fault))) = ⊥
+Wrote may Are old new (Err (Play (Policy fault))) = ⊥
+
+-- the duties of these parts, over one monitor of this configuration and these rights (own)
+abbrev pub AreUnder : {P : Type 0} → Config → P → Bool → List Part → List (Duty P) → Type 0
+AreUnder {P} config rights logged parts duties =
+    (m : Monitor P) × (m.config ≡ config) × (m.rights ≡ rights) × AreDuties m logged parts duties
 
 -- the part has these tasks and these names of types (own)
 abbrev pub IsOver : List Task → List (List ℕ) → Part → Type 0
@@ -51,39 +72,45 @@ AreParts domains tasks names parts = (map (λ p. p.dom) parts ≡ map (λ d. d.i
 abbrev pub ArePartsOf : RunContents → List Part → Type 0
 ArePartsOf c parts = AreParts c.head.domains c.tasks (type_names c.head) parts
 
--- the script's parts wrote their whole text (own)
-abbrev pub WritesScript : RunContents → Option (List ℕ) → Option (List ℕ) → Type 0
-WritesScript c old new = (parts : List Part) × ArePartsOf c parts × WritesAll parts old new
+-- the duties of a script's parts, over one monitor that has the script's domains and
+-- its first generation, and allows what the script allows (own)
+pub record AreOf (c : RunContents) (logged : Bool) (duties : List (Duty ScriptRights)) : Type 0 where
+  pub parts : List Part
+  pub of_script : ArePartsOf c parts
+  pub monitor : Monitor ScriptRights
+  pub domains : monitor.config.domains.items ≡ c.head.domains
+  pub generation : monitor.config.first_gen ≡ first_gen c.head
+  pub rights : may_by monitor.rights ≡ may_in c.head
+  pub duties_are : AreDuties monitor logged parts duties
 
--- a beginning of a whole text that the script's parts may write went out (own)
-abbrev pub BeginsScript : RunContents → Option (List ℕ) → Option (List ℕ) → Type 0
-BeginsScript c old new = (parts : List Part) × ArePartsOf c parts × BeginsAll parts old new
+-- the script's lists wrote their whole text (own)
+abbrev pub WritesScript : RunContents → Bool → Option (List ℕ) → Option (List ℕ) → Type 0
+WritesScript c logged old new = Writes may_by (AreOf c logged) old new
 
--- what a script wrote whose run ended so, as its parts did; for want of memory it may be nothing (own)
-abbrev pub WroteScript : RunContents → Option (List ℕ) → Option (List ℕ) → Result (Unit {0}) RunFault → Type 0
-WroteScript c old new (Ok done) = WritesScript c old new
-WroteScript c old new (Err Thread) = Keeps old new
-WroteScript c old new (Err (Play Memory)) = Keeps old new ⊎ BeginsScript c old new
-WroteScript c old new (Err (Play Write)) = BeginsScript c old new
-WroteScript c old new (Err (Play Read)) = ⊥
-WroteScript c old new (Err (Play (Script fault))) = ⊥
-WroteScript c old new (Err (Play (Policy fault))) = ⊥
+-- a beginning of the whole text of the script's lists went out (own)
+abbrev pub BeginsScript : RunContents → Bool → Option (List ℕ) → Option (List ℕ) → Type 0
+BeginsScript c logged old new = BeginsToWrite may_by (AreOf c logged) old new
+
+-- what a script wrote whose run ended so, as its lists did (own)
+abbrev pub WroteScript : RunContents → Bool → Option (List ℕ) → Option (List ℕ) → Result (Unit {0}) RunFault → Type 0
+WroteScript c logged old new r = Wrote may_by (AreOf c logged) old new r
 
 -- what is told is a script, and of it this holds (own)
 abbrev pub OfScript : (Result RunContents Wrong → Type 0) → (RunContents → Type 0) → Type 0
 OfScript Told P = (c : RunContents) × Told (Ok c) × P c
 
--- what `run` wrote, where it answers so for bytes of which this is told: at Ok the text of
--- the script, whole; at a fault of the script nothing, and the fault is
--- the script's first; nothing where a thread was refused; after a failed write a beginning of
--- a text of the script, and so for want of memory, unless nothing (own)
-abbrev pub Ran : (Result RunContents Wrong → Type 0) → Option (List ℕ) → Option (List ℕ) → Result (Unit {0}) RunFault
-    → Type 0
-Ran Told old new (Ok done) = OfScript Told (λ c. WritesScript c old new)
-Ran Told old new (Err Thread) = OfScript Told (λ c. Keeps old new)
-Ran Told old new (Err (Play (Script fault))) = Told (Err (in_script fault)) × Keeps old new
-Ran Told old new (Err (Play (Policy fault))) =
+-- what `run` wrote, with a log or without, where it answers so for bytes of which this is
+-- told: at Ok the text of the script, whole; at a fault of the script
+-- nothing, and the fault is the script's first; nothing where a thread was refused; after a
+-- failed write a beginning of a text of the script, and so for want of
+-- memory, unless nothing (own)
+abbrev pub Ran : Bool → (Result RunContents Wrong → Type 0) → Option (List ℕ) → Option (List ℕ)
+    → Result (Unit {0}) RunFault → Type 0
+Ran logged Told old new (Ok done) = OfScript Told (λ c. WritesScript c logged old new)
+Ran logged Told old new (Err Thread) = OfScript Told (λ c. Keeps old new)
+Ran logged Told old new (Err (Play (Script fault))) = Told (Err (in_script fault)) × Keeps old new
+Ran logged Told old new (Err (Play (Policy fault))) =
     (g : policy.TokenFault) × (block_fault_shown fault ≡ Some g) × Told (Err (in_policy g)) × Keeps old new
-Ran Told old new (Err (Play Memory)) = Keeps old new ⊎ OfScript Told (λ c. BeginsScript c old new)
-Ran Told old new (Err (Play Write)) = OfScript Told (λ c. BeginsScript c old new)
-Ran Told old new (Err (Play Read)) = Keeps old new
+Ran logged Told old new (Err (Play Memory)) = Keeps old new ⊎ OfScript Told (λ c. BeginsScript c logged old new)
+Ran logged Told old new (Err (Play Write)) = OfScript Told (λ c. BeginsScript c logged old new)
+Ran logged Told old new (Err (Play Read)) = Keeps old new

@@ -1,6 +1,6 @@
 -- What a domain pushes into the log that all share.
-use Rattle.std.specs.Prelude.{◌≡◌, ℕ, Option, None, Some}
-use Rattle.gt_audit.specs.Telling.{TellsUnder}
+use Rattle.std.specs.Prelude.{◌≡◌, ℕ, length, Option, None, Some, slice_get}
+use Rattle.gt_audit.specs.Telling.{Telling, TellsUnder}
 use Rattle.gt_audit.specs.declared.record.Record.{Record}
 use Rattle.gt_run.specs.declared.telling.Teller.{Teller}
 
@@ -9,3 +9,9 @@ use Rattle.gt_run.specs.declared.telling.Teller.{Teller}
 abbrev pub TellsNext : Option Record → ℕ → Teller → Teller → Type 0
 TellsNext None count old new = new ≡ old
 TellsNext (Some r) count old new = TellsUnder old.told old.next r new.told × (new.next ≡ count)
+
+-- the next record of the trail is told, where there is a log (own)
+abbrev pub TellsWhere : Telling → Option Teller → Option Teller → Type 0
+TellsWhere trail None new = new ≡ None
+TellsWhere trail (Some t) new =
+    (u : Teller) × (new ≡ Some u) × TellsNext (slice_get trail.records t.next) (length trail.records) t u

@@ -9,7 +9,7 @@ use std::fmt;
 /// Why a run did not end well. It prints as one line, without its end.
 #[derive(Debug, Drop)]
 pub enum RunFault {
-    /// A fault that a play can have too: of the script, for want of memory, or of a read or a write.
+    /// A fault that a play can have too: of the script, of memory, or of a read or a write.
     Play(PlayFault),
     /// A thread was refused. No list ran, and nothing was written.
     Thread,

@@ -5,17 +5,17 @@ use std::sync::{Condvar, Mutex, Wait};
 
 /// Where domains wait for one another. Flags are numbered from 0.
 pub trait Gate {
-    /// A domain tells the flag.
+    /// A domain raises the flag.
     fn tell(&self, flag: usize);
 
-    /// Whether the caller may go on. It may wait until somebody tells the flag.
+    /// Whether the caller may go on. It may wait until some domain raises the flag.
     fn pass(&self, flag: usize) -> bool;
 }
 
 /// More flags than a script can name: each takes a line of eight bytes at least.
 pub const FLAGS: usize = 131_072;
 
-/// The gate of a program: it waits until the flag is told, however long that takes, and lets the caller on.
+/// The gate of a program: it waits until the flag is raised, however long that takes, and lets the caller on.
 #[derive(Drop)]
 pub struct Flags<'r, R: Wait> {
     rt: &'r R,
@@ -24,7 +24,7 @@ pub struct Flags<'r, R: Wait> {
 }
 
 impl<'r, R: Wait> Flags<'r, R> {
-    /// A gate of [`FLAGS`] flags, none of which was told.
+    /// A gate of [`FLAGS`] flags, none of which is raised.
     ///
     /// # Errors
     /// Memory was refused. It is asked for here alone.

@@ -1,7 +1,7 @@
 //! Runs the domains of a script at once, each in a thread of its own.
 //!
 //! Each domain has a list of lines: calls, which it makes on the monitor of `gt_live`, flags that it
-//! tells, and flags that it awaits at a [`Gate`]. All threads are started before any list begins. The
+//! raises, and flags that it awaits at a [`Gate`]. All threads are started before any list begins. The
 //! answers of each domain are written in its own order, those of the first domain first, and the audit
 //! lines after all of them.
 #![tactic(auto)]

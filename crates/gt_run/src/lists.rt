@@ -1,8 +1,10 @@
 //! What the domains of a run do, each in its own order.
 use crate::serving::Output;
+use gt_audit::SharedLog;
 use gt_lines::Text;
+use gt_live::Monitor;
 use gt_script::Task;
-use gt_types::DomId;
+use gt_types::{Allows, DomId};
 use std::thread::Promise;
 
 /// A domain's part of a run: its lines among those of all domains, and the names of types that its answers print.
@@ -13,9 +15,17 @@ pub struct Part<'s, 'a> {
     pub types: &'s [Text<'s>],
 }
 
-// The thread of a domain promises what comes of its part.
-impl<'s, 'a> Promise<Output> for Part<'s, 'a> {
+/// What the thread of a domain is to do: its part, on a monitor, with a record of its calls where there is a log.
+#[derive(Drop)]
+pub struct Duty<'s, 'a, P: Allows> {
+    pub part: Part<'s, 'a>,
+    pub monitor: &'s Monitor<P>,
+    pub log: Option<&'s SharedLog>,
+}
+
+// The thread of a domain promises what comes of its duty.
+impl<'s, 'a, P: Allows> Promise<Output> for Duty<'s, 'a, P> {
     ghost use Rattle.gt_run.specs.Printing.{CameOf};
 
-    ghost kept_by = { λ part output. CameOf part output };
+    ghost kept_by = { λ duty output. CameOf P.may duty output };
 }

@@ -1,5 +1,5 @@
 //! A script in, and the lines of its domains out.
-ghost use Rattle.std.specs.Prelude.{◌≡◌, ℕ, List, take, IfOk};
+ghost use Rattle.std.specs.Prelude.{◌≡◌, ℕ, List, take, is_some, IfOk};
 ghost use Rattle.gt_script.specs.Contents.{told};
 ghost use Rattle.gt_script.specs.RunContents.{run_told};
 ghost use Rattle.gt_script.specs.RunScripts.{CanConfigure, RunTells};
@@ -49,7 +49,8 @@ fn run_script<'a, R: Threads + Wait + Sync, G: Gate + Sync, W: Write>(
     writer: &mut W,
 ) -> Result<(), RunFault>
     requires { CanConfigure (told script.now.head) }
-    ensures { WroteScript (run_told script.entry.now) (W.contents writer.old) (W.contents writer.new) result }
+    ensures { WroteScript (run_told script.entry.now) (is_some log.entry)
+        (W.contents writer.old) (W.contents writer.new) result }
 {
     let head = script.head();
     let config = Config {
@@ -81,7 +82,7 @@ fn run_bytes<R: Threads + Wait + Sync, G: Gate + Sync, W: Write>(
     gate: &G,
 ) -> Result<(), RunFault>
     ensures { (all : List ℕ) → input.now ≡ take 1048577 all →
-        Ran (RunTells all) (W.contents writer.old) (W.contents writer.new) result }
+        Ran (is_some log.entry) (RunTells all) (W.contents writer.old) (W.contents writer.new) result }
 {
     match parse_run(alloc, input) {
         Ok(script) => run_script(rt, alloc, &script, log, gate, writer),
@@ -94,12 +95,12 @@ fn run_bytes<R: Threads + Wait + Sync, G: Gate + Sync, W: Write>(
 /// Where a log is given, calls are recorded in it, and after all other lines come the audit lines of each domain and
 /// how many records were lost.
 ///
-/// Of the reader at most 1,048,577 bytes are read. A script with a fault writes nothing. After a failed write, or for
-/// want of memory, a beginning of a text of the script was written.
+/// Of the reader at most 1,048,577 bytes are read. A script with a fault writes nothing. After a failed write, or
+/// where memory is refused, a beginning of a text of the script was written.
 ///
 /// # Errors
-/// The script's first fault; a thread that was refused, and then no list ran; or want of memory, or a read or a write
-/// that failed.
+/// The script's first fault; a thread that was refused, and then no list ran; memory that was refused; or a read or a
+/// write that failed.
 pub fn run<R: Threads + Wait + Sync, I: Read, W: Write, G: Gate + Sync>(
     rt: &R,
     alloc: Global,
@@ -109,7 +110,7 @@ pub fn run<R: Threads + Wait + Sync, I: Read, W: Write, G: Gate + Sync>(
     gate: &G,
 ) -> Result<(), RunFault>
     ensures text { OfInput (I.remaining reader.old) (λ input.
-        Ran (RunTells input) (W.contents writer.old) (W.contents writer.new) result) }
+        Ran (is_some log.entry) (RunTells input) (W.contents writer.old) (W.contents writer.new) result) }
     ensures read { ConsumesAtMost READ_LIMIT (I.remaining reader.old) (I.remaining reader.new) }
 {
     match read_text(alloc, reader) {

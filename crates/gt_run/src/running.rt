@@ -132,7 +132,9 @@ impl<'m, P: Allows> Running<'m, P> {
     }
 
     /// Leaves the run.
-    pub fn finish(self) -> Left {
+    pub fn finish(self) -> Left
+        ensures { result.trail ≡ self.entry.domain.trail }
+    {
         let Running { monitor, domain } = self;
         domain.finish(monitor)
     }

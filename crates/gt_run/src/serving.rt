@@ -1,12 +1,14 @@
 //! One domain's list, from its first line to its last.
-ghost use Rattle.std.specs.Prelude.{◌≡◌, ◌++◌, [], false, IfOk, IsOk, IsTrue};
-ghost use Rattle.gt_run.specs.Printing.{gate_line, CameOf, IsAnswerLine, Printed};
+ghost use Rattle.std.specs.Prelude.{◌≡◌, ◌++◌, List, [], false, IfOk, IsOk, IsTrue, OnOk};
+ghost use Rattle.gt_host.specs.Naming.{AreNamed};
+ghost use Rattle.gt_host.specs.Runs.{handle_given, label_given as label_to_give, with_name, Named};
+ghost use Rattle.gt_run.specs.Printing.{CameOf};
+ghost use Rattle.gt_run.specs.Serving.{gate_line, Calls, IsReady, Makes, Serves, StartsTold};
 
 use crate::gate::Gate;
-use crate::lists::Part;
+use crate::lists::Duty;
 use crate::running::Running;
-use crate::telling::Teller;
-use gt_audit::SharedLog;
+use crate::telling::{Teller, tell_next, teller_for};
 use gt_core::Answer;
 use gt_host::{Labels, bytes_said, label_given, push_answer_line, request_of};
 use gt_lines::ScriptCall;
@@ -29,20 +31,40 @@ pub struct Output {
     pub lost: u64,
 }
 
+// A map that is answered Ok gives its handle to its label.
+fn name_mapping<'a>(
+    labels: &mut Labels<'a>,
+    dom: DomId,
+    call: &ScriptCall<'a>,
+    answer: &Answer,
+) -> Result<(), AllocError>
+    ensures { OnOk result ((named : List Named) → AreNamed labels.old named → AreNamed labels.new
+        (with_name named dom (label_to_give call.now) (handle_given answer.now))) }
+{
+    match (label_given(call), answer) {
+        (Some(label), Answer::Mapped(handle)) => labels.name(dom, label, *handle),
+        _ => Ok(()),
+    }
+}
+
 // Makes the call of a line. A map that is answered Ok gives its handle to its label.
 fn make_call<'a, R: Wait, P: Allows>(
     rt: &R,
     alloc: Global,
     domain: &mut Running<'_, P>,
     labels: &mut Labels<'a>,
-    dom: DomId,
+    duty: &Duty<'_, 'a, P>,
     call: &ScriptCall<'a>,
-) -> Result<Answer, AllocError> {
+) -> Result<Answer, AllocError>
+    requires { domain.old.monitor ≡ duty.now.monitor.now }
+    ensures monitor { domain.new.monitor ≡ domain.old.monitor }
+    ensures made { IfOk result
+        (Makes P.may duty.now call.now domain.old.domain domain.new.domain labels.old labels.new) }
+{
     let bytes = bytes_said(alloc, call)?;
+    let dom = duty.part.dom;
     let answer = domain.ask(rt, request_of(labels, dom, bytes.as_slice(), call));
-    if let (Some(label), Answer::Mapped(handle)) = (label_given(call), &answer) {
-        labels.name(dom, label, *handle)?;
-    }
+    name_mapping(labels, dom, call, &answer)?;
     Ok(answer)
 }
 
@@ -53,18 +75,26 @@ fn call_line<'a, R: Wait, P: Allows>(
     domain: &mut Running<'_, P>,
     labels: &mut Labels<'a>,
     teller: &mut Option<Teller<'_>>,
-    part: Part<'_, 'a>,
+    duty: &Duty<'_, 'a, P>,
     line: usize,
     call: &ScriptCall<'a>,
 ) -> Result<Vec<u8>, AllocError>
-    ensures { IfOk result (λ text. IsAnswerLine part.entry.types.now line part.entry.dom text.items) }
+    requires { domain.old.monitor ≡ duty.now.monitor.now }
+    ensures monitor { domain.new.monitor ≡ domain.old.monitor }
+    ensures calls { IfOk result (λ text. Calls P.may duty.now line call.now domain.old.domain domain.new.domain
+        labels.old labels.new teller.old teller.new text.items) }
 {
-    let answer = make_call(rt, alloc, domain, labels, part.dom, call);
-    if let Some(teller) = teller {
-        teller.tell(rt, domain.trail());
-    }
+    let answer = make_call(rt, alloc, domain, labels, duty, call);
+    tell_next(rt, teller, domain.trail());
     let mut text = Vec::new(alloc);
-    push_answer_line(alloc, &mut text, part.types, line, part.dom, &answer?)?;
+    push_answer_line(
+        alloc,
+        &mut text,
+        duty.part.types,
+        line,
+        duty.part.dom,
+        &answer?,
+    )?;
     Ok(text)
 }
 
@@ -93,24 +123,27 @@ fn has_appended(text: &mut Vec<u8>, whole: bool, line: Result<Vec<u8>, AllocErro
     }
 }
 
-// Serves the lines of a domain, and answers whether all were written. It goes on where a line finds no memory, since other
-// domains may wait for what this one tells; nothing is written after that line.
+// Serves the lines of a domain, and answers whether all were written. It goes on where memory is refused for a line,
+// since other domains may wait for a flag of this one. Nothing is written after that line.
 fn serve<'a, R: Wait, P: Allows, G: Gate>(
     rt: &R,
     alloc: Global,
     domain: &mut Running<'_, P>,
-    part: Part<'_, 'a>,
+    duty: Duty<'_, 'a, P>,
     teller: &mut Option<Teller<'_>>,
     gate: &G,
     text: &mut Vec<u8>,
 ) -> bool
-    requires { text.old.items ≡ [] }
-    ensures { Printed result part.entry.types.now part.entry.dom part.entry.tasks.now text.new.items }
+    requires monitor { domain.old.monitor ≡ duty.monitor.now }
+    requires told { StartsTold duty domain.old.domain teller.old }
+    requires text { text.old.items ≡ [] }
+    ensures { Serves P.may duty.entry domain.old.domain result text.new.items domain.new.domain teller.new }
 {
     let mut labels = Labels::new(alloc);
     let mut whole = true;
-    'tasks: for task in part.tasks {
-        if task.dom.0 == part.dom.0 {
+    let dom = duty.part.dom;
+    'tasks: for task in duty.part.tasks {
+        if task.dom.0 == dom.0 {
             match &task.deed {
                 Deed::Do(call) => {
                     let printed = call_line(
@@ -119,7 +152,7 @@ fn serve<'a, R: Wait, P: Allows, G: Gate>(
                         domain,
                         &mut labels,
                         teller,
-                        part,
+                        &duty,
                         task.line,
                         call,
                     );
@@ -128,7 +161,7 @@ fn serve<'a, R: Wait, P: Allows, G: Gate>(
                 Deed::Tell(flag) => gate.tell(*flag),
                 Deed::Await(flag) => {
                     if !gate.pass(*flag) {
-                        return has_appended(text, whole, gate_line(alloc, task.line, part.dom));
+                        return has_appended(text, whole, gate_line(alloc, task.line, dom));
                     }
                 }
             }
@@ -143,14 +176,15 @@ pub fn work<'a, R: Wait, P: Allows, G: Gate>(
     rt: &R,
     alloc: Global,
     domain: Running<'_, P>,
-    part: Part<'_, 'a>,
-    log: Option<&SharedLog>,
+    duty: Duty<'_, 'a, P>,
     gate: &G,
     start: &OnceLock<bool>,
 ) -> Output
-    ensures { CameOf part.entry result }
+    requires { IsReady P.may duty.monitor.now duty.part.dom domain }
+    ensures { CameOf P.may duty.entry result }
 {
     let mut domain = domain;
+    let types = duty.part.types;
     let mut output = Output {
         text: Vec::new(alloc),
         whole: false,
@@ -160,19 +194,19 @@ pub fn work<'a, R: Wait, P: Allows, G: Gate>(
     if !*start.wait(rt) {
         return output;
     }
-    let mut teller = log.map(|log| Teller::new(alloc, log, part.dom));
+    let mut teller = teller_for(alloc, duty.log, duty.part.dom);
     output.whole = serve(
         rt,
         alloc,
         &mut domain,
-        part,
+        duty,
         &mut teller,
         gate,
         &mut output.text,
     );
     let left = domain.finish();
     if let Some(teller) = teller {
-        output.audit = teller.audit(alloc, part.types);
+        output.audit = teller.audit(alloc, types);
         output.lost = teller.lost(&left);
     }
     output

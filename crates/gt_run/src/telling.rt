@@ -1,4 +1,9 @@
 //! What a domain pushes into the log that all share.
+ghost use Rattle.std.specs.Option.{option_map};
+ghost use Rattle.gt_audit.specs.Telling.{nothing_told};
+ghost use Rattle.gt_run.specs.Telling.{TellsWhere};
+ghost use Rattle.std.specs.Prelude.{◌≡◌};
+
 use gt_audit::{SharedLog, Told, Trail, push_line};
 use gt_lines::Text;
 use gt_live::Left;
@@ -14,9 +19,12 @@ pub struct Teller<'l> {
 }
 
 impl<'l> Teller<'l> {
-    ghost use Rattle.std.specs.Prelude.{◌≡◌, ◌+◌, ◌-◌, ◌^◌, min, length, slice_get, IfOk};
+    ghost use Rattle.std.specs.Prelude.{◌≡◌, ◌+◌, length, map, slice_get, IfOk};
+    ghost use Rattle.std.specs.List.{flat_map};
+    ghost use Rattle.gt_texts.specs.Printing.{type_text};
+    ghost use Rattle.gt_audit.specs.Lines.{line_text};
     ghost use Rattle.gt_audit.specs.Telling.{nothing_told};
-    ghost use Rattle.gt_run.specs.Printing.{IsAudit};
+    ghost use Rattle.gt_run.specs.Serving.{counted};
     ghost use Rattle.gt_run.specs.Telling.{TellsNext};
 
     /// Nothing was pushed yet.
@@ -43,7 +51,8 @@ impl<'l> Teller<'l> {
 
     /// The audit lines of the records pushed, as the log has them, in order.
     pub fn audit(&self, alloc: Global, types: &[Text]) -> Result<Vec<u8>, Memory>
-        ensures { IfOk result (λ text. IsAudit types.now text.items) }
+        ensures { IfOk result (λ text. text.items
+            ≡ flat_map (line_text (type_text (λ name. name) types.now)) (map (λ e. e.1) self.now.told.told)) }
     {
         let mut text = Vec::new(alloc);
         let records = self.told.records(alloc)?;
@@ -53,10 +62,29 @@ impl<'l> Teller<'l> {
         Ok(text)
     }
 
-    /// How many records were lost, of those of a domain that has left: for want of memory in its trail, or in the log.
+    /// How many records of a domain that has left were lost: memory was refused for them in its trail, or in the log.
     pub fn lost(&self, left: &Left) -> u64
-        ensures { result ≡ min (left.now.trail.lost + self.now.told.lost) (2 ^ 64 - 1) }
+        ensures { result ≡ counted (left.now.trail.lost + self.now.told.lost) }
     {
         left.lost().saturating_add(self.told.lost())
+    }
+}
+
+/// What a domain pushes into a log, if there is one. Nothing was pushed yet.
+pub fn teller_for<'l>(alloc: Global, log: Option<&'l SharedLog>, dom: DomId) -> Option<Teller<'l>>
+    ensures { result ≡ option_map (λ l. record { told = nothing_told dom; next = 0 }) log.entry }
+{
+    match log {
+        Some(log) => Some(Teller::new(alloc, log, dom)),
+        None => None,
+    }
+}
+
+/// Pushes the next record of a trail, where there is a log.
+pub fn tell_next(rt: &impl Wait, teller: &mut Option<Teller<'_>>, trail: &Trail)
+    ensures { TellsWhere trail.now teller.old teller.new }
+{
+    if let Some(teller) = teller {
+        teller.tell(rt, trail);
     }
 }

@@ -1,5 +1,7 @@
 //! A thread for each domain.
-ghost use Rattle.std.specs.Prelude.{◌≡◌, ◌≤◌, ◌++◌, All, length, ◌⊎◌, Err, IfOk, IfErr, IsOk, OnOk, IsTrue};
+ghost use Rattle.std.specs.Prelude.{◌≡◌, ◌≤◌, ◌++◌, ◌⊎◌, All, length, map, is_some};
+ghost use Rattle.std.specs.Prelude.{Err, IfOk, IfErr, IsOk, OnOk};
+ghost use Rattle.std.specs.Prelude.{IsTrue};
 ghost use Rattle.std.specs.Io.KnownBytes.{Appends};
 ghost use Rattle.gt_types.specs.Config.{AreFaultless};
 ghost use Rattle.gt_types.specs.declared.limits.TheConstants.{LAST_GENERATION};
@@ -8,12 +10,13 @@ ghost use Rattle.gt_live.specs.Domains.{IsOf};
 ghost use Rattle.gt_streams.specs.Streams.{AppendsBeginning};
 ghost use Rattle.gt_run.specs.Faults.{out_of_memory};
 ghost use Rattle.gt_run.specs.Joining.{IsLate, Joins, WritesNext, WroteStarted};
-ghost use Rattle.gt_run.specs.Printing.{CameOf, promised};
-ghost use Rattle.gt_run.specs.Runs.{Wrote};
+ghost use Rattle.gt_run.specs.Printing.{AreDuties, CameOf, promised};
+ghost use Rattle.gt_run.specs.Runs.{AreUnder, Wrote};
+ghost use Rattle.gt_run.specs.Serving.{counted, AreReady, IsReady};
 
 use crate::fault::RunFault;
 use crate::gate::Gate;
-use crate::lists::Part;
+use crate::lists::{Duty, Part};
 use crate::running::Running;
 use crate::serving::{Output, work};
 use gt_audit::{SharedLog, push_lost};
@@ -44,7 +47,7 @@ pub fn all_running<'m, P: Allows>(
     domains: Vec<Domain>,
 ) -> Result<Vec<Running<'m, P>>, Memory>
     requires { All (λ d. IsOf P.may monitor.now d) domains.items }
-    ensures { IfOk result (λ all. length all.items ≡ length domains.items) }
+    ensures { IfOk result (λ all. all.items ≡ map (λ d. record { monitor = monitor.now; domain = d }) domains.items) }
 {
     let Ok(room) = Vec::with_capacity(alloc, domains.len()) else {
         finish_all(monitor, domains);
@@ -61,25 +64,27 @@ pub fn all_running<'m, P: Allows>(
 
 // What was started: the threads in the order of their domains, and whether there is one for each.
 #[derive(Drop)]
-struct Started<'s, 'a> {
-    handles: Vec<PromisedHandle<Output, Part<'s, 'a>>>,
+struct Started<'s, 'a, P: Allows> {
+    handles: Vec<PromisedHandle<Output, Duty<'s, 'a, P>>>,
     all: bool,
 }
 
-// Starts a thread for each domain, with its part. It waits for the start before it does anything. Behind a thread that is
-// refused none is started, and the domains that are left are finished.
+// Starts a thread for each domain, with its part. It waits for the start before it does anything. Behind a thread that
+// is refused none is started, and the domains that are left are finished.
 fn start_each<'s, 'a, E, R: Wait + Sync, P: Allows + Sync, G: Gate + Sync>(
     scope: &'s Scope<'s, E>,
     rt: &'s R,
     alloc: Global,
+    monitor: &'s Monitor<P>,
     domains: Vec<Running<'s, P>>,
     parts: &'s [Part<'s, 'a>],
     log: Option<&'s SharedLog>,
     gate: &'s G,
     start: &'s OnceLock<bool>,
-) -> Started<'s, 'a>
-    requires { length domains.items ≡ length parts.now }
-    ensures { IsTrue result.all → promised result.handles.items ≡ parts.entry.now }
+) -> Started<'s, 'a, P>
+    requires { AreReady P.may monitor.now domains.items parts.now }
+    ensures { IsTrue result.all →
+        AreDuties monitor.now (is_some log.entry) parts.entry.now (promised result.handles.items) }
 {
     let mut handles = Vec::new(alloc);
     let mut rest = domains.into_iter();
@@ -88,11 +93,13 @@ fn start_each<'s, 'a, E, R: Wait + Sync, P: Allows + Sync, G: Gate + Sync>(
         let Some(domain) = rest.next() else {
             unreachable!()
         };
+        let duty = Duty { part, monitor, log };
         match scope.spawn_with(
-            part,
+            Duty { part, monitor, log },
             move || -> Output
-                ensures { CameOf part.entry result }
-            { work(rt, alloc, domain, part, log, gate, start) },
+                requires { IsReady P.may duty.monitor.now duty.part.dom domain }
+                ensures { CameOf P.may duty.entry result }
+            { work(rt, alloc, domain, duty, gate, start) },
         ) {
             Ok(handle) => {
                 if handles.push(handle).is_err() {
@@ -155,14 +162,15 @@ fn keep_audit(
     Ok(())
 }
 
-// Joins all threads in their order. The lines of each domain are written as it is joined, unless something failed before.
-fn join_each<'s, 'a, R: Threads, W: Write>(
+// Joins all threads in their order. The lines of each domain are written as it is joined, unless something failed
+// before.
+fn join_each<'s, 'a, R: Threads, P: Allows, W: Write>(
     rt: &R,
     alloc: Global,
-    handles: Vec<PromisedHandle<Output, Part<'s, 'a>>>,
+    handles: Vec<PromisedHandle<Output, Duty<'s, 'a, P>>>,
     writer: &mut W,
 ) -> Joined
-    ensures { Joins (promised handles.entry.items) result.audit.items
+    ensures { Joins P.may (promised handles.entry.items) result.audit.items result.lost
         (W.contents writer.old) (W.contents writer.new) result.outcome }
 {
     let mut outcome = Ok(());
@@ -182,7 +190,10 @@ fn join_each<'s, 'a, R: Threads, W: Write>(
 }
 
 // Joins threads that ran no list.
-fn join_idle<'s, 'a, R: Threads>(rt: &R, handles: Vec<PromisedHandle<Output, Part<'s, 'a>>>) {
+fn join_idle<'s, 'a, R: Threads, P: Allows>(
+    rt: &R,
+    handles: Vec<PromisedHandle<Output, Duty<'s, 'a, P>>>,
+) {
     'joins: for handle in handles {
         let _ = handle.join(rt);
     }
@@ -219,14 +230,15 @@ fn take_back<W>(writer: &mut W)
 {}
 
 // Writes what the threads print, where there is one for each domain.
-fn write_each<'s, 'a, R: Threads, W: Write>(
+fn write_each<'s, 'a, R: Threads, P: Allows, W: Write>(
     rt: &R,
     alloc: Global,
-    handles: Vec<PromisedHandle<Output, Part<'s, 'a>>>,
+    handles: Vec<PromisedHandle<Output, Duty<'s, 'a, P>>>,
     all: bool,
     writer: &mut W,
 ) -> Result<(), RunFault>
-    ensures { WroteStarted all (promised handles.entry.items) (W.contents writer.old) (W.contents writer.new) result }
+    ensures { WroteStarted P.may all (promised handles.entry.items)
+        (W.contents writer.old) (W.contents writer.new) result }
 {
     if !all {
         join_idle(rt, handles);
@@ -242,19 +254,21 @@ fn write_each<'s, 'a, R: Threads, W: Write>(
 }
 
 /// Gives each domain a thread of its own, with its part, and writes what they print: the lines of each domain as it is
-/// joined, in their order, and then their audit lines. No list begins before all threads are there; where one is refused no
-/// list runs.
+/// joined, in their order, and then their audit lines. No list begins before all threads are there. Where one is
+/// refused, no list runs.
 pub fn run_each<'a, R: Threads + Wait + Sync, P: Allows + Sync, G: Gate + Sync, W: Write>(
     rt: &R,
     alloc: Global,
+    monitor: &Monitor<P>,
     domains: Vec<Running<'_, P>>,
     parts: &[Part<'_, 'a>],
     log: Option<&SharedLog>,
     gate: &G,
     writer: &mut W,
 ) -> Result<(), RunFault>
-    requires { length domains.items ≡ length parts.now }
-    ensures { Wrote parts.now (W.contents writer.old) (W.contents writer.new) result }
+    requires { AreReady P.may monitor.now domains.items parts.now }
+    ensures { Wrote P.may (AreDuties monitor.now (is_some log.entry) parts.now)
+        (W.contents writer.old) (W.contents writer.new) result }
 {
     let start = OnceLock::new();
     let start = &start;
@@ -262,13 +276,13 @@ pub fn run_each<'a, R: Threads + Wait + Sync, P: Allows + Sync, G: Gate + Sync, 
         thread::scope_env(),
         rt,
         move |scope| -> Written<'_, W>
-            requires { length domains.items ≡ length parts.now }
+            requires { AreReady P.may monitor.now domains.items parts.now }
             ensures same { result.writer.ghost_name ≡ writer.entry.ghost_name }
-            ensures text { Wrote parts.entry.now
+            ensures text { Wrote P.may (AreDuties monitor.entry.now (is_some log.entry) parts.entry.now)
                 (W.contents writer.entry.now) (W.contents result.writer.now) result.outcome }
         {
             let Started { handles, all } = start_each(
-                scope, rt, alloc, domains, parts, log, gate, start,
+                scope, rt, alloc, monitor, domains, parts, log, gate, start,
             );
             let _ = start.try_set(all);
             let outcome = write_each(rt, alloc, handles, all, writer);
@@ -293,13 +307,14 @@ pub fn run_lists<'a, R: Threads + Wait + Sync, P: Allows + Drop + Sync, G: Gate 
     requires faultless { AreFaultless config.domains.items }
     requires some { 1 ≤ length config.domains.items }
     requires generation { config.first_gen ≤ LAST_GENERATION }
-    requires each { length config.domains.items ≡ length parts.now }
-    ensures { Wrote parts.now (W.contents writer.old) (W.contents writer.new) result }
+    requires each { map (λ p. p.dom) parts.now ≡ map (λ d. d.id) config.domains.items }
+    ensures { Wrote P.may (AreUnder config rights (is_some log.entry) parts.now)
+        (W.contents writer.old) (W.contents writer.new) result }
 {
     match Monitor::new(alloc, config, rights) {
         Ok((monitor, domains)) => {
             let domains = all_running(alloc, &monitor, domains)?;
-            run_each(rt, alloc, domains, parts, log, gate, writer)
+            run_each(rt, alloc, &monitor, domains, parts, log, gate, writer)
         }
         Err(StartFault::Memory) => Err(RunFault::from(Memory)),
         Err(StartFault::Config(_)) => unreachable!(),

@@ -16,7 +16,7 @@ enum Way {
     Deaf,
     /// Whoever comes, whatever flag it waits for, once so many callers are there.
     Meeting(u64),
-    /// A domain whose flag is told.
+    /// A domain whose flag is raised.
     Flags,
 }
 
@@ -39,7 +39,7 @@ impl<'l> Look<'l> {
     }
 }
 
-/// A gate that gives up after so many turns. It may look into a log where a flag is told and where one is awaited.
+/// A gate that gives up after so many turns. It may look into a log where a flag is raised and where one is awaited.
 #[derive(Drop)]
 pub struct Turns<'l> {
     way: Way,
@@ -82,13 +82,13 @@ impl<'l> Turns<'l> {
         Turns::new(Way::Meeting(callers), None)
     }
 
-    /// A gate that lets a domain on once its flag is told. It looks whether all records below this number are there, of
-    /// this domain, and no more.
+    /// A gate that lets a domain on once its flag is raised. It looks whether all records below this number are there,
+    /// of this domain, and no more.
     pub fn looking(log: &'l SharedLog, dom: DomId, wanted: u64) -> Turns<'l> {
         Turns::new(Way::Flags, Some(Look { log, dom, wanted }))
     }
 
-    /// Whether a look found them, where a flag was told and where one was awaited.
+    /// Whether a look found them, where a flag was raised and where one was awaited.
     pub fn found(&self) -> (bool, bool) {
         (
             self.at_tell.load(Ordering::SeqCst),

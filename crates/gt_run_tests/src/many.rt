@@ -9,7 +9,8 @@ const DOMAINS: u16 = 16;
 
 const ROUNDS: u16 = 250;
 
-// The script, whose body begins at line 18: all domains meet, and then each does what no other sees, four calls a round.
+// The script, whose body begins at line 18: all domains meet, and then each does what no other sees, four calls a
+// round.
 fn script(alloc: Global) -> Result<String, AllocError> {
     let mut text = String::new(alloc);
     let _ = writeln!(text, "triple a_t a_t map_read");

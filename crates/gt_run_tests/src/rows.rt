@@ -60,7 +60,8 @@ fn a_gate_gives_up(rt: HostRuntime) -> Result<(), Fail> {
     Ok(())
 }
 
-/// A page is granted, mapped, unmapped and revoked, each step once the other domain has told the one before.
+/// A page is granted, mapped, unmapped and revoked. Each step waits until the other domain has raised the flag of the
+/// one before.
 pub const SHARING: &str = "do 1 grant 0 page 2 rw 5
 tell 1 a
 await 2 a
@@ -102,8 +103,8 @@ audit 2 map 1 0 2 : ok
 audit 2 unmap 1 0 : ok
 ";
 
-// Each body with what it prints, and whether a gate finds both records of domain 2 where a flag is told and where one
-// is awaited; how far domain 2 has come where domain 1 waits is not said.
+// Each body with what it prints, and whether a gate finds both records of domain 2 where a flag is raised and where one
+// is awaited. Nothing is said of how far domain 2 has come where domain 1 waits.
 const RECORDED: [(&str, &str, bool, Option<bool>); 2] = [
     (SHARING, SHARING_AUDITED, true, None),
     (AWAITING, AWAITING_AUDITED, false, Some(true)),

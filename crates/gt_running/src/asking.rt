@@ -10,8 +10,8 @@ pub const WRITABLE: u32 = 2;
 /// The flags of a map for reading.
 pub const READ_ONLY: u32 = 6;
 
-/// What a domain is asked. Domains, references and frames are named by their numbers; a mapping is the last one that the
-/// domain made, or one that never was.
+/// What a domain is asked. Domains, references and frames are named by their numbers; a mapping is the last one that
+/// the domain made, or one that never was.
 #[derive(Clone, Copy)]
 pub enum Asks<'a> {
     Grant(u32, Entry),

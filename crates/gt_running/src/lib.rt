@@ -7,7 +7,7 @@
 //! What holds: a domain that is let go has left its run, so none keeps a pin; and calls that access no bytes wait for
 //! nobody. What a call answers is left to the tests, which compare it.
 //!
-//! It stands on `gt_live`, and on what that names: `gt_calls`, `gt_entry`, `gt_frames` and `gt_types`.
+//! It uses `gt_live`, and what that names: `gt_calls`, `gt_entry`, `gt_frames` and `gt_types`.
 #![tactic(auto)]
 
 mod asking;

@@ -45,7 +45,7 @@ behind before f = record { line = before + f.line; kind = f.kind }
 abbrev pub block_fault_shown : BlockFault → Option policy.TokenFault
 block_fault_shown e = option_map (λ k. record { line = e.line; kind = k }) (kind_shown e.kind)
 
--- the block tells these types and what they may do to one another: those of its meaning (own)
+-- the block says these types and what they may do to one another: those of its meaning (own)
 abbrev pub Means : List (List ℕ) → Allowed → Type 0
 Means lines a = (m : Meaning) × Says (block_text lines) (Ok m) × (a ≡ allowed_by m)
 

@@ -8,7 +8,7 @@ use Rattle.gt_script.specs.declared.command.Command.{Command}
 use Rattle.gt_script.specs.declared.orders.Order.{Order}
 use Rattle.gt_script.specs.declared.script.ScriptStep.{ScriptStep}
 
--- the command that it is for; what the policy of its block tells, where it has one; else the names of its types, by
+-- the command that it is for; what the policy of its block says, where it has one; else the names of its types, by
 -- their numbers, and its triples; its domains; the lines of its body, which are steps for `play` and orders for `run`;
 -- all in the order of their lines; and the number of its line `wear`, where it has one (own)
 pub record Contents : Type 0 where

@@ -24,13 +24,13 @@ fault_word Stuck = codes "stuck"
 abbrev pub fault_text : ScriptFault → List ℕ
 fault_text f = codes "line " ++ decimal f.line ++ codes ": " ++ fault_word f.kind
 
--- why there is no script: a fault of its policy block is told as one of a policy, with its line in the script (own)
+-- why there is no script: a fault of its policy block is reported as one of a policy, with its line in the script (own)
 abbrev pub error_text : ScriptError → List ℕ
 error_text Memory = codes "memory"
 error_text (errors.Fault f) = fault_text f
 error_text (errors.Policy f) = policy_fault_text f.line f.kind
 
--- a kind of fault of a policy on this line of a script, where it is not want of memory (own)
+-- a kind of fault of a policy on this line of a script, where it is not refused memory (own)
 abbrev pub error_in_block : ℕ → policy.PolicyFaultKind → ScriptError
 error_in_block line kinds.Memory = Memory
 error_in_block line kinds.Syntax = errors.Policy (record { line = line; kind = kinds.Syntax })

@@ -136,7 +136,7 @@ pub record IsTripleScript (command : Command) (lines : List (List ℕ)) (c : Con
   pub few_types : length c.types ≤ 256
   pub some_triple : 1 ≤ length c.triples
 
--- the lines have a policy block: in front of it stand lines without words and a line `policy`, then the
+-- the lines have a policy block: in front of it are lines without words and a line `policy`, then the
 -- lines of the block, of which none says just `end`, then a line `end` and the others (own)
 pub record HasBlock (lines block rest : List (List ℕ)) : Type 0 where
   pub front : List (List ℕ)
@@ -148,7 +148,7 @@ pub record HasBlock (lines block rest : List (List ℕ)) : Type 0 where
   pub inside : All (λ l. words l ≢ codes "end" ∷ []) block
   pub closes : words closer ≡ codes "end" ∷ []
 
--- how many lines stand in front of the block, its line `policy` among them (own)
+-- how many lines are in front of the block, its line `policy` among them (own)
 abbrev pub lines_before : {lines block rest : List (List ℕ)} → HasBlock lines block rest → ℕ
 lines_before b = length b.front + 1
 

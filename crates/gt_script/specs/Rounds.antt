@@ -1,4 +1,4 @@
--- How domains go on in turn, while flags are told (own).
+-- How domains go on in turn, while flags are raised (own).
 use Rattle.std.specs.Prelude.{◌≡◌, ◌≤◌, ◌<◌, ℕ, Bool, true, false, not, List, length, take, Option, Some, None}
 use Rattle.std.specs.Prelude.{slice_get, slice_set, get_or, All, IsTrue}
 use Rattle.std.specs.List.{sum_by}
@@ -9,28 +9,28 @@ use Rattle.gt_script.specs.declared.tasks.Deed.{Deed}
 use Rattle.gt_script.specs.declared.tasks.Deed.TheVariants.{Do, Tell, Await}
 use Rattle.gt_script.specs.declared.tasks.Task.{Task}
 
--- whether a flag is told (own)
+-- whether a flag is raised (own)
 abbrev pub holds : List Bool → ℕ → Bool
 holds told flag = get_or told flag false
 
--- a flag is told (own)
+-- a flag is raised (own)
 abbrev pub Holds : List Bool → ℕ → Type 0
 Holds told flag = IsTrue (holds told flag)
 
--- each told flag is one of this set (own)
+-- each raised flag is one of this set (own)
 abbrev pub Within : List Bool → (ℕ → Bool) → Type 0
 Within told set = (flag : ℕ) → Holds told flag → IsTrue (set flag)
 
--- one for a flag that is not told (own)
+-- one for a flag that is not raised (own)
 abbrev pub is_untold : Bool → ℕ
 is_untold true = 0
 is_untold false = 1
 
--- how many flags are not told (own)
+-- how many flags are not raised (own)
 abbrev pub untold : List Bool → ℕ
 untold told = sum_by is_untold told
 
--- the flag of a task is told (own)
+-- the flag of a task is raised (own)
 abbrev pub IsDone : List Bool → Deed → Type 0
 IsDone told (Do call) = Unit {0}
 IsDone told (Tell flag) = Holds told flag
@@ -42,23 +42,23 @@ is_waiting told (Do call) = false
 is_waiting told (Tell flag) = false
 is_waiting told (Await flag) = not (holds told flag)
 
--- the told flags behind this deed (own)
+-- the raised flags behind this deed (own)
 unfoldable pub told_after : List Bool → Deed → List Bool
 told_after told (Do call) = told
 told_after told (Tell flag) = slice_set told flag true
 told_after told (Await flag) = told
 
--- this deed tells a flag that is not told (own)
+-- this deed raises a flag that is not raised yet (own)
 unfoldable pub is_new : List Bool → Deed → Bool
 is_new told (Do call) = false
 is_new told (Tell flag) = not (holds told flag)
 is_new told (Await flag) = false
 
--- the domain has come to this place: the flags of its own tasks before it are told (own)
+-- the domain has come to this place: the flags of its own tasks before it are raised (own)
 abbrev pub Comes : List Task → DomId → ℕ → List Bool → Type 0
 Comes tasks dom place told = All (λ t. t.dom.0 ≡ dom.0 → IsDone told t.deed) (take place tasks)
 
--- a domain went on to this place, told flags on its way, and the last part says whether one was not told before (own)
+-- a domain went on to this place and raised flags on its way; the last part says whether one was new (own)
 pub record WayTo (tasks : List Task) (dom : DomId) (old new : List Bool) (place : ℕ) (is_news : Bool) : Type 0 where
   pub comes : Comes tasks dom place new
   pub grown : (flag : ℕ) → Holds old flag → Holds new flag
@@ -67,12 +67,12 @@ pub record WayTo (tasks : List Task) (dom : DomId) (old new : List Bool) (place 
   pub quiet : is_news ≡ false → new ≡ old
   pub loud : is_news ≡ true → untold new < untold old
 
--- a domain at this place waits there for a flag that is not told, unless it is at its end (own)
+-- a domain at this place waits there for a flag that is not raised, unless it is at its end (own)
 abbrev pub WaitsFor : List Task → DomId → ℕ → List Bool → Type 0
 WaitsFor tasks dom place told = (task : Task) → slice_get tasks place ≡ Some task
     → (flag : ℕ) × (task.deed ≡ Await flag) × (task.dom.0 ≡ dom.0) × (holds told flag ≡ false)
 
--- a domain went on as far as told flags let it (own)
+-- a domain went on as far as raised flags let it (own)
 abbrev pub GoesOn : List Task → DomId → List Bool → List Bool → ℕ → Bool → Type 0
 GoesOn tasks dom old new place is_news =
     (place ≤ length tasks) × WayTo tasks dom old new place is_news × WaitsFor tasks dom place new
@@ -93,7 +93,7 @@ pub record Turning (tasks : List Task) (domains : List DomainConfig) (places : L
   pub rest : is_news ≡ false → (i : ℕ) (d : DomainConfig) → i < upto → slice_get domains i ≡ Some d
       → WaitsFor tasks d.id (get_or places i 0) new
 
--- the line where a domain waits, where these flags are told; none where it comes to its end (own)
+-- the line where a domain waits, where these flags are raised; none where it comes to its end (own)
 abbrev pub WaitsIn : List Bool → List Task → DomId → Option ℕ → Type 0
 WaitsIn told tasks dom None = PassesAll (Holds told) dom tasks
 WaitsIn told tasks dom (Some line) = WaitsAt (Holds told) tasks dom line

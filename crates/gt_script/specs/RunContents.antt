@@ -3,7 +3,7 @@ use Rattle.std.specs.Prelude.{ℕ, List}
 use Rattle.gt_script.specs.Contents.{Contents, KeptContents, told}
 use Rattle.gt_script.specs.declared.tasks.Task.{Task}
 
--- what stands in front of the body, as a script without lines of a body; what each line of
+-- what comes before the body, as a script without lines of a body; what each line of
 -- the body has its domain do, in order; and how many flags there are (own)
 pub record RunContents : Type 0 where
   pub head : Contents

@@ -1,4 +1,4 @@
--- Which flags are told in a run, and where a domain waits for ever.
+-- Which flags are raised in a run, and where a domain waits for ever.
 use Rattle.std.specs.Prelude.{◌≡◌, ◌<◌, ℕ, Bool, List, take, Option, Some, None, slice_get, All, IsTrue}
 use Rattle.gt_types.specs.declared.DomId.{DomId}
 use Rattle.gt_types.specs.declared.config.DomainConfig.{DomainConfig}
@@ -16,7 +16,7 @@ IsBelow count (Await flag) = flag < count
 abbrev pub AreNumbered : ℕ → List Task → Type 0
 AreNumbered count tasks = All (λ t. IsBelow count t.deed) tasks
 
--- a domain goes past a task where the flags that have this are told: it waits
+-- a domain goes past a task where the flags that have this are raised: it waits
 -- at no other task than one that awaits another flag (own)
 abbrev pub IsPassed : (ℕ → Type 0) → Deed → Type 0
 IsPassed Told (Do call) = Unit {0}
@@ -27,21 +27,21 @@ IsPassed Told (Await flag) = Told flag
 abbrev pub PassesAll : (ℕ → Type 0) → DomId → List Task → Type 0
 PassesAll Told dom tasks = All (λ t. t.dom.0 ≡ dom.0 → IsPassed Told t.deed) tasks
 
--- a set of flags is closed: it has each flag that a task tells, where the
+-- a set of flags is closed: it has each flag that a task raises, where the
 -- task's domain goes past all that it has to do before it (own)
 abbrev pub IsClosed : List Task → (ℕ → Bool) → Type 0
 IsClosed tasks set = (at : ℕ) (task : Task) (flag : ℕ) → slice_get tasks at ≡ Some task → task.deed ≡ Tell flag
     → PassesAll (λ f. IsTrue (set f)) task.dom (take at tasks) → IsTrue (set flag)
 
--- a flag is told: each closed set has it, so it is one of the least closed set (own)
+-- a flag is raised: each closed set has it, so it is one of the least closed set (own)
 abbrev pub IsTold : List Task → ℕ → Type 0
 IsTold tasks flag = (set : ℕ → Bool) → IsClosed tasks set → IsTrue (set flag)
 
--- a domain comes to the end of its list, where these flags are told (own)
+-- a domain comes to the end of its list, where these flags are raised (own)
 abbrev pub Ends : (ℕ → Type 0) → List Task → DomId → Type 0
 Ends Told tasks dom = PassesAll Told dom tasks
 
--- a domain goes on as far as the line with this number, where it waits for a flag that is not told (own)
+-- a domain goes on as far as the line with this number, where it waits for a flag that is not raised (own)
 pub record WaitsAt (Told : ℕ → Type 0) (tasks : List Task) (dom : DomId) (line : ℕ) : Type 0 where
   pub at : ℕ
   pub task : Task

@@ -19,7 +19,7 @@ pub enum ScriptFaultKind {
     Config,
     /// A line that is for the other of the commands `play` and `run`.
     Mode,
-    /// A list that waits for a flag that is never told.
+    /// A list that waits for a flag that is never raised.
     Stuck,
 }
 
@@ -37,11 +37,11 @@ pub struct BlockFault {
     /// The number of its line in the script, from 1 on; a fault at the end of the block is on the
     /// line `end`.
     pub line: usize,
-    /// What is wrong with the policy; never want of memory.
+    /// What is wrong with the policy; never `Memory`.
     pub kind: gt_policy::PolicyFaultKind,
 }
 
-/// Why there is no script: its first fault, or want of memory.
+/// Why there is no script: its first fault, or memory that was refused.
 #[derive(Debug, Drop)]
 pub enum ScriptError {
     Memory,
@@ -53,7 +53,7 @@ impl ScriptError {
     ghost use Rattle.std.specs.Prelude.{◌≡◌, ◌+◌, ◌<◌, ◌^◌};
     ghost use Rattle.gt_script.specs.Faults.{error_in_block};
 
-    // The fault of a policy block that comes after so many lines, or want of memory.
+    // The fault of a policy block that comes after so many lines, or `Memory`.
     pub(crate) fn in_block(before: usize, fault: PolicyFault) -> ScriptError
         requires { before < 2 ^ 63 }
         ensures { result ≡ error_in_block (before + fault.line) fault.kind }

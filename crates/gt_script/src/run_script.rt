@@ -88,13 +88,13 @@ fn of_script<'a>(alloc: Global, script: Script<'a>) -> Result<RunScript<'a>, Scr
     })
 }
 
-/// The script for `run` that the bytes say, or their first fault: as for `play`, where a line for `play` alone is
-/// a fault, and last of all a domain that waits for a flag that is never told.
+/// The script for `run` that the bytes say, or their first fault. The faults are those for `play`, but here a line for
+/// `play` alone is a fault. Last of all comes a domain that waits for a flag that is never raised.
 pub fn parse_run<'a>(alloc: Global, bytes: &'a [u8]) -> Result<RunScript<'a>, ScriptError>
     ensures script { RunAnswers result (RunTells bytes.entry.now) }
     ensures holds { IfOk result (λ s. CanConfigure (told s.head)) }
 
-    // What is read up to one byte past the limit decides for all that there is.
+    // The bytes up to one past the limit decide what all of them say.
     ensures beginning { (all : List ℕ) → bytes.entry.now ≡ take (LONGEST_TEXT + 1) all →
         RunAnswers result (RunTells all) }
 {

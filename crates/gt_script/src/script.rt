@@ -561,7 +561,8 @@ fn script_text<'a>(bytes: &'a [u8]) -> Result<&'a str, ScriptFault>
     }
 }
 
-/// The script for the command that the bytes say, or their first fault, but for a list that waits for ever.
+/// The script that the bytes say for this command, or their first fault. A list that waits for ever is not looked for
+/// here.
 pub fn parse_for<'a>(
     alloc: Global,
     command: Command,
@@ -571,7 +572,7 @@ pub fn parse_for<'a>(
     ensures holds { IfOk result (λ s. IsScriptFor command (lines_in bytes.entry.now) (told s)) }
     ensures fault { IfErr result (λ e. StandsFor command bytes.entry.now e) }
 
-    // What is read up to one byte past the limit decides for all that there is.
+    // The bytes up to one past the limit decide what all of them say.
     ensures beginning { (all : List ℕ) → bytes.entry.now ≡ take (LONGEST_TEXT + 1) all →
         Answers result (TellsFor command all) }
 {
@@ -581,15 +582,15 @@ pub fn parse_for<'a>(
     }
 }
 
-/// The script for `play` that the bytes say, or their first fault: too many bytes, then no UTF-8, then
-/// the first line that is wrong, where a policy block is judged as a whole at its end, then what the
-/// whole lacks. A line for `run` alone is a fault.
+/// The script for `play` that the bytes say, or their first fault: too many bytes, then no UTF-8, then the first line
+/// that is wrong, then what the whole lacks. A policy block is judged as a whole at its end. A line for `run` alone is
+/// a fault.
 pub fn parse<'a>(alloc: Global, bytes: &'a [u8]) -> Result<Script<'a>, ScriptError>
     ensures script { Answers result (Tells bytes.entry.now) }
     ensures holds { IfOk result (λ s. IsScriptOf (lines_in bytes.entry.now) (told s)) }
     ensures fault { IfErr result (λ e. Stands bytes.entry.now e) }
 
-    // What is read up to one byte past the limit decides for all that there is.
+    // The bytes up to one past the limit decide what all of them say.
     ensures beginning { (all : List ℕ) → bytes.entry.now ≡ take (LONGEST_TEXT + 1) all →
         Answers result (Tells all) }
 {

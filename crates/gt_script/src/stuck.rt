@@ -1,6 +1,6 @@
 //! Whether each domain of a run comes to the end of its list, where calls are taken as done at once.
 //!
-//! Domains go on in turn, each as far as told flags let it, until a whole turn tells no new flag.
+//! Domains go on in turn, each as far as raised flags let it, until a whole turn raises no new flag.
 ghost use Rattle.std.specs.Prelude.{◌≡◌, ◌≤◌, ◌↔◌, ℕ, Bool, IfOk, All, IsTrue, length};
 ghost use Rattle.gt_types.specs.Config.{is_taken};
 ghost use Rattle.gt_script.specs.Stuck.{IsBelow, AreNumbered, IsClosed, IsTold, IsJudged};
@@ -11,14 +11,14 @@ use crate::tasks::{Deed, Task};
 use gt_types::{DomId, DomainConfig};
 use std::alloc::{AllocError, Global};
 
-// How far a domain came, and whether it told a flag that was not told before.
+// How far a domain came, and whether it raised a flag that was not raised before.
 #[derive(Clone, Copy)]
 struct Way {
     place: usize,
     is_news: bool,
 }
 
-// The place to which each domain has come, and for each flag whether it is told.
+// The place to which each domain has come, and for each flag whether it is raised.
 #[derive(Drop)]
 struct Turns {
     places: Vec<usize>,
@@ -47,7 +47,7 @@ impl Turns {
         }
     }
 
-    // Tells the flag that this deed tells, if it tells one. Whether it was not told before.
+    // Raises the flag that this deed raises, if it raises one. Answers whether the flag is newly raised.
     #[tactic(auto, unfolding(crate::specs::Rounds::told_after, crate::specs::Rounds::is_new))]
     fn tell(&mut self, deed: &Deed) -> bool
         requires { IsBelow (length self.old.told.items) deed.now }
@@ -65,7 +65,7 @@ impl Turns {
         }
     }
 
-    // A domain that is at a place goes on as far as told flags let it, and tells those on its way.
+    // A domain that is at a place goes on as far as raised flags let it, and raises those on its way.
     fn go_on(&mut self, tasks: &[Task], dom: DomId, from: usize) -> Way
         requires numbered { AreNumbered (length self.old.told.items) tasks.now }
         requires place { from ≤ length tasks.now }
@@ -89,7 +89,7 @@ impl Turns {
         }
     }
 
-    // Each domain in turn goes on from its place. Whether one told a flag that was not told before.
+    // Each domain in turn goes on from its place. Answers whether one raised a flag that was not raised before.
     fn turn(&mut self, tasks: &[Task], domains: &[DomainConfig]) -> bool
         requires numbered { AreNumbered (length self.old.told.items) tasks.now }
         requires many { length self.old.places.items ≡ length domains.now }
@@ -109,7 +109,7 @@ impl Turns {
     }
 }
 
-// The flags that are told, of so many.
+// The flags that are raised, of so many.
 fn told_flags(
     alloc: Global,
     tasks: &[Task],
@@ -133,7 +133,7 @@ fn told_flags(
     }
 }
 
-// The line where a domain waits, where these flags are told.
+// The line where a domain waits, if these flags are raised.
 fn waiting_line(tasks: &[Task], dom: DomId, told: &[bool]) -> Option<usize>
     requires { AreNumbered (length told.now) tasks.now }
     ensures { WaitsIn told.now tasks.now dom result }

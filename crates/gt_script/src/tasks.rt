@@ -13,9 +13,9 @@ use std::alloc::{AllocError, Global};
 pub enum Deed<'a> {
     /// The call, from its beginning to its answer.
     Do(ScriptCall<'a>),
-    /// Tells the flag.
+    /// Raises the flag.
     Tell(usize),
-    /// Goes on once some domain has told the flag.
+    /// Goes on once some domain has raised the flag.
     Await(usize),
 }
 

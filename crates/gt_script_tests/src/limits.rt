@@ -79,7 +79,7 @@ fn takes_1048576_bytes(rt: HostRuntime) -> Result<(), Fail> {
     Ok(())
 }
 
-// Where a script was cut off, it is one, or has one fault: no want of memory.
+// A script that was cut off is a script still, or has a fault that is not `Memory`.
 #[test]
 fn every_beginning_is_a_script_or_has_a_fault(rt: HostRuntime) -> Result<(), Fail> {
     let alloc = rt.alloc();
@@ -93,7 +93,7 @@ fn every_beginning_is_a_script_or_has_a_fault(rt: HostRuntime) -> Result<(), Fai
     Ok(())
 }
 
-// Two domains take turns, flag by flag, so each turn of the reader tells one flag more. Then one waits for ever.
+// Two domains take turns, flag by flag, so each turn of the reader raises one flag more. Then one waits for ever.
 #[test]
 fn a_long_way_round_ends(rt: HostRuntime) -> Result<(), Fail> {
     let alloc = rt.alloc();

@@ -10,7 +10,7 @@ use Rattle.gt_types.specs.declared.denial.Facts.{Facts}
 use Rattle.gt_types.specs.declared.denial.Facts.TheVariants as facts
 use Rattle.gt_types.specs.declared.denial.Denial.{Denial}
 
--- a type by its name: the one that stands at its number (own)
+-- a type by its name: the one at its number (own)
 abbrev pub type_text : {N : Type 0} → (N → List ℕ) → List N → TypeId → List ℕ
 type_text bytes names t = option_map_or bytes (slice_get names t.0) []
 

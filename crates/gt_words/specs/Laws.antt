@@ -122,7 +122,7 @@ one_record x (u ∷ us) y z l (inr h) (inr j) a b g = one_record u us y z l.2 h 
 
 -- domains and positions
 
--- a number is found where it stands, if it does not stand before
+-- a number is found at its place, if it is at no earlier one
 position_or_len-id : (xs : List DomId) (at : ℕ) → at < length xs → ((i : ℕ) → i < at → (id_at xs i).0 ≢ (id_at xs at).0)
     → position_or_len (λ (x : DomId). x.0 == (id_at xs at).0) xs ≡ at
 position_or_len-id [] at inside apart = absurd (omega arith)

@@ -211,8 +211,8 @@ fn pin_to_read(
     }
 }
 
-// The other domain pins the entry twice for reading, and gives one pin back and then the other. Answers the control words
-// that the owner saw with both pins, with one and with none, or nothing where one was not taken.
+// The other domain pins the entry twice for reading, and gives one pin back and then the other. Answers the control
+// words that the owner saw with both pins, with one and with none, or nothing where one was not taken.
 pub(crate) fn pin_twice(
     words: &Words,
     owner: &mut Seat,
@@ -318,7 +318,8 @@ pub(crate) fn start(alloc: Global, config: &Config) -> Result<(Words, Seat, Seat
     requires first { config.now.first_gen ≡ 0 }
     ensures domain { IfOk result (λ r. HasDomain r.0.layout (record { 0 = 1 })) }
     ensures second { IfOk result (λ r. HasDomain r.0.layout (record { 0 = 2 })) }
-    ensures owner { IfOk result (λ r. IsSeatOf r.0 r.1 × (last_of 0 r.1.view ≡ record { generation = 0; entry = Entry.Invalid })) }
+    ensures owner { IfOk result (λ r. IsSeatOf r.0 r.1
+        × (last_of 0 r.1.view ≡ record { generation = 0; entry = Entry.Invalid })) }
     ensures other { IfOk result (λ r. IsSeatOf r.0 r.2) }
 {
     let (words, mut seats) = Words::new(alloc, config)?;

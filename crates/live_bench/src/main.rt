@@ -1,16 +1,17 @@
 //! Loads of whole calls on a running monitor, in threads, that are timed from outside.
 //!
-//! `live_bench LOAD THREADS ROUNDS` runs a load and prints the rounds that its threads have done, never a time. A round is
-//! a map and an unmap that were both answered Ok, or a revocation and a grant. LOAD is `apart` or `adjacent` (each thread
-//! maps an entry of its own, with entries between them or side by side), or `grants` (the first thread is the owner, who
-//! revokes and grants by turns the entries that the others map). What the policy allows is in a compiled table.
+//! `live_bench LOAD THREADS ROUNDS` runs a load and prints the rounds that its threads have done, never a time. A round
+//! is a map and an unmap that were both answered Ok, or a revocation and a grant. LOAD is `apart` or `adjacent` (each
+//! thread maps an entry of its own, with entries between them or side by side), or `grants` (the first thread is the
+//! owner, who revokes and grants by turns the entries that the others map). What the policy allows is in a compiled
+//! table.
 //!
-//! The loads of bytes are `load-64`, `load-4096`, `store-64`, `store-4096`, `copy-64` and `copy-4096`: each thread has a
-//! page of its own that the owner granted to it, and a round is one access of so many bytes, through its mapping or as a
-//! copy by reference to a frame of its own.
+//! The loads of bytes are `load-64`, `load-4096`, `store-64`, `store-4096`, `copy-64` and `copy-4096`: each thread has
+//! a page of its own that the owner granted to it, and a round is one access of so many bytes, through its mapping or
+//! as a copy by reference to a frame of its own.
 //!
-//! The calls are recorded; with a fourth word `off` they are not, and with `ahead` each domain makes room for its records
-//! before its first call.
+//! The calls are recorded; with a fourth word `off` they are not, and with `ahead` each domain makes room for its
+//! records before its first call.
 //!
 //! It promises nothing beyond the calls that it makes, and uses `gt_live`. The script `bench/live.sh` runs and times
 //! it beside the bare words and a program in C.

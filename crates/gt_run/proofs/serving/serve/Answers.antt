@@ -1,22 +1,41 @@
-use Rattle.std.proofs.Common.{rules, ◌<◌, length}
+use Rattle.std.proofs.Common.{rules, ◌<◌, ◌∙◌, length, arith}
 use Rattle.std.proofs.lemmas.Bool.{eq-eqb, ne_eqb}
-use Rattle.gt_run.proofs.ListLemmas.{await_more, do_more, gate_stops, other_more, tell_more}
+use Rattle.gt_run.proofs.ListLemmas.{await_more, come_none, do_more, gate_stops, list_ends, other_more, tell_more}
 use Rattle.gt_run.proofs.serving.serve.Goals as goal
-use Rattle.gt_run.proofs.serving.serve.Goals.{then-task-part+in-Do, then-task-part+in-Tell, then-task-part+in-Await+else-not-pass, else-task-part}
+use Rattle.gt_run.proofs.serving.serve.Goals.{then-task-dom+in-Do, then-task-dom+in-Tell, then-task-dom+in-Await+else-not-pass, else-task-dom}
+
+pub tasks-init : goal.tasks-init
+tasks-init g c = (c.requires.monitor, come_none g.P.Allows.may _ _ _ _ _ c.requires.text c.requires.told c.new-labels.ensures)
 
 pub returns-then-not-pass : goal.returns-then-not-pass
 returns-then-not-pass g c =
-    let within : c.tasks.task-index < length c.args.part.tasks.now = search rules in
-    gate_stops (λ v. v.items) _ _ _ _ _ _ _ _ _ _ c.in-Await.flag within c.task-item.is (eq-eqb _ _ c.if-task-part.true) c.in-Await.is c.gate_line.ensures c.tasks.invariant c.has_appended.ensures.appended
-    c.has_appended.ensures.kept
+    let within : c.tasks.task-index < length c.args.duty.part.tasks.now = search rules in
+    gate_stops g.P.Allows.may (λ v. v.items) c.args.duty _ _ _ _ _ _ _ _ _ _ _ _ within c.task-item.is (eq-eqb _ _ c.if-task-dom.true) c.in-Await.is c.gate_line.ensures c.tasks.invariant.1
+    c.has_appended.ensures.appended c.has_appended.ensures.kept
 
 pub tasks-preserved : goal.tasks-preserved
 tasks-preserved g c =
-    let within : c.tasks.task-index < length c.args.part.tasks.now = search rules in
-    elim c.if-task-part.branch [
-      | then-task-part+in-Do w ↦ rw w.whole-is (rw w.text-is (do_more (λ v. v.items) _ _ _ _ _ _ _ _ _ _ w.in-Do.call within c.task-item.is (eq-eqb _ _ w.if-task-part.true) w.in-Do.is
-          w.call_line-printed.ensures c.tasks.invariant w.has_appended-whole.ensures.appended w.has_appended-whole.ensures.kept))
-      | then-task-part+in-Tell w ↦ rw w.whole-is (rw w.text-is (tell_more _ _ _ _ _ _ _ w.in-Tell.flag within c.task-item.is (eq-eqb _ _ w.if-task-part.true) w.in-Tell.is c.tasks.invariant))
-      | then-task-part+in-Await+else-not-pass w ↦ rw w.whole-is (rw w.text-is (await_more _ _ _ _ _ _ _ w.in-Await.flag within c.task-item.is (eq-eqb _ _ w.if-task-part.true) w.in-Await.is c.tasks.invariant))
-      | else-task-part w ↦ rw w.whole-is (rw w.text-is (other_more _ _ _ _ _ _ _ within c.task-item.is (ne_eqb _ _ w.if-task-part.false) c.tasks.invariant))
+    let within : c.tasks.task-index < length c.args.duty.part.tasks.now = search rules in
+    elim c.if-task-dom.branch [
+      | then-task-dom+in-Do w ↦ rw (w.whole-is, w.text-is, w.domain-is, w.labels-is, w.teller-is) (
+        w.call_line-printed.ensures.monitor ∙ c.tasks.invariant.0,
+        do_more g.P.Allows.may (λ v. v.items) c.args.duty _ _ _ _ _ _ _ _ _ _ _ _ _ _ w.in-Do.call within c.task-item.is (eq-eqb _ _ w.if-task-dom.true) w.in-Do.is
+            w.call_line-printed.ensures.calls c.tasks.invariant.1 w.has_appended-whole.ensures.appended w.has_appended-whole.ensures.kept,
+      )
+      | then-task-dom+in-Tell w ↦ rw (w.whole-is, w.text-is, w.domain-is, w.labels-is, w.teller-is) (
+        c.tasks.invariant.0,
+        tell_more g.P.Allows.may c.args.duty _ _ _ _ _ _ _ _ w.in-Tell.flag within c.task-item.is (eq-eqb _ _ w.if-task-dom.true) w.in-Tell.is c.tasks.invariant.1,
+      )
+      | then-task-dom+in-Await+else-not-pass w ↦ rw (w.whole-is, w.text-is, w.domain-is, w.labels-is, w.teller-is) (
+        c.tasks.invariant.0,
+        await_more g.P.Allows.may c.args.duty _ _ _ _ _ _ _ _ w.in-Await.flag within c.task-item.is (eq-eqb _ _ w.if-task-dom.true) w.in-Await.is c.tasks.invariant.1,
+      )
+      | else-task-dom w ↦ rw (w.whole-is, w.text-is, w.domain-is, w.labels-is, w.teller-is) (
+        c.tasks.invariant.0,
+        other_more g.P.Allows.may c.args.duty _ _ _ _ _ _ _ _ within c.task-item.is (ne_eqb _ _ w.if-task-dom.false) c.tasks.invariant.1,
+      )
     ]
+
+pub returns : goal.returns
+returns g c =
+    list_ends g.P.Allows.may c.args.duty _ _ _ _ _ _ _ (omega (arith, c.tasks-test.false, c.tasks.auto.task-index-end)) c.tasks.invariant.1

@@ -1,5 +1,8 @@
-use Rattle.gt_run.specs.Printing.{Gone}
+use Rattle.std.proofs.Common.{◌≡◌}
+use Rattle.gt_run.specs.Serving.{HasCome}
 use Rattle.gt_run.proofs.serving.serve.Given as goal
 
 abbrev pub invariant-tasks : goal.invariant-tasks
-invariant-tasks g l = Gone l.whole l.part.types.now l.part.dom l.part.tasks.now l.task-index l.text.items
+invariant-tasks g l =
+    (l.domain.monitor ≡ l.duty.monitor.now)
+    × HasCome g.P.Allows.may l.duty l.initial.domain.domain l.whole l.task-index l.text.items l.domain.domain l.labels l.teller

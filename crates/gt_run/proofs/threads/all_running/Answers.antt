@@ -1,7 +1,9 @@
-use Rattle.std.proofs.Common.{subst, arith, All}
+use Rattle.std.proofs.Common.{◌≡◌, ◌++◌, ◌∷◌, [], map, sym, ap, subst, ◌∙◌, append_assoc, arith, All}
 use Rattle.std.proofs.lemmas.List.Elements.{All-head, All-tail}
 use Rattle.std.specs.Vec.Iter.{into_iter_items}
 use Rattle.gt_live.specs.Domains.{IsOf}
+use Rattle.gt_live.specs.declared.domain.Domain.{Domain}
+use Rattle.gt_run.proofs.DutyLemmas.{stands_on}
 use Rattle.gt_run.proofs.threads.all_running.Goals as goal
 
 pub new-requires : goal.new-requires
@@ -15,5 +17,5 @@ rest-preserved g c =
       All-tail (IsOf g.P.Allows.may c.args.monitor.now) c.in-Some.domain (into_iter_items c.next.new.self)
           (subst (All (IsOf g.P.Allows.may c.args.monitor.now)) c.in-Some.ensures.items all.0),
       omega (arith, all.1, c.in-Some.ensures.len, c.push_reserved.ensures.len, c.push_reserved.ensures.capacity),
-      omega (arith, all.2, c.in-Some.ensures.len, c.push_reserved.ensures.len),
+      stands_on c.args.monitor.now _ _ _ c.in-Some.domain _ _ _ c.push_reserved.ensures.items c.new.ensures c.in-Some.ensures.items all.2,
     )

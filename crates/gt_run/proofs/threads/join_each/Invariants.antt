@@ -3,4 +3,5 @@ use Rattle.gt_run.specs.Printing.{promised}
 use Rattle.gt_run.proofs.threads.join_each.Given as goal
 
 abbrev pub invariant-joins : goal.invariant-joins
-invariant-joins g l = Joins (promised l.yielded) l.audit.items (g.W.Write.contents l.initial.writer) (g.W.Write.contents l.writer) l.outcome
+invariant-joins g l =
+    Joins g.P.Allows.may (promised l.yielded) l.audit.items l.lost (g.W.Write.contents l.initial.writer) (g.W.Write.contents l.writer) l.outcome

@@ -1,7 +1,11 @@
-use Rattle.std.proofs.Common.{◌≡◌, ◌+◌, take, length}
-use Rattle.std.specs.Vec.Iter.{into_iter_len}
-use Rattle.gt_run.specs.Printing.{promised}
+use Rattle.std.proofs.Common.{drop, take}
+use Rattle.std.specs.Prelude.{is_some}
+use Rattle.std.specs.Vec.Iter.{into_iter_items}
+use Rattle.gt_run.specs.Printing.{AreDuties, promised}
+use Rattle.gt_run.specs.Serving.{AreReady}
 use Rattle.gt_run.proofs.threads.start_each.Given as goal
 
 abbrev pub invariant-parts : goal.invariant-parts
-invariant-parts g l = (promised l.handles.items ≡ take l.part-index l.fn.parts) × (l.part-index + into_iter_len l.rest ≡ length l.fn.parts)
+invariant-parts g l =
+    AreDuties l.monitor (is_some l.log) (take l.part-index l.fn.parts) (promised l.handles.items)
+    × AreReady g.P.Allows.may l.monitor (into_iter_items l.rest) (drop l.part-index l.fn.parts)

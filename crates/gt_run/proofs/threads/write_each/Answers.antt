@@ -3,7 +3,7 @@ use Rattle.std.specs.Io.KnownBytes.{Appends}
 use Rattle.std.proofs.lemmas.Result.{err_from_is_err_and}
 use Rattle.gt_streams.specs.Streams.{AppendsBeginning}
 use Rattle.gt_audit.specs.Lines.{lost_text}
-use Rattle.gt_run.proofs.PartLemmas.{wrote_all, wrote_lines}
+use Rattle.gt_run.proofs.DutyLemmas.{wrote_all, wrote_lines}
 use Rattle.gt_run.proofs.threads.write_each.Goals as goal
 
 pub returns : goal.returns
@@ -13,10 +13,10 @@ returns g c =
     (l ++ lost_text c.join_each-outcome.result.lost))) c.as_slice.ensures.value c.write_audit.ensures.whole in
     let begun = subst (λ (l : List ℕ). AppendsBeginning (g.W.Write.contents c.join_each-outcome.new.writer) (g.W.Write.contents c.write_audit.new.writer)
     (l ++ lost_text c.join_each-outcome.result.lost)) c.as_slice.ensures.value c.write_audit.ensures.beginning in
-    wrote_all _ c.args.all _ _ _ _ _ _ _ _ c.in_ok-outcome.was given c.join_each-outcome.ensures out begun c.write_audit.ensures.late
+    wrote_all g.P.Allows.may _ c.args.all _ _ _ _ _ _ _ _ c.in_ok-outcome.was given c.join_each-outcome.ensures out begun c.write_audit.ensures.late
 
 pub returns-in_err-outcome : goal.returns-in_err-outcome
 returns-in_err-outcome g c =
     let given : c.args.all ≡ true = search rules in
     let p = err_from_is_err_and c.from_residual.result c.from_residual.ensures.1 in
-    rw (p.1, p.2) (wrote_lines _ _ _ _ _ _ _ c.in_err-outcome.was given c.join_each-outcome.ensures)
+    rw (p.1, p.2) (wrote_lines g.P.Allows.may _ _ _ _ _ _ _ _ c.in_err-outcome.was given c.join_each-outcome.ensures)

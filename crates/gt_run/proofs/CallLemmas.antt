@@ -1,0 +1,239 @@
+-- What the call of a line comes to.
+use Rattle.std.proofs.Common.{◌≡◌, ◌⊎◌, ◌++◌, ℕ, ◌+◌, ◌-◌, ◌^◌, ◌≤◌, Bool, true, false, List, [], ◌∷◌, length, map, min, Option, None, Some, Result, Ok, Err, IfOk, refl, sym, subst, ap, ◌∙◌, inl, inr, arith}
+use Rattle.std.specs.Prelude.{is_some, slice_get}
+use Rattle.std.specs.List.{flat_map, sum_by}
+use Rattle.std.proofs.lemmas.Grind.{flat_map-append}
+use Rattle.std.proofs.lemmas.List.{append-nil, map-append}
+use Rattle.std.proofs.lemmas.List.Sums.{sum_by-append}
+use Rattle.std.proofs.lemmas.Option.{slice_get_past}
+use Rattle.gt_types.specs.declared.denial.Denial.{Denial}
+use Rattle.gt_audit.specs.Telling.{Telling, Tells, TellsUnder}
+use Rattle.gt_audit.specs.declared.record.Record.{Record}
+use Rattle.gt_calls.specs.declared.request.Request.{Request}
+use Rattle.gt_calls.specs.declared.request.Request.TheVariants as requests
+use Rattle.gt_core.specs.declared.trace.Answer.{Answer}
+use Rattle.gt_host.specs.Printing.{answer_line}
+use Rattle.gt_host.specs.Runs.{handle_given, label_given, with_name}
+use Rattle.gt_host.specs.declared.labels.Labels.{Labels}
+use Rattle.gt_lines.specs.declared.calls.ScriptCall.{ScriptCall}
+use Rattle.gt_live.specs.Domains.{AllowRelation}
+use Rattle.gt_live.specs.declared.domain.Domain.{Domain}
+use Rattle.gt_live.specs.declared.monitor.Monitor.{Monitor}
+use Rattle.gt_types.specs.declared.DomId.{DomId}
+use Rattle.gt_run.specs.Asking.{AnswersCall, Asks}
+use Rattle.gt_run.specs.Serving.{Calls, IsKept, IsTold, Makes, MakesCall, Outcome, Progress, Records, answer_lines, counted, is_logged, lost_in, record_made, records_told}
+use Rattle.gt_run.specs.Telling.{TellsNext, TellsWhere}
+use Rattle.gt_run.specs.declared.lists.Duty.{Duty}
+use Rattle.gt_run.specs.declared.telling.Teller.{Teller}
+
+-- the trail has the record that a call makes, or counts it as lost; where it makes none, the trail is as it was
+abbrev AddsRecord : Option Record → Telling → Telling → Type 0
+AddsRecord None old new = new ≡ old
+AddsRecord (Some r) old new = Tells old r new
+
+adds : (d e : Domain) (request : Request) (answer told : Answer) → answer ≡ told
+    → AddsRecord (record_made d.seat.dom d request told) d.trail e.trail → AddsRecord (record_made d.seat.dom d request answer) d.trail e.trail
+adds d e request answer told is a = subst (λ (x : Answer). AddsRecord (record_made d.seat.dom d request x) d.trail e.trail) (sym is) a
+
+-- the record that a call adds is that of what was asked and answered
+adds_record : {P : Type 0} (may : P → AllowRelation) (m : Monitor P) (d : Domain) (request : Request) (answer : Answer) (e : Domain) → AnswersCall may m d request answer e
+    → AddsRecord (record_made d.seat.dom d request answer) d.trail e.trail
+adds_record may m d (requests.Map dom gref flags) answer e (Ok handle, is, answered, told) = adds d e (requests.Map dom gref flags) answer _ is told
+adds_record may m d (requests.Map dom gref flags) answer e (Err denial, is, answered, told) = adds d e (requests.Map dom gref flags) answer _ is told
+adds_record may m d (requests.Unmap handle) answer e (Ok done, is, answered, removed, refused, told) = adds d e (requests.Unmap handle) answer _ is told
+adds_record may m d (requests.Unmap handle) answer e (Err denial, is, answered, removed, refused, told) = adds d e (requests.Unmap handle) answer _ is told
+adds_record may m d (requests.SetVersion version) answer e (Ok done, is, (answered, kept, told)) = adds d e (requests.SetVersion version) answer _ is told
+adds_record may m d (requests.SetVersion version) answer e (Err denial, is, (answered, kept, told)) = adds d e (requests.SetVersion version) answer _ is told
+adds_record may m d (requests.SetupTable frames) answer e (Ok given, is, (answered, kept, told)) = adds d e (requests.SetupTable frames) answer _ is told
+adds_record may m d (requests.SetupTable frames) answer e (Err denial, is, (answered, kept, told)) = adds d e (requests.SetupTable frames) answer _ is told
+adds_record may m d (requests.QuerySize dom) answer e (Ok size, is, (answered, kept, told)) = adds d e (requests.QuerySize dom) answer _ is told
+adds_record may m d (requests.QuerySize dom) answer e (Err denial, is, (answered, kept, told)) = adds d e (requests.QuerySize dom) answer _ is told
+adds_record may m d (requests.GetVersion dom) answer e (Ok version, is, (answered, kept, told)) = adds d e (requests.GetVersion dom) answer _ is told
+adds_record may m d (requests.GetVersion dom) answer e (Err denial, is, (answered, kept, told)) = adds d e (requests.GetVersion dom) answer _ is told
+adds_record may m d (requests.Load handle off len) answer e (r, is, (accessed, kept, silent)) = silent
+adds_record may m d (requests.Peek frame off len) answer e (r, is, (accessed, kept, silent)) = silent
+adds_record may m d (requests.Store handle off bytes) answer e (r, is, (accessed, kept, silent)) = silent
+adds_record may m d (requests.Poke frame off bytes) answer e (r, is, (accessed, kept, silent)) = silent
+adds_record may m d (requests.Copy args) answer e (Ok copied, is, accessed, kept, told) = adds d e (requests.Copy args) answer _ is told
+adds_record may m d (requests.Copy args) answer e (Err denial, is, accessed, kept, told) = adds d e (requests.Copy args) answer _ is told
+adds_record may m d (requests.Grant gref entry) answer e (r, is, (answered, kept, silent)) = silent
+adds_record may m d (requests.GrantBytes gref bytes) answer e (r, is, (answered, kept, silent)) = silent
+adds_record may m d (requests.Revoke gref) answer e (r, is, (answered, kept, silent)) = silent
+adds_record may m d (requests.Demote gref) answer e (r, is, (answered, kept, silent)) = silent
+adds_record may m d (requests.Promote gref) answer e (r, is, (answered, kept, silent)) = silent
+
+-- counts
+
+one_more : (most a b s : ℕ) → min (a + b) most ≡ min s most → min (min (a + 1) most + b) most ≡ min (s + 1) most
+one_more most a b s e = omega (arith, e)
+
+one_more_pushed : (most a b s : ℕ) → min (a + b) most ≡ min s most → min (a + min (b + 1) most) most ≡ min (s + 1) most
+one_more_pushed most a b s e = omega (arith, e)
+
+-- one outcome more
+told_behind : (os : List Outcome) (o : Outcome) → records_told (os ++ o ∷ []) ≡ records_told os ++ o.told
+told_behind os o = flat_map-append (λ (x : Outcome). x.told) os (o ∷ []) ∙ ap (λ (l : List Record). records_told os ++ l) (append-nil o.told)
+
+lost_behind : (os : List Outcome) (o : Outcome) → lost_in (os ++ o ∷ []) ≡ lost_in os + o.lost
+lost_behind os o = sum_by-append (λ (x : Outcome). x.lost) os (o ∷ []) ∙ ap (λ (n : ℕ). lost_in os + n) (omega arith)
+
+lines_behind : (names : List (List ℕ)) (dom : DomId) (os : List Outcome) (o : Outcome) → answer_lines names dom (os ++ o ∷ []) ≡ answer_lines names dom os ++ answer_line names o.line dom o.answer
+lines_behind names dom os o =
+    flat_map-append (λ (x : Outcome). answer_line names x.line dom x.answer) os (o ∷ []) ∙ ap (λ (l : List ℕ). answer_lines names dom os ++ l) (append-nil (answer_line names o.line dom o.answer))
+
+-- the records behind those that were pushed
+next_read : (records : List Record) (r : Record) → slice_get (records ++ r ∷ []) (length records) ≡ Some r
+next_read [] r = refl
+next_read (x ∷ records) r = next_read records r
+
+none_next : (old new : List Record) (next : ℕ) → next ≡ length old → new ≡ old → slice_get new next ≡ None
+none_next old new next n same = slice_get_past new next (omega (arith, n, ap length same))
+
+-- what a call adds to what was pushed, and to what was lost
+record Added (logged : Bool) (made : Option Record) (trail : Telling) (teller : Option Teller) (outcomes : List Outcome) : Type 0 where
+  told : List Record
+  lost : ℕ
+  records : Records logged made told lost
+  asked : is_some teller ≡ logged
+  kept : (line : ℕ) (answer : Answer) → IsTold trail teller (outcomes ++ record { line = line; answer = answer; told = told; lost = lost } ∷ [])
+
+-- one outcome more, of a record that went so
+pushed_more : (told : List (ℕ × Record)) (more : List (ℕ × Record)) (records : List Record) (os : List Outcome) (o : Outcome)
+    → map (λ (e : ℕ × Record). e.1) told ≡ records_told os → map (λ (e : ℕ × Record). e.1) more ≡ o.told → map (λ (e : ℕ × Record). e.1) (told ++ more) ≡ records_told (os ++ o ∷ [])
+pushed_more told more records os o e f = map-append (λ (x : ℕ × Record). x.1) told more ∙ cc (e, f, told_behind os o)
+
+-- nothing was pushed, and nothing lost
+quiet : (trail : Telling) (t : Teller) (os : List Outcome) (o : Outcome) → o.told ≡ [] → o.lost ≡ 0 → IsTold trail (Some t) os → IsTold trail (Some t) (os ++ o ∷ [])
+quiet trail t os o none zero i = (
+  i.0,
+  i.1 ∙ sym (told_behind os o ∙ ap (λ (l : List Record). records_told os ++ l) none ∙ append-nil (records_told os)),
+  i.2 ∙ sym (ap counted (lost_behind os o ∙ omega (arith, zero))),
+)
+
+-- there is a record more to push
+tells_one : (old new : Telling) (r : Record) (t u : Teller) (os : List Outcome) → new.records ≡ old.records ++ r ∷ [] → new.lost ≡ old.lost → IsTold old (Some t) os
+    → TellsNext (slice_get new.records t.next) (length new.records) t u → Added true (Some r) new (Some u) os
+tells_one old new r t u os grew same i tells =
+    let at : slice_get new.records t.next ≡ Some r =
+    ap (λ (l : List Record). slice_get l t.next) grew ∙ ap (λ (n : ℕ). slice_get (old.records ++ r ∷ []) n) i.0 ∙ next_read old.records r in
+    let told : TellsUnder t.told t.next r u.told × (u.next ≡ length new.records) = subst (λ (x : Option Record). TellsNext x (length new.records) t u) at tells in
+    elim told.0.1 [
+      | inl kept ↦ record {
+        told = r ∷ [];
+        lost = 0;
+        records = inl (refl, refl);
+        asked = refl;
+        kept = λ line answer. (
+          told.1,
+          ap (map (λ (e : ℕ × Record). e.1)) kept.0 ∙ pushed_more t.told.told ((t.next, r) ∷ []) old.records os (record { line = line; answer = answer; told = r ∷ []; lost = 0 }) i.1 refl,
+          ap counted (omega (arith, same, kept.1)) ∙ i.2 ∙ sym (ap counted (lost_behind os (record { line = line; answer = answer; told = r ∷ []; lost = 0 }) ∙ omega arith)),
+        );
+      }
+      | inr lost ↦ record {
+        told = [];
+        lost = 1;
+        records = inr (refl, refl);
+        asked = refl;
+        kept = λ line answer. (
+          told.1,
+          ap (map (λ (e : ℕ × Record). e.1)) lost.0 ∙ i.1 ∙ sym (told_behind os (record { line = line; answer = answer; told = []; lost = 1 }) ∙ append-nil (records_told os)),
+          ap counted (ap (λ (n : ℕ). n + u.told.lost) same ∙ ap (λ (n : ℕ). old.lost + n) lost.1) ∙ one_more_pushed (2 ^ 64 - 1) old.lost t.told.lost (lost_in os) i.2
+              ∙ sym (ap counted (lost_behind os (record { line = line; answer = answer; told = []; lost = 1 }))),
+        );
+      }
+    ]
+
+-- the trail lost the record
+tells_lost : (old new : Telling) (r : Record) (t u : Teller) (os : List Outcome) → new.records ≡ old.records → new.lost ≡ counted (old.lost + 1) → IsTold old (Some t) os
+    → TellsNext (slice_get new.records t.next) (length new.records) t u → Added true (Some r) new (Some u) os
+tells_lost old new r t u os same lost i tells =
+    let u_is : u ≡ t = subst (λ (x : Option Record). TellsNext x (length new.records) t u) (none_next old.records new.records t.next i.0 same) tells in
+    subst (λ (x : Teller). Added true (Some r) new (Some x) os) (sym u_is) (record {
+      told = [];
+      lost = 1;
+      records = inr (refl, refl);
+      asked = refl;
+      kept = λ line answer. (
+        i.0 ∙ sym (ap length same),
+        i.1 ∙ sym (told_behind os (record { line = line; answer = answer; told = []; lost = 1 }) ∙ append-nil (records_told os)),
+        ap counted (ap (λ (n : ℕ). n + t.told.lost) lost) ∙ one_more (2 ^ 64 - 1) old.lost t.told.lost (lost_in os) i.2
+            ∙ sym (ap counted (lost_behind os (record { line = line; answer = answer; told = []; lost = 1 }))),
+      );
+    })
+
+-- the call made no record
+tells_none : (old new : Telling) (t u : Teller) (os : List Outcome) → new ≡ old → IsTold old (Some t) os
+    → TellsNext (slice_get new.records t.next) (length new.records) t u → Added true None new (Some u) os
+tells_none old new t u os same i tells =
+    let u_is : u ≡ t = subst (λ (x : Option Record). TellsNext x (length new.records) t u)
+    (none_next old.records new.records t.next i.0 (ap (λ (x : Telling). x.records) same)) tells in
+    subst (λ (x : Teller). Added true None new (Some x) os) (sym u_is) (record {
+      told = [];
+      lost = 0;
+      records = (refl, refl);
+      asked = refl;
+      kept = λ line answer. quiet new t os (record { line = line; answer = answer; told = []; lost = 0 }) refl refl (subst (λ (x : Telling). IsTold x (Some t) os) (sym same) i);
+    })
+
+-- what the next push came to, where there is a log
+tells_some : (made : Option Record) (old new : Telling) (t u : Teller) (os : List Outcome) → AddsRecord made old new → IsTold old (Some t) os
+    → TellsNext (slice_get new.records t.next) (length new.records) t u → Added true made new (Some u) os
+tells_some None old new t u os same i tells = tells_none old new t u os same i tells
+tells_some (Some r) old new t u os a i tells = elim a.told [
+  | inl grew ↦ tells_one old new r t u os grew.0 grew.1 i tells
+  | inr lost ↦ tells_lost old new r t u os lost.0 lost.1 i tells
+]
+
+unlogged : (made : Option Record) → Records false made [] 0
+unlogged made = (refl, refl)
+
+-- and without one
+tells_where : (logged : Bool) (made : Option Record) (old new : Telling) (t u : Option Teller) (os : List Outcome) → is_some t ≡ logged → AddsRecord made old new → IsTold old t os
+    → TellsWhere new t u → Added logged made new u os
+tells_where logged made old new None u os asked a i is =
+    subst (λ (b : Bool). Added b made new u os) asked (subst (λ (x : Option Teller). Added false made new x os) (sym is) (record {
+      told = [];
+      lost = 0;
+      records = unlogged made;
+      asked = refl;
+      kept = λ line answer.
+          let o : Outcome = record { line = line; answer = answer; told = []; lost = 0 } in
+          (told_behind os o ∙ append-nil (records_told os) ∙ i.0, lost_behind os o ∙ omega (arith, i.1));
+    }))
+tells_where logged made old new (Some t) u os asked a i (next, is, tells) =
+    subst (λ (b : Bool). Added b made new u os) asked
+    (subst (λ (x : Option Teller). Added true made new x os) (sym is) (tells_some made old new t next os a i tells))
+
+-- the call of a line was made, its record was pushed, and its answer is printed
+pub calls : {P : Type 0} (may : P → AllowRelation) (duty : Duty P) (line : ℕ) (call : ScriptCall) (d e : Domain) (before after : Labels) (t u : Option Teller) (answer : Answer) (text : List ℕ)
+    → Makes may duty call d e before after answer → TellsWhere e.trail t u → text ≡ answer_line duty.part.types.now line duty.part.dom answer
+    → Calls may duty line call d e before after t u text
+calls may duty line call d e before after t u answer text makes tells is = λ p kept.
+    let made = makes p.named kept.names in
+    let own : AddsRecord (record_made duty.part.dom d made.0 answer) d.trail e.trail =
+    subst (λ (x : DomId). AddsRecord (record_made x d made.0 answer) d.trail e.trail) kept.own (adds_record may duty.monitor.now d made.0 answer e made.2.1) in
+    let added = tells_where (is_logged duty) _ d.trail e.trail t u p.outcomes kept.asked own kept.told tells in
+    let o : Outcome = record { line = line; answer = answer; told = added.told; lost = added.lost } in (
+      record { domain = e; named = with_name p.named duty.part.dom (label_given call) (handle_given answer); outcomes = p.outcomes ++ o ∷ [] },
+      record {
+        request = made.0;
+        answer = answer;
+        told = added.told;
+        lost = added.lost;
+        says = made.1;
+        asks = subst (λ (x : Domain). Asks may duty.monitor.now x made.0 answer e) (sym kept.domain) made.2;
+        records = subst (λ (x : Domain). Records (is_logged duty) (record_made duty.part.dom x made.0 answer) added.told added.lost) (sym kept.domain) added.records;
+        named = refl;
+        outcomes = refl;
+      },
+      record { domain = refl; own = made.2.0 ∙ kept.own; names = made.3; asked = added.asked; told = added.kept line answer },
+      lines_behind duty.part.types.now duty.part.dom p.outcomes o ∙ ap (λ (l : List ℕ). answer_lines duty.part.types.now duty.part.dom p.outcomes ++ l) (sym is),
+    )
+
+-- the same of a call that may have had no memory, and had it
+pub calls_of : {P E : Type 0} (may : P → AllowRelation) (duty : Duty P) (line : ℕ) (call : ScriptCall) (d e : Domain) (before after : Labels) (t u : Option Teller) (r : Result Answer E) (answer : Answer) (none text : List ℕ)
+    → r ≡ Ok answer → IfOk r (Makes may duty call d e before after) → TellsWhere e.trail t u → none ≡ [] → text ≡ none ++ answer_line duty.part.types.now line duty.part.dom answer
+    → Calls may duty line call d e before after t u text
+calls_of may duty line call d e before after t u r answer none text was made tells empty is =
+    calls may duty line call d e before after t u answer text (subst (λ (q : Result Answer _). IfOk q (Makes may duty call d e before after)) was made) tells
+    (is ∙ ap (λ (l : List ℕ). l ++ answer_line duty.part.types.now line duty.part.dom answer) empty)

@@ -1,0 +1,408 @@
+-- What the threads of a run come to, one after the other.
+use Rattle.std.proofs.Common.{◌≡◌, ◌⊎◌, ◌++◌, ◌+◌, ◌-◌, ◌^◌, ℕ, ◌<◌, Bool, true, false, List, [], ◌∷◌, get_or, drop, length, map, min, suc, take, Option, None, Some, Result, Ok, Err, OnOk, IfOk, IfErr, IsTrue, refl, sym, subst, ap, ◌∙◌, append_assoc, add-one, drop-cons, inl, inr, arith, All}
+use Rattle.std.proofs.lemmas.Bool.{false≢true}
+use Rattle.std.specs.Prelude.{IsOk, is_err, is_ok, is_some, if◌then◌else◌}
+use Rattle.std.specs.declared.thread.PromisedHandle.{PromisedHandle}
+use Rattle.std.specs.List.{AllZip, HoldsAt, flat_map, sum_by}
+use Rattle.std.specs.Io.KnownBytes.{Appends, Keeps}
+use Rattle.std.proofs.Math.Seq.{take-length, take-suc}
+use Rattle.std.proofs.lemmas.Grind.{flat_map-append}
+use Rattle.std.proofs.lemmas.List.{append-nil, get_or-map, length-map, map-append, map_more}
+use Rattle.std.proofs.lemmas.List.Elements.{All-append, All-cons, All-nil}
+use Rattle.std.proofs.lemmas.List.Sums.{sum_by-append}
+use Rattle.gt_types.specs.declared.DomId.{DomId}
+use Rattle.gt_types.specs.declared.config.Config.{Config}
+use Rattle.gt_types.specs.declared.config.DomainConfig.{DomainConfig}
+use Rattle.gt_words.specs.Rule.{Layout, id_at}
+use Rattle.gt_audit.specs.Lines.{line_text, lost_text}
+use Rattle.gt_audit.specs.Telling.{Telling}
+use Rattle.gt_texts.specs.Printing.{type_text}
+use Rattle.gt_live.specs.Domains.{AllowRelation}
+use Rattle.gt_live.specs.Starting.{IsNewDomain}
+use Rattle.gt_live.specs.declared.domain.Domain.{Domain}
+use Rattle.gt_live.specs.declared.monitor.Monitor.{Monitor}
+use Rattle.gt_streams.specs.Laws.{appends_both, begins_after, begins_longer, keeps_same}
+use Rattle.gt_streams.specs.Streams.{AppendsBeginning}
+use Rattle.gt_host.specs.declared.fault.PlayFault.TheVariants as plays
+use Rattle.gt_run.specs.Asking.{Stand}
+use Rattle.gt_run.specs.Faults.{out_of_memory}
+use Rattle.gt_run.specs.Joining.{IsLate, Joins, WritesNext, WroteStarted}
+use Rattle.gt_run.specs.Printing.{AreDuties, AreServed, BeginsLists, BeginsWhole, CameBy, GoesOn, Served, WritesLists, all_lost, audits_in, duties_in, promised, texts_in}
+use Rattle.gt_run.specs.Runs.{Wrote, WroteLists}
+use Rattle.gt_run.specs.Serving.{AreReady, IsBegun, IsFirst, IsReady, IsServed, Outcome, Serves, ServesAll, ServesSome, at_start, audit_lines, counted, lost_in}
+use Rattle.gt_run.specs.declared.fault.RunFault.{RunFault}
+use Rattle.gt_run.specs.declared.fault.RunFault.TheVariants.{Play, Thread}
+use Rattle.gt_run.specs.declared.lists.Duty.{Duty}
+use Rattle.gt_run.specs.declared.lists.Part.{Part}
+use Rattle.gt_run.specs.declared.serving.Output.{Output}
+use Rattle.gt_run.specs.declared.telling.Teller.{Teller}
+
+-- what comes of a duty
+
+-- no line was served yet
+pub begun_not : {P : Type 0} (may : P → AllowRelation) (duty : Duty P) (s : Stand P) (text : List ℕ) → text ≡ [] → IsReady may duty.monitor.now duty.part.dom s → IsBegun may duty text
+begun_not may duty s text none ready =
+    record { domain = s.domain; first = ready.1; number = 0; left = at_start s.domain; leads = refl; prints = none }
+
+begun : {P : Type 0} (may : P → AllowRelation) (duty : Duty P) (d : Domain) (text : List ℕ) → IsFirst may duty.monitor.now duty.part.dom d → ServesSome may duty d text → IsBegun may duty text
+begun may duty d text first s = record { domain = d; first = first; number = s.number; left = s.left; leads = s.leads; prints = s.prints }
+
+served : {P : Type 0} (may : P → AllowRelation) (duty : Duty P) (d e : Domain) (text : List ℕ) (t : Option Teller) → IsFirst may duty.monitor.now duty.part.dom d
+    → (s : ServesAll may duty d text e t) → IsServed may duty s.left.outcomes text
+served may duty d e text t first s = record {
+  domain = d;
+  first = first;
+  number = s.number;
+  left = s.left;
+  leads = s.leads;
+  came = refl;
+  last = s.last;
+  ends = s.ends;
+  prints = s.prints;
+}
+
+if_ok_as : {V E : Type 0} (r : Result V E) (P Q : V → Type 0) → ((v : V) → P v → Q v) → IfOk r P → IfOk r Q
+if_ok_as (Ok v) P Q f p = f v p
+if_ok_as (Err e) P Q f p = tt
+
+-- a list was served without a log
+pub came_plain : {P : Type 0} (may : P → AllowRelation) (duty : Duty P) (s : Stand P) (e : Domain) (whole : Bool) (t : Option Teller) (o : Output) → IsReady may duty.monitor.now duty.part.dom s
+    → t ≡ None → Serves may duty s.domain whole o.text.items e t → IfOk o.audit (λ a. a.items ≡ []) → o.lost ≡ 0 → CameBy whole may duty o
+came_plain may duty s e false t o ready none serves audit lost = begun may duty s.domain o.text.items ready.1 serves
+came_plain may duty s e true (Some t) o ready none serves audit lost = let e : Some t ≡ None = none in cc
+came_plain may duty s e true None o ready none serves audit lost = (
+  serves.left.outcomes,
+  served may duty s.domain e o.text.items None ready.1 serves,
+  if_ok_as o.audit _ _ (λ a is. is ∙ sym (ap (flat_map (line_text (type_text (λ name. name) duty.part.types.now))) serves.told.0)) audit,
+  lost ∙ sym (ap counted serves.told.1),
+)
+
+-- a list was served with one
+pub came_told : {P : Type 0} (may : P → AllowRelation) (duty : Duty P) (s : Stand P) (e : Domain) (trail : Telling) (whole : Bool) (t : Option Teller) (u : Teller) (o : Output)
+    → IsReady may duty.monitor.now duty.part.dom s → t ≡ Some u → trail ≡ e.trail → Serves may duty s.domain whole o.text.items e t
+    → IfOk o.audit (λ a. a.items ≡ flat_map (line_text (type_text (λ name. name) duty.part.types.now)) (map (λ x. x.1) u.told.told))
+    → o.lost ≡ counted (trail.lost + u.told.lost) → CameBy whole may duty o
+came_told may duty s e trail false t u o ready some same serves audit lost = begun may duty s.domain o.text.items ready.1 serves
+came_told may duty s e trail true None u o ready some same serves audit lost = let e : None ≡ Some u = some in cc
+came_told may duty s e trail true (Some t) u o ready some same serves audit lost =
+    let is : t ≡ u = cc some in (
+      serves.left.outcomes,
+      served may duty s.domain e o.text.items (Some t) ready.1 serves,
+      if_ok_as o.audit _ _ (λ a of_u. of_u ∙ ap (λ (x : Teller). flat_map (line_text (type_text (λ name. name) duty.part.types.now)) (map (λ y. y.1) x.told.told)) (sym is)
+          ∙ ap (flat_map (line_text (type_text (λ name. name) duty.part.types.now))) serves.told.1) audit,
+      lost ∙ ap (λ (x : Teller). counted (trail.lost + x.told.lost)) (sym is) ∙ ap (λ (x : Telling). counted (x.lost + t.told.lost)) same ∙ serves.told.2,
+    )
+
+-- starting
+
+-- one duty more
+pub duties_more : {P : Type 0} (m : Monitor P) (logged : Bool) (parts : List Part) (i : ℕ) (p : Part) (ds : List (Duty P)) (d : Duty P) → i < length parts → p ≡ get_or parts i p → d.part ≡ p
+    → d.monitor.now ≡ m → is_some d.log ≡ logged → AreDuties m logged (take i parts) ds → AreDuties m logged (take (i + 1) parts) (ds ++ d ∷ [])
+duties_more {P} m logged parts i p ds d within is of_part over log (same, all) = (
+  map-append (λ (x : Duty _). x.part) ds (d ∷ []) ∙ ap (λ l. l ++ d.part ∷ []) same ∙ ap (λ (x : Part). take i parts ++ x ∷ []) (of_part ∙ is)
+      ∙ sym (rw add-one (take-suc parts i p within)),
+  All-append (λ (x : Duty P). (x.monitor.now ≡ m) × (is_some x.log ≡ logged)) ds (d ∷ []) all
+      (All-cons (λ (x : Duty P). (x.monitor.now ≡ m) × (is_some x.log ≡ logged)) d [] (over, log) (All-nil (λ (x : Duty P). (x.monitor.now ≡ m) × (is_some x.log ≡ logged)))),
+)
+
+-- a push that did not fail
+pub pushed_items : {A V E : Type 0} (r : Result V E) (old more new : List A) (failed : Bool) → new ≡ (if is_ok r then more else old) → failed ≡ false → failed ≡ is_err r → new ≡ more
+pushed_items (Ok v) old more new failed items well same = items
+pushed_items (Err x) old more new failed items well same = absurd (false≢true (sym well ∙ same))
+
+promised_more : {P : Type 0} (hs : List (PromisedHandle Output (Duty P))) (h : PromisedHandle Output (Duty P)) → promised (hs ++ h ∷ []) ≡ promised hs ++ h.promise ∷ []
+promised_more {P} hs h = map-append (λ (x : PromisedHandle Output (Duty P)). x.promise) hs (h ∷ [])
+
+-- the thread of one duty more was kept
+pub duties_pushed : {P : Type 0} (m : Monitor P) (parts : List Part) (i : ℕ) (p : Part) (logged : Bool) (hs new : List (PromisedHandle Output (Duty P))) (h : PromisedHandle Output (Duty P)) (d : Duty P)
+    → i < length parts → p ≡ get_or parts i p → h.promise ≡ d → d.part ≡ p → d.monitor.now ≡ m → is_some d.log ≡ logged → new ≡ hs ++ h ∷ []
+    → AreDuties m logged (take i parts) (promised hs) → AreDuties m logged (take (i + 1) parts) (promised new)
+duties_pushed {P} m parts i p logged hs new h d within is kept part over log items are =
+    let grown : promised new ≡ promised hs ++ d ∷ [] = ap promised items ∙ promised_more hs h ∙ ap (λ (x : Duty P). promised hs ++ x ∷ []) kept in
+    subst (λ (l : List (Duty P)). AreDuties m logged (take (i + 1) parts) l) (sym grown) (duties_more m logged parts i p (promised hs) d within is part over log are)
+
+-- the next domain is ready for the next part, and the others for the others
+ready_step : {P : Type 0} (may : P → AllowRelation) (m : Monitor P) (stands rest : List (Stand P)) (s : Stand P) (parts : List Part) (i : ℕ) (p : Part) → i < length parts → p ≡ get_or parts i p
+    → stands ≡ s ∷ rest → AreReady may m stands (drop i parts) → IsReady may m p.dom s × AreReady may m rest (drop (i + 1) parts)
+ready_step may m stands rest s parts i p within is next ready =
+    let at : drop i parts ≡ p ∷ drop (i + 1) parts = rw add-one (drop-cons parts i p within ∙ ap (λ (x : Part). x ∷ drop (suc i) parts) (sym is)) in
+    subst (λ (l : List Part). AllZip (λ x y. IsReady may m y.dom x) (s ∷ rest) l) at (subst (λ (l : List (Stand _)). AreReady may m l (drop i parts)) next ready)
+
+pub ready_next : {P : Type 0} (may : P → AllowRelation) (m : Monitor P) (stands rest : List (Stand P)) (s : Stand P) (parts : List Part) (i : ℕ) (p : Part) → i < length parts → p ≡ get_or parts i p
+    → stands ≡ s ∷ rest → AreReady may m stands (drop i parts) → IsReady may m p.dom s
+ready_next may m stands rest s parts i p within is next ready = (ready_step may m stands rest s parts i p within is next ready).0
+
+pub ready_rest : {P : Type 0} (may : P → AllowRelation) (m : Monitor P) (stands rest : List (Stand P)) (s : Stand P) (parts : List Part) (i : ℕ) (p : Part) → i < length parts → p ≡ get_or parts i p
+    → stands ≡ s ∷ rest → AreReady may m stands (drop i parts) → AreReady may m rest (drop (i + 1) parts)
+ready_rest may m stands rest s parts i p within is next ready = (ready_step may m stands rest s parts i p within is next ready).1
+
+-- joining
+
+-- where nothing goes out, a beginning stays one
+keeps_nothing : (a b : Option (List ℕ)) → Keeps a b → Appends a b []
+keeps_nothing None b k = tt
+keeps_nothing (Some x) None k = absurd k
+keeps_nothing (Some x) (Some y) k = k ∙ sym (append-nil x)
+
+begins_kept : (a b c : Option (List ℕ)) (text : List ℕ) → AppendsBeginning a b text → Keeps b c → AppendsBeginning a c text
+begins_kept a b c text (n, few, out) k =
+    (n, few, subst (λ (l : List ℕ). Appends a c l) (append-nil (take n text)) (appends_both a b c (take n text) [] out (keeps_nothing b c k)))
+
+begins_whole : (a b : Option (List ℕ)) (text : List ℕ) → Appends a b text → AppendsBeginning a b text
+begins_whole a b text out = (length text, omega arith, subst (λ (l : List ℕ). Appends a b l) (sym (take-length text)) out)
+
+-- a fault of a run that had begun to write
+late_after : (before : Result (Unit {0}) RunFault) (e f : RunFault) → IsLate e → before ≡ Err e → (before ≡ Err f) ⊎ (f ≡ out_of_memory) → IsLate f
+late_after before e f late is (inl same) = let q : e ≡ f = cc in subst IsLate q late
+late_after before e f late is (inr memory) = inl memory
+
+late_now : (r : Result (Unit {0}) RunFault) (well : Unit {0}) (f : RunFault) → r ≡ Ok well → (r ≡ Err f) ⊎ (f ≡ out_of_memory) → IsLate f
+late_now r well f was (inl same) = cc
+late_now r well f was (inr memory) = inl memory
+
+-- one list more
+goes_on : {P : Type 0} (may : P → AllowRelation) (rest : List (Duty P)) (d : Duty P) (text : List ℕ) → GoesOn may rest text → GoesOn may (rest ++ d ∷ []) text
+goes_on may [] d text none = inl none
+goes_on may (next ∷ rest) d text on = on
+
+begins_more : {P : Type 0} (may : P → AllowRelation) (ds : List (Duty P)) (d : Duty P) (old now new : Option (List ℕ)) → BeginsLists may ds old now → Keeps now new → BeginsLists may (ds ++ d ∷ []) old new
+begins_more may ds d old now new (all, rest, text, same, are, on, out) kept = (
+  all,
+  rest ++ d ∷ [],
+  text,
+  sym (append_assoc (duties_in all) rest (d ∷ [])) ∙ ap (λ l. l ++ d ∷ []) same,
+  are,
+  goes_on may rest d text on,
+  begins_kept old now new (texts_in all ++ text) out kept,
+)
+
+texts_behind : {P : Type 0} (all : List (Served P)) (s : Served P) → texts_in (all ++ s ∷ []) ≡ texts_in all ++ s.text
+texts_behind all s = flat_map-append (λ (x : Served _). x.text) all (s ∷ []) ∙ ap (λ (l : List ℕ). texts_in all ++ l) (append-nil s.text)
+
+audits_behind : {P : Type 0} (all : List (Served P)) (s : Served P) → audits_in (all ++ s ∷ []) ≡ audits_in all ++ audit_lines s.duty.part.types.now s.outcomes
+audits_behind all s =
+    flat_map-append (λ (x : Served _). audit_lines x.duty.part.types.now x.outcomes) all (s ∷ [])
+    ∙ ap (λ (l : List ℕ). audits_in all ++ l) (append-nil (audit_lines s.duty.part.types.now s.outcomes))
+
+all_lost_behind : {P : Type 0} (all : List (Served P)) (s : Served P) → all_lost (all ++ s ∷ []) ≡ all_lost all + lost_in s.outcomes
+all_lost_behind all s = sum_by-append (λ (x : Served _). lost_in x.outcomes) all (s ∷ []) ∙ ap (λ (n : ℕ). all_lost all + n) (omega arith)
+
+duties_behind : {P : Type 0} (all : List (Served P)) (s : Served P) (ds : List (Duty P)) → duties_in all ≡ ds → duties_in (all ++ s ∷ []) ≡ ds ++ s.duty ∷ []
+duties_behind all s ds same = map-append (λ (x : Served _). x.duty) all (s ∷ []) ∙ ap (λ l. l ++ s.duty ∷ []) same
+
+both_ok : {V E : Type 0} (r : Result V E) (P Q : V → Type 0) → IsOk r → IfOk r P → IfOk r Q → (v : V) × P v × Q v
+both_ok (Ok v) P Q ok p q = (v, p, q)
+both_ok (Err e) P Q ok p q = let o : false ≡ true = ok in cc
+
+-- the lists that were served, and one more
+lists_more : {P : Type 0} (may : P → AllowRelation) (all : List (Served P)) (s : Served P) (ds : List (Duty P)) (old now new : Option (List ℕ)) → WritesLists may ds all old now
+    → IsServed may s.duty s.outcomes s.text → Appends now new s.text → WritesLists may (ds ++ s.duty ∷ []) (all ++ s ∷ []) old new
+lists_more {P} may all s ds old now new (same, are, out) is more = (
+  duties_behind all s ds same,
+  All-append (λ (x : Served P). IsServed may x.duty x.outcomes x.text) all (s ∷ []) are
+      (All-cons (λ (x : Served P). IsServed may x.duty x.outcomes x.text) s [] is (All-nil (λ (x : Served P). IsServed may x.duty x.outcomes x.text))),
+  subst (λ (l : List ℕ). Appends old new l) (sym (texts_behind all s)) (appends_both old now new (texts_in all) s.text out more),
+)
+
+-- the same, of which a beginning went out
+begins_served : {P : Type 0} (may : P → AllowRelation) (all : List (Served P)) (s : Served P) (ds : List (Duty P)) (old now new : Option (List ℕ)) → WritesLists may ds all old now
+    → IsServed may s.duty s.outcomes s.text → AppendsBeginning now new s.text → BeginsLists may (ds ++ s.duty ∷ []) old new
+begins_served {P} may all s ds old now new (same, are, out) is more = (
+  all ++ s ∷ [],
+  [],
+  [],
+  append-nil (duties_in (all ++ s ∷ [])) ∙ duties_behind all s ds same,
+  All-append (λ (x : Served P). IsServed may x.duty x.outcomes x.text) all (s ∷ []) are
+      (All-cons (λ (x : Served P). IsServed may x.duty x.outcomes x.text) s [] is (All-nil (λ (x : Served P). IsServed may x.duty x.outcomes x.text))),
+  refl,
+  subst (λ (l : List ℕ). AppendsBeginning old new l) (sym (append-nil (texts_in (all ++ s ∷ [])) ∙ texts_behind all s))
+      (begins_after old now new (texts_in all) s.text out more),
+)
+
+begins_next : {P : Type 0} (may : P → AllowRelation) (all : List (Served P)) (d : Duty P) (text : List ℕ) (ds : List (Duty P)) (old now new : Option (List ℕ)) → WritesLists may ds all old now
+    → IsBegun may d text → AppendsBeginning now new text → BeginsLists may (ds ++ d ∷ []) old new
+begins_next may all d text ds old now new (same, are, out) is more = (
+  all,
+  d ∷ [],
+  text,
+  ap (λ l. l ++ d ∷ []) same,
+  are,
+  inr is,
+  begins_after old now new (texts_in all) text out more,
+)
+
+-- a list that was joined, of which a beginning went out
+begins_one : {P : Type 0} (may : P → AllowRelation) (all : List (Served P)) (d : Duty P) (whole : Bool) (o : Output) (ds : List (Duty P)) (old now new : Option (List ℕ)) → WritesLists may ds all old now
+    → CameBy whole may d o → AppendsBeginning now new o.text.items → BeginsLists may (ds ++ d ∷ []) old new
+begins_one may all d true o ds old now new lists came out =
+    begins_served may all (record { duty = d; outcomes = came.0; text = o.text.items }) ds old now new lists came.1 out
+begins_one may all d false o ds old now new lists came out = begins_next may all d o.text.items ds old now new lists came out
+
+not_ok : {E : Type 0} (e : E) → IsOk {T = Unit {0}} (Err e) → ⊥
+not_ok e ok = let o : false ≡ true = ok in cc
+
+ok_not_err : {V E : Type 0} (v : V) (e : E) → Ok v ≡ Err e → ⊥
+ok_not_err v e same = cc
+
+not_true : IsTrue false → ⊥
+not_true is = let o : false ≡ true = is in cc
+
+count_more : (most a b l0 lost l1 : ℕ) → l1 ≡ min (l0 + lost) most → l0 ≡ min a most → lost ≡ min b most → l1 ≡ min (a + b) most
+count_more most a b l0 lost l1 is before more = omega (arith, is, before, more)
+
+-- a list was joined, and all went well
+joins_well : {P : Type 0} (may : P → AllowRelation) (ds : List (Duty P)) (d : Duty P) (o : Output) (a0 a1 : List ℕ) (l0 l1 : ℕ) (old now new : Option (List ℕ))
+    → Joins may ds a0 l0 old now (Ok tt) → Appends now new o.text.items → IfOk o.audit (λ more. a1 ≡ a0 ++ more.items) → IsOk o.audit
+    → l1 ≡ counted (l0 + o.lost) → CameBy true may d o → Joins may (ds ++ d ∷ []) a1 l1 old new (Ok tt)
+joins_well {P} may ds d o a0 a1 l0 l1 old now new (all, lists, audit, count) out more ok lost came =
+    let s : Served P = record { duty = d; outcomes = came.0; text = o.text.items } in
+    let both = both_ok o.audit (λ a. a1 ≡ a0 ++ a.items) (λ a. a.items ≡ audit_lines d.part.types.now came.0) ok more came.2 in (
+      all ++ s ∷ [],
+      lists_more may all s ds old now new lists came.1 out,
+      both.1 ∙ ap (λ (l : List ℕ). l ++ both.0.items) audit ∙ ap (λ (l : List ℕ). audits_in all ++ l) both.2 ∙ sym (audits_behind all s),
+      count_more (2 ^ 64 - 1) (all_lost all) (lost_in came.0) l0 o.lost l1 lost count came.3 ∙ sym (ap counted (all_lost_behind all s)),
+    )
+
+-- what is known of all threads that were joined, where one more is
+joins_on : {P : Type 0} (may : P → AllowRelation) (ds : List (Duty P)) (d : Duty P) (whole : Bool) (o : Output) (a0 a1 : List ℕ) (l0 l1 : ℕ) (r0 r1 r2 : Result (Unit {0}) RunFault)
+    (old now new : Option (List ℕ))
+    → Joins may ds a0 l0 old now r0
+    → WritesNext r0 whole o.text.items now new r1
+    → OnOk r2 (IsOk r1 × IfOk o.audit (λ more. a1 ≡ a0 ++ more.items) × IsOk o.audit)
+    → IfErr r2 (λ e. (r1 ≡ Err e) ⊎ (e ≡ out_of_memory))
+    → l1 ≡ counted (l0 + o.lost) → CameBy whole may d o
+    → Joins may (ds ++ d ∷ []) a1 l1 old new r2
+joins_on may ds d whole o a0 a1 l0 l1 r0 (Err f) (Ok x) old now new i w k e lost came = absurd (not_ok f k.0)
+joins_on may ds d whole o a0 a1 l0 l1 (Err f) (Ok c) (Ok x) old now new i w k e lost came = absurd (ok_not_err c f w.0)
+joins_on may ds d false o a0 a1 l0 l1 (Ok b) (Ok c) (Ok x) old now new i w k e lost came = absurd (not_true w.0)
+joins_on may ds d true o a0 a1 l0 l1 (Ok b) (Ok c) (Ok x) old now new i w k e lost came =
+    joins_well may ds d o a0 a1 l0 l1 old now new i w.1 k.1 k.2 lost came
+joins_on may ds d whole o a0 a1 l0 l1 (Err f) r1 (Err g) old now new i w k e lost came = (late_after r1 f g i.0 w.0 e, begins_more may ds d old now new i.1 w.1)
+joins_on may ds d whole o a0 a1 l0 l1 (Ok b) (Ok c) (Err g) old now new (all, lists, audit, count) w k e lost came =
+    (late_now (Ok c) c g refl e, begins_one may all d whole o ds old now new lists came (begins_whole now new o.text.items w.1))
+joins_on may ds d whole o a0 a1 l0 l1 (Ok b) (Err f) (Err g) old now new (all, lists, audit, count) w k e lost came =
+    (late_after (Err f) f g w.0 refl e, begins_one may all d whole o ds old now new lists came w.1)
+
+pub joins_more : {A P : Type 0} (may : P → AllowRelation) (duty : A → Duty P) (hs : List A) (h : A) (o : Output) (a0 a1 : List ℕ) (l0 l1 : ℕ) (r0 r1 r2 : Result (Unit {0}) RunFault)
+    (old now new : Option (List ℕ))
+    → Joins may (map duty hs) a0 l0 old now r0
+    → WritesNext r0 o.whole o.text.items now new r1
+    → OnOk r2 (IsOk r1 × IfOk o.audit (λ more. a1 ≡ a0 ++ more.items) × IsOk o.audit)
+    → IfErr r2 (λ e. (r1 ≡ Err e) ⊎ (e ≡ out_of_memory))
+    → l1 ≡ counted (l0 + o.lost) → CameBy o.whole may (duty h) o
+    → Joins may (map duty (hs ++ h ∷ [])) a1 l1 old new r2
+joins_more may duty hs h o a0 a1 l0 l1 r0 r1 r2 old now new i w k e lost came =
+    subst (λ l. Joins may l a1 l1 old new r2) (sym (map-append duty hs (h ∷ [])))
+    (joins_on may (map duty hs) (duty h) o.whole o a0 a1 l0 l1 r0 r1 r2 old now new i w k e lost came)
+
+-- before the first thread is joined
+pub joins_none : {P : Type 0} (may : P → AllowRelation) (old : Option (List ℕ)) (audit : List ℕ) → audit ≡ [] → Joins may [] audit 0 old old (Ok tt)
+joins_none may None audit none = ([], (refl, All-nil _, tt), none, refl)
+joins_none may (Some xs) audit none = ([], (refl, All-nil _, sym (append-nil xs)), none, refl)
+
+-- a fault that came late
+late_wrote : {P : Type 0} (may : P → AllowRelation) (ds : List (Duty P)) (e : RunFault) (old new : Option (List ℕ)) → IsLate e → BeginsLists may ds old new ⊎ BeginsWhole may ds old new
+    → WroteLists may ds old new (Err e)
+late_wrote may ds e old new (inl memory) begun = subst (λ (f : RunFault). WroteLists may ds old new (Err f)) (sym memory) begun
+late_wrote may ds e old new (inr write) begun = subst (λ (f : RunFault). WroteLists may ds old new (Err f)) (sym write) begun
+
+-- a fault stopped the threads' lines
+pub wrote_lines : {P : Type 0} (may : P → AllowRelation) (ds : List (Duty P)) (all : Bool) (r : Result (Unit {0}) RunFault) (e : RunFault) (audit : List ℕ) (lost : ℕ) (old new : Option (List ℕ))
+    → r ≡ Err e → all ≡ true → Joins may ds audit lost old new r → WroteStarted may all ds old new (Err e)
+wrote_lines may ds all r e audit lost old new is given joined =
+    let j = subst (λ (q : Result (Unit {0}) RunFault). Joins may ds audit lost old new q) is joined in
+    subst (λ (b : Bool). WroteStarted may b ds old new (Err e)) (sym given) (late_wrote may ds e old new j.0 (inl j.1))
+
+-- the audit lines went out too, or a beginning of them
+wrote_end : {P : Type 0} (may : P → AllowRelation) (ds : List (Duty P)) (all : List (Served P)) (r : Result (Unit {0}) RunFault) (audit : List ℕ) (lost : ℕ) (old now new : Option (List ℕ))
+    → WritesLists may ds all old now → audit ≡ audits_in all → lost ≡ counted (all_lost all)
+    → OnOk r (Appends now new (audit ++ lost_text lost)) → AppendsBeginning now new (audit ++ lost_text lost) → IfErr r IsLate → WroteLists may ds old new r
+wrote_end may ds all (Ok done) audit lost old now new (same, are, out) a l end begun late =
+    let tail : audit ++ lost_text lost ≡ audits_in all ++ lost_text (counted (all_lost all)) = ap (λ (x : List ℕ). x ++ lost_text lost) a ∙ ap (λ (n : ℕ). audits_in all ++ lost_text n) l in
+    (all, same, are, appends_both old now new (texts_in all) _ out (subst (λ (x : List ℕ). Appends now new x) tail end))
+wrote_end may ds all (Err e) audit lost old now new (same, are, out) a l end begun late =
+    let tail : audit ++ lost_text lost ≡ audits_in all ++ lost_text (counted (all_lost all)) = ap (λ (x : List ℕ). x ++ lost_text lost) a ∙ ap (λ (n : ℕ). audits_in all ++ lost_text n) l in
+    late_wrote may ds e old new late (inr (all, same, are, begins_after old now new (texts_in all) _ out (subst (λ (x : List ℕ). AppendsBeginning now new x) tail begun)))
+
+pub wrote_all : {P : Type 0} (may : P → AllowRelation) (ds : List (Duty P)) (all : Bool) (r0 r : Result (Unit {0}) RunFault) (d : Unit {0}) (audit : List ℕ) (lost : ℕ) (old now new : Option (List ℕ))
+    → r0 ≡ Ok d → all ≡ true → Joins may ds audit lost old now r0 → OnOk r (Appends now new (audit ++ lost_text lost)) → AppendsBeginning now new (audit ++ lost_text lost)
+    → IfErr r IsLate → WroteStarted may all ds old new r
+wrote_all may ds all r0 r d audit lost old now new was given joined out begun late =
+    let j = subst (λ (q : Result (Unit {0}) RunFault). Joins may ds audit lost old now q) was joined in
+    subst (λ (b : Bool). WroteStarted may b ds old new r) (sym given) (wrote_end may ds j.0 r audit lost old now new j.1 j.2 j.3 out begun late)
+
+-- what duties wrote of which this is known
+wrote_of : {P : Type 0} (may : P → AllowRelation) (Are : List (Duty P) → Type 0) (ds : List (Duty P)) (r : Result (Unit {0}) RunFault) (old new : Option (List ℕ)) → Are ds → WroteLists may ds old new r
+    → Wrote may Are old new r
+wrote_of may Are ds (Ok done) old new are wrote = (ds, are, wrote)
+wrote_of may Are ds (Err Thread) old new are wrote = wrote
+wrote_of may Are ds (Err (Play plays.Memory)) old new are wrote = inr (ds, are, wrote)
+wrote_of may Are ds (Err (Play plays.Write)) old new are wrote = (ds, are, wrote)
+wrote_of may Are ds (Err (Play plays.Read)) old new are wrote = absurd wrote
+wrote_of may Are ds (Err (Play (plays.Script fault))) old new are wrote = absurd wrote
+wrote_of may Are ds (Err (Play (plays.Policy fault))) old new are wrote = absurd wrote
+
+-- the threads that were started are those of these duties, where all were
+pub wrote_started : {P : Type 0} (may : P → AllowRelation) (Are : List (Duty P) → Type 0) (all : Bool) (hs : List (Duty P)) (r : Result (Unit {0}) RunFault) (old new : Option (List ℕ))
+    → (IsTrue all → Are hs) → WroteStarted may all hs old new r → Wrote may Are old new r
+wrote_started may Are true hs r old new are wrote = wrote_of may Are hs r old new (are refl) wrote
+wrote_started may Are false hs r old new are wrote = subst (λ (q : Result (Unit {0}) RunFault). Wrote may Are old new q) (sym wrote.0) wrote.1
+
+-- more is known of the duties
+pub wrote_as : {P : Type 0} (may : P → AllowRelation) (Are Be : List (Duty P) → Type 0) (r : Result (Unit {0}) RunFault) (old new : Option (List ℕ)) → ((ds : List (Duty P)) → Are ds → Be ds)
+    → Wrote may Are old new r → Wrote may Be old new r
+wrote_as may Are Be (Ok done) old new f (ds, are, wrote) = (ds, f ds are, wrote)
+wrote_as may Are Be (Err Thread) old new f wrote = wrote
+wrote_as may Are Be (Err (Play plays.Memory)) old new f (inl kept) = inl kept
+wrote_as may Are Be (Err (Play plays.Memory)) old new f (inr (ds, are, wrote)) = inr (ds, f ds are, wrote)
+wrote_as may Are Be (Err (Play plays.Write)) old new f (ds, are, wrote) = (ds, f ds are, wrote)
+wrote_as may Are Be (Err (Play plays.Read)) old new f wrote = absurd wrote
+wrote_as may Are Be (Err (Play (plays.Script fault))) old new f wrote = absurd wrote
+wrote_as may Are Be (Err (Play (plays.Policy fault))) old new f wrote = absurd wrote
+
+-- no memory, and nothing was written yet
+pub wrote_none : {P : Type 0} (may : P → AllowRelation) (Are : List (Duty P) → Type 0) (e : RunFault) (old : Option (List ℕ)) → e ≡ out_of_memory → Wrote may Are old old (Err e)
+wrote_none may Are e old is = subst (λ (f : RunFault). Wrote may Are old old (Err f)) (sym is) (inl (keeps_same old))
+
+-- one domain more stands beside its monitor
+pub stands_on : {P : Type 0} (m : Monitor P) (before after whole : List (Stand P)) (d : Domain) (s : Stand P) (more rest : List Domain) → after ≡ before ++ s ∷ [] → s ≡ record { monitor = m; domain = d }
+    → more ≡ d ∷ rest → before ++ map (λ x. record { monitor = m; domain = x }) more ≡ whole → after ++ map (λ x. record { monitor = m; domain = x }) rest ≡ whole
+stands_on {P} m before after whole d s more rest is of_d next all =
+    ap (λ (l : List (Stand P)). l ++ map (λ x. record { monitor = m; domain = x }) rest) (is ∙ ap (λ (x : Stand P). before ++ x ∷ []) of_d)
+    ∙ append_assoc before (record { monitor = m; domain = d } ∷ []) (map (λ x. record { monitor = m; domain = x }) rest)
+    ∙ ap (λ (l : List Domain). before ++ map (λ x. record { monitor = m; domain = x }) l) (sym next) ∙ all
+
+-- the domains of a new monitor are ready for the parts of its configuration
+stand_at : {P : Type 0} (may : P → AllowRelation) (m : Monitor P) (ds : List Domain) (parts : List Part) → length ds ≡ length parts
+    → ((i : ℕ) → i < length ds → (d : Domain) (p : Part) → IsFirst may m (get_or parts i p).dom (get_or ds i d))
+    → AreReady may m (map (λ d. record { monitor = m; domain = d }) ds) parts
+stand_at may m [] [] same at = tt
+stand_at may m [] (p ∷ parts) same at = absurd (omega (arith, same))
+stand_at may m (d ∷ ds) [] same at = absurd (omega (arith, same))
+stand_at may m (d ∷ ds) (p ∷ parts) same at = (
+  (refl, at 0 (omega arith) d p),
+  stand_at may m ds parts (omega (arith, same)) (λ i within e q. at (suc i) (omega (arith, within)) e q),
+)
+
+-- a domain at its position has the number of the part there
+first_at : {P : Type 0} (may : P → AllowRelation) (m : Monitor P) (domains : List DomainConfig) (parts : List Part) (i : ℕ) (d : Domain) (p : Part) → map (λ (x : Part). x.dom) parts ≡ map (λ (x : DomainConfig). x.id) domains
+    → m.words.layout.ids ≡ map (λ (x : DomainConfig). x.id) domains → i < length parts → IsNewDomain m.words m.config (may m.rights) i d → IsFirst may m (get_or parts i p).dom d
+first_at may m domains parts i d p same ids within new =
+    record {
+      position = i;
+      fresh = new;
+      own = sym new.domain.seat.named ∙ ap (λ (n : ℕ). id_at m.words.layout.ids n) new.seat.position ∙ ap (λ (l : List DomId). id_at l i) (ids ∙ sym same)
+          ∙ get_or-map (λ (x : Part). x.dom) parts i p (record { 0 = 0 }) within;
+    }
+
+pub ready_all : {P : Type 0} (may : P → AllowRelation) (m : Monitor P) (config : Config) (rights : P) (domains : List Domain) (stands : List (Stand P)) (parts : List Part)
+    → map (λ (x : Part). x.dom) parts ≡ map (λ (x : DomainConfig). x.id) config.domains.items → m.config ≡ config → m.rights ≡ rights → length domains ≡ length config.domains.items
+    → ((i : ℕ) → i < length config.domains.items → HoldsAt (λ d. IsNewDomain m.words config (may rights) i d) domains i)
+    → stands ≡ map (λ d. record { monitor = m; domain = d }) domains → AreReady may m stands parts
+ready_all {P} may m config rights domains stands parts same is allows count new are =
+    let many : length parts ≡ length config.domains.items = sym (length-map parts (λ (x : Part). x.dom)) ∙ ap length same ∙ length-map config.domains.items (λ (x : DomainConfig). x.id) in
+    subst (λ l. AreReady may m l parts) (sym are) (stand_at may m domains parts (count ∙ sym many) (λ i within d p.
+    first_at may m config.domains.items parts i (get_or domains i d) p same
+    (ap (λ (k : Layout). k.ids) m.same_run ∙ ap (λ (x : Config). map (λ (y : DomainConfig). y.id) x.domains.items) is) (omega (arith, within, count, many))
+    (subst (λ (x : Config). IsNewDomain m.words x (may m.rights) i (get_or domains i d)) (sym is)
+    (subst (λ (x : P). IsNewDomain m.words config (may x) i (get_or domains i d)) (sym allows) (new i (omega (arith, within, count)) d)))))
