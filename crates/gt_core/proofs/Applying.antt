@@ -1,7 +1,6 @@
 -- What a step leaves of the states, as a call of a slice tells it.
 use Rattle.gt_core.proofs.Words.{◌≡◌, ◌++◌, ℕ, refl, List, length, take, drop, ap, ◌∙◌, arith, append-nil, take_all, drop_all, DomId, Step, PinStep, Unpin, StoreBody, StoreHeader, Exchange, Seen, Taken, Unpinned, Stored, State, changed_in, applied, with_slot, with_own, with_header, without_mapping}
-use Rattle.gt_core.specs.declared.pin_counts.CountsChange.TheVariants.{Pinned}
-use Rattle.gt_core.proofs.Rows.{length-changed_in}
+use Rattle.gt_core.{specs.declared.pin_counts.CountsChange.TheVariants.Pinned, proofs.Rows.length-changed_in}
 
 length-applied : (d : DomId) (step : Step) (seen : Seen) (xs : List State) → length (applied d step seen xs) ≡ length xs
 length-applied d (PinStep p) Taken xs = length-changed_in xs p.dom.0 (with_slot p.gref.0 (Pinned p.dir))

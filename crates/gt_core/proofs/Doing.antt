@@ -4,8 +4,7 @@ use Rattle.std.proofs.Common.{is_none}
 use Rattle.gt_calls.specs.Path.{by_mapping}
 use Rattle.gt_calls.specs.declared.request.Request.TheVariants as requests
 use Rattle.gt_core.specs.declared.trace.Answer.TheVariants as answers
-use Rattle.gt_core.specs.History.{frame_of}
-use Rattle.gt_core.proofs.Pins.{word-bare, mapping-bare, known-bare, bare, bare_asked, bare_call, asked-bare, open-bare, values-bare, table-bare, body-bare, maps-bare, contents-bare, CallKnown, open-known, NamesAsked, only-path}
+use Rattle.gt_core.{specs.History.frame_of, proofs.Pins.word-bare, proofs.Pins.mapping-bare, proofs.Pins.known-bare, proofs.Pins.bare, proofs.Pins.bare_asked, proofs.Pins.bare_call, proofs.Pins.asked-bare, proofs.Pins.open-bare, proofs.Pins.values-bare, proofs.Pins.table-bare, proofs.Pins.body-bare, proofs.Pins.maps-bare, proofs.Pins.contents-bare, proofs.Pins.CallKnown, proofs.Pins.open-known, proofs.Pins.NamesAsked, proofs.Pins.only-path}
 
 -- paths
 

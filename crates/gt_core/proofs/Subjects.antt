@@ -1,7 +1,6 @@
 -- The entry of a mapping, as the core finds it, is that of the history.
 use Rattle.gt_core.proofs.Words.{◌≡◌, ◌≢◌, ℕ, Bool, true, List, Option, Some, None, cond, refl, sym, ap, ◌∙◌, get_or, position, domain_of, DomId, DomainConfig, Handle, value_of, Held, State, History, Setting, mapping_of, mappings_at, DomainsStand, place_of, subject_at}
-use Rattle.std.proofs.Common.{is_some}
-use Rattle.std.specs.Prelude.{option_map}
+use Rattle.std.{proofs.Common.is_some, specs.Prelude.option_map}
 use Rattle.gt_core.proofs.Beginning.{begin-nowhere, agrees-found, has_id}
 
 -- no domain has the number
