@@ -1,6 +1,6 @@
 -- A map goes on as its call does.
-use Rattle.gt_calls.proofs.Words.{◌≡◌, ℕ, refl, ap, Some, None, DomId, GrantRef, Seen, Nothing, Walking, Mapping, Leg, LegNext, Going, Refused, Pinned, Header, Map, after_leg, leg_after, map_leg, CallerKnowledge}
-use Rattle.gt_calls.{specs.declared.mapping.MapCall.MapCall, specs.MapCalls.BeginsAs, specs.MapCalls.GoesOnAs, proofs.Advancing.goes}
+use Rattle.gt_calls.proofs.Words.{◌≡◌, ℕ, refl, ap, Some, None, DomId, GrantRef, Seen, Nothing, Walking, Mapping, Leg, LegNext, Going, Refused, Pinned, Header, Map, after_leg, leg_after, map_leg, CallerKnowledge, MapCall, BeginsAs, GoesOnAs}
+use Rattle.gt_calls.proofs.Advancing.{goes}
 
 pub map-begins : (k : CallerKnowledge) (caller dom : DomId) (gref : GrantRef) (flags : ℕ) (leg : Leg)
     → leg ≡ map_leg k caller dom gref flags

@@ -1,8 +1,8 @@
 -- The handles that domains were answered: each serial once, and each mapping under one of them.
 use Rattle.gt_core.proofs.Words.{◌≡◌, ◌≤◌, ◌<◌, ◌+◌, inl, inr, ℕ, refl, Bool, true, false, List, [], ◌∷◌, ◌++◌, Option, Some, None, cond, sym, ap, ◌∙◌, subst, arith, ◌==◌, ◌&&◌, eqb-true, eq-eqb, none-some, DomId, Denial, Handle, END_OF_SERIALS, Asked, Holder, ByMapping, ByLeg, Held, Seen, Taken, Step, LookHeader, PinStep, Unpin, StoreHeader, Makes, Verdict, asked, begun_of, opens, CallerKnowledge, begun, Continuation, path, after_beginning, steps_of, IsMapping, Answer, Happened, Began, Stepped, Item, History, Setting, Underway, Pin, live, without, is_holder, same_handle, pinned_by, unpinned_by, open_call, underway_after, underway_with, maps_answered_at, one_if_mapped, known_at, values, IsRight, StepsRightIn, AnsweredBy, GivesValue, gives_back, verdict_in, stood, bare_handle, IsGiven, IsKnown, AsksKnown, HappensKnown, IsRun, cond_both}
+use Rattle.gt_core.proofs.Makers.{only-path, done-makes}
 use Rattle.gt_calls.specs.declared.request.Asked.TheVariants as requests
 use Rattle.gt_core.specs.declared.trace.Answer.TheVariants as answers
-pub use Rattle.gt_core.proofs.Makers.{only-path, done-makes, NamesAsked}
 
 -- a map that is answered
 

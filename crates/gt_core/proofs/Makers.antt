@@ -1,8 +1,8 @@
 -- The only step that names the handle of a mapping is that of an unmap, and it names the handle asked.
 use Rattle.gt_core.proofs.Words.{◌≡◌, ℕ, zero, suc, refl, Bool, true, false, List, [], ◌∷◌, ◌++◌, length, Option, Some, None, cond, subst, nat_lt, ◌==◌, none-some, same_Some, DomId, GrantRef, Rule, Denial, Entry, Sub, Via, KindSub, control_of, header_of, Change, Publish, ToInvalid, ToReadOnly, ToWritable, MORE_TRIES, Leg, Held, Route, Through, CopyArgs, Asked, ByMapping, ByLeg, Seen, Nothing, Word, Taken, Missed, Step, LookHeader, LookControl, Unpin, Exchange, Makes, Done, Verdict, Granted, Refused, held_by, CallerKnowledge, begun, first_look, is_kind, size_of, via_judged, is_source_granted, is_dest_granted, Continuation, ended, makes, held_of, rule_of_try, entry_refusal, is_stopped, steps_of, after_beginning, path, second_leg, map_leg, source_pair, dest_pair, AfterRefusal, AfterPin, nowhere, looks, exchanges, give_back, at_first_look, last_step, reads_second, reads_body, try_pin, tries, leg, unless_refused, beyond, reaches, accesses, to_dest, copies, turn, turns, busy, exchanges_once, after_first, refused_holding, cond_both}
-use Rattle.gt_calls.specs.declared.request.Asked.TheVariants as requests
 use Rattle.gt_calls.specs.{declared.action.Step.TheVariants.Pin, declared.action.Verdict.TheVariants.Mapped, Path.by_mapping}
 use Rattle.gt_core.proofs.Phases.{makes-same}
+use Rattle.gt_calls.specs.declared.request.Asked.TheVariants as requests
 
 -- a step that names the handle of a mapping is an unmap's, of the handle asked
 abbrev pub NamesAsked : Asked → Step → Type 0

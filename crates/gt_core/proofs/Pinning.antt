@@ -1,8 +1,7 @@
 -- A pin that was taken keeps what a core stands for.
 use Rattle.gt_core.proofs.Words.{◌≡◌, ◌≢◌, ◌<◌, ◌+◌, ℕ, refl, Bool, true, false, List, [], ◌∷◌, ◌++◌, length, Option, Some, cond, sym, ap, ◌∙◌, arith, subst, ◌==◌, ◌&&◌, All, count_by, eqb-true, eq-eqb, and_parts, and_from, false≢true, true≢false, All-push, append-nil, DomId, Dir, Read, Write, MAX_PINS, Invalid, FirstHalf, SecondHalf, HandleMap, Handle, Held, Holder, ByLeg, PinStep, Taken, PinCounts, Open, Item, Answer, Mapped, changed_at, State, state_of, changed_in, with_slot, slot_after, Adds, History, Setting, Pin, live, entry_at, body_at, reads_at, writes_at, mappings_at, maps_answered_at, legs_at, open_call, is_pin_on, same_dir, gather, by_mapping, by_leg, holder_after, one_if_mapped, IsLawful, SlotAgrees, Agrees, DomainsStand, CallAgrees, GivenAgrees, MappingsAgree, sum_by_push}
 use Rattle.std.specs.Prelude.{min}
-use Rattle.gt_core.specs.declared.pin_counts.CountsChange.TheVariants.{Pinned}
-pub use Rattle.gt_core.proofs.Keeping.{answered-stays, stepped, SlotsAgree, KeepsEntries, same-body, slots-agree, counts-fit, becomes-changed, slots-stand, keeps-stands, same-number, open_call-own, quiet-stands, KeepsKnown, IsStore, IsHere, makes-same, by-giving, mappings-added, mappings-same, gather-append, after_change, Becomes, less, mappings-taken, state-changed}
+use Rattle.gt_core.{specs.declared.pin_counts.CountsChange.TheVariants.Pinned, proofs.Quiet.answered-stays, proofs.Keeping.stepped, proofs.Keeping.SlotsAgree, proofs.Keeping.KeepsEntries, proofs.Keeping.same-body, proofs.Keeping.slots-agree, proofs.Keeping.counts-fit, proofs.Keeping.becomes-changed, proofs.Keeping.slots-stand, proofs.Keeping.keeps-stands, proofs.Keeping.same-number, proofs.Mappings.mappings-added, proofs.Mappings.mappings-same, proofs.Others.gather-append}
 
 abbrev pub pins_at : History → ℕ → ℕ → Dir → ℕ
 pins_at h t r Read = reads_at h t r

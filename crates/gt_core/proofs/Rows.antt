@@ -1,6 +1,5 @@
 -- A change of one element of a list, and of the first state with a number.
-use Rattle.gt_core.proofs.Words.{◌≡◌, ◌<◌, ◌≤◌, ◌+◌, ℕ, zero, suc, refl, Bool, true, false, List, [], ◌∷◌, length, Option, Some, None, cond, sym, ap, ◌∙◌, arith, get_or, set, eqb-true, eq-eqb, true≢false, position-Some, position, slice_get, ◌==◌, not, position_or_len, option_map, changed_at, State, state_of, changed_in, cond_both}
-use Rattle.std.proofs.Math.Dec.{eqb-suc-suc, eqb-suc-zero, eqb-zero-suc}
+use Rattle.gt_core.proofs.Words.{◌≡◌, ◌<◌, ◌≤◌, ◌+◌, ℕ, zero, suc, refl, Bool, true, false, List, [], ◌∷◌, length, Option, Some, None, cond, sym, ap, ◌∙◌, arith, get_or, set, eqb-true, eq-eqb, true≢false, position-Some, position, slice_get, ◌==◌, not, position_or_len, option_map, changed_at, State, state_of, changed_in, cond_both, eqb-suc-suc, eqb-suc-zero, eqb-zero-suc}
 use Rattle.gt_core.proofs.Places.{has_id, none-place}
 
 -- a write of the changed element

@@ -1,6 +1,6 @@
 -- What the core shows of an entry is what the history left.
 use Rattle.gt_core.proofs.Words.{◌≡◌, ◌<◌, ◌≤◌, ℕ, zero, suc, refl, Bool, true, false, List, [], ◌∷◌, length, Option, Some, None, cond, sym, ap, ◌∙◌, arith, subst, get_or, lt-ltb, nat_lt, ◌&&◌, is_some, slice_get, position, domain_of, DomId, TABLE_ENTRIES, DomainConfig, Entry, Header, Own, PinCounts, size_of, row_entry, row_generation, State, History, Setting, entry_at, generation_at, reads_at, writes_at, table_at, shown_at, Agrees, DomainsStand, shown_in, le-ltb}
-use Rattle.gt_core.proofs.{Fitting.table-fits, Beginning.begin-nowhere, Beginning.agrees-found, Beginning.has_id}
+use Rattle.gt_core.proofs.{Fitting.table-fits, Beginning.begin-nowhere, Beginning.agrees-found, Places.has_id}
 
 -- no domain has the number
 pub shown-nowhere : (s : Setting) (h : History) (xs : List State) (dom : DomId) (r : ℕ) → position (has_id dom.0) xs ≡ None → DomainsStand s h xs → None ≡ shown_at s h dom r

@@ -1,7 +1,7 @@
 -- The entry of a mapping, as the core finds it, is that of the history.
 use Rattle.gt_core.proofs.Words.{◌≡◌, ◌≢◌, ℕ, Bool, true, List, Option, Some, None, cond, refl, sym, ap, ◌∙◌, get_or, position, domain_of, DomId, DomainConfig, Handle, value_of, Held, State, History, Setting, mapping_of, mappings_at, DomainsStand, place_of, subject_at}
 use Rattle.std.{proofs.Common.is_some, specs.Prelude.option_map}
-use Rattle.gt_core.proofs.Beginning.{begin-nowhere, agrees-found, has_id}
+use Rattle.gt_core.proofs.{Beginning.begin-nowhere, Beginning.agrees-found, Places.has_id}
 
 -- no domain has the number
 pub subject-nowhere : (s : Setting) (h : History) (xs : List State) (dom : DomId) (handle : Handle) → position (has_id dom.0) xs ≡ None → DomainsStand s h xs → None ≡ subject_at s h dom handle

@@ -1,7 +1,6 @@
 -- Runs that are alike stay so.
 use Rattle.gt_core.proofs.Words.{◌≡◌, ◌⊎◌, inl, inr, List, ◌∷◌, Option, sym, ap, ◌∙◌, subst, DomId, asked, Answer, Event, Begin, Tick, Happened, Began, Stepped, Item, Element, Did, History, Setting, MayDo, IsRight, grown, bare_event, told_item, told_items, ToldItem, SameHistory, AsksKnown, IsOfKnown, HappensKnown, IsRun, AreAlike, IsOf, SameEvent, SameElement}
-use Rattle.gt_core.proofs.Bare.{bare, bare-same}
-pub use Rattle.gt_core.proofs.Doing.{element_told, doing, does, does-bare}
+use Rattle.gt_core.proofs.{Bare.bare, Bare.bare-same, Doing.element_told, Doing.doing, Doing.does, Doing.does-bare}
 
 inr-same : (a b : ToldItem) → ◌≡◌ {A = Element ⊎ ToldItem} (inr a) (inr b) → a ≡ b
 inr-same a b e = cc
