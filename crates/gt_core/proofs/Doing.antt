@@ -1,8 +1,8 @@
 -- What an event does after a history, but for keys, is a function of the history; and it is the same without keys.
-use Rattle.gt_core.proofs.Words.{◌≡◌, ◌≢◌, ◌⊎◌, inl, inr, ℕ, refl, Bool, false, List, [], ◌∷◌, ◌++◌, length, Option, Some, None, sym, ap, ◌∙◌, subst, take, drop, option_map, none-some, same_Some, domain_of, DomId, DomainConfig, Denial, N6, MAX_TABLE_FRAMES, Header, header_word, Handle, asked, begun_of, CallerKnowledge, first, refused_when, unmap_denied, Continuation, path, ended, makes, after_beginning, Held, Request, Asked, Map, Unmap, Load, Store, Peek, SetupTable, QuerySize, GetVersion, Holder, ByMapping, Seen, Nothing, Word, Step, LookHeader, LookControl, LookBody, PinStep, Unpin, StoreHeader, Exchange, ReadBytes, WriteBytes, Action, Makes, Verdict, Granted, Answer, Event, Begin, Tick, Happened, Began, Stepped, Item, Element, Busy, Idle, NoDomain, Did, History, Setting, Underway, open_call, values, known_at, seen_by, exchange_sees, table_at, maps_answered_at, contents_at, mappings_at, mapping_of, MayDo, IsRight, StepsRight, StepsRightIn, AnsweredBy, GivesValue, refusal_of, refusal_in, verdict_in, gives_back, stood, bare_handle, bare_request, bare_event, bare_step, told, told_item, ToldItem, AsksKnown, IsOfKnown, IsRun, unmap_begun, load_begun, store_begun, Ends, BeginsRight}
+use Rattle.gt_core.proofs.Words.{◌≡◌, ◌≢◌, ◌⊎◌, inl, inr, ℕ, refl, Bool, false, List, [], ◌∷◌, ◌++◌, length, Option, Some, None, sym, ap, ◌∙◌, subst, take, drop, option_map, none-some, same_Some, domain_of, DomId, DomainConfig, Denial, N6, MAX_TABLE_FRAMES, Header, header_word, Handle, asked, begun_of, CallerKnowledge, first, refused_when, unmap_denied, path, after_beginning, Held, Request, Asked, Map, Unmap, Load, Store, Peek, SetupTable, QuerySize, GetVersion, Holder, ByMapping, Seen, Word, Step, LookHeader, LookControl, LookBody, PinStep, Unpin, StoreHeader, Exchange, ReadBytes, WriteBytes, Action, Makes, Verdict, Answer, Event, Begin, Tick, Happened, Began, Stepped, Item, Element, Busy, Idle, NoDomain, Did, History, Setting, Underway, open_call, values, known_at, seen_by, exchange_sees, table_at, maps_answered_at, contents_at, mappings_at, mapping_of, MayDo, IsRight, StepsRight, StepsRightIn, AnsweredBy, GivesValue, refusal_of, refusal_in, verdict_in, gives_back, stood, bare_handle, bare_request, bare_event, bare_step, told, told_item, ToldItem, AsksKnown, IsOfKnown, IsRun, unmap_begun, load_begun, store_begun, Ends, BeginsRight}
 use Rattle.std.proofs.Common.{is_none}
 use Rattle.gt_calls.specs.Path.{by_mapping}
-use Rattle.gt_core.{specs.History.frame_of, proofs.Pins.word-bare, proofs.Pins.mapping-bare, proofs.Pins.known-bare, proofs.Bare.bare, proofs.Bare.bare_asked, proofs.Bare.bare_call, proofs.Bare.asked-bare, proofs.Bare.open-bare, proofs.Bare.values-bare, proofs.Bare.table-bare, proofs.Bare.body-bare, proofs.Bare.maps-bare, proofs.Bare.contents-bare, proofs.Given.CallKnown, proofs.Given.open-known, proofs.Makers.NamesAsked, proofs.Makers.only-path}
+use Rattle.gt_core.{specs.History.frame_of, proofs.Pins.word-bare, proofs.Pins.mapping-bare, proofs.Pins.known-bare, proofs.Bare.bare, proofs.Bare.bare_asked, proofs.Bare.bare_call, proofs.Bare.asked-bare, proofs.Bare.open-bare, proofs.Bare.values-bare, proofs.Bare.table-bare, proofs.Bare.body-bare, proofs.Bare.maps-bare, proofs.Bare.contents-bare, proofs.Given.CallKnown, proofs.Given.open-known}
 use Rattle.gt_calls.specs.declared.request.Request.TheVariants as requests
 use Rattle.gt_core.specs.declared.trace.Answer.TheVariants as answers
 
@@ -19,46 +19,21 @@ FindsSame bared found (Load a off len) = bared (bare_handle a) ≡ found a
 FindsSame bared found (Store a off len) = bared (bare_handle a) ≡ found a
 FindsSame bared found r = Unit {0}
 
-ended-bare : (v : Verdict) (vs : List Seen) → ended v vs ≡ option_map bare_action (ended v vs)
-ended-bare v [] = refl
-ended-bare v (x ∷ vs) = refl
-
-makes-bare : (a b : Step) (v : Verdict) (vs : List Seen) → b ≡ bare_step a → makes b (ended v) vs ≡ option_map bare_action (makes a (ended v) vs)
-makes-bare a b v [] e = ap (λ (z : Step). Some (Makes z)) e
-makes-bare a b v (Nothing ∷ vs) e = ended-bare v vs
-makes-bare a b v (x ∷ vs) e = refl
-
-mapping-steps : (o : Option Held) (f g : Held → Step) (vs : List Seen) → ((p : Held) → g p ≡ bare_step (f p)) → by_mapping o g vs ≡ option_map bare_action (by_mapping o f vs)
-mapping-steps None f g vs e = ended-bare _ vs
-mapping-steps (Some p) f g vs e = makes-bare (f p) (g p) Granted vs (e p)
-
-after-steps : (v : Option Verdict) (c b : Continuation) (vs : List Seen) → b vs ≡ option_map bare_action (c vs) → after_beginning v b vs ≡ option_map bare_action (after_beginning v c vs)
-after-steps None c b vs e = e
-after-steps (Some v) c b vs e = ended-bare v vs
-
-same-step : (r : Asked) (step : Step) → ((a : Handle) → r ≡ Unmap a → ⊥) → NamesAsked r step → bare_step step ≡ step
-same-step r (Unpin p (ByMapping a)) plain names = absurd (plain a names)
-same-step r step plain names = refl
-
-same-action : (r : Asked) (o : Option Action) → ((a : Handle) → r ≡ Unmap a → ⊥) → ((step : Step) → o ≡ Some (Makes step) → NamesAsked r step) → o ≡ option_map bare_action o
-same-action r (Some (Makes step)) plain names = ap (λ (z : Step). Some (Makes z)) (sym (same-step r step plain (names step refl)))
-same-action r o plain names = refl
+unmap-bare : (v : Option Verdict) (o : Option Held) (a : Handle) (vs : List Seen)
+    → option_map bare_action (after_beginning v (by_mapping o (λ p. Unpin p (ByMapping (bare_handle a)))) vs) ≡ option_map bare_action (after_beginning v (by_mapping o (λ p. Unpin p (ByMapping a))) vs)
+unmap-bare None (Some p) a [] = refl
+unmap-bare v o a vs = refl
 
 path-bare : (k : CallerKnowledge) (found : Handle → Option Held) (d : DomId) (r : Asked) (vs : List Seen) → FindsSame found k.mapping r
-    → path (record k { mapping = found }) d (bare_asked r) vs ≡ option_map bare_action (path k d r vs)
+    → option_map bare_action (path (record k { mapping = found }) d (bare_asked r) vs) ≡ option_map bare_action (path k d r vs)
 path-bare k found d (Unmap a) vs same =
-    ap (λ (o : Option Held). after_beginning (first (refused_when (is_none o) N6 ∷ unmap_denied k d o ∷ [])) (by_mapping o (λ p. Unpin p (ByMapping (bare_handle a)))) vs) same
-    ∙ after-steps (unmap_begun k d a) (by_mapping (k.mapping a) (λ p. Unpin p (ByMapping a))) (by_mapping (k.mapping a) (λ p. Unpin p (ByMapping (bare_handle a)))) vs
-    (mapping-steps (k.mapping a) (λ p. Unpin p (ByMapping a)) (λ p. Unpin p (ByMapping (bare_handle a))) vs (λ p. refl))
+    ap (λ (o : Option Held). option_map bare_action (after_beginning (first (refused_when (is_none o) N6 ∷ unmap_denied k d o ∷ [])) (by_mapping o (λ p. Unpin p (ByMapping (bare_handle a)))) vs)) same
+    ∙ unmap-bare (unmap_begun k d a) (k.mapping a) a vs
 path-bare k found d (Load a off len) vs same =
-    let step : Held → Step = λ p. ReadBytes p.dom (frame_of p.entry) off len in
-    ap (λ (o : Option Held). after_beginning (load_begun (λ x. o) a off len) (by_mapping o step) vs) same
-    ∙ after-steps (load_begun k.mapping a off len) (by_mapping (k.mapping a) step) (by_mapping (k.mapping a) step) vs (mapping-steps (k.mapping a) step step vs (λ p. refl))
+    ap (λ (o : Option Held). option_map bare_action (after_beginning (load_begun (λ x. o) a off len) (by_mapping o (λ p. ReadBytes p.dom (frame_of p.entry) off len)) vs)) same
 path-bare k found d (Store a off len) vs same =
-    let step : Held → Step = λ p. WriteBytes p.dom (frame_of p.entry) off len in
-    ap (λ (o : Option Held). after_beginning (store_begun (λ x. o) a off len) (by_mapping o step) vs) same
-    ∙ after-steps (store_begun k.mapping a off len) (by_mapping (k.mapping a) step) (by_mapping (k.mapping a) step) vs (mapping-steps (k.mapping a) step step vs (λ p. refl))
-path-bare k found d r vs same = same-action r (path k d r vs) (λ a e. cc) (only-path k d r vs)
+    ap (λ (o : Option Held). option_map bare_action (after_beginning (store_begun (λ x. o) a off len) (by_mapping o (λ p. WriteBytes p.dom (frame_of p.entry) off len)) vs)) same
+path-bare k found d r vs same = refl
 
 begun-bare : (k : CallerKnowledge) (found : Handle → Option Held) (d : DomId) (q : Request) → FindsSame found k.mapping (asked q) → begun_of (record k { mapping = found }) d (bare_request q) ≡ begun_of k d q
 begun-bare k found d (requests.Unmap a) same = ap (λ (o : Option Held). first (refused_when (is_none o) N6 ∷ unmap_denied k d o ∷ [])) same
@@ -73,22 +48,25 @@ finds-same s h d (Store a off len) run k = mapping-bare s h d.0 a run k
 finds-same s h d r run k = tt
 
 path-at : (s : Setting) (h : History) (d : DomId) (r : Asked) (vs : List Seen) → IsRun s h → AsksKnown h d.0 r
-    → path (known_at s (bare h) d) d (bare_asked r) vs ≡ option_map bare_action (path (known_at s h d) d r vs)
-path-at s h d r vs run k = ap (λ (z : CallerKnowledge). path z d (bare_asked r) vs) (known-bare s h d run)
+    → option_map bare_action (path (known_at s (bare h) d) d (bare_asked r) vs) ≡ option_map bare_action (path (known_at s h d) d r vs)
+path-at s h d r vs run k = ap (λ (z : CallerKnowledge). option_map bare_action (path z d (bare_asked r) vs)) (known-bare s h d run)
     ∙ path-bare (known_at s h d) (mapping_of (mappings_at (bare h) d.0)) d r vs (finds-same s h d r run k)
 
 begun-at : (s : Setting) (h : History) (d : DomId) (q : Request) → IsRun s h → AsksKnown h d.0 (asked q) → begun_of (known_at s (bare h) d) d (bare_request q) ≡ begun_of (known_at s h d) d q
 begun-at s h d q run k = ap (λ (z : CallerKnowledge). begun_of z d (bare_request q)) (known-bare s h d run)
     ∙ begun-bare (known_at s h d) (mapping_of (mappings_at (bare h) d.0)) d q (finds-same s h d (asked q) run k)
 
-seen-at : (s : Setting) (h : History) (d : DomId) (step : Step) → IsRun s h → seen_by s (bare h) d (bare_step step) ≡ seen_by s h d step
+seen-at : (s : Setting) (h : History) (d : DomId) (step : Step) → IsRun s h → seen_by s (bare h) d step ≡ seen_by s h d step
 seen-at s h d (LookHeader dom) run = ap (λ (x : Header). Word (header_word x)) (table-bare s h dom)
 seen-at s h d (LookControl dom gref) run = ap (λ (w : ℕ). Word w) (word-bare s h dom.0 gref.0 run)
 seen-at s h d (LookBody dom gref half) run = ap (λ (w : ℕ). Word w) (body-bare h dom.0 gref.0 half)
 seen-at s h d (PinStep p) run = ap (λ (w : ℕ). exchange_sees w p.word) (word-bare s h p.dom.0 p.gref.0 run)
 seen-at s h d (Exchange gref looked change) run = ap (λ (w : ℕ). exchange_sees w looked) (word-bare s h d.0 gref.0 run)
-seen-at s h d (Unpin p (ByMapping a)) run = refl
 seen-at s h d step run = refl
+
+seen-bare : (s : Setting) (h : History) (d : DomId) (step : Step) → seen_by s h d step ≡ seen_by s h d (bare_step step)
+seen-bare s h d (Unpin p (ByMapping a)) = refl
+seen-bare s h d step = refl
 
 -- answers
 
@@ -177,11 +155,8 @@ abbrev began_told : Setting → History → DomId → Request → ToldItem
 began_told s h d q = record { actor = d; happened = Began (bare_request q); answer = answer_told s h d (asked q) None (begun_of (known_at s h d) d q) }
 
 abbrev step_told : Setting → History → DomId → Asked → List Seen → Step → ToldItem
-step_told s h d r vs step = record {
-  actor = d;
-  happened = Stepped (bare_step step) (seen_by s h d step);
-  answer = answer_told s h d r (Some step) (verdict_in (path (known_at s h d) d r (vs ++ seen_by s h d step ∷ [])));
-}
+step_told s h d r vs step = let seen = seen_by s h d step in
+    record { actor = d; happened = Stepped step seen; answer = answer_told s h d r (Some step) (verdict_in (option_map bare_action (path (known_at s h d) d r (vs ++ seen ∷ [])))) }
 
 is-began : (s : Setting) (h : History) (d : DomId) (q : Request) (a : Option Answer) → BeginsRight s h (record { actor = d; happened = Began q; answer = a }) q
     → told_item (record { actor = d; happened = Began q; answer = a }) ≡ began_told s h d q
@@ -189,25 +164,22 @@ is-began s h d q a right = let i : Item = record { actor = d; happened = Began q
     ap (λ (t : Option (Answer ⊎ List ℕ)). record { actor = d; happened = Began (bare_request q); answer = t })
     (answer-told s h d (asked q) None false (begun_of (known_at s h d) d q) a (stood s (i ∷ h) d.0) right.1)
 
+verdict-bare : (o : Option Action) → verdict_in (option_map bare_action o) ≡ verdict_in o
+verdict-bare (Some (Makes step)) = refl
+verdict-bare o = refl
+
 is-stepped : (s : Setting) (h : History) (d : DomId) (step : Step) (seen : Seen) (a : Option Answer) (c : Underway) → StepsRight s h (record { actor = d; happened = Stepped step seen; answer = a }) step seen c
-    → told_item (record { actor = d; happened = Stepped step seen; answer = a }) ≡ step_told s h d c.request (values c) step
+    → told_item (record { actor = d; happened = Stepped step seen; answer = a }) ≡ step_told s h d c.request (values c) (bare_step step)
 is-stepped s h d step seen a c right = let i : Item = record { actor = d; happened = Stepped step seen; answer = a } in
     let o : Seen → Option Action = λ v. path (known_at s h d) d c.request (values c ++ v ∷ []) in
     ap (λ (t : Option (Answer ⊎ List ℕ)). record { actor = d; happened = Stepped (bare_step step) seen; answer = t })
-    (answer-told s h d c.request (Some step) (gives_back (o seen)) (verdict_in (o seen)) a (stood s (i ∷ h) d.0) right.answered)
-    ∙ ap (λ (v : Seen). record { actor = d; happened = Stepped (bare_step step) v; answer = answer_told s h d c.request (Some step) (verdict_in (o v)) }) right.sees
+    (answer-told s h d c.request (Some step) (gives_back (o seen)) (verdict_in (o seen)) a (stood s (i ∷ h) d.0) right.answered ∙ sym (answer-step s h d c.request step (verdict_in (o seen)))
+    ∙ ap (λ (v : Option Verdict). answer_told s h d c.request (Some (bare_step step)) v) (sym (verdict-bare (o seen))))
+    ∙ ap (λ (v : Seen). record { actor = d; happened = Stepped (bare_step step) v; answer = answer_told s h d c.request (Some (bare_step step)) (verdict_in (option_map bare_action (o v))) }) (right.sees ∙ seen-bare s h d step)
 
 request-twice : (q : Request) → bare_request (bare_request q) ≡ bare_request q
 request-twice (requests.GrantBytes gref bytes) = refl
 request-twice q = refl
-
-step-twice : (step : Step) → bare_step (bare_step step) ≡ bare_step step
-step-twice (Unpin p (ByMapping a)) = refl
-step-twice step = refl
-
-verdict-bare : (o : Option Action) → verdict_in (option_map bare_action o) ≡ verdict_in o
-verdict-bare (Some (Makes step)) = refl
-verdict-bare o = refl
 
 began-at : (s : Setting) (h : History) (d : DomId) (q : Request) → IsRun s h → AsksKnown h d.0 (asked q) → began_told s (bare h) d (bare_request q) ≡ began_told s h d q
 began-at s h d q run k =
@@ -217,17 +189,14 @@ began-at s h d q run k =
     ∙ ap (λ (v : Option Verdict). answer_told s (bare h) d (bare_asked (asked q)) None v) (begun-at s h d q run k)
     ∙ answer-at s h d (asked q) None (begun_of (known_at s h d) d q))
 
-stepped-at : (s : Setting) (h : History) (d : DomId) (r : Asked) (vs : List Seen) (step : Step) → IsRun s h → AsksKnown h d.0 r → step_told s (bare h) d (bare_asked r) vs (bare_step step) ≡ step_told s h d r vs step
+stepped-at : (s : Setting) (h : History) (d : DomId) (r : Asked) (vs : List Seen) (step : Step) → IsRun s h → AsksKnown h d.0 r → step_told s (bare h) d (bare_asked r) vs step ≡ step_told s h d r vs step
 stepped-at s h d r vs step run k =
-    let o : Seen → Option Action = λ v. path (known_at s (bare h) d) d (bare_asked r) (vs ++ v ∷ []) in
+    let o : Seen → Option Action = λ v. option_map bare_action (path (known_at s (bare h) d) d (bare_asked r) (vs ++ v ∷ [])) in
     let seen = seen_by s h d step in
-    ap (λ (v : Seen). record { actor = d; happened = Stepped (bare_step (bare_step step)) v; answer = answer_told s (bare h) d (bare_asked r) (Some (bare_step step)) (verdict_in (o v)) }) (seen-at s h d step run)
-    ∙ ap (λ (z : Step). record { actor = d; happened = Stepped z seen; answer = answer_told s (bare h) d (bare_asked r) (Some (bare_step step)) (verdict_in (o seen)) }) (step-twice step)
-    ∙ ap (λ (t : Option (Answer ⊎ List ℕ)). record { actor = d; happened = Stepped (bare_step step) seen; answer = t })
-    (ap (λ (v : Option Verdict). answer_told s (bare h) d (bare_asked r) (Some (bare_step step)) v)
-    (ap verdict_in (path-at s h d r (vs ++ seen ∷ []) run k) ∙ verdict-bare (path (known_at s h d) d r (vs ++ seen ∷ [])))
-    ∙ answer-at s h d r (Some (bare_step step)) (verdict_in (path (known_at s h d) d r (vs ++ seen ∷ [])))
-    ∙ answer-step s h d r step (verdict_in (path (known_at s h d) d r (vs ++ seen ∷ []))))
+    ap (λ (v : Seen). record { actor = d; happened = Stepped step v; answer = answer_told s (bare h) d (bare_asked r) (Some step) (verdict_in (o v)) }) (seen-at s h d step run)
+    ∙ ap (λ (t : Option (Answer ⊎ List ℕ)). record { actor = d; happened = Stepped step seen; answer = t })
+    (ap (λ (x : Option Action). answer_told s (bare h) d (bare_asked r) (Some step) (verdict_in x)) (path-at s h d r (vs ++ seen ∷ []) run k)
+    ∙ answer-at s h d r (Some step) (verdict_in (option_map bare_action (path (known_at s h d) d r (vs ++ seen ∷ [])))))
 
 -- elements
 
@@ -241,7 +210,7 @@ stepped_told s h d c o = inl Idle
 
 abbrev tick_told : Setting → History → DomId → Option Underway → Element ⊎ ToldItem
 tick_told s h d None = inl Idle
-tick_told s h d (Some c) = stepped_told s h d c (path (known_at s h d) d c.request (values c))
+tick_told s h d (Some c) = stepped_told s h d c (option_map bare_action (path (known_at s h d) d c.request (values c)))
 
 abbrev begin_told : Setting → History → DomId → Request → Option Underway → Element ⊎ ToldItem
 begin_told s h d q None = inr (began_told s h d q)
@@ -272,7 +241,7 @@ begin-does s h d q a right =
 tick-does : (s : Setting) (h : History) (d : DomId) (step : Step) (seen : Seen) (a : Option Answer) (c : Option Underway) → StepsRightIn s h (record { actor = d; happened = Stepped step seen; answer = a }) step seen c
     → element_told (Did (record { actor = d; happened = Stepped step seen; answer = a })) ≡ tick_told s h d c
 tick-does s h d step seen a None right = absurd right
-tick-does s h d step seen a (Some c) right = ap (λ (t : ToldItem). inr t) (is-stepped s h d step seen a c right) ∙ ap (stepped_told s h d c) (sym right.continues)
+tick-does s h d step seen a (Some c) right = ap (λ (t : ToldItem). inr t) (is-stepped s h d step seen a c right) ∙ ap (λ (o : Option Action). stepped_told s h d c (option_map bare_action o)) (sym right.continues)
 
 begin-item : (s : Setting) (h : History) (d : DomId) (q : Request) (actor : DomId) (x : Happened) (a : Option Answer) → actor ≡ d → x ≡ Began q → IsRight s h (record { actor = actor; happened = x; answer = a })
     → element_told (Did (record { actor = actor; happened = x; answer = a })) ≡ begin_told s h d q (open_call h d.0)
@@ -305,17 +274,18 @@ begin-at : (s : Setting) (h : History) (d : DomId) (q : Request) (c : Option Und
 begin-at s h d q None run k = ap (λ (t : ToldItem). inr t) (began-at s h d q run k)
 begin-at s h d q (Some c) run k = refl
 
-next-at : (s : Setting) (h : History) (d : DomId) (c : Underway) (o : Option Action) → IsRun s h → AsksKnown h d.0 c.request → stepped_told s (bare h) d (bare_call c) (option_map bare_action o) ≡ stepped_told s h d c o
+next-at : (s : Setting) (h : History) (d : DomId) (c : Underway) (o : Option Action) → IsRun s h → AsksKnown h d.0 c.request → stepped_told s (bare h) d (bare_call c) o ≡ stepped_told s h d c o
 next-at s h d c (Some (Makes step)) run k =
-    ap (λ (vs : List Seen). inr (step_told s (bare h) d (bare_asked c.request) vs (bare_step step))) (values-bare c)
+    ap (λ (vs : List Seen). inr (step_told s (bare h) d (bare_asked c.request) vs step)) (values-bare c)
     ∙ ap (λ (t : ToldItem). inr t) (stepped-at s h d c.request (values c) step run k)
 next-at s h d c o run k = refl
 
 tick-at : (s : Setting) (h : History) (d : DomId) (c : Option Underway) → IsRun s h → CallKnown h d.0 c → tick_told s (bare h) d (option_map bare_call c) ≡ tick_told s h d c
 tick-at s h d None run k = refl
-tick-at s h d (Some c) run k = ap (stepped_told s (bare h) d (bare_call c))
-    (ap (path (known_at s (bare h) d) d (bare_asked c.request)) (values-bare c) ∙ path-at s h d c.request (values c) run k)
-    ∙ next-at s h d c (path (known_at s h d) d c.request (values c)) run k
+tick-at s h d (Some c) run k =
+    ap (λ (vs : List Seen). stepped_told s (bare h) d (bare_call c) (option_map bare_action (path (known_at s (bare h) d) d (bare_asked c.request) vs))) (values-bare c)
+    ∙ ap (stepped_told s (bare h) d (bare_call c)) (path-at s h d c.request (values c) run k)
+    ∙ next-at s h d c (option_map bare_action (path (known_at s h d) d c.request (values c))) run k
 
 -- and it does the same without keys
 pub does-bare : (s : Setting) (h : History) (e : Event) → IsRun s h → IsOfKnown h e → doing s (bare h) (bare_event e) ≡ doing s h e

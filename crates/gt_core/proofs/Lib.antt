@@ -13,7 +13,6 @@ pub mod Headers
 pub mod Judging
 pub mod Keeping
 pub mod Legs
-pub mod Makers
 pub mod Mappings
 pub mod Others
 pub mod Outcomes
