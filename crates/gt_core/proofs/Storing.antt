@@ -1,6 +1,6 @@
 -- A body word stored on an invalid entry keeps what a core stands for.
-use Rattle.gt_core.proofs.Words.{◌≡◌, ◌≢◌, ℕ, refl, Bool, true, false, List, ◌∷◌, Option, Some, None, cond, sym, ap, ◌∙◌, subst, eqb-true, eq-eqb, none-some, same_Some, ◌==◌, ◌&&◌, count_by, slice_get, option_map, DomId, GrantRef, Read, Write, Invalid, Half, FirstHalf, SecondHalf, StoreBody, Nothing, PinCounts, Stored, Open, Item, Stepped, changed_at, State, state_of, changed_in, with_slot, slot_after, History, Setting, Pin, entry_at, body_at, or_else, stored_at, is_pin_on, open_call, FitsTable, SlotAgrees, Agrees, DomainsStand, CallAgrees, GivenAgrees, same_half, and_right}
-use Rattle.gt_core.proofs.{Keeping.slot-kept, Keeping.actor-agrees, Keeping.kept-stands, Keeping.own-each, Keeping.stepped, Keeping.SlotsAgree, Keeping.mappings-stay, Rows.get-changed, Rows.length-changed, Quiet.KeepsKnown, Quiet.kept-live, Quiet.kept-table, Others.other-body}
+use Rattle.gt_core.proofs.Words.{◌≡◌, ◌≢◌, ℕ, refl, Bool, true, false, List, ◌∷◌, Option, Some, None, cond, sym, ap, ◌∙◌, subst, eqb-true, eq-eqb, ◌==◌, ◌&&◌, count_by, DomId, GrantRef, Read, Write, Invalid, Half, FirstHalf, SecondHalf, StoreBody, Nothing, PinCounts, Stored, Open, Item, Stepped, changed_at, State, state_of, changed_in, with_slot, slot_after, History, Setting, Pin, entry_at, body_at, or_else, stored_at, is_pin_on, open_call, FitsTable, SlotAgrees, Agrees, DomainsStand, CallAgrees, GivenAgrees, same_half, and_right}
+use Rattle.gt_core.proofs.{Keeping.slot-kept, Keeping.actor-agrees, Keeping.kept-stands, Keeping.own-each, Keeping.stepped, Keeping.SlotsAgree, Keeping.slots-agree, Keeping.same-number, Keeping.mappings-stay, Rows.length-changed, Quiet.KeepsKnown, Quiet.kept-live, Quiet.kept-table, Others.other-body}
 
 -- the item of a store
 abbrev pub stores : DomId → GrantRef → Half → ℕ → Item
@@ -60,19 +60,9 @@ slot-same d gref half word t r h slot same a = let i = stores d gref half word i
 
 slots-stored : (d : DomId) (gref : GrantRef) (half : Half) (word : ℕ) (h : History) (slots : List PinCounts) → SlotsAgree h d.0 slots
     → SlotsAgree (stores d gref half word ∷ h) d.0 (changed_at gref.0 (slot_after (Stored half word)) slots)
-slots-stored d gref half word h slots a r slot e = by (gref.0 == r) refl (sym (get-changed slots gref.0 r (slot_after (Stored half word))) ∙ e)
-  where
-    at : (o : Option PinCounts) → slice_get slots r ≡ o → gref.0 ≡ r → option_map (slot_after (Stored half word)) o ≡ Some slot → SlotAgrees (stores d gref half word ∷ h) d.0 r slot
-    at None there same k = absurd (none-some slot k)
-    at (Some old) there same k =
-        subst (λ (z : PinCounts). SlotAgrees (stores d gref half word ∷ h) d.0 r z) (same_Some _ slot k)
-        (subst (λ (n : ℕ). SlotAgrees h d.0 n old → SlotAgrees (stores d gref half word ∷ h) d.0 n (slot_after (Stored half word) old)) same
-        (slot-stored d gref half word h old) (a r old there))
-
-    by : (b : Bool) → (gref.0 == r) ≡ b → cond b (option_map (slot_after (Stored half word)) (slice_get slots r)) (slice_get slots r) ≡ Some slot
-        → SlotAgrees (stores d gref half word ∷ h) d.0 r slot
-    by true t k = at (slice_get slots r) refl (eqb-true gref.0 r t) k
-    by false t k = slot-same d gref half word d.0 r h slot (λ which. elsewhere-stays d gref half word r which h t) (a r slot k)
+slots-stored d gref half word h slots a = slots-agree h (stores d gref half word ∷ h) d.0 d.0 gref.0 (slot_after (Stored half word)) slots true (same-number d.0) a
+    (λ on old b. slot-stored d gref half word h old b)
+    (λ k old off b. slot-same d gref half word d.0 k h old (λ which. elsewhere-stays d gref half word k which h (ap (λ (c : Bool). c && (gref.0 == k)) (sym (same-number d.0)) ∙ off)) b)
 
 -- the actor after its store
 store-agrees : (s : Setting) (h : History) (x : State) (gref : GrantRef) (half : Half) (word : ℕ) (o : Option Open) → Agrees s h x
