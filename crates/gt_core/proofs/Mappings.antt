@@ -59,10 +59,13 @@ mappings-added old new handle m ms n d a =
 
 -- a list of mappings, and one less
 
--- without the first mapping under this handle
+-- without the first one under a key, by a test of keys; and under this handle
+abbrev pub less_of : {K : Type 0} → (K → Bool) → List (K × Held) → List (K × Held)
+less_of test [] = []
+less_of test (m ∷ ms) = cond (test m.0) ms (m ∷ less_of test ms)
+
 abbrev pub less : Handle → List (Handle × Held) → List (Handle × Held)
-less handle [] = []
-less handle (m ∷ ms) = cond (same_handle m.0 handle) ms (m ∷ less handle ms)
+less handle ms = less_of (λ (k : Handle). same_handle k handle) ms
 
 less-of : (ms : List (Handle × Held)) (handle other : Handle) → AreApart ms → mapping_of (less handle ms) other ≡ cond (same_handle other handle) None (mapping_of ms other)
 less-of [] handle other a = sym (cond_both (same_handle other handle) None None (λ o. o ≡ None) (λ e. refl) (λ e. refl))

@@ -8,7 +8,7 @@ shown-nowhere s h xs dom r p st =
     sym (ap (λ (o : Option DomainConfig). cond (is_some o && nat_lt r (size_of (table_at s h dom)))
     (Some (record { entry = entry_at h dom.0 r; generation = generation_at s h dom.0 r; reads = reads_at h dom.0 r; writes = writes_at h dom.0 r })) None) (begin-nowhere s h xs dom p st))
 
-some-domain : (o : Option DomainConfig) → (o ≡ None → ⊥) → is_some o ≡ true
+pub some-domain : (o : Option DomainConfig) → (o ≡ None → ⊥) → is_some o ≡ true
 some-domain None n = absurd (n refl)
 some-domain (Some d) n = refl
 

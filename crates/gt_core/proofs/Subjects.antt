@@ -1,16 +1,12 @@
 -- The entry of a mapping, as the core finds it, is that of the history.
-use Rattle.gt_core.proofs.Words.{◌≡◌, ◌≢◌, ℕ, Bool, true, List, Option, Some, None, cond, refl, sym, ap, ◌∙◌, get_or, position, domain_of, DomId, DomainConfig, Handle, value_of, Held, State, History, Setting, mapping_of, mappings_at, DomainsStand, place_of, subject_at}
+use Rattle.gt_core.proofs.Words.{◌≡◌, ℕ, Bool, List, Option, Some, None, cond, sym, ap, ◌∙◌, get_or, position, domain_of, DomId, DomainConfig, Handle, value_of, Held, State, History, Setting, mapping_of, mappings_at, DomainsStand, place_of, subject_at}
 use Rattle.std.{proofs.Common.is_some, specs.Prelude.option_map}
-use Rattle.gt_core.proofs.{Beginning.begin-nowhere, Beginning.agrees-found, Places.has_id}
+use Rattle.gt_core.proofs.{Showing.some-domain, Beginning.begin-nowhere, Beginning.agrees-found, Places.has_id}
 
 -- no domain has the number
 pub subject-nowhere : (s : Setting) (h : History) (xs : List State) (dom : DomId) (handle : Handle) → position (has_id dom.0) xs ≡ None → DomainsStand s h xs → None ≡ subject_at s h dom handle
 subject-nowhere s h xs dom handle p st =
     sym (ap (λ (o : Option DomainConfig). cond (is_some o) (option_map place_of (mapping_of (mappings_at h dom.0) handle)) None) (begin-nowhere s h xs dom p st))
-
-some-domain : (o : Option DomainConfig) → o ≢ None → is_some o ≡ true
-some-domain None n = absurd (n refl)
-some-domain (Some d) n = refl
 
 -- a domain of the run
 pub subject-there : (s : Setting) (h : History) (xs : List State) (dom : DomId) (handle : Handle) (at : ℕ) (x : State) → position (has_id dom.0) xs ≡ Some at → x ≡ get_or xs at x → DomainsStand s h xs

@@ -1,6 +1,6 @@
 -- An unpin keeps what a core stands for.
-use Rattle.gt_core.proofs.Words.{◌≡◌, ◌<◌, ◌≤◌, ◌+◌, ◌-◌, ◌⊎◌, inl, inr, ℕ, suc, refl, Bool, true, false, List, [], ◌∷◌, ◌++◌, length, Option, Some, None, cond, sym, ap, ◌∙◌, arith, subst, ◌==◌, ◌&&◌, All, count_by, eq-eqb, false≢true, none-some, same_Some, append-nil, sum_by-cons, All-tail, DomId, Dir, Read, Write, Half, FirstHalf, SecondHalf, Handle, HandleMap, Held, Holder, ByMapping, ByLeg, Unpin, Seen, PinCounts, Open, Unpinned, Item, Answer, State, state_of, changed_in, with_slot, without_mapping, slot_after, taken, History, Setting, Pin, live, body_at, reads_at, writes_at, mappings_at, maps_answered_at, legs_at, open_call, is_pin_on, without, is_holder, same_handle, same_dir, gather, by_mapping, by_leg, mapping_of, one_if_mapped, IsLawful, SlotAgrees, Agrees, DomainsStand, CallAgrees, GivenAgrees, MappingsAgree, numbered, sum_by-append, All-cons, All-head, MAX_PINS, ne_eqb}
-use Rattle.gt_core.proofs.{Quiet.answered-stays, Keeping.stepped, Keeping.KeepsEntries, Keeping.same-body, Keeping.counts-fit, Keeping.after_change, Keeping.Becomes, Keeping.becomes-changed, Keeping.slots-stand, Keeping.keeps-stands, Mappings.less, Mappings.mappings-taken, Mappings.mappings-same, Rows.state-changed, Pinning.pins, Pinning.pins_at, Pinning.moved-slots}
+use Rattle.gt_core.proofs.Words.{◌≡◌, ◌≤◌, ◌+◌, ◌-◌, ◌⊎◌, inl, inr, ℕ, suc, refl, Bool, true, false, List, [], ◌∷◌, ◌++◌, length, Option, Some, None, cond, sym, ap, ◌∙◌, arith, subst, ◌==◌, ◌&&◌, All, count_by, eq-eqb, false≢true, none-some, same_Some, append-nil, sum_by-cons, All-tail, DomId, Dir, Read, Write, Half, FirstHalf, SecondHalf, Handle, HandleMap, Held, Holder, ByMapping, ByLeg, Unpin, Seen, PinCounts, Open, Unpinned, Item, Answer, State, state_of, changed_in, with_slot, without_mapping, slot_after, taken, History, Setting, Pin, live, body_at, mappings_at, maps_answered_at, legs_at, open_call, is_pin_on, without, is_holder, same_handle, same_dir, gather, by_mapping, by_leg, mapping_of, one_if_mapped, IsLawful, SlotAgrees, Agrees, DomainsStand, CallAgrees, GivenAgrees, MappingsAgree, numbered, sum_by-append, All-cons, All-head, ne_eqb}
+use Rattle.gt_core.proofs.{Quiet.answered-stays, Keeping.stepped, Keeping.KeepsEntries, Keeping.same-body, Keeping.counts-fit, Keeping.after_change, Keeping.Becomes, Keeping.becomes-changed, Keeping.slots-stand, Keeping.keeps-stands, Mappings.less, Mappings.less_of, Mappings.mappings-taken, Mappings.mappings-same, Rows.state-changed, Pinning.pins, Pinning.pins_at, Pinning.moved-slots}
 
 -- what an unpin takes from the live pins
 
@@ -21,10 +21,6 @@ loses-later m p whole less l =
 abbrev pub one_of : {K : Type 0} → (K → Bool) → List (K × Held) → Option Held
 one_of test [] = None
 one_of test (m ∷ ms) = cond (test m.0) (Some m.1) (one_of test ms)
-
-abbrev pub less_of : {K : Type 0} → (K → Bool) → List (K × Held) → List (K × Held)
-less_of test [] = []
-less_of test (m ∷ ms) = cond (test m.0) ms (m ∷ less_of test ms)
 
 -- a way to give pins by keys, and the test that finds a holder's key: each holder gives one key or none, and is the holder just where its key passes
 pub record Tells {K : Type 0} (give : Holder → Held → List (K × Held)) (test : K → Bool) (holder : Holder) : Type 0 where
@@ -130,10 +126,6 @@ one-mapping : (ms : List (Handle × Held)) (handle : Handle) → one_of (λ (k :
 one-mapping [] handle = refl
 one-mapping (m ∷ ms) handle = ap (λ (o : Option Held). cond (same_handle m.0 handle) (Some m.1) o) (one-mapping ms handle)
 
-less-mapping : (ms : List (Handle × Held)) (handle : Handle) → less_of (λ (k : Handle). same_handle k handle) ms ≡ less handle ms
-less-mapping [] handle = refl
-less-mapping (m ∷ ms) handle = ap (λ (l : List (Handle × Held)). cond (same_handle m.0 handle) ms (m ∷ l)) (less-mapping ms handle)
-
 pub loses-mapping : (h : History) (d : DomId) (handle : Handle) (p : Held) → mapping_of (mappings_at h d.0) handle ≡ Some p → Loses p (live h) (without d.0 (ByMapping handle) (live h))
 loses-mapping h d handle p found =
     loses-of by_mapping (λ (k : Handle). same_handle k handle) (ByMapping handle) d.0 p (live h) (mapping-tells handle) (one-mapping (mappings_at h d.0) handle ∙ found)
@@ -142,7 +134,6 @@ loses-mapping h d handle p found =
 mapping-left : (h : History) (d : DomId) (p : Held) (handle : Handle) (seen : Seen) (answer : Option Answer) → mappings_at (unpins d p (ByMapping handle) seen answer ∷ h) d.0 ≡ less handle (mappings_at h d.0)
 mapping-left h d p handle seen answer = ap (gather by_mapping d.0) (unpinned-live h d p (ByMapping handle) seen answer)
     ∙ less-gather by_mapping (λ (k : Handle). same_handle k handle) (ByMapping handle) d.0 (live h) (mapping-tells handle)
-    ∙ less-mapping (mappings_at h d.0) handle
 
 pub mapping-legs : (h : History) (d : DomId) (p : Held) (handle : Handle) (seen : Seen) (answer : Option Answer) → legs_at (unpins d p (ByMapping handle) seen answer ∷ h) d.0 ≡ legs_at h d.0
 mapping-legs h d p handle seen answer =
@@ -227,9 +218,7 @@ shrunk-count : (h : History) (i : Item) (p : Held) (t r : ℕ) (k : Dir) → Shr
 shrunk-count h i p t r k l = count-less p (live h) (live (i ∷ h)) t r k l
 
 shrunk-le : (h : History) (i : Item) (p : Held) (t r : ℕ) (k : Dir) → Shrinks h i p → count_by (is_pin_on t r k) (live (i ∷ h)) ≤ count_by (is_pin_on t r k) (live h)
-shrunk-le h i p t r k l = sums _ _ _ (shrunk-count h i p t r k l) where
-  sums : (a b c : ℕ) → a ≡ b + c → c ≤ a
-  sums a b c e = omega arith
+shrunk-le h i p t r k l = let e = shrunk-count h i p t r k l in omega arith
 
 -- the slot that the unpin counts down
 counted-down : (h new : History) (q r : ℕ) (dir : Dir) (b : Bool) (old : PinCounts) → SlotAgrees h q r old → ((which : Half) → body_at new q r which ≡ body_at h q r which)
@@ -240,12 +229,6 @@ counted-down h new q r dir b old a body now = by dir b (now Read) (now Write) (a
   by Read true n m x y = record { reads = omega arith; writes = omega arith; first = x; second = y }
   by Write true n m x y = record { reads = omega arith; writes = omega arith; first = x; second = y }
   by z false n m x y = record { reads = omega arith; writes = omega arith; first = x; second = y }
-
-le-lt : (a b n : ℕ) → a ≤ b → b < n → a < n
-le-lt a b n e f = omega arith
-
-le-zero : (a b : ℕ) → a ≤ b → b ≡ 0 → a ≡ 0
-le-zero a b e f = omega arith
 
 -- a live pin that is given back keeps what the core stands for, where the domain's mappings are those that it then has
 pub unpin-stands : (s : Setting) (h : History) (xs zs : List State) (x : State) (p : Held) (holder : Holder) (seen : Seen) (answer : Option Answer) (kept : HandleMap Held) (o : Option Open) → DomainsStand s h xs
@@ -258,10 +241,9 @@ unpin-stands s h xs zs x p holder seen answer kept o st here a becomes loses map
     (slots-stand s i h xs zs x kept o p.dom.0 p.gref.0 (Unpinned p.dir) keeps refl st here a becomes (λ z slots b is was. moved-slots h i p (Unpinned p.dir) z slots b
     (λ u r old w. counted-down h (i ∷ h) u r p.dir ((p.dom.0 == u) && (p.gref.0 == r)) old w (λ which. same-body i h u r which keeps) (λ k. shrunk-count h i p u r k shrinks)) is was) maps call given)
     (subst (All (IsLawful s)) (sym (unpinned-live h x.id p holder seen answer)) (subst (All (IsLawful s)) (sym loses.left) (all-drop (IsLawful s) loses.front loses.pin loses.back (subst (All (IsLawful s)) loses.is st.lawful))))
-    (λ t r within. let was = counts-fit s h t r (st.words t r within) in
-    (le-lt (reads_at (i ∷ h) t r) (reads_at h t r) (MAX_PINS + 1) (shrunk-le h i p t r Read shrinks) was.0, le-lt (writes_at (i ∷ h) t r) (writes_at h t r) (MAX_PINS + 1) (shrunk-le h i p t r Write shrinks) was.1))
-    (λ t r none. let was = st.free t r none in
-    (le-zero (reads_at (i ∷ h) t r) (reads_at h t r) (shrunk-le h i p t r Read shrinks) was.0, le-zero (writes_at (i ∷ h) t r) (writes_at h t r) (shrunk-le h i p t r Write shrinks) was.1))
+    (λ t r within. let was = counts-fit s h t r (st.words t r within) in let a = shrunk-le h i p t r Read shrinks in let b = shrunk-le h i p t r Write shrinks in
+    let c = was.0 in let d = was.1 in (omega arith, omega arith))
+    (λ t r none. let was = st.free t r none in let a = shrunk-le h i p t r Read shrinks in let b = shrunk-le h i p t r Write shrinks in let c = was.0 in let d = was.1 in (omega arith, omega arith))
   where
     i : Item
     i = unpins x.id p holder seen answer
