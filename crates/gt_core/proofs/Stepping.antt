@@ -1,7 +1,7 @@
 -- What the core does for a step of an open call: it is right, and the core stands for it.
 use Rattle.gt_core.proofs.Words.{◌≡◌, ◌≢◌, inl, inr, ℕ, refl, Bool, List, [], ◌∷◌, ◌++◌, length, Option, Some, None, cond, sym, ap, ◌∙◌, subst, reverse, eqb-true, eq-eqb, length-reverse, reverse_onto, same_Some, ◌==◌, DomId, GrantRef, Denial, Entry, Invalid, Half, Handle, Held, Asked, ByMapping, ByLeg, Seen, Nothing, Taken, Missed, Verdict, Granted, Given, KeptPin, Refused, Step, PinStep, Unpin, StoreBody, StoreHeader, Exchange, ReadBytes, WriteBytes, CopyBytes, Action, Makes, Done, Call, Phase, Storing, Walking, Last, Ending, last_first, knowledge_of, path, phase_after, action_at, after_store, HasShown, pins_at, held_in, Goes, Open, Item, Answer, Denied, AnswerDone, Mapped, State, state_of, sees, History, Setting, live, word_at, known_at, legs_at, mappings_at, mapping_of, seen_by, Underway, values, open_call, underway_after, holder_after, one_if_mapped, StepsRight, GivesValue, refusal_in, refusal_of, DomainsStand, Agrees, CallAgrees, OpenAgrees, numbered, position, get_or, set, position-Some, domain_of, Value, FramesTold, BytesAnswer, HandleMap, applied, with_underway, with_mapping, Adds, IsReadable, IsAdmitted, AccessedBy, bytes_at, FrameSet, frame_at, contents_at, IsRight, StepsRightIn, CoreStands, FramesStand, core_of, Settled, IsLawful, IsLawfullyHeld, answer_with, Closed, IsRoomFor, IsMapping, ticked_with, ticked_element, Element, Tick, MayDo, Does, Did, grown, without, RestsOnRequest, WantsMemoryNow, IsWritingNext, TickTold, IsWriting, cond_both}
 use Rattle.std.specs.Prelude.{take, drop}
-use Rattle.gt_core.{proofs.Pinning.pins, proofs.Pinning.map-legs, proofs.Pinning.new_pin, proofs.Pinning.pin-stands, proofs.Pinning.map-agrees, proofs.Pinning.leg-agrees as pin-agrees, proofs.Keeping.stepped, proofs.Keeping.KeepsEntries, proofs.Keeping.open_call-own, proofs.Keeping.quiet-stands, proofs.Quiet.KeepsKnown, proofs.Placing.IsStore, proofs.Phases.IsHere, proofs.Phases.makes-same, proofs.Phases.by-giving, proofs.Headers.header-stands, proofs.Framing.bytes-held, proofs.Framing.open-admitted, proofs.Framing.open-readable, proofs.Framing.frames-stepped, proofs.Values.granted-value, proofs.Values.given-value, proofs.Values.mapped-ends, proofs.Outcomes.next_of, proofs.Outcomes.ends-so, proofs.Ticking.Ticks, proofs.Ticking.ticks, proofs.Ticking.here-of, proofs.Ticking.given-goes-on, proofs.Ticking.legs-after, proofs.Ticking.open-after, proofs.Ticking.goes-right, proofs.Ticking.ends-right, proofs.Ticking.last-fact, proofs.Ticking.leg-store, proofs.Unpinning.unpins, proofs.Unpinning.Loses, proofs.Unpinning.unpin-stands, proofs.Unpinning.becomes-unpinned, proofs.Unpinning.loses-leg, proofs.Unpinning.loses-mapping, proofs.Unpinning.mapping-agrees, proofs.Unpinning.leg-agrees as unpin-agrees, proofs.Acting.can-change, proofs.Acting.can-pin, proofs.Acting.store-invalid, proofs.Acting.header-fits, proofs.Acting.map-lawful, proofs.Acting.CanPin, proofs.Storing.store-stands, proofs.Exchanging.exchange-stands, proofs.Beginning.agrees-found, proofs.Places.has_id, proofs.Places.found, proofs.Places.state_of-set, specs.declared.trace.Bytes.Bytes}
+use Rattle.gt_core.{proofs.Values.call-ends, proofs.Pinning.pins, proofs.Pinning.map-legs, proofs.Pinning.new_pin, proofs.Pinning.pin-stands, proofs.Pinning.map-agrees, proofs.Pinning.leg-agrees as pin-agrees, proofs.Keeping.stepped, proofs.Keeping.KeepsEntries, proofs.Keeping.open_call-own, proofs.Keeping.quiet-stands, proofs.Quiet.KeepsKnown, proofs.Placing.IsStore, proofs.Phases.IsHere, proofs.Phases.makes-same, proofs.Phases.by-giving, proofs.Headers.header-stands, proofs.Framing.bytes-held, proofs.Framing.open-admitted, proofs.Framing.open-readable, proofs.Framing.frames-stepped, proofs.Outcomes.next_of, proofs.Outcomes.ends-so, proofs.Ticking.Ticks, proofs.Ticking.ticks, proofs.Ticking.here-of, proofs.Ticking.given-goes-on, proofs.Ticking.legs-after, proofs.Ticking.open-after, proofs.Ticking.goes-right, proofs.Ticking.ends-right, proofs.Ticking.last-fact, proofs.Ticking.leg-store, proofs.Unpinning.unpins, proofs.Unpinning.Loses, proofs.Unpinning.unpin-stands, proofs.Unpinning.becomes-unpinned, proofs.Unpinning.loses-leg, proofs.Unpinning.loses-mapping, proofs.Unpinning.mapping-agrees, proofs.Unpinning.leg-agrees as unpin-agrees, proofs.Acting.can-change, proofs.Acting.can-pin, proofs.Acting.store-invalid, proofs.Acting.header-fits, proofs.Acting.map-lawful, proofs.Acting.CanPin, proofs.Storing.store-stands, proofs.Exchanging.exchange-stands, proofs.Beginning.agrees-found, proofs.Places.has_id, proofs.Places.found, proofs.Places.state_of-set, specs.declared.trace.Bytes.Bytes}
 
 -- the states where just the actor's call, or its handles or bytes, are others
 abbrev Replaced : List State → List State → State → State → Type 0
@@ -133,7 +133,7 @@ pub given-core : (s : Setting) (h : History) (xs ys : List State) (x : State) (o
     → Ticked s h x.id o.step (seen_by s h x.id o.step) (Some (answer_with value)) (applied x.id o.step (seen_by s h x.id o.step) ys)
 given-core s h xs ys x o c new value t r =
     ends-core s h xs ys x o c new (Given value) (answer_with value) t r (plain value) (λ m e. cc) (same value)
-    (given-value s h xs x.id c.request (values c) (reverse c.steps) t.stands.phase o.step value (here-of s h xs x o c t.st t.here t.stands) (sym t.acts))
+    (call-ends s h xs x.id c.request (values c) (reverse c.steps) t.stands.phase o.step (here-of s h xs x o c t.st t.here t.stands) (Given value) (sym t.acts))
   where
     plain : (z : Value) → IsPlainAnswer (answer_with z)
     plain (FramesTold n) = tt
@@ -160,7 +160,7 @@ mapped-core s h xs ys x o c new held handle kept t r adds = by (seen_by s h x.id
 
   by : (seen : Seen) → seen_by s h d o.step ≡ seen → Ticked s h d o.step seen (Some (Mapped handle)) (applied d o.step seen ys)
   by seen saw =
-      let m = mapped-ends s h xs d c.request (values c) (reverse c.steps) t.stands.phase o.step held i (sym t.acts) in
+      let m = call-ends s h xs d c.request (values c) (reverse c.steps) t.stands.phase o.step i (KeptPin held) (sym t.acts) in
       let taken : seen ≡ Taken = sym saw ∙ ap (seen_by s h d) m.is ∙ ap (λ (b : Bool). cond b Taken (Missed (word_at s h held.dom.0 held.gref.0))) (eq-eqb (word_at s h held.dom.0 held.gref.0) held.word m.taken) in
       let j : IsHere s h xs d c.request (values c) (reverse c.steps) t.stands.phase (PinStep held) = subst (IsHere s h xs d c.request (values c) (reverse c.steps) t.stands.phase) m.is i in
       let can : CanPin s h d c.request held = can-pin s h xs d c.request (values c) (reverse c.steps) t.stands.phase held j m.taken in
@@ -213,7 +213,7 @@ granted-core s h fs xs zs at x o c new answer t fr plain settled = by o.step ref
 
   over : (step : Step) → o.step ≡ step → (answer ≡ AnswerDone) × (zs ≡ set xs at (with_underway None x)) → ((dom : DomId) (frame off len : ℕ) → step ≡ ReadBytes dom frame off len → ⊥) → Goal
   over step is (done, left) read = ends AnswerDone done tt refl left
-      (granted-value s h xs d c.request (values c) (reverse c.steps) t.stands.phase o.step (here-of s h xs x o c t.st t.here t.stands) (λ dom frame off len e. read dom frame off len (sym is ∙ e)) (sym t.acts))
+      (call-ends s h xs d c.request (values c) (reverse c.steps) t.stands.phase o.step (here-of s h xs x o c t.st t.here t.stands) Granted (sym t.acts) (λ dom frame off len e. read dom frame off len (sym is ∙ e)))
 
   by : (step : Step) → o.step ≡ step → Closed fs xs at x step answer zs → Goal
   by (ReadBytes dom frame off len) is (b, done, left, gives) = ends (BytesAnswer b) done tt refl left
@@ -296,7 +296,7 @@ action-core s h fs xs zs at x o c new action answer t fr r settled = by action t
 pub room-asked : (s : Setting) (h : History) (xs : List State) (dom : DomId) (at : ℕ) (x : State) (o : Open) (seen : Seen) (new : Call) (action : Action) → DomainsStand s h xs → Begins s xs dom at x o seen new action → IsRoomFor o.call.request action
 room-asked s h xs dom at x o seen new (Done (KeptPin held)) st b =
     let n = begun s h xs dom at x o seen new (Done (KeptPin held)) st b in let t = n.ticks in
-    let m = mapped-ends s h xs x.id n.c.request (values n.c) (reverse n.c.steps) t.stands.phase o.step held (here-of s h xs x o n.c t.st t.here t.stands) (sym t.acts) in
+    let m = call-ends s h xs x.id n.c.request (values n.c) (reverse n.c.steps) t.stands.phase o.step (here-of s h xs x o n.c t.st t.here t.stands) (KeptPin held) (sym t.acts) in
     subst (λ (q : Asked). IsMapping (Some q)) (sym (t.stands.asks ∙ m.of_map)) tt
 room-asked s h xs dom at x o seen new action st b = tt
 
