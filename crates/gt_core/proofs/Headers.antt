@@ -1,6 +1,6 @@
 -- A header that its owner stores.
-use Rattle.gt_core.proofs.Words.{◌≡◌, ◌<◌, ◌%◌, ℕ, refl, Bool, true, false, List, ◌∷◌, Option, Some, None, cond, sym, ap, ◌∙◌, arith, subst, mod-eq_of_lt, ◌==◌, DomId, Header, Half, StoreHeader, Nothing, PinCounts, Open, Item, Answer, State, state_of, changed_in, with_header, History, Setting, body_at, or_else, header_or, table_at, one_if_mapped, open_call, FitsTable, Agrees, DomainsStand, CallAgrees, GivenAgrees}
-use Rattle.gt_core.proofs.{Quiet.cond-same, Quiet.KeepsKnown, Quiet.kept-live, Keeping.stepped, Keeping.SlotsAgree, Keeping.slot-kept, Keeping.actor-agrees, Keeping.kept-stands, Keeping.own-each, Keeping.mappings-stay, Keeping.same-number, Others.other-table}
+use Rattle.gt_core.proofs.Words.{◌≡◌, ◌<◌, ◌%◌, ℕ, refl, Bool, true, false, List, ◌∷◌, Option, Some, None, cond, sym, ap, ◌∙◌, arith, subst, mod-eq_of_lt, ◌==◌, DomId, Header, StoreHeader, Nothing, PinCounts, Open, Item, Answer, State, state_of, changed_in, with_header, History, Setting, header_or, table_at, one_if_mapped, open_call, FitsTable, Agrees, DomainsStand, CallAgrees, GivenAgrees}
+use Rattle.gt_core.proofs.{Quiet.unstored, Quiet.KeepsKnown, Quiet.kept-live, Keeping.stepped, Keeping.SlotsAgree, Keeping.slot-kept, Keeping.actor-agrees, Keeping.kept-stands, Keeping.own-each, Keeping.mappings-stay, Keeping.same-number, Others.other-table}
 
 -- the item of a header that is stored
 abbrev pub headed : DomId → ℕ → ℕ → Option Answer → Item
@@ -8,10 +8,6 @@ headed d version frames answer = stepped d (StoreHeader version frames) Nothing 
 
 headed-keeps : (d : DomId) (version frames : ℕ) (answer : Option Answer) → one_if_mapped answer ≡ 0 → KeepsKnown (headed d version frames answer)
 headed-keeps d version frames answer m = record { changes = λ r. refl; pins = λ before ps. refl; unpins = λ pins. refl; maps = m }
-
-headed-body : (h : History) (d : DomId) (version frames : ℕ) (answer : Option Answer) (t r : ℕ) (which : Half) → body_at (headed d version frames answer ∷ h) t r which ≡ body_at h t r which
-unfolding body_at
-headed-body h d version frames answer t r which = ap (λ (o : Option ℕ). or_else o (body_at h t r which)) (cond-same (d.0 == t) None)
 
 headed-table : (s : Setting) (h : History) (d : DomId) (version frames : ℕ) (answer : Option Answer) (t : DomId) → (d.0 == t.0) ≡ true
     → table_at s (headed d version frames answer ∷ h) t ≡ record { version = version; frames = frames }
@@ -25,7 +21,7 @@ headed-fits s h d version frames answer t false own new old = subst FitsTable (s
 
 headed-slots : (h : History) (d : DomId) (version frames : ℕ) (answer : Option Answer) (t : ℕ) (slots : List PinCounts) → KeepsKnown (headed d version frames answer) → SlotsAgree h t slots → SlotsAgree (headed d version frames answer ∷ h) t slots
 headed-slots h d version frames answer t slots k a = λ r slot e.
-    let i = headed d version frames answer in slot-kept i h t r slot (kept-live i h k) (λ which. headed-body h d version frames answer t r which) (a r slot e)
+    let i = headed d version frames answer in slot-kept i h t r slot (kept-live i h k) (λ which. unstored i h t r which refl) (a r slot e)
 
 -- a header within the limits has room in its word
 pub room-there : (version frames : ℕ) → FitsTable (record { version = version; frames = frames }) → ◌≡◌ {A = Header} (record { version = version % 4; frames = frames % 256 }) (record { version = version; frames = frames })
@@ -52,4 +48,4 @@ header-stands s h xs ys x version frames answer o st here a becomes m fits call 
     let k = headed-keeps x.id version frames answer m in kept-stands s i h xs _ k st
     (own-each s i h xs ys x o (with_header version frames) refl st here becomes (λ y. refl) (headed-agrees s h x version frames answer o m fits a call given)
     (λ y apart b. headed-slots h x.id version frames answer y.id.0 y.slots k b))
-    (λ dom. headed-fits s h x.id version frames answer dom (x.id.0 == dom.0) refl fits (st.tables dom)) (λ t r valid which. headed-body h x.id version frames answer t r which)
+    (λ dom. headed-fits s h x.id version frames answer dom (x.id.0 == dom.0) refl fits (st.tables dom)) (λ t r valid which. unstored i h t r which refl)

@@ -1,6 +1,6 @@
 -- A change of one element of a list, and of the first state with a number.
-use Rattle.gt_core.proofs.Words.{◌≡◌, ◌<◌, ◌≤◌, ◌+◌, ℕ, zero, suc, refl, Bool, true, false, List, [], ◌∷◌, length, Option, Some, None, cond, sym, ap, ◌∙◌, arith, get_or, set, eqb-true, eq-eqb, true≢false, position-Some, position, slice_get, ◌==◌, not, position_or_len, option_map, changed_at, State, state_of, changed_in, cond_both, eqb-suc-suc, eqb-suc-zero, eqb-zero-suc}
-use Rattle.gt_core.proofs.Places.{has_id, none-place}
+use Rattle.gt_core.proofs.Words.{◌≡◌, ◌<◌, ◌≤◌, ◌+◌, ℕ, zero, suc, refl, Bool, true, false, List, [], ◌∷◌, length, Some, None, cond, sym, ap, ◌∙◌, arith, get_or, set, eqb-true, eq-eqb, true≢false, position-Some, position, slice_get, ◌==◌, not, position_or_len, option_map, changed_at, State, state_of, changed_in, cond_both, eqb-suc-suc, eqb-suc-zero, eqb-zero-suc}
+use Rattle.gt_core.proofs.{Places.has_id, Places.none-place, Quiet.cond-same}
 
 -- a write of the changed element
 pub set-changed : {A : Type 0} (xs : List A) (r : ℕ) (f : A → A) (y x : A) → r < length xs → x ≡ get_or xs r x → y ≡ f x → set xs r y ≡ changed_at r f xs
@@ -18,12 +18,9 @@ pub length-changed : {A : Type 0} (xs : List A) (r : ℕ) (f : A → A) → leng
 length-changed (z ∷ zs) (suc r) f = ap suc (length-changed zs r f)
 length-changed xs r f = refl
 
-cond-none : {A : Type 0} (b : Bool) → ◌≡◌ {A = Option A} (cond b None None) None
-cond-none b = cond_both b None None (λ o. o ≡ None) (λ e. refl) (λ e. refl)
-
 -- what stands at a place after the change
 pub get-changed : {A : Type 0} (xs : List A) (r q : ℕ) (f : A → A) → slice_get (changed_at r f xs) q ≡ cond (r == q) (option_map f (slice_get xs q)) (slice_get xs q)
-get-changed [] r q f = sym (cond-none (r == q))
+get-changed [] r q f = sym (cond-same (r == q) None)
 get-changed (z ∷ zs) zero zero f = refl
 get-changed (z ∷ zs) zero (suc q) f = sym (ap (λ b. cond b (option_map f (slice_get zs q)) (slice_get zs q)) (eqb-zero-suc q))
 get-changed (z ∷ zs) (suc r) zero f = sym (ap (λ b. cond b (Some (f z)) (Some z)) (eqb-suc-zero r))
@@ -62,7 +59,7 @@ length-changed_in (z ∷ zs) d f = cond_both (z.id.0 == d) (f z ∷ zs) (z ∷ c
 
 -- the first state with a number, after the change of the one with number d
 pub state-changed : (xs : List State) (d q : ℕ) (f : State → State) → ((x : State) → (f x).id ≡ x.id) → state_of (changed_in d f xs) q ≡ cond (d == q) (option_map f (state_of xs q)) (state_of xs q)
-state-changed [] d q f keeps = sym (cond-none (d == q))
+state-changed [] d q f keeps = sym (cond-same (d == q) None)
 state-changed (z ∷ zs) d q f keeps = by (z.id.0 == d) (state-changed zs d q f keeps) refl where
   same-d : z.id.0 ≡ d → (z.id.0 == q) ≡ (d == q)
   same-d e = ap (λ n. n == q) e

@@ -1,6 +1,6 @@
 -- A step of an open call is right, and the core stands for it.
-use Rattle.gt_core.proofs.Words.{◌≡◌, ◌≢◌, ◌<◌, ◌≤◌, ◌+◌, ◌⊎◌, inl, inr, ℕ, suc, refl, true, List, [], ◌∷◌, ◌++◌, length, Option, Some, None, cond, sym, ap, ◌∙◌, subst, reverse, arith, eqb-true, map-append, length-append, length-reverse, reverse_onto, none-some, same_Some, ◌==◌, All, DomId, GrantRef, Denial, Entry, Invalid, Sub, Change, Half, FirstHalf, SecondHalf, Held, Pins, Asked, Demote, ByMapping, ByLeg, Seen, Nothing, Taken, Missed, Verdict, Granted, KeptPin, Step, PinStep, Unpin, StoreBody, StoreHeader, Exchange, ReadBytes, WriteBytes, CopyBytes, Action, Makes, Done, Call, Phase, Storing, StoringSecond, Walking, Last, Ending, last_first, no_pins, CallerKnowledge, knowledge_of, path, Rests, phase_after, action_at, next_to_give, after_store, StandsAt, HasShown, pins_at, held_in, Goes, GoesOn, most_of, steps_left, Open, Item, Answer, Stepped, State, state_of, sees, History, Setting, Pin, entry_at, word_at, table_at, known_at, legs_at, mappings_at, maps_answered_at, seen_by, Underway, values, open_call, underway_after, holder_after, one_if_mapped, StepsSoFar, StepsRight, Justified, IsSafe, PinIsSound, AnsweredBy, GivesValue, LeavesAll, IsSpelled, gives_back, verdict_in, refusal_in, refusal_of, refusal_if, or_then, first_of_item, first_in_call, stood, most_steps, DomainsStand, Agrees, OpenAgrees, GivenAgrees, FitsGiven, PhaseStands, IsClean, phase_refusal, numbered, exchange_sees, gather, by_leg, header_stored, IsSubPage, Leg, LegPhase, leg_step, Continuation, body_at, second_body, publishing, RestsOnRequest, stored_at, or_else, first_body, reverse-append, FitsNext, HoldsAfter, IsCounted, cond_both}
-use Rattle.gt_core.proofs.{Storing.stores, Storing.half-stored, Storing.first-stays, Keeping.stepped, Keeping.KeepsEntries, Keeping.known-same, Keeping.open_call-own, Keeping.stood-own, Quiet.known-as, Quiet.kept-entry, Quiet.kept-raises, Quiet.cond-same, Quiet.KeepsKnown, Quiet.kept-known, Quiet.kept-legs, Quiet.kept-table, Quiet.answered-stays, Placing.IsStore, Placing.placed, Placing.place-stays, Placing.BodyStays, Phases.by-leg, Phases.IsHere, Phases.makes-same, Phases.step-within, Phases.step-publishes, Phases.seen-fits, Phases.by-giving, Phases.call-is, Seeing.sees-agree, Judging.judged, Unpinning.unpins, Unpinning.leg-left, Unpinning.leg-mappings, Unpinning.mapping-legs, Unpinning.from-zero, Pinning.pins, Pinning.leg-grows, Pinning.leg-maps, Beginning.is-at, Beginning.to-come, Beginning.pins-there, Acting.can-change, Acting.can-pin, Acting.store-invalid, Exchanging.exchanged-live, Accessing.read-justified, Accessing.write-justified, Accessing.copy-justified, Outcomes.next_of, Outcomes.IsSingle, Outcomes.single-ends, Outcomes.taken-ends, Outcomes.clean-next, Outcomes.ends-so}
+use Rattle.gt_core.proofs.Words.{◌≡◌, ◌≢◌, ◌<◌, ◌≤◌, ◌+◌, ◌⊎◌, inl, inr, ℕ, suc, refl, true, List, [], ◌∷◌, ◌++◌, length, Option, Some, None, sym, ap, ◌∙◌, subst, reverse, arith, eqb-true, map-append, length-append, length-reverse, reverse_onto, none-some, same_Some, ◌==◌, All, DomId, GrantRef, Denial, Entry, Invalid, Sub, Change, Half, FirstHalf, SecondHalf, Held, Pins, Asked, Demote, ByMapping, ByLeg, Seen, Nothing, Taken, Missed, Verdict, Granted, KeptPin, Step, PinStep, Unpin, StoreBody, StoreHeader, Exchange, ReadBytes, WriteBytes, CopyBytes, Action, Makes, Done, Call, Phase, Storing, StoringSecond, Walking, Last, Ending, last_first, no_pins, CallerKnowledge, knowledge_of, path, Rests, phase_after, action_at, next_to_give, after_store, StandsAt, HasShown, pins_at, held_in, Goes, GoesOn, most_of, steps_left, Open, Item, Answer, Stepped, State, state_of, sees, History, Setting, Pin, entry_at, word_at, table_at, known_at, legs_at, mappings_at, maps_answered_at, seen_by, Underway, values, open_call, underway_after, holder_after, one_if_mapped, StepsSoFar, StepsRight, Justified, IsSafe, PinIsSound, AnsweredBy, GivesValue, LeavesAll, IsSpelled, gives_back, verdict_in, refusal_in, refusal_of, refusal_if, or_then, first_of_item, first_in_call, stood, most_steps, DomainsStand, Agrees, OpenAgrees, GivenAgrees, FitsGiven, PhaseStands, IsClean, phase_refusal, numbered, exchange_sees, gather, by_leg, header_stored, IsSubPage, Leg, LegPhase, leg_step, Continuation, body_at, second_body, publishing, RestsOnRequest, stored_at, first_body, reverse-append, FitsNext, HoldsAfter, IsCounted, cond_both}
+use Rattle.gt_core.proofs.{Quiet.unstored, Storing.stores, Storing.half-stored, Storing.first-stays, Keeping.stepped, Keeping.KeepsEntries, Keeping.known-same, Keeping.open_call-own, Keeping.stood-own, Quiet.known-as, Quiet.kept-entry, Quiet.kept-raises, Quiet.KeepsKnown, Quiet.kept-known, Quiet.kept-legs, Quiet.kept-table, Quiet.answered-stays, Placing.IsStore, Placing.placed, Placing.place-stays, Phases.by-leg, Phases.IsHere, Phases.makes-same, Phases.step-within, Phases.step-publishes, Phases.seen-fits, Phases.by-giving, Phases.call-is, Seeing.sees-agree, Judging.judged, Unpinning.unpins, Unpinning.leg-left, Unpinning.leg-mappings, Unpinning.mapping-legs, Unpinning.from-zero, Pinning.pins, Pinning.leg-grows, Pinning.leg-maps, Beginning.is-at, Beginning.to-come, Beginning.pins-there, Acting.can-change, Acting.can-pin, Acting.store-invalid, Exchanging.exchanged-live, Accessing.read-justified, Accessing.write-justified, Accessing.copy-justified, Outcomes.next_of, Outcomes.IsSingle, Outcomes.single-ends, Outcomes.taken-ends, Outcomes.clean-next, Outcomes.ends-so}
 
 -- what is known of a step of an open call, which saw what the history left
 pub record Ticks (s : Setting) (h : History) (xs : List State) (x : State) (o : Open) (c : Underway) (new : Call) (action : Action) : Type 0 where
@@ -172,8 +172,6 @@ known-by s h d step seen single exchange = by step seen single exchange where
   by (Unpin p (ByMapping handle)) v n e = absurd (n tt)
   by (StoreHeader version frames) v n e = absurd (n tt)
   by (Exchange gref looked change) Taken n e = absurd (e gref looked change refl refl)
-  by (ReadBytes dom frame off len) v n e = absurd (n tt)
-  by (WriteBytes dom frame off len) v n e = absurd (n tt)
   by z v n e = quiet z v (record { changes = λ r. refl; pins = λ before ps. refl; unpins = λ pins. refl; maps = refl }) refl
 
 goes-not : (d : DomId) (z : Step) (p : Phase) (pins : Pins) (v : Verdict) → last_first pins ≡ [] → Makes z ≡ action_at d p → p ≡ Ending pins v → ⊥
@@ -223,10 +221,6 @@ store-place s h d r so_far now (Last last verdict) gref half word way shown a b 
 store-place s h d r so_far now (Ending held_pins verdict) gref half word way shown a b e = absurd (by-giving (λ (z : Step). IsStore z → ⊥) (λ p n f. f) (last_first held_pins) verdict _ e tt)
 store-place s h d r so_far now phase gref half word way shown a b e = cc
 
-body-stays : (i : Item) (h : History) (d : ℕ) → ((r : ℕ) (which : Half) → stored_at i.happened r which ≡ None) → BodyStays i h d
-unfolding body_at
-body-stays i h d none = λ r which. ap (λ (o : Option ℕ). or_else o (body_at h d r which)) (ap (λ (o : Option ℕ). cond (i.actor.0 == d) o None) (none r which) ∙ cond-same (i.actor.0 == d) None)
-
 decide-store : (step : Step) → IsStore step ⊎ (IsStore step → ⊥)
 decide-store (StoreBody gref half word) = inl tt
 decide-store step = inr (λ n. n)
@@ -249,7 +243,7 @@ place-after s h xs x o c new action t = by (decide-store o.step) where
   by (inl n) = store o.step refl n
   by (inr n) =
       place-stays s (stepped d o.step (seen_by s h d o.step) None) h d c.request ((o.step, seen_by s h d o.step) ∷ reverse c.steps) (next_of s h d t.stands.phase o.step)
-      (body-stays (stepped d o.step (seen_by s h d o.step) None) h d.0 (stored-none o.step (seen_by s h d o.step) n))
+      (λ r which. unstored (stepped d o.step (seen_by s h d o.step) None) h d.0 r which (stored-none o.step (seen_by s h d o.step) n r which))
       (placed s h xs d c.request (values c) (reverse c.steps) t.stands.phase o.step (here-of s h xs x o c t.st t.here t.stands) n)
 
 -- a call that goes on is where this step has led it
