@@ -1,6 +1,6 @@
 -- A header that its owner stores.
 use Rattle.gt_core.proofs.Words.{◌≡◌, ◌<◌, ◌%◌, ℕ, refl, Bool, true, false, List, ◌∷◌, Option, Some, None, cond, sym, ap, ◌∙◌, arith, subst, mod-eq_of_lt, ◌==◌, DomId, Header, StoreHeader, Nothing, PinCounts, Open, Item, Answer, State, state_of, changed_in, with_header, History, Setting, header_or, table_at, one_if_mapped, open_call, FitsTable, Agrees, DomainsStand, CallAgrees, GivenAgrees}
-use Rattle.gt_core.proofs.{Quiet.unstored, Quiet.KeepsKnown, Quiet.kept-live, Keeping.stepped, Keeping.SlotsAgree, Keeping.slot-kept, Keeping.actor-agrees, Keeping.kept-stands, Keeping.own-each, Keeping.mappings-stay, Keeping.same-number, Others.other-table}
+use Rattle.gt_core.proofs.{Others.unstored, Others.KeepsKnown, Others.kept-live, Others.other-table, Keeping.stepped, Keeping.SlotsAgree, Keeping.slot-kept, Keeping.actor-agrees, Keeping.kept-stands, Keeping.own-each, Keeping.mappings-stay, Keeping.same-number}
 
 -- the item of a header that is stored
 abbrev pub headed : DomId → ℕ → ℕ → Option Answer → Item

@@ -1,6 +1,6 @@
 -- What stays of a core's agreement with a history after one item more.
 use Rattle.gt_core.proofs.Words.{◌≡◌, ◌≢◌, ◌<◌, ◌+◌, ℕ, refl, Bool, true, false, List, ◌∷◌, length, Option, Some, None, cond, sym, ap, ◌∙◌, subst, reverse, eqb-true, eq-eqb, none-some, ◌==◌, ◌&&◌, All, count_by, slice_get, option_map, fun_ext, DomId, Read, Write, TABLE_ENTRIES, Entry, Invalid, Header, Half, FirstHalf, SecondHalf, IsEntry, HandleMap, Held, CallerKnowledge, control_with, knowledge_of, StandsAt, pins_at, GoesOn, Rests, Makes, PinCounts, Open, Item, Answer, Stepped, Step, Seen, changed_at, State, state_of, changed_in, History, Setting, Pin, live, entry_at, generation_at, body_at, table_at, reads_at, writes_at, control_at, known_at, mappings_at, maps_answered_at, is_pin_on, open_call, underway_after, Underway, values, change_at, stored_at, header_stored, IsSpelled, stood, first_of_item, IsLawful, FitsTable, FitsWord, SlotAgrees, MappingsAgree, Agrees, StateAgrees, DomainsStand, CallAgrees, OpenAgrees, GivenAgrees, Dir, gather, by_mapping, slot_after, with_slot, and_left, and_right, stood_with, MAX_PINS, cond_both, CountsChange}
-use Rattle.gt_core.proofs.{Rows.get-changed, Rows.length-changed, Rows.state-changed, Mappings.mappings-same, Quiet.unstored, Quiet.KeepsKnown, Quiet.KeepsAll, Quiet.cond-same, Quiet.kept-table, Quiet.kept-live, Quiet.answered-stays, Quiet.kept-entry, Quiet.kept-raises, Quiet.kept-generations, Others.other-entry, Others.other-body, Others.other-maps, Others.other-mappings, Others.other-legs, Others.other-generations, Others.other-table, Others.other-known, Placing.place-stays}
+use Rattle.gt_core.proofs.{Rows.get-changed, Rows.length-changed, Rows.state-changed, Mappings.mappings-same, Others.unstored, Others.KeepsKnown, Others.KeepsAll, Others.cond-same, Others.kept-table, Others.kept-live, Others.answered-stays, Others.kept-entry, Others.kept-raises, Others.kept-generations, Others.other-entry, Others.other-body, Others.other-maps, Others.other-mappings, Others.other-legs, Others.other-generations, Others.other-table, Others.other-known, Placing.place-stays}
 
 -- what a domain itself knows is what the core keeps of it
 pub known-same : (s : Setting) (h : History) (d : State) → Agrees s h d

@@ -1,12 +1,10 @@
 pub mod Accessing
 pub mod Acting
 pub mod Aims
-pub mod Applying
 pub mod Bare
 pub mod Beginning
 pub mod Doing
 pub mod Exchanging
-pub mod Fitting
 pub mod Framing
 pub mod Given
 pub mod Headers
@@ -19,10 +17,8 @@ pub mod Outcomes
 pub mod Phases
 pub mod Pinning
 pub mod Pins
-pub mod Places
 pub mod Placing
 pub mod Playing
-pub mod Quiet
 pub mod Rows
 pub mod Seeing
 pub mod Settling
@@ -31,7 +27,6 @@ pub mod Starting
 pub mod Stepping
 pub mod Still
 pub mod Storing
-pub mod Subjects
 pub mod Ticking
 pub mod Together
 pub mod Tries

@@ -1,7 +1,28 @@
 -- What the core's steps see is what the history left.
-use Rattle.gt_core.proofs.Words.{◌≡◌, ◌≢◌, ◌<◌, ℕ, zero, suc, refl, Bool, true, false, List, [], ◌∷◌, length, Option, Some, None, cond, ap, ◌∙◌, arith, same_Some, ◌==◌, slice_get, DomId, Entry, control_word, header_word, PinCounts, Own, State, Step, LookHeader, LookControl, LookBody, Exchange, Word, control_with, generation_in, Half, FirstHalf, SecondHalf, TABLE_ENTRIES, History, Setting, entry_at, generation_at, reads_at, body_at, table_at, word_at, seen_by, exchange_sees, Agrees, StateAgrees, DomainsStand, control_seen, header_seen, body_seen, sees, reads_in, writes_in, body_in, slot_reads, slot_writes, slot_body, control_in, get_or, slice_get-get_or}
+use Rattle.gt_core.proofs.Words.{◌≡◌, ◌<◌, ◌≤◌, ◌+◌, ◌%◌, ℕ, Bool, true, false, cond, List, ap, ◌∙◌, arith, ◌==◌, TABLE_ENTRIES, control_of, header_word, header_of, Header, State, History, Setting, word_at, control_at, DomainsStand, FitsTable, ◌*◌, ◌/◌, control-round, MAX_TABLE_FRAMES, ENTRIES_V1, ENTRIES_V2, ◌≢◌, zero, suc, refl, [], ◌∷◌, length, Option, Some, None, same_Some, slice_get, DomId, Entry, control_word, PinCounts, Own, Step, LookHeader, LookControl, LookBody, Exchange, Word, control_with, generation_in, Half, FirstHalf, SecondHalf, entry_at, generation_at, reads_at, body_at, table_at, seen_by, exchange_sees, Agrees, StateAgrees, control_seen, header_seen, body_seen, sees, reads_in, writes_in, body_in, slot_reads, slot_writes, slot_body, control_in, get_or, slice_get-get_or}
+use Rattle.gt_entry.specs.Words.{size_of}
 use Rattle.gt_calls.specs.declared.action.Step.TheVariants.{Pin}
 use Rattle.gt_core.specs.Standing.{state_of}
+
+pub word-shows : (s : Setting) (h : History) (xs : List State) (t r : ℕ) → DomainsStand s h xs → r < TABLE_ENTRIES → control_of (word_at s h t r) ≡ control_at s h t r
+word-shows s h xs t r st within = control-round (control_at s h t r) (st.words t r within).in_range (st.words t r within).domain
+
+-- a header within the limits has room in its word, and its table has at most 2,048 entries
+pub table-fits : (x : Header) → FitsTable x → (size_of x ≤ TABLE_ENTRIES) × (header_of (header_word x) ≡ x)
+table-fits x f = (by (x.version == 2) few, ap (λ (n : ℕ). record { version = n; frames = (x.version + x.frames * 4) / 4 % 256 }) version ∙ ap (λ (n : ℕ). record { version = x.version; frames = n }) frames)
+  where
+    few : x.frames ≤ MAX_TABLE_FRAMES
+    few = f.frames
+
+    by : (b : Bool) → x.frames ≤ MAX_TABLE_FRAMES → x.frames * cond b ENTRIES_V2 ENTRIES_V1 ≤ TABLE_ENTRIES
+    by true le = omega arith
+    by false le = omega arith
+
+    version : (x.version + x.frames * 4) % 4 ≡ x.version
+    version = let a = f.version in omega arith
+
+    frames : (x.version + x.frames * 4) / 4 % 256 ≡ x.frames
+    frames = let a = f.version in let b = f.frames in omega arith
 
 -- what is seen of the states is of the first one with the number
 seen-state : {A : Type 0} (seen : List State → A) (of : State → A) (d : ℕ) (x : State) → ((y : State) (ys : List State) → seen (y ∷ ys) ≡ cond (y.id.0 == d) (of y) (seen ys))

@@ -1,6 +1,6 @@
 -- A body word stored on an invalid entry keeps what a core stands for.
 use Rattle.gt_core.proofs.Words.{◌≡◌, ◌≢◌, ℕ, refl, Bool, true, false, List, ◌∷◌, Option, Some, None, cond, sym, ap, ◌∙◌, subst, eqb-true, eq-eqb, ◌==◌, ◌&&◌, count_by, DomId, GrantRef, Read, Write, Invalid, Half, FirstHalf, SecondHalf, StoreBody, Nothing, PinCounts, Stored, Open, Item, Stepped, changed_at, State, state_of, changed_in, with_slot, slot_after, History, Setting, Pin, entry_at, body_at, or_else, stored_at, is_pin_on, open_call, FitsTable, SlotAgrees, Agrees, DomainsStand, CallAgrees, GivenAgrees, same_half, and_right}
-use Rattle.gt_core.proofs.{Keeping.slot-kept, Keeping.actor-agrees, Keeping.kept-stands, Keeping.own-each, Keeping.stepped, Keeping.SlotsAgree, Keeping.slots-agree, Keeping.same-number, Keeping.mappings-stay, Rows.length-changed, Quiet.KeepsKnown, Quiet.kept-live, Quiet.kept-table, Others.other-body}
+use Rattle.gt_core.proofs.{Keeping.slot-kept, Keeping.actor-agrees, Keeping.kept-stands, Keeping.own-each, Keeping.stepped, Keeping.SlotsAgree, Keeping.slots-agree, Keeping.same-number, Keeping.mappings-stay, Rows.length-changed, Others.KeepsKnown, Others.kept-live, Others.kept-table, Others.other-body}
 
 -- the item of a store
 abbrev pub stores : DomId → GrantRef → Half → ℕ → Item

@@ -1,6 +1,6 @@
 -- An unpin keeps what a core stands for.
 use Rattle.gt_core.proofs.Words.{◌≡◌, ◌≤◌, ◌+◌, ◌-◌, ◌⊎◌, inl, inr, ℕ, suc, refl, Bool, true, false, List, [], ◌∷◌, ◌++◌, length, Option, Some, None, cond, sym, ap, ◌∙◌, arith, subst, ◌==◌, ◌&&◌, All, count_by, eq-eqb, false≢true, none-some, same_Some, append-nil, sum_by-cons, All-tail, DomId, Dir, Read, Write, Half, FirstHalf, SecondHalf, Handle, HandleMap, Held, Holder, ByMapping, ByLeg, Unpin, Seen, PinCounts, Open, Unpinned, Item, Answer, State, state_of, changed_in, with_slot, without_mapping, slot_after, taken, History, Setting, Pin, live, body_at, mappings_at, maps_answered_at, legs_at, open_call, is_pin_on, without, is_holder, same_handle, same_dir, gather, by_mapping, by_leg, mapping_of, one_if_mapped, IsLawful, SlotAgrees, Agrees, DomainsStand, CallAgrees, GivenAgrees, MappingsAgree, numbered, sum_by-append, All-cons, All-head, ne_eqb}
-use Rattle.gt_core.proofs.{Quiet.answered-stays, Keeping.stepped, Keeping.KeepsEntries, Keeping.same-body, Keeping.counts-fit, Keeping.after_change, Keeping.Becomes, Keeping.becomes-changed, Keeping.slots-stand, Keeping.keeps-stands, Mappings.less, Mappings.less_of, Mappings.mappings-taken, Mappings.mappings-same, Rows.state-changed, Pinning.pins, Pinning.pins_at, Pinning.moved-slots}
+use Rattle.gt_core.proofs.{Others.answered-stays, Keeping.stepped, Keeping.KeepsEntries, Keeping.same-body, Keeping.counts-fit, Keeping.after_change, Keeping.Becomes, Keeping.becomes-changed, Keeping.slots-stand, Keeping.keeps-stands, Mappings.less, Mappings.less_of, Mappings.mappings-taken, Mappings.mappings-same, Rows.state-changed, Pinning.pins, Pinning.pins_at, Pinning.moved-slots}
 
 -- what an unpin takes from the live pins
 

@@ -1,4 +1,4 @@
-use Rattle.gt_calls.proofs.{Words.CallerKnowledge, MapCalls.map-goes}
+use Rattle.gt_calls.proofs.{Words.CallerKnowledge, Advancing.map-goes}
 use Rattle.gt_calls.proofs.mapping.MapCall.next.Goals as goal
 
 pub returns : goal.returns
