@@ -1,7 +1,7 @@
 -- The refusal that a step leads to is the first rule that stands, and where the call stands then.
 use Rattle.gt_core.proofs.Words.{◌≡◌, ◌+◌, ◌-◌, ℕ, zero, suc, refl, Bool, true, false, List, [], ◌∷◌, Option, Some, None, cond, sym, ap, ◌∙◌, subst, reverse, arith, nat_lt, nat_le, ◌==◌, ◌&&◌, ◌||◌, not, lt-ltb, eqb-true, eq-eqb, true≢false, false≢true, DomId, GrantRef, Rule, N10, N18, N19, Denial, MAX_TRIES, Entry, Invalid, Via, Control, Change, Publish, ToInvalid, ToReadOnly, ToWritable, allows_direction, control_of, MORE_TRIES, Held, Route, Direct, Through, Asked, CopyArgs, Verdict, Step, LookHeader, LookControl, Exchange, Seen, Taken, Missed, Makes, Aim, Mapping, Source, Dest, Question, AsksSize, AsksVersion, Phase, Storing, Exchanging, Looking, Changing, Walking, Accessing, Asking, Last, Ending, Leg, LegPhase, AtHeader, Look, Body, Second, Pinning, Relook, LegNext, Going, LegRefused, Pinned, last_first, CallerKnowledge, first, stands, first_look, is_kind, size_of, via_judged, is_dest_granted, Continuation, path, entry_refusal, held_of, rule_of_try, source_pair, dest_pair, end_leg, second_leg, IsFor, IsOnFrom, RestsOnWord, phase_after, action_at, after_leg, leg_after, leg_step, after_miss, after_pin_of, after_source_pin, after_dest_pin, at_dest, where_via, after_store, refused_as, next_to_give, IsTurn, IsQuiet, HasShown, State, History, Setting, word_at, control_at, table_at, entry_at, generation_at, body_at, reads_at, writes_at, known_at, seen_by, legs_at, StepsSoFar, LegNow, misses, is_demote, at_entry, first_at, refusal_in, or_then, PhaseStands, LegStands, Asks, phase_refusal, numbered, header_of, header_word, denial_of, N9, after_look, KindSub, FirstHalf, after_words, SecondHalf, Write, Read, Pins, pins_at, N11, N12, N13, N15, KindPage, KindVia, is_copying, after_own_miss, rule_at_via, rule_at_pin, cond_both}
 use Rattle.gt_entry.specs.Spelling.{control_with}
-use Rattle.gt_core.proofs.{Aims.pair_of, Aims.leg-here, Legs.Words, Legs.IsAsTried, Legs.as-tried, Legs.TakesNone, Legs.leg-judged, Legs.refusal_next, Legs.IsLegOf, Legs.control-parts, Tries.misses-look, Tries.misses-exchange, Tries.misses-exchanged, Tries.few, Tries.miss-late, Outcomes.after-plain, Phases.OfAction, Phases.IsHere, Phases.makes-same, Phases.words-of, Phases.turn-below, Phases.IsPublished, Phases.step-publishes, Phases.idle-here, Phases.idle-no-pins, Phases.by-quiet, Seeing.word-shows}
+use Rattle.gt_core.proofs.{Aims.pair_of, Aims.leg-here, Legs.Words, Legs.IsAsTried, Legs.as-tried, Legs.TakesNone, Legs.leg-judged, Legs.refusal_next, Legs.IsLegOf, Legs.control-parts, Legs.misses-look, Legs.misses-exchange, Legs.misses-exchanged, Legs.few, Legs.miss-late, Outcomes.after-plain, Phases.OfAction, Phases.IsHere, Phases.makes-same, Phases.words-of, Phases.turn-below, Phases.IsPublished, Phases.step-publishes, Phases.idle-here, Phases.idle-no-pins, Phases.by-quiet, Seeing.word-shows}
 
 -- the first rule that stands at this step, or before it, is the refusal that the call comes to
 abbrev pub Judged : Setting → History → DomId → Asked → StepsSoFar → Phase → Step → Type 0

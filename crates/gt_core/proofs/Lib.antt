@@ -3,11 +3,9 @@ pub mod Acting
 pub mod Aims
 pub mod Bare
 pub mod Beginning
-pub mod Doing
 pub mod Exchanging
 pub mod Framing
 pub mod Given
-pub mod Headers
 pub mod Judging
 pub mod Keeping
 pub mod Legs
@@ -25,11 +23,9 @@ pub mod Settling
 pub mod Showing
 pub mod Starting
 pub mod Stepping
-pub mod Still
 pub mod Storing
 pub mod Ticking
 pub mod Together
-pub mod Tries
 pub mod Unpinning
 pub mod Values
 pub mod Words
