@@ -27,14 +27,15 @@ call-some s h id (Some o) (Some c) e a n = cc
 
 -- an opened call
 
-held-by : (k : CallerKnowledge) (d : DomId) (r : Asked) → begun k d r ≡ None → held_in (first_phase k d r) ≡ []
-held-by k d (Unmap handle) e = ap (λ (o : Option Held). held_in (unmap_phase handle o)) (opens k d (Unmap handle) e).found
-held-by k d (Load handle off len) e = ap (λ (o : Option Held). held_in (load_phase o off len)) (opens k d (Load handle off len) e).found
-held-by k d (Store handle off len) e = ap (λ (o : Option Held). held_in (store_phase o off len)) (opens k d (Store handle off len) e).found
-held-by k d (Copy c) e =
-    cond_both (is_source_granted c) (Walking (Source c None) (end_leg k d c.source Read c.len) AtHeader) (at_dest k d c Own) (λ p. held_in p ≡ [])
-    (λ a. refl) (λ a. cond_both (is_dest_granted c) (Walking (Dest c Own None) (end_leg k d c.dest Write c.len) AtHeader) (Accessing c Own Own) (λ p. held_in p ≡ []) (λ b. refl) (λ b. refl))
-held-by k d r e = refl
+-- holding nothing, and with no rule against it where it then stands
+first-fine : (k : CallerKnowledge) (d : DomId) (r : Asked) → begun k d r ≡ None → (held_in (first_phase k d r) ≡ []) × (phase_refusal (first_phase k d r) ≡ None)
+first-fine k d (Unmap handle) e = subst (λ (o : Option Held). (held_in (unmap_phase handle o) ≡ []) × (phase_refusal (unmap_phase handle o) ≡ None)) (sym (opens k d (Unmap handle) e).found) (refl, refl)
+first-fine k d (Load handle off len) e = subst (λ (o : Option Held). (held_in (load_phase o off len) ≡ []) × (phase_refusal (load_phase o off len) ≡ None)) (sym (opens k d (Load handle off len) e).found) (refl, refl)
+first-fine k d (Store handle off len) e = subst (λ (o : Option Held). (held_in (store_phase o off len) ≡ []) × (phase_refusal (store_phase o off len) ≡ None)) (sym (opens k d (Store handle off len) e).found) (refl, refl)
+first-fine k d (Copy c) e = let Fine : Phase → Type 0 = λ p. (held_in p ≡ []) × (phase_refusal p ≡ None) in
+    cond_both (is_source_granted c) (Walking (Source c None) (end_leg k d c.source Read c.len) AtHeader) (at_dest k d c Own) Fine (λ a. (refl, refl))
+    (λ a. cond_both (is_dest_granted c) (Walking (Dest c Own None) (end_leg k d c.dest Write c.len) AtHeader) (Accessing c Own Own) Fine (λ b. (refl, refl)) (λ b. (refl, refl)))
+first-fine k d r e = (refl, refl)
 
 first-place : (s : Setting) (h : History) (d : DomId) (r : Asked) → begun (known_at s h d) d r ≡ None → PhaseStands s h d r [] (first_phase (known_at s h d) d r)
 unfolding misses
@@ -57,16 +58,6 @@ first-place s h d (SetupTable frames) e = inr (refl, refl)
 first-place s h d (QuerySize dom) e = (dom, refl, refl)
 first-place s h d (GetVersion dom) e = (dom, refl, refl)
 first-place s h d r e = tt
-
--- a call that opens has no rule against it where it then stands
-first-plain : (k : CallerKnowledge) (d : DomId) (r : Asked) → begun k d r ≡ None → phase_refusal (first_phase k d r) ≡ None
-first-plain k d (Unmap handle) e = ap (λ (o : Option Held). phase_refusal (unmap_phase handle o)) (opens k d (Unmap handle) e).found
-first-plain k d (Load handle off len) e = ap (λ (o : Option Held). phase_refusal (load_phase o off len)) (opens k d (Load handle off len) e).found
-first-plain k d (Store handle off len) e = ap (λ (o : Option Held). phase_refusal (store_phase o off len)) (opens k d (Store handle off len) e).found
-first-plain k d (Copy c) e =
-    cond_both (is_source_granted c) (Walking (Source c None) (end_leg k d c.source Read c.len) AtHeader) (at_dest k d c Own) (λ p. phase_refusal p ≡ None)
-    (λ a. refl) (λ a. cond_both (is_dest_granted c) (Walking (Dest c Own None) (end_leg k d c.dest Write c.len) AtHeader) (Accessing c Own Own) (λ p. phase_refusal p ≡ None) (λ b. refl) (λ b. refl))
-first-plain k d r e = refl
 
 clean-nothing : (p : Phase) → IsClean p []
 clean-nothing (Ending pins verdict) = inr (All-nil LeavesAll)
@@ -126,10 +117,10 @@ begin-opens s h d request o fits a closed op = let i = began d.id request None i
       follows = subst (λ (k : CallerKnowledge). GoesOn k d.id r [] (Makes o.step)) still op.follows;
       rests = subst (λ (z : Pins). Rests k d.id r z [] (Makes o.step)) (pins-there o.call (first_phase k d.id r) here) (subst (λ (k : CallerKnowledge). Rests k d.id r (pins_by_call o.call) [] (Makes o.step)) still op.rests);
       place = first-place s (i ∷ h) d.id r none;
-      fair = fair ∙ sym (first-plain k d.id r none);
+      fair = fair ∙ sym (first-fine k d.id r none).1;
       fits = subst FitsAsked op.asks fits;
       clean = clean-nothing (first_phase k d.id r);
-      held = kept-legs i h d.id.0 keeps ∙ empty.1 ∙ sym (ap (λ (l : List Held). numbered 0 (reverse l)) (held-by k d.id r none));
+      held = kept-legs i h d.id.0 keeps ∙ empty.1 ∙ sym (ap (λ (l : List Held). numbered 0 (reverse l)) (first-fine k d.id r none).0);
       few = (omega arith);
     } in (
       (empty.0, subst (λ (v : Option Verdict). AnsweredBy s h d.id r None false v None (stood s (i ∷ h) d.id.0)) (sym unanswered) (inl fair), λ e. said),

@@ -111,33 +111,29 @@ abbrev pub IsPlainAnswer : Answer → Type 0
 IsPlainAnswer (Mapped handle) = ⊥
 IsPlainAnswer answer = Unit {0}
 
-plain-maps : (answer : Answer) → IsPlainAnswer answer → one_if_mapped (Some answer) ≡ 0
-plain-maps (Mapped handle) a = absurd a
-plain-maps answer a = refl
-
-plain-leg : (answer : Answer) → IsPlainAnswer answer → (n : ℕ) → holder_after (Some answer) n ≡ ByLeg n
-plain-leg (Mapped handle) a n = absurd a
-plain-leg answer a n = refl
+plain : (answer : Answer) → IsPlainAnswer answer → (one_if_mapped (Some answer) ≡ 0) × ((n : ℕ) → holder_after (Some answer) n ≡ ByLeg n)
+plain (Mapped handle) a = absurd a
+plain answer a = (refl, λ n. refl)
 
 pub ends-core : (s : Setting) (h : History) (xs ys : List State) (x : State) (o : Open) (c : Underway) (new : Call) (v : Verdict) (answer : Answer) → Ticks s h xs x o c new (Done v) → Replaced xs ys x (record x { underway = None })
     → IsPlainAnswer answer → ((m : Held) → v ≡ KeptPin m → ⊥) → refusal_of answer ≡ refusal_in (Some v) → GivesValue s h x.id c.request (Some o.step) answer
     → Ticked s h x.id o.step (seen_by s h x.id o.step) (Some answer) (applied x.id o.step (seen_by s h x.id o.step) ys)
-ends-core s h xs ys x o c new v answer t r plain unmapped same value = let seen = seen_by s h x.id o.step in
-    let legs = none-held s h xs x o c new v answer t (plain-maps answer plain) (plain-leg answer plain) unmapped in (
+ends-core s h xs ys x o c new v answer t r is_plain unmapped same value = let seen = seen_by s h x.id o.step in
+    let legs = none-held s h xs x o c new v answer t (plain answer is_plain).0 (plain answer is_plain).1 unmapped in (
       right-in s h x.id o.step seen (Some answer) c t.call (ends-right s h xs x o c new v answer t same legs value),
-      step-stands s h xs ys x c t.stands.phase o.step (Some answer) None (here-of s h xs x o c t.st t.here t.stands) (last-fact s h xs x o c new (Done v) t) t.here t.agrees r (plain-maps answer plain) (plain-leg answer plain)
+      step-stands s h xs ys x c t.stands.phase o.step (Some answer) None (here-of s h xs x o c t.st t.here t.stands) (last-fact s h xs x o c new (Done v) t) t.here t.agrees r (plain answer is_plain).0 (plain answer is_plain).1
           (λ store. absurd (store-goes s h xs x o c new v t store)) (call-over s h x.id o.step seen answer legs),
     )
 
 pub given-core : (s : Setting) (h : History) (xs ys : List State) (x : State) (o : Open) (c : Underway) (new : Call) (value : Value) → Ticks s h xs x o c new (Done (Given value)) → Replaced xs ys x (record x { underway = None })
     → Ticked s h x.id o.step (seen_by s h x.id o.step) (Some (answer_with value)) (applied x.id o.step (seen_by s h x.id o.step) ys)
 given-core s h xs ys x o c new value t r =
-    ends-core s h xs ys x o c new (Given value) (answer_with value) t r (plain value) (λ m e. cc) (same value)
+    ends-core s h xs ys x o c new (Given value) (answer_with value) t r (valued value) (λ m e. cc) (same value)
     (call-ends s h xs x.id c.request (values c) (reverse c.steps) t.stands.phase o.step (here-of s h xs x o c t.st t.here t.stands) (Given value) (sym t.acts))
   where
-    plain : (z : Value) → IsPlainAnswer (answer_with z)
-    plain (FramesTold n) = tt
-    plain z = tt
+    valued : (z : Value) → IsPlainAnswer (answer_with z)
+    valued (FramesTold n) = tt
+    valued z = tt
 
     same : (z : Value) → refusal_of (answer_with z) ≡ None
     same (FramesTold n) = refl

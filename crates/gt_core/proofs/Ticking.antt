@@ -64,9 +64,6 @@ ticks s h xs x o c seen new action st here agrees call a saw caller asks goes = 
 
 -- the call with one step more
 
-steps-more : (c : Underway) (step : Step) (seen : Seen) → reverse (c.steps ++ (step, seen) ∷ []) ≡ (step, seen) ∷ reverse c.steps
-steps-more c step seen = reverse-append c.steps ((step, seen) ∷ [])
-
 pub given-goes-on : (d : DomId) (step : Step) (seen : Seen) (answer : Option Answer) (h : History) (given : List ℕ) → GivenAgrees h d.0 given → GivenAgrees (stepped d step seen answer ∷ h) d.0 given
 given-goes-on d step seen answer h given a = λ c call. by answer (open_call h d.0) refl c (sym (open_call-own (stepped d step seen answer) h) ∙ call)
   where
@@ -263,7 +260,7 @@ open-after s h xs x o c new z t = let d = x.id in let r = c.request in let seen 
       acts = sym t.acts;
       follows = subst (λ (k : CallerKnowledge). GoesOn k d r (values (record { request = c.request; given = c.given; steps = c.steps ++ (o.step, seen) ∷ [] })) (Makes z)) (sym same) (subst (λ (vs : List Seen). GoesOn (known_at s h d) d r vs (Makes z)) shown t.follows);
       rests = subst (λ (k : CallerKnowledge). Rests k d r (pins_at next) (values (record { request = c.request; given = c.given; steps = c.steps ++ (o.step, seen) ∷ [] })) (Makes z)) (sym same) (subst (λ (vs : List Seen). Rests (known_at s h d) d r (pins_at next) vs (Makes z)) shown t.rests);
-      place = subst (λ (so_far : StepsSoFar). PhaseStands s (i ∷ h) d r so_far next) (sym (steps-more c o.step seen)) (place-after s h xs x o c new (Makes z) t);
+      place = subst (λ (so_far : StepsSoFar). PhaseStands s (i ∷ h) d r so_far next) (sym (reverse-append c.steps ((o.step, seen) ∷ []))) (place-after s h xs x o c new (Makes z) t);
       fair = stood-after s h xs x o c new (Makes z) None t;
       fits = t.stands.fits;
       clean = clean-next s h (path (known_at s h d) d r) d r (values c) (reverse c.steps) t.stands.phase o.step c.steps t.stands.at.has_shown t.stands.acts t.stands.place t.stands.clean;
