@@ -1,14 +1,7 @@
 -- A call before its first step: what is so of each, by what it asks.
-use Rattle.gt_calls.proofs.Words.{◌≡◌, ◌≤◌, ◌*◌, ℕ, refl, [], Option, Some, None, cond, sym, ap, ◌∙◌, subst, inl, inr, arith, DomId, Read, Write, MAX_TRIES, frame_of, GrantRef, Request, bytes_of, Asked, Grant, Revoke, Demote, Promote, Map, Unmap, Load, SetVersion, SetupTable, QuerySize, GetVersion, Store, Peek, Poke, Copy, CopyArgs, ByHandle, Held, Own, Source, Dest, Verdict, Step, Unpin, StoreHeader, ReadBytes, WriteBytes, Phase, Walking, Accessing, Last, Ending, Header, CallerKnowledge, begun, is_source_granted, is_dest_granted, opens, Continuation, path, after_beginning, steps_of, makes, ended, by_mapping, end_leg, RestsOnRequest, remains, first_phase, mapped_phase, at_source, at_dest, action_at, IsQuiet, HasShown, held_in, steps_left, MakesStep, cond_both}
+use Rattle.gt_calls.proofs.Words.{◌≡◌, ◌≤◌, ◌*◌, ℕ, refl, [], Option, Some, None, sym, ap, ◌∙◌, subst, inl, inr, arith, DomId, Read, Write, MAX_TRIES, frame_of, GrantRef, Request, bytes_of, Asked, Grant, Revoke, Demote, Promote, Map, Unmap, Load, SetVersion, SetupTable, QuerySize, GetVersion, Store, Peek, Poke, Copy, CopyArgs, ByHandle, Held, Own, Source, Dest, Verdict, Step, Unpin, StoreHeader, ReadBytes, WriteBytes, Phase, Walking, Accessing, Last, Ending, Header, CallerKnowledge, begun, is_source_granted, is_dest_granted, opens, Continuation, path, after_beginning, steps_of, makes, ended, by_mapping, end_leg, RestsOnRequest, remains, first_phase, mapped_phase, at_source, at_dest, action_at, IsQuiet, HasShown, held_in, steps_left, MakesStep, cond_both, Granted, Given, Frames}
+use Rattle.gt_calls.{specs.Path.leg_steps, specs.Path.most_steps, proofs.Calls.at-source, proofs.Calls.wants-action, proofs.Shown.shown-source, proofs.Holds.held-source, proofs.Counts.at-source-left}
 use Rattle.gt_calls.specs.declared.request.Request.TheVariants as requests
-use Rattle.gt_calls.specs.declared.action.Verdict.TheVariants.{Granted, Given}
-use Rattle.gt_calls.specs.declared.action.Value.TheVariants.{Frames}
-use Rattle.gt_calls.specs.Path.{leg_steps, most_steps}
-use Rattle.gt_calls.proofs.Walks.{at-source}
-use Rattle.gt_calls.proofs.Calls.{wants-action}
-use Rattle.gt_calls.proofs.Shown.{shown-source}
-use Rattle.gt_calls.proofs.Holds.{held-source}
-use Rattle.gt_calls.proofs.Counts.{at-source-left}
 
 -- a step is to be made here, whatever is held
 abbrev pub IsMoving : Phase → Type 0

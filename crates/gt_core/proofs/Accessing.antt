@@ -1,8 +1,7 @@
 -- What an access to bytes rests on: it is inside a frame, and justified.
 use Rattle.gt_core.proofs.Words.{◌≡◌, ◌≢◌, ◌≤◌, ◌<◌, ◌+◌, ◌⊎◌, inl, inr, ℕ, suc, refl, Bool, true, false, List, [], ◌∷◌, ◌++◌, Option, Some, None, cond, sym, ap, ◌∙◌, arith, subst, reverse, eqb-true, and_parts, and_from, leb-false, false≢true, none-some, same_Some, ◌==◌, ◌&&◌, nat_le, is_none, All, Any, reverse_onto, domain_of, resolved, denial_of, DomId, TypeId, Dir, Read, Write, ForMap, ForCopy, Perms, Triple, FRAME_SIZE, Policy, N1, N5, Entry, Page, Sub, frame_of, permits, forwards, allows_direction, Handle, Held, Route, Direct, Through, Pins, End, Asked, Load, Store, Peek, Poke, Copy, Holder, ByMapping, ByLeg, Place, Refused, ReadBytes, WriteBytes, last_first, CallerKnowledge, begun, frames_of, via_judged, denied, copy_denied, rights_to_copy, refused_when, first, is_source_granted, is_dest_granted, source_pair, dest_pair, opens, RestsOnRequest, RestsOnWays, IsReached, LeadsTo, State, History, Setting, Pin, live, known_at, legs_at, mappings_at, mapping_of, gather, by_mapping, by_leg, same_handle, MayUse, IsInFrame, CopyIsJustified, Justified, IsLawful, IsLawfullyHeld, DomainsStand, numbered, Verdict, owner_by, IsAllowed, IsMapped, IsPermitted, Reaches, Forwards, MayCopy, MayUseMapping, MayAccess, MayAsk, EndIsJustified, cond_both}
-use Rattle.gt_calls.specs.declared.held.Route.TheVariants.{Own}
-use Rattle.gt_calls.specs.Path.{place_of}
-pub use Rattle.gt_core.proofs.Phases.{call-is, none-of}
+use Rattle.gt_calls.specs.{declared.held.Route.TheVariants.Own, Path.place_of}
+use Rattle.gt_core.proofs.Phases.{none-of}
 
 -- pins among those that a domain's give
 

@@ -1,9 +1,6 @@
 -- What each step of an open call rests on, by the history.
-use Rattle.gt_core.proofs.Words.{◌≡◌, ◌≢◌, ◌<◌, ◌≤◌, ◌+◌, ◌⊎◌, inl, inr, ℕ, refl, Bool, true, false, List, [], ◌∷◌, Option, None, sym, ap, ◌∙◌, subst, reverse, arith, eqb-false, leb-false, ltb-false, false≢true, ◌==◌, nat_lt, domain_of, resolved, DomId, GrantRef, Dir, Read, Write, ForMap, TABLE_ENTRIES, LAST_GENERATION, MAX_TABLE_FRAMES, MAX_PINS, Rule, N16, Entry, Invalid, Page, Sub, Via, Change, Publish, ToInvalid, ToReadOnly, ToWritable, Half, FirstHalf, SecondHalf, frame_of, permits, control_of, Held, Asked, Grant, Map, Copy, SetVersion, SetupTable, Seen, PinStep, StoreHeader, Exchange, Makes, Aim, Mapping, Source, Dest, Phase, Exchanging, Changing, Walking, Last, Ending, Leg, LegPhase, AtHeader, Pinning, last_first, CallerKnowledge, begun, stands, first, first_look, before_pin, frames_of, path, held_of, map_leg, Continuation, opens, RestsOnRequest, IsFor, action_at, leg_step, HasShown, IsQuiet, State, History, Setting, entry_at, generation_at, body_at, reads_at, writes_at, control_at, word_at, known_at, legs_at, raise_of, IsSafeChange, IsSpelled, MayUse, leg_at, rule_before_pin, StepsSoFar, DomainsStand, FitsAsked, FitsTable, PhaseStands, numbered, Demote, Promote, pins_so_far, map_dir, Pins, Step, LAST_VERSION, N14, N17, pins_of, is_outside, is_past_owner, RestsOnTry, RestsOnGrant, Lets, NoneStands}
-use Rattle.gt_core.proofs.Phases.{none-of, IsHere, makes-same, words-of, word-below, grant-invalid, idle-no-pins, of-run, by-giving, word-shows}
-use Rattle.gt_core.proofs.Judging.{writes-shown, leg-here, IsAsTried, as-tried, still-judged, control-parts}
-pub use Rattle.gt_core.proofs.Exchanging.{FitsChange, exchanged-live, exchange-stands, counts-fit}
-use Rattle.gt_core.proofs.Pinning.{pins_at}
+use Rattle.gt_core.proofs.Words.{◌≡◌, ◌≢◌, ◌<◌, ◌≤◌, ◌+◌, ◌⊎◌, inl, inr, ℕ, refl, Bool, true, false, List, [], ◌∷◌, Option, None, sym, ap, ◌∙◌, subst, reverse, arith, eqb-false, leb-false, ltb-false, false≢true, ◌==◌, nat_lt, domain_of, resolved, DomId, GrantRef, Dir, Read, Write, ForMap, TABLE_ENTRIES, LAST_GENERATION, MAX_TABLE_FRAMES, MAX_PINS, Rule, N16, Entry, Invalid, Page, Sub, Via, Change, Publish, ToInvalid, ToReadOnly, ToWritable, Half, FirstHalf, SecondHalf, frame_of, permits, control_of, Held, Asked, Grant, Map, Copy, SetVersion, SetupTable, Seen, PinStep, StoreHeader, Exchange, Makes, Aim, Mapping, Source, Dest, Phase, Exchanging, Changing, Walking, Last, Ending, Leg, LegPhase, Pinning, last_first, CallerKnowledge, begun, stands, first, first_look, before_pin, frames_of, path, held_of, map_leg, Continuation, opens, RestsOnRequest, IsFor, action_at, leg_step, HasShown, IsQuiet, State, History, Setting, entry_at, generation_at, body_at, reads_at, writes_at, control_at, word_at, known_at, legs_at, raise_of, IsSafeChange, IsSpelled, MayUse, leg_at, rule_before_pin, StepsSoFar, DomainsStand, FitsAsked, FitsTable, PhaseStands, numbered, Demote, Promote, pins_so_far, map_dir, Pins, Step, LAST_VERSION, N14, N17, pins_of, is_outside, is_past_owner, RestsOnTry, RestsOnGrant, Lets, NoneStands}
+use Rattle.gt_core.proofs.{Phases.by-leg, Phases.none-of, Phases.IsHere, Phases.makes-same, Phases.words-of, Phases.word-below, Phases.grant-invalid, Phases.idle-no-pins, Phases.of-run, Phases.by-giving, Seeing.word-shows, Judging.writes-shown, Aims.leg-here, Legs.IsAsTried, Legs.as-tried, Legs.still-judged, Legs.control-parts, Pinning.pins_at, Exchanging.FitsChange, Keeping.counts-fit}
 
 -- an owner's change
 
@@ -22,10 +19,8 @@ publish-spelled s h d r way shown so_far (Exchanging g w (Publish e)) gref looke
     subst (λ (x : Entry). IsSpelled x (body_at h d.0 gref.0 FirstHalf) (body_at h d.0 gref.0 SecondHalf)) same
     (subst (λ (x : GrantRef). IsSpelled e (body_at h d.0 x.0 FirstHalf) (body_at h d.0 x.0 SecondHalf)) at b)
 publish-spelled s h d r way shown so_far (Changing g (Publish e) more w) gref looked entry a b acts = absurd a.1
-publish-spelled s h d r way shown so_far (Walking aim l at) gref looked entry a b acts = absurd (by at acts) where
-  by : (z : LegPhase) → Makes (leg_step l z) ≡ Makes (Exchange gref looked (Publish entry)) → ⊥
-  by AtHeader e = cc
-  by z e = cc
+publish-spelled s h d r way shown so_far (Walking aim l at) gref looked entry a b acts =
+    absurd (by-leg (λ (z : Step). z ≡ Exchange gref looked (Publish entry) → ⊥) (λ dom f. cc) (λ dom x f. cc) (λ dom x half f. cc) (λ p f. cc) l at (makes-same _ _ acts))
 publish-spelled s h d r way shown so_far (Last last verdict) gref looked entry a b acts = absurd (subst IsQuiet (makes-same _ _ acts) a.0)
 publish-spelled s h d r way shown so_far (Ending pins verdict) gref looked entry a b acts = absurd (by-giving (λ (z : Step). z ≡ Exchange gref looked (Publish entry) → ⊥) (λ p n f. cc) (last_first pins) verdict _ acts refl)
 publish-spelled s h d r way shown so_far p gref looked entry a b acts = cc

@@ -1,7 +1,7 @@
 -- What a history leaves is the same without keys.
-use Rattle.gt_core.proofs.Words.{◌≡◌, ◌+◌, ◌⊎◌, inl, inr, ℕ, refl, Bool, true, false, List, [], ◌∷◌, ◌++◌, map, Option, Some, None, cond, sym, ap, ◌∙◌, ◌==◌, option_map, fun_ext, DomId, Entry, Header, Change, Half, asked, given_by, Request, Asked, Unmap, Load, Store, ByMapping, Seen, Step, Unpin, Answer, Mapped, Bytes, Happened, Began, Stepped, Item, Patch, written, History, Setting, Underway, Writing, entry_at, entry_after, change_at, change_of, raises_at, raise_after, body_at, or_else, stored_at, table_at, header_or, header_stored, open_call, underway_with, underway_after, maps_answered_at, one_if_mapped, contents_at, patches_by, patches_at, written_by, given_in, values, bare_handle, bare_request, bare_step, bare_happened, told, told_item, told_items, ToldItem, SameHistory}
-use Rattle.gt_calls.specs.declared.request.Request.TheVariants as requests
+use Rattle.gt_core.proofs.Words.{◌≡◌, ◌+◌, ◌⊎◌, inl, inr, ℕ, refl, Bool, true, false, List, [], ◌∷◌, ◌++◌, map, Option, Some, None, cond, sym, ap, ◌∙◌, ◌==◌, option_map, fun_ext, DomId, Entry, Header, Change, Half, asked, given_by, Request, Asked, Unmap, Load, Store, ByMapping, Seen, Step, Unpin, Answer, Mapped, Bytes, Happened, Began, Stepped, Item, Patch, written, History, Setting, Underway, Writing, entry_at, entry_after, change_at, change_of, raises_at, raise_after, body_at, or_else, stored_at, table_at, header_or, header_stored, open_call, underway_with, underway_after, maps_answered_at, one_if_mapped, contents_at, patches_by, patches_at, written_by, given_in, values, bare_handle, bare_request, bare_step, bare_happened, told, told_item, told_items, ToldItem, SameHistory, Held, Handle}
 use Rattle.gt_core.specs.declared.trace.Answer.TheVariants.{Done}
+use Rattle.gt_calls.specs.declared.request.Request.TheVariants as requests
 
 -- an answer that tells this, where bytes are no matter
 abbrev pub answer_from : Answer ⊎ List ℕ → Answer
@@ -31,17 +31,12 @@ bare-same g h same = bare-told g ∙ ap items_from same ∙ sym (bare-told h)
 
 -- entries and tables
 
-pub change-bare : (x : Happened) (r : ℕ) → change_at (bare_happened x) r ≡ change_at x r
-change-bare (Stepped (Unpin p (ByMapping handle)) seen) r = refl
-change-bare x r = refl
-
-pub stored-bare : (x : Happened) (r : ℕ) (which : Half) → stored_at (bare_happened x) r which ≡ stored_at x r which
-stored-bare (Stepped (Unpin p (ByMapping handle)) seen) r which = refl
-stored-bare x r which = refl
-
-pub header-bare : (x : Happened) → header_stored (bare_happened x) ≡ header_stored x
-header-bare (Stepped (Unpin p (ByMapping handle)) seen) = refl
-header-bare x = refl
+-- what tells no request from another, and no handle, is the same of what happened without its key
+happened-bare : {A : Type 0} (f : Happened → A) → ((p : Held) (a b : Handle) (seen : Seen) → f (Stepped (Unpin p (ByMapping a)) seen) ≡ f (Stepped (Unpin p (ByMapping b)) seen)) → ((q r : Request) → f (Began q) ≡ f (Began r))
+    → (x : Happened) → f (bare_happened x) ≡ f x
+happened-bare f steps begins (Stepped (Unpin p (ByMapping a)) seen) = steps p (bare_handle a) a seen
+happened-bare f steps begins (Began q) = begins (bare_request q) q
+happened-bare f steps begins x = refl
 
 pub mapped-bare : (a : Option Answer) → one_if_mapped (option_map answer_from (option_map told a)) ≡ one_if_mapped a
 mapped-bare (Some (Mapped handle)) = refl
@@ -52,28 +47,28 @@ pub entry-bare : (h : History) (t r : ℕ) → entry_at (bare h) t r ≡ entry_a
 unfolding entry_at bare
 entry-bare [] t r = refl
 entry-bare (i ∷ h) t r =
-    ap (λ (c : Option Change). entry_after (cond (i.actor.0 == t) c None) (entry_at (bare h) t r)) (change-bare i.happened r)
+    ap (λ (c : Option Change). entry_after (cond (i.actor.0 == t) c None) (entry_at (bare h) t r)) (happened-bare (λ x. change_at x r) (λ p a b seen. refl) (λ q r. refl) i.happened)
     ∙ ap (λ (e : Entry). entry_after (change_of i t r) e) (entry-bare h t r)
 
 pub raises-bare : (h : History) (t r : ℕ) → raises_at (bare h) t r ≡ raises_at h t r
 unfolding raises_at bare
 raises-bare [] t r = refl
 raises-bare (i ∷ h) t r =
-    ap (λ (c : Option Change). raises_at (bare h) t r + raise_after (cond (i.actor.0 == t) c None)) (change-bare i.happened r)
+    ap (λ (c : Option Change). raises_at (bare h) t r + raise_after (cond (i.actor.0 == t) c None)) (happened-bare (λ x. change_at x r) (λ p a b seen. refl) (λ q r. refl) i.happened)
     ∙ ap (λ (n : ℕ). n + raise_after (change_of i t r)) (raises-bare h t r)
 
 pub body-bare : (h : History) (t r : ℕ) (which : Half) → body_at (bare h) t r which ≡ body_at h t r which
 unfolding body_at bare
 body-bare [] t r which = refl
 body-bare (i ∷ h) t r which =
-    ap (λ (o : Option ℕ). or_else (cond (i.actor.0 == t) o None) (body_at (bare h) t r which)) (stored-bare i.happened r which)
+    ap (λ (o : Option ℕ). or_else (cond (i.actor.0 == t) o None) (body_at (bare h) t r which)) (happened-bare (λ x. stored_at x r which) (λ p a b seen. refl) (λ q r. refl) i.happened)
     ∙ ap (λ (n : ℕ). or_else (cond (i.actor.0 == t) (stored_at i.happened r which) None) n) (body-bare h t r which)
 
 pub table-bare : (s : Setting) (h : History) (t : DomId) → table_at s (bare h) t ≡ table_at s h t
 unfolding table_at bare
 table-bare s [] t = refl
 table-bare s (i ∷ h) t =
-    ap (λ (o : Option Header). header_or (cond (i.actor.0 == t.0) o None) (table_at s (bare h) t)) (header-bare i.happened)
+    ap (λ (o : Option Header). header_or (cond (i.actor.0 == t.0) o None) (table_at s (bare h) t)) (happened-bare header_stored (λ p a b seen. refl) (λ q r. refl) i.happened)
     ∙ ap (λ (x : Header). header_or (cond (i.actor.0 == t.0) (header_stored i.happened) None) x) (table-bare s h t)
 
 pub maps-bare : (h : History) (d : ℕ) → maps_answered_at (bare h) d ≡ maps_answered_at h d
@@ -140,10 +135,6 @@ values-bare c = by c.steps where
 
 -- bytes
 
-written-bare : (x : Happened) (given : List ℕ) (contents : ℕ → ℕ → List ℕ) → written_by (bare_happened x) given contents ≡ written_by x given contents
-written-bare (Stepped (Unpin p (ByMapping handle)) seen) given contents = refl
-written-bare x given contents = refl
-
 given-in-bare : (c : Option Underway) → given_in (option_map bare_call c) ≡ given_in c
 given-in-bare None = refl
 given-in-bare (Some c) = refl
@@ -152,7 +143,7 @@ patches-bare : (h : History) (t f : ℕ) → patches_at (bare h) t f ≡ patches
 unfolding patches_at bare
 patches-bare [] t f = refl
 patches-bare (i ∷ h) t f = ap (λ (w : Option Writing). patches_at (bare h) t f ++ patches_by w t f)
-    (written-bare i.happened (given_in (open_call (bare h) i.actor.0)) (λ u g. written (patches_at (bare h) u g))
+    (happened-bare (λ x. written_by x (given_in (open_call (bare h) i.actor.0)) (λ u g. written (patches_at (bare h) u g))) (λ p a b seen. refl) (λ q r. refl) i.happened
     ∙ ap (λ (bytes : List ℕ). written_by i.happened bytes (λ u g. written (patches_at (bare h) u g))) (ap given_in (open-bare h i.actor.0) ∙ given-in-bare (open_call h i.actor.0))
     ∙ ap (λ (k : ℕ → ℕ → List ℕ). written_by i.happened (given_in (open_call h i.actor.0)) k) (fun_ext (λ u. fun_ext (λ g. ap written (patches-bare h u g)))))
     ∙ ap (λ (ps : List Patch). ps ++ patches_by (written_by i.happened (given_in (open_call h i.actor.0)) (λ u g. written (patches_at h u g))) t f) (patches-bare h t f)

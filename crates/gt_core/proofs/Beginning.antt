@@ -1,15 +1,8 @@
 -- A beginning keeps what a core stands for.
-use Rattle.gt_core.proofs.Words.{arith, ◌≤◌, ◌≡◌, ◌≢◌, ◌<◌, ◌+◌, inl, inr, ℕ, refl, Bool, true, false, List, [], ◌∷◌, length, Option, Some, None, cond, sym, ap, ◌∙◌, subst, get_or, set, reverse, eqb-true, true≢false, slice_get_read, same_Some, position-Some, All, nat_lt, nat_le, ◌==◌, ◌||◌, not, is_none, is_some, position, slice_get, domain_of, resolved, denial_of, DomId, TypeId, Read, Write, Perms, Triple, FRAME_SIZE, LAST_GENERATION, MAX_TABLE_FRAMES, Rule, N1, N5, N6, N9, N10, N16, Policy, Entry, Header, Change, ToReadOnly, ToWritable, Held, Request, CopyArgs, Asked, Grant, Revoke, Demote, Promote, Map, Unmap, Load, SetVersion, SetupTable, QuerySize, GetVersion, Store, Peek, Poke, Copy, Seen, Verdict, Given, Refused, FramesTold, Makes, Done, END_OF_SERIALS, Call, Phase, Walking, Accessing, Ending, Source, Dest, AtHeader, asked, begun_of, given_by, CallerKnowledge, first, refused_when, denied, unmap_denied, rights_to_map, rights_to_copy, size_of, begun, knowledge_of, frames_of, is_source_granted, is_dest_granted, opens, end_leg, action_at, at_dest, StandsAt, held_in, pins_at, GoesOn, Goes, Starts, path, Nothing, Step, Action, Rests, Pins, most_of, steps_left, Item, Began, Answer, AnswerDone, Open, State, state_of, kept_by, with_call, History, Setting, table_at, known_at, Underway, open_call, legs_at, one_if_mapped, LeavesAll, stood, AnsweredBy, GivesValue, refusal_in, refusal_of, IsRight, IsClean, phase_refusal, FitsAsked, PhaseStands, OpenAgrees, CallAgrees, FitsGiven, GivenAgrees, Agrees, StateAgrees, DomainsStand, Opens, numbered, misses, ◌^◌, MAX_MAPPINGS, N2, N3, N4, N7, N8, N20, N21, N22, N23, N24, field_refused, bytes_begun, IsSaid, granted_when, given_when, rights_to_unmap, rights_to_setup, rights_to_query, map_dir, is_already, change_begun, version_begun, setup_begun, query_begun, own_access_begun, is_version, has_valid, cannot_stand, is_for_reading, ends_named, ends_ranged, ends_owned, ends_framed, is_foreign, is_past_frames, first_phase, unmap_phase, load_phase, store_phase, IsFresh, IsAt, pins_by_call, MakesStep, steps_to_come, Frames, asks_memory, WantsMemory, IsOpened, answer_of, cond_both, All-nil}
-use Rattle.gt_types.specs.declared.denial.Field.{Field}
-use Rattle.gt_entry.specs.Bytes.{first_refused}
-use Rattle.gt_calls.specs.declared.held.Route.TheVariants.{Own}
+use Rattle.gt_core.proofs.Words.{arith, ◌≤◌, ◌≡◌, ◌≢◌, ◌<◌, ◌+◌, inl, inr, ℕ, refl, Bool, true, false, List, [], ◌∷◌, length, Option, Some, None, sym, ap, ◌∙◌, subst, get_or, set, reverse, eqb-true, true≢false, slice_get_read, same_Some, position-Some, nat_lt, nat_le, ◌==◌, ◌||◌, not, is_none, is_some, position, slice_get, domain_of, resolved, denial_of, DomId, TypeId, Read, Write, Perms, Triple, FRAME_SIZE, LAST_GENERATION, MAX_TABLE_FRAMES, Rule, N1, N5, N6, N9, N10, N16, Policy, Entry, Header, Change, ToReadOnly, ToWritable, Held, Request, CopyArgs, Asked, Grant, Revoke, Demote, Promote, Map, Unmap, Load, SetVersion, SetupTable, QuerySize, GetVersion, Store, Peek, Poke, Copy, Seen, Verdict, Given, Refused, FramesTold, Makes, Done, END_OF_SERIALS, Call, Phase, Walking, Accessing, Ending, Source, Dest, AtHeader, asked, begun_of, given_by, CallerKnowledge, first, refused_when, denied, unmap_denied, rights_to_map, rights_to_copy, size_of, begun, knowledge_of, frames_of, is_source_granted, is_dest_granted, opens, end_leg, action_at, at_dest, StandsAt, held_in, pins_at, GoesOn, Goes, Starts, path, Nothing, Step, Action, Rests, Pins, most_of, steps_left, Item, Began, Answer, AnswerDone, Open, State, state_of, kept_by, with_call, History, Setting, table_at, known_at, Underway, open_call, legs_at, one_if_mapped, LeavesAll, stood, AnsweredBy, GivesValue, refusal_in, refusal_of, IsRight, IsClean, phase_refusal, FitsAsked, PhaseStands, OpenAgrees, CallAgrees, FitsGiven, GivenAgrees, Agrees, StateAgrees, DomainsStand, Opens, numbered, misses, ◌^◌, MAX_MAPPINGS, N2, N3, N4, N7, N8, N20, N21, N22, N23, N24, field_refused, bytes_begun, IsSaid, granted_when, given_when, rights_to_unmap, rights_to_setup, rights_to_query, map_dir, is_already, change_begun, version_begun, setup_begun, query_begun, own_access_begun, is_version, has_valid, cannot_stand, is_for_reading, ends_named, ends_ranged, ends_owned, ends_framed, is_foreign, is_past_frames, first_phase, unmap_phase, load_phase, store_phase, IsFresh, IsAt, pins_by_call, MakesStep, steps_to_come, Frames, asks_memory, WantsMemory, IsOpened, answer_of, cond_both, All-nil, Field, first_refused, StartOpen, OpeningOpen}
+use Rattle.gt_calls.specs.{declared.held.Route.TheVariants.Own, Rules.is_invalid}
+use Rattle.gt_core.{specs.Standing.IsMapping, proofs.Keeping.KeepsEntries, proofs.Keeping.known-same, proofs.Keeping.open_call-own, proofs.Keeping.stood-own, proofs.Keeping.given-none, proofs.Keeping.quiet-stands, proofs.Others.KeepsKnown, proofs.Others.kept-known, proofs.Others.kept-legs, proofs.Placing.dest-placed, proofs.Phases.of-run, proofs.Rows.has_id, proofs.Rows.found, proofs.Rows.not-found, proofs.Rows.state_of-set}
 use Rattle.gt_calls.specs.declared.request.Request.TheVariants as requests
-use Rattle.gt_calls.specs.Rules.{is_invalid}
-use Rattle.gt_calls.specs.declared.call.Start.TheVariants.{Open as StartOpen}
-use Rattle.gt_core.specs.declared.machine.Opening.TheVariants.{Open as OpeningOpen}
-use Rattle.gt_core.specs.Standing.{IsMapping}
-pub use Rattle.gt_core.proofs.Places.{has_id, found, not-found, state_of-set, on-err}
-use Rattle.gt_core.proofs.Keeping.{KeepsEntries, known-same, open_call-own, stood-own, given-none, quiet-stands, KeepsKnown, kept-known, kept-legs, dest-placed, of-run}
 
 -- beginnings
 
@@ -34,14 +27,15 @@ call-some s h id (Some o) (Some c) e a n = cc
 
 -- an opened call
 
-held-by : (k : CallerKnowledge) (d : DomId) (r : Asked) → begun k d r ≡ None → held_in (first_phase k d r) ≡ []
-held-by k d (Unmap handle) e = ap (λ (o : Option Held). held_in (unmap_phase handle o)) (opens k d (Unmap handle) e).found
-held-by k d (Load handle off len) e = ap (λ (o : Option Held). held_in (load_phase o off len)) (opens k d (Load handle off len) e).found
-held-by k d (Store handle off len) e = ap (λ (o : Option Held). held_in (store_phase o off len)) (opens k d (Store handle off len) e).found
-held-by k d (Copy c) e =
-    cond_both (is_source_granted c) (Walking (Source c None) (end_leg k d c.source Read c.len) AtHeader) (at_dest k d c Own) (λ p. held_in p ≡ [])
-    (λ a. refl) (λ a. cond_both (is_dest_granted c) (Walking (Dest c Own None) (end_leg k d c.dest Write c.len) AtHeader) (Accessing c Own Own) (λ p. held_in p ≡ []) (λ b. refl) (λ b. refl))
-held-by k d r e = refl
+-- holding nothing, and with no rule against it where it then stands
+first-fine : (k : CallerKnowledge) (d : DomId) (r : Asked) → begun k d r ≡ None → (held_in (first_phase k d r) ≡ []) × (phase_refusal (first_phase k d r) ≡ None)
+first-fine k d (Unmap handle) e = subst (λ (o : Option Held). (held_in (unmap_phase handle o) ≡ []) × (phase_refusal (unmap_phase handle o) ≡ None)) (sym (opens k d (Unmap handle) e).found) (refl, refl)
+first-fine k d (Load handle off len) e = subst (λ (o : Option Held). (held_in (load_phase o off len) ≡ []) × (phase_refusal (load_phase o off len) ≡ None)) (sym (opens k d (Load handle off len) e).found) (refl, refl)
+first-fine k d (Store handle off len) e = subst (λ (o : Option Held). (held_in (store_phase o off len) ≡ []) × (phase_refusal (store_phase o off len) ≡ None)) (sym (opens k d (Store handle off len) e).found) (refl, refl)
+first-fine k d (Copy c) e = let Fine : Phase → Type 0 = λ p. (held_in p ≡ []) × (phase_refusal p ≡ None) in
+    cond_both (is_source_granted c) (Walking (Source c None) (end_leg k d c.source Read c.len) AtHeader) (at_dest k d c Own) Fine (λ a. (refl, refl))
+    (λ a. cond_both (is_dest_granted c) (Walking (Dest c Own None) (end_leg k d c.dest Write c.len) AtHeader) (Accessing c Own Own) Fine (λ b. (refl, refl)) (λ b. (refl, refl)))
+first-fine k d r e = (refl, refl)
 
 first-place : (s : Setting) (h : History) (d : DomId) (r : Asked) → begun (known_at s h d) d r ≡ None → PhaseStands s h d r [] (first_phase (known_at s h d) d r)
 unfolding misses
@@ -64,16 +58,6 @@ first-place s h d (SetupTable frames) e = inr (refl, refl)
 first-place s h d (QuerySize dom) e = (dom, refl, refl)
 first-place s h d (GetVersion dom) e = (dom, refl, refl)
 first-place s h d r e = tt
-
--- a call that opens has no rule against it where it then stands
-first-plain : (k : CallerKnowledge) (d : DomId) (r : Asked) → begun k d r ≡ None → phase_refusal (first_phase k d r) ≡ None
-first-plain k d (Unmap handle) e = ap (λ (o : Option Held). phase_refusal (unmap_phase handle o)) (opens k d (Unmap handle) e).found
-first-plain k d (Load handle off len) e = ap (λ (o : Option Held). phase_refusal (load_phase o off len)) (opens k d (Load handle off len) e).found
-first-plain k d (Store handle off len) e = ap (λ (o : Option Held). phase_refusal (store_phase o off len)) (opens k d (Store handle off len) e).found
-first-plain k d (Copy c) e =
-    cond_both (is_source_granted c) (Walking (Source c None) (end_leg k d c.source Read c.len) AtHeader) (at_dest k d c Own) (λ p. phase_refusal p ≡ None)
-    (λ a. refl) (λ a. cond_both (is_dest_granted c) (Walking (Dest c Own None) (end_leg k d c.dest Write c.len) AtHeader) (Accessing c Own Own) (λ p. phase_refusal p ≡ None) (λ b. refl) (λ b. refl))
-first-plain k d r e = refl
 
 clean-nothing : (p : Phase) → IsClean p []
 clean-nothing (Ending pins verdict) = inr (All-nil LeavesAll)
@@ -133,10 +117,10 @@ begin-opens s h d request o fits a closed op = let i = began d.id request None i
       follows = subst (λ (k : CallerKnowledge). GoesOn k d.id r [] (Makes o.step)) still op.follows;
       rests = subst (λ (z : Pins). Rests k d.id r z [] (Makes o.step)) (pins-there o.call (first_phase k d.id r) here) (subst (λ (k : CallerKnowledge). Rests k d.id r (pins_by_call o.call) [] (Makes o.step)) still op.rests);
       place = first-place s (i ∷ h) d.id r none;
-      fair = fair ∙ sym (first-plain k d.id r none);
+      fair = fair ∙ sym (first-fine k d.id r none).1;
       fits = subst FitsAsked op.asks fits;
       clean = clean-nothing (first_phase k d.id r);
-      held = kept-legs i h d.id.0 keeps ∙ empty.1 ∙ sym (ap (λ (l : List Held). numbered 0 (reverse l)) (held-by k d.id r none));
+      held = kept-legs i h d.id.0 keeps ∙ empty.1 ∙ sym (ap (λ (l : List Held). numbered 0 (reverse l)) (first-fine k d.id r none).0);
       few = (omega arith);
     } in (
       (empty.0, subst (λ (v : Option Verdict). AnsweredBy s h d.id r None false v None (stood s (i ∷ h) d.id.0)) (sym unanswered) (inl fair), λ e. said),

@@ -1,6 +1,6 @@
 -- An exchange that was taken keeps what a core stands for.
-use Rattle.gt_core.proofs.Words.{◌≡◌, ◌≢◌, ◌<◌, ◌≤◌, ◌+◌, ℕ, refl, Bool, true, false, List, ◌∷◌, length, Option, Some, None, cond, sym, ap, ◌∙◌, arith, subst, get_or, eqb-true, none-some, slice_get-get_or, option_map, ◌==◌, All, count_by, slice_get, fun_ext, DomId, GrantRef, Read, Write, TABLE_ENTRIES, LAST_GENERATION, Entry, Invalid, Control, Change, Publish, ToInvalid, ToReadOnly, ToWritable, Half, FirstHalf, SecondHalf, IsEntry, Exchange, Taken, Own, PinCounts, Open, Item, Answer, entry_in, generation_in, control_with, row_entry, row_generation, changed_at, State, state_of, changed_in, with_own, own_after, History, Setting, Pin, live, entry_at, raises_at, raise_of, generation_at, body_at, reads_at, writes_at, control_at, open_call, is_pin_on, change_of, entry_after, raise_after, or_else, one_if_mapped, IsSafeChange, IsSpelled, IsLawful, FitsTable, FitsWord, Agrees, DomainsStand, CallAgrees, GivenAgrees, append-nil, gather, by_mapping, changed_entry, with_ro, MAX_PINS}
-pub use Rattle.gt_core.proofs.Keeping.{cond-same, answered-stays, slot-kept, own-each, stepped, SlotsAgree, same-number, counts-fit, get-changed, length-changed, kept-table, mappings-same}
+use Rattle.gt_core.proofs.Words.{◌≡◌, ◌≢◌, ◌<◌, ◌≤◌, ◌+◌, ℕ, refl, Bool, true, false, List, ◌∷◌, length, Option, Some, None, cond, sym, ap, ◌∙◌, arith, subst, get_or, eqb-true, none-some, slice_get-get_or, option_map, ◌==◌, All, count_by, slice_get, fun_ext, DomId, GrantRef, Read, Write, TABLE_ENTRIES, LAST_GENERATION, Entry, Invalid, Control, Change, Publish, ToInvalid, ToReadOnly, ToWritable, FirstHalf, SecondHalf, IsEntry, Exchange, Taken, Own, PinCounts, Open, Item, Answer, entry_in, generation_in, control_with, row_entry, row_generation, changed_at, State, state_of, changed_in, with_own, own_after, History, Setting, Pin, live, entry_at, raises_at, raise_of, generation_at, body_at, reads_at, writes_at, control_at, open_call, is_pin_on, change_of, entry_after, raise_after, one_if_mapped, IsSafeChange, IsSpelled, IsLawful, FitsTable, FitsWord, Agrees, DomainsStand, CallAgrees, GivenAgrees, append-nil, gather, by_mapping, changed_entry, with_ro, MAX_PINS}
+use Rattle.gt_core.proofs.{Others.unstored, Others.answered-stays, Others.kept-table, Keeping.slot-kept, Keeping.own-each, Keeping.stepped, Keeping.SlotsAgree, Keeping.same-number, Keeping.counts-fit, Rows.get-changed, Rows.length-changed, Mappings.mappings-same}
 
 -- each number of the entry that is published fits its type
 abbrev pub FitsChange : Change → Type 0
@@ -20,10 +20,6 @@ exchanged-entry h i t r = refl
 exchanged-raises : (h : History) (i : Item) (t r : ℕ) → raises_at (i ∷ h) t r ≡ raises_at h t r + raise_after (change_of i t r)
 unfolding raises_at
 exchanged-raises h i t r = refl
-
-exchanged-body : (h : History) (d : DomId) (gref : GrantRef) (looked : ℕ) (change : Change) (answer : Option Answer) (t r : ℕ) (which : Half) → body_at (exchanged d gref looked change answer ∷ h) t r which ≡ body_at h t r which
-unfolding body_at
-exchanged-body h d gref looked change answer t r which = ap (λ (o : Option ℕ). or_else o (body_at h t r which)) (cond-same (d.0 == t) None)
 
 pub exchanged-live : (h : History) (d : DomId) (gref : GrantRef) (looked : ℕ) (change : Change) (answer : Option Answer) → live (exchanged d gref looked change answer ∷ h) ≡ live h
 unfolding live
@@ -73,7 +69,7 @@ own-raised s h x gref looked change answer r within room a = let rows = a.rows i
 
 exchanged-slots : (h : History) (d : DomId) (gref : GrantRef) (looked : ℕ) (change : Change) (answer : Option Answer) (q : ℕ) (slots : List PinCounts) → SlotsAgree h q slots → SlotsAgree (exchanged d gref looked change answer ∷ h) q slots
 exchanged-slots h d gref looked change answer q slots a = λ r slot e.
-    slot-kept (exchanged d gref looked change answer) h q r slot (exchanged-live h d gref looked change answer) (λ which. exchanged-body h d gref looked change answer q r which) (a r slot e)
+    slot-kept (exchanged d gref looked change answer) h q r slot (exchanged-live h d gref looked change answer) (λ which. unstored (exchanged d gref looked change answer) h q r which refl) (a r slot e)
 
 -- the owner is as the exchange leaves it
 exchange-agrees : (s : Setting) (h : History) (x : State) (gref : GrantRef) (looked : ℕ) (change : Change) (answer : Option Answer) (o : Option Open) → gref.0 < TABLE_ENTRIES → generation_at s h x.id.0 gref.0 + raise_of change ≤ LAST_GENERATION
@@ -179,8 +175,8 @@ exchange-spelled : (s : Setting) (h : History) (xs : List State) (d : DomId) (gr
     → Spelled (entry_at (exchanged d gref looked change answer ∷ h) t r) (body_at (exchanged d gref looked change answer ∷ h) t r FirstHalf) (body_at (exchanged d gref looked change answer ∷ h) t r SecondHalf)
 exchange-spelled s h xs d gref looked change answer t r st safe = let i = exchanged d gref looked change answer in
     subst (λ (e : Entry). Spelled e (body_at (i ∷ h) t r FirstHalf) (body_at (i ∷ h) t r SecondHalf)) (sym (exchanged-entry h i t r))
-    (subst (λ (n : ℕ). Spelled (entry_after (change_of i t r) (entry_at h t r)) n (body_at (i ∷ h) t r SecondHalf)) (sym (exchanged-body h d gref looked change answer t r FirstHalf))
-    (subst (λ (n : ℕ). Spelled (entry_after (change_of i t r) (entry_at h t r)) (body_at h t r FirstHalf) n) (sym (exchanged-body h d gref looked change answer t r SecondHalf))
+    (subst (λ (n : ℕ). Spelled (entry_after (change_of i t r) (entry_at h t r)) n (body_at (i ∷ h) t r SecondHalf)) (sym (unstored i h t r FirstHalf refl))
+    (subst (λ (n : ℕ). Spelled (entry_after (change_of i t r) (entry_at h t r)) (body_at h t r FirstHalf) n) (sym (unstored i h t r SecondHalf refl))
     (hit-cases (λ (q p : ℕ) (c : Option Change). Spelled (entry_after c (entry_at h q p)) (body_at h q p FirstHalf) (body_at h q p SecondHalf)) d.0 t gref.0 r change
     (st.spelled t r) (changed-spelled h d.0 gref.0 change (st.spelled d.0 gref.0) safe))))
 

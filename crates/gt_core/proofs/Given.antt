@@ -1,54 +1,32 @@
 -- The handles that domains were answered: each serial once, and each mapping under one of them.
-use Rattle.gt_core.proofs.Words.{◌≡◌, ◌≤◌, ◌<◌, ◌+◌, inl, inr, ℕ, refl, Bool, true, false, List, [], ◌∷◌, ◌++◌, Option, Some, None, cond, sym, ap, ◌∙◌, subst, arith, ◌==◌, ◌&&◌, eqb-true, eq-eqb, none-some, DomId, Denial, Handle, END_OF_SERIALS, Asked, Holder, ByMapping, ByLeg, Held, Seen, Taken, Step, LookHeader, PinStep, Unpin, StoreHeader, Makes, Verdict, asked, begun_of, opens, CallerKnowledge, begun, Continuation, path, after_beginning, steps_of, IsMapping, Answer, Happened, Began, Stepped, Item, History, Setting, Underway, Pin, live, without, is_holder, same_handle, pinned_by, unpinned_by, open_call, underway_after, underway_with, maps_answered_at, one_if_mapped, known_at, values, IsRight, StepsRightIn, AnsweredBy, GivesValue, gives_back, verdict_in, stood, bare_handle, IsGiven, IsKnown, AsksKnown, HappensKnown, IsRun, cond_both}
+use Rattle.gt_core.proofs.Words.{◌≡◌, ◌≤◌, ◌<◌, ◌+◌, inl, inr, ℕ, refl, Bool, true, false, List, [], ◌∷◌, ◌++◌, Option, Some, None, cond, sym, ap, ◌∙◌, subst, arith, ◌==◌, ◌&&◌, eqb-true, eq-eqb, none-some, DomId, Denial, Handle, END_OF_SERIALS, Asked, Holder, ByMapping, ByLeg, Held, Seen, Taken, Step, LookHeader, PinStep, Unpin, StoreHeader, Makes, Verdict, asked, opens, CallerKnowledge, begun, Continuation, after_beginning, steps_of, IsMapping, Answer, Happened, Began, Stepped, Item, History, Setting, Underway, Pin, live, without, is_holder, same_handle, pinned_by, unpinned_by, open_call, underway_after, underway_with, maps_answered_at, one_if_mapped, known_at, values, IsRight, StepsRightIn, AnsweredBy, GivesValue, bare_handle, IsGiven, IsKnown, AsksKnown, HappensKnown, IsRun, cond_both, same_Some}
 use Rattle.gt_calls.specs.declared.request.Asked.TheVariants as requests
 use Rattle.gt_core.specs.declared.trace.Answer.TheVariants as answers
-pub use Rattle.gt_core.proofs.Makers.{only-path, done-makes, NamesAsked}
 
 -- a map that is answered
 
-not-at-once : (s : Setting) (h : History) (d : DomId) (r : Asked) (handle : Handle) → GivesValue s h d r None (answers.Mapped handle) → ⊥
-not-at-once s h d (requests.Map dom gref flags) handle v = v
-not-at-once s h d (requests.Load a off len) handle v = v
-not-at-once s h d (requests.Peek f off len) handle v = v
-not-at-once s h d (requests.SetupTable frames) handle v = cc
-not-at-once s h d (requests.QuerySize dom) handle v = v
-not-at-once s h d (requests.GetVersion dom) handle v = v
-not-at-once s h d r handle v = cc
-
 -- only a map's pin is answered a mapping, under the next serial of its domain
-pub record IsNext (before : History) (d : DomId) (r : Asked) (handle : Handle) : Type 0 where
-  pub is_map : IsMapping (Some r)
-  pub serial : handle.serial ≡ maps_answered_at before d.0
+abbrev pub IsNext : History → DomId → Asked → Option Step → Handle → Type 0
+IsNext before d r None handle = ⊥
+IsNext before d r (Some step) handle = IsMapping (Some r) × (handle.serial ≡ maps_answered_at before d.0)
 
-given-next : (s : Setting) (h : History) (d : DomId) (r : Asked) (step : Step) (handle : Handle) → GivesValue s h d r (Some step) (answers.Mapped handle) → IsNext h d r handle
-given-next s h d (requests.Map dom gref flags) (PinStep p) handle v = record { is_map = tt; serial = v }
-given-next s h d (requests.Map dom gref flags) step handle v = absurd v
-given-next s h d (requests.Load a off len) step handle v = absurd (no-load s h d (requests.Load a off len) step handle v)
-  where
-    no-load : (s : Setting) (h : History) (d : DomId) (r : Asked) (step : Step) (handle : Handle) → GivesValue s h d (requests.Load a off len) (Some step) (answers.Mapped handle) → ⊥
-    no-load s h d r step handle v = v
-given-next s h d (requests.Peek f off len) step handle v = absurd v
-given-next s h d (requests.SetupTable frames) (StoreHeader version stored) handle v = absurd (cc)
-given-next s h d (requests.SetupTable frames) step handle v = absurd v
-given-next s h d (requests.QuerySize dom) (LookHeader t) handle v = absurd (cc)
-given-next s h d (requests.QuerySize dom) step handle v = absurd v
-given-next s h d (requests.GetVersion dom) (LookHeader t) handle v = absurd (cc)
-given-next s h d (requests.GetVersion dom) step handle v = absurd v
-given-next s h d r step handle v = absurd (cc)
+given-next : (s : Setting) (h : History) (d : DomId) (r : Asked) (step : Option Step) (handle : Handle) → GivesValue s h d r step (answers.Mapped handle) → IsNext h d r step handle
+given-next s h d (requests.Map dom gref flags) (Some (PinStep p)) handle v = (tt, v)
+given-next s h d (requests.SetupTable frames) None handle v = cc
+given-next s h d (requests.SetupTable frames) (Some (StoreHeader version stored)) handle v = absurd (cc)
+given-next s h d (requests.QuerySize dom) (Some (LookHeader t)) handle v = absurd (cc)
+given-next s h d (requests.GetVersion dom) (Some (LookHeader t)) handle v = absurd (cc)
+given-next s h d r step handle v = absurd (first_of (assumption, cc))
 
-answered-late : (s : Setting) (h : History) (d : DomId) (r : Asked) (v : Option Verdict) (against : Option Denial) (handle : Handle)
-    → AnsweredBy s h d r None false v (Some (answers.Mapped handle)) against → ⊥
-answered-late s h d r None against handle a = a
-answered-late s h d r (Some v) against handle a = not-at-once s h d r handle a.2
-
-answered-next : (s : Setting) (h : History) (d : DomId) (r : Asked) (step : Step) (giving : Bool) (v : Option Verdict) (against : Option Denial) (handle : Handle)
-    → AnsweredBy s h d r (Some step) giving v (Some (answers.Mapped handle)) against → IsNext h d r handle
-answered-next s h d r step giving None against handle a = absurd a
-answered-next s h d r step giving (Some v) against handle a = given-next s h d r step handle a.2
+answered-next : (s : Setting) (h : History) (d : DomId) (r : Asked) (step : Option Step) (giving : Bool) (v : Option Verdict) (a : Option Answer) (against : Option Denial) (handle : Handle)
+    → AnsweredBy s h d r step giving v a against → a ≡ Some (answers.Mapped handle) → IsNext h d r step handle
+answered-next s h d r step giving (Some v) (Some a) against handle is e = given-next s h d r step handle (subst (GivesValue s h d r step) (same_Some _ _ e) is.2)
+answered-next s h d r step giving v None against handle is e = absurd (none-some _ e)
+answered-next s h d r step giving v a against handle is e = absurd is
 
 none-begun : (v : Option Verdict) (c : Continuation) (vs : List Seen) (step : Step) → after_beginning v c vs ≡ Some (Makes step) → v ≡ None
 none-begun None c vs step e = refl
-none-begun (Some v) c [] step e = absurd (done-makes v step e)
+none-begun (Some v) c [] step e = cc
 none-begun (Some v) c (x ∷ vs) step e = absurd (none-some _ e)
 
 few-answered : (k : CallerKnowledge) (d : DomId) (r : Asked) → begun k d r ≡ None → IsMapping (Some r) → k.maps_answered < END_OF_SERIALS
@@ -61,19 +39,15 @@ IsFresh h d handle = (handle.serial ≡ maps_answered_at h d.0) × (handle.seria
 
 fresh-step : (s : Setting) (h : History) (i : Item) (step : Step) (seen : Seen) (handle : Handle) (c : Option Underway) → StepsRightIn s h i step seen c → i.answer ≡ Some (answers.Mapped handle) → IsFresh h i.actor handle
 fresh-step s h i step seen handle None right e = absurd right
-fresh-step s h i step seen handle (Some c) right e =
-    let o = path (known_at s h i.actor) i.actor c.request (values c ++ seen ∷ []) in
-    let next = answered-next s h i.actor c.request step (gives_back o) (verdict_in o) (stood s (i ∷ h) i.actor.0) handle
-    (subst (λ (a : Option Answer). AnsweredBy s h i.actor c.request (Some step) (gives_back o) (verdict_in o) a (stood s (i ∷ h) i.actor.0)) e right.answered) in
-    let few : maps_answered_at h i.actor.0 < END_OF_SERIALS = few-answered (known_at s h i.actor) i.actor c.request (none-begun (begun (known_at s h i.actor) i.actor c.request) (steps_of (known_at s h i.actor) i.actor c.request) (values c) step right.continues) next.is_map in
-    let same : handle.serial ≡ maps_answered_at h i.actor.0 = next.serial in (same, omega arith)
+fresh-step s h i step seen handle (Some c) right e = let k = known_at s h i.actor in
+    let next = answered-next s h i.actor c.request (Some step) _ _ i.answer _ handle right.answered e in
+    let few : maps_answered_at h i.actor.0 < END_OF_SERIALS = few-answered k i.actor c.request (none-begun (begun k i.actor c.request) (steps_of k i.actor c.request) (values c) step right.continues) next.0 in
+    let same : handle.serial ≡ maps_answered_at h i.actor.0 = next.1 in (same, omega arith)
 
 fresh : (s : Setting) (h : History) (i : Item) (handle : Handle) → IsRight s h i → i.answer ≡ Some (answers.Mapped handle) → IsFresh h i.actor handle
 fresh s h i handle = by i.happened where
   by : (x : Happened) → IsRight s h (record i { happened = x }) → i.answer ≡ Some (answers.Mapped handle) → IsFresh h i.actor handle
-  by (Began request) right e = let against = stood s (record i { happened = Began request } ∷ h) i.actor.0 in
-      absurd (answered-late s h i.actor (asked request) (begun_of (known_at s h i.actor) i.actor request) against handle
-      (subst (λ (a : Option Answer). AnsweredBy s h i.actor (asked request) None false (begun_of (known_at s h i.actor) i.actor request) a against) e right.1))
+  by (Began request) right e = absurd (answered-next s h i.actor (asked request) None _ _ i.answer _ handle right.1 e)
   by (Stepped step seen) right e = fresh-step s h (record i { happened = Stepped step seen }) step seen handle (open_call h i.actor.0) right e
 
 -- serials
@@ -228,7 +202,7 @@ open-known s (i ∷ h) d run = cond_both (i.actor.0 == d) (underway_after i (ope
 unpin-in : (s : Setting) (h : History) (i : Item) (p : Held) (handle : Handle) (seen : Seen) (c : Option Underway) → StepsRightIn s h i (Unpin p (ByMapping handle)) seen c → CallKnown h i.actor.0 c → IsKnown h i.actor.0 handle
 unpin-in s h i p handle seen None right k = absurd right
 unpin-in s h i p handle seen (Some c) right k =
-    subst (AsksKnown h i.actor.0) (only-path (known_at s h i.actor) i.actor c.request (values c) (Unpin p (ByMapping handle)) right.continues) k
+    subst (AsksKnown h i.actor.0) right.justified k
 
 -- a mapping that is given up is one under a known handle
 pub unpin-known : (s : Setting) (h : History) (i : Item) (p : Held) (handle : Handle) (seen : Seen) → i.happened ≡ Stepped (Unpin p (ByMapping handle)) seen → IsRight s h i → IsRun s h → IsKnown h i.actor.0 handle

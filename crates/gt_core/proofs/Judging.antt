@@ -1,8 +1,7 @@
 -- The refusal that a step leads to is the first rule that stands, and where the call stands then.
-use Rattle.gt_core.proofs.Words.{◌≡◌, ◌+◌, ◌-◌, ℕ, zero, suc, refl, Bool, true, false, List, [], ◌∷◌, Option, Some, None, cond, sym, ap, ◌∙◌, subst, reverse, arith, nat_lt, nat_le, ◌==◌, ◌&&◌, ◌||◌, not, lt-ltb, eqb-true, eq-eqb, true≢false, false≢true, DomId, GrantRef, Rule, N10, N18, N19, Denial, MAX_TRIES, Entry, Invalid, Via, Control, Change, Publish, ToInvalid, ToReadOnly, ToWritable, allows_direction, control_of, MORE_TRIES, Held, Route, Direct, Through, Asked, CopyArgs, Verdict, Step, LookHeader, LookControl, Exchange, Seen, Taken, Missed, Action, Makes, Done, Aim, Mapping, Source, Dest, Question, AsksSize, AsksVersion, Phase, Storing, Exchanging, Looking, Changing, Walking, Accessing, Asking, Last, Ending, Leg, LegPhase, AtHeader, Look, Body, Second, Pinning, Relook, LegNext, Going, LegRefused, Pinned, last_first, CallerKnowledge, first, stands, first_look, is_kind, size_of, via_judged, is_dest_granted, Continuation, path, entry_refusal, held_of, rule_of_try, source_pair, dest_pair, end_leg, second_leg, IsFor, IsOnFrom, RestsOnWord, phase_after, action_at, after_leg, leg_after, leg_step, after_miss, after_pin_of, after_source_pin, after_dest_pin, at_dest, where_via, after_store, refused_as, next_to_give, IsTurn, IsQuiet, HasShown, State, History, Setting, word_at, control_at, table_at, entry_at, generation_at, body_at, reads_at, writes_at, known_at, seen_by, legs_at, StepsSoFar, LegNow, misses, is_demote, at_entry, first_at, refusal_in, or_then, PhaseStands, LegStands, Asks, phase_refusal, numbered, header_of, header_word, denial_of, N9, after_look, KindSub, FirstHalf, after_words, SecondHalf, Write, Read, Pins, pins_at, N11, N12, N13, N15, KindPage, KindVia, is_copying, after_own_miss, rule_at_via, rule_at_pin, cond_both}
+use Rattle.gt_core.proofs.Words.{◌≡◌, ◌+◌, ◌-◌, ℕ, zero, suc, refl, Bool, true, false, List, [], ◌∷◌, Option, Some, None, cond, sym, ap, ◌∙◌, subst, reverse, arith, nat_lt, nat_le, ◌==◌, ◌&&◌, ◌||◌, not, lt-ltb, eqb-true, eq-eqb, true≢false, false≢true, DomId, GrantRef, Rule, N10, N18, N19, Denial, MAX_TRIES, Entry, Invalid, Via, Control, Change, Publish, ToInvalid, ToReadOnly, ToWritable, allows_direction, control_of, MORE_TRIES, Held, Route, Direct, Through, Asked, CopyArgs, Verdict, Step, LookHeader, LookControl, Exchange, Seen, Taken, Missed, Makes, Aim, Mapping, Source, Dest, Question, AsksSize, AsksVersion, Phase, Storing, Exchanging, Looking, Changing, Walking, Accessing, Asking, Last, Ending, Leg, LegPhase, AtHeader, Look, Body, Second, Pinning, Relook, LegNext, Going, LegRefused, Pinned, last_first, CallerKnowledge, first, stands, first_look, is_kind, size_of, via_judged, is_dest_granted, Continuation, path, entry_refusal, held_of, rule_of_try, source_pair, dest_pair, end_leg, second_leg, IsFor, IsOnFrom, RestsOnWord, phase_after, action_at, after_leg, leg_after, leg_step, after_miss, after_pin_of, after_source_pin, after_dest_pin, at_dest, where_via, after_store, refused_as, next_to_give, IsTurn, IsQuiet, HasShown, State, History, Setting, word_at, control_at, table_at, entry_at, generation_at, body_at, reads_at, writes_at, known_at, seen_by, legs_at, StepsSoFar, LegNow, misses, is_demote, at_entry, first_at, refusal_in, or_then, PhaseStands, LegStands, Asks, phase_refusal, numbered, header_of, header_word, denial_of, N9, after_look, KindSub, FirstHalf, after_words, SecondHalf, Write, Read, Pins, pins_at, N11, N12, N13, N15, KindPage, KindVia, is_copying, after_own_miss, rule_at_via, rule_at_pin, cond_both}
 use Rattle.gt_entry.specs.Spelling.{control_with}
-pub use Rattle.gt_core.proofs.Aims.{pair_of, leg-here, Words, IsAsTried, as-tried, TakesNone, leg-judged, refusal_next, IsLegOf, control-parts, misses-look, misses-exchange, misses-exchanged, few, miss-late, still-judged}
-pub use Rattle.gt_core.proofs.Outcomes.{after-plain, IsHere, makes-same, words-of, turn-below, IsPublished, step-publishes, idle-here, idle-no-pins, word-shows, next_of, walk-done, ends-so, table-fits, by-quiet}
+use Rattle.gt_core.proofs.{Aims.pair_of, Aims.leg-here, Legs.Words, Legs.IsAsTried, Legs.as-tried, Legs.TakesNone, Legs.leg-judged, Legs.refusal_next, Legs.IsLegOf, Legs.control-parts, Legs.misses-look, Legs.misses-exchange, Legs.misses-exchanged, Legs.few, Legs.miss-late, Outcomes.after-plain, Phases.OfAction, Phases.IsHere, Phases.makes-same, Phases.words-of, Phases.turn-below, Phases.IsPublished, Phases.step-publishes, Phases.idle-here, Phases.idle-no-pins, Phases.by-quiet, Seeing.word-shows}
 
 -- the first rule that stands at this step, or before it, is the refusal that the call comes to
 abbrev pub Judged : Setting → History → DomId → Asked → StepsSoFar → Phase → Step → Type 0
@@ -253,17 +252,13 @@ give-judged s h d r so_far pins (p ∷ ps) verdict step e = subst (λ (z : Step)
 
 -- at each step: the first rule that stands, here or before, is the refusal that its words lead to
 pub judged : (s : Setting) (h : History) (xs : List State) (d : DomId) (r : Asked) (shown : List Seen) (so_far : StepsSoFar) (phase : Phase) (step : Step) → IsHere s h xs d r shown so_far phase step → Judged s h d r so_far phase step
-judged s h xs d r shown so_far phase step i = subst (λ (a : Action). OfAction phase a) i.acts (by phase i.at.has_shown i.place i.acts i.held (step-publishes s h xs d r shown so_far phase step i))
+judged s h xs d r shown so_far phase step i = subst (OfAction (Judged s h d r so_far phase)) i.acts (by phase i.at.has_shown i.place i.acts i.held (step-publishes s h xs d r shown so_far phase step i))
   where
     k : CallerKnowledge
     k = known_at s h d
 
-    OfAction : Phase → Action → Type 0
-    OfAction p (Makes z) = Judged s h d r so_far p z
-    OfAction p (Done v) = Unit {0}
-
     by : (p : Phase) → HasShown k (path k d r) d r shown p → PhaseStands s h d r so_far p → action_at d p ≡ Makes step → legs_at h d.0 ≡ numbered 0 (reverse (last_first (pins_at p)))
-        → IsPublished s h d step → OfAction p (action_at d p)
+        → IsPublished s h d step → OfAction (Judged s h d r so_far p) (action_at d p)
     by (Storing gref entry) a b e held pub_here = stored-refusal k gref entry
     by (Exchanging gref looked change) a b e held pub_here = once-judged s h d r (path k d r) shown so_far gref looked change (subst (IsPublished s h d) (sym (makes-same _ _ e)) pub_here) a b
     by (Looking gref change more) a b e held pub_here = look-judged s h d r so_far gref change more (word-shows s h xs d.0 gref.0 i.st (turn-below s h xs d r gref change i.st i.at.unanswered a)) a b
@@ -271,5 +266,5 @@ judged s h xs d r shown so_far phase step i = subst (λ (a : Action). OfAction p
     by (Walking aim l at) a b e held pub_here = walk-judged s h d r so_far aim l at (words-of s h xs l i.st) a.1 (leg-here s h d r aim l a.1 held) b.1
     by (Asking dom question) a b e held pub_here = asked-judged s h d r so_far dom question b
     by (Last last verdict) a b e held pub_here = last-judged s h d r so_far last verdict a.0 (after-plain r last verdict b)
-    by (Ending pins verdict) a b e held pub_here = subst (λ (x : Action). OfAction (Ending pins verdict) x) (sym e) (give-judged s h d r so_far pins (last_first pins) verdict step e)
+    by (Ending pins verdict) a b e held pub_here = subst (OfAction (Judged s h d r so_far (Ending pins verdict))) (sym e) (give-judged s h d r so_far pins (last_first pins) verdict step e)
     by p a b e held pub_here = refl

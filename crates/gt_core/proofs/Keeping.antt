@@ -1,11 +1,6 @@
 -- What stays of a core's agreement with a history after one item more.
-use Rattle.gt_core.proofs.Words.{◌≡◌, ◌≢◌, ◌<◌, ◌+◌, ℕ, refl, Bool, true, false, List, ◌∷◌, length, Option, Some, None, cond, sym, ap, ◌∙◌, subst, reverse, eqb-true, eq-eqb, none-some, ◌==◌, ◌&&◌, All, count_by, slice_get, option_map, fun_ext, DomId, Read, Write, TABLE_ENTRIES, Entry, Invalid, Header, Change, Half, FirstHalf, SecondHalf, IsEntry, HandleMap, Held, CallerKnowledge, control_with, knowledge_of, StandsAt, pins_at, GoesOn, Rests, Makes, PinCounts, Open, Item, Answer, Stepped, Step, Seen, changed_at, State, state_of, changed_in, History, Setting, Pin, live, entry_at, generation_at, body_at, table_at, reads_at, writes_at, control_at, known_at, mappings_at, maps_answered_at, is_pin_on, open_call, underway_after, Underway, values, change_at, or_else, stored_at, header_stored, IsSpelled, stood, first_of_item, IsLawful, FitsTable, FitsWord, SlotAgrees, MappingsAgree, Agrees, StateAgrees, DomainsStand, CallAgrees, OpenAgrees, GivenAgrees, Dir, gather, by_mapping, slot_after, with_slot, and_left, and_right, stood_with, MAX_PINS, cond_both}
-pub use Rattle.gt_core.proofs.Rows.{get-changed, length-changed, state-changed}
-pub use Rattle.gt_core.proofs.Mappings.{mappings-same, mappings-added, less, mappings-taken, no-handles}
-pub use Rattle.gt_core.proofs.Quiet.{known-as, KeepsKnown, KeepsAll, cond-same, kept-table, kept-live, answered-stays, kept-known, kept-legs, kept-entry, kept-raises, kept-generations}
-pub use Rattle.gt_core.proofs.Others.{other-entry, other-body, other-maps, other-mappings, other-legs, other-generations, other-table, other-known, gather-append}
-pub use Rattle.gt_core.proofs.Placing.{place-stays, IsStore, IsHere, makes-same, by-giving, placed, BodyStays, step-within, step-publishes, seen-fits, sees-agree, judged, dest-placed, of-run}
-use Rattle.gt_core.specs.declared.pin_counts.CountsChange.{CountsChange}
+use Rattle.gt_core.proofs.Words.{◌≡◌, ◌≢◌, ◌<◌, ◌+◌, ℕ, refl, Bool, true, false, List, ◌∷◌, length, Option, Some, None, cond, sym, ap, ◌∙◌, subst, reverse, eqb-true, eq-eqb, none-some, ◌==◌, ◌&&◌, All, count_by, slice_get, option_map, fun_ext, DomId, Read, Write, TABLE_ENTRIES, Entry, Invalid, Header, Half, FirstHalf, SecondHalf, IsEntry, HandleMap, Held, CallerKnowledge, control_with, knowledge_of, StandsAt, pins_at, GoesOn, Rests, Makes, PinCounts, Open, Item, Answer, Stepped, Step, Seen, changed_at, State, state_of, changed_in, History, Setting, Pin, live, entry_at, generation_at, body_at, table_at, reads_at, writes_at, control_at, known_at, mappings_at, maps_answered_at, is_pin_on, open_call, underway_after, Underway, values, change_at, stored_at, header_stored, IsSpelled, stood, first_of_item, IsLawful, FitsTable, FitsWord, SlotAgrees, MappingsAgree, Agrees, StateAgrees, DomainsStand, CallAgrees, OpenAgrees, GivenAgrees, Dir, gather, by_mapping, slot_after, with_slot, and_left, and_right, stood_with, MAX_PINS, cond_both, CountsChange}
+use Rattle.gt_core.proofs.{Rows.get-changed, Rows.length-changed, Rows.state-changed, Mappings.mappings-same, Others.unstored, Others.KeepsKnown, Others.KeepsAll, Others.cond-same, Others.kept-table, Others.kept-live, Others.answered-stays, Others.kept-entry, Others.kept-raises, Others.kept-generations, Others.other-entry, Others.other-body, Others.other-maps, Others.other-mappings, Others.other-legs, Others.other-generations, Others.other-table, Others.other-known, Placing.place-stays}
 
 -- what a domain itself knows is what the core keeps of it
 pub known-same : (s : Setting) (h : History) (d : State) → Agrees s h d
@@ -112,9 +107,7 @@ pub record KeepsEntries (i : Item) : Type 0 where
   pub header : header_stored i.happened ≡ None
 
 pub same-body : (i : Item) (h : History) (t r : ℕ) (which : Half) → KeepsEntries i → body_at (i ∷ h) t r which ≡ body_at h t r which
-unfolding body_at
-same-body i h t r which q =
-    ap (λ (o : Option ℕ). or_else o (body_at h t r which)) (ap (λ (o : Option ℕ). cond (i.actor.0 == t) o None) (q.stores r which) ∙ cond-same (i.actor.0 == t) None)
+same-body i h t r which q = unstored i h t r which (q.stores r which)
 
 spelled-as : (e e' : Entry) (a a' b b' : ℕ) → e' ≡ e → a' ≡ a → b' ≡ b → IsSpelled e a b → IsSpelled e' a' b'
 spelled-as e e' a a' b b' p q r z =

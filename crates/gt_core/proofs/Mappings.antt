@@ -1,7 +1,6 @@
 -- The handles of a domain, and its mappings as the history has them.
-use Rattle.gt_core.proofs.Words.{◌≡◌, ◌+◌, ℕ, zero, suc, refl, Bool, true, false, List, [], ◌∷◌, ◌++◌, length, Option, Some, None, cond, sym, ap, ◌∙◌, arith, subst, ◌==◌, ◌&&◌, fun_ext, eqb-true, eq-eqb, and_parts, and_from, true≢false, none-some, length-append, sum_by-cons, Handle, HandleMap, value_of, count_of, Held, mapping_of, same_handle, Adds, taken, MappingsAgree, slice_index_or, slice_set, under, AreApart, cond_both}
+use Rattle.gt_core.proofs.Words.{◌≡◌, ◌+◌, ℕ, zero, suc, refl, Bool, true, false, List, [], ◌∷◌, ◌++◌, length, Option, Some, None, cond, sym, ap, ◌∙◌, arith, subst, ◌==◌, ◌&&◌, fun_ext, eqb-true, eq-eqb, and_parts, and_from, true≢false, none-some, length-append, sum_by-cons, Handle, HandleMap, value_of, count_of, Held, mapping_of, same_handle, Adds, taken, MappingsAgree, slice_index_or, slice_set, under, AreApart, cond_both, Slot}
 use Rattle.std.proofs.Common.{is_some, count_by}
-use Rattle.gt_handles.specs.declared.handles.Slot.{Slot}
 
 pub same-handle : (a b : Handle) → same_handle a b ≡ true → a ≡ b
 same-handle a b e = let p = and_parts (a.serial == b.serial) (a.key == b.key) e in
@@ -60,10 +59,13 @@ mappings-added old new handle m ms n d a =
 
 -- a list of mappings, and one less
 
--- without the first mapping under this handle
+-- without the first one under a key, by a test of keys; and under this handle
+abbrev pub less_of : {K : Type 0} → (K → Bool) → List (K × Held) → List (K × Held)
+less_of test [] = []
+less_of test (m ∷ ms) = cond (test m.0) ms (m ∷ less_of test ms)
+
 abbrev pub less : Handle → List (Handle × Held) → List (Handle × Held)
-less handle [] = []
-less handle (m ∷ ms) = cond (same_handle m.0 handle) ms (m ∷ less handle ms)
+less handle ms = less_of (λ (k : Handle). same_handle k handle) ms
 
 less-of : (ms : List (Handle × Held)) (handle other : Handle) → AreApart ms → mapping_of (less handle ms) other ≡ cond (same_handle other handle) None (mapping_of ms other)
 less-of [] handle other a = sym (cond_both (same_handle other handle) None None (λ o. o ≡ None) (λ e. refl) (λ e. refl))

@@ -1,8 +1,7 @@
 -- Where a step leads a call: what it ends with, what it has left, and what its answer is.
-use Rattle.gt_core.proofs.Words.{◌≡◌, ◌⊎◌, inl, inr, ℕ, refl, List, [], ◌∷◌, ◌++◌, length, Option, Some, None, cond, sym, ap, ◌∙◌, subst, All-push, ◌==◌, All, DomId, GrantRef, Denial, Entry, Via, Change, Held, Direct, Through, Pins, Asked, ByMapping, ByLeg, Seen, Nothing, Taken, Missed, Verdict, Granted, Refused, Step, Unpin, StoreHeader, Exchange, ReadBytes, WriteBytes, CopyBytes, Makes, Done, Aim, Mapping, Source, Dest, Phase, Exchanging, Changing, Walking, Accessing, Last, Ending, Leg, LegPhase, AtHeader, LegNext, LegRefused, Pinned, last_first, pins_so_far, no_pins, CallerKnowledge, via_judged, is_dest_granted, source_pair, dest_pair, second_leg, end_leg, Continuation, phase_after, action_at, after_leg, leg_step, after_source_pin, after_dest_pin, where_via, next_to_give, HasShown, IsQuiet, History, Setting, word_at, known_at, seen_by, StepsSoFar, LeavesAll, refusal_in, PhaseStands, EndsAfter, IsClean, Place, Write, cond_both, CopyArgs, Route, at_dest}
-use Rattle.gt_calls.specs.declared.held.Route.TheVariants.{Own}
-use Rattle.gt_calls.specs.declared.action.Verdict.TheVariants.{Mapped}
-pub use Rattle.gt_core.proofs.Phases.{makes-same, by-giving, IsHere, words-of, turn-below, IsPublished, step-publishes, idle-here, idle-no-pins, word-shows, table-fits, by-quiet}
+use Rattle.gt_core.proofs.Words.{◌≡◌, ◌⊎◌, inl, inr, ℕ, refl, List, [], ◌∷◌, ◌++◌, length, Option, Some, None, sym, ap, ◌∙◌, subst, All-push, ◌==◌, All, DomId, GrantRef, Denial, Entry, Via, Change, Held, Direct, Through, Pins, Asked, ByMapping, ByLeg, Seen, Nothing, Taken, Missed, Verdict, Granted, Refused, Step, Unpin, StoreHeader, Exchange, ReadBytes, WriteBytes, Makes, Done, Aim, Mapping, Source, Dest, Phase, Exchanging, Changing, Walking, Accessing, Last, Ending, Leg, AtHeader, LegNext, LegRefused, Pinned, last_first, pins_so_far, no_pins, CallerKnowledge, via_judged, is_dest_granted, source_pair, dest_pair, second_leg, end_leg, Continuation, phase_after, action_at, after_leg, after_source_pin, after_dest_pin, where_via, next_to_give, HasShown, IsQuiet, History, Setting, word_at, known_at, seen_by, StepsSoFar, LeavesAll, refusal_in, PhaseStands, EndsAfter, IsClean, Write, cond_both, CopyArgs, Route, at_dest}
+use Rattle.gt_calls.specs.declared.{held.Route.TheVariants.Own, action.Verdict.TheVariants.Mapped}
+use Rattle.gt_core.proofs.Phases.{OfAction, by-quiet, by-leg, makes-same, by-giving}
 
 -- the next phase
 abbrev pub next_of : Setting → History → DomId → Phase → Step → Phase
@@ -17,13 +16,9 @@ IsSingle (WriteBytes dom frame off len) = Unit {0}
 IsSingle (Unpin p (ByMapping handle)) = Unit {0}
 IsSingle step = ⊥
 
-leg-single : (l : Leg) (at : LegPhase) → IsSingle (leg_step l at) → ⊥
-leg-single l AtHeader a = a
-leg-single l at a = a
-
 -- it is the last one
 pub is-last : (d : DomId) (phase : Phase) (step : Step) → action_at d phase ≡ Makes step → IsSingle step → (verdict : Verdict) × (phase ≡ Last step verdict)
-is-last d (Walking aim l at) step e a = absurd (leg-single l at (subst IsSingle (sym (makes-same _ _ e)) a))
+is-last d (Walking aim l at) step e a = absurd (by-leg (λ (z : Step). IsSingle z → ⊥) (λ dom n. n) (λ dom gref n. n) (λ dom gref half n. n) (λ p n. n) l at (subst IsSingle (sym (makes-same _ _ e)) a))
 is-last d (Last last verdict) step e a = (verdict, ap (λ (z : Step). Last z verdict) (makes-same _ _ e))
 is-last d (Ending pins verdict) step e a = absurd (by-giving (λ (z : Step). IsSingle z → ⊥) (λ p n f. f) (last_first pins) verdict step e a)
 is-last d phase step e a = absurd (subst IsSingle (sym (makes-same _ _ e)) a)
@@ -53,41 +48,15 @@ after-plain r step verdict a = ap (λ (v : Verdict). refusal_in (Some v)) a
 
 -- an exchange that was taken
 
-leg-exchange : (l : Leg) (at : LegPhase) (gref : GrantRef) (looked : ℕ) (change : Change) → Makes (leg_step l at) ≡ Makes (Exchange gref looked change) → ⊥
-leg-exchange l AtHeader gref looked change e = cc
-leg-exchange l at gref looked change e = cc
-
 -- it ends its call
 pub taken-ends : (k : CallerKnowledge) (way : Continuation) (d : DomId) (r : Asked) (shown : List Seen) (phase : Phase) (gref : GrantRef) (looked : ℕ) (change : Change) → HasShown k way d r shown phase → action_at d phase ≡ Makes (Exchange gref looked change)
     → phase_after k d phase Taken ≡ Ending no_pins Granted
 taken-ends k way d r shown (Exchanging g w c) gref looked change a e = refl
 taken-ends k way d r shown (Changing g c more w) gref looked change a e = refl
-taken-ends k way d r shown (Walking aim l at) gref looked change a e = absurd (leg-exchange l at gref looked change e)
+taken-ends k way d r shown (Walking aim l at) gref looked change a e = absurd (by-leg (λ (z : Step). z ≡ Exchange gref looked change → ⊥) (λ dom f. cc) (λ dom x f. cc) (λ dom x half f. cc) (λ p f. cc) l at (makes-same _ _ e))
 taken-ends k way d r shown (Last last verdict) gref looked change a e = absurd (subst IsQuiet (makes-same _ _ e) a.0)
 taken-ends k way d r shown (Ending pins verdict) gref looked change a e = absurd (by-giving (λ (z : Step). z ≡ Exchange gref looked change → ⊥) (λ p n f. cc) (last_first pins) verdict _ e refl)
 taken-ends k way d r shown phase gref looked change a e = cc
-
--- a copy's access
-abbrev IsCopyStep : Step → Type 0
-IsCopyStep (CopyBytes from to len) = Unit {0}
-IsCopyStep step = ⊥
-
-leg-copy : (l : Leg) (at : LegPhase) → IsCopyStep (leg_step l at) → ⊥
-leg-copy l AtHeader a = a
-leg-copy l at a = a
-
-quiet-copy : (step : Step) → IsQuiet step → IsCopyStep step → ⊥
-quiet-copy (CopyBytes from to len) a b = a
-quiet-copy step a b = b
-
--- and it is over, or gives pins back
-copy-over : (s : Setting) (h : History) (way : Continuation) (d : DomId) (r : Asked) (shown : List Seen) (phase : Phase) (from to : Place) (len : ℕ) → HasShown (known_at s h d) way d r shown phase → action_at d phase ≡ Makes (CopyBytes from to len)
-    → (steps : List (Step × Seen)) → IsClean (phase_after (known_at s h d) d phase Nothing) steps
-copy-over s h way d r shown (Walking aim l at) from to len a e = absurd (leg-copy l at (subst IsCopyStep (sym (makes-same _ _ e)) tt))
-copy-over s h way d r shown (Accessing c source dest) from to len a e = λ steps. inl refl
-copy-over s h way d r shown (Last last verdict) from to len a e = absurd (quiet-copy last a.0 (subst IsCopyStep (sym (makes-same _ _ e)) tt))
-copy-over s h way d r shown (Ending pins verdict) from to len a e = absurd (by-giving (λ (z : Step). IsCopyStep z → ⊥) (λ p n f. f) (last_first pins) verdict (CopyBytes from to len) e tt)
-copy-over s h way d r shown phase from to len a e = cc
 
 -- the steps so far have left all as it was, unless the call ends with Ok
 
@@ -116,19 +85,21 @@ clean-giving k d pins verdict (p ∷ ps) step steps e (inr all) =
 abbrev Ends : Setting → History → DomId → Phase → Step → Type 0
 Ends s h d phase step = LeavesAll (step, seen_by s h d step) ⊎ ((steps : List (Step × Seen)) → IsClean (next_of s h d phase step) steps)
 
-single-clean : (s : Setting) (h : History) (d : DomId) (r : Asked) (so_far : StepsSoFar) (phase : Phase) (step : Step) → action_at d phase ≡ Makes step → PhaseStands s h d r so_far phase → IsSingle step → Ends s h d phase step
-single-clean s h d r so_far phase step e b a = let x = single-ends s h d r so_far phase step e b a in
-    inr (λ steps. subst (λ (p : Phase). IsClean p steps) (sym x.1) (inl (after-plain r step x.0 x.2)))
-
 step-ends : (s : Setting) (h : History) (way : Continuation) (d : DomId) (r : Asked) (shown : List Seen) (so_far : StepsSoFar) (phase : Phase) (step : Step) → HasShown (known_at s h d) way d r shown phase → action_at d phase ≡ Makes step → PhaseStands s h d r so_far phase → Ends s h d phase step
-step-ends s h way d r shown so_far phase (Unpin p (ByMapping handle)) a e b = single-clean s h d r so_far phase (Unpin p (ByMapping handle)) e b tt
-step-ends s h way d r shown so_far phase (StoreHeader version frames) a e b = single-clean s h d r so_far phase (StoreHeader version frames) e b tt
-step-ends s h way d r shown so_far phase (WriteBytes dom frame off len) a e b = single-clean s h d r so_far phase (WriteBytes dom frame off len) e b tt
-step-ends s h way d r shown so_far phase (CopyBytes from to len) a e b = inr (copy-over s h way d r shown phase from to len a e)
-step-ends s h way d r shown so_far phase (Exchange gref looked change) a e b =
-    cond_both (word_at s h d.0 gref.0 == looked) Taken (Missed (word_at s h d.0 gref.0)) (λ v. LeavesAll (Exchange gref looked change, v) ⊎ ((steps : List (Step × Seen)) → IsClean (phase_after (known_at s h d) d phase v) steps))
-    (λ is. inr (λ steps. subst (λ (p : Phase). IsClean p steps) (sym (taken-ends (known_at s h d) way d r shown phase gref looked change a e)) (inl refl))) (λ is. inl tt)
-step-ends s h way d r shown so_far phase step a e b = inl tt
+step-ends s h way d r shown so_far phase step a e b = subst (OfAction (Ends s h d phase)) e (by phase a e b) where
+  exchanged : (p : Phase) (gref : GrantRef) (looked : ℕ) (change : Change) → ((steps : List (Step × Seen)) → IsClean (phase_after (known_at s h d) d p Taken) steps) → Ends s h d p (Exchange gref looked change)
+  exchanged p gref looked change clean = cond_both (word_at s h d.0 gref.0 == looked) Taken (Missed (word_at s h d.0 gref.0))
+      (λ v. LeavesAll (Exchange gref looked change, v) ⊎ ((steps : List (Step × Seen)) → IsClean (phase_after (known_at s h d) d p v) steps)) (λ is. inr clean) (λ is. inl tt)
+
+  by : (p : Phase) → HasShown (known_at s h d) way d r shown p → action_at d p ≡ Makes step → PhaseStands s h d r so_far p → OfAction (Ends s h d p) (action_at d p)
+  by (Exchanging gref looked change) a e b = exchanged (Exchanging gref looked change) gref looked change (λ steps. inl refl)
+  by (Changing gref change more looked) a e b = exchanged (Changing gref change more looked) gref looked change (λ steps. inl refl)
+  by (Walking aim l at) a e b = by-leg (Ends s h d (Walking aim l at)) (λ dom. inl tt) (λ dom gref. inl tt) (λ dom gref half. inl tt) (λ p. inl tt) l at
+  by (Accessing c source dest) a e b = inr (λ steps. inl refl)
+  by (Last last verdict) a e b = let plain = after-plain r last verdict b in by-quiet (λ z. Ends s h d (Last z verdict) z) (λ p handle. inr (λ steps. inl plain)) (λ gref half word. inl tt) (λ version frames. inr (λ steps. inl plain))
+      (λ dom frame off len. (inl tt, inr (λ steps. inl plain))) last a.0
+  by (Ending pins verdict) a e b = subst (OfAction (Ends s h d (Ending pins verdict))) (sym e) (by-giving (Ends s h d (Ending pins verdict)) (λ p n. inl tt) (last_first pins) verdict step e)
+  by p a e b = inl tt
 
 pub clean-next : (s : Setting) (h : History) (way : Continuation) (d : DomId) (r : Asked) (shown : List Seen) (so_far : StepsSoFar) (phase : Phase) (step : Step) (steps : List (Step × Seen)) → HasShown (known_at s h d) way d r shown phase → action_at d phase ≡ Makes step → PhaseStands s h d r so_far phase
     → IsClean phase steps → IsClean (next_of s h d phase step) (steps ++ (step, seen_by s h d step) ∷ [])

@@ -1,9 +1,7 @@
 -- Each step of an open call: it is on words that there are, its refusal is the first rule that stands, and where the call stands after it.
-use Rattle.gt_core.proofs.Words.{◌≡◌, ◌≢◌, ◌<◌, ◌≤◌, ◌+◌, ℕ, refl, Bool, true, false, List, [], ◌∷◌, Option, Some, None, cond, sym, ap, ◌∙◌, subst, reverse, arith, ◌==◌, is_none, eq-eqb, true≢false, false≢true, none-some, domain_of, resolved, DomId, GrantRef, DomainConfig, TABLE_ENTRIES, Entry, Invalid, Change, Publish, ToInvalid, ToReadOnly, ToWritable, control_word, Held, Asked, Grant, Revoke, Demote, Promote, QuerySize, GetVersion, Verdict, Step, LookHeader, LookControl, LookBody, PinStep, Unpin, StoreBody, StoreHeader, Exchange, ReadBytes, WriteBytes, Seen, Taken, Missed, Action, Makes, Done, Question, AsksSize, AsksVersion, Phase, Exchanging, Looking, Changing, Walking, Asking, Last, Ending, Leg, LegPhase, AtHeader, Look, Body, last_first, begun, size_of, opens, Continuation, FitsStep, path, RestsOnWord, action_at, leg_step, next_to_give, IsTurn, IsQuiet, HasShown, StandsAt, State, state_of, History, Setting, word_at, table_at, entry_at, generation_at, reads_at, writes_at, known_at, seen_by, legs_at, StepsSoFar, DomainsStand, StateAgrees, PhaseStands, LegStands, Asks, numbered, pins_at, Rests, FitsAsked, length, ByLeg, is_invalid, IsExchanged, IsChanged, idle_word, CallerKnowledge, Handle, ByMapping, Half, Call}
+use Rattle.gt_core.proofs.Words.{◌≡◌, ◌≢◌, ◌<◌, ◌≤◌, ◌+◌, ℕ, refl, Bool, true, false, List, [], ◌∷◌, Option, Some, None, cond, sym, ap, ◌∙◌, subst, reverse, arith, ◌==◌, is_none, eq-eqb, true≢false, false≢true, none-some, domain_of, resolved, DomId, GrantRef, DomainConfig, TABLE_ENTRIES, Entry, Invalid, Change, Publish, ToInvalid, ToReadOnly, ToWritable, control_word, Held, Asked, Grant, Revoke, Demote, Promote, QuerySize, GetVersion, Verdict, Step, LookHeader, LookControl, LookBody, PinStep, Unpin, StoreBody, StoreHeader, Exchange, ReadBytes, WriteBytes, Seen, Taken, Missed, Action, Makes, Done, Question, AsksSize, AsksVersion, Phase, Exchanging, Looking, Changing, Walking, Asking, Last, Ending, Leg, LegPhase, AtHeader, Look, Body, last_first, begun, size_of, opens, Continuation, FitsStep, path, RestsOnWord, action_at, leg_step, next_to_give, IsTurn, IsQuiet, HasShown, StandsAt, State, state_of, History, Setting, word_at, table_at, entry_at, generation_at, reads_at, writes_at, known_at, seen_by, legs_at, StepsSoFar, DomainsStand, StateAgrees, PhaseStands, LegStands, Asks, numbered, pins_at, Rests, FitsAsked, length, ByLeg, is_invalid, IsExchanged, IsChanged, idle_word, CallerKnowledge, Handle, ByMapping, Half, Call, FirstHalf, SecondHalf, Second, Pinning, Relook, held_of}
 use Rattle.gt_entry.specs.Spelling.{control_with}
-pub use Rattle.gt_core.proofs.Fitting.{word-shows, table-fits}
-pub use Rattle.gt_core.proofs.Seeing.{IsWithin, sees-agree}
-pub use Rattle.gt_core.proofs.Legs.{Words, leg-place, NextStands, misses-look, misses-exchange, looked-here}
+use Rattle.gt_core.proofs.{Seeing.word-shows, Seeing.table-fits, Seeing.IsWithin, Legs.Words}
 
 pub none-of : (k : CallerKnowledge) (d : DomId) (r q : Asked) → r ≡ q → begun k d r ≡ None → begun k d q ≡ None
 none-of k d r q is none = subst (λ (z : Asked). begun k d z ≡ None) is none
@@ -31,6 +29,21 @@ step_in (Done verdict) other = other
 
 pub makes-same : (a b : Step) → Makes a ≡ Makes b → a ≡ b
 makes-same a b e = ap (λ (x : Action). step_in x a) e
+
+-- what holds of the step of an action
+abbrev pub OfAction : (Step → Type 0) → Action → Type 0
+OfAction P (Makes z) = P z
+OfAction P (Done v) = Unit {0}
+
+-- a leg looks, or pins
+pub by-leg : (P : Step → Type 0) → ((dom : DomId) → P (LookHeader dom)) → ((dom : DomId) (gref : GrantRef) → P (LookControl dom gref)) → ((dom : DomId) (gref : GrantRef) (half : Half) → P (LookBody dom gref half))
+    → ((p : Held) → P (PinStep p)) → (l : Leg) (at : LegPhase) → P (leg_step l at)
+by-leg P headers looks bodies pins l AtHeader = headers l.dom
+by-leg P headers looks bodies pins l (Look more) = looks l.dom l.gref
+by-leg P headers looks bodies pins l (Body more word) = bodies l.dom l.gref FirstHalf
+by-leg P headers looks bodies pins l (Second more word body) = bodies l.dom l.gref SecondHalf
+by-leg P headers looks bodies pins l (Pinning more word body second) = pins (held_of l word body second)
+by-leg P headers looks bodies pins l (Relook more word rule) = looks l.dom l.gref
 
 -- a call that gives its pins back makes a step that gives one back by its place
 pub by-giving : (P : Step → Type 0) → ((p : Held) (n : ℕ) → P (Unpin p (ByLeg n))) → (held : List Held) (verdict : Verdict) (step : Step) → next_to_give held verdict ≡ Makes step → P step
@@ -96,20 +109,16 @@ asks-run s h d r dom AsksVersion none a = subst (λ (z : DomId). domain_of s.dom
     (of-run (domain_of s.domains (resolved d a.0)) (opens (known_at s h d) d (GetVersion a.0) (subst (λ (z : Asked). begun (known_at s h d) d z ≡ None) a.1 none)).of_run)
 
 pub step-within : (s : Setting) (h : History) (xs : List State) (d : DomId) (r : Asked) (shown : List Seen) (so_far : StepsSoFar) (phase : Phase) (step : Step) → IsHere s h xs d r shown so_far phase step → IsWithin xs d step
-step-within s h xs d r shown so_far phase step i = subst (λ (a : Action). OfAction a) i.acts (by phase i.at.has_shown i.place i.acts)
+step-within s h xs d r shown so_far phase step i = subst (OfAction (IsWithin xs d)) i.acts (by phase i.at.has_shown i.place i.acts)
   where
-    OfAction : Action → Type 0
-    OfAction (Makes z) = IsWithin xs d z
-    OfAction (Done v) = Unit {0}
-
-    by : (p : Phase) → HasShown (known_at s h d) (path (known_at s h d) d r) d r shown p → PhaseStands s h d r so_far p → action_at d p ≡ Makes step → OfAction (action_at d p)
+    by : (p : Phase) → HasShown (known_at s h d) (path (known_at s h d) d r) d r shown p → PhaseStands s h d r so_far p → action_at d p ≡ Makes step → OfAction (IsWithin xs d) (action_at d p)
     by (Exchanging gref looked change) a b e = (i.own, word-below s h xs d r (path (known_at s h d) d r) shown gref looked change i.st i.at.unanswered a)
     by (Looking gref change more) a b e = (i.own, turn-below s h xs d r gref change i.st i.at.unanswered a)
     by (Changing gref change more looked) a b e = (i.own, turn-below s h xs d r gref change i.st i.at.unanswered a.1)
     by (Walking aim l at) a b e = leg-within s h xs d l so_far at (state-some s h xs l.dom i.st b.0) b.1
     by (Asking dom question) a b e = state-some s h xs dom i.st (asks-run s h d r dom question i.at.unanswered b)
     by (Last last verdict) a b e = by-quiet (IsWithin xs d) (λ p handle. tt) (λ gref half word. tt) (λ version frames. tt) (λ dom frame off len. (tt, tt)) last a.0
-    by (Ending pins verdict) a b e = subst (λ (x : Action). OfAction x) (sym e) (by-giving (IsWithin xs d) (λ p n. tt) (last_first pins) verdict step e)
+    by (Ending pins verdict) a b e = subst (OfAction (IsWithin xs d)) (sym e) (by-giving (IsWithin xs d) (λ p n. tt) (last_first pins) verdict step e)
     by p a b e = tt
 
 -- what a step sees fits it
@@ -175,25 +184,17 @@ turn-publishes : (s : Setting) (h : History) (d : DomId) (r : Asked) (gref : Gra
 turn-publishes s h d r gref looked (Publish entry) is = absurd is
 turn-publishes s h d r gref looked change is = tt
 
-leg-publishes : (s : Setting) (h : History) (d : DomId) (l : Leg) (p : LegPhase) → IsPublished s h d (leg_step l p)
-leg-publishes s h d l AtHeader = tt
-leg-publishes s h d l p = tt
-
 quiet-publishes : (s : Setting) (h : History) (d : DomId) (step : Step) → IsQuiet step → IsPublished s h d step
 quiet-publishes s h d (Exchange gref looked change) q = absurd q
 quiet-publishes s h d step q = tt
 
 pub step-publishes : (s : Setting) (h : History) (xs : List State) (d : DomId) (r : Asked) (shown : List Seen) (so_far : StepsSoFar) (phase : Phase) (step : Step) → IsHere s h xs d r shown so_far phase step → IsPublished s h d step
-step-publishes s h xs d r shown so_far phase step i = subst (λ (a : Action). OfAction a) i.acts (by phase i.at.has_shown i.acts)
+step-publishes s h xs d r shown so_far phase step i = subst (OfAction (IsPublished s h d)) i.acts (by phase i.at.has_shown i.acts)
   where
-    OfAction : Action → Type 0
-    OfAction (Makes z) = IsPublished s h d z
-    OfAction (Done v) = Unit {0}
-
-    by : (p : Phase) → HasShown (known_at s h d) (path (known_at s h d) d r) d r shown p → action_at d p ≡ Makes step → OfAction (action_at d p)
+    by : (p : Phase) → HasShown (known_at s h d) (path (known_at s h d) d r) d r shown p → action_at d p ≡ Makes step → OfAction (IsPublished s h d) (action_at d p)
     by (Exchanging gref looked change) a e = publish-here s h xs d r shown gref looked change i.st i.at.unanswered a
     by (Changing gref change more looked) a e = turn-publishes s h d r gref looked change a.1
-    by (Walking aim l at) a e = leg-publishes s h d l at
+    by (Walking aim l at) a e = by-leg (IsPublished s h d) (λ dom. tt) (λ dom gref. tt) (λ dom gref half. tt) (λ p. tt) l at
     by (Last last verdict) a e = quiet-publishes s h d last a.0
-    by (Ending pins verdict) a e = subst (λ (x : Action). OfAction x) (sym e) (by-giving (IsPublished s h d) (λ p n. tt) (last_first pins) verdict step e)
+    by (Ending pins verdict) a e = subst (OfAction (IsPublished s h d)) (sym e) (by-giving (IsPublished s h d) (λ p n. tt) (last_first pins) verdict step e)
     by p a e = tt

@@ -1,12 +1,9 @@
 -- A pin that was taken keeps what a core stands for.
-use Rattle.gt_core.proofs.Words.{◌≡◌, ◌≢◌, ◌<◌, ◌+◌, ℕ, refl, Bool, true, false, List, [], ◌∷◌, ◌++◌, length, Option, Some, cond, sym, ap, ◌∙◌, arith, subst, ◌==◌, ◌&&◌, All, count_by, eqb-true, eq-eqb, and_parts, and_from, false≢true, true≢false, All-push, append-nil, DomId, Dir, Read, Write, MAX_PINS, Invalid, FirstHalf, SecondHalf, HandleMap, Handle, Held, Holder, ByLeg, PinStep, Taken, PinCounts, Open, Item, Answer, Mapped, changed_at, State, state_of, changed_in, with_slot, slot_after, Adds, History, Setting, Pin, live, entry_at, body_at, reads_at, writes_at, mappings_at, maps_answered_at, legs_at, open_call, is_pin_on, same_dir, gather, by_mapping, by_leg, holder_after, one_if_mapped, IsLawful, SlotAgrees, Agrees, DomainsStand, CallAgrees, GivenAgrees, MappingsAgree, sum_by_push}
-use Rattle.std.specs.Prelude.{min}
-use Rattle.gt_core.specs.declared.pin_counts.CountsChange.TheVariants.{Pinned}
-pub use Rattle.gt_core.proofs.Keeping.{answered-stays, stepped, SlotsAgree, KeepsEntries, same-body, slots-agree, counts-fit, becomes-changed, slots-stand, keeps-stands, same-number, open_call-own, quiet-stands, KeepsKnown, IsStore, IsHere, makes-same, by-giving, mappings-added, mappings-same, gather-append, after_change, Becomes, less, mappings-taken, state-changed}
+use Rattle.gt_core.proofs.Words.{◌≡◌, ◌≢◌, ◌<◌, ◌+◌, ℕ, refl, Bool, true, false, List, [], ◌∷◌, ◌++◌, length, Option, Some, cond, sym, ap, ◌∙◌, arith, subst, ◌==◌, ◌&&◌, All, count_by, eqb-true, and_parts, and_from, false≢true, All-push, append-nil, DomId, Dir, Read, Write, MAX_PINS, Invalid, Half, FirstHalf, SecondHalf, HandleMap, Handle, Held, Holder, ByLeg, PinStep, Taken, PinCounts, Open, Item, Answer, Mapped, changed_at, State, state_of, changed_in, with_slot, slot_after, Adds, History, Setting, Pin, live, entry_at, body_at, reads_at, writes_at, mappings_at, maps_answered_at, legs_at, open_call, is_pin_on, same_dir, gather, by_mapping, by_leg, holder_after, one_if_mapped, IsLawful, SlotAgrees, Agrees, DomainsStand, CallAgrees, GivenAgrees, MappingsAgree, sum_by_push, CountsChange}
+use Rattle.gt_core.{specs.declared.pin_counts.CountsChange.TheVariants.Pinned, proofs.Others.answered-stays, proofs.Others.gather-append, proofs.Keeping.stepped, proofs.Keeping.SlotsAgree, proofs.Keeping.KeepsEntries, proofs.Keeping.same-body, proofs.Keeping.slots-agree, proofs.Keeping.counts-fit, proofs.Keeping.becomes-changed, proofs.Keeping.slots-stand, proofs.Keeping.keeps-stands, proofs.Keeping.same-number, proofs.Mappings.mappings-added, proofs.Mappings.mappings-same}
 
 abbrev pub pins_at : History → ℕ → ℕ → Dir → ℕ
-pins_at h t r Read = reads_at h t r
-pins_at h t r Write = writes_at h t r
+pins_at h t r dir = count_by (is_pin_on t r dir) (live h)
 
 -- the pin that is held after a step that took it
 abbrev pub new_pin : History → DomId → Held → Option Answer → Pin
@@ -26,17 +23,13 @@ abbrev pub IsFew : History → Pin → Type 0
 IsFew h p = pins_at h p.held.dom.0 p.held.gref.0 p.held.dir < MAX_PINS
 
 grown-count : (h : History) (i : Item) (p : Pin) (t r : ℕ) (k : Dir) → Grows h i p
-    → count_by (is_pin_on t r k) (live (i ∷ h)) ≡ count_by (is_pin_on t r k) (live h) + cond (is_pin_on t r k p) 1 0
+    → pins_at (i ∷ h) t r k ≡ pins_at h t r k + cond (is_pin_on t r k p) 1 0
 grown-count h i p t r k e = ap (λ (ps : List Pin). count_by (is_pin_on t r k) ps) e ∙ sum_by_push (λ (x : Pin). cond (is_pin_on t r k x) 1 0) (live h) p
 
 pub same-dir : (a b : Dir) → same_dir a b ≡ true → a ≡ b
 same-dir Read Write e = absurd (false≢true e)
 same-dir Write Read e = absurd (false≢true e)
 same-dir a b e = refl
-
-pins-counted : (h : History) (t r : ℕ) (k : Dir) → pins_at h t r k ≡ count_by (is_pin_on t r k) (live h)
-pins-counted h t r Read = refl
-pins-counted h t r Write = refl
 
 -- the place of a pin
 record IsPlace (p : Pin) (t r : ℕ) (k : Dir) : Type 0 where
@@ -49,52 +42,33 @@ place-of p t r k e = let outer = and_parts ((p.held.dom.0 == t) && (p.held.gref.
     let inner = and_parts (p.held.dom.0 == t) (p.held.gref.0 == r) outer.0 in
     record { on_dom = eqb-true p.held.dom.0 t inner.0; on_gref = eqb-true p.held.gref.0 r inner.1; of_dir = same-dir p.held.dir k outer.1 }
 
-few-there : (h : History) (p : Pin) (t r : ℕ) (k : Dir) → IsFew h p → is_pin_on t r k p ≡ true → count_by (is_pin_on t r k) (live h) < MAX_PINS
-few-there h p t r k few e = let at = place-of p t r k e in subst (λ (n : ℕ). n < MAX_PINS) (pins-counted h t r k)
-    (subst (λ (z : Dir). pins_at h t r z < MAX_PINS) at.of_dir
-    (subst (λ (n : ℕ). pins_at h t n p.held.dir < MAX_PINS) at.on_gref
-    (subst (λ (n : ℕ). pins_at h n p.held.gref.0 p.held.dir < MAX_PINS) at.on_dom few)))
+few-there : (h : History) (p : Pin) (t r : ℕ) (k : Dir) → IsFew h p → is_pin_on t r k p ≡ true → pins_at h t r k < MAX_PINS
+few-there h p t r k few e = let at = place-of p t r k e in subst (λ (z : Dir). pins_at h t r z < MAX_PINS) at.of_dir
+    (subst (λ (n : ℕ). pins_at h t n p.held.dir < MAX_PINS) at.on_gref (subst (λ (n : ℕ). pins_at h n p.held.gref.0 p.held.dir < MAX_PINS) at.on_dom few))
 
 -- slots
 
-counted-up : (on hit : Bool) (old now was : ℕ) → on ≡ true → ((on && hit) ≡ true → was < MAX_PINS) → old ≡ was → now ≡ was + cond (on && hit) 1 0 → cond hit (min (old + 1) MAX_PINS) old ≡ now
-counted-up true true old now was p few e f = let c : was < MAX_PINS = few refl in omega arith
-counted-up true false old now was p few e f = omega arith
-counted-up false hit old now was p few e f = absurd (false≢true p)
+-- each slot is as the change of the one that the pin names leaves it
+abbrev Moves : History → Item → Held → CountsChange → Type 0
+Moves h i p change = (q r : ℕ) (old : PinCounts) → SlotAgrees h q r old → SlotAgrees (i ∷ h) q r (cond ((p.dom.0 == q) && (p.gref.0 == r)) (slot_after change old) old)
 
-slot-up : (h : History) (i : Item) (p : Pin) (q : ℕ) (old : PinCounts) → KeepsEntries i → Grows h i p → IsFew h p → (p.held.dom.0 == q) ≡ true → SlotAgrees h q p.held.gref.0 old
-    → SlotAgrees (i ∷ h) q p.held.gref.0 (slot_after (Pinned p.held.dir) old)
-slot-up h i p q old keeps grows few on a = let r = p.held.gref.0 in
-    let both_on : ((p.held.dom.0 == q) && (r == r)) ≡ true = and_from (p.held.dom.0 == q) (r == r) on (eq-eqb r r refl) in
-    both p.held.dir (a.first ∙ sym (same-body i h q r FirstHalf keeps)) (a.second ∙ sym (same-body i h q r SecondHalf keeps))
-    (counted-up ((p.held.dom.0 == q) && (r == r)) (same_dir p.held.dir Read) old.reads (reads_at (i ∷ h) q r) (reads_at h q r) both_on (few-there h p q r Read few) a.reads (grown-count h i p q r Read grows))
-    (counted-up ((p.held.dom.0 == q) && (r == r)) (same_dir p.held.dir Write) old.writes (writes_at (i ∷ h) q r) (writes_at h q r) both_on (few-there h p q r Write few) a.writes (grown-count h i p q r Write grows))
+pub moved-slots : (h : History) (i : Item) (p : Held) (change : CountsChange) (q : ℕ) (slots : List PinCounts) (b : Bool) → Moves h i p change → (p.dom.0 == q) ≡ b
+    → SlotsAgree h q slots → SlotsAgree (i ∷ h) q (cond b (changed_at p.gref.0 (slot_after change) slots) slots)
+moved-slots h i p change q slots b moves is was = let now : ℕ → PinCounts → Bool → Type 0 = λ k old c. SlotAgrees (i ∷ h) q k (cond c (slot_after change old) old) in
+    slots-agree h (i ∷ h) p.dom.0 q p.gref.0 (slot_after change) slots b is was
+    (λ on old a. subst (now p.gref.0 old) (and_from (p.dom.0 == q) (p.gref.0 == p.gref.0) on (same-number p.gref.0)) (moves q p.gref.0 old a)) (λ k old off a. subst (now k old) off (moves q k old a))
+
+counted-up : (h new : History) (q r : ℕ) (dir : Dir) (b : Bool) (old : PinCounts) → SlotAgrees h q r old → ((which : Half) → body_at new q r which ≡ body_at h q r which)
+    → ((k : Dir) → pins_at new q r k ≡ pins_at h q r k + cond (b && same_dir dir k) 1 0) → ((k : Dir) → (b && same_dir dir k) ≡ true → pins_at h q r k < MAX_PINS)
+    → SlotAgrees new q r (cond b (slot_after (Pinned dir) old) old)
+counted-up h new q r dir b old a body now few = by dir b (now Read) (now Write) (few Read) (few Write) (a.first ∙ sym (body FirstHalf)) (a.second ∙ sym (body SecondHalf))
   where
-    both : (dir : Dir) → old.first ≡ body_at (i ∷ h) q p.held.gref.0 FirstHalf → old.second ≡ body_at (i ∷ h) q p.held.gref.0 SecondHalf
-        → cond (same_dir dir Read) (min (old.reads + 1) MAX_PINS) old.reads ≡ reads_at (i ∷ h) q p.held.gref.0
-        → cond (same_dir dir Write) (min (old.writes + 1) MAX_PINS) old.writes ≡ writes_at (i ∷ h) q p.held.gref.0
-        → SlotAgrees (i ∷ h) q p.held.gref.0 (slot_after (Pinned dir) old)
-    both Read f g r w = record { reads = r; writes = w; first = f; second = g }
-    both Write f g r w = record { reads = r; writes = w; first = f; second = g }
-
-no-hit : (on hit : Bool) (n was now : ℕ) → on ≡ false → n ≡ was → now ≡ was + cond (on && hit) 1 0 → n ≡ now
-no-hit true hit n was now p e f = absurd (true≢false p)
-no-hit false hit n was now p e f = omega arith
-
--- a slot that the pin doesn't name
-slot-stays : (h : History) (i : Item) (p : Pin) (q k : ℕ) (old : PinCounts) → KeepsEntries i → Grows h i p → ((p.held.dom.0 == q) && (p.held.gref.0 == k)) ≡ false → SlotAgrees h q k old → SlotAgrees (i ∷ h) q k old
-slot-stays h i p q k old keeps grows off a = record {
-  reads = no-hit ((p.held.dom.0 == q) && (p.held.gref.0 == k)) (same_dir p.held.dir Read) old.reads (reads_at h q k) (reads_at (i ∷ h) q k) off a.reads (grown-count h i p q k Read grows);
-  writes = no-hit ((p.held.dom.0 == q) && (p.held.gref.0 == k)) (same_dir p.held.dir Write) old.writes (writes_at h q k) (writes_at (i ∷ h) q k) off a.writes (grown-count h i p q k Write grows);
-  first = a.first ∙ sym (same-body i h q k FirstHalf keeps);
-  second = a.second ∙ sym (same-body i h q k SecondHalf keeps);
-}
-
-pinned-slots : (h : History) (i : Item) (p : Pin) (q : ℕ) (slots : List PinCounts) (b : Bool) → KeepsEntries i → Grows h i p → IsFew h p → (p.held.dom.0 == q) ≡ b
-    → SlotsAgree h q slots → SlotsAgree (i ∷ h) q (cond b (changed_at p.held.gref.0 (slot_after (Pinned p.held.dir)) slots) slots)
-pinned-slots h i p q slots b keeps grows few is was =
-    slots-agree h (i ∷ h) p.held.dom.0 q p.held.gref.0 (slot_after (Pinned p.held.dir)) slots b is was
-    (λ on old a. slot-up h i p q old keeps grows few on a) (λ k old off a. slot-stays h i p q k old keeps grows off a)
+    by : (z : Dir) (c : Bool) → pins_at new q r Read ≡ pins_at h q r Read + cond (c && same_dir z Read) 1 0 → pins_at new q r Write ≡ pins_at h q r Write + cond (c && same_dir z Write) 1 0
+        → ((c && same_dir z Read) ≡ true → pins_at h q r Read < MAX_PINS) → ((c && same_dir z Write) ≡ true → pins_at h q r Write < MAX_PINS)
+        → old.first ≡ body_at new q r FirstHalf → old.second ≡ body_at new q r SecondHalf → SlotAgrees new q r (cond c (slot_after (Pinned z) old) old)
+    by Read true n m f g x y = let below = f refl in record { reads = omega arith; writes = omega arith; first = x; second = y }
+    by Write true n m f g x y = let below = g refl in record { reads = omega arith; writes = omega arith; first = x; second = y }
+    by z false n m f g x y = record { reads = omega arith; writes = omega arith; first = x; second = y }
 
 -- counts and words
 
@@ -155,7 +129,8 @@ pin-stands s h xs ys x p answer kept o st here a becomes valid few lawful maps c
     let keeps : KeepsEntries i = record { changes = λ r. refl; stores = λ r which. refl; header = refl } in let grows : Grows h i q = pinned-live h x.id p answer in
     keeps-stands s i h xs _ keeps st
     (slots-stand s i h xs _ x kept o p.dom.0 p.gref.0 (Pinned p.dir) keeps refl st here a (becomes-changed xs ys x (record x { mappings = kept; underway = o }) p.dom.0 (with_slot p.gref.0 (Pinned p.dir)) (λ y. refl) becomes)
-    (λ z slots b is was. pinned-slots h i q z slots b keeps grows few is was) maps call given)
+    (λ z slots b is was. moved-slots h i p (Pinned p.dir) z slots b (λ u r old w. counted-up h (i ∷ h) u r p.dir ((p.dom.0 == u) && (p.gref.0 == r)) old w
+    (λ which. same-body i h u r which keeps) (λ k. grown-count h i q u r k grows) (λ k e. few-there h q u r k few e)) is was) maps call given)
     (subst (All (IsLawful s)) (sym grows) (All-push (IsLawful s) (live h) q st.lawful lawful))
     (λ u r within. let was = counts-fit s h u r (st.words u r within) in (
       now-fits (is_pin_on u r Read q) (reads_at (i ∷ h) u r) (reads_at h u r) was.0 (few-there h q u r Read few) (grown-count h i q u r Read grows),

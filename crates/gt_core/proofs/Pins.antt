@@ -1,7 +1,6 @@
 -- The live pins and the mappings are the same without keys, where each handle that is named is told by its serial.
 use Rattle.gt_core.proofs.Words.{◌≡◌, ◌+◌, ℕ, refl, Bool, true, false, List, [], ◌∷◌, ◌++◌, length, Option, Some, None, cond, sym, ap, ◌∙◌, subst, ◌==◌, ◌&&◌, count_by, is_some, option_map, eqb-true, sum_by-cons, fun_ext, DomId, Dir, Read, Write, Entry, Handle, Holder, ByMapping, ByLeg, Held, Seen, Taken, PinStep, Unpin, Answer, Mapped, Happened, Stepped, History, Setting, Pin, live, without, is_holder, same_handle, holder_after, gather, by_leg, by_mapping, pinned_by, unpinned_by, is_pin_on, reads_at, writes_at, mappings_at, mapping_of, entry_at, generation_at, word_at, known_at, domain_of, shown_at, subject_at, place_of, bare_handle, bare_happened, told, IsGiven, IsKnown, IsRun, AreAlike, map, map-append, length-map}
-pub use Rattle.gt_core.proofs.Bare.{bare-same, answer_from, bare, entry-bare, raises-bare, table-bare, maps-bare, bare_asked, bare_call, asked-bare, open-bare, values-bare, body-bare, contents-bare}
-pub use Rattle.gt_core.proofs.Given.{HeldGiven, PinsGiven, pins-given, known-tells, unpin-known, CallKnown, open-known, NamesAsked, only-path}
+use Rattle.gt_core.proofs.{Bare.bare-same, Bare.answer_from, Bare.bare, Bare.entry-bare, Bare.raises-bare, Bare.table-bare, Bare.maps-bare, Given.HeldGiven, Given.PinsGiven, Given.pins-given, Given.known-tells, Given.unpin-known}
 
 abbrev pub bare_holder : Holder → Holder
 bare_holder (ByMapping handle) = ByMapping (bare_handle handle)

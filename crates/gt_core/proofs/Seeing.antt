@@ -1,30 +1,37 @@
 -- What the core's steps see is what the history left.
-use Rattle.gt_core.proofs.Words.{◌≡◌, ◌≢◌, ◌<◌, ℕ, zero, suc, refl, Bool, true, false, List, [], ◌∷◌, length, Option, Some, None, cond, ap, ◌∙◌, arith, same_Some, ◌==◌, slice_get, DomId, Entry, control_word, header_word, PinCounts, Own, State, Step, LookHeader, LookControl, LookBody, Exchange, Word, control_with, generation_in, Half, FirstHalf, SecondHalf, TABLE_ENTRIES, History, Setting, entry_at, generation_at, reads_at, body_at, table_at, word_at, seen_by, exchange_sees, Agrees, StateAgrees, DomainsStand, control_seen, header_seen, body_seen, sees, reads_in, writes_in, body_in, slot_reads, slot_writes, slot_body, control_in, get_or, slice_get-get_or}
+use Rattle.gt_core.proofs.Words.{◌≡◌, ◌<◌, ◌≤◌, ◌+◌, ◌%◌, ℕ, Bool, true, false, cond, List, ap, ◌∙◌, arith, ◌==◌, TABLE_ENTRIES, control_of, header_word, header_of, Header, State, History, Setting, word_at, control_at, DomainsStand, FitsTable, ◌*◌, ◌/◌, control-round, MAX_TABLE_FRAMES, ENTRIES_V1, ENTRIES_V2, ◌≢◌, zero, suc, refl, [], ◌∷◌, length, Option, Some, None, same_Some, slice_get, DomId, Entry, control_word, PinCounts, Own, Step, LookHeader, LookControl, LookBody, Exchange, Word, control_with, generation_in, Half, FirstHalf, SecondHalf, entry_at, generation_at, reads_at, body_at, table_at, seen_by, exchange_sees, Agrees, StateAgrees, control_seen, header_seen, body_seen, sees, reads_in, writes_in, body_in, slot_reads, slot_writes, slot_body, control_in, get_or, slice_get-get_or}
+use Rattle.gt_entry.specs.Words.{size_of}
 use Rattle.gt_calls.specs.declared.action.Step.TheVariants.{Pin}
 use Rattle.gt_core.specs.Standing.{state_of}
 
-header_seen-state : (xs : List State) (d : ℕ) (x : State) → state_of xs d ≡ Some x → header_seen xs d ≡ header_word x.header
-header_seen-state [] d x e = cc
-header_seen-state (y ∷ ys) d x e = by (y.id.0 == d) e (header_seen-state ys d x) where
-  by : (b : Bool) → cond b (Some y) (state_of ys d) ≡ Some x → (state_of ys d ≡ Some x → header_seen ys d ≡ header_word x.header) → cond b (header_word y.header) (header_seen ys d) ≡ header_word x.header
-  by true k r = ap (λ (z : State). header_word z.header) (same_Some y x k)
+pub word-shows : (s : Setting) (h : History) (xs : List State) (t r : ℕ) → DomainsStand s h xs → r < TABLE_ENTRIES → control_of (word_at s h t r) ≡ control_at s h t r
+word-shows s h xs t r st within = control-round (control_at s h t r) (st.words t r within).in_range (st.words t r within).domain
+
+-- a header within the limits has room in its word, and its table has at most 2,048 entries
+pub table-fits : (x : Header) → FitsTable x → (size_of x ≤ TABLE_ENTRIES) × (header_of (header_word x) ≡ x)
+table-fits x f = (by (x.version == 2) few, ap (λ (n : ℕ). record { version = n; frames = (x.version + x.frames * 4) / 4 % 256 }) version ∙ ap (λ (n : ℕ). record { version = x.version; frames = n }) frames)
+  where
+    few : x.frames ≤ MAX_TABLE_FRAMES
+    few = f.frames
+
+    by : (b : Bool) → x.frames ≤ MAX_TABLE_FRAMES → x.frames * cond b ENTRIES_V2 ENTRIES_V1 ≤ TABLE_ENTRIES
+    by true le = omega arith
+    by false le = omega arith
+
+    version : (x.version + x.frames * 4) % 4 ≡ x.version
+    version = let a = f.version in omega arith
+
+    frames : (x.version + x.frames * 4) / 4 % 256 ≡ x.frames
+    frames = let a = f.version in let b = f.frames in omega arith
+
+-- what is seen of the states is of the first one with the number
+seen-state : {A : Type 0} (seen : List State → A) (of : State → A) (d : ℕ) (x : State) → ((y : State) (ys : List State) → seen (y ∷ ys) ≡ cond (y.id.0 == d) (of y) (seen ys))
+    → (xs : List State) → state_of xs d ≡ Some x → seen xs ≡ of x
+seen-state seen of d x more [] e = cc
+seen-state seen of d x more (y ∷ ys) e = more y ys ∙ by (y.id.0 == d) e (seen-state seen of d x more ys) where
+  by : (b : Bool) → cond b (Some y) (state_of ys d) ≡ Some x → (state_of ys d ≡ Some x → seen ys ≡ of x) → cond b (of y) (seen ys) ≡ of x
+  by true k r = ap of (same_Some y x k)
   by false k r = r k
-
-control_seen-state : (xs : List State) (d r : ℕ) (x : State) → state_of xs d ≡ Some x → control_seen xs d r ≡ control_in x.own x.slots r
-control_seen-state [] d r x e = cc
-control_seen-state (y ∷ ys) d r x e = by (y.id.0 == d) e (control_seen-state ys d r x) where
-  by : (b : Bool) → cond b (Some y) (state_of ys d) ≡ Some x → (state_of ys d ≡ Some x → control_seen ys d r ≡ control_in x.own x.slots r)
-      → cond b (control_in y.own y.slots r) (control_seen ys d r) ≡ control_in x.own x.slots r
-  by true k t = ap (λ (z : State). control_in z.own z.slots r) (same_Some y x k)
-  by false k t = t k
-
-body_seen-state : (xs : List State) (d r : ℕ) (which : Half) (x : State) → state_of xs d ≡ Some x → body_seen xs d r which ≡ body_in x.slots r which
-body_seen-state [] d r which x e = cc
-body_seen-state (y ∷ ys) d r which x e = by (y.id.0 == d) e (body_seen-state ys d r which x) where
-  by : (b : Bool) → cond b (Some y) (state_of ys d) ≡ Some x → (state_of ys d ≡ Some x → body_seen ys d r which ≡ body_in x.slots r which)
-      → cond b (body_in y.slots r which) (body_seen ys d r which) ≡ body_in x.slots r which
-  by true k t = ap (λ (z : State). body_in z.slots r which) (same_Some y x k)
-  by false k t = t k
 
 slot-here : (s : Setting) (h : History) (x : State) (r : ℕ) → Agrees s h x → r < TABLE_ENTRIES → (slot : PinCounts) × (slice_get x.slots r ≡ Some slot)
 slot-here s h x r a within = let row : PinCounts = record { reads = 0; writes = 0; first = 0; second = 0 } in
@@ -65,15 +72,15 @@ state-there s h xs dom st some = by (state_of xs dom.0) refl (st.each dom) where
 
 control-agrees : (s : Setting) (h : History) (xs : List State) (dom : DomId) (r : ℕ) → DomainsStand s h xs → state_of xs dom.0 ≢ None → r < TABLE_ENTRIES → control_seen xs dom.0 r ≡ word_at s h dom.0 r
 control-agrees s h xs dom r st some within = let x = state-there s h xs dom st some in
-    control_seen-state xs dom.0 r x.0 x.1 ∙ word-agrees s h x.0 r x.3 within ∙ ap (λ (d : DomId). word_at s h d.0 r) x.2
+    seen-state (λ l. control_seen l dom.0 r) (λ z. control_in z.own z.slots r) dom.0 x.0 (λ y ys. refl) xs x.1 ∙ word-agrees s h x.0 r x.3 within ∙ ap (λ (d : DomId). word_at s h d.0 r) x.2
 
 -- what the core's step sees is what the history left
 pub sees-agree : (s : Setting) (h : History) (xs : List State) (d : DomId) (step : Step) → DomainsStand s h xs → IsWithin xs d step → sees xs d step ≡ seen_by s h d step
 sees-agree s h xs d (LookHeader dom) st w = let x = state-there s h xs dom st w in
-    ap (λ (n : ℕ). Word n) (header_seen-state xs dom.0 x.0 x.1 ∙ ap header_word (x.3.header) ∙ ap (λ (t : DomId). header_word (table_at s h t)) x.2)
+    ap (λ (n : ℕ). Word n) (seen-state (λ l. header_seen l dom.0) (λ z. header_word z.header) dom.0 x.0 (λ y ys. refl) xs x.1 ∙ ap header_word (x.3.header) ∙ ap (λ (t : DomId). header_word (table_at s h t)) x.2)
 sees-agree s h xs d (LookControl dom gref) st w = ap (λ (n : ℕ). Word n) (control-agrees s h xs dom gref.0 st w.0 w.1)
 sees-agree s h xs d (LookBody dom gref half) st w = let x = state-there s h xs dom st w.0 in
-    ap (λ (n : ℕ). Word n) (body_seen-state xs dom.0 gref.0 half x.0 x.1 ∙ body-agrees s h x.0 gref.0 half x.3 w.1 ∙ ap (λ (t : DomId). body_at h t.0 gref.0 half) x.2)
+    ap (λ (n : ℕ). Word n) (seen-state (λ l. body_seen l dom.0 gref.0 half) (λ z. body_in z.slots gref.0 half) dom.0 x.0 (λ y ys. refl) xs x.1 ∙ body-agrees s h x.0 gref.0 half x.3 w.1 ∙ ap (λ (t : DomId). body_at h t.0 gref.0 half) x.2)
 sees-agree s h xs d (Pin p) st w = ap (λ (n : ℕ). exchange_sees n p.word) (control-agrees s h xs p.dom p.gref.0 st w.0 w.1)
 sees-agree s h xs d (Exchange gref looked change) st w = ap (λ (n : ℕ). exchange_sees n looked) (control-agrees s h xs d gref.0 st w.0 w.1)
 sees-agree s h xs d step st w = refl

@@ -1,17 +1,30 @@
--- What the core shows of an entry is what the history left.
-use Rattle.gt_core.proofs.Words.{◌≡◌, ◌<◌, ◌≤◌, ℕ, zero, suc, refl, Bool, true, false, List, [], ◌∷◌, length, Option, Some, None, cond, sym, ap, ◌∙◌, arith, subst, get_or, lt-ltb, nat_lt, ◌&&◌, is_some, slice_get, position, domain_of, DomId, TABLE_ENTRIES, DomainConfig, Entry, Header, Own, PinCounts, size_of, row_entry, row_generation, State, History, Setting, entry_at, generation_at, reads_at, writes_at, table_at, shown_at, Agrees, DomainsStand, shown_in, le-ltb}
-use Rattle.gt_core.proofs.Fitting.{table-fits}
-use Rattle.gt_core.proofs.Beginning.{begin-nowhere, agrees-found, has_id}
+-- What the core shows of an entry, and of a mapping, is what the history left.
+use Rattle.gt_core.proofs.Words.{◌≡◌, ℕ, Bool, List, Option, Some, None, cond, sym, ap, ◌∙◌, get_or, position, domain_of, DomId, DomainConfig, Handle, value_of, Held, State, History, Setting, mapping_of, mappings_at, DomainsStand, place_of, subject_at, ◌<◌, ◌≤◌, zero, suc, refl, true, false, [], ◌∷◌, length, arith, subst, lt-ltb, nat_lt, ◌&&◌, is_some, slice_get, TABLE_ENTRIES, Entry, Header, Own, PinCounts, size_of, row_entry, row_generation, entry_at, generation_at, reads_at, writes_at, table_at, shown_at, Agrees, shown_in, le-ltb}
+use Rattle.std.{proofs.Common.is_some, specs.Prelude.option_map}
+use Rattle.gt_core.proofs.{Beginning.begin-nowhere, Beginning.agrees-found, Rows.has_id, Seeing.table-fits}
+
+some-domain : (o : Option DomainConfig) → (o ≡ None → ⊥) → is_some o ≡ true
+some-domain None n = absurd (n refl)
+some-domain (Some d) n = refl
+
+-- no domain has the number
+pub subject-nowhere : (s : Setting) (h : History) (xs : List State) (dom : DomId) (handle : Handle) → position (has_id dom.0) xs ≡ None → DomainsStand s h xs → None ≡ subject_at s h dom handle
+subject-nowhere s h xs dom handle p st =
+    sym (ap (λ (o : Option DomainConfig). cond (is_some o) (option_map place_of (mapping_of (mappings_at h dom.0) handle)) None) (begin-nowhere s h xs dom p st))
+
+-- a domain of the run
+pub subject-there : (s : Setting) (h : History) (xs : List State) (dom : DomId) (handle : Handle) (at : ℕ) (x : State) → position (has_id dom.0) xs ≡ Some at → x ≡ get_or xs at x → DomainsStand s h xs
+    → option_map place_of (value_of x.mappings handle) ≡ subject_at s h dom handle
+subject-there s h xs dom handle at x p here st = let a = agrees-found s h xs dom at x p here st in
+    ap (λ (f : Handle → Option Held). option_map place_of (f handle)) a.2.mappings.named
+    ∙ ap (λ (d : DomId). option_map place_of (mapping_of (mappings_at h d.0) handle)) a.1
+    ∙ sym (ap (λ (b : Bool). cond b (option_map place_of (mapping_of (mappings_at h dom.0) handle)) None) (some-domain (domain_of s.domains dom) a.0))
 
 -- no domain has the number
 pub shown-nowhere : (s : Setting) (h : History) (xs : List State) (dom : DomId) (r : ℕ) → position (has_id dom.0) xs ≡ None → DomainsStand s h xs → None ≡ shown_at s h dom r
 shown-nowhere s h xs dom r p st =
     sym (ap (λ (o : Option DomainConfig). cond (is_some o && nat_lt r (size_of (table_at s h dom)))
     (Some (record { entry = entry_at h dom.0 r; generation = generation_at s h dom.0 r; reads = reads_at h dom.0 r; writes = writes_at h dom.0 r })) None) (begin-nowhere s h xs dom p st))
-
-some-domain : (o : Option DomainConfig) → (o ≡ None → ⊥) → is_some o ≡ true
-some-domain None n = absurd (n refl)
-some-domain (Some d) n = refl
 
 shown-in-range : (s : Setting) (h : History) (dom : DomId) (r : ℕ) (b : Bool) → (domain_of s.domains dom ≡ None → ⊥) → nat_lt r (size_of (table_at s h dom)) ≡ b
     → shown_at s h dom r ≡ cond b (Some (record { entry = entry_at h dom.0 r; generation = generation_at s h dom.0 r; reads = reads_at h dom.0 r; writes = writes_at h dom.0 r })) None

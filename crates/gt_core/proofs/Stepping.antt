@@ -1,12 +1,7 @@
 -- What the core does for a step of an open call: it is right, and the core stands for it.
-use Rattle.gt_core.proofs.Words.{◌≡◌, ◌≢◌, inl, inr, ℕ, refl, Bool, true, List, [], ◌∷◌, ◌++◌, length, Option, Some, None, cond, sym, ap, ◌∙◌, subst, reverse, eqb-true, eq-eqb, length-reverse, reverse_onto, same_Some, ◌==◌, DomId, GrantRef, Denial, Entry, Invalid, Half, Handle, Held, Asked, ByMapping, ByLeg, Seen, Nothing, Taken, Missed, Verdict, Granted, Given, KeptPin, Refused, Step, PinStep, Unpin, StoreBody, StoreHeader, Exchange, ReadBytes, WriteBytes, CopyBytes, Action, Makes, Done, Call, Phase, Storing, Walking, Last, Ending, last_first, knowledge_of, path, phase_after, action_at, after_store, HasShown, pins_at, held_in, Goes, Open, Item, Answer, Denied, AnswerDone, Mapped, State, state_of, sees, History, Setting, live, word_at, known_at, legs_at, mappings_at, mapping_of, seen_by, Underway, values, open_call, underway_after, holder_after, one_if_mapped, StepsRight, GivesValue, refusal_in, refusal_of, DomainsStand, Agrees, CallAgrees, OpenAgrees, numbered, position, get_or, set, position-Some, domain_of, Value, FramesTold, BytesAnswer, HandleMap, applied, with_underway, with_mapping, Adds, IsReadable, IsAdmitted, AccessedBy, bytes_at, FrameSet, frame_at, contents_at, IsRight, StepsRightIn, CoreStands, FramesStand, core_of, Settled, IsLawful, IsLawfullyHeld, answer_with, Closed, IsRoomFor, IsMapping, ticked_with, ticked_element, Element, Tick, MayDo, Does, Did, grown, without, RestsOnRequest, WantsMemoryNow, IsWritingNext, TickTold, IsWriting, cond_both}
+use Rattle.gt_core.proofs.Words.{◌≡◌, ◌≢◌, inl, inr, ℕ, refl, Bool, List, [], ◌∷◌, ◌++◌, length, Option, Some, None, cond, sym, ap, ◌∙◌, subst, reverse, eqb-true, eq-eqb, length-reverse, reverse_onto, same_Some, ◌==◌, DomId, GrantRef, Denial, Entry, Invalid, Half, Handle, Held, Asked, ByMapping, ByLeg, Seen, Nothing, Taken, Missed, Verdict, Granted, Given, KeptPin, Refused, Step, PinStep, Unpin, StoreBody, StoreHeader, Exchange, ReadBytes, WriteBytes, CopyBytes, Action, Makes, Done, Call, Phase, Storing, Walking, Last, Ending, last_first, knowledge_of, path, phase_after, action_at, after_store, HasShown, pins_at, held_in, Goes, Open, Item, Answer, Denied, AnswerDone, Mapped, State, state_of, sees, History, Setting, live, word_at, known_at, legs_at, mappings_at, mapping_of, seen_by, Underway, values, open_call, underway_after, holder_after, one_if_mapped, StepsRight, GivesValue, refusal_in, refusal_of, DomainsStand, Agrees, CallAgrees, OpenAgrees, numbered, position, get_or, set, position-Some, domain_of, Value, FramesTold, BytesAnswer, HandleMap, applied, with_underway, with_mapping, Adds, IsReadable, IsAdmitted, AccessedBy, bytes_at, FrameSet, frame_at, contents_at, IsRight, StepsRightIn, CoreStands, FramesStand, core_of, Settled, IsLawful, IsLawfullyHeld, answer_with, Closed, IsRoomFor, IsMapping, ticked_with, ticked_element, Element, Tick, MayDo, Does, Did, grown, without, RestsOnRequest, WantsMemoryNow, IsWritingNext, TickTold, IsWriting, cond_both}
 use Rattle.std.specs.Prelude.{take, drop}
-use Rattle.gt_core.proofs.Pinning.{pins, map-legs, new_pin, pin-stands, map-agrees, leg-agrees as pin-agrees, stepped, KeepsEntries, open_call-own, quiet-stands, KeepsKnown, IsStore, IsHere, makes-same, by-giving}
-use Rattle.gt_core.proofs.Headers.{header-stands}
-use Rattle.gt_core.proofs.Framing.{bytes-held, open-admitted, open-readable, frames-stepped}
-use Rattle.gt_core.proofs.Values.{granted-value, given-value, mapped-ends, next_of, ends-so}
-use Rattle.gt_core.proofs.Ticking.{Ticks, ticks, here-of, given-goes-on, legs-after, open-after, goes-right, ends-right, last-fact, leg-store, unpins, Loses, unpin-stands, becomes-unpinned, loses-leg, loses-mapping, mapping-agrees, leg-agrees as unpin-agrees, can-change, can-pin, store-invalid, header-fits, map-lawful, CanPin, store-stands, exchange-stands, agrees-found, has_id, found, state_of-set}
-use Rattle.gt_core.specs.declared.trace.Bytes.{Bytes}
+use Rattle.gt_core.{proofs.Values.call-ends, proofs.Pinning.pins, proofs.Pinning.map-legs, proofs.Pinning.new_pin, proofs.Pinning.pin-stands, proofs.Pinning.map-agrees, proofs.Pinning.leg-agrees as pin-agrees, proofs.Keeping.stepped, proofs.Keeping.KeepsEntries, proofs.Keeping.open_call-own, proofs.Keeping.quiet-stands, proofs.Others.KeepsKnown, proofs.Placing.IsStore, proofs.Phases.IsHere, proofs.Phases.makes-same, proofs.Phases.by-giving, proofs.Storing.header-stands, proofs.Storing.store-stands, proofs.Framing.bytes-held, proofs.Framing.open-admitted, proofs.Framing.open-readable, proofs.Framing.frames-stepped, proofs.Outcomes.next_of, proofs.Outcomes.ends-so, proofs.Ticking.Ticks, proofs.Ticking.ticks, proofs.Ticking.here-of, proofs.Ticking.given-goes-on, proofs.Ticking.legs-after, proofs.Ticking.open-after, proofs.Ticking.goes-right, proofs.Ticking.ends-right, proofs.Ticking.last-fact, proofs.Ticking.leg-store, proofs.Unpinning.unpins, proofs.Unpinning.Loses, proofs.Unpinning.unpin-stands, proofs.Unpinning.becomes-unpinned, proofs.Unpinning.loses-leg, proofs.Unpinning.loses-mapping, proofs.Unpinning.mapping-agrees, proofs.Unpinning.leg-agrees as unpin-agrees, proofs.Acting.can-change, proofs.Acting.can-pin, proofs.Acting.store-invalid, proofs.Acting.header-fits, proofs.Acting.map-lawful, proofs.Acting.CanPin, proofs.Exchanging.exchange-stands, proofs.Beginning.agrees-found, proofs.Rows.has_id, proofs.Rows.found, proofs.Rows.state_of-set, specs.declared.trace.Bytes.Bytes}
 
 -- the states where just the actor's call, or its handles or bytes, are others
 abbrev Replaced : List State → List State → State → State → Type 0
@@ -116,33 +111,29 @@ abbrev pub IsPlainAnswer : Answer → Type 0
 IsPlainAnswer (Mapped handle) = ⊥
 IsPlainAnswer answer = Unit {0}
 
-plain-maps : (answer : Answer) → IsPlainAnswer answer → one_if_mapped (Some answer) ≡ 0
-plain-maps (Mapped handle) a = absurd a
-plain-maps answer a = refl
-
-plain-leg : (answer : Answer) → IsPlainAnswer answer → (n : ℕ) → holder_after (Some answer) n ≡ ByLeg n
-plain-leg (Mapped handle) a n = absurd a
-plain-leg answer a n = refl
+plain : (answer : Answer) → IsPlainAnswer answer → (one_if_mapped (Some answer) ≡ 0) × ((n : ℕ) → holder_after (Some answer) n ≡ ByLeg n)
+plain (Mapped handle) a = absurd a
+plain answer a = (refl, λ n. refl)
 
 pub ends-core : (s : Setting) (h : History) (xs ys : List State) (x : State) (o : Open) (c : Underway) (new : Call) (v : Verdict) (answer : Answer) → Ticks s h xs x o c new (Done v) → Replaced xs ys x (record x { underway = None })
     → IsPlainAnswer answer → ((m : Held) → v ≡ KeptPin m → ⊥) → refusal_of answer ≡ refusal_in (Some v) → GivesValue s h x.id c.request (Some o.step) answer
     → Ticked s h x.id o.step (seen_by s h x.id o.step) (Some answer) (applied x.id o.step (seen_by s h x.id o.step) ys)
-ends-core s h xs ys x o c new v answer t r plain unmapped same value = let seen = seen_by s h x.id o.step in
-    let legs = none-held s h xs x o c new v answer t (plain-maps answer plain) (plain-leg answer plain) unmapped in (
+ends-core s h xs ys x o c new v answer t r is_plain unmapped same value = let seen = seen_by s h x.id o.step in
+    let legs = none-held s h xs x o c new v answer t (plain answer is_plain).0 (plain answer is_plain).1 unmapped in (
       right-in s h x.id o.step seen (Some answer) c t.call (ends-right s h xs x o c new v answer t same legs value),
-      step-stands s h xs ys x c t.stands.phase o.step (Some answer) None (here-of s h xs x o c t.st t.here t.stands) (last-fact s h xs x o c new (Done v) t) t.here t.agrees r (plain-maps answer plain) (plain-leg answer plain)
+      step-stands s h xs ys x c t.stands.phase o.step (Some answer) None (here-of s h xs x o c t.st t.here t.stands) (last-fact s h xs x o c new (Done v) t) t.here t.agrees r (plain answer is_plain).0 (plain answer is_plain).1
           (λ store. absurd (store-goes s h xs x o c new v t store)) (call-over s h x.id o.step seen answer legs),
     )
 
 pub given-core : (s : Setting) (h : History) (xs ys : List State) (x : State) (o : Open) (c : Underway) (new : Call) (value : Value) → Ticks s h xs x o c new (Done (Given value)) → Replaced xs ys x (record x { underway = None })
     → Ticked s h x.id o.step (seen_by s h x.id o.step) (Some (answer_with value)) (applied x.id o.step (seen_by s h x.id o.step) ys)
 given-core s h xs ys x o c new value t r =
-    ends-core s h xs ys x o c new (Given value) (answer_with value) t r (plain value) (λ m e. cc) (same value)
-    (given-value s h xs x.id c.request (values c) (reverse c.steps) t.stands.phase o.step value (here-of s h xs x o c t.st t.here t.stands) (sym t.acts))
+    ends-core s h xs ys x o c new (Given value) (answer_with value) t r (valued value) (λ m e. cc) (same value)
+    (call-ends s h xs x.id c.request (values c) (reverse c.steps) t.stands.phase o.step (here-of s h xs x o c t.st t.here t.stands) (Given value) (sym t.acts))
   where
-    plain : (z : Value) → IsPlainAnswer (answer_with z)
-    plain (FramesTold n) = tt
-    plain z = tt
+    valued : (z : Value) → IsPlainAnswer (answer_with z)
+    valued (FramesTold n) = tt
+    valued z = tt
 
     same : (z : Value) → refusal_of (answer_with z) ≡ None
     same (FramesTold n) = refl
@@ -165,7 +156,7 @@ mapped-core s h xs ys x o c new held handle kept t r adds = by (seen_by s h x.id
 
   by : (seen : Seen) → seen_by s h d o.step ≡ seen → Ticked s h d o.step seen (Some (Mapped handle)) (applied d o.step seen ys)
   by seen saw =
-      let m = mapped-ends s h xs d c.request (values c) (reverse c.steps) t.stands.phase o.step held i (sym t.acts) in
+      let m = call-ends s h xs d c.request (values c) (reverse c.steps) t.stands.phase o.step i (KeptPin held) (sym t.acts) in
       let taken : seen ≡ Taken = sym saw ∙ ap (seen_by s h d) m.is ∙ ap (λ (b : Bool). cond b Taken (Missed (word_at s h held.dom.0 held.gref.0))) (eq-eqb (word_at s h held.dom.0 held.gref.0) held.word m.taken) in
       let j : IsHere s h xs d c.request (values c) (reverse c.steps) t.stands.phase (PinStep held) = subst (IsHere s h xs d c.request (values c) (reverse c.steps) t.stands.phase) m.is i in
       let can : CanPin s h d c.request held = can-pin s h xs d c.request (values c) (reverse c.steps) t.stands.phase held j m.taken in
@@ -218,7 +209,7 @@ granted-core s h fs xs zs at x o c new answer t fr plain settled = by o.step ref
 
   over : (step : Step) → o.step ≡ step → (answer ≡ AnswerDone) × (zs ≡ set xs at (with_underway None x)) → ((dom : DomId) (frame off len : ℕ) → step ≡ ReadBytes dom frame off len → ⊥) → Goal
   over step is (done, left) read = ends AnswerDone done tt refl left
-      (granted-value s h xs d c.request (values c) (reverse c.steps) t.stands.phase o.step (here-of s h xs x o c t.st t.here t.stands) (λ dom frame off len e. read dom frame off len (sym is ∙ e)) (sym t.acts))
+      (call-ends s h xs d c.request (values c) (reverse c.steps) t.stands.phase o.step (here-of s h xs x o c t.st t.here t.stands) Granted (sym t.acts) (λ dom frame off len e. read dom frame off len (sym is ∙ e)))
 
   by : (step : Step) → o.step ≡ step → Closed fs xs at x step answer zs → Goal
   by (ReadBytes dom frame off len) is (b, done, left, gives) = ends (BytesAnswer b) done tt refl left
@@ -301,7 +292,7 @@ action-core s h fs xs zs at x o c new action answer t fr r settled = by action t
 pub room-asked : (s : Setting) (h : History) (xs : List State) (dom : DomId) (at : ℕ) (x : State) (o : Open) (seen : Seen) (new : Call) (action : Action) → DomainsStand s h xs → Begins s xs dom at x o seen new action → IsRoomFor o.call.request action
 room-asked s h xs dom at x o seen new (Done (KeptPin held)) st b =
     let n = begun s h xs dom at x o seen new (Done (KeptPin held)) st b in let t = n.ticks in
-    let m = mapped-ends s h xs x.id n.c.request (values n.c) (reverse n.c.steps) t.stands.phase o.step held (here-of s h xs x o n.c t.st t.here t.stands) (sym t.acts) in
+    let m = call-ends s h xs x.id n.c.request (values n.c) (reverse n.c.steps) t.stands.phase o.step (here-of s h xs x o n.c t.st t.here t.stands) (KeptPin held) (sym t.acts) in
     subst (λ (q : Asked). IsMapping (Some q)) (sym (t.stands.asks ∙ m.of_map)) tt
 room-asked s h xs dom at x o seen new action st b = tt
 

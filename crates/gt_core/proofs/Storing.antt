@@ -1,6 +1,54 @@
--- A body word stored on an invalid entry keeps what a core stands for.
-use Rattle.gt_core.proofs.Words.{◌≡◌, ◌≢◌, ℕ, refl, Bool, true, false, List, ◌∷◌, Option, Some, None, cond, sym, ap, ◌∙◌, subst, eqb-true, eq-eqb, none-some, same_Some, ◌==◌, ◌&&◌, count_by, slice_get, option_map, DomId, GrantRef, Read, Write, Invalid, Half, FirstHalf, SecondHalf, StoreBody, Nothing, PinCounts, Stored, Open, Item, Stepped, changed_at, State, state_of, changed_in, with_slot, slot_after, History, Setting, Pin, entry_at, body_at, or_else, stored_at, is_pin_on, open_call, FitsTable, SlotAgrees, Agrees, DomainsStand, CallAgrees, GivenAgrees, same_half, and_right}
-pub use Rattle.gt_core.proofs.Keeping.{known-as, slot-kept, actor-agrees, kept-stands, own-each, stepped, SlotsAgree, mappings-stay, same-number, get-changed, length-changed, KeepsKnown, kept-entry, kept-raises, kept-live, kept-table, kept-generations, other-body, KeepsEntries, known-same, open_call-own, stood-own, cond-same, kept-known, kept-legs, IsStore, placed, place-stays, BodyStays, IsHere, makes-same, step-within, step-publishes, seen-fits, by-giving, sees-agree, judged}
+-- A header, or a body word of an invalid entry, that its owner stores keeps what a core stands for.
+use Rattle.gt_core.proofs.Words.{◌≡◌, ◌<◌, ◌%◌, ℕ, refl, Bool, true, false, List, ◌∷◌, Option, Some, None, cond, sym, ap, ◌∙◌, arith, subst, mod-eq_of_lt, ◌==◌, DomId, Header, StoreHeader, Nothing, PinCounts, Open, Item, Answer, State, state_of, changed_in, with_header, History, Setting, header_or, table_at, one_if_mapped, open_call, FitsTable, Agrees, DomainsStand, CallAgrees, GivenAgrees, ◌≢◌, eqb-true, eq-eqb, ◌&&◌, count_by, GrantRef, Read, Write, Invalid, Half, FirstHalf, SecondHalf, StoreBody, Stored, Stepped, changed_at, with_slot, slot_after, Pin, entry_at, body_at, or_else, stored_at, is_pin_on, SlotAgrees, same_half, and_right}
+use Rattle.gt_core.proofs.{Others.unstored, Others.KeepsKnown, Others.kept-live, Others.other-table, Others.kept-table, Others.other-body, Keeping.stepped, Keeping.SlotsAgree, Keeping.slot-kept, Keeping.actor-agrees, Keeping.kept-stands, Keeping.own-each, Keeping.mappings-stay, Keeping.same-number, Keeping.slots-agree, Rows.length-changed}
+
+-- the item of a header that is stored
+abbrev pub headed : DomId → ℕ → ℕ → Option Answer → Item
+headed d version frames answer = stepped d (StoreHeader version frames) Nothing answer
+
+headed-keeps : (d : DomId) (version frames : ℕ) (answer : Option Answer) → one_if_mapped answer ≡ 0 → KeepsKnown (headed d version frames answer)
+headed-keeps d version frames answer m = record { changes = λ r. refl; pins = λ before ps. refl; unpins = λ pins. refl; maps = m }
+
+headed-table : (s : Setting) (h : History) (d : DomId) (version frames : ℕ) (answer : Option Answer) (t : DomId) → (d.0 == t.0) ≡ true
+    → table_at s (headed d version frames answer ∷ h) t ≡ record { version = version; frames = frames }
+unfolding table_at
+headed-table s h d version frames answer t own = ap (λ (b : Bool). header_or (cond b (Some (record { version = version; frames = frames })) None) (table_at s h t)) own
+
+headed-fits : (s : Setting) (h : History) (d : DomId) (version frames : ℕ) (answer : Option Answer) (t : DomId) (b : Bool) → (d.0 == t.0) ≡ b → FitsTable (record { version = version; frames = frames })
+    → FitsTable (table_at s h t) → FitsTable (table_at s (headed d version frames answer ∷ h) t)
+headed-fits s h d version frames answer t true own new old = subst FitsTable (sym (headed-table s h d version frames answer t own)) new
+headed-fits s h d version frames answer t false own new old = subst FitsTable (sym (other-table s (headed d version frames answer) h t own)) old
+
+headed-slots : (h : History) (d : DomId) (version frames : ℕ) (answer : Option Answer) (t : ℕ) (slots : List PinCounts) → KeepsKnown (headed d version frames answer) → SlotsAgree h t slots → SlotsAgree (headed d version frames answer ∷ h) t slots
+headed-slots h d version frames answer t slots k a = λ r slot e.
+    let i = headed d version frames answer in slot-kept i h t r slot (kept-live i h k) (λ which. unstored i h t r which refl) (a r slot e)
+
+-- a header within the limits has room in its word
+pub room-there : (version frames : ℕ) → FitsTable (record { version = version; frames = frames }) → ◌≡◌ {A = Header} (record { version = version % 4; frames = frames % 256 }) (record { version = version; frames = frames })
+room-there version frames f = let low : version < 4 = let a = f.version in omega arith in
+    let few : frames < 256 = let a = f.frames in omega arith in
+    ap (λ (n : ℕ). record { version = n; frames = frames % 256 }) (mod-eq_of_lt low) ∙ ap (λ (n : ℕ). record { version = version; frames = n }) (mod-eq_of_lt few)
+
+-- the actor after its store
+headed-agrees : (s : Setting) (h : History) (x : State) (version frames : ℕ) (answer : Option Answer) (o : Option Open) → one_if_mapped answer ≡ 0 → FitsTable (record { version = version; frames = frames }) → Agrees s h x
+    → CallAgrees s (headed x.id version frames answer ∷ h) x.id o (open_call (headed x.id version frames answer ∷ h) x.id.0) → GivenAgrees (headed x.id version frames answer ∷ h) x.id.0 x.given
+    → Agrees s (headed x.id version frames answer ∷ h) (with_header version frames (record x { underway = o }))
+headed-agrees s h x version frames answer o m fits a call given = let i = headed x.id version frames answer in
+    let k = headed-keeps x.id version frames answer m in
+    actor-agrees s i h x (record { version = version % 4; frames = frames % 256 }) x.slots x.mappings o x.given k.changes a
+    (room-there version frames fits ∙ sym (headed-table s h x.id version frames answer x.id (same-number x.id.0)))
+    a.room (headed-slots h x.id version frames answer x.id.0 x.slots k a.slots) (mappings-stay i h x.id.0 x.mappings k a.mappings) call given
+
+-- a header within the limits that its owner stores keeps what the core stands for
+pub header-stands : (s : Setting) (h : History) (xs ys : List State) (x : State) (version frames : ℕ) (answer : Option Answer) (o : Option Open) → DomainsStand s h xs → state_of xs x.id.0 ≡ Some x → Agrees s h x
+    → ((q : ℕ) → state_of ys q ≡ cond (x.id.0 == q) (Some (record x { underway = o })) (state_of xs q)) → one_if_mapped answer ≡ 0 → FitsTable (record { version = version; frames = frames })
+    → CallAgrees s (headed x.id version frames answer ∷ h) x.id o (open_call (headed x.id version frames answer ∷ h) x.id.0) → GivenAgrees (headed x.id version frames answer ∷ h) x.id.0 x.given
+    → DomainsStand s (headed x.id version frames answer ∷ h) (changed_in x.id.0 (with_header version frames) ys)
+header-stands s h xs ys x version frames answer o st here a becomes m fits call given = let i = headed x.id version frames answer in
+    let k = headed-keeps x.id version frames answer m in kept-stands s i h xs _ k st
+    (own-each s i h xs ys x o (with_header version frames) refl st here becomes (λ y. refl) (headed-agrees s h x version frames answer o m fits a call given)
+    (λ y apart b. headed-slots h x.id version frames answer y.id.0 y.slots k b))
+    (λ dom. headed-fits s h x.id version frames answer dom (x.id.0 == dom.0) refl fits (st.tables dom)) (λ t r valid which. unstored i h t r which refl)
 
 -- the item of a store
 abbrev pub stores : DomId → GrantRef → Half → ℕ → Item
@@ -60,19 +108,9 @@ slot-same d gref half word t r h slot same a = let i = stores d gref half word i
 
 slots-stored : (d : DomId) (gref : GrantRef) (half : Half) (word : ℕ) (h : History) (slots : List PinCounts) → SlotsAgree h d.0 slots
     → SlotsAgree (stores d gref half word ∷ h) d.0 (changed_at gref.0 (slot_after (Stored half word)) slots)
-slots-stored d gref half word h slots a r slot e = by (gref.0 == r) refl (sym (get-changed slots gref.0 r (slot_after (Stored half word))) ∙ e)
-  where
-    at : (o : Option PinCounts) → slice_get slots r ≡ o → gref.0 ≡ r → option_map (slot_after (Stored half word)) o ≡ Some slot → SlotAgrees (stores d gref half word ∷ h) d.0 r slot
-    at None there same k = absurd (none-some slot k)
-    at (Some old) there same k =
-        subst (λ (z : PinCounts). SlotAgrees (stores d gref half word ∷ h) d.0 r z) (same_Some _ slot k)
-        (subst (λ (n : ℕ). SlotAgrees h d.0 n old → SlotAgrees (stores d gref half word ∷ h) d.0 n (slot_after (Stored half word) old)) same
-        (slot-stored d gref half word h old) (a r old there))
-
-    by : (b : Bool) → (gref.0 == r) ≡ b → cond b (option_map (slot_after (Stored half word)) (slice_get slots r)) (slice_get slots r) ≡ Some slot
-        → SlotAgrees (stores d gref half word ∷ h) d.0 r slot
-    by true t k = at (slice_get slots r) refl (eqb-true gref.0 r t) k
-    by false t k = slot-same d gref half word d.0 r h slot (λ which. elsewhere-stays d gref half word r which h t) (a r slot k)
+slots-stored d gref half word h slots a = slots-agree h (stores d gref half word ∷ h) d.0 d.0 gref.0 (slot_after (Stored half word)) slots true (same-number d.0) a
+    (λ on old b. slot-stored d gref half word h old b)
+    (λ k old off b. slot-same d gref half word d.0 k h old (λ which. elsewhere-stays d gref half word k which h (ap (λ (c : Bool). c && (gref.0 == k)) (sym (same-number d.0)) ∙ off)) b)
 
 -- the actor after its store
 store-agrees : (s : Setting) (h : History) (x : State) (gref : GrantRef) (half : Half) (word : ℕ) (o : Option Open) → Agrees s h x

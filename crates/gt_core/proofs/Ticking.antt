@@ -1,11 +1,6 @@
 -- A step of an open call is right, and the core stands for it.
-use Rattle.gt_core.proofs.Words.{◌≡◌, ◌≢◌, ◌<◌, ◌≤◌, ◌+◌, ◌⊎◌, inl, inr, ℕ, suc, refl, true, List, [], ◌∷◌, ◌++◌, length, Option, Some, None, cond, sym, ap, ◌∙◌, subst, reverse, arith, eqb-true, map-append, length-append, length-reverse, reverse_onto, none-some, same_Some, ◌==◌, All, DomId, GrantRef, Denial, Entry, Invalid, Sub, Header, Change, Half, FirstHalf, SecondHalf, Held, Pins, Asked, Demote, ByMapping, ByLeg, Seen, Nothing, Taken, Missed, Verdict, Granted, KeptPin, Step, PinStep, Unpin, StoreBody, StoreHeader, Exchange, ReadBytes, WriteBytes, CopyBytes, Action, Makes, Done, Call, Phase, Storing, StoringSecond, Walking, Last, Ending, last_first, no_pins, CallerKnowledge, knowledge_of, path, Rests, phase_after, action_at, next_to_give, after_store, StandsAt, HasShown, pins_at, held_in, Goes, GoesOn, most_of, steps_left, Open, Item, Answer, Stepped, State, state_of, sees, History, Setting, Pin, entry_at, word_at, table_at, known_at, legs_at, mappings_at, maps_answered_at, seen_by, Underway, values, open_call, underway_after, holder_after, one_if_mapped, StepsSoFar, StepsRight, Justified, IsSafe, PinIsSound, AnsweredBy, GivesValue, LeavesAll, IsSpelled, gives_back, verdict_in, refusal_in, refusal_of, refusal_if, or_then, first_of_item, first_in_call, stood, most_steps, DomainsStand, Agrees, OpenAgrees, GivenAgrees, FitsGiven, PhaseStands, IsClean, phase_refusal, numbered, exchange_sees, gather, by_leg, header_stored, IsSubPage, Leg, LegPhase, leg_step, AtHeader, Continuation, body_at, second_body, publishing, RestsOnRequest, stored_at, or_else, first_body, reverse-append, FitsNext, HoldsAfter, IsCounted, cond_both}
-pub use Rattle.gt_core.proofs.Storing.{stores, half-stored, first-stays, store-stands, stepped, KeepsEntries, known-as, kept-entry, kept-raises, known-same, open_call-own, stood-own, cond-same, KeepsKnown, kept-known, kept-legs, kept-table, IsStore, placed, place-stays, BodyStays, IsHere, makes-same, step-within, step-publishes, seen-fits, by-giving, sees-agree, judged}
-pub use Rattle.gt_core.proofs.Unpinning.{unpins, leg-left, leg-mappings, mapping-legs, from-zero, Loses, unpin-stands, becomes-unpinned, loses-leg, loses-mapping, mapping-agrees, leg-agrees, pins, leg-grows, leg-maps, answered-stays}
-pub use Rattle.gt_core.proofs.Beginning.{is-at, to-come, pins-there, agrees-found, has_id, found, state_of-set}
-pub use Rattle.gt_core.proofs.Acting.{can-change, can-pin, store-invalid, header-fits, map-lawful, CanPin, exchanged-live, exchange-stands}
-use Rattle.gt_core.proofs.Accessing.{call-is, read-justified, write-justified, copy-justified}
-use Rattle.gt_core.proofs.Outcomes.{next_of, IsSingle, single-ends, taken-ends, clean-next, ends-so}
+use Rattle.gt_core.proofs.Words.{◌≡◌, ◌≢◌, ◌<◌, ◌≤◌, ◌+◌, ◌⊎◌, inl, inr, ℕ, suc, refl, true, List, [], ◌∷◌, ◌++◌, length, Option, Some, None, sym, ap, ◌∙◌, subst, reverse, arith, eqb-true, map-append, length-append, length-reverse, reverse_onto, none-some, same_Some, ◌==◌, All, DomId, GrantRef, Denial, Entry, Invalid, Sub, Change, Half, FirstHalf, SecondHalf, Held, Pins, Asked, Demote, ByMapping, ByLeg, Seen, Nothing, Taken, Missed, Verdict, Granted, KeptPin, Step, PinStep, Unpin, StoreBody, StoreHeader, Exchange, ReadBytes, WriteBytes, CopyBytes, Action, Makes, Done, Call, Phase, Storing, StoringSecond, Walking, Last, Ending, last_first, no_pins, CallerKnowledge, knowledge_of, path, Rests, phase_after, action_at, next_to_give, after_store, StandsAt, HasShown, pins_at, held_in, Goes, GoesOn, most_of, steps_left, Open, Item, Answer, Stepped, State, state_of, sees, History, Setting, Pin, entry_at, word_at, table_at, known_at, legs_at, mappings_at, maps_answered_at, seen_by, Underway, values, open_call, underway_after, holder_after, one_if_mapped, StepsSoFar, StepsRight, Justified, IsSafe, PinIsSound, AnsweredBy, GivesValue, LeavesAll, IsSpelled, gives_back, verdict_in, refusal_in, refusal_of, refusal_if, or_then, first_of_item, first_in_call, stood, most_steps, DomainsStand, Agrees, OpenAgrees, GivenAgrees, FitsGiven, PhaseStands, IsClean, phase_refusal, numbered, exchange_sees, gather, by_leg, header_stored, IsSubPage, Leg, LegPhase, leg_step, Continuation, body_at, second_body, publishing, RestsOnRequest, stored_at, first_body, reverse-append, FitsNext, HoldsAfter, IsCounted, cond_both}
+use Rattle.gt_core.proofs.{Others.unstored, Others.known-as, Others.kept-entry, Others.kept-raises, Others.KeepsKnown, Others.kept-known, Others.kept-legs, Others.kept-table, Others.answered-stays, Storing.stores, Storing.half-stored, Storing.first-stays, Keeping.stepped, Keeping.KeepsEntries, Keeping.known-same, Keeping.open_call-own, Keeping.stood-own, Placing.IsStore, Placing.placed, Placing.place-stays, Phases.by-leg, Phases.IsHere, Phases.makes-same, Phases.step-within, Phases.step-publishes, Phases.seen-fits, Phases.by-giving, Phases.call-is, Seeing.sees-agree, Judging.judged, Unpinning.unpins, Unpinning.leg-left, Unpinning.leg-mappings, Unpinning.mapping-legs, Unpinning.from-zero, Pinning.pins, Pinning.leg-grows, Pinning.leg-maps, Beginning.is-at, Beginning.to-come, Beginning.pins-there, Acting.can-change, Acting.can-pin, Acting.store-invalid, Exchanging.exchanged-live, Accessing.read-justified, Accessing.write-justified, Accessing.copy-justified, Outcomes.next_of, Outcomes.IsSingle, Outcomes.single-ends, Outcomes.taken-ends, Outcomes.clean-next, Outcomes.ends-so}
 
 -- what is known of a step of an open call, which saw what the history left
 pub record Ticks (s : Setting) (h : History) (xs : List State) (x : State) (o : Open) (c : Underway) (new : Call) (action : Action) : Type 0 where
@@ -68,9 +63,6 @@ ticks s h xs x o c seen new action st here agrees call a saw caller asks goes = 
     )
 
 -- the call with one step more
-
-steps-more : (c : Underway) (step : Step) (seen : Seen) → reverse (c.steps ++ (step, seen) ∷ []) ≡ (step, seen) ∷ reverse c.steps
-steps-more c step seen = reverse-append c.steps ((step, seen) ∷ [])
 
 pub given-goes-on : (d : DomId) (step : Step) (seen : Seen) (answer : Option Answer) (h : History) (given : List ℕ) → GivenAgrees h d.0 given → GivenAgrees (stepped d step seen answer ∷ h) d.0 given
 given-goes-on d step seen answer h given a = λ c call. by answer (open_call h d.0) refl c (sym (open_call-own (stepped d step seen answer) h) ∙ call)
@@ -177,8 +169,6 @@ known-by s h d step seen single exchange = by step seen single exchange where
   by (Unpin p (ByMapping handle)) v n e = absurd (n tt)
   by (StoreHeader version frames) v n e = absurd (n tt)
   by (Exchange gref looked change) Taken n e = absurd (e gref looked change refl refl)
-  by (ReadBytes dom frame off len) v n e = absurd (n tt)
-  by (WriteBytes dom frame off len) v n e = absurd (n tt)
   by z v n e = quiet z v (record { changes = λ r. refl; pins = λ before ps. refl; unpins = λ pins. refl; maps = refl }) refl
 
 goes-not : (d : DomId) (z : Step) (p : Phase) (pins : Pins) (v : Verdict) → last_first pins ≡ [] → Makes z ≡ action_at d p → p ≡ Ending pins v → ⊥
@@ -200,8 +190,7 @@ plain-spelled (Sub dom ro frame off len) first second n f = absurd (n tt)
 plain-spelled entry first second n f = f
 
 pub leg-store : (l : Leg) (at : LegPhase) → IsStore (leg_step l at) → ⊥
-leg-store l AtHeader f = f
-leg-store l at f = f
+leg-store = by-leg (λ (z : Step). IsStore z → ⊥) (λ dom n. n) (λ dom gref n. n) (λ dom gref half n. n) (λ p n. n)
 
 store-place : (s : Setting) (h : History) (d : DomId) (r : Asked) (so_far now : StepsSoFar) (phase : Phase) (gref : GrantRef) (half : Half) (word : ℕ) (way : Continuation) (shown : List Seen) → HasShown (known_at s h d) way d r shown phase → PhaseStands s h d r so_far phase
     → action_at d phase ≡ Makes (StoreBody gref half word) → PhaseStands s (stores d gref half word ∷ h) d r now (phase_after (known_at s h d) d phase Nothing)
@@ -229,10 +218,6 @@ store-place s h d r so_far now (Last last verdict) gref half word way shown a b 
 store-place s h d r so_far now (Ending held_pins verdict) gref half word way shown a b e = absurd (by-giving (λ (z : Step). IsStore z → ⊥) (λ p n f. f) (last_first held_pins) verdict _ e tt)
 store-place s h d r so_far now phase gref half word way shown a b e = cc
 
-body-stays : (i : Item) (h : History) (d : ℕ) → ((r : ℕ) (which : Half) → stored_at i.happened r which ≡ None) → BodyStays i h d
-unfolding body_at
-body-stays i h d none = λ r which. ap (λ (o : Option ℕ). or_else o (body_at h d r which)) (ap (λ (o : Option ℕ). cond (i.actor.0 == d) o None) (none r which) ∙ cond-same (i.actor.0 == d) None)
-
 decide-store : (step : Step) → IsStore step ⊎ (IsStore step → ⊥)
 decide-store (StoreBody gref half word) = inl tt
 decide-store step = inr (λ n. n)
@@ -255,7 +240,7 @@ place-after s h xs x o c new action t = by (decide-store o.step) where
   by (inl n) = store o.step refl n
   by (inr n) =
       place-stays s (stepped d o.step (seen_by s h d o.step) None) h d c.request ((o.step, seen_by s h d o.step) ∷ reverse c.steps) (next_of s h d t.stands.phase o.step)
-      (body-stays (stepped d o.step (seen_by s h d o.step) None) h d.0 (stored-none o.step (seen_by s h d o.step) n))
+      (λ r which. unstored (stepped d o.step (seen_by s h d o.step) None) h d.0 r which (stored-none o.step (seen_by s h d o.step) n r which))
       (placed s h xs d c.request (values c) (reverse c.steps) t.stands.phase o.step (here-of s h xs x o c t.st t.here t.stands) n)
 
 -- a call that goes on is where this step has led it
@@ -275,7 +260,7 @@ open-after s h xs x o c new z t = let d = x.id in let r = c.request in let seen 
       acts = sym t.acts;
       follows = subst (λ (k : CallerKnowledge). GoesOn k d r (values (record { request = c.request; given = c.given; steps = c.steps ++ (o.step, seen) ∷ [] })) (Makes z)) (sym same) (subst (λ (vs : List Seen). GoesOn (known_at s h d) d r vs (Makes z)) shown t.follows);
       rests = subst (λ (k : CallerKnowledge). Rests k d r (pins_at next) (values (record { request = c.request; given = c.given; steps = c.steps ++ (o.step, seen) ∷ [] })) (Makes z)) (sym same) (subst (λ (vs : List Seen). Rests (known_at s h d) d r (pins_at next) vs (Makes z)) shown t.rests);
-      place = subst (λ (so_far : StepsSoFar). PhaseStands s (i ∷ h) d r so_far next) (sym (steps-more c o.step seen)) (place-after s h xs x o c new (Makes z) t);
+      place = subst (λ (so_far : StepsSoFar). PhaseStands s (i ∷ h) d r so_far next) (sym (reverse-append c.steps ((o.step, seen) ∷ []))) (place-after s h xs x o c new (Makes z) t);
       fair = stood-after s h xs x o c new (Makes z) None t;
       fits = t.stands.fits;
       clean = clean-next s h (path (known_at s h d) d r) d r (values c) (reverse c.steps) t.stands.phase o.step c.steps t.stands.at.has_shown t.stands.acts t.stands.place t.stands.clean;

@@ -1,7 +1,298 @@
--- Runs that are alike stay so.
-use Rattle.gt_core.proofs.Words.{◌≡◌, ◌⊎◌, inl, inr, List, ◌∷◌, Option, sym, ap, ◌∙◌, subst, DomId, asked, Answer, Event, Begin, Tick, Happened, Began, Stepped, Item, Element, Did, History, Setting, MayDo, IsRight, grown, bare_event, told_item, told_items, ToldItem, SameHistory, AsksKnown, IsOfKnown, HappensKnown, IsRun, AreAlike, IsOf, SameEvent, SameElement}
-use Rattle.gt_core.proofs.Bare.{bare, bare-same}
-pub use Rattle.gt_core.proofs.Doing.{element_told, doing, does, does-bare}
+-- What an event does after a history, but for keys, is a function of the history, and the same without keys; so runs that are alike stay so.
+use Rattle.gt_core.proofs.Words.{◌≡◌, ◌≢◌, ◌⊎◌, inl, inr, ℕ, refl, Bool, false, List, [], ◌∷◌, ◌++◌, length, Option, Some, None, sym, ap, ◌∙◌, subst, take, drop, option_map, none-some, same_Some, domain_of, DomId, DomainConfig, Denial, N6, MAX_TABLE_FRAMES, Header, header_word, Handle, asked, begun_of, CallerKnowledge, first, refused_when, unmap_denied, path, after_beginning, Held, Request, Asked, Map, Unmap, Load, Store, Peek, SetupTable, QuerySize, GetVersion, Holder, ByMapping, Seen, Word, Step, LookHeader, LookControl, LookBody, PinStep, Unpin, StoreHeader, Exchange, ReadBytes, WriteBytes, Action, Makes, Verdict, Answer, Event, Begin, Tick, Happened, Began, Stepped, Item, Element, Busy, Idle, NoDomain, Did, History, Setting, Underway, open_call, values, known_at, seen_by, exchange_sees, table_at, maps_answered_at, contents_at, mappings_at, mapping_of, MayDo, IsRight, StepsRight, StepsRightIn, AnsweredBy, GivesValue, refusal_of, refusal_in, verdict_in, gives_back, stood, bare_handle, bare_request, bare_event, bare_step, told, told_item, ToldItem, AsksKnown, IsOfKnown, IsRun, unmap_begun, load_begun, store_begun, Ends, BeginsRight, grown, told_items, SameHistory, HappensKnown, AreAlike, IsOf, SameEvent, SameElement}
+use Rattle.std.proofs.Common.{is_none}
+use Rattle.gt_calls.specs.Path.{by_mapping}
+use Rattle.gt_core.{specs.History.frame_of, proofs.Pins.word-bare, proofs.Pins.mapping-bare, proofs.Pins.known-bare, proofs.Bare.bare, proofs.Bare.bare_asked, proofs.Bare.bare_call, proofs.Bare.asked-bare, proofs.Bare.open-bare, proofs.Bare.values-bare, proofs.Bare.table-bare, proofs.Bare.body-bare, proofs.Bare.maps-bare, proofs.Bare.contents-bare, proofs.Bare.bare-same, proofs.Given.CallKnown, proofs.Given.open-known}
+use Rattle.gt_calls.specs.declared.request.Request.TheVariants as requests
+use Rattle.gt_core.specs.declared.trace.Answer.TheVariants as answers
+
+-- paths
+
+abbrev pub bare_action : Action → Action
+bare_action (Makes step) = Makes (bare_step step)
+bare_action (Ends verdict) = Ends verdict
+
+-- the handle that is asked for finds the same mapping without its key
+abbrev FindsSame : (Handle → Option Held) → (Handle → Option Held) → Asked → Type 0
+FindsSame bared found (Unmap a) = bared (bare_handle a) ≡ found a
+FindsSame bared found (Load a off len) = bared (bare_handle a) ≡ found a
+FindsSame bared found (Store a off len) = bared (bare_handle a) ≡ found a
+FindsSame bared found r = Unit {0}
+
+unmap-bare : (v : Option Verdict) (o : Option Held) (a : Handle) (vs : List Seen)
+    → option_map bare_action (after_beginning v (by_mapping o (λ p. Unpin p (ByMapping (bare_handle a)))) vs) ≡ option_map bare_action (after_beginning v (by_mapping o (λ p. Unpin p (ByMapping a))) vs)
+unmap-bare None (Some p) a [] = refl
+unmap-bare v o a vs = refl
+
+path-bare : (k : CallerKnowledge) (found : Handle → Option Held) (d : DomId) (r : Asked) (vs : List Seen) → FindsSame found k.mapping r
+    → option_map bare_action (path (record k { mapping = found }) d (bare_asked r) vs) ≡ option_map bare_action (path k d r vs)
+path-bare k found d (Unmap a) vs same =
+    ap (λ (o : Option Held). option_map bare_action (after_beginning (first (refused_when (is_none o) N6 ∷ unmap_denied k d o ∷ [])) (by_mapping o (λ p. Unpin p (ByMapping (bare_handle a)))) vs)) same
+    ∙ unmap-bare (unmap_begun k d a) (k.mapping a) a vs
+path-bare k found d (Load a off len) vs same =
+    ap (λ (o : Option Held). option_map bare_action (after_beginning (load_begun (λ x. o) a off len) (by_mapping o (λ p. ReadBytes p.dom (frame_of p.entry) off len)) vs)) same
+path-bare k found d (Store a off len) vs same =
+    ap (λ (o : Option Held). option_map bare_action (after_beginning (store_begun (λ x. o) a off len) (by_mapping o (λ p. WriteBytes p.dom (frame_of p.entry) off len)) vs)) same
+path-bare k found d r vs same = refl
+
+begun-bare : (k : CallerKnowledge) (found : Handle → Option Held) (d : DomId) (q : Request) → FindsSame found k.mapping (asked q) → begun_of (record k { mapping = found }) d (bare_request q) ≡ begun_of k d q
+begun-bare k found d (requests.Unmap a) same = ap (λ (o : Option Held). first (refused_when (is_none o) N6 ∷ unmap_denied k d o ∷ [])) same
+begun-bare k found d (requests.Load a off len) same = ap (λ (o : Option Held). load_begun (λ x. o) a off len) same
+begun-bare k found d (requests.Store a off bytes) same = ap (λ (o : Option Held). store_begun (λ x. o) a off (length bytes.now)) same
+begun-bare k found d q same = refl
+
+finds-same : (s : Setting) (h : History) (d : DomId) (r : Asked) → IsRun s h → AsksKnown h d.0 r → FindsSame (mapping_of (mappings_at (bare h) d.0)) (mapping_of (mappings_at h d.0)) r
+finds-same s h d (Unmap a) run k = mapping-bare s h d.0 a run k
+finds-same s h d (Load a off len) run k = mapping-bare s h d.0 a run k
+finds-same s h d (Store a off len) run k = mapping-bare s h d.0 a run k
+finds-same s h d r run k = tt
+
+path-at : (s : Setting) (h : History) (d : DomId) (r : Asked) (vs : List Seen) → IsRun s h → AsksKnown h d.0 r
+    → option_map bare_action (path (known_at s (bare h) d) d (bare_asked r) vs) ≡ option_map bare_action (path (known_at s h d) d r vs)
+path-at s h d r vs run k = ap (λ (z : CallerKnowledge). option_map bare_action (path z d (bare_asked r) vs)) (known-bare s h d run)
+    ∙ path-bare (known_at s h d) (mapping_of (mappings_at (bare h) d.0)) d r vs (finds-same s h d r run k)
+
+begun-at : (s : Setting) (h : History) (d : DomId) (q : Request) → IsRun s h → AsksKnown h d.0 (asked q) → begun_of (known_at s (bare h) d) d (bare_request q) ≡ begun_of (known_at s h d) d q
+begun-at s h d q run k = ap (λ (z : CallerKnowledge). begun_of z d (bare_request q)) (known-bare s h d run)
+    ∙ begun-bare (known_at s h d) (mapping_of (mappings_at (bare h) d.0)) d q (finds-same s h d (asked q) run k)
+
+seen-at : (s : Setting) (h : History) (d : DomId) (step : Step) → IsRun s h → seen_by s (bare h) d step ≡ seen_by s h d step
+seen-at s h d (LookHeader dom) run = ap (λ (x : Header). Word (header_word x)) (table-bare s h dom)
+seen-at s h d (LookControl dom gref) run = ap (λ (w : ℕ). Word w) (word-bare s h dom.0 gref.0 run)
+seen-at s h d (LookBody dom gref half) run = ap (λ (w : ℕ). Word w) (body-bare h dom.0 gref.0 half)
+seen-at s h d (PinStep p) run = ap (λ (w : ℕ). exchange_sees w p.word) (word-bare s h p.dom.0 p.gref.0 run)
+seen-at s h d (Exchange gref looked change) run = ap (λ (w : ℕ). exchange_sees w looked) (word-bare s h d.0 gref.0 run)
+seen-at s h d step run = refl
+
+seen-bare : (s : Setting) (h : History) (d : DomId) (step : Step) → seen_by s h d step ≡ seen_by s h d (bare_step step)
+seen-bare s h d (Unpin p (ByMapping a)) = refl
+seen-bare s h d step = refl
+
+-- answers
+
+-- what the value tells of a call that is answered Ok after this step, or at its beginning
+abbrev value_told : Setting → History → DomId → Asked → Option Step → Option (Answer ⊎ List ℕ)
+value_told s h d (Map dom gref flags) (Some (PinStep p)) = Some (inl (answers.Mapped (record { serial = maps_answered_at h d.0; key = 0 })))
+value_told s h d (Load a off len) (Some (ReadBytes t frame o n)) = Some (inr (take n (drop o (contents_at h t.0 frame))))
+value_told s h d (Peek f off len) (Some (ReadBytes t frame o n)) = Some (inr (take n (drop o (contents_at h t.0 frame))))
+value_told s h d (SetupTable frames) None = Some (inl (answers.Frames (table_at s h d).frames))
+value_told s h d (SetupTable frames) (Some (StoreHeader version stored)) = Some (inl (answers.Frames stored))
+value_told s h d (QuerySize dom) (Some (LookHeader t)) = Some (inl (answers.Size (record { frames = (table_at s h t).frames; max = MAX_TABLE_FRAMES })))
+value_told s h d (GetVersion dom) (Some (LookHeader t)) = Some (inl (answers.Version (table_at s h t).version))
+value_told s h d r step = Some (inl answers.Done)
+
+told-is : (a b : Answer) → a ≡ b → Some (told a) ≡ Some (told b)
+told-is a b e = ap (λ (z : Answer). Some (told z)) e
+
+value-told : (s : Setting) (h : History) (d : DomId) (r : Asked) (step : Option Step) (a : Answer) → GivesValue s h d r step a → refusal_of a ≡ None → Some (told a) ≡ value_told s h d r step
+value-told s h d r step (answers.Denied denial) v e = absurd (none-some _ (sym e))
+value-told s h d (Map dom gref flags) (Some (PinStep p)) (answers.Mapped handle) v e = ap (λ (n : ℕ). Some (inl (answers.Mapped (record { serial = n; key = 0 })))) v
+value-told s h d (Map dom gref flags) step a v e = absurd v
+value-told s h d (Load x off len) (Some (ReadBytes t frame o n)) (answers.Bytes b) v e = ap (λ (l : List ℕ). Some (inr l)) v
+value-told s h d (Load x off len) step a v e = absurd v
+value-told s h d (Peek f off len) (Some (ReadBytes t frame o n)) (answers.Bytes b) v e = ap (λ (l : List ℕ). Some (inr l)) v
+value-told s h d (Peek f off len) step a v e = absurd v
+value-told s h d (SetupTable frames) None a v e = told-is a _ v
+value-told s h d (SetupTable frames) (Some (StoreHeader version stored)) a v e = told-is a _ v
+value-told s h d (SetupTable frames) step a v e = absurd v
+value-told s h d (QuerySize dom) (Some (LookHeader t)) a v e = told-is a _ v
+value-told s h d (QuerySize dom) step a v e = absurd v
+value-told s h d (GetVersion dom) (Some (LookHeader t)) a v e = told-is a _ v
+value-told s h d (GetVersion dom) step a v e = absurd v
+value-told s h d r step a v e = told-is a _ v
+
+value-at : (s : Setting) (h : History) (d : DomId) (r : Asked) (step : Option Step) → value_told s (bare h) d (bare_asked r) step ≡ value_told s h d r step
+value-at s h d (Map dom gref flags) (Some (PinStep p)) = ap (λ (n : ℕ). Some (inl (answers.Mapped (record { serial = n; key = 0 })))) (maps-bare h d.0)
+value-at s h d (Load a off len) (Some (ReadBytes t frame o n)) = ap (λ (l : List ℕ). Some (inr (take n (drop o l)))) (contents-bare h t.0 frame)
+value-at s h d (Peek f off len) (Some (ReadBytes t frame o n)) = ap (λ (l : List ℕ). Some (inr (take n (drop o l)))) (contents-bare h t.0 frame)
+value-at s h d (SetupTable frames) None = ap (λ (x : Header). Some (inl (answers.Frames x.frames))) (table-bare s h d)
+value-at s h d (QuerySize dom) (Some (LookHeader t)) = ap (λ (x : Header). Some (inl (answers.Size (record { frames = x.frames; max = MAX_TABLE_FRAMES })))) (table-bare s h t)
+value-at s h d (GetVersion dom) (Some (LookHeader t)) = ap (λ (x : Header). Some (inl (answers.Version x.version))) (table-bare s h t)
+value-at s h d r step = refl
+
+unpin-value : (s : Setting) (h : History) (d : DomId) (r : Asked) (p : Held) (x y : Holder) → value_told s h d r (Some (Unpin p x)) ≡ value_told s h d r (Some (Unpin p y))
+unpin-value s h d (Map dom gref flags) p x y = refl
+unpin-value s h d r p x y = refl
+
+step-value : (s : Setting) (h : History) (d : DomId) (r : Asked) (step : Step) → value_told s h d r (Some (bare_step step)) ≡ value_told s h d r (Some step)
+step-value s h d r (Unpin p (ByMapping a)) = unpin-value s h d r p (ByMapping (bare_handle a)) (ByMapping a)
+step-value s h d r step = refl
+
+abbrev told_by : Option Denial → Option (Answer ⊎ List ℕ) → Option (Answer ⊎ List ℕ)
+told_by (Some denial) value = Some (inl (answers.Denied denial))
+told_by None value = value
+
+-- what the answer tells of a call with this verdict
+abbrev answer_told : Setting → History → DomId → Asked → Option Step → Option Verdict → Option (Answer ⊎ List ℕ)
+answer_told s h d r step None = None
+answer_told s h d r step (Some v) = told_by (refusal_in (Some v)) (value_told s h d r step)
+
+refused-told : (denial : Denial) (a : Answer) → refusal_of a ≡ Some denial → Some (told a) ≡ Some (inl (answers.Denied denial))
+refused-told denial (answers.Denied other) e = ap (λ (z : Denial). Some (inl (answers.Denied z))) (same_Some _ _ e)
+refused-told denial a e = absurd (none-some _ e)
+
+told-by : (s : Setting) (h : History) (d : DomId) (r : Asked) (step : Option Step) (o : Option Denial) (a : Answer) → refusal_of a ≡ o → GivesValue s h d r step a → Some (told a) ≡ told_by o (value_told s h d r step)
+told-by s h d r step None a e v = value-told s h d r step a v e
+told-by s h d r step (Some denial) a e v = refused-told denial a e
+
+answer-told : (s : Setting) (h : History) (d : DomId) (r : Asked) (step : Option Step) (giving : Bool) (v : Option Verdict) (a : Option Answer) (against : Option Denial)
+    → AnsweredBy s h d r step giving v a against → option_map told a ≡ answer_told s h d r step v
+answer-told s h d r step giving None None against is = refl
+answer-told s h d r step giving (Some v) (Some a) against is = told-by s h d r step (refusal_in (Some v)) a is.0 is.2
+answer-told s h d r step giving v a against is = absurd is
+
+answer-at : (s : Setting) (h : History) (d : DomId) (r : Asked) (step : Option Step) (v : Option Verdict) → answer_told s (bare h) d (bare_asked r) step v ≡ answer_told s h d r step v
+answer-at s h d r step None = refl
+answer-at s h d r step (Some v) = ap (told_by (refusal_in (Some v))) (value-at s h d r step)
+
+answer-step : (s : Setting) (h : History) (d : DomId) (r : Asked) (step : Step) (v : Option Verdict) → answer_told s h d r (Some (bare_step step)) v ≡ answer_told s h d r (Some step) v
+answer-step s h d r step None = refl
+answer-step s h d r step (Some v) = ap (told_by (refusal_in (Some v))) (step-value s h d r step)
+
+-- items
+
+abbrev began_told : Setting → History → DomId → Request → ToldItem
+began_told s h d q = record { actor = d; happened = Began (bare_request q); answer = answer_told s h d (asked q) None (begun_of (known_at s h d) d q) }
+
+abbrev step_told : Setting → History → DomId → Asked → List Seen → Step → ToldItem
+step_told s h d r vs step = let seen = seen_by s h d step in
+    record { actor = d; happened = Stepped step seen; answer = answer_told s h d r (Some step) (verdict_in (option_map bare_action (path (known_at s h d) d r (vs ++ seen ∷ [])))) }
+
+is-began : (s : Setting) (h : History) (d : DomId) (q : Request) (a : Option Answer) → BeginsRight s h (record { actor = d; happened = Began q; answer = a }) q
+    → told_item (record { actor = d; happened = Began q; answer = a }) ≡ began_told s h d q
+is-began s h d q a right = let i : Item = record { actor = d; happened = Began q; answer = a } in
+    ap (λ (t : Option (Answer ⊎ List ℕ)). record { actor = d; happened = Began (bare_request q); answer = t })
+    (answer-told s h d (asked q) None false (begun_of (known_at s h d) d q) a (stood s (i ∷ h) d.0) right.1)
+
+verdict-bare : (o : Option Action) → verdict_in (option_map bare_action o) ≡ verdict_in o
+verdict-bare (Some (Makes step)) = refl
+verdict-bare o = refl
+
+is-stepped : (s : Setting) (h : History) (d : DomId) (step : Step) (seen : Seen) (a : Option Answer) (c : Underway) → StepsRight s h (record { actor = d; happened = Stepped step seen; answer = a }) step seen c
+    → told_item (record { actor = d; happened = Stepped step seen; answer = a }) ≡ step_told s h d c.request (values c) (bare_step step)
+is-stepped s h d step seen a c right = let i : Item = record { actor = d; happened = Stepped step seen; answer = a } in
+    let o : Seen → Option Action = λ v. path (known_at s h d) d c.request (values c ++ v ∷ []) in
+    ap (λ (t : Option (Answer ⊎ List ℕ)). record { actor = d; happened = Stepped (bare_step step) seen; answer = t })
+    (answer-told s h d c.request (Some step) (gives_back (o seen)) (verdict_in (o seen)) a (stood s (i ∷ h) d.0) right.answered ∙ sym (answer-step s h d c.request step (verdict_in (o seen)))
+    ∙ ap (λ (v : Option Verdict). answer_told s h d c.request (Some (bare_step step)) v) (sym (verdict-bare (o seen))))
+    ∙ ap (λ (v : Seen). record { actor = d; happened = Stepped (bare_step step) v; answer = answer_told s h d c.request (Some (bare_step step)) (verdict_in (option_map bare_action (o v))) }) (right.sees ∙ seen-bare s h d step)
+
+request-twice : (q : Request) → bare_request (bare_request q) ≡ bare_request q
+request-twice (requests.GrantBytes gref bytes) = refl
+request-twice q = refl
+
+began-at : (s : Setting) (h : History) (d : DomId) (q : Request) → IsRun s h → AsksKnown h d.0 (asked q) → began_told s (bare h) d (bare_request q) ≡ began_told s h d q
+began-at s h d q run k =
+    ap (λ (z : Request). record { actor = d; happened = Began z; answer = answer_told s (bare h) d (asked (bare_request q)) None (begun_of (known_at s (bare h) d) d (bare_request q)) }) (request-twice q)
+    ∙ ap (λ (t : Option (Answer ⊎ List ℕ)). record { actor = d; happened = Began (bare_request q); answer = t })
+    (ap (λ (z : Asked). answer_told s (bare h) d z None (begun_of (known_at s (bare h) d) d (bare_request q))) (asked-bare q)
+    ∙ ap (λ (v : Option Verdict). answer_told s (bare h) d (bare_asked (asked q)) None v) (begun-at s h d q run k)
+    ∙ answer-at s h d (asked q) None (begun_of (known_at s h d) d q))
+
+stepped-at : (s : Setting) (h : History) (d : DomId) (r : Asked) (vs : List Seen) (step : Step) → IsRun s h → AsksKnown h d.0 r → step_told s (bare h) d (bare_asked r) vs step ≡ step_told s h d r vs step
+stepped-at s h d r vs step run k =
+    let o : Seen → Option Action = λ v. option_map bare_action (path (known_at s (bare h) d) d (bare_asked r) (vs ++ v ∷ [])) in
+    let seen = seen_by s h d step in
+    ap (λ (v : Seen). record { actor = d; happened = Stepped step v; answer = answer_told s (bare h) d (bare_asked r) (Some step) (verdict_in (o v)) }) (seen-at s h d step run)
+    ∙ ap (λ (t : Option (Answer ⊎ List ℕ)). record { actor = d; happened = Stepped step seen; answer = t })
+    (ap (λ (x : Option Action). answer_told s (bare h) d (bare_asked r) (Some step) (verdict_in x)) (path-at s h d r (vs ++ seen ∷ []) run k)
+    ∙ answer-at s h d r (Some step) (verdict_in (option_map bare_action (path (known_at s h d) d r (vs ++ seen ∷ [])))))
+
+-- elements
+
+abbrev pub element_told : Element → Element ⊎ ToldItem
+element_told (Did i) = inr (told_item i)
+element_told x = inl x
+
+abbrev stepped_told : Setting → History → DomId → Underway → Option Action → Element ⊎ ToldItem
+stepped_told s h d c (Some (Makes step)) = inr (step_told s h d c.request (values c) step)
+stepped_told s h d c o = inl Idle
+
+abbrev tick_told : Setting → History → DomId → Option Underway → Element ⊎ ToldItem
+tick_told s h d None = inl Idle
+tick_told s h d (Some c) = stepped_told s h d c (option_map bare_action (path (known_at s h d) d c.request (values c)))
+
+abbrev begin_told : Setting → History → DomId → Request → Option Underway → Element ⊎ ToldItem
+begin_told s h d q None = inr (began_told s h d q)
+begin_told s h d q (Some c) = inl Busy
+
+abbrev within : Option DomainConfig → Element ⊎ ToldItem → Element ⊎ ToldItem
+within None x = inl NoDomain
+within (Some config) x = x
+
+-- what the event does
+abbrev pub doing : Setting → History → Event → Element ⊎ ToldItem
+doing s h (Begin d q) = within (domain_of s.domains d) (begin_told s h d q (open_call h d.0))
+doing s h (Tick d) = within (domain_of s.domains d) (tick_told s h d (open_call h d.0))
+
+is-within : (o : Option DomainConfig) (x y : Element ⊎ ToldItem) → o ≢ None → x ≡ y → x ≡ within o y
+is-within None x y some e = absurd (some refl)
+is-within (Some config) x y some e = e
+
+is-busy : (s : Setting) (h : History) (d : DomId) (q : Request) (c : Option Underway) → c ≢ None → inl Busy ≡ begin_told s h d q c
+is-busy s h d q None some = absurd (some refl)
+is-busy s h d q (Some c) some = refl
+
+begin-does : (s : Setting) (h : History) (d : DomId) (q : Request) (a : Option Answer) → BeginsRight s h (record { actor = d; happened = Began q; answer = a }) q
+    → element_told (Did (record { actor = d; happened = Began q; answer = a })) ≡ begin_told s h d q (open_call h d.0)
+begin-does s h d q a right =
+    ap (λ (t : ToldItem). inr t) (is-began s h d q a right) ∙ ap (begin_told s h d q) (sym right.0)
+
+tick-does : (s : Setting) (h : History) (d : DomId) (step : Step) (seen : Seen) (a : Option Answer) (c : Option Underway) → StepsRightIn s h (record { actor = d; happened = Stepped step seen; answer = a }) step seen c
+    → element_told (Did (record { actor = d; happened = Stepped step seen; answer = a })) ≡ tick_told s h d c
+tick-does s h d step seen a None right = absurd right
+tick-does s h d step seen a (Some c) right = ap (λ (t : ToldItem). inr t) (is-stepped s h d step seen a c right) ∙ ap (λ (o : Option Action). stepped_told s h d c (option_map bare_action o)) (sym right.continues)
+
+begin-item : (s : Setting) (h : History) (d : DomId) (q : Request) (actor : DomId) (x : Happened) (a : Option Answer) → actor ≡ d → x ≡ Began q → IsRight s h (record { actor = actor; happened = x; answer = a })
+    → element_told (Did (record { actor = actor; happened = x; answer = a })) ≡ begin_told s h d q (open_call h d.0)
+begin-item s h d q actor x a own is right =
+    ap (λ (z : DomId). element_told (Did (record { actor = z; happened = x; answer = a }))) own
+    ∙ ap (λ (z : Happened). element_told (Did (record { actor = d; happened = z; answer = a }))) is
+    ∙ begin-does s h d q a
+    (subst (λ (z : Happened). IsRight s h (record { actor = d; happened = z; answer = a })) is (subst (λ (z : DomId). IsRight s h (record { actor = z; happened = x; answer = a })) own right))
+
+tick-item : (s : Setting) (h : History) (d : DomId) (actor : DomId) (x : Happened) (a : Option Answer) → MayDo s h (Tick d) (Did (record { actor = actor; happened = x; answer = a }))
+    → element_told (Did (record { actor = actor; happened = x; answer = a })) ≡ tick_told s h d (open_call h d.0)
+tick-item s h d actor (Began q) a m = absurd m.1.1
+tick-item s h d actor (Stepped step seen) a m =
+    ap (λ (z : DomId). element_told (Did (record { actor = z; happened = Stepped step seen; answer = a }))) m.1.0
+    ∙ tick-does s h d step seen a (open_call h d.0) (subst (λ (z : DomId). IsRight s h (record { actor = z; happened = Stepped step seen; answer = a })) m.1.0 m.2)
+
+-- an event does what this function tells
+pub does : (s : Setting) (h : History) (e : Event) (x : Element) → MayDo s h e x → element_told x ≡ doing s h e
+does s h (Begin d q) NoDomain m = ap (λ (o : Option DomainConfig). within o (begin_told s h d q (open_call h d.0))) (sym m)
+does s h (Tick d) NoDomain m = ap (λ (o : Option DomainConfig). within o (tick_told s h d (open_call h d.0))) (sym m)
+does s h (Begin d q) Busy m = is-within (domain_of s.domains d) (inl Busy) (begin_told s h d q (open_call h d.0)) m.0 (is-busy s h d q (open_call h d.0) m.1)
+does s h (Tick d) Idle m = is-within (domain_of s.domains d) (inl Idle) (tick_told s h d (open_call h d.0)) m.0 (ap (tick_told s h d) (sym m.1))
+does s h (Begin d q) (Did i) m =
+    is-within (domain_of s.domains d) (inr (told_item i)) (begin_told s h d q (open_call h d.0)) m.0 (begin-item s h d q i.actor i.happened i.answer m.1.0 m.1.1 m.2)
+does s h (Tick d) (Did i) m =
+    is-within (domain_of s.domains d) (inr (told_item i)) (tick_told s h d (open_call h d.0)) m.0 (tick-item s h d i.actor i.happened i.answer m)
+does s h e x m = absurd m
+
+begin-at : (s : Setting) (h : History) (d : DomId) (q : Request) (c : Option Underway) → IsRun s h → AsksKnown h d.0 (asked q) → begin_told s (bare h) d (bare_request q) (option_map bare_call c) ≡ begin_told s h d q c
+begin-at s h d q None run k = ap (λ (t : ToldItem). inr t) (began-at s h d q run k)
+begin-at s h d q (Some c) run k = refl
+
+next-at : (s : Setting) (h : History) (d : DomId) (c : Underway) (o : Option Action) → IsRun s h → AsksKnown h d.0 c.request → stepped_told s (bare h) d (bare_call c) o ≡ stepped_told s h d c o
+next-at s h d c (Some (Makes step)) run k =
+    ap (λ (vs : List Seen). inr (step_told s (bare h) d (bare_asked c.request) vs step)) (values-bare c)
+    ∙ ap (λ (t : ToldItem). inr t) (stepped-at s h d c.request (values c) step run k)
+next-at s h d c o run k = refl
+
+tick-at : (s : Setting) (h : History) (d : DomId) (c : Option Underway) → IsRun s h → CallKnown h d.0 c → tick_told s (bare h) d (option_map bare_call c) ≡ tick_told s h d c
+tick-at s h d None run k = refl
+tick-at s h d (Some c) run k =
+    ap (λ (vs : List Seen). stepped_told s (bare h) d (bare_call c) (option_map bare_action (path (known_at s (bare h) d) d (bare_asked c.request) vs))) (values-bare c)
+    ∙ ap (stepped_told s (bare h) d (bare_call c)) (path-at s h d c.request (values c) run k)
+    ∙ next-at s h d c (option_map bare_action (path (known_at s h d) d c.request (values c))) run k
+
+-- and it does the same without keys
+pub does-bare : (s : Setting) (h : History) (e : Event) → IsRun s h → IsOfKnown h e → doing s (bare h) (bare_event e) ≡ doing s h e
+does-bare s h (Begin d q) run k =
+    ap (within (domain_of s.domains d)) (ap (begin_told s (bare h) d (bare_request q)) (open-bare h d.0) ∙ begin-at s h d q (open_call h d.0) run k)
+does-bare s h (Tick d) run k =
+    ap (within (domain_of s.domains d)) (ap (tick_told s (bare h) d) (open-bare h d.0) ∙ tick-at s h d (open_call h d.0) run (open-known s h d.0 run))
 
 inr-same : (a b : ToldItem) → ◌≡◌ {A = Element ⊎ ToldItem} (inr a) (inr b) → a ≡ b
 inr-same a b e = cc

@@ -1,6 +1,6 @@
 -- An unpin keeps what a core stands for.
-use Rattle.gt_core.proofs.Words.{◌≡◌, ◌<◌, ◌≤◌, ◌+◌, ◌-◌, ◌⊎◌, inl, inr, ℕ, suc, refl, Bool, true, false, List, [], ◌∷◌, ◌++◌, length, Option, Some, None, cond, sym, ap, ◌∙◌, arith, subst, ◌==◌, ◌&&◌, All, count_by, eq-eqb, and_from, false≢true, true≢false, none-some, same_Some, append-nil, sum_by-cons, All-tail, DomId, Dir, Read, Write, FirstHalf, SecondHalf, Handle, HandleMap, Held, Holder, ByMapping, ByLeg, Unpin, Seen, PinCounts, Open, Unpinned, Item, Answer, changed_at, State, state_of, changed_in, with_slot, without_mapping, slot_after, taken, History, Setting, Pin, live, body_at, reads_at, writes_at, mappings_at, maps_answered_at, legs_at, open_call, is_pin_on, without, is_holder, same_handle, same_dir, gather, by_mapping, by_leg, mapping_of, one_if_mapped, IsLawful, SlotAgrees, Agrees, DomainsStand, CallAgrees, GivenAgrees, MappingsAgree, numbered, sum_by-append, All-cons, All-head, MAX_PINS, ne_eqb}
-pub use Rattle.gt_core.proofs.Pinning.{answered-stays, stepped, SlotsAgree, KeepsEntries, same-body, slots-agree, counts-fit, after_change, Becomes, becomes-changed, slots-stand, keeps-stands, less, mappings-taken, mappings-same, state-changed, pins, leg-grows, leg-maps}
+use Rattle.gt_core.proofs.Words.{◌≡◌, ◌≤◌, ◌+◌, ◌-◌, ◌⊎◌, inl, inr, ℕ, suc, refl, Bool, true, false, List, [], ◌∷◌, ◌++◌, length, Option, Some, None, cond, sym, ap, ◌∙◌, arith, subst, ◌==◌, ◌&&◌, All, count_by, eq-eqb, false≢true, none-some, same_Some, append-nil, sum_by-cons, All-tail, DomId, Dir, Read, Write, Half, FirstHalf, SecondHalf, Handle, HandleMap, Held, Holder, ByMapping, ByLeg, Unpin, Seen, PinCounts, Open, Unpinned, Item, Answer, State, state_of, changed_in, with_slot, without_mapping, slot_after, taken, History, Setting, Pin, live, body_at, mappings_at, maps_answered_at, legs_at, open_call, is_pin_on, without, is_holder, same_handle, same_dir, gather, by_mapping, by_leg, mapping_of, one_if_mapped, IsLawful, SlotAgrees, Agrees, DomainsStand, CallAgrees, GivenAgrees, MappingsAgree, numbered, sum_by-append, All-cons, All-head, ne_eqb}
+use Rattle.gt_core.proofs.{Others.answered-stays, Keeping.stepped, Keeping.KeepsEntries, Keeping.same-body, Keeping.counts-fit, Keeping.after_change, Keeping.Becomes, Keeping.becomes-changed, Keeping.slots-stand, Keeping.keeps-stands, Mappings.less, Mappings.less_of, Mappings.mappings-taken, Mappings.mappings-same, Rows.state-changed, Pinning.pins, Pinning.pins_at, Pinning.moved-slots}
 
 -- what an unpin takes from the live pins
 
@@ -21,10 +21,6 @@ loses-later m p whole less l =
 abbrev pub one_of : {K : Type 0} → (K → Bool) → List (K × Held) → Option Held
 one_of test [] = None
 one_of test (m ∷ ms) = cond (test m.0) (Some m.1) (one_of test ms)
-
-abbrev pub less_of : {K : Type 0} → (K → Bool) → List (K × Held) → List (K × Held)
-less_of test [] = []
-less_of test (m ∷ ms) = cond (test m.0) ms (m ∷ less_of test ms)
 
 -- a way to give pins by keys, and the test that finds a holder's key: each holder gives one key or none, and is the holder just where its key passes
 pub record Tells {K : Type 0} (give : Holder → Held → List (K × Held)) (test : K → Bool) (holder : Holder) : Type 0 where
@@ -130,10 +126,6 @@ one-mapping : (ms : List (Handle × Held)) (handle : Handle) → one_of (λ (k :
 one-mapping [] handle = refl
 one-mapping (m ∷ ms) handle = ap (λ (o : Option Held). cond (same_handle m.0 handle) (Some m.1) o) (one-mapping ms handle)
 
-less-mapping : (ms : List (Handle × Held)) (handle : Handle) → less_of (λ (k : Handle). same_handle k handle) ms ≡ less handle ms
-less-mapping [] handle = refl
-less-mapping (m ∷ ms) handle = ap (λ (l : List (Handle × Held)). cond (same_handle m.0 handle) ms (m ∷ l)) (less-mapping ms handle)
-
 pub loses-mapping : (h : History) (d : DomId) (handle : Handle) (p : Held) → mapping_of (mappings_at h d.0) handle ≡ Some p → Loses p (live h) (without d.0 (ByMapping handle) (live h))
 loses-mapping h d handle p found =
     loses-of by_mapping (λ (k : Handle). same_handle k handle) (ByMapping handle) d.0 p (live h) (mapping-tells handle) (one-mapping (mappings_at h d.0) handle ∙ found)
@@ -142,7 +134,6 @@ loses-mapping h d handle p found =
 mapping-left : (h : History) (d : DomId) (p : Held) (handle : Handle) (seen : Seen) (answer : Option Answer) → mappings_at (unpins d p (ByMapping handle) seen answer ∷ h) d.0 ≡ less handle (mappings_at h d.0)
 mapping-left h d p handle seen answer = ap (gather by_mapping d.0) (unpinned-live h d p (ByMapping handle) seen answer)
     ∙ less-gather by_mapping (λ (k : Handle). same_handle k handle) (ByMapping handle) d.0 (live h) (mapping-tells handle)
-    ∙ less-mapping (mappings_at h d.0) handle
 
 pub mapping-legs : (h : History) (d : DomId) (p : Held) (handle : Handle) (seen : Seen) (answer : Option Answer) → legs_at (unpins d p (ByMapping handle) seen answer ∷ h) d.0 ≡ legs_at h d.0
 mapping-legs h d p handle seen answer =
@@ -227,54 +218,17 @@ shrunk-count : (h : History) (i : Item) (p : Held) (t r : ℕ) (k : Dir) → Shr
 shrunk-count h i p t r k l = count-less p (live h) (live (i ∷ h)) t r k l
 
 shrunk-le : (h : History) (i : Item) (p : Held) (t r : ℕ) (k : Dir) → Shrinks h i p → count_by (is_pin_on t r k) (live (i ∷ h)) ≤ count_by (is_pin_on t r k) (live h)
-shrunk-le h i p t r k l = sums _ _ _ (shrunk-count h i p t r k l) where
-  sums : (a b c : ℕ) → a ≡ b + c → c ≤ a
-  sums a b c e = omega arith
+shrunk-le h i p t r k l = let e = shrunk-count h i p t r k l in omega arith
 
 -- the slot that the unpin counts down
-counted-down : (on hit : Bool) (old now was : ℕ) → on ≡ true → old ≡ was → was ≡ cond (on && hit) 1 0 + now → cond hit (old - 1) old ≡ now
-counted-down true true old now was p e f = omega arith
-counted-down true false old now was p e f = omega arith
-counted-down false hit old now was p e f = absurd (false≢true p)
-
-slot-down : (h : History) (i : Item) (p : Held) (q : ℕ) (old : PinCounts) → KeepsEntries i → Shrinks h i p → (p.dom.0 == q) ≡ true → SlotAgrees h q p.gref.0 old → SlotAgrees (i ∷ h) q p.gref.0 (slot_after (Unpinned p.dir) old)
-slot-down h i p q old keeps shrinks on a = let r = p.gref.0 in
-    let both_on : ((p.dom.0 == q) && (r == r)) ≡ true = and_from (p.dom.0 == q) (r == r) on (eq-eqb r r refl) in
-    both p.dir (a.first ∙ sym (same-body i h q r FirstHalf keeps)) (a.second ∙ sym (same-body i h q r SecondHalf keeps))
-    (counted-down ((p.dom.0 == q) && (r == r)) (same_dir p.dir Read) old.reads (reads_at (i ∷ h) q r) (reads_at h q r) both_on a.reads (shrunk-count h i p q r Read shrinks))
-    (counted-down ((p.dom.0 == q) && (r == r)) (same_dir p.dir Write) old.writes (writes_at (i ∷ h) q r) (writes_at h q r) both_on a.writes (shrunk-count h i p q r Write shrinks))
-  where
-    both : (dir : Dir) → old.first ≡ body_at (i ∷ h) q p.gref.0 FirstHalf → old.second ≡ body_at (i ∷ h) q p.gref.0 SecondHalf
-        → cond (same_dir dir Read) (old.reads - 1) old.reads ≡ reads_at (i ∷ h) q p.gref.0
-        → cond (same_dir dir Write) (old.writes - 1) old.writes ≡ writes_at (i ∷ h) q p.gref.0
-        → SlotAgrees (i ∷ h) q p.gref.0 (slot_after (Unpinned dir) old)
-    both Read f g r w = record { reads = r; writes = w; first = f; second = g }
-    both Write f g r w = record { reads = r; writes = w; first = f; second = g }
-
-no-hit : (on hit : Bool) (n was now : ℕ) → on ≡ false → n ≡ was → was ≡ cond (on && hit) 1 0 + now → n ≡ now
-no-hit true hit n was now p e f = absurd (true≢false p)
-no-hit false hit n was now p e f = omega arith
-
--- a slot that the unpin doesn't name
-slot-stays : (h : History) (i : Item) (p : Held) (q k : ℕ) (old : PinCounts) → KeepsEntries i → Shrinks h i p → ((p.dom.0 == q) && (p.gref.0 == k)) ≡ false → SlotAgrees h q k old → SlotAgrees (i ∷ h) q k old
-slot-stays h i p q k old keeps shrinks off a = record {
-  reads = no-hit ((p.dom.0 == q) && (p.gref.0 == k)) (same_dir p.dir Read) old.reads (reads_at h q k) (reads_at (i ∷ h) q k) off a.reads (shrunk-count h i p q k Read shrinks);
-  writes = no-hit ((p.dom.0 == q) && (p.gref.0 == k)) (same_dir p.dir Write) old.writes (writes_at h q k) (writes_at (i ∷ h) q k) off a.writes (shrunk-count h i p q k Write shrinks);
-  first = a.first ∙ sym (same-body i h q k FirstHalf keeps);
-  second = a.second ∙ sym (same-body i h q k SecondHalf keeps);
-}
-
-unpinned-slots : (h : History) (i : Item) (p : Held) (q : ℕ) (slots : List PinCounts) (b : Bool) → KeepsEntries i → Shrinks h i p → (p.dom.0 == q) ≡ b → SlotsAgree h q slots
-    → SlotsAgree (i ∷ h) q (cond b (changed_at p.gref.0 (slot_after (Unpinned p.dir)) slots) slots)
-unpinned-slots h i p q slots b keeps shrinks is was =
-    slots-agree h (i ∷ h) p.dom.0 q p.gref.0 (slot_after (Unpinned p.dir)) slots b is was
-    (λ on old a. slot-down h i p q old keeps shrinks on a) (λ k old off a. slot-stays h i p q k old keeps shrinks off a)
-
-le-lt : (a b n : ℕ) → a ≤ b → b < n → a < n
-le-lt a b n e f = omega arith
-
-le-zero : (a b : ℕ) → a ≤ b → b ≡ 0 → a ≡ 0
-le-zero a b e f = omega arith
+counted-down : (h new : History) (q r : ℕ) (dir : Dir) (b : Bool) (old : PinCounts) → SlotAgrees h q r old → ((which : Half) → body_at new q r which ≡ body_at h q r which)
+    → ((k : Dir) → pins_at h q r k ≡ cond (b && same_dir dir k) 1 0 + pins_at new q r k) → SlotAgrees new q r (cond b (slot_after (Unpinned dir) old) old)
+counted-down h new q r dir b old a body now = by dir b (now Read) (now Write) (a.first ∙ sym (body FirstHalf)) (a.second ∙ sym (body SecondHalf)) where
+  by : (z : Dir) (c : Bool) → pins_at h q r Read ≡ cond (c && same_dir z Read) 1 0 + pins_at new q r Read → pins_at h q r Write ≡ cond (c && same_dir z Write) 1 0 + pins_at new q r Write
+      → old.first ≡ body_at new q r FirstHalf → old.second ≡ body_at new q r SecondHalf → SlotAgrees new q r (cond c (slot_after (Unpinned z) old) old)
+  by Read true n m x y = record { reads = omega arith; writes = omega arith; first = x; second = y }
+  by Write true n m x y = record { reads = omega arith; writes = omega arith; first = x; second = y }
+  by z false n m x y = record { reads = omega arith; writes = omega arith; first = x; second = y }
 
 -- a live pin that is given back keeps what the core stands for, where the domain's mappings are those that it then has
 pub unpin-stands : (s : Setting) (h : History) (xs zs : List State) (x : State) (p : Held) (holder : Holder) (seen : Seen) (answer : Option Answer) (kept : HandleMap Held) (o : Option Open) → DomainsStand s h xs
@@ -284,12 +238,12 @@ pub unpin-stands : (s : Setting) (h : History) (xs zs : List State) (x : State) 
     → DomainsStand s (unpins x.id p holder seen answer ∷ h) zs
 unpin-stands s h xs zs x p holder seen answer kept o st here a becomes loses maps call given =
     keeps-stands s i h xs zs keeps st
-    (slots-stand s i h xs zs x kept o p.dom.0 p.gref.0 (Unpinned p.dir) keeps refl st here a becomes (λ z slots b is was. unpinned-slots h i p z slots b keeps shrinks is was) maps call given)
+    (slots-stand s i h xs zs x kept o p.dom.0 p.gref.0 (Unpinned p.dir) keeps refl st here a becomes (λ z slots b is was. moved-slots h i p (Unpinned p.dir) z slots b
+    (λ u r old w. counted-down h (i ∷ h) u r p.dir ((p.dom.0 == u) && (p.gref.0 == r)) old w (λ which. same-body i h u r which keeps) (λ k. shrunk-count h i p u r k shrinks)) is was) maps call given)
     (subst (All (IsLawful s)) (sym (unpinned-live h x.id p holder seen answer)) (subst (All (IsLawful s)) (sym loses.left) (all-drop (IsLawful s) loses.front loses.pin loses.back (subst (All (IsLawful s)) loses.is st.lawful))))
-    (λ t r within. let was = counts-fit s h t r (st.words t r within) in
-    (le-lt (reads_at (i ∷ h) t r) (reads_at h t r) (MAX_PINS + 1) (shrunk-le h i p t r Read shrinks) was.0, le-lt (writes_at (i ∷ h) t r) (writes_at h t r) (MAX_PINS + 1) (shrunk-le h i p t r Write shrinks) was.1))
-    (λ t r none. let was = st.free t r none in
-    (le-zero (reads_at (i ∷ h) t r) (reads_at h t r) (shrunk-le h i p t r Read shrinks) was.0, le-zero (writes_at (i ∷ h) t r) (writes_at h t r) (shrunk-le h i p t r Write shrinks) was.1))
+    (λ t r within. let was = counts-fit s h t r (st.words t r within) in let a = shrunk-le h i p t r Read shrinks in let b = shrunk-le h i p t r Write shrinks in
+    let c = was.0 in let d = was.1 in (omega arith, omega arith))
+    (λ t r none. let was = st.free t r none in let a = shrunk-le h i p t r Read shrinks in let b = shrunk-le h i p t r Write shrinks in let c = was.0 in let d = was.1 in (omega arith, omega arith))
   where
     i : Item
     i = unpins x.id p holder seen answer

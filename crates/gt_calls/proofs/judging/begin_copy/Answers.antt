@@ -1,5 +1,4 @@
-use Rattle.gt_calls.proofs.Words.{◌≡◌, refl, [], ◌∷◌, Option, None, ap, ◌∙◌, DomId, resolved, Verdict, first, knows, copy_denied}
-use Rattle.std.specs.Option.{option_or}
+use Rattle.gt_calls.proofs.Words.{◌≡◌, refl, [], ◌∷◌, Option, None, ap, ◌∙◌, DomId, resolved, Verdict, first, knows, copy_denied, option_or}
 use Rattle.gt_calls.proofs.judging.begin_copy.Goals as goal
 
 first-of-five : (a b c d e : Option Verdict) → option_or (option_or (option_or (option_or a b) c) d) e ≡ first (a ∷ b ∷ c ∷ d ∷ e ∷ [])

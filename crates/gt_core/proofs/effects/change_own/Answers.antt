@@ -1,5 +1,4 @@
-use Rattle.gt_core.proofs.Words.{sym, ap, ◌∙◌, with_own}
-use Rattle.gt_core.proofs.Rows.{set-state, changed-nowhere}
+use Rattle.gt_core.proofs.{Words.sym, Words.ap, Words.◌∙◌, Words.with_own, Rows.set-state, Rows.changed-nowhere}
 use Rattle.gt_core.proofs.effects.change_own.Goals as goal
 
 pub returns-in-Some : goal.returns-in-Some

@@ -1,5 +1,4 @@
-use Rattle.gt_core.proofs.Words.{sym, ap, ◌∙◌, without_mapping}
-use Rattle.gt_core.proofs.Rows.{set-state, changed-nowhere}
+use Rattle.gt_core.proofs.{Words.sym, Words.ap, Words.◌∙◌, Words.without_mapping, Rows.set-state, Rows.changed-nowhere}
 use Rattle.gt_core.proofs.effects.forget.Goals as goal
 
 pub returns-in-Some : goal.returns-in-Some

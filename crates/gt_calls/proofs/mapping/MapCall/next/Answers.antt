@@ -1,5 +1,4 @@
-use Rattle.gt_calls.proofs.Words.{CallerKnowledge}
-use Rattle.gt_calls.proofs.MapCalls.{map-goes}
+use Rattle.gt_calls.proofs.{Words.CallerKnowledge, Advancing.map-goes}
 use Rattle.gt_calls.proofs.mapping.MapCall.next.Goals as goal
 
 pub returns : goal.returns

@@ -1,5 +1,4 @@
-use Rattle.gt_calls.proofs.Words.{knows}
-use Rattle.gt_calls.proofs.MapCalls.{map-begins}
+use Rattle.gt_calls.proofs.{Words.knows, Advancing.map-begins}
 use Rattle.gt_calls.proofs.mapping.MapCall.open.Goals as goal
 
 pub returns-clause-begins : goal.returns-clause-begins

@@ -1,5 +1,4 @@
-use Rattle.gt_core.proofs.Words.{setting_of}
-use Rattle.gt_core.proofs.Playing.{begun-all, begin-does}
+use Rattle.gt_core.proofs.{Words.setting_of, Playing.begun-all, Playing.begin-does}
 use Rattle.gt_core.proofs.core_state.Core.begin.Goals as goal
 
 pub invariant_of-self : goal.invariant_of-self

@@ -1,5 +1,4 @@
-use Rattle.gt_core.proofs.Words.{setting_of, core_of}
-use Rattle.gt_core.proofs.Playing.{ticked-all}
+use Rattle.gt_core.proofs.{Words.setting_of, Words.core_of, Playing.ticked-all}
 use Rattle.gt_core.proofs.core_state.Core.tick.Goals as goal
 
 pub invariant_of-self : goal.invariant_of-self

@@ -1,7 +1,6 @@
-use Rattle.gt_core.proofs.Words.{sym, ◌∙◌, ap, Some, ◌≡◌, ℕ, List, refl, subst, None, Option, position, is_some, Open, with_call, given_by, State, kept_by, ◌<◌, ◌+◌, knowledge_of, setting_of, DomainsStand, Opens, same_Some, set, ◌∷◌}
-use Rattle.gt_core.specs.declared.machine.Opening.{Opening}
+use Rattle.gt_core.proofs.Words.{sym, ◌∙◌, ap, Some, ◌≡◌, ℕ, List, refl, subst, None, Option, position, is_some, Open, with_call, given_by, State, kept_by, ◌<◌, ◌+◌, knowledge_of, setting_of, DomainsStand, Opens, same_Some, set, ◌∷◌, Opening}
+use Rattle.gt_core.proofs.{Beginning.serial-left, Beginning.begin-wants, Beginning.begin-nowhere, Beginning.begin-busy, Beginning.begin-answers, Beginning.begin-opened, Beginning.place-at, Beginning.began, Rows.has_id, Rows.on-err}
 use Rattle.std.proofs.Common.{◌^◌}
-use Rattle.gt_core.proofs.Beginning.{serial-left, begin-wants, begin-nowhere, begin-busy, begin-answers, begin-opened, place-at, began, has_id, on-err}
 use Rattle.gt_core.proofs.machine.Machine.begin.Goals as goal
 
 pub returns-in_default-clause-stands : goal.returns-in_default-clause-stands

@@ -1,5 +1,4 @@
-use Rattle.gt_core.proofs.Words.{List, [], refl, sym, subst, State, DomainsStand, setting_of}
-use Rattle.gt_core.proofs.Starting.{starts}
+use Rattle.gt_core.proofs.{Words.List, Words.[], Words.refl, Words.sym, Words.subst, Words.State, Words.DomainsStand, Words.setting_of, Starting.starts}
 use Rattle.gt_core.proofs.machine.Machine.new.Goals as goal
 
 pub returns-clause-domains : goal.returns-clause-domains

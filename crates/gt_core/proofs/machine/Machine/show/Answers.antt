@@ -1,6 +1,5 @@
 use Rattle.gt_core.proofs.Words.{◌≡◌, ◌<◌, ◌≤◌, ℕ, List, Some, None, sym, ap, ◌∙◌, subst, position, size_of, State, setting_of}
-use Rattle.gt_core.proofs.Places.{has_id}
-use Rattle.gt_core.proofs.Showing.{shown-nowhere, shown-past, shown-there}
+use Rattle.gt_core.proofs.{Rows.has_id, Showing.shown-nowhere, Showing.shown-past, Showing.shown-there}
 use Rattle.gt_core.proofs.machine.Machine.show.Goals as goal
 
 pub returns-in_err-at : goal.returns-in_err-at

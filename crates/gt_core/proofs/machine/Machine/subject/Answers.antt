@@ -1,7 +1,6 @@
 use Rattle.gt_core.proofs.Words.{◌≡◌, List, Option, Some, None, sym, ap, ◌∙◌, position, Held, State, setting_of, place_of, Bor, option_copied}
 use Rattle.std.specs.Prelude.{option_map}
-use Rattle.gt_core.proofs.Places.{has_id}
-use Rattle.gt_core.proofs.Subjects.{subject-nowhere, subject-there}
+use Rattle.gt_core.proofs.{Rows.has_id, Showing.subject-nowhere, Showing.subject-there}
 use Rattle.gt_core.proofs.machine.Machine.subject.Goals as goal
 
 pub returns-in_err-at : goal.returns-in_err-at

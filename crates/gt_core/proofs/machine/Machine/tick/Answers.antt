@@ -1,7 +1,5 @@
 use Rattle.gt_core.proofs.Words.{sym, ◌∙◌, ap, Some, ◌≡◌, List, None, subst, length, position, slice_get, same_Some, sees, State, IsAdmitted, AccessedBy, FrameSet, setting_of}
-use Rattle.gt_core.proofs.Beginning.{begin-nowhere, tick-idle, place-at, has_id, on-err}
-use Rattle.gt_core.proofs.Applying.{slice-after}
-use Rattle.gt_core.proofs.Stepping.{Begins, tick-does, room-asked, tick-wants, tick-admitted, tick-readable, readable-after}
+use Rattle.gt_core.proofs.{Beginning.begin-nowhere, Beginning.tick-idle, Beginning.place-at, Rows.has_id, Rows.on-err, Settling.slice-after, Stepping.Begins, Stepping.tick-does, Stepping.room-asked, Stepping.tick-wants, Stepping.tick-admitted, Stepping.tick-readable, Stepping.readable-after}
 use Rattle.gt_core.proofs.machine.Machine.tick.Goals as goal
 
 pub returns-in_default-clause-stands : goal.returns-in_default-clause-stands

@@ -1,5 +1,4 @@
-use Rattle.gt_core.proofs.Words.{◌<◌, ◌≤◌, List, length, sym, ap, ◌∙◌, arith, Own, with_own, own_after}
-use Rattle.gt_core.proofs.Rows.{set-changed, changed-past}
+use Rattle.gt_core.proofs.{Words.◌<◌, Words.◌≤◌, Words.List, Words.length, Words.sym, Words.ap, Words.◌∙◌, Words.arith, Words.Own, Words.with_own, Words.own_after, Rows.set-changed, Rows.changed-past}
 use Rattle.gt_core.proofs.state.DomainState.change_own.Goals as goal
 
 pub returns-then-at-len : goal.returns-then-at-len

@@ -1,5 +1,4 @@
-use Rattle.gt_core.proofs.Words.{HandleMap, Held, ◌≡◌, None, subst, sym, ap, arith, Header, State, first_state, ENTRIES}
-use Rattle.gt_core.proofs.Settling.{at-rest}
+use Rattle.gt_core.proofs.{Words.HandleMap, Words.Held, Words.◌≡◌, Words.None, Words.subst, Words.sym, Words.ap, Words.arith, Words.Header, Words.State, Words.first_state, Words.ENTRIES, Settling.at-rest}
 use Rattle.gt_core.proofs.state.DomainState.new.Goals as goal
 
 pub returns : goal.returns
