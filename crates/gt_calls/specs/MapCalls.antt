@@ -1,5 +1,7 @@
 -- A map under way as the call that it is.
-use Rattle.std.specs.Prelude.{Some, None}
+use Rattle.std.specs.Prelude.{ℕ, Some, None}
+use Rattle.gt_types.specs.declared.DomId.{DomId}
+use Rattle.gt_types.specs.declared.GrantRef.{GrantRef}
 use Rattle.gt_calls.specs.declared.action.Action.TheVariants.{Step as Makes, Done}
 use Rattle.gt_calls.specs.declared.action.Seen.{Seen}
 use Rattle.gt_calls.specs.declared.action.Seen.TheVariants.{Nothing}
@@ -10,11 +12,21 @@ use Rattle.gt_calls.specs.declared.call.Phase.TheVariants.{Walking}
 use Rattle.gt_calls.specs.declared.copying.Aim.TheVariants.{Mapping}
 use Rattle.gt_calls.specs.declared.leg.LegNext.{LegNext}
 use Rattle.gt_calls.specs.declared.leg.LegNext.TheVariants.{Going, Refused as LegRefused, Pinned}
-use Rattle.gt_calls.specs.declared.mapping.MapCall.{MapCall}
+use Rattle.gt_calls.specs.declared.leg.Leg.{Leg}
+use Rattle.gt_calls.specs.declared.leg.LegPhase.{LegPhase}
 use Rattle.gt_calls.specs.declared.request.Asked.TheVariants.{Map}
 use Rattle.gt_calls.specs.Following.{Goes}
 use Rattle.gt_calls.specs.Machine.{ended_as, leg_step}
 use Rattle.gt_calls.specs.Rules.{CallerKnowledge}
+
+-- a map under way: what it asks, and where its leg is (own)
+pub record MapCall : Type 0 where
+  pub caller : DomId
+  pub dom : DomId
+  pub gref : GrantRef
+  pub flags : ℕ
+  pub leg : Leg
+  pub at : LegPhase
 
 -- the call that a map under way is (own)
 abbrev pub call_of : MapCall → Call

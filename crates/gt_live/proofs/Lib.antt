@@ -11,6 +11,7 @@ pub mod Knowing
 pub mod Once
 pub mod Accessing
 pub mod Maps
+pub mod Tries
 pub mod NewDomain
 pub mod Taking
 pub mod Copying

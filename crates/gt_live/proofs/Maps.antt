@@ -7,7 +7,7 @@ use Rattle.gt_words.specs.declared.view.View.{View}
 use Rattle.gt_calls.specs.Counting.{steps_to_come}
 use Rattle.gt_calls.specs.Following.{MakesStep as BeginsSo}
 use Rattle.gt_calls.specs.Machine.{leg_step}
-use Rattle.gt_calls.specs.MapCalls.{BeginsAs, GoesOnAs, call_of, ended, unmoved}
+use Rattle.gt_calls.specs.MapCalls.{BeginsAs, GoesOnAs, MapCall, call_of, ended, unmoved}
 use Rattle.gt_calls.specs.Path.{Continuation, after_beginning, ended as ends_so, makes, path, steps_of}
 use Rattle.gt_calls.specs.Rules.{CallerKnowledge, begun}
 use Rattle.gt_calls.specs.declared.action.Action.{Action}
@@ -21,7 +21,6 @@ use Rattle.gt_calls.specs.declared.call.Call.{Call}
 use Rattle.gt_calls.specs.declared.held.Held.{Held}
 use Rattle.gt_calls.specs.declared.leg.LegNext.TheVariants.{Going as GoesTo, Refused as LegRefused, Pinned as LegPinned}
 use Rattle.gt_calls.specs.declared.leg.LegPhase.{LegPhase}
-use Rattle.gt_calls.specs.declared.mapping.MapCall.{MapCall}
 use Rattle.gt_calls.specs.declared.request.Asked.{Asked}
 use Rattle.gt_calls.specs.declared.request.Asked.TheVariants as asks
 use Rattle.gt_live.specs.declared.driving.Effect.{Effect}

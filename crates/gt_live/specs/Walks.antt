@@ -1,5 +1,5 @@
 -- What a call adds to the steps of its seat: the actions of its path, one after another.
-use Rattle.std.specs.Prelude.{◌≡◌, ℕ, List, [], ◌∷◌, ◌++◌, Option, Some, None}
+use Rattle.std.specs.Prelude.{◌≡◌, ℕ, Bool, true, false, List, [], ◌∷◌, ◌++◌, Option, Some, None}
 use Rattle.gt_words.specs.Controls.{generation_of}
 use Rattle.gt_words.specs.Conditions.{IsNotEarlier, LooksAtHeader, LooksAtControl, LooksAtBody, IsWordOf, Pins}
 use Rattle.gt_words.specs.Conditions.{MissesPin, Unpins, StoresBody, StoresHeader, Changes, MissesChange, MissesBusy}
@@ -20,7 +20,11 @@ use Rattle.gt_words.specs.declared.view.SeatStep.TheVariants.{Entry, Header}
 use Rattle.gt_words.specs.declared.view.View.{View}
 use Rattle.gt_calls.specs.declared.action.Action.{Action}
 use Rattle.gt_calls.specs.declared.action.Action.TheVariants.{Step as Makes, Done}
+use Rattle.gt_entry.specs.Words.{control_of, is_kind}
 use Rattle.gt_entry.specs.declared.change.Change.TheVariants.{Publish, Revoke, Demote, Promote}
+use Rattle.gt_entry.specs.declared.change.Half.TheVariants.{First as FirstHalf, Second as SecondHalf}
+use Rattle.gt_entry.specs.declared.control.Kind.TheVariants.{Sub}
+use Rattle.gt_calls.specs.declared.leg.Leg.{Leg}
 use Rattle.gt_calls.specs.declared.action.Seen.{Seen}
 use Rattle.gt_calls.specs.declared.action.Seen.TheVariants.{Nothing, Word, Taken, Missed}
 use Rattle.gt_calls.specs.declared.action.Step.{Step}
@@ -72,6 +76,17 @@ Made k (Exchange q looked Demote) (Missed n) v w = MissesChange k q.0 Demote loo
 Made k (Exchange q looked Promote) Taken v w = Changes k q.0 Promote looked v w
 Made k (Exchange q looked Promote) (Missed n) v w = MissesChange k q.0 Promote looked n v w
 Made k _ _ v w = ⊥
+
+-- the second body word of the leg's entry was read where that is a sub-page, else it is taken as 0 (own)
+abbrev pub ReadsSecond : Bool → Layout → Leg → ℕ → View → View → Type 0
+ReadsSecond true k l second v w = Made k (LookBody l.dom l.gref SecondHalf) (Word second) v w
+ReadsSecond false k l second v w = (second ≡ 0) × (w ≡ v)
+
+-- the body words of the leg's entry were read, whose control word is this (own)
+abbrev pub ReadsBody : Layout → Leg → ℕ → ℕ → ℕ → View → View → Type 0
+ReadsBody k l word first second v w =
+    (u : View) × Made k (LookBody l.dom l.gref FirstHalf) (Word first) v u
+    × ReadsSecond (is_kind (control_of word).kind Sub) k l second u w
 
 -- the action is a step, which was made and showed this (own)
 abbrev pub MakesStep : Layout → Option Action → Seen → View → View → Type 0

@@ -1,12 +1,11 @@
 //! A call driven along its path, each of its steps made on the words.
-ghost use Rattle.std.specs.Prelude.{◌≡◌, ◌<◌, None, Some, [], ◌∷◌};
+ghost use Rattle.std.specs.Prelude.{◌≡◌, ◌<◌, None, Some, [], ◌∷◌, MatchResult};
 ghost use Rattle.gt_calls.specs.Rules.{knows, map_begun};
 ghost use Rattle.gt_calls.specs.Path.{path};
 ghost use Rattle.gt_calls.specs.Following.{MakesStep};
 ghost use Rattle.gt_calls.specs.Standing.{IsFresh};
-ghost use Rattle.gt_calls.specs.Machine.{leg_step};
 ghost use Rattle.gt_words.specs.Conditions.{IsSeatOf, IsSameSeat};
-ghost use Rattle.gt_live.specs.Walks.{Made, Called};
+ghost use Rattle.gt_live.specs.Walks.{Made, Called, ReadsBody};
 ghost use Rattle.gt_live.specs.Effects.{Answers, effect_of};
 ghost use Rattle.gt_live.specs.Ending.{IsAnswerTo, WaitsForNobody};
 ghost use Rattle.gt_live.specs.Driving.{CanMake, Knows, Leaves};
@@ -19,11 +18,13 @@ ghost use Rattle.gt_calls.specs.declared.request.CopyArgs.{CopyArgs};
 ghost use Rattle.gt_calls.specs.Standing.{held_by_call, pins_by_call};
 
 use gt_calls::{
-    Action, Call, Half, Held, Holder, Known, LegNext, LegPhase, MapCall, Place, Seen, Step, Verdict,
+    Action, Call, Half, Held, Holder, Known, Leg, MORE_TRIES, Place, Seen, Step, Verdict,
+    entry_refusal, every_map_begins_with_its_header, every_map_goes_on_by_its_leg, has_entry,
+    header_refusal, judge_control, judge_words, map_leg, pinned,
 };
-use gt_entry::{Change, Header};
+use gt_entry::{Change, Control, Header, Kind};
 use gt_handles::Handle;
-use gt_types::{Allows, Denial, DomId, GrantRef};
+use gt_types::{Allows, Denial, DomId, GrantRef, Rule};
 use gt_words::{Pin, Seat, Words};
 
 /// What the last step of a call did, beyond looking.
@@ -196,31 +197,79 @@ pub(crate) fn drive<P: Allows>(
     }
 }
 
-// Makes the step of a map's leg on the words.
+// The steps of a map's leg on the words, each as the step that it is.
 #[inline(always)]
-fn try_step(words: &Words, seat: &mut Seat, call: &MapCall) -> Seen
+fn look_at_header(words: &Words, seat: &mut Seat, dom: DomId) -> u64
     requires seat { IsSeatOf words.now seat.old }
-    requires can { CanMake words.now.layout seat.old.view (leg_step call.now.leg call.now.at) }
+    requires can { CanMake words.now.layout seat.old.view (Step.LookHeader dom) }
     ensures seat { IsSameSeat seat.old seat.new }
-    ensures made { Made words.now.layout (leg_step call.now.leg call.now.at) result seat.old.view seat.new.view }
+    ensures made { Made words.now.layout (Step.LookHeader dom) (Seen.Word result) seat.old.view seat.new.view }
 {
-    let (dom, gref) = (call.leg.dom, call.leg.gref);
-    match call.at {
-        LegPhase::Header => Seen::Word(words.load_header(seat, dom)),
-        LegPhase::Look { .. } | LegPhase::Relook { .. } => {
-            Seen::Word(words.load_control(seat, dom, gref))
+    words.load_header(seat, dom)
+}
+
+#[inline(always)]
+fn look_at_control(words: &Words, seat: &mut Seat, dom: DomId, gref: GrantRef) -> u64
+    requires seat { IsSeatOf words.now seat.old }
+    requires can { CanMake words.now.layout seat.old.view (Step.LookControl dom gref) }
+    ensures seat { IsSameSeat seat.old seat.new }
+    ensures made { Made words.now.layout (Step.LookControl dom gref) (Seen.Word result) seat.old.view seat.new.view }
+{
+    words.load_control(seat, dom, gref)
+}
+
+#[inline(always)]
+fn look_at_half(words: &Words, seat: &mut Seat, dom: DomId, gref: GrantRef, half: Half) -> u64
+    requires seat { IsSeatOf words.now seat.old }
+    requires can { CanMake words.now.layout seat.old.view (Step.LookBody dom gref half) }
+    ensures seat { IsSameSeat seat.old seat.new }
+    ensures made { Made words.now.layout (Step.LookBody dom gref half) (Seen.Word result) seat.old.view seat.new.view }
+{
+    words.load_body(seat, dom, gref, half)
+}
+
+// The body words of a try. The second is 0 where the entry is no sub-page.
+#[derive(Clone, Copy)]
+struct Body {
+    first: u64,
+    second: u64,
+}
+
+// Reads the body words of the leg's entry, whose control word is this: the second of a sub-page alone.
+#[inline(always)]
+fn look_at_body(words: &Words, seat: &mut Seat, leg: &Leg, word: u64) -> Body
+    requires seat { IsSeatOf words.now seat.old }
+    requires can { CanMake words.now.layout seat.old.view (Step.LookBody leg.now.dom leg.now.gref Half.First) }
+    ensures seat { IsSameSeat seat.old seat.new }
+    ensures read { ReadsBody words.now.layout leg.now word result.first result.second seat.old.view seat.new.view }
+{
+    let first = look_at_half(words, seat, leg.dom, leg.gref, Half::First);
+    match Control::unpack(word).kind {
+        Kind::Sub => {
+            let second = look_at_half(words, seat, leg.dom, leg.gref, Half::Second);
+            Body { first, second }
         }
-        LegPhase::Body { .. } => Seen::Word(words.load_body(seat, dom, gref, Half::First)),
-        LegPhase::Second { .. } => Seen::Word(words.load_body(seat, dom, gref, Half::Second)),
-        LegPhase::Pinning { word, .. } => match words.pin(seat, dom, gref, word, call.leg.dir) {
-            Ok(_) => Seen::Taken,
-            Err(found) => Seen::Missed(found),
-        },
+        _ => Body { first, second: 0 },
+    }
+}
+
+#[inline(always)]
+fn take_pin(words: &Words, seat: &mut Seat, held: &Held) -> Result<(), u64>
+    requires seat { IsSeatOf words.now seat.old }
+    requires can { CanMake words.now.layout seat.old.view (Step.Pin held.now) }
+    ensures seat { IsSameSeat seat.old seat.new }
+    ensures made { MatchResult result
+        (λ _. Made words.now.layout (Step.Pin held.now) Seen.Taken seat.old.view seat.new.view)
+        (λ n. Made words.now.layout (Step.Pin held.now) (Seen.Missed n) seat.old.view seat.new.view) }
+{
+    match words.pin(seat, held.dom, held.gref, held.word, held.dir) {
+        Ok(_) => Ok(()),
+        Err(found) => Err(found),
     }
 }
 
 // Drives a map that no rule answered at its beginning to its end: the pin that it took, or its refusal. Most calls of a
-// run are maps, so it makes room for the map's leg alone.
+// run are maps, so their steps are written out here, and a map needs no room for a machine.
 pub(crate) fn drive_map<P: Allows>(
     words: &Words,
     known: &Known<'_, P>,
@@ -239,14 +288,38 @@ pub(crate) fn drive_map<P: Allows>(
     ensures leaves { Leaves (knows P.may known.now) words.now.layout caller (asks.Map dom gref flags)
         seat.old.view seat.new.view (pin_effect result) }
 {
-    let mut call = MapCall::open(known, caller, dom, gref, flags);
-    'steps: loop {
-        let seen = try_step(words, seat, &call);
-        match call.next(seen) {
-            LegNext::Going(at) => call.at = at,
-            LegNext::Refused(denial) => return Err(denial),
-            LegNext::Pinned(held) => return Ok(held),
+    every_map_begins_with_its_header();
+    every_map_goes_on_by_its_leg();
+    let leg = map_leg(known, caller, dom, gref, flags);
+    let header = look_at_header(words, seat, leg.dom);
+    if !has_entry(&leg, header) {
+        return Err(header_refusal(leg.dom, header));
+    }
+    let mut more = MORE_TRIES;
+    'tries: loop {
+        let word = look_at_control(words, seat, leg.dom, leg.gref);
+        if let Some(rule) = judge_control(&leg, word) {
+            return Err(entry_refusal(leg.dom, leg.gref, rule, word));
         }
+        let body = look_at_body(words, seat, &leg, word);
+        let held = pinned(&leg, word, body.first, body.second);
+        let found = match judge_words(&leg, word, body.first, body.second) {
+            Some(rule) => {
+                let found = look_at_control(words, seat, leg.dom, leg.gref);
+                if found == word {
+                    return Err(entry_refusal(leg.dom, leg.gref, rule, word));
+                }
+                found
+            }
+            None => match take_pin(words, seat, &held) {
+                Ok(()) => return Ok(held),
+                Err(found) => found,
+            },
+        };
+        if more == 0 {
+            return Err(entry_refusal(leg.dom, leg.gref, Rule::N18, found));
+        }
+        more -= 1;
     }
 }
 
