@@ -1,0 +1,38 @@
+use Rattle.std.proofs.Common.{◌∙◌, Bool, ap, refl, subst, sym}
+use Rattle.gt_entry.specs.Words.{is_kind}
+use Rattle.gt_entry.specs.declared.control.Control.{Control}
+use Rattle.gt_entry.specs.declared.control.Kind.{Kind}
+use Rattle.gt_entry.specs.declared.control.Kind.TheVariants.{Sub}
+use Rattle.gt_live.specs.Walks.{ReadsSecond}
+use Rattle.gt_live.proofs.Making.{same_seat-then}
+use Rattle.gt_live.proofs.Tries.{no-sub}
+use Rattle.gt_live.proofs.driving.look_at_body.Goals as goal
+
+pub returns-in-Sub : goal.returns-in-Sub
+returns-in-Sub c =
+    let kind = ap (λ (x : Control). x.kind) (sym c.unpack.ensures.holds) ∙ c.in-Sub.is in
+    record {
+      seat = same_seat-then _ _ _ c.look_at_half-first.ensures.seat c.look_at_half-second.ensures.seat;
+      read = (
+        c.look_at_half-first.new.seat.view,
+        c.look_at_half-first.ensures.made,
+        subst (λ (b : Bool). ReadsSecond b c.args.words.now.layout c.args.leg.now c.look_at_half-second.result
+            c.look_at_half-first.new.seat.view c.look_at_half-second.new.seat.view)
+            (sym (ap (λ (x : Kind). is_kind x Sub) kind)) c.look_at_half-second.ensures.made,
+      );
+    }
+
+pub returns-in_default : goal.returns-in_default
+returns-in_default c =
+    let kind = ap (λ (x : Control). is_kind x.kind Sub) (sym c.unpack.ensures.holds)
+    ∙ no-sub c.unpack.result.kind c.in_default.not-Sub in
+    record {
+      seat = c.look_at_half-first.ensures.seat;
+      read = (
+        c.look_at_half-first.new.seat.view,
+        c.look_at_half-first.ensures.made,
+        subst (λ (b : Bool). ReadsSecond b c.args.words.now.layout c.args.leg.now 0
+            c.look_at_half-first.new.seat.view c.look_at_half-first.new.seat.view)
+            (sym kind) (refl, refl),
+      );
+    }
