@@ -43,40 +43,6 @@ mapped-bare (Some (Mapped handle)) = refl
 mapped-bare (Some (Bytes b)) = refl
 mapped-bare a = refl
 
-pub entry-bare : (h : History) (t r : ℕ) → entry_at (bare h) t r ≡ entry_at h t r
-unfolding entry_at bare
-entry-bare [] t r = refl
-entry-bare (i ∷ h) t r =
-    ap (λ (c : Option Change). entry_after (cond (i.actor.0 == t) c None) (entry_at (bare h) t r)) (happened-bare (λ x. change_at x r) (λ p a b seen. refl) (λ q r. refl) i.happened)
-    ∙ ap (λ (e : Entry). entry_after (change_of i t r) e) (entry-bare h t r)
-
-pub raises-bare : (h : History) (t r : ℕ) → raises_at (bare h) t r ≡ raises_at h t r
-unfolding raises_at bare
-raises-bare [] t r = refl
-raises-bare (i ∷ h) t r =
-    ap (λ (c : Option Change). raises_at (bare h) t r + raise_after (cond (i.actor.0 == t) c None)) (happened-bare (λ x. change_at x r) (λ p a b seen. refl) (λ q r. refl) i.happened)
-    ∙ ap (λ (n : ℕ). n + raise_after (change_of i t r)) (raises-bare h t r)
-
-pub body-bare : (h : History) (t r : ℕ) (which : Half) → body_at (bare h) t r which ≡ body_at h t r which
-unfolding body_at bare
-body-bare [] t r which = refl
-body-bare (i ∷ h) t r which =
-    ap (λ (o : Option ℕ). or_else (cond (i.actor.0 == t) o None) (body_at (bare h) t r which)) (happened-bare (λ x. stored_at x r which) (λ p a b seen. refl) (λ q r. refl) i.happened)
-    ∙ ap (λ (n : ℕ). or_else (cond (i.actor.0 == t) (stored_at i.happened r which) None) n) (body-bare h t r which)
-
-pub table-bare : (s : Setting) (h : History) (t : DomId) → table_at s (bare h) t ≡ table_at s h t
-unfolding table_at bare
-table-bare s [] t = refl
-table-bare s (i ∷ h) t =
-    ap (λ (o : Option Header). header_or (cond (i.actor.0 == t.0) o None) (table_at s (bare h) t)) (happened-bare header_stored (λ p a b seen. refl) (λ q r. refl) i.happened)
-    ∙ ap (λ (x : Header). header_or (cond (i.actor.0 == t.0) (header_stored i.happened) None) x) (table-bare s h t)
-
-pub maps-bare : (h : History) (d : ℕ) → maps_answered_at (bare h) d ≡ maps_answered_at h d
-unfolding maps_answered_at bare
-maps-bare [] d = refl
-maps-bare (i ∷ h) d = ap (λ (n : ℕ). cond (i.actor.0 == d) n 0 + maps_answered_at (bare h) d) (mapped-bare i.answer)
-    ∙ ap (λ (n : ℕ). cond (i.actor.0 == d) (one_if_mapped i.answer) 0 + n) (maps-bare h d)
-
 -- calls
 
 -- what is asked, without the key of a handle
@@ -119,14 +85,6 @@ after-bare i c = by i.answer where
   by None = with-bare i.happened c
   by (Some answer) = refl
 
-pub open-bare : (h : History) (d : ℕ) → open_call (bare h) d ≡ option_map bare_call (open_call h d)
-unfolding open_call bare
-open-bare [] d = refl
-open-bare (i ∷ h) d = by (open-bare h d) (i.actor.0 == d) where
-  by : open_call (bare h) d ≡ option_map bare_call (open_call h d) → (b : Bool) → cond b (underway_after (item_from (told_item i)) (open_call (bare h) d)) (open_call (bare h) d) ≡ option_map bare_call (cond b (underway_after i (open_call h d)) (open_call h d))
-  by same true = ap (underway_after (item_from (told_item i))) same ∙ after-bare i (open_call h d)
-  by same false = same
-
 pub values-bare : (c : Underway) → values (bare_call c) ≡ values c
 values-bare c = by c.steps where
   by : (ps : List (Step × Seen)) → map (λ (p : Step × Seen). p.1) (bare_steps ps) ≡ map (λ (p : Step × Seen). p.1) ps
@@ -139,14 +97,38 @@ given-in-bare : (c : Option Underway) → given_in (option_map bare_call c) ≡ 
 given-in-bare None = refl
 given-in-bare (Some c) = refl
 
-patches-bare : (h : History) (t f : ℕ) → patches_at (bare h) t f ≡ patches_at h t f
-unfolding patches_at bare
-patches-bare [] t f = refl
-patches-bare (i ∷ h) t f = ap (λ (w : Option Writing). patches_at (bare h) t f ++ patches_by w t f)
-    (happened-bare (λ x. written_by x (given_in (open_call (bare h) i.actor.0)) (λ u g. written (patches_at (bare h) u g))) (λ p a b seen. refl) (λ q r. refl) i.happened
-    ∙ ap (λ (bytes : List ℕ). written_by i.happened bytes (λ u g. written (patches_at (bare h) u g))) (ap given_in (open-bare h i.actor.0) ∙ given-in-bare (open_call h i.actor.0))
-    ∙ ap (λ (k : ℕ → ℕ → List ℕ). written_by i.happened (given_in (open_call h i.actor.0)) k) (fun_ext (λ u. fun_ext (λ g. ap written (patches-bare h u g)))))
-    ∙ ap (λ (ps : List Patch). ps ++ patches_by (written_by i.happened (given_in (open_call h i.actor.0)) (λ u g. written (patches_at h u g))) t f) (patches-bare h t f)
+cond-map : {A B : Type 0} (f : A → B) (b : Bool) (x y : B) (p q : A) → x ≡ f p → y ≡ f q → cond b x y ≡ f (cond b p q)
+cond-map f true x y p q e g = e
+cond-map f false x y p q e g = g
+
+-- what the history leaves, without keys
+pub record Bared (h : History) : Type 0 where
+  pub entry : (t r : ℕ) → entry_at (bare h) t r ≡ entry_at h t r
+  pub raises : (t r : ℕ) → raises_at (bare h) t r ≡ raises_at h t r
+  pub body : (t r : ℕ) (which : Half) → body_at (bare h) t r which ≡ body_at h t r which
+  pub table : (s : Setting) (t : DomId) → table_at s (bare h) t ≡ table_at s h t
+  pub maps : (d : ℕ) → maps_answered_at (bare h) d ≡ maps_answered_at h d
+  pub open_calls : (d : ℕ) → open_call (bare h) d ≡ option_map bare_call (open_call h d)
+  pub patches : (t f : ℕ) → patches_at (bare h) t f ≡ patches_at h t f
+
+pub bared : (h : History) → Bared h
+unfolding entry_at raises_at body_at table_at maps_answered_at open_call patches_at bare
+bared [] = record { entry = λ t r. refl; raises = λ t r. refl; body = λ t r which. refl; table = λ s t. refl; maps = λ d. refl; open_calls = λ d. refl; patches = λ t f. refl }
+bared (i ∷ h) = let b = bared h in let x = i.happened in let given = given_in (open_call h i.actor.0) in record {
+  entry = λ t r. ap (λ (c : Option Change). entry_after (cond (i.actor.0 == t) c None) (entry_at (bare h) t r)) (happened-bare (λ z. change_at z r) (λ p a b seen. refl) (λ q r. refl) x) ∙ ap (λ (e : Entry). entry_after (change_of i t r) e) (b.entry t r);
+  raises = λ t r. ap (λ (c : Option Change). raises_at (bare h) t r + raise_after (cond (i.actor.0 == t) c None)) (happened-bare (λ z. change_at z r) (λ p a b seen. refl) (λ q r. refl) x) ∙ ap (λ (n : ℕ). n + raise_after (change_of i t r)) (b.raises t r);
+  body = λ t r which. ap (λ (o : Option ℕ). or_else (cond (i.actor.0 == t) o None) (body_at (bare h) t r which)) (happened-bare (λ z. stored_at z r which) (λ p a b seen. refl) (λ q r. refl) x)
+      ∙ ap (λ (n : ℕ). or_else (cond (i.actor.0 == t) (stored_at x r which) None) n) (b.body t r which);
+  table = λ s t. ap (λ (o : Option Header). header_or (cond (i.actor.0 == t.0) o None) (table_at s (bare h) t)) (happened-bare header_stored (λ p a b seen. refl) (λ q r. refl) x) ∙ ap (λ (z : Header). header_or (cond (i.actor.0 == t.0) (header_stored x) None) z) (b.table s t);
+  maps = λ d. ap (λ (n : ℕ). cond (i.actor.0 == d) n 0 + maps_answered_at (bare h) d) (mapped-bare i.answer) ∙ ap (λ (n : ℕ). cond (i.actor.0 == d) (one_if_mapped i.answer) 0 + n) (b.maps d);
+  open_calls = λ d. cond-map (option_map bare_call) (i.actor.0 == d) (underway_after (item_from (told_item i)) (open_call (bare h) d)) (open_call (bare h) d) (underway_after i (open_call h d)) (open_call h d)
+      (ap (underway_after (item_from (told_item i))) (b.open_calls d) ∙ after-bare i (open_call h d)) (b.open_calls d);
+  patches = λ t f. ap (λ (w : Option Writing). patches_at (bare h) t f ++ patches_by w t f)
+      (happened-bare (λ z. written_by z (given_in (open_call (bare h) i.actor.0)) (λ u g. written (patches_at (bare h) u g))) (λ p a b seen. refl) (λ q r. refl) x
+      ∙ ap (λ (bytes : List ℕ). written_by x bytes (λ u g. written (patches_at (bare h) u g))) (ap given_in (b.open_calls i.actor.0) ∙ given-in-bare (open_call h i.actor.0))
+      ∙ ap (λ (k : ℕ → ℕ → List ℕ). written_by x given k) (fun_ext (λ u. fun_ext (λ g. ap written (b.patches u g)))))
+      ∙ ap (λ (ps : List Patch). ps ++ patches_by (written_by x given (λ u g. written (patches_at h u g))) t f) (b.patches t f);
+}
 
 pub contents-bare : (h : History) (t f : ℕ) → contents_at (bare h) t f ≡ contents_at h t f
-contents-bare h t f = ap written (patches-bare h t f)
+contents-bare h t f = ap written ((bared h).patches t f)

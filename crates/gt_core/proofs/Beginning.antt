@@ -1,7 +1,7 @@
 -- A beginning keeps what a core stands for.
 use Rattle.gt_core.proofs.Words.{arith, ◌≤◌, ◌≡◌, ◌≢◌, ◌<◌, ◌+◌, inl, inr, ℕ, refl, Bool, true, false, List, [], ◌∷◌, length, Option, Some, None, sym, ap, ◌∙◌, subst, get_or, set, reverse, eqb-true, true≢false, slice_get_read, same_Some, position-Some, nat_lt, nat_le, ◌==◌, ◌||◌, not, is_none, is_some, position, slice_get, domain_of, resolved, denial_of, DomId, TypeId, Read, Write, Perms, Triple, FRAME_SIZE, LAST_GENERATION, MAX_TABLE_FRAMES, Rule, N1, N5, N6, N9, N10, N16, Policy, Entry, Header, Change, ToReadOnly, ToWritable, Held, Request, CopyArgs, Asked, Grant, Revoke, Demote, Promote, Map, Unmap, Load, SetVersion, SetupTable, QuerySize, GetVersion, Store, Peek, Poke, Copy, Seen, Verdict, Given, Refused, FramesTold, Makes, Done, END_OF_SERIALS, Call, Phase, Walking, Accessing, Ending, Source, Dest, AtHeader, asked, begun_of, given_by, CallerKnowledge, first, refused_when, denied, unmap_denied, rights_to_map, rights_to_copy, size_of, begun, knowledge_of, frames_of, is_source_granted, is_dest_granted, opens, end_leg, action_at, at_dest, StandsAt, held_in, pins_at, GoesOn, Goes, Starts, path, Nothing, Step, Action, Rests, Pins, most_of, steps_left, Item, Began, Answer, AnswerDone, Open, State, state_of, kept_by, with_call, History, Setting, table_at, known_at, Underway, open_call, legs_at, one_if_mapped, LeavesAll, stood, AnsweredBy, GivesValue, refusal_in, refusal_of, IsRight, IsClean, phase_refusal, FitsAsked, PhaseStands, OpenAgrees, CallAgrees, FitsGiven, GivenAgrees, Agrees, StateAgrees, DomainsStand, Opens, numbered, misses, ◌^◌, MAX_MAPPINGS, N2, N3, N4, N7, N8, N20, N21, N22, N23, N24, field_refused, bytes_begun, IsSaid, granted_when, given_when, rights_to_unmap, rights_to_setup, rights_to_query, map_dir, is_already, change_begun, version_begun, setup_begun, query_begun, own_access_begun, is_version, has_valid, cannot_stand, is_for_reading, ends_named, ends_ranged, ends_owned, ends_framed, is_foreign, is_past_frames, first_phase, unmap_phase, load_phase, store_phase, IsFresh, IsAt, pins_by_call, MakesStep, steps_to_come, Frames, asks_memory, WantsMemory, IsOpened, answer_of, cond_both, All-nil, Field, first_refused, StartOpen, OpeningOpen}
 use Rattle.gt_calls.specs.{declared.held.Route.TheVariants.Own, Rules.is_invalid}
-use Rattle.gt_core.{specs.Standing.IsMapping, proofs.Keeping.KeepsEntries, proofs.Keeping.known-same, proofs.Keeping.open_call-own, proofs.Keeping.stood-own, proofs.Keeping.given-none, proofs.Keeping.quiet-stands, proofs.Others.KeepsKnown, proofs.Others.kept-known, proofs.Others.kept-legs, proofs.Placing.dest-placed, proofs.Phases.of-run, proofs.Rows.has_id, proofs.Rows.found, proofs.Rows.not-found, proofs.Rows.state_of-set}
+use Rattle.gt_core.{specs.Standing.IsMapping, proofs.Keeping.KeepsEntries, proofs.Keeping.known-same, proofs.Keeping.open_call-own, proofs.Keeping.stood-own, proofs.Keeping.given-none, proofs.Keeping.quiet-stands, proofs.Others.KeepsKnown, proofs.Others.kept-known, proofs.Others.kept-legs, proofs.Placing.dest-leads, proofs.Phases.of-run, proofs.Rows.has_id, proofs.Rows.found, proofs.Rows.not-found, proofs.Rows.state_of-set}
 use Rattle.gt_calls.specs.declared.request.Request.TheVariants as requests
 
 -- beginnings
@@ -52,7 +52,7 @@ first-place s h d (Peek frame off len) e = refl
 first-place s h d (Poke frame off len) e = refl
 first-place s h d (Copy c) e =
     cond_both (is_source_granted c) (Walking (Source c None) (end_leg (known_at s h d) d c.source Read c.len) AtHeader) (at_dest (known_at s h d) d c Own) (PhaseStands s h d (Copy c) [])
-    (λ a. (of-run (domain_of s.domains (resolved d c.source.domid)) (opens (known_at s h d) d (Copy c) e).source_of_run, tt)) (λ a. dest-placed s h d (Copy c) c Own [] refl e)
+    (λ a. (of-run (domain_of s.domains (resolved d c.source.domid)) (opens (known_at s h d) d (Copy c) e).source_of_run, tt)) (λ a. (dest-leads s h d (Copy c) c Own [] refl e).1)
 first-place s h d (SetVersion version) e = inl (refl, refl)
 first-place s h d (SetupTable frames) e = inr (refl, refl)
 first-place s h d (QuerySize dom) e = (dom, refl, refl)
@@ -284,15 +284,15 @@ pub closed-from : (o : Option Open) → is_some o ≡ false → o ≡ None
 closed-from None e = refl
 closed-from (Some o) e = absurd (true≢false e)
 
-begin-answered : (s : Setting) (h : History) (domains : List State) (dom : DomId) (at : ℕ) (x : State) (request : Request) (v : Verdict)
+pub begin-answers : (s : Setting) (h : History) (domains : List State) (dom : DomId) (at : ℕ) (x : State) (request : Request) (v : Verdict) (y : Answer) → y ≡ answer_of v
     → position (has_id dom.0) domains ≡ Some at → x ≡ get_or domains at x → is_some x.underway ≡ false
     → begun_of (knowledge_of s.domains s.first_generation s.may x.own x.header x.mappings) dom request ≡ Some v → DomainsStand s h domains
-    → (domain_of s.domains dom ≢ None) × IsRight s h (began dom request (Some (answer_of v))) × DomainsStand s (began dom request (Some (answer_of v)) ∷ h) domains
-begin-answered s h domains dom at x request v p here idle op st = let a = agrees-found s h domains dom at x p here st in
-    let f = found domains dom.0 at x p ∙ ap (λ (y : State). Some y) (sym here) in
-    let both = subst (λ (d : DomId). begun_of (knowledge_of s.domains s.first_generation s.may x.own x.header x.mappings) d request ≡ Some v → state_of domains d.0 ≡ Some x
-    → IsRight s h (began d request (Some (answer_of v))) × DomainsStand s (began d request (Some (answer_of v)) ∷ h) domains) a.1
-    (λ op g. let b = begin-done s h x request v a.2 (closed-from x.underway idle) op in (
+    → (domain_of s.domains dom ≢ None) × IsRight s h (began dom request (Some y)) × DomainsStand s (began dom request (Some y) ∷ h) domains
+begin-answers s h domains dom at x request v y e p here idle op st = let a = agrees-found s h domains dom at x p here st in
+    let f = found domains dom.0 at x p ∙ ap (λ (z : State). Some z) (sym here) in
+    let Both : DomId → Answer → Type 0 = λ d z. IsRight s h (began d request (Some z)) × DomainsStand s (began d request (Some z) ∷ h) domains in
+    let both = subst (λ (d : DomId). begun_of (knowledge_of s.domains s.first_generation s.may x.own x.header x.mappings) d request ≡ Some v → state_of domains d.0 ≡ Some x → Both d y) a.1
+    (λ op g. let b = begin-done s h x request v a.2 (closed-from x.underway idle) op in subst (Both x.id) (sym e) (
       b.0,
       quiet-stands s (began x.id request (Some (answer_of v))) h domains domains x x.underway x.given (began-entries x.id request (Some (answer_of v))) (began-keeps x.id request (Some (answer_of v)) (plain-unmapped v))
           refl st g a.2 (λ q. (cond_both (x.id.0 == q) (Some x) (state_of domains q) (λ o. state_of domains q ≡ o) (λ w. ap (state_of domains) (sym (eqb-true x.id.0 q w)) ∙ g) (λ w. refl))) b.1 b.2,
@@ -317,14 +317,6 @@ begin-opened s h domains dom at x request o fits p here idle op st =
 
 pub place-at : (domains : List State) (d at : ℕ) (x : State) → position (has_id d) domains ≡ Some at → x ≡ get_or domains at x → slice_get domains at ≡ Some x
 place-at domains d at x p here = slice_get_read domains (length domains) at x refl (position-Some (has_id d) domains at x p).0 here
-
-pub begin-answers : (s : Setting) (h : History) (domains : List State) (dom : DomId) (at : ℕ) (x : State) (request : Request) (v : Verdict) (y : Answer) → y ≡ answer_of v
-    → position (has_id dom.0) domains ≡ Some at → x ≡ get_or domains at x → is_some x.underway ≡ false
-    → begun_of (knowledge_of s.domains s.first_generation s.may x.own x.header x.mappings) dom request ≡ Some v → DomainsStand s h domains
-    → (domain_of s.domains dom ≢ None) × IsRight s h (began dom request (Some y)) × DomainsStand s (began dom request (Some y) ∷ h) domains
-begin-answers s h domains dom at x request v y e p here idle op st =
-    subst (λ (z : Answer). (domain_of s.domains dom ≢ None) × IsRight s h (began dom request (Some z)) × DomainsStand s (began dom request (Some z) ∷ h) domains) (sym e)
-    (begin-answered s h domains dom at x request v p here idle op st)
 
 -- a tick without a call
 pub tick-idle : (s : Setting) (h : History) (domains : List State) (dom : DomId) (at : ℕ) (x : State) → position (has_id dom.0) domains ≡ Some at → x ≡ get_or domains at x

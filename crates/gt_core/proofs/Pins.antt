@@ -1,6 +1,6 @@
 -- The live pins and the mappings are the same without keys, where each handle that is named is told by its serial.
 use Rattle.gt_core.proofs.Words.{◌≡◌, ◌+◌, ℕ, refl, Bool, true, false, List, [], ◌∷◌, ◌++◌, length, Option, Some, None, cond, sym, ap, ◌∙◌, subst, ◌==◌, ◌&&◌, count_by, is_some, option_map, eqb-true, sum_by-cons, fun_ext, DomId, Dir, Read, Write, Entry, Handle, Holder, ByMapping, ByLeg, Held, Seen, Taken, PinStep, Unpin, Answer, Mapped, Happened, Stepped, History, Setting, Pin, live, without, is_holder, same_handle, holder_after, gather, by_leg, by_mapping, pinned_by, unpinned_by, is_pin_on, reads_at, writes_at, mappings_at, mapping_of, entry_at, generation_at, word_at, known_at, domain_of, shown_at, subject_at, place_of, bare_handle, bare_happened, told, IsGiven, IsKnown, IsRun, AreAlike, map, map-append, length-map}
-use Rattle.gt_core.proofs.{Bare.bare-same, Bare.answer_from, Bare.bare, Bare.entry-bare, Bare.raises-bare, Bare.table-bare, Bare.maps-bare, Given.HeldGiven, Given.PinsGiven, Given.pins-given, Given.known-tells, Given.unpin-known}
+use Rattle.gt_core.proofs.{Bare.bare-same, Bare.answer_from, Bare.bare, Bare.bared, Given.HeldGiven, Given.PinsGiven, Given.pins-given, Given.known-tells, Given.unpin-known}
 
 abbrev pub bare_holder : Holder → Holder
 bare_holder (ByMapping handle) = ByMapping (bare_handle handle)
@@ -75,7 +75,7 @@ holder-bare a n = refl
 pinned-bare : (d : DomId) (x : Happened) (a : Option Answer) (h : History) (ps : List Pin)
     → pinned_by d (bare_happened x) (option_map answer_from (option_map told a)) (bare h) (bare_pins ps) ≡ bare_pins (pinned_by d x a h ps)
 pinned-bare d (Stepped (PinStep p) Taken) a h ps =
-    let l = legs-bare d.0 ps in let b = holder-bare a (length (gather by_leg d.0 ps)) in let e = entry-bare h p.dom.0 p.gref.0 in cc
+    let l = legs-bare d.0 ps in let b = holder-bare a (length (gather by_leg d.0 ps)) in let e = (bared h).entry p.dom.0 p.gref.0 in cc
 pinned-bare d (Stepped (Unpin p (ByMapping b)) seen) a h ps = refl
 pinned-bare d x a h ps = refl
 
@@ -107,7 +107,7 @@ writes-bare s h t r run = ap (λ (ps : List Pin). count_by (is_pin_on t r Write)
 
 pub word-bare : (s : Setting) (h : History) (t r : ℕ) → IsRun s h → word_at s (bare h) t r ≡ word_at s h t r
 word-bare s h t r run =
-    let e = entry-bare h t r in let g = raises-bare h t r in let n = reads-bare s h t r run in let m = writes-bare s h t r run in cc
+    let e = (bared h).entry t r in let g = (bared h).raises t r in let n = reads-bare s h t r run in let m = writes-bare s h t r run in cc
 
 -- mappings
 
@@ -151,14 +151,14 @@ mapping-bare s h d a run k = ap (λ (ms : List (Handle × Held)). mapping_of ms 
 
 -- what a domain knows by itself is the same, but for the keys of its mappings
 pub known-bare : (s : Setting) (h : History) (d : DomId) → IsRun s h → known_at s (bare h) d ≡ record (known_at s h d) { mapping = mapping_of (mappings_at (bare h) d.0) }
-known-bare s h d run = let e : ◌≡◌ {A = ℕ → Entry} (λ r. entry_at (bare h) d.0 r) (λ r. entry_at h d.0 r) = fun_ext (λ r. entry-bare h d.0 r) in
-    let g : ◌≡◌ {A = ℕ → ℕ} (λ r. generation_at s (bare h) d.0 r) (λ r. generation_at s h d.0 r) = fun_ext (λ r. ap (λ (n : ℕ). s.first_generation + n) (raises-bare h d.0 r)) in
-    let t = table-bare s h d in let m = maps-bare h d.0 in
+known-bare s h d run = let e : ◌≡◌ {A = ℕ → Entry} (λ r. entry_at (bare h) d.0 r) (λ r. entry_at h d.0 r) = fun_ext (λ r. (bared h).entry d.0 r) in
+    let g : ◌≡◌ {A = ℕ → ℕ} (λ r. generation_at s (bare h) d.0 r) (λ r. generation_at s h d.0 r) = fun_ext (λ r. ap (λ (n : ℕ). s.first_generation + n) ((bared h).raises d.0 r)) in
+    let t = (bared h).table s d in let m = (bared h).maps d.0 in
     let n : length (mappings_at (bare h) d.0) ≡ length (mappings_at h d.0) = ap length (mappings-bare s h d.0 run) ∙ length-map (mappings_at h d.0) (λ (m : Handle × Held). (bare_handle m.0, m.1)) in cc
 
 -- what an entry shows is the same
 shown-bare : (s : Setting) (h : History) (dom : DomId) (r : ℕ) → IsRun s h → shown_at s (bare h) dom r ≡ shown_at s h dom r
-shown-bare s h dom r run = let x = table-bare s h dom in let e = entry-bare h dom.0 r in let g = raises-bare h dom.0 r in
+shown-bare s h dom r run = let x = (bared h).table s dom in let e = (bared h).entry dom.0 r in let g = (bared h).raises dom.0 r in
     let n = reads-bare s h dom.0 r run in let m = writes-bare s h dom.0 r run in cc
 
 pub shown-alike : (s : Setting) (g h : History) (dom : DomId) (r : ℕ) → AreAlike s g h → shown_at s g dom r ≡ shown_at s h dom r

@@ -1,5 +1,5 @@
 -- What the core's steps see is what the history left.
-use Rattle.gt_core.proofs.Words.{◌≡◌, ◌<◌, ◌≤◌, ◌+◌, ◌%◌, ℕ, Bool, true, false, cond, List, ap, ◌∙◌, arith, ◌==◌, TABLE_ENTRIES, control_of, header_word, header_of, Header, State, History, Setting, word_at, control_at, DomainsStand, FitsTable, ◌*◌, ◌/◌, control-round, MAX_TABLE_FRAMES, ENTRIES_V1, ENTRIES_V2, ◌≢◌, zero, suc, refl, [], ◌∷◌, length, Option, Some, None, same_Some, slice_get, DomId, Entry, control_word, PinCounts, Own, Step, LookHeader, LookControl, LookBody, Exchange, Word, control_with, generation_in, Half, FirstHalf, SecondHalf, entry_at, generation_at, reads_at, body_at, table_at, seen_by, exchange_sees, Agrees, StateAgrees, control_seen, header_seen, body_seen, sees, reads_in, writes_in, body_in, slot_reads, slot_writes, slot_body, control_in, get_or, slice_get-get_or}
+use Rattle.gt_core.proofs.Words.{◌≡◌, ◌<◌, ◌≤◌, ◌+◌, ◌%◌, ℕ, Bool, true, false, cond, List, ap, ◌∙◌, arith, ◌==◌, TABLE_ENTRIES, control_of, header_word, header_of, Header, State, History, Setting, word_at, control_at, DomainsStand, FitsTable, ◌*◌, ◌/◌, control-round, MAX_TABLE_FRAMES, ENTRIES_V1, ENTRIES_V2, ◌≢◌, zero, suc, refl, [], ◌∷◌, length, Option, Some, None, same_Some, slice_get, DomId, Entry, control_word, PinCounts, Own, Step, LookHeader, LookControl, LookBody, Exchange, Word, control_with, generation_in, Half, FirstHalf, SecondHalf, entry_at, generation_at, reads_at, body_at, table_at, seen_by, exchange_sees, Agrees, StateAgrees, control_seen, header_seen, body_seen, sees, reads_in, writes_in, body_in, slot_reads, slot_writes, slot_body, control_in}
 use Rattle.gt_entry.specs.Words.{size_of}
 use Rattle.gt_calls.specs.declared.action.Step.TheVariants.{Pin}
 use Rattle.gt_core.specs.Standing.{state_of}
@@ -33,9 +33,10 @@ seen-state seen of d x more (y ∷ ys) e = more y ys ∙ by (y.id.0 == d) e (see
   by true k r = ap of (same_Some y x k)
   by false k r = r k
 
-slot-here : (s : Setting) (h : History) (x : State) (r : ℕ) → Agrees s h x → r < TABLE_ENTRIES → (slot : PinCounts) × (slice_get x.slots r ≡ Some slot)
-slot-here s h x r a within = let row : PinCounts = record { reads = 0; writes = 0; first = 0; second = 0 } in
-    (get_or x.slots r row, slice_get-get_or x.slots r row (let room : length x.slots ≡ TABLE_ENTRIES = a.room in omega arith))
+pub some-at : {A : Type 0} (xs : List A) (r : ℕ) → r < length xs → (x : A) × (slice_get xs r ≡ Some x)
+some-at [] r within = absurd (omega arith)
+some-at (x ∷ xs) zero within = (x, refl)
+some-at (x ∷ xs) (suc r) within = some-at xs r (omega arith)
 
 -- where there is a row, its generation is the entry's
 generation-there : (a b : ℕ) (own : List Own) (r : ℕ) → r < length own → generation_in a own r ≡ generation_in b own r
@@ -44,7 +45,7 @@ generation-there a b (x ∷ xs) zero within = refl
 generation-there a b (x ∷ xs) (suc r) within = generation-there a b xs r (omega arith)
 
 word-agrees : (s : Setting) (h : History) (x : State) (r : ℕ) → Agrees s h x → r < TABLE_ENTRIES → control_in x.own x.slots r ≡ word_at s h x.id.0 r
-word-agrees s h x r a within = let here = slot-here s h x r a within in let b = a.slots r here.0 here.1 in
+word-agrees s h x r a within = let here = some-at x.slots r (let room : length x.slots ≡ TABLE_ENTRIES = a.room in omega arith) in let b = a.slots r here.0 here.1 in
     ap (λ (e : Entry). control_word (control_with e (generation_in 0 x.own r) (reads_in x.slots r) (writes_in x.slots r))) (ap (λ (f : ℕ → Entry). f r) a.entries)
     ∙ ap (λ (g : ℕ). control_word (control_with (entry_at h x.id.0 r) g (reads_in x.slots r) (writes_in x.slots r)))
     (generation-there 0 s.first_generation x.own r (let rows : length x.own ≡ TABLE_ENTRIES = a.rows in omega arith) ∙ ap (λ (f : ℕ → ℕ). f r) a.generations)
@@ -52,8 +53,8 @@ word-agrees s h x r a within = let here = slot-here s h x r a within in let b = 
     ∙ ap (λ (n : ℕ). control_word (control_with (entry_at h x.id.0 r) (generation_at s h x.id.0 r) (reads_at h x.id.0 r) n)) (ap slot_writes here.1 ∙ b.writes)
 
 body-agrees : (s : Setting) (h : History) (x : State) (r : ℕ) (which : Half) → Agrees s h x → r < TABLE_ENTRIES → body_in x.slots r which ≡ body_at h x.id.0 r which
-body-agrees s h x r SecondHalf a within = let here = slot-here s h x r a within in ap (λ (o : Option PinCounts). slot_body o SecondHalf) here.1 ∙ (a.slots r here.0 here.1).second
-body-agrees s h x r FirstHalf a within = let here = slot-here s h x r a within in ap (λ (o : Option PinCounts). slot_body o FirstHalf) here.1 ∙ (a.slots r here.0 here.1).first
+body-agrees s h x r SecondHalf a within = let here = some-at x.slots r (let room : length x.slots ≡ TABLE_ENTRIES = a.room in omega arith) in ap (λ (o : Option PinCounts). slot_body o SecondHalf) here.1 ∙ (a.slots r here.0 here.1).second
+body-agrees s h x r FirstHalf a within = let here = some-at x.slots r (let room : length x.slots ≡ TABLE_ENTRIES = a.room in omega arith) in ap (λ (o : Option PinCounts). slot_body o FirstHalf) here.1 ∙ (a.slots r here.0 here.1).first
 
 -- the step is on an entry that there is
 abbrev pub IsWithin : List State → DomId → Step → Type 0

@@ -1,7 +1,7 @@
 -- What the core shows of an entry, and of a mapping, is what the history left.
-use Rattle.gt_core.proofs.Words.{◌≡◌, ℕ, Bool, List, Option, Some, None, cond, sym, ap, ◌∙◌, get_or, position, domain_of, DomId, DomainConfig, Handle, value_of, Held, State, History, Setting, mapping_of, mappings_at, DomainsStand, place_of, subject_at, ◌<◌, ◌≤◌, zero, suc, refl, true, false, [], ◌∷◌, length, arith, subst, lt-ltb, nat_lt, ◌&&◌, is_some, slice_get, TABLE_ENTRIES, Entry, Header, Own, PinCounts, size_of, row_entry, row_generation, entry_at, generation_at, reads_at, writes_at, table_at, shown_at, Agrees, shown_in, le-ltb}
+use Rattle.gt_core.proofs.Words.{◌≡◌, ℕ, Bool, List, Option, Some, None, cond, sym, ap, ◌∙◌, get_or, position, domain_of, DomId, DomainConfig, Handle, value_of, Held, State, History, Setting, mapping_of, mappings_at, DomainsStand, place_of, subject_at, ◌<◌, ◌≤◌, refl, true, false, [], length, arith, subst, lt-ltb, nat_lt, ◌&&◌, is_some, slice_get, TABLE_ENTRIES, Entry, Header, Own, PinCounts, size_of, row_entry, row_generation, entry_at, generation_at, table_at, shown_at, Agrees, shown_in, le-ltb, entry_shown}
 use Rattle.std.{proofs.Common.is_some, specs.Prelude.option_map}
-use Rattle.gt_core.proofs.{Beginning.begin-nowhere, Beginning.agrees-found, Rows.has_id, Seeing.table-fits}
+use Rattle.gt_core.proofs.{Beginning.begin-nowhere, Beginning.agrees-found, Rows.has_id, Seeing.table-fits, Seeing.some-at}
 
 some-domain : (o : Option DomainConfig) → (o ≡ None → ⊥) → is_some o ≡ true
 some-domain None n = absurd (n refl)
@@ -22,16 +22,11 @@ subject-there s h xs dom handle at x p here st = let a = agrees-found s h xs dom
 
 -- no domain has the number
 pub shown-nowhere : (s : Setting) (h : History) (xs : List State) (dom : DomId) (r : ℕ) → position (has_id dom.0) xs ≡ None → DomainsStand s h xs → None ≡ shown_at s h dom r
-shown-nowhere s h xs dom r p st =
-    sym (ap (λ (o : Option DomainConfig). cond (is_some o && nat_lt r (size_of (table_at s h dom)))
-    (Some (record { entry = entry_at h dom.0 r; generation = generation_at s h dom.0 r; reads = reads_at h dom.0 r; writes = writes_at h dom.0 r })) None) (begin-nowhere s h xs dom p st))
+shown-nowhere s h xs dom r p st = sym (ap (λ (o : Option DomainConfig). cond (is_some o && nat_lt r (size_of (table_at s h dom))) (Some (entry_shown s h dom r)) None) (begin-nowhere s h xs dom p st))
 
-shown-in-range : (s : Setting) (h : History) (dom : DomId) (r : ℕ) (b : Bool) → (domain_of s.domains dom ≡ None → ⊥) → nat_lt r (size_of (table_at s h dom)) ≡ b
-    → shown_at s h dom r ≡ cond b (Some (record { entry = entry_at h dom.0 r; generation = generation_at s h dom.0 r; reads = reads_at h dom.0 r; writes = writes_at h dom.0 r })) None
-shown-in-range s h dom r b some e =
-    ap (λ (c : Bool). cond (c && nat_lt r (size_of (table_at s h dom))) (Some (record { entry = entry_at h dom.0 r; generation = generation_at s h dom.0 r; reads = reads_at h dom.0 r; writes = writes_at h dom.0 r })) None)
-    (some-domain (domain_of s.domains dom) some)
-    ∙ ap (λ (c : Bool). cond c (Some (record { entry = entry_at h dom.0 r; generation = generation_at s h dom.0 r; reads = reads_at h dom.0 r; writes = writes_at h dom.0 r })) None) e
+shown-in-range : (s : Setting) (h : History) (dom : DomId) (r : ℕ) (b : Bool) → (domain_of s.domains dom ≡ None → ⊥) → nat_lt r (size_of (table_at s h dom)) ≡ b → shown_at s h dom r ≡ cond b (Some (entry_shown s h dom r)) None
+shown-in-range s h dom r b some e = ap (λ (c : Bool). cond (c && nat_lt r (size_of (table_at s h dom))) (Some (entry_shown s h dom r)) None) (some-domain (domain_of s.domains dom) some)
+    ∙ ap (λ (c : Bool). cond c (Some (entry_shown s h dom r)) None) e
 
 -- the reference is past the table
 pub shown-past : (s : Setting) (h : History) (xs : List State) (dom : DomId) (r at : ℕ) (x : State) → position (has_id dom.0) xs ≡ Some at → x ≡ get_or xs at x → size_of x.header ≤ r → DomainsStand s h xs → None ≡ shown_at s h dom r
@@ -39,24 +34,14 @@ shown-past s h xs dom r at x p here past st = let a = agrees-found s h xs dom at
     let size : size_of (table_at s h dom) ≤ r = subst (λ (d : DomId). size_of (table_at s h d) ≤ r) a.1 (subst (λ (z : Header). size_of z ≤ r) a.2.header past) in
     sym (shown-in-range s h dom r false a.0 (le-ltb r (size_of (table_at s h dom)) size))
 
-some-at : {A : Type 0} (xs : List A) (r : ℕ) → r < length xs → (x : A) × (slice_get xs r ≡ Some x)
-some-at [] r within = absurd (omega arith)
-some-at (x ∷ xs) zero within = (x, refl)
-some-at (x ∷ xs) (suc r) within = some-at xs r (omega arith)
-
-rows-show : (s : Setting) (h : History) (x : State) (r : ℕ) → Agrees s h x → r < TABLE_ENTRIES
-    → shown_in (slice_get x.own r) (slice_get x.slots r) ≡ Some (record { entry = entry_at h x.id.0 r; generation = generation_at s h x.id.0 r; reads = reads_at h x.id.0 r; writes = writes_at h x.id.0 r })
+rows-show : (s : Setting) (h : History) (x : State) (r : ℕ) → Agrees s h x → r < TABLE_ENTRIES → shown_in (slice_get x.own r) (slice_get x.slots r) ≡ Some (entry_shown s h x.id r)
 rows-show s h x r a within = let own = some-at x.own r (let n : length x.own ≡ TABLE_ENTRIES = a.rows in omega arith) in
     let slot = some-at x.slots r (let n : length x.slots ≡ TABLE_ENTRIES = a.room in omega arith) in
-    let b = a.slots r slot.0 slot.1 in
+    let reads = (a.slots r slot.0 slot.1).reads in let writes = (a.slots r slot.0 slot.1).writes in
     let entry : own.0.entry ≡ entry_at h x.id.0 r = sym (ap row_entry own.1) ∙ ap (λ (f : ℕ → Entry). f r) a.entries in
     let generation : own.0.generation ≡ generation_at s h x.id.0 r =
     sym (ap (row_generation s.first_generation) own.1) ∙ ap (λ (f : ℕ → ℕ). f r) a.generations in
-    ap (λ (o : Option Own). shown_in o (slice_get x.slots r)) own.1 ∙ ap (λ (o : Option PinCounts). shown_in (Some own.0) o) slot.1
-    ∙ ap (λ (e : Entry). Some (record { entry = e; generation = own.0.generation; reads = slot.0.reads; writes = slot.0.writes })) entry
-    ∙ ap (λ (n : ℕ). Some (record { entry = entry_at h x.id.0 r; generation = n; reads = slot.0.reads; writes = slot.0.writes })) generation
-    ∙ ap (λ (n : ℕ). Some (record { entry = entry_at h x.id.0 r; generation = generation_at s h x.id.0 r; reads = n; writes = slot.0.writes })) b.reads
-    ∙ ap (λ (n : ℕ). Some (record { entry = entry_at h x.id.0 r; generation = generation_at s h x.id.0 r; reads = reads_at h x.id.0 r; writes = n })) b.writes
+    ap (λ (o : Option Own). shown_in o (slice_get x.slots r)) own.1 ∙ ap (λ (o : Option PinCounts). shown_in (Some own.0) o) slot.1 ∙ (cc)
 
 -- an entry of the table
 pub shown-there : (s : Setting) (h : History) (xs : List State) (dom : DomId) (r at : ℕ) (x : State) → position (has_id dom.0) xs ≡ Some at → x ≡ get_or xs at x → r < size_of x.header → DomainsStand s h xs
@@ -65,5 +50,5 @@ shown-there s h xs dom r at x p here within st = let a = agrees-found s h xs dom
     let size : r < size_of (table_at s h dom) = subst (λ (d : DomId). r < size_of (table_at s h d)) a.1 (subst (λ (z : Header). r < size_of z) a.2.header within) in
     let most : size_of (table_at s h dom) ≤ TABLE_ENTRIES = (table-fits _ (st.tables dom)).0 in
     rows-show s h x r a.2 (omega arith)
-    ∙ ap (λ (d : DomId). Some (record { entry = entry_at h d.0 r; generation = generation_at s h d.0 r; reads = reads_at h d.0 r; writes = writes_at h d.0 r })) a.1
+    ∙ ap (λ (d : DomId). Some (entry_shown s h d r)) a.1
     ∙ sym (shown-in-range s h dom r true a.0 (lt-ltb r (size_of (table_at s h dom)) size))

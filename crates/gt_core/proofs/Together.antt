@@ -2,7 +2,7 @@
 use Rattle.gt_core.proofs.Words.{◌≡◌, ◌≢◌, ◌⊎◌, inl, inr, ℕ, refl, Bool, false, List, [], ◌∷◌, ◌++◌, length, Option, Some, None, sym, ap, ◌∙◌, subst, take, drop, option_map, none-some, same_Some, domain_of, DomId, DomainConfig, Denial, N6, MAX_TABLE_FRAMES, Header, header_word, Handle, asked, begun_of, CallerKnowledge, first, refused_when, unmap_denied, path, after_beginning, Held, Request, Asked, Map, Unmap, Load, Store, Peek, SetupTable, QuerySize, GetVersion, Holder, ByMapping, Seen, Word, Step, LookHeader, LookControl, LookBody, PinStep, Unpin, StoreHeader, Exchange, ReadBytes, WriteBytes, Action, Makes, Verdict, Answer, Event, Begin, Tick, Happened, Began, Stepped, Item, Element, Busy, Idle, NoDomain, Did, History, Setting, Underway, open_call, values, known_at, seen_by, exchange_sees, table_at, maps_answered_at, contents_at, mappings_at, mapping_of, MayDo, IsRight, StepsRight, StepsRightIn, AnsweredBy, GivesValue, refusal_of, refusal_in, verdict_in, gives_back, stood, bare_handle, bare_request, bare_event, bare_step, told, told_item, ToldItem, AsksKnown, IsOfKnown, IsRun, unmap_begun, load_begun, store_begun, Ends, BeginsRight, grown, told_items, SameHistory, HappensKnown, AreAlike, IsOf, SameEvent, SameElement}
 use Rattle.std.proofs.Common.{is_none}
 use Rattle.gt_calls.specs.Path.{by_mapping}
-use Rattle.gt_core.{specs.History.frame_of, proofs.Pins.word-bare, proofs.Pins.mapping-bare, proofs.Pins.known-bare, proofs.Bare.bare, proofs.Bare.bare_asked, proofs.Bare.bare_call, proofs.Bare.asked-bare, proofs.Bare.open-bare, proofs.Bare.values-bare, proofs.Bare.table-bare, proofs.Bare.body-bare, proofs.Bare.maps-bare, proofs.Bare.contents-bare, proofs.Bare.bare-same, proofs.Given.CallKnown, proofs.Given.open-known}
+use Rattle.gt_core.{specs.History.frame_of, proofs.Pins.word-bare, proofs.Pins.mapping-bare, proofs.Pins.known-bare, proofs.Bare.bare, proofs.Bare.bared, proofs.Bare.bare_asked, proofs.Bare.bare_call, proofs.Bare.asked-bare, proofs.Bare.values-bare, proofs.Bare.contents-bare, proofs.Bare.bare-same, proofs.Given.CallKnown, proofs.Given.open-known}
 use Rattle.gt_calls.specs.declared.request.Request.TheVariants as requests
 use Rattle.gt_core.specs.declared.trace.Answer.TheVariants as answers
 
@@ -57,9 +57,9 @@ begun-at s h d q run k = ap (λ (z : CallerKnowledge). begun_of z d (bare_reques
     ∙ begun-bare (known_at s h d) (mapping_of (mappings_at (bare h) d.0)) d q (finds-same s h d (asked q) run k)
 
 seen-at : (s : Setting) (h : History) (d : DomId) (step : Step) → IsRun s h → seen_by s (bare h) d step ≡ seen_by s h d step
-seen-at s h d (LookHeader dom) run = ap (λ (x : Header). Word (header_word x)) (table-bare s h dom)
+seen-at s h d (LookHeader dom) run = ap (λ (x : Header). Word (header_word x)) ((bared h).table s dom)
 seen-at s h d (LookControl dom gref) run = ap (λ (w : ℕ). Word w) (word-bare s h dom.0 gref.0 run)
-seen-at s h d (LookBody dom gref half) run = ap (λ (w : ℕ). Word w) (body-bare h dom.0 gref.0 half)
+seen-at s h d (LookBody dom gref half) run = ap (λ (w : ℕ). Word w) ((bared h).body dom.0 gref.0 half)
 seen-at s h d (PinStep p) run = ap (λ (w : ℕ). exchange_sees w p.word) (word-bare s h p.dom.0 p.gref.0 run)
 seen-at s h d (Exchange gref looked change) run = ap (λ (w : ℕ). exchange_sees w looked) (word-bare s h d.0 gref.0 run)
 seen-at s h d step run = refl
@@ -102,12 +102,12 @@ value-told s h d (GetVersion dom) step a v e = absurd v
 value-told s h d r step a v e = told-is a _ v
 
 value-at : (s : Setting) (h : History) (d : DomId) (r : Asked) (step : Option Step) → value_told s (bare h) d (bare_asked r) step ≡ value_told s h d r step
-value-at s h d (Map dom gref flags) (Some (PinStep p)) = ap (λ (n : ℕ). Some (inl (answers.Mapped (record { serial = n; key = 0 })))) (maps-bare h d.0)
+value-at s h d (Map dom gref flags) (Some (PinStep p)) = ap (λ (n : ℕ). Some (inl (answers.Mapped (record { serial = n; key = 0 })))) ((bared h).maps d.0)
 value-at s h d (Load a off len) (Some (ReadBytes t frame o n)) = ap (λ (l : List ℕ). Some (inr (take n (drop o l)))) (contents-bare h t.0 frame)
 value-at s h d (Peek f off len) (Some (ReadBytes t frame o n)) = ap (λ (l : List ℕ). Some (inr (take n (drop o l)))) (contents-bare h t.0 frame)
-value-at s h d (SetupTable frames) None = ap (λ (x : Header). Some (inl (answers.Frames x.frames))) (table-bare s h d)
-value-at s h d (QuerySize dom) (Some (LookHeader t)) = ap (λ (x : Header). Some (inl (answers.Size (record { frames = x.frames; max = MAX_TABLE_FRAMES })))) (table-bare s h t)
-value-at s h d (GetVersion dom) (Some (LookHeader t)) = ap (λ (x : Header). Some (inl (answers.Version x.version))) (table-bare s h t)
+value-at s h d (SetupTable frames) None = ap (λ (x : Header). Some (inl (answers.Frames x.frames))) ((bared h).table s d)
+value-at s h d (QuerySize dom) (Some (LookHeader t)) = ap (λ (x : Header). Some (inl (answers.Size (record { frames = x.frames; max = MAX_TABLE_FRAMES })))) ((bared h).table s t)
+value-at s h d (GetVersion dom) (Some (LookHeader t)) = ap (λ (x : Header). Some (inl (answers.Version x.version))) ((bared h).table s t)
 value-at s h d r step = refl
 
 unpin-value : (s : Setting) (h : History) (d : DomId) (r : Asked) (p : Held) (x y : Holder) → value_told s h d r (Some (Unpin p x)) ≡ value_told s h d r (Some (Unpin p y))
@@ -290,9 +290,9 @@ tick-at s h d (Some c) run k =
 -- and it does the same without keys
 pub does-bare : (s : Setting) (h : History) (e : Event) → IsRun s h → IsOfKnown h e → doing s (bare h) (bare_event e) ≡ doing s h e
 does-bare s h (Begin d q) run k =
-    ap (within (domain_of s.domains d)) (ap (begin_told s (bare h) d (bare_request q)) (open-bare h d.0) ∙ begin-at s h d q (open_call h d.0) run k)
+    ap (within (domain_of s.domains d)) (ap (begin_told s (bare h) d (bare_request q)) ((bared h).open_calls d.0) ∙ begin-at s h d q (open_call h d.0) run k)
 does-bare s h (Tick d) run k =
-    ap (within (domain_of s.domains d)) (ap (tick_told s (bare h) d) (open-bare h d.0) ∙ tick-at s h d (open_call h d.0) run (open-known s h d.0 run))
+    ap (within (domain_of s.domains d)) (ap (tick_told s (bare h) d) ((bared h).open_calls d.0) ∙ tick-at s h d (open_call h d.0) run (open-known s h d.0 run))
 
 inr-same : (a b : ToldItem) → ◌≡◌ {A = Element ⊎ ToldItem} (inr a) (inr b) → a ≡ b
 inr-same a b e = cc

@@ -1,7 +1,7 @@
 -- What an answer of a call is, by its last step.
-use Rattle.gt_core.proofs.Words.{◌≡◌, ◌⊎◌, inl, inr, ℕ, refl, Bool, true, false, List, [], ◌∷◌, length, Option, Some, cond, sym, ap, ◌∙◌, subst, eqb-true, ◌==◌, nat_lt, DomId, GrantRef, Denial, N18, N19, Entry, Invalid, Header, Change, ToReadOnly, ToWritable, control_of, header_of, header_word, Held, Asked, Map, ByMapping, ByLeg, Seen, Taken, Missed, Verdict, Granted, Given, Refused, FramesTold, Step, LookHeader, PinStep, Unpin, StoreBody, StoreHeader, Exchange, ReadBytes, WriteBytes, Action, Makes, Done, Aim, Mapping, AsksSize, AsksVersion, Phase, Storing, StoringSecond, Exchanging, Looking, Changing, Walking, Accessing, Asking, Last, Ending, Leg, LegPhase, Pinning, Pinned, last_first, pins_so_far, CallerKnowledge, path, held_of, is_stopped, Continuation, IsFor, RestsOnWord, RestsOnRequest, phase_after, action_at, leg_after, leg_step, after_store, refused_as, next_to_give, HasShown, IsQuiet, IsTurn, held_in, AnswerDone, State, History, Setting, word_at, table_at, known_at, seen_by, StepsSoFar, GivesValue, PhaseStands, EndsAfter, EndsCopy, answer_with, MAX_TABLE_FRAMES, ◌-◌, without_last, Size, Version, cond_both, FirstHalf, SecondHalf, first_body, second_body, CopyBytes, CopyArgs, Copy, LookControl, Pins}
+use Rattle.gt_core.proofs.Words.{◌≡◌, ◌⊎◌, inl, inr, ℕ, refl, Bool, true, false, List, [], ◌∷◌, length, Option, Some, cond, sym, ap, ◌∙◌, subst, eqb-true, ◌==◌, nat_lt, DomId, GrantRef, Denial, N18, N19, Entry, Invalid, Header, Change, ToReadOnly, ToWritable, control_of, header_of, header_word, Held, Asked, Map, ByMapping, ByLeg, Seen, Taken, Missed, Verdict, Granted, Given, Refused, FramesTold, Step, LookHeader, PinStep, Unpin, StoreBody, StoreHeader, Exchange, ReadBytes, WriteBytes, Action, Makes, Done, Aim, Mapping, AsksSize, AsksVersion, Phase, Storing, StoringSecond, Exchanging, Looking, Changing, Walking, Accessing, Asking, Last, Ending, Leg, LegPhase, Pinning, Pinned, last_first, pins_so_far, CallerKnowledge, path, held_of, is_stopped, Continuation, IsFor, RestsOnWord, RestsOnRequest, phase_after, action_at, leg_after, leg_step, after_store, refused_as, next_to_give, HasShown, IsQuiet, IsTurn, held_in, AnswerDone, State, History, Setting, word_at, table_at, known_at, seen_by, StepsSoFar, GivesValue, PhaseStands, EndsAfter, EndsCopy, answer_with, MAX_TABLE_FRAMES, ◌-◌, without_last, Size, Version, cond_both, FirstHalf, SecondHalf, first_body, second_body, CopyBytes, CopyArgs, Copy, LookControl, Pins, LegStands, legs_at, numbered, pins_at, reverse}
 use Rattle.gt_calls.specs.{declared.action.Verdict.TheVariants.Mapped, Path.place_of}
-use Rattle.gt_core.proofs.{Phases.OfAction, Phases.IsHere, Phases.makes-same, Phases.by-quiet, Judging.not-pinned, Outcomes.next_of, Outcomes.walk-done, Seeing.table-fits}
+use Rattle.gt_core.proofs.{Phases.OfAction, Phases.IsHere, Phases.makes-same, Phases.by-quiet, Judging.walk-comes, Legs.ComesTo, Legs.IsLegOf, Legs.Words, Aims.pair_of, Aims.leg-here, Phases.words-of, Outcomes.next_of, Outcomes.walk-done, Seeing.table-fits}
 
 -- the next phase of a call that stands at a question
 abbrev Next : Setting → History → DomId → Phase → Step → Verdict → Type 0
@@ -79,18 +79,19 @@ copy-end Q Granted e plain = plain.0
 copy-end Q (Refused denial) e plain = plain.1 denial
 copy-end Q v e plain = absurd e
 
-pinned-leg : (s : Setting) (h : History) (d : DomId) (l : Leg) (at : LegPhase) (m : Held) → leg_after l at (seen_by s h d (leg_step l at)) ≡ Pinned m → (leg_step l at ≡ PinStep m) × (word_at s h m.dom.0 m.gref.0 ≡ m.word)
-pinned-leg s h d l (Pinning more word body second) m e = by (word_at s h l.dom.0 l.gref.0 == word) refl where
+pinned-leg : (s : Setting) (h : History) (d : DomId) (r : Asked) (so_far : StepsSoFar) (aim : Aim) (l : Leg) (at : LegPhase) (m : Held) → Words s h l → IsFor (known_at s h d) d r aim l → IsLegOf s h d r l (pair_of d aim) → LegStands s h l so_far at
+    → leg_after l at (seen_by s h d (leg_step l at)) ≡ Pinned m → (leg_step l at ≡ PinStep m) × (word_at s h m.dom.0 m.gref.0 ≡ m.word)
+pinned-leg s h d r so_far aim l (Pinning more word body second) m ws is leg a e = by (word_at s h l.dom.0 l.gref.0 == word) refl where
   q : Held
   q = held_of l word body second
 
   by : (b : Bool) → (word_at s h l.dom.0 l.gref.0 == word) ≡ b → (PinStep q ≡ PinStep m) × (word_at s h m.dom.0 m.gref.0 ≡ m.word)
-  by true is =
-      let f : Pinned q ≡ Pinned m = sym (ap (λ (b : Bool). leg_after l (Pinning more word body second) (cond b Taken (Missed (word_at s h l.dom.0 l.gref.0)))) is) ∙ e in
-      let same : q ≡ m = cc in
-      (ap PinStep same, subst (λ (z : Held). word_at s h z.dom.0 z.gref.0 ≡ z.word) same (eqb-true (word_at s h l.dom.0 l.gref.0) word is))
-  by false is = absurd (not-pinned s h d l (Pinning more word body second) is m e)
-pinned-leg s h d l at m e = absurd (not-pinned s h d l at tt m e)
+  by true same =
+      let f : Pinned q ≡ Pinned m = sym (ap (λ (b : Bool). leg_after l (Pinning more word body second) (cond b Taken (Missed (word_at s h l.dom.0 l.gref.0)))) same) ∙ e in
+      let p : q ≡ m = cc in
+      (ap PinStep p, subst (λ (z : Held). word_at s h z.dom.0 z.gref.0 ≡ z.word) p (eqb-true (word_at s h l.dom.0 l.gref.0) word same))
+  by false same = absurd (subst (ComesTo s h l _ _) e (walk-comes s h d r so_far aim l (Pinning more word body second) ws is leg a same))
+pinned-leg s h d r so_far aim l at m ws is leg a e = absurd (subst (ComesTo s h l _ _) e (walk-comes s h d r so_far aim l at ws is leg a tt))
 
 of-map : (k : CallerKnowledge) (d : DomId) (r : Asked) (aim : Aim) (l : Leg) → IsFor k d r aim l → aim ≡ Mapping → (dom : DomId) × (gref : GrantRef) × (flags : ℕ) × (r ≡ Map dom gref flags)
 of-map k d r Mapping l a is = (a.dom, a.gref, a.flags, a.of_map)
@@ -99,7 +100,7 @@ of-map k d r aim l a is = cc
 -- a call that stands here, and is over after its step, ends so
 pub call-ends : (s : Setting) (h : History) (xs : List State) (d : DomId) (r : Asked) (shown : List Seen) (so_far : StepsSoFar) (phase : Phase) (step : Step) → IsHere s h xs d r shown so_far phase step
     → (v : Verdict) → Next s h d phase step v → EndsWith s h d r phase step v
-call-ends s h xs d r shown so_far phase step i = subst (OfAction (Led phase)) i.acts (by phase i.at.has_shown i.place i.acts) where
+call-ends s h xs d r shown so_far phase step i = subst (OfAction (Led phase)) i.acts (by phase i.at.has_shown i.place i.acts i.held) where
   k : CallerKnowledge
   k = known_at s h d
 
@@ -112,10 +113,10 @@ call-ends s h xs d r shown so_far phase step i = subst (OfAction (Led phase)) i.
   led : (p : Phase) (z : Step) → AtEnd (EndsWith s h d r p z) (action_at d (next_of s h d p z)) → Led p z
   led p z q v n = at-end (EndsWith s h d r p z) _ v q n
 
-  walked : (aim : Aim) (l : Leg) (at : LegPhase) (v : Verdict) → IsFor k d r aim l
+  walked : (aim : Aim) (l : Leg) (at : LegPhase) (v : Verdict) → IsFor k d r aim l → IsLegOf s h d r l (pair_of d aim) → LegStands s h l so_far at
       → ((denial : Denial) × (v ≡ Refused denial)) ⊎ ((p : Held) × (v ≡ Mapped p) × (leg_after l at (seen_by s h d (leg_step l at)) ≡ Pinned p) × (aim ≡ Mapping)) → EndsWith s h d r (Walking aim l at) (leg_step l at) v
-  walked aim l at v is (inl x) = subst (EndsWith s h d r (Walking aim l at) (leg_step l at)) (sym x.1) tt
-  walked aim l at v is (inr x) = let g = pinned-leg s h d l at x.0 x.2 in let map = of-map k d r aim l is x.3 in subst (EndsWith s h d r (Walking aim l at) (leg_step l at)) (sym x.1)
+  walked aim l at v is leg stands (inl x) = subst (EndsWith s h d r (Walking aim l at) (leg_step l at)) (sym x.1) tt
+  walked aim l at v is leg stands (inr x) = let g = pinned-leg s h d r so_far aim l at x.0 (words-of s h xs l i.st) is leg stands x.2 in let map = of-map k d r aim l is x.3 in subst (EndsWith s h d r (Walking aim l at) (leg_step l at)) (sym x.1)
       (record { is = g.0; taken = g.1; dom = map.0; gref = map.1; flags = map.2; of_map = map.3; none = ap (λ (z : Aim). last_first (pins_so_far z)) x.3 })
 
   ending : (pins : Pins) (verdict : Verdict) (held : List Held) → next_to_give held verdict ≡ Makes step → (copy : CopyArgs) × (r ≡ Copy copy) × EndsCopy verdict → Led (Ending pins verdict) step
@@ -123,24 +124,24 @@ call-ends s h xs d r shown so_far phase step i = subst (OfAction (Led phase)) i.
   ending pins verdict (q ∷ qs) f c = let z = Unpin q (ByLeg (length qs)) in let Q = EndsWith s h d r (Ending pins verdict) z in subst (Led (Ending pins verdict)) (makes-same z step f)
       (led (Ending pins verdict) z (give-end Q (last_first (without_last pins)) verdict (copy-end Q verdict c.2 (λ read. granted s h d r _ z c.1 refl, λ denial. tt))))
 
-  by : (p : Phase) → HasShown k (path k d r) d r shown p → PhaseStands s h d r so_far p → action_at d p ≡ Makes step → OfAction (Led p) (action_at d p)
-  by (Storing gref entry) a b e = led (Storing gref entry) (StoreBody gref FirstHalf (first_body entry)) (store-end _ k d gref entry)
-  by (StoringSecond gref entry) a b e = led (StoringSecond gref entry) (StoreBody gref SecondHalf (second_body entry)) tt
-  by (Exchanging gref looked change) a b e = let z = Exchange gref looked change in let Q = EndsWith s h d r (Exchanging gref looked change) z in led (Exchanging gref looked change) z
+  by : (p : Phase) → HasShown k (path k d r) d r shown p → PhaseStands s h d r so_far p → action_at d p ≡ Makes step → legs_at h d.0 ≡ numbered 0 (reverse (last_first (pins_at p))) → OfAction (Led p) (action_at d p)
+  by (Storing gref entry) a b e held = led (Storing gref entry) (StoreBody gref FirstHalf (first_body entry)) (store-end _ k d gref entry)
+  by (StoringSecond gref entry) a b e held = led (StoringSecond gref entry) (StoreBody gref SecondHalf (second_body entry)) tt
+  by (Exchanging gref looked change) a b e held = let z = Exchange gref looked change in let Q = EndsWith s h d r (Exchanging gref looked change) z in led (Exchanging gref looked change) z
       (cond_both (w gref == looked) Taken (Missed (w gref)) (λ v. AtEnd Q (action_at d (phase_after k d (Exchanging gref looked change) v))) (λ y read. once-value s h (path k d r) d r shown so_far gref looked change (Some z) a b) (λ y. tt))
-  by (Looking gref change more) a b e = let Q = EndsWith s h d r (Looking gref change more) (LookControl d gref) in led (Looking gref change more) (LookControl d gref)
+  by (Looking gref change more) a b e held = let Q = EndsWith s h d r (Looking gref change more) (LookControl d gref) in led (Looking gref change more) (LookControl d gref)
       (cond_both (is_stopped change (control_of (w gref))) (refused_as d gref N19 (w gref)) (Changing gref change more (w gref)) (λ p. AtEnd Q (action_at d p)) (λ y. tt) (λ y. tt))
-  by (Changing gref change more looked) a b e = let z = Exchange gref looked change in let Q = EndsWith s h d r (Changing gref change more looked) z in led (Changing gref change more looked) z
+  by (Changing gref change more looked) a b e held = let z = Exchange gref looked change in let Q = EndsWith s h d r (Changing gref change more looked) z in led (Changing gref change more looked) z
       (cond_both (w gref == looked) Taken (Missed (w gref)) (λ v. AtEnd Q (action_at d (phase_after k d (Changing gref change more looked) v))) (λ y read. turn-value s h d r gref change (Some z) a.1)
       (λ y. cond_both (nat_lt 0 more) (Looking gref change (more - 1)) (refused_as d gref N18 (w gref)) (λ p. AtEnd Q (action_at d p)) (λ x. tt) (λ x. tt)))
-  by (Walking aim l at) a b e = λ v n. walked aim l at v a.1 (walk-done k d aim l (leg_after l at (seen_by s h d (leg_step l at))) v n)
-  by (Accessing c source dest) a b e = let z = CopyBytes (place_of d c.source source) (place_of d c.dest dest) c.len in
+  by (Walking aim l at) a b e held = λ v n. walked aim l at v a.1 (leg-here s h d r aim l a.1 held) b.1 (walk-done k d aim l (leg_after l at (seen_by s h d (leg_step l at))) v n)
+  by (Accessing c source dest) a b e held = let z = CopyBytes (place_of d c.source source) (place_of d c.dest dest) c.len in
       led (Accessing c source dest) z (give-end (EndsWith s h d r (Accessing c source dest) z) (last_first (record { source = source; dest = dest })) Granted (λ read. granted s h d r _ z a.0 refl))
-  by (Asking dom AsksSize) a b e = let t = header_of (header_word (table_at s h dom)) in led (Asking dom AsksSize) (LookHeader dom)
+  by (Asking dom AsksSize) a b e held = let t = header_of (header_word (table_at s h dom)) in led (Asking dom AsksSize) (LookHeader dom)
       (subst (λ (z : Asked). GivesValue s h d z (Some (LookHeader dom)) (Size (record { frames = t.frames; max = MAX_TABLE_FRAMES }))) (sym b.1)
       (ap (λ (x : Header). Size (record { frames = x.frames; max = MAX_TABLE_FRAMES })) (table-fits _ (i.st.tables dom)).1))
-  by (Asking dom AsksVersion) a b e = let t = header_of (header_word (table_at s h dom)) in led (Asking dom AsksVersion) (LookHeader dom)
+  by (Asking dom AsksVersion) a b e held = let t = header_of (header_word (table_at s h dom)) in led (Asking dom AsksVersion) (LookHeader dom)
       (subst (λ (z : Asked). GivesValue s h d z (Some (LookHeader dom)) (Version t.version)) (sym b.1) (ap (λ (x : Header). Version x.version) (table-fits _ (i.st.tables dom)).1))
-  by (Last last verdict) a b e = λ v n. subst (EndsWith s h d r (Last last verdict) last) (last-next s h d last verdict v a.0 n) (last-ends s h d r (Last last verdict) last verdict a.0 a.1 b)
-  by (Ending pins verdict) a (inl none) e = absurd (let f : Done verdict ≡ Makes step = sym (ap (λ (l : List Held). next_to_give l verdict) none) ∙ e in cc)
-  by (Ending pins verdict) a (inr c) e = subst (OfAction (Led (Ending pins verdict))) (sym e) (ending pins verdict (last_first pins) e c)
+  by (Last last verdict) a b e held = λ v n. subst (EndsWith s h d r (Last last verdict) last) (last-next s h d last verdict v a.0 n) (last-ends s h d r (Last last verdict) last verdict a.0 a.1 b)
+  by (Ending pins verdict) a (inl none) e held = absurd (let f : Done verdict ≡ Makes step = sym (ap (λ (l : List Held). next_to_give l verdict) none) ∙ e in cc)
+  by (Ending pins verdict) a (inr c) e held = subst (OfAction (Led (Ending pins verdict))) (sym e) (ending pins verdict (last_first pins) e c)
