@@ -106,16 +106,16 @@ opened c k v caller dom gref flags leg law none is =
 pub header-refuses : (l : Leg) (word : ℕ) (has : Bool) (denial : Denial)
     → has ≡ nat_lt l.gref.0 (size_of (header_of word)) → has ≡ false → denial ≡ denial_of N9 (HeaderFacts l.dom word)
     → after_header l word ≡ LegRefused denial
-header-refuses l word has denial has_is no is =
+header-refuses l word has denial has_is lacks is =
     ap (λ (b : Bool). if b then GoesTo (Look MORE_TRIES) else LegRefused (denial_of N9 (HeaderFacts l.dom word)))
-    (sym has_is ∙ no)
+    (sym has_is ∙ lacks)
     ∙ ap (λ (d : Denial). LegRefused d) (sym is)
 
 pub header-passes : (l : Leg) (word : ℕ) (has : Bool) → has ≡ nat_lt l.gref.0 (size_of (header_of word))
     → has ≡ true → after_header l word ≡ GoesTo (Look MORE_TRIES)
-header-passes l word has has_is yes =
+header-passes l word has has_is holds =
     ap (λ (b : Bool). if b then GoesTo (Look MORE_TRIES) else LegRefused (denial_of N9 (HeaderFacts l.dom word)))
-    (sym has_is ∙ yes)
+    (sym has_is ∙ holds)
 
 -- what follows a first look at the control word
 pub look-refuses : (l : Leg) (more word : ℕ) (judged found : Option Rule) (rule : Rule) (denial : Denial)
