@@ -42,7 +42,7 @@ rounds_of() {
     *" load-"* | plain*) echo 500000 ;;
     *" "*-64) echo 100000 ;;
     *" "*-4096) echo 10000 ;;
-    live_bench*) echo 200000 ;; # 400,000 records, for as many of which `live_bench` makes room ahead
+    live_bench-on* | live_bench-ahead*) echo 200000 ;; # 400,000 records, for which `live_bench` makes room ahead
     *) echo 3000000 ;;
   esac
 }
