@@ -1,5 +1,5 @@
 -- A copy at its access: what its routes reach, what the policy allows of it, and how it is answered.
-use Rattle.std.proofs.Common.{◌≡◌, ℕ, ◌+◌, Bool, true, false, cond, refl, sym, ap, ◌∙◌, subst, List, [], ◌∷◌, ◌++◌, Option, Some, None, inl, inr}
+use Rattle.std.proofs.Common.{◌≡◌, ℕ, Bool, true, false, cond, refl, sym, ap, ◌∙◌, subst, List, [], ◌∷◌, ◌++◌, Option, Some, None, inl, inr}
 use Rattle.std.specs.Prelude.{IfErr, IfOk, Result, Ok, Err, is_none}
 use Rattle.gt_types.specs.declared.DomId.{DomId}
 use Rattle.gt_types.specs.declared.TypeId.{TypeId}
@@ -13,9 +13,7 @@ use Rattle.gt_types.specs.declared.Dir.TheVariants.{Read, Write}
 use Rattle.gt_types.specs.declared.Use.TheVariants.{Copy as ForCopy}
 use Rattle.gt_types.specs.declared.denial.Denial.{Denial}
 use Rattle.gt_types.specs.Names.{copy as copying, domain_of, resolved}
-use Rattle.gt_entry.specs.declared.entry.Entry.{Entry}
-use Rattle.gt_entry.specs.Entries.{frame_of}
-use Rattle.gt_entry.specs.Permits.{is_of_frame, permits}
+use Rattle.gt_entry.specs.Permits.{permits}
 use Rattle.gt_words.specs.Conditions.{SeatOf}
 use Rattle.gt_words.specs.Rule.{Layout}
 use Rattle.gt_words.specs.Views.{IsIn}
@@ -39,7 +37,7 @@ use Rattle.gt_calls.specs.Opening.{IsAllowed, IsOwnEnd, OpensCopy}
 use Rattle.gt_calls.specs.Path.{Continuation, dest_pair, path, source_pair}
 use Rattle.gt_calls.specs.declared.request.Asked.{Asked}
 use Rattle.gt_calls.specs.Resting.{IsReached, RestsOnWays}
-use Rattle.gt_calls.specs.Rules.{CallerKnowledge, denied, first, is_dest_granted, is_source_granted, label_of, refused_when, rights_to_copy, triples, via_judged}
+use Rattle.gt_calls.specs.Rules.{CallerKnowledge, denied, first, is_dest_granted, is_source_granted, label_of, refused_when, rights_to_copy, via_judged}
 use Rattle.gt_calls.specs.Standing.{pins_by_call}
 use Rattle.gt_live.specs.Accesses.{Accessed, AnsweredBy, IsCopiedBy, IsOfAccess, frame_named, spot_of}
 use Rattle.gt_live.specs.Underway.{AreOfRun, AtAccess, GivesBack, HasTaken}

@@ -1,12 +1,11 @@
 -- A copy on its way: its next step can be made, and where it stands after it.
-use Rattle.std.proofs.Common.{◌≡◌, ◌≢◌, ◌⊎◌, ℕ, ◌+◌, ◌-◌, ◌<◌, ◌==◌, ◌&&◌, Bool, true, false, cond, refl, sym, ap, ◌∙◌, subst, List, [], ◌∷◌, ◌++◌, length, zero, suc, Option, Some, None, inl, inr, arith, nat_lt, append_assoc}
-use Rattle.std.specs.Prelude.{IsSome, is_none}
+use Rattle.std.proofs.Common.{◌≡◌, ◌⊎◌, ℕ, ◌-◌, ◌<◌, ◌==◌, Bool, true, false, cond, refl, sym, ap, ◌∙◌, subst, List, [], ◌∷◌, ◌++◌, length, Option, Some, None, inl, inr, nat_lt, append_assoc}
+use Rattle.std.specs.Prelude.{IsSome}
 use Rattle.std.proofs.lemmas.Bool.{eqb-true}
 use Rattle.gt_types.specs.declared.DomId.{DomId}
 use Rattle.gt_types.specs.declared.GrantRef.{GrantRef}
 use Rattle.gt_types.specs.declared.Dir.{Dir}
 use Rattle.gt_types.specs.declared.Dir.TheVariants.{Read, Write}
-use Rattle.gt_types.specs.declared.Use.TheVariants.{Copy as ForCopy}
 use Rattle.gt_types.specs.declared.denial.Denial.{Denial}
 use Rattle.gt_types.specs.declared.denial.Facts.{Facts}
 use Rattle.gt_types.specs.declared.denial.Facts.TheVariants as facts
@@ -33,8 +32,7 @@ use Rattle.gt_words.specs.Views.{HasBody, Seen as Looks, last_seen, record_seen,
 use Rattle.gt_words.specs.declared.view.EntryRecord.{EntryRecord}
 use Rattle.gt_words.specs.declared.view.SeatStep.{SeatStep}
 use Rattle.gt_words.specs.declared.view.View.{View}
-use Rattle.gt_calls.specs.declared.action.Action.{Action}
-use Rattle.gt_calls.specs.declared.action.Action.TheVariants.{Step as Makes, Done}
+use Rattle.gt_calls.specs.declared.action.Action.TheVariants.{Step as Makes}
 use Rattle.gt_calls.specs.declared.action.Place.{Place}
 use Rattle.gt_calls.specs.declared.action.Seen.{Seen}
 use Rattle.gt_calls.specs.declared.action.Seen.TheVariants.{Nothing, Word, Taken, Missed}
@@ -42,7 +40,6 @@ use Rattle.gt_calls.specs.declared.action.Step.{Step}
 use Rattle.gt_calls.specs.declared.action.Step.TheVariants.{LookHeader, LookControl, LookBody, Pin, Unpin, StoreBody, StoreHeader, Exchange, Read as ReadBytes, Write as WriteBytes, Copy as CopyBytes}
 use Rattle.gt_calls.specs.declared.action.Verdict.{Verdict}
 use Rattle.gt_calls.specs.declared.action.Verdict.TheVariants.{Granted, Given, Mapped, Refused}
-use Rattle.gt_calls.specs.declared.call.Call.{Call}
 use Rattle.gt_calls.specs.declared.call.Phase.{Phase}
 use Rattle.gt_calls.specs.declared.call.Phase.TheVariants.{Storing, StoringSecond, Exchanging, Looking, Changing, Walking, Accessing, Asking, Last, Ending}
 use Rattle.gt_calls.specs.declared.copying.Aim.{Aim}
@@ -52,7 +49,7 @@ use Rattle.gt_calls.specs.declared.held.Pins.{Pins as HeldPins}
 use Rattle.gt_calls.specs.declared.held.Route.{Route}
 use Rattle.gt_calls.specs.declared.held.Route.TheVariants.{Own, Direct, Through}
 use Rattle.gt_calls.specs.declared.leg.Leg.{Leg}
-use Rattle.gt_calls.specs.declared.leg.LegNext.TheVariants.{Going, Refused as LegRefused, Pinned}
+use Rattle.gt_calls.specs.declared.leg.LegNext.TheVariants.{Going, Refused as LegRefused}
 use Rattle.gt_calls.specs.declared.leg.LegPhase.{LegPhase}
 use Rattle.gt_calls.specs.declared.leg.LegPhase.TheVariants.{Header, Look, Body, Second, Pinning, Relook}
 use Rattle.gt_calls.specs.declared.request.Asked.{Asked}
@@ -66,9 +63,7 @@ use Rattle.gt_calls.specs.Machine.{action_at, after_dest_pin, after_leg, after_l
 use Rattle.gt_calls.specs.Path.{Continuation, dest_pair, end_leg, entry_refusal, held_of, path, place_of, rule_of_try, second_leg, source_pair}
 use Rattle.gt_calls.specs.Resting.{HasRead, HasSeenTable, IsFor, IsForwarded, IsMapped, IsOnFrom, IsOfRun as IsNamed, Lets, Rests, RestsOnTry}
 use Rattle.gt_calls.specs.Rules.{CallerKnowledge, first_look, is_dest_granted, via_judged}
-use Rattle.gt_calls.specs.Standing.{held_in}
-use Rattle.gt_live.specs.Driving.{CanMake, IsSame, Knows}
-use Rattle.gt_live.specs.Ending.{IsWordless}
+use Rattle.gt_live.specs.Driving.{CanMake, Knows}
 use Rattle.gt_live.specs.Mappings.{HasPin, record_of}
 use Rattle.gt_live.specs.Underway.{AreOfRun, HasTaken, StandsInCopy, StandsWell}
 use Rattle.gt_live.specs.Walks.{CarriesFound, IsWalk, Made, after, shown}
@@ -78,7 +73,7 @@ use Rattle.gt_live.proofs.Can.{in-own, named-run, own-of-run}
 use Rattle.gt_live.proofs.Making.{IsLook, look-same, made-gains}
 use Rattle.gt_live.proofs.Once.{via-refused}
 use Rattle.gt_live.proofs.Rules.{none-stands, room-for}
-use Rattle.gt_live.proofs.Taking.{has-pin, holds-taken, of-run, taken-look, taken-pin, taken-unpin}
+use Rattle.gt_live.proofs.Taking.{has-pin, holds-taken, taken-look, taken-pin, taken-unpin}
 use Rattle.gt_live.proofs.Walking.{in-seen-table, made-last, read-page}
 
 -- what a seat saw of an entry whose words were read, the second body word of a sub-page alone

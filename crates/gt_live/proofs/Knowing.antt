@@ -1,12 +1,8 @@
 -- What a domain knows by itself at a call's beginning, and calls that are answered there.
-use Rattle.std.proofs.Common.{◌≡◌, ◌≢◌, ◌⊎◌, ℕ, ◌+◌, ◌*◌, ◌/◌, ◌%◌, ◌<◌, ◌≤◌, Bool, true, false, cond, refl, sym, ap, ◌∙◌, subst, List, [], ◌∷◌, length, map, suc, Option, Some, None, inl, inr, arith}
-use Rattle.std.specs.Prelude.{Result, Ok, Err, is_some}
+use Rattle.std.proofs.Common.{◌≡◌, ℕ, refl, sym, ap, ◌∙◌, subst, List, []}
+use Rattle.std.specs.Prelude.{is_some}
 use Rattle.gt_types.specs.declared.DomId.{DomId}
-use Rattle.gt_types.specs.declared.TypeId.{TypeId}
-use Rattle.gt_types.specs.declared.perms.Perms.{Perms}
 use Rattle.gt_types.specs.declared.config.Config.{Config}
-use Rattle.gt_types.specs.declared.config.DomainConfig.{DomainConfig}
-use Rattle.gt_types.specs.declared.denial.Denial.{Denial}
 use Rattle.gt_entry.specs.declared.header.Header.{Header}
 use Rattle.gt_types.specs.Config.{IsWithinLimits}
 use Rattle.gt_words.specs.Conditions.{Board, HasDomain}
@@ -15,12 +11,9 @@ use Rattle.gt_words.specs.Rule.{IsKeptHeader, Layout, layout_of}
 use Rattle.gt_words.specs.Views.{own_table}
 use Rattle.gt_words.specs.declared.view.View.{View}
 use Rattle.gt_handles.specs.declared.handles.Handle.{Handle}
-use Rattle.gt_handles.specs.Handles.{HandleMap, KeepsSpent}
+use Rattle.gt_handles.specs.Handles.{HandleMap}
 use Rattle.gt_handles.specs.Listing.{IsInserted}
-use Rattle.gt_words.specs.Conditions.{KeepsPins, SeatOf}
 use Rattle.gt_types.specs.declared.GrantRef.{GrantRef}
-use Rattle.gt_calls.specs.declared.request.Request.{Request}
-use Rattle.gt_live.specs.declared.monitor.Monitor.{Monitor}
 use Rattle.gt_calls.specs.declared.action.Value.{Value}
 use Rattle.gt_calls.specs.declared.action.Value.TheVariants as values
 use Rattle.gt_calls.specs.declared.action.Verdict.{Verdict}

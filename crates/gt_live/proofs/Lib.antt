@@ -8,6 +8,7 @@ pub mod Advancing
 pub mod RowsKept
 pub mod Kept
 pub mod Knowing
+pub mod Labels
 pub mod Once
 pub mod Accessing
 pub mod Maps

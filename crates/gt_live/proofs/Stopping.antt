@@ -1,12 +1,11 @@
 -- A copy driven to its access, and from there to its end.
-use Rattle.std.proofs.Common.{◌≡◌, ℕ, ◌+◌, ◌<◌, Bool, true, false, cond, refl, sym, ap, ◌∙◌, subst, List, [], ◌∷◌, ◌++◌, length, Option, Some, None, inl, inr, arith, append_assoc}
+use Rattle.std.proofs.Common.{◌≡◌, ℕ, ◌<◌, Bool, true, false, cond, refl, sym, ap, ◌∙◌, subst, List, [], ◌∷◌, ◌++◌, length, Option, Some, None, inl, arith, append_assoc}
 use Rattle.std.proofs.lemmas.List.{append-nil}
 use mathlib.Core.Path.{fun_ext}
 use Rattle.gt_types.specs.declared.DomId.{DomId}
 use Rattle.gt_types.specs.declared.denial.Denial.{Denial}
 use Rattle.gt_types.specs.declared.Dir.TheVariants.{Read}
 use Rattle.gt_words.specs.Rule.{Layout}
-use Rattle.gt_words.specs.declared.view.SeatStep.{SeatStep}
 use Rattle.gt_words.specs.declared.view.View.{View}
 use Rattle.gt_calls.specs.declared.action.Action.{Action}
 use Rattle.gt_calls.specs.declared.action.Action.TheVariants.{Step as Makes, Done}
@@ -36,13 +35,13 @@ use Rattle.gt_calls.specs.Counting.{steps_to_come}
 use Rattle.gt_calls.specs.Following.{FitsNext, Goes}
 use Rattle.gt_calls.specs.Holding.{last_first, without_last}
 use Rattle.gt_calls.specs.Machine.{action_at, at_dest, at_source, first_phase, leg_step, next_to_give, phase_after, standing_after}
-use Rattle.gt_calls.specs.Path.{Continuation, end_leg, give_back, path, place_of}
+use Rattle.gt_calls.specs.Path.{Continuation, end_leg, give_back, path}
 use Rattle.gt_calls.specs.Resting.{Rests}
 use Rattle.gt_calls.specs.Rules.{CallerKnowledge, is_source_granted}
 use Rattle.gt_calls.specs.Standing.{IsAt, IsFresh, held_by_call, held_in, pins_at, pins_by_call}
 use Rattle.gt_live.specs.Driving.{CanMake, Knows}
 use Rattle.gt_live.specs.Underway.{AreOfRun, AtAccess, EndsRefused, GivesBack, HasTaken, Returning, StandsWell, Underway}
-use Rattle.gt_live.specs.Walks.{Called, IsWalk, Made, MakesStep, after, shown, shown_by}
+use Rattle.gt_live.specs.Walks.{Called, Made, MakesStep, after, shown, shown_by}
 use Rattle.gt_live.proofs.Advancing.{same-call}
 use Rattle.gt_live.proofs.Copying.{IsCopy, Tries, can-walk, dest-stands, one-fewer, step-stands, tries-pin}
 use Rattle.gt_live.proofs.Making.{made-fits, made-gains, same-self}

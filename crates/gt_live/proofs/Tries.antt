@@ -13,7 +13,7 @@ use Rattle.gt_entry.specs.declared.control.Kind.{Kind}
 use Rattle.gt_entry.specs.declared.control.Kind.TheVariants.{Invalid, Page, Sub, Via}
 use Rattle.gt_words.specs.Rule.{Layout}
 use Rattle.gt_words.specs.declared.view.View.{View}
-use Rattle.gt_calls.specs.Machine.{after_body, after_header, after_look, after_miss, after_relook, after_words, leg_after, leg_step}
+use Rattle.gt_calls.specs.Machine.{after_header, after_look, after_miss, after_relook, after_words, leg_after, leg_step}
 use Rattle.gt_calls.specs.MapCalls.{BeginsAs, GoesOnAs, MapCall, call_of}
 use Rattle.gt_calls.specs.Path.{entry_refusal, held_of, map_leg, path, rule_of_try}
 use Rattle.gt_calls.specs.Rules.{CallerKnowledge, begun, first_look}

@@ -1,5 +1,5 @@
 -- What a domain keeps, how that agrees with what its seat did, and how its calls are answered.
-use Rattle.std.specs.Prelude.{◌≡◌, ◌⊎◌, ℕ, ◌<◌, ◌≤◌, Bool, length, List, [], ◌∷◌, Option, Some, None, Result, Ok, Err}
+use Rattle.std.specs.Prelude.{◌≡◌, ◌⊎◌, ℕ, ◌<◌, Bool, length, List, [], ◌∷◌, Option, Some, None, Result, Ok, Err}
 use Rattle.gt_types.specs.declared.DomId.{DomId}
 use Rattle.gt_types.specs.declared.TypeId.{TypeId}
 use Rattle.gt_types.specs.declared.GrantRef.{GrantRef}
@@ -37,8 +37,6 @@ use Rattle.gt_calls.specs.Path.{path, path_of}
 use Rattle.gt_calls.specs.Standing.{IsFresh}
 use Rattle.gt_calls.specs.Following.{MakesStep}
 use Rattle.gt_calls.specs.declared.call.Call.{Call}
-use Rattle.gt_calls.specs.declared.request.Asked.{Asked}
-use Rattle.gt_calls.specs.declared.request.Asked.TheVariants as asks
 use Rattle.gt_calls.specs.Rules.{CallerKnowledge, knowledge_of, entry_in, generation_in}
 use Rattle.gt_live.specs.declared.domain.Domain.{Domain}
 use Rattle.gt_live.specs.declared.domain.Left.{Left}

@@ -1,7 +1,6 @@
 -- A copy under way: the pins that it holds, and where it stops. The code's own
 -- representation. It is in specs/ because contracts cite it.
-use Rattle.std.specs.Prelude.{◌≡◌, ℕ, ◌+◌, ◌<◌, ◌==◌, ◌&&◌, Bool, cond, List, [], ◌∷◌, ◌++◌, Option, Some, None}
-use Rattle.gt_types.specs.declared.DomId.{DomId}
+use Rattle.std.specs.Prelude.{◌≡◌, ℕ, ◌<◌, ◌==◌, ◌&&◌, Bool, cond, List, [], ◌∷◌, ◌++◌, Some}
 use Rattle.gt_types.specs.declared.denial.Denial.{Denial}
 use Rattle.gt_types.specs.declared.limits.TheConstants.{TABLE_ENTRIES}
 use Rattle.gt_words.specs.Conditions.{HasDomain}
@@ -21,7 +20,6 @@ use Rattle.gt_calls.specs.declared.action.Verdict.TheVariants.{Granted, Refused}
 use Rattle.gt_calls.specs.declared.call.Call.{Call}
 use Rattle.gt_calls.specs.declared.call.Phase.{Phase}
 use Rattle.gt_calls.specs.declared.call.Phase.TheVariants.{Accessing, Ending, Walking}
-use Rattle.gt_calls.specs.declared.copying.Aim.{Aim}
 use Rattle.gt_calls.specs.declared.copying.Aim.TheVariants.{Source, Dest}
 use Rattle.gt_calls.specs.declared.held.Held.{Held}
 use Rattle.gt_calls.specs.declared.held.Pins.{Pins}
@@ -30,13 +28,13 @@ use Rattle.gt_calls.specs.declared.request.Asked.TheVariants.{Copy}
 use Rattle.gt_calls.specs.Following.{GoesOn}
 use Rattle.gt_calls.specs.Holding.{last_first}
 use Rattle.gt_calls.specs.Machine.{action_at, next_to_give}
-use Rattle.gt_calls.specs.Path.{Continuation, give_back, path}
+use Rattle.gt_calls.specs.Path.{give_back, path}
 use Rattle.gt_calls.specs.Resting.{Rests, RestsOnWays}
 use Rattle.gt_calls.specs.Rules.{CallerKnowledge}
 use Rattle.gt_calls.specs.Standing.{IsAt, held_by_call, held_in, pins_by_call}
 use Rattle.gt_live.specs.declared.driving.Stop.{Stop}
 use Rattle.gt_live.specs.declared.driving.Stop.TheVariants.{Done, Access}
-use Rattle.gt_live.specs.Accesses.{Accessed, ComesTo, onward}
+use Rattle.gt_live.specs.Accesses.{ComesTo, onward}
 use Rattle.gt_live.specs.Driving.{IsSame}
 use Rattle.gt_live.specs.Mappings.{record_of}
 use Rattle.gt_live.specs.Walks.{Called, CarriesFound, IsWalk, after, shown}

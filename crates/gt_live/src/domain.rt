@@ -24,7 +24,7 @@ use gt_calls::{
     judge_unmap,
 };
 use gt_entry::{Change, Entry};
-use gt_types::{Allows, Denial, DomId, Facts, GrantRef, Memory, Rule, Size};
+use gt_types::{Allows, Denial, DomId, Facts, GrantRef, Memory, Rule, Size, TypeId};
 use gt_words::Seat;
 use std::alloc::Global;
 
@@ -157,7 +157,7 @@ impl Domain {
     ghost use Rattle.gt_live.specs.Domains.{IsOpened, IsUnsettled, KeepsPinned, MapAnswered};
     ghost use Rattle.gt_live.specs.Domains.{Released, StaysOfRun};
     ghost use Rattle.gt_live.specs.Maps.{pin_effect, pin_verdict};
-    ghost use Rattle.gt_calls.specs.Rules.{knows, map_begun, unmap_begun};
+    ghost use Rattle.gt_calls.specs.Rules.{knows, label_of, map_begun, unmap_begun};
     ghost use Rattle.gt_calls.specs.declared.request.Asked.TheVariants as asks;
     ghost use Rattle.gt_live.specs.Domains.{known, verdict_of, verdict_of_frames, verdict_of_size};
     ghost use Rattle.gt_live.specs.Domains.{verdict_of_version};
@@ -616,18 +616,29 @@ impl Domain {
         result
     }
 
+    // Its label, which stands at its place in the configuration.
+    fn label<P: Allows>(&self, monitor: &Monitor<P>) -> TypeId
+        requires mine { IsOf P.may monitor.now self.now }
+        ensures { result ≡ label_of monitor.now.config.domains.items self.now.seat.dom }
+    {
+        monitor.config.domains[self.seat.position()].label
+    }
+
     // The verdict at the beginning of a map, if one is given there.
     fn judge_map<P: Allows>(&self, monitor: &Monitor<P>, dom: DomId, flags: u32) -> Option<Verdict>
+        requires mine { IsOf P.may monitor.now self.now }
         ensures { result ≡ map_begun (known P.may monitor.now self.now) self.now.seat.dom dom flags }
     {
-        judge_map(&self.known(monitor), self.seat.dom(), dom, flags)
+        let (caller, label) = (self.seat.dom(), self.label(monitor));
+        judge_map(&self.known(monitor), caller, label, dom, flags)
     }
 
     // The verdict at the beginning of an unmap, if one is given there.
     fn judge_unmap<P: Allows>(&self, monitor: &Monitor<P>, handle: Handle) -> Option<Verdict>
+        requires mine { IsOf P.may monitor.now self.now }
         ensures { result ≡ unmap_begun (known P.may monitor.now self.now) self.now.seat.dom handle }
     {
-        judge_unmap(&self.known(monitor), self.seat.dom(), handle)
+        judge_unmap(&self.known(monitor), self.label(monitor), handle)
     }
 
     // Gives a mapping up, without a record.

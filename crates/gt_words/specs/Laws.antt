@@ -134,13 +134,13 @@ position_or_len-id (x ∷ xs) (suc at) inside apart = let n = apart 0 (omega ari
     (ne_eqb x.0 (id_at xs at).0 n)
     ∙ (let e : 1 + position_or_len (λ (y : DomId). y.0 == (id_at xs at).0) xs ≡ suc at = omega arith in e)
 
-id_at-map : (xs : List DomainConfig) (i : ℕ) (d : DomainConfig) → i < length xs
+pub id_at-map : (xs : List DomainConfig) (i : ℕ) (d : DomainConfig) → i < length xs
     → id_at (map (λ y. y.id) xs) i ≡ (get_or xs i d).id
 id_at-map [] i d inside = absurd (omega arith)
 id_at-map (x ∷ xs) zero d inside = refl
 id_at-map (x ∷ xs) (suc i) d inside = id_at-map xs i d (omega arith)
 
-length-ids : (xs : List DomainConfig) → length (map (λ y. y.id) xs) ≡ length xs
+pub length-ids : (xs : List DomainConfig) → length (map (λ y. y.id) xs) ≡ length xs
 length-ids [] = refl
 length-ids (x ∷ xs) = ap suc (length-ids xs)
 

@@ -58,6 +58,13 @@ impl Seat {
         self.dom
     }
 
+    /// The place of its domain among those of the run.
+    pub fn position(&self) -> usize
+        ensures { result ≡ self.now.view.position }
+    {
+        self.position
+    }
+
     /// Its domain's header: the one that it stored last, or the one that it began with.
     pub fn header(&self) -> Header
         ensures value { result ≡ own_table self.now.view }

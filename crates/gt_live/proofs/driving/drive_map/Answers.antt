@@ -1,4 +1,4 @@
-use Rattle.std.proofs.Common.{◌≡◌, ◌∙◌, Option, None, Some, ap, subst, sym}
+use Rattle.std.proofs.Common.{◌≡◌, Option, None, Some, subst, sym}
 use Rattle.std.proofs.lemmas.Bool.{eq-eqb, ne_eqb}
 use Rattle.gt_types.specs.declared.denial.Rule.{Rule}
 use Rattle.gt_calls.specs.Rules.{knows}

@@ -1,11 +1,9 @@
-use Rattle.std.proofs.Common.{◌≡◌, ◌∙◌, ◌+◌, ◌<◌, ◌≤◌, ℕ, sym, ap, subst, refl, List, [], ◌∷◌, ◌++◌, length, get_or, Some, arith, inl, inr, length-append, length-drop, drop, Option, None, true, false}
+use Rattle.std.proofs.Common.{◌≡◌, ◌∙◌, ◌+◌, ◌<◌, ℕ, sym, ap, subst, refl, List, [], ◌∷◌, ◌++◌, length, get_or, Some, arith, inl, inr, length-append, length-drop, Option, None, true}
 use Rattle.std.specs.Prelude.{is_some, vec_capacity}
 use lib.ListN.{get_or-append}
 use Rattle.std.proofs.lemmas.Bool.{cases_eq}
-use Rattle.std.proofs.lemmas.List.Edits.{get_or-remove_above, length-remove}
 use Rattle.std.proofs.lemmas.List.Elements.{All-pop}
 use Rattle.gt_words.specs.Conditions.{IsNewSeat, SeatOf}
-use Rattle.gt_calls.specs.declared.known.Own.{Own}
 use Rattle.gt_live.specs.Starting.{first_rows, IsNewDomain}
 use Rattle.gt_live.specs.declared.domain.Domain.{Domain}
 use Rattle.gt_live.proofs.NewDomain.{new-domain}

@@ -1,4 +1,4 @@
-use Rattle.std.proofs.Common.{◌≡◌, subst}
+use Rattle.std.proofs.Common.{subst}
 use Rattle.gt_types.specs.declared.DomId.{DomId}
 use Rattle.gt_calls.specs.Following.{Starts}
 use Rattle.gt_calls.specs.Rules.{CallerKnowledge}

@@ -1,4 +1,4 @@
-use Rattle.std.proofs.Common.{◌≡◌, sym, subst, refl, []}
+use Rattle.std.proofs.Common.{sym, subst, refl, []}
 use Rattle.gt_calls.specs.Asking.{asked}
 use Rattle.gt_calls.specs.Path.{Continuation}
 use Rattle.gt_calls.specs.declared.request.Asked.{Asked}

@@ -1,4 +1,4 @@
-use Rattle.std.proofs.Common.{◌≡◌, ◌∙◌, sym, ap, subst, []}
+use Rattle.std.proofs.Common.{sym, subst, []}
 use Rattle.gt_types.specs.declared.DomId.{DomId}
 use Rattle.gt_entry.specs.declared.header.Header.{Header}
 use Rattle.gt_words.specs.Rule.{IsKeptHeader}

@@ -1,6 +1,5 @@
-use Rattle.std.proofs.Common.{◌≡◌, ◌∙◌, ◌+◌, ◌<◌, sym, ap, subst, refl, Some, None, Option}
+use Rattle.std.proofs.Common.{◌≡◌, ◌∙◌, ◌+◌, ◌<◌, sym, subst, refl, Some, None, Option}
 use Rattle.gt_types.specs.declared.limits.TheConstants.{TABLE_ENTRIES}
-use Rattle.gt_types.specs.declared.DomId.{DomId}
 use Rattle.std.specs.Option.{IsSome}
 use Rattle.std.specs.Prelude.{OnSome}
 use Rattle.gt_handles.specs.declared.handles.Handle.{Handle}
@@ -12,16 +11,13 @@ use Rattle.gt_words.specs.Rule.{position_in}
 use Rattle.gt_words.specs.declared.words.Pin.{Pin}
 use Rattle.gt_calls.specs.Asking.{begun_of}
 use Rattle.gt_calls.specs.Opening.{opens}
-use Rattle.gt_calls.specs.Rules.{CallerKnowledge, unmap_begun}
+use Rattle.gt_calls.specs.Rules.{unmap_begun}
 use Rattle.gt_calls.specs.declared.action.Step.TheVariants as steps
-use Rattle.gt_calls.specs.declared.action.Verdict.{Verdict}
 use Rattle.gt_calls.specs.declared.held.Held.{Held}
 use Rattle.gt_calls.specs.declared.request.Asked.TheVariants as asks
 use Rattle.gt_calls.specs.declared.request.Holder.TheVariants.{Mapping as ByHandle}
 use Rattle.gt_calls.specs.declared.request.Request.TheVariants as requests
-use Rattle.gt_live.specs.declared.domain.Domain.{Domain}
 use Rattle.gt_live.specs.Domains.{knowledge}
-use Rattle.gt_live.specs.Mappings.{Removes}
 use Rattle.gt_live.proofs.Accessing.{mapped-way, none-left, refused-called, refuses}
 use Rattle.gt_live.proofs.Kept.{some-pins, unmapped}
 use Rattle.gt_live.proofs.Making.{same_seat-self, still_seat}

@@ -1,4 +1,4 @@
-use Rattle.std.proofs.Common.{◌≡◌, ◌∙◌, sym, ap, subst, Some, None, Option}
+use Rattle.std.proofs.Common.{◌≡◌, ◌∙◌, sym, ap, subst, None}
 use Rattle.std.specs.Prelude.{IfOk}
 use Rattle.gt_types.specs.declared.DomId.{DomId}
 use Rattle.gt_types.specs.declared.Dir.TheVariants.{Read, Write}
@@ -17,7 +17,6 @@ use Rattle.gt_calls.specs.Resting.{RestsOnWays}
 use Rattle.gt_calls.specs.Rules.{begun}
 use Rattle.gt_calls.specs.Standing.{pins_by_call}
 use Rattle.gt_handles.specs.Handles.{HandleMap}
-use Rattle.gt_live.specs.declared.domain.Domain.{Domain}
 use Rattle.gt_live.specs.Accesses.{frame_named, spot_of}
 use Rattle.gt_live.specs.Domains.{knowledge}
 use Rattle.gt_live.proofs.Copied.{made-whole, may-copy, reaches-dest, reaches-source}

@@ -1,14 +1,11 @@
-use Rattle.std.proofs.Common.{◌≡◌, ◌∙◌, ◌≤◌, ◌+◌, ◌<◌, ℕ, sym, ap, subst, refl, Some, None, Option, inl, inr}
+use Rattle.std.proofs.Common.{◌≡◌, ◌∙◌, ◌≤◌, ◌+◌, ◌<◌, sym, ap, subst, refl, Some, None, inl, inr}
 use Rattle.std.specs.Prelude.{Result, Ok, Err, OnOk, false, ◌^◌}
 use Rattle.std.specs.Result.{is_err}
-use Rattle.gt_types.specs.declared.DomId.{DomId}
-use Rattle.gt_words.specs.Conditions.{KeepsPins}
 use Rattle.gt_handles.specs.Handles.{HandleMap, KeepsSpent}
 use Rattle.gt_handles.specs.Listing.{IsInserted}
 use Rattle.gt_calls.specs.Asking.{begun_of}
 use Rattle.gt_calls.specs.Path.{path}
 use Rattle.gt_calls.specs.Rules.{CallerKnowledge, map_begun}
-use Rattle.gt_calls.specs.declared.action.Verdict.{Verdict}
 use Rattle.gt_calls.specs.declared.held.Held.{Held}
 use Rattle.gt_calls.specs.declared.request.Asked.TheVariants as asks
 use Rattle.gt_calls.specs.declared.request.Request.TheVariants as requests

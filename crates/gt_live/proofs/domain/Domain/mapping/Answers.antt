@@ -3,8 +3,7 @@ use Rattle.std.specs.Prelude.{IfSome}
 use Rattle.gt_access.specs.Routes.{MayAccess}
 use Rattle.gt_calls.specs.declared.held.Held.{Held}
 use Rattle.gt_calls.specs.declared.held.Route.TheVariants.{Direct}
-use Rattle.gt_handles.specs.Handles.{value_of}
-use Rattle.gt_live.specs.Mappings.{IsMappingOf, ReachesItsFrame}
+use Rattle.gt_live.specs.Mappings.{ReachesItsFrame}
 use Rattle.gt_live.proofs.Accessing.{reaches-its-frame}
 use Rattle.gt_live.proofs.domain.Domain.mapping.Goals as goal
 

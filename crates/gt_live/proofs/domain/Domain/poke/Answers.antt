@@ -5,7 +5,7 @@ use Rattle.gt_types.specs.declared.config.DomainConfig.{DomainConfig}
 use Rattle.gt_calls.specs.Rules.{own_access_begun}
 use Rattle.gt_calls.specs.declared.action.Step.TheVariants as steps
 use Rattle.gt_calls.specs.declared.request.Request.TheVariants as requests
-use Rattle.gt_live.specs.Accesses.{IsReadBy, IsWrittenBy, frame_named}
+use Rattle.gt_live.specs.Accesses.{IsWrittenBy, frame_named}
 use Rattle.gt_live.specs.Domains.{knowledge}
 use Rattle.gt_live.proofs.Accessing.{none-left, one-access, own-way, refused-access}
 use Rattle.gt_access.specs.Accesses.{writing_at}

@@ -1,4 +1,4 @@
-use Rattle.std.proofs.Common.{◌≡◌, ◌∙◌, ◌+◌, ◌<◌, ℕ, sym, ap, subst, refl, [], ◌∷◌, Some, None, arith}
+use Rattle.std.proofs.Common.{◌<◌, sym, subst, refl, [], ◌∷◌}
 use Rattle.gt_types.specs.declared.limits.TheConstants.{TABLE_ENTRIES}
 use Rattle.gt_words.specs.Conditions.{HasDomain, Holds, Unpins}
 use Rattle.gt_words.specs.Controls.{generation_of}

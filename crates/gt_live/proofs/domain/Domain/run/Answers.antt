@@ -1,4 +1,4 @@
-use Rattle.std.proofs.Common.{◌≡◌, ◌∙◌, ap, subst, refl, List}
+use Rattle.std.proofs.Common.{◌∙◌, ap, subst, List}
 use Rattle.std.specs.Vec.{with_items}
 use Rattle.std.proofs.lemmas.List.{with_items_is}
 use Rattle.gt_types.specs.declared.GrantRef.{GrantRef}
@@ -7,7 +7,6 @@ use Rattle.gt_handles.specs.Handles.{HandleMap}
 use Rattle.gt_calls.specs.declared.held.Held.{Held}
 use Rattle.gt_calls.specs.declared.known.Own.{Own}
 use Rattle.gt_live.specs.declared.driving.Effect.{Effect}
-use Rattle.gt_live.specs.declared.driving.Effect.TheVariants.{Changed}
 use Rattle.gt_live.specs.Domains.{knowledge}
 use Rattle.gt_live.specs.Driving.{ChangesBy, IsSame, Leaves}
 use Rattle.gt_live.specs.Rows.{row_changed}

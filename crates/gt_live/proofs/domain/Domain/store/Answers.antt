@@ -1,20 +1,14 @@
-use Rattle.std.proofs.Common.{◌≡◌, ◌∙◌, sym, ap, subst, refl, Some, Option, length}
+use Rattle.std.proofs.Common.{◌≡◌, ◌∙◌, sym, ap, subst, refl, Some, length}
 use Rattle.std.specs.Prelude.{IfOk, ℕ, option_copied}
 use Rattle.gt_access.specs.Accesses.{writing_at}
 use Rattle.gt_frames.specs.Receipts.{Writing}
-use Rattle.gt_types.specs.declared.DomId.{DomId}
 use Rattle.gt_types.specs.declared.Dir.TheVariants as dirs
 use Rattle.gt_entry.specs.Entries.{frame_of}
 use Rattle.gt_calls.specs.declared.action.Step.TheVariants as steps
-use Rattle.gt_calls.specs.declared.action.Verdict.{Verdict}
-use Rattle.gt_calls.specs.declared.action.Verdict.TheVariants.{Granted}
 use Rattle.gt_calls.specs.declared.held.Held.{Held}
-use Rattle.gt_calls.specs.declared.request.Asked.TheVariants as asks
 use Rattle.gt_calls.specs.declared.request.Request.TheVariants as requests
-use Rattle.gt_calls.specs.Path.{Continuation, after_beginning, by_mapping, ended, makes, steps_of}
-use Rattle.gt_calls.specs.Opening.{opens}
 use Rattle.gt_handles.specs.Handles.{value_of}
-use Rattle.gt_live.specs.Accesses.{IsReadBy, IsWrittenBy, frame_named}
+use Rattle.gt_live.specs.Accesses.{IsWrittenBy, frame_named}
 use Rattle.gt_live.specs.Domains.{knowledge}
 use Rattle.gt_live.proofs.Accessing.{mapped-way, none-left, one-access, refused-access, reaches-mapped, writes-by}
 use Rattle.gt_live.proofs.domain.Domain.store.Goals as goal

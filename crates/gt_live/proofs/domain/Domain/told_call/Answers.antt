@@ -1,4 +1,4 @@
-use Rattle.std.proofs.Common.{◌≡◌, ◌∙◌, sym, ap, subst, refl}
+use Rattle.std.proofs.Common.{◌≡◌, ◌∙◌, ap, subst, refl}
 use Rattle.gt_types.specs.declared.DomId.{DomId}
 use Rattle.gt_audit.specs.Telling.{Tells, Telling}
 use Rattle.gt_audit.specs.declared.record.Record.{Record}
