@@ -1,7 +1,7 @@
 -- What the core does for a step of an open call: it is right, and the core stands for it.
 use Rattle.gt_core.proofs.Words.{◌≡◌, ◌≢◌, inl, inr, ℕ, refl, Bool, List, [], ◌∷◌, ◌++◌, length, Option, Some, None, cond, sym, ap, ◌∙◌, subst, reverse, eqb-true, eq-eqb, length-reverse, reverse_onto, same_Some, ◌==◌, DomId, GrantRef, Denial, Entry, Invalid, Half, Handle, Held, Asked, ByMapping, ByLeg, Seen, Nothing, Taken, Missed, Verdict, Granted, Given, KeptPin, Refused, Step, PinStep, Unpin, StoreBody, StoreHeader, Exchange, ReadBytes, WriteBytes, CopyBytes, Action, Makes, Done, Call, Phase, Storing, Walking, Last, Ending, last_first, knowledge_of, path, phase_after, action_at, after_store, HasShown, pins_at, held_in, Goes, Open, Item, Answer, Denied, AnswerDone, Mapped, State, state_of, sees, History, Setting, live, word_at, known_at, legs_at, mappings_at, mapping_of, seen_by, Underway, values, open_call, underway_after, holder_after, one_if_mapped, StepsRight, GivesValue, refusal_in, refusal_of, DomainsStand, Agrees, CallAgrees, OpenAgrees, numbered, position, get_or, set, position-Some, domain_of, Value, FramesTold, BytesAnswer, HandleMap, applied, with_underway, with_mapping, Adds, IsReadable, IsAdmitted, AccessedBy, bytes_at, FrameSet, frame_at, contents_at, IsRight, StepsRightIn, CoreStands, FramesStand, core_of, Settled, IsLawful, IsLawfullyHeld, answer_with, Closed, IsRoomFor, IsMapping, ticked_with, ticked_element, Element, Tick, MayDo, Does, Did, grown, without, RestsOnRequest, WantsMemoryNow, IsWritingNext, TickTold, IsWriting, cond_both}
 use Rattle.std.specs.Prelude.{take, drop}
-use Rattle.gt_core.{proofs.Values.call-ends, proofs.Pinning.pins, proofs.Pinning.map-legs, proofs.Pinning.new_pin, proofs.Pinning.pin-stands, proofs.Pinning.map-agrees, proofs.Pinning.leg-agrees as pin-agrees, proofs.Keeping.stepped, proofs.Keeping.KeepsEntries, proofs.Keeping.open_call-own, proofs.Keeping.quiet-stands, proofs.Others.KeepsKnown, proofs.Placing.IsStore, proofs.Phases.IsHere, proofs.Phases.makes-same, proofs.Phases.by-giving, proofs.Storing.header-stands, proofs.Storing.store-stands, proofs.Framing.bytes-held, proofs.Framing.open-admitted, proofs.Framing.open-readable, proofs.Framing.frames-stepped, proofs.Outcomes.next_of, proofs.Outcomes.ends-so, proofs.Ticking.Ticks, proofs.Ticking.ticks, proofs.Ticking.here-of, proofs.Ticking.given-goes-on, proofs.Ticking.legs-after, proofs.Ticking.open-after, proofs.Ticking.goes-right, proofs.Ticking.ends-right, proofs.Ticking.last-fact, proofs.Ticking.leg-store, proofs.Unpinning.unpins, proofs.Unpinning.Loses, proofs.Unpinning.unpin-stands, proofs.Unpinning.becomes-unpinned, proofs.Unpinning.loses-leg, proofs.Unpinning.loses-mapping, proofs.Unpinning.mapping-agrees, proofs.Unpinning.leg-agrees as unpin-agrees, proofs.Acting.can-change, proofs.Acting.can-pin, proofs.Acting.store-invalid, proofs.Acting.header-fits, proofs.Acting.map-lawful, proofs.Acting.CanPin, proofs.Exchanging.exchange-stands, proofs.Beginning.agrees-found, proofs.Rows.has_id, proofs.Rows.found, proofs.Rows.state_of-set, specs.declared.trace.Bytes.Bytes}
+use Rattle.gt_core.{proofs.Values.call-ends, proofs.Pinning.pins, proofs.Pinning.map-legs, proofs.Pinning.new_pin, proofs.Pinning.pin-stands, proofs.Pinning.map-agrees, proofs.Pinning.leg-agrees as pin-agrees, proofs.Keeping.stepped, proofs.Keeping.KeepsEntries, proofs.Keeping.open_call-own, proofs.Keeping.quiet-stands, proofs.Others.KeepsKnown, proofs.Placing.IsStore, proofs.Phases.IsHere, proofs.Phases.makes-same, proofs.Phases.by-giving, proofs.Storing.header-stands, proofs.Storing.store-stands, proofs.Framing.bytes-held, proofs.Framing.open-admitted, proofs.Framing.open-readable, proofs.Framing.frames-stepped, proofs.Outcomes.next_of, proofs.Outcomes.ends-so, proofs.Ticking.Ticks, proofs.Ticking.ticks, proofs.Ticking.given-goes-on, proofs.Ticking.legs-after, proofs.Ticking.open-after, proofs.Ticking.goes-right, proofs.Ticking.ends-right, proofs.Ticking.last-fact, proofs.Ticking.leg-store, proofs.Unpinning.Loses, proofs.Unpinning.unpin-stands, proofs.Unpinning.becomes-unpinned, proofs.Unpinning.loses-leg, proofs.Unpinning.loses-mapping, proofs.Unpinning.mapping-agrees, proofs.Unpinning.leg-agrees as unpin-agrees, proofs.Acting.can-change, proofs.Acting.can-pin, proofs.Acting.store-invalid, proofs.Acting.header-fits, proofs.Acting.map-lawful, proofs.Acting.CanPin, proofs.Exchanging.exchange-stands, proofs.Beginning.agrees-found, proofs.Rows.has_id, proofs.Rows.found, proofs.Rows.state_of-set, specs.declared.trace.Bytes.Bytes}
 
 -- the states where just the actor's call, or its handles or bytes, are others
 abbrev Replaced : List State → List State → State → State → Type 0
@@ -73,7 +73,7 @@ pub goes-core : (s : Setting) (h : History) (xs ys : List State) (x : State) (o 
 goes-core s h xs ys x o c new z t r = let seen = seen_by s h x.id o.step in let i = stepped x.id o.step seen None in
     let now : open_call (i ∷ h) x.id.0 ≡ Some (record { request = c.request; given = c.given; steps = c.steps ++ (o.step, seen) ∷ [] }) = open_call-own i h ∙ ap (underway_after i) t.call in (
       right-in s h x.id o.step seen None c t.call (goes-right s h xs x o c new z t),
-      step-stands s h xs ys x c t.stands.phase o.step None (Some (record { call = new; step = z })) (here-of s h xs x o c t.st t.here t.stands) (last-fact s h xs x o c new (Makes z) t) t.here t.agrees r refl (λ n. refl)
+      step-stands s h xs ys x c t.stands.phase o.step None (Some (record { call = new; step = z })) t.i (last-fact s h xs x o c new (Makes z) t) t.here t.agrees r refl (λ n. refl)
           (λ store. refl)
           (subst (λ (u : Option Underway). CallAgrees s (i ∷ h) x.id (Some (record { call = new; step = z })) u) (sym now) (open-after s h xs x o c new z t)),
     )
@@ -121,7 +121,7 @@ pub ends-core : (s : Setting) (h : History) (xs ys : List State) (x : State) (o 
 ends-core s h xs ys x o c new v answer t r is_plain unmapped same value = let seen = seen_by s h x.id o.step in
     let legs = none-held s h xs x o c new v answer t (plain answer is_plain).0 (plain answer is_plain).1 unmapped in (
       right-in s h x.id o.step seen (Some answer) c t.call (ends-right s h xs x o c new v answer t same legs value),
-      step-stands s h xs ys x c t.stands.phase o.step (Some answer) None (here-of s h xs x o c t.st t.here t.stands) (last-fact s h xs x o c new (Done v) t) t.here t.agrees r (plain answer is_plain).0 (plain answer is_plain).1
+      step-stands s h xs ys x c t.stands.phase o.step (Some answer) None t.i (last-fact s h xs x o c new (Done v) t) t.here t.agrees r (plain answer is_plain).0 (plain answer is_plain).1
           (λ store. absurd (store-goes s h xs x o c new v t store)) (call-over s h x.id o.step seen answer legs),
     )
 
@@ -129,7 +129,7 @@ pub given-core : (s : Setting) (h : History) (xs ys : List State) (x : State) (o
     → Ticked s h x.id o.step (seen_by s h x.id o.step) (Some (answer_with value)) (applied x.id o.step (seen_by s h x.id o.step) ys)
 given-core s h xs ys x o c new value t r =
     ends-core s h xs ys x o c new (Given value) (answer_with value) t r (valued value) (λ m e. cc) (same value)
-    (call-ends s h xs x.id c.request (values c) (reverse c.steps) t.stands.phase o.step (here-of s h xs x o c t.st t.here t.stands) (Given value) (sym t.acts))
+    (call-ends s h xs x.id c.request (values c) (reverse c.steps) t.stands.phase o.step t.i (Given value) (sym t.acts))
   where
     valued : (z : Value) → IsPlainAnswer (answer_with z)
     valued (FramesTold n) = tt
@@ -152,7 +152,7 @@ mapped-core s h xs ys x o c new held handle kept t r adds = by (seen_by s h x.id
   d = x.id
 
   i : IsHere s h xs x.id c.request (values c) (reverse c.steps) t.stands.phase o.step
-  i = here-of s h xs x o c t.st t.here t.stands
+  i = t.i
 
   by : (seen : Seen) → seen_by s h d o.step ≡ seen → Ticked s h d o.step seen (Some (Mapped handle)) (applied d o.step seen ys)
   by seen saw =
@@ -165,7 +165,7 @@ mapped-core s h xs ys x o c new held handle kept t r adds = by (seen_by s h x.id
       subst (λ (q : Held). IsLawfullyHeld s (record { actor = d.0; holder = ByMapping handle; held = q }) (ByMapping handle)) (sym can.is) law in
       let legs : legs_at (pins d held (Some (Mapped handle)) ∷ h) d.0 ≡ [] = map-legs h d held handle ∙ t.stands.held ∙ ap (λ (l : List Held). numbered 0 (reverse l)) m.none in
       let maps = map-agrees h d held handle x.mappings kept (subst (λ (q : Held). Adds x.mappings kept handle q) (sym can.is) adds) t.agrees.mappings in
-      let after = pin-stands s h xs ys x held (Some (Mapped handle)) kept None t.st t.here t.agrees r can.valid can.few lawful maps (call-over s h d (PinStep held) Taken (Mapped handle) legs) (given-goes-on d (PinStep held) Taken (Some (Mapped handle)) h x.given t.agrees.given) in
+      let after = pin-stands s h xs ys x held (Some (Mapped handle)) kept None t.i.st t.here t.agrees r can.valid can.few lawful maps (call-over s h d (PinStep held) Taken (Mapped handle) legs) (given-goes-on d (PinStep held) Taken (Some (Mapped handle)) h x.given t.agrees.given) in
       let same_step : stepped d o.step (seen_by s h d o.step) (Some (Mapped handle)) ≡ pins d held (Some (Mapped handle)) =
       ap (λ (v : Seen). stepped d o.step v (Some (Mapped handle))) (saw ∙ taken) ∙ ap (λ (z : Step). stepped d z Taken (Some (Mapped handle))) m.is in
       let value : GivesValue s h d c.request (Some o.step) (Mapped handle) =
@@ -184,7 +184,7 @@ mapped-core s h xs ys x o c new held handle kept t r adds = by (seen_by s h x.id
 read-gives : (s : Setting) (h : History) (xs : List State) (fs : FrameSet) (x : State) (o : Open) (c : Underway) (new : Call) (dom : DomId) (frame off len : ℕ) (b : Bytes) → Ticks s h xs x o c new (Done Granted) → FramesStand s h fs → o.step ≡ ReadBytes dom frame off len
     → b.bytes.items ≡ bytes_at (frame_at fs (record { owner = dom; number = frame })) off len → GivesValue s h x.id c.request (Some (ReadBytes dom frame off len)) (BytesAnswer b)
 read-gives s h xs fs x o c new dom frame off len b t fr is gives =
-    let i = subst (IsHere s h xs x.id c.request (values c) (reverse c.steps) t.stands.phase) is (here-of s h xs x o c t.st t.here t.stands) in
+    let i = subst (IsHere s h xs x.id c.request (values c) (reverse c.steps) t.stands.phase) is t.i in
     by i.rests.1 (gives ∙ bytes-held s h fs dom frame off len fr) where
       by : RestsOnRequest (known_at s h x.id) x.id c.request (ReadBytes dom frame off len) → b.bytes.items ≡ take len (drop off (contents_at h dom.0 frame))
           → GivesValue s h x.id c.request (Some (ReadBytes dom frame off len)) (BytesAnswer b)
@@ -209,7 +209,7 @@ granted-core s h fs xs zs at x o c new answer t fr plain settled = by o.step ref
 
   over : (step : Step) → o.step ≡ step → (answer ≡ AnswerDone) × (zs ≡ set xs at (with_underway None x)) → ((dom : DomId) (frame off len : ℕ) → step ≡ ReadBytes dom frame off len → ⊥) → Goal
   over step is (done, left) read = ends AnswerDone done tt refl left
-      (call-ends s h xs d c.request (values c) (reverse c.steps) t.stands.phase o.step (here-of s h xs x o c t.st t.here t.stands) Granted (sym t.acts) (λ dom frame off len e. read dom frame off len (sym is ∙ e)))
+      (call-ends s h xs d c.request (values c) (reverse c.steps) t.stands.phase o.step t.i Granted (sym t.acts) (λ dom frame off len e. read dom frame off len (sym is ∙ e)))
 
   by : (step : Step) → o.step ≡ step → Closed fs xs at x step answer zs → Goal
   by (ReadBytes dom frame off len) is (b, done, left, gives) = ends (BytesAnswer b) done tt refl left
@@ -292,7 +292,7 @@ action-core s h fs xs zs at x o c new action answer t fr r settled = by action t
 pub room-asked : (s : Setting) (h : History) (xs : List State) (dom : DomId) (at : ℕ) (x : State) (o : Open) (seen : Seen) (new : Call) (action : Action) → DomainsStand s h xs → Begins s xs dom at x o seen new action → IsRoomFor o.call.request action
 room-asked s h xs dom at x o seen new (Done (KeptPin held)) st b =
     let n = begun s h xs dom at x o seen new (Done (KeptPin held)) st b in let t = n.ticks in
-    let m = call-ends s h xs x.id n.c.request (values n.c) (reverse n.c.steps) t.stands.phase o.step (here-of s h xs x o n.c t.st t.here t.stands) (KeptPin held) (sym t.acts) in
+    let m = call-ends s h xs x.id n.c.request (values n.c) (reverse n.c.steps) t.stands.phase o.step t.i (KeptPin held) (sym t.acts) in
     subst (λ (q : Asked). IsMapping (Some q)) (sym (t.stands.asks ∙ m.of_map)) tt
 room-asked s h xs dom at x o seen new action st b = tt
 

@@ -1,66 +1,43 @@
 -- A step of an open call is right, and the core stands for it.
-use Rattle.gt_core.proofs.Words.{◌≡◌, ◌≢◌, ◌<◌, ◌≤◌, ◌+◌, ◌⊎◌, inl, inr, ℕ, suc, refl, true, List, [], ◌∷◌, ◌++◌, length, Option, Some, None, sym, ap, ◌∙◌, subst, reverse, arith, eqb-true, map-append, length-append, length-reverse, reverse_onto, none-some, same_Some, ◌==◌, All, DomId, GrantRef, Denial, Entry, Invalid, Sub, Change, Half, FirstHalf, SecondHalf, Held, Pins, Asked, Demote, ByMapping, ByLeg, Seen, Nothing, Taken, Missed, Verdict, Granted, KeptPin, Step, PinStep, Unpin, StoreBody, StoreHeader, Exchange, ReadBytes, WriteBytes, CopyBytes, Action, Makes, Done, Call, Phase, Storing, StoringSecond, Walking, Last, Ending, last_first, no_pins, CallerKnowledge, knowledge_of, path, Rests, phase_after, action_at, next_to_give, after_store, StandsAt, HasShown, pins_at, held_in, Goes, GoesOn, most_of, steps_left, Open, Item, Answer, Stepped, State, state_of, sees, History, Setting, Pin, entry_at, word_at, table_at, known_at, legs_at, mappings_at, maps_answered_at, seen_by, Underway, values, open_call, underway_after, holder_after, one_if_mapped, StepsSoFar, StepsRight, Justified, IsSafe, PinIsSound, AnsweredBy, GivesValue, LeavesAll, IsSpelled, gives_back, verdict_in, refusal_in, refusal_of, refusal_if, or_then, first_of_item, first_in_call, stood, most_steps, DomainsStand, Agrees, OpenAgrees, GivenAgrees, FitsGiven, PhaseStands, IsClean, phase_refusal, numbered, exchange_sees, gather, by_leg, header_stored, IsSubPage, Leg, LegPhase, leg_step, Continuation, body_at, second_body, publishing, RestsOnRequest, stored_at, first_body, reverse-append, FitsNext, HoldsAfter, IsCounted, cond_both}
-use Rattle.gt_core.proofs.{Others.unstored, Others.known-as, Others.kept-entry, Others.kept-raises, Others.KeepsKnown, Others.kept-known, Others.kept-legs, Others.kept-table, Others.answered-stays, Storing.stores, Storing.half-stored, Storing.first-stays, Keeping.stepped, Keeping.KeepsEntries, Keeping.known-same, Keeping.open_call-own, Keeping.stood-own, Placing.IsStore, Placing.placed, Placing.place-stays, Phases.by-leg, Phases.IsHere, Phases.makes-same, Phases.step-within, Phases.step-publishes, Phases.seen-fits, Phases.by-giving, Phases.call-is, Seeing.sees-agree, Placing.judged, Unpinning.unpins, Unpinning.leg-left, Unpinning.leg-mappings, Unpinning.mapping-legs, Unpinning.from-zero, Pinning.pins, Pinning.leg-grows, Pinning.leg-maps, Beginning.is-at, Beginning.to-come, Beginning.pins-there, Acting.can-change, Acting.can-pin, Acting.store-invalid, Exchanging.exchanged-live, Accessing.read-justified, Accessing.write-justified, Accessing.copy-justified, Outcomes.next_of, Outcomes.IsSingle, Outcomes.single-ends, Outcomes.taken-ends, Outcomes.clean-next, Outcomes.ends-so}
+use Rattle.gt_core.proofs.Words.{◌≡◌, ◌≢◌, ◌<◌, ◌≤◌, ◌+◌, ◌⊎◌, inl, inr, ℕ, suc, refl, true, List, [], ◌∷◌, ◌++◌, length, Option, Some, None, sym, ap, ◌∙◌, subst, reverse, arith, eqb-true, map-append, length-append, length-reverse, reverse_onto, none-some, same_Some, ◌==◌, All, DomId, GrantRef, Denial, Entry, Invalid, Sub, Change, Half, FirstHalf, SecondHalf, Held, Pins, Asked, Demote, ByMapping, ByLeg, Seen, Nothing, Taken, Missed, Verdict, Granted, KeptPin, Step, PinStep, Unpin, StoreBody, StoreHeader, Exchange, ReadBytes, WriteBytes, CopyBytes, Action, Makes, Done, Call, Phase, Storing, StoringSecond, Walking, Last, Ending, last_first, no_pins, CallerKnowledge, knowledge_of, path, Rests, phase_after, action_at, next_to_give, after_store, StandsAt, HasShown, pins_at, held_in, Goes, GoesOn, most_of, steps_left, Open, Item, Answer, Stepped, State, state_of, sees, History, Setting, Pin, entry_at, word_at, table_at, known_at, legs_at, mappings_at, maps_answered_at, seen_by, Underway, values, open_call, underway_after, holder_after, one_if_mapped, StepsSoFar, StepsRight, Justified, IsSafe, PinIsSound, AnsweredBy, GivesValue, LeavesAll, IsSpelled, gives_back, verdict_in, refusal_in, refusal_of, refusal_if, or_then, first_of_item, first_in_call, stood, most_steps, DomainsStand, Agrees, OpenAgrees, GivenAgrees, FitsGiven, PhaseStands, IsClean, phase_refusal, numbered, exchange_sees, gather, by_leg, header_stored, IsSubPage, Leg, LegPhase, leg_step, Continuation, body_at, second_body, publishing, RestsOnRequest, stored_at, first_body, reverse-append, FitsNext, HoldsAfter, cond_both}
+use Rattle.gt_calls.specs.Following.{Advances}
+use Rattle.gt_core.proofs.{Others.unstored, Others.known-as, Others.kept-entry, Others.kept-raises, Others.KeepsKnown, Others.kept-known, Others.kept-legs, Others.kept-table, Others.answered-stays, Storing.stores, Storing.half-stored, Storing.first-stays, Keeping.stepped, Keeping.KeepsEntries, Keeping.known-same, Keeping.open_call-own, Keeping.stood-own, Placing.IsStore, Placing.place-stays, Phases.by-leg, Phases.IsHere, Phases.makes-same, Phases.seen-fits, Phases.by-giving, Phases.call-is, Seeing.sees-agree, Unpinning.unpins, Unpinning.leg-left, Unpinning.leg-mappings, Unpinning.mapping-legs, Unpinning.from-zero, Pinning.pins, Pinning.leg-grows, Pinning.leg-maps, Acting.can-change, Acting.can-pin, Acting.store-invalid, Exchanging.exchanged-live, Accessing.read-justified, Accessing.write-justified, Accessing.copy-justified, Outcomes.next_of, Outcomes.IsSingle, Outcomes.single-ends, Outcomes.taken-ends, Outcomes.clean-next, Outcomes.ends-so, Placing.each-step}
+
+-- a call in this phase
+abbrev pub call_at : DomId → Asked → Phase → Call
+call_at d r phase = record { caller = d; request = r; phase = Some phase }
 
 -- what is known of a step of an open call, which saw what the history left
 pub record Ticks (s : Setting) (h : History) (xs : List State) (x : State) (o : Open) (c : Underway) (new : Call) (action : Action) : Type 0 where
-  pub st : DomainsStand s h xs
   pub here : state_of xs x.id.0 ≡ Some x
   pub agrees : Agrees s h x
   pub call : open_call h x.id.0 ≡ Some c
   pub stands : OpenAgrees s h x.id o c
-  pub is_next : new.phase ≡ Some (next_of s h x.id stands.phase o.step)
-  pub caller : new.caller ≡ x.id
-  pub asks : new.request ≡ c.request
-  pub at : StandsAt (known_at s h x.id) x.id c.request (values c ++ seen_by s h x.id o.step ∷ []) (next_of s h x.id stands.phase o.step)
-  pub follows : GoesOn (known_at s h x.id) x.id c.request (values c ++ seen_by s h x.id o.step ∷ []) action
-  pub rests : Rests (known_at s h x.id) x.id c.request (pins_at (next_of s h x.id stands.phase o.step)) (values c ++ seen_by s h x.id o.step ∷ []) action
-  pub counted : IsCounted action (steps_left (next_of s h x.id stands.phase o.step))
+  pub i : IsHere s h xs x.id c.request (values c) (reverse c.steps) stands.phase o.step
+  pub new_is : new ≡ call_at x.id c.request (next_of s h x.id stands.phase o.step)
+  pub on : Advances (known_at s h x.id) (call_at x.id c.request stands.phase) (call_at x.id c.request (next_of s h x.id stands.phase o.step)) (values c ++ seen_by s h x.id o.step ∷ []) action
   pub fewer : steps_left (next_of s h x.id stands.phase o.step) < steps_left stands.phase
   pub acts : action ≡ action_at x.id (next_of s h x.id stands.phase o.step)
   pub holds : HoldsAfter o.step (seen_by s h x.id o.step) (held_in stands.phase) (held_in (next_of s h x.id stands.phase o.step)) action
-
-pub here-of : (s : Setting) (h : History) (xs : List State) (x : State) (o : Open) (c : Underway) → DomainsStand s h xs → state_of xs x.id.0 ≡ Some x → (a : OpenAgrees s h x.id o c)
-    → IsHere s h xs x.id c.request (values c) (reverse c.steps) a.phase o.step
-here-of s h xs x o c st here a =
-    record { st = st; own = λ e. none-some x (sym e ∙ here); at = a.at; acts = a.acts; place = a.place; held = a.held; rests = a.rests; fits = a.fits }
 
 pub ticks : (s : Setting) (h : History) (xs : List State) (x : State) (o : Open) (c : Underway) (seen : Seen) (new : Call) (action : Action) → DomainsStand s h xs → state_of xs x.id.0 ≡ Some x → Agrees s h x → open_call h x.id.0 ≡ Some c
     → OpenAgrees s h x.id o c → seen ≡ sees xs x.id o.step → new.caller ≡ o.call.caller → new.request ≡ o.call.request
     → Goes (knowledge_of s.domains s.first_generation s.may x.own x.header x.mappings) o.call seen new action → (seen ≡ seen_by s h x.id o.step) × Ticks s h xs x o c new action
 ticks s h xs x o c seen new action st here agrees call a saw caller asks goes = let k = known_at s h x.id in
-    let i = here-of s h xs x o c st here a in let step = o.step in
-    let same : seen ≡ seen_by s h x.id step = saw ∙ sees-agree s h xs x.id step st (step-within s h xs x.id c.request (values c) (reverse c.steps) a.phase step i) in
-    let old : Call = record { caller = x.id; request = c.request; phase = Some a.phase } in
+    let i : IsHere s h xs x.id c.request (values c) (reverse c.steps) a.phase o.step =
+    record { st = st; own = λ e. none-some x (sym e ∙ here); at = a.at; acts = a.acts; place = a.place; held = a.held; rests = a.rests; fits = a.fits } in
+    let each = each-step s h xs x.id c.request (values c) (reverse c.steps) a.phase o.step i in let step = o.step in
+    let same : seen ≡ seen_by s h x.id step = saw ∙ sees-agree s h xs x.id step st each.0 in
+    let next = next_of s h x.id a.phase step in let old : Call = call_at x.id c.request a.phase in
     let g : Goes k old (seen_by s h x.id step) new action =
     subst (λ (z : Call). Goes k z (seen_by s h x.id step) new action) (call-is o.call x.id c.request a.phase a.caller a.asks a.here)
     (subst (λ (z : CallerKnowledge). Goes z o.call (seen_by s h x.id step) new action) (known-same s h x agrees)
     (subst (λ (v : Seen). Goes (knowledge_of s.domains s.first_generation s.may x.own x.header x.mappings) o.call v new action) same goes)) in
-    let fits : FitsNext (path k x.id c.request (values c)) (seen_by s h x.id step) =
-    subst (λ (z : Option Action). FitsNext z (seen_by s h x.id step)) (sym a.follows) (seen-fits s h x.id step (step-publishes s h xs x.id c.request (values c) (reverse c.steps) a.phase step i)) in
-    let l = g.later (values c) a.at fits in let next = next_of s h x.id a.phase step in
-    let by : new.caller ≡ x.id = caller ∙ a.caller in let asked : new.request ≡ c.request = asks ∙ a.asks in
-    let shown = values c ++ seen_by s h x.id step ∷ [] in
-    let stands : StandsAt k new.caller new.request shown next = is-at k new shown next g.moves l.0.at in (
-      same,
-      record {
-        st = st;
-        here = here;
-        agrees = agrees;
-        call = call;
-        stands = a;
-        is_next = g.moves;
-        caller = by;
-        asks = asked;
-        at = subst (λ (z : DomId). StandsAt k z c.request shown next) by (subst (λ (z : Asked). StandsAt k new.caller z shown next) asked stands);
-        follows = l.0.follows;
-        rests = subst (λ (z : Pins). Rests k x.id c.request z shown action) (pins-there new next g.moves) l.0.rests;
-        counted = subst (IsCounted action) (to-come new next g.moves) l.0.counted;
-        fewer = subst (λ (n : ℕ). n < steps_left a.phase) (to-come new next g.moves) l.2;
-        acts = g.acts;
-        holds = subst (λ (z : Pins). HoldsAfter step (seen_by s h x.id step) (held_in a.phase) (last_first z) action) (pins-there new next g.moves) (l.1 (Makes step) a.follows);
-      },
-    )
+    let moved : new ≡ call_at x.id c.request next = call-is new x.id c.request next (caller ∙ a.caller) (asks ∙ a.asks) g.moves in
+    let fits : FitsNext (path k x.id c.request (values c)) (seen_by s h x.id step) = subst (λ (z : Option Action). FitsNext z (seen_by s h x.id step)) (sym a.follows) (seen-fits s h x.id step each.1) in
+    let g2 : Goes k old (seen_by s h x.id step) (call_at x.id c.request next) action = subst (λ (z : Call). Goes k old (seen_by s h x.id step) z action) moved g in
+    let l = g2.later (values c) a.at fits in
+    (same, record { here = here; agrees = agrees; call = call; stands = a; i = i; new_is = moved; on = l.0; fewer = l.2; acts = g.acts; holds = l.1 (Makes step) a.follows })
 
 -- the call with one step more
 
@@ -77,7 +54,7 @@ pub stood-after : (s : Setting) (h : History) (xs : List State) (x : State) (o :
 stood-after s h xs x o c new action answer t = let i = stepped x.id o.step (seen_by s h x.id o.step) answer in
     stood-own s i h ∙ ap (λ (z : Option Denial). or_then z (first_of_item s h i)) t.stands.fair
     ∙ ap (λ (u : Option Underway). or_then (phase_refusal t.stands.phase) (first_in_call s h x.id i.happened u)) t.call
-    ∙ judged s h xs x.id c.request (values c) (reverse c.steps) t.stands.phase o.step (here-of s h xs x o c t.st t.here t.stands)
+    ∙ (each-step s h xs x.id c.request (values c) (reverse c.steps) t.stands.phase o.step t.i).3
 
 -- what a domain knows, where its entries, table and mappings stay
 
@@ -139,7 +116,7 @@ legs-by h d answer old new action step seen m leg unmapped held holds pinned las
 pub pin-fact : (s : Setting) (h : History) (xs : List State) (x : State) (o : Open) (c : Underway) (new : Call) (action : Action) → Ticks s h xs x o c new action → PinFact h o.step (seen_by s h x.id o.step)
 pin-fact s h xs x o c new action t p is saw =
     (can-pin s h xs x.id c.request (values c) (reverse c.steps) t.stands.phase p
-    (subst (IsHere s h xs x.id c.request (values c) (reverse c.steps) t.stands.phase) is (here-of s h xs x o c t.st t.here t.stands))
+    (subst (IsHere s h xs x.id c.request (values c) (reverse c.steps) t.stands.phase) is t.i)
     (taken-word (word_at s h p.dom.0 p.gref.0) p.word (subst (λ (z : Step). seen_by s h x.id z ≡ Taken) is saw))).is
 
 pub last-fact : (s : Setting) (h : History) (xs : List State) (x : State) (o : Open) (c : Underway) (new : Call) (action : Action) → (t : Ticks s h xs x o c new action) → LastFact (held_in t.stands.phase) o.step
@@ -241,7 +218,7 @@ place-after s h xs x o c new action t = by (decide-store o.step) where
   by (inr n) =
       place-stays s (stepped d o.step (seen_by s h d o.step) None) h d c.request ((o.step, seen_by s h d o.step) ∷ reverse c.steps) (next_of s h d t.stands.phase o.step)
       (λ r which. unstored (stepped d o.step (seen_by s h d o.step) None) h d.0 r which (stored-none o.step (seen_by s h d o.step) n r which))
-      (placed s h xs d c.request (values c) (reverse c.steps) t.stands.phase o.step (here-of s h xs x o c t.st t.here t.stands) n)
+      ((each-step s h xs d c.request (values c) (reverse c.steps) t.stands.phase o.step t.i).4 n)
 
 -- a call that goes on is where this step has led it
 pub open-after : (s : Setting) (h : History) (xs : List State) (x : State) (o : Open) (c : Underway) (new : Call) (z : Step) → Ticks s h xs x o c new (Makes z)
@@ -252,18 +229,18 @@ open-after s h xs x o c new z t = let d = x.id in let r = c.request in let seen 
     let shown : values c ++ seen ∷ [] ≡ values (record { request = c.request; given = c.given; steps = c.steps ++ (o.step, seen) ∷ [] }) = sym (map-append (λ (p : Step × Seen). p.1) c.steps ((o.step, seen) ∷ [])) in
     let longer : length (c.steps ++ (o.step, seen) ∷ []) ≡ length c.steps + 1 = length-append c.steps ((o.step, seen) ∷ []) in
     let few = t.stands.few in let fewer = t.fewer in record {
-      caller = t.caller;
-      asks = t.asks;
+      caller = ap (λ (z : Call). z.caller) t.new_is;
+      asks = ap (λ (z : Call). z.request) t.new_is;
       phase = next;
-      here = t.is_next;
-      at = subst (λ (k : CallerKnowledge). StandsAt k d r (values (record { request = c.request; given = c.given; steps = c.steps ++ (o.step, seen) ∷ [] })) next) (sym same) (subst (λ (vs : List Seen). StandsAt (known_at s h d) d r vs next) shown t.at);
+      here = ap (λ (z : Call). z.phase) t.new_is;
+      at = subst (λ (k : CallerKnowledge). StandsAt k d r (values (record { request = c.request; given = c.given; steps = c.steps ++ (o.step, seen) ∷ [] })) next) (sym same) (subst (λ (vs : List Seen). StandsAt (known_at s h d) d r vs next) shown t.on.at);
       acts = sym t.acts;
-      follows = subst (λ (k : CallerKnowledge). GoesOn k d r (values (record { request = c.request; given = c.given; steps = c.steps ++ (o.step, seen) ∷ [] })) (Makes z)) (sym same) (subst (λ (vs : List Seen). GoesOn (known_at s h d) d r vs (Makes z)) shown t.follows);
-      rests = subst (λ (k : CallerKnowledge). Rests k d r (pins_at next) (values (record { request = c.request; given = c.given; steps = c.steps ++ (o.step, seen) ∷ [] })) (Makes z)) (sym same) (subst (λ (vs : List Seen). Rests (known_at s h d) d r (pins_at next) vs (Makes z)) shown t.rests);
+      follows = subst (λ (k : CallerKnowledge). GoesOn k d r (values (record { request = c.request; given = c.given; steps = c.steps ++ (o.step, seen) ∷ [] })) (Makes z)) (sym same) (subst (λ (vs : List Seen). GoesOn (known_at s h d) d r vs (Makes z)) shown t.on.follows);
+      rests = subst (λ (k : CallerKnowledge). Rests k d r (pins_at next) (values (record { request = c.request; given = c.given; steps = c.steps ++ (o.step, seen) ∷ [] })) (Makes z)) (sym same) (subst (λ (vs : List Seen). Rests (known_at s h d) d r (pins_at next) vs (Makes z)) shown t.on.rests);
       place = subst (λ (so_far : StepsSoFar). PhaseStands s (i ∷ h) d r so_far next) (sym (reverse-append c.steps ((o.step, seen) ∷ []))) (place-after s h xs x o c new (Makes z) t);
       fair = stood-after s h xs x o c new (Makes z) None t;
       fits = t.stands.fits;
-      clean = clean-next s h (path (known_at s h d) d r) d r (values c) (reverse c.steps) t.stands.phase o.step c.steps t.stands.at.has_shown t.stands.acts t.stands.place t.stands.clean;
+      clean = clean-next s h d t.stands.phase o.step c.steps t.stands.acts (each-step s h xs d r (values c) (reverse c.steps) t.stands.phase o.step t.i).2 t.stands.clean;
       held = legs-after s h xs x o c new (Makes z) None t refl (λ n. refl) (λ m e. cc);
       few = (omega arith);
     }
@@ -304,8 +281,8 @@ goes-fair d p z e = inl refl
 pub goes-right : (s : Setting) (h : History) (xs : List State) (x : State) (o : Open) (c : Underway) (new : Call) (z : Step) → Ticks s h xs x o c new (Makes z)
     → StepsRight s h (stepped x.id o.step (seen_by s h x.id o.step) None) o.step (seen_by s h x.id o.step) c
 goes-right s h xs x o c new z t = let d = x.id in let seen = seen_by s h d o.step in
-    let i = here-of s h xs x o c t.st t.here t.stands in let few = t.stands.few in let fewer = t.fewer in
-    let counted = t.counted in let most = most-fits c.request in record {
+    let i = t.i in let few = t.stands.few in let fewer = t.fewer in
+    let counted = t.on.counted in let most = most-fits c.request in record {
       continues = t.stands.follows;
       sees = refl;
       justified = step-justified s h xs d c.request (values c) (reverse c.steps) t.stands.phase o.step i;
@@ -313,7 +290,7 @@ goes-right s h xs x o c new z t = let d = x.id in let seen = seen_by s h d o.ste
       sound = step-sound s h xs d c.request (values c) (reverse c.steps) t.stands.phase o.step i;
       soon = λ none. (omega arith);
       left = λ some. absurd (some refl);
-      answered = subst (λ (a : Option Action). AnsweredBy s h d c.request (Some o.step) (gives_back a) (verdict_in a) None (stood s (stepped d o.step seen None ∷ h) d.0)) (sym t.follows)
+      answered = subst (λ (a : Option Action). AnsweredBy s h d c.request (Some o.step) (gives_back a) (verdict_in a) None (stood s (stepped d o.step seen None ∷ h) d.0)) (sym t.on.follows)
           (fair (goes-fair d (next_of s h d t.stands.phase o.step) z (sym t.acts)));
     } where
       fair : (phase_refusal (next_of s h x.id t.stands.phase o.step) ≡ None) ⊎ (gives_back (Some (Makes z)) ≡ true)
@@ -326,11 +303,11 @@ pub ends-right : (s : Setting) (h : History) (xs : List State) (x : State) (o : 
     → legs_at (stepped x.id o.step (seen_by s h x.id o.step) (Some answer) ∷ h) x.id.0 ≡ [] → GivesValue s h x.id c.request (Some o.step) answer
     → StepsRight s h (stepped x.id o.step (seen_by s h x.id o.step) (Some answer)) o.step (seen_by s h x.id o.step) c
 ends-right s h xs x o c new v answer t same legs value = let d = x.id in let seen = seen_by s h d o.step in
-    let i = here-of s h xs x o c t.st t.here t.stands in
+    let i = t.i in
     let e = ends-so d (next_of s h d t.stands.phase o.step) v (sym t.acts) in
     let clean : IsClean (Ending e.0 v) (c.steps ++ (o.step, seen) ∷ []) =
     subst (λ (p : Phase). IsClean p (c.steps ++ (o.step, seen) ∷ [])) e.1
-    (clean-next s h (path (known_at s h d) d c.request) d c.request (values c) (reverse c.steps) t.stands.phase o.step c.steps t.stands.at.has_shown t.stands.acts t.stands.place t.stands.clean) in
+    (clean-next s h d t.stands.phase o.step c.steps t.stands.acts (each-step s h xs d c.request (values c) (reverse c.steps) t.stands.phase o.step t.i).2 t.stands.clean) in
     record {
       continues = t.stands.follows;
       sees = refl;
@@ -339,7 +316,7 @@ ends-right s h xs x o c new v answer t same legs value = let d = x.id in let see
       sound = step-sound s h xs d c.request (values c) (reverse c.steps) t.stands.phase o.step i;
       soon = λ none. cc;
       left = λ some. (by some clean, legs);
-      answered = subst (λ (a : Option Action). AnsweredBy s h d c.request (Some o.step) (gives_back a) (verdict_in a) (Some answer) (stood s (stepped d o.step seen (Some answer) ∷ h) d.0)) (sym t.follows)
+      answered = subst (λ (a : Option Action). AnsweredBy s h d c.request (Some o.step) (gives_back a) (verdict_in a) (Some answer) (stood s (stepped d o.step seen (Some answer) ∷ h) d.0)) (sym t.on.follows)
           (same, same ∙ sym (stood-after s h xs x o c new (Done v) (Some answer) t ∙ ap phase_refusal e.1), value);
     } where
       by : refusal_if (Some answer) ≢ None → (refusal_in (Some v) ≡ None) ⊎ All LeavesAll (c.steps ++ (o.step, seen_by s h x.id o.step) ∷ []) → All LeavesAll (c.steps ++ (o.step, seen_by s h x.id o.step) ∷ [])
