@@ -1,7 +1,7 @@
 -- The refusal that a step leads to is the first rule that stands, and where the call stands then.
-use Rattle.gt_core.proofs.Words.{◌≡◌, ◌+◌, ◌-◌, ℕ, zero, suc, refl, Bool, true, false, List, [], ◌∷◌, Option, Some, None, cond, sym, ap, ◌∙◌, subst, arith, nat_lt, nat_le, ◌==◌, ◌&&◌, ◌||◌, not, lt-ltb, eqb-true, eq-eqb, true≢false, false≢true, DomId, GrantRef, N10, N18, N19, Denial, MAX_TRIES, Entry, Invalid, Via, Control, Change, Publish, ToInvalid, ToReadOnly, ToWritable, allows_direction, control_of, MORE_TRIES, Held, Asked, Verdict, Step, LookHeader, LookControl, Exchange, Seen, Taken, Missed, Makes, Aim, Mapping, Source, Dest, Question, AsksSize, AsksVersion, Phase, Exchanging, Looking, Changing, Asking, Ending, Leg, LegPhase, CallerKnowledge, first, stands, first_look, is_kind, Continuation, end_leg, IsFor, IsOnFrom, RestsOnWord, phase_after, leg_after, leg_step, after_store, refused_as, next_to_give, IsTurn, History, Setting, word_at, control_at, entry_at, generation_at, reads_at, writes_at, known_at, seen_by, StepsSoFar, misses, is_demote, at_entry, first_at, refusal_in, or_then, PhaseStands, LegStands, Asks, phase_refusal, Write, Read, Pins, N11, N12, N13, N15, KindPage, KindVia, is_copying, after_own_miss, rule_at_via}
+use Rattle.gt_core.proofs.Words.{◌≡◌, ◌+◌, ◌-◌, ℕ, zero, suc, refl, Bool, true, false, List, [], ◌∷◌, Option, Some, None, cond, sym, ap, ◌∙◌, subst, arith, nat_lt, nat_le, ◌==◌, ◌&&◌, ◌||◌, not, lt-ltb, eqb-true, eq-eqb, true≢false, false≢true, DomId, GrantRef, N10, N18, N19, Denial, MAX_TRIES, Entry, Invalid, Via, Control, Change, Publish, ToInvalid, ToReadOnly, ToWritable, allows_direction, control_of, MORE_TRIES, Held, Asked, Verdict, Step, LookHeader, LookControl, Exchange, Seen, Taken, Missed, Makes, Aim, Mapping, Source, Dest, Question, AsksSize, AsksVersion, Phase, Exchanging, Looking, Changing, Asking, Ending, Leg, LegPhase, CallerKnowledge, first, stands, first_look, is_kind, Continuation, end_leg, IsFor, IsOnFrom, RestsOnWord, phase_after, leg_after, leg_step, after_store, refused_as, next_to_give, IsTurn, History, Setting, word_at, control_at, entry_at, generation_at, reads_at, writes_at, known_at, seen_by, StepsSoFar, misses, is_demote, at_entry, first_at, refusal_in, or_then, PhaseStands, LegStands, Asks, phase_refusal, Write, Read, Pins, N11, N12, N13, N15, KindPage, KindVia, is_copying, after_own_miss, rule_at_via, cond_both, ltb-false, ltb-true}
 use Rattle.gt_entry.specs.Spelling.{control_with}
-use Rattle.gt_core.proofs.{Aims.pair_of, Legs.Words, Legs.IsAsTried, Legs.TakesNone, Legs.leg-comes, Legs.ComesTo, Legs.IsLegOf, Legs.control-parts, Legs.misses-look, Legs.few, Legs.miss-late, Phases.makes-same, Phases.IsPublished, Phases.idle-here, Phases.idle-no-pins}
+use Rattle.gt_core.proofs.{Aims.pair_of, Legs.Words, Legs.IsAsTried, Legs.TakesNone, Legs.leg-comes, Legs.ComesTo, Legs.IsLegOf, Legs.control-parts, Legs.misses-look, Legs.few, Phases.makes-same, Phases.IsPublished, Phases.idle-here, Phases.idle-no-pins, Legs.late-last, Legs.late-more}
 
 -- the first rule that stands at this step, or before it, is the refusal that the call comes to
 abbrev pub Judged : Setting → History → DomId → Asked → StepsSoFar → Phase → Step → Type 0
@@ -61,10 +61,10 @@ look-judged s h d r so_far gref change more round is place = absurd is
 
 own-miss-late : (d : DomId) (gref : GrantRef) (change : Change) (more found m : ℕ) → m + more ≡ MORE_TRIES
     → at_entry d gref found (stands (nat_le MAX_TRIES (1 + m)) N18) ≡ phase_refusal (after_own_miss d gref change more found)
-own-miss-late d gref change more found m e = sym (miss-late d gref more found m e) ∙ by (nat_lt 0 more) where
-  by : (b : Bool) → cond b None (at_entry d gref found (Some N18)) ≡ phase_refusal (cond b (Looking gref change (more - 1)) (refused_as d gref N18 found))
-  by true = refl
-  by false = refl
+own-miss-late d gref change more found m e =
+    cond_both (nat_lt 0 more) (Looking gref change (more - 1)) (refused_as d gref N18 found) (λ p. at_entry d gref found (stands (nat_le MAX_TRIES (1 + m)) N18) ≡ phase_refusal p)
+    (λ t. ap (λ (b : Bool). at_entry d gref found (stands b N18)) (late-more m more e (ltb-true 0 more t)))
+    (λ f. ap (λ (b : Bool). at_entry d gref found (stands b N18)) (late-last m more e (ltb-false 0 more f)))
 
 change-refusal : (k : CallerKnowledge) (d : DomId) (gref : GrantRef) (change : Change) (more looked w : ℕ) (so_far : StepsSoFar) (b : Bool) → misses so_far + more ≡ MORE_TRIES
     → at_entry d gref w (stands (nat_le MAX_TRIES (misses ((Exchange gref looked change, cond b Taken (Missed w)) ∷ so_far))) N18)
