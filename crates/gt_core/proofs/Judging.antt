@@ -1,5 +1,5 @@
 -- The refusal that a step leads to is the first rule that stands, and where the call stands then.
-use Rattle.gt_core.proofs.Words.{◌≡◌, ◌+◌, ◌-◌, ℕ, zero, suc, refl, Bool, true, false, List, [], ◌∷◌, Option, Some, None, cond, sym, ap, ◌∙◌, subst, arith, nat_lt, nat_le, ◌==◌, ◌&&◌, ◌||◌, not, lt-ltb, eqb-true, eq-eqb, true≢false, false≢true, DomId, GrantRef, N10, N18, N19, Denial, MAX_TRIES, Entry, Invalid, Via, Control, Change, Publish, ToInvalid, ToReadOnly, ToWritable, allows_direction, control_of, MORE_TRIES, Held, Asked, Verdict, Step, LookHeader, LookControl, Exchange, Seen, Taken, Missed, Makes, Aim, Mapping, Source, Dest, Question, AsksSize, AsksVersion, Phase, Exchanging, Looking, Changing, Asking, Ending, Leg, LegPhase, CallerKnowledge, first, stands, first_look, is_kind, Continuation, end_leg, IsFor, IsOnFrom, RestsOnWord, phase_after, leg_after, leg_step, after_store, refused_as, next_to_give, IsTurn, History, Setting, word_at, control_at, entry_at, generation_at, reads_at, writes_at, known_at, seen_by, StepsSoFar, misses, is_demote, at_entry, first_at, refusal_in, or_then, PhaseStands, LegStands, Asks, phase_refusal, Write, Read, Pins, N11, N12, N13, N15, KindPage, KindVia, is_copying, after_own_miss, rule_at_via, cond_both, ltb-false, ltb-true}
+use Rattle.gt_core.proofs.Words.{◌≡◌, ◌+◌, ◌-◌, ℕ, zero, suc, refl, Bool, true, false, List, [], ◌∷◌, Option, Some, None, cond, sym, ap, ◌∙◌, subst, arith, nat_lt, nat_le, ◌==◌, ◌&&◌, ◌||◌, not, lt-ltb, eqb-true, eq-eqb, true≢false, false≢true, DomId, GrantRef, N10, N18, N19, Denial, MAX_TRIES, Entry, Invalid, Via, Control, Change, Publish, ToInvalid, ToReadOnly, ToWritable, allows_direction, control_of, MORE_TRIES, Held, Asked, Verdict, Step, LookHeader, LookControl, Exchange, Seen, Taken, Missed, Makes, Aim, Mapping, Source, Dest, Question, AsksSize, AsksVersion, Phase, Exchanging, Looking, Changing, Asking, Ending, Leg, LegPhase, CallerKnowledge, first, stands, first_look, is_kind, Continuation, end_leg, IsFor, IsOnFrom, RestsOnWord, phase_after, leg_after, leg_step, after_store, refused_as, next_to_give, IsTurn, History, Setting, word_at, control_at, entry_at, generation_at, reads_at, writes_at, known_at, seen_by, StepsSoFar, misses, is_demote, at_entry, first_at, refusal_in, or_then, PhaseStands, LegStands, Asks, phase_refusal, Write, Read, Pins, N11, N12, N13, N15, KindPage, KindVia, is_copying, after_own_miss, rule_at_via, cond_both, ltb-false, ltb-true, lt-leb, ◌<◌, inl}
 use Rattle.gt_entry.specs.Spelling.{control_with}
 use Rattle.gt_core.proofs.{Aims.pair_of, Legs.Words, Legs.IsAsTried, Legs.TakesNone, Legs.leg-comes, Legs.ComesTo, Legs.IsLegOf, Legs.control-parts, Legs.misses-look, Legs.few, Phases.makes-same, Phases.IsPublished, Phases.idle-here, Phases.idle-no-pins, Legs.late-last, Legs.late-more}
 
@@ -59,29 +59,25 @@ look-judged s h d r so_far gref ToWritable more round is place = let w = word_at
     (look-refusal d gref ToWritable more w false _ (ap (nat_le MAX_TRIES) (misses-look d gref w so_far place.1) ∙ few (misses so_far) more place.0))
 look-judged s h d r so_far gref change more round is place = absurd is
 
-own-miss-late : (d : DomId) (gref : GrantRef) (change : Change) (more found m : ℕ) → m + more ≡ MORE_TRIES
-    → at_entry d gref found (stands (nat_le MAX_TRIES (1 + m)) N18) ≡ phase_refusal (after_own_miss d gref change more found)
-own-miss-late d gref change more found m e =
-    cond_both (nat_lt 0 more) (Looking gref change (more - 1)) (refused_as d gref N18 found) (λ p. at_entry d gref found (stands (nat_le MAX_TRIES (1 + m)) N18) ≡ phase_refusal p)
-    (λ t. ap (λ (b : Bool). at_entry d gref found (stands b N18)) (late-more m more e (ltb-true 0 more t)))
-    (λ f. ap (λ (b : Bool). at_entry d gref found (stands b N18)) (late-last m more e (ltb-false 0 more f)))
+-- where a step leads: the first rule that stands is the refusal there, and there the call stands
+abbrev pub Leads : Setting → History → DomId → Asked → StepsSoFar → Option Denial → Phase → Type 0
+Leads s h d r now rule next = (rule ≡ phase_refusal next) × PhaseStands s h d r now next
 
-change-refusal : (k : CallerKnowledge) (d : DomId) (gref : GrantRef) (change : Change) (more looked w : ℕ) (so_far : StepsSoFar) (b : Bool) → misses so_far + more ≡ MORE_TRIES
-    → at_entry d gref w (stands (nat_le MAX_TRIES (misses ((Exchange gref looked change, cond b Taken (Missed w)) ∷ so_far))) N18)
-    ≡ phase_refusal (phase_after k d (Changing gref change more looked) (cond b Taken (Missed w)))
+change-leads : (s : Setting) (h : History) (d : DomId) (r : Asked) (gref : GrantRef) (change : Change) (more looked w : ℕ) (so_far : StepsSoFar) (b : Bool) → misses so_far + more ≡ MORE_TRIES
+    → Leads s h d r ((Exchange gref looked change, cond b Taken (Missed w)) ∷ so_far) (at_entry d gref w (stands (nat_le MAX_TRIES (misses ((Exchange gref looked change, cond b Taken (Missed w)) ∷ so_far))) N18))
+    (phase_after (known_at s h d) d (Changing gref change more looked) (cond b Taken (Missed w)))
 unfolding misses
-change-refusal k d gref change more looked w so_far true turn =
-    ap (λ (n : ℕ). at_entry d gref w (stands (nat_le MAX_TRIES n) N18)) (let z : 0 + misses so_far ≡ misses so_far = omega arith in z)
-    ∙ ap (λ (x : Bool). at_entry d gref w (stands x N18)) (few (misses so_far) more turn)
-change-refusal k d gref change more looked w so_far false turn =
-    own-miss-late d gref change more w (misses so_far) turn
+change-leads s h d r gref change more looked w so_far true turn = (ap (λ (x : Bool). at_entry d gref w (stands x N18)) (lt-leb MAX_TRIES (0 + misses so_far) (omega arith)), inl refl)
+change-leads s h d r gref change more looked w so_far false turn = let now : StepsSoFar = (Exchange gref looked change, Missed w) ∷ so_far in let m : misses now ≡ 1 + misses so_far = refl in
+    cond_both (nat_lt 0 more) (Looking gref change (more - 1)) (refused_as d gref N18 w) (Leads s h d r now (at_entry d gref w (stands (nat_le MAX_TRIES (1 + misses so_far)) N18)))
+    (λ t. let some : 0 < more = ltb-true 0 more t in (ap (λ (x : Bool). at_entry d gref w (stands x N18)) (late-more (misses so_far) more turn some), (omega arith, refl)))
+    (λ f. (ap (λ (x : Bool). at_entry d gref w (stands x N18)) (late-last (misses so_far) more turn (ltb-false 0 more f)), inl refl))
 
-pub change-judged : (s : Setting) (h : History) (d : DomId) (r : Asked) (so_far : StepsSoFar) (gref : GrantRef) (change : Change) (more looked : ℕ) → IsTurn r gref change
-    → PhaseStands s h d r so_far (Changing gref change more looked) → Judged s h d r so_far (Changing gref change more looked) (Exchange gref looked change)
-change-judged s h d r so_far gref (Publish entry) more looked is place = absurd is
-change-judged s h d r so_far gref ToInvalid more looked is place = absurd is
-change-judged s h d r so_far gref change more looked is place =
-    let w = word_at s h d.0 gref.0 in change-refusal (known_at s h d) d gref change more looked w so_far (w == looked) place.0
+pub turn-leads : (s : Setting) (h : History) (d : DomId) (r : Asked) (so_far : StepsSoFar) (gref : GrantRef) (change : Change) (more looked : ℕ) → IsTurn r gref change → misses so_far + more ≡ MORE_TRIES → let v = seen_by s h d (Exchange gref looked change) in
+    Leads s h d r ((Exchange gref looked change, v) ∷ so_far) (first_at s h d r so_far (Exchange gref looked change)) (phase_after (known_at s h d) d (Changing gref change more looked) v)
+turn-leads s h d r so_far gref (Publish entry) more looked is turn = absurd is
+turn-leads s h d r so_far gref ToInvalid more looked is turn = absurd is
+turn-leads s h d r so_far gref change more looked is turn = change-leads s h d r gref change more looked (word_at s h d.0 gref.0) so_far (word_at s h d.0 gref.0 == looked) turn
 
 -- a leg
 
@@ -111,23 +107,13 @@ pub no-via : (k : CallerKnowledge) (l : Leg) (pair : DomId → DomId × DomId) (
 no-via k l pair (Via dom ro dom2 gref) n = absurd (n tt)
 no-via k l pair e n = refl
 
--- where none of five rules stands
-pub five-none : (a b c d e : Bool) → first (stands a N10 ∷ stands b N11 ∷ stands c N12 ∷ stands d N13 ∷ stands e N15 ∷ []) ≡ None → (a ≡ false) × (b ≡ false) × (c ≡ false) × (d ≡ false) × (e ≡ false)
-five-none false false false false false h = (refl, refl, refl, refl, refl)
-five-none a b c d e h = cc
+passed : (b c d e : Bool) → first (stands b N11 ∷ stands (not (c || false)) N12 ∷ stands d N13 ∷ stands (e && true) N15 ∷ []) ≡ None → (c ≡ true) × (e ≡ false)
+passed false true false false h = (refl, refl)
+passed b c d e h = cc
 
 -- a Via is met in a copy's first legs alone
 via-passed : (l : Leg) (dom : DomId) (ro : Bool) (dom2 : DomId) (gref : GrantRef) (g r w : ℕ) → first_look l (control_with (Via dom ro dom2 gref) g r w) ≡ None → (is_copying l.purpose ≡ true) × (l.beyond_via ≡ false)
-via-passed l dom ro dom2 gref g r w e = let c = control_with (Via dom ro dom2 gref) g r w in
-    let f = five-none false (not (dom.0 == l.grantee.0)) (not (is_copying l.purpose || is_kind c.kind KindPage)) (not (allows_direction ro l.dir)) (l.beyond_via && is_kind c.kind KindVia) e in
-    (copying (is_copying l.purpose) f.2, beyond l.beyond_via f.4) where
-      copying : (b : Bool) → not (b || false) ≡ false → b ≡ true
-      copying true e = refl
-      copying false e = absurd (true≢false e)
-
-      beyond : (b : Bool) → (b && true) ≡ false → b ≡ false
-      beyond true e = absurd (true≢false e)
-      beyond false e = refl
+via-passed l dom ro dom2 gref g r w e = passed (not (dom.0 == l.grantee.0)) (is_copying l.purpose) (not (allows_direction ro l.dir)) l.beyond_via e
 
 second-beyond : (k : CallerKnowledge) (n : Leg) (e : Entry) (l : Leg) → IsOnFrom k n e l → l.beyond_via ≡ true
 second-beyond k n (Via dom ro dom2 gref) l is = ap (λ (z : Leg). z.beyond_via) is

@@ -174,10 +174,31 @@ module _ {s : Setting} {h : History} {xs : List State} {fs : FrameSet} {x : Stat
 
 -- the ways that a tick goes
 
-call-here : (s : Setting) (h : History) (id : DomId) (o : Option Open) (call : Option Underway) (one : Open) → o ≡ Some one → CallAgrees s h id o call → (c : Underway) × (call ≡ Some c) × OpenAgrees s h id one c
-call-here s h id None call one e a = cc
-call-here s h id (Some o) None one e a = absurd a
-call-here s h id (Some o) (Some c) one e a = (c, refl, subst (λ (x : Open). OpenAgrees s h id x c) (same_Some _ _ e) a)
+-- a domain's open call
+module _ (s : Setting) (h : History) (xs : List State) (dom : DomId) (at : ℕ) (x : State) (o : Open) (place : position (has_id dom.0) xs ≡ Some at) (here : x ≡ get_or xs at x) (under : x.underway ≡ Some o) where
+  open-here : DomainsStand s h xs → (domain_of s.domains dom ≢ None) × (x.id ≡ dom) × Agrees s h x × ((c : Underway) × (open_call h x.id.0 ≡ Some c) × OpenAgrees s h x.id o c)
+  open-here st = let a = agrees-found s h xs dom at x place here st in (a.0, a.1, a.2, by x.underway (open_call h x.id.0) under a.2.call) where
+    by : (u : Option Open) (call : Option Underway) → u ≡ Some o → CallAgrees s h x.id u call → (c : Underway) × (call ≡ Some c) × OpenAgrees s h x.id o c
+    by None call e a = cc
+    by (Some z) None e a = absurd a
+    by (Some z) (Some c) e a = (c, refl, subst (λ (y : Open). OpenAgrees s h x.id y c) (same_Some _ _ e) a)
+
+  -- memory is wanted for it
+  pub tick-wants : DomainsStand s h xs → IsWriting o.step → WantsMemoryNow s h dom
+  tick-wants st writing = let a = open-here st in subst (WantsMemoryNow s h) a.1 (a.3.0, a.3.1, subst IsWritingNext (sym a.3.2.follows) writing)
+
+  -- what its step writes is by right
+  pub tick-admitted : (fs : FrameSet) → CoreStands s h (core_of xs fs) → IsAdmitted fs x o.call o.step
+  tick-admitted fs st = let a = open-here st.domains in open-admitted s h xs fs x o a.3.0 st.domains st.frames a.2 a.3.1 a.3.2
+
+  -- and what it reads is there
+  pub tick-readable : (fs : FrameSet) → CoreStands s h (core_of xs fs) → IsReadable fs o.call o.step
+  tick-readable fs st = let a = open-here st.domains in open-readable s h xs fs x o a.3.0 st.domains st.frames a.3.2
+
+  -- the frames after it
+  tick-frames : (fs gs : FrameSet) (seen : Seen) (answer : Option Answer) → CoreStands s h (core_of xs fs) → AccessedBy x o.call o.step fs gs → FramesStand s (stepped dom o.step seen answer ∷ h) gs
+  tick-frames fs gs seen answer st wrote = let a = open-here st.domains in let u = a.3 in
+      subst (λ (d : DomId). FramesStand s (stepped d o.step seen answer ∷ h) gs) a.1 (frames-stepped s h fs gs x o.call o.step seen answer u.0 u.1 (a.2.given u.0 u.1).0 st.frames wrote)
 
 -- what a domain's tick has to begin with
 pub record Begins (s : Setting) (xs : List State) (dom : DomId) (at : ℕ) (x : State) (o : Open) (seen : Seen) (new : Call) (action : Action) : Type 0 where
@@ -199,10 +220,8 @@ pub record Begun (s : Setting) (h : History) (xs : List State) (dom : DomId) (at
   pub replaced : (new : State) → new.id.0 ≡ x.id.0 → Replaced xs (set xs at new) x new
 
 begun : (s : Setting) (h : History) (xs : List State) (dom : DomId) (at : ℕ) (x : State) (o : Open) (seen : Seen) (new : Call) (action : Action) → DomainsStand s h xs → Begins s xs dom at x o seen new action → Begun s h xs dom at x o seen new action
-begun s h xs dom at x o seen new action st b = let a = agrees-found s h xs dom at x b.place b.here st in
-    let f : state_of xs dom.0 ≡ Some x = found xs dom.0 at x b.place ∙ ap (λ (y : State). Some y) (sym b.here) in
-    let g : state_of xs x.id.0 ≡ Some x = ap (λ (z : DomId). state_of xs z.0) a.1 ∙ f in
-    let u = call-here s h x.id x.underway (open_call h x.id.0) o b.under a.2.call in
+begun s h xs dom at x o seen new action st b = let a = open-here s h xs dom at x o b.place b.here b.under st in let u = a.3 in
+    let g : state_of xs x.id.0 ≡ Some x = ap (λ (z : DomId). state_of xs z.0) a.1 ∙ found xs dom.0 at x b.place ∙ ap (λ (y : State). Some y) (sym b.here) in
     let t = ticks s h xs x o u.0 seen new action st g a.2 u.1 u.2 (b.saw ∙ ap (λ (z : DomId). sees xs z o.step) (sym a.1)) b.caller b.asks b.goes in
     let places = position-Some (has_id dom.0) xs at x b.place in record {
       named = a.0;
@@ -212,14 +231,6 @@ begun s h xs dom at x o seen new action st b = let a = agrees-found s h xs dom a
       ticks = t.1;
       replaced = λ y e q. state_of-set xs at x y q places.0 (sym b.here) e (λ k below. ap (λ (z : DomId). has_id z.0 (get_or xs k x)) a.1 ∙ places.2 k below);
     }
-
--- the same for the domain asked, and what its step saw
-settle : (s : Setting) (h : History) (xs : List State) (dom : DomId) (at : ℕ) (x : State) (o : Open) (seen : Seen) (new : Call) (action : Action) (answer : Option Answer) (zs : List State) → Begun s h xs dom at x o seen new action
-    → Ticked s h x.id o.step (seen_by s h x.id o.step) answer (applied x.id o.step (seen_by s h x.id o.step) zs)
-    → (domain_of s.domains dom ≢ None) × IsRight s h (stepped dom o.step seen answer) × DomainsStand s (stepped dom o.step seen answer ∷ h) (applied dom o.step seen zs)
-settle s h xs dom at x o seen new action answer zs b t =
-    let u = subst (λ (d : DomId). Ticked s h d o.step seen answer (applied d o.step seen zs)) b.is (subst (λ (v : Seen). Ticked s h x.id o.step v answer (applied x.id o.step v zs)) (sym b.same) t) in
-    (b.named, u.0, u.1)
 
 -- what the domain's call comes to by its action
 action-core : (s : Setting) (h : History) (fs : FrameSet) (xs zs : List State) (at : ℕ) (x : State) (o : Open) (c : Underway) (new : Call) (action : Action) (answer : Option Answer) → Ticks s h xs x o c new action → FramesStand s h fs
@@ -247,54 +258,15 @@ room-asked s h xs dom at x o seen new (Done (KeptPin held)) st b =
     subst (λ (q : Asked). IsMapping (Some q)) (sym (t.stands.asks ∙ m.of_map)) tt
 room-asked s h xs dom at x o seen new action st b = tt
 
--- a tick for which memory is wanted
-pub tick-wants : (s : Setting) (h : History) (xs : List State) (dom : DomId) (at : ℕ) (x : State) (o : Open) → position (has_id dom.0) xs ≡ Some at → x ≡ get_or xs at x → x.underway ≡ Some o → DomainsStand s h xs → IsWriting o.step
-    → WantsMemoryNow s h dom
-tick-wants s h xs dom at x o place here under st writing = let a = agrees-found s h xs dom at x place here st in
-    let u = call-here s h x.id x.underway (open_call h x.id.0) o under a.2.call in
-    subst (WantsMemoryNow s h) a.1 (u.0, u.1, subst IsWritingNext (sym u.2.follows) writing)
-
--- the open call of the domain asked
-open-here : (s : Setting) (h : History) (xs : List State) (dom : DomId) (at : ℕ) (x : State) (o : Open) → position (has_id dom.0) xs ≡ Some at → x ≡ get_or xs at x → x.underway ≡ Some o → DomainsStand s h xs
-    → (x.id ≡ dom) × Agrees s h x × ((c : Underway) × (open_call h x.id.0 ≡ Some c) × OpenAgrees s h x.id o c)
-open-here s h xs dom at x o place here under st = let a = agrees-found s h xs dom at x place here st in
-    (a.1, a.2, call-here s h x.id x.underway (open_call h x.id.0) o under a.2.call)
-
--- what its step writes is by right
-pub tick-admitted : (s : Setting) (h : History) (xs : List State) (fs : FrameSet) (dom : DomId) (at : ℕ) (x : State) (o : Open) → position (has_id dom.0) xs ≡ Some at → x ≡ get_or xs at x → x.underway ≡ Some o → CoreStands s h (core_of xs fs)
-    → IsAdmitted fs x o.call o.step
-tick-admitted s h xs fs dom at x o place here under st =
-    let a = open-here s h xs dom at x o place here under st.domains in
-    open-admitted s h xs fs x o a.2.0 st.domains st.frames a.1 a.2.1 a.2.2
-
--- and what it reads is there
-pub tick-readable : (s : Setting) (h : History) (xs : List State) (fs : FrameSet) (dom : DomId) (at : ℕ) (x : State) (o : Open) → position (has_id dom.0) xs ≡ Some at → x ≡ get_or xs at x → x.underway ≡ Some o → CoreStands s h (core_of xs fs)
-    → IsReadable fs o.call o.step
-tick-readable s h xs fs dom at x o place here under st =
-    let a = open-here s h xs dom at x o place here under st.domains in
-    open-readable s h xs fs x o a.2.0 st.domains st.frames a.2.2
-
--- the frames after it
-tick-frames : (s : Setting) (h : History) (xs : List State) (fs gs : FrameSet) (dom : DomId) (at : ℕ) (x : State) (o : Open) (seen : Seen) (answer : Option Answer) → position (has_id dom.0) xs ≡ Some at → x ≡ get_or xs at x → x.underway ≡ Some o
-    → CoreStands s h (core_of xs fs) → AccessedBy x o.call o.step fs gs → FramesStand s (stepped dom o.step seen answer ∷ h) gs
-tick-frames s h xs fs gs dom at x o seen answer place here under st wrote =
-    let a = open-here s h xs dom at x o place here under st.domains in
-    subst (λ (d : DomId). FramesStand s (stepped d o.step seen answer ∷ h) gs) a.0
-    (frames-stepped s h fs gs x o.call o.step seen answer a.2.0 a.2.1 (a.1.given a.2.0 a.2.1).0 st.frames wrote)
-
 -- a step that reads changes no frame, so that its range is there after it too
 pub readable-after : (fs gs : FrameSet) (x : State) (call : Call) (step : Step) → AccessedBy x call step fs gs → IsReadable fs call step → IsReadable gs call step
 readable-after fs gs x call (ReadBytes dom frame off len) wrote a = subst (λ (z : FrameSet). IsReadable z call (ReadBytes dom frame off len)) (sym wrote) a
 readable-after fs gs x call step wrote a = tt
 
 -- and it gives what they held before it
-closed-before : (fs gs : FrameSet) (xs new : List State) (at : ℕ) (x d : State) (call : Call) (step : Step) (answer : Answer) → AccessedBy x call step fs gs → Closed gs xs at d step answer new → Closed fs xs at d step answer new
-closed-before fs gs xs new at x d call (ReadBytes dom frame off len) answer wrote a = subst (λ (z : FrameSet). Closed z xs at d (ReadBytes dom frame off len) answer new) wrote a
-closed-before fs gs xs new at x d call step answer wrote a = a
-
 settled-before : (fs gs : FrameSet) (xs new : List State) (at : ℕ) (x d : State) (old call : Call) (step : Step) (action : Action) (answer : Option Answer) → AccessedBy x old step fs gs
     → Settled gs xs at d step call action answer new → Settled fs xs at d step call action answer new
-settled-before fs gs xs new at x d old call step (Done Granted) answer wrote (a, is, closed) = (a, is, closed-before fs gs xs new at x d old step a wrote closed)
+settled-before fs gs xs new at x d old call (ReadBytes dom frame off len) (Done Granted) answer wrote (a, is, closed) = (a, is, subst (λ (z : FrameSet). Closed z xs at d (ReadBytes dom frame off len) a new) wrote closed)
 settled-before fs gs xs new at x d old call step action answer wrote a = a
 
 -- a tick whose step is told so, where the frames and the states then are those that its step and its call's settling left
@@ -302,9 +274,12 @@ pub tick-does : (s : Setting) (fs gs ks : FrameSet) (xs ys zs : List State) (dom
     → Begins s xs dom at x o seen new action → AccessedBy x o.call o.step fs gs → Settled gs xs at x o.step new action answer zs → ys ≡ applied dom o.step seen zs → ks ≡ gs → Does s (core_of xs fs) (Tick dom) (ticked_element dom told) (core_of ys ks)
 tick-does s fs gs ks xs ys zs dom at x o seen new action answer told is b wrote settled left same = λ h st.
     let n = begun s h xs dom at x o seen new action st.domains b in
-    let r = settle s h xs dom at x o seen new action answer zs n (action-core s h fs xs zs at x o n.c new action answer n.ticks st.frames n.replaced (settled-before fs gs xs zs at x x o.call new o.step action answer wrote settled)) in
-    subst (λ (z : Element). MayDo s h (Tick dom) z × CoreStands s (grown h z) (core_of ys ks)) (sym (ap (ticked_element dom) is ∙ element answer))
-    ((r.0, (refl, tt), r.1), record { domains = subst (DomainsStand s (stepped dom o.step seen answer ∷ h)) (sym left) r.2; frames = subst (FramesStand s (stepped dom o.step seen answer ∷ h)) (sym same) (tick-frames s h xs fs gs dom at x o seen answer b.place b.here b.under st wrote) })
+    let t = action-core s h fs xs zs at x o n.c new action answer n.ticks st.frames n.replaced (settled-before fs gs xs zs at x x o.call new o.step action answer wrote settled) in
+    let r = subst (λ (d : DomId). Ticked s h d o.step seen answer (applied d o.step seen zs)) n.is (subst (λ (v : Seen). Ticked s h x.id o.step v answer (applied x.id o.step v zs)) (sym n.same) t) in
+    subst (λ (z : Element). MayDo s h (Tick dom) z × CoreStands s (grown h z) (core_of ys ks)) (sym (ap (ticked_element dom) is ∙ element answer)) ((n.named, (refl, tt), r.0), record {
+      domains = subst (DomainsStand s (stepped dom o.step seen answer ∷ h)) (sym left) r.1;
+      frames = subst (FramesStand s (stepped dom o.step seen answer ∷ h)) (sym same) (tick-frames s h xs dom at x o b.place b.here b.under fs gs seen answer st wrote);
+    })
   where
     element : (a : Option Answer) → ticked_element dom (ticked_with o.step seen a) ≡ Did (stepped dom o.step seen a)
     element None = refl

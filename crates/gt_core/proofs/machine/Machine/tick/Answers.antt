@@ -29,7 +29,7 @@ write_bytes-requires g c = let s = setting_by g.P.Allows.may c.args.self.now in 
     let is : x.underway ≡ Some o = sym c.underway.ensures ∙ c.in-Some-underway.is in
     let domain = c.index-2.result.now in
     let written : x ≡ domain = same_Some _ _ (sym here ∙ place-at xs c.args.dom.0 at domain p c.index-2.ensures) in
-    subst (λ (z : State). IsAdmitted c.args.self.now.frames z o.call o.step) written (tick-admitted s c.requires.0 xs c.args.self.now.frames c.args.dom at x o p c.index.ensures is c.requires.1)
+    subst (λ (z : State). IsAdmitted c.args.self.now.frames z o.call o.step) written (tick-admitted s c.requires.0 xs c.args.dom at x o p c.index.ensures is c.args.self.now.frames c.requires.1)
 
 pub go_on_or_end-answer-requires-clause-under : goal.go_on_or_end-answer-requires-clause-under
 go_on_or_end-answer-requires-clause-under g c = let xs = c.args.self.now.domains.items in let at = c.in-Some.at in
@@ -45,7 +45,7 @@ go_on_or_end-answer-requires-clause-readable g c = let s = setting_by g.P.Allows
     let written : c.index-2.result.now ≡ x = same_Some _ _ (sym (place-at xs c.args.dom.0 at c.index-2.result.now p c.index-2.ensures) ∙ here) in
     let wrote = subst (λ (z : State). AccessedBy z o.call o.step c.args.self.now.frames c.write_bytes.new.frames) written c.in_ok-write_bytes.ensures.accessed in
     readable-after c.args.self.now.frames c.write_bytes.new.frames x o.call o.step wrote
-    (tick-readable s c.requires.0 xs c.args.self.now.frames c.args.dom at x o p c.index.ensures (sym c.underway.ensures ∙ c.in-Some-underway.is) c.requires.1)
+    (tick-readable s c.requires.0 xs c.args.dom at x o p c.index.ensures (sym c.underway.ensures ∙ c.in-Some-underway.is) c.args.self.now.frames c.requires.1)
 
 pub go_on_or_end-answer-requires-clause-room : goal.go_on_or_end-answer-requires-clause-room
 go_on_or_end-answer-requires-clause-room g c = let s = setting_by g.P.Allows.may c.args.self.now in let xs = c.args.self.now.domains.items in
