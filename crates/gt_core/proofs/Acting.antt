@@ -1,6 +1,6 @@
 -- What each step of an open call rests on, by the history.
 use Rattle.gt_core.proofs.Words.{◌≡◌, ◌≢◌, ◌<◌, ◌≤◌, ◌+◌, ◌⊎◌, inl, inr, ℕ, refl, Bool, true, false, List, [], ◌∷◌, Option, None, sym, ap, ◌∙◌, subst, reverse, arith, eqb-false, leb-false, ltb-false, false≢true, ◌==◌, nat_lt, domain_of, resolved, DomId, GrantRef, Dir, Read, Write, ForMap, TABLE_ENTRIES, LAST_GENERATION, MAX_TABLE_FRAMES, MAX_PINS, Rule, N16, Entry, Invalid, Page, Sub, Via, Change, Publish, ToInvalid, ToReadOnly, ToWritable, Half, FirstHalf, SecondHalf, frame_of, permits, control_of, Held, Asked, Grant, Map, Copy, SetVersion, SetupTable, Seen, PinStep, StoreHeader, Exchange, Makes, Aim, Mapping, Source, Dest, Phase, Exchanging, Changing, Walking, Last, Ending, Leg, LegPhase, Pinning, last_first, CallerKnowledge, begun, stands, first, first_look, before_pin, frames_of, path, held_of, map_leg, Continuation, opens, RestsOnRequest, IsFor, action_at, leg_step, HasShown, IsQuiet, State, History, Setting, entry_at, generation_at, body_at, reads_at, writes_at, control_at, word_at, known_at, legs_at, raise_of, IsSafeChange, IsSpelled, MayUse, leg_at, rule_before_pin, StepsSoFar, DomainsStand, FitsAsked, FitsTable, PhaseStands, numbered, Demote, Promote, pins_so_far, map_dir, Pins, Step, LAST_VERSION, N14, N17, pins_of, is_outside, is_past_owner, RestsOnTry, RestsOnGrant, Lets, NoneStands, RestsOnWord}
-use Rattle.gt_core.proofs.{Phases.by-leg, Phases.none-of, Phases.IsHere, Phases.makes-same, Phases.words-of, Phases.word-below, Phases.grant-invalid, Phases.idle-no-pins, Phases.of-run, Phases.by-giving, Seeing.word-shows, Judging.writes-shown, Aims.leg-here, Legs.IsAsTried, Legs.as-tried, Legs.still-judged, Legs.control-parts, Pinning.pins_at, Exchanging.FitsChange, Keeping.counts-fit}
+use Rattle.gt_core.proofs.{Phases.by-leg, Phases.none-of, Phases.IsHere, Phases.makes-same, Phases.words-of, Phases.word-below, Phases.grant-invalid, Phases.of-run, Phases.by-giving, Seeing.word-shows, Judging.writes-shown, Aims.leg-here, Legs.IsAsTried, Legs.as-tried, Legs.still-judged, Legs.control-parts, Pinning.pins_at, Exchanging.FitsChange, Keeping.counts-fit, Phases.idle-pins}
 
 -- an owner's change
 
@@ -31,9 +31,6 @@ generation-fits s h xs t r st within = let f = (st.words t r within).in_range.ge
 not-last : (g : ℕ) → g ≤ LAST_GENERATION → g ≢ LAST_GENERATION → g + 1 ≤ LAST_GENERATION
 not-last g le apart = omega arith
 
-stops-none : (n : ℕ) → nat_lt 0 n ≡ false → n ≡ 0
-stops-none n e = let le = ltb-false 0 n e in omega arith
-
 pub can-change : (s : Setting) (h : History) (xs : List State) (d : DomId) (r : Asked) (shown : List Seen) (so_far : StepsSoFar) (phase : Phase) (gref : GrantRef) (looked : ℕ) (change : Change) → IsHere s h xs d r shown so_far phase (Exchange gref looked change)
     → word_at s h d.0 gref.0 ≡ looked → CanChange s h d gref change
 can-change s h xs d r shown so_far phase gref looked change i same = by change i.rests.1 i.acts where
@@ -53,11 +50,11 @@ can-change s h xs d r shown so_far phase gref looked change i same = by change i
     fits = subst FitsAsked rests.0 i.fits;
     room = not-last (generation_at s h d.0 gref.0) fits-now (opens k d (Grant gref entry) none).not_worn;
   }
-  by ToInvalid rests acts = let free : reads_at h d.0 gref.0 + writes_at h d.0 gref.0 ≡ 0 = idle-no-pins s h d gref (same ∙ rests.1) in let room = fits-now in
+  by ToInvalid rests acts = let free : reads_at h d.0 gref.0 + writes_at h d.0 gref.0 ≡ 0 = idle-pins (entry_at h d.0 gref.0) (generation_at s h d.0 gref.0) (reads_at h d.0 gref.0) (writes_at h d.0 gref.0) (same ∙ rests.1) in let room = fits-now in
       record { within = below; safe = (omega arith, omega arith); fits = tt; room = (omega arith) }
   by ToReadOnly rests acts = record {
     within = below;
-    safe = sym (writes-shown s h d.0 gref.0 (word-shows s h xs d.0 gref.0 i.st below)) ∙ ap (λ (n : ℕ). (control_of n).writes) same ∙ stops-none (control_of looked).writes rests.2;
+    safe = sym (writes-shown s h d.0 gref.0 (word-shows s h xs d.0 gref.0 i.st below)) ∙ ap (λ (n : ℕ). (control_of n).writes) same ∙ (let le = ltb-false 0 (control_of looked).writes rests.2 in omega arith);
     fits = tt;
     room = not-last (generation_at s h d.0 gref.0) fits-now (opens k d (Demote gref) (none-of k d r (Demote gref) rests.0 i.rests.0)).not_worn;
   }

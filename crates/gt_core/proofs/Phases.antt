@@ -23,12 +23,8 @@ pub record IsHere (s : Setting) (h : History) (xs : List State) (d : DomId) (r :
   pub rests : Rests (known_at s h d) d r (pins_at phase) shown (Makes step)
   pub fits : FitsAsked r
 
-abbrev step_in : Action → Step → Step
-step_in (Makes step) other = step
-step_in (Done verdict) other = other
-
 pub makes-same : (a b : Step) → Makes a ≡ Makes b → a ≡ b
-makes-same a b e = ap (λ (x : Action). step_in x a) e
+makes-same a b e = cc
 
 -- what holds of the step of an action
 abbrev pub OfAction : (Step → Type 0) → Action → Type 0
@@ -138,9 +134,6 @@ idle-here s h d gref none = let r : reads_at h d.0 gref.0 ≡ 0 = omega arith in
     ap (λ (n : ℕ). control_word (control_with (entry_at h d.0 gref.0) (generation_at s h d.0 gref.0) n (writes_at h d.0 gref.0))) r
     ∙ ap (λ (n : ℕ). control_word (control_with (entry_at h d.0 gref.0) (generation_at s h d.0 gref.0) 0 n)) w
 
-pub idle-no-pins : (s : Setting) (h : History) (d : DomId) (gref : GrantRef) → word_at s h d.0 gref.0 ≡ idle_word (known_at s h d) gref → reads_at h d.0 gref.0 + writes_at h d.0 gref.0 ≡ 0
-idle-no-pins s h d gref e = idle-pins (entry_at h d.0 gref.0) (generation_at s h d.0 gref.0) (reads_at h d.0 gref.0) (writes_at h d.0 gref.0) e
-
 invalid-is : (e : Entry) → is_invalid e ≡ true → e ≡ Invalid
 invalid-is Invalid e = refl
 invalid-is z e = absurd (false≢true e)
@@ -156,7 +149,3 @@ publish-here s h xs d r shown gref looked (Publish entry) st none rests =
     let a : reads_at h d.0 gref.0 ≡ 0 = free.0 in let b : writes_at h d.0 gref.0 ≡ 0 = free.1 in
     idle-here s h d gref (omega arith) ∙ sym rests.1
 publish-here s h xs d r shown gref looked change st none rests = tt
-
-pub turn-publishes : (s : Setting) (h : History) (d : DomId) (r : Asked) (gref : GrantRef) (looked : ℕ) (change : Change) → IsTurn r gref change → IsPublished s h d (Exchange gref looked change)
-turn-publishes s h d r gref looked (Publish entry) is = absurd is
-turn-publishes s h d r gref looked change is = tt

@@ -109,9 +109,6 @@ module _ {s : Setting} {h : History} {xs : List State} {x : State} {o : Open} {c
       by (FramesTold n) = (tt, refl)
       by z = (tt, refl)
 
-  refused-core : (ys : List State) {denial : Denial} (t : Ticks s h xs x o c new (Done (Refused denial))) → Replaced xs ys x (record x { underway = None }) → Ticked s h x.id o.step (seen_in t) (Some (Denied denial)) (applied x.id o.step (seen_in t) ys)
-  refused-core ys {denial} t r = ends-core ys (Denied denial) t r tt (λ m e. cc) refl tt
-
   -- a map with its pin
   mapped-core : (ys : List State) {held : Held} (handle : Handle) (kept : HandleMap Held) (t : Ticks s h xs x o c new (Done (KeptPin held))) → Replaced xs ys x (record x { mappings = kept; underway = None })
       → Adds x.mappings kept handle held → Ticked s h x.id o.step (seen_in t) (Some (Mapped handle)) (applied x.id o.step (seen_in t) ys)
@@ -248,7 +245,7 @@ action-core s h fs xs zs at x o c new action answer t fr r settled = by action t
   by (Done Granted) t (a, is, closed) = become (Some a) zs is refl (granted-core t fr at a zs (r (with_underway None x) refl) closed)
   by (Done (KeptPin held)) t (a, is, (handle, kept, gives, adds, left)) = become (Some (Mapped handle)) _ (is ∙ ap (λ (z : Answer). Some z) gives) left (mapped-core _ handle kept t (r (with_mapping kept x) refl) adds)
   by (Done (Given value)) t (a, is, (gives, left)) = become (Some (answer_with value)) _ (is ∙ ap (λ (z : Answer). Some z) gives) left (given-core _ t (r (with_underway None x) refl))
-  by (Done (Refused denial)) t (a, is, (gives, left)) = become (Some (Denied denial)) _ (is ∙ ap (λ (z : Answer). Some z) gives) left (refused-core _ t (r (with_underway None x) refl))
+  by (Done (Refused denial)) t (a, is, (gives, left)) = become (Some (Denied denial)) _ (is ∙ ap (λ (z : Answer). Some z) gives) left (ends-core _ (Denied denial) t (r (with_underway None x) refl) tt (λ m e. cc) refl tt)
 
 -- a map that is over had asked for its room when it began
 pub room-asked : (s : Setting) (h : History) (xs : List State) (dom : DomId) (at : ℕ) (x : State) (o : Open) (seen : Seen) (new : Call) (action : Action) → DomainsStand s h xs → Begins s xs dom at x o seen new action → IsRoomFor o.call.request action

@@ -108,20 +108,12 @@ goes-not d z p pins v none e is = let f : Makes z ≡ Done v = e ∙ ap (action_
 
 -- where a store leads
 
-plain-spelled : (entry : Entry) (first second : ℕ) → (IsSubPage entry → ⊥) → first ≡ first_body entry → IsSpelled entry first second
-plain-spelled Invalid first second n f = tt
-plain-spelled (Sub dom ro frame off len) first second n f = absurd (n tt)
-plain-spelled entry first second n f = f
-
-leg-store : (l : Leg) (at : LegPhase) → IsStore (leg_step l at) → ⊥
-leg-store = by-leg (λ (z : Step). IsStore z → ⊥) (λ dom n. n) (λ dom gref n. n) (λ dom gref half n. n) (λ p n. n)
-
 -- what holds of each call that is about to store a body word
 pub by-storing : (s : Setting) (h : History) (d : DomId) (r : Asked) (way : Continuation) (shown : List Seen) (P : Phase → Step → Type 0) → ((g : GrantRef) (entry : Entry) → P (Storing g entry) (StoreBody g FirstHalf (first_body entry)))
     → ((g : GrantRef) (entry : Entry) → P (StoringSecond g entry) (StoreBody g SecondHalf (second_body entry))) → (phase : Phase) (step : Step) → HasShown (known_at s h d) way d r shown phase → action_at d phase ≡ Makes step → IsStore step → P phase step
 by-storing s h d r way shown P first second (Storing g entry) step a e n = subst (P (Storing g entry)) (makes-same _ _ e) (first g entry)
 by-storing s h d r way shown P first second (StoringSecond g entry) step a e n = subst (P (StoringSecond g entry)) (makes-same _ _ e) (second g entry)
-by-storing s h d r way shown P first second (Walking aim l at) step a e n = absurd (leg-store l at (subst IsStore (sym (makes-same _ _ e)) n))
+by-storing s h d r way shown P first second (Walking aim l at) step a e n = absurd (by-leg (λ (z : Step). IsStore z → ⊥) (λ dom n. n) (λ dom gref n. n) (λ dom gref half n. n) (λ p n. n) l at (subst IsStore (sym (makes-same _ _ e)) n))
 by-storing s h d r way shown P first second (Last last verdict) step a e n =
     absurd (subst (λ (z : Step). IsStore z → RestsOnRequest (known_at s h d) d r z → ⊥) (sym (makes-same _ _ e)) (by step n) (subst IsStore (sym (makes-same _ _ e)) n) a.1)
   where
@@ -136,8 +128,8 @@ StoreLeads s h d r shown so_far now phase step = HasShown (known_at s h d) (path
 
 first-leads : (s : Setting) (h : History) (d : DomId) (r : Asked) (shown : List Seen) (so_far now : StepsSoFar) (g : GrantRef) (entry : Entry) → StoreLeads s h d r shown so_far now (Storing g entry) (StoreBody g FirstHalf (first_body entry))
 first-leads s h d r shown so_far now g (Sub dom ro frame off len) a b = half-stored d g FirstHalf (first_body (Sub dom ro frame off len)) h
-first-leads s h d r shown so_far now g y a b = let i = stores d g FirstHalf (first_body y) in
-    plain-spelled y (body_at (i ∷ h) d.0 g.0 FirstHalf) (body_at (i ∷ h) d.0 g.0 SecondHalf) (λ n. n) (half-stored d g FirstHalf (first_body y) h)
+first-leads s h d r shown so_far now g Invalid a b = tt
+first-leads s h d r shown so_far now g y a b = half-stored d g FirstHalf (first_body y) h
 
 second-leads : (s : Setting) (h : History) (d : DomId) (r : Asked) (shown : List Seen) (so_far now : StepsSoFar) (g : GrantRef) (entry : Entry) → StoreLeads s h d r shown so_far now (StoringSecond g entry) (StoreBody g SecondHalf (second_body entry))
 second-leads s h d r shown so_far now g (Sub dom ro frame off len) a b = let w = second_body (Sub dom ro frame off len) in (first-stays d g w g.0 h ∙ b, half-stored d g SecondHalf w h)
