@@ -84,7 +84,7 @@ plain-leg k d r aim l is = ap is_demote is.0
 
 pub walk-comes : (s : Setting) (h : History) (d : DomId) (r : Asked) (so_far : StepsSoFar) (aim : Aim) (l : Leg) (at : LegPhase) → Words s h l → IsFor (known_at s h d) d r aim l → IsLegOf s h d r l (pair_of d aim) → LegStands s h l so_far at
     → TakesNone s h d l at → ComesTo s h l ((leg_step l at, seen_by s h d (leg_step l at)) ∷ so_far) (first_at s h d r so_far (leg_step l at)) (leg_after l at (seen_by s h d (leg_step l at)))
-walk-comes s h d r so_far aim l at ws is leg a none = leg-comes s h d r l (pair_of d aim) so_far at leg (plain-leg (known_at s h d) d r aim l is) ws a none
+walk-comes s h d r so_far aim l at ws is leg a none = leg-comes s h l ws d r (pair_of d aim) leg (plain-leg (known_at s h d) d r aim l is) so_far at a none
 
 -- a pin that is taken
 
