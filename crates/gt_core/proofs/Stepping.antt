@@ -1,6 +1,5 @@
 -- What the core does for a step of an open call: it is right, and the core stands for it.
-use Rattle.gt_core.proofs.Words.{◌≡◌, ◌≢◌, inl, inr, ℕ, refl, Bool, List, [], ◌∷◌, ◌++◌, length, Option, Some, None, cond, sym, ap, ◌∙◌, subst, reverse, eqb-true, eq-eqb, length-reverse, reverse_onto, same_Some, ◌==◌, DomId, GrantRef, Denial, Entry, Invalid, Half, Handle, Held, Asked, ByMapping, ByLeg, Seen, Nothing, Taken, Missed, Verdict, Granted, Given, KeptPin, Refused, Step, PinStep, Unpin, StoreBody, StoreHeader, Exchange, ReadBytes, WriteBytes, CopyBytes, Action, Makes, Done, Call, Phase, Storing, Walking, Last, Ending, last_first, knowledge_of, path, phase_after, action_at, after_store, HasShown, pins_at, held_in, Goes, Open, Item, Answer, Denied, AnswerDone, Mapped, State, state_of, sees, History, Setting, live, word_at, known_at, legs_at, mappings_at, mapping_of, seen_by, Underway, values, open_call, underway_after, holder_after, one_if_mapped, StepsRight, GivesValue, refusal_in, refusal_of, DomainsStand, Agrees, CallAgrees, OpenAgrees, numbered, position, get_or, set, position-Some, domain_of, Value, FramesTold, BytesAnswer, HandleMap, applied, with_underway, with_mapping, Adds, IsReadable, IsAdmitted, AccessedBy, bytes_at, FrameSet, frame_at, contents_at, IsRight, StepsRightIn, CoreStands, FramesStand, core_of, Settled, IsLawful, IsLawfullyHeld, answer_with, Closed, IsRoomFor, IsMapping, ticked_with, ticked_element, Element, Tick, MayDo, Does, Did, grown, without, RestsOnRequest, WantsMemoryNow, IsWritingNext, TickTold, IsWriting, cond_both, CallerKnowledge, GivenAgrees}
-use Rattle.std.specs.Prelude.{take, drop}
+use Rattle.gt_core.proofs.Words.{◌≡◌, ◌≢◌, inl, inr, ℕ, refl, Bool, List, [], ◌∷◌, ◌++◌, length, Option, Some, None, cond, sym, ap, ◌∙◌, subst, reverse, eqb-true, eq-eqb, length-reverse, reverse_onto, same_Some, ◌==◌, DomId, GrantRef, Denial, Entry, Invalid, Half, Handle, Held, Asked, ByMapping, ByLeg, Seen, Nothing, Taken, Missed, Verdict, Granted, Given, KeptPin, Refused, Step, PinStep, Unpin, StoreBody, StoreHeader, Exchange, ReadBytes, WriteBytes, CopyBytes, Action, Makes, Done, Call, Phase, Storing, Walking, Last, Ending, last_first, knowledge_of, path, phase_after, action_at, after_store, HasShown, pins_at, held_in, Goes, Open, Item, Answer, Denied, AnswerDone, Mapped, State, state_of, sees, History, Setting, live, word_at, known_at, legs_at, mappings_at, mapping_of, seen_by, Underway, values, open_call, underway_after, holder_after, one_if_mapped, StepsRight, GivesValue, refusal_in, refusal_of, DomainsStand, Agrees, CallAgrees, OpenAgrees, numbered, position, get_or, set, position-Some, domain_of, Value, FramesTold, BytesAnswer, HandleMap, applied, with_underway, with_mapping, Adds, IsReadable, IsAdmitted, AccessedBy, bytes_at, FrameSet, frame_at, contents_at, IsRight, StepsRightIn, CoreStands, FramesStand, core_of, Settled, IsLawful, IsLawfullyHeld, answer_with, Closed, IsRoomFor, IsMapping, ticked_with, ticked_element, Element, Tick, MayDo, Does, Did, grown, without, RestsOnRequest, WantsMemoryNow, IsWritingNext, TickTold, IsWriting, cond_both, CallerKnowledge, GivenAgrees, take, drop}
 use Rattle.gt_core.{proofs.Values.call-ends, proofs.Pinning.pins, proofs.Pinning.map-legs, proofs.Pinning.new_pin, proofs.Pinning.pin-stands, proofs.Pinning.map-agrees, proofs.Pinning.leg-agrees as pin-agrees, proofs.Keeping.stepped, proofs.Keeping.KeepsEntries, proofs.Keeping.open_call-own, proofs.Keeping.quiet-stands, proofs.Others.KeepsKnown, proofs.Placing.IsStore, proofs.Phases.IsHere, proofs.Phases.makes-same, proofs.Phases.by-giving, proofs.Storing.header-stands, proofs.Storing.store-stands, proofs.Framing.bytes-held, proofs.Framing.open-admitted, proofs.Framing.open-readable, proofs.Framing.frames-stepped, proofs.Outcomes.next_of, proofs.Outcomes.ends-so, proofs.Ticking.Ticks, proofs.Ticking.ticks, proofs.Ticking.given-goes-on, proofs.Ticking.legs-after, proofs.Ticking.open-after, proofs.Ticking.goes-right, proofs.Ticking.ends-right, proofs.Ticking.last-fact, proofs.Ticking.LastFact, proofs.Ticking.by-storing, proofs.Ticking.seen_in, proofs.Ticking.phase_then, proofs.Ticking.history_then, proofs.Unpinning.Loses, proofs.Unpinning.unpin-stands, proofs.Unpinning.becomes-unpinned, proofs.Unpinning.loses-leg, proofs.Unpinning.loses-mapping, proofs.Unpinning.mapping-agrees, proofs.Unpinning.leg-agrees as unpin-agrees, proofs.Acting.can-change, proofs.Acting.can-pin, proofs.Acting.store-invalid, proofs.Acting.header-fits, proofs.Acting.map-lawful, proofs.Acting.CanPin, proofs.Exchanging.exchange-stands, proofs.Beginning.agrees-found, proofs.Rows.has_id, proofs.Rows.found, proofs.Rows.state_of-set, specs.declared.trace.Bytes.Bytes}
 
 -- the states where just the actor's call, or its handles or bytes, are others
@@ -112,32 +111,23 @@ module _ {s : Setting} {h : History} {xs : List State} {x : State} {o : Open} {c
   -- a map with its pin
   mapped-core : (ys : List State) {held : Held} (handle : Handle) (kept : HandleMap Held) (t : Ticks s h xs x o c new (Done (KeptPin held))) → Replaced xs ys x (record x { mappings = kept; underway = None })
       → Adds x.mappings kept handle held → Ticked s h x.id o.step (seen_in t) (Some (Mapped handle)) (applied x.id o.step (seen_in t) ys)
-  mapped-core ys {held} handle kept t r adds = by (seen_in t) refl where
-    d : DomId
-    d = x.id
-
-    by : (seen : Seen) → seen_in t ≡ seen → Ticked s h d o.step seen (Some (Mapped handle)) (applied d o.step seen ys)
-    by seen saw =
-        let m = call-ends s h xs d c.request (values c) (reverse c.steps) t.stands.phase o.step t.i (KeptPin held) (sym t.acts) in
-        let taken : seen ≡ Taken = sym saw ∙ ap (seen_by s h d) m.is ∙ ap (λ (b : Bool). cond b Taken (Missed (word_at s h held.dom.0 held.gref.0))) (eq-eqb (word_at s h held.dom.0 held.gref.0) held.word m.taken) in
-        let j : IsHere s h xs d c.request (values c) (reverse c.steps) t.stands.phase (PinStep held) = subst (IsHere s h xs d c.request (values c) (reverse c.steps) t.stands.phase) m.is t.i in
-        let can : CanPin s h d c.request held = can-pin s h xs d c.request (values c) (reverse c.steps) t.stands.phase held j m.taken in
-        let law = map-lawful s h d c.request held (values c) (pins_at t.stands.phase) j.rests.0 j.rests.1 m.dom m.gref m.flags m.of_map in
-        let lawful : IsLawful s (new_pin h d held (Some (Mapped handle))) =
-        subst (λ (q : Held). IsLawfullyHeld s (record { actor = d.0; holder = ByMapping handle; held = q }) (ByMapping handle)) (sym can.is) law in
-        let legs : legs_at (pins d held (Some (Mapped handle)) ∷ h) d.0 ≡ [] = map-legs h d held handle ∙ t.stands.held ∙ ap (λ (l : List Held). numbered 0 (reverse l)) m.none in
-        let maps = map-agrees h d held handle x.mappings kept (subst (λ (q : Held). Adds x.mappings kept handle q) (sym can.is) adds) t.agrees.mappings in
-        let after = pin-stands s h xs ys x held (Some (Mapped handle)) kept None t.i.st t.here t.agrees r can.valid can.few lawful maps (call-over s h d (PinStep held) Taken (Mapped handle) legs) (given-goes-on d (PinStep held) Taken (Some (Mapped handle)) h x.given t.agrees.given) in
-        let same_step : stepped d o.step (seen_by s h d o.step) (Some (Mapped handle)) ≡ pins d held (Some (Mapped handle)) =
-        ap (λ (v : Seen). stepped d o.step v (Some (Mapped handle))) (saw ∙ taken) ∙ ap (λ (z : Step). stepped d z Taken (Some (Mapped handle))) m.is in
-        let value : GivesValue s h d c.request (Some o.step) (Mapped handle) =
-        subst (λ (z : Step). GivesValue s h d c.request (Some z) (Mapped handle)) (sym m.is)
-        (subst (λ (q : Asked). GivesValue s h d q (Some (PinStep held)) (Mapped handle)) (sym m.of_map) (adds.serial ∙ t.agrees.mappings.given)) in (
-          subst (λ (v : Seen). IsRight s h (stepped d o.step v (Some (Mapped handle)))) saw
-              (right-in s h d o.step (seen_by s h d o.step) (Some (Mapped handle)) c t.call (ends-right t (Mapped handle) refl (ap (λ (k : Item). legs_at (k ∷ h) d.0) same_step ∙ legs) value)),
-          subst (λ (z : Step). DomainsStand s (stepped d z seen (Some (Mapped handle)) ∷ h) (applied d z seen ys)) (sym m.is)
-              (subst (λ (v : Seen). DomainsStand s (stepped d (PinStep held) v (Some (Mapped handle)) ∷ h) (applied d (PinStep held) v ys)) (sym taken) after),
-        )
+  mapped-core ys {held} handle kept t r adds = let d = x.id in let answer : Option Answer = Some (Mapped handle) in
+      let m = call-ends s h xs d c.request (values c) (reverse c.steps) t.stands.phase o.step t.i (KeptPin held) (sym t.acts) in
+      let saw : seen_in t ≡ Taken = ap (seen_by s h d) m.is ∙ ap (λ (b : Bool). cond b Taken (Missed (word_at s h held.dom.0 held.gref.0))) (eq-eqb (word_at s h held.dom.0 held.gref.0) held.word m.taken) in
+      let j : IsHere s h xs d c.request (values c) (reverse c.steps) t.stands.phase (PinStep held) = subst (IsHere s h xs d c.request (values c) (reverse c.steps) t.stands.phase) m.is t.i in
+      let can : CanPin s h d c.request held = can-pin s h xs d c.request (values c) (reverse c.steps) t.stands.phase held j m.taken in
+      let law = map-lawful s h d c.request held (values c) (pins_at t.stands.phase) j.rests.0 j.rests.1 m.dom m.gref m.flags m.of_map in
+      let lawful : IsLawful s (new_pin h d held answer) = subst (λ (q : Held). IsLawfullyHeld s (record { actor = d.0; holder = ByMapping handle; held = q }) (ByMapping handle)) (sym can.is) law in
+      let legs : legs_at (pins d held answer ∷ h) d.0 ≡ [] = map-legs h d held handle ∙ t.stands.held ∙ ap (λ (l : List Held). numbered 0 (reverse l)) m.none in
+      let maps = map-agrees h d held handle x.mappings kept (subst (λ (q : Held). Adds x.mappings kept handle q) (sym can.is) adds) t.agrees.mappings in
+      let stands = pin-stands s h xs ys x held answer kept None t.i.st t.here t.agrees r can.valid can.few lawful maps (call-over s h d (PinStep held) Taken (Mapped handle) legs) (given-goes-on d (PinStep held) Taken answer h x.given t.agrees.given) in
+      let same : stepped d o.step (seen_in t) answer ≡ pins d held answer = ap (λ (v : Seen). stepped d o.step v answer) saw ∙ ap (λ (z : Step). stepped d z Taken answer) m.is in
+      let value : GivesValue s h d c.request (Some o.step) (Mapped handle) = subst (λ (z : Step). GivesValue s h d c.request (Some z) (Mapped handle)) (sym m.is)
+          (subst (λ (q : Asked). GivesValue s h d q (Some (PinStep held)) (Mapped handle)) (sym m.of_map) (adds.serial ∙ t.agrees.mappings.given)) in (
+        right-in s h d o.step (seen_in t) answer c t.call (ends-right t (Mapped handle) refl (ap (λ (k : Item). legs_at (k ∷ h) d.0) same ∙ legs) value),
+        subst (λ (v : Seen). DomainsStand s (stepped d o.step v answer ∷ h) (applied d o.step v ys)) (sym saw)
+            (subst (λ (z : Step). DomainsStand s (stepped d z Taken answer ∷ h) (applied d z Taken ys)) (sym m.is) stands),
+      )
 
 -- a call that is answered Ok with no value but bytes
 

@@ -1,6 +1,5 @@
-use Rattle.gt_core.proofs.Words.{sym, ◌∙◌, ap, Some, ◌≡◌, ℕ, List, refl, subst, None, Option, position, is_some, Open, with_call, given_by, State, kept_by, ◌<◌, ◌+◌, knowledge_of, DomainsStand, Opens, same_Some, set, ◌∷◌, Opening}
+use Rattle.gt_core.proofs.Words.{sym, ◌∙◌, ap, Some, ◌≡◌, ℕ, List, refl, subst, None, Option, position, is_some, Open, with_call, given_by, State, kept_by, ◌<◌, ◌+◌, knowledge_of, DomainsStand, Opens, same_Some, set, ◌∷◌, Opening, ◌^◌}
 use Rattle.gt_core.{proofs.Beginning.serial-left, proofs.Beginning.begin-wants, proofs.Beginning.begin-nowhere, proofs.Beginning.begin-busy, proofs.Beginning.begin-answers, proofs.Beginning.begin-opened, proofs.Beginning.place-at, proofs.Beginning.began, proofs.Rows.has_id, proofs.Rows.on-err, specs.Standing.setting_by}
-use Rattle.std.proofs.Common.{◌^◌}
 use Rattle.gt_core.proofs.machine.Machine.begin.Goals as goal
 
 pub returns-in_default-clause-stands : goal.returns-in_default-clause-stands
