@@ -1,6 +1,6 @@
 -- What each step of an open call rests on, by the history.
-use Rattle.gt_core.proofs.Words.{◌≡◌, ◌≢◌, ◌<◌, ◌≤◌, ◌+◌, ◌⊎◌, inl, inr, ℕ, refl, Bool, true, false, List, [], ◌∷◌, Option, None, sym, ap, ◌∙◌, subst, reverse, arith, eqb-false, leb-false, ltb-false, false≢true, ◌==◌, nat_lt, domain_of, resolved, DomId, GrantRef, Dir, Read, Write, ForMap, TABLE_ENTRIES, LAST_GENERATION, MAX_TABLE_FRAMES, MAX_PINS, Rule, N16, Entry, Invalid, Page, Sub, Via, Change, Publish, ToInvalid, ToReadOnly, ToWritable, Half, FirstHalf, SecondHalf, frame_of, permits, control_of, Held, Asked, Grant, Map, Copy, SetVersion, SetupTable, Seen, PinStep, StoreHeader, Exchange, Makes, Aim, Mapping, Source, Dest, Phase, Exchanging, Changing, Walking, Last, Ending, Leg, LegPhase, Pinning, last_first, CallerKnowledge, begun, stands, first, first_look, before_pin, frames_of, path, held_of, map_leg, Continuation, opens, RestsOnRequest, IsFor, action_at, leg_step, HasShown, IsQuiet, State, History, Setting, entry_at, generation_at, body_at, reads_at, writes_at, control_at, word_at, known_at, legs_at, raise_of, IsSafeChange, IsSpelled, MayUse, leg_at, rule_before_pin, StepsSoFar, DomainsStand, FitsAsked, FitsTable, PhaseStands, numbered, Demote, Promote, pins_so_far, map_dir, Pins, Step, LAST_VERSION, N14, N17, pins_of, is_outside, is_past_owner, RestsOnTry, RestsOnGrant, Lets, NoneStands}
-use Rattle.gt_core.proofs.{Phases.by-leg, Phases.none-of, Phases.IsHere, Phases.makes-same, Phases.words-of, Phases.word-below, Phases.grant-invalid, Phases.idle-no-pins, Phases.of-run, Phases.by-giving, Seeing.word-shows, Judging.writes-shown, Aims.leg-here, Legs.IsAsTried, Legs.as-tried, Legs.still-judged, Legs.control-parts, Pinning.pins_at, Exchanging.FitsChange, Keeping.counts-fit}
+use Rattle.gt_core.proofs.Words.{◌≡◌, ◌≢◌, ◌<◌, ◌≤◌, ◌+◌, ◌⊎◌, inl, inr, ℕ, refl, Bool, true, false, List, [], ◌∷◌, Option, None, sym, ap, ◌∙◌, subst, reverse, arith, eqb-false, leb-false, ltb-false, false≢true, ◌==◌, nat_lt, domain_of, resolved, DomId, GrantRef, Dir, Read, Write, ForMap, TABLE_ENTRIES, LAST_GENERATION, MAX_TABLE_FRAMES, MAX_PINS, Rule, N16, Entry, Invalid, Page, Sub, Via, Change, Publish, ToInvalid, ToReadOnly, ToWritable, Half, FirstHalf, SecondHalf, frame_of, permits, control_of, Held, Asked, Grant, Map, Copy, SetVersion, SetupTable, Seen, PinStep, StoreHeader, Exchange, Makes, Aim, Mapping, Source, Dest, Phase, Exchanging, Changing, Walking, Last, Ending, Leg, LegPhase, Pinning, last_first, CallerKnowledge, begun, stands, first, first_look, before_pin, frames_of, path, held_of, map_leg, Continuation, opens, RestsOnRequest, IsFor, action_at, leg_step, HasShown, IsQuiet, State, History, Setting, entry_at, generation_at, body_at, reads_at, writes_at, control_at, word_at, known_at, legs_at, raise_of, IsSafeChange, IsSpelled, MayUse, leg_at, rule_before_pin, StepsSoFar, DomainsStand, FitsAsked, FitsTable, PhaseStands, numbered, Demote, Promote, pins_so_far, map_dir, Pins, Step, LAST_VERSION, N14, N17, pins_of, is_outside, is_past_owner, RestsOnTry, RestsOnGrant, Lets, NoneStands, RestsOnWord}
+use Rattle.gt_core.proofs.{Phases.by-leg, Phases.none-of, Phases.IsHere, Phases.makes-same, Phases.words-of, Phases.word-below, Phases.grant-invalid, Phases.of-run, Phases.by-giving, Seeing.word-shows, Judging.writes-shown, Aims.leg-here, Legs.IsAsTried, Legs.as-tried, Legs.still-judged, Legs.control-parts, Pinning.pins_at, Exchanging.FitsChange, Keeping.counts-fit, Phases.idle-pins}
 
 -- an owner's change
 
@@ -14,10 +14,7 @@ pub record CanChange (s : Setting) (h : History) (d : DomId) (gref : GrantRef) (
 -- a publication follows the stores that spell its entry
 publish-spelled : (s : Setting) (h : History) (d : DomId) (r : Asked) (way : Continuation) (shown : List Seen) (so_far : StepsSoFar) (p : Phase) (gref : GrantRef) (looked : ℕ) (entry : Entry) → HasShown (known_at s h d) way d r shown p → PhaseStands s h d r so_far p
     → action_at d p ≡ Makes (Exchange gref looked (Publish entry)) → IsSpelled entry (body_at h d.0 gref.0 FirstHalf) (body_at h d.0 gref.0 SecondHalf)
-publish-spelled s h d r way shown so_far (Exchanging g w (Publish e)) gref looked entry a b acts =
-    let same : e ≡ entry = cc in let at : g ≡ gref = cc in
-    subst (λ (x : Entry). IsSpelled x (body_at h d.0 gref.0 FirstHalf) (body_at h d.0 gref.0 SecondHalf)) same
-    (subst (λ (x : GrantRef). IsSpelled e (body_at h d.0 x.0 FirstHalf) (body_at h d.0 x.0 SecondHalf)) at b)
+publish-spelled s h d r way shown so_far (Exchanging g w (Publish e)) gref looked entry a b acts = let same : e ≡ entry = cc in let at : g ≡ gref = cc in rw (← same, ← at) b
 publish-spelled s h d r way shown so_far (Changing g (Publish e) more w) gref looked entry a b acts = absurd a.1
 publish-spelled s h d r way shown so_far (Walking aim l at) gref looked entry a b acts =
     absurd (by-leg (λ (z : Step). z ≡ Exchange gref looked (Publish entry) → ⊥) (λ dom f. cc) (λ dom x f. cc) (λ dom x half f. cc) (λ p f. cc) l at (makes-same _ _ acts))
@@ -34,41 +31,35 @@ generation-fits s h xs t r st within = let f = (st.words t r within).in_range.ge
 not-last : (g : ℕ) → g ≤ LAST_GENERATION → g ≢ LAST_GENERATION → g + 1 ≤ LAST_GENERATION
 not-last g le apart = omega arith
 
-stops-none : (n : ℕ) → nat_lt 0 n ≡ false → n ≡ 0
-stops-none n e = let le = ltb-false 0 n e in omega arith
-
 pub can-change : (s : Setting) (h : History) (xs : List State) (d : DomId) (r : Asked) (shown : List Seen) (so_far : StepsSoFar) (phase : Phase) (gref : GrantRef) (looked : ℕ) (change : Change) → IsHere s h xs d r shown so_far phase (Exchange gref looked change)
     → word_at s h d.0 gref.0 ≡ looked → CanChange s h d gref change
-can-change s h xs d r shown so_far phase gref looked (Publish entry) i same = let k = known_at s h d in
-    let rests = i.rests.1 in let none = none-of k d r (Grant gref entry) rests.0 i.rests.0 in
-    let within = word-below s h xs d r (path k d r) shown gref looked (Publish entry) i.st i.rests.0 rests in record {
-      within = within;
-      safe = (grant-invalid s h d gref entry none, publish-spelled s h d r (path k d r) shown so_far phase gref looked entry i.at.has_shown i.place i.acts);
-      fits = subst FitsAsked rests.0 i.fits;
-      room = not-last (generation_at s h d.0 gref.0) (generation-fits s h xs d.0 gref.0 i.st within) (opens k d (Grant gref entry) none).not_worn;
-    }
-can-change s h xs d r shown so_far phase gref looked ToInvalid i same = let k = known_at s h d in
-    let rests = i.rests.1 in
-    let within = word-below s h xs d r (path k d r) shown gref looked ToInvalid i.st i.rests.0 rests in
-    let free : reads_at h d.0 gref.0 + writes_at h d.0 gref.0 ≡ 0 = idle-no-pins s h d gref (same ∙ rests.1) in
-    let room = generation-fits s h xs d.0 gref.0 i.st within in
-    record { within = within; safe = (omega arith, omega arith); fits = tt; room = (omega arith) }
-can-change s h xs d r shown so_far phase gref looked ToReadOnly i same = let k = known_at s h d in
-    let rests = i.rests.1 in let none = none-of k d r (Demote gref) rests.0 i.rests.0 in
-    let within = word-below s h xs d r (path k d r) shown gref looked ToReadOnly i.st i.rests.0 rests in record {
-      within = within;
-      safe = sym (writes-shown s h d.0 gref.0 (word-shows s h xs d.0 gref.0 i.st within)) ∙ ap (λ (n : ℕ). (control_of n).writes) same ∙ stops-none (control_of looked).writes rests.2;
-      fits = tt;
-      room = not-last (generation_at s h d.0 gref.0) (generation-fits s h xs d.0 gref.0 i.st within) (opens k d (Demote gref) none).not_worn;
-    }
-can-change s h xs d r shown so_far phase gref looked ToWritable i same = let k = known_at s h d in
-    let rests = i.rests.1 in let none = none-of k d r (Promote gref) rests.0 i.rests.0 in
-    let within = word-below s h xs d r (path k d r) shown gref looked ToWritable i.st i.rests.0 rests in record {
-      within = within;
-      safe = tt;
-      fits = tt;
-      room = not-last (generation_at s h d.0 gref.0) (generation-fits s h xs d.0 gref.0 i.st within) (opens k d (Promote gref) none).not_worn;
-    }
+can-change s h xs d r shown so_far phase gref looked change i same = by change i.rests.1 i.acts where
+  k : CallerKnowledge
+  k = known_at s h d
+
+  below : gref.0 < TABLE_ENTRIES
+  below = word-below s h xs d r (path k d r) shown gref looked change i.st i.rests.0 i.rests.1
+
+  fits-now : generation_at s h d.0 gref.0 ≤ LAST_GENERATION
+  fits-now = generation-fits s h xs d.0 gref.0 i.st below
+
+  by : (z : Change) → RestsOnWord k (path k d r) d r shown gref looked z → action_at d phase ≡ Makes (Exchange gref looked z) → CanChange s h d gref z
+  by (Publish entry) rests acts = let none = none-of k d r (Grant gref entry) rests.0 i.rests.0 in record {
+    within = below;
+    safe = (grant-invalid s h d gref entry none, publish-spelled s h d r (path k d r) shown so_far phase gref looked entry i.at.has_shown i.place acts);
+    fits = subst FitsAsked rests.0 i.fits;
+    room = not-last (generation_at s h d.0 gref.0) fits-now (opens k d (Grant gref entry) none).not_worn;
+  }
+  by ToInvalid rests acts = let free : reads_at h d.0 gref.0 + writes_at h d.0 gref.0 ≡ 0 = idle-pins (entry_at h d.0 gref.0) (generation_at s h d.0 gref.0) (reads_at h d.0 gref.0) (writes_at h d.0 gref.0) (same ∙ rests.1) in let room = fits-now in
+      record { within = below; safe = (omega arith, omega arith); fits = tt; room = (omega arith) }
+  by ToReadOnly rests acts = record {
+    within = below;
+    safe = sym (writes-shown s h d.0 gref.0 (word-shows s h xs d.0 gref.0 i.st below)) ∙ ap (λ (n : ℕ). (control_of n).writes) same ∙ (let le = ltb-false 0 (control_of looked).writes rests.2 in omega arith);
+    fits = tt;
+    room = not-last (generation_at s h d.0 gref.0) fits-now (opens k d (Demote gref) (none-of k d r (Demote gref) rests.0 i.rests.0)).not_worn;
+  }
+  by ToWritable rests acts =
+      record { within = below; safe = tt; fits = tt; room = not-last (generation_at s h d.0 gref.0) fits-now (opens k d (Promote gref) (none-of k d r (Promote gref) rests.0 i.rests.0)).not_worn }
 
 -- a body word is stored on an invalid entry
 pub store-invalid : (s : Setting) (h : History) (d : DomId) (r : Asked) (gref : GrantRef) (half : Half) (word : ℕ) → begun (known_at s h d) d r ≡ None → RestsOnGrant r gref half word → entry_at h d.0 gref.0 ≡ Invalid
@@ -84,10 +75,8 @@ header-fits s h xs d r version frames st none (inl a) =
     by : (version ≡ 1) ⊎ (version ≡ 2) → version ≤ LAST_VERSION
     by (inl e) = omega arith
     by (inr e) = omega arith
-header-fits s h xs d r version frames st none (inr a) = record {
-  version = subst (λ (n : ℕ). n ≤ LAST_VERSION) (sym a.1) (st.tables d).version;
-  frames = (opens (known_at s h d) d (SetupTable frames) (none-of (known_at s h d) d r (SetupTable frames) a.0 none)).within;
-}
+header-fits s h xs d r version frames st none (inr a) =
+    record { version = rw a.1 (st.tables d).version; frames = (opens (known_at s h d) d (SetupTable frames) (none-of (known_at s h d) d r (SetupTable frames) a.0 none)).within }
 
 -- a pin
 
@@ -137,15 +126,11 @@ taken-pin s h xs d r so_far aim l more word body second st is held place same =
 pub can-pin : (s : Setting) (h : History) (xs : List State) (d : DomId) (r : Asked) (shown : List Seen) (so_far : StepsSoFar) (phase : Phase) (p : Held) → IsHere s h xs d r shown so_far phase (PinStep p)
     → word_at s h p.dom.0 p.gref.0 ≡ p.word → CanPin s h d r p
 can-pin s h xs d r shown so_far phase p i same = by phase i.at.has_shown i.place i.acts i.held where
-  walk : (aim : Aim) (l : Leg) (at : LegPhase) → IsFor (known_at s h d) d r aim l → PhaseStands s h d r so_far (Walking aim l at) → Makes (leg_step l at) ≡ Makes (PinStep p)
-      → legs_at h d.0 ≡ numbered 0 (reverse (last_first (pins_so_far aim))) → CanPin s h d r p
-  walk aim l (Pinning more word body second) is b e held = let q : held_of l word body second ≡ p = cc in
-      subst (CanPin s h d r) q (taken-pin s h xs d r so_far aim l more word body second i.st is held b (subst (λ (z : Held). word_at s h z.dom.0 z.gref.0 ≡ z.word) (sym q) same))
-  walk aim l at is b e held = cc
-
   by : (z : Phase) → HasShown (known_at s h d) (path (known_at s h d) d r) d r shown z → PhaseStands s h d r so_far z → action_at d z ≡ Makes (PinStep p)
       → legs_at h d.0 ≡ numbered 0 (reverse (last_first (Rattle.gt_calls.specs.Standing.pins_at z))) → CanPin s h d r p
-  by (Walking aim l at) a b e held = walk aim l at a.1 b e held
+  by (Walking aim l (Pinning more word body second)) a b e held = let q : held_of l word body second ≡ p = cc in
+      subst (CanPin s h d r) q (taken-pin s h xs d r so_far aim l more word body second i.st a.1 held b (subst (λ (z : Held). word_at s h z.dom.0 z.gref.0 ≡ z.word) (sym q) same))
+  by (Walking aim l at) a b e held = cc
   by (Last last verdict) a b e held = absurd (subst IsQuiet (makes-same _ _ e) a.0)
   by (Ending pins verdict) a b e held = absurd (by-giving (λ (z : Step). z ≡ PinStep p → ⊥) (λ q n f. cc) (last_first pins) verdict _ e refl)
   by z a b e held = cc
@@ -169,14 +154,10 @@ map-lawful s h d r p shown pins none t dom gref flags is = by t.aim t.aimed wher
   Lawful : Held → Type 0
   Lawful q = (permits p.entry d q.dir ForMap 0 0 ≡ true) × MayUse s d q.dom q.dir × (frame_of p.entry < frames_of s.domains q.dom) × (domain_of s.domains q.dom ≢ None)
 
-  mapped : (u : DomId) (g : GrantRef) (f : ℕ) → r ≡ Map u g f → t.leg ≡ map_leg k d u g f → Lawful p
-  mapped u g f of_map leg_is =
-      let lets = map-lets k d u g f p.entry (subst (λ (l : Leg). Lets l p.entry) leg_is t.lets) in
-      let o = opens k d (Map u g f) (none-of k d r (Map u g f) of_map none) in
-      let q : held_of (map_leg k d u g f) p.word t.body t.second ≡ p = sym (t.pin_is ∙ ap (λ (l : Leg). held_of l p.word t.body t.second) leg_is) in
-      subst Lawful q (lets.0, o.allowed, lets.1, of-run (domain_of s.domains (resolved d u)) o.of_run)
-
   by : (aim : Aim) → IsFor k d r aim t.leg → Lawful p
-  by Mapping a = mapped a.dom a.gref a.flags a.of_map a.leg_is
+  by Mapping a = let l = map_leg k d a.dom a.gref a.flags in let lets = map-lets k d a.dom a.gref a.flags p.entry (subst (λ (l : Leg). Lets l p.entry) a.leg_is t.lets) in
+      let o = opens k d (Map a.dom a.gref a.flags) (none-of k d r (Map a.dom a.gref a.flags) a.of_map none) in
+      let q : held_of l p.word t.body t.second ≡ p = sym (t.pin_is ∙ ap (λ (l : Leg). held_of l p.word t.body t.second) a.leg_is) in
+      subst Lawful q (lets.0, o.allowed, lets.1, of-run (domain_of s.domains (resolved d a.dom)) o.of_run)
   by (Source c via) a = absurd (let f : Map dom gref flags ≡ Copy c = sym is ∙ a.0 in cc)
   by (Dest c source via) a = absurd (let f : Map dom gref flags ≡ Copy c = sym is ∙ a.0 in cc)

@@ -62,9 +62,7 @@ first-dest : (source : Route) (via : Option Held) → reverse (held_by (begun_ro
 first-dest Own None = refl
 first-dest (Direct p) None = refl
 first-dest (Through v p) None = refl
-first-dest Own (Some via) = refl
-first-dest (Direct p) (Some via) = refl
-first-dest (Through v p) (Some via) = refl
+first-dest source via = refl
 
 walks : (k : CallerKnowledge) (d : DomId) (r : Asked) (aim : Aim) (l : Leg) → IsFor k d r aim l → leg_now k d r (reverse (last_first (pins_so_far aim))) ≡ Some (record { leg = l; pair = pair_of d aim })
 walks k d r Mapping l is =

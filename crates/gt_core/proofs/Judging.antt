@@ -1,7 +1,7 @@
 -- The refusal that a step leads to is the first rule that stands, and where the call stands then.
-use Rattle.gt_core.proofs.Words.{◌≡◌, ◌+◌, ◌-◌, ℕ, zero, suc, refl, Bool, true, false, List, [], ◌∷◌, Option, Some, None, cond, sym, ap, ◌∙◌, subst, arith, nat_lt, nat_le, ◌==◌, ◌&&◌, ◌||◌, not, lt-ltb, eqb-true, eq-eqb, true≢false, false≢true, DomId, GrantRef, N10, N18, N19, Denial, MAX_TRIES, Entry, Invalid, Via, Control, Change, Publish, ToInvalid, ToReadOnly, ToWritable, allows_direction, control_of, MORE_TRIES, Held, Asked, Verdict, Step, LookHeader, LookControl, Exchange, Seen, Taken, Missed, Makes, Aim, Mapping, Source, Dest, Question, AsksSize, AsksVersion, Phase, Exchanging, Looking, Changing, Asking, Ending, Leg, LegPhase, CallerKnowledge, first, stands, first_look, is_kind, Continuation, end_leg, IsFor, IsOnFrom, RestsOnWord, phase_after, leg_after, leg_step, after_store, refused_as, next_to_give, IsTurn, History, Setting, word_at, control_at, entry_at, generation_at, reads_at, writes_at, known_at, seen_by, StepsSoFar, misses, is_demote, at_entry, first_at, refusal_in, or_then, PhaseStands, LegStands, Asks, phase_refusal, Write, Read, Pins, N11, N12, N13, N15, KindPage, KindVia, is_copying, after_own_miss, rule_at_via}
+use Rattle.gt_core.proofs.Words.{◌≡◌, ◌+◌, ◌-◌, ℕ, zero, suc, refl, Bool, true, false, List, [], ◌∷◌, Option, Some, None, cond, sym, ap, ◌∙◌, subst, arith, nat_lt, nat_le, ◌==◌, ◌&&◌, ◌||◌, not, lt-ltb, eqb-true, eq-eqb, true≢false, false≢true, DomId, GrantRef, N10, N18, N19, Denial, MAX_TRIES, Entry, Invalid, Via, Control, Change, Publish, ToInvalid, ToReadOnly, ToWritable, allows_direction, control_of, MORE_TRIES, Held, Asked, Verdict, Step, LookHeader, LookControl, Exchange, Seen, Taken, Missed, Makes, Aim, Mapping, Source, Dest, Question, AsksSize, AsksVersion, Phase, Exchanging, Looking, Changing, Asking, Ending, Leg, LegPhase, CallerKnowledge, first, stands, first_look, is_kind, Continuation, end_leg, IsFor, IsOnFrom, RestsOnWord, phase_after, leg_after, leg_step, after_store, refused_as, next_to_give, IsTurn, History, Setting, word_at, control_at, entry_at, generation_at, reads_at, writes_at, known_at, seen_by, StepsSoFar, misses, is_demote, at_entry, first_at, refusal_in, or_then, PhaseStands, LegStands, Asks, phase_refusal, Write, Read, Pins, N11, N12, N13, N15, KindPage, KindVia, is_copying, after_own_miss, rule_at_via, cond_both, ltb-false, ltb-true, lt-leb, ◌<◌, inl}
 use Rattle.gt_entry.specs.Spelling.{control_with}
-use Rattle.gt_core.proofs.{Aims.pair_of, Legs.Words, Legs.IsAsTried, Legs.TakesNone, Legs.leg-comes, Legs.ComesTo, Legs.IsLegOf, Legs.control-parts, Legs.misses-look, Legs.few, Legs.miss-late, Phases.makes-same, Phases.IsPublished, Phases.idle-here, Phases.idle-no-pins}
+use Rattle.gt_core.proofs.{Aims.pair_of, Legs.Words, Legs.IsAsTried, Legs.TakesNone, Legs.leg-comes, Legs.ComesTo, Legs.IsLegOf, Legs.control-parts, Legs.misses-look, Legs.few, Phases.makes-same, Phases.IsPublished, Phases.idle-here, Legs.late-last, Legs.late-more, Phases.idle-pins}
 
 -- the first rule that stands at this step, or before it, is the refusal that the call comes to
 abbrev pub Judged : Setting → History → DomId → Asked → StepsSoFar → Phase → Step → Type 0
@@ -13,10 +13,6 @@ pub stored-refusal : (k : CallerKnowledge) (gref : GrantRef) (entry : Entry) →
 stored-refusal k gref Invalid = refl
 stored-refusal k gref entry = refl
 
-published-refusal : (k : CallerKnowledge) (d : DomId) (gref : GrantRef) (looked w : ℕ) (entry : Entry) (b : Bool) → b ≡ true → None ≡ phase_refusal (phase_after k d (Exchanging gref looked (Publish entry)) (cond b Taken (Missed w)))
-published-refusal k d gref looked w entry true e = refl
-published-refusal k d gref looked w entry false e = absurd (false≢true e)
-
 -- a revocation
 
 revoke-refusal : (k : CallerKnowledge) (d : DomId) (gref : GrantRef) (looked w pins : ℕ) (b : Bool) → (b ≡ true → pins ≡ 0) → (b ≡ false → pins ≡ 0 → ⊥)
@@ -27,12 +23,11 @@ revoke-refusal k d gref looked w (suc pins) false free held = ap (λ (b : Bool).
 
 pub once-judged : (s : Setting) (h : History) (d : DomId) (r : Asked) (way : Continuation) (shown : List Seen) (so_far : StepsSoFar) (gref : GrantRef) (looked : ℕ) (change : Change) → IsPublished s h d (Exchange gref looked change)
     → RestsOnWord (known_at s h d) way d r shown gref looked change → PhaseStands s h d r so_far (Exchanging gref looked change) → Judged s h d r so_far (Exchanging gref looked change) (Exchange gref looked change)
-once-judged s h d r way shown so_far gref looked (Publish entry) published rests place =
-    let w = word_at s h d.0 gref.0 in
-    published-refusal (known_at s h d) d gref looked w entry (w == looked) (eq-eqb w looked published)
+once-judged s h d r way shown so_far gref looked (Publish entry) published rests place = let w = word_at s h d.0 gref.0 in
+    ap (λ (b : Bool). phase_refusal (phase_after (known_at s h d) d (Exchanging gref looked (Publish entry)) (cond b Taken (Missed w)))) (sym (eq-eqb w looked published))
 once-judged s h d r way shown so_far gref looked ToInvalid published rests place = let w = word_at s h d.0 gref.0 in
     revoke-refusal (known_at s h d) d gref looked w (reads_at h d.0 gref.0 + writes_at h d.0 gref.0) (w == looked)
-    (λ b. idle-no-pins s h d gref (eqb-true w looked b ∙ rests.1))
+    (λ b. idle-pins (entry_at h d.0 gref.0) (generation_at s h d.0 gref.0) (reads_at h d.0 gref.0) (writes_at h d.0 gref.0) (eqb-true w looked b ∙ rests.1))
     (λ b none. false≢true (sym b ∙ eq-eqb w looked (idle-here s h d gref none ∙ sym rests.1)))
 once-judged s h d r way shown so_far gref looked change published rests place = absurd place
 
@@ -59,29 +54,26 @@ look-judged s h d r so_far gref ToWritable more round is place = let w = word_at
     (look-refusal d gref ToWritable more w false _ (ap (nat_le MAX_TRIES) (misses-look d gref w so_far place.1) ∙ few (misses so_far) more place.0))
 look-judged s h d r so_far gref change more round is place = absurd is
 
-own-miss-late : (d : DomId) (gref : GrantRef) (change : Change) (more found m : ℕ) → m + more ≡ MORE_TRIES
-    → at_entry d gref found (stands (nat_le MAX_TRIES (1 + m)) N18) ≡ phase_refusal (after_own_miss d gref change more found)
-own-miss-late d gref change more found m e = sym (miss-late d gref more found m e) ∙ by (nat_lt 0 more) where
-  by : (b : Bool) → cond b None (at_entry d gref found (Some N18)) ≡ phase_refusal (cond b (Looking gref change (more - 1)) (refused_as d gref N18 found))
-  by true = refl
-  by false = refl
+-- where a step leads: the first rule that stands is the refusal there, and there the call stands
+abbrev pub Leads : Setting → History → DomId → Asked → StepsSoFar → Option Denial → Phase → Type 0
+Leads s h d r now rule next = (rule ≡ phase_refusal next) × PhaseStands s h d r now next
 
-change-refusal : (k : CallerKnowledge) (d : DomId) (gref : GrantRef) (change : Change) (more looked w : ℕ) (so_far : StepsSoFar) (b : Bool) → misses so_far + more ≡ MORE_TRIES
-    → at_entry d gref w (stands (nat_le MAX_TRIES (misses ((Exchange gref looked change, cond b Taken (Missed w)) ∷ so_far))) N18)
-    ≡ phase_refusal (phase_after k d (Changing gref change more looked) (cond b Taken (Missed w)))
+change-leads : (s : Setting) (h : History) (d : DomId) (r : Asked) (gref : GrantRef) (change : Change) (more looked w : ℕ) (so_far : StepsSoFar) (b : Bool) → misses so_far + more ≡ MORE_TRIES
+    → Leads s h d r ((Exchange gref looked change, cond b Taken (Missed w)) ∷ so_far) (at_entry d gref w (stands (nat_le MAX_TRIES (misses ((Exchange gref looked change, cond b Taken (Missed w)) ∷ so_far))) N18))
+    (phase_after (known_at s h d) d (Changing gref change more looked) (cond b Taken (Missed w)))
 unfolding misses
-change-refusal k d gref change more looked w so_far true turn =
-    ap (λ (n : ℕ). at_entry d gref w (stands (nat_le MAX_TRIES n) N18)) (let z : 0 + misses so_far ≡ misses so_far = omega arith in z)
-    ∙ ap (λ (x : Bool). at_entry d gref w (stands x N18)) (few (misses so_far) more turn)
-change-refusal k d gref change more looked w so_far false turn =
-    own-miss-late d gref change more w (misses so_far) turn
+change-leads s h d r gref change more looked w so_far true turn = (ap (λ (x : Bool). at_entry d gref w (stands x N18)) (lt-leb MAX_TRIES (0 + misses so_far) (omega arith)), inl refl)
+change-leads s h d r gref change more looked w so_far false turn = let now : StepsSoFar = (Exchange gref looked change, Missed w) ∷ so_far in let m : misses now ≡ 1 + misses so_far = refl in
+    cond_both (nat_lt 0 more) (Looking gref change (more - 1)) (refused_as d gref N18 w) (Leads s h d r now (at_entry d gref w (stands (nat_le MAX_TRIES (1 + misses so_far)) N18)))
+    (λ t. let some : 0 < more = ltb-true 0 more t in (ap (λ (x : Bool). at_entry d gref w (stands x N18)) (late-more (misses so_far) more turn some), (omega arith, refl)))
+    (λ f. (ap (λ (x : Bool). at_entry d gref w (stands x N18)) (late-last (misses so_far) more turn (ltb-false 0 more f)), inl refl))
 
-pub change-judged : (s : Setting) (h : History) (d : DomId) (r : Asked) (so_far : StepsSoFar) (gref : GrantRef) (change : Change) (more looked : ℕ) → IsTurn r gref change
-    → PhaseStands s h d r so_far (Changing gref change more looked) → Judged s h d r so_far (Changing gref change more looked) (Exchange gref looked change)
-change-judged s h d r so_far gref (Publish entry) more looked is place = absurd is
-change-judged s h d r so_far gref ToInvalid more looked is place = absurd is
-change-judged s h d r so_far gref change more looked is place =
-    let w = word_at s h d.0 gref.0 in change-refusal (known_at s h d) d gref change more looked w so_far (w == looked) place.0
+-- an exchange that ends a turn is no publication
+pub turn-leads : (s : Setting) (h : History) (d : DomId) (r : Asked) (so_far : StepsSoFar) (gref : GrantRef) (change : Change) (more looked : ℕ) → IsTurn r gref change → misses so_far + more ≡ MORE_TRIES → let v = seen_by s h d (Exchange gref looked change) in
+    IsPublished s h d (Exchange gref looked change) × Leads s h d r ((Exchange gref looked change, v) ∷ so_far) (first_at s h d r so_far (Exchange gref looked change)) (phase_after (known_at s h d) d (Changing gref change more looked) v)
+turn-leads s h d r so_far gref (Publish entry) more looked is turn = absurd is
+turn-leads s h d r so_far gref ToInvalid more looked is turn = absurd is
+turn-leads s h d r so_far gref change more looked is turn = (tt, change-leads s h d r gref change more looked (word_at s h d.0 gref.0) so_far (word_at s h d.0 gref.0 == looked) turn)
 
 -- a leg
 
@@ -92,7 +84,7 @@ plain-leg k d r aim l is = ap is_demote is.0
 
 pub walk-comes : (s : Setting) (h : History) (d : DomId) (r : Asked) (so_far : StepsSoFar) (aim : Aim) (l : Leg) (at : LegPhase) → Words s h l → IsFor (known_at s h d) d r aim l → IsLegOf s h d r l (pair_of d aim) → LegStands s h l so_far at
     → TakesNone s h d l at → ComesTo s h l ((leg_step l at, seen_by s h d (leg_step l at)) ∷ so_far) (first_at s h d r so_far (leg_step l at)) (leg_after l at (seen_by s h d (leg_step l at)))
-walk-comes s h d r so_far aim l at ws is leg a none = leg-comes s h d r l (pair_of d aim) so_far at leg (plain-leg (known_at s h d) d r aim l is) ws a none
+walk-comes s h d r so_far aim l at ws is leg a none = leg-comes s h l ws d r (pair_of d aim) leg (plain-leg (known_at s h d) d r aim l is) so_far at a none
 
 -- a pin that is taken
 
@@ -111,23 +103,13 @@ pub no-via : (k : CallerKnowledge) (l : Leg) (pair : DomId → DomId × DomId) (
 no-via k l pair (Via dom ro dom2 gref) n = absurd (n tt)
 no-via k l pair e n = refl
 
--- where none of five rules stands
-pub five-none : (a b c d e : Bool) → first (stands a N10 ∷ stands b N11 ∷ stands c N12 ∷ stands d N13 ∷ stands e N15 ∷ []) ≡ None → (a ≡ false) × (b ≡ false) × (c ≡ false) × (d ≡ false) × (e ≡ false)
-five-none false false false false false h = (refl, refl, refl, refl, refl)
-five-none a b c d e h = cc
+passed : (b c d e : Bool) → first (stands b N11 ∷ stands (not (c || false)) N12 ∷ stands d N13 ∷ stands (e && true) N15 ∷ []) ≡ None → (c ≡ true) × (e ≡ false)
+passed false true false false h = (refl, refl)
+passed b c d e h = cc
 
 -- a Via is met in a copy's first legs alone
 via-passed : (l : Leg) (dom : DomId) (ro : Bool) (dom2 : DomId) (gref : GrantRef) (g r w : ℕ) → first_look l (control_with (Via dom ro dom2 gref) g r w) ≡ None → (is_copying l.purpose ≡ true) × (l.beyond_via ≡ false)
-via-passed l dom ro dom2 gref g r w e = let c = control_with (Via dom ro dom2 gref) g r w in
-    let f = five-none false (not (dom.0 == l.grantee.0)) (not (is_copying l.purpose || is_kind c.kind KindPage)) (not (allows_direction ro l.dir)) (l.beyond_via && is_kind c.kind KindVia) e in
-    (copying (is_copying l.purpose) f.2, beyond l.beyond_via f.4) where
-      copying : (b : Bool) → not (b || false) ≡ false → b ≡ true
-      copying true e = refl
-      copying false e = absurd (true≢false e)
-
-      beyond : (b : Bool) → (b && true) ≡ false → b ≡ false
-      beyond true e = absurd (true≢false e)
-      beyond false e = refl
+via-passed l dom ro dom2 gref g r w e = passed (not (dom.0 == l.grantee.0)) (is_copying l.purpose) (not (allows_direction ro l.dir)) l.beyond_via e
 
 second-beyond : (k : CallerKnowledge) (n : Leg) (e : Entry) (l : Leg) → IsOnFrom k n e l → l.beyond_via ≡ true
 second-beyond k n (Via dom ro dom2 gref) l is = ap (λ (z : Leg). z.beyond_via) is
@@ -143,11 +125,6 @@ pub met-first : (k : CallerKnowledge) (d : DomId) (r : Asked) (aim : Aim) (l : L
 met-first k d r aim l (Via dom ro dom2 gref) g n m is passed v = let f = via-passed l dom ro dom2 gref g n m passed in first-leg-of k d r aim l is f.0 f.1
 met-first k d r aim l e g n m is passed v = absurd v
 
-pub taken-first : (s : Setting) (h : History) (d : DomId) (r : Asked) (aim : Aim) (l : Leg) (word body second : ℕ) → IsFor (known_at s h d) d r aim l → first_look l (control_of word) ≡ None → IsAsTried s h l word body second
-    → IsVia (entry_at h l.dom.0 l.gref.0) → IsFirstLeg aim
-taken-first s h d r aim l word body second is passed tried =
-    met-first (known_at s h d) d r aim l (entry_at h l.dom.0 l.gref.0) (generation_at s h l.dom.0 l.gref.0) (reads_at h l.dom.0 l.gref.0) (writes_at h l.dom.0 l.gref.0) is (ap (first_look l) (sym tried.control) ∙ passed)
-
 -- single steps
 
 pub asked-judged : (s : Setting) (h : History) (d : DomId) (r : Asked) (so_far : StepsSoFar) (dom : DomId) (question : Question) → Asks d r dom question → Judged s h d r so_far (Asking dom question) (LookHeader dom)
@@ -157,8 +134,3 @@ asked-judged s h d r so_far dom AsksVersion a = subst (λ (z : Asked). Judged s 
 pub then-none : (o : Option Denial) → or_then o None ≡ o
 then-none None = refl
 then-none (Some d) = refl
-
-pub give-judged : (s : Setting) (h : History) (d : DomId) (r : Asked) (so_far : StepsSoFar) (pins : Pins) (held : List Held) (verdict : Verdict) (step : Step) → next_to_give held verdict ≡ Makes step
-    → Judged s h d r so_far (Ending pins verdict) step
-give-judged s h d r so_far pins [] verdict step e = cc
-give-judged s h d r so_far pins (p ∷ ps) verdict step e = subst (λ (z : Step). Judged s h d r so_far (Ending pins verdict) z) (makes-same _ _ e) (then-none (refusal_in (Some verdict)))

@@ -1,7 +1,7 @@
 -- Where a step leads a call: what it ends with, what it has left, and what its answer is.
-use Rattle.gt_core.proofs.Words.{◌≡◌, ◌⊎◌, inl, inr, ℕ, refl, List, [], ◌∷◌, ◌++◌, length, Option, Some, None, sym, ap, ◌∙◌, subst, All-push, ◌==◌, All, DomId, GrantRef, Denial, Entry, Via, Change, Held, Direct, Through, Pins, Asked, ByMapping, ByLeg, Seen, Nothing, Taken, Missed, Verdict, Granted, Refused, Step, Unpin, StoreHeader, Exchange, ReadBytes, WriteBytes, Makes, Done, Aim, Mapping, Source, Dest, Phase, Exchanging, Changing, Walking, Accessing, Last, Ending, Leg, AtHeader, LegNext, LegRefused, Pinned, last_first, pins_so_far, no_pins, CallerKnowledge, via_judged, is_dest_granted, source_pair, dest_pair, second_leg, end_leg, Continuation, phase_after, action_at, after_leg, after_source_pin, after_dest_pin, where_via, next_to_give, HasShown, IsQuiet, History, Setting, word_at, known_at, seen_by, StepsSoFar, LeavesAll, refusal_in, PhaseStands, EndsAfter, IsClean, Write, cond_both, CopyArgs, Route, at_dest}
+use Rattle.gt_core.proofs.Words.{◌≡◌, ◌⊎◌, inl, inr, ℕ, refl, List, [], ◌∷◌, ◌++◌, Option, Some, None, sym, ap, ◌∙◌, subst, All-push, All, DomId, GrantRef, Denial, Entry, Via, Change, Held, Direct, Through, Pins, Asked, ByMapping, ByLeg, Seen, Nothing, Taken, Verdict, Granted, Refused, Step, Unpin, StoreHeader, Exchange, ReadBytes, WriteBytes, Makes, Done, Aim, Mapping, Source, Dest, Phase, Exchanging, Changing, Walking, Accessing, Last, Ending, Leg, AtHeader, LegNext, LegRefused, Pinned, last_first, pins_so_far, no_pins, CallerKnowledge, via_judged, is_dest_granted, source_pair, dest_pair, second_leg, end_leg, Continuation, phase_after, action_at, after_leg, after_source_pin, after_dest_pin, where_via, next_to_give, HasShown, IsQuiet, History, Setting, known_at, seen_by, StepsSoFar, LeavesAll, refusal_in, PhaseStands, EndsAfter, IsClean, Write, cond_both, CopyArgs, Route, at_dest}
 use Rattle.gt_calls.specs.declared.{held.Route.TheVariants.Own, action.Verdict.TheVariants.Mapped}
-use Rattle.gt_core.proofs.Phases.{OfAction, by-quiet, by-leg, makes-same, by-giving}
+use Rattle.gt_core.proofs.Phases.{by-leg, makes-same, by-giving}
 
 -- the next phase
 abbrev pub next_of : Setting → History → DomId → Phase → Step → Phase
@@ -64,61 +64,21 @@ clean-all : (p : Phase) (steps : List (Step × Seen)) → All LeavesAll steps �
 clean-all (Ending pins verdict) steps a = inr a
 clean-all p steps a = a
 
--- where a call is not at its end, all is as it was
-abbrev IsEnd : Phase → Type 0
-IsEnd (Ending pins verdict) = Unit {0}
-IsEnd p = ⊥
-
-clean-was : (p : Phase) (steps : List (Step × Seen)) → IsClean p steps → All LeavesAll steps ⊎ IsEnd p
-clean-was (Ending pins verdict) steps a = inr tt
-clean-was p steps a = inl a
-
--- a call that gives pins back goes on to
-clean-giving : (k : CallerKnowledge) (d : DomId) (pins : Pins) (verdict : Verdict) (held : List Held) (step : Step) (steps : List (Step × Seen)) → next_to_give held verdict ≡ Makes step → IsClean (Ending pins verdict) steps
-    → IsClean (phase_after k d (Ending pins verdict) Nothing) (steps ++ (step, Nothing) ∷ [])
-clean-giving k d pins verdict [] step steps e a = cc
-clean-giving k d pins verdict (p ∷ ps) step steps e (inl none) = inl none
-clean-giving k d pins verdict (p ∷ ps) step steps e (inr all) =
-    inr (All-push LeavesAll steps (step, Nothing) all (subst (λ (z : Step). LeavesAll (z, Nothing)) (makes-same _ _ e) tt))
-
 -- a step of a call that is not at its end leaves all as it was, or ends it with Ok
-abbrev Ends : Setting → History → DomId → Phase → Step → Type 0
-Ends s h d phase step = LeavesAll (step, seen_by s h d step) ⊎ ((steps : List (Step × Seen)) → IsClean (next_of s h d phase step) steps)
+abbrev pub LeavesOrEnds : Setting → History → DomId → Phase → Step → Type 0
+LeavesOrEnds s h d phase step = LeavesAll (step, seen_by s h d step) ⊎ ((steps : List (Step × Seen)) → IsClean (next_of s h d phase step) steps)
 
-step-ends : (s : Setting) (h : History) (way : Continuation) (d : DomId) (r : Asked) (shown : List Seen) (so_far : StepsSoFar) (phase : Phase) (step : Step) → HasShown (known_at s h d) way d r shown phase → action_at d phase ≡ Makes step → PhaseStands s h d r so_far phase → Ends s h d phase step
-step-ends s h way d r shown so_far phase step a e b = subst (OfAction (Ends s h d phase)) e (by phase a e b) where
-  exchanged : (p : Phase) (gref : GrantRef) (looked : ℕ) (change : Change) → ((steps : List (Step × Seen)) → IsClean (phase_after (known_at s h d) d p Taken) steps) → Ends s h d p (Exchange gref looked change)
-  exchanged p gref looked change clean = cond_both (word_at s h d.0 gref.0 == looked) Taken (Missed (word_at s h d.0 gref.0))
-      (λ v. LeavesAll (Exchange gref looked change, v) ⊎ ((steps : List (Step × Seen)) → IsClean (phase_after (known_at s h d) d p v) steps)) (λ is. inr clean) (λ is. inl tt)
-
-  by : (p : Phase) → HasShown (known_at s h d) way d r shown p → action_at d p ≡ Makes step → PhaseStands s h d r so_far p → OfAction (Ends s h d p) (action_at d p)
-  by (Exchanging gref looked change) a e b = exchanged (Exchanging gref looked change) gref looked change (λ steps. inl refl)
-  by (Changing gref change more looked) a e b = exchanged (Changing gref change more looked) gref looked change (λ steps. inl refl)
-  by (Walking aim l at) a e b = by-leg (Ends s h d (Walking aim l at)) (λ dom. inl tt) (λ dom gref. inl tt) (λ dom gref half. inl tt) (λ p. inl tt) l at
-  by (Accessing c source dest) a e b = inr (λ steps. inl refl)
-  by (Last last verdict) a e b = let plain = after-plain r last verdict b in by-quiet (λ z. Ends s h d (Last z verdict) z) (λ p handle. inr (λ steps. inl plain)) (λ gref half word. inl tt) (λ version frames. inr (λ steps. inl plain))
-      (λ dom frame off len. (inl tt, inr (λ steps. inl plain))) last a.0
-  by (Ending pins verdict) a e b = subst (OfAction (Ends s h d (Ending pins verdict))) (sym e) (by-giving (Ends s h d (Ending pins verdict)) (λ p n. inl tt) (last_first pins) verdict step e)
-  by p a e b = inl tt
-
-pub clean-next : (s : Setting) (h : History) (way : Continuation) (d : DomId) (r : Asked) (shown : List Seen) (so_far : StepsSoFar) (phase : Phase) (step : Step) (steps : List (Step × Seen)) → HasShown (known_at s h d) way d r shown phase → action_at d phase ≡ Makes step → PhaseStands s h d r so_far phase
-    → IsClean phase steps → IsClean (next_of s h d phase step) (steps ++ (step, seen_by s h d step) ∷ [])
-clean-next s h way d r shown so_far phase step steps a e b clean = by (clean-was phase steps clean) (step-ends s h way d r shown so_far phase step a e b)
+-- so the steps so far do with this one, where the step leaves all as it was or ends its call
+pub clean-next : (s : Setting) (h : History) (d : DomId) (phase : Phase) (step : Step) (steps : List (Step × Seen)) → action_at d phase ≡ Makes step → LeavesOrEnds s h d phase step → IsClean phase steps
+    → IsClean (next_of s h d phase step) (steps ++ (step, seen_by s h d step) ∷ [])
+clean-next s h d (Ending pins verdict) step steps e x clean = by-giving (λ (z : Step). IsClean (next_of s h d (Ending pins verdict) z) (steps ++ (z, seen_by s h d z) ∷ [])) (λ p n. by p n clean) (last_first pins) verdict step e
   where
-    giving : (p : Phase) → IsEnd p → action_at d p ≡ Makes step → IsClean p steps → IsClean (next_of s h d p step) (steps ++ (step, seen_by s h d step) ∷ [])
-    giving (Ending pins verdict) end f c = give (last_first pins) f (clean-giving (known_at s h d) d pins verdict (last_first pins) step steps f c)
-      where
-        give : (held : List Held) → next_to_give held verdict ≡ Makes step → IsClean (phase_after (known_at s h d) d (Ending pins verdict) Nothing) (steps ++ (step, Nothing) ∷ [])
-            → IsClean (next_of s h d (Ending pins verdict) step) (steps ++ (step, seen_by s h d step) ∷ [])
-        give [] g z = cc
-        give (p ∷ ps) g z =
-            subst (λ (v : Seen). IsClean (phase_after (known_at s h d) d (Ending pins verdict) v) (steps ++ (step, v) ∷ [])) (ap (seen_by s h d) (makes-same (Unpin p (ByLeg (length ps))) step g)) z
-    giving p end f c = absurd end
-
-    by : All LeavesAll steps ⊎ IsEnd phase → Ends s h d phase step → IsClean (next_of s h d phase step) (steps ++ (step, seen_by s h d step) ∷ [])
-    by (inl all) (inl leaves) = clean-all (next_of s h d phase step) (steps ++ (step, seen_by s h d step) ∷ []) (All-push LeavesAll steps (step, seen_by s h d step) all leaves)
-    by (inl all) (inr ends) = ends (steps ++ (step, seen_by s h d step) ∷ [])
-    by (inr end) x = giving phase end e clean
+    by : (p : Held) (n : ℕ) → (refusal_in (Some verdict) ≡ None) ⊎ All LeavesAll steps → (refusal_in (Some verdict) ≡ None) ⊎ All LeavesAll (steps ++ (Unpin p (ByLeg n), Nothing) ∷ [])
+    by p n (inl none) = inl none
+    by p n (inr all) = inr (All-push LeavesAll steps (Unpin p (ByLeg n), Nothing) all tt)
+clean-next s h d phase step steps e (inl leaves) all =
+    clean-all (next_of s h d phase step) (steps ++ (step, seen_by s h d step) ∷ []) (All-push LeavesAll steps (step, seen_by s h d step) all leaves)
+clean-next s h d phase step steps e (inr ends) all = ends (steps ++ (step, seen_by s h d step) ∷ [])
 
 -- how a call ends
 

@@ -1,5 +1,5 @@
 -- Each step of an open call: it is on words that there are, its refusal is the first rule that stands, and where the call stands after it.
-use Rattle.gt_core.proofs.Words.{◌≡◌, ◌≢◌, ◌<◌, ◌≤◌, ◌+◌, ℕ, refl, Bool, true, false, List, [], ◌∷◌, Option, Some, None, cond, sym, ap, ◌∙◌, subst, reverse, arith, ◌==◌, is_none, eq-eqb, true≢false, false≢true, none-some, domain_of, resolved, DomId, GrantRef, DomainConfig, TABLE_ENTRIES, Entry, Invalid, Change, Publish, ToInvalid, ToReadOnly, ToWritable, control_word, Held, Asked, Grant, Revoke, Demote, Promote, QuerySize, GetVersion, Verdict, Step, LookHeader, LookControl, LookBody, PinStep, Unpin, StoreBody, StoreHeader, Exchange, ReadBytes, WriteBytes, Seen, Taken, Missed, Action, Makes, Done, Question, AsksSize, AsksVersion, Phase, Exchanging, Looking, Changing, Walking, Asking, Last, Ending, Leg, LegPhase, AtHeader, Look, Body, last_first, begun, size_of, opens, Continuation, FitsStep, path, RestsOnWord, action_at, leg_step, next_to_give, IsTurn, IsQuiet, HasShown, StandsAt, State, state_of, History, Setting, word_at, table_at, entry_at, generation_at, reads_at, writes_at, known_at, seen_by, legs_at, StepsSoFar, DomainsStand, StateAgrees, PhaseStands, LegStands, Asks, numbered, pins_at, Rests, FitsAsked, length, ByLeg, is_invalid, IsExchanged, IsChanged, idle_word, CallerKnowledge, Handle, ByMapping, Half, Call, FirstHalf, SecondHalf, Second, Pinning, Relook, held_of}
+use Rattle.gt_core.proofs.Words.{◌≡◌, ◌≢◌, ◌<◌, ◌≤◌, ◌+◌, ℕ, refl, Bool, true, false, List, [], ◌∷◌, Option, Some, None, cond, sym, ap, ◌∙◌, subst, reverse, arith, ◌==◌, is_none, eq-eqb, true≢false, false≢true, none-some, domain_of, DomId, GrantRef, DomainConfig, TABLE_ENTRIES, Entry, Invalid, Change, Publish, ToInvalid, ToReadOnly, ToWritable, control_word, Held, Asked, Grant, Revoke, Demote, Promote, QuerySize, GetVersion, Verdict, Step, LookHeader, LookControl, LookBody, PinStep, Unpin, StoreBody, StoreHeader, Exchange, ReadBytes, WriteBytes, Seen, Taken, Missed, Action, Makes, Done, Question, AsksSize, AsksVersion, Phase, Leg, LegPhase, AtHeader, Look, Body, last_first, begun, size_of, opens, Continuation, FitsStep, path, RestsOnWord, action_at, leg_step, next_to_give, IsTurn, IsQuiet, StandsAt, State, state_of, History, Setting, word_at, table_at, entry_at, generation_at, reads_at, writes_at, known_at, seen_by, legs_at, StepsSoFar, DomainsStand, StateAgrees, PhaseStands, LegStands, Asks, numbered, pins_at, Rests, FitsAsked, length, ByLeg, is_invalid, IsExchanged, idle_word, CallerKnowledge, Handle, ByMapping, Half, Call, FirstHalf, SecondHalf, Second, Pinning, Relook, held_of, cond_both}
 use Rattle.gt_entry.specs.Spelling.{control_with}
 use Rattle.gt_core.proofs.{Seeing.word-shows, Seeing.table-fits, Seeing.IsWithin, Legs.Words}
 
@@ -23,12 +23,8 @@ pub record IsHere (s : Setting) (h : History) (xs : List State) (d : DomId) (r :
   pub rests : Rests (known_at s h d) d r (pins_at phase) shown (Makes step)
   pub fits : FitsAsked r
 
-abbrev step_in : Action → Step → Step
-step_in (Makes step) other = step
-step_in (Done verdict) other = other
-
 pub makes-same : (a b : Step) → Makes a ≡ Makes b → a ≡ b
-makes-same a b e = ap (λ (x : Action). step_in x a) e
+makes-same a b e = cc
 
 -- what holds of the step of an action
 abbrev pub OfAction : (Step → Type 0) → Action → Type 0
@@ -73,7 +69,7 @@ table-below s h xs d gref st lt = let le : size_of (table_at s h d) ≤ TABLE_EN
 
 pub word-below : (s : Setting) (h : History) (xs : List State) (d : DomId) (r : Asked) (way : Continuation) (shown : List Seen) (gref : GrantRef) (word : ℕ) (change : Change) → DomainsStand s h xs → begun (known_at s h d) d r ≡ None
     → RestsOnWord (known_at s h d) way d r shown gref word change → gref.0 < TABLE_ENTRIES
-word-below s h xs d r way shown gref word (Publish entry) st none rests = table-below s h xs d gref st (opens (known_at s h d) d (Grant gref entry) (subst (λ (z : Asked). begun (known_at s h d) d z ≡ None) rests.0 none)).in_table
+word-below s h xs d r way shown gref word (Publish entry) st none rests = table-below s h xs d gref st (opens (known_at s h d) d (Grant gref entry) (none-of (known_at s h d) d r (Grant gref entry) rests.0 none)).in_table
 word-below s h xs d r way shown gref word ToInvalid st none rests = table-below s h xs d gref st (opens (known_at s h d) d (Revoke gref) (subst (λ (z : Asked). begun (known_at s h d) d z ≡ None) rests.0 none)).in_table
 word-below s h xs d r way shown gref word ToReadOnly st none rests = table-below s h xs d gref st (opens (known_at s h d) d (Demote gref) (subst (λ (z : Asked). begun (known_at s h d) d z ≡ None) rests.0 none)).in_table
 word-below s h xs d r way shown gref word ToWritable st none rests = table-below s h xs d gref st (opens (known_at s h d) d (Promote gref) (subst (λ (z : Asked). begun (known_at s h d) d z ≡ None) rests.0 none)).in_table
@@ -86,7 +82,7 @@ turn-below s h xs d r gref change st none is = absurd is
 
 -- each step is on words that there are
 
-leg-within : (s : Setting) (h : History) (xs : List State) (d : DomId) (l : Leg) (so_far : StepsSoFar) (p : LegPhase) → state_of xs l.dom.0 ≢ None → LegStands s h l so_far p → IsWithin xs d (leg_step l p)
+pub leg-within : (s : Setting) (h : History) (xs : List State) (d : DomId) (l : Leg) (so_far : StepsSoFar) (p : LegPhase) → state_of xs l.dom.0 ≢ None → LegStands s h l so_far p → IsWithin xs d (leg_step l p)
 leg-within s h xs d l so_far AtHeader some a = some
 leg-within s h xs d l so_far (Look more) some a = (some, a.0)
 leg-within s h xs d l so_far (Body more word) some a = (some, a.within)
@@ -102,50 +98,27 @@ by-quiet P unpins bodies headers accesses (ReadBytes dom frame off len) q = (acc
 by-quiet P unpins bodies headers accesses (WriteBytes dom frame off len) q = (accesses dom frame off len).1
 by-quiet P unpins bodies headers accesses step q = absurd q
 
-asks-run : (s : Setting) (h : History) (d : DomId) (r : Asked) (dom : DomId) (question : Question) → begun (known_at s h d) d r ≡ None → Asks d r dom question → domain_of s.domains dom ≢ None
-asks-run s h d r dom AsksSize none a = subst (λ (z : DomId). domain_of s.domains z ≢ None) (sym a.2)
-    (of-run (domain_of s.domains (resolved d a.0)) (opens (known_at s h d) d (QuerySize a.0) (subst (λ (z : Asked). begun (known_at s h d) d z ≡ None) a.1 none)).of_run)
-asks-run s h d r dom AsksVersion none a = subst (λ (z : DomId). domain_of s.domains z ≢ None) (sym a.2)
-    (of-run (domain_of s.domains (resolved d a.0)) (opens (known_at s h d) d (GetVersion a.0) (subst (λ (z : Asked). begun (known_at s h d) d z ≡ None) a.1 none)).of_run)
-
-pub step-within : (s : Setting) (h : History) (xs : List State) (d : DomId) (r : Asked) (shown : List Seen) (so_far : StepsSoFar) (phase : Phase) (step : Step) → IsHere s h xs d r shown so_far phase step → IsWithin xs d step
-step-within s h xs d r shown so_far phase step i = subst (OfAction (IsWithin xs d)) i.acts (by phase i.at.has_shown i.place i.acts)
-  where
-    by : (p : Phase) → HasShown (known_at s h d) (path (known_at s h d) d r) d r shown p → PhaseStands s h d r so_far p → action_at d p ≡ Makes step → OfAction (IsWithin xs d) (action_at d p)
-    by (Exchanging gref looked change) a b e = (i.own, word-below s h xs d r (path (known_at s h d) d r) shown gref looked change i.st i.at.unanswered a)
-    by (Looking gref change more) a b e = (i.own, turn-below s h xs d r gref change i.st i.at.unanswered a)
-    by (Changing gref change more looked) a b e = (i.own, turn-below s h xs d r gref change i.st i.at.unanswered a.1)
-    by (Walking aim l at) a b e = leg-within s h xs d l so_far at (state-some s h xs l.dom i.st b.0) b.1
-    by (Asking dom question) a b e = state-some s h xs dom i.st (asks-run s h d r dom question i.at.unanswered b)
-    by (Last last verdict) a b e = by-quiet (IsWithin xs d) (λ p handle. tt) (λ gref half word. tt) (λ version frames. tt) (λ dom frame off len. (tt, tt)) last a.0
-    by (Ending pins verdict) a b e = subst (OfAction (IsWithin xs d)) (sym e) (by-giving (IsWithin xs d) (λ p n. tt) (last_first pins) verdict step e)
-    by p a b e = tt
+pub asks-run : (s : Setting) (h : History) (d : DomId) (r : Asked) (dom : DomId) (question : Question) → begun (known_at s h d) d r ≡ None → Asks d r dom question → domain_of s.domains dom ≢ None
+asks-run s h d r dom AsksSize none a = rw a.2 (of-run _ (opens (known_at s h d) d (QuerySize a.0) (none-of (known_at s h d) d r (QuerySize a.0) a.1 none)).of_run)
+asks-run s h d r dom AsksVersion none a = rw a.2 (of-run _ (opens (known_at s h d) d (GetVersion a.0) (none-of (known_at s h d) d r (GetVersion a.0) a.1 none)).of_run)
 
 -- what a step sees fits it
 
-exchange-fits : (b : Bool) (word w : ℕ) → (w == word) ≡ b → IsExchanged word (cond b Taken (Missed w))
-exchange-fits true word w e = tt
-exchange-fits false word w e = λ same. true≢false (sym (eq-eqb w word same) ∙ e)
-
 pub exchanged-fits : (word w : ℕ) → IsExchanged word (cond (w == word) Taken (Missed w))
-exchanged-fits word w = exchange-fits (w == word) word w refl
+exchanged-fits word w = cond_both (w == word) Taken (Missed w) (IsExchanged word) (λ e. tt) (λ e same. true≢false (sym (eq-eqb w word same) ∙ e))
 
 -- no step but an owner's publication may see what it can't
 abbrev pub IsPublished : Setting → History → DomId → Step → Type 0
 IsPublished s h d (Exchange gref looked (Publish entry)) = word_at s h d.0 gref.0 ≡ looked
 IsPublished s h d step = Unit {0}
 
-changed-fits : (s : Setting) (h : History) (d : DomId) (gref : GrantRef) (looked : ℕ) (change : Change) → IsPublished s h d (Exchange gref looked change)
-    → IsChanged change looked (cond (word_at s h d.0 gref.0 == looked) Taken (Missed (word_at s h d.0 gref.0)))
-changed-fits s h d gref looked (Publish entry) p = ap (λ (b : Bool). cond b Taken (Missed (word_at s h d.0 gref.0))) (eq-eqb (word_at s h d.0 gref.0) looked p)
-changed-fits s h d gref looked change p = exchanged-fits looked (word_at s h d.0 gref.0)
-
 pub seen-fits : (s : Setting) (h : History) (d : DomId) (step : Step) → IsPublished s h d step → FitsStep step (seen_by s h d step)
 seen-fits s h d (LookHeader dom) p = tt
 seen-fits s h d (LookControl dom gref) p = tt
 seen-fits s h d (LookBody dom gref half) p = tt
 seen-fits s h d (PinStep q) p = exchanged-fits q.word (word_at s h q.dom.0 q.gref.0)
-seen-fits s h d (Exchange gref looked change) p = changed-fits s h d gref looked change p
+seen-fits s h d (Exchange gref looked (Publish entry)) p = ap (λ (b : Bool). cond b Taken (Missed (word_at s h d.0 gref.0))) (eq-eqb (word_at s h d.0 gref.0) looked p)
+seen-fits s h d (Exchange gref looked change) p = exchanged-fits looked (word_at s h d.0 gref.0)
 seen-fits s h d step p = refl
 
 -- the owner's word with no pins
@@ -161,9 +134,6 @@ idle-here s h d gref none = let r : reads_at h d.0 gref.0 ≡ 0 = omega arith in
     ap (λ (n : ℕ). control_word (control_with (entry_at h d.0 gref.0) (generation_at s h d.0 gref.0) n (writes_at h d.0 gref.0))) r
     ∙ ap (λ (n : ℕ). control_word (control_with (entry_at h d.0 gref.0) (generation_at s h d.0 gref.0) 0 n)) w
 
-pub idle-no-pins : (s : Setting) (h : History) (d : DomId) (gref : GrantRef) → word_at s h d.0 gref.0 ≡ idle_word (known_at s h d) gref → reads_at h d.0 gref.0 + writes_at h d.0 gref.0 ≡ 0
-idle-no-pins s h d gref e = idle-pins (entry_at h d.0 gref.0) (generation_at s h d.0 gref.0) (reads_at h d.0 gref.0) (writes_at h d.0 gref.0) e
-
 invalid-is : (e : Entry) → is_invalid e ≡ true → e ≡ Invalid
 invalid-is Invalid e = refl
 invalid-is z e = absurd (false≢true e)
@@ -172,29 +142,10 @@ pub grant-invalid : (s : Setting) (h : History) (d : DomId) (gref : GrantRef) (e
 grant-invalid s h d gref entry none = invalid-is (entry_at h d.0 gref.0) (opens (known_at s h d) d (Grant gref entry) none).free
 
 -- a publication is of the word that its entry has
-publish-here : (s : Setting) (h : History) (xs : List State) (d : DomId) (r : Asked) (shown : List Seen) (gref : GrantRef) (looked : ℕ) (change : Change) → DomainsStand s h xs → begun (known_at s h d) d r ≡ None
+pub publish-here : (s : Setting) (h : History) (xs : List State) (d : DomId) (r : Asked) (shown : List Seen) (gref : GrantRef) (looked : ℕ) (change : Change) → DomainsStand s h xs → begun (known_at s h d) d r ≡ None
     → RestsOnWord (known_at s h d) (path (known_at s h d) d r) d r shown gref looked change → IsPublished s h d (Exchange gref looked change)
 publish-here s h xs d r shown gref looked (Publish entry) st none rests =
     let free = st.free d.0 gref.0 (grant-invalid s h d gref entry (subst (λ (z : Asked). begun (known_at s h d) d z ≡ None) rests.0 none)) in
     let a : reads_at h d.0 gref.0 ≡ 0 = free.0 in let b : writes_at h d.0 gref.0 ≡ 0 = free.1 in
     idle-here s h d gref (omega arith) ∙ sym rests.1
 publish-here s h xs d r shown gref looked change st none rests = tt
-
-turn-publishes : (s : Setting) (h : History) (d : DomId) (r : Asked) (gref : GrantRef) (looked : ℕ) (change : Change) → IsTurn r gref change → IsPublished s h d (Exchange gref looked change)
-turn-publishes s h d r gref looked (Publish entry) is = absurd is
-turn-publishes s h d r gref looked change is = tt
-
-quiet-publishes : (s : Setting) (h : History) (d : DomId) (step : Step) → IsQuiet step → IsPublished s h d step
-quiet-publishes s h d (Exchange gref looked change) q = absurd q
-quiet-publishes s h d step q = tt
-
-pub step-publishes : (s : Setting) (h : History) (xs : List State) (d : DomId) (r : Asked) (shown : List Seen) (so_far : StepsSoFar) (phase : Phase) (step : Step) → IsHere s h xs d r shown so_far phase step → IsPublished s h d step
-step-publishes s h xs d r shown so_far phase step i = subst (OfAction (IsPublished s h d)) i.acts (by phase i.at.has_shown i.acts)
-  where
-    by : (p : Phase) → HasShown (known_at s h d) (path (known_at s h d) d r) d r shown p → action_at d p ≡ Makes step → OfAction (IsPublished s h d) (action_at d p)
-    by (Exchanging gref looked change) a e = publish-here s h xs d r shown gref looked change i.st i.at.unanswered a
-    by (Changing gref change more looked) a e = turn-publishes s h d r gref looked change a.1
-    by (Walking aim l at) a e = by-leg (IsPublished s h d) (λ dom. tt) (λ dom gref. tt) (λ dom gref half. tt) (λ p. tt) l at
-    by (Last last verdict) a e = quiet-publishes s h d last a.0
-    by (Ending pins verdict) a e = subst (OfAction (IsPublished s h d)) (sym e) (by-giving (IsPublished s h d) (λ p n. tt) (last_first pins) verdict step e)
-    by p a e = tt

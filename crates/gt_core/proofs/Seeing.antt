@@ -1,8 +1,5 @@
 -- What the core's steps see is what the history left.
-use Rattle.gt_core.proofs.Words.{◌≡◌, ◌<◌, ◌≤◌, ◌+◌, ◌%◌, ℕ, Bool, true, false, cond, List, ap, ◌∙◌, arith, ◌==◌, TABLE_ENTRIES, control_of, header_word, header_of, Header, State, History, Setting, word_at, control_at, DomainsStand, FitsTable, ◌*◌, ◌/◌, control-round, MAX_TABLE_FRAMES, ENTRIES_V1, ENTRIES_V2, ◌≢◌, zero, suc, refl, [], ◌∷◌, length, Option, Some, None, same_Some, slice_get, DomId, Entry, control_word, PinCounts, Own, Step, LookHeader, LookControl, LookBody, Exchange, Word, control_with, generation_in, Half, FirstHalf, SecondHalf, entry_at, generation_at, reads_at, body_at, table_at, seen_by, exchange_sees, Agrees, StateAgrees, control_seen, header_seen, body_seen, sees, reads_in, writes_in, body_in, slot_reads, slot_writes, slot_body, control_in}
-use Rattle.gt_entry.specs.Words.{size_of}
-use Rattle.gt_calls.specs.declared.action.Step.TheVariants.{Pin}
-use Rattle.gt_core.specs.Standing.{state_of}
+use Rattle.gt_core.proofs.Words.{◌≡◌, ◌<◌, ◌≤◌, ◌+◌, ◌%◌, ℕ, Bool, true, false, cond, List, ap, ◌∙◌, arith, ◌==◌, TABLE_ENTRIES, control_of, header_word, header_of, Header, State, History, Setting, word_at, control_at, DomainsStand, FitsTable, ◌*◌, ◌/◌, control-round, MAX_TABLE_FRAMES, ENTRIES_V1, ENTRIES_V2, ◌≢◌, zero, suc, refl, [], ◌∷◌, length, Option, Some, None, same_Some, slice_get, DomId, Entry, control_word, PinCounts, Own, Step, LookHeader, LookControl, LookBody, Exchange, Word, control_with, generation_in, Half, FirstHalf, SecondHalf, entry_at, generation_at, reads_at, body_at, table_at, seen_by, exchange_sees, Agrees, StateAgrees, control_seen, header_seen, body_seen, sees, reads_in, writes_in, body_in, slot_reads, slot_writes, slot_body, control_in, size_of, state_of, PinStep}
 
 pub word-shows : (s : Setting) (h : History) (xs : List State) (t r : ℕ) → DomainsStand s h xs → r < TABLE_ENTRIES → control_of (word_at s h t r) ≡ control_at s h t r
 word-shows s h xs t r st within = control-round (control_at s h t r) (st.words t r within).in_range (st.words t r within).domain
@@ -61,7 +58,7 @@ abbrev pub IsWithin : List State → DomId → Step → Type 0
 IsWithin xs d (LookHeader dom) = state_of xs dom.0 ≢ None
 IsWithin xs d (LookControl dom gref) = (state_of xs dom.0 ≢ None) × (gref.0 < TABLE_ENTRIES)
 IsWithin xs d (LookBody dom gref half) = (state_of xs dom.0 ≢ None) × (gref.0 < TABLE_ENTRIES)
-IsWithin xs d (Pin p) = (state_of xs p.dom.0 ≢ None) × (p.gref.0 < TABLE_ENTRIES)
+IsWithin xs d (PinStep p) = (state_of xs p.dom.0 ≢ None) × (p.gref.0 < TABLE_ENTRIES)
 IsWithin xs d (Exchange gref looked change) = (state_of xs d.0 ≢ None) × (gref.0 < TABLE_ENTRIES)
 IsWithin xs d step = Unit {0}
 
@@ -82,6 +79,6 @@ sees-agree s h xs d (LookHeader dom) st w = let x = state-there s h xs dom st w 
 sees-agree s h xs d (LookControl dom gref) st w = ap (λ (n : ℕ). Word n) (control-agrees s h xs dom gref.0 st w.0 w.1)
 sees-agree s h xs d (LookBody dom gref half) st w = let x = state-there s h xs dom st w.0 in
     ap (λ (n : ℕ). Word n) (seen-state (λ l. body_seen l dom.0 gref.0 half) (λ z. body_in z.slots gref.0 half) dom.0 x.0 (λ y ys. refl) xs x.1 ∙ body-agrees s h x.0 gref.0 half x.3 w.1 ∙ ap (λ (t : DomId). body_at h t.0 gref.0 half) x.2)
-sees-agree s h xs d (Pin p) st w = ap (λ (n : ℕ). exchange_sees n p.word) (control-agrees s h xs p.dom p.gref.0 st w.0 w.1)
+sees-agree s h xs d (PinStep p) st w = ap (λ (n : ℕ). exchange_sees n p.word) (control-agrees s h xs p.dom p.gref.0 st w.0 w.1)
 sees-agree s h xs d (Exchange gref looked change) st w = ap (λ (n : ℕ). exchange_sees n looked) (control-agrees s h xs d gref.0 st w.0 w.1)
 sees-agree s h xs d step st w = refl

@@ -29,14 +29,7 @@ pub at-rest : (d : DomainConfig) (first_gen n : ℕ) (own : List Own) (slots : L
     → n ≡ ENTRIES → own ≡ replicate n (record { entry = Invalid; generation = min first_gen LAST_GENERATION })
     → slots ≡ replicate n (record { reads = 0; writes = 0; first = 0; second = 0 }) → mappings ≡ record { slots = []; given = 0; room = 0 } → given ≡ []
     → ◌≡◌ {A = State} (record { id = d.id; header = record { version = d.version % 4; frames = d.table_frames % 256 }; own = own; slots = slots; mappings = mappings; underway = None; given = given }) (first_state first_gen d)
-at-rest d first_gen n own slots mappings given en eo es ep eg =
-    let h : Header = record { version = d.version % 4; frames = d.table_frames % 256 } in
-    let o : own ≡ replicate ENTRIES (record { entry = Invalid; generation = min first_gen LAST_GENERATION }) = eo ∙ ap (λ (k : ℕ). replicate k (record { entry = Invalid; generation = min first_gen LAST_GENERATION })) en in
-    let s : slots ≡ replicate ENTRIES (record { reads = 0; writes = 0; first = 0; second = 0 }) = es ∙ ap (λ (k : ℕ). replicate k (record { reads = 0; writes = 0; first = 0; second = 0 })) en in
-    ap (λ (l : List ℕ). record { id = d.id; header = h; own = own; slots = slots; mappings = mappings; underway = None; given = l }) eg
-    ∙ ap (λ (l : List Own). record { id = d.id; header = h; own = l; slots = slots; mappings = mappings; underway = None; given = [] }) o
-    ∙ ap (λ (l : List PinCounts). record { id = d.id; header = h; own = replicate ENTRIES (record { entry = Invalid; generation = min first_gen LAST_GENERATION }); slots = l; mappings = mappings; underway = None; given = [] }) s
-    ∙ ap (λ (l : HandleMap Held). record { id = d.id; header = h; own = replicate ENTRIES (record { entry = Invalid; generation = min first_gen LAST_GENERATION }); slots = replicate ENTRIES (record { reads = 0; writes = 0; first = 0; second = 0 }); mappings = l; underway = None; given = [] }) ep
+at-rest d first_gen n own slots mappings given en eo es ep eg = rw (eg, eo, es, ep, en)
 
 -- one domain more at rest
 pub rest-more : (first_gen : ℕ) (items : List DomainConfig) (i : ℕ) (d : DomainConfig) (old new : List State) (x : State) → i < length items

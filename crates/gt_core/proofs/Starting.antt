@@ -27,13 +27,8 @@ get-replicate {A} n r a = cond_both (ltb r n) (Some a) None (λ o. slice_get (re
 
 -- rows of entries that are all alike
 
-rows-entry : (g r : ℕ) → entry_in (replicate ENTRIES (record { entry = Invalid; generation = g })) r ≡ Invalid
-rows-entry g r = let row : Own = record { entry = Invalid; generation = g } in
-    ap row_entry (get-replicate ENTRIES r row) ∙ cond_both (ltb r ENTRIES) (Some row) None (λ o. row_entry o ≡ Invalid) (λ e. refl) (λ e. refl)
-
-rows-generation : (g r : ℕ) → generation_in g (replicate ENTRIES (record { entry = Invalid; generation = min g LAST_GENERATION })) r ≡ min g LAST_GENERATION
-rows-generation g r = let row : Own = record { entry = Invalid; generation = min g LAST_GENERATION } in
-    ap (row_generation g) (get-replicate ENTRIES r row) ∙ cond_both (ltb r ENTRIES) (Some row) None (λ o. row_generation g o ≡ min g LAST_GENERATION) (λ e. refl) (λ e. refl)
+row-of : {A : Type 0} (of : Option Own → A) (row : Own) (a : A) (r : ℕ) → of (Some row) ≡ a → of None ≡ a → of (slice_get (replicate ENTRIES row) r) ≡ a
+row-of of row a r some none = ap of (get-replicate ENTRIES r row) ∙ cond_both (ltb r ENTRIES) (Some row) None (λ o. of o ≡ a) (λ e. some) (λ e. none)
 
 -- each domain at rest
 
@@ -52,8 +47,8 @@ unfolding entry_at raises_at live gather maps_answered_at open_call table_at
 rest-agrees s d is f le = let g : min s.first_generation LAST_GENERATION ≡ s.first_generation = omega arith in record {
   header = room-there d.version d.table_frames (record { version = f.0; frames = f.1 }) ∙ sym (ap header_from is);
   rows = length-replicate {A = Own} ENTRIES (record { entry = Invalid; generation = min s.first_generation LAST_GENERATION });
-  entries = fun_ext (rows-entry (min s.first_generation LAST_GENERATION));
-  generations = fun_ext (λ r. rows-generation s.first_generation r ∙ g ∙ (let z : s.first_generation ≡ s.first_generation + 0 = omega arith in z));
+  entries = fun_ext (λ r. row-of row_entry (record { entry = Invalid; generation = min s.first_generation LAST_GENERATION }) Invalid r refl refl);
+  generations = fun_ext (λ r. row-of (row_generation s.first_generation) (record { entry = Invalid; generation = min s.first_generation LAST_GENERATION }) (min s.first_generation LAST_GENERATION) r refl refl ∙ g ∙ (let z : s.first_generation ≡ s.first_generation + 0 = omega arith in z));
   room = length-replicate {A = PinCounts} ENTRIES (record { reads = 0; writes = 0; first = 0; second = 0 });
   slots = λ r slot e. slot-starts d.id.0 ENTRIES r slot e;
   mappings = no-handles;

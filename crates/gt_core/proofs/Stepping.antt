@@ -1,58 +1,54 @@
 -- What the core does for a step of an open call: it is right, and the core stands for it.
-use Rattle.gt_core.proofs.Words.{◌≡◌, ◌≢◌, inl, inr, ℕ, refl, Bool, List, [], ◌∷◌, ◌++◌, length, Option, Some, None, cond, sym, ap, ◌∙◌, subst, reverse, eqb-true, eq-eqb, length-reverse, reverse_onto, same_Some, ◌==◌, DomId, GrantRef, Denial, Entry, Invalid, Half, Handle, Held, Asked, ByMapping, ByLeg, Seen, Nothing, Taken, Missed, Verdict, Granted, Given, KeptPin, Refused, Step, PinStep, Unpin, StoreBody, StoreHeader, Exchange, ReadBytes, WriteBytes, CopyBytes, Action, Makes, Done, Call, Phase, Storing, Walking, Last, Ending, last_first, knowledge_of, path, phase_after, action_at, after_store, HasShown, pins_at, held_in, Goes, Open, Item, Answer, Denied, AnswerDone, Mapped, State, state_of, sees, History, Setting, live, word_at, known_at, legs_at, mappings_at, mapping_of, seen_by, Underway, values, open_call, underway_after, holder_after, one_if_mapped, StepsRight, GivesValue, refusal_in, refusal_of, DomainsStand, Agrees, CallAgrees, OpenAgrees, numbered, position, get_or, set, position-Some, domain_of, Value, FramesTold, BytesAnswer, HandleMap, applied, with_underway, with_mapping, Adds, IsReadable, IsAdmitted, AccessedBy, bytes_at, FrameSet, frame_at, contents_at, IsRight, StepsRightIn, CoreStands, FramesStand, core_of, Settled, IsLawful, IsLawfullyHeld, answer_with, Closed, IsRoomFor, IsMapping, ticked_with, ticked_element, Element, Tick, MayDo, Does, Did, grown, without, RestsOnRequest, WantsMemoryNow, IsWritingNext, TickTold, IsWriting, cond_both}
-use Rattle.std.specs.Prelude.{take, drop}
-use Rattle.gt_core.{proofs.Values.call-ends, proofs.Pinning.pins, proofs.Pinning.map-legs, proofs.Pinning.new_pin, proofs.Pinning.pin-stands, proofs.Pinning.map-agrees, proofs.Pinning.leg-agrees as pin-agrees, proofs.Keeping.stepped, proofs.Keeping.KeepsEntries, proofs.Keeping.open_call-own, proofs.Keeping.quiet-stands, proofs.Others.KeepsKnown, proofs.Placing.IsStore, proofs.Phases.IsHere, proofs.Phases.makes-same, proofs.Phases.by-giving, proofs.Storing.header-stands, proofs.Storing.store-stands, proofs.Framing.bytes-held, proofs.Framing.open-admitted, proofs.Framing.open-readable, proofs.Framing.frames-stepped, proofs.Outcomes.next_of, proofs.Outcomes.ends-so, proofs.Ticking.Ticks, proofs.Ticking.ticks, proofs.Ticking.here-of, proofs.Ticking.given-goes-on, proofs.Ticking.legs-after, proofs.Ticking.open-after, proofs.Ticking.goes-right, proofs.Ticking.ends-right, proofs.Ticking.last-fact, proofs.Ticking.leg-store, proofs.Unpinning.unpins, proofs.Unpinning.Loses, proofs.Unpinning.unpin-stands, proofs.Unpinning.becomes-unpinned, proofs.Unpinning.loses-leg, proofs.Unpinning.loses-mapping, proofs.Unpinning.mapping-agrees, proofs.Unpinning.leg-agrees as unpin-agrees, proofs.Acting.can-change, proofs.Acting.can-pin, proofs.Acting.store-invalid, proofs.Acting.header-fits, proofs.Acting.map-lawful, proofs.Acting.CanPin, proofs.Exchanging.exchange-stands, proofs.Beginning.agrees-found, proofs.Rows.has_id, proofs.Rows.found, proofs.Rows.state_of-set, specs.declared.trace.Bytes.Bytes}
+use Rattle.gt_core.proofs.Words.{◌≡◌, ◌≢◌, inl, inr, ℕ, refl, Bool, List, [], ◌∷◌, ◌++◌, length, Option, Some, None, cond, sym, ap, ◌∙◌, subst, reverse, eqb-true, eq-eqb, length-reverse, reverse_onto, same_Some, ◌==◌, DomId, GrantRef, Denial, Entry, Invalid, Half, Handle, Held, Asked, ByMapping, ByLeg, Seen, Nothing, Taken, Missed, Verdict, Granted, Given, KeptPin, Refused, Step, PinStep, Unpin, StoreBody, StoreHeader, Exchange, ReadBytes, WriteBytes, CopyBytes, Action, Makes, Done, Call, Phase, Storing, Walking, Last, Ending, last_first, knowledge_of, path, phase_after, action_at, after_store, HasShown, pins_at, held_in, Goes, Open, Item, Answer, Denied, AnswerDone, Mapped, State, state_of, sees, History, Setting, live, word_at, known_at, legs_at, mappings_at, mapping_of, seen_by, Underway, values, open_call, underway_after, holder_after, one_if_mapped, StepsRight, GivesValue, refusal_in, refusal_of, DomainsStand, Agrees, CallAgrees, OpenAgrees, numbered, position, get_or, set, position-Some, domain_of, Value, FramesTold, BytesAnswer, HandleMap, applied, with_underway, with_mapping, Adds, IsReadable, IsAdmitted, AccessedBy, bytes_at, FrameSet, frame_at, contents_at, IsRight, StepsRightIn, CoreStands, FramesStand, core_of, Settled, IsLawful, IsLawfullyHeld, answer_with, Closed, IsRoomFor, IsMapping, ticked_with, ticked_element, Element, Tick, MayDo, Does, Did, grown, without, RestsOnRequest, WantsMemoryNow, IsWritingNext, TickTold, IsWriting, cond_both, CallerKnowledge, GivenAgrees, take, drop}
+use Rattle.gt_core.{proofs.Values.call-ends, proofs.Pinning.pins, proofs.Pinning.map-legs, proofs.Pinning.new_pin, proofs.Pinning.pin-stands, proofs.Pinning.map-agrees, proofs.Pinning.leg-agrees as pin-agrees, proofs.Keeping.stepped, proofs.Keeping.KeepsEntries, proofs.Keeping.open_call-own, proofs.Keeping.quiet-stands, proofs.Others.KeepsKnown, proofs.Placing.IsStore, proofs.Phases.IsHere, proofs.Phases.makes-same, proofs.Phases.by-giving, proofs.Storing.header-stands, proofs.Storing.store-stands, proofs.Framing.bytes-held, proofs.Framing.open-admitted, proofs.Framing.open-readable, proofs.Framing.frames-stepped, proofs.Outcomes.next_of, proofs.Outcomes.ends-so, proofs.Ticking.Ticks, proofs.Ticking.ticks, proofs.Ticking.given-goes-on, proofs.Ticking.legs-after, proofs.Ticking.open-after, proofs.Ticking.goes-right, proofs.Ticking.ends-right, proofs.Ticking.last-fact, proofs.Ticking.LastFact, proofs.Ticking.by-storing, proofs.Ticking.seen_in, proofs.Ticking.phase_then, proofs.Ticking.history_then, proofs.Unpinning.Loses, proofs.Unpinning.unpin-stands, proofs.Unpinning.becomes-unpinned, proofs.Unpinning.loses-leg, proofs.Unpinning.loses-mapping, proofs.Unpinning.mapping-agrees, proofs.Unpinning.leg-agrees as unpin-agrees, proofs.Acting.can-change, proofs.Acting.can-pin, proofs.Acting.store-invalid, proofs.Acting.header-fits, proofs.Acting.map-lawful, proofs.Acting.CanPin, proofs.Exchanging.exchange-stands, proofs.Beginning.agrees-found, proofs.Rows.has_id, proofs.Rows.found, proofs.Rows.state_of-set, specs.declared.trace.Bytes.Bytes}
 
 -- the states where just the actor's call, or its handles or bytes, are others
 abbrev Replaced : List State → List State → State → State → Type 0
 Replaced xs ys x new = (q : ℕ) → state_of ys q ≡ cond (x.id.0 == q) (Some new) (state_of xs q)
 
 -- each step but the pin of a map
+module _ (s : Setting) (h : History) (xs ys : List State) (x : State) (c : Underway) (phase : Phase) (answer : Option Answer) (o' : Option Open) (here : state_of xs x.id.0 ≡ Some x) (a : Agrees s h x) (r : Replaced xs ys x (record x { underway = o' }))
+    (m : one_if_mapped answer ≡ 0) (leg : (n : ℕ) → holder_after answer n ≡ ByLeg n) where
+  abbrev CallThen : Step → Seen → Type 0
+  CallThen step seen = CallAgrees s (stepped x.id step seen answer ∷ h) x.id o' (open_call (stepped x.id step seen answer ∷ h) x.id.0)
 
-calm : (s : Setting) (h : History) (xs ys : List State) (x : State) (o' : Option Open) (step : Step) (seen : Seen) (answer : Option Answer) → KeepsEntries (stepped x.id step seen answer) → KeepsKnown (stepped x.id step seen answer)
-    → DomainsStand s h xs → state_of xs x.id.0 ≡ Some x → Agrees s h x → Replaced xs ys x (record x { underway = o' }) → CallAgrees s (stepped x.id step seen answer ∷ h) x.id o' (open_call (stepped x.id step seen answer ∷ h) x.id.0)
-    → DomainsStand s (stepped x.id step seen answer ∷ h) ys
-calm s h xs ys x o' step seen answer e k st here a r call =
-    quiet-stands s (stepped x.id step seen answer) h xs ys x o' x.given e k refl st here a r call (given-goes-on x.id step seen answer h x.given a.given)
+  abbrev StandThen : Step → Seen → Type 0
+  StandThen step seen = DomainsStand s (stepped x.id step seen answer ∷ h) (applied x.id step seen ys)
 
-pub step-stands : (s : Setting) (h : History) (xs ys : List State) (x : State) (c : Underway) (phase : Phase) (step : Step) (answer : Option Answer) (o' : Option Open) → IsHere s h xs x.id c.request (values c) (reverse c.steps) phase step
-    → ((p : Held) (place : ℕ) → step ≡ Unpin p (ByLeg place) → (others : List Held) × (held_in phase ≡ p ∷ others) × (place ≡ length others))
-    → state_of xs x.id.0 ≡ Some x → Agrees s h x → Replaced xs ys x (record x { underway = o' }) → one_if_mapped answer ≡ 0 → ((n : ℕ) → holder_after answer n ≡ ByLeg n) → (IsStore step → answer ≡ None)
-    → CallAgrees s (stepped x.id step (seen_by s h x.id step) answer ∷ h) x.id o' (open_call (stepped x.id step (seen_by s h x.id step) answer ∷ h) x.id.0)
-    → DomainsStand s (stepped x.id step (seen_by s h x.id step) answer ∷ h) (applied x.id step (seen_by s h x.id step) ys)
-step-stands s h xs ys x c phase (PinStep p) answer o' i last here a r m leg store call =
-    cond_both (word_at s h p.dom.0 p.gref.0 == p.word) Taken (Missed (word_at s h p.dom.0 p.gref.0))
-    (λ seen. CallAgrees s (stepped x.id (PinStep p) seen answer ∷ h) x.id o' (open_call (stepped x.id (PinStep p) seen answer ∷ h) x.id.0) → DomainsStand s (stepped x.id (PinStep p) seen answer ∷ h) (applied x.id (PinStep p) seen ys))
-    (λ is now. let can = can-pin s h xs x.id c.request (values c) (reverse c.steps) phase p i (eqb-true (word_at s h p.dom.0 p.gref.0) p.word is) in
-    pin-stands s h xs ys x p answer x.mappings o' i.st here a r can.valid can.few (subst (IsLawfullyHeld s (new_pin h x.id p answer)) (sym (leg (length (legs_at h x.id.0)))) tt)
-    (pin-agrees h x.id p answer x.mappings (leg (length (legs_at h x.id.0))) m a.mappings) now (given-goes-on x.id (PinStep p) Taken answer h x.given a.given))
-    (λ is now. calm s h xs ys x o' (PinStep p) (Missed (word_at s h p.dom.0 p.gref.0)) answer (record { changes = λ r. refl; stores = λ r which. refl; header = refl }) (record { changes = λ r. refl; pins = λ before ps. refl; unpins = λ pins. refl; maps = m }) i.st here a r now) call
-step-stands s h xs ys x c phase (Exchange gref looked change) answer o' i last here a r m leg store call =
-    cond_both (word_at s h x.id.0 gref.0 == looked) Taken (Missed (word_at s h x.id.0 gref.0))
-    (λ seen. CallAgrees s (stepped x.id (Exchange gref looked change) seen answer ∷ h) x.id o' (open_call (stepped x.id (Exchange gref looked change) seen answer ∷ h) x.id.0) → DomainsStand s (stepped x.id (Exchange gref looked change) seen answer ∷ h) (applied x.id (Exchange gref looked change) seen ys))
-    (λ is now. let can = can-change s h xs x.id c.request (values c) (reverse c.steps) phase gref looked change i (eqb-true (word_at s h x.id.0 gref.0) looked is) in
-    exchange-stands s h xs ys x gref looked change answer o' i.st here a r can.within can.safe can.fits can.room m now (given-goes-on x.id (Exchange gref looked change) Taken answer h x.given a.given))
-    (λ is now. calm s h xs ys x o' (Exchange gref looked change) (Missed (word_at s h x.id.0 gref.0)) answer (record { changes = λ r. refl; stores = λ r which. refl; header = refl }) (record { changes = λ r. refl; pins = λ before ps. refl; unpins = λ pins. refl; maps = m }) i.st here a r now) call
-step-stands s h xs ys x c phase (Unpin p (ByLeg place)) answer o' i last here a r m leg store call =
-    let l = last p place refl in
-    let legs : legs_at h x.id.0 ≡ numbered 0 (reverse l.0 ++ p ∷ []) = i.held ∙ ap (λ (z : List Held). numbered 0 (reverse z)) l.1 ∙ ap (numbered 0) (reverse_onto l.0 p []) in
-    let at : length (reverse l.0) ≡ place = length-reverse l.0 ∙ sym l.2 in
-    unpin-stands s h xs _ x p (ByLeg place) Nothing answer x.mappings o' i.st here a (becomes-unpinned xs ys x p (ByLeg place) o' r)
-    (subst (λ (n : ℕ). Loses p (live h) (without x.id.0 (ByLeg n) (live h))) at (loses-leg h x.id (reverse l.0) p legs))
-    (unpin-agrees h x.id p place Nothing answer x.mappings m a.mappings) call (given-goes-on x.id (Unpin p (ByLeg place)) Nothing answer h x.given a.given)
-step-stands s h xs ys x c phase (Unpin p (ByMapping handle)) answer o' i last here a r m leg store call =
-    let found : mapping_of (mappings_at h x.id.0) handle ≡ Some p = i.rests.1.1 in
-    unpin-stands s h xs _ x p (ByMapping handle) Nothing answer (Rattle.gt_core.specs.Effects.taken handle x.mappings) o' i.st here a (becomes-unpinned xs ys x p (ByMapping handle) o' r)
-    (loses-mapping h x.id handle p found) (mapping-agrees h x.id p handle Nothing answer x.mappings m found a.mappings) call (given-goes-on x.id (Unpin p (ByMapping handle)) Nothing answer h x.given a.given)
-step-stands s h xs ys x c phase (StoreHeader version frames) answer o' i last here a r m leg store call =
-    header-stands s h xs ys x version frames answer o' i.st here a r m (header-fits s h xs x.id c.request version frames i.st i.rests.0 i.rests.1) call (given-goes-on x.id (StoreHeader version frames) Nothing answer h x.given a.given)
-step-stands s h xs ys x c phase (StoreBody gref half word) answer o' i last here a r m leg store call =
-    subst (λ (z : Option Answer). DomainsStand s (stepped x.id (StoreBody gref half word) Nothing z ∷ h) (applied x.id (StoreBody gref half word) Nothing ys)) (sym (store tt))
-    (store-stands s h xs ys x gref half word o' i.st here a (store-invalid s h x.id c.request gref half word i.rests.0 i.rests.1) r
-    (subst (λ (z : Option Answer). CallAgrees s (stepped x.id (StoreBody gref half word) Nothing z ∷ h) x.id o' (open_call (stepped x.id (StoreBody gref half word) Nothing z ∷ h) x.id.0)) (store tt) call)
-    (given-goes-on x.id (StoreBody gref half word) Nothing None h x.given a.given))
-step-stands s h xs ys x c phase step answer o' i last here a r m leg store call =
-    calm s h xs ys x o' step _ answer (record { changes = λ r. refl; stores = λ r which. refl; header = refl }) (record { changes = λ r. refl; pins = λ before ps. refl; unpins = λ pins. refl; maps = m }) i.st here a r call
+  given : (step : Step) (seen : Seen) → GivenAgrees (stepped x.id step seen answer ∷ h) x.id.0 x.given
+  given step seen = given-goes-on x.id step seen answer h x.given a.given
+
+  step-stands : (step : Step) → IsHere s h xs x.id c.request (values c) (reverse c.steps) phase step → LastFact (held_in phase) step → (IsStore step → answer ≡ None)
+      → CallThen step (seen_by s h x.id step) → StandThen step (seen_by s h x.id step)
+  step-stands (PinStep p) i last store call = let w = word_at s h p.dom.0 p.gref.0 in let v : Seen = Missed w in
+      cond_both (w == p.word) Taken v (λ seen. CallThen (PinStep p) seen → StandThen (PinStep p) seen)
+      (λ is now. let can = can-pin s h xs x.id c.request (values c) (reverse c.steps) phase p i (eqb-true w p.word is) in
+      pin-stands s h xs ys x p answer x.mappings o' i.st here a r can.valid can.few (subst (IsLawfullyHeld s (new_pin h x.id p answer)) (sym (leg (length (legs_at h x.id.0)))) tt)
+      (pin-agrees h x.id p answer x.mappings (leg (length (legs_at h x.id.0))) m a.mappings) now (given (PinStep p) Taken))
+      (λ is now. quiet-stands s (stepped x.id (PinStep p) v answer) h xs ys x o' x.given (record { changes = λ r. refl; stores = λ r which. refl; header = refl })
+      (record { changes = λ r. refl; pins = λ before ps. refl; unpins = λ pins. refl; maps = m }) refl i.st here a r now (given (PinStep p) v)) call
+  step-stands (Exchange gref looked change) i last store call = let w = word_at s h x.id.0 gref.0 in let v : Seen = Missed w in
+      cond_both (w == looked) Taken v (λ seen. CallThen (Exchange gref looked change) seen → StandThen (Exchange gref looked change) seen)
+      (λ is now. let can = can-change s h xs x.id c.request (values c) (reverse c.steps) phase gref looked change i (eqb-true w looked is) in
+      exchange-stands s h xs ys x gref looked change answer o' i.st here a r can.within can.safe can.fits can.room m now (given (Exchange gref looked change) Taken))
+      (λ is now. quiet-stands s (stepped x.id (Exchange gref looked change) v answer) h xs ys x o' x.given (record { changes = λ r. refl; stores = λ r which. refl; header = refl })
+      (record { changes = λ r. refl; pins = λ before ps. refl; unpins = λ pins. refl; maps = m }) refl i.st here a r now (given (Exchange gref looked change) v)) call
+  step-stands (Unpin p (ByLeg place)) i last store call = let l = last p place refl in
+      let legs : legs_at h x.id.0 ≡ numbered 0 (reverse l.0 ++ p ∷ []) = i.held ∙ ap (λ (z : List Held). numbered 0 (reverse z)) l.1 ∙ ap (numbered 0) (reverse_onto l.0 p []) in
+      unpin-stands s h xs _ x p (ByLeg place) Nothing answer x.mappings o' i.st here a (becomes-unpinned xs ys x p (ByLeg place) o' r)
+      (subst (λ (n : ℕ). Loses p (live h) (without x.id.0 (ByLeg n) (live h))) (length-reverse l.0 ∙ sym l.2) (loses-leg h x.id (reverse l.0) p legs))
+      (unpin-agrees h x.id p place Nothing answer x.mappings m a.mappings) call (given (Unpin p (ByLeg place)) Nothing)
+  step-stands (Unpin p (ByMapping handle)) i last store call = let found : mapping_of (mappings_at h x.id.0) handle ≡ Some p = i.rests.1.1 in
+      unpin-stands s h xs _ x p (ByMapping handle) Nothing answer (Rattle.gt_core.specs.Effects.taken handle x.mappings) o' i.st here a (becomes-unpinned xs ys x p (ByMapping handle) o' r)
+      (loses-mapping h x.id handle p found) (mapping-agrees h x.id p handle Nothing answer x.mappings m found a.mappings) call (given (Unpin p (ByMapping handle)) Nothing)
+  step-stands (StoreHeader version frames) i last store call =
+      header-stands s h xs ys x version frames answer o' i.st here a r m (header-fits s h xs x.id c.request version frames i.st i.rests.0 i.rests.1) call (given (StoreHeader version frames) Nothing)
+  step-stands (StoreBody gref half word) i last store call = let step : Step = StoreBody gref half word in
+      subst (λ (z : Option Answer). DomainsStand s (stepped x.id step Nothing z ∷ h) (applied x.id step Nothing ys)) (sym (store tt))
+      (store-stands s h xs ys x gref half word o' i.st here a (store-invalid s h x.id c.request gref half word i.rests.0 i.rests.1) r
+      (subst (λ (z : Option Answer). CallAgrees s (stepped x.id step Nothing z ∷ h) x.id o' (open_call (stepped x.id step Nothing z ∷ h) x.id.0)) (store tt) call) (given-goes-on x.id step Nothing None h x.given a.given))
+  step-stands step i last store call = quiet-stands s (stepped x.id step (seen_by s h x.id step) answer) h xs ys x o' x.given (record { changes = λ r. refl; stores = λ r which. refl; header = refl })
+      (record { changes = λ r. refl; pins = λ before ps. refl; unpins = λ pins. refl; maps = m }) refl i.st here a r call (given step _)
 
 -- the actor's call after this
 
@@ -66,48 +62,8 @@ Ticked s h d step seen answer zs = IsRight s h (stepped d step seen answer) × D
 right-in : (s : Setting) (h : History) (d : DomId) (step : Step) (seen : Seen) (answer : Option Answer) (c : Underway) → open_call h d.0 ≡ Some c → StepsRight s h (stepped d step seen answer) step seen c → IsRight s h (stepped d step seen answer)
 right-in s h d step seen answer c call a = subst (λ (u : Option Underway). StepsRightIn s h (stepped d step seen answer) step seen u) (sym call) a
 
--- a call that goes on
-
-pub goes-core : (s : Setting) (h : History) (xs ys : List State) (x : State) (o : Open) (c : Underway) (new : Call) (z : Step) → Ticks s h xs x o c new (Makes z) → Replaced xs ys x (record x { underway = Some (record { call = new; step = z }) })
-    → Ticked s h x.id o.step (seen_by s h x.id o.step) None (applied x.id o.step (seen_by s h x.id o.step) ys)
-goes-core s h xs ys x o c new z t r = let seen = seen_by s h x.id o.step in let i = stepped x.id o.step seen None in
-    let now : open_call (i ∷ h) x.id.0 ≡ Some (record { request = c.request; given = c.given; steps = c.steps ++ (o.step, seen) ∷ [] }) = open_call-own i h ∙ ap (underway_after i) t.call in (
-      right-in s h x.id o.step seen None c t.call (goes-right s h xs x o c new z t),
-      step-stands s h xs ys x c t.stands.phase o.step None (Some (record { call = new; step = z })) (here-of s h xs x o c t.st t.here t.stands) (last-fact s h xs x o c new (Makes z) t) t.here t.agrees r refl (λ n. refl)
-          (λ store. refl)
-          (subst (λ (u : Option Underway). CallAgrees s (i ∷ h) x.id (Some (record { call = new; step = z })) u) (sym now) (open-after s h xs x o c new z t)),
-    )
-
--- a call that is over
-
--- no store ends a call
-store-goes : (s : Setting) (h : History) (xs : List State) (x : State) (o : Open) (c : Underway) (new : Call) (v : Verdict) → (t : Ticks s h xs x o c new (Done v)) → IsStore o.step → ⊥
-store-goes s h xs x o c new v t store = by o.step refl store where
-  stored : (p : Phase) (gref : GrantRef) (half : Half) (word : ℕ) → HasShown (known_at s h x.id) (path (known_at s h x.id) x.id c.request) x.id c.request (values c) p → action_at x.id p ≡ Makes (StoreBody gref half word)
-      → Done v ≡ action_at x.id (phase_after (known_at s h x.id) x.id p Nothing) → ⊥
-  stored (Storing g entry) gref half word a e f = after entry f where
-    after : (y : Entry) → Done v ≡ action_at x.id (after_store (known_at s h x.id) g y) → ⊥
-    after Invalid k = cc
-    after y k = cc
-  stored (Walking aim l at) gref half word a e f = leg-store l at (subst IsStore (sym (makes-same _ _ e)) tt)
-  stored (Last last verdict) gref half word a e f = subst (RestsOnRequest (known_at s h x.id) x.id c.request) (makes-same _ _ e) a.1
-  stored (Ending held verdict) gref half word a e f = by-giving (λ (z : Step). IsStore z → ⊥) (λ p n k. k) (last_first held) verdict _ e tt
-  stored p gref half word a e f = cc
-
-  by : (step : Step) → o.step ≡ step → IsStore step → ⊥
-  by (StoreBody gref half word) is n =
-      stored t.stands.phase gref half word t.stands.at.has_shown (t.stands.acts ∙ ap Makes is) (t.acts ∙ ap (λ (z : Step). action_at x.id (next_of s h x.id t.stands.phase z)) is)
-  by step is n = n
-
-none-held : (s : Setting) (h : History) (xs : List State) (x : State) (o : Open) (c : Underway) (new : Call) (v : Verdict) (answer : Answer) → (t : Ticks s h xs x o c new (Done v)) → one_if_mapped (Some answer) ≡ 0 → ((n : ℕ) → holder_after (Some answer) n ≡ ByLeg n)
-    → ((m : Held) → v ≡ KeptPin m → ⊥) → legs_at (stepped x.id o.step (seen_by s h x.id o.step) (Some answer) ∷ h) x.id.0 ≡ []
-none-held s h xs x o c new v answer t m leg unmapped =
-    let e = ends-so x.id (next_of s h x.id t.stands.phase o.step) v (sym t.acts) in
-    legs-after s h xs x o c new (Done v) (Some answer) t m leg (λ q f. unmapped q (let g : v ≡ KeptPin q = cc in g))
-    ∙ ap (λ (p : Phase). numbered 0 (reverse (held_in p))) e.1 ∙ ap (λ (l : List Held). numbered 0 (reverse l)) e.2
-
 -- an answer with no mapping
-abbrev pub IsPlainAnswer : Answer → Type 0
+abbrev IsPlainAnswer : Answer → Type 0
 IsPlainAnswer (Mapped handle) = ⊥
 IsPlainAnswer answer = Unit {0}
 
@@ -115,115 +71,121 @@ plain : (answer : Answer) → IsPlainAnswer answer → (one_if_mapped (Some answ
 plain (Mapped handle) a = absurd a
 plain answer a = (refl, λ n. refl)
 
-pub ends-core : (s : Setting) (h : History) (xs ys : List State) (x : State) (o : Open) (c : Underway) (new : Call) (v : Verdict) (answer : Answer) → Ticks s h xs x o c new (Done v) → Replaced xs ys x (record x { underway = None })
-    → IsPlainAnswer answer → ((m : Held) → v ≡ KeptPin m → ⊥) → refusal_of answer ≡ refusal_in (Some v) → GivesValue s h x.id c.request (Some o.step) answer
-    → Ticked s h x.id o.step (seen_by s h x.id o.step) (Some answer) (applied x.id o.step (seen_by s h x.id o.step) ys)
-ends-core s h xs ys x o c new v answer t r is_plain unmapped same value = let seen = seen_by s h x.id o.step in
-    let legs = none-held s h xs x o c new v answer t (plain answer is_plain).0 (plain answer is_plain).1 unmapped in (
-      right-in s h x.id o.step seen (Some answer) c t.call (ends-right s h xs x o c new v answer t same legs value),
-      step-stands s h xs ys x c t.stands.phase o.step (Some answer) None (here-of s h xs x o c t.st t.here t.stands) (last-fact s h xs x o c new (Done v) t) t.here t.agrees r (plain answer is_plain).0 (plain answer is_plain).1
-          (λ store. absurd (store-goes s h xs x o c new v t store)) (call-over s h x.id o.step seen answer legs),
-    )
+after-granted : (k : CallerKnowledge) (d : DomId) (g : GrantRef) (v : Verdict) (entry : Entry) → Done v ≡ action_at d (after_store k g entry) → ⊥
+after-granted k d g v Invalid e = cc
+after-granted k d g v entry e = cc
 
-pub given-core : (s : Setting) (h : History) (xs ys : List State) (x : State) (o : Open) (c : Underway) (new : Call) (value : Value) → Ticks s h xs x o c new (Done (Given value)) → Replaced xs ys x (record x { underway = None })
-    → Ticked s h x.id o.step (seen_by s h x.id o.step) (Some (answer_with value)) (applied x.id o.step (seen_by s h x.id o.step) ys)
-given-core s h xs ys x o c new value t r =
-    ends-core s h xs ys x o c new (Given value) (answer_with value) t r (valued value) (λ m e. cc) (same value)
-    (call-ends s h xs x.id c.request (values c) (reverse c.steps) t.stands.phase o.step (here-of s h xs x o c t.st t.here t.stands) (Given value) (sym t.acts))
-  where
-    valued : (z : Value) → IsPlainAnswer (answer_with z)
-    valued (FramesTold n) = tt
-    valued z = tt
+module _ {s : Setting} {h : History} {xs : List State} {x : State} {o : Open} {c : Underway} {new : Call} where
+  -- a call that goes on
+  goes-core : (ys : List State) {z : Step} (t : Ticks s h xs x o c new (Makes z)) → Replaced xs ys x (record x { underway = Some (record { call = new; step = z }) }) → Ticked s h x.id o.step (seen_in t) None (applied x.id o.step (seen_in t) ys)
+  goes-core ys {z} t r = let i = stepped x.id o.step (seen_in t) None in
+      let now : open_call (i ∷ h) x.id.0 ≡ Some (record { request = c.request; given = c.given; steps = c.steps ++ (o.step, seen_in t) ∷ [] }) = open_call-own i h ∙ ap (underway_after i) t.call in (
+        right-in s h x.id o.step (seen_in t) None c t.call (goes-right t),
+        step-stands s h xs ys x c t.stands.phase None (Some (record { call = new; step = z })) t.here t.agrees r refl (λ n. refl) o.step t.i (last-fact t) (λ store. refl)
+            (subst (λ (u : Option Underway). CallAgrees s (i ∷ h) x.id (Some (record { call = new; step = z })) u) (sym now) (open-after t)),
+      )
 
-    same : (z : Value) → refusal_of (answer_with z) ≡ None
-    same (FramesTold n) = refl
-    same z = refl
+  -- no store ends a call
+  store-goes : {v : Verdict} → Ticks s h xs x o c new (Done v) → IsStore o.step → ⊥
+  store-goes {v} t store = let k = known_at s h x.id in by-storing s h x.id c.request (path k x.id c.request) (values c) (λ (p : Phase) (z : Step). Done v ≡ action_at x.id (next_of s h x.id p z) → ⊥)
+      (λ g entry. after-granted k x.id g v entry) (λ g entry e. cc) t.stands.phase o.step t.stands.at.has_shown t.stands.acts store t.acts
 
-pub refused-core : (s : Setting) (h : History) (xs ys : List State) (x : State) (o : Open) (c : Underway) (new : Call) (denial : Denial) → Ticks s h xs x o c new (Done (Refused denial)) → Replaced xs ys x (record x { underway = None })
-    → Ticked s h x.id o.step (seen_by s h x.id o.step) (Some (Denied denial)) (applied x.id o.step (seen_by s h x.id o.step) ys)
-refused-core s h xs ys x o c new denial t r =
-    ends-core s h xs ys x o c new (Refused denial) (Denied denial) t r tt (λ m e. cc) refl tt
+  -- a call that is over
+  ends-core : (ys : List State) {v : Verdict} (answer : Answer) (t : Ticks s h xs x o c new (Done v)) → Replaced xs ys x (record x { underway = None }) → IsPlainAnswer answer → ((m : Held) → v ≡ KeptPin m → ⊥)
+      → refusal_of answer ≡ refusal_in (Some v) → GivesValue s h x.id c.request (Some o.step) answer → Ticked s h x.id o.step (seen_in t) (Some answer) (applied x.id o.step (seen_in t) ys)
+  ends-core ys {v} answer t r is_plain unmapped same value = let q = plain answer is_plain in let e = ends-so x.id (phase_then t) v (sym t.acts) in
+      let legs : legs_at (history_then t (Some answer)) x.id.0 ≡ [] = legs-after t (Some answer) q.0 q.1 (λ m f. unmapped m (let g : v ≡ KeptPin m = cc in g))
+          ∙ ap (λ (p : Phase). numbered 0 (reverse (held_in p))) e.1 ∙ ap (λ (l : List Held). numbered 0 (reverse l)) e.2 in (
+        right-in s h x.id o.step (seen_in t) (Some answer) c t.call (ends-right t answer same legs value),
+        step-stands s h xs ys x c t.stands.phase (Some answer) None t.here t.agrees r q.0 q.1 o.step t.i (last-fact t) (λ store. absurd (store-goes t store)) (call-over s h x.id o.step (seen_in t) answer legs),
+      )
 
--- a map with its pin
-pub mapped-core : (s : Setting) (h : History) (xs ys : List State) (x : State) (o : Open) (c : Underway) (new : Call) (held : Held) (handle : Handle) (kept : HandleMap Held) → Ticks s h xs x o c new (Done (KeptPin held)) → Replaced xs ys x (record x { mappings = kept; underway = None })
-    → Adds x.mappings kept handle held → Ticked s h x.id o.step (seen_by s h x.id o.step) (Some (Mapped handle)) (applied x.id o.step (seen_by s h x.id o.step) ys)
-mapped-core s h xs ys x o c new held handle kept t r adds = by (seen_by s h x.id o.step) refl where
-  d : DomId
-  d = x.id
+  given-core : (ys : List State) {value : Value} (t : Ticks s h xs x o c new (Done (Given value))) → Replaced xs ys x (record x { underway = None }) → Ticked s h x.id o.step (seen_in t) (Some (answer_with value)) (applied x.id o.step (seen_in t) ys)
+  given-core ys {value} t r = let q = by value in ends-core ys (answer_with value) t r q.0 (λ m e. cc) q.1
+      (call-ends s h xs x.id c.request (values c) (reverse c.steps) t.stands.phase o.step t.i (Given value) (sym t.acts))
+    where
+      by : (z : Value) → IsPlainAnswer (answer_with z) × (refusal_of (answer_with z) ≡ None)
+      by (FramesTold n) = (tt, refl)
+      by z = (tt, refl)
 
-  i : IsHere s h xs x.id c.request (values c) (reverse c.steps) t.stands.phase o.step
-  i = here-of s h xs x o c t.st t.here t.stands
-
-  by : (seen : Seen) → seen_by s h d o.step ≡ seen → Ticked s h d o.step seen (Some (Mapped handle)) (applied d o.step seen ys)
-  by seen saw =
-      let m = call-ends s h xs d c.request (values c) (reverse c.steps) t.stands.phase o.step i (KeptPin held) (sym t.acts) in
-      let taken : seen ≡ Taken = sym saw ∙ ap (seen_by s h d) m.is ∙ ap (λ (b : Bool). cond b Taken (Missed (word_at s h held.dom.0 held.gref.0))) (eq-eqb (word_at s h held.dom.0 held.gref.0) held.word m.taken) in
-      let j : IsHere s h xs d c.request (values c) (reverse c.steps) t.stands.phase (PinStep held) = subst (IsHere s h xs d c.request (values c) (reverse c.steps) t.stands.phase) m.is i in
+  -- a map with its pin
+  mapped-core : (ys : List State) {held : Held} (handle : Handle) (kept : HandleMap Held) (t : Ticks s h xs x o c new (Done (KeptPin held))) → Replaced xs ys x (record x { mappings = kept; underway = None })
+      → Adds x.mappings kept handle held → Ticked s h x.id o.step (seen_in t) (Some (Mapped handle)) (applied x.id o.step (seen_in t) ys)
+  mapped-core ys {held} handle kept t r adds = let d = x.id in let answer : Option Answer = Some (Mapped handle) in
+      let m = call-ends s h xs d c.request (values c) (reverse c.steps) t.stands.phase o.step t.i (KeptPin held) (sym t.acts) in
+      let saw : seen_in t ≡ Taken = ap (seen_by s h d) m.is ∙ ap (λ (b : Bool). cond b Taken (Missed (word_at s h held.dom.0 held.gref.0))) (eq-eqb (word_at s h held.dom.0 held.gref.0) held.word m.taken) in
+      let j : IsHere s h xs d c.request (values c) (reverse c.steps) t.stands.phase (PinStep held) = subst (IsHere s h xs d c.request (values c) (reverse c.steps) t.stands.phase) m.is t.i in
       let can : CanPin s h d c.request held = can-pin s h xs d c.request (values c) (reverse c.steps) t.stands.phase held j m.taken in
       let law = map-lawful s h d c.request held (values c) (pins_at t.stands.phase) j.rests.0 j.rests.1 m.dom m.gref m.flags m.of_map in
-      let lawful : IsLawful s (new_pin h d held (Some (Mapped handle))) =
-      subst (λ (q : Held). IsLawfullyHeld s (record { actor = d.0; holder = ByMapping handle; held = q }) (ByMapping handle)) (sym can.is) law in
-      let legs : legs_at (pins d held (Some (Mapped handle)) ∷ h) d.0 ≡ [] = map-legs h d held handle ∙ t.stands.held ∙ ap (λ (l : List Held). numbered 0 (reverse l)) m.none in
+      let lawful : IsLawful s (new_pin h d held answer) = subst (λ (q : Held). IsLawfullyHeld s (record { actor = d.0; holder = ByMapping handle; held = q }) (ByMapping handle)) (sym can.is) law in
+      let legs : legs_at (pins d held answer ∷ h) d.0 ≡ [] = map-legs h d held handle ∙ t.stands.held ∙ ap (λ (l : List Held). numbered 0 (reverse l)) m.none in
       let maps = map-agrees h d held handle x.mappings kept (subst (λ (q : Held). Adds x.mappings kept handle q) (sym can.is) adds) t.agrees.mappings in
-      let after = pin-stands s h xs ys x held (Some (Mapped handle)) kept None t.st t.here t.agrees r can.valid can.few lawful maps (call-over s h d (PinStep held) Taken (Mapped handle) legs) (given-goes-on d (PinStep held) Taken (Some (Mapped handle)) h x.given t.agrees.given) in
-      let same_step : stepped d o.step (seen_by s h d o.step) (Some (Mapped handle)) ≡ pins d held (Some (Mapped handle)) =
-      ap (λ (v : Seen). stepped d o.step v (Some (Mapped handle))) (saw ∙ taken) ∙ ap (λ (z : Step). stepped d z Taken (Some (Mapped handle))) m.is in
-      let value : GivesValue s h d c.request (Some o.step) (Mapped handle) =
-      subst (λ (z : Step). GivesValue s h d c.request (Some z) (Mapped handle)) (sym m.is)
-      (subst (λ (q : Asked). GivesValue s h d q (Some (PinStep held)) (Mapped handle)) (sym m.of_map) (adds.serial ∙ t.agrees.mappings.given)) in (
-        subst (λ (v : Seen). IsRight s h (stepped d o.step v (Some (Mapped handle)))) saw
-            (right-in s h d o.step (seen_by s h d o.step) (Some (Mapped handle)) c t.call
-            (ends-right s h xs x o c new (KeptPin held) (Mapped handle) t refl (ap (λ (k : Item). legs_at (k ∷ h) d.0) same_step ∙ legs) value)),
-        subst (λ (z : Step). DomainsStand s (stepped d z seen (Some (Mapped handle)) ∷ h) (applied d z seen ys)) (sym m.is)
-            (subst (λ (v : Seen). DomainsStand s (stepped d (PinStep held) v (Some (Mapped handle)) ∷ h) (applied d (PinStep held) v ys)) (sym taken) after),
+      let stands = pin-stands s h xs ys x held answer kept None t.i.st t.here t.agrees r can.valid can.few lawful maps (call-over s h d (PinStep held) Taken (Mapped handle) legs) (given-goes-on d (PinStep held) Taken answer h x.given t.agrees.given) in
+      let same : stepped d o.step (seen_in t) answer ≡ pins d held answer = ap (λ (v : Seen). stepped d o.step v answer) saw ∙ ap (λ (z : Step). stepped d z Taken answer) m.is in
+      let value : GivesValue s h d c.request (Some o.step) (Mapped handle) = subst (λ (z : Step). GivesValue s h d c.request (Some z) (Mapped handle)) (sym m.is)
+          (subst (λ (q : Asked). GivesValue s h d q (Some (PinStep held)) (Mapped handle)) (sym m.of_map) (adds.serial ∙ t.agrees.mappings.given)) in (
+        right-in s h d o.step (seen_in t) answer c t.call (ends-right t (Mapped handle) refl (ap (λ (k : Item). legs_at (k ∷ h) d.0) same ∙ legs) value),
+        subst (λ (v : Seen). DomainsStand s (stepped d o.step v answer ∷ h) (applied d o.step v ys)) (sym saw)
+            (subst (λ (z : Step). DomainsStand s (stepped d z Taken answer ∷ h) (applied d z Taken ys)) (sym m.is) stands),
       )
 
 -- a call that is answered Ok with no value but bytes
 
--- what a read gave
-read-gives : (s : Setting) (h : History) (xs : List State) (fs : FrameSet) (x : State) (o : Open) (c : Underway) (new : Call) (dom : DomId) (frame off len : ℕ) (b : Bytes) → Ticks s h xs x o c new (Done Granted) → FramesStand s h fs → o.step ≡ ReadBytes dom frame off len
-    → b.bytes.items ≡ bytes_at (frame_at fs (record { owner = dom; number = frame })) off len → GivesValue s h x.id c.request (Some (ReadBytes dom frame off len)) (BytesAnswer b)
-read-gives s h xs fs x o c new dom frame off len b t fr is gives =
-    let i = subst (IsHere s h xs x.id c.request (values c) (reverse c.steps) t.stands.phase) is (here-of s h xs x o c t.st t.here t.stands) in
-    by i.rests.1 (gives ∙ bytes-held s h fs dom frame off len fr) where
-      by : RestsOnRequest (known_at s h x.id) x.id c.request (ReadBytes dom frame off len) → b.bytes.items ≡ take len (drop off (contents_at h dom.0 frame))
-          → GivesValue s h x.id c.request (Some (ReadBytes dom frame off len)) (BytesAnswer b)
-      by (inl (handle, asked, mapped)) bytes = subst (λ (q : Asked). GivesValue s h x.id q (Some (ReadBytes dom frame off len)) (BytesAnswer b)) (sym asked) bytes
-      by (inr (asked, own)) bytes = subst (λ (q : Asked). GivesValue s h x.id q (Some (ReadBytes dom frame off len)) (BytesAnswer b)) (sym asked) bytes
+module _ {s : Setting} {h : History} {xs : List State} {fs : FrameSet} {x : State} {o : Open} {c : Underway} {new : Call} (t : Ticks s h xs x o c new (Done Granted)) (fr : FramesStand s h fs) where
+  -- what a read gave
+  read-gives : (dom : DomId) (frame off len : ℕ) (b : Bytes) → o.step ≡ ReadBytes dom frame off len → b.bytes.items ≡ bytes_at (frame_at fs (record { owner = dom; number = frame })) off len
+      → GivesValue s h x.id c.request (Some (ReadBytes dom frame off len)) (BytesAnswer b)
+  read-gives dom frame off len b is gives =
+      by (subst (IsHere s h xs x.id c.request (values c) (reverse c.steps) t.stands.phase) is t.i).rests.1 (gives ∙ bytes-held s h fs dom frame off len fr) where
+        by : RestsOnRequest (known_at s h x.id) x.id c.request (ReadBytes dom frame off len) → b.bytes.items ≡ take len (drop off (contents_at h dom.0 frame)) → GivesValue s h x.id c.request (Some (ReadBytes dom frame off len)) (BytesAnswer b)
+        by (inl (handle, asked, mapped)) bytes = rw asked bytes
+        by (inr (asked, own)) bytes = rw asked bytes
 
-granted-core : (s : Setting) (h : History) (fs : FrameSet) (xs zs : List State) (at : ℕ) (x : State) (o : Open) (c : Underway) (new : Call) (answer : Answer) → Ticks s h xs x o c new (Done Granted) → FramesStand s h fs
-    → Replaced xs (set xs at (with_underway None x)) x (record x { underway = None }) → Closed fs xs at x o.step answer zs
-    → Ticked s h x.id o.step (seen_by s h x.id o.step) (Some answer) (applied x.id o.step (seen_by s h x.id o.step) zs)
-granted-core s h fs xs zs at x o c new answer t fr plain settled = by o.step refl settled where
-  d : DomId
-  d = x.id
+  granted-core : (at : ℕ) (answer : Answer) (zs : List State) → Replaced xs (set xs at (with_underway None x)) x (record x { underway = None }) → Closed fs xs at x o.step answer zs
+      → Ticked s h x.id o.step (seen_in t) (Some answer) (applied x.id o.step (seen_in t) zs)
+  granted-core at answer zs plain settled = by o.step refl settled where
+    Goal : Answer → List State → Type 0
+    Goal a l = Ticked s h x.id o.step (seen_in t) (Some a) (applied x.id o.step (seen_in t) l)
 
-  Goal : Type 0
-  Goal = Ticked s h d o.step (seen_by s h d o.step) (Some answer) (applied d o.step (seen_by s h d o.step) zs)
+    ends : (a : Answer) → answer ≡ a → IsPlainAnswer a → refusal_of a ≡ None → zs ≡ set xs at (with_underway None x) → GivesValue s h x.id c.request (Some o.step) a → Goal answer zs
+    ends a done is_plain same left value = subst (λ (b : Answer). Goal b zs) (sym done) (subst (Goal a) (sym left) (ends-core (set xs at (with_underway None x)) a t plain is_plain (λ m e. cc) same value))
 
-  ends : (a : Answer) → answer ≡ a → IsPlainAnswer a → refusal_of a ≡ None → zs ≡ set xs at (with_underway None x) → GivesValue s h d c.request (Some o.step) a → Goal
-  ends a done is_plain same left value =
-      subst (λ (b : Answer). Ticked s h d o.step (seen_by s h d o.step) (Some b) (applied d o.step (seen_by s h d o.step) zs)) (sym done)
-      (subst (λ (l : List State). Ticked s h d o.step (seen_by s h d o.step) (Some a) (applied d o.step (seen_by s h d o.step) l)) (sym left)
-      (ends-core s h xs (set xs at (with_underway None x)) x o c new Granted a t plain is_plain (λ m e. cc) same value))
+    over : (step : Step) → o.step ≡ step → (answer ≡ AnswerDone) × (zs ≡ set xs at (with_underway None x)) → ((dom : DomId) (frame off len : ℕ) → step ≡ ReadBytes dom frame off len → ⊥) → Goal answer zs
+    over step is (done, left) read = ends AnswerDone done tt refl left
+        (call-ends s h xs x.id c.request (values c) (reverse c.steps) t.stands.phase o.step t.i Granted (sym t.acts) (λ dom frame off len e. read dom frame off len (sym is ∙ e)))
 
-  over : (step : Step) → o.step ≡ step → (answer ≡ AnswerDone) × (zs ≡ set xs at (with_underway None x)) → ((dom : DomId) (frame off len : ℕ) → step ≡ ReadBytes dom frame off len → ⊥) → Goal
-  over step is (done, left) read = ends AnswerDone done tt refl left
-      (call-ends s h xs d c.request (values c) (reverse c.steps) t.stands.phase o.step (here-of s h xs x o c t.st t.here t.stands) Granted (sym t.acts) (λ dom frame off len e. read dom frame off len (sym is ∙ e)))
-
-  by : (step : Step) → o.step ≡ step → Closed fs xs at x step answer zs → Goal
-  by (ReadBytes dom frame off len) is (b, done, left, gives) = ends (BytesAnswer b) done tt refl left
-      (subst (λ (z : Step). GivesValue s h d c.request (Some z) (BytesAnswer b)) (sym is) (read-gives s h xs fs x o c new dom frame off len b t fr is gives))
-  by (WriteBytes dom frame off len) is a = over (WriteBytes dom frame off len) is a (λ t frame off len e. cc)
-  by (CopyBytes from to len) is a = over (CopyBytes from to len) is a (λ t frame off len e. cc)
-  by step is a = over step is a (λ t frame off len e. cc)
+    by : (step : Step) → o.step ≡ step → Closed fs xs at x step answer zs → Goal answer zs
+    by (ReadBytes dom frame off len) is (b, done, left, gives) = ends (BytesAnswer b) done tt refl left
+        (subst (λ (z : Step). GivesValue s h x.id c.request (Some z) (BytesAnswer b)) (sym is) (read-gives dom frame off len b is gives))
+    by step is a = over step is a (λ t frame off len e. cc)
 
 -- the ways that a tick goes
 
-call-here : (s : Setting) (h : History) (id : DomId) (o : Option Open) (call : Option Underway) (one : Open) → o ≡ Some one → CallAgrees s h id o call → (c : Underway) × (call ≡ Some c) × OpenAgrees s h id one c
-call-here s h id None call one e a = cc
-call-here s h id (Some o) None one e a = absurd a
-call-here s h id (Some o) (Some c) one e a = (c, refl, subst (λ (x : Open). OpenAgrees s h id x c) (same_Some _ _ e) a)
+-- a domain's open call
+module _ (s : Setting) (h : History) (xs : List State) (dom : DomId) (at : ℕ) (x : State) (o : Open) (place : position (has_id dom.0) xs ≡ Some at) (here : x ≡ get_or xs at x) (under : x.underway ≡ Some o) where
+  open-here : DomainsStand s h xs → (domain_of s.domains dom ≢ None) × (x.id ≡ dom) × Agrees s h x × ((c : Underway) × (open_call h x.id.0 ≡ Some c) × OpenAgrees s h x.id o c)
+  open-here st = let a = agrees-found s h xs dom at x place here st in (a.0, a.1, a.2, by x.underway (open_call h x.id.0) under a.2.call) where
+    by : (u : Option Open) (call : Option Underway) → u ≡ Some o → CallAgrees s h x.id u call → (c : Underway) × (call ≡ Some c) × OpenAgrees s h x.id o c
+    by None call e a = cc
+    by (Some z) None e a = absurd a
+    by (Some z) (Some c) e a = (c, refl, subst (λ (y : Open). OpenAgrees s h x.id y c) (same_Some _ _ e) a)
+
+  -- memory is wanted for it
+  pub tick-wants : DomainsStand s h xs → IsWriting o.step → WantsMemoryNow s h dom
+  tick-wants st writing = let a = open-here st in subst (WantsMemoryNow s h) a.1 (a.3.0, a.3.1, subst IsWritingNext (sym a.3.2.follows) writing)
+
+  -- what its step writes is by right
+  pub tick-admitted : (fs : FrameSet) → CoreStands s h (core_of xs fs) → IsAdmitted fs x o.call o.step
+  tick-admitted fs st = let a = open-here st.domains in open-admitted s h xs fs x o a.3.0 st.domains st.frames a.2 a.3.1 a.3.2
+
+  -- and what it reads is there
+  pub tick-readable : (fs : FrameSet) → CoreStands s h (core_of xs fs) → IsReadable fs o.call o.step
+  tick-readable fs st = let a = open-here st.domains in open-readable s h xs fs x o a.3.0 st.domains st.frames a.3.2
+
+  -- the frames after it
+  tick-frames : (fs gs : FrameSet) (seen : Seen) (answer : Option Answer) → CoreStands s h (core_of xs fs) → AccessedBy x o.call o.step fs gs → FramesStand s (stepped dom o.step seen answer ∷ h) gs
+  tick-frames fs gs seen answer st wrote = let a = open-here st.domains in let u = a.3 in
+      subst (λ (d : DomId). FramesStand s (stepped d o.step seen answer ∷ h) gs) a.1 (frames-stepped s h fs gs x o.call o.step seen answer u.0 u.1 (a.2.given u.0 u.1).0 st.frames wrote)
 
 -- what a domain's tick has to begin with
 pub record Begins (s : Setting) (xs : List State) (dom : DomId) (at : ℕ) (x : State) (o : Open) (seen : Seen) (new : Call) (action : Action) : Type 0 where
@@ -245,10 +207,8 @@ pub record Begun (s : Setting) (h : History) (xs : List State) (dom : DomId) (at
   pub replaced : (new : State) → new.id.0 ≡ x.id.0 → Replaced xs (set xs at new) x new
 
 begun : (s : Setting) (h : History) (xs : List State) (dom : DomId) (at : ℕ) (x : State) (o : Open) (seen : Seen) (new : Call) (action : Action) → DomainsStand s h xs → Begins s xs dom at x o seen new action → Begun s h xs dom at x o seen new action
-begun s h xs dom at x o seen new action st b = let a = agrees-found s h xs dom at x b.place b.here st in
-    let f : state_of xs dom.0 ≡ Some x = found xs dom.0 at x b.place ∙ ap (λ (y : State). Some y) (sym b.here) in
-    let g : state_of xs x.id.0 ≡ Some x = ap (λ (z : DomId). state_of xs z.0) a.1 ∙ f in
-    let u = call-here s h x.id x.underway (open_call h x.id.0) o b.under a.2.call in
+begun s h xs dom at x o seen new action st b = let a = open-here s h xs dom at x o b.place b.here b.under st in let u = a.3 in
+    let g : state_of xs x.id.0 ≡ Some x = ap (λ (z : DomId). state_of xs z.0) a.1 ∙ found xs dom.0 at x b.place ∙ ap (λ (y : State). Some y) (sym b.here) in
     let t = ticks s h xs x o u.0 seen new action st g a.2 u.1 u.2 (b.saw ∙ ap (λ (z : DomId). sees xs z o.step) (sym a.1)) b.caller b.asks b.goes in
     let places = position-Some (has_id dom.0) xs at x b.place in record {
       named = a.0;
@@ -258,14 +218,6 @@ begun s h xs dom at x o seen new action st b = let a = agrees-found s h xs dom a
       ticks = t.1;
       replaced = λ y e q. state_of-set xs at x y q places.0 (sym b.here) e (λ k below. ap (λ (z : DomId). has_id z.0 (get_or xs k x)) a.1 ∙ places.2 k below);
     }
-
--- the same for the domain asked, and what its step saw
-settle : (s : Setting) (h : History) (xs : List State) (dom : DomId) (at : ℕ) (x : State) (o : Open) (seen : Seen) (new : Call) (action : Action) (answer : Option Answer) (zs : List State) → Begun s h xs dom at x o seen new action
-    → Ticked s h x.id o.step (seen_by s h x.id o.step) answer (applied x.id o.step (seen_by s h x.id o.step) zs)
-    → (domain_of s.domains dom ≢ None) × IsRight s h (stepped dom o.step seen answer) × DomainsStand s (stepped dom o.step seen answer ∷ h) (applied dom o.step seen zs)
-settle s h xs dom at x o seen new action answer zs b t =
-    let u = subst (λ (d : DomId). Ticked s h d o.step seen answer (applied d o.step seen zs)) b.is (subst (λ (v : Seen). Ticked s h x.id o.step v answer (applied x.id o.step v zs)) (sym b.same) t) in
-    (b.named, u.0, u.1)
 
 -- what the domain's call comes to by its action
 action-core : (s : Setting) (h : History) (fs : FrameSet) (xs zs : List State) (at : ℕ) (x : State) (o : Open) (c : Underway) (new : Call) (action : Action) (answer : Option Answer) → Ticks s h xs x o c new action → FramesStand s h fs
@@ -278,58 +230,20 @@ action-core s h fs xs zs at x o c new action answer t fr r settled = by action t
   become : (a : Option Answer) (ys : List State) → answer ≡ a → zs ≡ ys → Goal a ys → Goal answer zs
   become a ys is left b = subst (λ (z : Option Answer). Goal z zs) (sym is) (subst (Goal a) (sym left) b)
 
-  told : (a : Answer) (b : Answer) → answer ≡ Some a → a ≡ b → answer ≡ Some b
-  told a b is gives = is ∙ ap (λ (z : Answer). Some z) gives
-
   by : (z : Action) → Ticks s h xs x o c new z → Settled fs xs at x o.step new z answer zs → Goal answer zs
-  by (Makes z) t (none, left) = become None _ none left (goes-core s h xs _ x o c new z t (r (with_underway (Some (record { call = new; step = z })) x) refl))
-  by (Done Granted) t (a, is, closed) = become (Some a) zs is refl (granted-core s h fs xs zs at x o c new a t fr (r (with_underway None x) refl) closed)
-  by (Done (KeptPin held)) t (a, is, (handle, kept, gives, adds, left)) = become (Some (Mapped handle)) _ (told a (Mapped handle) is gives) left (mapped-core s h xs _ x o c new held handle kept t (r (with_mapping kept x) refl) adds)
-  by (Done (Given value)) t (a, is, (gives, left)) = become (Some (answer_with value)) _ (told a (answer_with value) is gives) left (given-core s h xs _ x o c new value t (r (with_underway None x) refl))
-  by (Done (Refused denial)) t (a, is, (gives, left)) = become (Some (Denied denial)) _ (told a (Denied denial) is gives) left (refused-core s h xs _ x o c new denial t (r (with_underway None x) refl))
+  by (Makes z) t (none, left) = become None _ none left (goes-core _ t (r (with_underway (Some (record { call = new; step = z })) x) refl))
+  by (Done Granted) t (a, is, closed) = become (Some a) zs is refl (granted-core t fr at a zs (r (with_underway None x) refl) closed)
+  by (Done (KeptPin held)) t (a, is, (handle, kept, gives, adds, left)) = become (Some (Mapped handle)) _ (is ∙ ap (λ (z : Answer). Some z) gives) left (mapped-core _ handle kept t (r (with_mapping kept x) refl) adds)
+  by (Done (Given value)) t (a, is, (gives, left)) = become (Some (answer_with value)) _ (is ∙ ap (λ (z : Answer). Some z) gives) left (given-core _ t (r (with_underway None x) refl))
+  by (Done (Refused denial)) t (a, is, (gives, left)) = become (Some (Denied denial)) _ (is ∙ ap (λ (z : Answer). Some z) gives) left (ends-core _ (Denied denial) t (r (with_underway None x) refl) tt (λ m e. cc) refl tt)
 
 -- a map that is over had asked for its room when it began
 pub room-asked : (s : Setting) (h : History) (xs : List State) (dom : DomId) (at : ℕ) (x : State) (o : Open) (seen : Seen) (new : Call) (action : Action) → DomainsStand s h xs → Begins s xs dom at x o seen new action → IsRoomFor o.call.request action
 room-asked s h xs dom at x o seen new (Done (KeptPin held)) st b =
     let n = begun s h xs dom at x o seen new (Done (KeptPin held)) st b in let t = n.ticks in
-    let m = call-ends s h xs x.id n.c.request (values n.c) (reverse n.c.steps) t.stands.phase o.step (here-of s h xs x o n.c t.st t.here t.stands) (KeptPin held) (sym t.acts) in
+    let m = call-ends s h xs x.id n.c.request (values n.c) (reverse n.c.steps) t.stands.phase o.step t.i (KeptPin held) (sym t.acts) in
     subst (λ (q : Asked). IsMapping (Some q)) (sym (t.stands.asks ∙ m.of_map)) tt
 room-asked s h xs dom at x o seen new action st b = tt
-
--- a tick for which memory is wanted
-pub tick-wants : (s : Setting) (h : History) (xs : List State) (dom : DomId) (at : ℕ) (x : State) (o : Open) → position (has_id dom.0) xs ≡ Some at → x ≡ get_or xs at x → x.underway ≡ Some o → DomainsStand s h xs → IsWriting o.step
-    → WantsMemoryNow s h dom
-tick-wants s h xs dom at x o place here under st writing = let a = agrees-found s h xs dom at x place here st in
-    let u = call-here s h x.id x.underway (open_call h x.id.0) o under a.2.call in
-    subst (WantsMemoryNow s h) a.1 (u.0, u.1, subst IsWritingNext (sym u.2.follows) writing)
-
--- the open call of the domain asked
-open-here : (s : Setting) (h : History) (xs : List State) (dom : DomId) (at : ℕ) (x : State) (o : Open) → position (has_id dom.0) xs ≡ Some at → x ≡ get_or xs at x → x.underway ≡ Some o → DomainsStand s h xs
-    → (x.id ≡ dom) × Agrees s h x × ((c : Underway) × (open_call h x.id.0 ≡ Some c) × OpenAgrees s h x.id o c)
-open-here s h xs dom at x o place here under st = let a = agrees-found s h xs dom at x place here st in
-    (a.1, a.2, call-here s h x.id x.underway (open_call h x.id.0) o under a.2.call)
-
--- what its step writes is by right
-pub tick-admitted : (s : Setting) (h : History) (xs : List State) (fs : FrameSet) (dom : DomId) (at : ℕ) (x : State) (o : Open) → position (has_id dom.0) xs ≡ Some at → x ≡ get_or xs at x → x.underway ≡ Some o → CoreStands s h (core_of xs fs)
-    → IsAdmitted fs x o.call o.step
-tick-admitted s h xs fs dom at x o place here under st =
-    let a = open-here s h xs dom at x o place here under st.domains in
-    open-admitted s h xs fs x o a.2.0 st.domains st.frames a.1 a.2.1 a.2.2
-
--- and what it reads is there
-pub tick-readable : (s : Setting) (h : History) (xs : List State) (fs : FrameSet) (dom : DomId) (at : ℕ) (x : State) (o : Open) → position (has_id dom.0) xs ≡ Some at → x ≡ get_or xs at x → x.underway ≡ Some o → CoreStands s h (core_of xs fs)
-    → IsReadable fs o.call o.step
-tick-readable s h xs fs dom at x o place here under st =
-    let a = open-here s h xs dom at x o place here under st.domains in
-    open-readable s h xs fs x o a.2.0 st.domains st.frames a.2.2
-
--- the frames after it
-tick-frames : (s : Setting) (h : History) (xs : List State) (fs gs : FrameSet) (dom : DomId) (at : ℕ) (x : State) (o : Open) (seen : Seen) (answer : Option Answer) → position (has_id dom.0) xs ≡ Some at → x ≡ get_or xs at x → x.underway ≡ Some o
-    → CoreStands s h (core_of xs fs) → AccessedBy x o.call o.step fs gs → FramesStand s (stepped dom o.step seen answer ∷ h) gs
-tick-frames s h xs fs gs dom at x o seen answer place here under st wrote =
-    let a = open-here s h xs dom at x o place here under st.domains in
-    subst (λ (d : DomId). FramesStand s (stepped d o.step seen answer ∷ h) gs) a.0
-    (frames-stepped s h fs gs x o.call o.step seen answer a.2.0 a.2.1 (a.1.given a.2.0 a.2.1).0 st.frames wrote)
 
 -- a step that reads changes no frame, so that its range is there after it too
 pub readable-after : (fs gs : FrameSet) (x : State) (call : Call) (step : Step) → AccessedBy x call step fs gs → IsReadable fs call step → IsReadable gs call step
@@ -337,13 +251,9 @@ readable-after fs gs x call (ReadBytes dom frame off len) wrote a = subst (λ (z
 readable-after fs gs x call step wrote a = tt
 
 -- and it gives what they held before it
-closed-before : (fs gs : FrameSet) (xs new : List State) (at : ℕ) (x d : State) (call : Call) (step : Step) (answer : Answer) → AccessedBy x call step fs gs → Closed gs xs at d step answer new → Closed fs xs at d step answer new
-closed-before fs gs xs new at x d call (ReadBytes dom frame off len) answer wrote a = subst (λ (z : FrameSet). Closed z xs at d (ReadBytes dom frame off len) answer new) wrote a
-closed-before fs gs xs new at x d call step answer wrote a = a
-
 settled-before : (fs gs : FrameSet) (xs new : List State) (at : ℕ) (x d : State) (old call : Call) (step : Step) (action : Action) (answer : Option Answer) → AccessedBy x old step fs gs
     → Settled gs xs at d step call action answer new → Settled fs xs at d step call action answer new
-settled-before fs gs xs new at x d old call step (Done Granted) answer wrote (a, is, closed) = (a, is, closed-before fs gs xs new at x d old step a wrote closed)
+settled-before fs gs xs new at x d old call (ReadBytes dom frame off len) (Done Granted) answer wrote (a, is, closed) = (a, is, subst (λ (z : FrameSet). Closed z xs at d (ReadBytes dom frame off len) a new) wrote closed)
 settled-before fs gs xs new at x d old call step action answer wrote a = a
 
 -- a tick whose step is told so, where the frames and the states then are those that its step and its call's settling left
@@ -351,9 +261,12 @@ pub tick-does : (s : Setting) (fs gs ks : FrameSet) (xs ys zs : List State) (dom
     → Begins s xs dom at x o seen new action → AccessedBy x o.call o.step fs gs → Settled gs xs at x o.step new action answer zs → ys ≡ applied dom o.step seen zs → ks ≡ gs → Does s (core_of xs fs) (Tick dom) (ticked_element dom told) (core_of ys ks)
 tick-does s fs gs ks xs ys zs dom at x o seen new action answer told is b wrote settled left same = λ h st.
     let n = begun s h xs dom at x o seen new action st.domains b in
-    let r = settle s h xs dom at x o seen new action answer zs n (action-core s h fs xs zs at x o n.c new action answer n.ticks st.frames n.replaced (settled-before fs gs xs zs at x x o.call new o.step action answer wrote settled)) in
-    subst (λ (z : Element). MayDo s h (Tick dom) z × CoreStands s (grown h z) (core_of ys ks)) (sym (ap (ticked_element dom) is ∙ element answer))
-    ((r.0, (refl, tt), r.1), record { domains = subst (DomainsStand s (stepped dom o.step seen answer ∷ h)) (sym left) r.2; frames = subst (FramesStand s (stepped dom o.step seen answer ∷ h)) (sym same) (tick-frames s h xs fs gs dom at x o seen answer b.place b.here b.under st wrote) })
+    let t = action-core s h fs xs zs at x o n.c new action answer n.ticks st.frames n.replaced (settled-before fs gs xs zs at x x o.call new o.step action answer wrote settled) in
+    let r = subst (λ (d : DomId). Ticked s h d o.step seen answer (applied d o.step seen zs)) n.is (subst (λ (v : Seen). Ticked s h x.id o.step v answer (applied x.id o.step v zs)) (sym n.same) t) in
+    subst (λ (z : Element). MayDo s h (Tick dom) z × CoreStands s (grown h z) (core_of ys ks)) (sym (ap (ticked_element dom) is ∙ element answer)) ((n.named, (refl, tt), r.0), record {
+      domains = subst (DomainsStand s (stepped dom o.step seen answer ∷ h)) (sym left) r.1;
+      frames = subst (FramesStand s (stepped dom o.step seen answer ∷ h)) (sym same) (tick-frames s h xs dom at x o b.place b.here b.under fs gs seen answer st wrote);
+    })
   where
     element : (a : Option Answer) → ticked_element dom (ticked_with o.step seen a) ≡ Did (stepped dom o.step seen a)
     element None = refl

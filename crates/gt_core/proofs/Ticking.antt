@@ -1,66 +1,43 @@
 -- A step of an open call is right, and the core stands for it.
-use Rattle.gt_core.proofs.Words.{◌≡◌, ◌≢◌, ◌<◌, ◌≤◌, ◌+◌, ◌⊎◌, inl, inr, ℕ, suc, refl, true, List, [], ◌∷◌, ◌++◌, length, Option, Some, None, sym, ap, ◌∙◌, subst, reverse, arith, eqb-true, map-append, length-append, length-reverse, reverse_onto, none-some, same_Some, ◌==◌, All, DomId, GrantRef, Denial, Entry, Invalid, Sub, Change, Half, FirstHalf, SecondHalf, Held, Pins, Asked, Demote, ByMapping, ByLeg, Seen, Nothing, Taken, Missed, Verdict, Granted, KeptPin, Step, PinStep, Unpin, StoreBody, StoreHeader, Exchange, ReadBytes, WriteBytes, CopyBytes, Action, Makes, Done, Call, Phase, Storing, StoringSecond, Walking, Last, Ending, last_first, no_pins, CallerKnowledge, knowledge_of, path, Rests, phase_after, action_at, next_to_give, after_store, StandsAt, HasShown, pins_at, held_in, Goes, GoesOn, most_of, steps_left, Open, Item, Answer, Stepped, State, state_of, sees, History, Setting, Pin, entry_at, word_at, table_at, known_at, legs_at, mappings_at, maps_answered_at, seen_by, Underway, values, open_call, underway_after, holder_after, one_if_mapped, StepsSoFar, StepsRight, Justified, IsSafe, PinIsSound, AnsweredBy, GivesValue, LeavesAll, IsSpelled, gives_back, verdict_in, refusal_in, refusal_of, refusal_if, or_then, first_of_item, first_in_call, stood, most_steps, DomainsStand, Agrees, OpenAgrees, GivenAgrees, FitsGiven, PhaseStands, IsClean, phase_refusal, numbered, exchange_sees, gather, by_leg, header_stored, IsSubPage, Leg, LegPhase, leg_step, Continuation, body_at, second_body, publishing, RestsOnRequest, stored_at, first_body, reverse-append, FitsNext, HoldsAfter, IsCounted, cond_both}
-use Rattle.gt_core.proofs.{Others.unstored, Others.known-as, Others.kept-entry, Others.kept-raises, Others.KeepsKnown, Others.kept-known, Others.kept-legs, Others.kept-table, Others.answered-stays, Storing.stores, Storing.half-stored, Storing.first-stays, Keeping.stepped, Keeping.KeepsEntries, Keeping.known-same, Keeping.open_call-own, Keeping.stood-own, Placing.IsStore, Placing.placed, Placing.place-stays, Phases.by-leg, Phases.IsHere, Phases.makes-same, Phases.step-within, Phases.step-publishes, Phases.seen-fits, Phases.by-giving, Phases.call-is, Seeing.sees-agree, Placing.judged, Unpinning.unpins, Unpinning.leg-left, Unpinning.leg-mappings, Unpinning.mapping-legs, Unpinning.from-zero, Pinning.pins, Pinning.leg-grows, Pinning.leg-maps, Beginning.is-at, Beginning.to-come, Beginning.pins-there, Acting.can-change, Acting.can-pin, Acting.store-invalid, Exchanging.exchanged-live, Accessing.read-justified, Accessing.write-justified, Accessing.copy-justified, Outcomes.next_of, Outcomes.IsSingle, Outcomes.single-ends, Outcomes.taken-ends, Outcomes.clean-next, Outcomes.ends-so}
+use Rattle.gt_core.proofs.Words.{◌≡◌, ◌≢◌, ◌<◌, ◌≤◌, ◌+◌, ◌⊎◌, inl, inr, ℕ, suc, refl, true, List, [], ◌∷◌, ◌++◌, length, Option, Some, None, sym, ap, ◌∙◌, subst, reverse, arith, eqb-true, map-append, length-append, length-reverse, reverse_onto, none-some, same_Some, ◌==◌, All, DomId, GrantRef, Denial, Entry, Invalid, Sub, Change, Half, FirstHalf, SecondHalf, Held, Pins, Asked, Demote, ByMapping, ByLeg, Seen, Nothing, Taken, Missed, Verdict, Granted, KeptPin, Step, PinStep, Unpin, StoreBody, StoreHeader, Exchange, ReadBytes, WriteBytes, CopyBytes, Action, Makes, Done, Call, Phase, Storing, StoringSecond, Walking, Last, Ending, last_first, no_pins, CallerKnowledge, knowledge_of, path, Rests, phase_after, action_at, next_to_give, after_store, StandsAt, HasShown, pins_at, held_in, Goes, GoesOn, most_of, steps_left, Open, Item, Answer, Stepped, State, state_of, sees, History, Setting, Pin, entry_at, word_at, table_at, known_at, legs_at, mappings_at, maps_answered_at, seen_by, Underway, values, open_call, underway_after, holder_after, one_if_mapped, StepsSoFar, StepsRight, Justified, IsSafe, PinIsSound, AnsweredBy, GivesValue, LeavesAll, IsSpelled, gives_back, verdict_in, refusal_in, refusal_of, refusal_if, or_then, first_of_item, first_in_call, stood, most_steps, DomainsStand, Agrees, OpenAgrees, GivenAgrees, FitsGiven, PhaseStands, IsClean, phase_refusal, numbered, exchange_sees, gather, by_leg, header_stored, IsSubPage, Leg, LegPhase, leg_step, Continuation, body_at, second_body, publishing, RestsOnRequest, stored_at, first_body, reverse-append, FitsNext, HoldsAfter, cond_both}
+use Rattle.gt_calls.specs.Following.{Advances}
+use Rattle.gt_core.proofs.{Others.unstored, Others.known-as, Others.kept-entry, Others.kept-raises, Others.KeepsKnown, Others.kept-known, Others.kept-legs, Others.kept-table, Others.answered-stays, Storing.stores, Storing.half-stored, Storing.first-stays, Keeping.stepped, Keeping.KeepsEntries, Keeping.known-same, Keeping.open_call-own, Keeping.stood-own, Placing.IsStore, Placing.place-stays, Phases.by-leg, Phases.IsHere, Phases.makes-same, Phases.seen-fits, Phases.by-giving, Phases.call-is, Seeing.sees-agree, Unpinning.unpins, Unpinning.leg-left, Unpinning.leg-mappings, Unpinning.mapping-legs, Unpinning.from-zero, Pinning.pins, Pinning.leg-grows, Pinning.leg-maps, Acting.can-change, Acting.can-pin, Acting.store-invalid, Exchanging.exchanged-live, Accessing.read-justified, Accessing.write-justified, Accessing.copy-justified, Outcomes.next_of, Outcomes.IsSingle, Outcomes.single-ends, Outcomes.taken-ends, Outcomes.clean-next, Outcomes.ends-so, Placing.each-step, Placing.OfStep}
+
+-- a call in this phase
+abbrev pub call_at : DomId → Asked → Phase → Call
+call_at d r phase = record { caller = d; request = r; phase = Some phase }
 
 -- what is known of a step of an open call, which saw what the history left
 pub record Ticks (s : Setting) (h : History) (xs : List State) (x : State) (o : Open) (c : Underway) (new : Call) (action : Action) : Type 0 where
-  pub st : DomainsStand s h xs
   pub here : state_of xs x.id.0 ≡ Some x
   pub agrees : Agrees s h x
   pub call : open_call h x.id.0 ≡ Some c
   pub stands : OpenAgrees s h x.id o c
-  pub is_next : new.phase ≡ Some (next_of s h x.id stands.phase o.step)
-  pub caller : new.caller ≡ x.id
-  pub asks : new.request ≡ c.request
-  pub at : StandsAt (known_at s h x.id) x.id c.request (values c ++ seen_by s h x.id o.step ∷ []) (next_of s h x.id stands.phase o.step)
-  pub follows : GoesOn (known_at s h x.id) x.id c.request (values c ++ seen_by s h x.id o.step ∷ []) action
-  pub rests : Rests (known_at s h x.id) x.id c.request (pins_at (next_of s h x.id stands.phase o.step)) (values c ++ seen_by s h x.id o.step ∷ []) action
-  pub counted : IsCounted action (steps_left (next_of s h x.id stands.phase o.step))
+  pub i : IsHere s h xs x.id c.request (values c) (reverse c.steps) stands.phase o.step
+  pub new_is : new ≡ call_at x.id c.request (next_of s h x.id stands.phase o.step)
+  pub on : Advances (known_at s h x.id) (call_at x.id c.request stands.phase) (call_at x.id c.request (next_of s h x.id stands.phase o.step)) (values c ++ seen_by s h x.id o.step ∷ []) action
   pub fewer : steps_left (next_of s h x.id stands.phase o.step) < steps_left stands.phase
   pub acts : action ≡ action_at x.id (next_of s h x.id stands.phase o.step)
   pub holds : HoldsAfter o.step (seen_by s h x.id o.step) (held_in stands.phase) (held_in (next_of s h x.id stands.phase o.step)) action
-
-pub here-of : (s : Setting) (h : History) (xs : List State) (x : State) (o : Open) (c : Underway) → DomainsStand s h xs → state_of xs x.id.0 ≡ Some x → (a : OpenAgrees s h x.id o c)
-    → IsHere s h xs x.id c.request (values c) (reverse c.steps) a.phase o.step
-here-of s h xs x o c st here a =
-    record { st = st; own = λ e. none-some x (sym e ∙ here); at = a.at; acts = a.acts; place = a.place; held = a.held; rests = a.rests; fits = a.fits }
 
 pub ticks : (s : Setting) (h : History) (xs : List State) (x : State) (o : Open) (c : Underway) (seen : Seen) (new : Call) (action : Action) → DomainsStand s h xs → state_of xs x.id.0 ≡ Some x → Agrees s h x → open_call h x.id.0 ≡ Some c
     → OpenAgrees s h x.id o c → seen ≡ sees xs x.id o.step → new.caller ≡ o.call.caller → new.request ≡ o.call.request
     → Goes (knowledge_of s.domains s.first_generation s.may x.own x.header x.mappings) o.call seen new action → (seen ≡ seen_by s h x.id o.step) × Ticks s h xs x o c new action
 ticks s h xs x o c seen new action st here agrees call a saw caller asks goes = let k = known_at s h x.id in
-    let i = here-of s h xs x o c st here a in let step = o.step in
-    let same : seen ≡ seen_by s h x.id step = saw ∙ sees-agree s h xs x.id step st (step-within s h xs x.id c.request (values c) (reverse c.steps) a.phase step i) in
-    let old : Call = record { caller = x.id; request = c.request; phase = Some a.phase } in
+    let i : IsHere s h xs x.id c.request (values c) (reverse c.steps) a.phase o.step =
+    record { st = st; own = λ e. none-some x (sym e ∙ here); at = a.at; acts = a.acts; place = a.place; held = a.held; rests = a.rests; fits = a.fits } in
+    let each = each-step s h xs x.id c.request (values c) (reverse c.steps) a.phase o.step i in let step = o.step in
+    let same : seen ≡ seen_by s h x.id step = saw ∙ sees-agree s h xs x.id step st each.0 in
+    let next = next_of s h x.id a.phase step in let old : Call = call_at x.id c.request a.phase in
     let g : Goes k old (seen_by s h x.id step) new action =
     subst (λ (z : Call). Goes k z (seen_by s h x.id step) new action) (call-is o.call x.id c.request a.phase a.caller a.asks a.here)
     (subst (λ (z : CallerKnowledge). Goes z o.call (seen_by s h x.id step) new action) (known-same s h x agrees)
     (subst (λ (v : Seen). Goes (knowledge_of s.domains s.first_generation s.may x.own x.header x.mappings) o.call v new action) same goes)) in
-    let fits : FitsNext (path k x.id c.request (values c)) (seen_by s h x.id step) =
-    subst (λ (z : Option Action). FitsNext z (seen_by s h x.id step)) (sym a.follows) (seen-fits s h x.id step (step-publishes s h xs x.id c.request (values c) (reverse c.steps) a.phase step i)) in
-    let l = g.later (values c) a.at fits in let next = next_of s h x.id a.phase step in
-    let by : new.caller ≡ x.id = caller ∙ a.caller in let asked : new.request ≡ c.request = asks ∙ a.asks in
-    let shown = values c ++ seen_by s h x.id step ∷ [] in
-    let stands : StandsAt k new.caller new.request shown next = is-at k new shown next g.moves l.0.at in (
-      same,
-      record {
-        st = st;
-        here = here;
-        agrees = agrees;
-        call = call;
-        stands = a;
-        is_next = g.moves;
-        caller = by;
-        asks = asked;
-        at = subst (λ (z : DomId). StandsAt k z c.request shown next) by (subst (λ (z : Asked). StandsAt k new.caller z shown next) asked stands);
-        follows = l.0.follows;
-        rests = subst (λ (z : Pins). Rests k x.id c.request z shown action) (pins-there new next g.moves) l.0.rests;
-        counted = subst (IsCounted action) (to-come new next g.moves) l.0.counted;
-        fewer = subst (λ (n : ℕ). n < steps_left a.phase) (to-come new next g.moves) l.2;
-        acts = g.acts;
-        holds = subst (λ (z : Pins). HoldsAfter step (seen_by s h x.id step) (held_in a.phase) (last_first z) action) (pins-there new next g.moves) (l.1 (Makes step) a.follows);
-      },
-    )
+    let moved : new ≡ call_at x.id c.request next = call-is new x.id c.request next (caller ∙ a.caller) (asks ∙ a.asks) g.moves in
+    let fits : FitsNext (path k x.id c.request (values c)) (seen_by s h x.id step) = subst (λ (z : Option Action). FitsNext z (seen_by s h x.id step)) (sym a.follows) (seen-fits s h x.id step each.1) in
+    let g2 : Goes k old (seen_by s h x.id step) (call_at x.id c.request next) action = subst (λ (z : Call). Goes k old (seen_by s h x.id step) z action) moved g in
+    let l = g2.later (values c) a.at fits in
+    (same, record { here = here; agrees = agrees; call = call; stands = a; i = i; new_is = moved; on = l.0; fewer = l.2; acts = g.acts; holds = l.1 (Makes step) a.follows })
 
 -- the call with one step more
 
@@ -70,21 +47,6 @@ given-goes-on d step seen answer h given a = λ c call. by answer (open_call h d
     by : (answer : Option Answer) (u : Option Underway) → open_call h d.0 ≡ u → (c : Underway) → underway_after (stepped d step seen answer) u ≡ Some c → (given ≡ c.given) × FitsGiven c.request c.given
     by None (Some b) is c e = subst (λ (z : Underway). (given ≡ z.given) × FitsGiven z.request z.given) (same_Some _ _ e) (a b is)
     by answer u is c e = absurd (none-some c e)
-
--- the first rule that stood at the places of the call, up to this step
-pub stood-after : (s : Setting) (h : History) (xs : List State) (x : State) (o : Open) (c : Underway) (new : Call) (action : Action) (answer : Option Answer) → (t : Ticks s h xs x o c new action)
-    → stood s (stepped x.id o.step (seen_by s h x.id o.step) answer ∷ h) x.id.0 ≡ phase_refusal (next_of s h x.id t.stands.phase o.step)
-stood-after s h xs x o c new action answer t = let i = stepped x.id o.step (seen_by s h x.id o.step) answer in
-    stood-own s i h ∙ ap (λ (z : Option Denial). or_then z (first_of_item s h i)) t.stands.fair
-    ∙ ap (λ (u : Option Underway). or_then (phase_refusal t.stands.phase) (first_in_call s h x.id i.happened u)) t.call
-    ∙ judged s h xs x.id c.request (values c) (reverse c.steps) t.stands.phase o.step (here-of s h xs x o c t.st t.here t.stands)
-
--- what a domain knows, where its entries, table and mappings stay
-
-known-from : (s : Setting) (i : Item) (h : History) (d : DomId) → KeepsEntries i → table_at s (i ∷ h) d ≡ table_at s h d → mappings_at (i ∷ h) d.0 ≡ mappings_at h d.0 → maps_answered_at (i ∷ h) d.0 ≡ maps_answered_at h d.0
-    → known_at s (i ∷ h) d ≡ known_at s h d
-known-from s i h d q table maps answered =
-    known-as s h (i ∷ h) d (λ r. kept-entry i h d.0 r q.changes) (λ r. kept-raises i h d.0 r q.changes) table maps answered
 
 taken-word : (word looked : ℕ) → exchange_sees word looked ≡ Taken → word ≡ looked
 taken-word word looked e = cond_both (word == looked) Taken (Missed word) (λ z. z ≡ Taken → word ≡ looked) (λ is f. eqb-true word looked is) (λ is f. cc) e
@@ -103,245 +65,215 @@ abbrev PinFact : History → Step → Seen → Type 0
 PinFact h step seen = (p : Held) → step ≡ PinStep p → seen ≡ Taken → record p { entry = entry_at h p.dom.0 p.gref.0 } ≡ p
 
 -- the pin that is given back is the last one held
-abbrev LastFact : List Held → Step → Type 0
+abbrev pub LastFact : List Held → Step → Type 0
 LastFact old step = (p : Held) (place : ℕ) → step ≡ Unpin p (ByLeg place) → (others : List Held) × (old ≡ p ∷ others) × (place ≡ length others)
 
 legs-by : (h : History) (d : DomId) (answer : Option Answer) (old new : List Held) (action : Action) (step : Step) (seen : Seen) → one_if_mapped answer ≡ 0 → ((n : ℕ) → holder_after answer n ≡ ByLeg n) → ((m : Held) → action ≡ Done (KeptPin m) → ⊥)
     → legs_at h d.0 ≡ numbered 0 (reverse old) → HoldsAfter step seen old new action → PinFact h step seen → LastFact old step → legs_at (stepped d step seen answer ∷ h) d.0 ≡ numbered 0 (reverse new)
 legs-by h d answer old new action step seen m leg unmapped held holds pinned last = by step seen holds pinned last where
-  quiet : (z : Step) (v : Seen) → KeepsKnown (stepped d z v answer) → new ≡ old → legs_at (stepped d z v answer ∷ h) d.0 ≡ numbered 0 (reverse new)
-  quiet z v k e = kept-legs (stepped d z v answer) h d.0 k ∙ held ∙ ap (λ (l : List Held). numbered 0 (reverse l)) (sym e)
-
   pin : (p : Held) → (new ≡ p ∷ old) ⊎ ((action ≡ Done (KeptPin p)) × (new ≡ old)) → record p { entry = entry_at h p.dom.0 p.gref.0 } ≡ p → legs_at (pins d p answer ∷ h) d.0 ≡ numbered 0 (reverse new)
   pin p (inr b) is = absurd (unmapped p b.0)
   pin p (inl b) is =
       let n : length (legs_at h d.0) ≡ 0 + length (reverse old) = ap (λ (l : List (ℕ × Held)). length l) held ∙ length-numbered 0 (reverse old) ∙ sym (from-zero (length (reverse old))) in
-      leg-grows h d p answer (leg (length (legs_at h d.0)))
-      ∙ ap (λ (q : Held). legs_at h d.0 ++ (length (legs_at h d.0), q) ∷ []) is
-      ∙ ap (λ (k : ℕ). legs_at h d.0 ++ (k, p) ∷ []) n
+      leg-grows h d p answer (leg (length (legs_at h d.0))) ∙ ap (λ (q : Held). legs_at h d.0 ++ (length (legs_at h d.0), q) ∷ []) is ∙ ap (λ (k : ℕ). legs_at h d.0 ++ (k, p) ∷ []) n
       ∙ ap (λ (l : List (ℕ × Held)). l ++ (0 + length (reverse old), p) ∷ []) held
-      ∙ sym (numbered-push 0 (reverse old) p) ∙ ap (numbered 0) (sym (reverse_onto old p []))
-      ∙ ap (λ (l : List Held). numbered 0 (reverse l)) (sym b)
+      ∙ sym (numbered-push 0 (reverse old) p) ∙ ap (numbered 0) (sym (reverse_onto old p [])) ∙ ap (λ (l : List Held). numbered 0 (reverse l)) (sym b)
 
   give : (p : Held) (place : ℕ) (v : Seen) → old ≡ p ∷ new → (others : List Held) × (old ≡ p ∷ others) × (place ≡ length others) → legs_at (unpins d p (ByLeg place) v answer ∷ h) d.0 ≡ numbered 0 (reverse new)
-  give p place v e (others, is, at) = let both : p ∷ others ≡ p ∷ new = sym is ∙ e in let same : others ≡ new = cc in
+  give p place v e (others, is, at) = let same : others ≡ new = cc in
       let legs : legs_at h d.0 ≡ numbered 0 (reverse new ++ p ∷ []) = held ∙ ap (λ (l : List Held). numbered 0 (reverse l)) e ∙ ap (numbered 0) (reverse_onto new p []) in
       ap (λ (k : ℕ). legs_at (unpins d p (ByLeg k) v answer ∷ h) d.0) (at ∙ ap (λ (l : List Held). length l) same ∙ sym (length-reverse new)) ∙ leg-left h d (reverse new) p v answer legs
 
   by : (z : Step) (v : Seen) → HoldsAfter z v old new action → PinFact h z v → LastFact old z → legs_at (stepped d z v answer ∷ h) d.0 ≡ numbered 0 (reverse new)
   by (PinStep p) Taken e f g = pin p e (f p refl refl)
   by (Unpin p (ByLeg place)) v e f g = give p place v e (g p place refl)
-  by (Unpin p (ByMapping handle)) v e f g = mapping-legs h d p handle v answer ∙ held ∙ ap (λ (l : List Held). numbered 0 (reverse l)) (sym e)
-  by (Exchange gref looked change) Taken e f g =
-      ap (λ (ps : List Pin). gather by_leg d.0 ps) (exchanged-live h d gref looked change answer) ∙ held ∙ ap (λ (l : List Held). numbered 0 (reverse l)) (sym e)
-  by z v e f g = quiet z v (record { changes = λ r. refl; pins = λ before ps. refl; unpins = λ pins. refl; maps = m }) e
-
-pub pin-fact : (s : Setting) (h : History) (xs : List State) (x : State) (o : Open) (c : Underway) (new : Call) (action : Action) → Ticks s h xs x o c new action → PinFact h o.step (seen_by s h x.id o.step)
-pin-fact s h xs x o c new action t p is saw =
-    (can-pin s h xs x.id c.request (values c) (reverse c.steps) t.stands.phase p
-    (subst (IsHere s h xs x.id c.request (values c) (reverse c.steps) t.stands.phase) is (here-of s h xs x o c t.st t.here t.stands))
-    (taken-word (word_at s h p.dom.0 p.gref.0) p.word (subst (λ (z : Step). seen_by s h x.id z ≡ Taken) is saw))).is
-
-pub last-fact : (s : Setting) (h : History) (xs : List State) (x : State) (o : Open) (c : Underway) (new : Call) (action : Action) → (t : Ticks s h xs x o c new action) → LastFact (held_in t.stands.phase) o.step
-last-fact s h xs x o c new action t p place is =
-    let r = (subst (λ (z : Step). Rests (known_at s h x.id) x.id c.request (pins_at t.stands.phase) (values c) (Makes z)) is t.stands.rests).1 in
-    (r.others, r.held, r.place_is)
-
--- the pins that the call then holds are those of its next phase
-pub legs-after : (s : Setting) (h : History) (xs : List State) (x : State) (o : Open) (c : Underway) (new : Call) (action : Action) (answer : Option Answer) → (t : Ticks s h xs x o c new action) → one_if_mapped answer ≡ 0
-    → ((n : ℕ) → holder_after answer n ≡ ByLeg n) → ((m : Held) → action ≡ Done (KeptPin m) → ⊥) → legs_at (stepped x.id o.step (seen_by s h x.id o.step) answer ∷ h) x.id.0 ≡ numbered 0 (reverse (held_in (next_of s h x.id t.stands.phase o.step)))
-legs-after s h xs x o c new action answer t m leg unmapped =
-    legs-by h x.id answer (held_in t.stands.phase) (held_in (next_of s h x.id t.stands.phase o.step)) action o.step (seen_by s h x.id o.step) m leg unmapped t.stands.held t.holds (pin-fact s h xs x o c new action t) (last-fact s h xs x o c new action t)
+  by (Unpin p (ByMapping handle)) v e f g = mapping-legs h d p handle v answer ∙ rw e held
+  by (Exchange gref looked change) Taken e f g = ap (λ (ps : List Pin). gather by_leg d.0 ps) (exchanged-live h d gref looked change answer) ∙ rw e held
+  by z v e f g = kept-legs (stepped d z v answer) h d.0 (record { changes = λ r. refl; pins = λ before ps. refl; unpins = λ pins. refl; maps = m }) ∙ rw e held
 
 -- what the domain knows stays, where its call goes on
 known-by : (s : Setting) (h : History) (d : DomId) (step : Step) (seen : Seen) → (IsSingle step → ⊥) → ((gref : GrantRef) (looked : ℕ) (change : Change) → step ≡ Exchange gref looked change → seen ≡ Taken → ⊥)
     → known_at s (stepped d step seen None ∷ h) d ≡ known_at s h d
-known-by s h d step seen single exchange = by step seen single exchange where
-  quiet : (z : Step) (v : Seen) → KeepsKnown (stepped d z v None) → header_stored (Stepped z v) ≡ None → known_at s (stepped d z v None ∷ h) d ≡ known_at s h d
-  quiet z v k e = kept-known s (stepped d z v None) h d k e
-
-  by : (z : Step) (v : Seen) → (IsSingle z → ⊥) → ((gref : GrantRef) (looked : ℕ) (change : Change) → z ≡ Exchange gref looked change → v ≡ Taken → ⊥) → known_at s (stepped d z v None ∷ h) d ≡ known_at s h d
-  by (PinStep p) Taken n e =
-      known-from s (pins d p None) h d (record { changes = λ r. refl; stores = λ r which. refl; header = refl }) (kept-table s (pins d p None) h d refl) (leg-maps h d p None refl) (answered-stays h (pins d p None) d.0 refl)
-  by (Unpin p (ByLeg place)) v n e =
-      known-from s (unpins d p (ByLeg place) v None) h d (record { changes = λ r. refl; stores = λ r which. refl; header = refl }) (kept-table s (unpins d p (ByLeg place) v None) h d refl) (leg-mappings h d p place v None)
-      (answered-stays h (unpins d p (ByLeg place) v None) d.0 refl)
-  by (Unpin p (ByMapping handle)) v n e = absurd (n tt)
-  by (StoreHeader version frames) v n e = absurd (n tt)
-  by (Exchange gref looked change) Taken n e = absurd (e gref looked change refl refl)
-  by z v n e = quiet z v (record { changes = λ r. refl; pins = λ before ps. refl; unpins = λ pins. refl; maps = refl }) refl
+known-by s h d (PinStep p) Taken single exchange = let i = pins d p None in
+    known-as s h (i ∷ h) d (λ r. kept-entry i h d.0 r (λ r. refl)) (λ r. kept-raises i h d.0 r (λ r. refl)) (kept-table s i h d refl) (leg-maps h d p None refl) (answered-stays h i d.0 refl)
+known-by s h d (Unpin p (ByLeg place)) v single exchange = let i = unpins d p (ByLeg place) v None in
+    known-as s h (i ∷ h) d (λ r. kept-entry i h d.0 r (λ r. refl)) (λ r. kept-raises i h d.0 r (λ r. refl)) (kept-table s i h d refl) (leg-mappings h d p place v None) (answered-stays h i d.0 refl)
+known-by s h d (Unpin p (ByMapping handle)) v single exchange = absurd (single tt)
+known-by s h d (StoreHeader version frames) v single exchange = absurd (single tt)
+known-by s h d (Exchange gref looked change) Taken single exchange = absurd (exchange gref looked change refl refl)
+known-by s h d z v single exchange = kept-known s (stepped d z v None) h d (record { changes = λ r. refl; pins = λ before ps. refl; unpins = λ pins. refl; maps = refl }) refl
 
 goes-not : (d : DomId) (z : Step) (p : Phase) (pins : Pins) (v : Verdict) → last_first pins ≡ [] → Makes z ≡ action_at d p → p ≡ Ending pins v → ⊥
 goes-not d z p pins v none e is = let f : Makes z ≡ Done v = e ∙ ap (action_at d) is ∙ ap (λ (l : List Held). next_to_give l v) none in cc
 
-pub known-after : (s : Setting) (h : History) (xs : List State) (x : State) (o : Open) (c : Underway) (new : Call) (z : Step) → Ticks s h xs x o c new (Makes z)
-    → known_at s (stepped x.id o.step (seen_by s h x.id o.step) None ∷ h) x.id ≡ known_at s h x.id
-known-after s h xs x o c new z t = known-by s h x.id o.step (seen_by s h x.id o.step)
-    (λ single. let e = single-ends s h x.id c.request (reverse c.steps) t.stands.phase o.step t.stands.acts t.stands.place single in goes-not x.id z _ no_pins e.0 refl t.acts e.1)
-    (λ gref looked change is saw.
-    let e = taken-ends (known_at s h x.id) (path (known_at s h x.id) x.id c.request) x.id c.request (values c) t.stands.phase gref looked change t.stands.at.has_shown (t.stands.acts ∙ ap Makes is) in
-    goes-not x.id z _ no_pins Granted refl t.acts (ap (phase_after (known_at s h x.id) x.id t.stands.phase) saw ∙ e))
-
 -- where a store leads
 
-plain-spelled : (entry : Entry) (first second : ℕ) → (IsSubPage entry → ⊥) → first ≡ first_body entry → IsSpelled entry first second
-plain-spelled Invalid first second n f = tt
-plain-spelled (Sub dom ro frame off len) first second n f = absurd (n tt)
-plain-spelled entry first second n f = f
-
-pub leg-store : (l : Leg) (at : LegPhase) → IsStore (leg_step l at) → ⊥
-leg-store = by-leg (λ (z : Step). IsStore z → ⊥) (λ dom n. n) (λ dom gref n. n) (λ dom gref half n. n) (λ p n. n)
-
-store-place : (s : Setting) (h : History) (d : DomId) (r : Asked) (so_far now : StepsSoFar) (phase : Phase) (gref : GrantRef) (half : Half) (word : ℕ) (way : Continuation) (shown : List Seen) → HasShown (known_at s h d) way d r shown phase → PhaseStands s h d r so_far phase
-    → action_at d phase ≡ Makes (StoreBody gref half word) → PhaseStands s (stores d gref half word ∷ h) d r now (phase_after (known_at s h d) d phase Nothing)
-store-place s h d r so_far now (Storing g entry) gref half word way shown a b e =
-    let z : StoreBody g FirstHalf (first_body entry) ≡ StoreBody gref half word = makes-same _ _ e in
-    subst (λ (st : Step). PhaseStands s (stepped d st Nothing None ∷ h) d r now (after_store (known_at s h d) g entry)) z (by entry)
+-- what holds of each call that is about to store a body word
+pub by-storing : (s : Setting) (h : History) (d : DomId) (r : Asked) (way : Continuation) (shown : List Seen) (P : Phase → Step → Type 0) → ((g : GrantRef) (entry : Entry) → P (Storing g entry) (StoreBody g FirstHalf (first_body entry)))
+    → ((g : GrantRef) (entry : Entry) → P (StoringSecond g entry) (StoreBody g SecondHalf (second_body entry))) → (phase : Phase) (step : Step) → HasShown (known_at s h d) way d r shown phase → action_at d phase ≡ Makes step → IsStore step → P phase step
+by-storing s h d r way shown P first second (Storing g entry) step a e n = subst (P (Storing g entry)) (makes-same _ _ e) (first g entry)
+by-storing s h d r way shown P first second (StoringSecond g entry) step a e n = subst (P (StoringSecond g entry)) (makes-same _ _ e) (second g entry)
+by-storing s h d r way shown P first second (Walking aim l at) step a e n = absurd (by-leg (λ (z : Step). IsStore z → ⊥) (λ dom n. n) (λ dom gref n. n) (λ dom gref half n. n) (λ p n. n) l at (subst IsStore (sym (makes-same _ _ e)) n))
+by-storing s h d r way shown P first second (Last last verdict) step a e n =
+    absurd (subst (λ (z : Step). IsStore z → RestsOnRequest (known_at s h d) d r z → ⊥) (sym (makes-same _ _ e)) (by step n) (subst IsStore (sym (makes-same _ _ e)) n) a.1)
   where
-    by : (y : Entry) → PhaseStands s (stores d g FirstHalf (first_body y) ∷ h) d r now (after_store (known_at s h d) g y)
-    by (Sub dom ro frame off len) = half-stored d g FirstHalf (first_body (Sub dom ro frame off len)) h
-    by y = plain-spelled y (body_at (stores d g FirstHalf (first_body y) ∷ h) d.0 g.0 FirstHalf) (body_at (stores d g FirstHalf (first_body y) ∷ h) d.0 g.0 SecondHalf) (λ n. n) (half-stored d g FirstHalf (first_body y) h)
-store-place s h d r so_far now (StoringSecond g entry) gref half word way shown a b e =
-    let z : StoreBody g SecondHalf (second_body entry) ≡ StoreBody gref half word = makes-same _ _ e in
-    subst (λ (st : Step). PhaseStands s (stepped d st Nothing None ∷ h) d r now (publishing (known_at s h d) g entry)) z (by entry a.3 b)
-  where
-    by : (y : Entry) → IsSubPage y → body_at h d.0 g.0 FirstHalf ≡ first_body y
-        → PhaseStands s (stores d g SecondHalf (second_body y) ∷ h) d r now (publishing (known_at s h d) g y)
-    by (Sub dom ro frame off len) n f = let y : Entry = Sub dom ro frame off len in
-        (first-stays d g (second_body y) g.0 h ∙ f, half-stored d g SecondHalf (second_body y) h)
-    by y n f = absurd n
-store-place s h d r so_far now (Walking aim l at) gref half word way shown a b e = absurd (leg-store l at (subst IsStore (sym (makes-same _ _ e)) tt))
-store-place s h d r so_far now (Last last verdict) gref half word way shown a b e =
-    absurd (subst (λ (z : Step). RestsOn z → ⊥) (sym (makes-same _ _ e)) (λ n. n) a.1) where
-      RestsOn : Step → Type 0
-      RestsOn z = RestsOnRequest (known_at s h d) d r z
-store-place s h d r so_far now (Ending held_pins verdict) gref half word way shown a b e = absurd (by-giving (λ (z : Step). IsStore z → ⊥) (λ p n f. f) (last_first held_pins) verdict _ e tt)
-store-place s h d r so_far now phase gref half word way shown a b e = cc
+    by : (z : Step) → IsStore z → IsStore z → RestsOnRequest (known_at s h d) d r z → ⊥
+    by (StoreBody gref half word) m k rests = rests
+    by z m k rests = m
+by-storing s h d r way shown P first second (Ending held verdict) step a e n = absurd (by-giving (λ (z : Step). IsStore z → ⊥) (λ p m f. f) (last_first held) verdict step e n)
+by-storing s h d r way shown P first second phase step a e n = absurd (subst IsStore (sym (makes-same _ _ e)) n)
 
-decide-store : (step : Step) → IsStore step ⊎ (IsStore step → ⊥)
-decide-store (StoreBody gref half word) = inl tt
-decide-store step = inr (λ n. n)
+abbrev StoreLeads : Setting → History → DomId → Asked → List Seen → StepsSoFar → StepsSoFar → Phase → Step → Type 0
+StoreLeads s h d r shown so_far now phase step = HasShown (known_at s h d) (path (known_at s h d) d r) d r shown phase → PhaseStands s h d r so_far phase → PhaseStands s (stepped d step Nothing None ∷ h) d r now (phase_after (known_at s h d) d phase Nothing)
 
-stored-none : (step : Step) (seen : Seen) → (IsStore step → ⊥) → (r : ℕ) (which : Half) → stored_at (Stepped step seen) r which ≡ None
-stored-none (StoreBody gref half word) seen n r which = absurd (n tt)
-stored-none step seen n r which = refl
+first-leads : (s : Setting) (h : History) (d : DomId) (r : Asked) (shown : List Seen) (so_far now : StepsSoFar) (g : GrantRef) (entry : Entry) → StoreLeads s h d r shown so_far now (Storing g entry) (StoreBody g FirstHalf (first_body entry))
+first-leads s h d r shown so_far now g (Sub dom ro frame off len) a b = half-stored d g FirstHalf (first_body (Sub dom ro frame off len)) h
+first-leads s h d r shown so_far now g Invalid a b = tt
+first-leads s h d r shown so_far now g y a b = half-stored d g FirstHalf (first_body y) h
 
-place-after : (s : Setting) (h : History) (xs : List State) (x : State) (o : Open) (c : Underway) (new : Call) (action : Action) → (t : Ticks s h xs x o c new action)
-    → PhaseStands s (stepped x.id o.step (seen_by s h x.id o.step) None ∷ h) x.id c.request ((o.step, seen_by s h x.id o.step) ∷ reverse c.steps) (next_of s h x.id t.stands.phase o.step)
-place-after s h xs x o c new action t = by (decide-store o.step) where
-  d : DomId
-  d = x.id
+second-leads : (s : Setting) (h : History) (d : DomId) (r : Asked) (shown : List Seen) (so_far now : StepsSoFar) (g : GrantRef) (entry : Entry) → StoreLeads s h d r shown so_far now (StoringSecond g entry) (StoreBody g SecondHalf (second_body entry))
+second-leads s h d r shown so_far now g (Sub dom ro frame off len) a b = let w = second_body (Sub dom ro frame off len) in (first-stays d g w g.0 h ∙ b, half-stored d g SecondHalf w h)
+second-leads s h d r shown so_far now g y a b = absurd a.3
 
-  store : (step : Step) → o.step ≡ step → IsStore step → PhaseStands s (stepped d step (seen_by s h d step) None ∷ h) d c.request ((step, seen_by s h d step) ∷ reverse c.steps) (next_of s h d t.stands.phase step)
-  store (StoreBody gref half word) is n = store-place s h d c.request (reverse c.steps) _ t.stands.phase gref half word (path (known_at s h d) d c.request) (values c) t.stands.at.has_shown t.stands.place (t.stands.acts ∙ ap Makes is)
-  store step is n = absurd n
+-- a step of a call, which saw what the history left
+module _ {s : Setting} {h : History} {xs : List State} {x : State} {o : Open} {c : Underway} {new : Call} {action : Action} (t : Ticks s h xs x o c new action) where
+  abbrev pub seen_in : Seen
+  seen_in = seen_by s h x.id o.step
 
-  by : IsStore o.step ⊎ (IsStore o.step → ⊥) → PhaseStands s (stepped d o.step (seen_by s h d o.step) None ∷ h) d c.request ((o.step, seen_by s h d o.step) ∷ reverse c.steps) (next_of s h d t.stands.phase o.step)
-  by (inl n) = store o.step refl n
-  by (inr n) =
-      place-stays s (stepped d o.step (seen_by s h d o.step) None) h d c.request ((o.step, seen_by s h d o.step) ∷ reverse c.steps) (next_of s h d t.stands.phase o.step)
-      (λ r which. unstored (stepped d o.step (seen_by s h d o.step) None) h d.0 r which (stored-none o.step (seen_by s h d o.step) n r which))
-      (placed s h xs d c.request (values c) (reverse c.steps) t.stands.phase o.step (here-of s h xs x o c t.st t.here t.stands) n)
+  abbrev pub phase_then : Phase
+  phase_then = next_of s h x.id t.stands.phase o.step
 
--- a call that goes on is where this step has led it
-pub open-after : (s : Setting) (h : History) (xs : List State) (x : State) (o : Open) (c : Underway) (new : Call) (z : Step) → Ticks s h xs x o c new (Makes z)
-    → OpenAgrees s (stepped x.id o.step (seen_by s h x.id o.step) None ∷ h) x.id (record { call = new; step = z }) (record { request = c.request; given = c.given; steps = c.steps ++ (o.step, seen_by s h x.id o.step) ∷ [] })
-open-after s h xs x o c new z t = let d = x.id in let r = c.request in let seen = seen_by s h d o.step in
-    let i = stepped d o.step seen None in let next = next_of s h d t.stands.phase o.step in
-    let same = known-after s h xs x o c new z t in
-    let shown : values c ++ seen ∷ [] ≡ values (record { request = c.request; given = c.given; steps = c.steps ++ (o.step, seen) ∷ [] }) = sym (map-append (λ (p : Step × Seen). p.1) c.steps ((o.step, seen) ∷ [])) in
-    let longer : length (c.steps ++ (o.step, seen) ∷ []) ≡ length c.steps + 1 = length-append c.steps ((o.step, seen) ∷ []) in
-    let few = t.stands.few in let fewer = t.fewer in record {
-      caller = t.caller;
-      asks = t.asks;
-      phase = next;
-      here = t.is_next;
-      at = subst (λ (k : CallerKnowledge). StandsAt k d r (values (record { request = c.request; given = c.given; steps = c.steps ++ (o.step, seen) ∷ [] })) next) (sym same) (subst (λ (vs : List Seen). StandsAt (known_at s h d) d r vs next) shown t.at);
-      acts = sym t.acts;
-      follows = subst (λ (k : CallerKnowledge). GoesOn k d r (values (record { request = c.request; given = c.given; steps = c.steps ++ (o.step, seen) ∷ [] })) (Makes z)) (sym same) (subst (λ (vs : List Seen). GoesOn (known_at s h d) d r vs (Makes z)) shown t.follows);
-      rests = subst (λ (k : CallerKnowledge). Rests k d r (pins_at next) (values (record { request = c.request; given = c.given; steps = c.steps ++ (o.step, seen) ∷ [] })) (Makes z)) (sym same) (subst (λ (vs : List Seen). Rests (known_at s h d) d r (pins_at next) vs (Makes z)) shown t.rests);
-      place = subst (λ (so_far : StepsSoFar). PhaseStands s (i ∷ h) d r so_far next) (sym (reverse-append c.steps ((o.step, seen) ∷ []))) (place-after s h xs x o c new (Makes z) t);
-      fair = stood-after s h xs x o c new (Makes z) None t;
-      fits = t.stands.fits;
-      clean = clean-next s h (path (known_at s h d) d r) d r (values c) (reverse c.steps) t.stands.phase o.step c.steps t.stands.at.has_shown t.stands.acts t.stands.place t.stands.clean;
-      held = legs-after s h xs x o c new (Makes z) None t refl (λ n. refl) (λ m e. cc);
-      few = (omega arith);
-    }
+  -- the history with it
+  abbrev pub history_then : Option Answer → History
+  history_then answer = stepped x.id o.step seen_in answer ∷ h
+
+  each : OfStep s h xs x.id c.request (reverse c.steps) t.stands.phase o.step
+  each = each-step s h xs x.id c.request (values c) (reverse c.steps) t.stands.phase o.step t.i
+
+  -- the first rule that stood at the places of the call, up to this step
+  pub stood-after : (answer : Option Answer) → stood s (history_then answer) x.id.0 ≡ phase_refusal phase_then
+  stood-after answer = let i = stepped x.id o.step seen_in answer in
+      stood-own s i h ∙ ap (λ (z : Option Denial). or_then z (first_of_item s h i)) t.stands.fair
+      ∙ ap (λ (u : Option Underway). or_then (phase_refusal t.stands.phase) (first_in_call s h x.id i.happened u)) t.call ∙ each.3
+
+  pin-fact : PinFact h o.step seen_in
+  pin-fact p is saw = let i = subst (IsHere s h xs x.id c.request (values c) (reverse c.steps) t.stands.phase) is t.i in
+      (can-pin s h xs x.id c.request (values c) (reverse c.steps) t.stands.phase p i (taken-word (word_at s h p.dom.0 p.gref.0) p.word (subst (λ (z : Step). seen_by s h x.id z ≡ Taken) is saw))).is
+
+  pub last-fact : LastFact (held_in t.stands.phase) o.step
+  last-fact p place is = let r = (subst (λ (z : Step). Rests (known_at s h x.id) x.id c.request (pins_at t.stands.phase) (values c) (Makes z)) is t.stands.rests).1 in
+      (r.others, r.held, r.place_is)
+
+  -- the pins that the call then holds are those of its next phase
+  pub legs-after : (answer : Option Answer) → one_if_mapped answer ≡ 0 → ((n : ℕ) → holder_after answer n ≡ ByLeg n) → ((m : Held) → action ≡ Done (KeptPin m) → ⊥) → legs_at (history_then answer) x.id.0 ≡ numbered 0 (reverse (held_in phase_then))
+  legs-after answer m leg unmapped = legs-by h x.id answer (held_in t.stands.phase) (held_in phase_then) action o.step seen_in m leg unmapped t.stands.held t.holds pin-fact last-fact
+
+  place-after : PhaseStands s (history_then None) x.id c.request ((o.step, seen_in) ∷ reverse c.steps) phase_then
+  place-after = by o.step refl where
+    k : CallerKnowledge
+    k = known_at s h x.id
+
+    by : (step : Step) → o.step ≡ step → PhaseStands s (stepped x.id step (seen_by s h x.id step) None ∷ h) x.id c.request ((step, seen_by s h x.id step) ∷ reverse c.steps) (next_of s h x.id t.stands.phase step)
+    by (StoreBody gref half word) is = let now : StepsSoFar = (StoreBody gref half word, Nothing) ∷ reverse c.steps in
+        by-storing s h x.id c.request (path k x.id c.request) (values c) (StoreLeads s h x.id c.request (values c) (reverse c.steps) now)
+        (first-leads s h x.id c.request (values c) (reverse c.steps) now) (second-leads s h x.id c.request (values c) (reverse c.steps) now) t.stands.phase
+        (StoreBody gref half word) t.stands.at.has_shown (t.stands.acts ∙ ap Makes is) tt t.stands.at.has_shown t.stands.place
+    by step is = place-stays s (stepped x.id step (seen_by s h x.id step) None) h x.id c.request ((step, seen_by s h x.id step) ∷ reverse c.steps) (next_of s h x.id t.stands.phase step)
+        (λ r which. unstored (stepped x.id step (seen_by s h x.id step) None) h x.id.0 r which refl) ((subst (OfStep s h xs x.id c.request (reverse c.steps) t.stands.phase) is each).4 (λ n. n))
+
+-- a call that goes on
+module _ {s : Setting} {h : History} {xs : List State} {x : State} {o : Open} {c : Underway} {new : Call} {z : Step} (t : Ticks s h xs x o c new (Makes z)) where
+  known-after : known_at s (history_then t None) x.id ≡ known_at s h x.id
+  known-after = known-by s h x.id o.step (seen_in t)
+      (λ single. let e = single-ends s h x.id c.request (reverse c.steps) t.stands.phase o.step t.stands.acts t.stands.place single in goes-not x.id z _ no_pins e.0 refl t.acts e.1)
+      (λ gref looked change is saw.
+      let e = taken-ends (known_at s h x.id) (path (known_at s h x.id) x.id c.request) x.id c.request (values c) t.stands.phase gref looked change t.stands.at.has_shown (t.stands.acts ∙ ap Makes is) in
+      goes-not x.id z _ no_pins Granted refl t.acts (ap (phase_after (known_at s h x.id) x.id t.stands.phase) saw ∙ e))
+
+  -- it is where this step has led it
+  pub open-after : OpenAgrees s (history_then t None) x.id (record { call = new; step = z }) (record { request = c.request; given = c.given; steps = c.steps ++ (o.step, seen_in t) ∷ [] })
+  open-after = let u : Underway = record { request = c.request; given = c.given; steps = c.steps ++ (o.step, seen_in t) ∷ [] } in
+      let shown : values c ++ seen_in t ∷ [] ≡ values u = sym (map-append (λ (p : Step × Seen). p.1) c.steps ((o.step, seen_in t) ∷ [])) in
+      let longer : length (c.steps ++ (o.step, seen_in t) ∷ []) ≡ length c.steps + 1 = length-append c.steps ((o.step, seen_in t) ∷ []) in
+      let few = t.stands.few in let fewer = t.fewer in record {
+        caller = ap (λ (z : Call). z.caller) t.new_is;
+        asks = ap (λ (z : Call). z.request) t.new_is;
+        phase = phase_then t;
+        here = ap (λ (z : Call). z.phase) t.new_is;
+        at = subst (λ (k : CallerKnowledge). StandsAt k x.id c.request (values u) (phase_then t)) (sym known-after) (subst (λ (vs : List Seen). StandsAt (known_at s h x.id) x.id c.request vs (phase_then t)) shown t.on.at);
+        acts = sym t.acts;
+        follows = subst (λ (k : CallerKnowledge). GoesOn k x.id c.request (values u) (Makes z)) (sym known-after) (subst (λ (vs : List Seen). GoesOn (known_at s h x.id) x.id c.request vs (Makes z)) shown t.on.follows);
+        rests = subst (λ (k : CallerKnowledge). Rests k x.id c.request (pins_at (phase_then t)) (values u) (Makes z)) (sym known-after)
+            (subst (λ (vs : List Seen). Rests (known_at s h x.id) x.id c.request (pins_at (phase_then t)) vs (Makes z)) shown t.on.rests);
+        place = subst (λ (so_far : StepsSoFar). PhaseStands s (history_then t None) x.id c.request so_far (phase_then t)) (sym (reverse-append c.steps ((o.step, seen_in t) ∷ []))) (place-after t);
+        fair = stood-after t None;
+        fits = t.stands.fits;
+        clean = clean-next s h x.id t.stands.phase o.step c.steps t.stands.acts (each t).2 t.stands.clean;
+        held = legs-after t None refl (λ n. refl) (λ m e. cc);
+        few = (omega arith);
+      }
 
 -- a step is right
 
-step-justified : (s : Setting) (h : History) (xs : List State) (d : DomId) (r : Asked) (shown : List Seen) (so_far : StepsSoFar) (phase : Phase) (step : Step) → IsHere s h xs d r shown so_far phase step → Justified s h d r step
-step-justified s h xs d r shown so_far phase (ReadBytes dom frame off len) i = read-justified s h xs d r dom frame off len i.st i.rests.0 i.rests.1
-step-justified s h xs d r shown so_far phase (WriteBytes dom frame off len) i = write-justified s h xs d r dom frame off len i.st i.rests.0 i.rests.1
-step-justified s h xs d r shown so_far phase (CopyBytes from to len) i = copy-justified s h d r (pins_at phase) from to len i.rests.0 i.held i.rests.1
-step-justified s h xs d r shown so_far phase (Unpin p (ByMapping handle)) i = i.rests.1.0
-step-justified s h xs d r shown so_far phase step i = tt
+module _ (s : Setting) (h : History) (xs : List State) (d : DomId) (r : Asked) (shown : List Seen) (so_far : StepsSoFar) (phase : Phase) where
+  step-justified : (step : Step) → IsHere s h xs d r shown so_far phase step → Justified s h d r step
+  step-justified (ReadBytes dom frame off len) i = read-justified s h xs d r dom frame off len i.st i.rests.0 i.rests.1
+  step-justified (WriteBytes dom frame off len) i = write-justified s h xs d r dom frame off len i.st i.rests.0 i.rests.1
+  step-justified (CopyBytes from to len) i = copy-justified s h d r (pins_at phase) from to len i.rests.0 i.held i.rests.1
+  step-justified (Unpin p (ByMapping handle)) i = i.rests.1.0
+  step-justified step i = tt
 
-step-safe : (s : Setting) (h : History) (xs : List State) (d : DomId) (r : Asked) (shown : List Seen) (so_far : StepsSoFar) (phase : Phase) (step : Step) (answer : Option Answer) → IsHere s h xs d r shown so_far phase step → IsSafe s h (stepped d step (seen_by s h d step) answer)
-step-safe s h xs d r shown so_far phase (Exchange gref looked change) answer i =
-    cond_both (word_at s h d.0 gref.0 == looked) Taken (Missed (word_at s h d.0 gref.0)) (λ v. IsSafe s h (stepped d (Exchange gref looked change) v answer))
-    (λ is. (can-change s h xs d r shown so_far phase gref looked change i (eqb-true (word_at s h d.0 gref.0) looked is)).safe) (λ is. tt)
-step-safe s h xs d r shown so_far phase (StoreBody gref half word) answer i = store-invalid s h d r gref half word i.rests.0 i.rests.1
-step-safe s h xs d r shown so_far phase (PinStep p) answer i =
-    cond_both (word_at s h p.dom.0 p.gref.0 == p.word) Taken (Missed (word_at s h p.dom.0 p.gref.0)) (λ v. IsSafe s h (stepped d (PinStep p) v answer)) (λ is. tt) (λ is. tt)
-step-safe s h xs d r shown so_far phase step answer i = tt
+  step-safe : (step : Step) (answer : Option Answer) → IsHere s h xs d r shown so_far phase step → IsSafe s h (stepped d step (seen_by s h d step) answer)
+  step-safe (Exchange gref looked change) answer i =
+      cond_both (word_at s h d.0 gref.0 == looked) Taken (Missed (word_at s h d.0 gref.0)) (λ v. IsSafe s h (stepped d (Exchange gref looked change) v answer))
+      (λ is. (can-change s h xs d r shown so_far phase gref looked change i (eqb-true (word_at s h d.0 gref.0) looked is)).safe) (λ is. tt)
+  step-safe (StoreBody gref half word) answer i = store-invalid s h d r gref half word i.rests.0 i.rests.1
+  step-safe (PinStep p) answer i =
+      cond_both (word_at s h p.dom.0 p.gref.0 == p.word) Taken (Missed (word_at s h p.dom.0 p.gref.0)) (λ v. IsSafe s h (stepped d (PinStep p) v answer)) (λ is. tt) (λ is. tt)
+  step-safe step answer i = tt
 
-step-sound : (s : Setting) (h : History) (xs : List State) (d : DomId) (r : Asked) (shown : List Seen) (so_far : StepsSoFar) (phase : Phase) (step : Step) → IsHere s h xs d r shown so_far phase step → PinIsSound s h d r step (seen_by s h d step)
-step-sound s h xs d r shown so_far phase (PinStep p) i =
-    cond_both (word_at s h p.dom.0 p.gref.0 == p.word) Taken (Missed (word_at s h p.dom.0 p.gref.0)) (PinIsSound s h d r (PinStep p))
-    (λ is. (can-pin s h xs d r shown so_far phase p i (eqb-true (word_at s h p.dom.0 p.gref.0) p.word is)).sound) (λ is. tt)
-step-sound s h xs d r shown so_far phase step i = tt
-
-most-fits : (r : Asked) → most_of r ≤ most_steps r
-most-fits (Demote gref) = omega arith
-most-fits r = omega arith
+  step-sound : (step : Step) → IsHere s h xs d r shown so_far phase step → PinIsSound s h d r step (seen_by s h d step)
+  step-sound (PinStep p) i = cond_both (word_at s h p.dom.0 p.gref.0 == p.word) Taken (Missed (word_at s h p.dom.0 p.gref.0)) (PinIsSound s h d r (PinStep p))
+      (λ is. (can-pin s h xs d r shown so_far phase p i (eqb-true (word_at s h p.dom.0 p.gref.0) p.word is)).sound) (λ is. tt)
+  step-sound step i = tt
 
 -- a call that goes on gives pins back, or has no rule against it
 goes-fair : (d : DomId) (p : Phase) (z : Step) → action_at d p ≡ Makes z → (phase_refusal p ≡ None) ⊎ (gives_back (Some (Makes z)) ≡ true)
 goes-fair d (Ending pins verdict) z e = inr (by-giving (λ (y : Step). gives_back (Some (Makes y)) ≡ true) (λ p n. refl) (last_first pins) verdict z e)
 goes-fair d p z e = inl refl
 
-pub goes-right : (s : Setting) (h : History) (xs : List State) (x : State) (o : Open) (c : Underway) (new : Call) (z : Step) → Ticks s h xs x o c new (Makes z)
-    → StepsRight s h (stepped x.id o.step (seen_by s h x.id o.step) None) o.step (seen_by s h x.id o.step) c
-goes-right s h xs x o c new z t = let d = x.id in let seen = seen_by s h d o.step in
-    let i = here-of s h xs x o c t.st t.here t.stands in let few = t.stands.few in let fewer = t.fewer in
-    let counted = t.counted in let most = most-fits c.request in record {
-      continues = t.stands.follows;
-      sees = refl;
-      justified = step-justified s h xs d c.request (values c) (reverse c.steps) t.stands.phase o.step i;
-      safe = step-safe s h xs d c.request (values c) (reverse c.steps) t.stands.phase o.step None i;
-      sound = step-sound s h xs d c.request (values c) (reverse c.steps) t.stands.phase o.step i;
-      soon = λ none. (omega arith);
-      left = λ some. absurd (some refl);
-      answered = subst (λ (a : Option Action). AnsweredBy s h d c.request (Some o.step) (gives_back a) (verdict_in a) None (stood s (stepped d o.step seen None ∷ h) d.0)) (sym t.follows)
-          (fair (goes-fair d (next_of s h d t.stands.phase o.step) z (sym t.acts)));
-    } where
-      fair : (phase_refusal (next_of s h x.id t.stands.phase o.step) ≡ None) ⊎ (gives_back (Some (Makes z)) ≡ true)
-          → (stood s (stepped x.id o.step (seen_by s h x.id o.step) None ∷ h) x.id.0 ≡ None) ⊎ (gives_back (Some (Makes z)) ≡ true)
-      fair (inl e) = inl (stood-after s h xs x o c new (Makes z) None t ∙ e)
+most-fits : (r : Asked) → most_of r ≤ most_steps r
+most-fits (Demote gref) = omega arith
+most-fits r = omega arith
+
+module _ {s : Setting} {h : History} {xs : List State} {x : State} {o : Open} {c : Underway} {new : Call} {action : Action} (t : Ticks s h xs x o c new action) where
+  right : (answer : Option Answer) → (answer ≡ None → length c.steps + 1 < most_steps c.request) → (refusal_if answer ≢ None → All LeavesAll (c.steps ++ (o.step, seen_in t) ∷ []) × (legs_at (history_then t answer) x.id.0 ≡ []))
+      → AnsweredBy s h x.id c.request (Some o.step) (gives_back (Some action)) (verdict_in (Some action)) answer (stood s (history_then t answer) x.id.0) → StepsRight s h (stepped x.id o.step (seen_in t) answer) o.step (seen_in t) c
+  right answer soon left answered = record {
+    continues = t.stands.follows;
+    sees = refl;
+    justified = step-justified s h xs x.id c.request (values c) (reverse c.steps) t.stands.phase o.step t.i;
+    safe = step-safe s h xs x.id c.request (values c) (reverse c.steps) t.stands.phase o.step answer t.i;
+    sound = step-sound s h xs x.id c.request (values c) (reverse c.steps) t.stands.phase o.step t.i;
+    soon = soon;
+    left = left;
+    answered = subst (λ (a : Option Action). AnsweredBy s h x.id c.request (Some o.step) (gives_back a) (verdict_in a) answer (stood s (history_then t answer) x.id.0)) (sym t.on.follows) answered;
+  }
+
+pub goes-right : {s : Setting} {h : History} {xs : List State} {x : State} {o : Open} {c : Underway} {new : Call} {z : Step} (t : Ticks s h xs x o c new (Makes z)) → StepsRight s h (stepped x.id o.step (seen_in t) None) o.step (seen_in t) c
+goes-right {s} {h} {xs} {x} {o} {c} {new} {z} t = let few = t.stands.few in let fewer = t.fewer in let counted = t.on.counted in let most = most-fits c.request in
+    right t None (λ none. (omega arith)) (λ some. absurd (some refl)) (fair (goes-fair x.id (phase_then t) z (sym t.acts))) where
+      fair : (phase_refusal (phase_then t) ≡ None) ⊎ (gives_back (Some (Makes z)) ≡ true) → (stood s (history_then t None) x.id.0 ≡ None) ⊎ (gives_back (Some (Makes z)) ≡ true)
+      fair (inl e) = inl (stood-after t None ∙ e)
       fair (inr e) = inr e
 
 -- a call that is answered
-pub ends-right : (s : Setting) (h : History) (xs : List State) (x : State) (o : Open) (c : Underway) (new : Call) (v : Verdict) (answer : Answer) → Ticks s h xs x o c new (Done v) → refusal_of answer ≡ refusal_in (Some v)
-    → legs_at (stepped x.id o.step (seen_by s h x.id o.step) (Some answer) ∷ h) x.id.0 ≡ [] → GivesValue s h x.id c.request (Some o.step) answer
-    → StepsRight s h (stepped x.id o.step (seen_by s h x.id o.step) (Some answer)) o.step (seen_by s h x.id o.step) c
-ends-right s h xs x o c new v answer t same legs value = let d = x.id in let seen = seen_by s h d o.step in
-    let i = here-of s h xs x o c t.st t.here t.stands in
-    let e = ends-so d (next_of s h d t.stands.phase o.step) v (sym t.acts) in
-    let clean : IsClean (Ending e.0 v) (c.steps ++ (o.step, seen) ∷ []) =
-    subst (λ (p : Phase). IsClean p (c.steps ++ (o.step, seen) ∷ [])) e.1
-    (clean-next s h (path (known_at s h d) d c.request) d c.request (values c) (reverse c.steps) t.stands.phase o.step c.steps t.stands.at.has_shown t.stands.acts t.stands.place t.stands.clean) in
-    record {
-      continues = t.stands.follows;
-      sees = refl;
-      justified = step-justified s h xs d c.request (values c) (reverse c.steps) t.stands.phase o.step i;
-      safe = step-safe s h xs d c.request (values c) (reverse c.steps) t.stands.phase o.step (Some answer) i;
-      sound = step-sound s h xs d c.request (values c) (reverse c.steps) t.stands.phase o.step i;
-      soon = λ none. cc;
-      left = λ some. (by some clean, legs);
-      answered = subst (λ (a : Option Action). AnsweredBy s h d c.request (Some o.step) (gives_back a) (verdict_in a) (Some answer) (stood s (stepped d o.step seen (Some answer) ∷ h) d.0)) (sym t.follows)
-          (same, same ∙ sym (stood-after s h xs x o c new (Done v) (Some answer) t ∙ ap phase_refusal e.1), value);
-    } where
-      by : refusal_if (Some answer) ≢ None → (refusal_in (Some v) ≡ None) ⊎ All LeavesAll (c.steps ++ (o.step, seen_by s h x.id o.step) ∷ []) → All LeavesAll (c.steps ++ (o.step, seen_by s h x.id o.step) ∷ [])
+pub ends-right : {s : Setting} {h : History} {xs : List State} {x : State} {o : Open} {c : Underway} {new : Call} {v : Verdict} (t : Ticks s h xs x o c new (Done v)) (answer : Answer) → refusal_of answer ≡ refusal_in (Some v)
+    → legs_at (history_then t (Some answer)) x.id.0 ≡ [] → GivesValue s h x.id c.request (Some o.step) answer → StepsRight s h (stepped x.id o.step (seen_in t) (Some answer)) o.step (seen_in t) c
+ends-right {s} {h} {xs} {x} {o} {c} {new} {v} t answer same legs value = let e = ends-so x.id (phase_then t) v (sym t.acts) in
+    let clean : IsClean (Ending e.0 v) (c.steps ++ (o.step, seen_in t) ∷ []) =
+    subst (λ (p : Phase). IsClean p (c.steps ++ (o.step, seen_in t) ∷ [])) e.1 (clean-next s h x.id t.stands.phase o.step c.steps t.stands.acts (each t).2 t.stands.clean) in
+    right t (Some answer) (λ none. cc) (λ some. (by some clean, legs)) (same, same ∙ sym (stood-after t (Some answer) ∙ ap phase_refusal e.1), value) where
+      by : refusal_if (Some answer) ≢ None → (refusal_in (Some v) ≡ None) ⊎ All LeavesAll (c.steps ++ (o.step, seen_in t) ∷ []) → All LeavesAll (c.steps ++ (o.step, seen_in t) ∷ [])
       by some (inl none) = absurd (some (same ∙ none))
       by some (inr all) = all

@@ -1,25 +1,22 @@
-use Rattle.gt_core.proofs.Words.{sym, ◌∙◌, ap, Some, ◌≡◌, ℕ, List, refl, subst, None, Option, position, is_some, Open, with_call, given_by, State, kept_by, ◌<◌, ◌+◌, knowledge_of, setting_of, DomainsStand, Opens, same_Some, set, ◌∷◌, Opening}
-use Rattle.gt_core.proofs.{Beginning.serial-left, Beginning.begin-wants, Beginning.begin-nowhere, Beginning.begin-busy, Beginning.begin-answers, Beginning.begin-opened, Beginning.place-at, Beginning.began, Rows.has_id, Rows.on-err}
-use Rattle.std.proofs.Common.{◌^◌}
+use Rattle.gt_core.proofs.Words.{sym, ◌∙◌, ap, Some, ◌≡◌, ℕ, List, refl, subst, None, Option, position, is_some, Open, with_call, given_by, State, kept_by, ◌<◌, ◌+◌, knowledge_of, DomainsStand, Opens, same_Some, set, ◌∷◌, Opening, ◌^◌}
+use Rattle.gt_core.{proofs.Beginning.serial-left, proofs.Beginning.begin-wants, proofs.Beginning.begin-nowhere, proofs.Beginning.begin-busy, proofs.Beginning.begin-answers, proofs.Beginning.begin-opened, proofs.Beginning.place-at, proofs.Beginning.began, proofs.Rows.has_id, proofs.Rows.on-err, specs.Standing.setting_by}
 use Rattle.gt_core.proofs.machine.Machine.begin.Goals as goal
 
 pub returns-in_default-clause-stands : goal.returns-in_default-clause-stands
 returns-in_default-clause-stands g c =
-    let s = setting_of c.args.self.now.config (g.P.Allows.may c.args.self.now.rights) in
-    let xs = c.args.self.now.domains.items in
+    let s = setting_by g.P.Allows.may c.args.self.now in let xs = c.args.self.now.domains.items in
     let p : position (has_id c.args.dom.0) xs ≡ None = ap (λ (l : List State). position (has_id c.args.dom.0) l) (sym c.deref.ensures.value) ∙ sym c.find.ensures ∙ c.in_default.is in
     λ h st. (begin-nowhere s h xs c.args.dom p st, st)
 
 pub returns-then-is_some-clause-stands : goal.returns-then-is_some-clause-stands
 returns-then-is_some-clause-stands g c =
-    let s = setting_of c.args.self.now.config (g.P.Allows.may c.args.self.now.rights) in
-    let xs = c.args.self.now.domains.items in
+    let s = setting_by g.P.Allows.may c.args.self.now in let xs = c.args.self.now.domains.items in
     let p : position (has_id c.args.dom.0) xs ≡ Some c.in-Some.at = ap (λ (l : List State). position (has_id c.args.dom.0) l) (sym c.deref.ensures.value) ∙ sym c.find.ensures ∙ c.in-Some.is in
     λ h st. (begin-busy s h xs c.args.dom c.in-Some.at c.index.result.now p c.index.ensures (ap (λ (o : Option Open). is_some o) (sym c.underway.ensures) ∙ sym c.is_some.ensures ∙ c.if-is_some.true) st, st)
 
 pub returns-in-Done-clause-stands : goal.returns-in-Done-clause-stands
-returns-in-Done-clause-stands g c = let s = setting_of c.args.self.now.config (g.P.Allows.may c.args.self.now.rights) in
-    let xs = c.args.self.now.domains.items in
+returns-in-Done-clause-stands g c =
+    let s = setting_by g.P.Allows.may c.args.self.now in let xs = c.args.self.now.domains.items in
     let p : position (has_id c.args.dom.0) xs ≡ Some c.in-Some.at = ap (λ (l : List State). position (has_id c.args.dom.0) l) (sym c.deref.ensures.value) ∙ sym c.find.ensures ∙ c.in-Some.is in
     let x = c.index.result.now in let k = knowledge_of s.domains s.first_generation s.may x.own x.header x.mappings in
     let opens = subst (λ (o : Opening). Opens k c.args.dom c.args.request o) c.in-Done.is (c.open_at.ensures x (place-at xs c.args.dom.0 c.in-Some.at x p c.index.ensures)) in
@@ -28,8 +25,7 @@ returns-in-Done-clause-stands g c = let s = setting_of c.args.self.now.config (g
 
 pub returns-in_ok-begin-in-Open-clause-stands : goal.returns-in_ok-begin-in-Open-clause-stands
 returns-in_ok-begin-in-Open-clause-stands g c =
-    let s = setting_of c.args.self.now.config (g.P.Allows.may c.args.self.now.rights) in
-    let xs = c.args.self.now.domains.items in
+    let s = setting_by g.P.Allows.may c.args.self.now in let xs = c.args.self.now.domains.items in
     let p : position (has_id c.args.dom.0) xs ≡ Some c.in-Some.at = ap (λ (l : List State). position (has_id c.args.dom.0) l) (sym c.deref.ensures.value) ∙ sym c.find.ensures ∙ c.in-Some.is in
     let x = c.index.result.now in let k = knowledge_of s.domains s.first_generation s.may x.own x.header x.mappings in
     let opens = subst (λ (o : Opening). Opens k c.args.dom c.args.request o) c.in-Open.is (c.open_at.ensures x (place-at xs c.args.dom.0 c.in-Some.at x p c.index.ensures)) in
@@ -46,8 +42,7 @@ returns-in_ok-begin-in-Open-clause-stands g c =
 
 pub returns-in_err-begin-in-Open-clause-memory : goal.returns-in_err-begin-in-Open-clause-memory
 returns-in_err-begin-in-Open-clause-memory g c =
-    let s = setting_of c.args.self.now.config (g.P.Allows.may c.args.self.now.rights) in
-    let xs = c.args.self.now.domains.items in
+    let s = setting_by g.P.Allows.may c.args.self.now in let xs = c.args.self.now.domains.items in
     let p : position (has_id c.args.dom.0) xs ≡ Some c.in-Some.at = ap (λ (l : List State). position (has_id c.args.dom.0) l) (sym c.deref.ensures.value) ∙ sym c.find.ensures ∙ c.in-Some.is in
     let x = c.index.result.now in let k = knowledge_of s.domains s.first_generation s.may x.own x.header x.mappings in
     let opens = subst (λ (o : Opening). Opens k c.args.dom c.args.request o) c.in-Open.is (c.open_at.ensures x (place-at xs c.args.dom.0 c.in-Some.at x p c.index.ensures)) in
@@ -55,8 +50,8 @@ returns-in_err-begin-in-Open-clause-memory g c =
     (ap (λ (o : Option Open). is_some o) (sym c.underway.ensures) ∙ sym c.is_some.ensures ∙ c.if-is_some.false) opens st)
 
 pub begin-requires : goal.begin-requires
-begin-requires g c = let s = setting_of c.args.self.now.config (g.P.Allows.may c.args.self.now.rights) in
-    let xs = c.args.self.now.domains.items in
+begin-requires g c =
+    let s = setting_by g.P.Allows.may c.args.self.now in let xs = c.args.self.now.domains.items in
     let p : position (has_id c.args.dom.0) xs ≡ Some c.in-Some.at = ap (λ (l : List State). position (has_id c.args.dom.0) l) (sym c.deref.ensures.value) ∙ sym c.find.ensures ∙ c.in-Some.is in
     let x = c.index.result.now in let k = knowledge_of s.domains s.first_generation s.may x.own x.header x.mappings in
     let opens = subst (λ (o : Opening). Opens k c.args.dom c.args.request o) c.in-Open.is (c.open_at.ensures x (place-at xs c.args.dom.0 c.in-Some.at x p c.index.ensures)) in
