@@ -1,7 +1,7 @@
 -- The frames of a core: what a step of a call writes to them is by right, and leaves them as the history tells.
 use Rattle.gt_core.proofs.Words.{◌≡◌, ◌≤◌, ◌<◌, ◌+◌, ◌-◌, inl, inr, ℕ, refl, Bool, true, false, List, [], ◌∷◌, ◌++◌, replicate, length, take, drop, Option, Some, None, cond, sym, ap, ◌∙◌, arith, subst, reverse, eqb-true, eqb-false, eq-eqb, ne_eqb, lt-ltb, and_parts, and_from, false≢true, append-nil, map-append, length-append, length-drop, length-take-le, length-replicate, ◌==◌, ◌&&◌, nat_lt, nat_le, is_some, IsTrue, domain_of, DomId, Write, ForMap, ForCopy, DomainConfig, FRAME_SIZE, Entry, Page, Sub, Via, frame_of, permits, allows_direction, Handle, value_of, Held, Route, Direct, Through, End, Request, Asked, Store, Poke, Copy, Place, Seen, Step, ReadBytes, WriteBytes, CopyBytes, Makes, Call, Phase, CallerKnowledge, begun, frames_of, frames_in, is_dest_granted, dest_pair, opens, Rests, RestsOnRequest, RestsOnWays, IsReached, LeadsTo, pins_at, held_in, Patch, written, bytes_at, frame_counts, FrameSet, frame_at, has_range, all_zeros, AreKept, Open, Item, Answer, Begun, State, IsLoadOf, IsReadable, IsAdmitted, AccessedBy, History, Setting, patches_at, patches_by, contents_at, written_by, Writing, given_in, open_call, Underway, values, known_at, legs_at, IsInFrame, CopyIsJustified, grown, DomainsStand, FramesStand, Agrees, OpenAgrees, FitsGiven, numbered, begun_element, IsMapped, le-leb, leb-true, unwrap_or, leads_to, overlay, replay, zeros, FrameState, patch_of, patches, permits_writing, suffices, is_rightful, all_rightful, pool_number, frames_of_all, is_name, has_frame, admits, WritesTo, journal_in, name_of, ground_of, route_by, route_of, IsWritOf, and_right, FrameName, Ground, Writ, WriteRecord, BegunBusy, BegunNoDomain}
 use Rattle.gt_calls.specs.{declared.held.Route.TheVariants.Own, Path.place_of}
-use Rattle.gt_core.proofs.{Starting.get-replicate, Keeping.stepped, Keeping.same-number, Phases.call-is, Phases.none-of, Accessing.permits-as, Accessing.mapping-pin, Accessing.same-held, Accessing.read-justified, Accessing.copy-justified}
+use Rattle.gt_core.proofs.{Starting.get-replicate, Keeping.stepped, Keeping.same-number, Phases.call-is, Phases.none-of, Accessing.not-so, Accessing.permits-as, Accessing.mapping-pin, Accessing.same-held, Accessing.read-justified, Accessing.copy-justified}
 
 -- what a frame holds, and which frames there are
 
@@ -32,11 +32,7 @@ range-there s h fs at len fr a = and_from _ _ (frame-there s h fs (name_of at) f
 -- an entry that lets a mapping write lets any range of its frame be written
 map-writes : (e : Entry) (d : DomId) (frame off len : ℕ) → frame ≡ frame_of e → permits e d Write ForMap off len ≡ true → permits_writing e d frame off len ≡ true
 map-writes (Page dom ro f) d frame off len is a = and_from _ _ (eq-eqb f frame (sym is)) a
-map-writes (Sub dom ro f start size) d frame off len is a = absurd (false≢true (sym (never (dom.0 == d.0) (allows_direction ro Write)) ∙ a))
-  where
-    never : (b c : Bool) → (b && c && false && nat_le start off && nat_le (off + len) (start + size)) ≡ false
-    never true true = refl
-    never b c = refl
+map-writes (Sub dom ro f start size) d frame off len is a = absurd (false≢true (sym (not-so (dom.0 == d.0) (allows_direction ro Write) (nat_le start off) (nat_le (off + len) (start + size))) ∙ a))
 map-writes e d frame off len is a = absurd (false≢true a)
 
 -- an entry that permits a copy to write permits it to write its own frame
@@ -77,11 +73,11 @@ store-admitted s h xs fs x phase handle dom frame off len st fr a none mapped fi
     let one = (mapping-pin s h xs x.id handle m st mapped.found).4 in
     let held : value_of x.mappings handle ≡ Some m = ap (λ (f : Handle → Option Held). f handle) a.mappings.named ∙ mapped.found in
     let within : off + length x.given ≤ FRAME_SIZE = let e = fits.0 in let room = fits.1 in omega arith in
-    let below : frame < frames_of s.domains dom = subst (λ (n : ℕ). n < frames_of s.domains dom) (sym mapped.of_frame) (subst (λ (z : DomId). frame_of m.entry < frames_of s.domains z) (sym mapped.of_dom) one.framed) in
+    let below : frame < frames_of s.domains dom = subst (λ (n : ℕ). n < frames_of s.domains dom) (sym mapped.of_frame) (subst (λ (z : DomId). frame_of m.entry < frames_of s.domains z) (sym mapped.of_dom) one.lets.2) in
     admitted-by fs x (record { caller = x.id; request = Store handle off len; phase = phase }) (record { owner = dom; number = frame }) off (length x.given) (Direct m)
     (frame-there s h fs (record { owner = dom; number = frame }) fr below) within (ap route_by held)
     (map-writes m.entry x.id frame off (length x.given) mapped.of_frame
-    (permits-as m.entry x.id m.dir Write off (length x.given) (λ w. writable) one.permitted))
+    (permits-as m.entry x.id m.dir Write off (length x.given) (λ w. writable) one.lets.0))
 
 -- a poke writes to a frame of the caller's own
 poke-admitted : (s : Setting) (h : History) (fs : FrameSet) (x : State) (phase : Option Phase) (dom : DomId) (frame off len : ℕ) → FramesStand s h fs → begun (known_at s h x.id) x.id (Poke frame off len) ≡ None → dom ≡ x.id
