@@ -12,6 +12,10 @@ pub cond-same : {A : Type 0} (b : Bool) (x : A) → cond b x x ≡ x
 cond-same true x = refl
 cond-same false x = refl
 
+pub cond-apart : {A : Type 0} (a b : Bool) (x y z : A) → (a ≡ true → b ≡ true → ⊥) → cond a x (cond b y z) ≡ cond b y (cond a x z)
+cond-apart true true x y z h = absurd (h refl refl)
+cond-apart a b x y z h = refl
+
 -- the item changes no entry
 abbrev pub KeepsAll : Item → Type 0
 KeepsAll i = (r : ℕ) → change_at i.happened r ≡ None

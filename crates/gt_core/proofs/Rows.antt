@@ -1,7 +1,7 @@
 -- A change of one element of a list; the state of a domain among the states, and a change of it.
 use Rattle.gt_core.proofs.Words.{◌≡◌, ◌<◌, ◌≤◌, ℕ, zero, suc, refl, Bool, true, false, List, [], ◌∷◌, length, Option, Some, None, cond, ltb, sym, ap, ◌∙◌, arith, get_or, set, eqb-true, eq-eqb, true≢false, ltb-false, position-Some, slice_get_past, slice_get-get_or, Result, OnErr, position, slice_get, ◌==◌, position_or_len, State, find, cond_both, find_at, ◌+◌, not, option_map, changed_at, state_of, changed_in, eqb-suc-suc, eqb-suc-zero, eqb-zero-suc}
 use Rattle.std.specs.Prelude.{Ok, Err}
-use Rattle.gt_core.{specs.Standing.state_of, proofs.Others.cond-same}
+use Rattle.gt_core.{proofs.Others.cond-same, proofs.Others.cond-apart, proofs.Others.pulled}
 
 abbrev pub has_id : ℕ → State → Bool
 has_id d x = x.id.0 == d
@@ -29,10 +29,6 @@ found xs d i x h = state_of-find xs d ∙ find_at (has_id d) xs
 cond-twice : (b : Bool) (x y z : Option State) → cond b x (cond b y z) ≡ cond b x z
 cond-twice true x y z = refl
 cond-twice false x y z = refl
-
-cond-apart : (a b : Bool) (x y z : Option State) → ((a ≡ true) → (b ≡ true) → ⊥) → cond a x (cond b y z) ≡ cond b y (cond a x z)
-cond-apart true true x y z h = absurd (h refl refl)
-cond-apart a b x y z h = refl
 
 -- a new state of the first domain with a number
 pub state_of-set : (xs : List State) (i : ℕ) (old new : State) (q : ℕ)
@@ -111,22 +107,17 @@ length-changed_in (z ∷ zs) d f = cond_both (z.id.0 == d) (f z ∷ zs) (z ∷ c
 -- the first state with a number, after the change of the one with number d
 pub state-changed : (xs : List State) (d q : ℕ) (f : State → State) → ((x : State) → (f x).id ≡ x.id) → state_of (changed_in d f xs) q ≡ cond (d == q) (option_map f (state_of xs q)) (state_of xs q)
 state-changed [] d q f keeps = sym (cond-same (d == q) None)
-state-changed (z ∷ zs) d q f keeps = by (z.id.0 == d) (state-changed zs d q f keeps) refl where
-  same-d : z.id.0 ≡ d → (z.id.0 == q) ≡ (d == q)
-  same-d e = ap (λ n. n == q) e
+state-changed (z ∷ zs) d q f keeps = pulled (λ l. state_of l q) (z.id.0 == d) (f z ∷ zs) (z ∷ changed_in d f zs)
+    ∙ ap (λ (w : ℕ). cond (z.id.0 == d) (cond (w == q) (Some (f z)) o) (cond (z.id.0 == q) (Some z) (state_of (changed_in d f zs) q))) (ap (λ i. i.0) (keeps z))
+    ∙ ap (λ w. cond (z.id.0 == d) (cond (z.id.0 == q) (Some (f z)) o) (cond (z.id.0 == q) (Some z) w)) (state-changed zs d q f keeps)
+    ∙ by (z.id.0 == d) (z.id.0 == q) (d == q) refl refl refl
+  where
+    o : Option State
+    o = state_of zs q
 
-  at : (b : Bool) → cond b (Some (f z)) (state_of zs q) ≡ cond b (option_map f (cond b (Some z) (state_of zs q))) (cond b (Some z) (state_of zs q))
-  at true = refl
-  at false = refl
-
-  apart : (b c : Bool) → (b ≡ true → c ≡ true → ⊥) → cond b (Some z) (cond c (option_map f (state_of zs q)) (state_of zs q)) ≡ cond c (option_map f (cond b (Some z) (state_of zs q))) (cond b (Some z) (state_of zs q))
-  apart true true n = absurd (n refl refl)
-  apart b c n = refl
-
-  by : (b : Bool) → state_of (changed_in d f zs) q ≡ cond (d == q) (option_map f (state_of zs q)) (state_of zs q) → (z.id.0 == d) ≡ b
-      → state_of (cond b (f z ∷ zs) (z ∷ changed_in d f zs)) q ≡ cond (d == q) (option_map f (cond (z.id.0 == q) (Some z) (state_of zs q))) (cond (z.id.0 == q) (Some z) (state_of zs q))
-  by true rest e = ap (λ (w : ℕ). cond (w == q) (Some (f z)) (state_of zs q)) (ap (λ i. i.0) (keeps z))
-      ∙ at (z.id.0 == q)
-      ∙ ap (λ c. cond c (option_map f (cond (z.id.0 == q) (Some z) (state_of zs q))) (cond (z.id.0 == q) (Some z) (state_of zs q))) (same-d (eqb-true z.id.0 d e))
-  by false rest e = ap (cond (z.id.0 == q) (Some z)) rest
-      ∙ apart (z.id.0 == q) (d == q) (λ a c. true≢false (sym (eq-eqb z.id.0 d (eqb-true z.id.0 q a ∙ sym (eqb-true d q c))) ∙ e))
+    by : (a c b : Bool) → (z.id.0 == d) ≡ a → (z.id.0 == q) ≡ c → (d == q) ≡ b
+        → cond a (cond c (Some (f z)) o) (cond c (Some z) (cond b (option_map f o) o)) ≡ cond b (option_map f (cond c (Some z) o)) (cond c (Some z) o)
+    by true false true x y w = absurd (true≢false (sym (eq-eqb z.id.0 q (eqb-true z.id.0 d x ∙ eqb-true d q w)) ∙ y))
+    by true true false x y w = absurd (true≢false (sym (eq-eqb d q (sym (eqb-true z.id.0 d x) ∙ eqb-true z.id.0 q y)) ∙ w))
+    by false true true x y w = absurd (true≢false (sym (eq-eqb z.id.0 d (eqb-true z.id.0 q y ∙ sym (eqb-true d q w))) ∙ x))
+    by a c b x y w = refl
