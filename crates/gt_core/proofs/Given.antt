@@ -1,5 +1,7 @@
 -- The handles that domains were answered: each serial once, and each mapping under one of them.
-use Rattle.gt_core.proofs.Words.{◌≡◌, ◌≤◌, ◌<◌, ◌+◌, inl, inr, ℕ, refl, Bool, true, false, List, [], ◌∷◌, ◌++◌, Option, Some, None, cond, sym, ap, ◌∙◌, subst, arith, ◌==◌, ◌&&◌, eqb-true, eq-eqb, none-some, DomId, Denial, Handle, END_OF_SERIALS, Asked, Holder, ByMapping, ByLeg, Held, Seen, Taken, Step, LookHeader, PinStep, Unpin, StoreHeader, Makes, Verdict, asked, opens, CallerKnowledge, begun, Continuation, after_beginning, steps_of, IsMapping, Answer, Happened, Began, Stepped, Item, History, Setting, Underway, Pin, live, without, is_holder, same_handle, pinned_by, unpinned_by, open_call, underway_after, underway_with, maps_answered_at, one_if_mapped, known_at, values, IsRight, StepsRightIn, AnsweredBy, GivesValue, bare_handle, IsGiven, IsKnown, AsksKnown, HappensKnown, IsRun, cond_both, same_Some}
+use Rattle.gt_core.proofs.Words.{◌≡◌, ◌≤◌, ◌<◌, ◌+◌, inl, inr, ℕ, refl, Bool, true, false, List, [], ◌∷◌, Option, Some, None, cond, sym, ap, ◌∙◌, subst, arith, ◌==◌, ◌&&◌, eqb-true, eq-eqb, none-some, DomId, Denial, Handle, END_OF_SERIALS, Asked, Holder, ByMapping, ByLeg, Held, Seen, Taken, Step, LookHeader, PinStep, Unpin, StoreHeader, Makes, Verdict, asked, opens, CallerKnowledge, begun, Continuation, after_beginning, steps_of, IsMapping, Answer, Happened, Began, Stepped, Item, History, Setting, Underway, Pin, live, same_handle, pinned_by, unpinned_by, open_call, underway_after, underway_with, maps_answered_at, one_if_mapped, known_at, values, IsRight, StepsRightIn, AnsweredBy, GivesValue, bare_handle, IsGiven, IsKnown, AsksKnown, HappensKnown, IsRun, cond_both, same_Some, All-cons, All-nil, All}
+use Rattle.std.proofs.lemmas.List.Elements.{All-append, All-weaker}
+use Rattle.gt_core.proofs.{Others.all-without}
 use Rattle.gt_calls.specs.declared.request.Asked.TheVariants as requests
 use Rattle.gt_core.specs.declared.trace.Answer.TheVariants as answers
 
@@ -79,14 +81,11 @@ given-below s (i ∷ h) d handle run (inr g) = let b = given-below s h d handle 
     let le : maps_answered_at h d ≤ maps_answered_at (i ∷ h) d = maps-grow i h d in
     record { count = omega arith; end = b.end }
 
-mapped-same : (a b : Handle) (o : Option Answer) → o ≡ Some (answers.Mapped a) → o ≡ Some (answers.Mapped b) → a ≡ b
-mapped-same a b o e f = cc
-
 -- a serial is answered once
 given-once : (s : Setting) (h : History) (d : ℕ) (a b : Handle) → IsRun s h → IsGiven h d a → IsGiven h d b → a.serial ≡ b.serial → a ≡ b
 unfolding IsRun IsGiven
 given-once s [] d a b run f g e = absurd f
-given-once s (i ∷ h) d a b run (inl f) (inl g) e = mapped-same a b i.answer f.1 g.1
+given-once s (i ∷ h) d a b run (inl f) (inl g) e = cc
 given-once s (i ∷ h) d a b run (inl f) (inr g) e =
     let same : a.serial ≡ maps_answered_at h d = (fresh s h i a run.0 f.1).0 ∙ ap (maps_answered_at h) f.0 in
     let lt : b.serial < maps_answered_at h d = (given-below s h d b run.2 g).count in absurd (omega arith)
@@ -115,46 +114,31 @@ HeldGiven h d (ByLeg number) = Unit {0}
 
 -- each mapping is under a handle that its domain was answered
 abbrev pub PinsGiven : History → List Pin → Type 0
-PinsGiven h [] = Unit {0}
-PinsGiven h (p ∷ ps) = HeldGiven h p.actor p.holder × PinsGiven h ps
+PinsGiven h ps = All (λ p. HeldGiven h p.actor p.holder) ps
 
 held-later : (i : Item) (h : History) (d : ℕ) (holder : Holder) → HeldGiven h d holder → HeldGiven (i ∷ h) d holder
 unfolding IsGiven
 held-later i h d (ByMapping handle) g = inr g
 held-later i h d (ByLeg number) g = tt
 
-pins-later : (i : Item) (h : History) (ps : List Pin) → PinsGiven h ps → PinsGiven (i ∷ h) ps
-pins-later i h [] g = tt
-pins-later i h (p ∷ ps) g = (held-later i h p.actor p.holder g.0, pins-later i h ps g.1)
-
-pins-append : (h : History) (ps qs : List Pin) → PinsGiven h ps → PinsGiven h qs → PinsGiven h (ps ++ qs)
-pins-append h [] qs f g = g
-pins-append h (p ∷ ps) qs f g = (f.0, pins-append h ps qs f.1 g)
-
-pins-without : (h : History) (d : ℕ) (holder : Holder) (ps : List Pin) → PinsGiven h ps → PinsGiven h (without d holder ps)
-unfolding without
-pins-without h d holder [] g = tt
-pins-without h d holder (p ∷ ps) g =
-    cond_both ((p.actor == d) && is_holder p.holder holder) ps (p ∷ without d holder ps) (PinsGiven h) (λ a. g.1) (λ a. (g.0, pins-without h d holder ps g.1))
-
 unpinned-given : (h : History) (d : DomId) (x : Happened) (ps : List Pin) → PinsGiven h ps → PinsGiven h (unpinned_by d x ps)
-unpinned-given h d (Stepped (Unpin p holder) seen) ps g = pins-without h d.0 holder ps g
+unpinned-given h d (Stepped (Unpin p holder) seen) ps g = all-without (λ q. HeldGiven h q.actor q.holder) d.0 holder ps g
 unpinned-given h d x ps g = g
 
 pinned-given : (i : Item) (h : History) (ps : List Pin) → PinsGiven (i ∷ h) (pinned_by i.actor i.happened i.answer h ps)
 unfolding IsGiven
 pinned-given i h ps = by i.happened i.answer refl where
   by : (x : Happened) (a : Option Answer) → i.answer ≡ a → PinsGiven (i ∷ h) (pinned_by i.actor x a h ps)
-  by (Stepped (PinStep p) Taken) (Some (answers.Mapped handle)) e = (inl (refl, e), tt)
-  by (Stepped (PinStep p) Taken) a e = (tt, tt)
-  by x a e = tt
+  by (Stepped (PinStep p) Taken) (Some (answers.Mapped handle)) e = All-cons (λ q. HeldGiven (i ∷ h) q.actor q.holder) _ [] (inl (refl, e)) (All-nil (λ q. HeldGiven (i ∷ h) q.actor q.holder))
+  by (Stepped (PinStep p) Taken) a e = All-cons (λ q. HeldGiven (i ∷ h) q.actor q.holder) _ [] tt (All-nil (λ q. HeldGiven (i ∷ h) q.actor q.holder))
+  by x a e = All-nil (λ q. HeldGiven (i ∷ h) q.actor q.holder)
 
 pub pins-given : (h : History) → PinsGiven h (live h)
 unfolding live
-pins-given [] = tt
-pins-given (i ∷ h) =
-    pins-append (i ∷ h) (unpinned_by i.actor i.happened (live h)) (pinned_by i.actor i.happened i.answer h (live h))
-    (pins-later i h (unpinned_by i.actor i.happened (live h)) (unpinned-given h i.actor i.happened (live h) (pins-given h)))
+pins-given [] = All-nil (λ q. HeldGiven [] q.actor q.holder)
+pins-given (i ∷ h) = let P : Pin → Type 0 = λ q. HeldGiven (i ∷ h) q.actor q.holder in
+    All-append P (unpinned_by i.actor i.happened (live h)) (pinned_by i.actor i.happened i.answer h (live h))
+    (All-weaker (λ q. HeldGiven h q.actor q.holder) P (λ q g. held-later i h q.actor q.holder g) _ (unpinned-given h i.actor i.happened (live h) (pins-given h)))
     (pinned-given i h (live h))
 
 -- what open calls ask

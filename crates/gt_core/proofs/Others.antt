@@ -1,5 +1,5 @@
 -- What an item leaves of the entries, words, pins and mappings, and of the other domains.
-use Rattle.gt_core.proofs.Words.{◌≡◌, ◌+◌, ℕ, refl, Bool, true, false, List, [], ◌∷◌, ◌++◌, Option, None, cond, ap, ◌∙◌, arith, ◌==◌, fun_ext, DomId, Entry, Header, Change, Item, History, Setting, entry_at, entry_after, raises_at, raise_after, generation_at, live, Pin, pinned_by, unpinned_by, change_at, change_of, maps_answered_at, one_if_mapped, known_at, mappings_at, gather, by_mapping, legs_at, by_leg, header_stored, header_or, table_at, append-nil, Half, or_else, stored_at, body_at, sym, ◌&&◌, Holder, PinStep, Unpin, Taken, Held, Stepped, Answer, without, is_holder, eqb-true, and_parts, cond_both, Some, Handle, ByMapping, ByLeg, Happened, append_assoc}
+use Rattle.gt_core.proofs.Words.{◌≡◌, ◌+◌, ℕ, refl, Bool, true, false, List, [], ◌∷◌, ◌++◌, Option, None, cond, ap, ◌∙◌, arith, ◌==◌, fun_ext, DomId, Entry, Header, Change, Item, History, Setting, entry_at, entry_after, raises_at, raise_after, generation_at, live, Pin, pinned_by, unpinned_by, change_at, change_of, maps_answered_at, one_if_mapped, known_at, mappings_at, gather, by_mapping, legs_at, by_leg, header_stored, header_or, table_at, append-nil, Half, or_else, stored_at, body_at, sym, ◌&&◌, Holder, PinStep, Unpin, Taken, Held, Stepped, Answer, without, is_holder, eqb-true, and_parts, cond_both, Some, Handle, ByMapping, ByLeg, Happened, append_assoc, All-cons, All-head, All-tail, All}
 
 -- the item changes no entry, pin or mapping
 pub record KeepsKnown (i : Item) : Type 0 where
@@ -104,6 +104,13 @@ without-kept {A} give d actor holder (p ∷ ps) none = let whole = cond (p.actor
     cond_both ((p.actor == actor) && is_holder p.holder holder) ps (p ∷ without actor holder ps) (λ l. gather give d l ≡ whole)
     (λ is. let a = and_parts (p.actor == actor) (is_holder p.holder holder) is in sym (ap (λ (l : List A). l ++ gather give d ps) (none p (eqb-true p.actor actor a.0) a.1)))
     (λ is. ap (λ (l : List A). cond (p.actor == d) (give p.holder p.held) [] ++ l) (without-kept give d actor holder ps none))
+
+-- what held of all pins holds of those that are left
+pub all-without : (P : Pin → Type 0) (d : ℕ) (holder : Holder) (ps : List Pin) → All P ps → All P (without d holder ps)
+unfolding without
+all-without P d holder [] a = a
+all-without P d holder (p ∷ ps) a = cond_both ((p.actor == d) && is_holder p.holder holder) ps (p ∷ without d holder ps) (All P) (λ e. All-tail P p ps a)
+    (λ e. All-cons P p (without d holder ps) (All-head P p ps a) (all-without P d holder ps (All-tail P p ps a)))
 
 unpinned-apart : {A : Type 0} (give : Holder → Held → List A) (d : ℕ) (actor : DomId) (happened : Happened) (ps : List Pin) → (actor.0 == d) ≡ false → gather give d (unpinned_by actor happened ps) ≡ gather give d ps
 unpinned-apart {A} give d actor (Stepped (Unpin p holder) seen) ps apart =

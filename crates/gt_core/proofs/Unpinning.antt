@@ -1,6 +1,6 @@
 -- An unpin keeps what a core stands for.
-use Rattle.gt_core.proofs.Words.{◌≡◌, ◌+◌, ℕ, refl, Bool, true, false, List, [], ◌∷◌, ◌++◌, length, Option, Some, None, cond, sym, ap, ◌∙◌, arith, subst, ◌==◌, ◌&&◌, All, count_by, eq-eqb, false≢true, none-some, same_Some, append-nil, sum_by-cons, All-tail, DomId, Dir, Read, Write, Half, FirstHalf, SecondHalf, Handle, HandleMap, Held, Holder, ByMapping, ByLeg, Unpin, Seen, PinCounts, Open, Unpinned, Item, Answer, State, state_of, changed_in, with_slot, without_mapping, slot_after, taken, History, Setting, Pin, live, body_at, mappings_at, maps_answered_at, legs_at, open_call, is_pin_on, without, is_holder, same_handle, same_dir, gather, by_mapping, by_leg, mapping_of, one_if_mapped, IsLawful, SlotAgrees, Agrees, DomainsStand, CallAgrees, GivenAgrees, MappingsAgree, numbered, cond_both, All-cons, All-head, ne_eqb}
-use Rattle.gt_core.proofs.{Others.answered-stays, Others.pulled, Others.cond-same, Others.without-kept, Others.IsKeyed, Others.listed, Others.mapping-keyed, Others.leg-keyed, Keeping.stepped, Keeping.KeepsEntries, Keeping.same-body, Keeping.after_change, Keeping.Becomes, Keeping.becomes-changed, Keeping.slots-stand, Keeping.keeps-stands, Mappings.less, Mappings.less_of, Mappings.mappings-taken, Mappings.mappings-same, Rows.state-changed, Pinning.pins_at, Pinning.pins-fit, Pinning.pins-none}
+use Rattle.gt_core.proofs.Words.{◌≡◌, ◌+◌, ℕ, refl, Bool, true, false, List, [], ◌∷◌, ◌++◌, length, Option, Some, None, cond, sym, ap, ◌∙◌, arith, subst, ◌==◌, ◌&&◌, All, count_by, eq-eqb, false≢true, none-some, same_Some, append-nil, sum_by-cons, DomId, Dir, Read, Write, Half, FirstHalf, SecondHalf, Handle, HandleMap, Held, Holder, ByMapping, ByLeg, Unpin, Seen, PinCounts, Open, Unpinned, Item, Answer, State, state_of, changed_in, with_slot, without_mapping, slot_after, taken, History, Setting, Pin, live, body_at, mappings_at, maps_answered_at, legs_at, open_call, is_pin_on, without, is_holder, same_handle, same_dir, gather, by_mapping, by_leg, mapping_of, one_if_mapped, IsLawful, SlotAgrees, Agrees, DomainsStand, CallAgrees, GivenAgrees, MappingsAgree, numbered, ne_eqb}
+use Rattle.gt_core.proofs.{Others.answered-stays, Others.pulled, Others.cond-same, Others.without-kept, Others.IsKeyed, Others.listed, Others.mapping-keyed, Others.leg-keyed, Keeping.stepped, Keeping.KeepsEntries, Keeping.same-body, Keeping.after_change, Keeping.Becomes, Keeping.becomes-changed, Keeping.slots-stand, Keeping.keeps-stands, Mappings.less, Mappings.less_of, Mappings.mappings-taken, Mappings.mappings-same, Rows.state-changed, Pinning.pins_at, Pinning.pins-fit, Pinning.pins-none, Others.all-without}
 
 -- what an unpin takes from the live pins
 
@@ -56,12 +56,6 @@ without-one {K} give test holder d (p ∷ ps) t = let was = without-one give tes
       → one_of test (cond b (listed o p.held) [] ++ gather give d ps) ≡ Some m → count u r k (p ∷ ps) ≡ cond (hits m u r k) 1 0 + count u r k (cond (b && passes test o) ps (p ∷ rest))
   lost m u r k was true (Some key) e = gone m u r k was (test key) e
   lost m u r k was b o e = gone m u r k was false e
-
-all-without : (P : Pin → Type 0) (d : ℕ) (holder : Holder) (ps : List Pin) → All P ps → All P (without d holder ps)
-unfolding without
-all-without P d holder [] a = a
-all-without P d holder (p ∷ ps) a = cond_both ((p.actor == d) && is_holder p.holder holder) ps (p ∷ without d holder ps) (All P) (λ e. All-tail P p ps a)
-    (λ e. All-cons P p (without d holder ps) (All-head P p ps a) (all-without P d holder ps (All-tail P p ps a)))
 
 -- the tests that there are
 
