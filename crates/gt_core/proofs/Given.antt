@@ -1,5 +1,5 @@
 -- The handles that domains were answered: each serial once, and each mapping under one of them.
-use Rattle.gt_core.proofs.Words.{◌≡◌, ◌≤◌, ◌<◌, ◌+◌, inl, inr, ℕ, refl, Bool, true, false, List, [], ◌∷◌, Option, Some, None, cond, sym, ap, ◌∙◌, subst, arith, ◌==◌, ◌&&◌, eqb-true, eq-eqb, none-some, DomId, Denial, Handle, END_OF_SERIALS, Asked, Holder, ByMapping, ByLeg, Held, Seen, Taken, Step, LookHeader, PinStep, Unpin, StoreHeader, Makes, Verdict, asked, opens, CallerKnowledge, begun, Continuation, after_beginning, steps_of, IsMapping, Answer, Happened, Began, Stepped, Item, History, Setting, Underway, Pin, live, same_handle, pinned_by, unpinned_by, open_call, underway_after, underway_with, maps_answered_at, one_if_mapped, known_at, values, IsRight, StepsRightIn, AnsweredBy, GivesValue, bare_handle, IsGiven, IsKnown, AsksKnown, HappensKnown, IsRun, cond_both, same_Some, All-cons, All-nil, All}
+use Rattle.gt_core.proofs.Words.{◌≡◌, ◌≤◌, ◌<◌, ◌+◌, inl, inr, ℕ, refl, Bool, true, false, List, [], ◌∷◌, Option, Some, None, cond, sym, ap, ◌∙◌, subst, arith, ◌==◌, ◌&&◌, eqb-true, eq-eqb, DomId, Denial, Handle, END_OF_SERIALS, Asked, Holder, ByMapping, ByLeg, Held, Seen, Taken, Step, PinStep, Unpin, Makes, Verdict, asked, opens, CallerKnowledge, begun, Continuation, after_beginning, steps_of, IsMapping, Answer, Happened, Began, Stepped, Item, History, Setting, Underway, Pin, live, same_handle, pinned_by, unpinned_by, open_call, underway_after, underway_with, maps_answered_at, one_if_mapped, known_at, values, IsRight, StepsRightIn, AnsweredBy, bare_handle, IsGiven, IsKnown, AsksKnown, HappensKnown, IsRun, cond_both, All-cons, All-nil, All}
 use Rattle.std.proofs.lemmas.List.Elements.{All-append, All-weaker}
 use Rattle.gt_core.proofs.{Others.all-without}
 use Rattle.gt_calls.specs.declared.request.Asked.TheVariants as requests
@@ -12,24 +12,12 @@ abbrev pub IsNext : History → DomId → Asked → Option Step → Handle → T
 IsNext before d r None handle = ⊥
 IsNext before d r (Some step) handle = IsMapping (Some r) × (handle.serial ≡ maps_answered_at before d.0)
 
-given-next : (s : Setting) (h : History) (d : DomId) (r : Asked) (step : Option Step) (handle : Handle) → GivesValue s h d r step (answers.Mapped handle) → IsNext h d r step handle
-given-next s h d (requests.Map dom gref flags) (Some (PinStep p)) handle v = (tt, v)
-given-next s h d (requests.SetupTable frames) None handle v = cc
-given-next s h d (requests.SetupTable frames) (Some (StoreHeader version stored)) handle v = absurd (cc)
-given-next s h d (requests.QuerySize dom) (Some (LookHeader t)) handle v = absurd (cc)
-given-next s h d (requests.GetVersion dom) (Some (LookHeader t)) handle v = absurd (cc)
-given-next s h d r step handle v = absurd (first_of (assumption, cc))
-
 answered-next : (s : Setting) (h : History) (d : DomId) (r : Asked) (step : Option Step) (giving : Bool) (v : Option Verdict) (a : Option Answer) (against : Option Denial) (handle : Handle)
     → AnsweredBy s h d r step giving v a against → a ≡ Some (answers.Mapped handle) → IsNext h d r step handle
-answered-next s h d r step giving (Some v) (Some a) against handle is e = given-next s h d r step handle (subst (GivesValue s h d r step) (same_Some _ _ e) is.2)
-answered-next s h d r step giving v None against handle is e = absurd (none-some _ e)
-answered-next s h d r step giving v a against handle is e = absurd is
+answered-next s h d r step giving v a against handle is e = grind arith
 
 none-begun : (v : Option Verdict) (c : Continuation) (vs : List Seen) (step : Step) → after_beginning v c vs ≡ Some (Makes step) → v ≡ None
-none-begun None c vs step e = refl
-none-begun (Some v) c [] step e = cc
-none-begun (Some v) c (x ∷ vs) step e = absurd (none-some _ e)
+none-begun v c vs step e = grind arith
 
 few-answered : (k : CallerKnowledge) (d : DomId) (r : Asked) → begun k d r ≡ None → IsMapping (Some r) → k.maps_answered < END_OF_SERIALS
 few-answered k d (requests.Map dom gref flags) e m = (opens k d (requests.Map dom gref flags) e).serials_left

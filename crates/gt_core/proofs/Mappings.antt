@@ -1,12 +1,10 @@
 -- The handles of a domain, and its mappings as the history has them.
-use Rattle.gt_core.proofs.Words.{◌≡◌, ◌+◌, ℕ, zero, suc, refl, Bool, true, false, List, [], ◌∷◌, ◌++◌, length, Option, Some, None, cond, sym, ap, ◌∙◌, arith, subst, ◌==◌, ◌&&◌, fun_ext, eqb-true, eq-eqb, and_parts, and_from, true≢false, none-some, length-append, sum_by-cons, Handle, HandleMap, value_of, count_of, Held, mapping_of, same_handle, Adds, taken, MappingsAgree, slice_index_or, slice_set, under, AreApart, cond_both, Slot, eqb-suc-zero, eqb-zero-suc, eqb-suc-suc}
+use Rattle.gt_core.proofs.Words.{◌≡◌, ◌+◌, ℕ, zero, suc, refl, Bool, true, false, List, [], ◌∷◌, ◌++◌, length, Option, Some, None, cond, sym, ap, ◌∙◌, arith, subst, ◌==◌, ◌&&◌, fun_ext, eqb-true, eq-eqb, and_from, true≢false, none-some, length-append, sum_by-cons, Handle, HandleMap, value_of, count_of, Held, mapping_of, same_handle, Adds, taken, MappingsAgree, slice_index_or, slice_set, under, AreApart, cond_both, Slot}
 use Rattle.std.{proofs.Common.is_some, proofs.Common.count_by, specs.Cmp.both_ways}
 use Rattle.gt_core.proofs.{Others.cond-same, Others.cond-apart, Others.pulled}
 
 pub same-handle : (a b : Handle) → same_handle a b ≡ true → a ≡ b
-same-handle a b e = let p = and_parts (a.serial == b.serial) (a.key == b.key) e in
-    ap (λ (n : ℕ). record { serial = n; key = a.key }) (eqb-true a.serial b.serial p.0)
-    ∙ ap (λ (n : ℕ). record { serial = b.serial; key = n }) (eqb-true a.key b.key p.1)
+same-handle a b e = grind arith
 
 handle-back : (a b : Handle) → same_handle a b ≡ true → same_handle b a ≡ true
 handle-back a b e = subst (λ (x : Handle). same_handle x a ≡ true) (same-handle a b e)
@@ -90,19 +88,14 @@ apart-less (x ∷ ms) handle a = cond_both (same_handle x.0 handle) ms (x ∷ le
 -- the slots of the handles, and one less
 
 set-none : (slots : List (Option (Slot Held))) (key at : ℕ) → slice_index_or (slice_set slots key None) at None ≡ cond (at == key) None (slice_index_or slots at None)
-set-none [] key at = sym (cond-same (at == key) None)
+set-none [] key at = grind arith
 set-none (x ∷ xs) zero zero = refl
-set-none (x ∷ xs) zero (suc at) = sym (ap (λ (b : Bool). cond b None (slice_index_or xs at None)) (eqb-suc-zero at))
-set-none (x ∷ xs) (suc key) zero = sym (ap (λ (b : Bool). cond b None x) (eqb-zero-suc key))
-set-none (x ∷ xs) (suc key) (suc at) = set-none xs key at ∙ sym (ap (λ (b : Bool). cond b None (slice_index_or xs at None)) (eqb-suc-suc at key))
+set-none (x ∷ xs) zero (suc at) = grind arith
+set-none (x ∷ xs) (suc key) zero = grind arith
+set-none (x ∷ xs) (suc key) (suc at) = grind (arith, set-none xs key at)
 
 under-other : (o : Option (Slot Held)) (other serial : ℕ) (m : Held) → (other == serial) ≡ false → under serial o ≡ Some m → under other o ≡ None
-under-other None other serial m apart e = refl
-under-other (Some slot) other serial m apart e = by (slot.serial == serial) (slot.serial == other) refl refl e where
-  by : (b c : Bool) → (slot.serial == serial) ≡ b → (slot.serial == other) ≡ c → cond b (Some slot.value) None ≡ Some m → cond c (Some slot.value) None ≡ None
-  by true true is at f = absurd (true≢false (sym (eq-eqb other serial (sym (eqb-true slot.serial other at) ∙ eqb-true slot.serial serial is)) ∙ apart))
-  by true false is at f = refl
-  by false c is at f = absurd (none-some m f)
+under-other o other serial m apart e = grind arith
 
 taken-of : (kept : HandleMap Held) (handle other : Handle) (m : Held) → value_of kept handle ≡ Some m → value_of (taken handle kept) other ≡ cond (same_handle other handle) None (value_of kept other)
 taken-of kept handle other m has =

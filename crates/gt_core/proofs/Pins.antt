@@ -1,5 +1,5 @@
 -- The live pins and the mappings are the same without keys, where each handle that is named is told by its serial.
-use Rattle.gt_core.proofs.Words.{◌≡◌, ◌+◌, ℕ, refl, Bool, true, false, List, [], ◌∷◌, ◌++◌, length, Option, Some, None, cond, sym, ap, ◌∙◌, subst, ◌==◌, ◌&&◌, count_by, is_some, option_map, eqb-true, sum_by-cons, fun_ext, DomId, Dir, Read, Write, Entry, Handle, Holder, ByMapping, ByLeg, Held, Seen, Taken, PinStep, Unpin, Answer, Mapped, Happened, Stepped, History, Setting, Pin, live, without, is_holder, same_handle, holder_after, gather, by_leg, by_mapping, pinned_by, unpinned_by, is_pin_on, reads_at, writes_at, mappings_at, mapping_of, entry_at, generation_at, word_at, known_at, domain_of, shown_at, subject_at, place_of, bare_handle, bare_happened, told, IsGiven, IsKnown, IsRun, AreAlike, map, map-append, length-map, slice_index_or, All-head, All-tail, All}
+use Rattle.gt_core.proofs.Words.{◌≡◌, ◌+◌, ℕ, refl, Bool, true, false, List, [], ◌∷◌, ◌++◌, length, Option, Some, None, cond, sym, ap, ◌∙◌, subst, ◌==◌, ◌&&◌, count_by, is_some, option_map, eqb-true, sum_by-cons, fun_ext, DomId, Dir, Read, Write, Entry, Handle, Holder, ByMapping, ByLeg, Held, Seen, Taken, PinStep, Unpin, Answer, Mapped, Happened, Stepped, History, Setting, Pin, live, without, is_holder, same_handle, holder_after, gather, by_leg, by_mapping, pinned_by, unpinned_by, is_pin_on, reads_at, writes_at, mappings_at, mapping_of, entry_at, generation_at, word_at, known_at, domain_of, shown_at, subject_at, place_of, bare_handle, bare_happened, told, IsGiven, IsKnown, IsRun, AreAlike, map, map-append, length-map, slice_index_or, All-head, All-tail, All, arith}
 use Rattle.std.proofs.lemmas.List.Elements.{All-weaker}
 use Rattle.gt_core.proofs.{Bare.bare-same, Bare.answer_from, Bare.bare, Bare.entry-bare, Bare.raises-bare, Bare.table-bare, Bare.maps-bare, Given.HeldGiven, Given.PinsGiven, Given.pins-given, Given.known-tells, Given.unpin-known}
 
@@ -60,12 +60,7 @@ unpinned-bare s h d x ps run k g = refl
 legs-bare : (d : ℕ) (ps : List Pin) → gather by_leg d (bare_pins ps) ≡ gather by_leg d ps
 unfolding gather
 legs-bare d [] = refl
-legs-bare d (p ∷ ps) =
-    ap (λ (l : List (ℕ × Held)). cond (p.actor == d) l [] ++ gather by_leg d (bare_pins ps)) (by p.holder)
-    ∙ ap (λ (l : List (ℕ × Held)). cond (p.actor == d) (by_leg p.holder p.held) [] ++ l) (legs-bare d ps) where
-      by : (x : Holder) → by_leg (bare_holder x) p.held ≡ by_leg x p.held
-      by (ByMapping b) = refl
-      by (ByLeg m) = refl
+legs-bare d (p ∷ ps) = grind (arith, legs-bare d ps)
 
 holder-bare : (a : Option Answer) (n : ℕ) → holder_after (option_map answer_from (option_map told a)) n ≡ bare_holder (holder_after a n)
 holder-bare (Some (Mapped handle)) n = refl
@@ -116,11 +111,7 @@ bare_mappings ms = map (λ (m : Handle × Held). (bare_handle m.0, m.1)) ms
 gather-bare : (d : ℕ) (ps : List Pin) → gather by_mapping d (bare_pins ps) ≡ bare_mappings (gather by_mapping d ps)
 unfolding gather
 gather-bare d [] = refl
-gather-bare d (p ∷ ps) = by (p.actor == d) p.holder (gather-bare d ps) where
-  by : (b : Bool) (x : Holder) → gather by_mapping d (bare_pins ps) ≡ bare_mappings (gather by_mapping d ps)
-      → cond b (by_mapping (bare_holder x) p.held) [] ++ gather by_mapping d (bare_pins ps) ≡ bare_mappings (cond b (by_mapping x p.held) [] ++ gather by_mapping d ps)
-  by true (ByMapping a) rest = ap (λ (l : List (Handle × Held)). (bare_handle a, p.held) ∷ l) rest
-  by b x rest = rest
+gather-bare d (p ∷ ps) = grind (arith, gather-bare d ps)
 
 pub mappings-bare : (s : Setting) (h : History) (d : ℕ) → IsRun s h → mappings_at (bare h) d ≡ bare_mappings (mappings_at h d)
 mappings-bare s h d run = ap (λ (ps : List Pin). gather by_mapping d ps) (live-bare s h run) ∙ gather-bare d (live h)

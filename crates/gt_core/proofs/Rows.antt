@@ -1,7 +1,7 @@
 -- A change of one element of a list; the state of a domain among the states, and a change of it.
-use Rattle.gt_core.proofs.Words.{◌≡◌, ◌<◌, ◌≤◌, ℕ, zero, suc, refl, Bool, true, false, List, [], ◌∷◌, length, Option, Some, None, cond, ltb, sym, ap, ◌∙◌, arith, get_or, set, eqb-true, eq-eqb, true≢false, ltb-false, position-Some, slice_get_past, slice_get-get_or, Result, OnErr, position, slice_get, ◌==◌, position_or_len, State, find, cond_both, find_at, ◌+◌, not, option_map, changed_at, state_of, changed_in, eqb-suc-suc, eqb-suc-zero, eqb-zero-suc}
+use Rattle.gt_core.proofs.Words.{◌≡◌, ◌<◌, ◌≤◌, ℕ, zero, suc, refl, Bool, true, false, List, [], ◌∷◌, length, Option, Some, None, cond, ltb, sym, ap, ◌∙◌, arith, get_or, set, eqb-true, eq-eqb, true≢false, ltb-false, position-Some, slice_get_past, slice_get-get_or, Result, OnErr, position, slice_get, ◌==◌, position_or_len, State, find, cond_both, find_at, ◌+◌, not, option_map, changed_at, state_of, changed_in}
 use Rattle.std.specs.Prelude.{Ok, Err}
-use Rattle.gt_core.{proofs.Others.cond-same, proofs.Others.cond-apart, proofs.Others.pulled}
+use Rattle.gt_core.{proofs.Others.cond-apart}
 
 abbrev pub has_id : ℕ → State → Bool
 has_id d x = x.id.0 == d
@@ -51,15 +51,15 @@ on-err (Err e) P p = p
 
 -- a write of the changed element
 pub set-changed : {A : Type 0} (xs : List A) (r : ℕ) (f : A → A) (y x : A) → r < length xs → x ≡ get_or xs r x → y ≡ f x → set xs r y ≡ changed_at r f xs
-set-changed [] r f y x within e s = absurd (omega arith)
-set-changed (z ∷ zs) zero f y x within e s = ap (λ v. v ∷ zs) (s ∙ ap f e)
-set-changed (z ∷ zs) (suc r) f y x within e s = ap (λ l. z ∷ l) (set-changed zs r f y x (omega arith) e s)
+set-changed [] r f y x within e s = grind arith
+set-changed (z ∷ zs) zero f y x within e s = grind arith
+set-changed (z ∷ zs) (suc r) f y x within e s = grind (arith, set-changed zs r f y x (omega arith) e s)
 
 -- past the end nothing changes
 pub changed-past : {A : Type 0} (xs : List A) (r : ℕ) (f : A → A) → length xs ≤ r → changed_at r f xs ≡ xs
 changed-past [] r f past = refl
-changed-past (z ∷ zs) zero f past = absurd (omega arith)
-changed-past (z ∷ zs) (suc r) f past = ap (λ l. z ∷ l) (changed-past zs r f (omega arith))
+changed-past (z ∷ zs) zero f past = grind arith
+changed-past (z ∷ zs) (suc r) f past = grind (arith, changed-past zs r f (omega arith))
 
 pub length-changed : {A : Type 0} (xs : List A) (r : ℕ) (f : A → A) → length (changed_at r f xs) ≡ length xs
 length-changed (z ∷ zs) (suc r) f = ap suc (length-changed zs r f)
@@ -67,11 +67,11 @@ length-changed xs r f = refl
 
 -- what stands at a place after the change
 pub get-changed : {A : Type 0} (xs : List A) (r q : ℕ) (f : A → A) → slice_get (changed_at r f xs) q ≡ cond (r == q) (option_map f (slice_get xs q)) (slice_get xs q)
-get-changed [] r q f = sym (cond-same (r == q) None)
+get-changed [] r q f = grind arith
 get-changed (z ∷ zs) zero zero f = refl
-get-changed (z ∷ zs) zero (suc q) f = sym (ap (λ b. cond b (option_map f (slice_get zs q)) (slice_get zs q)) (eqb-zero-suc q))
-get-changed (z ∷ zs) (suc r) zero f = sym (ap (λ b. cond b (Some (f z)) (Some z)) (eqb-suc-zero r))
-get-changed (z ∷ zs) (suc r) (suc q) f = get-changed zs r q f ∙ sym (ap (λ b. cond b (option_map f (slice_get zs q)) (slice_get zs q)) (eqb-suc-suc r q))
+get-changed (z ∷ zs) zero (suc q) f = grind arith
+get-changed (z ∷ zs) (suc r) zero f = grind arith
+get-changed (z ∷ zs) (suc r) (suc q) f = grind (arith, get-changed zs r q f)
 
 -- states
 
@@ -106,18 +106,5 @@ length-changed_in (z ∷ zs) d f = cond_both (z.id.0 == d) (f z ∷ zs) (z ∷ c
 
 -- the first state with a number, after the change of the one with number d
 pub state-changed : (xs : List State) (d q : ℕ) (f : State → State) → ((x : State) → (f x).id ≡ x.id) → state_of (changed_in d f xs) q ≡ cond (d == q) (option_map f (state_of xs q)) (state_of xs q)
-state-changed [] d q f keeps = sym (cond-same (d == q) None)
-state-changed (z ∷ zs) d q f keeps = pulled (λ l. state_of l q) (z.id.0 == d) (f z ∷ zs) (z ∷ changed_in d f zs)
-    ∙ ap (λ (w : ℕ). cond (z.id.0 == d) (cond (w == q) (Some (f z)) o) (cond (z.id.0 == q) (Some z) (state_of (changed_in d f zs) q))) (ap (λ i. i.0) (keeps z))
-    ∙ ap (λ w. cond (z.id.0 == d) (cond (z.id.0 == q) (Some (f z)) o) (cond (z.id.0 == q) (Some z) w)) (state-changed zs d q f keeps)
-    ∙ by (z.id.0 == d) (z.id.0 == q) (d == q) refl refl refl
-  where
-    o : Option State
-    o = state_of zs q
-
-    by : (a c b : Bool) → (z.id.0 == d) ≡ a → (z.id.0 == q) ≡ c → (d == q) ≡ b
-        → cond a (cond c (Some (f z)) o) (cond c (Some z) (cond b (option_map f o) o)) ≡ cond b (option_map f (cond c (Some z) o)) (cond c (Some z) o)
-    by true false true x y w = absurd (true≢false (sym (eq-eqb z.id.0 q (eqb-true z.id.0 d x ∙ eqb-true d q w)) ∙ y))
-    by true true false x y w = absurd (true≢false (sym (eq-eqb d q (sym (eqb-true z.id.0 d x) ∙ eqb-true z.id.0 q y)) ∙ w))
-    by false true true x y w = absurd (true≢false (sym (eq-eqb z.id.0 d (eqb-true z.id.0 q y ∙ sym (eqb-true d q w))) ∙ x))
-    by a c b x y w = refl
+state-changed [] d q f keeps = grind arith
+state-changed (z ∷ zs) d q f keeps = grind (arith, state-changed zs d q f keeps)
