@@ -1,5 +1,5 @@
 -- What an access to bytes rests on: it is inside a frame, and justified.
-use Rattle.gt_core.proofs.Words.{◌≡◌, ◌≢◌, ◌≤◌, ◌<◌, ◌+◌, ◌⊎◌, inl, inr, ℕ, suc, refl, Bool, true, false, List, [], ◌∷◌, ◌++◌, Option, Some, None, cond, sym, ap, ◌∙◌, arith, subst, reverse, eqb-true, and_parts, and_from, nat_le, leb-false, false≢true, none-some, same_Some, ◌==◌, ◌&&◌, is_none, Any, domain_of, resolved, denial_of, DomId, TypeId, Dir, Read, Write, ForMap, ForCopy, Perms, Triple, FRAME_SIZE, Policy, N1, N5, Entry, Page, Sub, frame_of, permits, forwards, allows_direction, Handle, Held, Route, Direct, Through, Pins, End, Asked, Load, Store, Peek, Poke, Copy, Holder, ByMapping, ByLeg, Place, Refused, ReadBytes, WriteBytes, last_first, CallerKnowledge, begun, frames_of, via_judged, denied, copy_denied, rights_to_copy, refused_when, first, is_source_granted, is_dest_granted, source_pair, dest_pair, opens, RestsOnRequest, RestsOnWays, IsReached, LeadsTo, State, History, Setting, Pin, live, known_at, legs_at, mappings_at, mapping_of, gather, by_mapping, by_leg, same_handle, IsInFrame, CopyIsJustified, Justified, IsLawful, IsLawfullyHeld, DomainsStand, numbered, Verdict, owner_by, IsAllowed, IsMapped, IsPermitted, Reaches, Forwards, MayCopy, MayUseMapping, MayAsk, EndIsJustified, cond_both}
+use Rattle.gt_core.proofs.Words.{◌≡◌, ◌≢◌, ◌≤◌, ◌<◌, ◌+◌, ◌⊎◌, inl, inr, ℕ, suc, refl, Bool, true, List, [], ◌∷◌, ◌++◌, Option, Some, None, cond, sym, ap, ◌∙◌, arith, subst, reverse, eqb-true, none-some, same_Some, ◌==◌, Any, resolved, denial_of, DomId, TypeId, Dir, Read, Write, ForMap, ForCopy, Perms, Triple, FRAME_SIZE, Policy, N5, Entry, frame_of, permits, forwards, Handle, Held, Route, Direct, Through, Pins, End, Asked, Load, Store, Peek, Poke, Copy, Holder, ByMapping, ByLeg, Place, Refused, ReadBytes, WriteBytes, last_first, CallerKnowledge, begun, frames_of, via_judged, denied, rights_to_copy, is_source_granted, is_dest_granted, source_pair, dest_pair, opens, RestsOnRequest, RestsOnWays, IsReached, LeadsTo, State, History, Setting, Pin, live, known_at, legs_at, mappings_at, mapping_of, gather, by_mapping, by_leg, same_handle, IsInFrame, CopyIsJustified, Justified, IsLawful, IsLawfullyHeld, DomainsStand, numbered, owner_by, IsAllowed, IsMapped, IsPermitted, Reaches, Forwards, MayCopy, MayUseMapping, MayAsk, EndIsJustified, cond_both}
 use Rattle.gt_calls.specs.{declared.held.Route.TheVariants.Own, Path.place_of}
 use Rattle.gt_core.{specs.Legal.AccessIsJustified, specs.Standing.LetsUse, proofs.Phases.none-of, proofs.Others.listed, proofs.Others.IsKeyed, proofs.Others.mapping-keyed, proofs.Others.leg-keyed}
 
@@ -38,20 +38,9 @@ found-in [] handle m e = absurd (none-some m e)
 found-in (x ∷ ms) handle m e =
     cond_both (same_handle x.0 handle) (Some x.1) (mapping_of ms handle) (λ o. o ≡ Some m → (x.1 ≡ m) ⊎ IsHeldIn m ms) (λ is f. inl (same_Some _ _ f)) (λ is f. inr (found-in ms handle m f)) e
 
-pub not-so : (b c x y : Bool) → (b && c && false && x && y) ≡ false
-not-so true true x y = refl
-not-so b c x y = refl
-
 -- a pin that lets its mapping be used lets the domain access any range in that way
 pub permits-as : (e : Entry) (d : DomId) (held dir : Dir) (off len : ℕ) → ((dir ≡ Write) → held ≡ Write) → permits e d held ForMap 0 0 ≡ true → permits e d dir ForMap off len ≡ true
-permits-as (Page dom ro frame) d held dir off len w a =
-    let parts = and_parts (dom.0 == d.0) (allows_direction ro held) a in
-    and_from (dom.0 == d.0) (allows_direction ro dir) parts.0 (by dir w parts.1) where
-      by : (z : Dir) → ((z ≡ Write) → held ≡ Write) → allows_direction ro held ≡ true → allows_direction ro z ≡ true
-      by Read v r = refl
-      by Write v r = subst (λ (x : Dir). allows_direction ro x ≡ true) (v refl) r
-permits-as (Sub dom ro frame start size) d held dir off len w a = absurd (false≢true (sym (not-so (dom.0 == d.0) (allows_direction ro held) (nat_le start 0) (nat_le (0 + 0) (start + size))) ∙ a))
-permits-as e d held dir off len w a = a
+permits-as e d held dir off len w a = grind arith
 
 -- the mapping's pin is the domain's, by right
 pub record IsRightful (s : Setting) (d : DomId) (m : Held) (p : Pin) : Type 0 where
@@ -136,27 +125,15 @@ allowed may (t ∷ ts) e =
     cond_both (may t.source t.target t.perm) (denied may ts) (Some (Refused (denial_of N5 (Policy t.source t.target t.perm)))) (λ o. o ≡ None → IsAllowed may (t ∷ ts)) (λ is f. (is, allowed may ts f)) (λ is f. cc) e
 
 via-may : (k : CallerKnowledge) (pair : DomId × DomId) (dom : DomId) → via_judged k pair dom ≡ None → IsAllowed k.may (rights_to_copy k pair.0 pair.1)
-via-may k pair dom e = allowed k.may (rights_to_copy k pair.0 pair.1) (by (is_none (domain_of k.domains dom)) (copy_denied k pair.0 pair.1) e)
-  where
-    by : (b : Bool) (o : Option Verdict) → first (refused_when b N1 ∷ o ∷ []) ≡ None → o ≡ None
-    by false None f = refl
-    by b o f = cc
+via-may k pair dom e = grind arith
 
 reached-frame : (s : Setting) (h : History) (d : DomId) (granted : Bool) (end : End) (dir : Dir) (len : ℕ) (pair : DomId → DomId × DomId) (route : Route) → IsReached (known_at s h d) d granted end dir len pair route → end.offset + len ≤ FRAME_SIZE
     → IsInFrame s (place_of d end route) len
-reached-frame s h d granted end dir len pair Own a range = (leb-false (frames_of s.domains d) end.ptr a.1, range)
-reached-frame s h d granted end dir len pair (Direct p) a range = (leb-false (frames_of s.domains p.dom) (frame_of p.entry) a.2.in_frames, range)
-reached-frame s h d granted end dir len pair (Through via p) a range = (leb-false (frames_of s.domains p.dom) (frame_of p.entry) a.3.in_frames, range)
+reached-frame s h d granted end dir len pair route a range = grind arith
 
 reaches-by : (s : Setting) (h : History) (d judged : DomId) (dir : Dir) (off len : ℕ) (p : Held) (q : Pin) → IsPermitted (known_at s h d) p judged dir off len → IsOwnPin d p q
     → Reaches d judged dir ForCopy (record { owner = p.dom; frame = frame_of p.entry; off = off }) len q
-reaches-by s h d judged dir off len p q a own = record {
-  of_actor = own.0;
-  of_owner = ap (λ (x : Held). x.dom.0) own.1;
-  of_frame = ap (λ (x : Held). frame_of x.entry) own.1;
-  permitted = ap (λ (x : Held). permits x.entry judged dir ForCopy off len) own.1 ∙ a.permitted;
-  writes = λ w. ap (λ (x : Held). x.dir) own.1 ∙ a.taken_for ∙ w;
-}
+reaches-by s h d judged dir off len p q a own = grind arith
 
 -- the pins of a route are among these
 abbrev HasRoute : List (ℕ × Held) → Route → Type 0
@@ -191,15 +168,7 @@ end-justified s h d granted end dir len pair owners (Through via p) has a same =
 
 -- the pins of both routes are held
 routes-held : (a b : Route) → let legs = numbered 0 (reverse (last_first (record { source = a; dest = b }))) in HasRoute legs a × HasRoute legs b
-routes-held Own Own = (tt, tt)
-routes-held Own (Direct q) = (tt, inl refl)
-routes-held Own (Through w q) = (tt, (inl refl, inr (inl refl)))
-routes-held (Direct p) Own = (inl refl, tt)
-routes-held (Direct p) (Direct q) = (inl refl, inr (inl refl))
-routes-held (Direct p) (Through w q) = (inl refl, (inr (inl refl), inr (inr (inl refl))))
-routes-held (Through v p) Own = ((inl refl, inr (inl refl)), tt)
-routes-held (Through v p) (Direct q) = ((inl refl, inr (inl refl)), inr (inr (inl refl)))
-routes-held (Through v p) (Through w q) = ((inl refl, inr (inl refl)), (inr (inr (inl refl)), inr (inr (inr (inl refl)))))
+routes-held a b = grind arith
 
 pub copy-justified : (s : Setting) (h : History) (d : DomId) (r : Asked) (pins : Pins) (from to : Place) (len : ℕ) → begun (known_at s h d) d r ≡ None → legs_at h d.0 ≡ numbered 0 (reverse (last_first pins))
     → RestsOnWays (known_at s h d) d r pins from to len → CopyIsJustified s h d r from to len

@@ -1,7 +1,6 @@
 -- A beginning keeps what a core stands for.
-use Rattle.gt_core.proofs.Words.{arith, ◌≤◌, ◌≡◌, ◌≢◌, ◌<◌, ◌+◌, inl, inr, ℕ, refl, true, false, List, [], ◌∷◌, length, Option, Some, None, sym, ap, ◌∙◌, subst, get_or, set, reverse, eqb-true, true≢false, slice_get_read, same_Some, position-Some, ◌==◌, is_some, position, slice_get, domain_of, resolved, DomId, Read, Header, Held, Request, Asked, Grant, Revoke, Demote, Promote, Map, Unmap, Load, SetVersion, SetupTable, QuerySize, GetVersion, Store, Peek, Poke, Copy, Seen, Verdict, Given, FramesTold, Makes, Done, Call, Phase, Walking, Ending, Source, AtHeader, asked, begun_of, given_by, CallerKnowledge, first, begun, knowledge_of, is_source_granted, opens, end_leg, action_at, at_dest, StandsAt, held_in, pins_at, GoesOn, Goes, Starts, Nothing, Step, Action, Rests, Pins, most_of, steps_left, Item, Began, Answer, Open, State, state_of, kept_by, with_call, History, Setting, table_at, known_at, Underway, open_call, legs_at, one_if_mapped, LeavesAll, stood, AnsweredBy, GivesValue, refusal_in, refusal_of, IsRight, IsClean, phase_refusal, FitsAsked, PhaseStands, OpenAgrees, CallAgrees, FitsGiven, GivenAgrees, Agrees, StateAgrees, DomainsStand, Opens, numbered, misses, ◌^◌, IsSaid, first_phase, unmap_phase, load_phase, store_phase, IsAt, pins_by_call, steps_to_come, asks_memory, WantsMemory, IsOpened, answer_of, cond_both, All-nil, StartOpen, OpeningOpen}
-use Rattle.gt_calls.specs.{declared.held.Route.TheVariants.Own}
-use Rattle.gt_core.{specs.Standing.IsMapping, proofs.Keeping.KeepsEntries, proofs.Keeping.known-same, proofs.Keeping.open_call-own, proofs.Keeping.stood-own, proofs.Keeping.given-none, proofs.Keeping.quiet-stands, proofs.Others.KeepsKnown, proofs.Others.kept-known, proofs.Others.kept-legs, proofs.Placing.dest-placed, proofs.Phases.of-run, proofs.Rows.has_id, proofs.Rows.found, proofs.Rows.not-found, proofs.Rows.state_of-set}
+use Rattle.gt_core.proofs.Words.{arith, ◌≤◌, ◌≡◌, ◌≢◌, ◌<◌, ◌+◌, inl, ℕ, refl, true, false, List, [], ◌∷◌, length, Option, Some, None, sym, ap, ◌∙◌, subst, get_or, set, reverse, eqb-true, slice_get_read, position-Some, ◌==◌, is_some, position, slice_get, domain_of, DomId, Header, Held, Request, Asked, Revoke, Seen, Verdict, Makes, Done, Call, Phase, asked, begun_of, given_by, CallerKnowledge, first, begun, knowledge_of, action_at, StandsAt, held_in, pins_at, GoesOn, Goes, Starts, Nothing, Step, Action, Rests, Pins, most_of, steps_left, Item, Began, Answer, Open, State, state_of, kept_by, with_call, History, Setting, table_at, known_at, Underway, open_call, legs_at, one_if_mapped, stood, AnsweredBy, GivesValue, refusal_in, refusal_of, IsRight, IsClean, phase_refusal, FitsAsked, PhaseStands, OpenAgrees, CallAgrees, FitsGiven, GivenAgrees, Agrees, StateAgrees, DomainsStand, Opens, numbered, misses, ◌^◌, IsSaid, first_phase, IsAt, pins_by_call, steps_to_come, asks_memory, WantsMemory, IsOpened, answer_of, cond_both, StartOpen, OpeningOpen}
+use Rattle.gt_core.{specs.Standing.IsMapping, proofs.Keeping.KeepsEntries, proofs.Keeping.known-same, proofs.Keeping.open_call-own, proofs.Keeping.stood-own, proofs.Keeping.given-none, proofs.Keeping.quiet-stands, proofs.Others.KeepsKnown, proofs.Others.kept-known, proofs.Others.kept-legs, proofs.Rows.has_id, proofs.Rows.found, proofs.Rows.not-found, proofs.Rows.state_of-set}
 use Rattle.gt_calls.specs.declared.request.Request.TheVariants as requests
 
 -- beginnings
@@ -29,34 +28,14 @@ first-fine k d r e = grind arith
 
 first-place : (s : Setting) (h : History) (d : DomId) (r : Asked) → begun (known_at s h d) d r ≡ None → PhaseStands s h d r [] (first_phase (known_at s h d) d r)
 unfolding misses
-first-place s h d (Demote gref) e = (refl, refl)
-first-place s h d (Promote gref) e = (refl, refl)
-first-place s h d (Map dom gref flags) e = (of-run (domain_of s.domains (resolved d dom)) (opens (known_at s h d) d (Map dom gref flags) e).of_run, tt)
-first-place s h d (Unmap handle) e =
-    subst (λ (o : Option Held). PhaseStands s h d (Unmap handle) [] (unmap_phase handle o)) (sym (opens (known_at s h d) d (Unmap handle) e).found) refl
-first-place s h d (Load handle off len) e =
-    subst (λ (o : Option Held). PhaseStands s h d (Load handle off len) [] (load_phase o off len)) (sym (opens (known_at s h d) d (Load handle off len) e).found) refl
-first-place s h d (Store handle off len) e =
-    subst (λ (o : Option Held). PhaseStands s h d (Store handle off len) [] (store_phase o off len)) (sym (opens (known_at s h d) d (Store handle off len) e).found) refl
-first-place s h d (Peek frame off len) e = refl
-first-place s h d (Poke frame off len) e = refl
-first-place s h d (Copy c) e =
-    cond_both (is_source_granted c) (Walking (Source c None) (end_leg (known_at s h d) d c.source Read c.len) AtHeader) (at_dest (known_at s h d) d c Own) (PhaseStands s h d (Copy c) [])
-    (λ a. (of-run (domain_of s.domains (resolved d c.source.domid)) (opens (known_at s h d) d (Copy c) e).source_of_run, tt)) (λ a. dest-placed s h d (Copy c) c Own [] refl e)
-first-place s h d (SetVersion version) e = inl (refl, refl)
-first-place s h d (SetupTable frames) e = inr (refl, refl)
-first-place s h d (QuerySize dom) e = (dom, refl, refl)
-first-place s h d (GetVersion dom) e = (dom, refl, refl)
-first-place s h d r e = tt
+first-place s h d r e = grind arith
 
 clean-nothing : (p : Phase) → IsClean p []
-clean-nothing (Ending pins verdict) = inr (All-nil LeavesAll)
-clean-nothing p = All-nil LeavesAll
+clean-nothing p = grind arith
 
 -- a call keeps the bytes that are given to it
 kept-given : (request : Request) → kept_by (asked request) (given_by request) ≡ given_by request
-kept-given (requests.Grant gref entry) = refl
-kept-given request = refl
+kept-given request = grind arith
 
 -- where nothing stands against it, they end inside a frame
 given-fits : (k : CallerKnowledge) (d : DomId) (request : Request) → begun_of k d request ≡ None → FitsGiven (asked request) (given_by request)
@@ -66,8 +45,7 @@ given-fits k d request e = grind arith
 given-begins : (i : Item) (h : History) (d : DomId) (request : Request) (given : List ℕ)
     → open_call (i ∷ h) d.0 ≡ Some (record { request = asked request; given = given_by request; steps = [] }) → given ≡ given_by request → FitsGiven (asked request) (given_by request)
     → GivenAgrees (i ∷ h) d.0 given
-given-begins i h d request given now same fits = λ c call.
-    subst (λ (u : Underway). (given ≡ u.given) × FitsGiven u.request u.given) (same_Some _ _ (sym now ∙ call)) (same, fits)
+given-begins i h d request given now same fits = grind arith
 
 -- where a call stands, by its phase
 pub is-at : (k : CallerKnowledge) (call : Call) (shown : List Seen) (p : Phase) → call.phase ≡ Some p → IsAt k call shown → StandsAt k call.caller call.request shown p
@@ -119,12 +97,10 @@ begin-opens s h d request o fits a closed op = let i = began d.id request None i
 -- a call that is answered at once
 
 pub plain-unmapped : (v : Verdict) → one_if_mapped (Some (answer_of v)) ≡ 0
-plain-unmapped (Given (FramesTold n)) = refl
-plain-unmapped v = refl
+plain-unmapped v = grind arith
 
 pub plain-refusal : (v : Verdict) → refusal_of (answer_of v) ≡ refusal_in (Some v)
-plain-refusal (Given (FramesTold n)) = refl
-plain-refusal v = refl
+plain-refusal v = grind arith
 
 -- what holds of a verdict, if there is one
 
@@ -179,8 +155,7 @@ begin-busy s h domains dom at x p here busy st = let a = agrees-found s h domain
     (a.0, subst (λ (d : DomId). open_call h d.0 ≢ None) a.1 (call-some s h x.id x.underway (open_call h x.id.0) busy a.2.call))
 
 pub closed-from : (o : Option Open) → is_some o ≡ false → o ≡ None
-closed-from None e = refl
-closed-from (Some o) e = absurd (true≢false e)
+closed-from o e = grind arith
 
 begin-answered : (s : Setting) (h : History) (domains : List State) (dom : DomId) (at : ℕ) (x : State) (request : Request) (v : Verdict)
     → position (has_id dom.0) domains ≡ Some at → x ≡ get_or domains at x → is_some x.underway ≡ false

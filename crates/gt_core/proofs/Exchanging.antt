@@ -1,5 +1,5 @@
 -- An exchange that was taken keeps what a core stands for.
-use Rattle.gt_core.proofs.Words.{◌≡◌, ◌≢◌, ◌<◌, ◌≤◌, ◌+◌, ℕ, refl, Bool, true, false, List, ◌∷◌, length, Option, Some, None, cond, sym, ap, ◌∙◌, arith, subst, get_or, eqb-true, none-some, slice_get-get_or, option_map, ◌==◌, All, slice_get, fun_ext, DomId, GrantRef, TABLE_ENTRIES, LAST_GENERATION, Entry, Invalid, Change, Publish, ToInvalid, ToReadOnly, ToWritable, FirstHalf, SecondHalf, IsEntry, Exchange, Taken, Own, Open, Item, Answer, entry_in, generation_in, control_with, row_entry, row_generation, changed_at, State, state_of, changed_in, with_own, own_after, History, Setting, Pin, live, entry_at, raises_at, raise_of, generation_at, reads_at, writes_at, open_call, change_of, entry_after, raise_after, one_if_mapped, IsSafeChange, IsSpelled, IsLawful, FitsTable, FitsWord, Agrees, DomainsStand, CallAgrees, GivenAgrees, append-nil, gather, by_mapping, changed_entry, with_ro, MAX_PINS}
+use Rattle.gt_core.proofs.Words.{◌≡◌, ◌≢◌, ◌<◌, ◌≤◌, ◌+◌, ℕ, refl, Bool, true, List, ◌∷◌, length, Option, Some, None, cond, sym, ap, ◌∙◌, arith, subst, get_or, eqb-true, none-some, slice_get-get_or, option_map, ◌==◌, All, slice_get, fun_ext, DomId, GrantRef, TABLE_ENTRIES, LAST_GENERATION, Entry, Invalid, Change, Publish, FirstHalf, SecondHalf, IsEntry, Exchange, Taken, Own, Open, Item, Answer, entry_in, generation_in, control_with, row_entry, row_generation, changed_at, State, state_of, changed_in, with_own, own_after, History, Setting, Pin, live, entry_at, raises_at, raise_of, generation_at, reads_at, writes_at, open_call, change_of, entry_after, raise_after, one_if_mapped, IsSafeChange, IsSpelled, IsLawful, FitsTable, FitsWord, Agrees, DomainsStand, CallAgrees, GivenAgrees, append-nil, gather, by_mapping, changed_entry, MAX_PINS}
 use Rattle.gt_core.proofs.{Others.unstored, Others.answered-stays, Others.kept-table, Keeping.stepped, Keeping.SlotsAgree, Keeping.same-number, Keeping.counts-fit, Rows.get-changed, Rows.length-changed, Mappings.mappings-same, Keeping.slots-kept, Keeping.Facts, Keeping.facts_at, Keeping.Fits, Keeping.facts-fit, Keeping.each-stays, Keeping.all-stand, Keeping.own-changed}
 
 -- each number of the entry that is published fits its type
@@ -30,9 +30,7 @@ exchanged-live h d gref looked change answer = append-nil (live h)
 row-changed : (b : Bool) (o : Option Own) (change : Change) (first raises : ℕ) → (b ≡ true → (o ≢ None) × (first + raises + raise_of change ≤ LAST_GENERATION)) → row_generation first o ≡ first + raises
     → (row_entry (cond b (option_map (own_after change) o) o) ≡ entry_after (cond b (Some change) None) (row_entry o))
     × (row_generation first (cond b (option_map (own_after change) o) o) ≡ first + (raises + raise_after (cond b (Some change) None)))
-row-changed true None change first raises room e = absurd ((room refl).0 refl)
-row-changed true (Some own) change first raises room e = let a : first + raises + raise_of change ≤ LAST_GENERATION = (room refl).1 in (refl, omega arith)
-row-changed false o change first raises room e = (refl, omega arith)
+row-changed b o change first raises room e = grind arith
 
 row-some : (xs : List Own) (r q : ℕ) (own : Own) → r < length xs → (r == q) ≡ true → slice_get xs q ≢ None
 row-some xs r q own within e none =
@@ -60,22 +58,14 @@ own-changed-at s h x gref looked change answer r within room a = let rows = a.ro
 -- the entries: the one that the exchange changes, and the others
 
 word-fits : (e : Entry) (g r w : ℕ) → IsEntry e → (r < MAX_PINS + 1) × (w < MAX_PINS + 1) → g ≤ LAST_GENERATION → FitsWord (control_with e g r w)
-word-fits Invalid g r w a c below = record { in_range = record { reads = c.0; writes = c.1; generation = omega arith }; domain = omega arith }
-word-fits e g r w a c below = record { in_range = record { reads = c.0; writes = c.1; generation = omega arith }; domain = a.0 }
+word-fits e g r w a c below = grind arith
 
 -- what is so of an entry by its pins and body words
 abbrev EntryFits : Facts → Entry → Type 0
 EntryFits f e = IsEntry e × (e ≡ Invalid → (f.reads ≡ 0) × (f.writes ≡ 0)) × (e ≢ Invalid → IsSpelled e f.first f.second)
 
-ro-fits : (f : Facts) (to : Bool) (e : Entry) → EntryFits f e → EntryFits f (with_ro to e)
-ro-fits f to Invalid a = a
-ro-fits f to e a = (a.0, λ is. absurd (cc), λ valid. a.2 (λ is. absurd (cc)))
-
 changed-fits : (s : Setting) (h : History) (t r : ℕ) (change : Change) → Fits r (facts_at s h t r) → IsSafeChange h t r change → FitsChange change → EntryFits (facts_at s h t r) (changed_entry change (entry_at h t r))
-changed-fits s h t r (Publish entry) f safe fits = (fits, λ e. f.free safe.0, λ valid. safe.1)
-changed-fits s h t r ToInvalid f safe fits = (tt, λ e. safe, λ valid. absurd (valid refl))
-changed-fits s h t r ToReadOnly f safe fits = ro-fits (facts_at s h t r) true (entry_at h t r) (f.entry, f.free, f.spelled)
-changed-fits s h t r ToWritable f safe fits = ro-fits (facts_at s h t r) false (entry_at h t r) (f.entry, f.free, f.spelled)
+changed-fits s h t r change f safe fits = grind arith
 
 -- the facts of an entry after a change
 abbrev facts_after : Setting → History → ℕ → ℕ → Option Change → Facts

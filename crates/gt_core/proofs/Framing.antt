@@ -1,8 +1,8 @@
 -- The frames of a core: what a step of a call writes to them is by right, and leaves them as the history tells.
-use Rattle.gt_core.proofs.Words.{◌≡◌, ◌≤◌, ◌<◌, ◌+◌, ◌-◌, inl, inr, ℕ, refl, Bool, true, false, List, [], ◌∷◌, ◌++◌, replicate, length, take, drop, Option, Some, None, cond, sym, ap, ◌∙◌, arith, subst, eqb-true, eq-eqb, lt-ltb, and_parts, and_from, false≢true, append-nil, map-append, length-append, length-drop, length-take-le, length-replicate, ◌==◌, ◌&&◌, nat_lt, nat_le, is_some, IsTrue, domain_of, DomId, Write, ForMap, ForCopy, DomainConfig, FRAME_SIZE, Entry, Page, Sub, Via, frame_of, permits, allows_direction, Handle, value_of, Held, Route, Direct, Through, End, Request, Asked, Store, Poke, Place, Seen, Step, ReadBytes, WriteBytes, CopyBytes, Makes, Call, CallerKnowledge, begun, frames_of, frames_in, is_dest_granted, dest_pair, opens, Rests, RestsOnRequest, RestsOnWays, IsReached, LeadsTo, pins_at, Patch, written, bytes_at, frame_counts, FrameSet, frame_at, has_range, all_zeros, AreKept, Open, Item, Answer, Begun, State, IsLoadOf, IsReadable, IsAdmitted, AccessedBy, History, Setting, patches_at, patches_by, contents_at, written_by, Writing, given_in, open_call, Underway, values, known_at, IsInFrame, CopyIsJustified, grown, DomainsStand, FramesStand, Agrees, OpenAgrees, FitsGiven, begun_element, le-leb, leb-true, unwrap_or, leads_to, overlay, replay, zeros, FrameState, patch_of, patches, permits_writing, suffices, is_rightful, all_rightful, pool_number, frames_of_all, is_name, has_frame, admits, WritesTo, journal_in, name_of, ground_of, route_by, route_of, IsWritOf, FrameName, Ground, Writ, WriteRecord, BegunBusy, BegunNoDomain, cond_both}
+use Rattle.gt_core.proofs.Words.{◌≡◌, ◌≤◌, ◌<◌, ◌+◌, ◌-◌, inl, inr, ℕ, refl, Bool, true, false, List, [], ◌∷◌, ◌++◌, replicate, length, take, drop, Option, Some, None, cond, sym, ap, ◌∙◌, arith, subst, eqb-true, eq-eqb, lt-ltb, and_parts, and_from, append-nil, map-append, length-append, length-drop, length-take-le, length-replicate, ◌==◌, ◌&&◌, nat_lt, nat_le, is_some, IsTrue, domain_of, DomId, Write, ForMap, DomainConfig, FRAME_SIZE, Entry, frame_of, permits, Handle, value_of, Held, Route, Direct, End, Request, Asked, Store, Poke, Place, Seen, Step, ReadBytes, WriteBytes, CopyBytes, Makes, Call, CallerKnowledge, begun, frames_of, frames_in, is_dest_granted, dest_pair, opens, Rests, RestsOnRequest, RestsOnWays, IsReached, pins_at, Patch, written, bytes_at, frame_counts, FrameSet, frame_at, has_range, all_zeros, AreKept, Open, Item, Answer, Begun, State, IsLoadOf, IsReadable, IsAdmitted, AccessedBy, History, Setting, patches_at, patches_by, contents_at, written_by, Writing, given_in, open_call, Underway, values, known_at, IsInFrame, CopyIsJustified, grown, DomainsStand, FramesStand, Agrees, OpenAgrees, FitsGiven, begun_element, le-leb, leb-true, unwrap_or, overlay, replay, zeros, FrameState, patch_of, patches, permits_writing, suffices, is_rightful, all_rightful, pool_number, frames_of_all, is_name, has_frame, admits, WritesTo, journal_in, name_of, ground_of, route_by, route_of, IsWritOf, FrameName, Writ, WriteRecord, BegunBusy, BegunNoDomain, cond_both}
 use Rattle.gt_calls.specs.{declared.held.Route.TheVariants.Own, Path.place_of}
 use Rattle.std.specs.Cmp.{both_ways}
-use Rattle.gt_core.proofs.{Starting.get-replicate, Keeping.stepped, Keeping.same-number, Phases.call-is, Phases.none-of, Accessing.not-so, Accessing.permits-as, Accessing.mapping-pin, Accessing.same-held, Accessing.read-justified, Accessing.copy-justified}
+use Rattle.gt_core.proofs.{Starting.get-replicate, Keeping.stepped, Phases.call-is, Phases.none-of, Accessing.permits-as, Accessing.mapping-pin, Accessing.same-held, Accessing.read-justified, Accessing.copy-justified}
 
 -- what a frame holds, and which frames there are
 
@@ -32,36 +32,17 @@ range-there s h fs at len fr a = and_from _ _ (frame-there s h fs (name_of at) f
 
 -- an entry that lets a mapping write lets any range of its frame be written
 map-writes : (e : Entry) (d : DomId) (frame off len : ℕ) → frame ≡ frame_of e → permits e d Write ForMap off len ≡ true → permits_writing e d frame off len ≡ true
-map-writes (Page dom ro f) d frame off len is a = and_from _ _ (eq-eqb f frame (sym is)) a
-map-writes (Sub dom ro f start size) d frame off len is a = absurd (false≢true (sym (not-so (dom.0 == d.0) (allows_direction ro Write) (nat_le start off) (nat_le (off + len) (start + size))) ∙ a))
-map-writes e d frame off len is a = absurd (false≢true a)
-
--- an entry that permits a copy to write permits it to write its own frame
-copy-writes : (e : Entry) (d : DomId) (off len : ℕ) → permits e d Write ForCopy off len ≡ true → permits_writing e d (frame_of e) off len ≡ true
-copy-writes (Page dom ro f) d off len a = and_from _ _ (same-number f) a
-copy-writes (Sub dom ro f start size) d off len a = and_from _ _ (same-number f) a
-copy-writes e d off len a = absurd (false≢true a)
-
-leads-there : (e : Entry) (p : Held) → LeadsTo e p → leads_to e p.dom ≡ true
-leads-there (Via dom ro dom2 gref) p a = eq-eqb dom2.0 p.dom.0 (ap (λ (z : DomId). z.0) (sym a.0))
-leads-there e p a = absurd a
+map-writes e d frame off len is a = grind arith
 
 -- the entries of a copy's pins let it write
 way-covers : (k : CallerKnowledge) (d : DomId) (granted : Bool) (end : End) (len : ℕ) (pair : DomId → DomId × DomId) (route : Route) → IsReached k d granted end Write len pair route
     → suffices (ground_of route) d (place_of d end route).owner (place_of d end route).frame end.offset len ≡ true
-way-covers k d granted end len pair Own a = same-number d.0
-way-covers k d granted end len pair (Direct p) a = copy-writes p.entry d end.offset len a.2.permitted
-way-covers k d granted end len pair (Through via p) a =
-    and_from _ _ (and_from _ _ a.1.forwarded (leads-there via.entry p a.2))
-    (copy-writes p.entry via.dom end.offset len (subst (λ (z : DomId). permits p.entry z Write ForCopy end.offset len ≡ true) (sym a.1.named) a.3.permitted))
+way-covers k d granted end len pair route a = grind arith
 
 -- the route of a call, which suffices, is that of its writ
 admitted-by : (fs : FrameSet) (x : State) (call : Call) (name : FrameName) (off len : ℕ) (route : Route) → has_frame fs name ≡ true → off + len ≤ FRAME_SIZE → route_of x.mappings call ≡ route
     → suffices (ground_of route) call.caller name.owner name.number off len ≡ true → (w : Writ) → IsWritOf x call w → IsTrue (admits fs name w off len)
-admitted-by fs x call name off len route there within is right w of_call =
-    let by : w.basis ≡ ground_of route = of_call.1 ∙ ap ground_of is in
-    and_from _ _ (and_from _ _ there (le-leb (off + len) FRAME_SIZE within))
-    (ap (λ (d : DomId). suffices w.basis d name.owner name.number off len) of_call.0 ∙ ap (λ (g : Ground). suffices g call.caller name.owner name.number off len) by ∙ right)
+admitted-by fs x call name off len route there within is right w of_call = grind arith
 
 -- what the next step of an open call writes is by right
 pub open-admitted : (s : Setting) (h : History) (xs : List State) (fs : FrameSet) (x : State) (o : Open) (c : Underway) → DomainsStand s h xs → FramesStand s h fs → Agrees s h x → open_call h x.id.0 ≡ Some c → OpenAgrees s h x.id o c

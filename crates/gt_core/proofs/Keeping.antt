@@ -1,5 +1,5 @@
 -- What stays of a core's agreement with a history after one item more.
-use Rattle.gt_core.proofs.Words.{◌≡◌, ◌≢◌, ◌<◌, ◌+◌, ℕ, refl, Bool, true, false, List, ◌∷◌, length, Option, Some, None, cond, sym, ap, ◌∙◌, subst, reverse, eqb-true, eq-eqb, none-some, same_Some, domain_of, ◌==◌, ◌&&◌, All, count_by, slice_get, option_map, fun_ext, DomId, Read, Write, TABLE_ENTRIES, Entry, Invalid, Header, Half, FirstHalf, SecondHalf, IsEntry, HandleMap, Held, CallerKnowledge, control_with, knowledge_of, StandsAt, pins_at, GoesOn, Rests, Makes, PinCounts, Open, Item, Answer, Stepped, Step, Seen, changed_at, State, state_of, changed_in, History, Setting, Pin, live, entry_at, generation_at, body_at, table_at, reads_at, writes_at, control_at, known_at, mappings_at, maps_answered_at, is_pin_on, open_call, underway_after, Underway, values, change_at, stored_at, header_stored, IsSpelled, stood, first_of_item, IsLawful, FitsTable, FitsWord, SlotAgrees, MappingsAgree, Agrees, StateAgrees, DomainsStand, CallAgrees, OpenAgrees, GivenAgrees, Dir, gather, by_mapping, by_leg, slot_after, with_slot, stood_with, MAX_PINS, cond_both, CountsChange}
+use Rattle.gt_core.proofs.Words.{◌≡◌, ◌≢◌, ◌<◌, ◌+◌, ℕ, refl, Bool, true, false, List, ◌∷◌, length, Option, Some, None, cond, sym, ap, ◌∙◌, subst, reverse, eqb-true, eq-eqb, none-some, same_Some, domain_of, ◌==◌, ◌&&◌, All, count_by, slice_get, option_map, fun_ext, DomId, Read, Write, TABLE_ENTRIES, Entry, Invalid, Header, Half, FirstHalf, SecondHalf, IsEntry, HandleMap, Held, CallerKnowledge, control_with, knowledge_of, StandsAt, pins_at, GoesOn, Rests, Makes, PinCounts, Open, Item, Answer, Stepped, Step, Seen, changed_at, State, state_of, changed_in, History, Setting, Pin, live, entry_at, generation_at, body_at, table_at, reads_at, writes_at, control_at, known_at, mappings_at, maps_answered_at, is_pin_on, open_call, underway_after, Underway, values, change_at, stored_at, header_stored, IsSpelled, stood, first_of_item, IsLawful, FitsTable, FitsWord, SlotAgrees, MappingsAgree, Agrees, StateAgrees, DomainsStand, CallAgrees, OpenAgrees, GivenAgrees, Dir, gather, by_mapping, by_leg, slot_after, with_slot, stood_with, MAX_PINS, cond_both, CountsChange, arith}
 use Rattle.gt_core.proofs.{Rows.get-changed, Rows.length-changed, Rows.state-changed, Mappings.mappings-same, Others.pulled, Others.unstored, Others.KeepsKnown, Others.KeepsAll, Others.cond-same, Others.kept-table, Others.kept-live, Others.answered-stays, Others.kept-entry, Others.kept-raises, Others.other-entry, Others.other-body, Others.other-maps, Others.other-raises, Others.other-pins, Others.other-table, Others.other-known, Placing.place-stays}
 
 -- what a domain itself knows is what the core keeps of it
@@ -85,12 +85,7 @@ length-slots r f slots b e = cond_both b (changed_at r f slots) slots (λ l. len
 -- they agree still, where the live pins and the body words are the same
 pub slots-kept : (i : Item) (h : History) (q : ℕ) (slots : List PinCounts) → live (i ∷ h) ≡ live h → ((r : ℕ) (which : Half) → body_at (i ∷ h) q r which ≡ body_at h q r which)
     → SlotsAgree h q slots → SlotsAgree (i ∷ h) q slots
-slots-kept i h q slots same bodies was r slot e = let a = was r slot e in record {
-  reads = a.reads ∙ ap (count_by (is_pin_on q r Read)) (sym same);
-  writes = a.writes ∙ ap (count_by (is_pin_on q r Write)) (sym same);
-  first = a.first ∙ sym (bodies r FirstHalf);
-  second = a.second ∙ sym (bodies r SecondHalf);
-}
+slots-kept i h q slots same bodies was r slot e = grind arith
 
 -- a domain that doesn't act: its pins may have changed, its call stands where it stood
 other-agrees : (s : Setting) (i : Item) (h : History) (x : State) (slots : List PinCounts) → (i.actor.0 == x.id.0) ≡ false → Agrees s h x
@@ -166,10 +161,7 @@ facts-fit s h xs t r st = record { word = st.words t r; entry = st.entries t r; 
 
 -- the counts that a control word holds are below 4,096
 pub counts-fit : (s : Setting) (h : History) (t r : ℕ) → FitsWord (control_at s h t r) → (reads_at h t r < MAX_PINS + 1) × (writes_at h t r < MAX_PINS + 1)
-counts-fit s h t r f = by (entry_at h t r) f where
-  by : (e : Entry) → FitsWord (control_with e (generation_at s h t r) (reads_at h t r) (writes_at h t r)) → (reads_at h t r < MAX_PINS + 1) × (writes_at h t r < MAX_PINS + 1)
-  by Invalid f = (f.in_range.reads, f.in_range.writes)
-  by e f = (f.in_range.reads, f.in_range.writes)
+counts-fit s h t r f = grind arith
 
 -- other counts, for which the word has room
 fits-with : (e : Entry) (g r w r' w' : ℕ) → r' < MAX_PINS + 1 → w' < MAX_PINS + 1 → FitsWord (control_with e g r w) → FitsWord (control_with e g r' w')
@@ -221,15 +213,7 @@ each-stays s i h xs zs x new st here own becomes same mine slots =
 -- the domains stand for one item more, where each agrees and each entry's facts fit
 pub all-stand : (s : Setting) (h : History) (xs : List State) → ((dom : DomId) → StateAgrees s h dom (state_of xs dom.0)) → ((dom : DomId) → FitsTable (table_at s h dom)) → All (IsLawful s) (live h)
     → ((t r : ℕ) → Fits r (facts_at s h t r)) → DomainsStand s h xs
-all-stand s h xs each tables lawful fit = record {
-  each = each;
-  tables = tables;
-  words = λ t r. (fit t r).word;
-  entries = λ t r. (fit t r).entry;
-  lawful = lawful;
-  free = λ t r. (fit t r).free;
-  spelled = λ t r. (fit t r).spelled;
-}
+all-stand s h xs each tables lawful fit = grind arith
 
 -- for one that changes no entry and stores no word
 pub keeps-stands : (s : Setting) (i : Item) (h : History) (xs zs : List State) → KeepsEntries i → DomainsStand s h xs → ((dom : DomId) → StateAgrees s (i ∷ h) dom (state_of zs dom.0)) → All (IsLawful s) (live (i ∷ h))

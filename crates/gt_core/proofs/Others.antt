@@ -1,5 +1,5 @@
 -- What an item leaves of the entries, words, pins and mappings, and of the other domains.
-use Rattle.gt_core.proofs.Words.{◌≡◌, ◌+◌, ℕ, refl, Bool, true, false, List, [], ◌∷◌, ◌++◌, Option, None, cond, ap, ◌∙◌, arith, ◌==◌, fun_ext, DomId, Entry, Header, Change, Item, History, Setting, entry_at, entry_after, raises_at, raise_after, generation_at, live, Pin, pinned_by, unpinned_by, change_at, change_of, maps_answered_at, one_if_mapped, known_at, mappings_at, gather, by_mapping, legs_at, by_leg, header_stored, header_or, table_at, append-nil, Half, or_else, stored_at, body_at, sym, ◌&&◌, Holder, PinStep, Unpin, Taken, Held, Stepped, Answer, without, is_holder, eqb-true, and_parts, cond_both, Some, Handle, ByMapping, ByLeg, Happened, append_assoc, All-cons, All-head, All-tail, All}
+use Rattle.gt_core.proofs.Words.{◌≡◌, ◌+◌, ℕ, refl, Bool, true, false, List, [], ◌∷◌, ◌++◌, Option, None, cond, ap, ◌∙◌, arith, ◌==◌, DomId, Header, Change, Item, History, Setting, entry_at, entry_after, raises_at, raise_after, live, Pin, pinned_by, unpinned_by, change_at, change_of, maps_answered_at, one_if_mapped, known_at, mappings_at, gather, by_mapping, legs_at, by_leg, header_stored, header_or, table_at, append-nil, Half, or_else, stored_at, body_at, sym, ◌&&◌, Holder, Unpin, Held, Stepped, Answer, without, is_holder, cond_both, Some, Handle, ByMapping, ByLeg, Happened, append_assoc, All-cons, All-head, All-tail, All}
 
 -- the item changes no entry, pin or mapping
 pub record KeepsKnown (i : Item) : Type 0 where
@@ -9,12 +9,10 @@ pub record KeepsKnown (i : Item) : Type 0 where
   pub maps : one_if_mapped i.answer ≡ 0
 
 pub cond-same : {A : Type 0} (b : Bool) (x : A) → cond b x x ≡ x
-cond-same true x = refl
-cond-same false x = refl
+cond-same b x = grind arith
 
 pub cond-apart : {A : Type 0} (a b : Bool) (x y z : A) → (a ≡ true → b ≡ true → ⊥) → cond a x (cond b y z) ≡ cond b y (cond a x z)
-cond-apart true true x y z h = absurd (h refl refl)
-cond-apart a b x y z h = refl
+cond-apart a b x y z h = grind arith
 
 -- the item changes no entry
 abbrev pub KeepsAll : Item → Type 0
@@ -50,8 +48,7 @@ kept-table s i h t e = ap (λ (o : Option Header). header_or o (table_at s h t))
 -- a domain knows the same, where its entries, table and mappings are the same
 pub known-as : (s : Setting) (h new : History) (d : DomId) → ((r : ℕ) → entry_at new d.0 r ≡ entry_at h d.0 r) → ((r : ℕ) → raises_at new d.0 r ≡ raises_at h d.0 r) → table_at s new d ≡ table_at s h d
     → mappings_at new d.0 ≡ mappings_at h d.0 → maps_answered_at new d.0 ≡ maps_answered_at h d.0 → known_at s new d ≡ known_at s h d
-known-as s h new d entries raises table maps answered = let e : ◌≡◌ {A = ℕ → Entry} (λ r. entry_at new d.0 r) (λ r. entry_at h d.0 r) = fun_ext entries in
-    let g : ◌≡◌ {A = ℕ → ℕ} (λ r. generation_at s new d.0 r) (λ r. generation_at s h d.0 r) = fun_ext (λ r. ap (λ (n : ℕ). s.first_generation + n) (raises r)) in cc
+known-as s h new d entries raises table maps answered = grind arith
 
 pub kept-known : (s : Setting) (i : Item) (h : History) (d : DomId) → KeepsKnown i → header_stored i.happened ≡ None → known_at s (i ∷ h) d ≡ known_at s h d
 kept-known s i h d q e =
@@ -92,18 +89,14 @@ gather-append give d (p ∷ ps) qs =
 pinned-apart : {A : Type 0} (give : Holder → Held → List A) (d : ℕ) (actor : DomId) (happened : Happened) (answer : Option Answer) (before : History) (pins : List Pin) → (actor.0 == d) ≡ false
     → gather give d (pinned_by actor happened answer before pins) ≡ []
 unfolding gather
-pinned-apart give d actor (Stepped (PinStep p) Taken) answer before pins apart = rw apart
-pinned-apart give d actor happened answer before pins apart = refl
+pinned-apart give d actor happened answer before pins apart = grind arith
 
 -- a pin that is given back, where it gave nothing to this domain
 pub without-kept : {A : Type 0} (give : Holder → Held → List A) (d actor : ℕ) (holder : Holder) (ps : List Pin)
     → ((p : Pin) → p.actor ≡ actor → is_holder p.holder holder ≡ true → cond (p.actor == d) (give p.holder p.held) [] ≡ []) → gather give d (without actor holder ps) ≡ gather give d ps
 unfolding gather without
 without-kept give d actor holder [] none = refl
-without-kept {A} give d actor holder (p ∷ ps) none = let whole = cond (p.actor == d) (give p.holder p.held) [] ++ gather give d ps in
-    cond_both ((p.actor == actor) && is_holder p.holder holder) ps (p ∷ without actor holder ps) (λ l. gather give d l ≡ whole)
-    (λ is. let a = and_parts (p.actor == actor) (is_holder p.holder holder) is in sym (ap (λ (l : List A). l ++ gather give d ps) (none p (eqb-true p.actor actor a.0) a.1)))
-    (λ is. ap (λ (l : List A). cond (p.actor == d) (give p.holder p.held) [] ++ l) (without-kept give d actor holder ps none))
+without-kept {A} give d actor holder (p ∷ ps) none = grind (arith, without-kept give d actor holder ps none)
 
 -- what held of all pins holds of those that are left
 pub all-without : (P : Pin → Type 0) (d : ℕ) (holder : Holder) (ps : List Pin) → All P ps → All P (without d holder ps)
@@ -134,8 +127,7 @@ other-known s i h d apart =
 
 -- a test above a function stands outside it too
 pub pulled : {A B : Type 0} (f : A → B) (b : Bool) (x y : A) → f (cond b x y) ≡ cond b (f x) (f y)
-pulled f true x y = refl
-pulled f false x y = refl
+pulled f b x y = grind arith
 
 -- a way to give pins by keys: each holder gives under one key, or nothing
 abbrev pub listed : {K : Type 0} → Option K → Held → List (K × Held)

@@ -1,5 +1,5 @@
 -- A pin that was taken keeps what a core stands for.
-use Rattle.gt_core.proofs.Words.{◌≡◌, ◌≢◌, ◌<◌, ◌+◌, ℕ, refl, Bool, true, false, List, [], ◌∷◌, ◌++◌, length, Option, Some, cond, sym, ap, ◌∙◌, arith, subst, ◌==◌, ◌&&◌, All, count_by, eqb-true, and_parts, false≢true, All-push, append-nil, DomId, Dir, Read, Write, MAX_PINS, Invalid, Half, FirstHalf, SecondHalf, HandleMap, Handle, Held, Holder, ByLeg, PinStep, Taken, PinCounts, Open, Item, Answer, Mapped, State, state_of, changed_in, with_slot, slot_after, Adds, History, Setting, Pin, live, entry_at, body_at, reads_at, writes_at, mappings_at, maps_answered_at, legs_at, open_call, is_pin_on, same_dir, FitsWord, control_at, gather, by_mapping, by_leg, holder_after, one_if_mapped, IsLawful, SlotAgrees, Agrees, DomainsStand, CallAgrees, GivenAgrees, MappingsAgree, sum_by_push}
+use Rattle.gt_core.proofs.Words.{◌≡◌, ◌≢◌, ◌<◌, ◌+◌, ℕ, refl, Bool, true, false, List, [], ◌∷◌, ◌++◌, length, Option, Some, cond, sym, ap, ◌∙◌, arith, subst, ◌==◌, ◌&&◌, All, count_by, All-push, append-nil, DomId, Dir, Read, Write, MAX_PINS, Invalid, Half, FirstHalf, SecondHalf, HandleMap, Handle, Held, Holder, ByLeg, PinStep, Taken, PinCounts, Open, Item, Answer, Mapped, State, state_of, changed_in, with_slot, slot_after, Adds, History, Setting, Pin, live, entry_at, body_at, reads_at, writes_at, mappings_at, maps_answered_at, legs_at, open_call, is_pin_on, same_dir, FitsWord, control_at, gather, by_mapping, by_leg, holder_after, one_if_mapped, IsLawful, SlotAgrees, Agrees, DomainsStand, CallAgrees, GivenAgrees, MappingsAgree, sum_by_push}
 use Rattle.gt_core.{specs.declared.pin_counts.CountsChange.TheVariants.Pinned, proofs.Others.answered-stays, proofs.Others.gather-append, proofs.Keeping.stepped, proofs.Keeping.KeepsEntries, proofs.Keeping.same-body, proofs.Keeping.counts-fit, proofs.Keeping.becomes-changed, proofs.Keeping.slots-stand, proofs.Keeping.keeps-stands, proofs.Keeping.same-number, proofs.Mappings.mappings-added, proofs.Mappings.mappings-same}
 
 abbrev pub pins_at : History → ℕ → ℕ → Dir → ℕ
@@ -26,16 +26,9 @@ grown-count : (h : History) (i : Item) (p : Pin) (t r : ℕ) (k : Dir) → Grows
     → pins_at (i ∷ h) t r k ≡ pins_at h t r k + cond (is_pin_on t r k p) 1 0
 grown-count h i p t r k e = ap (λ (ps : List Pin). count_by (is_pin_on t r k) ps) e ∙ sum_by_push (λ (x : Pin). cond (is_pin_on t r k x) 1 0) (live h) p
 
-pub same-dir : (a b : Dir) → same_dir a b ≡ true → a ≡ b
-same-dir Read Write e = absurd (false≢true e)
-same-dir Write Read e = absurd (false≢true e)
-same-dir a b e = refl
-
 -- what holds at the place of a pin
 at-place : (P : ℕ → ℕ → Dir → Type 0) (p : Pin) (t r : ℕ) (k : Dir) → P p.held.dom.0 p.held.gref.0 p.held.dir → is_pin_on t r k p ≡ true → P t r k
-at-place P p t r k a e = let outer = and_parts ((p.held.dom.0 == t) && (p.held.gref.0 == r)) (same_dir p.held.dir k) e in
-    let inner = and_parts (p.held.dom.0 == t) (p.held.gref.0 == r) outer.0 in subst (P t r) (same-dir p.held.dir k outer.1)
-    (subst (λ (n : ℕ). P t n p.held.dir) (eqb-true p.held.gref.0 r inner.1) (subst (λ (n : ℕ). P n p.held.gref.0 p.held.dir) (eqb-true p.held.dom.0 t inner.0) a))
+at-place P p t r k a e = grind arith
 
 -- the slot that the pin counts up
 counted-up : (h new : History) (q r : ℕ) (dir : Dir) (b : Bool) (old : PinCounts) → SlotAgrees h q r old → ((which : Half) → body_at new q r which ≡ body_at h q r which)

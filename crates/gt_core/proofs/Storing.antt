@@ -1,6 +1,6 @@
 -- A header, or a body word of an invalid entry, that its owner stores keeps what a core stands for.
-use Rattle.gt_core.proofs.Words.{◌≡◌, ◌<◌, ◌%◌, ℕ, refl, Bool, true, false, List, ◌∷◌, Option, Some, None, cond, sym, ap, ◌∙◌, arith, subst, mod-eq_of_lt, ◌==◌, DomId, Header, StoreHeader, Nothing, PinCounts, Open, Item, Answer, State, state_of, changed_in, with_header, History, Setting, header_or, table_at, one_if_mapped, open_call, FitsTable, Agrees, DomainsStand, CallAgrees, GivenAgrees, ◌≢◌, eqb-true, ◌&&◌, count_by, GrantRef, Read, Write, Invalid, Half, FirstHalf, SecondHalf, StoreBody, Stored, with_slot, slot_after, entry_at, body_at, or_else, is_pin_on, same_half, and_right, Dir, live}
-use Rattle.gt_core.proofs.{Others.unstored, Others.KeepsKnown, Others.kept-live, Others.other-table, Others.kept-table, Keeping.stepped, Keeping.SlotsAgree, Keeping.actor-agrees, Keeping.kept-stands, Keeping.mappings-stay, Keeping.same-number, Keeping.Moves, Keeping.slots-kept, Keeping.each-stays, Keeping.becomes-changed, Keeping.own-changed, Keeping.slots-stand, Others.cond-same}
+use Rattle.gt_core.proofs.Words.{◌≡◌, ◌%◌, ℕ, refl, Bool, true, false, List, ◌∷◌, Option, Some, None, cond, sym, ap, ◌∙◌, arith, subst, ◌==◌, DomId, Header, StoreHeader, Nothing, PinCounts, Open, Item, Answer, State, state_of, changed_in, with_header, History, Setting, header_or, table_at, one_if_mapped, open_call, FitsTable, Agrees, DomainsStand, CallAgrees, GivenAgrees, ◌≢◌, ◌&&◌, count_by, GrantRef, Read, Write, Invalid, Half, FirstHalf, SecondHalf, StoreBody, Stored, with_slot, slot_after, entry_at, body_at, or_else, is_pin_on, same_half, Dir, live}
+use Rattle.gt_core.proofs.{Others.unstored, Others.KeepsKnown, Others.kept-live, Others.other-table, Others.kept-table, Keeping.stepped, Keeping.SlotsAgree, Keeping.actor-agrees, Keeping.kept-stands, Keeping.mappings-stay, Keeping.same-number, Keeping.Moves, Keeping.slots-kept, Keeping.each-stays, Keeping.becomes-changed, Keeping.own-changed, Keeping.slots-stand}
 
 -- the item of a header that is stored
 abbrev pub headed : DomId → ℕ → ℕ → Option Answer → Item
@@ -21,9 +21,7 @@ headed-fits s h d version frames answer t false own new old = subst FitsTable (s
 
 -- a header within the limits has room in its word
 pub room-there : (version frames : ℕ) → FitsTable (record { version = version; frames = frames }) → ◌≡◌ {A = Header} (record { version = version % 4; frames = frames % 256 }) (record { version = version; frames = frames })
-room-there version frames f = let low : version < 4 = let a = f.version in omega arith in
-    let few : frames < 256 = let a = f.frames in omega arith in
-    ap (λ (n : ℕ). record { version = n; frames = frames % 256 }) (mod-eq_of_lt low) ∙ ap (λ (n : ℕ). record { version = version; frames = n }) (mod-eq_of_lt few)
+room-there version frames f = grind arith
 
 -- a header within the limits that its owner stores keeps what the core stands for
 pub header-stands : (s : Setting) (h : History) (xs ys : List State) (x : State) (version frames : ℕ) (answer : Option Answer) (o : Option Open) → DomainsStand s h xs → state_of xs x.id.0 ≡ Some x → Agrees s h x
@@ -50,24 +48,17 @@ store-keeps d gref half word = record { changes = λ r. refl; pins = λ before p
 -- the half that is stored is the word, and the first one stays where it is the second
 pub half-stored : (d : DomId) (gref : GrantRef) (half : Half) (word : ℕ) (h : History) → body_at (stores d gref half word ∷ h) d.0 gref.0 half ≡ word
 unfolding body_at
-half-stored d gref half word h = rw (same-number d.0, same-number gref.0) (by half) where
-  by : (z : Half) → or_else (cond (same_half z z) (Some word) None) (body_at h d.0 gref.0 half) ≡ word
-  by FirstHalf = refl
-  by SecondHalf = refl
+half-stored d gref half word h = grind arith
 
 pub first-stays : (d : DomId) (gref : GrantRef) (word r : ℕ) (h : History) → body_at (stores d gref SecondHalf word ∷ h) d.0 r FirstHalf ≡ body_at h d.0 r FirstHalf
 unfolding body_at
-first-stays d gref word r h = ap (λ (o : Option ℕ). or_else o (body_at h d.0 r FirstHalf))
-    (ap (λ (b : Bool). cond (d.0 == d.0) (cond b (Some word) None) None) (and_right (gref.0 == r) false refl) ∙ cond-same (d.0 == d.0) None)
+first-stays d gref word r h = grind arith
 
 -- the words of a valid entry stay
 valid-stays : (d : DomId) (gref : GrantRef) (half : Half) (word : ℕ) (h : History) (t r : ℕ) (which : Half) → entry_at h d.0 gref.0 ≡ Invalid → entry_at h t r ≢ Invalid
     → body_at (stores d gref half word ∷ h) t r which ≡ body_at h t r which
 unfolding body_at
-valid-stays d gref half word h t r which invalid valid = by (d.0 == t) (gref.0 == r) refl refl where
-  by : (b c : Bool) → (d.0 == t) ≡ b → (gref.0 == r) ≡ c → or_else (cond b (cond (c && same_half half which) (Some word) None) None) (body_at h t r which) ≡ body_at h t r which
-  by true true own at = absurd (valid (ap (λ (n : ℕ). entry_at h n r) (sym (eqb-true d.0 t own)) ∙ ap (entry_at h d.0) (sym (eqb-true gref.0 r at)) ∙ invalid))
-  by b c own at = refl
+valid-stays d gref half word h t r which invalid valid = grind arith
 
 -- each slot agrees, with the word stored
 moves-stored : (d : DomId) (gref : GrantRef) (half : Half) (word : ℕ) (h : History) → Moves h (stores d gref half word ∷ h) d.0 gref.0 (Stored half word)

@@ -1,5 +1,5 @@
 -- What an event does after a history, but for keys, is a function of the history, and the same without keys; so runs that are alike stay so.
-use Rattle.gt_core.proofs.Words.{◌≡◌, ◌≢◌, ◌⊎◌, inl, inr, ℕ, refl, Bool, false, List, [], ◌∷◌, ◌++◌, Option, Some, None, sym, ap, ◌∙◌, subst, take, drop, option_map, domain_of, DomId, DomainConfig, Denial, MAX_TABLE_FRAMES, Header, header_word, Handle, asked, begun_of, CallerKnowledge, first, path, Held, Request, Asked, Map, Unmap, Load, Store, Peek, SetupTable, QuerySize, GetVersion, Holder, ByMapping, Seen, Word, Step, LookHeader, LookControl, LookBody, PinStep, Unpin, StoreHeader, Exchange, ReadBytes, Action, Makes, Verdict, Answer, Event, Begin, Tick, Happened, Began, Stepped, Item, Element, Busy, Idle, NoDomain, Did, History, Setting, Underway, open_call, values, known_at, seen_by, exchange_sees, table_at, maps_answered_at, contents_at, mappings_at, mapping_of, MayDo, IsRight, StepsRight, StepsRightIn, AnsweredBy, refusal_in, verdict_in, gives_back, stood, bare_handle, bare_request, bare_event, bare_step, told, told_item, ToldItem, AsksKnown, IsOfKnown, IsRun, Ends, BeginsRight, grown, told_items, SameHistory, HappensKnown, AreAlike, IsOf, SameEvent, SameElement, arith}
+use Rattle.gt_core.proofs.Words.{◌≡◌, ◌≢◌, ◌⊎◌, inl, inr, ℕ, refl, Bool, false, List, [], ◌∷◌, ◌++◌, Option, Some, None, sym, ap, ◌∙◌, subst, take, drop, option_map, domain_of, DomId, DomainConfig, Denial, MAX_TABLE_FRAMES, Header, header_word, Handle, asked, begun_of, CallerKnowledge, first, path, Held, Request, Asked, Map, Unmap, Load, Store, Peek, SetupTable, QuerySize, GetVersion, Seen, Word, Step, LookHeader, LookControl, LookBody, PinStep, StoreHeader, Exchange, ReadBytes, Action, Makes, Verdict, Answer, Event, Begin, Tick, Happened, Began, Stepped, Item, Element, Busy, Idle, NoDomain, Did, History, Setting, Underway, open_call, values, known_at, seen_by, exchange_sees, table_at, maps_answered_at, contents_at, mappings_at, mapping_of, MayDo, IsRight, StepsRight, StepsRightIn, AnsweredBy, refusal_in, verdict_in, gives_back, stood, bare_handle, bare_request, bare_event, bare_step, told, told_item, ToldItem, AsksKnown, IsOfKnown, IsRun, Ends, BeginsRight, grown, told_items, SameHistory, HappensKnown, AreAlike, IsOf, SameEvent, SameElement, arith}
 use Rattle.gt_core.{proofs.Pins.word-bare, proofs.Pins.mapping-bare, proofs.Pins.known-bare, proofs.Bare.bare, proofs.Bare.bare_asked, proofs.Bare.bare_call, proofs.Bare.asked-bare, proofs.Bare.open-bare, proofs.Bare.values-bare, proofs.Bare.table-bare, proofs.Bare.body-bare, proofs.Bare.maps-bare, proofs.Bare.contents-bare, proofs.Bare.bare-same, proofs.Given.CallKnown, proofs.Given.open-known}
 use Rattle.gt_calls.specs.declared.request.Request.TheVariants as requests
 use Rattle.gt_core.specs.declared.trace.Answer.TheVariants as answers
@@ -48,8 +48,7 @@ seen-at s h d (Exchange gref looked change) run = ap (λ (w : ℕ). exchange_see
 seen-at s h d step run = refl
 
 seen-bare : (s : Setting) (h : History) (d : DomId) (step : Step) → seen_by s h d step ≡ seen_by s h d (bare_step step)
-seen-bare s h d (Unpin p (ByMapping a)) = refl
-seen-bare s h d step = refl
+seen-bare s h d step = grind arith
 
 -- answers
 
@@ -73,14 +72,6 @@ value-at s h d (QuerySize dom) (Some (LookHeader t)) = ap (λ (x : Header). Some
 value-at s h d (GetVersion dom) (Some (LookHeader t)) = ap (λ (x : Header). Some (inl (answers.Version x.version))) (table-bare s h t)
 value-at s h d r step = refl
 
-unpin-value : (s : Setting) (h : History) (d : DomId) (r : Asked) (p : Held) (x y : Holder) → value_told s h d r (Some (Unpin p x)) ≡ value_told s h d r (Some (Unpin p y))
-unpin-value s h d (Map dom gref flags) p x y = refl
-unpin-value s h d r p x y = refl
-
-step-value : (s : Setting) (h : History) (d : DomId) (r : Asked) (step : Step) → value_told s h d r (Some (bare_step step)) ≡ value_told s h d r (Some step)
-step-value s h d r (Unpin p (ByMapping a)) = unpin-value s h d r p (ByMapping (bare_handle a)) (ByMapping a)
-step-value s h d r step = refl
-
 abbrev told_by : Option Denial → Option (Answer ⊎ List ℕ) → Option (Answer ⊎ List ℕ)
 told_by (Some denial) value = Some (inl (answers.Denied denial))
 told_by None value = value
@@ -99,8 +90,7 @@ answer-at s h d r step None = refl
 answer-at s h d r step (Some v) = ap (told_by (refusal_in (Some v))) (value-at s h d r step)
 
 answer-step : (s : Setting) (h : History) (d : DomId) (r : Asked) (step : Step) (v : Option Verdict) → answer_told s h d r (Some (bare_step step)) v ≡ answer_told s h d r (Some step) v
-answer-step s h d r step None = refl
-answer-step s h d r step (Some v) = ap (told_by (refusal_in (Some v))) (step-value s h d r step)
+answer-step s h d r step v = grind arith
 
 -- items
 
@@ -118,8 +108,7 @@ is-began s h d q a right = let i : Item = record { actor = d; happened = Began q
     (answer-told s h d (asked q) None false (begun_of (known_at s h d) d q) a (stood s (i ∷ h) d.0) right.1)
 
 verdict-bare : (o : Option Action) → verdict_in (option_map bare_action o) ≡ verdict_in o
-verdict-bare (Some (Makes step)) = refl
-verdict-bare o = refl
+verdict-bare o = grind arith
 
 is-stepped : (s : Setting) (h : History) (d : DomId) (step : Step) (seen : Seen) (a : Option Answer) (c : Underway) → StepsRight s h (record { actor = d; happened = Stepped step seen; answer = a }) step seen c
     → told_item (record { actor = d; happened = Stepped step seen; answer = a }) ≡ step_told s h d c.request (values c) (bare_step step)
@@ -131,8 +120,7 @@ is-stepped s h d step seen a c right = let i : Item = record { actor = d; happen
     ∙ ap (λ (v : Seen). record { actor = d; happened = Stepped (bare_step step) v; answer = answer_told s h d c.request (Some (bare_step step)) (verdict_in (option_map bare_action (o v))) }) (right.sees ∙ seen-bare s h d step)
 
 request-twice : (q : Request) → bare_request (bare_request q) ≡ bare_request q
-request-twice (requests.GrantBytes gref bytes) = refl
-request-twice q = refl
+request-twice q = grind arith
 
 began-at : (s : Setting) (h : History) (d : DomId) (q : Request) → IsRun s h → AsksKnown h d.0 (asked q) → began_told s (bare h) d (bare_request q) ≡ began_told s h d q
 began-at s h d q run k =
@@ -179,12 +167,10 @@ doing s h (Begin d q) = within (domain_of s.domains d) (begin_told s h d q (open
 doing s h (Tick d) = within (domain_of s.domains d) (tick_told s h d (open_call h d.0))
 
 is-within : (o : Option DomainConfig) (x y : Element ⊎ ToldItem) → o ≢ None → x ≡ y → x ≡ within o y
-is-within None x y some e = absurd (some refl)
-is-within (Some config) x y some e = e
+is-within o x y some e = grind arith
 
 is-busy : (s : Setting) (h : History) (d : DomId) (q : Request) (c : Option Underway) → c ≢ None → inl Busy ≡ begin_told s h d q c
-is-busy s h d q None some = absurd (some refl)
-is-busy s h d q (Some c) some = refl
+is-busy s h d q c some = grind arith
 
 begin-does : (s : Setting) (h : History) (d : DomId) (q : Request) (a : Option Answer) → BeginsRight s h (record { actor = d; happened = Began q; answer = a }) q
     → element_told (Did (record { actor = d; happened = Began q; answer = a })) ≡ begin_told s h d q (open_call h d.0)
@@ -261,8 +247,7 @@ item-known : (h : History) (e : Event) (actor : DomId) (x : Happened) (a : Optio
 item-known h e actor x a k is = grind arith
 
 done-right : (s : Setting) (h : History) (e : Event) (i : Item) → MayDo s h e (Did i) → IsOf e i × IsRight s h i
-done-right s h (Begin d q) i m = (m.1, m.2)
-done-right s h (Tick d) i m = (m.1, m.2)
+done-right s h e i m = grind arith
 
 run-grows : (s : Setting) (h : History) (e : Event) (i : Item) → IsRun s h → IsOfKnown h e → MayDo s h e (Did i) → IsRun s (i ∷ h)
 unfolding IsRun

@@ -1,5 +1,5 @@
 -- An unpin keeps what a core stands for.
-use Rattle.gt_core.proofs.Words.{◌≡◌, ◌+◌, ℕ, refl, Bool, true, false, List, [], ◌∷◌, ◌++◌, length, Option, Some, None, cond, sym, ap, ◌∙◌, arith, subst, ◌==◌, ◌&&◌, All, count_by, eq-eqb, false≢true, none-some, same_Some, append-nil, sum_by-cons, DomId, Dir, Read, Write, Half, FirstHalf, SecondHalf, Handle, HandleMap, Held, Holder, ByMapping, ByLeg, Unpin, Seen, PinCounts, Open, Unpinned, Item, Answer, State, state_of, changed_in, with_slot, without_mapping, slot_after, taken, History, Setting, Pin, live, body_at, mappings_at, maps_answered_at, legs_at, open_call, is_pin_on, without, is_holder, same_handle, same_dir, gather, by_mapping, by_leg, mapping_of, one_if_mapped, IsLawful, SlotAgrees, Agrees, DomainsStand, CallAgrees, GivenAgrees, MappingsAgree, numbered, ne_eqb}
+use Rattle.gt_core.proofs.Words.{◌≡◌, ◌+◌, ℕ, refl, Bool, true, false, List, [], ◌∷◌, ◌++◌, length, Option, Some, None, cond, sym, ap, ◌∙◌, arith, subst, ◌==◌, ◌&&◌, All, count_by, false≢true, none-some, same_Some, append-nil, sum_by-cons, DomId, Dir, Read, Write, Half, FirstHalf, SecondHalf, Handle, HandleMap, Held, Holder, ByMapping, ByLeg, Unpin, Seen, PinCounts, Open, Unpinned, Item, Answer, State, state_of, changed_in, with_slot, without_mapping, slot_after, taken, History, Setting, Pin, live, body_at, mappings_at, maps_answered_at, legs_at, open_call, is_pin_on, without, is_holder, same_handle, same_dir, gather, by_mapping, by_leg, mapping_of, one_if_mapped, IsLawful, SlotAgrees, Agrees, DomainsStand, CallAgrees, GivenAgrees, MappingsAgree, numbered}
 use Rattle.gt_core.proofs.{Others.answered-stays, Others.pulled, Others.cond-same, Others.without-kept, Others.IsKeyed, Others.listed, Others.mapping-keyed, Others.leg-keyed, Keeping.stepped, Keeping.KeepsEntries, Keeping.same-body, Keeping.after_change, Keeping.Becomes, Keeping.becomes-changed, Keeping.slots-stand, Keeping.keeps-stands, Mappings.less, Mappings.less_of, Mappings.mappings-taken, Mappings.mappings-same, Rows.state-changed, Pinning.pins_at, Pinning.pins-fit, Pinning.pins-none, Others.all-without}
 
 -- what an unpin takes from the live pins
@@ -113,12 +113,8 @@ mapping-agrees h d p handle seen answer kept m found a =
 
 last-leg : (m n : ℕ) (ps : List Held) (p : Held) → n ≡ m + length ps
     → (one_of (λ (k : ℕ). k == n) (numbered m (ps ++ p ∷ [])) ≡ Some p) × (less_of (λ (k : ℕ). k == n) (numbered m (ps ++ p ∷ [])) ≡ numbered m ps)
-last-leg m n [] p e = let is : (m == n) ≡ true = eq-eqb m n (omega arith) in (ap (λ (b : Bool). cond b (Some p) None) is, ap (λ (b : Bool). cond b [] ((m, p) ∷ [])) is)
-last-leg m n (q ∷ ps) p e = let more = numbered (m + 1) (ps ++ p ∷ []) in
-    let off : (m == n) ≡ false = ne_eqb m n (λ f. omega arith) in let rest = last-leg (m + 1) n ps p (omega arith) in (
-      ap (λ (b : Bool). cond b (Some q) (one_of (λ (k : ℕ). k == n) more)) off ∙ rest.0,
-      ap (λ (b : Bool). cond b more ((m, q) ∷ less_of (λ (k : ℕ). k == n) more)) off ∙ ap (λ (l : List (ℕ × Held)). (m, q) ∷ l) rest.1,
-    )
+last-leg m n [] p e = grind arith
+last-leg m n (q ∷ ps) p e = grind (arith, last-leg (m + 1) n ps p (omega arith))
 
 pub from-zero : (n : ℕ) → 0 + n ≡ n
 from-zero n = omega arith
