@@ -1,5 +1,5 @@
 -- What an access to bytes rests on: it is inside a frame, and justified.
-use Rattle.gt_core.proofs.Words.{◌≡◌, ◌≢◌, ◌≤◌, ◌<◌, ◌+◌, ◌⊎◌, inl, inr, ℕ, suc, refl, Bool, true, List, [], ◌∷◌, ◌++◌, Option, Some, None, cond, sym, ap, ◌∙◌, arith, subst, reverse, eqb-true, none-some, same_Some, ◌==◌, Any, resolved, denial_of, DomId, TypeId, Dir, Read, Write, ForMap, ForCopy, Perms, Triple, FRAME_SIZE, Policy, N5, Entry, frame_of, permits, forwards, Handle, Held, Route, Direct, Through, Pins, End, Asked, Load, Store, Peek, Poke, Copy, Holder, ByMapping, ByLeg, Place, Refused, ReadBytes, WriteBytes, last_first, CallerKnowledge, begun, frames_of, via_judged, denied, rights_to_copy, is_source_granted, is_dest_granted, source_pair, dest_pair, opens, RestsOnRequest, RestsOnWays, IsReached, LeadsTo, State, History, Setting, Pin, live, known_at, legs_at, mappings_at, mapping_of, gather, by_mapping, by_leg, same_handle, IsInFrame, CopyIsJustified, Justified, IsLawful, IsLawfullyHeld, DomainsStand, numbered, owner_by, IsAllowed, IsMapped, IsPermitted, Reaches, Forwards, MayCopy, MayUseMapping, MayAsk, EndIsJustified, cond_both}
+use Rattle.gt_core.proofs.Words.{◌≡◌, ◌≢◌, ◌≤◌, ◌<◌, ◌+◌, ◌⊎◌, inl, inr, ℕ, suc, refl, Bool, true, List, [], ◌∷◌, ◌++◌, Option, Some, None, cond, sym, ap, ◌∙◌, arith, subst, reverse, eqb-true, none-some, same_Some, ◌==◌, Any, resolved, denial_of, DomId, TypeId, Dir, Read, Write, ForMap, ForCopy, Perms, Triple, FRAME_SIZE, Policy, N5, Entry, frame_of, permits, forwards, Handle, Held, Route, Direct, Through, Pins, End, Asked, Load, Store, Peek, Poke, Copy, Holder, ByMapping, Place, Refused, ReadBytes, WriteBytes, last_first, CallerKnowledge, begun, frames_of, via_judged, denied, rights_to_copy, is_source_granted, is_dest_granted, source_pair, dest_pair, opens, RestsOnRequest, RestsOnWays, IsReached, LeadsTo, State, History, Setting, Pin, live, known_at, legs_at, mappings_at, mapping_of, gather, by_mapping, by_leg, same_handle, IsInFrame, CopyIsJustified, Justified, IsLawful, IsLawfullyHeld, DomainsStand, numbered, owner_by, IsAllowed, IsMapped, IsPermitted, Reaches, Forwards, MayCopy, MayUseMapping, MayAsk, EndIsJustified, cond_both}
 use Rattle.gt_calls.specs.{declared.held.Route.TheVariants.Own, Path.place_of}
 use Rattle.gt_core.{specs.Legal.AccessIsJustified, specs.Standing.LetsUse, proofs.Phases.none-of, proofs.Others.listed, proofs.Others.IsKeyed, proofs.Others.mapping-keyed, proofs.Others.leg-keyed}
 
@@ -49,8 +49,7 @@ pub record IsRightful (s : Setting) (d : DomId) (m : Held) (p : Pin) : Type 0 wh
   pub lets : LetsUse s d m.dom m.dir m.entry
 
 mapping-holder : (x : Holder) → mapping-keyed.key x ≢ None → (k : Handle) × (x ≡ ByMapping k)
-mapping-holder (ByMapping k) some = (k, refl)
-mapping-holder (ByLeg n) some = absurd (some refl)
+mapping-holder x some = grind arith
 
 -- the pin of a mapping is live
 pub mapping-pin : (s : Setting) (h : History) (xs : List State) (d : DomId) (handle : Handle) (m : Held) → DomainsStand s h xs → mapping_of (mappings_at h d.0) handle ≡ Some m → Any (IsRightful s d m) (live h)
@@ -84,8 +83,7 @@ access-mapped s h xs d r dir handle dom frame off len st a writes inside ask = l
 
 access-own : (s : Setting) (h : History) (d : DomId) (r : Asked) (dir : Dir) (dom : DomId) (frame off len : ℕ) → dom ≡ d → frame < frames_of s.domains d → off + len ≤ FRAME_SIZE → MayAsk s h d r
     → AccessIsJustified s h d r dir (record { owner = dom; frame = frame; off = off }) len
-access-own s h d r dir dom frame off len own framed range ask =
-    (subst (λ (z : DomId). IsInFrame s (record { owner = z; frame = frame; off = off }) len) (sym own) (framed, range), inl (ap (λ (z : DomId). z.0) own), ask)
+access-own s h d r dir dom frame off len own framed range ask = grind arith
 
 pub same-held : (k : CallerKnowledge) (handle : Handle) (a b : Held) → k.mapping handle ≡ Some a → k.mapping handle ≡ Some b → a ≡ b
 same-held k handle a b e f = same_Some a b (sym e ∙ f)

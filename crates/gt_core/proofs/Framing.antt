@@ -1,5 +1,5 @@
 -- The frames of a core: what a step of a call writes to them is by right, and leaves them as the history tells.
-use Rattle.gt_core.proofs.Words.{◌≡◌, ◌≤◌, ◌<◌, ◌+◌, ◌-◌, inl, inr, ℕ, refl, Bool, true, false, List, [], ◌∷◌, ◌++◌, replicate, length, take, drop, Option, Some, None, cond, sym, ap, ◌∙◌, arith, subst, eqb-true, eq-eqb, lt-ltb, and_parts, and_from, append-nil, map-append, length-append, length-drop, length-take-le, length-replicate, ◌==◌, ◌&&◌, nat_lt, nat_le, is_some, IsTrue, domain_of, DomId, Write, ForMap, DomainConfig, FRAME_SIZE, Entry, frame_of, permits, Handle, value_of, Held, Route, Direct, End, Request, Asked, Store, Poke, Place, Seen, Step, ReadBytes, WriteBytes, CopyBytes, Makes, Call, CallerKnowledge, begun, frames_of, frames_in, is_dest_granted, dest_pair, opens, Rests, RestsOnRequest, RestsOnWays, IsReached, pins_at, Patch, written, bytes_at, frame_counts, FrameSet, frame_at, has_range, all_zeros, AreKept, Open, Item, Answer, Begun, State, IsLoadOf, IsReadable, IsAdmitted, AccessedBy, History, Setting, patches_at, patches_by, contents_at, written_by, Writing, given_in, open_call, Underway, values, known_at, IsInFrame, CopyIsJustified, grown, DomainsStand, FramesStand, Agrees, OpenAgrees, FitsGiven, begun_element, le-leb, leb-true, unwrap_or, overlay, replay, zeros, FrameState, patch_of, patches, permits_writing, suffices, is_rightful, all_rightful, pool_number, frames_of_all, is_name, has_frame, admits, WritesTo, journal_in, name_of, ground_of, route_by, route_of, IsWritOf, FrameName, Writ, WriteRecord, BegunBusy, BegunNoDomain, cond_both}
+use Rattle.gt_core.proofs.Words.{◌≡◌, ◌≤◌, ◌<◌, ◌+◌, ◌-◌, inl, inr, ℕ, refl, Bool, true, false, List, [], ◌∷◌, ◌++◌, replicate, length, take, drop, Option, Some, None, cond, sym, ap, ◌∙◌, arith, subst, eqb-true, eq-eqb, and_parts, and_from, append-nil, map-append, length-append, length-drop, length-take-le, length-replicate, ◌==◌, ◌&&◌, nat_lt, nat_le, is_some, IsTrue, DomId, Write, ForMap, DomainConfig, FRAME_SIZE, Entry, frame_of, permits, Handle, value_of, Held, Route, Direct, End, Request, Asked, Store, Poke, Place, Seen, Step, ReadBytes, WriteBytes, CopyBytes, Makes, Call, CallerKnowledge, begun, frames_of, is_dest_granted, dest_pair, opens, Rests, RestsOnRequest, RestsOnWays, IsReached, pins_at, Patch, written, bytes_at, frame_counts, FrameSet, frame_at, has_range, all_zeros, AreKept, Open, Item, Answer, Begun, State, IsLoadOf, IsReadable, IsAdmitted, AccessedBy, History, Setting, patches_at, patches_by, contents_at, written_by, Writing, given_in, open_call, Underway, values, known_at, IsInFrame, CopyIsJustified, grown, DomainsStand, FramesStand, Agrees, OpenAgrees, FitsGiven, begun_element, le-leb, leb-true, unwrap_or, overlay, replay, zeros, FrameState, patch_of, patches, permits_writing, suffices, is_rightful, all_rightful, pool_number, frames_of_all, is_name, has_frame, admits, WritesTo, journal_in, name_of, ground_of, route_by, route_of, IsWritOf, FrameName, Writ, WriteRecord, BegunBusy, BegunNoDomain, cond_both}
 use Rattle.gt_calls.specs.{declared.held.Route.TheVariants.Own, Path.place_of}
 use Rattle.std.specs.Cmp.{both_ways}
 use Rattle.gt_core.proofs.{Starting.get-replicate, Keeping.stepped, Phases.call-is, Phases.none-of, Accessing.permits-as, Accessing.mapping-pin, Accessing.same-held, Accessing.read-justified, Accessing.copy-justified}
@@ -15,15 +15,10 @@ bytes-held s h fs dom frame off len fr = let size : off + len - off ≡ len = om
 
 frame-numbered : (ds : List DomainConfig) (t : DomId) (f at : ℕ) → f < frames_of ds t → is_some (pool_number (frame_counts ds) t f at) ≡ true
 frame-numbered [] t f at below = absurd (omega arith)
-frame-numbered (d ∷ ds) t f at below = by (d.id.0 == t.0) below (λ b. frame-numbered ds t f (at + d.frames) b) where
-  by : (b : Bool) → f < frames_in (cond b (Some d) (domain_of ds t)) → (f < frames_of ds t → is_some (pool_number (frame_counts ds) t f (at + d.frames)) ≡ true)
-      → is_some (cond b (cond (nat_lt f d.frames) (Some (at + f)) None) (pool_number (frame_counts ds) t f (at + d.frames))) ≡ true
-  by true le rest = ap (λ (b : Bool). is_some (cond b (Some (at + f)) None)) (lt-ltb f d.frames le)
-  by false le rest = rest le
+frame-numbered (d ∷ ds) t f at below = grind (arith, frame-numbered ds t f (at + d.frames))
 
 frame-there : (s : Setting) (h : History) (fs : FrameSet) (name : FrameName) → FramesStand s h fs → name.number < frames_of s.domains name.owner → has_frame fs name ≡ true
-frame-there s h fs name fr below =
-    ap (λ (ds : _). is_some (pool_number ds name.owner name.number 0)) fr.counts ∙ frame-numbered s.domains name.owner name.number 0 below
+frame-there s h fs name fr below = grind (arith, frame-numbered)
 
 range-there : (s : Setting) (h : History) (fs : FrameSet) (at : Place) (len : ℕ) → FramesStand s h fs → IsInFrame s at len → IsTrue (has_range fs (name_of at) at.off len)
 range-there s h fs at len fr a = and_from _ _ (frame-there s h fs (name_of at) fr a.0) (le-leb (at.off + len) FRAME_SIZE a.1)
@@ -111,9 +106,7 @@ open-readable s h xs fs x o c st fr here = by o.step here.rests where
 
 -- bytes that are laid over others inside them leave them as many as they were
 length-overlay : (xs : List ℕ) (off : ℕ) (ys : List ℕ) → off + length ys ≤ length xs → length (overlay xs off ys) ≡ length xs
-length-overlay xs off ys within = let back = drop (off + length ys) xs in
-    let d : length (take off xs) ≡ off = length-take-le off xs (omega arith) in
-    let whole : length ((take off xs ++ ys) ++ back) ≡ length xs = omega (arith, length-append (take off xs ++ ys) back, length-append (take off xs) ys, length-drop (off + length ys) xs) in whole
+length-overlay xs off ys within = grind (arith, length-take-le, length-append, length-drop)
 
 length-replay : (owner : DomId) (number : ℕ) (rs : List WriteRecord) (xs : List ℕ) → length xs ≡ FRAME_SIZE → IsTrue (all_rightful owner number rs) → length (replay xs (patches rs)) ≡ FRAME_SIZE
 length-replay owner number [] xs full a = full
@@ -142,12 +135,7 @@ patches-more i h t f = refl
 
 -- an item that writes nothing
 nothing-written : (s : Setting) (h : History) (fs : FrameSet) (i : Item) → WritingOf i h ≡ None → FramesStand s h fs → FramesStand s (i ∷ h) fs
-nothing-written s h fs i none fr = record { counts = fr.counts; writes = writes; kept = fr.kept; filled = filled-by (i ∷ h) fs writes fr.kept }
-  where
-    writes : (name : FrameName) → patches (frame_at fs name).journal ≡ patches_at (i ∷ h) name.owner.0 name.number
-    writes name = fr.writes name ∙ sym (append-nil (patches_at h name.owner.0 name.number))
-        ∙ ap (λ (w : Option Writing). patches_at h name.owner.0 name.number ++ patches_by w name.owner.0 name.number) (sym none)
-        ∙ sym (patches-more i h name.owner.0 name.number)
+nothing-written s h fs i none fr = grind (arith, filled-by, append-nil, patches-more)
 
 -- an item that writes these bytes to a frame by this writ
 written-once : (s : Setting) (h : History) (fs gs : FrameSet) (i : Item) (at : Place) (w : Writ) (bytes : List ℕ) → WritingOf i h ≡ Some (record { at = at; bytes = bytes }) → FramesStand s h fs → WritesTo fs gs (name_of at) w at.off bytes → AreKept gs

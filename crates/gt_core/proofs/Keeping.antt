@@ -26,8 +26,7 @@ stood-other s i h d e = ap (λ (b : Bool). cond b (stood_with i.happened (stood 
 
 pub stood-own : (s : Setting) (i : Item) (h : History) → stood s (i ∷ h) i.actor.0 ≡ stood_with i.happened (stood s h i.actor.0) (first_of_item s h i)
 unfolding stood
-stood-own s i h =
-    ap (λ (b : Bool). cond b (stood_with i.happened (stood s h i.actor.0) (first_of_item s h i)) (stood s h i.actor.0)) (same-number i.actor.0)
+stood-own s i h = grind arith
 
 -- there is none to have bytes
 pub given-none : (h : History) (d : ℕ) (given : List ℕ) → open_call h d ≡ None → GivenAgrees h d given
@@ -165,8 +164,7 @@ counts-fit s h t r f = grind arith
 
 -- other counts, for which the word has room
 fits-with : (e : Entry) (g r w r' w' : ℕ) → r' < MAX_PINS + 1 → w' < MAX_PINS + 1 → FitsWord (control_with e g r w) → FitsWord (control_with e g r' w')
-fits-with Invalid g r w r' w' a b f = record { in_range = record { reads = a; writes = b; generation = f.in_range.generation }; domain = f.domain }
-fits-with e g r w r' w' a b f = record { in_range = record { reads = a; writes = b; generation = f.in_range.generation }; domain = f.domain }
+fits-with e g r w r' w' a b f = grind arith
 
 -- the states
 

@@ -1,14 +1,13 @@
 -- The handles of a domain, and its mappings as the history has them.
-use Rattle.gt_core.proofs.Words.{◌≡◌, ◌+◌, ℕ, zero, suc, refl, Bool, true, false, List, [], ◌∷◌, ◌++◌, length, Option, Some, None, cond, sym, ap, ◌∙◌, arith, subst, ◌==◌, ◌&&◌, fun_ext, eqb-true, eq-eqb, and_from, true≢false, none-some, length-append, sum_by-cons, Handle, HandleMap, value_of, count_of, Held, mapping_of, same_handle, Adds, taken, MappingsAgree, slice_index_or, slice_set, under, AreApart, cond_both, Slot}
+use Rattle.gt_core.proofs.Words.{◌≡◌, ◌+◌, ℕ, zero, suc, refl, Bool, true, false, List, [], ◌∷◌, ◌++◌, length, Option, Some, None, cond, sym, ap, ◌∙◌, arith, subst, ◌==◌, fun_ext, eqb-true, true≢false, none-some, length-append, sum_by-cons, Handle, HandleMap, value_of, count_of, Held, mapping_of, same_handle, Adds, taken, MappingsAgree, slice_index_or, slice_set, under, AreApart, Slot}
 use Rattle.std.{proofs.Common.is_some, proofs.Common.count_by, specs.Cmp.both_ways}
-use Rattle.gt_core.proofs.{Others.cond-same, Others.cond-apart, Others.pulled}
+use Rattle.gt_core.proofs.{Others.cond-same, Others.cond-apart}
 
 pub same-handle : (a b : Handle) → same_handle a b ≡ true → a ≡ b
 same-handle a b e = grind arith
 
 handle-back : (a b : Handle) → same_handle a b ≡ true → same_handle b a ≡ true
-handle-back a b e = subst (λ (x : Handle). same_handle x a ≡ true) (same-handle a b e)
-    (and_from (a.serial == a.serial) (a.key == a.key) (eq-eqb a.serial a.serial refl) (eq-eqb a.key a.key refl))
+handle-back a b e = grind arith
 
 swap-handles : (a b : Handle) → same_handle a b ≡ same_handle b a
 swap-handles a b = both_ways (same_handle a b) (same_handle b a) (handle-back a b) (handle-back b a)
@@ -16,8 +15,7 @@ swap-handles a b = both_ways (same_handle a b) (same_handle b a) (handle-back a 
 -- a list of mappings, and one more
 
 none-of : (x : Handle × Held) (ms : List (Handle × Held)) (handle : Handle) → mapping_of (x ∷ ms) handle ≡ None → (same_handle x.0 handle ≡ false) × (mapping_of ms handle ≡ None)
-none-of x ms handle e =
-    cond_both (same_handle x.0 handle) (Some x.1) (mapping_of ms handle) (λ o. o ≡ None → (same_handle x.0 handle ≡ false) × (mapping_of ms handle ≡ None)) (λ is f. absurd (none-some x.1 (sym f))) (λ is f. (is, f)) e
+none-of x ms handle e = grind arith
 
 push-of : (ms : List (Handle × Held)) (handle : Handle) (m : Held) (other : Handle) → mapping_of ms handle ≡ None
     → mapping_of (ms ++ (handle, m) ∷ []) other ≡ cond (same_handle other handle) (Some m) (mapping_of ms other)
@@ -55,20 +53,8 @@ abbrev pub less : Handle → List (Handle × Held) → List (Handle × Held)
 less handle ms = less_of (λ (k : Handle). same_handle k handle) ms
 
 less-of : (ms : List (Handle × Held)) (handle other : Handle) → AreApart ms → mapping_of (less handle ms) other ≡ cond (same_handle other handle) None (mapping_of ms other)
-less-of [] handle other a = sym (cond_both (same_handle other handle) None None (λ o. o ≡ None) (λ e. refl) (λ e. refl))
-less-of (x ∷ ms) handle other a = pulled (λ (l : List (Handle × Held)). mapping_of l other) (same_handle x.0 handle) ms (x ∷ less handle ms)
-    ∙ ap (λ (o : Option Held). cond (same_handle x.0 handle) (mapping_of ms other) (cond (same_handle x.0 other) (Some x.1) o)) (less-of ms handle other a.1)
-    ∙ by (same_handle x.0 handle) refl (same_handle other handle) (same_handle x.0 other) refl refl
-  where
-    both : same_handle x.0 other ≡ true → same_handle other handle ≡ same_handle x.0 handle
-    both e = ap (λ (z : Handle). same_handle z handle) (sym (same-handle x.0 other e))
-
-    by : (a' : Bool) → same_handle x.0 handle ≡ a' → (b c : Bool) → same_handle other handle ≡ b → same_handle x.0 other ≡ c
-        → cond a' (mapping_of ms other) (cond c (Some x.1) (cond b None (mapping_of ms other))) ≡ cond b None (cond c (Some x.1) (mapping_of ms other))
-    by true is true c e f = ap (mapping_of ms) (same-handle other handle e ∙ sym (same-handle x.0 handle is)) ∙ a.0
-    by true is false true e f = absurd (true≢false (sym is ∙ sym (both f) ∙ e))
-    by false is true true e f = absurd (true≢false (sym e ∙ both f ∙ is))
-    by a' is b c e f = refl
+less-of [] handle other a = grind arith
+less-of (x ∷ ms) handle other a = grind (arith, less-of ms handle other a.1)
 
 length-less : (ms : List (Handle × Held)) (handle : Handle) (m : Held) → mapping_of ms handle ≡ Some m → length ms ≡ length (less handle ms) + 1
 length-less [] handle m e = absurd (none-some m e)
@@ -80,10 +66,7 @@ length-less (x ∷ ms) handle m e = by (same_handle x.0 handle) (λ k. length-le
 
 apart-less : (ms : List (Handle × Held)) (handle : Handle) → AreApart ms → AreApart (less handle ms)
 apart-less [] handle a = tt
-apart-less (x ∷ ms) handle a = cond_both (same_handle x.0 handle) ms (x ∷ less handle ms) AreApart (λ e. a.1) (λ e. (
-  less-of ms handle x.0 a.1 ∙ ap (cond (same_handle x.0 handle) None) a.0 ∙ cond-same (same_handle x.0 handle) None,
-  apart-less ms handle a.1,
-))
+apart-less (x ∷ ms) handle a = grind (arith, apart-less ms handle a.1, less-of, cond-same)
 
 -- the slots of the handles, and one less
 
@@ -98,18 +81,7 @@ under-other : (o : Option (Slot Held)) (other serial : ℕ) (m : Held) → (othe
 under-other o other serial m apart e = grind arith
 
 taken-of : (kept : HandleMap Held) (handle other : Handle) (m : Held) → value_of kept handle ≡ Some m → value_of (taken handle kept) other ≡ cond (same_handle other handle) None (value_of kept other)
-taken-of kept handle other m has =
-    ap (λ (o : Option Held). value_of (cond (is_some o) (record kept { slots = slice_set kept.slots handle.key None }) kept) other) has
-    ∙ ap (under other.serial) (set-none kept.slots handle.key other.key)
-    ∙ by (other.serial == handle.serial) (other.key == handle.key) refl refl where
-      by : (s k : Bool) → (other.serial == handle.serial) ≡ s → (other.key == handle.key) ≡ k
-          → under other.serial (cond k None (slice_index_or kept.slots other.key None)) ≡ cond (s && k) None (under other.serial (slice_index_or kept.slots other.key None))
-      by true true is at = refl
-      by true false is at = refl
-      by false false is at = refl
-      by false true is at =
-          sym (ap (λ (n : ℕ). under other.serial (slice_index_or kept.slots n None)) (eqb-true other.key handle.key at)
-          ∙ under-other (slice_index_or kept.slots handle.key None) other.serial handle.serial m is has)
+taken-of kept handle other m has = grind (arith, set-none, eqb-true, under-other)
 
 count-set : (slots : List (Option (Slot Held))) (key : ℕ) (slot : Slot Held) → slice_index_or slots key None ≡ Some slot → count_by is_some (slice_set slots key None) + 1 ≡ count_by is_some slots
 count-set (Some x ∷ os) zero slot e =
@@ -119,12 +91,7 @@ count-set (o ∷ os) (suc key) slot e =
 count-set slots key slot e = absurd (none-some slot e)
 
 count-taken : (kept : HandleMap Held) (handle : Handle) (m : Held) → value_of kept handle ≡ Some m → count_of (taken handle kept) + 1 ≡ count_of kept
-count-taken kept handle m has =
-    ap (λ (o : Option Held). count_of (cond (is_some o) (record kept { slots = slice_set kept.slots handle.key None }) kept) + 1) has
-    ∙ by (slice_index_or kept.slots handle.key None) refl has where
-      by : (o : Option (Slot Held)) → slice_index_or kept.slots handle.key None ≡ o → under handle.serial o ≡ Some m → count_by is_some (slice_set kept.slots handle.key None) + 1 ≡ count_by is_some kept.slots
-      by None is f = absurd (none-some m f)
-      by (Some slot) is f = count-set kept.slots handle.key slot is
+count-taken kept handle m has = grind (arith, count-set)
 
 -- the handles without one mapping are those of the mappings without it
 pub mappings-taken : (kept : HandleMap Held) (handle : Handle) (m : Held) (ms : List (Handle × Held)) (n : ℕ) → mapping_of ms handle ≡ Some m → MappingsAgree kept ms n

@@ -1,6 +1,6 @@
 -- A pin that was taken keeps what a core stands for.
 use Rattle.gt_core.proofs.Words.{◌≡◌, ◌≢◌, ◌<◌, ◌+◌, ℕ, refl, Bool, true, false, List, [], ◌∷◌, ◌++◌, length, Option, Some, cond, sym, ap, ◌∙◌, arith, subst, ◌==◌, ◌&&◌, All, count_by, All-push, append-nil, DomId, Dir, Read, Write, MAX_PINS, Invalid, Half, FirstHalf, SecondHalf, HandleMap, Handle, Held, Holder, ByLeg, PinStep, Taken, PinCounts, Open, Item, Answer, Mapped, State, state_of, changed_in, with_slot, slot_after, Adds, History, Setting, Pin, live, entry_at, body_at, reads_at, writes_at, mappings_at, maps_answered_at, legs_at, open_call, is_pin_on, same_dir, FitsWord, control_at, gather, by_mapping, by_leg, holder_after, one_if_mapped, IsLawful, SlotAgrees, Agrees, DomainsStand, CallAgrees, GivenAgrees, MappingsAgree, sum_by_push}
-use Rattle.gt_core.{specs.declared.pin_counts.CountsChange.TheVariants.Pinned, proofs.Others.answered-stays, proofs.Others.gather-append, proofs.Keeping.stepped, proofs.Keeping.KeepsEntries, proofs.Keeping.same-body, proofs.Keeping.counts-fit, proofs.Keeping.becomes-changed, proofs.Keeping.slots-stand, proofs.Keeping.keeps-stands, proofs.Keeping.same-number, proofs.Mappings.mappings-added, proofs.Mappings.mappings-same}
+use Rattle.gt_core.{specs.declared.pin_counts.CountsChange.TheVariants.Pinned, proofs.Others.answered-stays, proofs.Others.gather-append, proofs.Keeping.stepped, proofs.Keeping.KeepsEntries, proofs.Keeping.same-body, proofs.Keeping.becomes-changed, proofs.Keeping.slots-stand, proofs.Keeping.keeps-stands, proofs.Keeping.same-number, proofs.Mappings.mappings-added, proofs.Mappings.mappings-same}
 
 abbrev pub pins_at : History → ℕ → ℕ → Dir → ℕ
 pins_at h t r dir = count_by (is_pin_on t r dir) (live h)
@@ -46,20 +46,16 @@ counted-up h new q r dir b old a body now few = by dir b (now Read) (now Write) 
 -- counts and words
 
 pub pins-fit : (s : Setting) (h : History) (t r : ℕ) (k : Dir) → FitsWord (control_at s h t r) → pins_at h t r k < MAX_PINS + 1
-pins-fit s h t r Read f = (counts-fit s h t r f).0
-pins-fit s h t r Write f = (counts-fit s h t r f).1
+pins-fit s h t r k f = grind arith
 
 pub pins-none : (h : History) (t r : ℕ) (k : Dir) → (reads_at h t r ≡ 0) × (writes_at h t r ≡ 0) → pins_at h t r k ≡ 0
-pins-none h t r Read none = none.0
-pins-none h t r Write none = none.1
+pins-none h t r k none = grind arith
 
 now-fits : (b : Bool) (now was : ℕ) → was < MAX_PINS + 1 → (b ≡ true → was < MAX_PINS) → now ≡ was + cond b 1 0 → now < MAX_PINS + 1
-now-fits true now was a few e = let c : was < MAX_PINS = few refl in omega arith
-now-fits false now was a few e = omega arith
+now-fits b now was a few e = grind arith
 
 now-none : (b : Bool) (now was : ℕ) → was ≡ 0 → (b ≡ true → ⊥) → now ≡ was + cond b 1 0 → now ≡ 0
-now-none true now was a none e = absurd (none refl)
-now-none false now was a none e = omega arith
+now-none b now was a none e = grind arith
 
 pub pinned-live : (h : History) (d : DomId) (p : Held) (answer : Option Answer) → live (pins d p answer ∷ h) ≡ live h ++ new_pin h d p answer ∷ []
 unfolding live

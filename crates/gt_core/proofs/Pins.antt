@@ -1,5 +1,5 @@
 -- The live pins and the mappings are the same without keys, where each handle that is named is told by its serial.
-use Rattle.gt_core.proofs.Words.{◌≡◌, ◌+◌, ℕ, refl, Bool, true, false, List, [], ◌∷◌, ◌++◌, length, Option, Some, None, cond, sym, ap, ◌∙◌, subst, ◌==◌, ◌&&◌, count_by, is_some, option_map, eqb-true, sum_by-cons, fun_ext, DomId, Dir, Read, Write, Entry, Handle, Holder, ByMapping, ByLeg, Held, Seen, Taken, PinStep, Unpin, Answer, Mapped, Happened, Stepped, History, Setting, Pin, live, without, is_holder, same_handle, holder_after, gather, by_leg, by_mapping, pinned_by, unpinned_by, is_pin_on, reads_at, writes_at, mappings_at, mapping_of, entry_at, generation_at, word_at, known_at, domain_of, shown_at, subject_at, place_of, bare_handle, bare_happened, told, IsGiven, IsKnown, IsRun, AreAlike, map, map-append, length-map, slice_index_or, All-head, All-tail, All, arith}
+use Rattle.gt_core.proofs.Words.{◌≡◌, ◌+◌, ℕ, refl, Bool, true, false, List, [], ◌∷◌, ◌++◌, length, Option, Some, None, cond, sym, ap, ◌∙◌, subst, ◌==◌, ◌&&◌, count_by, is_some, option_map, eqb-true, sum_by-cons, fun_ext, DomId, Dir, Read, Write, Entry, Handle, Holder, ByMapping, ByLeg, Held, Seen, Taken, PinStep, Unpin, Answer, Happened, Stepped, History, Setting, Pin, live, without, is_holder, same_handle, holder_after, gather, by_leg, by_mapping, pinned_by, unpinned_by, is_pin_on, reads_at, writes_at, mappings_at, mapping_of, entry_at, generation_at, word_at, known_at, domain_of, shown_at, subject_at, place_of, bare_handle, bare_happened, told, IsGiven, IsKnown, IsRun, AreAlike, map, map-append, length-map, All-head, All-tail, All, arith}
 use Rattle.std.proofs.lemmas.List.Elements.{All-weaker}
 use Rattle.gt_core.proofs.{Bare.bare-same, Bare.answer_from, Bare.bare, Bare.entry-bare, Bare.raises-bare, Bare.table-bare, Bare.maps-bare, Given.HeldGiven, Given.PinsGiven, Given.pins-given, Given.known-tells, Given.unpin-known}
 
@@ -36,10 +36,7 @@ without-bare d holder (p ∷ ps) t = by (p.actor == d) refl (without-bare d hold
   by false e rest = at false rest
 
 leg-tells : (d n : ℕ) (ps : List Pin) → All (Tells d (ByLeg n)) ps
-leg-tells d n ps = λ k q lt own. by (slice_index_or ps k q).holder where
-  by : (x : Holder) → is_holder (bare_holder x) (ByLeg n) ≡ is_holder x (ByLeg n)
-  by (ByMapping b) = refl
-  by (ByLeg m) = refl
+leg-tells d n ps = grind arith
 
 mapping-tells : (s : Setting) (h : History) (d : ℕ) (a : Handle) (ps : List Pin) → IsRun s h → IsKnown h d a → PinsGiven h ps → All (Tells d (ByMapping a)) ps
 mapping-tells s h d a ps run k g =
@@ -63,8 +60,7 @@ legs-bare d [] = refl
 legs-bare d (p ∷ ps) = grind (arith, legs-bare d ps)
 
 holder-bare : (a : Option Answer) (n : ℕ) → holder_after (option_map answer_from (option_map told a)) n ≡ bare_holder (holder_after a n)
-holder-bare (Some (Mapped handle)) n = refl
-holder-bare a n = refl
+holder-bare a n = grind arith
 
 pinned-bare : (d : DomId) (x : Happened) (a : Option Answer) (h : History) (ps : List Pin)
     → pinned_by d (bare_happened x) (option_map answer_from (option_map told a)) (bare h) (bare_pins ps) ≡ bare_pins (pinned_by d x a h ps)

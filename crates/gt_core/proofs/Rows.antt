@@ -1,6 +1,5 @@
 -- A change of one element of a list; the state of a domain among the states, and a change of it.
 use Rattle.gt_core.proofs.Words.{◌≡◌, ◌<◌, ◌≤◌, ℕ, zero, suc, refl, Bool, true, false, List, [], ◌∷◌, length, Option, Some, None, cond, ltb, sym, ap, ◌∙◌, arith, get_or, set, eqb-true, eq-eqb, true≢false, ltb-false, position-Some, slice_get_past, slice_get-get_or, Result, OnErr, position, slice_get, ◌==◌, position_or_len, State, find, cond_both, find_at, ◌+◌, not, option_map, changed_at, state_of, changed_in}
-use Rattle.std.specs.Prelude.{Ok, Err}
 use Rattle.gt_core.{proofs.Others.cond-apart}
 
 abbrev pub has_id : ℕ → State → Bool
@@ -27,8 +26,7 @@ found xs d i x h = state_of-find xs d ∙ find_at (has_id d) xs
     ∙ slice_get-get_or xs i x (position-Some (has_id d) xs i x h).0
 
 cond-twice : (b : Bool) (x y z : Option State) → cond b x (cond b y z) ≡ cond b x z
-cond-twice true x y z = refl
-cond-twice false x y z = refl
+cond-twice b x y z = grind arith
 
 -- a new state of the first domain with a number
 pub state_of-set : (xs : List State) (i : ℕ) (old new : State) (q : ℕ)
@@ -46,8 +44,7 @@ state_of-set (x ∷ xs) (suc i) old new q within here same apart =
 
 -- what holds anyway holds on an error
 pub on-err : {A E : Type 0} (r : Result A E) (P : Type 0) → P → OnErr r P
-on-err (Ok a) P p = tt
-on-err (Err e) P p = p
+on-err r P p = grind arith
 
 -- a write of the changed element
 pub set-changed : {A : Type 0} (xs : List A) (r : ℕ) (f : A → A) (y x : A) → r < length xs → x ≡ get_or xs r x → y ≡ f x → set xs r y ≡ changed_at r f xs
@@ -62,7 +59,7 @@ changed-past (z ∷ zs) zero f past = grind arith
 changed-past (z ∷ zs) (suc r) f past = grind (arith, changed-past zs r f (omega arith))
 
 pub length-changed : {A : Type 0} (xs : List A) (r : ℕ) (f : A → A) → length (changed_at r f xs) ≡ length xs
-length-changed (z ∷ zs) (suc r) f = ap suc (length-changed zs r f)
+length-changed (z ∷ zs) (suc r) f = grind (arith, length-changed zs r f)
 length-changed xs r f = refl
 
 -- what stands at a place after the change
@@ -102,7 +99,7 @@ changed-nowhere xs d f p = changed-none xs d f (none-place (position_or_len (has
 
 pub length-changed_in : (xs : List State) (d : ℕ) (f : State → State) → length (changed_in d f xs) ≡ length xs
 length-changed_in [] d f = refl
-length-changed_in (z ∷ zs) d f = cond_both (z.id.0 == d) (f z ∷ zs) (z ∷ changed_in d f zs) (λ l. length l ≡ length (z ∷ zs)) (λ e. refl) (λ e. ap suc (length-changed_in zs d f))
+length-changed_in (z ∷ zs) d f = grind (arith, length-changed_in zs d f)
 
 -- the first state with a number, after the change of the one with number d
 pub state-changed : (xs : List State) (d q : ℕ) (f : State → State) → ((x : State) → (f x).id ≡ x.id) → state_of (changed_in d f xs) q ≡ cond (d == q) (option_map f (state_of xs q)) (state_of xs q)

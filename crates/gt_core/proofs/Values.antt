@@ -1,7 +1,7 @@
 -- What an answer of a call is, by its last step.
-use Rattle.gt_core.proofs.Words.{◌≡◌, ◌⊎◌, inl, inr, ℕ, refl, Bool, true, false, List, [], ◌∷◌, length, Option, Some, cond, sym, ap, ◌∙◌, subst, eqb-true, ◌==◌, nat_lt, DomId, GrantRef, Denial, N18, N19, Entry, Invalid, Header, Change, control_of, header_of, header_word, Held, Asked, Map, ByLeg, Seen, Taken, Missed, Verdict, Granted, Given, Refused, Step, LookHeader, PinStep, Unpin, StoreBody, Exchange, ReadBytes, Action, Makes, Done, Aim, Mapping, AsksSize, AsksVersion, Phase, Storing, StoringSecond, Exchanging, Looking, Changing, Walking, Accessing, Asking, Last, Ending, Leg, LegPhase, Pinning, Pinned, last_first, pins_so_far, CallerKnowledge, path, held_of, is_stopped, Continuation, IsFor, RestsOnWord, RestsOnRequest, phase_after, action_at, leg_after, leg_step, after_store, refused_as, next_to_give, HasShown, IsQuiet, IsTurn, held_in, AnswerDone, State, History, Setting, word_at, table_at, known_at, seen_by, StepsSoFar, GivesValue, PhaseStands, EndsAfter, EndsCopy, answer_with, MAX_TABLE_FRAMES, ◌-◌, without_last, Size, Version, cond_both, FirstHalf, SecondHalf, first_body, second_body, CopyBytes, CopyArgs, Copy, LookControl, Pins, arith}
+use Rattle.gt_core.proofs.Words.{◌≡◌, ◌⊎◌, inl, inr, ℕ, refl, Bool, true, false, List, [], ◌∷◌, length, Option, Some, cond, sym, ap, ◌∙◌, subst, eqb-true, ◌==◌, nat_lt, DomId, GrantRef, Denial, N18, N19, Entry, Header, Change, control_of, header_of, header_word, Held, Asked, Map, ByLeg, Seen, Taken, Missed, Verdict, Granted, Given, Refused, Step, LookHeader, PinStep, Unpin, StoreBody, Exchange, ReadBytes, Action, Makes, Done, Aim, Mapping, AsksSize, AsksVersion, Phase, Storing, StoringSecond, Exchanging, Looking, Changing, Walking, Accessing, Asking, Last, Ending, Leg, LegPhase, Pinning, Pinned, last_first, pins_so_far, CallerKnowledge, path, held_of, is_stopped, Continuation, IsFor, RestsOnWord, RestsOnRequest, phase_after, action_at, leg_after, leg_step, after_store, refused_as, next_to_give, HasShown, IsQuiet, IsTurn, held_in, AnswerDone, State, History, Setting, word_at, table_at, known_at, seen_by, StepsSoFar, GivesValue, PhaseStands, EndsAfter, EndsCopy, answer_with, MAX_TABLE_FRAMES, ◌-◌, without_last, Size, Version, cond_both, FirstHalf, SecondHalf, first_body, second_body, CopyBytes, CopyArgs, Copy, LookControl, Pins, arith}
 use Rattle.gt_calls.specs.{declared.action.Verdict.TheVariants.Mapped, Path.place_of}
-use Rattle.gt_core.proofs.{Phases.OfAction, Phases.IsHere, Phases.makes-same, Phases.by-quiet, Judging.not-pinned, Outcomes.next_of, Outcomes.walk-done, Seeing.table-fits}
+use Rattle.gt_core.proofs.{Phases.OfAction, Phases.IsHere, Phases.makes-same, Judging.not-pinned, Outcomes.next_of, Outcomes.walk-done, Seeing.table-fits}
 
 -- the next phase of a call that stands at a question
 abbrev Next : Setting → History → DomId → Phase → Step → Verdict → Type 0
@@ -32,8 +32,7 @@ last-ends : (s : Setting) (h : History) (d : DomId) (r : Asked) (phase : Phase) 
 last-ends s h d r phase last verdict q a b = grind arith
 
 last-next : (s : Setting) (h : History) (d : DomId) (last : Step) (verdict v : Verdict) → IsQuiet last → Next s h d (Last last verdict) last v → verdict ≡ v
-last-next s h d last verdict v q =
-    by-quiet (λ z. Next s h d (Last z verdict) z v → verdict ≡ v) (λ p handle e. cc) (λ gref half word e. cc) (λ version frames e. cc) (λ dom frame off len. (λ e. cc, λ e. cc)) last q
+last-next s h d last verdict v q = grind arith
 
 turn-value : (s : Setting) (h : History) (d : DomId) (r : Asked) (gref : GrantRef) (change : Change) (step : Option Step) → IsTurn r gref change → GivesValue s h d r step AnswerDone
 turn-value s h d r gref change step a = grind arith
@@ -52,12 +51,10 @@ abbrev Plain : (Verdict → Type 0) → Type 0
 Plain Q = Q Granted × ((denial : Denial) → Q (Refused denial))
 
 store-end : (Q : Verdict → Type 0) (k : CallerKnowledge) (d : DomId) (gref : GrantRef) (entry : Entry) → AtEnd Q (action_at d (after_store k gref entry))
-store-end Q k d gref Invalid = tt
-store-end Q k d gref entry = tt
+store-end Q k d gref entry = grind arith
 
 give-end : (Q : Verdict → Type 0) (held : List Held) (v : Verdict) → Q v → AtEnd Q (next_to_give held v)
-give-end Q [] v a = a
-give-end Q (p ∷ ps) v a = tt
+give-end Q held v a = grind arith
 
 at-end : (Q : Verdict → Type 0) (a : Action) (v : Verdict) → AtEnd Q a → a ≡ Done v → Q v
 at-end Q a v q e = subst (AtEnd Q) e q
@@ -79,8 +76,7 @@ pinned-leg s h d l (Pinning more word body second) m e = by (word_at s h l.dom.0
 pinned-leg s h d l at m e = absurd (not-pinned s h d l at tt m e)
 
 of-map : (k : CallerKnowledge) (d : DomId) (r : Asked) (aim : Aim) (l : Leg) → IsFor k d r aim l → aim ≡ Mapping → (dom : DomId) × (gref : GrantRef) × (flags : ℕ) × (r ≡ Map dom gref flags)
-of-map k d r Mapping l a is = (a.dom, a.gref, a.flags, a.of_map)
-of-map k d r aim l a is = cc
+of-map k d r aim l a is = grind arith
 
 -- a call that stands here, and is over after its step, ends so
 pub call-ends : (s : Setting) (h : History) (xs : List State) (d : DomId) (r : Asked) (shown : List Seen) (so_far : StepsSoFar) (phase : Phase) (step : Step) → IsHere s h xs d r shown so_far phase step
