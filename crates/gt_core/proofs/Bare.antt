@@ -1,5 +1,5 @@
 -- What a history leaves is the same without keys.
-use Rattle.gt_core.proofs.Words.{◌≡◌, ◌+◌, ◌⊎◌, inl, inr, ℕ, refl, Bool, true, false, List, [], ◌∷◌, ◌++◌, map, Option, Some, None, cond, sym, ap, ◌∙◌, ◌==◌, option_map, fun_ext, DomId, Entry, Header, Change, Half, asked, given_by, Request, Asked, Unmap, Load, Store, ByMapping, Seen, Step, Unpin, Answer, Mapped, Bytes, Happened, Began, Stepped, Item, Patch, written, History, Setting, Underway, Writing, entry_at, entry_after, change_at, change_of, raises_at, raise_after, body_at, or_else, stored_at, table_at, header_or, header_stored, open_call, underway_with, underway_after, maps_answered_at, one_if_mapped, contents_at, patches_by, patches_at, written_by, given_in, values, bare_handle, bare_request, bare_step, bare_happened, told, told_item, told_items, ToldItem, SameHistory, Held, Handle}
+use Rattle.gt_core.proofs.Words.{◌≡◌, ◌+◌, ◌⊎◌, inl, inr, ℕ, refl, Bool, true, false, List, [], ◌∷◌, ◌++◌, map, Option, Some, None, cond, sym, ap, ◌∙◌, ◌==◌, option_map, fun_ext, DomId, Entry, Header, Change, Half, asked, given_by, Request, Asked, Unmap, Load, Store, ByMapping, Seen, Step, Unpin, Answer, Happened, Began, Stepped, Item, Patch, written, History, Setting, Underway, Writing, entry_at, entry_after, change_at, change_of, raises_at, raise_after, body_at, or_else, stored_at, table_at, header_or, header_stored, open_call, underway_with, underway_after, maps_answered_at, one_if_mapped, contents_at, patches_by, patches_at, written_by, given_in, values, bare_handle, bare_request, bare_step, bare_happened, told, told_item, told_items, ToldItem, SameHistory, Held, Handle, arith}
 use Rattle.gt_core.specs.declared.trace.Answer.TheVariants.{Done}
 use Rattle.gt_calls.specs.declared.request.Request.TheVariants as requests
 
@@ -34,14 +34,10 @@ bare-same g h same = bare-told g ∙ ap items_from same ∙ sym (bare-told h)
 -- what tells no request from another, and no handle, is the same of what happened without its key
 happened-bare : {A : Type 0} (f : Happened → A) → ((p : Held) (a b : Handle) (seen : Seen) → f (Stepped (Unpin p (ByMapping a)) seen) ≡ f (Stepped (Unpin p (ByMapping b)) seen)) → ((q r : Request) → f (Began q) ≡ f (Began r))
     → (x : Happened) → f (bare_happened x) ≡ f x
-happened-bare f steps begins (Stepped (Unpin p (ByMapping a)) seen) = steps p (bare_handle a) a seen
-happened-bare f steps begins (Began q) = begins (bare_request q) q
-happened-bare f steps begins x = refl
+happened-bare f steps begins x = grind arith
 
 pub mapped-bare : (a : Option Answer) → one_if_mapped (option_map answer_from (option_map told a)) ≡ one_if_mapped a
-mapped-bare (Some (Mapped handle)) = refl
-mapped-bare (Some (Bytes b)) = refl
-mapped-bare a = refl
+mapped-bare a = grind arith
 
 -- calls
 
@@ -60,12 +56,10 @@ abbrev pub bare_call : Underway → Underway
 bare_call c = record { request = bare_asked c.request; given = c.given; steps = bare_steps c.steps }
 
 pub asked-bare : (request : Request) → asked (bare_request request) ≡ bare_asked (asked request)
-asked-bare (requests.GrantBytes gref bytes) = refl
-asked-bare request = refl
+asked-bare request = grind arith
 
 pub given-bare : (request : Request) → given_by (bare_request request) ≡ given_by request
-given-bare (requests.GrantBytes gref bytes) = refl
-given-bare request = refl
+given-bare request = grind arith
 
 steps-more : (ps qs : List (Step × Seen)) → bare_steps ps ++ bare_steps qs ≡ bare_steps (ps ++ qs)
 steps-more [] qs = refl
@@ -94,8 +88,7 @@ values-bare c = by c.steps where
 -- bytes
 
 given-in-bare : (c : Option Underway) → given_in (option_map bare_call c) ≡ given_in c
-given-in-bare None = refl
-given-in-bare (Some c) = refl
+given-in-bare c = grind arith
 
 cond-map : {A B : Type 0} (f : A → B) (b : Bool) (x y : B) (p q : A) → x ≡ f p → y ≡ f q → cond b x y ≡ f (cond b p q)
 cond-map f true x y p q e g = e

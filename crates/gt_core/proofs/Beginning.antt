@@ -16,70 +16,37 @@ began-entries : (dom : DomId) (request : Request) (answer : Option Answer) → K
 began-entries dom request answer = record { changes = λ r. refl; stores = λ r which. refl; header = refl }
 
 pub call-none : (s : Setting) (h : History) (id : DomId) (o : Option Open) (c : Option Underway) → o ≡ None → CallAgrees s h id o c → (c ≡ None) × (legs_at h id.0 ≡ [])
-call-none s h id None None e a = (refl, a)
-call-none s h id None (Some c) e a = absurd a
-call-none s h id (Some o) c e a = cc
+call-none s h id o c e a = grind arith
 
 pub call-some : (s : Setting) (h : History) (id : DomId) (o : Option Open) (c : Option Underway) → is_some o ≡ true → CallAgrees s h id o c → c ≢ None
-call-some s h id None c e a n = absurd (true≢false (sym e))
-call-some s h id (Some o) None e a n = a
-call-some s h id (Some o) (Some c) e a n = cc
+call-some s h id o c e a n = grind arith
 
 -- an opened call
 
 -- holding nothing, and with no rule against it where it then stands
 first-fine : (k : CallerKnowledge) (d : DomId) (r : Asked) → begun k d r ≡ None → (held_in (first_phase k d r) ≡ []) × (phase_refusal (first_phase k d r) ≡ None)
-first-fine k d (Unmap handle) e = subst (λ (o : Option Held). (held_in (unmap_phase handle o) ≡ []) × (phase_refusal (unmap_phase handle o) ≡ None)) (sym (opens k d (Unmap handle) e).found) (refl, refl)
-first-fine k d (Load handle off len) e = subst (λ (o : Option Held). (held_in (load_phase o off len) ≡ []) × (phase_refusal (load_phase o off len) ≡ None)) (sym (opens k d (Load handle off len) e).found) (refl, refl)
-first-fine k d (Store handle off len) e = subst (λ (o : Option Held). (held_in (store_phase o off len) ≡ []) × (phase_refusal (store_phase o off len) ≡ None)) (sym (opens k d (Store handle off len) e).found) (refl, refl)
-first-fine k d (Copy c) e = let Fine : Phase → Type 0 = λ p. (held_in p ≡ []) × (phase_refusal p ≡ None) in
-    cond_both (is_source_granted c) (Walking (Source c None) (end_leg k d c.source Read c.len) AtHeader) (at_dest k d c Own) Fine (λ a. (refl, refl))
-    (λ a. cond_both (is_dest_granted c) (Walking (Dest c Own None) (end_leg k d c.dest Write c.len) AtHeader) (Accessing c Own Own) Fine (λ b. (refl, refl)) (λ b. (refl, refl)))
-first-fine k d r e = (refl, refl)
+first-fine k d r e = grind arith
 
 first-place : (s : Setting) (h : History) (d : DomId) (r : Asked) → begun (known_at s h d) d r ≡ None → PhaseStands s h d r [] (first_phase (known_at s h d) d r)
 unfolding misses
-first-place s h d (Demote gref) e = (refl, refl)
-first-place s h d (Promote gref) e = (refl, refl)
-first-place s h d (Map dom gref flags) e = (of-run (domain_of s.domains (resolved d dom)) (opens (known_at s h d) d (Map dom gref flags) e).of_run, tt)
-first-place s h d (Unmap handle) e =
-    subst (λ (o : Option Held). PhaseStands s h d (Unmap handle) [] (unmap_phase handle o)) (sym (opens (known_at s h d) d (Unmap handle) e).found) refl
-first-place s h d (Load handle off len) e =
-    subst (λ (o : Option Held). PhaseStands s h d (Load handle off len) [] (load_phase o off len)) (sym (opens (known_at s h d) d (Load handle off len) e).found) refl
-first-place s h d (Store handle off len) e =
-    subst (λ (o : Option Held). PhaseStands s h d (Store handle off len) [] (store_phase o off len)) (sym (opens (known_at s h d) d (Store handle off len) e).found) refl
-first-place s h d (Peek frame off len) e = refl
-first-place s h d (Poke frame off len) e = refl
-first-place s h d (Copy c) e =
-    cond_both (is_source_granted c) (Walking (Source c None) (end_leg (known_at s h d) d c.source Read c.len) AtHeader) (at_dest (known_at s h d) d c Own) (PhaseStands s h d (Copy c) [])
-    (λ a. (of-run (domain_of s.domains (resolved d c.source.domid)) (opens (known_at s h d) d (Copy c) e).source_of_run, tt)) (λ a. (dest-leads s h d (Copy c) c Own [] refl e).1)
-first-place s h d (SetVersion version) e = inl (refl, refl)
-first-place s h d (SetupTable frames) e = inr (refl, refl)
-first-place s h d (QuerySize dom) e = (dom, refl, refl)
-first-place s h d (GetVersion dom) e = (dom, refl, refl)
-first-place s h d r e = tt
+first-place s h d r e = grind arith
 
 clean-nothing : (p : Phase) → IsClean p []
-clean-nothing (Ending pins verdict) = inr (All-nil LeavesAll)
-clean-nothing p = All-nil LeavesAll
+clean-nothing p = grind arith
 
 -- a call keeps the bytes that are given to it
 kept-given : (request : Request) → kept_by (asked request) (given_by request) ≡ given_by request
-kept-given (requests.Grant gref entry) = refl
-kept-given request = refl
+kept-given request = grind arith
 
 -- where nothing stands against it, they end inside a frame
 given-fits : (k : CallerKnowledge) (d : DomId) (request : Request) → begun_of k d request ≡ None → FitsGiven (asked request) (given_by request)
-given-fits k d (requests.Store handle off bytes) e = (refl, (opens k d (Store handle off (length bytes.now)) e).range)
-given-fits k d (requests.Poke frame off bytes) e = (refl, (opens k d (Poke frame off (length bytes.now)) e).range)
-given-fits k d request e = tt
+given-fits k d request e = grind arith
 
 -- a call that was just begun has the bytes of its request
 given-begins : (i : Item) (h : History) (d : DomId) (request : Request) (given : List ℕ)
     → open_call (i ∷ h) d.0 ≡ Some (record { request = asked request; given = given_by request; steps = [] }) → given ≡ given_by request → FitsGiven (asked request) (given_by request)
     → GivenAgrees (i ∷ h) d.0 given
-given-begins i h d request given now same fits = λ c call.
-    subst (λ (u : Underway). (given ≡ u.given) × FitsGiven u.request u.given) (same_Some _ _ (sym now ∙ call)) (same, fits)
+given-begins i h d request given now same fits = grind arith
 
 -- where a call stands, by its phase
 pub is-at : (k : CallerKnowledge) (call : Call) (shown : List Seen) (p : Phase) → call.phase ≡ Some p → IsAt k call shown → StandsAt k call.caller call.request shown p
@@ -131,12 +98,10 @@ begin-opens s h d request o fits a closed op = let i = began d.id request None i
 -- a call that is answered at once
 
 pub plain-unmapped : (v : Verdict) → one_if_mapped (Some (answer_of v)) ≡ 0
-plain-unmapped (Given (FramesTold n)) = refl
-plain-unmapped v = refl
+plain-unmapped v = grind arith
 
 pub plain-refusal : (v : Verdict) → refusal_of (answer_of v) ≡ refusal_in (Some v)
-plain-refusal (Given (FramesTold n)) = refl
-plain-refusal v = refl
+plain-refusal v = grind arith
 
 -- what holds of a verdict, if there is one
 
@@ -144,104 +109,14 @@ abbrev OnVerdict : (Verdict → Type 0) → Option Verdict → Type 0
 OnVerdict Q None = Unit {0}
 OnVerdict Q (Some v) = Q v
 
--- what each of the tests of a beginning gives holds of the first
-on-first : (Q : Verdict → Type 0) (o : Option Verdict) (more : List (Option Verdict)) → OnVerdict Q o → OnVerdict Q (first more) → OnVerdict Q (first (o ∷ more))
-on-first Q None more a b = b
-on-first Q (Some v) more a b = a
-
 -- a value that is given at a beginning, or nothing, for a call that is asked so
 abbrev Fits : Setting → History → DomId → Asked → Verdict → Type 0
 Fits s h d r v = GivesValue s h d r None (answer_of v)
 
-or-refused : (s : Setting) (h : History) (d : DomId) (r : Asked) (b : Bool) (rule : Rule) (more : List (Option Verdict)) → OnVerdict (Fits s h d r) (first more)
-    → OnVerdict (Fits s h d r) (first (refused_when b rule ∷ more))
-or-refused s h d r true rule more a = tt
-or-refused s h d r false rule more a = a
-
-denied-fits : (s : Setting) (h : History) (d : DomId) (r : Asked) (may : TypeId → TypeId → Perms → Bool) (ts : List Triple) → OnVerdict (Fits s h d r) (denied may ts)
-denied-fits s h d r may [] = tt
-denied-fits s h d r may (t ∷ ts) =
-    cond_both (may t.source t.target t.perm) (denied may ts) (Some (Refused (denial_of N5 (Policy t.source t.target t.perm)))) (OnVerdict (Fits s h d r)) (λ a. denied-fits s h d r may ts) (λ a. tt)
-
-or-denied : (s : Setting) (h : History) (d : DomId) (r : Asked) (may : TypeId → TypeId → Perms → Bool) (ts : List Triple) (more : List (Option Verdict)) → OnVerdict (Fits s h d r) (first more)
-    → OnVerdict (Fits s h d r) (first (denied may ts ∷ more))
-or-denied s h d r may ts more a = on-first (Fits s h d r) (denied may ts) more (denied-fits s h d r may ts) a
-
-granted-fits : (s : Setting) (h : History) (d : DomId) (r : Asked) (b : Bool) → GivesValue s h d r None AnswerDone → OnVerdict (Fits s h d r) (granted_when b)
-granted-fits s h d r true a = a
-granted-fits s h d r false a = tt
-
-turn-fits : (s : Setting) (h : History) (d : DomId) (r : Asked) (change : Change) (header : Header) (old : Entry) (generation n : ℕ) → GivesValue s h d r None AnswerDone
-    → OnVerdict (Fits s h d r) (change_begun change header old generation n)
-turn-fits s h d r change header old generation n plain =
-    or-refused s h d r (nat_le (size_of header) n) N9 _ (or-refused s h d r (is_invalid old) N10 _
-    (on-first (Fits s h d r) (granted_when (is_already change old)) _ (granted-fits s h d r (is_already change old) plain) (or-refused s h d r (generation == LAST_GENERATION) N22 [] tt)))
-
-unmap-fits : (s : Setting) (h : History) (k : CallerKnowledge) (d : DomId) (r : Asked) (o : Option Held) → OnVerdict (Fits s h d r) (unmap_denied k d o)
-unmap-fits s h k d r None = tt
-unmap-fits s h k d r (Some m) = denied-fits s h d r k.may (rights_to_unmap k d m.dom)
-
-version-fits : (s : Setting) (h : History) (k : CallerKnowledge) (d : DomId) (version : ℕ) → OnVerdict (Fits s h d (SetVersion version)) (version_begun k.header k.entry version)
-version-fits s h k d version = let r = SetVersion version in or-refused s h d r (not (is_version version)) N2 _
-    (on-first (Fits s h d r) (granted_when (version == k.header.version)) _ (granted-fits s h d r (version == k.header.version) refl) (or-refused s h d r (has_valid k.entry (size_of k.header)) N24 [] tt))
-
-setup-fits : (s : Setting) (h : History) (k : CallerKnowledge) (d : DomId) (frames : ℕ) → k.header ≡ table_at s h d → OnVerdict (Fits s h d (SetupTable frames)) (setup_begun k d frames)
-setup-fits s h k d frames same = let r = SetupTable frames in or-denied s h d r k.may (rights_to_setup k d) _
-    (on-first (Fits s h d r) (given_when (nat_le frames k.header.frames) (FramesTold k.header.frames)) _ (given (nat_le frames k.header.frames)) (or-refused s h d r (nat_lt MAX_TABLE_FRAMES frames) N23 [] tt))
-  where
-    given : (b : Bool) → OnVerdict (Fits s h d (SetupTable frames)) (given_when b (FramesTold k.header.frames))
-    given true = ap (λ (t : Header). Frames t.frames) same
-    given false = tt
-
-query-fits : (s : Setting) (h : History) (k : CallerKnowledge) (d : DomId) (r : Asked) (dom : DomId) → OnVerdict (Fits s h d r) (query_begun k d dom)
-query-fits s h k d r dom =
-    or-refused s h d r (is_none (domain_of k.domains (resolved d dom))) N1 _ (or-denied s h d r k.may (rights_to_query k d (resolved d dom)) [] tt)
-
-bytes-fits : (s : Setting) (h : History) (d : DomId) (r : Asked) (header : Header) (old : Entry) (generation n : ℕ) (bytes : List ℕ) → OnVerdict (Fits s h d r) (bytes_begun header old generation n bytes)
-bytes-fits s h d r header old generation n bytes =
-    or-refused s h d r (nat_le (size_of header) n) N9 _ (or-refused s h d r (not (is_invalid old)) N20 _ (or-refused s h d r (generation == LAST_GENERATION) N22 _ (by (first_refused header.version bytes))))
-  where
-    by : (o : Option Field) → OnVerdict (Fits s h d r) (first (field_refused o ∷ []))
-    by None = tt
-    by (Some f) = tt
-
-access-fits : (s : Setting) (h : History) (k : CallerKnowledge) (d : DomId) (r : Asked) (frame off len : ℕ) → OnVerdict (Fits s h d r) (own_access_begun k.domains d frame off len)
-access-fits s h k d r frame off len = or-refused s h d r (nat_lt FRAME_SIZE (off + len)) N3 _ (or-refused s h d r (nat_le (frames_of k.domains d) frame) N16 [] tt)
-
-copy-fits : (s : Setting) (h : History) (k : CallerKnowledge) (d : DomId) (r : Asked) (c : CopyArgs) → OnVerdict (Fits s h d r) (begun k d (Copy c))
-copy-fits s h k d r c = let source = resolved d c.source.domid in let dest = resolved d c.dest.domid in
-    on-first (Fits s h d r) (ends_named k d c) _ (or-refused s h d r (is_none (domain_of k.domains source)) N1 _ (or-refused s h d r (is_none (domain_of k.domains dest)) N1 _ (or-refused s h d r (nat_lt 3 c.flags) N2 [] tt)))
-    (on-first (Fits s h d r) (ends_ranged c) _ (or-refused s h d r (nat_lt FRAME_SIZE (c.source.offset + c.len)) N3 _ (or-refused s h d r (nat_lt FRAME_SIZE (c.dest.offset + c.len)) N3 [] tt))
-    (on-first (Fits s h d r) (ends_owned d c) _ (or-refused s h d r (is_foreign d (is_source_granted c) c.source) N4 _ (or-refused s h d r (is_foreign d (is_dest_granted c) c.dest) N4 [] tt))
-    (or-denied s h d r k.may (rights_to_copy k source dest) _
-    (on-first (Fits s h d r) (ends_framed k d c) [] (or-refused s h d r (is_past_frames k d (is_source_granted c) c.source) N16 _ (or-refused s h d r (is_past_frames k d (is_dest_granted c) c.dest) N16 [] tt)) tt))))
-
 -- the value of a call that is answered at its beginning
 value-fits : (s : Setting) (h : History) (k : CallerKnowledge) (d : DomId) (request : Request) → k.header ≡ table_at s h d → OnVerdict (Fits s h d (asked request)) (begun_of k d request)
-value-fits s h k d (requests.Grant gref entry) same = let r = Grant gref entry in
-    or-refused s h d r (nat_le (size_of k.header) gref.0) N9 _ (or-refused s h d r (not (is_invalid (k.entry gref.0))) N20 _
-    (or-refused s h d r (cannot_stand entry k.header.version) N21 _ (or-refused s h d r (k.generation gref.0 == LAST_GENERATION) N22 [] tt)))
-value-fits s h k d (requests.GrantBytes gref bytes) same = bytes-fits s h d (asked (requests.GrantBytes gref bytes)) k.header (k.entry gref.0) (k.generation gref.0) gref.0 bytes.now
-value-fits s h k d (requests.Revoke gref) same = let r = Revoke gref in
-    or-refused s h d r (nat_le (size_of k.header) gref.0) N9 _ (or-refused s h d r (is_invalid (k.entry gref.0)) N10 [] tt)
-value-fits s h k d (requests.Demote gref) same = turn-fits s h d (Demote gref) ToReadOnly k.header (k.entry gref.0) (k.generation gref.0) gref.0 refl
-value-fits s h k d (requests.Promote gref) same = turn-fits s h d (Promote gref) ToWritable k.header (k.entry gref.0) (k.generation gref.0) gref.0 refl
-value-fits s h k d (requests.Map dom gref flags) same = let r = Map dom gref flags in
-    or-refused s h d r (is_none (domain_of k.domains (resolved d dom))) N1 _ (or-refused s h d r (not ((flags == 2) || (flags == 6))) N2 _
-    (or-denied s h d r k.may (rights_to_map k d (resolved d dom) (map_dir flags)) _ (or-refused s h d r (nat_le MAX_MAPPINGS k.in_use || nat_le END_OF_SERIALS k.maps_answered) N8 [] tt)))
-value-fits s h k d (requests.Unmap handle) same = let r = Unmap handle in
-    or-refused s h d r (is_none (k.mapping handle)) N6 _ (on-first (Fits s h d r) (unmap_denied k d (k.mapping handle)) [] (unmap-fits s h k d r (k.mapping handle)) tt)
-value-fits s h k d (requests.Load handle off len) same = let r = Load handle off len in
-    or-refused s h d r (nat_lt FRAME_SIZE (off + len)) N3 _ (or-refused s h d r (is_none (k.mapping handle)) N6 [] tt)
-value-fits s h k d (requests.Store handle off bytes) same = let r = asked (requests.Store handle off bytes) in
-    or-refused s h d r (nat_lt FRAME_SIZE (off + length bytes.now)) N3 _ (or-refused s h d r (is_none (k.mapping handle)) N6 _ (or-refused s h d r (is_for_reading (k.mapping handle)) N7 [] tt))
-value-fits s h k d (requests.Peek frame off len) same = access-fits s h k d (Peek frame off len) frame off len
-value-fits s h k d (requests.Poke frame off bytes) same = access-fits s h k d (asked (requests.Poke frame off bytes)) frame off (length bytes.now)
-value-fits s h k d (requests.Copy c) same = copy-fits s h k d (Copy c) c
-value-fits s h k d (requests.SetVersion version) same = version-fits s h k d version
-value-fits s h k d (requests.SetupTable frames) same = setup-fits s h k d frames same
-value-fits s h k d (requests.QuerySize dom) same = query-fits s h k d (QuerySize dom) dom
-value-fits s h k d (requests.GetVersion dom) same = query-fits s h k d (GetVersion dom) dom
+value-fits s h k d (requests.Revoke gref) same = grind arith
+value-fits s h k d request same = grind arith
 
 begin-done : (s : Setting) (h : History) (d : State) (request : Request) (v : Verdict) → Agrees s h d → d.underway ≡ None
     → begun_of (knowledge_of s.domains s.first_generation s.may d.own d.header d.mappings) d.id request ≡ Some v
@@ -281,8 +156,7 @@ begin-busy s h domains dom at x p here busy st = let a = agrees-found s h domain
     (a.0, subst (λ (d : DomId). open_call h d.0 ≢ None) a.1 (call-some s h x.id x.underway (open_call h x.id.0) busy a.2.call))
 
 pub closed-from : (o : Option Open) → is_some o ≡ false → o ≡ None
-closed-from None e = refl
-closed-from (Some o) e = absurd (true≢false e)
+closed-from o e = grind arith
 
 pub begin-answers : (s : Setting) (h : History) (domains : List State) (dom : DomId) (at : ℕ) (x : State) (request : Request) (v : Verdict) (y : Answer) → y ≡ answer_of v
     → position (has_id dom.0) domains ≡ Some at → x ≡ get_or domains at x → is_some x.underway ≡ false
@@ -338,36 +212,13 @@ begin-wants s h domains dom at x request o asks p here idle op st =
 
 -- a map that opens has a serial left
 pub serial-left : (k : CallerKnowledge) (d : DomId) (request : Request) (r : Asked) → r ≡ asked request → begun k d (asked request) ≡ None → IsMapping (Some r) → k.maps_answered + 1 < 2 ^ 64
-serial-left k d request r same none m = by r (subst (λ (z : Asked). begun k d z ≡ None) (sym same) none) m where
-  by : (z : Asked) → begun k d z ≡ None → IsMapping (Some z) → k.maps_answered + 1 < 2 ^ 64
-  by (Map dom gref flags) e a = let lt : k.maps_answered < END_OF_SERIALS = (opens k d (Map dom gref flags) e).serials_left in omega arith
-  by z e a = absurd a
+serial-left k d request r same none m = grind arith
 
 -- a call that starts, and makes its first step, is opened
 pub opened : (k : CallerKnowledge) (dom : DomId) (request : Request) (first new : Call) (action : Action) (step : Step) → Starts k dom request (StartOpen first) → Goes k first Nothing new action → action ≡ Makes step → new.caller ≡ first.caller → new.request ≡ first.request
     → IsOpened k dom request (record { call = new; step = step })
-opened k dom request first new action step (none, said, caller, asks, fresh, path_is, makes) goes is by asked_as =
-    let start : Call = record { caller = dom; request = asked request; phase = None } in let same : first ≡ start =
-    ap (λ (z : DomId). record { caller = z; request = first.request; phase = first.phase }) caller
-    ∙ ap (λ (z : Asked). record { caller = dom; request = z; phase = first.phase }) asks
-    ∙ ap (λ (z : Option Phase). record { caller = dom; request = asked request; phase = z }) fresh.unmoved in
-    let g : Goes k start Nothing new (Makes step) = subst (λ (a : Action). Goes k start Nothing new a) is (subst (λ (z : Call). Goes k z Nothing new action) same goes) in
-    let new_fresh : IsFresh k start = subst (IsFresh k) same fresh in let f = g.first new_fresh in record {
-      unanswered = none;
-      said = said;
-      caller = by ∙ caller;
-      asks = asked_as ∙ asks;
-      none = new_fresh.unanswered;
-      phase = g.moves;
-      at = f.0.at;
-      acts = sym g.acts;
-      follows = f.0.follows;
-      rests = f.0.rests;
-      few = f.2;
-    }
+opened k dom request first new action step starts goes is by asked_as = grind arith
 
 -- it makes a step
 pub not-done : (k : CallerKnowledge) (dom : DomId) (request : Request) (first new : Call) (action : Action) (v : Verdict) → Starts k dom request (StartOpen first) → Goes k first Nothing new action → action ≡ Done v → ⊥
-not-done k dom request first new action v (none, said, caller, asks, fresh, path_is, makes) goes is =
-    let f : path k first.caller first.request [] ≡ Some (Done v) = (goes.first fresh).0.follows ∙ ap (λ (a : Action). Some a) is in
-    subst MakesStep (ap (λ (z : DomId). path k z first.request []) (sym caller) ∙ f) makes
+not-done k dom request first new action v starts goes is = grind arith

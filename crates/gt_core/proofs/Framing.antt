@@ -1,7 +1,8 @@
 -- The frames of a core: what a step of a call writes to them is by right, and leaves them as the history tells.
-use Rattle.gt_core.proofs.Words.{◌≡◌, ◌≤◌, ◌<◌, ◌+◌, ◌-◌, inl, inr, ℕ, refl, Bool, true, false, List, [], ◌∷◌, ◌++◌, replicate, length, take, drop, Option, Some, None, cond, sym, ap, ◌∙◌, arith, subst, reverse, eqb-true, eqb-false, eq-eqb, ne_eqb, lt-ltb, and_parts, and_from, false≢true, append-nil, map-append, length-append, length-drop, length-take-le, length-replicate, ◌==◌, ◌&&◌, nat_lt, nat_le, is_some, IsTrue, domain_of, DomId, Write, ForMap, ForCopy, DomainConfig, FRAME_SIZE, Entry, Page, Sub, Via, frame_of, permits, allows_direction, Handle, value_of, Held, Route, Direct, Through, End, Request, Asked, Store, Poke, Copy, Place, Seen, Step, ReadBytes, WriteBytes, CopyBytes, Makes, Call, Phase, CallerKnowledge, begun, frames_of, frames_in, is_dest_granted, dest_pair, opens, Rests, RestsOnRequest, RestsOnWays, IsReached, LeadsTo, pins_at, held_in, Patch, written, bytes_at, frame_counts, FrameSet, frame_at, has_range, all_zeros, AreKept, Open, Item, Answer, Begun, State, IsLoadOf, IsReadable, IsAdmitted, AccessedBy, History, Setting, patches_at, patches_by, contents_at, written_by, Writing, given_in, open_call, Underway, values, known_at, legs_at, IsInFrame, CopyIsJustified, grown, DomainsStand, FramesStand, Agrees, OpenAgrees, FitsGiven, numbered, begun_element, IsMapped, le-leb, leb-true, unwrap_or, leads_to, overlay, replay, zeros, FrameState, patch_of, patches, permits_writing, suffices, is_rightful, all_rightful, pool_number, frames_of_all, is_name, has_frame, admits, WritesTo, journal_in, name_of, ground_of, route_by, route_of, IsWritOf, and_right, FrameName, Ground, Writ, WriteRecord, BegunBusy, BegunNoDomain}
+use Rattle.gt_core.proofs.Words.{◌≡◌, ◌≤◌, ◌<◌, ◌+◌, ◌-◌, inl, inr, ℕ, refl, Bool, true, false, List, [], ◌∷◌, ◌++◌, replicate, length, take, drop, Option, Some, None, cond, sym, ap, ◌∙◌, arith, subst, eqb-true, eq-eqb, and_parts, and_from, append-nil, map-append, length-append, length-drop, length-take-le, length-replicate, ◌==◌, ◌&&◌, nat_lt, nat_le, is_some, IsTrue, DomId, Write, ForMap, DomainConfig, FRAME_SIZE, Entry, frame_of, permits, Handle, value_of, Held, Route, Direct, End, Request, Asked, Store, Poke, Place, Seen, Step, ReadBytes, WriteBytes, CopyBytes, Makes, Call, CallerKnowledge, begun, frames_of, is_dest_granted, dest_pair, opens, Rests, RestsOnRequest, RestsOnWays, IsReached, pins_at, Patch, written, bytes_at, frame_counts, FrameSet, frame_at, has_range, all_zeros, AreKept, Open, Item, Answer, Begun, State, IsLoadOf, IsReadable, IsAdmitted, AccessedBy, History, Setting, patches_at, patches_by, contents_at, written_by, Writing, given_in, open_call, Underway, values, known_at, IsInFrame, CopyIsJustified, grown, DomainsStand, FramesStand, Agrees, OpenAgrees, FitsGiven, begun_element, le-leb, leb-true, unwrap_or, overlay, replay, zeros, FrameState, patch_of, patches, permits_writing, suffices, is_rightful, all_rightful, pool_number, frames_of_all, is_name, has_frame, admits, WritesTo, journal_in, name_of, ground_of, route_by, route_of, IsWritOf, FrameName, Writ, WriteRecord, BegunBusy, BegunNoDomain, cond_both}
 use Rattle.gt_calls.specs.{declared.held.Route.TheVariants.Own, Path.place_of}
-use Rattle.gt_core.proofs.{Starting.get-replicate, Keeping.stepped, Keeping.same-number, Phases.call-is, Phases.none-of, Accessing.permits-as, Accessing.mapping-pin, Accessing.same-held, Accessing.read-justified, Accessing.copy-justified}
+use Rattle.std.specs.Cmp.{both_ways}
+use Rattle.gt_core.proofs.{Starting.get-replicate, Keeping.stepped, Phases.call-is, Phases.none-of, Accessing.permits-as, Accessing.mapping-pin, Accessing.same-held, Accessing.read-justified, Accessing.copy-justified}
 
 -- what a frame holds, and which frames there are
 
@@ -14,15 +15,10 @@ bytes-held s h fs dom frame off len fr = let size : off + len - off ≡ len = om
 
 frame-numbered : (ds : List DomainConfig) (t : DomId) (f at : ℕ) → f < frames_of ds t → is_some (pool_number (frame_counts ds) t f at) ≡ true
 frame-numbered [] t f at below = absurd (omega arith)
-frame-numbered (d ∷ ds) t f at below = by (d.id.0 == t.0) below (λ b. frame-numbered ds t f (at + d.frames) b) where
-  by : (b : Bool) → f < frames_in (cond b (Some d) (domain_of ds t)) → (f < frames_of ds t → is_some (pool_number (frame_counts ds) t f (at + d.frames)) ≡ true)
-      → is_some (cond b (cond (nat_lt f d.frames) (Some (at + f)) None) (pool_number (frame_counts ds) t f (at + d.frames))) ≡ true
-  by true le rest = ap (λ (b : Bool). is_some (cond b (Some (at + f)) None)) (lt-ltb f d.frames le)
-  by false le rest = rest le
+frame-numbered (d ∷ ds) t f at below = grind (arith, frame-numbered ds t f (at + d.frames))
 
 frame-there : (s : Setting) (h : History) (fs : FrameSet) (name : FrameName) → FramesStand s h fs → name.number < frames_of s.domains name.owner → has_frame fs name ≡ true
-frame-there s h fs name fr below =
-    ap (λ (ds : _). is_some (pool_number ds name.owner name.number 0)) fr.counts ∙ frame-numbered s.domains name.owner name.number 0 below
+frame-there s h fs name fr below = grind (arith, frame-numbered)
 
 range-there : (s : Setting) (h : History) (fs : FrameSet) (at : Place) (len : ℕ) → FramesStand s h fs → IsInFrame s at len → IsTrue (has_range fs (name_of at) at.off len)
 range-there s h fs at len fr a = and_from _ _ (frame-there s h fs (name_of at) fr a.0) (le-leb (at.off + len) FRAME_SIZE a.1)
@@ -31,109 +27,68 @@ range-there s h fs at len fr a = and_from _ _ (frame-there s h fs (name_of at) f
 
 -- an entry that lets a mapping write lets any range of its frame be written
 map-writes : (e : Entry) (d : DomId) (frame off len : ℕ) → frame ≡ frame_of e → permits e d Write ForMap off len ≡ true → permits_writing e d frame off len ≡ true
-map-writes (Page dom ro f) d frame off len is a = and_from _ _ (eq-eqb f frame (sym is)) a
-map-writes (Sub dom ro f start size) d frame off len is a = absurd (false≢true (sym (never (dom.0 == d.0) (allows_direction ro Write)) ∙ a))
-  where
-    never : (b c : Bool) → (b && c && false && nat_le start off && nat_le (off + len) (start + size)) ≡ false
-    never true true = refl
-    never b c = refl
-map-writes e d frame off len is a = absurd (false≢true a)
-
--- an entry that permits a copy to write permits it to write its own frame
-copy-writes : (e : Entry) (d : DomId) (off len : ℕ) → permits e d Write ForCopy off len ≡ true → permits_writing e d (frame_of e) off len ≡ true
-copy-writes (Page dom ro f) d off len a = and_from _ _ (same-number f) a
-copy-writes (Sub dom ro f start size) d off len a = and_from _ _ (same-number f) a
-copy-writes e d off len a = absurd (false≢true a)
-
-leads-there : (e : Entry) (p : Held) → LeadsTo e p → leads_to e p.dom ≡ true
-leads-there (Via dom ro dom2 gref) p a = eq-eqb dom2.0 p.dom.0 (ap (λ (z : DomId). z.0) (sym a.0))
-leads-there e p a = absurd a
+map-writes e d frame off len is a = grind arith
 
 -- the entries of a copy's pins let it write
 way-covers : (k : CallerKnowledge) (d : DomId) (granted : Bool) (end : End) (len : ℕ) (pair : DomId → DomId × DomId) (route : Route) → IsReached k d granted end Write len pair route
     → suffices (ground_of route) d (place_of d end route).owner (place_of d end route).frame end.offset len ≡ true
-way-covers k d granted end len pair Own a = same-number d.0
-way-covers k d granted end len pair (Direct p) a = copy-writes p.entry d end.offset len a.2.permitted
-way-covers k d granted end len pair (Through via p) a =
-    and_from _ _ (and_from _ _ a.1.forwarded (leads-there via.entry p a.2))
-    (copy-writes p.entry via.dom end.offset len (subst (λ (z : DomId). permits p.entry z Write ForCopy end.offset len ≡ true) (sym a.1.named) a.3.permitted))
+way-covers k d granted end len pair route a = grind arith
 
 -- the route of a call, which suffices, is that of its writ
 admitted-by : (fs : FrameSet) (x : State) (call : Call) (name : FrameName) (off len : ℕ) (route : Route) → has_frame fs name ≡ true → off + len ≤ FRAME_SIZE → route_of x.mappings call ≡ route
     → suffices (ground_of route) call.caller name.owner name.number off len ≡ true → (w : Writ) → IsWritOf x call w → IsTrue (admits fs name w off len)
-admitted-by fs x call name off len route there within is right w of_call =
-    let by : w.basis ≡ ground_of route = of_call.1 ∙ ap ground_of is in
-    and_from _ _ (and_from _ _ there (le-leb (off + len) FRAME_SIZE within))
-    (ap (λ (d : DomId). suffices w.basis d name.owner name.number off len) of_call.0 ∙ ap (λ (g : Ground). suffices g call.caller name.owner name.number off len) by ∙ right)
-
--- a store through a mapping writes by the mapping's entry
-store-admitted : (s : Setting) (h : History) (xs : List State) (fs : FrameSet) (x : State) (phase : Option Phase) (handle : Handle) (dom : DomId) (frame off len : ℕ) → DomainsStand s h xs → FramesStand s h fs → Agrees s h x
-    → begun (known_at s h x.id) x.id (Store handle off len) ≡ None → (mapped : IsMapped (known_at s h x.id) handle dom frame) → FitsGiven (Store handle off len) x.given
-    → IsAdmitted fs x (record { caller = x.id; request = Store handle off len; phase = phase }) (WriteBytes dom frame off len)
-store-admitted s h xs fs x phase handle dom frame off len st fr a none mapped fits = let k = known_at s h x.id in
-    let m = mapped.mapping in let o = opens k x.id (Store handle off len) none in
-    let same : o.mapping ≡ m = same-held k handle o.mapping m o.found mapped.found in
-    let writable : m.dir ≡ Write = ap (λ (q : Held). q.dir) (sym same) ∙ o.writable in
-    let one = (mapping-pin s h xs x.id handle m st mapped.found).4 in
-    let held : value_of x.mappings handle ≡ Some m = ap (λ (f : Handle → Option Held). f handle) a.mappings.named ∙ mapped.found in
-    let within : off + length x.given ≤ FRAME_SIZE = let e = fits.0 in let room = fits.1 in omega arith in
-    let below : frame < frames_of s.domains dom = subst (λ (n : ℕ). n < frames_of s.domains dom) (sym mapped.of_frame) (subst (λ (z : DomId). frame_of m.entry < frames_of s.domains z) (sym mapped.of_dom) one.framed) in
-    admitted-by fs x (record { caller = x.id; request = Store handle off len; phase = phase }) (record { owner = dom; number = frame }) off (length x.given) (Direct m)
-    (frame-there s h fs (record { owner = dom; number = frame }) fr below) within (ap route_by held)
-    (map-writes m.entry x.id frame off (length x.given) mapped.of_frame
-    (permits-as m.entry x.id m.dir Write off (length x.given) (λ w. writable) one.permitted))
-
--- a poke writes to a frame of the caller's own
-poke-admitted : (s : Setting) (h : History) (fs : FrameSet) (x : State) (phase : Option Phase) (dom : DomId) (frame off len : ℕ) → FramesStand s h fs → begun (known_at s h x.id) x.id (Poke frame off len) ≡ None → dom ≡ x.id
-    → FitsGiven (Poke frame off len) x.given → IsAdmitted fs x (record { caller = x.id; request = Poke frame off len; phase = phase }) (WriteBytes dom frame off len)
-poke-admitted s h fs x phase dom frame off len fr none own fits =
-    let o = opens (known_at s h x.id) x.id (Poke frame off len) none in
-    let within : off + length x.given ≤ FRAME_SIZE = let e = fits.0 in let room = fits.1 in omega arith in
-    admitted-by fs x (record { caller = x.id; request = Poke frame off len; phase = phase }) (record { owner = dom; number = frame }) off (length x.given) Own
-    (frame-there s h fs (record { owner = dom; number = frame }) fr (subst (λ (z : DomId). frame < frames_of s.domains z) (sym own) o.framed)) within refl
-    (eq-eqb x.id.0 dom.0 (ap (λ (z : DomId). z.0) (sym own)))
-
-frame-of-copy : (s : Setting) (h : History) (d : DomId) (r : Asked) (from to : Place) (len : ℕ) → CopyIsJustified s h d r from to len → IsInFrame s from len × IsInFrame s to len
-frame-of-copy s h d (Copy c) from to len a = (a.0, a.1)
-frame-of-copy s h d r from to len a = absurd a
-
--- a copy writes by the pins of its destination
-copy-admitted : (s : Setting) (h : History) (fs : FrameSet) (x : State) (r : Asked) (phase : Phase) (from to : Place) (len : ℕ) → FramesStand s h fs → begun (known_at s h x.id) x.id r ≡ None
-    → legs_at h x.id.0 ≡ numbered 0 (reverse (held_in phase)) → RestsOnWays (known_at s h x.id) x.id r (pins_at phase) from to len
-    → IsAdmitted fs x (record { caller = x.id; request = r; phase = Some phase }) (CopyBytes from to len)
-copy-admitted s h fs x r phase from to len fr none held a = let c = a.copy in
-    let inside = frame-of-copy s h x.id r from to len (copy-justified s h x.id r (pins_at phase) from to len none held a) in
-    let route = (pins_at phase).dest in let t = place_of x.id c.dest route in
-    let right : suffices (ground_of route) x.id t.owner t.frame t.off c.len ≡ true =
-    way-covers (known_at s h x.id) x.id (is_dest_granted c) c.dest c.len (dest_pair x.id (pins_at phase).source) route a.dest_reached in
-    let right_to : suffices (ground_of route) x.id to.owner to.frame to.off len ≡ true =
-    subst (λ (z : Place). suffices (ground_of route) x.id z.owner z.frame z.off len ≡ true) (sym a.to_is) (subst (λ (n : ℕ). suffices (ground_of route) x.id t.owner t.frame t.off n ≡ true) (sym a.len_is) right) in
-    let by : route_of x.mappings (record { caller = x.id; request = r; phase = Some phase }) ≡ route = ap (λ (q : Asked). route_of x.mappings (record { caller = x.id; request = q; phase = Some phase })) a.of_copy in
-    (range-there s h fs from len fr inside.0, admitted-by fs x (record { caller = x.id; request = r; phase = Some phase }) (name_of to) to.off len route (frame-there s h fs (name_of to) fr inside.1.0) inside.1.1 by right_to)
+admitted-by fs x call name off len route there within is right w of_call = grind arith
 
 -- what the next step of an open call writes is by right
 pub open-admitted : (s : Setting) (h : History) (xs : List State) (fs : FrameSet) (x : State) (o : Open) (c : Underway) → DomainsStand s h xs → FramesStand s h fs → Agrees s h x → open_call h x.id.0 ≡ Some c → OpenAgrees s h x.id o c
     → IsAdmitted fs x o.call o.step
-open-admitted s h xs fs x o c st fr a call here =
-    subst (λ (z : Call). IsAdmitted fs x z o.step) (sym (call-is o.call x.id c.request here.phase here.caller here.asks here.here)) (by o.step here.rests) where
-      given : FitsGiven c.request x.given
-      given = let g = a.given c call in subst (FitsGiven c.request) (sym g.0) g.1
+open-admitted s h xs fs x o c st fr a call here = subst (λ (z : Call). IsAdmitted fs x z o.step) (sym (call-is o.call x.id c.request here.phase here.caller here.asks here.here)) (by o.step here.rests) where
+  k : CallerKnowledge
+  k = known_at s h x.id
 
-      asks : (r : Asked) (dom : DomId) (frame off len : ℕ) → c.request ≡ r → IsAdmitted fs x (record { caller = x.id; request = r; phase = Some here.phase }) (WriteBytes dom frame off len)
-          → IsAdmitted fs x (record { caller = x.id; request = c.request; phase = Some here.phase }) (WriteBytes dom frame off len)
-      asks r dom frame off len is b = subst (λ (q : Asked). IsAdmitted fs x (record { caller = x.id; request = q; phase = Some here.phase }) (WriteBytes dom frame off len)) (sym is) b
+  asked_so : Asked → Call
+  asked_so r = record { caller = x.id; request = r; phase = Some here.phase }
 
-      writes : (dom : DomId) (frame off len : ℕ) → begun (known_at s h x.id) x.id c.request ≡ None → RestsOnRequest (known_at s h x.id) x.id c.request (WriteBytes dom frame off len)
-          → IsAdmitted fs x (record { caller = x.id; request = c.request; phase = Some here.phase }) (WriteBytes dom frame off len)
-      writes dom frame off len none (inl (handle, is, mapped)) = asks (Store handle off len) dom frame off len is
-          (store-admitted s h xs fs x (Some here.phase) handle dom frame off len st fr a (none-of (known_at s h x.id) x.id c.request (Store handle off len) is none) mapped (subst (λ (q : Asked). FitsGiven q x.given) is given))
-      writes dom frame off len none (inr (is, own)) = asks (Poke frame off len) dom frame off len is
-          (poke-admitted s h fs x (Some here.phase) dom frame off len fr (none-of (known_at s h x.id) x.id c.request (Poke frame off len) is none) own (subst (λ (q : Asked). FitsGiven q x.given) is given))
+  now : Call
+  now = asked_so c.request
 
-      by : (step : Step) → Rests (known_at s h x.id) x.id c.request (pins_at here.phase) (values c) (Makes step) → IsAdmitted fs x (record { caller = x.id; request = c.request; phase = Some here.phase }) step
-      by (WriteBytes dom frame off len) r = writes dom frame off len r.0 r.1
-      by (CopyBytes from to len) r = copy-admitted s h fs x c.request here.phase from to len fr r.0 here.held r.1
-      by step r = tt
+  given : FitsGiven c.request x.given
+  given = let g = a.given c call in subst (FitsGiven c.request) (sym g.0) g.1
+
+  -- a store through a mapping writes by the mapping's entry, and a poke to a frame of the caller's own
+  writes : (dom : DomId) (frame off len : ℕ) → begun k x.id c.request ≡ None → RestsOnRequest k x.id c.request (WriteBytes dom frame off len) → IsAdmitted fs x now (WriteBytes dom frame off len)
+  writes dom frame off len none (inl (handle, is, mapped)) = let m = mapped.mapping in let o = opens k x.id (Store handle off len) (none-of k x.id c.request (Store handle off len) is none) in
+      let same : o.mapping ≡ m = same-held k handle o.mapping m o.found mapped.found in
+      let writable : m.dir ≡ Write = ap (λ (q : Held). q.dir) (sym same) ∙ o.writable in
+      let one = (mapping-pin s h xs x.id handle m st mapped.found).4 in
+      let held : value_of x.mappings handle ≡ Some m = ap (λ (f : Handle → Option Held). f handle) a.mappings.named ∙ mapped.found in
+      let fits : FitsGiven (Store handle off len) x.given = subst (λ (q : Asked). FitsGiven q x.given) is given in
+      let within : off + length x.given ≤ FRAME_SIZE = let e = fits.0 in let room = fits.1 in omega arith in
+      let below : frame < frames_of s.domains dom = subst (λ (n : ℕ). n < frames_of s.domains dom) (sym mapped.of_frame) (subst (λ (z : DomId). frame_of m.entry < frames_of s.domains z) (sym mapped.of_dom) one.lets.2) in
+      admitted-by fs x now (record { owner = dom; number = frame }) off (length x.given) (Direct m)
+      (frame-there s h fs (record { owner = dom; number = frame }) fr below) within (ap (λ (q : Asked). route_of x.mappings (asked_so q)) is ∙ ap route_by held)
+      (map-writes m.entry x.id frame off (length x.given) mapped.of_frame (permits-as m.entry x.id m.dir Write off (length x.given) (λ w. writable) one.lets.0))
+  writes dom frame off len none (inr (is, own)) = let o = opens k x.id (Poke frame off len) (none-of k x.id c.request (Poke frame off len) is none) in
+      let fits : FitsGiven (Poke frame off len) x.given = subst (λ (q : Asked). FitsGiven q x.given) is given in
+      let within : off + length x.given ≤ FRAME_SIZE = let e = fits.0 in let room = fits.1 in omega arith in
+      admitted-by fs x now (record { owner = dom; number = frame }) off (length x.given) Own
+      (frame-there s h fs (record { owner = dom; number = frame }) fr (subst (λ (z : DomId). frame < frames_of s.domains z) (sym own) o.framed)) within (ap (λ (q : Asked). route_of x.mappings (asked_so q)) is)
+      (eq-eqb x.id.0 dom.0 (ap (λ (z : DomId). z.0) (sym own)))
+
+  -- a copy writes by the pins of its destination
+  copies : (from to : Place) (len : ℕ) → begun k x.id c.request ≡ None → RestsOnWays k x.id c.request (pins_at here.phase) from to len → IsAdmitted fs x now (CopyBytes from to len)
+  copies from to len none w = let c' = w.copy in let pins = pins_at here.phase in
+      let inside = subst (λ (q : Asked). CopyIsJustified s h x.id q from to len) w.of_copy (copy-justified s h x.id c.request pins from to len none here.held w) in
+      let t = place_of x.id c'.dest pins.dest in
+      let right : suffices (ground_of pins.dest) x.id t.owner t.frame t.off c'.len ≡ true = way-covers k x.id (is_dest_granted c') c'.dest c'.len (dest_pair x.id pins.source) pins.dest w.dest_reached in
+      let right_to : suffices (ground_of pins.dest) x.id to.owner to.frame to.off len ≡ true = subst (λ (z : Place). suffices (ground_of pins.dest) x.id z.owner z.frame z.off len ≡ true) (sym w.to_is)
+      (subst (λ (n : ℕ). suffices (ground_of pins.dest) x.id t.owner t.frame t.off n ≡ true) (sym w.len_is) right) in
+      (range-there s h fs from len fr inside.0, admitted-by fs x now (name_of to) to.off len pins.dest (frame-there s h fs (name_of to) fr inside.1.0) inside.1.1 (ap (λ (q : Asked). route_of x.mappings (asked_so q)) w.of_copy) right_to)
+
+  by : (step : Step) → Rests k x.id c.request (pins_at here.phase) (values c) (Makes step) → IsAdmitted fs x now step
+  by (WriteBytes dom frame off len) r = writes dom frame off len r.0 r.1
+  by (CopyBytes from to len) r = copies from to len r.0 r.1
+  by step r = tt
 
 -- what it reads is there
 pub open-readable : (s : Setting) (h : History) (xs : List State) (fs : FrameSet) (x : State) (o : Open) (c : Underway) → DomainsStand s h xs → FramesStand s h fs → OpenAgrees s h x.id o c → IsReadable fs o.call o.step
@@ -151,12 +106,7 @@ open-readable s h xs fs x o c st fr here = by o.step here.rests where
 
 -- bytes that are laid over others inside them leave them as many as they were
 length-overlay : (xs : List ℕ) (off : ℕ) (ys : List ℕ) → off + length ys ≤ length xs → length (overlay xs off ys) ≡ length xs
-length-overlay xs off ys within = let back = drop (off + length ys) xs in
-    let a : length ((take off xs ++ ys) ++ back) ≡ length (take off xs ++ ys) + length back = length-append (take off xs ++ ys) back in
-    let b : length (take off xs ++ ys) ≡ length (take off xs) + length ys = length-append (take off xs) ys in
-    let c : length back ≡ length xs - (off + length ys) = length-drop (off + length ys) xs in
-    let d : length (take off xs) ≡ off = length-take-le off xs (omega arith) in
-    let whole : length ((take off xs ++ ys) ++ back) ≡ length xs = omega arith in whole
+length-overlay xs off ys within = grind (arith, length-take-le, length-append, length-drop)
 
 length-replay : (owner : DomId) (number : ℕ) (rs : List WriteRecord) (xs : List ℕ) → length xs ≡ FRAME_SIZE → IsTrue (all_rightful owner number rs) → length (replay xs (patches rs)) ≡ FRAME_SIZE
 length-replay owner number [] xs full a = full
@@ -185,12 +135,7 @@ patches-more i h t f = refl
 
 -- an item that writes nothing
 nothing-written : (s : Setting) (h : History) (fs : FrameSet) (i : Item) → WritingOf i h ≡ None → FramesStand s h fs → FramesStand s (i ∷ h) fs
-nothing-written s h fs i none fr = record { counts = fr.counts; writes = writes; kept = fr.kept; filled = filled-by (i ∷ h) fs writes fr.kept }
-  where
-    writes : (name : FrameName) → patches (frame_at fs name).journal ≡ patches_at (i ∷ h) name.owner.0 name.number
-    writes name = fr.writes name ∙ sym (append-nil (patches_at h name.owner.0 name.number))
-        ∙ ap (λ (w : Option Writing). patches_at h name.owner.0 name.number ++ patches_by w name.owner.0 name.number) (sym none)
-        ∙ sym (patches-more i h name.owner.0 name.number)
+nothing-written s h fs i none fr = grind (arith, filled-by, append-nil, patches-more)
 
 -- an item that writes these bytes to a frame by this writ
 written-once : (s : Setting) (h : History) (fs gs : FrameSet) (i : Item) (at : Place) (w : Writ) (bytes : List ℕ) → WritingOf i h ≡ Some (record { at = at; bytes = bytes }) → FramesStand s h fs → WritesTo fs gs (name_of at) w at.off bytes → AreKept gs
@@ -199,9 +144,6 @@ written-once s h fs gs i at w bytes wrote fr to kept = record { counts = to.doma
   where
     patch : Patch
     patch = record { off = at.off; bytes = bytes }
-
-    turned : (a b : ℕ) → (a == b) ≡ false → (b == a) ≡ false
-    turned a b e = ne_eqb b a (λ f. eqb-false a b e (sym f))
 
     elsewhere : (name : FrameName) → is_name name (name_of at) ≡ false → patches (frame_at gs name).journal ≡ patches_at h name.owner.0 name.number ++ []
     elsewhere name apart = ap (λ (z : FrameState). patches z.journal) (to.others name apart) ∙ fr.writes name ∙ sym (append-nil (patches_at h name.owner.0 name.number))
@@ -214,28 +156,21 @@ written-once s h fs gs i at w bytes wrote fr to kept = record { counts = to.doma
     named : (name : FrameName) → at.owner.0 ≡ name.owner.0 → at.frame ≡ name.number → name_of at ≡ name
     named name a b = ap (λ (n : ℕ). record { owner = record { 0 = n }; number = at.frame }) a ∙ ap (λ (n : ℕ). record { owner = name.owner; number = n }) b
 
-    by : (name : FrameName) (a : Bool) → (at.owner.0 == name.owner.0) ≡ a → (b : Bool) → (at.frame == name.number) ≡ b
-        → patches (frame_at gs name).journal ≡ patches_at h name.owner.0 name.number ++ cond (a && b) (patch ∷ []) []
-    by name true is true same =
-        subst (λ (z : FrameName). patches (frame_at gs z).journal ≡ patches_at h z.owner.0 z.number ++ patch ∷ []) (named name (eqb-true at.owner.0 name.owner.0 is) (eqb-true at.frame name.number same)) here
-    by name true is false other = elsewhere name (and_right (name.owner.0 == at.owner.0) (name.number == at.frame) (turned at.frame name.number other))
-    by name false is b same = elsewhere name (apart (name.owner.0 == at.owner.0) (name.number == at.frame) (turned at.owner.0 name.owner.0 is))
-      where
-        apart : (a b : Bool) → a ≡ false → (a && b) ≡ false
-        apart a b e = ap (λ (z : Bool). z && b) e
+    swap : (a b : ℕ) → (a == b) ≡ (b == a)
+    swap a b = both_ways (a == b) (b == a) (λ e. eq-eqb b a (sym (eqb-true a b e))) (λ e. eq-eqb a b (sym (eqb-true b a e)))
 
     writes : (name : FrameName) → patches (frame_at gs name).journal ≡ patches_at (i ∷ h) name.owner.0 name.number
-    writes name = by name (at.owner.0 == name.owner.0) refl (at.frame == name.number) refl
-        ∙ ap (λ (z : Option Writing). patches_at h name.owner.0 name.number ++ patches_by z name.owner.0 name.number) (sym wrote)
-        ∙ sym (patches-more i h name.owner.0 name.number)
+    writes name = let was = patches_at h name.owner.0 name.number in
+        cond_both ((at.owner.0 == name.owner.0) && (at.frame == name.number)) (patch ∷ []) [] (λ ps. patches (frame_at gs name).journal ≡ was ++ ps)
+        (λ is. let e = and_parts (at.owner.0 == name.owner.0) (at.frame == name.number) is in
+        subst (λ (z : FrameName). patches (frame_at gs z).journal ≡ patches_at h z.owner.0 z.number ++ patch ∷ []) (named name (eqb-true at.owner.0 name.owner.0 e.0) (eqb-true at.frame name.number e.1)) here)
+        (λ off. elsewhere name (ap (λ (b : Bool). b && (name.number == at.frame)) (swap name.owner.0 at.owner.0) ∙ ap (λ (b : Bool). (at.owner.0 == name.owner.0) && b) (swap name.number at.frame) ∙ off))
+        ∙ ap (λ (z : Option Writing). was ++ patches_by z name.owner.0 name.number) (sym wrote) ∙ sym (patches-more i h name.owner.0 name.number)
 
 -- the frames after a step, which wrote what its call was given or what its source held
 pub frames-stepped : (s : Setting) (h : History) (fs gs : FrameSet) (x : State) (call : Call) (step : Step) (seen : Seen) (answer : Option Answer) (c : Underway) → open_call h x.id.0 ≡ Some c → x.given ≡ c.given → FramesStand s h fs → AccessedBy x call step fs gs
     → FramesStand s (stepped x.id step seen answer ∷ h) gs
 frames-stepped s h fs gs x call step seen answer c under given fr = by step where
-  quiet : (z : Step) → WritingOf (stepped x.id z seen answer) h ≡ None → gs ≡ fs → FramesStand s (stepped x.id z seen answer ∷ h) gs
-  quiet z none same = subst (FramesStand s (stepped x.id z seen answer ∷ h)) (sym same) (nothing-written s h fs (stepped x.id z seen answer) none fr)
-
   by : (z : Step) → AccessedBy x call z fs gs → FramesStand s (stepped x.id z seen answer ∷ h) gs
   by (WriteBytes dom frame off len) a =
       written-once s h fs gs (stepped x.id (WriteBytes dom frame off len) seen answer) (record { owner = dom; frame = frame; off = off }) a.0 x.given
@@ -243,7 +178,7 @@ frames-stepped s h fs gs x call step seen answer c under given fr = by step wher
   by (CopyBytes from to len) a =
       written-once s h fs gs (stepped x.id (CopyBytes from to len) seen answer) to a.0 (bytes_at (frame_at fs (name_of from)) from.off len)
       (ap (λ (l : List ℕ). Some (record { at = to; bytes = l })) (sym (bytes-held s h fs from.owner from.frame from.off len fr))) fr a.2 a.3
-  by z a = quiet z refl a
+  by z a = subst (FramesStand s (stepped x.id z seen answer ∷ h)) (sym a) (nothing-written s h fs (stepped x.id z seen answer) refl fr)
 
 -- a beginning writes nothing
 pub frames-begun : (s : Setting) (h : History) (fs : FrameSet) (dom : DomId) (request : Request) (b : Begun) → FramesStand s h fs → FramesStand s (grown h (begun_element dom request b)) fs

@@ -1,5 +1,7 @@
 -- The handles that domains were answered: each serial once, and each mapping under one of them.
-use Rattle.gt_core.proofs.Words.{◌≡◌, ◌≤◌, ◌<◌, ◌+◌, inl, inr, ℕ, refl, Bool, true, false, List, [], ◌∷◌, ◌++◌, Option, Some, None, cond, sym, ap, ◌∙◌, subst, arith, ◌==◌, ◌&&◌, eqb-true, eq-eqb, none-some, DomId, Denial, Handle, END_OF_SERIALS, Asked, Holder, ByMapping, ByLeg, Held, Seen, Taken, Step, LookHeader, PinStep, Unpin, StoreHeader, Makes, Verdict, asked, opens, CallerKnowledge, begun, Continuation, after_beginning, steps_of, IsMapping, Answer, Happened, Began, Stepped, Item, History, Setting, Underway, Pin, live, without, is_holder, same_handle, pinned_by, unpinned_by, open_call, underway_after, underway_with, maps_answered_at, one_if_mapped, known_at, values, IsRight, StepsRightIn, AnsweredBy, GivesValue, bare_handle, IsGiven, IsKnown, AsksKnown, HappensKnown, IsRun, cond_both, same_Some}
+use Rattle.gt_core.proofs.Words.{◌≡◌, ◌≤◌, ◌<◌, ◌+◌, inl, inr, ℕ, refl, Bool, true, false, List, [], ◌∷◌, Option, Some, None, cond, sym, ap, ◌∙◌, subst, arith, ◌==◌, ◌&&◌, eqb-true, eq-eqb, DomId, Denial, Handle, END_OF_SERIALS, Asked, Holder, ByMapping, ByLeg, Held, Seen, Step, Unpin, Makes, Verdict, asked, CallerKnowledge, begun, Continuation, after_beginning, steps_of, IsMapping, Answer, Happened, Began, Stepped, Item, History, Setting, Underway, Pin, live, same_handle, pinned_by, unpinned_by, open_call, underway_after, underway_with, maps_answered_at, one_if_mapped, known_at, values, IsRight, StepsRightIn, AnsweredBy, bare_handle, IsGiven, IsKnown, AsksKnown, HappensKnown, IsRun, cond_both, All-nil, All}
+use Rattle.std.proofs.lemmas.List.Elements.{All-append, All-weaker}
+use Rattle.gt_core.proofs.{Others.all-without}
 use Rattle.gt_calls.specs.declared.request.Asked.TheVariants as requests
 use Rattle.gt_core.specs.declared.trace.Answer.TheVariants as answers
 
@@ -10,28 +12,15 @@ abbrev pub IsNext : History → DomId → Asked → Option Step → Handle → T
 IsNext before d r None handle = ⊥
 IsNext before d r (Some step) handle = IsMapping (Some r) × (handle.serial ≡ maps_answered_at before d.0)
 
-given-next : (s : Setting) (h : History) (d : DomId) (r : Asked) (step : Option Step) (handle : Handle) → GivesValue s h d r step (answers.Mapped handle) → IsNext h d r step handle
-given-next s h d (requests.Map dom gref flags) (Some (PinStep p)) handle v = (tt, v)
-given-next s h d (requests.SetupTable frames) None handle v = cc
-given-next s h d (requests.SetupTable frames) (Some (StoreHeader version stored)) handle v = absurd (cc)
-given-next s h d (requests.QuerySize dom) (Some (LookHeader t)) handle v = absurd (cc)
-given-next s h d (requests.GetVersion dom) (Some (LookHeader t)) handle v = absurd (cc)
-given-next s h d r step handle v = absurd (first_of (assumption, cc))
-
 answered-next : (s : Setting) (h : History) (d : DomId) (r : Asked) (step : Option Step) (giving : Bool) (v : Option Verdict) (a : Option Answer) (against : Option Denial) (handle : Handle)
     → AnsweredBy s h d r step giving v a against → a ≡ Some (answers.Mapped handle) → IsNext h d r step handle
-answered-next s h d r step giving (Some v) (Some a) against handle is e = given-next s h d r step handle (subst (GivesValue s h d r step) (same_Some _ _ e) is.2)
-answered-next s h d r step giving v None against handle is e = absurd (none-some _ e)
-answered-next s h d r step giving v a against handle is e = absurd is
+answered-next s h d r step giving v a against handle is e = grind arith
 
 none-begun : (v : Option Verdict) (c : Continuation) (vs : List Seen) (step : Step) → after_beginning v c vs ≡ Some (Makes step) → v ≡ None
-none-begun None c vs step e = refl
-none-begun (Some v) c [] step e = cc
-none-begun (Some v) c (x ∷ vs) step e = absurd (none-some _ e)
+none-begun v c vs step e = grind arith
 
 few-answered : (k : CallerKnowledge) (d : DomId) (r : Asked) → begun k d r ≡ None → IsMapping (Some r) → k.maps_answered < END_OF_SERIALS
-few-answered k d (requests.Map dom gref flags) e m = (opens k d (requests.Map dom gref flags) e).serials_left
-few-answered k d r e m = absurd m
+few-answered k d r e m = grind arith
 
 -- a handle has the next serial of its domain, which is none past the last
 abbrev pub IsFresh : History → DomId → Handle → Type 0
@@ -58,9 +47,7 @@ maps-grow i h d = let n : ℕ = cond (i.actor.0 == d) (one_if_mapped i.answer) 0
 
 maps-one : (i : Item) (h : History) (d : ℕ) (handle : Handle) → i.actor.0 ≡ d → i.answer ≡ Some (answers.Mapped handle) → maps_answered_at (i ∷ h) d ≡ 1 + maps_answered_at h d
 unfolding maps_answered_at
-maps-one i h d handle own e =
-    ap (λ (b : Bool). cond b (one_if_mapped i.answer) 0 + maps_answered_at h d) (eq-eqb i.actor.0 d own)
-    ∙ ap (λ (a : Option Answer). one_if_mapped a + maps_answered_at h d) e
+maps-one i h d handle own e = grind arith
 
 -- a handle that was answered has a serial below the number of its domain's maps, and below the last
 record IsBelow (h : History) (d : ℕ) (handle : Handle) : Type 0 where
@@ -79,14 +66,11 @@ given-below s (i ∷ h) d handle run (inr g) = let b = given-below s h d handle 
     let le : maps_answered_at h d ≤ maps_answered_at (i ∷ h) d = maps-grow i h d in
     record { count = omega arith; end = b.end }
 
-mapped-same : (a b : Handle) (o : Option Answer) → o ≡ Some (answers.Mapped a) → o ≡ Some (answers.Mapped b) → a ≡ b
-mapped-same a b o e f = cc
-
 -- a serial is answered once
 given-once : (s : Setting) (h : History) (d : ℕ) (a b : Handle) → IsRun s h → IsGiven h d a → IsGiven h d b → a.serial ≡ b.serial → a ≡ b
 unfolding IsRun IsGiven
 given-once s [] d a b run f g e = absurd f
-given-once s (i ∷ h) d a b run (inl f) (inl g) e = mapped-same a b i.answer f.1 g.1
+given-once s (i ∷ h) d a b run (inl f) (inl g) e = cc
 given-once s (i ∷ h) d a b run (inl f) (inr g) e =
     let same : a.serial ≡ maps_answered_at h d = (fresh s h i a run.0 f.1).0 ∙ ap (maps_answered_at h) f.0 in
     let lt : b.serial < maps_answered_at h d = (given-below s h d b run.2 g).count in absurd (omega arith)
@@ -97,9 +81,7 @@ given-once s (i ∷ h) d a b run (inr f) (inr g) e = given-once s h d a b run.2 
 
 -- a handle that is known is told from the ones answered by its serial
 known-serial : (s : Setting) (h : History) (d : ℕ) (a b : Handle) → IsRun s h → IsGiven h d b → IsKnown h d a → b.serial ≡ a.serial → b ≡ a
-known-serial s h d a b run g (inl k) e = given-once s h d b a run g k e
-known-serial s h d a b run g (inr k) e = let lt : b.serial < END_OF_SERIALS = (given-below s h d b run g).end in
-    absurd (omega arith)
+known-serial s h d a b run g k e = grind (arith, given-once, given-below)
 
 pub known-tells : (s : Setting) (h : History) (d : ℕ) (a b : Handle) → IsRun s h → IsGiven h d b → IsKnown h d a → same_handle (bare_handle b) (bare_handle a) ≡ same_handle b a
 known-tells s h d a b run g k = by (b.serial == a.serial) refl where
@@ -115,81 +97,49 @@ HeldGiven h d (ByLeg number) = Unit {0}
 
 -- each mapping is under a handle that its domain was answered
 abbrev pub PinsGiven : History → List Pin → Type 0
-PinsGiven h [] = Unit {0}
-PinsGiven h (p ∷ ps) = HeldGiven h p.actor p.holder × PinsGiven h ps
+PinsGiven h ps = All (λ p. HeldGiven h p.actor p.holder) ps
 
 held-later : (i : Item) (h : History) (d : ℕ) (holder : Holder) → HeldGiven h d holder → HeldGiven (i ∷ h) d holder
 unfolding IsGiven
-held-later i h d (ByMapping handle) g = inr g
-held-later i h d (ByLeg number) g = tt
-
-pins-later : (i : Item) (h : History) (ps : List Pin) → PinsGiven h ps → PinsGiven (i ∷ h) ps
-pins-later i h [] g = tt
-pins-later i h (p ∷ ps) g = (held-later i h p.actor p.holder g.0, pins-later i h ps g.1)
-
-pins-append : (h : History) (ps qs : List Pin) → PinsGiven h ps → PinsGiven h qs → PinsGiven h (ps ++ qs)
-pins-append h [] qs f g = g
-pins-append h (p ∷ ps) qs f g = (f.0, pins-append h ps qs f.1 g)
-
-pins-without : (h : History) (d : ℕ) (holder : Holder) (ps : List Pin) → PinsGiven h ps → PinsGiven h (without d holder ps)
-unfolding without
-pins-without h d holder [] g = tt
-pins-without h d holder (p ∷ ps) g =
-    cond_both ((p.actor == d) && is_holder p.holder holder) ps (p ∷ without d holder ps) (PinsGiven h) (λ a. g.1) (λ a. (g.0, pins-without h d holder ps g.1))
+held-later i h d holder g = grind arith
 
 unpinned-given : (h : History) (d : DomId) (x : Happened) (ps : List Pin) → PinsGiven h ps → PinsGiven h (unpinned_by d x ps)
-unpinned-given h d (Stepped (Unpin p holder) seen) ps g = pins-without h d.0 holder ps g
+unpinned-given h d (Stepped (Unpin p holder) seen) ps g = all-without (λ q. HeldGiven h q.actor q.holder) d.0 holder ps g
 unpinned-given h d x ps g = g
 
 pinned-given : (i : Item) (h : History) (ps : List Pin) → PinsGiven (i ∷ h) (pinned_by i.actor i.happened i.answer h ps)
 unfolding IsGiven
-pinned-given i h ps = by i.happened i.answer refl where
-  by : (x : Happened) (a : Option Answer) → i.answer ≡ a → PinsGiven (i ∷ h) (pinned_by i.actor x a h ps)
-  by (Stepped (PinStep p) Taken) (Some (answers.Mapped handle)) e = (inl (refl, e), tt)
-  by (Stepped (PinStep p) Taken) a e = (tt, tt)
-  by x a e = tt
+pinned-given i h ps = grind arith
 
 pub pins-given : (h : History) → PinsGiven h (live h)
 unfolding live
-pins-given [] = tt
-pins-given (i ∷ h) =
-    pins-append (i ∷ h) (unpinned_by i.actor i.happened (live h)) (pinned_by i.actor i.happened i.answer h (live h))
-    (pins-later i h (unpinned_by i.actor i.happened (live h)) (unpinned-given h i.actor i.happened (live h) (pins-given h)))
+pins-given [] = All-nil (λ q. HeldGiven [] q.actor q.holder)
+pins-given (i ∷ h) = let P : Pin → Type 0 = λ q. HeldGiven (i ∷ h) q.actor q.holder in
+    All-append P (unpinned_by i.actor i.happened (live h)) (pinned_by i.actor i.happened i.answer h (live h))
+    (All-weaker (λ q. HeldGiven h q.actor q.holder) P (λ q g. held-later i h q.actor q.holder g) _ (unpinned-given h i.actor i.happened (live h) (pins-given h)))
     (pinned-given i h (live h))
 
 -- what open calls ask
 
 known-later : (i : Item) (h : History) (d : ℕ) (handle : Handle) → IsKnown h d handle → IsKnown (i ∷ h) d handle
 unfolding IsGiven
-known-later i h d handle (inl g) = inl (inr g)
-known-later i h d handle (inr g) = inr g
+known-later i h d handle g = grind arith
 
 asks-later : (i : Item) (h : History) (d : ℕ) (r : Asked) → AsksKnown h d r → AsksKnown (i ∷ h) d r
-asks-later i h d (requests.Unmap handle) k = known-later i h d handle k
-asks-later i h d (requests.Load handle off len) k = known-later i h d handle k
-asks-later i h d (requests.Store handle off len) k = known-later i h d handle k
-asks-later i h d r k = tt
+asks-later i h d r k = grind (arith, known-later)
 
 abbrev pub CallKnown : History → ℕ → Option Underway → Type 0
 CallKnown h d None = Unit {0}
 CallKnown h d (Some c) = AsksKnown h d c.request
 
 call-later : (i : Item) (h : History) (d : ℕ) (c : Option Underway) → CallKnown h d c → CallKnown (i ∷ h) d c
-call-later i h d None k = tt
-call-later i h d (Some c) k = asks-later i h d c.request k
+call-later i h d c k = grind (arith, asks-later)
 
 with-known : (i : Item) (h : History) (c : Option Underway) → HappensKnown h i → CallKnown h i.actor.0 c → CallKnown (i ∷ h) i.actor.0 (underway_with i.happened c)
-with-known i h c = by i.happened c where
-  by : (x : Happened) (c : Option Underway) → HappensKnown h (record i { happened = x }) → CallKnown h i.actor.0 c → CallKnown (i ∷ h) i.actor.0 (underway_with x c)
-  by (Began request) c asks k = asks-later i h i.actor.0 (asked request) asks
-  by (Stepped step seen) None asks k = tt
-  by (Stepped step seen) (Some c) asks k = asks-later i h i.actor.0 c.request k
+with-known i h c = grind (arith, asks-later)
 
 after-known : (i : Item) (h : History) (c : Option Underway) → HappensKnown h i → CallKnown h i.actor.0 c → CallKnown (i ∷ h) i.actor.0 (underway_after i c)
-after-known i h c asks k = by i.answer where
-  by : (a : Option Answer) → CallKnown (i ∷ h) i.actor.0 (underway_after (record i { answer = a }) c)
-  by None = with-known i h c asks k
-  by (Some answer) = tt
+after-known i h c asks k = grind (arith, with-known)
 
 pub open-known : (s : Setting) (h : History) (d : ℕ) → IsRun s h → CallKnown h d (open_call h d)
 unfolding IsRun open_call
@@ -200,9 +150,7 @@ open-known s (i ∷ h) d run = cond_both (i.actor.0 == d) (underway_after i (ope
     (λ e. call-later i h d (open_call h d) (open-known s h d run.2))
 
 unpin-in : (s : Setting) (h : History) (i : Item) (p : Held) (handle : Handle) (seen : Seen) (c : Option Underway) → StepsRightIn s h i (Unpin p (ByMapping handle)) seen c → CallKnown h i.actor.0 c → IsKnown h i.actor.0 handle
-unpin-in s h i p handle seen None right k = absurd right
-unpin-in s h i p handle seen (Some c) right k =
-    subst (AsksKnown h i.actor.0) right.justified k
+unpin-in s h i p handle seen c right k = grind arith
 
 -- a mapping that is given up is one under a known handle
 pub unpin-known : (s : Setting) (h : History) (i : Item) (p : Held) (handle : Handle) (seen : Seen) → i.happened ≡ Stepped (Unpin p (ByMapping handle)) seen → IsRight s h i → IsRun s h → IsKnown h i.actor.0 handle

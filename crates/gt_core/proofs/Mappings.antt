@@ -1,44 +1,29 @@
 -- The handles of a domain, and its mappings as the history has them.
-use Rattle.gt_core.proofs.Words.{◌≡◌, ◌+◌, ℕ, zero, suc, refl, Bool, true, false, List, [], ◌∷◌, ◌++◌, length, Option, Some, None, cond, sym, ap, ◌∙◌, arith, subst, ◌==◌, ◌&&◌, fun_ext, eqb-true, eq-eqb, and_parts, and_from, true≢false, none-some, length-append, sum_by-cons, Handle, HandleMap, value_of, count_of, Held, mapping_of, same_handle, Adds, taken, MappingsAgree, slice_index_or, slice_set, under, AreApart, cond_both, Slot}
-use Rattle.std.proofs.Common.{is_some, count_by}
+use Rattle.gt_core.proofs.Words.{◌≡◌, ◌+◌, ℕ, zero, suc, refl, Bool, true, false, List, [], ◌∷◌, ◌++◌, length, Option, Some, None, cond, sym, ap, ◌∙◌, arith, subst, ◌==◌, fun_ext, eqb-true, true≢false, none-some, length-append, sum_by-cons, Handle, HandleMap, value_of, count_of, Held, mapping_of, same_handle, Adds, taken, MappingsAgree, slice_index_or, slice_set, under, AreApart, Slot}
+use Rattle.std.{proofs.Common.is_some, proofs.Common.count_by, specs.Cmp.both_ways}
+use Rattle.gt_core.proofs.{Others.cond-same, Others.cond-apart}
 
 pub same-handle : (a b : Handle) → same_handle a b ≡ true → a ≡ b
-same-handle a b e = let p = and_parts (a.serial == b.serial) (a.key == b.key) e in
-    ap (λ (n : ℕ). record { serial = n; key = a.key }) (eqb-true a.serial b.serial p.0)
-    ∙ ap (λ (n : ℕ). record { serial = b.serial; key = n }) (eqb-true a.key b.key p.1)
+same-handle a b e = grind arith
 
-handle-same : (a : Handle) → same_handle a a ≡ true
-handle-same a = and_from (a.serial == a.serial) (a.key == a.key) (eq-eqb a.serial a.serial refl) (eq-eqb a.key a.key refl)
-
-apart-back : (a b : Handle) → same_handle a b ≡ false → same_handle b a ≡ false
-apart-back a b e = by (same_handle b a) refl where
-  by : (c : Bool) → same_handle b a ≡ c → same_handle b a ≡ false
-  by true f = absurd (true≢false (sym (handle-same a) ∙ ap (λ (x : Handle). same_handle a x) (sym (same-handle b a f)) ∙ e))
-  by false f = f
+handle-back : (a b : Handle) → same_handle a b ≡ true → same_handle b a ≡ true
+handle-back a b e = grind arith
 
 swap-handles : (a b : Handle) → same_handle a b ≡ same_handle b a
-swap-handles a b = by (same_handle a b) refl where
-  by : (c : Bool) → same_handle a b ≡ c → same_handle a b ≡ same_handle b a
-  by true e = e ∙ sym (handle-same a) ∙ ap (λ (x : Handle). same_handle x a) (same-handle a b e)
-  by false e = e ∙ sym (apart-back a b e)
+swap-handles a b = both_ways (same_handle a b) (same_handle b a) (handle-back a b) (handle-back b a)
 
 -- a list of mappings, and one more
 
 none-of : (x : Handle × Held) (ms : List (Handle × Held)) (handle : Handle) → mapping_of (x ∷ ms) handle ≡ None → (same_handle x.0 handle ≡ false) × (mapping_of ms handle ≡ None)
-none-of x ms handle e =
-    cond_both (same_handle x.0 handle) (Some x.1) (mapping_of ms handle) (λ o. o ≡ None → (same_handle x.0 handle ≡ false) × (mapping_of ms handle ≡ None)) (λ is f. absurd (none-some x.1 (sym f))) (λ is f. (is, f)) e
+none-of x ms handle e = grind arith
 
 push-of : (ms : List (Handle × Held)) (handle : Handle) (m : Held) (other : Handle) → mapping_of ms handle ≡ None
     → mapping_of (ms ++ (handle, m) ∷ []) other ≡ cond (same_handle other handle) (Some m) (mapping_of ms other)
 push-of [] handle m other none = ap (λ (b : Bool). cond b (Some m) None) (swap-handles handle other)
-push-of (x ∷ ms) handle m other none = by (same_handle x.0 other) refl (push-of ms handle m other (none-of x ms handle none).1)
-  where
-    by : (b : Bool) → same_handle x.0 other ≡ b → mapping_of (ms ++ (handle, m) ∷ []) other ≡ cond (same_handle other handle) (Some m) (mapping_of ms other)
-        → cond b (Some x.1) (mapping_of (ms ++ (handle, m) ∷ []) other) ≡ cond (same_handle other handle) (Some m) (cond b (Some x.1) (mapping_of ms other))
-    by true is rest =
-        let off : same_handle other handle ≡ false = ap (λ (z : Handle). same_handle z handle) (sym (same-handle x.0 other is)) ∙ (none-of x ms handle none).0 in
-        sym (ap (λ (c : Bool). cond c (Some m) (Some x.1)) off)
-    by false is rest = rest
+push-of (x ∷ ms) handle m other none = let n = none-of x ms handle none in
+    ap (cond (same_handle x.0 other) (Some x.1)) (push-of ms handle m other n.1)
+    ∙ cond-apart (same_handle x.0 other) (same_handle other handle) (Some x.1) (Some m) (mapping_of ms other)
+    (λ c b. true≢false (sym b ∙ ap (λ (z : Handle). same_handle z handle) (sym (same-handle x.0 other c)) ∙ n.0))
 
 apart-push : (ms : List (Handle × Held)) (handle : Handle) (m : Held) → AreApart ms → mapping_of ms handle ≡ None → AreApart (ms ++ (handle, m) ∷ [])
 apart-push [] handle m a none = (refl, tt)
@@ -68,25 +53,8 @@ abbrev pub less : Handle → List (Handle × Held) → List (Handle × Held)
 less handle ms = less_of (λ (k : Handle). same_handle k handle) ms
 
 less-of : (ms : List (Handle × Held)) (handle other : Handle) → AreApart ms → mapping_of (less handle ms) other ≡ cond (same_handle other handle) None (mapping_of ms other)
-less-of [] handle other a = sym (cond_both (same_handle other handle) None None (λ o. o ≡ None) (λ e. refl) (λ e. refl))
-less-of (x ∷ ms) handle other a = by (same_handle x.0 handle) refl (less-of ms handle other a.1) where
-  gone : x.0 ≡ handle → (c : Bool) → same_handle other handle ≡ c → mapping_of ms other ≡ cond c None (cond (same_handle x.0 other) (Some x.1) (mapping_of ms other))
-  gone here true e = ap (mapping_of ms) (same-handle other handle e ∙ sym here) ∙ a.0
-  gone here false e =
-      let off : same_handle x.0 other ≡ false = ap (λ (z : Handle). same_handle z other) here ∙ apart-back other handle e in
-      sym (ap (λ (c : Bool). cond c (Some x.1) (mapping_of ms other)) off)
-
-  stays : same_handle x.0 handle ≡ false → mapping_of (less handle ms) other ≡ cond (same_handle other handle) None (mapping_of ms other) → (c : Bool) → same_handle x.0 other ≡ c
-      → cond c (Some x.1) (mapping_of (less handle ms) other) ≡ cond (same_handle other handle) None (cond c (Some x.1) (mapping_of ms other))
-  stays is rest true e =
-      let off : same_handle other handle ≡ false = ap (λ (z : Handle). same_handle z handle) (sym (same-handle x.0 other e)) ∙ is in
-      sym (ap (λ (b : Bool). cond b None (Some x.1)) off)
-  stays is rest false e = rest
-
-  by : (b : Bool) → same_handle x.0 handle ≡ b → mapping_of (less handle ms) other ≡ cond (same_handle other handle) None (mapping_of ms other)
-      → mapping_of (cond b ms (x ∷ less handle ms)) other ≡ cond (same_handle other handle) None (cond (same_handle x.0 other) (Some x.1) (mapping_of ms other))
-  by true is rest = gone (same-handle x.0 handle is) (same_handle other handle) refl
-  by false is rest = stays is rest (same_handle x.0 other) refl
+less-of [] handle other a = grind arith
+less-of (x ∷ ms) handle other a = grind (arith, less-of ms handle other a.1)
 
 length-less : (ms : List (Handle × Held)) (handle : Handle) (m : Held) → mapping_of ms handle ≡ Some m → length ms ≡ length (less handle ms) + 1
 length-less [] handle m e = absurd (none-some m e)
@@ -96,73 +64,34 @@ length-less (x ∷ ms) handle m e = by (same_handle x.0 handle) (λ k. length-le
   by true rest f = omega arith
   by false rest f = let r : length ms ≡ length (less handle ms) + 1 = rest f in omega arith
 
-less-none : (ms : List (Handle × Held)) (handle other : Handle) → mapping_of ms other ≡ None → mapping_of (less handle ms) other ≡ None
-less-none [] handle other e = refl
-less-none (x ∷ ms) handle other e = let n = none-of x ms other e in
-    by (same_handle x.0 handle) n.0 n.1 (less-none ms handle other n.1) where
-      by : (b : Bool) → same_handle x.0 other ≡ false → mapping_of ms other ≡ None → mapping_of (less handle ms) other ≡ None → mapping_of (cond b ms (x ∷ less handle ms)) other ≡ None
-      by true off none rest = none
-      by false off none rest = ap (λ (c : Bool). cond c (Some x.1) (mapping_of (less handle ms) other)) off ∙ rest
-
 apart-less : (ms : List (Handle × Held)) (handle : Handle) → AreApart ms → AreApart (less handle ms)
 apart-less [] handle a = tt
-apart-less (x ∷ ms) handle a =
-    cond_both (same_handle x.0 handle) ms (x ∷ less handle ms) AreApart (λ e. a.1) (λ e. (less-none ms handle x.0 a.0, apart-less ms handle a.1))
+apart-less (x ∷ ms) handle a = grind (arith, apart-less ms handle a.1, less-of, cond-same)
 
 -- the slots of the handles, and one less
 
-set-here : (slots : List (Option (Slot Held))) (key : ℕ) → slice_index_or (slice_set slots key None) key None ≡ None
-set-here (x ∷ xs) (suc key) = set-here xs key
-set-here slots key = refl
-
-set-there : (slots : List (Option (Slot Held))) (key at : ℕ) → (at ≡ key → ⊥) → slice_index_or (slice_set slots key None) at None ≡ slice_index_or slots at None
-set-there (x ∷ xs) zero zero apart = absurd (apart refl)
-set-there (x ∷ xs) (suc key) (suc at) apart = set-there xs key at (λ e. apart (ap suc e))
-set-there slots key at apart = refl
-
 set-none : (slots : List (Option (Slot Held))) (key at : ℕ) → slice_index_or (slice_set slots key None) at None ≡ cond (at == key) None (slice_index_or slots at None)
-set-none slots key at =
-    cond_both (at == key) None (slice_index_or slots at None) (λ o. slice_index_or (slice_set slots key None) at None ≡ o) (λ is. ap (λ (n : ℕ). slice_index_or (slice_set slots key None) n None) (eqb-true at key is) ∙ set-here slots key)
-    (λ is. set-there slots key at (λ e. true≢false (sym (eq-eqb at key e) ∙ is)))
+set-none [] key at = grind arith
+set-none (x ∷ xs) zero zero = refl
+set-none (x ∷ xs) zero (suc at) = grind arith
+set-none (x ∷ xs) (suc key) zero = grind arith
+set-none (x ∷ xs) (suc key) (suc at) = grind (arith, set-none xs key at)
 
 under-other : (o : Option (Slot Held)) (other serial : ℕ) (m : Held) → (other == serial) ≡ false → under serial o ≡ Some m → under other o ≡ None
-under-other None other serial m apart e = refl
-under-other (Some slot) other serial m apart e = by (slot.serial == serial) (slot.serial == other) refl refl e where
-  by : (b c : Bool) → (slot.serial == serial) ≡ b → (slot.serial == other) ≡ c → cond b (Some slot.value) None ≡ Some m → cond c (Some slot.value) None ≡ None
-  by true true is at f = absurd (true≢false (sym (eq-eqb other serial (sym (eqb-true slot.serial other at) ∙ eqb-true slot.serial serial is)) ∙ apart))
-  by true false is at f = refl
-  by false c is at f = absurd (none-some m f)
+under-other o other serial m apart e = grind arith
 
 taken-of : (kept : HandleMap Held) (handle other : Handle) (m : Held) → value_of kept handle ≡ Some m → value_of (taken handle kept) other ≡ cond (same_handle other handle) None (value_of kept other)
-taken-of kept handle other m has =
-    ap (λ (o : Option Held). value_of (cond (is_some o) (record kept { slots = slice_set kept.slots handle.key None }) kept) other) has
-    ∙ ap (under other.serial) (set-none kept.slots handle.key other.key)
-    ∙ by (other.serial == handle.serial) (other.key == handle.key) refl refl where
-      by : (s k : Bool) → (other.serial == handle.serial) ≡ s → (other.key == handle.key) ≡ k
-          → under other.serial (cond k None (slice_index_or kept.slots other.key None)) ≡ cond (s && k) None (under other.serial (slice_index_or kept.slots other.key None))
-      by true true is at = refl
-      by true false is at = refl
-      by false false is at = refl
-      by false true is at =
-          sym (ap (λ (n : ℕ). under other.serial (slice_index_or kept.slots n None)) (eqb-true other.key handle.key at)
-          ∙ under-other (slice_index_or kept.slots handle.key None) other.serial handle.serial m is has)
+taken-of kept handle other m has = grind (arith, set-none, eqb-true, under-other)
 
 count-set : (slots : List (Option (Slot Held))) (key : ℕ) (slot : Slot Held) → slice_index_or slots key None ≡ Some slot → count_by is_some (slice_set slots key None) + 1 ≡ count_by is_some slots
 count-set (Some x ∷ os) zero slot e =
     omega (arith, sum_by-cons (λ (o : Option (Slot Held)). cond (is_some o) 1 0) (Some x) os, sum_by-cons (λ (o : Option (Slot Held)). cond (is_some o) 1 0) None os)
-count-set (None ∷ os) (suc key) slot e =
-    omega (arith, count-set os key slot e, sum_by-cons (λ (o : Option (Slot Held)). cond (is_some o) 1 0) None os, sum_by-cons (λ (o : Option (Slot Held)). cond (is_some o) 1 0) None (slice_set os key None))
-count-set (Some x ∷ os) (suc key) slot e =
-    omega (arith, count-set os key slot e, sum_by-cons (λ (o : Option (Slot Held)). cond (is_some o) 1 0) (Some x) os, sum_by-cons (λ (o : Option (Slot Held)). cond (is_some o) 1 0) (Some x) (slice_set os key None))
+count-set (o ∷ os) (suc key) slot e =
+    omega (arith, count-set os key slot e, sum_by-cons (λ (o : Option (Slot Held)). cond (is_some o) 1 0) o os, sum_by-cons (λ (o : Option (Slot Held)). cond (is_some o) 1 0) o (slice_set os key None))
 count-set slots key slot e = absurd (none-some slot e)
 
 count-taken : (kept : HandleMap Held) (handle : Handle) (m : Held) → value_of kept handle ≡ Some m → count_of (taken handle kept) + 1 ≡ count_of kept
-count-taken kept handle m has =
-    ap (λ (o : Option Held). count_of (cond (is_some o) (record kept { slots = slice_set kept.slots handle.key None }) kept) + 1) has
-    ∙ by (slice_index_or kept.slots handle.key None) refl has where
-      by : (o : Option (Slot Held)) → slice_index_or kept.slots handle.key None ≡ o → under handle.serial o ≡ Some m → count_by is_some (slice_set kept.slots handle.key None) + 1 ≡ count_by is_some kept.slots
-      by None is f = absurd (none-some m f)
-      by (Some slot) is f = count-set kept.slots handle.key slot is
+count-taken kept handle m has = grind (arith, count-set)
 
 -- the handles without one mapping are those of the mappings without it
 pub mappings-taken : (kept : HandleMap Held) (handle : Handle) (m : Held) (ms : List (Handle × Held)) (n : ℕ) → mapping_of ms handle ≡ Some m → MappingsAgree kept ms n

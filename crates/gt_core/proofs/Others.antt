@@ -1,5 +1,5 @@
 -- What an item leaves of the entries, words, pins and mappings, and of the other domains.
-use Rattle.gt_core.proofs.Words.{◌≡◌, ◌+◌, ℕ, refl, Bool, true, false, List, [], ◌∷◌, ◌++◌, Option, None, cond, ap, ◌∙◌, arith, ◌==◌, fun_ext, DomId, Entry, Header, Change, Item, History, Setting, entry_at, entry_after, raises_at, raise_after, generation_at, live, Pin, pinned_by, unpinned_by, change_at, change_of, maps_answered_at, one_if_mapped, known_at, mappings_at, gather, by_mapping, legs_at, by_leg, header_stored, header_or, table_at, append-nil, Half, or_else, stored_at, body_at, sym, ◌&&◌, Holder, PinStep, Unpin, Taken, Held, Stepped, Answer, without, is_holder, eqb-true, Happened, append_assoc}
+use Rattle.gt_core.proofs.Words.{◌≡◌, ◌+◌, ℕ, refl, Bool, true, false, List, [], ◌∷◌, ◌++◌, Option, None, cond, ap, ◌∙◌, arith, ◌==◌, DomId, Header, Change, Item, History, Setting, entry_at, entry_after, raises_at, raise_after, live, Pin, pinned_by, unpinned_by, change_at, change_of, maps_answered_at, one_if_mapped, known_at, mappings_at, gather, by_mapping, legs_at, by_leg, header_stored, header_or, table_at, append-nil, Half, or_else, stored_at, body_at, sym, ◌&&◌, Holder, Unpin, Held, Stepped, Answer, without, is_holder, cond_both, Some, Handle, ByMapping, ByLeg, Happened, append_assoc, All-cons, All-head, All-tail, All}
 
 -- the item changes no entry, pin or mapping
 pub record KeepsKnown (i : Item) : Type 0 where
@@ -9,8 +9,10 @@ pub record KeepsKnown (i : Item) : Type 0 where
   pub maps : one_if_mapped i.answer ≡ 0
 
 pub cond-same : {A : Type 0} (b : Bool) (x : A) → cond b x x ≡ x
-cond-same true x = refl
-cond-same false x = refl
+cond-same b x = grind arith
+
+pub cond-apart : {A : Type 0} (a b : Bool) (x y z : A) → (a ≡ true → b ≡ true → ⊥) → cond a x (cond b y z) ≡ cond b y (cond a x z)
+cond-apart a b x y z h = grind arith
 
 -- the item changes no entry
 abbrev pub KeepsAll : Item → Type 0
@@ -39,10 +41,6 @@ pub answered-stays : (h : History) (i : Item) (d : ℕ) → one_if_mapped i.answ
 unfolding maps_answered_at
 answered-stays h i d m = ap (λ (n : ℕ). n + maps_answered_at h d) (ap (λ (n : ℕ). cond (i.actor.0 == d) n 0) m ∙ cond-same (i.actor.0 == d) 0) ∙ omega arith
 
-pub kept-generations : (s : Setting) (i : Item) (h : History) (d : ℕ) → KeepsAll i
-    → ◌≡◌ {A = ℕ → ℕ} (λ r. generation_at s (i ∷ h) d r) (λ r. generation_at s h d r)
-kept-generations s i h d q = fun_ext (λ r. ap (λ (n : ℕ). s.first_generation + n) (kept-raises i h d r q))
-
 pub kept-table : (s : Setting) (i : Item) (h : History) (t : DomId) → header_stored i.happened ≡ None → table_at s (i ∷ h) t ≡ table_at s h t
 unfolding table_at
 kept-table s i h t e = ap (λ (o : Option Header). header_or o (table_at s h t)) (ap (λ (o : Option Header). cond (i.actor.0 == t.0) o None) e ∙ cond-same (i.actor.0 == t.0) None)
@@ -50,8 +48,7 @@ kept-table s i h t e = ap (λ (o : Option Header). header_or o (table_at s h t))
 -- a domain knows the same, where its entries, table and mappings are the same
 pub known-as : (s : Setting) (h new : History) (d : DomId) → ((r : ℕ) → entry_at new d.0 r ≡ entry_at h d.0 r) → ((r : ℕ) → raises_at new d.0 r ≡ raises_at h d.0 r) → table_at s new d ≡ table_at s h d
     → mappings_at new d.0 ≡ mappings_at h d.0 → maps_answered_at new d.0 ≡ maps_answered_at h d.0 → known_at s new d ≡ known_at s h d
-known-as s h new d entries raises table maps answered = let e : ◌≡◌ {A = ℕ → Entry} (λ r. entry_at new d.0 r) (λ r. entry_at h d.0 r) = fun_ext entries in
-    let g : ◌≡◌ {A = ℕ → ℕ} (λ r. generation_at s new d.0 r) (λ r. generation_at s h d.0 r) = fun_ext (λ r. ap (λ (n : ℕ). s.first_generation + n) (raises r)) in cc
+known-as s h new d entries raises table maps answered = grind arith
 
 pub kept-known : (s : Setting) (i : Item) (h : History) (d : DomId) → KeepsKnown i → header_stored i.happened ≡ None → known_at s (i ∷ h) d ≡ known_at s h d
 kept-known s i h d q e =
@@ -62,24 +59,25 @@ kept-known s i h d q e =
 pub kept-legs : (i : Item) (h : History) (d : ℕ) → KeepsKnown i → legs_at (i ∷ h) d ≡ legs_at h d
 kept-legs i h d q = ap (λ (ps : List Pin). gather by_leg d ps) (kept-live i h q)
 
-cond-off : {A : Type 0} (b : Bool) (x y : A) → b ≡ false → cond b x y ≡ y
-cond-off b x y e = ap (λ (z : Bool). cond z x y) e
-
 pub other-entry : (i : Item) (h : History) (t r : ℕ) → (i.actor.0 == t) ≡ false → entry_at (i ∷ h) t r ≡ entry_at h t r
 unfolding entry_at
-other-entry i h t r apart = ap (λ (c : Option Change). entry_after c (entry_at h t r)) (cond-off (i.actor.0 == t) (change_at i.happened r) None apart)
+other-entry i h t r apart = ap (λ (b : Bool). entry_after (cond b (change_at i.happened r) None) (entry_at h t r)) apart
 
 pub other-raises : (i : Item) (h : History) (t r : ℕ) → (i.actor.0 == t) ≡ false → raises_at (i ∷ h) t r ≡ raises_at h t r
 unfolding raises_at
-other-raises i h t r apart = ap (λ (c : Option Change). raises_at h t r + raise_after c) (cond-off (i.actor.0 == t) (change_at i.happened r) None apart) ∙ omega arith
+other-raises i h t r apart = ap (λ (b : Bool). raises_at h t r + raise_after (cond b (change_at i.happened r) None)) apart ∙ omega arith
 
 pub other-body : (i : Item) (h : History) (t r : ℕ) (which : Half) → (i.actor.0 == t) ≡ false → body_at (i ∷ h) t r which ≡ body_at h t r which
 unfolding body_at
-other-body i h t r which apart = ap (λ (o : Option ℕ). or_else o (body_at h t r which)) (cond-off (i.actor.0 == t) (stored_at i.happened r which) None apart)
+other-body i h t r which apart = ap (λ (b : Bool). or_else (cond b (stored_at i.happened r which) None) (body_at h t r which)) apart
 
 pub other-maps : (i : Item) (h : History) (d : ℕ) → (i.actor.0 == d) ≡ false → maps_answered_at (i ∷ h) d ≡ maps_answered_at h d
 unfolding maps_answered_at
-other-maps i h d apart = ap (λ (n : ℕ). n + maps_answered_at h d) (cond-off (i.actor.0 == d) (one_if_mapped i.answer) 0 apart) ∙ omega arith
+other-maps i h d apart = ap (λ (b : Bool). cond b (one_if_mapped i.answer) 0 + maps_answered_at h d) apart ∙ omega arith
+
+pub other-table : (s : Setting) (i : Item) (h : History) (d : DomId) → (i.actor.0 == d.0) ≡ false → table_at s (i ∷ h) d ≡ table_at s h d
+unfolding table_at
+other-table s i h d apart = ap (λ (b : Bool). header_or (cond b (header_stored i.happened) None) (table_at s h d)) apart
 
 pub gather-append : {A : Type 0} (give : Holder → Held → List A) (d : ℕ) (ps qs : List Pin) → gather give d (ps ++ qs) ≡ gather give d ps ++ gather give d qs
 unfolding gather
@@ -88,34 +86,28 @@ gather-append give d (p ∷ ps) qs =
     ap (λ l. cond (p.actor == d) (give p.holder p.held) [] ++ l) (gather-append give d ps qs)
     ∙ sym (append_assoc (cond (p.actor == d) (give p.holder p.held) []) (gather give d ps) (gather give d qs))
 
--- another domain's pin gives nothing
-one-apart : {A : Type 0} (give : Holder → Held → List A) (d : ℕ) (p : Pin) → (p.actor == d) ≡ false → gather give d (p ∷ []) ≡ []
-unfolding gather
-one-apart give d p apart = ap (λ l. l ++ []) (cond-off (p.actor == d) (give p.holder p.held) [] apart)
-
-no-pins : {A : Type 0} (give : Holder → Held → List A) (d : ℕ) → gather give d [] ≡ []
-unfolding gather
-no-pins give d = refl
-
 pinned-apart : {A : Type 0} (give : Holder → Held → List A) (d : ℕ) (actor : DomId) (happened : Happened) (answer : Option Answer) (before : History) (pins : List Pin) → (actor.0 == d) ≡ false
     → gather give d (pinned_by actor happened answer before pins) ≡ []
-pinned-apart give d actor (Stepped (PinStep p) Taken) answer before pins apart = one-apart give d _ apart
-pinned-apart give d actor happened answer before pins apart = no-pins give d
+unfolding gather
+pinned-apart give d actor happened answer before pins apart = grind arith
 
--- a pin that another domain gives back
-pub without-apart : {A : Type 0} (give : Holder → Held → List A) (d actor : ℕ) (holder : Holder) (ps : List Pin) → (actor == d) ≡ false → gather give d (without actor holder ps) ≡ gather give d ps
+-- a pin that is given back, where it gave nothing to this domain
+pub without-kept : {A : Type 0} (give : Holder → Held → List A) (d actor : ℕ) (holder : Holder) (ps : List Pin)
+    → ((p : Pin) → p.actor ≡ actor → is_holder p.holder holder ≡ true → cond (p.actor == d) (give p.holder p.held) [] ≡ []) → gather give d (without actor holder ps) ≡ gather give d ps
 unfolding gather without
-without-apart give d actor holder [] apart = refl
-without-apart give d actor holder (p ∷ ps) apart = by (p.actor == actor) (is_holder p.holder holder) refl (without-apart give d actor holder ps apart)
-  where
-    by : (b e : Bool) → (p.actor == actor) ≡ b → gather give d (without actor holder ps) ≡ gather give d ps
-        → gather give d (cond (b && e) ps (p ∷ without actor holder ps)) ≡ gather give d (p ∷ ps)
-    by true true own rest =
-        sym (ap (λ l. l ++ gather give d ps) (cond-off (p.actor == d) (give p.holder p.held) [] (ap (λ (n : ℕ). n == d) (eqb-true p.actor actor own) ∙ apart)))
-    by b e own rest = ap (λ l. cond (p.actor == d) (give p.holder p.held) [] ++ l) rest
+without-kept give d actor holder [] none = refl
+without-kept {A} give d actor holder (p ∷ ps) none = grind (arith, without-kept give d actor holder ps none)
+
+-- what held of all pins holds of those that are left
+pub all-without : (P : Pin → Type 0) (d : ℕ) (holder : Holder) (ps : List Pin) → All P ps → All P (without d holder ps)
+unfolding without
+all-without P d holder [] a = a
+all-without P d holder (p ∷ ps) a = cond_both ((p.actor == d) && is_holder p.holder holder) ps (p ∷ without d holder ps) (All P) (λ e. All-tail P p ps a)
+    (λ e. All-cons P p (without d holder ps) (All-head P p ps a) (all-without P d holder ps (All-tail P p ps a)))
 
 unpinned-apart : {A : Type 0} (give : Holder → Held → List A) (d : ℕ) (actor : DomId) (happened : Happened) (ps : List Pin) → (actor.0 == d) ≡ false → gather give d (unpinned_by actor happened ps) ≡ gather give d ps
-unpinned-apart give d actor (Stepped (Unpin p holder) seen) ps apart = without-apart give d actor.0 holder ps apart
+unpinned-apart {A} give d actor (Stepped (Unpin p holder) seen) ps apart =
+    without-kept give d actor.0 holder ps (λ q own is. ap (λ (b : Bool). cond b (give q.holder q.held) []) (ap (λ (n : ℕ). n == d) own ∙ apart))
 unpinned-apart give d actor happened ps apart = refl
 
 -- no domain but the actor holds other pins than before
@@ -127,22 +119,41 @@ other-pins give i h d apart =
     ∙ append-nil (gather give d (unpinned_by i.actor i.happened (live h)))
     ∙ unpinned-apart give d i.actor i.happened (live h) apart
 
-pub other-mappings : (i : Item) (h : History) (d : ℕ) → (i.actor.0 == d) ≡ false → mappings_at (i ∷ h) d ≡ mappings_at h d
-other-mappings i h d apart = other-pins by_mapping i h d apart
-
-pub other-legs : (i : Item) (h : History) (d : ℕ) → (i.actor.0 == d) ≡ false → legs_at (i ∷ h) d ≡ legs_at h d
-other-legs i h d apart = other-pins by_leg i h d apart
-
-pub other-generations : (s : Setting) (i : Item) (h : History) (d : ℕ) → (i.actor.0 == d) ≡ false
-    → ◌≡◌ {A = ℕ → ℕ} (λ r. generation_at s (i ∷ h) d r) (λ r. generation_at s h d r)
-other-generations s i h d apart = fun_ext (λ r. ap (λ (n : ℕ). s.first_generation + n) (other-raises i h d r apart))
-
-pub other-table : (s : Setting) (i : Item) (h : History) (d : DomId) → (i.actor.0 == d.0) ≡ false → table_at s (i ∷ h) d ≡ table_at s h d
-unfolding table_at
-other-table s i h d apart = ap (λ (o : Option Header). header_or o (table_at s h d)) (cond-off (i.actor.0 == d.0) (header_stored i.happened) None apart)
-
 -- no domain but the actor knows another thing by itself
 pub other-known : (s : Setting) (i : Item) (h : History) (d : DomId) → (i.actor.0 == d.0) ≡ false → known_at s (i ∷ h) d ≡ known_at s h d
 other-known s i h d apart =
     known-as s h (i ∷ h) d (λ r. other-entry i h d.0 r apart) (λ r. other-raises i h d.0 r apart) (other-table s i h d apart)
-    (other-mappings i h d.0 apart) (other-maps i h d.0 apart)
+    (other-pins by_mapping i h d.0 apart) (other-maps i h d.0 apart)
+
+-- a test above a function stands outside it too
+pub pulled : {A B : Type 0} (f : A → B) (b : Bool) (x y : A) → f (cond b x y) ≡ cond b (f x) (f y)
+pulled f b x y = grind arith
+
+-- a way to give pins by keys: each holder gives under one key, or nothing
+abbrev pub listed : {K : Type 0} → Option K → Held → List (K × Held)
+listed None p = []
+listed (Some k) p = (k, p) ∷ []
+
+pub record IsKeyed {K : Type 0} (give : Holder → Held → List (K × Held)) : Type 0 where
+  pub key : Holder → Option K
+  pub gives : (x : Holder) (p : Held) → give x p ≡ listed (key x) p
+
+abbrev pub mapping-keyed : IsKeyed by_mapping
+mapping-keyed = record { key = key; gives = gives } where
+  key : Holder → Option Handle
+  key (ByMapping k) = Some k
+  key (ByLeg n) = None
+
+  gives : (x : Holder) (p : Held) → by_mapping x p ≡ listed (key x) p
+  gives (ByMapping k) p = refl
+  gives (ByLeg n) p = refl
+
+abbrev pub leg-keyed : IsKeyed by_leg
+leg-keyed = record { key = key; gives = gives } where
+  key : Holder → Option ℕ
+  key (ByMapping k) = None
+  key (ByLeg n) = Some n
+
+  gives : (x : Holder) (p : Held) → by_leg x p ≡ listed (key x) p
+  gives (ByMapping k) p = refl
+  gives (ByLeg n) p = refl

@@ -1,6 +1,6 @@
 -- A pin that was taken keeps what a core stands for.
-use Rattle.gt_core.proofs.Words.{◌≡◌, ◌≢◌, ◌<◌, ◌+◌, ℕ, refl, Bool, true, false, List, [], ◌∷◌, ◌++◌, length, Option, Some, cond, sym, ap, ◌∙◌, arith, subst, ◌==◌, ◌&&◌, All, count_by, eqb-true, and_parts, and_from, false≢true, All-push, append-nil, DomId, Dir, Read, Write, MAX_PINS, Invalid, Half, FirstHalf, SecondHalf, HandleMap, Handle, Held, Holder, ByLeg, PinStep, Taken, PinCounts, Open, Item, Answer, Mapped, changed_at, State, state_of, changed_in, with_slot, slot_after, Adds, History, Setting, Pin, live, entry_at, body_at, reads_at, writes_at, mappings_at, maps_answered_at, legs_at, open_call, is_pin_on, same_dir, gather, by_mapping, by_leg, holder_after, one_if_mapped, IsLawful, SlotAgrees, Agrees, DomainsStand, CallAgrees, GivenAgrees, MappingsAgree, sum_by_push, CountsChange}
-use Rattle.gt_core.{specs.declared.pin_counts.CountsChange.TheVariants.Pinned, proofs.Others.answered-stays, proofs.Others.gather-append, proofs.Keeping.stepped, proofs.Keeping.SlotsAgree, proofs.Keeping.KeepsEntries, proofs.Keeping.same-body, proofs.Keeping.slots-agree, proofs.Keeping.counts-fit, proofs.Keeping.becomes-changed, proofs.Keeping.slots-stand, proofs.Keeping.keeps-stands, proofs.Keeping.same-number, proofs.Mappings.mappings-added, proofs.Mappings.mappings-same}
+use Rattle.gt_core.proofs.Words.{◌≡◌, ◌≢◌, ◌<◌, ◌+◌, ℕ, refl, Bool, true, false, List, [], ◌∷◌, ◌++◌, length, Option, Some, cond, sym, ap, ◌∙◌, arith, subst, ◌==◌, ◌&&◌, All, count_by, All-push, append-nil, DomId, Dir, Read, Write, MAX_PINS, Invalid, Half, FirstHalf, SecondHalf, HandleMap, Handle, Held, Holder, ByLeg, PinStep, Taken, PinCounts, Open, Item, Answer, Mapped, State, state_of, changed_in, with_slot, slot_after, Adds, History, Setting, Pin, live, entry_at, body_at, reads_at, writes_at, mappings_at, maps_answered_at, legs_at, open_call, is_pin_on, same_dir, FitsWord, control_at, gather, by_mapping, by_leg, holder_after, one_if_mapped, IsLawful, SlotAgrees, Agrees, DomainsStand, CallAgrees, GivenAgrees, MappingsAgree, sum_by_push}
+use Rattle.gt_core.{specs.declared.pin_counts.CountsChange.TheVariants.Pinned, proofs.Others.answered-stays, proofs.Others.gather-append, proofs.Keeping.stepped, proofs.Keeping.KeepsEntries, proofs.Keeping.same-body, proofs.Keeping.becomes-changed, proofs.Keeping.slots-stand, proofs.Keeping.keeps-stands, proofs.Keeping.same-number, proofs.Mappings.mappings-added, proofs.Mappings.mappings-same}
 
 abbrev pub pins_at : History → ℕ → ℕ → Dir → ℕ
 pins_at h t r dir = count_by (is_pin_on t r dir) (live h)
@@ -26,38 +26,11 @@ grown-count : (h : History) (i : Item) (p : Pin) (t r : ℕ) (k : Dir) → Grows
     → pins_at (i ∷ h) t r k ≡ pins_at h t r k + cond (is_pin_on t r k p) 1 0
 grown-count h i p t r k e = ap (λ (ps : List Pin). count_by (is_pin_on t r k) ps) e ∙ sum_by_push (λ (x : Pin). cond (is_pin_on t r k x) 1 0) (live h) p
 
-pub same-dir : (a b : Dir) → same_dir a b ≡ true → a ≡ b
-same-dir Read Write e = absurd (false≢true e)
-same-dir Write Read e = absurd (false≢true e)
-same-dir a b e = refl
+-- what holds at the place of a pin
+at-place : (P : ℕ → ℕ → Dir → Type 0) (p : Pin) (t r : ℕ) (k : Dir) → P p.held.dom.0 p.held.gref.0 p.held.dir → is_pin_on t r k p ≡ true → P t r k
+at-place P p t r k a e = grind arith
 
--- the place of a pin
-record IsPlace (p : Pin) (t r : ℕ) (k : Dir) : Type 0 where
-  on_dom : p.held.dom.0 ≡ t
-  on_gref : p.held.gref.0 ≡ r
-  of_dir : p.held.dir ≡ k
-
-place-of : (p : Pin) (t r : ℕ) (k : Dir) → is_pin_on t r k p ≡ true → IsPlace p t r k
-place-of p t r k e = let outer = and_parts ((p.held.dom.0 == t) && (p.held.gref.0 == r)) (same_dir p.held.dir k) e in
-    let inner = and_parts (p.held.dom.0 == t) (p.held.gref.0 == r) outer.0 in
-    record { on_dom = eqb-true p.held.dom.0 t inner.0; on_gref = eqb-true p.held.gref.0 r inner.1; of_dir = same-dir p.held.dir k outer.1 }
-
-few-there : (h : History) (p : Pin) (t r : ℕ) (k : Dir) → IsFew h p → is_pin_on t r k p ≡ true → pins_at h t r k < MAX_PINS
-few-there h p t r k few e = let at = place-of p t r k e in subst (λ (z : Dir). pins_at h t r z < MAX_PINS) at.of_dir
-    (subst (λ (n : ℕ). pins_at h t n p.held.dir < MAX_PINS) at.on_gref (subst (λ (n : ℕ). pins_at h n p.held.gref.0 p.held.dir < MAX_PINS) at.on_dom few))
-
--- slots
-
--- each slot is as the change of the one that the pin names leaves it
-abbrev Moves : History → Item → Held → CountsChange → Type 0
-Moves h i p change = (q r : ℕ) (old : PinCounts) → SlotAgrees h q r old → SlotAgrees (i ∷ h) q r (cond ((p.dom.0 == q) && (p.gref.0 == r)) (slot_after change old) old)
-
-pub moved-slots : (h : History) (i : Item) (p : Held) (change : CountsChange) (q : ℕ) (slots : List PinCounts) (b : Bool) → Moves h i p change → (p.dom.0 == q) ≡ b
-    → SlotsAgree h q slots → SlotsAgree (i ∷ h) q (cond b (changed_at p.gref.0 (slot_after change) slots) slots)
-moved-slots h i p change q slots b moves is was = let now : ℕ → PinCounts → Bool → Type 0 = λ k old c. SlotAgrees (i ∷ h) q k (cond c (slot_after change old) old) in
-    slots-agree h (i ∷ h) p.dom.0 q p.gref.0 (slot_after change) slots b is was
-    (λ on old a. subst (now p.gref.0 old) (and_from (p.dom.0 == q) (p.gref.0 == p.gref.0) on (same-number p.gref.0)) (moves q p.gref.0 old a)) (λ k old off a. subst (now k old) off (moves q k old a))
-
+-- the slot that the pin counts up
 counted-up : (h new : History) (q r : ℕ) (dir : Dir) (b : Bool) (old : PinCounts) → SlotAgrees h q r old → ((which : Half) → body_at new q r which ≡ body_at h q r which)
     → ((k : Dir) → pins_at new q r k ≡ pins_at h q r k + cond (b && same_dir dir k) 1 0) → ((k : Dir) → (b && same_dir dir k) ≡ true → pins_at h q r k < MAX_PINS)
     → SlotAgrees new q r (cond b (slot_after (Pinned dir) old) old)
@@ -72,18 +45,17 @@ counted-up h new q r dir b old a body now few = by dir b (now Read) (now Write) 
 
 -- counts and words
 
+pub pins-fit : (s : Setting) (h : History) (t r : ℕ) (k : Dir) → FitsWord (control_at s h t r) → pins_at h t r k < MAX_PINS + 1
+pins-fit s h t r k f = grind arith
+
+pub pins-none : (h : History) (t r : ℕ) (k : Dir) → (reads_at h t r ≡ 0) × (writes_at h t r ≡ 0) → pins_at h t r k ≡ 0
+pins-none h t r k none = grind arith
+
 now-fits : (b : Bool) (now was : ℕ) → was < MAX_PINS + 1 → (b ≡ true → was < MAX_PINS) → now ≡ was + cond b 1 0 → now < MAX_PINS + 1
-now-fits true now was a few e = let c : was < MAX_PINS = few refl in omega arith
-now-fits false now was a few e = omega arith
+now-fits b now was a few e = grind arith
 
 now-none : (b : Bool) (now was : ℕ) → was ≡ 0 → (b ≡ true → ⊥) → now ≡ was + cond b 1 0 → now ≡ 0
-now-none true now was a none e = absurd (none refl)
-now-none false now was a none e = omega arith
-
--- a pin stands on a valid entry
-not-there : (h : History) (p : Pin) (t r : ℕ) (k : Dir) → entry_at h p.held.dom.0 p.held.gref.0 ≢ Invalid → entry_at h t r ≡ Invalid → is_pin_on t r k p ≡ true → ⊥
-not-there h p t r k valid none e = let at = place-of p t r k e in
-    valid (ap (λ (n : ℕ). entry_at h n p.held.gref.0) at.on_dom ∙ ap (λ (n : ℕ). entry_at h t n) at.on_gref ∙ none)
+now-none b now was a none e = grind arith
 
 pub pinned-live : (h : History) (d : DomId) (p : Held) (answer : Option Answer) → live (pins d p answer ∷ h) ≡ live h ++ new_pin h d p answer ∷ []
 unfolding live
@@ -112,10 +84,7 @@ map-legs h d p handle = gathered by_leg h d p (Some (Mapped handle)) ∙ append-
 
 answered-up : (h : History) (d : DomId) (p : Held) (handle : Handle) → maps_answered_at h d.0 + 1 ≡ maps_answered_at (pins d p (Some (Mapped handle)) ∷ h) d.0
 unfolding maps_answered_at
-answered-up h d p handle = by (d.0 == d.0) (maps_answered_at h d.0) (same-number d.0) where
-  by : (b : Bool) (was : ℕ) → b ≡ true → was + 1 ≡ cond b 1 0 + was
-  by true was e = omega arith
-  by false was e = absurd (false≢true e)
+answered-up h d p handle = rw (same-number d.0) (omega arith)
 
 -- a pin that is taken on a valid entry, and lawful, keeps what the core stands for, where the domain's mappings are those that it then has
 pub pin-stands : (s : Setting) (h : History) (xs ys : List State) (x : State) (p : Held) (answer : Option Answer) (kept : HandleMap Held) (o : Option Open) → DomainsStand s h xs → state_of xs x.id.0 ≡ Some x → Agrees s h x
@@ -127,18 +96,14 @@ pub pin-stands : (s : Setting) (h : History) (xs ys : List State) (x : State) (p
 pin-stands s h xs ys x p answer kept o st here a becomes valid few lawful maps call given =
     let i : Item = pins x.id p answer in let q : Pin = new_pin h x.id p answer in
     let keeps : KeepsEntries i = record { changes = λ r. refl; stores = λ r which. refl; header = refl } in let grows : Grows h i q = pinned-live h x.id p answer in
+    let there = λ (t r : ℕ) (k : Dir). at-place (λ (t r : ℕ) (k : Dir). pins_at h t r k < MAX_PINS) q t r k few in
     keeps-stands s i h xs _ keeps st
-    (slots-stand s i h xs _ x kept o p.dom.0 p.gref.0 (Pinned p.dir) keeps refl st here a (becomes-changed xs ys x (record x { mappings = kept; underway = o }) p.dom.0 (with_slot p.gref.0 (Pinned p.dir)) (λ y. refl) becomes)
-    (λ z slots b is was. moved-slots h i p (Pinned p.dir) z slots b (λ u r old w. counted-up h (i ∷ h) u r p.dir ((p.dom.0 == u) && (p.gref.0 == r)) old w
-    (λ which. same-body i h u r which keeps) (λ k. grown-count h i q u r k grows) (λ k e. few-there h q u r k few e)) is was) maps call given)
+    (slots-stand s i h xs _ x kept o p.dom.0 p.gref.0 (Pinned p.dir) keeps.changes refl refl st here a (becomes-changed xs ys x (record x { mappings = kept; underway = o }) p.dom.0 (with_slot p.gref.0 (Pinned p.dir)) (λ y. refl) becomes)
+    (λ u r old w. counted-up h (i ∷ h) u r p.dir ((p.dom.0 == u) && (p.gref.0 == r)) old w (λ which. same-body i h u r which keeps) (λ k. grown-count h i q u r k grows) (there u r)) maps call given)
     (subst (All (IsLawful s)) (sym grows) (All-push (IsLawful s) (live h) q st.lawful lawful))
-    (λ u r within. let was = counts-fit s h u r (st.words u r within) in (
-      now-fits (is_pin_on u r Read q) (reads_at (i ∷ h) u r) (reads_at h u r) was.0 (few-there h q u r Read few) (grown-count h i q u r Read grows),
-      now-fits (is_pin_on u r Write q) (writes_at (i ∷ h) u r) (writes_at h u r) was.1 (few-there h q u r Write few) (grown-count h i q u r Write grows),
-    )) (λ u r none. let was = st.free u r none in (
-      now-none (is_pin_on u r Read q) (reads_at (i ∷ h) u r) (reads_at h u r) was.0 (not-there h q u r Read valid none) (grown-count h i q u r Read grows),
-      now-none (is_pin_on u r Write q) (writes_at (i ∷ h) u r) (writes_at h u r) was.1 (not-there h q u r Write valid none) (grown-count h i q u r Write grows),
-    ))
+    (λ u r k within. now-fits (is_pin_on u r k q) (pins_at (i ∷ h) u r k) (pins_at h u r k) (pins-fit s h u r k (st.words u r within)) (there u r k) (grown-count h i q u r k grows))
+    (λ u r k none. now-none (is_pin_on u r k q) (pins_at (i ∷ h) u r k) (pins_at h u r k) (pins-none h u r k (st.free u r none))
+    (λ e. at-place (λ (t n : ℕ) (k : Dir). entry_at h t n ≢ Invalid) q u r k valid e none) (grown-count h i q u r k grows))
 
 -- the mappings after the pin of a map
 pub map-agrees : (h : History) (d : DomId) (p : Held) (handle : Handle) (old kept : HandleMap Held) → Adds old kept handle (record p { entry = entry_at h p.dom.0 p.gref.0 }) → MappingsAgree old (mappings_at h d.0) (maps_answered_at h d.0)

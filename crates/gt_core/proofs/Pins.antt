@@ -1,6 +1,7 @@
 -- The live pins and the mappings are the same without keys, where each handle that is named is told by its serial.
-use Rattle.gt_core.proofs.Words.{◌≡◌, ◌+◌, ℕ, refl, Bool, true, false, List, [], ◌∷◌, ◌++◌, length, Option, Some, None, cond, sym, ap, ◌∙◌, subst, ◌==◌, ◌&&◌, count_by, is_some, option_map, eqb-true, sum_by-cons, fun_ext, DomId, Dir, Read, Write, Entry, Handle, Holder, ByMapping, ByLeg, Held, Seen, Taken, PinStep, Unpin, Answer, Mapped, Happened, Stepped, History, Setting, Pin, live, without, is_holder, same_handle, holder_after, gather, by_leg, by_mapping, pinned_by, unpinned_by, is_pin_on, reads_at, writes_at, mappings_at, mapping_of, entry_at, generation_at, word_at, known_at, domain_of, shown_at, subject_at, place_of, bare_handle, bare_happened, told, IsGiven, IsKnown, IsRun, AreAlike, map, map-append, length-map}
+use Rattle.gt_core.proofs.Words.{◌≡◌, ◌+◌, ℕ, refl, Bool, true, false, List, [], ◌∷◌, ◌++◌, length, Option, Some, None, cond, sym, ap, ◌∙◌, subst, ◌==◌, ◌&&◌, count_by, is_some, option_map, eqb-true, sum_by-cons, fun_ext, DomId, Dir, Read, Write, Entry, Handle, Holder, ByMapping, ByLeg, Held, Seen, Taken, PinStep, Unpin, Answer, Mapped, Happened, Stepped, History, Setting, Pin, live, without, is_holder, same_handle, holder_after, gather, by_leg, by_mapping, pinned_by, unpinned_by, is_pin_on, reads_at, writes_at, mappings_at, mapping_of, entry_at, generation_at, word_at, known_at, domain_of, shown_at, subject_at, place_of, bare_handle, bare_happened, told, IsGiven, IsKnown, IsRun, AreAlike, map, map-append, length-map, All-head, All-tail, All, arith}
 use Rattle.gt_core.proofs.{Bare.bare-same, Bare.answer_from, Bare.bare, Bare.bared, Given.HeldGiven, Given.PinsGiven, Given.pins-given, Given.known-tells, Given.unpin-known}
+use Rattle.std.proofs.lemmas.List.Elements.{All-weaker}
 
 abbrev pub bare_holder : Holder → Holder
 bare_holder (ByMapping handle) = ByMapping (bare_handle handle)
@@ -15,14 +16,13 @@ bare_pins ps = map bare_pin ps
 -- pins that are given back
 
 -- of the domain's pins the holder is told without keys
-abbrev Tells : ℕ → Holder → List Pin → Type 0
-Tells d holder [] = Unit {0}
-Tells d holder (p ∷ ps) = (p.actor ≡ d → is_holder (bare_holder p.holder) (bare_holder holder) ≡ is_holder p.holder holder) × Tells d holder ps
+abbrev Tells : ℕ → Holder → Pin → Type 0
+Tells d holder p = p.actor ≡ d → is_holder (bare_holder p.holder) (bare_holder holder) ≡ is_holder p.holder holder
 
-without-bare : (d : ℕ) (holder : Holder) (ps : List Pin) → Tells d holder ps → without d (bare_holder holder) (bare_pins ps) ≡ bare_pins (without d holder ps)
+without-bare : (d : ℕ) (holder : Holder) (ps : List Pin) → All (Tells d holder) ps → without d (bare_holder holder) (bare_pins ps) ≡ bare_pins (without d holder ps)
 unfolding without
 without-bare d holder [] t = refl
-without-bare d holder (p ∷ ps) t = by (p.actor == d) refl (without-bare d holder ps t.1) where
+without-bare d holder (p ∷ ps) t = by (p.actor == d) refl (without-bare d holder ps (All-tail (Tells d holder) p ps t)) where
   at : (b : Bool) → without d (bare_holder holder) (bare_pins ps) ≡ bare_pins (without d holder ps)
       → cond b (bare_pins ps) (bare_pin p ∷ without d (bare_holder holder) (bare_pins ps)) ≡ bare_pins (cond b ps (p ∷ without d holder ps))
   at true rest = refl
@@ -31,20 +31,16 @@ without-bare d holder (p ∷ ps) t = by (p.actor == d) refl (without-bare d hold
   by : (b : Bool) → (p.actor == d) ≡ b → without d (bare_holder holder) (bare_pins ps) ≡ bare_pins (without d holder ps)
       → cond (b && is_holder (bare_holder p.holder) (bare_holder holder)) (bare_pins ps) (bare_pin p ∷ without d (bare_holder holder) (bare_pins ps)) ≡ bare_pins (cond (b && is_holder p.holder holder) ps (p ∷ without d holder ps))
   by true e rest =
-      ap (λ (b : Bool). cond b (bare_pins ps) (bare_pin p ∷ without d (bare_holder holder) (bare_pins ps))) (t.0 (eqb-true p.actor d e))
+      ap (λ (b : Bool). cond b (bare_pins ps) (bare_pin p ∷ without d (bare_holder holder) (bare_pins ps))) (All-head (Tells d holder) p ps t (eqb-true p.actor d e))
       ∙ at (is_holder p.holder holder) rest
   by false e rest = at false rest
 
-leg-tells : (d n : ℕ) (ps : List Pin) → Tells d (ByLeg n) ps
-leg-tells d n [] = tt
-leg-tells d n (p ∷ ps) = (λ own. by p.holder, leg-tells d n ps) where
-  by : (x : Holder) → is_holder (bare_holder x) (ByLeg n) ≡ is_holder x (ByLeg n)
-  by (ByMapping b) = refl
-  by (ByLeg m) = refl
+leg-tells : (d n : ℕ) (ps : List Pin) → All (Tells d (ByLeg n)) ps
+leg-tells d n ps = grind arith
 
-mapping-tells : (s : Setting) (h : History) (d : ℕ) (a : Handle) (ps : List Pin) → IsRun s h → IsKnown h d a → PinsGiven h ps → Tells d (ByMapping a) ps
-mapping-tells s h d a [] run k g = tt
-mapping-tells s h d a (p ∷ ps) run k g = (λ own. by p.holder (subst (λ (n : ℕ). HeldGiven h n p.holder) own g.0), mapping-tells s h d a ps run k g.1)
+mapping-tells : (s : Setting) (h : History) (d : ℕ) (a : Handle) (ps : List Pin) → IsRun s h → IsKnown h d a → PinsGiven h ps → All (Tells d (ByMapping a)) ps
+mapping-tells s h d a ps run k g =
+    All-weaker (λ p. HeldGiven h p.actor p.holder) (Tells d (ByMapping a)) (λ p given own. by p.holder (subst (λ (n : ℕ). HeldGiven h n p.holder) own given)) ps g
   where
     by : (x : Holder) → HeldGiven h d x → is_holder (bare_holder x) (ByMapping (bare_handle a)) ≡ is_holder x (ByMapping a)
     by (ByMapping b) given = known-tells s h d a b run given k
@@ -61,16 +57,10 @@ unpinned-bare s h d x ps run k g = refl
 legs-bare : (d : ℕ) (ps : List Pin) → gather by_leg d (bare_pins ps) ≡ gather by_leg d ps
 unfolding gather
 legs-bare d [] = refl
-legs-bare d (p ∷ ps) =
-    ap (λ (l : List (ℕ × Held)). cond (p.actor == d) l [] ++ gather by_leg d (bare_pins ps)) (by p.holder)
-    ∙ ap (λ (l : List (ℕ × Held)). cond (p.actor == d) (by_leg p.holder p.held) [] ++ l) (legs-bare d ps) where
-      by : (x : Holder) → by_leg (bare_holder x) p.held ≡ by_leg x p.held
-      by (ByMapping b) = refl
-      by (ByLeg m) = refl
+legs-bare d (p ∷ ps) = grind (arith, legs-bare d ps)
 
 holder-bare : (a : Option Answer) (n : ℕ) → holder_after (option_map answer_from (option_map told a)) n ≡ bare_holder (holder_after a n)
-holder-bare (Some (Mapped handle)) n = refl
-holder-bare a n = refl
+holder-bare a n = grind arith
 
 pinned-bare : (d : DomId) (x : Happened) (a : Option Answer) (h : History) (ps : List Pin)
     → pinned_by d (bare_happened x) (option_map answer_from (option_map told a)) (bare h) (bare_pins ps) ≡ bare_pins (pinned_by d x a h ps)
@@ -117,37 +107,24 @@ bare_mappings ms = map (λ (m : Handle × Held). (bare_handle m.0, m.1)) ms
 gather-bare : (d : ℕ) (ps : List Pin) → gather by_mapping d (bare_pins ps) ≡ bare_mappings (gather by_mapping d ps)
 unfolding gather
 gather-bare d [] = refl
-gather-bare d (p ∷ ps) = by (p.actor == d) p.holder (gather-bare d ps) where
-  by : (b : Bool) (x : Holder) → gather by_mapping d (bare_pins ps) ≡ bare_mappings (gather by_mapping d ps)
-      → cond b (by_mapping (bare_holder x) p.held) [] ++ gather by_mapping d (bare_pins ps) ≡ bare_mappings (cond b (by_mapping x p.held) [] ++ gather by_mapping d ps)
-  by true (ByMapping a) rest = ap (λ (l : List (Handle × Held)). (bare_handle a, p.held) ∷ l) rest
-  by b x rest = rest
+gather-bare d (p ∷ ps) = grind (arith, gather-bare d ps)
 
 pub mappings-bare : (s : Setting) (h : History) (d : ℕ) → IsRun s h → mappings_at (bare h) d ≡ bare_mappings (mappings_at h d)
 mappings-bare s h d run = ap (λ (ps : List Pin). gather by_mapping d ps) (live-bare s h run) ∙ gather-bare d (live h)
 
-abbrev AreGiven : History → ℕ → List (Handle × Held) → Type 0
-AreGiven h d [] = Unit {0}
-AreGiven h d (m ∷ ms) = IsGiven h d m.0 × AreGiven h d ms
-
-gather-given : (h : History) (d : ℕ) (ps : List Pin) → PinsGiven h ps → AreGiven h d (gather by_mapping d ps)
+found-bare : (s : Setting) (h : History) (d : ℕ) (a : Handle) (ps : List Pin) → IsRun s h → IsKnown h d a → PinsGiven h ps → mapping_of (gather by_mapping d (bare_pins ps)) (bare_handle a) ≡ mapping_of (gather by_mapping d ps) a
 unfolding gather
-gather-given h d [] g = tt
-gather-given h d (p ∷ ps) g = by (p.actor == d) refl p.holder g.0 (gather-given h d ps g.1) where
-  by : (b : Bool) → (p.actor == d) ≡ b → (x : Holder) → HeldGiven h p.actor x → AreGiven h d (gather by_mapping d ps) → AreGiven h d (cond b (by_mapping x p.held) [] ++ gather by_mapping d ps)
-  by true e (ByMapping a) given rest = (subst (λ (n : ℕ). IsGiven h n a) (eqb-true p.actor d e) given, rest)
-  by b e x given rest = rest
-
-found-bare : (s : Setting) (h : History) (d : ℕ) (a : Handle) (ms : List (Handle × Held)) → IsRun s h → IsKnown h d a → AreGiven h d ms → mapping_of (bare_mappings ms) (bare_handle a) ≡ mapping_of ms a
 found-bare s h d a [] run k g = refl
-found-bare s h d a (m ∷ ms) run k g =
-    ap (λ (b : Bool). cond b (Some m.1) (mapping_of (bare_mappings ms) (bare_handle a))) (known-tells s h d a m.0 run g.0 k)
-    ∙ ap (λ (o : Option Held). cond (same_handle m.0 a) (Some m.1) o) (found-bare s h d a ms run k g.1)
+found-bare s h d a (p ∷ ps) run k g = let P : Pin → Type 0 = λ q. HeldGiven h q.actor q.holder in by (p.actor == d) refl p.holder (All-head P p ps g) (found-bare s h d a ps run k (All-tail P p ps g)) where
+  by : (b : Bool) → (p.actor == d) ≡ b → (x : Holder) → HeldGiven h p.actor x → mapping_of (gather by_mapping d (bare_pins ps)) (bare_handle a) ≡ mapping_of (gather by_mapping d ps) a
+      → mapping_of (cond b (by_mapping (bare_holder x) p.held) [] ++ gather by_mapping d (bare_pins ps)) (bare_handle a) ≡ mapping_of (cond b (by_mapping x p.held) [] ++ gather by_mapping d ps) a
+  by true own (ByMapping m) given rest = ap (λ (b : Bool). cond b (Some p.held) (mapping_of (gather by_mapping d (bare_pins ps)) (bare_handle a))) (known-tells s h d a m run (subst (λ (n : ℕ). IsGiven h n m) (eqb-true p.actor d own) given) k)
+      ∙ ap (cond (same_handle m a) (Some p.held)) rest
+  by b own x given rest = rest
 
 -- a known handle finds the same mapping without its key
 pub mapping-bare : (s : Setting) (h : History) (d : ℕ) (a : Handle) → IsRun s h → IsKnown h d a → mapping_of (mappings_at (bare h) d) (bare_handle a) ≡ mapping_of (mappings_at h d) a
-mapping-bare s h d a run k = ap (λ (ms : List (Handle × Held)). mapping_of ms (bare_handle a)) (mappings-bare s h d run)
-    ∙ found-bare s h d a (mappings_at h d) run k (gather-given h d (live h) (pins-given h))
+mapping-bare s h d a run k = ap (λ (ps : List Pin). mapping_of (gather by_mapping d ps) (bare_handle a)) (live-bare s h run) ∙ found-bare s h d a (live h) run k (pins-given h)
 
 -- what a domain knows by itself is the same, but for the keys of its mappings
 pub known-bare : (s : Setting) (h : History) (d : DomId) → IsRun s h → known_at s (bare h) d ≡ record (known_at s h d) { mapping = mapping_of (mappings_at (bare h) d.0) }

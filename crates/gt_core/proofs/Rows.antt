@@ -1,7 +1,6 @@
 -- A change of one element of a list; the state of a domain among the states, and a change of it.
-use Rattle.gt_core.proofs.Words.{◌≡◌, ◌<◌, ◌≤◌, ℕ, zero, suc, refl, Bool, true, false, List, [], ◌∷◌, length, Option, Some, None, cond, ltb, sym, ap, ◌∙◌, arith, get_or, set, eqb-true, eq-eqb, true≢false, ltb-false, position-Some, slice_get_past, slice_get-get_or, Result, OnErr, position, slice_get, ◌==◌, position_or_len, State, find, cond_both, find_at, ◌+◌, not, option_map, changed_at, state_of, changed_in, eqb-suc-suc, eqb-suc-zero, eqb-zero-suc}
-use Rattle.std.specs.Prelude.{Ok, Err}
-use Rattle.gt_core.{specs.Standing.state_of, proofs.Others.cond-same}
+use Rattle.gt_core.proofs.Words.{◌≡◌, ◌<◌, ◌≤◌, ℕ, zero, suc, refl, Bool, true, false, List, [], ◌∷◌, length, Option, Some, None, cond, ltb, sym, ap, ◌∙◌, arith, get_or, set, eqb-true, eq-eqb, true≢false, ltb-false, position-Some, slice_get_past, slice_get-get_or, Result, OnErr, position, slice_get, ◌==◌, position_or_len, State, find, cond_both, find_at, ◌+◌, not, option_map, changed_at, state_of, changed_in}
+use Rattle.gt_core.{proofs.Others.cond-apart}
 
 abbrev pub has_id : ℕ → State → Bool
 has_id d x = x.id.0 == d
@@ -27,12 +26,7 @@ found xs d i x h = state_of-find xs d ∙ find_at (has_id d) xs
     ∙ slice_get-get_or xs i x (position-Some (has_id d) xs i x h).0
 
 cond-twice : (b : Bool) (x y z : Option State) → cond b x (cond b y z) ≡ cond b x z
-cond-twice true x y z = refl
-cond-twice false x y z = refl
-
-cond-apart : (a b : Bool) (x y z : Option State) → ((a ≡ true) → (b ≡ true) → ⊥) → cond a x (cond b y z) ≡ cond b y (cond a x z)
-cond-apart true true x y z h = absurd (h refl refl)
-cond-apart a b x y z h = refl
+cond-twice b x y z = grind arith
 
 -- a new state of the first domain with a number
 pub state_of-set : (xs : List State) (i : ℕ) (old new : State) (q : ℕ)
@@ -50,32 +44,31 @@ state_of-set (x ∷ xs) (suc i) old new q within here same apart =
 
 -- what holds anyway holds on an error
 pub on-err : {A E : Type 0} (r : Result A E) (P : Type 0) → P → OnErr r P
-on-err (Ok a) P p = tt
-on-err (Err e) P p = p
+on-err r P p = grind arith
 
 -- a write of the changed element
 pub set-changed : {A : Type 0} (xs : List A) (r : ℕ) (f : A → A) (y x : A) → r < length xs → x ≡ get_or xs r x → y ≡ f x → set xs r y ≡ changed_at r f xs
-set-changed [] r f y x within e s = absurd (omega arith)
-set-changed (z ∷ zs) zero f y x within e s = ap (λ v. v ∷ zs) (s ∙ ap f e)
-set-changed (z ∷ zs) (suc r) f y x within e s = ap (λ l. z ∷ l) (set-changed zs r f y x (omega arith) e s)
+set-changed [] r f y x within e s = grind arith
+set-changed (z ∷ zs) zero f y x within e s = grind arith
+set-changed (z ∷ zs) (suc r) f y x within e s = grind (arith, set-changed zs r f y x (omega arith) e s)
 
 -- past the end nothing changes
 pub changed-past : {A : Type 0} (xs : List A) (r : ℕ) (f : A → A) → length xs ≤ r → changed_at r f xs ≡ xs
 changed-past [] r f past = refl
-changed-past (z ∷ zs) zero f past = absurd (omega arith)
-changed-past (z ∷ zs) (suc r) f past = ap (λ l. z ∷ l) (changed-past zs r f (omega arith))
+changed-past (z ∷ zs) zero f past = grind arith
+changed-past (z ∷ zs) (suc r) f past = grind (arith, changed-past zs r f (omega arith))
 
 pub length-changed : {A : Type 0} (xs : List A) (r : ℕ) (f : A → A) → length (changed_at r f xs) ≡ length xs
-length-changed (z ∷ zs) (suc r) f = ap suc (length-changed zs r f)
+length-changed (z ∷ zs) (suc r) f = grind (arith, length-changed zs r f)
 length-changed xs r f = refl
 
 -- what stands at a place after the change
 pub get-changed : {A : Type 0} (xs : List A) (r q : ℕ) (f : A → A) → slice_get (changed_at r f xs) q ≡ cond (r == q) (option_map f (slice_get xs q)) (slice_get xs q)
-get-changed [] r q f = sym (cond-same (r == q) None)
+get-changed [] r q f = grind arith
 get-changed (z ∷ zs) zero zero f = refl
-get-changed (z ∷ zs) zero (suc q) f = sym (ap (λ b. cond b (option_map f (slice_get zs q)) (slice_get zs q)) (eqb-zero-suc q))
-get-changed (z ∷ zs) (suc r) zero f = sym (ap (λ b. cond b (Some (f z)) (Some z)) (eqb-suc-zero r))
-get-changed (z ∷ zs) (suc r) (suc q) f = get-changed zs r q f ∙ sym (ap (λ b. cond b (option_map f (slice_get zs q)) (slice_get zs q)) (eqb-suc-suc r q))
+get-changed (z ∷ zs) zero (suc q) f = grind arith
+get-changed (z ∷ zs) (suc r) zero f = grind arith
+get-changed (z ∷ zs) (suc r) (suc q) f = grind (arith, get-changed zs r q f)
 
 -- states
 
@@ -106,27 +99,9 @@ changed-nowhere xs d f p = changed-none xs d f (none-place (position_or_len (has
 
 pub length-changed_in : (xs : List State) (d : ℕ) (f : State → State) → length (changed_in d f xs) ≡ length xs
 length-changed_in [] d f = refl
-length-changed_in (z ∷ zs) d f = cond_both (z.id.0 == d) (f z ∷ zs) (z ∷ changed_in d f zs) (λ l. length l ≡ length (z ∷ zs)) (λ e. refl) (λ e. ap suc (length-changed_in zs d f))
+length-changed_in (z ∷ zs) d f = grind (arith, length-changed_in zs d f)
 
 -- the first state with a number, after the change of the one with number d
 pub state-changed : (xs : List State) (d q : ℕ) (f : State → State) → ((x : State) → (f x).id ≡ x.id) → state_of (changed_in d f xs) q ≡ cond (d == q) (option_map f (state_of xs q)) (state_of xs q)
-state-changed [] d q f keeps = sym (cond-same (d == q) None)
-state-changed (z ∷ zs) d q f keeps = by (z.id.0 == d) (state-changed zs d q f keeps) refl where
-  same-d : z.id.0 ≡ d → (z.id.0 == q) ≡ (d == q)
-  same-d e = ap (λ n. n == q) e
-
-  at : (b : Bool) → cond b (Some (f z)) (state_of zs q) ≡ cond b (option_map f (cond b (Some z) (state_of zs q))) (cond b (Some z) (state_of zs q))
-  at true = refl
-  at false = refl
-
-  apart : (b c : Bool) → (b ≡ true → c ≡ true → ⊥) → cond b (Some z) (cond c (option_map f (state_of zs q)) (state_of zs q)) ≡ cond c (option_map f (cond b (Some z) (state_of zs q))) (cond b (Some z) (state_of zs q))
-  apart true true n = absurd (n refl refl)
-  apart b c n = refl
-
-  by : (b : Bool) → state_of (changed_in d f zs) q ≡ cond (d == q) (option_map f (state_of zs q)) (state_of zs q) → (z.id.0 == d) ≡ b
-      → state_of (cond b (f z ∷ zs) (z ∷ changed_in d f zs)) q ≡ cond (d == q) (option_map f (cond (z.id.0 == q) (Some z) (state_of zs q))) (cond (z.id.0 == q) (Some z) (state_of zs q))
-  by true rest e = ap (λ (w : ℕ). cond (w == q) (Some (f z)) (state_of zs q)) (ap (λ i. i.0) (keeps z))
-      ∙ at (z.id.0 == q)
-      ∙ ap (λ c. cond c (option_map f (cond (z.id.0 == q) (Some z) (state_of zs q))) (cond (z.id.0 == q) (Some z) (state_of zs q))) (same-d (eqb-true z.id.0 d e))
-  by false rest e = ap (cond (z.id.0 == q) (Some z)) rest
-      ∙ apart (z.id.0 == q) (d == q) (λ a c. true≢false (sym (eq-eqb z.id.0 d (eqb-true z.id.0 q a ∙ sym (eqb-true d q c))) ∙ e))
+state-changed [] d q f keeps = grind arith
+state-changed (z ∷ zs) d q f keeps = grind (arith, state-changed zs d q f keeps)

@@ -1,5 +1,5 @@
 -- What an event does after a history, but for keys, is a function of the history, and the same without keys; so runs that are alike stay so.
-use Rattle.gt_core.proofs.Words.{◌≡◌, ◌≢◌, ◌⊎◌, inl, inr, ℕ, refl, Bool, false, List, [], ◌∷◌, ◌++◌, length, Option, Some, None, sym, ap, ◌∙◌, subst, take, drop, option_map, none-some, same_Some, domain_of, DomId, DomainConfig, Denial, N6, MAX_TABLE_FRAMES, Header, header_word, Handle, asked, begun_of, CallerKnowledge, first, refused_when, unmap_denied, path, after_beginning, Held, Request, Asked, Map, Unmap, Load, Store, Peek, SetupTable, QuerySize, GetVersion, Holder, ByMapping, Seen, Word, Step, LookHeader, LookControl, LookBody, PinStep, Unpin, StoreHeader, Exchange, ReadBytes, WriteBytes, Action, Makes, Verdict, Answer, Event, Begin, Tick, Happened, Began, Stepped, Item, Element, Busy, Idle, NoDomain, Did, History, Setting, Underway, open_call, values, known_at, seen_by, exchange_sees, table_at, maps_answered_at, contents_at, mappings_at, mapping_of, MayDo, IsRight, StepsRight, StepsRightIn, AnsweredBy, GivesValue, refusal_of, refusal_in, verdict_in, gives_back, stood, bare_handle, bare_request, bare_event, bare_step, told, told_item, ToldItem, AsksKnown, IsOfKnown, IsRun, unmap_begun, load_begun, store_begun, Ends, BeginsRight, grown, told_items, SameHistory, HappensKnown, AreAlike, IsOf, SameEvent, SameElement}
+use Rattle.gt_core.proofs.Words.{◌≡◌, ◌≢◌, ◌⊎◌, inl, inr, ℕ, refl, Bool, false, List, [], ◌∷◌, ◌++◌, length, Option, Some, None, sym, ap, ◌∙◌, subst, take, drop, option_map, none-some, same_Some, domain_of, DomId, DomainConfig, Denial, N6, MAX_TABLE_FRAMES, Header, header_word, Handle, asked, begun_of, CallerKnowledge, first, refused_when, unmap_denied, path, after_beginning, Held, Request, Asked, Map, Unmap, Load, Store, Peek, SetupTable, QuerySize, GetVersion, Holder, ByMapping, Seen, Word, Step, LookHeader, LookControl, LookBody, PinStep, Unpin, StoreHeader, Exchange, ReadBytes, WriteBytes, Action, Makes, Verdict, Answer, Event, Begin, Tick, Happened, Began, Stepped, Item, Element, Busy, Idle, NoDomain, Did, History, Setting, Underway, open_call, values, known_at, seen_by, exchange_sees, table_at, maps_answered_at, contents_at, mappings_at, mapping_of, MayDo, IsRight, StepsRight, StepsRightIn, AnsweredBy, GivesValue, refusal_of, refusal_in, verdict_in, gives_back, stood, bare_handle, bare_request, bare_event, bare_step, told, told_item, ToldItem, AsksKnown, IsOfKnown, IsRun, unmap_begun, load_begun, store_begun, Ends, BeginsRight, grown, told_items, SameHistory, HappensKnown, AreAlike, IsOf, SameEvent, SameElement, arith}
 use Rattle.std.proofs.Common.{is_none}
 use Rattle.gt_calls.specs.Path.{by_mapping}
 use Rattle.gt_core.{specs.History.frame_of, proofs.Pins.word-bare, proofs.Pins.mapping-bare, proofs.Pins.known-bare, proofs.Bare.bare, proofs.Bare.bared, proofs.Bare.bare_asked, proofs.Bare.bare_call, proofs.Bare.asked-bare, proofs.Bare.values-bare, proofs.Bare.contents-bare, proofs.Bare.bare-same, proofs.Given.CallKnown, proofs.Given.open-known}
@@ -19,27 +19,12 @@ FindsSame bared found (Load a off len) = bared (bare_handle a) ≡ found a
 FindsSame bared found (Store a off len) = bared (bare_handle a) ≡ found a
 FindsSame bared found r = Unit {0}
 
-unmap-bare : (v : Option Verdict) (o : Option Held) (a : Handle) (vs : List Seen)
-    → option_map bare_action (after_beginning v (by_mapping o (λ p. Unpin p (ByMapping (bare_handle a)))) vs) ≡ option_map bare_action (after_beginning v (by_mapping o (λ p. Unpin p (ByMapping a))) vs)
-unmap-bare None (Some p) a [] = refl
-unmap-bare v o a vs = refl
-
 path-bare : (k : CallerKnowledge) (found : Handle → Option Held) (d : DomId) (r : Asked) (vs : List Seen) → FindsSame found k.mapping r
     → option_map bare_action (path (record k { mapping = found }) d (bare_asked r) vs) ≡ option_map bare_action (path k d r vs)
-path-bare k found d (Unmap a) vs same =
-    ap (λ (o : Option Held). option_map bare_action (after_beginning (first (refused_when (is_none o) N6 ∷ unmap_denied k d o ∷ [])) (by_mapping o (λ p. Unpin p (ByMapping (bare_handle a)))) vs)) same
-    ∙ unmap-bare (unmap_begun k d a) (k.mapping a) a vs
-path-bare k found d (Load a off len) vs same =
-    ap (λ (o : Option Held). option_map bare_action (after_beginning (load_begun (λ x. o) a off len) (by_mapping o (λ p. ReadBytes p.dom (frame_of p.entry) off len)) vs)) same
-path-bare k found d (Store a off len) vs same =
-    ap (λ (o : Option Held). option_map bare_action (after_beginning (store_begun (λ x. o) a off len) (by_mapping o (λ p. WriteBytes p.dom (frame_of p.entry) off len)) vs)) same
-path-bare k found d r vs same = refl
+path-bare k found d r vs same = grind arith
 
 begun-bare : (k : CallerKnowledge) (found : Handle → Option Held) (d : DomId) (q : Request) → FindsSame found k.mapping (asked q) → begun_of (record k { mapping = found }) d (bare_request q) ≡ begun_of k d q
-begun-bare k found d (requests.Unmap a) same = ap (λ (o : Option Held). first (refused_when (is_none o) N6 ∷ unmap_denied k d o ∷ [])) same
-begun-bare k found d (requests.Load a off len) same = ap (λ (o : Option Held). load_begun (λ x. o) a off len) same
-begun-bare k found d (requests.Store a off bytes) same = ap (λ (o : Option Held). store_begun (λ x. o) a off (length bytes.now)) same
-begun-bare k found d q same = refl
+begun-bare k found d q same = grind arith
 
 finds-same : (s : Setting) (h : History) (d : DomId) (r : Asked) → IsRun s h → AsksKnown h d.0 r → FindsSame (mapping_of (mappings_at (bare h) d.0)) (mapping_of (mappings_at h d.0)) r
 finds-same s h d (Unmap a) run k = mapping-bare s h d.0 a run k
@@ -65,8 +50,7 @@ seen-at s h d (Exchange gref looked change) run = ap (λ (w : ℕ). exchange_see
 seen-at s h d step run = refl
 
 seen-bare : (s : Setting) (h : History) (d : DomId) (step : Step) → seen_by s h d step ≡ seen_by s h d (bare_step step)
-seen-bare s h d (Unpin p (ByMapping a)) = refl
-seen-bare s h d step = refl
+seen-bare s h d step = grind arith
 
 -- answers
 
@@ -81,26 +65,6 @@ value_told s h d (QuerySize dom) (Some (LookHeader t)) = Some (inl (answers.Size
 value_told s h d (GetVersion dom) (Some (LookHeader t)) = Some (inl (answers.Version (table_at s h t).version))
 value_told s h d r step = Some (inl answers.Done)
 
-told-is : (a b : Answer) → a ≡ b → Some (told a) ≡ Some (told b)
-told-is a b e = ap (λ (z : Answer). Some (told z)) e
-
-value-told : (s : Setting) (h : History) (d : DomId) (r : Asked) (step : Option Step) (a : Answer) → GivesValue s h d r step a → refusal_of a ≡ None → Some (told a) ≡ value_told s h d r step
-value-told s h d r step (answers.Denied denial) v e = absurd (none-some _ (sym e))
-value-told s h d (Map dom gref flags) (Some (PinStep p)) (answers.Mapped handle) v e = ap (λ (n : ℕ). Some (inl (answers.Mapped (record { serial = n; key = 0 })))) v
-value-told s h d (Map dom gref flags) step a v e = absurd v
-value-told s h d (Load x off len) (Some (ReadBytes t frame o n)) (answers.Bytes b) v e = ap (λ (l : List ℕ). Some (inr l)) v
-value-told s h d (Load x off len) step a v e = absurd v
-value-told s h d (Peek f off len) (Some (ReadBytes t frame o n)) (answers.Bytes b) v e = ap (λ (l : List ℕ). Some (inr l)) v
-value-told s h d (Peek f off len) step a v e = absurd v
-value-told s h d (SetupTable frames) None a v e = told-is a _ v
-value-told s h d (SetupTable frames) (Some (StoreHeader version stored)) a v e = told-is a _ v
-value-told s h d (SetupTable frames) step a v e = absurd v
-value-told s h d (QuerySize dom) (Some (LookHeader t)) a v e = told-is a _ v
-value-told s h d (QuerySize dom) step a v e = absurd v
-value-told s h d (GetVersion dom) (Some (LookHeader t)) a v e = told-is a _ v
-value-told s h d (GetVersion dom) step a v e = absurd v
-value-told s h d r step a v e = told-is a _ v
-
 value-at : (s : Setting) (h : History) (d : DomId) (r : Asked) (step : Option Step) → value_told s (bare h) d (bare_asked r) step ≡ value_told s h d r step
 value-at s h d (Map dom gref flags) (Some (PinStep p)) = ap (λ (n : ℕ). Some (inl (answers.Mapped (record { serial = n; key = 0 })))) ((bared h).maps d.0)
 value-at s h d (Load a off len) (Some (ReadBytes t frame o n)) = ap (λ (l : List ℕ). Some (inr (take n (drop o l)))) (contents-bare h t.0 frame)
@@ -109,14 +73,6 @@ value-at s h d (SetupTable frames) None = ap (λ (x : Header). Some (inl (answer
 value-at s h d (QuerySize dom) (Some (LookHeader t)) = ap (λ (x : Header). Some (inl (answers.Size (record { frames = x.frames; max = MAX_TABLE_FRAMES })))) ((bared h).table s t)
 value-at s h d (GetVersion dom) (Some (LookHeader t)) = ap (λ (x : Header). Some (inl (answers.Version x.version))) ((bared h).table s t)
 value-at s h d r step = refl
-
-unpin-value : (s : Setting) (h : History) (d : DomId) (r : Asked) (p : Held) (x y : Holder) → value_told s h d r (Some (Unpin p x)) ≡ value_told s h d r (Some (Unpin p y))
-unpin-value s h d (Map dom gref flags) p x y = refl
-unpin-value s h d r p x y = refl
-
-step-value : (s : Setting) (h : History) (d : DomId) (r : Asked) (step : Step) → value_told s h d r (Some (bare_step step)) ≡ value_told s h d r (Some step)
-step-value s h d r (Unpin p (ByMapping a)) = unpin-value s h d r p (ByMapping (bare_handle a)) (ByMapping a)
-step-value s h d r step = refl
 
 abbrev told_by : Option Denial → Option (Answer ⊎ List ℕ) → Option (Answer ⊎ List ℕ)
 told_by (Some denial) value = Some (inl (answers.Denied denial))
@@ -127,27 +83,16 @@ abbrev answer_told : Setting → History → DomId → Asked → Option Step →
 answer_told s h d r step None = None
 answer_told s h d r step (Some v) = told_by (refusal_in (Some v)) (value_told s h d r step)
 
-refused-told : (denial : Denial) (a : Answer) → refusal_of a ≡ Some denial → Some (told a) ≡ Some (inl (answers.Denied denial))
-refused-told denial (answers.Denied other) e = ap (λ (z : Denial). Some (inl (answers.Denied z))) (same_Some _ _ e)
-refused-told denial a e = absurd (none-some _ e)
-
-told-by : (s : Setting) (h : History) (d : DomId) (r : Asked) (step : Option Step) (o : Option Denial) (a : Answer) → refusal_of a ≡ o → GivesValue s h d r step a → Some (told a) ≡ told_by o (value_told s h d r step)
-told-by s h d r step None a e v = value-told s h d r step a v e
-told-by s h d r step (Some denial) a e v = refused-told denial a e
-
 answer-told : (s : Setting) (h : History) (d : DomId) (r : Asked) (step : Option Step) (giving : Bool) (v : Option Verdict) (a : Option Answer) (against : Option Denial)
     → AnsweredBy s h d r step giving v a against → option_map told a ≡ answer_told s h d r step v
-answer-told s h d r step giving None None against is = refl
-answer-told s h d r step giving (Some v) (Some a) against is = told-by s h d r step (refusal_in (Some v)) a is.0 is.2
-answer-told s h d r step giving v a against is = absurd is
+answer-told s h d r step giving v a against is = grind arith
 
 answer-at : (s : Setting) (h : History) (d : DomId) (r : Asked) (step : Option Step) (v : Option Verdict) → answer_told s (bare h) d (bare_asked r) step v ≡ answer_told s h d r step v
 answer-at s h d r step None = refl
 answer-at s h d r step (Some v) = ap (told_by (refusal_in (Some v))) (value-at s h d r step)
 
 answer-step : (s : Setting) (h : History) (d : DomId) (r : Asked) (step : Step) (v : Option Verdict) → answer_told s h d r (Some (bare_step step)) v ≡ answer_told s h d r (Some step) v
-answer-step s h d r step None = refl
-answer-step s h d r step (Some v) = ap (told_by (refusal_in (Some v))) (step-value s h d r step)
+answer-step s h d r step v = grind arith
 
 -- items
 
@@ -165,8 +110,7 @@ is-began s h d q a right = let i : Item = record { actor = d; happened = Began q
     (answer-told s h d (asked q) None false (begun_of (known_at s h d) d q) a (stood s (i ∷ h) d.0) right.1)
 
 verdict-bare : (o : Option Action) → verdict_in (option_map bare_action o) ≡ verdict_in o
-verdict-bare (Some (Makes step)) = refl
-verdict-bare o = refl
+verdict-bare o = grind arith
 
 is-stepped : (s : Setting) (h : History) (d : DomId) (step : Step) (seen : Seen) (a : Option Answer) (c : Underway) → StepsRight s h (record { actor = d; happened = Stepped step seen; answer = a }) step seen c
     → told_item (record { actor = d; happened = Stepped step seen; answer = a }) ≡ step_told s h d c.request (values c) (bare_step step)
@@ -178,8 +122,7 @@ is-stepped s h d step seen a c right = let i : Item = record { actor = d; happen
     ∙ ap (λ (v : Seen). record { actor = d; happened = Stepped (bare_step step) v; answer = answer_told s h d c.request (Some (bare_step step)) (verdict_in (option_map bare_action (o v))) }) (right.sees ∙ seen-bare s h d step)
 
 request-twice : (q : Request) → bare_request (bare_request q) ≡ bare_request q
-request-twice (requests.GrantBytes gref bytes) = refl
-request-twice q = refl
+request-twice q = grind arith
 
 began-at : (s : Setting) (h : History) (d : DomId) (q : Request) → IsRun s h → AsksKnown h d.0 (asked q) → began_told s (bare h) d (bare_request q) ≡ began_told s h d q
 began-at s h d q run k =
@@ -226,12 +169,10 @@ doing s h (Begin d q) = within (domain_of s.domains d) (begin_told s h d q (open
 doing s h (Tick d) = within (domain_of s.domains d) (tick_told s h d (open_call h d.0))
 
 is-within : (o : Option DomainConfig) (x y : Element ⊎ ToldItem) → o ≢ None → x ≡ y → x ≡ within o y
-is-within None x y some e = absurd (some refl)
-is-within (Some config) x y some e = e
+is-within o x y some e = grind arith
 
 is-busy : (s : Setting) (h : History) (d : DomId) (q : Request) (c : Option Underway) → c ≢ None → inl Busy ≡ begin_told s h d q c
-is-busy s h d q None some = absurd (some refl)
-is-busy s h d q (Some c) some = refl
+is-busy s h d q c some = grind arith
 
 begin-does : (s : Setting) (h : History) (d : DomId) (q : Request) (a : Option Answer) → BeginsRight s h (record { actor = d; happened = Began q; answer = a }) q
     → element_told (Did (record { actor = d; happened = Began q; answer = a })) ≡ begin_told s h d q (open_call h d.0)
@@ -294,17 +235,8 @@ does-bare s h (Begin d q) run k =
 does-bare s h (Tick d) run k =
     ap (within (domain_of s.domains d)) (ap (tick_told s (bare h) d) ((bared h).open_calls d.0) ∙ tick-at s h d (open_call h d.0) run (open-known s h d.0 run))
 
-inr-same : (a b : ToldItem) → ◌≡◌ {A = Element ⊎ ToldItem} (inr a) (inr b) → a ≡ b
-inr-same a b e = cc
-
-inl-same : (x y : Element) → ◌≡◌ {A = Element ⊎ ToldItem} (inl x) (inl y) → x ≡ y
-inl-same x y e = cc
-
 pub same-element : (x y : Element) → element_told x ≡ element_told y → SameElement x y
-same-element (Did i) (Did j) e = inr-same (told_item i) (told_item j) e
-same-element (Did i) y e = absurd (cc)
-same-element x (Did j) e = absurd (cc)
-same-element x y e = inl-same x y e
+same-element x y e = grind arith
 
 -- what alike events do in runs that are alike
 pub does-alike : (s : Setting) (g h : History) (e f : Event) (one other : Element) → AreAlike s g h → SameEvent e f → IsOfKnown g e → IsOfKnown h f → MayDo s g e one → MayDo s h f other → SameElement one other
@@ -314,14 +246,10 @@ does-alike s g h e f one other alike same j k m n = same-element one other
     ∙ does-bare s h f alike.second k ∙ sym (does s h f other n))
 
 item-known : (h : History) (e : Event) (actor : DomId) (x : Happened) (a : Option Answer) → IsOfKnown h e → IsOf e (record { actor = actor; happened = x; answer = a }) → HappensKnown h (record { actor = actor; happened = x; answer = a })
-item-known h (Begin d q) actor x a k is =
-    subst (λ (z : Happened). HappensKnown h (record { actor = actor; happened = z; answer = a })) (sym is.1) (subst (λ (z : DomId). AsksKnown h z.0 (asked q)) (sym is.0) k)
-item-known h (Tick d) actor (Began q) a k is = absurd is.1
-item-known h (Tick d) actor (Stepped step seen) a k is = tt
+item-known h e actor x a k is = grind arith
 
 done-right : (s : Setting) (h : History) (e : Event) (i : Item) → MayDo s h e (Did i) → IsOf e i × IsRight s h i
-done-right s h (Begin d q) i m = (m.1, m.2)
-done-right s h (Tick d) i m = (m.1, m.2)
+done-right s h e i m = grind arith
 
 run-grows : (s : Setting) (h : History) (e : Event) (i : Item) → IsRun s h → IsOfKnown h e → MayDo s h e (Did i) → IsRun s (i ∷ h)
 unfolding IsRun

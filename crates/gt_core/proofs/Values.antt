@@ -1,5 +1,5 @@
 -- What an answer of a call is, by its last step.
-use Rattle.gt_core.proofs.Words.{◌≡◌, ◌⊎◌, inl, inr, ℕ, refl, Bool, true, false, List, [], ◌∷◌, length, Option, Some, cond, sym, ap, ◌∙◌, subst, eqb-true, ◌==◌, nat_lt, DomId, GrantRef, Denial, N18, N19, Entry, Invalid, Header, Change, ToReadOnly, ToWritable, control_of, header_of, header_word, Held, Asked, Map, ByMapping, ByLeg, Seen, Taken, Missed, Verdict, Granted, Given, Refused, FramesTold, Step, LookHeader, PinStep, Unpin, StoreBody, StoreHeader, Exchange, ReadBytes, WriteBytes, Action, Makes, Done, Aim, Mapping, AsksSize, AsksVersion, Phase, Storing, StoringSecond, Exchanging, Looking, Changing, Walking, Accessing, Asking, Last, Ending, Leg, LegPhase, Pinning, Pinned, last_first, pins_so_far, CallerKnowledge, path, held_of, is_stopped, Continuation, IsFor, RestsOnWord, RestsOnRequest, phase_after, action_at, leg_after, leg_step, after_store, refused_as, next_to_give, HasShown, IsQuiet, IsTurn, held_in, AnswerDone, State, History, Setting, word_at, table_at, known_at, seen_by, StepsSoFar, GivesValue, PhaseStands, EndsAfter, EndsCopy, answer_with, MAX_TABLE_FRAMES, ◌-◌, without_last, Size, Version, cond_both, FirstHalf, SecondHalf, first_body, second_body, CopyBytes, CopyArgs, Copy, LookControl, Pins, LegStands, legs_at, numbered, pins_at, reverse}
+use Rattle.gt_core.proofs.Words.{◌≡◌, ◌⊎◌, inl, inr, ℕ, refl, Bool, true, false, List, [], ◌∷◌, length, Option, Some, cond, sym, ap, ◌∙◌, subst, eqb-true, ◌==◌, nat_lt, DomId, GrantRef, Denial, N18, N19, Entry, Invalid, Header, Change, ToReadOnly, ToWritable, control_of, header_of, header_word, Held, Asked, Map, ByMapping, ByLeg, Seen, Taken, Missed, Verdict, Granted, Given, Refused, FramesTold, Step, LookHeader, PinStep, Unpin, StoreBody, StoreHeader, Exchange, ReadBytes, WriteBytes, Action, Makes, Done, Aim, Mapping, AsksSize, AsksVersion, Phase, Storing, StoringSecond, Exchanging, Looking, Changing, Walking, Accessing, Asking, Last, Ending, Leg, LegPhase, Pinning, Pinned, last_first, pins_so_far, CallerKnowledge, path, held_of, is_stopped, Continuation, IsFor, RestsOnWord, RestsOnRequest, phase_after, action_at, leg_after, leg_step, after_store, refused_as, next_to_give, HasShown, IsQuiet, IsTurn, held_in, AnswerDone, State, History, Setting, word_at, table_at, known_at, seen_by, StepsSoFar, GivesValue, PhaseStands, EndsAfter, EndsCopy, answer_with, MAX_TABLE_FRAMES, ◌-◌, without_last, Size, Version, cond_both, FirstHalf, SecondHalf, first_body, second_body, CopyBytes, CopyArgs, Copy, LookControl, Pins, LegStands, legs_at, numbered, pins_at, reverse, arith}
 use Rattle.gt_calls.specs.{declared.action.Verdict.TheVariants.Mapped, Path.place_of}
 use Rattle.gt_core.proofs.{Phases.OfAction, Phases.IsHere, Phases.makes-same, Phases.by-quiet, Judging.walk-comes, Legs.ComesTo, Legs.IsLegOf, Legs.Words, Aims.pair_of, Aims.leg-here, Phases.words-of, Outcomes.next_of, Outcomes.walk-done, Seeing.table-fits}
 
@@ -29,30 +29,17 @@ granted s h d r q step is g = subst (λ (z : Asked). GivesValue s h d z (Some st
 
 -- by its last step
 last-ends : (s : Setting) (h : History) (d : DomId) (r : Asked) (phase : Phase) (last : Step) (verdict : Verdict) → IsQuiet last → RestsOnRequest (known_at s h d) d r last → EndsAfter r last verdict → EndsWith s h d r phase last verdict
-last-ends s h d r phase (Unpin p (ByMapping handle)) verdict q a b = subst (EndsWith s h d r phase (Unpin p (ByMapping handle))) (sym b) (λ read. granted s h d r _ _ a.0 refl)
-last-ends s h d r phase (StoreHeader version frames) verdict q a (inl b) = subst (EndsWith s h d r phase (StoreHeader version frames)) (sym b.1) (λ read. granted s h d r _ _ b.0 refl)
-last-ends s h d r phase (StoreHeader version frames) verdict q a (inr b) = subst (EndsWith s h d r phase (StoreHeader version frames)) (sym b.1)
-    (subst (λ (z : Asked). GivesValue s h d z (Some (StoreHeader version frames)) (answer_with (FramesTold frames))) (sym b.0) refl)
-last-ends s h d r phase (ReadBytes dom frame off len) verdict q a b = subst (EndsWith s h d r phase (ReadBytes dom frame off len)) (sym b) (λ read. absurd (read dom frame off len refl))
-last-ends s h d r phase (WriteBytes dom frame off len) verdict q (inl a) b = subst (EndsWith s h d r phase (WriteBytes dom frame off len)) (sym b) (λ read. granted s h d r _ _ a.1 refl)
-last-ends s h d r phase (WriteBytes dom frame off len) verdict q (inr a) b = subst (EndsWith s h d r phase (WriteBytes dom frame off len)) (sym b) (λ read. granted s h d r _ _ a.0 refl)
-last-ends s h d r phase (StoreBody gref half word) verdict q a b = absurd a
-last-ends s h d r phase last verdict q a b = absurd q
+last-ends s h d r phase last verdict q a b = grind arith
 
 last-next : (s : Setting) (h : History) (d : DomId) (last : Step) (verdict v : Verdict) → IsQuiet last → Next s h d (Last last verdict) last v → verdict ≡ v
-last-next s h d last verdict v q =
-    by-quiet (λ z. Next s h d (Last z verdict) z v → verdict ≡ v) (λ p handle e. cc) (λ gref half word e. cc) (λ version frames e. cc) (λ dom frame off len. (λ e. cc, λ e. cc)) last q
+last-next s h d last verdict v q = grind arith
 
 turn-value : (s : Setting) (h : History) (d : DomId) (r : Asked) (gref : GrantRef) (change : Change) (step : Option Step) → IsTurn r gref change → GivesValue s h d r step AnswerDone
-turn-value s h d r gref ToReadOnly step a = subst (λ (z : Asked). GivesValue s h d z step AnswerDone) (sym a) refl
-turn-value s h d r gref ToWritable step a = subst (λ (z : Asked). GivesValue s h d z step AnswerDone) (sym a) refl
-turn-value s h d r gref change step a = absurd a
+turn-value s h d r gref change step a = grind arith
 
 once-value : (s : Setting) (h : History) (way : Continuation) (d : DomId) (r : Asked) (shown : List Seen) (so_far : StepsSoFar) (gref : GrantRef) (looked : ℕ) (change : Change) (step : Option Step) → RestsOnWord (known_at s h d) way d r shown gref looked change
     → PhaseStands s h d r so_far (Exchanging gref looked change) → GivesValue s h d r step AnswerDone
-once-value s h way d r shown so_far gref looked ToReadOnly step a b = absurd b
-once-value s h way d r shown so_far gref looked ToWritable step a b = absurd b
-once-value s h way d r shown so_far gref looked change step a b = subst (λ (z : Asked). GivesValue s h d z step AnswerDone) (sym a.0) refl
+once-value s h way d r shown so_far gref looked change step a b = grind arith
 
 -- what is so of the end of a phase, if it is one
 abbrev AtEnd : (Verdict → Type 0) → Action → Type 0
@@ -64,20 +51,16 @@ abbrev Plain : (Verdict → Type 0) → Type 0
 Plain Q = Q Granted × ((denial : Denial) → Q (Refused denial))
 
 store-end : (Q : Verdict → Type 0) (k : CallerKnowledge) (d : DomId) (gref : GrantRef) (entry : Entry) → AtEnd Q (action_at d (after_store k gref entry))
-store-end Q k d gref Invalid = tt
-store-end Q k d gref entry = tt
+store-end Q k d gref entry = grind arith
 
 give-end : (Q : Verdict → Type 0) (held : List Held) (v : Verdict) → Q v → AtEnd Q (next_to_give held v)
-give-end Q [] v a = a
-give-end Q (p ∷ ps) v a = tt
+give-end Q held v a = grind arith
 
 at-end : (Q : Verdict → Type 0) (a : Action) (v : Verdict) → AtEnd Q a → a ≡ Done v → Q v
 at-end Q a v q e = subst (AtEnd Q) e q
 
 copy-end : (Q : Verdict → Type 0) (v : Verdict) → EndsCopy v → Plain Q → Q v
-copy-end Q Granted e plain = plain.0
-copy-end Q (Refused denial) e plain = plain.1 denial
-copy-end Q v e plain = absurd e
+copy-end Q v e plain = grind arith
 
 pinned-leg : (s : Setting) (h : History) (d : DomId) (r : Asked) (so_far : StepsSoFar) (aim : Aim) (l : Leg) (at : LegPhase) (m : Held) → Words s h l → IsFor (known_at s h d) d r aim l → IsLegOf s h d r l (pair_of d aim) → LegStands s h l so_far at
     → leg_after l at (seen_by s h d (leg_step l at)) ≡ Pinned m → (leg_step l at ≡ PinStep m) × (word_at s h m.dom.0 m.gref.0 ≡ m.word)
@@ -94,8 +77,7 @@ pinned-leg s h d r so_far aim l (Pinning more word body second) m ws is leg a e 
 pinned-leg s h d r so_far aim l at m ws is leg a e = absurd (subst (ComesTo s h l _ _) e (walk-comes s h d r so_far aim l at ws is leg a tt))
 
 of-map : (k : CallerKnowledge) (d : DomId) (r : Asked) (aim : Aim) (l : Leg) → IsFor k d r aim l → aim ≡ Mapping → (dom : DomId) × (gref : GrantRef) × (flags : ℕ) × (r ≡ Map dom gref flags)
-of-map k d r Mapping l a is = (a.dom, a.gref, a.flags, a.of_map)
-of-map k d r aim l a is = cc
+of-map k d r aim l a is = grind arith
 
 -- a call that stands here, and is over after its step, ends so
 pub call-ends : (s : Setting) (h : History) (xs : List State) (d : DomId) (r : Asked) (shown : List Seen) (so_far : StepsSoFar) (phase : Phase) (step : Step) → IsHere s h xs d r shown so_far phase step
