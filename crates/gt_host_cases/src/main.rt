@@ -5,8 +5,8 @@
 //! print: the answers of the calls, line by line, or the script's first fault. Each is played with its audit and
 //! without, and where that changes an answer, or adds a line of no record, a line says so. After the word `--failing`
 //! each read and each write fails after each count of bytes, and a line says whether all of these were told. After the
-//! word `--policy` come policies: `x` is `data/x.te`, as `gthost` lists it. A script or policy is added by its file, its
-//! name in `args` and its lines in `stdout`; that costs no proof.
+//! word `--policy` come policies: `x` is `data/x.te`, as `gthost` lists it. A script or policy is added by its file,
+//! its name in `args` and its lines in `stdout`; that costs no proof.
 //!
 //! Where memory is refused, the program ends with status 1, and what it printed is a beginning of `stdout`.
 #![tactic(auto)]

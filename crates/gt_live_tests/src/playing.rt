@@ -35,8 +35,8 @@ pub enum Stage<'a> {
 }
 
 /// A run: its name, how many domains, the version of their tables, the first generation of their entries, and what is
-/// done, stage by stage. Then the last domains do their parts for so many rounds, each in a thread of its own, and leave
-/// these entries idle behind.
+/// done, stage by stage. Then the last domains do their parts for so many rounds, each in a thread of its own, and
+/// leave these entries idle behind.
 #[derive(Clone, Copy)]
 pub struct Row<'a> {
     pub name: &'a str,

@@ -122,8 +122,8 @@ fn lists_said(alloc: Global, script: &RunScript<'_>) -> Result<String, AllocErro
     Ok(out)
 }
 
-/// Whether a text that was cut off is a script still, or has a fault that can be: never one of memory, and one of a policy
-/// only where the text has a policy.
+/// Whether a text that was cut off is a script still, or has a fault that can be: never one of memory, and one of a
+/// policy only where the text has a policy.
 pub fn cut_said(alloc: Global, text: &[u8]) -> Result<String, AllocError> {
     let is_policy = text.starts_with("policy\n".as_bytes());
     for end in 0..text.len() {
