@@ -45,7 +45,7 @@ END
 }
 
 if [ "${1:-}" = --check ]; then
-  write | cmp - "$page"
+  write | cmp - "$page" || { echo "$page is stale: run bench/wrong_bodies_list.sh" >&2; exit 1; }
 else
   write >"$page.new"
   mv "$page.new" "$page"

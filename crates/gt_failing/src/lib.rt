@@ -3,8 +3,10 @@
 //! It promises nothing beyond the traits, and uses no other crate.
 #![tactic(auto)]
 
+mod lines;
 mod reader;
 mod writer;
 
+pub use lines::failing_line;
 pub use reader::FailingReader;
 pub use writer::FailingWriter;

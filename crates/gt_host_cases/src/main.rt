@@ -3,22 +3,29 @@
 //! The words of the command line are the names. The script `x` is `data/x.gt`, as the program `gthost` plays it. Those
 //! after the word `--audit` are printed with their records. `args` names them all, and `stdout` has what they must
 //! print: the answers of the calls, line by line, or the script's first fault. Each is played with its audit and
-//! without, and where that changes an answer, or adds a line of no record, a line says so. After the word `--policy`
-//! come policies: `x` is `data/x.te`, as `gthost` lists it. A script or policy is added by its file, its name in `args`
-//! and its lines in `stdout`; that costs no proof.
+//! without, and where that changes an answer, or adds a line of no record, a line says so. After the word `--failing`
+//! each read and each write fails after each count of bytes, and a line says whether all of these were told. After the
+//! word `--policy` come policies: `x` is `data/x.te`, as `gthost` lists it. A script or policy is added by its file,
+//! its name in `args` and its lines in `stdout`; that costs no proof.
+//!
+//! Where memory is refused, the program ends with status 1, and what it printed is a beginning of `stdout`.
 #![tactic(auto)]
 
+mod failing;
 mod policies;
 mod scripts;
 
+use anyhow::bail;
+use failing::failing_said;
 use policies::policy_said;
-use scripts::script_said;
+use scripts::{Played, script_said};
 
 // What is done with the names that follow.
 #[derive(Clone, Copy)]
 enum Mode {
     Play,
     Audit,
+    Failing,
     Policy,
 }
 
@@ -26,10 +33,20 @@ enum Mode {
 fn mode_named(word: &str) -> Option<Mode> {
     if word == "--audit" {
         Some(Mode::Audit)
+    } else if word == "--failing" {
+        Some(Mode::Failing)
     } else if word == "--policy" {
         Some(Mode::Policy)
     } else {
         None
+    }
+}
+
+// A text that went to its end.
+fn whole(text: String) -> Played {
+    Played {
+        text,
+        is_refused: false,
     }
 }
 
@@ -45,9 +62,14 @@ fn main(rt: HostRuntime) -> anyhow::Result<()> {
         let said = match mode {
             Mode::Play => script_said(&rt, alloc, word.as_str(), false)?,
             Mode::Audit => script_said(&rt, alloc, word.as_str(), true)?,
-            Mode::Policy => policy_said(&rt, alloc, word.as_str())?,
+            Mode::Failing => whole(failing_said(&rt, alloc, word.as_str())?),
+            Mode::Policy => whole(policy_said(&rt, alloc, word.as_str())?),
         };
-        print!(rt; "== {word}\n{said}")?;
+        let text = &said.text;
+        print!(rt; "== {word}\n{text}")?;
+        if said.is_refused {
+            bail!("memory");
+        }
     }
     Ok(())
 }

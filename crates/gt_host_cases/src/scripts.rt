@@ -1,20 +1,33 @@
 //! What scripts print.
-use gt_host::play;
+use gt_host::{PlayFault, play};
 use std::alloc::Global;
-use std::fs::File;
+use std::fs;
 use std::rt::Runtime;
 
-// What a script prints, with its fault if it has one.
-fn played<R: Runtime>(rt: &R, alloc: Global, name: &str, audit: bool) -> anyhow::Result<String> {
-    let path = format!(in alloc; "{name}.gt")?;
-    let mut script = File::open(rt, path.as_str())?;
-    let mut written = Vec::new(alloc);
+// No worked script prints more.
+const ROOM: usize = 65_536;
+
+/// What a play wrote.
+#[derive(Drop)]
+pub struct Played {
+    /// The text, with the fault if the script has one.
+    pub text: String,
+    /// Whether memory was refused, so that the text may end early.
+    pub is_refused: bool,
+}
+
+// What a script prints. The room for its text is asked for before.
+fn play_once(alloc: Global, mut script: &[u8], audit: bool) -> anyhow::Result<Played> {
+    let mut written = Vec::with_capacity(alloc, ROOM)?;
     let outcome = play(alloc, &mut script, &mut written, audit);
     let mut text = String::from_utf8(written)?;
+    let is_refused = matches!(outcome, Err(PlayFault::Memory));
     if let Err(fault) = outcome {
-        text.push_str(format!(in alloc; "{fault}\n")?.as_str())?;
+        if !is_refused {
+            text.push_str(format!(in alloc; "{fault}\n")?.as_str())?;
+        }
     }
-    Ok(text)
+    Ok(Played { text, is_refused })
 }
 
 // The text, and then lines of records.
@@ -25,19 +38,40 @@ fn adds_records(text: &str, audited: &str) -> bool {
     }
 }
 
+/// The bytes of a script.
+pub fn script_named<R: Runtime + AllocGlobal>(
+    rt: &R,
+    alloc: Global,
+    name: &str,
+) -> anyhow::Result<Vec<u8>> {
+    let path = format!(in alloc; "{name}.gt")?;
+    Ok(fs::read(rt, path.as_str())?)
+}
+
 /// What a script prints, with or without its records. Where its audit prints other lines, one more says so.
-pub fn script_said<R: Runtime>(
+pub fn script_said<R: Runtime + AllocGlobal>(
     rt: &R,
     alloc: Global,
     name: &str,
     audit: bool,
-) -> anyhow::Result<String> {
-    let text = played(rt, alloc, name, false)?;
-    let audited = played(rt, alloc, name, true)?;
-    let is_same = adds_records(text.as_str(), audited.as_str());
-    let mut said = if audit { audited } else { text };
-    if !is_same {
-        said.push_str("with its audit it prints other lines\n")?;
+) -> anyhow::Result<Played> {
+    let script = script_named(rt, alloc, name)?;
+    let mut said = play_once(alloc, script.as_slice(), audit)?;
+    if said.is_refused {
+        return Ok(said);
+    }
+    let other = play_once(alloc, script.as_slice(), !audit)?;
+    let (text, audited) = if audit {
+        (&other, &said)
+    } else {
+        (&said, &other)
+    };
+    let is_same = adds_records(text.text.as_str(), audited.text.as_str());
+    if other.is_refused {
+        said.is_refused = true;
+    } else if !is_same {
+        said.text
+            .push_str("with its audit it prints other lines\n")?;
     }
     Ok(said)
 }

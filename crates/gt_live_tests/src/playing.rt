@@ -19,7 +19,7 @@ pub const THREE: usize = 2;
 
 /// What is done in a run.
 #[derive(Clone, Copy)]
-pub enum Step<'a> {
+pub enum Stage<'a> {
     /// Lines, each with its answer.
     Asked(&'a [Line<'a>]),
     /// The same, where a line that is refused memory is asked again.
@@ -35,15 +35,15 @@ pub enum Step<'a> {
 }
 
 /// A run: its name, how many domains, the version of their tables, the first generation of their entries, and what is
-/// done step by step. Then the last domains do their parts for so many rounds, each in a thread of its own, and leave
-/// these entries idle behind.
+/// done, stage by stage. Then the last domains do their parts for so many rounds, each in a thread of its own, and
+/// leave these entries idle behind.
 #[derive(Clone, Copy)]
 pub struct Row<'a> {
     pub name: &'a str,
     pub count: u16,
     pub version: u32,
     pub first_gen: u32,
-    pub steps: &'a [Step<'a>],
+    pub stages: &'a [Stage<'a>],
     pub parts: &'a [(Part, u32)],
     pub behind: &'a [Behind],
 }
@@ -131,26 +131,26 @@ fn count_left<P: Allows>(domain: Option<Running<'_, P>>) -> usize {
     }
 }
 
-// Makes a step, and compares what comes of it.
+// Plays a stage, and compares what comes of it.
 fn make<R: Wait + Abort, P: Allows>(
     rt: &R,
     alloc: Global,
     domains: &mut Vec<Running<'_, P>>,
-    step: Step<'_>,
+    stage: Stage<'_>,
 ) -> Result<(), Memory> {
-    match step {
-        Step::Asked(lines) => play(rt, alloc, domains.as_mut_slice(), lines, false)?,
-        Step::Insisted(lines) => play(rt, alloc, domains.as_mut_slice(), lines, true)?,
-        Step::MapsOften(times) => {
+    match stage {
+        Stage::Asked(lines) => play(rt, alloc, domains.as_mut_slice(), lines, false)?,
+        Stage::Insisted(lines) => play(rt, alloc, domains.as_mut_slice(), lines, true)?,
+        Stage::MapsOften(times) => {
             let done = map_often(domains.last_mut(), times);
             assert_eq!(rt; done, times);
         }
-        Step::KeepsAtMost(records) => keep_at_most(domains.last_mut(), records)?,
-        Step::Leaves(records) => {
+        Stage::KeepsAtMost(records) => keep_at_most(domains.last_mut(), records)?,
+        Stage::Leaves(records) => {
             let text = left(alloc, domains.pop())?;
             assert_eq!(rt; text.as_str(), records);
         }
-        Step::LeavesMany(records) => {
+        Stage::LeavesMany(records) => {
             let count = count_left(domains.pop());
             assert_eq!(rt; count, records);
         }
@@ -168,8 +168,8 @@ pub fn play_row<R: Threads + Wait + Abort + Sync>(
     let (monitor, domains) = start(alloc, rights, row.count, row.version, row.first_gen)?;
     let mut domains = all_running(alloc, &monitor, domains)?;
     let count = domains.len();
-    'steps: for step in row.steps.iter() {
-        make(rt, alloc, &mut domains, *step)?;
+    'stages: for stage in row.stages.iter() {
+        make(rt, alloc, &mut domains, *stage)?;
     }
     let fair = work_at_once(rt, alloc, domains, row.parts, row.behind)?;
     assert!(rt; fair, "{}", row.name);

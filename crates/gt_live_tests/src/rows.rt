@@ -1,6 +1,6 @@
 //! Worked rows, each a list of lines with their answers. A refusal carries the word that decided it, so that what the
 //! entry is, its counts and its generation are compared too.
-use crate::playing::{Line, ONE, Row, Step, THREE, TWO, play_row};
+use crate::playing::{Line, ONE, Row, Stage, THREE, TWO, play_row};
 use gt_calls::{CopyArgs, End};
 use gt_entry::Entry;
 use gt_running::Asks::{
@@ -356,7 +356,7 @@ fn rows_are_answered(rt: HostRuntime) -> Result<(), Fail> {
             count: 4,
             version,
             first_gen,
-            steps: &[Step::Asked(lines)],
+            stages: &[Stage::Asked(lines)],
             parts: &[],
             behind: &[],
         };

@@ -1,5 +1,5 @@
 //! Runs with more than lines: how many domains they may have, what those leave behind, refused memory, and threads.
-use crate::playing::{Line, ONE, Row, Step, THREE, TWO, play_row};
+use crate::playing::{Line, ONE, Row, Stage, THREE, TWO, play_row};
 use crate::working::{Access, LEN, Part, UNUSED};
 use gt_calls::{CopyArgs, End};
 use gt_entry::Entry;
@@ -16,7 +16,7 @@ const QUIET: Row = Row {
     count: 2,
     version: 1,
     first_gen: 0,
-    steps: &[],
+    stages: &[],
     parts: &[],
     behind: &[],
 };
@@ -151,30 +151,30 @@ const STORM: [(Part, u32); 4] = [
 const ROWS: [Row; 8] = [
     Row {
         name: "a domain that leaves gives its pins back",
-        steps: &[
-            Step::Asked(&PINS_HELD),
-            Step::Leaves(RECORDS),
-            Step::Asked(&REVOKED),
+        stages: &[
+            Stage::Asked(&PINS_HELD),
+            Stage::Leaves(RECORDS),
+            Stage::Asked(&REVOKED),
         ],
         ..QUIET
     },
     Row {
         name: "a trail keeps no more records than it may, and counts the others",
-        steps: &[
-            Step::KeepsAtMost(2),
-            Step::Asked(&QUERIES),
-            Step::Leaves(TWO_RECORDS),
+        stages: &[
+            Stage::KeepsAtMost(2),
+            Stage::Asked(&QUERIES),
+            Stage::Leaves(TWO_RECORDS),
         ],
         ..QUIET
     },
     Row {
         name: "a word has room for 4095 pins",
-        steps: &[
-            Step::Asked(&[GRANTED]),
-            Step::MapsOften(4095),
-            Step::Asked(&FULL),
-            Step::LeavesMany(4097),
-            Step::Asked(&REVOKED),
+        stages: &[
+            Stage::Asked(&[GRANTED]),
+            Stage::MapsOften(4095),
+            Stage::Asked(&FULL),
+            Stage::LeavesMany(4097),
+            Stage::Asked(&REVOKED),
         ],
         ..QUIET
     },
@@ -204,14 +204,14 @@ const ROWS: [Row; 8] = [
     Row {
         name: "three threads write to one frame",
         count: 3,
-        steps: &[Step::Asked(&MAPPED)],
+        stages: &[Stage::Asked(&MAPPED)],
         parts: &WRITES,
         ..QUIET
     },
     Row {
         name: "three threads copy in a ring",
         count: 3,
-        steps: &[Step::Asked(&IN_A_RING)],
+        stages: &[Stage::Asked(&IN_A_RING)],
         parts: &COPIES,
         ..QUIET
     },
@@ -252,7 +252,7 @@ const ACCESSES: [Line; 18] = [
 
 const REFUSED: Row = Row {
     name: "accesses with memory refused",
-    steps: &[Step::Insisted(&ACCESSES)],
+    stages: &[Stage::Insisted(&ACCESSES)],
     ..QUIET
 };
 

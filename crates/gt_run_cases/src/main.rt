@@ -1,33 +1,119 @@
 //! Runs worked scripts and prints what each prints, under its name.
 //!
-//! The words of the command line are the names. The script `x` is `data/x.gt`, as the program
-//! `gthost` runs it; those after the word `--audit` are run with their audit lines. `args` names them all, and
-//! `stdout` has what they must print. A script is added by its file, its name in `args` and its lines in `stdout`.
+//! The words of the command line are the names. The script `x` is `data/x.gt`, as the program `gthost` runs it. `args`
+//! names them all, and `stdout` has what they must print. A script is added by its file, its name in `args` and its
+//! lines in `stdout`. A word of `args` that begins with `--` says how the scripts after it are run:
+//!
+//! - `--audit`: with their audit lines.
+//! - `--failing`: each read and each write fails after each count of bytes, and a line says whether all were told.
+//! - `--closed` and `--deaf`: at a gate that gives up, at once or after all its turns.
+//! - `--two-meet` and `--three-meet`: at a gate that lets domains on once so many are there.
+//! - `--told` and `--awaited`: at a gate that looks for both records of domain 2. A line says whether it found them
+//!   where a flag was raised, or where one was awaited.
+//!
+//! After `--many` comes no name: sixteen domains with long lists, which are made here, meet at a gate.
 #![tactic(auto)]
 
+mod failing;
+mod gates;
+mod many;
+mod running;
+
+use failing::failing_said;
+use gates::{Turns, gate_said, records_said};
 use gt_audit::SharedLog;
 use gt_run::{Flags, run};
-use std::fs::File;
+use many::many_said;
+use std::alloc::Global;
+use std::fs::{self, File};
 use std::io;
+use std::rt::Runtime;
+use std::sync::Wait;
+use std::thread::Threads;
+
+// How the scripts that follow are run.
+#[derive(Clone, Copy)]
+enum Mode {
+    Run,
+    Audit,
+    Failing,
+    Closed,
+    Deaf,
+    Meet(u64),
+    Told,
+    Awaited,
+}
+
+// The mode that a word names, if it is no name of a file.
+fn mode_named(word: &str) -> Option<Mode> {
+    match word {
+        "--audit" => Some(Mode::Audit),
+        "--failing" => Some(Mode::Failing),
+        "--closed" => Some(Mode::Closed),
+        "--deaf" => Some(Mode::Deaf),
+        "--two-meet" => Some(Mode::Meet(2)),
+        "--three-meet" => Some(Mode::Meet(3)),
+        "--told" => Some(Mode::Told),
+        "--awaited" => Some(Mode::Awaited),
+        _ => None,
+    }
+}
+
+// Runs a file to the standard output, as the program does.
+fn run_file<R: Runtime + Threads + Wait + Sync>(
+    rt: &R,
+    alloc: Global,
+    path: &str,
+    audit: bool,
+) -> anyhow::Result<()> {
+    let mut script = File::open(rt, path)?;
+    let log = SharedLog::new(alloc)?;
+    let shared = if audit { Some(&log) } else { None };
+    let gate = Flags::new(rt, alloc)?;
+    let mut out = io::writer(rt);
+    if let Err(fault) = run(rt, alloc, &mut script, &mut out, shared, &gate) {
+        println!(rt; "{fault}")?;
+    }
+    Ok(())
+}
+
+// Runs a file and prints what is said of that.
+fn try_file<R: Runtime + Threads + Wait + Sync>(
+    rt: &R,
+    alloc: Global,
+    path: &str,
+    mode: Mode,
+) -> anyhow::Result<()> {
+    let text = fs::read_to_string(rt, path)?;
+    let script = text.as_str();
+    let said = match mode {
+        Mode::Run => return run_file(rt, alloc, path, false),
+        Mode::Audit => return run_file(rt, alloc, path, true),
+        Mode::Failing => failing_said(rt, alloc, script)?,
+        Mode::Closed => gate_said(rt, alloc, script, &Turns::closed())?,
+        Mode::Deaf => gate_said(rt, alloc, script, &Turns::deaf())?,
+        Mode::Meet(count) => gate_said(rt, alloc, script, &Turns::meeting(count))?,
+        Mode::Told => records_said(rt, alloc, script, true)?,
+        Mode::Awaited => records_said(rt, alloc, script, false)?,
+    };
+    print!(rt; "{said}")?;
+    Ok(())
+}
 
 fn main(rt: HostRuntime) -> anyhow::Result<()> {
     let alloc = rt.alloc();
     let words: Vec<String> = std::env::args(&rt)?.collect(alloc)?;
-    let mut audit = false;
+    let mut mode = Mode::Run;
     for word in words.iter().skip(1) {
-        if word.as_str() == "--audit" {
-            audit = true;
+        if let Some(named) = mode_named(word.as_str()) {
+            mode = named;
+        } else if word.as_str() == "--many" {
+            let said = many_said(&rt, alloc)?;
+            print!(rt; "== many\n{said}")?;
         } else {
             println!(rt; "== {word}")?;
             let path = format!(in alloc; "{word}.gt")?;
-            let mut script = File::open(&rt, path.as_str())?;
-            let log = SharedLog::new(alloc)?;
-            let shared = if audit { Some(&log) } else { None };
-            let gate = Flags::new(&rt, alloc)?;
-            let mut out = io::writer(&rt);
-            if let Err(fault) = run(&rt, alloc, &mut script, &mut out, shared, &gate) {
-                println!(rt; "{fault}")?;
-            }
+            try_file(&rt, alloc, path.as_str(), mode)?;
         }
     }
     Ok(())

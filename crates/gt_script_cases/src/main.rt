@@ -1,15 +1,16 @@
 //! Reads worked scripts and prints what each is read as, or its first fault, under its name.
 //!
 //! The words of the command line are the names. The script `x` is `data/x.gt`, read for `play`; those after the word
-//! `--run` are read for `run`. A file with a line `====` has a script above it, and below it lines that are tried in
-//! the place of the script's `@`, one after the other: each is printed behind what comes of it. `args` names all files,
-//! and `stdout` has what they must print. A script is added by its file, its name in `args` and its lines in `stdout`,
-//! and a line that is tried by itself and its line in `stdout`; that costs no proof.
+//! `--run` are read for `run`, and those after the word `--cut` are cut off after each count of bytes. A file with a
+//! line `====` has a script above it, and below it lines that are tried in the place of the script's `@`, one after the
+//! other: each is printed behind what comes of it. `args` names all files, and `stdout` has what they must print. A
+//! script is added by its file, its name in `args` and its lines in `stdout`, and a line that is tried by itself and
+//! its line in `stdout`; that costs no proof.
 #![tactic(auto)]
 
 mod said;
 
-use said::{play_said, run_said};
+use said::{cut_said, play_said, run_said};
 use std::alloc::{AllocError, Global};
 use std::fs;
 
@@ -25,27 +26,38 @@ fn tried(alloc: Global, script: &str, lines: &str) -> Result<String, AllocError>
     Ok(out)
 }
 
-fn told(alloc: Global, text: &str, is_run: bool) -> Result<String, AllocError> {
-    if is_run {
-        return run_said(alloc, text.as_bytes());
-    }
-    match text.split_once("====\n") {
-        Some((script, lines)) => tried(alloc, script, lines),
-        None => play_said(alloc, text.as_bytes()),
+// What is done with the names that follow.
+#[derive(Clone, Copy)]
+enum Mode {
+    Play,
+    Run,
+    Cut,
+}
+
+fn told(alloc: Global, text: &str, mode: Mode) -> Result<String, AllocError> {
+    match mode {
+        Mode::Play => match text.split_once("====\n") {
+            Some((script, lines)) => tried(alloc, script, lines),
+            None => play_said(alloc, text.as_bytes()),
+        },
+        Mode::Run => run_said(alloc, text.as_bytes()),
+        Mode::Cut => cut_said(alloc, text.as_bytes()),
     }
 }
 
 fn main(rt: HostRuntime) -> anyhow::Result<()> {
     let alloc = rt.alloc();
     let words: Vec<String> = std::env::args(&rt)?.collect(alloc)?;
-    let mut is_run = false;
+    let mut mode = Mode::Play;
     for word in words.iter().skip(1) {
         if word.as_str() == "--run" {
-            is_run = true;
+            mode = Mode::Run;
+        } else if word.as_str() == "--cut" {
+            mode = Mode::Cut;
         } else {
             let path = format!(in alloc; "{word}.gt")?;
             let text = fs::read_to_string(&rt, path.as_str())?;
-            let said = told(alloc, text.as_str(), is_run)?;
+            let said = told(alloc, text.as_str(), mode)?;
             print!(rt; "== {word}\n{said}")?;
         }
     }

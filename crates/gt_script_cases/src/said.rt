@@ -121,3 +121,19 @@ fn lists_said(alloc: Global, script: &RunScript<'_>) -> Result<String, AllocErro
     out.push_str(format!(in alloc; "{} flags\n", script.flags())?.as_str())?;
     Ok(out)
 }
+
+/// Whether a text that was cut off is a script still, or has a fault that can be: never one of memory, and one of a
+/// policy only where the text has a policy.
+pub fn cut_said(alloc: Global, text: &[u8]) -> Result<String, AllocError> {
+    let is_policy = text.starts_with("policy\n".as_bytes());
+    for end in 0..text.len() {
+        if let Err(error) = parse(alloc, &text[..end]) {
+            let fault = error.to_string(alloc)?;
+            let is_read = is_policy || !fault.contains("policy");
+            if !is_read || fault.as_str() == "memory" {
+                return format!(in alloc; "{end} bytes: {fault}\n");
+            }
+        }
+    }
+    String::from_str(alloc, "each beginning is a script or has a fault\n")
+}

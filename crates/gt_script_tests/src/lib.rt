@@ -1,7 +1,8 @@
 //! Tests of the reader of scripts, over what its crate makes public.
 //!
-//! They say what no contract says of texts that no file holds: those at the limits, and those that are cut off. Worked
-//! scripts with what they are read as are in `gt_script_cases`, and scripts with a fault there and in `gt_host_cases`.
+//! They say what no contract says of texts that are too long for a file: those at the limits. Worked scripts with what
+//! they are read as, whole and cut off, are in `gt_script_cases`. Scripts with a fault are there and in
+//! `gt_host_cases`.
 #![tactic(auto)]
 
 #[cfg(test)]

@@ -10,7 +10,7 @@ use Rattle.atomic_table.proofs.Lists.{at_set, set_again, at_map}
 use Rattle.gt_words.proofs.Lists.{whose_at, whose_here}
 use Rattle.gt_words.proofs.Kept.{header_keeps, header_keeps_pins, header_keeps_rows, header_sees}
 use Rattle.gt_words.proofs.Lifts.{still_dealt, still_seated}
-use Rattle.gt_words.proofs.Owed.{stored_owes}
+use Rattle.gt_words.proofs.Owed.{kind_owes, stored_owes}
 use Rattle.gt_entry.specs.Laws.{header-round}
 use Rattle.gt_entry.specs.Words.{header_of, header_word, size_of}
 use Rattle.gt_entry.specs.declared.header.Header.{Header}
@@ -130,25 +130,10 @@ module _ {S : Type 0} (k : Layout) (slots id : ℕ) (me : Me S View) (t : ℕ) (
   header_owes : (m : ℕ → HeaderStep) (f : ℕ → ℕ) (a : ℕ) → ((s : State S View) → Shows k s → get_elem? s.views id ≡ some me.0 → HeaderByOwner id t (m (get_or s.words (header_place t) 0)))
       → ((n : ℕ) → Finds (m n) n) → ((n : ℕ) → f n ≡ header_after (m n) n) → ((n : ℕ) → IsHeader n → IsHeader (f n))
       → Allows (Shows k) slots id me (header_place t) f (tells (record { layout = k; step = λ n. on_header t (m n); leaves = f }) (step slots (header_place t) a 0 none) me)
-  header_owes m f a own finds leaves ok s shown len at fits = let n : ℕ = get_or s.words (header_place t) 0 in let v : View = me.0 in let h = shown.headers t tn in
-      let by = own s shown at in let z = shows_header k s id v t (m n) at shown (f n) tn by (subst (Finds (m n)) h.0 (finds n)) (leaves n ∙ ap (header_after (m n)) h.0) (ok n h.1) in let p = (shown.seats id v at).0 in (
-        with_step (on_header t (m n)) v,
-        keeps,
-        tt,
-        z,
-        (
-          refl,
-          refl,
-          record {
-            before = s;
-            shown = shown;
-            mine = subst (λ (i : ℕ). get_elem? s.views i ≡ some v) (sym p) at;
-            found_is = refl;
-            still_shown = subst (λ (i : ℕ). Shows k (stepped s (header_place t) (f n) i [] (with_step (on_header t (m n)) v) keeps)) (sym p) z;
-            happens = subst (λ (i : ℕ). Happens k i (on_header t (m n)) s (stepped s (header_place t) (f n) i [] (with_step (on_header t (m n)) v) keeps)) (sym p) (header_happens k s id v t (m n) at (header_place t) (f n) by);
-          },
-        ),
-      )
+  header_owes m f a own finds leaves ok = kind_owes (record { layout = k; step = λ n. on_header t (m n); leaves = f }) slots id me (header_place t) f (step slots (header_place t) a 0 none) refl (λ n. refl)
+      (λ s shown at fits. let n : ℕ = get_or s.words (header_place t) 0 in let v : View = me.0 in let h = shown.headers t tn in let by = own s shown at in
+      let z = shows_header k s id v t (m n) at shown (f n) tn by (subst (Finds (m n)) h.0 (finds n)) (leaves n ∙ ap (header_after (m n)) h.0) (ok n h.1) in
+      ((shown.seats id v at).0, z, header_happens k s id v t (m n) at (header_place t) (f n) by))
 
   pub look_header_owes : Allows (Shows k) slots id me (header_place t) (λ n. n) (tells (looking_at_header k t) (step slots (header_place t) 0 0 none) me)
   look_header_owes = header_owes (λ n. header.Looked n) (λ n. n) 0 (λ s shown at. tt) (λ n. refl) (λ n. refl) (λ n h. h)

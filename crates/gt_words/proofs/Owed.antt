@@ -27,7 +27,7 @@ use Rattle.gt_words.specs.Controls.{ForwardsPin, IsValid, PermitsPin, demoted_wo
 use Rattle.gt_words.specs.Events.{Happens, IsByOwner}
 use Rattle.gt_words.specs.Rule.{id_at, IsRecord, Layout, Shows, ShowsEntry, place, total_pins}
 use Rattle.gt_words.specs.Steps.{StepKind, changed, entry_kind, exchanging, half_index, half_of, looking, missed, on_entry, reading, storing, taken, tells, tells_stored, unpinning}
-use Rattle.gt_words.specs.Views.{earlier_records, invalid_at, last_of, last_record, last_seen, pins, record_seen, steps_on, stored_body}
+use Rattle.gt_words.specs.Views.{earlier_records, invalid_at, last_of, last_record, last_seen, pins, record_seen, steps_on, stored_body, with_step}
 use Rattle.gt_entry.specs.declared.change.Change.{Change}
 use Rattle.gt_words.specs.declared.view.EntryStep.{EntryStep}
 use Rattle.gt_words.specs.declared.view.EntryStep.TheVariants.{Changed, Looked, ReadBody, StoredBody, Unpinned}
@@ -39,6 +39,33 @@ use Rattle.gt_words.specs.declared.view.View.{View}
 use Rattle.gt_entry.specs.declared.change.Change.TheVariants as change
 use Rattle.gt_words.specs.declared.view.Purpose.TheVariants as purpose
 use Rattle.gt_types.specs.declared.limits.TheConstants.{LAST_GENERATION, MAX_PINS, TABLE_ENTRIES}
+
+-- a step is allowed that leaves words and views which show the state that its event makes
+module _ {S : Type 0} (d : StepKind) (slots id : ℕ) (me : Me S View) (i : ℕ) (f : ℕ → ℕ) (st : TableStep S) where
+  pub kind_owes : st.word ≡ i → ((n : ℕ) → f n ≡ d.leaves n)
+      → ((s : State S View) → Shows d.layout s → get_elem? s.views id ≡ some me.0 → let n : ℕ = get_or s.words i 0 in let x = d.step n in
+      n < 18446744073709551616
+      → (me.0.position ≡ id) × Shows d.layout (stepped s i (f n) id [] (with_step x me.0) keeps) × Happens d.layout id x s (stepped s i (f n) id [] (with_step x me.0) keeps))
+      → Allows (Shows d.layout) slots id me i f (tells d st me)
+  kind_owes is ok step s shown len at fits = let n : ℕ = get_or s.words i 0 in let x = d.step n in let w : View = with_step x me.0 in let after = step s shown at fits in
+      let at_word : ℕ × ℕ × ℕ → State S View = λ u. stepped s u.0 u.1 u.2 [] w keeps in let own = after.0 in let same : (i, f n, id) ≡ (st.word, d.leaves n, me.0.position) = λ j. (sym is j, ok n j, sym own j) in (
+        w,
+        keeps,
+        tt,
+        after.1,
+        (
+          refl,
+          refl,
+          record {
+            before = s;
+            shown = shown;
+            mine = subst (λ (j : ℕ). get_elem? s.views j ≡ some me.0) (sym own) at;
+            found_is = ap (λ (j : ℕ). get_or s.words j 0) is;
+            still_shown = subst (λ (u : ℕ × ℕ × ℕ). Shows d.layout (at_word u)) same after.1;
+            happens = subst (λ (u : ℕ × ℕ × ℕ). Happens d.layout u.2 x s (at_word u)) same after.2;
+          },
+        ),
+      )
 
 -- what a step owes, by the word that it is on: what was found there, and the rule of the entry after it
 
@@ -56,26 +83,8 @@ module _ {S : Type 0} (k : Layout) (t r : ℕ) (m : ℕ → EntryStep) (leaves :
       → ((s : State S View) → Shows k s → get_elem? s.views id ≡ some me.0 → let n : ℕ = get_or s.words (place t r j) 0 in let ws : List ℕ = set s.words (place t r j) (f n) in
       n < 18446744073709551616 → After (get_or ws (place t r 0) 0) (get_or ws (place t r 1) 0) (get_or ws (place t r 2) 0) (map (steps_on t r) s.views) n)
       → Allows (Shows k) slots id me (place t r j) f (tells (entry_kind k t r m leaves) st me)
-  owes j jn is ok step s shown len at fits = let n : ℕ = get_or s.words (place t r j) 0 in let v : View = me.0 in let w : View = added t r (m n) v in let after = step s shown at fits in
-      let z = shows_step k s id v t r (m n) shown at j (f n) tn rn jn after.0 in let own = (shown.seats id v at).0 in
-      let at_word : ℕ × ℕ × ℕ → State S View = λ u. stepped s u.0 u.1 u.2 [] w keeps in let same : (place t r j, f n, id) ≡ (st.word, leaves n, v.position) = λ i. (sym is i, ok n i, sym own i) in (
-        w,
-        keeps,
-        tt,
-        z,
-        (
-          refl,
-          refl,
-          record {
-            before = s;
-            shown = shown;
-            mine = subst (λ (i : ℕ). get_elem? s.views i ≡ some v) (sym own) at;
-            found_is = ap (λ (i : ℕ). get_or s.words i 0) is;
-            still_shown = subst (λ (u : ℕ × ℕ × ℕ). Shows k (at_word u)) same z;
-            happens = subst (λ (u : ℕ × ℕ × ℕ). Happens k u.2 (on_entry t r (m n)) s (at_word u)) same (entry_happens k s id v at t r (m n) (place t r j) (f n) after.1);
-          },
-        ),
-      )
+  owes j jn is ok step = kind_owes (entry_kind k t r m leaves) slots id me (place t r j) f st is ok (λ s shown at fits. let n : ℕ = get_or s.words (place t r j) 0 in let after = step s shown at fits in
+      ((shown.seats id me.0 at).0, shows_step k s id me.0 t r (m n) shown at j (f n) tn rn jn after.0, entry_happens k s id me.0 at t r (m n) (place t r j) (f n) after.1))
 
   history_at : (s : State S View) → get_elem? s.views id ≡ some me.0 → get_elem? (map (steps_on t r) s.views) id ≡ some h
   history_at s at = at_map (steps_on t r) s.views id me.0 at

@@ -1,24 +1,10 @@
-//! Scripts of worked runs.
+//! Runs over memory.
 use gt_audit::SharedLog;
 use gt_failing::{FailingReader, FailingWriter};
 use gt_run::{Gate, RunFault, run};
 use std::alloc::{AllocError, Global};
 use std::sync::Wait;
 use std::thread::Threads;
-
-/// Three domains of version 1 that may do all to each other. The body begins at line 12.
-pub const HEAD: &str = "policy
-attribute dom;
-type a_t, dom;
-type b_t, dom;
-type c_t, dom;
-allow dom dom:grant { map_read map_write unmap copy query };
-allow dom self:grant setup;
-end
-domain 1 u:r:a_t 8 1 1
-domain 2 u:r:b_t 8 1 1
-domain 3 u:r:c_t 8 1 1
-";
 
 /// What a run wrote, and its fault as a text, which is empty where there was none.
 #[derive(Drop)]
@@ -31,6 +17,16 @@ impl Ended {
     /// Whether just this was written, with this fault.
     pub fn is(&self, out: &[u8], fault: &str) -> bool {
         self.out.as_slice() == out && self.fault.as_str() == fault
+    }
+
+    /// What was written, and a line with the fault if there was one.
+    pub fn said(&self, alloc: Global) -> anyhow::Result<String> {
+        let mut text = String::from_utf8(self.out.clone()?)?;
+        if !self.fault.is_empty() {
+            text.push_str(self.fault.as_str())?;
+            text.push('\n')?;
+        }
+        Ok(text)
     }
 }
 
@@ -69,16 +65,4 @@ pub fn run_text<R: Threads + Wait + Sync, G: Gate + Sync>(
     gate: &G,
 ) -> Result<Ended, AllocError> {
     run_failing(rt, alloc, script, (usize::MAX, usize::MAX), log, gate)
-}
-
-/// Runs a body after the head.
-pub fn run_body<R: Threads + Wait + Sync, G: Gate + Sync>(
-    rt: &R,
-    alloc: Global,
-    body: &str,
-    log: Option<&SharedLog>,
-    gate: &G,
-) -> Result<Ended, AllocError> {
-    let script = format!(in alloc; "{HEAD}{body}")?;
-    run_text(rt, alloc, script.as_str(), log, gate)
 }

@@ -1,9 +1,13 @@
-//! Gates of limited turns.
+//! Runs at gates of limited turns.
+use crate::running::run_text;
 use gt_audit::SharedLog;
 use gt_run::Gate;
 use gt_types::DomId;
+use std::alloc::Global;
 use std::hint::spin_loop;
+use std::sync::Wait;
 use std::sync::atomic::{AtomicBool, AtomicU64, Ordering};
+use std::thread::Threads;
 
 const TURNS: u64 = 100_000_000;
 
@@ -138,4 +142,37 @@ impl<'l> Gate for Turns<'l> {
         }
         false
     }
+}
+
+/// What a script prints at this gate.
+pub fn gate_said<R: Threads + Wait + Sync>(
+    rt: &R,
+    alloc: Global,
+    script: &str,
+    gate: &Turns<'_>,
+) -> anyhow::Result<String> {
+    let ended = run_text(rt, alloc, script, None, gate)?;
+    ended.said(alloc)
+}
+
+/// What a script prints with its audit lines, and whether a gate finds both records of domain 2 where a flag is raised,
+/// or where one is awaited.
+pub fn records_said<R: Threads + Wait + Sync>(
+    rt: &R,
+    alloc: Global,
+    script: &str,
+    is_raised: bool,
+) -> anyhow::Result<String> {
+    let log = SharedLog::new(alloc)?;
+    let gate = Turns::looking(&log, DomId(2), 2);
+    let ended = run_text(rt, alloc, script, Some(&log), &gate)?;
+    let (told, passed) = gate.found();
+    let mut out = ended.said(alloc)?;
+    let line = if is_raised {
+        format!(in alloc; "records where a flag is raised: {told}\n")?
+    } else {
+        format!(in alloc; "records where a flag is awaited: {passed}\n")?
+    };
+    out.push_str(line.as_str())?;
+    Ok(out)
 }

@@ -1,0 +1,65 @@
+//! Scripts over readers and writers that fail.
+use crate::running::{run_failing, run_text};
+use gt_audit::SharedLog;
+use gt_failing::failing_line;
+use gt_run::Flags;
+use std::alloc::Global;
+use std::sync::Wait;
+use std::thread::Threads;
+
+// Each read fails after so many bytes, for each number of them. The first number after which `run` answers another
+// fault, or writes something.
+fn untold_read<R: Threads + Wait + Sync>(
+    rt: &R,
+    alloc: Global,
+    script: &str,
+) -> anyhow::Result<Option<usize>> {
+    for left in 0..script.len() {
+        let limits = (left, usize::MAX);
+        let gate = Flags::new(rt, alloc)?;
+        let ended = run_failing(rt, alloc, script, limits, None, &gate)?;
+        if !ended.is("".as_bytes(), "read") {
+            return Ok(Some(left));
+        }
+    }
+    Ok(None)
+}
+
+// Each write fails after so many bytes, for each number of them; then the flush alone, and then nothing. The first
+// number after which `run` answers otherwise, or what went out is no beginning of the text with its audit lines.
+fn untold_write<R: Threads + Wait + Sync>(
+    rt: &R,
+    alloc: Global,
+    script: &str,
+    text: &[u8],
+) -> anyhow::Result<Option<usize>> {
+    for left in 0..text.len() + 2 {
+        let limits = (usize::MAX, left);
+        let gate = Flags::new(rt, alloc)?;
+        let log = SharedLog::new(alloc)?;
+        let ended = run_failing(rt, alloc, script, limits, Some(&log), &gate)?;
+        let fault = if left <= text.len() { "write" } else { "" };
+        let beginning = &text[..left.min(text.len())];
+        if !ended.is(beginning, fault) {
+            return Ok(Some(left));
+        }
+    }
+    Ok(None)
+}
+
+/// What a script prints with its audit lines, and whether each read and each write that fails is told.
+pub fn failing_said<R: Threads + Wait + Sync>(
+    rt: &R,
+    alloc: Global,
+    script: &str,
+) -> anyhow::Result<String> {
+    let gate = Flags::new(rt, alloc)?;
+    let log = SharedLog::new(alloc)?;
+    let ended = run_text(rt, alloc, script, Some(&log), &gate)?;
+    let read = untold_read(rt, alloc, script)?;
+    let write = untold_write(rt, alloc, script, ended.out.as_slice())?;
+    let mut out = ended.said(alloc)?;
+    out.push_str(failing_line(alloc, "read", read)?.as_str())?;
+    out.push_str(failing_line(alloc, "write", write)?.as_str())?;
+    Ok(out)
+}
